@@ -1,0 +1,7 @@
+pub mod Nets
+pub mod Value
+pub mod Clock
+pub mod Ports
+pub mod View
+pub mod Width
+pub mod Names

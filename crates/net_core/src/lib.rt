@@ -1,0 +1,6 @@
+//! Designs of clocked nets: their trees, their ports, and what an expression and a clock mean.
+#![tactic(auto)]
+
+pub mod design;
+pub mod ports;
+pub mod tree;
