@@ -1,0 +1,4 @@
+pub mod Shelf
+pub mod File
+pub mod Plan
+pub mod Memory
