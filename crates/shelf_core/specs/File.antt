@@ -3,6 +3,7 @@ use Rattle.std.specs.Prelude.{◌≢◌, ◌≡◌, ◌⊎◌, ℕ, ◌+◌, ◌
 use Rattle.std.specs.Str.{bytes_eq}
 use Rattle.shelf_core.specs.declared.faults.Faults.{Faults}
 use Rattle.shelf_core.specs.Shelf.{Holding}
+use Rattle.shelf_core.specs.Plan.{raised}
 
 -- a name that is there, what it holds, and how often its reads and writes have failed
 pub record File : Type 0 where
@@ -38,9 +39,13 @@ held_of contents name = bytes_of (file_of contents.files name)
 abbrev pub faults_of : Contents → List ℕ → Faults
 faults_of contents name = faults_or contents.absent (file_of contents.files name)
 
--- a count after one more, which stays at 2^64 - 1
-abbrev pub raised : ℕ → ℕ
-raised count = min (count + 1) (2 ^ 64 - 1)
+-- the counts after one more failed read
+abbrev pub read_raised : Faults → Faults
+read_raised faults = record faults { reads = raised faults.reads }
+
+-- the counts after one more failed write
+abbrev pub write_raised : Faults → Faults
+write_raised faults = record faults { writes = raised faults.writes }
 
 -- no count changes
 pub record SameFaults (old new : Contents) : Type 0 where

@@ -1,4 +1,4 @@
 pub mod Shelf
-pub mod File
 pub mod Plan
+pub mod File
 pub mod Memory

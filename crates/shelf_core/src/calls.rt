@@ -1,7 +1,6 @@
 // Calls that are counted, of which some are to fail.
 
-ghost use Rattle.std.specs.Prelude.{◌≡◌, ◌++◌, ◌∷◌, [], OnOk, OnErr};
-ghost use Rattle.shelf_core.specs.File.{raised};
+ghost use Rattle.std.specs.Prelude.{◌≡◌, OnOk, OnErr};
 
 use std::alloc::{AllocError, Global};
 use std::marker::Model;
@@ -29,10 +28,10 @@ impl Model for Calls {
 }
 
 impl Calls {
-    ghost use Rattle.shelf_core.specs.Plan.{left_at};
+    ghost use Rattle.shelf_core.specs.Plan.{no_calls, called, fails_at, next_left};
 
     pub fn new(alloc: Global) -> Calls
-        ensures { result ≡ record { made = 0; failing = [] } }
+        ensures { result ≡ no_calls }
     {
         Calls {
             made: 0,
@@ -48,7 +47,7 @@ impl Calls {
 
     /// Adds to the list of the calls that are to fail.
     pub fn fail(&mut self, call: u64, left: u64) -> Result<(), AllocError>
-        ensures ok { OnOk result (self.new ≡ record self.old { failing = self.old.failing ++ record { call = call; left = left } ∷ [] }) }
+        ensures ok { OnOk result (self.new ≡ fails_at self.old call left) }
         ensures err { OnErr result (self.new ≡ self.old) }
     {
         self.failing.push(Failing { call, left })?;
@@ -57,12 +56,24 @@ impl Calls {
 
     /// Counts a call. Where it is to fail, it says how many of its bytes are left all the same.
     pub fn next(&mut self) -> Option<u64>
-        ensures counted { self.new ≡ record self.old { made = raised self.old.made } }
-        ensures left { result ≡ left_at self.old.failing (raised self.old.made) }
+        ensures counted { self.new ≡ called self.old }
+        ensures left { result ≡ next_left self.old }
     {
         self.made = self.made.saturating_add(1);
         let call = self.made;
         let entry = self.failing.iter().find(|entry| entry.call == call)?;
         Some(entry.left)
+    }
+}
+
+ghost use Rattle.shelf_core.specs.Plan.{left_part};
+
+/// The bytes that a call leaves, which are all where it is not to fail.
+pub fn part_left(bytes: &[u8], left: Option<u64>) -> &[u8]
+    ensures { result.now ≡ left_part left bytes.now }
+{
+    match left.map(usize::try_from) {
+        Some(Ok(left)) if left < bytes.len() => &bytes[..left],
+        _ => bytes,
     }
 }
