@@ -5,6 +5,8 @@ mod object;
 mod parts;
 mod pieces;
 mod sizes;
+mod sole;
 
 pub use crate::object::{MapRecord, object_of};
+pub use crate::sole::sole_code;
 pub use crate::parts::{Rel, Section, Symbol};

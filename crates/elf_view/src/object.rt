@@ -1,7 +1,7 @@
 //! Writing a small object.
 
 ghost use Rattle.std.specs.Prelude.{◌≡◌, ◌+◌, ◌-◌, ◌*◌, ◌%◌, ◌^◌, ◌<◌, ◌≤◌, ◌++◌, length, replicate, All, IfOk, OnOk};
-ghost use Rattle.elf_view.specs.Layout.{base_headers, headers_at, map_headers, map_names, map_strings, object_layout, record_bytes, records, rels, section_count, sizes_of, strings, symbols, text};
+ghost use Rattle.elf_view.specs.Layout.{base_headers, code_section, function_symbol, headers_at, map_headers, map_names, map_strings, object_layout, record_bytes, records, rels, section_count, sizes_of, strings, strings_section, symbols, symbols_section, text};
 
 use std::alloc::{AllocError, Global};
 
@@ -17,7 +17,61 @@ pub struct MapRecord<'a> {
     pub words: [u32; 5],
 }
 
-const FILL: [u8; 8] = [0; 8];
+/// Enough zeros to fill up to a multiple of 8.
+pub const FILL: [u8; 8] = [0; 8];
+
+/// Symbol 0 is none.
+pub const NO_SYMBOL: Symbol = Symbol { name: 0, info: 0, section: 0, value: 0, size: 0 };
+
+/// Section 0 is none.
+pub const NO_SECTION: Section =
+    Section { name: 0, kind: 0, flags: 0, offset: 0, size: 0, link: 0, info: 0 };
+
+/// The symbol of the function, which is all of section 1.
+pub fn function_symbol(size: u64) -> Symbol
+    ensures { result ≡ function_symbol size }
+{
+    Symbol { name: 21, info: 18, section: 1, value: 0, size }
+}
+
+/// The header of the code.
+pub fn code_section(sizes: &Sizes) -> Section
+    ensures { result ≡ code_section sizes.now }
+{
+    Section { name: 1, kind: 1, flags: 6, offset: 64, size: sizes.code, link: 0, info: 0 }
+}
+
+/// The header of the symbol table.
+pub fn symbols_section(sizes: &Sizes) -> Section
+    requires { headers_at sizes.now < 2 ^ 64 }
+    ensures { result ≡ symbols_section sizes.now }
+{
+    Section {
+        name: 5,
+        kind: 2,
+        flags: 0,
+        offset: sizes.symbols_at(),
+        size: sizes.symbols,
+        link: 3,
+        info: 1,
+    }
+}
+
+/// The header of the string table.
+pub fn strings_section(sizes: &Sizes) -> Section
+    requires { headers_at sizes.now < 2 ^ 64 }
+    ensures { result ≡ strings_section sizes.now }
+{
+    Section {
+        name: 13,
+        kind: 3,
+        flags: 0,
+        offset: sizes.strings_at(),
+        size: sizes.strings,
+        link: 0,
+        info: 0,
+    }
+}
 
 /// Puts zeros behind the bytes, up to the next multiple of 8 of `len`.
 fn put_padding(out: &mut Vec<u8>, len: usize) -> Result<(), AllocError>
@@ -88,10 +142,8 @@ fn put_symbols(
     requires { 35 + name_len + length (map_names maps.now) < 2 ^ 32 }
     ensures { OnOk result (out.new.items ≡ out.old.items ++ symbols name_len size maps.now) }
 {
-    let none = Symbol { name: 0, info: 0, section: 0, value: 0, size: 0 };
-    let function = Symbol { name: 21, info: 18, section: 1, value: 0, size };
-    out.extend_from_slice(&symbol_bytes(&none))?;
-    out.extend_from_slice(&symbol_bytes(&function))?;
+    out.extend_from_slice(&symbol_bytes(&NO_SYMBOL))?;
+    out.extend_from_slice(&symbol_bytes(&function_symbol(size)))?;
     let mut name = 35 + name_len;
     let mut value = 0;
     for map in maps {
@@ -166,28 +218,10 @@ fn put_base_headers(out: &mut Vec<u8>, sizes: &Sizes) -> Result<(), AllocError>
     requires { headers_at sizes.now < 2 ^ 64 }
     ensures { OnOk result (out.new.items ≡ out.old.items ++ base_headers sizes.now) }
 {
-    let none = Section { name: 0, kind: 0, flags: 0, offset: 0, size: 0, link: 0, info: 0 };
-    let code = Section { name: 1, kind: 1, flags: 6, offset: 64, size: sizes.code, ..none };
-    let symbols = Section {
-        name: 5,
-        kind: 2,
-        flags: 0,
-        offset: sizes.symbols_at(),
-        size: sizes.symbols,
-        link: 3,
-        info: 1,
-    };
-    let strings = Section {
-        name: 13,
-        kind: 3,
-        offset: sizes.strings_at(),
-        size: sizes.strings,
-        ..none
-    };
-    out.extend_from_slice(&section_header(&none, 0, 0))?;
-    out.extend_from_slice(&section_header(&code, 8, 0))?;
-    out.extend_from_slice(&section_header(&symbols, 8, 24))?;
-    out.extend_from_slice(&section_header(&strings, 1, 0))
+    out.extend_from_slice(&section_header(&NO_SECTION, 0, 0))?;
+    out.extend_from_slice(&section_header(&code_section(sizes), 8, 0))?;
+    out.extend_from_slice(&section_header(&symbols_section(sizes), 8, 24))?;
+    out.extend_from_slice(&section_header(&strings_section(sizes), 1, 0))
 }
 
 /// Puts the section headers that only an object with maps has.
