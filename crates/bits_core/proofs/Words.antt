@@ -1,16 +1,19 @@
 -- What the code computes on 64 bits is what the definitions say on w.
-use Rattle.std.proofs.Common.{◌≡◌, ◌≢◌, ◌∙◌, Bool, true, false, nat_lt, if◌then◌else◌, neg_ℤ, ℕ, zero, suc, ◌+◌, ◌-◌, ◌*◌, ◌/◌, ◌%◌, ◌^◌, ◌<◌, ◌≤◌, ◌⊎◌, inl, inr, ℤ, pos, negsuc, refl, sym, ap, subst, arith, rules, bit_and, bit_or}
-use Rattle.std.proofs.lemmas.Nat.{and_mask}
+use Rattle.std.proofs.Common.{◌≡◌, ◌≢◌, ◌∙◌, Bool, true, false, nat_lt, if◌then◌else◌, neg_ℤ, ℕ, zero, suc, ◌-◌, ◌/◌, ◌%◌, ◌^◌, ◌<◌, ◌≤◌, ◌⊎◌, inl, inr, ℤ, pos, negsuc, refl, sym, ap, subst, arith, bit_and}
+use Rattle.std.proofs.lemmas.Nat.{and_mask, mod_below, pow_pos}
 use Rattle.std.proofs.lemmas.Int.{ints, to_z-of_z, of_z-to_z}
 use Rattle.std.proofs.Math.Nat.{div-le_self}
 use Rattle.std.specs.Int.{w64, cast_signed, cast_unsigned, int_wrapping_div}
-use Rattle.std.specs.Int.RustNames.{int_div, int_rem, FitsSigned}
+use Rattle.std.specs.Int.RustNames.{int_div, int_rem}
 use Rattle.std.specs.Int.Signed.{mag}
 use Rattle.bits_core.specs.Bits.{mask_of, signed_of, bits_of, sext_of, quotient_of, remainder_of, div_s_of, mod_s_of}
 
 -- the low bits under a mask
 pub masked : (v m w : ℕ) → m ≡ mask_of w → bit_and v m ≡ v % 2 ^ w
 masked v m w e = ap (bit_and v) e ∙ and_mask v w
+
+pub masked_below : (v m w : ℕ) → m ≡ mask_of w → bit_and v m < 2 ^ w
+masked_below v m w e = subst (λ (n : ℕ). n < 2 ^ w) (sym (masked v m w e)) (mod_below v (2 ^ w) (pow_pos w))
 
 -- a signed number in 64 bits, cut to w bits
 pub cut : (z : ℤ) (w : ℕ) → (w ≡ 32) ⊎ (w ≡ 64) → mag z < 2 ^ 64 → cast_unsigned w64 z % 2 ^ w ≡ bits_of w z

@@ -26,12 +26,15 @@ pub const fn div_s(a: u64, b: u64, w: u32) -> u64
     requires width { (w ≡ 32) ⊎ (w ≡ 64) }
     requires dividend { a < 2 ^ w }
     requires divisor { b < 2 ^ w }
-    ensures { result ≡ div_s_of a b w }
+    ensures value { result ≡ div_s_of a b w }
+    ensures word { result < 2 ^ w }
 {
     if b == 0 {
         return 0;
     }
-    let quotient = sext(a, w).cast_signed().wrapping_div(sext(b, w).cast_signed());
+    let quotient = sext(a, w)
+        .cast_signed()
+        .wrapping_div(sext(b, w).cast_signed());
     quotient.cast_unsigned() & mask(w)
 }
 
@@ -41,11 +44,14 @@ pub const fn mod_s(a: u64, b: u64, w: u32) -> u64
     requires width { (w ≡ 32) ⊎ (w ≡ 64) }
     requires dividend { a < 2 ^ w }
     requires divisor { b < 2 ^ w }
-    ensures { result ≡ mod_s_of a b w }
+    ensures value { result ≡ mod_s_of a b w }
+    ensures word { result < 2 ^ w }
 {
     if b == 0 {
         return a;
     }
-    let remainder = sext(a, w).cast_signed().wrapping_rem(sext(b, w).cast_signed());
+    let remainder = sext(a, w)
+        .cast_signed()
+        .wrapping_rem(sext(b, w).cast_signed());
     remainder.cast_unsigned() & mask(w)
 }

@@ -1,6 +1,6 @@
 // The bits of a word by their places.
 
-ghost use Rattle.std.specs.Prelude.{◌≡◌, ◌+◌, ◌*◌, ◌^◌, ◌<◌, ◌≤◌, ◌⊎◌};
+ghost use Rattle.std.specs.Prelude.{◌≡◌, ◌+◌, ◌-◌, ◌*◌, ◌^◌, ◌<◌, ◌≤◌, ◌⊎◌};
 ghost use Rattle.bits_core.specs.Bits.{mask_of, slice_of, join_of, swap_of};
 
 /// The greatest number of `w` bits, `2^w - 1`, where `w` is at most 64.
@@ -15,7 +15,8 @@ pub const fn mask(w: u32) -> u64
 pub const fn slice(v: u64, hi: u32, lo: u32) -> u64
     requires order { lo ≤ hi }
     requires inside { hi ≤ 63 }
-    ensures { result ≡ slice_of v hi lo }
+    ensures value { result ≡ slice_of v hi lo }
+    ensures word { result < 2 ^ (hi - lo + 1) }
 {
     (v >> lo) & mask(hi - lo + 1)
 }
@@ -34,7 +35,8 @@ pub const fn join(hi: u64, lo: u64, w: u32) -> u64
 pub const fn swap(v: u64, w: u32) -> u64
     requires width { (w ≡ 16) ⊎ ((w ≡ 32) ⊎ (w ≡ 64)) }
     requires word { v < 2 ^ w }
-    ensures { result ≡ swap_of v w }
+    ensures value { result ≡ swap_of v w }
+    ensures word { result < 2 ^ w }
 {
     match w {
         16 => (v as u16).swap_bytes() as u64,

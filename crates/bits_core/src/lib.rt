@@ -5,7 +5,6 @@
 mod division;
 mod fields;
 mod signs;
-
 #[cfg(test)]
 mod tests;
 

@@ -20,7 +20,8 @@ pub const fn arsh(v: u64, n: u32, w: u32) -> u64
     requires width { (w ≡ 32) ⊎ (w ≡ 64) }
     requires word { v < 2 ^ w }
     requires count { n < w }
-    ensures { result ≡ arsh_of v n w }
+    ensures value { result ≡ arsh_of v n w }
+    ensures word { result < 2 ^ w }
 {
     (sext(v, w).cast_signed() >> n).cast_unsigned() & mask(w)
 }

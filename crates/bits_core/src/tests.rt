@@ -1,6 +1,7 @@
 use super::*;
 
 const MIN: u64 = 0x8000_0000_0000_0000;
+
 const MIN_32: u64 = 0x8000_0000;
 
 #[test]

@@ -1,4 +1,4 @@
-use Rattle.std.proofs.Common.{◌≡◌, ◌∙◌, ◌+◌, ◌*◌, ◌^◌, ◌%◌, ap, arith, bit_or}
+use Rattle.std.proofs.Common.{◌≡◌, ◌∙◌, ◌*◌, ◌^◌, ◌%◌, ap, arith, bit_or}
 use Rattle.std.proofs.lemmas.Nat.{or_shifted}
 use Rattle.bits_core.proofs.fields.join.Goals as goal
 
