@@ -1,0 +1,28 @@
+-- Eight bytes have one set of fields.
+use Rattle.std.proofs.Common.{◌≡◌, ◌≢◌, ◌∙◌, ℕ, zero, suc, ℤ, pos, ◌+◌, ◌*◌, ◌/◌, ◌%◌, ◌^◌, ◌<◌, ◌≤◌, ◌++◌, List, [], ◌∷◌, length, take, drop, get_or, refl, sym, ap, subst, arith}
+use Rattle.std.proofs.lemmas.Int.{ints, of_z-to_z}
+use Rattle.std.specs.Int.{w16, w32, cast_signed, cast_unsigned}
+use Rattle.std.specs.Int.RustNames.{FitsSigned}
+use Rattle.byteorder.specs.Endian.{little_number}
+use Rattle.bpf_isa.specs.Spelling.{unit}
+
+eight : (a b c d e f g h a' b' c' d' e' f' g' h' : ℕ) → a ≡ a' → b ≡ b' → c ≡ c' → d ≡ d' → e ≡ e' → f ≡ f' → g ≡ g' → h ≡ h'
+    → a ∷ b ∷ c ∷ d ∷ e ∷ f ∷ g ∷ h ∷ [] ≡ a' ∷ b' ∷ c' ∷ d' ∷ e' ∷ f' ∷ g' ∷ h' ∷ []
+eight a b c d e f g h a' b' c' d' e' f' g' h' p0 p1 p2 p3 p4 p5 p6 p7 = cc
+
+-- the fields that are read from bytes have these bytes
+pub unit_read : (bs : List ℕ) (o : ℤ) (m : ℕ) → 8 ≤ length bs → ((i : ℕ) → get_or bs i 0 < 256)
+    → o ≡ cast_signed w16 (little_number 2 (take 2 (drop 2 bs))) → m ≡ little_number 4 (take 4 (drop 4 bs))
+    → take 8 bs ≡ unit (get_or bs 0 0) (get_or bs 1 0 % 16) (get_or bs 1 0 / 16) o m
+unit_read (a ∷ b ∷ c ∷ d ∷ e ∷ f ∷ g ∷ h ∷ rest) o m l r eo em =
+    let rc : c < 256 = r 2 in
+    let rd : d < 256 = r 3 in
+    let re : e < 256 = r 4 in
+    let rf : f < 256 = r 5 in
+    let rg : g < 256 = r 6 in
+    let rh : h < 256 = r 7 in
+    let o' : cast_unsigned w16 o ≡ c + 256 * (d + 0) = ap (cast_unsigned w16) eo ∙ of_z-to_z w16 (c + 256 * (d + 0)) (omega arith) in
+    let m' : m ≡ e + 256 * (f + 256 * (g + 256 * (h + 0))) = em in
+    eight a b c d e f g h a (b % 16 + 16 * (b / 16)) (cast_unsigned w16 o % 256) (cast_unsigned w16 o / 256 % 256) (m % 256) (m / 256 % 256) (m / 65536 % 256) (m / 16777216 % 256)
+    refl (omega arith) (omega (arith, o')) (omega (arith, o')) (omega arith) (omega arith) (omega arith) (omega arith)
+unit_read bs o m l r eo em = absurd (omega arith)
