@@ -26,3 +26,24 @@ unit_read (a ∷ b ∷ c ∷ d ∷ e ∷ f ∷ g ∷ h ∷ rest) o m l r eo em =
     eight a b c d e f g h a (b % 16 + 16 * (b / 16)) (cast_unsigned w16 o % 256) (cast_unsigned w16 o / 256 % 256) (m % 256) (m / 256 % 256) (m / 65536 % 256) (m / 16777216 % 256)
     refl (omega arith) (omega (arith, o')) (omega (arith, o')) (omega arith) (omega arith) (omega arith) (omega arith)
 unit_read bs o m l r eo em = absurd (omega arith)
+
+pub record Same (c d a b x y : ℕ) (o p : ℤ) (m n : ℕ) : Type 0 where
+  pub code : c ≡ d
+  pub dst : a ≡ b
+  pub src : x ≡ y
+  pub offset : o ≡ p
+  pub imm : m ≡ n
+
+-- two units with the same bytes have the same fields
+pub unit_one : (c d a b x y : ℕ) (o p : ℤ) (m n : ℕ) → a < 16 → b < 16 → FitsSigned w16 o → FitsSigned w16 p → m < 2 ^ 32 → n < 2 ^ 32
+    → unit c a x o m ≡ unit d b y p n → Same c d a b x y o p m n
+unit_one c d a b x y o p m n ha hb ho hp hm hn e =
+    let e0 : c ≡ d = cc in
+    let e1 : a + 16 * x ≡ b + 16 * y = cc in
+    let e2 : cast_unsigned w16 o % 256 ≡ cast_unsigned w16 p % 256 = cc in
+    let e3 : cast_unsigned w16 o / 256 % 256 ≡ cast_unsigned w16 p / 256 % 256 = cc in
+    let e4 : m % 256 ≡ n % 256 = cc in
+    let e5 : m / 256 % 256 ≡ n / 256 % 256 = cc in
+    let e6 : m / 65536 % 256 ≡ n / 65536 % 256 = cc in
+    let e7 : m / 16777216 % 256 ≡ n / 16777216 % 256 = cc in
+    record { code = e0; dst = omega arith; src = omega arith; offset = omega (arith, ints); imm = omega arith }

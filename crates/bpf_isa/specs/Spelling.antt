@@ -1,5 +1,5 @@
 -- The instruction table: which 8 or 16 bytes are which instruction (RFC 9669, section 3).
-use Rattle.std.specs.Prelude.{ℕ, ℤ, pos, ◌≡◌, ◌+◌, ◌*◌, ◌/◌, ◌%◌, ◌^◌, ◌≤◌, List, [], ◌∷◌, ◌++◌, take, drop}
+use Rattle.std.specs.Prelude.{ℕ, ℤ, pos, ◌≡◌, ◌+◌, ◌-◌, ◌*◌, ◌/◌, ◌%◌, ◌^◌, ◌≤◌, List, [], ◌∷◌, ◌++◌, take, drop}
 use Rattle.std.specs.Int.{w16, w32, w64, to_le_bytes, cast_unsigned}
 use Rattle.std.specs.Int.RustNames.{FitsSigned}
 use Rattle.bpf_isa.specs.declared.operation.Op.{Op}
@@ -17,10 +17,14 @@ abbrev pub units_of : Op → ℕ
 units_of LoadImm = 2
 units_of op = 1
 
--- the bytes of an operation with these fields; a number of 64 bits has its high half in a unit of its own
+-- the high half of a number of 64 bits has a unit of its own, whose other fields are zero
+abbrev pub second_unit : Op → ℤ → List ℕ
+second_unit LoadImm imm = unit 0 0 0 (pos 0) (cast_unsigned w64 imm / 2 ^ 32)
+second_unit op imm = []
+
+-- the bytes of an operation with these fields
 abbrev pub spelled : Op → ℕ → ℕ → ℤ → ℤ → List ℕ
-spelled LoadImm dst src offset imm = unit (code_of LoadImm) dst src offset (cast_unsigned w64 imm % 2 ^ 32) ++ unit 0 0 0 (pos 0) (cast_unsigned w64 imm / 2 ^ 32)
-spelled op dst src offset imm = unit (code_of op) dst src offset (cast_unsigned w32 imm)
+spelled op dst src offset imm = unit (code_of op) dst src offset (cast_unsigned w64 imm % 2 ^ 32) ++ second_unit op imm
 
 abbrev pub spelling : Insn → List ℕ
 spelling i = spelled i.op i.dst i.src i.offset i.imm
@@ -50,3 +54,9 @@ pub record Begins (text : List ℕ) (i : Insn) : Type 0 where
 -- the instruction i stands at unit `at` of a text
 abbrev pub StandsAt : List ℕ → ℕ → Insn → Type 0
 StandsAt code at i = Begins (drop (8 * at) code) i
+
+-- the number imm of an operation has these low 32 bits, and what is left of it stands after the first unit
+pub record HasImm (op : Op) (low : ℕ) (rest : List ℕ) (imm : ℤ) : Type 0 where
+  pub range : FitsOp op imm
+  pub low_half : low ≡ cast_unsigned w64 imm % 2 ^ 32
+  pub high_half : take (8 * (units_of op - 1)) rest ≡ second_unit op imm

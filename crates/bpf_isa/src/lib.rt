@@ -9,11 +9,15 @@
 //! not zero.
 #![tactic(auto)]
 
+mod decode;
+mod encode;
 mod fields;
 mod opcode;
 mod operation;
 mod unit;
 mod instruction;
 
+pub use decode::{DecodeError, decode_all, decode_one};
+pub use encode::encode_one;
 pub use instruction::{Insn, BadInsn};
 pub use operation::{AluCode, JumpCode, Op, Size, Src, Width};

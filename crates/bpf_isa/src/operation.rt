@@ -95,3 +95,18 @@ pub enum Op {
     /// STX ATOMIC: the immediate number tells which (section 5.3).
     Atomic(Size),
 }
+
+impl Op {
+    ghost use Rattle.std.specs.Prelude.{◌≡◌};
+    ghost use Rattle.bpf_isa.specs.Spelling.{units_of};
+
+    /// How many units an instruction of this operation has: 1 or 2.
+    pub fn units(self) -> u8
+        ensures { result ≡ units_of self }
+    {
+        match self {
+            Op::LoadImm => 2,
+            _ => 1,
+        }
+    }
+}
