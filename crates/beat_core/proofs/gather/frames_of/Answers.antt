@@ -5,6 +5,10 @@ use Rattle.beat_core.proofs.Order.{completed, room_at, left_at, told_more, compl
 use Rattle.beat_core.proofs.gather.frames_of.Goals as goal
 use Rattle.beat_core.proofs.gather.frames_of.Goals.{then-clock+in_ok-of+in_ok-push, else-clock}
 
+-- the frames after a push of the one that is complete
+with_pushed : (items pushed before done : List (List ℕ)) (frame : List ℕ) → items ≡ pushed → pushed ≡ before ++ frame ∷ [] → done ≡ frame ∷ [] → items ≡ before ++ done
+with_pushed items pushed before done frame same push complete = same ∙ push ∙ ap (λ (r : List (List ℕ)). before ++ r) (sym complete)
+
 pub clock-requires : goal.clock-requires
 clock-requires c =
     room_at c.loop-beat.gather c.args.clocks.now c.loop-beat.beat-index c.loop-beat-test.true c.loop-beat.invariant.1
@@ -21,7 +25,7 @@ loop-beat-preserved c =
       | then-clock+in_ok-of+in_ok-push w ↦
           let bytes : w.in_ok-of.field-0 ≡ (after_clock g beat).bytes = w.in_ok-of.ensures ∙ w.bytes.ensures.bytes ∙ ap (λ (r : Gathered). r.bytes) c.clock.ensures.after in
           let done : completed g beat ≡ w.in_ok-of.field-0 ∷ [] = completed_last g beat (sym c.clock.ensures.last ∙ w.if-clock.true) ∙ ap (λ (r : List ℕ). r ∷ []) (sym bytes) in
-          ap (λ frames. frames.items) w.frames-is ∙ w.in_ok-push.ensures.items ∙ ap (λ (r : List (List ℕ)). c.loop-beat.frames.items ++ r) (sym done)
+          with_pushed _ _ _ _ _ (ap (λ frames. frames.items) w.frames-is) w.in_ok-push.ensures.items done
       | else-clock w ↦
           ap (λ frames. frames.items) w.frames-is ∙ sym (append-nil c.loop-beat.frames.items) ∙ ap (λ (r : List (List ℕ)). c.loop-beat.frames.items ++ r) (sym (completed_none g beat (sym c.clock.ensures.last ∙ w.if-clock.false)))
     ] in
