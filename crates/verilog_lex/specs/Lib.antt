@@ -1,0 +1,6 @@
+pub mod Bytes
+pub mod Words
+pub mod Number
+pub mod Piece
+pub mod Tokens
+pub mod Lexeme
