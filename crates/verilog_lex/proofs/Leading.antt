@@ -3,7 +3,7 @@ use Rattle.std.proofs.Common.{◌≡◌, ℕ, zero, suc, ◌+◌, ◌-◌, ◌<�
 use Rattle.std.proofs.Math.Seq.{drop-length}
 use Rattle.verilog_lex.specs.Piece.{piece_in, IsWithin}
 use Rattle.verilog_lex.specs.Tokens.{Leads, IsStuck, AreSpans, Read, token, with_front, lex, lex_piece, tokens_in}
-use Rattle.verilog_lex.specs.Tokens.Leads.{here, separator, then}
+use Rattle.verilog_lex.specs.Tokens.Leads.{here, separator, next}
 use Rattle.verilog_lex.specs.declared.piece.Piece.{Piece}
 use Rattle.verilog_lex.specs.declared.piece.Piece.TheVariants as piece
 use Rattle.verilog_lex.specs.declared.token.TokenKind.{TokenKind}
@@ -14,21 +14,21 @@ use Rattle.verilog_lex.proofs.Pieces.{piece_within}
 pub Leads-separator : (text : List ℕ) (at : ℕ) (ts : List Token) (to n : ℕ) → Leads text at ts to → piece_in (drop to text) ≡ piece.Separator n → Leads text at ts (to + n)
 Leads-separator text at ts to n (here p) e = separator p n [] (p + n) e (here (p + n))
 Leads-separator text at ts to n (separator p m us q f h) e = separator p m us (q + n) f (Leads-separator text (p + m) us q n h e)
-Leads-separator text at ts to n (then p m k us q f h) e = then p m k us (q + n) f (Leads-separator text (p + m) us q n h e)
+Leads-separator text at ts to n (next p m k us q f h) e = next p m k us (q + n) f (Leads-separator text (p + m) us q n h e)
 
 pub Leads-token : (text : List ℕ) (at : ℕ) (ts : List Token) (to n : ℕ) (k : TokenKind) → Leads text at ts to → piece_in (drop to text) ≡ piece.Token k n → Leads text at (ts ++ token k to (to + n) ∷ []) (to + n)
-Leads-token text at ts to n k (here p) e = then p n k [] (p + n) e (here (p + n))
+Leads-token text at ts to n k (here p) e = next p n k [] (p + n) e (here (p + n))
 Leads-token text at ts to n k (separator p m us q f h) e = separator p m (us ++ token k q (q + n) ∷ []) (q + n) f (Leads-token text (p + m) us q n k h e)
-Leads-token text at ts to n k (then p m j us q f h) e = then p m j (us ++ token k q (q + n) ∷ []) (q + n) f (Leads-token text (p + m) us q n k h e)
+Leads-token text at ts to n k (next p m j us q f h) e = next p m j (us ++ token k q (q + n) ∷ []) (q + n) f (Leads-token text (p + m) us q n k h e)
 
 -- a place that begins with a piece is before the end, and the piece ends at most there
-separator_ends : (text : List ℕ) (at n : ℕ) → piece_in (drop at text) ≡ piece.Separator n → (0 < n) × (at + n ≤ length text)
+pub separator_ends : (text : List ℕ) (at n : ℕ) → piece_in (drop at text) ≡ piece.Separator n → (0 < n) × (at + n ≤ length text)
 separator_ends text at n e =
     let P : Piece → Type 0 = λ p. IsWithin p (length (drop at text)) in
     let w : (0 < n) × (n ≤ length (drop at text)) = subst P e (piece_within (drop at text)) in
     let l : length (drop at text) ≡ length text - at = length-drop at text in (w.0, omega arith)
 
-token_ends : (text : List ℕ) (at n : ℕ) (k : TokenKind) → piece_in (drop at text) ≡ piece.Token k n → (0 < n) × (at + n ≤ length text)
+pub token_ends : (text : List ℕ) (at n : ℕ) (k : TokenKind) → piece_in (drop at text) ≡ piece.Token k n → (0 < n) × (at + n ≤ length text)
 token_ends text at n k e =
     let P : Piece → Type 0 = λ p. IsWithin p (length (drop at text)) in
     let w : (0 < n) × (n ≤ length (drop at text)) = subst P e (piece_within (drop at text)) in
@@ -42,7 +42,7 @@ sooner p q (t ∷ ts) to h k = (omega arith, k.1, k.2)
 pub AreSpans-leads : (text : List ℕ) (at : ℕ) (ts : List Token) (to : ℕ) → Leads text at ts to → AreSpans at ts to
 AreSpans-leads text at ts to (here p) = omega arith
 AreSpans-leads text at ts to (separator p n us q e h) = sooner p (p + n) us q (omega arith) (AreSpans-leads text (p + n) us q h)
-AreSpans-leads text at ts to (then p n k us q e h) =
+AreSpans-leads text at ts to (next p n k us q e h) =
     let w = token_ends text p n k e in (omega arith, omega arith, AreSpans-leads text (p + n) us q h)
 
 lex_separator : (most at n : ℕ) (text : List ℕ) → piece_in text ≡ piece.Separator n → lex (suc most) at text ≡ lex most (at + n) (drop n text)
@@ -79,13 +79,13 @@ record Left (text : List ℕ) (most at : ℕ) (ts : List Token) (to : ℕ) : Typ
 left_of : (text : List ℕ) (most at : ℕ) (ts : List Token) (to : ℕ) → Leads text at ts to → at ≤ length text → length text ≤ most + at → Left text most at ts to
 left_of text most at ts to (here p) h k = record { turns = most; enough = k; within = h; reads = sym (no_front (lex most p (drop p text))) }
 left_of text zero at ts to (separator p n us q e l) h k = let w = separator_ends text p n e in absurd (omega arith)
-left_of text zero at ts to (then p n kind us q e l) h k = let w = token_ends text p n kind e in absurd (omega arith)
+left_of text zero at ts to (next p n kind us q e l) h k = let w = token_ends text p n kind e in absurd (omega arith)
 left_of text (suc most) at ts to (separator p n us q e l) h k =
     let w = separator_ends text p n e in
     let r = left_of text most (p + n) us q l w.1 (omega arith) in
     record { turns = r.turns; enough = r.enough; within = r.within; reads =
       lex_separator most p n (drop p text) e ∙ ap (lex most (p + n)) (drop-drop n p text) ∙ r.reads }
-left_of text (suc most) at ts to (then p n kind us q e l) h k =
+left_of text (suc most) at ts to (next p n kind us q e l) h k =
     let w = token_ends text p n kind e in
     let r = left_of text most (p + n) us q l w.1 (omega arith) in
     record { turns = r.turns; enough = r.enough; within = r.within; reads =

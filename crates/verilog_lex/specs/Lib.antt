@@ -4,3 +4,4 @@ pub mod Number
 pub mod Piece
 pub mod Tokens
 pub mod Lexeme
+pub mod Spelling

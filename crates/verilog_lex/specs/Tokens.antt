@@ -18,7 +18,7 @@ token k from to = record { kind = k; start = from; «end» = to }
 pub data Leads (text : List ℕ) : ℕ → List Token → ℕ → Type 0 where
   here : (at : ℕ) → Leads text at [] at
   separator : (at n : ℕ) (ts : List Token) (to : ℕ) → piece_in (drop at text) ≡ piece.Separator n → Leads text (at + n) ts to → Leads text at ts to
-  then : (at n : ℕ) (k : TokenKind) (ts : List Token) (to : ℕ) → piece_in (drop at text) ≡ piece.Token k n → Leads text (at + n) ts to → Leads text at (token k at (at + n) ∷ ts) to
+  next : (at n : ℕ) (k : TokenKind) (ts : List Token) (to : ℕ) → piece_in (drop at text) ≡ piece.Token k n → Leads text (at + n) ts to → Leads text at (token k at (at + n) ∷ ts) to
 
 -- tokens lead from the begin of the text to a place before its end where nothing begins
 abbrev pub IsStuck : List ℕ → ℕ → Type 0

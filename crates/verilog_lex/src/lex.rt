@@ -2,6 +2,7 @@
 
 ghost use Rattle.std.specs.Prelude.{◌≡◌, ℕ, List, length, IfOk, Ok, Err};
 ghost use Rattle.verilog_lex.specs.declared.token.Token.{Token};
+ghost use Rattle.verilog_lex.specs.Lexeme.{Lexeme, Lexes, ReadsAs, lexemes_of};
 ghost use Rattle.verilog_lex.specs.Tokens.{AreSpans, Gives, IsStuck, Leads, tokens_in};
 
 use crate::piece::{Piece, first_piece};
@@ -17,6 +18,9 @@ pub fn tokens(alloc: Global, text: &[u8]) -> Result<Vec<Token>, LexError>
     ensures only { (ts : List Token) → Leads text.now 0 ts (length text.now) → Gives result (Ok ts) }
     // The tokens and separators from the text's begin on lead to the place of an error.
     ensures stuck { (at : ℕ) → result ≡ Err (LexError.At at) → IsStuck text.now at }
+    // Their lexemes are those that the text spells.
+    ensures lexes { IfOk result (λ v. Lexes text.now (lexemes_of text.now v.items)) }
+    ensures spelled { (ls : List Lexeme) → Lexes text.now ls → ReadsAs text.now result ls }
     ensures spans { IfOk result (λ v. AreSpans 0 v.items (length text.now)) }
     ensures exact { Gives result (tokens_in text.now) }
 {

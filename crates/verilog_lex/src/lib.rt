@@ -6,7 +6,12 @@ mod lex;
 mod number;
 mod piece;
 mod token;
+mod write;
 
 pub use crate::lex::tokens;
 pub use crate::piece::{Piece, first_piece};
 pub use crate::token::{Keyword, LexError, Symbol, Token, TokenKind};
+pub use crate::write::{
+    is_name, push_comment, push_keyword, push_line, push_name, push_number, push_sized, push_space,
+    push_symbol,
+};

@@ -25,13 +25,13 @@ fn is_space_byte(c: u8) -> bool
     c == b' ' || c == b'\t' || c == b'\r' || c == b'\n'
 }
 
-fn is_first_of_word(c: u8) -> bool
+pub(crate) fn is_first_of_word(c: u8) -> bool
     ensures { result ≡ begins_word c }
 {
     c.is_ascii_alphabetic() || c == b'_'
 }
 
-fn is_of_word(c: u8) -> bool
+pub(crate) fn is_of_word(c: u8) -> bool
     ensures { result ≡ is_word_byte c }
 {
     c.is_ascii_digit() || is_first_of_word(c)
@@ -68,7 +68,7 @@ fn word(text: &[u8]) -> usize
     text.iter().take_while(|c| is_of_word(**c)).count()
 }
 
-fn keyword(word: &[u8]) -> Option<Keyword>
+pub(crate) fn keyword(word: &[u8]) -> Option<Keyword>
     ensures { result ≡ keyword_of word.now }
 {
     KEYWORDS.iter().copied().find(|k| k.text() == word)

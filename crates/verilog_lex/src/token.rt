@@ -1,6 +1,7 @@
 //! What a token is.
 
 ghost use Rattle.std.specs.Prelude.{◌≡◌};
+ghost use Rattle.verilog_lex.specs.Spelling.{symbol_spelling};
 ghost use Rattle.verilog_lex.specs.Words.{keyword_text, symbol_text};
 
 use thiserror::Error;
@@ -207,6 +208,19 @@ impl Symbol {
             Symbol::Or => b"|",
             Symbol::Xor => b"^",
             Symbol::Not => b"~",
+        }
+    }
+
+    /// The symbol, with a space after it where it may be the front of another token or of a comment.
+    pub(crate) fn spelling(self) -> &'static [u8]
+        ensures { result.now ≡ symbol_spelling self }
+    {
+        match self {
+            Symbol::Assign => b"= ",
+            Symbol::Less => b"< ",
+            Symbol::Greater => b"> ",
+            Symbol::Slash => b"/ ",
+            _ => self.text(),
         }
     }
 }

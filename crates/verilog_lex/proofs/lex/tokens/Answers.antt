@@ -1,12 +1,14 @@
-use Rattle.std.proofs.Common.{◌≡◌, ℕ, ◌+◌, ◌-◌, ◌≤◌, List, [], ◌∷◌, ◌++◌, length, take, drop, Ok, Err, sym, ap, subst, ◌∙◌, arith, length-drop}
+use Rattle.std.proofs.Common.{◌≡◌, ℕ, ◌+◌, ◌-◌, ◌≤◌, List, [], ◌∷◌, ◌++◌, length, take, drop, Ok, Err, refl, sym, ap, subst, ◌∙◌, arith, length-drop}
 use Rattle.std.proofs.Math.Seq.{take-length}
 use Rattle.std.proofs.lemmas.Grind.{common_steps}
 use Rattle.verilog_lex.specs.Piece.{piece_in}
-use Rattle.verilog_lex.specs.Tokens.{Leads, token}
+use Rattle.verilog_lex.specs.Lexeme.{lexemes_of}
+use Rattle.verilog_lex.specs.Tokens.{Leads, Read, token}
 use Rattle.verilog_lex.specs.Tokens.Leads.{here}
 use Rattle.verilog_lex.specs.declared.piece.Piece.{Piece}
 use Rattle.verilog_lex.specs.declared.token.Token.{Token}
 use Rattle.verilog_lex.proofs.Leading.{AreSpans-leads, Leads-separator, Leads-token, tokens_in-leads, tokens_in-stuck}
+use Rattle.verilog_lex.proofs.Lexing.{Lexes-leads, tokens_in-lexes}
 use Rattle.verilog_lex.proofs.lex.tokens.Goals as goal
 
 -- the piece of `&text[at..]`
@@ -65,3 +67,17 @@ returns-clause-only c = λ ts leads. sym (tokens_in-leads c.args.text.now ts lea
 
 pub returns-clause-spans : goal.returns-clause-spans
 returns-clause-spans c = AreSpans-leads c.args.text.now 0 c.loop-at.all.items (length c.args.text.now) (done c)
+
+pub returns-clause-lexes : goal.returns-clause-lexes
+returns-clause-lexes c = Lexes-leads c.args.text.now 0 c.loop-at.all.items (length c.args.text.now) (done c) refl
+
+pub returns-clause-spelled : goal.returns-clause-spelled
+returns-clause-spelled c = λ ls h.
+    let read = tokens_in-lexes c.args.text.now ls h in
+    let same : read.0 ≡ c.loop-at.all.items = (let e : (let r : Read = Ok read.0 in r) ≡ Ok c.loop-at.all.items = sym read.1 ∙ returns-clause-exact c in cc) in
+    ap (lexemes_of c.args.text.now) (sym same) ∙ read.2
+
+pub returns-in-Nothing-clause-spelled : goal.returns-in-Nothing-clause-spelled
+returns-in-Nothing-clause-spelled c = λ ls h.
+    let read = tokens_in-lexes c.args.text.now ls h in
+    let e : (let r : Read = Ok read.0 in r) ≡ Err c.loop-at.at = sym read.1 ∙ returns-in-Nothing-clause-exact c in cc
