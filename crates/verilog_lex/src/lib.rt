@@ -5,6 +5,8 @@
 mod lex;
 mod number;
 mod piece;
+#[cfg(test)]
+mod tests;
 mod token;
 mod write;
 
