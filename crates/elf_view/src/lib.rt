@@ -6,6 +6,8 @@ mod parts;
 mod pieces;
 mod sizes;
 mod sole;
+#[cfg(test)]
+mod tests;
 
 pub use crate::object::{MapRecord, object_of};
 pub use crate::sole::sole_code;
