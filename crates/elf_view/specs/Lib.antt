@@ -1,3 +1,5 @@
+pub mod File
 pub mod Layout
 pub mod Numbers
 pub mod Pieces
+pub mod Rules
