@@ -64,9 +64,13 @@ abbrev pub first_from : {X : Type 0} → (ℕ → Option X) → ℕ → ℕ → 
 first_from f i zero = None
 first_from f i (suc n) = option_or (f i) (first_from f (suc i) n)
 
--- the number of the first section of type SYMTAB (2)
+-- a section of type SYMTAB (2), by its number
+abbrev pub symtab_at : List ℕ → ℕ → Option ℕ
+symtab_at bytes i = if (section_at bytes i).kind == 2 then Some i else None
+
+-- the number of the first one
 unfoldable pub first_symtab : List ℕ → Option ℕ
-first_symtab bytes = first_from (λ i. if (section_at bytes i).kind == 2 then Some i else None) 0 (e_shnum bytes)
+first_symtab bytes = first_from (symtab_at bytes) 0 (e_shnum bytes)
 
 -- the bytes of that section, none without one
 abbrev pub symbols_of : List ℕ → Option ℕ → List ℕ

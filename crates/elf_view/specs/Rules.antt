@@ -1,8 +1,9 @@
 -- Which files are read, and the first error of the others: the rules in their order.
-use Rattle.std.specs.Prelude.{ℕ, ◌+◌, ◌*◌, ◌%◌, ◌==◌, ◌≡◌, nat_lt, Bool, ◌&&◌, not, is_some, if◌then◌else◌, List, [], ◌∷◌, length, take, Option, Some, None, Result, Ok, Err}
+use Rattle.std.specs.Prelude.{ℕ, ◌+◌, ◌*◌, ◌%◌, ◌==◌, ◌≡◌, ◌≢◌, ◌<◌, ◌≤◌, nat_lt, Bool, ◌&&◌, not, is_some, if◌then◌else◌, List, [], ◌∷◌, length, take, Option, Some, None, Result, Ok, Err}
 use Rattle.std.specs.Option.{option_or}
 use Rattle.std.specs.Str.{bytes_eq}
 use Rattle.elf_view.specs.File.{e_machine, e_shentsize, e_shnum, e_shoff, e_shstrndx, e_type, first_from, first_symtab, section_at, section_bytes, string_at}
+use Rattle.elf_view.specs.declared.parts.Section.{Section as Section'}
 use Rattle.elf_view.specs.declared.error.ElfError.{ElfError}
 use Rattle.elf_view.specs.declared.error.ElfError.TheVariants.{Short, Header, Machine, Section, At}
 
@@ -47,13 +48,13 @@ unfoldable pub no_names : List ℕ → Option ElfError
 no_names bytes = if is_string_table bytes (e_shstrndx bytes) then None else Some (Section (e_shstrndx bytes))
 
 -- the name of a section ends in that table
-abbrev pub name_open : List ℕ → ℕ → Option ElfError
-name_open bytes i =
+abbrev pub name_open : List ℕ → List ℕ → ℕ → Option ElfError
+name_open bytes table i =
     let at = (section_at bytes i).name in
-    if is_some (string_at (section_bytes bytes (e_shstrndx bytes)) at) then None else Some (At at)
+    if is_some (string_at table at) then None else Some (At at)
 
 unfoldable pub names_open : List ℕ → Option ElfError
-names_open bytes = first_from (name_open bytes) 0 (e_shnum bytes)
+names_open bytes = first_from (name_open bytes (section_bytes bytes (e_shstrndx bytes))) 0 (e_shnum bytes)
 
 -- a symbol table has whole entries of 24 bytes, and a string table
 abbrev pub wrong_table : List ℕ → Option ℕ → Option ElfError
@@ -83,3 +84,11 @@ first_error bytes = first_of (
 abbrev pub FailsAs : {T : Type 0} → Result T ElfError → Option ElfError → Type 0
 FailsAs (Ok x) error = error ≡ None
 FailsAs (Err e) error = error ≡ Some e
+
+-- the bytes of a section stand in the file
+abbrev pub IsInside : List ℕ → Section' → Type 0
+IsInside bytes s = s.kind ≢ 8 → s.offset + s.size ≤ length bytes
+
+-- those of every section do
+abbrev pub AllInside : List ℕ → Type 0
+AllInside bytes = (i : ℕ) → i < e_shnum bytes → IsInside bytes (section_at bytes i)

@@ -6,13 +6,15 @@ mod object;
 mod parts;
 mod pieces;
 mod read;
+mod rules;
 mod sizes;
 mod sole;
+mod view;
 #[cfg(test)]
 mod tests;
 
 pub use crate::error::ElfError;
-pub use crate::read::{rel_at, section_at, symbol_at};
 pub use crate::object::{MapRecord, object_of};
 pub use crate::sole::sole_code;
+pub use crate::view::ElfView;
 pub use crate::parts::{Rel, Section, Symbol};
