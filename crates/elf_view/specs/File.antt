@@ -77,6 +77,10 @@ abbrev pub symbols_of : List ℕ → Option ℕ → List ℕ
 symbols_of bytes None = []
 symbols_of bytes (Some i) = section_bytes bytes i
 
+-- the symbol table of a file
+abbrev pub symbol_table : List ℕ → List ℕ
+symbol_table bytes = symbols_of bytes (first_symtab bytes)
+
 -- how many whole entries of a size a table has, as far as 32 bits count them
 abbrev pub entry_count : ℕ → List ℕ → ℕ
 entry_count size table = min (length table / size) (2 ^ 32 - 1)

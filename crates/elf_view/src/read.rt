@@ -1,11 +1,12 @@
 //! Reading the numbers and the table entries of a file.
 
-ghost use Rattle.std.specs.Prelude.{◌≡◌, ◌+◌, ◌*◌, ◌≤◌, length};
-ghost use Rattle.elf_view.specs.File.{e_shnum, e_shoff, rel_at, section_at, section_header_at, symbol_at};
+ghost use Rattle.std.specs.Prelude.{◌≡◌, ◌+◌, ◌*◌, ◌<◌, ◌≤◌, None, Some, length, position, ◌==◌, IfOk, IfErr, IfSome};
+ghost use Rattle.elf_view.specs.File.{e_shnum, entry_count, string_at, e_shoff, rel_at, section_at, section_header_at, symbol_at};
 ghost use Rattle.elf_view.specs.Numbers.{u16_at, u32_at, u64_at};
 
 use byteorder::{ByteOrder, LittleEndian};
 
+use crate::error::ElfError;
 use crate::parts::{Rel, Section, Symbol};
 
 /// The number of 2 bytes at a place.
@@ -89,5 +90,35 @@ pub fn rel_at(table: &[u8], i: u32) -> Rel
         offset: u64_at(table, at),
         symbol: (info / 0x1_0000_0000) as u32,
         kind: (info % 0x1_0000_0000) as u32,
+    }
+}
+
+/// The number of whole entries of `size` bytes, as far as 32 bits count them.
+pub fn entry_count(table: &[u8], size: usize) -> u32
+    requires { 0 < size }
+    ensures { result ≡ entry_count size table.now }
+{
+    (table.len() / size).min(0xffff_ffff) as u32
+}
+
+/// The place of the first zero byte.
+fn first_zero(bytes: &[u8]) -> Option<usize>
+    ensures value { result ≡ position (λ b. b == 0) bytes.now }
+    ensures below { IfSome result (λ n. n < length bytes.now) }
+{
+    bytes.iter().position(|b| *b == 0)
+}
+
+/// The string that begins at a place of a string table, without the zero byte that ends it.
+#[tactic(auto, unfolding(crate::specs::File::string_at))]
+pub fn string_at(table: &[u8], at: u32) -> Result<&[u8], ElfError>
+    ensures found { IfOk result (λ name. string_at table.now at ≡ Some name.now) }
+    ensures open { IfErr result (λ e. (e ≡ ElfError.At at) × (string_at table.now at ≡ None)) }
+{
+    let start = (at as usize).min(table.len());
+    let (_, tail) = table.split_at(start);
+    match first_zero(tail) {
+        Some(len) => Ok(&tail[..len]),
+        None => Err(ElfError::At { at }),
     }
 }

@@ -1,6 +1,6 @@
 //! The rules of a file, each tested by a function of its own.
 
-ghost use Rattle.std.specs.Prelude.{◌≡◌, ◌≢◌, ◌+◌, ◌*◌, ◌<◌, ◌≤◌, ℕ, length, nat_lt, is_some, not, ◌==◌, ◌&&◌, IfSome, OnOk};
+ghost use Rattle.std.specs.Prelude.{◌≡◌, ◌≢◌, ◌+◌, ◌*◌, ◌^◌, ◌<◌, ◌≤◌, ℕ, length, nat_lt, is_some, not, ◌==◌, ◌&&◌, IfSome, OnOk};
 ghost use Rattle.elf_view.specs.File.{e_shnum, e_shoff, e_shstrndx, first_from, first_symtab, section_at, span_of, string_at};
 ghost use Rattle.elf_view.specs.Rules.{AllInside, FailsAs, IsInside, is_string_table, name_open, no_names, sections_outside, short_file, short_headers, wrong_header, wrong_machine, wrong_table};
 
@@ -60,6 +60,7 @@ pub fn check_headers(bytes: &[u8]) -> Result<(), ElfError>
     requires { 64 ≤ length bytes.now }
     ensures error { FailsAs result (short_headers bytes.now) }
     ensures whole { OnOk result (e_shoff bytes.now + 64 * e_shnum bytes.now ≤ length bytes.now) }
+    ensures few { OnOk result (e_shnum bytes.now < 2 ^ 16) }
 {
     let need = u128::from(u64_at(bytes, 40)) + 64 * u128::from(e_shnum(bytes));
     if (bytes.len() as u128) < need {
