@@ -2,7 +2,7 @@
 use Rattle.std.proofs.Common.{◌++◌, ◌≡◌, ℕ, ◌+◌, ◌*◌, ◌-◌, ◌%◌, ◌<◌, ◌≤◌, List, [], ◌∷◌, length, refl, arith}
 use Rattle.std.proofs.lemmas.List.{length-append, length-replicate, length_push}
 use Rattle.elf_view.specs.Pieces.{elf_header, section_header, symbol_bytes, rel_bytes}
-use Rattle.elf_view.specs.Layout.{base_headers, headers_at, map_headers, object_layout, padded, padded_size, section_count, sizes_of, map_symbols, map_names, map_strings, record_bytes, records, rels, strings, symbols, text}
+use Rattle.elf_view.specs.Layout.{base_headers, headers_at, map_headers, names_size, object_layout, object_size, strings_size, padded, padded_size, section_count, sizes_of, map_symbols, map_names, map_strings, record_bytes, records, rels, strings, symbols, text}
 use Rattle.elf_view.specs.declared.parts.Section.{Section}
 use Rattle.elf_view.specs.declared.parts.Symbol.{Symbol}
 use Rattle.elf_view.specs.declared.parts.Rel.{Rel}
@@ -108,6 +108,36 @@ length-object_layout name code maps refs =
       → whole ≡ 64 + code + symbols' + rels' + pr + ps + 256 + maps'
   sums whole header code symbols' rels' records' strings' base maps' pr ps e h r t b = omega arith
 
+length-map_names : (maps : List MapRecord) → length (map_names maps) ≡ names_size maps
+length-map_names [] = refl
+length-map_names (m ∷ ms) = let rest = length-map_names ms in omega (arith, length-map_names-cons m ms)
+
+length-strings_size : (name : List ℕ) (maps : List MapRecord) → length (strings name maps) ≡ strings_size name maps
+length-strings_size name [] = length-strings_no_maps name [] refl
+length-strings_size name (m ∷ ms) =
+    omega (arith, length-strings name (m ∷ ms) (omega arith), length-map_names (m ∷ ms))
+
+length-map_headers : (name_len : ℕ) (s : Sizes) (maps : List MapRecord)
+    → length (map_headers name_len s maps) + 256 ≡ 64 * section_count maps
+length-map_headers name_len s [] = refl
+length-map_headers name_len s (m ∷ ms) = omega (arith, length-append {A = ℕ}, length-section_header)
+
+-- the object has as many bytes as its size says
+pub length-object : (name code : List ℕ) (maps : List MapRecord) (refs : List (ℕ × ℕ))
+    → length (object_layout name code maps refs) ≡ object_size name code maps refs
+length-object name code maps refs =
+    sums (length (object_layout name code maps refs)) (length code) (length (symbols (length name) (length code) maps))
+        (length (rels refs)) (length (records maps)) (length (strings name maps))
+        (length (map_headers (length name) (sizes_of name code maps refs) maps)) (length maps) (length refs)
+        (strings_size name maps) (section_count maps) (length-object_layout name code maps refs)
+        (length-symbols (length name) (length code) maps) (length-rels refs) (length-records maps)
+        (length-strings_size name maps) (length-map_headers (length name) (sizes_of name code maps refs) maps)
+  where
+  sums : (whole c s r m t x n k u count : ℕ) → whole ≡ 64 + c + s + r + padded_size m + padded_size t + 256 + x
+      → s ≡ 24 * (2 + n) → r ≡ 16 * k → m ≡ 20 * n → t ≡ u → x + 256 ≡ 64 * count
+      → whole ≡ 64 + c + 24 * (2 + n) + 16 * k + padded_size (20 * n) + padded_size u + 64 * count
+  sums whole c s r m t x n k u count e es er em et ex = rw (← em, ← et) (omega arith)
+
 -- what the limit on an object says of its parts
 pub record Small (headers_at strings_len names_len map_count : ℕ) : Type 0 where
   pub headers : headers_at ≤ 1048576
@@ -121,7 +151,7 @@ names_in_strings name [] = omega (arith, length-strings_no_maps name [] refl)
 names_in_strings name (m ∷ ms) = omega (arith, length-strings name (m ∷ ms) (omega arith))
 
 pub small_object : (name code : List ℕ) (maps : List MapRecord) (refs : List (ℕ × ℕ))
-    → length (object_layout name code maps refs) ≤ 1048576
+    → object_size name code maps refs ≤ 1048576
     → Small (headers_at (sizes_of name code maps refs)) (length (strings name maps)) (length name + length (map_names maps))
       (length maps)
 small_object name code maps refs fits =
@@ -129,7 +159,7 @@ small_object name code maps refs fits =
     small (length (object_layout name code maps refs)) (length code) (length (symbols (length name) (length code) maps))
         (length (rels refs)) (length (records maps)) (length (strings name maps))
         (length (map_headers (length name) (sizes_of name code maps refs) maps)) (length maps)
-        (length name + length (map_names maps)) whole fits (names_in_strings name maps) (length-records maps)
+        (length name + length (map_names maps)) whole (omega (arith, length-object name code maps refs, fits)) (names_in_strings name maps) (length-records maps)
   where
   small : (whole c s r m t x n a : ℕ) → whole ≡ 64 + c + s + r + padded_size m + padded_size t + 256 + x
       → whole ≤ 1048576 → a ≤ t → m ≡ 20 * n

@@ -161,3 +161,18 @@ object_layout name code maps refs =
     let s = sizes_of name code maps refs in
     elf_header (headers_at s) (section_count maps) ++ code ++ symbols (length name) (length code) maps ++ rels refs
     ++ padded (records maps) ++ padded (strings name maps) ++ base_headers s ++ map_headers (length name) s maps
+
+-- ---- how many bytes that is
+
+abbrev pub names_size : List MapRecord → ℕ
+names_size [] = 0
+names_size (m ∷ ms) = length m.name.now + 1 + names_size ms
+
+abbrev pub strings_size : List ℕ → List MapRecord → ℕ
+strings_size name [] = 22 + length name
+strings_size name (m ∷ ms) = 35 + length name + names_size (m ∷ ms)
+
+abbrev pub object_size : List ℕ → List ℕ → List MapRecord → List (ℕ × ℕ) → ℕ
+object_size name code maps refs =
+    64 + length code + 24 * (2 + length maps) + 16 * length refs + padded_size (20 * length maps)
+    + padded_size (strings_size name maps) + 64 * section_count maps

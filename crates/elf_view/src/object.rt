@@ -1,7 +1,7 @@
 //! Writing a small object.
 
 ghost use Rattle.std.specs.Prelude.{◌≡◌, ◌+◌, ◌-◌, ◌*◌, ◌%◌, ◌^◌, ◌<◌, ◌≤◌, ◌++◌, length, replicate, All, IfOk, OnOk};
-ghost use Rattle.elf_view.specs.Layout.{base_headers, code_section, function_symbol, headers_at, map_headers, map_names, map_strings, object_layout, record_bytes, records, rels, section_count, sizes_of, strings, strings_section, symbols, symbols_section, text};
+ghost use Rattle.elf_view.specs.Layout.{base_headers, code_section, function_symbol, headers_at, map_headers, map_names, map_strings, object_layout, object_size, record_bytes, records, rels, section_count, sizes_of, strings, strings_section, symbols, symbols_section, text};
 
 use std::alloc::{AllocError, Global};
 
@@ -201,7 +201,7 @@ fn section_count(maps: &[MapRecord<'_>]) -> u16
 
 /// The sizes of the parts of the object.
 fn sizes_of(name: &str, code: &[u8], maps: &[MapRecord<'_>], refs: &[(u32, u32)]) -> Sizes
-    requires { length (object_layout name.now code.now maps.now refs.now) ≤ 1048576 }
+    requires { object_size name.now code.now maps.now refs.now ≤ 1048576 }
     ensures { result ≡ sizes_of name.now code.now maps.now refs.now }
 {
     Sizes {
@@ -274,8 +274,9 @@ pub fn object_of(
     refs: &[(u32, u32)],
 ) -> Result<Vec<u8>, AllocError>
     requires maps { All (λ r. r.1 < length maps.now) refs.now }
-    requires fits { length (object_layout name.now code.now maps.now refs.now) ≤ 1048576 }
-    ensures { IfOk result (λ object. object.items ≡ object_layout name.now code.now maps.now refs.now) }
+    requires fits { object_size name.now code.now maps.now refs.now ≤ 1048576 }
+    ensures bytes { IfOk result (λ object. object.items ≡ object_layout name.now code.now maps.now refs.now) }
+    ensures size { IfOk result (λ object. length object.items ≡ object_size name.now code.now maps.now refs.now) }
 {
     let sizes = sizes_of(name, code, maps, refs);
     let mut out = Vec::new(alloc);

@@ -2,7 +2,7 @@
 use Rattle.std.proofs.Common.{◌≡◌, ◌∙◌, ◌++◌, ◌*◌, length, ap, sym, arith}
 use Rattle.elf_view.specs.Layout.{base_headers, headers_at, map_headers, records, rels, strings, symbols}
 use Rattle.elf_view.specs.Pieces.{elf_header}
-use Rattle.elf_view.proofs.Lengths.{length-records, small_object}
+use Rattle.elf_view.proofs.Lengths.{length-object, length-records, small_object}
 use Rattle.elf_view.proofs.Whole.{object_whole, ten_writes, zeros}
 use Rattle.elf_view.proofs.object.object_of.Goals as goal
 
@@ -37,8 +37,8 @@ pub put_map_headers-requires-clause-name : goal.put_map_headers-requires-clause-
 put_map_headers-requires-clause-name c =
     let small = small_object c.args.name.now c.args.code.now c.args.maps.now c.args.refs.now c.requires.fits in omega arith
 
-pub returns : goal.returns
-returns c =
+pub returns-clause-bytes : goal.returns-clause-bytes
+returns-clause-bytes c =
     let name = c.args.name.now in
     let maps = c.args.maps.now in
     let sizes = c.sizes_of-sizes.result in
@@ -54,3 +54,7 @@ returns c =
     object_whole name c.args.code.now maps c.args.refs.now sizes count (20 * length maps) c.strings_len.result
     c.put_map_headers.new.out.items c.sizes_of-sizes.ensures c.section_count.ensures (sym (length-records maps))
     c.strings_len.ensures whole
+
+pub returns-clause-size : goal.returns-clause-size
+returns-clause-size c =
+    ap length (returns-clause-bytes c) ∙ length-object c.args.name.now c.args.code.now c.args.maps.now c.args.refs.now
