@@ -1,5 +1,5 @@
 -- An opcode has one operation.
-use Rattle.std.proofs.Common.{◌≡◌, ℕ, ◌==◌, List, [], ◌∷◌, ◌++◌, map, find, Option, Some, None, refl, sym, ◌∙◌, ap}
+use Rattle.std.proofs.Common.{◌≡◌, ◌≢◌, ℕ, ◌==◌, List, [], ◌∷◌, ◌++◌, map, find, Option, Some, None, refl, sym, ◌∙◌, ap}
 use Rattle.std.specs.List.{flat_map}
 use Rattle.bpf_isa.specs.declared.operation.Op.{Op}
 use Rattle.bpf_isa.specs.declared.operation.Op.TheVariants.{Alu, Neg, End, Swap, Ja, Jump, Call, Exit, LoadImm, Abs, Ind, Load, LoadSigned, StoreImm, Store, Atomic}
@@ -120,4 +120,10 @@ found (Atomic z) = each_size (λ z. IsFound (Atomic z)) refl refl refl refl z
 pub code_of-injective : (a b : Op) → code_of a ≡ code_of b → a ≡ b
 code_of-injective a b e =
     let same : Some a ≡ Some b = sym (found a) ∙ (ap op_at e ∙ found b) in
+    cc
+
+-- no operation has the opcode 0, with which a second unit begins
+pub code_of-positive : (op : Op) → code_of op ≢ 0
+code_of-positive op e =
+    let none : None ≡ Some op = ap op_at (sym e) ∙ found op in
     cc

@@ -13,11 +13,11 @@ use Rattle.bpf_isa.specs.Spelling.{unit, units_of, second_unit, spelled, spellin
 use Rattle.bpf_isa.proofs.Units.{Same, unit_one}
 
 -- the first unit, and then the second if there is one
-pub split : (op : Op) (text first : List ℕ) (dst src : ℕ) (offset imm : ℤ) → take (8 * units_of op) text ≡ spelled op dst src offset imm
+pub split : (op : Op) (text : List ℕ) (dst src : ℕ) (offset imm : ℤ) → take (8 * units_of op) text ≡ spelled op dst src offset imm
     → (take 8 text ≡ unit (code_of op) dst src offset (cast_unsigned w64 imm % 2 ^ 32)) × (take (8 * (units_of op - 1)) (drop 8 text) ≡ second_unit op imm)
-split LoadImm text first dst src offset imm e =
+split LoadImm text dst src offset imm e =
     (sym (take-take 8 16 text (omega arith)) ∙ ap (take 8) e, sym (drop-take 8 8 text) ∙ ap (drop 8) e)
-split op text first dst src offset imm e = (e, refl)
+split op text dst src offset imm e = (e, refl)
 
 pub joined : (op : Op) (text : List ℕ) (dst src low : ℕ) (offset imm : ℤ) → take 8 text ≡ unit (code_of op) dst src offset low → HasImm op low (drop 8 text) imm
     → take (8 * units_of op) text ≡ spelled op dst src offset imm
@@ -43,7 +43,7 @@ pub record Fields (c d s low : ℕ) (o : ℤ) (text : List ℕ) (i : Insn) : Typ
 pub fields_of : (c d s low : ℕ) (o : ℤ) (text : List ℕ) (i : Insn) → take 8 text ≡ unit c d s o low → d < 16 → low < 2 ^ 32 → FitsSigned w16 o
     → Begins text i → Fields c d s low o text i
 fields_of c d s low o text i e hd hl ho b =
-    let parts = split i.op text [] i.dst i.src i.offset i.imm b.bytes in
+    let parts = split i.op text i.dst i.src i.offset i.imm b.bytes in
     let same = unit_one c (code_of i.op) d i.dst s i.src o i.offset low (cast_unsigned w64 i.imm % 2 ^ 32) hd (omega (arith, b.legal.dst_register)) ho b.legal.offset_range hl (omega arith) (sym e ∙ parts.0) in
     record { code = sym same.code; dst = same.dst; src = same.src; offset = same.offset; imm = record { range = b.legal.imm_range; low_half = same.imm; high_half = parts.1 } }
 
