@@ -1,0 +1,6 @@
+pub mod Numbers
+pub mod Heads
+pub mod Parts
+pub mod Headers
+pub mod Records
+pub mod All
