@@ -4,3 +4,5 @@ pub mod Parts
 pub mod Headers
 pub mod Records
 pub mod All
+pub mod Opening
+pub mod Checking
