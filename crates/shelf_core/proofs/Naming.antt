@@ -1,6 +1,6 @@
 -- What the names hold after a change of one file.
-use Rattle.std.proofs.Common.{◌≡◌, ◌≢◌, ◌⊎◌, ℕ, ◌<◌, List, [], ◌∷◌, ◌++◌, length, get_or, set, Option, Some, None, Bool, true, false, refl, sym, ap, ◌∙◌, arith, ◌≤◌, inl, inr}
-use Rattle.std.specs.Prelude.{find, position, IsSome, Result, Ok, Err, OnOk}
+use Rattle.std.proofs.Common.{◌≡◌, ◌≢◌, ◌⊎◌, ℕ, List, [], ◌∷◌, ◌++◌, length, get_or, set, Option, Some, None, Bool, true, false, refl, sym, ap, ◌∙◌, arith, inl, inr}
+use Rattle.std.specs.Prelude.{position, IsSome, Result, Ok, Err, OnOk}
 use Rattle.std.specs.List.{position_or_len}
 use Rattle.std.specs.Option.{option_or}
 use Rattle.std.specs.Str.{bytes_eq}
@@ -11,7 +11,7 @@ use Rattle.std.proofs.lemmas.List.Folds.{find-set, find_past, find-append, find_
 use Rattle.std.proofs.lemmas.List.Sums.{position_or_len_is}
 use Rattle.std.proofs.lemmas.Option.{slice_get-get_or, slice_get_past}
 use Rattle.shelf_core.specs.declared.faults.Faults.{Faults}
-use Rattle.shelf_core.specs.File.{File, Contents, is_named, file_of, bytes_of, faults_or, held_of, faults_of, SameFaults, SetsFaults, Stores}
+use Rattle.shelf_core.specs.File.{File, Contents, is_named, file_of, bytes_of, faults_or, held_of, SetsFaults, Stores}
 use Rattle.shelf_core.specs.Shelf.{SameHeld, appended}
 
 same_or_other : (a b : List ℕ) → (a ≡ b) ⊎ (a ≢ b)
@@ -56,8 +56,8 @@ changed name files i d new at same =
 missing : (name : List ℕ) (files : List File) → position (is_named name) files ≡ None → file_of files name ≡ None
 missing name files at =
     elim (cases_lt (position_or_len (is_named name) files) (length files)) [
-    | inl lt ↦ absurd (some_is_none (rw (lt-ltb (position_or_len (is_named name) files) (length files) lt) at at))
-    | inr le ↦ find_at (is_named name) files ∙ slice_get_past files _ le
+      | inl lt ↦ absurd (some_is_none (rw (lt-ltb (position_or_len (is_named name) files) (length files) lt) at at))
+      | inr le ↦ find_at (is_named name) files ∙ slice_get_past files _ le
     ]
 
 -- a file is made
@@ -77,10 +77,12 @@ stores : (name bytes : List ℕ) (old new : Contents) (was : Option File) (file 
 stores name bytes old new was file c b f a = record {
   held = ap bytes_of c.after ∙ ap Some b;
   others = λ other ne. ap bytes_of (c.others other ne);
-  faults = record { each = λ other. elim (same_or_other other name) [
-    | inl is ↦ rw (is, a, c.after, c.before) f
-    | inr ne ↦ rw (a, c.others other ne)
-    ] };
+  faults = record {
+    each = λ other. elim (same_or_other other name) [
+      | inl is ↦ rw (is, a, c.after, c.before) f
+      | inr ne ↦ rw (a, c.others other ne)
+    ];
+  };
 }
 
 -- a file that is there gets other bytes
@@ -129,10 +131,12 @@ faults_over name faults files absent old i was file at at_i is old_is =
         changed = rw c.after (ap (λ (f : File). f.faults) is');
         others = λ other ne there. rw (c.others other ne);
       },
-      record { each = λ other. elim (same_or_other other name) [
-        | inl same ↦ rw (same, c.after, c.before) (ap Some (ap (λ (f : File). f.bytes) is'))
-        | inr ne ↦ ap bytes_of (c.others other ne)
-        ] },
+      record {
+        each = λ other. elim (same_or_other other name) [
+          | inl same ↦ rw (same, c.after, c.before) (ap Some (ap (λ (f : File). f.bytes) is'))
+          | inr ne ↦ ap bytes_of (c.others other ne)
+        ];
+      },
     )
 
 -- the counts of the names that are not there change
@@ -146,5 +150,5 @@ faults_absent name faults files absent old at old_is =
       others = λ other ne there. elim there [
         | inl here ↦ absurd (let h : IsSome (bytes_of None) = rw none at here in cc)
         | inr here ↦ unaffected (file_of files other) faults absent here
-        ];
+      ];
     })

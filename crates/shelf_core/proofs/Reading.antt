@@ -1,8 +1,8 @@
 -- How far a name has been read.
-use Rattle.std.proofs.Common.{◌≡◌, ◌≤◌, ◌<◌, ◌+◌, ℕ, List, [], ◌++◌, length, take, drop, Option, Some, None, arith, ap, refl, sym, ◌∙◌}
+use Rattle.std.proofs.Common.{◌≡◌, ◌≤◌, ◌<◌, ◌+◌, ℕ, List, [], ◌++◌, length, take, Option, Some, None, arith, ap, refl, sym, ◌∙◌}
 use Rattle.std.proofs.Math.Seq.{take-add, take-length}
 use Rattle.std.proofs.lemmas.List.{length-append, length-take-le}
-use Rattle.shelf_core.specs.Shelf.{Reads, ReadsFrom}
+use Rattle.shelf_core.specs.Shelf.{Reads}
 
 -- a front of what is held has been read, perhaps nothing
 abbrev pub HasRead : Option (List ℕ) → List ℕ → Type 0

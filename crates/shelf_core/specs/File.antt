@@ -1,5 +1,5 @@
 -- The files of a shelf in memory.
-use Rattle.std.specs.Prelude.{◌≢◌, ◌≡◌, ◌⊎◌, ℕ, ◌+◌, ◌-◌, ◌^◌, min, List, Option, Some, None, Bool, find, IsSome}
+use Rattle.std.specs.Prelude.{◌≢◌, ◌≡◌, ◌⊎◌, ℕ, List, Option, Some, None, Bool, find, IsSome}
 use Rattle.std.specs.Str.{bytes_eq}
 use Rattle.shelf_core.specs.declared.faults.Faults.{Faults}
 use Rattle.shelf_core.specs.Shelf.{Holding}

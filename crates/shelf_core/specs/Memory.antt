@@ -32,6 +32,11 @@ FailsWrite name old new = SetsFaults name (write_raised (faults_of old.contents 
 abbrev pub empty_memory : Memory
 empty_memory = record { contents = record { files = []; absent = record { reads = 0; writes = 0 } }; reads = no_calls; writes = no_calls }
 
+-- no call is to fail
+pub record FailsNone (memory : Memory) : Type 0 where
+  pub reads : memory.reads.failing ≡ []
+  pub writes : memory.writes.failing ≡ []
+
 -- what was taken, the calls, and how many of them have failed
 pub record Taken : Type 0 where
   pub bytes : List ℕ

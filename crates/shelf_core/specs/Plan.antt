@@ -1,5 +1,5 @@
 -- Calls that are counted, and those that are to fail.
-use Rattle.std.specs.Prelude.{ℕ, ◌+◌, ◌-◌, ◌^◌, min, List, [], ◌∷◌, ◌++◌, Option, Some, None, Bool, find, take, ◌==◌}
+use Rattle.std.specs.Prelude.{ℕ, ◌+◌, ◌-◌, ◌^◌, min, List, [], ◌∷◌, ◌++◌, Option, Some, None, find, take, ◌==◌}
 use Rattle.shelf_core.specs.declared.calls.Failing.{Failing}
 
 -- how many calls were made, and the list of those that are to fail

@@ -30,10 +30,7 @@ impl<'a, R: Files> DirShelf<'a, R> {
     pub fn new(rt: &'a R) -> DirShelf<'a, R>
         ensures { result ≡ 0 }
     {
-        DirShelf {
-            rt,
-            faults: 0,
-        }
+        DirShelf { rt, faults: 0 }
     }
 
     fn fault(&mut self) -> Failed

@@ -128,7 +128,7 @@ impl Shelf for MemShelf {
     ghost use Rattle.shelf_core.specs.Shelf.{Rose, NoneFell, SameHeld, ChangesOnly, Reads, appended, content_of, LeavesFront};
     ghost use Rattle.shelf_core.specs.Plan.{called, next_left};
     ghost use Rattle.shelf_core.specs.File.{Stores};
-    ghost use Rattle.shelf_core.specs.Memory.{held_in, read_faults_in, write_faults_in, FailsRead, FailsWrite, LeavesListed};
+    ghost use Rattle.shelf_core.specs.Memory.{held_in, read_faults_in, write_faults_in, FailsRead, FailsWrite, FailsNone, LeavesListed};
 
     ghost tells = { λ s. true };
 
@@ -138,7 +138,7 @@ impl Shelf for MemShelf {
 
     ghost write_faults = { write_faults_in };
 
-    /// Reads all that there is room for. Fails where the call is listed, or the name is not there.
+    /// Reads all that there is room for. Fails exactly where the call is listed, or the name is not there.
     fn read_at(&mut self, name: &str, at: u64, into: &mut [u8]) -> Result<usize, Failed>
         ensures bound { IfOk result (λ n. n ≤ length into.new) }
         ensures bytes { IfOk result (λ n. Reads (held_in self.old name.now) at n into.new) }
@@ -147,6 +147,7 @@ impl Shelf for MemShelf {
         ensures listed { IsSome (next_left self.old.reads) → IsErr result }
         ensures absent { held_in self.old name.now ≡ None → IsErr result }
         ensures ok { next_left self.old.reads ≡ None → IsSome (held_in self.old name.now) → IsOk result }
+        ensures unlisted { FailsNone self.old → IsSome (held_in self.old name.now) → IsOk result }
 
         // No content changes, and of the counts only a failed read's.
         ensures unchanged { OnOk result (self.new.contents ≡ self.old.contents) }

@@ -24,10 +24,7 @@ impl<'a, R: Print> StdSink<'a, R> {
     pub fn new(rt: &'a R) -> StdSink<'a, R>
         ensures { result ≡ 0 }
     {
-        StdSink {
-            rt,
-            faults: 0,
-        }
+        StdSink { rt, faults: 0 }
     }
 }
 

@@ -13,9 +13,9 @@ loop-block-preserved g c = record {
   room = search rules;
   within = search rules;
   front = λ t.
-    let old = c.loop-block.invariant.front t in
-    let room : c.in_ok-n.n ≤ length c.read_at.new.into = search rules in
-    let reads : Reads (g.S.Shelf.held c.args.shelf.now c.args.name.now) (length c.loop-block.all.items) c.in_ok-n.n c.read_at.new.into = search rules in
-    let items : c.extend_from_slice.new.self.items ≡ c.loop-block.all.items ++ take c.in_ok-n.n c.read_at.new.into = grind (arith, common_steps) in
-    rw items (read_more _ _ c.read_at.new.into c.in_ok-n.n old room (omega arith) reads);
+      let old = c.loop-block.invariant.front t in
+      let room : c.in_ok-n.n ≤ length c.read_at.new.into = search rules in
+      let reads : Reads (g.S.Shelf.held c.args.shelf.now c.args.name.now) (length c.loop-block.all.items) c.in_ok-n.n c.read_at.new.into = search rules in
+      let items : c.extend_from_slice.new.self.items ≡ c.loop-block.all.items ++ take c.in_ok-n.n c.read_at.new.into = grind (arith, common_steps) in
+      rw items (read_more _ _ c.read_at.new.into c.in_ok-n.n old room (omega arith) reads);
 }
