@@ -8,6 +8,7 @@ use Rattle.std.proofs.Math.Seq.{take-append_seam, drop-append_seam, drop-append-
 use Rattle.bpf_isa.specs.declared.instruction.Insn.{Insn}
 use Rattle.bpf_isa.specs.Spelling.{units_of, spelling, IsInsn, Begins, StandsAt}
 use Rattle.bpf_isa.specs.Text.{text_of, unit_count, place_of, insn_at, Spells, FirstBad}
+use Rattle.bpf_isa.proofs.Fronts.{rest_is}
 use Rattle.bpf_isa.proofs.Laws.{length-spelling, units_of-positive, begins_split, begins_of, begins_length, begins_one, none_inside}
 
 pub text_of-append : (xs ys : List Insn) → text_of (xs ++ ys) ≡ text_of xs ++ text_of ys
@@ -49,6 +50,14 @@ decoded_more code is at i d b =
       place = omega (arith, d.place, unit_count-append is (i ∷ []));
       inside = omega (arith, d.inside, begins_length (drop (8 * at) code) i b, length-drop (8 * at) code);
     }
+
+-- the same for what a loop reads and keeps
+pub decoded_step : (code : List ℕ) (is js : List Insn) (at u : ℕ) (i : Insn) → Decoded code is at → Begins (take (length code - 8 * at) (drop (8 * at) code)) i
+    → js ≡ is ++ i ∷ [] → u ≡ units_of i.op → Decoded code js (at + u)
+decoded_step code is js at u i d b e f =
+    let more = decoded_more code is at i d (subst (λ (t : List ℕ). Begins t i) (rest_is (8 * at) code) b) in
+    let stepped = subst (λ (n : ℕ). Decoded code (is ++ i ∷ []) (at + n)) (sym f) more in
+    subst (λ (xs : List Insn). Decoded code xs (at + u)) (sym e) stepped
 
 front_of : (code : List ℕ) (is : List Insn) (at : ℕ) → Decoded code is at → take (8 * at) code ≡ text_of is
 front_of code is at d =
@@ -93,7 +102,7 @@ spells_one code is js h k =
 pub stands_between : (xs : List Insn) (i : Insn) (ys : List Insn) → IsInsn i → StandsAt (text_of (xs ++ i ∷ ys)) (unit_count xs) i
 stands_between xs i ys h =
     let place : drop (8 * unit_count xs) (text_of (xs ++ i ∷ ys)) ≡ text_of (i ∷ ys) =
-        ap (drop (8 * unit_count xs)) (text_of-append xs (i ∷ ys)) ∙ (ap (λ (n : ℕ). drop n (text_of xs ++ text_of (i ∷ ys))) (sym (length-text_of xs)) ∙ drop-append_seam (text_of xs) (text_of (i ∷ ys))) in
+    ap (drop (8 * unit_count xs)) (text_of-append xs (i ∷ ys)) ∙ (ap (λ (n : ℕ). drop n (text_of xs ++ text_of (i ∷ ys))) (sym (length-text_of xs)) ∙ drop-append_seam (text_of xs) (text_of (i ∷ ys))) in
     subst (λ (t : List ℕ). Begins t i) (sym place) (begins_of i (text_of ys) h)
 
 -- the instructions before a unit, and the one that begins there
@@ -122,11 +131,11 @@ not_later code m n f g l =
     let rest = drop (8 * m) front in
     let long : 8 * n ≡ length front = omega (arith, g.inside, length-take (8 * n) code) in
     let e : text_of g.before.0 ≡ text_of f.before.0 ++ rest =
-        sym g.before.1.bytes ∙ (sym (take-append-drop (8 * m) front) ∙ ap (λ (t : List ℕ). t ++ rest) (take-take (8 * m) (8 * n) code (omega arith) ∙ f.before.1.bytes)) in
+    sym g.before.1.bytes ∙ (sym (take-append-drop (8 * m) front) ∙ ap (λ (t : List ℕ). t ++ rest) (take-take (8 * m) (8 * n) code (omega arith) ∙ f.before.1.bytes)) in
     let next = stands_next code m rest g.before.0 f.before.0 g.before.1.legal f.before.1.legal e (omega (arith, length-drop (8 * m) front)) in
     let whole : drop (8 * m) code ≡ spelling next.0 ++ (next.1 ++ drop (8 * n) code) =
-        ap (drop (8 * m)) (sym (take-append-drop (8 * n) code)) ∙ (drop-append-le (8 * m) front (drop (8 * n) code) (omega arith)
-        ∙ (ap (λ (t : List ℕ). t ++ drop (8 * n) code) next.3 ∙ append_assoc (spelling next.0) next.1 (drop (8 * n) code))) in
+    ap (drop (8 * m)) (sym (take-append-drop (8 * n) code)) ∙ (drop-append-le (8 * m) front (drop (8 * n) code) (omega arith)
+    ∙ (ap (λ (t : List ℕ). t ++ drop (8 * n) code) next.3 ∙ append_assoc (spelling next.0) next.1 (drop (8 * n) code))) in
     f.none next.0 (subst (λ (t : List ℕ). Begins t next.0) (sym whole) (begins_of next.0 (next.1 ++ drop (8 * n) code) next.2))
 
 pub first_bad_one : (code : List ℕ) (m n : ℕ) → FirstBad code m → FirstBad code n → m ≡ n
