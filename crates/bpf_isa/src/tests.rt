@@ -1,6 +1,6 @@
 // Bytes from RFC 9669, its appendix A for the opcodes.
 
-ghost use Rattle.std.specs.Prelude.{◌≡◌};
+ghost use Rattle.std.specs.Prelude.{◌≡◌, ◌<◌};
 ghost use Rattle.bpf_isa.specs.Spelling.{IsInsn, units_of};
 
 use super::AluCode::*;
@@ -10,6 +10,7 @@ use super::Size::*;
 use super::Src::*;
 use super::Width::*;
 use super::*;
+use std::alloc::Global;
 use std::test::Fail;
 
 // Every opcode, and what it names.
@@ -141,8 +142,43 @@ const OPCODES: [(u8, Op); 125] = [
     (0xde, Jump(Bits32, Jsle, X)),
 ];
 
+// The operation that a text of one unit with this opcode has, where its other fields are zero, or
+// 16 for a byte swap.
+fn named_by(opcode: u8) -> Option<Op> {
+    let mut bytes = [0; 16];
+    bytes[0] = opcode;
+    if let Ok((insn, _)) = decode_one(&bytes, 0) {
+        return Some(insn.op);
+    }
+    bytes[4] = 16;
+    match decode_one(&bytes, 0) {
+        Ok((insn, _)) => Some(insn.op),
+        Err(BadInsn) => None,
+    }
+}
+
+// The first row that the decoder does not name so.
+fn misnamed(rows: &[(u8, Op)]) -> Option<usize> {
+    rows.iter()
+        .position(|&(opcode, op)| named_by(opcode) != Some(op))
+}
+
+fn named_count() -> usize {
+    (0..=u8::MAX)
+        .filter(|&opcode| named_by(opcode).is_some())
+        .count()
+}
+
+#[test]
+fn names_every_opcode(rt: HostRuntime) {
+    assert_eq!(rt; misnamed(&OPCODES), None);
+    assert_eq!(rt; named_count(), OPCODES.len());
+}
+
+type Form = ([u8; 8], (Op, u8, u8, i16, i64), [u8; 8]);
+
 // Units of each form: the bytes, the instruction, and bytes beside them that are no instruction.
-const FORMS: [([u8; 8], (Op, u8, u8, i16, i64), [u8; 8]); 34] = [
+const FORMS: [Form; 34] = [
     // r3 += -2; a source
     (
         [0x07, 0x03, 0, 0, 0xfe, 0xff, 0xff, 0xff],
@@ -349,10 +385,34 @@ const FORMS: [([u8; 8], (Op, u8, u8, i16, i64), [u8; 8]); 34] = [
     ),
 ];
 
-// r1 = 0x1122334455667788, with the source 6
-const WIDE: [u8; 16] = [
-    0x18, 0x61, 0, 0, 0x88, 0x77, 0x66, 0x55, 0, 0, 0, 0, 0x44, 0x33, 0x22, 0x11,
-];
+// The first form that is read or written otherwise.
+fn misread(forms: &[Form]) -> Option<usize> {
+    forms.iter().position(|form| !is_right(form))
+}
+
+fn is_right(&(bytes, (op, dst, src, offset, imm), illegal): &Form) -> bool {
+    let insn = Insn {
+        op,
+        dst,
+        src,
+        offset,
+        imm,
+    };
+    decode_one(&bytes, 0) == Ok((insn, 1))
+        && decode_one(&illegal, 0) == Err(BadInsn)
+        && is_written(&insn, &bytes)
+}
+
+fn is_written(insn: &Insn, bytes: &[u8]) -> bool {
+    if !insn.is_legal() || bytes.len() > 16 {
+        return false;
+    }
+    let (written, units) = encode_one(insn);
+    written[..bytes.len()] == bytes[..]
+        && written[bytes.len()..].iter().all(|&byte| byte == 0)
+        && 8 * usize::from(units) == bytes.len()
+        && decoded_again(insn) == Ok((*insn, units))
+}
 
 // What was encoded is decoded again.
 fn decoded_again(insn: &Insn) -> Result<(Insn, u8), BadInsn>
@@ -362,142 +422,86 @@ fn decoded_again(insn: &Insn) -> Result<(Insn, u8), BadInsn>
     decode_one(&encode_one(insn).0, 0)
 }
 
-// The operation that a text of one unit with this opcode has, where its other fields are zero, or
-// 16 for a byte swap.
-fn named_by(opcode: u8) -> Option<Op> {
-    let mut bytes = [0; 16];
-    bytes[0] = opcode;
-    if let Ok((insn, _)) = decode_one(&bytes, 0) {
-        return Some(insn.op);
-    }
-    bytes[4] = 16;
-    match decode_one(&bytes, 0) {
-        Ok((insn, _)) => Some(insn.op),
-        Err(BadInsn) => None,
-    }
-}
-
-#[test]
-fn names_every_opcode(rt: HostRuntime) {
-    for (opcode, op) in OPCODES {
-        assert_eq!(rt; named_by(opcode), Some(op), "opcode {opcode}");
-    }
-    let mut named = 0u32;
-    for opcode in 0..=u8::MAX {
-        if named_by(opcode).is_some() && named < 256 {
-            named += 1;
-        }
-    }
-    assert_eq!(rt; named, 125);
-}
-
 #[test]
 fn reads_and_writes_units(rt: HostRuntime) {
-    for (bytes, (op, dst, src, offset, imm), illegal) in FORMS {
-        let insn = Insn {
-            op,
-            dst,
-            src,
-            offset,
-            imm,
-        };
-        assert_eq!(rt; decode_one(&bytes, 0), Ok((insn, 1)), "{insn:?}");
-        assert_eq!(rt; decode_one(&illegal, 0), Err(BadInsn), "beside {insn:?}");
-        assert!(rt; insn.is_legal());
-        let (written, units) = encode_one(&insn);
-        assert_eq!(rt; written[..8], bytes[..], "{insn:?}");
-        assert_eq!(rt; written[8..], [0; 8][..]);
-        assert_eq!(rt; units, 1);
-        assert_eq!(rt; decoded_again(&insn), Ok((insn, 1)));
-    }
+    assert_eq!(rt; misread(&FORMS), None);
+}
+
+// r1 = 0x1122334455667788, with the source 6
+const WIDE: [u8; 16] = [
+    0x18, 0x61, 0, 0, 0x88, 0x77, 0x66, 0x55, 0, 0, 0, 0, 0x44, 0x33, 0x22, 0x11,
+];
+
+const WIDE_INSN: Insn = Insn {
+    op: LoadImm,
+    dst: 1,
+    src: 6,
+    offset: 0,
+    imm: 0x1122_3344_5566_7788,
+};
+
+// Whether the wide number is an instruction with another byte.
+fn decodes_with(place: usize, byte: u8) -> bool
+    requires { place < 16 }
+{
+    let mut bytes = WIDE;
+    bytes[place] = byte;
+    decode_one(&bytes, 0).is_ok()
 }
 
 #[test]
 fn reads_and_writes_wide_numbers(rt: HostRuntime) {
-    let insn = Insn {
-        op: LoadImm,
-        dst: 1,
-        src: 6,
-        offset: 0,
-        imm: 0x1122_3344_5566_7788,
-    };
-    assert_eq!(rt; decode_one(&WIDE, 0), Ok((insn, 2)));
-    assert!(rt; insn.is_legal());
-    assert_eq!(rt; encode_one(&insn), (WIDE, 2));
+    assert_eq!(rt; decode_one(&WIDE, 0), Ok((WIDE_INSN, 2)));
+    assert!(rt; is_written(&WIDE_INSN, &WIDE));
 
     // the source 7, an offset, and each field of the second unit
-    for (place, byte) in [
-        (1, 0x71),
-        (2, 1),
-        (8, 0x18),
-        (9, 1),
-        (9, 0x10),
-        (10, 1),
-        (11, 1),
-    ] {
-        let mut bytes = WIDE;
-        bytes[place] = byte;
-        assert_eq!(rt; decode_one(&bytes, 0), Err(BadInsn), "byte {place}");
-    }
-    // without its second unit, and the second unit alone
-    assert_eq!(rt; decode_one(&WIDE[..8], 0), Err(BadInsn));
-    assert_eq!(rt; decode_one(&WIDE, 1), Err(BadInsn));
+    assert!(rt; decodes_with(1, 0x51));
+    assert!(rt; !decodes_with(1, 0x71));
+    assert!(rt; !decodes_with(2, 1));
+    assert!(rt; !decodes_with(8, 0x18));
+    assert!(rt; !decodes_with(9, 0x01));
+    assert!(rt; !decodes_with(9, 0x10));
+    assert!(rt; !decodes_with(10, 1));
+    assert!(rt; !decodes_with(11, 1));
 
-    // -1 has its sign in both halves
-    let bytes = [
-        0x18, 0, 0, 0, 0xff, 0xff, 0xff, 0xff, 0, 0, 0, 0, 0xff, 0xff, 0xff, 0xff,
-    ];
-    let minus = Insn {
-        imm: -1,
-        dst: 0,
-        src: 0,
-        ..insn
-    };
-    assert_eq!(rt; decode_one(&bytes, 0), Ok((minus, 2)));
+    // without its second unit, and the second unit alone
+    assert!(rt; decode_one(&WIDE[..8], 0).is_err());
+    assert!(rt; decode_one(&WIDE, 1).is_err());
+}
+
+// r1 = a number; r0 = 1; exit
+const TEXT: [u8; 32] = [
+    0x18, 0x61, 0, 0, 0x88, 0x77, 0x66, 0x55, 0, 0, 0, 0, 0x44, 0x33, 0x22, 0x11, 0xb7, 0x00, 0, 0,
+    1, 0, 0, 0, 0x95, 0x00, 0, 0, 0, 0, 0, 0,
+];
+
+// The same with an unknown opcode in unit 2, and a source in unit 3.
+const BAD: [u8; 32] = [
+    0x18, 0x61, 0, 0, 0x88, 0x77, 0x66, 0x55, 0, 0, 0, 0, 0x44, 0x33, 0x22, 0x11, 0xe7, 0x00, 0, 0,
+    1, 0, 0, 0, 0x95, 0x10, 0, 0, 0, 0, 0, 0,
+];
+
+fn refusal(alloc: Global, code: &[u8]) -> Option<DecodeError> {
+    decode_all(alloc, code).err()
 }
 
 #[test]
 fn reads_texts(rt: HostRuntime) -> Result<(), Fail> {
-    // r1 = a number; r0 = 1; exit
-    let text = [
-        0x18, 0x61, 0, 0, 0x88, 0x77, 0x66, 0x55, 0, 0, 0, 0, 0x44, 0x33, 0x22, 0x11, // 0, 1
-        0xb7, 0x00, 0, 0, 1, 0, 0, 0, // 2
-        0x95, 0x00, 0, 0, 0, 0, 0, 0, // 3
-    ];
-    let insns = decode_all(rt.alloc(), &text)?;
+    let insns = decode_all(rt.alloc(), &TEXT)?;
     assert_eq!(rt; insns.len(), 3);
-    assert_eq!(rt; insns[0].op, LoadImm);
+    assert_eq!(rt; insns[0], WIDE_INSN);
     assert_eq!(rt; insns[1].op, Alu(Bits64, Mov, K));
     assert_eq!(rt; insns[2].op, Exit);
     assert_eq!(rt; decode_all(rt.alloc(), &[])?.len(), 0);
 
-    // no whole unit, and a whole one and a byte
-    assert_eq!(rt;
-        refusal(decode_all(rt.alloc(), &text[..7])),
-        Some(DecodeError::Odd)
-    );
-    assert_eq!(rt;
-        refusal(decode_all(rt.alloc(), &text[16..25])),
-        Some(DecodeError::Odd)
-    );
-
+    assert_eq!(rt; refusal(rt.alloc(), &TEXT[..7]), Some(DecodeError::Odd));
+    assert_eq!(rt; refusal(rt.alloc(), &TEXT[16..25]), Some(DecodeError::Odd));
     // the wide number is cut
     assert_eq!(rt;
-        refusal(decode_all(rt.alloc(), &text[..8])),
+        refusal(rt.alloc(), &TEXT[..8]),
         Some(DecodeError::Bad { at: 0 })
     );
-
-    // two bad units: the first counts
-    let mut bad = text;
-    bad[17] = 0x0b;
-    bad[24] = 0;
-    assert_eq!(rt;
-        refusal(decode_all(rt.alloc(), &bad)),
-        Some(DecodeError::Bad { at: 2 })
-    );
+    // of two bad units the first counts
+    assert_eq!(rt; refusal(rt.alloc(), &BAD), Some(DecodeError::Bad { at: 2 }));
     Ok(())
-}
-
-fn refusal(decoded: Result<Vec<Insn>, DecodeError>) -> Option<DecodeError> {
-    decoded.err()
 }
