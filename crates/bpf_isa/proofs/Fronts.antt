@@ -1,16 +1,15 @@
 -- The instruction at the front of a text, by the fields of its first unit.
-use Rattle.std.proofs.Common.{◌≡◌, ◌≢◌, ◌∙◌, ℕ, ℤ, pos, ◌+◌, ◌-◌, ◌*◌, ◌/◌, ◌%◌, ◌^◌, ◌<◌, ◌≤◌, ◌++◌, List, [], ◌∷◌, length, take, drop, refl, sym, ap, subst, arith, Result, Ok}
+use Rattle.std.proofs.Common.{◌≡◌, ◌∙◌, ℕ, ℤ, ◌-◌, ◌*◌, ◌%◌, ◌^◌, ◌<◌, ◌++◌, List, length, take, drop, refl, sym, ap, subst, arith, Result, Ok}
 use Rattle.std.proofs.lemmas.List.{take-take, drop-take, length-drop, take_all}
 use Rattle.std.proofs.Math.Seq.{take-add}
-use Rattle.std.proofs.lemmas.Int.{ints}
 use Rattle.std.specs.Int.{w16, w64, cast_unsigned}
 use Rattle.std.specs.Int.RustNames.{FitsSigned}
 use Rattle.bpf_isa.specs.declared.operation.Op.{Op}
 use Rattle.bpf_isa.specs.declared.operation.Op.TheVariants.{LoadImm}
 use Rattle.bpf_isa.specs.declared.instruction.Insn.{Insn}
 use Rattle.bpf_isa.specs.Opcode.{code_of}
-use Rattle.bpf_isa.specs.Spelling.{unit, units_of, second_unit, spelled, spelling, FitsOp, IsInsn, Begins, HasImm}
-use Rattle.bpf_isa.proofs.Units.{Same, unit_one}
+use Rattle.bpf_isa.specs.Spelling.{unit, units_of, second_unit, spelled, Begins, HasImm}
+use Rattle.bpf_isa.proofs.Units.{unit_one}
 
 -- the first unit, and then the second if there is one
 pub split : (op : Op) (text : List ℕ) (dst src : ℕ) (offset imm : ℤ) → take (8 * units_of op) text ≡ spelled op dst src offset imm

@@ -1,6 +1,6 @@
 -- Laws of the instruction table: an instruction has one spelling, and bytes begin with at most one instruction.
-use Rattle.std.proofs.Common.{◌≡◌, ◌≢◌, ◌∙◌, ℕ, zero, suc, ℤ, pos, ◌+◌, ◌-◌, ◌*◌, ◌/◌, ◌%◌, ◌^◌, ◌<◌, ◌≤◌, ◌++◌, List, [], ◌∷◌, length, take, drop, refl, sym, ap, subst, arith}
-use Rattle.std.proofs.lemmas.List.{take-append-drop, length-take, length-append}
+use Rattle.std.proofs.Common.{◌≡◌, ◌∙◌, ℕ, zero, suc, ℤ, pos, ◌*◌, ◌/◌, ◌%◌, ◌^◌, ◌<◌, ◌≤◌, ◌++◌, List, [], length, take, drop, refl, sym, ap, subst, arith}
+use Rattle.std.proofs.lemmas.List.{take-append-drop, length-take}
 use Rattle.std.proofs.Math.Seq.{take-append_seam}
 use Rattle.std.proofs.lemmas.Int.{ints}
 use Rattle.std.specs.Int.{w16, w32, w64, cast_unsigned}
@@ -9,10 +9,10 @@ use Rattle.bpf_isa.specs.declared.operation.Op.{Op}
 use Rattle.bpf_isa.specs.declared.operation.Op.TheVariants.{LoadImm}
 use Rattle.bpf_isa.specs.declared.instruction.Insn.{Insn}
 use Rattle.bpf_isa.specs.Opcode.{code_of}
-use Rattle.bpf_isa.specs.Spelling.{unit, units_of, second_unit, spelled, spelling, FitsOp, IsInsn, Begins, HasImm}
+use Rattle.bpf_isa.specs.Spelling.{units_of, spelled, spelling, IsInsn, Begins, HasImm}
 use Rattle.bpf_isa.proofs.Codes.{code_of-injective, code_of-positive}
-use Rattle.bpf_isa.proofs.Units.{Same, unit_one}
-use Rattle.bpf_isa.proofs.Fronts.{Fields, fields_of, split, insn_is}
+use Rattle.bpf_isa.proofs.Units.{unit_one}
+use Rattle.bpf_isa.proofs.Fronts.{fields_of, split, insn_is}
 
 -- eight bytes a unit
 pub length-spelled : (op : Op) (dst src : ℕ) (offset imm : ℤ) → length (spelled op dst src offset imm) ≡ 8 * units_of op
@@ -35,6 +35,9 @@ begins_of i rest h = record {
   legal = h;
   bytes = ap (λ (n : ℕ). take n (spelling i ++ rest)) (sym (length-spelling i)) ∙ take-append_seam (spelling i) rest;
 }
+
+pub begins_with : (text : List ℕ) (i : Insn) (rest : List ℕ) → IsInsn i → text ≡ spelling i ++ rest → Begins text i
+begins_with text i rest h e = subst (λ (t : List ℕ). Begins t i) (sym e) (begins_of i rest h)
 
 -- and it is that long
 pub begins_length : (text : List ℕ) (i : Insn) → Begins text i → 8 * units_of i.op ≤ length text

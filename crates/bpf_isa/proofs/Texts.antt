@@ -1,14 +1,15 @@
 -- Laws of whole texts: a text has at most one list of instructions, each stands at its place, and a text has either its instructions
 -- or a first bad unit.
-use Rattle.std.proofs.Common.{◌≡◌, ◌≢◌, ◌∙◌, ℕ, zero, suc, Some, None, Bool, true, false, nat_lt, if◌then◌else◌, ◌+◌, ◌-◌, ◌*◌, ◌%◌, ◌<◌, ◌≤◌, ◌++◌, List, [], ◌∷◌, length, take, drop, All, refl, sym, ap, subst, arith}
+use Rattle.std.proofs.Common.{◌≡◌, ◌∙◌, ℕ, zero, suc, Some, None, Bool, true, false, nat_lt, if◌then◌else◌, ◌+◌, ◌-◌, ◌*◌, ◌<◌, ◌≤◌, ◌++◌, List, [], ◌∷◌, length, take, drop, All, refl, sym, ap, subst, arith}
 use Rattle.std.proofs.lemmas.List.{take-take, take_all, drop-append-le, append_assoc, append-nil, append_cancel_left, take-append-drop, length-append, length-take, length-drop, drop-drop}
 use Rattle.std.proofs.lemmas.List.Elements.{All-nil, All-cons, All-head, All-tail, All-append}
 use borrow.Author.Tests.{ltb-true, ltb-false}
 use Rattle.std.proofs.Math.Seq.{take-append_seam, drop-append_seam, drop-append-add}
 use Rattle.bpf_isa.specs.declared.instruction.Insn.{Insn}
 use Rattle.bpf_isa.specs.Spelling.{units_of, spelling, IsInsn, Begins, StandsAt}
-use Rattle.bpf_isa.specs.Text.{text_of, unit_count, place_of, insn_at, Spells, FirstBad}
-use Rattle.bpf_isa.proofs.Laws.{length-spelling, units_of-positive, begins_split, begins_of, begins_length, begins_one, none_inside}
+use Rattle.bpf_isa.specs.Text.{text_of, unit_count, insn_at, Spells, FirstBad}
+use Rattle.bpf_isa.proofs.Fronts.{rest_is}
+use Rattle.bpf_isa.proofs.Laws.{length-spelling, units_of-positive, begins_split, begins_of, begins_with, begins_length, begins_one, none_inside}
 
 pub text_of-append : (xs ys : List Insn) → text_of (xs ++ ys) ≡ text_of xs ++ text_of ys
 text_of-append [] ys = refl
@@ -49,6 +50,14 @@ decoded_more code is at i d b =
       place = omega (arith, d.place, unit_count-append is (i ∷ []));
       inside = omega (arith, d.inside, begins_length (drop (8 * at) code) i b, length-drop (8 * at) code);
     }
+
+-- the same for what a loop reads and keeps
+pub decoded_step : (code : List ℕ) (is js : List Insn) (at u : ℕ) (i : Insn) → Decoded code is at → Begins (take (length code - 8 * at) (drop (8 * at) code)) i
+    → js ≡ is ++ i ∷ [] → u ≡ units_of i.op → Decoded code js (at + u)
+decoded_step code is js at u i d b e f =
+    let more = decoded_more code is at i d (subst (λ (t : List ℕ). Begins t i) (rest_is (8 * at) code) b) in
+    let stepped = subst (λ (n : ℕ). Decoded code (is ++ i ∷ []) (at + n)) (sym f) more in
+    subst (λ (xs : List Insn). Decoded code xs (at + u)) (sym e) stepped
 
 front_of : (code : List ℕ) (is : List Insn) (at : ℕ) → Decoded code is at → take (8 * at) code ≡ text_of is
 front_of code is at d =
@@ -93,13 +102,13 @@ spells_one code is js h k =
 pub stands_between : (xs : List Insn) (i : Insn) (ys : List Insn) → IsInsn i → StandsAt (text_of (xs ++ i ∷ ys)) (unit_count xs) i
 stands_between xs i ys h =
     let place : drop (8 * unit_count xs) (text_of (xs ++ i ∷ ys)) ≡ text_of (i ∷ ys) =
-        ap (drop (8 * unit_count xs)) (text_of-append xs (i ∷ ys)) ∙ (ap (λ (n : ℕ). drop n (text_of xs ++ text_of (i ∷ ys))) (sym (length-text_of xs)) ∙ drop-append_seam (text_of xs) (text_of (i ∷ ys))) in
+    ap (drop (8 * unit_count xs)) (text_of-append xs (i ∷ ys)) ∙ (ap (λ (n : ℕ). drop n (text_of xs ++ text_of (i ∷ ys))) (sym (length-text_of xs)) ∙ drop-append_seam (text_of xs) (text_of (i ∷ ys))) in
     subst (λ (t : List ℕ). Begins t i) (sym place) (begins_of i (text_of ys) h)
 
 -- the instructions before a unit, and the one that begins there
-stands_next : (code : List ℕ) (at : ℕ) (rest : List ℕ) (is xs : List Insn) → All IsInsn is → All IsInsn xs → text_of is ≡ text_of xs ++ rest → 0 < length rest
+stands_next : (rest : List ℕ) (is xs : List Insn) → All IsInsn is → All IsInsn xs → text_of is ≡ text_of xs ++ rest → 0 < length rest
     → (i : Insn) × (tail : List ℕ) × IsInsn i × (rest ≡ spelling i ++ tail)
-stands_next code at rest is xs hi hx e l =
+stands_next rest is xs hi hx e l =
     let more = continued is xs rest hi hx e in
     some more.0 more.2 more.3
   where
@@ -112,22 +121,27 @@ pub bad_not_spelled : (code : List ℕ) (at : ℕ) (is : List Insn) → FirstBad
 bad_not_spelled code at is f s =
     let rest = drop (8 * at) code in
     let e : text_of is ≡ text_of f.before.0 ++ rest = sym s.bytes ∙ (sym (take-append-drop (8 * at) code) ∙ ap (λ (t : List ℕ). t ++ rest) f.before.1.bytes) in
-    let next = stands_next code at rest is f.before.0 s.legal f.before.1.legal e (omega (arith, f.inside, length-drop (8 * at) code)) in
-    f.none next.0 (subst (λ (t : List ℕ). Begins t next.0) (sym next.3) (begins_of next.0 next.1 next.2))
+    let next = stands_next rest is f.before.0 s.legal f.before.1.legal e (omega (arith, f.inside, length-drop (8 * at) code)) in
+    f.none next.0 (begins_with rest next.0 next.1 next.2 next.3)
+
+-- a front of a text, cut again
+parted : (a b : ℕ) (code x y : List ℕ) → a ≤ b → take b code ≡ x → take a code ≡ y → x ≡ y ++ drop a (take b code)
+parted a b code x y l ex ey = sym ex ∙ (sym (take-append-drop a (take b code)) ∙ ap (λ (t : List ℕ). t ++ drop a (take b code)) (take-take a b code l ∙ ey))
+
+-- what stands in a front stands in the text
+in_front : (a b : ℕ) (code s tail : List ℕ) → a ≤ length (take b code) → drop a (take b code) ≡ s ++ tail → drop a code ≡ s ++ (tail ++ drop b code)
+in_front a b code s tail l e =
+    ap (drop a) (sym (take-append-drop b code)) ∙ (drop-append-le a (take b code) (drop b code) l ∙ (ap (λ (t : List ℕ). t ++ drop b code) e ∙ append_assoc s tail (drop b code)))
 
 -- and no later unit is its first bad one
 not_later : (code : List ℕ) (m n : ℕ) → FirstBad code m → FirstBad code n → ¬ (m < n)
 not_later code m n f g l =
     let front = take (8 * n) code in
-    let rest = drop (8 * m) front in
     let long : 8 * n ≡ length front = omega (arith, g.inside, length-take (8 * n) code) in
-    let e : text_of g.before.0 ≡ text_of f.before.0 ++ rest =
-        sym g.before.1.bytes ∙ (sym (take-append-drop (8 * m) front) ∙ ap (λ (t : List ℕ). t ++ rest) (take-take (8 * m) (8 * n) code (omega arith) ∙ f.before.1.bytes)) in
-    let next = stands_next code m rest g.before.0 f.before.0 g.before.1.legal f.before.1.legal e (omega (arith, length-drop (8 * m) front)) in
-    let whole : drop (8 * m) code ≡ spelling next.0 ++ (next.1 ++ drop (8 * n) code) =
-        ap (drop (8 * m)) (sym (take-append-drop (8 * n) code)) ∙ (drop-append-le (8 * m) front (drop (8 * n) code) (omega arith)
-        ∙ (ap (λ (t : List ℕ). t ++ drop (8 * n) code) next.3 ∙ append_assoc (spelling next.0) next.1 (drop (8 * n) code))) in
-    f.none next.0 (subst (λ (t : List ℕ). Begins t next.0) (sym whole) (begins_of next.0 (next.1 ++ drop (8 * n) code) next.2))
+    let e = parted (8 * m) (8 * n) code (text_of g.before.0) (text_of f.before.0) (omega arith) g.before.1.bytes f.before.1.bytes in
+    let next = stands_next (drop (8 * m) front) g.before.0 f.before.0 g.before.1.legal f.before.1.legal e (omega (arith, length-drop (8 * m) front)) in
+    let whole = in_front (8 * m) (8 * n) code (spelling next.0) next.1 (omega arith) next.3 in
+    f.none next.0 (begins_with (drop (8 * m) code) next.0 (next.1 ++ drop (8 * n) code) next.2 whole)
 
 pub first_bad_one : (code : List ℕ) (m n : ℕ) → FirstBad code m → FirstBad code n → m ≡ n
 first_bad_one code m n f g =

@@ -7,7 +7,7 @@ use Rattle.bpf_isa.specs.declared.operation.AluCode.TheVariants.{Div, Mod, Mov}
 use Rattle.bpf_isa.specs.declared.operation.Op.{Op}
 use Rattle.bpf_isa.specs.declared.operation.Op.TheVariants.{Alu, Neg, End, Swap, Ja, Jump, Call, Exit, LoadImm, Abs, Ind, Load, LoadSigned, StoreImm, Store, Atomic}
 use Rattle.bpf_isa.specs.declared.fields.Rule.{Rule}
-use Rattle.bpf_isa.specs.declared.fields.Rule.TheVariants.{Unused, Used, UpTo, Signed, Extension32, Extension64, Width, Atomics}
+use Rattle.bpf_isa.specs.declared.fields.Rule.TheVariants.{Unused, Used, UpTo, Signed, Extension32, Extension64, SwapBits, Atomics}
 use Rattle.bpf_isa.specs.declared.fields.Rules.{Rules}
 
 -- z is one of these numbers
@@ -23,7 +23,7 @@ Allows (UpTo n) z = (pos 0 ≤ℤ z) × (z ≤ℤ pos n)
 Allows Signed z = OneOf (pos 0 ∷ pos 1 ∷ []) z
 Allows Extension32 z = OneOf (pos 0 ∷ pos 8 ∷ pos 16 ∷ []) z
 Allows Extension64 z = OneOf (pos 0 ∷ pos 8 ∷ pos 16 ∷ pos 32 ∷ []) z
-Allows Width z = OneOf (pos 16 ∷ pos 32 ∷ pos 64 ∷ []) z
+Allows SwapBits z = OneOf (pos 16 ∷ pos 32 ∷ pos 64 ∷ []) z
 -- ADD, OR, AND, XOR, each also with FETCH; XCHG, CMPXCHG
 Allows Atomics z = OneOf (pos 0x00 ∷ pos 0x01 ∷ pos 0x40 ∷ pos 0x41 ∷ pos 0x50 ∷ pos 0x51 ∷ pos 0xa0 ∷ pos 0xa1 ∷ pos 0xe1 ∷ pos 0xf1 ∷ []) z
 
@@ -43,8 +43,8 @@ rules_of (Alu Bits64 Mov X) = fields Used Used Extension64 Unused
 rules_of (Alu w c K) = fields Used Unused Unused Used
 rules_of (Alu w c X) = fields Used Used Unused Unused
 rules_of (Neg w) = fields Used Unused Unused Unused
-rules_of (End s) = fields Used Unused Unused Width
-rules_of Swap = fields Used Unused Unused Width
+rules_of (End s) = fields Used Unused Unused SwapBits
+rules_of Swap = fields Used Unused Unused SwapBits
 -- JMP jumps by the offset, JMP32 by the immediate number
 rules_of (Ja Bits64) = fields Unused Unused Used Unused
 rules_of (Ja Bits32) = fields Unused Unused Unused Used

@@ -3,17 +3,16 @@
 ghost use Rattle.std.specs.Prelude.{◌≡◌, ◌≢◌, ℕ, ℤ, ◌+◌, ◌*◌, ◌%◌, ◌^◌, ◌≤◌, ◌<◌, ◌↔◌, length, Ok, Err, IfOk, IsErrOf};
 ghost use Rattle.bpf_isa.specs.Spelling.{Begins, HasImm, StandsAt, units_of};
 ghost use Rattle.bpf_isa.specs.Text.{FirstBad, Spells};
+ghost use Rattle.bpf_isa.specs.declared.decode.DecodeError.TheVariants.{NoMemory};
 ghost use Rattle.bpf_isa.specs.declared.instruction.Insn.{Insn};
 ghost use Rattle.bpf_isa.specs.declared.operation.Op.TheVariants.{LoadImm};
-
-use std::alloc::Global;
-
-use bits_core::join;
 
 use crate::instruction::{BadInsn, Insn};
 use crate::opcode::op_of;
 use crate::operation::Op;
 use crate::unit::Unit;
+use bits_core::join;
+use std::alloc::{AllocFailed, Global};
 
 /// Why bytes are no text of instructions.
 #[derive(Copy, Clone, Debug, PartialEq, Eq, thiserror::Error)]
@@ -26,6 +25,14 @@ pub enum DecodeError {
     Bad { at: u64 },
     #[error("out of memory")]
     NoMemory,
+}
+
+impl<T: Drop> From<AllocFailed<T>> for DecodeError {
+    ghost from_gives = { λ _ e. e ≡ NoMemory };
+
+    fn from(_failed: AllocFailed<T>) -> DecodeError {
+        DecodeError::NoMemory
+    }
 }
 
 /// The instruction at unit `at` of a text, which is below the number of its whole units, and how
@@ -105,7 +112,7 @@ pub fn decode_all(alloc: Global, code: &[u8]) -> Result<Vec<Insn>, DecodeError>
         let Ok((insn, units)) = decode_front(&code[8 * at..]) else {
             return Err(DecodeError::Bad { at: at as u64 });
         };
-        insns.push(insn).map_err(|_| DecodeError::NoMemory)?;
+        insns.push(insn)?;
         at += usize::from(units);
     }
     Ok(insns)

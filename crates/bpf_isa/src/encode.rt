@@ -3,12 +3,11 @@
 ghost use Rattle.std.specs.Prelude.{◌≡◌, ◌-◌, ◌*◌, ◌++◌, replicate};
 ghost use Rattle.bpf_isa.specs.Spelling.{Begins, IsInsn, spelling, units_of};
 
-use bits_core::slice;
-
 use crate::instruction::Insn;
 use crate::opcode::opcode_of;
 use crate::operation::Op;
 use crate::unit::Unit;
+use bits_core::slice;
 
 /// The bytes of an instruction, with zeros after a single unit, and how many units it has.
 pub fn encode_one(insn: &Insn) -> ([u8; 16], u8)

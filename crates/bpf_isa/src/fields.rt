@@ -21,7 +21,7 @@ pub enum Rule {
     /// The same in class ALU64.
     Extension64,
     /// The bits of a byte swap.
-    Width,
+    SwapBits,
     /// The numbers of the atomic operations.
     Atomics,
 }
@@ -59,7 +59,7 @@ pub fn allows(rule: Rule, number: i64) -> bool
         Rule::Signed => matches!(number, 0 | 1),
         Rule::Extension32 => matches!(number, 0 | 8 | 16),
         Rule::Extension64 => matches!(number, 0 | 8 | 16 | 32),
-        Rule::Width => matches!(number, 16 | 32 | 64),
+        Rule::SwapBits => matches!(number, 16 | 32 | 64),
         Rule::Atomics => matches!(
             number,
             0x00 | 0x01 | 0x40 | 0x41 | 0x50 | 0x51 | 0xa0 | 0xa1 | 0xe1 | 0xf1
@@ -85,7 +85,7 @@ pub fn rules_of(op: Op) -> Rules
         Op::Alu(_, _, Src::K) => Rules::new(Used, Unused, Unused, Used),
         Op::Alu(_, _, Src::X) => Rules::new(Used, Used, Unused, Unused),
         Op::Neg(_) => Rules::new(Used, Unused, Unused, Unused),
-        Op::End(_) | Op::Swap => Rules::new(Used, Unused, Unused, Rule::Width),
+        Op::End(_) | Op::Swap => Rules::new(Used, Unused, Unused, Rule::SwapBits),
         Op::Ja(Width::Bits64) => Rules::new(Unused, Unused, Used, Unused),
         Op::Ja(Width::Bits32) => Rules::new(Unused, Unused, Unused, Used),
         Op::Jump(_, _, Src::K) => Rules::new(Used, Unused, Used, Used),

@@ -12,12 +12,14 @@
 mod decode;
 mod encode;
 mod fields;
+mod instruction;
 mod opcode;
 mod operation;
+#[cfg(test)]
+mod tests;
 mod unit;
-mod instruction;
 
 pub use decode::{DecodeError, decode_all, decode_one};
 pub use encode::encode_one;
-pub use instruction::{Insn, BadInsn};
+pub use instruction::{BadInsn, Insn};
 pub use operation::{AluCode, JumpCode, Op, Size, Src, Width};

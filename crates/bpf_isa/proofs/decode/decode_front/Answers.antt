@@ -1,10 +1,7 @@
-use Rattle.std.proofs.Common.{rules, ◌≡◌, ◌∙◌, ◌<◌, ◌^◌, refl, sym, ap, subst, take, drop, Ok, Err, Some, None, FitsSigned, w16, w64, to_z, of_z, ℤ, ℕ, List}
+use Rattle.std.proofs.Common.{rules, ◌≡◌, ◌∙◌, refl, sym, subst, w16, w64, ℕ, List}
 use Rattle.std.proofs.lemmas.Int.{to_z-of_z}
-use Rattle.bpf_isa.specs.declared.instruction.Insn.{Insn}
-use Rattle.bpf_isa.specs.declared.instruction.BadInsn.{BadInsn}
-use Rattle.bpf_isa.specs.declared.operation.Op.{Op}
-use Rattle.bpf_isa.specs.Spelling.{Begins, HasImm, IsInsn, units_of}
-use Rattle.bpf_isa.proofs.Fronts.{Fields, fields_of, imm_needed, rest_is, spelled_by, insn_is, answer_is}
+use Rattle.bpf_isa.specs.Spelling.{HasImm, IsInsn}
+use Rattle.bpf_isa.proofs.Fronts.{fields_of, imm_needed, rest_is, spelled_by, insn_is, answer_is}
 use Rattle.bpf_isa.proofs.decode.decode_front.Goals as goal
 
 pub returns-in_err-imm_of-clause-only : goal.returns-in_err-imm_of-clause-only
