@@ -6,3 +6,4 @@ pub mod Tokens
 pub mod Lexeme
 pub mod Spelling
 pub mod Grammar
+pub mod Forms
