@@ -75,7 +75,10 @@ fn edited(at: usize, bytes: &[u8]) -> [u8; 416]
 #[test]
 fn cut_files_are_short(rt: HostRuntime) {
     for n in 0..64 {
-        assert!(rt; refused(&PROG[..n]) == Some(ElfError::Short { need: 64 }), "at {n}");
+        assert!(rt;
+            refused(&PROG[..n]) == Some(ElfError::Short { need: 64 }),
+            "at {n}"
+        );
     }
     assert!(rt; refused(&PROG[..415]) == Some(ElfError::Short { need: 416 }));
     assert!(rt; refused(&PROG).is_none());
@@ -93,7 +96,12 @@ fn broken_headers_are_refused(rt: HostRuntime) {
     assert!(rt; refused(&edited(62, &[2])) == Some(ElfError::Section { n: 2 }));
     let mut far = edited(40, &[0xff, 0xff, 0xff, 0xff, 0xff, 0xff, 0xff, 0xff]);
     far[60] = 1;
-    assert!(rt; refused(&far) == Some(ElfError::Short { need: 18446744073709551679 }));
+    assert!(rt;
+        refused(&far)
+            == Some(ElfError::Short {
+                need: 18446744073709551679
+            })
+    );
 }
 
 #[test]
@@ -118,10 +126,24 @@ fn parts_of_one_function(rt: HostRuntime) -> Result<(), Fail> {
     let view = ElfView::open(&PROG)?;
     assert!(rt; view.sections() == 4 && view.symbols() == 2);
     assert!(rt; view.symbol_table() == Some(2));
-    let code = Section { name: 1, kind: 1, flags: 6, offset: 64, size: 16, link: 0, info: 0 };
+    let code = Section {
+        name: 1,
+        kind: 1,
+        flags: 6,
+        offset: 64,
+        size: 16,
+        link: 0,
+        info: 0,
+    };
     assert!(rt; view.section(1) == code);
     assert!(rt; view.bytes_of(1) == PASS.as_slice());
-    let function = Symbol { name: 21, info: 18, section: 1, value: 0, size: 16 };
+    let function = Symbol {
+        name: 21,
+        info: 18,
+        section: 1,
+        value: 0,
+        size: 16,
+    };
     assert!(rt; view.symbol(1) == function);
     assert!(rt; view.name_of(3, 21)? == b"prog".as_slice());
     assert!(rt; view.name_of(3, 25)? == b"".as_slice());

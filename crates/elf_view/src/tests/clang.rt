@@ -78,14 +78,45 @@ const TWO: &[u8; 2896] = b"\
 fn object_of_clang(rt: HostRuntime) -> Result<(), Fail> {
     let view = ElfView::open(TWO)?;
     assert!(rt; view.sections() == 22 && view.symbols() == 11);
-    let code = Section { name: 0, kind: 1, flags: 6, offset: 64, size: 16, link: 0, info: 0 };
-    assert!(rt; Section { name: 0, ..view.section(3) } == code);
+    let code = Section {
+        name: 0,
+        kind: 1,
+        flags: 6,
+        offset: 64,
+        size: 16,
+        link: 0,
+        info: 0,
+    };
+    assert!(rt;
+        Section {
+            name: 0,
+            ..view.section(3)
+        } == code
+    );
     assert!(rt; view.name_of(1, view.section(3).name)? == b"xdp".as_slice());
     assert!(rt; view.bytes_of(3) == PASS.as_slice());
-    let function = Symbol { name: 0, info: 18, section: 3, value: 0, size: 16 };
-    assert!(rt; Symbol { name: 0, ..view.symbol(10) } == function);
+    let function = Symbol {
+        name: 0,
+        info: 18,
+        section: 3,
+        value: 0,
+        size: 16,
+    };
+    assert!(rt;
+        Symbol {
+            name: 0,
+            ..view.symbol(10)
+        } == function
+    );
     assert!(rt; view.name_of(1, view.symbol(10).name)? == b"prog".as_slice());
     assert!(rt; view.rels(16) == 2);
-    assert!(rt; view.rel(16, 1) == Rel { offset: 0x18, symbol: 2, kind: 2 });
+    assert!(rt;
+        view.rel(16, 1)
+            == Rel {
+                offset: 0x18,
+                symbol: 2,
+                kind: 2
+            }
+    );
     Ok(())
 }
