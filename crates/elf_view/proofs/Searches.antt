@@ -71,7 +71,7 @@ is_some-string_at table end at fits behind last = is_some-position table at ∙ 
   | inr past ↦
       let size = length-drop at table in
       let none : (k : ℕ) → k < length (drop at table) → get_or (drop at table) k 0 ≢ 0 =
-          λ k h e. behind (at + k) (omega arith) (omega arith) (sym (get_or-drop at table k 0) ∙ e) in
+      λ k h e. behind (at + k) (omega arith) (omega arith) (sym (get_or-drop at table k 0) ∙ e) in
       ltb-neither _ _ _ _ (omega (arith, not_found (drop at table) none)) past
 ]
 
@@ -79,5 +79,5 @@ is_some-string_at table end at fits behind last = is_some-position table at ∙ 
 pub symtab_at-other : (bytes : List ℕ) (i : ℕ) → (section_at bytes i).kind ≢ 2 → symtab_at bytes i ≡ None
 symtab_at-other bytes i other = other_than ((section_at bytes i).kind) i other
   where
-  other_than : (kind i : ℕ) → kind ≢ 2 → cond (kind == 2) (Some i) None ≡ None
-  other_than kind i h = grind (arith, nat_tests)
+    other_than : (kind i : ℕ) → kind ≢ 2 → cond (kind == 2) (Some i) None ≡ None
+    other_than kind i h = grind (arith, nat_tests)

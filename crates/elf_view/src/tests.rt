@@ -1,5 +1,9 @@
+ghost use Rattle.std.specs.Prelude.{◌+◌, ◌≤◌, length};
+
 use super::*;
 use std::test::Fail;
+
+mod clang;
 
 /// `r0 = 2` and `exit`.
 const PASS: [u8; 16] = [0xb7, 0, 0, 0, 2, 0, 0, 0, 0x95, 0, 0, 0, 0, 0, 0, 0];
@@ -49,4 +53,100 @@ fn sole_code_of_one_function(rt: HostRuntime) {
     let mut other = PROG;
     other[18] = 0x3e;
     assert!(rt; sole_code(&other, "prog").is_none());
+}
+
+/// The error that a file is refused with.
+fn refused(bytes: &[u8]) -> Option<ElfError> {
+    match ElfView::open(bytes) {
+        Ok(_) => None,
+        Err(error) => Some(error),
+    }
+}
+
+/// The object with other bytes at a place.
+fn edited(at: usize, bytes: &[u8]) -> [u8; 416]
+    requires { at + length bytes.now ≤ 416 }
+{
+    let mut file = PROG;
+    file[at..at + bytes.len()].copy_from_slice(bytes);
+    file
+}
+
+#[test]
+fn cut_files_are_short(rt: HostRuntime) {
+    for n in 0..64 {
+        assert!(rt;
+            refused(&PROG[..n]) == Some(ElfError::Short { need: 64 }),
+            "at {n}"
+        );
+    }
+    assert!(rt; refused(&PROG[..415]) == Some(ElfError::Short { need: 416 }));
+    assert!(rt; refused(&PROG).is_none());
+}
+
+#[test]
+fn broken_headers_are_refused(rt: HostRuntime) {
+    assert!(rt; refused(&edited(18, &[0x3e, 0])) == Some(ElfError::Machine { n: 62 }));
+    assert!(rt; refused(&edited(0, &[0x7e])) == Some(ElfError::Header));
+    assert!(rt; refused(&edited(16, &[2])) == Some(ElfError::Header));
+    assert!(rt; refused(&edited(58, &[63])) == Some(ElfError::Header));
+    // as many sections as the number of the section names
+    assert!(rt; refused(&edited(62, &[4])) == Some(ElfError::Section { n: 4 }));
+    // the names in the symbol table
+    assert!(rt; refused(&edited(62, &[2])) == Some(ElfError::Section { n: 2 }));
+    let mut far = edited(40, &[0xff, 0xff, 0xff, 0xff, 0xff, 0xff, 0xff, 0xff]);
+    far[60] = 1;
+    assert!(rt;
+        refused(&far)
+            == Some(ElfError::Short {
+                need: 18446744073709551679
+            })
+    );
+}
+
+#[test]
+fn broken_sections_are_refused(rt: HostRuntime) {
+    // section 1 of 352 bytes ends where the file does, of 353 behind it
+    assert!(rt; refused(&edited(256, &[0x60, 1])).is_none());
+    assert!(rt; refused(&edited(256, &[0x61, 1])) == Some(ElfError::Section { n: 1 }));
+    // section 0 has no bytes, and begins behind the file; as NOBITS it may
+    let mut behind = edited(184, &[0xa1, 1]);
+    assert!(rt; refused(&behind) == Some(ElfError::Section { n: 0 }));
+    behind[164] = 8;
+    assert!(rt; refused(&behind).is_none());
+    // the name of section 1 at the end of the names
+    assert!(rt; refused(&edited(224, &[26])) == Some(ElfError::At { at: 26 }));
+    // a symbol table of 47 bytes, and one whose names are the code
+    assert!(rt; refused(&edited(320, &[47])) == Some(ElfError::Section { n: 2 }));
+    assert!(rt; refused(&edited(328, &[1])) == Some(ElfError::Section { n: 2 }));
+}
+
+#[test]
+fn parts_of_one_function(rt: HostRuntime) -> Result<(), Fail> {
+    let view = ElfView::open(&PROG)?;
+    assert!(rt; view.sections() == 4 && view.symbols() == 2);
+    assert!(rt; view.symbol_table() == Some(2));
+    let code = Section {
+        name: 1,
+        kind: 1,
+        flags: 6,
+        offset: 64,
+        size: 16,
+        link: 0,
+        info: 0,
+    };
+    assert!(rt; view.section(1) == code);
+    assert!(rt; view.bytes_of(1) == PASS.as_slice());
+    let function = Symbol {
+        name: 21,
+        info: 18,
+        section: 1,
+        value: 0,
+        size: 16,
+    };
+    assert!(rt; view.symbol(1) == function);
+    assert!(rt; view.name_of(3, 21)? == b"prog".as_slice());
+    assert!(rt; view.name_of(3, 25)? == b"".as_slice());
+    assert!(rt; view.name_of(3, 26) == Err(ElfError::At { at: 26 }));
+    Ok(())
 }

@@ -1,5 +1,5 @@
 -- The limit on the object bounds every part, and the parts make the whole.
-use Rattle.std.proofs.Common.{◌≡◌, ◌∙◌, ◌++◌, ◌*◌, length, ap, sym, arith}
+use Rattle.std.proofs.Common.{◌∙◌, ◌++◌, ◌*◌, length, ap, sym, arith}
 use Rattle.elf_view.specs.Layout.{base_headers, headers_at, map_headers, records, rels, strings, symbols}
 use Rattle.elf_view.specs.Pieces.{elf_header}
 use Rattle.elf_view.proofs.Lengths.{length-object, length-records, small_object}

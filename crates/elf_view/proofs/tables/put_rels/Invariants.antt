@@ -1,6 +1,6 @@
 use Rattle.std.proofs.Common.{◌≡◌, ◌++◌, take}
 use Rattle.elf_view.specs.Layout.{rels}
-use Rattle.elf_view.proofs.object.put_rels.Given as goal
+use Rattle.elf_view.proofs.tables.put_rels.Given as goal
 
 -- the relocations so far
 abbrev pub invariant-loop-place : goal.invariant-loop-place

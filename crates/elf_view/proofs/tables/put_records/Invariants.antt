@@ -1,6 +1,6 @@
 use Rattle.std.proofs.Common.{◌≡◌, ◌++◌, take}
 use Rattle.elf_view.specs.Layout.{records}
-use Rattle.elf_view.proofs.object.put_records.Given as goal
+use Rattle.elf_view.proofs.tables.put_records.Given as goal
 
 -- the records so far
 abbrev pub invariant-loop-map : goal.invariant-loop-map

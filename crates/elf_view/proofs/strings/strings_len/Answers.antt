@@ -1,10 +1,10 @@
 -- No name is left behind the last map.
-use Rattle.std.proofs.Common.{◌≡◌, ℕ, ◌<◌, ◌≤◌, length, drop, arith}
+use Rattle.std.proofs.Common.{◌<◌, ◌≤◌, length, arith}
 use Rattle.std.proofs.lemmas.Bool.Decides.{nat_tests}
 use Rattle.std.proofs.lemmas.List.{at_drop_all}
-use Rattle.elf_view.specs.Layout.{map_names, strings}
+use Rattle.elf_view.specs.Layout.{map_names}
 use Rattle.elf_view.proofs.Lengths.{length-strings}
-use Rattle.elf_view.proofs.object.strings_len.Goals as goal
+use Rattle.elf_view.proofs.strings.strings_len.Goals as goal
 
 pub returns : goal.returns
 returns c =

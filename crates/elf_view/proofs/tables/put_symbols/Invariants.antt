@@ -1,6 +1,6 @@
 use Rattle.std.proofs.Common.{◌≡◌, ◌+◌, ◌*◌, ◌++◌, length, drop}
 use Rattle.elf_view.specs.Layout.{map_names, map_symbols}
-use Rattle.elf_view.proofs.object.put_symbols.Given as goal
+use Rattle.elf_view.proofs.tables.put_symbols.Given as goal
 
 -- the symbols so far, with those of the maps that are left, are all of them
 abbrev pub invariant-loop-map : goal.invariant-loop-map

@@ -1,6 +1,6 @@
 use Rattle.std.proofs.Common.{◌≡◌, ◌+◌, length, drop}
 use Rattle.elf_view.specs.Layout.{map_names}
-use Rattle.elf_view.proofs.object.strings_len.Given as goal
+use Rattle.elf_view.proofs.strings.strings_len.Given as goal
 
 -- the length so far, with the names that are left, is the whole length
 abbrev pub invariant-loop-map : goal.invariant-loop-map
