@@ -5,3 +5,4 @@ pub mod Ports
 pub mod View
 pub mod Width
 pub mod Names
+pub mod Suits

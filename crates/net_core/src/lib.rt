@@ -4,3 +4,4 @@
 pub mod design;
 pub mod ports;
 pub mod tree;
+pub mod value;
