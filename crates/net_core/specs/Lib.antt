@@ -6,3 +6,4 @@ pub mod View
 pub mod Width
 pub mod Names
 pub mod Suits
+pub mod Codes
