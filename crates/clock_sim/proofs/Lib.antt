@@ -1,1 +1,6 @@
 pub mod Readable
+pub mod Settling
+pub mod Waiting
+pub mod Items
+pub mod Places
+pub mod Showing

@@ -2,7 +2,12 @@
 #![tactic(auto)]
 
 mod bank;
+mod edge;
+mod names;
+mod outputs;
+mod ports;
 mod sim;
 mod tree;
+mod wires;
 
-pub use sim::Sim;
+pub use sim::{Sim, XValue};

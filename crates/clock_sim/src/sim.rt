@@ -16,12 +16,18 @@ pub struct Sim {
 }
 
 impl Model for Sim {
-    ghost use Rattle.clock_sim.specs.Running.{Running};
+    ghost use Rattle.clock_sim.specs.Running.{Running, coded_running};
     ghost use Rattle.net_core.specs.View.{plan_of};
 
     ghost Value = { Running };
 
+    ghost coded = { coded_running };
+
     ghost view = { λ s. record { plan = plan_of s.design; stored = record { registers = s.registers.items; memories = s.memories.items } } };
+}
+
+pub struct XValue {
+    pub net: u32,
 }
 
 impl Sim {
