@@ -4,3 +4,4 @@ pub mod Waiting
 pub mod Items
 pub mod Places
 pub mod Showing
+pub mod Fitting

@@ -4,6 +4,7 @@ use Rattle.std.proofs.Common.{get_or}
 use Rattle.net_core.specs.declared.tree.Word.{Word}
 use Rattle.net_core.specs.declared.design.Declared.{Declared}
 use Rattle.net_core.specs.declared.design.Port.{Port}
+use Rattle.net_core.specs.declared.ports.Inputs.{Inputs}
 use Rattle.net_core.specs.declared.ports.Outputs.{Outputs}
 use Rattle.net_core.specs.Value.{nothing}
 use Rattle.net_core.specs.Width.{register_widths, memory_widths, port_width, output_width, IsTyped}
@@ -15,6 +16,13 @@ use Rattle.net_core.specs.Suits.{IsOfWidth}
 -- the words at the ports
 pub record ArePorts (words : List Word) : Type 0 where
   pub fit : (k : ℕ) → 0 < port_width port_list k → IsOfWidth (port_width port_list k) (get_or words k nothing)
+
+-- what the input ports' types say
+pub record FitPorts (i : Inputs) : Type 0 where
+  pub frame : i.in_data < 2 ^ 64
+  pub interface : i.in_ifindex < 2 ^ 32
+  pub index : i.host_index < 2 ^ 16
+  pub word : i.host_data < 2 ^ 64
 
 -- the words of a memory whose index and words have these widths
 pub record IsMemory (widths : ℕ × ℕ) (words : List Word) : Type 0 where

@@ -3,7 +3,7 @@
 ghost use Rattle.std.specs.Prelude.{◌≡◌};
 ghost use Rattle.net_core.specs.Value.{bit, word, nothing};
 ghost use Rattle.net_core.specs.Ports.{AreInputs, words_of};
-ghost use Rattle.clock_sim.specs.Ready.{ArePorts};
+ghost use Rattle.clock_sim.specs.Ready.{FitPorts};
 
 use net_core::ports::Inputs;
 use net_core::tree::Word;
@@ -24,7 +24,7 @@ fn word(width: u8, value: u64) -> Word
 pub fn words_of(i: Inputs) -> [Word; 21]
     requires { AreInputs i }
     ensures words { result ≡ words_of i }
-    ensures fit { ArePorts result }
+    ensures fit { FitPorts i }
 {
     let nothing = word(0, 0);
     [
