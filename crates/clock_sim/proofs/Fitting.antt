@@ -63,3 +63,4 @@ ports_fit i a f = record { fit = at }
     at : (k : ℕ) → 0 < port_width port_list k → IsOfWidth (port_width port_list k) (get_or (words_of i) k nothing)
     at zero h = absurd (omega (arith, h))
     at (suc k) h = fit_at back back_words k all h
+

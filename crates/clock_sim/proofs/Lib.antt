@@ -5,3 +5,4 @@ pub mod Items
 pub mod Places
 pub mod Showing
 pub mod Fitting
+pub mod Keeping
