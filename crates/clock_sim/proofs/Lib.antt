@@ -6,3 +6,4 @@ pub mod Places
 pub mod Showing
 pub mod Fitting
 pub mod Keeping
+pub mod Clocking
