@@ -1,5 +1,5 @@
 -- What holds of a simulator between two clocks.
-use Rattle.std.specs.Prelude.{◌≡◌, ℕ, ◌^◌, ◌<◌, List, [], length}
+use Rattle.std.specs.Prelude.{◌≡◌, ℕ, ◌^◌, ◌<◌, ◌≤◌, List, [], length}
 use Rattle.std.proofs.Common.{get_or}
 use Rattle.net_core.specs.declared.tree.Word.{Word}
 use Rattle.net_core.specs.declared.design.Declared.{Declared}
@@ -12,6 +12,7 @@ use Rattle.net_core.specs.Clock.{Stored}
 use Rattle.net_core.specs.Ports.{port_list, output, is_one}
 use Rattle.net_core.specs.Nets.{Plan}
 use Rattle.net_core.specs.Suits.{IsOfWidth}
+use Rattle.clock_sim.specs.Stores.{all_stores}
 
 -- the words at the ports
 pub record ArePorts (words : List Word) : Type 0 where
@@ -56,3 +57,12 @@ outputs_at at = record {
   out_reload = is_one (at 14);
   host_value = (at 20).value;
 }
+
+-- A simulator between two clocks, with so many words for wires and for the next registers, and room for so many stores.
+pub record IsReady (d : Plan) (s : Stored) (wires next room : ℕ) : Type 0 where
+  pub typed : IsTyped d
+  pub stored : IsStored d.declared s
+  pub wires_count : wires ≡ length d.wires
+  pub few : wires ≤ 2 ^ 32
+  pub next_count : next ≡ length s.registers
+  pub enough : all_stores d.always ≤ room

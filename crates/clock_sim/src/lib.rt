@@ -8,6 +8,7 @@ mod outputs;
 mod ports;
 mod sim;
 mod tree;
+mod turn;
 mod wires;
 
 pub use sim::{Sim, XValue};
