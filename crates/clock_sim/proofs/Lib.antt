@@ -7,3 +7,4 @@ pub mod Showing
 pub mod Fitting
 pub mod Keeping
 pub mod Clocking
+pub mod Turning

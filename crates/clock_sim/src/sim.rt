@@ -90,13 +90,15 @@ impl Sim {
         if count > u32::MAX as usize {
             return Err(AllocError);
         }
+        let Some(room) = count_all(&design.always) else {
+            return Err(AllocError);
+        };
         let mut registers = Vec::new(alloc);
         let mut memories = Vec::new(alloc);
         add_stored(alloc, &design.declared, &mut registers, &mut memories)?;
         let blank = Word { width: 0, value: 0 };
         let wires = vec![in alloc; blank; count]?;
         let next = vec![in alloc; blank; registers.len()]?;
-        let room = count_all(&design.always).ok_or(AllocError)?;
         let stores = Vec::with_capacity(alloc, room)?;
         Ok(Sim {
             design,

@@ -1,6 +1,6 @@
 //! The wires of a clock.
 
-ghost use Rattle.std.specs.Prelude.{◌≡◌, [], length, map, IfNone};
+ghost use Rattle.std.specs.Prelude.{◌≡◌, ◌<◌, [], length, map, IfNone, IfSome};
 ghost use Rattle.net_core.specs.Clock.{with_wires, stopped_at, rights};
 ghost use Rattle.net_core.specs.View.{wire_of};
 ghost use Rattle.clock_sim.specs.Readable.{held, seen, AreWires};
@@ -21,6 +21,7 @@ pub fn settle(
     requires room { length wires.old ≡ length all.now }
     requires readable { AreWires ports.now (held registers.now memories.now) [] (map wire_of all.now) }
     ensures settled { IfNone result (wires.new ≡ with_wires ports.now (held registers.now memories.now) [] (map wire_of all.now)) }
+    ensures number { IfSome result (λ i. i < length all.now) }
     ensures stopped { result ≡ stopped_at (seen ports.now registers.now memories.now (with_wires ports.now (held registers.now memories.now) [] (map wire_of all.now))) 0 (rights (map wire_of all.now)) }
 {
     for (i, wire) in all.iter().enumerate() {
