@@ -1,25 +1,23 @@
 -- In a clock of a typed design all is readable, and fits.
-use Rattle.std.specs.Prelude.{⊤, nat_lt, nat_le, ◌==◌, if◌then◌else◌, IsTrue}
-use Rattle.std.proofs.Common.{◌≡◌, ℕ, zero, suc, ◌+◌, ◌^◌, ◌<◌, ◌≤◌, Bool, true, false, ◌&&◌, List, [], ◌∷◌, ◌++◌, length, get_or, refl, sym, ap, ◌∙◌, subst, arith, ⊎_elim, length-append}
-use Rattle.std.proofs.lemmas.Bool.{and_parts, cases_eq, cases_lt, eqb-true}
+use Rattle.std.specs.Prelude.{nat_le, ◌==◌, if◌then◌else◌, IsTrue}
+use Rattle.std.proofs.Common.{◌≡◌, ℕ, ◌^◌, ◌<◌, Bool, true, false, ◌&&◌, List, [], ◌∷◌, ◌++◌, length, get_or, refl, sym, ap, ◌∙◌, subst, arith, ⊎_elim}
+use Rattle.std.proofs.lemmas.Bool.{and_parts, cases_lt, eqb-true}
 use Rattle.std.proofs.lemmas.List.{get_or_append_left, get_or_at, get_or_past, append-nil, append_assoc, length_push}
 use Rattle.std.proofs.lemmas.Nat.{pow_pos}
 use Rattle.net_core.specs.declared.tree.Word.{Word}
 use Rattle.net_core.specs.declared.tree.Net.{Net}
 use Rattle.net_core.specs.declared.tree.Net.TheVariants as net
-use Rattle.net_core.specs.declared.design.Port.{Port}
-use Rattle.net_core.specs.declared.design.Declared.{Declared}
 use Rattle.net_core.specs.Nets.{Plan, WireTree, AssignTree, Act, ABlock, AIf, AIfElse, ASet, AStore, Acts, AEnd, AThen}
-use Rattle.net_core.specs.Value.{Env, nothing, value, right_value}
-use Rattle.net_core.specs.Width.{Fits, Scope, port_width, output_width, register_widths, memory_widths, net_width, memory_width, scope, full_scope, wire_widths, wires_typed, same, width_of, right_width, act_typed, acts_typed, acts_all_typed, assigns_typed, IsTyped}
+use Rattle.net_core.specs.Value.{nothing, value, right_value}
+use Rattle.net_core.specs.Width.{port_width, output_width, register_widths, memory_widths, net_width, memory_width, scope, full_scope, wire_widths, wires_typed, same, width_of, right_width, act_typed, acts_typed, acts_all_typed, assigns_typed}
 use Rattle.net_core.specs.Clock.{Stored, net_value, cell_value, env, env_of, with_wires, edge, after, assigned}
 use Rattle.net_core.specs.Ports.{port_list}
 use Rattle.net_core.specs.Suits.{IsOfWidth, Suits}
 use Rattle.net_core.proofs.Typed.{value_fits, right_fits}
-use Rattle.clock_sim.specs.Readable.{IsReadable, IsReadableRight, AreWires, AreAssigns}
-use Rattle.clock_sim.specs.Ready.{ArePorts, IsMemory, IsStored, FitOutputs}
-use Rattle.clock_sim.specs.Stores.{IsWithin, CanDo, CanAllDo, CanEdge}
-use Rattle.clock_sim.proofs.Keeping.{Same, same_sides, done_kept}
+use Rattle.clock_sim.specs.Readable.{AreWires, AreAssigns}
+use Rattle.clock_sim.specs.Ready.{ArePorts, IsStored, FitOutputs}
+use Rattle.clock_sim.specs.Stores.{CanDo, CanAllDo, CanEdge}
+use Rattle.clock_sim.proofs.Keeping.{same_sides, done_kept}
 
 -- what has a width is there
 number_there : (ns : List ℕ) (i : ℕ) → 0 < get_or ns i 0 → i < length ns
@@ -125,8 +123,7 @@ module _ (d : Plan) (ports : d.ports ≡ port_list) (ins : List Word) (are : Are
           let there = pair_there (memory_widths d.declared) m (same_sides n.1 (width_of (full_scope d) e) p.1).some in
           let memories = stored.memories in
           let count = (stored.memory m there).count in
-          let small : (value (env_of d ins s) i).value < 2 ^ n.0 = subst (λ k. (value (env_of d ins s) i).value < 2 ^ k) (x.width ∙ sym index.is) x.fits.small in
-          (
+          let small : (value (env_of d ins s) i).value < 2 ^ n.0 = subst (λ k. (value (env_of d ins s) i).value < 2 ^ k) (x.width ∙ sym index.is) x.fits.small in (
             record { scope = full_scope d; suits = all_suit; typed = some },
             record { scope = full_scope d; suits = all_suit; typed = side n.1 (width_of (full_scope d) e) p.1 },
             record { there = omega (arith, there, memories); inside = omega (arith, small, count) },

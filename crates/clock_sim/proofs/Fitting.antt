@@ -1,24 +1,13 @@
 -- The values of a typed design fit.
-use Rattle.std.specs.Prelude.{slice_set, ◌==◌, if◌then◌else◌, replicate}
-use Rattle.std.proofs.Common.{◌≡◌, ℕ, zero, suc, ◌+◌, ◌^◌, ◌<◌, ◌≤◌, Bool, true, false, ◌&&◌, IsTrue, List, [], ◌∷◌, ◌++◌, length, get_or, refl, sym, ap, ◌∙◌, subst, arith, ⊎_elim, length-append}
-use Rattle.std.proofs.lemmas.Bool.{and_parts, cases_eq, cases_lt, eqb-true, ltb-true, leb-true, cond-true, cond-false, cases_Bool}
-use Rattle.std.proofs.lemmas.List.{length-set, get_or-set_same, get_or-set_other, get_or_append_left, get_or_at, get_or_past, length-replicate, get_or-replicate, append-nil, append_assoc}
+use Rattle.std.proofs.Common.{ℕ, zero, suc, ◌^◌, ◌<◌, ◌≤◌, Bool, true, false, List, [], ◌∷◌, get_or, refl, arith}
 use Rattle.net_core.specs.declared.tree.Word.{Word}
-use Rattle.net_core.specs.declared.tree.Net.{Net}
-use Rattle.net_core.specs.declared.tree.Net.TheVariants as net
 use Rattle.net_core.specs.declared.design.Port.{Port}
-use Rattle.net_core.specs.declared.design.Declared.{Declared}
-use Rattle.net_core.specs.declared.design.Declared.TheVariants as declared
 use Rattle.net_core.specs.declared.ports.Inputs.{Inputs}
-use Rattle.net_core.specs.Nets.{Plan, WireTree}
-use Rattle.net_core.specs.Value.{nothing, bit, word, right_value}
-use Rattle.net_core.specs.Width.{Fits, Scope, input_width, port_width, register_widths, memory_widths, net_width, memory_width, scope, full_scope, wire_widths, wires_typed, same, right_width, word_fits, declared_typed, IsTyped}
-use Rattle.net_core.specs.Clock.{Stored, first_words, first_cells, env, with_wires}
+use Rattle.net_core.specs.Value.{nothing, bit, word}
+use Rattle.net_core.specs.Width.{input_width, port_width}
 use Rattle.net_core.specs.Ports.{port_list, words_of, AreInputs}
-use Rattle.net_core.specs.Suits.{IsOfWidth, Suits}
-use Rattle.net_core.proofs.Typed.{right_fits}
-use Rattle.clock_sim.specs.Readable.{IsReadableRight, AreWires}
-use Rattle.clock_sim.specs.Ready.{ArePorts, FitPorts, IsMemory, IsStored}
+use Rattle.net_core.specs.Suits.{IsOfWidth}
+use Rattle.clock_sim.specs.Ready.{ArePorts, FitPorts}
 
 -- ---- ports
 abbrev FitAll : List Port → List Word → Type 0
@@ -55,12 +44,50 @@ ports_fit i a f = record { fit = at }
     back_words = elim (words_of i) as (λ _. List Word) [ [] ↦ [] | w ∷ ws ↦ ws ]
 
     all : FitAll back back_words
-    all =
-      ((λ _. bit_is i.in_valid), ((λ _. word_is 64 i.in_data (omega arith) (omega arith) f.frame), ((λ _. word_is 4 i.in_bytes (omega arith) (omega arith) a.bytes), ((λ _. bit_is i.in_last), ((λ _. word_is 32 i.in_ifindex (omega arith) (omega arith) f.interface),
-      (absent, ((λ _. bit_is i.out_ready), (absent, (absent, (absent, (absent, (absent, (absent, (absent,
-      ((λ _. bit_is i.host_write), ((λ _. word_is 4 i.host_map (omega arith) (omega arith) a.map), ((λ _. word_is 16 i.host_index (omega arith) (omega arith) f.index), ((λ _. word_is 4 i.host_word (omega arith) (omega arith) a.word), ((λ _. word_is 64 i.host_data (omega arith) (omega arith) f.word), (absent, tt))))))))))))))))))))
+    all = (
+      (λ _. bit_is i.in_valid),
+      (
+        (λ _. word_is 64 i.in_data (omega arith) (omega arith) f.frame),
+        (
+          (λ _. word_is 4 i.in_bytes (omega arith) (omega arith) a.bytes),
+          (
+            (λ _. bit_is i.in_last),
+            (
+              (λ _. word_is 32 i.in_ifindex (omega arith) (omega arith) f.interface),
+              (
+                absent,
+                (
+                  (λ _. bit_is i.out_ready),
+                  (
+                    absent,
+                    (
+                      absent,
+                      (
+                        absent,
+                        (
+                          absent,
+                          (
+                            absent,
+                            (
+                              absent,
+                              (
+                                absent,
+                                ((λ _. bit_is i.host_write), ((λ _. word_is 4 i.host_map (omega arith) (omega arith) a.map), ((λ _. word_is 16 i.host_index (omega arith) (omega arith) f.index), ((λ _. word_is 4 i.host_word (omega arith) (omega arith) a.word), ((λ _. word_is 64 i.host_data (omega arith) (omega arith) f.word), (absent, tt)))))),
+                              ),
+                            ),
+                          ),
+                        ),
+                      ),
+                    ),
+                  ),
+                ),
+              ),
+            ),
+          ),
+        ),
+      ),
+    )
 
     at : (k : ℕ) → 0 < port_width port_list k → IsOfWidth (port_width port_list k) (get_or (words_of i) k nothing)
     at zero h = absurd (omega (arith, h))
     at (suc k) h = fit_at back back_words k all h
-

@@ -1,15 +1,15 @@
 -- What is stored keeps its shape, from the declared values on.
 use Rattle.std.specs.Prelude.{slice_set, replicate, nat_lt, nat_le, ◌==◌, if◌then◌else◌}
-use Rattle.std.proofs.Common.{◌≡◌, ℕ, zero, suc, ◌+◌, ◌^◌, ◌<◌, ◌≤◌, Bool, true, false, ◌&&◌, List, [], ◌∷◌, length, get_or, refl, sym, ap, ◌∙◌, subst, arith, ⊎_elim}
+use Rattle.std.proofs.Common.{◌≡◌, ℕ, zero, suc, ◌^◌, ◌<◌, Bool, true, false, ◌&&◌, List, [], ◌∷◌, length, get_or, refl, sym, ap, ◌∙◌, subst, arith, ⊎_elim}
 use Rattle.std.specs.Prelude.{IsTrue}
-use Rattle.std.proofs.lemmas.Bool.{and_parts, cases_eq, cases_lt, eqb-true, ltb-true, leb-true}
-use Rattle.std.proofs.lemmas.List.{length-set, get_or-set_same, get_or-set_other, get_or_past, length-replicate, get_or-replicate}
+use Rattle.std.proofs.lemmas.Bool.{and_parts, cases_eq, eqb-true, ltb-true, leb-true}
+use Rattle.std.proofs.lemmas.List.{length-set, get_or-set_same, get_or-set_other, length-replicate, get_or-replicate}
 use Rattle.net_core.specs.declared.tree.Word.{Word}
 use Rattle.net_core.specs.declared.design.Declared.{Declared}
 use Rattle.net_core.specs.declared.design.Declared.TheVariants as declared
 use Rattle.net_core.specs.Nets.{Tree, Act, ABlock, AIf, AIfElse, ASet, AStore, Acts, AEnd, AThen}
 use Rattle.net_core.specs.Value.{Env, nothing, value}
-use Rattle.net_core.specs.Width.{Fits, Scope, register_widths, memory_widths, same, width_of, word_fits, declared_typed, act_typed, acts_typed}
+use Rattle.net_core.specs.Width.{Scope, register_widths, memory_widths, same, width_of, word_fits, declared_typed, act_typed, acts_typed}
 use Rattle.net_core.specs.Clock.{Stored, first_words, first_cells, done, all_done}
 use Rattle.net_core.specs.Suits.{IsOfWidth, Suits}
 use Rattle.net_core.proofs.Typed.{value_fits}

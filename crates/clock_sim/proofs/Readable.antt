@@ -1,15 +1,15 @@
 -- What is readable has readable parts, and a value that fits.
 use Rattle.std.specs.Prelude.{◌==◌}
-use Rattle.std.proofs.Common.{◌≡◌, ℕ, ◌<◌, ◌≤◌, ◌^◌, sym, ap, ◌∙◌, subst, arith}
+use Rattle.std.proofs.Common.{◌≡◌, ℕ, ◌<◌, ◌^◌, sym, ap, ◌∙◌, subst, arith}
 use Rattle.std.proofs.lemmas.Bool.{cond-true, cond-false, eq-eqb, ne_eqb}
 use Rattle.net_core.specs.declared.tree.Word.{Word}
 use Rattle.net_core.specs.declared.tree.Op.{Op}
 use Rattle.net_core.specs.declared.tree.Prefix.{Prefix}
-use Rattle.net_core.specs.Nets.{Tree, TConst, TRead, TBit, TBits, TCell, TBefore, TTwo, TChoose, TJoin, Trees, TLast, TMore}
+use Rattle.net_core.specs.Nets.{Tree, TCell, TBefore, TTwo, TChoose, Trees, TMore}
 use Rattle.net_core.specs.Value.{Env, value, joined_parts}
-use Rattle.net_core.specs.Width.{Fits, Scope, width_of, parts_width, op_width, bits_width, join_width}
-use Rattle.net_core.specs.Suits.{Suits, IsOfWidth}
-use Rattle.net_core.proofs.Typed.{value_fits, parts_fit, op_parts, prefix_parts, bits_parts, cell_parts, choose_parts, join_parts, same_parts}
+use Rattle.net_core.specs.Width.{Fits, width_of, parts_width, op_width, join_width}
+use Rattle.net_core.specs.Suits.{IsOfWidth}
+use Rattle.net_core.proofs.Typed.{value_fits, parts_fit, op_parts, prefix_parts, cell_parts, join_parts}
 use Rattle.clock_sim.specs.Readable.{IsReadable, AreReadable}
 
 -- a number and a word of one width

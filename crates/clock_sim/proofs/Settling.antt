@@ -1,6 +1,6 @@
 -- Wires that are valued one after another.
-use Rattle.std.specs.Prelude.{⊤, if◌then◌else◌}
-use Rattle.std.proofs.Common.{◌≡◌, ℕ, zero, suc, ◌+◌, ◌<◌, ◌≤◌, Bool, true, false, Option, Some, None, List, [], ◌∷◌, ◌++◌, length, get_or, refl, sym, ap, ◌∙◌, subst, arith, append_assoc, add-one, ⊎_elim}
+use Rattle.std.specs.Prelude.{if◌then◌else◌}
+use Rattle.std.proofs.Common.{◌≡◌, ℕ, suc, ◌+◌, ◌<◌, Bool, true, false, Some, None, List, [], ◌∷◌, ◌++◌, length, get_or, refl, sym, ap, ◌∙◌, subst, arith, append_assoc, add-one, ⊎_elim}
 use Rattle.std.proofs.lemmas.Bool.{cases_lt, cond-true, cond-false}
 use Rattle.std.proofs.lemmas.List.{get_or_append_left, get_or_past, append-nil}
 use Rattle.net_core.specs.declared.tree.Word.{Word}
@@ -8,7 +8,6 @@ use Rattle.net_core.specs.declared.tree.Net.{Net}
 use Rattle.net_core.specs.declared.tree.Net.TheVariants.{Port, Register, Memory, Wire}
 use Rattle.net_core.specs.Nets.{RightTree, RPlain, RQuotient, RRemainder, WireTree}
 use Rattle.net_core.specs.Value.{nothing, right_value, stops}
-use Rattle.net_core.specs.Width.{right_width, same_width}
 use Rattle.net_core.specs.Clock.{Stored, net_value, env, with_wires, stopped_at, rights}
 use Rattle.net_core.proofs.Typed.{same_parts}
 use Rattle.clock_sim.specs.Readable.{IsReadableRight, AreWires}

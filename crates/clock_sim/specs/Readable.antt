@@ -1,5 +1,5 @@
 -- What has a value in an environment.
-use Rattle.std.specs.Prelude.{ℕ, ⊤, ◌<◌, List, [], ◌∷◌, ◌++◌}
+use Rattle.std.specs.Prelude.{⊤, ◌<◌, List, [], ◌∷◌, ◌++◌}
 use Rattle.net_core.specs.declared.tree.Word.{Word}
 use Rattle.net_core.specs.declared.tree.Net.{Net}
 use Rattle.net_core.specs.Nets.{Tree, Trees, RightTree, WireTree, AssignTree}

@@ -3,13 +3,12 @@ use Rattle.std.specs.Prelude.{◌≡◌, ℕ, ◌^◌, ◌<◌, ◌≤◌, List,
 use Rattle.std.proofs.Common.{get_or}
 use Rattle.net_core.specs.declared.tree.Word.{Word}
 use Rattle.net_core.specs.declared.design.Declared.{Declared}
-use Rattle.net_core.specs.declared.design.Port.{Port}
 use Rattle.net_core.specs.declared.ports.Inputs.{Inputs}
 use Rattle.net_core.specs.declared.ports.Outputs.{Outputs}
 use Rattle.net_core.specs.Value.{nothing}
-use Rattle.net_core.specs.Width.{register_widths, memory_widths, port_width, output_width, IsTyped}
+use Rattle.net_core.specs.Width.{register_widths, memory_widths, port_width, IsTyped}
 use Rattle.net_core.specs.Clock.{Stored}
-use Rattle.net_core.specs.Ports.{port_list, output, is_one}
+use Rattle.net_core.specs.Ports.{port_list, is_one}
 use Rattle.net_core.specs.Nets.{Plan}
 use Rattle.net_core.specs.Suits.{IsOfWidth}
 use Rattle.clock_sim.specs.Stores.{all_stores}

@@ -1,5 +1,5 @@
 -- A simulator between two clocks, as its callers see it.
-use Rattle.std.specs.Prelude.{refl, ℕ, ◌<◌, List, Option, option_map, length}
+use Rattle.std.specs.Prelude.{refl, ◌<◌, List, Option, option_map, length}
 use Rattle.std.specs.Coded.{Coded, code_by, coded×}
 use Rattle.net_core.specs.declared.tree.Word.{Word}
 use Rattle.net_core.specs.declared.tree.Net.{Net}

@@ -1,6 +1,6 @@
 -- A well typed tree's value has the tree's width, where each net's value has its width.
 use Rattle.std.specs.Prelude.{◌==◌, nat_lt, nat_le, if◌then◌else◌, bit_and, bit_or, bit_xor}
-use Rattle.std.proofs.Common.{◌≡◌, ℕ, zero, suc, ◌+◌, ◌-◌, ◌*◌, ◌/◌, ◌%◌, ◌^◌, ◌<◌, ◌≤◌, Bool, true, false, ◌&&◌, refl, sym, ap, ◌∙◌, subst, arith}
+use Rattle.std.proofs.Common.{◌≡◌, ℕ, ◌+◌, ◌-◌, ◌*◌, ◌/◌, ◌%◌, ◌^◌, ◌<◌, ◌≤◌, Bool, true, false, ◌&&◌, refl, sym, ◌∙◌, subst, arith}
 use Rattle.std.proofs.lemmas.Bool.{eqb-true, ltb-true, leb-true, and_parts}
 use Rattle.std.proofs.lemmas.Bool.Decides.{nat_tests}
 use Rattle.std.proofs.lemmas.Nat.{pow_pos, or_lt, xor_lt, and_le_l, shr_le, mod_below}
@@ -11,7 +11,7 @@ use Rattle.net_core.specs.declared.tree.Op.TheVariants.{Add, Sub, Mul, And, Or, 
 use Rattle.net_core.specs.declared.tree.Prefix.{Prefix}
 use Rattle.net_core.specs.declared.tree.Prefix.TheVariants.{Not, Any}
 use Rattle.net_core.specs.Nets.{Tree, TConst, TRead, TBit, TBits, TCell, TBefore, TTwo, TChoose, TJoin, Trees, TLast, TMore, RightTree, RPlain, RQuotient, RRemainder}
-use Rattle.net_core.specs.Value.{word, number_of, bit, apply, prefixed, joined, chosen, bits, Env, value, joined_parts, right_value}
+use Rattle.net_core.specs.Value.{word, bit, apply, prefixed, joined, bits, Env, value, joined_parts, right_value}
 use Rattle.net_core.specs.Width.{Fits, Scope, same_width, test_width, shift_width, op_width, prefix_width, const_width, bits_width, cell_width, choose_width, join_width, width_of, parts_width, right_width}
 use Rattle.net_core.specs.Suits.{IsOfWidth, Suits}
 use Rattle.net_core.proofs.Low.{joined_small}

@@ -1,5 +1,5 @@
 -- A plan's code, by which a proof tells plans apart: the trees' codes are those of the design's trees in memory.
-use Rattle.std.specs.Prelude.{◌≡◌, ℕ, List, [], ◌∷◌, map, refl}
+use Rattle.std.specs.Prelude.{◌≡◌, ℕ, List, refl}
 use Rattle.std.specs.Coded.{Coded, code_by, coded×, coded_ℕ, coded_list}
 use Rattle.std.proofs.Common.{ap}
 use Rattle.std.specs.declared.boxed.Box.{Box}

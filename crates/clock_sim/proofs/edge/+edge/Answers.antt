@@ -1,11 +1,11 @@
-use Rattle.std.proofs.Common.{rules, ◌≡◌, ◌+◌, ◌≤◌, vec_len, ap, arith}
+use Rattle.std.proofs.Common.{◌+◌, ◌≤◌, vec_len, ap, arith}
 use Rattle.std.specs.Prelude.{vec_capacity}
 use Rattle.net_core.specs.declared.tree.Net.{Net}
 use Rattle.net_core.specs.declared.tree.Stmt.{size-Stmt}
 use Rattle.net_core.specs.declared.tree.Stmt.TheViews.{sized-IfElse}
 use Rattle.net_core.specs.View.{tree_of, act_of}
 use Rattle.clock_sim.specs.Readable.{seen}
-use Rattle.clock_sim.specs.Stores.{waiting, stores_of}
+use Rattle.clock_sim.specs.Stores.{stores_of}
 use Rattle.clock_sim.proofs.Waiting.{if_other, store_made, store_within}
 use Rattle.clock_sim.proofs.edge.+edge.Goals as goal
 

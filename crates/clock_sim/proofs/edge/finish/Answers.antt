@@ -1,5 +1,3 @@
-use Rattle.std.proofs.Common.{ap, ◌∙◌}
-use Rattle.std.specs.Prelude.{slice_set}
 use Rattle.std.proofs.lemmas.List.{drop_more}
 use Rattle.clock_sim.proofs.Waiting.{finish_more, finish_within}
 use Rattle.clock_sim.proofs.edge.finish.Goals as goal

@@ -1,8 +1,5 @@
-use Rattle.std.proofs.Common.{◌≡◌, ◌+◌, ◌<◌, ◌≤◌, map, drop, length, vec_len, ap, ◌∙◌, sym, subst, arith}
-use Rattle.std.specs.Prelude.{vec_capacity}
+use Rattle.std.proofs.Common.{arith}
 use Rattle.net_core.specs.View.{act_of}
-use Rattle.clock_sim.specs.Readable.{seen}
-use Rattle.clock_sim.specs.Stores.{stores_of, all_stores}
 use Rattle.clock_sim.proofs.Items.{at_item}
 use Rattle.clock_sim.proofs.Waiting.{edge_first, edge_rest, edge_room, edge_made}
 use Rattle.clock_sim.proofs.edge.run_always.Goals as goal

@@ -1,4 +1,4 @@
-use Rattle.std.proofs.Common.{◌≡◌, ◌<◌, ◌≤◌, length, sym, ap, ◌∙◌, arith}
+use Rattle.std.proofs.Common.{◌≡◌, sym, arith}
 use Rattle.net_core.specs.Clock.{after}
 use Rattle.net_core.specs.Ports.{words_of}
 use Rattle.net_core.specs.View.{plan_of}

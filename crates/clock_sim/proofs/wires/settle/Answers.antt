@@ -1,8 +1,8 @@
-use Rattle.std.proofs.Common.{◌≡◌, ◌<◌, length, ap, ◌∙◌, sym, subst, arith, add-one}
+use Rattle.std.proofs.Common.{◌<◌, length, arith}
 use Rattle.std.proofs.lemmas.List.{take_more_set}
 use Rattle.net_core.specs.View.{wire_of}
 use Rattle.clock_sim.proofs.Items.{at_item}
-use Rattle.clock_sim.proofs.Settling.{Settled, wire_readable, wire_stops, wire_settled}
+use Rattle.clock_sim.proofs.Settling.{wire_readable, wire_stops, wire_settled}
 use Rattle.clock_sim.proofs.wires.settle.Goals as goal
 
 pub wire_value-requires : goal.wire_value-requires
