@@ -7,3 +7,4 @@ pub mod Width
 pub mod Names
 pub mod Suits
 pub mod Codes
+pub mod History

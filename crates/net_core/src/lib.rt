@@ -1,6 +1,7 @@
 //! Designs of clocked nets: their trees, their ports, and what an expression and a clock mean.
 #![tactic(auto)]
 
+pub mod build;
 pub mod design;
 pub mod ports;
 pub mod tree;

@@ -1,0 +1,4 @@
+pub mod Words
+pub mod Cutting
+pub mod Left
+pub mod Order

@@ -1,0 +1,26 @@
+-- The laws of beats, which hold of every list.
+use Rattle.std.specs.Prelude.{◌≡◌, ℕ, ◌≤◌, List, [], length}
+use Rattle.std.specs.List.{flat_map, AllByRecursion}
+use Rattle.beat_core.specs.declared.beat.Beat.{Beat}
+use Rattle.beat_core.specs.Beats.{IsWhole, IsFilledUp, beats_of, frame_of, beat_count}
+use Rattle.beat_core.specs.Words.{IsBytes}
+use Rattle.beat_core.specs.Clocks.{frames_among, AreOffers}
+
+-- the bytes of a frame
+pub record IsFrame (xs : List ℕ) : Type 0 where
+  pub bytes : IsBytes xs
+  pub some : 1 ≤ length xs
+  pub room : length xs ≤ 1536
+
+-- Frames and the beats of whole frames, whose words are filled up with zeros, are each other's inverse.
+pub record AreInverse : Type 0 where
+  pub frame : (xs : List ℕ) → IsBytes xs → frame_of (beats_of xs) ≡ xs
+  pub beats : (bs : List Beat) → IsWhole bs → AllByRecursion IsFilledUp bs → beats_of (frame_of bs) ≡ bs
+  pub whole : (xs : List ℕ) → 1 ≤ length xs → IsWhole (beats_of xs)
+  pub filled : (xs : List ℕ) → IsBytes xs → AllByRecursion IsFilledUp (beats_of xs)
+  pub count : (xs : List ℕ) → length (beats_of xs) ≡ beat_count (length xs)
+
+-- Frames that are offered one after the other are well-formed offers, and just these frames in their order.
+pub record ComeInOrder : Type 0 where
+  pub offers : (frames : List (List ℕ)) → AllByRecursion IsFrame frames → AreOffers 0 (flat_map beats_of frames)
+  pub frames : (frames : List (List ℕ)) → AllByRecursion IsFrame frames → frames_among [] (flat_map beats_of frames) ≡ frames

@@ -1,0 +1,5 @@
+pub mod Words
+pub mod Beats
+pub mod Clocks
+pub mod Laws
+pub mod Ports

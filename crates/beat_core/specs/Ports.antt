@@ -1,0 +1,43 @@
+-- What has gone over at the ports of a design, as frames that came and replies that were given.
+use Rattle.std.specs.Prelude.{ℕ, List, [], ◌∷◌, ◌++◌, Option, Some, None, if◌then◌else◌}
+use Rattle.beat_core.specs.declared.beat.Beat.{Beat}
+use Rattle.beat_core.specs.declared.answer.Answer.{Answer}
+use Rattle.beat_core.specs.Beats.{bytes_of_beat}
+
+-- a beat that went over inwards, and the interface number beside it
+pub record Offered : Type 0 where
+  pub beat : Beat
+  pub ifindex : ℕ
+
+-- a frame that came whole, or so far, with the interface number of its first beat
+pub record Arrival : Type 0 where
+  pub ifindex : ℕ
+  pub frame : List ℕ
+
+-- what has come of a frame after one more beat: before the first beat there is none
+abbrev pub arrived : Option Arrival → Offered → Arrival
+arrived None o = record { ifindex = o.ifindex; frame = bytes_of_beat o.beat }
+arrived (Some a) o = record a { frame = a.frame ++ bytes_of_beat o.beat }
+
+-- the frames that came whole, the first of them begun before
+abbrev pub arrivals_among : Option Arrival → List Offered → List Arrival
+arrivals_among so_far [] = []
+arrivals_among so_far (o ∷ os) =
+    if o.beat.last then arrived so_far o ∷ arrivals_among None os else arrivals_among (Some (arrived so_far o)) os
+
+-- an answer as a plain record: its frame is the list of its bytes
+abbrev pub Reply : Type 0
+Reply = Answer
+
+-- a beat that went over outwards, with the verdict and the target beside it
+pub record Given : Type 0 where
+  pub beat : Beat
+  pub verdict : ℕ
+  pub target : ℕ
+
+-- The replies that were given whole, each with the verdict and the target of its last beat. Of the first
+-- some bytes were given before.
+abbrev pub replies_among : List ℕ → List Given → List Reply
+replies_among so_far [] = []
+replies_among so_far (g ∷ gs) =
+    if g.beat.last then record { verdict = g.verdict; target = g.target; frame = so_far ++ bytes_of_beat g.beat } ∷ replies_among [] gs else replies_among (so_far ++ bytes_of_beat g.beat) gs

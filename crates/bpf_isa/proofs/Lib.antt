@@ -1,0 +1,5 @@
+pub mod Codes
+pub mod Units
+pub mod Fronts
+pub mod Laws
+pub mod Texts

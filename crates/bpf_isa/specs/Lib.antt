@@ -1,0 +1,4 @@
+pub mod Opcode
+pub mod Rules
+pub mod Spelling
+pub mod Text

@@ -1,0 +1,5 @@
+pub mod Lengths
+pub mod Loops
+pub mod NoMaps
+pub mod Searches
+pub mod Whole

@@ -1,0 +1,6 @@
+pub mod File
+pub mod Layout
+pub mod Numbers
+pub mod Opened
+pub mod Pieces
+pub mod Rules

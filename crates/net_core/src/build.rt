@@ -1,0 +1,104 @@
+//! Trees and statements from their parts.
+
+ghost use Rattle.std.specs.Prelude.{◌≡◌, IfOk};
+ghost use Rattle.net_core.specs.View.{tree_of, act_of, acts_of, wire_of};
+ghost use Rattle.net_core.specs.Value.{word};
+ghost use Rattle.net_core.specs.Nets.{TConst, TCell, TBefore, TTwo, TChoose, RPlain, AIf, AIfElse, ABlock, AThen};
+
+use crate::design::Wire;
+use crate::tree::{Expr, Net, Op, Prefix, Right, Stmt, Stmts, Word};
+use std::alloc::{AllocError, Global};
+
+/// A constant of a width.
+pub fn constant<N: Drop>(width: u8, value: u64) -> Expr<N>
+    ensures { tree_of result ≡ TConst (word width value) }
+{
+    Expr::Const(Word { width, value })
+}
+
+/// The word of a memory at an index.
+pub fn cell<N: Drop>(alloc: Global, memory: N, index: Expr<N>) -> Result<Expr<N>, AllocError>
+    ensures { IfOk result (λ e. tree_of e ≡ TCell memory (tree_of index)) }
+{
+    Ok(Expr::Cell(memory, Box::new(alloc, index)?))
+}
+
+/// An operator before its operand.
+pub fn before<N: Drop>(alloc: Global, prefix: Prefix, a: Expr<N>) -> Result<Expr<N>, AllocError>
+    ensures { IfOk result (λ e. tree_of e ≡ TBefore prefix (tree_of a)) }
+{
+    Ok(Expr::Before(prefix, Box::new(alloc, a)?))
+}
+
+/// An operator between two operands.
+pub fn two<N: Drop>(alloc: Global, op: Op, a: Expr<N>, b: Expr<N>) -> Result<Expr<N>, AllocError>
+    ensures { IfOk result (λ e. tree_of e ≡ TTwo op (tree_of a) (tree_of b)) }
+{
+    let a = Box::new(alloc, a)?;
+    let b = Box::new(alloc, b)?;
+    Ok(Expr::Two(op, a, b))
+}
+
+/// The first of two values where the condition is 1, else the second.
+pub fn choose<N: Drop>(
+    alloc: Global,
+    condition: Expr<N>,
+    a: Expr<N>,
+    b: Expr<N>,
+) -> Result<Expr<N>, AllocError>
+    ensures { IfOk result (λ e. tree_of e ≡ TChoose (tree_of condition) (tree_of a) (tree_of b)) }
+{
+    let condition = Box::new(alloc, condition)?;
+    let a = Box::new(alloc, a)?;
+    let b = Box::new(alloc, b)?;
+    Ok(Expr::Choose(condition, a, b))
+}
+
+/// A wire of a width.
+pub fn wire(width: u8, value: Expr<Net>) -> Wire
+    ensures { wire_of result ≡ record { width = width; right = RPlain (tree_of value) } }
+{
+    Wire {
+        width,
+        right: Right::Plain(value),
+    }
+}
+
+/// A statement where the condition is 1.
+pub fn when<N: Drop>(
+    alloc: Global,
+    condition: Expr<N>,
+    body: Stmt<N>,
+) -> Result<Stmt<N>, AllocError>
+    ensures { IfOk result (λ s. act_of s ≡ AIf (tree_of condition) (act_of body)) }
+{
+    Ok(Stmt::If(condition, Box::new(alloc, body)?))
+}
+
+/// The first statement where the condition is 1, else the second.
+pub fn when_else<N: Drop>(
+    alloc: Global,
+    condition: Expr<N>,
+    first: Stmt<N>,
+    second: Stmt<N>,
+) -> Result<Stmt<N>, AllocError>
+    ensures { IfOk result (λ s. act_of s ≡ AIfElse (tree_of condition) (act_of first) (act_of second)) }
+{
+    let first = Box::new(alloc, first)?;
+    let second = Box::new(alloc, second)?;
+    Ok(Stmt::IfElse(condition, first, second))
+}
+
+/// A statement in front of others.
+pub fn then<N: Drop>(alloc: Global, first: Stmt<N>, rest: Stmts<N>) -> Result<Stmts<N>, AllocError>
+    ensures { IfOk result (λ s. acts_of s ≡ AThen (act_of first) (acts_of rest)) }
+{
+    Ok(Stmts::Then(first, Box::new(alloc, rest)?))
+}
+
+/// The statements between `begin` and `end`.
+pub fn block<N: Drop>(alloc: Global, statements: Stmts<N>) -> Result<Stmt<N>, AllocError>
+    ensures { IfOk result (λ s. act_of s ≡ ABlock (acts_of statements)) }
+{
+    Ok(Stmt::Block(Box::new(alloc, statements)?))
+}

@@ -1,0 +1,5 @@
+pub mod Number
+pub mod Format
+pub mod Reading
+pub mod Next
+pub mod Laws

@@ -1,0 +1,105 @@
+//! A capture, packet by packet.
+
+ghost use Rattle.std.specs.Prelude.{◌≡◌, ℕ, ◌<◌, ◌^◌, length, MatchResult, IfOk, Ok};
+ghost use Rattle.pcap_core.specs.Format.{IsContent, IsHeaderFault, IsCapture};
+ghost use Rattle.pcap_core.specs.Reading.{content_of, count_of, counted};
+ghost use Rattle.pcap_core.specs.Next.{GivesNext};
+
+use crate::error::PcapError;
+use crate::header::{HEADER_BYTES, header_of};
+use crate::order::Order;
+use crate::record::{NUMBERS_BYTES, Rec, record_at};
+use std::marker::Model;
+
+/// A capture that is read packet by packet, out of its bytes. Contracts see its magic number, the packets
+/// to come, and the fault after them.
+#[derive(Debug, Drop)]
+pub struct Capture<'a> {
+    bytes: &'a [u8],
+    order: Order,
+    magic: u32,
+    at: usize,
+    index: usize,
+}
+
+impl<'a> Model for Capture<'a> {
+    ghost use Rattle.std.specs.Prelude.{◌≤◌, length, drop};
+    ghost use Rattle.pcap_core.specs.Format.{Content};
+    ghost use Rattle.pcap_core.specs.Reading.{content_from, records_at};
+
+    ghost Value = { Content };
+
+    ghost view = { λ c. content_from c.magic (records_at c.order c.index c.at (drop c.at c.bytes.now)) };
+
+    ghost invariant = { λ c. (c.at ≤ length c.bytes.now) × (c.index ≤ c.at) };
+}
+
+impl<'a> Capture<'a> {
+    /// The capture whose file has these bytes, or the first fault of its header.
+    pub fn open(bytes: &'a [u8]) -> Result<Capture<'a>, PcapError>
+        ensures content { result ≡ content_of bytes.now }
+        ensures format { MatchResult result (IsContent bytes.now) (IsHeaderFault bytes.now) }
+    {
+        match header_of(bytes) {
+            Ok(order) => Ok(Capture {
+                bytes,
+                order,
+                magic: order.u32_at(bytes),
+                at: HEADER_BYTES,
+                index: 0,
+            }),
+            Err(fault) => Err(fault),
+        }
+    }
+
+    /// The magic number, in the order of a number: 0xa1b2c3d4 (microseconds) or 0xa1b23c4d (nanoseconds).
+    pub fn magic(&self) -> u32
+        ensures { result ≡ self.now.magic }
+    {
+        self.magic
+    }
+
+    /// The next packet, or none at the end. A fault comes again at each further call.
+    pub fn next(&mut self) -> Result<Option<Rec<'a>>, PcapError>
+        ensures { GivesNext result self.old self.new }
+    {
+        let rest = &self.bytes[self.at..];
+        match record_at(self.order, self.index as u64, self.at as u64, rest) {
+            Ok(Some(record)) => {
+                self.at += NUMBERS_BYTES + record.bytes.len();
+                self.index += 1;
+                Ok(Some(record))
+            }
+            Ok(None) => Ok(None),
+            Err(fault) => Err(fault),
+        }
+    }
+}
+
+/// How many packets a capture has that is whole, header and each record, or its first fault.
+pub fn check(bytes: &[u8]) -> Result<u64, PcapError>
+    ensures content { result ≡ count_of (content_of bytes.now) }
+    // It is Ok exactly where the bytes are a capture.
+    ensures found { IfOk result (IsCapture bytes.now) }
+    ensures only { (count : ℕ) → IsCapture bytes.now count → result ≡ Ok count }
+{
+    match Capture::open(bytes) {
+        Ok(capture) => count(capture),
+        Err(fault) => Err(fault),
+    }
+}
+
+/// How many packets are to come, or the fault after them.
+fn count(mut capture: Capture) -> Result<u64, PcapError>
+    requires { length capture.packets < 2 ^ 64 }
+    ensures { result ≡ counted capture.entry.fault (length capture.entry.packets) }
+{
+    let mut count = 0;
+    loop {
+        match capture.next() {
+            Ok(Some(_)) => count += 1,
+            Ok(None) => return Ok(count),
+            Err(fault) => return Err(fault),
+        }
+    }
+}

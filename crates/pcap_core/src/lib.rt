@@ -1,0 +1,20 @@
+//! Capture files of the libpcap format, version 2.4, with link type 1 (Ethernet): a reader that borrows
+//! its packets from the file's bytes, a check of a whole file, and the bytes of a file to be written.
+#![tactic(auto)]
+
+mod capture;
+mod error;
+mod header;
+mod laws;
+mod order;
+mod record;
+
+pub use capture::{Capture, check};
+pub use error::PcapError;
+pub use header::{MICROSECONDS, NANOSECONDS, write_header};
+pub use laws::one_reading;
+pub use order::Order;
+pub use record::{FRAME_LIMIT, Rec, write_record};
+
+#[cfg(test)]
+mod tests;

@@ -1,0 +1,4 @@
+pub mod Shelf
+pub mod Plan
+pub mod File
+pub mod Memory

@@ -1,0 +1,5 @@
+pub mod Pieces
+pub mod Leading
+pub mod Lexing
+pub mod Fronts
+pub mod Writing

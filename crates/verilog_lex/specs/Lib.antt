@@ -1,0 +1,8 @@
+pub mod Bytes
+pub mod Words
+pub mod Number
+pub mod Piece
+pub mod Tokens
+pub mod Lexeme
+pub mod Spelling
+pub mod Grammar

@@ -1,0 +1,4 @@
+//! Designs from Verilog texts.
+#![tactic(auto)]
+
+mod nothing;

@@ -1,0 +1,4 @@
+//! x
+pub(crate) fn zero() -> u8 {
+    0
+}
