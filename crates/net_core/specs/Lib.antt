@@ -5,4 +5,6 @@ pub mod Ports
 pub mod View
 pub mod Width
 pub mod Names
+pub mod Suits
+pub mod Codes
 pub mod History

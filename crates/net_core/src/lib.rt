@@ -5,3 +5,4 @@ pub mod build;
 pub mod design;
 pub mod ports;
 pub mod tree;
+pub mod value;

@@ -1,0 +1,4 @@
+pub mod Running
+pub mod Readable
+pub mod Stores
+pub mod Ready
