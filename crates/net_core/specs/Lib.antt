@@ -5,3 +5,6 @@ pub mod Ports
 pub mod View
 pub mod Width
 pub mod Names
+pub mod FormedSyntax
+pub mod FormedScope
+pub mod Formed

@@ -2,5 +2,6 @@
 #![tactic(auto)]
 
 pub mod design;
+pub mod formed;
 pub mod ports;
 pub mod tree;

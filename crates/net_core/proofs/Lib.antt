@@ -1,0 +1,5 @@
+mod FormedSample
+pub mod FormedNames
+pub mod FormedSyntax
+pub mod FormedWires
+pub mod FormedScope
