@@ -3,3 +3,4 @@ pub mod FormedNames
 pub mod FormedSyntax
 pub mod FormedWires
 pub mod FormedScope
+pub mod FormedTests
