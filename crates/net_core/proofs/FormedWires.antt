@@ -1,6 +1,7 @@
 -- The widths of wires, one by one.
 use Rattle.std.specs.Prelude.{◌≡◌, ℕ, zero, suc, ◌<◌, ◌≤◌, List, [], ◌∷◌, length, map, take}
 use Rattle.std.proofs.Common.{get_or, refl, ap, arith}
+use Rattle.std.proofs.lemmas.List.{take_all, length-map}
 use Rattle.net_core.specs.declared.design.Wire.{Wire}
 use Rattle.net_core.specs.Nets.{WireTree}
 use Rattle.net_core.specs.View.{wire_of}
@@ -25,3 +26,11 @@ pub take_wires : (n : ℕ) (xs : List Wire) → take n (wire_widths (map wire_of
 take_wires zero xs = refl
 take_wires (suc n) [] = refl
 take_wires (suc n) (x ∷ xs) = ap (λ rest. x.width ∷ rest) (take_wires n xs)
+
+pub length_widths : (ws : List WireTree) → length (wire_widths ws) ≡ length ws
+length_widths [] = refl
+length_widths (w ∷ ws) = ap suc (length_widths ws)
+
+-- where all wires stand before
+pub all_before : (xs : List Wire) → take (length xs) (wire_widths (map wire_of xs)) ≡ wire_widths (map wire_of xs)
+all_before xs = take_all (length xs) (wire_widths (map wire_of xs)) (omega (arith, length_widths (map wire_of xs), length-map xs wire_of))

@@ -4,3 +4,7 @@ pub mod FormedSyntax
 pub mod FormedWires
 pub mod FormedScope
 pub mod FormedTests
+pub mod FormedAssigns
+pub mod FormedBlocks
+pub mod FormedPorts
+pub mod FormedSections

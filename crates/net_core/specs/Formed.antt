@@ -56,22 +56,29 @@ declared_rules d k x =
     ∷ (declared_fits x, Width)
     ∷ []
 
--- A wire may read the wires before it. Both its sides have one width.
+-- both sides of a wire have one width
+abbrev pub wire_fits : Plan → ℕ → WireTree → Bool
+wire_fits d k w = same w.width (right_width (scope_before d k) w.right) && nat_le w.width 64
+
+-- A wire may read the wires before it.
 abbrev pub wire_rules : Plan → ℕ → WireTree → List Rule
 wire_rules d k w =
     (has_name d (wire_place d k) && right_spelled w.right, Syntax)
     ∷ (right_known (sorts d k) w.right, Unknown)
     ∷ (is_new d (wire_place d k), Twice)
-    ∷ (same w.width (right_width (scope_before d k) w.right) && nat_le w.width 64, Width)
+    ∷ (wire_fits d k w, Width)
     ∷ []
 
--- An output is assigned once, by an expression of its width.
+abbrev pub assign_fits : Plan → AssignTree → Bool
+assign_fits d a = same (output_width (get_or d.ports a.port (record { output = false; width = 0 }))) (width_of (full_scope d) a.value)
+
+-- An output is assigned once.
 abbrev pub assign_rules : Plan → ℕ → AssignTree → List Rule
 assign_rules d k a =
     (tree_spelled a.value, Syntax)
     ∷ (is_output d.ports a.port && reads_known (sorts d (length d.wires)) a.value, Unknown)
     ∷ (not (is_assigned (take k d.assigns) a.port), Twice)
-    ∷ (same (output_width (get_or d.ports a.port (record { output = false; width = 0 }))) (width_of (full_scope d) a.value), Width)
+    ∷ (assign_fits d a, Width)
     ∷ []
 
 -- what a block sets is set in no block before it
@@ -82,12 +89,20 @@ targets_free before a = targets_pass (λ r. list_all (leaves_register r) before)
 abbrev pub targets_known : Plan → Act Net → Bool
 targets_known d a = targets_pass (λ r. nat_lt r (registers_of d)) (λ m. nat_lt m (memories_of d)) a
 
+-- what a block reads and sets is there
+abbrev pub block_known : Plan → Act Net → Bool
+block_known d a = targets_known d a && trees_pass (reads_known (sorts d (length d.wires))) a
+
+-- conditions have width 1, both sides of each assignment one width
+abbrev pub block_fits : Plan → Act Net → Bool
+block_fits d a = act_typed (full_scope d) (register_widths d.declared) (memory_widths d.declared) a
+
 abbrev pub always_rules : Plan → ℕ → Act Net → List Rule
 always_rules d k a =
     (act_spelled a, Syntax)
-    ∷ (targets_known d a && trees_pass (reads_known (sorts d (length d.wires))) a, Unknown)
+    ∷ (block_known d a, Unknown)
     ∷ (targets_free (take k d.always) a, Twice)
-    ∷ (act_typed (full_scope d) (register_widths d.declared) (memory_widths d.declared) a, Width)
+    ∷ (block_fits d a, Width)
     ∷ []
 
 abbrev pub same_bool : Bool → Bool → Bool
@@ -96,24 +111,34 @@ same_bool a b = if a then b else not b
 abbrev pub same_port : port.Port → port.Port → Bool
 same_port a b = same_bool a.output b.output && a.width == b.width
 
+abbrev pub ports_match : Plan → Bool
+ports_match d = pointwise same_port d.ports port_list
+
+abbrev pub port_names_match : Plan → Bool
+port_names_match d = pointwise bytes_eq (take (length port_names) d.names) port_names
+
 -- What is asked behind the items: each name is that of a port or an item, the ports are those that every design has,
 -- and each output is assigned.
 abbrev pub last_rules : Plan → List Rule
 last_rules d =
     (length d.names == length d.ports + length d.declared + length d.wires, Syntax)
-    ∷ (pointwise same_port d.ports port_list && pointwise bytes_eq (take (length d.ports) d.names) port_names, Ports)
+    ∷ (ports_match d && port_names_match d, Ports)
     ∷ (all_assigned d.assigns 0 d.ports, Ports)
     ∷ []
 
--- a fault of an item, or else the later one
-abbrev pub fault_at : ℕ → Option Why → Option NetError → Option NetError
-fault_at item (Some why) later = Some (record { item = item; why = why })
-fault_at item None later = later
+-- the fault of an item that breaks a rule
+abbrev pub fault_at : ℕ → Option Why → Option NetError
+fault_at item None = None
+fault_at item (Some why) = Some (record { item = item; why = why })
 
--- the first fault of a section whose items are counted from a number on, or else the later one
-abbrev pub section_fault : {A : Type 0} → (ℕ → A → List Rule) → ℕ → ℕ → List A → Option NetError → Option NetError
-section_fault rules start k [] later = later
-section_fault rules start k (x ∷ xs) later = fault_at (start + k) (first_broken (rules k x)) (section_fault rules start (suc k) xs later)
+abbrev pub or_else : Option NetError → Option NetError → Option NetError
+or_else None later = later
+or_else (Some fault) later = Some fault
+
+-- the first fault of a section whose items are counted from a number on
+abbrev pub section_fault : {A : Type 0} → (ℕ → A → List Rule) → ℕ → ℕ → List A → Option NetError
+section_fault rules start k [] = None
+section_fault rules start k (x ∷ xs) = or_else (fault_at (start + k) (first_broken (rules k x))) (section_fault rules start (suc k) xs)
 
 abbrev pub wires_start : Plan → ℕ
 wires_start d = length d.declared
@@ -127,13 +152,14 @@ always_start d = assigns_start d + length d.assigns
 abbrev pub items_of : Plan → ℕ
 items_of d = always_start d + length d.always
 
+-- the first item that breaks a rule, and the first rule that it breaks
 abbrev pub first_fault : Plan → Option NetError
 first_fault d =
-    section_fault (declared_rules d) 0 0 d.declared
-    (section_fault (wire_rules d) (wires_start d) 0 d.wires
-    (section_fault (assign_rules d) (assigns_start d) 0 d.assigns
-    (section_fault (always_rules d) (always_start d) 0 d.always
-    (fault_at (items_of d) (first_broken (last_rules d)) None))))
+    or_else (section_fault (declared_rules d) 0 0 d.declared)
+    (or_else (section_fault (wire_rules d) (wires_start d) 0 d.wires)
+    (or_else (section_fault (assign_rules d) (assigns_start d) 0 d.assigns)
+    (or_else (section_fault (always_rules d) (always_start d) 0 d.always)
+    (fault_at (items_of d) (first_broken (last_rules d))))))
 
 -- A text of the subset spells the design.
 abbrev pub IsWellFormed : Plan → Type 0
@@ -142,4 +168,4 @@ IsWellFormed d = first_fault d ≡ None
 -- nothing, or a fault
 abbrev pub result_of : Option NetError → Result (Unit {0}) NetError
 result_of None = Ok tt
-result_of (Some e) = Err e
+result_of (Some fault) = Err fault

@@ -1,12 +1,21 @@
 //! Whether a text of the subset can spell a design, and the first fault of one that none spells.
 
+mod items;
 mod names;
+mod ports;
 mod reads;
 mod scope;
+mod sections;
 mod syntax;
 mod targets;
 mod widths;
 
+ghost use Rattle.std.specs.Prelude.{◌≡◌};
+ghost use Rattle.net_core.specs.View.{plan_of};
+ghost use Rattle.net_core.specs.Formed as formed;
+
+use crate::design::Design;
+use crate::formed::sections::first_fault;
 use thiserror::Error;
 
 /// A rule that a design breaks.
@@ -35,4 +44,15 @@ pub enum Why {
 pub struct NetError {
     pub item: usize,
     pub why: Why,
+}
+
+/// Whether a text of the subset spells a design, or its first fault: the first item that breaks a rule, and the first rule
+/// that it breaks, in the order of [`Why`]. What is wrong with the ports or has no item of its own stands after all items.
+pub fn well_formed(design: &Design) -> Result<(), NetError>
+    ensures { result ≡ formed.result_of (formed.first_fault (plan_of design.now)) }
+{
+    match first_fault(design) {
+        None => Ok(()),
+        Some(fault) => Err(fault),
+    }
 }
