@@ -29,7 +29,7 @@ mutual
 
 pub targets_free_before : (blocks : List (Stmt Net)) (k : ℕ) (a : Act Net)
     → targets_free (take k (map act_of blocks)) a
-      ≡ targets_pass (λ r. list_all (λ b. leaves_register r (act_of b)) (take k blocks)) (λ m. list_all (λ b. leaves_memory m (act_of b)) (take k blocks)) a
+    ≡ targets_pass (λ r. list_all (λ b. leaves_register r (act_of b)) (take k blocks)) (λ m. list_all (λ b. leaves_memory m (act_of b)) (take k blocks)) a
 targets_free_before blocks k a =
     ap (λ l. targets_free l a) (take-map act_of k blocks)
     ∙ targets_same _ _ _ _ (λ r. list_all_map (leaves_register r) act_of (take k blocks)) (λ m. list_all_map (leaves_memory m) act_of (take k blocks)) a

@@ -16,7 +16,7 @@ list_any_map p f (x ∷ xs) = ap (λ b. p (f x) || b) (list_any_map p f xs)
 
 pub is_new_at : (names : List (String Global)) (place : ℕ) (s : String Global) → place < length names → s ≡ get_or names place s
     → list_any (bytes_eq (get_or (map string_bytes names) place [])) (take place (map string_bytes names))
-      ≡ list_any (λ other. bytes_eq (string_bytes s) (string_bytes other)) (take place names)
+    ≡ list_any (λ other. bytes_eq (string_bytes s) (string_bytes other)) (take place names)
 is_new_at names place s h e =
     ap (λ n. list_any (bytes_eq n) (take place (map string_bytes names))) (get_or-map string_bytes names place s [] h ∙ ap string_bytes (sym e))
     ∙ ap (list_any (bytes_eq (string_bytes s))) (take-map string_bytes place names)

@@ -8,3 +8,6 @@ pub mod FormedAssigns
 pub mod FormedBlocks
 pub mod FormedPorts
 pub mod FormedSections
+pub mod FormedKept
+pub mod FormedTyped
+pub mod FormedFacts

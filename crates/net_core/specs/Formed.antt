@@ -153,7 +153,7 @@ abbrev pub items_of : Plan → ℕ
 items_of d = always_start d + length d.always
 
 -- the first item that breaks a rule, and the first rule that it breaks
-abbrev pub first_fault : Plan → Option NetError
+unfoldable pub first_fault : Plan → Option NetError
 first_fault d =
     or_else (section_fault (declared_rules d) 0 0 d.declared)
     (or_else (section_fault (wire_rules d) (wires_start d) 0 d.wires)

@@ -56,3 +56,6 @@ pub fn well_formed(design: &Design) -> Result<(), NetError>
         Some(fault) => Err(fault),
     }
 }
+
+#[cfg(test)]
+mod tests;

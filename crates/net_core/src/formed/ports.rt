@@ -19,27 +19,90 @@ const COUNT: usize = 21;
 
 /// The width of each port, and whether it is an output.
 const PORTS: [Port; COUNT] = [
-    Port { output: false, width: 1 },
-    Port { output: false, width: 1 },
-    Port { output: false, width: 64 },
-    Port { output: false, width: 4 },
-    Port { output: false, width: 1 },
-    Port { output: false, width: 32 },
-    Port { output: true, width: 1 },
-    Port { output: false, width: 1 },
-    Port { output: true, width: 1 },
-    Port { output: true, width: 64 },
-    Port { output: true, width: 4 },
-    Port { output: true, width: 1 },
-    Port { output: true, width: 32 },
-    Port { output: true, width: 32 },
-    Port { output: true, width: 1 },
-    Port { output: false, width: 1 },
-    Port { output: false, width: 4 },
-    Port { output: false, width: 16 },
-    Port { output: false, width: 4 },
-    Port { output: false, width: 64 },
-    Port { output: true, width: 64 },
+    Port {
+        output: false,
+        width: 1,
+    },
+    Port {
+        output: false,
+        width: 1,
+    },
+    Port {
+        output: false,
+        width: 64,
+    },
+    Port {
+        output: false,
+        width: 4,
+    },
+    Port {
+        output: false,
+        width: 1,
+    },
+    Port {
+        output: false,
+        width: 32,
+    },
+    Port {
+        output: true,
+        width: 1,
+    },
+    Port {
+        output: false,
+        width: 1,
+    },
+    Port {
+        output: true,
+        width: 1,
+    },
+    Port {
+        output: true,
+        width: 64,
+    },
+    Port {
+        output: true,
+        width: 4,
+    },
+    Port {
+        output: true,
+        width: 1,
+    },
+    Port {
+        output: true,
+        width: 32,
+    },
+    Port {
+        output: true,
+        width: 32,
+    },
+    Port {
+        output: true,
+        width: 1,
+    },
+    Port {
+        output: false,
+        width: 1,
+    },
+    Port {
+        output: false,
+        width: 4,
+    },
+    Port {
+        output: false,
+        width: 16,
+    },
+    Port {
+        output: false,
+        width: 4,
+    },
+    Port {
+        output: false,
+        width: 64,
+    },
+    Port {
+        output: true,
+        width: 64,
+    },
 ];
 
 /// The name of a port.
@@ -170,7 +233,12 @@ fn port_names_match(design: &Design) -> bool
 pub fn broken_behind(design: &Design) -> Option<Why>
     ensures { result ≡ first_broken (formed.last_rules (plan_of design.now)) }
 {
-    if !names_used(&design.names, &design.ports, &design.declared, &design.wires) {
+    if !names_used(
+        &design.names,
+        &design.ports,
+        &design.declared,
+        &design.wires,
+    ) {
         return Some(Why::Syntax);
     }
     if !ports_match(&design.ports) || !port_names_match(design) {

@@ -113,13 +113,7 @@ fn port_width(ports: &[Port], k: u32) -> u8
         return 0;
     }
     match ports.get(k as usize) {
-        Some(port) => {
-            if port.output {
-                0
-            } else {
-                port.width
-            }
-        }
+        Some(port) => { if port.output { 0 } else { port.width } }
         None => 0,
     }
 }
@@ -129,13 +123,7 @@ pub fn output_width(ports: &[Port], k: u32) -> u8
     ensures { result ≡ width.output_width (get_or ports.now k (record { output = false; width = 0 })) }
 {
     match ports.get(k as usize) {
-        Some(port) => {
-            if port.output {
-                port.width
-            } else {
-                0
-            }
-        }
+        Some(port) => { if port.output { port.width } else { 0 } }
         None => 0,
     }
 }

@@ -6,9 +6,7 @@ ghost use Rattle.net_core.specs.Formed as formed;
 ghost use Rattle.net_core.specs.Formed.{section_fault, fault_at, first_broken};
 
 use crate::design::Design;
-use crate::formed::items::{
-    broken_by_assign, broken_by_block, broken_by_declared, broken_by_wire,
-};
+use crate::formed::items::{broken_by_assign, broken_by_block, broken_by_declared, broken_by_wire};
 use crate::formed::ports::broken_behind;
 use crate::formed::{NetError, Why};
 
@@ -85,6 +83,7 @@ fn last_fault(design: &Design) -> Option<NetError>
 }
 
 /// The first fault of a design.
+#[tactic(auto, unfolding(crate::specs::Formed::first_fault))]
 pub fn first_fault(design: &Design) -> Option<NetError>
     ensures { result ≡ formed.first_fault (plan_of design.now) }
 {

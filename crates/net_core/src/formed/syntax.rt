@@ -24,9 +24,7 @@ fn nests(e: &Expr<Net>, most: u8) -> bool
         Expr::Cell(_, i) => nests(i, most - 1),
         Expr::Before(_, a) => nests(a, most - 1),
         Expr::Two(_, a, b) => nests(a, most - 1) && nests(b, most - 1),
-        Expr::Choose(c, a, b) => {
-            nests(c, most - 1) && nests(a, most - 1) && nests(b, most - 1)
-        }
+        Expr::Choose(c, a, b) => { nests(c, most - 1) && nests(a, most - 1) && nests(b, most - 1) }
         Expr::Join(parts) => parts_nest(parts, most - 1),
     }
 }

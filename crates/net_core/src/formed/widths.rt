@@ -52,13 +52,7 @@ fn op_width(op: Op, a: u8, b: u8) -> u8
 {
     match op {
         Op::Add | Op::Sub | Op::Mul | Op::And | Op::Or | Op::Xor => same_width(a, b),
-        Op::ShiftLeft | Op::ShiftRight => {
-            if b > 0 {
-                a
-            } else {
-                0
-            }
-        }
+        Op::ShiftLeft | Op::ShiftRight => { if b > 0 { a } else { 0 } }
         Op::Equal | Op::NotEqual | Op::Less | Op::LessEqual | Op::Greater | Op::GreaterEqual => {
             test_width(a, b)
         }
@@ -70,13 +64,7 @@ fn prefix_width(prefix: Prefix, a: u8) -> u8
 {
     match prefix {
         Prefix::Not => a,
-        Prefix::Any => {
-            if a > 0 {
-                1
-            } else {
-                0
-            }
-        }
+        Prefix::Any => { if a > 0 { 1 } else { 0 } }
     }
 }
 

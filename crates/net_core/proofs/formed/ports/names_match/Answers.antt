@@ -12,7 +12,8 @@ returns-then-not-name_matches c =
     ∙ pointwise_here bytes_eq (map string_bytes c.args.names.now) port_names c.loop-k.k [] [] (omega (arith, length-map c.args.names.now string_bytes)) (omega arith) (sym c.name_matches.ensures ∙ c.if-not-name_matches.true))
 
 pub loop-k-preserved : goal.loop-k-preserved
-loop-k-preserved c =
-    (c.loop-k.invariant.0,
-    pointwise_more bytes_eq (map string_bytes c.args.names.now) port_names c.loop-k.k [] [] (omega (arith, length-map c.args.names.now string_bytes)) (omega arith) (sym c.name_matches.ensures ∙ c.if-not-name_matches.false)
-    ∙ c.loop-k.invariant.1)
+loop-k-preserved c = (
+  c.loop-k.invariant.0,
+  pointwise_more bytes_eq (map string_bytes c.args.names.now) port_names c.loop-k.k [] [] (omega (arith, length-map c.args.names.now string_bytes)) (omega arith) (sym c.name_matches.ensures ∙ c.if-not-name_matches.false)
+      ∙ c.loop-k.invariant.1,
+)

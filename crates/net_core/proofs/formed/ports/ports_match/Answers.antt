@@ -11,7 +11,8 @@ returns-then-not-port_matches c =
     ∙ pointwise_here same_port c.args.ports.now port_list c.loop-k.k (input 0) (input 0) (omega arith) (omega arith) (sym c.port_matches.ensures ∙ c.if-not-port_matches.true))
 
 pub loop-k-preserved : goal.loop-k-preserved
-loop-k-preserved c =
-    (c.loop-k.invariant.0,
-    pointwise_more same_port c.args.ports.now port_list c.loop-k.k (input 0) (input 0) (omega arith) (omega arith) (sym c.port_matches.ensures ∙ c.if-not-port_matches.false)
-    ∙ c.loop-k.invariant.1)
+loop-k-preserved c = (
+  c.loop-k.invariant.0,
+  pointwise_more same_port c.args.ports.now port_list c.loop-k.k (input 0) (input 0) (omega arith) (omega arith) (sym c.port_matches.ensures ∙ c.if-not-port_matches.false)
+      ∙ c.loop-k.invariant.1,
+)
