@@ -1,2 +1,18 @@
+<<<<<<< HEAD
 pub mod Low
 pub mod Typed
+=======
+mod FormedSample
+pub mod FormedNames
+pub mod FormedSyntax
+pub mod FormedWires
+pub mod FormedScope
+pub mod FormedTests
+pub mod FormedAssigns
+pub mod FormedBlocks
+pub mod FormedPorts
+pub mod FormedSections
+pub mod FormedKept
+pub mod FormedTyped
+pub mod FormedFacts
+>>>>>>> 82135991877b6ee4ef353c5c1309ffcf1d9e360a

@@ -8,3 +8,6 @@ pub mod Names
 pub mod Suits
 pub mod Codes
 pub mod History
+pub mod FormedSyntax
+pub mod FormedScope
+pub mod Formed

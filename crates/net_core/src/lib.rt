@@ -3,6 +3,7 @@
 
 pub mod build;
 pub mod design;
+pub mod formed;
 pub mod ports;
 pub mod tree;
 pub mod value;
