@@ -1,0 +1,9 @@
+//! What the maps of an XDP program hold, and what its helpers and memory accesses do to it.
+//!
+//! An array has the keys 0 to its capacity - 1 from the start, each as four bytes with the low one
+//! first. A hash begins empty and holds at most as many keys as its capacity.
+#![tactic(auto)]
+
+pub mod change;
+pub mod decl;
+pub mod errno;
