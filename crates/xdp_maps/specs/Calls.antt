@@ -1,9 +1,9 @@
 -- What the helpers and the accesses to an entry do to the contents of their map (bpf-helpers(7), bpf(2);
 -- RFC 9669, section 5.3). Keys and values have the lengths that the map declares.
-use Rattle.std.specs.Prelude.{ℕ, ℤ, pos, ◌+◌, ◌%◌, ◌^◌, ◌==◌, nat_lt, nat_le, Bool, true, false, not, ◌&&◌, if◌then◌else◌, List, ◌++◌, length, take, drop, slice_range, Option, Some, None, bit_and, bit_or, bit_xor}
+use Rattle.std.specs.Prelude.{ℕ, ℤ, pos, ◌+◌, ◌%◌, ◌^◌, ◌==◌, nat_lt, nat_le, Bool, true, false, not, ◌&&◌, if◌then◌else◌, List, ◌++◌, length, take, drop, slice_range, slice_get, Option, Some, None, bit_and, bit_or, bit_xor}
 use Rattle.std.specs.Option.{option_map}
-use Rattle.std.specs.Int.{w32, w64, to_le_bytes, from_le_bytes}
 use Rattle.std.specs.FinMap as map
+use Rattle.byteorder.specs.Endian.{little_number, little_bytes}
 use Rattle.xdp_maps.specs.declared.change.ChangeKind.{ChangeKind}
 use Rattle.xdp_maps.specs.declared.change.ChangeKind.TheVariants.{Add, Or, And, Xor, Xchg, Cmpxchg}
 use Rattle.xdp_maps.specs.declared.change.Change.{Change}
@@ -11,25 +11,33 @@ use Rattle.xdp_maps.specs.declared.decl.MapKind.{MapKind}
 use Rattle.xdp_maps.specs.declared.decl.MapKind.TheVariants.{Hash, Array}
 use Rattle.xdp_maps.specs.declared.decl.MapDecl.{MapDecl}
 use Rattle.xdp_maps.specs.declared.errno.TheConstants.{ENOENT, E2BIG, EEXIST, EINVAL}
-use Rattle.xdp_maps.specs.Contents.{Contents, index_of}
+use Rattle.xdp_maps.specs.Contents.{Contents, index_key, index_of}
 
 -- the value under a key, if there is one
 abbrev pub lookup_of : Contents → List ℕ → Option (List ℕ)
 lookup_of c key = map.get c key
 
--- Why an update is refused, the first reason that holds. Flags are BPF_ANY 0, BPF_NOEXIST 1, BPF_EXIST 2.
-abbrev pub update_error_as : MapKind → MapDecl → Contents → List ℕ → ℕ → Option ℤ
-update_error_as Hash d c key flags =
+-- Why an update of a hash is refused, the first reason that holds: by its capacity and the number of its
+-- keys, whether the key is there, and the flags (BPF_ANY 0, BPF_NOEXIST 1, BPF_EXIST 2).
+abbrev pub hash_refusal : ℕ → ℕ → Bool → ℕ → Option ℤ
+hash_refusal cap used present flags =
     if nat_lt 2 flags then Some EINVAL else
-    if (flags == 1) && map.contains_key c key then Some EEXIST else
-    if (flags == 2) && not (map.contains_key c key) then Some ENOENT else
-    if not (map.contains_key c key) && nat_le d.cap (map.len c) then Some E2BIG else
+    if (flags == 1) && present then Some EEXIST else
+    if (flags == 2) && not present then Some ENOENT else
+    if not present && nat_le cap used then Some E2BIG else
     None
-update_error_as Array d c key flags =
+
+-- and of an array, by its capacity and the index
+abbrev pub array_refusal : ℕ → ℕ → ℕ → Option ℤ
+array_refusal cap index flags =
     if nat_lt 2 flags then Some EINVAL else
-    if nat_le d.cap (index_of key) then Some E2BIG else
+    if nat_le cap index then Some E2BIG else
     if flags == 1 then Some EEXIST else
     None
+
+abbrev pub update_error_as : MapKind → MapDecl → Contents → List ℕ → ℕ → Option ℤ
+update_error_as Hash d c key flags = hash_refusal d.cap (map.len c) (map.contains_key c key) flags
+update_error_as Array d c key flags = array_refusal d.cap (index_of key) flags
 
 abbrev pub update_error : MapDecl → Contents → List ℕ → ℕ → Option ℤ
 update_error d c key flags = update_error_as d.kind d c key flags
@@ -47,7 +55,7 @@ abbrev pub number_of : Option ℤ → ℤ
 number_of None = pos 0
 number_of (Some e) = e
 
--- what a helper leaves: what it found where it refuses
+-- what a helper leaves: what it found, where it refuses
 abbrev pub unless : {A : Type 0} → Option ℤ → A → A → A
 unless None old new = new
 unless (Some e) old new = old
@@ -87,15 +95,6 @@ abbrev pub part_of : Bool → ℕ → ℕ
 part_of true n = n % 2 ^ 64
 part_of false n = n % 2 ^ 32
 
--- a number and its bytes, the low one first
-abbrev pub number_in : Bool → List ℕ → ℕ
-number_in true bytes = from_le_bytes w64 bytes
-number_in false bytes = from_le_bytes w32 bytes
-
-abbrev pub bytes_of : Bool → ℕ → List ℕ
-bytes_of true n = to_le_bytes w64 n
-bytes_of false n = to_le_bytes w32 n
-
 -- the number that an atomic change makes of the old one
 abbrev pub result_as : ChangeKind → Bool → ℕ → ℕ → ℕ → ℕ
 result_as Add wide old source compare = part_of wide (old + source)
@@ -108,14 +107,25 @@ result_as Cmpxchg wide old source compare = if old == compare then source else o
 abbrev pub change_result : Change → ℕ → ℕ
 change_result x old = result_as x.kind x.wide old (part_of x.wide x.source) (part_of x.wide x.compare)
 
--- the number at a place of a value
+-- the number at a place of a value, the low byte first
 abbrev pub number_at : Bool → ℕ → List ℕ → ℕ
-number_at wide at value = number_in wide (slice_range value at (at + change_bytes wide))
+number_at wide at value = little_number (change_bytes wide) (slice_range value at (at + change_bytes wide))
 
--- the number that an atomic change finds in an entry
-abbrev pub number_before : Contents → List ℕ → ℕ → Bool → Option ℕ
-number_before c key at wide = option_map (number_at wide at) (map.get c key)
+-- a value with the number at a place changed
+abbrev pub with_change : Change → ℕ → List ℕ → List ℕ
+with_change x at value = patched value at (little_bytes (change_bytes x.wide) (change_result x (number_at x.wide at value)))
 
--- an atomic change of a number in an entry
+-- an atomic change of a number in an entry: the number that it finds, and what it leaves
+abbrev pub number_before : Contents → List ℕ → ℕ → Change → Option ℕ
+number_before c key at x = option_map (number_at x.wide at) (map.get c key)
+
 abbrev pub changed : Contents → List ℕ → ℕ → Change → Contents
-changed c key at x = with_value c key (λ v. patched v at (bytes_of x.wide (change_result x (number_at x.wide at v)))) (map.get c key)
+changed c key at x = with_value c key (with_change x at) (map.get c key)
+
+-- the pairs of a map by their number: of a hash in the order of its keys' bytes, of an array by index
+abbrev pub entry_as : MapKind → Contents → ℕ → Option (List ℕ × List ℕ)
+entry_as Hash c i = slice_get (map.entries c) i
+entry_as Array c i = option_map (λ v. (index_key i, v)) (map.get c (index_key i))
+
+abbrev pub entry_of : MapDecl → Contents → ℕ → Option (List ℕ × List ℕ)
+entry_of d c i = entry_as d.kind c i

@@ -2,11 +2,24 @@
 use Rattle.std.specs.Prelude.{ℕ, ◌≡◌, ◌+◌, ◌<◌, ◌≤◌, ◌↔◌, List, [], ◌∷◌, length, replicate, All, IsTrue, IfSome}
 use Rattle.std.specs.Ordering.{nat_cmp}
 use Rattle.std.specs.Cmp.Lexicographic.{slice_cmp}
-use Rattle.std.specs.Int.{w32, to_le_bytes, from_le_bytes}
+use Rattle.byteorder.specs.Endian.{little_number, little_bytes}
 use Rattle.std.specs.FinMap as map
 use Rattle.xdp_maps.specs.declared.decl.MapKind.{MapKind}
 use Rattle.xdp_maps.specs.declared.decl.MapKind.TheVariants.{Hash, Array}
 use Rattle.xdp_maps.specs.declared.decl.MapDecl.{MapDecl}
+
+-- The limits of a declaration.
+abbrev pub limits_as : MapKind → MapDecl → Type 0
+limits_as Hash d = d.cap ≤ 1024
+limits_as Array d = (d.key ≡ 4) × (d.cap ≤ 65536)
+
+pub record IsWithinLimits (d : MapDecl) : Type 0 where
+  pub key_some : 0 < d.key
+  pub key_short : d.key ≤ 40
+  pub value_some : 0 < d.value
+  pub value_short : d.value ≤ 64
+  pub cap_some : 0 < d.cap
+  pub by_kind : limits_as d.kind d
 
 -- a finite map from key bytes to value bytes, its keys in the order of their bytes
 abbrev pub Contents : Type 0
@@ -19,10 +32,10 @@ pub record IsBytes (n : ℕ) (bytes : List ℕ) : Type 0 where
 
 -- The key of an array's entry is its index: four bytes, the low one first.
 abbrev pub index_key : ℕ → List ℕ
-index_key i = to_le_bytes w32 i
+index_key i = little_bytes 4 i
 
 abbrev pub index_of : List ℕ → ℕ
-index_of key = from_le_bytes w32 key
+index_of key = little_number 4 key
 
 -- values under their indexes, from one on
 abbrev pub indexed : ℕ → List (List ℕ) → List (List ℕ × List ℕ)

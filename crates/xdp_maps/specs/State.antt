@@ -4,7 +4,7 @@ use Rattle.std.proofs.Common.{get_or}
 use Rattle.std.specs.FinMap as map
 use Rattle.xdp_maps.specs.declared.decl.MapKind.TheVariants.{Hash}
 use Rattle.xdp_maps.specs.declared.decl.MapDecl.{MapDecl}
-use Rattle.xdp_maps.specs.Contents.{Contents, IsOver}
+use Rattle.xdp_maps.specs.Contents.{Contents, IsOver, IsWithinLimits}
 
 -- the declarations, and beside each what its map holds
 pub record MapState : Type 0 where
@@ -28,4 +28,5 @@ with_contents s m c = record s { contents = slice_set s.contents m c }
 -- each map holds what its declaration allows
 pub record IsSound (s : MapState) : Type 0 where
   pub beside : length s.contents ≡ length s.decls
+  pub limits : (m : ℕ) → m < length s.decls → IsWithinLimits (decl_at s m)
   pub over : (m : ℕ) → m < length s.decls → IsOver (decl_at s m) (contents_at s m)

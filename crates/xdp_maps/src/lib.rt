@@ -4,6 +4,11 @@
 //! first. A hash begins empty and holds at most as many keys as its capacity.
 #![tactic(auto)]
 
+mod array;
 pub mod change;
 pub mod decl;
 pub mod errno;
+mod hash;
+pub mod short;
+pub mod state;
+mod table;

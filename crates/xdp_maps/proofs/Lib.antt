@@ -1,0 +1,4 @@
+pub mod Entries
+pub mod Hashes
+pub mod Refusals
+pub mod Arrays
