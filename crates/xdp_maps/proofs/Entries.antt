@@ -16,7 +16,7 @@ lt_less Less h = refl
 lt_less Equal h = cc
 lt_less Greater h = cc
 
-eq_equal : (r : Ordering) → IsTrue (is_eq r) → r ≡ Equal
+pub eq_equal : (r : Ordering) → IsTrue (is_eq r) → r ≡ Equal
 eq_equal Less h = cc
 eq_equal Equal h = refl
 eq_equal Greater h = cc
@@ -33,10 +33,10 @@ both : (a b : Bool) → IsTrue a → IsTrue b → IsTrue (a && b)
 both true b p q = q
 both false b p q = cc
 
-swapped : {A : Type 0} (a b : Bool) (x y : Option A) → (IsTrue a → IsTrue b → ⊥) → cond a x (cond b None y) ≡ cond b None (cond a x y)
-swapped true true x y apart = absurd (apart refl refl)
-swapped true false x y apart = refl
-swapped false b x y apart = refl
+pub swapped : {A : Type 0} (a b : Bool) (x y z : A) → (IsTrue a → IsTrue b → ⊥) → cond a x (cond b y z) ≡ cond b y (cond a x z)
+swapped true true x y z apart = absurd (apart refl refl)
+swapped true false x y z apart = refl
+swapped false b x y z apart = refl
 
 less_flip : {K : Type 0} {order : K → K → Ordering} → IsTotalOrder order → (a b : K) → order a b ≡ Less → order b a ≡ Greater
 less_flip total a b h = total.antisymm b a ∙ ap ordering_reverse h
@@ -152,8 +152,9 @@ module _ {K X : Type 0} (order : K → K → Ordering) (total : IsTotalOrder ord
       ] refl)
   find-remove (e ∷ es) key (suc i) h at q =
       let rest : find order q (remove es i) ≡ cond (eq_by_cmp order q key) None (find order q es) = find-remove es key i (right_of _ _ h) (at_tail e es key i at) q in
-      rw rest
-        (swapped (eq_by_cmp order q e.0) (eq_by_cmp order q key) (Some e.1) (find order q es) (λ a b.
+      let apart : IsTrue (eq_by_cmp order q e.0) → IsTrue (eq_by_cmp order q key) → ⊥ = λ a b.
           let same : key ≡ e.0 = sym (exact q key (eq_equal _ b)) ∙ exact q e.0 (eq_equal _ a) in
           let above : order e.0 e.0 ≡ Greater = subst (λ k. order k e.0 ≡ Greater) same (above_first e es h key i at) in
-          let clash : Equal ≡ Greater = sym (tied_itself total e.0) ∙ above in cc))
+          let clash : Equal ≡ Greater = sym (tied_itself total e.0) ∙ above in
+          cc in
+      ap (cond (eq_by_cmp order q e.0) (Some e.1)) rest ∙ swapped (eq_by_cmp order q e.0) (eq_by_cmp order q key) (Some e.1) None (find order q es) apart

@@ -1,5 +1,6 @@
 -- What a helper's refusal says.
 use Rattle.std.proofs.Common.{◌≡◌, ℕ, ◌+◌, ◌<◌, ◌≤◌, ◌==◌, nat_lt, nat_le, Bool, true, false, not, ◌&&◌, if◌then◌else◌, List, Option, Some, None, ℤ, w64, to_z, of_z, IsTrue, ◌⊎◌, inl, inr, refl, sym, ap, subst, ◌∙◌, arith}
+use Rattle.std.proofs.lemmas.Bool.Decides.{nat_tests}
 use Rattle.std.specs.FinMap as map
 use Rattle.xdp_maps.specs.declared.decl.MapKind.TheVariants.{Hash, Array}
 use Rattle.xdp_maps.specs.declared.errno.TheConstants.{ENOENT}
@@ -34,3 +35,7 @@ pub signed-array_refusal : (cap index flags : ℕ) → to_z w64 (of_z w64 (numbe
 unfolding IsSigned
 signed-array_refusal cap index flags =
     signed_if (nat_lt 2 flags) _ _ refl (signed_if (nat_le cap index) _ _ refl (signed_if (flags == 1) _ _ refl refl))
+
+-- an index that is written is one of the array's
+pub inside-array_refusal : (cap index flags : ℕ) → array_refusal cap index flags ≡ None → index < cap
+inside-array_refusal cap index flags h = grind (arith, nat_tests)

@@ -31,10 +31,10 @@ pub record IsBytes (n : ℕ) (bytes : List ℕ) : Type 0 where
   pub bytes_fit : All (λ b. b < 256) bytes
 
 -- The key of an array's entry is its index: four bytes, the low one first.
-abbrev pub index_key : ℕ → List ℕ
+unfoldable pub index_key : ℕ → List ℕ
 index_key i = little_bytes 4 i
 
-abbrev pub index_of : List ℕ → ℕ
+unfoldable pub index_of : List ℕ → ℕ
 index_of key = little_number 4 key
 
 -- values under their indexes, from one on
