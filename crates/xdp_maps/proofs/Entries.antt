@@ -123,10 +123,10 @@ module _ {K X : Type 0} (order : K → K → Ordering) (total : IsTotalOrder ord
   -- no key of the tail ties with the first
   find_first : (e : K × X) (es : List (K × X)) → IsRising order (e ∷ es) → (q : K) → order q e.0 ≡ Equal → find order q es ≡ None
   find_first e es h q tie = find_gap es q zero (record {
-        in_range = omega arith;
-        lower_before = λ k d lt. absurd (omega arith);
-        greater_after = λ k d le lt. less_flip total _ _ (subst (λ p. order p (get_or es k d).0 ≡ Less) (sym (exact _ _ tie)) (below_each e.0 es (left_of _ _ h) k d lt));
-      })
+    in_range = omega arith;
+    lower_before = λ k d lt. absurd (omega arith);
+    greater_after = λ k d le lt. less_flip total _ _ (subst (λ p. order p (get_or es k d).0 ≡ Less) (sym (exact _ _ tie)) (below_each e.0 es (left_of _ _ h) k d lt));
+  })
 
   below_remove : (key : K) (es : List (K × X)) (i : ℕ) → IsTrue (below_all order key es) → IsTrue (below_all order key (remove es i))
   below_remove key [] zero h = refl
@@ -153,8 +153,8 @@ module _ {K X : Type 0} (order : K → K → Ordering) (total : IsTotalOrder ord
   find-remove (e ∷ es) key (suc i) h at q =
       let rest : find order q (remove es i) ≡ cond (eq_by_cmp order q key) None (find order q es) = find-remove es key i (right_of _ _ h) (at_tail e es key i at) q in
       let apart : IsTrue (eq_by_cmp order q e.0) → IsTrue (eq_by_cmp order q key) → ⊥ = λ a b.
-          let same : key ≡ e.0 = sym (exact q key (eq_equal _ b)) ∙ exact q e.0 (eq_equal _ a) in
-          let above : order e.0 e.0 ≡ Greater = subst (λ k. order k e.0 ≡ Greater) same (above_first e es h key i at) in
-          let clash : Equal ≡ Greater = sym (tied_itself total e.0) ∙ above in
-          cc in
+      let same : key ≡ e.0 = sym (exact q key (eq_equal _ b)) ∙ exact q e.0 (eq_equal _ a) in
+      let above : order e.0 e.0 ≡ Greater = subst (λ k. order k e.0 ≡ Greater) same (above_first e es h key i at) in
+      let clash : Equal ≡ Greater = sym (tied_itself total e.0) ∙ above in
+      cc in
       ap (cond (eq_by_cmp order q e.0) (Some e.1)) rest ∙ swapped (eq_by_cmp order q e.0) (eq_by_cmp order q key) (Some e.1) None (find order q es) apart

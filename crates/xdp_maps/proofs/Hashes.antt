@@ -71,10 +71,10 @@ module _ {K X : Type 0} (order : K → K → Ordering) (total : IsTotalOrder ord
 
   -- a new value written at the key's place
   pub written : (es : List (K × X)) (key : K) (i : ℕ) (e : K × X) (v : X) → IsRising order es → IsAt es key i → e ≡ get_or es i e → record {
-      contents : map.from_sorted {R = order} (set es i (e.0, v)) ≡ map.insert (map.from_sorted es) key v;
-      rising : IsRising order (set es i (e.0, v));
-      value : map.get (map.from_sorted {R = order} es) key ≡ Some e.1;
-    }
+    contents : map.from_sorted {R = order} (set es i (e.0, v)) ≡ map.insert (map.from_sorted es) key v;
+    rising : IsRising order (set es i (e.0, v));
+    value : map.get (map.from_sorted {R = order} es) key ≡ Some e.1;
+  }
   written es key i e v h at is =
       let place = put_at order total exact es key v i h at in
       let same : key ≡ e.0 = at.has_key e ∙ sym (ap (λ (x : K × X). x.0) is) in

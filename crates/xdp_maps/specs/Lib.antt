@@ -2,3 +2,5 @@ pub mod Contents
 pub mod Calls
 pub mod State
 pub mod Layout
+pub mod Tables
+pub mod Laws

@@ -1,5 +1,5 @@
 //! Arrays: the values by index.
-ghost use Rattle.std.specs.Prelude.{◌≡◌, ◌+◌, ◌≤◌, ◌^◌, length, IfSome};
+ghost use Rattle.std.specs.Prelude.{◌≡◌, ◌+◌, ◌≤◌, ◌^◌, length, replicate, IfSome, IfOk};
 ghost use Rattle.std.specs.Option.{option_copied};
 ghost use Rattle.std.specs.FinMap as map;
 ghost use Rattle.xdp_maps.specs.Contents.{index_of, array_of};
@@ -8,6 +8,7 @@ ghost use Rattle.xdp_maps.specs.Calls.{array_refusal, number_of, unless, stored}
 use crate::errno::{E2BIG, EEXIST, EINVAL};
 use crate::short::ShortBytes;
 use byteorder::{ByteOrder, LittleEndian};
+use std::alloc::{AllocError, Global};
 
 fn index(key: &[u8]) -> usize
     requires { length key.now ≡ 4 }
@@ -23,7 +24,11 @@ pub fn lookup<'a>(values: &'a [ShortBytes], key: &[u8]) -> Option<&'a [u8]>
     ensures { option_copied result ≡ map.get (array_of values.now) key.now }
 {
     let i = index(key);
-    if i < values.len() { Some(values[i].as_slice()) } else { None }
+    if i < values.len() {
+        Some(values[i].as_slice())
+    } else {
+        None
+    }
 }
 
 fn refusal(cap: usize, index: usize, flags: u64) -> Option<i64>
@@ -83,4 +88,16 @@ pub fn copy_from(values: &mut [ShortBytes], from: &[ShortBytes])
     for i in 0..values.len() {
         values[i] = from[i].copied();
     }
+}
+
+/// An array of so many values of zeros.
+pub fn new(alloc: Global, cap: usize, value: usize) -> Result<Vec<ShortBytes>, AllocError>
+    requires { value ≤ 64 }
+    ensures { IfOk result (λ v. v.items ≡ replicate cap (replicate value 0)) }
+{
+    let mut values = Vec::with_capacity(alloc, cap)?;
+    for _ in 0..cap {
+        values.push_reserved(ShortBytes::zeros(value));
+    }
+    Ok(values)
 }

@@ -55,7 +55,11 @@ impl Change {
             ChangeKind::Xor => old ^ source,
             ChangeKind::Xchg => source,
             ChangeKind::Cmpxchg => {
-                if old == self.part(self.compare) { source } else { old }
+                if old == self.part(self.compare) {
+                    source
+                } else {
+                    old
+                }
             }
         }
     }

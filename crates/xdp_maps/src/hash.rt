@@ -1,5 +1,5 @@
 //! Hashes: entries in the order of their keys' bytes, in room that is taken at the start.
-ghost use Rattle.std.specs.Prelude.{◌≡◌, ◌+◌, ◌<◌, ◌≤◌, length, IfOk, IfErr, IfSome, IsTrue, is_ok, is_some, vec_len, vec_capacity, ◌⊎◌};
+ghost use Rattle.std.specs.Prelude.{◌≡◌, ◌+◌, ◌<◌, ◌≤◌, length, IfOk, IfErr, IfSome, IsTrue, is_ok, is_some, vec_len, vec_capacity, ◌⊎◌, []};
 ghost use Rattle.std.specs.Option.{option_copied};
 ghost use Rattle.std.specs.Ordering.{nat_cmp};
 ghost use Rattle.std.specs.Cmp.Lexicographic.{slice_cmp};
@@ -10,6 +10,7 @@ ghost use Rattle.xdp_maps.specs.Layout.{IsRising, IsAt, IsGapFor};
 use crate::decl::MapKind;
 use crate::errno::{E2BIG, EEXIST, EINVAL, ENOENT};
 use crate::short::ShortBytes;
+use std::alloc::{AllocError, Global};
 use std::cmp::Ordering;
 
 /// A key and its value.
@@ -148,4 +149,12 @@ pub fn copy_from(entries: &mut Vec<Entry>, from: &[Entry])
     for entry in from {
         entries.push_reserved((entry.0.copied(), entry.1.copied()));
     }
+}
+
+/// A hash without entries, with room for so many.
+pub fn new(alloc: Global, cap: usize) -> Result<Vec<Entry>, AllocError>
+    ensures empty { IfOk result (λ v. v.items ≡ []) }
+    ensures room { IfOk result (λ v. cap ≤ vec_capacity v) }
+{
+    Vec::with_capacity(alloc, cap)
 }

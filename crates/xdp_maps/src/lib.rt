@@ -9,6 +9,7 @@ pub mod change;
 pub mod decl;
 pub mod errno;
 mod hash;
+pub mod laws;
 pub mod short;
 pub mod state;
 mod table;
