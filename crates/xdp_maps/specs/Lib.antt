@@ -1,0 +1,6 @@
+pub mod Contents
+pub mod Calls
+pub mod State
+pub mod Layout
+pub mod Tables
+pub mod Laws

@@ -1,0 +1,30 @@
+//! The algebra of map contents. Each function's contract is a law; it computes nothing.
+ghost use Rattle.std.specs.Prelude.{ℕ, List};
+ghost use Rattle.xdp_maps.specs.declared.decl.MapDecl.{MapDecl};
+ghost use Rattle.xdp_maps.specs.Contents.{Contents};
+ghost use Rattle.xdp_maps.specs.Laws.{UpdateLaws, DeleteLaws, KeepsOver, SameByLookups, IndexLaws};
+
+/// An update leaves its value under its key and touches no other.
+pub fn update_laws()
+    ensures { (d : MapDecl) (c : Contents) (key value : List ℕ) (flags : ℕ) → UpdateLaws d c key value flags }
+{}
+
+/// A deletion removes its key and touches no other.
+pub fn delete_laws()
+    ensures { (d : MapDecl) (c : Contents) (key : List ℕ) → DeleteLaws d c key }
+{}
+
+/// A hash never holds more keys than its capacity, and an array always its indexes.
+pub fn keeps_over()
+    ensures { (d : MapDecl) (c : Contents) → KeepsOver d c }
+{}
+
+/// What lookups answer is all that contents are.
+pub fn same_by_lookups()
+    ensures { SameByLookups }
+{}
+
+/// An array's index and key give each other.
+pub fn index_laws()
+    ensures { IndexLaws }
+{}
