@@ -11,3 +11,5 @@ pub mod History
 pub mod FormedSyntax
 pub mod FormedScope
 pub mod Formed
+pub mod Grammar
+pub mod Spelling
