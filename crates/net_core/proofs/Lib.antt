@@ -1,7 +1,5 @@
-<<<<<<< HEAD
 pub mod Low
 pub mod Typed
-=======
 mod FormedSample
 pub mod FormedNames
 pub mod FormedSyntax
@@ -15,4 +13,3 @@ pub mod FormedSections
 pub mod FormedKept
 pub mod FormedTyped
 pub mod FormedFacts
->>>>>>> 82135991877b6ee4ef353c5c1309ffcf1d9e360a
