@@ -8,3 +8,4 @@ pub mod Fitting
 pub mod Keeping
 pub mod Clocking
 pub mod Turning
+pub mod Typing

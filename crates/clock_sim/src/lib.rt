@@ -12,3 +12,6 @@ mod turn;
 mod wires;
 
 pub use sim::{Sim, XValue};
+
+#[cfg(test)]
+mod tests;
