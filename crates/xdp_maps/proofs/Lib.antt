@@ -5,3 +5,4 @@ pub mod Arrays
 pub mod Keys
 pub mod Over
 pub mod Opened
+pub mod TableLemmas
