@@ -6,3 +6,4 @@ pub mod Keys
 pub mod Over
 pub mod Opened
 pub mod TableLemmas
+pub mod StateLemmas
