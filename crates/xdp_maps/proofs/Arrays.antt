@@ -79,7 +79,7 @@ module _ (order : List ℕ → List ℕ → Ordering) (total : IsTotalOrder orde
       ap (cond (eq_by_cmp order q (index_key j)) (Some x)) later
       ∙ swapped (eq_by_cmp order q (index_key j)) (eq_by_cmp order q (index_key (j + suc k))) (Some x) (Some v) _ (apart q j (j + suc k) (omega arith) (omega arith) (omega arith))
 
-slice_get-past : {X : Type 0} (xs : List X) (i : ℕ) → length xs ≤ i → slice_get xs i ≡ None
+pub slice_get-past : {X : Type 0} (xs : List X) (i : ℕ) → length xs ≤ i → slice_get xs i ≡ None
 slice_get-past [] i h = refl
 slice_get-past (x ∷ xs) zero h = absurd (omega arith)
 slice_get-past (x ∷ xs) (suc i) h = slice_get-past xs i (omega arith)

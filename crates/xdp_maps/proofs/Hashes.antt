@@ -8,7 +8,8 @@ use Rattle.std.specs.Ordering.{nat_cmp, eq_by_cmp}
 use Rattle.std.specs.Cmp.{IsTotalOrder}
 use Rattle.std.specs.Cmp.Lexicographic.{slice_cmp, nat_list_cmp_total}
 use Rattle.std.specs.FinMap as map
-use Rattle.std.specs.FinMap.{IsAntisymmetric, find, put, same_entries_map, same_map, entries-from_sorted, entries-insert, entries_sorted, get-from_sorted, get-remove, len-entries, nat_cmp-IsAntisymmetric, slice_cmp-IsAntisymmetric}
+use Rattle.std.specs.FinMap.{empty_of_len, IsAntisymmetric, find, put, same_entries_map, same_map, entries-from_sorted, entries-insert, entries_sorted, get-from_sorted, get-remove, len-entries, nat_cmp-IsAntisymmetric, slice_cmp-IsAntisymmetric}
+use Rattle.std.proofs.lemmas.List.{get_or_default}
 use Rattle.xdp_maps.specs.Layout.{IsRising, IsAt, IsGapFor}
 use Rattle.xdp_maps.proofs.Entries.{find_at, find_gap, put_at, put_gap, rising-remove, find-remove}
 
@@ -85,3 +86,13 @@ module _ {K X : Type 0} (order : K → K → Ordering) (total : IsTotalOrder ord
         rising = facts.rising;
         value = get_of_rising es key h ∙ find_at order total exact es key i h at e ∙ sym (ap (λ (x : K × X). Some x.1) is);
       }
+
+  -- no pairs are the empty map
+  pub empty_of_none : let none : List (K × X) = [] in map.from_sorted {R = order} none ≡ map.empty
+  empty_of_none = empty_of_len _ (len_of_rising [] refl)
+
+  -- the key of each pair is there
+  pub contains_at : (es : List (K × X)) (i : ℕ) (d : K × X) → IsRising order es → i < length es → IsTrue (map.contains_key (map.from_sorted {R = order} es) (get_or es i d).0)
+  contains_at es i d h lt =
+      let at : IsAt es (get_or es i d).0 i = record { in_range = lt; has_key = λ e. ap (λ (x : K × X). x.0) (get_or_default es i d e lt) } in
+      ap is_some (get_of_rising es (get_or es i d).0 h ∙ find_at order total exact es (get_or es i d).0 i h at d)

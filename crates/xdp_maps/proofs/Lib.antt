@@ -5,3 +5,5 @@ pub mod Arrays
 pub mod Keys
 pub mod Over
 pub mod Opened
+pub mod TableLemmas
+pub mod StateLemmas

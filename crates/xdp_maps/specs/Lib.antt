@@ -3,4 +3,5 @@ pub mod Calls
 pub mod State
 pub mod Layout
 pub mod Tables
+pub mod StateView
 pub mod Laws

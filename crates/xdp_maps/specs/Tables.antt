@@ -1,5 +1,5 @@
 -- The contents of a table in memory. No caller's clause cites this.
-use Rattle.std.specs.Prelude.{ℕ, ◌≡◌, ◌≤◌, List, length}
+use Rattle.std.specs.Prelude.{ℕ, ◌≡◌, ◌<◌, ◌≤◌, List, length, slice_index_or}
 use Rattle.std.specs.Vec.{vec_capacity}
 use Rattle.std.specs.FinMap as map
 use Rattle.std.specs.Ordering.{nat_cmp}
@@ -24,3 +24,8 @@ pub record IsTable (d : MapDecl) (t : Table) : Type 0 where
   pub limits : IsWithinLimits d
   pub kept : IsKept d t
   pub over : IsOver d (contents_of t)
+
+-- beside each declaration a table of its
+pub record AreTables (ds : List MapDecl) (ts : List Table) : Type 0 where
+  pub beside : length ts ≡ length ds
+  pub each : (m : ℕ) (d : MapDecl) (t : Table) → m < length ds → IsTable (slice_index_or ds m d) (slice_index_or ts m t)

@@ -1,8 +1,8 @@
 //! Arrays: the values by index.
-ghost use Rattle.std.specs.Prelude.{◌≡◌, ◌+◌, ◌≤◌, ◌^◌, length, replicate, IfSome, IfOk};
+ghost use Rattle.std.specs.Prelude.{◌≡◌, ◌+◌, ◌≤◌, ◌^◌, length, replicate, slice_get, IfNone, IfSome, IfOk, MatchOption};
 ghost use Rattle.std.specs.Option.{option_copied};
 ghost use Rattle.std.specs.FinMap as map;
-ghost use Rattle.xdp_maps.specs.Contents.{index_of, array_of};
+ghost use Rattle.xdp_maps.specs.Contents.{index_of, index_key, array_of};
 ghost use Rattle.xdp_maps.specs.Calls.{array_refusal, number_of, unless, stored};
 
 use crate::errno::{E2BIG, EEXIST, EINVAL};
@@ -100,4 +100,19 @@ pub fn new(alloc: Global, cap: usize, value: usize) -> Result<Vec<ShortBytes>, A
         values.push_reserved(ShortBytes::zeros(value));
     }
     Ok(values)
+}
+
+/// Puts the key of an index into `key`, and answers its value.
+pub fn entry<'a>(values: &'a [ShortBytes], i: u32, key: &mut [u8]) -> Option<&'a [u8]>
+    requires { length key.old ≡ 4 }
+    ensures found { MatchOption result (slice_get values.now i ≡ None) (λ v. (slice_get values.now i ≡ Some v.now) × (key.new ≡ index_key i)) }
+    ensures none { IfNone result (key.new ≡ key.old) }
+{
+    let at = i as usize;
+    if at < values.len() {
+        LittleEndian::write_u32(key, i);
+        Some(values[at].as_slice())
+    } else {
+        None
+    }
 }

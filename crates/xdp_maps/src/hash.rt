@@ -1,5 +1,5 @@
 //! Hashes: entries in the order of their keys' bytes, in room that is taken at the start.
-ghost use Rattle.std.specs.Prelude.{◌≡◌, ◌+◌, ◌<◌, ◌≤◌, length, IfOk, IfErr, IfSome, IsTrue, is_ok, is_some, vec_len, vec_capacity, ◌⊎◌, []};
+ghost use Rattle.std.specs.Prelude.{ℕ, List, slice_get, slice_index_or, IfNone, MatchOption, ◌≡◌, ◌+◌, ◌<◌, ◌≤◌, length, IfOk, IfErr, IfSome, IsTrue, is_ok, is_some, vec_len, vec_capacity, ◌⊎◌, []};
 ghost use Rattle.std.specs.Option.{option_copied};
 ghost use Rattle.std.specs.Ordering.{nat_cmp};
 ghost use Rattle.std.specs.Cmp.Lexicographic.{slice_cmp};
@@ -157,4 +157,19 @@ pub fn new(alloc: Global, cap: usize) -> Result<Vec<Entry>, AllocError>
     ensures room { IfOk result (λ v. cap ≤ vec_capacity v) }
 {
     Vec::with_capacity(alloc, cap)
+}
+
+/// Puts the key of the entry at a place into `key`, and answers its value.
+pub fn entry<'a>(entries: &'a [Entry], i: usize, key: &mut [u8]) -> Option<&'a [u8]>
+    requires { (k : ℕ) (d : List ℕ × List ℕ) → k < length entries.now → length (slice_index_or entries.now k d).0 ≡ length key.old }
+    ensures found { MatchOption result (slice_get entries.now i ≡ None) (λ v. slice_get entries.now i ≡ Some (key.new, v.now)) }
+    ensures none { IfNone result (key.new ≡ key.old) }
+{
+    if i < entries.len() {
+        let entry = &entries[i];
+        key.copy_from_slice(entry.0.as_slice());
+        Some(entry.1.as_slice())
+    } else {
+        None
+    }
 }

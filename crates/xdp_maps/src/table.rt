@@ -1,12 +1,14 @@
 //! One map in memory: a hash or an array.
-ghost use Rattle.std.specs.Prelude.{◌≡◌, ◌+◌, ◌≤◌, length, IfOk, MatchOption};
+ghost use Rattle.std.specs.Prelude.{◌≡◌, ◌+◌, ◌≤◌, length, IfNone, IfOk, MatchOption};
 ghost use Rattle.std.specs.Option.{option_copied};
 
+use crate::change::Change;
 use crate::decl::{MapDecl, MapKind};
 use crate::errno::EINVAL;
 use crate::hash::Entry;
 use crate::short::ShortBytes;
 use crate::{array, hash};
+use byteorder::{ByteOrder, LittleEndian};
 use std::alloc::{AllocError, Global};
 
 #[derive(Drop)]
@@ -17,7 +19,7 @@ pub enum Table {
 
 impl Table {
     ghost use Rattle.xdp_maps.specs.Contents.{IsWithinLimits, opened};
-    ghost use Rattle.xdp_maps.specs.Calls.{lookup_of, update_number, updated, delete_number, deleted, stored};
+    ghost use Rattle.xdp_maps.specs.Calls.{lookup_of, update_number, updated, delete_number, deleted, stored, change_bytes, number_before, changed, entry_of};
     ghost use Rattle.xdp_maps.specs.Tables.{IsTable, contents_of};
     ghost use Rattle.std.specs.FinMap as map;
 
@@ -101,6 +103,36 @@ impl Table {
             (Table::Hash(entries), Table::Hash(others)) => hash::copy_from(entries, others),
             (Table::Array(values), Table::Array(others)) => array::copy_from(values, others),
             _ => unreachable!(),
+        }
+    }
+
+    /// Changes a number in the value under a key, if there is one, and answers what it was.
+    pub fn rmw(&mut self, decl: &MapDecl, key: &[u8], at: usize, change: Change) -> Option<u64>
+        requires kept { IsTable decl.now self.old }
+        requires key { length key.now ≡ decl.now.key }
+        requires inside { at + change_bytes change.wide ≤ decl.now.value }
+        ensures number { result ≡ number_before (contents_of self.old) key.now at change }
+        ensures contents { contents_of self.new ≡ changed (contents_of self.old) key.now at change }
+        ensures kept { IsTable decl.now self.new }
+    {
+        let old = change.number_at(self.lookup(decl, key)?, at);
+        let mut bytes = [0; 8];
+        LittleEndian::write_u64(&mut bytes, change.result_on(old));
+        self.write(decl, key, at, &bytes[..change.bytes()]);
+        Some(old)
+    }
+
+    /// Puts the key of a pair into `key`, and answers its value: of a hash in the order of the keys'
+    /// bytes, of an array by index.
+    pub fn entry(&self, decl: &MapDecl, i: u32, key: &mut [u8]) -> Option<&[u8]>
+        requires kept { IsTable decl.now self.now }
+        requires key { length key.old ≡ decl.now.key }
+        ensures found { MatchOption result (entry_of decl.now (contents_of self.now) i ≡ None) (λ v. entry_of decl.now (contents_of self.now) i ≡ Some (key.new, v.now)) }
+        ensures none { IfNone result (key.new ≡ key.old) }
+    {
+        match self {
+            Table::Hash(entries) => hash::entry(entries, i as usize, key),
+            Table::Array(values) => array::entry(values, i, key),
         }
     }
 }
