@@ -8,8 +8,3 @@ pub mod Names
 pub mod Suits
 pub mod Codes
 pub mod History
-pub mod FormedSyntax
-pub mod FormedScope
-pub mod Formed
-pub mod Grammar
-pub mod Spelling

@@ -3,7 +3,6 @@
 
 pub mod build;
 pub mod design;
-pub mod formed;
 pub mod ports;
 pub mod tree;
 pub mod value;
