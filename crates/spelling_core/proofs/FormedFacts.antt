@@ -1,24 +1,23 @@
 -- What a writer and a reader of texts ask of a well-formed design: its names, the places of nets' names, depths.
-use Rattle.std.specs.Prelude.{◌≡◌, ◌≢◌, ◌⊎◌, ℕ, zero, suc, ◌+◌, ◌-◌, ◌<◌, ◌≤◌, ◌==◌, nat_lt, nat_le, if◌then◌else◌, Bool, true, false, ◌&&◌, ◌||◌, List, [], ◌∷◌, length, take, map, count_by, IsTrue}
+use Rattle.std.specs.Prelude.{◌≡◌, ◌≢◌, ◌⊎◌, ℕ, zero, suc, ◌+◌, ◌-◌, ◌<◌, ◌≤◌, nat_le, if◌then◌else◌, Bool, true, false, ◌&&◌, List, [], ◌∷◌, length, take, count_by, IsTrue}
 use Rattle.std.specs.Str.{bytes_eq}
 use Rattle.std.specs.List.{list_any}
 use Rattle.std.proofs.Common.{get_or, not, refl, sym, subst, ap, ◌∙◌, inl, inr, arith}
-use Rattle.std.proofs.lemmas.Bool.{and_parts, or_parts, eqb-true, leb-true, ltb-true, cases_lt}
+use Rattle.std.proofs.lemmas.Bool.{and_parts, or_parts, leb-true, ltb-true, cases_lt}
 use Rattle.std.proofs.lemmas.List.{get_or-take, take-take, get_or_default, get_or_past, length-take}
 use Rattle.std.proofs.lemmas.List.Recursion.{is_count_by}
 use Rattle.std.proofs.lemmas.Slice.Eq.{bytes_eq-Decides}
 use Rattle.net_core.specs.declared.design.Declared.{Declared}
 use Rattle.net_core.specs.declared.design.Declared.TheVariants as declared
-use Rattle.net_core.specs.declared.tree.Word.{Word}
 use Rattle.net_core.specs.declared.tree.Net.{Net}
 use Rattle.net_core.specs.declared.tree.Net.TheVariants.{Port, Register, Memory, Wire}
 use Rattle.net_core.specs.declared.design.Port as port
 use Rattle.net_core.specs.Nets.{Tree, TConst, RPlain, Act, WireTree, Plan}
-use Rattle.net_core.specs.Ports.{port_list, port_names}
+use Rattle.net_core.specs.Ports.{port_names}
 use Rattle.net_core.specs.Names.{is_register, is_memory, place_of, name_place}
 use Rattle.spelling_core.specs.FormedSyntax.{is_name, depth, prefixes_apart, tree_spelled, act_depth, elses_placed, trees_pass, act_spelled}
 use Rattle.spelling_core.specs.FormedScope.{is_input, is_value, is_words, registers_of, memories_of}
-use Rattle.spelling_core.specs.Formed.{IsWellFormed, has_name, is_new, declared_place, wire_place}
+use Rattle.spelling_core.specs.Formed.{IsWellFormed, declared_place, wire_place}
 use Rattle.spelling_core.proofs.FormedKept.{declared_kept, wire_kept, last_kept, negated}
 use Rattle.spelling_core.proofs.FormedTyped.{pointwise_true, ports_listed}
 

@@ -1,6 +1,6 @@
 -- What a well-formed design keeps, item by item.
 use Rattle.std.specs.Prelude.{◌≡◌, ℕ, zero, suc, ◌+◌, ◌<◌, Bool, true, false, ◌&&◌, Option, Some, None, List, [], ◌∷◌, length, take, IsTrue, ◌==◌}
-use Rattle.std.proofs.Common.{get_or, not, refl, sym, subst, ap, ◌∙◌, arith}
+use Rattle.std.proofs.Common.{get_or, not, refl, sym, ap, ◌∙◌, arith}
 use Rattle.std.proofs.lemmas.Bool.{and_parts, eqb-true}
 use Rattle.net_core.specs.declared.design.Declared.{Declared}
 use Rattle.net_core.specs.declared.tree.Net.{Net}

@@ -1,13 +1,12 @@
 -- A small design is well formed by computing, also where a constant is a variable.
-use Rattle.std.specs.Prelude.{◌≡◌, ℕ, ◌^◌, ◌<◌, nat_lt, Bool, true, false, Option, None, List, [], ◌∷◌, ◌++◌, codes}
+use Rattle.std.specs.Prelude.{◌≡◌, ℕ, ◌^◌, nat_lt, true, [], ◌∷◌, ◌++◌, codes}
 use Rattle.std.proofs.Common.{refl}
-use Rattle.net_core.specs.declared.tree.Word.{Word}
 use Rattle.net_core.specs.declared.tree.Net.{Net}
 use Rattle.net_core.specs.declared.tree.Net.TheVariants as net
 use Rattle.net_core.specs.declared.tree.Op.TheVariants as op
 use Rattle.net_core.specs.declared.tree.Prefix.TheVariants as prefix
 use Rattle.net_core.specs.declared.design.Declared.TheVariants as declared
-use Rattle.net_core.specs.Nets.{Tree, TConst, TRead, TBit, TBits, TCell, TBefore, TTwo, TChoose, TJoin, Trees, TLast, TMore, RightTree, RPlain, RQuotient, RRemainder, Act, ABlock, AIf, AIfElse, ASet, AStore, Acts, AEnd, AThen, WireTree, AssignTree, Plan}
+use Rattle.net_core.specs.Nets.{TConst, TRead, TBit, TBefore, TTwo, TChoose, RightTree, RPlain, ABlock, AIf, ASet, AEnd, AThen, WireTree, AssignTree, Plan}
 use Rattle.net_core.specs.Value.{word}
 use Rattle.net_core.specs.Ports.{port_list, port_names}
 use Rattle.spelling_core.specs.Formed.{IsWellFormed, first_fault}

@@ -1,10 +1,10 @@
 -- One step of the search for a register.
-use Rattle.std.specs.Prelude.{◌≡◌, ℕ, zero, suc, ◌+◌, ◌-◌, ◌<◌, ◌≢◌, List, [], ◌∷◌, length, drop}
+use Rattle.std.specs.Prelude.{◌≡◌, ℕ, zero, suc, ◌+◌, ◌-◌, ◌<◌, ◌≢◌, List, ◌∷◌, length, drop}
 use Rattle.std.proofs.Common.{get_or, refl, ap, sym, ◌∙◌, arith}
 use Rattle.std.proofs.lemmas.List.{drop_more}
 use Rattle.net_core.specs.declared.tree.Word.{Word}
 use Rattle.net_core.specs.declared.design.Declared.{Declared}
-use Rattle.net_core.specs.declared.design.Declared.TheVariants.{Integer, Register, Memory}
+use Rattle.net_core.specs.declared.design.Declared.TheVariants.{Integer, Register}
 use Rattle.net_core.specs.Width.{register_widths}
 
 after_first : (x : ℕ) (xs : List ℕ) (k : ℕ) → k ≢ 0 → get_or (x ∷ xs) k 0 ≡ get_or xs (k - 1) 0

@@ -1,8 +1,7 @@
 -- One step through a section, whose items are seen by a view.
-use Rattle.std.specs.Prelude.{◌≡◌, ℕ, suc, ◌+◌, ◌<◌, ◌≤◌, Option, Some, None, List, [], ◌∷◌, length, map, drop}
-use Rattle.std.proofs.Common.{get_or, refl, sym, ap, ◌∙◌, add-one, arith}
+use Rattle.std.specs.Prelude.{◌≡◌, ℕ, suc, ◌+◌, ◌<◌, ◌≤◌, Some, None, List, length, map, drop}
+use Rattle.std.proofs.Common.{get_or, sym, ap, ◌∙◌, add-one, arith}
 use Rattle.std.proofs.lemmas.List.{drop_more, drop_all, get_or-map, length-map}
-use Rattle.spelling_core.specs.declared.formed.NetError.{NetError}
 use Rattle.spelling_core.specs.declared.formed.Why.{Why}
 use Rattle.spelling_core.specs.Formed.{Rule, first_broken, fault_at, or_else, section_fault}
 

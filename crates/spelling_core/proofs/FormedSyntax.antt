@@ -1,5 +1,5 @@
 -- Every tree has a depth.
-use Rattle.std.specs.Prelude.{ℕ, ◌<◌}
+use Rattle.std.specs.Prelude.{◌<◌}
 use Rattle.std.proofs.Common.{arith}
 use Rattle.net_core.specs.Nets.{Tree, TConst, TRead, TBit, TBits, TCell, TBefore, TTwo, TChoose, TJoin, Act, ABlock, AIf, AIfElse, ASet, AStore}
 use Rattle.spelling_core.specs.FormedSyntax.{depth, act_depth}

@@ -1,9 +1,9 @@
 -- A well-formed design is well typed.
-use Rattle.std.specs.Prelude.{◌≡◌, ℕ, zero, suc, ◌+◌, ◌<◌, ◌==◌, nat_le, Bool, true, false, ◌&&◌, List, [], ◌∷◌, ◌++◌, length, take, drop}
+use Rattle.std.specs.Prelude.{◌≡◌, ℕ, zero, suc, ◌<◌, ◌==◌, nat_le, Bool, true, false, ◌&&◌, List, [], ◌∷◌, ◌++◌, length, take, drop}
 use Rattle.std.specs.Cmp.Lexicographic.{pointwise}
 use Rattle.std.proofs.Common.{get_or, refl, sym, subst, ap, ◌∙◌, add-one, arith}
 use Rattle.std.proofs.lemmas.Bool.{and_parts, and_from, eqb-true}
-use Rattle.std.proofs.lemmas.List.{drop_more, drop_all, take_more}
+use Rattle.std.proofs.lemmas.List.{take_more}
 use Rattle.net_core.specs.declared.design.Port.{Port}
 use Rattle.net_core.specs.declared.design.Declared.{Declared}
 use Rattle.net_core.specs.declared.design.Declared.TheVariants.{Integer, Register, Memory}
@@ -11,7 +11,6 @@ use Rattle.net_core.specs.declared.tree.Net.{Net}
 use Rattle.net_core.specs.Nets.{Act, WireTree, AssignTree, Plan}
 use Rattle.net_core.specs.Ports.{port_list}
 use Rattle.net_core.specs.Width.{IsTyped, declared_typed, wires_typed, wire_widths, assigns_typed, acts_all_typed, word_fits}
-use Rattle.spelling_core.specs.FormedScope.{scope_before}
 use Rattle.spelling_core.specs.Formed.{IsWellFormed, same_bool, same_port, declared_fits, wire_fits, assign_fits, block_fits}
 use Rattle.spelling_core.proofs.FormedKept.{declared_kept, wire_kept, assign_kept, block_kept, last_kept}
 

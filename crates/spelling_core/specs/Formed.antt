@@ -2,7 +2,7 @@
 --
 -- The items of a design are counted through its sections, as a text has them: what is declared, wires, assigns, always
 -- blocks. So no item can stand after one of a later section, and that rule has no test here.
-use Rattle.std.specs.Prelude.{◌≡◌, ℕ, suc, ◌+◌, ◌==◌, nat_lt, nat_le, Bool, true, false, ◌&&◌, ◌||◌, if◌then◌else◌, Option, Some, None, Result, Ok, Err, List, [], ◌∷◌, length, take, map}
+use Rattle.std.specs.Prelude.{◌≡◌, ℕ, suc, ◌+◌, ◌==◌, nat_lt, nat_le, Bool, true, false, ◌&&◌, if◌then◌else◌, Option, Some, None, Result, Ok, Err, List, [], ◌∷◌, length, take}
 use Rattle.std.specs.Str.{bytes_eq}
 use Rattle.std.specs.List.{list_any, list_all}
 use Rattle.std.specs.Cmp.Lexicographic.{pointwise}
@@ -14,7 +14,7 @@ use Rattle.net_core.specs.declared.design.Declared.TheVariants as declared
 use Rattle.spelling_core.specs.declared.formed.NetError.{NetError}
 use Rattle.spelling_core.specs.declared.formed.Why.{Why}
 use Rattle.spelling_core.specs.declared.formed.Why.TheVariants.{Syntax, Unknown, Twice, Width, Ports}
-use Rattle.net_core.specs.Nets.{RightTree, Act, WireTree, AssignTree, Plan}
+use Rattle.net_core.specs.Nets.{Act, WireTree, AssignTree, Plan}
 use Rattle.net_core.specs.Ports.{port_list, port_names}
 use Rattle.net_core.specs.Width.{width_of, right_width, act_typed, same, full_scope, word_fits, register_widths, memory_widths, output_width, is_assigned, all_assigned}
 use Rattle.spelling_core.specs.FormedSyntax.{is_name, tree_spelled, right_spelled, act_spelled, trees_pass}

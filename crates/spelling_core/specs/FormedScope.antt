@@ -1,5 +1,5 @@
 -- Which nets an item may read and set: those that are declared before it, each as what it is.
-use Rattle.std.specs.Prelude.{ℕ, zero, suc, ◌==◌, nat_lt, Bool, true, false, ◌&&◌, List, [], ◌∷◌, count_by, take}
+use Rattle.std.specs.Prelude.{ℕ, zero, suc, ◌==◌, nat_lt, Bool, true, false, ◌&&◌, List, count_by, take}
 use Rattle.std.proofs.Common.{get_or, not}
 use Rattle.net_core.specs.declared.tree.Net.{Net}
 use Rattle.net_core.specs.declared.tree.Net.TheVariants.{Port, Register, Memory, Wire}

@@ -1,5 +1,5 @@
 -- The lexemes of a design: the grammar of the subset of IEEE 1364-2005 (annex A) in which designs are written.
-use Rattle.std.specs.Prelude.{ℕ, zero, suc, ◌+◌, ◌-◌, ◌^◌, ◌==◌, if◌then◌else◌, Bool, true, false, List, [], ◌∷◌, ◌++◌, length, codes}
+use Rattle.std.specs.Prelude.{ℕ, suc, ◌+◌, ◌-◌, ◌^◌, ◌==◌, if◌then◌else◌, List, [], ◌∷◌, ◌++◌, length, codes}
 use Rattle.std.proofs.Common.{get_or}
 use Rattle.net_core.specs.declared.tree.Op.{Op}
 use Rattle.net_core.specs.declared.tree.Op.TheVariants as op

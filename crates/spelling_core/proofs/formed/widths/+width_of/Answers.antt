@@ -1,4 +1,3 @@
-use Rattle.std.proofs.Common.{arith}
 use Rattle.spelling_core.proofs.formed.widths.+width_of.Goals as goal
 
 pub parts_width-returns-in-More : goal.parts_width-returns-in-More
