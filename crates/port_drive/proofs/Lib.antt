@@ -1,3 +1,4 @@
 pub mod Giving
 pub mod Leaving
 pub mod Turning
+pub mod Typing

@@ -1,8 +1,11 @@
 -- A drive, clock by clock.
-use Rattle.std.specs.Prelude.{if◌then◌else◌}
+use Rattle.std.specs.Prelude.{if◌then◌else◌, option_map}
 use Rattle.std.proofs.Common.{◌≡◌, ℕ, zero, suc, ◌+◌, ◌-◌, ◌<◌, ◌≤◌, Bool, true, false, ◌&&◌, Option, Some, None, List, [], ◌∷◌, ◌++◌, length, map, refl, sym, ap, ◌∙◌, subst, arith, append_assoc}
 use Rattle.std.proofs.lemmas.List.{append-nil, length-append, append_cancel_left}
+use Rattle.std.specs.Int.{from_bool}
 use Rattle.beat_core.specs.declared.beat.Beat.{Beat}
+use Rattle.net_core.specs.declared.tree.Net.{Net}
+use Rattle.net_core.specs.declared.tree.Net.TheVariants.{Wire}
 use Rattle.net_core.specs.declared.ports.Inputs.{Inputs}
 use Rattle.net_core.specs.declared.ports.Outputs.{Outputs}
 use Rattle.net_core.specs.Nets.{Plan}
@@ -11,7 +14,8 @@ use Rattle.net_core.specs.Clock.{Stored, after, stopping}
 use Rattle.net_core.specs.Ports.{words_of, outputs_of}
 use Rattle.net_core.specs.History.{Moment, moment_of, Reply, replies, stored_after, drive_inputs, left_after, owed_after, Drive, drive, and_then, Ended, Answered, Stopped, OutOfClocks}
 use Rattle.port_drive.specs.Answering.{TakesBeat}
-use Rattle.port_drive.specs.Reports.{reloads_in, given_in}
+use Rattle.port_drive.specs.Reports.{reloads_in, given_in, GivesFirst}
+use Rattle.clock_sim.specs.Running.{stopped_net}
 use Rattle.port_drive.proofs.Leaving.{takes_out}
 
 pub done_drive : (d : Plan) (x : ℕ) (s : Stored) (left : List Beat) (limit : ℕ) → drive d x s left 0 limit ≡ record { moments = []; ended = Answered }
@@ -127,3 +131,60 @@ module _ (d : Plan) (x : ℕ) (whole : Drive) (before : List Reply) (n : ℕ) (f
           ∙ ap (λ (t : Stored). and_then m (drive d x t left' k rest)) go
           ∙ ap (λ (l : List Beat). and_then m (drive d x (after d (words_of i) s) l k rest)) gone
           ∙ ap (λ (j : ℕ). and_then m (drive d x (after d (words_of i) s) (left_after m left) j rest)) (owed_is m owed ended (takes_out left x) (e ∙ ap (λ (o : Outputs). o.out_valid && o.out_last) show))
+
+-- 1 for true, as a cast has it
+pub number_is : (k : ℕ) (b : Bool) → k ≡ from_bool b → k ≡ number_of b
+number_is k true e = e
+number_is k false e = e
+
+-- ---- the ends, as the loop finds them
+pub record StopsAs (d : Plan) (whole : Drive) (before : List Reply) (n : ℕ) (first s : Stored) (answers : List Reply) (owed reloads clocks : ℕ) (net : Net) : Type 0 where
+  pub wire : ℕ
+  pub ends : EndsAs d whole before n first s answers owed reloads clocks (Stopped wire)
+  pub is : net ≡ Wire wire
+
+module _ (d : Plan) (x : ℕ) (whole : Drive) (before : List Reply) (n : ℕ) (first s : Stored) (left : List Beat) (begun : List ℕ) (answers : List Reply) (owed reloads clocks rest : ℕ) (h : Driven d x whole before n first s left begun answers owed reloads clocks rest) where
+  pub driven_done : owed ≡ 0 → EndsAs d whole before n first s answers owed reloads clocks Answered
+  driven_done z = driven_end d x whole before n first s left begun answers owed reloads clocks rest Answered h (ap (λ k. drive d x s left k rest) z ∙ done_drive d x s left rest)
+
+  pub driven_late : (owed ≡ 0 → ⊥) → rest ≡ 0 → EndsAs d whole before n first s answers owed reloads clocks OutOfClocks
+  driven_late some z =
+      let k : owed ≡ suc (owed - 1) = omega arith in
+      driven_end d x whole before n first s left begun answers owed reloads clocks rest OutOfClocks h (ap (λ j. drive d x s left j rest) k ∙ ap (λ j. drive d x s left (suc (owed - 1)) j) z ∙ late_drive d x s left (owed - 1))
+
+  pub driven_stopped : (owed ≡ 0 → ⊥) → 0 < rest → (net : Net) → stopped_net d (words_of (drive_inputs x left)) s ≡ Some net → StopsAs d whole before n first s answers owed reloads clocks net
+  driven_stopped some more net stop = by_stop (stopping d (words_of (drive_inputs x left)) s) refl stop
+    where
+      none_some : (y : Net) → None ≡ Some y → ⊥
+      none_some y e = cc
+
+      some_inj : (a b : Net) → Some a ≡ Some b → b ≡ a
+      some_inj a b e = cc
+
+      by_stop : (o : Option ℕ) → stopping d (words_of (drive_inputs x left)) s ≡ o → option_map Wire o ≡ Some net → StopsAs d whole before n first s answers owed reloads clocks net
+      by_stop None e f = absurd (none_some net f)
+      by_stop (Some w) e f =
+          let k : owed ≡ suc (owed - 1) = omega arith in
+          let j : rest ≡ suc (rest - 1) = omega arith in
+          record {
+            wire = w;
+            ends = driven_end d x whole before n first s left begun answers owed reloads clocks rest (Stopped w) h (ap (λ i. drive d x s left i rest) k ∙ ap (λ i. drive d x s left (suc (owed - 1)) i) j ∙ stopped_drive d x s left (owed - 1) (rest - 1) w e);
+            is = some_inj (Wire w) net f;
+          }
+
+  pub driven_front : GivesFirst before answers (replies [] whole.moments)
+  driven_front = record {
+    some = h.more;
+    rest = replies begun (drive d x s left owed rest).moments;
+    given = h.added;
+    first = append_cancel_left before _ _ (sym (append_assoc before h.more (replies begun (drive d x s left owed rest).moments)) ∙ ap (λ l. l ++ replies begun (drive d x s left owed rest).moments) (sym h.added) ∙ h.given);
+  }
+
+  pub driven_on : (rest' : ℕ) (s' : Stored) (shown : Outputs) (begun' : List ℕ) (answers' : List Reply) (left' : List Beat) (ended : Bool) → (owed ≡ 0 → ⊥) → rest ≡ suc rest'
+      → stopping d (words_of (drive_inputs x left)) s ≡ None → shown ≡ outputs_of d (drive_inputs x left) s → s' ≡ after d (words_of (drive_inputs x left)) s → left' ≡ left_after (moment_of d s (drive_inputs x left)) left
+      → TakesBeat shown begun answers begun' answers' → ended ≡ (shown.out_valid && shown.out_last)
+      → Driven d x whole before n first s' left' begun' answers' (owed - number_of ended) (reloads + number_of shown.out_reload) (clocks + 1) rest'
+  driven_on rest' s' shown begun' answers' left' ended some r stop show go gone takes e =
+      let k : owed ≡ suc (owed - 1) = omega arith in
+      let at : Driven d x whole before n first s left begun answers (suc (owed - 1)) reloads clocks (suc rest') = subst (λ j. Driven d x whole before n first s left begun answers (suc (owed - 1)) reloads clocks j) r (subst (λ j. Driven d x whole before n first s left begun answers j reloads clocks rest) k h) in
+      subst (λ j. Driven d x whole before n first s' left' begun' answers' (j - number_of ended) (reloads + number_of shown.out_reload) (clocks + 1) rest') (sym k) (driven_next d x whole before n first s left begun answers (owed - 1) reloads clocks rest' s' shown begun' answers' left' ended at stop show go gone takes e)
