@@ -54,9 +54,10 @@ pub fn drive(
         });
     }
     let given = frames.len() - owed;
-    Err(DriveError::Late {
+    let late = DriveError::Late {
         answers: given as u64,
         frames: frames.len() as u64,
         clocks: limit,
-    })
+    };
+    Err(late)
 }
