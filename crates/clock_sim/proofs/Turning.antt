@@ -1,6 +1,6 @@
 -- One clock of a ready simulator.
 use Rattle.std.specs.Prelude.{option_map}
-use Rattle.std.proofs.Common.{◌≡◌, ℕ, ◌≤◌, List, [], Ok, Some, None, length, sym, ap, subst, arith}
+use Rattle.std.proofs.Common.{◌≡◌, ℕ, Result, refl, ◌≤◌, List, [], Ok, Some, None, length, sym, ap, subst, arith}
 use Rattle.net_core.specs.declared.tree.Word.{Word}
 use Rattle.net_core.specs.declared.tree.Net.TheVariants.{Wire}
 use Rattle.net_core.specs.declared.ports.Inputs.{Inputs}
@@ -44,3 +44,10 @@ clock_goes d ins s t stop is = rw stop (ap Ok is)
 
 pub net_stops : (d : Plan) (ins : List Word) (s : Stored) (w : ℕ) → Some w ≡ stopping d ins s → stopped_net d ins s ≡ Some (Wire w)
 net_stops d ins s w is = ap (option_map Wire) (sym is)
+
+same_ok : (o : Result Stored ℕ) (x y : Stored) → o ≡ Ok x → o ≡ Ok y → x ≡ y
+same_ok o x y e f = cc
+
+-- what a clock that goes leaves, for callers of the simulator
+pub clock_leaves : (d : Plan) (ins : List Word) (s t : Stored) → stopping d ins s ≡ None → clock d ins s ≡ Ok t → t ≡ after d ins s
+clock_leaves d ins s t stop is = same_ok (clock d ins s) t (after d ins s) is (clock_goes d ins s (after d ins s) stop refl)

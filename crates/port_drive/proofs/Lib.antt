@@ -1,0 +1,4 @@
+pub mod Giving
+pub mod Leaving
+pub mod Turning
+pub mod Typing

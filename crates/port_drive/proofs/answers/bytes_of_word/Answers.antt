@@ -1,0 +1,6 @@
+use Rattle.std.proofs.Common.{◌∙◌, rules}
+use Rattle.beat_core.proofs.Words.{written_bytes}
+use Rattle.port_drive.proofs.answers.bytes_of_word.Goals as goal
+
+pub returns : goal.returns
+returns c = c.write_u64.ensures ∙ written_bytes 8 c.args.word (search rules)

@@ -1,0 +1,11 @@
+use Rattle.std.proofs.Common.{◌≡◌, drop, ap, ◌∙◌, sym, subst, false}
+use Rattle.std.specs.Prelude.{is_some}
+use Rattle.port_drive.specs.Offering.{IsAhead, left_of}
+use Rattle.port_drive.proofs.Leaving.{take_last}
+use Rattle.port_drive.proofs.left.Left.take.Goals as goal
+
+pub returns-then-is_none : goal.returns-then-is_none
+returns-then-is_none c =
+    let ahead = rw c.in-Some.is at c.self.invariant in
+    let whole = rw c.in-Some.is at c.self.view_is in
+    c.begin-current.ensures.left ∙ take_last _ _ _ _ ahead c.clock.ensures.left c.clock-2.ensures.shown c.if-is_none.ensures ∙ ap (λ l. drop 1 l) whole

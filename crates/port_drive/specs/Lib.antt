@@ -1,0 +1,4 @@
+pub mod Answering
+pub mod Offering
+pub mod Reports
+pub mod Examples

@@ -1,0 +1,108 @@
+//! The answers of a drive.
+
+ghost use Rattle.std.specs.Prelude.{◌≡◌, ◌<◌, ◌++◌, ◌∷◌, ◌==◌, ◌&&◌, [], Some, length, slice_get, IfOk, OnOk, OnErr};
+ghost use Rattle.beat_core.specs.Words.{low_bytes};
+ghost use Rattle.port_drive.specs.Answering.{reply_of, TakesBeat};
+
+use beat_core::{Answer, Bytes};
+use byteorder::{ByteOrder, LittleEndian};
+use net_core::ports::Outputs;
+use std::alloc::{AllocError, Global};
+use std::marker::Model;
+
+/// Answers in the order in which they were given. Contracts see the list of them.
+#[derive(Debug, Drop)]
+pub struct Answers {
+    items: Vec<Answer>,
+}
+
+impl Model for Answers {
+    ghost use Rattle.std.specs.Prelude.{List, map};
+    ghost use Rattle.net_core.specs.History.{Reply};
+    ghost use Rattle.port_drive.specs.Answering.{reply_of};
+
+    ghost Value = { List Reply };
+
+    ghost view = { λ a. map reply_of a.items.items };
+}
+
+impl Answers {
+    /// No answers. It takes no memory.
+    pub fn new(alloc: Global) -> Answers
+        ensures { result ≡ [] }
+    {
+        Answers {
+            items: Vec::new(alloc),
+        }
+    }
+
+    /// How many there are.
+    pub fn len(&self) -> usize
+        ensures { result ≡ length self.now }
+    {
+        self.items.len()
+    }
+
+    /// Whether there are none.
+    pub fn is_empty(&self) -> bool
+        ensures { result ≡ (length self.now == 0) }
+    {
+        self.items.is_empty()
+    }
+
+    /// The answer at a place, from 0 on.
+    pub fn get(&self, i: usize) -> &Answer
+        requires { i < length self.now }
+        ensures { slice_get self.now i ≡ Some (reply_of result.now) }
+    {
+        &self.items[i]
+    }
+
+    // One more answer. An `Err` changes nothing.
+    fn add(&mut self, answer: Answer) -> Result<(), AllocError>
+        ensures ok { OnOk result (self.new ≡ self.old ++ reply_of answer ∷ []) }
+        ensures err { OnErr result (self.new ≡ self.old) }
+    {
+        self.items.push(answer)?;
+        Ok(())
+    }
+}
+
+/// Takes what the outputs show in a clock that takes it: a beat of the answer that has begun, or nothing. It says
+/// whether the answer has ended. An `Err` leaves the answers as they were.
+pub(crate) fn take_shown(
+    alloc: Global,
+    shown: &Outputs,
+    begun: &mut Bytes,
+    answers: &mut Answers,
+) -> Result<bool, AllocError>
+    ensures ended { IfOk result (λ ended. ended ≡ (shown.now.out_valid && shown.now.out_last)) }
+    ensures ok { OnOk result (TakesBeat shown.now begun.old answers.old begun.new answers.new) }
+    ensures err { OnErr result (answers.new ≡ answers.old) }
+{
+    if !shown.out_valid {
+        return Ok(false);
+    }
+    let word = bytes_of_word(shown.out_data);
+    let count = (shown.out_bytes as usize).min(8);
+    begun.append(&word[..count])?;
+    if !shown.out_last {
+        return Ok(false);
+    }
+    let frame = std::mem::replace(begun, Bytes::new(alloc));
+    answers.add(Answer {
+        verdict: shown.out_verdict,
+        target: shown.out_target,
+        frame,
+    })?;
+    Ok(true)
+}
+
+// The bytes of a word, the lowest first.
+fn bytes_of_word(word: u64) -> [u8; 8]
+    ensures { result ≡ low_bytes 8 word }
+{
+    let mut bytes = [0; 8];
+    LittleEndian::write_u64(&mut bytes, word);
+    bytes
+}

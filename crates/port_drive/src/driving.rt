@@ -1,0 +1,63 @@
+//! The full drive of a design.
+
+ghost use Rattle.std.specs.Prelude.{◌≡◌, [], length};
+ghost use Rattle.net_core.specs.History.{replies};
+ghost use Rattle.port_drive.specs.Reports.{full_drive, Reports, Gives, Leaves};
+
+use crate::advance::advance;
+use crate::answers::{Answers, take_shown};
+use crate::left::Left;
+use crate::report::{Drive, DriveError};
+use beat_core::{Bytes, Frame, Meta};
+use clock_sim::Sim;
+use std::alloc::Global;
+
+/// Drives a design by these frames, in at most `limit` clocks. At each clock the next beat is offered while one is
+/// left, a last word filled up with zeros; what is shown is taken, and the host is silent. The drive ends with the clock
+/// that takes the last beat of as many answers as there are frames, even where beats are left to offer. What was given is
+/// added to the answers, after an error too.
+pub fn drive(
+    alloc: Global,
+    sim: &mut Sim,
+    frames: &[Frame],
+    meta: Meta,
+    limit: u64,
+    answers: &mut Answers,
+) -> Result<Drive, DriveError>
+    ensures plan { sim.new.plan ≡ sim.old.plan }
+    ensures reports { Reports (full_drive sim.old.plan meta.ifindex sim.old.stored frames.now limit) (length frames.now) result }
+    ensures answers { Gives result answers.old answers.new (replies [] (full_drive sim.old.plan meta.ifindex sim.old.stored frames.now limit).moments) }
+    ensures stored { Leaves result sim.old.plan sim.old.stored (full_drive sim.old.plan meta.ifindex sim.old.stored frames.now limit).moments sim.new.stored }
+{
+    let mut left = Left::new(frames);
+    let mut begun = Bytes::new(alloc);
+    let mut owed = frames.len();
+    let mut reloads = 0;
+    for clocks in 0..limit {
+        if owed == 0 {
+            return Ok(Drive { clocks, reloads });
+        }
+        let shown = match advance(sim, &mut left, meta.ifindex) {
+            Ok(shown) => shown,
+            Err(x) => return Err(DriveError::X(x)),
+        };
+        reloads += u64::from(shown.out_reload);
+        let Ok(ended) = take_shown(alloc, &shown, &mut begun, answers) else {
+            return Err(DriveError::NoMemory);
+        };
+        owed -= usize::from(ended);
+    }
+    if owed == 0 {
+        return Ok(Drive {
+            clocks: limit,
+            reloads,
+        });
+    }
+    let given = frames.len() - owed;
+    let late = DriveError::Late {
+        answers: given as u64,
+        frames: frames.len() as u64,
+        clocks: limit,
+    };
+    Err(late)
+}
