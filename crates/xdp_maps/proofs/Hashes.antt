@@ -16,7 +16,7 @@ use Rattle.xdp_maps.proofs.Entries.{find_at, find_gap, put_at, put_gap, rising-r
 to_T : (b : Bool) → IsTrue b → T b
 to_T b h = subst T (sym h) tt
 
-from_T : (b : Bool) → T b → IsTrue b
+pub from_T : (b : Bool) → T b → IsTrue b
 from_T true h = refl
 from_T false h = absurd h
 
