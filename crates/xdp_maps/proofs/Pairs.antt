@@ -1,5 +1,5 @@
 -- The numbered pairs of a map are those that lookups find.
-use Rattle.std.proofs.Common.{◌≡◌, ℕ, zero, suc, ◌<◌, Bool, true, false, cond, List, [], ◌∷◌, length, get_or, Option, Some, None, IsTrue, slice_get, is_some, refl, sym, ap, subst, ◌∙◌, arith}
+use Rattle.std.proofs.Common.{◌≡◌, ℕ, zero, suc, ◌<◌, true, false, cond, List, [], ◌∷◌, length, get_or, Option, Some, None, slice_get, refl, sym, ap, subst, ◌∙◌, arith}
 use Rattle.std.specs.declared.cmp.Ordering.{Ordering}
 use Rattle.std.specs.Ordering.{nat_cmp, eq_by_cmp}
 use Rattle.std.specs.Cmp.{IsTotalOrder}
@@ -11,8 +11,8 @@ use Rattle.std.proofs.lemmas.Option.{get_or_from_slice_get}
 use Rattle.xdp_maps.specs.declared.decl.MapKind.{MapKind}
 use Rattle.xdp_maps.specs.declared.decl.MapKind.TheVariants.{Hash, Array}
 use Rattle.xdp_maps.specs.declared.decl.MapDecl.{MapDecl}
-use Rattle.xdp_maps.specs.Contents.{Contents, IsBytes, IsOver, IsWithinLimits, limits_as, index_key, index_of}
-use Rattle.xdp_maps.specs.Calls.{entry_as, entry_of}
+use Rattle.xdp_maps.specs.Contents.{Contents, IsBytes, limits_as, index_key, index_of}
+use Rattle.xdp_maps.specs.Calls.{entry_as}
 use Rattle.xdp_maps.specs.Layout.{IsRising, IsAt}
 use Rattle.xdp_maps.proofs.Entries.{eq_equal, find_at}
 use Rattle.xdp_maps.proofs.Hashes.{order_total, order_exact, from_T}
@@ -38,11 +38,14 @@ module _ {K X : Type 0} (order : K → K → Ordering) (total : IsTotalOrder ord
   pair_among [] k v h = cc
   pair_among (e ∷ es) k v h =
       elim (eq_by_cmp order k e.0) as (λ b. eq_by_cmp order k e.0 ≡ b → cond b (Some e.1) (find order k es) ≡ Some v → (i : ℕ) × (slice_get (e ∷ es) i ≡ Some (k, v))) [
-        | true ↦ λ tie is. (0, (
-          let pair : K → X → K × X = λ a b. (a, b) in
-          let key : k ≡ e.0 = exact k e.0 (eq_equal _ tie) in
-          let value : e.1 ≡ v = cc in
-          ap (λ (x : X). Some (pair e.0 x)) value ∙ ap (λ (q : K). Some (pair q v)) (sym key)))
+        | true ↦ λ tie is. (
+          0,
+          (
+              let pair : K → X → K × X = λ a b. (a, b) in
+              let key : k ≡ e.0 = exact k e.0 (eq_equal _ tie) in
+              let value : e.1 ≡ v = cc in
+              ap (λ (x : X). Some (pair e.0 x)) value ∙ ap (λ (q : K). Some (pair q v)) (sym key)),
+        )
         | false ↦ λ _ later. (let rest = pair_among es k v later in (suc rest.0, rest.1))
       ] refl h
 

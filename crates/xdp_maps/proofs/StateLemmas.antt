@@ -1,8 +1,8 @@
 -- The maps in memory, one of them changed.
-use Rattle.std.proofs.Common.{◌≡◌, ◌≢◌, ℕ, suc, ◌+◌, ◌-◌, ◌<◌, ◌≤◌, List, [], ◌∷◌, ◌++◌, length, get_or, set, take, map, ◌⊎◌, inl, inr, refl, sym, ap, subst, ◌∙◌, arith, length-set, length-append, get_or-set_same, get_or-set_other}
+use Rattle.std.proofs.Common.{◌≡◌, ◌≢◌, ℕ, suc, ◌+◌, ◌<◌, List, [], ◌∷◌, ◌++◌, length, get_or, set, take, map, ◌⊎◌, inl, inr, refl, sym, ap, subst, ◌∙◌, arith, length-set, length-append, get_or-set_same, get_or-set_other}
 use Rattle.std.proofs.Math.ListN.{get_or-map, get_or-append}
 use Rattle.std.proofs.Math.Seq.{get_or-append_seam}
-use Rattle.std.proofs.lemmas.List.{map-set, get_or_default, get_or-take, length-take-le, take_more, take_more_set}
+use Rattle.std.proofs.lemmas.List.{map-set, get_or_default, take_more, take_more_set}
 use Rattle.std.proofs.lemmas.Bool.{cases_lt}
 use Rattle.std.specs.FinMap as finite
 use Rattle.xdp_maps.specs.declared.decl.MapDecl.{MapDecl}

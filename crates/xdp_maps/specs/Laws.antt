@@ -1,9 +1,9 @@
 -- What users of a map rely on, whatever it holds.
-use Rattle.std.specs.Prelude.{ℕ, ℤ, pos, ◌≡◌, ◌≢◌, ◌+◌, ◌<◌, ◌≤◌, ◌^◌, List, length, Option, Some, None, All, IsTrue}
+use Rattle.std.specs.Prelude.{ℕ, pos, ◌≡◌, ◌≢◌, ◌+◌, ◌<◌, ◌≤◌, ◌^◌, List, length, Some, None, All}
 use Rattle.std.specs.Option.{option_map}
 use Rattle.xdp_maps.specs.declared.change.Change.{Change}
 use Rattle.xdp_maps.specs.declared.decl.MapDecl.{MapDecl}
-use Rattle.xdp_maps.specs.Contents.{Contents, IsBytes, IsOver, IsWithinLimits, TakesKey, opened, index_key, index_of}
+use Rattle.xdp_maps.specs.Contents.{Contents, IsBytes, IsOver, IsWithinLimits, opened, index_key, index_of}
 use Rattle.xdp_maps.specs.Calls.{lookup_of, update_number, updated, delete_number, deleted, stored, changed, change_bytes, with_value, entry_of}
 
 -- An update that answers 0 leaves its value under its key, and under every other key what was there; one

@@ -17,14 +17,12 @@ pub fn delete_laws()
 /// A store and an atomic change touch the value under their key alone.
 pub fn entry_laws()
     ensures { (c : Contents) (key : List ℕ) (f : List ℕ → List ℕ) → EntryLaws c key f }
-{
-}
+{}
 
 /// The numbered pairs are those that lookups find.
 pub fn pair_laws()
     ensures { (d : MapDecl) (c : Contents) → PairLaws d c }
-{
-}
+{}
 
 /// A hash never holds more keys than its capacity, and an array always its indexes.
 pub fn keeps_over()
