@@ -1,7 +1,7 @@
 -- The contents of an array, by its values.
-use Rattle.std.proofs.Common.{◌≡◌, ℕ, zero, suc, ◌+◌, ◌-◌, ◌*◌, ◌<◌, ◌≤◌, ◌^◌, ◌%◌, Bool, true, false, cond, List, [], ◌∷◌, ◌++◌, length, get_or, set, Option, Some, None, IsTrue, slice_get, Fits, w8, refl, sym, ap, subst, ◌∙◌, arith}
+use Rattle.std.proofs.Common.{◌≡◌, ℕ, zero, suc, ◌+◌, ◌<◌, ◌≤◌, ◌^◌, Bool, true, false, cond, List, [], ◌∷◌, length, get_or, set, Some, None, IsTrue, slice_get, Fits, w8, refl, sym, ap, subst, ◌∙◌, arith}
 use Rattle.std.specs.declared.cmp.Ordering.{Ordering}
-use Rattle.std.specs.declared.cmp.Ordering.TheVariants.{Less, Equal, Greater}
+use Rattle.std.specs.declared.cmp.Ordering.TheVariants.{Equal}
 use Rattle.std.specs.Int.{w32, from_le_bytes}
 use Rattle.std.specs.Ordering.{nat_cmp, eq_by_cmp, is_eq}
 use Rattle.std.specs.Cmp.{IsTotalOrder, tied_itself}
@@ -11,7 +11,7 @@ use Rattle.std.specs.FinMap.{IsAntisymmetric, find, get-from_entries, get-insert
 use Rattle.std.proofs.lemmas.Nat.{le_bytes_4}
 use Rattle.std.proofs.lemmas.Option.{slice_get-get_or}
 use Rattle.byteorder.specs.Numbers.{little_number-reads_back, little_from-lt}
-use Rattle.xdp_maps.specs.Contents.{Contents, index_key, index_of, indexed, array_of}
+use Rattle.xdp_maps.specs.Contents.{index_key, index_of, indexed, array_of}
 use Rattle.xdp_maps.proofs.Entries.{swapped, eq_equal}
 use Rattle.xdp_maps.proofs.Hashes.{order_total, order_exact}
 

@@ -1,5 +1,5 @@
 -- Lists of pairs whose keys rise: what an edit at the place of a key does.
-use Rattle.std.proofs.Common.{◌≡◌, ℕ, zero, suc, ◌+◌, ◌<◌, ◌≤◌, Bool, true, false, cond, ◌&&◌, List, [], ◌∷◌, length, get_or, set, Option, Some, None, Result, Ok, Err, IfOk, IfErr, IsTrue, refl, sym, ap, subst, ◌∙◌, arith}
+use Rattle.std.proofs.Common.{◌≡◌, ℕ, zero, suc, ◌+◌, ◌<◌, Bool, true, false, cond, ◌&&◌, List, [], ◌∷◌, length, get_or, set, Some, None, Result, Ok, Err, IfOk, IfErr, IsTrue, refl, sym, ap, subst, ◌∙◌, arith}
 use Rattle.std.specs.declared.cmp.Ordering.{Ordering}
 use Rattle.std.specs.declared.cmp.Ordering.TheVariants.{Less, Equal, Greater}
 use Rattle.std.specs.List.{insert, remove}
@@ -20,6 +20,9 @@ pub eq_equal : (r : Ordering) → IsTrue (is_eq r) → r ≡ Equal
 eq_equal Less h = cc
 eq_equal Equal h = refl
 eq_equal Greater h = cc
+
+equal_not_greater : Equal ≡ Greater → ⊥
+equal_not_greater h = cc
 
 left_of : (a b : Bool) → IsTrue (a && b) → IsTrue a
 left_of true b h = refl
@@ -141,6 +144,13 @@ module _ {K X : Type 0} (order : K → K → Ordering) (total : IsTotalOrder ord
   rising-remove (e ∷ es) zero h = right_of _ _ h
   rising-remove (e ∷ es) (suc i) h = both _ _ (below_remove e.0 es i (left_of _ _ h)) (rising-remove es i (right_of _ _ h))
 
+  -- no key ties with the first and with one further on
+  apart_of : (e : K × X) (es : List (K × X)) → IsRising order (e ∷ es) → (key : K) (i : ℕ) → IsAt (e ∷ es) key (suc i) → (q : K) → IsTrue (eq_by_cmp order q e.0) → IsTrue (eq_by_cmp order q key) → ⊥
+  apart_of e es h key i at q a b =
+      let same : key ≡ e.0 = sym (exact q key (eq_equal _ b)) ∙ exact q e.0 (eq_equal _ a) in
+      let above : order e.0 e.0 ≡ Greater = subst (λ k. order k e.0 ≡ Greater) same (above_first e es h key i at) in
+      equal_not_greater (sym (tied_itself total e.0) ∙ above)
+
   -- it is not found any more, and the others are
   pub find-remove : (es : List (K × X)) (key : K) (i : ℕ) → IsRising order es → IsAt es key i → (q : K) → find order q (remove es i) ≡ cond (eq_by_cmp order q key) None (find order q es)
   find-remove [] key i h at q = absurd (omega (arith, at.in_range))
@@ -152,9 +162,5 @@ module _ {K X : Type 0} (order : K → K → Ordering) (total : IsTotalOrder ord
       ] refl)
   find-remove (e ∷ es) key (suc i) h at q =
       let rest : find order q (remove es i) ≡ cond (eq_by_cmp order q key) None (find order q es) = find-remove es key i (right_of _ _ h) (at_tail e es key i at) q in
-      let apart : IsTrue (eq_by_cmp order q e.0) → IsTrue (eq_by_cmp order q key) → ⊥ = λ a b.
-      let same : key ≡ e.0 = sym (exact q key (eq_equal _ b)) ∙ exact q e.0 (eq_equal _ a) in
-      let above : order e.0 e.0 ≡ Greater = subst (λ k. order k e.0 ≡ Greater) same (above_first e es h key i at) in
-      let clash : Equal ≡ Greater = sym (tied_itself total e.0) ∙ above in
-      cc in
-      ap (cond (eq_by_cmp order q e.0) (Some e.1)) rest ∙ swapped (eq_by_cmp order q e.0) (eq_by_cmp order q key) (Some e.1) None (find order q es) apart
+      ap (cond (eq_by_cmp order q e.0) (Some e.1)) rest
+      ∙ swapped (eq_by_cmp order q e.0) (eq_by_cmp order q key) (Some e.1) None (find order q es) (apart_of e es h key i at q)

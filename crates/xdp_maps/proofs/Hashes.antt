@@ -1,9 +1,9 @@
 -- The finite map of a list of pairs whose keys rise, and of the list after an edit.
-use Rattle.std.proofs.Common.{◌≡◌, ℕ, ◌+◌, ◌<◌, Bool, true, false, cond, List, [], ◌∷◌, arith, length, get_or, set, Option, Some, None, Result, Ok, Err, IfOk, IfErr, IsTrue, T, refl, sym, ap, subst, ◌∙◌}
+use Rattle.std.proofs.Common.{◌≡◌, ℕ, ◌<◌, Bool, true, false, cond, List, [], ◌∷◌, arith, length, get_or, set, Some, None, Result, Ok, Err, IfOk, IfErr, IsTrue, T, refl, sym, ap, subst, ◌∙◌}
 use Rattle.std.specs.declared.cmp.Ordering.{Ordering}
 use Rattle.std.specs.Option.{is_some}
 use Rattle.std.specs.Result.{is_ok}
-use Rattle.std.specs.List.{insert, remove}
+use Rattle.std.specs.List.{remove}
 use Rattle.std.specs.Ordering.{nat_cmp, eq_by_cmp}
 use Rattle.std.specs.Cmp.{IsTotalOrder}
 use Rattle.std.specs.Cmp.Lexicographic.{slice_cmp, nat_list_cmp_total}
@@ -11,12 +11,12 @@ use Rattle.std.specs.FinMap as map
 use Rattle.std.specs.FinMap.{empty_of_len, IsAntisymmetric, find, put, same_entries_map, same_map, entries-from_sorted, entries-insert, entries_sorted, get-from_sorted, get-remove, len-entries, nat_cmp-IsAntisymmetric, slice_cmp-IsAntisymmetric}
 use Rattle.std.proofs.lemmas.List.{get_or_default}
 use Rattle.xdp_maps.specs.Layout.{IsRising, IsAt, IsGapFor}
-use Rattle.xdp_maps.proofs.Entries.{find_at, find_gap, put_at, put_gap, rising-remove, find-remove}
+use Rattle.xdp_maps.proofs.Entries.{find_at, find_gap, put_at, rising-remove, find-remove}
 
 to_T : (b : Bool) → IsTrue b → T b
 to_T b h = subst T (sym h) tt
 
-from_T : (b : Bool) → T b → IsTrue b
+pub from_T : (b : Bool) → T b → IsTrue b
 from_T true h = refl
 from_T false h = absurd h
 

@@ -6,4 +6,5 @@ pub mod Keys
 pub mod Over
 pub mod Opened
 pub mod TableLemmas
+pub mod Pairs
 pub mod StateLemmas

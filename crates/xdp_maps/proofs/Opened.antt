@@ -1,5 +1,5 @@
 -- What a map holds at the start.
-use Rattle.std.proofs.Common.{◌≡◌, ℕ, zero, suc, ◌+◌, ◌<◌, ◌≤◌, ◌^◌, Bool, true, false, cond, List, [], ◌∷◌, length, replicate, get_or, All, Option, Some, None, IsTrue, IfSome, is_some, refl, sym, ap, subst, ◌∙◌, arith}
+use Rattle.std.proofs.Common.{◌≡◌, ℕ, zero, suc, ◌+◌, ◌<◌, ◌≤◌, ◌^◌, true, false, cond, List, [], ◌∷◌, length, replicate, get_or, All, Some, None, IsTrue, IfSome, is_some, refl, sym, ap, subst, ◌∙◌, arith}
 use Rattle.std.specs.declared.cmp.Ordering.{Ordering}
 use Rattle.std.specs.Ordering.{nat_cmp, eq_by_cmp}
 use Rattle.std.specs.Cmp.Lexicographic.{slice_cmp}
@@ -10,7 +10,7 @@ use Rattle.std.proofs.lemmas.List.{length-replicate}
 use Rattle.xdp_maps.specs.declared.decl.MapKind.{MapKind}
 use Rattle.xdp_maps.specs.declared.decl.MapKind.TheVariants.{Hash, Array}
 use Rattle.xdp_maps.specs.declared.decl.MapDecl.{MapDecl}
-use Rattle.xdp_maps.specs.Contents.{Contents, IsBytes, IsOver, IsFilled_as, IsWithinLimits, TakesKey, TakesKey_as, limits_as, index_key, index_of, indexed, array_of, opened, opened_as}
+use Rattle.xdp_maps.specs.Contents.{IsBytes, IsOver, IsFilled_as, IsWithinLimits, TakesKey, TakesKey_as, limits_as, index_key, index_of, indexed, array_of, opened, opened_as}
 use Rattle.xdp_maps.proofs.Entries.{eq_equal}
 use Rattle.xdp_maps.proofs.Hashes.{order_total, order_exact}
 use Rattle.xdp_maps.proofs.Arrays.{get_inside, index_of-index_key}

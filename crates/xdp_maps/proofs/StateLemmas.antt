@@ -1,8 +1,8 @@
 -- The maps in memory, one of them changed.
-use Rattle.std.proofs.Common.{◌≡◌, ◌≢◌, ℕ, suc, ◌+◌, ◌-◌, ◌<◌, ◌≤◌, List, [], ◌∷◌, ◌++◌, length, get_or, set, take, map, ◌⊎◌, inl, inr, refl, sym, ap, subst, ◌∙◌, arith, length-set, length-append, get_or-set_same, get_or-set_other}
+use Rattle.std.proofs.Common.{◌≡◌, ◌≢◌, ℕ, suc, ◌+◌, ◌<◌, List, [], ◌∷◌, ◌++◌, length, get_or, set, take, map, ◌⊎◌, inl, inr, refl, sym, ap, subst, ◌∙◌, arith, length-set, length-append, get_or-set_same, get_or-set_other}
 use Rattle.std.proofs.Math.ListN.{get_or-map, get_or-append}
 use Rattle.std.proofs.Math.Seq.{get_or-append_seam}
-use Rattle.std.proofs.lemmas.List.{map-set, get_or_default, get_or-take, length-take-le, take_more, take_more_set}
+use Rattle.std.proofs.lemmas.List.{map-set, get_or_default, take_more, take_more_set}
 use Rattle.std.proofs.lemmas.Bool.{cases_lt}
 use Rattle.std.specs.FinMap as finite
 use Rattle.xdp_maps.specs.declared.decl.MapDecl.{MapDecl}
@@ -35,9 +35,9 @@ tables_set ds ts m d t are lt d_is new = record {
   beside = length-set ts m t ∙ are.beside;
   each = λ j e u within. elim (equal_or_not j m) [
     | inl same ↦
-      let at_m : IsTable (get_or ds m e) t = subst (λ x. IsTable x t) (d_is ∙ get_or_default ds m d e lt) new in
-      let in_range : m < length ts = omega (arith, are.beside) in
-      subst (λ i. IsTable (get_or ds i e) (get_or (set ts m t) i u)) (sym same) (subst (IsTable (get_or ds m e)) (sym (get_or-set_same ts m t u in_range)) at_m)
+        let at_m : IsTable (get_or ds m e) t = subst (λ x. IsTable x t) (d_is ∙ get_or_default ds m d e lt) new in
+        let in_range : m < length ts = omega (arith, are.beside) in
+        subst (λ i. IsTable (get_or ds i e) (get_or (set ts m t) i u)) (sym same) (subst (IsTable (get_or ds m e)) (sym (get_or-set_same ts m t u in_range)) at_m)
     | inr differ ↦ subst (IsTable (get_or ds j e)) (sym (get_or-set_other ts m j t u differ)) (are.each j e u within)
   ];
 }
@@ -56,18 +56,19 @@ seen_set ds ts s m d t new f view are lt d_is t_is is =
 -- each map holds what its declaration allows
 pub sound_seen : (ds : List MapDecl) (ts : List Table) (s : MapState) → seen ds ts ≡ s → AreTables ds ts → IsSound s
 sound_seen ds ts s view are = subst IsSound view (record {
-      beside = count ts ∙ are.beside;
-      limits = λ m lt. (are.each m no_decl (some_table ds ts m are lt) lt).limits;
-      over = λ m lt.
-        let t = some_table ds ts m are lt in
-        let few : m < length (map contents_of ts) = omega (arith, are.beside, count ts) in
-        let contents : contents_at (seen ds ts) m ≡ contents_of (get_or ts m t) = get_or_default (map contents_of ts) m finite.empty (contents_of t) few ∙ get_or-map contents_of ts m t in
-        subst (IsOver (get_or ds m no_decl)) (sym contents) (are.each m no_decl t lt).over;
-    })
+  beside = count ts ∙ are.beside;
+  limits = λ m lt. (are.each m no_decl (some_table ds ts m are lt) lt).limits;
+  over = λ m lt.
+      let t = some_table ds ts m are lt in
+      let few : m < length (map contents_of ts) = omega (arith, are.beside, count ts) in
+      let contents : contents_at (seen ds ts) m ≡ contents_of (get_or ts m t) = get_or_default (map contents_of ts) m finite.empty (contents_of t) few ∙ get_or-map contents_of ts m t in
+      subst (IsOver (get_or ds m no_decl)) (sym contents) (are.each m no_decl t lt).over;
+})
   where
     first : (ts : List Table) (m : ℕ) → m < length ts → Table
     first [] m lt = absurd (omega arith)
     first (t ∷ ts) m lt = t
+
     some_table : (ds : List MapDecl) (ts : List Table) (m : ℕ) → AreTables ds ts → m < length ds → Table
     some_table ds ts m are lt = first ts m (omega (arith, are.beside))
 
@@ -77,15 +78,15 @@ tables_push ds ts d t are new = record {
   beside = omega (arith, are.beside, length-append ds (d ∷ []), length-append ts (t ∷ []));
   each = λ m e u within. elim (cases_lt m (length ds)) [
     | inl lt ↦
-      let d_is = get_or-append ds (d ∷ []) e m lt in
-      let t_is = get_or-append ts (t ∷ []) u m (omega (arith, are.beside)) in
-      subst (λ x. IsTable x (get_or (ts ++ t ∷ []) m u)) (sym d_is) (subst (IsTable (get_or ds m e)) (sym t_is) (are.each m e u lt))
+        let d_is = get_or-append ds (d ∷ []) e m lt in
+        let t_is = get_or-append ts (t ∷ []) u m (omega (arith, are.beside)) in
+        subst (λ x. IsTable x (get_or (ts ++ t ∷ []) m u)) (sym d_is) (subst (IsTable (get_or ds m e)) (sym t_is) (are.each m e u lt))
     | inr le ↦
-      let last : m ≡ length ds = omega (arith, length-append ds (d ∷ [])) in
-      let last_table : m ≡ length ts = omega (arith, are.beside) in
-      let d_is : get_or (ds ++ d ∷ []) m e ≡ d = subst (λ i. get_or (ds ++ d ∷ []) i e ≡ d) (sym last) (get_or-append_seam ds d [] e) in
-      let t_is : get_or (ts ++ t ∷ []) m u ≡ t = subst (λ i. get_or (ts ++ t ∷ []) i u ≡ t) (sym last_table) (get_or-append_seam ts t [] u) in
-      subst (λ x. IsTable x (get_or (ts ++ t ∷ []) m u)) (sym d_is) (subst (IsTable d) (sym t_is) new)
+        let last : m ≡ length ds = omega (arith, length-append ds (d ∷ [])) in
+        let last_table : m ≡ length ts = omega (arith, are.beside) in
+        let d_is : get_or (ds ++ d ∷ []) m e ≡ d = subst (λ i. get_or (ds ++ d ∷ []) i e ≡ d) (sym last) (get_or-append_seam ds d [] e) in
+        let t_is : get_or (ts ++ t ∷ []) m u ≡ t = subst (λ i. get_or (ts ++ t ∷ []) i u ≡ t) (sym last_table) (get_or-append_seam ts t [] u) in
+        subst (λ x. IsTable x (get_or (ts ++ t ∷ []) m u)) (sym d_is) (subst (IsTable d) (sym t_is) new)
   ];
 }
 

@@ -1,5 +1,5 @@
 -- A table stays one of its declaration.
-use Rattle.std.proofs.Common.{◌≡◌, ℕ, ◌+◌, ◌<◌, ◌≤◌, List, length, get_or, All, Fits, w8, Vec, Global, vec_capacity, ◌^◌, Option, Some, None, MatchOption, slice_get, refl, sym, ap, subst, ◌∙◌, arith}
+use Rattle.std.proofs.Common.{◌≡◌, ℕ, ◌<◌, ◌≤◌, List, length, get_or, Fits, w8, Vec, Global, vec_capacity, ◌^◌, Option, Some, None, MatchOption, slice_get, sym, ap, subst, ◌∙◌, arith}
 use Rattle.std.specs.Ordering.{nat_cmp}
 use Rattle.std.specs.Cmp.Lexicographic.{slice_cmp}
 use Rattle.std.specs.FinMap as map
@@ -7,14 +7,13 @@ use Rattle.std.proofs.lemmas.List.Elements.{All-from_get_or}
 use Rattle.std.specs.Option.{option_map}
 use Rattle.std.specs.Vec.{with_items}
 use Rattle.std.proofs.lemmas.List.{with_items_is}
-use Rattle.xdp_maps.specs.declared.decl.MapKind.TheVariants as kind
 use Rattle.xdp_maps.specs.declared.decl.MapDecl.{MapDecl}
 use Rattle.xdp_maps.specs.declared.short.ShortBytes.{ShortBytes}
 use Rattle.xdp_maps.specs.declared.table.Table.TheVariants as table
-use Rattle.xdp_maps.specs.Contents.{Contents, IsBytes, IsOver, array_of, index_key}
+use Rattle.xdp_maps.specs.Contents.{IsBytes, IsOver, array_of, index_key}
 use Rattle.xdp_maps.specs.Calls.{entry_of, entry_as}
 use Rattle.xdp_maps.specs.Layout.{IsRising}
-use Rattle.xdp_maps.specs.Tables.{IsTable, contents_of}
+use Rattle.xdp_maps.specs.Tables.{IsTable}
 use Rattle.xdp_maps.proofs.Arrays.{get-array_of, index_of-index_key}
 use Rattle.xdp_maps.proofs.Hashes.{order_total, order_exact, entries_of_rising, contains_at}
 use Rattle.xdp_maps.proofs.Opened.{IsBytes-index_key, bytes_below}

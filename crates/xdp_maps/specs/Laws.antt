@@ -1,11 +1,10 @@
 -- What users of a map rely on, whatever it holds.
-use Rattle.std.specs.Prelude.{ℕ, ℤ, pos, ◌≡◌, ◌≢◌, ◌+◌, ◌<◌, ◌≤◌, ◌^◌, List, length, Option, Some, None, All, IsTrue}
-use Rattle.std.specs.FinMap as map
+use Rattle.std.specs.Prelude.{ℕ, pos, ◌≡◌, ◌≢◌, ◌+◌, ◌<◌, ◌≤◌, ◌^◌, List, length, Some, None, All}
+use Rattle.std.specs.Option.{option_map}
 use Rattle.xdp_maps.specs.declared.change.Change.{Change}
-use Rattle.xdp_maps.specs.declared.decl.MapKind.TheVariants.{Hash, Array}
 use Rattle.xdp_maps.specs.declared.decl.MapDecl.{MapDecl}
-use Rattle.xdp_maps.specs.Contents.{Contents, IsBytes, IsOver, IsWithinLimits, TakesKey, opened, index_key, index_of}
-use Rattle.xdp_maps.specs.Calls.{lookup_of, update_number, updated, delete_number, deleted, stored, changed, change_bytes}
+use Rattle.xdp_maps.specs.Contents.{Contents, IsBytes, IsOver, IsWithinLimits, opened, index_key, index_of}
+use Rattle.xdp_maps.specs.Calls.{lookup_of, update_number, updated, delete_number, deleted, stored, changed, change_bytes, with_value, entry_of}
 
 -- An update that answers 0 leaves its value under its key, and under every other key what was there; one
 -- that answers another number changes nothing.
@@ -19,6 +18,17 @@ pub record DeleteLaws (d : MapDecl) (c : Contents) (key : List ℕ) : Type 0 whe
   pub same_key : delete_number d c key ≡ pos 0 → lookup_of (deleted d c key) key ≡ None
   pub other_keys : (q : List ℕ) → q ≢ key → lookup_of (deleted d c key) q ≡ lookup_of c q
   pub refused : delete_number d c key ≢ pos 0 → deleted d c key ≡ c
+
+-- A store and an atomic change make the value under their key anew, by `patched` and `with_change`, and
+-- leave every other key.
+pub record EntryLaws (c : Contents) (key : List ℕ) (f : List ℕ → List ℕ) : Type 0 where
+  pub same_key : lookup_of (with_value c key f (lookup_of c key)) key ≡ option_map f (lookup_of c key)
+  pub other_keys : (q : List ℕ) → q ≢ key → lookup_of (with_value c key f (lookup_of c key)) q ≡ lookup_of c q
+
+-- The numbered pairs are those that lookups find, and all of them.
+pub record PairLaws (d : MapDecl) (c : Contents) : Type 0 where
+  pub found : (i : ℕ) (key value : List ℕ) → entry_of d c i ≡ Some (key, value) → lookup_of c key ≡ Some value
+  pub all : IsWithinLimits d → IsOver d c → (key value : List ℕ) → lookup_of c key ≡ Some value → (i : ℕ) × (entry_of d c i ≡ Some (key, value))
 
 -- Whatever is done to a map, it holds what its declaration allows: a hash never more keys than its
 -- capacity, an array always its indexes.

@@ -10,7 +10,7 @@ pub enum MapKind {
 }
 
 /// A map as a program declares it: the bytes of a key and of a value, and how many entries there can be.
-#[derive(Drop)]
+#[derive(Debug, Drop)]
 pub struct MapDecl {
     pub name: ShortBytes,
     pub kind: MapKind,

@@ -13,3 +13,5 @@ pub mod laws;
 pub mod short;
 pub mod state;
 mod table;
+#[cfg(test)]
+mod tests;

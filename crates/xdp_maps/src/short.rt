@@ -5,7 +5,7 @@ ghost use Rattle.xdp_maps.specs.Calls.{patched};
 use std::marker::Model;
 
 /// At most 64 bytes, kept in place.
-#[derive(Drop)]
+#[derive(Debug, Drop)]
 pub struct ShortBytes {
     bytes: [u8; 64],
     len: usize,

@@ -1,4 +1,4 @@
-use Rattle.std.proofs.Common.{◌≡◌, ◌++◌, take, drop}
+use Rattle.std.proofs.Common.{◌≡◌, take}
 use Rattle.xdp_maps.proofs.array.copy_from.Given as goal
 
 abbrev pub invariant-loop-i : goal.invariant-loop-i

@@ -1,4 +1,4 @@
-use Rattle.std.proofs.Common.{◌<◌, ◌≤◌, ◌∙◌, [], ap, sym, arith, drop, length, Some, List, ℕ, ◌++◌}
+use Rattle.std.proofs.Common.{◌∙◌, ap, sym, arith, Some, List, ℕ, ◌++◌}
 use Rattle.std.proofs.Math.ListN.{drop_of_length-le}
 use Rattle.byteorder.specs.Endian.{little_bytes}
 use Rattle.std.proofs.lemmas.Option.{slice_get-get_or}

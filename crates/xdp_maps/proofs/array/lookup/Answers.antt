@@ -1,4 +1,4 @@
-use Rattle.std.proofs.Common.{◌<◌, ◌≤◌, sym, ap, subst, ◌∙◌, Some, length}
+use Rattle.std.proofs.Common.{◌<◌, ◌≤◌, sym, subst, length}
 use Rattle.xdp_maps.specs.Contents.{index_of}
 use Rattle.xdp_maps.proofs.Arrays.{bytes_fit, get_inside, get_past}
 use Rattle.xdp_maps.proofs.array.lookup.Goals as goal

@@ -1,7 +1,7 @@
-use Rattle.std.proofs.Common.{◌≡◌, ◌<◌, ap, sym, ◌∙◌, subst, None, length, set, arith}
+use Rattle.std.proofs.Common.{◌≡◌, ◌<◌, ap, sym, ◌∙◌, None, length, set}
 use Rattle.std.specs.FinMap as map
 use Rattle.xdp_maps.specs.Contents.{index_of, array_of}
-use Rattle.xdp_maps.specs.Calls.{array_refusal, number_of, unless}
+use Rattle.xdp_maps.specs.Calls.{array_refusal, unless}
 use Rattle.xdp_maps.proofs.Arrays.{bytes_fit, array_of-set}
 use Rattle.xdp_maps.proofs.Refusals.{inside-array_refusal}
 use Rattle.xdp_maps.proofs.array.update.Goals as goal

@@ -1,4 +1,4 @@
-use Rattle.std.proofs.Common.{◌≡◌, ◌<◌, ◌≤◌, ◌+◌, ap, sym, ◌∙◌, subst, length, get_or, set, is_some, IfSome}
+use Rattle.std.proofs.Common.{◌<◌, ◌≤◌, ◌+◌, ap, sym, ◌∙◌, subst, length, get_or, set, is_some, IfSome}
 use Rattle.std.specs.FinMap as map
 use Rattle.xdp_maps.specs.Contents.{index_of, array_of}
 use Rattle.xdp_maps.specs.Calls.{patched, with_value}

@@ -1,4 +1,4 @@
-use Rattle.std.proofs.Common.{◌≡◌, ◌≤◌, take, vec_capacity, vec_len, length}
+use Rattle.std.proofs.Common.{◌≡◌, take, vec_capacity, vec_len}
 use Rattle.xdp_maps.proofs.hash.copy_from.Given as goal
 
 abbrev pub invariant-loop-entry : goal.invariant-loop-entry

@@ -1,9 +1,7 @@
-use Rattle.std.proofs.Common.{◌≡◌, sym, ap, subst, ◌∙◌, true, false, Some, None, pos, arith}
-use Rattle.std.specs.List.{remove}
+use Rattle.std.proofs.Common.{sym, ap, subst, ◌∙◌, arith}
 use Rattle.std.specs.Ordering.{nat_cmp}
 use Rattle.std.specs.Cmp.Lexicographic.{slice_cmp}
 use Rattle.std.specs.FinMap as map
-use Rattle.xdp_maps.specs.declared.errno.TheConstants.{ENOENT}
 use Rattle.xdp_maps.specs.Calls.{number_of, unless}
 use Rattle.xdp_maps.specs.Layout.{IsAt, IsRising}
 use Rattle.xdp_maps.proofs.Entries.{rising-remove}

@@ -10,7 +10,7 @@ pub returns-in-Ok : goal.returns-in-Ok
 returns-in-Ok c =
     let found = find_at (slice_cmp nat_cmp) order_total order_exact c.args.entries.now c.args.key.now c.in-Ok.i c.requires c.in-Ok.ensures.found c.index-entries-i.result in
     let got = get_of_rising (slice_cmp nat_cmp) order_total order_exact c.args.entries.now c.args.key.now c.requires in
-    cc (found, got, c.index-entries-i.is, c.as_slice.ensures.bytes)
+    ap Some c.as_slice.ensures.bytes ∙ sym found ∙ sym got
 
 pub returns-in-Err : goal.returns-in-Err
 returns-in-Err c =

@@ -1,10 +1,10 @@
-use Rattle.std.proofs.Common.{◌≡◌, ◌<◌, ◌≤◌, sym, ap, ◌∙◌, true, false, Some, None, arith, length, IsTrue, IsOk, is_ok, ◌⊎◌, inl, inr, to_z, of_z, w64, vec_len, vec_capacity}
+use Rattle.std.proofs.Common.{◌≡◌, ap, ◌∙◌, Some, None, to_z, of_z, w64}
 use Rattle.std.specs.Ordering.{nat_cmp}
 use Rattle.std.specs.Cmp.Lexicographic.{slice_cmp}
 use Rattle.std.specs.FinMap as map
 use Rattle.xdp_maps.specs.Calls.{number_of, unless, hash_refusal}
 use Rattle.xdp_maps.proofs.Hashes.{order_total, order_exact, len_of_rising}
-use Rattle.xdp_maps.proofs.Refusals.{room-hash_refusal, signed-hash_refusal}
+use Rattle.xdp_maps.proofs.Refusals.{signed-hash_refusal}
 use Rattle.xdp_maps.proofs.hash.update.Goals as goal
 
 pub returns-in-Some-clause-number : goal.returns-in-Some-clause-number

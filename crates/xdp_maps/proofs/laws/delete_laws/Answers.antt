@@ -1,4 +1,4 @@
-use Rattle.std.proofs.Common.{◌≡◌, ◌≢◌, ℕ, List, Option, Some, None, pos, refl, ap, sym, ◌∙◌}
+use Rattle.std.proofs.Common.{◌≡◌, Some, None, refl, ap, ◌∙◌}
 use Rattle.std.specs.FinMap as map
 use Rattle.xdp_maps.specs.Calls.{delete_error, unless}
 use Rattle.xdp_maps.proofs.Over.{same_remove, other_remove}

@@ -1,4 +1,4 @@
-use Rattle.std.proofs.Common.{◌≡◌, ◌≤◌, take, map}
+use Rattle.std.proofs.Common.{◌≡◌, take, map}
 use Rattle.xdp_maps.specs.Tables.{contents_of, AreTables}
 use Rattle.xdp_maps.proofs.state.Maps.copy_from.Given as goal
 

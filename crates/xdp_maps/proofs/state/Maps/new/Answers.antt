@@ -1,7 +1,6 @@
-use Rattle.std.proofs.Common.{◌≡◌, ◌+◌, ◌∷◌, [], ◌++◌, sym, ap, subst, ◌∙◌, map, length, take, arith, List}
+use Rattle.std.proofs.Common.{◌≡◌, ◌+◌, ◌∷◌, [], ◌++◌, sym, ap, subst, ◌∙◌, map, take, arith, List}
 use Rattle.std.proofs.lemmas.List.{take_more, map-append}
 use Rattle.xdp_maps.specs.declared.decl.MapDecl.{MapDecl}
-use Rattle.xdp_maps.specs.declared.table.Table.{Table}
 use Rattle.xdp_maps.specs.Contents.{opened, Contents}
 use Rattle.xdp_maps.specs.Tables.{AreTables, contents_of}
 use Rattle.xdp_maps.proofs.StateLemmas.{tables_push}

@@ -1,7 +1,6 @@
-use Rattle.std.proofs.Common.{◌≡◌, ◌<◌, sym, subst, ap, ◌∙◌, length, get_or, Some, None, MatchOption, slice_get}
-use Rattle.std.specs.FinMap as map
+use Rattle.std.proofs.Common.{◌≡◌, sym, subst, ap, ◌∙◌, Some, None, MatchOption, slice_get}
 use Rattle.xdp_maps.specs.declared.table.Table.TheVariants as table
-use Rattle.xdp_maps.specs.Contents.{index_key, array_of}
+use Rattle.xdp_maps.specs.Contents.{index_key}
 use Rattle.xdp_maps.specs.Calls.{entry_of}
 use Rattle.xdp_maps.specs.Tables.{IsTable, contents_of}
 use Rattle.xdp_maps.proofs.TableLemmas.{key_length, entry_hash, entry_array, indexed_match}

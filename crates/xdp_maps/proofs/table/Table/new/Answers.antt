@@ -1,12 +1,10 @@
-use Rattle.std.proofs.Common.{◌≡◌, [], refl, sym, subst, ap, ◌∙◌, length, replicate}
+use Rattle.std.proofs.Common.{refl, sym, subst, ap, ◌∙◌, length, replicate}
 use Rattle.std.specs.Ordering.{nat_cmp}
 use Rattle.std.specs.Cmp.Lexicographic.{slice_cmp}
 use Rattle.std.specs.FinMap as map
 use Rattle.std.proofs.lemmas.List.{length-replicate}
-use Rattle.xdp_maps.specs.declared.table.Table.TheVariants as table
 use Rattle.xdp_maps.specs.Contents.{IsOver, array_of, opened, opened_as}
 use Rattle.xdp_maps.specs.Layout.{IsRising}
-use Rattle.xdp_maps.specs.Tables.{IsTable}
 use Rattle.xdp_maps.proofs.Hashes.{order_total, order_exact, empty_of_none}
 use Rattle.xdp_maps.proofs.Opened.{opened_over}
 use Rattle.xdp_maps.proofs.table.Table.new.Goals as goal

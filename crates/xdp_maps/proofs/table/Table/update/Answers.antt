@@ -1,4 +1,4 @@
-use Rattle.std.proofs.Common.{◌≡◌, sym, subst, ap, ◌∙◌}
+use Rattle.std.proofs.Common.{sym, subst}
 use Rattle.std.specs.FinMap as map
 use Rattle.xdp_maps.specs.declared.table.Table.TheVariants as table
 use Rattle.xdp_maps.specs.Contents.{IsOver, array_of}
