@@ -3,3 +3,4 @@ pub mod Loops
 pub mod NoMaps
 pub mod Searches
 pub mod Whole
+pub mod Written
