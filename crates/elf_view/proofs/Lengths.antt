@@ -117,7 +117,7 @@ length-strings_size name [] = length-strings_no_maps name [] refl
 length-strings_size name (m ∷ ms) =
     omega (arith, length-strings name (m ∷ ms) (omega arith), length-map_names (m ∷ ms))
 
-length-map_headers : (name_len : ℕ) (s : Sizes) (maps : List MapRecord)
+pub length-map_headers : (name_len : ℕ) (s : Sizes) (maps : List MapRecord)
     → length (map_headers name_len s maps) + 256 ≡ 64 * section_count maps
 length-map_headers name_len s [] = refl
 length-map_headers name_len s (m ∷ ms) = omega (arith, length-append {A = ℕ}, length-section_header)

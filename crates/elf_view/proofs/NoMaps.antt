@@ -29,7 +29,7 @@ length-sole name code =
     let s = ap headers_at (sole_sizes_lem name code) in
     omega (arith, whole, s)
 
-regrouped : (h c s r m t b x : List ℕ) → h ++ c ++ s ++ r ++ m ++ t ++ b ++ x ≡ h ++ (c ++ (s ++ (r ++ (m ++ (t ++ (b ++ x))))))
+pub regrouped : (h c s r m t b x : List ℕ) → h ++ c ++ s ++ r ++ m ++ t ++ b ++ x ≡ h ++ (c ++ (s ++ (r ++ (m ++ (t ++ (b ++ x))))))
 regrouped h c s r m t b x = simp append_assoc
 
 -- its code stands behind the file header

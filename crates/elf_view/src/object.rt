@@ -1,7 +1,8 @@
 //! Writing a small object.
 
-ghost use Rattle.std.specs.Prelude.{◌≡◌, ◌<◌, ◌≤◌, length, All, IfOk};
+ghost use Rattle.std.specs.Prelude.{◌≡◌, ◌<◌, ◌≤◌, length, All, IfOk, None};
 ghost use Rattle.elf_view.specs.Layout.{object_layout, object_size, sizes_of};
+ghost use Rattle.elf_view.specs.Rules.{first_error};
 
 use crate::headers::{put_base_headers, put_map_headers, section_count};
 use crate::pieces::elf_header;
@@ -37,7 +38,8 @@ fn sizes_of(name: &str, code: &[u8], maps: &[MapRecord<'_>], refs: &[(u32, u32)]
 /// The function `name` is all of the section `xdp`, whose bytes are `code`; each map has a record of 20
 /// bytes in the section `maps`, five little-endian words; and each pair of `refs`, the place of an
 /// instruction unit and the number of a map, is a relocation of type `R_BPF_64_64` at eight times the
-/// place. Without maps the sections `maps` and `.relxdp` are left out.
+/// place. Without maps the sections `maps` and `.relxdp` are left out. What is written has no error by
+/// the rules of `ElfView::open`.
 pub fn object_of(
     alloc: Global,
     name: &str,
@@ -48,6 +50,7 @@ pub fn object_of(
     requires maps { All (λ r. r.1 < length maps.now) refs.now }
     requires fits { object_size name.now code.now maps.now refs.now ≤ 1048576 }
     ensures bytes { IfOk result (λ object. object.items ≡ object_layout name.now code.now maps.now refs.now) }
+    ensures opens { IfOk result (λ object. first_error object.items ≡ None) }
     ensures size { IfOk result (λ object. length object.items ≡ object_size name.now code.now maps.now refs.now) }
 {
     let sizes = sizes_of(name, code, maps, refs);

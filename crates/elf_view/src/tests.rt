@@ -150,3 +150,43 @@ fn parts_of_one_function(rt: HostRuntime) -> Result<(), Fail> {
     assert!(rt; view.name_of(3, 26) == Err(ElfError::At { at: 26 }));
     Ok(())
 }
+
+#[test]
+fn object_with_a_map(rt: HostRuntime) -> Result<(), Fail> {
+    // `r1 = flow ll` and `exit`
+    let code: [u8; 24] = [
+        0x18, 1, 0, 0, 0, 0, 0, 0, 0, 0, 0, 0, 0, 0, 0, 0, 0x95, 0, 0, 0, 0, 0, 0, 0,
+    ];
+    let flow = MapRecord {
+        name: "flow",
+        words: [1, 4, 8, 64, 0],
+    };
+    let object = object_of(rt.alloc(), "demo", &code, &[flow], &[(0, 0)])?;
+    let view = ElfView::open(object.as_slice())?;
+    assert!(rt; view.sections() == 6 && view.symbols() == 3 && view.rels(5) == 1);
+    assert!(rt;
+        view.rel(5, 0)
+            == Rel {
+                offset: 0,
+                symbol: 2,
+                kind: 1
+            }
+    );
+    // the names are 21 bytes, `demo` and its zero, 13 bytes, and then `flow`
+    let symbol = Symbol {
+        name: 39,
+        info: 0x11,
+        section: 4,
+        value: 0,
+        size: 20,
+    };
+    assert!(rt; view.symbol(2) == symbol);
+    assert!(rt; view.name_of(3, 39)? == b"flow".as_slice());
+    assert!(rt; view.name_of(3, view.section(4).name)? == b"maps".as_slice());
+    assert!(rt; view.bytes_of(1) == code.as_slice());
+    let record: [u8; 20] = [1, 0, 0, 0, 4, 0, 0, 0, 8, 0, 0, 0, 64, 0, 0, 0, 0, 0, 0, 0];
+    assert!(rt; view.bytes_of(4) == record.as_slice());
+    let rels = view.section(5);
+    assert!(rt; rels.kind == 9 && rels.link == 2 && rels.info == 1 && rels.size == 16);
+    Ok(())
+}
