@@ -1,5 +1,5 @@
 -- Small designs, which the tests run.
-use Rattle.std.specs.Prelude.{ℕ, List, [], ◌∷◌}
+use Rattle.std.specs.Prelude.{List, [], ◌∷◌}
 use Rattle.net_core.specs.declared.tree.Net.{Net}
 use Rattle.net_core.specs.declared.tree.Net.TheVariants.{Register, Memory, Wire}
 use Rattle.net_core.specs.declared.tree.Op.TheVariants.{Add, Sub}

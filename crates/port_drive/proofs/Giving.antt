@@ -1,12 +1,11 @@
 -- Answers, beat by beat.
-use Rattle.std.proofs.Common.{◌≡◌, ℕ, min, ◌≤◌, Bool, true, false, ◌&&◌, List, [], ◌∷◌, ◌++◌, take, cond, refl, sym, ap, ◌∙◌, subst, arith, append_assoc}
+use Rattle.std.proofs.Common.{◌≡◌, ℕ, min, true, false, List, [], ◌∷◌, ◌++◌, take, refl, sym, ap, ◌∙◌, arith, append_assoc}
 use Rattle.std.proofs.lemmas.List.{append-nil}
 use Rattle.beat_core.specs.Words.{low_bytes}
-use Rattle.beat_core.specs.Beats.{bytes_of_beat}
 use Rattle.beat_core.proofs.Words.{take-low_bytes}
 use Rattle.net_core.specs.declared.ports.Inputs.{Inputs}
 use Rattle.net_core.specs.declared.ports.Outputs.{Outputs}
-use Rattle.net_core.specs.History.{Moment, Reply, replies, goes_out, shown_beat}
+use Rattle.net_core.specs.History.{Moment, Reply, replies}
 use Rattle.port_drive.specs.Answering.{TakesBeat}
 
 -- the bytes of what is shown

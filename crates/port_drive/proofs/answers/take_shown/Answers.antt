@@ -1,5 +1,5 @@
 use Rattle.std.proofs.Common.{◌++◌, ap, ◌∙◌}
-use Rattle.port_drive.proofs.Giving.{front_is, nothing_taken, more_taken, last_taken}
+use Rattle.port_drive.proofs.Giving.{front_is, more_taken, last_taken}
 use Rattle.port_drive.proofs.answers.take_shown.Goals as goal
 
 pub returns-then-not-shown-2-clause-ok : goal.returns-then-not-shown-2-clause-ok

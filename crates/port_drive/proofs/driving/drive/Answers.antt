@@ -1,5 +1,4 @@
-use Rattle.std.proofs.Common.{◌≡◌, ◌+◌, ◌-◌, ◌<◌, length, suc, refl, sym, ap, ◌∙◌, arith}
-use Rattle.net_core.specs.History.{replies}
+use Rattle.std.proofs.Common.{◌≡◌, ◌+◌, ◌-◌, ◌<◌, length, suc, refl, ap, ◌∙◌, arith}
 use Rattle.port_drive.specs.Reports.{full_drive}
 use Rattle.port_drive.proofs.Turning.{driven_done, driven_late, driven_stopped, driven_front, driven_on, number_is}
 use Rattle.port_drive.proofs.driving.drive.Goals as goal

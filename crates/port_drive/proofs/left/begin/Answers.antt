@@ -1,4 +1,4 @@
-use Rattle.std.proofs.Common.{◌<◌, length, arith}
+use Rattle.std.proofs.Common.{arith}
 use Rattle.port_drive.proofs.Leaving.{begins_ahead}
 use Rattle.port_drive.proofs.left.begin.Goals as goal
 

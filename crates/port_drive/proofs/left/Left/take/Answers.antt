@@ -1,6 +1,4 @@
-use Rattle.std.proofs.Common.{◌≡◌, drop, ap, ◌∙◌, sym, subst, false}
-use Rattle.std.specs.Prelude.{is_some}
-use Rattle.port_drive.specs.Offering.{IsAhead, left_of}
+use Rattle.std.proofs.Common.{drop, ap, ◌∙◌}
 use Rattle.port_drive.proofs.Leaving.{take_last}
 use Rattle.port_drive.proofs.left.Left.take.Goals as goal
 
