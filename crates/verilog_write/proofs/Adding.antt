@@ -1,5 +1,6 @@
 -- Texts that were added one after the other.
-use Rattle.std.proofs.Common.{◌≡◌, ℕ, List, [], ◌∷◌, ◌++◌, refl, sym, subst, ap, append_assoc, append-nil}
+use Rattle.std.proofs.Common.{◌≡◌, ℕ, Result, OnOk, List, [], ◌∷◌, ◌++◌, refl, sym, subst, ap, append_assoc, append-nil}
+use Rattle.std.proofs.lemmas.Result.{on_ok_weaker}
 use Rattle.verilog_lex.specs.Lexeme.{Lexeme}
 use Rattle.verilog_lex.specs.Spelling.{IsClosed, IsOpen}
 use Rattle.verilog_lex.proofs.Writing.{IsOpen-closed}
@@ -15,3 +16,10 @@ line_more {a} {b} {c} {ls} {ms} h k = record {
 
 pub word_marked : {a b : List ℕ} {ls : List Lexeme} → AddsMark a b ls → AddsWord a b ls
 word_marked h = record { read = λ before p. IsOpen-closed _ _ (h.read before (IsOpen-closed _ _ p)) }
+
+pub opened : {text : List ℕ} {ls : List Lexeme} → IsClosed text ls → IsOpen text ls
+opened {text} {ls} h = IsOpen-closed text ls h
+
+-- what a last call gives
+pub from_ok : {T E P Q : Type 0} (r : Result T E) → OnOk r P → (P → Q) → OnOk r Q
+from_ok r h f = on_ok_weaker r f h
