@@ -33,3 +33,8 @@ pub marked_line : {a b c : List ℕ} {ls ms : List Lexeme} → AddsWord a b ls �
 marked_line {a} {b} {c} {ls} {ms} w e = record {
   read = λ before h. let P : List Lexeme → Type 0 = λ all. IsClosed c all in subst P (append_assoc before ls ms) (e (before ++ ls) (w.read before h));
 }
+
+-- what stands before the items, the items, and a last lexeme
+pub whole_text : (text : List ℕ) (a b c e f g : Lexeme) (ports items : List Lexeme)
+    → IsClosed text ((([] ++ (a ∷ b ∷ c ∷ (ports ++ e ∷ f ∷ []))) ++ items) ++ g ∷ []) → IsClosed text (a ∷ b ∷ c ∷ (ports ++ e ∷ f ∷ (items ++ g ∷ [])))
+whole_text text a b c e f g ports items h = simp append_assoc at h

@@ -1,9 +1,10 @@
 -- What a well-formed design gives to each function that writes a part of it.
-use Rattle.std.specs.Prelude.{◌≡◌, ℕ, zero, suc, ◌+◌, ◌<◌, ◌≤◌, ◌==◌, nat_lt, nat_le, if◌then◌else◌, Bool, true, false, ◌&&◌, ◌⊎◌, List, [], ◌∷◌, count_by, take, length, Option, None, Some, Result, Ok}
+use Rattle.std.specs.Prelude.{◌≡◌, ℕ, zero, suc, ◌+◌, ◌<◌, ◌≤◌, ◌==◌, nat_lt, nat_le, if◌then◌else◌, Bool, true, false, ◌&&◌, ◌⊎◌, List, [], ◌∷◌, count_by, take, length, map, Option, None, Some}
 use Rattle.std.specs.List.{list_all}
+use Rattle.std.specs.Result.{is_ok}
 use Rattle.std.proofs.Common.{get_or, refl, sym, subst, ap, ◌∙◌, inl, inr, arith}
 use Rattle.std.proofs.lemmas.Bool.{and_parts, leb-true, ltb-true, cases_lt}
-use Rattle.std.proofs.lemmas.List.{get_or_past, get_or_default}
+use Rattle.std.proofs.lemmas.List.{get_or_past, get_or-map, length-map}
 use Rattle.std.proofs.lemmas.List.Sums.{sum_by-take-le}
 use Rattle.net_core.specs.declared.tree.Net.{Net}
 use Rattle.net_core.specs.declared.tree.Net.TheVariants.{Register, Memory}
@@ -108,3 +109,15 @@ block_writable d h k a l e =
     let s = and_parts (targets_known d a) (trees_pass (reads_known (sorts d (length d.wires))) a) kept.known in
     act_written d (sorts d (length d.wires)) (λ i. nat_lt i (registers_of d)) (λ i. nat_lt i (memories_of d)) (nets_named d h (length d.wires) (omega arith))
     (full_scope d) (register_widths d.declared) (memory_widths d.declared) a s.0 s.1 kept.fits
+
+-- ---- what stands at a place of a list, seen by a view
+pub seen : {A B : Type 0} (f : A → B) (xs : List A) (k : ℕ) (x : A) → k < length xs → x ≡ get_or xs k x → f x ≡ get_or (map f xs) k (f x)
+seen f xs k x l e = ap f e ∙ sym (get_or-map f xs k x (f x) l)
+
+pub seen_below : {A B : Type 0} (f : A → B) (xs : List A) (k : ℕ) → k < length xs → k < length (map f xs)
+seen_below f xs k l = omega (arith, l, length-map xs f)
+
+-- ---- what the test of a design says
+pub fault_none : (f : Option NetError) → is_ok (result_of f) ≡ true → f ≡ None
+fault_none None h = refl
+fault_none (Some e) h = cc

@@ -1,7 +1,7 @@
 -- The items of a section, written one after the other.
-use Rattle.std.specs.Prelude.{◌≡◌, ℕ, zero, suc, ◌+◌, ◌<◌, ◌≤◌, nat_lt, if◌then◌else◌, Bool, true, false, List, [], ◌∷◌, ◌++◌, length, map, take}
+use Rattle.std.specs.Prelude.{◌≡◌, ℕ, zero, suc, ◌+◌, ◌<◌, ◌≤◌, ◌==◌, if◌then◌else◌, Bool, true, false, List, [], ◌∷◌, ◌++◌, length, map, take}
 use Rattle.std.proofs.Common.{get_or, refl, sym, subst, ap, ◌∙◌, append_assoc, append-nil, add-one, arith}
-use Rattle.std.proofs.lemmas.Bool.{lt-ltb, le-ltb}
+use Rattle.std.proofs.lemmas.Bool.{eq-eqb, ne_eqb}
 use Rattle.std.proofs.lemmas.List.{take_all}
 use Rattle.net_core.specs.declared.tree.Net.{Net}
 use Rattle.net_core.specs.declared.tree.Stmt.{Stmt}
@@ -31,19 +31,23 @@ section_suc f at (y ∷ ys) (suc k) x l e =
     ap (λ ls. f at y ++ ls) (section_suc f (suc at) ys k x (omega arith) e ∙ ap (λ n. section f (suc at) (take k ys) ++ f n x) (omega arith))
     ∙ sym (append_assoc (f at y) (section f (suc at) (take k ys)) (f (at + suc k) x))
 
-pub section_line : {A : Type 0} (f : ℕ → A → List Lexeme) (at : ℕ) (xs : List A) (k : ℕ) (x : A) {a b c : List ℕ} → k < length xs → x ≡ get_or xs k x
-    → AddsLine a b (section f at (take k xs)) → AddsLine b c (f (at + k) x) → AddsLine a c (section f at (take (k + 1) xs))
-section_line f at xs k x {a} {b} {c} l e h g =
+pub section_line : {A : Type 0} (f : ℕ → A → List Lexeme) (at place : ℕ) (xs : List A) (k : ℕ) (x : A) {a b c : List ℕ} → k < length xs → x ≡ get_or xs k x → place ≡ at + k
+    → AddsLine a b (section f at (take k xs)) → AddsLine b c (f place x) → AddsLine a c (section f at (take (k + 1) xs))
+section_line f at place xs k x {a} {b} {c} l e p h g =
     let P : List Lexeme → Type 0 = λ ls. AddsLine a c ls in
-    subst P (sym (ap (λ n. section f at (take n xs)) (add-one k) ∙ section_suc f at xs k x l e)) (line_more h g)
+    let same : section f at (take (k + 1) xs) ≡ section f at (take k xs) ++ f place x =
+    ap (λ n. section f at (take n xs)) (add-one k) ∙ section_suc f at xs k x l e ∙ ap (λ n. section f at (take k xs) ++ f n x) (sym p) in
+    subst P (sym same) (line_more h g)
 
-pub section_whole : {A : Type 0} (f : ℕ → A → List Lexeme) (at : ℕ) (xs : List A) (k : ℕ) {a b : List ℕ} → length xs ≤ k
-    → AddsLine a b (section f at (take k xs)) → AddsLine a b (section f at xs)
-section_whole f at xs k {a} {b} l h = let P : List A → Type 0 = λ ys. AddsLine a b (section f at ys) in subst P (take_all k xs l) h
+pub section_done : {A : Type 0} (f : ℕ → A → List Lexeme) (at : ℕ) (xs : List A) (k : ℕ) (ls : List Lexeme) {a b : List ℕ} → length xs ≤ k → section f at xs ≡ ls
+    → AddsLine a b (section f at (take k xs)) → AddsLine a b ls
+section_done f at xs k ls {a} {b} l e h =
+    let P : List Lexeme → Type 0 = λ ms. AddsLine a b ms in
+    subst P (ap (section f at) (take_all k xs l) ∙ e) h
 
 -- ---- each section
 abbrev pub comma_after : ℕ → ℕ → List Lexeme
-comma_after count at = if nat_lt (suc at) count then LSymbol symbol.Comma ∷ [] else []
+comma_after count at = if at + 1 == count then [] else LSymbol symbol.Comma ∷ []
 
 abbrev pub port_at : Plan → ℕ → ℕ → Port → List Lexeme
 port_at d count at p = port_lexemes (text_at d at) p ++ comma_after count at
@@ -60,11 +64,11 @@ assign_at d at a = assign_lexemes (name_of d) (text_at d a.port) (tree_of a.valu
 abbrev pub always_at : Plan → ℕ → Stmt Net → List Lexeme
 always_at d at s = always_lexemes (act_lexemes (name_of d) (register_name d) (memory_name d) (act_of s))
 
-last_comma : (count at : ℕ) → suc at ≡ count → comma_after count at ≡ []
-last_comma count at e = ap (λ b. if b then LSymbol symbol.Comma ∷ [] else []) (le-ltb (suc at) count (omega arith))
+last_comma : (count at : ℕ) → at + 1 ≡ count → comma_after count at ≡ []
+last_comma count at e = ap (λ b. if b then [] else LSymbol symbol.Comma ∷ []) (eq-eqb (at + 1) count e)
 
-more_comma : (count at : ℕ) → suc at < count → comma_after count at ≡ LSymbol symbol.Comma ∷ []
-more_comma count at l = ap (λ b. if b then LSymbol symbol.Comma ∷ [] else []) (lt-ltb (suc at) count l)
+more_comma : (count at : ℕ) → at + 1 < count → comma_after count at ≡ LSymbol symbol.Comma ∷ []
+more_comma count at l = ap (λ b. if b then [] else LSymbol symbol.Comma ∷ []) (ne_eqb (at + 1) count (λ e. omega arith))
 
 pub ports_section : (d : Plan) (count at : ℕ) (ps : List Port) → at + length ps ≡ count → section (port_at d count) at ps ≡ ports_lexemes d at ps
 ports_section d count at [] e = refl

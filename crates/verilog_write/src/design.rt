@@ -54,7 +54,7 @@ fn push_wires(text: &mut Vec<u8>, design: &Design) -> Result<(), AllocError>
     let wires = design.wires.as_slice();
     for k in 0..wires.len() {
         let name = name_at(&design.names, ports.len() + declared.len() + k);
-        push_wire(text, design, name, wires[k].width, &wires[k].right)?;
+        push_wire(text, design, name, &wires[k])?;
         push_line(text)?;
     }
     Ok(())
@@ -67,8 +67,9 @@ fn push_assigns(text: &mut Vec<u8>, design: &Design) -> Result<(), AllocError>
 {
     let assigns = design.assigns.as_slice();
     for k in 0..assigns.len() {
-        let name = name_at(&design.names, assigns[k].port as usize);
-        push_assign(text, design, name, &assigns[k].value)?;
+        let assign = &assigns[k];
+        let name = name_at(&design.names, assign.port as usize);
+        push_assign(text, design, name, &assign.value)?;
         push_line(text)?;
     }
     Ok(())

@@ -18,8 +18,8 @@ use crate::fill::push_fill;
 use crate::names::integer_name;
 use crate::spaced::{push_operator, push_range, push_span};
 use crate::statement::push_statement;
-use net_core::design::{Declared, Design, Port};
-use net_core::tree::{Expr, Net, Right, Stmt, Word};
+use net_core::design::{Declared, Design, Port, Wire};
+use net_core::tree::{Expr, Net, Stmt, Word};
 use std::alloc::AllocError;
 use verilog_lex::{Keyword, Symbol, push_keyword, push_line, push_name, push_space, push_symbol};
 
@@ -154,19 +154,18 @@ pub fn push_wire(
     text: &mut Vec<u8>,
     design: &Design,
     name: &[u8],
-    width: u8,
-    right: &Right<Net>,
+    wire: &Wire,
 ) -> Result<(), AllocError>
     requires name { IsName name.now }
-    requires width { 0 < width }
-    requires right { IsRightWritable (plan_of design.now) (right_of right.now) }
-    ensures { OnOk result (AddsWord text.old.items text.new.items (grammar.wire_lexemes (name_of (plan_of design.now)) name.now width (right_of right.now))) }
+    requires width { 0 < wire.now.width }
+    requires right { IsRightWritable (plan_of design.now) (right_of wire.now.right) }
+    ensures { OnOk result (AddsWord text.old.items text.new.items (grammar.wire_lexemes (name_of (plan_of design.now)) name.now wire.now.width (right_of wire.now.right))) }
 {
     push_keyword(text, Keyword::Wire)?;
-    push_range(text, width)?;
+    push_range(text, wire.width)?;
     push_name(text, name)?;
     push_operator(text, Symbol::Assign)?;
-    push_right(text, design, right)?;
+    push_right(text, design, &wire.right)?;
     push_symbol(text, Symbol::Semicolon)
 }
 

@@ -17,7 +17,7 @@ returns-then-left-eq0 c =
 pub loop-place-preserved : goal.loop-place-preserved
 loop-place-preserved c =
     elim c.if-is_of.branch [
-      then-is_of+else-left-eq0 w ↦
+      | then-is_of+else-left-eq0 w ↦
           place_past (is_of c.args.sort) c.args.declared.now c.loop-place.place (get_or c.args.declared.now c.loop-place.place Integer) c.loop-place.left c.if-is_of.left c.loop-place-test.true
           (get_or_default c.args.declared.now c.loop-place.place Integer _ c.loop-place-test.true) (sym c.is_of.ensures ∙ w.if-is_of.true) w.if-left-eq0.false w.left-is
           ∙ c.loop-place.invariant
