@@ -2,3 +2,4 @@ pub mod Words
 pub mod Cutting
 pub mod Left
 pub mod Order
+pub mod Passing

@@ -6,6 +6,7 @@ use Rattle.std.specs.List.{flat_map, AllByRecursion}
 use Rattle.std.proofs.lemmas.List.{take_all, take-append-drop, drop_more}
 use Rattle.std.proofs.lemmas.Bool.{lt-leb, le-leb}
 use Rattle.beat_core.specs.declared.beat.Beat.{Beat}
+use Rattle.beat_core.specs.declared.frame.TheConstants.{FRAME_LIMIT}
 use Rattle.beat_core.specs.Words.{IsBytes}
 use Rattle.beat_core.specs.Beats.{bytes_of_beat, first_beat, first_beats, beat_count, beats_of, IsOffer}
 use Rattle.beat_core.specs.Clocks.{Gathered, begun, gathered, after_clock, went_over, frames_among, AreOffers}
@@ -87,12 +88,17 @@ frames_more g (Some b) clocks = split_last b.last (begun g ++ bytes_of_beat b) (
 length-bytes_of_beat : (b : Beat) → IsOffer b → length (bytes_of_beat b) ≡ b.bytes
 length-bytes_of_beat b h = omega (arith, IsOffer-count b h, length-low_bytes (min b.bytes 8) b.word)
 
+-- a beat has room after whole words
+pub room_after : (so_far : List ℕ) (n : ℕ) (b : Beat) → length so_far ≡ 8 * n → n < 192 → IsOffer b → length (so_far ++ bytes_of_beat b) ≤ FRAME_LIMIT
+room_after so_far n b len below offer =
+    omega (arith, length-append so_far (bytes_of_beat b), length-bytes_of_beat b offer, IsOffer-count b offer)
+
 -- well-formed offers have room
-room_for : (g : Gathered) (beat : Option Beat) (clocks : List (Option Beat)) → OffersLeft g (went_over (beat ∷ clocks)) → ForSome beat (λ b. length (begun g ++ bytes_of_beat b) ≤ 1536)
+room_for : (g : Gathered) (beat : Option Beat) (clocks : List (Option Beat)) → OffersLeft g (went_over (beat ∷ clocks)) → ForSome beat (λ b. length (begun g ++ bytes_of_beat b) ≤ FRAME_LIMIT)
 room_for g None clocks h x e = absurd cc
 room_for g (Some b) clocks h x e =
     let same : b ≡ x = cc in
-    subst (λ (y : Beat). length (begun g ++ bytes_of_beat y) ≤ 1536) same (omega (arith, length-append (begun g) (bytes_of_beat b), length-bytes_of_beat b h.offers.0, IsOffer-count b h.offers.0, h.len, h.offers.1))
+    subst (λ (y : Beat). length (begun g ++ bytes_of_beat y) ≤ FRAME_LIMIT) same (room_after (begun g) h.before b h.len h.offers.1 h.offers.0)
 
 left_more : (last : Bool) (n : ℕ) (b : Beat) (bytes : List ℕ) (bs : List Beat) → b.last ≡ last → IsOffer b → length bytes ≡ 8 * n + b.bytes → AreOffers (if last then zero else suc n) bs → (m : ℕ) × (length (if last then [] else bytes) ≡ 8 * m) × AreOffers m bs
 left_more true n b bytes bs e offer len offers = (0, refl, offers)
@@ -122,7 +128,7 @@ told_more so_far all g clocks i beat lt e h =
 offers_at : (g : Gathered) (clocks : List (Option Beat)) (i : ℕ) → i < length clocks → OffersLeft g (went_over (drop i clocks)) → OffersLeft g (went_over (get_or clocks i None ∷ drop (i + 1) clocks))
 offers_at g clocks i lt h = subst (λ (cs : List (Option Beat)). OffersLeft g (went_over cs)) (drop_more clocks i None lt) h
 
-pub room_at : (g : Gathered) (clocks : List (Option Beat)) (i : ℕ) → i < length clocks → OffersLeft g (went_over (drop i clocks)) → ForSome (get_or clocks i None) (λ b. length (begun g ++ bytes_of_beat b) ≤ 1536)
+pub room_at : (g : Gathered) (clocks : List (Option Beat)) (i : ℕ) → i < length clocks → OffersLeft g (went_over (drop i clocks)) → ForSome (get_or clocks i None) (λ b. length (begun g ++ bytes_of_beat b) ≤ FRAME_LIMIT)
 room_at g clocks i lt h = room_for g (get_or clocks i None) (drop (i + 1) clocks) (offers_at g clocks i lt h)
 
 pub left_at : (g : Gathered) (clocks : List (Option Beat)) (i : ℕ) → i < length clocks → OffersLeft g (went_over (drop i clocks)) → OffersLeft (after_clock g (get_or clocks i None)) (went_over (drop (i + 1) clocks))

@@ -1,16 +1,18 @@
 -- The laws of beats, which hold of every list.
-use Rattle.std.specs.Prelude.{◌≡◌, ℕ, ◌≤◌, List, [], length}
+use Rattle.std.specs.Prelude.{◌≡◌, ℕ, ◌*◌, ◌<◌, ◌≤◌, ◌++◌, List, [], length, map, None}
 use Rattle.std.specs.List.{flat_map, AllByRecursion}
 use Rattle.beat_core.specs.declared.beat.Beat.{Beat}
-use Rattle.beat_core.specs.Beats.{IsWhole, IsFilledUp, beats_of, frame_of, beat_count}
+use Rattle.beat_core.specs.declared.frame.TheConstants.{FRAME_LIMIT}
+use Rattle.beat_core.specs.Beats.{bytes_of_beat, IsOffer, IsWhole, IsFilledUp, beats_of, frame_of, beat_count}
 use Rattle.beat_core.specs.Words.{IsBytes}
 use Rattle.beat_core.specs.Clocks.{frames_among, AreOffers}
+use Rattle.beat_core.specs.Ports.{Arrival, offered, arrivals_among, Reply, given, replies_among}
 
 -- the bytes of a frame
 pub record IsFrame (xs : List ℕ) : Type 0 where
   pub bytes : IsBytes xs
   pub some : 1 ≤ length xs
-  pub room : length xs ≤ 1536
+  pub room : length xs ≤ FRAME_LIMIT
 
 -- Frames and the beats of whole frames, whose words are filled up with zeros, are each other's inverse.
 pub record AreInverse : Type 0 where
@@ -21,6 +23,21 @@ pub record AreInverse : Type 0 where
   pub count : (xs : List ℕ) → length (beats_of xs) ≡ beat_count (length xs)
 
 -- Frames that are offered one after the other are well-formed offers, and just these frames in their order.
+-- Well-formed offers have room: before each beat but the first whole words have come.
 pub record ComeInOrder : Type 0 where
+  pub room : (so_far : List ℕ) (n : ℕ) (b : Beat) → length so_far ≡ 8 * n → n < 192 → IsOffer b → length (so_far ++ bytes_of_beat b) ≤ FRAME_LIMIT
   pub offers : (frames : List (List ℕ)) → AllByRecursion IsFrame frames → AreOffers 0 (flat_map beats_of frames)
   pub frames : (frames : List (List ℕ)) → AllByRecursion IsFrame frames → frames_among [] (flat_map beats_of frames) ≡ frames
+
+abbrev pub arrival_of : ℕ → List ℕ → Arrival
+arrival_of ifindex xs = record { ifindex = ifindex; frame = xs }
+
+-- a reply with the bytes of a frame
+abbrev pub HasFrame : Reply → Type 0
+HasFrame r = IsFrame r.frame
+
+-- At the ports each frame that is offered under a number arrives under it, and each reply whose beats are
+-- given beside its verdict and target is given.
+pub record PassThePorts : Type 0 where
+  pub arrivals : (ifindex : ℕ) (frames : List (List ℕ)) → AllByRecursion IsFrame frames → arrivals_among None (map (offered ifindex) (flat_map beats_of frames)) ≡ map (arrival_of ifindex) frames
+  pub replies : (replies : List Reply) → AllByRecursion HasFrame replies → replies_among [] (flat_map (λ r. map (given r.verdict r.target) (beats_of r.frame)) replies) ≡ replies

@@ -9,6 +9,9 @@ pub record Offered : Type 0 where
   pub beat : Beat
   pub ifindex : ℕ
 
+abbrev pub offered : ℕ → Beat → Offered
+offered ifindex b = record { beat = b; ifindex = ifindex }
+
 -- a frame that came whole, or so far, with the interface number of its first beat
 pub record Arrival : Type 0 where
   pub ifindex : ℕ
@@ -34,6 +37,9 @@ pub record Given : Type 0 where
   pub beat : Beat
   pub verdict : ℕ
   pub target : ℕ
+
+abbrev pub given : ℕ → ℕ → Beat → Given
+given verdict target b = record { beat = b; verdict = verdict; target = target }
 
 -- The replies that were given whole, each with the verdict and the target of its last beat. Of the first
 -- some bytes were given before.

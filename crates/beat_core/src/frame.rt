@@ -24,12 +24,13 @@ pub struct Frame {
 
 impl Model for Frame {
     ghost use Rattle.std.specs.Prelude.{List, ℕ, ◌≤◌, length};
+    ghost use Rattle.beat_core.specs.declared.frame.TheConstants.{FRAME_LIMIT};
 
     ghost Value = { List ℕ };
 
     ghost view = { λ f. f.bytes.items };
 
-    ghost invariant = { λ f. (1 ≤ length f.bytes.items) × (length f.bytes.items ≤ 1536) };
+    ghost invariant = { λ f. (1 ≤ length f.bytes.items) × (length f.bytes.items ≤ FRAME_LIMIT) };
 }
 
 impl Frame {

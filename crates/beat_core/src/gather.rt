@@ -17,7 +17,7 @@ use std::marker::Model;
 /// whether they are a whole frame.
 #[derive(Debug, Drop)]
 pub struct Gather {
-    buffer: [u8; 1536],
+    buffer: [u8; FRAME_LIMIT],
     len: usize,
     whole: bool,
 }
@@ -25,12 +25,13 @@ pub struct Gather {
 impl Model for Gather {
     ghost use Rattle.std.specs.Prelude.{◌≤◌, take};
     ghost use Rattle.beat_core.specs.Clocks.{Gathered};
+    ghost use Rattle.beat_core.specs.declared.frame.TheConstants.{FRAME_LIMIT};
 
     ghost Value = { Gathered };
 
     ghost view = { λ g. record { bytes = take g.len g.buffer; whole = g.whole } };
 
-    ghost invariant = { λ g. g.len ≤ 1536 };
+    ghost invariant = { λ g. g.len ≤ FRAME_LIMIT };
 }
 
 impl Gather {
@@ -38,7 +39,7 @@ impl Gather {
         ensures { result ≡ nothing_gathered }
     {
         Gather {
-            buffer: [0; 1536],
+            buffer: [0; FRAME_LIMIT],
             len: 0,
             whole: false,
         }

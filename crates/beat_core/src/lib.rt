@@ -13,7 +13,7 @@ pub use answer::{Answer, Bytes};
 pub use beat::{Beat, beats_of};
 pub use frame::{FRAME_LIMIT, Frame, Meta};
 pub use gather::{Gather, frames_of};
-pub use laws::{beats_and_frames, frames_in_order};
+pub use laws::{beats_and_frames, frames_in_order, ports};
 pub use scatter::Scatter;
 
 #[cfg(test)]

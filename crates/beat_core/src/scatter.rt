@@ -4,13 +4,13 @@ ghost use Rattle.std.specs.Prelude.{◌≡◌, drop, slice_get, if◌then◌else
 ghost use Rattle.beat_core.specs.Beats.{beats_of};
 
 use crate::beat::{Beat, first_beat};
-use crate::frame::{Frame, overwrite};
+use crate::frame::{FRAME_LIMIT, Frame, overwrite};
 use std::marker::Model;
 
 /// A clock machine that gives out the beats of a frame, from a copy in place. Contracts see the beats left.
 #[derive(Debug, Drop)]
 pub struct Scatter {
-    buffer: [u8; 1536],
+    buffer: [u8; FRAME_LIMIT],
     len: usize,
     at: usize,
 }
@@ -22,10 +22,11 @@ impl Model for Scatter {
     ghost Value = { List Beat };
 
     ghost use Rattle.beat_core.specs.Beats.{beats_of};
+    ghost use Rattle.beat_core.specs.declared.frame.TheConstants.{FRAME_LIMIT};
 
     ghost view = { λ s. beats_of (drop s.at (take s.len s.buffer)) };
 
-    ghost invariant = { λ s. (s.at ≤ s.len) × (s.len ≤ 1536) };
+    ghost invariant = { λ s. (s.at ≤ s.len) × (s.len ≤ FRAME_LIMIT) };
 }
 
 impl Scatter {
@@ -33,7 +34,7 @@ impl Scatter {
     pub fn new(frame: &Frame) -> Scatter
         ensures { result ≡ beats_of frame.now }
     {
-        let mut buffer = [0; 1536];
+        let mut buffer = [0; FRAME_LIMIT];
         overwrite(&mut buffer, 0, frame.bytes());
         Scatter {
             buffer,

@@ -67,5 +67,6 @@ fn bytes_of_any_number(rt: HostRuntime) -> Result<(), Fail> {
     assert_eq!(rt; Meta { ifindex: 1 }, Meta { ifindex: 1 });
     beats_and_frames();
     frames_in_order();
+    ports();
     Ok(())
 }

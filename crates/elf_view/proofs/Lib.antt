@@ -1,5 +1,9 @@
 pub mod Lengths
 pub mod Loops
+pub mod NoError
 pub mod NoMaps
+pub mod Opens
+pub mod ReadBack
 pub mod Searches
 pub mod Whole
+pub mod Written

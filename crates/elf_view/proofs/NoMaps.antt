@@ -29,7 +29,7 @@ length-sole name code =
     let s = ap headers_at (sole_sizes_lem name code) in
     omega (arith, whole, s)
 
-regrouped : (h c s r m t b x : List ℕ) → h ++ c ++ s ++ r ++ m ++ t ++ b ++ x ≡ h ++ (c ++ (s ++ (r ++ (m ++ (t ++ (b ++ x))))))
+pub regrouped : (h c s r m t b x : List ℕ) → h ++ c ++ s ++ r ++ m ++ t ++ b ++ x ≡ h ++ (c ++ (s ++ (r ++ (m ++ (t ++ (b ++ x))))))
 regrouped h c s r m t b x = simp append_assoc
 
 -- its code stands behind the file header
@@ -40,9 +40,9 @@ sole_code_at bytes name code e =
     let s = sizes_of name code [] [] in
     let h = elf_header (headers_at s) 4 in
     let rest = symbols (length name) (length code) []
-          ++ (rels [] ++ (padded (records []) ++ (padded (strings name []) ++ (base_headers s ++ map_headers (length name) s [])))) in
+    ++ (rels [] ++ (padded (records []) ++ (padded (strings name []) ++ (base_headers s ++ map_headers (length name) s [])))) in
     let whole = e ∙ regrouped h code (symbols (length name) (length code) []) (rels []) (padded (records []))
-          (padded (strings name [])) (base_headers s) (map_headers (length name) s []) in
+    (padded (strings name [])) (base_headers s) (map_headers (length name) s []) in
     ap (λ ys. take (length code) (drop 64 ys)) whole
     ∙ ap (take (length code)) (drop_at h (code ++ rest) 64 (length-elf_header (headers_at s) 4))
     ∙ take_at code rest (length code) refl
@@ -52,7 +52,7 @@ sole_code_at bytes name code e =
 -- the eleven parts, as the layout groups them
 grouped : (h c n f x name z p b0 b1 b2 b3 : List ℕ)
     → h ++ (c ++ (n ++ (f ++ (x ++ (name ++ ((z ++ p) ++ (b0 ++ (b1 ++ (b2 ++ (b3 ++ []))))))))))
-      ≡ h ++ c ++ (n ++ f ++ []) ++ [] ++ [] ++ (x ++ (name ++ z) ++ [] ++ p) ++ (b0 ++ b1 ++ b2 ++ b3) ++ []
+    ≡ h ++ c ++ (n ++ f ++ []) ++ [] ++ [] ++ (x ++ (name ++ z) ++ [] ++ p) ++ (b0 ++ b1 ++ b2 ++ b3) ++ []
 grouped h c n f x name z p b0 b1 b2 b3 = simp (append_assoc, append-nil)
 
 -- the names of the sections
@@ -63,32 +63,32 @@ section_names = 0 ∷ 120 ∷ 100 ∷ 112 ∷ 0 ∷ 46 ∷ 115 ∷ 121 ∷ 109 �
 pub fill_of : (n : ℕ) → take (1 + (8 - n % 8) % 8) (replicate {A = ℕ} 8 0) ≡ 0 ∷ [] ++ replicate ((8 - n % 8) % 8) 0
 fill_of n = one_more ((8 - n % 8) % 8) (omega arith)
   where
-  one_more : (k : ℕ) → k ≤ 7 → take (1 + k) (replicate {A = ℕ} 8 0) ≡ 0 ∷ [] ++ replicate k 0
-  one_more k h = let e : 1 + k ≡ suc k = omega arith in rw e (ap (λ ys. 0 ∷ ys) (take-replicate k 7 0 h))
+    one_more : (k : ℕ) → k ≤ 7 → take (1 + k) (replicate {A = ℕ} 8 0) ≡ 0 ∷ [] ++ replicate k 0
+    one_more k h = let e : 1 + k ≡ suc k = omega arith in rw e (ap (λ ys. 0 ∷ ys) (take-replicate k 7 0 h))
 
 pub sole_parts : (name code : List ℕ)
     → let s = sole_sizes (length name) (length code) in
-      elf_header (headers_at s) 4 ++ (code ++ (symbol_bytes no_symbol ++ (symbol_bytes (function_symbol (length code))
-        ++ (section_names ++ (name ++ ((0 ∷ [] ++ replicate ((8 - (22 + length name) % 8) % 8) 0)
-        ++ (section_header no_section 0 0 ++ (section_header (code_section s) 8 0 ++ (section_header (symbols_section s) 8 24
-        ++ (section_header (strings_section s) 1 0 ++ []))))))))))
-      ≡ object_layout name code [] []
+    elf_header (headers_at s) 4 ++ (code ++ (symbol_bytes no_symbol ++ (symbol_bytes (function_symbol (length code))
+    ++ (section_names ++ (name ++ ((0 ∷ [] ++ replicate ((8 - (22 + length name) % 8) % 8) 0)
+    ++ (section_header no_section 0 0 ++ (section_header (code_section s) 8 0 ++ (section_header (symbols_section s) 8 24
+    ++ (section_header (strings_section s) 1 0 ++ []))))))))))
+    ≡ object_layout name code [] []
 unfolding object_layout text
 sole_parts name code =
     let s = sole_sizes (length name) (length code) in
     grouped (elf_header (headers_at s) 4) code (symbol_bytes no_symbol) (symbol_bytes (function_symbol (length code)))
-        section_names name (0 ∷ []) (replicate ((8 - (22 + length name) % 8) % 8) 0) (section_header no_section 0 0)
-        (section_header (code_section s) 8 0) (section_header (symbols_section s) 8 24) (section_header (strings_section s) 1 0)
+    section_names name (0 ∷ []) (replicate ((8 - (22 + length name) % 8) % 8) 0) (section_header no_section 0 0)
+    (section_header (code_section s) 8 0) (section_header (symbols_section s) 8 24) (section_header (strings_section s) 1 0)
     ∙ ap (λ z. laid z (22 + length name)) (sym (sole_sizes_lem name code))
     ∙ ap (laid (sizes_of name code [] [])) (sym (length-strings_no_maps name [] refl))
   where
-  laid : Sizes → ℕ → List ℕ
-  laid z n = elf_header (headers_at z) 4 ++ code ++ symbols (length name) (length code) [] ++ [] ++ []
-      ++ (strings name [] ++ replicate ((8 - n % 8) % 8) 0) ++ base_headers z ++ []
+    laid : Sizes → ℕ → List ℕ
+    laid z n = elf_header (headers_at z) 4 ++ code ++ symbols (length name) (length code) [] ++ [] ++ []
+        ++ (strings name [] ++ replicate ((8 - n % 8) % 8) 0) ++ base_headers z ++ []
 
 -- equal parts make equal wholes
 pub eleven : {a a' b b' c c' d d' e e' f f' g g' h h' i i' j j' k k' : List ℕ}
     → a ≡ a' → b ≡ b' → c ≡ c' → d ≡ d' → e ≡ e' → f ≡ f' → g ≡ g' → h ≡ h' → i ≡ i' → j ≡ j' → k ≡ k'
     → a ++ (b ++ (c ++ (d ++ (e ++ (f ++ (g ++ (h ++ (i ++ (j ++ (k ++ []))))))))))
-      ≡ a' ++ (b' ++ (c' ++ (d' ++ (e' ++ (f' ++ (g' ++ (h' ++ (i' ++ (j' ++ (k' ++ []))))))))))
+    ≡ a' ++ (b' ++ (c' ++ (d' ++ (e' ++ (f' ++ (g' ++ (h' ++ (i' ++ (j' ++ (k' ++ []))))))))))
 eleven p q r s t u v w x y z = cc

@@ -17,7 +17,7 @@ first_from-step f i n h none =
     ap (first_from f i) e ∙ ap (λ o. option_or o (first_from f (suc i) (n - (i + 1)))) none
     ∙ ap (λ k. first_from f k (n - (i + 1))) next
 
-abbrev is_zero : ℕ → Bool
+abbrev pub is_zero : ℕ → Bool
 is_zero b = b == 0
 
 is_some-cond : (f : ℕ → List ℕ) (b : Bool) (x : ℕ) → is_some (option_map f (cond b (Some x) None)) ≡ b
@@ -25,7 +25,7 @@ is_some-cond f true x = refl
 is_some-cond f false x = refl
 
 -- a string begins at a place where a zero byte stands from there on
-is_some-position : (table : List ℕ) (at : ℕ)
+pub is_some-position : (table : List ℕ) (at : ℕ)
     → is_some (string_at table at) ≡ ltb (position_or_len is_zero (drop at table)) (length (drop at table))
 unfolding string_at
 is_some-position table at =
@@ -33,7 +33,7 @@ is_some-position table at =
     (position_or_len is_zero (drop at table))
 
 -- where there is one, the search finds one
-found : (ys : List ℕ) (k : ℕ) → k < length ys → get_or ys k 0 ≡ 0 → position_or_len is_zero ys < length ys
+pub found : (ys : List ℕ) (k : ℕ) → k < length ys → get_or ys k 0 ≡ 0 → position_or_len is_zero ys < length ys
 found ys k inside zero = elim (cases_lt (position_or_len is_zero ys) (length ys)) [
   | inl before ↦ before
   | inr behind ↦
@@ -50,7 +50,7 @@ not_found ys none =
     position_or_len_is is_zero ys (length ys) 0 (omega arith) (λ k h. is_zero-other (get_or ys k 0) (none k h))
     (λ h. absurd (omega arith))
 
-ltb-both : (a b c d : ℕ) → a < b → c < d → ltb a b ≡ ltb c d
+pub ltb-both : (a b c d : ℕ) → a < b → c < d → ltb a b ≡ ltb c d
 ltb-both a b c d h k = grind (arith, nat_tests)
 
 ltb-neither : (a b c d : ℕ) → b ≤ a → d ≤ c → ltb a b ≡ ltb c d
@@ -71,7 +71,7 @@ is_some-string_at table end at fits behind last = is_some-position table at ∙ 
   | inr past ↦
       let size = length-drop at table in
       let none : (k : ℕ) → k < length (drop at table) → get_or (drop at table) k 0 ≢ 0 =
-          λ k h e. behind (at + k) (omega arith) (omega arith) (sym (get_or-drop at table k 0) ∙ e) in
+      λ k h e. behind (at + k) (omega arith) (omega arith) (sym (get_or-drop at table k 0) ∙ e) in
       ltb-neither _ _ _ _ (omega (arith, not_found (drop at table) none)) past
 ]
 
@@ -79,5 +79,5 @@ is_some-string_at table end at fits behind last = is_some-position table at ∙ 
 pub symtab_at-other : (bytes : List ℕ) (i : ℕ) → (section_at bytes i).kind ≢ 2 → symtab_at bytes i ≡ None
 symtab_at-other bytes i other = other_than ((section_at bytes i).kind) i other
   where
-  other_than : (kind i : ℕ) → kind ≢ 2 → cond (kind == 2) (Some i) None ≡ None
-  other_than kind i h = grind (arith, nat_tests)
+    other_than : (kind i : ℕ) → kind ≢ 2 → cond (kind == 2) (Some i) None ≡ None
+    other_than kind i h = grind (arith, nat_tests)

@@ -1,5 +1,5 @@
 -- The parts, written one after the other, are the object.
-use Rattle.std.proofs.Common.{◌≡◌, ℕ, ◌-◌, ◌%◌, List, [], ◌++◌, length, replicate, refl, ◌∙◌}
+use Rattle.std.proofs.Common.{◌≡◌, ℕ, ◌-◌, ◌%◌, List, [], ◌++◌, length, replicate, ◌∙◌}
 use Rattle.std.proofs.lemmas.List.{append_assoc}
 use Rattle.elf_view.specs.Pieces.{elf_header}
 use Rattle.elf_view.specs.Layout.{base_headers, headers_at, map_headers, object_layout, records, rels, section_count, sizes_of, strings, symbols}
@@ -18,7 +18,7 @@ pub object_whole : (name code : List ℕ) (maps : List MapRecord) (refs : List (
     → s ≡ sizes_of name code maps refs → count ≡ section_count maps
     → n ≡ length (records maps) → t ≡ length (strings name maps)
     → v ≡ elf_header (headers_at s) count ++ code ++ symbols (length name) (length code) maps ++ rels refs
-          ++ records maps ++ zeros n ++ strings name maps ++ zeros t ++ base_headers s ++ map_headers (length name) s maps
+    ++ records maps ++ zeros n ++ strings name maps ++ zeros t ++ base_headers s ++ map_headers (length name) s maps
     → v ≡ object_layout name code maps refs
 unfolding object_layout
 object_whole name code maps refs s count n t v es ec en et ev =
@@ -26,7 +26,7 @@ object_whole name code maps refs s count n t v es ec en et ev =
     let h = elf_header (headers_at z) (section_count maps) in
     (rw (es, ec, en, et) at ev)
     ∙ regrouped h code (symbols (length name) (length code) maps) (rels refs) (records maps) (zeros (length (records maps)))
-        (strings name maps) (zeros (length (strings name maps))) (base_headers z) (map_headers (length name) z maps)
+    (strings name maps) (zeros (length (strings name maps))) (base_headers z) (map_headers (length name) z maps)
 
 -- ten writes in a row
 pub ten_writes : {v0 v1 v2 v3 v4 v5 v6 v7 v8 v9 v : List ℕ} (h c s r m p t q b x : List ℕ)

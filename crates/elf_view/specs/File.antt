@@ -39,7 +39,7 @@ section_header_at bytes at = record {
   offset = u64_at bytes (at + 24);
   size = u64_at bytes (at + 32);
   link = u32_at bytes (at + 40);
-  info = u32_at bytes (at + 44)
+  info = u32_at bytes (at + 44);
 }
 
 -- section header number i
@@ -92,7 +92,7 @@ symbol_at table i = record {
   info = slice_index table (24 * i + 4);
   section = u16_at table (24 * i + 6);
   value = u64_at table (24 * i + 8);
-  size = u64_at table (24 * i + 16)
+  size = u64_at table (24 * i + 16);
 }
 
 -- entry i of a REL section: the symbol is the high half of its second number, the type the low half
@@ -100,5 +100,5 @@ unfoldable pub rel_at : List ℕ → ℕ → Rel
 rel_at table i = record {
   offset = u64_at table (16 * i);
   symbol = u64_at table (16 * i + 8) / 2 ^ 32;
-  kind = u64_at table (16 * i + 8) % 2 ^ 32
+  kind = u64_at table (16 * i + 8) % 2 ^ 32;
 }

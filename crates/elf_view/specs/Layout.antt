@@ -13,7 +13,6 @@ use Rattle.elf_view.specs.Numbers.{u32_le}
 use Rattle.elf_view.specs.Pieces.{elf_header, section_header, symbol_bytes, rel_bytes}
 use Rattle.elf_view.specs.declared.parts.Section.{Section}
 use Rattle.elf_view.specs.declared.parts.Symbol.{Symbol}
-use Rattle.elf_view.specs.declared.parts.Rel.{Rel}
 use Rattle.elf_view.specs.declared.object.MapRecord.{MapRecord}
 use Rattle.elf_view.specs.declared.sizes.Sizes.{Sizes}
 
@@ -152,7 +151,7 @@ sizes_of name code maps refs = record {
   symbols = length (symbols (length name) (length code) maps);
   rels = length (rels refs);
   records = length (records maps);
-  strings = length (strings name maps)
+  strings = length (strings name maps);
 }
 
 -- the bytes of the object of the function `name` with this code, these maps and these pairs of place and map

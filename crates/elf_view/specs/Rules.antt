@@ -76,9 +76,9 @@ first_of (r ∷ rs) = option_or r (first_of rs)
 -- the first error of a file, if it has one
 unfoldable pub first_error : List ℕ → Option ElfError
 first_error bytes = first_of (
-  short_file bytes ∷ wrong_header bytes ∷ wrong_machine bytes ∷ short_headers bytes ∷ sections_outside bytes
-  ∷ no_names bytes ∷ names_open bytes ∷ wrong_symbols bytes ∷ []
-)
+    short_file bytes ∷ wrong_header bytes ∷ wrong_machine bytes ∷ short_headers bytes ∷ sections_outside bytes
+    ∷ no_names bytes ∷ names_open bytes ∷ wrong_symbols bytes ∷ []
+    )
 
 -- a call failed with this error, or did not fail and there is none
 abbrev pub FailsAs : {T : Type 0} → Result T ElfError → Option ElfError → Type 0

@@ -2,6 +2,8 @@
 #![tactic(auto)]
 
 mod error;
+mod gabi;
+mod headers;
 mod object;
 mod parts;
 mod pieces;
@@ -9,12 +11,14 @@ mod read;
 mod rules;
 mod sizes;
 mod sole;
-mod view;
+mod strings;
+mod tables;
 #[cfg(test)]
 mod tests;
+mod view;
 
 pub use crate::error::ElfError;
 pub use crate::object::{MapRecord, object_of};
+pub use crate::parts::{Rel, Section, Symbol};
 pub use crate::sole::sole_code;
 pub use crate::view::ElfView;
-pub use crate::parts::{Rel, Section, Symbol};

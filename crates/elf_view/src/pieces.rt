@@ -5,9 +5,9 @@ ghost use Rattle.std.specs.List.{flat_map};
 ghost use Rattle.elf_view.specs.Numbers.{u16_le, u32_le, u64_le};
 ghost use Rattle.elf_view.specs.Pieces.{elf_header, rel_bytes, section_header, symbol_bytes};
 
-use byteorder::{ByteOrder, LittleEndian};
-
+use crate::gabi::{EM_BPF, ET_REL, STRINGS_SECTION};
 use crate::parts::{Rel, Section, Symbol};
+use byteorder::{ByteOrder, LittleEndian};
 
 /// `e_ident`: the magic number, 64-bit class, little-endian data, version 1, and nothing else.
 const IDENT: [u8; 16] = [0x7f, 0x45, 0x4c, 0x46, 2, 1, 1, 0, 0, 0, 0, 0, 0, 0, 0, 0];
@@ -56,8 +56,8 @@ pub fn elf_header(headers_at: u64, sections: u16) -> [u8; 64]
     let mut bytes = [0; 64];
     let fields: [&[u8]; 12] = [
         &IDENT,
-        &u16_le(1),
-        &u16_le(247),
+        &u16_le(ET_REL),
+        &u16_le(EM_BPF),
         &u32_le(1),
         &[0; 16],
         &u64_le(headers_at),
@@ -66,7 +66,7 @@ pub fn elf_header(headers_at: u64, sections: u16) -> [u8; 64]
         &[0; 4],
         &u16_le(64),
         &u16_le(sections),
-        &u16_le(3),
+        &u16_le(STRINGS_SECTION),
     ];
     write_fields(&mut bytes, &fields);
     bytes

@@ -4,10 +4,9 @@ ghost use Rattle.std.specs.Prelude.{◌≡◌, ◌+◌, ◌*◌, ◌<◌, ◌≤
 ghost use Rattle.elf_view.specs.File.{e_shnum, entry_count, string_at, e_shoff, rel_at, section_at, section_header_at, symbol_at};
 ghost use Rattle.elf_view.specs.Numbers.{u16_at, u32_at, u64_at};
 
-use byteorder::{ByteOrder, LittleEndian};
-
 use crate::error::ElfError;
 use crate::parts::{Rel, Section, Symbol};
+use byteorder::{ByteOrder, LittleEndian};
 
 /// The number of 2 bytes at a place.
 #[tactic(auto, unfolding(crate::specs::Numbers::u16_at))]

@@ -5,6 +5,7 @@ ghost use Rattle.elf_view.specs.File.{e_shnum, e_shoff, e_shstrndx, first_from, 
 ghost use Rattle.elf_view.specs.Rules.{AllInside, FailsAs, IsInside, is_string_table, name_open, no_names, sections_outside, short_file, short_headers, wrong_header, wrong_machine, wrong_table};
 
 use crate::error::ElfError;
+use crate::gabi::{EM_BPF, ET_REL, NOBITS, STRTAB, SYMTAB};
 use crate::parts::Section;
 use crate::read::{section_at, u16_at, u64_at};
 
@@ -35,7 +36,7 @@ pub fn check_header(bytes: &[u8]) -> Result<(), ElfError>
     ensures { FailsAs result (wrong_header bytes.now) }
 {
     let ident = bytes[..6] == [0x7f, 0x45, 0x4c, 0x46, 2, 1];
-    if ident && u16_at(bytes, 16) == 1 && u16_at(bytes, 58) == 64 {
+    if ident && u16_at(bytes, 16) == ET_REL && u16_at(bytes, 58) == 64 {
         return Ok(());
     }
     Err(ElfError::Header)
@@ -48,7 +49,7 @@ pub fn check_machine(bytes: &[u8]) -> Result<(), ElfError>
     ensures { FailsAs result (wrong_machine bytes.now) }
 {
     let machine = u16_at(bytes, 18);
-    if machine == 247 {
+    if machine == EM_BPF {
         return Ok(());
     }
     Err(ElfError::Machine { n: machine })
@@ -73,7 +74,7 @@ pub fn check_headers(bytes: &[u8]) -> Result<(), ElfError>
 fn is_inside(bytes: &[u8], section: &Section) -> bool
     ensures { result ≡ not (not (section.now.kind == 8) && nat_lt (length bytes.now) (section.now.offset + section.now.size)) }
 {
-    section.kind == 8
+    section.kind == NOBITS
         || u128::from(section.offset) + u128::from(section.size) <= bytes.len() as u128
 }
 
@@ -98,7 +99,7 @@ pub fn span_of<'a>(bytes: &'a [u8], section: &Section) -> &'a [u8]
     requires { IsInside bytes.now section.now }
     ensures { result.now ≡ span_of bytes.now section.now }
 {
-    if section.kind == 8 {
+    if section.kind == NOBITS {
         return &[];
     }
     &bytes[section.offset as usize..section.offset as usize + section.size as usize]
@@ -110,7 +111,7 @@ pub fn is_string_table(bytes: &[u8], i: u32) -> bool
     requires headers { e_shoff bytes.now + 64 * e_shnum bytes.now ≤ length bytes.now }
     ensures { result ≡ is_string_table bytes.now i }
 {
-    i < u32::from(e_shnum(bytes)) && section_at(bytes, i as u16).kind == 3
+    i < u32::from(e_shnum(bytes)) && section_at(bytes, i as u16).kind == STRTAB
 }
 
 /// There is a string table of the section names.
@@ -165,7 +166,7 @@ pub fn first_symtab(bytes: &[u8]) -> Option<u16>
     ensures below { IfSome result (λ i. i < e_shnum bytes.now) }
 {
     for i in 0..e_shnum(bytes) {
-        if section_at(bytes, i).kind == 2 {
+        if section_at(bytes, i).kind == SYMTAB {
             return Some(i);
         }
     }

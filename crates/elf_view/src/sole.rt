@@ -4,11 +4,10 @@ ghost use Rattle.std.specs.Prelude.{◌+◌, ◌^◌, ◌<◌, length, ◌≡◌
 ghost use Rattle.std.specs.List.{flat_map};
 ghost use Rattle.elf_view.specs.Layout.{object_layout};
 
-use crate::object::{
-    FILL, NO_SECTION, NO_SYMBOL, code_section, function_symbol, strings_section, symbols_section,
-};
+use crate::headers::{NO_SECTION, code_section, strings_section, symbols_section};
 use crate::pieces::{elf_header, section_header, symbol_bytes};
 use crate::sizes::Sizes;
+use crate::tables::{FILL, NO_SYMBOL, function_symbol};
 
 /// What stands behind `front`, if the bytes begin with it.
 fn after<'a>(bytes: &'a [u8], front: &[u8]) -> Option<&'a [u8]>

@@ -5,8 +5,6 @@ ghost use Rattle.elf_view.specs.File.{e_shnum, entry_count, first_symtab, rel_at
 ghost use Rattle.elf_view.specs.Opened.{IsOpened};
 ghost use Rattle.elf_view.specs.Rules.{FailsAs, first_error};
 
-use std::marker::Model;
-
 use crate::error::ElfError;
 use crate::parts::{Rel, Section, Symbol};
 use crate::read::{entry_count, rel_at, section_at, string_at, symbol_at, u16_at};
@@ -14,6 +12,7 @@ use crate::rules::{
     check_header, check_headers, check_length, check_machine, check_name_table, check_names,
     check_spans, check_symbols, e_shnum, first_symtab, span_of,
 };
+use std::marker::Model;
 
 /// An ELF64 object, by the bytes of its file: each part is read where it stands, and borrowed from
 /// them. Contracts see it as the file's bytes.

@@ -1,12 +1,12 @@
 -- One rising edge of a design (IEEE 1364-2005, 9.2.2 and 11.4, for one clock).
-use Rattle.std.specs.Prelude.{ℕ, zero, suc, ◌+◌, ◌^◌, ◌==◌, if◌then◌else◌, Bool, Option, Some, None, Result, Ok, Err, List, [], ◌∷◌, ◌++◌, replicate, slice_set}
+use Rattle.std.specs.Prelude.{ℕ, suc, ◌^◌, ◌==◌, if◌then◌else◌, Option, Some, None, Result, Ok, Err, List, [], ◌∷◌, ◌++◌, replicate, slice_set}
 use Rattle.std.proofs.Common.{get_or}
 use Rattle.net_core.specs.declared.tree.Word.{Word}
 use Rattle.net_core.specs.declared.tree.Net.{Net}
 use Rattle.net_core.specs.declared.tree.Net.TheVariants.{Port, Register, Memory, Wire}
 use Rattle.net_core.specs.declared.design.Declared.{Declared}
 use Rattle.net_core.specs.declared.design.Declared.TheVariants as declared
-use Rattle.net_core.specs.Nets.{Tree, RightTree, Act, ABlock, AIf, AIfElse, ASet, AStore, Acts, AEnd, AThen, WireTree, AssignTree, Plan}
+use Rattle.net_core.specs.Nets.{RightTree, Act, ABlock, AIf, AIfElse, ASet, AStore, Acts, AEnd, AThen, WireTree, AssignTree, Plan}
 use Rattle.net_core.specs.Value.{nothing, Env, value, right_value, stops}
 
 -- what is stored between two edges

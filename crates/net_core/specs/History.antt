@@ -1,5 +1,5 @@
 -- What goes over at the ports in a list of clocks: frames inwards, answers outwards.
-use Rattle.std.specs.Prelude.{◌≡◌, ℕ, zero, suc, ◌+◌, ◌^◌, ◌<◌, if◌then◌else◌, Bool, true, false, ◌&&◌, Option, Some, None, unwrap_or, List, [], ◌∷◌, ◌++◌, length, map, All}
+use Rattle.std.specs.Prelude.{◌≡◌, ℕ, zero, suc, ◌^◌, ◌<◌, if◌then◌else◌, Bool, true, false, ◌&&◌, Option, Some, None, List, [], ◌∷◌, ◌++◌}
 use Rattle.beat_core.specs.declared.beat.Beat.{Beat}
 use Rattle.beat_core.specs.Beats.{bytes_of_beat}
 use Rattle.net_core.specs.declared.ports.Inputs.{Inputs}
@@ -77,8 +77,8 @@ abbrev pub replies : List ℕ → List Moment → List Reply
 replies so_far [] = []
 replies so_far (m ∷ ms) =
     if goes_out m then
-      (if m.shown.out_last then record { verdict = m.shown.out_verdict; target = m.shown.out_target; frame = so_far ++ bytes_of_beat (shown_beat m) } ∷ replies [] ms
-      else replies (so_far ++ bytes_of_beat (shown_beat m)) ms)
+    (if m.shown.out_last then record { verdict = m.shown.out_verdict; target = m.shown.out_target; frame = so_far ++ bytes_of_beat (shown_beat m) } ∷ replies [] ms
+    else replies (so_far ++ bytes_of_beat (shown_beat m)) ms)
     else replies so_far ms
 
 -- the beats after the last whole answer, where these went over before
@@ -111,12 +111,30 @@ pub record IsSilent (i : Inputs) : Type 0 where
 -- The next beat is offered while one is left, what is shown is taken, and the host is silent.
 abbrev pub drive_inputs : ℕ → List Beat → Inputs
 drive_inputs ifindex [] = record {
-  in_valid = false; in_data = 0; in_bytes = 0; in_last = false; in_ifindex = 0; out_ready = true;
-  host_write = false; host_map = 0; host_index = 0; host_word = 0; host_data = 0;
+  in_valid = false;
+  in_data = 0;
+  in_bytes = 0;
+  in_last = false;
+  in_ifindex = 0;
+  out_ready = true;
+  host_write = false;
+  host_map = 0;
+  host_index = 0;
+  host_word = 0;
+  host_data = 0;
 }
 drive_inputs ifindex (b ∷ bs) = record {
-  in_valid = true; in_data = b.word; in_bytes = b.bytes; in_last = b.last; in_ifindex = ifindex; out_ready = true;
-  host_write = false; host_map = 0; host_index = 0; host_word = 0; host_data = 0;
+  in_valid = true;
+  in_data = b.word;
+  in_bytes = b.bytes;
+  in_last = b.last;
+  in_ifindex = ifindex;
+  out_ready = true;
+  host_write = false;
+  host_map = 0;
+  host_index = 0;
+  host_word = 0;
+  host_data = 0;
 }
 
 -- how a drive ends: with its last answer, at a wire whose divisor is zero, or out of clocks
@@ -151,5 +169,6 @@ drive d ifindex s left (suc owed) (suc limit) =
     let i : Inputs = drive_inputs ifindex left in
     let m : Moment = moment_of d s i in
     elim (stopping d (words_of i) s) [
-      None ↦ and_then m (drive d ifindex (after d (words_of i) s) (left_after m left) (owed_after m (suc owed)) limit)
-      | Some w ↦ record { moments = []; ended = Stopped w } ]
+      | None ↦ and_then m (drive d ifindex (after d (words_of i) s) (left_after m left) (owed_after m (suc owed)) limit)
+      | Some w ↦ record { moments = []; ended = Stopped w }
+    ]

@@ -1,5 +1,5 @@
 -- The trees of a design as its reader sees them: without the places in memory where they lie.
-use Rattle.std.specs.Prelude.{ℕ, Bool, List}
+use Rattle.std.specs.Prelude.{ℕ, List}
 use Rattle.net_core.specs.declared.tree.Word.{Word}
 use Rattle.net_core.specs.declared.tree.Op.{Op}
 use Rattle.net_core.specs.declared.tree.Prefix.{Prefix}

@@ -1,5 +1,5 @@
 -- The ports that every design has, in their order.
-use Rattle.std.specs.Prelude.{ℕ, Bool, true, false, ◌==◌, ◌<◌, List, [], ◌∷◌, codes, if◌then◌else◌}
+use Rattle.std.specs.Prelude.{ℕ, Bool, true, false, ◌==◌, ◌<◌, List, [], ◌∷◌, codes}
 use Rattle.net_core.specs.declared.tree.Word.{Word}
 use Rattle.net_core.specs.declared.design.Port.{Port}
 use Rattle.net_core.specs.declared.ports.Inputs.{Inputs}

@@ -1,7 +1,6 @@
 -- What a design in memory stands for.
-use Rattle.std.specs.Prelude.{ℕ, List, map}
+use Rattle.std.specs.Prelude.{map}
 use Rattle.std.specs.Prelude.{string_bytes}
-use Rattle.net_core.specs.declared.tree.Net.{Net}
 use Rattle.net_core.specs.declared.tree.Expr.{Expr, Const, Read, Bit, Bits, Cell', Before', Two', Choose', Join'}
 use Rattle.net_core.specs.declared.tree.Parts.{Parts, Last, More'}
 use Rattle.net_core.specs.declared.tree.Right.{Right}

@@ -21,7 +21,7 @@ with_same (Ok (Some r)) f g h = ap (λ (m : Coming). (r.0 ∷ m.0, m.1)) (h r.0 
 
 length-later : (rest later : List ℕ) (p : Packet) → IsAfter rest p later → length later < length rest
 length-later rest later p a =
-    omega (arith, ap length a.after, length-drop (16 + length p.bytes) rest, a.some, a.fits)
+    omega (arith, ap length a.after, length-drop (16 + length p.bytes) rest, a.len.0, a.fits)
 
 records-fuel : (n m : ℕ) (order : Order) (index at : ℕ) (rest : List ℕ) → length rest < n → length rest < m → records_within n order index at rest ≡ records_within m order index at rest
 unfolding records_within

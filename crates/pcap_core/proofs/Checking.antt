@@ -6,7 +6,7 @@ use Rattle.pcap_core.specs.declared.order.Order.{Order}
 use Rattle.pcap_core.specs.declared.error.PcapError.{PcapError}
 use Rattle.pcap_core.specs.Number.{number}
 use Rattle.pcap_core.specs.Format.{Record, packet_of, packets_of, capture_bytes, Ends, Content, IsContent, IsCapture}
-use Rattle.pcap_core.specs.Reading.{header_of, records_at, content_from, with_header, content_of, counted, count_of}
+use Rattle.pcap_core.specs.Reading.{header_of, records_at, content_from, with_header, content_of, counted, count_of, IsReadWhole}
 use Rattle.pcap_core.proofs.Heads.{done, ok_is, not_both}
 use Rattle.pcap_core.proofs.All.{records_at-count, written-content_of}
 
@@ -49,3 +49,11 @@ pub is-count : (bytes : List ℕ) (result : Result ℕ PcapError) → result ≡
 is-count bytes result e count i =
     e ∙ ap (λ (xs : List ℕ). count_of (content_of xs)) i.spelling ∙ ap count_of (written-content_of i.header i.records i.is_header i.are_records)
     ∙ ap (λ (n : ℕ). done n) (length-packets_of i.records ∙ sym i.counted)
+
+read_by : (bytes : List ℕ) (c : Content) (fault : Option PcapError) (result : Result ℕ PcapError) → content_of bytes ≡ Ok c → c.fault ≡ fault → result ≡ counted fault (length c.packets) → IfOk result (IsReadWhole bytes)
+read_by bytes c None result is f e = rw e (record { content = c; read = is; faultless = f; count_is = refl })
+read_by bytes c (Some fault) result is f e = rw e tt
+
+-- what is counted to the end is read without fault
+pub count-reads : (bytes : List ℕ) (c : Content) (result : Result ℕ PcapError) → content_of bytes ≡ Ok c → result ≡ counted c.fault (length c.packets) → IfOk result (IsReadWhole bytes)
+count-reads bytes c result is e = read_by bytes c c.fault result is refl e

@@ -1,10 +1,10 @@
 -- A header without fault is spelled, and a spelled header has no fault.
-use Rattle.std.proofs.Common.{◌≡◌, ℕ, ◌+◌, ◌^◌, ◌<◌, ◌≤◌, List, ◌++◌, length, drop, Some, Ok, refl, sym, ap, subst, ◌∙◌, arith, inl, inr, length-append}
+use Rattle.std.proofs.Common.{◌≡◌, ℕ, ◌^◌, ◌<◌, ◌≤◌, List, ◌++◌, length, drop, Some, Ok, sym, ap, subst, ◌∙◌, arith, inl, inr, length-append}
 use Rattle.pcap_core.specs.declared.order.Order.{Order}
 use Rattle.pcap_core.specs.Number.{number, spelled}
-use Rattle.pcap_core.specs.Format.{IsBytes, IsMagic, Header, IsHeader, header_bytes, BeginsIn, IsVersion}
+use Rattle.pcap_core.specs.Format.{IsBytes, IsMagic, Header, IsHeader, header_bytes, BeginsIn}
 use Rattle.pcap_core.specs.Reading.{order_of, header_of}
-use Rattle.pcap_core.proofs.Numbers.{IsWide, wide2, wide4, IsBytes-drop}
+use Rattle.pcap_core.proofs.Numbers.{wide2, wide4, IsBytes-drop}
 use Rattle.pcap_core.proofs.Parts.{behind, number_behind, three_parts, four_parts, seven_before}
 use Rattle.pcap_core.proofs.Heads.{IsTested, header_of-tested, tested-header_of, spelled-order_of}
 

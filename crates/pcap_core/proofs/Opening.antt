@@ -1,10 +1,10 @@
 -- What the calls of `Capture` answer, by the reading of its bytes.
-use Rattle.std.proofs.Common.{◌≡◌, ℕ, ◌+◌, ◌-◌, ◌≤◌, ◌<◌, List, [], ◌∷◌, length, take, drop, Option, Some, None, Result, Ok, Err, refl, sym, ap, subst, ◌∙◌, arith, length-drop}
+use Rattle.std.proofs.Common.{◌≡◌, ℕ, ◌+◌, ◌-◌, ◌≤◌, List, [], ◌∷◌, length, take, drop, Option, Some, None, Result, Ok, Err, sym, ap, ◌∙◌, arith, length-drop}
 use Rattle.std.proofs.lemmas.List.{take_rest, drop-drop, length-take}
 use Rattle.pcap_core.specs.declared.order.Order.{Order}
 use Rattle.pcap_core.specs.declared.error.PcapError.{PcapError}
 use Rattle.pcap_core.specs.Number.{number}
-use Rattle.pcap_core.specs.Format.{Packet, Content}
+use Rattle.pcap_core.specs.Format.{Packet, Content, IsLength}
 use Rattle.pcap_core.specs.Reading.{header_of, record_at, Coming, with_record, records_at, content_from, with_header, content_of}
 use Rattle.pcap_core.proofs.Heads.{done, failed}
 use Rattle.pcap_core.proofs.All.{records_at-step}
@@ -57,3 +57,6 @@ pub packet_fits : (order : Order) (index at : ℕ) (bytes : List ℕ) (p : Packe
 packet_fits order index at bytes p later within is =
     let a = record_at-after order index at (left_at at bytes) p later is in
     omega (arith, a.fits, length-take (length bytes - at) (drop at bytes), length-drop at bytes)
+
+pub packet_len : (order : Order) (index at : ℕ) (bytes : List ℕ) (p : Packet) (later : List ℕ) → record_at order index at (left_at at bytes) ≡ Ok (Some (p, later)) → IsLength (length p.bytes)
+packet_len order index at bytes p later is = (record_at-after order index at (left_at at bytes) p later is).len

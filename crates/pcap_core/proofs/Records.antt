@@ -1,17 +1,17 @@
 -- A record is read where it is spelled, and else the end or the fault there.
-use Rattle.std.proofs.Common.{◌≡◌, ℕ, zero, suc, ◌+◌, ◌^◌, ◌<◌, ◌≤◌, Bool, true, false, List, [], ◌∷◌, ◌++◌, length, take, drop, Option, Some, None, Result, Ok, Err, refl, sym, ap, subst, ◌∙◌, arith, inl, inr, length-append, length-drop}
-use Rattle.std.specs.Prelude.{◌==◌, nat_lt, nat_le, ◌&&◌, not, if◌then◌else◌}
+use Rattle.std.proofs.Common.{◌≡◌, ℕ, zero, suc, ◌+◌, ◌<◌, ◌≤◌, Bool, true, false, List, [], ◌++◌, length, take, drop, Option, Some, None, Result, Ok, Err, refl, sym, ap, subst, ◌∙◌, arith, inl, inr, length-append, length-drop}
+use Rattle.std.specs.Prelude.{◌==◌, nat_lt, nat_le, ◌&&◌}
 use Rattle.std.proofs.lemmas.Bool.{eqb-true, ne_eqb, ltb-true, ltb-false, lt-ltb, le-ltb, leb-true, le-leb}
-use Rattle.std.proofs.lemmas.List.{length-take, length-take-le, take_at, drop_at, drop-drop, take-append-drop, nil_from_length, append_assoc}
+use Rattle.std.proofs.lemmas.List.{length-take-le, take_at, drop-drop, take-append-drop, nil_from_length}
 use Rattle.pcap_core.specs.declared.order.Order.{Order}
 use Rattle.pcap_core.specs.declared.error.PcapError.{PcapError}
 use Rattle.pcap_core.specs.declared.error.PcapError.TheVariants.{Short, Magic, Version, Link, Frame}
 use Rattle.pcap_core.specs.Number.{number, spelled}
 use Rattle.pcap_core.specs.Format.{IsBytes, Packet, Record, IsLength, IsRecord, record_bytes, announced, Ends}
 use Rattle.pcap_core.specs.Reading.{is_length, packet_at, record_at}
-use Rattle.pcap_core.proofs.Numbers.{IsWide, wide4, IsBytes-drop, IsBytes-take}
+use Rattle.pcap_core.proofs.Numbers.{wide4, IsBytes-drop, IsBytes-take}
 use Rattle.pcap_core.proofs.Parts.{behind, number_behind, four_parts, five_before}
-use Rattle.pcap_core.proofs.Heads.{either, failed, done, err_is, ok_is, not_both}
+use Rattle.pcap_core.proofs.Heads.{either}
 
 -- ---- the cases of a record
 
@@ -107,7 +107,7 @@ first_spelled order rest h is long =
 
 -- what follows a packet that was read
 pub record IsAfter (rest : List ℕ) (packet : Packet) (later : List ℕ) : Type 0 where
-  pub some : 1 ≤ length packet.bytes
+  pub len : IsLength (length packet.bytes)
   pub fits : 16 + length packet.bytes ≤ length rest
   pub after : later ≡ drop (16 + length packet.bytes) rest
 
@@ -118,7 +118,7 @@ record_at-after order index at rest packet later read =
     let bytes : packet.bytes ≡ take n (drop 16 rest) = ap (λ (r : Packet × List ℕ). r.0.bytes) w.is in
     let len : length packet.bytes ≡ n = ap length bytes ∙ length-take-le n (drop 16 rest) (omega (arith, length-drop 16 rest, w.fits)) in
     record {
-      some = omega (arith, w.right);
+      len = subst IsLength (sym len) w.right;
       fits = omega (arith, w.fits);
       after = ap (λ (r : Packet × List ℕ). r.1) w.is ∙ ap (λ (k : ℕ). drop (16 + k) rest) (sym len);
     }

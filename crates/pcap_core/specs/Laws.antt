@@ -1,5 +1,5 @@
 -- Reading is of the format: each list of bytes has one content, or one fault of its header.
-use Rattle.std.specs.Prelude.{◌≡◌, ℕ, List, None, Result, Ok, Err}
+use Rattle.std.specs.Prelude.{◌≡◌, ℕ, List, None, Ok, Err}
 use Rattle.std.specs.List.{AllByRecursion}
 use Rattle.pcap_core.specs.declared.error.PcapError.{PcapError}
 use Rattle.pcap_core.specs.Format.{IsBytes, Header, IsHeader, Record, IsRecord, packets_of, capture_bytes, Content, IsContent, IsHeaderFault}

@@ -2,7 +2,7 @@
 use Rattle.std.specs.Prelude.{◌≡◌, ℕ, ◌+◌, List, [], ◌∷◌, length, drop, Option, Some, None, Result, Ok, Err}
 use Rattle.pcap_core.specs.declared.record.Rec.{Rec}
 use Rattle.pcap_core.specs.declared.error.PcapError.{PcapError}
-use Rattle.pcap_core.specs.Format.{Packet, Content}
+use Rattle.pcap_core.specs.Format.{Packet, Content, IsLength}
 
 -- a record that was given, as a packet
 abbrev pub seen : Rec → Packet
@@ -19,3 +19,9 @@ abbrev pub GivesNext : Result (Option Rec) PcapError → Content → Content →
 GivesNext (Ok (Some r)) old new = (old.packets ≡ seen r ∷ new.packets) × (new.fault ≡ old.fault) × (new.magic ≡ old.magic)
 GivesNext (Ok None) old new = (old.packets ≡ []) × (old.fault ≡ None) × (new ≡ old)
 GivesNext (Err fault) old new = (old.packets ≡ []) × (old.fault ≡ Some fault) × (new ≡ old)
+
+-- a packet that is given has the bytes of a frame
+abbrev pub GivesFrame : Result (Option Rec) PcapError → Type 0
+GivesFrame (Ok (Some r)) = IsLength (length r.bytes.now)
+GivesFrame (Ok None) = Unit {0}
+GivesFrame (Err fault) = Unit {0}

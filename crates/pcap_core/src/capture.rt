@@ -2,8 +2,8 @@
 
 ghost use Rattle.std.specs.Prelude.{◌≡◌, ℕ, ◌<◌, ◌^◌, length, MatchResult, IfOk, Ok};
 ghost use Rattle.pcap_core.specs.Format.{IsContent, IsHeaderFault, IsCapture};
-ghost use Rattle.pcap_core.specs.Reading.{content_of, count_of, counted};
-ghost use Rattle.pcap_core.specs.Next.{GivesNext};
+ghost use Rattle.pcap_core.specs.Reading.{content_of, count_of, counted, IsReadWhole};
+ghost use Rattle.pcap_core.specs.Next.{GivesNext, GivesFrame};
 
 use crate::error::PcapError;
 use crate::header::{HEADER_BYTES, header_of};
@@ -61,7 +61,9 @@ impl<'a> Capture<'a> {
 
     /// The next packet, or none at the end. A fault comes again at each further call.
     pub fn next(&mut self) -> Result<Option<Rec<'a>>, PcapError>
-        ensures { GivesNext result self.old self.new }
+        ensures next { GivesNext result self.old self.new }
+        // What is given has 1 to 1,536 bytes.
+        ensures frame { GivesFrame result }
     {
         let rest = &self.bytes[self.at..];
         match record_at(self.order, self.index as u64, self.at as u64, rest) {
@@ -71,7 +73,7 @@ impl<'a> Capture<'a> {
                 Ok(Some(record))
             }
             Ok(None) => Ok(None),
-            Err(fault) => Err(fault),
+            Err(error) => Err(error),
         }
     }
 }
@@ -79,6 +81,7 @@ impl<'a> Capture<'a> {
 /// How many packets a capture has that is whole, header and each record, or its first fault.
 pub fn check(bytes: &[u8]) -> Result<u64, PcapError>
     ensures content { result ≡ count_of (content_of bytes.now) }
+    ensures whole { IfOk result (IsReadWhole bytes.now) }
     // It is Ok exactly where the bytes are a capture.
     ensures found { IfOk result (IsCapture bytes.now) }
     ensures only { (count : ℕ) → IsCapture bytes.now count → result ≡ Ok count }

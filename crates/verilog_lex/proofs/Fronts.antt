@@ -1,83 +1,26 @@
 -- What a text begins with, where it is a spelled token and then whatever may follow.
-use Rattle.std.proofs.Common.{◌≡◌, ℕ, zero, suc, ◌+◌, ◌<◌, ◌≤◌, ◌^◌, ◌==◌, ◌&&◌, ◌||◌, Bool, true, false, not, List, [], ◌∷◌, ◌++◌, length, take, drop, get_or, Option, Some, None, refl, sym, ap, ◌∙◌, arith, lit<, nat_le, nat_lt, append_assoc, length-append, if◌then◌else◌}
+use Rattle.std.proofs.Common.{◌≡◌, ℕ, zero, suc, ◌+◌, ◌<◌, ◌≤◌, ◌^◌, ◌==◌, ◌&&◌, Bool, true, false, not, List, [], ◌∷◌, ◌++◌, length, take, drop, get_or, Some, None, refl, ap, ◌∙◌, arith, lit<, nat_le, nat_lt, append_assoc, length-append}
 use Rattle.std.proofs.lemmas.Bool.Decides.{nat_tests}
 use Rattle.std.proofs.Math.Nat.{pow-le-pow_right}
 use Rattle.std.proofs.Math.Seq.{take-append_seam, drop-append_seam}
-use Rattle.std.proofs.lemmas.Fmt.{decimal_is_IsNumeral, decimal_nonempty, first_decimal, decimal_digit}
+use Rattle.std.proofs.lemmas.Fmt.{decimal_is_IsNumeral, first_decimal, decimal_digit}
 use Rattle.std.proofs.lemmas.Str.Parse.{digit_from_value}
 use Rattle.std.specs.Char.{digit_value, is_ascii_uppercase}
 use Rattle.std.specs.Fmt.{decimal}
 use Rattle.std.specs.List.{prefix_len, list_all}
-use Rattle.std.specs.Str.Parse.{AllDigits, IsNumeral, digits_value}
-use Rattle.verilog_lex.specs.Bytes.{is_space, is_comment_byte, is_digit, begins_word, is_word_byte, begins_with, is_digit_of}
+use Rattle.std.specs.Str.Parse.{AllDigits, digits_value}
+use Rattle.verilog_lex.specs.Bytes.{is_space, is_digit, begins_word, is_word_byte, begins_with, is_digit_of}
 use Rattle.verilog_lex.specs.Words.{keyword_text, symbol_text}
 use Rattle.verilog_lex.specs.Number.{has_leading_zero, radix_of, some_digits, digits_after, constant_in, sized_kind, fits_size}
-use Rattle.verilog_lex.specs.Piece.{piece_in, number_in, number_piece, sized_or_plain, plain_piece, word_in, word_kind, keyword_of}
-use Rattle.verilog_lex.specs.Spelling.{is_word, IsName, goes_on, sized_text, symbol_spelling}
-use Rattle.verilog_lex.specs.declared.piece.Piece.{Piece}
-use Rattle.verilog_lex.specs.declared.piece.Piece.TheVariants.{Separator, Token, Nothing}
+use Rattle.verilog_lex.specs.Piece.{piece_in, number_in, number_piece, sized_or_plain, plain_piece, word_in, word_kind}
+use Rattle.verilog_lex.specs.Spelling.{is_word, goes_on, sized_text, symbol_spelling}
+use Rattle.verilog_lex.specs.declared.piece.Piece.TheVariants.{Token}
 use Rattle.verilog_lex.specs.declared.token.Keyword.{Keyword}
 use Rattle.verilog_lex.specs.declared.token.Keyword.TheVariants as keyword
 use Rattle.verilog_lex.specs.declared.token.Symbol.{Symbol}
 use Rattle.verilog_lex.specs.declared.token.Symbol.TheVariants as symbol
 use Rattle.verilog_lex.specs.declared.token.TokenKind.TheVariants as kind
-use Rattle.verilog_lex.proofs.Pieces.{second_true}
-
--- the first byte of a text does not pass a test
-abbrev pub stops : (ℕ → Bool) → List ℕ → Bool
-stops p [] = true
-stops p (c ∷ rest) = not (p c)
-
-first_true : (a b : Bool) → a && b ≡ true → a ≡ true
-first_true true b e = refl
-first_true false b e = absurd cc
-
-first_false : (a b : Bool) → a ≡ false → a && b ≡ false
-first_false true b e = absurd cc
-first_false false b e = refl
-
-from_not : (b : Bool) → not b ≡ true → b ≡ false
-from_not true e = absurd cc
-from_not false e = refl
-
-both : (a b : Bool) → a ≡ true → b ≡ true → a && b ≡ true
-both true b e h = h
-both false b e h = absurd cc
-
-or_both : (a b : Bool) → a || b ≡ false → (a ≡ false) × (b ≡ false)
-or_both true b e = absurd cc
-or_both false b e = (refl, e)
-
-if_true : {A : Type 0} (b : Bool) (x y : A) → b ≡ true → (if b then x else y) ≡ x
-if_true true x y e = refl
-if_true false x y e = absurd cc
-
-if_false : {A : Type 0} (b : Bool) (x y : A) → b ≡ false → (if b then x else y) ≡ y
-if_false true x y e = absurd cc
-if_false false x y e = refl
-
--- a run that the rest does not go on with is the longest
-pub prefix_len-whole : (p : ℕ → Bool) (run rest : List ℕ) → list_all p run ≡ true → stops p rest ≡ true → prefix_len p (run ++ rest) ≡ length run
-prefix_len-whole p [] [] e h = refl
-prefix_len-whole p [] (c ∷ rest) e h = if_false (p c) (1 + prefix_len p rest) 0 (from_not (p c) h)
-prefix_len-whole p (c ∷ run) rest e h =
-    let more : prefix_len p (run ++ rest) ≡ length run = prefix_len-whole p run rest (second_true (p c) (list_all p run) e) h in
-    if_true (p c) (1 + prefix_len p (run ++ rest)) 0 (first_true (p c) (list_all p run) e) ∙ omega arith
-
-word_no_space : (c : ℕ) → begins_word c ≡ true → is_space c ≡ false
-word_no_space c e = grind (arith, nat_tests)
-
-word_no_slash : (c : ℕ) → begins_word c ≡ true → (c == 47) ≡ false
-word_no_slash c e = grind (arith, nat_tests)
-
-word_no_digit : (c : ℕ) → begins_word c ≡ true → is_digit c ≡ false
-word_no_digit c e = grind (arith, nat_tests)
-
-digit_no_space : (c : ℕ) → is_digit c ≡ true → is_space c ≡ false
-digit_no_space c e = grind (arith, nat_tests)
-
-digit_no_slash : (c : ℕ) → is_digit c ≡ true → (c == 47) ≡ false
-digit_no_slash c e = grind (arith, nat_tests)
+use Rattle.verilog_lex.proofs.Choices.{if_true, if_false, both, first_true, second_true, first_false, or_second, or_both, stops, prefix_len-whole, word_no_space, word_no_slash, word_no_digit, digit_no_space, digit_no_slash}
 
 -- a text that begins with a letter or `_` begins with a word
 piece_in-letter : (c : ℕ) (rest : List ℕ) → begins_word c ≡ true → piece_in (c ∷ rest) ≡ word_in (c ∷ rest)
@@ -93,10 +36,6 @@ piece_in-digit c rest e =
     if_false (is_space c) _ _ (digit_no_space c e)
     ∙ if_false ((c == 47) && begins_with 47 rest) _ _ (first_false (c == 47) (begins_with 47 rest) (digit_no_slash c e))
     ∙ if_true (is_digit c) _ _ e
-
-or_second : (a b : Bool) → b ≡ true → a || b ≡ true
-or_second true b e = refl
-or_second false b e = e
 
 word_bytes : (word : List ℕ) → is_word word ≡ true → list_all is_word_byte word ≡ true
 word_bytes [] e = refl
@@ -156,7 +95,7 @@ no_digit_of c e =
     first_false (nat_lt (digit_value c) 10) (not (is_ascii_uppercase c))
     (not_true (nat_lt (digit_value c) 10) (λ t. let d : is_digit c ≡ true = digit_passes c (true_lt (digit_value c) 10 t) in cc))
 
-digits_pass : (digits : List ℕ) → AllDigits 10 digits → list_all is_digit digits ≡ true
+pub digits_pass : (digits : List ℕ) → AllDigits 10 digits → list_all is_digit digits ≡ true
 digits_pass [] h = refl
 digits_pass (c ∷ cs) h = both (is_digit c) (list_all is_digit cs) (digit_passes c h.0) (digits_pass cs h.1)
 

@@ -83,14 +83,24 @@ left_of text zero at ts to (next p n kind us q e l) h k = let w = token_ends tex
 left_of text (suc most) at ts to (separator p n us q e l) h k =
     let w = separator_ends text p n e in
     let r = left_of text most (p + n) us q l w.1 (omega arith) in
-    record { turns = r.turns; enough = r.enough; within = r.within; reads =
-      lex_separator most p n (drop p text) e ∙ ap (lex most (p + n)) (drop-drop n p text) ∙ r.reads }
+    record {
+      turns = r.turns;
+      enough = r.enough;
+      within = r.within;
+      reads =
+          lex_separator most p n (drop p text) e ∙ ap (lex most (p + n)) (drop-drop n p text) ∙ r.reads;
+    }
 left_of text (suc most) at ts to (next p n kind us q e l) h k =
     let w = token_ends text p n kind e in
     let r = left_of text most (p + n) us q l w.1 (omega arith) in
-    record { turns = r.turns; enough = r.enough; within = r.within; reads =
-      lex_token most p n kind (drop p text) e ∙ ap (λ rest. with_front (token kind p (p + n) ∷ []) (lex most (p + n) rest)) (drop-drop n p text)
-      ∙ ap (with_front (token kind p (p + n) ∷ [])) r.reads ∙ front_twice (token kind p (p + n) ∷ []) us (lex r.turns q (drop q text)) }
+    record {
+      turns = r.turns;
+      enough = r.enough;
+      within = r.within;
+      reads =
+          lex_token most p n kind (drop p text) e ∙ ap (λ rest. with_front (token kind p (p + n) ∷ []) (lex most (p + n) rest)) (drop-drop n p text)
+          ∙ ap (with_front (token kind p (p + n) ∷ [])) r.reads ∙ front_twice (token kind p (p + n) ∷ []) us (lex r.turns q (drop q text));
+    }
 
 -- tokens that lead to the end are those that are read
 pub tokens_in-leads : (text : List ℕ) (ts : List Token) → Leads text 0 ts (length text) → tokens_in text ≡ Ok ts

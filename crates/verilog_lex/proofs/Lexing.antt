@@ -1,5 +1,5 @@
 -- Lexemes of a text, and tokens that lead to its end.
-use Rattle.std.proofs.Common.{◌≡◌, ℕ, ◌+◌, ◌-◌, ◌≤◌, List, [], ◌∷◌, length, take, drop, slice_range, Result, Ok, Err, refl, sym, ap, subst, ◌∙◌, arith, length-drop, drop-drop}
+use Rattle.std.proofs.Common.{◌≡◌, ℕ, ◌+◌, ◌-◌, ◌≤◌, List, [], ◌∷◌, length, take, drop, slice_range, Ok, refl, sym, ap, subst, ◌∙◌, arith, length-drop, drop-drop}
 use Rattle.std.proofs.Math.Seq.{drop-length}
 use Rattle.verilog_lex.specs.Piece.{piece_in}
 use Rattle.verilog_lex.specs.Tokens.{Leads, Read, token, tokens_in}
@@ -52,9 +52,9 @@ leads_from text at rest ls (next r n k ms p h) e within =
       found = token k at (at + n) ∷ more.found;
       leads = after at n k more.found (length text) here_too more.leads;
       same =
-        ap (λ l. l ∷ lexemes_of text more.found) (sym (span_take at n text k))
-        ∙ ap (λ bytes. lexeme k (take n bytes) ∷ lexemes_of text more.found) (sym e)
-        ∙ ap (λ ls. lexeme k (take n r) ∷ ls) more.same;
+          ap (λ l. l ∷ lexemes_of text more.found) (sym (span_take at n text k))
+          ∙ ap (λ bytes. lexeme k (take n bytes) ∷ lexemes_of text more.found) (sym e)
+          ∙ ap (λ ls. lexeme k (take n r) ∷ ls) more.same;
     }
 
 -- the lexemes of a text are those of its tokens

@@ -1,35 +1,18 @@
 -- A piece has at least one byte, and no more than the text.
-use Rattle.std.proofs.Common.{◌≡◌, ℕ, zero, suc, ◌+◌, ◌<◌, ◌≤◌, ◌==◌, ◌&&◌, Bool, true, false, List, [], ◌∷◌, length, take, drop, Option, Some, None, refl, sym, ap, arith, lit<, ◌-◌, if◌then◌else◌, nat_le, nat_eq, ◌||◌, length-drop, length-take}
+use Rattle.std.proofs.Common.{◌≡◌, ℕ, suc, ◌+◌, ◌<◌, ◌≤◌, ◌==◌, ◌&&◌, true, List, [], ◌∷◌, length, take, drop, Option, Some, None, refl, sym, ap, arith, lit<, ◌-◌, nat_le, nat_eq, length-drop, length-take}
 use Rattle.std.proofs.lemmas.List.Folds.{length-prefix_len}
 use Rattle.std.proofs.lemmas.List.Sums.{prefix_len-le-length}
 use Rattle.std.specs.Cmp.Lexicographic.{same_text}
-use Rattle.std.specs.List.{prefix_len, find, starts_with}
+use Rattle.std.specs.List.{prefix_len, starts_with}
 use Rattle.std.specs.Str.Parse.{digits_value}
 use Rattle.verilog_lex.specs.Bytes.{is_space, is_comment_byte, is_digit, begins_word, is_word_byte, begins_with, is_digit_of}
 use Rattle.verilog_lex.specs.Words.{symbol_text, symbols}
 use Rattle.verilog_lex.specs.Number.{has_leading_zero, radix_of, some_digits, digits_after, constant_in}
-use Rattle.verilog_lex.specs.Piece.{IsWithin, piece_in, number_in, number_piece, sized_or_plain, plain_piece, word_in, symbol_at, symbol_in, symbol_or_nothing}
+use Rattle.verilog_lex.specs.Piece.{IsWithin, piece_in, number_in, number_piece, sized_or_plain, symbol_at, symbol_in, symbol_or_nothing}
 use Rattle.verilog_lex.specs.declared.token.Symbol.{Symbol}
 use Rattle.verilog_lex.specs.declared.token.Symbol.TheVariants as symbol
 use Rattle.verilog_lex.specs.declared.piece.Piece.{Piece}
-use Rattle.verilog_lex.specs.declared.piece.Piece.TheVariants.{Separator, Token, Nothing}
-
--- either branch, by its test
-pub either : {A : Type 0} (P : A → Type 0) (b : Bool) (x y : A) → (b ≡ true → P x) → (b ≡ false → P y) → P (if b then x else y)
-either P true x y f g = f refl
-either P false x y f g = g refl
-
-or_second : (a b : Bool) → b ≡ true → a || b ≡ true
-or_second true b e = refl
-or_second false b e = e
-
-pub second_true : (a b : Bool) → a && b ≡ true → b ≡ true
-second_true true b e = e
-second_true false b e = absurd cc
-
--- at least one digit is in front where the first byte is one
-pub front_of : (p : ℕ → Bool) (c : ℕ) (rest : List ℕ) → p c ≡ true → 0 < prefix_len p (c ∷ rest)
-front_of p c rest e = rw e (omega arith)
+use Rattle.verilog_lex.proofs.Choices.{either, second_true, or_second, find_passes, front_of}
 
 some_digits_within : (r n len : ℕ) (c : ℕ × ℕ) → n ≤ len → some_digits r n ≡ Some c → c.1 ≤ len
 some_digits_within r n len c h =
@@ -70,19 +53,12 @@ number_within text h =
     let bound : n ≤ length text = prefix_len-le-length is_digit text in
     number_piece_within (take n text) (drop n text) (length text) (omega arith) (omega arith)
 
-symbol_positive : (s : Symbol) → 0 < length (symbol_text s)
+pub symbol_positive : (s : Symbol) → 0 < length (symbol_text s)
 symbol_positive symbol.LessEqual = lit< tt
 symbol_positive s = lit< tt
 
--- what is found passes the test
-pub find_passes : {X : Type 0} (test : X → Bool) (xs : List X) (x : X) → find test xs ≡ Some x → test x ≡ true
-find_passes test [] x = λ e. absurd cc
-find_passes {X} test (y ∷ xs) x =
-    let P : Option X → Type 0 = λ o. o ≡ Some x → test x ≡ true in
-    either P (test y) (Some y) (find test xs) (λ t e. let same : y ≡ x = cc in rw (← same) t) (λ _ e. find_passes test xs x e)
-
 -- a text that starts with another is as long at least
-longer : (text front : List ℕ) → starts_with nat_eq text front ≡ true → length front ≤ length text
+pub longer : (text front : List ℕ) → starts_with nat_eq text front ≡ true → length front ≤ length text
 longer text front e =
     let same : length front ≡ length (take (length front) text) = ap length (same_text front (take (length front) text) (sym e)) in
     omega (arith, length-take (length front) text)
@@ -94,7 +70,7 @@ symbol_or_nothing_within (Some s) text h = (symbol_positive s, h s refl)
 symbol_within : (text : List ℕ) → IsWithin (symbol_in text) (length text)
 symbol_within text = symbol_or_nothing_within (symbol_at text) text (λ s e. longer text (symbol_text s) (find_passes (λ s. starts_with nat_eq text (symbol_text s)) symbols s e))
 
-comment_within : (rest : List ℕ) → begins_with 47 rest ≡ true → 2 + prefix_len is_comment_byte (drop 1 rest) ≤ suc (length rest)
+pub comment_within : (rest : List ℕ) → begins_with 47 rest ≡ true → 2 + prefix_len is_comment_byte (drop 1 rest) ≤ suc (length rest)
 comment_within [] e = absurd cc
 comment_within (c ∷ rest) e = let bound : prefix_len is_comment_byte rest ≤ length rest = prefix_len-le-length is_comment_byte rest in omega arith
 

@@ -1,5 +1,5 @@
 -- Texts that are read as they were written, piece by piece.
-use Rattle.std.proofs.Common.{◌≡◌, ℕ, ◌+◌, ◌≤◌, Bool, true, false, Result, OnOk, List, [], ◌∷◌, ◌++◌, length, take, drop, refl, sym, ap, subst, ◌∙◌, arith, append_assoc, append-nil}
+use Rattle.std.proofs.Common.{◌≡◌, ℕ, ◌+◌, ◌≤◌, true, false, Result, OnOk, List, [], ◌∷◌, ◌++◌, length, refl, sym, ap, subst, ◌∙◌, arith, append_assoc, append-nil}
 use Rattle.std.proofs.lemmas.Result.{on_ok_weaker}
 use Rattle.std.proofs.Math.Seq.{take-append_seam, drop-append_seam}
 use Rattle.std.specs.Fmt.{decimal}
@@ -10,15 +10,15 @@ use Rattle.verilog_lex.specs.Number.{fits_size}
 use Rattle.verilog_lex.specs.Piece.{piece_in, word_kind, keyword_or_name}
 use Rattle.verilog_lex.specs.Lexeme.{Lexeme, LName, LKeyword, LNumber, LSized, LSymbol, Lexes, lexeme}
 use Rattle.verilog_lex.specs.Lexeme.Lexes.{done, separator, next}
-use Rattle.verilog_lex.specs.Spelling.{IsName, IsClosed, IsOpen, goes_on, is_word, sized_text, symbol_spelling}
-use Rattle.verilog_lex.specs.declared.piece.Piece.{Piece}
+use Rattle.verilog_lex.specs.Spelling.{IsName, IsClosed, IsOpen, goes_on, sized_text, symbol_spelling}
 use Rattle.verilog_lex.specs.declared.piece.Piece.TheVariants.{Separator, Token}
 use Rattle.verilog_lex.specs.declared.token.Keyword.{Keyword}
 use Rattle.verilog_lex.specs.declared.token.Symbol.{Symbol}
 use Rattle.verilog_lex.specs.declared.token.Symbol.TheVariants as symbol
 use Rattle.verilog_lex.specs.declared.token.TokenKind.{TokenKind}
 use Rattle.verilog_lex.specs.declared.token.TokenKind.TheVariants as kind
-use Rattle.verilog_lex.proofs.Fronts.{piece_in-word, piece_in-number, piece_in-sized, piece_in-symbol, keyword_is_word, word_kind-keyword, stops_words, prefix_len-whole}
+use Rattle.verilog_lex.proofs.Fronts.{piece_in-word, piece_in-number, piece_in-sized, keyword_is_word, word_kind-keyword, stops_words}
+use Rattle.verilog_lex.proofs.Choices.{prefix_len-whole}
 
 -- a token, and then a text
 Lexes-front : (text rest : List ℕ) (k : TokenKind) (ls : List Lexeme) → piece_in (text ++ rest) ≡ Token k (length text) → Lexes rest ls → Lexes (text ++ rest) (lexeme k text ∷ ls)
@@ -28,21 +28,27 @@ Lexes-front text rest k ls e h =
     subst Q (take-append_seam text rest) (next (text ++ rest) (length text) k ls e (subst P (sym (drop-append_seam text rest)) h))
 
 pub IsOpen-name : (word : List ℕ) → IsName word → IsOpen word (LName word ∷ [])
-IsOpen-name word n = record { before = λ rest ls h e.
-  let named : word_kind word ≡ kind.Name = ap keyword_or_name n.other in
-  Lexes-front word rest kind.Name ls (piece_in-word word rest n.letters (stops_words rest e) ∙ ap (λ k. Token k (length word)) named) h }
+IsOpen-name word n = record {
+  before = λ rest ls h e.
+      let named : word_kind word ≡ kind.Name = ap keyword_or_name n.other in
+      Lexes-front word rest kind.Name ls (piece_in-word word rest n.letters (stops_words rest e) ∙ ap (λ k. Token k (length word)) named) h;
+}
 
 pub IsOpen-keyword : (k : Keyword) → IsOpen (keyword_text k) (LKeyword k ∷ [])
-IsOpen-keyword k = record { before = λ rest ls h e.
-  Lexes-front (keyword_text k) rest (kind.Keyword k) ls
-    (piece_in-word (keyword_text k) rest (keyword_is_word k) (stops_words rest e) ∙ ap (λ kind. Token kind (length (keyword_text k))) (word_kind-keyword k)) h }
+IsOpen-keyword k = record {
+  before = λ rest ls h e.
+      Lexes-front (keyword_text k) rest (kind.Keyword k) ls
+      (piece_in-word (keyword_text k) rest (keyword_is_word k) (stops_words rest e) ∙ ap (λ kind. Token kind (length (keyword_text k))) (word_kind-keyword k)) h;
+}
 
 pub IsOpen-number : (n : ℕ) → n ≤ 65536 → IsOpen (decimal n) (LNumber n ∷ [])
 IsOpen-number n small = record { before = λ rest ls h e. Lexes-front (decimal n) rest (kind.Number n) ls (piece_in-number n rest small e) h }
 
 pub IsOpen-sized : (width value : ℕ) → fits_size width value ≡ true → IsOpen (sized_text width value) (LSized width value ∷ [])
-IsOpen-sized width value fits = record { before = λ rest ls h e.
-  Lexes-front (sized_text width value) rest (kind.Sized width value) ls (piece_in-sized width value rest fits e) h }
+IsOpen-sized width value fits = record {
+  before = λ rest ls h e.
+      Lexes-front (sized_text width value) rest (kind.Sized width value) ls (piece_in-sized width value rest fits e) h;
+}
 
 -- a space stands after the symbols that may be a front
 pub Lexes-symbol : (s : Symbol) (rest : List ℕ) (ls : List Lexeme) → Lexes rest ls → Lexes (symbol_spelling s ++ rest) (LSymbol s ∷ ls)
@@ -76,9 +82,11 @@ Lexes-comment bytes rest ls e h =
 
 -- a comment, with the end of its line
 pub IsClosed-comment : (bytes : List ℕ) → list_all is_comment_byte bytes ≡ true → IsClosed (47 ∷ 47 ∷ (bytes ++ 10 ∷ [])) []
-IsClosed-comment bytes e = record { before = λ rest ls h.
-  let P : List ℕ → Type 0 = λ text. Lexes (47 ∷ 47 ∷ text) ls in
-  subst P (sym (append_assoc bytes (10 ∷ []) rest)) (Lexes-comment bytes rest ls e h) }
+IsClosed-comment bytes e = record {
+  before = λ rest ls h.
+      let P : List ℕ → Type 0 = λ text. Lexes (47 ∷ 47 ∷ text) ls in
+      subst P (sym (append_assoc bytes (10 ∷ []) rest)) (Lexes-comment bytes rest ls e h);
+}
 
 pub IsClosed-nothing : IsClosed [] []
 IsClosed-nothing = record { before = λ rest ls h. h }
@@ -115,16 +123,16 @@ goes_on-symbol s rest = refl
 -- What a call that adds a text has made of a closed or an open one, unless memory ran out.
 pub opens : {X E : Type 0} (r : Result X E) (old new text : List ℕ) (l : Lexeme) → IsOpen text (l ∷ []) → OnOk r (new ≡ old ++ text) → OnOk r ((ls : List Lexeme) → IsClosed old ls → IsOpen new (ls ++ l ∷ []))
 opens r old new text l o added = on_ok_weaker r (λ e ls h.
-  let P : List ℕ → Type 0 = λ bytes. IsOpen bytes (ls ++ l ∷ []) in
-  subst P (sym e) (IsOpen-append old text ls (l ∷ []) h o)) added
+    let P : List ℕ → Type 0 = λ bytes. IsOpen bytes (ls ++ l ∷ []) in
+    subst P (sym e) (IsOpen-append old text ls (l ∷ []) h o)) added
 
 pub closes : {X E : Type 0} (r : Result X E) (old new text : List ℕ) (l : Lexeme) → IsClosed text (l ∷ []) → ((rest : List ℕ) → goes_on (text ++ rest) ≡ false) → OnOk r (new ≡ old ++ text) → OnOk r ((ls : List Lexeme) → IsOpen old ls → IsClosed new (ls ++ l ∷ []))
 closes r old new text l k apart added = on_ok_weaker r (λ e ls h.
-  let P : List ℕ → Type 0 = λ bytes. IsClosed bytes (ls ++ l ∷ []) in
-  subst P (sym e) (IsClosed-after old text ls (l ∷ []) h k apart)) added
+    let P : List ℕ → Type 0 = λ bytes. IsClosed bytes (ls ++ l ∷ []) in
+    subst P (sym e) (IsClosed-after old text ls (l ∷ []) h k apart)) added
 
 pub separates : {X E : Type 0} (r : Result X E) (old new text : List ℕ) → IsClosed text [] → ((rest : List ℕ) → goes_on (text ++ rest) ≡ false) → OnOk r (new ≡ old ++ text) → OnOk r ((ls : List Lexeme) → IsOpen old ls → IsClosed new ls)
 separates r old new text k apart added = on_ok_weaker r (λ e ls h.
-  let P : List ℕ → Type 0 = λ bytes. IsClosed bytes ls in
-  let Q : List Lexeme → Type 0 = λ ms. IsClosed (old ++ text) ms in
-  subst P (sym e) (subst Q (append-nil ls) (IsClosed-after old text ls [] h k apart))) added
+    let P : List ℕ → Type 0 = λ bytes. IsClosed bytes ls in
+    let Q : List Lexeme → Type 0 = λ ms. IsClosed (old ++ text) ms in
+    subst P (sym e) (subst Q (append-nil ls) (IsClosed-after old text ls [] h k apart))) added

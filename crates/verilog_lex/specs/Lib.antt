@@ -5,4 +5,4 @@ pub mod Piece
 pub mod Tokens
 pub mod Lexeme
 pub mod Spelling
-pub mod Grammar
+pub mod Forms

@@ -1,7 +1,6 @@
 -- Numbers with a size and without.
-use Rattle.std.specs.Prelude.{ℕ, Bool, false, ◌+◌, ◌^◌, ◌==◌, ◌&&◌, nat_le, nat_lt, if◌then◌else◌, List, [], ◌∷◌, length, Option, Some, None}
+use Rattle.std.specs.Prelude.{ℕ, Bool, false, ◌^◌, ◌==◌, ◌&&◌, nat_le, nat_lt, if◌then◌else◌, List, [], ◌∷◌, Option, Some, None}
 use Rattle.std.specs.List.{prefix_len}
-use Rattle.std.specs.Str.Parse.{digits_value}
 use Rattle.verilog_lex.specs.Bytes.{is_digit_of}
 use Rattle.verilog_lex.specs.declared.token.TokenKind.{TokenKind}
 use Rattle.verilog_lex.specs.declared.token.TokenKind.TheVariants as kind
@@ -36,4 +35,3 @@ fits_size size value = (nat_le 1 size && nat_le size 64) && nat_lt value (2 ^ si
 
 abbrev pub sized_kind : ℕ → ℕ → TokenKind
 sized_kind size value = if fits_size size value then kind.Sized size value else kind.OutOfRange
-

@@ -3,6 +3,7 @@
 ghost use Rattle.std.specs.Prelude.{◌≡◌, ◌≤◌, ◌<◌, length, IsTrue};
 ghost use Rattle.std.specs.List.{prefix_len};
 ghost use Rattle.verilog_lex.specs.Bytes.{begins_with, begins_word, is_comment_byte, is_digit, is_space, is_word_byte};
+ghost use Rattle.verilog_lex.specs.Forms.{IsLongestPiece};
 ghost use Rattle.verilog_lex.specs.Piece.{IsWithin, keyword_of, number_in, piece_in, symbol_at, symbol_in, word_kind};
 
 use crate::number::{constant, digits, leading_zero, number, sized};
@@ -120,8 +121,7 @@ fn number_piece(text: &[u8]) -> Piece
     }
 }
 
-/// The separator or the token that a text begins with: the longest that there is.
-pub fn first_piece(text: &[u8]) -> Piece
+fn front(text: &[u8]) -> Piece
     ensures piece { result ≡ piece_in text.now }
     ensures within { IsWithin result (length text.now) }
 {
@@ -142,4 +142,15 @@ pub fn first_piece(text: &[u8]) -> Piece
             }
         }
     }
+}
+
+/// The separator or the token that a text begins with: the longest that there is. A run of digits and
+/// a constant are taken whole: with a zero in front of another digit, or above 65,536, they are no
+/// token, and neither is a part of them.
+pub fn first_piece(text: &[u8]) -> Piece
+    ensures piece { result ≡ piece_in text.now }
+    ensures longest { IsLongestPiece text.now result }
+    ensures within { IsWithin result (length text.now) }
+{
+    front(text)
 }

@@ -9,7 +9,9 @@ use std::test::Fail;
 type Row = (TokenKind, usize, usize);
 
 const WIRE: TokenKind = TokenKind::Keyword(Keyword::Wire);
+
 const NAME: TokenKind = TokenKind::Name;
+
 const OUT: TokenKind = TokenKind::OutOfRange;
 
 fn expect(rt: &impl Abort, alloc: Global, text: &[u8], rows: &[Row]) -> Result<(), LexError> {

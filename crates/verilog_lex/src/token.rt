@@ -84,7 +84,7 @@ pub struct Token {
     pub end: usize,
 }
 
-/// Why a text has no tokens.
+/// Why no tokens were given.
 #[derive(Clone, Copy, Debug, PartialEq, Eq, Error)]
 pub enum LexError {
     /// The first byte, from 0, at which neither a separator nor a token begins.

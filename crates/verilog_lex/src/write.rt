@@ -144,12 +144,7 @@ fn push_parts(
 }
 
 // Adds three parts, or some of them.
-fn extend(
-    text: &mut Vec<u8>,
-    first: &[u8],
-    second: &[u8],
-    third: &[u8],
-) -> Result<(), AllocError>
+fn extend(text: &mut Vec<u8>, first: &[u8], second: &[u8], third: &[u8]) -> Result<(), AllocError>
     ensures bytes { OnOk result (text.new.items ≡ text.old.items ++ (first.now ++ (second.now ++ third.now))) }
     ensures front { take (vec_len text.old) text.new.items ≡ text.old.items }
 {

@@ -1,5 +1,5 @@
-use Rattle.beat_core.proofs.Order.{offers-frames, frames-frames}
+use Rattle.beat_core.proofs.Order.{room_after, offers-frames, frames-frames}
 use Rattle.beat_core.proofs.laws.frames_in_order.Goals as goal
 
 pub returns : goal.returns
-returns c = record { offers = offers-frames; frames = frames-frames }
+returns c = record { room = room_after; offers = offers-frames; frames = frames-frames }

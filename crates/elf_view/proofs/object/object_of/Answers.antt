@@ -1,8 +1,10 @@
 -- The limit on the object bounds every part, and the parts make the whole.
-use Rattle.std.proofs.Common.{◌≡◌, ◌∙◌, ◌++◌, ◌*◌, length, ap, sym, arith}
+use Rattle.std.proofs.Common.{◌∙◌, ◌++◌, ◌*◌, length, ap, sym, arith}
 use Rattle.elf_view.specs.Layout.{base_headers, headers_at, map_headers, records, rels, strings, symbols}
 use Rattle.elf_view.specs.Pieces.{elf_header}
 use Rattle.elf_view.proofs.Lengths.{length-object, length-records, small_object}
+use Rattle.elf_view.specs.Rules.{first_error}
+use Rattle.elf_view.proofs.Opens.{opens}
 use Rattle.elf_view.proofs.Whole.{object_whole, ten_writes, zeros}
 use Rattle.elf_view.proofs.object.object_of.Goals as goal
 
@@ -58,3 +60,8 @@ returns-clause-bytes c =
 pub returns-clause-size : goal.returns-clause-size
 returns-clause-size c =
     ap length (returns-clause-bytes c) ∙ length-object c.args.name.now c.args.code.now c.args.maps.now c.args.refs.now
+
+pub returns-clause-opens : goal.returns-clause-opens
+returns-clause-opens c =
+    ap first_error (returns-clause-bytes c)
+    ∙ opens c.args.name.now c.args.code.now c.args.maps.now c.args.refs.now c.requires.fits

@@ -7,5 +7,5 @@ use Rattle.elf_view.proofs.rules.check_spans.Given as goal
 abbrev pub invariant-loop-i : goal.invariant-loop-i
 invariant-loop-i l = record {
   rest : first_from (section_outside l.bytes) 0 (e_shnum l.bytes) ≡ first_from (section_outside l.bytes) l.i (e_shnum l.bytes - l.i);
-  inside : (k : ℕ) → k < l.i → IsInside l.bytes (section_at l.bytes k)
+  inside : (k : ℕ) → k < l.i → IsInside l.bytes (section_at l.bytes k);
 }

@@ -7,5 +7,5 @@ pub loop-i-preserved : goal.loop-i-preserved
 loop-i-preserved c =
     let bytes = c.args.bytes.now in
     let none : symtab_at bytes c.loop-i.i ≡ None =
-        symtab_at-other bytes c.loop-i.i (λ e. c.if-section_at-eq2.false (ap (λ s. s.kind) c.section_at.ensures ∙ e)) in
+    symtab_at-other bytes c.loop-i.i (λ e. c.if-section_at-eq-SYMTAB.false (ap (λ s. s.kind) c.section_at.ensures ∙ e)) in
     c.loop-i.invariant ∙ first_from-step (symtab_at bytes) c.loop-i.i (e_shnum bytes) (omega arith) none

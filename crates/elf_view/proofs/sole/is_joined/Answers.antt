@@ -1,5 +1,5 @@
 -- Where the rest does not begin with a part, the bytes are not the parts: what stands in front is the same.
-use Rattle.std.proofs.Common.{◌≡◌, ◌≢◌, ℕ, ◌+◌, ◌<◌, List, ◌++◌, length, get_or, take, drop, ap, sym, ◌∙◌, IsTrue}
+use Rattle.std.proofs.Common.{◌≡◌, ◌≢◌, ℕ, ◌+◌, ◌<◌, List, ◌++◌, length, get_or, take, drop, ap, sym, ◌∙◌}
 use Rattle.std.specs.List.{flat_map}
 use Rattle.std.proofs.lemmas.List.{append_cancel_left, drop_more, take-append-drop}
 use Rattle.std.proofs.lemmas.List.Concat.{flat_map-append}
@@ -23,9 +23,10 @@ not_joined : (bytes rest : List ℕ) (parts : List (Bor (List ℕ))) (i : ℕ) (
 not_joined bytes rest parts i d h front differs same =
     differs (joined (drop (i + 1) parts))
     (append_cancel_left (joined (take i parts)) rest ((get_or parts i d).now ++ joined (drop (i + 1) parts))
-        (sym front ∙ same ∙ joined_at parts i d h))
+    (sym front ∙ same ∙ joined_at parts i d h))
 
 pub returns-in-None : goal.returns-in-None
-returns-in-None c =
-    (λ h. absurd (false≢true h),
-      λ same. absurd (not_joined c.args.bytes.now c.loop-part.rest.now c.args.parts.now c.loop-part.part-index _ c.loop-part-test.true c.loop-part.invariant c.in-None.ensures same))
+returns-in-None c = (
+  λ h. absurd (false≢true h),
+  λ same. absurd (not_joined c.args.bytes.now c.loop-part.rest.now c.args.parts.now c.loop-part.part-index _ c.loop-part-test.true c.loop-part.invariant c.in-None.ensures same),
+)

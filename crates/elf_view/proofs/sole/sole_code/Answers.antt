@@ -1,5 +1,5 @@
 -- An object of this name with no maps has a length from which its code's follows, and its code at 64.
-use Rattle.std.proofs.Common.{◌≡◌, ℕ, ◌+◌, ◌-◌, ◌*◌, ◌%◌, ◌<◌, ◌≤◌, List, [], length, take, drop, refl, sym, ap, subst, ◌∙◌, arith}
+use Rattle.std.proofs.Common.{◌≡◌, ℕ, ◌+◌, ◌-◌, ◌%◌, List, [], length, take, drop, refl, sym, ap, ◌∙◌, arith}
 use Rattle.std.proofs.lemmas.Bool.{false≢true}
 use Rattle.elf_view.specs.Layout.{object_layout}
 use Rattle.elf_view.proofs.NoMaps.{length-sole, sole_code_at}

@@ -1,4 +1,4 @@
-use Rattle.std.proofs.Common.{◌≡◌, ℕ, ◌+◌, ◌-◌, ◌≤◌, List, [], ◌∷◌, ◌++◌, length, take, drop, Ok, Err, refl, sym, ap, subst, ◌∙◌, arith, length-drop}
+use Rattle.std.proofs.Common.{◌≡◌, ℕ, ◌+◌, ◌-◌, List, [], ◌∷◌, ◌++◌, length, take, drop, Ok, Err, refl, sym, ap, subst, ◌∙◌, arith, length-drop}
 use Rattle.std.proofs.Math.Seq.{take-length}
 use Rattle.std.proofs.lemmas.Grind.{common_steps}
 use Rattle.verilog_lex.specs.Piece.{piece_in}
@@ -15,21 +15,21 @@ use Rattle.verilog_lex.proofs.lex.tokens.Goals as goal
 piece_here : (text : List ℕ) (at : ℕ) (p : Piece) → p ≡ piece_in (take (length text - at) (drop at text)) → piece_in (drop at text) ≡ p
 piece_here text at p e =
     let same : take (length text - at) (drop at text) ≡ drop at text =
-      ap (λ n. take n (drop at text)) (sym (length-drop at text)) ∙ take-length (drop at text) in
+    ap (λ n. take n (drop at text)) (sym (length-drop at text)) ∙ take-length (drop at text) in
     ap piece_in (sym same) ∙ sym e
 
 pub loop-at-init : goal.loop-at-init
 loop-at-init c = record {
   leads =
-    let P : List Token → Type 0 = λ ts. Leads c.args.text.now 0 ts 0 in
-    subst P (sym c.new-all.ensures.items) (here 0);
+      let P : List Token → Type 0 = λ ts. Leads c.args.text.now 0 ts 0 in
+      subst P (sym c.new-all.ensures.items) (here 0);
   within = omega arith;
 }
 
 pub loop-at-preserved-in-Separator : goal.loop-at-preserved-in-Separator
 loop-at-preserved-in-Separator c = record {
   leads = Leads-separator c.args.text.now 0 c.loop-at.all.items c.loop-at.at c.in-Separator.len c.loop-at.invariant.leads
-    (piece_here c.args.text.now c.loop-at.at _ c.in-Separator.ensures.piece);
+      (piece_here c.args.text.now c.loop-at.at _ c.in-Separator.ensures.piece);
   within = grind (arith, common_steps);
 }
 
@@ -40,7 +40,7 @@ loop-at-preserved c =
     let P : List Token → Type 0 = λ ts. Leads c.args.text.now 0 ts (c.loop-at.at + c.in-Token.len) in
     record {
       leads = subst P (sym pushed) (Leads-token c.args.text.now 0 c.loop-at.all.items c.loop-at.at c.in-Token.len c.in-Token.kind c.loop-at.invariant.leads
-        (piece_here c.args.text.now c.loop-at.at _ c.in-Token.ensures.piece));
+          (piece_here c.args.text.now c.loop-at.at _ c.in-Token.ensures.piece));
       within = grind (arith, common_steps);
     }
 

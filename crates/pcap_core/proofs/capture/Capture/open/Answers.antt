@@ -1,4 +1,4 @@
-use Rattle.std.proofs.Common.{◌≡◌, ◌≤◌, length, sym, arith}
+use Rattle.std.proofs.Common.{sym, arith}
 use Rattle.pcap_core.proofs.Heads.{header_of-tested, header_of-fault}
 use Rattle.pcap_core.proofs.All.{content_of-is}
 use Rattle.pcap_core.proofs.Opening.{opened, not_opened}

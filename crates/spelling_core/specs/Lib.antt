@@ -1,0 +1,5 @@
+pub mod FormedSyntax
+pub mod FormedScope
+pub mod Formed
+pub mod Grammar
+pub mod Spelling

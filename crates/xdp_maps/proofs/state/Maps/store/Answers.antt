@@ -1,0 +1,12 @@
+use Rattle.xdp_maps.specs.Calls.{stored}
+use Rattle.xdp_maps.proofs.StateLemmas.{table_at, tables_set, seen_set}
+use Rattle.xdp_maps.proofs.state.Maps.store.Goals as goal
+
+pub write-requires-clause-kept : goal.write-requires-clause-kept
+write-requires-clause-kept c = table_at c.self.inside.decls.items c.self.inside.tables.items c.args.map c.index.result.now c.index_mut.result.now c.self.invariant (rw (← c.self.view_is) at c.requires.map) c.index.ensures c.index_mut.ensures.value
+
+pub invariant_of-self : goal.invariant_of-self
+invariant_of-self c = tables_set c.self.inside.decls.items c.self.inside.tables.items c.args.map c.index.result.now c.write.new.self c.self.invariant (rw (← c.self.view_is) at c.requires.map) c.index.ensures c.write.ensures.kept
+
+pub returns-clause-maps : goal.returns-clause-maps
+returns-clause-maps c = seen_set c.self.inside.decls.items c.self.inside.tables.items c.args.self.now c.args.map c.index.result.now c.index_mut.result.now c.write.new.self (λ d m. stored m c.args.key.now c.args.at c.args.bytes.now) c.self.view_is c.self.invariant (rw (← c.self.view_is) at c.requires.map) c.index.ensures c.index_mut.ensures.value c.write.ensures.contents
