@@ -1,15 +1,14 @@
 -- How many clocks frames need.
-use Rattle.std.specs.Prelude.{◌≡◌, ℕ, zero, suc, ◌+◌, ◌*◌, ◌<◌, ◌≤◌, max, if◌then◌else◌, Bool, true, false, List, [], ◌∷◌, ◌++◌, length, map}
+use Rattle.std.specs.Prelude.{◌≡◌, ℕ, suc, ◌+◌, ◌*◌, ◌≤◌, if◌then◌else◌, Bool, true, false, List, [], ◌∷◌, ◌++◌, length}
 use Rattle.std.specs.List.{flat_map, AllByRecursion}
 use Rattle.std.proofs.Common.{refl, sym, ap, ◌∙◌, arith, subst, append_assoc, length-append}
-use Rattle.std.proofs.Math.Nat.{mul-le-mul_left}
 use Rattle.beat_core.specs.declared.beat.Beat.{Beat}
-use Rattle.beat_core.specs.Beats.{IsWhole, beats_of, beat_count}
+use Rattle.beat_core.specs.Beats.{IsWhole, beats_of}
 use Rattle.beat_core.specs.Laws.{IsFrame}
 use Rattle.beat_core.proofs.Cutting.{length-beats_of, IsWhole-beats_of}
 use Rattle.net_core.specs.declared.ports.Inputs.{Inputs}
 use Rattle.net_core.specs.History.{beats_in}
-use Rattle.ehdl_build.specs.Bay.{Bay, Taking, Giving, giving, step, bay_moment, bay_moments, bay_after}
+use Rattle.ehdl_build.specs.Bay.{Bay, Taking, Giving, step, bay_moment, bay_moments, bay_after}
 use Rattle.ehdl_build.specs.Realizes.{most_beats, clock_bound}
 use Rattle.ehdl_build.proofs.Histories.{beats_in-cons}
 use Rattle.ehdl_build.proofs.Refined.{so_many, GoesOn, goes_on}

@@ -1,15 +1,14 @@
 -- What the text of the station realizes.
-use Rattle.std.specs.Prelude.{◌≡◌, ℕ, ℤ, ◌%◌, ◌^◌, List, [], ◌∷◌, Result, Ok, Err, IfOk}
+use Rattle.std.specs.Prelude.{◌≡◌, ℕ, ℤ, ◌%◌, ◌^◌, List, [], ◌∷◌}
 use Rattle.std.specs.Int.{w64, cast_unsigned}
-use Rattle.std.proofs.Common.{refl, sym, ap, subst}
+use Rattle.std.proofs.Common.{refl, sym, subst}
 use Rattle.bpf_isa.specs.declared.instruction.Insn.{Insn}
 use Rattle.xdp_object.specs.Program.{Listing, IsObject, two_units}
 use Rattle.xdp_object.specs.Machine.{IsRun, run}
-use Rattle.net_core.specs.Nets.{Plan}
 use Rattle.net_core.specs.History.{Arrival}
 use Rattle.spelling_core.specs.Spelling.{Spells}
 use Rattle.ehdl_build.specs.Station.{station, replies_to}
-use Rattle.ehdl_build.specs.Compiled.{AreRuns, Realizes, Compiles}
+use Rattle.ehdl_build.specs.Compiled.{AreRuns, Compiles}
 use Rattle.ehdl_build.proofs.Realized.{realized}
 
 -- the verdict of `r0 = k`, `exit`

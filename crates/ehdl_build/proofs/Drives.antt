@@ -1,19 +1,19 @@
 -- The full drive of the station from every state that a history can reach.
-use Rattle.std.specs.Prelude.{◌≡◌, ℕ, zero, suc, ◌+◌, ◌*◌, ◌<◌, ◌≤◌, if◌then◌else◌, Bool, true, false, List, [], ◌∷◌, ◌++◌, length, map}
+use Rattle.std.specs.Prelude.{◌≡◌, ℕ, zero, suc, ◌+◌, ◌≤◌, List, [], ◌∷◌, ◌++◌, length}
 use Rattle.std.proofs.Common.{refl, sym, ap, ◌∙◌, arith, subst, length-append}
 use Rattle.beat_core.specs.declared.beat.Beat.{Beat}
 use Rattle.beat_core.specs.Clocks.{AreOffers}
 use Rattle.net_core.specs.declared.ports.Inputs.{Inputs}
 use Rattle.net_core.specs.Clock.{Stored, after}
 use Rattle.net_core.specs.Ports.{words_of}
-use Rattle.net_core.specs.History.{Moment, moment_of, beats_in, Reply, replies, Drive, Ended, Answered, and_then, drive, drive_inputs, left_after, owed_after}
+use Rattle.net_core.specs.History.{Moment, replies, Drive, Answered, and_then, drive, drive_inputs, left_after, owed_after}
 use Rattle.ehdl_build.specs.Station.{station}
-use Rattle.ehdl_build.specs.Bay.{Bay, Taking, Giving, step, bay_moment}
+use Rattle.ehdl_build.specs.Bay.{Bay, step, bay_moment}
 use Rattle.ehdl_build.proofs.Flows.{total, so_far, IsSound, Flows, flows}
 use Rattle.ehdl_build.proofs.Places.{Place, stored, go, after_is}
-use Rattle.ehdl_build.proofs.Holds.{Holds, MayOffer, steps}
+use Rattle.ehdl_build.proofs.Holds.{Holds, steps}
 use Rattle.ehdl_build.proofs.Refined.{so_many, same_moment}
-use Rattle.ehdl_build.proofs.Turns.{EndsWhole, needed, Turn, Next, Empty, Goes, next_turn}
+use Rattle.ehdl_build.proofs.Turns.{EndsWhole, needed, Turn, Empty, Goes, next_turn}
 
 -- all answers, and no other end
 pub record Answers (v : ℕ) (s : Bay) (left : List Beat) (r : Drive) : Type 0 where

@@ -1,14 +1,14 @@
 -- What flows through the bay in a clock.
-use Rattle.std.specs.Prelude.{◌≡◌, ℕ, zero, suc, ◌+◌, ◌*◌, ◌<◌, ◌≤◌, if◌then◌else◌, Bool, true, false, List, [], ◌∷◌, ◌++◌, length, map}
+use Rattle.std.specs.Prelude.{◌≡◌, ℕ, suc, ◌+◌, if◌then◌else◌, Bool, true, false, List, [], ◌∷◌, ◌++◌, length, map}
 use Rattle.std.specs.List.{flat_map}
-use Rattle.std.proofs.Common.{refl, sym, ap, ◌∙◌, arith, subst, append_assoc, append-nil}
+use Rattle.std.proofs.Common.{refl, sym, ap, ◌∙◌, arith, append_assoc, append-nil}
 use Rattle.beat_core.specs.declared.beat.Beat.{Beat}
 use Rattle.beat_core.specs.Beats.{bytes_of_beat, frame_of}
 use Rattle.beat_core.specs.Clocks.{frames_among}
 use Rattle.net_core.specs.declared.ports.Inputs.{Inputs}
 use Rattle.net_core.specs.History.{Moment, Reply, replies, beats_in, open_beats, owed_after}
 use Rattle.ehdl_build.specs.Station.{reply}
-use Rattle.ehdl_build.specs.Bay.{Bay, Taking, Giving, giving, input_beat, taken, given_on, step, show, bay_moment, bay_moments, bay_after}
+use Rattle.ehdl_build.specs.Bay.{Bay, Taking, Giving, giving, step, bay_moment}
 
 -- the bytes so far of the frame that comes in
 abbrev pub partial : Bay → List ℕ

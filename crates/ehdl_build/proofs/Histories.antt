@@ -1,14 +1,14 @@
 -- The bay over a list of clocks.
-use Rattle.std.specs.Prelude.{◌≡◌, ℕ, zero, suc, ◌+◌, if◌then◌else◌, Bool, true, false, Option, Some, None, List, [], ◌∷◌, ◌++◌, length, map}
-use Rattle.std.proofs.Common.{refl, sym, ap, ◌∙◌, arith, subst, append_assoc, append-nil}
+use Rattle.std.specs.Prelude.{◌≡◌, ℕ, if◌then◌else◌, Bool, true, false, Option, Some, None, List, [], ◌∷◌, ◌++◌, map}
+use Rattle.std.proofs.Common.{refl, sym, ap, ◌∙◌, subst, append_assoc}
 use Rattle.beat_core.specs.declared.beat.Beat.{Beat}
 use Rattle.beat_core.specs.Beats.{bytes_of_beat, frame_of}
 use Rattle.beat_core.specs.Clocks.{frames_among}
 use Rattle.net_core.specs.declared.ports.Inputs.{Inputs}
 use Rattle.net_core.specs.History.{Moment, Reply, replies, beats_in, open_beats, goes_in, offered_beat, goes_out, shown_beat, Arrival, arrivals}
 use Rattle.ehdl_build.specs.Station.{reply, replies_to}
-use Rattle.ehdl_build.specs.Bay.{Bay, Taking, Giving, giving, input_beat, taken, given_on, step, show, bay_moment, bay_moments, bay_after}
-use Rattle.ehdl_build.proofs.Flows.{partial, so_far, pending, total, IsSound, given_beats, Flows, flows, frame_of-append}
+use Rattle.ehdl_build.specs.Bay.{Bay, step, bay_moment, bay_moments, bay_after}
+use Rattle.ehdl_build.proofs.Flows.{so_far, total, IsSound, given_beats, Flows, flows, frame_of-append}
 
 by_test : {A : Type 0} (t : Bool) (x : A) (xs : List A) → (if t then x ∷ xs else xs) ≡ (if t then x ∷ [] else []) ++ xs
 by_test true x xs = refl

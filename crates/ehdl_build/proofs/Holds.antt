@@ -1,6 +1,6 @@
 -- The station's registers and memory hold the bay.
-use Rattle.std.specs.Prelude.{◌≡◌, ◌≢◌, ℕ, zero, suc, ◌+◌, ◌%◌, ◌^◌, ◌<◌, ◌≤◌, ◌==◌, if◌then◌else◌, Bool, true, false, ◌&&◌, List, [], ◌∷◌, ◌++◌, length, map, slice_set}
-use Rattle.std.proofs.Common.{get_or, take, set, refl, sym, ap, ◌∙◌, arith, subst, not, append_assoc, length-append}
+use Rattle.std.specs.Prelude.{◌≡◌, ◌≢◌, ℕ, suc, ◌+◌, ◌<◌, ◌≤◌, ◌==◌, if◌then◌else◌, Bool, true, false, List, [], ◌∷◌, ◌++◌, length, map, slice_set}
+use Rattle.std.proofs.Common.{get_or, take, refl, sym, ap, ◌∙◌, arith, append_assoc, length-append}
 use Rattle.std.proofs.lemmas.Bool.Decides.{nat_tests}
 use Rattle.std.proofs.lemmas.List.{map-set, length-map, length-set, get_or-take, map-append}
 use Rattle.std.proofs.Math.Seq.{take-suc-set, get_or-append_seam}
@@ -10,10 +10,8 @@ use Rattle.beat_core.specs.Beats.{IsOffer}
 use Rattle.beat_core.proofs.Cutting.{IsOffer-eight}
 use Rattle.net_core.specs.declared.tree.Word.{Word}
 use Rattle.net_core.specs.declared.ports.Inputs.{Inputs}
-use Rattle.net_core.specs.declared.ports.Outputs.{Outputs}
 use Rattle.net_core.specs.Value.{word, nothing}
-use Rattle.ehdl_build.specs.Bay.{Bay, Taking, Giving, giving, input_beat, taken, given_on, step, show}
-use Rattle.ehdl_build.proofs.Places as places
+use Rattle.ehdl_build.specs.Bay.{Bay, Taking, Giving, giving, input_beat, step, show}
 use Rattle.ehdl_build.proofs.Places.{Place, go, shown_at, next}
 
 abbrev pub values : List Word → List ℕ

@@ -1,6 +1,6 @@
 -- A clock of the station, by what its registers and its memory hold.
-use Rattle.std.specs.Prelude.{◌≡◌, ℕ, zero, suc, ◌+◌, ◌%◌, ◌^◌, ◌==◌, if◌then◌else◌, Bool, true, false, ◌&&◌, Option, Some, None, List, [], ◌∷◌, slice_set, bit_and}
-use Rattle.std.proofs.Common.{get_or, refl, sym, ap, ◌∙◌, not}
+use Rattle.std.specs.Prelude.{◌≡◌, ℕ, ◌+◌, ◌%◌, ◌^◌, ◌==◌, if◌then◌else◌, Bool, true, false, ◌&&◌, None, List, [], ◌∷◌, slice_set, bit_and}
+use Rattle.std.proofs.Common.{get_or, refl, not}
 use Rattle.net_core.specs.declared.tree.Word.{Word}
 use Rattle.net_core.specs.declared.ports.Inputs.{Inputs}
 use Rattle.net_core.specs.declared.ports.Outputs.{Outputs}

@@ -1,23 +1,22 @@
 -- The station answers frames, whatever is offered and taken, and in the stated clocks.
-use Rattle.std.specs.Prelude.{◌≡◌, ℕ, zero, suc, ◌+◌, ◌-◌, ◌*◌, ◌^◌, ◌<◌, ◌≤◌, Bool, true, false, Option, Some, None, List, [], ◌∷◌, ◌++◌, length, map, replicate}
+use Rattle.std.specs.Prelude.{◌≡◌, ℕ, ◌+◌, ◌-◌, ◌≤◌, false, None, List, [], ◌∷◌, ◌++◌, length, map, replicate}
 use Rattle.std.specs.List.{flat_map, AllByRecursion}
-use Rattle.std.proofs.Common.{refl, sym, ap, ◌∙◌, arith, subst, append_assoc, append-nil, length-append}
+use Rattle.std.proofs.Common.{refl, sym, ap, ◌∙◌, arith, subst, append-nil, length-append}
 use Rattle.std.proofs.lemmas.List.{length-replicate, length-map}
 use Rattle.beat_core.specs.declared.beat.Beat.{Beat}
 use Rattle.beat_core.specs.Beats.{frame_of, beats_of}
 use Rattle.beat_core.specs.Clocks.{AreOffers, frames_among}
 use Rattle.beat_core.specs.Laws.{IsFrame}
 use Rattle.beat_core.proofs.Order.{offers-frames, frames-frames}
-use Rattle.net_core.specs.declared.tree.Word.{Word}
 use Rattle.net_core.specs.declared.ports.Inputs.{Inputs}
 use Rattle.net_core.specs.Value.{word}
-use Rattle.net_core.specs.Clock.{Stored, first_stored}
-use Rattle.net_core.specs.History.{Moment, moments, stored_after, beats_in, Arrival, arrivals, Reply, replies, open_beats, Drive, drive}
+use Rattle.net_core.specs.Clock.{Stored}
+use Rattle.net_core.specs.History.{Moment, moments, stored_after, beats_in, arrivals, replies, open_beats, drive}
 use Rattle.ehdl_build.specs.Bay.{Bay, Taking, Giving, bay_moments, bay_after}
 use Rattle.ehdl_build.specs.Station.{station, reply, replies_to}
-use Rattle.ehdl_build.specs.Realizes.{IsPattern, IsPrefix, BeginNext, IsWhole, Answers, came_by, clock_bound, most_beats, CameBy}
-use Rattle.ehdl_build.proofs.Flows.{total, pending, partial, so_far, IsSound, given_beats}
-use Rattle.ehdl_build.proofs.Histories.{History, history, frames, frames-arrivals, replies_to-frames, replies-append}
+use Rattle.ehdl_build.specs.Realizes.{IsPattern, IsPrefix, BeginNext, IsWhole, Answers, came_by, clock_bound, most_beats}
+use Rattle.ehdl_build.proofs.Flows.{total, pending, so_far, given_beats}
+use Rattle.ehdl_build.proofs.Histories.{History, history, frames-arrivals, replies_to-frames, replies-append}
 use Rattle.ehdl_build.proofs.Places.{Place, stored}
 use Rattle.ehdl_build.proofs.Holds.{Holds}
 use Rattle.ehdl_build.proofs.Fronts.{given_front}

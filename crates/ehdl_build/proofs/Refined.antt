@@ -1,5 +1,5 @@
 -- The station's clocks are the bay's.
-use Rattle.std.specs.Prelude.{◌≡◌, ℕ, zero, suc, ◌+◌, ◌^◌, ◌<◌, ◌≤◌, if◌then◌else◌, Bool, true, false, None, List, [], ◌∷◌, ◌++◌, length, map}
+use Rattle.std.specs.Prelude.{◌≡◌, ℕ, suc, ◌^◌, ◌<◌, if◌then◌else◌, Bool, true, false, List, [], ◌∷◌, ◌++◌, length}
 use Rattle.std.specs.List.{AllByRecursion}
 use Rattle.std.proofs.Common.{refl, sym, ap, ◌∙◌, arith, subst, length-append}
 use Rattle.beat_core.specs.declared.beat.Beat.{Beat}
@@ -7,10 +7,10 @@ use Rattle.beat_core.specs.Beats.{IsOffer}
 use Rattle.beat_core.specs.Clocks.{AreOffers}
 use Rattle.net_core.specs.declared.ports.Inputs.{Inputs}
 use Rattle.net_core.specs.Clock.{Stored, after}
-use Rattle.net_core.specs.Ports.{words_of, outputs_of}
+use Rattle.net_core.specs.Ports.{words_of}
 use Rattle.net_core.specs.History.{Moment, moment_of, moments, stored_after, NeverStops, beats_in, IsInput}
 use Rattle.ehdl_build.specs.Station.{station}
-use Rattle.ehdl_build.specs.Bay.{Bay, Taking, Giving, giving, input_beat, taken, given_on, step, show, bay_moment, bay_moments, bay_after}
+use Rattle.ehdl_build.specs.Bay.{Bay, Taking, Giving, giving, step, bay_moment, bay_moments, bay_after}
 use Rattle.ehdl_build.proofs.Places.{Place, stored, go, after_is, shown_is, never_stops}
 use Rattle.ehdl_build.proofs.Holds.{Holds, MayOffer, shows, steps}
 use Rattle.ehdl_build.proofs.Histories.{beats_in-cons}

@@ -1,11 +1,9 @@
 -- A clock of a drive: one clock nearer to the empty bay.
-use Rattle.std.specs.Prelude.{◌≡◌, ℕ, zero, suc, ◌+◌, ◌*◌, ◌<◌, ◌≤◌, if◌then◌else◌, Bool, true, false, List, [], ◌∷◌, ◌++◌, length, map}
+use Rattle.std.specs.Prelude.{◌≡◌, ℕ, suc, ◌+◌, ◌*◌, if◌then◌else◌, Bool, true, false, List, [], ◌∷◌, ◌++◌, length}
 use Rattle.std.proofs.Common.{refl, sym, ap, ◌∙◌, arith, subst, length-append}
 use Rattle.beat_core.specs.declared.beat.Beat.{Beat}
-use Rattle.beat_core.specs.Beats.{IsOffer}
 use Rattle.beat_core.specs.Clocks.{AreOffers}
-use Rattle.net_core.specs.declared.ports.Inputs.{Inputs}
-use Rattle.net_core.specs.History.{Moment, beats_in, drive_inputs, left_after}
+use Rattle.net_core.specs.History.{beats_in, drive_inputs, left_after}
 use Rattle.ehdl_build.specs.Bay.{Bay, Taking, Giving, giving, step, bay_moment}
 use Rattle.ehdl_build.proofs.Holds.{MayOffer}
 use Rattle.ehdl_build.proofs.Refined.{so_many, so_many-giving}

@@ -1,7 +1,6 @@
 -- The machine that takes one frame whole and then gives it back: no nets and no widths.
-use Rattle.std.specs.Prelude.{ℕ, suc, ◌+◌, if◌then◌else◌, Bool, true, false, List, [], ◌∷◌, ◌++◌, length}
+use Rattle.std.specs.Prelude.{ℕ, if◌then◌else◌, true, false, List, [], ◌∷◌, ◌++◌}
 use Rattle.beat_core.specs.declared.beat.Beat.{Beat}
-use Rattle.beat_core.specs.Beats.{frame_of}
 use Rattle.net_core.specs.declared.ports.Inputs.{Inputs}
 use Rattle.net_core.specs.declared.ports.Outputs.{Outputs}
 use Rattle.net_core.specs.History.{Moment}

@@ -1,13 +1,12 @@
 -- The design that takes one frame whole into a memory and then gives it back under one verdict.
-use Rattle.std.specs.Prelude.{ℕ, true, false, List, [], ◌∷◌, ◌++◌, codes}
-use Rattle.net_core.specs.declared.tree.Word.{Word}
+use Rattle.std.specs.Prelude.{ℕ, List, [], ◌∷◌, ◌++◌, codes}
 use Rattle.net_core.specs.declared.tree.Op.TheVariants.{Add, And, Equal}
 use Rattle.net_core.specs.declared.tree.Prefix.TheVariants.{Not}
 use Rattle.net_core.specs.declared.tree.Net.{Net}
 use Rattle.net_core.specs.declared.tree.Net.TheVariants.{Port, Register, Memory, Wire}
 use Rattle.net_core.specs.declared.design.Declared.{Declared}
 use Rattle.net_core.specs.declared.design.Declared.TheVariants as declared
-use Rattle.net_core.specs.Nets.{Tree, TConst, TRead, TCell, TBefore, TTwo, TChoose, RightTree, RPlain, Act, ABlock, AIf, AIfElse, ASet, AStore, Acts, AEnd, AThen, WireTree, AssignTree, Plan}
+use Rattle.net_core.specs.Nets.{Tree, TConst, TRead, TCell, TBefore, TTwo, TChoose, RPlain, Act, ABlock, AIf, AIfElse, ASet, AStore, AEnd, AThen, WireTree, AssignTree, Plan}
 use Rattle.net_core.specs.Value.{word}
 use Rattle.net_core.specs.Ports.{port_list, port_names}
 use Rattle.net_core.specs.History.{Reply, Arrival}

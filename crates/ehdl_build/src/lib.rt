@@ -1,6 +1,9 @@
-//! The design that is built for a program, and that it realizes the program.
+//! From the bytes of an object to the bytes of a Verilog text that realizes its program.
 #![tactic(auto)]
 
-pub mod station;
+mod built;
+mod station;
 #[cfg(test)]
 mod tests;
+
+pub use built::{Built, CompileError, compile};

@@ -348,7 +348,7 @@ fn parts(alloc: Global, verdict: u32) -> Result<Design, AllocError>
 
 /// The design that takes one frame whole and gives it back under a verdict. It answers every frame with that verdict and with
 /// the frame as it came, whatever is offered and taken, and in the clocks that a program without stages has.
-pub fn design(alloc: Global, verdict: u32) -> Result<Design, AllocError>
+pub(crate) fn design(alloc: Global, verdict: u32) -> Result<Design, AllocError>
     ensures plan { IfOk result (λ d. plan_of d ≡ station verdict) }
     ensures formed { IfOk result (λ d. IsWellFormed (plan_of d)) }
     ensures answers { IfOk result (λ d. Answers (plan_of d) (replies_to verdict) 0 0) }

@@ -1,12 +1,10 @@
 -- Code of two units, and the instructions that stand in it.
-use Rattle.std.specs.Prelude.{ℕ, ℤ, pos, suc, ◌≡◌, ◌+◌, ◌*◌, ◌^◌, ◌%◌, ◌≤◌, ◌<◌, List, [], ◌∷◌, ◌++◌, length, take, drop}
-use Rattle.std.proofs.Common.{rules, refl, sym, ap, ◌∙◌, arith, subst, append_assoc, append-nil}
-use Rattle.std.proofs.lemmas.List.{take-append-drop}
+use Rattle.std.specs.Prelude.{ℕ, ℤ, ◌≡◌, List, [], ◌++◌, length, take, drop}
+use Rattle.std.proofs.Common.{rules, refl, ap, arith, subst}
 use Rattle.std.proofs.lemmas.Grind.{common_steps}
 use Rattle.bpf_isa.specs.declared.instruction.Insn.{Insn}
 use Rattle.bpf_isa.specs.Spelling.{IsInsn, Begins, StandsAt, spelling}
-use Rattle.bpf_isa.specs.Text.{text_of}
-use Rattle.xdp_object.specs.Program.{move_number, leave, two_units, IsTwoUnits, IsFirst}
+use Rattle.xdp_object.specs.Program.{move_number, leave, IsTwoUnits, IsFirst}
 
 -- the first unit and the second are the whole code
 halves : (code a b : List ℕ) → length code ≡ 16 → take 8 (drop 0 code) ≡ a → take 8 (drop 8 code) ≡ b → code ≡ a ++ (b ++ [])

@@ -1,6 +1,6 @@
 -- The sequential machine (RFC 9669, sections 2 and 4): what a program does to one packet, one instruction after another.
 -- It has the cases of two instructions so far: a number that is moved into a register, and the exit.
-use Rattle.std.specs.Prelude.{ℕ, zero, suc, ℤ, pos, ◌≡◌, ◌+◌, ◌%◌, ◌^◌, ◌==◌, nat_lt, if◌then◌else◌, Bool, Option, Some, None, List, [], ◌∷◌, slice_set}
+use Rattle.std.specs.Prelude.{ℕ, zero, suc, ℤ, pos, ◌≡◌, ◌+◌, ◌%◌, ◌^◌, ◌==◌, if◌then◌else◌, Option, Some, None, List, [], ◌∷◌, slice_set}
 use Rattle.std.specs.Int.{w64, cast_unsigned}
 use Rattle.std.proofs.Common.{get_or}
 use Rattle.bpf_isa.specs.declared.instruction.Insn.{Insn}

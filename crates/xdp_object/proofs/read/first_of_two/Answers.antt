@@ -1,6 +1,4 @@
-use Rattle.std.specs.Prelude.{◌≡◌, ℤ, Ok}
-use Rattle.std.proofs.Common.{sym, ap, ◌∙◌}
-use Rattle.xdp_object.proofs.Units.{two, first_stands, second_stands, leave_legal}
+use Rattle.xdp_object.proofs.Units.{first_stands, second_stands, leave_legal}
 use Rattle.xdp_object.proofs.read.first_of_two.Goals as goal
 
 pub returns-in_default-clause-only : goal.returns-in_default-clause-only
