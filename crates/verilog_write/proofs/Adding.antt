@@ -1,5 +1,5 @@
 -- Texts that were added one after the other.
-use Rattle.std.proofs.Common.{◌≡◌, ℕ, Result, OnOk, List, [], ◌∷◌, ◌++◌, refl, sym, subst, ap, append_assoc, append-nil}
+use Rattle.std.proofs.Common.{ℕ, Result, OnOk, List, [], ◌∷◌, ◌++◌, sym, subst, append_assoc, append-nil}
 use Rattle.std.proofs.lemmas.Result.{on_ok_weaker}
 use Rattle.verilog_lex.specs.Lexeme.{Lexeme}
 use Rattle.verilog_lex.specs.Spelling.{IsClosed, IsOpen}

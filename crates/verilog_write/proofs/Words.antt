@@ -1,5 +1,5 @@
 -- Names and numbers of a design, as the lexical rules have them.
-use Rattle.std.specs.Prelude.{◌≡◌, ℕ, ◌<◌, ◌≤◌, ◌==◌, ◌^◌, nat_lt, nat_le, Bool, true, false, ◌&&◌, ◌||◌, ◌⊎◌, List, [], ◌∷◌, length, map, codes, String, string_bytes}
+use Rattle.std.specs.Prelude.{◌≡◌, ℕ, ◌<◌, ◌≤◌, ◌==◌, ◌^◌, nat_lt, nat_le, true, ◌&&◌, ◌||◌, ◌⊎◌, List, [], ◌∷◌, length, map, codes, String, string_bytes}
 use Rattle.std.specs.List.{list_all, list_any}
 use Rattle.std.specs.Str.{bytes_eq}
 use Rattle.std.proofs.Common.{get_or, refl, sym, subst, ap, ◌∙◌, inl, inr, arith, Global}
