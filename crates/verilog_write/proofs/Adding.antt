@@ -1,21 +1,15 @@
 -- Texts that were added one after the other.
-use Rattle.std.proofs.Common.{◌≡◌, ℕ, Result, OnOk, List, [], ◌∷◌, ◌++◌, refl, sym, subst, ap, append_assoc, append-nil}
+use Rattle.std.proofs.Common.{ℕ, Result, OnOk, List, [], ◌∷◌, ◌++◌, subst, append_assoc}
 use Rattle.std.proofs.lemmas.Result.{on_ok_weaker}
 use Rattle.verilog_lex.specs.Lexeme.{Lexeme}
 use Rattle.verilog_lex.specs.Spelling.{IsClosed, IsOpen}
 use Rattle.verilog_lex.proofs.Writing.{IsOpen-closed}
 use Rattle.verilog_write.specs.Adding.{AddsWord, AddsMark, AddsLine}
 
-pub line_nothing : (text : List ℕ) → AddsLine text text []
-line_nothing text = record { read = λ before h. let P : List Lexeme → Type 0 = λ ls. IsClosed text ls in subst P (sym (append-nil before)) h }
-
 pub line_more : {a b c : List ℕ} {ls ms : List Lexeme} → AddsLine a b ls → AddsLine b c ms → AddsLine a c (ls ++ ms)
 line_more {a} {b} {c} {ls} {ms} h k = record {
   read = λ before p. let P : List Lexeme → Type 0 = λ all. IsClosed c all in subst P (append_assoc before ls ms) (k.read (before ++ ls) (h.read before p));
 }
-
-pub word_marked : {a b : List ℕ} {ls : List Lexeme} → AddsMark a b ls → AddsWord a b ls
-word_marked h = record { read = λ before p. IsOpen-closed _ _ (h.read before (IsOpen-closed _ _ p)) }
 
 pub opened : {text : List ℕ} {ls : List Lexeme} → IsClosed text ls → IsOpen text ls
 opened {text} {ls} h = IsOpen-closed text ls h

@@ -1,8 +1,8 @@
 -- What a well-formed design gives to each function that writes a part of it.
-use Rattle.std.specs.Prelude.{◌≡◌, ℕ, zero, suc, ◌+◌, ◌<◌, ◌≤◌, ◌==◌, nat_lt, nat_le, if◌then◌else◌, Bool, true, false, ◌&&◌, ◌⊎◌, List, [], ◌∷◌, count_by, take, length, map, Option, None, Some}
+use Rattle.std.specs.Prelude.{◌≡◌, ℕ, zero, suc, ◌+◌, ◌<◌, ◌≤◌, nat_lt, nat_le, if◌then◌else◌, Bool, true, false, ◌&&◌, ◌⊎◌, List, [], ◌∷◌, count_by, take, length, map, Option, None, Some}
 use Rattle.std.specs.List.{list_all}
 use Rattle.std.specs.Result.{is_ok}
-use Rattle.std.proofs.Common.{get_or, refl, sym, subst, ap, ◌∙◌, inl, inr, arith}
+use Rattle.std.proofs.Common.{get_or, refl, sym, ap, ◌∙◌, inl, inr, arith}
 use Rattle.std.proofs.lemmas.Bool.{and_parts, leb-true, ltb-true, cases_lt}
 use Rattle.std.proofs.lemmas.List.{get_or_past, get_or-map, length-map}
 use Rattle.std.proofs.lemmas.List.Sums.{sum_by-take-le}
@@ -11,20 +11,19 @@ use Rattle.net_core.specs.declared.tree.Net.TheVariants.{Register, Memory}
 use Rattle.net_core.specs.declared.design.Port.{Port}
 use Rattle.net_core.specs.declared.design.Declared.{Declared}
 use Rattle.net_core.specs.declared.design.Declared.TheVariants as declared
-use Rattle.net_core.specs.Names.{is_integer, place_of, name_place, name_of}
-use Rattle.net_core.specs.Nets.{Tree, Act, WireTree, AssignTree, Plan}
-use Rattle.net_core.specs.Ports.{port_list}
+use Rattle.net_core.specs.Names.{is_integer, place_of, name_place}
+use Rattle.net_core.specs.Nets.{Act, WireTree, AssignTree, Plan}
 use Rattle.net_core.specs.Width.{right_width, width_of, output_width, full_scope, register_widths, memory_widths, same, word_fits}
 use Rattle.verilog_lex.specs.Spelling.{IsName}
 use Rattle.spelling_core.specs.declared.formed.NetError.{NetError}
 use Rattle.spelling_core.specs.FormedSyntax.{trees_pass}
 use Rattle.spelling_core.specs.FormedScope.{sorts, scope_before, reads_known, is_output, registers_of, memories_of}
-use Rattle.spelling_core.specs.Formed.{IsWellFormed, first_fault, result_of, targets_known, declared_fits}
+use Rattle.spelling_core.specs.Formed.{IsWellFormed, result_of, targets_known}
 use Rattle.spelling_core.specs.Grammar.{text_at, integer_name}
 use Rattle.spelling_core.proofs.FormedKept.{declared_kept, wire_kept, assign_kept, block_kept, last_kept}
 use Rattle.spelling_core.proofs.FormedTyped.{ports_listed}
 use Rattle.spelling_core.proofs.FormedFacts.{name_spelled, value_named, words_named, place_of_below}
-use Rattle.verilog_write.specs.Writable.{IsNamed, IsWritable, IsRightWritable, IsActWritable, IsDeclarationWritable}
+use Rattle.verilog_write.specs.Writable.{IsWritable, IsRightWritable, IsActWritable, IsDeclarationWritable}
 use Rattle.verilog_write.proofs.Words.{word_of_name}
 use Rattle.verilog_write.proofs.Written.{AreNamed, tree_written, right_written, act_written, same_some, fits_of_word}
 

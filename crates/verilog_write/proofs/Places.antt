@@ -1,7 +1,7 @@
 -- One step of the search for the place of a number among those of a sort.
-use Rattle.std.specs.Prelude.{◌≡◌, ℕ, zero, suc, ◌+◌, ◌-◌, ◌<◌, ◌≤◌, ◌≢◌, Bool, true, false, if◌then◌else◌, List, [], ◌∷◌, length, drop}
-use Rattle.std.proofs.Common.{get_or, refl, sym, ap, ◌∙◌, add-zero, arith}
-use Rattle.std.proofs.lemmas.List.{drop_more, drop_all}
+use Rattle.std.specs.Prelude.{◌≡◌, ℕ, zero, suc, ◌+◌, ◌-◌, ◌<◌, ◌≤◌, ◌≢◌, Bool, true, false, if◌then◌else◌, List, ◌∷◌, length, drop}
+use Rattle.std.proofs.Common.{get_or, refl, sym, ap, ◌∙◌, arith}
+use Rattle.std.proofs.lemmas.List.{drop_more}
 use Rattle.net_core.specs.declared.design.Declared.{Declared}
 use Rattle.net_core.specs.Names.{place_of}
 
@@ -36,7 +36,3 @@ pub place_over : (p : Declared → Bool) (xs : List Declared) (i : ℕ) (x : Dec
 place_over p xs i x k l e h =
     let f : place_of p (drop i xs) k ≡ suc (place_of p (drop (i + 1) xs) k) = ap (λ ys. place_of p ys k) (left_from xs i x l e) ∙ first_other p x (drop (i + 1) xs) k h in
     omega arith
-
--- what is not there stands behind all
-pub place_none : (p : Declared → Bool) (xs : List Declared) (i k : ℕ) → length xs ≤ i → place_of p (drop i xs) k ≡ k
-place_none p xs i k l = ap (λ ys. place_of p ys k) (drop_all i xs l)

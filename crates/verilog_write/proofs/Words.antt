@@ -1,5 +1,5 @@
 -- Names and numbers of a design, as the lexical rules have them.
-use Rattle.std.specs.Prelude.{◌≡◌, ℕ, ◌<◌, ◌≤◌, ◌==◌, ◌^◌, nat_lt, nat_le, Bool, true, false, ◌&&◌, ◌||◌, ◌⊎◌, List, [], ◌∷◌, length, map, codes, String, string_bytes}
+use Rattle.std.specs.Prelude.{◌≡◌, ℕ, ◌<◌, ◌≤◌, ◌==◌, ◌^◌, nat_lt, nat_le, true, ◌&&◌, ◌||◌, ◌⊎◌, List, [], ◌∷◌, length, map, codes, String, string_bytes}
 use Rattle.std.specs.List.{list_all, list_any}
 use Rattle.std.specs.Str.{bytes_eq}
 use Rattle.std.proofs.Common.{get_or, refl, sym, subst, ap, ◌∙◌, inl, inr, arith, Global}
@@ -57,10 +57,10 @@ identifier_word (c ∷ cs) h =
 same_name : (cs name : List ℕ) → bytes_eq cs name ≡ true → IsName name → IsName cs
 same_name cs name h n = subst IsName (sym ((bytes_eq-Decides cs name).0 h)) n
 
-pub clk_named : IsName (codes "clk")
+clk_named : IsName (codes "clk")
 clk_named = record { letters = refl; other = refl }
 
-pub ehdl_named : IsName (codes "ehdl")
+ehdl_named : IsName (codes "ehdl")
 ehdl_named = record { letters = refl; other = refl }
 
 -- the names of the subset are words and no keywords
@@ -76,14 +76,3 @@ word_of_name cs h = name (or_cases (bytes_eq cs (codes "clk") || bytes_eq cs (co
     name (inr e) =
         let s = and_parts (is_identifier cs) (is_unreserved cs) e in
         IsName-underscore cs (identifier_word cs s.0) (and_parts (list_any is_underscore cs) _ s.1).0
-
--- where no name stands, the list gives nothing, which is no name
-pub named_below : (names : List (List ℕ)) (place : ℕ) → IsName (get_or names place []) → place < length names
-named_below names place n = below (cases_lt place (length names))
-  where
-    below : (place < length names) ⊎ (length names ≤ place) → place < length names
-    below (inl h) = h
-    below (inr h) = let e = sym (ap is_word (get_or_past names place [] h)) ∙ n.letters in absurd cc
-
-pub name_below : (names : List (String Global)) (place : ℕ) → IsName (get_or (map string_bytes names) place []) → place < length names
-name_below names place n = omega (arith, named_below (map string_bytes names) place n, length-map names string_bytes)

@@ -1,5 +1,5 @@
 -- What can be written in the subset: each net that is read or set has a name, and each constant fits its width.
-use Rattle.std.specs.Prelude.{ℕ, ◌<◌, ◌≤◌}
+use Rattle.std.specs.Prelude.{◌≤◌}
 use Rattle.net_core.specs.declared.tree.Net.{Net}
 use Rattle.net_core.specs.declared.tree.Net.TheVariants.{Register, Memory}
 use Rattle.net_core.specs.declared.design.Declared.{Declared}

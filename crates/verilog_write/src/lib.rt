@@ -1,10 +1,12 @@
 //! The text of a design, in the subset of IEEE 1364-2005 that designs are written in.
 //!
-//! One item a line, lines ended by line feeds; a space around binary operators, `=` and `<=`, and before a prefix `|`.
-//! The text is read alike by Icarus Verilog, Verilator and Yosys.
+//! One item a line, and one statement of a block; lines end with a line feed. Spaces stand around binary operators, `?`,
+//! `:`, `=` and `<=`, and before a prefix `|`: they keep apart what a lexer may join, as the digits of a constant and a
+//! `?`, or two `|`.
 //!
-//! The name of a register or a memory is looked for among what is declared, so a text takes time in proportion to what
-//! is read and set, times what is declared.
+//! The name of a register, a memory or an integer is looked for among what is declared. So a text takes time in proportion
+//! to what is read and set, times what is declared. Writing recurs no deeper than trees nest, which is 64 at most in a
+//! well-formed design, but goes along the parts of a concatenation and the statements of a block.
 #![tactic(auto)]
 
 mod design;

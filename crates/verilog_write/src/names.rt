@@ -13,7 +13,7 @@ use net_core::design::{Declared, Design};
 use net_core::tree::Net;
 
 /// A sort of what is declared.
-#[derive(Clone, Copy, Debug, PartialEq, Eq)]
+#[derive(Clone, Copy)]
 pub enum Sort {
     Integer,
     Register,

@@ -1,5 +1,5 @@
 -- What stands for the items so far was added.
-use Rattle.std.proofs.Common.{◌≡◌, ◌+◌, length, take}
+use Rattle.std.proofs.Common.{◌≡◌, length, take}
 use Rattle.net_core.specs.View.{plan_of}
 use Rattle.verilog_write.specs.Adding.{AddsLine}
 use Rattle.verilog_write.proofs.Sections.{section, port_at}

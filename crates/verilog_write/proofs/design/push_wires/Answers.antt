@@ -1,4 +1,4 @@
-use Rattle.std.proofs.Common.{◌+◌, ap, arith, get_or, length, map}
+use Rattle.std.proofs.Common.{◌+◌, ap, arith, length, map}
 use Rattle.net_core.specs.View.{plan_of, wire_of}
 use Rattle.spelling_core.specs.Grammar.{all_wires}
 use Rattle.verilog_write.proofs.Adding.{word_line}
