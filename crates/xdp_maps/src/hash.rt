@@ -1,5 +1,5 @@
 //! Hashes: entries in the order of their keys' bytes, in room that is taken at the start.
-ghost use Rattle.std.specs.Prelude.{ℕ, List, slice_get, slice_index_or, IfNone, MatchOption, ◌≡◌, ◌+◌, ◌<◌, ◌≤◌, length, IfOk, IfErr, IfSome, IsTrue, is_ok, is_some, vec_len, vec_capacity, ◌⊎◌, []};
+ghost use Rattle.std.specs.Prelude.{ℕ, List, slice_get, slice_index_or, IfNone, MatchOption, ◌≡◌, ◌+◌, ◌<◌, ◌≤◌, length, IfOk, IfErr, IfSome, IsTrue, is_ok, vec_len, vec_capacity, ◌⊎◌, []};
 ghost use Rattle.std.specs.Option.{option_copied};
 ghost use Rattle.std.specs.Ordering.{nat_cmp};
 ghost use Rattle.std.specs.Cmp.Lexicographic.{slice_cmp};

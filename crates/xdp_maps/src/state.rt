@@ -1,5 +1,5 @@
 //! All maps of a program.
-ghost use Rattle.std.specs.Prelude.{◌≡◌, ◌+◌, ◌<◌, ◌≤◌, length, is_some, All, IfNone, IfOk, MatchOption, Some, None, map as map_list};
+ghost use Rattle.std.specs.Prelude.{◌≡◌, ◌+◌, ◌<◌, ◌≤◌, length, is_some, All, IfNone, IfOk, MatchOption, Some, None};
 ghost use Rattle.std.specs.Option.{option_copied};
 
 use crate::change::Change;

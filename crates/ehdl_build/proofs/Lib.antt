@@ -1,0 +1,13 @@
+pub mod Flows
+pub mod Histories
+pub mod Places
+pub mod Holds
+pub mod Fronts
+pub mod Refined
+pub mod Turns
+pub mod Drives
+pub mod Bounds
+pub mod Realized
+pub mod Texts
+pub mod Formed
+pub mod Compiled

@@ -1,0 +1,5 @@
+pub mod Bay
+pub mod Station
+pub mod Products
+pub mod Realizes
+pub mod Compiled

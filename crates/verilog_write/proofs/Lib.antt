@@ -1,0 +1,6 @@
+pub mod Adding
+pub mod Words
+pub mod Written
+pub mod Facts
+pub mod Sections
+pub mod Places

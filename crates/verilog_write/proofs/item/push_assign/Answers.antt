@@ -1,0 +1,6 @@
+use Rattle.std.proofs.Common.{append_assoc}
+use Rattle.verilog_write.proofs.Adding.{from_ok, opened}
+use Rattle.verilog_write.proofs.item.push_assign.Goals as goal
+
+pub returns : goal.returns
+returns c = from_ok c.push_symbol.result c.push_symbol.ensures.read (λ last. record { read = λ before h. simp append_assoc at (opened (last _ (c.in_ok-push_expression.ensures.read _ (c.in_ok-push_operator.ensures.read _ (c.in_ok-push_name.ensures.read _ (c.in_ok-push_space.ensures.read _ (c.in_ok-push_keyword.ensures.read _ h))))))) })

@@ -1,0 +1,6 @@
+use Rattle.std.proofs.Common.{append_assoc}
+use Rattle.verilog_write.proofs.Adding.{from_ok, opened}
+use Rattle.verilog_write.proofs.item.push_edge.Goals as goal
+
+pub returns : goal.returns
+returns c = from_ok c.push_space-2.result c.push_space-2.ensures.read (λ last. record { read = λ before h. simp append_assoc at (last _ (opened (c.in_ok-push_symbol-3.ensures.read _ (c.in_ok-push_name.ensures.read _ (c.in_ok-push_space.ensures.read _ (c.in_ok-push_keyword.ensures.read _ (c.in_ok-push_symbol-2.ensures.read _ (opened (c.in_ok-push_symbol.ensures.read _ h))))))))) })

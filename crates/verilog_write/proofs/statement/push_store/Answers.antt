@@ -1,0 +1,6 @@
+use Rattle.std.proofs.Common.{append_assoc}
+use Rattle.verilog_write.proofs.Adding.{from_ok, opened}
+use Rattle.verilog_write.proofs.statement.push_store.Goals as goal
+
+pub returns : goal.returns
+returns c = from_ok c.push_symbol-3.result c.push_symbol-3.ensures.read (λ last. record { read = λ before h. simp append_assoc at (opened (last _ (c.in_ok-push_expression-2.ensures.read _ (c.in_ok-push_operator.ensures.read _ (opened (c.in_ok-push_symbol-2.ensures.read _ (c.in_ok-push_expression.ensures.read _ (c.in_ok-push_symbol.ensures.read _ (c.in_ok-push_net.ensures.read _ h))))))))) })

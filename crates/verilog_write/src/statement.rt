@@ -1,0 +1,128 @@
+//! Statements. Those of a block stand on lines of their own.
+
+ghost use Rattle.std.specs.Prelude.{◌∷◌, ◌++◌, [], OnOk};
+ghost use Rattle.net_core.specs.Names.{name_of};
+ghost use Rattle.net_core.specs.View.{plan_of, tree_of, act_of, acts_of};
+ghost use Rattle.net_core.specs.declared.tree.Net.TheVariants.{Register, Memory};
+ghost use Rattle.spelling_core.specs.Grammar.{register_name, memory_name, tree_lexemes, act_lexemes, acts_lexemes};
+ghost use Rattle.verilog_lex.specs.Lexeme.{LKeyword, LName, LSymbol};
+ghost use Rattle.verilog_lex.specs.declared.token.Keyword.TheVariants as keyword;
+ghost use Rattle.verilog_lex.specs.declared.token.Symbol.TheVariants as symbol;
+ghost use Rattle.verilog_write.specs.Adding.{AddsWord, AddsMark, AddsLine};
+ghost use Rattle.verilog_write.specs.Writable.{IsNamed, IsWritable, IsActWritable, AreActsWritable};
+
+use crate::expression::{push_expression, push_net};
+use crate::spaced::push_operator;
+use net_core::design::Design;
+use net_core::tree::{Expr, Net, Stmt, Stmts};
+use std::alloc::AllocError;
+use verilog_lex::{Keyword, Symbol, push_keyword, push_line, push_space, push_symbol};
+
+/// Adds `if` and a condition.
+fn push_condition(text: &mut Vec<u8>, design: &Design, c: &Expr<Net>) -> Result<(), AllocError>
+    requires { IsWritable (plan_of design.now) (tree_of c.now) }
+    ensures { OnOk result (AddsLine text.old.items text.new.items (LKeyword keyword.If ∷ LSymbol symbol.OpenParenthesis ∷ (tree_lexemes (name_of (plan_of design.now)) (tree_of c.now) ++ LSymbol symbol.CloseParenthesis ∷ []))) }
+{
+    push_keyword(text, Keyword::If)?;
+    push_space(text)?;
+    push_symbol(text, Symbol::OpenParenthesis)?;
+    push_expression(text, design, c)?;
+    push_symbol(text, Symbol::CloseParenthesis)?;
+    push_space(text)
+}
+
+/// Adds `else`, on a line of its own.
+fn push_else(text: &mut Vec<u8>) -> Result<(), AllocError>
+    ensures { OnOk result (AddsMark text.old.items text.new.items (LKeyword keyword.Else ∷ [])) }
+{
+    push_line(text)?;
+    push_keyword(text, Keyword::Else)?;
+    push_space(text)
+}
+
+/// Adds an assignment to a register.
+fn push_set(
+    text: &mut Vec<u8>,
+    design: &Design,
+    register: u32,
+    value: &Expr<Net>,
+) -> Result<(), AllocError>
+    requires name { IsNamed (plan_of design.now) (Register register) }
+    requires value { IsWritable (plan_of design.now) (tree_of value.now) }
+    ensures { OnOk result (AddsWord text.old.items text.new.items (LName (register_name (plan_of design.now) register) ∷ LSymbol symbol.LessEqual ∷ (tree_lexemes (name_of (plan_of design.now)) (tree_of value.now) ++ LSymbol symbol.Semicolon ∷ []))) }
+{
+    push_net(text, design, Net::Register(register))?;
+    push_operator(text, Symbol::LessEqual)?;
+    push_expression(text, design, value)?;
+    push_symbol(text, Symbol::Semicolon)
+}
+
+/// Adds an assignment to a word of a memory.
+fn push_store(
+    text: &mut Vec<u8>,
+    design: &Design,
+    memory: u32,
+    index: &Expr<Net>,
+    value: &Expr<Net>,
+) -> Result<(), AllocError>
+    requires name { IsNamed (plan_of design.now) (Memory memory) }
+    requires index { IsWritable (plan_of design.now) (tree_of index.now) }
+    requires value { IsWritable (plan_of design.now) (tree_of value.now) }
+    ensures { OnOk result (AddsWord text.old.items text.new.items (LName (memory_name (plan_of design.now) memory) ∷ LSymbol symbol.OpenBracket ∷ (tree_lexemes (name_of (plan_of design.now)) (tree_of index.now) ++ LSymbol symbol.CloseBracket ∷ LSymbol symbol.LessEqual ∷ (tree_lexemes (name_of (plan_of design.now)) (tree_of value.now) ++ LSymbol symbol.Semicolon ∷ [])))) }
+{
+    push_net(text, design, Net::Memory(memory))?;
+    push_symbol(text, Symbol::OpenBracket)?;
+    push_expression(text, design, index)?;
+    push_symbol(text, Symbol::CloseBracket)?;
+    push_operator(text, Symbol::LessEqual)?;
+    push_expression(text, design, value)?;
+    push_symbol(text, Symbol::Semicolon)
+}
+
+/// Adds a statement to a closed text.
+#[cycle(statement)]
+pub fn push_statement(
+    text: &mut Vec<u8>,
+    design: &Design,
+    stmt: &Stmt<Net>,
+) -> Result<(), AllocError>
+    requires { IsActWritable (plan_of design.now) (act_of stmt.now) }
+    ensures { OnOk result (AddsWord text.old.items text.new.items (act_lexemes (name_of (plan_of design.now)) (register_name (plan_of design.now)) (memory_name (plan_of design.now)) (act_of stmt.now))) }
+{
+    match stmt {
+        Stmt::Block(more) => {
+            push_keyword(text, Keyword::Begin)?;
+            push_line(text)?;
+            push_statements(text, design, more)?;
+            push_keyword(text, Keyword::End)
+        }
+        Stmt::If(c, a) => {
+            push_condition(text, design, c)?;
+            push_statement(text, design, a)
+        }
+        Stmt::IfElse(c, a, b) => {
+            push_condition(text, design, c)?;
+            push_statement(text, design, a)?;
+            push_else(text)?;
+            push_statement(text, design, b)
+        }
+        Stmt::Set(register, value) => push_set(text, design, *register, value),
+        Stmt::Store(memory, index, value) => push_store(text, design, *memory, index, value),
+    }
+}
+
+/// Adds the statements of a block.
+#[cycle(statement)]
+fn push_statements(text: &mut Vec<u8>, design: &Design, more: &Stmts<Net>) -> Result<(), AllocError>
+    requires { AreActsWritable (plan_of design.now) (acts_of more.now) }
+    ensures { OnOk result (AddsLine text.old.items text.new.items (acts_lexemes (name_of (plan_of design.now)) (register_name (plan_of design.now)) (memory_name (plan_of design.now)) (acts_of more.now))) }
+{
+    match more {
+        Stmts::End => Ok(()),
+        Stmts::Then(first, rest) => {
+            push_statement(text, design, first)?;
+            push_line(text)?;
+            push_statements(text, design, rest)
+        }
+    }
+}
