@@ -1,6 +1,6 @@
 -- Stores that wait.
 use Rattle.std.specs.Prelude.{slice_set, ◌==◌}
-use Rattle.std.proofs.Common.{◌≡◌, ℕ, ◌+◌, ◌<◌, List, [], ◌∷◌, ◌++◌, length, get_or, refl, sym, ap, ◌∙◌, subst, ⊎_elim}
+use Rattle.std.proofs.Common.{arith, ◌≡◌, ℕ, ◌+◌, ◌<◌, Option, List, [], ◌∷◌, ◌++◌, length, get_or, refl, sym, ap, ◌∙◌, subst, ⊎_elim}
 use Rattle.std.proofs.lemmas.Bool.{cases_eq, cond-false, ne_eqb}
 use Rattle.std.proofs.lemmas.List.{length-set, get_or-set_same, get_or-set_other, get_or_default}
 use Rattle.net_core.specs.declared.tree.Word.{Word}
@@ -9,7 +9,7 @@ use Rattle.net_core.specs.Nets.{Tree, Act, AIfElse, AStore}
 use Rattle.net_core.specs.Value.{Env, value}
 use Rattle.net_core.specs.Clock.{Stored, done, edge}
 use Rattle.clock_sim.specs.declared.edge.Store.{Store}
-use Rattle.clock_sim.specs.Stores.{applied, waiting, IsWithin, AreWithin, CanDo, CanEdge, stores_of, all_stores}
+use Rattle.clock_sim.specs.Stores.{applied, waiting, IsWithin, AreWithin, CanDo, CanEdge, stores_of, all_stores, IsCount}
 use Rattle.clock_sim.specs.Readable.{held}
 
 pub applied_push : (stores : List Store) (s : Store) (memories : List (List Word)) → slice_set (applied stores memories) s.memory (slice_set (get_or (applied stores memories) s.memory []) s.at s.word) ≡ applied (stores ++ s ∷ []) memories
@@ -83,3 +83,17 @@ edge_room a left rest e = ap (λ l. all_stores l) e
 
 pub edge_made : (v : Env Net) (a : Act Net) (left rest : List (Act Net)) → left ≡ a ∷ rest → (s t end : Stored) → done v a s ≡ t → edge v left s ≡ end → edge v rest t ≡ end
 edge_made v a left rest e s t end d h = ap (λ x. edge v rest x) (sym d) ∙ ap (λ l. edge v l s) (sym e) ∙ h
+
+-- ---- counts
+-- a count of the stores of all statements but those that are left
+pub record IsCounted (count : Option ℕ) (all left : ℕ) : Type 0 where
+  pub so_far : ℕ
+  pub is : IsCount count so_far
+  pub sum : so_far + left ≡ all
+
+pub counted_one : (count one next : Option ℕ) (a : Act Net) (left rest : List (Act Net)) (all : ℕ) → left ≡ a ∷ rest → IsCounted count all (all_stores left) → IsCount one (stores_of a)
+    → ((m n : ℕ) → IsCount count m → IsCount one n → IsCount next (m + n)) → IsCounted next all (all_stores rest)
+counted_one count one next a left rest all e h o s =
+    let n = edge_room a left rest e in
+    let k = h.sum in
+    record { so_far = h.so_far + stores_of a; is = s h.so_far (stores_of a) h.is o; sum = omega arith }

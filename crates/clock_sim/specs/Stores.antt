@@ -1,5 +1,5 @@
 -- Stores that wait for the end of a clock, and what a statement needs to run.
-use Rattle.std.specs.Prelude.{ℕ, ⊤, ◌+◌, ◌<◌, List, [], ◌∷◌, slice_set, length}
+use Rattle.std.specs.Prelude.{◌≡◌, ℕ, ⊤, ◌+◌, ◌^◌, ◌<◌, ◌≤◌, Option, Some, None, List, [], ◌∷◌, slice_set, length}
 use Rattle.std.proofs.Common.{get_or}
 use Rattle.net_core.specs.declared.tree.Word.{Word}
 use Rattle.net_core.specs.declared.tree.Net.{Net}
@@ -59,3 +59,8 @@ abbrev mutual
 abbrev pub all_stores : {N : Type 0} → List (Act N) → ℕ
 all_stores [] = 0
 all_stores (a ∷ rest) = stores_of a + all_stores rest
+
+-- the number, or none where it is no number of the machine
+abbrev pub IsCount : Option ℕ → ℕ → Type 0
+IsCount None n = 2 ^ 64 ≤ n
+IsCount (Some k) n = k ≡ n

@@ -1,10 +1,10 @@
 //! The assignments of a rising edge (IEEE 1364-2005, 9.2.2): all from the values before it.
 
-ghost use Rattle.std.specs.Prelude.{◌≡◌, ◌+◌, ◌<◌, ◌≤◌, [], ◌∷◌, ◌++◌, length, map, vec_len, vec_capacity, IfSome};
+ghost use Rattle.std.specs.Prelude.{◌≡◌, ◌+◌, ◌<◌, ◌≤◌, [], ◌∷◌, ◌++◌, length, map, vec_len, vec_capacity, ℕ};
 ghost use Rattle.net_core.specs.Clock.{done, all_done, edge};
 ghost use Rattle.net_core.specs.View.{act_of, acts_of};
 ghost use Rattle.clock_sim.specs.Readable.{held, seen};
-ghost use Rattle.clock_sim.specs.Stores.{applied, waiting, AreWithin, CanDo, CanAllDo, CanEdge, stores_of, stores_in, all_stores};
+ghost use Rattle.clock_sim.specs.Stores.{applied, waiting, AreWithin, CanDo, CanAllDo, CanEdge, stores_of, stores_in, all_stores, IsCount};
 
 use crate::bank::Bank;
 use crate::tree::{Now, value_of};
@@ -111,12 +111,12 @@ pub fn finish(stores: &[Store], memories: &mut [Bank])
 /// How many stores a statement can make, if that is a number of the machine.
 #[cycle(count)]
 pub fn count_of(s: &Stmt<Net>) -> Option<usize>
-    ensures { IfSome result (λ n. n ≡ stores_of (act_of s.now)) }
+    ensures { IsCount result (stores_of (act_of s.now)) }
 {
     match s {
         Stmt::Block(more) => count_in(more),
         Stmt::If(_, a) => count_of(a),
-        Stmt::IfElse(_, a, b) => count_of(a)?.checked_add(count_of(b)?),
+        Stmt::IfElse(_, a, b) => sum(count_of(a), count_of(b)),
         Stmt::Set(_, _) => Some(0),
         Stmt::Store(_, _, _) => Some(1),
     }
@@ -124,21 +124,28 @@ pub fn count_of(s: &Stmt<Net>) -> Option<usize>
 
 #[cycle(count)]
 fn count_in(more: &Stmts<Net>) -> Option<usize>
-    ensures { IfSome result (λ n. n ≡ stores_in (acts_of more.now)) }
+    ensures { IsCount result (stores_in (acts_of more.now)) }
 {
     match more {
         Stmts::End => Some(0),
-        Stmts::Then(s, rest) => count_of(s)?.checked_add(count_in(rest)?),
+        Stmts::Then(s, rest) => sum(count_of(s), count_in(rest)),
     }
 }
 
 /// How many stores a clock can make, if that is a number of the machine.
 pub fn count_all(all: &[Stmt<Net>]) -> Option<usize>
-    ensures { IfSome result (λ n. n ≡ all_stores (map act_of all.now)) }
+    ensures { IsCount result (all_stores (map act_of all.now)) }
 {
-    let mut sum = 0usize;
+    let mut count = Some(0);
     for s in all {
-        sum = sum.checked_add(count_of(s)?)?;
+        count = sum(count, count_of(s));
     }
-    Some(sum)
+    count
+}
+
+// The sum of two counts. None stands for one that is too large, and then so is the sum.
+fn sum(a: Option<usize>, b: Option<usize>) -> Option<usize>
+    ensures { (m : ℕ) (n : ℕ) → IsCount a m → IsCount b n → IsCount result (m + n) }
+{
+    a?.checked_add(b?)
 }
