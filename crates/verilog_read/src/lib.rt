@@ -1,4 +1,0 @@
-//! Designs from Verilog texts.
-#![tactic(auto)]
-
-mod nothing;

@@ -1,4 +1,0 @@
-//! x
-pub(crate) fn zero() -> u8 {
-    0
-}
