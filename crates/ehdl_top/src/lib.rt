@@ -3,10 +3,12 @@
 #![tactic(auto)]
 
 mod line;
+mod run;
 mod status;
 mod words;
 
 pub use line::verdict_line;
+pub use run::{Run, read_run};
 pub use status::Status;
 pub use words::Words;
 
