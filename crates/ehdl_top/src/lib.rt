@@ -3,11 +3,13 @@
 #![tactic(auto)]
 
 mod line;
+mod output;
 mod run;
 mod status;
 mod words;
 
 pub use line::verdict_line;
+pub use output::write_parts;
 pub use run::{Run, read_run};
 pub use status::Status;
 pub use words::Words;

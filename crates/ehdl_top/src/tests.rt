@@ -1,7 +1,7 @@
 // Each public function once. Expected values are worked out by hand.
 
 use super::*;
-use shelf_core::NoMemory;
+use shelf_core::{Failed, MemShelf, NoMemory};
 use std::alloc::Global;
 use std::test::Fail;
 
@@ -83,6 +83,33 @@ fn other_words_are_refused(rt: HostRuntime) -> Result<(), Fail> {
     for line in REFUSED {
         let words = words_of(rt.alloc(), line)?;
         assert_eq!(rt; read_run(&words), None, "{line}");
+    }
+    Ok(())
+}
+
+// The call that fails, how many bytes it leaves, and what the name holds then.
+#[test]
+fn parts_are_written(rt: HostRuntime) -> Result<(), Fail> {
+    let table: [(u64, u64, &[u8], Result<(), Failed>); 5] = [
+        (0, 0, b"abcde", Ok(())),
+        (1, 9, b"old", Err(Failed)),
+        (2, 1, b"a", Err(Failed)),
+        (4, 1, b"abc", Err(Failed)),
+        (5, 0, b"abcde", Ok(())),
+    ];
+    let parts = [b"ab".as_slice(), b"", b"cde"];
+    for (call, left, want, answer) in table {
+        let mut shelf = MemShelf::new(rt.alloc());
+        shelf.hold("name", b"old")?;
+        shelf.hold("other", b"kept")?;
+        shelf.fail_write(call, left)?;
+        assert_eq!(rt;
+            write_parts(&mut shelf, "name", &parts),
+            answer,
+            "call {call}"
+        );
+        assert_eq!(rt; shelf.held("name"), Some(want), "call {call}");
+        assert_eq!(rt; shelf.held("other"), Some(b"kept".as_slice()));
     }
     Ok(())
 }
