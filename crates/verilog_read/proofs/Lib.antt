@@ -1,0 +1,11 @@
+pub mod Spelled
+pub mod Linked
+pub mod Turns
+pub mod Sizes
+pub mod Again
+pub mod Results
+pub mod Found
+pub mod Whole
+pub mod FoundActs
+pub mod AgainActs
+pub mod WholeActs

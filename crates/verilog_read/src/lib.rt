@@ -1,0 +1,16 @@
+//! Designs from Verilog texts.
+#![tactic(auto)]
+
+mod error;
+mod expr;
+mod rest;
+mod scope;
+mod stmt;
+#[cfg(test)]
+mod tests;
+
+pub use crate::error::ReadError;
+pub use crate::expr::{expression, right_side};
+pub use crate::rest::Rest;
+pub use crate::scope::{Entry, Scope};
+pub use crate::stmt::statement;
