@@ -39,7 +39,7 @@ colon_takes : (ts rest : List Lexeme) → colon_at ts ≡ Some rest → ts ≡ L
 colon_takes (LSymbol symbol.Colon ∷ ts) rest e = cc
 colon_takes ts rest e = absurd cc
 
-number_takes : (ts : List Lexeme) (x : ℕ × List Lexeme) → number_at ts ≡ Some x → ts ≡ LNumber x.0 ∷ x.1
+pub number_takes : (ts : List Lexeme) (x : ℕ × List Lexeme) → number_at ts ≡ Some x → ts ≡ LNumber x.0 ∷ x.1
 number_takes (LNumber n ∷ ts) x e = ap (λ (p : ℕ × List Lexeme). LNumber p.0 ∷ p.1) (same_some (n, ts) x e)
 number_takes ts x e = absurd cc
 

@@ -19,7 +19,7 @@ open_takes : (ts rest : List Lexeme) → open_at ts ≡ Some rest → ts ≡ LSy
 open_takes (LSymbol symbol.OpenParenthesis ∷ ts) rest e = cc
 open_takes ts rest e = absurd cc
 
-semicolon_takes : (ts rest : List Lexeme) → semicolon_at ts ≡ Some rest → ts ≡ LSymbol symbol.Semicolon ∷ rest
+pub semicolon_takes : (ts rest : List Lexeme) → semicolon_at ts ≡ Some rest → ts ≡ LSymbol symbol.Semicolon ∷ rest
 semicolon_takes (LSymbol symbol.Semicolon ∷ ts) rest e = cc
 semicolon_takes ts rest e = absurd cc
 
@@ -31,7 +31,7 @@ end_takes : (ts rest : List Lexeme) → end_at ts ≡ Some rest → ts ≡ LKeyw
 end_takes (LKeyword keyword.End ∷ ts) rest e = cc
 end_takes ts rest e = absurd cc
 
-named_takes : (ts : List Lexeme) (x : List ℕ × List Lexeme) → named_at ts ≡ Some x → ts ≡ LName x.0 ∷ x.1
+pub named_takes : (ts : List Lexeme) (x : List ℕ × List Lexeme) → named_at ts ≡ Some x → ts ≡ LName x.0 ∷ x.1
 named_takes (LName s ∷ ts) x e = ap (λ (p : List ℕ × List Lexeme). LName p.0 ∷ p.1) (same_some (s, ts) x e)
 named_takes ts x e = absurd cc
 
