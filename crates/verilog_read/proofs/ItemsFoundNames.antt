@@ -157,11 +157,10 @@ integer_placed d more place k e = by_test (nat_lt place (length d.ports)) refl e
         omega arith
 
 -- the integers that names stand for have these names
-pub AreIntegers : Plan → (ℕ → List ℕ) → Type 0
+abbrev pub AreIntegers : Plan → (ℕ → List ℕ) → Type 0
 AreIntegers d integer = (s : List ℕ) (k : ℕ) → integer_in d s ≡ Some k → integer k ≡ s
 
 pub integers_named : (d e : Plan) (more : List (List ℕ)) (others : List Declared) → e.names ≡ d.names ++ more → e.ports ≡ d.ports → e.declared ≡ d.declared ++ others → AreIntegers d (integer_name e)
-unfolding AreIntegers
 integers_named d e more others names ports declared s k h =
     let at = named (integer_from d) d.names s k h in
     let placed : length e.ports + place_of is_integer e.declared k ≡ at.0 = ap (λ (q : List Declared). length e.ports + place_of is_integer q k) declared ∙ ap (λ (m : ℕ). m + place_of is_integer (d.declared ++ others) k) (ap length ports) ∙ integer_placed d others at.0 k at.3 in

@@ -11,3 +11,4 @@ pub mod AgainActs
 pub mod WholeActs
 pub mod ItemsFoundWords
 pub mod ItemsFoundNames
+pub mod ItemsFoundItem
