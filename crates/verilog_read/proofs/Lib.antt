@@ -12,3 +12,5 @@ pub mod WholeActs
 pub mod ItemsFoundWords
 pub mod ItemsFoundNames
 pub mod ItemsFoundItem
+pub mod ItemsFoundSections
+pub mod ItemsFoundHeader
