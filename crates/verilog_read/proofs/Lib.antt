@@ -14,3 +14,4 @@ pub mod ItemsFoundNames
 pub mod ItemsFoundItem
 pub mod ItemsFoundSections
 pub mod ItemsFoundHeader
+pub mod ItemsFound
