@@ -1,18 +1,16 @@
 -- What is read as a design is spelled so.
-use Rattle.std.proofs.Common.{◌≡◌, ℕ, ◌+◌, Option, Some, List, [], ◌∷◌, ◌++◌, length, refl, sym, ap, ◌∙◌, append_assoc, arith}
+use Rattle.std.proofs.Common.{◌≡◌, ℕ, ◌+◌, Some, List, [], ◌∷◌, ◌++◌, length, refl, sym, ap, ◌∙◌, append_assoc, arith}
 use Rattle.std.specs.Prelude.{codes}
 use Rattle.std.proofs.lemmas.List.{append-nil}
-use Rattle.net_core.specs.declared.design.Declared.{Declared}
 use Rattle.net_core.specs.Nets.{Plan}
 use Rattle.verilog_lex.specs.declared.token.Keyword.TheVariants as keyword
 use Rattle.verilog_lex.specs.declared.token.Symbol.TheVariants as symbol
 use Rattle.verilog_lex.specs.Lexeme.{Lexeme, LName, LKeyword, LSymbol}
 use Rattle.spelling_core.specs.Grammar.{ports_lexemes, all_declared, all_wires, all_assigns, all_always, items_lexemes, design_lexemes}
-use Rattle.verilog_read.specs.Reading.{Read, ◌>>=◌}
 use Rattle.verilog_read.specs.Items.{behind, begins_declared, declared_at, begins_wire, wire_at, begins_assign, assign_at, begins_always, always_at, section_at, header_at, items_at, whole_design, design_within, design_at}
 use Rattle.verilog_read.proofs.Found.{bind_some, same_some}
 use Rattle.verilog_read.proofs.ItemsFoundWords.{behind_takes}
-use Rattle.verilog_read.proofs.ItemsFoundSections.{IsStep, section_steps, IsBegun, HasDeclared, FitsDeclared, declared_text, declared_step, HasWires, FitsWires, wires_text, wire_step, HasAssigns, FitsAssigns, assigns_text, assign_step, HasAlways, FitsAlways, always_text, always_step}
+use Rattle.verilog_read.proofs.ItemsFoundSections.{IsStep, section_steps, HasDeclared, FitsDeclared, declared_text, declared_step, HasWires, FitsWires, wires_text, wire_step, HasAssigns, FitsAssigns, assigns_text, assign_step, HasAlways, FitsAlways, always_text, always_step}
 use Rattle.verilog_read.proofs.ItemsFoundHeader.{HasPorts, header_found}
 
 -- ---- from one section to the next
@@ -45,10 +43,10 @@ record AreItemsFound (d : Plan) (ts : List Lexeme) (x : Plan × List Lexeme) : T
   text : ts ≡ items_lexemes x.0 ++ x.1
 
 module _ (d : Plan) (ts : List Lexeme) (a b c x : Plan × List Lexeme) (has : HasPorts d)
-  (first : IsStep HasDeclared (FitsDeclared x.0) (declared_text x.0) d ts a)
-  (second : IsStep HasWires (FitsWires x.0) (wires_text x.0) a.0 a.1 b)
-  (third : IsStep HasAssigns (FitsAssigns x.0) (assigns_text x.0) b.0 b.1 c)
-  (fourth : IsStep HasAlways (FitsAlways x.0) (always_text x.0) c.0 c.1 x) where
+    (first : IsStep HasDeclared (FitsDeclared x.0) (declared_text x.0) d ts a)
+    (second : IsStep HasWires (FitsWires x.0) (wires_text x.0) a.0 a.1 b)
+    (third : IsStep HasAssigns (FitsAssigns x.0) (assigns_text x.0) b.0 b.1 c)
+    (fourth : IsStep HasAlways (FitsAlways x.0) (always_text x.0) c.0 c.1 x) where
   has_declared : HasDeclared a.0
   has_declared = first.counted (to_declared d has)
 
@@ -74,7 +72,7 @@ module _ (d : Plan) (ts : List Lexeme) (a b c x : Plan × List Lexeme) (has : Ha
         (section_text (declared_text x.0 d) (declared_text x.0 a.0) _ ts a.1 (ap (all_declared x.0 (length x.0.ports)) has.declared) (ap (all_declared x.0 (length x.0.ports)) (sym fits_wires.declared)) (first.spelled (to_declared d has) (from_wires x.0 a.0 fits_wires)))
         (section_text (wires_text x.0 a.0) (wires_text x.0 b.0) _ a.1 b.1 (ap (all_wires x.0 (length x.0.ports + length x.0.declared)) has_declared.wires) (ap (all_wires x.0 (length x.0.ports + length x.0.declared)) (sym fits_assigns.wires)) (second.spelled (to_wires a.0 has_declared) fits_assigns.fits))
         (section_text (assigns_text x.0 b.0) (assigns_text x.0 c.0) _ b.1 c.1 (ap (all_assigns x.0) has_wires.assigns) (ap (all_assigns x.0) (sym fits_always.assigns)) (third.spelled (to_assigns b.0 has_wires) fits_always.fits))
-        (section_text (always_text x.0 c.0) (always_text x.0 x.0) _ c.1 x.1 (ap (all_always x.0) has_assigns.always) refl (fourth.spelled (record { }) (fits_itself x.0)));
+        (section_text (always_text x.0 c.0) (always_text x.0 x.0) _ c.1 x.1 (ap (all_always x.0) has_assigns.always) refl (fourth.spelled (record {}) (fits_itself x.0)));
   }
 
 items_found : (most : ℕ) (d : Plan) (ts : List Lexeme) (x : Plan × List Lexeme) → HasPorts d → items_at most d ts ≡ Some x → AreItemsFound d ts x

@@ -1,5 +1,5 @@
 -- What is read as the header of a design is spelled so.
-use Rattle.std.proofs.Common.{◌≡◌, ℕ, zero, suc, ◌+◌, Bool, true, false, Option, Some, List, [], ◌∷◌, ◌++◌, length, refl, sym, ap, ◌∙◌, subst, append_assoc, arith}
+use Rattle.std.proofs.Common.{◌≡◌, ℕ, zero, suc, ◌+◌, Bool, true, false, Some, List, [], ◌∷◌, ◌++◌, length, refl, sym, ap, ◌∙◌, subst, append_assoc, arith}
 use Rattle.std.specs.Prelude.{if◌then◌else◌, codes}
 use Rattle.net_core.specs.declared.design.Port.{Port}
 use Rattle.net_core.specs.Nets.{Plan}
@@ -7,12 +7,12 @@ use Rattle.verilog_lex.specs.declared.token.Keyword.TheVariants as keyword
 use Rattle.verilog_lex.specs.declared.token.Symbol.TheVariants as symbol
 use Rattle.verilog_lex.specs.Lexeme.{Lexeme, LName, LKeyword, LSymbol}
 use Rattle.spelling_core.specs.Grammar.{port_lexemes, text_at, ports_lexemes}
-use Rattle.verilog_read.specs.Reading.{Read, ◌>>=◌, semicolon_at}
+use Rattle.verilog_read.specs.Reading.{Read, semicolon_at}
 use Rattle.verilog_read.specs.Items.{behind, with_port, port_at, follows_at, more_ports_at, ports_at, no_design, header_at}
 use Rattle.verilog_read.proofs.Found.{bind_some, same_some}
 use Rattle.verilog_read.proofs.FoundActs.{semicolon_takes}
 use Rattle.verilog_read.proofs.ItemsFoundWords.{behind_takes}
-use Rattle.verilog_read.proofs.ItemsFoundItem.{IsPortFound, port_found}
+use Rattle.verilog_read.proofs.ItemsFoundItem.{port_found}
 use Rattle.verilog_read.proofs.ItemsFoundSections.{IsBegun, begun_before, placed, one_more, grown}
 
 -- while ports are read

@@ -140,7 +140,7 @@ fill_behind_found d width s index i k ts t2 x is p e =
     let r = bind_some (semicolon_at c.0.1) _ x c.2 in
     fill_so d width s index k c.0.0 ts r.0 x r.2
     (λ integer known. fill_text s i (integer k) (2 ^ index) c.0.0 ts t2 b.0 c.0.1 r.0 p
-        (behind_takes (loop_phrase s i (2 ^ index)) t2 b.0 b.1) (constant_takes b.0 c.0 c.1) (semicolon_takes c.0.1 r.0 r.1) (sym (known i k is)))
+    (behind_takes (loop_phrase s i (2 ^ index)) t2 b.0 b.1) (constant_takes b.0 c.0 c.1) (semicolon_takes c.0.1 r.0 r.1) (sym (known i k is)))
 
 fill_found : (d : Plan) (width : ℕ) (s : List ℕ) (index : ℕ) (ts : List Lexeme) (x : Plan × List Lexeme) → fill_at d width s index ts ≡ Some x → IsFillFound d width s index ts x
 unfolding fill_at
@@ -221,7 +221,7 @@ wire_found most d ts x e =
     let r = bind_some (semicolon_at t.0.1) _ x t.2 in
     wire_so d s.0.0 (record { width = w.0.0; right = t.0.0 }) ts r.0 x r.2
     (λ names known. wire_text (LName s.0.0) (range_lexemes w.0.0) (right_lexemes names t.0.0) ts a.0 w.0.1 s.0.1 b.0 t.0.1 r.0
-        (behind_takes (LKeyword keyword.Wire ∷ []) ts a.0 a.1) (range_takes a.0 w.0 w.1) (fresh_takes w.0.1 s.0 s.1) (behind_takes (LSymbol symbol.Assign ∷ []) s.0.1 b.0 b.1) (right_found (names_in d) names known most b.0 t.0 t.1).text (semicolon_takes t.0.1 r.0 r.1))
+    (behind_takes (LKeyword keyword.Wire ∷ []) ts a.0 a.1) (range_takes a.0 w.0 w.1) (fresh_takes w.0.1 s.0 s.1) (behind_takes (LSymbol symbol.Assign ∷ []) s.0.1 b.0 b.1) (right_found (names_in d) names known most b.0 t.0 t.1).text (semicolon_takes t.0.1 r.0 r.1))
 
 -- ---- assigns
 pub record IsAssignFound (d : Plan) (ts : List Lexeme) (x : Plan × List Lexeme) : Type 0 where
@@ -254,8 +254,8 @@ assign_found most d ts x e =
     let r = bind_some (semicolon_at t.0.1) _ x t.2 in
     assign_so d (record { port = k.0; value = t.0.0 }) ts r.0 x r.2
     (λ names known. assign_text s.0.0 (names (net.Port k.0)) (tree_lexemes names t.0.0) ts a.0 s.0.1 b.0 t.0.1 r.0
-        (behind_takes (LKeyword keyword.Assign ∷ []) ts a.0 a.1) (named_takes a.0 s.0 s.1) (behind_takes (LSymbol symbol.Assign ∷ []) s.0.1 b.0 b.1) (whole_found (names_in d) names known most b.0 t.0 t.1).text (semicolon_takes t.0.1 r.0 r.1)
-        (sym (known s.0.0 n.0 n.1) ∙ ap names (port_takes n.0 k.0 k.1)))
+    (behind_takes (LKeyword keyword.Assign ∷ []) ts a.0 a.1) (named_takes a.0 s.0 s.1) (behind_takes (LSymbol symbol.Assign ∷ []) s.0.1 b.0 b.1) (whole_found (names_in d) names known most b.0 t.0 t.1).text (semicolon_takes t.0.1 r.0 r.1)
+    (sym (known s.0.0 n.0 n.1) ∙ ap names (port_takes n.0 k.0 k.1)))
 
 -- ---- always blocks
 pub record IsAlwaysFound (d : Plan) (ts : List Lexeme) (x : Plan × List Lexeme) : Type 0 where

@@ -1,8 +1,8 @@
 -- The nets and the integers that the names of a design stand for have these names, also in a design that has more.
 use Rattle.std.proofs.Common.{◌≡◌, ℕ, zero, suc, ◌+◌, ◌-◌, ◌<◌, ◌≤◌, Bool, true, false, Option, Some, None, List, [], ◌∷◌, ◌++◌, length, get_or, nat_lt, refl, sym, ap, ◌∙◌, subst, arith}
-use Rattle.std.specs.Prelude.{if◌then◌else◌, option_and_then, position}
+use Rattle.std.specs.Prelude.{if◌then◌else◌, option_and_then}
 use Rattle.std.specs.Str.{bytes_eq}
-use Rattle.std.proofs.lemmas.Bool.{cond-true, cond-false, ltb-true, ltb-false}
+use Rattle.std.proofs.lemmas.Bool.{cond-true, cond-false, ltb-false}
 use Rattle.std.proofs.lemmas.List.{get_or_append_left}
 use Rattle.std.proofs.lemmas.List.Quantifiers.{position-Some}
 use Rattle.std.proofs.lemmas.Slice.Eq.{bytes_eq-Decides}
@@ -13,14 +13,14 @@ use Rattle.net_core.specs.declared.design.Declared.{Declared}
 use Rattle.net_core.specs.declared.design.Declared.TheVariants as declared
 use Rattle.net_core.specs.Nets.{Plan}
 use Rattle.net_core.specs.Names.{is_integer, is_register, is_memory, place_of, name_place, name_of}
-use Rattle.spelling_core.specs.Grammar.{text_at, integer_name}
-use Rattle.verilog_read.specs.Names.{place_in, behind_ports, net_at, net_of}
+use Rattle.spelling_core.specs.Grammar.{integer_name}
+use Rattle.verilog_read.specs.Names.{place_in, behind_ports, net_at}
 use Rattle.verilog_read.specs.Laws.{AreNames}
 use Rattle.verilog_read.specs.Items.{names_in, integer_at, integer_from, integer_in}
 use Rattle.verilog_read.proofs.Found.{same_some}
 
 -- ---- names and their places
-pub named : {A : Type 0} (f : ℕ → Option A) (names : List (List ℕ)) (s : List ℕ) (n : A) → option_and_then f (place_in names s) ≡ Some n → (i : ℕ) × (i < length names) × (get_or names i [] ≡ s) × (f i ≡ Some n)
+named : {A : Type 0} (f : ℕ → Option A) (names : List (List ℕ)) (s : List ℕ) (n : A) → option_and_then f (place_in names s) ≡ Some n → (i : ℕ) × (i < length names) × (get_or names i [] ≡ s) × (f i ≡ Some n)
 named f names s n e = by_place (place_in names s) refl e
   where
     by_place : (at : Option ℕ) → place_in names s ≡ at → option_and_then f at ≡ Some n → (i : ℕ) × (i < length names) × (get_or names i [] ≡ s) × (f i ≡ Some n)
@@ -127,7 +127,7 @@ net_placed ports xs place n e = by_test (nat_lt place ports) refl e
     by_test false t h = stands_behind ports place xs n (ltb-false place ports t) (stands xs (place - ports) 0 0 n h)
 
 -- what a name in front of others is
-pub kept_name : (all names more : List (List ℕ)) (i : ℕ) → all ≡ names ++ more → i < length names → get_or all i [] ≡ get_or names i []
+kept_name : (all names more : List (List ℕ)) (i : ℕ) → all ≡ names ++ more → i < length names → get_or all i [] ≡ get_or names i []
 kept_name all names more i e h = ap (λ (l : List (List ℕ)). get_or l i []) e ∙ get_or_append_left names more [] i h
 
 pub nets_named : (d e : Plan) (more : List (List ℕ)) → e.names ≡ d.names ++ more → e.ports ≡ d.ports → e.declared ≡ d.declared → AreNames (names_in d) (name_of e)

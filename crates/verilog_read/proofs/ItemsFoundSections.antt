@@ -4,19 +4,17 @@ use Rattle.std.proofs.lemmas.List.{append-nil}
 use Rattle.std.proofs.Math.Seq.{get_or-append_seam}
 use Rattle.net_core.specs.declared.tree.Net.{Net}
 use Rattle.net_core.specs.declared.tree.Net.TheVariants as net
-use Rattle.net_core.specs.declared.design.Port.{Port}
 use Rattle.net_core.specs.declared.design.Declared.{Declared}
 use Rattle.net_core.specs.Nets.{Act, WireTree, AssignTree, Plan}
 use Rattle.net_core.specs.Names.{name_of}
-use Rattle.verilog_lex.specs.declared.token.Symbol.TheVariants as symbol
-use Rattle.verilog_lex.specs.Lexeme.{Lexeme, LSymbol}
-use Rattle.spelling_core.specs.Grammar.{port_lexemes, declared_lexemes, wire_lexemes, assign_lexemes, always_lexemes, text_at, integer_name, ports_lexemes, all_declared, all_wires, all_assigns, all_always}
-use Rattle.verilog_read.specs.Reading.{Read, ◌>>=◌}
+use Rattle.verilog_lex.specs.Lexeme.{Lexeme}
+use Rattle.spelling_core.specs.Grammar.{declared_lexemes, wire_lexemes, assign_lexemes, always_lexemes, text_at, integer_name, all_declared, all_wires, all_assigns, all_always}
+use Rattle.verilog_read.specs.Reading.{Read}
 use Rattle.verilog_read.specs.Laws.{AreNames, statement_lexemes}
-use Rattle.verilog_read.specs.Items.{names_in, with_port, with_declared, with_wire, with_assign, with_always, declared_at, wire_at, assign_at, always_at, section_turn, section_at}
+use Rattle.verilog_read.specs.Items.{names_in, with_declared, with_wire, with_assign, with_always, declared_at, wire_at, assign_at, always_at, section_turn, section_at}
 use Rattle.verilog_read.proofs.Found.{bind_some, same_some}
 use Rattle.verilog_read.proofs.ItemsFoundNames.{AreIntegers, nets_named, integers_named}
-use Rattle.verilog_read.proofs.ItemsFoundItem.{IsPortFound, IsDeclaredFound, IsWireFound, IsAssignFound, IsAlwaysFound, declared_found, wire_found, assign_found, always_found}
+use Rattle.verilog_read.proofs.ItemsFoundItem.{declared_found, wire_found, assign_found, always_found}
 
 -- ---- sections of any items
 -- Reading goes on: what is counted stays so; where the finished design fits what is read now, it fits what was read before; and
@@ -31,7 +29,7 @@ pub step_so : (counts fits : Plan → Type 0) (text : Plan → List Lexeme) (d e
 step_so counts fits text d e ts x p h = subst (λ (q : Plan). IsStep counts fits text d ts (q, x.1)) (sym p) h
 
 module _ (counts fits : Plan → Type 0) (text : Plan → List Lexeme) (begins : List Lexeme → Bool) (item : Plan → List Lexeme → Read Plan)
-  (steps : (d : Plan) (ts : List Lexeme) (x : Plan × List Lexeme) → item d ts ≡ Some x → IsStep counts fits text d ts x) where
+    (steps : (d : Plan) (ts : List Lexeme) (x : Plan × List Lexeme) → item d ts ≡ Some x → IsStep counts fits text d ts x) where
   two_steps : (d : Plan) (ts : List Lexeme) (x y : Plan × List Lexeme) → IsStep counts fits text d ts x → IsStep counts fits text x.0 x.1 y → IsStep counts fits text d ts y
   two_steps d ts x y p q = record {
     counted = λ c. q.counted (p.counted c);
@@ -230,7 +228,7 @@ always_fitted e d a f = record {
 
 always_step_at : (e d : Plan) (a : Act Net) (ts r : List Lexeme) → ((names : Net → List ℕ) → AreNames (names_in d) names → ts ≡ always_lexemes (statement_lexemes names a) ++ r) → IsStep HasAlways (FitsAlways e) (always_text e) d ts (with_always a d, r)
 always_step_at e d a ts r text = record {
-  counted = λ c. record { };
+  counted = λ c. record {};
   fitted = always_fitted e d a;
   spelled = λ c f. grown (all_always e (d.always ++ a ∷ [])) (all_always e d.always) (always_lexemes (statement_lexemes (name_of e) a)) (always_lexemes (statement_lexemes (name_of e) a)) ts r
       (last_always e d.always a) refl (text (name_of e) (fits_named e d (always_fitted e d a f).fits.fits));

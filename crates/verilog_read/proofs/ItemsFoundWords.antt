@@ -1,6 +1,6 @@
 -- What single words, numbers and symbols take from the front.
 use Rattle.std.proofs.Common.{◌≡◌, ◌⊎◌, inl, inr, ℕ, zero, suc, ◌-◌, ◌^◌, ◌<◌, Bool, true, false, ◌&&◌, Option, Some, None, List, [], ◌∷◌, ◌++◌, nat_lt, refl, sym, ap, ◌∙◌, arith}
-use Rattle.std.specs.Prelude.{◌==◌, if◌then◌else◌, codes}
+use Rattle.std.specs.Prelude.{◌==◌, if◌then◌else◌}
 use Rattle.std.specs.Str.{bytes_eq, is_utf8}
 use Rattle.std.specs.List.{find}
 use Rattle.std.proofs.lemmas.Bool.{and_parts, cond-false, eqb-true, ltb-true, ne_eqb}
@@ -13,9 +13,9 @@ use Rattle.verilog_lex.specs.declared.token.Symbol.{Symbol}
 use Rattle.verilog_lex.specs.declared.token.Symbol.TheVariants as symbol
 use Rattle.verilog_lex.specs.Words.{keyword_text, symbol_text, symbols}
 use Rattle.verilog_lex.specs.Piece.{keyword_of}
-use Rattle.verilog_lex.specs.Lexeme.{Lexeme, LName, LKeyword, LNumber, LSized, LOutOfRange, LSymbol}
+use Rattle.verilog_lex.specs.Lexeme.{Lexeme, LName, LKeyword, LNumber, LSized, LSymbol}
 use Rattle.spelling_core.specs.Grammar.{constant, range_lexemes}
-use Rattle.verilog_read.specs.Reading.{Read, ◌>>=◌, named_at}
+use Rattle.verilog_read.specs.Reading.{named_at}
 use Rattle.verilog_read.specs.Items.{same_lexeme, behind, kept_if, fresh_at, constant_at, range_at, index_from, index_of}
 use Rattle.verilog_read.proofs.Found.{bind_some, same_some}
 use Rattle.verilog_read.proofs.FoundActs.{named_takes}

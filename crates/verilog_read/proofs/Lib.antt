@@ -7,11 +7,11 @@ pub mod Results
 pub mod Found
 pub mod Whole
 pub mod FoundActs
-pub mod AgainActs
-pub mod WholeActs
 pub mod ItemsFoundWords
 pub mod ItemsFoundNames
 pub mod ItemsFoundItem
 pub mod ItemsFoundSections
 pub mod ItemsFoundHeader
 pub mod ItemsFound
+pub mod AgainActs
+pub mod WholeActs
