@@ -11,3 +11,4 @@ pub mod AgainActs
 pub mod WholeActs
 pub mod ItemsOnlyWords
 pub mod ItemsOnlyParts
+pub mod ItemsOnlyNames
