@@ -12,3 +12,4 @@ pub mod WholeActs
 pub mod ItemsOnlyWords
 pub mod ItemsOnlyParts
 pub mod ItemsOnlyNames
+pub mod ItemsOnlyReads
