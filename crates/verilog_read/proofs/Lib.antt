@@ -13,3 +13,4 @@ pub mod ItemsOnlyWords
 pub mod ItemsOnlyParts
 pub mod ItemsOnlyNames
 pub mod ItemsOnlyReads
+pub mod ItemsOnlySections
