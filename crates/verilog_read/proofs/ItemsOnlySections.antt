@@ -1,7 +1,7 @@
 -- Each section of a well-formed design is read where it is spelled.
 use Rattle.std.specs.Prelude.{nat_lt, nat_le, count_by}
 use Rattle.std.specs.Str.{is_utf8}
-use Rattle.std.proofs.Common.{◌≡◌, ℕ, zero, suc, ◌+◌, ◌-◌, ◌^◌, ◌<◌, ◌≤◌, Bool, true, false, ◌&&◌, Some, List, [], ◌∷◌, ◌++◌, length, take, drop, get_or, refl, sym, ap, ◌∙◌, subst, append_assoc, length-append, add-one, arith}
+use Rattle.std.proofs.Common.{◌≡◌, ℕ, zero, suc, ◌+◌, ◌-◌, ◌^◌, ◌<◌, ◌≤◌, ◌==◌, Bool, true, false, ◌&&◌, Some, List, [], ◌∷◌, ◌++◌, length, take, drop, get_or, refl, sym, ap, ◌∙◌, subst, append_assoc, length-append, add-one, arith}
 use Rattle.std.proofs.lemmas.Bool.{and_parts, ltb-true, leb-true}
 use Rattle.std.proofs.lemmas.List.{take_more, get_or_read}
 use Rattle.net_core.specs.declared.tree.Net.{Net}
@@ -123,3 +123,70 @@ declared_section d h n ts e l =
     (λ k x us m q b u. declared_again d h k x us m q ∙ ap (λ a. Some (a, us)) (declared_next d h k x m q))
     ts e tt d.declared 0 n refl (omega (arith, ap length p)) (omega (arith, ap length p))
     ∙ ap (λ j. Some (before_declared d j, ts)) (omega arith)
+
+-- ---- wires
+wire_next : (d : Plan) → IsWellFormed d → (k : ℕ) (w : WireTree) → k < length d.wires → w ≡ get_or d.wires k w → with_wire (text_at d (wire_place d k)) w (before_wire d k) ≡ before_wire d (suc k)
+wire_next d h k w l e =
+    rw (grown d.names (length d.ports + length d.declared + k) (length d.ports + length d.declared + suc k) (text_at d (wire_place d k)) [] (omega (arith, (last_kept d h).names)) refl (omega arith), grown d.wires k (suc k) w w l e refl) refl
+
+wire_read : (d : Plan) → IsWellFormed d → (most k : ℕ) (w : WireTree) (us : List Lexeme) → k < length d.wires → w ≡ get_or d.wires k w → length (wire_lexemes (name_of d) (text_at d (wire_place d k)) w.width w.right) ≤ most → wire_at most (before_wire d k) (wire_lexemes (name_of d) (text_at d (wire_place d k)) w.width w.right ++ us) ≡ Some (with_wire (text_at d (wire_place d k)) w (before_wire d k), us)
+wire_read d h most k w us l e m =
+    let kept = wire_kept d h k w l e in
+    let p = and_parts (same w.width (right_width (scope_before d k) w.right)) (nat_le w.width 64) kept.fits in
+    let q = and_parts (nat_lt 0 w.width) (w.width == right_width (scope_before d k) w.right) p.0 in
+    wire_again (before_wire d k) (name_of d) (text_at d (wire_place d k)) w most us (name_utf8 _ kept.name) (ltb-true 0 w.width q.0) (leb-true w.width 64 p.1) (wire_readable d h k w l e) kept.spelled m
+
+wires_numbered : (d : Plan) (at k : ℕ) (ws : List WireTree) → at ≡ length d.ports + length d.declared + k → all_wires d at ws ≡ all_of (λ j w. wire_lexemes (name_of d) (text_at d (wire_place d j)) w.width w.right) k ws
+wires_numbered d at k [] e = refl
+wires_numbered d at k (w ∷ ws) e = rw (e, wires_numbered d (suc (length d.ports + length d.declared + k)) (suc k) ws (omega arith)) refl
+
+pub wires_section : (d : Plan) → IsWellFormed d → (n : ℕ) (ts : List Lexeme) → begins_wire ts ≡ false → length (all_wires d (length d.ports + length d.declared) d.wires) < n → section_at begins_wire (wire_at n) n (before_wire d 0) (all_wires d (length d.ports + length d.declared) d.wires ++ ts) ≡ Some (before_wire d (length d.wires), ts)
+wires_section d h n ts e l =
+    let one = λ (j : ℕ) (w : WireTree). wire_lexemes (name_of d) (text_at d (wire_place d j)) w.width w.right in
+    let p : all_wires d (length d.ports + length d.declared) d.wires ≡ all_of one 0 d.wires = wires_numbered d (length d.ports + length d.declared) 0 d.wires (omega arith) in
+    ap (λ us. section_at begins_wire (wire_at n) n (before_wire d 0) (us ++ ts)) p
+    ∙ section_again WireTree begins_wire (wire_at n) (before_wire d) one d.wires n (λ us. Unit {0}) (λ k w. omega arith) (λ k w us. (refl, tt))
+    (λ k w us m q b u. wire_read d h n k w us m q b ∙ ap (λ a. Some (a, us)) (wire_next d h k w m q))
+    ts e tt d.wires 0 n refl (omega (arith, ap length p)) (omega (arith, ap length p))
+    ∙ ap (λ j. Some (before_wire d j, ts)) (omega arith)
+
+-- ---- assigns
+assign_next : (d : Plan) (k : ℕ) (a : AssignTree) → k < length d.assigns → a ≡ get_or d.assigns k a → with_assign a (before_assign d k) ≡ before_assign d (suc k)
+assign_next d k a l e = rw (grown d.assigns k (suc k) a a l e refl) refl
+
+assign_read : (d : Plan) → IsWellFormed d → (most k : ℕ) (a : AssignTree) (us : List Lexeme) → k < length d.assigns → a ≡ get_or d.assigns k a → length (assign_lexemes (name_of d) (text_at d a.port) a.value) ≤ most → assign_at most (before_assign d k) (assign_lexemes (name_of d) (text_at d a.port) a.value ++ us) ≡ Some (with_assign a (before_assign d k), us)
+assign_read d h most k a us l e m =
+    let kept = assign_kept d h k a l e in
+    assign_again (before_assign d k) (name_of d) a most us (port_named d h (length d.wires) (omega arith) a.port (output_there d a.port kept.output)) (assign_readable d h k a l e) kept.spelled m
+
+assigns_numbered : (d : Plan) (k : ℕ) (xs : List AssignTree) → all_assigns d xs ≡ all_of (λ j a. assign_lexemes (name_of d) (text_at d a.port) a.value) k xs
+assigns_numbered d k [] = refl
+assigns_numbered d k (a ∷ xs) = rw (assigns_numbered d (suc k) xs) refl
+
+pub assigns_section : (d : Plan) → IsWellFormed d → (n : ℕ) (ts : List Lexeme) → begins_assign ts ≡ false → length (all_assigns d d.assigns) < n → section_at begins_assign (assign_at n) n (before_assign d 0) (all_assigns d d.assigns ++ ts) ≡ Some (before_assign d (length d.assigns), ts)
+assigns_section d h n ts e l =
+    let one = λ (j : ℕ) (a : AssignTree). assign_lexemes (name_of d) (text_at d a.port) a.value in
+    let p : all_assigns d d.assigns ≡ all_of one 0 d.assigns = assigns_numbered d 0 d.assigns in
+    ap (λ us. section_at begins_assign (assign_at n) n (before_assign d 0) (us ++ ts)) p
+    ∙ section_again AssignTree begins_assign (assign_at n) (before_assign d) one d.assigns n (λ us. Unit {0}) (λ k a. omega arith) (λ k a us. (refl, tt))
+    (λ k a us m q b u. assign_read d h n k a us m q b ∙ ap (λ x. Some (x, us)) (assign_next d k a m q))
+    ts e tt d.assigns 0 n refl (omega (arith, ap length p)) (omega (arith, ap length p))
+    ∙ ap (λ j. Some (before_assign d j, ts)) (omega arith)
+
+-- ---- always blocks
+always_next : (d : Plan) (k : ℕ) (a : Act Net) → k < length d.always → a ≡ get_or d.always k a → with_always a (before_always d k) ≡ before_always d (suc k)
+always_next d k a l e = rw (grown d.always k (suc k) a a l e refl) refl
+
+always_numbered : (d : Plan) (k : ℕ) (xs : List (Act Net)) → all_always d xs ≡ all_of (λ j a. always_lexemes (statement_lexemes (name_of d) a)) k xs
+always_numbered d k [] = refl
+always_numbered d k (a ∷ xs) = rw (always_numbered d (suc k) xs) refl
+
+pub always_section : (d : Plan) → IsWellFormed d → (n : ℕ) (ts : List Lexeme) → begins_always ts ≡ false → IsNoElse ts → length (all_always d d.always) < n → section_at begins_always (always_at n) n (before_always d 0) (all_always d d.always ++ ts) ≡ Some (before_always d (length d.always), ts)
+always_section d h n ts e f l =
+    let one = λ (j : ℕ) (a : Act Net). always_lexemes (statement_lexemes (name_of d) a) in
+    let p : all_always d d.always ≡ all_of one 0 d.always = always_numbered d 0 d.always in
+    ap (λ us. section_at begins_always (always_at n) n (before_always d 0) (us ++ ts)) p
+    ∙ section_again (Act Net) begins_always (always_at n) (before_always d) one d.always n IsNoElse (λ k a. omega arith) (λ k a us. (refl, tt))
+    (λ k a us m q b u. always_again (before_always d k) (name_of d) a n us (block_readable d h k a m q) (block_kept d h k a m q).spelled b (λ o. u) ∙ ap (λ x. Some (x, us)) (always_next d k a m q))
+    ts e f d.always 0 n refl (omega (arith, ap length p)) (omega (arith, ap length p))
+    ∙ ap (λ j. Some (before_always d j, ts)) (omega arith)
