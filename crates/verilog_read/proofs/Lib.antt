@@ -14,3 +14,5 @@ pub mod ItemsOnlyParts
 pub mod ItemsOnlyNames
 pub mod ItemsOnlyReads
 pub mod ItemsOnlySections
+pub mod ItemsOnlyPorts
+pub mod ItemsOnly
