@@ -1,6 +1,6 @@
 -- What a well-formed design spells is read as it.
 use Rattle.std.specs.Prelude.{codes}
-use Rattle.std.proofs.Common.{◌≡◌, ℕ, zero, suc, ◌+◌, ◌<◌, ◌≤◌, Bool, true, false, Some, List, [], ◌∷◌, ◌++◌, length, take, refl, sym, ap, ◌∙◌, append_assoc, length-append, arith}
+use Rattle.std.proofs.Common.{◌≡◌, ℕ, ◌+◌, ◌<◌, ◌≤◌, Bool, false, Some, List, [], ◌∷◌, ◌++◌, length, refl, ap, ◌∙◌, append_assoc, length-append, arith}
 use Rattle.std.proofs.lemmas.List.{take_all}
 use Rattle.net_core.specs.declared.tree.Net.{Net}
 use Rattle.net_core.specs.Nets.{Act, WireTree, AssignTree, Plan}
@@ -10,9 +10,8 @@ use Rattle.verilog_lex.specs.Lexeme.{Lexeme, LName, LKeyword, LSymbol}
 use Rattle.spelling_core.specs.Grammar.{ports_lexemes, all_declared, all_wires, all_assigns, all_always, items_lexemes, design_lexemes}
 use Rattle.spelling_core.specs.Formed.{IsWellFormed}
 use Rattle.spelling_core.proofs.FormedKept.{last_kept}
-use Rattle.verilog_read.specs.Reading.{◌>>=◌}
-use Rattle.verilog_read.specs.Items.{behind, declared_at, wire_at, assign_at, always_at, begins_declared, begins_wire, begins_assign, begins_always, section_at, items_at, whole_design, header_at, design_within, design_at}
-use Rattle.verilog_read.proofs.ItemsOnlyNames.{before_declared, before_wire, before_assign, before_always}
+use Rattle.verilog_read.specs.Items.{always_at, begins_declared, begins_wire, begins_assign, begins_always, section_at, items_at, design_within, design_at}
+use Rattle.verilog_read.proofs.ItemsOnlyNames.{before_declared, before_wire, before_always}
 use Rattle.verilog_read.proofs.ItemsOnlySections.{declared_section, wires_section, assigns_section, always_section}
 use Rattle.verilog_read.proofs.ItemsOnlyPorts.{header_again}
 

@@ -1,8 +1,8 @@
 -- What the names of a well-formed design stand for, behind what is read before an item.
-use Rattle.std.specs.Prelude.{nat_lt, option_and_then, count_by, position}
+use Rattle.std.specs.Prelude.{nat_lt, count_by}
 use Rattle.std.specs.List.{position_or_len}
 use Rattle.std.specs.Str.{bytes_eq}
-use Rattle.std.proofs.Common.{◌≡◌, ◌≢◌, ◌⊎◌, ℕ, zero, suc, ◌+◌, ◌-◌, ◌<◌, ◌≤◌, if◌then◌else◌, Bool, true, false, Some, None, List, [], ◌∷◌, ◌++◌, length, take, drop, get_or, not, refl, sym, ap, ◌∙◌, subst, inl, inr, length-take, take-append-drop, arith}
+use Rattle.std.proofs.Common.{◌≡◌, ◌≢◌, ℕ, zero, suc, ◌+◌, ◌-◌, ◌<◌, ◌≤◌, if◌then◌else◌, Bool, true, false, Some, List, [], ◌∷◌, ◌++◌, length, take, drop, get_or, not, refl, sym, ap, ◌∙◌, subst, inl, inr, take-append-drop, arith}
 use Rattle.std.proofs.lemmas.Bool.{lt-ltb, le-ltb, ltb-true, cases_lt, false_from_ne_true, not-true}
 use Rattle.std.proofs.lemmas.List.{get_or-take, get_or_past, length-take-le}
 use Rattle.std.proofs.lemmas.List.Sums.{position_or_len_is}
@@ -20,8 +20,8 @@ use Rattle.spelling_core.specs.FormedScope.{is_input, is_output, registers_of, m
 use Rattle.spelling_core.specs.Formed.{IsWellFormed}
 use Rattle.spelling_core.proofs.FormedKept.{last_kept}
 use Rattle.spelling_core.proofs.FormedFacts.{names_distinct, place_of_below}
-use Rattle.verilog_read.specs.Names.{behind_ports, net_at, place_in, net_of}
-use Rattle.verilog_read.specs.Items.{names_in, integer_at, integer_from, integer_in}
+use Rattle.verilog_read.specs.Names.{behind_ports, net_at, place_in}
+use Rattle.verilog_read.specs.Items.{names_in, integer_at, integer_in}
 use Rattle.verilog_read.proofs.ItemsOnlyWords.{bytes_same}
 
 -- ---- what is read before an item of each section

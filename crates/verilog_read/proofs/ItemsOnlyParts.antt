@@ -1,13 +1,11 @@
 -- Each item is read where it is spelled, behind a plan.
-use Rattle.std.specs.Prelude.{nat_le, codes}
-use Rattle.std.specs.Str.{bytes_eq, is_utf8}
-use Rattle.std.proofs.Common.{◌≡◌, ℕ, ◌+◌, ◌-◌, ◌^◌, ◌<◌, ◌≤◌, ◌==◌, if◌then◌else◌, Bool, true, false, Some, None, List, [], ◌∷◌, ◌++◌, length, refl, sym, ap, ◌∙◌, append_assoc, length-append, arith}
+use Rattle.std.specs.Str.{is_utf8}
+use Rattle.std.proofs.Common.{◌≡◌, ℕ, ◌-◌, ◌^◌, ◌<◌, ◌≤◌, if◌then◌else◌, Bool, true, false, Some, List, [], ◌∷◌, ◌++◌, length, refl, append_assoc, length-append, arith}
 use Rattle.std.proofs.lemmas.Bool.{eq-eqb}
 use Rattle.net_core.specs.declared.tree.Net.{Net}
 use Rattle.net_core.specs.declared.tree.Net.TheVariants as net
 use Rattle.net_core.specs.declared.tree.Word.{Word}
 use Rattle.net_core.specs.declared.design.Port.{Port}
-use Rattle.net_core.specs.declared.design.Declared.{Declared}
 use Rattle.net_core.specs.declared.design.Declared.TheVariants as declared
 use Rattle.net_core.specs.Nets.{Act, WireTree, AssignTree, Plan}
 use Rattle.verilog_lex.specs.declared.token.Keyword.TheVariants as keyword
@@ -15,13 +13,12 @@ use Rattle.verilog_lex.specs.declared.token.Symbol.TheVariants as symbol
 use Rattle.verilog_lex.specs.Lexeme.{Lexeme, LName, LKeyword, LNumber, LSymbol}
 use Rattle.spelling_core.specs.Grammar.{constant, tree_lexemes, right_lexemes, range_lexemes, port_lexemes, declared_lexemes, wire_lexemes, assign_lexemes, always_lexemes}
 use Rattle.spelling_core.specs.FormedSyntax.{tree_spelled, right_spelled, act_spelled}
-use Rattle.verilog_read.specs.Reading.{◌>>=◌, semicolon_at, number_at, named_at, right_at, whole_expr_at, statement_at}
 use Rattle.verilog_read.specs.Laws.{IsNamed, IsReadable, IsRightReadable, IsActReadable, IsBehindAct, statement_lexemes}
-use Rattle.verilog_read.specs.Items.{behind, kept_if, fresh_at, constant_at, range_at, names_in, integer_in, with_port, with_declared, with_wire, with_assign, with_always, direction_at, port_at, integer_item_at, register_at, index_of, loop_phrase, fill_at, memory_at, stored_at, reg_item_at, declared_at, wire_at, port_of, assign_at, always_at}
+use Rattle.verilog_read.specs.Items.{names_in, integer_in, with_port, with_declared, with_wire, with_assign, with_always, direction_at, port_at, integer_item_at, register_at, loop_phrase, fill_at, memory_at, stored_at, reg_item_at, declared_at, wire_at, assign_at, always_at}
 use Rattle.verilog_read.proofs.Whole.{whole_only}
 use Rattle.verilog_read.proofs.WholeActs.{act_only}
 use Rattle.verilog_read.proofs.AgainActs.{right_only}
-use Rattle.verilog_read.proofs.ItemsOnlyWords.{bytes_same, behind_again, range_again, index_again, fresh_again}
+use Rattle.verilog_read.proofs.ItemsOnlyWords.{behind_again, range_again, index_again, fresh_again}
 
 -- ---- ports
 direction_again : (o : Bool) (ts : List Lexeme) → direction_at (LKeyword (if o then keyword.Output else keyword.Input) ∷ ts) ≡ Some (o, ts)
@@ -44,7 +41,7 @@ register_again a integer s w ts h l m =
     let us = LSymbol symbol.Assign ∷ constant w ∷ LSymbol symbol.Semicolon ∷ [] in
     rw (append_assoc (range_lexemes w.width) (LName s ∷ us) ts, range_again w.width s (us ++ ts) l m, fresh_again s (us ++ ts) h, eq-eqb w.width w.width refl) refl
 
-pub fill_again : (a : Plan) (s i : List ℕ) (index k : ℕ) (w : Word) (ts : List Lexeme) → integer_in a i ≡ Some k
+fill_again : (a : Plan) (s i : List ℕ) (index k : ℕ) (w : Word) (ts : List Lexeme) → integer_in a i ≡ Some k
     → fill_at a w.width s index (LSymbol symbol.CloseBracket ∷ LSymbol symbol.Semicolon ∷ LKeyword keyword.Initial ∷ LKeyword keyword.For ∷ LSymbol symbol.OpenParenthesis ∷ LName i ∷ (loop_phrase s i (2 ^ index) ++ constant w ∷ LSymbol symbol.Semicolon ∷ ts)) ≡ Some (with_declared s (declared.Memory index w k) a, ts)
 unfolding fill_at
 fill_again a s i index k w ts e = rw (e, behind_again (loop_phrase s i (2 ^ index)) (constant w ∷ LSymbol symbol.Semicolon ∷ ts) refl, eq-eqb w.width w.width refl) refl

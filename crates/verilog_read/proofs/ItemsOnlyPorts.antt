@@ -1,7 +1,7 @@
 -- The header of a well-formed design is read where it is spelled.
 use Rattle.std.specs.Prelude.{nat_lt, nat_le, codes}
 use Rattle.std.specs.List.{list_all}
-use Rattle.std.proofs.Common.{◌≡◌, ℕ, zero, suc, ◌+◌, ◌<◌, ◌≤◌, Bool, true, false, ◌&&◌, Some, List, [], ◌∷◌, ◌++◌, length, take, drop, get_or, refl, sym, ap, ◌∙◌, append_assoc, length-append, arith}
+use Rattle.std.proofs.Common.{◌≡◌, ℕ, zero, suc, ◌+◌, ◌<◌, ◌≤◌, Bool, true, ◌&&◌, Some, List, [], ◌∷◌, ◌++◌, length, drop, get_or, refl, ap, ◌∙◌, append_assoc, length-append, arith}
 use Rattle.std.proofs.lemmas.Bool.{and_parts, ltb-true, leb-true}
 use Rattle.std.proofs.lemmas.List.{take_all}
 use Rattle.net_core.specs.declared.design.Port.{Port}
@@ -14,8 +14,7 @@ use Rattle.spelling_core.specs.Formed.{IsWellFormed}
 use Rattle.spelling_core.proofs.FormedKept.{last_kept}
 use Rattle.spelling_core.proofs.FormedTyped.{ports_listed}
 use Rattle.spelling_core.proofs.FormedFacts.{name_spelled}
-use Rattle.verilog_read.specs.Reading.{◌>>=◌, semicolon_at}
-use Rattle.verilog_read.specs.Items.{with_port, port_at, follows_at, more_ports_at, ports_at, no_design, header_at}
+use Rattle.verilog_read.specs.Items.{with_port, port_at, more_ports_at, ports_at, header_at}
 use Rattle.verilog_read.proofs.ItemsOnlyWords.{name_utf8}
 use Rattle.verilog_read.proofs.ItemsOnlyParts.{port_again}
 use Rattle.verilog_read.proofs.ItemsOnlyNames.{before_port, before_declared}

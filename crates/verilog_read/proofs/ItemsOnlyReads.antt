@@ -1,7 +1,7 @@
 -- What the items of a well-formed design read and set is read where it is spelled: its nets are named, its selects small.
 use Rattle.std.specs.Prelude.{nat_lt, nat_le}
 use Rattle.std.specs.List.{list_all}
-use Rattle.std.proofs.Common.{◌≡◌, ◌⊎◌, ℕ, zero, suc, ◌+◌, ◌-◌, ◌^◌, ◌<◌, ◌≤◌, ◌==◌, if◌then◌else◌, Bool, true, false, ◌&&◌, List, [], ◌∷◌, ◌++◌, length, take, get_or, refl, sym, ap, ◌∙◌, subst, inl, inr, length-take, arith}
+use Rattle.std.proofs.Common.{◌≡◌, ℕ, zero, suc, ◌+◌, ◌-◌, ◌^◌, ◌<◌, ◌≤◌, ◌==◌, if◌then◌else◌, Bool, true, false, ◌&&◌, List, [], ◌∷◌, ◌++◌, length, take, get_or, refl, ap, inl, inr, length-take, arith}
 use Rattle.std.proofs.lemmas.Bool.{and_parts, ltb-true, leb-true, eqb-true, cases_lt}
 use Rattle.std.proofs.lemmas.List.{get_or-take, get_or_past}
 use Rattle.net_core.specs.declared.tree.Op.{Op}
@@ -15,8 +15,7 @@ use Rattle.net_core.specs.declared.design.Declared.{Declared}
 use Rattle.net_core.specs.declared.design.Declared.TheVariants as declared
 use Rattle.net_core.specs.Nets.{Tree, TConst, TRead, TBit, TBits, TCell, TBefore, TTwo, TChoose, TJoin, Trees, TLast, TMore, RightTree, RPlain, RQuotient, RRemainder, Act, ABlock, AIf, AIfElse, ASet, AStore, Acts, AEnd, AThen, WireTree, AssignTree, Plan}
 use Rattle.net_core.specs.Names.{name_of}
-use Rattle.net_core.specs.Ports.{port_list}
-use Rattle.net_core.specs.Width.{Scope, same_width, op_width, prefix_width, bits_width, cell_width, choose_width, join_width, width_of, parts_width, right_width, same, act_typed, acts_typed, register_widths, memory_widths, net_width, scope, wires_typed, wire_widths, full_scope, word_fits, declared_typed, output_width}
+use Rattle.net_core.specs.Width.{Scope, same_width, op_width, prefix_width, bits_width, cell_width, choose_width, join_width, width_of, parts_width, right_width, same, act_typed, acts_typed, register_widths, memory_widths, net_width, scope, wires_typed, wire_widths, full_scope, word_fits, declared_typed}
 use Rattle.spelling_core.specs.FormedSyntax.{trees_pass, all_trees_pass}
 use Rattle.spelling_core.specs.FormedScope.{Sorts, reads_known, parts_known, right_known, targets_pass, all_targets_pass, sorts, scope_before, registers_of, memories_of}
 use Rattle.spelling_core.specs.Formed.{IsWellFormed, targets_known}
@@ -96,7 +95,7 @@ one_some c h = omega (arith, eqb-true c 1 h)
 -- ---- trees
 module _ (names : Resolve) (name : Net → List ℕ) (k : Sorts Net) (s : Scope Net) (values : (n : Net) → k.value n ≡ true → IsNamed names name n) (memories : (n : Net) → k.memory n ≡ true → IsNamed names name n) (narrow : (n : Net) → s.net n ≤ 64) where
   mutual
-    pub tree_readable : (t : Tree Net) → reads_known k t ≡ true → 0 < width_of s t → IsReadable names name t
+    tree_readable : (t : Tree Net) → reads_known k t ≡ true → 0 < width_of s t → IsReadable names name t
     tree_readable (TConst w) r l = tt
     tree_readable (TRead n) r l = values n r
     tree_readable (TBit n i) r l = (values n r, (bits_below (s.net n) i i (narrow n) l).0)
@@ -123,14 +122,14 @@ module _ (names : Resolve) (name : Net → List ℕ) (k : Sorts Net) (s : Scope 
         let q = join_some (width_of s a) (parts_width s ps) l in
         (tree_readable a p.0 q.0, parts_readable ps p.1 q.1)
 
-  pub right_readable : (r : RightTree Net) → right_known k r ≡ true → 0 < right_width s r → IsRightReadable names name r
+  right_readable : (r : RightTree Net) → right_known k r ≡ true → 0 < right_width s r → IsRightReadable names name r
   right_readable (RPlain e) r l = tree_readable e r l
   right_readable (RQuotient a b) r l = let p = and_parts (k.value a) (k.value b) r in (values a p.0, values b p.1)
   right_readable (RRemainder a b) r l = let p = and_parts (k.value a) (k.value b) r in (values a p.0, values b p.1)
 
   module _ (rs : List ℕ) (ms : List (ℕ × ℕ)) (r m : ℕ → Bool) (registers : (j : ℕ) → r j ≡ true → IsNamed names name (net.Register j)) (stores : (j : ℕ) → m j ≡ true → IsNamed names name (net.Memory j)) where
     mutual
-      pub act_readable : (a : Act Net) → targets_pass r m a ≡ true → trees_pass (reads_known k) a ≡ true → act_typed s rs ms a ≡ true → IsActReadable names name a
+      act_readable : (a : Act Net) → targets_pass r m a ≡ true → trees_pass (reads_known k) a ≡ true → act_typed s rs ms a ≡ true → IsActReadable names name a
       act_readable (ABlock more) t u v = acts_readable more t u v
       act_readable (AIf c a) t u v =
           let p = and_parts (reads_known k c) (trees_pass (reads_known k) a) u in

@@ -1,24 +1,21 @@
 -- Each section of a well-formed design is read where it is spelled.
 use Rattle.std.specs.Prelude.{nat_lt, nat_le, count_by}
-use Rattle.std.specs.Str.{is_utf8}
-use Rattle.std.proofs.Common.{◌≡◌, ℕ, zero, suc, ◌+◌, ◌-◌, ◌^◌, ◌<◌, ◌≤◌, ◌==◌, Bool, true, false, ◌&&◌, Some, List, [], ◌∷◌, ◌++◌, length, take, drop, get_or, refl, sym, ap, ◌∙◌, subst, append_assoc, length-append, add-one, arith}
+use Rattle.std.proofs.Common.{◌≡◌, ℕ, zero, suc, ◌+◌, ◌^◌, ◌<◌, ◌≤◌, ◌==◌, Bool, true, false, ◌&&◌, Some, List, [], ◌∷◌, ◌++◌, length, take, drop, get_or, refl, sym, ap, ◌∙◌, subst, append_assoc, length-append, arith}
 use Rattle.std.proofs.lemmas.Bool.{and_parts, ltb-true, leb-true}
-use Rattle.std.proofs.lemmas.List.{take_more, get_or_read}
+use Rattle.std.proofs.lemmas.List.{take_more}
 use Rattle.net_core.specs.declared.tree.Net.{Net}
-use Rattle.net_core.specs.declared.tree.Net.TheVariants as net
 use Rattle.net_core.specs.declared.tree.Word.{Word}
 use Rattle.net_core.specs.declared.design.Declared.{Declared}
 use Rattle.net_core.specs.declared.design.Declared.TheVariants as declared
 use Rattle.net_core.specs.Nets.{Act, WireTree, AssignTree, Plan}
 use Rattle.net_core.specs.Names.{is_integer, name_of}
 use Rattle.net_core.specs.Width.{same, right_width, word_fits}
-use Rattle.verilog_lex.specs.declared.token.Keyword.TheVariants as keyword
-use Rattle.verilog_lex.specs.Lexeme.{Lexeme, LKeyword}
+use Rattle.verilog_lex.specs.Lexeme.{Lexeme}
 use Rattle.spelling_core.specs.Grammar.{declared_lexemes, wire_lexemes, assign_lexemes, always_lexemes, text_at, integer_name, all_declared, all_wires, all_assigns, all_always}
 use Rattle.spelling_core.specs.FormedScope.{scope_before}
-use Rattle.spelling_core.specs.Formed.{IsWellFormed, declared_place, wire_place}
+use Rattle.spelling_core.specs.Formed.{IsWellFormed, wire_place}
 use Rattle.spelling_core.proofs.FormedKept.{declared_kept, wire_kept, assign_kept, block_kept, last_kept}
-use Rattle.verilog_read.specs.Reading.{Read, ◌>>=◌}
+use Rattle.verilog_read.specs.Reading.{Read}
 use Rattle.verilog_read.specs.Laws.{IsNoElse, statement_lexemes}
 use Rattle.verilog_read.specs.Items.{with_declared, with_wire, with_assign, with_always, declared_at, wire_at, assign_at, always_at, begins_declared, begins_wire, begins_assign, begins_always, section_turn, section_at}
 use Rattle.verilog_read.proofs.ItemsOnlyWords.{name_utf8}
@@ -54,15 +51,15 @@ all_of one k (x ∷ xs) = one k x ++ all_of one (suc k) xs
 fewer : (a b : List Lexeme) (most n : ℕ) → 0 < length a → length (a ++ b) ≤ most → length (a ++ b) < suc n → (length a ≤ most) × (length b ≤ most) × (length b < n)
 fewer a b most n l m k = (omega (arith, length-append a b), omega (arith, length-append a b), omega (arith, length-append a b))
 
--- A section is read item by item, where each item is: `behind` says what may follow one.
-module _ (X : Type 0) (begins : List Lexeme → Bool) (item : Plan → List Lexeme → Read Plan) (front : ℕ → Plan) (one : ℕ → X → List Lexeme) (xs : List X) (most : ℕ) (behind : List Lexeme → Type 0)
+-- A section is read item by item, where each item is: `IsBehind` says what may follow one.
+module _ (X : Type 0) (begins : List Lexeme → Bool) (item : Plan → List Lexeme → Read Plan) (front : ℕ → Plan) (one : ℕ → X → List Lexeme) (xs : List X) (most : ℕ) (IsBehind : List Lexeme → Type 0)
     (some : (k : ℕ) (x : X) → 0 < length (one k x))
-    (starts : (k : ℕ) (x : X) (us : List Lexeme) → (begins (one k x ++ us) ≡ true) × behind (one k x ++ us))
-    (again : (k : ℕ) (x : X) (us : List Lexeme) → k < length xs → x ≡ get_or xs k x → length (one k x) ≤ most → behind us → item (front k) (one k x ++ us) ≡ Some (front (suc k), us))
-    (ts : List Lexeme) (last : begins ts ≡ false) (next : behind ts) where
-  follows : (k : ℕ) (rest : List X) → behind (all_of one k rest ++ ts)
+    (starts : (k : ℕ) (x : X) (us : List Lexeme) → (begins (one k x ++ us) ≡ true) × IsBehind (one k x ++ us))
+    (again : (k : ℕ) (x : X) (us : List Lexeme) → k < length xs → x ≡ get_or xs k x → length (one k x) ≤ most → IsBehind us → item (front k) (one k x ++ us) ≡ Some (front (suc k), us))
+    (ts : List Lexeme) (last : begins ts ≡ false) (next : IsBehind ts) where
+  follows : (k : ℕ) (rest : List X) → IsBehind (all_of one k rest ++ ts)
   follows k [] = next
-  follows k (x ∷ rest) = subst behind (sym (append_assoc (one k x) (all_of one (suc k) rest) ts)) (starts k x (all_of one (suc k) rest ++ ts)).1
+  follows k (x ∷ rest) = subst IsBehind (sym (append_assoc (one k x) (all_of one (suc k) rest) ts)) (starts k x (all_of one (suc k) rest ++ ts)).1
 
   section_again : (rest : List X) (k n : ℕ) → drop k xs ≡ rest → length (all_of one k rest) ≤ most → length (all_of one k rest) < n → section_at begins item n (front k) (all_of one k rest ++ ts) ≡ Some (front (k + length rest), ts)
   section_again [] k n e m l = section_ends begins item n (front k) ts (omega arith) last ∙ ap (λ j. Some (front j, ts)) (omega arith)

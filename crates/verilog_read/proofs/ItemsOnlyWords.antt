@@ -1,21 +1,19 @@
 -- Widths, names and phrases of words are read where they are spelled.
-use Rattle.std.specs.Prelude.{nat_lt, nat_le, codes}
+use Rattle.std.specs.Prelude.{nat_le, codes}
 use Rattle.std.specs.List.{list_all}
 use Rattle.std.specs.Str.{bytes_eq, is_utf8, IsAscii}
-use Rattle.std.proofs.Common.{◌≡◌, ◌⊎◌, ℕ, zero, suc, ◌+◌, ◌-◌, ◌^◌, ◌<◌, ◌≤◌, ◌==◌, if◌then◌else◌, Bool, true, false, ◌&&◌, ◌||◌, Some, None, List, [], ◌∷◌, ◌++◌, refl, sym, ap, ◌∙◌, subst, inl, inr, arith}
-use Rattle.std.proofs.lemmas.Bool.{and_parts, or_cases, lt-ltb, leb-true, eqb-true, eq-eqb, ne_eqb, cases_eq, cases_lt}
+use Rattle.std.proofs.Common.{◌≡◌, ℕ, zero, suc, ◌+◌, ◌-◌, ◌^◌, ◌<◌, ◌≤◌, Bool, true, false, ◌&&◌, ◌||◌, Some, List, [], ◌∷◌, ◌++◌, refl, sym, ap, ◌∙◌, subst, inl, inr, arith}
+use Rattle.std.proofs.lemmas.Bool.{and_parts, or_cases, lt-ltb, leb-true, eqb-true, eq-eqb, ne_eqb, cases_eq}
 use Rattle.std.proofs.lemmas.Nat.{pow_pos, pow_below}
 use Rattle.std.proofs.lemmas.Slice.Eq.{bytes_eq-Decides}
 use Rattle.std.proofs.lemmas.Str.{IsUtf8-from_ascii, is_utf8-from_IsUtf8}
 use Rattle.std.proofs.lemmas.Str.Ascii.{IsAscii-nil, IsAscii-cons}
-use Rattle.verilog_lex.specs.declared.token.Keyword.TheVariants as keyword
 use Rattle.verilog_lex.specs.declared.token.Symbol.TheVariants as symbol
 use Rattle.verilog_lex.specs.Words.{keyword_text, symbol_text}
 use Rattle.verilog_lex.specs.Lexeme.{Lexeme, LName, LKeyword, LNumber, LSized, LOutOfRange, LSymbol}
 use Rattle.spelling_core.specs.Grammar.{range_lexemes}
 use Rattle.spelling_core.specs.FormedSyntax.{is_letter, is_digit, is_underscore, begins_name, continues_name, is_identifier, is_unreserved, is_name}
-use Rattle.verilog_read.specs.Reading.{◌>>=◌, named_at}
-use Rattle.verilog_read.specs.Items.{same_lexeme, behind, kept_if, fresh_at, range_at, index_from, index_of}
+use Rattle.verilog_read.specs.Items.{same_lexeme, behind, fresh_at, range_at, index_from, index_of}
 
 -- ---- phrases
 pub bytes_same : (s : List ℕ) → bytes_eq s s ≡ true
