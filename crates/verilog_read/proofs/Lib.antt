@@ -15,3 +15,10 @@ pub mod ItemsFoundHeader
 pub mod ItemsFound
 pub mod AgainActs
 pub mod WholeActs
+pub mod ItemsOnlyWords
+pub mod ItemsOnlyParts
+pub mod ItemsOnlyNames
+pub mod ItemsOnlyReads
+pub mod ItemsOnlySections
+pub mod ItemsOnlyPorts
+pub mod ItemsOnly
