@@ -9,3 +9,4 @@ pub mod Whole
 pub mod FoundActs
 pub mod AgainActs
 pub mod WholeActs
+pub mod Tested

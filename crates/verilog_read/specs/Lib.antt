@@ -1,5 +1,6 @@
 pub mod Names
 pub mod Reading
 pub mod Seen
+pub mod Marks
 pub mod Laws
 pub mod Items

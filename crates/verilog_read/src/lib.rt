@@ -3,6 +3,9 @@
 
 mod error;
 mod expr;
+mod parts;
+mod phrase;
+
 mod rest;
 mod scope;
 mod stmt;
@@ -12,5 +15,5 @@ mod tests;
 pub use crate::error::ReadError;
 pub use crate::expr::{expression, right_side};
 pub use crate::rest::Rest;
-pub use crate::scope::{Entry, Scope};
+pub use crate::scope::Scope;
 pub use crate::stmt::statement;
