@@ -1,6 +1,7 @@
 //! Designs from Verilog texts.
 #![tactic(auto)]
 
+mod added;
 mod error;
 mod expr;
 mod parts;

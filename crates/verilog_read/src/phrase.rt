@@ -39,10 +39,13 @@ pub(crate) fn phrase<'a>(marks: &[Mark], rest: Rest<'a>) -> Result<Rest<'a>, Rea
     let mut after = rest;
     for mark in marks {
         match after.tokens {
-            [token, tokens @ ..] if is_mark(*mark, after.text, *token) => {
+            [token, tokens @ ..] => {
+                if !is_mark(*mark, after.text, *token) {
+                    return Err(ReadError::Refused);
+                }
                 after = Rest { tokens, ..after };
             }
-            _ => return Err(ReadError::Refused),
+            [] => return Err(ReadError::Refused),
         }
     }
     Ok(after)
