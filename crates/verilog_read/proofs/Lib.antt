@@ -10,3 +10,4 @@ pub mod FoundActs
 pub mod AgainActs
 pub mod WholeActs
 pub mod Tested
+pub mod Ports

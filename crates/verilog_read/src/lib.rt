@@ -4,6 +4,7 @@
 mod added;
 mod error;
 mod expr;
+mod header;
 mod parts;
 mod phrase;
 
