@@ -5,6 +5,8 @@ mod added;
 mod error;
 mod expr;
 mod header;
+mod integer;
+mod memory;
 mod parts;
 mod phrase;
 
