@@ -4,7 +4,9 @@
 mod added;
 mod error;
 mod expr;
+mod declared;
 mod header;
+mod items;
 mod integer;
 mod memory;
 mod parts;
