@@ -11,3 +11,5 @@ pub mod AgainActs
 pub mod WholeActs
 pub mod Tested
 pub mod Ports
+pub mod Turned
+pub mod ItemsLaws

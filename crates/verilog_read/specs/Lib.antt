@@ -4,3 +4,5 @@ pub mod Seen
 pub mod Marks
 pub mod Laws
 pub mod Items
+pub mod Sections
+pub mod Texts
