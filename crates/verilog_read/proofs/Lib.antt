@@ -13,3 +13,4 @@ pub mod Tested
 pub mod Ports
 pub mod Turned
 pub mod ItemsLaws
+pub mod Texts

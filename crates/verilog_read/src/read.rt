@@ -69,8 +69,8 @@ pub fn read_text(alloc: Global, text: &[u8]) -> Result<Design, ReadError>
 {
     let all = lexed(alloc, text)?;
     let design = design(alloc, Rest { text, tokens: &all })?;
-    if well_formed(&design).is_err() {
-        return Err(ReadError::Refused);
+    match well_formed(&design) {
+        Ok(()) => Ok(design),
+        Err(_) => Err(ReadError::Refused),
     }
-    Ok(design)
 }
