@@ -22,3 +22,7 @@ pub mod ItemsOnlyReads
 pub mod ItemsOnlySections
 pub mod ItemsOnlyPorts
 pub mod ItemsOnly
+pub mod Tested
+pub mod Ports
+pub mod Turned
+pub mod Texts

@@ -19,7 +19,7 @@ pub gives_error : {X Y : Type 0} (view : X → Y) (r : Result X ReadError) (P : 
 gives_error view (Ok x) P e whole h q f = let k : false ≡ true = h.0 in absurd cc
 gives_error view (Err e') P e whole h q f = subst (λ (x : ReadError). Fails x whole) (sym (q e' h.1)) f
 
-map_along : {A B : Type 0} (f : A → B) (x : A) (l : List A) → map f (l ++ x ∷ []) ≡ map f l ++ f x ∷ []
+pub map_along : {A B : Type 0} (f : A → B) (x : A) (l : List A) → map f (l ++ x ∷ []) ≡ map f l ++ f x ∷ []
 map_along f x [] = refl
 map_along {B = B} f x (y ∷ l) = ap (λ (k : List B). f y ∷ k) (map_along f x l)
 

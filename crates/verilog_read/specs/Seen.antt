@@ -1,6 +1,5 @@
 -- What lexemes, names and results in memory stand for.
-use Rattle.std.specs.Prelude.{◌≡◌, ℕ, Option, Some, None, List, [], ◌∷◌, if◌then◌else◌, Result, Ok, Err}
-use Rattle.std.specs.Str.{bytes_eq}
+use Rattle.std.specs.Prelude.{◌≡◌, ℕ, Option, Some, None, List, [], ◌∷◌, Result, Ok, Err, map, string_bytes}
 use Rattle.net_core.specs.declared.tree.Net.{Net}
 use Rattle.net_core.specs.Nets.{Trees, TMore, Tree, Acts, AThen, Act}
 use Rattle.verilog_lex.specs.Lexeme.{Lexeme, lexemes_of}
@@ -8,7 +7,7 @@ use Rattle.verilog_read.specs.declared.error.ReadError.{ReadError}
 use Rattle.verilog_read.specs.declared.error.ReadError.TheVariants.{Refused, NoMemory}
 use Rattle.verilog_read.specs.declared.rest.Rest.{Rest}
 use Rattle.verilog_read.specs.declared.scope.Scope.{Scope}
-use Rattle.verilog_read.specs.declared.scope.Entry.{Entry}
+use Rattle.verilog_read.specs.Names.{net_of}
 
 -- the lexemes that are left to read
 abbrev pub seen : Rest → List Lexeme
@@ -28,13 +27,9 @@ abbrev pub Finds : {X Y : Type 0} → (X → Y) → Option X → Option Y → Ty
 Finds view (Some x) read = read ≡ Some (view x)
 Finds view None read = read ≡ None
 
--- the first entry of a name says which net it stands for
-abbrev pub net_among : List Entry → List ℕ → Option Net
-net_among [] name = None
-net_among (e ∷ es) name = if bytes_eq e.name.now name then e.net else net_among es name
-
+-- which net a name stands for, behind what a design has so far
 unfoldable pub resolve : Scope → List ℕ → Option Net
-resolve scope name = net_among scope.entries.items name
+resolve scope name = net_of (map string_bytes scope.names.now) scope.ports scope.declared.now name
 
 -- parts in front of others
 abbrev pub parts_before : {N : Type 0} → List (Tree N) → Trees N → Trees N

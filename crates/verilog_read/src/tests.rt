@@ -1,6 +1,9 @@
 //! Texts, and how many tokens stand behind what is read in front of them.
 
+mod texts;
+
 use super::*;
+use net_core::design::Declared;
 use net_core::tree::{Expr, Net, Op, Parts, Word};
 use std::alloc::{AllocError, Global};
 use std::test::Fail;
@@ -14,26 +17,25 @@ enum Front {
     Statement,
 }
 
-// An input, an integer, a register and a memory.
-fn names(alloc: Global) -> Result<Scope<'static>, AllocError> {
-    let mut entries = Vec::new(alloc);
-    entries.push(Entry {
-        name: b"in_valid",
-        net: Some(Net::Port(1)),
-    })?;
-    entries.push(Entry {
-        name: b"i_fill",
-        net: None,
-    })?;
-    entries.push(Entry {
-        name: b"r_count",
-        net: Some(Net::Register(0)),
-    })?;
-    entries.push(Entry {
-        name: b"m_words",
-        net: Some(Net::Memory(0)),
-    })?;
-    Ok(Scope { entries })
+/// Two ports, and then an integer, a register and a memory.
+const NAMES: [&str; 5] = ["clk", "in_valid", "i_fill", "r_count", "m_words"];
+
+const DECLARED: [Declared; 3] = [
+    Declared::Integer,
+    Declared::Register(Word { width: 8, value: 0 }),
+    Declared::Memory {
+        index: 4,
+        first: Word { width: 8, value: 0 },
+        integer: 0,
+    },
+];
+
+fn names(alloc: Global) -> Result<Vec<String>, AllocError> {
+    let mut names = Vec::new(alloc);
+    for name in NAMES {
+        names.push(String::from_str(alloc, name)?)?;
+    }
+    Ok(names)
 }
 
 // How many tokens are left, or nothing where the text is refused.
@@ -51,7 +53,12 @@ fn left_behind(
     text: &[u8],
     all: &[Token],
 ) -> Result<Option<usize>, ReadError> {
-    let scope = names(alloc)?;
+    let names = names(alloc)?;
+    let scope = Scope {
+        names: &names,
+        ports: 2,
+        declared: &DECLARED,
+    };
     let rest = Rest { text, tokens: all };
     match front {
         Front::Expression => tokens_left(expression(alloc, &scope, all.len(), rest)),
@@ -123,7 +130,12 @@ fn ends(rt: HostRuntime) -> Result<(), Fail> {
 #[test]
 fn a_sum(rt: HostRuntime) -> Result<(), Fail> {
     let alloc = rt.alloc();
-    let scope = names(alloc)?;
+    let names = names(alloc)?;
+    let scope = Scope {
+        names: &names,
+        ports: 2,
+        declared: &DECLARED,
+    };
     let text = b"(r_count - 8'd1)";
     let all = tokens(alloc, text)?;
     let (read, _rest) = expression(alloc, &scope, all.len(), Rest { text, tokens: &all })?;
@@ -141,7 +153,12 @@ fn a_sum(rt: HostRuntime) -> Result<(), Fail> {
 #[test]
 fn a_concatenation(rt: HostRuntime) -> Result<(), Fail> {
     let alloc = rt.alloc();
-    let scope = names(alloc)?;
+    let names = names(alloc)?;
+    let scope = Scope {
+        names: &names,
+        ports: 2,
+        declared: &DECLARED,
+    };
     let text = b"{in_valid, r_count}";
     let all = tokens(alloc, text)?;
     let (read, _rest) = expression(alloc, &scope, all.len(), Rest { text, tokens: &all })?;
