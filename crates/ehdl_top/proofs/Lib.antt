@@ -1,1 +1,10 @@
-mod Outputs
+pub mod Outputs
+pub mod Once
+pub mod Fronts
+pub mod Frames
+pub mod Inputs
+pub mod Captures
+pub mod Texts
+pub mod Written
+pub mod Ends
+pub mod Causes

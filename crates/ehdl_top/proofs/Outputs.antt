@@ -1,10 +1,20 @@
 -- What a name holds while parts are added to it, one after the other.
-use Rattle.std.proofs.Common.{◌≡◌, ℕ, zero, suc, ◌<◌, List, [], ◌∷◌, ◌++◌, length, get_or, take, drop, Option, Some, sym, ap, subst, ◌∙◌, arith, append_assoc, append-nil, flat_map, inr}
+use Rattle.std.proofs.Common.{◌≡◌, ℕ, zero, suc, ◌<◌, List, [], ◌∷◌, ◌++◌, length, get_or, take, drop, Option, Some, Result, Ok, Err, OnErr, sym, ap, subst, ◌∙◌, arith, append_assoc, append-nil, flat_map, inr}
 use Rattle.std.proofs.lemmas.Grind.{flat_map-append}
 use Rattle.std.proofs.lemmas.List.{take-append-drop}
 use Rattle.shelf_core.specs.Shelf.{LeavesFront, HoldsFront}
 use Rattle.shelf_core.proofs.Fronts.{front_of_more}
 use Rattle.ehdl_top.specs.Output.{KeepsOrHoldsFront}
+
+-- what holds of every error
+pub on_err : {T E P : Type 0} (r : Result T E) → P → OnErr r P
+on_err (Ok x) p = tt
+on_err (Err e) p = p
+
+-- what holds of every error, from what a clause says of one
+pub on_err_from : {T E P Q : Type 0} (r : Result T E) → OnErr r Q → (Q → P) → OnErr r P
+on_err_from (Ok x) q f = tt
+on_err_from (Err e) q f = f q
 
 -- one part more
 pub next_part : {X A : Type 0} (f : X → List A) (xs : List X) (i : ℕ) (d : X) → i < length xs → flat_map f (take (suc i) xs) ≡ flat_map f (take i xs) ++ f (get_or xs i d)

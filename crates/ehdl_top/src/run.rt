@@ -1,7 +1,7 @@
 // The words of a run.
 
 ghost use Rattle.std.specs.Prelude.{◌≡◌, ◌≢◌, ◌↔◌, ◌<◌, ◌≤◌, ◌+◌, ◌*◌, ℕ, List, length, slice_get, codes, Some, IfSome, IfNone, IsTrue};
-ghost use Rattle.ehdl_top.specs.Run.{is_value, Gives, AreDistinct, IsRun};
+ghost use Rattle.ehdl_top.specs.Run.{is_value, Gives, IsOnce, AreDistinct, IsRun, Names, names_of};
 
 use crate::words::Words;
 
@@ -21,8 +21,8 @@ pub struct Run<'a> {
 /// after it. A file's name is not empty, does not begin with `-`, and stands there once. All else is
 /// `None`.
 pub fn read_run(words: &Words) -> Option<Run<'_>>
-    ensures some { IfSome result (λ run. IsRun words.now run) }
-    ensures none { IfNone result ((run : Run) → ¬ IsRun words.now run) }
+    ensures some { IfSome result (λ run. IsRun words.now (names_of run)) }
+    ensures none { IfNone result ((run : Names) → ¬ IsRun words.now run) }
 {
     if words.len() != 14 || words.get(1) != "run" || !are_distinct(words) {
         return None;
@@ -43,19 +43,33 @@ pub fn read_run(words: &Words) -> Option<Run<'_>>
     })
 }
 
-// The value of an option.
+// The value of an option that stands there once.
 fn value_of<'a>(words: &'a Words, option: &str) -> Option<&'a str>
     requires { length words.now ≡ 14 }
     ensures some { IfSome result (λ value. Gives words.now option.now value.now) }
     ensures none { IfNone result ((value : List ℕ) → ¬ Gives words.now option.now value) }
 {
+    let pair = pair_of(words, option)?;
+    let value = words.get(2 * pair + 1);
+    if is_value(value) { Some(value) } else { None }
+}
+
+// The one pair after the first that begins with this option.
+fn pair_of(words: &Words, option: &str) -> Option<usize>
+    requires { length words.now ≡ 14 }
+    ensures some { IfSome result (λ pair. IsOnce words.now option.now pair) }
+    ensures none { IfNone result ((pair : ℕ) → ¬ IsOnce words.now option.now pair) }
+{
+    let mut found = None;
     for pair in 1..7 {
-        let value = words.get(2 * pair + 1);
-        if words.get(2 * pair) == option && is_value(value) {
-            return Some(value);
+        if words.get(2 * pair) == option {
+            if found.is_some() {
+                return None;
+            }
+            found = Some(pair);
         }
     }
-    None
+    found
 }
 
 fn is_value(word: &str) -> bool

@@ -1,10 +1,6 @@
-use Rattle.std.proofs.Common.{rules, IsTrue, Result, Ok, Err, OnErr}
-use Rattle.ehdl_top.proofs.Outputs.{front_of_parts}
+use Rattle.std.proofs.Common.{rules, IsTrue}
+use Rattle.ehdl_top.proofs.Outputs.{front_of_parts, on_err}
 use Rattle.ehdl_top.proofs.output.write_parts.Goals as goal
-
-on_err : {T E P : Type 0} (r : Result T E) → P → OnErr r P
-on_err (Ok x) p = tt
-on_err (Err e) p = p
 
 pub returns-in_err-append-clause-kept : goal.returns-in_err-append-clause-kept
 returns-in_err-append-clause-kept g c = on_err c.from_residual-in_err-append.result (λ told.
