@@ -9,9 +9,10 @@ use thiserror::Error;
 /// Why nothing was read.
 #[derive(Clone, Copy, PartialEq, Eq, Debug, Error)]
 pub enum ReadError {
-    /// The grammar has no such text, or a name stands for no net.
+    /// The text spells no design: the grammar does not have it, a name stands for no net, or a rule is broken.
     #[error("not in the subset")]
     Refused,
+    /// No memory is left, or the number of a net would not fit 32 bits: a text with so many names takes more.
     #[error("out of memory")]
     NoMemory,
 }

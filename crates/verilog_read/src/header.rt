@@ -39,11 +39,7 @@ fn direction<'a>(rest: Rest<'a>) -> Result<(bool, Rest<'a>), ReadError>
 
 // A design with the port in front behind its others.
 #[tactic(auto, unfolding(crate::specs::Items::port_at))]
-fn port<'a>(
-    alloc: Global,
-    design: Design,
-    rest: Rest<'a>,
-) -> Result<(Design, Rest<'a>), ReadError>
+fn port<'a>(alloc: Global, design: Design, rest: Rest<'a>) -> Result<(Design, Rest<'a>), ReadError>
     ensures { Gives (λ x. (plan_of x.0, seen x.1)) result (port_at (plan_of design) (seen rest.entry)) }
 {
     let (output, rest) = direction(rest)?;

@@ -2,16 +2,15 @@
 #![tactic(auto)]
 
 mod added;
+mod declared;
 mod error;
 mod expr;
-mod declared;
 mod header;
-mod items;
 mod integer;
+mod items;
 mod memory;
 mod parts;
 mod phrase;
-
 mod read;
 mod rest;
 mod scope;

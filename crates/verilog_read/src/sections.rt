@@ -33,7 +33,7 @@ fn begins(section: Section, rest: Rest) -> bool
                 kind: TokenKind::Keyword(keyword),
                 ..
             },
-            ..,
+            ..
         ] => match (section, keyword) {
             (Section::Declared, Keyword::Integer | Keyword::Reg) => true,
             (Section::Wires, Keyword::Wire) => true,

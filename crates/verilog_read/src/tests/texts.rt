@@ -140,6 +140,7 @@ fn a_small_text(rt: HostRuntime) -> Result<(), Fail> {
     assert_eq!(rt; design.names.len(), 25);
     assert_eq!(rt; design.names[24].as_str(), "w_next");
     assert_eq!(rt; design.ports.len(), 21);
+    assert_eq!(rt; design.declared.len(), 1);
     assert_eq!(rt; design.declared[0], left);
     assert!(rt; is_divided(&design));
     assert_eq!(rt; design.assigns.len(), 9);
@@ -168,6 +169,7 @@ fn a_memory(rt: HostRuntime) -> Result<(), Fail> {
         first: Word { width: 8, value: 7 },
         integer: 1,
     };
+    assert_eq!(rt; design.declared.len(), 4);
     assert_eq!(rt; design.declared[2], memory);
     Ok(())
 }
