@@ -40,9 +40,9 @@ pub keep_fronts : (a v : List ℕ) (ps : List Packet) (rs : List Reply) (i : ℕ
     → HoldBothFronts a v ((answer_header microseconds ++ texts (record_at ps rs) i) ++ entry) (texts (line_at rs) i ++ line) new → KeepBoth a v (answer_bytes ps rs) (verdict_lines rs) old new
 keep_fronts a v ps rs i entry line old new within e f fronts = record {
   answers = kept (answer_bytes ps rs) _ (others (record_at ps rs) (suc i) (length rs)) (old a) (new a)
-    (answer_split ps rs (suc i) within ∙ ap (λ t. t ++ others (record_at ps rs) (suc i) (length rs)) (ap (λ t. answer_header microseconds ++ (texts (record_at ps rs) i ++ t)) (sym e) ∙ sym (append_assoc (answer_header microseconds) (texts (record_at ps rs) i) entry))) fronts.answers;
+      (answer_split ps rs (suc i) within ∙ ap (λ t. t ++ others (record_at ps rs) (suc i) (length rs)) (ap (λ t. answer_header microseconds ++ (texts (record_at ps rs) i ++ t)) (sym e) ∙ sym (append_assoc (answer_header microseconds) (texts (record_at ps rs) i) entry))) fronts.answers;
   lines = kept (verdict_lines rs) _ (others (line_at rs) (suc i) (length rs)) (old v) (new v)
-    (lines_split rs (suc i) within ∙ ap (λ t. (texts (line_at rs) i ++ t) ++ others (line_at rs) (suc i) (length rs)) (sym f)) fronts.lines;
+      (lines_split rs (suc i) within ∙ ap (λ t. (texts (line_at rs) i ++ t) ++ others (line_at rs) (suc i) (length rs)) (sym f)) fronts.lines;
 }
 
 -- ---- output by output

@@ -56,7 +56,14 @@ pub(crate) fn answers_of(
     };
     let mut answers = Answers::new(alloc);
     let meta = Meta { ifindex: IFINDEX };
-    match drive(alloc, &mut sim, frames, meta, clock_limit(frames), &mut answers) {
+    match drive(
+        alloc,
+        &mut sim,
+        frames,
+        meta,
+        clock_limit(frames),
+        &mut answers,
+    ) {
         Ok(_drive) => Ok(answers),
         Err(DriveError::NoMemory) => Err(Unanswered::NoMemory),
         Err(_late) => Err(Unanswered::Unfit),

@@ -7,8 +7,20 @@ use std::alloc::Global;
 use std::test::Fail;
 
 const WORDS: [&str; 14] = [
-    "ehdl", "run", "--object", "o", "--capture", "c", "--verilog", "v", "--answer", "a", "--verdicts", "d",
-    "--final", "f",
+    "ehdl",
+    "run",
+    "--object",
+    "o",
+    "--capture",
+    "c",
+    "--verilog",
+    "v",
+    "--answer",
+    "a",
+    "--verdicts",
+    "d",
+    "--final",
+    "f",
 ];
 
 /// The header of a capture that has another zone, accuracy and snap length than an answer.
@@ -123,7 +135,13 @@ const RUNS: [(i32, &[u32], Status, &[u8], Option<&[u8]>); 4] = [
     (2, &[1536], Status::Done, b"", Some(b"0 2 0 1536\n")),
     (2, &[1536, 1537], Status::Input, b"input capture\n", None),
     (-1, &[9], Status::Done, b"", Some(b"0 4294967295 0 9\n")),
-    (1, &[8, 17, 1], Status::Done, b"", Some(b"0 1 0 8\n1 1 0 17\n2 1 0 1\n")),
+    (
+        1,
+        &[8, 17, 1],
+        Status::Done,
+        b"",
+        Some(b"0 1 0 8\n1 1 0 17\n2 1 0 1\n"),
+    ),
 ];
 
 #[test]
@@ -134,7 +152,11 @@ fn lengths_and_verdicts(rt: HostRuntime) -> Result<(), Fail> {
         assert_eq!(rt; ended, status, "{lengths:?}");
         assert_eq!(rt; out.held(), line, "{lengths:?}");
         assert_eq!(rt; shelf.held("d"), verdicts, "{lengths:?}");
-        assert_eq!(rt; shelf.held("v").is_some(), verdicts.is_some(), "{lengths:?}");
+        assert_eq!(rt;
+            shelf.held("v").is_some(),
+            verdicts.is_some(),
+            "{lengths:?}"
+        );
     }
     Ok(())
 }
@@ -163,10 +185,22 @@ fn failed_writes(rt: HostRuntime) -> Result<(), Fail> {
         assert_eq!(rt; status, Status::WriteFault, "call {call}");
         assert_eq!(rt; out.held(), b"write fault\n".as_slice(), "call {call}");
         assert_eq!(rt; shelf.writes(), call);
-        assert_eq!(rt; shelf.held("a").map(|held| held.len()), answer, "call {call}");
-        assert_eq!(rt; shelf.held("d").map(|held| held.len()), verdicts, "call {call}");
+        assert_eq!(rt;
+            shelf.held("a").map(|held| held.len()),
+            answer,
+            "call {call}"
+        );
+        assert_eq!(rt;
+            shelf.held("d").map(|held| held.len()),
+            verdicts,
+            "call {call}"
+        );
         assert_eq!(rt; shelf.held("v").is_some(), call > 1, "call {call}");
-        assert_eq!(rt; shelf.held("v").unwrap_or(b"").is_empty(), call < 3, "call {call}");
+        assert_eq!(rt;
+            shelf.held("v").unwrap_or(b"").is_empty(),
+            call < 3,
+            "call {call}"
+        );
         assert_eq!(rt; shelf.held("f").is_some(), call > 8, "call {call}");
         assert_eq!(rt; shelf.held("other"), Some(b"kept".as_slice()));
     }

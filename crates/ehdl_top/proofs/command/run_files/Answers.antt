@@ -31,10 +31,10 @@ returns-in-Ok-write_outputs-clause-done g c = λ told.
     let b = c.in-Ok.ensures.ok in
     let runs = answered b.compiles.program.insns c.deref-4.result.now c.answers_of.result c.in-Ok-answers_of.answers c.in-Ok-answers_of.is (c.answers_of.ensures b.compiles.program.insns (realizes_as b.compiles.program.insns c.in-Ok.text.items c.deref-3.result.now c.deref-3.ensures.value b.compiles.realizes)) in
     let o = outcome_as (g.S.Shelf.held c.args.shelf.now c.args.run.now.object.now) (g.S.Shelf.held c.args.shelf.now c.args.run.now.capture.now) (g.S.Shelf.tells c.args.shelf.now) c.in-Ok.text.items c.deref.result.now c.in-Ok-fetched.capture.items b told
-      (sym (c.built.ensures.held.each c.args.run.now.capture.now) ∙ c.in-Ok-fetched.ensures.whole tells) c.deref.ensures.value (omega (arith, c.deref.ensures.len, c.in-Ok-fetched.ensures.within))
-      c.in-Ok-captured.packets.items c.in-Ok-captured.ensures.ok c.deref-4.result.now
-      (c.deref-4.ensures.value ∙ c.in-Ok-frames_to_offer.ensures.frames ∙ ap (λ ps. frames_of (map seen ps)) c.deref-2.ensures.value) c.in-Ok-answers_of.answers runs
-      c.deref-5.result.now c.deref-6.result.now c.deref-5.ensures.value c.deref-6.ensures.value in
+    (sym (c.built.ensures.held.each c.args.run.now.capture.now) ∙ c.in-Ok-fetched.ensures.whole tells) c.deref.ensures.value (omega (arith, c.deref.ensures.len, c.in-Ok-fetched.ensures.within))
+    c.in-Ok-captured.packets.items c.in-Ok-captured.ensures.ok c.deref-4.result.now
+    (c.deref-4.ensures.value ∙ c.in-Ok-frames_to_offer.ensures.frames ∙ ap (λ ps. frames_of (map seen ps)) c.deref-2.ensures.value) c.in-Ok-answers_of.answers runs
+    c.deref-5.result.now c.deref-6.result.now c.deref-5.ensures.value c.deref-6.ensures.value in
     let tell : IsTrue (g.S.Shelf.tells c.fetched.new.shelf) = search rules in
     record { outputs = outputs_of c.deref-5.result.now (map seen c.deref-6.result.now) c.in-Ok-answers_of.answers; outcome = o; held = c.in-Ok-write_outputs.ensures.done tell }
 
@@ -44,13 +44,16 @@ returns-in-Err-Failed-clause-broken g c = λ told.
     let b = c.in-Ok.ensures.ok in
     let runs = answered b.compiles.program.insns c.deref-4.result.now c.answers_of.result c.in-Ok-answers_of.answers c.in-Ok-answers_of.is (c.answers_of.ensures b.compiles.program.insns (realizes_as b.compiles.program.insns c.in-Ok.text.items c.deref-3.result.now c.deref-3.ensures.value b.compiles.realizes)) in
     let o = outcome_as (g.S.Shelf.held c.args.shelf.now c.args.run.now.object.now) (g.S.Shelf.held c.args.shelf.now c.args.run.now.capture.now) (g.S.Shelf.tells c.args.shelf.now) c.in-Ok.text.items c.deref.result.now c.in-Ok-fetched.capture.items b told
-      (sym (c.built.ensures.held.each c.args.run.now.capture.now) ∙ c.in-Ok-fetched.ensures.whole tells) c.deref.ensures.value (omega (arith, c.deref.ensures.len, c.in-Ok-fetched.ensures.within))
-      c.in-Ok-captured.packets.items c.in-Ok-captured.ensures.ok c.deref-4.result.now
-      (c.deref-4.ensures.value ∙ c.in-Ok-frames_to_offer.ensures.frames ∙ ap (λ ps. frames_of (map seen ps)) c.deref-2.ensures.value) c.in-Ok-answers_of.answers runs
-      c.deref-5.result.now c.deref-6.result.now c.deref-5.ensures.value c.deref-6.ensures.value in
+    (sym (c.built.ensures.held.each c.args.run.now.capture.now) ∙ c.in-Ok-fetched.ensures.whole tells) c.deref.ensures.value (omega (arith, c.deref.ensures.len, c.in-Ok-fetched.ensures.within))
+    c.in-Ok-captured.packets.items c.in-Ok-captured.ensures.ok c.deref-4.result.now
+    (c.deref-4.ensures.value ∙ c.in-Ok-frames_to_offer.ensures.frames ∙ ap (λ ps. frames_of (map seen ps)) c.deref-2.ensures.value) c.in-Ok-answers_of.answers runs
+    c.deref-5.result.now c.deref-6.result.now c.deref-5.ensures.value c.deref-6.ensures.value in
     let tell : IsTrue (g.S.Shelf.tells c.fetched.new.shelf) = search rules in
-    inr (record { outputs = outputs_of c.deref-5.result.now (map seen c.deref-6.result.now) c.in-Ok-answers_of.answers; outcome = o;
-      fronts = fronts_from (names_of c.args.run.now) _ (g.S.Shelf.held c.args.shelf.now) (g.S.Shelf.held c.fetched.new.shelf) (g.S.Shelf.held c.write_outputs.new.shelf) (same_twice _ _ _ c.built.ensures.held c.fetched.ensures.held) (c.in-Err-Failed.ensures.kept tell) })
+    inr (record {
+      outputs = outputs_of c.deref-5.result.now (map seen c.deref-6.result.now) c.in-Ok-answers_of.answers;
+      outcome = o;
+      fronts = fronts_from (names_of c.args.run.now) _ (g.S.Shelf.held c.args.shelf.now) (g.S.Shelf.held c.fetched.new.shelf) (g.S.Shelf.held c.write_outputs.new.shelf) (same_twice _ _ _ c.built.ensures.held c.fetched.ensures.held) (c.in-Err-Failed.ensures.kept tell);
+    })
 
 pub returns-clause-broken : goal.returns-clause-broken
 returns-clause-broken g c = λ told.
@@ -58,10 +61,13 @@ returns-clause-broken g c = λ told.
     let b = c.in-Ok.ensures.ok in
     let runs = answered b.compiles.program.insns c.deref-4.result.now c.answers_of.result c.in-Ok-answers_of.answers c.in-Ok-answers_of.is (c.answers_of.ensures b.compiles.program.insns (realizes_as b.compiles.program.insns c.in-Ok.text.items c.deref-3.result.now c.deref-3.ensures.value b.compiles.realizes)) in
     let o = outcome_as (g.S.Shelf.held c.args.shelf.now c.args.run.now.object.now) (g.S.Shelf.held c.args.shelf.now c.args.run.now.capture.now) (g.S.Shelf.tells c.args.shelf.now) c.in-Ok.text.items c.deref.result.now c.in-Ok-fetched.capture.items b told
-      (sym (c.built.ensures.held.each c.args.run.now.capture.now) ∙ c.in-Ok-fetched.ensures.whole tells) c.deref.ensures.value (omega (arith, c.deref.ensures.len, c.in-Ok-fetched.ensures.within))
-      c.in-Ok-captured.packets.items c.in-Ok-captured.ensures.ok c.deref-4.result.now
-      (c.deref-4.ensures.value ∙ c.in-Ok-frames_to_offer.ensures.frames ∙ ap (λ ps. frames_of (map seen ps)) c.deref-2.ensures.value) c.in-Ok-answers_of.answers runs
-      c.deref-5.result.now c.deref-6.result.now c.deref-5.ensures.value c.deref-6.ensures.value in
+    (sym (c.built.ensures.held.each c.args.run.now.capture.now) ∙ c.in-Ok-fetched.ensures.whole tells) c.deref.ensures.value (omega (arith, c.deref.ensures.len, c.in-Ok-fetched.ensures.within))
+    c.in-Ok-captured.packets.items c.in-Ok-captured.ensures.ok c.deref-4.result.now
+    (c.deref-4.ensures.value ∙ c.in-Ok-frames_to_offer.ensures.frames ∙ ap (λ ps. frames_of (map seen ps)) c.deref-2.ensures.value) c.in-Ok-answers_of.answers runs
+    c.deref-5.result.now c.deref-6.result.now c.deref-5.ensures.value c.deref-6.ensures.value in
     let tell : IsTrue (g.S.Shelf.tells c.fetched.new.shelf) = search rules in
-    inr (record { outputs = outputs_of c.deref-5.result.now (map seen c.deref-6.result.now) c.in-Ok-answers_of.answers; outcome = o;
-      fronts = fronts_from (names_of c.args.run.now) _ (g.S.Shelf.held c.args.shelf.now) (g.S.Shelf.held c.fetched.new.shelf) (g.S.Shelf.held c.write_outputs.new.shelf) (same_twice _ _ _ c.built.ensures.held c.fetched.ensures.held) (c.in-Err-NoMemory-write_outputs.ensures.kept tell) })
+    inr (record {
+      outputs = outputs_of c.deref-5.result.now (map seen c.deref-6.result.now) c.in-Ok-answers_of.answers;
+      outcome = o;
+      fronts = fronts_from (names_of c.args.run.now) _ (g.S.Shelf.held c.args.shelf.now) (g.S.Shelf.held c.fetched.new.shelf) (g.S.Shelf.held c.write_outputs.new.shelf) (same_twice _ _ _ c.built.ensures.held c.fetched.ensures.held) (c.in-Err-NoMemory-write_outputs.ensures.kept tell);
+    })

@@ -18,7 +18,7 @@ loop-packet-preserved c =
     let pushed : c.push.new.self.items ≡ c.loop-packet.all.items ++ c.in-Ok-Some.packet ∷ [] = search rules in
     record {
       packets = ap (λ l. map seen l ++ c.next.new.self.packets) pushed ∙ ap (λ l. l ++ c.next.new.self.packets) (map_more seen c.loop-packet.all.items c.in-Ok-Some.packet)
-        ∙ append_assoc (map seen c.loop-packet.all.items) _ _ ∙ ap (λ l. map seen c.loop-packet.all.items ++ l) (sym next.0) ∙ c.loop-packet.invariant.packets;
+          ∙ append_assoc (map seen c.loop-packet.all.items) _ _ ∙ ap (λ l. map seen c.loop-packet.all.items ++ l) (sym next.0) ∙ c.loop-packet.invariant.packets;
       fault = next.1 ∙ c.loop-packet.invariant.fault;
       frames = all_as HasFrame c.push.new.self.items _ pushed (all_more HasFrame c.loop-packet.all.items c.in-Ok-Some.packet c.loop-packet.invariant.frames (next_frame c.in-Ok-Some.field-0 c.in-Ok-Some.packet c.in-Ok-Some.field-0-is c.in-Ok-Some.ensures.frame));
       many = let n : length c.push.new.self.items ≡ length c.loop-packet.all.items + 1 = ap length pushed ∙ length_more c.loop-packet.all.items c.in-Ok-Some.packet in omega (arith, n, c.if-len.false, c.len.ensures);

@@ -33,8 +33,8 @@ loop-i-preserved g c = record {
   reads = search rules;
   writes = search rules;
   both = λ told.
-    let tells : IsTrue (g.S.Shelf.tells c.loop-i.shelf) = search rules in
-    both_next c.args.answer.now c.args.verdicts.now (map seen c.args.packets.now) c.args.answers.now c.loop-i.i (c.loop-i.i + 1) _ _ _ (omega arith)
-    (c.deref.ensures.value ∙ c.in-Ok-fill_record.ensures) (c.deref-in-loop-i.ensures.value ∙ c.in-Ok-line_of.ensures)
-    (c.in-Ok-write_packet.ensures.done tells _ _ (c.loop-i.invariant.both told));
+      let tells : IsTrue (g.S.Shelf.tells c.loop-i.shelf) = search rules in
+      both_next c.args.answer.now c.args.verdicts.now (map seen c.args.packets.now) c.args.answers.now c.loop-i.i (c.loop-i.i + 1) _ _ _ (omega arith)
+      (c.deref.ensures.value ∙ c.in-Ok-fill_record.ensures) (c.deref-in-loop-i.ensures.value ∙ c.in-Ok-line_of.ensures)
+      (c.in-Ok-write_packet.ensures.done tells _ _ (c.loop-i.invariant.both told));
 }
