@@ -1,1 +1,3 @@
-pub mod Units
+pub mod Opened
+pub mod Reading
+pub mod Searches
