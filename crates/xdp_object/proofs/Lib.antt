@@ -1,3 +1,5 @@
+pub mod Layouts
 pub mod Opened
+pub mod Outcomes
 pub mod Reading
 pub mod Searches
