@@ -122,8 +122,8 @@ seen bytes name code e fits =
     let at : (i : ℕ) → section_at bytes i ≡ section_at layout i = λ i. ap (λ b. section_at b i) e in
     let spans : (i : ℕ) → section_bytes bytes i ≡ section_bytes layout i = λ i. ap (λ b. section_bytes b i) e in
     let first : first_symtab bytes ≡ Some 2 =
-        third_of_four (symtab_at bytes) (e_shnum bytes) 2 count (symtab_at-none bytes 0 no_section (at 0 ∙ x.none) refl)
-        (symtab_at-none bytes 1 (code_section s) (at 1 ∙ x.code) refl) (symtab_at-some bytes 2 (symbols_section s) (at 2 ∙ x.symbols) refl) in
+    third_of_four (symtab_at bytes) (e_shnum bytes) 2 count (symtab_at-none bytes 0 no_section (at 0 ∙ x.none) refl)
+    (symtab_at-none bytes 1 (code_section s) (at 1 ∙ x.code) refl) (symtab_at-some bytes 2 (symbols_section s) (at 2 ∙ x.symbols) refl) in
     record {
       no_error = ap first_error e ∙ opens name code [] [] fits;
       size = omega (arith, ap length e, size, fits);
@@ -220,7 +220,7 @@ unfolding wrong_function open_name outside odd_units
 no_fault bytes name code h letters whole =
     let named : is_some (symbol_name bytes 1) ≡ true = ap is_some (name_is bytes name code h letters) in
     let inside : ltb (length (section_bytes bytes 1)) (0 + length code) ≡ false =
-        le-ltb (length (section_bytes bytes 1)) (0 + length code) (omega (arith, ap length h.code_bytes)) in
+    le-ltb (length (section_bytes bytes 1)) (0 + length code) (omega (arith, ap length h.code_bytes)) in
     let units : (length code % 8 == 0) ≡ true = is_zero_test (length code % 8) whole in
     ap (λ b. option_or (cond b None (Some (Elf (At (symbol_of bytes 1).name)))) (first_fault (outside bytes (symbol_of bytes 1) ∷ odd_units (symbol_of bytes 1) ∷ []))) named
     ∙ ap (λ (s : Symbol). first_fault (outside bytes s ∷ odd_units s ∷ [])) (second_symbol bytes name code h)
@@ -285,11 +285,11 @@ no_relocation bytes name code h =
     let a = no_rela bytes name code h in
     let s = function_symbol (length code) in
     let cut : cut_tables bytes 1 ≡ None =
-        four_none (cut_table bytes 1) (e_shnum bytes) h.count (no_cut bytes 0 r.none) (no_cut bytes 1 r.code) (no_cut bytes 2 r.symbols) (no_cut bytes 3 r.strings) in
+    four_none (cut_table bytes 1) (e_shnum bytes) h.count (no_cut bytes 0 r.none) (no_cut bytes 1 r.code) (no_cut bytes 2 r.symbols) (no_cut bytes 3 r.strings) in
     let rela : rela_tables bytes 1 ≡ None =
-        four_none (rela_table bytes 1) (e_shnum bytes) h.count (no_entry bytes 0 a.none) (no_entry bytes 1 a.code) (no_entry bytes 2 a.symbols) (no_entry bytes 3 a.strings) in
+    four_none (rela_table bytes 1) (e_shnum bytes) h.count (no_entry bytes 0 a.none) (no_entry bytes 1 a.code) (no_entry bytes 2 a.symbols) (no_entry bytes 3 a.strings) in
     let place : least_place bytes s ≡ None =
-        four_places (least_in_section bytes s) (e_shnum bytes) h.count (no_place bytes s 0 r.none) (no_place bytes s 1 r.code) (no_place bytes s 2 r.symbols) (no_place bytes s 3 r.strings) in
+    four_places (least_in_section bytes s) (e_shnum bytes) h.count (no_place bytes s 0 r.none) (no_place bytes s 1 r.code) (no_place bytes s 2 r.symbols) (no_place bytes s 3 r.strings) in
     ap (λ o. option_or o (option_or (rela_tables bytes 1) (option_or (relocated bytes s) None))) cut
     ∙ ap (λ o. option_or o (option_or (relocated bytes s) None)) rela
     ∙ ap (λ o. option_or (option_map (λ at. Relocation at) o) None) place
@@ -304,7 +304,7 @@ object_read choice bytes name code insns h letters spells some asked =
     let symbol = second_symbol bytes name code h in
     let sole : Sole choice bytes 1 = record { opened = opened bytes name code h; sole = the_program choice bytes name code h some asked } in
     let bytes_are : function_code bytes (symbol_of bytes 1) ≡ code =
-        ap (function_code bytes) symbol ∙ ap (take (length code)) h.code_bytes ∙ take_all (length code) code (omega arith) in
+    ap (function_code bytes) symbol ∙ ap (take (length code)) h.code_bytes ∙ take_all (length code) code (omega arith) in
     let has = has_code choice bytes 1 s code sole (no_fault bytes name code h letters whole) (sym symbol) (sym bytes_are) in
     is_object choice bytes 1 s code name insns (without_maps name insns) sole has (name_is bytes name code h letters) spells
     (no_relocation bytes name code h) refl refl refl refl

@@ -77,10 +77,5 @@ pub fn read_object(
     let insns = decode(alloc, function.code)?;
     check_relocations(&view, &function.symbol)?;
     let name = Vec::from_slice(alloc, function.name)?;
-    Ok(Program::new(
-        name,
-        insns,
-        Vec::new(alloc),
-        Vec::new(alloc),
-    ))
+    Ok(Program::new(name, insns, Vec::new(alloc), Vec::new(alloc)))
 }

@@ -14,15 +14,15 @@ loop-n-preserved c =
     let asked : ℕ → Bool = λ n. is_function view n && is_asked_for (option_copied c.args.choice) view n in
     elim c.if-is_program.branch [
       | then-is_program w ↦ (
-            found_at _ _ _ _ _ _ w.count-is w.last-is
+        found_at _ _ _ _ _ _ w.count-is w.last-is
             (found_more asked c.loop-n.n c.loop-n.count c.loop-n.last c.loop-n.invariant.0 (sym c.is_program.ensures.value ∙ w.if-is_program.true)),
-            λ _. subst (λ (k : ℕ). (symbol_of view k).section < e_shnum view) (sym w.last-is) (c.is_program.ensures.section w.if-is_program.true)
-          )
+        λ _. subst (λ (k : ℕ). (symbol_of view k).section < e_shnum view) (sym w.last-is) (c.is_program.ensures.section w.if-is_program.true),
+      )
       | else-is_program w ↦ (
-            found_at _ _ _ _ _ _ w.count-is w.last-is
+        found_at _ _ _ _ _ _ w.count-is w.last-is
             (found_same asked c.loop-n.n c.loop-n.count c.loop-n.last c.loop-n.invariant.0 (sym c.is_program.ensures.value ∙ w.if-is_program.false)),
-            λ some. subst (λ (k : ℕ). (symbol_of view k).section < e_shnum view) (sym w.last-is) (c.loop-n.invariant.1 (omega (arith, w.count-is, some)))
-          )
+        λ some. subst (λ (k : ℕ). (symbol_of view k).section < e_shnum view) (sym w.last-is) (c.loop-n.invariant.1 (omega (arith, w.count-is, some))),
+      )
     ]
 
 pub returns-in-0-clause-fault : goal.returns-in-0-clause-fault
