@@ -29,44 +29,15 @@ use Rattle.xdp_object.specs.Functions.{function_code, is_asked_for, is_code_sect
 use Rattle.xdp_object.specs.Laws.{LayoutLaw, without_maps}
 use Rattle.xdp_object.specs.Object.{IsObject, first_fault, odd_units, open_name, outside, relocation_fault, too_long, wrong_elf, wrong_function}
 use Rattle.xdp_object.specs.Relocations.{cut_table, cut_tables, least_from, least_in_section, least_in_table, least_place, rela_table, rela_tables, relocated, relocates}
+use Rattle.xdp_object.proofs.Strings.{string_there, xdp_letters}
 use Rattle.xdp_object.proofs.Reading.{Sole, has_code, is_object}
 
--- ---- strings
-
-is_zero : ℕ → Bool
-is_zero b = b == 0
-
-zero_after : (s rest : List ℕ) → All (λ b. b ≢ 0) s → position_or_len (λ b. b == 0) (s ++ (0 ∷ rest)) ≡ length s
-zero_after [] rest h = refl
-zero_after (x ∷ s) rest h =
-    let other : (x == 0) ≡ false = is_other x (All-head (λ b. b ≢ 0) x s h) in
-    ap (λ t. cond (not t) (1 + position_or_len (λ b. b == 0) (s ++ (0 ∷ rest))) 0) other
-    ∙ omega (arith, zero_after s rest (All-tail (λ b. b ≢ 0) x s h))
-  where
-    is_other : (x : ℕ) → x ≢ 0 → (x == 0) ≡ false
-    is_other x h = grind (arith, nat_tests)
-
--- a string that a zero byte ends
-string_there : (table s rest : List ℕ) (at : ℕ) → All (λ b. b ≢ 0) s → drop at table ≡ s ++ (0 ∷ rest) → string_at table at ≡ Some s
-unfolding string_at
-string_there table s rest at h e =
-    let place = zero_after s rest h in
-    let inside : ltb (length s) (length (s ++ (0 ∷ rest))) ≡ true = lt-ltb (length s) (length (s ++ (0 ∷ rest))) (omega (arith, length-append s (0 ∷ rest))) in
-    ap (λ ys. option_map (λ n. take n ys) (position (λ b. b == 0) ys)) e
-    ∙ ap (λ k. option_map (λ n. take n (s ++ (0 ∷ rest))) (cond (ltb k (length (s ++ (0 ∷ rest)))) (Some k) None)) place
-    ∙ ap (λ b. option_map (λ n. take n (s ++ (0 ∷ rest))) (cond b (Some (length s)) None)) inside
-    ∙ ap Some (take_at s (0 ∷ rest) (length s) refl)
+-- ---- the names
 
 -- the names of the first section and of the function
 xdp_there : (name : List ℕ) → string_at (strings name []) 1 ≡ Some (codes "xdp")
 unfolding text
-xdp_there name = string_there (strings name []) (codes "xdp") (drop 5 (strings name [])) 1 letters refl
-  where
-    letters : All (λ b. b ≢ 0) (codes "xdp")
-    letters =
-        All-cons (λ b. b ≢ 0) 120 (100 ∷ 112 ∷ []) (λ e. absurd (omega arith))
-        (All-cons (λ b. b ≢ 0) 100 (112 ∷ []) (λ e. absurd (omega arith))
-        (All-cons (λ b. b ≢ 0) 112 [] (λ e. absurd (omega arith)) (All-nil (λ b. b ≢ 0))))
+xdp_there name = string_there (strings name []) (codes "xdp") (drop 5 (strings name [])) 1 xdp_letters refl
 
 name_there : (name : List ℕ) → All (λ b. b ≢ 0) name → string_at (strings name []) 21 ≡ Some name
 unfolding text

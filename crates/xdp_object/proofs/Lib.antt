@@ -3,3 +3,4 @@ pub mod Opened
 pub mod Outcomes
 pub mod Reading
 pub mod Searches
+pub mod Strings

@@ -1,9 +1,9 @@
 -- What the absence of an error says of an ELF file.
-use Rattle.std.proofs.Common.{◌≡◌, ◌∙◌, ℕ, zero, suc, ◌+◌, ◌%◌, ◌<◌, ◌≤◌, ◌==◌, ◌&&◌, Bool, true, false, cond, ltb, Option, Some, None, List, length, refl, sym, arith}
+use Rattle.std.proofs.Common.{◌≡◌, ◌∙◌, ℕ, zero, suc, ◌+◌, ◌%◌, ◌<◌, ◌≤◌, ◌==◌, ◌&&◌, Bool, true, false, cond, ltb, Option, Some, None, List, length, refl, sym, ap, arith}
 use Rattle.std.proofs.lemmas.Bool.{ltb-true, ltb-false}
-use Rattle.std.specs.Option.{option_or}
-use Rattle.elf_view.specs.File.{e_shnum, e_shstrndx, first_from, first_symtab, section_at, symtab_at}
-use Rattle.elf_view.specs.Rules.{first_error, is_string_table, names_open, no_names, sections_outside, short_file, short_headers, wrong_header, wrong_machine, wrong_symbols, wrong_table}
+use Rattle.std.specs.Option.{IsSome, is_some, option_or}
+use Rattle.elf_view.specs.File.{e_shnum, e_shstrndx, first_from, first_symtab, section_at, section_bytes, string_at, symtab_at}
+use Rattle.elf_view.specs.Rules.{first_error, is_string_table, name_open, names_open, no_names, sections_outside, short_file, short_headers, wrong_header, wrong_machine, wrong_symbols, wrong_table}
 
 -- where the first of two is none, there is neither
 pub no_first : {X : Type 0} (a b : Option X) → option_or a b ≡ None → a ≡ None
@@ -18,6 +18,7 @@ no_rest (Some x) b e = absurd (cc)
 pub record NoError (bytes : List ℕ) : Type 0 where
   pub file : short_file bytes ≡ None
   pub names : no_names bytes ≡ None
+  pub named : names_open bytes ≡ None
   pub symbols : wrong_symbols bytes ≡ None
 
 pub no_error : (bytes : List ℕ) → first_error bytes ≡ None → NoError bytes
@@ -30,7 +31,7 @@ no_error bytes e0 =
     let e5 = no_rest (sections_outside bytes) _ e4 in
     let e6 = no_rest (no_names bytes) _ e5 in
     let e7 = no_rest (names_open bytes) _ e6 in
-    record { file = no_first (short_file bytes) _ e0; names = no_first (no_names bytes) _ e5; symbols = no_first (wrong_symbols bytes) _ e7 }
+    record { file = no_first (short_file bytes) _ e0; names = no_first (no_names bytes) _ e5; named = no_first (names_open bytes) _ e6; symbols = no_first (wrong_symbols bytes) _ e7 }
 
 -- a test that gives nothing only where it is false, or only where it is true
 pub none_if_false : {X : Type 0} (b : Bool) (x : X) → cond b (Some x) None ≡ None → b ≡ false
@@ -87,3 +88,17 @@ strings_below bytes i e f = of_table (first_symtab bytes) f (no_error bytes e).s
         let same : j ≡ i = cc in
         let string = and_right ((section_at bytes j).size % 24 == 0) _ (none_if_true _ _ h) in
         rw (← same) (is_below bytes (section_at bytes j).link string)
+
+-- each section's name ends in its table
+all_none : {X : Type 0} (f : ℕ → Option X) (i n k : ℕ) → first_from f i n ≡ None → k < n → f (i + k) ≡ None
+all_none f i zero k e h = absurd (omega arith)
+all_none f i (suc n) zero e h = ap f (omega arith) ∙ no_first (f i) (first_from f (suc i) n) e
+all_none f i (suc n) (suc k) e h = ap f (omega arith) ∙ all_none f (suc i) n k (no_rest (f i) (first_from f (suc i) n) e) (omega arith)
+
+pub section_named : (bytes : List ℕ) (i : ℕ) → first_error bytes ≡ None → i < e_shnum bytes
+    → IsSome (string_at (section_bytes bytes (e_shstrndx bytes)) (section_at bytes i).name)
+unfolding names_open
+section_named bytes i e h =
+    let none = all_none (name_open bytes (section_bytes bytes (e_shstrndx bytes))) 0 (e_shnum bytes) i (no_error bytes e).named h in
+    let here : name_open bytes (section_bytes bytes (e_shstrndx bytes)) i ≡ None = ap (λ k. name_open bytes (section_bytes bytes (e_shstrndx bytes)) k) (omega arith) ∙ none in
+    none_if_true (is_some (string_at (section_bytes bytes (e_shstrndx bytes)) (section_at bytes i).name)) _ here

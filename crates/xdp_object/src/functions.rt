@@ -2,12 +2,13 @@
 
 ghost use Rattle.std.specs.Prelude.{◌≡◌, ◌<◌, ◌%◌, ◌∷◌, [], ◌&&◌, length, IfOk, IfErr, IsTrue, Some, None};
 ghost use Rattle.std.specs.Option.{option_copied};
-ghost use Rattle.elf_view.specs.File.{e_shnum, e_shstrndx, entry_count, symbol_table};
+ghost use Rattle.elf_view.specs.File.{e_shnum, e_shstrndx, entry_count, first_symtab, symbol_table};
 ghost use Rattle.elf_view.specs.Rules.{first_error};
-ghost use Rattle.xdp_object.specs.Functions.{function_code, is_asked_for, is_code_section, is_function, programs, section_name, symbol_name, symbol_of};
+ghost use Rattle.xdp_object.specs.Functions.{function_code, is_asked_for, is_code_section, is_function, programs, section_name, symbol_name, symbol_of, symbol_strings};
 ghost use Rattle.xdp_object.specs.Object.{FailsAs, wrong_count, wrong_function};
 
 use crate::error::ObjectError;
+use crate::text::{begins_with_xdp, is_text};
 use elf_view::{ElfError, ElfView, Symbol};
 
 /// A section type, a section flag and a symbol type that the gABI names.
@@ -35,6 +36,17 @@ fn is_code_section(view: &ElfView<'_>, i: u32) -> bool
     }
     let section = view.section(i);
     section.kind == PROGBITS && section.flags / EXECINSTR % 2 == 1
+}
+
+/// The string table of the symbols' names.
+fn symbol_strings<'a>(view: &ElfView<'a>) -> &'a [u8]
+    requires { first_error view.now ≡ None }
+    ensures { result.now ≡ symbol_strings view.now (first_symtab view.now) }
+{
+    match view.symbol_table() {
+        Some(table) => view.bytes_of(view.section(table).link),
+        None => &[],
+    }
 }
 
 /// The name of symbol `n`.
@@ -65,14 +77,8 @@ fn is_program(view: &ElfView<'_>, names: u32, choice: Option<&[u8]>, n: u32) -> 
         return false;
     }
     match choice {
-        Some(name) => match symbol_name(view, n) {
-            Ok(found) => found == name,
-            Err(_) => false,
-        },
-        None => match view.name_of(names, view.section(section).name) {
-            Ok(found) => found.starts_with(b"xdp"),
-            Err(_) => false,
-        },
+        Some(name) => is_text(symbol_strings(view), symbol.name, name),
+        None => begins_with_xdp(view.bytes_of(names), view.section(section).name),
     }
 }
 

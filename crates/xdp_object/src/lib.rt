@@ -10,6 +10,7 @@ mod read;
 mod relocations;
 #[cfg(test)]
 mod tests;
+mod text;
 mod units;
 
 pub use error::ObjectError;
