@@ -1,25 +1,23 @@
 -- What is read of the least object of a function with no maps.
-use Rattle.std.proofs.Common.{◌≡◌, ◌≢◌, ◌∙◌, ℕ, zero, suc, ◌+◌, ◌*◌, ◌/◌, ◌%◌, ◌<◌, ◌≤◌, ◌==◌, ◌&&◌, nat_eq, Bool, true, false, not, cond, ltb, Option, Some, None, List, [], ◌∷◌, ◌++◌, length, take, drop, filter, All, codes, refl, sym, ap, subst, arith}
+use Rattle.std.proofs.Common.{◌≡◌, ◌≢◌, ◌∙◌, ℕ, ◌+◌, ◌/◌, ◌%◌, ◌<◌, ◌≤◌, ◌==◌, ◌&&◌, nat_eq, Bool, true, false, not, cond, ltb, Option, Some, None, List, [], ◌∷◌, ◌++◌, length, take, drop, filter, All, codes, refl, sym, ap, arith}
 use Rattle.std.proofs.lemmas.Bool.{lt-ltb, le-ltb}
 use Rattle.std.proofs.lemmas.Bool.Decides.{nat_tests}
 use Rattle.std.proofs.lemmas.List.{append_assoc, append-nil, drop_at, take_at, take_all, length-append}
-use Rattle.std.proofs.lemmas.List.Elements.{All-cons, All-head, All-nil, All-tail}
 use Rattle.std.proofs.lemmas.Slice.Eq.{bytes_eq-Decides}
-use Rattle.std.specs.List.{position, position_or_len, range_with_len, starts_with}
+use Rattle.std.specs.List.{range_with_len, starts_with}
 use Rattle.std.specs.Option.{is_some, option_map, option_map_or, option_or}
 use Rattle.std.specs.Str.{bytes_eq}
 use Rattle.elf_view.specs.declared.parts.Section.{Section}
 use Rattle.elf_view.specs.declared.parts.Symbol.{Symbol}
-use Rattle.elf_view.specs.declared.sizes.Sizes.{Sizes}
 use Rattle.elf_view.specs.Pieces.{elf_header, symbol_bytes}
-use Rattle.elf_view.specs.File.{e_shnum, e_shstrndx, entry_count, first_from, first_symtab, section_at, section_bytes, span_of, string_at, symbol_at, symbol_table, symbols_of, symtab_at}
-use Rattle.elf_view.specs.Layout.{base_headers, code_section, function_symbol, headers_at, map_headers, no_section, no_symbol, object_layout, object_size, padded, records, rels, sizes_of, strings, strings_section, symbols, symbols_at, symbols_section, text}
+use Rattle.elf_view.specs.File.{e_shnum, e_shstrndx, entry_count, first_symtab, section_at, section_bytes, span_of, string_at, symbol_at, symbol_table, symbols_of, symtab_at}
+use Rattle.elf_view.specs.Layout.{base_headers, code_section, function_symbol, headers_at, map_headers, no_section, no_symbol, object_layout, object_size, padded, records, rels, sizes_of, strings, strings_section, symbols, symbols_section, text}
 use Rattle.elf_view.specs.Rules.{first_error}
 use Rattle.elf_view.specs.declared.error.ElfError.TheVariants.{At, Section as ElfSection}
 use Rattle.elf_view.proofs.Lengths.{length-elf_header, length-object, length-symbol_bytes, length-symbols, small_object}
 use Rattle.elf_view.proofs.NoError.{four_none, symtab_at-none, symtab_at-some, third_of_four}
 use Rattle.elf_view.proofs.NoMaps.{regrouped, sole_code_at}
-use Rattle.elf_view.proofs.Opens.{Head, Sections, opens, read_head, read_sections, read_strings}
+use Rattle.elf_view.proofs.Opens.{opens, read_head, read_sections, read_strings}
 use Rattle.elf_view.proofs.Written.{symbol_at-written}
 use Rattle.bpf_isa.specs.declared.instruction.Insn.{Insn}
 use Rattle.bpf_isa.specs.Text.{Spells}

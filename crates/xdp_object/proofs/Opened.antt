@@ -1,5 +1,5 @@
 -- What the absence of an error says of an ELF file.
-use Rattle.std.proofs.Common.{◌≡◌, ◌∙◌, ℕ, zero, suc, ◌+◌, ◌%◌, ◌<◌, ◌≤◌, ◌==◌, ◌&&◌, Bool, true, false, cond, ltb, Option, Some, None, List, length, refl, sym, ap, arith}
+use Rattle.std.proofs.Common.{◌≡◌, ◌∙◌, ℕ, zero, suc, ◌+◌, ◌%◌, ◌<◌, ◌≤◌, ◌==◌, ◌&&◌, Bool, true, false, cond, ltb, Option, Some, None, List, length, refl, ap, arith}
 use Rattle.std.proofs.lemmas.Bool.{ltb-true, ltb-false}
 use Rattle.std.specs.Option.{IsSome, is_some, option_or}
 use Rattle.elf_view.specs.File.{e_shnum, e_shstrndx, first_from, first_symtab, section_at, section_bytes, string_at, symtab_at}

@@ -1,7 +1,6 @@
 -- Bytes have one outcome.
-use Rattle.std.proofs.Common.{◌≡◌, ◌∙◌, ℕ, Option, Some, None, List, [], sym, ap}
+use Rattle.std.proofs.Common.{◌≡◌, ◌∙◌, ℕ, Option, Some, None, List, sym, ap}
 use Rattle.bpf_isa.specs.declared.instruction.Insn.{Insn}
-use Rattle.bpf_isa.specs.Text.{FirstBad, Spells}
 use Rattle.bpf_isa.proofs.Texts.{bad_not_spelled, first_bad_one, spells_one}
 use Rattle.xdp_maps.specs.declared.decl.MapDecl.{MapDecl}
 use Rattle.xdp_object.specs.declared.error.ObjectError.{ObjectError}

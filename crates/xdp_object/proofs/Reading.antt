@@ -1,5 +1,5 @@
 -- The stages of reading: what is known after each, and the first fault in each.
-use Rattle.std.proofs.Common.{◌≡◌, ◌≢◌, ◌∙◌, ℕ, Option, Some, None, Result, Ok, Err, List, [], ◌∷◌, slice_index, refl, sym, ap, subst}
+use Rattle.std.proofs.Common.{◌≡◌, ◌∙◌, ℕ, Option, Some, None, Result, Ok, Err, List, [], ◌∷◌, slice_index, refl, sym, ap, subst}
 use Rattle.std.specs.Option.{option_or}
 use Rattle.std.specs.Result.{IfErr, IsErrAnd}
 use Rattle.bpf_isa.specs.declared.instruction.Insn.{Insn}

@@ -1,5 +1,5 @@
 -- The functions of an object, by their symbols (System V gABI, chapter 4, "Symbol Table").
-use Rattle.std.specs.Prelude.{ℕ, ◌+◌, ◌/◌, ◌%◌, ◌==◌, nat_eq, nat_lt, Bool, true, false, ◌&&◌, List, [], take, drop, filter, Option, Some, None, codes}
+use Rattle.std.specs.Prelude.{ℕ, ◌/◌, ◌%◌, ◌==◌, nat_eq, nat_lt, Bool, false, ◌&&◌, List, [], take, drop, filter, Option, Some, None, codes}
 use Rattle.std.specs.List.{starts_with, range_with_len}
 use Rattle.std.specs.Option.{option_map_or}
 use Rattle.std.specs.Str.{bytes_eq}

@@ -1,10 +1,9 @@
 -- One more symbol is looked at; at the end all are.
-use Rattle.std.proofs.Common.{◌≡◌, ◌∙◌, ◌<◌, ℕ, ◌&&◌, Bool, sym, subst, arith}
+use Rattle.std.proofs.Common.{◌∙◌, ◌<◌, ℕ, ◌&&◌, Bool, sym, subst, arith}
 use Rattle.std.specs.Option.{option_copied}
-use Rattle.std.specs.List.{filter, range_with_len}
 use Rattle.elf_view.specs.File.{e_shnum, entry_count, symbol_table}
 use Rattle.xdp_object.specs.Functions.{is_asked_for, is_function, programs, symbol_of}
-use Rattle.xdp_object.proofs.Searches.{Found, found_all, found_at, found_more, found_same, many_found, none_found, one_found}
+use Rattle.xdp_object.proofs.Searches.{found_all, found_at, found_more, found_same, many_found, none_found, one_found}
 use Rattle.xdp_object.proofs.functions.find_program.Goals as goal
 use Rattle.xdp_object.proofs.functions.find_program.Goals.{then-is_program, else-is_program}
 

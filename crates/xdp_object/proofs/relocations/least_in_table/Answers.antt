@@ -1,4 +1,4 @@
-use Rattle.std.proofs.Common.{◌≡◌, ◌∙◌, ℕ, Option, sym, ap, arith}
+use Rattle.std.proofs.Common.{◌∙◌, ℕ, Option, sym, ap, arith}
 use Rattle.elf_view.specs.File.{entry_count, rel_at, section_bytes}
 use Rattle.xdp_object.specs.Relocations.{least_in_table, place_in}
 use Rattle.xdp_object.proofs.Searches.{least_from-end, least_from-step}

@@ -1,4 +1,4 @@
-use Rattle.std.proofs.Common.{◌≡◌, ◌∙◌, sym, ap, arith}
+use Rattle.std.proofs.Common.{◌∙◌, sym, arith}
 use Rattle.elf_view.specs.File.{e_shnum}
 use Rattle.xdp_object.specs.Relocations.{least_in_section, least_place}
 use Rattle.xdp_object.proofs.Searches.{least_from-end, least_from-step}
