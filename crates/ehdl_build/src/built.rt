@@ -1,14 +1,17 @@
 //! From the bytes of an object to the bytes of a Verilog text.
 
-ghost use Rattle.std.specs.Prelude.{◌≡◌, ◌%◌, ◌^◌, ℤ, IfOk, IsErrOf, [], ◌∷◌};
+ghost use Rattle.std.specs.Prelude.{◌≡◌, ◌≢◌, ◌⊎◌, ◌%◌, ◌^◌, ℕ, IfErr, IfOk, IsErrOf};
 ghost use Rattle.std.specs.Int.{w64, cast_unsigned};
-ghost use Rattle.xdp_object.specs.Program.{IsObject, Listing, two_units};
-ghost use Rattle.ehdl_build.specs.Compiled.{Compiles};
+ghost use Rattle.std.specs.Option.{option_copied};
+ghost use Rattle.xdp_object.specs.declared.error.ObjectError.{ObjectError};
+ghost use Rattle.xdp_object.specs.Object.{FirstFault, IsObject};
+ghost use Rattle.ehdl_build.specs.declared.built.Why.{Why};
+ghost use Rattle.ehdl_build.specs.Compiled.{Compiles, FailsFor, IsRefused};
 
 use crate::station;
 use std::alloc::{AllocError, Global};
 use verilog_write::write_text;
-use xdp_object::{ObjError, Program, read_object};
+use xdp_object::{ObjectError, Program, read_object, two_units};
 
 /// What an object was compiled to.
 #[derive(Debug, Drop)]
@@ -17,12 +20,23 @@ pub struct Built {
     pub text: Vec<u8>,
 }
 
+/// Why a program is refused, by its number.
+#[derive(Clone, Copy, Debug, PartialEq, Eq)]
+pub enum Why {
+    /// An instruction that is not built.
+    Instruction = 1,
+}
+
 /// Why there is no text.
 #[derive(Clone, Copy, Debug, PartialEq, Eq, thiserror::Error)]
 pub enum CompileError {
-    #[error("not an object")]
-    Object,
-    #[error("no memory")]
+    /// The bytes are no object of one program: its first fault, which is never want of memory.
+    #[error("{0}")]
+    Object(ObjectError),
+    /// The program is refused at this place.
+    #[error("the program is refused at place {at}")]
+    Refused { at: u32, why: Why },
+    #[error("out of memory")]
     NoMemory,
 }
 
@@ -44,50 +58,43 @@ fn low_word(number: i64) -> u32
     (number.cast_unsigned() % (1 << 32)) as u32
 }
 
-// The verdict of a program of two units.
-fn verdict(program: &Program) -> u32
-    ensures { (k : ℤ) → program.now.insns ≡ two_units k → result ≡ cast_unsigned w64 k % 2 ^ 32 }
-{
-    match program.insns() {
-        [first, ..] => low_word(first.imm),
-        [] => 0,
-    }
-}
-
-// The same error.
-fn error_of(error: ObjError) -> CompileError
-    ensures { result ≡ CompileError.Object → error ≡ ObjError.Object }
+// The same error, with want of memory apart.
+fn error_of(error: ObjectError) -> CompileError
+    ensures { ((error ≡ ObjectError.NoMemory) × (result ≡ CompileError.NoMemory))
+        ⊎ ((error ≢ ObjectError.NoMemory) × (result ≡ CompileError.Object error)) }
 {
     match error {
-        ObjError::Object => CompileError::Object,
-        ObjError::NoMemory => CompileError::NoMemory,
+        ObjectError::NoMemory => CompileError::NoMemory,
+        fault => CompileError::Object(fault),
     }
 }
 
-// The program of an object.
-fn program_of(alloc: Global, bytes: &[u8]) -> Result<Program, CompileError>
-    ensures ok { IfOk result (λ p. IsObject bytes.now p) }
-    ensures object { IsErrOf result CompileError.Object → (p : Listing) → ¬ IsObject bytes.now p }
-{
-    match read_object(alloc, bytes) {
-        Ok(program) => Ok(program),
-        Err(error) => Err(error_of(error)),
-    }
-}
-
-/// Compiles an object. The text realizes the program: it spells a design that, clock by clock and under every pattern of
-/// offered and taken beats, answers frames as sequential execution of the program does, in the stated clocks.
+/// Compiles an object, by the name of its function if one is given. The text realizes the program: it spells a design that,
+/// clock by clock and under every pattern of offered and taken beats, answers frames as sequential execution of the program
+/// does, in the stated clocks.
 ///
-/// The only errors are that the bytes are no object, and want of memory.
-pub fn compile(alloc: Global, bytes: &[u8]) -> Result<Built, CompileError>
-    ensures ok { IfOk result (λ built. Compiles bytes.now built.text.items) }
-    ensures object { IsErrOf result CompileError.Object → (p : Listing) → ¬ IsObject bytes.now p }
+/// For now each program but `r0 = k`, `exit` is refused at its first place.
+pub fn compile(alloc: Global, bytes: &[u8], choice: Option<&[u8]>) -> Result<Built, CompileError>
+    ensures ok { IfOk result (λ built. Compiles (option_copied choice.entry) bytes.now built.text.items) }
+    ensures error { IfErr result (FailsFor (option_copied choice.entry) bytes.now) }
+
+    // Want of memory aside, each error comes wherever it is said to.
+    ensures object { (e : ObjectError) → FirstFault (option_copied choice.entry) bytes.now e
+        → IsErrOf result (CompileError.Object e) ⊎ IsErrOf result CompileError.NoMemory }
+    ensures refused { (at : ℕ) (why : Why) → IsRefused (option_copied choice.entry) bytes.now at why
+        → IsErrOf result (CompileError.Refused at why) ⊎ IsErrOf result CompileError.NoMemory }
 {
-    let program = match program_of(alloc, bytes) {
+    let program = match read_object(alloc, bytes, choice) {
         Ok(program) => program,
-        Err(error) => return Err(error),
+        Err(error) => return Err(error_of(error)),
     };
-    let design = station::design(alloc, verdict(&program))?;
+    let Some(number) = two_units(&program) else {
+        return Err(CompileError::Refused {
+            at: 0,
+            why: Why::Instruction,
+        });
+    };
+    let design = station::design(alloc, low_word(number))?;
     let text = write_text(alloc, &design)?;
     Ok(Built { text })
 }

@@ -6,4 +6,4 @@ mod station;
 #[cfg(test)]
 mod tests;
 
-pub use built::{Built, CompileError, compile};
+pub use built::{Built, CompileError, Why, compile};

@@ -1,1 +1,6 @@
-pub mod Units
+pub mod Layouts
+pub mod Opened
+pub mod Outcomes
+pub mod Reading
+pub mod Searches
+pub mod Strings

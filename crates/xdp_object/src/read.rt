@@ -1,108 +1,81 @@
 //! Objects.
 
-ghost use Rattle.std.specs.Prelude.{◌≡◌, IsTrue, ℤ, IfOk, IfSome, IsErrOf, Some};
-ghost use Rattle.xdp_object.specs.Program.{Listing, IsObject, IsTwoUnits, IsFirst, move_number, leave};
+ghost use Rattle.std.specs.Prelude.{◌≡◌, ◌≢◌, ◌≤◌, ◌%◌, ℕ, length, IfErr, IfOk, None};
+ghost use Rattle.std.specs.Option.{option_copied, option_or};
+ghost use Rattle.bpf_isa.specs.Text.{FirstBad, Spells};
+ghost use Rattle.elf_view.specs.File.{e_shstrndx};
+ghost use Rattle.elf_view.specs.Rules.{first_error};
+ghost use Rattle.xdp_object.specs.Object.{FailsAs, FirstFault, IsObject, too_long, wrong_elf};
 
+use crate::error::ObjectError;
+use crate::functions::{find_program, function_at};
 use crate::program::Program;
-use bpf_isa::{AluCode, Insn, Op, Src, Width, decode_one};
-use elf_view::sole_code;
-use std::alloc::{AllocError, Global};
+use crate::relocations::check_relocations;
+use bpf_isa::{DecodeError, Insn, decode_all};
+use byteorder::{ByteOrder, LittleEndian};
+use elf_view::ElfView;
+use std::alloc::Global;
 
-/// Why there is no program.
-#[derive(Clone, Copy, Debug, PartialEq, Eq, thiserror::Error)]
-pub enum ObjError {
-    #[error("not an object")]
-    Object,
-    #[error("no memory")]
-    NoMemory,
-}
+/// The most bytes that an object has.
+const MOST_BYTES: usize = 1048576;
 
-impl From<AllocError> for ObjError {
-    ghost use Rattle.std.specs.Prelude.{◌≡◌};
-    ghost use Rattle.xdp_object.specs.declared.read.ObjError.TheVariants.{NoMemory};
-
-    ghost from_gives = { λ _ e. e ≡ NoMemory };
-
-    fn from(_: AllocError) -> ObjError {
-        ObjError::NoMemory
-    }
-}
-
-const NAME: &str = "prog";
-
-// exit
-fn leave() -> Insn
-    ensures { result ≡ leave }
+/// Opens an object. It is an error that it is too long, and that it is no ELF64 object for eBPF.
+#[tactic(auto, unfolding(crate::specs::Object::too_long, crate::specs::Object::wrong_elf))]
+fn open(bytes: &[u8]) -> Result<ElfView<'_>, ObjectError>
+    ensures fault { FailsAs result (option_or (too_long bytes.now) (wrong_elf bytes.now)) }
+    ensures whole { IfOk result (λ view. view ≡ bytes.now) }
+    ensures opened { IfOk result (λ view. first_error view ≡ None) }
 {
-    Insn {
-        op: Op::Exit,
-        dst: 0,
-        src: 0,
-        offset: 0,
-        imm: 0,
+    if bytes.len() > MOST_BYTES {
+        return Err(ObjectError::Long);
+    }
+    match ElfView::open(bytes) {
+        Ok(view) => Ok(view),
+        Err(error) => Err(ObjectError::Elf(error)),
     }
 }
 
-// Whether an instruction is `r0 = number`, for its number.
-fn is_move(insn: Insn) -> bool
-    ensures yes { IsTrue result → insn ≡ move_number insn.imm }
-    ensures no { insn ≡ move_number insn.imm → IsTrue result }
+/// The number of the section that holds the names of the sections.
+#[tactic(auto, unfolding(elf_view::specs::Numbers::u16_at))]
+fn section_names(bytes: &[u8]) -> u32
+    requires { 64 ≤ length bytes.now }
+    ensures { result ≡ e_shstrndx bytes.now }
 {
-    match insn.op {
-        Op::Alu(Width::Bits64, AluCode::Mov, Src::K) => {
-            insn.dst == 0 && insn.src == 0 && insn.offset == 0
-        }
-        _ => false,
-    }
+    u32::from(LittleEndian::read_u16(&bytes[62..]))
 }
 
-// Whether an instruction is `exit`.
-fn is_leave(insn: Insn) -> bool
-    ensures yes { IsTrue result → insn ≡ leave }
-    ensures no { insn ≡ leave → IsTrue result }
+/// The instructions of whole units.
+fn decode(alloc: Global, code: &[u8]) -> Result<Vec<Insn>, ObjectError>
+    requires { length code.now % 8 ≡ 0 }
+    ensures ok { IfOk result (λ insns. Spells code.now insns.items) }
+    ensures bad { IfErr result (λ e. e ≢ ObjectError.NoMemory → (at : ℕ) × (e ≡ ObjectError.Bad at) × FirstBad code.now at) }
 {
-    match insn.op {
-        Op::Exit => insn.dst == 0 && insn.src == 0 && insn.offset == 0 && insn.imm == 0,
-        _ => false,
+    match decode_all(alloc, code) {
+        Ok(insns) => Ok(insns),
+        Err(DecodeError::Bad { at }) => Err(ObjectError::Bad { at }),
+        Err(DecodeError::Odd) => unreachable!(),
+        Err(DecodeError::NoMemory) => Err(ObjectError::NoMemory),
     }
 }
 
-// The first instruction of code that is `r0 = number` and `exit`.
-fn first_of_two(code: &[u8]) -> Option<Insn>
-    ensures found { IfSome result (λ i. IsFirst code.now i) }
-    ensures only { (k : ℤ) → IsTwoUnits code.now k → result ≡ Some (move_number k) }
-{
-    if code.len() != 16 {
-        return None;
-    }
-    let Ok((first, _)) = decode_one(code, 0) else {
-        return None;
-    };
-    let Ok((second, _)) = decode_one(code, 1) else {
-        return None;
-    };
-    if is_move(first) && is_leave(second) {
-        Some(first)
-    } else {
-        None
-    }
-}
-
-/// The program of an object.
+/// The program of an object: of the function of that name, or, with no name given, of the only function in a section whose
+/// name begins with `xdp`.
 ///
-/// For now there is one form of object: what `elf_view::object_of` writes for the function `prog`, no maps and the two
-/// units `r0 = k` and `exit`.
-pub fn read_object(alloc: Global, bytes: &[u8]) -> Result<Program, ObjError>
-    ensures ok { IfOk result (λ p. IsObject bytes.now p) }
-    ensures object { IsErrOf result ObjError.Object → (p : Listing) → ¬ IsObject bytes.now p }
+/// An error is the first fault of the object, or `NoMemory`. For now a program has no maps, and each relocation of the
+/// function is a fault.
+pub fn read_object(
+    alloc: Global,
+    bytes: &[u8],
+    choice: Option<&[u8]>,
+) -> Result<Program, ObjectError>
+    ensures program { IfOk result (λ p. IsObject (option_copied choice.entry) bytes.now p) }
+    ensures fault { IfErr result (λ e. e ≢ ObjectError.NoMemory → FirstFault (option_copied choice.entry) bytes.now e) }
 {
-    let Some(code) = sole_code(bytes, NAME) else {
-        return Err(ObjError::Object);
-    };
-    let Some(first) = first_of_two(code) else {
-        return Err(ObjError::Object);
-    };
-    let name = Vec::from_slice(alloc, NAME.as_bytes())?;
-    let insns = Vec::from_slice(alloc, &[first, leave()])?;
-    Ok(Program::new(name, insns))
+    let view = open(bytes)?;
+    let number = find_program(&view, section_names(bytes), choice)?;
+    let function = function_at(&view, number)?;
+    let insns = decode(alloc, function.code)?;
+    check_relocations(&view, &function.symbol)?;
+    let name = Vec::from_slice(alloc, function.name)?;
+    Ok(Program::new(name, insns, Vec::new(alloc), Vec::new(alloc)))
 }

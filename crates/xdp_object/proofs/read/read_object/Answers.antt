@@ -1,17 +1,69 @@
-use Rattle.std.specs.Prelude.{[], ◌∷◌}
-use Rattle.std.proofs.Common.{ap, ◌∙◌}
-use Rattle.bpf_isa.specs.declared.instruction.Insn.{Insn}
-use Rattle.xdp_object.specs.Program.{move_number}
+use Rattle.std.proofs.Common.{◌≢◌, ◌∙◌}
+use Rattle.std.specs.Option.{option_copied}
+use Rattle.xdp_object.specs.declared.error.ObjectError.TheVariants.{NoMemory}
+use Rattle.xdp_object.specs.Object.{FirstFault}
+use Rattle.xdp_object.proofs.Reading.{Sole, at_code, at_count, at_function, at_open, at_relocations, fault_of_view, has_code, is_object, object_of_view, opened_view, passed_on}
 use Rattle.xdp_object.proofs.read.read_object.Goals as goal
 
-pub returns-clause-ok : goal.returns-clause-ok
-returns-clause-ok c = record {
-  number = c.in-Some-first_of_two.first.imm;
-  code = c.in-Some.code.now;
-  units = c.in-Some-first_of_two.ensures.found.units;
-  name = c.new.ensures.name ∙ c.in_ok-name.ensures.items ∙ c.as_bytes.ensures.value;
-  insns = c.new.ensures.insns ∙ c.in_ok-insns.ensures.items
-      ∙ ap (λ (i : Insn). i ∷ c.leave.result ∷ []) c.in-Some-first_of_two.ensures.found.is
-      ∙ ap (λ (i : Insn). move_number c.in-Some-first_of_two.first.imm ∷ i ∷ []) c.leave.ensures;
-  layout = c.in-Some.ensures.found;
-}
+pub returns-in_err-view-clause-fault : goal.returns-in_err-view-clause-fault
+returns-in_err-view-clause-fault c =
+    let h : FirstFault (option_copied c.args.choice) c.args.bytes.now c.in_err-view.field-0.0 =
+    at_open (option_copied c.args.choice) c.args.bytes.now c.in_err-view.field-0.0 c.in_err-view.ensures.fault in
+    passed_on c.from_residual.result c.in_err-view.field-0.0 (λ e. e ≢ NoMemory → FirstFault (option_copied c.args.choice) c.args.bytes.now e) c.from_residual.ensures.1 (λ _. h)
+
+pub returns-in_err-number-clause-fault : goal.returns-in_err-number-clause-fault
+returns-in_err-number-clause-fault c =
+    let choice = option_copied c.args.choice in
+    let view = c.in_ok-view.view in
+    let e = c.in_err-number.field-0.0 in
+    let opened = opened_view c.args.bytes.now view c.in_ok-view.ensures.whole c.in_ok-view.ensures.fault in
+    let h = fault_of_view choice c.args.bytes.now view e c.in_ok-view.ensures.whole
+    (at_count choice view e opened c.in_err-number.ensures.fault) in
+    passed_on c.from_residual-in_err-number.result e (λ e. e ≢ NoMemory → FirstFault choice c.args.bytes.now e) c.from_residual-in_err-number.ensures.1 (λ _. h)
+
+pub returns-in_err-function-clause-fault : goal.returns-in_err-function-clause-fault
+returns-in_err-function-clause-fault c =
+    let choice = option_copied c.args.choice in
+    let view = c.in_ok-view.view in
+    let e = c.in_err-function.field-0.0 in
+    let sole : Sole choice view c.in_ok-number.number = record { opened = opened_view c.args.bytes.now view c.in_ok-view.ensures.whole c.in_ok-view.ensures.fault; sole = c.in_ok-number.ensures.found } in
+    let h = fault_of_view choice c.args.bytes.now view e c.in_ok-view.ensures.whole
+    (at_function choice view c.in_ok-number.number e sole c.in_err-function.ensures.fault) in
+    passed_on c.from_residual-in_err-function.result e (λ e. e ≢ NoMemory → FirstFault choice c.args.bytes.now e) c.from_residual-in_err-function.ensures.1 (λ _. h)
+
+pub returns-in_err-insns-clause-fault : goal.returns-in_err-insns-clause-fault
+returns-in_err-insns-clause-fault c =
+    let choice = option_copied c.args.choice in
+    let view = c.in_ok-view.view in
+    let e = c.in_err-insns.field-0.0 in
+    let f = c.in_ok-function.function in
+    let sole : Sole choice view c.in_ok-number.number = record { opened = opened_view c.args.bytes.now view c.in_ok-view.ensures.whole c.in_ok-view.ensures.fault; sole = c.in_ok-number.ensures.found } in
+    let code = has_code choice view c.in_ok-number.number f.symbol f.code.now sole c.in_ok-function.ensures.fault c.in_ok-function.ensures.symbol c.in_ok-function.ensures.code in
+    passed_on c.from_residual-in_err-insns.result e (λ e. e ≢ NoMemory → FirstFault choice c.args.bytes.now e) c.from_residual-in_err-insns.ensures.1
+    (λ other. fault_of_view choice c.args.bytes.now view e c.in_ok-view.ensures.whole
+    (at_code choice view f.symbol f.code.now e code (c.in_err-insns.ensures.bad other)))
+
+pub returns-in_err-check_relocations-clause-fault : goal.returns-in_err-check_relocations-clause-fault
+returns-in_err-check_relocations-clause-fault c =
+    let choice = option_copied c.args.choice in
+    let view = c.in_ok-view.view in
+    let e = c.in_err-check_relocations.field-0.0 in
+    let f = c.in_ok-function.function in
+    let sole : Sole choice view c.in_ok-number.number = record { opened = opened_view c.args.bytes.now view c.in_ok-view.ensures.whole c.in_ok-view.ensures.fault; sole = c.in_ok-number.ensures.found } in
+    let code = has_code choice view c.in_ok-number.number f.symbol f.code.now sole c.in_ok-function.ensures.fault c.in_ok-function.ensures.symbol c.in_ok-function.ensures.code in
+    passed_on c.from_residual-in_err-check_relocations.result e (λ e. e ≢ NoMemory → FirstFault choice c.args.bytes.now e) c.from_residual-in_err-check_relocations.ensures.1
+    (λ _. fault_of_view choice c.args.bytes.now view e c.in_ok-view.ensures.whole
+    (at_relocations choice view f.symbol f.code.now c.in_ok-insns.insns.items e code c.in_ok-insns.ensures.ok c.in_err-check_relocations.ensures))
+
+pub returns-clause-program : goal.returns-clause-program
+returns-clause-program c =
+    let choice = option_copied c.args.choice in
+    let view = c.in_ok-view.view in
+    let n = c.in_ok-number.number in
+    let f = c.in_ok-function.function in
+    let sole : Sole choice view n = record { opened = opened_view c.args.bytes.now view c.in_ok-view.ensures.whole c.in_ok-view.ensures.fault; sole = c.in_ok-number.ensures.found } in
+    let code = has_code choice view n f.symbol f.code.now sole c.in_ok-function.ensures.fault c.in_ok-function.ensures.symbol c.in_ok-function.ensures.code in
+    object_of_view choice c.args.bytes.now view c.new-3.result c.in_ok-view.ensures.whole
+    (is_object choice view n f.symbol f.code.now f.name.now c.in_ok-insns.insns.items c.new-3.result sole code
+    c.in_ok-function.ensures.name c.in_ok-insns.ensures.ok c.in_ok-check_relocations.ensures
+    (c.new-3.ensures.name ∙ c.in_ok-name.ensures.items) c.new-3.ensures.insns (c.new-3.ensures.decls ∙ c.new.ensures.items) (c.new-3.ensures.refs ∙ c.new-2.ensures.items))

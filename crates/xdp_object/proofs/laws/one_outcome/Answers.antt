@@ -1,0 +1,5 @@
+use Rattle.xdp_object.proofs.Outcomes.{one_outcome}
+use Rattle.xdp_object.proofs.laws.one_outcome.Goals as goal
+
+pub returns : goal.returns
+returns c = one_outcome

@@ -1,0 +1,5 @@
+use Rattle.xdp_object.proofs.Layouts.{reads_layout}
+use Rattle.xdp_object.proofs.laws.reads_layout.Goals as goal
+
+pub returns : goal.returns
+returns c = reads_layout
