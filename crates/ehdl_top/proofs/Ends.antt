@@ -20,8 +20,8 @@ use Rattle.ehdl_top.specs.Steps.{IsBuilt, RunsOn, outputs_of}
 use Rattle.ehdl_top.proofs.Inputs.{no_capture}
 
 -- what was compiled was there
-pub object_there : (tells : Bool) (held : Option (List ℕ)) (text : List ℕ) (b : IsBuilt tells held text) → IsTrue tells → HoldsObject held b.compiles.program
-object_there tells held text b told = record { bytes = b.bytes; there = b.there told; within = b.within; object = b.compiles.object }
+pub object_there : (tells : Bool) (held : Option (List ℕ)) (text : List ℕ) (b : IsBuilt tells held text) → IsTrue tells → HoldsObject held b.text_of.compiles.program
+object_there tells held text b told = record { bytes = b.bytes; there = b.there told; within = b.within; object = record { object = b.text_of.compiles.object; accepted = b.text_of.accepted } }
 
 -- a text that realizes a program is never unfit
 pub unfit : (insns : List Insn) (frames : List (List ℕ)) (r : Result (List Reply) Unanswered) → r ≡ Err Unfit → ¬ RunsOn insns frames r
@@ -47,16 +47,16 @@ pub answers_count : (insns : List Insn) (frames : List (List ℕ)) (answers : Li
 answers_count insns frames answers runs = runs_count insns (came_by IFINDEX frames) answers runs ∙ came_count IFINDEX frames
 
 pub outcome : (object capture : Option (List ℕ)) (tells : Bool) (text bytes : List ℕ) (b : IsBuilt tells object text) → IsTrue tells → capture ≡ Some bytes → length bytes ≤ CAPTURE_LIMIT
-    → (packets : List Packet) → IsCaptured bytes packets → (frames : List (List ℕ)) → frames ≡ frames_of packets → (answers : List Reply) → AreRuns b.compiles.program.insns (came_by IFINDEX frames) answers
+    → (packets : List Packet) → IsCaptured bytes packets → (frames : List (List ℕ)) → frames ≡ frames_of packets → (answers : List Reply) → AreRuns b.text_of.compiles.program.insns (came_by IFINDEX frames) answers
     → IsOutcome object capture (outputs_of text packets answers)
 outcome object capture tells text bytes b told there within packets captured frames are answers runs = record {
-  program = b.compiles.program;
+  program = b.text_of.compiles.program;
   held_object = object_there tells object text b told;
-  realizes = b.compiles.realizes;
+  realizes = b.text_of.compiles.realizes;
   packets = packets;
   held_capture = record { bytes = bytes; there = there; within = within; captured = captured };
   replies = answers;
-  runs = let P : List (List ℕ) → Type 0 = λ fs. AreRuns b.compiles.program.insns (came_by IFINDEX fs) answers in subst P are runs;
+  runs = let P : List (List ℕ) → Type 0 = λ fs. AreRuns b.text_of.compiles.program.insns (came_by IFINDEX fs) answers in subst P are runs;
   answer = refl;
   verdicts = refl;
   final_maps = refl;
@@ -77,7 +77,7 @@ fronts_from run o old mid new same fronts = record {
 -- the object is there, and the capture is none
 pub at_capture : (run : Names) (old : Holding) (tells : Bool) (text bytes : List ℕ) → IsBuilt tells (old run.object) text → IsTrue tells → old run.capture ≡ Some bytes → ((ps : List Packet) → ¬ IsCaptured bytes ps) → IsCaptureAtFault run old
 at_capture run old tells text bytes b told there none = record {
-  program = b.compiles.program;
+  program = b.text_of.compiles.program;
   object = object_there tells (old run.object) text b told;
   capture = no_capture (old run.capture) bytes there none;
 }
@@ -87,7 +87,7 @@ realizes_as insns text same e r = let P : List ℕ → Type 0 = λ t. Realizes t
 
 -- the same of parts that are held elsewhere
 pub outcome_as : (object capture : Option (List ℕ)) (tells : Bool) (text bytes content : List ℕ) (b : IsBuilt tells object text) → IsTrue tells → capture ≡ Some content → bytes ≡ content → length bytes ≤ CAPTURE_LIMIT
-    → (packets : List Rec) → IsCaptured bytes (map seen packets) → (frames : List (List ℕ)) → frames ≡ frames_of (map seen packets) → (answers : List Reply) → AreRuns b.compiles.program.insns (came_by IFINDEX frames) answers
+    → (packets : List Rec) → IsCaptured bytes (map seen packets) → (frames : List (List ℕ)) → frames ≡ frames_of (map seen packets) → (answers : List Reply) → AreRuns b.text_of.compiles.program.insns (came_by IFINDEX frames) answers
     → (text' : List ℕ) (packets' : List Rec) → text' ≡ text → packets' ≡ packets → IsOutcome object capture (outputs_of text' (map seen packets') answers)
 outcome_as object capture tells text bytes content b told there e within packets captured frames are answers runs text' packets' et ep =
     let o = outcome object capture tells text bytes b told (there ∙ ap Some (sym e)) within (map seen packets) captured frames are answers runs in

@@ -1,21 +1,21 @@
 -- Inputs that are in their forms, and those that are not.
 use Rattle.std.proofs.Common.{◌≡◌, ◌⊎◌, ℕ, ◌<◌, ◌≤◌, List, [], ◌∷◌, ◌++◌, length, Option, Some, None, refl, sym, ap, subst, ◌∙◌, arith, inl, inr}
 use Rattle.shelf_core.specs.Shelf.{IsLonger}
-use Rattle.xdp_object.specs.Program.{Listing, IsObject}
+use Rattle.xdp_object.specs.Program.{Listing}
 use Rattle.pcap_core.specs.Format.{Packet}
 use Rattle.ehdl_top.specs.declared.limits.TheConstants.{OBJECT_LIMIT, CAPTURE_LIMIT}
-use Rattle.ehdl_top.specs.Outcome.{IsCaptured, HoldsObject, HoldsCapture}
+use Rattle.ehdl_top.specs.Outcome.{IsBuildable, IsCaptured, HoldsObject, HoldsCapture}
 use Rattle.ehdl_top.specs.Top.{IsNoObject, IsNoCapture}
 
 -- two contents of one name are one
 one_content : (held : Option (List ℕ)) (a b : List ℕ) → held ≡ Some a → held ≡ Some b → a ≡ b
 one_content held a b there here = cc
 
-pub no_object : (held : Option (List ℕ)) (bytes : List ℕ) → held ≡ Some bytes → ((p : Listing) → ¬ IsObject bytes p) → IsNoObject held
+pub no_object : (held : Option (List ℕ)) (bytes : List ℕ) → held ≡ Some bytes → ((p : Listing) → ¬ IsBuildable bytes p) → IsNoObject held
 no_object held bytes there none = record {
   bytes = bytes;
   there = there;
-  not = λ p is. none p (let P : List ℕ → Type 0 = λ b. IsObject b p in subst P (one_content held is.bytes bytes is.there there) is.object);
+  not = λ p is. none p (let P : List ℕ → Type 0 = λ b. IsBuildable b p in subst P (one_content held is.bytes bytes is.there there) is.object);
 }
 
 pub long_object : (held : Option (List ℕ)) → IsLonger OBJECT_LIMIT held → IsNoObject held

@@ -8,3 +8,4 @@ pub mod Texts
 pub mod Written
 pub mod Ends
 pub mod Causes
+pub mod Built

@@ -1,12 +1,14 @@
 -- What a run is asked for: the bytes of its outputs, as sequential execution gives them on its inputs.
-use Rattle.std.specs.Prelude.{◌≡◌, ℕ, zero, suc, ◌≤◌, List, [], ◌∷◌, ◌++◌, length, map, Option, Some, slice_index_or}
+use Rattle.std.specs.Prelude.{◌≡◌, ℕ, zero, suc, ◌≤◌, List, [], ◌∷◌, ◌++◌, length, map, Option, Some, None, slice_index_or}
 use Rattle.std.specs.List.{AllByRecursion}
 use Rattle.pcap_core.specs.declared.order.Order.TheVariants.{Little}
 use Rattle.pcap_core.specs.Format.{Header, IsHeader, header_bytes, Packet, Record, IsRecord, record_bytes, packets_of, capture_bytes}
 use Rattle.net_core.specs.History.{Reply}
-use Rattle.xdp_object.specs.Program.{Listing, IsObject}
+use Rattle.xdp_object.specs.Program.{Listing}
+use Rattle.xdp_object.specs.Object.{IsObject}
+use Rattle.ehdl_build.specs.declared.built.Why.{Why}
 use Rattle.ehdl_build.specs.Realizes.{came_by}
-use Rattle.ehdl_build.specs.Compiled.{AreRuns, Realizes}
+use Rattle.ehdl_build.specs.Compiled.{AreRuns, FirstRefusal, Realizes}
 use Rattle.ehdl_top.specs.Line.{verdict_line_of}
 use Rattle.ehdl_top.specs.declared.limits.TheConstants.{OBJECT_LIMIT, CAPTURE_LIMIT, IFINDEX}
 
@@ -26,12 +28,17 @@ pub record IsCaptured (bytes : List ℕ) (packets : List Packet) : Type 0 where
   pub spelling : bytes ≡ capture_bytes header records
   pub in_order : packets ≡ packets_of records
 
+-- The bytes are an object of this program, which is one that is built.
+pub record IsBuildable (bytes : List ℕ) (program : Listing) : Type 0 where
+  pub object : IsObject None bytes program
+  pub accepted : (at : ℕ) (why : Why) → ¬ FirstRefusal program.insns at why
+
 -- a name holds an object of this program
 pub record HoldsObject (held : Option (List ℕ)) (program : Listing) : Type 0 where
   pub bytes : List ℕ
   pub there : held ≡ Some bytes
   pub within : length bytes ≤ OBJECT_LIMIT
-  pub object : IsObject bytes program
+  pub object : IsBuildable bytes program
 
 -- a name holds a capture of these packets
 pub record HoldsCapture (held : Option (List ℕ)) (packets : List Packet) : Type 0 where

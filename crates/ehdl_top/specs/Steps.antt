@@ -1,12 +1,13 @@
 -- What the steps of a run give each other.
-use Rattle.std.specs.Prelude.{◌≡◌, ◌≢◌, ◌⊎◌, ℕ, ◌≤◌, Bool, IsTrue, List, [], length, Option, Some, Result, Ok, Err}
+use Rattle.std.specs.Prelude.{◌≡◌, ◌≢◌, ◌⊎◌, ℕ, ◌≤◌, Bool, IsTrue, List, [], length, Option, Some, None, Result, Ok, Err}
 use Rattle.bpf_isa.specs.declared.instruction.Insn.{Insn}
 use Rattle.pcap_core.specs.declared.record.Rec.{Rec}
 use Rattle.pcap_core.specs.Format.{Packet, IsLength}
 use Rattle.shelf_core.specs.Shelf.{Holding, Counts, Rose, HoldsFront}
 use Rattle.net_core.specs.History.{Reply}
+use Rattle.ehdl_build.specs.declared.built.Why.{Why}
 use Rattle.ehdl_build.specs.Realizes.{came_by}
-use Rattle.ehdl_build.specs.Compiled.{AreRuns, Compiles, Realizes}
+use Rattle.ehdl_build.specs.Compiled.{AreRuns, Compiles, FirstRefusal}
 use Rattle.ehdl_top.specs.declared.limits.TheConstants.{OBJECT_LIMIT, IFINDEX}
 use Rattle.ehdl_top.specs.Output.{KeepsOrHoldsFront}
 use Rattle.ehdl_top.specs.Outcome.{Outputs, answer_bytes, verdict_lines}
@@ -16,11 +17,16 @@ use Rattle.ehdl_top.specs.declared.stop.Stop.TheVariants as stop
 use Rattle.ehdl_top.specs.declared.simulate.Unanswered.{Unanswered}
 use Rattle.ehdl_top.specs.declared.simulate.Unanswered.TheVariants.{Unfit, NoMemory}
 
+-- the text of an object whose program is built
+pub record IsTextOf (bytes text : List ℕ) : Type 0 where
+  pub compiles : Compiles None bytes text
+  pub accepted : (at : ℕ) (why : Why) → ¬ FirstRefusal compiles.program.insns at why
+
 -- a text to which an object was compiled: the one that the name holds, where that is told
 pub record IsBuilt (tells : Bool) (held : Option (List ℕ)) (text : List ℕ) : Type 0 where
   pub bytes : List ℕ
   pub within : length bytes ≤ OBJECT_LIMIT
-  pub compiles : Compiles bytes text
+  pub text_of : IsTextOf bytes text
   pub there : IsTrue tells → held ≡ Some bytes
 
 -- a record with as many bytes as a frame may have

@@ -3,7 +3,9 @@
 ghost use Rattle.std.specs.Prelude.{◌≡◌, IfOk, IsErrOf, IsTrue};
 ghost use Rattle.shelf_core.specs.Shelf.{Rose, NoneFell, SameHeld};
 ghost use Rattle.ehdl_top.specs.Top.{IsNoObject};
-ghost use Rattle.ehdl_top.specs.Steps.{IsBuilt};
+ghost use Rattle.xdp_object.specs.Program.{Listing};
+ghost use Rattle.ehdl_top.specs.Outcome.{IsBuildable};
+ghost use Rattle.ehdl_top.specs.Steps.{IsBuilt, IsTextOf};
 
 use crate::fetch::fetched;
 use crate::limits::OBJECT_LIMIT;
@@ -26,9 +28,19 @@ pub(crate) fn built<S: Shelf>(alloc: Global, shelf: &mut S, name: &str) -> Resul
         Ok(object) => object,
         Err(unread) => return Err(unread),
     };
-    match compile(alloc, &object) {
+    text_of(alloc, &object)
+}
+
+// The Verilog text of an object. For now there is one form of program.
+fn text_of(alloc: Global, object: &[u8]) -> Result<Vec<u8>, Unread>
+    ensures ok { IfOk result (λ text. IsTextOf object.now text.items) }
+    ensures form { IsErrOf result Unread.Form → (program : Listing) → ¬ IsBuildable object.now program }
+    ensures read { ¬ IsErrOf result Unread.ReadFault }
+{
+    match compile(alloc, object, None) {
         Ok(built) => Ok(built.text),
-        Err(CompileError::Object) => Err(Unread::Form),
+        Err(CompileError::Object(_fault)) => Err(Unread::Form),
+        Err(CompileError::Refused { at: _, why: _ }) => Err(Unread::Form),
         Err(CompileError::NoMemory) => Err(Unread::NoMemory),
     }
 }

@@ -17,19 +17,19 @@ returns-in-Err-Form-captured-clause-capture g c = λ is told.
 pub unreachable-requires : goal.unreachable-requires
 unreachable-requires g c =
     let b = c.in-Ok.ensures.ok in
-    unfit b.compiles.program.insns c.deref-4.result.now c.answers_of.result (c.in-Err-Unfit.is ∙ ap Err c.in-Err-Unfit.field-0-is) (c.answers_of.ensures b.compiles.program.insns (realizes_as b.compiles.program.insns c.in-Ok.text.items c.deref-3.result.now c.deref-3.ensures.value b.compiles.realizes))
+    unfit b.text_of.compiles.program.insns c.deref-4.result.now c.answers_of.result (c.in-Err-Unfit.is ∙ ap Err c.in-Err-Unfit.field-0-is) (c.answers_of.ensures b.text_of.compiles.program.insns (realizes_as b.text_of.compiles.program.insns c.in-Ok.text.items c.deref-3.result.now c.deref-3.ensures.value b.text_of.compiles.realizes))
 
 pub write_outputs-requires-clause-many : goal.write_outputs-requires-clause-many
 write_outputs-requires-clause-many g c =
     let b = c.in-Ok.ensures.ok in
-    let runs = answered b.compiles.program.insns c.deref-4.result.now c.answers_of.result c.in-Ok-answers_of.answers c.in-Ok-answers_of.is (c.answers_of.ensures b.compiles.program.insns (realizes_as b.compiles.program.insns c.in-Ok.text.items c.deref-3.result.now c.deref-3.ensures.value b.compiles.realizes)) in
-    answers_count b.compiles.program.insns c.deref-4.result.now c.in-Ok-answers_of.answers runs ∙ ap length c.deref-4.ensures.value ∙ c.in-Ok-frames_to_offer.ensures.many ∙ ap length (c.deref-2.ensures.value ∙ sym c.deref-6.ensures.value)
+    let runs = answered b.text_of.compiles.program.insns c.deref-4.result.now c.answers_of.result c.in-Ok-answers_of.answers c.in-Ok-answers_of.is (c.answers_of.ensures b.text_of.compiles.program.insns (realizes_as b.text_of.compiles.program.insns c.in-Ok.text.items c.deref-3.result.now c.deref-3.ensures.value b.text_of.compiles.realizes)) in
+    answers_count b.text_of.compiles.program.insns c.deref-4.result.now c.in-Ok-answers_of.answers runs ∙ ap length c.deref-4.ensures.value ∙ c.in-Ok-frames_to_offer.ensures.many ∙ ap length (c.deref-2.ensures.value ∙ sym c.deref-6.ensures.value)
 
 pub returns-in-Ok-write_outputs-clause-done : goal.returns-in-Ok-write_outputs-clause-done
 returns-in-Ok-write_outputs-clause-done g c = λ told.
     let tells : IsTrue (g.S.Shelf.tells c.built.new.shelf) = search rules in
     let b = c.in-Ok.ensures.ok in
-    let runs = answered b.compiles.program.insns c.deref-4.result.now c.answers_of.result c.in-Ok-answers_of.answers c.in-Ok-answers_of.is (c.answers_of.ensures b.compiles.program.insns (realizes_as b.compiles.program.insns c.in-Ok.text.items c.deref-3.result.now c.deref-3.ensures.value b.compiles.realizes)) in
+    let runs = answered b.text_of.compiles.program.insns c.deref-4.result.now c.answers_of.result c.in-Ok-answers_of.answers c.in-Ok-answers_of.is (c.answers_of.ensures b.text_of.compiles.program.insns (realizes_as b.text_of.compiles.program.insns c.in-Ok.text.items c.deref-3.result.now c.deref-3.ensures.value b.text_of.compiles.realizes)) in
     let o = outcome_as (g.S.Shelf.held c.args.shelf.now c.args.run.now.object.now) (g.S.Shelf.held c.args.shelf.now c.args.run.now.capture.now) (g.S.Shelf.tells c.args.shelf.now) c.in-Ok.text.items c.deref.result.now c.in-Ok-fetched.capture.items b told
     (sym (c.built.ensures.held.each c.args.run.now.capture.now) ∙ c.in-Ok-fetched.ensures.whole tells) c.deref.ensures.value (omega (arith, c.deref.ensures.len, c.in-Ok-fetched.ensures.within))
     c.in-Ok-captured.packets.items c.in-Ok-captured.ensures.ok c.deref-4.result.now
@@ -42,7 +42,7 @@ pub returns-in-Err-Failed-clause-broken : goal.returns-in-Err-Failed-clause-brok
 returns-in-Err-Failed-clause-broken g c = λ told.
     let tells : IsTrue (g.S.Shelf.tells c.built.new.shelf) = search rules in
     let b = c.in-Ok.ensures.ok in
-    let runs = answered b.compiles.program.insns c.deref-4.result.now c.answers_of.result c.in-Ok-answers_of.answers c.in-Ok-answers_of.is (c.answers_of.ensures b.compiles.program.insns (realizes_as b.compiles.program.insns c.in-Ok.text.items c.deref-3.result.now c.deref-3.ensures.value b.compiles.realizes)) in
+    let runs = answered b.text_of.compiles.program.insns c.deref-4.result.now c.answers_of.result c.in-Ok-answers_of.answers c.in-Ok-answers_of.is (c.answers_of.ensures b.text_of.compiles.program.insns (realizes_as b.text_of.compiles.program.insns c.in-Ok.text.items c.deref-3.result.now c.deref-3.ensures.value b.text_of.compiles.realizes)) in
     let o = outcome_as (g.S.Shelf.held c.args.shelf.now c.args.run.now.object.now) (g.S.Shelf.held c.args.shelf.now c.args.run.now.capture.now) (g.S.Shelf.tells c.args.shelf.now) c.in-Ok.text.items c.deref.result.now c.in-Ok-fetched.capture.items b told
     (sym (c.built.ensures.held.each c.args.run.now.capture.now) ∙ c.in-Ok-fetched.ensures.whole tells) c.deref.ensures.value (omega (arith, c.deref.ensures.len, c.in-Ok-fetched.ensures.within))
     c.in-Ok-captured.packets.items c.in-Ok-captured.ensures.ok c.deref-4.result.now
@@ -59,7 +59,7 @@ pub returns-clause-broken : goal.returns-clause-broken
 returns-clause-broken g c = λ told.
     let tells : IsTrue (g.S.Shelf.tells c.built.new.shelf) = search rules in
     let b = c.in-Ok.ensures.ok in
-    let runs = answered b.compiles.program.insns c.deref-4.result.now c.answers_of.result c.in-Ok-answers_of.answers c.in-Ok-answers_of.is (c.answers_of.ensures b.compiles.program.insns (realizes_as b.compiles.program.insns c.in-Ok.text.items c.deref-3.result.now c.deref-3.ensures.value b.compiles.realizes)) in
+    let runs = answered b.text_of.compiles.program.insns c.deref-4.result.now c.answers_of.result c.in-Ok-answers_of.answers c.in-Ok-answers_of.is (c.answers_of.ensures b.text_of.compiles.program.insns (realizes_as b.text_of.compiles.program.insns c.in-Ok.text.items c.deref-3.result.now c.deref-3.ensures.value b.text_of.compiles.realizes)) in
     let o = outcome_as (g.S.Shelf.held c.args.shelf.now c.args.run.now.object.now) (g.S.Shelf.held c.args.shelf.now c.args.run.now.capture.now) (g.S.Shelf.tells c.args.shelf.now) c.in-Ok.text.items c.deref.result.now c.in-Ok-fetched.capture.items b told
     (sym (c.built.ensures.held.each c.args.run.now.capture.now) ∙ c.in-Ok-fetched.ensures.whole tells) c.deref.ensures.value (omega (arith, c.deref.ensures.len, c.in-Ok-fetched.ensures.within))
     c.in-Ok-captured.packets.items c.in-Ok-captured.ensures.ok c.deref-4.result.now
