@@ -1,2 +1,12 @@
 pub mod Program
 pub mod Machine
+pub mod Values
+pub mod State
+pub mod Arithmetic
+pub mod Pointers
+pub mod Memory
+pub mod Atomics
+pub mod Helpers
+pub mod Step
+pub mod Runs
+pub mod Touched

@@ -1,0 +1,65 @@
+-- Atomic changes of a number in an entry: RFC 9669, section 5.3.
+use Rattle.std.specs.Prelude.{ℕ, ℤ, pos, ◌+◌, ◌-◌, ◌%◌, ◌+ℤ◌, ◌==◌, Bool, true, false, if◌then◌else◌, Option, Some, None, List, slice_get}
+use Rattle.bpf_isa.specs.declared.operation.Size.{Size}
+use Rattle.bpf_isa.specs.declared.operation.Size.TheVariants.{W, Dw}
+use Rattle.bpf_isa.specs.declared.instruction.Insn.{Insn}
+use Rattle.std.specs.Int.{w64, cast_unsigned}
+use Rattle.xdp_maps.specs.declared.change.ChangeKind.{ChangeKind}
+use Rattle.xdp_maps.specs.declared.change.ChangeKind.TheVariants.{Add, Or, And, Xor, Xchg, Cmpxchg}
+use Rattle.xdp_maps.specs.declared.change.Change.{Change}
+use Rattle.xdp_maps.specs.State.{contents_at, with_contents}
+use Rattle.xdp_maps.specs.Calls.{number_before, changed}
+use Rattle.xdp_object.specs.Values.{Value, Unset, Number, Packet, Stack, Context, Map, Entry, number_in, ◌>>=◌}
+use Rattle.xdp_object.specs.State.{Machine, register, put}
+use Rattle.xdp_object.specs.Memory.{bytes_in, aligned}
+
+-- FETCH, which is added to the other codes
+abbrev pub fetches : ℕ → Bool
+fetches code = code % 2 == 1
+
+abbrev pub kind_of : ℕ → Option ChangeKind
+kind_of code =
+    if code - code % 2 == 0x00 then Some Add else
+    if code - code % 2 == 0x40 then Some Or else
+    if code - code % 2 == 0x50 then Some And else
+    if code - code % 2 == 0xa0 then Some Xor else
+    if code - code % 2 == 0xe0 then Some Xchg else
+    if code - code % 2 == 0xf0 then Some Cmpxchg else
+    None
+
+-- whether four or eight bytes are changed
+abbrev pub wide_of : Size → Option Bool
+wide_of W = Some false
+wide_of Dw = Some true
+wide_of size = None
+
+-- what CMPXCHG compares with: R0
+abbrev pub comparand : Machine → ChangeKind → Option ℕ
+comparand m Cmpxchg = number_in (register m 0)
+comparand m kind = Some 0
+
+-- the change that an instruction makes
+abbrev pub change_of : Machine → Insn → Size → Option Change
+change_of m i size =
+    wide_of size >>= λ wide.
+    kind_of (cast_unsigned w64 i.imm) >>= λ kind.
+    number_in (register m i.src) >>= λ source.
+    comparand m kind >>= λ compare.
+    Some (record { kind = kind; wide = wide; source = source; compare = compare })
+
+-- where the old number goes: with FETCH into the source, for CMPXCHG into R0
+abbrev pub taking : ChangeKind → Insn → ℕ → Machine → Option Machine
+taking Cmpxchg i old m = put 0 (Number old) m
+taking kind i old m = if fetches (cast_unsigned w64 i.imm) then put i.src (Number old) m else Some m
+
+-- the machine after a change of a number at an offset from a pointer
+abbrev pub changed_at : Machine → Insn → Size → Value → ℤ → Change → Option Machine
+changed_at m i size (Entry q key o) offset x =
+    slice_get m.maps.decls q >>= λ d.
+    aligned (o +ℤ offset) (bytes_in size) d.value >>= λ a.
+    number_before (contents_at m.maps q) key a x >>= λ old.
+    taking x.kind i old (record m { maps = with_contents m.maps q (changed (contents_at m.maps q) key a x) })
+changed_at m i size base offset x = None
+
+abbrev pub atomic : Machine → Insn → Size → Option Machine
+atomic m i size = change_of m i size >>= changed_at m i size (register m i.dst) i.offset

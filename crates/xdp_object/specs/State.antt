@@ -1,0 +1,52 @@
+-- The state of the machine (RFC 9669, section 2; linux/bpf.h, struct xdp_md).
+use Rattle.std.specs.Prelude.{ℕ, ℤ, pos, ◌==◌, List, [], ◌∷◌, get_or, replicate, slice_set, Bool, is_some, Option, Some, None, if◌then◌else◌}
+use Rattle.std.specs.List.{list_any}
+use Rattle.bpf_isa.specs.declared.instruction.Insn.{Insn}
+use Rattle.bpf_isa.specs.Text.{insn_at}
+use Rattle.xdp_maps.specs.State.{MapState}
+use Rattle.xdp_object.specs.Values.{Value, Unset, Number, Context, Stack}
+
+-- what is run: instructions, and the places at which a number of 64 bits is a map
+pub record Code : Type 0 where
+  pub insns : List Insn
+  pub refs : List ℕ
+
+pub record Machine : Type 0 where
+  -- R0 to R10
+  pub registers : List Value
+  -- 64 slots of eight bytes, each a number with its low byte first, or one pointer
+  pub stack : List Value
+  pub frame : List ℕ
+  -- the interface that the frame came in by
+  pub ifindex : ℕ
+  pub maps : MapState
+  -- the interface that a redirect recorded, or 0
+  pub target : ℕ
+  -- the unit with which the next instruction begins
+  pub place : ℕ
+
+-- R1 is the context and R10 the end of the stack, which is zeros
+abbrev pub start : List ℕ → ℕ → MapState → Machine
+start frame ifindex maps = record {
+  registers = Unset ∷ Context ∷ Unset ∷ Unset ∷ Unset ∷ Unset ∷ Unset ∷ Unset ∷ Unset ∷ Unset ∷ Stack (pos 0) ∷ [];
+  stack = replicate 64 (Number 0);
+  frame = frame;
+  ifindex = ifindex;
+  maps = maps;
+  target = 0;
+  place = 0;
+}
+
+abbrev pub register : Machine → ℕ → Value
+register m r = get_or m.registers r Unset
+
+-- a value goes into a register; R10 is not written
+abbrev pub put : ℕ → Value → Machine → Option Machine
+put r v m = if r == 10 then None else Some (record m { registers = slice_set m.registers r v })
+
+-- whether an instruction begins at a place
+abbrev pub begins : Code → ℕ → Bool
+begins code place = is_some (insn_at code.insns place)
+
+abbrev pub is_map : Code → ℕ → Bool
+is_map code place = list_any (λ r. r == place) code.refs
