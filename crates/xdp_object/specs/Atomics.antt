@@ -1,5 +1,5 @@
 -- Atomic changes of a number in an entry: RFC 9669, section 5.3.
-use Rattle.std.specs.Prelude.{ℕ, ℤ, pos, ◌+◌, ◌-◌, ◌%◌, ◌+ℤ◌, ◌==◌, Bool, true, false, if◌then◌else◌, Option, Some, None, List, slice_get}
+use Rattle.std.specs.Prelude.{ℕ, ℤ, ◌-◌, ◌%◌, ◌+ℤ◌, ◌==◌, Bool, true, false, if◌then◌else◌, Option, Some, None, slice_get}
 use Rattle.bpf_isa.specs.declared.operation.Size.{Size}
 use Rattle.bpf_isa.specs.declared.operation.Size.TheVariants.{W, Dw}
 use Rattle.bpf_isa.specs.declared.instruction.Insn.{Insn}
@@ -9,7 +9,7 @@ use Rattle.xdp_maps.specs.declared.change.ChangeKind.TheVariants.{Add, Or, And, 
 use Rattle.xdp_maps.specs.declared.change.Change.{Change}
 use Rattle.xdp_maps.specs.State.{contents_at, with_contents}
 use Rattle.xdp_maps.specs.Calls.{number_before, changed}
-use Rattle.xdp_object.specs.Values.{Value, Unset, Number, Packet, Stack, Context, Map, Entry, number_in, ◌>>=◌}
+use Rattle.xdp_object.specs.Values.{Value, Number, Entry, number_in, ◌>>=◌}
 use Rattle.xdp_object.specs.State.{Machine, register, put}
 use Rattle.xdp_object.specs.Memory.{bytes_in, aligned}
 

@@ -1,12 +1,12 @@
 -- Calls of helpers (bpf-helpers(7)), by their numbers: bpf_map_lookup_elem 1, bpf_map_update_elem 2, bpf_map_delete_elem 3,
 -- bpf_redirect 23.
-use Rattle.std.specs.Prelude.{ℕ, zero, suc, ℤ, pos, ◌+◌, ◌/◌, ◌%◌, ◌^◌, ◌+ℤ◌, ◌==◌, if◌then◌else◌, is_some, Option, Some, None, List, [], ◌∷◌, length, drop, get_or, slice_get, slice_index, slice_range}
+use Rattle.std.specs.Prelude.{ℕ, zero, suc, pos, ◌+◌, ◌/◌, ◌%◌, ◌^◌, ◌+ℤ◌, ◌==◌, if◌then◌else◌, is_some, Option, Some, None, List, [], ◌∷◌, length, drop, get_or, slice_get, slice_index, slice_range}
 use Rattle.std.specs.Int.{w64, cast_unsigned}
 use Rattle.byteorder.specs.Endian.{little_bytes}
 use Rattle.xdp_maps.specs.Contents.{Contents}
 use Rattle.xdp_maps.specs.State.{contents_at, with_contents}
 use Rattle.xdp_maps.specs.Calls.{lookup_of, update_number, updated, delete_number, deleted}
-use Rattle.xdp_object.specs.Values.{Value, Unset, Number, Packet, Stack, Context, Map, Entry, number_in, map_in, ◌>>=◌}
+use Rattle.xdp_object.specs.Values.{Value, Unset, Number, Packet, Stack, Entry, number_in, map_in, ◌>>=◌}
 use Rattle.xdp_object.specs.State.{Machine, register}
 use Rattle.xdp_object.specs.Memory.{inside}
 

@@ -7,7 +7,7 @@ use Rattle.bpf_isa.specs.declared.operation.Size.TheVariants.{B, H, W, Dw}
 use Rattle.bits_core.specs.Bits.{sext_of}
 use Rattle.xdp_maps.specs.State.{MapState, contents_at, with_contents}
 use Rattle.xdp_maps.specs.Calls.{lookup_of, patched, stored as entry_stored}
-use Rattle.xdp_object.specs.Values.{Value, Unset, Number, Packet, Stack, Context, Map, Entry, held, number_in, ◌>>=◌}
+use Rattle.xdp_object.specs.Values.{Value, Unset, Number, Packet, Stack, Context, Entry, held, number_in, ◌>>=◌}
 use Rattle.xdp_object.specs.State.{Machine}
 
 abbrev pub bytes_in : Size → ℕ

@@ -1,15 +1,15 @@
 -- Arithmetic and conditions on values, pointers among them.
-use Rattle.std.specs.Prelude.{ℕ, zero, ℤ, pos, negsuc, ◌+◌, ◌-◌, ◌^◌, ◌+ℤ◌, ◌-ℤ◌, neg_ℤ, ◌==◌, int_lt, int_le, Bool, true, false, ◌&&◌, if◌then◌else◌, Option, Some, None, unsigned_abs}
+use Rattle.std.specs.Prelude.{ℕ, zero, ℤ, pos, negsuc, ◌-◌, ◌^◌, ◌+ℤ◌, ◌-ℤ◌, neg_ℤ, int_lt, int_le, Bool, true, false, ◌&&◌, if◌then◌else◌, Option, Some, None, unsigned_abs}
 use Rattle.std.specs.Int.{w64, cast_unsigned}
 use Rattle.std.specs.Ordering.{int_eq}
 use Rattle.bpf_isa.specs.declared.operation.Width.{Width}
-use Rattle.bpf_isa.specs.declared.operation.Width.TheVariants.{Bits32, Bits64}
+use Rattle.bpf_isa.specs.declared.operation.Width.TheVariants.{Bits64}
 use Rattle.bpf_isa.specs.declared.operation.AluCode.{AluCode}
 use Rattle.bpf_isa.specs.declared.operation.AluCode.TheVariants.{Add, Sub, Mov}
 use Rattle.bpf_isa.specs.declared.operation.JumpCode.{JumpCode}
 use Rattle.bpf_isa.specs.declared.operation.JumpCode.TheVariants.{Jeq, Jgt, Jge, Jne, Jlt, Jle}
 use Rattle.bits_core.specs.Bits.{signed_of}
-use Rattle.xdp_object.specs.Values.{Value, Unset, Number, Packet, Stack, Context, Map, Entry, held, number_in, ◌>>=◌}
+use Rattle.xdp_object.specs.Values.{Value, Number, Packet, Stack, Entry, held, number_in, ◌>>=◌}
 use Rattle.xdp_object.specs.Arithmetic.{bits_in, low, arithmetic, extended, holds}
 
 -- a pointer at an offset of 64 bits

@@ -1,5 +1,5 @@
 -- The state of the machine (RFC 9669, section 2; linux/bpf.h, struct xdp_md).
-use Rattle.std.specs.Prelude.{ℕ, ℤ, pos, ◌==◌, List, [], ◌∷◌, get_or, replicate, slice_set, Bool, is_some, Option, Some, None, if◌then◌else◌}
+use Rattle.std.specs.Prelude.{ℕ, pos, ◌==◌, List, [], ◌∷◌, get_or, replicate, slice_set, Bool, is_some, Option, Some, None, if◌then◌else◌}
 use Rattle.std.specs.List.{list_any}
 use Rattle.bpf_isa.specs.declared.instruction.Insn.{Insn}
 use Rattle.bpf_isa.specs.Text.{insn_at}

@@ -1,16 +1,16 @@
 -- One instruction of the sequential machine: RFC 9669, sections 4 and 5.
-use Rattle.std.specs.Prelude.{ℕ, ℤ, pos, negsuc, ◌+◌, ◌%◌, ◌^◌, ◌+ℤ◌, ◌==◌, Bool, if◌then◌else◌, Option, Some, None, List, unsigned_abs}
+use Rattle.std.specs.Prelude.{ℕ, ℤ, pos, negsuc, ◌+◌, ◌+ℤ◌, ◌==◌, Bool, if◌then◌else◌, Option, Some, None, unsigned_abs}
 use Rattle.std.specs.Int.{w64, cast_unsigned}
 use Rattle.bpf_isa.specs.declared.operation.Src.{Src}
 use Rattle.bpf_isa.specs.declared.operation.Src.TheVariants.{K, X}
 use Rattle.bpf_isa.specs.declared.operation.Width.TheVariants.{Bits32, Bits64}
 use Rattle.bpf_isa.specs.declared.operation.Op.{Op}
-use Rattle.bpf_isa.specs.declared.operation.Op.TheVariants.{Alu, Neg, End, Swap, Ja, Jump, Call, Exit, LoadImm, Abs, Ind, Load, LoadSigned, StoreImm, Store, Atomic}
+use Rattle.bpf_isa.specs.declared.operation.Op.TheVariants.{Alu, Neg, End, Swap, Ja, Jump, Call, Exit, LoadImm, Load, LoadSigned, StoreImm, Store, Atomic}
 use Rattle.bpf_isa.specs.declared.instruction.Insn.{Insn}
 use Rattle.bpf_isa.specs.Spelling.{units_of}
 use Rattle.bpf_isa.specs.Text.{insn_at}
 use Rattle.bits_core.specs.Bits.{swap_of}
-use Rattle.xdp_object.specs.Values.{Value, Unset, Number, Map, number_in, ◌>>=◌}
+use Rattle.xdp_object.specs.Values.{Value, Number, Map, number_in, ◌>>=◌}
 use Rattle.xdp_object.specs.State.{Code, Machine, register, put, begins, is_map}
 use Rattle.xdp_object.specs.Arithmetic.{bits_in, low, negated, ordered}
 use Rattle.xdp_object.specs.Pointers.{combined, compared}

@@ -1,5 +1,5 @@
 -- The resources of the maps that a run reads and writes.
-use Rattle.std.specs.Prelude.{ℕ, zero, suc, ℤ, pos, ◌≡◌, ◌==◌, nat_lt, nat_le, Bool, true, false, ◌&&◌, not, if◌then◌else◌, is_some, Option, Some, None, List, [], ◌∷◌, ◌++◌, slice_get, Contains}
+use Rattle.std.specs.Prelude.{ℕ, zero, suc, ℤ, pos, ◌==◌, nat_lt, Bool, true, false, ◌&&◌, not, if◌then◌else◌, is_some, Option, Some, None, List, [], ◌∷◌, ◌++◌, slice_get, Contains}
 use Rattle.std.specs.Int.{w64, cast_unsigned}
 use Rattle.std.specs.Ordering.{int_eq}
 use Rattle.bpf_isa.specs.declared.operation.Op.{Op}
@@ -10,10 +10,10 @@ use Rattle.xdp_maps.specs.declared.decl.MapKind.{MapKind}
 use Rattle.xdp_maps.specs.declared.decl.MapKind.TheVariants.{Hash, Array}
 use Rattle.xdp_maps.specs.declared.decl.MapDecl.{MapDecl}
 use Rattle.xdp_maps.specs.Contents.{Contents}
-use Rattle.xdp_maps.specs.State.{MapState, contents_at}
+use Rattle.xdp_maps.specs.State.{contents_at}
 use Rattle.xdp_maps.specs.Calls.{lookup_of, update_number, delete_number}
 use Rattle.xdp_object.specs.Values.{Value, Entry, number_in, map_in, ◌>>=◌}
-use Rattle.xdp_object.specs.State.{Code, Machine, register, start}
+use Rattle.xdp_object.specs.State.{Code, Machine, register}
 use Rattle.xdp_object.specs.Atomics.{fetches}
 use Rattle.xdp_object.specs.Helpers.{region}
 use Rattle.xdp_object.specs.Step.{Outcome, Goes, Ends, NoCase, step}
@@ -115,15 +115,16 @@ touched_by code m = or_nothing (insn_at code.insns m.place >>= λ i. touched_as 
 abbrev pub both : Touch → Touch → Touch
 both a b = record { reads = a.reads ++ b.reads; writes = a.writes ++ b.writes }
 
+-- what a step that leads on touched, and what follows
+abbrev pub and_then : Touch → (Machine → Touch) → Outcome → Touch
+and_then t more (Goes next) = both t (more next)
+and_then t more (Ends verdict) = nothing
+and_then t more NoCase = nothing
+
 -- what so many steps touch, or fewer where the run ends or is stuck before
 unfoldable pub touched : Code → ℕ → Machine → Touch
 touched code zero m = nothing
-touched code (suc n) m = with_step (step code m)
-  where
-    with_step : Outcome → Touch
-    with_step (Goes next) = both (touched_by code m) (touched code n next)
-    with_step (Ends verdict) = nothing
-    with_step NoCase = nothing
+touched code (suc n) m = and_then (touched_by code m) (touched code n) (step code m)
 
 -- the run from here on reads a resource, and writes it
 abbrev pub Reads : Code → Machine → Resource → Type 0
