@@ -1,5 +1,5 @@
 -- Atomic changes of a number in an entry: RFC 9669, section 5.3.
-use Rattle.std.specs.Prelude.{ℕ, ℤ, ◌-◌, ◌%◌, ◌+ℤ◌, ◌==◌, Bool, true, false, if◌then◌else◌, Option, Some, None, slice_get}
+use Rattle.std.specs.Prelude.{List, ℕ, ℤ, ◌-◌, ◌%◌, ◌+ℤ◌, ◌==◌, Bool, true, false, if◌then◌else◌, Option, Some, None, slice_get}
 use Rattle.bpf_isa.specs.declared.operation.Size.{Size}
 use Rattle.bpf_isa.specs.declared.operation.Size.TheVariants.{W, Dw}
 use Rattle.bpf_isa.specs.declared.instruction.Insn.{Insn}
@@ -10,7 +10,7 @@ use Rattle.xdp_maps.specs.declared.change.Change.{Change}
 use Rattle.xdp_maps.specs.State.{contents_at, with_contents}
 use Rattle.xdp_maps.specs.Calls.{number_before, changed}
 use Rattle.xdp_object.specs.Values.{Value, Number, Entry, number_in, ◌>>=◌}
-use Rattle.xdp_object.specs.State.{Machine, register, put}
+use Rattle.xdp_object.specs.State.{Machine, register, put, with_registers}
 use Rattle.xdp_object.specs.Memory.{bytes_in, aligned}
 
 -- FETCH, which is added to the other codes
@@ -35,7 +35,7 @@ wide_of size = None
 
 -- what CMPXCHG compares with: R0
 abbrev pub comparand : Machine → ChangeKind → Option ℕ
-comparand m Cmpxchg = number_in (register m 0)
+comparand m Cmpxchg = number_in (register m.registers 0)
 comparand m kind = Some 0
 
 -- the change that an instruction makes
@@ -43,14 +43,14 @@ abbrev pub change_of : Machine → Insn → Size → Option Change
 change_of m i size =
     wide_of size >>= λ wide.
     kind_of (cast_unsigned w64 i.imm) >>= λ kind.
-    number_in (register m i.src) >>= λ source.
+    number_in (register m.registers i.src) >>= λ source.
     comparand m kind >>= λ compare.
     Some (record { kind = kind; wide = wide; source = source; compare = compare })
 
 -- where the old number goes: with FETCH into the source, for CMPXCHG into R0
-abbrev pub taking : ChangeKind → Insn → ℕ → Machine → Option Machine
-taking Cmpxchg i old m = put 0 (Number old) m
-taking kind i old m = if fetches (cast_unsigned w64 i.imm) then put i.src (Number old) m else Some m
+abbrev pub taking : List Value → ChangeKind → Insn → ℕ → Option (List Value)
+taking registers Cmpxchg i old = put registers 0 (Number old)
+taking registers kind i old = if fetches (cast_unsigned w64 i.imm) then put registers i.src (Number old) else Some registers
 
 -- the machine after a change of a number at an offset from a pointer
 abbrev pub changed_at : Machine → Insn → Size → Value → ℤ → Change → Option Machine
@@ -58,8 +58,8 @@ changed_at m i size (Entry q key o) offset x =
     slice_get m.maps.decls q >>= λ d.
     aligned (o +ℤ offset) (bytes_in size) d.value >>= λ a.
     number_before (contents_at m.maps q) key a x >>= λ old.
-    taking x.kind i old (record m { maps = with_contents m.maps q (changed (contents_at m.maps q) key a x) })
+    with_registers (record m { maps = with_contents m.maps q (changed (contents_at m.maps q) key a x) }) (taking m.registers x.kind i old)
 changed_at m i size base offset x = None
 
 abbrev pub atomic : Machine → Insn → Size → Option Machine
-atomic m i size = change_of m i size >>= changed_at m i size (register m i.dst) i.offset
+atomic m i size = change_of m i size >>= changed_at m i size (register m.registers i.dst) i.offset

@@ -20,10 +20,10 @@ stack_bytes stack a zero = Some []
 stack_bytes stack a (suc n) = stack_byte stack a >>= λ b. stack_bytes stack (suc a) n >>= λ bs. Some (b ∷ bs)
 
 -- the n bytes that a pointer leads to
-abbrev pub region : Machine → ℕ → Value → Option (List ℕ)
-region m n (Packet o) = inside o n (length m.frame) >>= λ a. Some (slice_range m.frame a (a + n))
-region m n (Stack o) = inside (o +ℤ pos 512) n 512 >>= λ a. stack_bytes m.stack a n
-region m n v = None
+abbrev pub region : List Value → List ℕ → ℕ → Value → Option (List ℕ)
+region stack frame n (Packet o) = inside o n (length frame) >>= λ a. Some (slice_range frame a (a + n))
+region stack frame n (Stack o) = inside (o +ℤ pos 512) n 512 >>= λ a. stack_bytes stack a n
+region stack frame n v = None
 
 -- the answer is in R0, and R1 to R5 hold nothing any more
 abbrev pub answering : Value → Machine → Machine
@@ -36,28 +36,28 @@ entry_or_null q key c = if is_some (lookup_of c key) then Entry q key (pos 0) el
 -- lookup(map, key)
 abbrev pub lookup : Machine → Option Machine
 lookup m =
-    map_in (register m 1) >>= λ q.
+    map_in (register m.registers 1) >>= λ q.
     slice_get m.maps.decls q >>= λ d.
-    region m d.key (register m 2) >>= λ key.
+    region m.stack m.frame d.key (register m.registers 2) >>= λ key.
     Some (answering (entry_or_null q key (contents_at m.maps q)) m)
 
 -- update(map, key, value, flags)
 abbrev pub update : Machine → Option Machine
 update m =
-    map_in (register m 1) >>= λ q.
+    map_in (register m.registers 1) >>= λ q.
     slice_get m.maps.decls q >>= λ d.
-    region m d.key (register m 2) >>= λ key.
-    region m d.value (register m 3) >>= λ value.
-    number_in (register m 4) >>= λ flags.
+    region m.stack m.frame d.key (register m.registers 2) >>= λ key.
+    region m.stack m.frame d.value (register m.registers 3) >>= λ value.
+    number_in (register m.registers 4) >>= λ flags.
     let c = contents_at m.maps q in
     Some (answering (Number (cast_unsigned w64 (update_number d c key flags))) (record m { maps = with_contents m.maps q (updated d c key value flags) }))
 
 -- delete(map, key)
 abbrev pub delete : Machine → Option Machine
 delete m =
-    map_in (register m 1) >>= λ q.
+    map_in (register m.registers 1) >>= λ q.
     slice_get m.maps.decls q >>= λ d.
-    region m d.key (register m 2) >>= λ key.
+    region m.stack m.frame d.key (register m.registers 2) >>= λ key.
     let c = contents_at m.maps q in
     Some (answering (Number (cast_unsigned w64 (delete_number d c key))) (record m { maps = with_contents m.maps q (deleted d c key) }))
 
@@ -67,7 +67,7 @@ redirected ifindex zero m = answering (Number 4) (record m { target = ifindex % 
 redirected ifindex (suc flags) m = answering (Number 0) m
 
 abbrev pub redirect : Machine → Option Machine
-redirect m = number_in (register m 1) >>= λ ifindex. number_in (register m 2) >>= λ flags. Some (redirected ifindex flags m)
+redirect m = number_in (register m.registers 1) >>= λ ifindex. number_in (register m.registers 2) >>= λ flags. Some (redirected ifindex flags m)
 
 abbrev pub called : ℕ → Machine → Option Machine
 called id m =

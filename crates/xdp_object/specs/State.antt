@@ -37,12 +37,17 @@ start frame ifindex maps = record {
   place = 0;
 }
 
-abbrev pub register : Machine → ℕ → Value
-register m r = get_or m.registers r Unset
+abbrev pub register : List Value → ℕ → Value
+register registers r = get_or registers r Unset
 
 -- a value goes into a register; R10 is not written
-abbrev pub put : ℕ → Value → Machine → Option Machine
-put r v m = if r == 10 then None else Some (record m { registers = slice_set m.registers r v })
+abbrev pub put : List Value → ℕ → Value → Option (List Value)
+put registers r v = if r == 10 then None else Some (slice_set registers r v)
+
+-- the machine with its registers changed
+abbrev pub with_registers : Machine → Option (List Value) → Option Machine
+with_registers m None = None
+with_registers m (Some registers) = Some (record m { registers = registers })
 
 -- whether an instruction begins at a place
 abbrev pub begins : Code → ℕ → Bool

@@ -1,17 +1,16 @@
 -- One instruction of the sequential machine: RFC 9669, sections 4 and 5.
-use Rattle.std.specs.Prelude.{ℕ, ℤ, pos, negsuc, ◌+◌, ◌+ℤ◌, ◌==◌, Bool, if◌then◌else◌, Option, Some, None, unsigned_abs}
+use Rattle.std.specs.Prelude.{List, ℕ, ℤ, pos, negsuc, ◌+◌, ◌+ℤ◌, ◌==◌, Bool, if◌then◌else◌, Option, Some, None, unsigned_abs}
 use Rattle.std.specs.Int.{w64, cast_unsigned}
 use Rattle.bpf_isa.specs.declared.operation.Src.{Src}
 use Rattle.bpf_isa.specs.declared.operation.Src.TheVariants.{K, X}
 use Rattle.bpf_isa.specs.declared.operation.Width.TheVariants.{Bits32, Bits64}
 use Rattle.bpf_isa.specs.declared.operation.Op.{Op}
-use Rattle.bpf_isa.specs.declared.operation.Op.TheVariants.{Alu, Neg, End, Swap, Ja, Jump, Call, Exit, LoadImm, Load, LoadSigned, StoreImm, Store, Atomic}
+use Rattle.bpf_isa.specs.declared.operation.Op.TheVariants.{Alu, Neg, End, Swap, Ja, Jump, Call, Exit, LoadImm, Load, LoadSigned, Abs, Ind, StoreImm, Store, Atomic}
 use Rattle.bpf_isa.specs.declared.instruction.Insn.{Insn}
 use Rattle.bpf_isa.specs.Spelling.{units_of}
 use Rattle.bpf_isa.specs.Text.{insn_at}
-use Rattle.bits_core.specs.Bits.{swap_of}
 use Rattle.xdp_object.specs.Values.{Value, Number, Map, number_in, ◌>>=◌}
-use Rattle.xdp_object.specs.State.{Code, Machine, register, put, begins, is_map}
+use Rattle.xdp_object.specs.State.{Code, Machine, register, put, with_registers, begins, is_map}
 use Rattle.xdp_object.specs.Arithmetic.{bits_in, low, negated, ordered}
 use Rattle.xdp_object.specs.Pointers.{combined, compared}
 use Rattle.xdp_object.specs.Memory.{loaded_plain, loaded_signed, stored}
@@ -45,49 +44,55 @@ exits (Some n) = Ends (low 32 n)
 exits None = NoCase
 
 -- the second operand: the immediate number in 64 bits, or the source
-abbrev pub operand : Machine → Insn → Src → Value
-operand m i K = Number (cast_unsigned w64 i.imm)
-operand m i X = register m i.src
+abbrev pub operand : List Value → Insn → Src → Value
+operand registers i K = Number (cast_unsigned w64 i.imm)
+operand registers i X = register registers i.src
 
 -- a value goes into the destination
-abbrev pub assigned : Machine → Insn → Option Value → Option Machine
-assigned m i v = v >>= λ x. put i.dst x m
+abbrev pub assigned : List Value → Insn → Option Value → Option (List Value)
+assigned registers i v = v >>= put registers i.dst
 
 -- the number in the destination, changed
-abbrev pub changed : Machine → Insn → (ℕ → ℕ) → Option Machine
-changed m i f = number_in (register m i.dst) >>= λ n. put i.dst (Number (f n)) m
+abbrev pub renumbered : List Value → Insn → (ℕ → ℕ) → Option (List Value)
+renumbered registers i f = number_in (register registers i.dst) >>= λ n. put registers i.dst (Number (f n))
 
 -- a number of 64 bits: the number of a map at a place where a map is meant
-abbrev pub constant : Code → Machine → Insn → Option Value
-constant code m i =
+abbrev pub constant : Code → ℕ → Insn → Option Value
+constant code place i =
     if i.src == 0
-    then Some (if is_map code m.place then Map (low 32 (cast_unsigned w64 i.imm)) else Number (cast_unsigned w64 i.imm))
+    then Some (if is_map code place then Map (low 32 (cast_unsigned w64 i.imm)) else Number (cast_unsigned w64 i.imm))
     else None
 
 -- the functions of source 0 are the helpers
 abbrev pub calls : Machine → Insn → Option Machine
 calls m i = if i.src == 0 then called (cast_unsigned w64 i.imm) m else None
 
+-- the registers after an instruction that changes them alone, or else the machine
+abbrev pub alu : List Value → Insn → Op → Option (List Value)
+alu registers i (Alu w c s) = assigned registers i (combined w c i.offset (register registers i.dst) (operand registers i s))
+alu registers i (Neg w) = renumbered registers i (negated (bits_in w))
+alu registers i (End s) = renumbered registers i (ordered s (unsigned_abs i.imm))
+alu registers i Swap = renumbered registers i (ordered X (unsigned_abs i.imm))
+alu registers i op = None
+
 -- what an instruction that does not jump makes of the machine
 abbrev pub effect : Code → Machine → Insn → Op → Option Machine
-effect code m i (Alu w c s) = assigned m i (combined w c i.offset (register m i.dst) (operand m i s))
-effect code m i (Neg w) = changed m i (negated (bits_in w))
-effect code m i (End s) = changed m i (ordered s (unsigned_abs i.imm))
-effect code m i Swap = changed m i (λ n. swap_of (low (unsigned_abs i.imm) n) (unsigned_abs i.imm))
-effect code m i LoadImm = assigned m i (constant code m i)
-effect code m i (Load size) = assigned m i (loaded_plain m (register m i.src) i.offset size)
-effect code m i (LoadSigned size) = assigned m i (loaded_signed m (register m i.src) i.offset size)
-effect code m i (StoreImm size) = stored m (register m i.dst) i.offset size (Number (cast_unsigned w64 i.imm))
-effect code m i (Store size) = stored m (register m i.dst) i.offset size (register m i.src)
+effect code m i LoadImm = with_registers m (assigned m.registers i (constant code m.place i))
+effect code m i (Load size) = with_registers m (assigned m.registers i (loaded_plain m (register m.registers i.src) i.offset size))
+effect code m i (LoadSigned size) = with_registers m (assigned m.registers i (loaded_signed m (register m.registers i.src) i.offset size))
+effect code m i (StoreImm size) = stored m (register m.registers i.dst) i.offset size (Number (cast_unsigned w64 i.imm))
+effect code m i (Store size) = stored m (register m.registers i.dst) i.offset size (register m.registers i.src)
 effect code m i (Atomic size) = atomic m i size
 effect code m i Call = calls m i
-effect code m i op = None
+effect code m i (Abs size) = None
+effect code m i (Ind size) = None
+effect code m i op = with_registers m (alu m.registers i op)
 
 abbrev pub outcome : Code → Machine → Insn → Op → Outcome
 outcome code m i (Ja Bits64) = goes_to code (pos (m.place + 1) +ℤ i.offset) m
 outcome code m i (Ja Bits32) = goes_to code (pos (m.place + 1) +ℤ i.imm) m
-outcome code m i (Jump w c s) = jumps code i.offset m (compared w c (register m i.dst) (operand m i s))
-outcome code m i Exit = exits (number_in (register m 0))
+outcome code m i (Jump w c s) = jumps code i.offset m (compared w c (register m.registers i.dst) (operand m.registers i s))
+outcome code m i Exit = exits (number_in (register m.registers 0))
 outcome code m i op = goes_on code m.place (units_of op) (effect code m i op)
 
 abbrev pub step : Code → Machine → Outcome

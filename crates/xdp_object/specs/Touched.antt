@@ -83,7 +83,7 @@ change_touch fetch v = nothing
 abbrev pub call_touch : Machine → ℕ → ℕ → MapDecl → List ℕ → Touch
 call_touch m id q d key =
     if id == 1 then lookup_touch d.kind q key else
-    if id == 2 then flagged (number_in (register m 4)) else
+    if id == 2 then flagged (number_in (register m.registers 4)) else
     if id == 3 then delete_touch d.kind q d (contents_at m.maps q) key else
     nothing
   where
@@ -93,15 +93,15 @@ call_touch m id q d key =
 
 -- of a machine whose step has a case
 abbrev pub touched_as : Machine → Insn → Op → Option Touch
-touched_as m i (Load size) = Some (load_touch (register m i.src))
-touched_as m i (LoadSigned size) = Some (load_touch (register m i.src))
-touched_as m i (StoreImm size) = Some (store_touch (register m i.dst))
-touched_as m i (Store size) = Some (store_touch (register m i.dst))
-touched_as m i (Atomic size) = Some (change_touch (fetches (cast_unsigned w64 i.imm)) (register m i.dst))
+touched_as m i (Load size) = Some (load_touch (register m.registers i.src))
+touched_as m i (LoadSigned size) = Some (load_touch (register m.registers i.src))
+touched_as m i (StoreImm size) = Some (store_touch (register m.registers i.dst))
+touched_as m i (Store size) = Some (store_touch (register m.registers i.dst))
+touched_as m i (Atomic size) = Some (change_touch (fetches (cast_unsigned w64 i.imm)) (register m.registers i.dst))
 touched_as m i Call =
-    map_in (register m 1) >>= λ q.
+    map_in (register m.registers 1) >>= λ q.
     slice_get m.maps.decls q >>= λ d.
-    region m d.key (register m 2) >>= λ key.
+    region m.stack m.frame d.key (register m.registers 2) >>= λ key.
     Some (call_touch m (cast_unsigned w64 i.imm) q d key)
 touched_as m i op = None
 

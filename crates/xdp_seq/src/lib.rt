@@ -1,0 +1,6 @@
+//! The sequential machine: what a program does to a packet and to its maps, one instruction after another.
+#![tactic(auto)]
+
+mod arithmetic;
+mod pointers;
+mod value;
