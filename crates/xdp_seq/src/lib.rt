@@ -2,5 +2,8 @@
 #![tactic(auto)]
 
 mod arithmetic;
+mod memory;
 mod pointers;
+mod registers;
+mod stack;
 mod value;
