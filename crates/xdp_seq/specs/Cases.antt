@@ -1,5 +1,8 @@
 -- How a call says whether the machine has a case.
-use Rattle.std.specs.Prelude.{◌≡◌, Bool, true, false, Option, Some, None}
+use Rattle.std.specs.Prelude.{ℕ, ◌≡◌, ◌<◌, Bool, true, false, Option, Some, None, length}
+use Rattle.xdp_maps.specs.declared.decl.MapDecl.{MapDecl}
+use Rattle.xdp_maps.specs.Contents.{IsWithinLimits, IsOver}
+use Rattle.xdp_maps.specs.State.{MapState, decl_at, contents_at}
 
 -- A call that changes something in place: it has become what was wanted, or there was no case and nothing has changed.
 abbrev pub Makes : {A : Type 0} → Bool → Option A → A → A → Type 0
@@ -10,3 +13,10 @@ Makes false wanted old new = (wanted ≡ None) × (new ≡ old)
 abbrev pub Fills : {A : Type 0} → Bool → Option A → A → Type 0
 Fills true wanted new = wanted ≡ Some new
 Fills false wanted new = wanted ≡ None
+
+-- d is the declaration of map q, which holds what it allows
+pub record IsDeclared (s : MapState) (q : ℕ) (d : MapDecl) : Type 0 where
+  pub in_range : q < length s.decls
+  pub is : decl_at s q ≡ d
+  pub limits : IsWithinLimits d
+  pub over : IsOver d (contents_at s q)

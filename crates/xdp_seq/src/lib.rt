@@ -2,6 +2,7 @@
 #![tactic(auto)]
 
 mod arithmetic;
+mod entries;
 mod memory;
 mod pointers;
 mod registers;

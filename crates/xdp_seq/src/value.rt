@@ -10,6 +10,33 @@ pub(crate) struct Key {
     ghost short: { len ≤ 40 },
 }
 
+impl Key {
+    ghost use Rattle.std.specs.Prelude.{◌≡◌, length};
+    ghost use Rattle.xdp_seq.specs.Views.{key_of};
+
+    pub const MAX_LEN: usize = 40;
+
+    /// The key of these bytes.
+    pub fn of(bytes: &[u8]) -> Key
+        requires { length bytes.now ≤ 40 }
+        ensures { key_of result ≡ bytes.now }
+    {
+        let mut kept = [0; 40];
+        kept[..bytes.len()].copy_from_slice(bytes);
+        Key {
+            bytes: kept,
+            len: bytes.len(),
+        }
+    }
+
+    /// Its bytes.
+    pub fn bytes(&self) -> &[u8]
+        ensures { result.now ≡ key_of self.now }
+    {
+        &self.bytes[..self.len]
+    }
+}
+
 /// A value, as `Value` of `xdp_object` has it.
 #[derive(Clone, Copy)]
 pub(crate) enum Value {
