@@ -98,13 +98,18 @@ to_stack stack o size v =
     to_slot size (a % 8) (get_or stack (a / 8) Unset) v >>= λ slot.
     Some (slice_set stack (a / 8) slot)
 
+-- a number is stored into the value that is under a key
+abbrev pub number_stored : MapState → ℕ → List ℕ → ℕ → Size → ℕ → Option MapState
+number_stored maps q key a size n =
+    if is_some (lookup_of (contents_at maps q) key)
+    then Some (with_contents maps q (entry_stored (contents_at maps q) key a (little_bytes (bytes_in size) n)))
+    else None
+
 abbrev pub to_entry : MapState → ℕ → List ℕ → ℤ → Size → ℕ → Option MapState
 to_entry maps q key o size n =
     slice_get maps.decls q >>= λ d.
     aligned o (bytes_in size) d.value >>= λ a.
-    if is_some (lookup_of (contents_at maps q) key)
-    then Some (with_contents maps q (entry_stored (contents_at maps q) key a (little_bytes (bytes_in size) n)))
-    else None
+    number_stored maps q key a size n
 
 -- the machine after a store of a value at an offset from a pointer
 abbrev pub stored : Machine → Value → ℤ → Size → Value → Option Machine

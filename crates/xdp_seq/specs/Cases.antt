@@ -9,6 +9,11 @@ abbrev pub Makes : {A : Type 0} → Bool → Option A → A → A → Type 0
 Makes true wanted old new = wanted ≡ Some new
 Makes false wanted old new = (wanted ≡ None) × (new ≡ old)
 
+-- A call that changes something in place and answers what it found.
+abbrev pub Changes : {A B : Type 0} → Option B → Option (B × A) → A → A → Type 0
+Changes (Some found) wanted old new = wanted ≡ Some (found, new)
+Changes None wanted old new = (wanted ≡ None) × (new ≡ old)
+
 -- A call that fills a buffer: the buffer holds what was wanted, or there is nothing.
 abbrev pub Fills : {A : Type 0} → Bool → Option A → A → Type 0
 Fills true wanted new = wanted ≡ Some new

@@ -3,6 +3,7 @@
 
 mod arithmetic;
 mod entries;
+mod frames;
 mod memory;
 mod pointers;
 mod registers;
