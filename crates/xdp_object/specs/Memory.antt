@@ -4,11 +4,11 @@ use Rattle.std.specs.Ordering.{int_eq}
 use Rattle.byteorder.specs.Endian.{little_number, little_bytes}
 use Rattle.bpf_isa.specs.declared.operation.Size.{Size}
 use Rattle.bpf_isa.specs.declared.operation.Size.TheVariants.{B, H, W, Dw}
-use Rattle.bits_core.specs.Bits.{sext_of}
 use Rattle.xdp_maps.specs.State.{MapState, contents_at, with_contents}
 use Rattle.xdp_maps.specs.Calls.{lookup_of, patched, stored as entry_stored}
 use Rattle.xdp_object.specs.Values.{Value, Unset, Number, Packet, Stack, Context, Entry, held, number_in, ◌>>=◌}
 use Rattle.xdp_object.specs.State.{Machine}
+use Rattle.xdp_object.specs.Arithmetic.{extended}
 
 abbrev pub bytes_in : Size → ℕ
 bytes_in B = 1
@@ -75,7 +75,7 @@ loaded_plain m base offset size = loaded m base offset size
 
 -- MEMSX: the sign is extended to 64 bits
 abbrev pub loaded_signed : Machine → Value → ℤ → Size → Option Value
-loaded_signed m base offset size = loaded m base offset size >>= number_in >>= λ n. Some (Number (sext_of n (8 * bytes_in size)))
+loaded_signed m base offset size = loaded m base offset size >>= number_in >>= λ n. Some (Number (extended 64 (8 * bytes_in size) n))
 
 -- stores
 

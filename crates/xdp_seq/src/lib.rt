@@ -1,6 +1,7 @@
 //! The sequential machine: what a program does to a packet and to its maps, one instruction after another.
 #![tactic(auto)]
 
+mod access;
 mod arithmetic;
 mod entries;
 mod frames;
@@ -8,4 +9,5 @@ mod memory;
 mod pointers;
 mod registers;
 mod stack;
+mod state;
 mod value;
