@@ -3,6 +3,7 @@
 
 mod access;
 mod arithmetic;
+mod calls;
 mod entries;
 mod frames;
 mod memory;
