@@ -2,6 +2,7 @@
 #![tactic(auto)]
 
 mod access;
+mod alu;
 mod arithmetic;
 mod calls;
 mod entries;
