@@ -4,6 +4,7 @@
 mod access;
 mod alu;
 mod arithmetic;
+mod atomics;
 mod calls;
 mod entries;
 mod frames;
