@@ -1,6 +1,5 @@
 -- The state of the machine (RFC 9669, section 2; linux/bpf.h, struct xdp_md).
 use Rattle.std.specs.Prelude.{ℕ, pos, ◌==◌, List, [], ◌∷◌, get_or, replicate, slice_set, Bool, is_some, Option, Some, None, if◌then◌else◌}
-use Rattle.std.specs.List.{list_any}
 use Rattle.bpf_isa.specs.declared.instruction.Insn.{Insn}
 use Rattle.bpf_isa.specs.Text.{insn_at}
 use Rattle.xdp_maps.specs.State.{MapState}
@@ -50,8 +49,5 @@ with_registers m None = None
 with_registers m (Some registers) = Some (record m { registers = registers })
 
 -- whether an instruction begins at a place
-abbrev pub begins : Code → ℕ → Bool
-begins code place = is_some (insn_at code.insns place)
-
-abbrev pub is_map : Code → ℕ → Bool
-is_map code place = list_any (λ r. r == place) code.refs
+abbrev pub begins : List Insn → ℕ → Bool
+begins insns place = is_some (insn_at insns place)

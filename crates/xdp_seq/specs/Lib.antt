@@ -1,3 +1,5 @@
 pub mod Views
 pub mod Cases
 pub mod Machines
+pub mod Units
+pub mod Flows
