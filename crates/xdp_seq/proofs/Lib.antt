@@ -1,3 +1,4 @@
 pub mod Bytes
 pub mod Slots
 pub mod Laid
+pub mod Runs

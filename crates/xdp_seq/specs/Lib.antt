@@ -3,3 +3,4 @@ pub mod Cases
 pub mod Machines
 pub mod Units
 pub mod Flows
+pub mod Answers

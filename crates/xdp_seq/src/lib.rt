@@ -14,5 +14,6 @@ mod pointers;
 mod registers;
 mod stack;
 mod step;
+mod run;
 mod state;
 mod value;
