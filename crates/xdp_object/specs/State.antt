@@ -24,10 +24,14 @@ pub record Machine : Type 0 where
   -- the unit with which the next instruction begins
   pub place : ℕ
 
--- R1 is the context and R10 the end of the stack, which is zeros
+-- R1 is the context, R10 the end of the stack
+abbrev pub first_registers : List Value
+first_registers = Unset ∷ Context ∷ Unset ∷ Unset ∷ Unset ∷ Unset ∷ Unset ∷ Unset ∷ Unset ∷ Unset ∷ Stack (pos 0) ∷ []
+
+-- the stack begins as zeros
 abbrev pub start : List ℕ → ℕ → MapState → Machine
 start frame ifindex maps = record {
-  registers = Unset ∷ Context ∷ Unset ∷ Unset ∷ Unset ∷ Unset ∷ Unset ∷ Unset ∷ Unset ∷ Unset ∷ Stack (pos 0) ∷ [];
+  registers = first_registers;
   stack = replicate 64 (Number 0);
   frame = frame;
   ifindex = ifindex;

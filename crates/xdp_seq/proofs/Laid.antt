@@ -1,12 +1,13 @@
 -- Which instruction begins at a place, by the units.
-use Rattle.std.proofs.Common.{Bor, ◌≡◌, ℕ, zero, suc, ◌-◌, ◌≤◌, ◌⊎◌, inl, inr, List, [], ◌∷◌, ◌++◌, replicate, get_or, Some, None, Bool, true, false, refl, sym, ◌∙◌, ap, subst, arith, sub-one}
+use Rattle.std.proofs.Common.{Bor, ◌≡◌, ℕ, zero, suc, ◌+◌, ◌-◌, ◌≤◌, ◌^◌, ◌<◌, ◌⊎◌, inl, inr, List, [], ◌∷◌, ◌++◌, length, take, replicate, get_or, Some, None, Bool, true, false, refl, sym, ◌∙◌, ap, subst, arith, sub-one}
+use Rattle.std.proofs.lemmas.List.{append_assoc, take_more, append-nil}
 use Rattle.std.proofs.lemmas.Bool.Decides.{nat_tests}
 use Rattle.std.specs.Prelude.{Option, IfSome, option_copied, All, if◌then◌else◌, nat_lt}
 use Rattle.bpf_isa.specs.declared.operation.Op.{Op}
 use Rattle.bpf_isa.specs.declared.operation.Op.TheVariants.{LoadImm}
 use Rattle.bpf_isa.specs.declared.instruction.Insn.{Insn}
 use Rattle.bpf_isa.specs.Spelling.{units_of, IsInsn}
-use Rattle.bpf_isa.specs.Text.{insn_at}
+use Rattle.bpf_isa.specs.Text.{insn_at, unit_count}
 use Rattle.xdp_seq.specs.Units.{laid, insns_of, unit_at, AreUnits}
 
 -- an instruction has one unit or two
@@ -53,3 +54,40 @@ legal_at (i ∷ is) (suc n) all = later (nat_lt (suc n) (units_of i.op)) (legal_
 pub legal_found : (is : List Insn) (place : ℕ) (o : Option (Bor Insn)) → All IsInsn is → option_copied o ≡ insn_at is place → IfSome o (λ i. IsInsn i.now)
 legal_found is place None all e = tt
 legal_found is place (Some i) all e = let P : Option Insn → Type 0 = λ x. IfSome x IsInsn in subst P (sym e) (legal_at is place all)
+
+insns_of-nones : (n : ℕ) (units : List (Option Insn)) → insns_of (replicate n None ++ units) ≡ insns_of units
+insns_of-nones zero units = refl
+insns_of-nones (suc n) units = insns_of-nones n units
+
+pub insns_of-laid : (is : List Insn) → insns_of (laid is) ≡ is
+insns_of-laid [] = refl
+insns_of-laid (i ∷ is) = ap (λ xs. i ∷ xs) (insns_of-nones (units_of i.op - 1) (laid is) ∙ insns_of-laid is)
+
+length-laid : (is : List Insn) → length (laid is) ≡ unit_count is
+length-laid [] = refl
+length-laid (i ∷ is) = counted (units_of i.op) (one_or_two i.op) (length-laid is)
+  where
+    counted : (u : ℕ) → (u ≡ 1) ⊎ (u ≡ 2) → length (laid is) ≡ unit_count is → suc (length (replicate (u - 1) None ++ laid is)) ≡ u + unit_count is
+    counted u (inl e) same = let P : ℕ → Type 0 = λ v. suc (length (replicate (v - 1) None ++ laid is)) ≡ v + unit_count is in subst P (sym e) (omega (arith, same))
+    counted u (inr e) same = let P : ℕ → Type 0 = λ v. suc (length (replicate (v - 1) None ++ laid is)) ≡ v + unit_count is in subst P (sym e) (omega (arith, same))
+
+-- instructions of the table as units
+pub are_units : (is : List Insn) → All IsInsn is → unit_count is < 2 ^ 32 → AreUnits (laid is)
+are_units is all few = record {
+  are = ap laid (sym (insns_of-laid is));
+  legal = let P : List Insn → Type 0 = λ xs. All IsInsn xs in subst P (sym (insns_of-laid is)) all;
+  few = let P : ℕ → Type 0 = λ n. n < 2 ^ 32 in subst P (sym (length-laid is)) few;
+}
+
+laid-push : (is : List Insn) (i : Insn) → laid (is ++ i ∷ []) ≡ laid is ++ (Some i ∷ replicate (units_of i.op - 1) None)
+laid-push [] i = ap (λ us. Some i ∷ us) (append-nil (replicate (units_of i.op - 1) None))
+laid-push (j ∷ is) i =
+    ap (λ us. Some j ∷ (replicate (units_of j.op - 1) None ++ us)) (laid-push is i)
+    ∙ ap (λ us. Some j ∷ us) (sym (append_assoc (replicate (units_of j.op - 1) None) (laid is) (Some i ∷ replicate (units_of i.op - 1) None)))
+
+-- the units of one more instruction
+pub laid_more : (is : List Insn) (n : ℕ) (d : Insn) (old new : List (Option Insn)) → n < length is → old ≡ laid (take n is)
+    → new ≡ old ++ (Some (get_or is n d) ∷ replicate (units_of (get_or is n d).op - 1) None) → new ≡ laid (take (n + 1) is)
+laid_more is n d old new below so_far e =
+    e ∙ ap (λ us. us ++ (Some (get_or is n d) ∷ replicate (units_of (get_or is n d).op - 1) None)) so_far
+    ∙ sym (ap laid (take_more is n d below) ∙ laid-push (take n is) (get_or is n d))

@@ -1,8 +1,8 @@
 -- A run by its first step.
-use Rattle.std.proofs.Common.{◌≡◌, ℕ, suc, zero, ◌+◌, ◌-◌, ◌<◌, refl, sym, ◌∙◌, subst, ap, arith}
+use Rattle.std.proofs.Common.{◌≡◌, ℕ, suc, ◌+◌, ◌-◌, ◌<◌, refl, sym, subst, ap, arith}
 use Rattle.xdp_object.specs.State.{Code, Machine}
 use Rattle.xdp_object.specs.Step.{Outcome, Goes, Ends, NoCase, step}
-use Rattle.xdp_object.specs.Runs.{run, Progress, Ended, Stuck, Going, leaves, then_on}
+use Rattle.xdp_object.specs.Runs.{run, Ended, Stuck, Going, leaves, then_on}
 
 pub run_none : (code : Code) (n : ℕ) (m : Machine) → n ≡ 0 → run code n m ≡ Going m
 unfolding run

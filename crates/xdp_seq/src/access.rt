@@ -82,11 +82,7 @@ pub(crate) fn loaded_signed(
 {
     let value = loaded(state, frame, maps, base, offset, size)?;
     let n = number_in(&value)?;
-    Some(Value::Number(extended(
-        Width::Bits64,
-        8 * bytes_in(size) as u64,
-        n,
-    )))
+    Some(Value::Number(extended(Width::Bits64, 8 * bytes_in(size) as u64, n)))
 }
 
 /// A store of a value at an offset from the destination.

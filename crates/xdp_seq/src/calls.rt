@@ -104,7 +104,9 @@ fn update(state: &mut State, frame: &Frame, maps: &mut Maps) -> bool
         return false;
     };
     let answer = maps.update(q, key, value, flags);
-    state.registers.answer(Value::Number(answer.cast_unsigned()));
+    state
+        .registers
+        .answer(Value::Number(answer.cast_unsigned()));
     true
 }
 
@@ -124,7 +126,9 @@ fn delete(state: &mut State, frame: &Frame, maps: &mut Maps) -> bool
         return false;
     }
     let answer = maps.delete(q, key);
-    state.registers.answer(Value::Number(answer.cast_unsigned()));
+    state
+        .registers
+        .answer(Value::Number(answer.cast_unsigned()));
     true
 }
 

@@ -10,10 +10,14 @@ mod entries;
 mod flow;
 mod frames;
 mod memory;
+mod plan;
 mod pointers;
 mod registers;
-mod stack;
-mod step;
 mod run;
+mod stack;
 mod state;
+mod step;
 mod value;
+
+pub use plan::{SeqPlan, run_packet};
+pub use run::{Ended, STEP_LIMIT, SeqError};

@@ -3,7 +3,7 @@
 ghost use Rattle.std.specs.Prelude.{◌≡◌, ◌≤◌, ◌∷◌, drop, length, get_or, slice_set};
 ghost use Rattle.std.specs.Option.{option_map};
 ghost use Rattle.xdp_object.specs.Values as seen;
-ghost use Rattle.xdp_object.specs.State.{register, put};
+ghost use Rattle.xdp_object.specs.State.{register, put, first_registers};
 ghost use Rattle.xdp_seq.specs.Views.{value_of};
 ghost use Rattle.xdp_seq.specs.Cases.{Makes};
 
@@ -27,6 +27,21 @@ impl Model for Registers {
 }
 
 impl Registers {
+    pub fn new() -> Registers {
+        Registers {
+            values: [Value::Unset; 11],
+        }
+    }
+
+    /// R1 is the context, R10 the end of the stack, and the others hold nothing.
+    pub fn restart(&mut self)
+        ensures { self.new ≡ first_registers }
+    {
+        self.values = [Value::Unset; 11];
+        self.values[1] = Value::Context;
+        self.values[10] = Value::Stack(0);
+    }
+
     /// What a register holds.
     pub fn get(&self, r: u8) -> &Value
         requires { r ≤ 10 }

@@ -1,6 +1,7 @@
 // The stack.
 
-ghost use Rattle.std.specs.Prelude.{◌≡◌, ◌+◌, ◌%◌, ◌<◌, ◌≤◌, ◌+ℤ◌, length, IfSome};
+ghost use Rattle.std.specs.Prelude.{◌≡◌, ◌+◌, ◌%◌, ◌<◌, ◌≤◌, ◌+ℤ◌, length, replicate, IfSome};
+ghost use Rattle.xdp_object.specs.Values as seen;
 ghost use Rattle.std.specs.Option.{option_map};
 ghost use Rattle.xdp_object.specs.Memory.{bytes_in, in_stack, from_slot, from_stack, to_slot, to_stack, underlying};
 ghost use Rattle.xdp_object.specs.Helpers.{stack_byte, stack_bytes};
@@ -79,6 +80,19 @@ fn to_slot(size: Size, at: usize, slot: &Value, value: &Value) -> Option<Value>
 }
 
 impl Stack {
+    pub fn new() -> Stack {
+        Stack {
+            slots: [Value::Unset; 64],
+        }
+    }
+
+    /// Makes all slots zeros.
+    pub fn clear(&mut self)
+        ensures { self.new ≡ replicate 64 (seen.Number 0) }
+    {
+        self.slots = [Value::Number(0); 64];
+    }
+
     /// A load at an offset from a place, which counts from the end.
     pub fn load(&self, o: i64, offset: i16, size: Size) -> Option<Value>
         ensures { option_map value_of result ≡ from_stack self.now (o +ℤ offset) size }

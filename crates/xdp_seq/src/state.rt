@@ -15,3 +15,31 @@ pub(crate) struct State {
     /// The unit with which the next instruction begins.
     pub place: u32,
 }
+
+impl State {
+    ghost use Rattle.std.specs.Prelude.{◌≡◌, List, ℕ};
+    ghost use Rattle.xdp_maps.specs.State.{MapState};
+    ghost use Rattle.xdp_object.specs.State.{start};
+    ghost use Rattle.xdp_seq.specs.Machines.{machine_of};
+
+    pub fn new() -> State {
+        State {
+            registers: Registers::new(),
+            stack: Stack::new(),
+            ifindex: 0,
+            target: 0,
+            place: 0,
+        }
+    }
+
+    /// The start of a run, whatever the frame and the maps are.
+    pub fn restart(&mut self, ifindex: u32)
+        ensures { (frame : List ℕ) (maps : MapState) → machine_of self.new frame maps ≡ start frame ifindex maps }
+    {
+        self.registers.restart();
+        self.stack.clear();
+        self.ifindex = ifindex;
+        self.target = 0;
+        self.place = 0;
+    }
+}

@@ -126,13 +126,7 @@ fn constant(refs: &[u32], place: u32, insn: &Insn) -> Option<Value>
 }
 
 // What an instruction that does not jump makes of the machine.
-fn effect(
-    refs: &[u32],
-    state: &mut State,
-    frame: &mut Frame,
-    maps: &mut Maps,
-    insn: &Insn,
-) -> bool
+fn effect(refs: &[u32], state: &mut State, frame: &mut Frame, maps: &mut Maps, insn: &Insn) -> bool
     requires { IsInsn insn.now }
     ensures { let m = machine_of state.old frame.old maps.old in
         Makes result (effect refs.now m insn.now insn.now.op) m (machine_of state.new frame.new maps.new) }

@@ -10,16 +10,18 @@ returns-in-Ended c =
     ∙ ap (λ m. Ended (leaves c.in-Ended.verdict m)) (sym c.in-Ended.ensures.1)
 
 pub returns-in-Stuck : goal.returns-in-Stuck
-returns-in-Stuck c =
-    (machine_of c.step.new.state c.step.new.frame c.step.new.maps,
-     c.loop.invariant ∙ run_stops _ _ _ _ c.loop-test.true c.in-Stuck.ensures.0 ∙ ap Stuck (sym c.in-Stuck.ensures.1),
-     record { place_is = refl; frame_is = refl; maps_are = refl })
+returns-in-Stuck c = (
+  machine_of c.step.new.state c.step.new.frame c.step.new.maps,
+  c.loop.invariant ∙ run_stops _ _ _ _ c.loop-test.true c.in-Stuck.ensures.0 ∙ ap Stuck (sym c.in-Stuck.ensures.1),
+  record { place_is = refl; frame_is = refl; maps_are = refl },
+)
 
 pub loop-preserved : goal.loop-preserved
 loop-preserved c = c.loop.invariant ∙ run_goes _ _ _ _ _ c.loop-test.true c.in-Next.ensures
 
 pub returns : goal.returns
-returns c =
-    (machine_of c.loop.state c.loop.frame c.loop.maps,
-     c.loop.invariant ∙ run_none _ _ _ (omega arith),
-     record { place_is = refl; frame_is = refl; maps_are = refl })
+returns c = (
+  machine_of c.loop.state c.loop.frame c.loop.maps,
+  c.loop.invariant ∙ run_none _ _ _ (omega arith),
+  record { place_is = refl; frame_is = refl; maps_are = refl },
+)
