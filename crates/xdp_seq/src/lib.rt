@@ -17,6 +17,8 @@ mod run;
 mod stack;
 mod state;
 mod step;
+#[cfg(test)]
+mod tests;
 mod value;
 
 pub use plan::{SeqPlan, run_packet};
