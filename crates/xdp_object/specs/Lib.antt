@@ -10,3 +10,4 @@ pub mod Helpers
 pub mod Step
 pub mod Runs
 pub mod Touched
+pub mod Laws

@@ -96,9 +96,9 @@ outcome code m i (Jump w c s) = jumps code.insns i.offset m (compared w c (regis
 outcome code m i Exit = exits (number_in (register m.registers 0))
 outcome code m i op = goes_on code.insns m.place (units_of op) (effect code.refs m i op)
 
+abbrev pub outcome_at : Code → Machine → Option Insn → Outcome
+outcome_at code m None = NoCase
+outcome_at code m (Some i) = outcome code m i i.op
+
 abbrev pub step : Code → Machine → Outcome
-step code m = by_insn (insn_at code.insns m.place)
-  where
-    by_insn : Option Insn → Outcome
-    by_insn None = NoCase
-    by_insn (Some i) = outcome code m i i.op
+step code m = outcome_at code m (insn_at code.insns m.place)

@@ -1,5 +1,5 @@
 -- Which instruction begins at a place, by the units.
-use Rattle.std.proofs.Common.{Bor, ◌≡◌, ℕ, zero, suc, ◌+◌, ◌-◌, ◌≤◌, ◌^◌, ◌<◌, ◌⊎◌, inl, inr, List, [], ◌∷◌, ◌++◌, length, take, replicate, get_or, Some, None, Bool, true, false, refl, sym, ◌∙◌, ap, subst, arith, sub-one}
+use Rattle.std.proofs.Common.{Bor, ◌≡◌, ℕ, zero, suc, ◌+◌, ◌*◌, ◌-◌, ◌≤◌, ◌^◌, ◌<◌, ◌⊎◌, inl, inr, List, [], ◌∷◌, ◌++◌, length, take, replicate, get_or, Some, None, Bool, true, false, refl, sym, ◌∙◌, ap, subst, arith, sub-one}
 use Rattle.std.proofs.lemmas.List.{append_assoc, take_more, append-nil}
 use Rattle.std.proofs.lemmas.Bool.Decides.{nat_tests}
 use Rattle.std.specs.Prelude.{Option, IfSome, option_copied, All, if◌then◌else◌, nat_lt}
@@ -91,3 +91,12 @@ pub laid_more : (is : List Insn) (n : ℕ) (d : Insn) (old new : List (Option In
 laid_more is n d old new below so_far e =
     e ∙ ap (λ us. us ++ (Some (get_or is n d) ∷ replicate (units_of (get_or is n d).op - 1) None)) so_far
     ∙ sym (ap laid (take_more is n d below) ∙ laid-push (take n is) (get_or is n d))
+
+-- n instructions have at most 2 * n units
+pub unit_count_few : (is : List Insn) → unit_count is ≤ 2 * length is
+unit_count_few [] = omega arith
+unit_count_few (i ∷ is) = more (units_of i.op) (one_or_two i.op) (unit_count_few is)
+  where
+    more : (u : ℕ) → (u ≡ 1) ⊎ (u ≡ 2) → unit_count is ≤ 2 * length is → u + unit_count is ≤ 2 * suc (length is)
+    more u (inl e) h = omega arith
+    more u (inr e) h = omega arith

@@ -2,3 +2,5 @@ pub mod Bytes
 pub mod Slots
 pub mod Laid
 pub mod Runs
+pub mod Changes
+pub mod Kept

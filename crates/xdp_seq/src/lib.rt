@@ -9,6 +9,7 @@ mod calls;
 mod entries;
 mod flow;
 mod frames;
+mod laws;
 mod memory;
 mod plan;
 mod pointers;

@@ -1,6 +1,6 @@
 // Programs that are ready to run.
 
-ghost use Rattle.std.specs.Prelude.{◌≡◌, ◌-◌, ◌<◌, ◌^◌, ◌∷◌, ◌++◌, replicate, All, Some, None, IfOk, OnOk};
+ghost use Rattle.std.specs.Prelude.{◌≡◌, ◌-◌, ◌<◌, ◌^◌, ◌∷◌, ◌++◌, length, replicate, All, Some, None, IfOk, OnOk};
 ghost use Rattle.bpf_isa.specs.declared.instruction.Insn.{Insn};
 ghost use Rattle.bpf_isa.specs.Spelling.{IsInsn, units_of};
 ghost use Rattle.bpf_isa.specs.Text.{unit_count};
@@ -87,6 +87,8 @@ pub fn run_packet(
 ) -> Result<Ended, SeqError>
     ensures answer { Answers result (run plan.old STEP_LIMIT (start frame.old meta.ifindex maps.old)) frame.new maps.new }
     ensures plan { plan.new ≡ plan.old }
+    ensures frame { length frame.new ≡ length frame.old }
+    ensures decls { maps.new.decls ≡ maps.old.decls }
 {
     plan.state.restart(meta.ifindex);
     run(&plan.units, &plan.refs, &mut plan.state, frame, maps)

@@ -1,6 +1,6 @@
 // Instructions by their usual notation, and a machine that runs them.
 
-ghost use Rattle.std.specs.Prelude.{◌≡◌, ◌∷◌, [], ◌<◌, ◌^◌, All, IfOk};
+ghost use Rattle.std.specs.Prelude.{◌≡◌, ◌∷◌, [], ◌<◌, ◌≤◌, ◌^◌, All, IfOk};
 ghost use Rattle.bpf_isa.specs.Spelling.{IsInsn};
 ghost use Rattle.bpf_isa.specs.Text.{unit_count};
 
@@ -93,6 +93,7 @@ pub fn exit() -> Insn {
 }
 
 // All are instructions of the table, and there are few.
+#[tactic(auto, using(crate::proofs::Laid::unit_count_few))]
 fn check(rt: &impl Abort, insns: &[Insn])
     ensures legal { All IsInsn insns.now }
     ensures few { unit_count insns.now < 2 ^ 32 }
