@@ -205,8 +205,8 @@ changed_at-changes : (m : Machine) (i : Insn) (size : Size) (base : Value) (offs
 changed_at-changes m i size (Entry q key o) offset x new e =
     bind_inv (changed_entry m.maps q key (o +ℤ offset) size x) (λ found. with_registers (record m { maps = found.1 }) (taking m.registers x.kind i found.0)) new e (λ found f h.
     and_registers (Some q) m (record m { maps = found.1 }) new (taking m.registers x.kind i found.0)
-      (other_maps q m found.1 (changed_entry-keeps m.maps q key (o +ℤ offset) size x found f))
-      (λ r k. taking-keeps m.registers x.kind i found.0 r k) h)
+    (other_maps q m found.1 (changed_entry-keeps m.maps q key (o +ℤ offset) size x found f))
+    (λ r k. taking-keeps m.registers x.kind i found.0 r k) h)
 changed_at-changes m i size base offset x new e = absurd (cc)
 
 atomic-changes : (m : Machine) (i : Insn) (size : Size) (new : Machine) → atomic m i size ≡ Some new → ChangesOnly (map_under (register m.registers i.dst)) m new
@@ -308,6 +308,7 @@ goes_to-changes named insns (pos to) m other new before e = by_test (begins insn
   where
     goes_inj : (a b : Machine) → Goes a ≡ Goes b → a ≡ b
     goes_inj a b h = cc
+
     by_test : (b : Bool) → (if b then Goes (record other { place = to }) else NoCase) ≡ Goes new → ChangesOnly named m new
     by_test false h = absurd (cc)
     by_test true h = subst (ChangesOnly named m) (goes_inj (record other { place = to }) new h) (record {

@@ -1,5 +1,3 @@
-pub mod Bytes
-pub mod Slots
 pub mod Laid
 pub mod Runs
 pub mod Changes

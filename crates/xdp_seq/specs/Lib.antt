@@ -1,6 +1,3 @@
-pub mod Views
-pub mod Cases
-pub mod Machines
 pub mod Units
 pub mod Flows
 pub mod Answers

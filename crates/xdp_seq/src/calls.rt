@@ -1,21 +1,16 @@
 // Calls of helpers.
 
-ghost use Rattle.std.specs.Prelude.{◌≡◌, ◌≤◌, ◌<◌, ℕ, List, length};
+ghost use Rattle.std.specs.Prelude.{◌≡◌, ℕ, List};
 ghost use Rattle.xdp_maps.specs.State.{MapState};
 ghost use Rattle.xdp_object.specs.Values as seen;
-ghost use Rattle.xdp_object.specs.Helpers.{region, lookup, update, delete, redirect, called};
-ghost use Rattle.xdp_seq.specs.Views.{value_of};
-ghost use Rattle.xdp_seq.specs.Cases.{Makes, Fills};
-ghost use Rattle.xdp_seq.specs.Machines.{machine_of};
+ghost use Rattle.xdp_object.specs.Helpers.{lookup, update, delete, redirect, called};
+ghost use Rattle.xdp_state.specs.Views.{value_of};
+ghost use Rattle.xdp_state.specs.Cases.{Makes};
+ghost use Rattle.xdp_state.specs.Machines.{machine_of};
 
-use crate::entries::declared;
-use crate::memory::inside;
-use crate::pointers::number_in;
-use crate::stack::{STACK_BYTES, Stack};
-use crate::state::State;
-use crate::value::{Key, Value};
 use beat_core::Frame;
 use xdp_maps::state::Maps;
+use xdp_state::{Key, State, Value, declared, fill, number_in};
 
 /// XDP_REDIRECT of linux/bpf.h.
 const XDP_REDIRECT: u64 = 4;
@@ -30,30 +25,6 @@ fn map_in(value: &Value) -> Option<u32>
     match value {
         Value::Map(q) => Some(*q),
         _ => None,
-    }
-}
-
-// Fills a buffer with the bytes that a pointer leads to.
-fn fill(stack: &Stack, frame: &Frame, pointer: &Value, into: &mut [u8]) -> bool
-    requires { length into.old ≤ 64 }
-    ensures { Fills result (region stack.now frame.now (length into.old) (value_of pointer.now)) into.new }
-{
-    let n = into.len();
-    match pointer {
-        Value::Packet(o) => match inside(i128::from(*o), n, frame.len()) {
-            Some(at) => {
-                into.copy_from_slice(&frame.bytes()[at..at + n]);
-                true
-            }
-            None => false,
-        },
-        Value::Stack(o) => {
-            match inside(i128::from(*o) + STACK_BYTES as i128, n, STACK_BYTES) {
-                Some(at) => stack.fill(at, into),
-                None => false,
-            }
-        }
-        _ => false,
     }
 }
 

@@ -10,12 +10,12 @@ ghost use Rattle.xdp_seq.specs.Units.{laid};
 ghost use Rattle.xdp_seq.specs.Answers.{Answers};
 
 use crate::run::{Ended, STEP_LIMIT, SeqError, run};
-use crate::state::State;
 use beat_core::{Frame, Meta};
 use bpf_isa::Insn;
 use std::alloc::{AllocError, Global};
 use std::marker::Model;
 use xdp_maps::state::Maps;
+use xdp_state::State;
 
 /// A program that is ready to run, and the state of its machine. Contracts see its code.
 #[derive(Drop)]

@@ -2,16 +2,16 @@
 
 ghost use Rattle.std.specs.Prelude.{◌≡◌, ◌<◌, ◌^◌, length};
 ghost use Rattle.xdp_object.specs.Runs.{run};
-ghost use Rattle.xdp_seq.specs.Machines.{machine_of};
+ghost use Rattle.xdp_state.specs.Machines.{machine_of};
 ghost use Rattle.xdp_seq.specs.Units.{AreUnits, code_of};
 ghost use Rattle.xdp_seq.specs.Answers.{Answers};
 
 use crate::flow::Flow;
-use crate::state::State;
 use crate::step::step;
 use beat_core::Frame;
 use bpf_isa::Insn;
 use xdp_maps::state::Maps;
+use xdp_state::State;
 
 /// The most instructions of one run.
 pub const STEP_LIMIT: u32 = 1_048_576;

@@ -11,23 +11,21 @@ ghost use Rattle.xdp_object.specs.Values as seen;
 ghost use Rattle.xdp_object.specs.State.{Machine, begins, register};
 ghost use Rattle.xdp_object.specs.Pointers.{compared};
 ghost use Rattle.xdp_object.specs.Step.{goes_to, goes_on, jumps, exits, operand, constant, effect, outcome, step};
-ghost use Rattle.xdp_seq.specs.Views.{value_of};
-ghost use Rattle.xdp_seq.specs.Cases.{Makes};
-ghost use Rattle.xdp_seq.specs.Machines.{machine_of};
+ghost use Rattle.xdp_state.specs.Views.{value_of};
+ghost use Rattle.xdp_state.specs.Cases.{Makes};
+ghost use Rattle.xdp_state.specs.Machines.{machine_of};
 ghost use Rattle.xdp_seq.specs.Units.{AreUnits, insns_of, code_of};
 ghost use Rattle.xdp_seq.specs.Flows.{Flows};
 
-use crate::access::{loaded_plain, loaded_signed, store};
-use crate::alu::{alu, assign, immediate, taken};
-use crate::atomics::atomic;
 use crate::calls::call;
 use crate::flow::Flow;
-use crate::pointers::number_in;
-use crate::state::State;
-use crate::value::Value;
 use beat_core::Frame;
 use bpf_isa::{Insn, JumpCode, Op, Src, Width};
 use xdp_maps::state::Maps;
+use xdp_state::{
+    State, Value, alu, assign, atomic, immediate, loaded_plain, loaded_signed, number_in, store,
+    taken,
+};
 
 // The instruction that begins at a place.
 fn insn_at(units: &[Option<Insn>], place: usize) -> Option<&Insn>

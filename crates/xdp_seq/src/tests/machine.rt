@@ -122,7 +122,8 @@ pub fn one_map(alloc: Global, kind: MapKind, cap: u32) -> Result<Maps, Fail>
 
 /// A run on a frame that comes in by interface 1.
 pub fn run(
-    rt: &impl Abort, alloc: Global,
+    rt: &impl Abort,
+    alloc: Global,
     insns: &[Insn],
     refs: &[u32],
     maps: &mut Maps,

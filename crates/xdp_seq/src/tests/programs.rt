@@ -20,7 +20,12 @@ fn ended(verdict: u32) -> Result<Ended, SeqError> {
 }
 
 // A run of a program without maps on a frame of so many zeros.
-fn plain(rt: &impl Abort, alloc: Global, insns: &[Insn], frame: &[u8]) -> Result<Result<Ended, SeqError>, Fail>
+fn plain(
+    rt: &impl Abort,
+    alloc: Global,
+    insns: &[Insn],
+    frame: &[u8],
+) -> Result<Result<Ended, SeqError>, Fail>
     requires { 0 < length frame.now }
 {
     assert!(rt; frame.len() <= 64);
@@ -33,9 +38,15 @@ fn plain(rt: &impl Abort, alloc: Global, insns: &[Insn], frame: &[u8]) -> Result
 #[test]
 fn has_no_end(rt: HostRuntime) -> Result<(), Fail> {
     let back = insn(Op::Ja(Width::Bits64), 0, 0, -1, 0);
-    assert_eq!(rt; plain(&rt, rt.alloc(), &[set(0, 0), back], b"x")?, Err(SeqError::Spent { at: 1 }));
+    assert_eq!(rt;
+        plain(&rt, rt.alloc(), &[set(0, 0), back], b"x")?,
+        Err(SeqError::Spent { at: 1 })
+    );
     let stuck = Err(SeqError::Stuck { at: 0 });
-    assert_eq!(rt; plain(&rt, rt.alloc(), &[load(B, 0, 10, 0), exit()], b"x")?, stuck);
+    assert_eq!(rt;
+        plain(&rt, rt.alloc(), &[load(B, 0, 10, 0), exit()], b"x")?,
+        stuck
+    );
     assert_eq!(rt; plain(&rt, rt.alloc(), &[copy(0, 1)], b"x")?, stuck);
     assert_eq!(rt; plain(&rt, rt.alloc(), &[exit()], b"x")?, stuck);
     assert_eq!(rt; plain(&rt, rt.alloc(), &[set(10, 0), exit()], b"x")?, stuck);
@@ -81,7 +92,10 @@ fn reads_the_frame(rt: HostRuntime) -> Result<(), Fail> {
     assert_eq!(rt; plain(&rt, rt.alloc(), &insns, &frame[..13])?, ended(0));
     assert_eq!(rt; plain(&rt, rt.alloc(), &insns, &frame)?, ended(2));
     let past = [load(W, 1, 1, 4), store_k(B, 1, 0, 1), set(0, 0), exit()];
-    assert_eq!(rt; plain(&rt, rt.alloc(), &past, &frame)?, Err(SeqError::Stuck { at: 1 }));
+    assert_eq!(rt;
+        plain(&rt, rt.alloc(), &past, &frame)?,
+        Err(SeqError::Stuck { at: 1 })
+    );
     Ok(())
 }
 
@@ -109,7 +123,8 @@ fn inserting(helper: i64, flags: i64) -> [Insn; 16] {
 
 // Runs such a program on a frame with a key.
 fn insert(
-    rt: &impl Abort, alloc: Global,
+    rt: &impl Abort,
+    alloc: Global,
     maps: &mut Maps,
     helper: i64,
     flags: i64,
@@ -212,8 +227,18 @@ fn redirects(rt: HostRuntime) -> Result<(), Fail> {
     };
     assert_eq!(rt; plain(&rt, rt.alloc(), &by(0), b"x")?, Ok(sent));
     assert_eq!(rt; plain(&rt, rt.alloc(), &by(1), b"x")?, ended(0));
-    let lost = [set(1, 7), set(2, 0), set(3, 0), call(23), copy(0, 3), exit()];
-    assert_eq!(rt; plain(&rt, rt.alloc(), &lost, b"x")?, Err(SeqError::Stuck { at: 4 }));
+    let lost = [
+        set(1, 7),
+        set(2, 0),
+        set(3, 0),
+        call(23),
+        copy(0, 3),
+        exit(),
+    ];
+    assert_eq!(rt;
+        plain(&rt, rt.alloc(), &lost, b"x")?,
+        Err(SeqError::Stuck { at: 4 })
+    );
     Ok(())
 }
 
@@ -228,7 +253,10 @@ fn spills_pointers(rt: HostRuntime) -> Result<(), Fail> {
     ];
     assert_eq!(rt; plain(&rt, rt.alloc(), &reload, b"x")?, ended(1));
     let part = [store(Dw, 10, -8, 1), load(W, 0, 10, -8), exit()];
-    assert_eq!(rt; plain(&rt, rt.alloc(), &part, b"x")?, Err(SeqError::Stuck { at: 1 }));
+    assert_eq!(rt;
+        plain(&rt, rt.alloc(), &part, b"x")?,
+        Err(SeqError::Stuck { at: 1 })
+    );
     let over = [
         store(Dw, 10, -8, 1),
         store_k(B, 10, -7, 2),

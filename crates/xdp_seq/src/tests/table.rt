@@ -190,13 +190,33 @@ const LOADS: [(Op, i16, u64); 10] = [
 // An atomic change by its code: the number in memory, R2 and R0 before it, and after it.
 const ATOMICS: [(Size, i64, [u64; 3], [u64; 3]); 24] = [
     (Dw, 0x00, [ONES, 2, 9], [1, 2, 9]),
-    (W, 0x00, [0x5_ffff_ffff, 0x9_0000_0001, 9], [0x5_0000_0000, 0x9_0000_0001, 9]),
+    (
+        W,
+        0x00,
+        [0x5_ffff_ffff, 0x9_0000_0001, 9],
+        [0x5_0000_0000, 0x9_0000_0001, 9],
+    ),
     (Dw, 0x01, [ONES, 2, 9], [1, ONES, 9]),
-    (W, 0x01, [0x5_ffff_ffff, 0x9_0000_0001, 9], [0x5_0000_0000, ONES_32, 9]),
+    (
+        W,
+        0x01,
+        [0x5_ffff_ffff, 0x9_0000_0001, 9],
+        [0x5_0000_0000, ONES_32, 9],
+    ),
     (Dw, 0x40, [MIN, 1, 9], [0x8000_0000_0000_0001, 1, 9]),
-    (W, 0x40, [MIN, 0x7_0000_0001, 9], [0x8000_0000_0000_0001, 0x7_0000_0001, 9]),
+    (
+        W,
+        0x40,
+        [MIN, 0x7_0000_0001, 9],
+        [0x8000_0000_0000_0001, 0x7_0000_0001, 9],
+    ),
     (Dw, 0x41, [MIN, 1, 9], [0x8000_0000_0000_0001, MIN, 9]),
-    (W, 0x41, [0x8000_0000_0000_0006, 1, 9], [0x8000_0000_0000_0007, 6, 9]),
+    (
+        W,
+        0x41,
+        [0x8000_0000_0000_0006, 1, 9],
+        [0x8000_0000_0000_0007, 6, 9],
+    ),
     (Dw, 0x50, [ONES, MIN, 9], [MIN, MIN, 9]),
     (W, 0x50, [ONES, 6, 9], [0xffff_ffff_0000_0006, 6, 9]),
     (Dw, 0x51, [ONES, MIN, 9], [MIN, ONES, 9]),
@@ -204,14 +224,39 @@ const ATOMICS: [(Size, i64, [u64; 3], [u64; 3]); 24] = [
     (Dw, 0xa0, [ONES, MIN, 9], [MAX, MIN, 9]),
     (W, 0xa0, [ONES, ONES, 9], [0xffff_ffff_0000_0000, ONES, 9]),
     (Dw, 0xa1, [ONES, MIN, 9], [MAX, ONES, 9]),
-    (W, 0xa1, [ONES, ONES, 9], [0xffff_ffff_0000_0000, ONES_32, 9]),
+    (
+        W,
+        0xa1,
+        [ONES, ONES, 9],
+        [0xffff_ffff_0000_0000, ONES_32, 9],
+    ),
     (Dw, 0xe1, [7, ONES, 9], [ONES, 7, 9]),
-    (W, 0xe1, [0x3_0000_0007, 0x4_0000_0005, 9], [0x3_0000_0005, 7, 9]),
+    (
+        W,
+        0xe1,
+        [0x3_0000_0007, 0x4_0000_0005, 9],
+        [0x3_0000_0005, 7, 9],
+    ),
     (Dw, 0xf1, [7, 5, 7], [5, 5, 7]),
     (Dw, 0xf1, [7, 5, 0x1_0000_0007], [7, 5, 7]),
-    (Dw, 0xf1, [0x1_0000_0007, 5, 7], [0x1_0000_0007, 5, 0x1_0000_0007]),
-    (W, 0xf1, [0x3_0000_0007, 0x4_0000_0005, 7], [0x3_0000_0005, 0x4_0000_0005, 7]),
-    (W, 0xf1, [0x3_0000_0007, 5, 0x2_0000_0007], [0x3_0000_0005, 5, 7]),
+    (
+        Dw,
+        0xf1,
+        [0x1_0000_0007, 5, 7],
+        [0x1_0000_0007, 5, 0x1_0000_0007],
+    ),
+    (
+        W,
+        0xf1,
+        [0x3_0000_0007, 0x4_0000_0005, 7],
+        [0x3_0000_0005, 0x4_0000_0005, 7],
+    ),
+    (
+        W,
+        0xf1,
+        [0x3_0000_0007, 5, 0x2_0000_0007],
+        [0x3_0000_0005, 5, 7],
+    ),
     (W, 0xf1, [0x3_0000_0007, 5, 8], [0x3_0000_0007, 5, 7]),
 ];
 
@@ -234,7 +279,14 @@ fn first_after(rt: &impl Abort, alloc: Global, a: u64, b: u64, insn: Insn) -> Re
 }
 
 // Whether a jump by one over `r0 = 0` is taken.
-fn is_taken(rt: &impl Abort, alloc: Global, width: Width, code: JumpCode, a: u64, b: u64) -> Result<bool, Fail> {
+fn is_taken(
+    rt: &impl Abort,
+    alloc: Global,
+    width: Width,
+    code: JumpCode,
+    a: u64,
+    b: u64,
+) -> Result<bool, Fail> {
     let mut maps = Maps::new(alloc, &[])?;
     let mut frame = Frame::of(alloc, &[0])?;
     let insns = [
@@ -252,7 +304,13 @@ fn is_taken(rt: &impl Abort, alloc: Global, width: Width, code: JumpCode, a: u64
 }
 
 // The number in an entry, r2 and r0 after an atomic change.
-fn changed(rt: &impl Abort, alloc: Global, size: Size, code: i64, old: [u64; 3]) -> Result<[u64; 3], Fail> {
+fn changed(
+    rt: &impl Abort,
+    alloc: Global,
+    size: Size,
+    code: i64,
+    old: [u64; 3],
+) -> Result<[u64; 3], Fail> {
     let [memory, source, compare] = old;
     let mut maps = one_map(alloc, MapKind::Array, 1)?;
     let mut frame = Frame::of(alloc, &[0; 24])?;
@@ -290,11 +348,19 @@ fn changed(rt: &impl Abort, alloc: Global, size: Size, code: i64, old: [u64; 3])
 fn arithmetic(rt: HostRuntime) -> Result<(), Fail> {
     for (width, code, offset, a, b, want) in ARITHMETIC {
         let insn = insn(Alu(width, code, X), 1, 2, offset, 0);
-        assert_eq!(rt; first_after(&rt, rt.alloc(), a, b, insn)?, want, "{width:?} {code:?} {offset} of {a:#x} and {b:#x}");
+        assert_eq!(rt;
+            first_after(&rt, rt.alloc(), a, b, insn)?,
+            want,
+            "{width:?} {code:?} {offset} of {a:#x} and {b:#x}"
+        );
     }
     for (op, imm, a, want) in IMMEDIATE {
         let insn = insn(op, 1, 0, 0, imm);
-        assert_eq!(rt; first_after(&rt, rt.alloc(), a, 0, insn)?, want, "{op:?} {imm} of {a:#x}");
+        assert_eq!(rt;
+            first_after(&rt, rt.alloc(), a, 0, insn)?,
+            want,
+            "{op:?} {imm} of {a:#x}"
+        );
     }
     Ok(())
 }
@@ -302,7 +368,11 @@ fn arithmetic(rt: HostRuntime) -> Result<(), Fail> {
 #[test]
 fn jumps(rt: HostRuntime) -> Result<(), Fail> {
     for (width, code, a, b, want) in JUMPS {
-        assert_eq!(rt; is_taken(&rt, rt.alloc(), width, code, a, b)?, want, "{width:?} {code:?} of {a:#x} and {b:#x}");
+        assert_eq!(rt;
+            is_taken(&rt, rt.alloc(), width, code, a, b)?,
+            want,
+            "{width:?} {code:?} of {a:#x} and {b:#x}"
+        );
     }
     Ok(())
 }
@@ -311,7 +381,9 @@ fn jumps(rt: HostRuntime) -> Result<(), Fail> {
 fn loads(rt: HostRuntime) -> Result<(), Fail> {
     for (op, at, want) in LOADS {
         let mut maps = Maps::new(rt.alloc(), &[])?;
-        let bytes = [0x88, 0x77, 0x66, 0x55, 0x44, 0x33, 0x22, 0x91, 0, 0, 0, 0, 0, 0, 0, 0];
+        let bytes = [
+            0x88, 0x77, 0x66, 0x55, 0x44, 0x33, 0x22, 0x91, 0, 0, 0, 0, 0, 0, 0, 0,
+        ];
         let mut frame = Frame::of(rt.alloc(), &bytes)?;
         let insns = [
             load(W, 6, 1, 0),
@@ -330,7 +402,11 @@ fn loads(rt: HostRuntime) -> Result<(), Fail> {
 #[test]
 fn atomics(rt: HostRuntime) -> Result<(), Fail> {
     for (size, code, old, want) in ATOMICS {
-        assert_eq!(rt; changed(&rt, rt.alloc(), size, code, old)?, want, "{size:?} {code:#x} of {old:?}");
+        assert_eq!(rt;
+            changed(&rt, rt.alloc(), size, code, old)?,
+            want,
+            "{size:?} {code:#x} of {old:?}"
+        );
     }
     Ok(())
 }

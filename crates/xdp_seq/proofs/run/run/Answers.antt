@@ -1,6 +1,6 @@
 use Rattle.std.proofs.Common.{◌∙◌, refl, sym, ap, arith}
 use Rattle.xdp_object.specs.Runs.{Ended, Stuck, leaves}
-use Rattle.xdp_seq.specs.Machines.{machine_of}
+use Rattle.xdp_state.specs.Machines.{machine_of}
 use Rattle.xdp_seq.proofs.Runs.{run_none, run_goes, run_ends, run_stops}
 use Rattle.xdp_seq.proofs.run.run.Goals as goal
 
