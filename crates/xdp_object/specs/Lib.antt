@@ -5,3 +5,14 @@ pub mod Object
 pub mod Codes
 pub mod Laws
 pub mod Machine
+pub mod Values
+pub mod State
+pub mod Arithmetic
+pub mod Pointers
+pub mod Memory
+pub mod Atomics
+pub mod Helpers
+pub mod Step
+pub mod Runs
+pub mod Touched
+pub mod MachineLaws

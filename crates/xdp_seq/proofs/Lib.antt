@@ -1,0 +1,4 @@
+pub mod Laid
+pub mod Runs
+pub mod Changes
+pub mod Kept

@@ -1,0 +1,28 @@
+-- Instructions by their units.
+use Rattle.std.specs.Prelude.{ℕ, ◌≡◌, ◌-◌, ◌^◌, ◌<◌, List, [], ◌∷◌, ◌++◌, length, replicate, slice_index_or, All, Option, Some, None}
+use Rattle.bpf_isa.specs.declared.instruction.Insn.{Insn}
+use Rattle.bpf_isa.specs.Spelling.{units_of, IsInsn}
+use Rattle.xdp_object.specs.State.{Code}
+
+-- each instruction at its first unit, and nothing at the second of a load of 64 bits
+abbrev pub laid : List Insn → List (Option Insn)
+laid [] = []
+laid (i ∷ is) = Some i ∷ (replicate (units_of i.op - 1) None ++ laid is)
+
+-- the instructions of units
+abbrev pub insns_of : List (Option Insn) → List Insn
+insns_of [] = []
+insns_of (Some i ∷ units) = i ∷ insns_of units
+insns_of (None ∷ units) = insns_of units
+
+abbrev pub unit_at : List (Option Insn) → ℕ → Option Insn
+unit_at units place = slice_index_or units place None
+
+-- the units of instructions of the table
+pub record AreUnits (units : List (Option Insn)) : Type 0 where
+  pub are : units ≡ laid (insns_of units)
+  pub legal : All IsInsn (insns_of units)
+  pub few : length units < 2 ^ 32
+
+abbrev pub code_of : List (Option Insn) → List ℕ → Code
+code_of units refs = record { insns = insns_of units; refs = refs }

@@ -1,0 +1,95 @@
+// Programs that are ready to run.
+
+ghost use Rattle.std.specs.Prelude.{◌≡◌, ◌-◌, ◌<◌, ◌^◌, ◌∷◌, ◌++◌, length, replicate, All, Some, None, IfOk, OnOk};
+ghost use Rattle.bpf_isa.specs.declared.instruction.Insn.{Insn};
+ghost use Rattle.bpf_isa.specs.Spelling.{IsInsn, units_of};
+ghost use Rattle.bpf_isa.specs.Text.{unit_count};
+ghost use Rattle.xdp_object.specs.State.{start};
+ghost use Rattle.xdp_object.specs.Runs.{run};
+ghost use Rattle.xdp_seq.specs.Units.{laid};
+ghost use Rattle.xdp_seq.specs.Answers.{Answers};
+
+use crate::run::{Ended, STEP_LIMIT, SeqError, run};
+use beat_core::{Frame, Meta};
+use bpf_isa::Insn;
+use std::alloc::{AllocError, Global};
+use std::marker::Model;
+use xdp_maps::state::Maps;
+use xdp_state::State;
+
+/// A program that is ready to run, and the state of its machine. Contracts see its code.
+#[derive(Drop)]
+pub struct SeqPlan {
+    units: Vec<Option<Insn>>,
+    refs: Vec<u32>,
+    state: State,
+}
+
+impl Model for SeqPlan {
+    ghost use Rattle.xdp_object.specs.State.{Code};
+
+    ghost Value = { Code };
+
+    ghost use Rattle.xdp_seq.specs.Units.{AreUnits, code_of};
+
+    ghost view = { λ p. code_of p.units.items p.refs.items };
+
+    ghost invariant = { λ p. AreUnits p.units.items };
+}
+
+// Adds the units of an instruction.
+fn push_units(units: &mut Vec<Option<Insn>>, insn: &Insn) -> Result<(), AllocError>
+    ensures { OnOk result (units.new.items ≡ units.old.items ++ (Some insn.now ∷ replicate (units_of insn.now.op - 1) None)) }
+{
+    units.push(Some(*insn))?;
+    if insn.op.units() == 2 {
+        units.push(None)?;
+    }
+    Ok(())
+}
+
+// The units of instructions.
+fn units_of(alloc: Global, insns: &[Insn]) -> Result<Vec<Option<Insn>>, AllocError>
+    ensures { IfOk result (λ units. units.items ≡ laid insns.now) }
+{
+    let mut units = Vec::new(alloc);
+    for insn in insns {
+        push_units(&mut units, insn)?;
+    }
+    Ok(units)
+}
+
+impl SeqPlan {
+    /// A program of these instructions, of which the loads of 64 bits at the places `refs` are
+    /// references to maps by their numbers. It takes all the memory that a run needs.
+    pub fn open(alloc: Global, insns: &[Insn], refs: &[u32]) -> Result<SeqPlan, AllocError>
+        requires legal { All IsInsn insns.now }
+        requires few { unit_count insns.now < 2 ^ 32 }
+        ensures { IfOk result (λ plan. plan ≡ record { insns = insns.now; refs = refs.now }) }
+    {
+        let units = units_of(alloc, insns)?;
+        let refs = Vec::from_slice(alloc, refs)?;
+        Ok(SeqPlan {
+            units,
+            refs,
+            state: State::new(),
+        })
+    }
+}
+
+/// The run of one packet, from the start of the program. The frame and the maps become what the run
+/// leaves, and where it has no end, what the steps made of them. It takes no memory.
+pub fn run_packet(
+    plan: &mut SeqPlan,
+    maps: &mut Maps,
+    frame: &mut Frame,
+    meta: Meta,
+) -> Result<Ended, SeqError>
+    ensures answer { Answers result (run plan.old STEP_LIMIT (start frame.old meta.ifindex maps.old)) frame.new maps.new }
+    ensures plan { plan.new ≡ plan.old }
+    ensures frame { length frame.new ≡ length frame.old }
+    ensures decls { maps.new.decls ≡ maps.old.decls }
+{
+    plan.state.restart(meta.ifindex);
+    run(&plan.units, &plan.refs, &mut plan.state, frame, maps)
+}

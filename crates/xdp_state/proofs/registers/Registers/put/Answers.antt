@@ -1,0 +1,7 @@
+use Rattle.std.proofs.Common.{arith}
+use Rattle.std.proofs.lemmas.List.{map-set}
+use Rattle.std.proofs.lemmas.Grind.{common_steps}
+use Rattle.xdp_state.proofs.registers.Registers.put.Goals as goal
+
+pub returns : goal.returns
+returns c = grind (arith, common_steps, map-set)

@@ -1,0 +1,31 @@
+//! The state of the sequential machine in memory, and what instructions do to it that neither jump nor call: arithmetic,
+//! loads, stores and atomic changes.
+//!
+//! A call that changes the state in place says by a `bool` whether the machine has a case: where it has none, nothing
+//! has changed. Nothing here takes memory.
+#![tactic(auto)]
+
+mod access;
+mod arithmetic;
+mod atomics;
+mod effects;
+mod entries;
+mod frames;
+mod memory;
+mod pointers;
+mod regions;
+mod registers;
+mod stack;
+mod state;
+mod value;
+
+pub use access::{loaded_plain, loaded_signed, store};
+pub use atomics::atomic;
+pub use effects::{alu, assign, immediate, taken};
+pub use entries::declared;
+pub use pointers::number_in;
+pub use regions::fill;
+pub use registers::Registers;
+pub use stack::Stack;
+pub use state::State;
+pub use value::{Key, Value};

@@ -1,0 +1,45 @@
+// What the machine holds beside the frame and the maps.
+
+use crate::registers::Registers;
+use crate::stack::Stack;
+
+/// The machine but for its frame and its maps.
+#[derive(Drop)]
+pub struct State {
+    pub registers: Registers,
+    pub stack: Stack,
+    /// The interface that the frame came in by.
+    pub ifindex: u32,
+    /// The interface that a redirect recorded.
+    pub target: u32,
+    /// The unit with which the next instruction begins.
+    pub place: u32,
+}
+
+impl State {
+    ghost use Rattle.std.specs.Prelude.{◌≡◌, List, ℕ};
+    ghost use Rattle.xdp_maps.specs.State.{MapState};
+    ghost use Rattle.xdp_object.specs.State.{start};
+    ghost use Rattle.xdp_state.specs.Machines.{machine_of};
+
+    pub fn new() -> State {
+        State {
+            registers: Registers::new(),
+            stack: Stack::new(),
+            ifindex: 0,
+            target: 0,
+            place: 0,
+        }
+    }
+
+    /// The start of a run, whatever the frame and the maps are.
+    pub fn restart(&mut self, ifindex: u32)
+        ensures { (frame : List ℕ) (maps : MapState) → machine_of self.new frame maps ≡ start frame ifindex maps }
+    {
+        self.registers.restart();
+        self.stack.clear();
+        self.ifindex = ifindex;
+        self.target = 0;
+        self.place = 0;
+    }
+}
