@@ -8,21 +8,21 @@ use Rattle.xdp_object.specs.declared.error.ObjectError.TheVariants.{NoMemory as 
 use Rattle.xdp_object.specs.Object.{FirstFault, IsObject}
 use Rattle.xdp_object.proofs.Outcomes.{one_outcome}
 use Rattle.xdp_object.specs.Program.{Listing, two_units}
-use Rattle.xdp_object.specs.Machine.{IsRun, run}
+use Rattle.xdp_object.specs.Runs.{IsRun, run}
 use Rattle.net_core.specs.History.{Arrival}
 use Rattle.spelling_core.specs.Spelling.{Spells}
 use Rattle.ehdl_build.specs.Station.{station, replies_to}
 use Rattle.ehdl_build.specs.declared.built.CompileError.{CompileError}
 use Rattle.ehdl_build.specs.declared.built.CompileError.TheVariants.{NoMemory, Object, Refused}
 use Rattle.ehdl_build.specs.declared.built.Why.{Why}
-use Rattle.ehdl_build.specs.Compiled.{AreRuns, Compiles, FailsFor, IsRefused}
+use Rattle.ehdl_build.specs.Compiled.{AreRuns, no_maps, Compiles, FailsFor, IsRefused}
 use Rattle.ehdl_build.proofs.Realized.{realized}
 
 -- the verdict of `r0 = k`, `exit`
 abbrev pub verdict_of : ℤ → ℕ
 verdict_of k = cast_unsigned w64 k % 2 ^ 32
 
-two_steps : (k : ℤ) (frame : List ℕ) (ifindex : ℕ) → IsRun (two_units k) frame ifindex (record { verdict = verdict_of k; target = 0; frame = frame })
+two_steps : (k : ℤ) (frame : List ℕ) (ifindex : ℕ) → IsRun (record { insns = two_units k; refs = [] }) frame ifindex no_maps (record { verdict = verdict_of k; target = 0; frame = frame; maps = no_maps })
 unfolding run
 two_steps k frame ifindex = (2, refl)
 

@@ -3,7 +3,8 @@ use Rattle.std.specs.Prelude.{◌≡◌, ◌≢◌, ℕ, ℤ, Option, List, [], 
 use Rattle.bpf_isa.specs.declared.instruction.Insn.{Insn}
 use Rattle.xdp_object.specs.Object.{FirstFault, IsObject}
 use Rattle.xdp_object.specs.Program.{Listing, two_units}
-use Rattle.xdp_object.specs.Machine.{IsRun}
+use Rattle.xdp_maps.specs.State.{MapState, opened_state}
+use Rattle.xdp_object.specs.Runs.{IsRun}
 use Rattle.net_core.specs.Nets.{Plan}
 use Rattle.net_core.specs.History.{Arrival, Reply}
 use Rattle.spelling_core.specs.Spelling.{Spells}
@@ -13,12 +14,16 @@ use Rattle.ehdl_build.specs.declared.built.Why.{Why}
 use Rattle.ehdl_build.specs.declared.built.Why.TheVariants.{Instruction}
 use Rattle.ehdl_build.specs.Realizes.{Answers}
 
--- each answer is that of the packet run on its frame
+-- what the maps of a program without maps hold
+abbrev pub no_maps : MapState
+no_maps = opened_state []
+
+-- each answer is that of the packet run on its frame, of a program without maps
 abbrev pub AreRuns : List Insn → List Arrival → List Reply → Type 0
 AreRuns insns [] [] = Unit {0}
 AreRuns insns [] (r ∷ rs) = ⊥
 AreRuns insns (a ∷ rest) [] = ⊥
-AreRuns insns (a ∷ rest) (r ∷ rs) = IsRun insns a.frame a.ifindex (record { verdict = r.verdict; target = r.target; frame = r.frame }) × AreRuns insns rest rs
+AreRuns insns (a ∷ rest) (r ∷ rs) = IsRun (record { insns = insns; refs = [] }) a.frame a.ifindex no_maps (record { verdict = r.verdict; target = r.target; frame = r.frame; maps = no_maps }) × AreRuns insns rest rs
 
 -- The text spells a design that answers frames as sequential execution does, with so many stages and record sites.
 pub record Realizes (text : List ℕ) (insns : List Insn) (stages records : ℕ) : Type 0 where

@@ -4,7 +4,6 @@ pub mod Relocations
 pub mod Object
 pub mod Codes
 pub mod Laws
-pub mod Machine
 pub mod Values
 pub mod State
 pub mod Arithmetic
