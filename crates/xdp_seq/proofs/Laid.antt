@@ -1,6 +1,6 @@
 -- Which instruction begins at a place, by the units.
-use Rattle.std.proofs.Common.{Bor, ◌≡◌, ℕ, zero, suc, ◌+◌, ◌*◌, ◌-◌, ◌≤◌, ◌^◌, ◌<◌, ◌⊎◌, inl, inr, List, [], ◌∷◌, ◌++◌, length, take, replicate, get_or, Some, None, Bool, true, false, refl, sym, ◌∙◌, ap, subst, arith, sub-one}
-use Rattle.std.proofs.lemmas.List.{append_assoc, take_more, append-nil}
+use Rattle.std.proofs.Common.{Bor, below_more, ◌≡◌, ℕ, zero, suc, ◌+◌, ◌*◌, ◌-◌, ◌≤◌, ◌^◌, ◌<◌, ◌⊎◌, inl, inr, List, [], ◌∷◌, ◌++◌, length, take, replicate, get_or, Some, None, Bool, true, false, refl, sym, ◌∙◌, ap, subst, arith, sub-one}
+use Rattle.std.proofs.lemmas.List.{append_assoc, take_more, append-nil, get_or_default}
 use Rattle.std.proofs.lemmas.Bool.Decides.{nat_tests}
 use Rattle.std.specs.Prelude.{Option, IfSome, option_copied, All, if◌then◌else◌, nat_lt}
 use Rattle.bpf_isa.specs.declared.operation.Op.{Op}
@@ -100,3 +100,9 @@ unit_count_few (i ∷ is) = more (units_of i.op) (one_or_two i.op) (unit_count_f
     more : (u : ℕ) → (u ≡ 1) ⊎ (u ≡ 2) → unit_count is ≤ 2 * length is → u + unit_count is ≤ 2 * suc (length is)
     more u (inl e) h = omega arith
     more u (inr e) h = omega arith
+
+-- one more instruction is legal
+pub legal_more : (is : List Insn) (n : ℕ) (e : Insn) → ((k : ℕ) (d : Insn) → k < n → IsInsn (get_or is k d)) → n < length is → IsInsn (get_or is n e)
+    → (k : ℕ) (d : Insn) → k < n + 1 → IsInsn (get_or is k d)
+legal_more is n e before below here k d h =
+    below_more (λ j. (x : Insn) → IsInsn (get_or is j x)) n (λ j below' x. before j x below') (λ x. subst IsInsn (get_or_default is n e x below) here) k h d
