@@ -1,21 +1,11 @@
 // The operations on numbers.
 
 ghost use Rattle.std.specs.Prelude.{◌≡◌, ◌^◌, ◌<◌, ◌≤◌, ◌⊎◌};
+ghost use Rattle.bits_core.specs.Bits.{signed_of};
 ghost use Rattle.xdp_object.specs.Arithmetic.{arithmetic, bits_in, low, negated, extended, ordered, holds};
 
 use bits_core::{arsh, div_s, div_u, mod_s, mod_u, sext, swap};
 use bpf_isa::{AluCode, JumpCode, Src, Width};
-
-/// How many bits an operation works on.
-pub fn bits_in(width: Width) -> u32
-    ensures value { result ≡ bits_in width }
-    ensures word { (result ≡ 32) ⊎ (result ≡ 64) }
-{
-    match width {
-        Width::Bits32 => 32,
-        Width::Bits64 => 64,
-    }
-}
 
 /// The low bits that an operation works on.
 pub fn low(width: Width, n: u64) -> u64
@@ -116,28 +106,22 @@ pub fn ordered(order: Src, bits: u32, n: u64) -> u64
     }
 }
 
-/// The condition of a jump on two numbers of 64 bits.
-fn holds_in_64(code: JumpCode, a: u64, b: u64) -> bool
-    ensures { result ≡ holds code 64 a b }
+// The signed number that the low bits of a number stand for.
+fn signed(width: Width, n: u64) -> i64
+    requires { n < 2 ^ bits_in width }
+    ensures { result ≡ signed_of (bits_in width) n }
 {
-    match code {
-        JumpCode::Jeq => a == b,
-        JumpCode::Jne => a != b,
-        JumpCode::Jset => a & b != 0,
-        JumpCode::Jgt => a > b,
-        JumpCode::Jge => a >= b,
-        JumpCode::Jlt => a < b,
-        JumpCode::Jle => a <= b,
-        JumpCode::Jsgt => a.cast_signed() > b.cast_signed(),
-        JumpCode::Jsge => a.cast_signed() >= b.cast_signed(),
-        JumpCode::Jslt => a.cast_signed() < b.cast_signed(),
-        JumpCode::Jsle => a.cast_signed() <= b.cast_signed(),
+    match width {
+        Width::Bits32 => i64::from((n as u32).cast_signed()),
+        Width::Bits64 => n.cast_signed(),
     }
 }
 
-/// The condition of a jump on two numbers of 32 bits.
-fn holds_in_32(code: JumpCode, a: u32, b: u32) -> bool
-    ensures { result ≡ holds code 32 a b }
+// The condition of a jump on two numbers of the width.
+fn holds_in(code: JumpCode, width: Width, a: u64, b: u64) -> bool
+    requires first { a < 2 ^ bits_in width }
+    requires second { b < 2 ^ bits_in width }
+    ensures { result ≡ holds code (bits_in width) a b }
 {
     match code {
         JumpCode::Jeq => a == b,
@@ -147,10 +131,10 @@ fn holds_in_32(code: JumpCode, a: u32, b: u32) -> bool
         JumpCode::Jge => a >= b,
         JumpCode::Jlt => a < b,
         JumpCode::Jle => a <= b,
-        JumpCode::Jsgt => a.cast_signed() > b.cast_signed(),
-        JumpCode::Jsge => a.cast_signed() >= b.cast_signed(),
-        JumpCode::Jslt => a.cast_signed() < b.cast_signed(),
-        JumpCode::Jsle => a.cast_signed() <= b.cast_signed(),
+        JumpCode::Jsgt => signed(width, a) > signed(width, b),
+        JumpCode::Jsge => signed(width, a) >= signed(width, b),
+        JumpCode::Jslt => signed(width, a) < signed(width, b),
+        JumpCode::Jsle => signed(width, a) <= signed(width, b),
     }
 }
 
@@ -158,8 +142,5 @@ fn holds_in_32(code: JumpCode, a: u32, b: u32) -> bool
 pub fn holds(code: JumpCode, width: Width, a: u64, b: u64) -> bool
     ensures { result ≡ holds code (bits_in width) (low (bits_in width) a) (low (bits_in width) b) }
 {
-    match width {
-        Width::Bits32 => holds_in_32(code, (a % (1 << 32)) as u32, (b % (1 << 32)) as u32),
-        Width::Bits64 => holds_in_64(code, a, b),
-    }
+    holds_in(code, width, low(width, a), low(width, b))
 }
