@@ -107,7 +107,9 @@ fn no_packets(rt: HostRuntime) -> Result<(), Fail> {
     let mut shelf = shelf_of(rt.alloc(), 2, &INPUT)?;
     let (status, out) = ends(rt.alloc(), &mut shelf)?;
     assert_eq!(rt; status, Status::Done);
-    assert_eq!(rt; shelf.held("a"), Some(HEADER.as_slice()));
+    let answer = shelf.held("a").unwrap_or(b"");
+    assert_eq!(rt; answer.len(), 24);
+    assert!(rt; answer.starts_with(&HEADER));
     assert_eq!(rt; shelf.held("d"), Some(b"".as_slice()));
     assert_eq!(rt; shelf.held("f"), Some(b"".as_slice()));
     assert_eq!(rt; out.held(), b"".as_slice());
