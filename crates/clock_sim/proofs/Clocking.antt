@@ -14,9 +14,7 @@ use Rattle.net_core.specs.Clock.{Stored, net_value, cell_value, env, env_of, wit
 use Rattle.net_core.specs.Ports.{port_list}
 use Rattle.net_core.specs.Suits.{IsOfWidth, Suits}
 use Rattle.net_core.proofs.Typed.{value_fits, right_fits}
-use Rattle.clock_sim.specs.Readable.{AreWires, AreAssigns}
 use Rattle.clock_sim.specs.Ready.{ArePorts, IsStored, FitOutputs}
-use Rattle.clock_sim.specs.Stores.{CanDo, CanAllDo, CanEdge}
 use Rattle.clock_sim.proofs.Keeping.{same_sides, done_kept}
 
 -- what has a width is there
@@ -63,83 +61,27 @@ module _ (d : Plan) (ports : d.ports ≡ port_list) (ins : List Word) (are : Are
   suits_at ns ws f = record { net = net_at ns ws f; cell = cell_at }
 
   -- ---- wires
-  record Walked (ns : List ℕ) (ws : List Word) (rest : List WireTree) : Type 0 where
-    readable : AreWires ins s ws rest
-    fit : AreOfWidths (ns ++ wire_widths rest) (with_wires ins s ws rest)
-
-  walk : (ns : List ℕ) (ws : List Word) (rest : List WireTree) → AreOfWidths ns ws → IsTrue (wires_typed d ns rest) → Walked ns ws rest
-  walk ns ws [] f h = record { readable = tt; fit = subst (λ l. AreOfWidths l ws) (sym (append-nil ns)) f }
+  walk : (ns : List ℕ) (ws : List Word) (rest : List WireTree) → AreOfWidths ns ws → IsTrue (wires_typed d ns rest) → AreOfWidths (ns ++ wire_widths rest) (with_wires ins s ws rest)
+  walk ns ws [] f h = subst (λ l. AreOfWidths l ws) (sym (append-nil ns)) f
   walk ns ws (w ∷ rest) f h =
       let p = and_parts (same w.width (right_width (scope d ns) w.right) && nat_le w.width 64) (wires_typed d (ns ++ w.width ∷ []) rest) h in
       let q = and_parts (same w.width (right_width (scope d ns) w.right)) (nat_le w.width 64) p.0 in
       let r = same_sides w.width (right_width (scope d ns) w.right) q.0 in
-      let u = suits_at ns ws f in
       let some : 0 < right_width (scope d ns) w.right = subst (λ k. 0 < k) r.is r.some in
-      let x = right_fits (scope d ns) (env ins s ws) u w.right some in
+      let x = right_fits (scope d ns) (env ins s ws) (suits_at ns ws f) w.right some in
       let t = walk (ns ++ w.width ∷ []) (ws ++ right_value (env ins s ws) w.right ∷ []) rest (one_wire ns ws w.width (right_value (env ins s ws) w.right) f (record { width = x.width ∙ sym r.is; fits = x.fits })) p.1 in
-      record {
-        readable = (record { scope = scope d ns; suits = u; typed = some }, t.readable);
-        fit = subst (λ l. AreOfWidths l (with_wires ins s (ws ++ right_value (env ins s ws) w.right ∷ []) rest)) (append_assoc ns (w.width ∷ []) (wire_widths rest)) t.fit;
-      }
+      subst (λ l. AreOfWidths l (with_wires ins s (ws ++ right_value (env ins s ws) w.right ∷ []) rest)) (append_assoc ns (w.width ∷ []) (wire_widths rest)) t
 
   none : AreOfWidths [] []
   none = record { count = refl; fit = λ k lt. absurd (omega arith) }
 
   module _ (wires : IsTrue (wires_typed d [] d.wires)) where
-    pub wires_readable : AreWires ins s [] d.wires
-    wires_readable = (walk [] [] d.wires none wires).readable
-
     pub all_suit : Suits (full_scope d) (env_of d ins s)
-    all_suit = suits_at (wire_widths d.wires) (with_wires ins s [] d.wires) (walk [] [] d.wires none wires).fit
+    all_suit = suits_at (wire_widths d.wires) (with_wires ins s [] d.wires) (walk [] [] d.wires none wires)
 
     -- ---- statements
-    condition : (t : ℕ) → IsTrue (t == 1) → 0 < t
-    condition t h = let e = eqb-true t 1 h in omega arith
-
     side : (n m : ℕ) → IsTrue (same n m) → 0 < m
     side n m h = let p = same_sides n m h in subst (λ k. 0 < k) p.is p.some
-
-    mutual
-      can_do : (a : Act Net) → IsTrue (act_typed (full_scope d) (register_widths d.declared) (memory_widths d.declared) a) → CanDo (env_of d ins s) (length s.registers) s.memories a
-      can_do (ABlock more) h = can_all more h
-      can_do (AIf c a) h =
-          let p = and_parts (width_of (full_scope d) c == 1) (act_typed (full_scope d) (register_widths d.declared) (memory_widths d.declared) a) h in
-          (record { scope = full_scope d; suits = all_suit; typed = condition (width_of (full_scope d) c) p.0 }, can_do a p.1)
-      can_do (AIfElse c a b) h =
-          let p = and_parts (width_of (full_scope d) c == 1) (act_typed (full_scope d) (register_widths d.declared) (memory_widths d.declared) a && act_typed (full_scope d) (register_widths d.declared) (memory_widths d.declared) b) h in
-          let q = and_parts (act_typed (full_scope d) (register_widths d.declared) (memory_widths d.declared) a) (act_typed (full_scope d) (register_widths d.declared) (memory_widths d.declared) b) p.1 in
-          (record { scope = full_scope d; suits = all_suit; typed = condition (width_of (full_scope d) c) p.0 }, can_do a q.0, can_do b q.1)
-      can_do (ASet r e) h =
-          let p = same_sides (get_or (register_widths d.declared) r 0) (width_of (full_scope d) e) h in
-          let lt = number_there (register_widths d.declared) r p.some in
-          let n = stored.registers in
-          (omega (arith, lt, n), record { scope = full_scope d; suits = all_suit; typed = side (get_or (register_widths d.declared) r 0) (width_of (full_scope d) e) h })
-      can_do (AStore m i e) h =
-          let n = get_or (memory_widths d.declared) m (0, 0) in
-          let p = and_parts (same n.0 (width_of (full_scope d) i)) (same n.1 (width_of (full_scope d) e)) h in
-          let index = same_sides n.0 (width_of (full_scope d) i) p.0 in
-          let some = side n.0 (width_of (full_scope d) i) p.0 in
-          let x = value_fits (full_scope d) (env_of d ins s) all_suit i some in
-          let there = pair_there (memory_widths d.declared) m (same_sides n.1 (width_of (full_scope d) e) p.1).some in
-          let memories = stored.memories in
-          let count = (stored.memory m there).count in
-          let small : (value (env_of d ins s) i).value < 2 ^ n.0 = subst (λ k. (value (env_of d ins s) i).value < 2 ^ k) (x.width ∙ sym index.is) x.fits.small in (
-            record { scope = full_scope d; suits = all_suit; typed = some },
-            record { scope = full_scope d; suits = all_suit; typed = side n.1 (width_of (full_scope d) e) p.1 },
-            record { there = omega (arith, there, memories); inside = omega (arith, small, count) },
-          )
-
-      can_all : (more : Acts Net) → IsTrue (acts_typed (full_scope d) (register_widths d.declared) (memory_widths d.declared) more) → CanAllDo (env_of d ins s) (length s.registers) s.memories more
-      can_all AEnd h = tt
-      can_all (AThen a more) h =
-          let p = and_parts (act_typed (full_scope d) (register_widths d.declared) (memory_widths d.declared) a) (acts_typed (full_scope d) (register_widths d.declared) (memory_widths d.declared) more) h in
-          (can_do a p.0, can_all more p.1)
-
-    pub can_edge : (acts : List (Act Net)) → IsTrue (acts_all_typed d acts) → CanEdge (env_of d ins s) (length s.registers) s.memories acts
-    can_edge [] h = tt
-    can_edge (a ∷ rest) h =
-        let p = and_parts (act_typed (full_scope d) (register_widths d.declared) (memory_widths d.declared) a) (acts_all_typed d rest) h in
-        (can_do a p.0, can_edge rest p.1)
 
     edge_kept : (acts : List (Act Net)) (t : Stored) → IsTrue (acts_all_typed d acts) → IsStored d.declared t → IsStored d.declared (edge (env_of d ins s) acts t)
     edge_kept [] t h k = k
@@ -151,13 +93,6 @@ module _ (d : Plan) (ports : d.ports ≡ port_list) (ins : List Word) (are : Are
     after_stored h = edge_kept d.always s h stored
 
     -- ---- outputs
-    pub assigns_readable : (as_ : List AssignTree) → IsTrue (assigns_typed d as_) → AreAssigns (env_of d ins s) as_
-    assigns_readable [] h = tt
-    assigns_readable (a ∷ rest) h =
-        let n = output_width (get_or d.ports a.port (record { output = false; width = 0 })) in
-        let p = and_parts (same n (width_of (full_scope d) a.value)) (assigns_typed d rest) h in
-        (record { scope = full_scope d; suits = all_suit; typed = side n (width_of (full_scope d) a.value) p.0 }, assigns_readable rest p.1)
-
     shown_small : (as_ : List AssignTree) → IsTrue (assigns_typed d as_) → (port : ℕ) → (assigned (env_of d ins s) as_ port).value < 2 ^ output_width (get_or d.ports port (record { output = false; width = 0 }))
     shown_small [] h port = pow_pos (output_width (get_or d.ports port (record { output = false; width = 0 })))
     shown_small (a ∷ rest) h port =

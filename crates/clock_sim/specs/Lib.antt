@@ -1,5 +1,7 @@
 pub mod Running
-pub mod Readable
-pub mod Stores
 pub mod Ready
+pub mod Steps
+pub mod Flat
+pub mod Edges
+pub mod Layouts
 pub mod Examples

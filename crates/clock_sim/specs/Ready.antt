@@ -1,17 +1,14 @@
--- What holds of a simulator between two clocks.
-use Rattle.std.specs.Prelude.{◌≡◌, ℕ, ◌^◌, ◌<◌, ◌≤◌, List, [], length}
+-- Ports, what is stored and outputs that fit.
+use Rattle.std.specs.Prelude.{◌≡◌, ℕ, ◌^◌, ◌<◌, List, [], length}
 use Rattle.std.proofs.Common.{get_or}
 use Rattle.net_core.specs.declared.tree.Word.{Word}
 use Rattle.net_core.specs.declared.design.Declared.{Declared}
 use Rattle.net_core.specs.declared.ports.Inputs.{Inputs}
-use Rattle.net_core.specs.declared.ports.Outputs.{Outputs}
 use Rattle.net_core.specs.Value.{nothing}
-use Rattle.net_core.specs.Width.{register_widths, memory_widths, port_width, IsTyped}
+use Rattle.net_core.specs.Width.{register_widths, memory_widths, port_width}
 use Rattle.net_core.specs.Clock.{Stored}
-use Rattle.net_core.specs.Ports.{port_list, is_one}
-use Rattle.net_core.specs.Nets.{Plan}
+use Rattle.net_core.specs.Ports.{port_list}
 use Rattle.net_core.specs.Suits.{IsOfWidth}
-use Rattle.clock_sim.specs.Stores.{all_stores}
 
 -- the words at the ports
 pub record ArePorts (words : List Word) : Type 0 where
@@ -43,25 +40,3 @@ pub record FitOutputs (at : ℕ → Word) : Type 0 where
   pub verdict : (at 12).value < 2 ^ 32
   pub target : (at 13).value < 2 ^ 32
   pub value : (at 20).value < 2 ^ 64
-
-abbrev pub outputs_at : (ℕ → Word) → Outputs
-outputs_at at = record {
-  in_ready = is_one (at 6);
-  out_valid = is_one (at 8);
-  out_data = (at 9).value;
-  out_bytes = (at 10).value;
-  out_last = is_one (at 11);
-  out_verdict = (at 12).value;
-  out_target = (at 13).value;
-  out_reload = is_one (at 14);
-  host_value = (at 20).value;
-}
-
--- A simulator between two clocks, with so many words for wires and for the next registers, and room for so many stores.
-pub record IsReady (d : Plan) (s : Stored) (wires next room : ℕ) : Type 0 where
-  pub typed : IsTyped d
-  pub stored : IsStored d.declared s
-  pub wires_count : wires ≡ length d.wires
-  pub few : wires ≤ 2 ^ 32
-  pub next_count : next ≡ length s.registers
-  pub enough : all_stores d.always ≤ room

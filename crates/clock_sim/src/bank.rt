@@ -1,30 +1,27 @@
 //! The words of a memory.
 
-ghost use Rattle.std.specs.Prelude.{◌≡◌, ◌^◌, ◌<◌, ◌≤◌, length, replicate, slice_index_or, slice_set, IfOk};
-ghost use Rattle.net_core.specs.Value.{nothing};
+ghost use Rattle.std.specs.Prelude.{◌≡◌, ◌^◌, ◌≤◌, replicate, slice_index_or, slice_set, IfOk};
 
-use net_core::tree::Word;
 use std::alloc::{AllocError, Global};
 use std::marker::Model;
 
 /// The words of a memory, by their index.
 #[derive(Drop)]
 pub struct Bank {
-    words: Vec<Word>,
+    words: Vec<u64>,
 }
 
 impl Model for Bank {
-    ghost use Rattle.std.specs.Prelude.{List};
-    ghost use Rattle.net_core.specs.declared.tree.Word.{Word};
+    ghost use Rattle.std.specs.Prelude.{List, ℕ};
 
-    ghost Value = { List Word };
+    ghost Value = { List ℕ };
 
     ghost view = { λ b. b.words.items };
 }
 
 impl Bank {
     /// A memory of 2 to the power `index` equal words.
-    pub fn new(alloc: Global, index: u8, first: Word) -> Result<Bank, AllocError>
+    pub fn new(alloc: Global, index: u8, first: u64) -> Result<Bank, AllocError>
         requires { index ≤ 16 }
         ensures { IfOk result (λ b. b ≡ replicate (2 ^ index) first) }
     {
@@ -32,17 +29,24 @@ impl Bank {
         Ok(Bank { words })
     }
 
-    pub fn read(&self, at: usize) -> Word
-        requires { at < length self.now }
-        ensures { result ≡ slice_index_or self.now at nothing }
+    /// The word at an index, or 0 where there is none.
+    #[inline(always)]
+    pub fn read(&self, at: usize) -> u64
+        ensures { result ≡ slice_index_or self.now at 0 }
     {
-        self.words[at]
+        if at < self.words.len() {
+            self.words[at]
+        } else {
+            0
+        }
     }
 
-    pub fn store(&mut self, at: usize, word: Word)
-        requires { at < length self.old }
+    /// Stores a word, where there is one at the index.
+    pub fn store(&mut self, at: usize, word: u64)
         ensures { self.new ≡ slice_set self.old at word }
     {
-        self.words[at] = word;
+        if at < self.words.len() {
+            self.words[at] = word;
+        }
     }
 }

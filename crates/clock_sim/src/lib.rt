@@ -2,12 +2,17 @@
 #![tactic(auto)]
 
 mod bank;
+mod code;
+mod compile;
 mod edge;
+mod emit;
+mod layout;
 mod names;
 mod outputs;
+mod places;
 mod ports;
 mod sim;
-mod tree;
+mod step;
 mod turn;
 mod wires;
 

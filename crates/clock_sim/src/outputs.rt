@@ -1,51 +1,126 @@
 //! What the outputs show.
 
-ghost use Rattle.std.specs.Prelude.{◌≡◌, ◌^◌, ◌<◌, ℕ, map};
-ghost use Rattle.net_core.specs.Clock.{assigned};
-ghost use Rattle.net_core.specs.Ports.{is_one};
+ghost use Rattle.std.specs.Prelude.{◌≡◌, ◌^◌, ◌<◌, ◌≤◌, ◌==◌, length, map, slice_index, OnOk, IfOk};
 ghost use Rattle.net_core.specs.View.{assign_of};
-ghost use Rattle.clock_sim.specs.Readable.{seen, AreAssigns};
-ghost use Rattle.clock_sim.specs.Ready.{FitOutputs, outputs_at};
+ghost use Rattle.clock_sim.specs.Flat.{flat_of, IsCode, Extends, ArePlaces};
+ghost use Rattle.clock_sim.specs.Edges.{AreShown, Shows, ShowsAll, IsShown, FitShown, outputs_in};
 
-use crate::tree::{Now, value_of};
+use crate::code::{Code, constant};
+use crate::emit::value_of;
+use crate::places::Places;
 use net_core::design::Assign;
 use net_core::ports::Outputs;
-use net_core::tree::Word;
+use std::alloc::AllocError;
 
-// What a port shows, or no word where nothing is assigned to it.
-fn shown(assigns: &[Assign], port: u32, now: Now<'_>) -> Word
-    requires { AreAssigns (seen now.ports.now now.registers.now now.memories.now now.wires.now) (map assign_of assigns.now) }
-    ensures { result ≡ assigned (seen now.entry.ports.now now.entry.registers.now now.entry.memories.now now.entry.wires.now) (map assign_of assigns.now) port }
+/// The slots of what the outputs show.
+#[derive(Clone, Copy, PartialEq, Eq, Debug)]
+pub struct Shown {
+    pub in_ready: u32,
+    pub out_valid: u32,
+    pub out_data: u32,
+    pub out_bytes: u32,
+    pub out_last: u32,
+    pub out_verdict: u32,
+    pub out_target: u32,
+    pub out_reload: u32,
+    pub host_value: u32,
+}
+
+// The slot of what a port shows: zero where nothing is assigned to it.
+fn assigned(
+    assigns: &[Assign],
+    port: u32,
+    places: &Places,
+    code: &mut Code,
+) -> Result<u32, AllocError>
+    requires typed { AreShown places.now (map assign_of assigns.now) }
+    requires code { IsCode (flat_of code.old) }
+    requires places { ArePlaces places.now (length code.old.slots.items) }
+    ensures extends { OnOk result (Extends (flat_of code.old) (flat_of code.new)) }
+    ensures code { OnOk result (IsCode (flat_of code.new)) }
+    ensures places { OnOk result (ArePlaces places.now (length code.new.slots.items)) }
+    ensures grows { OnOk result (length code.old.slots.items ≤ length code.new.slots.items) }
+    ensures there { IfOk result (λ slot. slot < length code.new.slots.items) }
+    ensures shows { IfOk result (λ slot. Shows (flat_of code.old) (flat_of code.new) places.now (map assign_of assigns.now) port slot) }
 {
     for a in assigns {
         if a.port == port {
-            return value_of(&a.value, now);
+            let place = value_of(&a.value, places, code)?;
+            return Ok(place.slot);
         }
     }
-    Word { width: 0, value: 0 }
+    let slot = constant(code, 0)?;
+    Ok(slot)
 }
 
-fn is_one(word: Word) -> bool
-    ensures { result ≡ is_one word }
+/// Adds the steps of the outputs.
+pub fn add_outputs(
+    assigns: &[Assign],
+    places: &Places,
+    code: &mut Code,
+) -> Result<Shown, AllocError>
+    requires typed { AreShown places.now (map assign_of assigns.now) }
+    requires code { IsCode (flat_of code.old) }
+    requires places { ArePlaces places.now (length code.old.slots.items) }
+    ensures extends { OnOk result (Extends (flat_of code.old) (flat_of code.new)) }
+    ensures code { OnOk result (IsCode (flat_of code.new)) }
+    ensures places { OnOk result (ArePlaces places.now (length code.new.slots.items)) }
+    ensures there { IfOk result (λ s. IsShown s (length code.new.slots.items)) }
+    ensures shows { IfOk result (λ s. ShowsAll (flat_of code.old) (flat_of code.new) places.now (map assign_of assigns.now) s) }
 {
-    word.value == 1
+    let in_ready = assigned(assigns, 6, places, code)?;
+    let out_valid = assigned(assigns, 8, places, code)?;
+    let out_data = assigned(assigns, 9, places, code)?;
+    let out_bytes = assigned(assigns, 10, places, code)?;
+    let out_last = assigned(assigns, 11, places, code)?;
+    let out_verdict = assigned(assigns, 12, places, code)?;
+    let out_target = assigned(assigns, 13, places, code)?;
+    let out_reload = assigned(assigns, 14, places, code)?;
+    let host_value = assigned(assigns, 20, places, code)?;
+    Ok(Shown {
+        in_ready,
+        out_valid,
+        out_data,
+        out_bytes,
+        out_last,
+        out_verdict,
+        out_target,
+        out_reload,
+        host_value,
+    })
+}
+
+// The word at a slot.
+fn word_at(slots: &[u64], slot: u32) -> u64
+    requires { slot < length slots.now }
+    ensures { result ≡ slice_index slots.now slot }
+{
+    slots[slot as usize]
+}
+
+// Whether a slot holds 1.
+fn is_one(slots: &[u64], slot: u32) -> bool
+    requires { slot < length slots.now }
+    ensures { result ≡ (slice_index slots.now slot == 1) }
+{
+    slots[slot as usize] == 1
 }
 
 /// What all outputs show.
-pub fn show(assigns: &[Assign], now: Now<'_>) -> Outputs
-    requires readable { AreAssigns (seen now.ports.now now.registers.now now.memories.now now.wires.now) (map assign_of assigns.now) }
-    requires fit { FitOutputs (assigned (seen now.ports.now now.registers.now now.memories.now now.wires.now) (map assign_of assigns.now)) }
-    ensures { result ≡ outputs_at (assigned (seen now.entry.ports.now now.entry.registers.now now.entry.memories.now now.entry.wires.now) (map assign_of assigns.now)) }
+pub fn show(shown: Shown, slots: &[u64]) -> Outputs
+    requires there { IsShown shown (length slots.now) }
+    requires fit { FitShown shown slots.now }
+    ensures { result ≡ outputs_in shown slots.now }
 {
-    let in_ready = is_one(shown(assigns, 6, now));
-    let out_valid = is_one(shown(assigns, 8, now));
-    let out_data = shown(assigns, 9, now).value;
-    let out_bytes = shown(assigns, 10, now).value as u8;
-    let out_last = is_one(shown(assigns, 11, now));
-    let out_verdict = shown(assigns, 12, now).value as u32;
-    let out_target = shown(assigns, 13, now).value as u32;
-    let out_reload = is_one(shown(assigns, 14, now));
-    let host_value = shown(assigns, 20, now).value;
+    let in_ready = is_one(slots, shown.in_ready);
+    let out_valid = is_one(slots, shown.out_valid);
+    let out_data = word_at(slots, shown.out_data);
+    let out_bytes = word_at(slots, shown.out_bytes) as u8;
+    let out_last = is_one(slots, shown.out_last);
+    let out_verdict = word_at(slots, shown.out_verdict) as u32;
+    let out_target = word_at(slots, shown.out_target) as u32;
+    let out_reload = is_one(slots, shown.out_reload);
+    let host_value = word_at(slots, shown.host_value);
     Outputs {
         in_ready,
         out_valid,

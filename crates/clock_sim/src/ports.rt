@@ -1,53 +1,45 @@
-//! The words that stand at the ports.
+//! The numbers that stand at the ports.
 
 ghost use Rattle.std.specs.Prelude.{◌≡◌};
-ghost use Rattle.net_core.specs.Value.{bit, word, nothing};
+ghost use Rattle.net_core.specs.Value.{number_of};
 ghost use Rattle.net_core.specs.Ports.{AreInputs, words_of};
 ghost use Rattle.clock_sim.specs.Ready.{FitPorts};
+ghost use Rattle.clock_sim.specs.Flat.{numbers};
 
 use net_core::ports::Inputs;
-use net_core::tree::Word;
 
-fn bit(holds: bool) -> Word
-    ensures { result ≡ bit holds }
+fn number_of(holds: bool) -> u64
+    ensures { result ≡ number_of holds }
 {
-    word(1, u64::from(holds))
+    u64::from(holds)
 }
 
-fn word(width: u8, value: u64) -> Word
-    ensures { result ≡ word width value }
-{
-    Word { width, value }
-}
-
-/// The words at the ports: `clk` and the outputs have none.
-pub fn words_of(i: Inputs) -> [Word; 21]
-    requires { AreInputs i }
-    ensures words { result ≡ words_of i }
+/// The numbers at the ports: `clk` and the outputs have none.
+pub fn numbers_at(i: Inputs) -> [u64; 21]
+    ensures numbers { result ≡ numbers (words_of i) }
     ensures fit { FitPorts i }
 {
-    let nothing = word(0, 0);
     [
-        nothing,
-        bit(i.in_valid),
-        word(64, i.in_data),
-        word(4, u64::from(i.in_bytes)),
-        bit(i.in_last),
-        word(32, u64::from(i.in_ifindex)),
-        nothing,
-        bit(i.out_ready),
-        nothing,
-        nothing,
-        nothing,
-        nothing,
-        nothing,
-        nothing,
-        nothing,
-        bit(i.host_write),
-        word(4, u64::from(i.host_map)),
-        word(16, u64::from(i.host_index)),
-        word(4, u64::from(i.host_word)),
-        word(64, i.host_data),
-        nothing,
+        0,
+        number_of(i.in_valid),
+        i.in_data,
+        u64::from(i.in_bytes),
+        number_of(i.in_last),
+        u64::from(i.in_ifindex),
+        0,
+        number_of(i.out_ready),
+        0,
+        0,
+        0,
+        0,
+        0,
+        0,
+        0,
+        number_of(i.host_write),
+        u64::from(i.host_map),
+        u64::from(i.host_index),
+        u64::from(i.host_word),
+        i.host_data,
+        0,
     ]
 }

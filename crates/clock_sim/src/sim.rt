@@ -1,20 +1,20 @@
 //! The simulator.
 
-ghost use Rattle.std.specs.Prelude.{◌≡◌, ◌+◌, ◌<◌, Ok, Some, None, length, OnOk, IfOk, OnErr, IfErr, IsTrue, ◌++◌};
-ghost use Rattle.net_core.specs.Clock.{clock, stopping, first_stored, first_words, first_cells};
+ghost use Rattle.std.specs.Prelude.{◌≡◌, Ok, Some, None, OnOk, IfOk, OnErr, IfErr};
+ghost use Rattle.net_core.specs.Clock.{clock, stopping, first_stored};
 ghost use Rattle.net_core.specs.Names.{name_of};
 ghost use Rattle.net_core.specs.Ports.{AreInputs, words_of, outputs_of};
 ghost use Rattle.net_core.specs.View.{plan_of};
-ghost use Rattle.net_core.specs.Width.{IsTyped, declared_typed};
+ghost use Rattle.net_core.specs.Width.{IsTyped};
 ghost use Rattle.clock_sim.specs.Running.{stopped_net, IsNamed};
 
 use crate::bank::Bank;
-use crate::edge::{Store, count_all};
+use crate::compile::compile;
 use crate::names::place_in;
-use crate::turn::turn;
-use net_core::design::{Declared, Design};
+use crate::turn::{Program, turn};
+use net_core::design::Design;
 use net_core::ports::{Inputs, Outputs};
-use net_core::tree::{Net, Word};
+use net_core::tree::Net;
 use std::alloc::{AllocError, Global};
 use std::marker::Model;
 use thiserror::Error;
@@ -29,12 +29,10 @@ pub struct XValue {
 /// A design and what it stores between two clocks.
 #[derive(Drop)]
 pub struct Sim {
-    design: Design,
-    registers: Vec<Word>,
-    memories: Vec<Bank>,
-    wires: Vec<Word>,
-    next: Vec<Word>,
-    stores: Vec<Store>,
+    program: Program,
+    slots: Vec<u64>,
+    banks: Vec<Bank>,
+    next: Vec<u64>,
 }
 
 impl Model for Sim {
@@ -44,69 +42,29 @@ impl Model for Sim {
 
     ghost coded = { coded_running };
 
-    ghost use Rattle.std.specs.Prelude.{length, vec_capacity};
+    ghost use Rattle.std.specs.Prelude.{length};
     ghost use Rattle.net_core.specs.View.{plan_of};
-    ghost use Rattle.clock_sim.specs.Readable.{held};
-    ghost use Rattle.clock_sim.specs.Ready.{IsReady};
+    ghost use Rattle.clock_sim.specs.Layouts.{stored_of, IsReady};
 
-    ghost view = { λ s. record { plan = plan_of s.design; stored = held s.registers.items s.memories.items } };
+    ghost view = { λ s. record { plan = plan_of s.program.design; stored = stored_of s.program s.slots.items s.banks.items } };
 
-    ghost invariant = { λ s. IsReady (plan_of s.design) (held s.registers.items s.memories.items) (length s.wires.items) (length s.next.items) (vec_capacity s.stores) };
-}
-
-// The declared registers and memories with their first values.
-fn add_stored(
-    alloc: Global,
-    declared: &[Declared],
-    registers: &mut Vec<Word>,
-    memories: &mut Vec<Bank>,
-) -> Result<(), AllocError>
-    requires { IsTrue (declared_typed declared.now) }
-    ensures registers { OnOk result (registers.new.items ≡ registers.old.items ++ first_words declared.now) }
-    ensures memories { OnOk result (memories.new.items ≡ memories.old.items ++ first_cells declared.now) }
-{
-    for d in declared {
-        match d {
-            Declared::Integer => {}
-            Declared::Register(first) => registers.push(*first)?,
-            Declared::Memory { index, first, .. } => {
-                let bank = Bank::new(alloc, *index, *first)?;
-                memories.push(bank)?;
-            }
-        }
-    }
-    Ok(())
+    ghost invariant = { λ s. IsReady s.program s.slots.items s.banks.items (length s.next.items) };
 }
 
 impl Sim {
-    /// A simulator whose registers and memories have their declared values. A design of 2 to the power 32 wires
-    /// or more is refused as too large for memory.
+    /// A simulator whose registers and memories have their declared values. A design that needs 2 to the power 32
+    /// slots, for its ports, registers, constants and operators, or more is refused as too large for memory.
     pub fn open(alloc: Global, design: Design) -> Result<Sim, AllocError>
         requires { IsTyped (plan_of design) }
         ensures plan { IfOk result (λ s. s.plan ≡ plan_of design) }
         ensures stored { IfOk result (λ s. s.stored ≡ first_stored (plan_of design)) }
     {
-        let count = design.wires.len();
-        if count > u32::MAX as usize {
-            return Err(AllocError);
-        }
-        let Some(room) = count_all(&design.always) else {
-            return Err(AllocError);
-        };
-        let mut registers = Vec::new(alloc);
-        let mut memories = Vec::new(alloc);
-        add_stored(alloc, &design.declared, &mut registers, &mut memories)?;
-        let blank = Word { width: 0, value: 0 };
-        let wires = vec![in alloc; blank; count]?;
-        let next = vec![in alloc; blank; registers.len()]?;
-        let stores = Vec::with_capacity(alloc, room)?;
+        let start = compile(alloc, design)?;
         Ok(Sim {
-            design,
-            registers,
-            memories,
-            wires,
-            next,
-            stores,
+            program: start.program,
+            slots: start.slots,
+            banks: start.banks,
+            next: start.next,
         })
     }
 
@@ -122,13 +80,11 @@ impl Sim {
         ensures unchanged { OnErr result (self.new ≡ self.old) }
     {
         turn(
-            &self.design,
+            &self.program,
             *inputs,
-            &mut self.registers,
-            &mut self.memories,
-            &mut self.wires,
+            &mut self.slots,
+            &mut self.banks,
             &mut self.next,
-            &mut self.stores,
         )
     }
 
@@ -137,6 +93,6 @@ impl Sim {
         requires { IsNamed self.now.plan net }
         ensures { result.now ≡ name_of self.now.plan net }
     {
-        self.design.names[place_in(&self.design, net)].as_str()
+        self.program.design.names[place_in(&self.program.design, net)].as_str()
     }
 }

@@ -1,11 +1,13 @@
 pub mod Outputs
-pub mod Once
+pub mod Files
 pub mod Fronts
 pub mod Frames
-pub mod Inputs
 pub mod Captures
+pub mod Inputs
+pub mod Built
+pub mod Drives
 pub mod Texts
 pub mod Written
-pub mod Ends
+pub mod Outcomes
+pub mod Stops
 pub mod Causes
-pub mod Built

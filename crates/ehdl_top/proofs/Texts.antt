@@ -6,7 +6,7 @@ use Rattle.pcap_core.specs.Format.{Packet}
 use Rattle.pcap_core.specs.Next.{seen}
 use Rattle.pcap_core.specs.declared.record.Rec.{Rec}
 use Rattle.net_core.specs.History.{Reply}
-use Rattle.ehdl_top.specs.Outcome.{texts, record_at, line_at, answer_header, answer_bytes, answer_record, line_of, verdict_lines, no_packet, no_reply, microseconds}
+use Rattle.ehdl_top.specs.Results.{texts, record_at, line_at, answer_header, answer_bytes, answer_record, line_of, verdict_lines, no_packet, no_reply}
 
 -- k texts from number i on
 abbrev pub texts_from : (ℕ → List ℕ) → ℕ → ℕ → List ℕ
@@ -32,8 +32,8 @@ pub texts_split : (text : ℕ → List ℕ) (i n : ℕ) → i ≤ n → texts te
 texts_split text i n within = parted text i (n - i) n (omega (arith, within))
 
 -- the records up to number i, and the others
-pub answer_split : (ps : List Packet) (rs : List Reply) (i : ℕ) → i ≤ length rs → answer_bytes ps rs ≡ (answer_header microseconds ++ texts (record_at ps rs) i) ++ others (record_at ps rs) i (length rs)
-answer_split ps rs i within = ap (λ t. answer_header microseconds ++ t) (texts_split (record_at ps rs) i (length rs) within) ∙ sym (append_assoc (answer_header microseconds) (texts (record_at ps rs) i) _)
+pub answer_split : (magic : ℕ) (ps : List Packet) (rs : List Reply) (i : ℕ) → i ≤ length rs → answer_bytes magic ps rs ≡ (answer_header magic ++ texts (record_at ps rs) i) ++ others (record_at ps rs) i (length rs)
+answer_split magic ps rs i within = ap (λ t. answer_header magic ++ t) (texts_split (record_at ps rs) i (length rs) within) ∙ sym (append_assoc (answer_header magic) (texts (record_at ps rs) i) _)
 
 pub lines_split : (rs : List Reply) (i : ℕ) → i ≤ length rs → verdict_lines rs ≡ texts (line_at rs) i ++ others (line_at rs) i (length rs)
 lines_split rs i within = texts_split (line_at rs) i (length rs) within

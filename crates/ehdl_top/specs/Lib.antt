@@ -1,7 +1,9 @@
 pub mod Status
-pub mod Line
-pub mod Run
+pub mod Lines
 pub mod Output
+pub mod Files
+pub mod Inputs
+pub mod Results
 pub mod Outcome
-pub mod Top
+pub mod Ends
 pub mod Steps

@@ -1,7 +1,10 @@
 //! All that the program does: from words, an object and a capture to a Verilog text, answers and verdicts.
 #![tactic(auto)]
 
+mod codes;
 mod command;
+mod compile;
+mod drive;
 mod fetch;
 mod limits;
 mod line;
@@ -10,18 +13,16 @@ mod output;
 mod packets;
 mod results;
 mod run;
-mod simulate;
+mod sim;
 mod status;
 mod stop;
-mod unread;
-mod words;
+mod verilog;
 
 pub use command::top;
+pub use command_words::Words;
 pub use line::verdict_line;
 pub use output::write_parts;
-pub use run::{Run, read_run};
 pub use status::Status;
-pub use words::Words;
 
 #[cfg(test)]
 mod tests;

@@ -1,7 +1,7 @@
 // The lines of the verdicts.
 
 ghost use Rattle.std.specs.Prelude.{◌≡◌, ◌++◌, IfOk, OnOk, codes, decimal};
-ghost use Rattle.ehdl_top.specs.Line.{verdict_line_of};
+ghost use Rattle.ehdl_top.specs.Lines.{verdict_line_of};
 
 use itoa::{Buffer, Integer};
 use shelf_core::NoMemory;
@@ -26,8 +26,12 @@ pub fn verdict_line(
     Ok(line)
 }
 
-// Adds a number and what follows it.
-fn push_decimal<I: Integer>(line: &mut Vec<u8>, number: I, after: &[u8]) -> Result<(), NoMemory>
+/// Adds a number and what follows it.
+pub(crate) fn push_decimal<I: Integer>(
+    line: &mut Vec<u8>,
+    number: I,
+    after: &[u8],
+) -> Result<(), NoMemory>
     ensures { OnOk result (line.new.items ≡ line.old.items ++ I.text number ++ after.now) }
 {
     let mut buffer = Buffer::new();

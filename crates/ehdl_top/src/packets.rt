@@ -1,51 +1,52 @@
 // The packets of a capture.
 
-ghost use Rattle.std.specs.Prelude.{List, length, map, IfOk, IsErrOf, ◌≡◌, ◌<◌, ◌^◌};
+ghost use Rattle.std.specs.Prelude.{List, length, map, IfOk, IfErr, ◌≡◌, ◌<◌, ◌^◌};
 ghost use Rattle.std.specs.List.{AllByRecursion};
 ghost use Rattle.beat_core.specs.Laws.{IsFrame};
 ghost use Rattle.pcap_core.specs.Next.{seen};
-ghost use Rattle.pcap_core.specs.Format.{Packet};
-ghost use Rattle.ehdl_top.specs.Outcome.{IsCaptured, frames_of};
-ghost use Rattle.ehdl_top.specs.Steps.{HasFrame};
+ghost use Rattle.ehdl_top.specs.Inputs.{IsCaptured};
+ghost use Rattle.ehdl_top.specs.Results.{frames_of};
+ghost use Rattle.ehdl_top.specs.Steps.{HasFrame, PacketStops};
 
-use crate::unread::Unread;
+use crate::stop::Stop;
 use beat_core::Frame;
-use pcap_core::{Capture, Rec, check};
+use pcap_core::{Capture, Rec};
 use std::alloc::{AllocError, Global};
 
-/// The front of a little-endian capture in microseconds.
-const MAGIC: [u8; 4] = [0xd4, 0xc3, 0xb2, 0xa1];
+/// A capture that was read whole.
+#[derive(Drop)]
+pub(crate) struct Captured<'a> {
+    /// The magic number, which says what fractions of a second are.
+    pub(crate) magic: u32,
+    pub(crate) packets: Vec<Rec<'a>>,
+}
 
-/// The packets of a capture, in order, or the form is another.
-pub(crate) fn captured<'a>(alloc: Global, bytes: &'a [u8]) -> Result<Vec<Rec<'a>>, Unread>
-    ensures ok { IfOk result (λ v. IsCaptured bytes.now (map seen v.items)) }
-    ensures frames { IfOk result (λ v. AllByRecursion HasFrame v.items) }
-    ensures many { IfOk result (λ v. length v.items < 2 ^ 32) }
-    ensures form { IsErrOf result Unread.Form → (packets : List Packet) → ¬ IsCaptured bytes.now packets }
+/// The packets of a capture, in order.
+pub(crate) fn read_capture<'a>(alloc: Global, bytes: &'a [u8]) -> Result<Captured<'a>, Stop>
+    ensures ok { IfOk result (λ c. IsCaptured bytes.now c.magic (map seen c.packets.items)) }
+    ensures frames { IfOk result (λ c. AllByRecursion HasFrame c.packets.items) }
+    ensures many { IfOk result (λ c. length c.packets.items < 2 ^ 32) }
+    ensures stops { IfErr result (PacketStops bytes.now) }
 {
-    if !bytes.starts_with(&MAGIC) {
-        return Err(Unread::Form);
-    }
-    let Ok(_count) = check(bytes) else {
-        return Err(Unread::Form);
+    let mut capture = match Capture::open(bytes) {
+        Ok(capture) => capture,
+        Err(fault) => return Err(Stop::Capture(fault)),
     };
-    let Ok(mut capture) = Capture::open(bytes) else {
-        return Err(Unread::Form);
-    };
-    let mut all = Vec::new(alloc);
+    let magic = capture.magic();
+    let mut packets = Vec::new(alloc);
     loop {
         match capture.next() {
             Ok(Some(packet)) => {
                 // The bytes of a capture have room for fewer packets.
-                if all.len() >= u32::MAX as usize {
-                    return Err(Unread::NoMemory);
+                if packets.len() >= u32::MAX as usize {
+                    return Err(Stop::NoMemory);
                 }
-                if all.push(packet).is_err() {
-                    return Err(Unread::NoMemory);
+                if packets.push(packet).is_err() {
+                    return Err(Stop::NoMemory);
                 }
             }
-            Ok(None) => return Ok(all),
-            Err(_fault) => return Err(Unread::Form),
+            Ok(None) => return Ok(Captured { magic, packets }),
+            Err(fault) => return Err(Stop::Capture(fault)),
         }
     }
 }

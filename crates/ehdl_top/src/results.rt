@@ -1,23 +1,21 @@
-// The outputs of a run, written.
+// The outputs of a command, written.
 
-ghost use Rattle.std.specs.Prelude.{◌≡◌, ◌≢◌, ◌++◌, ◌<◌, ◌≤◌, ◌^◌, ℕ, List, [], length, map, OnOk, OnErr, IfOk, IsErrOf, IsTrue};
-ghost use Rattle.shelf_core.specs.Shelf.{Rose, NoneFell, ChangesOnly};
+ghost use Rattle.std.specs.Prelude.{◌≡◌, ◌≢◌, ◌++◌, ◌∷◌, ◌<◌, ◌≤◌, ◌^◌, ℕ, List, [], length, map, OnOk, OnErr, IfOk, IsErrOf, IsTrue};
+ghost use Rattle.shelf_core.specs.Shelf.{Rose, NoneFell};
 ghost use Rattle.pcap_core.specs.Next.{seen};
-ghost use Rattle.ehdl_top.specs.Outcome.{answer_header, record_at, line_at, answer_bytes, verdict_lines, microseconds};
-ghost use Rattle.ehdl_top.specs.Run.{names_of};
-ghost use Rattle.ehdl_top.specs.Top.{HoldsOutputs, HoldsFronts, ChangesOutputs, WriteRose};
-ghost use Rattle.ehdl_top.specs.Steps.{HoldBoth, HoldBothFronts, KeepBoth, ChangesBoth, EitherRose, AreApart, outputs_of};
+ghost use Rattle.command_words.specs.Asked.{names_of};
+ghost use Rattle.ehdl_top.specs.Files.{HoldWhole, HoldFronts, KeepsOthers, OneRose, file, names_in};
+ghost use Rattle.ehdl_top.specs.Results.{answer_header, record_at, line_at, answer_bytes, verdict_lines, result_files, final_files};
+ghost use Rattle.ehdl_top.specs.Steps.{HoldBoth, HoldBothFronts, KeepBoth, ChangesBoth, EitherRose, AreApart};
 
 use crate::line::verdict_line;
 use crate::output::write_parts;
-use crate::run::Run;
+use crate::packets::Captured;
+use command_words::Files;
 use pcap_core::{Rec, write_header, write_record};
 use port_drive::Answers;
 use shelf_core::{Failed, NoMemory, Shelf};
 use std::alloc::{AllocError, Global};
-
-/// The magic number of an answer's capture: fractions of a second are microseconds.
-const MAGIC: u32 = 0xa1b2_c3d4;
 
 /// Why an output was not written.
 #[derive(Clone, Copy, PartialEq, Eq, Debug)]
@@ -59,17 +57,22 @@ fn line_of(alloc: Global, answers: &Answers, i: usize) -> Result<Vec<u8>, NoMemo
 }
 
 /// Begins the answer's capture, with its header, and the verdicts.
-fn begin_results<S: Shelf>(shelf: &mut S, answer: &str, verdicts: &str) -> Result<(), Failed>
+fn begin_results<S: Shelf>(
+    shelf: &mut S,
+    answer: &str,
+    verdicts: &str,
+    magic: u32,
+) -> Result<(), Failed>
     requires { answer.now ≢ verdicts.now }
-    ensures done { OnOk result (IsTrue (S.tells shelf.old) → HoldBoth answer.now verdicts.now (answer_header microseconds) [] (S.held shelf.new)) }
-    ensures kept { OnErr result (IsTrue (S.tells shelf.old) → KeepBoth answer.now verdicts.now (answer_header microseconds) [] (S.held shelf.old) (S.held shelf.new)) }
+    ensures done { OnOk result (IsTrue (S.tells shelf.old) → HoldBoth answer.now verdicts.now (answer_header magic) [] (S.held shelf.new)) }
+    ensures kept { OnErr result (IsTrue (S.tells shelf.old) → KeepBoth answer.now verdicts.now (answer_header magic) [] (S.held shelf.old) (S.held shelf.new)) }
     ensures failed { OnErr result (EitherRose answer.now verdicts.now (S.write_faults shelf.old) (S.write_faults shelf.new)) }
     ensures others { ChangesBoth answer.now verdicts.now (S.held shelf.old) (S.held shelf.new) }
     ensures tells { S.tells shelf.new ≡ S.tells shelf.old }
     ensures reads { NoneFell (S.read_faults shelf.old) (S.read_faults shelf.new) }
     ensures writes { NoneFell (S.write_faults shelf.old) (S.write_faults shelf.new) }
 {
-    write_parts(shelf, answer, &[&write_header(MAGIC)])?;
+    write_parts(shelf, answer, &[&write_header(magic)])?;
     write_parts(shelf, verdicts, &[])
 }
 
@@ -94,38 +97,38 @@ fn write_packet<S: Shelf>(
     shelf.append(verdicts, line)
 }
 
-/// Writes the record and the line of each answer, packet by packet.
+/// Writes the record and the line of each answer, answer by answer.
 fn write_packets<S: Shelf>(
     alloc: Global,
     shelf: &mut S,
-    answer: &str,
-    verdicts: &str,
+    files: &Files,
+    magic: u32,
     packets: &[Rec],
     answers: &Answers,
 ) -> Result<(), Unwritten>
-    requires apart { answer.now ≢ verdicts.now }
-    requires many { length answers.now ≡ length packets.now }
-    ensures done { OnOk result (IsTrue (S.tells shelf.old) → HoldBoth answer.now verdicts.now (answer_bytes (map seen packets.now) answers.now) (verdict_lines answers.now) (S.held shelf.new)) }
-    ensures kept { OnErr result (IsTrue (S.tells shelf.old) → KeepBoth answer.now verdicts.now (answer_bytes (map seen packets.now) answers.now) (verdict_lines answers.now) (S.held shelf.old) (S.held shelf.new)) }
-    ensures failed { IsErrOf result Unwritten.Failed → EitherRose answer.now verdicts.now (S.write_faults shelf.old) (S.write_faults shelf.new) }
-    ensures others { ChangesBoth answer.now verdicts.now (S.held shelf.old) (S.held shelf.new) }
+    requires apart { files.now.answer.now ≢ files.now.verdicts.now }
+    requires many { length answers.now ≤ length packets.now }
+    ensures done { OnOk result (IsTrue (S.tells shelf.old) → HoldBoth files.now.answer.now files.now.verdicts.now (answer_bytes magic (map seen packets.now) answers.now) (verdict_lines answers.now) (S.held shelf.new)) }
+    ensures kept { OnErr result (IsTrue (S.tells shelf.old) → KeepBoth files.now.answer.now files.now.verdicts.now (answer_bytes magic (map seen packets.now) answers.now) (verdict_lines answers.now) (S.held shelf.old) (S.held shelf.new)) }
+    ensures failed { IsErrOf result Unwritten.Failed → EitherRose files.now.answer.now files.now.verdicts.now (S.write_faults shelf.old) (S.write_faults shelf.new) }
+    ensures others { ChangesBoth files.now.answer.now files.now.verdicts.now (S.held shelf.old) (S.held shelf.new) }
     ensures tells { S.tells shelf.new ≡ S.tells shelf.old }
     ensures reads { NoneFell (S.read_faults shelf.old) (S.read_faults shelf.new) }
     ensures writes { NoneFell (S.write_faults shelf.old) (S.write_faults shelf.new) }
 {
-    match begin_results(shelf, answer, verdicts) {
+    match begin_results(shelf, files.answer, files.verdicts, magic) {
         Ok(()) => {}
         Err(Failed) => return Err(Unwritten::Failed),
     }
     let mut entry = Vec::new(alloc);
-    for i in 0..packets.len() {
+    for i in 0..answers.len() {
         let Ok(()) = fill_record(&mut entry, packets, answers, i) else {
             return Err(Unwritten::NoMemory);
         };
         let Ok(line) = line_of(alloc, answers, i) else {
             return Err(Unwritten::NoMemory);
         };
-        match write_packet(shelf, answer, verdicts, &entry, &line) {
+        match write_packet(shelf, files.answer, files.verdicts, &entry, &line) {
             Ok(()) => {}
             Err(Failed) => return Err(Unwritten::Failed),
         }
@@ -133,35 +136,40 @@ fn write_packets<S: Shelf>(
     Ok(())
 }
 
-/// Writes the outputs of a run: the Verilog text, then answers and verdicts packet by packet, then the
-/// final maps, of which there are none.
-pub(crate) fn write_outputs<S: Shelf>(
+/// Writes answers and verdicts, and then the final maps if they are asked for: there are no maps so far.
+pub(crate) fn write_results<S: Shelf>(
     alloc: Global,
     shelf: &mut S,
-    run: &Run,
-    text: &[u8],
-    packets: &[Rec],
+    files: &Files,
+    capture: &Captured,
     answers: &Answers,
+    finals: bool,
 ) -> Result<(), Unwritten>
-    requires apart { AreApart (names_of run.now) }
-    requires many { length answers.now ≡ length packets.now }
-    ensures done { OnOk result (IsTrue (S.tells shelf.old) → HoldsOutputs (names_of run.now) (outputs_of text.now (map seen packets.now) answers.now) (S.held shelf.new)) }
-    ensures kept { OnErr result (IsTrue (S.tells shelf.old) → HoldsFronts (names_of run.now) (outputs_of text.now (map seen packets.now) answers.now) (S.held shelf.old) (S.held shelf.new)) }
-    ensures failed { IsErrOf result Unwritten.Failed → WriteRose (names_of run.now) (S.write_faults shelf.old) (S.write_faults shelf.new) }
-    ensures others { ChangesOutputs (names_of run.now) (S.held shelf.old) (S.held shelf.new) }
+    requires apart { AreApart (names_of files.now) }
+    requires many { length answers.now ≤ length capture.now.packets.items }
+    ensures done { OnOk result (IsTrue (S.tells shelf.old) → HoldWhole (result_files (names_of files.now) capture.now.magic (map seen capture.now.packets.items) answers.now ++ final_files (names_of files.now) finals) (S.held shelf.new)) }
+    ensures kept { OnErr result (IsTrue (S.tells shelf.old) → HoldFronts (result_files (names_of files.now) capture.now.magic (map seen capture.now.packets.items) answers.now ++ final_files (names_of files.now) finals) (S.held shelf.old) (S.held shelf.new)) }
+    ensures failed { IsErrOf result Unwritten.Failed → OneRose (files.now.answer.now ∷ files.now.verdicts.now ∷ files.now.final_maps.now ∷ []) (S.write_faults shelf.old) (S.write_faults shelf.new) }
+    ensures others { KeepsOthers (files.now.answer.now ∷ files.now.verdicts.now ∷ names_in (final_files (names_of files.now) finals)) (S.held shelf.old) (S.held shelf.new) }
     ensures tells { S.tells shelf.new ≡ S.tells shelf.old }
     ensures reads { NoneFell (S.read_faults shelf.old) (S.read_faults shelf.new) }
     ensures writes { NoneFell (S.write_faults shelf.old) (S.write_faults shelf.new) }
 {
-    match write_parts(shelf, run.verilog, &[text]) {
-        Ok(()) => {}
-        Err(Failed) => return Err(Unwritten::Failed),
-    }
-    match write_packets(alloc, shelf, run.answer, run.verdicts, packets, answers) {
+    match write_packets(
+        alloc,
+        shelf,
+        files,
+        capture.magic,
+        &capture.packets,
+        answers,
+    ) {
         Ok(()) => {}
         Err(unwritten) => return Err(unwritten),
     }
-    match write_parts(shelf, run.final_maps, &[b""]) {
+    if !finals {
+        return Ok(());
+    }
+    match write_parts(shelf, files.final_maps, &[b""]) {
         Ok(()) => Ok(()),
         Err(Failed) => Err(Unwritten::Failed),
     }

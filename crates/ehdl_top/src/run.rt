@@ -1,110 +1,93 @@
-// The words of a run.
+// The command `run`.
 
-ghost use Rattle.std.specs.Prelude.{◌≡◌, ◌≢◌, ◌↔◌, ◌<◌, ◌≤◌, ◌+◌, ◌*◌, ℕ, List, length, slice_get, codes, Some, IfSome, IfNone, IsTrue};
-ghost use Rattle.ehdl_top.specs.Run.{is_value, Gives, IsOnce, AreDistinct, IsRun, Names, names_of};
+ghost use Rattle.std.specs.Prelude.{◌≡◌, ◌++◌, ◌∷◌, [], ◌≤◌, length, map, true, OnOk, OnErr, IsErrOf, IsTrue};
+ghost use Rattle.shelf_core.specs.Shelf.{NoneFell};
+ghost use Rattle.pcap_core.specs.Next.{seen};
+ghost use Rattle.command_words.specs.Asked.{AskRun, names_of, selected_of};
+ghost use Rattle.ehdl_top.specs.Files.{HoldWhole, HoldFronts, KeepsOthers, OneRose, file};
+ghost use Rattle.ehdl_top.specs.Outcome.{inputs_of, outputs_of};
+ghost use Rattle.ehdl_top.specs.Results.{result_files, final_files};
+ghost use Rattle.ehdl_top.specs.Steps.{AreApart, EndsIn};
 
-use crate::words::Words;
+use crate::drive::answers_of;
+use crate::fetch::capture_bytes;
+use crate::object::built;
+use crate::output::write_parts;
+use crate::packets::{Captured, frames_to_offer, read_capture};
+use crate::results::{Unwritten, write_results};
+use crate::stop::Stop;
+use command_words::{Choice, Files};
+use port_drive::Answers;
+use shelf_core::{Failed, Shelf};
+use std::alloc::Global;
 
-/// The files of a run: what is read, and what is written.
-#[derive(Clone, Copy, PartialEq, Eq, Debug)]
-pub struct Run<'a> {
-    pub object: &'a str,
-    pub capture: &'a str,
-    pub verilog: &'a str,
-    pub answer: &'a str,
-    pub verdicts: &'a str,
-    pub final_maps: &'a str,
-}
-
-/// The run that these words ask for: the program's name, `run`, and in any order each of
-/// `--object`, `--capture`, `--verilog`, `--answer`, `--verdicts` and `--final` once, with a file
-/// after it. A file's name is not empty, does not begin with `-`, and stands there once. All else is
-/// `None`.
-pub fn read_run(words: &Words) -> Option<Run<'_>>
-    ensures some { IfSome result (λ run. IsRun words.now (names_of run)) }
-    ensures none { IfNone result ((run : Names) → ¬ IsRun words.now run) }
+// Writes the Verilog text, answers, verdicts and the final maps.
+fn write_run<S: Shelf>(
+    alloc: Global,
+    shelf: &mut S,
+    files: &Files,
+    text: &[u8],
+    capture: &Captured,
+    answers: &Answers,
+) -> Result<(), Unwritten>
+    requires apart { AreApart (names_of files.now) }
+    requires many { length answers.now ≤ length capture.now.packets.items }
+    ensures done { OnOk result (IsTrue (S.tells shelf.old) → HoldWhole (file files.now.verilog.now text.now ∷ (result_files (names_of files.now) capture.now.magic (map seen capture.now.packets.items) answers.now ++ final_files (names_of files.now) true)) (S.held shelf.new)) }
+    ensures kept { OnErr result (IsTrue (S.tells shelf.old) → HoldFronts (file files.now.verilog.now text.now ∷ (result_files (names_of files.now) capture.now.magic (map seen capture.now.packets.items) answers.now ++ final_files (names_of files.now) true)) (S.held shelf.old) (S.held shelf.new)) }
+    ensures failed { IsErrOf result Unwritten.Failed → OneRose (files.now.verilog.now ∷ files.now.answer.now ∷ files.now.verdicts.now ∷ files.now.final_maps.now ∷ []) (S.write_faults shelf.old) (S.write_faults shelf.new) }
+    ensures others { KeepsOthers (files.now.verilog.now ∷ files.now.answer.now ∷ files.now.verdicts.now ∷ files.now.final_maps.now ∷ []) (S.held shelf.old) (S.held shelf.new) }
+    ensures tells { S.tells shelf.new ≡ S.tells shelf.old }
+    ensures reads { NoneFell (S.read_faults shelf.old) (S.read_faults shelf.new) }
+    ensures writes { NoneFell (S.write_faults shelf.old) (S.write_faults shelf.new) }
 {
-    if words.len() != 14 || words.get(1) != "run" || !are_distinct(words) {
-        return None;
+    match write_parts(shelf, files.verilog, &[text]) {
+        Ok(()) => {}
+        Err(Failed) => return Err(Unwritten::Failed),
     }
-    let object = value_of(words, "--object")?;
-    let capture = value_of(words, "--capture")?;
-    let verilog = value_of(words, "--verilog")?;
-    let answer = value_of(words, "--answer")?;
-    let verdicts = value_of(words, "--verdicts")?;
-    let final_maps = value_of(words, "--final")?;
-    Some(Run {
-        object,
-        capture,
-        verilog,
-        answer,
-        verdicts,
-        final_maps,
-    })
-}
-
-// The value of an option that stands there once.
-fn value_of<'a>(words: &'a Words, option: &str) -> Option<&'a str>
-    requires { length words.now ≡ 14 }
-    ensures some { IfSome result (λ value. Gives words.now option.now value.now) }
-    ensures none { IfNone result ((value : List ℕ) → ¬ Gives words.now option.now value) }
-{
-    let pair = pair_of(words, option)?;
-    let value = words.get(2 * pair + 1);
-    if is_value(value) { Some(value) } else { None }
-}
-
-// The one pair after the first that begins with this option.
-fn pair_of(words: &Words, option: &str) -> Option<usize>
-    requires { length words.now ≡ 14 }
-    ensures some { IfSome result (λ pair. IsOnce words.now option.now pair) }
-    ensures none { IfNone result ((pair : ℕ) → ¬ IsOnce words.now option.now pair) }
-{
-    let mut found = None;
-    for pair in 1..7 {
-        if words.get(2 * pair) == option {
-            if found.is_some() {
-                return None;
-            }
-            found = Some(pair);
-        }
-    }
-    found
-}
-
-fn is_value(word: &str) -> bool
-    ensures { result ≡ is_value word.now }
-{
-    match word.as_bytes() {
-        [] => false,
-        [first, ..] => *first != b'-',
+    match write_results(alloc, shelf, files, capture, answers, true) {
+        Ok(()) => Ok(()),
+        Err(unwritten) => Err(unwritten),
     }
 }
 
-// Whether the values are all different.
-fn are_distinct(words: &Words) -> bool
-    requires { length words.now ≡ 14 }
-    ensures { IsTrue result ↔ AreDistinct words.now }
+/// Compiles an object to a Verilog text, simulates this text over a capture, and writes what its ports gave.
+pub(crate) fn run_files<S: Shelf>(
+    alloc: Global,
+    shelf: &mut S,
+    files: &Files,
+    choice: Choice,
+    ifindex: u32,
+) -> Result<(), Stop>
+    requires { AreApart (names_of files.now) }
+    ensures ends { EndsIn (AskRun (names_of files.now) (selected_of choice.entry) ifindex) (S.tells shelf.old) (S.held shelf.old) (S.held shelf.new) result }
+    ensures read_fault { IsErrOf result Stop.ReadFault → OneRose (inputs_of (AskRun (names_of files.now) (selected_of choice.entry) ifindex)) (S.read_faults shelf.old) (S.read_faults shelf.new) }
+    ensures write_fault { IsErrOf result Stop.WriteFault → OneRose (outputs_of (AskRun (names_of files.now) (selected_of choice.entry) ifindex)) (S.write_faults shelf.old) (S.write_faults shelf.new) }
+    ensures others { KeepsOthers (outputs_of (AskRun (names_of files.now) (selected_of choice.entry) ifindex)) (S.held shelf.old) (S.held shelf.new) }
+    ensures tells { S.tells shelf.new ≡ S.tells shelf.old }
+    ensures reads { NoneFell (S.read_faults shelf.old) (S.read_faults shelf.new) }
+    ensures writes { NoneFell (S.write_faults shelf.old) (S.write_faults shelf.new) }
 {
-    for later in 2..7 {
-        if !is_new(words, later) {
-            return false;
-        }
+    let text = match built(alloc, shelf, files.object, choice) {
+        Ok(text) => text,
+        Err(stop) => return Err(stop),
+    };
+    let bytes = match capture_bytes(alloc, shelf, files.capture) {
+        Ok(bytes) => bytes,
+        Err(stop) => return Err(stop),
+    };
+    let capture = match read_capture(alloc, &bytes) {
+        Ok(capture) => capture,
+        Err(stop) => return Err(stop),
+    };
+    let Ok(frames) = frames_to_offer(alloc, &capture.packets) else {
+        return Err(Stop::NoMemory);
+    };
+    let Ok(answers) = answers_of(alloc, &text, &frames, ifindex) else {
+        return Err(Stop::NoMemory);
+    };
+    match write_run(alloc, shelf, files, &text, &capture, &answers) {
+        Ok(()) => Ok(()),
+        Err(Unwritten::Failed) => Err(Stop::WriteFault),
+        Err(Unwritten::NoMemory) => Err(Stop::NoMemory),
     }
-    true
-}
-
-// Whether the value of a pair is none of those before it.
-fn is_new(words: &Words, later: usize) -> bool
-    requires many { length words.now ≡ 14 }
-    requires within { later < 7 }
-    ensures { IsTrue result ↔ ((i : ℕ) → 1 ≤ i → i < later → slice_get words.now (2 * i + 1) ≢ slice_get words.now (2 * later + 1)) }
-{
-    let value = words.get(2 * later + 1);
-    for pair in 1..later {
-        if words.get(2 * pair + 1) == value {
-            return false;
-        }
-    }
-    true
 }

@@ -14,7 +14,12 @@ ghost use Rattle.std.specs.Prelude.{◌≡◌};
 ghost use Rattle.net_core.specs.View.{plan_of};
 ghost use Rattle.spelling_core.specs.Formed as formed;
 
+pub use crate::formed::names::is_name;
+pub use crate::formed::ports::{COUNT as PORT_COUNT, name_matches, port_matches};
 use crate::formed::sections::first_fault;
+pub use crate::formed::widths::{
+    bits_width, cell_width, choose_width, op_width, prefix_width, word_fits,
+};
 use net_core::design::Design;
 use thiserror::Error;
 

@@ -1,51 +1,74 @@
--- From the tokens of a text to the design that it spells.
-use Rattle.std.proofs.Common.{◌≡◌, ◌∙◌, ℕ, List, Option, Some, None, Result, Ok, Err, refl, sym, ap, subst, true, false}
-use Rattle.std.specs.Result.{IsErr, IsErrAnd}
-use Rattle.net_core.specs.declared.design.Design.{Design}
-use Rattle.net_core.specs.Nets.{Plan}
-use Rattle.spelling_core.specs.declared.formed.NetError.{NetError}
-use Rattle.spelling_core.specs.Formed.{first_fault, result_of}
-use Rattle.spelling_core.specs.Grammar.{design_lexemes}
-use Rattle.spelling_core.specs.Spelling.{Spells}
-use Rattle.verilog_lex.specs.declared.token.Token.{Token}
-use Rattle.verilog_lex.specs.Lexeme.{Lexeme, Lexes, lexemes_of}
-use Rattle.verilog_read.specs.declared.error.ReadError.{ReadError}
-use Rattle.verilog_read.specs.declared.error.ReadError.TheVariants.{Refused, NoMemory}
-use Rattle.verilog_read.specs.Items.{design_at}
-use Rattle.verilog_read.specs.Seen.{Fails}
-use Rattle.verilog_read.specs.Texts.{ReadsPlan}
-use Rattle.verilog_read.proofs.ItemsFound.{design_found}
-use Rattle.verilog_read.proofs.ItemsOnly.{design_only}
+-- Names of the subset are ASCII.
+use Rattle.std.proofs.Common.{◌≡◌, ◌∙◌, sym, ap, refl, subst, arith, ℕ, zero, suc, ◌<◌, Bool, true, false, ◌&&◌, ◌||◌, List, [], ◌∷◌, get_or, codes, Result, Ok, Err}
+use Rattle.std.specs.Cmp.Lexicographic.{bytes_decides}
+use Rattle.std.specs.List.{list_all}
+use Rattle.std.specs.Str.{IsAscii, IsUtf8, bytes_eq}
+use Rattle.std.proofs.lemmas.Str.{IsUtf8-from_ascii}
+use Rattle.verilog_lex.specs.Lexeme.{Lexeme, LName, LKeyword, LNumber, LSized, LOutOfRange, LSymbol}
+use Rattle.phrase_read.specs.declared.fault.Code.TheVariants as code
+use Rattle.phrase_read.specs.Lexemes.{name_at}
+use Rattle.phrase_read.specs.Reads.{Read, kept_if}
+use Rattle.spelling_core.specs.FormedSyntax.{begins_name, continues_name, is_identifier, is_unreserved, is_name}
 
-no_fault : (f : Option NetError) → Ok tt ≡ result_of f → f ≡ None
-no_fault None e = refl
-no_fault (Some x) e = absurd cc
+small : (c : ℕ) → continues_name c ≡ true → c < 128
+small c h = grind arith
 
-pub text_found : (text : List ℕ) (ts us : List Token) (d : Plan) → us ≡ ts → Lexes text (lexemes_of text ts) → design_at (lexemes_of text us) ≡ Some d → Ok tt ≡ result_of (first_fault d) → Spells text d
-text_found text ts us d e l k f = record {
-  lexemes = subst (λ (ls : List Lexeme). Lexes text ls) (design_found (lexemes_of text ts) d (ap (λ (vs : List Token). design_at (lexemes_of text vs)) (sym e) ∙ k)) l;
-  formed = no_fault (first_fault d) f;
-}
-
--- what the text spells is what its tokens give
-pub text_only : (text : List ℕ) (ts us : List Token) (p : Plan) → us ≡ ts → ((ls : List Lexeme) → Lexes text ls → lexemes_of text ts ≡ ls) → Spells text p → design_at (lexemes_of text us) ≡ Some p
-text_only text ts us p e only s = ap (λ (vs : List Token). design_at (lexemes_of text vs)) e ∙ ap design_at (only (design_lexemes p) s.lexemes) ∙ design_only p s.formed
-
-pub same_plan : (read : Option Plan) (d p : Plan) → read ≡ Some d → read ≡ Some p → d ≡ p
-same_plan read d p e k = cc
-
-pub never_faulty : (read : Option Plan) (d p : Plan) (why : NetError) → read ≡ Some d → read ≡ Some p → first_fault p ≡ None → Err why ≡ result_of (first_fault d) → ⊥
-never_faulty read d p why e k f g = faulty (first_fault d) (ap first_fault (same_plan read d p e k) ∙ f) g
+all_small : (bs : List ℕ) → list_all continues_name bs ≡ true → IsAscii bs
+all_small [] h i = omega arith
+all_small (b ∷ bs) h zero = small b (first (continues_name b) (list_all continues_name bs) h)
   where
-    faulty : (x : Option NetError) → x ≡ None → Err why ≡ result_of x → ⊥
-    faulty None q r = cc
-    faulty (Some y) q r = cc
-
--- an error that a step returned
-pub reads_error : (r : Result Design ReadError) (P : ReadError → Type 0) (e : ReadError) (read : Option Plan) (p : Plan) → IsErr r × IsErrAnd r P → ((e' : ReadError) → P e' → e' ≡ e) → Fails e read → read ≡ Some p → ReadsPlan r p
-reads_error (Ok x) P e read p h q f k = let j : false ≡ true = h.0 in absurd cc
-reads_error (Err e') P e read p h q f k = subst (λ (x : ReadError). ReadsPlan (Err x) p) (sym (q e' h.1)) (by_error e f)
+    first : (x y : Bool) → (x && y) ≡ true → x ≡ true
+    first true y e = refl
+    first false y e = absurd cc
+all_small (b ∷ bs) h (suc i) = all_small bs (second (continues_name b) (list_all continues_name bs) h) i
   where
-    by_error : (x : ReadError) → Fails x read → ReadsPlan (Err x) p
-    by_error Refused g = absurd cc
-    by_error NoMemory g = tt
+    second : (x y : Bool) → (x && y) ≡ true → y ≡ true
+    second true y e = e
+    second false y e = absurd cc
+
+by_letters : (bs : List ℕ) → is_identifier bs ≡ true → IsAscii bs
+by_letters [] h = absurd cc
+by_letters (b ∷ bs) h = all_small (b ∷ bs) (letters (begins_name b) (continues_name b) (list_all continues_name bs) (λ e. grind (arith, e)) h)
+  where
+    letters : (x y z : Bool) → (x ≡ true → y ≡ true) → (x && z) ≡ true → (y && z) ≡ true
+    letters true y z f e = rw (f refl) e
+    letters false y z f e = absurd cc
+
+by_word : (bs word : List ℕ) → bytes_eq bs word ≡ true → IsAscii word → IsAscii bs
+by_word bs word e h = subst IsAscii (sym ((bytes_decides bs word).0 e)) h
+
+is_small : (bs : List ℕ) → is_name bs ≡ true → IsAscii bs
+is_small bs h = by_clk (bytes_eq bs (codes "clk")) refl h
+  where
+    by_rest : (b : Bool) → is_identifier bs ≡ b → (b && is_unreserved bs) ≡ true → IsAscii bs
+    by_rest true e k = by_letters bs e
+    by_rest false e k = absurd cc
+
+    by_ehdl : (b : Bool) → bytes_eq bs (codes "ehdl") ≡ b → (b || (is_identifier bs && is_unreserved bs)) ≡ true → IsAscii bs
+    by_ehdl true e k = by_word bs (codes "ehdl") e (all_small (codes "ehdl") refl)
+    by_ehdl false e k = by_rest (is_identifier bs) refl k
+
+    by_clk : (a : Bool) → bytes_eq bs (codes "clk") ≡ a → ((a || bytes_eq bs (codes "ehdl")) || (is_identifier bs && is_unreserved bs)) ≡ true → IsAscii bs
+    by_clk true e k = by_word bs (codes "clk") e (all_small (codes "clk") refl)
+    by_clk false e k = by_ehdl (bytes_eq bs (codes "ehdl")) refl k
+
+-- so they are text
+pub is_text : (bs : List ℕ) → is_name bs ≡ true → IsUtf8 bs
+is_text bs h = IsUtf8-from_ascii bs (is_small bs h)
+
+same_ok : (a b : List ℕ × List Lexeme) → let x : Read (List ℕ) = Ok a in let y : Read (List ℕ) = Ok b in x ≡ y → a ≡ b
+same_ok a b e = cc
+
+-- what is read as a name is one
+pub read_name : (ts r : List Lexeme) (s : List ℕ) → name_at ts ≡ Ok (s, r) → is_name s ≡ true
+read_name [] r s e = absurd cc
+read_name (LName w ∷ ts) r s e = by_test (is_name w) refl e
+  where
+    by_test : (b : Bool) → is_name w ≡ b → kept_if {A = List ℕ × List Lexeme} b (w, ts) code.Syntax (LName w ∷ ts) ≡ Ok (s, r) → is_name s ≡ true
+    by_test true k f = subst (λ (x : List ℕ). is_name x ≡ true) (ap (λ (p : List ℕ × List Lexeme). p.0) (same_ok (w, ts) (s, r) f)) k
+    by_test false k f = absurd cc
+read_name (LKeyword k ∷ ts) r s e = absurd cc
+read_name (LNumber n ∷ ts) r s e = absurd cc
+read_name (LSized w v ∷ ts) r s e = absurd cc
+read_name (LOutOfRange ∷ ts) r s e = absurd cc
+read_name (LSymbol k ∷ ts) r s e = absurd cc

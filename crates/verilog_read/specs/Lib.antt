@@ -1,8 +1,9 @@
-pub mod Names
-pub mod Reading
-pub mod Seen
-pub mod Marks
-pub mod Laws
+pub mod Entries
+pub mod Header
+pub mod Declarations
 pub mod Items
-pub mod Sections
+pub mod Designs
 pub mod Texts
+pub mod Parts
+pub mod Seen
+pub mod Words

@@ -1,64 +1,62 @@
 //! Integers, registers and memories.
 
-ghost use Rattle.std.specs.Prelude.{◌≡◌};
+ghost use Rattle.std.specs.Prelude.{◌≡◌, IfOk};
 ghost use Rattle.net_core.specs.View.{plan_of};
-ghost use Rattle.verilog_read.specs.Items.{declared_at, integer_item_at, reg_item_at, register_at, stored_at};
-ghost use Rattle.verilog_read.specs.Seen.{Gives, seen};
+ghost use Rattle.phrase_read.specs.Seen.{Gives, seen};
+ghost use Rattle.verilog_read.specs.Declarations.{integer_item_at, reg_item_at, register_at, stored_at};
+ghost use Rattle.verilog_read.specs.Seen.{IsNew, NoWires};
+ghost use Rattle.verilog_read.specs.Words.{storage_at};
 
 use crate::added::with_declared;
-use crate::error::ReadError;
-use crate::memory::memory_item;
-use crate::parts::{constant, fresh, range};
-use crate::rest::{Rest, semicolon};
-use net_core::design::{Declared, Design};
+use crate::memory::memory;
+use crate::partial::Partial;
+use crate::parts::{ends, fresh, range};
+use net_core::design::Declared;
+use phrase_read::lexemes::{constant, fault, lexeme};
+use phrase_read::{Code, Mark, PhraseError, Rest};
 use std::alloc::Global;
-use verilog_lex::{Keyword, Symbol, Token, TokenKind};
+use verilog_lex::{Symbol, Token, TokenKind};
 
-// Behind `integer`.
-#[tactic(auto, unfolding(crate::specs::Items::integer_item_at))]
-fn integer_item<'a>(
+/// An integer, behind its keyword.
+#[tactic(auto, unfolding(crate::specs::Declarations::integer_item_at))]
+pub(crate) fn integer_item<'a>(
     alloc: Global,
-    design: Design,
+    partial: Partial<'a>,
     rest: Rest<'a>,
-) -> Result<(Design, Rest<'a>), ReadError>
-    ensures { Gives (λ x. (plan_of x.0, seen x.1)) result (integer_item_at (plan_of design) (seen rest.entry)) }
+) -> Result<(Partial<'a>, Rest<'a>), PhraseError>
+    requires { NoWires (plan_of partial) }
+    ensures read { Gives (λ x. (plan_of x.0, seen x.1)) result (integer_item_at (plan_of partial.entry) (seen rest.entry)) }
+    ensures wires { IfOk result (λ x. NoWires (plan_of x.0)) }
 {
-    let (name, rest) = fresh(rest)?;
-    let rest = semicolon(rest)?;
-    let design = with_declared(alloc, design, name, Declared::Integer)?;
-    Ok((design, rest))
+    let (name, rest) = fresh(&partial, rest)?;
+    let rest = lexeme(Mark::Symbol(Symbol::Semicolon), rest)?;
+    let partial = with_declared(alloc, partial, name, Declared::Integer)?;
+    Ok((partial, rest))
 }
 
 // Behind `reg`, a width, a name and `=`.
-#[tactic(auto, unfolding(crate::specs::Items::register_at))]
+#[tactic(auto, unfolding(crate::specs::Declarations::register_at))]
 fn register<'a>(
     alloc: Global,
-    design: Design,
+    partial: Partial<'a>,
     width: u8,
-    name: &str,
+    name: &'a str,
     rest: Rest<'a>,
-) -> Result<(Design, Rest<'a>), ReadError>
-    ensures { Gives (λ x. (plan_of x.0, seen x.1)) result (register_at (plan_of design) width name.now (seen rest.entry)) }
+) -> Result<(Partial<'a>, Rest<'a>), PhraseError>
+    requires fresh { IsNew (plan_of partial) name.now }
+    requires wires { NoWires (plan_of partial) }
+    ensures read { Gives (λ x. (plan_of x.0, seen x.1)) result (register_at (plan_of partial.entry) width name.now (seen rest.entry)) }
+    ensures wires { IfOk result (λ x. NoWires (plan_of x.0)) }
 {
     let (first, rest) = constant(rest)?;
-    let rest = semicolon(rest)?;
-    if first.width != width {
-        return Err(ReadError::Refused);
-    }
-    let design = with_declared(alloc, design, name, Declared::Register(first))?;
-    Ok((design, rest))
+    let rest = ends(first.width == width, rest)?;
+    let partial = with_declared(alloc, partial, name, Declared::Register(first))?;
+    Ok((partial, rest))
 }
 
-// Behind `reg`, a width and a name.
-#[tactic(auto, unfolding(crate::specs::Items::stored_at))]
-fn stored<'a>(
-    alloc: Global,
-    design: Design,
-    width: u8,
-    name: &str,
-    rest: Rest<'a>,
-) -> Result<(Design, Rest<'a>), ReadError>
-    ensures { Gives (λ x. (plan_of x.0, seen x.1)) result (stored_at (plan_of design) width name.now (seen rest.entry)) }
+// Behind the name of a register, `=`, and of a memory, `[`: whether it is the first.
+fn storage<'a>(rest: Rest<'a>) -> Result<(bool, Rest<'a>), PhraseError>
+    ensures { Gives (λ x. (x.0, seen x.1)) result (storage_at (seen rest.entry)) }
 {
     match rest.tokens {
         [
@@ -67,49 +65,51 @@ fn stored<'a>(
                 ..
             },
             tokens @ ..,
-        ] => register(alloc, design, width, name, Rest { tokens, ..rest }),
-        _ => memory_item(alloc, design, width, name, rest),
+        ] => Ok((true, Rest { tokens, ..rest })),
+        [
+            Token {
+                kind: TokenKind::Symbol(Symbol::OpenBracket),
+                ..
+            },
+            tokens @ ..,
+        ] => Ok((false, Rest { tokens, ..rest })),
+        _ => fault(Code::Syntax, rest),
     }
 }
 
-// Behind `reg`.
-#[tactic(auto, unfolding(crate::specs::Items::reg_item_at))]
-fn reg_item<'a>(
+// Behind `reg`, a width and a name.
+fn stored<'a>(
     alloc: Global,
-    design: Design,
+    partial: Partial<'a>,
+    width: u8,
+    name: &'a str,
     rest: Rest<'a>,
-) -> Result<(Design, Rest<'a>), ReadError>
-    ensures { Gives (λ x. (plan_of x.0, seen x.1)) result (reg_item_at (plan_of design) (seen rest.entry)) }
+) -> Result<(Partial<'a>, Rest<'a>), PhraseError>
+    requires fresh { IsNew (plan_of partial) name.now }
+    requires wires { NoWires (plan_of partial) }
+    ensures read { Gives (λ x. (plan_of x.0, seen x.1)) result (stored_at (plan_of partial.entry) width name.now (seen rest.entry)) }
+    ensures wires { IfOk result (λ x. NoWires (plan_of x.0)) }
+{
+    let (is_register, rest) = storage(rest)?;
+    if is_register {
+        register(alloc, partial, width, name, rest)
+    } else {
+        memory(alloc, partial, width, name, rest)
+    }
+}
+
+/// A register or a memory, behind its keyword.
+#[tactic(auto, unfolding(crate::specs::Declarations::reg_item_at))]
+pub(crate) fn reg_item<'a>(
+    alloc: Global,
+    partial: Partial<'a>,
+    rest: Rest<'a>,
+) -> Result<(Partial<'a>, Rest<'a>), PhraseError>
+    requires { NoWires (plan_of partial) }
+    ensures read { Gives (λ x. (plan_of x.0, seen x.1)) result (reg_item_at (plan_of partial.entry) (seen rest.entry)) }
+    ensures wires { IfOk result (λ x. NoWires (plan_of x.0)) }
 {
     let (width, rest) = range(rest)?;
-    let (name, rest) = fresh(rest)?;
-    stored(alloc, design, width, name, rest)
-}
-
-/// An integer, a register or a memory.
-#[tactic(auto, unfolding(crate::specs::Items::declared_at))]
-pub(crate) fn declaration<'a>(
-    alloc: Global,
-    design: Design,
-    rest: Rest<'a>,
-) -> Result<(Design, Rest<'a>), ReadError>
-    ensures { Gives (λ x. (plan_of x.0, seen x.1)) result (declared_at (plan_of design) (seen rest.entry)) }
-{
-    match rest.tokens {
-        [
-            Token {
-                kind: TokenKind::Keyword(Keyword::Integer),
-                ..
-            },
-            tokens @ ..,
-        ] => integer_item(alloc, design, Rest { tokens, ..rest }),
-        [
-            Token {
-                kind: TokenKind::Keyword(Keyword::Reg),
-                ..
-            },
-            tokens @ ..,
-        ] => reg_item(alloc, design, Rest { tokens, ..rest }),
-        _ => Err(ReadError::Refused),
-    }
+    let (name, rest) = fresh(&partial, rest)?;
+    stored(alloc, partial, width, name, rest)
 }

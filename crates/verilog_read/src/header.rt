@@ -1,21 +1,22 @@
 //! The header of a design: its ports.
 
-ghost use Rattle.std.specs.Prelude.{◌≡◌};
+ghost use Rattle.std.specs.Prelude.{◌≡◌, IfOk};
 ghost use Rattle.net_core.specs.View.{plan_of};
-ghost use Rattle.verilog_read.specs.Items.{direction_at, follows_at, header_at, no_design, port_at, ports_at};
-ghost use Rattle.verilog_read.specs.Seen.{Gives, seen};
+ghost use Rattle.phrase_read.specs.Seen.{Finds, Gives, comma_at, seen};
+ghost use Rattle.verilog_read.specs.Header.{direction_at, header_at, port_at, ports_at};
+ghost use Rattle.verilog_read.specs.Seen.{NoWires, OnlyPorts};
 
 use crate::added::with_port;
-use crate::error::ReadError;
+use crate::partial::Partial;
 use crate::parts::{fresh, range};
-use crate::phrase::{Mark, phrase};
-use crate::rest::{Rest, semicolon};
-use net_core::design::{Design, Port};
+use net_core::design::Port;
+use phrase_read::lexemes::{fault, lexeme, phrase};
+use phrase_read::{Code, Mark, PhraseError, Rest};
 use std::alloc::Global;
 use verilog_lex::{Keyword, Symbol, Token, TokenKind};
 
-// Whether a port is an output.
-fn direction<'a>(rest: Rest<'a>) -> Result<(bool, Rest<'a>), ReadError>
+// The direction of a port: whether it is an output.
+fn direction<'a>(rest: Rest<'a>) -> Result<(bool, Rest<'a>), PhraseError>
     ensures { Gives (λ x. (x.0, seen x.1)) result (direction_at (seen rest.entry)) }
 {
     match rest.tokens {
@@ -33,26 +34,32 @@ fn direction<'a>(rest: Rest<'a>) -> Result<(bool, Rest<'a>), ReadError>
             },
             tokens @ ..,
         ] => Ok((true, Rest { tokens, ..rest })),
-        _ => Err(ReadError::Refused),
+        _ => fault(Code::Syntax, rest),
     }
 }
 
 // A design with the port in front behind its others.
-#[tactic(auto, unfolding(crate::specs::Items::port_at))]
-fn port<'a>(alloc: Global, design: Design, rest: Rest<'a>) -> Result<(Design, Rest<'a>), ReadError>
-    ensures { Gives (λ x. (plan_of x.0, seen x.1)) result (port_at (plan_of design) (seen rest.entry)) }
+#[tactic(auto, unfolding(crate::specs::Header::port_at))]
+fn port<'a>(
+    alloc: Global,
+    partial: Partial<'a>,
+    rest: Rest<'a>,
+) -> Result<(Partial<'a>, Rest<'a>), PhraseError>
+    requires { OnlyPorts (plan_of partial) }
+    ensures read { Gives (λ x. (plan_of x.0, seen x.1)) result (port_at (plan_of partial.entry) (seen rest.entry)) }
+    ensures only { IfOk result (λ x. OnlyPorts (plan_of x.0)) }
 {
     let (output, rest) = direction(rest)?;
-    let rest = phrase(&[Mark::Keyword(Keyword::Wire)], rest)?;
+    let rest = lexeme(Mark::Keyword(Keyword::Wire), rest)?;
     let (width, rest) = range(rest)?;
-    let (name, rest) = fresh(rest)?;
-    let design = with_port(alloc, design, name, Port { output, width })?;
-    Ok((design, rest))
+    let (name, rest) = fresh(&partial, rest)?;
+    let partial = with_port(alloc, partial, name, Port { output, width })?;
+    Ok((partial, rest))
 }
 
-// Whether another port follows.
-fn follows<'a>(rest: Rest<'a>) -> Result<(bool, Rest<'a>), ReadError>
-    ensures { Gives (λ x. (x.0, seen x.1)) result (follows_at (seen rest.entry)) }
+// What is left behind a comma, where one stands in front.
+fn comma<'a>(rest: Rest<'a>) -> Option<Rest<'a>>
+    ensures { Finds (λ r. seen r) result (comma_at (seen rest.entry)) }
 {
     match rest.tokens {
         [
@@ -61,15 +68,8 @@ fn follows<'a>(rest: Rest<'a>) -> Result<(bool, Rest<'a>), ReadError>
                 ..
             },
             tokens @ ..,
-        ] => Ok((true, Rest { tokens, ..rest })),
-        [
-            Token {
-                kind: TokenKind::Symbol(Symbol::CloseParenthesis),
-                ..
-            },
-            tokens @ ..,
-        ] => Ok((false, Rest { tokens, ..rest })),
-        _ => Err(ReadError::Refused),
+        ] => Some(Rest { tokens, ..rest }),
+        _ => None,
     }
 }
 
@@ -77,48 +77,36 @@ fn follows<'a>(rest: Rest<'a>) -> Result<(bool, Rest<'a>), ReadError>
 fn ports<'a>(
     alloc: Global,
     most: usize,
-    design: Design,
+    partial: Partial<'a>,
     rest: Rest<'a>,
-) -> Result<(Design, Rest<'a>), ReadError>
-    ensures { Gives (λ x. (plan_of x.0, seen x.1)) result (ports_at most (plan_of design) (seen rest.entry)) }
+) -> Result<(Partial<'a>, Rest<'a>), PhraseError>
+    requires { OnlyPorts (plan_of partial) }
+    ensures read { Gives (λ x. (plan_of x.0, seen x.1)) result (ports_at most (plan_of partial.entry) (seen rest.entry)) }
+    ensures only { IfOk result (λ x. OnlyPorts (plan_of x.0)) }
 {
     let mut left = most;
-    let mut before = design;
+    let mut before = partial;
     let mut after = rest;
     while left > 0 {
-        let (design, rest) = port(alloc, before, after)?;
-        let (goes_on, rest) = follows(rest)?;
-        if !goes_on {
-            return Ok((design, rest));
+        let (partial, rest) = port(alloc, before, after)?;
+        match comma(rest) {
+            Some(more) => after = more,
+            None => return Ok((partial, rest)),
         }
-        before = design;
-        after = rest;
+        before = partial;
         left -= 1;
     }
-    Err(ReadError::Refused)
+    fault(Code::Syntax, after)
 }
 
-fn no_design(alloc: Global) -> Design
-    ensures { plan_of result ≡ no_design }
-{
-    Design {
-        names: Vec::new(alloc),
-        ports: Vec::new(alloc),
-        declared: Vec::new(alloc),
-        wires: Vec::new(alloc),
-        assigns: Vec::new(alloc),
-        always: Vec::new(alloc),
-    }
-}
-
-/// The ports of a design, of which there are at most so many.
-#[tactic(auto, unfolding(crate::specs::Items::header_at))]
+/// The name and the ports of a design.
+#[tactic(auto, unfolding(crate::specs::Header::header_at))]
 pub(crate) fn header<'a>(
     alloc: Global,
-    most: usize,
     rest: Rest<'a>,
-) -> Result<(Design, Rest<'a>), ReadError>
-    ensures { Gives (λ x. (plan_of x.0, seen x.1)) result (header_at most (seen rest.entry)) }
+) -> Result<(Partial<'a>, Rest<'a>), PhraseError>
+    ensures read { Gives (λ x. (plan_of x.0, seen x.1)) result (header_at (seen rest.entry)) }
+    ensures wires { IfOk result (λ x. NoWires (plan_of x.0)) }
 {
     let front = [
         Mark::Keyword(Keyword::Module),
@@ -126,7 +114,11 @@ pub(crate) fn header<'a>(
         Mark::Symbol(Symbol::OpenParenthesis),
     ];
     let rest = phrase(&front, rest)?;
-    let (design, rest) = ports(alloc, most, no_design(alloc), rest)?;
-    let rest = semicolon(rest)?;
-    Ok((design, rest))
+    let (partial, rest) = ports(alloc, rest.tokens.len(), Partial::new(alloc), rest)?;
+    let end = [
+        Mark::Symbol(Symbol::CloseParenthesis),
+        Mark::Symbol(Symbol::Semicolon),
+    ];
+    let rest = phrase(&end, rest)?;
+    Ok((partial, rest))
 }

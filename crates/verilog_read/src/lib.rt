@@ -4,24 +4,20 @@
 mod added;
 mod declared;
 mod error;
-mod expr;
+mod flags;
 mod header;
-mod integer;
 mod items;
 mod memory;
+mod partial;
 mod parts;
-mod phrase;
+mod ports;
 mod read;
-mod rest;
-mod scope;
+mod section;
 mod sections;
-mod stmt;
+mod targets;
 #[cfg(test)]
 mod tests;
 
 pub use crate::error::ReadError;
-pub use crate::expr::{expression, right_side};
 pub use crate::read::read_text;
-pub use crate::rest::Rest;
-pub use crate::scope::Scope;
-pub use crate::stmt::statement;
+pub use crate::section::Section;

@@ -1,18 +1,19 @@
 //! Memories: how many words, and the loop that fills them.
 
-ghost use Rattle.std.specs.Prelude.{◌≡◌, ◌^◌, ◌≤◌, IfOk};
+ghost use Rattle.std.specs.Prelude.{◌≡◌, ◌^◌, ◌≤◌, IfOk, IfSome, map};
 ghost use Rattle.net_core.specs.View.{plan_of};
-ghost use Rattle.verilog_read.specs.Items as items;
-ghost use Rattle.verilog_read.specs.Items.{behind, fill_at, memory_at};
-ghost use Rattle.verilog_read.specs.Seen.{Gives, seen};
+ghost use Rattle.phrase_read.specs.Seen.{Gives, seen};
+ghost use Rattle.verilog_read.specs.Declarations as declarations;
+ghost use Rattle.verilog_read.specs.Declarations.{all_parts_at, fill_at, integer_at, loop_parts, memory_at, part_at};
+ghost use Rattle.verilog_read.specs.Parts.{part_of};
+ghost use Rattle.verilog_read.specs.Seen.{IsNew, NoWires};
 
 use crate::added::with_declared;
-use crate::error::ReadError;
-use crate::integer::integer;
-use crate::parts::constant;
-use crate::phrase::{Mark, phrase};
-use crate::rest::{Rest, named, number, semicolon};
-use net_core::design::{Declared, Design};
+use crate::partial::Partial;
+use crate::parts::ends;
+use net_core::design::Declared;
+use phrase_read::lexemes::{constant, fault, lexeme, name, number, phrase};
+use phrase_read::{Code, Entry, Mark, Names, PhraseError, Rest};
 use std::alloc::Global;
 use verilog_lex::{Keyword, Symbol};
 
@@ -26,111 +27,191 @@ fn words_of(index: u8) -> u32
 }
 
 // The width of an index whose last one is this.
-fn index_of(last: u32) -> Result<u8, ReadError>
-    ensures width { Gives (λ w. w) result (items.index_of last) }
-    ensures most { IfOk result (λ w. w ≤ 16) }
+fn index_of(last: u32) -> Option<u8>
+    ensures width { result ≡ declarations.index_of last }
+    ensures most { IfSome result (λ w. w ≤ 16) }
 {
     for width in 1..17 {
         if last == words_of(width) - 1 {
-            return Ok(width);
+            return Some(width);
         }
     }
-    Err(ReadError::Refused)
+    None
 }
 
-// The head of the loop that fills a memory, behind its first name, and the word that it sets.
-fn loop_phrase<'a, 'n>(
+/// A part of the loop that fills a memory.
+#[derive(Clone, Copy)]
+pub(crate) enum Part<'a> {
+    This(Mark<'a>),
+    /// A name that stood before.
+    Same(&'a [u8]),
+    /// The number of words.
+    Bound(u32),
+}
+
+// What is left behind a name that stood before.
+#[tactic(auto, unfolding(crate::specs::Declarations::part_at))]
+fn same<'a>(before: &[u8], rest: Rest<'a>) -> Result<Rest<'a>, PhraseError>
+    ensures { Gives (λ r. seen r) result (part_at (declarations.Part.Same before.now) (seen rest.entry)) }
+{
+    let (name, after) = name(rest)?;
+    if before == name {
+        Ok(after)
+    } else {
+        fault(Code::Unknown, rest)
+    }
+}
+
+// What is left behind the number of words.
+#[tactic(auto, unfolding(crate::specs::Declarations::part_at))]
+fn bound<'a>(words: u32, rest: Rest<'a>) -> Result<Rest<'a>, PhraseError>
+    ensures { Gives (λ r. seen r) result (part_at (declarations.Part.Bound words) (seen rest.entry)) }
+{
+    let (number, after) = number(rest)?;
+    if words == number {
+        Ok(after)
+    } else {
+        fault(Code::Width, rest)
+    }
+}
+
+// What is left behind a part.
+#[tactic(auto, unfolding(crate::specs::Declarations::part_at))]
+fn one_part<'a>(part: Part, rest: Rest<'a>) -> Result<Rest<'a>, PhraseError>
+    ensures { Gives (λ r. seen r) result (part_at (part_of part.entry) (seen rest.entry)) }
+{
+    match part {
+        Part::This(mark) => lexeme(mark, rest),
+        Part::Same(before) => same(before, rest),
+        Part::Bound(words) => bound(words, rest),
+    }
+}
+
+// What is left behind several parts.
+fn all_parts<'a>(parts: &[Part], rest: Rest<'a>) -> Result<Rest<'a>, PhraseError>
+    ensures { Gives (λ r. seen r) result (all_parts_at (map part_of parts.now) (seen rest.entry)) }
+{
+    let mut after = rest;
+    for part in parts {
+        after = one_part(*part, after)?;
+    }
+    Ok(after)
+}
+
+// The loop over an integer that fills a memory, behind its first name and before the constant.
+fn loop_head<'a, 'n>(
     name: &'n str,
     integer: &'n [u8],
     index: u8,
     rest: Rest<'a>,
-) -> Result<Rest<'a>, ReadError>
+) -> Result<Rest<'a>, PhraseError>
     requires { index ≤ 16 }
-    ensures { Gives (λ r. seen r) result (behind (items.loop_phrase name.now integer.now (2 ^ index)) (seen rest.entry)) }
+    ensures { Gives (λ r. seen r) result (all_parts_at (loop_parts name.now integer.now (2 ^ index)) (seen rest.entry)) }
 {
-    let marks = [
-        Mark::Symbol(Symbol::Assign),
-        Mark::Number(0),
-        Mark::Symbol(Symbol::Semicolon),
-        Mark::Name(integer),
-        Mark::Symbol(Symbol::Less),
-        Mark::Number(words_of(index)),
-        Mark::Symbol(Symbol::Semicolon),
-        Mark::Name(integer),
-        Mark::Symbol(Symbol::Assign),
-        Mark::Name(integer),
-        Mark::Symbol(Symbol::Plus),
-        Mark::Number(1),
-        Mark::Symbol(Symbol::CloseParenthesis),
-        Mark::Name(name.as_bytes()),
-        Mark::Symbol(Symbol::OpenBracket),
-        Mark::Name(integer),
-        Mark::Symbol(Symbol::CloseBracket),
-        Mark::Symbol(Symbol::Assign),
+    let parts = [
+        Part::This(Mark::Symbol(Symbol::Assign)),
+        Part::This(Mark::Number(0)),
+        Part::This(Mark::Symbol(Symbol::Semicolon)),
+        Part::Same(integer),
+        Part::This(Mark::Symbol(Symbol::Less)),
+        Part::Bound(words_of(index)),
+        Part::This(Mark::Symbol(Symbol::Semicolon)),
+        Part::Same(integer),
+        Part::This(Mark::Symbol(Symbol::Assign)),
+        Part::Same(integer),
+        Part::This(Mark::Symbol(Symbol::Plus)),
+        Part::This(Mark::Number(1)),
+        Part::This(Mark::Symbol(Symbol::CloseParenthesis)),
+        Part::Same(name.as_bytes()),
+        Part::This(Mark::Symbol(Symbol::OpenBracket)),
+        Part::Same(integer),
+        Part::This(Mark::Symbol(Symbol::CloseBracket)),
+        Part::This(Mark::Symbol(Symbol::Assign)),
     ];
-    phrase(&marks, rest)
+    all_parts(&parts, rest)
 }
 
-// Behind the width of a memory's index.
-#[tactic(auto, unfolding(crate::specs::Items::fill_at))]
+// The number of an integer.
+fn as_integer(entry: Option<Entry>) -> Option<u32>
+    ensures { result ≡ declarations.as_integer entry }
+{
+    match entry {
+        Some(entry) => match entry {
+            Entry::Integer(integer) => Some(integer),
+            _ => None,
+        },
+        None => None,
+    }
+}
+
+// The name of an integer, and its number.
+#[tactic(auto, unfolding(crate::specs::Declarations::integer_at))]
+fn integer<'a>(partial: &Partial, rest: Rest<'a>) -> Result<(&'a [u8], u32, Rest<'a>), PhraseError>
+    ensures { Gives (λ x. ((x.0.now, x.1), seen x.2)) result (integer_at (plan_of partial.now) (seen rest.entry)) }
+{
+    let (name, after) = name(rest)?;
+    let Some(integer) = as_integer(partial.find(name)) else {
+        return fault(Code::Unknown, rest);
+    };
+    Ok((name, integer, after))
+}
+
+// Behind the range of a memory's index.
+#[tactic(auto, unfolding(crate::specs::Declarations::fill_at))]
 fn fill<'a>(
     alloc: Global,
-    design: Design,
+    partial: Partial<'a>,
     width: u8,
-    name: &str,
+    name: &'a str,
     index: u8,
     rest: Rest<'a>,
-) -> Result<(Design, Rest<'a>), ReadError>
-    requires { index ≤ 16 }
-    ensures { Gives (λ x. (plan_of x.0, seen x.1)) result (fill_at (plan_of design) width name.now index (seen rest.entry)) }
+) -> Result<(Partial<'a>, Rest<'a>), PhraseError>
+    requires fresh { IsNew (plan_of partial) name.now }
+    requires wires { NoWires (plan_of partial) }
+    requires most { index ≤ 16 }
+    ensures read { Gives (λ x. (plan_of x.0, seen x.1)) result (fill_at (plan_of partial.entry) width name.now index (seen rest.entry)) }
+    ensures wires { IfOk result (λ x. NoWires (plan_of x.0)) }
 {
     let front = [
-        Mark::Symbol(Symbol::CloseBracket),
         Mark::Symbol(Symbol::Semicolon),
         Mark::Keyword(Keyword::Initial),
         Mark::Keyword(Keyword::For),
         Mark::Symbol(Symbol::OpenParenthesis),
     ];
     let rest = phrase(&front, rest)?;
-    let Some((over, rest)) = named(rest) else {
-        return Err(ReadError::Refused);
-    };
-    let integer = integer(&design, over)?;
-    let rest = loop_phrase(name, over, index, rest)?;
+    let (over, integer, rest) = integer(&partial, rest)?;
+    let rest = loop_head(name, over, index, rest)?;
     let (first, rest) = constant(rest)?;
-    let rest = semicolon(rest)?;
-    if first.width != width {
-        return Err(ReadError::Refused);
-    }
+    let rest = ends(first.width == width, rest)?;
     let memory = Declared::Memory {
         index,
         first,
         integer,
     };
-    let design = with_declared(alloc, design, name, memory)?;
-    Ok((design, rest))
+    let partial = with_declared(alloc, partial, name, memory)?;
+    Ok((partial, rest))
 }
 
-/// A memory, behind its width and its name.
-#[tactic(auto, unfolding(crate::specs::Items::memory_at))]
-pub(crate) fn memory_item<'a>(
+/// A memory, behind its width, its name and `[`.
+#[tactic(auto, unfolding(crate::specs::Declarations::memory_at))]
+pub(crate) fn memory<'a>(
     alloc: Global,
-    design: Design,
+    partial: Partial<'a>,
     width: u8,
-    name: &str,
+    name: &'a str,
     rest: Rest<'a>,
-) -> Result<(Design, Rest<'a>), ReadError>
-    ensures { Gives (λ x. (plan_of x.0, seen x.1)) result (memory_at (plan_of design) width name.now (seen rest.entry)) }
+) -> Result<(Partial<'a>, Rest<'a>), PhraseError>
+    requires fresh { IsNew (plan_of partial) name.now }
+    requires wires { NoWires (plan_of partial) }
+    ensures read { Gives (λ x. (plan_of x.0, seen x.1)) result (memory_at (plan_of partial.entry) width name.now (seen rest.entry)) }
+    ensures wires { IfOk result (λ x. NoWires (plan_of x.0)) }
 {
-    let front = [
-        Mark::Symbol(Symbol::OpenBracket),
-        Mark::Number(0),
-        Mark::Symbol(Symbol::Colon),
-    ];
+    let front = [Mark::Number(0), Mark::Symbol(Symbol::Colon)];
     let rest = phrase(&front, rest)?;
-    let Some((last, rest)) = number(rest) else {
-        return Err(ReadError::Refused);
-    };
-    let index = index_of(last)?;
-    fill(alloc, design, width, name, index, rest)
+    let (last, end) = number(rest)?;
+    let rest = lexeme(Mark::Symbol(Symbol::CloseBracket), end)?;
+    match index_of(last) {
+        Some(index) => fill(alloc, partial, width, name, index, rest),
+        None => fault(Code::Width, end),
+    }
 }

@@ -1,19 +1,22 @@
-//! Single parts of items: widths, new names, constants.
+//! Single parts of items: widths, new names, the end of an item.
 
-ghost use Rattle.std.specs.Prelude.{◌≡◌};
-ghost use Rattle.verilog_read.specs.Items.{constant_at, fresh_at, range_at};
-ghost use Rattle.verilog_read.specs.Seen.{Gives, seen};
+ghost use Rattle.std.specs.Prelude.{◌≡◌, IfOk, IsTrue};
+ghost use Rattle.net_core.specs.View.{plan_of};
+ghost use Rattle.spelling_core.specs.FormedSyntax.{is_name};
+ghost use Rattle.phrase_read.specs.Seen.{Gives, seen};
+ghost use Rattle.verilog_read.specs.Declarations.{ends_at};
+ghost use Rattle.verilog_read.specs.Header.{fresh_at, range_at};
+ghost use Rattle.verilog_read.specs.Seen.{IsNew};
 
-use crate::error::ReadError;
-use crate::phrase::{Mark, phrase};
-use crate::rest::{Rest, named};
-use net_core::tree::Word;
+use crate::partial::Partial;
+use phrase_read::lexemes::{fault, lexeme, name, number, phrase};
+use phrase_read::{Code, Mark, PhraseError, Rest};
 use std::str;
 use verilog_lex::{Symbol, Token, TokenKind};
 
 /// A width in bits: `[n:0]` says n + 1, for n from 1 to 63, and where no range stands it is 1.
-#[tactic(auto, unfolding(crate::specs::Items::range_at))]
-pub(crate) fn range<'a>(rest: Rest<'a>) -> Result<(u8, Rest<'a>), ReadError>
+#[tactic(auto, unfolding(crate::specs::Header::range_at))]
+pub(crate) fn range<'a>(rest: Rest<'a>) -> Result<(u8, Rest<'a>), PhraseError>
     ensures { Gives (λ x. (x.0, seen x.1)) result (range_at (seen rest.entry)) }
 {
     match rest.tokens {
@@ -22,60 +25,55 @@ pub(crate) fn range<'a>(rest: Rest<'a>) -> Result<(u8, Rest<'a>), ReadError>
                 kind: TokenKind::Symbol(Symbol::OpenBracket),
                 ..
             },
-            Token {
-                kind: TokenKind::Number(high),
-                ..
-            },
             tokens @ ..,
         ] => {
-            let bounds = [
-                Mark::Symbol(Symbol::Colon),
-                Mark::Number(0),
-                Mark::Symbol(Symbol::CloseBracket),
-            ];
-            let rest = phrase(&bounds, Rest { tokens, ..rest })?;
-            if *high > 0 && *high < 64 {
-                Ok((*high as u8 + 1, rest))
+            let (high, rest) = number(Rest { tokens, ..rest })?;
+            let low = [Mark::Symbol(Symbol::Colon), Mark::Number(0)];
+            let rest = phrase(&low, rest)?;
+            let after = lexeme(Mark::Symbol(Symbol::CloseBracket), rest)?;
+            if high > 0 && high < 64 {
+                Ok((high as u8 + 1, after))
             } else {
-                Err(ReadError::Refused)
+                fault(Code::Width, rest)
             }
         }
         _ => Ok((1, rest)),
     }
 }
 
-/// A new name.
-#[tactic(auto, unfolding(crate::specs::Items::fresh_at), using(crate::proofs::Tested::is_text, crate::proofs::Tested::is_no_text))]
-pub(crate) fn fresh<'a>(rest: Rest<'a>) -> Result<(&'a str, Rest<'a>), ReadError>
-    ensures { Gives (λ x. (x.0.now, seen x.1)) result (fresh_at (seen rest.entry)) }
+// A name of the subset is ASCII.
+fn as_text(name: &[u8]) -> &str
+    requires { IsTrue (is_name name.now) }
+    ensures { result.now ≡ name.now }
 {
-    let Some((name, rest)) = named(rest) else {
-        return Err(ReadError::Refused);
-    };
-    match str::from_utf8(name) {
-        Ok(name) => Ok((name, rest)),
-        Err(_) => Err(ReadError::Refused),
-    }
+    str::from_utf8(name).unwrap()
 }
 
-/// A constant.
-pub(crate) fn constant<'a>(rest: Rest<'a>) -> Result<(Word, Rest<'a>), ReadError>
-    ensures { Gives (λ x. (x.0, seen x.1)) result (constant_at (seen rest.entry)) }
+/// A name that nothing before has.
+#[tactic(auto, unfolding(crate::specs::Header::fresh_at))]
+pub(crate) fn fresh<'a>(
+    partial: &Partial,
+    rest: Rest<'a>,
+) -> Result<(&'a str, Rest<'a>), PhraseError>
+    ensures read { Gives (λ x. (x.0.now, seen x.1)) result (fresh_at (plan_of partial.now) (seen rest.entry)) }
+    ensures fresh { IfOk result (λ x. IsNew (plan_of partial.now) x.0.now) }
 {
-    match rest.tokens {
-        [
-            Token {
-                kind: TokenKind::Sized(width, value),
-                ..
-            },
-            tokens @ ..,
-        ] => {
-            let word = Word {
-                width: *width,
-                value: *value,
-            };
-            Ok((word, Rest { tokens, ..rest }))
-        }
-        _ => Err(ReadError::Refused),
+    let (name, after) = name(rest)?;
+    if partial.has_name(name) {
+        return fault(Code::Twice, rest);
+    }
+    Ok((as_text(name), after))
+}
+
+/// The semicolon of an item, whose two sides have one width where the flag says so.
+#[tactic(auto, unfolding(crate::specs::Declarations::ends_at))]
+pub(crate) fn ends<'a>(fits: bool, rest: Rest<'a>) -> Result<Rest<'a>, PhraseError>
+    ensures { Gives (λ r. seen r) result (ends_at fits (seen rest.entry)) }
+{
+    let after = lexeme(Mark::Symbol(Symbol::Semicolon), rest)?;
+    if fits {
+        Ok(after)
+    } else {
+        fault(Code::Width, rest)
     }
 }

@@ -1,76 +1,107 @@
 //! A design from its text.
 
-ghost use Rattle.std.specs.Prelude.{◌≡◌, List, IfOk};
+ghost use Rattle.std.specs.Prelude.{◌≡◌, IfOk};
 ghost use Rattle.net_core.specs.Nets.{Plan};
 ghost use Rattle.net_core.specs.View.{plan_of};
 ghost use Rattle.spelling_core.specs.Spelling.{Spells};
-ghost use Rattle.verilog_lex.specs.Lexeme.{Lexeme, Lexes, lexemes_of};
-ghost use Rattle.verilog_read.specs.Items.{design_at, design_within, whole_design};
-ghost use Rattle.verilog_read.specs.Seen.{Gives, seen};
-ghost use Rattle.verilog_read.specs.Texts.{ReadsLexemes, ReadsPlan};
+ghost use Rattle.verilog_lex.specs.Lexeme.{lexemes_of};
+ghost use Rattle.phrase_read.specs.Seen.{Gives, seen};
+ghost use Rattle.verilog_read.specs.Designs.{design_at, whole_at};
+ghost use Rattle.verilog_read.specs.Texts as texts;
+ghost use Rattle.verilog_read.specs.Texts.{IsOutcome, ReadsPlan, by_lexemes, by_ports, outcome_of};
+ghost use Rattle.verilog_read.specs.Designs as designs;
 
 use crate::error::ReadError;
 use crate::header::header;
-use crate::phrase::{Mark, phrase};
-use crate::rest::Rest;
-use crate::sections::all_items;
+use crate::partial::Partial;
+use crate::ports::port_fault;
+use crate::sections::items;
 use net_core::design::Design;
-use spelling_core::formed::well_formed;
+use phrase_read::lexemes::fault;
+use phrase_read::{Code, PhraseError, Rest};
 use std::alloc::Global;
-use verilog_lex::{Keyword, LexError, Token, tokens};
+use verilog_lex::{LexError, Token, tokens};
 
 // A design behind which nothing is left.
-fn whole_text(design: Design, rest: Rest) -> Result<Design, ReadError>
-    ensures { Gives (λ d. plan_of d) result (whole_design (plan_of design) (seen rest.entry)) }
+fn whole<'a>(partial: Partial<'a>, rest: Rest<'a>) -> Result<Partial<'a>, PhraseError>
+    ensures { Gives (λ d. plan_of d) result (whole_at (plan_of partial.entry) (seen rest.entry)) }
 {
     match rest.tokens {
-        [] => Ok(design),
-        _ => Err(ReadError::Refused),
+        [] => Ok(partial),
+        _ => fault(Code::Syntax, rest),
     }
 }
 
-// The design that the tokens spell, its rules aside, where it has fewer than so many ports and items in each section.
-#[tactic(auto, unfolding(crate::specs::Items::design_within))]
-fn design_in(alloc: Global, most: usize, rest: Rest) -> Result<Design, ReadError>
-    ensures { Gives (λ d. plan_of d) result (design_within most (seen rest.entry)) }
-{
-    let (design, rest) = header(alloc, most, rest)?;
-    let (design, rest) = all_items(alloc, most, design, rest)?;
-    let rest = phrase(&[Mark::Keyword(Keyword::Endmodule)], rest)?;
-    whole_text(design, rest)
-}
-
-/// The design that the tokens spell, its rules aside: it has fewer parts than they are.
-#[tactic(auto, unfolding(crate::specs::Items::design_at))]
-pub(crate) fn design(alloc: Global, rest: Rest) -> Result<Design, ReadError>
+// The design that the tokens spell, its ports aside. There are fewer items than tokens.
+#[tactic(auto, unfolding(crate::specs::Designs::design_at))]
+fn design<'a>(alloc: Global, rest: Rest<'a>) -> Result<Partial<'a>, PhraseError>
     ensures { Gives (λ d. plan_of d) result (design_at (seen rest.entry)) }
 {
-    design_in(alloc, rest.tokens.len(), rest)
+    let (partial, rest) = header(alloc, rest)?;
+    let (partial, rest) = items(alloc, rest.tokens.len(), partial, rest)?;
+    whole(partial, rest)
 }
 
-// The tokens of a text.
-fn lexed(alloc: Global, text: &[u8]) -> Result<Vec<Token>, ReadError>
-    ensures found { IfOk result (λ v. Lexes text.now (lexemes_of text.now v.items)) }
-    ensures only { (ls : List Lexeme) → Lexes text.now ls → ReadsLexemes text.now result ls }
+// The place of the token from which on so many are left, or the length of the text where none is.
+fn place_of(text: &[u8], tokens: &[Token], left: usize) -> usize
+    ensures { result ≡ texts.place_of text.now tokens.now left }
 {
-    match tokens(alloc, text) {
-        Ok(all) => Ok(all),
-        Err(LexError::At { .. }) => Err(ReadError::Refused),
-        Err(LexError::NoMemory) => Err(ReadError::NoMemory),
+    match tokens.get(tokens.len().saturating_sub(left)) {
+        Some(token) => token.start,
+        None => text.len(),
     }
 }
 
-/// The design that a text of the subset of IEEE 1364-2005 spells.
+fn error_of(code: Code, at: usize) -> ReadError
+    ensures { result ≡ texts.error_of code at }
+{
+    match code {
+        Code::Syntax => ReadError::Syntax { at },
+        Code::Unknown => ReadError::Unknown { at },
+        Code::Twice => ReadError::Twice { at },
+        Code::Width => ReadError::Width { at },
+        Code::Order => ReadError::Order { at },
+    }
+}
+
+// A design whose ports are as every design has them, and each of whose outputs is assigned.
+fn with_ports(partial: Partial) -> Result<Design, ReadError>
+    ensures { IsOutcome result (by_ports (plan_of partial.entry) (designs.port_fault (plan_of partial.entry))) }
+{
+    match port_fault(&partial) {
+        None => Ok(partial.design),
+        Some(k) => match u32::try_from(k) {
+            Ok(port) => Err(ReadError::Ports { port }),
+            Err(_) => Err(ReadError::NoMemory),
+        },
+    }
+}
+
+// The design that the tokens of a text spell, or its first error.
+fn read_tokens(alloc: Global, text: &[u8], tokens: &[Token]) -> Result<Design, ReadError>
+    ensures { IsOutcome result (by_lexemes text.now tokens.now (design_at (lexemes_of text.now tokens.now))) }
+{
+    match design(alloc, Rest { text, tokens }) {
+        Ok(partial) => with_ports(partial),
+        Err(PhraseError::Fault(fault)) => {
+            Err(error_of(fault.code, place_of(text, tokens, fault.left)))
+        }
+        Err(PhraseError::NoMemory) => Err(ReadError::NoMemory),
+    }
+}
+
+/// The design that a text of the subset of IEEE 1364-2005 spells, or its first error.
 pub fn read_text(alloc: Global, text: &[u8]) -> Result<Design, ReadError>
+    // The design, or the first error, is that of the definition.
+    ensures outcome { IsOutcome result (outcome_of text.now) }
     // The text spells what is read.
     ensures found { IfOk result (λ d. Spells text.now (plan_of d)) }
-    // A design that the text spells is read, unless memory runs out: so a text that is refused spells none.
+    // A design that the text spells is read, unless memory runs out: so a text with an error spells none.
     ensures only { (p : Plan) → Spells text.now p → ReadsPlan result p }
 {
-    let all = lexed(alloc, text)?;
-    let design = design(alloc, Rest { text, tokens: &all })?;
-    match well_formed(&design) {
-        Ok(()) => Ok(design),
-        Err(_) => Err(ReadError::Refused),
+    match tokens(alloc, text) {
+        Ok(all) => read_tokens(alloc, text, &all),
+        Err(LexError::At { at }) => Err(ReadError::Lex { at }),
+        Err(LexError::NoMemory) => Err(ReadError::NoMemory),
     }
 }

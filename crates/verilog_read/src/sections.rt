@@ -1,31 +1,45 @@
-//! The items of a design, section by section.
+//! The items of a design, in the order of their sections.
 
-ghost use Rattle.std.specs.Prelude.{◌≡◌};
+ghost use Rattle.std.specs.Prelude.{◌≡◌, ◌≤◌, IfOk};
 ghost use Rattle.net_core.specs.View.{plan_of};
-ghost use Rattle.verilog_read.specs.Items.{items_at, section_at};
-ghost use Rattle.verilog_read.specs.Sections.{begins_in, item_in};
-ghost use Rattle.verilog_read.specs.Seen.{Gives, seen};
+ghost use Rattle.phrase_read.specs.Seen.{Finds, Gives, seen};
+ghost use Rattle.verilog_read.specs.Items.{item_in, items_at, rank};
+ghost use Rattle.verilog_read.specs.Seen.{KeepsOrder, NoWires, endmodule_at};
+ghost use Rattle.verilog_read.specs.Words.{begins_at, behind_word, item_section};
 
-use crate::declared::declaration;
-use crate::error::ReadError;
+use crate::declared::{integer_item, reg_item};
 use crate::items::{always_item, assign_item, wire_item};
-use crate::rest::Rest;
-use net_core::design::Design;
+use crate::partial::Partial;
+use crate::section::Section;
+use phrase_read::lexemes::fault;
+use phrase_read::{Code, PhraseError, Rest};
 use std::alloc::Global;
 use verilog_lex::{Keyword, Token, TokenKind};
 
-/// A section of a design.
+fn rank(section: Section) -> u8
+    ensures { result ≡ rank section }
+{
+    match section {
+        Section::Declared => 0,
+        Section::Wires => 1,
+        Section::Assigns => 2,
+        Section::Always => 3,
+    }
+}
+
+/// An item, by its first word.
 #[derive(Clone, Copy)]
-pub(crate) enum Section {
-    Declared,
-    Wires,
-    Assigns,
+pub(crate) enum Item {
+    Integer,
+    Reg,
+    Wire,
+    Assign,
     Always,
 }
 
-// Whether an item of a section begins here.
-fn begins(section: Section, rest: Rest) -> bool
-    ensures { result ≡ begins_in section (seen rest.entry) }
+// The item that begins in front, and what is left behind its first word.
+fn begins<'a>(rest: Rest<'a>) -> Option<(Item, Rest<'a>)>
+    ensures { Finds (λ x. (x.0, seen x.1)) result (begins_at (seen rest.entry)) }
 {
     match rest.tokens {
         [
@@ -33,73 +47,116 @@ fn begins(section: Section, rest: Rest) -> bool
                 kind: TokenKind::Keyword(keyword),
                 ..
             },
-            ..
-        ] => match (section, keyword) {
-            (Section::Declared, Keyword::Integer | Keyword::Reg) => true,
-            (Section::Wires, Keyword::Wire) => true,
-            (Section::Assigns, Keyword::Assign) => true,
-            (Section::Always, Keyword::Always) => true,
-            _ => false,
-        },
-        _ => false,
+            tokens @ ..,
+        ] => {
+            let behind = Rest { tokens, ..rest };
+            match keyword {
+                Keyword::Integer => Some((Item::Integer, behind)),
+                Keyword::Reg => Some((Item::Reg, behind)),
+                Keyword::Wire => Some((Item::Wire, behind)),
+                Keyword::Assign => Some((Item::Assign, behind)),
+                Keyword::Always => Some((Item::Always, behind)),
+                _ => None,
+            }
+        }
+        _ => None,
     }
 }
 
-// An item of a section.
-fn item<'a>(
-    alloc: Global,
-    most: usize,
-    section: Section,
-    design: Design,
-    rest: Rest<'a>,
-) -> Result<(Design, Rest<'a>), ReadError>
-    ensures { Gives (λ x. (plan_of x.0, seen x.1)) result (item_in most section (plan_of design) (seen rest.entry)) }
+// The section of an item.
+fn section_of(item: Item) -> Section
+    ensures { result ≡ item_section item }
 {
-    match section {
-        Section::Declared => declaration(alloc, design, rest),
-        Section::Wires => wire_item(alloc, most, design, rest),
-        Section::Assigns => assign_item(alloc, most, design, rest),
-        Section::Always => always_item(alloc, most, design, rest),
+    match item {
+        Item::Integer | Item::Reg => Section::Declared,
+        Item::Wire => Section::Wires,
+        Item::Assign => Section::Assigns,
+        Item::Always => Section::Always,
     }
 }
 
-// The items of a section, as long as one begins, in fewer than `most` turns.
-fn items_of<'a>(
+// An item, behind its first word.
+fn item_behind<'a>(
+    alloc: Global,
+    item: Item,
+    partial: Partial<'a>,
+    rest: Rest<'a>,
+) -> Result<(Partial<'a>, Rest<'a>), PhraseError>
+    requires { item_section item ≡ Section.Declared → NoWires (plan_of partial) }
+    ensures read { Gives (λ x. (plan_of x.0, seen x.1)) result (behind_word item (plan_of partial.entry) (seen rest.entry)) }
+    ensures wires { item_section item ≡ Section.Declared → IfOk result (λ x. NoWires (plan_of x.0)) }
+{
+    match item {
+        Item::Integer => integer_item(alloc, partial, rest),
+        Item::Reg => reg_item(alloc, partial, rest),
+        Item::Wire => wire_item(alloc, partial, rest),
+        Item::Assign => assign_item(alloc, partial, rest),
+        Item::Always => always_item(alloc, partial, rest),
+    }
+}
+
+// An item that stands in no earlier section than the one before it, and its section.
+#[tactic(auto, using(crate::proofs::Begun::none_begun))]
+fn ordered_item<'a>(
+    alloc: Global,
+    now: Section,
+    partial: Partial<'a>,
+    rest: Rest<'a>,
+) -> Result<(Section, Partial<'a>, Rest<'a>), PhraseError>
+    requires { KeepsOrder now (plan_of partial) }
+    ensures read { Gives (λ x. ((x.0, plan_of x.1), seen x.2)) result (item_in now (plan_of partial.entry) (seen rest.entry)) }
+    ensures order { IfOk result (λ x. KeepsOrder x.0 (plan_of x.1)) }
+{
+    let Some((item, behind)) = begins(rest) else {
+        return fault(Code::Syntax, rest);
+    };
+    let section = section_of(item);
+    if rank(now) > rank(section) {
+        return fault(Code::Order, rest);
+    }
+    let (partial, rest) = item_behind(alloc, item, partial, behind)?;
+    Ok((section, partial, rest))
+}
+
+// What is left behind `endmodule`, where it stands in front.
+fn endmodule<'a>(rest: Rest<'a>) -> Option<Rest<'a>>
+    ensures { Finds (λ r. seen r) result (endmodule_at (seen rest.entry)) }
+{
+    match rest.tokens {
+        [
+            Token {
+                kind: TokenKind::Keyword(Keyword::Endmodule),
+                ..
+            },
+            tokens @ ..,
+        ] => Some(Rest { tokens, ..rest }),
+        _ => None,
+    }
+}
+
+/// The items up to `endmodule`, fewer than so many.
+pub(crate) fn items<'a>(
     alloc: Global,
     most: usize,
-    section: Section,
-    design: Design,
+    partial: Partial<'a>,
     rest: Rest<'a>,
-) -> Result<(Design, Rest<'a>), ReadError>
-    ensures { Gives (λ x. (plan_of x.0, seen x.1)) result (section_at (begins_in section) (item_in most section) most (plan_of design) (seen rest.entry)) }
+) -> Result<(Partial<'a>, Rest<'a>), PhraseError>
+    requires { NoWires (plan_of partial) }
+    ensures { Gives (λ x. (plan_of x.0, seen x.1)) result (items_at most Section.Declared (plan_of partial.entry) (seen rest.entry)) }
 {
     let mut left = most;
-    let mut before = design;
+    let mut now = Section::Declared;
+    let mut before = partial;
     let mut after = rest;
     while left > 0 {
-        if !begins(section, after) {
-            return Ok((before, after));
+        if let Some(rest) = endmodule(after) {
+            return Ok((before, rest));
         }
-        let (design, rest) = item(alloc, most, section, before, after)?;
-        before = design;
+        let (section, partial, rest) = ordered_item(alloc, now, before, after)?;
+        now = section;
+        before = partial;
         after = rest;
         left -= 1;
     }
-    Err(ReadError::Refused)
-}
-
-/// The items of all sections.
-#[tactic(auto, unfolding(crate::specs::Items::items_at))]
-pub(crate) fn all_items<'a>(
-    alloc: Global,
-    most: usize,
-    design: Design,
-    rest: Rest<'a>,
-) -> Result<(Design, Rest<'a>), ReadError>
-    ensures { Gives (λ x. (plan_of x.0, seen x.1)) result (items_at most (plan_of design) (seen rest.entry)) }
-{
-    let (design, rest) = items_of(alloc, most, Section::Declared, design, rest)?;
-    let (design, rest) = items_of(alloc, most, Section::Wires, design, rest)?;
-    let (design, rest) = items_of(alloc, most, Section::Assigns, design, rest)?;
-    items_of(alloc, most, Section::Always, design, rest)
+    fault(Code::Syntax, after)
 }

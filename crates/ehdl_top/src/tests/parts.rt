@@ -1,8 +1,7 @@
-// The parts of a run, each once.
+// The parts of a command, each once.
 
 use crate::*;
-use shelf_core::{Failed, MemShelf, NoMemory};
-use std::alloc::Global;
+use shelf_core::{Failed, MemShelf};
 use std::test::Fail;
 
 #[test]
@@ -18,73 +17,6 @@ fn lines_are_decimal(rt: HostRuntime) -> Result<(), Fail> {
 fn ends_have_codes(rt: HostRuntime) {
     assert_eq!(rt; Status::Done.code(), 0);
     assert_eq!(rt; Status::Late.code(), 10);
-}
-
-#[test]
-fn words_are_kept(rt: HostRuntime) -> Result<(), Fail> {
-    let mut words = Words::new(rt.alloc());
-    words.push("ehdl")?;
-    words.push("")?;
-    assert_eq!(rt; words.len(), 2);
-    assert_eq!(rt; words.get(0), "ehdl");
-    assert_eq!(rt; words.get(1), "");
-    Ok(())
-}
-
-const ORDERS: [&str; 3] = [
-    "ehdl run --object a --capture b --verilog c --answer d --verdicts e --final f",
-    "x run --final f --verdicts e --answer d --verilog c --capture b --object a",
-    "--object run --answer d --object a --final f --capture b --verdicts e --verilog c",
-];
-
-const REFUSED: [&str; 13] = [
-    "ehdl compile --object a --capture b --verilog c --answer d --verdicts e --final f",
-    "ehdl run --object a --capture b --verilog c --answer d --verdicts e",
-    "ehdl run --object a --capture b --verilog c --answer d --verdicts e --verdicts f",
-    "ehdl run --object a --capture b --verilog c --answer d --verdicts e --final f --object a",
-    "ehdl run --object a --capture b --verilog c --answer d --verdicts e --final -f",
-    "ehdl run --object a --capture b --verilog c --answer d --verdicts e --final ",
-    "ehdl run --object a --capture b --verilog c --answer d --verdicts e --finals f",
-    "ehdl run --object a --capture b --verilog c --answer d --verdicts e --final a",
-    "ehdl run --object a --capture c --verilog c --answer d --verdicts e --final f",
-    "ehdl run a --object --capture b --verilog c --answer d --verdicts e --final f",
-    "ehdl run --object a --capture b --verilog c --answer d --verdicts e --final",
-    "ehdl run",
-    "--object run --capture b --verilog c --answer d --verdicts e --final f --objects a",
-];
-
-fn words_of(alloc: Global, line: &str) -> Result<Words, NoMemory> {
-    let mut words = Words::new(alloc);
-    for word in line.split(' ') {
-        words.push(word)?;
-    }
-    Ok(words)
-}
-
-#[test]
-fn options_stand_in_any_order(rt: HostRuntime) -> Result<(), Fail> {
-    let run = Run {
-        object: "a",
-        capture: "b",
-        verilog: "c",
-        answer: "d",
-        verdicts: "e",
-        final_maps: "f",
-    };
-    for line in ORDERS {
-        let words = words_of(rt.alloc(), line)?;
-        assert_eq!(rt; read_run(&words), Some(run), "{line}");
-    }
-    Ok(())
-}
-
-#[test]
-fn other_words_are_refused(rt: HostRuntime) -> Result<(), Fail> {
-    for line in REFUSED {
-        let words = words_of(rt.alloc(), line)?;
-        assert_eq!(rt; read_run(&words), None, "{line}");
-    }
-    Ok(())
 }
 
 // The call that fails, how many bytes it leaves, and what the name holds then.

@@ -15,7 +15,7 @@ use crate::formed::items::is_assigned;
 use net_core::design::{Assign, Declared, Design, Port, Wire};
 
 /// How many ports every design has.
-const COUNT: usize = 21;
+pub const COUNT: usize = 21;
 
 /// The width of each port, and whether it is an output.
 const PORTS: [Port; COUNT] = [
@@ -142,7 +142,7 @@ fn same_port(a: Port, b: Port) -> bool
 }
 
 /// Whether a port is the one that every design has there.
-fn port_matches(ports: &[Port], k: usize) -> bool
+pub fn port_matches(ports: &[Port], k: usize) -> bool
     requires there { k < length ports.now }
     requires listed { k < length list.port_list }
     ensures { result ≡ formed.same_port (get_or ports.now k (list.input 0)) (get_or list.port_list k (list.input 0)) }
@@ -167,7 +167,7 @@ fn ports_match(ports: &[Port]) -> bool
 }
 
 /// Whether a name is that of the port there.
-fn name_matches(names: &[String], k: usize) -> bool
+pub fn name_matches(names: &[String], k: usize) -> bool
     requires there { k < length names.now }
     requires listed { k < length list.port_names }
     ensures { result ≡ bytes_eq (get_or (map string_bytes names.now) k []) (get_or list.port_names k []) }

@@ -47,7 +47,8 @@ fn test_width(a: u8, b: u8) -> u8
     if a > 0 && a == b { 1 } else { 0 }
 }
 
-fn op_width(op: Op, a: u8, b: u8) -> u8
+/// The width of an operator between operands of these widths, or 0.
+pub fn op_width(op: Op, a: u8, b: u8) -> u8
     ensures { result ≡ width.op_width op a b }
 {
     match op {
@@ -59,7 +60,8 @@ fn op_width(op: Op, a: u8, b: u8) -> u8
     }
 }
 
-fn prefix_width(prefix: Prefix, a: u8) -> u8
+/// The width of an operator before an operand of this width, or 0.
+pub fn prefix_width(prefix: Prefix, a: u8) -> u8
     ensures { result ≡ width.prefix_width prefix a }
 {
     match prefix {
@@ -68,7 +70,8 @@ fn prefix_width(prefix: Prefix, a: u8) -> u8
     }
 }
 
-fn bits_width(w: u8, high: u8, low: u8) -> u8
+/// The width of the bits of a net of `w` bits from `high` down to `low`, or 0: a net of one bit has no selects.
+pub fn bits_width(w: u8, high: u8, low: u8) -> u8
     ensures { result ≡ width.bits_width w high low }
 {
     if w >= 2 && low <= high && high < w {
@@ -78,13 +81,15 @@ fn bits_width(w: u8, high: u8, low: u8) -> u8
     }
 }
 
-fn cell_width(i: u8, index: u8, cell: u8) -> u8
+/// The width of a word of `cell` bits at an index of `i` bits, in a memory whose index has `index` bits, or 0.
+pub fn cell_width(i: u8, index: u8, cell: u8) -> u8
     ensures { result ≡ width.cell_width i index cell }
 {
     if i > 0 && i == index { cell } else { 0 }
 }
 
-fn choose_width(c: u8, a: u8, b: u8) -> u8
+/// The width of a choice by a condition of `c` bits between two values, or 0.
+pub fn choose_width(c: u8, a: u8, b: u8) -> u8
     ensures { result ≡ width.choose_width c a b }
 {
     if c == 1 && a == b { a } else { 0 }

@@ -3,6 +3,7 @@
 use crate::{ReadError, read_text};
 use net_core::design::{Declared, Design};
 use net_core::tree::{Net, Right, Stmt, Word};
+use phrase_read::Code;
 use std::alloc::{AllocError, Global};
 use std::test::Fail;
 
@@ -42,38 +43,104 @@ always @(posedge clk) r_left <= w_next;
 endmodule
 ";
 
-/// Changes of the small text, each of which no design spells.
-const CHANGES: [(&str, &str); 30] = [
-    ("endmodule", "endmodule endmodule"),
-    ("endmodule", ""),
-    ("module ehdl", "module other_name"),
-    ("input wire in_valid", "output wire in_valid"),
-    ("[63:0] in_data", "[64:0] in_data"),
-    ("[63:0] in_data", "[62:0] in_data"),
-    ("[3:0] in_bytes", "[3:1] in_bytes"),
-    ("input wire in_last", "input wire [0:0] in_last"),
-    ("host_value\n", "host_value,\n"),
-    (");\nreg", ")\nreg"),
-    ("reg [3:0] r_left", "reg [4:0] r_left"),
-    ("4'd3", "4'd16"),
-    ("4'd3", "3"),
-    ("reg [3:0] r_left = 4'd3;", ""),
-    ("w_quot", "r_left"),
-    ("w_quot", "wquot"),
-    ("w_one / r_left", "w_next / r_left"),
-    ("(r_left - w_one)", "r_left - w_one"),
-    ("(r_left - w_one)", "in_data"),
-    ("assign in_ready = 1'd0;", ""),
-    ("assign in_ready", "assign out_valid"),
-    ("assign in_ready", "assign in_valid"),
-    ("assign in_ready = 1'd0;", "assign w_one = 4'd1;"),
-    ("assign in_ready = 1'd0;", "assign in_ready = 2'd0;"),
-    ("assign in_ready", "reg r_late = 1'd0; assign in_ready"),
-    ("posedge clk", "posedge in_valid"),
-    ("r_left <= w_next", "w_next <= r_left"),
-    ("r_left <= w_next", "r_left = w_next"),
-    ("r_left <= w_next;", "r_left <= w_next"),
-    ("endmodule", "wire w_late = 1'd0; endmodule"),
+/// A part of the text, what stands there instead, and the error: its kind, and what the text has from its place on. An empty
+/// one is the end of the text.
+type Change = (&'static str, &'static str, Code, &'static str);
+
+const CHANGES: [Change; 23] = [
+    (
+        "endmodule",
+        "endmodule endmodule",
+        Code::Syntax,
+        "endmodule\n",
+    ),
+    ("endmodule\n", "", Code::Syntax, ""),
+    (
+        "module ehdl",
+        "module other_name",
+        Code::Syntax,
+        "other_name",
+    ),
+    ("[63:0] in_data", "[64:0] in_data", Code::Width, "] in_data"),
+    (
+        "[3:0] in_bytes",
+        "[3:1] in_bytes",
+        Code::Syntax,
+        "1] in_bytes",
+    ),
+    (
+        "input wire in_last",
+        "input wire [0:0] in_last",
+        Code::Width,
+        "] in_last",
+    ),
+    ("host_value\n", "host_value,\n", Code::Syntax, ");\nreg"),
+    (");\nreg", ")\nreg", Code::Syntax, "reg [3:0] r_left"),
+    (
+        "reg [3:0] r_left",
+        "reg [4:0] r_left",
+        Code::Width,
+        ";\nwire [3:0] w_one",
+    ),
+    ("4'd3", "4'd16", Code::Width, "4'd16"),
+    ("4'd3", "3", Code::Syntax, "3;"),
+    ("reg [3:0] r_left = 4'd3;", "", Code::Unknown, "r_left;"),
+    ("w_quot", "r_left", Code::Twice, "r_left = w_one"),
+    ("w_quot", "wquot", Code::Syntax, "wquot"),
+    (
+        "w_one / r_left",
+        "w_quot / r_left",
+        Code::Unknown,
+        "w_quot / r_left",
+    ),
+    (
+        "(r_left - w_one)",
+        "r_left - w_one",
+        Code::Syntax,
+        "- w_one",
+    ),
+    (
+        "(r_left - w_one)",
+        "in_data",
+        Code::Width,
+        ";\nassign in_ready",
+    ),
+    (
+        "assign in_ready",
+        "assign out_valid",
+        Code::Twice,
+        "out_valid = 1'd0;\nassign",
+    ),
+    (
+        "assign in_ready",
+        "assign in_valid",
+        Code::Unknown,
+        "in_valid = 1'd0; ",
+    ),
+    (
+        "assign out_data",
+        "reg wrong; assign out_data",
+        Code::Order,
+        "reg wrong",
+    ),
+    (
+        "posedge clk",
+        "posedge in_valid",
+        Code::Syntax,
+        "in_valid) r_left",
+    ),
+    (
+        "r_left <= w_next",
+        "w_next <= r_left",
+        Code::Unknown,
+        "w_next <= r_left",
+    ),
+    (
+        "endmodule",
+        "always @(posedge clk) r_left <= w_one; endmodule",
+        Code::Twice,
+        "r_left <= w_one",
+    ),
 ];
 
 /// A memory in front of the small text's register.
@@ -83,20 +150,39 @@ reg [7:0] m_words [0:15];
 initial for (i_fill = 0; i_fill < 16; i_fill = i_fill + 1) m_words[i_fill] = 8'd7;
 reg [3:0] r_left";
 
-/// Changes of the memory, each of which no design spells.
-const MEMORY_CHANGES: [(&str, &str); 12] = [
-    ("integer i_fill;", ""),
-    ("i_fill;", "i_one;"),
-    ("[0:15]", "[0:14]"),
-    ("[0:15]", "[0:31]"),
-    ("[0:15]", "[15:0]"),
-    ("(i_fill = 0", "(i_one = 0"),
-    ("(i_fill = 0", "(i_fill = 1"),
-    ("i_fill < 16", "i_fill < 15"),
-    ("i_fill + 1", "i_fill + 2"),
-    ("m_words[i_fill]", "m_other[i_fill]"),
-    ("m_words[i_fill]", "m_words[i_one]"),
-    ("8'd7", "7'd7"),
+/// Changes of the memory.
+const MEMORY_CHANGES: [Change; 12] = [
+    ("integer i_fill;", "", Code::Unknown, "i_fill = 0"),
+    ("i_fill;", "i_one;", Code::Twice, "i_one;\nreg [7:0]"),
+    ("[0:15]", "[0:14]", Code::Width, "];\ninitial"),
+    ("[0:15]", "[0:31]", Code::Width, "16; i_fill"),
+    ("[0:15]", "[15:0]", Code::Syntax, "15:0];"),
+    ("(i_fill = 0", "(i_one = 0", Code::Unknown, "i_fill < 16"),
+    ("(i_fill = 0", "(i_fill = 1", Code::Syntax, "1; i_fill < 16"),
+    ("i_fill < 16", "i_fill < 15", Code::Width, "15; i_fill ="),
+    ("i_fill + 1", "i_fill + 2", Code::Syntax, "2) m_words"),
+    (
+        "m_words[i_fill]",
+        "m_other[i_fill]",
+        Code::Unknown,
+        "m_other[i_fill]",
+    ),
+    (
+        "m_words[i_fill]",
+        "m_words[i_one]",
+        Code::Unknown,
+        "i_one] = 8'd7",
+    ),
+    ("8'd7", "7'd7", Code::Width, ";\nreg [3:0] r_left"),
+];
+
+/// Ports that differ, and outputs without an assign.
+const PORT_CHANGES: [(&str, &str, u32); 5] = [
+    ("input wire in_valid", "output wire in_valid", 1),
+    ("[63:0] in_data", "[62:0] in_data", 2),
+    ("wire host_write", "wire host_wrote", 15),
+    ("host_value\n", "host_value, input wire in_more\n", 21),
+    ("assign in_ready = 1'd0;", "", 6),
 ];
 
 // A text with one part in place of another.
@@ -107,11 +193,30 @@ fn changed(alloc: Global, text: &str, old: &str, new: &str) -> Result<String, Al
     }
 }
 
-fn is_refused(alloc: Global, text: &str) -> Result<bool, ReadError> {
+fn error_of(code: Code, at: usize) -> ReadError {
+    match code {
+        Code::Syntax => ReadError::Syntax { at },
+        Code::Unknown => ReadError::Unknown { at },
+        Code::Twice => ReadError::Twice { at },
+        Code::Width => ReadError::Width { at },
+        Code::Order => ReadError::Order { at },
+    }
+}
+
+// The error of the text that a change makes.
+fn expected(text: &str, code: Code, from: &str) -> ReadError {
+    let at = if from.is_empty() {
+        text.len()
+    } else {
+        text.find(from).unwrap_or(0)
+    };
+    error_of(code, at)
+}
+
+fn found(alloc: Global, text: &str) -> Option<ReadError> {
     match read_text(alloc, text.as_bytes()) {
-        Ok(_design) => Ok(false),
-        Err(ReadError::Refused) => Ok(true),
-        Err(ReadError::NoMemory) => Err(ReadError::NoMemory),
+        Ok(_design) => None,
+        Err(error) => Some(error),
     }
 }
 
@@ -150,11 +255,26 @@ fn a_small_text(rt: HostRuntime) -> Result<(), Fail> {
 }
 
 #[test]
-fn refused_texts(rt: HostRuntime) -> Result<(), Fail> {
+fn first_errors(rt: HostRuntime) -> Result<(), Fail> {
     let alloc = rt.alloc();
-    for (old, new) in CHANGES {
+    for (old, new, code, from) in CHANGES {
         let text = changed(alloc, SMALL, old, new)?;
-        assert!(rt; is_refused(alloc, &text)?, "{old} as {new}");
+        let error = expected(&text, code, from);
+        assert_eq!(rt; found(alloc, &text), Some(error), "{old} as {new}");
+    }
+    Ok(())
+}
+
+#[test]
+fn first_errors_of_ports(rt: HostRuntime) -> Result<(), Fail> {
+    let alloc = rt.alloc();
+    for (old, new, port) in PORT_CHANGES {
+        let text = changed(alloc, SMALL, old, new)?;
+        assert_eq!(rt;
+            found(alloc, &text),
+            Some(ReadError::Ports { port }),
+            "{old} as {new}"
+        );
     }
     Ok(())
 }
@@ -175,12 +295,13 @@ fn a_memory(rt: HostRuntime) -> Result<(), Fail> {
 }
 
 #[test]
-fn refused_memories(rt: HostRuntime) -> Result<(), Fail> {
+fn first_errors_of_memories(rt: HostRuntime) -> Result<(), Fail> {
     let alloc = rt.alloc();
-    for (old, new) in MEMORY_CHANGES {
+    for (old, new, code, from) in MEMORY_CHANGES {
         let memory = changed(alloc, MEMORY, old, new)?;
         let text = changed(alloc, SMALL, "reg [3:0] r_left", &memory)?;
-        assert!(rt; is_refused(alloc, &text)?, "{old} as {new}");
+        let error = expected(&text, code, from);
+        assert_eq!(rt; found(alloc, &text), Some(error), "{old} as {new}");
     }
     Ok(())
 }

@@ -1,9 +1,9 @@
-use Rattle.std.proofs.Common.{◌≡◌, drop}
-use Rattle.clock_sim.specs.Stores.{applied, AreWithin}
+use Rattle.std.proofs.Common.{◌≡◌, length, drop}
+use Rattle.clock_sim.specs.Edges.{applied, AreStores}
 use Rattle.clock_sim.proofs.edge.finish.Given as goal
 
 abbrev pub invariant-loop-s : goal.invariant-loop-s
 invariant-loop-s l = record {
-  made : applied (drop l.s-index l.stores) l.memories ≡ applied l.stores l.initial.memories;
-  within : AreWithin l.memories (drop l.s-index l.stores);
+  there : AreStores (drop l.s-index l.stores) (length l.slots);
+  made : applied l.slots (drop l.s-index l.stores) l.banks ≡ applied l.slots l.stores l.initial.banks;
 }

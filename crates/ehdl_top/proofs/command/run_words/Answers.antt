@@ -1,21 +1,20 @@
-use Rattle.std.proofs.Common.{rules, ◌≡◌, ◌⊎◌, subst, IsTrue}
-use Rattle.shelf_core.specs.Shelf.{SameHeld}
-use Rattle.ehdl_top.specs.Run.{Names, names_of, IsRun}
-use Rattle.ehdl_top.specs.Top.{IsDone, IsBroken}
-use Rattle.ehdl_top.proofs.Outputs.{on_err_from}
-use Rattle.ehdl_top.proofs.Ends.{on_ok_from}
-use Rattle.ehdl_top.proofs.Once.{one_run}
+use Rattle.std.proofs.Common.{◌≡◌, subst}
+use Rattle.command_words.specs.Asked.{Asked, asked_of}
+use Rattle.ehdl_top.specs.Files.{OneRose}
+use Rattle.ehdl_top.specs.Outcome.{inputs_of}
+use Rattle.ehdl_top.specs.Steps.{EndsIn}
+use Rattle.ehdl_top.proofs.Stops.{names_apart}
 use Rattle.ehdl_top.proofs.command.run_words.Goals as goal
 
-pub returns-in-Some-clause-done : goal.returns-in-Some-clause-done
-returns-in-Some-clause-done g c = on_ok_from c.run_files.result c.run_files.ensures.done (λ done told run is.
-    let P : Names → Type 0 = λ r. IsDone r (g.S.Shelf.held c.args.shelf.now) (g.S.Shelf.held c.run_files.new.shelf) in
-    subst P (one_run c.args.words.now _ run c.in-Some.ensures.some is) (done told))
+pub run_command-requires : goal.run_command-requires
+run_command-requires g c = names_apart c.args.words.now _ c.in-Some.ensures.some
 
-pub returns-in-Some-clause-usage : goal.returns-in-Some-clause-usage
-returns-in-Some-clause-usage g c = ((λ e run is. c.run_files.ensures.usage e), (λ none. absurd (none (names_of c.in-Some.run') c.in-Some.ensures.some)))
+pub returns-in-Some-clause-ends : goal.returns-in-Some-clause-ends
+returns-in-Some-clause-ends g c = λ asked asks.
+    let P : Asked → Type 0 = λ a. EndsIn a (g.S.Shelf.tells c.args.shelf.now) (g.S.Shelf.held c.args.shelf.now) (g.S.Shelf.held c.run_command.new.shelf) c.run_command.result in
+    subst P (c.read_command.ensures.once _ asked c.in-Some.ensures.some asks) c.run_command.ensures.ends
 
-pub returns-in-Some-clause-broken : goal.returns-in-Some-clause-broken
-returns-in-Some-clause-broken g c = on_err_from c.run_files.result c.run_files.ensures.broken (λ broken told run is.
-    let P : Names → Type 0 = λ r. SameHeld (g.S.Shelf.held c.args.shelf.now) (g.S.Shelf.held c.run_files.new.shelf) ⊎ IsBroken r (g.S.Shelf.held c.args.shelf.now) (g.S.Shelf.held c.run_files.new.shelf) in
-    subst P (one_run c.args.words.now _ run c.in-Some.ensures.some is) (broken told))
+pub returns-in-Some-clause-read_fault : goal.returns-in-Some-clause-read_fault
+returns-in-Some-clause-read_fault g c = λ is asked asks.
+    let P : Asked → Type 0 = λ a. OneRose (inputs_of a) (g.S.Shelf.read_faults c.args.shelf.now) (g.S.Shelf.read_faults c.run_command.new.shelf) in
+    subst P (c.read_command.ensures.once _ asked c.in-Some.ensures.some asks) (c.run_command.ensures.read_fault is)

@@ -1,12 +1,9 @@
-use Rattle.std.proofs.Common.{◌≡◌, Err, ap, ◌∙◌}
-use Rattle.ehdl_top.proofs.Built.{not_fault, not_refused, accepted_of}
+use Rattle.std.proofs.Common.{option_copied}
+use Rattle.ehdl_top.proofs.Built.{text_for, fails_object}
 use Rattle.ehdl_top.proofs.object.text_of.Goals as goal
 
 pub returns-in-Ok-clause-ok : goal.returns-in-Ok-clause-ok
-returns-in-Ok-clause-ok c = accepted_of c.args.object.now _ c.compile.result c.in-Ok.built c.in-Ok.is c.in-Ok.ensures.ok c.compile.ensures.refused
+returns-in-Ok-clause-ok c = text_for (option_copied c.args.choice) c.args.object.now _ c.compile.result c.in-Ok.built c.in-Ok.is c.in-Ok.ensures.ok c.compile.ensures.refused
 
-pub returns-in-Err-Object-clause-form : goal.returns-in-Err-Object-clause-form
-returns-in-Err-Object-clause-form c = λ is. not_fault c.args.object.now c.in-Err-Object.field-0 c.in-Err-Object._fault c.in-Err-Object.field-0-is c.in-Err-Object.ensures.error
-
-pub returns-in-Err-Refused-clause-form : goal.returns-in-Err-Refused-clause-form
-returns-in-Err-Refused-clause-form c = λ is. not_refused c.args.object.now c.in-Err-Refused.field-0 c.in-Err-Refused.field-0-0 c.in-Err-Refused.field-0-1 c.in-Err-Refused.field-0-is c.in-Err-Refused.ensures.error
+pub returns-in-Err-Object-clause-stops : goal.returns-in-Err-Object-clause-stops
+returns-in-Err-Object-clause-stops c = fails_object (option_copied c.args.choice) c.args.object.now c.in-Err-Object.field-0 c.in-Err-Object.fault c.in-Err-Object.field-0-is c.in-Err-Object.ensures.error

@@ -1,28 +1,25 @@
 use Rattle.std.proofs.Common.{rules, ◌≡◌, ◌++◌, ◌+◌, ◌<◌, ◌≤◌, suc, [], ◌∷◌, map, length, IsTrue, sym, ap, ◌∙◌, arith, append-nil}
 use Rattle.pcap_core.specs.Next.{seen}
-use Rattle.ehdl_top.specs.Outcome.{record_at, line_at, answer_header, answer_bytes, verdict_lines, microseconds}
+use Rattle.ehdl_top.specs.Results.{record_at, line_at, answer_header, answer_bytes, verdict_lines}
 use Rattle.ehdl_top.specs.Steps.{KeepBoth}
 use Rattle.ehdl_top.proofs.Written.{keep_header, keep_there, keep_fronts, both_next}
 use Rattle.ehdl_top.proofs.results.write_packets.Goals as goal
 
 pub returns-in-Err-clause-kept : goal.returns-in-Err-clause-kept
-returns-in-Err-clause-kept g c = λ told. keep_header c.args.answer.now c.args.verdicts.now (map seen c.args.packets.now) c.args.answers.now _ _ (c.in-Err.ensures.kept told)
+returns-in-Err-clause-kept g c = λ told. keep_header c.args.files.now.answer.now c.args.files.now.verdicts.now c.args.magic (map seen c.args.packets.now) c.args.answers.now _ _ (c.in-Err.ensures.kept told)
 
 pub returns-in_default-clause-kept : goal.returns-in_default-clause-kept
 returns-in_default-clause-kept g c = λ told.
-    let within : c.loop-i.i < length c.args.packets.now = c.loop-i-test.true in
-    keep_there c.args.answer.now c.args.verdicts.now (map seen c.args.packets.now) c.args.answers.now c.loop-i.i _ _ (omega (arith, within, c.requires.many)) (c.loop-i.invariant.both told)
+    keep_there c.args.files.now.answer.now c.args.files.now.verdicts.now c.args.magic (map seen c.args.packets.now) c.args.answers.now c.loop-i.i _ _ (omega arith) (c.loop-i.invariant.both told)
 
 pub returns-in_default-line_of-clause-kept : goal.returns-in_default-line_of-clause-kept
 returns-in_default-line_of-clause-kept g c = λ told.
-    let within : c.loop-i.i < length c.args.packets.now = c.loop-i-test.true in
-    keep_there c.args.answer.now c.args.verdicts.now (map seen c.args.packets.now) c.args.answers.now c.loop-i.i _ _ (omega (arith, within, c.requires.many)) (c.loop-i.invariant.both told)
+    keep_there c.args.files.now.answer.now c.args.files.now.verdicts.now c.args.magic (map seen c.args.packets.now) c.args.answers.now c.loop-i.i _ _ (omega arith) (c.loop-i.invariant.both told)
 
 pub returns-in-Err-write_packet-clause-kept : goal.returns-in-Err-write_packet-clause-kept
 returns-in-Err-write_packet-clause-kept g c = λ told.
-    let within : c.loop-i.i < length c.args.packets.now = c.loop-i-test.true in
     let tells : IsTrue (g.S.Shelf.tells c.loop-i.shelf) = search rules in
-    keep_fronts c.args.answer.now c.args.verdicts.now (map seen c.args.packets.now) c.args.answers.now c.loop-i.i _ _ _ _ (omega (arith, within, c.requires.many))
+    keep_fronts c.args.files.now.answer.now c.args.files.now.verdicts.now c.args.magic (map seen c.args.packets.now) c.args.answers.now c.loop-i.i _ _ _ _ (omega arith)
     (c.deref.ensures.value ∙ c.in-Ok-fill_record.ensures) (c.deref-in-loop-i.ensures.value ∙ c.in-Ok-line_of.ensures)
     (c.in-Err-write_packet.ensures.kept tells _ _ (c.loop-i.invariant.both told))
 
@@ -34,7 +31,7 @@ loop-i-preserved g c = record {
   writes = search rules;
   both = λ told.
       let tells : IsTrue (g.S.Shelf.tells c.loop-i.shelf) = search rules in
-      both_next c.args.answer.now c.args.verdicts.now (map seen c.args.packets.now) c.args.answers.now c.loop-i.i (c.loop-i.i + 1) _ _ _ (omega arith)
+      both_next c.args.files.now.answer.now c.args.files.now.verdicts.now c.args.magic (map seen c.args.packets.now) c.args.answers.now c.loop-i.i (c.loop-i.i + 1) _ _ _ (omega arith)
       (c.deref.ensures.value ∙ c.in-Ok-fill_record.ensures) (c.deref-in-loop-i.ensures.value ∙ c.in-Ok-line_of.ensures)
       (c.in-Ok-write_packet.ensures.done tells _ _ (c.loop-i.invariant.both told));
 }

@@ -1,5 +1,5 @@
 use Rattle.std.proofs.Common.{◌≡◌, ◌-◌}
-use Rattle.verilog_read.specs.Items as items
+use Rattle.verilog_read.specs.Declarations as items
 use Rattle.verilog_read.proofs.memory.index_of.Given as goal
 
 abbrev pub invariant-loop-width : goal.invariant-loop-width

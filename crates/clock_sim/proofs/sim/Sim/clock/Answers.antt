@@ -7,9 +7,9 @@ returns-clause-runs c = rw (← c.self.view_is) (rw (c.deref_mut.ensures.value, 
 
 pub returns-clause-stored : goal.returns-clause-stored
 returns-clause-stored c =
-    let registers : length c.turn.new.registers ≡ c.self.inside.registers.len = omega (arith, c.turn.auto.registers, c.deref_mut.ensures.len, c.self.inside.registers.ok.0) in
-    let memories : length c.turn.new.memories ≡ c.self.inside.memories.len = omega (arith, c.turn.auto.memories, c.deref_mut-2.ensures.len, c.self.inside.memories.ok.0) in
-    rw (take_at c.turn.new.registers _ _ registers, take_at c.turn.new.memories _ _ memories, ← c.self.view_is) (rw (c.deref_mut.ensures.value, c.deref_mut-2.ensures.value) at c.turn.ensures.stored)
+    let slots : length c.turn.new.slots ≡ c.self.inside.slots.len = omega (arith, c.turn.auto.slots, c.deref_mut.ensures.len, c.self.inside.slots.ok.0) in
+    let banks : length c.turn.new.banks ≡ c.self.inside.banks.len = omega (arith, c.turn.auto.banks, c.deref_mut-2.ensures.len, c.self.inside.banks.ok.0) in
+    rw (take_at c.turn.new.slots _ _ slots, take_at c.turn.new.banks _ _ banks, ← c.self.view_is) (rw (c.deref_mut.ensures.value, c.deref_mut-2.ensures.value) at c.turn.ensures.stored)
 
 pub returns-clause-outputs : goal.returns-clause-outputs
 returns-clause-outputs c = rw (← c.self.view_is) (rw (c.deref_mut.ensures.value, c.deref_mut-2.ensures.value) at c.turn.ensures.outputs)

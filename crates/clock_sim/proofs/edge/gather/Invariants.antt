@@ -1,0 +1,6 @@
+use Rattle.std.proofs.Common.{◌≡◌, length, take}
+use Rattle.clock_sim.specs.Edges.{AreSlots, taken}
+use Rattle.clock_sim.proofs.edge.gather.Given as goal
+
+abbrev pub invariant-loop-i : goal.invariant-loop-i
+invariant-loop-i l = take l.i l.words ≡ take l.i (taken l.next l.slots)

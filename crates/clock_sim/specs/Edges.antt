@@ -1,0 +1,213 @@
+-- What code says of wires, outputs and the rising edge.
+use Rattle.std.specs.Prelude.{◌≡◌, ℕ, suc, ⊤, ◌-◌, ◌^◌, ◌<◌, ◌==◌, if◌then◌else◌, Bool, true, false, Option, Some, None, List, [], ◌∷◌, ◌++◌, length, slice_set, map}
+use Rattle.std.proofs.Common.{get_or, ◌&&◌, not}
+use Rattle.net_core.specs.declared.tree.Word.{Word}
+use Rattle.net_core.specs.declared.tree.Net.{Net}
+use Rattle.net_core.specs.declared.tree.Net.TheVariants.{Register}
+use Rattle.net_core.specs.declared.design.Declared.{Declared}
+use Rattle.net_core.specs.declared.ports.Outputs.{Outputs}
+use Rattle.net_core.specs.Nets.{Tree, WireTree, AssignTree, Act, Acts, RightTree, RPlain, RQuotient, RRemainder, Plan}
+use Rattle.net_core.specs.Value.{nothing}
+use Rattle.net_core.specs.Width.{port_width, register_widths, memory_widths, wire_widths, wires_typed, width_of, act_typed, acts_typed}
+use Rattle.net_core.specs.Clock.{Stored, with_wires, stopped_at, rights, assigned, done, all_done, edge}
+use Rattle.clock_sim.specs.declared.code.Place.{Place}
+use Rattle.clock_sim.specs.declared.places.Places.{Places}
+use Rattle.clock_sim.specs.declared.places.Widths.{Widths}
+use Rattle.clock_sim.specs.declared.edge.Store.{Store}
+use Rattle.clock_sim.specs.declared.wires.Divisor.{Divisor}
+use Rattle.clock_sim.specs.declared.outputs.Shown.{Shown}
+use Rattle.clock_sim.specs.Steps.{run}
+use Rattle.clock_sim.specs.Flat.{Flat, Situation, IsFine, banks_of, Starts, Numbers, place_in, widths_in, no_place, no_widths, scope_of, env_at, Knows}
+
+-- ---- wires
+abbrev pub widths_at : List Place → List ℕ
+widths_at ps = map (λ p. p.width) ps
+
+abbrev pub sizes_of : List Widths → List (ℕ × ℕ)
+sizes_of ws = map (λ w. (w.index, w.word)) ws
+
+-- ports, registers and memories have the widths of a design
+pub record Matches (d : Plan) (n : Places) : Type 0 where
+  pub ports : (k : ℕ) → (get_or n.ports.items k no_place).width ≡ port_width d.ports k
+  pub registers : widths_at n.registers.items ≡ register_widths d.declared
+  pub memories : sizes_of n.memories.items ≡ memory_widths d.declared
+
+-- these wires are well typed where those of the places stand before
+pub record AreTyped (n : Places) (ws : List WireTree) : Type 0 where
+  pub plan : Plan
+  pub matches : Matches plan n
+  pub typed : wires_typed plan (widths_at n.wires.items) ws ≡ true
+
+-- what a right side divides by
+abbrev pub divisor_in : RightTree Net → Option Net
+divisor_in (RPlain e) = None
+divisor_in (RQuotient a b) = Some b
+divisor_in (RRemainder a b) = Some b
+
+-- it can be read
+abbrev pub IsDivided : Places → Option Net → Type 0
+IsDivided n None = ⊤
+IsDivided n (Some b) = 0 < (place_in n b).width
+
+abbrev pub AreDivided : Places → List WireTree → Type 0
+AreDivided n [] = ⊤
+AreDivided n (w ∷ ws) = IsDivided n (divisor_in w.right) × AreDivided n ws
+
+-- only wires have come, of the widths of these
+pub record AddsWires (old new : Places) (ws : List WireTree) : Type 0 where
+  pub ports : new.ports ≡ old.ports
+  pub registers : new.registers ≡ old.registers
+  pub memories : new.memories ≡ old.memories
+  pub wires : widths_at new.wires.items ≡ wire_widths ws
+
+-- the places of all wires hold their words, in every clock
+pub record AreKnown (old new : Flat) (before after : Places) (ws : List WireTree) : Type 0 where
+  pub knows : (ds : List Declared) → Knows ds old before (λ x. []) → Knows ds new after (λ x. with_wires x.ins x.stored [] ws)
+
+abbrev pub first_zero : List Divisor → List ℕ → Option ℕ
+first_zero [] slots = None
+first_zero (d ∷ ds) slots = if get_or slots d.slot 0 == 0 then Some d.wire else first_zero ds slots
+
+abbrev pub AreDivisors : List Divisor → ℕ → Type 0
+AreDivisors [] count = ⊤
+AreDivisors (d ∷ ds) count = (d.slot < count) × AreDivisors ds count
+
+-- the first divisor that is zero is that of the wire where the clock stops
+pub record Stops (ds : List Declared) (c : Flat) (divisors : List Divisor) (f : Situation → Option ℕ) : Type 0 where
+  pub at : (x : Situation) (slots : List ℕ) → IsFine ds x → Starts c x slots → first_zero divisors (run (banks_of x.stored) c.steps slots) ≡ f x
+
+abbrev pub divisors_at : Places → ℕ → Option Net → List Divisor
+divisors_at n at None = []
+divisors_at n at (Some b) = record { wire = at; slot = (place_in n b).slot } ∷ []
+
+-- the divisors of these wires, the first of which has a number
+abbrev pub divisors_from : Places → ℕ → List WireTree → List Divisor
+divisors_from n at [] = []
+divisors_from n at (w ∷ ws) = divisors_at n at (divisor_in w.right) ++ divisors_from n (suc at) ws
+
+-- ---- outputs
+abbrev pub AreShown : Places → List AssignTree → Type 0
+AreShown n [] = ⊤
+AreShown n (a ∷ rest) = (0 < width_of (scope_of n) a.value) × AreShown n rest
+
+-- the slot holds what a port shows
+pub record Shows (old new : Flat) (n : Places) (assigns : List AssignTree) (port slot : ℕ) : Type 0 where
+  pub shows : (ds : List Declared) (wires : Situation → List Word) → Knows ds old n wires → Numbers ds new slot (λ x. (assigned (env_at wires x) assigns port).value)
+
+pub record ShowsAll (old new : Flat) (n : Places) (assigns : List AssignTree) (s : Shown) : Type 0 where
+  pub in_ready : Shows old new n assigns 6 s.in_ready
+  pub out_valid : Shows old new n assigns 8 s.out_valid
+  pub out_data : Shows old new n assigns 9 s.out_data
+  pub out_bytes : Shows old new n assigns 10 s.out_bytes
+  pub out_last : Shows old new n assigns 11 s.out_last
+  pub out_verdict : Shows old new n assigns 12 s.out_verdict
+  pub out_target : Shows old new n assigns 13 s.out_target
+  pub out_reload : Shows old new n assigns 14 s.out_reload
+  pub host_value : Shows old new n assigns 20 s.host_value
+
+-- ---- the rising edge
+-- the memories after these stores, one after another
+abbrev pub applied : List ℕ → List Store → List (List ℕ) → List (List ℕ)
+applied slots [] banks = banks
+applied slots (s ∷ rest) banks =
+    applied slots rest (if get_or slots s.guard 0 == 0 then banks else slice_set banks s.memory (slice_set (get_or banks s.memory []) (get_or slots s.at 0) (get_or slots s.word 0)))
+
+abbrev pub AreSlots : List ℕ → ℕ → Type 0
+AreSlots [] count = ⊤
+AreSlots (k ∷ ks) count = (k < count) × AreSlots ks count
+
+pub record IsStore (s : Store) (count : ℕ) : Type 0 where
+  pub guard : s.guard < count
+  pub at : s.at < count
+  pub word : s.word < count
+
+abbrev pub AreStores : List Store → ℕ → Type 0
+AreStores [] count = ⊤
+AreStores (s ∷ rest) count = IsStore s count × AreStores rest count
+
+-- the slots of the registers' next words, and the stores, lead to this in every clock
+pub record Leads (ds : List Declared) (c : Flat) (next : List ℕ) (stores : List Store) (f : Situation → Stored) : Type 0 where
+  pub count : (x : Situation) → IsFine ds x → length (f x).registers ≡ length next
+  pub registers : (r : ℕ) → r < length next → Numbers ds c (get_or next r 0) (λ x. (get_or (f x).registers r nothing).value)
+  pub memories : (x : Situation) (slots : List ℕ) → IsFine ds x → Starts c x slots → applied (run (banks_of x.stored) c.steps slots) stores (banks_of x.stored) ≡ banks_of (f x)
+
+-- a guard: none, or a slot that is not zero where it holds
+abbrev pub IsGuard : Option ℕ → ℕ → Type 0
+IsGuard None count = ⊤
+IsGuard (Some g) count = g < count
+
+pub record GuardsBy (ds : List Declared) (c : Flat) (slot : ℕ) (holds : Situation → Bool) : Type 0 where
+  pub number : Situation → ℕ
+  pub stands : Numbers ds c slot number
+  pub tells : (x : Situation) → IsFine ds x → (number x == 0) ≡ not (holds x)
+
+abbrev pub Guards : List Declared → Flat → Option ℕ → (Situation → Bool) → Type 0
+Guards ds c None holds = (x : Situation) → IsFine ds x → holds x ≡ true
+Guards ds c (Some g) holds = GuardsBy ds c g holds
+
+-- the first number where the guard holds, else the second
+pub record Picks (old new : Flat) (guard : Option ℕ) (first second slot : ℕ) : Type 0 where
+  pub gives : (ds : List Declared) (holds : Situation → Bool) (f g : Situation → ℕ) → Guards ds old guard holds → Numbers ds old first f → Numbers ds old second g → Numbers ds new slot (λ x. if holds x then f x else g x)
+
+-- a guard and a test
+pub record GuardsBoth (old new : Flat) (guard : Option ℕ) (test slot : ℕ) : Type 0 where
+  pub gives : (ds : List Declared) (holds : Situation → Bool) (f : Situation → ℕ) → Guards ds old guard holds → Numbers ds old test f → GuardsBy ds new slot (λ x. holds x && not (f x == 0))
+
+pub record Opposes (old new : Flat) (test slot : ℕ) : Type 0 where
+  pub gives : (ds : List Declared) (f : Situation → ℕ) → Numbers ds old test f → Numbers ds new slot (λ x. 1 - f x)
+
+pub record GuardsAs (old new : Flat) (guard : Option ℕ) (slot : ℕ) : Type 0 where
+  pub gives : (ds : List Declared) (holds : Situation → Bool) → Guards ds old guard holds → GuardsBy ds new slot holds
+
+-- a statement, done where the guard holds
+pub record ActsOne (old new : Flat) (n : Places) (guard : Option ℕ) (a : Act Net) (next next' : List ℕ) (stores stores' : List Store) : Type 0 where
+  pub leads :
+      (ds : List Declared) (wires : Situation → List Word) (holds : Situation → Bool) (f : Situation → Stored)
+      → Knows ds old n wires → Guards ds old guard holds → Leads ds old next stores f → Leads ds new next' stores' (λ x. if holds x then done (env_at wires x) a (f x) else f x)
+
+pub record ActsMore (old new : Flat) (n : Places) (guard : Option ℕ) (a : Acts Net) (next next' : List ℕ) (stores stores' : List Store) : Type 0 where
+  pub leads :
+      (ds : List Declared) (wires : Situation → List Word) (holds : Situation → Bool) (f : Situation → Stored)
+      → Knows ds old n wires → Guards ds old guard holds → Leads ds old next stores f → Leads ds new next' stores' (λ x. if holds x then all_done (env_at wires x) a (f x) else f x)
+
+abbrev pub AreActs : Places → List (Act Net) → Type 0
+AreActs n [] = ⊤
+AreActs n (a ∷ rest) = (act_typed (scope_of n) (widths_at n.registers.items) (sizes_of n.memories.items) a ≡ true) × AreActs n rest
+
+pub record ActsAll (old new : Flat) (n : Places) (all : List (Act Net)) (next next' : List ℕ) (stores stores' : List Store) : Type 0 where
+  pub leads :
+      (ds : List Declared) (wires : Situation → List Word) (f : Situation → Stored)
+      → Knows ds old n wires → Leads ds old next stores f → Leads ds new next' stores' (λ x. edge (env_at wires x) all (f x))
+
+abbrev pub taken : List ℕ → List ℕ → List ℕ
+taken next slots = map (λ k. get_or slots k 0) next
+
+-- ---- what a clock shows
+pub record IsShown (s : Shown) (count : ℕ) : Type 0 where
+  pub in_ready : s.in_ready < count
+  pub out_valid : s.out_valid < count
+  pub out_data : s.out_data < count
+  pub out_bytes : s.out_bytes < count
+  pub out_last : s.out_last < count
+  pub out_verdict : s.out_verdict < count
+  pub out_target : s.out_target < count
+  pub out_reload : s.out_reload < count
+  pub host_value : s.host_value < count
+
+pub record FitShown (s : Shown) (slots : List ℕ) : Type 0 where
+  pub bytes : get_or slots s.out_bytes 0 < 2 ^ 8
+  pub verdict : get_or slots s.out_verdict 0 < 2 ^ 32
+  pub target : get_or slots s.out_target 0 < 2 ^ 32
+
+abbrev pub outputs_in : Shown → List ℕ → Outputs
+outputs_in s slots = record {
+  in_ready = get_or slots s.in_ready 0 == 1;
+  out_valid = get_or slots s.out_valid 0 == 1;
+  out_data = get_or slots s.out_data 0;
+  out_bytes = get_or slots s.out_bytes 0;
+  out_last = get_or slots s.out_last 0 == 1;
+  out_verdict = get_or slots s.out_verdict 0;
+  out_target = get_or slots s.out_target 0;
+  out_reload = get_or slots s.out_reload 0 == 1;
+  host_value = get_or slots s.host_value 0;
+}

@@ -1,0 +1,131 @@
+-- Where words stand, and what holds of a simulator between two clocks.
+use Rattle.std.specs.Prelude.{◌≡◌, ℕ, suc, ◌+◌, ◌<◌, ◌≤◌, Option, Some, None, List, [], ◌∷◌, ◌++◌, length, map, slice_set}
+use Rattle.std.proofs.Common.{get_or}
+use Rattle.net_core.specs.declared.tree.Word.{Word}
+use Rattle.net_core.specs.declared.design.Declared.{Declared}
+use Rattle.net_core.specs.declared.design.Declared.TheVariants as declared
+use Rattle.net_core.specs.Nets.{Plan}
+use Rattle.net_core.specs.Value.{word}
+use Rattle.net_core.specs.Width.{IsTyped, register_widths, memory_widths}
+use Rattle.net_core.specs.Clock.{Stored, first_words, first_cells, env_of, stopping, assigned, after}
+use Rattle.net_core.specs.View.{plan_of}
+use Rattle.clock_sim.specs.declared.step.Step.{Step}
+use Rattle.clock_sim.specs.declared.code.Place.{Place}
+use Rattle.clock_sim.specs.declared.places.Widths.{Widths}
+use Rattle.clock_sim.specs.declared.layout.Layout.{Layout}
+use Rattle.clock_sim.specs.declared.outputs.Shown.{Shown}
+use Rattle.clock_sim.specs.declared.turn.Program.{Program}
+use Rattle.clock_sim.specs.declared.compile.Parts.{Parts}
+use Rattle.clock_sim.specs.declared.places.Places.{Places}
+use Rattle.clock_sim.specs.declared.edge.Store.{Store}
+use Rattle.clock_sim.specs.Ready.{IsStored}
+use Rattle.clock_sim.specs.Flat.{Flat, Situation, numbers, Numbers, IsCode, WriteFrom, Extends, Knows}
+use Rattle.clock_sim.specs.Edges.{sizes_of, AreDivisors, AreSlots, AreStores, Stops, Leads, IsShown}
+
+abbrev pub port_places : List Place
+port_places =
+    record { slot = 0; width = 0 } ∷ record { slot = 1; width = 1 } ∷ record { slot = 2; width = 64 } ∷ record { slot = 3; width = 4 } ∷ record { slot = 4; width = 1 } ∷ record { slot = 5; width = 32 } ∷ record { slot = 6; width = 0 }
+    ∷ record { slot = 7; width = 1 } ∷ record { slot = 8; width = 0 } ∷ record { slot = 9; width = 0 } ∷ record { slot = 10; width = 0 } ∷ record { slot = 11; width = 0 } ∷ record { slot = 12; width = 0 } ∷ record { slot = 13; width = 0 }
+    ∷ record { slot = 14; width = 0 } ∷ record { slot = 15; width = 1 } ∷ record { slot = 16; width = 4 } ∷ record { slot = 17; width = 16 } ∷ record { slot = 18; width = 4 } ∷ record { slot = 19; width = 64 } ∷ record { slot = 20; width = 0 } ∷ []
+
+-- registers of these widths, one after another
+abbrev pub places_from : ℕ → List ℕ → List Place
+places_from at [] = []
+places_from at (w ∷ ws) = record { slot = at; width = w } ∷ places_from (suc at) ws
+
+-- what stands where for what is declared
+pub record IsLayout (ds : List Declared) (l : Layout) : Type 0 where
+  pub registers : l.registers.items ≡ places_from 21 (register_widths ds)
+  pub memories : sizes_of l.memories.items ≡ memory_widths ds
+  pub values : l.numbers.items ≡ numbers (first_words ds)
+  pub banks : l.banks.items ≡ map numbers (first_cells ds)
+
+-- one more item
+pub record AddsItem (d : Declared) (old new : Layout) : Type 0 where
+  pub registers : new.registers.items ≡ old.registers.items ++ places_from (21 + length old.registers.items) (register_widths (d ∷ []))
+  pub memories : sizes_of new.memories.items ≡ sizes_of old.memories.items ++ memory_widths (d ∷ [])
+  pub values : new.numbers.items ≡ old.numbers.items ++ numbers (first_words (d ∷ []))
+  pub banks : new.banks.items ≡ old.banks.items ++ map numbers (first_cells (d ∷ []))
+
+abbrev pub slots_in : List Place → List ℕ
+slots_in ps = map (λ p. p.slot) ps
+
+abbrev pub constants_in : List (Option ℕ) → List ℕ
+constants_in [] = []
+constants_in (None ∷ rest) = 0 ∷ constants_in rest
+constants_in (Some n ∷ rest) = n ∷ constants_in rest
+
+-- slots into which numbers were written, from one on
+abbrev pub laid : ℕ → List ℕ → List ℕ → List ℕ
+laid at [] slots = slots
+laid at (n ∷ ns) slots = laid (suc at) ns (slice_set slots at n)
+
+-- ---- what is stored
+abbrev pub words_from : List ℕ → ℕ → List ℕ → List Word
+words_from [] at slots = []
+words_from (w ∷ ws) at slots = word w (get_or slots at 0) ∷ words_from ws (suc at) slots
+
+abbrev pub cells_from : List (ℕ × ℕ) → List (List ℕ) → List (List Word)
+cells_from [] banks = []
+cells_from (w ∷ ws) [] = []
+cells_from (w ∷ ws) (b ∷ banks) = map (λ n. word w.1 n) b ∷ cells_from ws banks
+
+abbrev pub stored_in : List Declared → List ℕ → List (List ℕ) → Stored
+stored_in ds slots banks = record { registers = words_from (register_widths ds) 21 slots; memories = cells_from (memory_widths ds) banks }
+
+abbrev pub stored_of : Program → List ℕ → List (List ℕ) → Stored
+stored_of p slots banks = stored_in p.design.declared.items slots banks
+
+-- the slots of what the ports show
+pub record ShowsPorts (ds : List Declared) (c : Flat) (s : Shown) (at : ℕ → Situation → Word) : Type 0 where
+  pub in_ready : Numbers ds c s.in_ready (λ x. (at 6 x).value)
+  pub out_valid : Numbers ds c s.out_valid (λ x. (at 8 x).value)
+  pub out_data : Numbers ds c s.out_data (λ x. (at 9 x).value)
+  pub out_bytes : Numbers ds c s.out_bytes (λ x. (at 10 x).value)
+  pub out_last : Numbers ds c s.out_last (λ x. (at 11 x).value)
+  pub out_verdict : Numbers ds c s.out_verdict (λ x. (at 12 x).value)
+  pub out_target : Numbers ds c s.out_target (λ x. (at 13 x).value)
+  pub out_reload : Numbers ds c s.out_reload (λ x. (at 14 x).value)
+  pub host_value : Numbers ds c s.host_value (λ x. (at 20 x).value)
+
+-- the code of a program, with the constants that stand in its slots
+abbrev pub code_of : Program → List (Option ℕ) → Flat
+code_of p constants = record { steps = p.steps.items; slots = constants }
+
+-- what the program of a design gives in every clock
+pub record IsProgram (p : Program) (constants : List (Option ℕ)) : Type 0 where
+  pub typed : IsTyped (plan_of p.design)
+  pub code : IsCode (code_of p constants)
+  pub own : WriteFrom (21 + length (register_widths p.design.declared.items)) p.steps.items
+  pub first : (k n : ℕ) → get_or constants k None ≡ Some n → 21 + length (register_widths p.design.declared.items) ≤ k
+  pub room : 21 + length (register_widths p.design.declared.items) ≤ length constants
+  pub divisors : AreDivisors p.divisors.items (length constants)
+  pub shown : IsShown p.shown (length constants)
+  pub next : AreSlots p.next.items (length constants)
+  pub count : length p.next.items ≡ length (register_widths p.design.declared.items)
+  pub stores : AreStores p.stores.items (length constants)
+  pub stops : Stops p.design.declared.items (code_of p constants) p.divisors.items (λ x. stopping (plan_of p.design) x.ins x.stored)
+  pub shows : ShowsPorts p.design.declared.items (code_of p constants) p.shown (λ port x. assigned (env_of (plan_of p.design) x.ins x.stored) (plan_of p.design).assigns port)
+  pub leads : Leads p.design.declared.items (code_of p constants) p.next.items p.stores.items (λ x. after (plan_of p.design) x.ins x.stored)
+
+-- a simulator between two clocks, with so many words for the next registers
+pub record IsReady (p : Program) (slots : List ℕ) (banks : List (List ℕ)) (next : ℕ) : Type 0 where
+  pub constants : List (Option ℕ)
+  pub program : IsProgram p constants
+  pub count : length slots ≡ length constants
+  pub kept : (k n : ℕ) → get_or constants k None ≡ Some n → get_or slots k 0 ≡ n
+  pub stored : IsStored p.design.declared.items (stored_of p slots banks)
+  pub banks_count : length banks ≡ length (memory_widths p.design.declared.items)
+  pub next_count : next ≡ length p.next.items
+
+-- what the steps of wires, outputs and always blocks give
+pub record Compiles (d : Plan) (old new : Flat) (n : Places) (begun ended : List ℕ) (made : List Store) (parts : Parts) : Type 0 where
+  pub code : IsCode new
+  pub extends : Extends old new
+  pub divisors : AreDivisors parts.divisors.items (length new.slots)
+  pub shown : IsShown parts.shown (length new.slots)
+  pub next : AreSlots ended (length new.slots)
+  pub stores : AreStores made (length new.slots)
+  pub stops : (ds : List Declared) → Knows ds old n (λ x. []) → Stops ds new parts.divisors.items (λ x. stopping d x.ins x.stored)
+  pub shows : (ds : List Declared) → Knows ds old n (λ x. []) → ShowsPorts ds new parts.shown (λ port x. assigned (env_of d x.ins x.stored) d.assigns port)
+  pub leads : (ds : List Declared) → Knows ds old n (λ x. []) → Leads ds old begun [] (λ x. x.stored) → Leads ds new ended made (λ x. after d x.ins x.stored)

@@ -1,0 +1,4 @@
+pub mod Asked
+pub mod Options
+pub mod Standings
+pub mod AsksFor

@@ -1,0 +1,55 @@
+-- The lines that are written: that of a verdict, and the one that says why a command stops.
+use Rattle.std.specs.Prelude.{ℕ, List, ◌++◌, [], codes, decimal}
+use Rattle.xdp_object.specs.Codes as object
+use Rattle.ehdl_build.specs.declared.built.Why.{Why}
+use Rattle.ehdl_build.specs.declared.built.Why.TheVariants.{Instruction}
+use Rattle.pcap_core.specs.declared.error.PcapError.{PcapError}
+use Rattle.pcap_core.specs.declared.error.PcapError.TheVariants.{Short, Magic, Version, Link, Frame}
+use Rattle.verilog_read.specs.declared.error.ReadError.{ReadError}
+use Rattle.verilog_read.specs.declared.error.ReadError.TheVariants as verilog
+use Rattle.verilog_read.specs.declared.error.ReadError.TheVariants.{Lex, Syntax, Unknown, Twice, Width, Order, Ports}
+use Rattle.ehdl_top.specs.declared.stop.Stop.{Stop}
+use Rattle.ehdl_top.specs.declared.stop.Stop.TheVariants as stop
+
+-- four numbers in decimal with one space between them, and a line feed
+abbrev pub verdict_line_of : ℕ → ℕ → ℕ → ℕ → List ℕ
+verdict_line_of index verdict target length = decimal index ++ codes " " ++ decimal verdict ++ codes " " ++ decimal target ++ codes " " ++ decimal length ++ codes "\n"
+
+-- ---- codes, and then their numbers in decimal
+-- why a program is refused
+abbrev pub why_code : Why → ℕ
+why_code Instruction = 1
+
+-- the fault of a capture
+abbrev pub capture_code : PcapError → List ℕ
+capture_code (Short at) = codes "P1 " ++ decimal at
+capture_code Magic = codes "P2"
+capture_code Version = codes "P3"
+capture_code (Link n) = codes "P4 " ++ decimal n
+capture_code (Frame index length) = codes "P5 " ++ decimal index ++ codes " " ++ decimal length
+
+-- the first error of a Verilog text
+abbrev pub verilog_code : ReadError → List ℕ
+verilog_code (Lex at) = codes "V1 " ++ decimal at
+verilog_code (Syntax at) = codes "V2 " ++ decimal at
+verilog_code (Unknown at) = codes "V3 " ++ decimal at
+verilog_code (Twice at) = codes "V4 " ++ decimal at
+verilog_code (Width at) = codes "V5 " ++ decimal at
+verilog_code (Order at) = codes "V6 " ++ decimal at
+verilog_code (Ports port) = codes "V7 " ++ decimal port
+verilog_code verilog.NoMemory = []
+
+-- ---- the line that says why a command stops
+abbrev pub line_of : Stop → List ℕ
+line_of stop.Usage = codes "usage\n"
+line_of (stop.Object fault) = codes "object " ++ object.code_of fault ++ codes "\n"
+line_of (stop.Refused at why) = codes "refused " ++ decimal at ++ codes " " ++ decimal (why_code why) ++ codes "\n"
+line_of stop.LongVerilog = codes "input verilog long\n"
+line_of (stop.Verilog fault) = codes "input verilog " ++ verilog_code fault ++ codes "\n"
+line_of stop.LongCapture = codes "input capture long\n"
+line_of (stop.Capture fault) = codes "input capture " ++ capture_code fault ++ codes "\n"
+line_of stop.ReadFault = codes "read fault\n"
+line_of stop.WriteFault = codes "write fault\n"
+line_of stop.NoMemory = codes "no memory\n"
+line_of (stop.XValue net) = codes "x value " ++ net ++ codes "\n"
+line_of (stop.Late answers frames) = codes "late " ++ decimal answers ++ codes " " ++ decimal frames ++ codes "\n"

@@ -1,0 +1,12 @@
+pub mod Fronts
+pub mod FoundTrees
+pub mod Widths
+pub mod AgainTrees
+pub mod FoundRights
+pub mod AgainRights
+pub mod ActRules
+pub mod FoundActs
+pub mod AgainActs
+pub mod Spelled
+pub mod Linked
+pub mod Turns
