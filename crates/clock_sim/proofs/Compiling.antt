@@ -26,8 +26,9 @@ use Rattle.clock_sim.specs.declared.compile.Parts.{Parts}
 use Rattle.clock_sim.specs.declared.turn.Program.{Program}
 use Rattle.clock_sim.specs.Ready.{IsStored}
 use Rattle.clock_sim.specs.Steps.{run}
-use Rattle.clock_sim.specs.Flat.{Flat, Situation, IsFine, numbers, banks_of, Starts, Numbers, Gives, IsCode, Extends, ArePlaces, no_place, no_widths, place_in, widths_in, scope_of, env_at, AreCells, Knows, WriteFrom, AreReading, AreFree}
-use Rattle.clock_sim.specs.Edges.{widths_at, sizes_of, Matches, AreTyped, AddsWires, AreKnown, AreDivided, divisors_from, AreDivisors, Stops, AreShown, Shows, ShowsAll, AreSlots, AreStores, Leads, AreActs, ActsAll, IsShown}
+use Rattle.clock_sim.specs.Flat.{Flat, Situation, IsFine, numbers, banks_of, Starts, Numbers, Gives, Climb, IsCode, Extends, ArePlaces, no_place, no_widths, place_in, widths_in, scope_of, env_at, AreCells, Knows, WriteFrom, AreReading, AreFree}
+use Rattle.clock_sim.specs.Edges.{widths_at, sizes_of, Matches, AreTyped, AddsWires, AreKnown, AreDivided, divisors_from, first_zero, AreDivisors, Stops, AreShown, Shows, ShowsAll, AreSlots, AreStores, Leads, applied, AreActs, ActsAll, IsShown}
+use Rattle.clock_sim.specs.Orders.{AreGroups, Reordered}
 use Rattle.clock_sim.specs.Layouts.{port_places, places_from, slots_in, constants_in, laid, stored_of, code_of, ShowsPorts, Compiles, IsProgram, IsReady}
 use Rattle.clock_sim.proofs.Growing.{extends_more, extends_length, numbers_later, knows_later, places_later}
 use Rattle.clock_sim.proofs.Wiring.{width_get, word_get, index_get, scope_same, divisors_there, stops_all}
@@ -185,7 +186,7 @@ module _ (d : Plan) (t : IsTyped d) (n : Places) (ports : n.ports.items ≡ port
   }
 
   pub code_first : IsCode c
-  code_first = record { reading = subst (λ l. AreReading (length c.slots) l) (sym steps) tt; free = subst (λ l. AreFree c.slots l) (sym steps) tt }
+  code_first = record { climb = subst (λ l. Climb 0 l) (sym steps) tt; reading = subst (λ l. AreReading (length c.slots) l) (sym steps) tt; free = subst (λ l. AreFree c.slots l) (sym steps) tt }
 
   pub slots_count : length c.slots ≡ 21 + length (register_widths d.declared)
   slots_count = ap length slots ∙ length-replicate (21 + length (register_widths d.declared)) None
@@ -324,25 +325,70 @@ module _ (c new : Flat) (size : ℕ) (steps : c.steps ≡ []) (slots : c.slots �
   pub room_after : size ≤ length new.slots
   room_after = let l = ap length slots ∙ length-replicate size None in let le = extends_length c new e in omega arith
 
-module _ (p : Program) (n : Places) (c : Flat) (constants : List (Option ℕ)) (first : List ℕ) (t : IsTyped (plan_of p.design))
+-- ---- what steps give in another order
+module _ (ds : List Declared) (constants : List (Option ℕ)) (old new : List Step) (order : Reordered (length constants) old new) where
+  abbrev before : Flat
+  before = record { steps = old; slots = constants }
+
+  abbrev moved : Flat
+  moved = record { steps = new; slots = constants }
+
+  starts_moved : (x : Situation) (slots : List ℕ) → Starts moved x slots → Starts before x slots
+  starts_moved x slots s = record { ports = s.ports; registers = s.registers; kept = s.kept; room = s.room }
+
+  numbers_moved : (slot : ℕ) (f : Situation → ℕ) → Numbers ds before slot f → Numbers ds moved slot f
+  numbers_moved slot f n = record {
+    there = n.there;
+    at = λ x slots fine s. ap (λ l. get_or l slot 0) (order.same (banks_of x.stored) slots s.room) ∙ n.at x slots fine (starts_moved x slots s);
+  }
+
+  pub stops_moved : (divisors : List Divisor) (f : Situation → Option ℕ) → Stops ds before divisors f → Stops ds moved divisors f
+  stops_moved divisors f h = record { at = λ x slots fine s. ap (first_zero divisors) (order.same (banks_of x.stored) slots s.room) ∙ h.at x slots fine (starts_moved x slots s) }
+
+  pub shows_moved : (shown : Shown) (at : ℕ → Situation → Word) → ShowsPorts ds before shown at → ShowsPorts ds moved shown at
+  shows_moved shown at h = record {
+    in_ready = numbers_moved shown.in_ready (λ x. (at 6 x).value) h.in_ready;
+    out_valid = numbers_moved shown.out_valid (λ x. (at 8 x).value) h.out_valid;
+    out_data = numbers_moved shown.out_data (λ x. (at 9 x).value) h.out_data;
+    out_bytes = numbers_moved shown.out_bytes (λ x. (at 10 x).value) h.out_bytes;
+    out_last = numbers_moved shown.out_last (λ x. (at 11 x).value) h.out_last;
+    out_verdict = numbers_moved shown.out_verdict (λ x. (at 12 x).value) h.out_verdict;
+    out_target = numbers_moved shown.out_target (λ x. (at 13 x).value) h.out_target;
+    out_reload = numbers_moved shown.out_reload (λ x. (at 14 x).value) h.out_reload;
+    host_value = numbers_moved shown.host_value (λ x. (at 20 x).value) h.host_value;
+  }
+
+  pub leads_moved : (next : List ℕ) (stores : List Store) (f : Situation → Stored) → Leads ds before next stores f → Leads ds moved next stores f
+  leads_moved next stores f h = record {
+    count = h.count;
+    registers = λ r lt. numbers_moved (get_or next r 0) (λ x. (get_or (f x).registers r nothing).value) (h.registers r lt);
+    memories = λ x slots fine s. ap (λ l. applied l stores (banks_of x.stored)) (order.same (banks_of x.stored) slots s.room) ∙ h.memories x slots fine (starts_moved x slots s);
+  }
+
+module _ (p : Program) (n : Places) (c : Flat) (constants : List (Option ℕ)) (flat : List Step) (first : List ℕ) (t : IsTyped (plan_of p.design))
     (steps : c.steps ≡ []) (slots : c.slots ≡ replicate (21 + length (register_widths p.design.declared.items)) None) (next : first ≡ slots_in n.registers.items)
-    (made : Compiles (plan_of p.design) c (code_of p constants) n first p.next.items p.stores.items (record { divisors = p.divisors; shown = p.shown }))
-    (knows : Knows p.design.declared.items c n (λ x. [])) (leads : Leads p.design.declared.items c (slots_in n.registers.items) [] (λ x. x.stored)) (count : length p.next.items ≡ length (register_widths p.design.declared.items)) where
+    (made : Compiles (plan_of p.design) c (record { steps = flat; slots = constants }) n first p.next.items p.stores.items (record { divisors = p.divisors; shown = p.shown }))
+    (knows : Knows p.design.declared.items c n (λ x. [])) (leads : Leads p.design.declared.items c (slots_in n.registers.items) [] (λ x. x.stored)) (count : length p.next.items ≡ length (register_widths p.design.declared.items)) (order : Reordered (length constants) flat p.steps.items) (groups : AreGroups p.groups.items p.steps.items) where
+  abbrev built : Flat
+  built = record { steps = flat; slots = constants }
+
   pub program_is : IsProgram p constants
   program_is = record {
     typed = t;
-    code = made.code;
-    own = own_steps c (code_of p constants) (21 + length (register_widths p.design.declared.items)) steps slots made.extends;
-    first = constants_after c (code_of p constants) (21 + length (register_widths p.design.declared.items)) steps slots made.extends;
-    room = room_after c (code_of p constants) (21 + length (register_widths p.design.declared.items)) steps slots made.extends;
+    reading = order.reading;
+    free = order.free constants made.code.free;
+    groups = groups;
+    own = order.own (21 + length (register_widths p.design.declared.items)) (own_steps c built (21 + length (register_widths p.design.declared.items)) steps slots made.extends);
+    first = constants_after c built (21 + length (register_widths p.design.declared.items)) steps slots made.extends;
+    room = room_after c built (21 + length (register_widths p.design.declared.items)) steps slots made.extends;
     divisors = made.divisors;
     shown = made.shown;
     next = made.next;
     count = count;
     stores = made.stores;
-    stops = made.stops p.design.declared.items knows;
-    shows = made.shows p.design.declared.items knows;
-    leads = made.leads p.design.declared.items knows (subst (λ l. Leads p.design.declared.items c l [] (λ x. x.stored)) (sym next) leads);
+    stops = stops_moved p.design.declared.items constants flat p.steps.items order p.divisors.items (λ x. stopping (plan_of p.design) x.ins x.stored) (made.stops p.design.declared.items knows);
+    shows = shows_moved p.design.declared.items constants flat p.steps.items order p.shown (λ port x. assigned (env_of (plan_of p.design) x.ins x.stored) (plan_of p.design).assigns port) (made.shows p.design.declared.items knows);
+    leads = leads_moved p.design.declared.items constants flat p.steps.items order p.next.items p.stores.items (λ x. after (plan_of p.design) x.ins x.stored) (made.leads p.design.declared.items knows (subst (λ l. Leads p.design.declared.items c l [] (λ x. x.stored)) (sym next) leads));
   }
 
   abbrev ds : List Declared

@@ -1,6 +1,6 @@
 -- Code that grows: what earlier steps gave stays.
 use Rattle.std.specs.Prelude.{slice_set}
-use Rattle.std.proofs.Common.{◌≡◌, ℕ, ◌+◌, ◌<◌, ◌≤◌, Option, Some, None, List, [], ◌∷◌, ◌++◌, length, get_or, refl, sym, ap, ◌∙◌, subst, arith, ⊎_elim, append_assoc}
+use Rattle.std.proofs.Common.{◌≡◌, ℕ, suc, ◌+◌, ◌<◌, ◌≤◌, Option, Some, None, List, [], ◌∷◌, ◌++◌, length, get_or, refl, sym, ap, ◌∙◌, subst, arith, ⊎_elim, append_assoc}
 use Rattle.std.proofs.lemmas.Bool.{cases_lt}
 use Rattle.std.proofs.lemmas.List.{length-set, length-append, length_push, get_or-set_same, get_or-set_other, get_or_append_left, get_or_past, get_or_at, append-nil}
 use Rattle.net_core.specs.declared.tree.Word.{Word}
@@ -12,7 +12,7 @@ use Rattle.clock_sim.specs.declared.step.Work.TheVariants.{Choose}
 use Rattle.clock_sim.specs.declared.code.Place.{Place}
 use Rattle.clock_sim.specs.declared.places.Places.{Places}
 use Rattle.clock_sim.specs.Steps.{worked, given, run}
-use Rattle.clock_sim.specs.Flat.{Flat, Situation, IsFine, banks_of, Starts, Numbers, Gives, IsThere, IsReading, AreReading, AreFree, IsCode, WriteFrom, Extends, Works, Holds, place_in, ArePlaces, env_at, Knows}
+use Rattle.clock_sim.specs.Flat.{Flat, Situation, IsFine, banks_of, Starts, Numbers, Gives, IsThere, IsReading, AreReading, AreFree, IsBehind, Climb, IsCode, WriteFrom, Extends, Works, Holds, place_in, ArePlaces, env_at, Knows}
 
 -- ---- running
 pub run_append : (banks : List (List ℕ)) (xs ys : List Step) (slots : List ℕ) → run banks (xs ++ ys) slots ≡ run banks ys (run banks xs slots)
@@ -66,6 +66,10 @@ free_more all fresh (s ∷ xs) r f = (get_or_append_left all fresh None s.to r.0
 free_append : (all : List (Option ℕ)) (xs ys : List Step) → AreFree all xs → AreFree all ys → AreFree all (xs ++ ys)
 free_append all [] ys h g = g
 free_append all (s ∷ xs) ys h g = (h.0, free_append all xs ys h.1 g)
+
+climb_push : (n m : ℕ) (xs : List Step) (s : Step) → Climb n xs → AreReading m xs → IsBehind m s → n ≤ m → Climb n (xs ++ s ∷ [])
+climb_push n m [] s c r b le = let from : m ≤ s.to = b.from in (record { from = omega arith; left = b.left; right = b.right; third = b.third }, tt)
+climb_push n m (x ∷ xs) s c r b le = let lt : x.to < m = r.0.to in (c.0, climb_push (suc x.to) m xs s c.1 r.1 b (omega arith))
 
 from_less : (n m : ℕ) → n ≤ m → (xs : List Step) → WriteFrom m xs → WriteFrom n xs
 from_less n m le [] h = tt
@@ -136,11 +140,15 @@ module _ (old new : Flat) (s : Step) (slots : new.slots ≡ old.slots ++ None �
   pub step_extends : Extends old new
   step_extends = record { more = s ∷ []; fresh = None ∷ []; steps = steps; slots = slots; own = (omega arith, tt) }
 
+  behind : s.a < length old.slots → s.b < length old.slots → IsThere s.work s.number (length old.slots) → IsBehind (length old.slots) s
+  behind a b third = record { from = omega arith; left = omega arith; right = omega arith; third = subst (λ k. IsThere s.work s.number k) (sym to) third }
+
   pub step_code : IsCode old → s.a < length old.slots → s.b < length old.slots → IsThere s.work s.number (length old.slots) → IsCode new
   step_code code a b third =
       let n = step_count in
       let le : length old.slots ≤ length new.slots = omega arith in
       record {
+        climb = subst (λ l. Climb 0 l) (sym steps) (climb_push 0 (length old.slots) old.steps s code.climb code.reading (behind a b third) (omega arith));
         reading = subst (λ l. AreReading (length new.slots) l) (sym steps)
             (reading_append (length new.slots) old.steps (s ∷ []) (reading_more (length old.slots) (length new.slots) le old.steps code.reading)
             (record { left = omega arith; right = omega arith; third = there_more s.work s.number (length old.slots) (length new.slots) le third; to = step_there }, tt));
@@ -179,6 +187,7 @@ module _ (old new : Flat) (slot n : ℕ) (slots : new.slots ≡ old.slots ++ Som
       let c = constant_count in
       let le : length old.slots ≤ length new.slots = omega arith in
       record {
+        climb = subst (λ l. Climb 0 l) (sym steps) code.climb;
         reading = subst (λ l. AreReading (length new.slots) l) (sym steps) (reading_more (length old.slots) (length new.slots) le old.steps code.reading);
         free = subst (λ l. AreFree new.slots l) (sym steps) (subst (λ l. AreFree l old.steps) (sym slots) (free_more old.slots (Some n ∷ []) old.steps code.reading code.free));
       }

@@ -14,3 +14,5 @@ pub mod Typing
 pub mod Compiling
 pub mod Showing
 pub mod Laying
+pub mod Grouping
+pub mod Ordering

@@ -181,13 +181,13 @@ module _ (p : Program) (i : Inputs) (slots : List ℕ) (banks : List (List ℕ))
   done_count = run_length banks p.steps.items begun ∙ begun_count
 
   done_kept : (k n : ℕ) → get_or ready.constants k None ≡ Some n → get_or done k 0 ≡ n
-  done_kept k n e = run_kept banks ready.constants p.steps.items ready.program.code.free begun starts.kept k n e
+  done_kept k n e = run_kept banks ready.constants p.steps.items ready.program.free begun starts.kept k n e
 
   done_first : (k : ℕ) → 21 ≤ k → k < 21 + length (register_widths ds) → get_or done k 0 ≡ get_or slots k 0
   done_first k le lt = run_below banks (21 + length (register_widths ds)) p.steps.items ready.program.own begun k lt ∙ laid_above (numbers (words_of i)) 0 slots k (omega arith)
 
   pub reads : AreReading (length begun) p.steps.items
-  reads = subst (λ n. AreReading n p.steps.items) (sym begun_count) ready.program.code.reading
+  reads = subst (λ n. AreReading n p.steps.items) (sym begun_count) ready.program.reading
 
   pub divisors_in : AreDivisors p.divisors.items (length done)
   divisors_in = subst (λ n. AreDivisors p.divisors.items n) (sym done_count) ready.program.divisors

@@ -1,5 +1,5 @@
 -- The code of a design as it grows, and what it gives in each clock.
-use Rattle.std.specs.Prelude.{◌≡◌, ℕ, ⊤, ◌+◌, ◌^◌, ◌<◌, ◌≤◌, Option, Some, None, List, [], ◌∷◌, ◌++◌, length, map}
+use Rattle.std.specs.Prelude.{◌≡◌, ℕ, suc, ⊤, ◌+◌, ◌^◌, ◌<◌, ◌≤◌, Option, Some, None, List, [], ◌∷◌, ◌++◌, length, map}
 use Rattle.std.proofs.Common.{get_or}
 use Rattle.net_core.specs.declared.tree.Word.{Word}
 use Rattle.net_core.specs.declared.tree.Net.{Net}
@@ -81,7 +81,20 @@ abbrev pub AreFree : List (Option ℕ) → List Step → Type 0
 AreFree slots [] = ⊤
 AreFree slots (s ∷ rest) = (get_or slots s.to None ≡ None) × AreFree slots rest
 
+-- a step writes a slot from a number on, behind those that it reads
+pub record IsBehind (n : ℕ) (s : Step) : Type 0 where
+  pub from : n ≤ s.to
+  pub left : s.a < s.to
+  pub right : s.b < s.to
+  pub third : IsThere s.work s.number s.to
+
+-- each step writes a slot behind those that it reads and those that earlier steps write
+abbrev pub Climb : ℕ → List Step → Type 0
+Climb n [] = ⊤
+Climb n (s ∷ rest) = IsBehind n s × Climb (suc s.to) rest
+
 pub record IsCode (c : Flat) : Type 0 where
+  pub climb : Climb 0 c.steps
   pub reading : AreReading (length c.slots) c.steps
   pub free : AreFree c.slots c.steps
 

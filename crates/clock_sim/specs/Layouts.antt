@@ -19,7 +19,8 @@ use Rattle.clock_sim.specs.declared.compile.Parts.{Parts}
 use Rattle.clock_sim.specs.declared.places.Places.{Places}
 use Rattle.clock_sim.specs.declared.edge.Store.{Store}
 use Rattle.clock_sim.specs.Ready.{IsStored}
-use Rattle.clock_sim.specs.Flat.{Flat, Situation, numbers, Numbers, IsCode, WriteFrom, Extends, Knows}
+use Rattle.clock_sim.specs.Flat.{Flat, Situation, numbers, Numbers, IsCode, AreReading, AreFree, WriteFrom, Extends, Knows}
+use Rattle.clock_sim.specs.Orders.{AreGroups}
 use Rattle.clock_sim.specs.Edges.{sizes_of, AreDivisors, AreSlots, AreStores, Stops, Leads, IsShown}
 
 abbrev pub port_places : List Place
@@ -95,7 +96,9 @@ code_of p constants = record { steps = p.steps.items; slots = constants }
 -- what the program of a design gives in every clock
 pub record IsProgram (p : Program) (constants : List (Option ℕ)) : Type 0 where
   pub typed : IsTyped (plan_of p.design)
-  pub code : IsCode (code_of p constants)
+  pub reading : AreReading (length constants) p.steps.items
+  pub free : AreFree constants p.steps.items
+  pub groups : AreGroups p.groups.items p.steps.items
   pub own : WriteFrom (21 + length (register_widths p.design.declared.items)) p.steps.items
   pub first : (k n : ℕ) → get_or constants k None ≡ Some n → 21 + length (register_widths p.design.declared.items) ≤ k
   pub room : 21 + length (register_widths p.design.declared.items) ≤ length constants

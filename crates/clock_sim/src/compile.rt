@@ -12,6 +12,7 @@ use crate::bank::Bank;
 use crate::code::{Code, Place};
 use crate::edge::{Store, act_always};
 use crate::layout::{Layout, PORTS, layout_of, port_places_of};
+use crate::order::{groups_of, reorder};
 use crate::outputs::{Shown, add_outputs};
 use crate::places::Places;
 use crate::turn::{Program, lay};
@@ -130,12 +131,16 @@ pub fn compile(alloc: Global, design: Design) -> Result<Start, AllocError>
         &mut next,
         &mut stores,
     )?;
+    let mut steps = code.steps;
+    reorder(alloc, &mut steps, code.slots.len())?;
+    let groups = groups_of(alloc, &steps)?;
     let mut slots = constants_of(alloc, &code.slots)?;
     lay(PORTS, &numbers, &mut slots);
     let words = vec![in alloc; 0; count]?;
     let program = Program {
         design,
-        steps: code.steps,
+        steps,
+        groups,
         divisors: parts.divisors,
         shown: parts.shown,
         next,

@@ -8,6 +8,7 @@ mod edge;
 mod emit;
 mod layout;
 mod names;
+mod order;
 mod outputs;
 mod places;
 mod ports;

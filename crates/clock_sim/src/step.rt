@@ -3,6 +3,7 @@
 ghost use Rattle.std.specs.Prelude.{◌≡◌, ◌/◌, ◌%◌, [], length, slice_index_or};
 ghost use Rattle.clock_sim.specs.Steps.{given, run};
 ghost use Rattle.clock_sim.specs.Flat.{IsReading, AreReading};
+ghost use Rattle.clock_sim.specs.Orders.{AreOf, AreGroups};
 
 use crate::bank::Bank;
 
@@ -81,8 +82,9 @@ fn given(step: Step, banks: &[Bank], slots: &[u64]) -> u64
         Work::Select => x.wrapping_shr(u32::from(step.shift)) & number,
         Work::Join => x.wrapping_shl(u32::from(step.shift)).wrapping_add(y),
         Work::Choose => {
-            let other = slots[number as usize];
-            if x == 0 { other } else { y }
+            // Which of the two is taken cannot be foreseen, so its slot is looked up: a branch would often be mistaken.
+            let from = [number as usize, step.b as usize];
+            slots[from[usize::from(x != 0)]]
         }
         Work::Fetch => fetched(banks, number as usize, x as usize),
         Work::Quotient => quotient(x, y),
@@ -114,13 +116,67 @@ fn remainder(x: u64, y: u64) -> u64
     if y == 0 { x } else { x % y }
 }
 
-/// Runs steps one after another.
-pub fn run(steps: &[Step], banks: &[Bank], slots: &mut [u64])
-    requires { AreReading (length slots.old) steps.now }
+/// So many steps of one kind, side by side.
+#[derive(Clone, Copy, PartialEq, Eq, Debug)]
+pub struct Group {
+    pub work: Work,
+    pub count: usize,
+}
+
+// Runs steps of one kind. Where it is called the kind is known, so that no step asks for it.
+#[inline(always)]
+fn run_as(work: Work, steps: &[Step], banks: &[Bank], slots: &mut [u64])
+    requires steps { AreReading (length slots.old) steps.now }
+    requires work { AreOf work steps.now }
     ensures { slots.new ≡ run banks.now steps.now slots.old }
 {
     for step in steps {
-        let word = given(*step, banks, slots);
+        let step = Step { work, ..*step };
+        let word = given(step, banks, slots);
         slots[step.to as usize] = word;
+    }
+}
+
+// Runs steps of one kind.
+fn run_group(work: Work, steps: &[Step], banks: &[Bank], slots: &mut [u64])
+    requires steps { AreReading (length slots.old) steps.now }
+    requires work { AreOf work steps.now }
+    ensures { slots.new ≡ run banks.now steps.now slots.old }
+{
+    match work {
+        Work::Add => run_as(Work::Add, steps, banks, slots),
+        Work::Subtract => run_as(Work::Subtract, steps, banks, slots),
+        Work::Multiply => run_as(Work::Multiply, steps, banks, slots),
+        Work::And => run_as(Work::And, steps, banks, slots),
+        Work::Or => run_as(Work::Or, steps, banks, slots),
+        Work::Xor => run_as(Work::Xor, steps, banks, slots),
+        Work::ShiftLeft => run_as(Work::ShiftLeft, steps, banks, slots),
+        Work::ShiftRight => run_as(Work::ShiftRight, steps, banks, slots),
+        Work::Equal => run_as(Work::Equal, steps, banks, slots),
+        Work::NotEqual => run_as(Work::NotEqual, steps, banks, slots),
+        Work::Less => run_as(Work::Less, steps, banks, slots),
+        Work::LessEqual => run_as(Work::LessEqual, steps, banks, slots),
+        Work::Complement => run_as(Work::Complement, steps, banks, slots),
+        Work::Any => run_as(Work::Any, steps, banks, slots),
+        Work::Select => run_as(Work::Select, steps, banks, slots),
+        Work::Join => run_as(Work::Join, steps, banks, slots),
+        Work::Choose => run_as(Work::Choose, steps, banks, slots),
+        Work::Fetch => run_as(Work::Fetch, steps, banks, slots),
+        Work::Quotient => run_as(Work::Quotient, steps, banks, slots),
+        Work::Remainder => run_as(Work::Remainder, steps, banks, slots),
+    }
+}
+
+/// Runs steps one after another, which stand in these groups.
+pub fn run(groups: &[Group], steps: &[Step], banks: &[Bank], slots: &mut [u64])
+    requires steps { AreReading (length slots.old) steps.now }
+    requires groups { AreGroups groups.now steps.now }
+    ensures { slots.new ≡ run banks.now steps.now slots.old }
+{
+    let mut left = steps;
+    for group in groups {
+        let (front, rest) = left.split_at(group.count);
+        run_group(group.work, front, banks, slots);
+        left = rest;
     }
 }

@@ -12,7 +12,7 @@ use crate::bank::Bank;
 use crate::edge::{Store, finish, gather};
 use crate::outputs::{Shown, show};
 use crate::ports::numbers_at;
-use crate::step::{Step, run};
+use crate::step::{Group, Step, run};
 use crate::wires::{Divisor, stopped};
 use net_core::design::Design;
 use net_core::ports::{Inputs, Outputs};
@@ -23,6 +23,7 @@ use net_core::tree::Net;
 pub struct Program {
     pub design: Design,
     pub steps: Vec<Step>,
+    pub groups: Vec<Group>,
     pub divisors: Vec<Divisor>,
     pub shown: Shown,
     pub next: Vec<u32>,
@@ -58,7 +59,7 @@ pub fn turn(
 {
     let ports = numbers_at(inputs);
     lay(0, &ports, slots);
-    run(&program.steps, banks, slots);
+    run(&program.groups, &program.steps, banks, slots);
     if let Some(wire) = stopped(&program.divisors, slots) {
         let net = Net::Wire(wire);
         return Err(XValue { net });

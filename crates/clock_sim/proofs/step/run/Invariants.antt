@@ -1,10 +1,12 @@
 use Rattle.std.proofs.Common.{◌≡◌, length, drop}
 use Rattle.clock_sim.specs.Steps.{run}
 use Rattle.clock_sim.specs.Flat.{AreReading}
+use Rattle.clock_sim.specs.Orders.{works_in, works_of}
 use Rattle.clock_sim.proofs.step.run.Given as goal
 
-abbrev pub invariant-loop-step : goal.invariant-loop-step
-invariant-loop-step l = record {
-  reading : AreReading (length l.slots) (drop l.step-index l.steps);
-  made : run l.banks (drop l.step-index l.steps) l.slots ≡ run l.banks l.steps l.initial.slots;
+abbrev pub invariant-loop-group : goal.invariant-loop-group
+invariant-loop-group l = record {
+  groups : works_of (drop l.group-index l.groups) ≡ works_in l.left;
+  reading : AreReading (length l.slots) l.left;
+  made : run l.banks l.left l.slots ≡ run l.banks l.steps l.initial.slots;
 }
