@@ -43,7 +43,7 @@ run_kept banks all (s ∷ xs) f slots h k n is =
 
 -- ---- longer code
 there_more : (w : Work) (number n m : ℕ) → n ≤ m → IsThere w number n → IsThere w number m
-there_more Choose number n m le h = omega arith
+there_more Choose number n m le h = let lt : number < n = h.0 in (omega arith, h.1)
 there_more _ number n m le h = tt
 
 pub reading_one : (n m : ℕ) → n ≤ m → (s : Step) → IsReading n s → IsReading m s

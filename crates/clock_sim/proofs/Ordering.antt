@@ -23,7 +23,7 @@ third_from work.Choose P Q f p = f p
 third_from _ P Q f p = tt
 
 third_there : (w : Work) (n m : ℕ) (P : Type 0) → (n < m → P) → IsThere w n m → OfThird w P
-third_there work.Choose n m P f h = f h
+third_there work.Choose n m P f h = f h.0
 third_there _ n m P f h = tt
 
 -- ---- slots that no step writes
@@ -305,7 +305,7 @@ depths_kept n (s ∷ xs) c depths k lt =
     ∙ get_or-set_other depths s.to k (depth_of depths s) 0 (λ e. absurd (omega arith))
 
 third_deep : (w : Work) (old new : List ℕ) (n m t : ℕ) → IsThere w n m → ((k : ℕ) → k < m → get_or new k 0 ≡ get_or old k 0) → third_depth w old n < get_or new t 0 → OfThird w (get_or new n 0 < get_or new t 0)
-third_deep work.Choose old new n m t h low lt = let e = low n h in omega (arith, e, lt)
+third_deep work.Choose old new n m t h low lt = let e = low n h.0 in omega (arith, e, lt)
 third_deep _ old new n m t h low lt = tt
 
 pub depths_are : (n : ℕ) (xs : List Step) (depths : List ℕ) → Climb n xs → AreReading (length depths) xs → AreDepths (depths_after xs depths) xs
@@ -352,7 +352,7 @@ low_set xs i d low le k = ⊎_elim (λ e. same e) (λ ne. let o = get_or-set_oth
     same e = subst (λ j. get_or (slice_set xs i d) j 0 ≤ j) (sym e) (⊎_elim inside outside (cases_lt i (length xs)))
 
 third_low : (w : Work) (depths : List ℕ) (n m : ℕ) → ((k : ℕ) → get_or depths k 0 ≤ k) → 0 < m → IsThere w n m → third_depth w depths n < m
-third_low work.Choose depths n m low some h = let l = low n in omega arith
+third_low work.Choose depths n m low some h = let l = low n in let lt : n < m = h.0 in omega arith
 third_low _ depths n m low some h = some
 
 pub depth_low : (depths : List ℕ) (n : ℕ) (s : Step) → ((k : ℕ) → get_or depths k 0 ≤ k) → IsBehind n s → depth_of depths s ≤ s.to

@@ -62,7 +62,7 @@ pub record Gives (ds : List Declared) (c : Flat) (p : Place) (f : Situation → 
 
 -- ---- the form of steps
 abbrev pub IsThere : Work → ℕ → ℕ → Type 0
-IsThere Choose number count = number < count
+IsThere Choose number count = (number < count) × (number < 2 ^ 32)
 IsThere _ number count = ⊤
 
 -- It reads and writes slots.

@@ -83,8 +83,8 @@ fn given(step: Step, banks: &[Bank], slots: &[u64]) -> u64
         Work::Join => x.wrapping_shl(u32::from(step.shift)).wrapping_add(y),
         Work::Choose => {
             // Which of the two is taken cannot be foreseen, so its slot is looked up: a branch would often be mistaken.
-            let from = [number as usize, step.b as usize];
-            slots[from[usize::from(x != 0)]]
+            let from = [number as u32, step.b];
+            slots[from[usize::from(x != 0)] as usize]
         }
         Work::Fetch => fetched(banks, number as usize, x as usize),
         Work::Quotient => quotient(x, y),
