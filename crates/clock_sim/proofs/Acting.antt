@@ -16,9 +16,9 @@ use Rattle.clock_sim.specs.declared.code.Place.{Place}
 use Rattle.clock_sim.specs.declared.places.Places.{Places}
 use Rattle.clock_sim.specs.declared.edge.Store.{Store}
 use Rattle.clock_sim.specs.Steps.{worked, run}
-use Rattle.clock_sim.specs.Flat.{Flat, Situation, IsFine, numbers, banks_of, Starts, Numbers, Works, Holds, IsCode, Extends, Values, ArePlaces, scope_of, env_at, Knows}
-use Rattle.clock_sim.specs.Edges.{applied, AreSlots, IsStore, AreStores, Leads, IsGuard, GuardsBy, Guards, Picks, GuardsBoth, Opposes, GuardsAs, ActsOne, ActsMore, ActsAll, AreActs, widths_at, sizes_of, taken}
-use Rattle.clock_sim.proofs.Growing.{run_append, run_below, extends_none, extends_length, extends_more, starts_before, numbers_later, knows_later}
+use Rattle.clock_sim.specs.Flat.{Flat, Situation, IsFine, numbers, banks_of, Numbers, Works, Holds, IsCode, Extends, Values, ArePlaces, scope_of, env_at, Knows}
+use Rattle.clock_sim.specs.Edges.{applied, AreSlots, IsStore, AreStores, Leads, GuardsBy, Guards, Picks, GuardsBoth, Opposes, GuardsAs, ActsOne, ActsMore, ActsAll, AreActs, widths_at, sizes_of, taken}
+use Rattle.clock_sim.proofs.Growing.{run_append, run_below, extends_none, extends_more, starts_before, numbers_later, knows_later}
 use Rattle.clock_sim.proofs.Working.{bank_at}
 
 pub numbers_fine : (ds : List Declared) (c : Flat) (slot : ℕ) (f g : Situation → ℕ) → ((x : Situation) → IsFine ds x → f x ≡ g x) → Numbers ds c slot f → Numbers ds c slot g

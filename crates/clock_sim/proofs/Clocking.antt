@@ -7,9 +7,9 @@ use Rattle.std.proofs.lemmas.Nat.{pow_pos}
 use Rattle.net_core.specs.declared.tree.Word.{Word}
 use Rattle.net_core.specs.declared.tree.Net.{Net}
 use Rattle.net_core.specs.declared.tree.Net.TheVariants as net
-use Rattle.net_core.specs.Nets.{Plan, WireTree, AssignTree, Act, ABlock, AIf, AIfElse, ASet, AStore, Acts, AEnd, AThen}
+use Rattle.net_core.specs.Nets.{Plan, WireTree, AssignTree, Act}
 use Rattle.net_core.specs.Value.{nothing, value, right_value}
-use Rattle.net_core.specs.Width.{port_width, output_width, register_widths, memory_widths, net_width, memory_width, scope, full_scope, wire_widths, wires_typed, same, width_of, right_width, act_typed, acts_typed, acts_all_typed, assigns_typed}
+use Rattle.net_core.specs.Width.{port_width, output_width, register_widths, memory_widths, net_width, memory_width, scope, full_scope, wire_widths, wires_typed, same, width_of, right_width, act_typed, acts_all_typed, assigns_typed}
 use Rattle.net_core.specs.Clock.{Stored, net_value, cell_value, env, env_of, with_wires, edge, after, assigned}
 use Rattle.net_core.specs.Ports.{port_list}
 use Rattle.net_core.specs.Suits.{IsOfWidth, Suits}

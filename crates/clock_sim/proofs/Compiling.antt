@@ -1,8 +1,8 @@
 -- The program of a design.
-use Rattle.std.specs.Prelude.{slice_set, replicate, nat_lt, ◌==◌, IsTrue, if◌then◌else◌}
-use Rattle.std.proofs.Common.{◌≡◌, ℕ, zero, suc, ◌+◌, ◌^◌, ◌<◌, ◌≤◌, Bool, true, false, ◌&&◌, Option, Some, None, List, [], ◌∷◌, ◌++◌, length, get_or, map, refl, sym, ap, ◌∙◌, subst, arith, ⊎_elim}
+use Rattle.std.specs.Prelude.{replicate, nat_lt, ◌==◌, IsTrue}
+use Rattle.std.proofs.Common.{◌≡◌, ℕ, zero, suc, ◌+◌, ◌^◌, ◌<◌, ◌≤◌, true, false, Option, Some, None, List, [], ◌∷◌, ◌++◌, length, get_or, map, refl, sym, ap, ◌∙◌, subst, arith, ⊎_elim}
 use Rattle.std.proofs.lemmas.Bool.{and_parts, cases_lt, ltb-true, eqb-true}
-use Rattle.std.proofs.lemmas.List.{length-map, length-append, length-replicate, get_or-replicate, get_or-map, get_or_append_left, get_or_past}
+use Rattle.std.proofs.lemmas.List.{length-map, length-replicate, get_or-replicate, get_or_append_left, get_or_past}
 use Rattle.net_core.specs.declared.tree.Word.{Word}
 use Rattle.net_core.specs.declared.tree.Net.{Net}
 use Rattle.net_core.specs.declared.tree.Net.TheVariants as net
@@ -10,15 +10,14 @@ use Rattle.net_core.specs.declared.design.Declared.{Declared}
 use Rattle.net_core.specs.declared.design.Port.{Port}
 use Rattle.net_core.specs.Nets.{Plan, WireTree, AssignTree, Act}
 use Rattle.net_core.specs.Value.{nothing}
-use Rattle.net_core.specs.Width.{Scope, input_width, port_width, register_widths, memory_widths, scope, full_scope, wire_widths, wires_typed, same, width_of, assigns_typed, output_width, act_typed, acts_all_typed, declared_typed, IsTyped}
-use Rattle.net_core.specs.Clock.{Stored, first_words, first_cells, first_stored, with_wires, env_of, stopping, assigned, after, edge, cell_value}
+use Rattle.net_core.specs.Width.{input_width, port_width, register_widths, memory_widths, full_scope, wire_widths, wires_typed, same, width_of, assigns_typed, output_width, act_typed, acts_all_typed, declared_typed, IsTyped}
+use Rattle.net_core.specs.Clock.{Stored, first_words, first_cells, first_stored, with_wires, env_of, stopping, assigned, after, cell_value}
 use Rattle.net_core.specs.Ports.{port_list}
 use Rattle.net_core.specs.View.{plan_of}
 use Rattle.net_core.specs.Suits.{IsOfWidth}
 use Rattle.clock_sim.specs.declared.step.Step.{Step}
 use Rattle.clock_sim.specs.declared.code.Place.{Place}
 use Rattle.clock_sim.specs.declared.places.Places.{Places}
-use Rattle.clock_sim.specs.declared.places.Widths.{Widths}
 use Rattle.clock_sim.specs.declared.edge.Store.{Store}
 use Rattle.clock_sim.specs.declared.outputs.Shown.{Shown}
 use Rattle.clock_sim.specs.declared.wires.Divisor.{Divisor}
@@ -26,10 +25,10 @@ use Rattle.clock_sim.specs.declared.compile.Parts.{Parts}
 use Rattle.clock_sim.specs.declared.turn.Program.{Program}
 use Rattle.clock_sim.specs.Ready.{IsStored}
 use Rattle.clock_sim.specs.Steps.{run}
-use Rattle.clock_sim.specs.Flat.{Flat, Situation, IsFine, numbers, banks_of, Starts, Numbers, Gives, Climb, IsCode, Extends, ArePlaces, no_place, no_widths, place_in, widths_in, scope_of, env_at, AreCells, Knows, WriteFrom, AreReading, AreFree}
+use Rattle.clock_sim.specs.Flat.{Flat, Situation, IsFine, numbers, banks_of, Starts, Numbers, Gives, Climb, IsCode, Extends, ArePlaces, no_place, place_in, widths_in, scope_of, env_at, Knows, WriteFrom, AreReading, AreFree}
 use Rattle.clock_sim.specs.Edges.{widths_at, sizes_of, Matches, AreTyped, AddsWires, AreKnown, AreDivided, divisors_from, first_zero, AreDivisors, Stops, AreShown, Shows, ShowsAll, AreSlots, AreStores, Leads, applied, AreActs, ActsAll, IsShown}
 use Rattle.clock_sim.specs.Orders.{AreGroups, Reordered}
-use Rattle.clock_sim.specs.Layouts.{port_places, places_from, slots_in, constants_in, laid, stored_of, code_of, ShowsPorts, Compiles, IsProgram, IsReady}
+use Rattle.clock_sim.specs.Layouts.{port_places, places_from, slots_in, constants_in, laid, stored_of, ShowsPorts, Compiles, IsProgram, IsReady}
 use Rattle.clock_sim.proofs.Growing.{extends_more, extends_length, numbers_later, knows_later, places_later}
 use Rattle.clock_sim.proofs.Wiring.{width_get, word_get, index_get, scope_same, divisors_there, stops_all}
 use Rattle.clock_sim.proofs.Acting.{leads_later}

@@ -1,11 +1,11 @@
 -- Steps that stand in groups.
 use Rattle.std.specs.Prelude.{replicate}
-use Rattle.std.proofs.Common.{◌≡◌, ℕ, zero, suc, ◌+◌, ◌≤◌, List, [], ◌∷◌, ◌++◌, length, take, drop, map, refl, sym, ap, ◌∙◌, subst, arith, append_assoc}
+use Rattle.std.proofs.Common.{◌≡◌, ℕ, zero, suc, ◌+◌, ◌≤◌, List, [], ◌∷◌, ◌++◌, length, take, drop, refl, sym, ap, ◌∙◌, arith, append_assoc}
 use Rattle.std.proofs.lemmas.List.{append-nil}
 use Rattle.clock_sim.specs.declared.step.Step.{Step}
 use Rattle.clock_sim.specs.declared.step.Work.{Work}
 use Rattle.clock_sim.specs.declared.step.Group.{Group}
-use Rattle.clock_sim.specs.Steps.{given, run}
+use Rattle.clock_sim.specs.Steps.{run}
 use Rattle.clock_sim.specs.Flat.{AreReading}
 use Rattle.clock_sim.specs.Orders.{AreOf, works_in, works_of}
 

@@ -4,15 +4,14 @@ use Rattle.std.proofs.Common.{◌≡◌, ℕ, suc, ◌+◌, ◌<◌, ◌≤◌, 
 use Rattle.std.proofs.lemmas.Bool.{cases_lt}
 use Rattle.std.proofs.lemmas.List.{length-set, length-append, length_push, get_or-set_same, get_or-set_other, get_or_append_left, get_or_past, get_or_at, append-nil}
 use Rattle.net_core.specs.declared.tree.Word.{Word}
-use Rattle.net_core.specs.declared.tree.Net.{Net}
 use Rattle.net_core.specs.declared.design.Declared.{Declared}
 use Rattle.clock_sim.specs.declared.step.Step.{Step}
 use Rattle.clock_sim.specs.declared.step.Work.{Work}
 use Rattle.clock_sim.specs.declared.step.Work.TheVariants.{Choose}
 use Rattle.clock_sim.specs.declared.code.Place.{Place}
 use Rattle.clock_sim.specs.declared.places.Places.{Places}
-use Rattle.clock_sim.specs.Steps.{worked, given, run}
-use Rattle.clock_sim.specs.Flat.{Flat, Situation, IsFine, banks_of, Starts, Numbers, Gives, IsThere, IsReading, AreReading, AreFree, IsBehind, Climb, IsCode, WriteFrom, Extends, Works, Holds, place_in, ArePlaces, env_at, Knows}
+use Rattle.clock_sim.specs.Steps.{given, run}
+use Rattle.clock_sim.specs.Flat.{Flat, Situation, banks_of, Starts, Numbers, Gives, IsThere, IsReading, AreReading, AreFree, IsBehind, Climb, IsCode, WriteFrom, Extends, Works, Holds, place_in, ArePlaces, env_at, Knows}
 
 -- ---- running
 pub run_append : (banks : List (List ℕ)) (xs ys : List Step) (slots : List ℕ) → run banks (xs ++ ys) slots ≡ run banks ys (run banks xs slots)

@@ -1,13 +1,12 @@
 -- What the steps of one operator make.
 use Rattle.std.specs.Prelude.{if◌then◌else◌, ◌==◌}
-use Rattle.std.proofs.Common.{◌≡◌, ℕ, ◌+◌, ◌-◌, ◌^◌, ◌<◌, ◌≤◌, Bool, true, false, List, [], get_or, refl, sym, ap, ◌∙◌, subst, arith}
+use Rattle.std.proofs.Common.{◌≡◌, ℕ, ◌+◌, ◌-◌, ◌^◌, ◌<◌, ◌≤◌, Bool, true, false, List, [], get_or, sym, ap, ◌∙◌, subst}
 use Rattle.net_core.specs.declared.tree.Word.{Word}
-use Rattle.net_core.specs.declared.tree.Net.{Net}
 use Rattle.net_core.specs.declared.tree.Net.TheVariants.{Memory}
 use Rattle.net_core.specs.declared.tree.Op.{Op}
 use Rattle.net_core.specs.declared.tree.Prefix.TheVariants.{Not, Any}
 use Rattle.net_core.specs.Value.{apply, prefixed, bits, joined, chosen}
-use Rattle.net_core.specs.Width.{Fits, op_width, prefix_width, bits_width, join_width, choose_width, cell_width}
+use Rattle.net_core.specs.Width.{op_width, bits_width, join_width, choose_width, cell_width}
 use Rattle.net_core.specs.Clock.{cell_value}
 use Rattle.net_core.specs.Suits.{IsOfWidth}
 use Rattle.net_core.proofs.Typed.{apply_fits, prefixed_fits, bits_fit, joined_fit, choose_parts, cell_parts}
@@ -15,9 +14,9 @@ use Rattle.clock_sim.specs.declared.step.Work.{Work}
 use Rattle.clock_sim.specs.declared.step.Work.TheVariants as work
 use Rattle.clock_sim.specs.declared.code.Place.{Place}
 use Rattle.clock_sim.specs.declared.places.Places.{Places}
-use Rattle.clock_sim.specs.Steps.{worked, run, op_work, op_swaps, op_tests}
+use Rattle.clock_sim.specs.Steps.{worked, run, op_work, op_swaps}
 use Rattle.clock_sim.specs.Flat.{Flat, banks_of, Works, MakesOne, MakesTwo, MakesThree, Fetches, widths_in}
-use Rattle.clock_sim.proofs.Working.{op_works, op_result, select_works, join_works, choose_works, fetch_works}
+use Rattle.clock_sim.proofs.Working.{op_works, select_works, join_works, choose_works, fetch_works}
 
 -- at the widths of words, and back
 at_word : (P : ℕ → Type 0) (a : ℕ) (x : Word) → IsOfWidth a x → P a → P x.width

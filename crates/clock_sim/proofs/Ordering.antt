@@ -2,7 +2,7 @@
 use Rattle.std.specs.Prelude.{⊤, slice_set, if◌then◌else◌, ◌==◌, max}
 use Rattle.std.specs.List.{All, sum_by}
 use Rattle.std.specs.List.Sorted.{IsPermutation, IsNonDecreasingBy}
-use Rattle.std.proofs.Common.{◌≡◌, ℕ, zero, suc, ◌+◌, ◌-◌, ◌*◌, ◌<◌, ◌≤◌, Bool, true, false, Option, None, List, [], ◌∷◌, length, get_or, refl, sym, ap, ◌∙◌, subst, arith, ⊎_elim}
+use Rattle.std.proofs.Common.{◌≡◌, ℕ, suc, ◌-◌, ◌<◌, ◌≤◌, Bool, true, false, Option, None, List, [], ◌∷◌, length, get_or, refl, sym, ap, ◌∙◌, subst, arith, ⊎_elim}
 use Rattle.std.proofs.Math.Nat.{le-max_left, le-max_right, max-le}
 use Rattle.std.proofs.lemmas.Bool.{cases_eq, cases_lt, eq-eqb, eqb-true}
 use Rattle.std.proofs.lemmas.List.{length-set, get_or-set_same, get_or-set_other, get_or_past}
@@ -103,8 +103,9 @@ same_list (x ∷ xs) (y ∷ ys) l h =
 climb_in_turn : (n : ℕ) (xs : List Step) → Climb n xs → InTurn xs
 climb_in_turn n [] c = tt
 climb_in_turn n (s ∷ xs) c = (
-    record { to = climb_unwritten (suc s.to) xs c.1 s.to (omega arith); left = low s.a c.0.left; right = low s.b c.0.right; third = third_there s.work s.number s.to _ (low s.number) c.0.third },
-    climb_in_turn (suc s.to) xs c.1)
+  record { to = climb_unwritten (suc s.to) xs c.1 s.to (omega arith); left = low s.a c.0.left; right = low s.b c.0.right; third = third_there s.work s.number s.to _ (low s.number) c.0.third },
+  climb_in_turn (suc s.to) xs c.1,
+)
   where
     low : (k : ℕ) → k < s.to → Unwritten k (s ∷ xs)
     low k lt = ((λ e. absurd (omega arith)), climb_unwritten (suc s.to) xs c.1 k (omega arith))

@@ -3,14 +3,12 @@ use Rattle.std.specs.Prelude.{◌==◌}
 use Rattle.std.proofs.Common.{◌≡◌, ℕ, ◌<◌, List, [], ◌∷◌, sym, ap, ◌∙◌, subst}
 use Rattle.std.proofs.lemmas.Bool.{cond-true, cond-false, eq-eqb, ne_eqb}
 use Rattle.net_core.specs.declared.tree.Net.{Net}
-use Rattle.net_core.specs.declared.design.Declared.{Declared}
 use Rattle.net_core.specs.Nets.{AssignTree}
 use Rattle.net_core.specs.Value.{Env, nothing, value}
 use Rattle.net_core.specs.Width.{width_of}
 use Rattle.net_core.specs.Clock.{assigned}
 use Rattle.clock_sim.specs.declared.code.Place.{Place}
 use Rattle.clock_sim.specs.declared.places.Places.{Places}
-use Rattle.clock_sim.specs.declared.outputs.Shown.{Shown}
 use Rattle.clock_sim.specs.Flat.{Flat, Holds, Extends, Values, scope_of, env_at}
 use Rattle.clock_sim.specs.Edges.{AreShown, Shows}
 use Rattle.clock_sim.proofs.Growing.{numbers_later, knows_later}

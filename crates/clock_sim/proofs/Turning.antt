@@ -1,7 +1,6 @@
 -- One clock of a ready simulator.
 use Rattle.std.specs.Prelude.{option_map, slice_set, ◌==◌}
-use Rattle.std.proofs.Common.{◌≡◌, ℕ, zero, suc, ◌+◌, ◌^◌, ◌<◌, ◌≤◌, Result, refl, List, [], ◌∷◌, Ok, Option, Some, None, length, get_or, map, sym, ap, ◌∙◌, subst, arith, ⊎_elim}
-use Rattle.std.proofs.lemmas.Bool.{cases_lt}
+use Rattle.std.proofs.Common.{◌≡◌, ℕ, zero, suc, ◌+◌, ◌<◌, ◌≤◌, Result, refl, List, [], ◌∷◌, Ok, Some, None, length, get_or, map, sym, ap, ◌∙◌, subst, arith}
 use Rattle.std.proofs.lemmas.List.{length-set, length-map, get_or-set_same, get_or-set_other, get_or-map}
 use Rattle.net_core.specs.declared.tree.Word.{Word}
 use Rattle.net_core.specs.declared.tree.Net.TheVariants.{Wire}
@@ -23,7 +22,7 @@ use Rattle.clock_sim.specs.Running.{stopped_net}
 use Rattle.clock_sim.specs.Steps.{run}
 use Rattle.clock_sim.specs.Flat.{Situation, IsFine, numbers, banks_of, Starts, AreReading}
 use Rattle.clock_sim.specs.Edges.{first_zero, AreDivisors, AreSlots, AreStores, applied, taken, IsShown, FitShown, outputs_in}
-use Rattle.clock_sim.specs.Layouts.{laid, words_from, cells_from, stored_in, stored_of, code_of, IsProgram, IsReady}
+use Rattle.clock_sim.specs.Layouts.{laid, words_from, cells_from, stored_in, stored_of, code_of, IsReady}
 use Rattle.clock_sim.proofs.Fitting.{ports_fit}
 use Rattle.clock_sim.proofs.Clocking.{after_stored, outputs_fit}
 use Rattle.clock_sim.proofs.Growing.{run_length, run_below, run_kept}

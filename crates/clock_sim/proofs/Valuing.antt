@@ -7,14 +7,14 @@ use Rattle.net_core.specs.declared.tree.Op.{Op}
 use Rattle.net_core.specs.declared.tree.Prefix.{Prefix}
 use Rattle.net_core.specs.Nets.{Tree, TConst, TRead, TBit, TBits, TCell, TBefore, TTwo, TChoose, TJoin, Trees, TLast, TMore, RPlain, RQuotient, RRemainder}
 use Rattle.net_core.specs.Value.{apply, prefixed, bits, joined, chosen, word, value, joined_parts, right_value}
-use Rattle.net_core.specs.Width.{const_width, same_width, op_width, prefix_width, bits_width, join_width, choose_width, cell_width}
+use Rattle.net_core.specs.Width.{const_width, same_width, bits_width}
 use Rattle.net_core.specs.Suits.{IsOfWidth}
 use Rattle.net_core.proofs.Typed.{const_parts, bits_parts, same_parts}
 use Rattle.clock_sim.specs.declared.step.Work.TheVariants.{Quotient, Remainder}
 use Rattle.clock_sim.specs.declared.code.Place.{Place}
 use Rattle.clock_sim.specs.Steps.{worked, run}
 use Rattle.clock_sim.specs.declared.places.Places.{Places}
-use Rattle.clock_sim.specs.Flat.{Flat, Situation, banks_of, Works, Holds, Extends, MakesOne, MakesTwo, MakesThree, Fetches, Values, PartValues, RightValues, place_in, env_at}
+use Rattle.clock_sim.specs.Flat.{Flat, banks_of, Works, Holds, Extends, MakesOne, MakesTwo, MakesThree, Fetches, Values, PartValues, RightValues, place_in, env_at}
 use Rattle.clock_sim.proofs.Growing.{gives_later, knows_later}
 
 pub const_is : (w : Word) → 0 < const_width w → w.width ≡ const_width w

@@ -1,6 +1,6 @@
 -- Wires, one after another.
 use Rattle.std.specs.Prelude.{if◌then◌else◌, ◌==◌, nat_lt, nat_le, ◌^◌}
-use Rattle.std.proofs.Common.{◌≡◌, ℕ, zero, suc, ◌+◌, ◌<◌, ◌≤◌, Bool, true, false, ◌&&◌, Option, Some, None, List, [], ◌∷◌, ◌++◌, length, get_or, map, refl, sym, ap, ◌∙◌, subst, arith, ⊎_elim, append_assoc}
+use Rattle.std.proofs.Common.{◌≡◌, ℕ, zero, suc, ◌+◌, ◌<◌, ◌≤◌, true, ◌&&◌, Option, Some, None, List, [], ◌∷◌, ◌++◌, length, get_or, refl, sym, ap, ◌∙◌, subst, arith, ⊎_elim, append_assoc}
 use Rattle.std.proofs.Math.Path.{fun_ext}
 use Rattle.std.proofs.lemmas.Bool.{and_parts, cases_lt, cases_eq, eqb-true, ltb-true}
 use Rattle.std.proofs.lemmas.List.{get_or_append_left, get_or_at, get_or_past, length_push, map_push, append-nil}
@@ -10,7 +10,7 @@ use Rattle.net_core.specs.declared.tree.Net.TheVariants as net
 use Rattle.net_core.specs.declared.design.Declared.{Declared}
 use Rattle.net_core.specs.Nets.{RightTree, RPlain, RQuotient, RRemainder, WireTree, Plan}
 use Rattle.net_core.specs.Value.{nothing, right_value}
-use Rattle.net_core.specs.Width.{Scope, scope, net_width, memory_width, same, right_width, wire_widths, wires_typed, register_widths, memory_widths, port_width}
+use Rattle.net_core.specs.Width.{Scope, scope, net_width, memory_width, same, right_width, wire_widths, wires_typed}
 use Rattle.net_core.specs.Clock.{with_wires, stopped_at, rights, cell_value}
 use Rattle.net_core.specs.Suits.{IsOfWidth}
 use Rattle.net_core.proofs.Typed.{same_parts}
@@ -19,9 +19,9 @@ use Rattle.clock_sim.specs.declared.places.Places.{Places}
 use Rattle.clock_sim.specs.declared.places.Widths.{Widths}
 use Rattle.clock_sim.specs.declared.wires.Divisor.{Divisor}
 use Rattle.clock_sim.specs.Steps.{run}
-use Rattle.clock_sim.specs.Flat.{Flat, Situation, IsFine, banks_of, Starts, Numbers, Gives, IsCode, Extends, RightValues, ArePlaces, no_place, no_widths, place_in, widths_in, scope_of, env_at, AreCells, Knows}
+use Rattle.clock_sim.specs.Flat.{Flat, Situation, IsFine, banks_of, Starts, Gives, IsCode, Extends, RightValues, ArePlaces, no_place, no_widths, place_in, widths_in, scope_of, env_at, AreCells, Knows}
 use Rattle.clock_sim.specs.Edges.{Matches, widths_at, sizes_of, AreTyped, divisor_in, IsDivided, AreDivided, AddsWires, AreKnown, first_zero, AreDivisors, Stops, divisors_at, divisors_from}
-use Rattle.clock_sim.proofs.Growing.{extends_none, extends_more, extends_length, gives_later, places_later}
+use Rattle.clock_sim.proofs.Growing.{extends_none, extends_more, extends_length, gives_later}
 
 -- ---- scopes
 pub width_get : (ps : List Place) (k : ℕ) → (get_or ps k no_place).width ≡ get_or (widths_at ps) k 0

@@ -8,7 +8,6 @@ use Rattle.std.proofs.Math.Pow.{pow_mono}
 use Rattle.net_core.specs.declared.tree.Word.{Word}
 use Rattle.net_core.specs.declared.tree.Op.{Op}
 use Rattle.net_core.specs.declared.tree.Op.TheVariants.{Add, Sub, Mul, And, Or, Xor, ShiftLeft, ShiftRight, Equal, NotEqual, Less, LessEqual, Greater, GreaterEqual}
-use Rattle.net_core.specs.declared.tree.Prefix.{Prefix}
 use Rattle.net_core.specs.Value.{nothing, apply, bits, joined, chosen}
 use Rattle.net_core.specs.Width.{Fits, op_width, bits_width, join_width}
 use Rattle.net_core.proofs.Typed.{same_parts, shift_parts, test_parts, bits_parts, join_parts}

@@ -1,15 +1,14 @@
 -- What code says of wires, outputs and the rising edge.
-use Rattle.std.specs.Prelude.{◌≡◌, ℕ, suc, ⊤, ◌-◌, ◌^◌, ◌<◌, ◌==◌, if◌then◌else◌, Bool, true, false, Option, Some, None, List, [], ◌∷◌, ◌++◌, length, slice_set, map}
+use Rattle.std.specs.Prelude.{◌≡◌, ℕ, suc, ⊤, ◌-◌, ◌^◌, ◌<◌, ◌==◌, if◌then◌else◌, Bool, true, Option, Some, None, List, [], ◌∷◌, ◌++◌, length, slice_set, map}
 use Rattle.std.proofs.Common.{get_or, ◌&&◌, not}
 use Rattle.net_core.specs.declared.tree.Word.{Word}
 use Rattle.net_core.specs.declared.tree.Net.{Net}
-use Rattle.net_core.specs.declared.tree.Net.TheVariants.{Register}
 use Rattle.net_core.specs.declared.design.Declared.{Declared}
 use Rattle.net_core.specs.declared.ports.Outputs.{Outputs}
-use Rattle.net_core.specs.Nets.{Tree, WireTree, AssignTree, Act, Acts, RightTree, RPlain, RQuotient, RRemainder, Plan}
+use Rattle.net_core.specs.Nets.{WireTree, AssignTree, Act, Acts, RightTree, RPlain, RQuotient, RRemainder, Plan}
 use Rattle.net_core.specs.Value.{nothing}
-use Rattle.net_core.specs.Width.{port_width, register_widths, memory_widths, wire_widths, wires_typed, width_of, act_typed, acts_typed}
-use Rattle.net_core.specs.Clock.{Stored, with_wires, stopped_at, rights, assigned, done, all_done, edge}
+use Rattle.net_core.specs.Width.{port_width, register_widths, memory_widths, wire_widths, wires_typed, width_of, act_typed}
+use Rattle.net_core.specs.Clock.{Stored, with_wires, assigned, done, all_done, edge}
 use Rattle.clock_sim.specs.declared.code.Place.{Place}
 use Rattle.clock_sim.specs.declared.places.Places.{Places}
 use Rattle.clock_sim.specs.declared.places.Widths.{Widths}
@@ -17,7 +16,7 @@ use Rattle.clock_sim.specs.declared.edge.Store.{Store}
 use Rattle.clock_sim.specs.declared.wires.Divisor.{Divisor}
 use Rattle.clock_sim.specs.declared.outputs.Shown.{Shown}
 use Rattle.clock_sim.specs.Steps.{run}
-use Rattle.clock_sim.specs.Flat.{Flat, Situation, IsFine, banks_of, Starts, Numbers, place_in, widths_in, no_place, no_widths, scope_of, env_at, Knows}
+use Rattle.clock_sim.specs.Flat.{Flat, Situation, IsFine, banks_of, Starts, Numbers, place_in, no_place, scope_of, env_at, Knows}
 
 -- ---- wires
 abbrev pub widths_at : List Place → List ℕ

@@ -1,17 +1,14 @@
 -- Where words stand, and what holds of a simulator between two clocks.
-use Rattle.std.specs.Prelude.{◌≡◌, ℕ, suc, ◌+◌, ◌<◌, ◌≤◌, Option, Some, None, List, [], ◌∷◌, ◌++◌, length, map, slice_set}
+use Rattle.std.specs.Prelude.{◌≡◌, ℕ, suc, ◌+◌, ◌≤◌, Option, Some, None, List, [], ◌∷◌, ◌++◌, length, map, slice_set}
 use Rattle.std.proofs.Common.{get_or}
 use Rattle.net_core.specs.declared.tree.Word.{Word}
 use Rattle.net_core.specs.declared.design.Declared.{Declared}
-use Rattle.net_core.specs.declared.design.Declared.TheVariants as declared
 use Rattle.net_core.specs.Nets.{Plan}
 use Rattle.net_core.specs.Value.{word}
 use Rattle.net_core.specs.Width.{IsTyped, register_widths, memory_widths}
 use Rattle.net_core.specs.Clock.{Stored, first_words, first_cells, env_of, stopping, assigned, after}
 use Rattle.net_core.specs.View.{plan_of}
-use Rattle.clock_sim.specs.declared.step.Step.{Step}
 use Rattle.clock_sim.specs.declared.code.Place.{Place}
-use Rattle.clock_sim.specs.declared.places.Widths.{Widths}
 use Rattle.clock_sim.specs.declared.layout.Layout.{Layout}
 use Rattle.clock_sim.specs.declared.outputs.Shown.{Shown}
 use Rattle.clock_sim.specs.declared.turn.Program.{Program}

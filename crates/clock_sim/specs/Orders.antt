@@ -1,5 +1,5 @@
 -- In which order steps may be run, and how they stand in groups.
-use Rattle.std.specs.Prelude.{◌≡◌, ℕ, suc, ⊤, ◌+◌, ◌*◌, ◌<◌, ◌≤◌, Option, None, List, [], ◌∷◌, ◌++◌, length, map, max, replicate}
+use Rattle.std.specs.Prelude.{◌≡◌, ℕ, ⊤, ◌+◌, ◌*◌, ◌<◌, ◌≤◌, Option, List, [], ◌∷◌, ◌++◌, length, map, max, replicate}
 use Rattle.std.proofs.Common.{get_or}
 use Rattle.clock_sim.specs.declared.step.Step.{Step}
 use Rattle.clock_sim.specs.declared.step.Work.{Work}

@@ -1,14 +1,14 @@
 -- Items by their first words, and registers and memories by what stands behind their names.
-use Rattle.std.proofs.Common.{◌≡◌, ◌∙◌, sym, ap, refl, arith, ℕ, ◌<◌, ◌≤◌, Bool, true, false, Option, Some, None, Ok, Err, List, [], ◌∷◌}
+use Rattle.std.proofs.Common.{◌≡◌, ◌∙◌, ap, refl, ℕ, ◌<◌, ◌≤◌, Bool, true, false, Option, Some, None, Ok, Err, List, ◌∷◌}
 use Rattle.std.specs.Prelude.{nat_le, if◌then◌else◌}
 use Rattle.std.proofs.lemmas.Bool.{lt-leb, le-leb}
 use Rattle.net_core.specs.Nets.{Plan}
 use Rattle.verilog_lex.specs.declared.token.Keyword.TheVariants as keyword
 use Rattle.verilog_lex.specs.declared.token.Symbol.TheVariants as symbol
-use Rattle.verilog_lex.specs.Lexeme.{Lexeme, LName, LKeyword, LNumber, LSized, LOutOfRange, LSymbol}
+use Rattle.verilog_lex.specs.Lexeme.{Lexeme, LKeyword, LSymbol}
 use Rattle.phrase_read.specs.declared.fault.Code.TheVariants as code
 use Rattle.phrase_read.specs.declared.fault.Fault.{Fault}
-use Rattle.phrase_read.specs.Reads.{Read, Reading, ◌>>=◌, fault, kept_if}
+use Rattle.phrase_read.specs.Reads.{Read, ◌>>=◌, fault, kept_if}
 use Rattle.verilog_read.specs.declared.section.Section.{Section}
 use Rattle.verilog_read.specs.declared.sections.Item.{Item}
 use Rattle.verilog_read.specs.Declarations.{register_at, memory_at, stored_at}

@@ -1,9 +1,8 @@
 -- What is known of a design stays known where something comes behind.
-use Rattle.std.proofs.Common.{◌≡◌, ◌∙◌, sym, ap, refl, subst, arith, ℕ, zero, suc, ◌+◌, ◌-◌, ◌<◌, ◌≤◌, Bool, true, false, cond, not, ◌||◌, ◌&&◌, ◌==◌, Option, Some, None, List, [], ◌∷◌, ◌++◌, length, get_or, length-append}
+use Rattle.std.proofs.Common.{◌≡◌, ◌∙◌, sym, ap, refl, subst, arith, ℕ, suc, ◌+◌, ◌-◌, ◌<◌, ◌≤◌, Bool, true, false, cond, not, ◌||◌, ◌&&◌, ◌==◌, Option, Some, None, List, [], ◌∷◌, ◌++◌, length, get_or, length-append}
 use Rattle.std.specs.Prelude.{nat_lt, option_map, is_some, map}
 use Rattle.std.specs.Borrow.{Bor}
 use Rattle.std.specs.List.{list_all, list_any, position_from}
-use Rattle.std.specs.Map.{lookup}
 use Rattle.std.specs.Str.{bytes_eq}
 use Rattle.std.proofs.lemmas.Bool.{ltb-true, ltb-false, lt-ltb, le-ltb}
 use Rattle.std.proofs.lemmas.Iterator.Adapters.{position_from-zero}
@@ -28,7 +27,7 @@ use Rattle.verilog_read.specs.Declarations.{with_declared}
 use Rattle.verilog_read.specs.Entries.{behind_ports, entry_of, place_in, port_entry}
 use Rattle.verilog_read.specs.Header.{with_port}
 use Rattle.verilog_read.specs.Items.{with_wire, with_assign, with_always}
-use Rattle.verilog_read.specs.Seen.{NoWires, OnlyPorts, IsNew, Raises, AddsEntry, AddsTargets, IsKnown, found_in, counted, with_one, no_counts, declared_entry}
+use Rattle.verilog_read.specs.Seen.{NoWires, OnlyPorts, IsNew, Raises, AddsEntry, AddsTargets, IsKnown, found_in, with_one, no_counts, declared_entry}
 use Rattle.phrase_read.proofs.Turns.{map_one_more}
 use Rattle.verilog_read.proofs.Places.{declared_stays, declared_last, counted_behind, wire_entry, wires_stay, widths_behind, widths_length}
 use Rattle.verilog_read.proofs.Tables.{or_next, lookup_behind, position_behind}

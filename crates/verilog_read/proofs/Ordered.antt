@@ -1,5 +1,5 @@
 -- No wire stands before what is declared.
-use Rattle.std.proofs.Common.{◌≡◌, ap, refl, arith, ℕ, ◌≤◌, Option, Some}
+use Rattle.std.proofs.Common.{◌≡◌, ap, refl, arith, ◌≤◌}
 use Rattle.net_core.specs.Nets.{Plan}
 use Rattle.verilog_read.specs.declared.section.Section.{Section}
 use Rattle.verilog_read.specs.declared.section.Section.TheVariants as section

@@ -1,5 +1,5 @@
 -- What a text is, from its tokens.
-use Rattle.std.proofs.Common.{◌≡◌, ◌∙◌, sym, ap, refl, subst, ℕ, List, Result, Ok, Err}
+use Rattle.std.proofs.Common.{◌≡◌, ◌∙◌, sym, ap, subst, ℕ, List, Result, Ok, Err}
 use Rattle.net_core.specs.declared.design.Design.{Design}
 use Rattle.net_core.specs.Nets.{Plan}
 use Rattle.std.specs.declared.vec.Vec.{Vec}

@@ -1,13 +1,13 @@
 -- One turn of the loops over ports, items and parts.
-use Rattle.std.proofs.Common.{◌≡◌, ◌∙◌, sym, ap, refl, arith, ℕ, zero, suc, ◌+◌, ◌-◌, ◌<◌, ◌≤◌, Option, Some, None, Ok, Err, List, [], ◌∷◌, length, map, drop, get_or, drop-cons, add-one}
+use Rattle.std.proofs.Common.{◌≡◌, ◌∙◌, refl, arith, ℕ, zero, suc, ◌+◌, ◌-◌, ◌<◌, ◌≤◌, Option, Some, None, Ok, Err, List, ◌∷◌, length, map, drop, get_or, drop-cons, add-one}
 use Rattle.std.proofs.lemmas.List.{drop_all}
 use Rattle.net_core.specs.Nets.{Plan}
-use Rattle.verilog_lex.specs.Lexeme.{Lexeme, LName, LKeyword, LNumber, LSized, LOutOfRange, LSymbol}
+use Rattle.verilog_lex.specs.Lexeme.{Lexeme, LKeyword, LSymbol}
 use Rattle.verilog_lex.specs.declared.token.Keyword.TheVariants as keyword
 use Rattle.verilog_lex.specs.declared.token.Symbol.TheVariants as symbol
 use Rattle.phrase_read.specs.declared.fault.Code.TheVariants as code
 use Rattle.phrase_read.specs.declared.fault.Fault.{Fault}
-use Rattle.phrase_read.specs.Reads.{Read, Reading, ◌>>=◌, fault}
+use Rattle.phrase_read.specs.Reads.{Read, ◌>>=◌, fault}
 use Rattle.phrase_read.specs.Seen.{comma_at}
 use Rattle.verilog_read.specs.declared.section.Section.{Section}
 use Rattle.verilog_read.specs.declared.memory.Part as memory

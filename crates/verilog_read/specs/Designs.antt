@@ -1,5 +1,5 @@
 -- A design from its lexemes, and the first fault of others.
-use Rattle.std.specs.Prelude.{ℕ, zero, suc, ◌==◌, Bool, true, false, ◌&&◌, if◌then◌else◌, Option, Some, None, Ok, List, [], ◌∷◌, length}
+use Rattle.std.specs.Prelude.{ℕ, suc, ◌&&◌, if◌then◌else◌, Option, Some, None, Ok, List, [], ◌∷◌, length}
 use Rattle.std.specs.Str.{bytes_eq}
 use Rattle.std.proofs.Common.{not}
 use Rattle.net_core.specs.declared.design.Port as port

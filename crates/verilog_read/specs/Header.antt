@@ -9,7 +9,7 @@ use Rattle.verilog_lex.specs.declared.token.Keyword.TheVariants as keyword
 use Rattle.verilog_lex.specs.declared.token.Symbol.TheVariants as symbol
 use Rattle.verilog_lex.specs.Lexeme.{Lexeme, LName, LKeyword, LNumber, LSymbol}
 use Rattle.phrase_read.specs.declared.fault.Code.TheVariants as code
-use Rattle.phrase_read.specs.Reads.{Read, Reading, ◌>>=◌, fault, kept_if}
+use Rattle.phrase_read.specs.Reads.{Read, ◌>>=◌, fault, kept_if}
 use Rattle.phrase_read.specs.Lexemes.{lexeme_at, symbol_at, behind, number_at, name_at}
 
 -- A width: `[n:0]` with n from 1 to 63, or nothing where it is 1.

@@ -1,5 +1,5 @@
 -- The items of a design from left to right, each behind those before it (IEEE 1364-2005, annex A.1.4, a subset).
-use Rattle.std.specs.Prelude.{ℕ, zero, suc, ◌==◌, nat_le, Option, Some, None, Ok, List, [], ◌∷◌, ◌++◌, length, codes}
+use Rattle.std.specs.Prelude.{ℕ, zero, suc, ◌==◌, nat_le, Option, Some, None, Ok, List, [], ◌∷◌, ◌++◌, codes}
 use Rattle.std.proofs.Common.{not}
 use Rattle.net_core.specs.declared.tree.Net.{Net}
 use Rattle.net_core.specs.Nets.{Act, WireTree, AssignTree, Plan}
@@ -10,7 +10,7 @@ use Rattle.verilog_lex.specs.Lexeme.{Lexeme, LName, LKeyword, LSymbol}
 use Rattle.phrase_read.specs.declared.fault.Code.TheVariants as code
 use Rattle.phrase_read.specs.declared.entry.Entry.{Entry}
 use Rattle.phrase_read.specs.declared.entry.Entry.TheVariants as entry
-use Rattle.phrase_read.specs.Reads.{Read, Reading, ◌>>=◌, fault, kept_if, found}
+use Rattle.phrase_read.specs.Reads.{Read, ◌>>=◌, fault, kept_if, found}
 use Rattle.phrase_read.specs.Lexemes.{symbol_at, behind, name_at}
 use Rattle.phrase_read.specs.Expressions.{whole_expr_at}
 use Rattle.phrase_read.specs.Rights.{right_at}

@@ -5,7 +5,7 @@ use Rattle.verilog_lex.specs.declared.token.Keyword.TheVariants as keyword
 use Rattle.verilog_lex.specs.declared.token.Symbol.TheVariants as symbol
 use Rattle.verilog_lex.specs.Lexeme.{Lexeme, LKeyword, LSymbol}
 use Rattle.phrase_read.specs.declared.fault.Code.TheVariants as code
-use Rattle.phrase_read.specs.Reads.{Read, Reading, fault}
+use Rattle.phrase_read.specs.Reads.{Read, fault}
 use Rattle.verilog_read.specs.declared.section.Section.{Section}
 use Rattle.verilog_read.specs.declared.section.Section.TheVariants as section
 use Rattle.verilog_read.specs.declared.sections.Item.{Item}

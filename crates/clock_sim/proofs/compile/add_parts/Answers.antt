@@ -1,5 +1,5 @@
-use Rattle.std.proofs.Common.{◌≡◌, ◌≤◌, length, map, sym, ap, ◌∙◌, subst}
-use Rattle.net_core.specs.View.{plan_of, wire_of, assign_of, act_of}
+use Rattle.std.proofs.Common.{length, sym, ap, ◌∙◌, subst}
+use Rattle.net_core.specs.View.{plan_of}
 use Rattle.clock_sim.specs.Flat.{flat_of}
 use Rattle.clock_sim.specs.Edges.{AreStores}
 use Rattle.clock_sim.proofs.Growing.{extends_length, extends_more}

@@ -1,5 +1,5 @@
-use Rattle.std.proofs.Common.{◌≡◌, ◌+◌, ◌≤◌, None, Option, List, [], ℕ, length, refl, sym, ap, ◌∙◌, subst, arith}
-use Rattle.std.specs.Prelude.{replicate, map}
+use Rattle.std.proofs.Common.{◌≡◌, ◌+◌, None, [], length, sym, ap, ◌∙◌, subst, arith}
+use Rattle.std.specs.Prelude.{replicate}
 use Rattle.std.proofs.lemmas.List.{take_at, with_items_is, length-map}
 use Rattle.std.specs.Vec.{with_items}
 use Rattle.net_core.specs.Clock.{first_words}
@@ -10,7 +10,7 @@ use Rattle.clock_sim.specs.declared.turn.Program.{Program}
 use Rattle.clock_sim.specs.Flat.{Flat, AreReading, numbers}
 use Rattle.clock_sim.specs.Edges.{AreSlots}
 use Rattle.clock_sim.specs.Orders.{AreGroups, Reordered}
-use Rattle.clock_sim.specs.Layouts.{slots_in, laid, constants_in, stored_of, IsReady, Compiles}
+use Rattle.clock_sim.specs.Layouts.{slots_in, laid, constants_in, Compiles}
 use Rattle.clock_sim.proofs.Compiling.{matches_first, places_first, next_first, knows_first, leads_first, registers_count, count_is, lay_room, stored_first, ready_first}
 use Rattle.clock_sim.proofs.compile.compile.Goals as goal
 

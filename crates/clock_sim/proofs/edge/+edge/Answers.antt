@@ -1,5 +1,5 @@
 use Rattle.std.specs.Prelude.{◌==◌}
-use Rattle.std.proofs.Common.{◌≡◌, ◌<◌, ◌≤◌, ◌&&◌, length, get_or, refl, ap, arith}
+use Rattle.std.proofs.Common.{◌<◌, ◌≤◌, ◌&&◌, length, refl, ap, arith}
 use Rattle.std.proofs.lemmas.Bool.{and_parts}
 use Rattle.net_core.specs.declared.tree.Net.{Net}
 use Rattle.net_core.specs.declared.tree.Stmt.{size-Stmt}

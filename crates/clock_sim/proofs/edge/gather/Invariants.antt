@@ -1,5 +1,5 @@
-use Rattle.std.proofs.Common.{◌≡◌, length, take}
-use Rattle.clock_sim.specs.Edges.{AreSlots, taken}
+use Rattle.std.proofs.Common.{◌≡◌, take}
+use Rattle.clock_sim.specs.Edges.{taken}
 use Rattle.clock_sim.proofs.edge.gather.Given as goal
 
 abbrev pub invariant-loop-i : goal.invariant-loop-i

@@ -1,5 +1,4 @@
 use Rattle.std.proofs.Common.{refl}
-use Rattle.net_core.specs.View.{tree_of, trees_of}
 use Rattle.clock_sim.specs.Flat.{flat_of}
 use Rattle.clock_sim.proofs.Growing.{extends_none, extends_more}
 use Rattle.clock_sim.proofs.Valuing.{const_values, bit_values, bits_values, before_values, cell_values, two_values, more_values, choose_values, join_values, last_values}

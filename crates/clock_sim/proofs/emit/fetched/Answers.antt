@@ -1,4 +1,4 @@
-use Rattle.clock_sim.specs.Flat.{flat_of, Fetches}
+use Rattle.clock_sim.specs.Flat.{flat_of}
 use Rattle.clock_sim.proofs.Making.{fetch_makes}
 use Rattle.clock_sim.proofs.emit.fetched.Goals as goal
 

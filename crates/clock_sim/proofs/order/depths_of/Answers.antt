@@ -1,6 +1,6 @@
-use Rattle.std.specs.Prelude.{slice_set, replicate}
-use Rattle.std.proofs.Common.{◌≡◌, ℕ, suc, ◌+◌, ◌<◌, ◌≤◌, length, get_or, drop, sym, ap, ◌∙◌, subst, arith}
-use Rattle.std.proofs.lemmas.List.{drop_more, drop_all, length-set, length-replicate}
+use Rattle.std.specs.Prelude.{slice_set}
+use Rattle.std.proofs.Common.{◌≡◌, suc, ◌+◌, ◌≤◌, length, get_or, drop, sym, ap, ◌∙◌, subst, arith}
+use Rattle.std.proofs.lemmas.List.{drop_more, drop_all, length-set}
 use Rattle.clock_sim.specs.Flat.{AreReading, Climb}
 use Rattle.clock_sim.specs.Orders.{AreDepths, depth_of}
 use Rattle.clock_sim.proofs.Ordering.{depths_after, depths_are, low_set, depth_low}

@@ -1,5 +1,5 @@
 use Rattle.std.specs.Prelude.{replicate}
-use Rattle.std.proofs.Common.{◌≡◌, ◌+◌, ◌++◌, List, length, get_or, drop, sym, ap, ◌∙◌, subst, arith}
+use Rattle.std.proofs.Common.{◌≡◌, ◌+◌, ◌++◌, get_or, drop, ap, ◌∙◌, subst}
 use Rattle.std.proofs.lemmas.List.{drop_more, drop_all}
 use Rattle.clock_sim.specs.declared.step.Step.{Step}
 use Rattle.clock_sim.specs.declared.step.Work.TheVariants.{Add}

@@ -1,4 +1,4 @@
-use Rattle.std.proofs.Common.{◌≡◌, ◌+◌, ◌≤◌, length, refl, sym, ap, ◌∙◌, subst}
+use Rattle.std.proofs.Common.{◌≡◌, ◌+◌, ◌≤◌, length, sym, ap, ◌∙◌, subst}
 use Rattle.net_core.specs.Ports.{words_of}
 use Rattle.net_core.specs.View.{plan_of}
 use Rattle.clock_sim.specs.Steps.{run}

@@ -1,4 +1,4 @@
-use Rattle.std.proofs.Common.{◌≡◌, ℕ, List, Result, Ok, Err, MatchResult, refl}
+use Rattle.std.proofs.Common.{ℕ, List, Result, Ok, Err, MatchResult, refl}
 use Rattle.std.specs.Result.{IsOk}
 use Rattle.std.specs.Str.{IsUtf8}
 use Rattle.verilog_read.proofs.Texts.{is_text}

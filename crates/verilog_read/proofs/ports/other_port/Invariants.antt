@@ -1,4 +1,4 @@
-use Rattle.std.proofs.Common.{◌≡◌, ◌≤◌, drop, map, string_bytes}
+use Rattle.std.proofs.Common.{◌≡◌, drop, map, string_bytes}
 use Rattle.net_core.specs.Ports.{port_list, port_names}
 use Rattle.verilog_read.specs.Designs.{other_port}
 use Rattle.verilog_read.proofs.ports.other_port.Given as goal

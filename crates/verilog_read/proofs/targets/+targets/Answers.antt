@@ -1,9 +1,9 @@
-use Rattle.std.proofs.Common.{ap, arith, sym}
+use Rattle.std.proofs.Common.{ap, arith}
 use Rattle.net_core.specs.declared.tree.Net.{Net}
 use Rattle.net_core.specs.declared.tree.Stmts.{Stmts, size-Stmts}
 use Rattle.net_core.specs.declared.tree.Stmt.TheViews.{sized-Then}
 use Rattle.net_core.specs.View.{acts_of, act_of}
-use Rattle.verilog_read.proofs.Raised.{Notes, notes_start, notes_next, notes_end}
+use Rattle.verilog_read.proofs.Raised.{notes_start, notes_next, notes_end}
 use Rattle.verilog_read.proofs.targets.+targets.Goals as goal
 
 pub note_all-loop-left-init : goal.note_all-loop-left-init

@@ -1,4 +1,3 @@
-use Rattle.std.proofs.Common.{◌∙◌, ap}
 use Rattle.verilog_read.proofs.Free.{register_free, memory_free}
 use Rattle.verilog_read.proofs.partial.PartialNames.is_free.Goals as goal
 
