@@ -1,5 +1,5 @@
 -- Objects that are compiled.
-use Rattle.std.proofs.Common.{◌≡◌, ◌⊎◌, ℕ, List, Option, Result, Ok, Err, IsErrOf, sym, subst, inl, inr}
+use Rattle.std.proofs.Common.{◌≡◌, ◌⊎◌, ℕ, List, Option, Result, Ok, IsErrOf, subst, inl, inr}
 use Rattle.xdp_object.specs.declared.error.ObjectError.{ObjectError}
 use Rattle.xdp_object.specs.Object.{FirstFault}
 use Rattle.ehdl_build.specs.declared.built.Why.{Why}

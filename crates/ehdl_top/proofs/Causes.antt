@@ -1,6 +1,6 @@
 -- What is known of a command that has ended, and that its inputs decide it.
-use Rattle.std.proofs.Common.{◌≡◌, ◌≢◌, ◌⊎◌, ℕ, Bool, IsTrue, List, length, Option, Some, None, Result, Ok, Err, refl, ◌∙◌, ap, sym, subst, inl, inr}
-use Rattle.shelf_core.specs.Shelf.{Holding, Counts, SameHeld}
+use Rattle.std.proofs.Common.{◌≡◌, ◌≢◌, ◌⊎◌, ℕ, Bool, IsTrue, List, length, Option, Some, None, Result, Err, refl, ◌∙◌, ap, sym, subst, inl, inr}
+use Rattle.shelf_core.specs.Shelf.{Holding, SameHeld}
 use Rattle.net_core.specs.Nets.{Plan}
 use Rattle.net_core.specs.Clock.{first_stored}
 use Rattle.net_core.specs.History.{Drive, Ended, Answered, Stopped, OutOfClocks}
@@ -14,14 +14,14 @@ use Rattle.ehdl_top.specs.declared.status.Status.TheVariants as status
 use Rattle.ehdl_top.specs.declared.stop.Stop.{Stop}
 use Rattle.ehdl_top.specs.declared.stop.Stop.TheVariants as stop
 use Rattle.ehdl_top.specs.Status.{status_of}
-use Rattle.ehdl_top.specs.Files.{File, OneRose}
-use Rattle.ehdl_top.specs.Inputs.{HoldsObject, HoldsProgram, HoldsText, HoldsCapture, ObjectStops, ProgramStops, TextStops, CaptureStops}
-use Rattle.ehdl_top.specs.Outcome.{IsOutcome, IsSimulated, AreReady, InputStops, IsCause, drive_stop, inputs_of, outputs_of}
+use Rattle.ehdl_top.specs.Files.{File}
+use Rattle.ehdl_top.specs.Inputs.{HoldsObject, HoldsText, HoldsCapture, ObjectStops, ProgramStops, TextStops, CaptureStops}
+use Rattle.ehdl_top.specs.Outcome.{IsOutcome, IsSimulated, AreReady, InputStops, IsCause, drive_stop}
 use Rattle.ehdl_top.specs.Results.{frames_of}
-use Rattle.ehdl_top.specs.Ends.{HasWritten, HasBroken, EndsAs, IsGivenUp, Loses, AllWritten, ByInputs, IsEarly, IsFault, CanEnd, SaysWhy}
+use Rattle.ehdl_top.specs.Ends.{HasWritten, EndsAs, IsGivenUp, Loses, AllWritten, ByInputs, IsEarly, IsFault, CanEnd, SaysWhy}
 use Rattle.ehdl_top.specs.Steps.{EndsIn, StopsIn}
 use Rattle.ehdl_top.proofs.Files.{written_broken}
-use Rattle.ehdl_top.proofs.Inputs.{one_content, one_captured, object_apart, refused_object, program_ready, object_ready, text_ready, capture_ready}
+use Rattle.ehdl_top.proofs.Inputs.{one_content, one_captured, refused_object, program_ready, object_ready, text_ready, capture_ready}
 
 -- ---- where the inputs are in their forms
 ready_stops : (asked : Asked) (held : Holding) (s : Stop) → AreReady asked held → ¬ InputStops asked held s

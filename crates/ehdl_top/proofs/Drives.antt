@@ -16,7 +16,6 @@ use Rattle.port_drive.specs.Reports.{full_drive, Reports, Gives}
 use Rattle.port_drive.specs.declared.report.Drive as report
 use Rattle.port_drive.specs.declared.report.DriveError.{DriveError}
 use Rattle.port_drive.specs.declared.report.DriveError.TheVariants.{X, Late}
-use Rattle.ehdl_top.specs.declared.drive.Driven.{Driven}
 use Rattle.ehdl_top.specs.declared.stop.Stop.{Stop}
 use Rattle.ehdl_top.specs.declared.stop.Stop.TheVariants as stop
 use Rattle.ehdl_top.specs.Outcome.{drive_stop}

@@ -1,9 +1,9 @@
 -- Files that are written one after the other.
-use Rattle.std.proofs.Common.{◌≡◌, ◌≢◌, ◌⊎◌, ℕ, List, [], ◌∷◌, ◌++◌, length, map, Option, Some, refl, sym, ap, subst, ◌∙◌, inl, inr}
+use Rattle.std.proofs.Common.{◌≡◌, ℕ, List, [], ◌∷◌, ◌++◌, length, Option, Some, sym, ap, subst, ◌∙◌, inl, inr}
 use Rattle.std.proofs.Math.Seq.{take-length}
-use Rattle.shelf_core.specs.Shelf.{Holding, HoldsFront, SameHeld}
+use Rattle.shelf_core.specs.Shelf.{Holding, SameHeld}
 use Rattle.ehdl_top.specs.Output.{KeepsOrHoldsFront}
-use Rattle.ehdl_top.specs.Files.{File, name_of, names_in, HoldWhole, HoldFronts, IsOther, KeepsOthers, IsWritten, IsBroken}
+use Rattle.ehdl_top.specs.Files.{File, names_in, HoldWhole, HoldFronts, IsOther, KeepsOthers, IsWritten, IsBroken}
 
 -- each of these names is none of those
 abbrev pub AreOther : List (List ℕ) → List (List ℕ) → Type 0

@@ -1,5 +1,5 @@
 -- Two files that grow together, and what is left of them where a write fails.
-use Rattle.std.proofs.Common.{◌≡◌, ◌⊎◌, ℕ, List, [], ◌++◌, length, Option, Some, refl, sym, ap, subst, ◌∙◌, inl, inr}
+use Rattle.std.proofs.Common.{◌≡◌, ℕ, List, ◌++◌, length, Option, Some, sym, ap, subst, ◌∙◌, inl, inr}
 use Rattle.std.proofs.Math.Seq.{take-length}
 use Rattle.shelf_core.specs.Shelf.{Holding, HoldsFront, LeavesFront, appended}
 use Rattle.shelf_core.proofs.Fronts.{front_of_more, front_of_whole}

@@ -1,12 +1,12 @@
 -- What a name holds is one thing: not in its form and out of it, and not with two first faults.
 use Rattle.std.specs.Option.{option_or}
 use Rattle.std.specs.Prelude.{if◌then◌else◌}
-use Rattle.std.proofs.Common.{◌≡◌, ◌⊎◌, ℕ, ◌<◌, ◌≤◌, Bool, true, List, [], ◌∷◌, ◌++◌, length, Option, Some, None, refl, sym, ap, subst, ◌∙◌, arith, inl, inr, lt-ltb, Ok, Err, Result}
+use Rattle.std.proofs.Common.{◌≡◌, ℕ, ◌<◌, ◌≤◌, List, length, Option, Some, None, refl, ap, subst, ◌∙◌, arith, inl, inr, lt-ltb, Ok, Err, Result}
 use Rattle.shelf_core.specs.Shelf.{IsLonger}
 use Rattle.net_core.specs.Nets.{Plan}
 use Rattle.spelling_core.specs.Spelling.{Spells}
 use Rattle.pcap_core.specs.declared.error.PcapError.{PcapError}
-use Rattle.pcap_core.specs.Format.{Packet, Content, IsContent, IsHeaderFault}
+use Rattle.pcap_core.specs.Format.{Packet, Content, IsContent}
 use Rattle.pcap_core.specs.Reading.{content_of}
 use Rattle.pcap_core.proofs.All.{is-content_of, fault-content_of}
 use Rattle.verilog_read.specs.declared.error.ReadError.{ReadError}
@@ -17,11 +17,11 @@ use Rattle.xdp_object.specs.Object.{FirstFault, IsObject, too_long, wrong_elf}
 use Rattle.xdp_object.proofs.Outcomes.{one_outcome}
 use Rattle.xdp_object.proofs.Reading.{at_open}
 use Rattle.ehdl_build.specs.declared.built.Why.{Why}
-use Rattle.ehdl_build.specs.Compiled.{FirstRefusal, IsRefused}
+use Rattle.ehdl_build.specs.Compiled.{FirstRefusal}
 use Rattle.ehdl_top.specs.declared.stop.Stop.{Stop}
 use Rattle.ehdl_top.specs.declared.stop.Stop.TheVariants as stop
 use Rattle.ehdl_top.specs.declared.limits.TheConstants.{CAPTURE_LIMIT, VERILOG_LIMIT}
-use Rattle.ehdl_top.specs.Inputs.{HoldsObject, HoldsProgram, HoldsNoObject, HoldsRefused, HoldsText, HoldsNoText, HoldsCapture, HoldsNoCapture, IsCaptured, IsCaptureFault, ObjectStops, ProgramStops, TextStops, CaptureStops}
+use Rattle.ehdl_top.specs.Inputs.{HoldsObject, HoldsProgram, HoldsNoObject, HoldsRefused, HoldsText, HoldsNoText, HoldsCapture, HoldsNoCapture, IsCaptureFault, ObjectStops, ProgramStops, TextStops, CaptureStops}
 
 -- two contents of one name are one
 pub one_content : (held : Option (List ℕ)) (a b : List ℕ) → held ≡ Some a → held ≡ Some b → a ≡ b

@@ -1,9 +1,7 @@
 -- What a command is to write, from what its steps gave.
-use Rattle.std.proofs.Common.{◌≡◌, ◌⊎◌, ℕ, ◌≤◌, Bool, true, false, not, IsTrue, is_none, List, [], ◌∷◌, ◌++◌, length, map, Option, Some, None, suc, refl, sym, ap, subst, ◌∙◌, arith}
+use Rattle.std.proofs.Common.{◌≡◌, ℕ, ◌≤◌, Bool, true, false, not, IsTrue, is_none, List, [], ◌∷◌, ◌++◌, length, Option, Some, None, suc, refl, sym, ap, subst, ◌∙◌}
 use Rattle.shelf_core.specs.Shelf.{Holding}
 use Rattle.bpf_isa.specs.declared.instruction.Insn.{Insn}
-use Rattle.pcap_core.specs.declared.record.Rec.{Rec}
-use Rattle.pcap_core.specs.Next.{seen}
 use Rattle.pcap_core.specs.Format.{Packet}
 use Rattle.net_core.specs.Nets.{Plan}
 use Rattle.net_core.specs.Clock.{first_stored}
@@ -13,9 +11,8 @@ use Rattle.spelling_core.specs.Spelling.{Spells}
 use Rattle.xdp_object.specs.Program.{Listing}
 use Rattle.ehdl_build.specs.Realizes.{came_by}
 use Rattle.ehdl_build.specs.Compiled.{AreRuns, Realizes}
-use Rattle.command_words.specs.Asked.{Asked, AskCompile, AskRun, AskSim, Names, Selected}
+use Rattle.command_words.specs.Asked.{AskCompile, AskRun, AskSim, Names, Selected}
 use Rattle.ehdl_top.specs.declared.drive.Driven.{Driven}
-use Rattle.ehdl_top.specs.declared.stop.Stop.{Stop}
 use Rattle.ehdl_top.specs.Files.{file}
 use Rattle.ehdl_top.specs.Inputs.{HoldsObject, HoldsText, HoldsCapture, IsCaptured}
 use Rattle.ehdl_top.specs.declared.limits.TheConstants.{CAPTURE_LIMIT}

@@ -1,6 +1,6 @@
 -- A command that is given up at an input, and the parts of its end.
-use Rattle.std.proofs.Common.{◌≡◌, ◌≢◌, ◌⊎◌, ℕ, ◌≤◌, length, Bool, IsTrue, List, [], Option, Some, None, Result, Ok, Err, OnOk, sym, subst, inl, inr, arith}
-use Rattle.shelf_core.specs.Shelf.{Holding, SameHeld, IsLonger}
+use Rattle.std.proofs.Common.{◌≡◌, ◌≢◌, ◌⊎◌, ℕ, ◌≤◌, length, Bool, IsTrue, List, [], Option, Some, Result, Ok, Err, OnOk, sym, subst, inl, inr, arith}
+use Rattle.shelf_core.specs.Shelf.{Holding, SameHeld}
 use Rattle.net_core.specs.Nets.{Plan}
 use Rattle.xdp_object.specs.declared.error.ObjectError.{ObjectError}
 use Rattle.xdp_object.specs.declared.error.ObjectError.TheVariants as object
@@ -12,7 +12,7 @@ use Rattle.command_words.specs.AsksFor as words
 use Rattle.command_words.specs.AsksFor.{AsksFor}
 use Rattle.ehdl_top.specs.Outcome.{drive_stop}
 use Rattle.ehdl_top.specs.Ends.{HasWritten}
-use Rattle.ehdl_top.specs.Inputs.{HoldsObject, HoldsProgram, HoldsText, HoldsNoObject, HoldsRefused, HoldsNoText, HoldsNoCapture, IsTextFault, IsCaptureFault}
+use Rattle.ehdl_top.specs.Inputs.{HoldsObject, HoldsProgram, HoldsText}
 use Rattle.ehdl_top.specs.declared.limits.TheConstants.{CAPTURE_LIMIT, VERILOG_LIMIT}
 use Rattle.ehdl_top.specs.Steps.{EndsIn, CompileStops, ProgramUnread, ReadStops, ObjectUnread, VerilogStops, TextUnread, PacketStops, CaptureUnread, IsTextFor, IsBuilt, AreApart, NamesApart}
 use Rattle.ehdl_top.specs.declared.stop.Stop.{Stop}

@@ -1,5 +1,5 @@
 -- What the outputs hold where writing them ends early.
-use Rattle.std.proofs.Common.{Bool, true, ◌≡◌, ◌≢◌, ◌⊎◌, ℕ, suc, ◌≤◌, List, [], ◌∷◌, ◌++◌, length, Option, Some, refl, sym, ap, subst, ◌∙◌, arith, inl, inr, append_assoc, append-nil}
+use Rattle.std.proofs.Common.{Bool, true, ◌≡◌, ℕ, suc, ◌≤◌, List, [], ◌++◌, length, Option, Some, sym, ap, subst, ◌∙◌, inr, append_assoc}
 use Rattle.shelf_core.specs.Shelf.{Holding, HoldsFront, ChangesOnly}
 use Rattle.shelf_core.proofs.Fronts.{front_of_more}
 use Rattle.pcap_core.specs.Format.{Packet}
@@ -9,8 +9,8 @@ use Rattle.ehdl_top.specs.Output.{KeepsOrHoldsFront}
 use Rattle.ehdl_top.specs.Files.{HoldFronts}
 use Rattle.ehdl_top.specs.Results.{result_files, final_files, texts, record_at, line_at, answer_header, answer_bytes, verdict_lines}
 use Rattle.ehdl_top.specs.Steps.{HoldBoth, HoldBothFronts, KeepBoth, ChangesBoth, AreApart}
-use Rattle.ehdl_top.proofs.Fronts.{front_there, whole_there, both_more}
-use Rattle.ehdl_top.proofs.Texts.{others, answer_split, lines_split, texts_split}
+use Rattle.ehdl_top.proofs.Fronts.{whole_there, both_more}
+use Rattle.ehdl_top.proofs.Texts.{others, answer_split, lines_split}
 
 kept : (bytes front more : List ℕ) (old new : Option (List ℕ)) → bytes ≡ front ++ more → HoldsFront front new → KeepsOrHoldsFront bytes old new
 kept bytes front more old new e holds = let P : List ℕ → Type 0 = λ b. KeepsOrHoldsFront b old new in subst P (sym e) (inr (front_of_more front more new holds))

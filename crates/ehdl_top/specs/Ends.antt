@@ -1,5 +1,5 @@
 -- How a command ends.
-use Rattle.std.specs.Prelude.{◌≡◌, ◌⊎◌, ℕ, Bool, IsTrue, List, Option, Some, None}
+use Rattle.std.specs.Prelude.{◌≡◌, ◌⊎◌, ℕ, Bool, IsTrue, List, Option, Some}
 use Rattle.shelf_core.specs.Shelf.{Holding, SameHeld, appended, LeavesFront}
 use Rattle.command_words.specs.Asked.{Asked, AskCompile, AskRun, AskSim}
 use Rattle.ehdl_top.specs.Files.{File, IsWritten, IsBroken}

@@ -1,5 +1,5 @@
 -- Files by their names: what they are to hold, and what becomes of them.
-use Rattle.std.specs.Prelude.{◌≡◌, ◌≢◌, ◌⊎◌, ℕ, List, [], ◌∷◌, map, Option, Some}
+use Rattle.std.specs.Prelude.{◌≡◌, ◌≢◌, ◌⊎◌, ℕ, List, [], ◌∷◌, map, Some}
 use Rattle.shelf_core.specs.Shelf.{Holding, Counts, Rose}
 use Rattle.ehdl_top.specs.Output.{KeepsOrHoldsFront}
 

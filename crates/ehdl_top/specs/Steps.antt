@@ -1,5 +1,5 @@
 -- What the steps of a command give each other.
-use Rattle.std.specs.Prelude.{◌≡◌, ◌≢◌, ◌⊎◌, ℕ, ◌≤◌, Bool, IsTrue, List, [], length, map, Option, Some, None, Result, Ok, Err}
+use Rattle.std.specs.Prelude.{◌≡◌, ◌≢◌, ◌⊎◌, ℕ, ◌≤◌, Bool, IsTrue, List, [], length, Option, Some, None, Result, Ok, Err}
 use Rattle.shelf_core.specs.Shelf.{Holding, Counts, Rose, SameHeld, IsLonger, HoldsFront}
 use Rattle.pcap_core.specs.declared.record.Rec.{Rec}
 use Rattle.pcap_core.specs.Format.{IsLength}
@@ -15,7 +15,7 @@ use Rattle.command_words.specs.Asked.{Asked, AskCompile, AskRun, AskSim, Names}
 use Rattle.ehdl_top.specs.declared.limits.TheConstants.{CAPTURE_LIMIT, VERILOG_LIMIT}
 use Rattle.ehdl_top.specs.Status.{status_of}
 use Rattle.ehdl_top.specs.Output.{KeepsOrHoldsFront}
-use Rattle.ehdl_top.specs.Inputs.{HoldsObject, HoldsProgram, HoldsNoObject, HoldsRefused, HoldsNoText, IsTextFault, HoldsNoCapture, IsCaptureFault}
+use Rattle.ehdl_top.specs.Inputs.{HoldsProgram, HoldsNoObject, HoldsRefused, HoldsNoText, IsTextFault, HoldsNoCapture, IsCaptureFault}
 use Rattle.ehdl_top.specs.Outcome.{InputStops, drive_stop}
 use Rattle.ehdl_top.specs.Ends.{HasWritten, HasBroken, IsGivenUp, CanEnd}
 use Rattle.ehdl_top.specs.declared.drive.Driven.{Driven}

@@ -1,17 +1,16 @@
 -- What is spelled as a statement and keeps the rules is read as it.
 use Rattle.std.proofs.Common.{◌≡◌, ℕ, zero, suc, ◌<◌, ◌≤◌, Bool, true, false, not, Ok, List, [], ◌∷◌, ◌++◌, length, refl, sym, ap, ◌∙◌, subst, append_assoc, length-append, arith}
-use Rattle.std.proofs.lemmas.Bool.{and_parts, eq-eqb}
+use Rattle.std.proofs.lemmas.Bool.{eq-eqb}
 use Rattle.net_core.specs.declared.tree.Net.{Net}
 use Rattle.net_core.specs.declared.tree.Net.TheVariants as net
-use Rattle.net_core.specs.declared.tree.Prefix.TheVariants as prefix
-use Rattle.net_core.specs.Nets.{Tree, TConst, TRead, TBit, TBits, TCell, TBefore, TTwo, TChoose, TJoin, Act, ABlock, AIf, AIfElse, ASet, AStore, Acts, AEnd, AThen}
+use Rattle.net_core.specs.Nets.{Tree, Act, ABlock, AIf, AIfElse, ASet, AStore, Acts, AEnd, AThen}
 use Rattle.net_core.specs.Width.{Scope, width_of}
 use Rattle.verilog_lex.specs.declared.token.Keyword.TheVariants as keyword
 use Rattle.verilog_lex.specs.declared.token.Symbol.TheVariants as symbol
 use Rattle.verilog_lex.specs.Lexeme.{Lexeme, LName, LKeyword, LSymbol}
 use Rattle.spelling_core.specs.Grammar.{tree_lexemes}
 use Rattle.spelling_core.specs.FormedSyntax.{act_depth, acts_depth, ends_open}
-use Rattle.spelling_core.specs.FormedScope.{Sorts, reads_known}
+use Rattle.spelling_core.specs.FormedScope.{Sorts}
 use Rattle.phrase_read.specs.declared.entry.Entry.TheVariants as entry
 use Rattle.phrase_read.specs.Reads.{Read}
 use Rattle.phrase_read.specs.Lexemes.{lexeme_at}

@@ -1,5 +1,5 @@
-use Rattle.std.proofs.Common.{◌≡◌, subst}
-use Rattle.command_words.specs.Asked.{Asked, asked_of}
+use Rattle.std.proofs.Common.{subst}
+use Rattle.command_words.specs.Asked.{Asked}
 use Rattle.ehdl_top.specs.Files.{OneRose}
 use Rattle.ehdl_top.specs.Outcome.{inputs_of}
 use Rattle.ehdl_top.specs.Steps.{EndsIn}

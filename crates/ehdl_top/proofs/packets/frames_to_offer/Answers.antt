@@ -1,4 +1,4 @@
-use Rattle.std.proofs.Common.{rules, ◌≡◌, map, take, length, ap, sym, ◌∙◌}
+use Rattle.std.proofs.Common.{map, ap, sym, ◌∙◌}
 use Rattle.ehdl_top.proofs.Frames.{map_map, take_all}
 use Rattle.ehdl_top.proofs.packets.frames_to_offer.Goals as goal
 

@@ -1,4 +1,4 @@
-use Rattle.std.proofs.Common.{rules, ◌≡◌, IsTrue, List, ℕ, [], ◌∷◌, ◌++◌, Some, ap, ◌∙◌, append-nil, flat_map, sym}
+use Rattle.std.proofs.Common.{rules, IsTrue, [], Some, ap, ◌∙◌, append-nil, sym}
 use Rattle.ehdl_top.specs.Results.{answer_header}
 use Rattle.ehdl_top.proofs.Outputs.{on_err_from}
 use Rattle.ehdl_top.proofs.Fronts.{second_kept}

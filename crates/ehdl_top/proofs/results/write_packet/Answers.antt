@@ -1,4 +1,4 @@
-use Rattle.std.proofs.Common.{rules, ◌≡◌, IsTrue, Result, Ok, Err, OnErr, sym, ◌≢◌}
+use Rattle.std.proofs.Common.{rules, IsTrue, sym}
 use Rattle.ehdl_top.proofs.Outputs.{on_err, on_err_from}
 use Rattle.ehdl_top.proofs.Fronts.{first_broken, second_broken}
 use Rattle.ehdl_top.proofs.results.write_packet.Goals as goal

@@ -1,7 +1,5 @@
-use Rattle.std.proofs.Common.{rules, ◌≡◌, ◌++◌, ◌+◌, ◌<◌, ◌≤◌, suc, [], ◌∷◌, map, length, IsTrue, sym, ap, ◌∙◌, arith, append-nil}
+use Rattle.std.proofs.Common.{rules, ◌+◌, map, IsTrue, ◌∙◌, arith}
 use Rattle.pcap_core.specs.Next.{seen}
-use Rattle.ehdl_top.specs.Results.{record_at, line_at, answer_header, answer_bytes, verdict_lines}
-use Rattle.ehdl_top.specs.Steps.{KeepBoth}
 use Rattle.ehdl_top.proofs.Written.{keep_header, keep_there, keep_fronts, both_next}
 use Rattle.ehdl_top.proofs.results.write_packets.Goals as goal
 

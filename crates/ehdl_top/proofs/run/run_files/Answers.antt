@@ -1,5 +1,4 @@
-use Rattle.std.proofs.Common.{rules, ◌≡◌, ◌≤◌, ◌++◌, ◌∷◌, true, length, map, None, IsTrue, sym, ap, ◌∙◌, arith, inr}
-use Rattle.shelf_core.specs.Shelf.{SameHeld}
+use Rattle.std.proofs.Common.{rules, ◌≡◌, ◌++◌, ◌∷◌, true, length, map, None, IsTrue, ap, ◌∙◌, arith, inr}
 use Rattle.pcap_core.specs.Next.{seen}
 use Rattle.command_words.specs.Asked.{AskRun, names_of, selected_of}
 use Rattle.ehdl_top.specs.Files.{file}

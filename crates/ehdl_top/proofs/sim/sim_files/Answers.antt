@@ -1,4 +1,4 @@
-use Rattle.std.proofs.Common.{rules, ◌≡◌, ◌≤◌, ◌++◌, ◌∷◌, length, map, Option, Some, IsTrue, subst, sym, ap, ◌∙◌, arith, inr}
+use Rattle.std.proofs.Common.{rules, ◌++◌, length, map, Option, Some, IsTrue, subst, sym, ap, ◌∙◌, arith, inr}
 use Rattle.pcap_core.specs.Next.{seen}
 use Rattle.net_core.specs.Clock.{first_stored}
 use Rattle.net_core.specs.History.{Drive}
