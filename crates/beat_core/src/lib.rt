@@ -15,6 +15,3 @@ pub use frame::{FRAME_LIMIT, Frame, Meta};
 pub use gather::{Gather, frames_of};
 pub use laws::{beats_and_frames, frames_in_order, ports};
 pub use scatter::Scatter;
-
-#[cfg(test)]
-mod tests;

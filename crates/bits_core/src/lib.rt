@@ -5,8 +5,6 @@
 mod division;
 mod fields;
 mod signs;
-#[cfg(test)]
-mod tests;
 
 pub use division::{div_s, div_u, mod_s, mod_u};
 pub use fields::{join, mask, slice, swap};

@@ -15,8 +15,6 @@ mod fields;
 mod instruction;
 mod opcode;
 mod operation;
-#[cfg(test)]
-mod tests;
 mod unit;
 
 pub use decode::{DecodeError, decode_all, decode_one};

@@ -10,7 +10,6 @@ pub mod Keeping
 pub mod Clocking
 pub mod Turning
 pub mod Items
-pub mod Typing
 pub mod Compiling
 pub mod Showing
 pub mod Laying

@@ -5,4 +5,3 @@ pub mod Flat
 pub mod Orders
 pub mod Edges
 pub mod Layouts
-pub mod Examples

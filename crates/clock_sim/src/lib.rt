@@ -18,6 +18,3 @@ mod turn;
 mod wires;
 
 pub use sim::{Sim, XValue};
-
-#[cfg(test)]
-mod tests;

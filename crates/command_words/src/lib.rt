@@ -11,6 +11,3 @@ mod words;
 pub use command::{Choice, Command, Files};
 pub use read::read_command;
 pub use words::Words;
-
-#[cfg(test)]
-mod tests;

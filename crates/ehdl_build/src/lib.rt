@@ -3,7 +3,5 @@
 
 mod built;
 mod station;
-#[cfg(test)]
-mod tests;
 
 pub use built::{Built, CompileError, Why, compile};

@@ -23,6 +23,3 @@ pub use command_words::Words;
 pub use line::verdict_line;
 pub use output::write_parts;
 pub use status::Status;
-
-#[cfg(test)]
-mod tests;

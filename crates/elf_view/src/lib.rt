@@ -13,8 +13,6 @@ mod sizes;
 mod sole;
 mod strings;
 mod tables;
-#[cfg(test)]
-mod tests;
 mod view;
 
 pub use crate::error::ElfError;

@@ -164,6 +164,3 @@ pub fn joined(front: Word, back: Word) -> Word
         value: (front.value << back.width) + back.value,
     }
 }
-
-#[cfg(test)]
-mod tests;

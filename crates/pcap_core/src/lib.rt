@@ -15,6 +15,3 @@ pub use header::{MICROSECONDS, NANOSECONDS, write_header};
 pub use laws::one_reading;
 pub use order::Order;
 pub use record::{FRAME_LIMIT, Rec, write_record};
-
-#[cfg(test)]
-mod tests;

@@ -15,8 +15,6 @@ mod rest;
 mod right;
 mod stmt;
 mod target;
-#[cfg(test)]
-mod tests;
 mod value;
 
 pub use crate::entry::Entry;

@@ -1,4 +1,3 @@
 pub mod Giving
 pub mod Leaving
 pub mod Turning
-pub mod Typing

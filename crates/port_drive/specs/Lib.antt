@@ -1,4 +1,3 @@
 pub mod Answering
 pub mod Offering
 pub mod Reports
-pub mod Examples

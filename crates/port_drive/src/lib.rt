@@ -10,6 +10,3 @@ mod report;
 pub use answers::Answers;
 pub use driving::drive;
 pub use report::{Drive, DriveError};
-
-#[cfg(test)]
-mod tests;

@@ -18,6 +18,3 @@ pub use mem_shelf::MemShelf;
 pub use mem_sink::MemSink;
 pub use outside::{Failed, NoMemory, Shelf, Sink};
 pub use std_sink::StdSink;
-
-#[cfg(test)]
-mod tests;

@@ -1,4 +1,3 @@
-mod FormedSample
 pub mod FormedNames
 pub mod FormedSyntax
 pub mod FormedWires

@@ -61,6 +61,3 @@ pub fn well_formed(design: &Design) -> Result<(), NetError>
         Some(fault) => Err(fault),
     }
 }
-
-#[cfg(test)]
-mod tests;

@@ -12,8 +12,6 @@
 mod lex;
 mod number;
 mod piece;
-#[cfg(test)]
-mod tests;
 mod token;
 mod write;
 

@@ -15,8 +15,6 @@ mod read;
 mod section;
 mod sections;
 mod targets;
-#[cfg(test)]
-mod tests;
 
 pub use crate::error::ReadError;
 pub use crate::read::read_text;

@@ -16,7 +16,5 @@ mod item;
 mod names;
 mod spaced;
 mod statement;
-#[cfg(test)]
-mod tests;
 
 pub use crate::design::write_text;

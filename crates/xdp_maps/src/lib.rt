@@ -13,5 +13,3 @@ pub mod laws;
 pub mod short;
 pub mod state;
 mod table;
-#[cfg(test)]
-mod tests;

@@ -8,8 +8,6 @@ pub mod laws;
 mod program;
 mod read;
 mod relocations;
-#[cfg(test)]
-mod tests;
 mod text;
 mod units;
 

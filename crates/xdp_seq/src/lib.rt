@@ -8,8 +8,6 @@ mod laws;
 mod plan;
 mod run;
 mod step;
-#[cfg(test)]
-mod tests;
 
 pub use laws::{has_one_answer, is_deterministic, runs_keep_sizes, steps_change_only};
 pub use plan::{SeqPlan, run_packet};
