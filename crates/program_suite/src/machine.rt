@@ -1,0 +1,148 @@
+//! Cases of the sequential machine.
+
+use crate::bytes::Named;
+use crate::maps::Tables;
+use crate::numbers::{front, number, number_32};
+use anyhow::{Result, ensure};
+use beat_core::{FRAME_LIMIT, Frame, Meta};
+use bpf_isa::decode_all;
+use byteorder::{ByteOrder, LittleEndian};
+use std::alloc::Global;
+use xdp_seq::{Ended, SeqError, SeqPlan, run_packet};
+
+/// The most instructions of a program here.
+const INSN_LIMIT: usize = 65536;
+
+/// The program of a case, with a hole or without, its references to maps, and the interface that frames come in by.
+#[derive(Drop)]
+pub(crate) struct Machine {
+    alloc: Global,
+    before: Vec<u8>,
+    behind: Option<Vec<u8>>,
+    refs: Vec<u32>,
+    ifindex: u32,
+}
+
+impl Machine {
+    /// No program.
+    pub(crate) fn new(alloc: Global) -> Machine {
+        Machine {
+            alloc,
+            before: Vec::new(alloc),
+            behind: None,
+            refs: Vec::new(alloc),
+            ifindex: 1,
+        }
+    }
+
+    /// Does what a line says of the program, and whether it is such a line.
+    pub(crate) fn take(&mut self, named: &Named, verb: &str, rest: &str) -> Result<bool> {
+        match verb {
+            "code" => self.add(&named.bytes(rest)?)?,
+            "hole" => {
+                ensure!(self.behind.is_none(), "one hole");
+                self.behind = Some(Vec::new(self.alloc));
+            }
+            "refs" => self.refer(rest)?,
+            "interface" => self.ifindex = number_32(rest)?,
+            _ => return Ok(false),
+        }
+        Ok(true)
+    }
+
+    // Adds to the program, behind its hole where it has one.
+    fn add(&mut self, code: &[u8]) -> Result<()> {
+        match &mut self.behind {
+            Some(behind) => behind.extend_from_slice(code)?,
+            None => self.before.extend_from_slice(code)?,
+        }
+        Ok(())
+    }
+
+    // Adds places that refer to maps.
+    fn refer(&mut self, rest: &str) -> Result<()> {
+        for place in rest.split_whitespace() {
+            self.refs.push(number_32(place)?)?;
+        }
+        Ok(())
+    }
+
+    /// What a run leaves, if the verb is one.
+    pub(crate) fn answer(
+        &self,
+        named: &Named,
+        tables: &mut Tables,
+        verb: &str,
+        rest: &str,
+    ) -> Result<Option<String>> {
+        let (first, rest) = front(rest);
+        let answer = match verb {
+            "run" => self.run(tables, &named.bytes(rest)?, &named.bytes(first)?)?,
+            "compute" => self.compute(tables, &named.bytes(first)?, rest)?,
+            _ => return Ok(None),
+        };
+        Ok(Some(answer))
+    }
+
+    // A run over the frame of these bytes.
+    fn run(&self, tables: &mut Tables, hole: &[u8], bytes: &[u8]) -> Result<String> {
+        let mut frame = frame_of(self.alloc, bytes)?;
+        let end = self.end(tables, hole, &mut frame)?;
+        let digits = hex::encode(self.alloc, frame.bytes())?;
+        let pairs = tables.show()?;
+        Ok(format!(in self.alloc; "{end}, frame {digits}{pairs}")?)
+    }
+
+    // A run over a frame of numbers.
+    fn compute(&self, tables: &mut Tables, hole: &[u8], rest: &str) -> Result<String> {
+        let mut bytes = Vec::new(self.alloc);
+        for word in rest.split_whitespace() {
+            bytes.extend_from_slice(&number(word)?.to_le_bytes())?;
+        }
+        let mut frame = frame_of(self.alloc, &bytes)?;
+        let end = self.end(tables, hole, &mut frame)?;
+        let left = numbers_in(self.alloc, frame.bytes())?;
+        let pairs = tables.show()?;
+        Ok(format!(in self.alloc; "{end},{left}{pairs}")?)
+    }
+
+    // The end of a run.
+    fn end(&self, tables: &mut Tables, hole: &[u8], frame: &mut Frame) -> Result<String> {
+        let mut plan = self.plan(hole)?;
+        let meta = Meta { ifindex: self.ifindex };
+        match run_packet(&mut plan, &mut tables.maps, frame, meta) {
+            Ok(Ended { verdict, target }) => Ok(format!(in self.alloc; "verdict {verdict}, target {target}")?),
+            Err(SeqError::Stuck { at }) => Ok(format!(in self.alloc; "stuck at {at}")?),
+            Err(SeqError::Spent { at }) => Ok(format!(in self.alloc; "spent at {at}")?),
+        }
+    }
+
+    // The program, with these bytes in its hole.
+    #[tactic(auto, using(xdp_seq::proofs::Laid::unit_count_few))]
+    fn plan(&self, hole: &[u8]) -> Result<SeqPlan> {
+        let mut code = Vec::from_slice(self.alloc, &self.before)?;
+        code.extend_from_slice(hole)?;
+        if let Some(behind) = &self.behind {
+            code.extend_from_slice(behind)?;
+        }
+        let insns = decode_all(self.alloc, &code)?;
+        ensure!(insns.len() <= INSN_LIMIT, "a program too long");
+        Ok(SeqPlan::open(self.alloc, &insns, &self.refs)?)
+    }
+}
+
+// A frame of these bytes.
+fn frame_of(alloc: Global, bytes: &[u8]) -> Result<Frame> {
+    ensure!(1 <= bytes.len() && bytes.len() <= FRAME_LIMIT, "1 to 1536 bytes");
+    Ok(Frame::of(alloc, bytes)?)
+}
+
+// The numbers of 8 bytes that a frame has.
+fn numbers_in(alloc: Global, bytes: &[u8]) -> Result<String> {
+    let mut text = String::new(alloc);
+    for i in 0..bytes.len() / 8 {
+        let number = LittleEndian::read_u64(&bytes[8 * i..]);
+        text.push_str(format!(in alloc; " {number:#x}")?.as_str())?;
+    }
+    Ok(text)
+}
