@@ -1,0 +1,2 @@
+mod NameEnds
+mod Walks

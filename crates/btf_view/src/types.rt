@@ -1,0 +1,87 @@
+//! The type part: its types by their numbers.
+
+ghost use Rattle.std.specs.Prelude.{◌≡◌, ◌+◌, ◌*◌, ◌^◌, ◌<◌, ◌≤◌, ℕ, List, length, Some, IfOk, IfSome};
+ghost use Rattle.btf_view.specs.Rules.{FailsAs, type_fault, types_fault};
+ghost use Rattle.btf_view.specs.Types.{place_of, record_size};
+ghost use Rattle.btf_view.specs.Shapes.{HasMembers, shape_at, shape_of};
+
+use crate::error::BtfError;
+use crate::kind::TypeKind;
+use crate::read::{kind_at, record_size, u32_at, vlen_at};
+use crate::shape::Shape;
+use std::marker::Model;
+
+/// The type part, whose types are whole and of known kinds. Contracts see it as its bytes.
+#[derive(Drop)]
+pub struct Types<'a> {
+    bytes: &'a [u8],
+}
+
+impl<'a> Model for Types<'a> {
+    ghost use Rattle.std.specs.Prelude.{ℕ, List};
+    ghost use Rattle.btf_view.specs.Rules.{AreWhole};
+
+    ghost Value = { List ℕ };
+
+    ghost view = { λ t. t.bytes.now };
+
+    ghost invariant = { λ t. AreWhole t.bytes.now };
+}
+
+/// Where the type `id`, whose record begins at a place, ends. It is an error that it is not whole or of no kind.
+#[tactic(auto, unfolding(crate::specs::Rules::type_fault))]
+fn checked_end(types: &[u8], id: u32, at: usize) -> Result<usize, BtfError>
+    requires few { length types.now < 2 ^ 32 }
+    requires inside { at ≤ length types.now }
+    ensures error { FailsAs result (type_fault types.now id at) }
+    ensures end { IfOk result (λ end. end ≡ at + record_size types.now at) }
+    ensures inside { IfOk result (λ end. end ≤ length types.now) }
+{
+    if types.len() < at + 12 {
+        return Err(BtfError::Short);
+    }
+    if kind_at(types, at).is_none() {
+        return Err(BtfError::Kind { id });
+    }
+    let end = at + record_size(types, at);
+    if types.len() < end {
+        return Err(BtfError::Short);
+    }
+    Ok(end)
+}
+
+impl<'a> Types<'a> {
+    /// Checks the types of a type part: it fails with the first fault of one, in ascending order.
+    #[tactic(auto, using(crate::proofs::Walks::walks))]
+    pub fn open(bytes: &'a [u8]) -> Result<Types<'a>, BtfError>
+        requires { length bytes.now < 2 ^ 32 }
+        ensures error { FailsAs result (types_fault bytes.now) }
+        ensures whole { IfOk result (λ types. types ≡ bytes.now) }
+    {
+        let mut id = 0;
+        let mut at = 0;
+        while at < bytes.len() {
+            id += 1;
+            at = checked_end(bytes, id, at)?;
+        }
+        Ok(Types { bytes })
+    }
+
+    /// Where the record of type `id` begins, if there is such a type.
+    #[tactic(auto, using(crate::proofs::Walks::walks))]
+    pub fn place_of(&self, id: u32) -> Option<usize>
+        ensures place { result ≡ place_of self.now id }
+        ensures inside { IfSome result (λ at. at + record_size self.now at ≤ length self.now) }
+    {
+        let mut last = 0;
+        let mut at = 0;
+        while at < self.bytes.len() {
+            last += 1;
+            if last == id {
+                return Some(at);
+            }
+            at += record_size(self.bytes, at);
+        }
+        None
+    }
+}
