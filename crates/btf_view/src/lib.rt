@@ -9,6 +9,7 @@ mod kind;
 mod name;
 mod read;
 mod shape;
+mod sizes;
 mod strings;
 mod types;
 mod view;

@@ -50,6 +50,44 @@ fn checked_end(types: &[u8], id: u32, at: usize) -> Result<usize, BtfError>
     Ok(end)
 }
 
+/// The type whose record begins at a place, by what the definition of a map asks of it.
+#[tactic(auto, unfolding(crate::specs::Types::record_size))]
+fn shape_at(types: &[u8], at: usize) -> Shape
+    requires { at + record_size types.now at ≤ length types.now }
+    ensures shape { result ≡ shape_at types.now at }
+    ensures members { HasMembers types.now result }
+{
+    let Some(kind) = kind_at(types, at) else {
+        return Shape::Unsized;
+    };
+    let size_or_type = u32_at(types, at + 8);
+    match kind {
+        TypeKind::Var => Shape::Variable { id: size_or_type },
+        TypeKind::Struct => Shape::Structure {
+            place: at + 12,
+            count: vlen_at(types, at),
+            size: size_or_type,
+        },
+        TypeKind::Ptr => Shape::Pointer { id: size_or_type },
+        TypeKind::Array => Shape::ArrayOf {
+            id: u32_at(types, at + 12),
+            count: u32_at(types, at + 20),
+        },
+        TypeKind::Typedef
+        | TypeKind::Volatile
+        | TypeKind::Const
+        | TypeKind::Restrict
+        | TypeKind::TypeTag => Shape::Modifier { id: size_or_type },
+        TypeKind::Int
+        | TypeKind::Union
+        | TypeKind::Enum
+        | TypeKind::Float
+        | TypeKind::Datasec
+        | TypeKind::Enum64 => Shape::Sized { size: size_or_type },
+        TypeKind::Fwd | TypeKind::Func | TypeKind::FuncProto | TypeKind::DeclTag => Shape::Unsized,
+    }
+}
+
 impl<'a> Types<'a> {
     /// Checks the types of a type part: it fails with the first fault of one, in ascending order.
     #[tactic(auto, using(crate::proofs::Walks::walks))]
@@ -83,5 +121,17 @@ impl<'a> Types<'a> {
             at += record_size(self.bytes, at);
         }
         None
+    }
+
+    /// Type `id`, by what the definition of a map asks of it.
+    #[tactic(auto, unfolding(crate::specs::Shapes::shape_of))]
+    pub fn shape(&self, id: u32) -> Shape
+        ensures shape { result ≡ shape_of self.now id }
+        ensures members { HasMembers self.now result }
+    {
+        match self.place_of(id) {
+            Some(at) => shape_at(self.bytes, at),
+            None => Shape::Unsized,
+        }
     }
 }
