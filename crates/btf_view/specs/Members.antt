@@ -59,33 +59,35 @@ counterpart _ = None
 
 -- ---- the numbers that members say
 
+-- the count of an array
 abbrev pub count_of : ℕ → Shape → Result ℕ BtfError
 count_of member (ArrayOf id count) = Ok count
 count_of member _ = Err (Field member)
 
--- the count of the array that a type points to
-abbrev pub count_behind : List ℕ → ℕ → Shape → Result ℕ BtfError
-count_behind types member (Pointer id) = count_of member (shape_of types id)
-count_behind types member _ = Err (Field member)
+-- what a pointer to type `id` says: for `key` and `value` the size of that type, else the count of the array that it is
+abbrev pub pointed : List ℕ → ℕ → MemberName → ℕ → Result ℕ BtfError
+pointed types member Key id = map_ok capped (size_of types member 33 id)
+pointed types member Value id = map_ok capped (size_of types member 33 id)
+pointed types member _ id = count_of member (shape_of types id)
 
--- the size of the type that a type points to
-abbrev pub size_behind : List ℕ → ℕ → Shape → Result ℕ BtfError
-size_behind types member (Pointer id) = map_ok capped (size_of types member 33 id)
-size_behind types member _ = Err (Field member)
-
-abbrev pub number_by : MemberName → List ℕ → ℕ → Shape → Result ℕ BtfError
-number_by Key types member shape = size_behind types member shape
-number_by Value types member shape = size_behind types member shape
-number_by _ types member shape = count_behind types member shape
+abbrev pub number_by : List ℕ → ℕ → MemberName → Shape → Result ℕ BtfError
+number_by types member name (Pointer id) = pointed types member name id
+number_by types member name _ = Err (Field member)
 
 -- the number that member i says, by its name. Errors count members from 1 on
 unfoldable pub number_at : Members → MemberName → ℕ → Result ℕ BtfError
-number_at m name i = number_by name m.types (i + 1) (shape_of m.types (member_type m i))
+number_at m name i = number_by m.types (i + 1) name (shape_of m.types (member_type m i))
 
--- what the members in front of member i say by this name
+abbrev pub named : Members → MemberName → ℕ → Option ℕ
+named m name i = if is_named m.strings (member_name_off m i) (text_of name) then Some i else None
+
+-- the first member of a name in front of member i
+unfoldable pub member_before : Members → ℕ → MemberName → Option ℕ
+member_before m i name = first_from (named m name) 0 i
+
+-- the number that it says
 unfoldable pub number_before : Members → ℕ → MemberName → Option ℕ
-number_before m i name =
-    first_from (λ k. if is_named m.strings (member_name_off m k) (text_of name) then result_ok (number_at m name k) else None) 0 i
+number_before m i name = option_and_then (λ k. result_ok (number_at m name k)) (member_before m i name)
 
 -- ---- the first fault
 
@@ -101,7 +103,7 @@ number_fault m i name (Err e) = Some e
 abbrev pub named_fault : Members → ℕ → Option MemberName → Option BtfError
 named_fault m i None = Some (Field (i + 1))
 named_fault m i (Some name) =
-    if is_some (number_before m i name) then Some (Field (i + 1)) else number_fault m i name (number_at m name i)
+    if is_some (member_before m i name) then Some (Field (i + 1)) else number_fault m i name (number_at m name i)
 
 -- the fault of member i: its name cannot be read, is another, or stood before; it says no number; it says another
 -- number than its counterpart

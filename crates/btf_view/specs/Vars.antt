@@ -1,6 +1,5 @@
 -- The search for a variable by its name.
 use Rattle.std.specs.Prelude.{ℕ, Bool, true, false, List, is_none, if◌then◌else◌, Option, Some, None, unwrap_or, Result, Ok, Err}
-use Rattle.btf_view.specs.File.{Parts}
 use Rattle.btf_view.specs.Names.{is_named, name_at}
 use Rattle.btf_view.specs.Types.{first_of_types, kind_at, name_off_at}
 use Rattle.btf_view.specs.declared.kind.TypeKind.{TypeKind}
@@ -18,8 +17,8 @@ is_var_by (Some Var) named = named
 is_var_by _ named = Ok false
 
 -- whether the type at a place is one
-unfoldable pub is_var : Parts → List ℕ → ℕ → Result Bool BtfError
-is_var b name at = is_var_by (kind_at b.types at) (reads_name b.strings (name_off_at b.types at) name)
+unfoldable pub is_var : (types strings name : List ℕ) → ℕ → Result Bool BtfError
+is_var types strings name at = is_var_by (kind_at types at) (reads_name strings (name_off_at types at) name)
 
 -- the search goes on where a type is none
 abbrev pub var_answer : ℕ → Result Bool BtfError → Option (Result (Option ℕ) BtfError)
@@ -28,5 +27,6 @@ var_answer id (Ok false) = None
 var_answer id (Err e) = Some (Err e)
 
 -- the first VAR of this name, or none; or the error of the first name of a VAR before it that cannot be read
-unfoldable pub find_var : Parts → List ℕ → Result (Option ℕ) BtfError
-find_var b name = unwrap_or (first_of_types b.types (λ id at. var_answer id (is_var b name at))) (Ok None)
+unfoldable pub find_var : (types strings name : List ℕ) → Result (Option ℕ) BtfError
+find_var types strings name =
+    unwrap_or (first_of_types types (λ id at. var_answer id (is_var types strings name at))) (Ok None)

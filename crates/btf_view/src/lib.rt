@@ -12,6 +12,7 @@ mod shape;
 mod sizes;
 mod strings;
 mod types;
+mod vars;
 mod view;
 
 pub use crate::error::BtfError;

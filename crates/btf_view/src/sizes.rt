@@ -14,9 +14,9 @@ const MAX_STEPS: u32 = 32;
 /// As many steps lead through one type more.
 const MAX_TYPES: u32 = MAX_STEPS + 1;
 
-impl<'a> Types<'a> {
-    #[tactic(auto, using(crate::proofs::Chains::chains))]
+impl Types<'_> {
     /// Type `id` without its modifiers. It fails with `Depth` where there are more than 32.
+    #[tactic(auto, using(crate::proofs::Chains::chains))]
     pub fn unmodified(&self, mut id: u32) -> Result<Shape, BtfError>
         ensures shape { result ≡ unmodified self.now 33 id }
         ensures members { IfOk result (HasMembers self.now) }
@@ -30,9 +30,9 @@ impl<'a> Types<'a> {
         Err(BtfError::Depth)
     }
 
-    #[tactic(auto, using(crate::proofs::Chains::chains))]
     /// The size of type `id` in bytes, as far as 32 bits count it. It fails with `Depth` where more than 32 modifiers
     /// and arrays are on the way, and else with `Field` where a type without a size ends it.
+    #[tactic(auto, using(crate::proofs::Chains::chains))]
     pub fn size_of(&self, mut id: u32, member: u32) -> Result<u32, BtfError>
         ensures { result ≡ map_ok capped (size_of self.now member 33 id) }
     {

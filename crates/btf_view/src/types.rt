@@ -1,7 +1,7 @@
 //! The type part: its types by their numbers.
 
 ghost use Rattle.std.specs.Prelude.{◌≡◌, ◌+◌, ◌*◌, ◌^◌, ◌<◌, ◌≤◌, ℕ, List, length, Some, IfOk, IfSome};
-ghost use Rattle.btf_view.specs.Rules.{FailsAs, type_fault, types_fault};
+ghost use Rattle.btf_view.specs.Rules.{AreWhole, FailsAs, type_fault, types_fault};
 ghost use Rattle.btf_view.specs.Types.{place_of, record_size};
 ghost use Rattle.btf_view.specs.Shapes.{HasMembers, shape_at, shape_of};
 
@@ -103,6 +103,14 @@ impl<'a> Types<'a> {
             at = checked_end(bytes, id, at)?;
         }
         Ok(Types { bytes })
+    }
+
+    /// The bytes.
+    pub fn bytes(&self) -> &'a [u8]
+        ensures bytes { result.now ≡ self.now }
+        ensures whole { AreWhole self.now }
+    {
+        self.bytes
     }
 
     /// Where the record of type `id` begins, if there is such a type.
