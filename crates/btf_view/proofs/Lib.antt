@@ -1,3 +1,4 @@
 mod Chains
+mod Firsts
 mod NameEnds
 mod Walks

@@ -6,6 +6,7 @@ mod error;
 mod fields;
 mod header;
 mod kind;
+mod members;
 mod name;
 mod read;
 mod shape;
