@@ -8,7 +8,7 @@ use Rattle.std.proofs.lemmas.Slice.Eq.{bytes_eq-Decides}
 use Rattle.std.specs.List.{position_or_len}
 use Rattle.std.specs.Option.{option_map, option_map_or}
 use Rattle.std.specs.Str.{bytes_eq}
-use Rattle.btf_view.specs.Names.{EndAt, is_named, name_at}
+use Rattle.btf_view.specs.Names.{HasNamesBelow, is_named, name_at}
 
 abbrev pub is_zero : ℕ → Bool
 is_zero b = b == 0
@@ -45,11 +45,11 @@ is_some-name_at strings at =
     is_some-cond (λ n. take n (drop at strings)) (ltb (first (drop at strings)) (length (drop at strings))) (first (drop at strings))
 
 -- names end behind the last zero byte
-pub EndAt-last_zero : (strings : List ℕ) (end : ℕ) → end ≤ length strings
+pub HasNamesBelow-last_zero : (strings : List ℕ) (end : ℕ) → end ≤ length strings
     → ((k : ℕ) → end ≤ k → k < length strings → get_or strings k 0 ≢ 0)
     → (0 < end → get_or strings (end - 1) 0 ≡ 0)
-    → EndAt strings end
-EndAt-last_zero strings end inside none last at =
+    → HasNamesBelow strings end
+HasNamesBelow-last_zero strings end inside none last at =
     let size = length-drop at strings in
     is_some-name_at strings at ∙ elim (cases_lt at end) [
       | inl front ↦

@@ -3,6 +3,7 @@ use Rattle.std.proofs.Common.{◌≡◌, ℕ, zero, suc, ◌+◌, ◌-◌, ◌*�
 use Rattle.std.proofs.lemmas.Bool.{cases_lt, lt-ltb, le-ltb}
 use Rattle.std.proofs.lemmas.Bool.Decides.{nat_tests}
 use Rattle.std.specs.Option.{option_map_or, option_or}
+use Rattle.btf_view.proofs.Firsts.{first_from-next, first_from-none, none-first_from}
 use Rattle.btf_view.specs.Rules.{type_fault, types_fault}
 use Rattle.btf_view.specs.Types.{end_of, first_from, first_of_types, kind_at, place_of, record_size}
 use Rattle.btf_view.specs.declared.error.BtfError.TheVariants.{Short, Kind}
@@ -74,10 +75,9 @@ left-next : {X : Type 0} (types : List ℕ) (f : ℕ → ℕ → Option X) (last
 unfolding left
 left-next types f last inside =
     let few = least_end types last in
-    let n : length types - last ≡ suc (length types - (last + 1)) = omega arith in
-    let next : suc (last + 1) ≡ last + 1 + 1 = omega arith in
-    ap (first_from (asked types f) (last + 1)) n
-    ∙ ap (λ i. option_or (asked types f (last + 1)) (first_from (asked types f) i (length types - (last + 1)))) next
+    let n : length types - last - 1 ≡ length types - (last + 1) = omega arith in
+    first_from-next (asked types f) (last + 1) (length types - last) (omega arith)
+    ∙ ap (λ k. option_or (asked types f (last + 1)) (first_from (asked types f) (last + 1 + 1) k)) n
     ∙ ap (λ o. option_or (option_and_then (f (last + 1)) o) (first_from (asked types f) (last + 1 + 1) (length types - (last + 1))))
     (place_of-inside types last inside)
 
@@ -93,37 +93,15 @@ pub left-found : {X : Type 0} (types : List ℕ) (f : ℕ → ℕ → Option X) 
 left-found types f last x inside found =
     left-next types f last inside ∙ ap (λ o. option_or o (left types f (last + 1))) found
 
-none_from : {X : Type 0} (f : ℕ → Option X) (i n : ℕ) → ((k : ℕ) → i ≤ k → f k ≡ None) → first_from f i n ≡ None
-none_from f i zero h = refl
-none_from f i (suc n) h =
-    ap (λ o. option_or o (first_from f (suc i) n)) (h i (omega arith)) ∙ none_from f (suc i) n (λ k le. h k (omega arith))
-
 -- there is none behind the last type
 pub left-all : {X : Type 0} (types : List ℕ) (f : ℕ → ℕ → Option X) (last : ℕ) → length types ≤ end_of types last
     → left types f last ≡ None
 unfolding left
 left-all types f last past =
-    none_from (asked types f) (last + 1) (length types - last)
+    first_from-none (asked types f) (last + 1) (length types - last)
     (λ k h. ap (option_and_then (f k)) (place_of-past types last k past (λ _. omega arith)))
 
 -- ---- a question without an answer
-
-option_or-first : {X : Type 0} (o p : Option X) → option_or o p ≡ None → o ≡ None
-option_or-first None p e = refl
-option_or-first (Some x) p e = e
-
-option_or-second : {X : Type 0} (o p : Option X) → option_or o p ≡ None → p ≡ None
-option_or-second None p e = e
-option_or-second (Some x) p e = cc
-
-none_at : {X : Type 0} (f : ℕ → Option X) (i n k : ℕ) → first_from f i n ≡ None → i ≤ k → k < i + n → f k ≡ None
-none_at f i zero k e low high = absurd (omega arith)
-none_at f i (suc n) k e low high = elim (cases_lt i k) [
-  | inl later ↦ none_at f (suc i) n k (option_or-second (f i) (first_from f (suc i) n) e) (omega arith) (omega arith)
-  | inr first ↦
-      let same : k ≡ i = omega arith in
-      ap f same ∙ option_or-first (f i) (first_from f (suc i) n) e
-]
 
 -- no type answers it
 pub first_of_types-none : {X : Type 0} (types : List ℕ) (f : ℕ → ℕ → Option X) (last : ℕ) → first_of_types types f ≡ None
@@ -132,7 +110,7 @@ unfolding first_of_types
 first_of_types-none types f last e inside =
     let few = least_end types last in
     sym (ap (option_and_then (f (last + 1))) (place_of-inside types last inside))
-    ∙ none_at (asked types f) 1 (length types) (last + 1) e (omega arith) (omega arith)
+    ∙ none-first_from (asked types f) 1 (length types) (last + 1) e (omega arith) (omega arith)
 
 -- a type without fault is whole
 whole : (types : List ℕ) (id at : ℕ) → type_fault types id at ≡ None → at + record_size types at ≤ length types

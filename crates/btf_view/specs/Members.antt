@@ -17,17 +17,17 @@ use Rattle.btf_view.specs.declared.error.BtfError.{BtfError}
 use Rattle.btf_view.specs.declared.error.BtfError.TheVariants.{Short, Field}
 
 -- `count` members, from a place of the type part on: records of 12 bytes (name, type, offset)
-pub record Members : Type 0 where
+pub record MemberTable : Type 0 where
   pub types : List ℕ
   pub strings : List ℕ
   pub place : ℕ
   pub count : ℕ
 
 -- the name and the type of member i, from 0 on
-abbrev pub member_name_off : Members → ℕ → ℕ
+abbrev pub member_name_off : MemberTable → ℕ → ℕ
 member_name_off m i = u32_at m.types (m.place + 12 * i)
 
-abbrev pub member_type : Members → ℕ → ℕ
+abbrev pub member_type : MemberTable → ℕ → ℕ
 member_type m i = u32_at m.types (m.place + 12 * i + 4)
 
 -- ---- the names that members may have
@@ -75,54 +75,54 @@ number_by types member name (Pointer id) = pointed types member name id
 number_by types member name _ = Err (Field member)
 
 -- the number that member i says, by its name. Errors count members from 1 on
-unfoldable pub number_at : Members → MemberName → ℕ → Result ℕ BtfError
-number_at m name i = number_by m.types (i + 1) name (shape_of m.types (member_type m i))
+unfoldable pub number_at : MemberTable → ℕ → MemberName → Result ℕ BtfError
+number_at m i name = number_by m.types (i + 1) name (shape_of m.types (member_type m i))
 
-abbrev pub named : Members → MemberName → ℕ → Option ℕ
+abbrev pub named : MemberTable → MemberName → ℕ → Option ℕ
 named m name i = if is_named m.strings (member_name_off m i) (text_of name) then Some i else None
 
 -- the first member of a name in front of member i
-unfoldable pub member_before : Members → ℕ → MemberName → Option ℕ
+unfoldable pub member_before : MemberTable → ℕ → MemberName → Option ℕ
 member_before m i name = first_from (named m name) 0 i
 
 -- the number that it says
-unfoldable pub number_before : Members → ℕ → MemberName → Option ℕ
-number_before m i name = option_and_then (λ k. result_ok (number_at m name k)) (member_before m i name)
+unfoldable pub number_before : MemberTable → ℕ → MemberName → Option ℕ
+number_before m i name = option_and_then (λ k. result_ok (number_at m k name)) (member_before m i name)
 
 -- ---- the first fault
 
 -- the counterpart, if it is there, says another number
-abbrev pub differs : Members → ℕ → MemberName → ℕ → Bool
+abbrev pub differs : MemberTable → ℕ → MemberName → ℕ → Bool
 differs m i name n =
     option_map_or (λ k. not (k == n)) (option_and_then (number_before m i) (counterpart name)) false
 
-abbrev pub number_fault : Members → ℕ → MemberName → Result ℕ BtfError → Option BtfError
+abbrev pub number_fault : MemberTable → ℕ → MemberName → Result ℕ BtfError → Option BtfError
 number_fault m i name (Ok n) = if differs m i name n then Some (Field (i + 1)) else None
 number_fault m i name (Err e) = Some e
 
-abbrev pub named_fault : Members → ℕ → Option MemberName → Option BtfError
+abbrev pub named_fault : MemberTable → ℕ → Option MemberName → Option BtfError
 named_fault m i None = Some (Field (i + 1))
 named_fault m i (Some name) =
-    if is_some (member_before m i name) then Some (Field (i + 1)) else number_fault m i name (number_at m name i)
+    if is_some (member_before m i name) then Some (Field (i + 1)) else number_fault m i name (number_at m i name)
 
 -- the fault of member i: its name cannot be read, is another, or stood before; it says no number; it says another
 -- number than its counterpart
-unfoldable pub member_fault : Members → ℕ → Option BtfError
+unfoldable pub member_fault : MemberTable → ℕ → Option BtfError
 member_fault m i =
     if is_none (name_at m.strings (member_name_off m i)) then Some Short
     else named_fault m i (member_name_at m.strings (member_name_off m i))
 
-unfoldable pub members_fault : Members → Option BtfError
+unfoldable pub members_fault : MemberTable → Option BtfError
 members_fault m = first_from (member_fault m) 0 m.count
 
 -- ---- the fields
 
 -- what the members say by a name
-abbrev pub said : Members → MemberName → Option ℕ
+abbrev pub said : MemberTable → MemberName → Option ℕ
 said m name = number_before m m.count name
 
 -- a number that no member says is 0, but the type of the map is none then. `pinning` is for the loader alone
-unfoldable pub fields_of : Members → MapFields
+unfoldable pub fields_of : MemberTable → MapFields
 fields_of m = record {
   kind = said m MapType;
   key = unwrap_or (option_or (said m Key) (said m KeySize)) 0;

@@ -11,6 +11,6 @@ name_at strings at = option_map (λ n. take n (drop at strings)) (position (λ b
 unfoldable pub is_named : List ℕ → ℕ → List ℕ → Bool
 is_named strings at name = option_map_or (λ n. bytes_eq n name) (name_at strings at) false
 
--- exactly the names that begin in front of a place end in the string part
-abbrev pub EndAt : List ℕ → ℕ → Type 0
-EndAt strings end = (at : ℕ) → is_some (name_at strings at) ≡ nat_lt at end
+-- names begin at exactly the places in front of an end
+abbrev pub HasNamesBelow : List ℕ → ℕ → Type 0
+HasNamesBelow strings end = (at : ℕ) → is_some (name_at strings at) ≡ nat_lt at end

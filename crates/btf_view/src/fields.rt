@@ -11,5 +11,6 @@ pub struct MapFields {
     pub value: u32,
     /// The greatest number of entries.
     pub cap: u32,
+    /// Its flags, as `linux/bpf.h` has them.
     pub flags: u32,
 }

@@ -14,9 +14,9 @@ use crate::strings::Strings;
 use crate::types::Types;
 use std::marker::Model;
 
-/// The members of a structure that defines a map: `count` records of 12 bytes, from a place of the type part on. They
-/// are looked at where they stand, and since those without fault have different names of eight, there is nothing to
-/// keep.
+/// The members of a structure that defines a map: `count` records of 12 bytes, from a place of the type part on. There
+/// are eight names, and a second member of one name is at fault, so no more than nine members are looked at. Earlier
+/// ones are looked up again where they are asked for, and nothing is kept.
 #[derive(Drop)]
 pub struct Members<'v> {
     types: &'v Types<'v>,
@@ -27,9 +27,9 @@ pub struct Members<'v> {
 
 impl<'v> Model for Members<'v> {
     ghost use Rattle.std.specs.Prelude.{◌+◌, ◌*◌, ◌^◌, ◌<◌, ◌≤◌, length};
-    ghost use Rattle.btf_view.specs.Members.{Members as MembersOf};
+    ghost use Rattle.btf_view.specs.Members.{MemberTable};
 
-    ghost Value = { MembersOf };
+    ghost Value = { MemberTable };
 
     ghost view = { λ m. record { types = m.types.now; strings = m.strings.now; place = m.place; count = m.count } };
 
@@ -95,7 +95,7 @@ impl<'v> Members<'v> {
     #[tactic(auto, unfolding(crate::specs::Members::number_at))]
     fn number(&self, i: u32, name: MemberName) -> Result<u32, BtfError>
         requires { i < self.now.count }
-        ensures { result ≡ number_at self.now name i }
+        ensures { result ≡ number_at self.now i name }
     {
         let shape = self.types.shape(self.type_of(i));
         let member = i + 1;

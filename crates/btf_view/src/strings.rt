@@ -14,13 +14,13 @@ pub struct Strings<'a> {
 
 impl<'a> Model for Strings<'a> {
     ghost use Rattle.std.specs.Prelude.{ℕ, List};
-    ghost use Rattle.btf_view.specs.Names.{EndAt};
+    ghost use Rattle.btf_view.specs.Names.{HasNamesBelow};
 
     ghost Value = { List ℕ };
 
     ghost view = { λ s. s.bytes.now };
 
-    ghost invariant = { λ s. EndAt s.bytes.now s.end };
+    ghost invariant = { λ s. HasNamesBelow s.bytes.now s.end };
 }
 
 /// The place of the first zero byte.
