@@ -1,11 +1,9 @@
 -- A chain of types, one step after the other.
-use Rattle.std.proofs.Common.{◌≡◌, ◌≢◌, ℕ, zero, suc, ◌+◌, ◌-◌, ◌*◌, ◌^◌, ◌<◌, ◌≤◌, min, List, Result, Ok, Err, refl, sym, ap, ◌∙◌, arith, inl, inr}
+use Rattle.std.proofs.Common.{◌≡◌, ℕ, zero, suc, ◌+◌, ◌-◌, ◌*◌, ◌^◌, ◌<◌, ◌≤◌, min, List, Result, Ok, Err, refl, ap, ◌∙◌, arith, inl, inr}
 use Rattle.std.proofs.Math.Nat.{mul_assoc}
 use Rattle.std.proofs.lemmas.Bool.{cases_lt}
 use Rattle.btf_view.specs.Shapes.{shape_of}
 use Rattle.btf_view.specs.Sizes.{capped, map_ok, size_by, size_of, unmodified, unmodified_by}
-use Rattle.btf_view.specs.declared.shape.Shape.{Shape}
-use Rattle.btf_view.specs.declared.shape.Shape.TheVariants.{Variable, Structure, Pointer, ArrayOf, Modifier, Sized, Unsized}
 use Rattle.btf_view.specs.declared.error.BtfError.{BtfError}
 use Rattle.btf_view.specs.declared.error.BtfError.TheVariants.{Depth}
 

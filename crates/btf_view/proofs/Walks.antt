@@ -1,12 +1,11 @@
 -- A walk over the types: one after the other, in ascending order.
-use Rattle.std.proofs.Common.{◌≡◌, ℕ, zero, suc, ◌+◌, ◌-◌, ◌*◌, ◌<◌, ◌≤◌, ltb, cond, List, length, Option, Some, None, refl, sym, ap, ◌∙◌, arith, inl, inr, option_and_then, add-one, add-zero}
+use Rattle.std.proofs.Common.{◌≡◌, ℕ, zero, suc, ◌+◌, ◌-◌, ◌*◌, ◌<◌, ◌≤◌, cond, List, length, Option, Some, None, refl, sym, ap, ◌∙◌, arith, inl, inr, option_and_then, add-one, add-zero}
 use Rattle.std.proofs.lemmas.Bool.{cases_lt, lt-ltb, le-ltb}
 use Rattle.std.proofs.lemmas.Bool.Decides.{nat_tests}
-use Rattle.std.specs.Option.{option_map_or, option_or}
+use Rattle.std.specs.Option.{option_or}
 use Rattle.btf_view.proofs.Firsts.{first_from-next, first_from-none, none-first_from}
 use Rattle.btf_view.specs.Rules.{type_fault, types_fault}
-use Rattle.btf_view.specs.Types.{end_of, first_from, first_of_types, kind_at, place_of, record_size}
-use Rattle.btf_view.specs.declared.error.BtfError.TheVariants.{Short, Kind}
+use Rattle.btf_view.specs.Types.{end_of, first_from, first_of_types, place_of, record_size}
 
 -- ---- where types begin
 

@@ -1,5 +1,5 @@
 -- The definition of a map: a VAR of a STRUCT type, whose members say the fields.
-use Rattle.std.specs.Prelude.{ℕ, List, Option, Some, None, Result, Ok, Err}
+use Rattle.std.specs.Prelude.{ℕ, Option, Some, None, Result, Ok, Err}
 use Rattle.btf_view.specs.File.{Parts}
 use Rattle.btf_view.specs.Members.{MemberTable, fields_of, members_fault}
 use Rattle.btf_view.specs.Shapes.{shape_of}

@@ -1,6 +1,6 @@
 -- The members of a STRUCT that defines a map, as libbpf reads them: `__uint(name, n)` is a pointer to an array of n,
 -- `__type(name, t)` a pointer to t.
-use Rattle.std.specs.Prelude.{ℕ, suc, ◌+◌, ◌*◌, ◌==◌, Bool, true, false, not, ◌||◌, is_none, is_some, if◌then◌else◌, List, [], ◌∷◌, codes, find, Option, Some, None, option_and_then, unwrap_or, Result, Ok, Err}
+use Rattle.std.specs.Prelude.{ℕ, ◌+◌, ◌*◌, ◌==◌, Bool, false, not, is_none, is_some, if◌then◌else◌, List, [], ◌∷◌, codes, find, Option, Some, None, option_and_then, unwrap_or, Result, Ok, Err}
 use Rattle.std.specs.Option.{option_map_or, option_or}
 use Rattle.std.specs.Result.{result_ok}
 use Rattle.btf_view.specs.Names.{is_named, name_at}

@@ -22,7 +22,7 @@ is_outside bytes off len = nat_lt (length bytes) (hdr_len bytes + off + len)
 unfoldable pub short_parts : List ℕ → Option BtfError
 short_parts bytes =
     if nat_lt (hdr_len bytes) 24 || is_outside bytes (type_off bytes) (type_len bytes)
-        || is_outside bytes (str_off bytes) (str_len bytes)
+    || is_outside bytes (str_off bytes) (str_len bytes)
     then Some Short
     else None
 

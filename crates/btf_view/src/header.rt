@@ -1,6 +1,6 @@
 //! The header, and the parts that it names.
 
-ghost use Rattle.std.specs.Prelude.{◌≡◌, ◌+◌, ◌*◌, ◌^◌, ◌<◌, ◌≤◌, ◌==◌, ◌&&◌, ◌||◌, length, nat_lt, OnOk};
+ghost use Rattle.std.specs.Prelude.{◌≡◌, ◌+◌, ◌^◌, ◌<◌, ◌≤◌, length, OnOk};
 ghost use Rattle.btf_view.specs.File.{hdr_len, part, str_len, str_off, type_len, type_off};
 ghost use Rattle.btf_view.specs.Rules.{FailsAs, is_outside, short_header, short_parts, wrong_magic};
 

@@ -1,6 +1,6 @@
 //! The kinds of types.
 
-ghost use Rattle.std.specs.Prelude.{◌≡◌, ◌+◌, ◌*◌, ◌^◌, ◌<◌, ◌≤◌};
+ghost use Rattle.std.specs.Prelude.{◌≡◌, ◌^◌, ◌<◌};
 ghost use Rattle.btf_view.specs.Kinds.{data_size, kind_of};
 
 /// The kind of a type, by the names of `Documentation/bpf/btf.rst`, numbered from 1 on.
@@ -64,7 +64,8 @@ pub fn data_size(kind: TypeKind, vlen: u32) -> usize
     match kind {
         TypeKind::Int | TypeKind::Var | TypeKind::DeclTag => 4,
         TypeKind::Array => 12,
-        TypeKind::Struct | TypeKind::Union | TypeKind::Datasec | TypeKind::Enum64 => 12 * vlen as usize,
+        TypeKind::Struct | TypeKind::Union | TypeKind::Datasec | TypeKind::Enum64 => 12
+            * vlen as usize,
         TypeKind::Enum | TypeKind::FuncProto => 8 * vlen as usize,
         _ => 0,
     }

@@ -18,5 +18,4 @@ mod view;
 
 pub use crate::error::BtfError;
 pub use crate::fields::MapFields;
-
 pub use crate::view::BtfView;

@@ -1,6 +1,6 @@
 //! Reading the numbers of a part, and the fields of a type's record.
 
-ghost use Rattle.std.specs.Prelude.{◌≡◌, ◌+◌, ◌*◌, ◌^◌, ◌<◌, ◌≤◌, length};
+ghost use Rattle.std.specs.Prelude.{◌≡◌, ◌+◌, ◌^◌, ◌<◌, ◌≤◌, length};
 ghost use Rattle.btf_view.specs.Numbers.{u16_at, u32_at};
 ghost use Rattle.btf_view.specs.Types.{kind_at, record_size, vlen_at};
 

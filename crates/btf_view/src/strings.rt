@@ -1,6 +1,6 @@
 //! The string part: its names.
 
-ghost use Rattle.std.specs.Prelude.{◌≡◌, ◌+◌, ◌<◌, ◌≤◌, ◌==◌, ℕ, is_some, nat_lt, drop, length, position, take, IfSome};
+ghost use Rattle.std.specs.Prelude.{◌≡◌, ◌<◌, ◌==◌, is_some, drop, length, position, take, IfSome};
 ghost use Rattle.btf_view.specs.Names.{is_named, name_at};
 
 use std::marker::Model;

@@ -1,6 +1,6 @@
 //! The type part: its types by their numbers.
 
-ghost use Rattle.std.specs.Prelude.{◌≡◌, ◌+◌, ◌*◌, ◌^◌, ◌<◌, ◌≤◌, ℕ, List, length, Some, IfOk, IfSome};
+ghost use Rattle.std.specs.Prelude.{◌≡◌, ◌+◌, ◌^◌, ◌<◌, ◌≤◌, length, IfOk, IfSome};
 ghost use Rattle.btf_view.specs.Rules.{AreWhole, FailsAs, type_fault, types_fault};
 ghost use Rattle.btf_view.specs.Types.{place_of, record_size};
 ghost use Rattle.btf_view.specs.Shapes.{HasMembers, shape_at, shape_of};

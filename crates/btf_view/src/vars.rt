@@ -1,6 +1,6 @@
 //! The search for a variable.
 
-ghost use Rattle.std.specs.Prelude.{◌≡◌, ◌+◌, ◌*◌, ◌^◌, ◌<◌, ◌≤◌, length};
+ghost use Rattle.std.specs.Prelude.{◌≡◌, ◌+◌, ◌≤◌, length};
 ghost use Rattle.btf_view.specs.Vars.{find_var, is_var};
 
 use crate::error::BtfError;
