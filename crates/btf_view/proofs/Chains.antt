@@ -3,21 +3,21 @@ use Rattle.std.proofs.Common.{◌≡◌, ℕ, zero, suc, ◌+◌, ◌-◌, ◌*�
 use Rattle.std.proofs.Math.Nat.{mul_assoc}
 use Rattle.std.proofs.lemmas.Bool.{cases_lt}
 use Rattle.btf_view.specs.Shapes.{shape_of}
-use Rattle.btf_view.specs.Sizes.{capped, map_ok, size_by, size_of, unmodified, unmodified_by}
+use Rattle.btf_view.specs.Sizes.{capped, map_ok, most_types, size_by, size_of, unmodified, unmodified_by}
 use Rattle.btf_view.specs.declared.error.BtfError.{BtfError}
 use Rattle.btf_view.specs.declared.error.BtfError.TheVariants.{Depth}
 
 -- ---- modifiers
 
-pub unmodified-next : (types : List ℕ) (i id : ℕ) → i < 33
-    → unmodified types (33 - i) id ≡ unmodified_by (unmodified types (33 - (i + 1))) (shape_of types id)
+pub unmodified-next : (types : List ℕ) (i id : ℕ) → i < most_types
+    → unmodified types (most_types - i) id ≡ unmodified_by (unmodified types (most_types - (i + 1))) (shape_of types id)
 unfolding unmodified
 unmodified-next types i id h =
-    let e : 33 - i ≡ suc (33 - (i + 1)) = omega arith in ap (λ n. unmodified types n id) e
+    let e : most_types - i ≡ suc (most_types - (i + 1)) = omega arith in ap (λ n. unmodified types n id) e
 
-pub unmodified-all : (types : List ℕ) (i id : ℕ) → 33 ≤ i → unmodified types (33 - i) id ≡ Err Depth
+pub unmodified-all : (types : List ℕ) (i id : ℕ) → most_types ≤ i → unmodified types (most_types - i) id ≡ Err Depth
 unfolding unmodified
-unmodified-all types i id h = let e : 33 - i ≡ 0 = omega arith in ap (λ n. unmodified types n id) e
+unmodified-all types i id h = let e : most_types - i ≡ 0 = omega arith in ap (λ n. unmodified types n id) e
 
 -- ---- sizes
 
@@ -25,15 +25,15 @@ unmodified-all types i id h = let e : 33 - i ≡ 0 = omega arith in ap (λ n. un
 abbrev pub scaled : ℕ → Result ℕ BtfError → Result ℕ BtfError
 scaled times r = map_ok (λ size. min (times * size) (2 ^ 32 - 1)) r
 
-pub size_of-next : (types : List ℕ) (member i id : ℕ) → i < 33
-    → size_of types member (33 - i) id ≡ size_by member (size_of types member (33 - (i + 1))) (shape_of types id)
+pub size_of-next : (types : List ℕ) (member i id : ℕ) → i < most_types
+    → size_of types member (most_types - i) id ≡ size_by member (size_of types member (most_types - (i + 1))) (shape_of types id)
 unfolding size_of
 size_of-next types member i id h =
-    let e : 33 - i ≡ suc (33 - (i + 1)) = omega arith in ap (λ n. size_of types member n id) e
+    let e : most_types - i ≡ suc (most_types - (i + 1)) = omega arith in ap (λ n. size_of types member n id) e
 
-pub size_of-all : (types : List ℕ) (member i id : ℕ) → 33 ≤ i → size_of types member (33 - i) id ≡ Err Depth
+pub size_of-all : (types : List ℕ) (member i id : ℕ) → most_types ≤ i → size_of types member (most_types - i) id ≡ Err Depth
 unfolding size_of
-size_of-all types member i id h = let e : 33 - i ≡ 0 = omega arith in ap (λ n. size_of types member n id) e
+size_of-all types member i id h = let e : most_types - i ≡ 0 = omega arith in ap (λ n. size_of types member n id) e
 
 pub scaled-once : (r : Result ℕ BtfError) → scaled 1 r ≡ map_ok capped r
 scaled-once (Ok n) = ap (λ k. Ok (min k (2 ^ 32 - 1))) (omega arith)

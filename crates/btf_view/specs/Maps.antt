@@ -3,7 +3,7 @@ use Rattle.std.specs.Prelude.{ℕ, Option, Some, None, Result, Ok, Err}
 use Rattle.btf_view.specs.File.{Parts}
 use Rattle.btf_view.specs.Members.{MemberTable, fields_of, members_fault}
 use Rattle.btf_view.specs.Shapes.{shape_of}
-use Rattle.btf_view.specs.Sizes.{unmodified}
+use Rattle.btf_view.specs.Sizes.{most_types, unmodified}
 use Rattle.btf_view.specs.declared.shape.Shape.{Shape}
 use Rattle.btf_view.specs.declared.shape.Shape.TheVariants.{Variable, Structure}
 use Rattle.btf_view.specs.declared.fields.MapFields.{MapFields}
@@ -19,7 +19,7 @@ members_by b (Err e) = Err e
 
 -- those of the type of a VAR
 abbrev pub var_members : Parts → Shape → Result MemberTable BtfError
-var_members b (Variable id) = members_by b (unmodified b.types 33 id)
+var_members b (Variable id) = members_by b (unmodified b.types most_types id)
 var_members b _ = Err (Field 0)
 
 -- the members of the definition of variable `id`

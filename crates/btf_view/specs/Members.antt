@@ -6,7 +6,7 @@ use Rattle.std.specs.Result.{result_ok}
 use Rattle.btf_view.specs.Names.{is_named, name_at}
 use Rattle.btf_view.specs.Numbers.{u32_at}
 use Rattle.btf_view.specs.Shapes.{shape_of}
-use Rattle.btf_view.specs.Sizes.{capped, map_ok, size_of}
+use Rattle.btf_view.specs.Sizes.{capped, map_ok, most_types, size_of}
 use Rattle.btf_view.specs.Types.{first_from}
 use Rattle.btf_view.specs.declared.shape.Shape.{Shape}
 use Rattle.btf_view.specs.declared.shape.Shape.TheVariants.{Pointer, ArrayOf}
@@ -66,8 +66,8 @@ count_of member _ = Err (Field member)
 
 -- what a pointer to type `id` says: for `key` and `value` the size of that type, else the count of the array that it is
 abbrev pub pointed : List ℕ → ℕ → MemberName → ℕ → Result ℕ BtfError
-pointed types member Key id = map_ok capped (size_of types member 33 id)
-pointed types member Value id = map_ok capped (size_of types member 33 id)
+pointed types member Key id = map_ok capped (size_of types member most_types id)
+pointed types member Value id = map_ok capped (size_of types member most_types id)
 pointed types member _ id = count_of member (shape_of types id)
 
 abbrev pub number_by : List ℕ → ℕ → MemberName → Shape → Result ℕ BtfError

@@ -7,6 +7,9 @@ use Rattle.btf_view.specs.declared.shape.Shape.TheVariants.{Variable, Structure,
 use Rattle.btf_view.specs.declared.error.BtfError.{BtfError}
 use Rattle.btf_view.specs.declared.error.BtfError.TheVariants.{Depth, Field}
 
+abbrev pub most_types : ℕ
+most_types = 33
+
 -- the value, if there is one, by a function
 abbrev pub map_ok : {A B : Type 0} → (A → B) → Result A BtfError → Result B BtfError
 map_ok f (Ok x) = Ok (f x)

@@ -1,5 +1,6 @@
 -- The search for a variable by its name.
 use Rattle.std.specs.Prelude.{ℕ, Bool, true, false, List, is_none, if◌then◌else◌, Option, Some, None, unwrap_or, Result, Ok, Err}
+use Rattle.btf_view.specs.File.{Parts}
 use Rattle.btf_view.specs.Names.{is_named, name_at}
 use Rattle.btf_view.specs.Types.{first_of_types, kind_at, name_off_at}
 use Rattle.btf_view.specs.declared.kind.TypeKind.{TypeKind}
@@ -27,6 +28,9 @@ var_answer id (Ok false) = None
 var_answer id (Err e) = Some (Err e)
 
 -- the first VAR of this name, or none; or the error of the first name of a VAR before it that cannot be read
-unfoldable pub find_var : (types strings name : List ℕ) → Result (Option ℕ) BtfError
-find_var types strings name =
+unfoldable pub first_var : (types strings name : List ℕ) → Result (Option ℕ) BtfError
+first_var types strings name =
     unwrap_or (first_of_types types (λ id at. var_answer id (is_var types strings name at))) (Ok None)
+
+abbrev pub find_var : Parts → List ℕ → Result (Option ℕ) BtfError
+find_var b name = first_var b.types b.strings name

@@ -2,7 +2,7 @@
 
 ghost use Rattle.std.specs.Prelude.{◌≡◌, IfOk};
 ghost use Rattle.btf_view.specs.Shapes.{HasMembers};
-ghost use Rattle.btf_view.specs.Sizes.{capped, map_ok, size_of, unmodified};
+ghost use Rattle.btf_view.specs.Sizes.{capped, map_ok, most_types, size_of, unmodified};
 
 use crate::error::BtfError;
 use crate::shape::Shape;
@@ -18,7 +18,7 @@ impl Types<'_> {
     /// Type `id` without its modifiers. It fails with `Depth` where there are more than 32.
     #[tactic(auto, using(crate::proofs::Chains::chains))]
     pub fn unmodified(&self, mut id: u32) -> Result<Shape, BtfError>
-        ensures shape { result ≡ unmodified self.now 33 id }
+        ensures shape { result ≡ unmodified self.now most_types id }
         ensures members { IfOk result (HasMembers self.now) }
     {
         for _ in 0..MAX_TYPES {
@@ -34,7 +34,7 @@ impl Types<'_> {
     /// and arrays are on the way, and else with `Field` where a type without a size ends it.
     #[tactic(auto, using(crate::proofs::Chains::chains))]
     pub fn size_of(&self, mut id: u32, member: u32) -> Result<u32, BtfError>
-        ensures { result ≡ map_ok capped (size_of self.now member 33 id) }
+        ensures { result ≡ map_ok capped (size_of self.now member most_types id) }
     {
         let mut times = 1u32;
         for _ in 0..MAX_TYPES {

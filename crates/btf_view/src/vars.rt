@@ -1,7 +1,7 @@
 //! The search for a variable.
 
 ghost use Rattle.std.specs.Prelude.{◌≡◌, ◌+◌, ◌≤◌, length};
-ghost use Rattle.btf_view.specs.Vars.{find_var, is_var};
+ghost use Rattle.btf_view.specs.Vars.{first_var, is_var};
 
 use crate::error::BtfError;
 use crate::kind::TypeKind;
@@ -26,13 +26,13 @@ fn is_var(types: &[u8], strings: &Strings<'_>, name: &[u8], at: usize) -> Result
 }
 
 /// The number of the first variable of this name, if there is one.
-#[tactic(auto, using(crate::proofs::Walks::walks), unfolding(crate::specs::Vars::find_var))]
-pub fn find_var(
+#[tactic(auto, using(crate::proofs::Walks::walks), unfolding(crate::specs::Vars::first_var))]
+pub fn first_var(
     types: &Types<'_>,
     strings: &Strings<'_>,
     name: &[u8],
 ) -> Result<Option<u32>, BtfError>
-    ensures { result ≡ find_var types.now strings.now name.now }
+    ensures { result ≡ first_var types.now strings.now name.now }
 {
     let bytes = types.bytes();
     let mut id = 0;

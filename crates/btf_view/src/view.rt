@@ -13,7 +13,7 @@ use crate::members::Members;
 use crate::shape::Shape;
 use crate::strings::Strings;
 use crate::types::Types;
-use crate::vars::find_var;
+use crate::vars::first_var;
 use std::marker::Model;
 
 /// BTF, by its two parts: each type is read where it stands. Contracts see it as the bytes of both.
@@ -51,9 +51,9 @@ impl<'a> BtfView<'a> {
     /// The number of the first variable of this name, or none. It fails with `Short` where the name of a variable in
     /// front of it does not end in the string part.
     pub fn find_var(&self, name: &[u8]) -> Result<Option<u32>, BtfError>
-        ensures { result ≡ find_var self.now.types self.now.strings name.now }
+        ensures { result ≡ find_var self.now name.now }
     {
-        find_var(&self.types, &self.strings, name)
+        first_var(&self.types, &self.strings, name)
     }
 
     /// The members of the structure that variable `id` is.
