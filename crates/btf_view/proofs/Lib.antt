@@ -1,0 +1,4 @@
+mod Chains
+mod Firsts
+mod NameEnds
+mod Walks

@@ -1,0 +1,11 @@
+pub mod File
+pub mod Kinds
+pub mod Maps
+pub mod Members
+pub mod Names
+pub mod Numbers
+pub mod Rules
+pub mod Shapes
+pub mod Sizes
+pub mod Types
+pub mod Vars
