@@ -109,9 +109,13 @@ impl Machine {
     // The end of a run.
     fn end(&self, tables: &mut Tables, hole: &[u8], frame: &mut Frame) -> Result<String> {
         let mut plan = self.plan(hole)?;
-        let meta = Meta { ifindex: self.ifindex };
+        let meta = Meta {
+            ifindex: self.ifindex,
+        };
         match run_packet(&mut plan, &mut tables.maps, frame, meta) {
-            Ok(Ended { verdict, target }) => Ok(format!(in self.alloc; "verdict {verdict}, target {target}")?),
+            Ok(Ended { verdict, target }) => Ok(format!(in self.alloc;
+                "verdict {verdict}, target {target}"
+            )?),
             Err(SeqError::Stuck { at }) => Ok(format!(in self.alloc; "stuck at {at}")?),
             Err(SeqError::Spent { at }) => Ok(format!(in self.alloc; "spent at {at}")?),
         }
@@ -133,7 +137,10 @@ impl Machine {
 
 // A frame of these bytes.
 fn frame_of(alloc: Global, bytes: &[u8]) -> Result<Frame> {
-    ensure!(1 <= bytes.len() && bytes.len() <= FRAME_LIMIT, "1 to 1536 bytes");
+    ensure!(
+        1 <= bytes.len() && bytes.len() <= FRAME_LIMIT,
+        "1 to 1536 bytes"
+    );
     Ok(Frame::of(alloc, bytes)?)
 }
 

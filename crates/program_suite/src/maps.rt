@@ -36,7 +36,12 @@ impl Tables {
     }
 
     /// What a call answers, if the verb is one.
-    pub(crate) fn answer(&mut self, named: &Named, verb: &str, rest: &str) -> Result<Option<String>> {
+    pub(crate) fn answer(
+        &mut self,
+        named: &Named,
+        verb: &str,
+        rest: &str,
+    ) -> Result<Option<String>> {
         let (map, rest) = front(rest);
         let answer = match verb {
             "lookup" => self.lookup(number_32(map)?, &named.bytes(rest)?)?,
@@ -77,7 +82,10 @@ impl Tables {
         let flags = number(flags)?;
         let decl = declared(&self.maps, map).context("no such map")?;
         ensure!(key.len() == decl.key as usize, "a key of the map's length");
-        ensure!(value.len() == decl.value as usize, "a value of the map's length");
+        ensure!(
+            value.len() == decl.value as usize,
+            "a value of the map's length"
+        );
         let number = self.maps.update(map, &key, &value, flags);
         Ok(format!(in self.alloc; "{number}")?)
     }
@@ -90,7 +98,10 @@ impl Tables {
         let bytes = named.bytes(bytes)?;
         let decl = declared(&self.maps, map).context("no such map")?;
         ensure!(key.len() == decl.key as usize, "a key of the map's length");
-        ensure!(at <= decl.value && bytes.len() <= (decl.value - at) as usize, "bytes inside the value");
+        ensure!(
+            at <= decl.value && bytes.len() <= (decl.value - at) as usize,
+            "bytes inside the value"
+        );
         let found = self.maps.store(map, &key, at, &bytes);
         Ok(format!(in self.alloc; "{found}")?)
     }
@@ -103,7 +114,10 @@ impl Tables {
         let change = change_of(rest)?;
         let decl = declared(&self.maps, map).context("no such map")?;
         ensure!(key.len() == decl.key as usize, "a key of the map's length");
-        ensure!(at <= decl.value && change.bytes() <= (decl.value - at) as usize, "a number inside the value");
+        ensure!(
+            at <= decl.value && change.bytes() <= (decl.value - at) as usize,
+            "a number inside the value"
+        );
         match self.maps.rmw(map, &key, at, change) {
             Some(before) => Ok(format!(in self.alloc; "{before:#x}")?),
             None => Ok(String::from_str(self.alloc, "none")?),
@@ -159,7 +173,10 @@ impl Tables {
         let mut others = Maps::new(self.alloc, self.maps.decls())?;
         let decl = declared(&others, map).context("no such map")?;
         ensure!(key.len() == decl.key as usize, "a key of the map's length");
-        ensure!(value.len() == decl.value as usize, "a value of the map's length");
+        ensure!(
+            value.len() == decl.value as usize,
+            "a value of the map's length"
+        );
         let number = others.update(map, &key, &value, 0);
         others.copy_from(&self.maps);
         self.maps = others;
@@ -179,7 +196,13 @@ fn decl_of(rest: &str) -> Result<MapDecl> {
     let name = ShortBytes::of(b"");
     let (key, value) = (u32::try_from(key)?, u32::try_from(value)?);
     let cap = u32::try_from(cap)?;
-    Ok(MapDecl { name, kind, key, value, cap })
+    Ok(MapDecl {
+        name,
+        kind,
+        key,
+        value,
+        cap,
+    })
 }
 
 // Maps of these declarations, which are within the limits.
@@ -213,5 +236,10 @@ fn change_of(rest: &str) -> Result<Change> {
         8 => true,
         _ => bail!("4 or 8 bytes"),
     };
-    Ok(Change { kind, wide, source, compare })
+    Ok(Change {
+        kind,
+        wide,
+        source,
+        compare,
+    })
 }

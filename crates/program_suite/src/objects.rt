@@ -63,7 +63,9 @@ fn code_of(alloc: Global, error: ObjectError) -> Result<String> {
 fn fault(alloc: Global, rest: &str) -> Result<String> {
     let (kind, at) = front(rest);
     let error = match kind {
-        "short" => ObjectError::Elf(ElfError::Short { need: at.parse::<u128>()? }),
+        "short" => ObjectError::Elf(ElfError::Short {
+            need: at.parse::<u128>()?,
+        }),
         "relocation" => ObjectError::Relocation { at: number(at)? },
         "bad" => ObjectError::Bad { at: number(at)? },
         "memory" => ObjectError::NoMemory,
@@ -78,7 +80,10 @@ pub(crate) fn keep(alloc: Global, named: &mut Named, rest: &str) -> Result<()> {
     let (function, rest) = front(rest);
     let (code, map) = front(rest);
     let code = named.bytes(code)?;
-    ensure!(code.len() <= CODE_LIMIT && function.len() <= LIMIT, "an object too long");
+    ensure!(
+        code.len() <= CODE_LIMIT && function.len() <= LIMIT,
+        "an object too long"
+    );
     let object = match map {
         "" => object_of(alloc, function, &code, &[], &[])?,
         _ => with_map(alloc, function, &code, map)?,
@@ -98,8 +103,14 @@ fn with_map(alloc: Global, function: &str, code: &[u8], rest: &str) -> Result<Ve
     for place in numbers {
         refs.push((number_32(place)?, 0))?;
     }
-    ensure!(code.len() <= CODE_LIMIT && function.len() <= LIMIT, "an object too long");
-    ensure!(name.len() <= LIMIT && refs.len() <= LIMIT, "an object too long");
+    ensure!(
+        code.len() <= CODE_LIMIT && function.len() <= LIMIT,
+        "an object too long"
+    );
+    ensure!(
+        name.len() <= LIMIT && refs.len() <= LIMIT,
+        "an object too long"
+    );
     ensure!(refs.iter().all(|r| r.1 == 0), "a map that is there");
     let map = MapRecord { name, words };
     Ok(object_of(alloc, function, code, &[map], &refs)?)

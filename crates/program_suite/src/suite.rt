@@ -81,6 +81,7 @@ impl Suite {
         if let Some(answer) = self.tables.answer(&self.named, verb, rest)? {
             return Ok(Some(answer));
         }
-        self.machine.answer(&self.named, &mut self.tables, verb, rest)
+        self.machine
+            .answer(&self.named, &mut self.tables, verb, rest)
     }
 }
