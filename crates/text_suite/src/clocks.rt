@@ -82,7 +82,6 @@ fn show_outputs(rt: &impl Print, outputs: &Outputs) -> Result<()> {
 
 impl Running {
     /// The design of a text, with its first values.
-    #[tactic(auto, using(spelling_core::proofs::FormedTyped::typed))]
     pub(crate) fn open(alloc: Global, text: &[u8]) -> Result<Running> {
         let design = design_of(alloc, text)?;
         let wires = wire_names(alloc, &design)?;

@@ -1,5 +1,9 @@
 //! The tokens of a text, and tokens that are written.
 
+ghost use Rattle.std.specs.Prelude.{◌≡◌};
+ghost use Rattle.std.specs.List.{list_all};
+ghost use Rattle.verilog_lex.specs.Bytes.{is_comment_byte};
+
 use crate::escapes::{escaped, marked};
 use anyhow::{Context, Result, bail, ensure};
 use std::alloc::Global;
@@ -60,11 +64,21 @@ fn push_token(text: &mut Vec<u8>, kind: TokenKind, spelled: &[u8]) -> Result<()>
     }
 }
 
+fn is_of_comment(byte: u8) -> bool
+    ensures { result ≡ is_comment_byte byte }
+{
+    byte < 128 && byte != b'\n'
+}
+
+// Whether a comment may hold these bytes.
+fn is_comment(bytes: &[u8]) -> bool
+    ensures { result ≡ list_all is_comment_byte bytes.now }
+{
+    bytes.iter().all(|byte| is_of_comment(*byte))
+}
+
 fn push_remark(text: &mut Vec<u8>, comment: &[u8]) -> Result<()> {
-    ensure!(
-        comment.iter().all(|byte| *byte < 128 && *byte != b'\n'),
-        "no comment"
-    );
+    ensure!(is_comment(comment), "no comment");
     push_comment(text, comment)?;
     Ok(())
 }
