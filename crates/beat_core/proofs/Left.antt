@@ -4,7 +4,7 @@ use Rattle.std.proofs.lemmas.List.{length-take, length-drop, drop_all, drop-drop
 use Rattle.std.proofs.lemmas.Slice.{between_is}
 use Rattle.beat_core.specs.declared.beat.Beat.{Beat}
 use Rattle.beat_core.specs.Beats.{first_beat, beats_of}
-use Rattle.beat_core.proofs.Cutting.{beats_of-nil, beats_of-step}
+use Rattle.beat_core.proofs.BeatLaws.{beats_of-nil, beats_of-step}
 
 -- the bytes left, as the range of the buffer
 pub left : ℕ → ℕ → List ℕ → List ℕ

@@ -1,5 +1,6 @@
-pub mod Words
-pub mod Cutting
+pub mod BeatLaws
+pub mod FillingLaws
 pub mod Left
-pub mod Order
-pub mod Passing
+pub mod OrderLaws
+pub mod PortLemmas
+pub mod WordLaws

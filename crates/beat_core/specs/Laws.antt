@@ -4,9 +4,10 @@ use Rattle.std.specs.List.{flat_map, AllByRecursion}
 use Rattle.beat_core.specs.declared.beat.Beat.{Beat}
 use Rattle.beat_core.specs.declared.frame.TheConstants.{FRAME_LIMIT}
 use Rattle.beat_core.specs.Beats.{bytes_of_beat, IsOffer, IsWhole, IsFilledUp, beats_of, frame_of, beat_count}
-use Rattle.beat_core.specs.Words.{IsBytes}
 use Rattle.beat_core.specs.Clocks.{frames_among, AreOffers}
-use Rattle.beat_core.specs.Ports.{Arrival, offered, arrivals_among, Reply, given, replies_among}
+use Rattle.beat_core.specs.Ports.{Arrival, offered, arrivals_among, given, answers_among}
+use Rattle.beat_core.specs.declared.answer.Answer.{Answer}
+use Rattle.list_laws.specs.Bytes.{IsBytes}
 
 -- the bytes of a frame
 pub record IsFrame (xs : List ℕ) : Type 0 where
@@ -32,12 +33,12 @@ pub record ComeInOrder : Type 0 where
 abbrev pub arrival_of : ℕ → List ℕ → Arrival
 arrival_of ifindex xs = record { ifindex = ifindex; frame = xs }
 
--- a reply with the bytes of a frame
-abbrev pub HasFrame : Reply → Type 0
+-- an answer with the bytes of a frame
+abbrev pub HasFrame : Answer → Type 0
 HasFrame r = IsFrame r.frame
 
--- At the ports each frame that is offered under a number arrives under it, and each reply whose beats are
+-- At the ports each frame that is offered under a number arrives under it, and each answer whose beats are
 -- given beside its verdict and target is given.
 pub record PassThePorts : Type 0 where
   pub arrivals : (ifindex : ℕ) (frames : List (List ℕ)) → AllByRecursion IsFrame frames → arrivals_among None (map (offered ifindex) (flat_map beats_of frames)) ≡ map (arrival_of ifindex) frames
-  pub replies : (replies : List Reply) → AllByRecursion HasFrame replies → replies_among [] (flat_map (λ r. map (given r.verdict r.target) (beats_of r.frame)) replies) ≡ replies
+  pub answers : (answers : List Answer) → AllByRecursion HasFrame answers → answers_among [] (flat_map (λ r. map (given r.verdict r.target) (beats_of r.frame)) answers) ≡ answers

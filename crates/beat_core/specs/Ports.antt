@@ -1,4 +1,4 @@
--- What has gone over at the ports of a design, as frames that came and replies that were given.
+-- What has gone over at the ports of a design, as frames that came and answers that were given.
 use Rattle.std.specs.Prelude.{ℕ, List, [], ◌∷◌, ◌++◌, Option, Some, None, if◌then◌else◌}
 use Rattle.beat_core.specs.declared.beat.Beat.{Beat}
 use Rattle.beat_core.specs.declared.answer.Answer.{Answer}
@@ -28,10 +28,6 @@ arrivals_among so_far [] = []
 arrivals_among so_far (o ∷ os) =
     if o.beat.last then arrived so_far o ∷ arrivals_among None os else arrivals_among (Some (arrived so_far o)) os
 
--- an answer as a plain record: its frame is the list of its bytes
-abbrev pub Reply : Type 0
-Reply = Answer
-
 -- a beat that went over outwards, with the verdict and the target beside it
 pub record Given : Type 0 where
   pub beat : Beat
@@ -41,9 +37,9 @@ pub record Given : Type 0 where
 abbrev pub given : ℕ → ℕ → Beat → Given
 given verdict target b = record { beat = b; verdict = verdict; target = target }
 
--- The replies that were given whole, each with the verdict and the target of its last beat. Of the first
+-- The answers that were given whole, each with the verdict and the target of its last beat. Of the first
 -- some bytes were given before.
-abbrev pub replies_among : List ℕ → List Given → List Reply
-replies_among so_far [] = []
-replies_among so_far (g ∷ gs) =
-    if g.beat.last then record { verdict = g.verdict; target = g.target; frame = so_far ++ bytes_of_beat g.beat } ∷ replies_among [] gs else replies_among (so_far ++ bytes_of_beat g.beat) gs
+abbrev pub answers_among : List ℕ → List Given → List Answer
+answers_among so_far [] = []
+answers_among so_far (g ∷ gs) =
+    if g.beat.last then record { verdict = g.verdict; target = g.target; frame = so_far ++ bytes_of_beat g.beat } ∷ answers_among [] gs else answers_among (so_far ++ bytes_of_beat g.beat) gs

@@ -1,9 +1,5 @@
 -- Bytes, and words of up to eight of them.
-use Rattle.std.specs.Prelude.{ℕ, zero, suc, ◌+◌, ◌*◌, ◌/◌, ◌%◌, ◌<◌, List, [], ◌∷◌, slice_index}
-
--- a list of bytes, as the content of a slice is
-abbrev pub IsBytes : List ℕ → Type 0
-IsBytes xs = (i : ℕ) → slice_index xs i < 256
+use Rattle.std.specs.Prelude.{ℕ, zero, suc, ◌+◌, ◌*◌, ◌/◌, ◌%◌, ◌<◌, List, [], ◌∷◌}
 
 -- the lowest n bytes of a word, the lowest first
 unfoldable pub low_bytes : ℕ → ℕ → List ℕ

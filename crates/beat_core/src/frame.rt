@@ -1,7 +1,7 @@
 //! A frame on the wire, and what is known of it beside its bytes.
 
 ghost use Rattle.std.specs.Prelude.{◌≡◌, ◌+◌, ◌<◌, ◌≤◌, ◌++◌, length, take, drop, IfOk};
-ghost use Rattle.beat_core.specs.Words.{IsBytes};
+ghost use Rattle.list_laws.specs.Bytes.{IsBytes};
 
 use std::alloc::{AllocError, Global};
 use std::marker::Model;

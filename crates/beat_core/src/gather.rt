@@ -81,7 +81,7 @@ impl Gather {
 fn write_beat(buffer: &mut [u8], at: usize, beat: &Beat) -> usize
     requires { at + length (bytes_of_beat beat.now) ≤ length buffer.old }
     ensures end { result ≡ at + length (bytes_of_beat beat.now) }
-    ensures front { take result buffer.new ≡ take at buffer.old ++ bytes_of_beat beat.now }
+    ensures prefix { take result buffer.new ≡ take at buffer.old ++ bytes_of_beat beat.now }
 {
     let bytes = bytes_of_word(beat.word);
     let count = (beat.bytes as usize).min(8);

@@ -12,7 +12,7 @@ pub fn frames_in_order()
     ensures { ComeInOrder }
 {}
 
-/// Frames and replies pass a design's ports as they are.
+/// Frames and answers pass a design's ports as they are.
 pub fn ports()
     ensures { PassThePorts }
 {}

@@ -2,4 +2,4 @@ pub mod Codes
 pub mod Units
 pub mod Fronts
 pub mod Laws
-pub mod Texts
+pub mod TextLaws

@@ -1,4 +1,3 @@
 mod Chains
-mod Firsts
 mod NameEnds
 mod Walks

@@ -3,9 +3,10 @@ use Rattle.std.proofs.Common.{◌≡◌, ℕ, zero, suc, ◌+◌, ◌-◌, ◌*�
 use Rattle.std.proofs.lemmas.Bool.{cases_lt, lt-ltb, le-ltb}
 use Rattle.std.proofs.lemmas.Bool.Decides.{nat_tests}
 use Rattle.std.specs.Option.{option_or}
-use Rattle.btf_view.proofs.Firsts.{first_from-next, first_from-none, none-first_from}
+use Rattle.list_laws.proofs.FirstLaws.{first_from-next, first_from-none, none-first_from}
 use Rattle.btf_view.specs.Rules.{type_fault, types_fault}
-use Rattle.btf_view.specs.Types.{end_of, first_from, first_of_types, place_of, record_size}
+use Rattle.btf_view.specs.Types.{end_of, first_of_types, place_of, record_size}
+use Rattle.list_laws.specs.Firsts.{first_from}
 
 -- ---- where types begin
 

@@ -7,7 +7,6 @@ use Rattle.btf_view.specs.Names.{is_named, name_at}
 use Rattle.btf_view.specs.Numbers.{u32_at}
 use Rattle.btf_view.specs.Shapes.{shape_of}
 use Rattle.btf_view.specs.Sizes.{capped, map_ok, most_types, size_of}
-use Rattle.btf_view.specs.Types.{first_from}
 use Rattle.btf_view.specs.declared.shape.Shape.{Shape}
 use Rattle.btf_view.specs.declared.shape.Shape.TheVariants.{Pointer, ArrayOf}
 use Rattle.btf_view.specs.declared.name.MemberName.{MemberName}
@@ -15,6 +14,7 @@ use Rattle.btf_view.specs.declared.name.MemberName.TheVariants.{MapType, KeySize
 use Rattle.btf_view.specs.declared.fields.MapFields.{MapFields}
 use Rattle.btf_view.specs.declared.error.BtfError.{BtfError}
 use Rattle.btf_view.specs.declared.error.BtfError.TheVariants.{Short, Field}
+use Rattle.list_laws.specs.Firsts.{first_from}
 
 -- `count` members, from a place of the type part on: records of 12 bytes (name, type, offset)
 pub record MemberTable : Type 0 where

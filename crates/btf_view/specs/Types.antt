@@ -1,10 +1,11 @@
 -- The types of a type part, which lie one after the other: a record of 12 bytes (name, info, size or type), and its
 -- data behind it (Documentation/bpf/btf.rst, "Type Encoding").
 use Rattle.std.specs.Prelude.{ℕ, zero, suc, ◌+◌, ◌/◌, ◌%◌, ◌^◌, nat_lt, if◌then◌else◌, List, length, Option, Some, None, option_and_then}
-use Rattle.std.specs.Option.{option_map_or, option_or}
+use Rattle.std.specs.Option.{option_map_or}
 use Rattle.btf_view.specs.Numbers.{u32_at}
 use Rattle.btf_view.specs.Kinds.{data_size, kind_of}
 use Rattle.btf_view.specs.declared.kind.TypeKind.{TypeKind}
+use Rattle.list_laws.specs.Firsts.{first_from}
 
 -- ---- the type whose record stands at a place
 
@@ -37,11 +38,6 @@ end_of types (suc id) = end_of types id + record_size types (end_of types id)
 unfoldable pub place_of : List ℕ → ℕ → Option ℕ
 place_of types zero = None
 place_of types (suc id) = if nat_lt (end_of types id) (length types) then Some (end_of types id) else None
-
--- the first that is there of f i, f (i + 1), .., of n of them
-abbrev pub first_from : {X : Type 0} → (ℕ → Option X) → ℕ → ℕ → Option X
-first_from f i zero = None
-first_from f i (suc n) = option_or (f i) (first_from f (suc i) n)
 
 -- the first answer to a question that is asked of the number and the place of each type, in ascending order. There
 -- are no more types than bytes

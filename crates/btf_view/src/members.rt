@@ -112,7 +112,7 @@ impl<'v> Members<'v> {
     }
 
     /// The first member of a name in front of member `i`.
-    #[tactic(auto, using(crate::proofs::Firsts::firsts), unfolding(crate::specs::Members::member_before))]
+    #[tactic(auto, using(list_laws::proofs::FirstLaws::firsts), unfolding(crate::specs::Members::member_before))]
     fn member_before(&self, i: u32, name: MemberName) -> Option<u32>
         requires { i ≤ self.now.count }
         ensures member { result ≡ member_before self.now i name }
@@ -173,7 +173,7 @@ impl<'v> Members<'v> {
     }
 
     /// Checks the members in their order: it fails with the first fault.
-    #[tactic(auto, using(crate::proofs::Firsts::firsts), unfolding(crate::specs::Members::members_fault))]
+    #[tactic(auto, using(list_laws::proofs::FirstLaws::firsts), unfolding(crate::specs::Members::members_fault))]
     pub fn check(&self) -> Result<(), BtfError>
         ensures { FailsAs result (members_fault self.now) }
     {

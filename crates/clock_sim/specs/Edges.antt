@@ -1,41 +1,41 @@
--- What code says of wires, outputs and the rising edge.
+-- What steps say of wires, outputs and the rising edge.
 use Rattle.std.specs.Prelude.{◌≡◌, ℕ, suc, ⊤, ◌-◌, ◌^◌, ◌<◌, ◌==◌, if◌then◌else◌, Bool, true, Option, Some, None, List, [], ◌∷◌, ◌++◌, length, slice_set, map}
 use Rattle.std.proofs.Common.{get_or, ◌&&◌, not}
 use Rattle.net_core.specs.declared.tree.Word.{Word}
 use Rattle.net_core.specs.declared.tree.Net.{Net}
 use Rattle.net_core.specs.declared.design.Declared.{Declared}
 use Rattle.net_core.specs.declared.ports.Outputs.{Outputs}
-use Rattle.net_core.specs.Nets.{WireTree, AssignTree, Act, Acts, RightTree, RPlain, RQuotient, RRemainder, Plan}
+use Rattle.net_core.specs.Nets.{WireTree, AssignTree, StatementTree, StatementTrees, RightTree, RPlain, RQuotient, RRemainder, Netlist}
 use Rattle.net_core.specs.Value.{nothing}
-use Rattle.net_core.specs.Width.{port_width, register_widths, memory_widths, wire_widths, wires_typed, width_of, act_typed}
+use Rattle.net_core.specs.Width.{port_width, register_widths, memory_widths, wire_widths, wires_typed, width_of, statement_typed}
 use Rattle.net_core.specs.Clock.{Stored, with_wires, assigned, done, all_done, edge}
-use Rattle.clock_sim.specs.declared.code.Place.{Place}
-use Rattle.clock_sim.specs.declared.places.Places.{Places}
-use Rattle.clock_sim.specs.declared.places.Widths.{Widths}
+use Rattle.clock_sim.specs.declared.builder.Operand.{Operand}
+use Rattle.clock_sim.specs.declared.operands.Operands.{Operands}
+use Rattle.clock_sim.specs.declared.operands.Widths.{Widths}
 use Rattle.clock_sim.specs.declared.edge.Store.{Store}
 use Rattle.clock_sim.specs.declared.wires.Divisor.{Divisor}
 use Rattle.clock_sim.specs.declared.outputs.Shown.{Shown}
 use Rattle.clock_sim.specs.Steps.{run}
-use Rattle.clock_sim.specs.Flat.{Flat, Situation, IsFine, banks_of, Starts, Numbers, place_in, no_place, scope_of, env_at, Knows}
+use Rattle.clock_sim.specs.Flat.{Flat, Situation, IsFine, contents_of, Starts, Numbers, operand_in, no_operand, scope_of, env_at, Knows}
 
 -- ---- wires
-abbrev pub widths_at : List Place → List ℕ
+abbrev pub widths_at : List Operand → List ℕ
 widths_at ps = map (λ p. p.width) ps
 
 abbrev pub sizes_of : List Widths → List (ℕ × ℕ)
 sizes_of ws = map (λ w. (w.index, w.word)) ws
 
 -- ports, registers and memories have the widths of a design
-pub record Matches (d : Plan) (n : Places) : Type 0 where
-  pub ports : (k : ℕ) → (get_or n.ports.items k no_place).width ≡ port_width d.ports k
+pub record Matches (d : Netlist) (n : Operands) : Type 0 where
+  pub ports : (k : ℕ) → (get_or n.ports.items k no_operand).width ≡ port_width d.ports k
   pub registers : widths_at n.registers.items ≡ register_widths d.declared
   pub memories : sizes_of n.memories.items ≡ memory_widths d.declared
 
--- these wires are well typed where those of the places stand before
-pub record AreTyped (n : Places) (ws : List WireTree) : Type 0 where
-  pub plan : Plan
-  pub matches : Matches plan n
-  pub typed : wires_typed plan (widths_at n.wires.items) ws ≡ true
+-- these wires are well typed where those of the operands stand before
+pub record AreTyped (n : Operands) (ws : List WireTree) : Type 0 where
+  pub netlist : Netlist
+  pub matches : Matches netlist n
+  pub typed : wires_typed netlist (widths_at n.wires.items) ws ≡ true
 
 -- what a right side divides by
 abbrev pub divisor_in : RightTree Net → Option Net
@@ -44,23 +44,23 @@ divisor_in (RQuotient a b) = Some b
 divisor_in (RRemainder a b) = Some b
 
 -- it can be read
-abbrev pub IsDivided : Places → Option Net → Type 0
+abbrev pub IsDivided : Operands → Option Net → Type 0
 IsDivided n None = ⊤
-IsDivided n (Some b) = 0 < (place_in n b).width
+IsDivided n (Some b) = 0 < (operand_in n b).width
 
-abbrev pub AreDivided : Places → List WireTree → Type 0
+abbrev pub AreDivided : Operands → List WireTree → Type 0
 AreDivided n [] = ⊤
 AreDivided n (w ∷ ws) = IsDivided n (divisor_in w.right) × AreDivided n ws
 
 -- only wires have come, of the widths of these
-pub record AddsWires (old new : Places) (ws : List WireTree) : Type 0 where
+pub record AddsWires (old new : Operands) (ws : List WireTree) : Type 0 where
   pub ports : new.ports ≡ old.ports
   pub registers : new.registers ≡ old.registers
   pub memories : new.memories ≡ old.memories
   pub wires : widths_at new.wires.items ≡ wire_widths ws
 
--- the places of all wires hold their words, in every clock
-pub record AreKnown (old new : Flat) (before after : Places) (ws : List WireTree) : Type 0 where
+-- the operands of all wires hold their words, in every clock
+pub record AreKnown (old new : Flat) (before after : Operands) (ws : List WireTree) : Type 0 where
   pub knows : (ds : List Declared) → Knows ds old before (λ x. []) → Knows ds new after (λ x. with_wires x.ins x.stored [] ws)
 
 abbrev pub first_zero : List Divisor → List ℕ → Option ℕ
@@ -73,27 +73,27 @@ AreDivisors (d ∷ ds) count = (d.slot < count) × AreDivisors ds count
 
 -- the first divisor that is zero is that of the wire where the clock stops
 pub record Stops (ds : List Declared) (c : Flat) (divisors : List Divisor) (f : Situation → Option ℕ) : Type 0 where
-  pub at : (x : Situation) (slots : List ℕ) → IsFine ds x → Starts c x slots → first_zero divisors (run (banks_of x.stored) c.steps slots) ≡ f x
+  pub at : (x : Situation) (slots : List ℕ) → IsFine ds x → Starts c x slots → first_zero divisors (run (contents_of x.stored) c.steps slots) ≡ f x
 
-abbrev pub divisors_at : Places → ℕ → Option Net → List Divisor
+abbrev pub divisors_at : Operands → ℕ → Option Net → List Divisor
 divisors_at n at None = []
-divisors_at n at (Some b) = record { wire = at; slot = (place_in n b).slot } ∷ []
+divisors_at n at (Some b) = record { wire = at; slot = (operand_in n b).slot } ∷ []
 
 -- the divisors of these wires, the first of which has a number
-abbrev pub divisors_from : Places → ℕ → List WireTree → List Divisor
+abbrev pub divisors_from : Operands → ℕ → List WireTree → List Divisor
 divisors_from n at [] = []
 divisors_from n at (w ∷ ws) = divisors_at n at (divisor_in w.right) ++ divisors_from n (suc at) ws
 
 -- ---- outputs
-abbrev pub AreShown : Places → List AssignTree → Type 0
+abbrev pub AreShown : Operands → List AssignTree → Type 0
 AreShown n [] = ⊤
 AreShown n (a ∷ rest) = (0 < width_of (scope_of n) a.value) × AreShown n rest
 
 -- the slot holds what a port shows
-pub record Shows (old new : Flat) (n : Places) (assigns : List AssignTree) (port slot : ℕ) : Type 0 where
+pub record Shows (old new : Flat) (n : Operands) (assigns : List AssignTree) (port slot : ℕ) : Type 0 where
   pub shows : (ds : List Declared) (wires : Situation → List Word) → Knows ds old n wires → Numbers ds new slot (λ x. (assigned (env_at wires x) assigns port).value)
 
-pub record ShowsAll (old new : Flat) (n : Places) (assigns : List AssignTree) (s : Shown) : Type 0 where
+pub record ShowsAll (old new : Flat) (n : Operands) (assigns : List AssignTree) (s : Shown) : Type 0 where
   pub in_ready : Shows old new n assigns 6 s.in_ready
   pub out_valid : Shows old new n assigns 8 s.out_valid
   pub out_data : Shows old new n assigns 9 s.out_data
@@ -107,9 +107,9 @@ pub record ShowsAll (old new : Flat) (n : Places) (assigns : List AssignTree) (s
 -- ---- the rising edge
 -- the memories after these stores, one after another
 abbrev pub applied : List ℕ → List Store → List (List ℕ) → List (List ℕ)
-applied slots [] banks = banks
-applied slots (s ∷ rest) banks =
-    applied slots rest (if get_or slots s.guard 0 == 0 then banks else slice_set banks s.memory (slice_set (get_or banks s.memory []) (get_or slots s.at 0) (get_or slots s.word 0)))
+applied slots [] contents = contents
+applied slots (s ∷ rest) contents =
+    applied slots rest (if get_or slots s.guard 0 == 0 then contents else slice_set contents s.memory (slice_set (get_or contents s.memory []) (get_or slots s.at 0) (get_or slots s.word 0)))
 
 abbrev pub AreSlots : List ℕ → ℕ → Type 0
 AreSlots [] count = ⊤
@@ -128,7 +128,7 @@ AreStores (s ∷ rest) count = IsStore s count × AreStores rest count
 pub record Leads (ds : List Declared) (c : Flat) (next : List ℕ) (stores : List Store) (f : Situation → Stored) : Type 0 where
   pub count : (x : Situation) → IsFine ds x → length (f x).registers ≡ length next
   pub registers : (r : ℕ) → r < length next → Numbers ds c (get_or next r 0) (λ x. (get_or (f x).registers r nothing).value)
-  pub memories : (x : Situation) (slots : List ℕ) → IsFine ds x → Starts c x slots → applied (run (banks_of x.stored) c.steps slots) stores (banks_of x.stored) ≡ banks_of (f x)
+  pub memories : (x : Situation) (slots : List ℕ) → IsFine ds x → Starts c x slots → applied (run (contents_of x.stored) c.steps slots) stores (contents_of x.stored) ≡ contents_of (f x)
 
 -- a guard: none, or a slot that is not zero where it holds
 abbrev pub IsGuard : Option ℕ → ℕ → Type 0
@@ -159,21 +159,21 @@ pub record GuardsAs (old new : Flat) (guard : Option ℕ) (slot : ℕ) : Type 0 
   pub gives : (ds : List Declared) (holds : Situation → Bool) → Guards ds old guard holds → GuardsBy ds new slot holds
 
 -- a statement, done where the guard holds
-pub record ActsOne (old new : Flat) (n : Places) (guard : Option ℕ) (a : Act Net) (next next' : List ℕ) (stores stores' : List Store) : Type 0 where
+pub record ExecutesOne (old new : Flat) (n : Operands) (guard : Option ℕ) (a : StatementTree Net) (next next' : List ℕ) (stores stores' : List Store) : Type 0 where
   pub leads :
       (ds : List Declared) (wires : Situation → List Word) (holds : Situation → Bool) (f : Situation → Stored)
       → Knows ds old n wires → Guards ds old guard holds → Leads ds old next stores f → Leads ds new next' stores' (λ x. if holds x then done (env_at wires x) a (f x) else f x)
 
-pub record ActsMore (old new : Flat) (n : Places) (guard : Option ℕ) (a : Acts Net) (next next' : List ℕ) (stores stores' : List Store) : Type 0 where
+pub record ExecutesMore (old new : Flat) (n : Operands) (guard : Option ℕ) (a : StatementTrees Net) (next next' : List ℕ) (stores stores' : List Store) : Type 0 where
   pub leads :
       (ds : List Declared) (wires : Situation → List Word) (holds : Situation → Bool) (f : Situation → Stored)
       → Knows ds old n wires → Guards ds old guard holds → Leads ds old next stores f → Leads ds new next' stores' (λ x. if holds x then all_done (env_at wires x) a (f x) else f x)
 
-abbrev pub AreActs : Places → List (Act Net) → Type 0
-AreActs n [] = ⊤
-AreActs n (a ∷ rest) = (act_typed (scope_of n) (widths_at n.registers.items) (sizes_of n.memories.items) a ≡ true) × AreActs n rest
+abbrev pub AreStatements : Operands → List (StatementTree Net) → Type 0
+AreStatements n [] = ⊤
+AreStatements n (a ∷ rest) = (statement_typed (scope_of n) (widths_at n.registers.items) (sizes_of n.memories.items) a ≡ true) × AreStatements n rest
 
-pub record ActsAll (old new : Flat) (n : Places) (all : List (Act Net)) (next next' : List ℕ) (stores stores' : List Store) : Type 0 where
+pub record ExecutesAll (old new : Flat) (n : Operands) (all : List (StatementTree Net)) (next next' : List ℕ) (stores stores' : List Store) : Type 0 where
   pub leads :
       (ds : List Declared) (wires : Situation → List Word) (f : Situation → Stored)
       → Knows ds old n wires → Leads ds old next stores f → Leads ds new next' stores' (λ x. edge (env_at wires x) all (f x))

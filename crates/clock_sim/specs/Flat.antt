@@ -1,4 +1,4 @@
--- The code of a design as it grows, and what it gives in each clock.
+-- The steps of a design as they are built, and what they give in each clock.
 use Rattle.std.specs.Prelude.{◌≡◌, ℕ, suc, ⊤, ◌+◌, ◌^◌, ◌<◌, ◌≤◌, Option, Some, None, List, [], ◌∷◌, ◌++◌, length, map}
 use Rattle.std.proofs.Common.{get_or}
 use Rattle.net_core.specs.declared.tree.Word.{Word}
@@ -6,17 +6,17 @@ use Rattle.net_core.specs.declared.tree.Net.{Net}
 use Rattle.net_core.specs.declared.tree.Net.TheVariants.{Port, Register, Memory, Wire}
 use Rattle.net_core.specs.declared.design.Declared.{Declared}
 use Rattle.net_core.specs.Nets.{Tree, Trees, RightTree}
-use Rattle.net_core.specs.Value.{Env, nothing, value, joined_parts, right_value}
+use Rattle.net_core.specs.Value.{Env, nothing, value, concatenated_parts, right_value}
 use Rattle.net_core.specs.Width.{Scope}
 use Rattle.net_core.specs.Suits.{IsOfWidth}
-use Rattle.net_core.specs.Clock.{Stored, env, cell_value}
+use Rattle.net_core.specs.Clock.{Stored, env, memory_word_value}
 use Rattle.clock_sim.specs.declared.step.Step.{Step}
-use Rattle.clock_sim.specs.declared.step.Work.{Work}
-use Rattle.clock_sim.specs.declared.step.Work.TheVariants.{Choose}
-use Rattle.clock_sim.specs.declared.code.Code.{Code}
-use Rattle.clock_sim.specs.declared.code.Place.{Place}
-use Rattle.clock_sim.specs.declared.places.Places.{Places}
-use Rattle.clock_sim.specs.declared.places.Widths.{Widths}
+use Rattle.clock_sim.specs.declared.step.Opcode.{Opcode}
+use Rattle.clock_sim.specs.declared.step.Opcode.TheVariants.{Conditional}
+use Rattle.clock_sim.specs.declared.builder.StepBuilder.{StepBuilder}
+use Rattle.clock_sim.specs.declared.builder.Operand.{Operand}
+use Rattle.clock_sim.specs.declared.operands.Operands.{Operands}
+use Rattle.clock_sim.specs.declared.operands.Widths.{Widths}
 use Rattle.clock_sim.specs.Steps.{worked, run}
 use Rattle.clock_sim.specs.Ready.{ArePorts, IsStored}
 
@@ -25,7 +25,7 @@ pub record Flat : Type 0 where
   pub steps : List Step
   pub slots : List (Option ℕ)
 
-abbrev pub flat_of : Code → Flat
+abbrev pub flat_of : StepBuilder → Flat
 flat_of c = record { steps = c.steps.items; slots = c.slots.items }
 
 -- what a clock begins with: the words at the ports, and what is stored
@@ -40,8 +40,8 @@ pub record IsFine (ds : List Declared) (x : Situation) : Type 0 where
 abbrev pub numbers : List Word → List ℕ
 numbers ws = map (λ w. w.value) ws
 
-abbrev pub banks_of : Stored → List (List ℕ)
-banks_of s = map numbers s.memories
+abbrev pub contents_of : Stored → List (List ℕ)
+contents_of s = map numbers s.memories
 
 -- Slots as a clock finds them: the ports' numbers first, then the registers', and each constant in its slot.
 pub record Starts (c : Flat) (x : Situation) (slots : List ℕ) : Type 0 where
@@ -53,23 +53,23 @@ pub record Starts (c : Flat) (x : Situation) (slots : List ℕ) : Type 0 where
 -- after the steps the slot holds this number, in every clock
 pub record Numbers (ds : List Declared) (c : Flat) (slot : ℕ) (f : Situation → ℕ) : Type 0 where
   pub there : slot < length c.slots
-  pub at : (x : Situation) (slots : List ℕ) → IsFine ds x → Starts c x slots → get_or (run (banks_of x.stored) c.steps slots) slot 0 ≡ f x
+  pub at : (x : Situation) (slots : List ℕ) → IsFine ds x → Starts c x slots → get_or (run (contents_of x.stored) c.steps slots) slot 0 ≡ f x
 
--- the place holds the number of this word, which has its width
-pub record Gives (ds : List Declared) (c : Flat) (p : Place) (f : Situation → Word) : Type 0 where
+-- the operand holds the number of this word, which has its width
+pub record Gives (ds : List Declared) (c : Flat) (p : Operand) (f : Situation → Word) : Type 0 where
   pub number : Numbers ds c p.slot (λ x. (f x).value)
   pub fits : (x : Situation) → IsFine ds x → IsOfWidth p.width (f x)
 
 -- ---- the form of steps
-abbrev pub IsThere : Work → ℕ → ℕ → Type 0
-IsThere Choose number count = (number < count) × (number < 2 ^ 32)
+abbrev pub IsThere : Opcode → ℕ → ℕ → Type 0
+IsThere Conditional number count = (number < count) × (number < 2 ^ 32)
 IsThere _ number count = ⊤
 
 -- It reads and writes slots.
 pub record IsReading (count : ℕ) (s : Step) : Type 0 where
   pub left : s.a < count
   pub right : s.b < count
-  pub third : IsThere s.work s.number count
+  pub third : IsThere s.opcode s.number count
   pub to : s.to < count
 
 abbrev pub AreReading : ℕ → List Step → Type 0
@@ -86,14 +86,14 @@ pub record IsBehind (n : ℕ) (s : Step) : Type 0 where
   pub from : n ≤ s.to
   pub left : s.a < s.to
   pub right : s.b < s.to
-  pub third : IsThere s.work s.number s.to
+  pub third : IsThere s.opcode s.number s.to
 
 -- each step writes a slot behind those that it reads and those that earlier steps write
 abbrev pub Climb : ℕ → List Step → Type 0
 Climb n [] = ⊤
 Climb n (s ∷ rest) = IsBehind n s × Climb (suc s.to) rest
 
-pub record IsCode (c : Flat) : Type 0 where
+pub record IsConsistent (c : Flat) : Type 0 where
   pub climb : Climb 0 c.steps
   pub reading : AreReading (length c.slots) c.steps
   pub free : AreFree c.slots c.steps
@@ -112,10 +112,10 @@ pub record Extends (old new : Flat) : Type 0 where
   pub own : WriteFrom (length old.slots) more
 
 -- what one more step gives, at its slot
-pub record Works (work : Work) (a b shift number : ℕ) (old new : Flat) (to : ℕ) : Type 0 where
+pub record Works (opcode : Opcode) (a b shift number : ℕ) (old new : Flat) (to : ℕ) : Type 0 where
   pub gives :
       (ds : List Declared) (f : Situation → ℕ)
-      → ((x : Situation) (slots : List ℕ) → IsFine ds x → Starts old x slots → worked work (banks_of x.stored) (run (banks_of x.stored) old.steps slots) number shift (get_or (run (banks_of x.stored) old.steps slots) a 0) (get_or (run (banks_of x.stored) old.steps slots) b 0) ≡ f x)
+      → ((x : Situation) (slots : List ℕ) → IsFine ds x → Starts old x slots → worked opcode (contents_of x.stored) (run (contents_of x.stored) old.steps slots) number shift (get_or (run (contents_of x.stored) old.steps slots) a 0) (get_or (run (contents_of x.stored) old.steps slots) b 0) ≡ f x)
       → Numbers ds new to f
 
 -- a number that always stands at the slot
@@ -123,65 +123,65 @@ pub record Holds (c : Flat) (slot n : ℕ) : Type 0 where
   pub gives : (ds : List Declared) → Numbers ds c slot (λ x. n)
 
 -- what gives a word made of one, of two, of three
-pub record MakesOne (old new : Flat) (a p : Place) (f : Word → Word) : Type 0 where
+pub record MakesOne (old new : Flat) (a p : Operand) (f : Word → Word) : Type 0 where
   pub gives : (ds : List Declared) (u : Situation → Word) → Gives ds old a u → Gives ds new p (λ x. f (u x))
 
-pub record MakesTwo (old new : Flat) (a b p : Place) (f : Word → Word → Word) : Type 0 where
+pub record MakesTwo (old new : Flat) (a b p : Operand) (f : Word → Word → Word) : Type 0 where
   pub gives : (ds : List Declared) (u v : Situation → Word) → Gives ds old a u → Gives ds old b v → Gives ds new p (λ x. f (u x) (v x))
 
-pub record MakesThree (old new : Flat) (a b c p : Place) (f : Word → Word → Word → Word) : Type 0 where
+pub record MakesThree (old new : Flat) (a b c p : Operand) (f : Word → Word → Word → Word) : Type 0 where
   pub gives : (ds : List Declared) (u v w : Situation → Word) → Gives ds old a u → Gives ds old b v → Gives ds old c w → Gives ds new p (λ x. f (u x) (v x) (w x))
 
 -- ---- nets
-abbrev pub no_place : Place
-no_place = record { slot = 0; width = 0 }
+abbrev pub no_operand : Operand
+no_operand = record { slot = 0; width = 0 }
 
-abbrev pub place_in : Places → Net → Place
-place_in n (Port k) = get_or n.ports.items k no_place
-place_in n (Register k) = get_or n.registers.items k no_place
-place_in n (Memory k) = no_place
-place_in n (Wire k) = get_or n.wires.items k no_place
+abbrev pub operand_in : Operands → Net → Operand
+operand_in n (Port k) = get_or n.ports.items k no_operand
+operand_in n (Register k) = get_or n.registers.items k no_operand
+operand_in n (Memory k) = no_operand
+operand_in n (Wire k) = get_or n.wires.items k no_operand
 
 abbrev pub no_widths : Widths
 no_widths = record { index = 0; word = 0 }
 
-abbrev pub widths_in : Places → Net → Widths
+abbrev pub widths_in : Operands → Net → Widths
 widths_in n (Port k) = no_widths
 widths_in n (Register k) = no_widths
 widths_in n (Memory k) = get_or n.memories.items k no_widths
 widths_in n (Wire k) = no_widths
 
 -- what can be read
-abbrev pub scope_of : Places → Scope Net
-scope_of n = record { net = λ k. (place_in n k).width; cell = λ m. (widths_in n m).word; index = λ m. (widths_in n m).index }
+abbrev pub scope_of : Operands → Scope Net
+scope_of n = record { net = λ k. (operand_in n k).width; memory_word = λ m. (widths_in n m).word; index = λ m. (widths_in n m).index }
 
--- each place of a net is a slot
-pub record ArePlaces (n : Places) (count : ℕ) : Type 0 where
-  pub there : (k : Net) → 0 < (place_in n k).width → (place_in n k).slot < count
+-- each operand of a net is a slot
+pub record AreOperands (n : Operands) (count : ℕ) : Type 0 where
+  pub there : (k : Net) → 0 < (operand_in n k).width → (operand_in n k).slot < count
 
 -- the values of a clock's nets where wires have these words
 abbrev pub env_at : (Situation → List Word) → Situation → Env Net
 env_at wires x = env x.ins x.stored (wires x)
 
 -- the words of memories have their widths
-pub record AreCells (ds : List Declared) (n : Places) : Type 0 where
-  pub fit : (m : Net) (a : ℕ) (x : Situation) → IsFine ds x → 0 < (widths_in n m).word → a < 2 ^ (widths_in n m).index → IsOfWidth (widths_in n m).word (cell_value x.stored m a)
+pub record AreCells (ds : List Declared) (n : Operands) : Type 0 where
+  pub fit : (m : Net) (a : ℕ) (x : Situation) → IsFine ds x → 0 < (widths_in n m).word → a < 2 ^ (widths_in n m).index → IsOfWidth (widths_in n m).word (memory_word_value x.stored m a)
 
--- the places of nets hold their words, in every clock
-pub record Knows (ds : List Declared) (c : Flat) (n : Places) (wires : Situation → List Word) : Type 0 where
-  pub net : (k : Net) → 0 < (place_in n k).width → Gives ds c (place_in n k) (λ x. (env_at wires x).net k)
+-- the operands of nets hold their words, in every clock
+pub record Knows (ds : List Declared) (c : Flat) (n : Operands) (wires : Situation → List Word) : Type 0 where
+  pub net : (k : Net) → 0 < (operand_in n k).width → Gives ds c (operand_in n k) (λ x. (env_at wires x).net k)
   pub cells : AreCells ds n
 
 -- what gives a memory's word at an index
-pub record Fetches (old new : Flat) (n : Places) (memory : Net) (at p : Place) : Type 0 where
-  pub gives : (ds : List Declared) (u : Situation → Word) → AreCells ds n → Gives ds old at u → Gives ds new p (λ x. cell_value x.stored memory (u x).value)
+pub record Fetches (old new : Flat) (n : Operands) (memory : Net) (at p : Operand) : Type 0 where
+  pub gives : (ds : List Declared) (u : Situation → Word) → AreCells ds n → Gives ds old at u → Gives ds new p (λ x. memory_word_value x.stored memory (u x).value)
 
 -- what gives the value of a tree, of parts, of a right side
-pub record Values (old new : Flat) (n : Places) (e : Tree Net) (p : Place) : Type 0 where
+pub record Values (old new : Flat) (n : Operands) (e : Tree Net) (p : Operand) : Type 0 where
   pub gives : (ds : List Declared) (wires : Situation → List Word) → Knows ds old n wires → Gives ds new p (λ x. value (env_at wires x) e)
 
-pub record PartValues (old new : Flat) (n : Places) (ps : Trees Net) (p : Place) : Type 0 where
-  pub gives : (ds : List Declared) (wires : Situation → List Word) → Knows ds old n wires → Gives ds new p (λ x. joined_parts (env_at wires x) ps)
+pub record PartValues (old new : Flat) (n : Operands) (ps : Trees Net) (p : Operand) : Type 0 where
+  pub gives : (ds : List Declared) (wires : Situation → List Word) → Knows ds old n wires → Gives ds new p (λ x. concatenated_parts (env_at wires x) ps)
 
-pub record RightValues (old new : Flat) (n : Places) (r : RightTree Net) (p : Place) : Type 0 where
+pub record RightValues (old new : Flat) (n : Operands) (r : RightTree Net) (p : Operand) : Type 0 where
   pub gives : (ds : List Declared) (wires : Situation → List Word) → Knows ds old n wires → Gives ds new p (λ x. right_value (env_at wires x) r)

@@ -3,49 +3,49 @@ use Rattle.std.specs.Prelude.{◌≡◌, ℕ, suc, ◌+◌, ◌≤◌, Option, S
 use Rattle.std.proofs.Common.{get_or}
 use Rattle.net_core.specs.declared.tree.Word.{Word}
 use Rattle.net_core.specs.declared.design.Declared.{Declared}
-use Rattle.net_core.specs.Nets.{Plan}
+use Rattle.net_core.specs.Nets.{Netlist}
 use Rattle.net_core.specs.Value.{word}
 use Rattle.net_core.specs.Width.{IsTyped, register_widths, memory_widths}
-use Rattle.net_core.specs.Clock.{Stored, first_words, first_cells, env_of, stopping, assigned, after}
-use Rattle.net_core.specs.View.{plan_of}
-use Rattle.clock_sim.specs.declared.code.Place.{Place}
+use Rattle.net_core.specs.Clock.{Stored, first_words, first_memories, env_of, stopping, assigned, after}
+use Rattle.net_core.specs.View.{netlist_of}
+use Rattle.clock_sim.specs.declared.builder.Operand.{Operand}
 use Rattle.clock_sim.specs.declared.layout.Layout.{Layout}
 use Rattle.clock_sim.specs.declared.outputs.Shown.{Shown}
-use Rattle.clock_sim.specs.declared.turn.Program.{Program}
+use Rattle.clock_sim.specs.declared.clock.CompiledDesign.{CompiledDesign}
 use Rattle.clock_sim.specs.declared.compile.Parts.{Parts}
-use Rattle.clock_sim.specs.declared.places.Places.{Places}
+use Rattle.clock_sim.specs.declared.operands.Operands.{Operands}
 use Rattle.clock_sim.specs.declared.edge.Store.{Store}
 use Rattle.clock_sim.specs.Ready.{IsStored}
-use Rattle.clock_sim.specs.Flat.{Flat, Situation, numbers, Numbers, IsCode, AreReading, AreFree, WriteFrom, Extends, Knows}
+use Rattle.clock_sim.specs.Flat.{Flat, Situation, numbers, Numbers, IsConsistent, AreReading, AreFree, WriteFrom, Extends, Knows}
 use Rattle.clock_sim.specs.Orders.{AreGroups}
 use Rattle.clock_sim.specs.Edges.{sizes_of, AreDivisors, AreSlots, AreStores, Stops, Leads, IsShown}
 
-abbrev pub port_places : List Place
-port_places =
+abbrev pub port_operands : List Operand
+port_operands =
     record { slot = 0; width = 0 } ∷ record { slot = 1; width = 1 } ∷ record { slot = 2; width = 64 } ∷ record { slot = 3; width = 4 } ∷ record { slot = 4; width = 1 } ∷ record { slot = 5; width = 32 } ∷ record { slot = 6; width = 0 }
     ∷ record { slot = 7; width = 1 } ∷ record { slot = 8; width = 0 } ∷ record { slot = 9; width = 0 } ∷ record { slot = 10; width = 0 } ∷ record { slot = 11; width = 0 } ∷ record { slot = 12; width = 0 } ∷ record { slot = 13; width = 0 }
     ∷ record { slot = 14; width = 0 } ∷ record { slot = 15; width = 1 } ∷ record { slot = 16; width = 4 } ∷ record { slot = 17; width = 16 } ∷ record { slot = 18; width = 4 } ∷ record { slot = 19; width = 64 } ∷ record { slot = 20; width = 0 } ∷ []
 
 -- registers of these widths, one after another
-abbrev pub places_from : ℕ → List ℕ → List Place
-places_from at [] = []
-places_from at (w ∷ ws) = record { slot = at; width = w } ∷ places_from (suc at) ws
+abbrev pub operands_from : ℕ → List ℕ → List Operand
+operands_from at [] = []
+operands_from at (w ∷ ws) = record { slot = at; width = w } ∷ operands_from (suc at) ws
 
 -- what stands where for what is declared
 pub record IsLayout (ds : List Declared) (l : Layout) : Type 0 where
-  pub registers : l.registers.items ≡ places_from 21 (register_widths ds)
+  pub registers : l.registers.items ≡ operands_from 21 (register_widths ds)
   pub memories : sizes_of l.memories.items ≡ memory_widths ds
   pub values : l.numbers.items ≡ numbers (first_words ds)
-  pub banks : l.banks.items ≡ map numbers (first_cells ds)
+  pub contents : l.contents.items ≡ map numbers (first_memories ds)
 
 -- one more item
 pub record AddsItem (d : Declared) (old new : Layout) : Type 0 where
-  pub registers : new.registers.items ≡ old.registers.items ++ places_from (21 + length old.registers.items) (register_widths (d ∷ []))
+  pub registers : new.registers.items ≡ old.registers.items ++ operands_from (21 + length old.registers.items) (register_widths (d ∷ []))
   pub memories : sizes_of new.memories.items ≡ sizes_of old.memories.items ++ memory_widths (d ∷ [])
   pub values : new.numbers.items ≡ old.numbers.items ++ numbers (first_words (d ∷ []))
-  pub banks : new.banks.items ≡ old.banks.items ++ map numbers (first_cells (d ∷ []))
+  pub contents : new.contents.items ≡ old.contents.items ++ map numbers (first_memories (d ∷ []))
 
-abbrev pub slots_in : List Place → List ℕ
+abbrev pub slots_in : List Operand → List ℕ
 slots_in ps = map (λ p. p.slot) ps
 
 abbrev pub constants_in : List (Option ℕ) → List ℕ
@@ -54,9 +54,9 @@ constants_in (None ∷ rest) = 0 ∷ constants_in rest
 constants_in (Some n ∷ rest) = n ∷ constants_in rest
 
 -- slots into which numbers were written, from one on
-abbrev pub laid : ℕ → List ℕ → List ℕ → List ℕ
-laid at [] slots = slots
-laid at (n ∷ ns) slots = laid (suc at) ns (slice_set slots at n)
+abbrev pub with_words : ℕ → List ℕ → List ℕ → List ℕ
+with_words at [] slots = slots
+with_words at (n ∷ ns) slots = with_words (suc at) ns (slice_set slots at n)
 
 -- ---- what is stored
 abbrev pub words_from : List ℕ → ℕ → List ℕ → List Word
@@ -64,15 +64,15 @@ words_from [] at slots = []
 words_from (w ∷ ws) at slots = word w (get_or slots at 0) ∷ words_from ws (suc at) slots
 
 abbrev pub cells_from : List (ℕ × ℕ) → List (List ℕ) → List (List Word)
-cells_from [] banks = []
+cells_from [] contents = []
 cells_from (w ∷ ws) [] = []
-cells_from (w ∷ ws) (b ∷ banks) = map (λ n. word w.1 n) b ∷ cells_from ws banks
+cells_from (w ∷ ws) (b ∷ contents) = map (λ n. word w.1 n) b ∷ cells_from ws contents
 
 abbrev pub stored_in : List Declared → List ℕ → List (List ℕ) → Stored
-stored_in ds slots banks = record { registers = words_from (register_widths ds) 21 slots; memories = cells_from (memory_widths ds) banks }
+stored_in ds slots contents = record { registers = words_from (register_widths ds) 21 slots; memories = cells_from (memory_widths ds) contents }
 
-abbrev pub stored_of : Program → List ℕ → List (List ℕ) → Stored
-stored_of p slots banks = stored_in p.design.declared.items slots banks
+abbrev pub stored_of : CompiledDesign → List ℕ → List (List ℕ) → Stored
+stored_of p slots contents = stored_in p.design.declared.items slots contents
 
 -- the slots of what the ports show
 pub record ShowsPorts (ds : List Declared) (c : Flat) (s : Shown) (at : ℕ → Situation → Word) : Type 0 where
@@ -86,13 +86,13 @@ pub record ShowsPorts (ds : List Declared) (c : Flat) (s : Shown) (at : ℕ → 
   pub out_reload : Numbers ds c s.out_reload (λ x. (at 14 x).value)
   pub host_value : Numbers ds c s.host_value (λ x. (at 20 x).value)
 
--- the code of a program, with the constants that stand in its slots
-abbrev pub code_of : Program → List (Option ℕ) → Flat
-code_of p constants = record { steps = p.steps.items; slots = constants }
+-- the steps of a compiled design, with the constants that stand in its slots
+abbrev pub flat_with : CompiledDesign → List (Option ℕ) → Flat
+flat_with p constants = record { steps = p.steps.items; slots = constants }
 
--- what the program of a design gives in every clock
-pub record IsProgram (p : Program) (constants : List (Option ℕ)) : Type 0 where
-  pub typed : IsTyped (plan_of p.design)
+-- what a compiled design gives in every clock
+pub record IsCompiled (p : CompiledDesign) (constants : List (Option ℕ)) : Type 0 where
+  pub typed : IsTyped (netlist_of p.design)
   pub reading : AreReading (length constants) p.steps.items
   pub free : AreFree constants p.steps.items
   pub groups : AreGroups p.groups.items p.steps.items
@@ -104,23 +104,23 @@ pub record IsProgram (p : Program) (constants : List (Option ℕ)) : Type 0 wher
   pub next : AreSlots p.next.items (length constants)
   pub count : length p.next.items ≡ length (register_widths p.design.declared.items)
   pub stores : AreStores p.stores.items (length constants)
-  pub stops : Stops p.design.declared.items (code_of p constants) p.divisors.items (λ x. stopping (plan_of p.design) x.ins x.stored)
-  pub shows : ShowsPorts p.design.declared.items (code_of p constants) p.shown (λ port x. assigned (env_of (plan_of p.design) x.ins x.stored) (plan_of p.design).assigns port)
-  pub leads : Leads p.design.declared.items (code_of p constants) p.next.items p.stores.items (λ x. after (plan_of p.design) x.ins x.stored)
+  pub stops : Stops p.design.declared.items (flat_with p constants) p.divisors.items (λ x. stopping (netlist_of p.design) x.ins x.stored)
+  pub shows : ShowsPorts p.design.declared.items (flat_with p constants) p.shown (λ port x. assigned (env_of (netlist_of p.design) x.ins x.stored) (netlist_of p.design).assigns port)
+  pub leads : Leads p.design.declared.items (flat_with p constants) p.next.items p.stores.items (λ x. after (netlist_of p.design) x.ins x.stored)
 
 -- a simulator between two clocks, with so many words for the next registers
-pub record IsReady (p : Program) (slots : List ℕ) (banks : List (List ℕ)) (next : ℕ) : Type 0 where
+pub record IsReady (p : CompiledDesign) (slots : List ℕ) (contents : List (List ℕ)) (next : ℕ) : Type 0 where
   pub constants : List (Option ℕ)
-  pub program : IsProgram p constants
+  pub compiled : IsCompiled p constants
   pub count : length slots ≡ length constants
   pub kept : (k n : ℕ) → get_or constants k None ≡ Some n → get_or slots k 0 ≡ n
-  pub stored : IsStored p.design.declared.items (stored_of p slots banks)
-  pub banks_count : length banks ≡ length (memory_widths p.design.declared.items)
+  pub stored : IsStored p.design.declared.items (stored_of p slots contents)
+  pub contents_count : length contents ≡ length (memory_widths p.design.declared.items)
   pub next_count : next ≡ length p.next.items
 
 -- what the steps of wires, outputs and always blocks give
-pub record Compiles (d : Plan) (old new : Flat) (n : Places) (begun ended : List ℕ) (made : List Store) (parts : Parts) : Type 0 where
-  pub code : IsCode new
+pub record Compiles (d : Netlist) (old new : Flat) (n : Operands) (begun ended : List ℕ) (made : List Store) (parts : Parts) : Type 0 where
+  pub builder : IsConsistent new
   pub extends : Extends old new
   pub divisors : AreDivisors parts.divisors.items (length new.slots)
   pub shown : IsShown parts.shown (length new.slots)

@@ -4,22 +4,22 @@ use Rattle.std.specs.Coded.{Coded, code_by, coded×}
 use Rattle.net_core.specs.declared.tree.Word.{Word}
 use Rattle.net_core.specs.declared.tree.Net.{Net}
 use Rattle.net_core.specs.declared.tree.Net.TheVariants.{Wire}
-use Rattle.net_core.specs.Nets.{Plan}
+use Rattle.net_core.specs.Nets.{Netlist}
 use Rattle.net_core.specs.Clock.{Stored, stopping}
 use Rattle.net_core.specs.Names.{name_place}
-use Rattle.net_core.specs.Codes.{coded_plan, coded_stored}
+use Rattle.net_core.specs.Codes.{coded_netlist, coded_stored}
 
 pub record Running : Type 0 where
-  pub plan : Plan
+  pub netlist : Netlist
   pub stored : Stored
 
 abbrev pub coded_running : Coded Running
-coded_running = code_by (Plan × Stored) (coded× coded_plan coded_stored) (λ r. (r.plan, r.stored)) (λ p. record { plan = p.0; stored = p.1 }) (λ r. refl)
+coded_running = code_by (Netlist × Stored) (coded× coded_netlist coded_stored) (λ r. (r.netlist, r.stored)) (λ p. record { netlist = p.0; stored = p.1 }) (λ r. refl)
 
 -- the net of the wire whose divisor is zero in this clock, if there is one
-abbrev pub stopped_net : Plan → List Word → Stored → Option Net
+abbrev pub stopped_net : Netlist → List Word → Stored → Option Net
 stopped_net d ins s = option_map Wire (stopping d ins s)
 
 -- the design has a name for it
-abbrev pub IsNamed : Plan → Net → Type 0
+abbrev pub IsNamed : Netlist → Net → Type 0
 IsNamed d n = name_place d n < length d.names

@@ -1,41 +1,41 @@
-//! From a design to its program.
+//! From a design to its steps.
 
 ghost use Rattle.std.specs.Prelude.{◌≡◌, None, [], length, replicate, IfOk};
 ghost use Rattle.net_core.specs.Clock.{first_stored};
-ghost use Rattle.net_core.specs.View.{plan_of};
+ghost use Rattle.net_core.specs.View.{netlist_of};
 ghost use Rattle.net_core.specs.Width.{IsTyped};
-ghost use Rattle.clock_sim.specs.Flat.{flat_of, IsCode, ArePlaces};
+ghost use Rattle.clock_sim.specs.Flat.{flat_of, IsConsistent, AreOperands};
 ghost use Rattle.clock_sim.specs.Edges.{Matches, AreSlots};
 ghost use Rattle.clock_sim.specs.Layouts.{stored_of, IsReady, constants_in, slots_in, Compiles};
 
-use crate::bank::Bank;
-use crate::code::{Code, Place};
-use crate::edge::{Store, act_always};
-use crate::layout::{Layout, PORTS, layout_of, port_places_of};
+use crate::builder::{Operand, StepBuilder};
+use crate::clock::{CompiledDesign, write_at};
+use crate::edge::{Store, add_always};
+use crate::layout::{Layout, PORTS, layout_of, port_operands_of};
+use crate::memory::MemoryWords;
+use crate::operands::Operands;
 use crate::order::{groups_of, reorder};
 use crate::outputs::{Shown, add_outputs};
-use crate::places::Places;
-use crate::turn::{Program, lay};
 use crate::wires::{Divisor, add_wires, divisors_of};
 use net_core::design::Design;
 use std::alloc::{AllocError, Global};
 
-/// A program, and what a clock finds at first.
+/// A compiled design, and what a clock finds at first.
 #[derive(Drop)]
 pub struct Start {
-    pub program: Program,
+    pub compiled: CompiledDesign,
     pub slots: Vec<u64>,
-    pub banks: Vec<Bank>,
+    pub contents: Vec<MemoryWords>,
     pub next: Vec<u64>,
 }
 
-// The slots of places.
-fn slots_of(alloc: Global, places: &[Place]) -> Result<Vec<u32>, AllocError>
-    ensures { IfOk result (λ v. v.items ≡ slots_in places.now) }
+// The slots of operands.
+fn slots_of(alloc: Global, operands: &[Operand]) -> Result<Vec<u32>, AllocError>
+    ensures { IfOk result (λ v. v.items ≡ slots_in operands.now) }
 {
     let mut slots = Vec::new(alloc);
-    for place in places {
-        slots.push(place.slot)?;
+    for operand in operands {
+        slots.push(operand.slot)?;
     }
     Ok(slots)
 }
@@ -73,47 +73,47 @@ pub struct Parts {
 fn add_parts(
     alloc: Global,
     design: &Design,
-    places: &mut Places,
-    code: &mut Code,
+    operands: &mut Operands,
+    builder: &mut StepBuilder,
     next: &mut [u32],
     stores: &mut Vec<Store>,
 ) -> Result<Parts, AllocError>
-    requires typed { IsTyped (plan_of design.now) }
-    requires none { places.old.wires.items ≡ [] }
-    requires matches { Matches (plan_of design.now) places.old }
-    requires code { IsCode (flat_of code.old) }
-    requires places { ArePlaces places.old (length code.old.slots.items) }
-    requires count { length next.old ≡ length places.old.registers.items }
-    requires next { AreSlots next.old (length code.old.slots.items) }
+    requires typed { IsTyped (netlist_of design.now) }
+    requires none { operands.old.wires.items ≡ [] }
+    requires matches { Matches (netlist_of design.now) operands.old }
+    requires builder { IsConsistent (flat_of builder.old) }
+    requires operands { AreOperands operands.old (length builder.old.slots.items) }
+    requires count { length next.old ≡ length operands.old.registers.items }
+    requires next { AreSlots next.old (length builder.old.slots.items) }
     requires stores { stores.old.items ≡ [] }
-    ensures { IfOk result (λ parts. Compiles (plan_of design.now) (flat_of code.old) (flat_of code.new) places.old next.old next.new stores.new.items parts) }
+    ensures { IfOk result (λ parts. Compiles (netlist_of design.now) (flat_of builder.old) (flat_of builder.new) operands.old next.old next.new stores.new.items parts) }
 {
-    add_wires(&design.wires, places, code)?;
-    let divisors = divisors_of(alloc, &design.wires, places)?;
-    let shown = add_outputs(&design.assigns, places, code)?;
-    act_always(&design.always, places, code, next, stores)?;
+    add_wires(&design.wires, operands, builder)?;
+    let divisors = divisors_of(alloc, &design.wires, operands)?;
+    let shown = add_outputs(&design.assigns, operands, builder)?;
+    add_always(&design.always, operands, builder, next, stores)?;
     Ok(Parts { divisors, shown })
 }
 
-/// Compiles a design into a program of flat steps.
+/// Compiles a design into flat steps.
 pub fn compile(alloc: Global, design: Design) -> Result<Start, AllocError>
-    requires { IsTyped (plan_of design) }
-    ensures design { IfOk result (λ s. s.program.design ≡ design) }
-    ensures stored { IfOk result (λ s. stored_of s.program s.slots.items s.banks.items ≡ first_stored (plan_of design)) }
-    ensures ready { IfOk result (λ s. IsReady s.program s.slots.items s.banks.items (length s.next.items)) }
+    requires { IsTyped (netlist_of design) }
+    ensures design { IfOk result (λ s. s.compiled.design ≡ design) }
+    ensures stored { IfOk result (λ s. stored_of s.compiled s.slots.items s.contents.items ≡ first_stored (netlist_of design)) }
+    ensures ready { IfOk result (λ s. IsReady s.compiled s.slots.items s.contents.items (length s.next.items)) }
 {
     let layout = layout_of(alloc, &design.declared)?;
     let Layout {
         registers,
         memories,
         numbers,
-        banks,
+        contents,
     } = layout;
     let count = registers.len();
     let mut next = slots_of(alloc, &registers)?;
-    let ports = port_places_of(alloc)?;
+    let ports = port_operands_of(alloc)?;
     let wires = Vec::new(alloc);
-    let mut places = Places {
+    let mut operands = Operands {
         ports,
         registers,
         memories,
@@ -121,23 +121,23 @@ pub fn compile(alloc: Global, design: Design) -> Result<Start, AllocError>
     };
     let steps = Vec::new(alloc);
     let slots = blank_slots(alloc, PORTS + count)?;
-    let mut code = Code { steps, slots };
+    let mut builder = StepBuilder { steps, slots };
     let mut stores = Vec::new(alloc);
     let parts = add_parts(
         alloc,
         &design,
-        &mut places,
-        &mut code,
+        &mut operands,
+        &mut builder,
         &mut next,
         &mut stores,
     )?;
-    let mut steps = code.steps;
-    reorder(alloc, &mut steps, code.slots.len())?;
+    let mut steps = builder.steps;
+    reorder(alloc, &mut steps, builder.slots.len())?;
     let groups = groups_of(alloc, &steps)?;
-    let mut slots = constants_of(alloc, &code.slots)?;
-    lay(PORTS, &numbers, &mut slots);
+    let mut slots = constants_of(alloc, &builder.slots)?;
+    write_at(PORTS, &numbers, &mut slots);
     let words = vec![in alloc; 0; count]?;
-    let program = Program {
+    let compiled = CompiledDesign {
         design,
         steps,
         groups,
@@ -147,9 +147,9 @@ pub fn compile(alloc: Global, design: Design) -> Result<Start, AllocError>
         stores,
     };
     Ok(Start {
-        program,
+        compiled,
         slots,
-        banks,
+        contents,
         next: words,
     })
 }

@@ -1,16 +1,16 @@
 //! The assignments of a rising edge (IEEE 1364-2005, 9.2.2): all from the values before it.
 
 ghost use Rattle.std.specs.Prelude.{◌≡◌, ◌<◌, ◌≤◌, true, [], ◌∷◌, length, map, OnOk, IfOk};
-ghost use Rattle.net_core.specs.View.{act_of, acts_of};
-ghost use Rattle.net_core.specs.Width.{act_typed, acts_typed};
-ghost use Rattle.clock_sim.specs.Flat.{flat_of, IsCode, Extends, ArePlaces, scope_of};
-ghost use Rattle.clock_sim.specs.Edges.{applied, AreSlots, IsStore, AreStores, IsGuard, Picks, GuardsBoth, Opposes, GuardsAs, ActsOne, ActsMore, ActsAll, AreActs, widths_at, sizes_of, taken};
+ghost use Rattle.net_core.specs.View.{statement_of, statements_of};
+ghost use Rattle.net_core.specs.Width.{statement_typed, statements_typed};
+ghost use Rattle.clock_sim.specs.Flat.{flat_of, IsConsistent, Extends, AreOperands, scope_of};
+ghost use Rattle.clock_sim.specs.Edges.{applied, AreSlots, IsStore, AreStores, IsGuard, Picks, GuardsBoth, Opposes, GuardsAs, ExecutesOne, ExecutesMore, ExecutesAll, AreStatements, widths_at, sizes_of, taken};
 
-use crate::bank::Bank;
-use crate::code::{Code, add_step, constant};
+use crate::builder::{StepBuilder, add_step, constant};
 use crate::emit::value_of;
-use crate::places::Places;
-use crate::step::Work;
+use crate::memory::MemoryWords;
+use crate::operands::Operands;
+use crate::step::Opcode;
 use net_core::tree::{Net, Stmt, Stmts};
 use std::alloc::AllocError;
 
@@ -31,75 +31,80 @@ pub struct Edge {
 }
 
 // The first word where the guard holds, else the second.
-fn picked(guard: Option<u32>, first: u32, second: u32, code: &mut Code) -> Result<u32, AllocError>
-    requires code { IsCode (flat_of code.old) }
-    requires guard { IsGuard guard (length code.old.slots.items) }
-    requires first { first < length code.old.slots.items }
-    requires second { second < length code.old.slots.items }
-    ensures extends { OnOk result (Extends (flat_of code.old) (flat_of code.new)) }
-    ensures code { OnOk result (IsCode (flat_of code.new)) }
-    ensures grows { OnOk result (length code.old.slots.items ≤ length code.new.slots.items) }
-    ensures there { IfOk result (λ slot. slot < length code.new.slots.items) }
-    ensures picks { IfOk result (λ slot. Picks (flat_of code.old) (flat_of code.new) guard first second slot) }
+fn picked(
+    guard: Option<u32>,
+    first: u32,
+    second: u32,
+    builder: &mut StepBuilder,
+) -> Result<u32, AllocError>
+    requires builder { IsConsistent (flat_of builder.old) }
+    requires guard { IsGuard guard (length builder.old.slots.items) }
+    requires first { first < length builder.old.slots.items }
+    requires second { second < length builder.old.slots.items }
+    ensures extends { OnOk result (Extends (flat_of builder.old) (flat_of builder.new)) }
+    ensures builder { OnOk result (IsConsistent (flat_of builder.new)) }
+    ensures grows { OnOk result (length builder.old.slots.items ≤ length builder.new.slots.items) }
+    ensures there { IfOk result (λ slot. slot < length builder.new.slots.items) }
+    ensures picks { IfOk result (λ slot. Picks (flat_of builder.old) (flat_of builder.new) guard first second slot) }
 {
     match guard {
         None => Ok(first),
         Some(test) => {
             let other = u64::from(second);
-            let slot = add_step(code, Work::Choose, test, first, 0, other)?;
+            let slot = add_step(builder, Opcode::Conditional, test, first, 0, other)?;
             Ok(slot)
         }
     }
 }
 
 // Where a guard holds, and a test.
-fn both(guard: Option<u32>, test: u32, code: &mut Code) -> Result<u32, AllocError>
-    requires code { IsCode (flat_of code.old) }
-    requires guard { IsGuard guard (length code.old.slots.items) }
-    requires test { test < length code.old.slots.items }
-    ensures extends { OnOk result (Extends (flat_of code.old) (flat_of code.new)) }
-    ensures code { OnOk result (IsCode (flat_of code.new)) }
-    ensures grows { OnOk result (length code.old.slots.items ≤ length code.new.slots.items) }
-    ensures there { IfOk result (λ slot. slot < length code.new.slots.items) }
-    ensures guards { IfOk result (λ slot. GuardsBoth (flat_of code.old) (flat_of code.new) guard test slot) }
+fn both(guard: Option<u32>, test: u32, builder: &mut StepBuilder) -> Result<u32, AllocError>
+    requires builder { IsConsistent (flat_of builder.old) }
+    requires guard { IsGuard guard (length builder.old.slots.items) }
+    requires test { test < length builder.old.slots.items }
+    ensures extends { OnOk result (Extends (flat_of builder.old) (flat_of builder.new)) }
+    ensures builder { OnOk result (IsConsistent (flat_of builder.new)) }
+    ensures grows { OnOk result (length builder.old.slots.items ≤ length builder.new.slots.items) }
+    ensures there { IfOk result (λ slot. slot < length builder.new.slots.items) }
+    ensures guards { IfOk result (λ slot. GuardsBoth (flat_of builder.old) (flat_of builder.new) guard test slot) }
 {
     match guard {
         None => Ok(test),
         Some(outer) => {
             let zero = u64::from(outer);
-            let slot = add_step(code, Work::Choose, outer, test, 0, zero)?;
+            let slot = add_step(builder, Opcode::Conditional, outer, test, 0, zero)?;
             Ok(slot)
         }
     }
 }
 
 // Where a test is zero.
-fn opposite(test: u32, code: &mut Code) -> Result<u32, AllocError>
-    requires code { IsCode (flat_of code.old) }
-    requires test { test < length code.old.slots.items }
-    ensures extends { OnOk result (Extends (flat_of code.old) (flat_of code.new)) }
-    ensures code { OnOk result (IsCode (flat_of code.new)) }
-    ensures grows { OnOk result (length code.old.slots.items ≤ length code.new.slots.items) }
-    ensures there { IfOk result (λ slot. slot < length code.new.slots.items) }
-    ensures opposes { IfOk result (λ slot. Opposes (flat_of code.old) (flat_of code.new) test slot) }
+fn opposite(test: u32, builder: &mut StepBuilder) -> Result<u32, AllocError>
+    requires builder { IsConsistent (flat_of builder.old) }
+    requires test { test < length builder.old.slots.items }
+    ensures extends { OnOk result (Extends (flat_of builder.old) (flat_of builder.new)) }
+    ensures builder { OnOk result (IsConsistent (flat_of builder.new)) }
+    ensures grows { OnOk result (length builder.old.slots.items ≤ length builder.new.slots.items) }
+    ensures there { IfOk result (λ slot. slot < length builder.new.slots.items) }
+    ensures opposes { IfOk result (λ slot. Opposes (flat_of builder.old) (flat_of builder.new) test slot) }
 {
-    let slot = add_step(code, Work::Complement, test, test, 0, 1)?;
+    let slot = add_step(builder, Opcode::Complement, test, test, 0, 1)?;
     Ok(slot)
 }
 
 // The slot of a guard.
-fn guard_of(guard: Option<u32>, code: &mut Code) -> Result<u32, AllocError>
-    requires code { IsCode (flat_of code.old) }
-    requires guard { IsGuard guard (length code.old.slots.items) }
-    ensures extends { OnOk result (Extends (flat_of code.old) (flat_of code.new)) }
-    ensures code { OnOk result (IsCode (flat_of code.new)) }
-    ensures grows { OnOk result (length code.old.slots.items ≤ length code.new.slots.items) }
-    ensures there { IfOk result (λ slot. slot < length code.new.slots.items) }
-    ensures guards { IfOk result (λ slot. GuardsAs (flat_of code.old) (flat_of code.new) guard slot) }
+fn guard_of(guard: Option<u32>, builder: &mut StepBuilder) -> Result<u32, AllocError>
+    requires builder { IsConsistent (flat_of builder.old) }
+    requires guard { IsGuard guard (length builder.old.slots.items) }
+    ensures extends { OnOk result (Extends (flat_of builder.old) (flat_of builder.new)) }
+    ensures builder { OnOk result (IsConsistent (flat_of builder.new)) }
+    ensures grows { OnOk result (length builder.old.slots.items ≤ length builder.new.slots.items) }
+    ensures there { IfOk result (λ slot. slot < length builder.new.slots.items) }
+    ensures guards { IfOk result (λ slot. GuardsAs (flat_of builder.old) (flat_of builder.new) guard slot) }
 {
     match guard {
         None => {
-            let slot = constant(code, 1)?;
+            let slot = constant(builder, 1)?;
             Ok(slot)
         }
         Some(slot) => Ok(slot),
@@ -108,60 +113,60 @@ fn guard_of(guard: Option<u32>, code: &mut Code) -> Result<u32, AllocError>
 
 /// Adds the steps of a statement, done where the guard holds.
 #[cycle(edge)]
-pub fn act(
+pub fn add_statement(
     s: &Stmt<Net>,
     guard: Option<u32>,
-    places: &Places,
-    code: &mut Code,
+    operands: &Operands,
+    builder: &mut StepBuilder,
     next: &mut [u32],
     stores: &mut Vec<Store>,
 ) -> Result<(), AllocError>
-    requires typed { act_typed (scope_of places.now) (widths_at places.now.registers.items) (sizes_of places.now.memories.items) (act_of s.now) ≡ true }
-    requires code { IsCode (flat_of code.old) }
-    requires places { ArePlaces places.now (length code.old.slots.items) }
-    requires guard { IsGuard guard (length code.old.slots.items) }
-    requires count { length next.old ≡ length places.now.registers.items }
-    requires next { AreSlots next.old (length code.old.slots.items) }
-    requires stores { AreStores stores.old.items (length code.old.slots.items) }
-    ensures extends { OnOk result (Extends (flat_of code.old) (flat_of code.new)) }
-    ensures code { OnOk result (IsCode (flat_of code.new)) }
-    ensures places { OnOk result (ArePlaces places.now (length code.new.slots.items)) }
-    ensures grows { OnOk result (length code.old.slots.items ≤ length code.new.slots.items) }
-    ensures next { OnOk result (AreSlots next.new (length code.new.slots.items)) }
-    ensures stores { OnOk result (AreStores stores.new.items (length code.new.slots.items)) }
-    ensures acts { OnOk result (ActsOne (flat_of code.old) (flat_of code.new) places.now guard (act_of s.now) next.old next.new stores.old.items stores.new.items) }
+    requires typed { statement_typed (scope_of operands.now) (widths_at operands.now.registers.items) (sizes_of operands.now.memories.items) (statement_of s.now) ≡ true }
+    requires builder { IsConsistent (flat_of builder.old) }
+    requires operands { AreOperands operands.now (length builder.old.slots.items) }
+    requires guard { IsGuard guard (length builder.old.slots.items) }
+    requires count { length next.old ≡ length operands.now.registers.items }
+    requires next { AreSlots next.old (length builder.old.slots.items) }
+    requires stores { AreStores stores.old.items (length builder.old.slots.items) }
+    ensures extends { OnOk result (Extends (flat_of builder.old) (flat_of builder.new)) }
+    ensures builder { OnOk result (IsConsistent (flat_of builder.new)) }
+    ensures operands { OnOk result (AreOperands operands.now (length builder.new.slots.items)) }
+    ensures grows { OnOk result (length builder.old.slots.items ≤ length builder.new.slots.items) }
+    ensures next { OnOk result (AreSlots next.new (length builder.new.slots.items)) }
+    ensures stores { OnOk result (AreStores stores.new.items (length builder.new.slots.items)) }
+    ensures executes { OnOk result (ExecutesOne (flat_of builder.old) (flat_of builder.new) operands.now guard (statement_of s.now) next.old next.new stores.old.items stores.new.items) }
 {
     match s {
         Stmt::Block(more) => {
-            act_all(more, guard, places, code, next, stores)?;
+            add_statements(more, guard, operands, builder, next, stores)?;
             Ok(())
         }
         Stmt::If(c, a) => {
-            let test = value_of(c, places, code)?;
-            let inner = both(guard, test.slot, code)?;
-            act(a, Some(inner), places, code, next, stores)?;
+            let test = value_of(c, operands, builder)?;
+            let inner = both(guard, test.slot, builder)?;
+            add_statement(a, Some(inner), operands, builder, next, stores)?;
             Ok(())
         }
         Stmt::IfElse(c, a, b) => {
-            let test = value_of(c, places, code)?;
-            let inner = both(guard, test.slot, code)?;
-            let turned = opposite(test.slot, code)?;
-            let other = both(guard, turned, code)?;
-            act(a, Some(inner), places, code, next, stores)?;
-            act(b, Some(other), places, code, next, stores)?;
+            let test = value_of(c, operands, builder)?;
+            let inner = both(guard, test.slot, builder)?;
+            let turned = opposite(test.slot, builder)?;
+            let other = both(guard, turned, builder)?;
+            add_statement(a, Some(inner), operands, builder, next, stores)?;
+            add_statement(b, Some(other), operands, builder, next, stores)?;
             Ok(())
         }
         Stmt::Set(register, e) => {
-            let value = value_of(e, places, code)?;
+            let value = value_of(e, operands, builder)?;
             let register = *register as usize;
-            let slot = picked(guard, value.slot, next[register], code)?;
+            let slot = picked(guard, value.slot, next[register], builder)?;
             next[register] = slot;
             Ok(())
         }
         Stmt::Store(memory, index, e) => {
-            let at = value_of(index, places, code)?;
-            let word = value_of(e, places, code)?;
-            let guard = guard_of(guard, code)?;
+            let at = value_of(index, operands, builder)?;
+            let word = value_of(e, operands, builder)?;
+            let guard = guard_of(guard, builder)?;
             stores.push(Store {
                 guard,
                 memory: *memory,
@@ -174,61 +179,61 @@ pub fn act(
 }
 
 #[cycle(edge)]
-fn act_all(
+fn add_statements(
     more: &Stmts<Net>,
     guard: Option<u32>,
-    places: &Places,
-    code: &mut Code,
+    operands: &Operands,
+    builder: &mut StepBuilder,
     next: &mut [u32],
     stores: &mut Vec<Store>,
 ) -> Result<(), AllocError>
-    requires typed { acts_typed (scope_of places.now) (widths_at places.now.registers.items) (sizes_of places.now.memories.items) (acts_of more.now) ≡ true }
-    requires code { IsCode (flat_of code.old) }
-    requires places { ArePlaces places.now (length code.old.slots.items) }
-    requires guard { IsGuard guard (length code.old.slots.items) }
-    requires count { length next.old ≡ length places.now.registers.items }
-    requires next { AreSlots next.old (length code.old.slots.items) }
-    requires stores { AreStores stores.old.items (length code.old.slots.items) }
-    ensures extends { OnOk result (Extends (flat_of code.old) (flat_of code.new)) }
-    ensures code { OnOk result (IsCode (flat_of code.new)) }
-    ensures places { OnOk result (ArePlaces places.now (length code.new.slots.items)) }
-    ensures grows { OnOk result (length code.old.slots.items ≤ length code.new.slots.items) }
-    ensures next { OnOk result (AreSlots next.new (length code.new.slots.items)) }
-    ensures stores { OnOk result (AreStores stores.new.items (length code.new.slots.items)) }
-    ensures acts { OnOk result (ActsMore (flat_of code.old) (flat_of code.new) places.now guard (acts_of more.now) next.old next.new stores.old.items stores.new.items) }
+    requires typed { statements_typed (scope_of operands.now) (widths_at operands.now.registers.items) (sizes_of operands.now.memories.items) (statements_of more.now) ≡ true }
+    requires builder { IsConsistent (flat_of builder.old) }
+    requires operands { AreOperands operands.now (length builder.old.slots.items) }
+    requires guard { IsGuard guard (length builder.old.slots.items) }
+    requires count { length next.old ≡ length operands.now.registers.items }
+    requires next { AreSlots next.old (length builder.old.slots.items) }
+    requires stores { AreStores stores.old.items (length builder.old.slots.items) }
+    ensures extends { OnOk result (Extends (flat_of builder.old) (flat_of builder.new)) }
+    ensures builder { OnOk result (IsConsistent (flat_of builder.new)) }
+    ensures operands { OnOk result (AreOperands operands.now (length builder.new.slots.items)) }
+    ensures grows { OnOk result (length builder.old.slots.items ≤ length builder.new.slots.items) }
+    ensures next { OnOk result (AreSlots next.new (length builder.new.slots.items)) }
+    ensures stores { OnOk result (AreStores stores.new.items (length builder.new.slots.items)) }
+    ensures executes { OnOk result (ExecutesMore (flat_of builder.old) (flat_of builder.new) operands.now guard (statements_of more.now) next.old next.new stores.old.items stores.new.items) }
 {
     match more {
         Stmts::End => Ok(()),
         Stmts::Then(s, rest) => {
-            act(s, guard, places, code, next, stores)?;
-            act_all(rest, guard, places, code, next, stores)?;
+            add_statement(s, guard, operands, builder, next, stores)?;
+            add_statements(rest, guard, operands, builder, next, stores)?;
             Ok(())
         }
     }
 }
 
 /// Adds the steps of all always blocks.
-pub fn act_always(
+pub fn add_always(
     all: &[Stmt<Net>],
-    places: &Places,
-    code: &mut Code,
+    operands: &Operands,
+    builder: &mut StepBuilder,
     next: &mut [u32],
     stores: &mut Vec<Store>,
 ) -> Result<(), AllocError>
-    requires typed { AreActs places.now (map act_of all.now) }
-    requires code { IsCode (flat_of code.old) }
-    requires places { ArePlaces places.now (length code.old.slots.items) }
-    requires count { length next.old ≡ length places.now.registers.items }
-    requires next { AreSlots next.old (length code.old.slots.items) }
-    requires stores { AreStores stores.old.items (length code.old.slots.items) }
-    ensures extends { OnOk result (Extends (flat_of code.old) (flat_of code.new)) }
-    ensures code { OnOk result (IsCode (flat_of code.new)) }
-    ensures next { OnOk result (AreSlots next.new (length code.new.slots.items)) }
-    ensures stores { OnOk result (AreStores stores.new.items (length code.new.slots.items)) }
-    ensures acts { OnOk result (ActsAll (flat_of code.old) (flat_of code.new) places.now (map act_of all.now) next.old next.new stores.old.items stores.new.items) }
+    requires typed { AreStatements operands.now (map statement_of all.now) }
+    requires builder { IsConsistent (flat_of builder.old) }
+    requires operands { AreOperands operands.now (length builder.old.slots.items) }
+    requires count { length next.old ≡ length operands.now.registers.items }
+    requires next { AreSlots next.old (length builder.old.slots.items) }
+    requires stores { AreStores stores.old.items (length builder.old.slots.items) }
+    ensures extends { OnOk result (Extends (flat_of builder.old) (flat_of builder.new)) }
+    ensures builder { OnOk result (IsConsistent (flat_of builder.new)) }
+    ensures next { OnOk result (AreSlots next.new (length builder.new.slots.items)) }
+    ensures stores { OnOk result (AreStores stores.new.items (length builder.new.slots.items)) }
+    ensures executes { OnOk result (ExecutesAll (flat_of builder.old) (flat_of builder.new) operands.now (map statement_of all.now) next.old next.new stores.old.items stores.new.items) }
 {
     for s in all {
-        act(s, None, places, code, next, stores)?;
+        add_statement(s, None, operands, builder, next, stores)?;
     }
     Ok(())
 }
@@ -245,9 +250,9 @@ pub fn gather(next: &[u32], slots: &[u64], words: &mut [u64])
 }
 
 // Makes a store, where its guard is not zero.
-fn make(s: Store, slots: &[u64], banks: &mut [Bank])
+fn make(s: Store, slots: &[u64], contents: &mut [MemoryWords])
     requires { IsStore s (length slots.now) }
-    ensures { banks.new ≡ applied slots.now (s ∷ []) banks.old }
+    ensures { contents.new ≡ applied slots.now (s ∷ []) contents.old }
 {
     if slots[s.guard as usize] == 0 {
         return;
@@ -255,17 +260,17 @@ fn make(s: Store, slots: &[u64], banks: &mut [Bank])
     let at = slots[s.at as usize] as usize;
     let word = slots[s.word as usize];
     let memory = s.memory as usize;
-    if memory < banks.len() {
-        banks[memory].store(at, word);
+    if memory < contents.len() {
+        contents[memory].store(at, word);
     }
 }
 
 /// Makes the stores, one after another.
-pub fn finish(stores: &[Store], slots: &[u64], banks: &mut [Bank])
+pub fn finish(stores: &[Store], slots: &[u64], contents: &mut [MemoryWords])
     requires { AreStores stores.now (length slots.now) }
-    ensures { banks.new ≡ applied slots.now stores.now banks.old }
+    ensures { contents.new ≡ applied slots.now stores.now contents.old }
 {
     for s in stores {
-        make(*s, slots, banks);
+        make(*s, slots, contents);
     }
 }

@@ -2,58 +2,58 @@
 
 ghost use Rattle.std.specs.Prelude.{◌≡◌, [], ◌∷◌, OnOk, IfOk, IsTrue};
 ghost use Rattle.net_core.specs.Width.{declared_typed};
-ghost use Rattle.clock_sim.specs.Layouts.{IsLayout, AddsItem, port_places};
+ghost use Rattle.clock_sim.specs.Layouts.{IsLayout, AddsItem, port_operands};
 
-use crate::bank::Bank;
-use crate::code::Place;
-use crate::places::Widths;
+use crate::builder::Operand;
+use crate::memory::MemoryWords;
+use crate::operands::Widths;
 use net_core::design::Declared;
 use std::alloc::{AllocError, Global};
 
 /// How many ports there are: their words stand in the first slots, and those of the registers behind them.
 pub const PORTS: usize = 21;
 
-/// The places and first numbers of what is declared.
+/// The operands and first numbers of what is declared.
 #[derive(Drop)]
 pub struct Layout {
-    pub registers: Vec<Place>,
+    pub registers: Vec<Operand>,
     pub memories: Vec<Widths>,
     pub numbers: Vec<u64>,
-    pub banks: Vec<Bank>,
+    pub contents: Vec<MemoryWords>,
 }
 
-fn place(slot: u32, width: u8) -> Place
+fn operand(slot: u32, width: u8) -> Operand
     ensures { result ≡ record { slot = slot; width = width } }
 {
-    Place { slot, width }
+    Operand { slot, width }
 }
 
-/// The places of the ports. `clk` and the outputs are not read, so they have no width.
-pub fn port_places_of(alloc: Global) -> Result<Vec<Place>, AllocError>
-    ensures { IfOk result (λ v. v.items ≡ port_places) }
+/// The operands of the ports. `clk` and the outputs are not read, so they have no width.
+pub fn port_operands_of(alloc: Global) -> Result<Vec<Operand>, AllocError>
+    ensures { IfOk result (λ v. v.items ≡ port_operands) }
 {
     let all = [
-        place(0, 0),
-        place(1, 1),
-        place(2, 64),
-        place(3, 4),
-        place(4, 1),
-        place(5, 32),
-        place(6, 0),
-        place(7, 1),
-        place(8, 0),
-        place(9, 0),
-        place(10, 0),
-        place(11, 0),
-        place(12, 0),
-        place(13, 0),
-        place(14, 0),
-        place(15, 1),
-        place(16, 4),
-        place(17, 16),
-        place(18, 4),
-        place(19, 64),
-        place(20, 0),
+        operand(0, 0),
+        operand(1, 1),
+        operand(2, 64),
+        operand(3, 4),
+        operand(4, 1),
+        operand(5, 32),
+        operand(6, 0),
+        operand(7, 1),
+        operand(8, 0),
+        operand(9, 0),
+        operand(10, 0),
+        operand(11, 0),
+        operand(12, 0),
+        operand(13, 0),
+        operand(14, 0),
+        operand(15, 1),
+        operand(16, 4),
+        operand(17, 16),
+        operand(18, 4),
+        operand(19, 64),
+        operand(20, 0),
     ];
     Vec::from_slice(alloc, &all)
 }
@@ -70,7 +70,7 @@ fn add_item(alloc: Global, d: &Declared, layout: &mut Layout) -> Result<(), Allo
                 return Err(AllocError);
             };
             let width = word.width;
-            layout.registers.push(Place { slot, width })?;
+            layout.registers.push(Operand { slot, width })?;
             layout.numbers.push(word.value)?;
             Ok(())
         }
@@ -78,14 +78,14 @@ fn add_item(alloc: Global, d: &Declared, layout: &mut Layout) -> Result<(), Allo
             let index = *index;
             let word = first.width;
             layout.memories.push(Widths { index, word })?;
-            let bank = Bank::new(alloc, index, first.value)?;
-            layout.banks.push(bank)?;
+            let memory = MemoryWords::new(alloc, index, first.value)?;
+            layout.contents.push(memory)?;
             Ok(())
         }
     }
 }
 
-/// The places and first numbers of registers and memories.
+/// The operands and first numbers of registers and memories.
 pub fn layout_of(alloc: Global, declared: &[Declared]) -> Result<Layout, AllocError>
     requires { IsTrue (declared_typed declared.now) }
     ensures { IfOk result (λ l. IsLayout declared.now l) }
@@ -94,7 +94,7 @@ pub fn layout_of(alloc: Global, declared: &[Declared]) -> Result<Layout, AllocEr
         registers: Vec::new(alloc),
         memories: Vec::new(alloc),
         numbers: Vec::new(alloc),
-        banks: Vec::new(alloc),
+        contents: Vec::new(alloc),
     };
     for d in declared {
         add_item(alloc, d, &mut layout)?;

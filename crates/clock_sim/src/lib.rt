@@ -1,20 +1,20 @@
 //! Runs a design clock by clock.
 #![tactic(auto)]
 
-mod bank;
-mod code;
+mod builder;
+mod clock;
 mod compile;
 mod edge;
 mod emit;
 mod layout;
+mod memory;
 mod names;
+mod operands;
 mod order;
 mod outputs;
-mod places;
 mod ports;
 mod sim;
 mod step;
-mod turn;
 mod wires;
 
 pub use sim::{Sim, XValue};

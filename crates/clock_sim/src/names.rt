@@ -2,7 +2,7 @@
 
 ghost use Rattle.std.specs.Prelude.{◌≡◌, ◌^◌, ◌<◌, length, if◌then◌else◌};
 ghost use Rattle.net_core.specs.Names.{is_register, is_memory, place_of, name_place};
-ghost use Rattle.net_core.specs.View.{plan_of};
+ghost use Rattle.net_core.specs.View.{netlist_of};
 
 use net_core::design::{Declared, Design};
 use net_core::tree::Net;
@@ -37,8 +37,8 @@ fn place(declared: &[Declared], memory: bool, number: u32) -> usize
 
 /// The place of a net's name among a design's names.
 pub fn place_in(design: &Design, net: Net) -> usize
-    requires { name_place (plan_of design.now) net < length design.now.names.items }
-    ensures { result ≡ name_place (plan_of design.now) net }
+    requires { name_place (netlist_of design.now) net < length design.now.names.items }
+    ensures { result ≡ name_place (netlist_of design.now) net }
 {
     match net {
         Net::Port(i) => i as usize,

@@ -5,16 +5,16 @@ ghost use Rattle.std.proofs.Common.{get_or};
 ghost use Rattle.clock_sim.specs.Flat.{IsReading, AreReading, IsBehind, Climb};
 ghost use Rattle.clock_sim.specs.Orders.{AreGroups, third_depth, depth_of, AreDepths, rank, Reordered};
 
-use crate::step::{Group, Step, Work};
+use crate::step::{Group, Opcode, Step};
 use std::alloc::{AllocError, Global};
 
 // The depth of a step's third operand, where it has one.
 fn third_depth(step: &Step, depths: &[u32]) -> u32
     requires { IsReading (length depths.now) step.now }
-    ensures { result ≡ third_depth step.now.work depths.now step.now.number }
+    ensures { result ≡ third_depth step.now.opcode depths.now step.now.number }
 {
-    match step.work {
-        Work::Choose => depths[step.number as usize],
+    match step.opcode {
+        Opcode::Conditional => depths[step.number as usize],
         _ => 0,
     }
 }
@@ -51,7 +51,7 @@ fn rank(step: &Step, depths: &[u32]) -> u64
     ensures { result ≡ rank depths.now step.now }
 {
     let depth = depths.get(step.to as usize).copied().unwrap_or(0);
-    u64::from(depth) * 32 + step.work as u64
+    u64::from(depth) * 32 + step.opcode as u64
 }
 
 /// Puts steps in an order that gives the same: those whose words lie equally deep do not read each other, so that the
@@ -67,10 +67,10 @@ pub fn reorder(alloc: Global, steps: &mut Vec<Step>, count: usize) -> Result<(),
 }
 
 // Whether one more step of a kind belongs to a group.
-fn takes(group: Group, work: Work) -> bool
-    ensures { result ≡ true → (work ≡ group.work) × (group.count + 1 < 2 ^ 64) }
+fn takes(group: Group, opcode: Opcode) -> bool
+    ensures { result ≡ true → (opcode ≡ group.opcode) × (group.count + 1 < 2 ^ 64) }
 {
-    group.work == work && group.count < usize::MAX
+    group.opcode == opcode && group.count < usize::MAX
 }
 
 /// The groups in which steps stand.
@@ -79,16 +79,16 @@ pub fn groups_of(alloc: Global, steps: &[Step]) -> Result<Vec<Group>, AllocError
 {
     let mut groups = Vec::new(alloc);
     let mut last = Group {
-        work: Work::Add,
+        opcode: Opcode::Add,
         count: 0,
     };
     for step in steps {
-        if takes(last, step.work) {
+        if takes(last, step.opcode) {
             last.count += 1;
         } else {
             groups.push(last)?;
             last = Group {
-                work: step.work,
+                opcode: step.opcode,
                 count: 1,
             };
         }

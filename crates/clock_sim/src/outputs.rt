@@ -2,12 +2,12 @@
 
 ghost use Rattle.std.specs.Prelude.{◌≡◌, ◌^◌, ◌<◌, ◌≤◌, ◌==◌, length, map, slice_index, OnOk, IfOk};
 ghost use Rattle.net_core.specs.View.{assign_of};
-ghost use Rattle.clock_sim.specs.Flat.{flat_of, IsCode, Extends, ArePlaces};
+ghost use Rattle.clock_sim.specs.Flat.{flat_of, IsConsistent, Extends, AreOperands};
 ghost use Rattle.clock_sim.specs.Edges.{AreShown, Shows, ShowsAll, IsShown, FitShown, outputs_in};
 
-use crate::code::{Code, constant};
+use crate::builder::{StepBuilder, constant};
 use crate::emit::value_of;
-use crate::places::Places;
+use crate::operands::Operands;
 use net_core::design::Assign;
 use net_core::ports::Outputs;
 use std::alloc::AllocError;
@@ -30,53 +30,53 @@ pub struct Shown {
 fn assigned(
     assigns: &[Assign],
     port: u32,
-    places: &Places,
-    code: &mut Code,
+    operands: &Operands,
+    builder: &mut StepBuilder,
 ) -> Result<u32, AllocError>
-    requires typed { AreShown places.now (map assign_of assigns.now) }
-    requires code { IsCode (flat_of code.old) }
-    requires places { ArePlaces places.now (length code.old.slots.items) }
-    ensures extends { OnOk result (Extends (flat_of code.old) (flat_of code.new)) }
-    ensures code { OnOk result (IsCode (flat_of code.new)) }
-    ensures places { OnOk result (ArePlaces places.now (length code.new.slots.items)) }
-    ensures grows { OnOk result (length code.old.slots.items ≤ length code.new.slots.items) }
-    ensures there { IfOk result (λ slot. slot < length code.new.slots.items) }
-    ensures shows { IfOk result (λ slot. Shows (flat_of code.old) (flat_of code.new) places.now (map assign_of assigns.now) port slot) }
+    requires typed { AreShown operands.now (map assign_of assigns.now) }
+    requires builder { IsConsistent (flat_of builder.old) }
+    requires operands { AreOperands operands.now (length builder.old.slots.items) }
+    ensures extends { OnOk result (Extends (flat_of builder.old) (flat_of builder.new)) }
+    ensures builder { OnOk result (IsConsistent (flat_of builder.new)) }
+    ensures operands { OnOk result (AreOperands operands.now (length builder.new.slots.items)) }
+    ensures grows { OnOk result (length builder.old.slots.items ≤ length builder.new.slots.items) }
+    ensures there { IfOk result (λ slot. slot < length builder.new.slots.items) }
+    ensures shows { IfOk result (λ slot. Shows (flat_of builder.old) (flat_of builder.new) operands.now (map assign_of assigns.now) port slot) }
 {
     for a in assigns {
         if a.port == port {
-            let place = value_of(&a.value, places, code)?;
-            return Ok(place.slot);
+            let operand = value_of(&a.value, operands, builder)?;
+            return Ok(operand.slot);
         }
     }
-    let slot = constant(code, 0)?;
+    let slot = constant(builder, 0)?;
     Ok(slot)
 }
 
 /// Adds the steps of the outputs.
 pub fn add_outputs(
     assigns: &[Assign],
-    places: &Places,
-    code: &mut Code,
+    operands: &Operands,
+    builder: &mut StepBuilder,
 ) -> Result<Shown, AllocError>
-    requires typed { AreShown places.now (map assign_of assigns.now) }
-    requires code { IsCode (flat_of code.old) }
-    requires places { ArePlaces places.now (length code.old.slots.items) }
-    ensures extends { OnOk result (Extends (flat_of code.old) (flat_of code.new)) }
-    ensures code { OnOk result (IsCode (flat_of code.new)) }
-    ensures places { OnOk result (ArePlaces places.now (length code.new.slots.items)) }
-    ensures there { IfOk result (λ s. IsShown s (length code.new.slots.items)) }
-    ensures shows { IfOk result (λ s. ShowsAll (flat_of code.old) (flat_of code.new) places.now (map assign_of assigns.now) s) }
+    requires typed { AreShown operands.now (map assign_of assigns.now) }
+    requires builder { IsConsistent (flat_of builder.old) }
+    requires operands { AreOperands operands.now (length builder.old.slots.items) }
+    ensures extends { OnOk result (Extends (flat_of builder.old) (flat_of builder.new)) }
+    ensures builder { OnOk result (IsConsistent (flat_of builder.new)) }
+    ensures operands { OnOk result (AreOperands operands.now (length builder.new.slots.items)) }
+    ensures there { IfOk result (λ s. IsShown s (length builder.new.slots.items)) }
+    ensures shows { IfOk result (λ s. ShowsAll (flat_of builder.old) (flat_of builder.new) operands.now (map assign_of assigns.now) s) }
 {
-    let in_ready = assigned(assigns, 6, places, code)?;
-    let out_valid = assigned(assigns, 8, places, code)?;
-    let out_data = assigned(assigns, 9, places, code)?;
-    let out_bytes = assigned(assigns, 10, places, code)?;
-    let out_last = assigned(assigns, 11, places, code)?;
-    let out_verdict = assigned(assigns, 12, places, code)?;
-    let out_target = assigned(assigns, 13, places, code)?;
-    let out_reload = assigned(assigns, 14, places, code)?;
-    let host_value = assigned(assigns, 20, places, code)?;
+    let in_ready = assigned(assigns, 6, operands, builder)?;
+    let out_valid = assigned(assigns, 8, operands, builder)?;
+    let out_data = assigned(assigns, 9, operands, builder)?;
+    let out_bytes = assigned(assigns, 10, operands, builder)?;
+    let out_last = assigned(assigns, 11, operands, builder)?;
+    let out_verdict = assigned(assigns, 12, operands, builder)?;
+    let out_target = assigned(assigns, 13, operands, builder)?;
+    let out_reload = assigned(assigns, 14, operands, builder)?;
+    let host_value = assigned(assigns, 20, operands, builder)?;
     Ok(Shown {
         in_ready,
         out_valid,

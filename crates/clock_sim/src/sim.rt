@@ -4,14 +4,14 @@ ghost use Rattle.std.specs.Prelude.{◌≡◌, Ok, Some, None, OnOk, IfOk, OnErr
 ghost use Rattle.net_core.specs.Clock.{clock, stopping, first_stored};
 ghost use Rattle.net_core.specs.Names.{name_of};
 ghost use Rattle.net_core.specs.Ports.{AreInputs, words_of, outputs_of};
-ghost use Rattle.net_core.specs.View.{plan_of};
+ghost use Rattle.net_core.specs.View.{netlist_of};
 ghost use Rattle.net_core.specs.Width.{IsTyped};
 ghost use Rattle.clock_sim.specs.Running.{stopped_net, IsNamed};
 
-use crate::bank::Bank;
+use crate::clock::CompiledDesign;
 use crate::compile::compile;
+use crate::memory::MemoryWords;
 use crate::names::place_in;
-use crate::turn::{Program, turn};
 use net_core::design::Design;
 use net_core::ports::{Inputs, Outputs};
 use net_core::tree::Net;
@@ -29,9 +29,9 @@ pub struct XValue {
 /// A design and what it stores between two clocks.
 #[derive(Drop)]
 pub struct Sim {
-    program: Program,
+    compiled: CompiledDesign,
     slots: Vec<u64>,
-    banks: Vec<Bank>,
+    contents: Vec<MemoryWords>,
     next: Vec<u64>,
 }
 
@@ -43,27 +43,27 @@ impl Model for Sim {
     ghost coded = { coded_running };
 
     ghost use Rattle.std.specs.Prelude.{length};
-    ghost use Rattle.net_core.specs.View.{plan_of};
+    ghost use Rattle.net_core.specs.View.{netlist_of};
     ghost use Rattle.clock_sim.specs.Layouts.{stored_of, IsReady};
 
-    ghost view = { λ s. record { plan = plan_of s.program.design; stored = stored_of s.program s.slots.items s.banks.items } };
+    ghost view = { λ s. record { netlist = netlist_of s.compiled.design; stored = stored_of s.compiled s.slots.items s.contents.items } };
 
-    ghost invariant = { λ s. IsReady s.program s.slots.items s.banks.items (length s.next.items) };
+    ghost invariant = { λ s. IsReady s.compiled s.slots.items s.contents.items (length s.next.items) };
 }
 
 impl Sim {
     /// A simulator whose registers and memories have their declared values. A design that needs 2 to the power 32
     /// slots, for its ports, registers, constants and operators, or more is refused as too large for memory.
     pub fn open(alloc: Global, design: Design) -> Result<Sim, AllocError>
-        requires { IsTyped (plan_of design) }
-        ensures plan { IfOk result (λ s. s.plan ≡ plan_of design) }
-        ensures stored { IfOk result (λ s. s.stored ≡ first_stored (plan_of design)) }
+        requires { IsTyped (netlist_of design) }
+        ensures netlist { IfOk result (λ s. s.netlist ≡ netlist_of design) }
+        ensures stored { IfOk result (λ s. s.stored ≡ first_stored (netlist_of design)) }
     {
         let start = compile(alloc, design)?;
         Ok(Sim {
-            program: start.program,
+            compiled: start.compiled,
             slots: start.slots,
-            banks: start.banks,
+            contents: start.contents,
             next: start.next,
         })
     }
@@ -72,27 +72,27 @@ impl Sim {
     /// first such wire in text order, and changes nothing. It takes no memory.
     pub fn clock(&mut self, inputs: &Inputs) -> Result<Outputs, XValue>
         requires { AreInputs inputs.now }
-        ensures plan { self.new.plan ≡ self.old.plan }
-        ensures runs { OnOk result (stopping self.old.plan (words_of inputs.now) self.old.stored ≡ None) }
-        ensures stored { OnOk result (clock self.old.plan (words_of inputs.now) self.old.stored ≡ Ok self.new.stored) }
-        ensures outputs { IfOk result (λ o. o ≡ outputs_of self.old.plan inputs.now self.old.stored) }
-        ensures stops { IfErr result (λ x. stopped_net self.old.plan (words_of inputs.now) self.old.stored ≡ Some x.net) }
+        ensures netlist { self.new.netlist ≡ self.old.netlist }
+        ensures runs { OnOk result (stopping self.old.netlist (words_of inputs.now) self.old.stored ≡ None) }
+        ensures stored { OnOk result (clock self.old.netlist (words_of inputs.now) self.old.stored ≡ Ok self.new.stored) }
+        ensures outputs { IfOk result (λ o. o ≡ outputs_of self.old.netlist inputs.now self.old.stored) }
+        ensures stops { IfErr result (λ x. stopped_net self.old.netlist (words_of inputs.now) self.old.stored ≡ Some x.net) }
         ensures unchanged { OnErr result (self.new ≡ self.old) }
     {
-        turn(
-            &self.program,
+        crate::clock::clock(
+            &self.compiled,
             *inputs,
             &mut self.slots,
-            &mut self.banks,
+            &mut self.contents,
             &mut self.next,
         )
     }
 
     /// The name of a net of the design.
     pub fn name(&self, net: Net) -> &str
-        requires { IsNamed self.now.plan net }
-        ensures { result.now ≡ name_of self.now.plan net }
+        requires { IsNamed self.now.netlist net }
+        ensures { result.now ≡ name_of self.now.netlist net }
     {
-        self.program.design.names[place_in(&self.program.design, net)].as_str()
+        self.compiled.design.names[place_in(&self.compiled.design, net)].as_str()
     }
 }

@@ -5,11 +5,11 @@ ghost use Rattle.clock_sim.specs.Steps.{given, run};
 ghost use Rattle.clock_sim.specs.Flat.{IsReading, AreReading};
 ghost use Rattle.clock_sim.specs.Orders.{AreOf, AreGroups};
 
-use crate::bank::Bank;
+use crate::memory::MemoryWords;
 
 /// What a step works out from its operands `x` and `y`, the words at its slots `a` and `b`.
 #[derive(Clone, Copy, PartialEq, Eq, Debug)]
-pub enum Work {
+pub enum Opcode {
     /// `x + y`, cut by the mask `number`.
     Add,
     /// `x - y`, cut by the mask `number`.
@@ -29,13 +29,13 @@ pub enum Work {
     /// The mask `number` less `x`: each bit turned.
     Complement,
     /// Whether `x` is not zero.
-    Any,
+    ReduceOr,
     /// `x >> shift`, cut by the mask `number`.
-    Select,
+    PartSelect,
     /// `(x << shift) + y`.
-    Join,
+    Concatenation,
     /// `y`, or the word at the slot `number` where `x` is zero.
-    Choose,
+    Conditional,
     /// The word at `x` of the memory `number`.
     Fetch,
     /// `x / y`, where `y` is not zero.
@@ -52,53 +52,53 @@ pub struct Step {
     pub b: u32,
     pub to: u32,
     pub shift: u8,
-    pub work: Work,
+    pub opcode: Opcode,
 }
 
 // What a step gives.
 #[inline(always)]
-fn given(step: Step, banks: &[Bank], slots: &[u64]) -> u64
+fn given(step: Step, contents: &[MemoryWords], slots: &[u64]) -> u64
     requires { IsReading (length slots.now) step }
-    ensures { result ≡ given banks.now slots.now step }
+    ensures { result ≡ given contents.now slots.now step }
 {
     let x = slots[step.a as usize];
     let y = slots[step.b as usize];
     let number = step.number;
-    match step.work {
-        Work::Add => x.wrapping_add(y) & number,
-        Work::Subtract => x.wrapping_sub(y) & number,
-        Work::Multiply => x.wrapping_mul(y) & number,
-        Work::And => x & y,
-        Work::Or => x | y,
-        Work::Xor => x ^ y,
-        Work::ShiftLeft => { if y < 64 { (x << y) & number } else { 0 } }
-        Work::ShiftRight => { if y < 64 { x >> y } else { 0 } }
-        Work::Equal => u64::from(x == y),
-        Work::NotEqual => u64::from(x != y),
-        Work::Less => u64::from(x < y),
-        Work::LessEqual => u64::from(x <= y),
-        Work::Complement => number.saturating_sub(x),
-        Work::Any => u64::from(x != 0),
-        Work::Select => x.wrapping_shr(u32::from(step.shift)) & number,
-        Work::Join => x.wrapping_shl(u32::from(step.shift)).wrapping_add(y),
-        Work::Choose => {
+    match step.opcode {
+        Opcode::Add => x.wrapping_add(y) & number,
+        Opcode::Subtract => x.wrapping_sub(y) & number,
+        Opcode::Multiply => x.wrapping_mul(y) & number,
+        Opcode::And => x & y,
+        Opcode::Or => x | y,
+        Opcode::Xor => x ^ y,
+        Opcode::ShiftLeft => { if y < 64 { (x << y) & number } else { 0 } }
+        Opcode::ShiftRight => { if y < 64 { x >> y } else { 0 } }
+        Opcode::Equal => u64::from(x == y),
+        Opcode::NotEqual => u64::from(x != y),
+        Opcode::Less => u64::from(x < y),
+        Opcode::LessEqual => u64::from(x <= y),
+        Opcode::Complement => number.saturating_sub(x),
+        Opcode::ReduceOr => u64::from(x != 0),
+        Opcode::PartSelect => x.wrapping_shr(u32::from(step.shift)) & number,
+        Opcode::Concatenation => x.wrapping_shl(u32::from(step.shift)).wrapping_add(y),
+        Opcode::Conditional => {
             // Which of the two is taken cannot be foreseen, so its slot is looked up: a branch would often be mistaken.
             let from = [number as u32, step.b];
             slots[from[usize::from(x != 0)] as usize]
         }
-        Work::Fetch => fetched(banks, number as usize, x as usize),
-        Work::Quotient => quotient(x, y),
-        Work::Remainder => remainder(x, y),
+        Opcode::Fetch => fetched(contents, number as usize, x as usize),
+        Opcode::Quotient => quotient(x, y),
+        Opcode::Remainder => remainder(x, y),
     }
 }
 
 // The word of a memory at an index, or 0 where there is none.
 #[inline(always)]
-fn fetched(banks: &[Bank], memory: usize, at: usize) -> u64
-    ensures { result ≡ slice_index_or (slice_index_or banks.now memory []) at 0 }
+fn fetched(contents: &[MemoryWords], memory: usize, at: usize) -> u64
+    ensures { result ≡ slice_index_or (slice_index_or contents.now memory []) at 0 }
 {
-    if memory < banks.len() {
-        banks[memory].read(at)
+    if memory < contents.len() {
+        contents[memory].read(at)
     } else {
         0
     }
@@ -119,64 +119,64 @@ fn remainder(x: u64, y: u64) -> u64
 /// So many steps of one kind, side by side.
 #[derive(Clone, Copy, PartialEq, Eq, Debug)]
 pub struct Group {
-    pub work: Work,
+    pub opcode: Opcode,
     pub count: usize,
 }
 
 // Runs steps of one kind. Where it is called the kind is known, so that no step asks for it.
 #[inline(always)]
-fn run_as(work: Work, steps: &[Step], banks: &[Bank], slots: &mut [u64])
+fn run_as(opcode: Opcode, steps: &[Step], contents: &[MemoryWords], slots: &mut [u64])
     requires steps { AreReading (length slots.old) steps.now }
-    requires work { AreOf work steps.now }
-    ensures { slots.new ≡ run banks.now steps.now slots.old }
+    requires opcode { AreOf opcode steps.now }
+    ensures { slots.new ≡ run contents.now steps.now slots.old }
 {
     for step in steps {
-        let step = Step { work, ..*step };
-        let word = given(step, banks, slots);
+        let step = Step { opcode, ..*step };
+        let word = given(step, contents, slots);
         slots[step.to as usize] = word;
     }
 }
 
 // Runs steps of one kind.
-fn run_group(work: Work, steps: &[Step], banks: &[Bank], slots: &mut [u64])
+fn run_group(opcode: Opcode, steps: &[Step], contents: &[MemoryWords], slots: &mut [u64])
     requires steps { AreReading (length slots.old) steps.now }
-    requires work { AreOf work steps.now }
-    ensures { slots.new ≡ run banks.now steps.now slots.old }
+    requires opcode { AreOf opcode steps.now }
+    ensures { slots.new ≡ run contents.now steps.now slots.old }
 {
-    match work {
-        Work::Add => run_as(Work::Add, steps, banks, slots),
-        Work::Subtract => run_as(Work::Subtract, steps, banks, slots),
-        Work::Multiply => run_as(Work::Multiply, steps, banks, slots),
-        Work::And => run_as(Work::And, steps, banks, slots),
-        Work::Or => run_as(Work::Or, steps, banks, slots),
-        Work::Xor => run_as(Work::Xor, steps, banks, slots),
-        Work::ShiftLeft => run_as(Work::ShiftLeft, steps, banks, slots),
-        Work::ShiftRight => run_as(Work::ShiftRight, steps, banks, slots),
-        Work::Equal => run_as(Work::Equal, steps, banks, slots),
-        Work::NotEqual => run_as(Work::NotEqual, steps, banks, slots),
-        Work::Less => run_as(Work::Less, steps, banks, slots),
-        Work::LessEqual => run_as(Work::LessEqual, steps, banks, slots),
-        Work::Complement => run_as(Work::Complement, steps, banks, slots),
-        Work::Any => run_as(Work::Any, steps, banks, slots),
-        Work::Select => run_as(Work::Select, steps, banks, slots),
-        Work::Join => run_as(Work::Join, steps, banks, slots),
-        Work::Choose => run_as(Work::Choose, steps, banks, slots),
-        Work::Fetch => run_as(Work::Fetch, steps, banks, slots),
-        Work::Quotient => run_as(Work::Quotient, steps, banks, slots),
-        Work::Remainder => run_as(Work::Remainder, steps, banks, slots),
+    match opcode {
+        Opcode::Add => run_as(Opcode::Add, steps, contents, slots),
+        Opcode::Subtract => run_as(Opcode::Subtract, steps, contents, slots),
+        Opcode::Multiply => run_as(Opcode::Multiply, steps, contents, slots),
+        Opcode::And => run_as(Opcode::And, steps, contents, slots),
+        Opcode::Or => run_as(Opcode::Or, steps, contents, slots),
+        Opcode::Xor => run_as(Opcode::Xor, steps, contents, slots),
+        Opcode::ShiftLeft => run_as(Opcode::ShiftLeft, steps, contents, slots),
+        Opcode::ShiftRight => run_as(Opcode::ShiftRight, steps, contents, slots),
+        Opcode::Equal => run_as(Opcode::Equal, steps, contents, slots),
+        Opcode::NotEqual => run_as(Opcode::NotEqual, steps, contents, slots),
+        Opcode::Less => run_as(Opcode::Less, steps, contents, slots),
+        Opcode::LessEqual => run_as(Opcode::LessEqual, steps, contents, slots),
+        Opcode::Complement => run_as(Opcode::Complement, steps, contents, slots),
+        Opcode::ReduceOr => run_as(Opcode::ReduceOr, steps, contents, slots),
+        Opcode::PartSelect => run_as(Opcode::PartSelect, steps, contents, slots),
+        Opcode::Concatenation => run_as(Opcode::Concatenation, steps, contents, slots),
+        Opcode::Conditional => run_as(Opcode::Conditional, steps, contents, slots),
+        Opcode::Fetch => run_as(Opcode::Fetch, steps, contents, slots),
+        Opcode::Quotient => run_as(Opcode::Quotient, steps, contents, slots),
+        Opcode::Remainder => run_as(Opcode::Remainder, steps, contents, slots),
     }
 }
 
 /// Runs steps one after another, which stand in these groups.
-pub fn run(groups: &[Group], steps: &[Step], banks: &[Bank], slots: &mut [u64])
+pub fn run(groups: &[Group], steps: &[Step], contents: &[MemoryWords], slots: &mut [u64])
     requires steps { AreReading (length slots.old) steps.now }
     requires groups { AreGroups groups.now steps.now }
-    ensures { slots.new ≡ run banks.now steps.now slots.old }
+    ensures { slots.new ≡ run contents.now steps.now slots.old }
 {
     let mut left = steps;
     for group in groups {
-        let (front, rest) = left.split_at(group.count);
-        run_group(group.work, front, banks, slots);
+        let (prefix, rest) = left.split_at(group.count);
+        run_group(group.opcode, prefix, contents, slots);
         left = rest;
     }
 }

@@ -2,12 +2,12 @@
 
 ghost use Rattle.std.specs.Prelude.{◌≡◌, ◌++◌, [], length, map, Some, None, OnOk, IfOk};
 ghost use Rattle.net_core.specs.View.{right_of, wire_of};
-ghost use Rattle.clock_sim.specs.Flat.{flat_of, IsCode, Extends, ArePlaces};
+ghost use Rattle.clock_sim.specs.Flat.{flat_of, IsConsistent, Extends, AreOperands};
 ghost use Rattle.clock_sim.specs.Edges.{AreTyped, AreDivided, IsDivided, AddsWires, AreKnown, AreDivisors, first_zero, divisor_in, divisors_at, divisors_from};
 
-use crate::code::Code;
+use crate::builder::StepBuilder;
 use crate::emit::right_value_of;
-use crate::places::{Places, place_of};
+use crate::operands::{Operands, operand_of};
 use net_core::design::Wire;
 use net_core::tree::{Net, Right};
 use std::alloc::{AllocError, Global};
@@ -30,22 +30,26 @@ fn divisor_of(right: &Right<Net>) -> Option<Net>
     }
 }
 
-/// Adds the steps of the wires in text order, and their places.
-pub fn add_wires(all: &[Wire], places: &mut Places, code: &mut Code) -> Result<(), AllocError>
-    requires none { places.old.wires.items ≡ [] }
-    requires typed { AreTyped places.old (map wire_of all.now) }
-    requires code { IsCode (flat_of code.old) }
-    requires places { ArePlaces places.old (length code.old.slots.items) }
-    ensures extends { OnOk result (Extends (flat_of code.old) (flat_of code.new)) }
-    ensures code { OnOk result (IsCode (flat_of code.new)) }
-    ensures places { OnOk result (ArePlaces places.new (length code.new.slots.items)) }
-    ensures adds { OnOk result (AddsWires places.old places.new (map wire_of all.now)) }
-    ensures divided { OnOk result (AreDivided places.new (map wire_of all.now)) }
-    ensures known { OnOk result (AreKnown (flat_of code.old) (flat_of code.new) places.old places.new (map wire_of all.now)) }
+/// Adds the steps of the wires in text order, and their operands.
+pub fn add_wires(
+    all: &[Wire],
+    operands: &mut Operands,
+    builder: &mut StepBuilder,
+) -> Result<(), AllocError>
+    requires none { operands.old.wires.items ≡ [] }
+    requires typed { AreTyped operands.old (map wire_of all.now) }
+    requires builder { IsConsistent (flat_of builder.old) }
+    requires operands { AreOperands operands.old (length builder.old.slots.items) }
+    ensures extends { OnOk result (Extends (flat_of builder.old) (flat_of builder.new)) }
+    ensures builder { OnOk result (IsConsistent (flat_of builder.new)) }
+    ensures operands { OnOk result (AreOperands operands.new (length builder.new.slots.items)) }
+    ensures adds { OnOk result (AddsWires operands.old operands.new (map wire_of all.now)) }
+    ensures divided { OnOk result (AreDivided operands.new (map wire_of all.now)) }
+    ensures known { OnOk result (AreKnown (flat_of builder.old) (flat_of builder.new) operands.old operands.new (map wire_of all.now)) }
 {
     for wire in all {
-        let place = right_value_of(&wire.right, places, code)?;
-        places.wires.push(place)?;
+        let operand = right_value_of(&wire.right, operands, builder)?;
+        operands.wires.push(operand)?;
     }
     Ok(())
 }
@@ -54,16 +58,16 @@ pub fn add_wires(all: &[Wire], places: &mut Places, code: &mut Code) -> Result<(
 fn add_divisor(
     right: &Right<Net>,
     wire: u32,
-    places: &Places,
+    operands: &Operands,
     divisors: &mut Vec<Divisor>,
 ) -> Result<(), AllocError>
-    requires { IsDivided places.now (divisor_in (right_of right.now)) }
-    ensures { OnOk result (divisors.new.items ≡ divisors.old.items ++ divisors_at places.now wire (divisor_in (right_of right.now))) }
+    requires { IsDivided operands.now (divisor_in (right_of right.now)) }
+    ensures { OnOk result (divisors.new.items ≡ divisors.old.items ++ divisors_at operands.now wire (divisor_in (right_of right.now))) }
 {
     match divisor_of(right) {
         None => Ok(()),
         Some(net) => {
-            let slot = place_of(places, net).slot;
+            let slot = operand_of(operands, net).slot;
             divisors.push(Divisor { wire, slot })?;
             Ok(())
         }
@@ -71,16 +75,20 @@ fn add_divisor(
 }
 
 /// The divisors of the wires, in text order.
-pub fn divisors_of(alloc: Global, all: &[Wire], places: &Places) -> Result<Vec<Divisor>, AllocError>
-    requires { AreDivided places.now (map wire_of all.now) }
-    ensures { IfOk result (λ ds. ds.items ≡ divisors_from places.now 0 (map wire_of all.now)) }
+pub fn divisors_of(
+    alloc: Global,
+    all: &[Wire],
+    operands: &Operands,
+) -> Result<Vec<Divisor>, AllocError>
+    requires { AreDivided operands.now (map wire_of all.now) }
+    ensures { IfOk result (λ ds. ds.items ≡ divisors_from operands.now 0 (map wire_of all.now)) }
 {
     let mut divisors = Vec::new(alloc);
     for (i, wire) in all.iter().enumerate() {
         let Ok(number) = u32::try_from(i) else {
             return Err(AllocError);
         };
-        add_divisor(&wire.right, number, places, &mut divisors)?;
+        add_divisor(&wire.right, number, operands, &mut divisors)?;
     }
     Ok(divisors)
 }

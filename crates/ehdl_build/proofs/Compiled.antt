@@ -1,85 +1,124 @@
--- What the text of the station realizes.
-use Rattle.std.specs.Prelude.{◌≡◌, ◌≢◌, ◌⊎◌, Err, IsErrOf, ℕ, ℤ, ◌%◌, ◌^◌, Option, List, [], ◌∷◌}
+-- What the text of the store-and-forward design realizes.
+use Rattle.std.specs.Prelude.{◌≡◌, ◌≢◌, ◌⊎◌, Err, IsErrOf, ℕ, ℤ, ◌%◌, ◌^◌, List, [], ◌∷◌, map as map_list}
 use Rattle.std.specs.Int.{w64, cast_unsigned}
 use Rattle.std.proofs.Common.{refl, sym, ap, subst, inl, inr, ◌∙◌}
 use Rattle.bpf_isa.specs.declared.instruction.Insn.{Insn}
 use Rattle.xdp_object.specs.declared.error.ObjectError.{ObjectError}
 use Rattle.xdp_object.specs.declared.error.ObjectError.TheVariants.{NoMemory as ObjectMemory}
+use Rattle.xdp_object.specs.Choice.{Chosen}
 use Rattle.xdp_object.specs.Object.{FirstFault, IsObject}
-use Rattle.xdp_object.proofs.Outcomes.{one_outcome}
-use Rattle.xdp_object.specs.Program.{Listing, two_units}
-use Rattle.xdp_object.specs.Runs.{IsRun, run}
-use Rattle.net_core.specs.History.{Arrival}
-use Rattle.spelling_core.specs.Spelling.{Spells}
-use Rattle.ehdl_build.specs.Station.{station, replies_to}
+use Rattle.xdp_object.proofs.OutcomeLaws.{one_outcome, never_both}
+use Rattle.xdp_object.specs.Program.{XdpProgram}
+use Rattle.xdp_object.specs.TwoUnits.{two_units}
+use Rattle.xdp_maps.specs.State.{MapState}
+use Rattle.xdp_machine.specs.State.{Code}
+use Rattle.xdp_machine.specs.Runs.{Leaves, IsRun, AreRuns, run}
+use Rattle.net_core.specs.Nets.{Netlist}
+use Rattle.net_core.specs.Clock.{Stored, first_stored}
+use Rattle.net_core.specs.History.{Arrival, NeverStops, stored_after}
+use Rattle.host_history.specs.Host.{load}
+use Rattle.host_history.specs.Laws.{NoMapsNoClocks}
+use Rattle.host_history.proofs.HostLaws.{need_no_clocks}
+use Rattle.verilog_grammar.specs.Spelling.{Spells}
+use Rattle.ehdl_build.specs.StoreAndForwardNetlist.{store_and_forward, answer, answers_to}
+use Rattle.ehdl_build.specs.Realizes.{Meets}
 use Rattle.ehdl_build.specs.declared.built.CompileError.{CompileError}
 use Rattle.ehdl_build.specs.declared.built.CompileError.TheVariants.{NoMemory, Object, Refused}
 use Rattle.ehdl_build.specs.declared.built.Why.{Why}
-use Rattle.ehdl_build.specs.Compiled.{AreRuns, no_maps, Compiles, FailsFor, IsRefused}
+use Rattle.ehdl_build.specs.Compiled.{packets_in, answer_of, IsSequential, DoNotConflict, AreMapsOf, Realizes, Compiles, FailsFor, IsRefused}
 use Rattle.ehdl_build.proofs.Realized.{realized}
 
 -- the verdict of `r0 = k`, `exit`
 abbrev pub verdict_of : ℤ → ℕ
 verdict_of k = cast_unsigned w64 k % 2 ^ 32
 
-two_steps : (k : ℤ) (frame : List ℕ) (ifindex : ℕ) → IsRun (record { insns = two_units k; refs = [] }) frame ifindex no_maps (record { verdict = verdict_of k; target = 0; frame = frame; maps = no_maps })
+-- what a packet of the program leaves with: the maps stay
+abbrev left_by : ℕ → MapState → Arrival → Leaves
+left_by v maps a = record { verdict = v; target = 0; frame = a.frame; maps = maps }
+
+two_steps : (k : ℤ) (a : Arrival) (maps : MapState) → IsRun (record { insns = two_units k; refs = [] }) (record { frame = a.frame; ifindex = a.ifindex }) maps (left_by (verdict_of k) maps a)
 unfolding run
-two_steps k frame ifindex = (2, refl)
+two_steps k a maps = (2, refl)
 
-are_runs : (k : ℤ) (arrived : List Arrival) → AreRuns (two_units k) arrived (replies_to (verdict_of k) arrived)
-are_runs k [] = tt
-are_runs k (a ∷ rest) = (two_steps k a.frame a.ifindex, are_runs k rest)
+are_runs : (k : ℤ) (maps : MapState) (arrived : List Arrival) → AreRuns (record { insns = two_units k; refs = [] }) maps (packets_in arrived) (map_list (left_by (verdict_of k) maps) arrived) maps
+are_runs k maps [] = refl
+are_runs k maps (a ∷ rest) = (two_steps k a maps, are_runs k maps rest)
 
-pub compiled : (choice : Option (List ℕ)) (bytes text : List ℕ) (p : Listing) (k : ℤ) (v : ℕ) → IsObject choice bytes p → p.insns ≡ two_units k
-    → v ≡ verdict_of k → Spells text (station v) → Compiles choice bytes text
+answers_are : (v : ℕ) (maps : MapState) (arrived : List Arrival) → answers_to v arrived ≡ map_list answer_of (map_list (left_by v maps) arrived)
+answers_are v maps [] = refl
+answers_are v maps (a ∷ rest) = ap (λ t. answer v a.frame ∷ t) (answers_are v maps rest)
+
+sequential : (p : XdpProgram) (k : ℤ) (maps : MapState) → p.insns ≡ two_units k → p.refs ≡ [] → (arrived : List Arrival) → IsSequential p maps arrived (answers_to (verdict_of k) arrived) maps
+sequential p k maps units refs arrived = record {
+  leaves = map_list (left_by (verdict_of k) maps) arrived;
+  runs = subst (λ (c : Code). AreRuns c maps (packets_in arrived) (map_list (left_by (verdict_of k) maps) arrived) maps) (sym (same_code p.insns p.refs units refs)) (are_runs k maps arrived);
+  answers_are = answers_are (verdict_of k) maps arrived;
+}
+  where
+    same_code : (is : List Insn) (rs : List ℕ) → is ≡ two_units k → rs ≡ [] → ◌≡◌ {A = Code} (record { insns = is; refs = rs }) (record { insns = two_units k; refs = [] })
+    same_code is rs e f = cc
+
+-- ---- the text of the design
+loaded_none : (d : Netlist) (maps : MapState) → NoMapsNoClocks maps → stored_after d (first_stored d) (load maps) ≡ first_stored d
+loaded_none d maps h = ap (stored_after d (first_stored d)) h.no_load
+
+realizes : (p : XdpProgram) (k : ℤ) (v : ℕ) (text : List ℕ) → p.insns ≡ two_units k → p.decls ≡ [] → p.refs ≡ [] → v ≡ verdict_of k → Spells text (store_and_forward v) → Realizes text p (record { stages = 0; records = 0; nodes = 2 })
+realizes p k v text units decls refs same s = record {
+  design = store_and_forward v;
+  spells = s;
+  products = refl;
+  loads = λ maps are. subst (NeverStops (store_and_forward v) (first_stored (store_and_forward v))) (sym (none maps are).no_load) tt;
+  meets = λ maps are.
+      subst (λ (t : Stored). Meets (store_and_forward v) t (IsSequential p maps) (DoNotConflict p maps 0) 0 0) (sym (loaded_none (store_and_forward v) maps (none maps are)))
+      (realized v maps (IsSequential p maps) (DoNotConflict p maps 0)
+      (λ arrived. subst (λ (w : ℕ). IsSequential p maps arrived (answers_to w arrived) maps) (sym same) (sequential p k maps units refs arrived))
+      (none maps are).shown);
+}
+  where
+    none : (maps : MapState) → AreMapsOf p maps → NoMapsNoClocks maps
+    none maps are = need_no_clocks maps are.sound (are.declared ∙ decls)
+
+pub compiled : (choice : Chosen) (bytes text : List ℕ) (p : XdpProgram) (k : ℤ) (v : ℕ) → IsObject choice bytes p → p.insns ≡ two_units k
+    → v ≡ verdict_of k → Spells text (store_and_forward v) → Compiles choice bytes text
 compiled choice bytes text p k v o units same s = record {
   program = p;
   object = o;
-  realizes = record {
-    design = station v;
-    spells = s;
-    answers = replies_to v;
-    runs = λ arrived. subst (λ (is : List Insn). AreRuns is arrived (replies_to v arrived)) (sym units)
-        (subst (λ (w : ℕ). AreRuns (two_units k) arrived (replies_to w arrived)) (sym same) (are_runs k arrived));
-    right = realized v;
-  };
+  size = record { stages = 0; records = 0; nodes = 2 };
+  has_size = record { number = k; is = units; size = refl };
+  realizes = realizes p k v text units o.decls o.refs same s;
 }
 
 -- ---- one outcome
 
--- an object has no fault
-pub no_fault : (choice : Option (List ℕ)) (bytes : List ℕ) (p : Listing) (e : ObjectError) → IsObject choice bytes p → ¬ FirstFault choice bytes e
-no_fault choice bytes p e = (one_outcome choice bytes).apart p e
-
--- and one of two units is not refused
-pub no_refusal : (choice : Option (List ℕ)) (bytes : List ℕ) (p : Listing) (k : ℤ) (at : ℕ) (why : Why) → IsObject choice bytes p
+-- an object of two units is not refused
+pub no_refusal : (choice : Chosen) (bytes : List ℕ) (p : XdpProgram) (k : ℤ) (at : ℕ) (why : Why) → IsObject choice bytes p
     → p.insns ≡ two_units k → ¬ IsRefused choice bytes at why
 no_refusal choice bytes p k at why o units h =
     let same : h.program ≡ p = (one_outcome choice bytes).program h.program p h.object o in
-    h.refusal.other k (ap (λ (q : Listing). q.insns) same ∙ units)
+    h.refusal.other k (ap (λ (q : XdpProgram). q.insns) same ∙ units)
 
 -- bytes with a fault are not refused
-pub not_refused : (choice : Option (List ℕ)) (bytes : List ℕ) (e : ObjectError) (at : ℕ) (why : Why) → FirstFault choice bytes e → ¬ IsRefused choice bytes at why
-not_refused choice bytes e at why f h = no_fault choice bytes h.program e h.object f
+pub not_refused : (choice : Chosen) (bytes : List ℕ) (e : ObjectError) (at : ℕ) (why : Why) → FirstFault choice bytes e → ¬ IsRefused choice bytes at why
+not_refused choice bytes e at why f h = never_both choice bytes h.program e h.object f
 
 -- ---- an error of the object
 
 abbrev pub IsErrorOf : ObjectError → CompileError → Type 0
 IsErrorOf error r = ((error ≡ ObjectMemory) × (r ≡ NoMemory)) ⊎ ((error ≢ ObjectMemory) × (r ≡ Object error))
 
-pub failed : (choice : Option (List ℕ)) (bytes : List ℕ) (error : ObjectError) (r : CompileError) → IsErrorOf error r
+pub failed : (choice : Chosen) (bytes : List ℕ) (error : ObjectError) (r : CompileError) → IsErrorOf error r
     → (error ≢ ObjectMemory → FirstFault choice bytes error) → FailsFor choice bytes r
 failed choice bytes error r (inl (memory, e)) fault = subst (λ (x : CompileError). FailsFor choice bytes x) (sym e) tt
 failed choice bytes error r (inr (other, e)) fault = subst (λ (x : CompileError). FailsFor choice bytes x) (sym e) (fault other)
 
-pub only_fault : {T : Type 0} (choice : Option (List ℕ)) (bytes : List ℕ) (error : ObjectError) (r : CompileError) (e : ObjectError) → IsErrorOf error r
+pub only_fault : {T : Type 0} (choice : Chosen) (bytes : List ℕ) (error : ObjectError) (r : CompileError) (e : ObjectError) → IsErrorOf error r
     → (error ≢ ObjectMemory → FirstFault choice bytes error) → FirstFault choice bytes e
     → IsErrOf {T = T} (Err r) (Object e) ⊎ IsErrOf {T = T} (Err r) NoMemory
 only_fault choice bytes error r e (inl (memory, m)) fault f = inr (ap Err m)
 only_fault choice bytes error r e (inr (other, m)) fault f =
     inl (ap Err (m ∙ ap Object ((one_outcome choice bytes).fault error e (fault other) f)))
 
-pub never_refused : {T : Type 0} (choice : Option (List ℕ)) (bytes : List ℕ) (error : ObjectError) (r : CompileError) (at : ℕ) (why : Why) → IsErrorOf error r
+pub never_refused : {T : Type 0} (choice : Chosen) (bytes : List ℕ) (error : ObjectError) (r : CompileError) (at : ℕ) (why : Why) → IsErrorOf error r
     → (error ≢ ObjectMemory → FirstFault choice bytes error) → IsRefused choice bytes at why
     → IsErrOf {T = T} (Err r) (Refused at why) ⊎ IsErrOf {T = T} (Err r) NoMemory
 never_refused choice bytes error r at why (inl (memory, m)) fault h = inr (ap Err m)

@@ -2,9 +2,9 @@ pub mod Flows
 pub mod Histories
 pub mod Places
 pub mod Holds
-pub mod Fronts
+pub mod Prefixes
 pub mod Refined
-pub mod Turns
+pub mod LoopStep
 pub mod Drives
 pub mod Bounds
 pub mod Realized

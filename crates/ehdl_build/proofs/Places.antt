@@ -1,4 +1,4 @@
--- A clock of the station, by what its registers and its memory hold.
+-- A clock of the store-and-forward netlist, by what its registers and its memory hold.
 use Rattle.std.specs.Prelude.{◌≡◌, ℕ, ◌+◌, ◌%◌, ◌^◌, ◌==◌, if◌then◌else◌, Bool, true, false, ◌&&◌, None, List, [], ◌∷◌, slice_set, bit_and}
 use Rattle.std.proofs.Common.{get_or, refl, not}
 use Rattle.net_core.specs.declared.tree.Word.{Word}
@@ -7,17 +7,17 @@ use Rattle.net_core.specs.declared.ports.Outputs.{Outputs}
 use Rattle.net_core.specs.Value.{word, bit, nothing, number_of}
 use Rattle.net_core.specs.Clock.{Stored, after, stopping}
 use Rattle.net_core.specs.Ports.{words_of, outputs_of}
-use Rattle.ehdl_build.specs.Station.{station}
+use Rattle.ehdl_build.specs.StoreAndForwardNetlist.{store_and_forward}
 
 pub record Place : Type 0 where
-  pub giving : Bool
+  pub sending : Bool
   pub count : ℕ
   pub at : ℕ
   pub bytes : ℕ
   pub cells : List Word
 
 abbrev pub stored : Place → Stored
-stored p = record { registers = bit p.giving ∷ word 8 p.count ∷ word 8 p.at ∷ word 4 p.bytes ∷ []; memories = p.cells ∷ [] }
+stored p = record { registers = bit p.sending ∷ word 8 p.count ∷ word 8 p.at ∷ word 4 p.bytes ∷ []; memories = p.cells ∷ [] }
 
 abbrev pub next : ℕ → ℕ
 next n = (n + 1) % 2 ^ 8
@@ -26,21 +26,21 @@ abbrev pub is_at_last : Place → Bool
 is_at_last p = next p.at == p.count
 
 abbrev pub given_on : Bool → Place → Place
-given_on last p = if last then record { giving = false; count = 0; at = 0; bytes = p.bytes; cells = p.cells } else record p { at = next p.at }
+given_on last p = if last then record { sending = false; count = 0; at = 0; bytes = p.bytes; cells = p.cells } else record p { at = next p.at }
 
 abbrev pub taken_in : Inputs → Place → Place
-taken_in i p = record { giving = i.in_last; count = next p.count; at = p.at; bytes = i.in_bytes; cells = slice_set p.cells p.count (word 64 i.in_data) }
+taken_in i p = record { sending = i.in_last; count = next p.count; at = p.at; bytes = i.in_bytes; cells = slice_set p.cells p.count (word 64 i.in_data) }
 
 abbrev pub go : Inputs → Place → Place
-go i p = if p.giving then (if i.out_ready then given_on (is_at_last p) p else p) else (if i.in_valid then taken_in i p else p)
+go i p = if p.sending then (if i.out_ready then given_on (is_at_last p) p else p) else (if i.in_valid then taken_in i p else p)
 
 abbrev pub shown_at : ℕ → Place → Outputs
 shown_at verdict p = record {
-  in_ready = not p.giving;
-  out_valid = p.giving;
-  out_data = if p.giving then (get_or p.cells p.at nothing).value else 0;
-  out_bytes = if p.giving then (if is_at_last p then p.bytes else 8) else 0;
-  out_last = p.giving && is_at_last p;
+  in_ready = not p.sending;
+  out_valid = p.sending;
+  out_data = if p.sending then (get_or p.cells p.at nothing).value else 0;
+  out_bytes = if p.sending then (if is_at_last p then p.bytes else 8) else 0;
+  out_last = p.sending && is_at_last p;
   out_verdict = verdict;
   out_target = 0;
   out_reload = false;
@@ -53,8 +53,8 @@ by_last false more done last other m d = m
 
 after_at : (v : ℕ) (valid last ready g : Bool) (dat bytes ifindex hm hi hwd hd : ℕ) (hw : Bool) (c a b : ℕ) (cells : List Word) →
     let i : Inputs = record { in_valid = valid; in_data = dat; in_bytes = bytes; in_last = last; in_ifindex = ifindex; out_ready = ready; host_write = hw; host_map = hm; host_index = hi; host_word = hwd; host_data = hd } in
-    let p : Place = record { giving = g; count = c; at = a; bytes = b; cells = cells } in
-    after (station v) (words_of i) (stored p) ≡ stored (go i p)
+    let p : Place = record { sending = g; count = c; at = a; bytes = b; cells = cells } in
+    after (store_and_forward v) (words_of i) (stored p) ≡ stored (go i p)
 after_at v false last ready false dat bytes ifindex hm hi hwd hd hw c a b cells = refl
 after_at v true last ready false dat bytes ifindex hm hi hwd hd hw c a b cells = refl
 after_at v true last false true dat bytes ifindex hm hi hwd hd hw c a b cells = refl
@@ -62,10 +62,10 @@ after_at v false last false true dat bytes ifindex hm hi hwd hd hw c a b cells =
 after_at v true last true true dat bytes ifindex hm hi hwd hd hw c a b cells = by_last (next a == c) _ _ _ _ refl refl
 after_at v false last true true dat bytes ifindex hm hi hwd hd hw c a b cells = by_last (next a == c) _ _ _ _ refl refl
 
-pub after_is : (v : ℕ) (i : Inputs) (p : Place) → after (station v) (words_of i) (stored p) ≡ stored (go i p)
-after_is v i p = after_at v i.in_valid i.in_last i.out_ready p.giving i.in_data i.in_bytes i.in_ifindex i.host_map i.host_index i.host_word i.host_data i.host_write p.count p.at p.bytes p.cells
+pub after_is : (v : ℕ) (i : Inputs) (p : Place) → after (store_and_forward v) (words_of i) (stored p) ≡ stored (go i p)
+after_is v i p = after_at v i.in_valid i.in_last i.out_ready p.sending i.in_data i.in_bytes i.in_ifindex i.host_map i.host_index i.host_word i.host_data i.host_write p.count p.at p.bytes p.cells
 
-giving_shown : (v w b : ℕ) (t : Bool) →
+sending_shown : (v w b : ℕ) (t : Bool) →
     let was : Outputs = record {
       in_ready = false;
       out_valid = true;
@@ -88,17 +88,17 @@ giving_shown : (v w b : ℕ) (t : Bool) →
       out_reload = false;
       host_value = 0;
     } in was ≡ is
-giving_shown v w b true = refl
-giving_shown v w b false = refl
+sending_shown v w b true = refl
+sending_shown v w b false = refl
 
 shown_place : (v : ℕ) (i : Inputs) (g : Bool) (c a b : ℕ) (cells : List Word) →
-    let p : Place = record { giving = g; count = c; at = a; bytes = b; cells = cells } in
-    outputs_of (station v) i (stored p) ≡ shown_at v p
+    let p : Place = record { sending = g; count = c; at = a; bytes = b; cells = cells } in
+    outputs_of (store_and_forward v) i (stored p) ≡ shown_at v p
 shown_place v i false c a b cells = refl
-shown_place v i true c a b cells = giving_shown v (get_or cells a nothing).value b (next a == c)
+shown_place v i true c a b cells = sending_shown v (get_or cells a nothing).value b (next a == c)
 
-pub shown_is : (v : ℕ) (i : Inputs) (p : Place) → outputs_of (station v) i (stored p) ≡ shown_at v p
-shown_is v i p = shown_place v i p.giving p.count p.at p.bytes p.cells
+pub shown_is : (v : ℕ) (i : Inputs) (p : Place) → outputs_of (store_and_forward v) i (stored p) ≡ shown_at v p
+shown_is v i p = shown_place v i p.sending p.count p.at p.bytes p.cells
 
-pub never_stops : (v : ℕ) (i : Inputs) (s : Stored) → stopping (station v) (words_of i) s ≡ None
+pub never_stops : (v : ℕ) (i : Inputs) (s : Stored) → stopping (store_and_forward v) (words_of i) s ≡ None
 never_stops v i s = refl

@@ -1,124 +1,184 @@
--- The station answers frames, whatever is offered and taken, and in the stated clocks.
-use Rattle.std.specs.Prelude.{◌≡◌, ℕ, ◌+◌, ◌-◌, ◌≤◌, false, None, List, [], ◌∷◌, ◌++◌, length, map, replicate}
+-- The store-and-forward design answers frames, whatever is offered and taken, and in the stated clocks.
+use Rattle.std.specs.Prelude.{◌≡◌, ℕ, suc, ◌+◌, ◌-◌, ◌*◌, ◌≤◌, if◌then◌else◌, false, None, List, [], ◌∷◌, ◌++◌, length, map, replicate}
 use Rattle.std.specs.List.{flat_map, AllByRecursion}
 use Rattle.std.proofs.Common.{refl, sym, ap, ◌∙◌, arith, subst, append-nil, length-append}
 use Rattle.std.proofs.lemmas.List.{length-replicate, length-map}
 use Rattle.beat_core.specs.declared.beat.Beat.{Beat}
 use Rattle.beat_core.specs.Beats.{frame_of, beats_of}
+use Rattle.beat_core.specs.Filling.{filled_up}
 use Rattle.beat_core.specs.Clocks.{AreOffers, frames_among}
 use Rattle.beat_core.specs.Laws.{IsFrame}
-use Rattle.beat_core.proofs.Order.{offers-frames, frames-frames}
+use Rattle.beat_core.proofs.FillingLaws.{frames_among-filled_up, AreOffers-filled_up}
+use Rattle.beat_core.proofs.OrderLaws.{offers-frames, frames-frames}
 use Rattle.net_core.specs.declared.ports.Inputs.{Inputs}
 use Rattle.net_core.specs.Value.{word}
-use Rattle.net_core.specs.Clock.{Stored}
-use Rattle.net_core.specs.History.{Moment, moments, stored_after, beats_in, arrivals, replies, open_beats, drive}
-use Rattle.ehdl_build.specs.Bay.{Bay, Taking, Giving, bay_moments, bay_after}
-use Rattle.ehdl_build.specs.Station.{station, reply, replies_to}
-use Rattle.ehdl_build.specs.Realizes.{IsPattern, IsPrefix, BeginNext, IsWhole, Answers, came_by, clock_bound, most_beats}
+use Rattle.net_core.specs.Clock.{Stored, first_stored}
+use Rattle.net_core.specs.Nets.{Netlist}
+use Rattle.net_core.specs.History.{Cycle, trace, stored_after, NeverStops, beats_in, Arrival, arrivals, answers_given, open_beats, Drive, Answered, drive}
+use Rattle.beat_core.specs.declared.answer.Answer.{Answer}
+use Rattle.host_history.specs.Host.{ShowsMaps}
+use Rattle.xdp_maps.specs.State.{MapState}
+use Rattle.xdp_machine.specs.Touched.{Touched}
+use Rattle.ehdl_build.specs.StoreAndForward.{StoreAndForward, Receiving, Sending, state_trace, state_after}
+use Rattle.ehdl_build.specs.StoreAndForwardNetlist.{store_and_forward, answer, answers_to}
+use Rattle.ehdl_build.specs.Bounds.{clock_bound, most_beats}
+use Rattle.ehdl_build.specs.Realizes.{IsPattern, IsPrefix, BeginNext, IsWhole, Meets, came_by, inputs_in}
 use Rattle.ehdl_build.proofs.Flows.{total, pending, so_far, given_beats}
-use Rattle.ehdl_build.proofs.Histories.{History, history, frames-arrivals, replies_to-frames, replies-append}
+use Rattle.ehdl_build.proofs.Histories.{History, history, frames-arrivals, answers_to-frames, answers_given-append}
 use Rattle.ehdl_build.proofs.Places.{Place, stored}
 use Rattle.ehdl_build.proofs.Holds.{Holds}
-use Rattle.ehdl_build.proofs.Fronts.{given_front}
+use Rattle.ehdl_build.proofs.Prefixes.{given_prefix}
 use Rattle.ehdl_build.proofs.Refined.{Kept, so_many, Refined, refined, offers_on}
-use Rattle.ehdl_build.proofs.Turns.{EndsWhole, needed}
+use Rattle.ehdl_build.proofs.LoopStep.{EndsWhole, needed}
 use Rattle.ehdl_build.proofs.Drives as drives
-use Rattle.ehdl_build.proofs.Bounds.{history_on, ends_on, ends_frames, needed_after, bound_enough}
+use Rattle.ehdl_build.proofs.Bounds.{history_on, ends_on, ends_frames, needed_after, bound_enough, apart_enough}
 
--- ---- from a place that holds the empty bay
-front_case : (s : Bay) (v : ℕ) → Kept s → BeginNext (given_beats s) (pending v s)
-front_case (Taking got) v k = refl
-front_case (Giving given b rest) v k = (_, given_front given b rest k.0 k.1)
+-- ---- what the design gives: answers and no maps
+record PrefixOf (d : Netlist) (s : Stored) (is : List Inputs) (answers : List Arrival → List Answer) : Type 0 where
+  never : NeverStops d s is
+  later : List Answer
+  prefix : answers_given [] (trace d s is) ++ later ≡ answers (arrivals None (trace d s is))
+  next : BeginNext (open_beats [] (trace d s is)) later
 
-empty_total : (v : ℕ) (bs : List Beat) → total v (Taking []) bs ≡ map (reply v) (frames_among [] bs)
+record WholeOf (before : List Cycle) (r : Drive) (answers : List Answer) : Type 0 where
+  ended : r.ended ≡ Answered
+  all : answers_given [] (before ++ r.trace) ≡ answers
+
+-- ---- from a place that holds the empty state
+prefix_case : (s : StoreAndForward) (v : ℕ) → Kept s → BeginNext (given_beats s) (pending v s)
+prefix_case (Receiving got) v k = refl
+prefix_case (Sending given b rest) v k = (_, given_prefix given b rest k.0 k.1)
+
+empty_total : (v : ℕ) (bs : List Beat) → total v (Receiving []) bs ≡ map (answer v) (frames_among [] bs)
 empty_total v bs = refl
 
-pending_total : (v : ℕ) (s : Bay) → total v s [] ≡ pending v s
+pending_total : (v : ℕ) (s : StoreAndForward) → total v s [] ≡ pending v s
 pending_total v s = append-nil (pending v s)
 
--- over bay moments: the answers so far and the one that is begun are those to the frames that came
-answered : (v : ℕ) (is : List Inputs) (h : History v (Taking []) is) → replies [] (bay_moments v (Taking []) is) ++ pending v (bay_after (Taking []) is) ≡ replies_to v (arrivals None (bay_moments v (Taking []) is))
+-- over the machine's trace: the answers so far and the one that is begun are those to the frames that came
+answered : (v : ℕ) (is : List Inputs) (h : History v (Receiving []) is) → answers_given [] (state_trace v (Receiving []) is) ++ pending v (state_after (Receiving []) is) ≡ answers_to v (arrivals None (state_trace v (Receiving []) is))
 answered v is h =
-    let ms : List Moment = bay_moments v (Taking []) is in
-    ap (λ t. replies [] ms ++ t) (sym (pending_total v (bay_after (Taking []) is)))
+    let ms : List Cycle = state_trace v (Receiving []) is in
+    ap (λ t. answers_given [] ms ++ t) (sym (pending_total v (state_after (Receiving []) is)))
     ∙ h.keeps []
-    ∙ ap (λ bs. map (reply v) (frames_among [] bs)) (append-nil (beats_in ms))
-    ∙ ap (map (reply v)) (sym (frames-arrivals ms None))
-    ∙ replies_to-frames v (arrivals None ms)
+    ∙ ap (λ bs. map (answer v) (frames_among [] bs)) (append-nil (beats_in ms))
+    ∙ ap (map (answer v)) (sym (frames-arrivals ms None))
+    ∙ answers_to-frames v (arrivals None ms)
 
-safe_from : (v : ℕ) (p : Place) (is : List Inputs) → Holds p (Taking []) → IsPattern (station v) (stored p) is → IsPrefix (station v) (stored p) is (replies_to v)
+safe_from : (v : ℕ) (p : Place) (is : List Inputs) → Holds p (Receiving []) → IsPattern (store_and_forward v) (stored p) is → PrefixOf (store_and_forward v) (stored p) is (answers_to v)
 safe_from v p is h w =
-    let r : Refined v p (Taking []) is = refined v p (Taking []) is h tt w.inputs w.offers in
-    let k : History v (Taking []) is = history v (Taking []) is tt in
-    let s : Bay = bay_after (Taking []) is in
+    let r : Refined v p (Receiving []) is = refined v p (Receiving []) is h tt w.inputs w.offers in
+    let k : History v (Receiving []) is = history v (Receiving []) is tt in
+    let s : StoreAndForward = state_after (Receiving []) is in
     record {
       never = r.never;
       later = pending v s;
-      front = subst (λ (ms : List Moment). replies [] ms ++ pending v s ≡ replies_to v (arrivals None ms)) (sym r.same) (answered v is k);
-      next = subst (λ (ms : List Moment). BeginNext (open_beats [] ms) (pending v s)) (sym r.same) (subst (λ bs. BeginNext bs (pending v s)) (sym k.opens) (front_case s v r.kept));
+      prefix = subst (λ (ms : List Cycle). answers_given [] ms ++ pending v s ≡ answers_to v (arrivals None ms)) (sym r.same) (answered v is k);
+      next = subst (λ (ms : List Cycle). BeginNext (open_beats [] ms) (pending v s)) (sym r.same) (subst (λ bs. BeginNext bs (pending v s)) (sym k.opens) (prefix_case s v r.kept));
     }
 
 -- all answers to these frames
-replies_to-came_by : (v ifindex : ℕ) (fs : List (List ℕ)) → map (reply v) fs ≡ replies_to v (came_by ifindex fs)
-replies_to-came_by v ifindex [] = refl
-replies_to-came_by v ifindex (f ∷ fs) = ap (λ t. reply v f ∷ t) (replies_to-came_by v ifindex fs)
+answers_to-came_by : (v ifindex : ℕ) (fs : List (List ℕ)) → map (answer v) fs ≡ answers_to v (came_by ifindex fs)
+answers_to-came_by v ifindex [] = refl
+answers_to-came_by v ifindex (f ∷ fs) = ap (λ t. answer v f ∷ t) (answers_to-came_by v ifindex fs)
 
-all_of : (v : ℕ) (fs : List (List ℕ)) → AllByRecursion IsFrame fs → total v (Taking []) (flat_map beats_of fs) ≡ map (reply v) fs
-all_of v fs f = ap (map (reply v)) (frames-frames fs f)
+all_of : (v : ℕ) (fs : List (List ℕ)) → AllByRecursion IsFrame fs → total v (Receiving []) (flat_map beats_of fs) ≡ map (answer v) fs
+all_of v fs f = ap (map (answer v)) (frames-frames fs f)
 
-complete_from : (v : ℕ) (p : Place) (fs : List (List ℕ)) (ifindex limit : ℕ) → Holds p (Taking []) → AllByRecursion IsFrame fs → clock_bound (length fs) 0 (most_beats fs) 0 ≤ limit →
-    IsWhole [] (drive (station v) ifindex (stored p) (flat_map beats_of fs) (length fs) limit) (replies_to v (came_by ifindex fs))
+complete_from : (v : ℕ) (p : Place) (fs : List (List ℕ)) (ifindex limit : ℕ) → Holds p (Receiving []) → AllByRecursion IsFrame fs → 2 * length (flat_map beats_of fs) ≤ limit →
+    WholeOf [] (drive (store_and_forward v) ifindex (stored p) (flat_map beats_of fs) (length fs) limit) (answers_to v (came_by ifindex fs))
 complete_from v p fs ifindex limit h f n =
     let left : List Beat = flat_map beats_of fs in
-    let all : total v (Taking []) left ≡ map (reply v) fs = all_of v fs f in
-    let owed : length fs ≡ length (total v (Taking []) left) = sym (ap length all ∙ length-map fs (reply v)) in
-    let few : needed (Taking []) left ≤ limit = omega (arith, bound_enough fs 0) in
-    let d = drives.drives v ifindex limit p (Taking []) left (length fs) h tt (offers-frames fs f) (ends_frames fs f) owed few in
-    record { ended = d.ended; all = d.all ∙ all ∙ replies_to-came_by v ifindex fs }
+    let all : total v (Receiving []) left ≡ map (answer v) fs = all_of v fs f in
+    let owed : length fs ≡ length (total v (Receiving []) left) = sym (ap length all ∙ length-map fs (answer v)) in
+    let few : needed (Receiving []) left ≤ limit = omega arith in
+    let d = drives.drives v ifindex limit p (Receiving []) left (length fs) h tt (offers-frames fs f) (ends_frames fs f) owed few in
+    record { ended = d.ended; all = d.all ∙ all ∙ answers_to-came_by v ifindex fs }
 
-so_far_is : (s : Bay) → frame_of (given_beats s) ≡ so_far s
-so_far_is (Taking got) = refl
-so_far_is (Giving given b rest) = refl
+so_far_is : (s : StoreAndForward) → frame_of (given_beats s) ≡ so_far s
+so_far_is (Receiving got) = refl
+so_far_is (Sending given b rest) = refl
 
-late_from : (v : ℕ) (p : Place) (is : List Inputs) (fs : List (List ℕ)) (left : List Beat) (ifindex limit : ℕ) → Holds p (Taking []) → IsPattern (station v) (stored p) is → AllByRecursion IsFrame fs →
-    beats_in (moments (station v) (stored p) is) ++ left ≡ flat_map beats_of fs → clock_bound (length fs + 1) 0 (most_beats fs) 0 ≤ limit →
-    IsWhole (moments (station v) (stored p) is)
-    (drive (station v) ifindex (stored_after (station v) (stored p) is) left (length fs - length (replies [] (moments (station v) (stored p) is))) limit) (replies_to v (came_by ifindex fs))
+-- bytes that do not count change neither how many beats there are nor which are last
+length-filled_up : (bs rest : List Beat) → length (bs ++ rest) ≡ length (map filled_up bs ++ rest)
+length-filled_up [] rest = refl
+length-filled_up (b ∷ bs) rest = ap suc (length-filled_up bs rest)
+
+EndsWhole-filled_up : (n : ℕ) (bs rest : List Beat) → EndsWhole n (map filled_up bs ++ rest) → EndsWhole n (bs ++ rest)
+EndsWhole-filled_up n [] rest h = h
+EndsWhole-filled_up n (b ∷ bs) rest h = EndsWhole-filled_up (if b.last then 0 else suc n) bs rest h
+
+late_from : (v : ℕ) (p : Place) (is : List Inputs) (fs : List (List ℕ)) (left : List Beat) (ifindex limit : ℕ) → Holds p (Receiving []) → IsPattern (store_and_forward v) (stored p) is → AllByRecursion IsFrame fs →
+    map filled_up (beats_in (trace (store_and_forward v) (stored p) is)) ++ left ≡ flat_map beats_of fs → clock_bound (length fs + 1) 0 (most_beats fs) 0 ≤ limit →
+    WholeOf (trace (store_and_forward v) (stored p) is)
+    (drive (store_and_forward v) ifindex (stored_after (store_and_forward v) (stored p) is) left (length fs - length (answers_given [] (trace (store_and_forward v) (stored p) is))) limit) (answers_to v (came_by ifindex fs))
 late_from v p is fs left ifindex limit h w f e n =
-    let r : Refined v p (Taking []) is = refined v p (Taking []) is h tt w.inputs w.offers in
-    let k : History v (Taking []) is = history v (Taking []) is tt in
-    let s : Bay = bay_after (Taking []) is in
-    let ms : List Moment = bay_moments v (Taking []) is in
-    let beats : beats_in ms ++ left ≡ flat_map beats_of fs = subst (λ (t : List Moment). beats_in t ++ left ≡ flat_map beats_of fs) r.same e in
-    let all : replies [] ms ++ total v s left ≡ map (reply v) fs = k.keeps left ∙ ap (total v (Taking [])) beats ∙ all_of v fs f in
-    let count : length (replies [] ms) + length (total v s left) ≡ length fs = sym (length-append (replies [] ms) (total v s left)) ∙ ap length all ∙ length-map fs (reply v) in
-    let owed : length fs - length (replies [] ms) ≡ length (total v s left) = omega arith in
-    let few : needed s left ≤ limit = omega (arith, needed_after v (Taking []) is left, ap length beats, bound_enough fs 1) in
-    let offers : AreOffers (so_many s) left = history_on AreOffers offers_on v (Taking []) is left (subst (AreOffers 0) (sym beats) (offers-frames fs f)) in
-    let ends : EndsWhole (so_many s) left = history_on EndsWhole ends_on v (Taking []) is left (subst (EndsWhole 0) (sym beats) (ends_frames fs f)) in
-    let d = drives.drives v ifindex limit r.place s left (length fs - length (replies [] ms)) r.holds k.sound offers ends owed few in
-    let done : IsWhole ms (drive (station v) ifindex (stored r.place) left (length fs - length (replies [] ms)) limit) (replies_to v (came_by ifindex fs)) =
+    let r : Refined v p (Receiving []) is = refined v p (Receiving []) is h tt w.inputs w.offers in
+    let k : History v (Receiving []) is = history v (Receiving []) is tt in
+    let s : StoreAndForward = state_after (Receiving []) is in
+    let ms : List Cycle = state_trace v (Receiving []) is in
+    let beats : map filled_up (beats_in ms) ++ left ≡ flat_map beats_of fs = subst (λ (t : List Cycle). map filled_up (beats_in t) ++ left ≡ flat_map beats_of fs) r.same e in
+    let many : length (beats_in ms ++ left) ≡ length (flat_map beats_of fs) = length-filled_up (beats_in ms) left ∙ ap length beats in
+    let all : answers_given [] ms ++ total v s left ≡ map (answer v) fs = k.keeps left ∙ ap (map (answer v)) (sym (frames_among-filled_up [] (beats_in ms) left)) ∙ ap (total v (Receiving [])) beats ∙ all_of v fs f in
+    let count : length (answers_given [] ms) + length (total v s left) ≡ length fs = sym (length-append (answers_given [] ms) (total v s left)) ∙ ap length all ∙ length-map fs (answer v) in
+    let owed : length fs - length (answers_given [] ms) ≡ length (total v s left) = omega arith in
+    let few : needed s left ≤ limit = omega (arith, needed_after v (Receiving []) is left, many, bound_enough fs 1) in
+    let offers : AreOffers (so_many s) left = history_on AreOffers offers_on v (Receiving []) is left (AreOffers-filled_up 0 (beats_in ms) left (subst (AreOffers 0) (sym beats) (offers-frames fs f))) in
+    let ends : EndsWhole (so_many s) left = history_on EndsWhole ends_on v (Receiving []) is left (EndsWhole-filled_up 0 (beats_in ms) left (subst (EndsWhole 0) (sym beats) (ends_frames fs f))) in
+    let d = drives.drives v ifindex limit r.place s left (length fs - length (answers_given [] ms)) r.holds k.sound offers ends owed few in
+    let done : WholeOf ms (drive (store_and_forward v) ifindex (stored r.place) left (length fs - length (answers_given [] ms)) limit) (answers_to v (came_by ifindex fs)) =
     record {
       ended = d.ended;
-      all = replies-append ms _ [] ∙ ap (λ t. replies [] ms ++ replies t (drive (station v) ifindex (stored r.place) left (length fs - length (replies [] ms)) limit).moments) (ap frame_of k.opens ∙ so_far_is s)
-          ∙ ap (λ t. replies [] ms ++ t) d.all ∙ all ∙ replies_to-came_by v ifindex fs;
+      all = answers_given-append ms _ [] ∙ ap (λ t. answers_given [] ms ++ answers_given t (drive (store_and_forward v) ifindex (stored r.place) left (length fs - length (answers_given [] ms)) limit).trace) (ap frame_of k.opens ∙ so_far_is s)
+          ∙ ap (λ t. answers_given [] ms ++ t) d.all ∙ all ∙ answers_to-came_by v ifindex fs;
     } in
-    subst (λ (t : List Moment). IsWhole t (drive (station v) ifindex (stored_after (station v) (stored p) is) left (length fs - length (replies [] t)) limit) (replies_to v (came_by ifindex fs))) (sym r.same)
-    (subst (λ (t : Stored). IsWhole ms (drive (station v) ifindex t left (length fs - length (replies [] ms)) limit) (replies_to v (came_by ifindex fs))) (sym r.is_stored) done)
+    subst (λ (t : List Cycle). WholeOf t (drive (store_and_forward v) ifindex (stored_after (store_and_forward v) (stored p) is) left (length fs - length (answers_given [] t)) limit) (answers_to v (came_by ifindex fs))) (sym r.same)
+    (subst (λ (t : Stored). WholeOf ms (drive (store_and_forward v) ifindex t left (length fs - length (answers_given [] ms)) limit) (answers_to v (came_by ifindex fs))) (sym r.is_stored) done)
 
--- ---- the declared values hold the empty bay
+-- ---- the declared values hold the empty state
 abbrev empty_place : ℕ → Place
-empty_place n = record { giving = false; count = 0; at = 0; bytes = 0; cells = replicate n (word 64 0) }
+empty_place n = record { sending = false; count = 0; at = 0; bytes = 0; cells = replicate n (word 64 0) }
 
-holds_empty : (n : ℕ) → n ≡ 256 → Holds (empty_place n) (Taking [])
-holds_empty n e = record { giving = refl; at = refl; count = refl; room = omega arith; size = length-replicate n (word 64 0) ∙ e; held = refl; full = tt }
+holds_empty : (n : ℕ) → n ≡ 256 → Holds (empty_place n) (Receiving [])
+holds_empty n e = record { sending = refl; at = refl; count = refl; room = omega arith; size = length-replicate n (word 64 0) ∙ e; held = refl; full = tt }
 
-pub realized : (v : ℕ) → Answers (station v) (replies_to v) 0 0
-realized v =
-    let h : Holds (empty_place 256) (Taking []) = holds_empty 256 refl in
+-- ---- as is wanted
+
+-- maps of no declarations, which every design shows
+abbrev Shown : MapState → Type 0
+Shown maps = (d : Netlist) (s : Stored) → ShowsMaps d s maps
+
+-- the answers that the design gives are wanted, and leave the maps as they are
+abbrev Fits : ℕ → MapState → (List Arrival → List Answer → MapState → Type 0) → Type 0
+Fits v maps wanted = (arrived : List Arrival) → wanted arrived (answers_to v arrived) maps
+
+prefix_of : (v : ℕ) (maps : MapState) (wanted : List Arrival → List Answer → MapState → Type 0) (d : Netlist) (s : Stored) (is : List Inputs) → Fits v maps wanted → PrefixOf d s is (answers_to v) → IsPrefix d s is wanted
+prefix_of v maps wanted d s is fits h = record {
+  never = h.never;
+  later = h.later;
+  maps = maps;
+  prefix = subst (λ (rs : List Answer). wanted (arrivals None (trace d s is)) rs maps) (sym h.prefix) (fits (arrivals None (trace d s is)));
+  next = h.next;
+}
+
+whole_of : (v : ℕ) (maps : MapState) (wanted : List Arrival → List Answer → MapState → Type 0) (d : Netlist) (s : Stored) (is : List Inputs) (r : Drive) (packets : List Arrival) → Fits v maps wanted → Shown maps →
+    WholeOf (trace d s is) r (answers_to v packets) → IsWhole d s is r packets wanted
+whole_of v maps wanted d s is r packets fits shown h = record {
+  ended = h.ended;
+  maps = maps;
+  all = subst (λ (rs : List Answer). wanted packets rs maps) (sym h.all) (fits packets);
+  shown = shown d (stored_after d (stored_after d s is) (inputs_in r.trace));
+}
+
+pub realized : (v : ℕ) (maps : MapState) (wanted : List Arrival → List Answer → MapState → Type 0) (apart : List Arrival → List Touched → Type 0) → Fits v maps wanted → Shown maps →
+    Meets (store_and_forward v) (first_stored (store_and_forward v)) wanted apart 0 0
+realized v maps wanted apart fits shown =
+    let h : Holds (empty_place 256) (Receiving []) = holds_empty 256 refl in
+    let d : Netlist = store_and_forward v in
+    let s : Stored = first_stored (store_and_forward v) in
     record {
-      products = refl;
-      safe = λ is w. safe_from v (empty_place 256) is h w;
-      complete = λ fs ifindex limit f i n. complete_from v (empty_place 256) fs ifindex limit h f n;
-      late = λ is fs left ifindex limit w f i e c n. late_from v (empty_place 256) is fs left ifindex limit h w f e n;
+      safe = λ is w. prefix_of v maps wanted d s is fits (safe_from v (empty_place 256) is h w);
+      complete = λ fs ifindex limit f i n. whole_of v maps wanted d s [] _ (came_by ifindex fs) fits shown (complete_from v (empty_place 256) fs ifindex limit h f (omega (arith, n, bound_enough fs 0)));
+      complete_apart = λ fs ifindex limit ts f i a n. whole_of v maps wanted d s [] _ (came_by ifindex fs) fits shown (complete_from v (empty_place 256) fs ifindex limit h f (omega (arith, n, apart_enough fs ts)));
+      late = λ is fs left ifindex limit w f i e c n. whole_of v maps wanted d s is _ (came_by ifindex fs) fits shown (late_from v (empty_place 256) is fs left ifindex limit h w f e n);
     }

@@ -1,43 +1,85 @@
 -- The bytes of a text realize a program, and a text that an object was compiled to.
-use Rattle.std.specs.Prelude.{◌≡◌, ◌≢◌, ℕ, ℤ, Option, List, [], ◌∷◌}
+use Rattle.std.specs.Prelude.{◌≡◌, ◌≢◌, ℕ, ℤ, ◌+◌, IsTrue, List, [], ◌∷◌, map as map_list}
 use Rattle.bpf_isa.specs.declared.instruction.Insn.{Insn}
+use Rattle.xdp_object.specs.Choice.{Chosen}
 use Rattle.xdp_object.specs.Object.{FirstFault, IsObject}
-use Rattle.xdp_object.specs.Program.{Listing, two_units}
-use Rattle.xdp_maps.specs.State.{MapState, opened_state}
-use Rattle.xdp_object.specs.Runs.{IsRun}
-use Rattle.net_core.specs.Nets.{Plan}
-use Rattle.net_core.specs.History.{Arrival, Reply}
-use Rattle.spelling_core.specs.Spelling.{Spells}
+use Rattle.xdp_object.specs.Program.{XdpProgram}
+use Rattle.xdp_object.specs.TwoUnits.{two_units}
+use Rattle.xdp_maps.specs.State.{MapState, IsSound}
+use Rattle.xdp_machine.specs.State.{Code, PacketIn}
+use Rattle.xdp_machine.specs.Runs.{Leaves, AreRuns}
+use Rattle.xdp_machine.specs.Touched.{Touched, AllTouch}
+use Rattle.net_core.specs.Nets.{Netlist}
+use Rattle.net_core.specs.Clock.{first_stored}
+use Rattle.net_core.specs.History.{Arrival, NeverStops, stored_after}
+use Rattle.beat_core.specs.declared.answer.Answer.{Answer}
+use Rattle.host_history.specs.Host.{load}
+use Rattle.verilog_grammar.specs.Spelling.{Spells}
 use Rattle.ehdl_build.specs.declared.built.CompileError.{CompileError}
 use Rattle.ehdl_build.specs.declared.built.CompileError.TheVariants.{Object, Refused, NoMemory}
 use Rattle.ehdl_build.specs.declared.built.Why.{Why}
 use Rattle.ehdl_build.specs.declared.built.Why.TheVariants.{Instruction}
-use Rattle.ehdl_build.specs.Realizes.{Answers}
+use Rattle.ehdl_build.specs.Bounds.{AreApart}
+use Rattle.ehdl_build.specs.Products.{products_apart}
+use Rattle.ehdl_build.specs.Realizes.{Meets}
 
--- what the maps of a program without maps hold
-abbrev pub no_maps : MapState
-no_maps = opened_state []
+-- what is run of a program
+abbrev pub code_of : XdpProgram → Code
+code_of p = record { insns = p.insns; refs = p.refs }
 
--- each answer is that of the packet run on its frame, of a program without maps
-abbrev pub AreRuns : List Insn → List Arrival → List Reply → Type 0
-AreRuns insns [] [] = Unit {0}
-AreRuns insns [] (r ∷ rs) = ⊥
-AreRuns insns (a ∷ rest) [] = ⊥
-AreRuns insns (a ∷ rest) (r ∷ rs) = IsRun (record { insns = insns; refs = [] }) a.frame a.ifindex no_maps (record { verdict = r.verdict; target = r.target; frame = r.frame; maps = no_maps }) × AreRuns insns rest rs
+-- packets that came over the ports, as the machine takes them
+abbrev pub packets_in : List Arrival → List PacketIn
+packets_in [] = []
+packets_in (a ∷ rest) = record { frame = a.frame; ifindex = a.ifindex } ∷ packets_in rest
 
--- The text spells a design that answers frames as sequential execution does, with so many stages and record sites.
-pub record Realizes (text : List ℕ) (insns : List Insn) (stages records : ℕ) : Type 0 where
-  pub design : Plan
+abbrev pub answer_of : Leaves → Answer
+answer_of e = record { verdict = e.verdict; target = e.target; frame = e.frame }
+
+-- Sequential execution of a program on these maps answers packets so, and leaves these maps.
+pub record IsSequential (p : XdpProgram) (maps : MapState) (packets : List Arrival) (answers : List Answer) (after : MapState) : Type 0 where
+  pub leaves : List Leaves
+  pub runs : AreRuns (code_of p) maps (packets_in packets) leaves after
+  pub answers_are : answers ≡ map_list answer_of leaves
+
+-- The runs of packets touch this, and none reads what one of fewer than S + 4 before it wrote.
+pub record DoNotConflict (p : XdpProgram) (maps : MapState) (stages : ℕ) (packets : List Arrival) (ts : List Touched) : Type 0 where
+  pub touch : AllTouch (code_of p) maps (packets_in packets) ts
+  pub apart : AreApart (stages + 3) ts
+
+-- the last stage of a program's pipeline, the number of its record sites, and the nodes of its unfolded graph
+pub record PipelineSize : Type 0 where
+  pub stages : ℕ
+  pub records : ℕ
+  pub nodes : ℕ
+
+-- The size of a program's pipeline. For now only the program `r0 = k`, `exit` has one: two nodes in stage 0, and no record site.
+pub record HasSize (p : XdpProgram) (z : PipelineSize) : Type 0 where
+  pub number : ℤ
+  pub is : p.insns ≡ two_units number
+  pub size : z ≡ record { stages = 0; records = 0; nodes = 2 }
+
+-- maps over a program's declarations
+pub record AreMapsOf (p : XdpProgram) (maps : MapState) : Type 0 where
+  pub declared : maps.decls ≡ p.decls
+  pub sound : IsSound maps
+
+-- The text spells a design in whose clocks no chain of products stands. Whatever maps of the program the host loads, it then answers
+-- frames as sequential execution on these maps does, and shows the host the maps that this leaves.
+pub record Realizes (text : List ℕ) (p : XdpProgram) (z : PipelineSize) : Type 0 where
+  pub design : Netlist
   pub spells : Spells text design
-  pub answers : List Arrival → List Reply
-  pub runs : (as' : List Arrival) → AreRuns insns as' (answers as')
-  pub right : Answers design answers stages records
+  pub products : IsTrue (products_apart design)
+  pub loads : (maps : MapState) → AreMapsOf p maps → NeverStops design (first_stored design) (load maps)
+  pub meets : (maps : MapState) → AreMapsOf p maps →
+      Meets design (stored_after design (first_stored design) (load maps)) (IsSequential p maps) (DoNotConflict p maps z.stages) z.stages z.records
 
 -- under a choice the bytes are an object, and the text realizes its program
-pub record Compiles (choice : Option (List ℕ)) (bytes text : List ℕ) : Type 0 where
-  pub program : Listing
+pub record Compiles (choice : Chosen) (bytes text : List ℕ) : Type 0 where
+  pub program : XdpProgram
   pub object : IsObject choice bytes program
-  pub realizes : Realizes text program.insns 0 0
+  pub size : PipelineSize
+  pub has_size : HasSize program size
+  pub realizes : Realizes text program size
 
 -- The first refusal of instructions. For now all are refused but `r0 = k`, `exit`, at the first place.
 pub record FirstRefusal (insns : List Insn) (at : ℕ) (why : Why) : Type 0 where
@@ -46,13 +88,13 @@ pub record FirstRefusal (insns : List Insn) (at : ℕ) (why : Why) : Type 0 wher
   pub reason : why ≡ Instruction
 
 -- under a choice the bytes are an object, and this is the first refusal of its program
-pub record IsRefused (choice : Option (List ℕ)) (bytes : List ℕ) (at : ℕ) (why : Why) : Type 0 where
-  pub program : Listing
+pub record IsRefused (choice : Chosen) (bytes : List ℕ) (at : ℕ) (why : Why) : Type 0 where
+  pub program : XdpProgram
   pub object : IsObject choice bytes program
   pub refusal : FirstRefusal program.insns at why
 
 -- what holds of the bytes that an error is answered for; of want of memory nothing is said
-abbrev pub FailsFor : Option (List ℕ) → List ℕ → CompileError → Type 0
+abbrev pub FailsFor : Chosen → List ℕ → CompileError → Type 0
 FailsFor choice bytes (Object e) = FirstFault choice bytes e
 FailsFor choice bytes (Refused at why) = IsRefused choice bytes at why
 FailsFor choice bytes NoMemory = Unit {0}

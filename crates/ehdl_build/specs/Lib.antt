@@ -1,5 +1,6 @@
-pub mod Bay
-pub mod Station
+pub mod Bounds
+pub mod StoreAndForward
+pub mod StoreAndForwardNetlist
 pub mod Products
 pub mod Realizes
 pub mod Compiled

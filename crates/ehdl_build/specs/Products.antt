@@ -6,7 +6,7 @@ use Rattle.net_core.specs.declared.tree.Op.{Op}
 use Rattle.net_core.specs.declared.tree.Op.TheVariants.{Add, Sub, Mul, And, Or, Xor, ShiftLeft, ShiftRight, Equal, NotEqual, Less, LessEqual, Greater, GreaterEqual}
 use Rattle.net_core.specs.declared.tree.Net.{Net}
 use Rattle.net_core.specs.declared.tree.Net.TheVariants.{Port, Register, Memory, Wire}
-use Rattle.net_core.specs.Nets.{Tree, TConst, TRead, TBit, TBits, TCell, TBefore, TTwo, TChoose, TJoin, Trees, TLast, TMore, RightTree, RPlain, RQuotient, RRemainder, Act, ABlock, AIf, AIfElse, ASet, AStore, Acts, AEnd, AThen, WireTree, AssignTree, Plan}
+use Rattle.net_core.specs.Nets.{Tree, TConst, TRead, TBit, TPartSelect, TMemoryWord, TUnary, TBinary, TConditional, TConcatenation, Trees, TLast, TMore, RightTree, RPlain, RQuotient, RRemainder, StatementTree, SBlock, SIf, SIfElse, SSet, SStore, StatementTrees, SEnd, SThen, WireTree, AssignTree, Netlist}
 
 abbrev pub is_product : Op → Bool
 is_product Add = false
@@ -37,12 +37,12 @@ abbrev mutual
   has_product ws (TConst w) = false
   has_product ws (TRead n) = made_by_product ws n
   has_product ws (TBit n i) = made_by_product ws n
-  has_product ws (TBits n hi lo) = made_by_product ws n
-  has_product ws (TCell m i) = has_product ws i
-  has_product ws (TBefore p a) = has_product ws a
-  has_product ws (TTwo op a b) = is_product op || (has_product ws a || has_product ws b)
-  has_product ws (TChoose c a b) = has_product ws c || (has_product ws a || has_product ws b)
-  has_product ws (TJoin ps) = parts_product ws ps
+  has_product ws (TPartSelect n hi lo) = made_by_product ws n
+  has_product ws (TMemoryWord m i) = has_product ws i
+  has_product ws (TUnary p a) = has_product ws a
+  has_product ws (TBinary op a b) = is_product op || (has_product ws a || has_product ws b)
+  has_product ws (TConditional c a b) = has_product ws c || (has_product ws a || has_product ws b)
+  has_product ws (TConcatenation ps) = parts_product ws ps
 
   pub parts_product : List Bool → Trees Net → Bool
   parts_product ws (TLast a) = has_product ws a
@@ -54,12 +54,12 @@ abbrev mutual
   is_flat ws (TConst w) = true
   is_flat ws (TRead n) = true
   is_flat ws (TBit n i) = true
-  is_flat ws (TBits n hi lo) = true
-  is_flat ws (TCell m i) = is_flat ws i
-  is_flat ws (TBefore p a) = is_flat ws a
-  is_flat ws (TTwo op a b) = (if is_product op then not (has_product ws a || has_product ws b) else true) && (is_flat ws a && is_flat ws b)
-  is_flat ws (TChoose c a b) = is_flat ws c && (is_flat ws a && is_flat ws b)
-  is_flat ws (TJoin ps) = parts_flat ws ps
+  is_flat ws (TPartSelect n hi lo) = true
+  is_flat ws (TMemoryWord m i) = is_flat ws i
+  is_flat ws (TUnary p a) = is_flat ws a
+  is_flat ws (TBinary op a b) = (if is_product op then not (has_product ws a || has_product ws b) else true) && (is_flat ws a && is_flat ws b)
+  is_flat ws (TConditional c a b) = is_flat ws c && (is_flat ws a && is_flat ws b)
+  is_flat ws (TConcatenation ps) = parts_flat ws ps
 
   pub parts_flat : List Bool → Trees Net → Bool
   parts_flat ws (TLast a) = is_flat ws a
@@ -85,25 +85,25 @@ wires_flat ws [] = true
 wires_flat ws (w ∷ rest) = right_flat ws w.right && wires_flat (ws ++ right_product ws w.right ∷ []) rest
 
 abbrev mutual
-  pub act_flat : List Bool → Act Net → Bool
-  act_flat ws (ABlock more) = acts_flat ws more
-  act_flat ws (AIf c a) = is_flat ws c && act_flat ws a
-  act_flat ws (AIfElse c a b) = is_flat ws c && (act_flat ws a && act_flat ws b)
-  act_flat ws (ASet r e) = is_flat ws e
-  act_flat ws (AStore m i e) = is_flat ws i && is_flat ws e
+  pub statement_flat : List Bool → StatementTree Net → Bool
+  statement_flat ws (SBlock more) = statements_flat ws more
+  statement_flat ws (SIf c a) = is_flat ws c && statement_flat ws a
+  statement_flat ws (SIfElse c a b) = is_flat ws c && (statement_flat ws a && statement_flat ws b)
+  statement_flat ws (SSet r e) = is_flat ws e
+  statement_flat ws (SStore m i e) = is_flat ws i && is_flat ws e
 
-  pub acts_flat : List Bool → Acts Net → Bool
-  acts_flat ws AEnd = true
-  acts_flat ws (AThen a more) = act_flat ws a && acts_flat ws more
+  pub statements_flat : List Bool → StatementTrees Net → Bool
+  statements_flat ws SEnd = true
+  statements_flat ws (SThen a more) = statement_flat ws a && statements_flat ws more
 
 abbrev pub assigns_flat : List Bool → List AssignTree → Bool
 assigns_flat ws [] = true
 assigns_flat ws (a ∷ rest) = is_flat ws a.value && assigns_flat ws rest
 
-abbrev pub always_flat : List Bool → List (Act Net) → Bool
+abbrev pub always_flat : List Bool → List (StatementTree Net) → Bool
 always_flat ws [] = true
-always_flat ws (a ∷ rest) = act_flat ws a && always_flat ws rest
+always_flat ws (a ∷ rest) = statement_flat ws a && always_flat ws rest
 
 -- the bound on products, of a whole design
-abbrev pub products_apart : Plan → Bool
+abbrev pub products_apart : Netlist → Bool
 products_apart d = let ws = wire_products [] d.wires in wires_flat [] d.wires && (assigns_flat ws d.assigns && always_flat ws d.always)

@@ -1,72 +1,82 @@
--- A design that answers frames as sequential execution does, whatever is offered and taken, and in the stated clocks.
-use Rattle.std.specs.Prelude.{◌≡◌, ℕ, ◌+◌, ◌-◌, ◌*◌, ◌^◌, ◌<◌, ◌≤◌, max, if◌then◌else◌, MatchBool, IsTrue, Bool, true, false, None, List, [], ◌∷◌, ◌++◌, length}
+-- A design that answers frames as is wanted, whatever is offered and taken, and in the stated clocks, and then shows the host the
+-- wanted maps.
+--
+-- What is wanted is a relation of packets that came, in their order, their answers, and the maps behind the last of them.
+use Rattle.std.specs.Prelude.{◌≡◌, ℕ, ◌+◌, ◌-◌, ◌^◌, ◌<◌, ◌≤◌, if◌then◌else◌, MatchBool, Bool, true, false, None, List, [], ◌∷◌, ◌++◌, length, map as map_list}
 use Rattle.std.specs.List.{flat_map, AllByRecursion}
 use Rattle.beat_core.specs.declared.beat.Beat.{Beat}
-use Rattle.beat_core.specs.Beats.{beats_of, beat_count}
+use Rattle.beat_core.specs.Beats.{beats_of}
+use Rattle.beat_core.specs.Filling.{filled_up}
 use Rattle.beat_core.specs.Clocks.{AreOffers}
 use Rattle.beat_core.specs.Laws.{IsFrame}
+use Rattle.xdp_maps.specs.State.{MapState}
+use Rattle.xdp_machine.specs.Touched.{Touched}
 use Rattle.net_core.specs.declared.ports.Inputs.{Inputs}
-use Rattle.net_core.specs.Nets.{Plan}
-use Rattle.net_core.specs.Clock.{Stored, first_stored}
-use Rattle.net_core.specs.History.{Moment, moments, stored_after, NeverStops, goes_in, beats_in, Arrival, arrivals, Reply, replies, open_beats, IsInput, IsSilent, Drive, Answered, drive}
-use Rattle.ehdl_build.specs.Products.{products_apart}
+use Rattle.net_core.specs.Nets.{Netlist}
+use Rattle.net_core.specs.Clock.{Stored}
+use Rattle.net_core.specs.History.{Cycle, trace, stored_after, NeverStops, goes_in, beats_in, Arrival, arrivals, answers_given, open_beats, IsInput, IsSilent, Drive, Answered, drive}
+use Rattle.beat_core.specs.declared.answer.Answer.{Answer}
+use Rattle.host_history.specs.Host.{ShowsMaps}
+use Rattle.ehdl_build.specs.Bounds.{clock_bound, clock_bound_apart, most_beats}
 
 -- Clocks with the host silent and offers well formed: each beat that goes over has 8 bytes unless it is a last one with 1 to 8,
 -- and a frame has 1 to 192 beats.
-pub record IsPattern (d : Plan) (s : Stored) (is : List Inputs) : Type 0 where
+pub record IsPattern (d : Netlist) (s : Stored) (is : List Inputs) : Type 0 where
   pub inputs : AllByRecursion IsInput is
   pub silent : AllByRecursion IsSilent is
-  pub offers : AreOffers 0 (beats_in (moments d s is))
+  pub offers : AreOffers 0 (beats_in (trace d s is))
 
 -- beats that begin the next answer's, where one is to come; none where none is
-abbrev pub BeginNext : List Beat → List Reply → Type 0
+abbrev pub BeginNext : List Beat → List Answer → Type 0
 BeginNext begun [] = begun ≡ []
 BeginNext begun (r ∷ rest) = (later : List Beat) × (begun ++ later ≡ beats_of r.frame)
 
--- No clock stops, the answers are a prefix of these, and the beats after the last whole answer begin the next one.
-pub record IsPrefix (d : Plan) (s : Stored) (is : List Inputs) (answers : List Arrival → List Reply) : Type 0 where
+-- No clock stops, the answers are a prefix of the wanted ones, and the beats after the last whole answer begin the next one.
+pub record IsPrefix (d : Netlist) (s : Stored) (is : List Inputs) (wanted : List Arrival → List Answer → MapState → Type 0) : Type 0 where
   pub never : NeverStops d s is
-  pub later : List Reply
-  pub front : replies [] (moments d s is) ++ later ≡ answers (arrivals None (moments d s is))
-  pub next : BeginNext (open_beats [] (moments d s is)) later
+  pub later : List Answer
+  pub maps : MapState
+  pub prefix : wanted (arrivals None (trace d s is)) (answers_given [] (trace d s is) ++ later) maps
+  pub next : BeginNext (open_beats [] (trace d s is)) later
 
 -- these frames, all by one interface
 abbrev pub came_by : ℕ → List (List ℕ) → List Arrival
 came_by ifindex [] = []
 came_by ifindex (f ∷ fs) = record { frame = f; ifindex = ifindex } ∷ came_by ifindex fs
 
--- the most beats of one of these frames
-abbrev pub most_beats : List (List ℕ) → ℕ
-most_beats [] = 0
-most_beats (f ∷ fs) = max (beat_count (length f)) (most_beats fs)
+-- what stood at the inputs
+abbrev pub inputs_in : List Cycle → List Inputs
+inputs_in ms = map_list (λ m. m.given) ms
 
--- the clocks that n packets may take: S is the last stage, B the most beats of a frame, Q the number of record sites
-abbrev pub clock_bound : ℕ → ℕ → ℕ → ℕ → ℕ
-clock_bound n s b q = n * (s + 2 * b + q + 8)
-
--- the drive ended with its last answer, and these are all answers, together with those that came before it
-pub record IsWhole (before : List Moment) (r : Drive) (answers : List Reply) : Type 0 where
+-- Behind these clocks a drive ended with its last answer. Together with those that came before it all answers are the wanted ones,
+-- and the host is shown the wanted maps.
+pub record IsWhole (d : Netlist) (s : Stored) (is : List Inputs) (r : Drive) (packets : List Arrival) (wanted : List Arrival → List Answer → MapState → Type 0) : Type 0 where
   pub ended : r.ended ≡ Answered
-  pub all : replies [] (before ++ r.moments) ≡ answers
+  pub maps : MapState
+  pub all : wanted packets (answers_given [] (trace d s is ++ r.trace)) maps
+  pub shown : ShowsMaps d (stored_after d (stored_after d s is) (inputs_in r.trace)) maps
 
 -- each first beat of a frame that went over came by this interface
-abbrev pub CameBy : ℕ → Bool → List Moment → Type 0
+abbrev pub CameBy : ℕ → Bool → List Cycle → Type 0
 CameBy ifindex begun [] = Unit {0}
 CameBy ifindex begun (m ∷ ms) =
     MatchBool (goes_in m) (MatchBool begun (Unit {0}) (m.given.in_ifindex ≡ ifindex) × CameBy ifindex (if m.given.in_last then false else true) ms) (CameBy ifindex begun ms)
 
--- A design realizes answers, with so many stages and record sites.
-pub record Answers (d : Plan) (answers : List Arrival → List Reply) (stages records : ℕ) : Type 0 where
-  pub products : IsTrue (products_apart d)
+-- A design that holds these values answers as is wanted, with so many stages and record sites. Packets are apart where their runs,
+-- which touch this, do not conflict.
+pub record Meets (d : Netlist) (s : Stored) (wanted : List Arrival → List Answer → MapState → Type 0) (apart : List Arrival → List Touched → Type 0) (stages records : ℕ) : Type 0 where
   -- under every pattern of offered and taken beats
-  pub safe : (is : List Inputs) → IsPattern d (first_stored d) is → IsPrefix d (first_stored d) is answers
+  pub safe : (is : List Inputs) → IsPattern d s is → IsPrefix d s is wanted
   -- offered and taken at every clock
   pub complete : (frames : List (List ℕ)) (ifindex limit : ℕ) → AllByRecursion IsFrame frames → ifindex < 2 ^ 32 →
       clock_bound (length frames) stages (most_beats frames) records ≤ limit →
-      IsWhole [] (drive d ifindex (first_stored d) (flat_map beats_of frames) (length frames) limit) (answers (came_by ifindex frames))
-  -- the same from every state that a pattern leads to, by which these frames' first beats went over
-  pub late : (is : List Inputs) (frames : List (List ℕ)) (left : List Beat) (ifindex limit : ℕ) → IsPattern d (first_stored d) is → AllByRecursion IsFrame frames → ifindex < 2 ^ 32 →
-      beats_in (moments d (first_stored d) is) ++ left ≡ flat_map beats_of frames → CameBy ifindex false (moments d (first_stored d) is) →
+      IsWhole d s [] (drive d ifindex s (flat_map beats_of frames) (length frames) limit) (came_by ifindex frames) wanted
+  -- the same, with the stages counted once, of packets that do not conflict
+  pub complete_apart : (frames : List (List ℕ)) (ifindex limit : ℕ) (ts : List Touched) → AllByRecursion IsFrame frames → ifindex < 2 ^ 32 →
+      apart (came_by ifindex frames) ts → clock_bound_apart stages frames ts ≤ limit →
+      IsWhole d s [] (drive d ifindex s (flat_map beats_of frames) (length frames) limit) (came_by ifindex frames) wanted
+  -- the same from every state that a pattern leads to, by which these frames' first beats went over: bytes that do not count are not asked
+  pub late : (is : List Inputs) (frames : List (List ℕ)) (left : List Beat) (ifindex limit : ℕ) → IsPattern d s is → AllByRecursion IsFrame frames → ifindex < 2 ^ 32 →
+      map_list filled_up (beats_in (trace d s is)) ++ left ≡ flat_map beats_of frames → CameBy ifindex false (trace d s is) →
       clock_bound (length frames + 1) stages (most_beats frames) records ≤ limit →
-      IsWhole (moments d (first_stored d) is)
-      (drive d ifindex (stored_after d (first_stored d) is) left (length frames - length (replies [] (moments d (first_stored d) is))) limit) (answers (came_by ifindex frames))
+      IsWhole d s is (drive d ifindex (stored_after d s is) left (length frames - length (answers_given [] (trace d s is))) limit) (came_by ifindex frames) wanted

@@ -2,16 +2,16 @@
 
 ghost use Rattle.std.specs.Prelude.{◌≡◌, ◌≢◌, ◌⊎◌, ◌%◌, ◌^◌, ℕ, IfErr, IfOk, IsErrOf};
 ghost use Rattle.std.specs.Int.{w64, cast_unsigned};
-ghost use Rattle.std.specs.Option.{option_copied};
 ghost use Rattle.xdp_object.specs.declared.error.ObjectError.{ObjectError};
+ghost use Rattle.xdp_object.specs.Choice.{chosen_of};
 ghost use Rattle.xdp_object.specs.Object.{FirstFault, IsObject};
 ghost use Rattle.ehdl_build.specs.declared.built.Why.{Why};
 ghost use Rattle.ehdl_build.specs.Compiled.{Compiles, FailsFor, IsRefused};
 
-use crate::station;
+use crate::store_and_forward;
 use std::alloc::{AllocError, Global};
 use verilog_write::write_text;
-use xdp_object::{ObjectError, Program, read_object, two_units};
+use xdp_object::{Choice, ObjectError, Program, read_object, two_units};
 
 /// What an object was compiled to.
 #[derive(Debug, Drop)]
@@ -69,19 +69,19 @@ fn error_of(error: ObjectError) -> CompileError
     }
 }
 
-/// Compiles an object, by the name of its function if one is given. The text realizes the program: it spells a design that,
+/// Compiles an object. The text realizes the program: it spells a design that,
 /// clock by clock and under every pattern of offered and taken beats, answers frames as sequential execution of the program
 /// does, in the stated clocks.
 ///
 /// For now each program but `r0 = k`, `exit` is refused at its first place.
-pub fn compile(alloc: Global, bytes: &[u8], choice: Option<&[u8]>) -> Result<Built, CompileError>
-    ensures ok { IfOk result (λ built. Compiles (option_copied choice.entry) bytes.now built.text.items) }
-    ensures error { IfErr result (FailsFor (option_copied choice.entry) bytes.now) }
+pub fn compile(alloc: Global, bytes: &[u8], choice: Choice<'_>) -> Result<Built, CompileError>
+    ensures ok { IfOk result (λ built. Compiles (chosen_of choice.entry) bytes.now built.text.items) }
+    ensures error { IfErr result (FailsFor (chosen_of choice.entry) bytes.now) }
 
     // Want of memory aside, each error comes wherever it is said to.
-    ensures object { (e : ObjectError) → FirstFault (option_copied choice.entry) bytes.now e
+    ensures object { (e : ObjectError) → FirstFault (chosen_of choice.entry) bytes.now e
         → IsErrOf result (CompileError.Object e) ⊎ IsErrOf result CompileError.NoMemory }
-    ensures refused { (at : ℕ) (why : Why) → IsRefused (option_copied choice.entry) bytes.now at why
+    ensures refused { (at : ℕ) (why : Why) → IsRefused (chosen_of choice.entry) bytes.now at why
         → IsErrOf result (CompileError.Refused at why) ⊎ IsErrOf result CompileError.NoMemory }
 {
     let program = match read_object(alloc, bytes, choice) {
@@ -94,7 +94,7 @@ pub fn compile(alloc: Global, bytes: &[u8], choice: Option<&[u8]>) -> Result<Bui
             why: Why::Instruction,
         });
     };
-    let design = station::design(alloc, low_word(number))?;
+    let design = store_and_forward::design(alloc, low_word(number))?;
     let text = write_text(alloc, &design)?;
     Ok(Built { text })
 }

@@ -2,6 +2,6 @@
 #![tactic(auto)]
 
 mod built;
-mod station;
+mod store_and_forward;
 
 pub use built::{Built, CompileError, Why, compile};

@@ -1,9 +1,11 @@
 pub mod Status
 pub mod Lines
-pub mod Output
-pub mod Files
+pub mod States
+pub mod Forms
 pub mod Inputs
+pub mod Writes
 pub mod Results
 pub mod Outcome
+pub mod Requests
 pub mod Ends
 pub mod Steps

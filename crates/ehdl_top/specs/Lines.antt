@@ -8,8 +8,8 @@ use Rattle.pcap_core.specs.declared.error.PcapError.TheVariants.{Short, Magic, V
 use Rattle.verilog_read.specs.declared.error.ReadError.{ReadError}
 use Rattle.verilog_read.specs.declared.error.ReadError.TheVariants as verilog
 use Rattle.verilog_read.specs.declared.error.ReadError.TheVariants.{Lex, Syntax, Unknown, Twice, Width, Order, Ports}
-use Rattle.ehdl_top.specs.declared.stop.Stop.{Stop}
-use Rattle.ehdl_top.specs.declared.stop.Stop.TheVariants as stop
+use Rattle.ehdl_top.specs.declared.error.CommandError.{CommandError}
+use Rattle.ehdl_top.specs.declared.error.CommandError.TheVariants as error
 
 -- four numbers in decimal with one space between them, and a line feed
 abbrev pub verdict_line_of : ℕ → ℕ → ℕ → ℕ → List ℕ
@@ -40,16 +40,16 @@ verilog_code (Ports port) = codes "V7 " ++ decimal port
 verilog_code verilog.NoMemory = []
 
 -- ---- the line that says why a command stops
-abbrev pub line_of : Stop → List ℕ
-line_of stop.Usage = codes "usage\n"
-line_of (stop.Object fault) = codes "object " ++ object.code_of fault ++ codes "\n"
-line_of (stop.Refused at why) = codes "refused " ++ decimal at ++ codes " " ++ decimal (why_code why) ++ codes "\n"
-line_of stop.LongVerilog = codes "input verilog long\n"
-line_of (stop.Verilog fault) = codes "input verilog " ++ verilog_code fault ++ codes "\n"
-line_of stop.LongCapture = codes "input capture long\n"
-line_of (stop.Capture fault) = codes "input capture " ++ capture_code fault ++ codes "\n"
-line_of stop.ReadFault = codes "read fault\n"
-line_of stop.WriteFault = codes "write fault\n"
-line_of stop.NoMemory = codes "no memory\n"
-line_of (stop.XValue net) = codes "x value " ++ net ++ codes "\n"
-line_of (stop.Late answers frames) = codes "late " ++ decimal answers ++ codes " " ++ decimal frames ++ codes "\n"
+abbrev pub line_of : CommandError → List ℕ
+line_of error.Usage = codes "usage\n"
+line_of (error.Object fault) = codes "object " ++ object.code_of fault ++ codes "\n"
+line_of (error.Refused at why) = codes "refused " ++ decimal at ++ codes " " ++ decimal (why_code why) ++ codes "\n"
+line_of error.LongVerilog = codes "input verilog long\n"
+line_of (error.Verilog fault) = codes "input verilog " ++ verilog_code fault ++ codes "\n"
+line_of error.LongCapture = codes "input capture long\n"
+line_of (error.Capture fault) = codes "input capture " ++ capture_code fault ++ codes "\n"
+line_of error.ReadFault = codes "read fault\n"
+line_of error.WriteFault = codes "write fault\n"
+line_of error.NoMemory = codes "no memory\n"
+line_of (error.XValue net) = codes "x value " ++ net ++ codes "\n"
+line_of (error.Late answers frames) = codes "late " ++ decimal answers ++ codes " " ++ decimal frames ++ codes "\n"

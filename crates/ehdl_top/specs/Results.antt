@@ -2,10 +2,10 @@
 use Rattle.std.specs.Prelude.{ℕ, zero, suc, Bool, true, false, List, [], ◌∷◌, ◌++◌, length, map, slice_index_or}
 use Rattle.pcap_core.specs.declared.order.Order.TheVariants.{Little}
 use Rattle.pcap_core.specs.Format.{Packet, header_bytes, record_bytes}
-use Rattle.net_core.specs.History.{Reply}
-use Rattle.command_words.specs.Asked.{Names}
+use Rattle.beat_core.specs.declared.answer.Answer.{Answer}
+use Rattle.command_line.specs.Request.{Names}
 use Rattle.ehdl_top.specs.Lines.{verdict_line_of}
-use Rattle.ehdl_top.specs.Files.{File, file}
+use Rattle.ehdl_top.specs.Writes.{File, file, Write, Begin, Append, Outputs, file_writes}
 
 -- the texts of 0, 1, .., so many of them, one behind the other
 abbrev pub texts : (ℕ → List ℕ) → ℕ → List ℕ
@@ -15,42 +15,74 @@ texts text (suc n) = texts text n ++ text n
 abbrev pub no_packet : Packet
 no_packet = record { seconds = 0; fraction = 0; bytes = [] }
 
-abbrev pub no_reply : Reply
-no_reply = record { verdict = 0; target = 0; frame = [] }
+abbrev pub no_answer : Answer
+no_answer = record { verdict = 0; target = 0; frame = [] }
 
 -- the record of an answer: the time of its packet, and its frame's length twice
-abbrev pub answer_record : Packet → Reply → List ℕ
+abbrev pub answer_record : Packet → Answer → List ℕ
 answer_record p r = record_bytes Little (record { packet = record { seconds = p.seconds; fraction = p.fraction; bytes = r.frame }; original = length r.frame })
 
-abbrev pub record_at : List Packet → List Reply → ℕ → List ℕ
-record_at packets replies i = answer_record (slice_index_or packets i no_packet) (slice_index_or replies i no_reply)
+abbrev pub record_at : List Packet → List Answer → ℕ → List ℕ
+record_at packets answers i = answer_record (slice_index_or packets i no_packet) (slice_index_or answers i no_answer)
 
-abbrev pub line_of : ℕ → Reply → List ℕ
+abbrev pub line_of : ℕ → Answer → List ℕ
 line_of i r = verdict_line_of i r.verdict r.target (length r.frame)
 
-abbrev pub line_at : List Reply → ℕ → List ℕ
-line_at replies i = line_of i (slice_index_or replies i no_reply)
+abbrev pub line_at : List Answer → ℕ → List ℕ
+line_at answers i = line_of i (slice_index_or answers i no_answer)
 
 -- the header of an answer: time zone and accuracy 0, packets of any length
 abbrev pub answer_header : ℕ → List ℕ
 answer_header magic = header_bytes (record { order = Little; magic = magic; zone = 0; accuracy = 0; snap = 65535 })
 
 -- the capture of the answers: a record for each
-abbrev pub answer_bytes : ℕ → List Packet → List Reply → List ℕ
-answer_bytes magic packets replies = answer_header magic ++ texts (record_at packets replies) (length replies)
+abbrev pub answer_bytes : ℕ → List Packet → List Answer → List ℕ
+answer_bytes magic packets answers = answer_header magic ++ texts (record_at packets answers) (length answers)
 
 -- the verdict lines: one for each answer
-abbrev pub verdict_lines : List Reply → List ℕ
-verdict_lines replies = texts (line_at replies) (length replies)
+abbrev pub verdict_lines : List Answer → List ℕ
+verdict_lines answers = texts (line_at answers) (length answers)
 
 abbrev pub frames_of : List Packet → List (List ℕ)
 frames_of packets = map (λ p. p.bytes) packets
 
 -- the capture of the answers, and their verdicts
-abbrev pub result_files : Names → ℕ → List Packet → List Reply → List File
-result_files names magic packets replies = file names.answer (answer_bytes magic packets replies) ∷ file names.verdicts (verdict_lines replies) ∷ []
+abbrev pub result_files : Names → ℕ → List Packet → List Answer → List File
+result_files names magic packets answers = file names.answer (answer_bytes magic packets answers) ∷ file names.verdicts (verdict_lines answers) ∷ []
 
 -- the final maps, where they are written: there are no maps so far
 abbrev pub final_files : Names → Bool → List File
 final_files names true = file names.final_maps [] ∷ []
 final_files names false = []
+
+-- ---- the order in which they are written
+-- of each of the first n packets the record of its answer, and then its verdict line
+abbrev pub packet_writes : Names → List Packet → List Answer → ℕ → List Write
+packet_writes names packets answers zero = []
+packet_writes names packets answers (suc n) =
+    packet_writes names packets answers n ++ Append names.answer (record_at packets answers n) ∷ Append names.verdicts (line_at answers n) ∷ []
+
+abbrev pub final_writes : Names → Bool → List Write
+final_writes names true = file_writes names.final_maps []
+final_writes names false = []
+
+-- The answer is begun, and its header written; the verdicts are begun; then comes packet by packet, and the final maps come last.
+abbrev pub result_writes : Names → ℕ → List Packet → List Answer → Bool → List Write
+result_writes names magic packets answers finals =
+    file_writes names.answer (answer_header magic) ++ Begin names.verdicts ∷ (packet_writes names packets answers (length answers) ++ final_writes names finals)
+
+-- ---- the outputs of the commands
+abbrev pub compile_outputs : List ℕ → List ℕ → Outputs
+compile_outputs verilog text = record { files = file verilog text ∷ []; writes = file_writes verilog text }
+
+abbrev pub run_outputs : Names → List ℕ → ℕ → List Packet → List Answer → Outputs
+run_outputs names text magic packets answers = record {
+  files = file names.verilog text ∷ (result_files names magic packets answers ++ final_files names true);
+  writes = file_writes names.verilog text ++ result_writes names magic packets answers true;
+}
+
+abbrev pub sim_outputs : Names → ℕ → List Packet → List Answer → Bool → Outputs
+sim_outputs names magic packets answers finals = record {
+  files = result_files names magic packets answers ++ final_files names finals;
+  writes = result_writes names magic packets answers finals;
+}

@@ -2,8 +2,8 @@
 use Rattle.std.specs.Prelude.{ℕ, Option, Some, None}
 use Rattle.ehdl_top.specs.declared.status.Status.{Status}
 use Rattle.ehdl_top.specs.declared.status.Status.TheVariants as status
-use Rattle.ehdl_top.specs.declared.stop.Stop.{Stop}
-use Rattle.ehdl_top.specs.declared.stop.Stop.TheVariants as stop
+use Rattle.ehdl_top.specs.declared.error.CommandError.{CommandError}
+use Rattle.ehdl_top.specs.declared.error.CommandError.TheVariants as error
 
 abbrev pub code_of : Status → ℕ
 code_of status.Done = 0
@@ -18,21 +18,21 @@ code_of status.XValue = 9
 code_of status.Late = 10
 
 -- how a command ends that stops for this reason
-abbrev pub status_of : Stop → Status
-status_of stop.Usage = status.Usage
-status_of (stop.Object fault) = status.Object
-status_of (stop.Refused at why) = status.Refused
-status_of stop.LongVerilog = status.Input
-status_of (stop.Verilog fault) = status.Input
-status_of stop.LongCapture = status.Input
-status_of (stop.Capture fault) = status.Input
-status_of stop.ReadFault = status.ReadFault
-status_of stop.WriteFault = status.WriteFault
-status_of stop.NoMemory = status.NoMemory
-status_of (stop.XValue net) = status.XValue
-status_of (stop.Late answers frames) = status.Late
+abbrev pub status_of : CommandError → Status
+status_of error.Usage = status.Usage
+status_of (error.Object fault) = status.Object
+status_of (error.Refused at why) = status.Refused
+status_of error.LongVerilog = status.Input
+status_of (error.Verilog fault) = status.Input
+status_of error.LongCapture = status.Input
+status_of (error.Capture fault) = status.Input
+status_of error.ReadFault = status.ReadFault
+status_of error.WriteFault = status.WriteFault
+status_of error.NoMemory = status.NoMemory
+status_of (error.XValue net) = status.XValue
+status_of (error.Late answers frames) = status.Late
 
 -- how a command ends that stops, or is done
-abbrev pub ended : Option Stop → Status
+abbrev pub ended : Option CommandError → Status
 ended None = status.Done
 ended (Some s) = status_of s

@@ -1,28 +1,39 @@
 -- What the steps of a command give each other.
-use Rattle.std.specs.Prelude.{◌≡◌, ◌≢◌, ◌⊎◌, ℕ, ◌≤◌, Bool, IsTrue, List, [], length, Option, Some, None, Result, Ok, Err}
-use Rattle.shelf_core.specs.Shelf.{Holding, Counts, Rose, SameHeld, IsLonger, HoldsFront}
-use Rattle.pcap_core.specs.declared.record.Rec.{Rec}
-use Rattle.pcap_core.specs.Format.{IsLength}
-use Rattle.net_core.specs.Nets.{Plan}
+use Rattle.std.specs.Prelude.{◌≡◌, ◌≢◌, ◌⊎◌, ℕ, ◌<◌, ◌≤◌, ◌^◌, IsTrue, List, [], length, map, Option, Some, None, is_none, Result, Ok, Err}
+use Rattle.std.specs.List.{AllByRecursion}
+use Rattle.shelf_core.specs.Shelf.{Rose}
+use Rattle.beat_core.specs.Laws.{IsFrame}
+use Rattle.pcap_core.specs.Format.{Packet}
+use Rattle.net_core.specs.Nets.{Netlist}
 use Rattle.net_core.specs.Clock.{first_stored}
-use Rattle.net_core.specs.History.{replies}
+use Rattle.net_core.specs.History.{Drive, answers_given}
+use Rattle.beat_core.specs.declared.answer.Answer.{Answer}
 use Rattle.port_drive.specs.Reports.{full_drive}
-use Rattle.xdp_object.specs.Program.{Listing}
-use Rattle.xdp_object.specs.Object.{FirstFault, IsObject}
-use Rattle.ehdl_build.specs.declared.built.Why.{Why}
-use Rattle.ehdl_build.specs.Compiled.{FirstRefusal, IsRefused, Realizes}
-use Rattle.command_words.specs.Asked.{Asked, AskCompile, AskRun, AskSim, Names}
-use Rattle.ehdl_top.specs.declared.limits.TheConstants.{CAPTURE_LIMIT, VERILOG_LIMIT}
-use Rattle.ehdl_top.specs.Status.{status_of}
-use Rattle.ehdl_top.specs.Output.{KeepsOrHoldsFront}
-use Rattle.ehdl_top.specs.Inputs.{HoldsProgram, HoldsNoObject, HoldsRefused, HoldsNoText, IsTextFault, HoldsNoCapture, IsCaptureFault}
-use Rattle.ehdl_top.specs.Outcome.{InputStops, drive_stop}
-use Rattle.ehdl_top.specs.Ends.{HasWritten, HasBroken, IsGivenUp, CanEnd}
+use Rattle.xdp_object.specs.Program.{XdpProgram}
+use Rattle.xdp_object.specs.Choice.{Chosen}
+use Rattle.ehdl_build.specs.Realizes.{came_by}
+use Rattle.xdp_maps.specs.State.{MapState, opened_state}
+use Rattle.ehdl_build.specs.Compiled.{PipelineSize, HasSize, IsSequential, Realizes}
+use Rattle.command_line.specs.Request.{Request, AskCompile, AskRun, AskSim, Names}
+use Rattle.ehdl_top.specs.States.{ShelfState, Changes, OneRose}
+use Rattle.ehdl_top.specs.Forms.{InputForm, IsFaulty, IsAccepted, IsTextFault, IsCaptured}
+use Rattle.ehdl_top.specs.Inputs.{FirstStop, OneUnread, EndsAtInput}
+use Rattle.ehdl_top.specs.Writes.{Write, Begin, Append}
+use Rattle.ehdl_top.specs.Results.{frames_of, run_outputs, sim_outputs}
+use Rattle.ehdl_top.specs.Outcome.{drive_error}
+use Rattle.ehdl_top.specs.Requests.{inputs_of, outputs_of, EndsItself}
+use Rattle.ehdl_top.specs.Ends.{HasWritten, HasBroken}
+use Rattle.ehdl_top.specs.Status.{ended, status_of}
+use Rattle.ehdl_top.specs.declared.packets.Captured.{Captured}
+use Rattle.ehdl_top.specs.declared.packets.Stamp.{Stamp}
 use Rattle.ehdl_top.specs.declared.drive.Driven.{Driven}
-use Rattle.ehdl_top.specs.declared.stop.Line.{Line}
-use Rattle.ehdl_top.specs.declared.stop.Line.TheVariants.{Fixed, Text}
-use Rattle.ehdl_top.specs.declared.stop.Stop.{Stop}
-use Rattle.ehdl_top.specs.declared.stop.Stop.TheVariants as stop
+use Rattle.ehdl_top.specs.declared.sim.Simulated.{Simulated}
+use Rattle.ehdl_top.specs.declared.error.Line.{Line}
+use Rattle.ehdl_top.specs.declared.error.Line.TheVariants.{Fixed, Text}
+use Rattle.ehdl_top.specs.declared.write.Write as code
+use Rattle.ehdl_top.specs.declared.write.Write.TheVariants as write
+use Rattle.ehdl_top.specs.declared.error.CommandError.{CommandError}
+use Rattle.ehdl_top.specs.declared.error.CommandError.TheVariants as error
 
 -- what is put of a line
 abbrev pub bytes_of : Line → List ℕ
@@ -30,108 +41,82 @@ bytes_of (Fixed bytes) = bytes.now
 bytes_of (Text bytes) = bytes.items
 
 -- ---- inputs
+-- what bytes of an input are given up for: want of memory, or their first fault
+abbrev pub IsGivenUp : InputForm → List ℕ → CommandError → Type 0
+IsGivenUp form bytes e = (e ≡ error.NoMemory) ⊎ (form.Ends (status_of e) × form.Faults bytes e)
+
+-- why an input was not read: a fault, want of memory, or what the name holds
+abbrev pub IsUnread : InputForm → List ℕ → ShelfState → ShelfState → CommandError → Type 0
+IsUnread form name old new e =
+    ((e ≡ error.ReadFault) × Rose (old.read_faults name) (new.read_faults name))
+    ⊎ ((e ≡ error.NoMemory) ⊎ (form.Ends (status_of e) × (IsTrue old.tells → IsFaulty form (old.held name) e)))
+
+-- an input was read: the bytes that the name holds, where that is told, are in the form
+pub record IsRead (form : InputForm) (name : List ℕ) (old : ShelfState) (bytes : List ℕ) : Type 0 where
+  pub there : IsTrue old.tells → old.held name ≡ Some bytes
+  pub within : length bytes ≤ form.limit
+  pub fits : form.Fits bytes
+
+-- a text that realizes a program, whose pipeline has this size; it has no maps so far
+pub record IsRealized (text : List ℕ) (program : XdpProgram) (size : PipelineSize) : Type 0 where
+  pub no_maps : program.decls ≡ []
+  pub has_size : HasSize program size
+  pub realizes : Realizes text program size
+
 -- a text that realizes the program of an object
-pub record IsTextFor (choice : Option (List ℕ)) (bytes text : List ℕ) : Type 0 where
-  pub program : Listing
-  pub object : IsObject choice bytes program
-  pub accepted : (at : ℕ) (why : Why) → ¬ FirstRefusal program.insns at why
-  pub realizes : Realizes text program.insns 0 0
+pub record IsTextFor (choice : Chosen) (bytes text : List ℕ) : Type 0 where
+  pub program : XdpProgram
+  pub accepted : IsAccepted choice bytes program
+  pub size : PipelineSize
+  pub realized : IsRealized text program size
 
--- the same of what a name holds, where that is told
-pub record IsBuilt (choice : Option (List ℕ)) (tells : Bool) (held : Option (List ℕ)) (text : List ℕ) : Type 0 where
-  pub program : Listing
-  pub held_program : IsTrue tells → HoldsProgram choice held program
-  pub realizes : Realizes text program.insns 0 0
+-- when a packet came
+abbrev pub stamp_of : Packet → Stamp
+stamp_of p = record { seconds = p.seconds; fraction = p.fraction }
 
--- what bytes are not compiled for
-abbrev pub CompileStops : Option (List ℕ) → List ℕ → Stop → Type 0
-CompileStops choice bytes (stop.Object fault) = FirstFault choice bytes fault
-CompileStops choice bytes (stop.Refused at why) = IsRefused choice bytes at why
-CompileStops choice bytes stop.NoMemory = Unit {0}
-CompileStops choice bytes s = ⊥
+-- what was read of a capture: the times and the frames of these packets
+pub record IsCaptureOf (captured : Captured) (packets : List Packet) : Type 0 where
+  pub stamps : captured.stamps.items ≡ map stamp_of packets
+  pub frames : captured.frames.items ≡ frames_of packets
+  pub are : AllByRecursion IsFrame captured.frames.items
+  pub few : length captured.frames.items < 2 ^ 32
 
--- what a name gives no compiled program for
-abbrev pub ProgramUnread : Option (List ℕ) → Bool → Option (List ℕ) → Stop → Type 0
-ProgramUnread choice tells held (stop.Object fault) = IsTrue tells → HoldsNoObject choice held fault
-ProgramUnread choice tells held (stop.Refused at why) = IsTrue tells → HoldsRefused choice held at why
-ProgramUnread choice tells held stop.ReadFault = Unit {0}
-ProgramUnread choice tells held stop.NoMemory = Unit {0}
-ProgramUnread choice tells held s = ⊥
+pub record HasCaptured (bytes : List ℕ) (captured : Captured) : Type 0 where
+  pub packets : List Packet
+  pub is : IsCaptured bytes captured.magic packets
+  pub of : IsCaptureOf captured packets
 
--- what bytes are no object for
-abbrev pub ReadStops : Option (List ℕ) → List ℕ → Stop → Type 0
-ReadStops choice bytes (stop.Object fault) = FirstFault choice bytes fault
-ReadStops choice bytes stop.NoMemory = Unit {0}
-ReadStops choice bytes s = ⊥
-
--- what a name gives no object for
-abbrev pub ObjectUnread : Option (List ℕ) → Bool → Option (List ℕ) → Stop → Type 0
-ObjectUnread choice tells held (stop.Object fault) = IsTrue tells → HoldsNoObject choice held fault
-ObjectUnread choice tells held stop.ReadFault = Unit {0}
-ObjectUnread choice tells held stop.NoMemory = Unit {0}
-ObjectUnread choice tells held s = ⊥
-
--- what bytes are no text of a design for
-abbrev pub VerilogStops : List ℕ → Stop → Type 0
-VerilogStops bytes (stop.Verilog fault) = IsTextFault bytes fault
-VerilogStops bytes stop.NoMemory = Unit {0}
-VerilogStops bytes s = ⊥
-
--- what a name gives no text of a design for
-abbrev pub TextUnread : Bool → Option (List ℕ) → Stop → Type 0
-TextUnread tells held stop.LongVerilog = IsTrue tells → IsLonger VERILOG_LIMIT held
-TextUnread tells held (stop.Verilog fault) = IsTrue tells → HoldsNoText held fault
-TextUnread tells held stop.ReadFault = Unit {0}
-TextUnread tells held stop.NoMemory = Unit {0}
-TextUnread tells held s = ⊥
-
--- what a name gives no capture for
-abbrev pub CaptureUnread : Bool → Option (List ℕ) → Stop → Type 0
-CaptureUnread tells held stop.LongCapture = IsTrue tells → IsLonger CAPTURE_LIMIT held
-CaptureUnread tells held (stop.Capture fault) = IsTrue tells → HoldsNoCapture held fault
-CaptureUnread tells held stop.ReadFault = Unit {0}
-CaptureUnread tells held stop.NoMemory = Unit {0}
-CaptureUnread tells held s = ⊥
-
--- what bytes are no capture for
-abbrev pub PacketStops : List ℕ → Stop → Type 0
-PacketStops bytes (stop.Capture fault) = IsCaptureFault bytes fault
-PacketStops bytes stop.NoMemory = Unit {0}
-PacketStops bytes s = ⊥
-
--- a record with as many bytes as a frame may have
-abbrev pub HasFrame : Rec → Type 0
-HasFrame r = IsLength (length r.bytes.now)
+-- what a text spells no design for
+abbrev pub TextStops : List ℕ → CommandError → Type 0
+TextStops bytes (error.Verilog fault) = IsTextFault bytes fault
+TextStops bytes error.NoMemory = Unit {0}
+TextStops bytes e = ⊥
 
 -- ---- the drive
 -- what the full drive of these frames in at most so many clocks gave: no more answers than there are frames
-pub record IsDriven (design : Plan) (ifindex : ℕ) (frames : List (List ℕ)) (clocks : ℕ) (d : Driven) : Type 0 where
-  pub answers : d.answers ≡ replies [] (full_drive design ifindex (first_stored design) frames clocks).moments
+pub record IsDriven (design : Netlist) (ifindex : ℕ) (frames : List (List ℕ)) (clocks : ℕ) (d : Driven) : Type 0 where
+  pub answers : d.answers ≡ answers_given [] (full_drive design ifindex (first_stored design) frames clocks).trace
   pub few : length d.answers ≤ length frames
-  pub stop : d.stop ≡ drive_stop design (length frames) (full_drive design ifindex (first_stored design) frames clocks) (full_drive design ifindex (first_stored design) frames clocks).ended
+  pub end : d.end ≡ drive_error design (length frames) (full_drive design ifindex (first_stored design) frames clocks) (full_drive design ifindex (first_stored design) frames clocks).ended
 
--- ---- two files that grow together
--- two names hold these bytes
-pub record HoldBoth (answer verdicts : List ℕ) (as' vs : List ℕ) (held : Holding) : Type 0 where
-  pub answers : held answer ≡ Some as'
-  pub lines : held verdicts ≡ Some vs
+-- ---- outputs
+abbrev pub write_of : code.Write → Write
+write_of (write.Begin name) = Begin name.now
+write_of (write.Append name bytes) = Append name.now bytes.items
 
--- two names hold fronts of these bytes
-pub record HoldBothFronts (answer verdicts : List ℕ) (as' vs : List ℕ) (held : Holding) : Type 0 where
-  pub answers : HoldsFront as' (held answer)
-  pub lines : HoldsFront vs (held verdicts)
+-- the writes of a run of these packets, and its answers
+pub record IsRunOf (names : Names) (text : List ℕ) (program : XdpProgram) (ifindex magic : ℕ) (packets : List Packet) (writes : List code.Write) : Type 0 where
+  pub answers : List Answer
+  pub final : MapState
+  pub runs : IsSequential program (opened_state program.decls) (came_by ifindex (frames_of packets)) answers final
+  pub writes_are : map write_of writes ≡ (run_outputs names text magic packets answers).writes
 
--- two names hold what they held, or fronts of these bytes
-pub record KeepBoth (answer verdicts : List ℕ) (as' vs : List ℕ) (old new : Holding) : Type 0 where
-  pub answers : KeepsOrHoldsFront as' (old answer) (new answer)
-  pub lines : KeepsOrHoldsFront vs (old verdicts) (new verdicts)
-
--- other names than two hold what they held
-pub record ChangesBoth (answer verdicts : List ℕ) (old new : Holding) : Type 0 where
-  pub others : (other : List ℕ) → other ≢ answer → other ≢ verdicts → new other ≡ old other
-
-abbrev pub EitherRose : List ℕ → List ℕ → Counts → Counts → Type 0
-EitherRose answer verdicts old new = Rose (old answer) (new answer) ⊎ Rose (old verdicts) (new verdicts)
+-- the writes and the end of a simulation over these packets
+pub record IsSimOf (names : Names) (design : Netlist) (ifindex clocks magic : ℕ) (packets : List Packet) (simulated : Simulated) : Type 0 where
+  pub drive : Drive
+  pub is_drive : drive ≡ full_drive design ifindex (first_stored design) (frames_of packets) clocks
+  pub end_is : simulated.end ≡ drive_error design (length packets) drive drive.ended
+  pub writes_are : map write_of simulated.writes.items ≡ (sim_outputs names magic packets (answers_given [] drive.trace) (is_none simulated.end)).writes
 
 -- no two of the files that may be written have one name
 pub record AreApart (names : Names) : Type 0 where
@@ -144,25 +129,45 @@ pub record AreApart (names : Names) : Type 0 where
 
 -- ---- commands
 -- no two of the files that a command may write have one name
-abbrev pub NamesApart : Asked → Type 0
-NamesApart (AskCompile object verilog selected) = Unit {0}
-NamesApart (AskRun names selected ifindex) = AreApart names
-NamesApart (AskSim names selected ifindex clocks) = AreApart names
+abbrev pub NamesApart : Request → Type 0
+NamesApart (AskCompile object verilog chosen) = Unit {0}
+NamesApart (AskRun names chosen ifindex) = AreApart names
+NamesApart (AskSim names chosen ifindex clocks) = AreApart names
 
--- the inputs are why a command was given up, where they are told
-abbrev pub StopsEarly : Asked → Bool → Holding → Holding → Stop → Type 0
-StopsEarly asked tells old new s = SameHeld old new × (IsTrue tells → InputStops asked old s)
+-- a write failed
+pub record FailsWrite (request : Request) (old new : ShelfState) : Type 0 where
+  pub rose : OneRose (outputs_of request) old.write_faults new.write_faults
+  pub broken : IsTrue old.tells → HasBroken request old new
 
--- what is known where a command was given up, by the reason
-abbrev pub StopsIn : Asked → Bool → Holding → Holding → Stop → Type 0
-StopsIn asked tells old new stop.Usage = ⊥
-StopsIn asked tells old new stop.ReadFault = SameHeld old new
-StopsIn asked tells old new stop.WriteFault = IsTrue tells → HasBroken asked old new
-StopsIn asked tells old new stop.NoMemory = IsTrue tells → IsGivenUp asked old new
-StopsIn asked tells old new (stop.XValue net) = IsTrue tells → HasWritten asked (Some (stop.XValue net)) old new
-StopsIn asked tells old new (stop.Late answers frames) = IsTrue tells → HasWritten asked (Some (stop.Late answers frames)) old new
-StopsIn asked tells old new s = StopsEarly asked tells old new s
+-- all was written, and this is the end
+pub record WritesAll (request : Request) (end : Option CommandError) (old new : ShelfState) : Type 0 where
+  pub can : EndsItself request (ended end)
+  pub has : IsTrue old.tells → HasWritten request end old new
 
-abbrev pub EndsIn : Asked → Bool → Holding → Holding → Result (Unit {0}) Stop → Type 0
-EndsIn asked tells old new (Ok u) = IsTrue tells → HasWritten asked None old new
-EndsIn asked tells old new (Err s) = CanEnd asked (status_of s) × StopsIn asked tells old new s
+-- Why a command was given up: a read failed, memory ran out, or an input is not in its form, and nothing was written; a write failed;
+-- or all was written, and the drive was given up.
+pub data StopsBy (request : Request) (old new : ShelfState) (e : CommandError) : Type 0 where
+  Unread : e ≡ error.ReadFault → OneUnread (inputs_of request) old new → Changes [] old new → StopsBy request old new e
+  OutOfMemory : e ≡ error.NoMemory → Changes [] old new → StopsBy request old new e
+  AtInput : EndsAtInput (inputs_of request) (status_of e) → (IsTrue old.tells → FirstStop (inputs_of request) old.held e) → Changes [] old new → StopsBy request old new e
+  Unwritten : e ≡ error.WriteFault → FailsWrite request old new → StopsBy request old new e
+  AtEnd : WritesAll request (Some e) old new → StopsBy request old new e
+
+abbrev pub EndsBy : Request → ShelfState → ShelfState → Result (Unit {0}) CommandError → Type 0
+EndsBy request old new (Ok u) = WritesAll request None old new
+EndsBy request old new (Err e) = StopsBy request old new e
+
+-- how a command ends: no name but an output has changed
+pub record EndsIn (request : Request) (old new : ShelfState) (result : Result (Unit {0}) CommandError) : Type 0 where
+  pub by : EndsBy request old new result
+  pub kept : Changes (outputs_of request) old new
+
+-- the line of an error takes no memory
+abbrev pub IsFixed : CommandError → Type 0
+IsFixed error.Usage = Unit {0}
+IsFixed error.LongVerilog = Unit {0}
+IsFixed error.LongCapture = Unit {0}
+IsFixed error.ReadFault = Unit {0}
+IsFixed error.WriteFault = Unit {0}
+IsFixed error.NoMemory = Unit {0}
+IsFixed e = ⊥

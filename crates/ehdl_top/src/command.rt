@@ -1,36 +1,35 @@
 // The call that does all that the program does.
 
-ghost use Rattle.std.specs.Prelude.{◌≡◌, ◌≢◌, ◌⊎◌, ◌↔◌, ◌≤◌, OnOk, OnErr, IfErr, IsErrOf, IsTrue};
-ghost use Rattle.shelf_core.specs.Shelf.{NoneFell, SameHeld};
-ghost use Rattle.command_words.specs.Asked.{Asked, asked_of};
-ghost use Rattle.command_words.specs.AsksFor.{AsksFor};
-ghost use Rattle.ehdl_top.specs.Files.{KeepsOthers, OneRose};
+ghost use Rattle.std.specs.Prelude.{◌≡◌, ◌≢◌, ◌⊎◌, ◌↔◌, IfErr, IsErrOf, IsTrue};
+ghost use Rattle.shelf_core.specs.Shelf.{SameHeld};
+ghost use Rattle.command_line.specs.Request.{Request, request_of};
+ghost use Rattle.command_line.specs.AsksFor.{AsksFor};
+ghost use Rattle.ehdl_top.specs.States.{state_of, sink_of, Changes, IsLater, IsLaterSink, OneRose};
+ghost use Rattle.ehdl_top.specs.Inputs.{AreReady, FirstStop, OneUnread, names_in};
+ghost use Rattle.ehdl_top.specs.Writes.{Outputs};
 ghost use Rattle.ehdl_top.specs.Status.{status_of};
-ghost use Rattle.ehdl_top.specs.Lines.{line_of};
-ghost use Rattle.ehdl_top.specs.Outcome.{AreReady, IsCause, inputs_of, outputs_of};
-ghost use Rattle.ehdl_top.specs.Ends.{AllWritten, ByInputs, CanEnd, EndsAs, IsEarly, IsFault, Loses, Puts, SaysWhy};
-ghost use Rattle.ehdl_top.specs.Steps.{EndsIn, NamesApart};
-ghost use Rattle.ehdl_top.specs.declared.stop.Stop.{Stop};
+ghost use Rattle.ehdl_top.specs.Requests.{inputs_of, outputs_of, IsOutcome, IsCause, CanEnd, IsFault};
+ghost use Rattle.ehdl_top.specs.Ends.{AllWritten, ByInputs, EndsAs, IsEarly, Loses, SaysWhy};
+ghost use Rattle.ehdl_top.specs.Steps.{EndsIn, NamesApart, IsFixed};
+ghost use Rattle.ehdl_top.specs.declared.error.CommandError.{CommandError};
 
 use crate::compile::compile_file;
+use crate::error::CommandError;
 use crate::run::run_files;
 use crate::sim::sim_files;
 use crate::status::Status;
-use crate::stop::Stop;
-use command_words::{Command, Words, read_command};
+use command_line::{Command, Words, WordsError, read_words};
 use shelf_core::{Shelf, Sink};
 use std::alloc::Global;
 
 // Does what is asked for.
-fn run_command<S: Shelf>(alloc: Global, shelf: &mut S, command: &Command) -> Result<(), Stop>
-    requires { NamesApart (asked_of command.now) }
-    ensures ends { EndsIn (asked_of command.now) (S.tells shelf.old) (S.held shelf.old) (S.held shelf.new) result }
-    ensures read_fault { IsErrOf result Stop.ReadFault → OneRose (inputs_of (asked_of command.now)) (S.read_faults shelf.old) (S.read_faults shelf.new) }
-    ensures write_fault { IsErrOf result Stop.WriteFault → OneRose (outputs_of (asked_of command.now)) (S.write_faults shelf.old) (S.write_faults shelf.new) }
-    ensures others { KeepsOthers (outputs_of (asked_of command.now)) (S.held shelf.old) (S.held shelf.new) }
-    ensures tells { S.tells shelf.new ≡ S.tells shelf.old }
-    ensures reads { NoneFell (S.read_faults shelf.old) (S.read_faults shelf.new) }
-    ensures writes { NoneFell (S.write_faults shelf.old) (S.write_faults shelf.new) }
+fn run_command<S: Shelf>(
+    alloc: Global,
+    shelf: &mut S,
+    command: &Command,
+) -> Result<(), CommandError>
+    requires { NamesApart (request_of command.now) }
+    ensures { EndsIn (request_of command.now) (state_of S.Shelf shelf.old) (state_of S.Shelf shelf.new) result }
 {
     match command {
         Command::Compile {
@@ -53,35 +52,32 @@ fn run_command<S: Shelf>(alloc: Global, shelf: &mut S, command: &Command) -> Res
 }
 
 // Does what the words ask for.
-fn run_words<S: Shelf>(alloc: Global, words: &Words, shelf: &mut S) -> Result<(), Stop>
-    ensures ends { (asked : Asked) → AsksFor words.now asked → EndsIn asked (S.tells shelf.old) (S.held shelf.old) (S.held shelf.new) result }
-    ensures usage { IsErrOf result Stop.Usage ↔ ((asked : Asked) → ¬ AsksFor words.now asked) }
-    ensures read_fault { IsErrOf result Stop.ReadFault → (asked : Asked) → AsksFor words.now asked → OneRose (inputs_of asked) (S.read_faults shelf.old) (S.read_faults shelf.new) }
-    ensures write_fault { IsErrOf result Stop.WriteFault → (asked : Asked) → AsksFor words.now asked → OneRose (outputs_of asked) (S.write_faults shelf.old) (S.write_faults shelf.new) }
-    ensures early { IfErr result (λ s. IsEarly (status_of s) → SameHeld (S.held shelf.old) (S.held shelf.new)) }
-    ensures others { (asked : Asked) → AsksFor words.now asked → KeepsOthers (outputs_of asked) (S.held shelf.old) (S.held shelf.new) }
-    ensures tells { S.tells shelf.new ≡ S.tells shelf.old }
-    ensures reads { NoneFell (S.read_faults shelf.old) (S.read_faults shelf.new) }
-    ensures writes { NoneFell (S.write_faults shelf.old) (S.write_faults shelf.new) }
+fn run_words<S: Shelf>(alloc: Global, words: &Words, shelf: &mut S) -> Result<(), CommandError>
+    ensures ends { (request : Request) → AsksFor words.now request → EndsIn request (state_of S.Shelf shelf.old) (state_of S.Shelf shelf.new) result }
+    ensures usage { IsErrOf result CommandError.Usage → (request : Request) → ¬ AsksFor words.now request }
+    ensures unread { ((request : Request) → ¬ AsksFor words.now request) → IsErrOf result CommandError.Usage ⊎ IsErrOf result CommandError.NoMemory }
+    ensures untouched { IsErrOf result CommandError.Usage → shelf.new ≡ shelf.old }
+    ensures early { IfErr result (λ e. IsEarly (status_of e) → SameHeld (S.held shelf.old) (S.held shelf.new)) }
+    ensures later { IsLater (state_of S.Shelf shelf.old) (state_of S.Shelf shelf.new) }
 {
-    match read_command(words) {
-        Some(command) => run_command(alloc, shelf, &command),
-        None => Err(Stop::Usage),
+    match read_words(alloc, words) {
+        Ok(command) => run_command(alloc, shelf, &command),
+        Err(WordsError::Usage) => Err(CommandError::Usage),
+        Err(WordsError::NoMemory) => Err(CommandError::NoMemory),
     }
 }
 
 // Puts the line that says why a command stops, and gives the status: where there is no memory for the line, this is why.
-fn report<O: Sink>(alloc: Global, stop: &Stop, out: &mut O) -> Status
-    ensures why { SaysWhy stop.now result (O.tells out.old) (O.taken out.old) (O.taken out.new) ⊎ SaysWhy Stop.NoMemory result (O.tells out.old) (O.taken out.old) (O.taken out.new) }
-    ensures usage { stop.now ≡ Stop.Usage → result ≡ Status.Usage }
-    ensures puts { O.faults out.old ≤ O.faults out.new }
-    ensures sink { O.tells out.new ≡ O.tells out.old }
+fn report<O: Sink>(alloc: Global, error: &CommandError, out: &mut O) -> Status
+    ensures why { SaysWhy error.now result (sink_of O.Sink out.old) (sink_of O.Sink out.new) ⊎ SaysWhy CommandError.NoMemory result (sink_of O.Sink out.old) (sink_of O.Sink out.new) }
+    ensures fixed { IsFixed error.now → result ≡ status_of error.now }
+    ensures later { IsLaterSink (sink_of O.Sink out.old) (sink_of O.Sink out.new) }
 {
-    match stop.line(alloc) {
+    match error.line(alloc) {
         Ok(line) => {
             // Where the line can't be put, the status still says why.
             let _put = out.put(line.as_bytes());
-            stop.status()
+            error.status()
         }
         Err(_) => {
             let _put = out.put(b"no memory\n");
@@ -95,34 +91,37 @@ fn report<O: Sink>(alloc: Global, stop: &Stop, out: &mut O) -> Status
 /// text that is there, in at most so many clocks. Of every way to end but [`Status::Done`] one line is put to the sink.
 pub fn top<S: Shelf, O: Sink>(alloc: Global, words: &Words, shelf: &mut S, out: &mut O) -> Status
     // What is written: a text that realizes the object's program, and what sequential execution on the capture gives; of a text
-    // that is given, what its full drive gives.
-    ensures outcome { AllWritten result → IsTrue (S.tells shelf.old) → (asked : Asked) → AsksFor words.now asked → EndsAs asked result (S.held shelf.old) (S.held shelf.new) }
+    // that is given, what its full drive gives. It is written in the command's order.
+    ensures outcome { AllWritten result → IsTrue (S.tells shelf.old) → (request : Request) → AsksFor words.now request → EndsAs request result (state_of S.Shelf shelf.old) (state_of S.Shelf shelf.new) }
     // Where the inputs are there in their forms and no fault comes, all is written, want of memory aside.
-    ensures complete { (asked : Asked) → AsksFor words.now asked → IsTrue (S.tells shelf.old) → AreReady asked (S.held shelf.old) → ¬ OneRose (inputs_of asked) (S.read_faults shelf.old) (S.read_faults shelf.new) → ¬ OneRose (outputs_of asked) (S.write_faults shelf.old) (S.write_faults shelf.new) → AllWritten result ⊎ (result ≡ Status.NoMemory) }
+    ensures complete { (request : Request) → AsksFor words.now request → IsTrue (S.tells shelf.old) → AreReady (inputs_of request) (S.held shelf.old) → ¬ OneRose (names_in (inputs_of request)) (S.read_faults shelf.old) (S.read_faults shelf.new) → ¬ OneRose (outputs_of request) (S.write_faults shelf.old) (S.write_faults shelf.new) → AllWritten result ⊎ (result ≡ Status.NoMemory) }
 
-    // The causes: exactly where the words ask for nothing; exactly where the inputs are why, faults and want of memory aside.
-    ensures usage { result ≡ Status.Usage ↔ ((asked : Asked) → ¬ AsksFor words.now asked) }
-    ensures exact { (asked : Asked) → AsksFor words.now asked → IsTrue (S.tells shelf.old) → (s : Stop) → IsCause asked (S.held shelf.old) s → (result ≡ status_of s) ⊎ IsFault result }
-    ensures read_fault { result ≡ Status.ReadFault → (asked : Asked) → AsksFor words.now asked → OneRose (inputs_of asked) (S.read_faults shelf.old) (S.read_faults shelf.new) }
-    ensures write_fault { result ≡ Status.WriteFault → (asked : Asked) → AsksFor words.now asked → OneRose (outputs_of asked) (S.write_faults shelf.old) (S.write_faults shelf.new) }
-    ensures never { (asked : Asked) → AsksFor words.now asked → CanEnd asked result }
+    // The causes: exactly where the words ask for nothing, want of memory aside, and then nothing is read;
+    ensures usage { result ≡ Status.Usage → (request : Request) → ¬ AsksFor words.now request }
+    ensures unread { ((request : Request) → ¬ AsksFor words.now request) → (result ≡ Status.Usage) ⊎ (result ≡ Status.NoMemory) }
+    ensures untouched { result ≡ Status.Usage → shelf.new ≡ shelf.old }
+    // exactly where an input is not in its form and those before it are, want of memory aside, and a fault of a read up to it;
+    ensures inputs { (request : Request) → AsksFor words.now request → IsTrue (S.tells shelf.old) → (e : CommandError) → FirstStop (inputs_of request) (S.held shelf.old) e → (result ≡ status_of e) ⊎ ((result ≡ Status.ReadFault) ⊎ (result ≡ Status.NoMemory)) }
+    // exactly where a drive is given up, faults and want of memory aside.
+    ensures driven { (request : Request) → AsksFor words.now request → IsTrue (S.tells shelf.old) → (e : CommandError) (outputs : Outputs) → IsOutcome request (S.held shelf.old) (Some e) outputs → (result ≡ status_of e) ⊎ IsFault result }
+    // A fault of a read: the count of this input rose, and those before it are in their forms. A fault of a write.
+    ensures read_fault { result ≡ Status.ReadFault → (request : Request) → AsksFor words.now request → OneUnread (inputs_of request) (state_of S.Shelf shelf.old) (state_of S.Shelf shelf.new) }
+    ensures write_fault { result ≡ Status.WriteFault → (request : Request) → AsksFor words.now request → OneRose (outputs_of request) (S.write_faults shelf.old) (S.write_faults shelf.new) }
+    ensures never { (request : Request) → AsksFor words.now request → CanEnd request result }
 
-    // What is lost: nothing where no output was begun, and else no more than the outputs that would have been left.
+    // What is lost: nothing where no output was begun. Where a write fails, those before it were done, and none behind it was begun.
     ensures early { IsEarly result → SameHeld (S.held shelf.old) (S.held shelf.new) }
-    ensures broken { IsTrue (S.tells shelf.old) → (asked : Asked) → AsksFor words.now asked → Loses result asked (S.held shelf.old) (S.held shelf.new) }
-    ensures others { (asked : Asked) → AsksFor words.now asked → KeepsOthers (outputs_of asked) (S.held shelf.old) (S.held shelf.new) }
-    ensures tells { S.tells shelf.new ≡ S.tells shelf.old }
-    ensures reads { NoneFell (S.read_faults shelf.old) (S.read_faults shelf.new) }
-    ensures writes { NoneFell (S.write_faults shelf.old) (S.write_faults shelf.new) }
+    ensures broken { IsTrue (S.tells shelf.old) → (request : Request) → AsksFor words.now request → Loses result request (state_of S.Shelf shelf.old) (state_of S.Shelf shelf.new) }
+    ensures others { (request : Request) → AsksFor words.now request → Changes (outputs_of request) (state_of S.Shelf shelf.old) (state_of S.Shelf shelf.new) }
+    ensures later { IsLater (state_of S.Shelf shelf.old) (state_of S.Shelf shelf.new) }
 
     // The line says why, once, whatever becomes of it: where the inputs are why, it says how. None where all was done.
-    ensures why { result ≢ Status.Done → (s : Stop) × SaysWhy s result (O.tells out.old) (O.taken out.old) (O.taken out.new) × (ByInputs result → IsTrue (S.tells shelf.old) → (asked : Asked) → AsksFor words.now asked → IsCause asked (S.held shelf.old) s) }
+    ensures why { result ≢ Status.Done → (e : CommandError) × SaysWhy e result (sink_of O.Sink out.old) (sink_of O.Sink out.new) × (ByInputs result → IsTrue (S.tells shelf.old) → (request : Request) → AsksFor words.now request → IsCause request (S.held shelf.old) e) }
     ensures silent { result ≡ Status.Done → out.new ≡ out.old }
-    ensures puts { O.faults out.old ≤ O.faults out.new }
-    ensures sink { O.tells out.new ≡ O.tells out.old }
+    ensures sink { IsLaterSink (sink_of O.Sink out.old) (sink_of O.Sink out.new) }
 {
     match run_words(alloc, words, shelf) {
         Ok(()) => Status::Done,
-        Err(stop) => report(alloc, &stop, out),
+        Err(error) => report(alloc, &error, out),
     }
 }

@@ -1,17 +1,16 @@
 // The command `compile`.
 
-ghost use Rattle.std.specs.Prelude.{◌≡◌, ◌≢◌, IsErrOf};
-ghost use Rattle.shelf_core.specs.Shelf.{NoneFell};
-ghost use Rattle.command_words.specs.Asked.{AskCompile, selected_of};
-ghost use Rattle.ehdl_top.specs.Files.{KeepsOthers, OneRose};
-ghost use Rattle.ehdl_top.specs.Outcome.{inputs_of, outputs_of};
+ghost use Rattle.xdp_object.specs.Choice.{chosen_of};
+ghost use Rattle.command_line.specs.Request.{AskCompile};
+ghost use Rattle.ehdl_top.specs.States.{state_of};
 ghost use Rattle.ehdl_top.specs.Steps.{EndsIn};
 
-use crate::object::built;
-use crate::output::write_parts;
-use crate::stop::Stop;
-use command_words::Choice;
-use shelf_core::{Failed, Shelf};
+use crate::error::CommandError;
+use crate::form::read_input;
+use crate::object::ProgramForm;
+use crate::write::{push_file, write_all};
+use command_line::Choice;
+use shelf_core::Shelf;
 use std::alloc::Global;
 
 /// Compiles an object to a Verilog text.
@@ -21,21 +20,12 @@ pub(crate) fn compile_file<S: Shelf>(
     object: &str,
     verilog: &str,
     choice: Choice,
-) -> Result<(), Stop>
-    ensures ends { EndsIn (AskCompile object.now verilog.now (selected_of choice.entry)) (S.tells shelf.old) (S.held shelf.old) (S.held shelf.new) result }
-    ensures read_fault { IsErrOf result Stop.ReadFault → OneRose (inputs_of (AskCompile object.now verilog.now (selected_of choice.entry))) (S.read_faults shelf.old) (S.read_faults shelf.new) }
-    ensures write_fault { IsErrOf result Stop.WriteFault → OneRose (outputs_of (AskCompile object.now verilog.now (selected_of choice.entry))) (S.write_faults shelf.old) (S.write_faults shelf.new) }
-    ensures others { KeepsOthers (outputs_of (AskCompile object.now verilog.now (selected_of choice.entry))) (S.held shelf.old) (S.held shelf.new) }
-    ensures tells { S.tells shelf.new ≡ S.tells shelf.old }
-    ensures reads { NoneFell (S.read_faults shelf.old) (S.read_faults shelf.new) }
-    ensures writes { NoneFell (S.write_faults shelf.old) (S.write_faults shelf.new) }
+) -> Result<(), CommandError>
+    ensures { EndsIn (AskCompile object.now verilog.now (chosen_of choice.entry)) (state_of S.Shelf shelf.old) (state_of S.Shelf shelf.new) result }
 {
-    let text = match built(alloc, shelf, object, choice) {
-        Ok(text) => text,
-        Err(stop) => return Err(stop),
-    };
-    match write_parts(shelf, verilog, &[&text]) {
-        Ok(()) => Ok(()),
-        Err(Failed) => Err(Stop::WriteFault),
-    }
+    let text = read_input(alloc, shelf, object, &ProgramForm { choice })?;
+    let mut writes = Vec::new(alloc);
+    push_file(&mut writes, verilog, text)?;
+    write_all(shelf, &writes)?;
+    Ok(())
 }

@@ -2,15 +2,17 @@
 
 ghost use Rattle.std.specs.Prelude.{◌≡◌, ◌≤◌, ◌<◌, ◌^◌, List, length, drop, IfOk};
 ghost use Rattle.std.specs.List.{AllByRecursion};
-ghost use Rattle.bpf_isa.specs.declared.instruction.Insn.{Insn};
+ghost use Rattle.xdp_maps.specs.State.{MapState, opened_state};
+ghost use Rattle.xdp_object.specs.Program.{XdpProgram};
 ghost use Rattle.beat_core.specs.Laws.{IsFrame};
-ghost use Rattle.net_core.specs.View.{plan_of};
-ghost use Rattle.spelling_core.specs.Formed.{IsWellFormed};
-ghost use Rattle.ehdl_build.specs.Realizes.{came_by, clock_bound, most_beats};
-ghost use Rattle.ehdl_build.specs.Compiled.{AreRuns, Realizes};
-ghost use Rattle.ehdl_top.specs.Steps.{IsDriven};
+ghost use Rattle.net_core.specs.View.{netlist_of};
+ghost use Rattle.verilog_grammar.specs.Formed.{IsWellFormed};
+ghost use Rattle.ehdl_build.specs.Bounds.{clock_bound, most_beats};
+ghost use Rattle.ehdl_build.specs.Realizes.{came_by};
+ghost use Rattle.ehdl_build.specs.Compiled.{PipelineSize, IsSequential};
+ghost use Rattle.ehdl_top.specs.Steps.{IsDriven, IsRealized};
 
-use crate::stop::{NetName, Stop};
+use crate::error::{CommandError, NetName};
 use crate::verilog::read_verilog;
 use beat_core::{Frame, Meta};
 use clock_sim::Sim;
@@ -22,7 +24,7 @@ use std::alloc::{AllocError, Global};
 #[derive(Drop)]
 pub(crate) struct Driven {
     pub(crate) answers: Answers,
-    pub(crate) stop: Option<Stop>,
+    pub(crate) end: Option<CommandError>,
 }
 
 /// Drives a design by frames that are offered, and taken, at every clock, in at most so many clocks.
@@ -33,22 +35,19 @@ pub(crate) fn drive_design(
     ifindex: u32,
     clocks: u64,
 ) -> Result<Driven, AllocError>
-    requires { IsWellFormed (plan_of design) }
-    ensures { IfOk result (IsDriven (plan_of design) ifindex frames.now clocks) }
+    requires { IsWellFormed (netlist_of design) }
+    ensures { IfOk result (IsDriven (netlist_of design) ifindex frames.now clocks) }
 {
     let mut sim = Sim::open(alloc, design)?;
     let mut answers = Answers::new(alloc);
     let meta = Meta { ifindex };
     match drive(alloc, &mut sim, frames, meta, clocks, &mut answers) {
-        Ok(_drive) => Ok(Driven {
-            answers,
-            stop: None,
-        }),
+        Ok(_drive) => Ok(Driven { answers, end: None }),
         Err(DriveError::X(x)) => {
             let name = NetName::new(alloc, sim.name(x.net))?;
             Ok(Driven {
                 answers,
-                stop: Some(Stop::XValue(name)),
+                end: Some(CommandError::XValue(name)),
             })
         }
         Err(
@@ -59,7 +58,7 @@ pub(crate) fn drive_design(
             },
         ) => Ok(Driven {
             answers,
-            stop: Some(Stop::Late {
+            end: Some(CommandError::Late {
                 answers: given,
                 frames: owed,
             }),
@@ -87,20 +86,20 @@ pub(crate) fn answers_of(
     frames: &[Frame],
     ifindex: u32,
 ) -> Result<Answers, AllocError>
-    requires realizes { (insns : List Insn) × Realizes text.now insns 0 0 }
+    requires realized { (program : XdpProgram) × (size : PipelineSize) × IsRealized text.now program size }
     requires many { length frames.now < 2 ^ 32 }
     requires frames { AllByRecursion IsFrame frames.now }
-    ensures { (insns : List Insn) → Realizes text.now insns 0 0 → IfOk result (AreRuns insns (came_by ifindex frames.now)) }
+    ensures { (program : XdpProgram) (size : PipelineSize) → IsRealized text.now program size → IfOk result (λ answers. (last : MapState) × IsSequential program (opened_state program.decls) (came_by ifindex frames.now) answers last) }
 {
     let design = match read_verilog(alloc, text) {
         Ok(design) => design,
-        Err(Stop::NoMemory) => return Err(AllocError),
+        Err(CommandError::NoMemory) => return Err(AllocError),
         // The text spells a design.
         Err(_) => unreachable!(),
     };
     let driven = drive_design(alloc, design, frames, ifindex, clock_limit(frames))?;
-    let Driven { answers, stop } = driven;
-    match stop {
+    let Driven { answers, end } = driven;
+    match end {
         None => Ok(answers),
         // The design answers in time.
         Some(_) => unreachable!(),

@@ -1,112 +1,101 @@
-// The object of a command: compiled, or read alone.
+// Objects, compiled or read alone.
 
-ghost use Rattle.std.specs.Prelude.{◌≡◌, ◌≢◌, ◌⊎◌, ℕ, List, Option, None, OnOk, IfOk, IfErr, IsErrOf, IsTrue};
-ghost use Rattle.std.specs.Option.{option_copied};
-ghost use Rattle.shelf_core.specs.Shelf.{Rose, NoneFell, SameHeld};
+ghost use Rattle.std.specs.Prelude.{◌≡◌, ◌≢◌, ◌⊎◌, ℕ, List, Option, OnOk, IfOk, IfErr};
 ghost use Rattle.xdp_object.specs.Object.{IsObject};
-ghost use Rattle.xdp_object.specs.Program.{Listing};
-ghost use Rattle.command_words.specs.Asked.{selected_of};
-ghost use Rattle.ehdl_top.specs.Inputs.{HoldsObject};
-ghost use Rattle.ehdl_top.specs.Steps.{IsBuilt, IsTextFor, CompileStops, ProgramUnread, ReadStops, ObjectUnread};
+ghost use Rattle.xdp_object.specs.Program.{XdpProgram};
+ghost use Rattle.xdp_object.specs.Choice.{chosen_of};
+ghost use Rattle.ehdl_top.specs.Forms.{object_form, program_form};
+ghost use Rattle.ehdl_top.specs.Steps.{IsTextFor, IsGivenUp};
 
-use crate::fetch::object_bytes;
-use crate::stop::Stop;
-use command_words::Choice;
+use crate::error::CommandError;
+use crate::form::Form;
+use crate::limits::OBJECT_LIMIT;
 use ehdl_build::{CompileError, compile};
-use shelf_core::Shelf;
 use std::alloc::Global;
-use xdp_object::{ObjectError, read_object};
+use xdp_object::{Choice, ObjectError, read_object};
 
-// The name of the function that is asked for. The hash capacity serves no object without maps.
-fn program_of<'a>(choice: Choice<'a>) -> Option<&'a [u8]>
-    ensures { option_copied result ≡ (selected_of choice.entry).program }
-{
-    match choice.program {
-        Some(name) => Some(name.as_bytes()),
-        None => None,
+/// An object of a program that is compiled. Its Verilog text is what is read.
+#[derive(Clone, Copy)]
+pub(crate) struct ProgramForm<'a> {
+    pub(crate) choice: Choice<'a>,
+}
+
+impl Form for ProgramForm<'_> {
+    type Value = Vec<u8>;
+
+    ghost form = { λ f. program_form (chosen_of f.choice) };
+
+    ghost Gives = { λ f bytes text. IsTextFor (chosen_of f.choice) bytes text.items };
+
+    fn limit(&self) -> u64 {
+        OBJECT_LIMIT
+    }
+
+    fn too_long(&self) -> CommandError {
+        CommandError::Object(ObjectError::Long)
+    }
+
+    fn read(&self, alloc: Global, bytes: &[u8]) -> Result<Vec<u8>, CommandError> {
+        text_of(alloc, bytes, self.choice)
     }
 }
 
-/// The Verilog text of the object that a name holds.
-pub(crate) fn built<S: Shelf>(
-    alloc: Global,
-    shelf: &mut S,
-    name: &str,
-    choice: Choice,
-) -> Result<Vec<u8>, Stop>
-    ensures ok { IfOk result (λ text. IsBuilt (selected_of choice.entry).program (S.tells shelf.old) (S.held shelf.old name.now) text.items) }
-    ensures stops { IfErr result (ProgramUnread (selected_of choice.entry).program (S.tells shelf.old) (S.held shelf.old name.now)) }
-    ensures failed { IsErrOf result Stop.ReadFault → Rose (S.read_faults shelf.old name.now) (S.read_faults shelf.new name.now) }
-    ensures held { SameHeld (S.held shelf.old) (S.held shelf.new) }
-    ensures tells { S.tells shelf.new ≡ S.tells shelf.old }
-    ensures reads { NoneFell (S.read_faults shelf.old) (S.read_faults shelf.new) }
-    ensures writes { NoneFell (S.write_faults shelf.old) (S.write_faults shelf.new) }
-{
-    let object = match object_bytes(alloc, shelf, name) {
-        Ok(object) => object,
-        Err(stop) => return Err(stop),
-    };
-    match text_of(alloc, &object, program_of(choice)) {
-        Ok(text) => Ok(text),
-        Err(stop) => Err(stop),
+/// An object, which is read for its maps alone, of which there are none so far.
+#[derive(Clone, Copy)]
+pub(crate) struct ObjectForm<'a> {
+    pub(crate) choice: Choice<'a>,
+}
+
+impl Form for ObjectForm<'_> {
+    type Value = ();
+
+    ghost form = { λ f. object_form (chosen_of f.choice) };
+
+    ghost Gives = { λ _ _ _. Unit {0} };
+
+    fn limit(&self) -> u64 {
+        OBJECT_LIMIT
+    }
+
+    fn too_long(&self) -> CommandError {
+        CommandError::Object(ObjectError::Long)
+    }
+
+    fn read(&self, alloc: Global, bytes: &[u8]) -> Result<(), CommandError> {
+        read_alone(alloc, bytes, self.choice)
     }
 }
 
 // The Verilog text of an object.
-fn text_of(alloc: Global, object: &[u8], choice: Option<&[u8]>) -> Result<Vec<u8>, Stop>
-    ensures ok { IfOk result (λ text. IsTextFor (option_copied choice.entry) object.now text.items) }
-    ensures stops { IfErr result (CompileStops (option_copied choice.entry) object.now) }
+fn text_of(alloc: Global, object: &[u8], choice: Choice) -> Result<Vec<u8>, CommandError>
+    ensures text { IfOk result (λ text. IsTextFor (chosen_of choice.entry) object.now text.items) }
+    ensures given_up { IfErr result (IsGivenUp (program_form (chosen_of choice.entry)) object.now) }
 {
     match compile(alloc, object, choice) {
         Ok(built) => Ok(built.text),
-        Err(CompileError::Object(fault)) => Err(Stop::Object(fault)),
-        Err(CompileError::Refused { at, why }) => Err(Stop::Refused { at, why }),
-        Err(CompileError::NoMemory) => Err(Stop::NoMemory),
-    }
-}
-
-/// Reads the object that a name holds, for its maps alone, of which there are none so far.
-pub(crate) fn check_object<S: Shelf>(
-    alloc: Global,
-    shelf: &mut S,
-    name: &str,
-    choice: Choice,
-) -> Result<(), Stop>
-    ensures ok { OnOk result (IsTrue (S.tells shelf.old) → (program : Listing) × HoldsObject (selected_of choice.entry).program (S.held shelf.old name.now) program) }
-    ensures stops { IfErr result (ObjectUnread (selected_of choice.entry).program (S.tells shelf.old) (S.held shelf.old name.now)) }
-    ensures failed { IsErrOf result Stop.ReadFault → Rose (S.read_faults shelf.old name.now) (S.read_faults shelf.new name.now) }
-    ensures held { SameHeld (S.held shelf.old) (S.held shelf.new) }
-    ensures tells { S.tells shelf.new ≡ S.tells shelf.old }
-    ensures reads { NoneFell (S.read_faults shelf.old) (S.read_faults shelf.new) }
-    ensures writes { NoneFell (S.write_faults shelf.old) (S.write_faults shelf.new) }
-{
-    let object = match object_bytes(alloc, shelf, name) {
-        Ok(object) => object,
-        Err(stop) => return Err(stop),
-    };
-    match read_alone(alloc, &object, program_of(choice)) {
-        Ok(()) => Ok(()),
-        Err(stop) => Err(stop),
+        Err(CompileError::Object(fault)) => Err(CommandError::Object(fault)),
+        Err(CompileError::Refused { at, why }) => Err(CommandError::Refused { at, why }),
+        Err(CompileError::NoMemory) => Err(CommandError::NoMemory),
     }
 }
 
 // Whether these bytes are an object.
-fn read_alone(alloc: Global, object: &[u8], choice: Option<&[u8]>) -> Result<(), Stop>
-    ensures ok { OnOk result ((program : Listing) × IsObject (option_copied choice.entry) object.now program) }
-    ensures stops { IfErr result (ReadStops (option_copied choice.entry) object.now) }
+fn read_alone(alloc: Global, object: &[u8], choice: Choice) -> Result<(), CommandError>
+    ensures object { OnOk result ((program : XdpProgram) × IsObject (chosen_of choice.entry) object.now program) }
+    ensures given_up { IfErr result (IsGivenUp (object_form (chosen_of choice.entry)) object.now) }
 {
     match read_object(alloc, object, choice) {
         Ok(_program) => Ok(()),
-        Err(error) => Err(stop_of(error)),
+        Err(error) => Err(error_of(error)),
     }
 }
 
 // The same error, with want of memory apart.
-fn stop_of(error: ObjectError) -> Stop
-    ensures { ((error ≡ ObjectError.NoMemory) × (result ≡ Stop.NoMemory)) ⊎ ((error ≢ ObjectError.NoMemory) × (result ≡ Stop.Object error)) }
+fn error_of(error: ObjectError) -> CommandError
+    ensures { ((error ≡ ObjectError.NoMemory) × (result ≡ CommandError.NoMemory)) ⊎ ((error ≢ ObjectError.NoMemory) × (result ≡ CommandError.Object error)) }
 {
     match error {
-        ObjectError::NoMemory => Stop::NoMemory,
-        fault => Stop::Object(fault),
+        ObjectError::NoMemory => CommandError::NoMemory,
+        fault => CommandError::Object(fault),
     }
 }

@@ -1,69 +1,111 @@
 // The packets of a capture.
 
-ghost use Rattle.std.specs.Prelude.{List, length, map, IfOk, IfErr, ◌≡◌, ◌<◌, ◌^◌};
-ghost use Rattle.std.specs.List.{AllByRecursion};
-ghost use Rattle.beat_core.specs.Laws.{IsFrame};
+ghost use Rattle.std.specs.Prelude.{◌≡◌, ◌<◌, ◌-◌, ◌^◌, ◌++◌, ◌∷◌, List, [], length, OnOk, IfOk, IfErr};
+ghost use Rattle.pcap_core.specs.Format.{Packet, IsLength};
 ghost use Rattle.pcap_core.specs.Next.{seen};
-ghost use Rattle.ehdl_top.specs.Inputs.{IsCaptured};
-ghost use Rattle.ehdl_top.specs.Results.{frames_of};
-ghost use Rattle.ehdl_top.specs.Steps.{HasFrame, PacketStops};
+ghost use Rattle.ehdl_top.specs.Forms.{capture_form};
+ghost use Rattle.ehdl_top.specs.Steps.{IsCaptureOf, HasCaptured, IsGivenUp};
 
-use crate::stop::Stop;
+use crate::error::CommandError;
+use crate::form::Form;
+use crate::limits::CAPTURE_LIMIT;
 use beat_core::Frame;
 use pcap_core::{Capture, Rec};
 use std::alloc::{AllocError, Global};
 
-/// A capture that was read whole.
-#[derive(Drop)]
-pub(crate) struct Captured<'a> {
-    /// The magic number, which says what fractions of a second are.
-    pub(crate) magic: u32,
-    pub(crate) packets: Vec<Rec<'a>>,
+/// When a packet came.
+#[derive(Clone, Copy, Debug)]
+pub(crate) struct Stamp {
+    pub(crate) seconds: u32,
+    /// Microseconds or nanoseconds, as the capture's magic number says.
+    pub(crate) fraction: u32,
 }
 
-/// The packets of a capture, in order.
-pub(crate) fn read_capture<'a>(alloc: Global, bytes: &'a [u8]) -> Result<Captured<'a>, Stop>
-    ensures ok { IfOk result (λ c. IsCaptured bytes.now c.magic (map seen c.packets.items)) }
-    ensures frames { IfOk result (λ c. AllByRecursion HasFrame c.packets.items) }
-    ensures many { IfOk result (λ c. length c.packets.items < 2 ^ 32) }
-    ensures stops { IfErr result (PacketStops bytes.now) }
+/// A capture that was read whole.
+#[derive(Drop)]
+pub(crate) struct Captured {
+    /// The magic number, which says what fractions of a second are.
+    pub(crate) magic: u32,
+    /// When the packets came, in their order, and their frames.
+    pub(crate) stamps: Vec<Stamp>,
+    pub(crate) frames: Vec<Frame>,
+}
+
+/// A capture, which is read whole.
+#[derive(Clone, Copy)]
+pub(crate) struct CaptureForm;
+
+impl Form for CaptureForm {
+    type Value = Captured;
+
+    ghost form = { λ _. capture_form };
+
+    ghost Gives = { λ _ bytes captured. HasCaptured bytes captured };
+
+    fn limit(&self) -> u64 {
+        CAPTURE_LIMIT
+    }
+
+    fn too_long(&self) -> CommandError {
+        CommandError::LongCapture
+    }
+
+    fn read(&self, alloc: Global, bytes: &[u8]) -> Result<Captured, CommandError> {
+        read_capture(alloc, bytes)
+    }
+}
+
+impl Captured {
+    fn new(alloc: Global, magic: u32) -> Captured
+        ensures magic { result.magic ≡ magic }
+        ensures empty { IsCaptureOf result [] }
+    {
+        Captured {
+            magic,
+            stamps: Vec::new(alloc),
+            frames: Vec::new(alloc),
+        }
+    }
+
+    // One packet more.
+    fn push(&mut self, alloc: Global, packet: Rec) -> Result<(), AllocError>
+        requires frame { IsLength (length packet.bytes.now) }
+        requires room { length self.old.frames.items < 2 ^ 32 - 1 }
+        ensures { OnOk result ((packets : List Packet) → IsCaptureOf self.old packets → (self.new.magic ≡ self.old.magic) × IsCaptureOf self.new (packets ++ seen packet.entry ∷ [])) }
+    {
+        let frame = Frame::of(alloc, packet.bytes)?;
+        // A frame has bytes.
+        prove!(!frame.bytes().is_empty());
+        self.stamps.push(Stamp {
+            seconds: packet.seconds,
+            fraction: packet.fraction,
+        })?;
+        self.frames.push(frame)?;
+        Ok(())
+    }
+}
+
+// The packets of a capture, in order.
+fn read_capture(alloc: Global, bytes: &[u8]) -> Result<Captured, CommandError>
+    ensures captured { IfOk result (HasCaptured bytes.now) }
+    ensures given_up { IfErr result (IsGivenUp capture_form bytes.now) }
 {
     let mut capture = match Capture::open(bytes) {
         Ok(capture) => capture,
-        Err(fault) => return Err(Stop::Capture(fault)),
+        Err(fault) => return Err(CommandError::Capture(fault)),
     };
-    let magic = capture.magic();
-    let mut packets = Vec::new(alloc);
+    let mut captured = Captured::new(alloc, capture.magic());
     loop {
         match capture.next() {
             Ok(Some(packet)) => {
                 // The bytes of a capture have room for fewer packets.
-                if packets.len() >= u32::MAX as usize {
-                    return Err(Stop::NoMemory);
+                if captured.frames.len() >= u32::MAX as usize {
+                    return Err(CommandError::NoMemory);
                 }
-                if packets.push(packet).is_err() {
-                    return Err(Stop::NoMemory);
-                }
+                captured.push(alloc, packet)?;
             }
-            Ok(None) => return Ok(Captured { magic, packets }),
-            Err(fault) => return Err(Stop::Capture(fault)),
+            Ok(None) => return Ok(captured),
+            Err(fault) => return Err(CommandError::Capture(fault)),
         }
     }
-}
-
-/// The frames of these packets.
-pub(crate) fn frames_to_offer(alloc: Global, packets: &[Rec]) -> Result<Vec<Frame>, AllocError>
-    requires { AllByRecursion HasFrame packets.now }
-    ensures frames { IfOk result (λ v. v.items ≡ frames_of (map seen packets.now)) }
-    ensures many { IfOk result (λ v. length v.items ≡ length packets.now) }
-    ensures are { IfOk result (λ v. AllByRecursion IsFrame v.items) }
-{
-    let mut all = Vec::with_capacity(alloc, packets.len())?;
-    for packet in packets {
-        let frame = Frame::of(alloc, packet.bytes)?;
-        // A frame has bytes.
-        prove!(!frame.bytes().is_empty());
-        all.push(frame)?;
-    }
-    Ok(all)
 }

@@ -1,53 +1,42 @@
 // The command `run`.
 
-ghost use Rattle.std.specs.Prelude.{◌≡◌, ◌++◌, ◌∷◌, [], ◌≤◌, length, map, true, OnOk, OnErr, IsErrOf, IsTrue};
-ghost use Rattle.shelf_core.specs.Shelf.{NoneFell};
-ghost use Rattle.pcap_core.specs.Next.{seen};
-ghost use Rattle.command_words.specs.Asked.{AskRun, names_of, selected_of};
-ghost use Rattle.ehdl_top.specs.Files.{HoldWhole, HoldFronts, KeepsOthers, OneRose, file};
-ghost use Rattle.ehdl_top.specs.Outcome.{inputs_of, outputs_of};
-ghost use Rattle.ehdl_top.specs.Results.{result_files, final_files};
-ghost use Rattle.ehdl_top.specs.Steps.{AreApart, EndsIn};
+ghost use Rattle.std.specs.Prelude.{◌≡◌, List, map, IfOk};
+ghost use Rattle.pcap_core.specs.Format.{Packet};
+ghost use Rattle.xdp_object.specs.Program.{XdpProgram};
+ghost use Rattle.ehdl_build.specs.Compiled.{PipelineSize};
+ghost use Rattle.xdp_object.specs.Choice.{chosen_of};
+ghost use Rattle.command_line.specs.Request.{AskRun, names_of};
+ghost use Rattle.ehdl_top.specs.States.{state_of};
+ghost use Rattle.ehdl_top.specs.Steps.{AreApart, EndsIn, IsCaptureOf, IsRealized, IsRunOf};
 
 use crate::drive::answers_of;
-use crate::fetch::capture_bytes;
-use crate::object::built;
-use crate::output::write_parts;
-use crate::packets::{Captured, frames_to_offer, read_capture};
-use crate::results::{Unwritten, write_results};
-use crate::stop::Stop;
-use command_words::{Choice, Files};
-use port_drive::Answers;
-use shelf_core::{Failed, Shelf};
-use std::alloc::Global;
+use crate::error::CommandError;
+use crate::form::read_input;
+use crate::object::ProgramForm;
+use crate::packets::{CaptureForm, Captured};
+use crate::results::push_results;
+use crate::write::{Write, push_file, write_all};
+use command_line::{Choice, Files};
+use shelf_core::Shelf;
+use std::alloc::{AllocError, Global};
 
-// Writes the Verilog text, answers, verdicts and the final maps.
-fn write_run<S: Shelf>(
+// Simulates a text that realizes a program over a capture. What is to be written is the text, and what its ports gave.
+fn run_writes<'a>(
     alloc: Global,
-    shelf: &mut S,
-    files: &Files,
-    text: &[u8],
+    files: &Files<'a>,
+    text: Vec<u8>,
     capture: &Captured,
-    answers: &Answers,
-) -> Result<(), Unwritten>
-    requires apart { AreApart (names_of files.now) }
-    requires many { length answers.now ≤ length capture.now.packets.items }
-    ensures done { OnOk result (IsTrue (S.tells shelf.old) → HoldWhole (file files.now.verilog.now text.now ∷ (result_files (names_of files.now) capture.now.magic (map seen capture.now.packets.items) answers.now ++ final_files (names_of files.now) true)) (S.held shelf.new)) }
-    ensures kept { OnErr result (IsTrue (S.tells shelf.old) → HoldFronts (file files.now.verilog.now text.now ∷ (result_files (names_of files.now) capture.now.magic (map seen capture.now.packets.items) answers.now ++ final_files (names_of files.now) true)) (S.held shelf.old) (S.held shelf.new)) }
-    ensures failed { IsErrOf result Unwritten.Failed → OneRose (files.now.verilog.now ∷ files.now.answer.now ∷ files.now.verdicts.now ∷ files.now.final_maps.now ∷ []) (S.write_faults shelf.old) (S.write_faults shelf.new) }
-    ensures others { KeepsOthers (files.now.verilog.now ∷ files.now.answer.now ∷ files.now.verdicts.now ∷ files.now.final_maps.now ∷ []) (S.held shelf.old) (S.held shelf.new) }
-    ensures tells { S.tells shelf.new ≡ S.tells shelf.old }
-    ensures reads { NoneFell (S.read_faults shelf.old) (S.read_faults shelf.new) }
-    ensures writes { NoneFell (S.write_faults shelf.old) (S.write_faults shelf.new) }
+    ifindex: u32,
+) -> Result<Vec<Write<'a>>, AllocError>
+    requires realized { (program : XdpProgram) × (size : PipelineSize) × IsRealized text.items program size }
+    requires captured { (packets : List Packet) × IsCaptureOf capture.now packets }
+    ensures { IfOk result (λ writes. (program : XdpProgram) (size : PipelineSize) → IsRealized text.items program size → (packets : List Packet) → IsCaptureOf capture.now packets → IsRunOf (names_of files.now) text.items program ifindex capture.now.magic packets writes.items) }
 {
-    match write_parts(shelf, files.verilog, &[text]) {
-        Ok(()) => {}
-        Err(Failed) => return Err(Unwritten::Failed),
-    }
-    match write_results(alloc, shelf, files, capture, answers, true) {
-        Ok(()) => Ok(()),
-        Err(unwritten) => Err(unwritten),
-    }
+    let answers = answers_of(alloc, &text, &capture.frames, ifindex)?;
+    let mut writes = Vec::new(alloc);
+    push_file(&mut writes, files.verilog, text)?;
+    push_results(alloc, &mut writes, files, capture, &answers, true)?;
+    Ok(writes)
 }
 
 /// Compiles an object to a Verilog text, simulates this text over a capture, and writes what its ports gave.
@@ -57,37 +46,13 @@ pub(crate) fn run_files<S: Shelf>(
     files: &Files,
     choice: Choice,
     ifindex: u32,
-) -> Result<(), Stop>
+) -> Result<(), CommandError>
     requires { AreApart (names_of files.now) }
-    ensures ends { EndsIn (AskRun (names_of files.now) (selected_of choice.entry) ifindex) (S.tells shelf.old) (S.held shelf.old) (S.held shelf.new) result }
-    ensures read_fault { IsErrOf result Stop.ReadFault → OneRose (inputs_of (AskRun (names_of files.now) (selected_of choice.entry) ifindex)) (S.read_faults shelf.old) (S.read_faults shelf.new) }
-    ensures write_fault { IsErrOf result Stop.WriteFault → OneRose (outputs_of (AskRun (names_of files.now) (selected_of choice.entry) ifindex)) (S.write_faults shelf.old) (S.write_faults shelf.new) }
-    ensures others { KeepsOthers (outputs_of (AskRun (names_of files.now) (selected_of choice.entry) ifindex)) (S.held shelf.old) (S.held shelf.new) }
-    ensures tells { S.tells shelf.new ≡ S.tells shelf.old }
-    ensures reads { NoneFell (S.read_faults shelf.old) (S.read_faults shelf.new) }
-    ensures writes { NoneFell (S.write_faults shelf.old) (S.write_faults shelf.new) }
+    ensures { EndsIn (AskRun (names_of files.now) (chosen_of choice.entry) ifindex) (state_of S.Shelf shelf.old) (state_of S.Shelf shelf.new) result }
 {
-    let text = match built(alloc, shelf, files.object, choice) {
-        Ok(text) => text,
-        Err(stop) => return Err(stop),
-    };
-    let bytes = match capture_bytes(alloc, shelf, files.capture) {
-        Ok(bytes) => bytes,
-        Err(stop) => return Err(stop),
-    };
-    let capture = match read_capture(alloc, &bytes) {
-        Ok(capture) => capture,
-        Err(stop) => return Err(stop),
-    };
-    let Ok(frames) = frames_to_offer(alloc, &capture.packets) else {
-        return Err(Stop::NoMemory);
-    };
-    let Ok(answers) = answers_of(alloc, &text, &frames, ifindex) else {
-        return Err(Stop::NoMemory);
-    };
-    match write_run(alloc, shelf, files, &text, &capture, &answers) {
-        Ok(()) => Ok(()),
-        Err(Unwritten::Failed) => Err(Stop::WriteFault),
-        Err(Unwritten::NoMemory) => Err(Stop::NoMemory),
-    }
+    let text = read_input(alloc, shelf, files.object, &ProgramForm { choice })?;
+    let capture = read_input(alloc, shelf, files.capture, &CaptureForm)?;
+    let writes = run_writes(alloc, files, text, &capture, ifindex)?;
+    write_all(shelf, &writes)?;
+    Ok(())
 }

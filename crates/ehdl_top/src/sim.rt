@@ -1,22 +1,58 @@
 // The command `sim`.
 
-ghost use Rattle.std.specs.Prelude.{◌≡◌, IsErrOf};
-ghost use Rattle.shelf_core.specs.Shelf.{NoneFell};
-ghost use Rattle.command_words.specs.Asked.{AskSim, names_of, selected_of};
-ghost use Rattle.ehdl_top.specs.Files.{KeepsOthers, OneRose};
-ghost use Rattle.ehdl_top.specs.Outcome.{inputs_of, outputs_of};
-ghost use Rattle.ehdl_top.specs.Steps.{AreApart, EndsIn};
+ghost use Rattle.std.specs.Prelude.{List, IfOk};
+ghost use Rattle.pcap_core.specs.Format.{Packet};
+ghost use Rattle.net_core.specs.View.{netlist_of};
+ghost use Rattle.verilog_grammar.specs.Formed.{IsWellFormed};
+ghost use Rattle.xdp_object.specs.Choice.{chosen_of};
+ghost use Rattle.command_line.specs.Request.{AskSim, names_of};
+ghost use Rattle.ehdl_top.specs.States.{state_of};
+ghost use Rattle.ehdl_top.specs.Steps.{AreApart, EndsIn, IsCaptureOf, IsSimOf};
 
 use crate::drive::{Driven, drive_design};
-use crate::fetch::{capture_bytes, verilog_bytes};
-use crate::object::check_object;
-use crate::packets::{frames_to_offer, read_capture};
-use crate::results::{Unwritten, write_results};
-use crate::stop::Stop;
-use crate::verilog::read_verilog;
-use command_words::{Choice, Files};
+use crate::error::CommandError;
+use crate::form::read_input;
+use crate::object::ObjectForm;
+use crate::packets::{CaptureForm, Captured};
+use crate::results::push_results;
+use crate::verilog::TextForm;
+use crate::write::{Write, write_all};
+use command_line::{Choice, Files};
+use net_core::design::Design;
 use shelf_core::Shelf;
-use std::alloc::Global;
+use std::alloc::{AllocError, Global};
+
+/// What is to be written of a simulation, and why it was given up, if it was.
+#[derive(Drop)]
+pub(crate) struct Simulated<'a> {
+    pub(crate) writes: Vec<Write<'a>>,
+    pub(crate) end: Option<CommandError>,
+}
+
+// Simulates a design over a capture in at most so many clocks.
+fn simulate<'a>(
+    alloc: Global,
+    files: &Files<'a>,
+    design: Design,
+    capture: &Captured,
+    ifindex: u32,
+    clocks: u32,
+) -> Result<Simulated<'a>, AllocError>
+    requires formed { IsWellFormed (netlist_of design) }
+    requires captured { (packets : List Packet) × IsCaptureOf capture.now packets }
+    ensures { IfOk result (λ simulated. (packets : List Packet) → IsCaptureOf capture.now packets → IsSimOf (names_of files.now) (netlist_of design) ifindex clocks capture.now.magic packets simulated) }
+{
+    let Driven { answers, end } = drive_design(
+        alloc,
+        design,
+        &capture.frames,
+        ifindex,
+        u64::from(clocks),
+    )?;
+    let mut writes = Vec::new(alloc);
+    push_results(alloc, &mut writes, files, capture, &answers, end.is_none())?;
+    Ok(Simulated { writes, end })
+}
 
 /// Simulates a Verilog text over a capture in at most so many clocks, and writes what its ports gave. Of the object only the
 /// maps count.
@@ -27,50 +63,18 @@ pub(crate) fn sim_files<S: Shelf>(
     choice: Choice,
     ifindex: u32,
     clocks: u32,
-) -> Result<(), Stop>
+) -> Result<(), CommandError>
     requires { AreApart (names_of files.now) }
-    ensures ends { EndsIn (AskSim (names_of files.now) (selected_of choice.entry) ifindex clocks) (S.tells shelf.old) (S.held shelf.old) (S.held shelf.new) result }
-    ensures read_fault { IsErrOf result Stop.ReadFault → OneRose (inputs_of (AskSim (names_of files.now) (selected_of choice.entry) ifindex clocks)) (S.read_faults shelf.old) (S.read_faults shelf.new) }
-    ensures write_fault { IsErrOf result Stop.WriteFault → OneRose (outputs_of (AskSim (names_of files.now) (selected_of choice.entry) ifindex clocks)) (S.write_faults shelf.old) (S.write_faults shelf.new) }
-    ensures others { KeepsOthers (outputs_of (AskSim (names_of files.now) (selected_of choice.entry) ifindex clocks)) (S.held shelf.old) (S.held shelf.new) }
-    ensures tells { S.tells shelf.new ≡ S.tells shelf.old }
-    ensures reads { NoneFell (S.read_faults shelf.old) (S.read_faults shelf.new) }
-    ensures writes { NoneFell (S.write_faults shelf.old) (S.write_faults shelf.new) }
+    ensures { EndsIn (AskSim (names_of files.now) (chosen_of choice.entry) ifindex clocks) (state_of S.Shelf shelf.old) (state_of S.Shelf shelf.new) result }
 {
-    match check_object(alloc, shelf, files.object, choice) {
-        Ok(()) => {}
-        Err(stop) => return Err(stop),
-    }
-    let text = match verilog_bytes(alloc, shelf, files.verilog) {
-        Ok(text) => text,
-        Err(stop) => return Err(stop),
-    };
-    let design = match read_verilog(alloc, &text) {
-        Ok(design) => design,
-        Err(stop) => return Err(stop),
-    };
-    let bytes = match capture_bytes(alloc, shelf, files.capture) {
-        Ok(bytes) => bytes,
-        Err(stop) => return Err(stop),
-    };
-    let capture = match read_capture(alloc, &bytes) {
-        Ok(capture) => capture,
-        Err(stop) => return Err(stop),
-    };
-    let Ok(frames) = frames_to_offer(alloc, &capture.packets) else {
-        return Err(Stop::NoMemory);
-    };
-    let Ok(driven) = drive_design(alloc, design, &frames, ifindex, u64::from(clocks)) else {
-        return Err(Stop::NoMemory);
-    };
-    let Driven { answers, stop } = driven;
-    match write_results(alloc, shelf, files, &capture, &answers, stop.is_none()) {
-        Ok(()) => {}
-        Err(Unwritten::Failed) => return Err(Stop::WriteFault),
-        Err(Unwritten::NoMemory) => return Err(Stop::NoMemory),
-    }
-    match stop {
+    read_input(alloc, shelf, files.object, &ObjectForm { choice })?;
+    let design = read_input(alloc, shelf, files.verilog, &TextForm)?;
+    let capture = read_input(alloc, shelf, files.capture, &CaptureForm)?;
+    let simulated = simulate(alloc, files, design, &capture, ifindex, clocks)?;
+    let Simulated { writes, end } = simulated;
+    write_all(shelf, &writes)?;
+    match end {
         None => Ok(()),
-        Some(stop) => Err(stop),
+        Some(error) => Err(error),
     }
 }

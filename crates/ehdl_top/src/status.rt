@@ -14,7 +14,7 @@ pub enum Status {
     Object,
     /// The object is sound, and holds what is not compiled.
     Refused,
-    /// A capture or a map file is damaged.
+    /// A Verilog text or a capture is damaged, or too long.
     Input,
     /// A file could not be read.
     ReadFault,
@@ -22,7 +22,7 @@ pub enum Status {
     WriteFault,
     /// Memory ran out.
     NoMemory,
-    /// An output of the design was neither 0 nor 1.
+    /// A divisor of the design was zero.
     XValue,
     /// The design gave no answer in time.
     Late,

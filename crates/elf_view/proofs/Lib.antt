@@ -1,9 +1,9 @@
-pub mod Lengths
+pub mod LengthLaws
 pub mod Loops
-pub mod NoError
-pub mod NoMaps
-pub mod Opens
+pub mod NoErrorLaws
+pub mod NoMapsLaws
+pub mod OpenLaws
 pub mod ReadBack
-pub mod Searches
+pub mod SearchLaws
 pub mod Whole
-pub mod Written
+pub mod WrittenLaws

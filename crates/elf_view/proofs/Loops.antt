@@ -4,7 +4,7 @@ use Rattle.std.proofs.lemmas.List.{append_assoc, at_drop_more}
 use Rattle.elf_view.specs.Pieces.{symbol_bytes}
 use Rattle.elf_view.specs.Layout.{map_names, map_symbol, map_symbols}
 use Rattle.elf_view.specs.declared.object.MapRecord.{MapRecord}
-use Rattle.elf_view.proofs.Lengths.{length-map_names-cons, length-strings, length-strings_no_maps}
+use Rattle.elf_view.proofs.LengthLaws.{length-map_names-cons, length-strings, length-strings_no_maps}
 
 -- the names from map i on are the name of map i and those after it
 pub length-map_names-drop : (maps : List MapRecord) (i : ℕ) (d : MapRecord) → i < length maps

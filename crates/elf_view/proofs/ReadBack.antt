@@ -9,8 +9,8 @@ use Rattle.elf_view.specs.Layout.{base_headers, code_section, headers_at, no_sec
 use Rattle.elf_view.specs.declared.parts.Section.{Section}
 use Rattle.elf_view.specs.declared.sizes.Sizes.{Sizes}
 use Rattle.elf_view.specs.declared.object.MapRecord.{MapRecord}
-use Rattle.elf_view.proofs.Lengths.{length-base_headers, length-elf_header, length-padded, length-section_header}
-use Rattle.elf_view.proofs.Written.{FitsHeader, section_header_at-written}
+use Rattle.elf_view.proofs.LengthLaws.{length-base_headers, length-elf_header, length-padded, length-section_header}
+use Rattle.elf_view.proofs.WrittenLaws.{FitsHeader, section_header_at-written}
 
 -- ---- the file header
 
@@ -45,7 +45,7 @@ header-ident at n rest = refl
 -- ---- the section headers
 
 -- what stands in front of them
-abbrev pub front : List ℕ → List ℕ → List MapRecord → List (ℕ × ℕ) → List ℕ
+abbrev pub front : (name code : List ℕ) (maps : List MapRecord) (refs : List (ℕ × ℕ)) → List ℕ
 front name code maps refs =
     elf_header (headers_at (sizes_of name code maps refs)) (section_count maps) ++ code
     ++ symbols (length name) (length code) maps ++ rels refs ++ padded (records maps) ++ padded (strings name maps)

@@ -1,10 +1,11 @@
 -- The parts of an ELF64 file as functions of its bytes (System V gABI, chapter 4).
-use Rattle.std.specs.Prelude.{ℕ, zero, suc, ◌+◌, ◌-◌, ◌*◌, ◌/◌, ◌%◌, ◌^◌, ◌==◌, if◌then◌else◌, List, [], length, take, drop, slice_index, min, position, Option, Some, None}
-use Rattle.std.specs.Option.{option_map, option_or}
+use Rattle.std.specs.Prelude.{ℕ, ◌+◌, ◌-◌, ◌*◌, ◌/◌, ◌%◌, ◌^◌, ◌==◌, if◌then◌else◌, List, [], length, take, drop, slice_index, min, position, Option, Some, None}
+use Rattle.std.specs.Option.{option_map}
 use Rattle.elf_view.specs.Numbers.{u16_at, u32_at, u64_at}
 use Rattle.elf_view.specs.declared.parts.Section.{Section}
 use Rattle.elf_view.specs.declared.parts.Symbol.{Symbol}
 use Rattle.elf_view.specs.declared.parts.Rel.{Rel}
+use Rattle.list_laws.specs.Firsts.{first_from}
 
 -- ---- the file header
 
@@ -58,11 +59,6 @@ unfoldable pub string_at : List ℕ → ℕ → Option (List ℕ)
 string_at table at = option_map (λ n. take n (drop at table)) (position (λ b. b == 0) (drop at table))
 
 -- ---- symbols and relocations
-
--- the first that is there of f i, f (i + 1), .., of n of them
-abbrev pub first_from : {X : Type 0} → (ℕ → Option X) → ℕ → ℕ → Option X
-first_from f i zero = None
-first_from f i (suc n) = option_or (f i) (first_from f (suc i) n)
 
 -- a section of type SYMTAB (2), by its number
 abbrev pub symtab_at : List ℕ → ℕ → Option ℕ

@@ -2,10 +2,11 @@
 use Rattle.std.specs.Prelude.{ℕ, ◌+◌, ◌*◌, ◌%◌, ◌==◌, ◌≡◌, ◌≢◌, ◌<◌, ◌≤◌, nat_lt, Bool, ◌&&◌, not, is_some, if◌then◌else◌, List, [], ◌∷◌, length, take, Option, Some, None, Result, Ok, Err}
 use Rattle.std.specs.Option.{option_or}
 use Rattle.std.specs.Str.{bytes_eq}
-use Rattle.elf_view.specs.File.{e_machine, e_shentsize, e_shnum, e_shoff, e_shstrndx, e_type, first_from, first_symtab, section_at, section_bytes, string_at}
+use Rattle.elf_view.specs.File.{e_machine, e_shentsize, e_shnum, e_shoff, e_shstrndx, e_type, first_symtab, section_at, section_bytes, string_at}
 use Rattle.elf_view.specs.declared.parts.Section.{Section as Section'}
 use Rattle.elf_view.specs.declared.error.ElfError.{ElfError}
 use Rattle.elf_view.specs.declared.error.ElfError.TheVariants.{Short, Header, Machine, Section, At}
+use Rattle.list_laws.specs.Firsts.{first_from}
 
 -- the file header is whole: 64 bytes
 unfoldable pub short_file : List ℕ → Option ElfError

@@ -1,8 +1,9 @@
 //! The rules of a file, each tested by a function of its own.
 
 ghost use Rattle.std.specs.Prelude.{◌≡◌, ◌≢◌, ◌+◌, ◌*◌, ◌^◌, ◌<◌, ◌≤◌, ℕ, length, nat_lt, is_some, not, ◌==◌, ◌&&◌, IfSome, OnOk};
-ghost use Rattle.elf_view.specs.File.{e_shnum, e_shoff, e_shstrndx, first_from, first_symtab, section_at, span_of, string_at};
+ghost use Rattle.elf_view.specs.File.{e_shnum, e_shoff, e_shstrndx, first_symtab, section_at, span_of, string_at};
 ghost use Rattle.elf_view.specs.Rules.{AllInside, FailsAs, IsInside, is_string_table, name_open, no_names, sections_outside, short_file, short_headers, wrong_header, wrong_machine, wrong_table};
+ghost use Rattle.list_laws.specs.Firsts.{first_from};
 
 use crate::error::ElfError;
 use crate::gabi::{EM_BPF, ET_REL, NOBITS, STRTAB, SYMTAB};

@@ -33,7 +33,7 @@
 //! | Lines that make a call | what is printed behind the line |
 //! |---|---|
 //! | `top WORD..` | of `top`: status, code, and what the sink has taken |
-//! | `begin NAME`, `append NAME BYTES`, `parts NAME BYTES BYTES BYTES` | the result of `begin`, `append` or `write_parts` |
+//! | `begin NAME`, `append NAME BYTES` | the result of `begin` or `append` |
 //! | `read NAME PLACE ROOM` | of `read_at` with a buffer of ROOM bytes: what was read, or the error |
 //! | `fetch NAME LIMIT BYTES` | of `fetch_all`: whether these were fetched, or the error |
 //! | `files CALL..` | the same of one of these four, or of `remove NAME`, in the folder that the program runs in |
@@ -42,7 +42,7 @@
 //! | `show NAME` | what the shelf holds there, or `absent` |
 //! | `show NAME length`, `show NAME is BYTES`, `show NAME starts BYTES`, `show NAME count BYTES` | how many bytes that has; whether it is these, or begins with these; how often these stand in it |
 //! | `words WORD..` | how many words there are, and each |
-//! | `ask WORD..` | what `read_command` says of them |
+//! | `ask WORD..` | what `read_words` says of them |
 //! | `verdict INDEX VERDICT TARGET LENGTH` | the line of `verdict_line` |
 //! | `check BYTES`, `capture BYTES N` | the result of `check`; the magic number, and what N calls of `next` give |
 //! | `header MAGIC`, `record BYTES SECONDS FRACTION BYTES` | the digits of `write_header`; of `write_record` in a buffer of the first bytes |

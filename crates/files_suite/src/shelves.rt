@@ -3,7 +3,6 @@
 use crate::known::Known;
 use crate::said::{ended, quoted, truth};
 use anyhow::{Result, bail};
-use ehdl_top::write_parts;
 use shelf_core::{Shelf, fetch_all};
 use std::alloc::Global;
 
@@ -17,12 +16,6 @@ pub(crate) fn call<S: Shelf>(
     match words {
         ["begin", name] => ended(alloc, shelf.begin(name)),
         ["append", name, bytes] => ended(alloc, shelf.append(name, known.get(bytes)?)),
-        ["parts", name, first, second, third] => {
-            let first = known.get(first)?;
-            let second = known.get(second)?;
-            let third = known.get(third)?;
-            ended(alloc, write_parts(shelf, name, &[first, second, third]))
-        }
         ["read", name, place, room] => read(alloc, shelf, name, place.parse()?, room.parse()?),
         ["fetch", name, limit, bytes] => {
             fetch(alloc, shelf, name, limit.parse()?, known.get(bytes)?)

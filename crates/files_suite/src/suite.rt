@@ -105,7 +105,7 @@ impl Suite {
             ["taken"] => quoted(self.alloc, self.out.held()),
             ["print", bytes] => ended(self.alloc, StdSink::new(rt).put(self.known.get(bytes)?)),
             ["files", row @ ..] => self.files(rt, row),
-            ["begin" | "append" | "parts" | "read" | "fetch", ..] => {
+            ["begin" | "append" | "read" | "fetch", ..] => {
                 call(self.alloc, &mut self.shelf, &self.known, words)
             }
             _ => answer(self.alloc, &self.known, words),

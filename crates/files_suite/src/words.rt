@@ -2,7 +2,7 @@
 
 use crate::known::Known;
 use anyhow::Result;
-use command_words::{Words, read_command};
+use command_line::{Words, read_words};
 use std::alloc::Global;
 use std::fmt::Write;
 use std::str;
@@ -25,7 +25,7 @@ pub(crate) fn words_of(alloc: Global, known: &Known, row: &[&str]) -> Result<Wor
 
 /// What the words ask for.
 pub(crate) fn asked(alloc: Global, words: &Words) -> Result<String> {
-    let command = read_command(words);
+    let command = read_words(alloc, words);
     Ok(format!(in alloc; "{command:?}")?)
 }
 

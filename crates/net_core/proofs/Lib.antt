@@ -1,2 +1,5 @@
-pub mod Low
-pub mod Typed
+pub mod LowBitsLaws
+pub mod ClockLaws
+pub mod NameLaws
+pub mod WireLaws
+pub mod WidthLaws

@@ -6,7 +6,7 @@ use Rattle.net_core.specs.declared.tree.Net.{Net}
 use Rattle.net_core.specs.declared.tree.Net.TheVariants.{Port, Register, Memory, Wire}
 use Rattle.net_core.specs.declared.design.Declared.{Declared}
 use Rattle.net_core.specs.declared.design.Declared.TheVariants as declared
-use Rattle.net_core.specs.Nets.{RightTree, Act, ABlock, AIf, AIfElse, ASet, AStore, Acts, AEnd, AThen, WireTree, AssignTree, Plan}
+use Rattle.net_core.specs.Nets.{RightTree, StatementTree, SBlock, SIf, SIfElse, SSet, SStore, StatementTrees, SEnd, SThen, WireTree, AssignTree, Netlist}
 use Rattle.net_core.specs.Value.{nothing, Env, value, right_value, stops}
 
 -- what is stored between two edges
@@ -20,30 +20,30 @@ first_words (declared.Integer ∷ ds) = first_words ds
 first_words (declared.Register w ∷ ds) = w ∷ first_words ds
 first_words (declared.Memory i w n ∷ ds) = first_words ds
 
-abbrev pub first_cells : List Declared → List (List Word)
-first_cells [] = []
-first_cells (declared.Integer ∷ ds) = first_cells ds
-first_cells (declared.Register w ∷ ds) = first_cells ds
-first_cells (declared.Memory i w n ∷ ds) = replicate (2 ^ i) w ∷ first_cells ds
+abbrev pub first_memories : List Declared → List (List Word)
+first_memories [] = []
+first_memories (declared.Integer ∷ ds) = first_memories ds
+first_memories (declared.Register w ∷ ds) = first_memories ds
+first_memories (declared.Memory i w n ∷ ds) = replicate (2 ^ i) w ∷ first_memories ds
 
 -- the declared values
-abbrev pub first_stored : Plan → Stored
-first_stored d = record { registers = first_words d.declared; memories = first_cells d.declared }
+abbrev pub first_stored : Netlist → Stored
+first_stored d = record { registers = first_words d.declared; memories = first_memories d.declared }
 
 -- The assignments of a statement whose conditions hold, all from the values before the edge. A later one wins.
 abbrev mutual
-  pub done : {N : Type 0} → Env N → Act N → Stored → Stored
-  done v (ABlock more) s = all_done v more s
-  done v (AIf c a) s = if (value v c).value == 0 then s else done v a s
-  done v (AIfElse c a b) s = if (value v c).value == 0 then done v b s else done v a s
-  done v (ASet r e) s = record s { registers = slice_set s.registers r (value v e) }
-  done v (AStore m i e) s = record s { memories = slice_set s.memories m (slice_set (get_or s.memories m []) (value v i).value (value v e)) }
+  pub done : {N : Type 0} → Env N → StatementTree N → Stored → Stored
+  done v (SBlock more) s = all_done v more s
+  done v (SIf c a) s = if (value v c).value == 0 then s else done v a s
+  done v (SIfElse c a b) s = if (value v c).value == 0 then done v b s else done v a s
+  done v (SSet r e) s = record s { registers = slice_set s.registers r (value v e) }
+  done v (SStore m i e) s = record s { memories = slice_set s.memories m (slice_set (get_or s.memories m []) (value v i).value (value v e)) }
 
-  pub all_done : {N : Type 0} → Env N → Acts N → Stored → Stored
-  all_done v AEnd s = s
-  all_done v (AThen a more) s = all_done v more (done v a s)
+  pub all_done : {N : Type 0} → Env N → StatementTrees N → Stored → Stored
+  all_done v SEnd s = s
+  all_done v (SThen a more) s = all_done v more (done v a s)
 
-abbrev pub edge : {N : Type 0} → Env N → List (Act N) → Stored → Stored
+abbrev pub edge : {N : Type 0} → Env N → List (StatementTree N) → Stored → Stored
 edge v [] s = s
 edge v (a ∷ rest) s = edge v rest (done v a s)
 
@@ -54,21 +54,21 @@ net_value ins s ws (Register i) = get_or s.registers i nothing
 net_value ins s ws (Memory i) = nothing
 net_value ins s ws (Wire i) = get_or ws i nothing
 
-abbrev pub cell_value : Stored → Net → ℕ → Word
-cell_value s (Port i) a = nothing
-cell_value s (Register i) a = nothing
-cell_value s (Memory i) a = get_or (get_or s.memories i []) a nothing
-cell_value s (Wire i) a = nothing
+abbrev pub memory_word_value : Stored → Net → ℕ → Word
+memory_word_value s (Port i) a = nothing
+memory_word_value s (Register i) a = nothing
+memory_word_value s (Memory i) a = get_or (get_or s.memories i []) a nothing
+memory_word_value s (Wire i) a = nothing
 
 abbrev pub env : List Word → Stored → List Word → Env Net
-env ins s ws = record { net = net_value ins s ws; cell = cell_value s }
+env ins s ws = record { net = net_value ins s ws; memory_word = memory_word_value s }
 
 -- wires are valued in text order
 abbrev pub with_wires : List Word → Stored → List Word → List WireTree → List Word
 with_wires ins s ws [] = ws
 with_wires ins s ws (w ∷ rest) = with_wires ins s (ws ++ right_value (env ins s ws) w.right ∷ []) rest
 
-abbrev pub env_of : Plan → List Word → Stored → Env Net
+abbrev pub env_of : Netlist → List Word → Stored → Env Net
 env_of d ins s = env ins s (with_wires ins s [] d.wires)
 
 -- the first wire, from a number on, whose divisor is zero
@@ -81,15 +81,15 @@ rights [] = []
 rights (w ∷ ws) = w.right ∷ rights ws
 
 -- the wire whose divisor is zero in this clock, if there is one
-abbrev pub stopping : Plan → List Word → Stored → Option ℕ
+abbrev pub stopping : Netlist → List Word → Stored → Option ℕ
 stopping d ins s = stopped_at (env_of d ins s) 0 (rights d.wires)
 
 -- what is stored after the edge, where no divisor is zero
-abbrev pub after : Plan → List Word → Stored → Stored
+abbrev pub after : Netlist → List Word → Stored → Stored
 after d ins s = edge (env_of d ins s) d.always s
 
 -- A zero divisor stops the clock, which then changes nothing.
-abbrev pub clock : Plan → List Word → Stored → Result Stored ℕ
+abbrev pub clock : Netlist → List Word → Stored → Result Stored ℕ
 clock d ins s = by_stop (stopping d ins s)
   where
     by_stop : Option ℕ → Result Stored ℕ
@@ -101,5 +101,5 @@ abbrev pub assigned : Env Net → List AssignTree → ℕ → Word
 assigned v [] port = nothing
 assigned v (a ∷ rest) port = if a.port == port then value v a.value else assigned v rest port
 
-abbrev pub shown : Plan → List Word → Stored → ℕ → Word
+abbrev pub shown : Netlist → List Word → Stored → ℕ → Word
 shown d ins s port = assigned (env_of d ins s) d.assigns port

@@ -1,88 +1,80 @@
 -- What goes over at the ports in a list of clocks: frames inwards, answers outwards.
 use Rattle.std.specs.Prelude.{◌≡◌, ℕ, zero, suc, ◌^◌, ◌<◌, if◌then◌else◌, Bool, true, false, ◌&&◌, Option, Some, None, List, [], ◌∷◌, ◌++◌}
+use Rattle.beat_core.specs.declared.answer.Answer.{Answer}
 use Rattle.beat_core.specs.declared.beat.Beat.{Beat}
-use Rattle.beat_core.specs.Beats.{bytes_of_beat}
+use Rattle.beat_core.specs.Ports.{Offered, arrivals_among, Given, answers_among}
 use Rattle.net_core.specs.declared.ports.Inputs.{Inputs}
 use Rattle.net_core.specs.declared.ports.Outputs.{Outputs}
-use Rattle.net_core.specs.Nets.{Plan}
+use Rattle.net_core.specs.Nets.{Netlist}
 use Rattle.net_core.specs.Clock.{Stored, after, stopping}
 use Rattle.net_core.specs.Ports.{words_of, outputs_of}
+-- (a frame that came, as beats make it)
+pub use Rattle.beat_core.specs.Ports.{Arrival}
 
 -- one clock: what stood at the inputs, and what the outputs showed
-pub record Moment : Type 0 where
+pub record Cycle : Type 0 where
   pub given : Inputs
   pub shown : Outputs
 
-abbrev pub moment_of : Plan → Stored → Inputs → Moment
-moment_of d s i = record { given = i; shown = outputs_of d i s }
+abbrev pub cycle_of : Netlist → Stored → Inputs → Cycle
+cycle_of d s i = record { given = i; shown = outputs_of d i s }
 
 -- no divisor is zero in any of these clocks
-abbrev pub NeverStops : Plan → Stored → List Inputs → Type 0
+abbrev pub NeverStops : Netlist → Stored → List Inputs → Type 0
 NeverStops d s [] = Unit {0}
 NeverStops d s (i ∷ is) = (stopping d (words_of i) s ≡ None) × NeverStops d (after d (words_of i) s) is
 
 -- the clocks of a design that never stops, from what is stored on
-abbrev pub moments : Plan → Stored → List Inputs → List Moment
-moments d s [] = []
-moments d s (i ∷ is) = moment_of d s i ∷ moments d (after d (words_of i) s) is
+abbrev pub trace : Netlist → Stored → List Inputs → List Cycle
+trace d s [] = []
+trace d s (i ∷ is) = cycle_of d s i ∷ trace d (after d (words_of i) s) is
 
 -- what is stored after these clocks
-abbrev pub stored_after : Plan → Stored → List Inputs → Stored
+abbrev pub stored_after : Netlist → Stored → List Inputs → Stored
 stored_after d s [] = s
 stored_after d s (i ∷ is) = stored_after d (after d (words_of i) s) is
 
 -- ---- inwards
-abbrev pub offered_beat : Moment → Beat
+abbrev pub offered_beat : Cycle → Beat
 offered_beat m = record { word = m.given.in_data; bytes = m.given.in_bytes; last = m.given.in_last }
 
 -- a beat goes over where valid and ready are both 1
-abbrev pub goes_in : Moment → Bool
+abbrev pub goes_in : Cycle → Bool
 goes_in m = m.shown.in_ready && m.given.in_valid
 
-abbrev pub beats_in : List Moment → List Beat
+abbrev pub beats_in : List Cycle → List Beat
 beats_in [] = []
 beats_in (m ∷ ms) = if goes_in m then offered_beat m ∷ beats_in ms else beats_in ms
 
--- a frame, and the interface number that stood beside its first beat
-pub record Arrival : Type 0 where
-  pub frame : List ℕ
-  pub ifindex : ℕ
+-- the beats that went over, each with the interface number that stood beside it
+abbrev pub offers_in : List Cycle → List Offered
+offers_in [] = []
+offers_in (m ∷ ms) = if goes_in m then record { beat = offered_beat m; ifindex = m.given.in_ifindex } ∷ offers_in ms else offers_in ms
 
--- The frames that went over whole. Of the first these bytes went over before, where one is begun, with that number.
-abbrev pub arrivals : Option Arrival → List Moment → List Arrival
-arrivals begun [] = []
-arrivals begun (m ∷ ms) =
-    if goes_in m then (if m.given.in_last then with_beat begun m ∷ arrivals None ms else arrivals (Some (with_beat begun m)) ms)
-    else arrivals begun ms
-  where
-    with_beat : Option Arrival → Moment → Arrival
-    with_beat None m = record { frame = bytes_of_beat (offered_beat m); ifindex = m.given.in_ifindex }
-    with_beat (Some a) m = record { frame = a.frame ++ bytes_of_beat (offered_beat m); ifindex = a.ifindex }
+-- The frames that went over whole. Of the first this went over before, where one is begun.
+abbrev pub arrivals : Option Arrival → List Cycle → List Arrival
+arrivals begun ms = arrivals_among begun (offers_in ms)
 
 -- ---- outwards
-abbrev pub shown_beat : Moment → Beat
+abbrev pub shown_beat : Cycle → Beat
 shown_beat m = record { word = m.shown.out_data; bytes = m.shown.out_bytes; last = m.shown.out_last }
 
-abbrev pub goes_out : Moment → Bool
+abbrev pub goes_out : Cycle → Bool
 goes_out m = m.shown.out_valid && m.given.out_ready
 
--- an answer: the verdict and the target that stood beside its last beat, and the bytes of its beats
-pub record Reply : Type 0 where
-  pub verdict : ℕ
-  pub target : ℕ
-  pub frame : List ℕ
+-- the beats that went over, each with the verdict and the target that stood beside it
+abbrev pub given_out : List Cycle → List Given
+given_out [] = []
+given_out (m ∷ ms) =
+    if goes_out m then record { beat = shown_beat m; verdict = m.shown.out_verdict; target = m.shown.out_target } ∷ given_out ms
+    else given_out ms
 
 -- the answers that went over whole; of the first these bytes went over before
-abbrev pub replies : List ℕ → List Moment → List Reply
-replies so_far [] = []
-replies so_far (m ∷ ms) =
-    if goes_out m then
-    (if m.shown.out_last then record { verdict = m.shown.out_verdict; target = m.shown.out_target; frame = so_far ++ bytes_of_beat (shown_beat m) } ∷ replies [] ms
-    else replies (so_far ++ bytes_of_beat (shown_beat m)) ms)
-    else replies so_far ms
+abbrev pub answers_given : List ℕ → List Cycle → List Answer
+answers_given so_far ms = answers_among so_far (given_out ms)
 
 -- the beats after the last whole answer, where these went over before
-abbrev pub open_beats : List Beat → List Moment → List Beat
+abbrev pub open_beats : List Beat → List Cycle → List Beat
 open_beats before [] = before
 open_beats before (m ∷ ms) =
     if goes_out m then (if m.shown.out_last then open_beats [] ms else open_beats (before ++ shown_beat m ∷ []) ms)
@@ -108,9 +100,9 @@ pub record IsSilent (i : Inputs) : Type 0 where
   pub host_data : i.host_data ≡ 0
 
 -- ---- the full drive
--- The next beat is offered while one is left, what is shown is taken, and the host is silent.
-abbrev pub drive_inputs : ℕ → List Beat → Inputs
-drive_inputs ifindex [] = record {
+-- what stands at the inputs while a beat is offered, or none: what is shown is taken, and the host is silent
+abbrev pub inputs_with : Option Beat → ℕ → Inputs
+inputs_with None ifindex = record {
   in_valid = false;
   in_data = 0;
   in_bytes = 0;
@@ -123,7 +115,7 @@ drive_inputs ifindex [] = record {
   host_word = 0;
   host_data = 0;
 }
-drive_inputs ifindex (b ∷ bs) = record {
+inputs_with (Some b) ifindex = record {
   in_valid = true;
   in_data = b.word;
   in_bytes = b.bytes;
@@ -137,6 +129,11 @@ drive_inputs ifindex (b ∷ bs) = record {
   host_data = 0;
 }
 
+-- the next beat is offered while one is left
+abbrev pub drive_inputs : ℕ → List Beat → Inputs
+drive_inputs ifindex [] = inputs_with None ifindex
+drive_inputs ifindex (b ∷ bs) = inputs_with (Some b) ifindex
+
 -- how a drive ends: with its last answer, at a wire whose divisor is zero, or out of clocks
 pub data Ended : Type 0 where
   Answered : Ended
@@ -144,31 +141,31 @@ pub data Ended : Type 0 where
   OutOfClocks : Ended
 
 pub record Drive : Type 0 where
-  pub moments : List Moment
+  pub trace : List Cycle
   pub ended : Ended
 
-abbrev pub and_then : Moment → Drive → Drive
-and_then m rest = record { moments = m ∷ rest.moments; ended = rest.ended }
+abbrev pub and_then : Cycle → Drive → Drive
+and_then m rest = record { trace = m ∷ rest.trace; ended = rest.ended }
 
 -- what is left to offer after a clock
-abbrev pub left_after : Moment → List Beat → List Beat
+abbrev pub left_after : Cycle → List Beat → List Beat
 left_after m [] = []
 left_after m (b ∷ bs) = if goes_in m then bs else b ∷ bs
 
 -- how many of these answers are owed after a clock
-abbrev pub owed_after : Moment → ℕ → ℕ
+abbrev pub owed_after : Cycle → ℕ → ℕ
 owed_after m zero = zero
 owed_after m (suc owed) = if goes_out m && m.shown.out_last then owed else suc owed
 
 -- The drive of a design from what is stored, with these beats to offer under one interface number, while answers are
 -- owed, in at most so many clocks.
-unfoldable pub drive : Plan → ℕ → Stored → List Beat → ℕ → ℕ → Drive
-drive d ifindex s left zero limit = record { moments = []; ended = Answered }
-drive d ifindex s left (suc owed) zero = record { moments = []; ended = OutOfClocks }
+unfoldable pub drive : Netlist → ℕ → Stored → List Beat → ℕ → ℕ → Drive
+drive d ifindex s left zero limit = record { trace = []; ended = Answered }
+drive d ifindex s left (suc owed) zero = record { trace = []; ended = OutOfClocks }
 drive d ifindex s left (suc owed) (suc limit) =
     let i : Inputs = drive_inputs ifindex left in
-    let m : Moment = moment_of d s i in
+    let m : Cycle = cycle_of d s i in
     elim (stopping d (words_of i) s) [
       | None ↦ and_then m (drive d ifindex (after d (words_of i) s) (left_after m left) (owed_after m (suc owed)) limit)
-      | Some w ↦ record { moments = []; ended = Stopped w }
+      | Some w ↦ record { trace = []; ended = Stopped w }
     ]

@@ -5,7 +5,7 @@ use Rattle.net_core.specs.declared.tree.Net.{Net}
 use Rattle.net_core.specs.declared.tree.Net.TheVariants.{Port, Register, Memory, Wire}
 use Rattle.net_core.specs.declared.design.Declared.{Declared}
 use Rattle.net_core.specs.declared.design.Declared.TheVariants as declared
-use Rattle.net_core.specs.Nets.{Plan}
+use Rattle.net_core.specs.Nets.{Netlist}
 
 abbrev pub is_integer : Declared → Bool
 is_integer declared.Integer = true
@@ -29,11 +29,11 @@ place_of p (x ∷ xs) zero = if p x then 0 else suc (place_of p xs zero)
 place_of p (x ∷ xs) (suc k) = suc (place_of p xs (if p x then k else suc k))
 
 -- the place of a net's name: ports, then what is declared, then wires
-abbrev pub name_place : Plan → Net → ℕ
+abbrev pub name_place : Netlist → Net → ℕ
 name_place d (Port k) = k
 name_place d (Register k) = length d.ports + place_of is_register d.declared k
 name_place d (Memory k) = length d.ports + place_of is_memory d.declared k
 name_place d (Wire k) = length d.ports + length d.declared + k
 
-abbrev pub name_of : Plan → Net → List ℕ
+abbrev pub name_of : Netlist → Net → List ℕ
 name_of d n = get_or d.names (name_place d n) []

@@ -2,7 +2,7 @@
 use Rattle.std.specs.Prelude.{ℕ, List}
 use Rattle.net_core.specs.declared.tree.Word.{Word}
 use Rattle.net_core.specs.declared.tree.Op.{Op}
-use Rattle.net_core.specs.declared.tree.Prefix.{Prefix}
+use Rattle.net_core.specs.declared.tree.UnaryOp.{UnaryOp}
 use Rattle.net_core.specs.declared.tree.Net.{Net}
 use Rattle.net_core.specs.declared.design.Port.{Port}
 use Rattle.net_core.specs.declared.design.Declared.{Declared}
@@ -12,12 +12,12 @@ mutual
     TConst : Word → Tree N
     TRead : N → Tree N
     TBit : N → ℕ → Tree N
-    TBits : N → ℕ → ℕ → Tree N
-    TCell : N → Tree N → Tree N
-    TBefore : Prefix → Tree N → Tree N
-    TTwo : Op → Tree N → Tree N → Tree N
-    TChoose : Tree N → Tree N → Tree N → Tree N
-    TJoin : Trees N → Tree N
+    TPartSelect : N → ℕ → ℕ → Tree N
+    TMemoryWord : N → Tree N → Tree N
+    TUnary : UnaryOp → Tree N → Tree N
+    TBinary : Op → Tree N → Tree N → Tree N
+    TConditional : Tree N → Tree N → Tree N → Tree N
+    TConcatenation : Trees N → Tree N
 
   -- the parts of a concatenation
   pub data Trees (N : Type 0) : Type 0 where
@@ -31,17 +31,17 @@ pub data RightTree (N : Type 0) : Type 0 where
   RRemainder : N → N → RightTree N
 
 mutual
-  pub data Act (N : Type 0) : Type 0 where
-    ABlock : Acts N → Act N
-    AIf : Tree N → Act N → Act N
-    AIfElse : Tree N → Act N → Act N → Act N
-    ASet : ℕ → Tree N → Act N
-    AStore : ℕ → Tree N → Tree N → Act N
+  pub data StatementTree (N : Type 0) : Type 0 where
+    SBlock : StatementTrees N → StatementTree N
+    SIf : Tree N → StatementTree N → StatementTree N
+    SIfElse : Tree N → StatementTree N → StatementTree N → StatementTree N
+    SSet : ℕ → Tree N → StatementTree N
+    SStore : ℕ → Tree N → Tree N → StatementTree N
 
   -- the statements between `begin` and `end`
-  pub data Acts (N : Type 0) : Type 0 where
-    AEnd : Acts N
-    AThen : Act N → Acts N → Acts N
+  pub data StatementTrees (N : Type 0) : Type 0 where
+    SEnd : StatementTrees N
+    SThen : StatementTree N → StatementTrees N → StatementTrees N
 
 pub record WireTree : Type 0 where
   pub width : ℕ
@@ -51,10 +51,10 @@ pub record AssignTree : Type 0 where
   pub port : ℕ
   pub value : Tree Net
 
-pub record Plan : Type 0 where
+pub record Netlist : Type 0 where
   pub names : List (List ℕ)
   pub ports : List Port
   pub declared : List Declared
   pub wires : List WireTree
   pub assigns : List AssignTree
-  pub always : List (Act Net)
+  pub always : List (StatementTree Net)

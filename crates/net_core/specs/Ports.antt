@@ -4,7 +4,7 @@ use Rattle.net_core.specs.declared.tree.Word.{Word}
 use Rattle.net_core.specs.declared.design.Port.{Port}
 use Rattle.net_core.specs.declared.ports.Inputs.{Inputs}
 use Rattle.net_core.specs.declared.ports.Outputs.{Outputs}
-use Rattle.net_core.specs.Nets.{Plan}
+use Rattle.net_core.specs.Nets.{Netlist}
 use Rattle.net_core.specs.Value.{word, bit, nothing}
 use Rattle.net_core.specs.Clock.{Stored, shown}
 
@@ -40,7 +40,7 @@ abbrev pub is_one : Word → Bool
 is_one w = w.value == 1
 
 -- what the outputs show in a clock
-abbrev pub outputs_of : Plan → Inputs → Stored → Outputs
+abbrev pub outputs_of : Netlist → Inputs → Stored → Outputs
 outputs_of d i s =
     let at : ℕ → Word = shown d (words_of i) s in
     record {

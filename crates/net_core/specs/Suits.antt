@@ -11,4 +11,4 @@ pub record IsOfWidth (w : ℕ) (x : Word) : Type 0 where
 -- what is there, has its width
 pub record Suits {N : Type 0} (s : Scope N) (v : Env N) : Type 0 where
   pub net : (n : N) → 0 < s.net n → IsOfWidth (s.net n) (v.net n)
-  pub cell : (m : N) (a : ℕ) → 0 < s.cell m → a < 2 ^ s.index m → IsOfWidth (s.cell m) (v.cell m a)
+  pub memory_word : (m : N) (a : ℕ) → 0 < s.memory_word m → a < 2 ^ s.index m → IsOfWidth (s.memory_word m) (v.memory_word m a)

@@ -3,9 +3,9 @@ use Rattle.std.specs.Prelude.{ℕ, ◌+◌, ◌-◌, ◌*◌, ◌/◌, ◌%◌, 
 use Rattle.net_core.specs.declared.tree.Word.{Word}
 use Rattle.net_core.specs.declared.tree.Op.{Op}
 use Rattle.net_core.specs.declared.tree.Op.TheVariants.{Add, Sub, Mul, And, Or, Xor, ShiftLeft, ShiftRight, Equal, NotEqual, Less, LessEqual, Greater, GreaterEqual}
-use Rattle.net_core.specs.declared.tree.Prefix.{Prefix}
-use Rattle.net_core.specs.declared.tree.Prefix.TheVariants.{Not, Any}
-use Rattle.net_core.specs.Nets.{Tree, TConst, TRead, TBit, TBits, TCell, TBefore, TTwo, TChoose, TJoin, Trees, TLast, TMore, RightTree, RPlain, RQuotient, RRemainder}
+use Rattle.net_core.specs.declared.tree.UnaryOp.{UnaryOp}
+use Rattle.net_core.specs.declared.tree.UnaryOp.TheVariants.{Not, ReduceOr}
+use Rattle.net_core.specs.Nets.{Tree, TConst, TRead, TBit, TPartSelect, TMemoryWord, TUnary, TBinary, TConditional, TConcatenation, Trees, TLast, TMore, RightTree, RPlain, RQuotient, RRemainder}
 
 abbrev pub word : ℕ → ℕ → Word
 word w v = record { width = w; value = v }
@@ -38,40 +38,40 @@ apply LessEqual a b = bit (nat_le a.value b.value)
 apply Greater a b = bit (nat_lt b.value a.value)
 apply GreaterEqual a b = bit (nat_le b.value a.value)
 
-abbrev pub prefixed : Prefix → Word → Word
-prefixed Not a = word a.width (2 ^ a.width - 1 - a.value)
-prefixed Any a = bit (if a.value == 0 then false else true)
+abbrev pub apply_unary : UnaryOp → Word → Word
+apply_unary Not a = word a.width (2 ^ a.width - 1 - a.value)
+apply_unary ReduceOr a = bit (if a.value == 0 then false else true)
 
 -- one number before another
-abbrev pub joined : Word → Word → Word
-joined a b = word (a.width + b.width) (a.value * 2 ^ b.width + b.value)
+abbrev pub concatenated : Word → Word → Word
+concatenated a b = word (a.width + b.width) (a.value * 2 ^ b.width + b.value)
 
-abbrev pub chosen : Word → Word → Word → Word
-chosen c a b = if c.value == 0 then b else a
+abbrev pub conditional : Word → Word → Word → Word
+conditional c a b = if c.value == 0 then b else a
 
-abbrev pub bits : Word → ℕ → ℕ → Word
-bits w hi lo = word (hi + 1 - lo) (w.value / 2 ^ lo % 2 ^ (hi + 1 - lo))
+abbrev pub part_select : Word → ℕ → ℕ → Word
+part_select w hi lo = word (hi + 1 - lo) (w.value / 2 ^ lo % 2 ^ (hi + 1 - lo))
 
 -- the values of nets, and of the words of memories
 pub record Env (N : Type 0) : Type 0 where
   pub net : N → Word
-  pub cell : N → ℕ → Word
+  pub memory_word : N → ℕ → Word
 
 abbrev mutual
   pub value : {N : Type 0} → Env N → Tree N → Word
   value v (TConst w) = w
   value v (TRead n) = v.net n
-  value v (TBit n i) = bits (v.net n) i i
-  value v (TBits n hi lo) = bits (v.net n) hi lo
-  value v (TCell m i) = v.cell m (value v i).value
-  value v (TBefore p a) = prefixed p (value v a)
-  value v (TTwo op a b) = apply op (value v a) (value v b)
-  value v (TChoose c a b) = chosen (value v c) (value v a) (value v b)
-  value v (TJoin ps) = joined_parts v ps
+  value v (TBit n i) = part_select (v.net n) i i
+  value v (TPartSelect n hi lo) = part_select (v.net n) hi lo
+  value v (TMemoryWord m i) = v.memory_word m (value v i).value
+  value v (TUnary p a) = apply_unary p (value v a)
+  value v (TBinary op a b) = apply op (value v a) (value v b)
+  value v (TConditional c a b) = conditional (value v c) (value v a) (value v b)
+  value v (TConcatenation ps) = concatenated_parts v ps
 
-  pub joined_parts : {N : Type 0} → Env N → Trees N → Word
-  joined_parts v (TLast a) = value v a
-  joined_parts v (TMore a ps) = joined (value v a) (joined_parts v ps)
+  pub concatenated_parts : {N : Type 0} → Env N → Trees N → Word
+  concatenated_parts v (TLast a) = value v a
+  concatenated_parts v (TMore a ps) = concatenated (value v a) (concatenated_parts v ps)
 
 abbrev pub right_value : {N : Type 0} → Env N → RightTree N → Word
 right_value v (RPlain e) = value v e

@@ -1,12 +1,12 @@
 //! Trees and statements from their parts.
 
 ghost use Rattle.std.specs.Prelude.{◌≡◌, IfOk};
-ghost use Rattle.net_core.specs.View.{tree_of, act_of, acts_of, wire_of};
+ghost use Rattle.net_core.specs.View.{tree_of, statement_of, statements_of, wire_of};
 ghost use Rattle.net_core.specs.Value.{word};
-ghost use Rattle.net_core.specs.Nets.{TConst, TCell, TBefore, TTwo, TChoose, RPlain, AIf, AIfElse, ABlock, AThen};
+ghost use Rattle.net_core.specs.Nets.{TConst, TMemoryWord, TUnary, TBinary, TConditional, RPlain, SIf, SIfElse, SBlock, SThen};
 
 use crate::design::Wire;
-use crate::tree::{Expr, Net, Op, Prefix, Right, Stmt, Stmts, Word};
+use crate::tree::{Expr, Net, Op, Right, Stmt, Stmts, UnaryOp, Word};
 use std::alloc::{AllocError, Global};
 
 /// A constant of a width.
@@ -17,41 +17,41 @@ pub fn constant<N: Drop>(width: u8, value: u64) -> Expr<N>
 }
 
 /// The word of a memory at an index.
-pub fn cell<N: Drop>(alloc: Global, memory: N, index: Expr<N>) -> Result<Expr<N>, AllocError>
-    ensures { IfOk result (λ e. tree_of e ≡ TCell memory (tree_of index)) }
+pub fn memory_word<N: Drop>(alloc: Global, memory: N, index: Expr<N>) -> Result<Expr<N>, AllocError>
+    ensures { IfOk result (λ e. tree_of e ≡ TMemoryWord memory (tree_of index)) }
 {
-    Ok(Expr::Cell(memory, Box::new(alloc, index)?))
+    Ok(Expr::MemoryWord(memory, Box::new(alloc, index)?))
 }
 
 /// An operator before its operand.
-pub fn before<N: Drop>(alloc: Global, prefix: Prefix, a: Expr<N>) -> Result<Expr<N>, AllocError>
-    ensures { IfOk result (λ e. tree_of e ≡ TBefore prefix (tree_of a)) }
+pub fn unary<N: Drop>(alloc: Global, unary_op: UnaryOp, a: Expr<N>) -> Result<Expr<N>, AllocError>
+    ensures { IfOk result (λ e. tree_of e ≡ TUnary unary_op (tree_of a)) }
 {
-    Ok(Expr::Before(prefix, Box::new(alloc, a)?))
+    Ok(Expr::Unary(unary_op, Box::new(alloc, a)?))
 }
 
 /// An operator between two operands.
-pub fn two<N: Drop>(alloc: Global, op: Op, a: Expr<N>, b: Expr<N>) -> Result<Expr<N>, AllocError>
-    ensures { IfOk result (λ e. tree_of e ≡ TTwo op (tree_of a) (tree_of b)) }
+pub fn binary<N: Drop>(alloc: Global, op: Op, a: Expr<N>, b: Expr<N>) -> Result<Expr<N>, AllocError>
+    ensures { IfOk result (λ e. tree_of e ≡ TBinary op (tree_of a) (tree_of b)) }
 {
     let a = Box::new(alloc, a)?;
     let b = Box::new(alloc, b)?;
-    Ok(Expr::Two(op, a, b))
+    Ok(Expr::Binary(op, a, b))
 }
 
 /// The first of two values where the condition is 1, else the second.
-pub fn choose<N: Drop>(
+pub fn conditional<N: Drop>(
     alloc: Global,
     condition: Expr<N>,
     a: Expr<N>,
     b: Expr<N>,
 ) -> Result<Expr<N>, AllocError>
-    ensures { IfOk result (λ e. tree_of e ≡ TChoose (tree_of condition) (tree_of a) (tree_of b)) }
+    ensures { IfOk result (λ e. tree_of e ≡ TConditional (tree_of condition) (tree_of a) (tree_of b)) }
 {
     let condition = Box::new(alloc, condition)?;
     let a = Box::new(alloc, a)?;
     let b = Box::new(alloc, b)?;
-    Ok(Expr::Choose(condition, a, b))
+    Ok(Expr::Conditional(condition, a, b))
 }
 
 /// A wire of a width.
@@ -70,7 +70,7 @@ pub fn when<N: Drop>(
     condition: Expr<N>,
     body: Stmt<N>,
 ) -> Result<Stmt<N>, AllocError>
-    ensures { IfOk result (λ s. act_of s ≡ AIf (tree_of condition) (act_of body)) }
+    ensures { IfOk result (λ s. statement_of s ≡ SIf (tree_of condition) (statement_of body)) }
 {
     Ok(Stmt::If(condition, Box::new(alloc, body)?))
 }
@@ -82,7 +82,7 @@ pub fn when_else<N: Drop>(
     first: Stmt<N>,
     second: Stmt<N>,
 ) -> Result<Stmt<N>, AllocError>
-    ensures { IfOk result (λ s. act_of s ≡ AIfElse (tree_of condition) (act_of first) (act_of second)) }
+    ensures { IfOk result (λ s. statement_of s ≡ SIfElse (tree_of condition) (statement_of first) (statement_of second)) }
 {
     let first = Box::new(alloc, first)?;
     let second = Box::new(alloc, second)?;
@@ -91,14 +91,14 @@ pub fn when_else<N: Drop>(
 
 /// A statement in front of others.
 pub fn then<N: Drop>(alloc: Global, first: Stmt<N>, rest: Stmts<N>) -> Result<Stmts<N>, AllocError>
-    ensures { IfOk result (λ s. acts_of s ≡ AThen (act_of first) (acts_of rest)) }
+    ensures { IfOk result (λ s. statements_of s ≡ SThen (statement_of first) (statements_of rest)) }
 {
     Ok(Stmts::Then(first, Box::new(alloc, rest)?))
 }
 
 /// The statements between `begin` and `end`.
 pub fn block<N: Drop>(alloc: Global, statements: Stmts<N>) -> Result<Stmt<N>, AllocError>
-    ensures { IfOk result (λ s. act_of s ≡ ABlock (acts_of statements)) }
+    ensures { IfOk result (λ s. statement_of s ≡ SBlock (statements_of statements)) }
 {
     Ok(Stmt::Block(Box::new(alloc, statements)?))
 }

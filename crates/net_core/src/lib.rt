@@ -5,4 +5,3 @@ pub mod build;
 pub mod design;
 pub mod ports;
 pub mod tree;
-pub mod value;

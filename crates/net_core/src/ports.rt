@@ -1,5 +1,98 @@
 //! The ports that every design has.
 
+use crate::design::Port;
+
+/// How many ports every design has.
+pub const PORT_COUNT: usize = 21;
+
+/// The width of each port, and whether it is an output, in their order.
+pub const PORTS: [Port; PORT_COUNT] = [
+    Port {
+        output: false,
+        width: 1,
+    },
+    Port {
+        output: false,
+        width: 1,
+    },
+    Port {
+        output: false,
+        width: 64,
+    },
+    Port {
+        output: false,
+        width: 4,
+    },
+    Port {
+        output: false,
+        width: 1,
+    },
+    Port {
+        output: false,
+        width: 32,
+    },
+    Port {
+        output: true,
+        width: 1,
+    },
+    Port {
+        output: false,
+        width: 1,
+    },
+    Port {
+        output: true,
+        width: 1,
+    },
+    Port {
+        output: true,
+        width: 64,
+    },
+    Port {
+        output: true,
+        width: 4,
+    },
+    Port {
+        output: true,
+        width: 1,
+    },
+    Port {
+        output: true,
+        width: 32,
+    },
+    Port {
+        output: true,
+        width: 32,
+    },
+    Port {
+        output: true,
+        width: 1,
+    },
+    Port {
+        output: false,
+        width: 1,
+    },
+    Port {
+        output: false,
+        width: 4,
+    },
+    Port {
+        output: false,
+        width: 16,
+    },
+    Port {
+        output: false,
+        width: 4,
+    },
+    Port {
+        output: false,
+        width: 64,
+    },
+    Port {
+        output: true,
+        width: 64,
+    },
+];
+
 /// What stands at the inputs in one clock, `clk` apart.
 #[derive(Clone, Copy, PartialEq, Eq, Debug)]
 pub struct Inputs {

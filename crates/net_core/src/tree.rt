@@ -29,11 +29,11 @@ pub enum Op {
     GreaterEqual,
 }
 
-/// An operator before one operand: `~`, each bit turned, and `|`, whether any bit is 1.
+/// An operator before one operand: `~`, each bit turned, and `|`, the reduction by or: whether any bit is 1.
 #[derive(Clone, Copy, PartialEq, Eq, Debug)]
-pub enum Prefix {
+pub enum UnaryOp {
     Not,
-    Any,
+    ReduceOr,
 }
 
 /// A net of a design: a port by its place in the list of ports, and the others by their number among their like,
@@ -55,14 +55,14 @@ pub enum Expr<N: Drop> {
     /// One bit of a net.
     Bit(N, u8),
     /// The bits of a net from a high one down to a low one.
-    Bits(N, u8, u8),
+    PartSelect(N, u8, u8),
     /// The word of a memory at an index.
-    Cell(N, Box<Expr<N>>),
-    Before(Prefix, Box<Expr<N>>),
-    Two(Op, Box<Expr<N>>, Box<Expr<N>>),
-    Choose(Box<Expr<N>>, Box<Expr<N>>, Box<Expr<N>>),
+    MemoryWord(N, Box<Expr<N>>),
+    Unary(UnaryOp, Box<Expr<N>>),
+    Binary(Op, Box<Expr<N>>, Box<Expr<N>>),
+    Conditional(Box<Expr<N>>, Box<Expr<N>>, Box<Expr<N>>),
     /// A concatenation, the highest bits first.
-    Join(Box<Parts<N>>),
+    Concatenation(Box<Parts<N>>),
 }
 
 /// The expressions of a concatenation, one or more.

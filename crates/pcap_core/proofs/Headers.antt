@@ -2,11 +2,13 @@
 use Rattle.std.proofs.Common.{◌≡◌, ℕ, ◌^◌, ◌<◌, ◌≤◌, List, ◌++◌, length, drop, Some, Ok, sym, ap, subst, ◌∙◌, arith, inl, inr, length-append}
 use Rattle.pcap_core.specs.declared.order.Order.{Order}
 use Rattle.pcap_core.specs.Number.{number, spelled}
-use Rattle.pcap_core.specs.Format.{IsBytes, IsMagic, Header, IsHeader, header_bytes, BeginsIn}
+use Rattle.pcap_core.specs.Format.{IsMagic, Header, IsHeader, header_bytes, BeginsIn}
 use Rattle.pcap_core.specs.Reading.{order_of, header_of}
-use Rattle.pcap_core.proofs.Numbers.{wide2, wide4, IsBytes-drop}
+use Rattle.pcap_core.proofs.Numbers.{wide2, wide4}
 use Rattle.pcap_core.proofs.Parts.{behind, number_behind, three_parts, four_parts, seven_before}
 use Rattle.pcap_core.proofs.Heads.{IsTested, header_of-tested, tested-header_of, spelled-order_of}
+use Rattle.list_laws.specs.Bytes.{IsBytes}
+use Rattle.list_laws.proofs.ByteLaws.{IsBytes-drop}
 
 -- ---- what is read is spelled
 

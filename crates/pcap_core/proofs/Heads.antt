@@ -7,8 +7,9 @@ use Rattle.pcap_core.specs.declared.order.Order.TheVariants.{Little, Big}
 use Rattle.pcap_core.specs.declared.error.PcapError.{PcapError}
 use Rattle.pcap_core.specs.declared.error.PcapError.TheVariants.{Short, Magic, Version, Link, Frame}
 use Rattle.pcap_core.specs.Number.{number, spelled}
-use Rattle.pcap_core.specs.Format.{IsBytes, IsMagic, BeginsIn, IsVersion, IsHeaderFault}
+use Rattle.pcap_core.specs.Format.{IsMagic, BeginsIn, IsVersion, IsHeaderFault}
 use Rattle.pcap_core.specs.Reading.{is_magic, is_version, order_of, tested, header_of}
+use Rattle.list_laws.specs.Bytes.{IsBytes}
 
 -- ---- tests and choices
 

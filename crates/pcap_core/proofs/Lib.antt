@@ -3,6 +3,6 @@ pub mod Heads
 pub mod Parts
 pub mod Headers
 pub mod Records
-pub mod All
-pub mod Opening
-pub mod Checking
+pub mod ContentLaws
+pub mod OpenLemmas
+pub mod CheckLemmas

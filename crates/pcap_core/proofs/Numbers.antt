@@ -1,23 +1,14 @@
 -- Numbers that are written are read back, and the other way round.
-use Rattle.std.proofs.Common.{◌≡◌, ℕ, ◌+◌, ◌^◌, ◌<◌, ◌≤◌, List, ◌++◌, length, take, drop, arith, inl, inr}
+use Rattle.std.proofs.Common.{◌≡◌, ℕ, ◌+◌, ◌^◌, ◌<◌, ◌≤◌, List, ◌++◌, length, take, arith}
 use Rattle.std.specs.Int.{w16, w32, from_le_bytes, from_be_bytes}
-use Rattle.std.proofs.lemmas.Bool.{cases_lt}
-use Rattle.std.proofs.lemmas.List.{length-take, length-take-le, get_or-take, get_or-drop, get_or_past}
+use Rattle.std.proofs.lemmas.List.{length-take-le, get_or-take}
 use Rattle.std.proofs.lemmas.Nat.{le_bytes_2, be_bytes_2, le_bytes_4, be_bytes_4}
 use Rattle.byteorder.specs.Numbers.{length-bytes_low_first, length-bytes_high_first, little_number-reads_back, big_number-reads_back, little_from-lt, big_from-lt}
 use Rattle.pcap_core.specs.declared.order.Order.{Order}
 use Rattle.pcap_core.specs.declared.order.Order.TheVariants.{Little, Big}
 use Rattle.pcap_core.specs.Number.{number, spelled}
-use Rattle.pcap_core.specs.Format.{IsBytes}
-
-pub IsBytes-take : (n : ℕ) (xs : List ℕ) → IsBytes xs → IsBytes (take n xs)
-IsBytes-take n xs h i = elim (cases_lt i n) [
-  | inl below ↦ rw (get_or-take n xs i 0 below) (h i)
-  | inr past ↦ rw (get_or_past (take n xs) i 0 (omega (arith, length-take n xs))) (omega arith)
-]
-
-pub IsBytes-drop : (n : ℕ) (xs : List ℕ) → IsBytes xs → IsBytes (drop n xs)
-IsBytes-drop n xs h i = rw get_or-drop (h (n + i))
+use Rattle.list_laws.specs.Bytes.{IsBytes}
+use Rattle.list_laws.proofs.ByteLaws.{IsBytes-take}
 
 -- n bytes hold a number below the limit, and give it back
 pub record IsWide (order : Order) (n : ℕ) : Type 0 where

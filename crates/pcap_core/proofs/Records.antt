@@ -7,11 +7,13 @@ use Rattle.pcap_core.specs.declared.order.Order.{Order}
 use Rattle.pcap_core.specs.declared.error.PcapError.{PcapError}
 use Rattle.pcap_core.specs.declared.error.PcapError.TheVariants.{Short, Magic, Version, Link, Frame}
 use Rattle.pcap_core.specs.Number.{number, spelled}
-use Rattle.pcap_core.specs.Format.{IsBytes, Packet, Record, IsLength, IsRecord, record_bytes, announced, Ends}
+use Rattle.pcap_core.specs.Format.{Packet, Record, IsLength, IsRecord, record_bytes, announced, Ends}
 use Rattle.pcap_core.specs.Reading.{is_length, packet_at, record_at}
-use Rattle.pcap_core.proofs.Numbers.{wide4, IsBytes-drop, IsBytes-take}
+use Rattle.pcap_core.proofs.Numbers.{wide4}
 use Rattle.pcap_core.proofs.Parts.{behind, number_behind, four_parts, five_before}
 use Rattle.pcap_core.proofs.Heads.{either}
+use Rattle.list_laws.specs.Bytes.{IsBytes}
+use Rattle.list_laws.proofs.ByteLaws.{IsBytes-drop, IsBytes-take}
 
 -- ---- the cases of a record
 

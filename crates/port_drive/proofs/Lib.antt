@@ -1,3 +1,3 @@
-pub mod Giving
-pub mod Leaving
-pub mod Turning
+pub mod AnswerLemmas
+pub mod BeatLemmas
+pub mod DriveLaws

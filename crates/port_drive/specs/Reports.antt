@@ -4,48 +4,49 @@ use Rattle.std.specs.List.{flat_map}
 use Rattle.beat_core.specs.Beats.{beats_of}
 use Rattle.net_core.specs.declared.tree.Net.TheVariants.{Wire}
 use Rattle.net_core.specs.declared.ports.Inputs.{Inputs}
-use Rattle.net_core.specs.Nets.{Plan}
+use Rattle.net_core.specs.Nets.{Netlist}
 use Rattle.net_core.specs.Clock.{Stored}
-use Rattle.net_core.specs.History.{Moment, Reply, replies, stored_after, drive, Ended, Answered, Stopped, OutOfClocks}
+use Rattle.net_core.specs.History.{Cycle, answers_given, stored_after, drive, Ended, Answered, Stopped, OutOfClocks}
+use Rattle.beat_core.specs.declared.answer.Answer.{Answer}
 use Rattle.net_core.specs.History as history
 use Rattle.port_drive.specs.declared.report.Drive.{Drive}
 use Rattle.port_drive.specs.declared.report.DriveError.{DriveError}
 use Rattle.port_drive.specs.declared.report.DriveError.TheVariants.{X, Late, NoMemory}
 
 -- the full drive of these frames under one interface number, in at most so many clocks
-abbrev pub full_drive : Plan → ℕ → Stored → List (List ℕ) → ℕ → history.Drive
+abbrev pub full_drive : Netlist → ℕ → Stored → List (List ℕ) → ℕ → history.Drive
 full_drive d ifindex s frames limit = drive d ifindex s (flat_map beats_of frames) (length frames) limit
 
 -- the clocks in which a packet is sent back
-abbrev pub reloads_in : List Moment → ℕ
+abbrev pub reloads_in : List Cycle → ℕ
 reloads_in [] = 0
 reloads_in (m ∷ ms) = if m.shown.out_reload then 1 + reloads_in ms else reloads_in ms
 
-abbrev pub given_in : List Moment → List Inputs
+abbrev pub given_in : List Cycle → List Inputs
 given_in ms = map (λ m. m.given) ms
 
 -- what a call reports of a drive that owes so many answers
 abbrev pub Reports : history.Drive → ℕ → Result Drive DriveError → Type 0
-Reports d owed (Ok r) = (d.ended ≡ Answered) × (r.clocks ≡ length d.moments) × (r.reloads ≡ reloads_in d.moments)
+Reports d owed (Ok r) = (d.ended ≡ Answered) × (r.clocks ≡ length d.trace) × (r.reloads ≡ reloads_in d.trace)
 Reports d owed (Err (X x)) = (w : ℕ) × (d.ended ≡ Stopped w) × (x.net ≡ Wire w)
-Reports d owed (Err (Late answers frames clocks)) = (d.ended ≡ OutOfClocks) × (answers ≡ length (replies [] d.moments)) × (frames ≡ owed) × (clocks ≡ length d.moments)
+Reports d owed (Err (Late answers frames clocks)) = (d.ended ≡ OutOfClocks) × (answers ≡ length (answers_given [] d.trace)) × (frames ≡ owed) × (clocks ≡ length d.trace)
 Reports d owed (Err NoMemory) = ⊤
 
 -- all these answers were given after those before, or out of memory the first of them
-pub record GivesFirst (before after all : List Reply) : Type 0 where
-  pub some : List Reply
-  pub rest : List Reply
+pub record GivesFirst (before after all : List Answer) : Type 0 where
+  pub some : List Answer
+  pub rest : List Answer
   pub given : after ≡ before ++ some
   pub first : some ++ rest ≡ all
 
-abbrev pub Gives : Result Drive DriveError → List Reply → List Reply → List Reply → Type 0
+abbrev pub Gives : Result Drive DriveError → List Answer → List Answer → List Answer → Type 0
 Gives (Err NoMemory) before after all = GivesFirst before after all
 Gives (Err (X x)) before after all = after ≡ before ++ all
 Gives (Err (Late answers frames clocks)) before after all = after ≡ before ++ all
 Gives (Ok r) before after all = after ≡ before ++ all
 
 -- what is stored is what the drive's clocks leave; out of memory nothing is said
-abbrev pub Leaves : Result Drive DriveError → Plan → Stored → List Moment → Stored → Type 0
+abbrev pub Leaves : Result Drive DriveError → Netlist → Stored → List Cycle → Stored → Type 0
 Leaves (Err NoMemory) d before ms after = ⊤
 Leaves (Err (X x)) d before ms after = after ≡ stored_after d before (given_in ms)
 Leaves (Err (Late answers frames clocks)) d before ms after = after ≡ stored_after d before (given_in ms)

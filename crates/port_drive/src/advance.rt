@@ -3,9 +3,8 @@
 ghost use Rattle.std.specs.Prelude.{◌≡◌, Some, None, OnOk, IfOk, OnErr, IfErr};
 ghost use Rattle.net_core.specs.Clock.{after, stopping};
 ghost use Rattle.net_core.specs.Ports.{AreInputs, words_of, outputs_of};
-ghost use Rattle.net_core.specs.History.{drive_inputs, moment_of, left_after};
+ghost use Rattle.net_core.specs.History.{drive_inputs, cycle_of, left_after, inputs_with};
 ghost use Rattle.clock_sim.specs.Running.{stopped_net};
-ghost use Rattle.port_drive.specs.Offering.{inputs_with};
 
 use crate::left::Left;
 use beat_core::Beat;
@@ -38,12 +37,12 @@ fn inputs_with(beat: Option<Beat>, ifindex: u32) -> Inputs
 /// One clock, in which the first beat that is left is offered. It is taken where it goes over. A clock that stops
 /// changes nothing.
 pub(crate) fn advance(sim: &mut Sim, left: &mut Left<'_>, ifindex: u32) -> Result<Outputs, XValue>
-    ensures plan { sim.new.plan ≡ sim.old.plan }
-    ensures runs { OnOk result (stopping sim.old.plan (words_of (drive_inputs ifindex left.old)) sim.old.stored ≡ None) }
-    ensures stored { OnOk result (sim.new.stored ≡ after sim.old.plan (words_of (drive_inputs ifindex left.old)) sim.old.stored) }
-    ensures outputs { IfOk result (λ o. o ≡ outputs_of sim.old.plan (drive_inputs ifindex left.old) sim.old.stored) }
-    ensures left { OnOk result (left.new ≡ left_after (moment_of sim.old.plan sim.old.stored (drive_inputs ifindex left.old)) left.old) }
-    ensures stops { IfErr result (λ x. stopped_net sim.old.plan (words_of (drive_inputs ifindex left.old)) sim.old.stored ≡ Some x.net) }
+    ensures netlist { sim.new.netlist ≡ sim.old.netlist }
+    ensures runs { OnOk result (stopping sim.old.netlist (words_of (drive_inputs ifindex left.old)) sim.old.stored ≡ None) }
+    ensures stored { OnOk result (sim.new.stored ≡ after sim.old.netlist (words_of (drive_inputs ifindex left.old)) sim.old.stored) }
+    ensures outputs { IfOk result (λ o. o ≡ outputs_of sim.old.netlist (drive_inputs ifindex left.old) sim.old.stored) }
+    ensures left { OnOk result (left.new ≡ left_after (cycle_of sim.old.netlist sim.old.stored (drive_inputs ifindex left.old)) left.old) }
+    ensures stops { IfErr result (λ x. stopped_net sim.old.netlist (words_of (drive_inputs ifindex left.old)) sim.old.stored ≡ Some x.net) }
     ensures unchanged { OnErr result (sim.new ≡ sim.old) }
 {
     let inputs = inputs_with(left.first(), ifindex);

@@ -2,7 +2,7 @@
 
 ghost use Rattle.std.specs.Prelude.{◌≡◌, ◌<◌, ◌++◌, ◌∷◌, ◌==◌, ◌&&◌, [], Some, length, slice_get, IfOk, OnOk, OnErr};
 ghost use Rattle.beat_core.specs.Words.{low_bytes};
-ghost use Rattle.port_drive.specs.Answering.{reply_of, TakesBeat};
+ghost use Rattle.port_drive.specs.Answering.{TakesBeat};
 
 use beat_core::{Answer, Bytes};
 use byteorder::{ByteOrder, LittleEndian};
@@ -17,13 +17,12 @@ pub struct Answers {
 }
 
 impl Model for Answers {
-    ghost use Rattle.std.specs.Prelude.{List, map};
-    ghost use Rattle.net_core.specs.History.{Reply};
-    ghost use Rattle.port_drive.specs.Answering.{reply_of};
+    ghost use Rattle.std.specs.Prelude.{List};
+    ghost use Rattle.beat_core.specs.declared.answer.Answer.{Answer};
 
-    ghost Value = { List Reply };
+    ghost Value = { List Answer };
 
-    ghost view = { λ a. map reply_of a.items.items };
+    ghost view = { λ a. a.items.items };
 }
 
 impl Answers {
@@ -53,14 +52,14 @@ impl Answers {
     /// The answer at a place, from 0 on.
     pub fn get(&self, i: usize) -> &Answer
         requires { i < length self.now }
-        ensures { slice_get self.now i ≡ Some (reply_of result.now) }
+        ensures { slice_get self.now i ≡ Some result.now }
     {
         &self.items[i]
     }
 
     // One more answer. An `Err` changes nothing.
     fn add(&mut self, answer: Answer) -> Result<(), AllocError>
-        ensures ok { OnOk result (self.new ≡ self.old ++ reply_of answer ∷ []) }
+        ensures ok { OnOk result (self.new ≡ self.old ++ answer ∷ []) }
         ensures err { OnErr result (self.new ≡ self.old) }
     {
         self.items.push(answer)?;

@@ -1,7 +1,7 @@
 //! The full drive of a design.
 
 ghost use Rattle.std.specs.Prelude.{◌≡◌, [], length};
-ghost use Rattle.net_core.specs.History.{replies};
+ghost use Rattle.net_core.specs.History.{answers_given};
 ghost use Rattle.port_drive.specs.Reports.{full_drive, Reports, Gives, Leaves};
 
 use crate::advance::advance;
@@ -24,10 +24,10 @@ pub fn drive(
     limit: u64,
     answers: &mut Answers,
 ) -> Result<Drive, DriveError>
-    ensures plan { sim.new.plan ≡ sim.old.plan }
-    ensures reports { Reports (full_drive sim.old.plan meta.ifindex sim.old.stored frames.now limit) (length frames.now) result }
-    ensures answers { Gives result answers.old answers.new (replies [] (full_drive sim.old.plan meta.ifindex sim.old.stored frames.now limit).moments) }
-    ensures stored { Leaves result sim.old.plan sim.old.stored (full_drive sim.old.plan meta.ifindex sim.old.stored frames.now limit).moments sim.new.stored }
+    ensures netlist { sim.new.netlist ≡ sim.old.netlist }
+    ensures reports { Reports (full_drive sim.old.netlist meta.ifindex sim.old.stored frames.now limit) (length frames.now) result }
+    ensures answers { Gives result answers.old answers.new (answers_given [] (full_drive sim.old.netlist meta.ifindex sim.old.stored frames.now limit).trace) }
+    ensures stored { Leaves result sim.old.netlist sim.old.stored (full_drive sim.old.netlist meta.ifindex sim.old.stored frames.now limit).trace sim.new.stored }
 {
     let mut left = Left::new(frames);
     let mut begun = Bytes::new(alloc);

@@ -3,7 +3,7 @@
 use crate::bytes::Named;
 use crate::numbers::{front, number_32};
 use anyhow::{Result, ensure};
-use elf_view::{ElfView, sole_code};
+use elf_view::ElfView;
 use std::alloc::Global;
 use std::str;
 
@@ -22,7 +22,6 @@ pub(crate) fn answer(
         "rels" => rels(alloc, named, rest)?,
         "rel" => rel(alloc, named, rest)?,
         "name" => name(alloc, named, rest)?,
-        "sole" => sole(alloc, named, rest)?,
         _ => return Ok(None),
     };
     Ok(Some(answer))
@@ -109,15 +108,5 @@ fn name(alloc: Global, named: &Named, rest: &str) -> Result<String> {
             Ok(format!(in alloc; "{name:?}")?)
         }
         Err(error) => Ok(format!(in alloc; "{error:?}")?),
-    }
-}
-
-// The code of the object of a function with no maps, where the bytes are one.
-fn sole(alloc: Global, named: &Named, rest: &str) -> Result<String> {
-    let (function, words) = front(rest);
-    let bytes = named.bytes(words)?;
-    match sole_code(&bytes, function) {
-        Some(code) => Ok(hex::encode(alloc, code)?),
-        None => Ok(String::from_str(alloc, "none")?),
     }
 }

@@ -8,10 +8,9 @@ use beat_core::{FRAME_LIMIT, Frame, Meta};
 use bpf_isa::decode_all;
 use byteorder::{ByteOrder, LittleEndian};
 use std::alloc::Global;
+use xdp_maps::decl::MapDecl;
+use xdp_object::Program;
 use xdp_seq::{Ended, SeqError, SeqPlan, run_packet};
-
-/// The most instructions of a program here.
-const INSN_LIMIT: usize = 65536;
 
 /// The program of a case, with a hole or without, its references to maps, and the interface that frames come in by.
 #[derive(Drop)]
@@ -106,9 +105,12 @@ impl Machine {
         Ok(format!(in self.alloc; "{end},{left}{pairs}")?)
     }
 
-    // The end of a run.
+    // The end of a run, where there is a program.
     fn end(&self, tables: &mut Tables, hole: &[u8], frame: &mut Frame) -> Result<String> {
-        let mut plan = self.plan(hole)?;
+        let Some(program) = self.program(tables.maps.decls(), hole)? else {
+            return Ok(String::from_str(self.alloc, "no program")?);
+        };
+        let mut plan = SeqPlan::open(self.alloc, &program)?;
         let meta = Meta {
             ifindex: self.ifindex,
         };
@@ -121,17 +123,21 @@ impl Machine {
         }
     }
 
-    // The program, with these bytes in its hole.
-    #[tactic(auto, using(xdp_seq::proofs::Laid::unit_count_few))]
-    fn plan(&self, hole: &[u8]) -> Result<SeqPlan> {
+    // The program over these maps, with these bytes in its hole, if its parts make up one.
+    fn program(&self, decls: &[MapDecl], hole: &[u8]) -> Result<Option<Program>> {
         let mut code = Vec::from_slice(self.alloc, &self.before)?;
         code.extend_from_slice(hole)?;
         if let Some(behind) = &self.behind {
             code.extend_from_slice(behind)?;
         }
         let insns = decode_all(self.alloc, &code)?;
-        ensure!(insns.len() <= INSN_LIMIT, "a program too long");
-        Ok(SeqPlan::open(self.alloc, &insns, &self.refs)?)
+        let mut own = Vec::new(self.alloc);
+        for decl in decls {
+            own.push(decl.copied())?;
+        }
+        let name = Vec::from_slice(self.alloc, b"case")?;
+        let refs = Vec::from_slice(self.alloc, &self.refs)?;
+        Ok(Program::new(name, insns, own, refs))
     }
 }
 

@@ -51,7 +51,6 @@
 //!     rels I BYTES                    how many relocations a section has
 //!     rel I K BYTES                   relocation K of a section
 //!     name I PLACE BYTES              the string at a place of a section, or the error
-//!     sole FUNCTION BYTES             the code of the object of that function with no maps, where the bytes are just that
 //!
 //! Of objects (`xdp_object`):
 //!
@@ -70,7 +69,8 @@
 //!     copy MAP KEY VALUE              other maps of the same declarations first get this pair, become the same as these, and go on
 //!                                     in their place: the answer of that update
 //!
-//! Of the program of the case (`xdp_seq`, `xdp_state`): how it ends, the frame that it leaves, and the pairs of each map:
+//! Of the program of the case (`xdp_object`, `xdp_seq`, `xdp_state`): how it ends, or that its parts make up no program; the frame
+//! that it leaves, and the pairs of each map:
 //!
 //!     run FRAME BYTES                 over the frame of a BYTE-WORD, with these bytes in the hole
 //!     compute CODE NUMBER..           with a BYTE-WORD in the hole, over a frame of numbers of 8 bytes, shown as such

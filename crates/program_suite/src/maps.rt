@@ -30,7 +30,7 @@ impl Tables {
 
     /// Adds a map, and empties the others.
     pub(crate) fn declare(&mut self, rest: &str) -> Result<()> {
-        self.decls.push(decl_of(rest)?)?;
+        self.decls.push(decl_of(self.decls.len(), rest)?)?;
         self.maps = opened(self.alloc, &self.decls)?;
         Ok(())
     }
@@ -184,8 +184,8 @@ impl Tables {
     }
 }
 
-// A declaration.
-fn decl_of(rest: &str) -> Result<MapDecl> {
+// The declaration of a map of this number. Maps are named by letters, in the order of their numbers.
+fn decl_of(number: usize, rest: &str) -> Result<MapDecl> {
     let (kind, rest) = front(rest);
     let kind = match kind {
         "hash" => MapKind::Hash,
@@ -193,7 +193,8 @@ fn decl_of(rest: &str) -> Result<MapDecl> {
         _ => bail!("no such kind of map"),
     };
     let [key, value, cap] = numbers::<3>(rest)?;
-    let name = ShortBytes::of(b"");
+    let letter = b"abcdefghijklmnop".get(number).context("16 maps")?;
+    let name = ShortBytes::of(&[*letter]);
     let (key, value) = (u32::try_from(key)?, u32::try_from(value)?);
     let cap = u32::try_from(cap)?;
     Ok(MapDecl {
@@ -207,13 +208,7 @@ fn decl_of(rest: &str) -> Result<MapDecl> {
 
 // Maps of these declarations, which are within the limits.
 fn opened(alloc: Global, decls: &[MapDecl]) -> Result<Maps> {
-    let all = decls.iter().all(|d| {
-        let by_kind = match d.kind {
-            MapKind::Hash => d.cap <= 1024,
-            MapKind::Array => d.key == 4 && d.cap <= 65536,
-        };
-        by_kind && 0 < d.key && d.key <= 40 && 0 < d.value && d.value <= 64 && 0 < d.cap
-    });
+    let all = decls.iter().all(|d| d.is_within_limits());
     ensure!(all, "maps within the limits");
     Ok(Maps::new(alloc, decls)?)
 }

@@ -7,13 +7,16 @@ use anyhow::{Context, Result, bail, ensure};
 use elf_view::{ElfError, MapRecord, object_of};
 use std::alloc::Global;
 use std::str;
-use xdp_object::{ObjectError, Program, read_object, two_units};
+use xdp_object::{Choice, ObjectError, Program, read_object, two_units};
 
 /// The most bytes that the code of an object has here.
 const CODE_LIMIT: usize = 65536;
 
 /// The most bytes that a name in it has, and the most references.
 const LIMIT: usize = 1024;
+
+/// The most keys of a hash.
+const HASH_CAP: u32 = 256;
 
 /// What is asked of objects, if the verb is one of theirs.
 pub(crate) fn answer(
@@ -34,9 +37,12 @@ pub(crate) fn answer(
 fn program(alloc: Global, named: &Named, rest: &str) -> Result<String> {
     let (choice, words) = front(rest);
     let bytes = named.bytes(words)?;
-    let choice = match choice {
-        "-" => None,
-        name => Some(name.as_bytes()),
+    let choice = Choice {
+        program: match choice {
+            "-" => None,
+            name => Some(name),
+        },
+        hash_cap: HASH_CAP,
     };
     match read_object(alloc, &bytes, choice) {
         Ok(program) => show(alloc, &program),

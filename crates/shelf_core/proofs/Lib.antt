@@ -1,4 +1,4 @@
 pub mod Reading
 pub mod Naming
 pub mod Leaving
-pub mod Fronts
+pub mod PrefixLaws

@@ -17,6 +17,10 @@ Rose before now = min (before + 1) (2 ^ 64 - 1) ≤ now
 pub record NoneFell (old new : Counts) : Type 0 where
   pub each : (name : List ℕ) → old name ≤ new name
 
+-- no count changed
+pub record SameCounts (old new : Counts) : Type 0 where
+  pub each : (name : List ℕ) → new name ≡ old name
+
 -- every name holds what it held
 pub record SameHeld (old new : Holding) : Type 0 where
   pub each : (name : List ℕ) → new name ≡ old name

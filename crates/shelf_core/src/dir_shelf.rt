@@ -53,6 +53,8 @@ impl<'a, R: Files> Shelf for DirShelf<'a, R> {
 
     ghost write_faults = { λ s name. s };
 
+    ghost made = { λ s. 0 };
+
     fn read_at(&mut self, name: &str, at: u64, into: &mut [u8]) -> Result<usize, Failed> {
         match read_file(self.rt, name, at, into) {
             Ok(n) => Ok(n),

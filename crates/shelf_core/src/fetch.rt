@@ -1,6 +1,6 @@
 // The whole of what a name holds.
 
-ghost use Rattle.std.specs.Prelude.{◌≡◌, ◌≤◌, vec_len, Some, IfOk, IsErrOf, IsTrue};
+ghost use Rattle.std.specs.Prelude.{◌≡◌, ◌+◌, ◌≤◌, vec_len, Some, IfOk, IsErrOf, IsTrue};
 ghost use Rattle.shelf_core.specs.Shelf.{Rose, NoneFell, SameHeld, IsLonger};
 
 use crate::outside::{Failed, Shelf};
@@ -34,6 +34,9 @@ pub fn fetch_all<S: Shelf>(
     ensures within { IfOk result (λ v. vec_len v ≤ limit) }
     ensures failed { IsErrOf result FetchError.Failed → Rose (S.read_faults shelf.old name.now) (S.read_faults shelf.new name.now) }
     ensures too_long { IsErrOf result FetchError.TooLong → IsTrue (S.tells shelf.old) → IsLonger limit (S.held shelf.old name.now) }
+
+    // It ends after at most one read for each byte of the limit, and one more.
+    ensures made { S.made shelf.new ≤ S.made shelf.old + limit + 1 }
 
     // Reading changes no content.
     ensures held { SameHeld (S.held shelf.old) (S.held shelf.new) }

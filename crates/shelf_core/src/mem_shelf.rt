@@ -2,7 +2,7 @@
 
 ghost use Rattle.std.specs.Prelude.{◌≡◌, ℕ, ◌-◌, ◌≤◌, min, List, [], length, Option, Some, None, true, OnOk, OnErr, IfOk, IsOk, IsErr, IsSome};
 ghost use Rattle.std.specs.Option.{option_copied};
-ghost use Rattle.shelf_core.specs.Shelf.{Rose, NoneFell, SameHeld, ChangesOnly, Reads, appended, content_of, LeavesFront};
+ghost use Rattle.shelf_core.specs.Shelf.{Rose, NoneFell, SameCounts, SameHeld, ChangesOnly, Reads, appended, content_of, LeavesFront};
 
 use crate::calls::{Calls, part_left};
 use crate::faults::Faults;
@@ -124,8 +124,8 @@ impl MemShelf {
 }
 
 impl Shelf for MemShelf {
-    ghost use Rattle.std.specs.Prelude.{◌≡◌, true, ◌≤◌, ◌-◌, min, length, None, Some, [], OnOk, OnErr, IfOk, IsOk, IsErr, IsSome};
-    ghost use Rattle.shelf_core.specs.Shelf.{Rose, NoneFell, SameHeld, ChangesOnly, Reads, appended, content_of, LeavesFront};
+    ghost use Rattle.std.specs.Prelude.{◌≡◌, true, ◌≤◌, ◌+◌, ◌-◌, min, length, None, Some, [], OnOk, OnErr, IfOk, IsOk, IsErr, IsSome};
+    ghost use Rattle.shelf_core.specs.Shelf.{Rose, NoneFell, SameCounts, SameHeld, ChangesOnly, Reads, appended, content_of, LeavesFront};
     ghost use Rattle.shelf_core.specs.Plan.{called, next_left};
     ghost use Rattle.shelf_core.specs.File.{Stores};
     ghost use Rattle.shelf_core.specs.Memory.{held_in, read_faults_in, write_faults_in, FailsRead, FailsWrite, FailsNone, LeavesListed};
@@ -137,6 +137,8 @@ impl Shelf for MemShelf {
     ghost read_faults = { read_faults_in };
 
     ghost write_faults = { write_faults_in };
+
+    ghost made = { λ s. s.reads.made };
 
     /// Reads all that there is room for. Fails exactly where the call is listed, or the name is not there.
     fn read_at(&mut self, name: &str, at: u64, into: &mut [u8]) -> Result<usize, Failed>
@@ -150,9 +152,12 @@ impl Shelf for MemShelf {
         ensures unlisted { FailsNone self.old → IsSome (held_in self.old name.now) → IsOk result }
 
         // No content changes, and of the counts only a failed read's.
+        ensures made { self.new.reads.made ≤ self.old.reads.made + 1 }
         ensures unchanged { OnOk result (self.new.contents ≡ self.old.contents) }
         ensures failed { OnErr result (FailsRead name.now self.old self.new) }
         ensures held { SameHeld (held_in self.old) (held_in self.new) }
+        ensures reads_same { OnOk result (SameCounts (read_faults_in self.old) (read_faults_in self.new)) }
+        ensures writes_same { OnOk result (SameCounts (write_faults_in self.old) (write_faults_in self.new)) }
         ensures reads { NoneFell (read_faults_in self.old) (read_faults_in self.new) }
         ensures writes { NoneFell (write_faults_in self.old) (write_faults_in self.new) }
         ensures calls { self.new ≡ record self.old { contents = self.new.contents; reads = called self.old.reads } }
@@ -172,6 +177,8 @@ impl Shelf for MemShelf {
 
         // Of the counts only a failed write's changes.
         ensures failed { OnErr result (FailsWrite name.now self.old self.new) }
+        ensures reads_same { OnOk result (SameCounts (read_faults_in self.old) (read_faults_in self.new)) }
+        ensures writes_same { OnOk result (SameCounts (write_faults_in self.old) (write_faults_in self.new)) }
         ensures reads { NoneFell (read_faults_in self.old) (read_faults_in self.new) }
         ensures writes { NoneFell (write_faults_in self.old) (write_faults_in self.new) }
         ensures calls { self.new ≡ record self.old { contents = self.new.contents; writes = called self.old.writes } }
@@ -194,6 +201,8 @@ impl Shelf for MemShelf {
 
         // Of the counts only a failed write's changes.
         ensures failed { OnErr result (FailsWrite name.now self.old self.new) }
+        ensures reads_same { OnOk result (SameCounts (read_faults_in self.old) (read_faults_in self.new)) }
+        ensures writes_same { OnOk result (SameCounts (write_faults_in self.old) (write_faults_in self.new)) }
         ensures reads { NoneFell (read_faults_in self.old) (read_faults_in self.new) }
         ensures writes { NoneFell (write_faults_in self.old) (write_faults_in self.new) }
         ensures calls { self.new ≡ record self.old { contents = self.new.contents; writes = called self.old.writes } }

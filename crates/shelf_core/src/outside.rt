@@ -1,7 +1,7 @@
 // The traits of what lies outside: a shelf and a sink.
 
-ghost use Rattle.std.specs.Prelude.{◌≡◌, ◌⊎◌, ℕ, ◌≤◌, List, [], length, Option, Some, OnOk, OnErr, IfOk, IsTrue, Bool};
-ghost use Rattle.shelf_core.specs.Shelf.{Holding, Counts, Rose, NoneFell, SameHeld, ChangesOnly, Reads, appended, LeavesFront};
+ghost use Rattle.std.specs.Prelude.{◌≡◌, ◌⊎◌, ℕ, ◌+◌, ◌≤◌, List, [], length, Option, Some, OnOk, OnErr, IfOk, IsTrue, Bool};
+ghost use Rattle.shelf_core.specs.Shelf.{Holding, Counts, Rose, NoneFell, SameCounts, SameHeld, ChangesOnly, Reads, appended, LeavesFront};
 
 use std::alloc::AllocError;
 use thiserror::Error;
@@ -17,7 +17,8 @@ pub type NoMemory = AllocError;
 /// Contents by name, as files in a folder. A name is any text, and holds bytes or is not there.
 ///
 /// A shelf counts its failures: for each name those of reads and those of writes. A count is a
-/// `u64`; it never falls, and stays at its greatest number once it is there.
+/// `u64`; it rises at a failure and at nothing else, never falls, and stays at its greatest number
+/// once it is there.
 pub trait Shelf {
     /// Whether it tells what it holds. One that does not promises nothing of contents.
     ghost tells: { Self → Bool };
@@ -31,6 +32,9 @@ pub trait Shelf {
     /// How often writing has failed, by name.
     ghost write_faults: { Self → Counts };
 
+    /// How many reads were made, where it counts them: no read counts for more than one.
+    ghost made: { Self → ℕ };
+
     /// Reads from byte `at` on into the front of `into`, and says how many bytes it read. It may
     /// read fewer than there is room for, but none only at the end. What the rest of `into` holds
     /// afterwards is left open. A name that is not there cannot be read.
@@ -40,8 +44,13 @@ pub trait Shelf {
         ensures failed { OnErr result (Rose (read_faults self.old name.now) (read_faults self.new name.now)) }
 
         // Reading changes no content.
+        ensures made { made self.new ≤ made self.old + 1 }
         ensures held { SameHeld (held self.old) (held self.new) }
         ensures tells { tells self.new ≡ tells self.old }
+
+        // Only a failure raises a count.
+        ensures reads_same { OnOk result (SameCounts (read_faults self.old) (read_faults self.new)) }
+        ensures writes_same { OnOk result (SameCounts (write_faults self.old) (write_faults self.new)) }
         ensures reads { NoneFell (read_faults self.old) (read_faults self.new) }
         ensures writes { NoneFell (write_faults self.old) (write_faults self.new) };
 
@@ -55,6 +64,10 @@ pub trait Shelf {
         // No other name's content changes.
         ensures others { ChangesOnly name.now (held self.old) (held self.new) }
         ensures tells { tells self.new ≡ tells self.old }
+
+        // Only a failure raises a count.
+        ensures reads_same { OnOk result (SameCounts (read_faults self.old) (read_faults self.new)) }
+        ensures writes_same { OnOk result (SameCounts (write_faults self.old) (write_faults self.new)) }
         ensures reads { NoneFell (read_faults self.old) (read_faults self.new) }
         ensures writes { NoneFell (write_faults self.old) (write_faults self.new) };
 
@@ -69,6 +82,10 @@ pub trait Shelf {
         // No other name's content changes.
         ensures others { ChangesOnly name.now (held self.old) (held self.new) }
         ensures tells { tells self.new ≡ tells self.old }
+
+        // Only a failure raises a count.
+        ensures reads_same { OnOk result (SameCounts (read_faults self.old) (read_faults self.new)) }
+        ensures writes_same { OnOk result (SameCounts (write_faults self.old) (write_faults self.new)) }
         ensures reads { NoneFell (read_faults self.old) (read_faults self.new) }
         ensures writes { NoneFell (write_faults self.old) (write_faults self.new) };
 }
@@ -92,5 +109,6 @@ pub trait Sink {
         ensures kept { OnErr result (IsTrue (tells self.old) → LeavesFront (taken self.old) bytes.now (taken self.new)) }
         ensures failed { OnErr result (Rose (faults self.old) (faults self.new)) }
         ensures tells { tells self.new ≡ tells self.old }
+        ensures same { OnOk result (faults self.new ≡ faults self.old) }
         ensures count { faults self.old ≤ faults self.new };
 }

@@ -1,8 +1,8 @@
 //! Designs that texts spell.
 
 ghost use Rattle.std.specs.Prelude.{IfOk};
-ghost use Rattle.net_core.specs.View.{plan_of};
-ghost use Rattle.spelling_core.specs.Formed.{IsWellFormed};
+ghost use Rattle.net_core.specs.View.{netlist_of};
+ghost use Rattle.verilog_grammar.specs.Formed.{IsWellFormed};
 
 use anyhow::{Context, Result};
 use net_core::design::Design;
@@ -13,7 +13,7 @@ use verilog_write::write_text;
 
 /// The design that a text spells.
 pub(crate) fn design_of(alloc: Global, text: &[u8]) -> Result<Design>
-    ensures { IfOk result (λ d. IsWellFormed (plan_of d)) }
+    ensures { IfOk result (λ d. IsWellFormed (netlist_of d)) }
 {
     Ok(read_text(alloc, text)?)
 }

@@ -18,12 +18,11 @@
 //!     keep NAME           keeps it by this name
 //!     replace OLD => NEW  puts NEW in place of the first OLD in it
 //!
-//! Tokens and words:
+//! Tokens and names:
 //!
 //!     tokens TEXT         each token of a text: the places where it begins and ends, and its kind
 //!     spell TEXT          a text whose tokens and separators are written one by one, each by its own call
 //!     name WORD           whether this is a name, of Verilog and of the subset
-//!     value FORM          what `A + B` (or another operator), `~A`, `|A`, `A[7:4]` or `{A, B}` is, at constants A and B
 //!
 //! What is said of a text, `design` or its first error:
 //!
@@ -78,7 +77,6 @@ mod faults;
 mod suite;
 mod tokens;
 mod trees;
-mod words;
 
 use crate::suite::Suite;
 use anyhow::{Context, Result};

@@ -7,11 +7,10 @@ use crate::edits::show_fault;
 use crate::escapes::{escaped, unescaped};
 use crate::faults::show_part;
 use crate::tokens::{show_tokens, written_anew};
-use crate::words::show_value;
 use anyhow::{Context, Result, bail};
 use indexmap::IndexMap;
-use spelling_core::formed;
 use std::alloc::Global;
+use verilog_grammar::formed;
 
 /// The text under way, texts that are kept by their names, and the design that runs.
 #[derive(Drop)]
@@ -57,7 +56,6 @@ impl Suite {
             "tokens" => show_tokens(rt, self.alloc, &unescaped(self.alloc, rest)?),
             "spell" => self.spell(rt, rest),
             "name" => show_name(rt, rest),
-            "value" => show_value(rt, self.alloc, rest),
             "whole" => self.whole(rt, rest),
             "items" => self.items(rt, rest, self.kept("behind")?),
             "front" => self.items(rt, rest, ""),

@@ -8,8 +8,8 @@ use crate::escapes::{escaped, marked};
 use anyhow::{Context, Result, bail, ensure};
 use std::alloc::Global;
 use verilog_lex::{
-    LexError, Piece, TokenKind, first_piece, is_name, push_comment, push_keyword, push_line,
-    push_name, push_number, push_sized, push_space, push_symbol, tokens,
+    LexError, LexicalElement, TokenKind, first_element, is_name, push_comment, push_keyword,
+    push_line, push_name, push_number, push_sized, push_space, push_symbol, tokens,
 };
 
 /// Prints the tokens of a text, or where none begins.
@@ -102,13 +102,13 @@ pub(crate) fn written_anew(alloc: Global, text: &[u8]) -> Result<Vec<u8>> {
     let mut written = Vec::new(alloc);
     let mut rest = text;
     for _ in 0..text.len() {
-        match first_piece(rest) {
-            Piece::Nothing => break,
-            Piece::Separator(len) => {
+        match first_element(rest) {
+            LexicalElement::Nothing => break,
+            LexicalElement::Separator(len) => {
                 let (front, behind) = rest.split_at_checked(len).context("no separator")?;
                 rest = push_separator(&mut written, front, behind)?;
             }
-            Piece::Token(kind, len) => {
+            LexicalElement::Token(kind, len) => {
                 let (front, behind) = rest.split_at_checked(len).context("no token")?;
                 push_token(&mut written, kind, front)?;
                 rest = behind;

@@ -1,8 +1,8 @@
 //! Expressions and statements from words in postfix order.
 
 use anyhow::{Context, Result, bail};
-use net_core::build::{before, block, cell, constant, then, two, when, when_else};
-use net_core::tree::{Expr, Net, Op, Parts, Prefix, Stmt, Stmts};
+use net_core::build::{binary, block, constant, memory_word, then, unary, when, when_else};
+use net_core::tree::{Expr, Net, Op, Parts, Stmt, Stmts, UnaryOp};
 use std::alloc::Global;
 
 /// The net of a word: `p`, `r`, `m` or `w` for a port, a register, a memory or a wire, and its number.
@@ -90,7 +90,7 @@ impl Made {
         let net = net_of(net)?;
         let bits = match bits.split_once(':') {
             None => Expr::Bit(net, bits.parse()?),
-            Some((high, low)) => Expr::Bits(net, high.parse()?, low.parse()?),
+            Some((high, low)) => Expr::PartSelect(net, high.parse()?, low.parse()?),
         };
         self.expressions.push(bits)?;
         Ok(())
@@ -99,14 +99,14 @@ impl Made {
     // The word of a memory at the last expression.
     fn cell(&mut self, rest: &str) -> Result<()> {
         let index = self.expression()?;
-        let cell = cell(self.alloc, net_of(rest)?, index)?;
+        let cell = memory_word(self.alloc, net_of(rest)?, index)?;
         self.expressions.push(cell)?;
         Ok(())
     }
 
     fn not(&mut self) -> Result<()> {
         let value = self.expression()?;
-        let value = before(self.alloc, Prefix::Not, value)?;
+        let value = unary(self.alloc, UnaryOp::Not, value)?;
         self.expressions.push(value)?;
         Ok(())
     }
@@ -114,7 +114,7 @@ impl Made {
     fn add(&mut self) -> Result<()> {
         let second = self.expression()?;
         let first = self.expression()?;
-        let sum = two(self.alloc, Op::Add, first, second)?;
+        let sum = binary(self.alloc, Op::Add, first, second)?;
         self.expressions.push(sum)?;
         Ok(())
     }
@@ -124,7 +124,7 @@ impl Made {
         let first = self.expression()?;
         let last = Box::new(self.alloc, Parts::Last(second))?;
         let parts = Box::new(self.alloc, Parts::More(first, last))?;
-        self.expressions.push(Expr::Join(parts))?;
+        self.expressions.push(Expr::Concatenation(parts))?;
         Ok(())
     }
 

@@ -53,8 +53,8 @@ find_passes {X} test (y ∷ xs) x =
     either P (test y) (Some y) (find test xs) (λ t e. let same : y ≡ x = cc in rw (← same) t) (λ _ e. find_passes test xs x e)
 
 -- at least one digit is in front where the first byte is one
-pub front_of : (p : ℕ → Bool) (c : ℕ) (rest : List ℕ) → p c ≡ true → 0 < prefix_len p (c ∷ rest)
-front_of p c rest e = rw e (omega arith)
+pub prefix_of : (p : ℕ → Bool) (c : ℕ) (rest : List ℕ) → p c ≡ true → 0 < prefix_len p (c ∷ rest)
+prefix_of p c rest e = rw e (omega arith)
 
 -- the first byte of a text does not pass a test
 abbrev pub stops : (ℕ → Bool) → List ℕ → Bool

@@ -1,8 +1,8 @@
 pub mod Choices
-pub mod Pieces
-pub mod Leading
-pub mod Lexing
-pub mod Fronts
-pub mod Writing
+pub mod Elements
+pub mod LeadsLemmas
+pub mod LexemeLemmas
+pub mod Prefixes
+pub mod SpellingLaws
 pub mod Longest
-pub mod Names
+pub mod NameLaws

@@ -1,4 +1,4 @@
--- A piece is the longest front of a text that has a form.
+-- A lexical element is the longest prefix of a text that has a form.
 use Rattle.std.proofs.Common.{◌≡◌, ℕ, suc, ◌+◌, ◌-◌, ◌<◌, ◌≤◌, ◌==◌, ◌&&◌, Bool, true, false, List, [], ◌∷◌, ◌++◌, length, take, drop, Option, Some, None, refl, sym, ap, subst, ◌∙◌, arith, nat_le, nat_eq, append_assoc, length-append, if◌then◌else◌}
 use Rattle.std.proofs.Math.Seq.{drop-append_seam, take-append_seam, take-append-add}
 use Rattle.std.proofs.lemmas.List.{take-append-drop, length-take-le}
@@ -11,18 +11,18 @@ use Rattle.std.specs.List.{prefix_len, list_all, find, starts_with}
 use Rattle.verilog_lex.specs.Bytes.{is_space, is_comment_byte, is_digit, begins_word, is_word_byte, begins_with, is_digit_of}
 use Rattle.verilog_lex.specs.Words.{symbol_text, symbols as all_symbols}
 use Rattle.verilog_lex.specs.Number.{has_leading_zero, radix_of, some_digits, digits_after, constant_in}
-use Rattle.verilog_lex.specs.Piece.{piece_in, number_in, number_piece, sized_or_plain, symbol_at, symbol_or_nothing}
-use Rattle.verilog_lex.specs.Forms.{IsRun, IsForm, IsLongest, IsRefused, IsLongestPiece}
+use Rattle.verilog_lex.specs.Element.{element_in, number_in, number_element, sized_or_plain, symbol_at, symbol_or_nothing}
+use Rattle.verilog_lex.specs.Forms.{IsRun, IsForm, IsLongest, IsRefused, IsLongestElement}
 use Rattle.verilog_lex.specs.Forms.IsRefused.{above, zero_first}
 use Rattle.verilog_lex.specs.Forms.IsForm.{space, comment, word, number, constant, symbol}
 use Rattle.verilog_lex.specs.declared.token.Symbol.{Symbol}
 use Rattle.verilog_lex.specs.declared.token.Symbol.TheVariants as symbols
-use Rattle.verilog_lex.specs.declared.piece.Piece.{Piece}
-use Rattle.verilog_lex.specs.declared.piece.Piece.TheVariants.{Nothing}
-use Rattle.verilog_lex.proofs.Pieces.{symbol_positive, comment_within, constant_within, longer}
-use Rattle.verilog_lex.proofs.Choices.{either, if_true, if_false, both, first_true, second_true, first_false, or_second, find_passes, front_of, prefix_len-whole, word_no_space, word_no_slash, word_no_digit, digit_no_space, digit_no_slash}
+use Rattle.verilog_lex.specs.declared.element.LexicalElement.{LexicalElement}
+use Rattle.verilog_lex.specs.declared.element.LexicalElement.TheVariants.{Nothing}
+use Rattle.verilog_lex.proofs.Elements.{symbol_positive, comment_within, constant_within, longer}
+use Rattle.verilog_lex.proofs.Choices.{either, if_true, if_false, both, first_true, second_true, first_false, or_second, find_passes, prefix_of, prefix_len-whole, word_no_space, word_no_slash, word_no_digit, digit_no_space, digit_no_slash}
 
--- how many bytes the longest front with a form has, whether or not it is refused
+-- how many bytes the longest prefix with a form has, whether or not it is refused
 abbrev tail_reach : Option (ℕ × ℕ) → ℕ
 tail_reach None = 0
 tail_reach (Some c) = 2 + c.1
@@ -130,18 +130,18 @@ within_reach bytes rest (constant size base radix ds r e s) =
     omega (arith, here, same, length-append size (39 ∷ base ∷ ds))
 within_reach bytes rest (symbol s) = symbol_within_reach s rest
 
-front_reach : (text : List ℕ) (n : ℕ) → n ≤ length text → IsForm (take n text) → n ≤ reach text
-front_reach text n h f =
+prefix_reach : (text : List ℕ) (n : ℕ) → n ≤ length text → IsForm (take n text) → n ≤ reach text
+prefix_reach text n h f =
     let bound : length (take n text) ≤ reach (take n text ++ drop n text) = within_reach (take n text) (drop n text) f in
     let whole : reach (take n text ++ drop n text) ≡ reach text = ap reach (take-append-drop n text) in
     omega (arith, bound, whole, length-take-le n text h)
 
--- a front with a form that is as long as the reach is the longest
+-- a prefix with a form that is as long as the reach is the longest
 longest_at : (text : List ℕ) (n : ℕ) → reach text ≡ n → n ≤ length text → IsForm (take n text) → IsLongest text n
 longest_at text n e within form = record {
   within = within;
   form = form;
-  no_more = λ m h f. omega (arith, front_reach text m h f, e);
+  no_more = λ m h f. omega (arith, prefix_reach text m h f, e);
 }
 
 -- a run is one
@@ -156,7 +156,7 @@ run_all p (c ∷ text) =
 run_of : (p : ℕ → Bool) (c : ℕ) (rest : List ℕ) → p c ≡ true → IsRun p (take (prefix_len p (c ∷ rest)) (c ∷ rest))
 run_of p c rest e =
     let count : length (take (prefix_len p (c ∷ rest)) (c ∷ rest)) ≡ prefix_len p (c ∷ rest) = length-prefix_len p (c ∷ rest) in
-    let some = front_of p c rest e in
+    let some = prefix_of p c rest e in
     record { some = omega (arith, count, some); all = run_all p (c ∷ rest) }
 
 form_some : (bytes : List ℕ) → IsForm bytes → 0 < length bytes
@@ -170,7 +170,7 @@ form_some bytes (symbol s) = symbol_positive s
 -- where nothing is in reach there is no longest form
 none_longest : (text : List ℕ) (n : ℕ) → reach text ≡ 0 → IsLongest text n → IsRefused (take n text)
 none_longest text n e l =
-    let none : n ≡ 0 = omega (arith, front_reach text n l.within l.form, e) in
+    let none : n ≡ 0 = omega (arith, prefix_reach text n l.within l.form, e) in
     absurd (omega (arith, form_some (take n text) l.form, ap (λ m. length (take m text)) none))
 
 eq_true : (m n : ℕ) → (m == n) ≡ true → m ≡ n
@@ -250,14 +250,14 @@ above_refused : (size after : List ℕ) (n : ℕ) → IsRun is_digit size → 65
 above_refused size after n run h e =
     subst IsRefused (sym (ap (λ m. take m (size ++ after)) e ∙ take-append_seam size after)) (above size run h)
 
-sized_longest : (size after : List ℕ) (o : Option (ℕ × ℕ)) → IsRun is_digit size → reach (size ++ after) ≡ length size + tail_reach o → constant_in after ≡ o → IsLongestPiece (size ++ after) (sized_or_plain size after o)
+sized_longest : (size after : List ℕ) (o : Option (ℕ × ℕ)) → IsRun is_digit size → reach (size ++ after) ≡ length size + tail_reach o → constant_in after ≡ o → IsLongestElement (size ++ after) (sized_or_plain size after o)
 sized_longest size after None run e f =
-    let P : Piece → Type 0 = λ p. IsLongestPiece (size ++ after) p in
+    let P : LexicalElement → Type 0 = λ p. IsLongestElement (size ++ after) p in
     let whole : reach (size ++ after) ≡ length size = omega (arith, e) in
     either P (nat_le (digits_value 10 size) 65536) _ _
     (λ _. longest_at (size ++ after) (length size) whole (omega (arith, length-append size after)) (size_form size after run))
     (λ b n l.
-    let most : n ≤ length size = omega (arith, front_reach (size ++ after) n l.within l.form, whole) in
+    let most : n ≤ length size = omega (arith, prefix_reach (size ++ after) n l.within l.form, whole) in
     let same : n ≡ length size = omega (arith, most, size_first size after n run l) in
     above_refused size after n run (grind (arith, nat_tests)) same)
 sized_longest size after (Some c) run e f =
@@ -268,33 +268,33 @@ sized_longest size after (Some c) run e f =
     longest_at (size ++ after) (length size + 2 + c.1) whole (omega (arith, within, length-append size after))
     (subst P sum (subst IsForm (sym (take-append-add size after (2 + c.1))) (constant_form size after c run f)))
 
-number_parts : (size after : List ℕ) → IsRun is_digit size → reach (size ++ after) ≡ length size + tail_reach (constant_in after) → IsLongestPiece (size ++ after) (number_piece size after)
+number_parts : (size after : List ℕ) → IsRun is_digit size → reach (size ++ after) ≡ length size + tail_reach (constant_in after) → IsLongestElement (size ++ after) (number_element size after)
 number_parts size after run e =
-    let P : Piece → Type 0 = λ p. IsLongestPiece (size ++ after) p in
+    let P : LexicalElement → Type 0 = λ p. IsLongestElement (size ++ after) p in
     either P (has_leading_zero size) Nothing (sized_or_plain size after (constant_in after))
     (λ z n l. zero_refused size after n run z (size_first size after n run l)) (λ _. sized_longest size after (constant_in after) run e refl)
 
-number_longest : (c : ℕ) (rest : List ℕ) → is_digit c ≡ true → IsLongestPiece (c ∷ rest) (number_in (c ∷ rest))
+number_longest : (c : ℕ) (rest : List ℕ) → is_digit c ≡ true → IsLongestElement (c ∷ rest) (number_in (c ∷ rest))
 number_longest c rest e =
     let text : List ℕ = c ∷ rest in
     let n = prefix_len is_digit text in
     let count : n ≡ length (take n text) = sym (length-prefix_len is_digit text) in
-    let P : List ℕ → Type 0 = λ t. IsLongestPiece t (number_piece (take n text) (drop n text)) in
+    let P : List ℕ → Type 0 = λ t. IsLongestElement t (number_element (take n text) (drop n text)) in
     let far : reach (take n text ++ drop n text) ≡ length (take n text) + tail_reach (constant_in (drop n text)) =
     ap reach (take-append-drop n text) ∙ reach-digit c rest e ∙ ap (λ m. m + tail_reach (constant_in (drop n text))) count in
     subst P (take-append-drop n text) (number_parts (take n text) (drop n text) (run_of is_digit c rest e) far)
 
-symbol_longest : (text : List ℕ) (o : Option Symbol) → reach text ≡ symbol_reach o → symbol_at text ≡ o → IsLongestPiece text (symbol_or_nothing o)
+symbol_longest : (text : List ℕ) (o : Option Symbol) → reach text ≡ symbol_reach o → symbol_at text ≡ o → IsLongestElement text (symbol_or_nothing o)
 symbol_longest text None e f = λ n l. none_longest text n e l
 symbol_longest text (Some s) e f =
     let starts = find_passes (λ s. starts_with nat_eq text (symbol_text s)) all_symbols s f in
     longest_at text (length (symbol_text s)) e (longer text (symbol_text s) starts)
     (subst IsForm (same_text (symbol_text s) (take (length (symbol_text s)) text) (sym starts)) (symbol s))
 
-pub piece_longest : (text : List ℕ) → IsLongestPiece text (piece_in text)
-piece_longest [] = λ n l. none_longest [] n refl l
-piece_longest (c ∷ rest) =
-    let P : Piece → Type 0 = λ p. IsLongestPiece (c ∷ rest) p in
+pub element_longest : (text : List ℕ) → IsLongestElement text (element_in text)
+element_longest [] = λ n l. none_longest [] n refl l
+element_longest (c ∷ rest) =
+    let P : LexicalElement → Type 0 = λ p. IsLongestElement (c ∷ rest) p in
     either P (is_space c) _ _ (λ e. longest_at (c ∷ rest) 1 (if_true {A = ℕ} (is_space c) _ _ e) (omega arith) (space c e)) (λ a.
     either P ((c == 47) && begins_with 47 rest) _ _ (λ e. comment_longest c rest a e) (λ b.
     either P (is_digit c) _ _ (λ d. number_longest c rest d) (λ d.

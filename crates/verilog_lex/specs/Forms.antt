@@ -1,12 +1,12 @@
--- The forms of separators and tokens, each by itself, and what the longest front of a text with such a form is.
+-- The forms of separators and tokens, each by itself, and what the longest prefix of a text with such a form is.
 use Rattle.std.specs.Prelude.{◌≡◌, ℕ, Bool, true, ◌<◌, ◌≤◌, List, [], ◌∷◌, ◌++◌, length, take, Some}
 use Rattle.std.specs.List.{list_all}
 use Rattle.std.specs.Str.Parse.{digits_value}
 use Rattle.verilog_lex.specs.Bytes.{is_space, is_comment_byte, is_digit, is_digit_of, begins_word, is_word_byte}
 use Rattle.verilog_lex.specs.Words.{symbol_text}
 use Rattle.verilog_lex.specs.Number.{radix_of, has_leading_zero}
-use Rattle.verilog_lex.specs.declared.piece.Piece.{Piece}
-use Rattle.verilog_lex.specs.declared.piece.Piece.TheVariants.{Separator, Token, Nothing}
+use Rattle.verilog_lex.specs.declared.element.LexicalElement.{LexicalElement}
+use Rattle.verilog_lex.specs.declared.element.LexicalElement.TheVariants.{Separator, Token, Nothing}
 use Rattle.verilog_lex.specs.declared.token.Symbol.{Symbol}
 
 -- a run of bytes of a kind, one at least
@@ -34,8 +34,8 @@ pub data IsRefused : List ℕ → Type 0 where
   above : (digits : List ℕ) → IsRun is_digit digits → 65536 < digits_value 10 digits → IsRefused digits
   zero_first : (digits rest : List ℕ) → IsRun is_digit digits → has_leading_zero digits ≡ true → IsRefused (digits ++ rest)
 
--- A piece is the longest front that has a form. There is no piece where no front has a form, or the longest is refused.
-abbrev pub IsLongestPiece : List ℕ → Piece → Type 0
-IsLongestPiece text (Separator n) = IsLongest text n
-IsLongestPiece text (Token k n) = IsLongest text n
-IsLongestPiece text Nothing = (n : ℕ) → IsLongest text n → IsRefused (take n text)
+-- A lexical element is the longest prefix that has a form. There is none where no prefix has a form, or the longest is refused.
+abbrev pub IsLongestElement : List ℕ → LexicalElement → Type 0
+IsLongestElement text (Separator n) = IsLongest text n
+IsLongestElement text (Token k n) = IsLongest text n
+IsLongestElement text Nothing = (n : ℕ) → IsLongest text n → IsRefused (take n text)

@@ -2,8 +2,8 @@
 use Rattle.std.specs.Prelude.{◌≡◌, ℕ, List, [], ◌∷◌, take, drop, slice_range, map, Result, Ok, Err}
 use Rattle.std.specs.declared.vec.Vec.{Vec}
 use Rattle.std.specs.declared.alloc.Global.{Global}
-use Rattle.verilog_lex.specs.Piece.{piece_in}
-use Rattle.verilog_lex.specs.declared.piece.Piece.TheVariants as piece
+use Rattle.verilog_lex.specs.Element.{element_in}
+use Rattle.verilog_lex.specs.declared.element.LexicalElement.TheVariants as element
 use Rattle.verilog_lex.specs.declared.token.Keyword.{Keyword}
 use Rattle.verilog_lex.specs.declared.token.Symbol.{Symbol}
 use Rattle.verilog_lex.specs.declared.token.TokenKind.{TokenKind}
@@ -40,8 +40,8 @@ lexemes_of text ts = map (lexeme_of text) ts
 -- A text is these lexemes, with separators between and around them, each the longest that begins at its place.
 pub data Lexes : List ℕ → List Lexeme → Type 0 where
   done : Lexes [] []
-  separator : (text : List ℕ) (n : ℕ) (ls : List Lexeme) → piece_in text ≡ piece.Separator n → Lexes (drop n text) ls → Lexes text ls
-  next : (text : List ℕ) (n : ℕ) (k : TokenKind) (ls : List Lexeme) → piece_in text ≡ piece.Token k n → Lexes (drop n text) ls → Lexes text (lexeme k (take n text) ∷ ls)
+  separator : (text : List ℕ) (n : ℕ) (ls : List Lexeme) → element_in text ≡ element.Separator n → Lexes (drop n text) ls → Lexes text ls
+  next : (text : List ℕ) (n : ℕ) (k : TokenKind) (ls : List Lexeme) → element_in text ≡ element.Token k n → Lexes (drop n text) ls → Lexes text (lexeme k (take n text) ∷ ls)
 
 -- the lexemes of a text are read, unless memory runs out
 abbrev pub ReadsAs : List ℕ → Result (Vec Token Global) LexError → List Lexeme → Type 0

@@ -1,7 +1,7 @@
 pub mod Bytes
 pub mod Words
 pub mod Number
-pub mod Piece
+pub mod Element
 pub mod Tokens
 pub mod Lexeme
 pub mod Spelling

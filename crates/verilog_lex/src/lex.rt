@@ -5,7 +5,7 @@ ghost use Rattle.verilog_lex.specs.declared.token.Token.{Token};
 ghost use Rattle.verilog_lex.specs.Lexeme.{Lexeme, Lexes, ReadsAs, lexemes_of};
 ghost use Rattle.verilog_lex.specs.Tokens.{AreSpans, Gives, IsStuck, Leads, tokens_in};
 
-use crate::piece::{Piece, first_piece};
+use crate::element::{LexicalElement, first_element};
 use crate::token::{LexError, Token};
 use std::alloc::Global;
 
@@ -27,9 +27,9 @@ pub fn tokens(alloc: Global, text: &[u8]) -> Result<Vec<Token>, LexError>
     let mut all = Vec::new(alloc);
     let mut at = 0;
     while at < text.len() {
-        match first_piece(&text[at..]) {
-            Piece::Separator(len) => at += len,
-            Piece::Token(kind, len) => {
+        match first_element(&text[at..]) {
+            LexicalElement::Separator(len) => at += len,
+            LexicalElement::Token(kind, len) => {
                 let token = Token {
                     kind,
                     start: at,
@@ -40,7 +40,7 @@ pub fn tokens(alloc: Global, text: &[u8]) -> Result<Vec<Token>, LexError>
                 }
                 at += len;
             }
-            Piece::Nothing => return Err(LexError::At { at }),
+            LexicalElement::Nothing => return Err(LexError::At { at }),
         }
     }
     Ok(all)

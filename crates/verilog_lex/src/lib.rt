@@ -9,14 +9,14 @@
 //! separator or token that begins at a place is taken, and a run of digits is taken whole.
 #![tactic(auto)]
 
+mod element;
 mod lex;
 mod number;
-mod piece;
 mod token;
 mod write;
 
+pub use crate::element::{LexicalElement, first_element};
 pub use crate::lex::tokens;
-pub use crate::piece::{Piece, first_piece};
 pub use crate::token::{Keyword, LexError, Symbol, Token, TokenKind};
 pub use crate::write::{
     is_name, push_comment, push_keyword, push_line, push_name, push_number, push_sized, push_space,

@@ -211,7 +211,7 @@ impl Symbol {
         }
     }
 
-    /// The symbol, with a space after it where it may be the front of another token or of a comment.
+    /// The symbol, with a space after it where it may be a prefix of another token or of a comment.
     pub(crate) fn spelling(self) -> &'static [u8]
         ensures { result.now ≡ symbol_spelling self }
     {

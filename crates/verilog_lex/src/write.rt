@@ -13,7 +13,7 @@ ghost use Rattle.verilog_lex.specs.Number.{fits_size};
 ghost use Rattle.verilog_lex.specs.Spelling.{IsClosed, IsName, IsOpen, is_word, sized_text, symbol_spelling};
 ghost use Rattle.verilog_lex.specs.Words.{keyword_text};
 
-use crate::piece::{is_first_of_word, is_of_word, keyword};
+use crate::element::{is_first_of_word, is_of_word, keyword};
 use crate::token::{Keyword, Symbol};
 use itoa::Buffer;
 use std::alloc::AllocError;
@@ -88,7 +88,7 @@ pub fn push_sized(text: &mut Vec<u8>, width: u8, value: u64) -> Result<(), Alloc
 }
 
 /// Adds a symbol to a text, open or closed, and a space after `=`, `<`, `>` and `/`, which could be
-/// the front of another token.
+/// a prefix of another token.
 pub fn push_symbol(text: &mut Vec<u8>, symbol: Symbol) -> Result<(), AllocError>
     ensures bytes { OnOk result (text.new.items ≡ text.old.items ++ symbol_spelling symbol) }
     ensures read { OnOk result ((ls : List Lexeme) → IsOpen text.old.items ls → IsClosed text.new.items (ls ++ LSymbol symbol ∷ [])) }
@@ -146,7 +146,7 @@ fn push_parts(
 // Adds three parts, or some of them.
 fn extend(text: &mut Vec<u8>, first: &[u8], second: &[u8], third: &[u8]) -> Result<(), AllocError>
     ensures bytes { OnOk result (text.new.items ≡ text.old.items ++ (first.now ++ (second.now ++ third.now))) }
-    ensures front { take (vec_len text.old) text.new.items ≡ text.old.items }
+    ensures prefix { take (vec_len text.old) text.new.items ≡ text.old.items }
 {
     text.extend_from_slice(first)?;
     text.extend_from_slice(second)?;

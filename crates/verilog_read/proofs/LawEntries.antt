@@ -7,11 +7,11 @@ use Rattle.net_core.specs.declared.tree.Net.TheVariants as net
 use Rattle.net_core.specs.declared.design.Port.{Port}
 use Rattle.net_core.specs.declared.design.Declared.{Declared}
 use Rattle.net_core.specs.declared.design.Declared.TheVariants as declared
-use Rattle.net_core.specs.Nets.{Plan}
+use Rattle.net_core.specs.Nets.{Netlist}
 use Rattle.net_core.specs.Names.{is_integer, is_register, is_memory, place_of, name_place}
 use Rattle.net_core.specs.Width.{wire_widths, register_widths, memory_widths}
-use Rattle.phrase_read.specs.declared.entry.Entry.{Entry}
-use Rattle.phrase_read.specs.declared.entry.Entry.TheVariants as entry
+use Rattle.verilog_expression.specs.declared.entry.Entry.{Entry}
+use Rattle.verilog_expression.specs.declared.entry.Entry.TheVariants as entry
 use Rattle.verilog_read.specs.Entries.{port_entry, behind_ports, entry_of}
 use Rattle.verilog_read.proofs.LawPlaces.{count_yes, count_no, place_at, register_bits, memory_bits, bits_of, index_bits}
 
@@ -26,9 +26,9 @@ same_entry : (x : Declared) (n r m n' r' m' : ℕ) → n ≡ n' → r ≡ r' →
 same_entry x n r m n' r' m' p q u = ap (λ k. entry_for x k r m) p ∙ ap (λ k. entry_for x n' k m) q ∙ ap (λ k. entry_for x n' r' k) u
 
 -- behind others
-entry_moved : (x : Declared) (front front' : List Declared) (n r m n' r' m' : ℕ) → n' + count_by is_integer front ≡ n + count_by is_integer front' → r' + count_by is_register front ≡ r + count_by is_register front' → m' + count_by is_memory front ≡ m + count_by is_memory front'
-    → entry_for x (n' + count_by is_integer front) (r' + count_by is_register front) (m' + count_by is_memory front) ≡ entry_for x (n + count_by is_integer front') (r + count_by is_register front') (m + count_by is_memory front')
-entry_moved x front front' n r m n' r' m' p q u = same_entry x (n' + count_by is_integer front) (r' + count_by is_register front) (m' + count_by is_memory front) (n + count_by is_integer front') (r + count_by is_register front') (m + count_by is_memory front') p q u
+entry_moved : (x : Declared) (prefix prefix' : List Declared) (n r m n' r' m' : ℕ) → n' + count_by is_integer prefix ≡ n + count_by is_integer prefix' → r' + count_by is_register prefix ≡ r + count_by is_register prefix' → m' + count_by is_memory prefix ≡ m + count_by is_memory prefix'
+    → entry_for x (n' + count_by is_integer prefix) (r' + count_by is_register prefix) (m' + count_by is_memory prefix) ≡ entry_for x (n + count_by is_integer prefix') (r + count_by is_register prefix') (m + count_by is_memory prefix')
+entry_moved x prefix prefix' n r m n' r' m' p q u = same_entry x (n' + count_by is_integer prefix) (r' + count_by is_register prefix) (m' + count_by is_memory prefix) (n + count_by is_integer prefix') (r + count_by is_register prefix') (m + count_by is_memory prefix') p q u
 
 -- the same at a place, where so many of each stand before all these
 abbrev pub entry_among : List Declared → ℕ → ℕ → ℕ → ℕ → Entry
@@ -63,20 +63,20 @@ entry_zero x n r m = same_entry x (0 + n) (0 + r) (0 + m) n r m (omega arith) (o
 abbrev pub entry_numbered : List Declared → ℕ → Entry
 entry_numbered xs i = entry_for (get_or xs i declared.Integer) (count_by is_integer (take i xs)) (count_by is_register (take i xs)) (count_by is_memory (take i xs))
 
-pub entry_port : (d : Plan) (k : ℕ) (none : Port) → k < length d.ports → entry_of d k ≡ port_entry k (get_or d.ports k none)
+pub entry_port : (d : Netlist) (k : ℕ) (none : Port) → k < length d.ports → entry_of d k ≡ port_entry k (get_or d.ports k none)
 entry_port d k none l =
     cond-true (nat_lt k (length d.ports)) _ _ (lt-ltb k (length d.ports) l)
     ∙ ap (port_entry k) (get_or_default d.ports k (record { output = false; width = 0 }) none l)
 
-past_ports : (d : Plan) (k : ℕ) → entry_of d (length d.ports + k) ≡ behind_ports (wire_widths d.wires) d.declared k 0 0 0
+past_ports : (d : Netlist) (k : ℕ) → entry_of d (length d.ports + k) ≡ behind_ports (wire_widths d.wires) d.declared k 0 0 0
 past_ports d k =
     cond-false (nat_lt (length d.ports + k) (length d.ports)) _ _ (le-ltb (length d.ports + k) (length d.ports) (omega arith))
     ∙ (let e : length d.ports + k - length d.ports ≡ k = omega arith in ap (λ j. behind_ports (wire_widths d.wires) d.declared j 0 0 0) e)
 
-pub entry_declared : (d : Plan) (i : ℕ) → i < length d.declared → entry_of d (length d.ports + i) ≡ entry_numbered d.declared i
+pub entry_declared : (d : Netlist) (i : ℕ) → i < length d.declared → entry_of d (length d.ports + i) ≡ entry_numbered d.declared i
 entry_declared d i l = past_ports d i ∙ behind_item (wire_widths d.wires) d.declared i 0 0 0 l ∙ entry_zero (get_or d.declared i declared.Integer) (count_by is_integer (take i d.declared)) (count_by is_register (take i d.declared)) (count_by is_memory (take i d.declared))
 
-pub entry_wire : (d : Plan) (k : ℕ) → entry_of d (length d.ports + length d.declared + k) ≡ entry.Value (net.Wire k) (get_or (wire_widths d.wires) k 0)
+pub entry_wire : (d : Netlist) (k : ℕ) → entry_of d (length d.ports + length d.declared + k) ≡ entry.Value (net.Wire k) (get_or (wire_widths d.wires) k 0)
 entry_wire d k = let e : length d.ports + length d.declared + k ≡ length d.ports + (length d.declared + k) = omega arith in
     ap (entry_of d) e ∙ past_ports d (length d.declared + k) ∙ behind_wire (wire_widths d.wires) d.declared k 0 0 0
 
@@ -96,7 +96,7 @@ for_integer declared.Integer n r m h = refl
 for_integer (declared.Register w) n r m h = absurd cc
 for_integer (declared.Memory i w k) n r m h = absurd cc
 
-pub entry_register : (d : Plan) (k : ℕ) → k < count_by is_register d.declared → entry_of d (name_place d (net.Register k)) ≡ entry.Value (net.Register k) (get_or (register_widths d.declared) k 0)
+pub entry_register : (d : Netlist) (k : ℕ) → k < count_by is_register d.declared → entry_of d (name_place d (net.Register k)) ≡ entry.Value (net.Register k) (get_or (register_widths d.declared) k 0)
 entry_register d k l =
     let s = place_at is_register d.declared declared.Integer k l in
     let i = place_of is_register d.declared k in
@@ -105,7 +105,7 @@ entry_register d k l =
     ∙ ap (λ w. entry.Value (net.Register (count_by is_register (take i d.declared))) w) (sym (register_bits d.declared i declared.Integer s.below s.passes))
     ∙ ap (λ j. entry.Value (net.Register j) (get_or (register_widths d.declared) j 0)) s.number
 
-pub entry_memory : (d : Plan) (k : ℕ) → k < count_by is_memory d.declared → entry_of d (name_place d (net.Memory k)) ≡ entry.Words k (get_or (memory_widths d.declared) k (0, 0)).0 (get_or (memory_widths d.declared) k (0, 0)).1
+pub entry_memory : (d : Netlist) (k : ℕ) → k < count_by is_memory d.declared → entry_of d (name_place d (net.Memory k)) ≡ entry.Words k (get_or (memory_widths d.declared) k (0, 0)).0 (get_or (memory_widths d.declared) k (0, 0)).1
 entry_memory d k l =
     let s = place_at is_memory d.declared declared.Integer k l in
     let i = place_of is_memory d.declared k in
@@ -114,7 +114,7 @@ entry_memory d k l =
     ∙ ap (λ (w : ℕ × ℕ). entry.Words (count_by is_memory (take i d.declared)) w.0 w.1) (sym (memory_bits d.declared i declared.Integer s.below s.passes))
     ∙ ap (λ j. entry.Words j (get_or (memory_widths d.declared) j (0, 0)).0 (get_or (memory_widths d.declared) j (0, 0)).1) s.number
 
-pub entry_integer : (d : Plan) (k : ℕ) → k < count_by is_integer d.declared → entry_of d (length d.ports + place_of is_integer d.declared k) ≡ entry.Integer k
+pub entry_integer : (d : Netlist) (k : ℕ) → k < count_by is_integer d.declared → entry_of d (length d.ports + place_of is_integer d.declared k) ≡ entry.Integer k
 entry_integer d k l =
     let s = place_at is_integer d.declared declared.Integer k l in
     let i = place_of is_integer d.declared k in

@@ -11,29 +11,30 @@ use Rattle.net_core.specs.declared.tree.Net.TheVariants as net
 use Rattle.net_core.specs.declared.design.Port.{Port}
 use Rattle.net_core.specs.declared.design.Declared.{Declared}
 use Rattle.net_core.specs.declared.design.Declared.TheVariants as declared
-use Rattle.net_core.specs.Nets.{Plan, WireTree}
+use Rattle.net_core.specs.Nets.{Netlist, WireTree}
 use Rattle.net_core.specs.Width.{wire_widths}
-use Rattle.phrase_read.specs.declared.entry.Entry.{Entry}
-use Rattle.phrase_read.specs.declared.entry.Entry.TheVariants as entry
+use Rattle.net_core.proofs.WireLaws.{length_widths}
+use Rattle.verilog_expression.specs.declared.entry.Entry.{Entry}
+use Rattle.verilog_expression.specs.declared.entry.Entry.TheVariants as entry
 use Rattle.verilog_read.specs.Entries.{port_entry, entry_of, place_in, entry_in}
 use Rattle.verilog_read.proofs.LawEntries.{entry_port, entry_declared, entry_wire, entry_numbered}
 
 -- ---- from a name to its place
-pub record StandsAt (d : Plan) (s : List ℕ) (e : Entry) : Type 0 where
+pub record StandsAt (d : Netlist) (s : List ℕ) (e : Entry) : Type 0 where
   pub place : ℕ
   pub below : place < length d.names
   pub name : get_or d.names place [] ≡ s
   pub other : bytes_eq s (codes "clk") ≡ false
   pub entry : entry_of d place ≡ e
 
-by_place : (d : Plan) (s : List ℕ) (e : Entry) (at : Option ℕ) → place_in d.names s ≡ at → option_map (entry_of d) at ≡ Some e → bytes_eq s (codes "clk") ≡ false → StandsAt d s e
+by_place : (d : Netlist) (s : List ℕ) (e : Entry) (at : Option ℕ) → place_in d.names s ≡ at → option_map (entry_of d) at ≡ Some e → bytes_eq s (codes "clk") ≡ false → StandsAt d s e
 by_place d s e None p h o = absurd cc
 by_place d s e (Some i) p h o =
     let found = position-Some (bytes_eq s) d.names i [] p in
     record { place = i; below = found.0; name = sym ((bytes_eq-Decides s (get_or d.names i [])).0 found.1); other = o; entry = cc }
 
 -- A name stands for the clock, or for what stands at its place.
-pub entry_found : (d : Plan) (s : List ℕ) (e : Entry) → entry_in d s ≡ Some e → (entry.Clock ≡ e) ⊎ StandsAt d s e
+pub entry_found : (d : Netlist) (s : List ℕ) (e : Entry) → entry_in d s ≡ Some e → (entry.Clock ≡ e) ⊎ StandsAt d s e
 unfolding entry_in
 entry_found d s e h = by_test (bytes_eq s (codes "clk")) refl h
   where
@@ -57,51 +58,47 @@ place_named names i l n =
     let e : position_or_len (bytes_eq s) names ≡ i = first_passes (bytes_eq s) names i [] l n ((bytes_eq-Decides s s).1 refl) in
     ap (λ k. if nat_lt k (length names) then Some k else None) e ∙ cond-true (nat_lt i (length names)) (Some i) None (lt-ltb i (length names) l)
 
-pub entry_named : (d : Plan) (i : ℕ) → i < length d.names → list_any (bytes_eq (get_or d.names i [])) (take i d.names) ≡ false → bytes_eq (get_or d.names i []) (codes "clk") ≡ false → entry_in d (get_or d.names i []) ≡ Some (entry_of d i)
+pub entry_named : (d : Netlist) (i : ℕ) → i < length d.names → list_any (bytes_eq (get_or d.names i [])) (take i d.names) ≡ false → bytes_eq (get_or d.names i []) (codes "clk") ≡ false → entry_in d (get_or d.names i []) ≡ Some (entry_of d i)
 unfolding entry_in
 entry_named d i l n o =
     cond-false (bytes_eq (get_or d.names i []) (codes "clk")) (Some entry.Clock) (option_map (entry_of d) (place_in d.names (get_or d.names i []))) o
     ∙ ap (option_map (entry_of d)) (place_named d.names i l n)
 
-pub clock_named : (d : Plan) → entry_in d (codes "clk") ≡ Some entry.Clock
+pub clock_named : (d : Netlist) → entry_in d (codes "clk") ≡ Some entry.Clock
 unfolding entry_in
 clock_named d = refl
 
 -- ---- in front of more
-numbered_front : (xs ys : List Declared) (i : ℕ) → i < length xs → entry_numbered (xs ++ ys) i ≡ entry_numbered xs i
-numbered_front xs ys i l = rw (get_or_append_left xs ys declared.Integer i l, take-append-le i xs ys (omega arith)) refl
+numbered_prefix : (xs ys : List Declared) (i : ℕ) → i < length xs → entry_numbered (xs ++ ys) i ≡ entry_numbered xs i
+numbered_prefix xs ys i l = rw (get_or_append_left xs ys declared.Integer i l, take-append-le i xs ys (omega arith)) refl
 
-pub entry_port_front : (d e : Plan) → e.ports ≡ d.ports → (k : ℕ) → k < length d.ports → entry_of e k ≡ entry_of d k
-entry_port_front d e ports k l =
+pub entry_port_prefix : (d e : Netlist) → e.ports ≡ d.ports → (k : ℕ) → k < length d.ports → entry_of e k ≡ entry_of d k
+entry_port_prefix d e ports k l =
     let same : length e.ports ≡ length d.ports = ap length ports in
     let none : Port = record { output = false; width = 0 } in
     entry_port e k none (omega arith) ∙ ap (λ ps. port_entry k (get_or ps k none)) ports ∙ sym (entry_port d k none l)
 
-pub entry_declared_front : (d e : Plan) (more : List Declared) → e.ports ≡ d.ports → e.declared ≡ d.declared ++ more → (i : ℕ) → i < length d.declared → entry_of e (length d.ports + i) ≡ entry_of d (length d.ports + i)
-entry_declared_front d e more ports declared i l =
+pub entry_declared_prefix : (d e : Netlist) (more : List Declared) → e.ports ≡ d.ports → e.declared ≡ d.declared ++ more → (i : ℕ) → i < length d.declared → entry_of e (length d.ports + i) ≡ entry_of d (length d.ports + i)
+entry_declared_prefix d e more ports declared i l =
     let same : length e.ports ≡ length d.ports = ap length ports in
     let longer : length e.declared ≡ length (d.declared ++ more) = ap length declared in
     ap (λ n. entry_of e (n + i)) (sym same)
-    ∙ entry_declared e i (omega (arith, longer, length-append d.declared more)) ∙ ap (λ xs. entry_numbered xs i) declared ∙ numbered_front d.declared more i l
+    ∙ entry_declared e i (omega (arith, longer, length-append d.declared more)) ∙ ap (λ xs. entry_numbered xs i) declared ∙ numbered_prefix d.declared more i l
     ∙ sym (entry_declared d i l)
 
-pub widths_front : (ws more : List WireTree) → wire_widths (ws ++ more) ≡ wire_widths ws ++ wire_widths more
-widths_front [] more = refl
-widths_front (w ∷ ws) more = ap (λ xs. w.width ∷ xs) (widths_front ws more)
-
-pub length_widths : (ws : List WireTree) → length (wire_widths ws) ≡ length ws
-length_widths [] = refl
-length_widths (w ∷ ws) = ap (λ (n : ℕ). suc n) (length_widths ws)
+pub widths_prefix : (ws more : List WireTree) → wire_widths (ws ++ more) ≡ wire_widths ws ++ wire_widths more
+widths_prefix [] more = refl
+widths_prefix (w ∷ ws) more = ap (λ xs. w.width ∷ xs) (widths_prefix ws more)
 
 -- the widths of the first wires
 pub take_widths : (ws more : List WireTree) → take (length ws) (wire_widths (ws ++ more)) ≡ wire_widths ws
-take_widths ws more = ap (take (length ws)) (widths_front ws more) ∙ take_at (wire_widths ws) (wire_widths more) (length ws) (length_widths ws)
+take_widths ws more = ap (take (length ws)) (widths_prefix ws more) ∙ take_at (wire_widths ws) (wire_widths more) (length ws) (length_widths ws)
 
-pub entry_wire_front : (d e : Plan) (more : List WireTree) → e.ports ≡ d.ports → e.declared ≡ d.declared → e.wires ≡ d.wires ++ more → (k : ℕ) → k < length d.wires → entry_of e (length d.ports + length d.declared + k) ≡ entry_of d (length d.ports + length d.declared + k)
-entry_wire_front d e more ports declared wires k l =
+pub entry_wire_prefix : (d e : Netlist) (more : List WireTree) → e.ports ≡ d.ports → e.declared ≡ d.declared → e.wires ≡ d.wires ++ more → (k : ℕ) → k < length d.wires → entry_of e (length d.ports + length d.declared + k) ≡ entry_of d (length d.ports + length d.declared + k)
+entry_wire_prefix d e more ports declared wires k l =
     let same : length d.ports + length d.declared + k ≡ length e.ports + length e.declared + k = omega (arith, ap length ports, ap length declared) in
     ap (entry_of e) same ∙ entry_wire e k
     ∙ ap (λ (ws : List WireTree). entry.Value (net.Wire k) (get_or (wire_widths ws) k 0)) wires
-    ∙ ap (λ (xs : List ℕ). entry.Value (net.Wire k) (get_or xs k 0)) (widths_front d.wires more)
+    ∙ ap (λ (xs : List ℕ). entry.Value (net.Wire k) (get_or xs k 0)) (widths_prefix d.wires more)
     ∙ ap (entry.Value (net.Wire k)) (get_or_append_left (wire_widths d.wires) (wire_widths more) 0 k (omega (arith, length_widths d.wires)))
     ∙ sym (entry_wire d k)

@@ -7,6 +7,7 @@ use Rattle.net_core.specs.declared.design.Declared.{Declared}
 use Rattle.net_core.specs.declared.design.Declared.TheVariants as declared
 use Rattle.net_core.specs.Names.{is_register, is_memory, place_of}
 use Rattle.net_core.specs.Width.{register_widths, memory_widths}
+use Rattle.net_core.proofs.NameLaws.{place_here, place_past, place_other}
 
 -- ---- counting
 pub count_yes : (p : Declared → Bool) (x : Declared) (xs : List Declared) → p x ≡ true → count_by p (x ∷ xs) ≡ suc (count_by p xs)
@@ -14,16 +15,6 @@ count_yes p x xs h = omega (arith, cond-true {A = ℕ} (p x) 1 0 h, sum_by-cons 
 
 pub count_no : (p : Declared → Bool) (x : Declared) (xs : List Declared) → p x ≡ false → count_by p (x ∷ xs) ≡ count_by p xs
 count_no p x xs h = omega (arith, cond-false {A = ℕ} (p x) 1 0 h, sum_by-cons (λ y. if p y then 1 else 0) x xs)
-
-place_here : (p : Declared → Bool) (x : Declared) (xs : List Declared) → p x ≡ true → place_of p (x ∷ xs) 0 ≡ 0
-place_here p x xs h = cond-true (p x) 0 (suc (place_of p xs 0)) h
-
-place_past : (p : Declared → Bool) (x : Declared) (xs : List Declared) (k : ℕ) → p x ≡ true → place_of p (x ∷ xs) (suc k) ≡ suc (place_of p xs k)
-place_past p x xs k h = ap (λ (n : ℕ). suc (place_of p xs n)) (cond-true (p x) k (suc k) h)
-
-place_other : (p : Declared → Bool) (x : Declared) (xs : List Declared) (k : ℕ) → p x ≡ false → place_of p (x ∷ xs) k ≡ suc (place_of p xs k)
-place_other p x xs zero h = cond-false (p x) 0 (suc (place_of p xs 0)) h
-place_other p x xs (suc k) h = ap (λ (n : ℕ). suc (place_of p xs n)) (cond-false (p x) k (suc k) h)
 
 -- ---- from places to numbers
 -- What stands at a place and passes has the number of those before it that pass.
@@ -34,17 +25,17 @@ pub record IsNumber (p : Declared → Bool) (xs : List Declared) (i k : ℕ) : T
 first_number : (p : Declared → Bool) (x : Declared) (xs : List Declared) → p x ≡ true → IsNumber p (x ∷ xs) 0 0
 first_number p x xs h = record { place = place_here p x xs h; below = omega (arith, count_yes p x xs h) }
 
-number_past : (p : Declared → Bool) (x : Declared) (xs front : List Declared) (i : ℕ) → IsNumber p xs i (count_by p front) → IsNumber p (x ∷ xs) (suc i) (count_by p (x ∷ front))
-number_past p x xs front i n = by_test (p x) refl
+number_past : (p : Declared → Bool) (x : Declared) (xs prefix : List Declared) (i : ℕ) → IsNumber p xs i (count_by p prefix) → IsNumber p (x ∷ xs) (suc i) (count_by p (x ∷ prefix))
+number_past p x xs prefix i n = by_test (p x) refl
   where
-    by_test : (b : Bool) → p x ≡ b → IsNumber p (x ∷ xs) (suc i) (count_by p (x ∷ front))
+    by_test : (b : Bool) → p x ≡ b → IsNumber p (x ∷ xs) (suc i) (count_by p (x ∷ prefix))
     by_test true h = record {
-      place = ap (place_of p (x ∷ xs)) (count_yes p x front h) ∙ place_past p x xs (count_by p front) h ∙ ap (λ (j : ℕ). suc j) n.place;
-      below = omega (arith, count_yes p x front h, count_yes p x xs h, n.below);
+      place = ap (place_of p (x ∷ xs)) (count_yes p x prefix h) ∙ place_past p x xs (count_by p prefix) h ∙ ap (λ (j : ℕ). suc j) n.place;
+      below = omega (arith, count_yes p x prefix h, count_yes p x xs h, n.below);
     }
     by_test false h = record {
-      place = ap (place_of p (x ∷ xs)) (count_no p x front h) ∙ place_other p x xs (count_by p front) h ∙ ap (λ (j : ℕ). suc j) n.place;
-      below = omega (arith, count_no p x front h, count_no p x xs h, n.below);
+      place = ap (place_of p (x ∷ xs)) (count_no p x prefix h) ∙ place_other p x xs (count_by p prefix) h ∙ ap (λ (j : ℕ). suc j) n.place;
+      below = omega (arith, count_no p x prefix h, count_no p x xs h, n.below);
     }
 
 pub number_at : (p : Declared → Bool) (xs : List Declared) (i : ℕ) (d : Declared) → i < length xs → p (get_or xs i d) ≡ true → IsNumber p xs i (count_by p (take i xs))
@@ -82,17 +73,17 @@ place_at p [] d k l = absurd (omega arith)
 place_at p (x ∷ xs) d k l = place_next p x xs d (place_at p xs d) k l
 
 -- the place of a number in front of others
-front_next : (p : Declared → Bool) (x : Declared) (xs ys : List Declared) → ((k : ℕ) → k < count_by p xs → place_of p (xs ++ ys) k ≡ place_of p xs k) → (k : ℕ) → k < count_by p (x ∷ xs) → place_of p (x ∷ (xs ++ ys)) k ≡ place_of p (x ∷ xs) k
-front_next p x xs ys more k l = by_test (p x) refl k l
+prefix_next : (p : Declared → Bool) (x : Declared) (xs ys : List Declared) → ((k : ℕ) → k < count_by p xs → place_of p (xs ++ ys) k ≡ place_of p xs k) → (k : ℕ) → k < count_by p (x ∷ xs) → place_of p (x ∷ (xs ++ ys)) k ≡ place_of p (x ∷ xs) k
+prefix_next p x xs ys more k l = by_test (p x) refl k l
   where
     by_test : (b : Bool) → p x ≡ b → (k : ℕ) → k < count_by p (x ∷ xs) → place_of p (x ∷ (xs ++ ys)) k ≡ place_of p (x ∷ xs) k
     by_test true h zero l = place_here p x (xs ++ ys) h ∙ sym (place_here p x xs h)
     by_test true h (suc k) l = place_past p x (xs ++ ys) k h ∙ ap (λ (j : ℕ). suc j) (more k (omega (arith, count_yes p x xs h))) ∙ sym (place_past p x xs k h)
     by_test false h k l = place_other p x (xs ++ ys) k h ∙ ap (λ (j : ℕ). suc j) (more k (omega (arith, count_no p x xs h))) ∙ sym (place_other p x xs k h)
 
-pub place_front : (p : Declared → Bool) (xs ys : List Declared) (k : ℕ) → k < count_by p xs → place_of p (xs ++ ys) k ≡ place_of p xs k
-place_front p [] ys k l = absurd (omega arith)
-place_front p (x ∷ xs) ys k l = front_next p x xs ys (place_front p xs ys) k l
+pub place_prefix : (p : Declared → Bool) (xs ys : List Declared) (k : ℕ) → k < count_by p xs → place_of p (xs ++ ys) k ≡ place_of p xs k
+place_prefix p [] ys k l = absurd (omega arith)
+place_prefix p (x ∷ xs) ys k l = prefix_next p x xs ys (place_prefix p xs ys) k l
 
 -- ---- widths by number
 -- something of each that passes
@@ -100,16 +91,16 @@ abbrev gathered : {A : Type 0} → (Declared → Bool) → (Declared → A) → 
 gathered p f [] = []
 gathered p f (x ∷ xs) = if p x then f x ∷ gathered p f xs else gathered p f xs
 
-gathered_next : {A : Type 0} (p : Declared → Bool) (f : Declared → A) (x : Declared) (xs front : List Declared) (z a : A) → get_or (gathered p f xs) (count_by p front) z ≡ a → get_or (gathered p f (x ∷ xs)) (count_by p (x ∷ front)) z ≡ a
-gathered_next {A} p f x xs front z a e = by_test (p x) refl
+gathered_next : {A : Type 0} (p : Declared → Bool) (f : Declared → A) (x : Declared) (xs prefix : List Declared) (z a : A) → get_or (gathered p f xs) (count_by p prefix) z ≡ a → get_or (gathered p f (x ∷ xs)) (count_by p (x ∷ prefix)) z ≡ a
+gathered_next {A} p f x xs prefix z a e = by_test (p x) refl
   where
-    by_test : (b : Bool) → p x ≡ b → get_or (gathered p f (x ∷ xs)) (count_by p (x ∷ front)) z ≡ a
+    by_test : (b : Bool) → p x ≡ b → get_or (gathered p f (x ∷ xs)) (count_by p (x ∷ prefix)) z ≡ a
     by_test true t =
-        ap (λ (ys : List A). get_or ys (count_by p (x ∷ front)) z) (cond-true (p x) (f x ∷ gathered p f xs) (gathered p f xs) t)
-        ∙ ap (λ n. get_or (f x ∷ gathered p f xs) n z) (count_yes p x front t) ∙ e
+        ap (λ (ys : List A). get_or ys (count_by p (x ∷ prefix)) z) (cond-true (p x) (f x ∷ gathered p f xs) (gathered p f xs) t)
+        ∙ ap (λ n. get_or (f x ∷ gathered p f xs) n z) (count_yes p x prefix t) ∙ e
     by_test false t =
-        ap (λ (ys : List A). get_or ys (count_by p (x ∷ front)) z) (cond-false (p x) (f x ∷ gathered p f xs) (gathered p f xs) t)
-        ∙ ap (λ n. get_or (gathered p f xs) n z) (count_no p x front t) ∙ e
+        ap (λ (ys : List A). get_or ys (count_by p (x ∷ prefix)) z) (cond-false (p x) (f x ∷ gathered p f xs) (gathered p f xs) t)
+        ∙ ap (λ n. get_or (gathered p f xs) n z) (count_no p x prefix t) ∙ e
 
 gathered_at : {A : Type 0} (p : Declared → Bool) (f : Declared → A) (xs : List Declared) (i : ℕ) (d : Declared) (z : A) → i < length xs → p (get_or xs i d) ≡ true → get_or (gathered p f xs) (count_by p (take i xs)) z ≡ f (get_or xs i d)
 gathered_at p f [] i d z l h = absurd (omega arith)

@@ -9,9 +9,9 @@ use Rattle.net_core.specs.declared.design.Port.{Port}
 use Rattle.net_core.specs.Nets.{AssignTree}
 use Rattle.net_core.specs.Ports.{input, port_list, port_names}
 use Rattle.net_core.specs.Width.{is_assigned}
-use Rattle.spelling_core.specs.Formed.{same_port}
+use Rattle.verilog_grammar.specs.Formed.{same_port}
 use Rattle.verilog_read.specs.Designs.{other_port, unassigned}
-use Rattle.verilog_read.specs.Seen.{is_listed}
+use Rattle.verilog_read.specs.View.{is_listed}
 
 few_ports : (i : ℕ) (names ns : List (List ℕ)) (ps qs rest : List Port) (q : Port) → ps ≡ [] → qs ≡ q ∷ rest → other_port i names ps ns qs ≡ Some i
 few_ports i names ns ps qs rest q e f = rw (e, f) refl
@@ -23,8 +23,8 @@ few_names i names ns ps qs more rest p q d e f = rw (d, e, f) refl
 abbrev pub after_port : ℕ → List (List ℕ) → List Port → List (List ℕ) → List Port → Bool → Option ℕ
 after_port i names ps ns qs b = cond b (other_port (suc i) names ps ns qs) (Some i)
 
-front_port : (i : ℕ) (s n : List ℕ) (p q : Port) (names ns ms os : List (List ℕ)) (ps qs rs ts : List Port) → ms ≡ s ∷ names → rs ≡ p ∷ ps → os ≡ n ∷ ns → ts ≡ q ∷ qs → other_port i ms rs os ts ≡ after_port i names ps ns qs (bytes_eq s n && same_port p q)
-front_port i s n p q names ns ms os ps qs rs ts d e f g = rw (d, e, f, g) refl
+prefix_port : (i : ℕ) (s n : List ℕ) (p q : Port) (names ns ms os : List (List ℕ)) (ps qs rs ts : List Port) → ms ≡ s ∷ names → rs ≡ p ∷ ps → os ≡ n ∷ ns → ts ≡ q ∷ qs → other_port i ms rs os ts ≡ after_port i names ps ns qs (bytes_eq s n && same_port p q)
+prefix_port i s n p q names ns ms os ps qs rs ts d e f g = rw (d, e, f, g) refl
 
 -- the port of a number
 pub port_at_number : (names : List (List ℕ)) (ps : List Port) (k : ℕ) → k < 21 → other_port k (drop k names) (drop k ps) (drop k port_names) (drop k port_list) ≡ after_port k (drop (suc k) names) (drop (suc k) ps) (drop (suc k) port_names) (drop (suc k) port_list) (is_listed names ps k)
@@ -37,7 +37,7 @@ port_at_number names ps k h = by_ports (nat_lt k (length ps)) refl
     named = drop-cons port_names k [] h
 
     by_names : (b : Bool) → nat_lt k (length names) ≡ b → k < length ps → other_port k (drop k names) (drop k ps) (drop k port_names) (drop k port_list) ≡ after_port k (drop (suc k) names) (drop (suc k) ps) (drop (suc k) port_names) (drop (suc k) port_list) (true && (b && (bytes_eq (get_or names k []) (get_or port_names k []) && same_port (get_or ps k (input 0)) (get_or port_list k (input 0)))))
-    by_names true e l = front_port k _ _ _ _ _ _ _ _ _ _ _ _ (drop-cons names k [] (ltb-true k (length names) e)) (drop-cons ps k (input 0) l) named listed
+    by_names true e l = prefix_port k _ _ _ _ _ _ _ _ _ _ _ _ (drop-cons names k [] (ltb-true k (length names) e)) (drop-cons ps k (input 0) l) named listed
     by_names false e l = few_names k _ _ _ _ _ _ _ _ (drop_all k names (ltb-false k (length names) e)) (drop-cons ps k (input 0) l) listed
 
     by_ports : (b : Bool) → nat_lt k (length ps) ≡ b → other_port k (drop k names) (drop k ps) (drop k port_names) (drop k port_list) ≡ after_port k (drop (suc k) names) (drop (suc k) ps) (drop (suc k) port_names) (drop (suc k) port_list) (b && (nat_lt k (length names) && (bytes_eq (get_or names k []) (get_or port_names k []) && same_port (get_or ps k (input 0)) (get_or port_list k (input 0)))))

@@ -1,7 +1,7 @@
 -- What a text is, from its tokens.
 use Rattle.std.proofs.Common.{◌≡◌, ◌∙◌, sym, ap, subst, ℕ, List, Result, Ok, Err}
 use Rattle.net_core.specs.declared.design.Design.{Design}
-use Rattle.net_core.specs.Nets.{Plan}
+use Rattle.net_core.specs.Nets.{Netlist}
 use Rattle.std.specs.declared.vec.Vec.{Vec}
 use Rattle.std.specs.declared.alloc.Global.{Global}
 use Rattle.verilog_lex.specs.declared.token.Token.{Token}
@@ -17,7 +17,7 @@ use Rattle.verilog_read.specs.Texts.{IsOutcome, by_lexemes, by_tokens, outcome_o
 pub tokens_read : (text : List ℕ) (all ts : List Token) (r : Result Design ReadError) → tokens_in text ≡ Ok all → ts ≡ all → IsOutcome r (by_lexemes text ts (design_at (lexemes_of text ts))) → IsOutcome r (outcome_of text)
 unfolding outcome_of
 tokens_read text all ts r e f h =
-    subst (λ (o : Result Plan ReadError). IsOutcome r o)
+    subst (λ (o : Result Netlist ReadError). IsOutcome r o)
     (ap (λ (xs : List Token). by_lexemes text xs (design_at (lexemes_of text xs))) f ∙ sym (ap (by_tokens text) e))
     h
 

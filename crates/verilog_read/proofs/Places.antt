@@ -6,10 +6,10 @@ use Rattle.net_core.specs.declared.design.Declared.TheVariants as declared
 use Rattle.net_core.specs.declared.tree.Net.TheVariants as net
 use Rattle.net_core.specs.Nets.{WireTree}
 use Rattle.net_core.specs.Width.{wire_widths}
-use Rattle.phrase_read.specs.declared.entry.Entry.TheVariants as entry
+use Rattle.verilog_expression.specs.declared.entry.Entry.TheVariants as entry
 use Rattle.verilog_read.specs.declared.partial.Counts.{Counts}
 use Rattle.verilog_read.specs.Entries.{behind_ports}
-use Rattle.verilog_read.specs.Seen.{counted, with_one, declared_entry}
+use Rattle.verilog_read.specs.View.{counted, with_one, declared_entry}
 
 -- what is declared stays
 pub declared_stays : (ws : List ℕ) (xs : List Declared) (x : Declared) (j a b c : ℕ) → j < length xs → behind_ports ws (xs ++ x ∷ []) j a b c ≡ behind_ports ws xs j a b c
@@ -55,7 +55,3 @@ wires_stay ws w (declared.Memory i v n ∷ xs) (suc j) a b c h = wires_stay ws w
 pub widths_behind : (ws : List WireTree) (w : WireTree) → wire_widths (ws ++ w ∷ []) ≡ wire_widths ws ++ w.width ∷ []
 widths_behind [] w = refl
 widths_behind (v ∷ ws) w = ap (λ (l : List ℕ). v.width ∷ l) (widths_behind ws w)
-
-pub widths_length : (ws : List WireTree) → length (wire_widths ws) ≡ length ws
-widths_length [] = refl
-widths_length (w ∷ ws) = ap (λ (n : ℕ). suc n) (widths_length ws)

@@ -22,9 +22,9 @@ last_placed : {V : Type 0} (g : ℕ → V) (i m : ℕ) → i ≡ m → (b : Bool
 last_placed g i m e true = ap (λ (k : ℕ). Some (g k)) e
 last_placed g i m e false = refl
 
-front_placed : {V : Type 0} (x y : V) (b : Bool) (p q r : Option V) → x ≡ y → p ≡ or_next q r → cond b (Some x) p ≡ or_next (cond b (Some y) q) r
-front_placed {V = V} x y true p q r e h = ap (λ (v : V). Some v) e
-front_placed x y false p q r e h = h
+prefix_placed : {V : Type 0} (x y : V) (b : Bool) (p q r : Option V) → x ≡ y → p ≡ or_next q r → cond b (Some x) p ≡ or_next (cond b (Some y) q) r
+prefix_placed {V = V} x y true p q r e h = ap (λ (v : V). Some v) e
+prefix_placed x y false p q r e h = h
 
 mapped : {X V : Type 0} (f : X → V) (b : Bool) (x : X) (o : Option X) → option_map f (cond b (Some x) o) ≡ cond b (Some (f x)) (option_map f o)
 mapped f true x o = refl
@@ -34,7 +34,7 @@ pub placed_behind : {V : Type 0} (f g : ℕ → V) (test : List ℕ → Bool) (i
 placed_behind f g test i m [] s e h = last_placed g i m (omega (arith, e)) (test s)
 placed_behind {V = V} f g test i m (n ∷ ns) s e h =
     mapped g (test n) i (position_from test (i + 1) (ns ++ s ∷ []))
-    ∙ front_placed (g i) (f i) (test n) _ _ _ (h i (omega (arith, e))) (placed_behind f g test (i + 1) m ns s (omega (arith, e)) h)
+    ∙ prefix_placed (g i) (f i) (test n) _ _ _ (h i (omega (arith, e))) (placed_behind f g test (i + 1) m ns s (omega (arith, e)) h)
     ∙ ap (λ (o : Option V). or_next o (cond (test s) (Some (g m)) None)) (sym (mapped f (test n) i (position_from test (i + 1) ns)))
 
 -- the same of the first place

@@ -5,10 +5,10 @@ use Rattle.std.specs.List.{list_all}
 use Rattle.std.specs.Str.{IsAscii, IsUtf8, bytes_eq}
 use Rattle.std.proofs.lemmas.Str.{IsUtf8-from_ascii}
 use Rattle.verilog_lex.specs.Lexeme.{Lexeme, LName, LKeyword, LNumber, LSized, LOutOfRange, LSymbol}
-use Rattle.phrase_read.specs.declared.fault.Code.TheVariants as code
-use Rattle.phrase_read.specs.Lexemes.{name_at}
-use Rattle.phrase_read.specs.Reads.{Read, kept_if}
-use Rattle.spelling_core.specs.FormedSyntax.{begins_name, continues_name, is_identifier, is_unreserved, is_name}
+use Rattle.verilog_expression.specs.declared.fault.Code.TheVariants as code
+use Rattle.verilog_expression.specs.Lexemes.{name_at}
+use Rattle.verilog_expression.specs.Reads.{Read, kept_if}
+use Rattle.verilog_grammar.specs.FormedSyntax.{begins_name, continues_name, is_identifier, is_unreserved, is_name}
 
 small : (c : ℕ) → continues_name c ≡ true → c < 128
 small c h = grind arith

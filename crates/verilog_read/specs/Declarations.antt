@@ -3,19 +3,19 @@ use Rattle.std.specs.Prelude.{ℕ, zero, suc, ◌-◌, ◌^◌, ◌==◌, Bool, 
 use Rattle.std.specs.Str.{bytes_eq}
 use Rattle.net_core.specs.declared.design.Declared.{Declared}
 use Rattle.net_core.specs.declared.design.Declared.TheVariants as declared
-use Rattle.net_core.specs.Nets.{Plan}
+use Rattle.net_core.specs.Nets.{Netlist}
 use Rattle.verilog_lex.specs.declared.token.Keyword.TheVariants as keyword
 use Rattle.verilog_lex.specs.declared.token.Symbol.TheVariants as symbol
 use Rattle.verilog_lex.specs.Lexeme.{Lexeme, LKeyword, LNumber, LSymbol}
-use Rattle.phrase_read.specs.declared.fault.Code.TheVariants as code
-use Rattle.phrase_read.specs.declared.entry.Entry.{Entry}
-use Rattle.phrase_read.specs.declared.entry.Entry.TheVariants as entry
-use Rattle.phrase_read.specs.Reads.{Read, Reading, ◌>>=◌, fault, kept_if, found}
-use Rattle.phrase_read.specs.Lexemes.{lexeme_at, symbol_at, behind, number_at, name_at, constant_at}
+use Rattle.verilog_expression.specs.declared.fault.Code.TheVariants as code
+use Rattle.verilog_expression.specs.declared.entry.Entry.{Entry}
+use Rattle.verilog_expression.specs.declared.entry.Entry.TheVariants as entry
+use Rattle.verilog_expression.specs.Reads.{Read, Reading, ◌>>=◌, fault, kept_if, found}
+use Rattle.verilog_expression.specs.Lexemes.{lexeme_at, symbol_at, behind, number_at, name_at, constant_at}
 use Rattle.verilog_read.specs.Entries.{entry_in}
 use Rattle.verilog_read.specs.Header.{range_at, fresh_at}
 
-abbrev pub with_declared : List ℕ → Declared → Plan → Plan
+abbrev pub with_declared : List ℕ → Declared → Netlist → Netlist
 with_declared s x d = record d { names = d.names ++ s ∷ []; declared = d.declared ++ x ∷ [] }
 
 -- the semicolon of an item, whose two sides have one width where the flag says so
@@ -25,14 +25,14 @@ ends_at fits ts = do
   kept_if fits r code.Width ts
 
 -- behind `integer`
-unfoldable pub integer_item_at : Plan → List Lexeme → Read Plan
+unfoldable pub integer_item_at : Netlist → List Lexeme → Read Netlist
 integer_item_at d ts = do
   s ← fresh_at d ts
   r ← symbol_at symbol.Semicolon s.1
   Ok (with_declared s.0 declared.Integer d, r)
 
 -- behind `reg`, a width, a name and `=`
-unfoldable pub register_at : Plan → ℕ → List ℕ → List Lexeme → Read Plan
+unfoldable pub register_at : Netlist → ℕ → List ℕ → List Lexeme → Read Netlist
 register_at d width s ts = do
   c ← constant_at ts
   r ← ends_at (c.0.width == width) c.1
@@ -83,14 +83,14 @@ as_integer (Some (entry.Integer k)) = Some k
 as_integer e = None
 
 -- the name of an integer, and its number
-unfoldable pub integer_at : Plan → List Lexeme → Read (List ℕ × ℕ)
+unfoldable pub integer_at : Netlist → List Lexeme → Read (List ℕ × ℕ)
 integer_at d ts = do
   s ← name_at ts
   k ← found (as_integer (entry_in d s.0)) code.Unknown ts
   Ok ((s.0, k), s.1)
 
 -- behind `reg`, a width, a name and the range of its index
-unfoldable pub fill_at : Plan → ℕ → List ℕ → ℕ → List Lexeme → Read Plan
+unfoldable pub fill_at : Netlist → ℕ → List ℕ → ℕ → List Lexeme → Read Netlist
 fill_at d width s index ts = do
   a ← behind (LSymbol symbol.Semicolon ∷ LKeyword keyword.Initial ∷ LKeyword keyword.For ∷ LSymbol symbol.OpenParenthesis ∷ []) ts
   i ← integer_at d a
@@ -100,7 +100,7 @@ fill_at d width s index ts = do
   Ok (with_declared s (declared.Memory index c.0 i.0.1) d, r)
 
 -- behind `reg`, a width, a name and `[`
-unfoldable pub memory_at : Plan → ℕ → List ℕ → List Lexeme → Read Plan
+unfoldable pub memory_at : Netlist → ℕ → List ℕ → List Lexeme → Read Netlist
 memory_at d width s ts = do
   a ← behind (LNumber 0 ∷ LSymbol symbol.Colon ∷ []) ts
   n ← number_at a
@@ -108,13 +108,13 @@ memory_at d width s ts = do
   index ← found (index_of n.0) code.Width n.1
   fill_at d width s index r
 
-unfoldable pub stored_at : Plan → ℕ → List ℕ → List Lexeme → Read Plan
+unfoldable pub stored_at : Netlist → ℕ → List ℕ → List Lexeme → Read Netlist
 stored_at d width s (LSymbol symbol.Assign ∷ ts) = register_at d width s ts
 stored_at d width s (LSymbol symbol.OpenBracket ∷ ts) = memory_at d width s ts
 stored_at d width s ts = fault code.Syntax ts
 
 -- behind `reg`
-unfoldable pub reg_item_at : Plan → List Lexeme → Read Plan
+unfoldable pub reg_item_at : Netlist → List Lexeme → Read Netlist
 reg_item_at d ts = do
   w ← range_at ts
   s ← fresh_at d w.1

@@ -3,24 +3,24 @@ use Rattle.std.specs.Prelude.{ℕ, suc, ◌&&◌, if◌then◌else◌, Option, S
 use Rattle.std.specs.Str.{bytes_eq}
 use Rattle.std.proofs.Common.{not}
 use Rattle.net_core.specs.declared.design.Port as port
-use Rattle.net_core.specs.Nets.{AssignTree, Plan}
+use Rattle.net_core.specs.Nets.{AssignTree, Netlist}
 use Rattle.net_core.specs.Ports.{port_list, port_names}
 use Rattle.net_core.specs.Width.{is_assigned}
-use Rattle.spelling_core.specs.Formed.{same_port}
+use Rattle.verilog_grammar.specs.Formed.{same_port}
 use Rattle.verilog_lex.specs.Lexeme.{Lexeme}
-use Rattle.phrase_read.specs.declared.fault.Code.TheVariants as code
-use Rattle.phrase_read.specs.Reads.{Reading, ◌>>=◌, fault}
+use Rattle.verilog_expression.specs.declared.fault.Code.TheVariants as code
+use Rattle.verilog_expression.specs.Reads.{Reading, ◌>>=◌, fault}
 use Rattle.verilog_read.specs.declared.section.Section.TheVariants as section
 use Rattle.verilog_read.specs.Header.{header_at}
 use Rattle.verilog_read.specs.Items.{items_at}
 
 -- a design behind which nothing is left
-abbrev pub whole_at : Plan → List Lexeme → Reading Plan
+abbrev pub whole_at : Netlist → List Lexeme → Reading Netlist
 whole_at d [] = Ok d
 whole_at d (t ∷ ts) = fault code.Syntax (t ∷ ts)
 
 -- There are fewer items than lexemes.
-unfoldable pub design_at : List Lexeme → Reading Plan
+unfoldable pub design_at : List Lexeme → Reading Netlist
 design_at ts = do
   h ← header_at ts
   x ← items_at (length h.1) section.Declared h.0 h.1
@@ -46,5 +46,5 @@ abbrev pub or_else : Option ℕ → Option ℕ → Option ℕ
 or_else None later = later
 or_else (Some k) later = Some k
 
-unfoldable pub port_fault : Plan → Option ℕ
+unfoldable pub port_fault : Netlist → Option ℕ
 port_fault d = or_else (other_port 0 d.names d.ports port_names port_list) (unassigned 0 d.assigns d.ports)

@@ -7,13 +7,13 @@ use Rattle.net_core.specs.declared.tree.Net.TheVariants as net
 use Rattle.net_core.specs.declared.design.Port.{Port}
 use Rattle.net_core.specs.declared.design.Declared.{Declared}
 use Rattle.net_core.specs.declared.design.Declared.TheVariants as declared
-use Rattle.net_core.specs.Nets.{Plan}
+use Rattle.net_core.specs.Nets.{Netlist}
 use Rattle.net_core.specs.Width.{wire_widths}
-use Rattle.spelling_core.specs.FormedScope.{leaves_register, leaves_memory}
-use Rattle.phrase_read.specs.declared.entry.Entry.{Entry}
-use Rattle.phrase_read.specs.declared.entry.Entry.TheVariants as entry
-use Rattle.phrase_read.specs.Expressions.{Resolve}
-use Rattle.phrase_read.specs.Statements.{Free}
+use Rattle.verilog_grammar.specs.FormedScope.{leaves_register, leaves_memory}
+use Rattle.verilog_expression.specs.declared.entry.Entry.{Entry}
+use Rattle.verilog_expression.specs.declared.entry.Entry.TheVariants as entry
+use Rattle.verilog_expression.specs.Expressions.{Resolve}
+use Rattle.verilog_expression.specs.Statements.{Free}
 
 abbrev pub port_entry : ℕ → Port → Entry
 port_entry k p = if p.output then entry.Output k p.width else entry.Value (net.Port k) p.width
@@ -30,7 +30,7 @@ behind_ports widths (declared.Register w ∷ xs) (suc place) integers registers 
 behind_ports widths (declared.Memory i w n ∷ xs) (suc place) integers registers memories = behind_ports widths xs place integers registers (suc memories)
 
 -- what the name at a place stands for
-abbrev pub entry_of : Plan → ℕ → Entry
+abbrev pub entry_of : Netlist → ℕ → Entry
 entry_of d place =
     if nat_lt place (length d.ports) then port_entry place (get_or d.ports place (record { output = false; width = 0 }))
     else behind_ports (wire_widths d.wires) d.declared (place - length d.ports) 0 0 0
@@ -40,11 +40,11 @@ abbrev pub place_in : List (List ℕ) → List ℕ → Option ℕ
 place_in names name = position (bytes_eq name) names
 
 -- `clk` is the clock, whatever is declared
-unfoldable pub entry_in : Plan → Resolve
+unfoldable pub entry_in : Netlist → Resolve
 entry_in d name = if bytes_eq name (codes "clk") then Some entry.Clock else option_map (entry_of d) (place_in d.names name)
 
 -- a register or a memory that no always block sets so far
-unfoldable pub free_in : Plan → Free
+unfoldable pub free_in : Netlist → Free
 free_in d (net.Port k) = true
 free_in d (net.Register k) = list_all (leaves_register k) d.always
 free_in d (net.Memory k) = list_all (leaves_memory k) d.always

@@ -2,36 +2,36 @@
 use Rattle.std.specs.Prelude.{ℕ, zero, suc, ◌==◌, nat_le, Option, Some, None, Ok, List, [], ◌∷◌, ◌++◌, codes}
 use Rattle.std.proofs.Common.{not}
 use Rattle.net_core.specs.declared.tree.Net.{Net}
-use Rattle.net_core.specs.Nets.{Act, WireTree, AssignTree, Plan}
+use Rattle.net_core.specs.Nets.{StatementTree, WireTree, AssignTree, Netlist}
 use Rattle.net_core.specs.Width.{is_assigned}
 use Rattle.verilog_lex.specs.declared.token.Keyword.TheVariants as keyword
 use Rattle.verilog_lex.specs.declared.token.Symbol.TheVariants as symbol
 use Rattle.verilog_lex.specs.Lexeme.{Lexeme, LName, LKeyword, LSymbol}
-use Rattle.phrase_read.specs.declared.fault.Code.TheVariants as code
-use Rattle.phrase_read.specs.declared.entry.Entry.{Entry}
-use Rattle.phrase_read.specs.declared.entry.Entry.TheVariants as entry
-use Rattle.phrase_read.specs.Reads.{Read, ◌>>=◌, fault, kept_if, found}
-use Rattle.phrase_read.specs.Lexemes.{symbol_at, behind, name_at}
-use Rattle.phrase_read.specs.Expressions.{whole_expr_at}
-use Rattle.phrase_read.specs.Rights.{right_at}
-use Rattle.phrase_read.specs.Statements.{whole_statement_at}
+use Rattle.verilog_expression.specs.declared.fault.Code.TheVariants as code
+use Rattle.verilog_expression.specs.declared.entry.Entry.{Entry}
+use Rattle.verilog_expression.specs.declared.entry.Entry.TheVariants as entry
+use Rattle.verilog_expression.specs.Reads.{Read, ◌>>=◌, fault, kept_if, found}
+use Rattle.verilog_expression.specs.Lexemes.{symbol_at, behind, name_at}
+use Rattle.verilog_expression.specs.Expressions.{whole_expr_at}
+use Rattle.verilog_expression.specs.Rights.{right_at}
+use Rattle.verilog_expression.specs.Statements.{whole_statement_at}
 use Rattle.verilog_read.specs.declared.section.Section.{Section}
 use Rattle.verilog_read.specs.declared.section.Section.TheVariants as section
 use Rattle.verilog_read.specs.Entries.{entry_in, free_in}
 use Rattle.verilog_read.specs.Header.{range_at, fresh_at}
 use Rattle.verilog_read.specs.Declarations.{ends_at, integer_item_at, reg_item_at}
 
-abbrev pub with_wire : List ℕ → WireTree → Plan → Plan
+abbrev pub with_wire : List ℕ → WireTree → Netlist → Netlist
 with_wire s w d = record d { names = d.names ++ s ∷ []; wires = d.wires ++ w ∷ [] }
 
-abbrev pub with_assign : AssignTree → Plan → Plan
+abbrev pub with_assign : AssignTree → Netlist → Netlist
 with_assign a d = record d { assigns = d.assigns ++ a ∷ [] }
 
-abbrev pub with_always : Act Net → Plan → Plan
+abbrev pub with_always : StatementTree Net → Netlist → Netlist
 with_always a d = record d { always = d.always ++ a ∷ [] }
 
 -- behind `wire`: the right side does not know the wire's own name
-unfoldable pub wire_at : Plan → List Lexeme → Read Plan
+unfoldable pub wire_at : Netlist → List Lexeme → Read Netlist
 wire_at d ts = do
   w ← range_at ts
   s ← fresh_at d w.1
@@ -46,14 +46,14 @@ as_output (Some (entry.Output port width)) = Some (port, width)
 as_output e = None
 
 -- the name of an output to which nothing is assigned yet
-unfoldable pub output_at : Plan → List Lexeme → Read (ℕ × ℕ)
+unfoldable pub output_at : Netlist → List Lexeme → Read (ℕ × ℕ)
 output_at d ts = do
   s ← name_at ts
   o ← found (as_output (entry_in d s.0)) code.Unknown ts
   kept_if (not (is_assigned d.assigns o.0)) (o, s.1) code.Twice ts
 
 -- behind `assign`
-unfoldable pub assign_at : Plan → List Lexeme → Read Plan
+unfoldable pub assign_at : Netlist → List Lexeme → Read Netlist
 assign_at d ts = do
   o ← output_at d ts
   b ← symbol_at symbol.Assign o.1
@@ -62,14 +62,14 @@ assign_at d ts = do
   Ok (with_assign (record { port = o.0.0; value = e.0.tree }) d, r)
 
 -- behind `always`
-unfoldable pub always_at : Plan → List Lexeme → Read Plan
+unfoldable pub always_at : Netlist → List Lexeme → Read Netlist
 always_at d ts = do
   a ← behind (LSymbol symbol.At ∷ LSymbol symbol.OpenParenthesis ∷ LKeyword keyword.Posedge ∷ LName (codes "clk") ∷ LSymbol symbol.CloseParenthesis ∷ []) ts
   e ← whole_statement_at (entry_in d) (free_in d) a
   Ok (with_always e.0 d, e.1)
 
 -- an item, whose section is known by its first word
-unfoldable pub item_at : Plan → List Lexeme → Read Plan
+unfoldable pub item_at : Netlist → List Lexeme → Read Netlist
 item_at d (LKeyword keyword.Integer ∷ ts) = integer_item_at d ts
 item_at d (LKeyword keyword.Reg ∷ ts) = reg_item_at d ts
 item_at d (LKeyword keyword.Wire ∷ ts) = wire_at d ts
@@ -94,7 +94,7 @@ section_of (LKeyword keyword.Always ∷ ts) = Some section.Always
 section_of ts = None
 
 -- an item that stands in no earlier section than the one before it
-unfoldable pub item_in : Section → Plan → List Lexeme → Read (Section × Plan)
+unfoldable pub item_in : Section → Netlist → List Lexeme → Read (Section × Netlist)
 item_in now d ts = do
   s ← found (section_of ts) code.Syntax ts
   ordered ← kept_if (nat_le (rank now) (rank s)) ts code.Order ts
@@ -102,7 +102,7 @@ item_in now d ts = do
   Ok ((s, x.0), x.1)
 
 -- the items up to `endmodule`, fewer than so many
-unfoldable pub items_at : ℕ → Section → Plan → List Lexeme → Read Plan
+unfoldable pub items_at : ℕ → Section → Netlist → List Lexeme → Read Netlist
 items_at zero now d ts = fault code.Syntax ts
 items_at (suc n) now d (LKeyword keyword.Endmodule ∷ ts) = Ok (d, ts)
 items_at (suc n) now d ts = do

@@ -5,5 +5,5 @@ pub mod Items
 pub mod Designs
 pub mod Texts
 pub mod Parts
-pub mod Seen
+pub mod View
 pub mod Words

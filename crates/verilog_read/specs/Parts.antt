@@ -1,5 +1,5 @@
 -- The parts of a loop in memory.
-use Rattle.phrase_read.specs.Seen.{mark_lexeme}
+use Rattle.verilog_expression.specs.View.{mark_lexeme}
 use Rattle.verilog_read.specs.declared.memory.Part as memory
 use Rattle.verilog_read.specs.declared.memory.Part.TheVariants as part
 use Rattle.verilog_read.specs.Declarations.{Part, This, Same, Bound}

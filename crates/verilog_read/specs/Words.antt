@@ -1,11 +1,11 @@
 -- The first words of items, and what a register or a memory has behind its name.
 use Rattle.std.specs.Prelude.{Bool, true, false, Option, Some, None, Ok, List, ◌∷◌}
-use Rattle.net_core.specs.Nets.{Plan}
+use Rattle.net_core.specs.Nets.{Netlist}
 use Rattle.verilog_lex.specs.declared.token.Keyword.TheVariants as keyword
 use Rattle.verilog_lex.specs.declared.token.Symbol.TheVariants as symbol
 use Rattle.verilog_lex.specs.Lexeme.{Lexeme, LKeyword, LSymbol}
-use Rattle.phrase_read.specs.declared.fault.Code.TheVariants as code
-use Rattle.phrase_read.specs.Reads.{Read, fault}
+use Rattle.verilog_expression.specs.declared.fault.Code.TheVariants as code
+use Rattle.verilog_expression.specs.Reads.{Read, fault}
 use Rattle.verilog_read.specs.declared.section.Section.{Section}
 use Rattle.verilog_read.specs.declared.section.Section.TheVariants as section
 use Rattle.verilog_read.specs.declared.sections.Item.{Item}
@@ -30,7 +30,7 @@ item_section item.Assign = section.Assigns
 item_section item.Always = section.Always
 
 -- behind the first word of an item
-abbrev pub behind_word : Item → Plan → List Lexeme → Read Plan
+abbrev pub behind_word : Item → Netlist → List Lexeme → Read Netlist
 behind_word item.Integer = integer_item_at
 behind_word item.Reg = reg_item_at
 behind_word item.Wire = wire_at

@@ -1,12 +1,12 @@
 //! A design with one more port or item, behind those that it has.
 
 ghost use Rattle.std.specs.Prelude.{◌≡◌, ◌∷◌, ◌++◌, [], suc, map, string_bytes, IfOk, OnOk};
-ghost use Rattle.net_core.specs.View.{act_of, assign_of, plan_of, wire_of};
+ghost use Rattle.net_core.specs.View.{statement_of, assign_of, netlist_of, wire_of};
 ghost use Rattle.verilog_read.specs.Entries.{port_entry};
 ghost use Rattle.verilog_read.specs.Header as header;
 ghost use Rattle.verilog_read.specs.Declarations as declarations;
 ghost use Rattle.verilog_read.specs.Items as items;
-ghost use Rattle.verilog_read.specs.Seen.{AddsEntry, IsNew, NoWires, OnlyPorts, declared_entry, found_in, with_one};
+ghost use Rattle.verilog_read.specs.View.{AddsEntry, IsNew, NoWires, OnlyPorts, declared_entry, found_in, with_one};
 
 use crate::flags::raise;
 use crate::partial::{Counts, Partial};
@@ -14,8 +14,8 @@ use crate::targets::note;
 use indexmap::IndexMap;
 use net_core::design::{Assign, Declared, Port, Wire};
 use net_core::tree::{Net, Stmt};
-use phrase_read::Entry;
 use std::alloc::{AllocError, Global};
+use verilog_expression::Entry;
 
 // The number of the next of so many nets. A text with more names than 32 bits count takes more memory than there is.
 fn next_number(count: usize) -> Result<u32, AllocError>
@@ -78,9 +78,9 @@ pub(crate) fn with_port<'a>(
     name: &'a str,
     port: Port,
 ) -> Result<Partial<'a>, AllocError>
-    requires fresh { IsNew (plan_of partial) name.now }
-    requires only { OnlyPorts (plan_of partial) }
-    ensures { IfOk result (λ d. plan_of d ≡ header.with_port name.now port (plan_of partial.entry)) }
+    requires fresh { IsNew (netlist_of partial) name.now }
+    requires only { OnlyPorts (netlist_of partial) }
+    ensures { IfOk result (λ d. netlist_of d ≡ header.with_port name.now port (netlist_of partial.entry)) }
 {
     let Partial {
         mut design,
@@ -149,9 +149,9 @@ pub(crate) fn with_declared<'a>(
     name: &'a str,
     item: Declared,
 ) -> Result<Partial<'a>, AllocError>
-    requires fresh { IsNew (plan_of partial) name.now }
-    requires wires { NoWires (plan_of partial) }
-    ensures { IfOk result (λ d. plan_of d ≡ declarations.with_declared name.now item (plan_of partial.entry)) }
+    requires fresh { IsNew (netlist_of partial) name.now }
+    requires wires { NoWires (netlist_of partial) }
+    ensures { IfOk result (λ d. netlist_of d ≡ declarations.with_declared name.now item (netlist_of partial.entry)) }
 {
     let Partial {
         mut design,
@@ -180,8 +180,8 @@ pub(crate) fn with_wire<'a>(
     name: &'a str,
     wire: Wire,
 ) -> Result<Partial<'a>, AllocError>
-    requires { IsNew (plan_of partial) name.now }
-    ensures { IfOk result (λ d. plan_of d ≡ items.with_wire name.now (wire_of wire) (plan_of partial.entry)) }
+    requires { IsNew (netlist_of partial) name.now }
+    ensures { IfOk result (λ d. netlist_of d ≡ items.with_wire name.now (wire_of wire) (netlist_of partial.entry)) }
 {
     let Partial {
         mut design,
@@ -211,7 +211,7 @@ pub(crate) fn with_assign<'a>(
     partial: Partial<'a>,
     assign: Assign,
 ) -> Result<Partial<'a>, AllocError>
-    ensures { IfOk result (λ d. plan_of d ≡ items.with_assign (assign_of assign) (plan_of partial.entry)) }
+    ensures { IfOk result (λ d. netlist_of d ≡ items.with_assign (assign_of assign) (netlist_of partial.entry)) }
 {
     let Partial {
         mut design,
@@ -236,7 +236,7 @@ pub(crate) fn with_always<'a>(
     partial: Partial<'a>,
     always: Stmt<Net>,
 ) -> Result<Partial<'a>, AllocError>
-    ensures { IfOk result (λ d. plan_of d ≡ items.with_always (act_of always) (plan_of partial.entry)) }
+    ensures { IfOk result (λ d. netlist_of d ≡ items.with_always (statement_of always) (netlist_of partial.entry)) }
 {
     let Partial {
         mut design,

@@ -1,10 +1,10 @@
 //! Integers, registers and memories.
 
 ghost use Rattle.std.specs.Prelude.{◌≡◌, IfOk};
-ghost use Rattle.net_core.specs.View.{plan_of};
-ghost use Rattle.phrase_read.specs.Seen.{Gives, seen};
+ghost use Rattle.net_core.specs.View.{netlist_of};
+ghost use Rattle.verilog_expression.specs.View.{Gives, lexemes_left};
 ghost use Rattle.verilog_read.specs.Declarations.{integer_item_at, reg_item_at, register_at, stored_at};
-ghost use Rattle.verilog_read.specs.Seen.{IsNew, NoWires};
+ghost use Rattle.verilog_read.specs.View.{IsNew, NoWires};
 ghost use Rattle.verilog_read.specs.Words.{storage_at};
 
 use crate::added::with_declared;
@@ -12,9 +12,9 @@ use crate::memory::memory;
 use crate::partial::Partial;
 use crate::parts::{ends, fresh, range};
 use net_core::design::Declared;
-use phrase_read::lexemes::{constant, fault, lexeme};
-use phrase_read::{Code, Mark, PhraseError, Rest};
 use std::alloc::Global;
+use verilog_expression::lexemes::{constant, fault, lexeme};
+use verilog_expression::{Code, Mark, PhraseError, Rest};
 use verilog_lex::{Symbol, Token, TokenKind};
 
 /// An integer, behind its keyword.
@@ -24,9 +24,9 @@ pub(crate) fn integer_item<'a>(
     partial: Partial<'a>,
     rest: Rest<'a>,
 ) -> Result<(Partial<'a>, Rest<'a>), PhraseError>
-    requires { NoWires (plan_of partial) }
-    ensures read { Gives (λ x. (plan_of x.0, seen x.1)) result (integer_item_at (plan_of partial.entry) (seen rest.entry)) }
-    ensures wires { IfOk result (λ x. NoWires (plan_of x.0)) }
+    requires { NoWires (netlist_of partial) }
+    ensures read { Gives (λ x. (netlist_of x.0, lexemes_left x.1)) result (integer_item_at (netlist_of partial.entry) (lexemes_left rest.entry)) }
+    ensures wires { IfOk result (λ x. NoWires (netlist_of x.0)) }
 {
     let (name, rest) = fresh(&partial, rest)?;
     let rest = lexeme(Mark::Symbol(Symbol::Semicolon), rest)?;
@@ -43,10 +43,10 @@ fn register<'a>(
     name: &'a str,
     rest: Rest<'a>,
 ) -> Result<(Partial<'a>, Rest<'a>), PhraseError>
-    requires fresh { IsNew (plan_of partial) name.now }
-    requires wires { NoWires (plan_of partial) }
-    ensures read { Gives (λ x. (plan_of x.0, seen x.1)) result (register_at (plan_of partial.entry) width name.now (seen rest.entry)) }
-    ensures wires { IfOk result (λ x. NoWires (plan_of x.0)) }
+    requires fresh { IsNew (netlist_of partial) name.now }
+    requires wires { NoWires (netlist_of partial) }
+    ensures read { Gives (λ x. (netlist_of x.0, lexemes_left x.1)) result (register_at (netlist_of partial.entry) width name.now (lexemes_left rest.entry)) }
+    ensures wires { IfOk result (λ x. NoWires (netlist_of x.0)) }
 {
     let (first, rest) = constant(rest)?;
     let rest = ends(first.width == width, rest)?;
@@ -56,7 +56,7 @@ fn register<'a>(
 
 // Behind the name of a register, `=`, and of a memory, `[`: whether it is the first.
 fn storage<'a>(rest: Rest<'a>) -> Result<(bool, Rest<'a>), PhraseError>
-    ensures { Gives (λ x. (x.0, seen x.1)) result (storage_at (seen rest.entry)) }
+    ensures { Gives (λ x. (x.0, lexemes_left x.1)) result (storage_at (lexemes_left rest.entry)) }
 {
     match rest.tokens {
         [
@@ -85,10 +85,10 @@ fn stored<'a>(
     name: &'a str,
     rest: Rest<'a>,
 ) -> Result<(Partial<'a>, Rest<'a>), PhraseError>
-    requires fresh { IsNew (plan_of partial) name.now }
-    requires wires { NoWires (plan_of partial) }
-    ensures read { Gives (λ x. (plan_of x.0, seen x.1)) result (stored_at (plan_of partial.entry) width name.now (seen rest.entry)) }
-    ensures wires { IfOk result (λ x. NoWires (plan_of x.0)) }
+    requires fresh { IsNew (netlist_of partial) name.now }
+    requires wires { NoWires (netlist_of partial) }
+    ensures read { Gives (λ x. (netlist_of x.0, lexemes_left x.1)) result (stored_at (netlist_of partial.entry) width name.now (lexemes_left rest.entry)) }
+    ensures wires { IfOk result (λ x. NoWires (netlist_of x.0)) }
 {
     let (is_register, rest) = storage(rest)?;
     if is_register {
@@ -105,9 +105,9 @@ pub(crate) fn reg_item<'a>(
     partial: Partial<'a>,
     rest: Rest<'a>,
 ) -> Result<(Partial<'a>, Rest<'a>), PhraseError>
-    requires { NoWires (plan_of partial) }
-    ensures read { Gives (λ x. (plan_of x.0, seen x.1)) result (reg_item_at (plan_of partial.entry) (seen rest.entry)) }
-    ensures wires { IfOk result (λ x. NoWires (plan_of x.0)) }
+    requires { NoWires (netlist_of partial) }
+    ensures read { Gives (λ x. (netlist_of x.0, lexemes_left x.1)) result (reg_item_at (netlist_of partial.entry) (lexemes_left rest.entry)) }
+    ensures wires { IfOk result (λ x. NoWires (netlist_of x.0)) }
 {
     let (width, rest) = range(rest)?;
     let (name, rest) = fresh(&partial, rest)?;

@@ -1,7 +1,7 @@
 //! Flags by number: none is up beyond the last.
 
 ghost use Rattle.std.specs.Prelude.{◌≡◌, ◌==◌, OnOk};
-ghost use Rattle.verilog_read.specs.Seen.{Raises, is_up};
+ghost use Rattle.verilog_read.specs.View.{Raises, is_up};
 
 use std::alloc::AllocError;
 

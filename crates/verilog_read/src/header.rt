@@ -1,23 +1,23 @@
 //! The header of a design: its ports.
 
 ghost use Rattle.std.specs.Prelude.{◌≡◌, IfOk};
-ghost use Rattle.net_core.specs.View.{plan_of};
-ghost use Rattle.phrase_read.specs.Seen.{Finds, Gives, comma_at, seen};
+ghost use Rattle.net_core.specs.View.{netlist_of};
+ghost use Rattle.verilog_expression.specs.View.{Finds, Gives, comma_at, lexemes_left};
 ghost use Rattle.verilog_read.specs.Header.{direction_at, header_at, port_at, ports_at};
-ghost use Rattle.verilog_read.specs.Seen.{NoWires, OnlyPorts};
+ghost use Rattle.verilog_read.specs.View.{NoWires, OnlyPorts};
 
 use crate::added::with_port;
 use crate::partial::Partial;
 use crate::parts::{fresh, range};
 use net_core::design::Port;
-use phrase_read::lexemes::{fault, lexeme, phrase};
-use phrase_read::{Code, Mark, PhraseError, Rest};
 use std::alloc::Global;
+use verilog_expression::lexemes::{fault, lexeme, phrase};
+use verilog_expression::{Code, Mark, PhraseError, Rest};
 use verilog_lex::{Keyword, Symbol, Token, TokenKind};
 
 // The direction of a port: whether it is an output.
 fn direction<'a>(rest: Rest<'a>) -> Result<(bool, Rest<'a>), PhraseError>
-    ensures { Gives (λ x. (x.0, seen x.1)) result (direction_at (seen rest.entry)) }
+    ensures { Gives (λ x. (x.0, lexemes_left x.1)) result (direction_at (lexemes_left rest.entry)) }
 {
     match rest.tokens {
         [
@@ -45,9 +45,9 @@ fn port<'a>(
     partial: Partial<'a>,
     rest: Rest<'a>,
 ) -> Result<(Partial<'a>, Rest<'a>), PhraseError>
-    requires { OnlyPorts (plan_of partial) }
-    ensures read { Gives (λ x. (plan_of x.0, seen x.1)) result (port_at (plan_of partial.entry) (seen rest.entry)) }
-    ensures only { IfOk result (λ x. OnlyPorts (plan_of x.0)) }
+    requires { OnlyPorts (netlist_of partial) }
+    ensures read { Gives (λ x. (netlist_of x.0, lexemes_left x.1)) result (port_at (netlist_of partial.entry) (lexemes_left rest.entry)) }
+    ensures only { IfOk result (λ x. OnlyPorts (netlist_of x.0)) }
 {
     let (output, rest) = direction(rest)?;
     let rest = lexeme(Mark::Keyword(Keyword::Wire), rest)?;
@@ -59,7 +59,7 @@ fn port<'a>(
 
 // What is left behind a comma, where one stands in front.
 fn comma<'a>(rest: Rest<'a>) -> Option<Rest<'a>>
-    ensures { Finds (λ r. seen r) result (comma_at (seen rest.entry)) }
+    ensures { Finds (λ r. lexemes_left r) result (comma_at (lexemes_left rest.entry)) }
 {
     match rest.tokens {
         [
@@ -80,9 +80,9 @@ fn ports<'a>(
     partial: Partial<'a>,
     rest: Rest<'a>,
 ) -> Result<(Partial<'a>, Rest<'a>), PhraseError>
-    requires { OnlyPorts (plan_of partial) }
-    ensures read { Gives (λ x. (plan_of x.0, seen x.1)) result (ports_at most (plan_of partial.entry) (seen rest.entry)) }
-    ensures only { IfOk result (λ x. OnlyPorts (plan_of x.0)) }
+    requires { OnlyPorts (netlist_of partial) }
+    ensures read { Gives (λ x. (netlist_of x.0, lexemes_left x.1)) result (ports_at most (netlist_of partial.entry) (lexemes_left rest.entry)) }
+    ensures only { IfOk result (λ x. OnlyPorts (netlist_of x.0)) }
 {
     let mut left = most;
     let mut before = partial;
@@ -105,15 +105,15 @@ pub(crate) fn header<'a>(
     alloc: Global,
     rest: Rest<'a>,
 ) -> Result<(Partial<'a>, Rest<'a>), PhraseError>
-    ensures read { Gives (λ x. (plan_of x.0, seen x.1)) result (header_at (seen rest.entry)) }
-    ensures wires { IfOk result (λ x. NoWires (plan_of x.0)) }
+    ensures read { Gives (λ x. (netlist_of x.0, lexemes_left x.1)) result (header_at (lexemes_left rest.entry)) }
+    ensures wires { IfOk result (λ x. NoWires (netlist_of x.0)) }
 {
-    let front = [
+    let prefix = [
         Mark::Keyword(Keyword::Module),
         Mark::Name(b"ehdl"),
         Mark::Symbol(Symbol::OpenParenthesis),
     ];
-    let rest = phrase(&front, rest)?;
+    let rest = phrase(&prefix, rest)?;
     let (partial, rest) = ports(alloc, rest.tokens.len(), Partial::new(alloc), rest)?;
     let end = [
         Mark::Symbol(Symbol::CloseParenthesis),

@@ -1,8 +1,8 @@
 //! Wires, assigns and always blocks, each behind the items before it.
 
 ghost use Rattle.std.specs.Prelude.{◌≡◌};
-ghost use Rattle.net_core.specs.View.{plan_of};
-ghost use Rattle.phrase_read.specs.Seen.{Gives, seen};
+ghost use Rattle.net_core.specs.View.{netlist_of};
+ghost use Rattle.verilog_expression.specs.View.{Gives, lexemes_left};
 ghost use Rattle.verilog_read.specs.Items as items;
 ghost use Rattle.verilog_read.specs.Items.{always_at, assign_at, output_at, wire_at};
 
@@ -10,9 +10,11 @@ use crate::added::{with_always, with_assign, with_wire};
 use crate::partial::Partial;
 use crate::parts::{ends, fresh, range};
 use net_core::design::{Assign, Wire};
-use phrase_read::lexemes::{fault, lexeme, name, phrase};
-use phrase_read::{Code, Entry, Mark, Names, PhraseError, Rest, expression, right_side, statement};
 use std::alloc::Global;
+use verilog_expression::lexemes::{fault, lexeme, name, phrase};
+use verilog_expression::{
+    Code, Entry, Mark, Names, PhraseError, Rest, expression, right_side, statement,
+};
 use verilog_lex::{Keyword, Symbol};
 
 /// A wire, behind its keyword.
@@ -22,7 +24,7 @@ pub(crate) fn wire_item<'a>(
     partial: Partial<'a>,
     rest: Rest<'a>,
 ) -> Result<(Partial<'a>, Rest<'a>), PhraseError>
-    ensures { Gives (λ x. (plan_of x.0, seen x.1)) result (wire_at (plan_of partial.entry) (seen rest.entry)) }
+    ensures { Gives (λ x. (netlist_of x.0, lexemes_left x.1)) result (wire_at (netlist_of partial.entry) (lexemes_left rest.entry)) }
 {
     let (width, rest) = range(rest)?;
     let (name, rest) = fresh(&partial, rest)?;
@@ -49,7 +51,7 @@ fn as_output(entry: Option<Entry>) -> Option<(u32, u8)>
 // An output to which nothing is assigned yet: its number and its width.
 #[tactic(auto, unfolding(crate::specs::Items::output_at))]
 fn output<'a>(partial: &Partial, rest: Rest<'a>) -> Result<(u32, u8, Rest<'a>), PhraseError>
-    ensures { Gives (λ x. ((x.0, x.1), seen x.2)) result (output_at (plan_of partial.now) (seen rest.entry)) }
+    ensures { Gives (λ x. ((x.0, x.1), lexemes_left x.2)) result (output_at (netlist_of partial.now) (lexemes_left rest.entry)) }
 {
     let (name, after) = name(rest)?;
     let Some((port, width)) = as_output(partial.find(name)) else {
@@ -68,7 +70,7 @@ pub(crate) fn assign_item<'a>(
     partial: Partial<'a>,
     rest: Rest<'a>,
 ) -> Result<(Partial<'a>, Rest<'a>), PhraseError>
-    ensures { Gives (λ x. (plan_of x.0, seen x.1)) result (assign_at (plan_of partial.entry) (seen rest.entry)) }
+    ensures { Gives (λ x. (netlist_of x.0, lexemes_left x.1)) result (assign_at (netlist_of partial.entry) (lexemes_left rest.entry)) }
 {
     let (port, width, rest) = output(&partial, rest)?;
     let rest = lexeme(Mark::Symbol(Symbol::Assign), rest)?;
@@ -85,16 +87,16 @@ pub(crate) fn always_item<'a>(
     partial: Partial<'a>,
     rest: Rest<'a>,
 ) -> Result<(Partial<'a>, Rest<'a>), PhraseError>
-    ensures { Gives (λ x. (plan_of x.0, seen x.1)) result (always_at (plan_of partial.entry) (seen rest.entry)) }
+    ensures { Gives (λ x. (netlist_of x.0, lexemes_left x.1)) result (always_at (netlist_of partial.entry) (lexemes_left rest.entry)) }
 {
-    let front = [
+    let prefix = [
         Mark::Symbol(Symbol::At),
         Mark::Symbol(Symbol::OpenParenthesis),
         Mark::Keyword(Keyword::Posedge),
         Mark::Name(b"clk"),
         Mark::Symbol(Symbol::CloseParenthesis),
     ];
-    let rest = phrase(&front, rest)?;
+    let rest = phrase(&prefix, rest)?;
     let (block, rest) = statement(alloc, &partial, rest)?;
     let partial = with_always(partial, block)?;
     Ok((partial, rest))

@@ -1,20 +1,20 @@
 //! Memories: how many words, and the loop that fills them.
 
 ghost use Rattle.std.specs.Prelude.{◌≡◌, ◌^◌, ◌≤◌, IfOk, IfSome, map};
-ghost use Rattle.net_core.specs.View.{plan_of};
-ghost use Rattle.phrase_read.specs.Seen.{Gives, seen};
+ghost use Rattle.net_core.specs.View.{netlist_of};
+ghost use Rattle.verilog_expression.specs.View.{Gives, lexemes_left};
 ghost use Rattle.verilog_read.specs.Declarations as declarations;
 ghost use Rattle.verilog_read.specs.Declarations.{all_parts_at, fill_at, integer_at, loop_parts, memory_at, part_at};
 ghost use Rattle.verilog_read.specs.Parts.{part_of};
-ghost use Rattle.verilog_read.specs.Seen.{IsNew, NoWires};
+ghost use Rattle.verilog_read.specs.View.{IsNew, NoWires};
 
 use crate::added::with_declared;
 use crate::partial::Partial;
 use crate::parts::ends;
 use net_core::design::Declared;
-use phrase_read::lexemes::{constant, fault, lexeme, name, number, phrase};
-use phrase_read::{Code, Entry, Mark, Names, PhraseError, Rest};
 use std::alloc::Global;
+use verilog_expression::lexemes::{constant, fault, lexeme, name, number, phrase};
+use verilog_expression::{Code, Entry, Mark, Names, PhraseError, Rest};
 use verilog_lex::{Keyword, Symbol};
 
 // How many words an index of a width selects from.
@@ -52,7 +52,7 @@ pub(crate) enum Part<'a> {
 // What is left behind a name that stood before.
 #[tactic(auto, unfolding(crate::specs::Declarations::part_at))]
 fn same<'a>(before: &[u8], rest: Rest<'a>) -> Result<Rest<'a>, PhraseError>
-    ensures { Gives (λ r. seen r) result (part_at (declarations.Part.Same before.now) (seen rest.entry)) }
+    ensures { Gives (λ r. lexemes_left r) result (part_at (declarations.Part.Same before.now) (lexemes_left rest.entry)) }
 {
     let (name, after) = name(rest)?;
     if before == name {
@@ -65,7 +65,7 @@ fn same<'a>(before: &[u8], rest: Rest<'a>) -> Result<Rest<'a>, PhraseError>
 // What is left behind the number of words.
 #[tactic(auto, unfolding(crate::specs::Declarations::part_at))]
 fn bound<'a>(words: u32, rest: Rest<'a>) -> Result<Rest<'a>, PhraseError>
-    ensures { Gives (λ r. seen r) result (part_at (declarations.Part.Bound words) (seen rest.entry)) }
+    ensures { Gives (λ r. lexemes_left r) result (part_at (declarations.Part.Bound words) (lexemes_left rest.entry)) }
 {
     let (number, after) = number(rest)?;
     if words == number {
@@ -78,7 +78,7 @@ fn bound<'a>(words: u32, rest: Rest<'a>) -> Result<Rest<'a>, PhraseError>
 // What is left behind a part.
 #[tactic(auto, unfolding(crate::specs::Declarations::part_at))]
 fn one_part<'a>(part: Part, rest: Rest<'a>) -> Result<Rest<'a>, PhraseError>
-    ensures { Gives (λ r. seen r) result (part_at (part_of part.entry) (seen rest.entry)) }
+    ensures { Gives (λ r. lexemes_left r) result (part_at (part_of part.entry) (lexemes_left rest.entry)) }
 {
     match part {
         Part::This(mark) => lexeme(mark, rest),
@@ -89,7 +89,7 @@ fn one_part<'a>(part: Part, rest: Rest<'a>) -> Result<Rest<'a>, PhraseError>
 
 // What is left behind several parts.
 fn all_parts<'a>(parts: &[Part], rest: Rest<'a>) -> Result<Rest<'a>, PhraseError>
-    ensures { Gives (λ r. seen r) result (all_parts_at (map part_of parts.now) (seen rest.entry)) }
+    ensures { Gives (λ r. lexemes_left r) result (all_parts_at (map part_of parts.now) (lexemes_left rest.entry)) }
 {
     let mut after = rest;
     for part in parts {
@@ -106,7 +106,7 @@ fn loop_head<'a, 'n>(
     rest: Rest<'a>,
 ) -> Result<Rest<'a>, PhraseError>
     requires { index ≤ 16 }
-    ensures { Gives (λ r. seen r) result (all_parts_at (loop_parts name.now integer.now (2 ^ index)) (seen rest.entry)) }
+    ensures { Gives (λ r. lexemes_left r) result (all_parts_at (loop_parts name.now integer.now (2 ^ index)) (lexemes_left rest.entry)) }
 {
     let parts = [
         Part::This(Mark::Symbol(Symbol::Assign)),
@@ -147,7 +147,7 @@ fn as_integer(entry: Option<Entry>) -> Option<u32>
 // The name of an integer, and its number.
 #[tactic(auto, unfolding(crate::specs::Declarations::integer_at))]
 fn integer<'a>(partial: &Partial, rest: Rest<'a>) -> Result<(&'a [u8], u32, Rest<'a>), PhraseError>
-    ensures { Gives (λ x. ((x.0.now, x.1), seen x.2)) result (integer_at (plan_of partial.now) (seen rest.entry)) }
+    ensures { Gives (λ x. ((x.0.now, x.1), lexemes_left x.2)) result (integer_at (netlist_of partial.now) (lexemes_left rest.entry)) }
 {
     let (name, after) = name(rest)?;
     let Some(integer) = as_integer(partial.find(name)) else {
@@ -166,19 +166,19 @@ fn fill<'a>(
     index: u8,
     rest: Rest<'a>,
 ) -> Result<(Partial<'a>, Rest<'a>), PhraseError>
-    requires fresh { IsNew (plan_of partial) name.now }
-    requires wires { NoWires (plan_of partial) }
+    requires fresh { IsNew (netlist_of partial) name.now }
+    requires wires { NoWires (netlist_of partial) }
     requires most { index ≤ 16 }
-    ensures read { Gives (λ x. (plan_of x.0, seen x.1)) result (fill_at (plan_of partial.entry) width name.now index (seen rest.entry)) }
-    ensures wires { IfOk result (λ x. NoWires (plan_of x.0)) }
+    ensures read { Gives (λ x. (netlist_of x.0, lexemes_left x.1)) result (fill_at (netlist_of partial.entry) width name.now index (lexemes_left rest.entry)) }
+    ensures wires { IfOk result (λ x. NoWires (netlist_of x.0)) }
 {
-    let front = [
+    let prefix = [
         Mark::Symbol(Symbol::Semicolon),
         Mark::Keyword(Keyword::Initial),
         Mark::Keyword(Keyword::For),
         Mark::Symbol(Symbol::OpenParenthesis),
     ];
-    let rest = phrase(&front, rest)?;
+    let rest = phrase(&prefix, rest)?;
     let (over, integer, rest) = integer(&partial, rest)?;
     let rest = loop_head(name, over, index, rest)?;
     let (first, rest) = constant(rest)?;
@@ -201,13 +201,13 @@ pub(crate) fn memory<'a>(
     name: &'a str,
     rest: Rest<'a>,
 ) -> Result<(Partial<'a>, Rest<'a>), PhraseError>
-    requires fresh { IsNew (plan_of partial) name.now }
-    requires wires { NoWires (plan_of partial) }
-    ensures read { Gives (λ x. (plan_of x.0, seen x.1)) result (memory_at (plan_of partial.entry) width name.now (seen rest.entry)) }
-    ensures wires { IfOk result (λ x. NoWires (plan_of x.0)) }
+    requires fresh { IsNew (netlist_of partial) name.now }
+    requires wires { NoWires (netlist_of partial) }
+    ensures read { Gives (λ x. (netlist_of x.0, lexemes_left x.1)) result (memory_at (netlist_of partial.entry) width name.now (lexemes_left rest.entry)) }
+    ensures wires { IfOk result (λ x. NoWires (netlist_of x.0)) }
 {
-    let front = [Mark::Number(0), Mark::Symbol(Symbol::Colon)];
-    let rest = phrase(&front, rest)?;
+    let prefix = [Mark::Number(0), Mark::Symbol(Symbol::Colon)];
+    let rest = phrase(&prefix, rest)?;
     let (last, end) = number(rest)?;
     let rest = lexeme(Mark::Symbol(Symbol::CloseBracket), end)?;
     match index_of(last) {

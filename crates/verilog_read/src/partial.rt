@@ -3,7 +3,7 @@
 ghost use Rattle.std.specs.Prelude.{◌≡◌, [], ℕ};
 ghost use Rattle.std.specs.List.{list_any};
 ghost use Rattle.std.specs.Str.{bytes_eq};
-ghost use Rattle.net_core.specs.View.{plan_of};
+ghost use Rattle.net_core.specs.View.{netlist_of};
 ghost use Rattle.net_core.specs.Width as width;
 ghost use Rattle.verilog_read.specs.Entries.{entry_in, free_in};
 ghost use Rattle.verilog_read.specs.Header.{no_design};
@@ -13,9 +13,9 @@ use crate::targets::Targets;
 use indexmap::IndexMap;
 use net_core::design::Design;
 use net_core::tree::Net;
-use phrase_read::{Entry, Names};
 use std::alloc::Global;
 use std::marker::Model;
+use verilog_expression::{Entry, Names};
 
 /// A design whose names are known. What they stand for is looked up by hash, so that a text takes time by its length.
 #[derive(Drop)]
@@ -40,8 +40,8 @@ pub(crate) struct Counts {
 
 impl<'a> Model for Partial<'a> {
     ghost use Rattle.net_core.specs.declared.design.Design.{Design as Made};
-    ghost use Rattle.net_core.specs.View.{plan_of};
-    ghost use Rattle.verilog_read.specs.Seen.{IsKnown};
+    ghost use Rattle.net_core.specs.View.{netlist_of};
+    ghost use Rattle.verilog_read.specs.View.{IsKnown};
     ghost use Rattle.net_core.specs.contracts.design.Design as made;
 
     ghost Value = { Made };
@@ -50,13 +50,13 @@ impl<'a> Model for Partial<'a> {
 
     ghost view = { λ p. p.design };
 
-    ghost invariant = { λ p. IsKnown (plan_of p.design) p.entries.entries p.counts p.targets p.assigned.items };
+    ghost invariant = { λ p. IsKnown (netlist_of p.design) p.entries.entries p.counts p.targets p.assigned.items };
 }
 
 impl<'a> Names for Partial<'a> {
-    ghost names = { λ d. entry_in (plan_of d) };
+    ghost names = { λ d. entry_in (netlist_of d) };
 
-    ghost free = { λ d. free_in (plan_of d) };
+    ghost free = { λ d. free_in (netlist_of d) };
 
     fn find(&self, name: &[u8]) -> Option<Entry> {
         if name == b"clk".as_slice() {
@@ -79,7 +79,7 @@ impl<'a> Names for Partial<'a> {
 impl<'a> Partial<'a> {
     /// Nothing so far.
     pub(crate) fn new(alloc: Global) -> Partial<'a>
-        ensures { plan_of result ≡ no_design }
+        ensures { netlist_of result ≡ no_design }
     {
         let design = Design {
             names: Vec::new(alloc),
@@ -109,14 +109,14 @@ impl<'a> Partial<'a> {
 
     /// Whether something of the design has a name.
     pub(crate) fn has_name(&self, name: &[u8]) -> bool
-        ensures { result ≡ list_any (bytes_eq name.now) (plan_of self.now).names }
+        ensures { result ≡ list_any (bytes_eq name.now) (netlist_of self.now).names }
     {
         self.entries.contains_key(name)
     }
 
     /// Whether something is assigned to a port.
     pub(crate) fn is_assigned(&self, port: usize) -> bool
-        ensures { result ≡ width.is_assigned (plan_of self.now).assigns port }
+        ensures { result ≡ width.is_assigned (netlist_of self.now).assigns port }
     {
         is_up(&self.assigned, port)
     }

@@ -1,23 +1,23 @@
 //! Single parts of items: widths, new names, the end of an item.
 
 ghost use Rattle.std.specs.Prelude.{◌≡◌, IfOk, IsTrue};
-ghost use Rattle.net_core.specs.View.{plan_of};
-ghost use Rattle.spelling_core.specs.FormedSyntax.{is_name};
-ghost use Rattle.phrase_read.specs.Seen.{Gives, seen};
+ghost use Rattle.net_core.specs.View.{netlist_of};
+ghost use Rattle.verilog_grammar.specs.FormedSyntax.{is_name};
+ghost use Rattle.verilog_expression.specs.View.{Gives, lexemes_left};
 ghost use Rattle.verilog_read.specs.Declarations.{ends_at};
 ghost use Rattle.verilog_read.specs.Header.{fresh_at, range_at};
-ghost use Rattle.verilog_read.specs.Seen.{IsNew};
+ghost use Rattle.verilog_read.specs.View.{IsNew};
 
 use crate::partial::Partial;
-use phrase_read::lexemes::{fault, lexeme, name, number, phrase};
-use phrase_read::{Code, Mark, PhraseError, Rest};
 use std::str;
+use verilog_expression::lexemes::{fault, lexeme, name, number, phrase};
+use verilog_expression::{Code, Mark, PhraseError, Rest};
 use verilog_lex::{Symbol, Token, TokenKind};
 
 /// A width in bits: `[n:0]` says n + 1, for n from 1 to 63, and where no range stands it is 1.
 #[tactic(auto, unfolding(crate::specs::Header::range_at))]
 pub(crate) fn range<'a>(rest: Rest<'a>) -> Result<(u8, Rest<'a>), PhraseError>
-    ensures { Gives (λ x. (x.0, seen x.1)) result (range_at (seen rest.entry)) }
+    ensures { Gives (λ x. (x.0, lexemes_left x.1)) result (range_at (lexemes_left rest.entry)) }
 {
     match rest.tokens {
         [
@@ -55,8 +55,8 @@ pub(crate) fn fresh<'a>(
     partial: &Partial,
     rest: Rest<'a>,
 ) -> Result<(&'a str, Rest<'a>), PhraseError>
-    ensures read { Gives (λ x. (x.0.now, seen x.1)) result (fresh_at (plan_of partial.now) (seen rest.entry)) }
-    ensures fresh { IfOk result (λ x. IsNew (plan_of partial.now) x.0.now) }
+    ensures read { Gives (λ x. (x.0.now, lexemes_left x.1)) result (fresh_at (netlist_of partial.now) (lexemes_left rest.entry)) }
+    ensures fresh { IfOk result (λ x. IsNew (netlist_of partial.now) x.0.now) }
 {
     let (name, after) = name(rest)?;
     if partial.has_name(name) {
@@ -68,7 +68,7 @@ pub(crate) fn fresh<'a>(
 /// The semicolon of an item, whose two sides have one width where the flag says so.
 #[tactic(auto, unfolding(crate::specs::Declarations::ends_at))]
 pub(crate) fn ends<'a>(fits: bool, rest: Rest<'a>) -> Result<Rest<'a>, PhraseError>
-    ensures { Gives (λ r. seen r) result (ends_at fits (seen rest.entry)) }
+    ensures { Gives (λ r. lexemes_left r) result (ends_at fits (lexemes_left rest.entry)) }
 {
     let after = lexeme(Mark::Symbol(Symbol::Semicolon), rest)?;
     if fits {

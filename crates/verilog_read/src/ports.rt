@@ -3,14 +3,14 @@
 ghost use Rattle.std.specs.Prelude.{◌≡◌, ◌<◌, ◌&&◌, map, string_bytes};
 ghost use Rattle.std.proofs.Common.{not};
 ghost use Rattle.net_core.specs.Ports.{port_list, port_names};
-ghost use Rattle.net_core.specs.View.{plan_of};
+ghost use Rattle.net_core.specs.View.{netlist_of};
 ghost use Rattle.net_core.specs.Width.{is_assigned};
 ghost use Rattle.verilog_read.specs.Designs as designs;
-ghost use Rattle.verilog_read.specs.Seen.{is_listed};
+ghost use Rattle.verilog_read.specs.View.{is_listed};
 
 use crate::partial::Partial;
 use net_core::design::Port;
-use spelling_core::formed::{PORT_COUNT, name_matches, port_matches};
+use verilog_grammar::formed::{PORT_COUNT, name_matches, port_matches};
 
 // Whether the port of a number is there, and as every design has it.
 fn is_listed(names: &[String], ports: &[Port], k: usize) -> bool
@@ -44,14 +44,14 @@ fn other_port(names: &[String], ports: &[Port]) -> Option<usize>
 
 // Whether nothing is assigned to a port that is an output.
 fn lacks_assign(partial: &Partial, port: Port, k: usize) -> bool
-    ensures { result ≡ (port.output && not (is_assigned (plan_of partial.now).assigns k)) }
+    ensures { result ≡ (port.output && not (is_assigned (netlist_of partial.now).assigns k)) }
 {
     port.output && !partial.is_assigned(k)
 }
 
 // The first of these outputs to which nothing is assigned.
 fn unassigned(partial: &Partial, ports: &[Port]) -> Option<usize>
-    ensures { result ≡ designs.unassigned 0 (plan_of partial.now).assigns ports.now }
+    ensures { result ≡ designs.unassigned 0 (netlist_of partial.now).assigns ports.now }
 {
     for k in 0..ports.len() {
         if lacks_assign(partial, ports[k], k) {
@@ -64,7 +64,7 @@ fn unassigned(partial: &Partial, ports: &[Port]) -> Option<usize>
 /// The first port that is not as every design has it, or else the first output to which nothing is assigned.
 #[tactic(auto, unfolding(crate::specs::Designs::port_fault))]
 pub(crate) fn port_fault(partial: &Partial) -> Option<usize>
-    ensures { result ≡ designs.port_fault (plan_of partial.now) }
+    ensures { result ≡ designs.port_fault (netlist_of partial.now) }
 {
     match other_port(&partial.design.names, &partial.design.ports) {
         Some(k) => Some(k),

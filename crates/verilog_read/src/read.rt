@@ -1,14 +1,14 @@
 //! A design from its text.
 
 ghost use Rattle.std.specs.Prelude.{◌≡◌, IfOk};
-ghost use Rattle.net_core.specs.Nets.{Plan};
-ghost use Rattle.net_core.specs.View.{plan_of};
-ghost use Rattle.spelling_core.specs.Spelling.{Spells};
+ghost use Rattle.net_core.specs.Nets.{Netlist};
+ghost use Rattle.net_core.specs.View.{netlist_of};
+ghost use Rattle.verilog_grammar.specs.Spelling.{Spells};
 ghost use Rattle.verilog_lex.specs.Lexeme.{lexemes_of};
-ghost use Rattle.phrase_read.specs.Seen.{Gives, seen};
+ghost use Rattle.verilog_expression.specs.View.{Gives, lexemes_left};
 ghost use Rattle.verilog_read.specs.Designs.{design_at, whole_at};
 ghost use Rattle.verilog_read.specs.Texts as texts;
-ghost use Rattle.verilog_read.specs.Texts.{IsOutcome, ReadsPlan, by_lexemes, by_ports, outcome_of};
+ghost use Rattle.verilog_read.specs.Texts.{IsOutcome, ReadsNetlist, by_lexemes, by_ports, outcome_of};
 ghost use Rattle.verilog_read.specs.Designs as designs;
 
 use crate::error::ReadError;
@@ -17,14 +17,14 @@ use crate::partial::Partial;
 use crate::ports::port_fault;
 use crate::sections::items;
 use net_core::design::Design;
-use phrase_read::lexemes::fault;
-use phrase_read::{Code, PhraseError, Rest};
 use std::alloc::Global;
+use verilog_expression::lexemes::fault;
+use verilog_expression::{Code, PhraseError, Rest};
 use verilog_lex::{LexError, Token, tokens};
 
 // A design behind which nothing is left.
 fn whole<'a>(partial: Partial<'a>, rest: Rest<'a>) -> Result<Partial<'a>, PhraseError>
-    ensures { Gives (λ d. plan_of d) result (whole_at (plan_of partial.entry) (seen rest.entry)) }
+    ensures { Gives (λ d. netlist_of d) result (whole_at (netlist_of partial.entry) (lexemes_left rest.entry)) }
 {
     match rest.tokens {
         [] => Ok(partial),
@@ -35,7 +35,7 @@ fn whole<'a>(partial: Partial<'a>, rest: Rest<'a>) -> Result<Partial<'a>, Phrase
 // The design that the tokens spell, its ports aside. There are fewer items than tokens.
 #[tactic(auto, unfolding(crate::specs::Designs::design_at))]
 fn design<'a>(alloc: Global, rest: Rest<'a>) -> Result<Partial<'a>, PhraseError>
-    ensures { Gives (λ d. plan_of d) result (design_at (seen rest.entry)) }
+    ensures { Gives (λ d. netlist_of d) result (design_at (lexemes_left rest.entry)) }
 {
     let (partial, rest) = header(alloc, rest)?;
     let (partial, rest) = items(alloc, rest.tokens.len(), partial, rest)?;
@@ -66,7 +66,7 @@ fn error_of(code: Code, at: usize) -> ReadError
 
 // A design whose ports are as every design has them, and each of whose outputs is assigned.
 fn with_ports(partial: Partial) -> Result<Design, ReadError>
-    ensures { IsOutcome result (by_ports (plan_of partial.entry) (designs.port_fault (plan_of partial.entry))) }
+    ensures { IsOutcome result (by_ports (netlist_of partial.entry) (designs.port_fault (netlist_of partial.entry))) }
 {
     match port_fault(&partial) {
         None => Ok(partial.design),
@@ -95,9 +95,9 @@ pub fn read_text(alloc: Global, text: &[u8]) -> Result<Design, ReadError>
     // The design, or the first error, is that of the definition.
     ensures outcome { IsOutcome result (outcome_of text.now) }
     // The text spells what is read.
-    ensures found { IfOk result (λ d. Spells text.now (plan_of d)) }
+    ensures found { IfOk result (λ d. Spells text.now (netlist_of d)) }
     // A design that the text spells is read, unless memory runs out: so a text with an error spells none.
-    ensures only { (p : Plan) → Spells text.now p → ReadsPlan result p }
+    ensures only { (p : Netlist) → Spells text.now p → ReadsNetlist result p }
 {
     match tokens(alloc, text) {
         Ok(all) => read_tokens(alloc, text, &all),

@@ -1,19 +1,19 @@
 //! The items of a design, in the order of their sections.
 
 ghost use Rattle.std.specs.Prelude.{◌≡◌, ◌≤◌, IfOk};
-ghost use Rattle.net_core.specs.View.{plan_of};
-ghost use Rattle.phrase_read.specs.Seen.{Finds, Gives, seen};
+ghost use Rattle.net_core.specs.View.{netlist_of};
+ghost use Rattle.verilog_expression.specs.View.{Finds, Gives, lexemes_left};
 ghost use Rattle.verilog_read.specs.Items.{item_in, items_at, rank};
-ghost use Rattle.verilog_read.specs.Seen.{KeepsOrder, NoWires, endmodule_at};
+ghost use Rattle.verilog_read.specs.View.{KeepsOrder, NoWires, endmodule_at};
 ghost use Rattle.verilog_read.specs.Words.{begins_at, behind_word, item_section};
 
 use crate::declared::{integer_item, reg_item};
 use crate::items::{always_item, assign_item, wire_item};
 use crate::partial::Partial;
 use crate::section::Section;
-use phrase_read::lexemes::fault;
-use phrase_read::{Code, PhraseError, Rest};
 use std::alloc::Global;
+use verilog_expression::lexemes::fault;
+use verilog_expression::{Code, PhraseError, Rest};
 use verilog_lex::{Keyword, Token, TokenKind};
 
 fn rank(section: Section) -> u8
@@ -39,7 +39,7 @@ pub(crate) enum Item {
 
 // The item that begins in front, and what is left behind its first word.
 fn begins<'a>(rest: Rest<'a>) -> Option<(Item, Rest<'a>)>
-    ensures { Finds (λ x. (x.0, seen x.1)) result (begins_at (seen rest.entry)) }
+    ensures { Finds (λ x. (x.0, lexemes_left x.1)) result (begins_at (lexemes_left rest.entry)) }
 {
     match rest.tokens {
         [
@@ -82,9 +82,9 @@ fn item_behind<'a>(
     partial: Partial<'a>,
     rest: Rest<'a>,
 ) -> Result<(Partial<'a>, Rest<'a>), PhraseError>
-    requires { item_section item ≡ Section.Declared → NoWires (plan_of partial) }
-    ensures read { Gives (λ x. (plan_of x.0, seen x.1)) result (behind_word item (plan_of partial.entry) (seen rest.entry)) }
-    ensures wires { item_section item ≡ Section.Declared → IfOk result (λ x. NoWires (plan_of x.0)) }
+    requires { item_section item ≡ Section.Declared → NoWires (netlist_of partial) }
+    ensures read { Gives (λ x. (netlist_of x.0, lexemes_left x.1)) result (behind_word item (netlist_of partial.entry) (lexemes_left rest.entry)) }
+    ensures wires { item_section item ≡ Section.Declared → IfOk result (λ x. NoWires (netlist_of x.0)) }
 {
     match item {
         Item::Integer => integer_item(alloc, partial, rest),
@@ -103,9 +103,9 @@ fn ordered_item<'a>(
     partial: Partial<'a>,
     rest: Rest<'a>,
 ) -> Result<(Section, Partial<'a>, Rest<'a>), PhraseError>
-    requires { KeepsOrder now (plan_of partial) }
-    ensures read { Gives (λ x. ((x.0, plan_of x.1), seen x.2)) result (item_in now (plan_of partial.entry) (seen rest.entry)) }
-    ensures order { IfOk result (λ x. KeepsOrder x.0 (plan_of x.1)) }
+    requires { KeepsOrder now (netlist_of partial) }
+    ensures read { Gives (λ x. ((x.0, netlist_of x.1), lexemes_left x.2)) result (item_in now (netlist_of partial.entry) (lexemes_left rest.entry)) }
+    ensures order { IfOk result (λ x. KeepsOrder x.0 (netlist_of x.1)) }
 {
     let Some((item, behind)) = begins(rest) else {
         return fault(Code::Syntax, rest);
@@ -120,7 +120,7 @@ fn ordered_item<'a>(
 
 // What is left behind `endmodule`, where it stands in front.
 fn endmodule<'a>(rest: Rest<'a>) -> Option<Rest<'a>>
-    ensures { Finds (λ r. seen r) result (endmodule_at (seen rest.entry)) }
+    ensures { Finds (λ r. lexemes_left r) result (endmodule_at (lexemes_left rest.entry)) }
 {
     match rest.tokens {
         [
@@ -141,8 +141,8 @@ pub(crate) fn items<'a>(
     partial: Partial<'a>,
     rest: Rest<'a>,
 ) -> Result<(Partial<'a>, Rest<'a>), PhraseError>
-    requires { NoWires (plan_of partial) }
-    ensures { Gives (λ x. (plan_of x.0, seen x.1)) result (items_at most Section.Declared (plan_of partial.entry) (seen rest.entry)) }
+    requires { NoWires (netlist_of partial) }
+    ensures { Gives (λ x. (netlist_of x.0, lexemes_left x.1)) result (items_at most Section.Declared (netlist_of partial.entry) (lexemes_left rest.entry)) }
 {
     let mut left = most;
     let mut now = Section::Declared;

@@ -1,8 +1,8 @@
 //! Which registers and memories always blocks set.
 
 ghost use Rattle.std.specs.Prelude.{◌≡◌, OnOk};
-ghost use Rattle.net_core.specs.View.{act_of, acts_of};
-ghost use Rattle.verilog_read.specs.Seen.{AddsTargets, AddsAllTargets};
+ghost use Rattle.net_core.specs.View.{statement_of, statements_of};
+ghost use Rattle.verilog_read.specs.View.{AddsTargets, AddsAllTargets};
 
 use crate::flags::raise;
 use net_core::tree::{Net, Stmt, Stmts};
@@ -18,7 +18,7 @@ pub(crate) struct Targets {
 /// Notes what a statement sets.
 #[cycle(targets)]
 pub(crate) fn note(stmt: &Stmt<Net>, targets: &mut Targets) -> Result<(), AllocError>
-    ensures { OnOk result (AddsTargets targets.old targets.new (act_of stmt.now)) }
+    ensures { OnOk result (AddsTargets targets.old targets.new (statement_of stmt.now)) }
 {
     match stmt {
         Stmt::Block(more) => note_all(more, targets),
@@ -35,7 +35,7 @@ pub(crate) fn note(stmt: &Stmt<Net>, targets: &mut Targets) -> Result<(), AllocE
 // Without a recursion over the statements: there may be as many as the text is long.
 #[cycle(targets)]
 fn note_all(stmts: &Stmts<Net>, targets: &mut Targets) -> Result<(), AllocError>
-    ensures { OnOk result (AddsAllTargets targets.old targets.new (acts_of stmts.now)) }
+    ensures { OnOk result (AddsAllTargets targets.old targets.new (statements_of stmts.now)) }
 {
     let mut left = stmts;
     while let Stmts::Then(first, more) = left {

@@ -1,4 +1,4 @@
-pub mod Adding
+pub mod AddsLemmas
 pub mod Words
 pub mod Written
 pub mod Facts

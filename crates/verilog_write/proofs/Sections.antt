@@ -10,13 +10,13 @@ use Rattle.net_core.specs.declared.design.Declared.{Declared}
 use Rattle.net_core.specs.declared.design.Wire.{Wire}
 use Rattle.net_core.specs.declared.design.Assign.{Assign}
 use Rattle.net_core.specs.Names.{name_of}
-use Rattle.net_core.specs.Nets.{Plan}
-use Rattle.net_core.specs.View.{tree_of, right_of, act_of, wire_of, assign_of}
+use Rattle.net_core.specs.Nets.{Netlist}
+use Rattle.net_core.specs.View.{tree_of, right_of, statement_of, wire_of, assign_of}
 use Rattle.verilog_lex.specs.Lexeme.{Lexeme, LSymbol}
 use Rattle.verilog_lex.specs.declared.token.Symbol.TheVariants as symbol
-use Rattle.spelling_core.specs.Grammar.{text_at, integer_name, register_name, memory_name, port_lexemes, declared_lexemes, wire_lexemes, assign_lexemes, always_lexemes, act_lexemes, ports_lexemes, all_declared, all_wires, all_assigns, all_always}
-use Rattle.verilog_write.specs.Adding.{AddsLine}
-use Rattle.verilog_write.proofs.Adding.{line_more}
+use Rattle.verilog_grammar.specs.Grammar.{text_at, integer_name, register_name, memory_name, port_lexemes, declared_lexemes, wire_lexemes, assign_lexemes, always_lexemes, statement_tree_lexemes, ports_lexemes, all_declared, all_wires, all_assigns, all_always}
+use Rattle.verilog_write.specs.Adds.{AddsLine}
+use Rattle.verilog_write.proofs.AddsLemmas.{line_more}
 
 -- what stands for the items of a list, each by its place
 abbrev pub section : {A : Type 0} → (ℕ → A → List Lexeme) → ℕ → List A → List Lexeme
@@ -49,20 +49,20 @@ section_done f at xs k ls {a} {b} l e h =
 abbrev pub comma_after : ℕ → ℕ → List Lexeme
 comma_after count at = if at + 1 == count then [] else LSymbol symbol.Comma ∷ []
 
-abbrev pub port_at : Plan → ℕ → ℕ → Port → List Lexeme
+abbrev pub port_at : Netlist → ℕ → ℕ → Port → List Lexeme
 port_at d count at p = port_lexemes (text_at d at) p ++ comma_after count at
 
-abbrev pub declared_at : Plan → ℕ → Declared → List Lexeme
+abbrev pub declared_at : Netlist → ℕ → Declared → List Lexeme
 declared_at d at x = declared_lexemes (integer_name d) (text_at d at) x
 
-abbrev pub wire_at : Plan → ℕ → Wire → List Lexeme
+abbrev pub wire_at : Netlist → ℕ → Wire → List Lexeme
 wire_at d at w = wire_lexemes (name_of d) (text_at d at) w.width (right_of w.right)
 
-abbrev pub assign_at : Plan → ℕ → Assign → List Lexeme
+abbrev pub assign_at : Netlist → ℕ → Assign → List Lexeme
 assign_at d at a = assign_lexemes (name_of d) (text_at d a.port) (tree_of a.value)
 
-abbrev pub always_at : Plan → ℕ → Stmt Net → List Lexeme
-always_at d at s = always_lexemes (act_lexemes (name_of d) (register_name d) (memory_name d) (act_of s))
+abbrev pub always_at : Netlist → ℕ → Stmt Net → List Lexeme
+always_at d at s = always_lexemes (statement_tree_lexemes (name_of d) (register_name d) (memory_name d) (statement_of s))
 
 last_comma : (count at : ℕ) → at + 1 ≡ count → comma_after count at ≡ []
 last_comma count at e = ap (λ b. if b then [] else LSymbol symbol.Comma ∷ []) (eq-eqb (at + 1) count e)
@@ -70,7 +70,7 @@ last_comma count at e = ap (λ b. if b then [] else LSymbol symbol.Comma ∷ [])
 more_comma : (count at : ℕ) → at + 1 < count → comma_after count at ≡ LSymbol symbol.Comma ∷ []
 more_comma count at l = ap (λ b. if b then [] else LSymbol symbol.Comma ∷ []) (ne_eqb (at + 1) count (λ e. omega arith))
 
-pub ports_section : (d : Plan) (count at : ℕ) (ps : List Port) → at + length ps ≡ count → section (port_at d count) at ps ≡ ports_lexemes d at ps
+pub ports_section : (d : Netlist) (count at : ℕ) (ps : List Port) → at + length ps ≡ count → section (port_at d count) at ps ≡ ports_lexemes d at ps
 ports_section d count at [] e = refl
 ports_section d count at (p ∷ []) e =
     append-nil (port_at d count at p) ∙ ap (λ ls. port_lexemes (text_at d at) p ++ ls) (last_comma count at (omega arith)) ∙ append-nil (port_lexemes (text_at d at) p)
@@ -79,18 +79,18 @@ ports_section d count at (p ∷ q ∷ ps) e =
     ∙ append_assoc (port_lexemes (text_at d at) p) (LSymbol symbol.Comma ∷ []) (section (port_at d count) (suc at) (q ∷ ps))
     ∙ ap (λ ls. port_lexemes (text_at d at) p ++ LSymbol symbol.Comma ∷ ls) (ports_section d count (suc at) (q ∷ ps) (omega arith))
 
-pub declared_section : (d : Plan) (at : ℕ) (xs : List Declared) → section (declared_at d) at xs ≡ all_declared d at xs
+pub declared_section : (d : Netlist) (at : ℕ) (xs : List Declared) → section (declared_at d) at xs ≡ all_declared d at xs
 declared_section d at [] = refl
 declared_section d at (x ∷ xs) = ap (λ ls. declared_at d at x ++ ls) (declared_section d (suc at) xs)
 
-pub wires_section : (d : Plan) (at : ℕ) (ws : List Wire) → section (wire_at d) at ws ≡ all_wires d at (map wire_of ws)
+pub wires_section : (d : Netlist) (at : ℕ) (ws : List Wire) → section (wire_at d) at ws ≡ all_wires d at (map wire_of ws)
 wires_section d at [] = refl
 wires_section d at (w ∷ ws) = ap (λ ls. wire_at d at w ++ ls) (wires_section d (suc at) ws)
 
-pub assigns_section : (d : Plan) (at : ℕ) (xs : List Assign) → section (assign_at d) at xs ≡ all_assigns d (map assign_of xs)
+pub assigns_section : (d : Netlist) (at : ℕ) (xs : List Assign) → section (assign_at d) at xs ≡ all_assigns d (map assign_of xs)
 assigns_section d at [] = refl
 assigns_section d at (a ∷ xs) = ap (λ ls. assign_at d at a ++ ls) (assigns_section d (suc at) xs)
 
-pub always_section : (d : Plan) (at : ℕ) (xs : List (Stmt Net)) → section (always_at d) at xs ≡ all_always d (map act_of xs)
+pub always_section : (d : Netlist) (at : ℕ) (xs : List (Stmt Net)) → section (always_at d) at xs ≡ all_always d (map statement_of xs)
 always_section d at [] = refl
 always_section d at (s ∷ xs) = ap (λ ls. always_at d at s ++ ls) (always_section d (suc at) xs)

@@ -1,3 +1,3 @@
-pub mod Adding
+pub mod Adds
 pub mod Sorts
 pub mod Writable

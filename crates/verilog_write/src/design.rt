@@ -1,14 +1,14 @@
 //! A design, section by section.
 
 ghost use Rattle.std.specs.Prelude.{◌+◌, ◌∷◌, ◌++◌, [], IfOk, OnOk, codes, length};
-ghost use Rattle.net_core.specs.View.{plan_of};
-ghost use Rattle.spelling_core.specs.Formed.{IsWellFormed};
-ghost use Rattle.spelling_core.specs.Grammar.{all_always, all_assigns, all_declared, all_wires, items_lexemes, ports_lexemes};
-ghost use Rattle.spelling_core.specs.Spelling.{Spells};
+ghost use Rattle.net_core.specs.View.{netlist_of};
+ghost use Rattle.verilog_grammar.specs.Formed.{IsWellFormed};
+ghost use Rattle.verilog_grammar.specs.Grammar.{all_always, all_assigns, all_declared, all_wires, items_lexemes, ports_lexemes};
+ghost use Rattle.verilog_grammar.specs.Spelling.{Spells};
 ghost use Rattle.verilog_lex.specs.Lexeme.{LKeyword, LName, LSymbol};
 ghost use Rattle.verilog_lex.specs.declared.token.Keyword.TheVariants as keyword;
 ghost use Rattle.verilog_lex.specs.declared.token.Symbol.TheVariants as symbol;
-ghost use Rattle.verilog_write.specs.Adding.{AddsLine};
+ghost use Rattle.verilog_write.specs.Adds.{AddsLine};
 
 use crate::item::{push_always, push_assign, push_declaration, push_port_line, push_wire};
 use crate::names::name_at;
@@ -18,8 +18,8 @@ use verilog_lex::{Keyword, Symbol, push_keyword, push_line, push_name, push_spac
 
 /// Adds the ports.
 fn push_ports(text: &mut Vec<u8>, design: &Design) -> Result<(), AllocError>
-    requires { IsWellFormed (plan_of design.now) }
-    ensures { OnOk result (AddsLine text.old.items text.new.items (ports_lexemes (plan_of design.now) 0 design.now.ports.items)) }
+    requires { IsWellFormed (netlist_of design.now) }
+    ensures { OnOk result (AddsLine text.old.items text.new.items (ports_lexemes (netlist_of design.now) 0 design.now.ports.items)) }
 {
     let ports = design.ports.as_slice();
     for k in 0..ports.len() {
@@ -31,8 +31,8 @@ fn push_ports(text: &mut Vec<u8>, design: &Design) -> Result<(), AllocError>
 
 /// Adds what is declared.
 fn push_declared(text: &mut Vec<u8>, design: &Design) -> Result<(), AllocError>
-    requires { IsWellFormed (plan_of design.now) }
-    ensures { OnOk result (AddsLine text.old.items text.new.items (all_declared (plan_of design.now) (length design.now.ports.items) design.now.declared.items)) }
+    requires { IsWellFormed (netlist_of design.now) }
+    ensures { OnOk result (AddsLine text.old.items text.new.items (all_declared (netlist_of design.now) (length design.now.ports.items) design.now.declared.items)) }
 {
     let ports = design.ports.as_slice();
     let declared = design.declared.as_slice();
@@ -46,8 +46,8 @@ fn push_declared(text: &mut Vec<u8>, design: &Design) -> Result<(), AllocError>
 
 /// Adds the wires.
 fn push_wires(text: &mut Vec<u8>, design: &Design) -> Result<(), AllocError>
-    requires { IsWellFormed (plan_of design.now) }
-    ensures { OnOk result (AddsLine text.old.items text.new.items (all_wires (plan_of design.now) (length design.now.ports.items + length design.now.declared.items) (plan_of design.now).wires)) }
+    requires { IsWellFormed (netlist_of design.now) }
+    ensures { OnOk result (AddsLine text.old.items text.new.items (all_wires (netlist_of design.now) (length design.now.ports.items + length design.now.declared.items) (netlist_of design.now).wires)) }
 {
     let ports = design.ports.as_slice();
     let declared = design.declared.as_slice();
@@ -62,8 +62,8 @@ fn push_wires(text: &mut Vec<u8>, design: &Design) -> Result<(), AllocError>
 
 /// Adds what the outputs show.
 fn push_assigns(text: &mut Vec<u8>, design: &Design) -> Result<(), AllocError>
-    requires { IsWellFormed (plan_of design.now) }
-    ensures { OnOk result (AddsLine text.old.items text.new.items (all_assigns (plan_of design.now) (plan_of design.now).assigns)) }
+    requires { IsWellFormed (netlist_of design.now) }
+    ensures { OnOk result (AddsLine text.old.items text.new.items (all_assigns (netlist_of design.now) (netlist_of design.now).assigns)) }
 {
     let assigns = design.assigns.as_slice();
     for k in 0..assigns.len() {
@@ -77,8 +77,8 @@ fn push_assigns(text: &mut Vec<u8>, design: &Design) -> Result<(), AllocError>
 
 /// Adds the always blocks.
 fn push_blocks(text: &mut Vec<u8>, design: &Design) -> Result<(), AllocError>
-    requires { IsWellFormed (plan_of design.now) }
-    ensures { OnOk result (AddsLine text.old.items text.new.items (all_always (plan_of design.now) (plan_of design.now).always)) }
+    requires { IsWellFormed (netlist_of design.now) }
+    ensures { OnOk result (AddsLine text.old.items text.new.items (all_always (netlist_of design.now) (netlist_of design.now).always)) }
 {
     let always = design.always.as_slice();
     for k in 0..always.len() {
@@ -90,8 +90,8 @@ fn push_blocks(text: &mut Vec<u8>, design: &Design) -> Result<(), AllocError>
 
 /// Adds what stands before the items.
 fn push_head(text: &mut Vec<u8>, design: &Design) -> Result<(), AllocError>
-    requires { IsWellFormed (plan_of design.now) }
-    ensures { OnOk result (AddsLine text.old.items text.new.items (LKeyword keyword.Module ∷ LName (codes "ehdl") ∷ LSymbol symbol.OpenParenthesis ∷ (ports_lexemes (plan_of design.now) 0 design.now.ports.items ++ LSymbol symbol.CloseParenthesis ∷ LSymbol symbol.Semicolon ∷ []))) }
+    requires { IsWellFormed (netlist_of design.now) }
+    ensures { OnOk result (AddsLine text.old.items text.new.items (LKeyword keyword.Module ∷ LName (codes "ehdl") ∷ LSymbol symbol.OpenParenthesis ∷ (ports_lexemes (netlist_of design.now) 0 design.now.ports.items ++ LSymbol symbol.CloseParenthesis ∷ LSymbol symbol.Semicolon ∷ []))) }
 {
     push_keyword(text, Keyword::Module)?;
     push_space(text)?;
@@ -106,8 +106,8 @@ fn push_head(text: &mut Vec<u8>, design: &Design) -> Result<(), AllocError>
 
 /// Adds the items.
 fn push_items(text: &mut Vec<u8>, design: &Design) -> Result<(), AllocError>
-    requires { IsWellFormed (plan_of design.now) }
-    ensures { OnOk result (AddsLine text.old.items text.new.items (items_lexemes (plan_of design.now))) }
+    requires { IsWellFormed (netlist_of design.now) }
+    ensures { OnOk result (AddsLine text.old.items text.new.items (items_lexemes (netlist_of design.now))) }
 {
     push_declared(text, design)?;
     push_wires(text, design)?;
@@ -117,8 +117,8 @@ fn push_items(text: &mut Vec<u8>, design: &Design) -> Result<(), AllocError>
 
 /// The text of a design that is well formed, which it spells.
 pub fn write_text(alloc: Global, design: &Design) -> Result<Vec<u8>, AllocError>
-    requires { IsWellFormed (plan_of design.now) }
-    ensures { IfOk result (λ text. Spells text.items (plan_of design.now)) }
+    requires { IsWellFormed (netlist_of design.now) }
+    ensures { IfOk result (λ text. Spells text.items (netlist_of design.now)) }
 {
     let mut text = Vec::new(alloc);
     push_head(&mut text, design)?;

@@ -2,19 +2,19 @@
 
 ghost use Rattle.std.specs.Prelude.{◌≡◌, ◌∷◌, [], OnOk};
 ghost use Rattle.net_core.specs.Names.{name_of};
-ghost use Rattle.net_core.specs.View.{plan_of, tree_of, trees_of, right_of};
+ghost use Rattle.net_core.specs.View.{netlist_of, tree_of, trees_of, right_of};
 ghost use Rattle.net_core.specs.Width.{Fits};
-ghost use Rattle.spelling_core.specs.Grammar as grammar;
-ghost use Rattle.spelling_core.specs.Grammar.{prefix_symbol, tree_lexemes, parts_lexemes, right_lexemes};
+ghost use Rattle.verilog_grammar.specs.Grammar as grammar;
+ghost use Rattle.verilog_grammar.specs.Grammar.{unary_symbol, tree_lexemes, parts_lexemes, right_lexemes};
 ghost use Rattle.verilog_lex.specs.Lexeme.{LName, LNumber, LSymbol};
 ghost use Rattle.verilog_lex.specs.declared.token.Symbol.TheVariants as symbol;
-ghost use Rattle.verilog_write.specs.Adding.{AddsWord, AddsLine};
+ghost use Rattle.verilog_write.specs.Adds.{AddsWord, AddsLine};
 ghost use Rattle.verilog_write.specs.Writable.{IsNamed, IsWritable, AreWritable, IsRightWritable};
 
 use crate::names::net_name;
 use crate::spaced::{push_apart, push_operator, push_span};
 use net_core::design::Design;
-use net_core::tree::{Expr, Net, Op, Parts, Prefix, Right, Word};
+use net_core::tree::{Expr, Net, Op, Parts, Right, UnaryOp, Word};
 use std::alloc::AllocError;
 use verilog_lex::{Symbol, push_name, push_number, push_sized, push_symbol};
 
@@ -51,16 +51,16 @@ pub fn push_word(text: &mut Vec<u8>, word: Word) -> Result<(), AllocError>
 
 /// Adds the name of a net.
 pub fn push_net(text: &mut Vec<u8>, design: &Design, net: Net) -> Result<(), AllocError>
-    requires { IsNamed (plan_of design.now) net }
-    ensures { OnOk result (AddsWord text.old.items text.new.items (LName (name_of (plan_of design.now) net) ∷ [])) }
+    requires { IsNamed (netlist_of design.now) net }
+    ensures { OnOk result (AddsWord text.old.items text.new.items (LName (name_of (netlist_of design.now) net) ∷ [])) }
 {
     push_name(text, net_name(design, net))
 }
 
 /// Adds one bit of a net.
 fn push_bit(text: &mut Vec<u8>, design: &Design, net: Net, bit: u8) -> Result<(), AllocError>
-    requires { IsNamed (plan_of design.now) net }
-    ensures { OnOk result (AddsWord text.old.items text.new.items (LName (name_of (plan_of design.now) net) ∷ LSymbol symbol.OpenBracket ∷ LNumber bit ∷ LSymbol symbol.CloseBracket ∷ [])) }
+    requires { IsNamed (netlist_of design.now) net }
+    ensures { OnOk result (AddsWord text.old.items text.new.items (LName (name_of (netlist_of design.now) net) ∷ LSymbol symbol.OpenBracket ∷ LNumber bit ∷ LSymbol symbol.CloseBracket ∷ [])) }
 {
     push_net(text, design, net)?;
     push_symbol(text, Symbol::OpenBracket)?;
@@ -69,27 +69,27 @@ fn push_bit(text: &mut Vec<u8>, design: &Design, net: Net, bit: u8) -> Result<()
 }
 
 /// Adds the bits of a net from a high one down to a low one.
-fn push_bits(
+fn push_part_select(
     text: &mut Vec<u8>,
     design: &Design,
     net: Net,
     high: u8,
     low: u8,
 ) -> Result<(), AllocError>
-    requires { IsNamed (plan_of design.now) net }
-    ensures { OnOk result (AddsWord text.old.items text.new.items (LName (name_of (plan_of design.now) net) ∷ LSymbol symbol.OpenBracket ∷ LNumber high ∷ LSymbol symbol.Colon ∷ LNumber low ∷ LSymbol symbol.CloseBracket ∷ [])) }
+    requires { IsNamed (netlist_of design.now) net }
+    ensures { OnOk result (AddsWord text.old.items text.new.items (LName (name_of (netlist_of design.now) net) ∷ LSymbol symbol.OpenBracket ∷ LNumber high ∷ LSymbol symbol.Colon ∷ LNumber low ∷ LSymbol symbol.CloseBracket ∷ [])) }
 {
     push_net(text, design, net)?;
     push_span(text, high as u32, low as u32)
 }
 
 /// Adds a prefix operator, with a space before `|`.
-fn push_prefix(text: &mut Vec<u8>, prefix: Prefix) -> Result<(), AllocError>
-    ensures { OnOk result (AddsLine text.old.items text.new.items (LSymbol (prefix_symbol prefix) ∷ [])) }
+fn push_unary(text: &mut Vec<u8>, unary_op: UnaryOp) -> Result<(), AllocError>
+    ensures { OnOk result (AddsLine text.old.items text.new.items (LSymbol (unary_symbol unary_op) ∷ [])) }
 {
-    match prefix {
-        Prefix::Not => push_symbol(text, Symbol::Not),
-        Prefix::Any => {
+    match unary_op {
+        UnaryOp::Not => push_symbol(text, Symbol::Not),
+        UnaryOp::ReduceOr => {
             push_apart(text)?;
             push_symbol(text, Symbol::Or)
         }
@@ -99,32 +99,32 @@ fn push_prefix(text: &mut Vec<u8>, prefix: Prefix) -> Result<(), AllocError>
 /// Adds an expression to a closed text.
 #[cycle(expression)]
 pub fn push_expression(text: &mut Vec<u8>, design: &Design, e: &Expr<Net>) -> Result<(), AllocError>
-    requires { IsWritable (plan_of design.now) (tree_of e.now) }
-    ensures { OnOk result (AddsWord text.old.items text.new.items (tree_lexemes (name_of (plan_of design.now)) (tree_of e.now))) }
+    requires { IsWritable (netlist_of design.now) (tree_of e.now) }
+    ensures { OnOk result (AddsWord text.old.items text.new.items (tree_lexemes (name_of (netlist_of design.now)) (tree_of e.now))) }
 {
     match e {
         Expr::Const(word) => push_word(text, *word),
         Expr::Read(net) => push_net(text, design, *net),
         Expr::Bit(net, bit) => push_bit(text, design, *net, *bit),
-        Expr::Bits(net, high, low) => push_bits(text, design, *net, *high, *low),
-        Expr::Cell(memory, index) => {
+        Expr::PartSelect(net, high, low) => push_part_select(text, design, *net, *high, *low),
+        Expr::MemoryWord(memory, index) => {
             push_net(text, design, *memory)?;
             push_symbol(text, Symbol::OpenBracket)?;
             push_expression(text, design, index)?;
             push_symbol(text, Symbol::CloseBracket)
         }
-        Expr::Before(prefix, a) => {
-            push_prefix(text, *prefix)?;
+        Expr::Unary(unary_op, a) => {
+            push_unary(text, *unary_op)?;
             push_expression(text, design, a)
         }
-        Expr::Two(op, a, b) => {
+        Expr::Binary(op, a, b) => {
             push_symbol(text, Symbol::OpenParenthesis)?;
             push_expression(text, design, a)?;
             push_operator(text, op_symbol(*op))?;
             push_expression(text, design, b)?;
             push_symbol(text, Symbol::CloseParenthesis)
         }
-        Expr::Choose(c, a, b) => {
+        Expr::Conditional(c, a, b) => {
             push_symbol(text, Symbol::OpenParenthesis)?;
             push_expression(text, design, c)?;
             push_operator(text, Symbol::Question)?;
@@ -133,7 +133,7 @@ pub fn push_expression(text: &mut Vec<u8>, design: &Design, e: &Expr<Net>) -> Re
             push_expression(text, design, b)?;
             push_symbol(text, Symbol::CloseParenthesis)
         }
-        Expr::Join(parts) => {
+        Expr::Concatenation(parts) => {
             push_symbol(text, Symbol::OpenBrace)?;
             push_parts(text, design, parts)?;
             push_symbol(text, Symbol::CloseBrace)
@@ -144,8 +144,8 @@ pub fn push_expression(text: &mut Vec<u8>, design: &Design, e: &Expr<Net>) -> Re
 /// Adds the parts of a concatenation.
 #[cycle(expression)]
 fn push_parts(text: &mut Vec<u8>, design: &Design, parts: &Parts<Net>) -> Result<(), AllocError>
-    requires { AreWritable (plan_of design.now) (trees_of parts.now) }
-    ensures { OnOk result (AddsWord text.old.items text.new.items (parts_lexemes (name_of (plan_of design.now)) (trees_of parts.now))) }
+    requires { AreWritable (netlist_of design.now) (trees_of parts.now) }
+    ensures { OnOk result (AddsWord text.old.items text.new.items (parts_lexemes (name_of (netlist_of design.now)) (trees_of parts.now))) }
 {
     match parts {
         Parts::Last(a) => push_expression(text, design, a),
@@ -166,9 +166,9 @@ fn push_divided(
     operator: Symbol,
     b: Net,
 ) -> Result<(), AllocError>
-    requires left { IsNamed (plan_of design.now) a }
-    requires right { IsNamed (plan_of design.now) b }
-    ensures { OnOk result (AddsWord text.old.items text.new.items (LName (name_of (plan_of design.now) a) ∷ LSymbol operator ∷ LName (name_of (plan_of design.now) b) ∷ [])) }
+    requires left { IsNamed (netlist_of design.now) a }
+    requires right { IsNamed (netlist_of design.now) b }
+    ensures { OnOk result (AddsWord text.old.items text.new.items (LName (name_of (netlist_of design.now) a) ∷ LSymbol operator ∷ LName (name_of (netlist_of design.now) b) ∷ [])) }
 {
     push_net(text, design, a)?;
     push_operator(text, operator)?;
@@ -177,8 +177,8 @@ fn push_divided(
 
 /// Adds the right side of a wire.
 pub fn push_right(text: &mut Vec<u8>, design: &Design, right: &Right<Net>) -> Result<(), AllocError>
-    requires { IsRightWritable (plan_of design.now) (right_of right.now) }
-    ensures { OnOk result (AddsWord text.old.items text.new.items (right_lexemes (name_of (plan_of design.now)) (right_of right.now))) }
+    requires { IsRightWritable (netlist_of design.now) (right_of right.now) }
+    ensures { OnOk result (AddsWord text.old.items text.new.items (right_lexemes (name_of (netlist_of design.now)) (right_of right.now))) }
 {
     match right {
         Right::Plain(e) => push_expression(text, design, e),

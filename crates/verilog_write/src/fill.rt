@@ -2,11 +2,11 @@
 
 ghost use Rattle.std.specs.Prelude.{◌≤◌, ◌∷◌, [], OnOk};
 ghost use Rattle.net_core.specs.Width.{Fits};
-ghost use Rattle.spelling_core.specs.Grammar.{constant, fill_lexemes};
+ghost use Rattle.verilog_grammar.specs.Grammar.{constant, fill_lexemes};
 ghost use Rattle.verilog_lex.specs.Lexeme.{LName, LNumber, LSymbol};
 ghost use Rattle.verilog_lex.specs.Spelling.{IsName};
 ghost use Rattle.verilog_lex.specs.declared.token.Symbol.TheVariants as symbol;
-ghost use Rattle.verilog_write.specs.Adding.{AddsWord, AddsMark, AddsLine};
+ghost use Rattle.verilog_write.specs.Adds.{AddsWord, AddsMark, AddsLine};
 
 use crate::expression::push_word;
 use crate::spaced::push_operator;

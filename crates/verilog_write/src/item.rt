@@ -2,16 +2,16 @@
 
 ghost use Rattle.std.specs.Prelude.{◌≡◌, ◌<◌, ◌≤◌, ◌-◌, ◌^◌, ◌∷◌, ◌++◌, [], OnOk, codes, if◌then◌else◌};
 ghost use Rattle.net_core.specs.Names.{name_of};
-ghost use Rattle.net_core.specs.View.{plan_of, tree_of, right_of, act_of};
+ghost use Rattle.net_core.specs.View.{netlist_of, tree_of, right_of, statement_of};
 ghost use Rattle.net_core.specs.Width.{Fits};
-ghost use Rattle.spelling_core.specs.Grammar as grammar;
-ghost use Rattle.spelling_core.specs.Grammar.{register_name, memory_name, act_lexemes};
+ghost use Rattle.verilog_grammar.specs.Grammar as grammar;
+ghost use Rattle.verilog_grammar.specs.Grammar.{register_name, memory_name, statement_tree_lexemes};
 ghost use Rattle.verilog_lex.specs.Lexeme.{LKeyword, LName, LNumber, LSymbol};
 ghost use Rattle.verilog_lex.specs.Spelling.{IsName};
 ghost use Rattle.verilog_lex.specs.declared.token.Keyword.TheVariants as keyword;
 ghost use Rattle.verilog_lex.specs.declared.token.Symbol.TheVariants as symbol;
-ghost use Rattle.verilog_write.specs.Adding.{AddsWord, AddsMark, AddsLine};
-ghost use Rattle.verilog_write.specs.Writable.{IsWritable, IsRightWritable, IsActWritable, IsDeclarationWritable};
+ghost use Rattle.verilog_write.specs.Adds.{AddsWord, AddsMark, AddsLine};
+ghost use Rattle.verilog_write.specs.Writable.{IsWritable, IsRightWritable, IsStatementWritable, IsDeclarationWritable};
 
 use crate::expression::{push_expression, push_right, push_word};
 use crate::fill::push_fill;
@@ -135,8 +135,8 @@ pub fn push_declaration(
     item: &Declared,
 ) -> Result<(), AllocError>
     requires name { IsName name.now }
-    requires item { IsDeclarationWritable (plan_of design.now) item.now }
-    ensures { OnOk result (AddsWord text.old.items text.new.items (grammar.declared_lexemes (grammar.integer_name (plan_of design.now)) name.now item.now)) }
+    requires item { IsDeclarationWritable (netlist_of design.now) item.now }
+    ensures { OnOk result (AddsWord text.old.items text.new.items (grammar.declared_lexemes (grammar.integer_name (netlist_of design.now)) name.now item.now)) }
 {
     match item {
         Declared::Integer => push_integer(text, name),
@@ -158,8 +158,8 @@ pub fn push_wire(
 ) -> Result<(), AllocError>
     requires name { IsName name.now }
     requires width { 0 < wire.now.width }
-    requires right { IsRightWritable (plan_of design.now) (right_of wire.now.right) }
-    ensures { OnOk result (AddsWord text.old.items text.new.items (grammar.wire_lexemes (name_of (plan_of design.now)) name.now wire.now.width (right_of wire.now.right))) }
+    requires right { IsRightWritable (netlist_of design.now) (right_of wire.now.right) }
+    ensures { OnOk result (AddsWord text.old.items text.new.items (grammar.wire_lexemes (name_of (netlist_of design.now)) name.now wire.now.width (right_of wire.now.right))) }
 {
     push_keyword(text, Keyword::Wire)?;
     push_range(text, wire.width)?;
@@ -177,8 +177,8 @@ pub fn push_assign(
     value: &Expr<Net>,
 ) -> Result<(), AllocError>
     requires name { IsName port.now }
-    requires value { IsWritable (plan_of design.now) (tree_of value.now) }
-    ensures { OnOk result (AddsWord text.old.items text.new.items (grammar.assign_lexemes (name_of (plan_of design.now)) port.now (tree_of value.now))) }
+    requires value { IsWritable (netlist_of design.now) (tree_of value.now) }
+    ensures { OnOk result (AddsWord text.old.items text.new.items (grammar.assign_lexemes (name_of (netlist_of design.now)) port.now (tree_of value.now))) }
 {
     push_keyword(text, Keyword::Assign)?;
     push_space(text)?;
@@ -203,8 +203,8 @@ fn push_edge(text: &mut Vec<u8>) -> Result<(), AllocError>
 
 /// Adds an always block.
 pub fn push_always(text: &mut Vec<u8>, design: &Design, stmt: &Stmt<Net>) -> Result<(), AllocError>
-    requires { IsActWritable (plan_of design.now) (act_of stmt.now) }
-    ensures { OnOk result (AddsWord text.old.items text.new.items (grammar.always_lexemes (act_lexemes (name_of (plan_of design.now)) (register_name (plan_of design.now)) (memory_name (plan_of design.now)) (act_of stmt.now)))) }
+    requires { IsStatementWritable (netlist_of design.now) (statement_of stmt.now) }
+    ensures { OnOk result (AddsWord text.old.items text.new.items (grammar.always_lexemes (statement_tree_lexemes (name_of (netlist_of design.now)) (register_name (netlist_of design.now)) (memory_name (netlist_of design.now)) (statement_of stmt.now)))) }
 {
     push_keyword(text, Keyword::Always)?;
     push_space(text)?;

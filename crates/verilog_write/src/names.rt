@@ -3,8 +3,8 @@
 ghost use Rattle.std.specs.Prelude.{◌≡◌, ◌+◌, ◌<◌, ◌≤◌, [], length, map, string_bytes};
 ghost use Rattle.std.proofs.Common.{get_or};
 ghost use Rattle.net_core.specs.Names as names;
-ghost use Rattle.net_core.specs.View.{plan_of};
-ghost use Rattle.spelling_core.specs.Grammar as grammar;
+ghost use Rattle.net_core.specs.View.{netlist_of};
+ghost use Rattle.verilog_grammar.specs.Grammar as grammar;
 ghost use Rattle.verilog_lex.specs.Spelling.{IsName};
 ghost use Rattle.verilog_write.specs.Sorts as sorts;
 ghost use Rattle.verilog_write.specs.Writable.{IsNamed};
@@ -49,8 +49,8 @@ fn place_of(sort: Sort, declared: &[Declared], k: u32) -> usize
 
 /// The place of a net's name.
 fn net_place(design: &Design, net: Net) -> usize
-    requires { names.name_place (plan_of design.now) net < length design.now.names.items }
-    ensures { result ≡ names.name_place (plan_of design.now) net }
+    requires { names.name_place (netlist_of design.now) net < length design.now.names.items }
+    ensures { result ≡ names.name_place (netlist_of design.now) net }
 {
     match net {
         Net::Port(k) => k as usize,
@@ -70,16 +70,16 @@ pub fn name_at(names: &[String], place: usize) -> &[u8]
 
 /// The name of a net.
 pub fn net_name(design: &Design, net: Net) -> &[u8]
-    requires { IsNamed (plan_of design.now) net }
-    ensures { result.now ≡ names.name_of (plan_of design.now) net }
+    requires { IsNamed (netlist_of design.now) net }
+    ensures { result.now ≡ names.name_of (netlist_of design.now) net }
 {
     name_at(&design.names, net_place(design, net))
 }
 
 /// The name of an integer.
 pub fn integer_name(design: &Design, k: u32) -> &[u8]
-    requires { IsName (grammar.integer_name (plan_of design.now) k) }
-    ensures { result.now ≡ grammar.integer_name (plan_of design.now) k }
+    requires { IsName (grammar.integer_name (netlist_of design.now) k) }
+    ensures { result.now ≡ grammar.integer_name (netlist_of design.now) k }
 {
     let place = design.ports.len() + place_of(Sort::Integer, &design.declared, k);
     name_at(&design.names, place)

@@ -1,11 +1,11 @@
 //! Symbols with spaces around them, and ranges.
 
 ghost use Rattle.std.specs.Prelude.{◌<◌, ◌≤◌, ◌∷◌, [], List, OnOk};
-ghost use Rattle.spelling_core.specs.Grammar.{range_lexemes};
+ghost use Rattle.verilog_grammar.specs.Grammar.{range_lexemes};
 ghost use Rattle.verilog_lex.specs.Lexeme.{LNumber, LSymbol, Lexeme};
 ghost use Rattle.verilog_lex.specs.Spelling.{IsClosed};
 ghost use Rattle.verilog_lex.specs.declared.token.Symbol.TheVariants as symbol;
-ghost use Rattle.verilog_write.specs.Adding.{AddsMark};
+ghost use Rattle.verilog_write.specs.Adds.{AddsMark};
 
 use std::alloc::AllocError;
 use verilog_lex::{Symbol, push_number, push_space, push_symbol};

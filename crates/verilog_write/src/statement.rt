@@ -2,14 +2,14 @@
 
 ghost use Rattle.std.specs.Prelude.{◌∷◌, ◌++◌, [], OnOk};
 ghost use Rattle.net_core.specs.Names.{name_of};
-ghost use Rattle.net_core.specs.View.{plan_of, tree_of, act_of, acts_of};
+ghost use Rattle.net_core.specs.View.{netlist_of, tree_of, statement_of, statements_of};
 ghost use Rattle.net_core.specs.declared.tree.Net.TheVariants.{Register, Memory};
-ghost use Rattle.spelling_core.specs.Grammar.{register_name, memory_name, tree_lexemes, act_lexemes, acts_lexemes};
+ghost use Rattle.verilog_grammar.specs.Grammar.{register_name, memory_name, tree_lexemes, statement_tree_lexemes, statement_trees_lexemes};
 ghost use Rattle.verilog_lex.specs.Lexeme.{LKeyword, LName, LSymbol};
 ghost use Rattle.verilog_lex.specs.declared.token.Keyword.TheVariants as keyword;
 ghost use Rattle.verilog_lex.specs.declared.token.Symbol.TheVariants as symbol;
-ghost use Rattle.verilog_write.specs.Adding.{AddsWord, AddsMark, AddsLine};
-ghost use Rattle.verilog_write.specs.Writable.{IsNamed, IsWritable, IsActWritable, AreActsWritable};
+ghost use Rattle.verilog_write.specs.Adds.{AddsWord, AddsMark, AddsLine};
+ghost use Rattle.verilog_write.specs.Writable.{IsNamed, IsWritable, IsStatementWritable, AreStatementsWritable};
 
 use crate::expression::{push_expression, push_net};
 use crate::spaced::push_operator;
@@ -20,8 +20,8 @@ use verilog_lex::{Keyword, Symbol, push_keyword, push_line, push_space, push_sym
 
 /// Adds `if` and a condition.
 fn push_condition(text: &mut Vec<u8>, design: &Design, c: &Expr<Net>) -> Result<(), AllocError>
-    requires { IsWritable (plan_of design.now) (tree_of c.now) }
-    ensures { OnOk result (AddsLine text.old.items text.new.items (LKeyword keyword.If ∷ LSymbol symbol.OpenParenthesis ∷ (tree_lexemes (name_of (plan_of design.now)) (tree_of c.now) ++ LSymbol symbol.CloseParenthesis ∷ []))) }
+    requires { IsWritable (netlist_of design.now) (tree_of c.now) }
+    ensures { OnOk result (AddsLine text.old.items text.new.items (LKeyword keyword.If ∷ LSymbol symbol.OpenParenthesis ∷ (tree_lexemes (name_of (netlist_of design.now)) (tree_of c.now) ++ LSymbol symbol.CloseParenthesis ∷ []))) }
 {
     push_keyword(text, Keyword::If)?;
     push_space(text)?;
@@ -47,9 +47,9 @@ fn push_set(
     register: u32,
     value: &Expr<Net>,
 ) -> Result<(), AllocError>
-    requires name { IsNamed (plan_of design.now) (Register register) }
-    requires value { IsWritable (plan_of design.now) (tree_of value.now) }
-    ensures { OnOk result (AddsWord text.old.items text.new.items (LName (register_name (plan_of design.now) register) ∷ LSymbol symbol.LessEqual ∷ (tree_lexemes (name_of (plan_of design.now)) (tree_of value.now) ++ LSymbol symbol.Semicolon ∷ []))) }
+    requires name { IsNamed (netlist_of design.now) (Register register) }
+    requires value { IsWritable (netlist_of design.now) (tree_of value.now) }
+    ensures { OnOk result (AddsWord text.old.items text.new.items (LName (register_name (netlist_of design.now) register) ∷ LSymbol symbol.LessEqual ∷ (tree_lexemes (name_of (netlist_of design.now)) (tree_of value.now) ++ LSymbol symbol.Semicolon ∷ []))) }
 {
     push_net(text, design, Net::Register(register))?;
     push_operator(text, Symbol::LessEqual)?;
@@ -65,10 +65,10 @@ fn push_store(
     index: &Expr<Net>,
     value: &Expr<Net>,
 ) -> Result<(), AllocError>
-    requires name { IsNamed (plan_of design.now) (Memory memory) }
-    requires index { IsWritable (plan_of design.now) (tree_of index.now) }
-    requires value { IsWritable (plan_of design.now) (tree_of value.now) }
-    ensures { OnOk result (AddsWord text.old.items text.new.items (LName (memory_name (plan_of design.now) memory) ∷ LSymbol symbol.OpenBracket ∷ (tree_lexemes (name_of (plan_of design.now)) (tree_of index.now) ++ LSymbol symbol.CloseBracket ∷ LSymbol symbol.LessEqual ∷ (tree_lexemes (name_of (plan_of design.now)) (tree_of value.now) ++ LSymbol symbol.Semicolon ∷ [])))) }
+    requires name { IsNamed (netlist_of design.now) (Memory memory) }
+    requires index { IsWritable (netlist_of design.now) (tree_of index.now) }
+    requires value { IsWritable (netlist_of design.now) (tree_of value.now) }
+    ensures { OnOk result (AddsWord text.old.items text.new.items (LName (memory_name (netlist_of design.now) memory) ∷ LSymbol symbol.OpenBracket ∷ (tree_lexemes (name_of (netlist_of design.now)) (tree_of index.now) ++ LSymbol symbol.CloseBracket ∷ LSymbol symbol.LessEqual ∷ (tree_lexemes (name_of (netlist_of design.now)) (tree_of value.now) ++ LSymbol symbol.Semicolon ∷ [])))) }
 {
     push_net(text, design, Net::Memory(memory))?;
     push_symbol(text, Symbol::OpenBracket)?;
@@ -86,8 +86,8 @@ pub fn push_statement(
     design: &Design,
     stmt: &Stmt<Net>,
 ) -> Result<(), AllocError>
-    requires { IsActWritable (plan_of design.now) (act_of stmt.now) }
-    ensures { OnOk result (AddsWord text.old.items text.new.items (act_lexemes (name_of (plan_of design.now)) (register_name (plan_of design.now)) (memory_name (plan_of design.now)) (act_of stmt.now))) }
+    requires { IsStatementWritable (netlist_of design.now) (statement_of stmt.now) }
+    ensures { OnOk result (AddsWord text.old.items text.new.items (statement_tree_lexemes (name_of (netlist_of design.now)) (register_name (netlist_of design.now)) (memory_name (netlist_of design.now)) (statement_of stmt.now))) }
 {
     match stmt {
         Stmt::Block(more) => {
@@ -114,8 +114,8 @@ pub fn push_statement(
 /// Adds the statements of a block.
 #[cycle(statement)]
 fn push_statements(text: &mut Vec<u8>, design: &Design, more: &Stmts<Net>) -> Result<(), AllocError>
-    requires { AreActsWritable (plan_of design.now) (acts_of more.now) }
-    ensures { OnOk result (AddsLine text.old.items text.new.items (acts_lexemes (name_of (plan_of design.now)) (register_name (plan_of design.now)) (memory_name (plan_of design.now)) (acts_of more.now))) }
+    requires { AreStatementsWritable (netlist_of design.now) (statements_of more.now) }
+    ensures { OnOk result (AddsLine text.old.items text.new.items (statement_trees_lexemes (name_of (netlist_of design.now)) (register_name (netlist_of design.now)) (memory_name (netlist_of design.now)) (statements_of more.now))) }
 {
     match more {
         Stmts::End => Ok(()),

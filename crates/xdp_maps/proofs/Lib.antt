@@ -1,3 +1,4 @@
+pub mod ByteLaws
 pub mod Entries
 pub mod Hashes
 pub mod Refusals
@@ -8,3 +9,6 @@ pub mod Opened
 pub mod TableLemmas
 pub mod Pairs
 pub mod StateLemmas
+pub mod SoundLaws
+pub mod WriteLaws
+pub mod ReadLaws

@@ -14,7 +14,7 @@ use Rattle.xdp_maps.specs.Contents.{IsBytes, IsOver, IsFilled_as, IsWithinLimits
 use Rattle.xdp_maps.proofs.Entries.{eq_equal}
 use Rattle.xdp_maps.proofs.Hashes.{order_total, order_exact}
 use Rattle.xdp_maps.proofs.Arrays.{get_inside, index_of-index_key}
-use Rattle.xdp_maps.proofs.Over.{IsBytes-little_bytes}
+use Rattle.xdp_maps.proofs.ByteLaws.{IsBytes-little_bytes}
 
 -- an index's key is four bytes
 pub IsBytes-index_key : (i : ℕ) → IsBytes 4 (index_key i)

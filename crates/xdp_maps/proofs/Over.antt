@@ -1,7 +1,5 @@
 -- Contents over a declaration stay so.
-use Rattle.std.proofs.Common.{◌≡◌, ◌≢◌, ℕ, zero, suc, ◌+◌, ◌-◌, ◌<◌, ◌≤◌, Bool, true, false, cond, List, ◌++◌, length, take, drop, Some, None, IsTrue, IfSome, is_some, All, ◌⊎◌, inl, inr, refl, sym, ap, subst, ◌∙◌, arith, length-append, length-drop}
-use Rattle.std.proofs.lemmas.List.{length-take-le}
-use Rattle.std.proofs.lemmas.List.Elements.{All-nil, All-cons, All-append, All-take, All-drop}
+use Rattle.std.proofs.Common.{◌≡◌, ◌≢◌, ℕ, ◌+◌, ◌-◌, ◌<◌, ◌≤◌, Bool, true, false, cond, List, length, Some, None, IsTrue, IfSome, is_some, All, ◌⊎◌, inl, inr, refl, sym, ap, subst, ◌∙◌, arith}
 use Rattle.std.specs.Ordering.{nat_cmp}
 use Rattle.std.specs.Cmp.Lexicographic.{slice_cmp}
 use Rattle.std.specs.FinMap as map
@@ -12,12 +10,9 @@ use Rattle.xdp_maps.specs.declared.decl.MapDecl.{MapDecl}
 use Rattle.xdp_maps.specs.Contents.{Contents, IsBytes, IsOver, IsFilled_as, TakesKey, TakesKey_as, index_of}
 use Rattle.xdp_maps.specs.Calls.{with_value, patched, update_error, update_error_as, updated, unless, delete_error, delete_error_as, deleted, stored, changed, change_bytes, change_result, number_at, with_change}
 use Rattle.xdp_maps.specs.declared.change.Change.{Change}
-use Rattle.byteorder.specs.Endian.{little_bytes}
-use Rattle.byteorder.specs.Numbers.{length-bytes_low_first}
-use Rattle.std.specs.Int.{byte_at, bytes_low_first}
-use Rattle.std.proofs.Math.Nat.{mod-lt}
 use Rattle.xdp_maps.proofs.Refusals.{room-hash_refusal, inside-array_refusal}
 use Rattle.xdp_maps.proofs.Hashes.{order_total, order_exact}
+use Rattle.xdp_maps.proofs.ByteLaws.{IsBytes-patched, IsBytes-little_bytes}
 use Rattle.xdp_maps.proofs.Keys.{key_cases, get-insert_same, get-insert_other, get-remove_same, get-remove_other}
 
 cases : (q k : List ℕ) → (q ≡ k) ⊎ (q ≢ k)
@@ -103,18 +98,6 @@ with_value_over d c key f over keeps =
           insert_over d c key (f v) over (over.keys key there) (keeps v fits) (room_there d.kind d c key there)
     ] refl
 
-pub length-patched : (v : List ℕ) (at : ℕ) (bytes : List ℕ) → at + length bytes ≤ length v → length (patched v at bytes) ≡ length v
-length-patched v at bytes inside =
-    let front = length-take-le at v (omega arith) in
-    omega (arith, front, length-append (take at v ++ bytes) (drop (at + length bytes) v), length-append (take at v) bytes, length-drop (at + length bytes) v)
-
--- bytes written inside a value leave its length
-pub IsBytes-patched : (n : ℕ) (v : List ℕ) (at : ℕ) (bytes : List ℕ) → IsBytes n v → at + length bytes ≤ n → All (λ b. b < 256) bytes → IsBytes n (patched v at bytes)
-IsBytes-patched n v at bytes old inside fit = record {
-  len = length-patched v at bytes (omega (arith, old.len)) ∙ old.len;
-  bytes_fit = All-append (λ b. b < 256) (take at v ++ bytes) _ (All-append (λ b. b < 256) (take at v) bytes (All-take (λ b. b < 256) at v old.bytes_fit) fit) (All-drop (λ b. b < 256) (at + length bytes) v old.bytes_fit);
-}
-
 -- no update is refused where an index is past the array
 takes_updated : (k : MapKind) (d : MapDecl) (c : Contents) (key : List ℕ) (flags : ℕ) → update_error_as k d c key flags ≡ None → TakesKey_as k d key × Room_as k d c key
 takes_updated Hash d c key flags taken = (tt, room-hash_refusal d.cap (map.len c) (map.contains_key c key) flags taken)
@@ -142,17 +125,6 @@ deleted_over d c key over =
 
 pub stored_over : (d : MapDecl) (c : Contents) (key : List ℕ) (at : ℕ) (bytes : List ℕ) → IsOver d c → at + length bytes ≤ d.value → All (λ b. b < 256) bytes → IsOver d (stored c key at bytes)
 stored_over d c key at bytes over inside fit = with_value_over d c key (λ v. patched v at bytes) over (λ v old. IsBytes-patched d.value v at bytes old inside fit)
-
-byte_at-lt : (j x : ℕ) → byte_at j x < 256
-byte_at-lt zero x = mod-lt x (omega arith)
-byte_at-lt (suc j) x = mod-lt _ (omega arith)
-
-bytes_from : (j n x : ℕ) → All (λ b. b < 256) (bytes_low_first j n x)
-bytes_from j zero x = All-nil (λ b. b < 256)
-bytes_from j (suc n) x = All-cons (λ b. b < 256) (byte_at j x) (bytes_low_first (suc j) n x) (byte_at-lt j x) (bytes_from (suc j) n x)
-
-pub IsBytes-little_bytes : (n x : ℕ) → IsBytes n (little_bytes n x)
-IsBytes-little_bytes n x = record { len = length-bytes_low_first 0 n x; bytes_fit = bytes_from 0 n x }
 
 pub changed_over : (d : MapDecl) (c : Contents) (key : List ℕ) (at : ℕ) (x : Change) → IsOver d c → at + change_bytes x.wide ≤ d.value → IsOver d (changed c key at x)
 changed_over d c key at x over inside = with_value_over d c key (with_change x at) over (λ v old.

@@ -23,7 +23,7 @@ count (t ∷ ts) = ap (λ n. suc n) (count ts)
 pub table_at : (ds : List MapDecl) (ts : List Table) (m : ℕ) (d : MapDecl) (t : Table) → AreTables ds ts → m < length ds → d ≡ get_or ds m d → t ≡ get_or ts m t → IsTable d t
 table_at ds ts m d t are lt d_is t_is = subst (λ x. IsTable x t) (sym d_is) (subst (IsTable (get_or ds m d)) (sym t_is) (are.each m d t lt))
 
-equal_or_not : (j m : ℕ) → (j ≡ m) ⊎ (j ≢ m)
+pub equal_or_not : (j m : ℕ) → (j ≡ m) ⊎ (j ≢ m)
 equal_or_not j m = elim (cases_lt j m) [
   | inl lt ↦ inr (λ same. omega arith)
   | inr le ↦ elim (cases_lt m j) [ inl lt ↦ inr (λ same. omega arith) | inr le' ↦ inl (omega arith) ]

@@ -1,9 +1,12 @@
 -- What users of a map rely on, whatever it holds.
-use Rattle.std.specs.Prelude.{ℕ, pos, ◌≡◌, ◌≢◌, ◌+◌, ◌<◌, ◌≤◌, ◌^◌, List, length, Some, None, All}
+use Rattle.std.specs.Prelude.{ℕ, pos, ◌≡◌, ◌≢◌, ◌+◌, ◌<◌, ◌≤◌, ◌^◌, List, length, Some, None, All, Contains}
 use Rattle.std.specs.Option.{option_map}
 use Rattle.xdp_maps.specs.declared.change.Change.{Change}
 use Rattle.xdp_maps.specs.declared.decl.MapDecl.{MapDecl}
 use Rattle.xdp_maps.specs.Contents.{Contents, IsBytes, IsOver, IsWithinLimits, opened, index_key, index_of}
+use Rattle.xdp_maps.specs.State.{MapState, IsSound, decl_at}
+use Rattle.xdp_maps.specs.Operations.{Operation, Fits, key_in, operated}
+use Rattle.xdp_maps.specs.Touched.{Resource, SameOf, reads, writes, AnswersSame}
 use Rattle.xdp_maps.specs.Calls.{lookup_of, update_number, updated, delete_number, deleted, stored, changed, change_bytes, with_value, entry_of}
 
 -- An update that answers 0 leaves its value under its key, and under every other key what was there; one
@@ -48,3 +51,23 @@ pub record IndexLaws : Type 0 where
   pub index_back : (i : ℕ) → i < 2 ^ 32 → index_of (index_key i) ≡ i
   pub key_back : (key : List ℕ) → IsBytes 4 key → index_key (index_of key) ≡ key
   pub key_bytes : (i : ℕ) → IsBytes 4 (index_key i)
+
+-- An operation that fits its map leaves all maps as their declarations allow.
+abbrev pub OperationsKeepSound : Type 0
+OperationsKeepSound =
+    (s : MapState) (q : ℕ) (op : Operation) → IsSound s → q < length s.decls → Fits (decl_at s q) op → IsSound (operated s q op)
+
+-- What an operation does not write stays: the presence of each key, each value, and each count.
+abbrev pub KeepsUnwritten : MapState → ℕ → Operation → Type 0
+KeepsUnwritten s q op = (r : Resource) → ¬ Contains (writes s q op) r → SameOf (operated s q op) s r
+
+-- What an operation reads decides what it answers and touches.
+pub record IsDecided (s t : MapState) (q : ℕ) (op : Operation) : Type 0 where
+  pub answer : AnswersSame s t q op
+  pub reads : reads t q op ≡ reads s q op
+  pub writes : writes t q op ≡ writes s q op
+
+abbrev pub ReadsDecide : Type 0
+ReadsDecide =
+    (s t : MapState) (q : ℕ) (op : Operation) → t.decls ≡ s.decls → IsSound s → IsSound t → q < length s.decls → IsBytes (decl_at s q).key (key_in op)
+    → All (SameOf s t) (reads s q op) → IsDecided s t q op

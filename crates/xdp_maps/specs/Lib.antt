@@ -1,6 +1,8 @@
 pub mod Contents
 pub mod Calls
 pub mod State
+pub mod Operations
+pub mod Touched
 pub mod Layout
 pub mod Tables
 pub mod StateView

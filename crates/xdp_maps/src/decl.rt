@@ -1,5 +1,6 @@
 //! Declarations of maps.
-ghost use Rattle.std.specs.Prelude.{◌≡◌};
+ghost use Rattle.std.specs.Prelude.{◌≡◌, ◌↔◌, IsTrue};
+ghost use Rattle.xdp_maps.specs.Contents.{IsWithinLimits};
 
 use crate::short::ShortBytes;
 
@@ -20,6 +21,22 @@ pub struct MapDecl {
 }
 
 impl MapDecl {
+    /// Whether it is within the limits of its kind.
+    pub fn is_within_limits(&self) -> bool
+        ensures { IsTrue result ↔ IsWithinLimits self.now }
+    {
+        let by_kind = match self.kind {
+            MapKind::Hash => self.cap <= 1024,
+            MapKind::Array => self.key == 4 && self.cap <= 65536,
+        };
+        by_kind
+            && 0 < self.key
+            && self.key <= 40
+            && 0 < self.value
+            && self.value <= 64
+            && 0 < self.cap
+    }
+
     pub fn copied(&self) -> MapDecl
         ensures { result ≡ self.now }
     {

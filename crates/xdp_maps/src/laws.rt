@@ -2,7 +2,9 @@
 ghost use Rattle.std.specs.Prelude.{ℕ, List};
 ghost use Rattle.xdp_maps.specs.declared.decl.MapDecl.{MapDecl};
 ghost use Rattle.xdp_maps.specs.Contents.{Contents};
-ghost use Rattle.xdp_maps.specs.Laws.{UpdateLaws, DeleteLaws, EntryLaws, PairLaws, KeepsOver, SameByLookups, IndexLaws};
+ghost use Rattle.xdp_maps.specs.State.{MapState};
+ghost use Rattle.xdp_maps.specs.Operations.{Operation};
+ghost use Rattle.xdp_maps.specs.Laws.{UpdateLaws, DeleteLaws, EntryLaws, PairLaws, KeepsOver, SameByLookups, IndexLaws, OperationsKeepSound, KeepsUnwritten, ReadsDecide};
 
 /// An update leaves its value under its key and touches no other.
 pub fn update_laws()
@@ -37,4 +39,19 @@ pub fn same_by_lookups()
 /// An array's index and key give each other.
 pub fn index_laws()
     ensures { IndexLaws }
+{}
+
+/// An operation that fits its map leaves all maps as their declarations allow.
+pub fn operations_keep_sound()
+    ensures { OperationsKeepSound }
+{}
+
+/// What an operation does not write stays.
+pub fn keeps_unwritten()
+    ensures { (s : MapState) (q : ℕ) (op : Operation) → KeepsUnwritten s q op }
+{}
+
+/// What an operation reads decides what it answers and touches.
+pub fn reads_decide()
+    ensures { ReadsDecide }
 {}

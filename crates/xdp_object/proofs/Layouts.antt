@@ -14,21 +14,22 @@ use Rattle.elf_view.specs.File.{e_shnum, e_shstrndx, entry_count, first_symtab, 
 use Rattle.elf_view.specs.Layout.{base_headers, code_section, function_symbol, headers_at, map_headers, no_section, no_symbol, object_layout, object_size, padded, records, rels, sizes_of, strings, strings_section, symbols, symbols_section, text}
 use Rattle.elf_view.specs.Rules.{first_error}
 use Rattle.elf_view.specs.declared.error.ElfError.TheVariants.{At, Section as ElfSection}
-use Rattle.elf_view.proofs.Lengths.{length-elf_header, length-object, length-symbol_bytes, length-symbols, small_object}
-use Rattle.elf_view.proofs.NoError.{four_none, symtab_at-none, symtab_at-some, third_of_four}
-use Rattle.elf_view.proofs.NoMaps.{regrouped, sole_code_at}
-use Rattle.elf_view.proofs.Opens.{opens, read_head, read_sections, read_strings}
-use Rattle.elf_view.proofs.Written.{symbol_at-written}
+use Rattle.elf_view.proofs.LengthLaws.{length-elf_header, length-object, length-symbol_bytes, length-symbols, small_object}
+use Rattle.elf_view.proofs.NoErrorLaws.{four_none, symtab_at-none, symtab_at-some, third_of_four}
+use Rattle.elf_view.proofs.NoMapsLaws.{regrouped, sole_code_at}
+use Rattle.elf_view.proofs.OpenLaws.{opens, read_head, read_sections, read_strings}
+use Rattle.elf_view.proofs.WrittenLaws.{symbol_at-written}
 use Rattle.bpf_isa.specs.declared.instruction.Insn.{Insn}
 use Rattle.bpf_isa.specs.Text.{Spells}
-use Rattle.bpf_isa.proofs.Texts.{length-text_of}
+use Rattle.bpf_isa.proofs.TextLaws.{length-text_of}
 use Rattle.xdp_object.specs.declared.error.ObjectError.TheVariants.{Elf, Long, Odd, Relocation}
+use Rattle.xdp_object.specs.Choice.{Chosen, chosen}
 use Rattle.xdp_object.specs.Functions.{function_code, is_asked_for, is_code_section, is_function, programs, section_name, symbol_name, symbol_of, symbol_strings}
 use Rattle.xdp_object.specs.Laws.{LayoutLaw, without_maps}
 use Rattle.xdp_object.specs.Object.{IsObject, first_fault, odd_units, open_name, outside, relocation_fault, too_long, wrong_elf, wrong_function}
 use Rattle.xdp_object.specs.Relocations.{cut_table, cut_tables, least_from, least_in_section, least_in_table, least_place, rela_table, rela_tables, relocated, relocates}
 use Rattle.xdp_object.proofs.Strings.{string_there, xdp_letters}
-use Rattle.xdp_object.proofs.Reading.{Sole, has_code, is_object}
+use Rattle.xdp_object.proofs.ReadLaws.{Sole, has_code, is_object}
 
 -- ---- the names
 
@@ -265,13 +266,13 @@ no_relocation bytes name code h =
 
 -- ---- the object
 
-object_read : (choice : Option (List ℕ)) (bytes name code : List ℕ) (insns : List Insn) → Seen bytes name code → All (λ b. b ≢ 0) name
-    → Spells code insns → 0 < length code → is_asked_for choice bytes 1 ≡ true → IsObject choice bytes (without_maps name insns)
+object_read : (choice : Chosen) (bytes name code : List ℕ) (insns : List Insn) → Seen bytes name code → All (λ b. b ≢ 0) name
+    → Spells code insns → 0 < length code → is_asked_for choice.program bytes 1 ≡ true → IsObject choice bytes (without_maps name insns)
 object_read choice bytes name code insns h letters spells some asked =
     let whole : length code % 8 ≡ 0 = omega (arith, ap length spells.bytes, length-text_of insns) in
     let s = function_symbol (length code) in
     let symbol = second_symbol bytes name code h in
-    let sole : Sole choice bytes 1 = record { opened = opened bytes name code h; sole = the_program choice bytes name code h some asked } in
+    let sole : Sole choice bytes 1 = record { opened = opened bytes name code h; sole = the_program choice.program bytes name code h some asked } in
     let bytes_are : function_code bytes (symbol_of bytes 1) ≡ code =
     ap (function_code bytes) symbol ∙ ap (take (length code)) h.code_bytes ∙ take_all (length code) code (omega arith) in
     let has = has_code choice bytes 1 s code sole (no_fault bytes name code h letters whole) (sym symbol) (sym bytes_are) in
@@ -288,6 +289,6 @@ reads_layout name code insns letters some spells fits =
     let h = seen bytes name code refl fits in
     let long = not_empty code some in
     record {
-      by_section = object_read None bytes name code insns h letters spells long (asked_by_section bytes name code h);
-      by_name = object_read (Some name) bytes name code insns h letters spells long (asked_by_name bytes name code h letters);
+      by_section = λ hash_cap. object_read (chosen None hash_cap) bytes name code insns h letters spells long (asked_by_section bytes name code h);
+      by_name = λ hash_cap. object_read (chosen (Some name) hash_cap) bytes name code insns h letters spells long (asked_by_name bytes name code h letters);
     }

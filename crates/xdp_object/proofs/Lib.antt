@@ -1,6 +1,8 @@
+pub mod FaultLaws
 pub mod Layouts
 pub mod Opened
-pub mod Outcomes
-pub mod Reading
+pub mod PartLemmas
+pub mod OutcomeLaws
+pub mod ReadLaws
 pub mod Searches
 pub mod Strings

@@ -1,17 +1,15 @@
-pub mod Program
+-- the program and its sequential machine, which an object is read to
+pub use Rattle.xdp_machine.specs.Program
+pub use Rattle.xdp_machine.specs.Values
+pub use Rattle.xdp_machine.specs.State
+pub use Rattle.xdp_machine.specs.Step
+pub use Rattle.xdp_machine.specs.Helpers
+pub use Rattle.xdp_machine.specs.Runs
+pub use Rattle.xdp_machine.specs.Touched
+pub mod TwoUnits
+pub mod Choice
 pub mod Functions
 pub mod Relocations
 pub mod Object
 pub mod Codes
 pub mod Laws
-pub mod Values
-pub mod State
-pub mod Arithmetic
-pub mod Pointers
-pub mod Memory
-pub mod Atomics
-pub mod Helpers
-pub mod Step
-pub mod Runs
-pub mod Touched
-pub mod MachineLaws

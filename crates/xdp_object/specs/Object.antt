@@ -1,6 +1,4 @@
 -- Which bytes are an object, and of which program; for the others, the first fault.
---
--- A choice is the name of the function that is asked for, or none.
 use Rattle.std.specs.Prelude.{ℕ, ◌+◌, ◌%◌, ◌==◌, ◌≡◌, nat_lt, is_some, ◌&&◌, if◌then◌else◌, List, [], ◌∷◌, length, slice_index, Option, Some, None, Result, Ok, Err}
 use Rattle.std.specs.Option.{option_map, option_or}
 use Rattle.bpf_isa.specs.declared.instruction.Insn.{Insn}
@@ -11,9 +9,10 @@ use Rattle.elf_view.specs.File.{section_bytes}
 use Rattle.elf_view.specs.Rules.{first_error}
 use Rattle.xdp_object.specs.declared.error.ObjectError.{ObjectError}
 use Rattle.xdp_object.specs.declared.error.ObjectError.TheVariants.{Elf, NoProgram, ManyPrograms, Odd, Bad, Long}
+use Rattle.xdp_object.specs.Choice.{Chosen}
 use Rattle.xdp_object.specs.Functions.{function_code, programs, symbol_name, symbol_of}
 use Rattle.xdp_object.specs.Relocations.{cut_tables, rela_tables, relocated}
-use Rattle.xdp_object.specs.Program.{Listing}
+use Rattle.xdp_machine.specs.Program.{XdpProgram}
 
 -- ---- the rules, in their order
 
@@ -50,8 +49,8 @@ first_fault [] = None
 first_fault (r ∷ rs) = option_or r (first_fault rs)
 
 -- the number of the symbol of the program's function
-abbrev pub program_symbol : Option (List ℕ) → List ℕ → ℕ
-program_symbol choice bytes = slice_index (programs choice bytes) 0
+abbrev pub program_symbol : Chosen → List ℕ → ℕ
+program_symbol choice bytes = slice_index (programs choice.program bytes) 0
 
 -- the rules on symbol n
 unfoldable pub wrong_function : List ℕ → ℕ → Option ObjectError
@@ -59,10 +58,10 @@ wrong_function bytes n =
     let s = symbol_of bytes n in first_fault (open_name bytes n ∷ outside bytes s ∷ odd_units s ∷ [])
 
 -- the rules up to the function's code
-unfoldable pub fault_before_code : Option (List ℕ) → List ℕ → Option ObjectError
+unfoldable pub fault_before_code : Chosen → List ℕ → Option ObjectError
 fault_before_code choice bytes =
     first_fault (
-    too_long bytes ∷ wrong_elf bytes ∷ wrong_count (programs choice bytes)
+    too_long bytes ∷ wrong_elf bytes ∷ wrong_count (programs choice.program bytes)
     ∷ wrong_function bytes (program_symbol choice bytes) ∷ []
     )
 
@@ -74,11 +73,11 @@ relocation_fault bytes s =
 -- ---- programs and faults
 
 -- the symbol of the program's function
-abbrev pub function_of : Option (List ℕ) → List ℕ → Symbol
+abbrev pub function_of : Chosen → List ℕ → Symbol
 function_of choice bytes = symbol_of bytes (program_symbol choice bytes)
 
 -- The bytes are, under this choice, an object of this program.
-pub record IsObject (choice : Option (List ℕ)) (bytes : List ℕ) (p : Listing) : Type 0 where
+pub record IsObject (choice : Chosen) (bytes : List ℕ) (p : XdpProgram) : Type 0 where
   pub function : fault_before_code choice bytes ≡ None
   pub name : symbol_name bytes (program_symbol choice bytes) ≡ Some p.name
   pub code : Spells (function_code bytes (function_of choice bytes)) p.insns
@@ -87,7 +86,7 @@ pub record IsObject (choice : Option (List ℕ)) (bytes : List ℕ) (p : Listing
   pub refs : p.refs ≡ []
 
 -- They are none, and this is their first fault.
-pub data FirstFault (choice : Option (List ℕ)) (bytes : List ℕ) (e : ObjectError) : Type 0 where
+pub data FirstFault (choice : Chosen) (bytes : List ℕ) (e : ObjectError) : Type 0 where
   BeforeCode : fault_before_code choice bytes ≡ Some e → FirstFault choice bytes e
   -- the first unit where an instruction has to begin and none does
   InCode : fault_before_code choice bytes ≡ None → (at : ℕ) → FirstBad (function_code bytes (function_of choice bytes)) at → e ≡ Bad at → FirstFault choice bytes e

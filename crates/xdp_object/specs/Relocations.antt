@@ -4,9 +4,10 @@ use Rattle.std.specs.Option.{option_map}
 use Rattle.elf_view.specs.declared.error.ElfError.TheVariants.{Section}
 use Rattle.elf_view.specs.declared.parts.Rel.{Rel}
 use Rattle.elf_view.specs.declared.parts.Symbol.{Symbol}
-use Rattle.elf_view.specs.File.{e_shnum, entry_count, first_from, rel_at, section_at, section_bytes}
+use Rattle.elf_view.specs.File.{e_shnum, entry_count, rel_at, section_at, section_bytes}
 use Rattle.xdp_object.specs.declared.error.ObjectError.{ObjectError}
 use Rattle.xdp_object.specs.declared.error.ObjectError.TheVariants.{Elf, Relocation}
+use Rattle.list_laws.specs.Firsts.{first_from}
 
 -- section i is of this type, and its entries are relocations of section `target`
 abbrev pub relocates : List ℕ → (kind target : ℕ) → ℕ → Bool

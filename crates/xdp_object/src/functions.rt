@@ -64,7 +64,7 @@ fn symbol_name<'a>(view: &ElfView<'a>, n: u32) -> Result<&'a [u8], ElfError>
 }
 
 /// Whether symbol `n` is a function that is asked for. The section `names` holds the names of the sections.
-fn is_program(view: &ElfView<'_>, names: u32, choice: Option<&[u8]>, n: u32) -> bool
+fn is_program(view: &ElfView<'_>, names: u32, choice: Option<&str>, n: u32) -> bool
     requires opened { first_error view.now ≡ None }
     requires names { names ≡ e_shstrndx view.now }
     requires entry { n < entry_count 24 (symbol_table view.now) }
@@ -77,7 +77,7 @@ fn is_program(view: &ElfView<'_>, names: u32, choice: Option<&[u8]>, n: u32) -> 
         return false;
     }
     match choice {
-        Some(name) => is_text(symbol_strings(view), symbol.name, name),
+        Some(name) => is_text(symbol_strings(view), symbol.name, name.as_bytes()),
         None => begins_with_xdp(view.bytes_of(names), view.section(section).name),
     }
 }
@@ -86,7 +86,7 @@ fn is_program(view: &ElfView<'_>, names: u32, choice: Option<&[u8]>, n: u32) -> 
 pub fn find_program(
     view: &ElfView<'_>,
     names: u32,
-    choice: Option<&[u8]>,
+    choice: Option<&str>,
 ) -> Result<u32, ObjectError>
     requires opened { first_error view.now ≡ None }
     requires names { names ≡ e_shstrndx view.now }

@@ -1,12 +1,13 @@
 //! What holds of objects, whatever their bytes. Each function's contract is a law; it computes nothing.
 
-ghost use Rattle.std.specs.Prelude.{ℕ, List, Option};
+ghost use Rattle.std.specs.Prelude.{ℕ, List};
 ghost use Rattle.bpf_isa.specs.declared.instruction.Insn.{Insn};
+ghost use Rattle.xdp_object.specs.Choice.{Chosen};
 ghost use Rattle.xdp_object.specs.Laws.{LayoutLaw, OneOutcome};
 
 /// Under a choice, bytes are an object of one program at most, or have one first fault, and never both.
 pub fn one_outcome()
-    ensures { (choice : Option (List ℕ)) (bytes : List ℕ) → OneOutcome choice bytes }
+    ensures { (choice : Chosen) (bytes : List ℕ) → OneOutcome choice bytes }
 {}
 
 /// What `elf_view::object_of` writes of a function with no maps is an object of just that function.

@@ -1,16 +1,19 @@
-//! Programs: which objects are one, and what a program does to a packet, one packet after another.
+//! Programs, and which objects are one.
 #![tactic(auto)]
 
+mod choice;
 mod code;
 mod error;
 mod functions;
 pub mod laws;
+mod parts;
 mod program;
 mod read;
 mod relocations;
 mod text;
 mod units;
 
+pub use choice::Choice;
 pub use error::ObjectError;
 pub use program::Program;
 pub use read::read_object;

@@ -1,13 +1,23 @@
 //! A program.
 
-ghost use Rattle.std.specs.Prelude.{◌≡◌};
+ghost use Rattle.std.specs.Prelude.{◌≡◌, ◌↔◌, ◌<◌, ◌^◌, [], All, IfSome, IsTrue, is_some};
+ghost use Rattle.bpf_isa.specs.Spelling.{IsInsn};
+ghost use Rattle.bpf_isa.specs.Text.{unit_count};
+ghost use Rattle.xdp_machine.specs.Program.{IsProgram};
 
+use crate::parts::{
+    are_ascending, are_declarations, are_legal, are_references, have_own_names, unit_count,
+};
 use bpf_isa::Insn;
+use std::alloc::Global;
 use std::marker::Model;
 use xdp_maps::decl::MapDecl;
 
+/// The most maps of a program.
+const MOST_MAPS: usize = 16;
+
 /// A program: the bytes of its name, its instructions, its maps, and the places that refer to a map, ascending.
-/// Contracts see it as a `Listing`.
+/// Contracts see it as an `XdpProgram`, and each is one by `IsProgram`.
 #[derive(Debug, Drop)]
 pub struct Program {
     name: Vec<u8>,
@@ -17,30 +27,52 @@ pub struct Program {
 }
 
 impl Model for Program {
-    ghost use Rattle.xdp_object.specs.Program.{Listing};
+    ghost use Rattle.xdp_machine.specs.Program.{XdpProgram, IsProgram};
 
-    ghost Value = { Listing };
+    ghost Value = { XdpProgram };
 
     ghost view = { λ p. record { name = p.name.items; insns = p.insns.items; decls = p.decls.items; refs = p.refs.items } };
+
+    ghost invariant = { λ p. IsProgram (record { name = p.name.items; insns = p.insns.items; decls = p.decls.items; refs = p.refs.items }) };
 }
 
 impl Program {
-    pub(crate) fn new(
+    /// The program of these parts, where they make up one.
+    pub fn new(
         name: Vec<u8>,
         insns: Vec<Insn>,
         decls: Vec<MapDecl>,
         refs: Vec<u32>,
-    ) -> Program
-        ensures name { result.name ≡ name.items }
-        ensures insns { result.insns ≡ insns.items }
-        ensures decls { result.decls ≡ decls.items }
-        ensures refs { result.refs ≡ refs.items }
+    ) -> Option<Program>
+        ensures program { IfSome result (λ p. p ≡ record { name = name.items; insns = insns.items; decls = decls.items; refs = refs.items }) }
+        ensures exactly { IsTrue (is_some result) ↔ IsProgram (record { name = name.items; insns = insns.items; decls = decls.items; refs = refs.items }) }
+    {
+        let code = are_legal(&insns) && unit_count(&insns) < 1 << 32;
+        let maps = decls.len() <= MOST_MAPS && are_declarations(&decls) && have_own_names(&decls);
+        let references = are_references(&insns, decls.len(), &refs) && are_ascending(&refs);
+        if code && maps && references {
+            Some(Program {
+                name,
+                insns,
+                decls,
+                refs,
+            })
+        } else {
+            None
+        }
+    }
+
+    // A program that refers to no map.
+    pub(crate) fn without_maps(alloc: Global, name: Vec<u8>, insns: Vec<Insn>) -> Program
+        requires legal { All IsInsn insns.items }
+        requires few { unit_count insns.items < 2 ^ 32 }
+        ensures { result ≡ record { name = name.items; insns = insns.items; decls = []; refs = [] } }
     {
         Program {
             name,
             insns,
-            decls,
-            refs,
+            decls: Vec::new(alloc),
+            refs: Vec::new(alloc),
         }
     }
 
@@ -53,21 +85,24 @@ impl Program {
 
     /// Its instructions, in the order of their places.
     pub fn insns(&self) -> &[Insn]
-        ensures { result.now ≡ self.now.insns }
+        ensures insns { result.now ≡ self.now.insns }
+        ensures program { IsProgram self.now }
     {
         &self.insns
     }
 
     /// The declarations of its maps, by their numbers.
     pub fn decls(&self) -> &[MapDecl]
-        ensures { result.now ≡ self.now.decls }
+        ensures decls { result.now ≡ self.now.decls }
+        ensures program { IsProgram self.now }
     {
         &self.decls
     }
 
     /// The places that refer to a map, ascending.
     pub fn refs(&self) -> &[u32]
-        ensures { result.now ≡ self.now.refs }
+        ensures refs { result.now ≡ self.now.refs }
+        ensures program { IsProgram self.now }
     {
         &self.refs
     }

@@ -1,12 +1,14 @@
 //! Objects.
 
 ghost use Rattle.std.specs.Prelude.{◌≡◌, ◌≢◌, ◌≤◌, ◌%◌, ℕ, length, IfErr, IfOk, None};
-ghost use Rattle.std.specs.Option.{option_copied, option_or};
+ghost use Rattle.std.specs.Option.{option_or};
 ghost use Rattle.bpf_isa.specs.Text.{FirstBad, Spells};
 ghost use Rattle.elf_view.specs.File.{e_shstrndx};
 ghost use Rattle.elf_view.specs.Rules.{first_error};
+ghost use Rattle.xdp_object.specs.Choice.{chosen_of};
 ghost use Rattle.xdp_object.specs.Object.{FailsAs, FirstFault, IsObject, too_long, wrong_elf};
 
+use crate::choice::Choice;
 use crate::error::ObjectError;
 use crate::functions::{find_program, function_at};
 use crate::program::Program;
@@ -58,24 +60,19 @@ fn decode(alloc: Global, code: &[u8]) -> Result<Vec<Insn>, ObjectError>
     }
 }
 
-/// The program of an object: of the function of that name, or, with no name given, of the only function in a section whose
-/// name begins with `xdp`.
+/// The program of an object that is chosen.
 ///
 /// An error is the first fault of the object, or `NoMemory`. For now a program has no maps, and each relocation of the
 /// function is a fault.
-pub fn read_object(
-    alloc: Global,
-    bytes: &[u8],
-    choice: Option<&[u8]>,
-) -> Result<Program, ObjectError>
-    ensures program { IfOk result (λ p. IsObject (option_copied choice.entry) bytes.now p) }
-    ensures fault { IfErr result (λ e. e ≢ ObjectError.NoMemory → FirstFault (option_copied choice.entry) bytes.now e) }
+pub fn read_object(alloc: Global, bytes: &[u8], choice: Choice<'_>) -> Result<Program, ObjectError>
+    ensures program { IfOk result (λ p. IsObject (chosen_of choice.entry) bytes.now p) }
+    ensures fault { IfErr result (λ e. e ≢ ObjectError.NoMemory → FirstFault (chosen_of choice.entry) bytes.now e) }
 {
     let view = open(bytes)?;
-    let number = find_program(&view, section_names(bytes), choice)?;
+    let number = find_program(&view, section_names(bytes), choice.program)?;
     let function = function_at(&view, number)?;
     let insns = decode(alloc, function.code)?;
     check_relocations(&view, &function.symbol)?;
     let name = Vec::from_slice(alloc, function.name)?;
-    Ok(Program::new(name, insns, Vec::new(alloc), Vec::new(alloc)))
+    Ok(Program::without_maps(alloc, name, insns))
 }

@@ -1,7 +1,7 @@
 //! The least program.
 
 ghost use Rattle.std.specs.Prelude.{◌≡◌, IsTrue, ℤ, IfSome, Some};
-ghost use Rattle.xdp_object.specs.Program.{leave, move_number, two_units};
+ghost use Rattle.xdp_object.specs.TwoUnits.{leave, move_number, two_units};
 
 use crate::program::Program;
 use bpf_isa::{AluCode, Insn, Op, Src, Width};

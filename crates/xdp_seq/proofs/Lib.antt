@@ -1,4 +1,2 @@
 pub mod Laid
-pub mod Runs
-pub mod Changes
 pub mod Kept

@@ -2,7 +2,7 @@
 use Rattle.std.specs.Prelude.{ℕ, ◌≡◌, ◌-◌, ◌^◌, ◌<◌, List, [], ◌∷◌, ◌++◌, length, replicate, slice_index_or, All, Option, Some, None}
 use Rattle.bpf_isa.specs.declared.instruction.Insn.{Insn}
 use Rattle.bpf_isa.specs.Spelling.{units_of, IsInsn}
-use Rattle.xdp_object.specs.State.{Code}
+use Rattle.xdp_machine.specs.State.{Code}
 
 -- each instruction at its first unit, and nothing at the second of a load of 64 bits
 abbrev pub laid : List Insn → List (Option Insn)

@@ -1,11 +1,11 @@
 // Programs that are ready to run.
 
-ghost use Rattle.std.specs.Prelude.{◌≡◌, ◌-◌, ◌<◌, ◌^◌, ◌∷◌, ◌++◌, length, replicate, All, Some, None, IfOk, OnOk};
+ghost use Rattle.std.specs.Prelude.{◌≡◌, ◌-◌, ◌∷◌, ◌++◌, length, replicate, Some, None, IfOk, OnOk};
 ghost use Rattle.bpf_isa.specs.declared.instruction.Insn.{Insn};
-ghost use Rattle.bpf_isa.specs.Spelling.{IsInsn, units_of};
-ghost use Rattle.bpf_isa.specs.Text.{unit_count};
-ghost use Rattle.xdp_object.specs.State.{start};
-ghost use Rattle.xdp_object.specs.Runs.{run};
+ghost use Rattle.bpf_isa.specs.Spelling.{units_of};
+ghost use Rattle.xdp_machine.specs.State.{start};
+ghost use Rattle.xdp_machine.specs.Program.{program_code};
+ghost use Rattle.xdp_machine.specs.Runs.{run};
 ghost use Rattle.xdp_seq.specs.Units.{laid};
 ghost use Rattle.xdp_seq.specs.Answers.{Answers};
 
@@ -15,6 +15,7 @@ use bpf_isa::Insn;
 use std::alloc::{AllocError, Global};
 use std::marker::Model;
 use xdp_maps::state::Maps;
+use xdp_object::Program;
 use xdp_state::State;
 
 /// A program that is ready to run, and the state of its machine. Contracts see its code.
@@ -26,7 +27,7 @@ pub struct SeqPlan {
 }
 
 impl Model for SeqPlan {
-    ghost use Rattle.xdp_object.specs.State.{Code};
+    ghost use Rattle.xdp_machine.specs.State.{Code};
 
     ghost Value = { Code };
 
@@ -60,15 +61,12 @@ fn units_of(alloc: Global, insns: &[Insn]) -> Result<Vec<Option<Insn>>, AllocErr
 }
 
 impl SeqPlan {
-    /// A program of these instructions, of which the loads of 64 bits at the places `refs` are
-    /// references to maps by their numbers. It takes all the memory that a run needs.
-    pub fn open(alloc: Global, insns: &[Insn], refs: &[u32]) -> Result<SeqPlan, AllocError>
-        requires legal { All IsInsn insns.now }
-        requires few { unit_count insns.now < 2 ^ 32 }
-        ensures { IfOk result (λ plan. plan ≡ record { insns = insns.now; refs = refs.now }) }
+    /// The program, with all the memory that a run needs.
+    pub fn open(alloc: Global, program: &Program) -> Result<SeqPlan, AllocError>
+        ensures { IfOk result (λ plan. plan ≡ program_code program.now) }
     {
-        let units = units_of(alloc, insns)?;
-        let refs = Vec::from_slice(alloc, refs)?;
+        let units = units_of(alloc, program.insns())?;
+        let refs = Vec::from_slice(alloc, program.refs())?;
         Ok(SeqPlan {
             units,
             refs,
@@ -85,7 +83,7 @@ pub fn run_packet(
     frame: &mut Frame,
     meta: Meta,
 ) -> Result<Ended, SeqError>
-    ensures answer { Answers result (run plan.old STEP_LIMIT (start frame.old meta.ifindex maps.old)) frame.new maps.new }
+    ensures answer { Answers result (run plan.old STEP_LIMIT (start (record { frame = frame.old; ifindex = meta.ifindex }) maps.old)) frame.new maps.new }
     ensures plan { plan.new ≡ plan.old }
     ensures frame { length frame.new ≡ length frame.old }
     ensures decls { maps.new.decls ≡ maps.old.decls }

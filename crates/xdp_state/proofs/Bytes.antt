@@ -3,7 +3,7 @@ use Rattle.std.proofs.Common.{◌≡◌, ℕ, ◌+◌, ◌%◌, ◌≤◌, refl,
 use Rattle.byteorder.specs.Endian.{little_bytes}
 use Rattle.bpf_isa.specs.declared.operation.Size.{Size}
 use Rattle.bpf_isa.specs.declared.operation.Size.TheVariants.{B, H, W, Dw}
-use Rattle.xdp_object.specs.Memory.{bytes_in}
+use Rattle.xdp_machine.specs.Memory.{bytes_in}
 
 -- the low bytes of a number are the first of its eight
 pub low_part : (size : Size) (n : ℕ) → take (bytes_in size) (little_bytes 8 n) ≡ little_bytes (bytes_in size) n

@@ -4,10 +4,10 @@ use Rattle.std.proofs.lemmas.List.{get_or-map, map-set, take_more_set, append_as
 use Rattle.std.specs.Prelude.{Option}
 use Rattle.std.specs.Option.{option_map}
 use Rattle.bpf_isa.specs.declared.operation.Size.{Size}
-use Rattle.xdp_object.specs.Values as seen
-use Rattle.xdp_object.specs.Values.{◌>>=◌}
-use Rattle.xdp_object.specs.Helpers.{stack_byte, stack_bytes}
-use Rattle.xdp_object.specs.Memory.{bytes_in, in_stack, from_slot, from_stack, to_slot, to_stack}
+use Rattle.xdp_machine.specs.Values as seen
+use Rattle.xdp_machine.specs.Values.{◌>>=◌}
+use Rattle.xdp_machine.specs.Helpers.{stack_byte, stack_bytes}
+use Rattle.xdp_machine.specs.Memory.{bytes_in, in_stack, from_slot, from_stack, to_slot, to_stack}
 use Rattle.xdp_state.specs.declared.value.Value.{Value}
 use Rattle.xdp_state.specs.Views.{value_of}
 

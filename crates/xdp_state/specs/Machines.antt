@@ -1,7 +1,7 @@
 -- The machine that a state, a frame and maps make up.
 use Rattle.std.specs.Prelude.{ℕ, List}
 use Rattle.xdp_maps.specs.State.{MapState}
-use Rattle.xdp_object.specs.State.{Machine}
+use Rattle.xdp_machine.specs.State.{Machine}
 use Rattle.xdp_state.specs.declared.state.State.{State}
 
 abbrev pub machine_of : State → List ℕ → MapState → Machine

@@ -1,6 +1,6 @@
 -- What values in memory stand for.
 use Rattle.std.specs.Prelude.{ℕ, List, take}
-use Rattle.xdp_object.specs.Values as seen
+use Rattle.xdp_machine.specs.Values as seen
 use Rattle.xdp_state.specs.declared.value.Key.{Key}
 use Rattle.xdp_state.specs.declared.value.Value.{Value}
 use Rattle.xdp_state.specs.declared.value.Value.TheVariants.{Unset, Number, Packet, Stack, Context, Map, Entry}

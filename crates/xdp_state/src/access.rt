@@ -2,8 +2,8 @@
 
 ghost use Rattle.std.specs.Prelude.{◌≡◌, ◌≤◌};
 ghost use Rattle.std.specs.Option.{option_map};
-ghost use Rattle.xdp_object.specs.State.{register};
-ghost use Rattle.xdp_object.specs.Memory.{bytes_in, loaded, from_context, loaded_plain, loaded_signed, stored};
+ghost use Rattle.xdp_machine.specs.State.{register};
+ghost use Rattle.xdp_machine.specs.Memory.{bytes_in, loaded, from_context, loaded_plain, loaded_signed, stored};
 ghost use Rattle.xdp_state.specs.Views.{value_of};
 ghost use Rattle.xdp_state.specs.Cases.{Makes};
 ghost use Rattle.xdp_state.specs.Machines.{machine_of};

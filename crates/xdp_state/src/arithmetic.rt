@@ -2,7 +2,7 @@
 
 ghost use Rattle.std.specs.Prelude.{◌≡◌, ◌^◌, ◌<◌, ◌≤◌, ◌⊎◌};
 ghost use Rattle.bits_core.specs.Bits.{signed_of};
-ghost use Rattle.xdp_object.specs.Arithmetic.{arithmetic, bits_in, low, negated, extended, ordered, holds};
+ghost use Rattle.xdp_machine.specs.Arithmetic.{arithmetic, bits_in, low, negated, extended, ordered, holds};
 
 use bits_core::{arsh, div_s, div_u, mod_s, mod_u, sext, swap};
 use bpf_isa::{AluCode, JumpCode, Src, Width};

@@ -2,9 +2,9 @@
 
 ghost use Rattle.std.specs.Prelude.{◌≡◌, ◌≤◌, ℕ, List, IfSome, Some, is_some, true};
 ghost use Rattle.xdp_maps.specs.Calls.{change_bytes};
-ghost use Rattle.xdp_object.specs.Values as seen;
-ghost use Rattle.xdp_object.specs.Memory.{bytes_in};
-ghost use Rattle.xdp_object.specs.Atomics.{fetches, kind_of, wide_of, comparand, change_of, taking, atomic};
+ghost use Rattle.xdp_machine.specs.Values as seen;
+ghost use Rattle.xdp_machine.specs.Memory.{bytes_in};
+ghost use Rattle.xdp_machine.specs.Atomics.{fetches, kind_of, wide_of, comparand, change_of, taking, atomic};
 ghost use Rattle.xdp_state.specs.Cases.{Makes};
 ghost use Rattle.xdp_state.specs.Machines.{machine_of};
 

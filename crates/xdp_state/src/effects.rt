@@ -5,10 +5,10 @@ ghost use Rattle.std.specs.Option.{option_map};
 ghost use Rattle.bpf_isa.specs.Spelling.{IsInsn};
 ghost use Rattle.bpf_isa.specs.Rules.{Allows};
 ghost use Rattle.bpf_isa.specs.declared.fields.Rule.TheVariants.{SwapBits};
-ghost use Rattle.xdp_object.specs.Pointers.{compared};
-ghost use Rattle.xdp_object.specs.State.{register};
-ghost use Rattle.xdp_object.specs.Arithmetic.{negated, ordered, bits_in};
-ghost use Rattle.xdp_object.specs.Step.{operand, assigned, renumbered, alu};
+ghost use Rattle.xdp_machine.specs.Pointers.{compared};
+ghost use Rattle.xdp_machine.specs.State.{register};
+ghost use Rattle.xdp_machine.specs.Arithmetic.{negated, ordered, bits_in};
+ghost use Rattle.xdp_machine.specs.Step.{operand, assigned, renumbered, alu};
 ghost use Rattle.xdp_state.specs.Views.{value_of};
 ghost use Rattle.xdp_state.specs.Cases.{Makes};
 

@@ -4,8 +4,8 @@ ghost use Rattle.std.specs.Prelude.{◌≡◌, ◌+◌, ◌<◌, ◌≤◌, ◌+
 ghost use Rattle.std.specs.Option.{option_map, option_copied};
 ghost use Rattle.xdp_maps.specs.State.{contents_at, decl_at};
 ghost use Rattle.xdp_maps.specs.Calls.{lookup_of, change_bytes};
-ghost use Rattle.xdp_object.specs.Memory.{bytes_in, aligned, from_entry, number_stored, to_entry};
-ghost use Rattle.xdp_object.specs.Atomics.{changed_entry};
+ghost use Rattle.xdp_machine.specs.Memory.{bytes_in, aligned, from_entry, number_stored, to_entry};
+ghost use Rattle.xdp_machine.specs.Atomics.{changed_entry};
 ghost use Rattle.xdp_state.specs.Views.{value_of, key_of};
 ghost use Rattle.xdp_state.specs.Cases.{Makes, Changes, IsDeclared};
 

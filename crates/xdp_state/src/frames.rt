@@ -2,7 +2,7 @@
 
 ghost use Rattle.std.specs.Prelude.{◌≡◌, ◌+◌, ◌≤◌, ◌+ℤ◌, length, IfSome};
 ghost use Rattle.std.specs.Option.{option_map};
-ghost use Rattle.xdp_object.specs.Memory.{bytes_in, inside, from_frame, to_frame};
+ghost use Rattle.xdp_machine.specs.Memory.{bytes_in, inside, from_frame, to_frame};
 ghost use Rattle.xdp_state.specs.Views.{value_of};
 ghost use Rattle.xdp_state.specs.Cases.{Makes};
 

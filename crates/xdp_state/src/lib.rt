@@ -6,12 +6,12 @@
 #![tactic(auto)]
 
 mod access;
-mod arithmetic;
+pub mod arithmetic;
 mod atomics;
 mod effects;
 mod entries;
 mod frames;
-mod memory;
+pub mod memory;
 mod pointers;
 mod regions;
 mod registers;

@@ -3,7 +3,7 @@
 ghost use Rattle.std.specs.Prelude.{◌≡◌, ◌+◌, ◌-◌, ◌*◌, ◌%◌, ◌^◌, ◌<◌, ◌≤◌, ◌+ℤ◌, pos, length, IfSome};
 ghost use Rattle.byteorder.specs.Endian.{little_number, little_bytes};
 ghost use Rattle.xdp_maps.specs.Calls.{patched};
-ghost use Rattle.xdp_object.specs.Memory.{bytes_in, inside, aligned, number_at};
+ghost use Rattle.xdp_machine.specs.Memory.{bytes_in, inside, aligned, number_at};
 
 use bpf_isa::Size;
 use byteorder::{ByteOrder, LittleEndian};

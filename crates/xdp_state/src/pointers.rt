@@ -3,8 +3,8 @@
 ghost use Rattle.std.specs.Prelude.{◌≡◌, ◌-ℤ◌, ◌≤ℤ◌, neg_ℤ, pos, negsuc, Some, unsigned_abs, ◌≤◌};
 ghost use Rattle.std.specs.Option.{option_map};
 ghost use Rattle.bits_core.specs.Bits.{signed_of};
-ghost use Rattle.xdp_object.specs.Values as seen;
-ghost use Rattle.xdp_object.specs.Pointers.{moved, sum, difference, copied, computed, combined, in_order, against_null, compared};
+ghost use Rattle.xdp_machine.specs.Values as seen;
+ghost use Rattle.xdp_machine.specs.Pointers.{moved, sum, difference, copied, computed, combined, in_order, against_null, compared};
 ghost use Rattle.xdp_state.specs.Views.{value_of};
 
 use crate::arithmetic::{arithmetic, extended, holds};

@@ -1,7 +1,7 @@
 // The bytes that a pointer leads to.
 
 ghost use Rattle.std.specs.Prelude.{◌≡◌, ◌≤◌, length};
-ghost use Rattle.xdp_object.specs.Helpers.{region};
+ghost use Rattle.xdp_machine.specs.Helpers.{region};
 ghost use Rattle.xdp_state.specs.Views.{value_of};
 ghost use Rattle.xdp_state.specs.Cases.{Fills};
 

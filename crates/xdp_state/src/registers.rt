@@ -2,8 +2,8 @@
 
 ghost use Rattle.std.specs.Prelude.{◌≡◌, ◌≤◌, ◌∷◌, drop, length, get_or, slice_set};
 ghost use Rattle.std.specs.Option.{option_map};
-ghost use Rattle.xdp_object.specs.Values as seen;
-ghost use Rattle.xdp_object.specs.State.{register, put, first_registers};
+ghost use Rattle.xdp_machine.specs.Values as seen;
+ghost use Rattle.xdp_machine.specs.State.{register, put, first_registers};
 ghost use Rattle.xdp_state.specs.Views.{value_of};
 ghost use Rattle.xdp_state.specs.Cases.{Makes};
 
@@ -18,7 +18,7 @@ pub struct Registers {
 
 impl Model for Registers {
     ghost use Rattle.std.specs.Prelude.{List, map};
-    ghost use Rattle.xdp_object.specs.Values as seen;
+    ghost use Rattle.xdp_machine.specs.Values as seen;
     ghost use Rattle.xdp_state.specs.Views.{value_of};
 
     ghost Value = { List seen.Value };

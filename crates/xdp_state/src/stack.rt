@@ -1,10 +1,10 @@
 // The stack.
 
 ghost use Rattle.std.specs.Prelude.{◌≡◌, ◌+◌, ◌%◌, ◌<◌, ◌≤◌, ◌+ℤ◌, length, replicate, IfSome};
-ghost use Rattle.xdp_object.specs.Values as seen;
+ghost use Rattle.xdp_machine.specs.Values as seen;
 ghost use Rattle.std.specs.Option.{option_map};
-ghost use Rattle.xdp_object.specs.Memory.{bytes_in, in_stack, from_slot, from_stack, to_slot, to_stack, underlying};
-ghost use Rattle.xdp_object.specs.Helpers.{stack_byte, stack_bytes};
+ghost use Rattle.xdp_machine.specs.Memory.{bytes_in, in_stack, from_slot, from_stack, to_slot, to_stack, underlying};
+ghost use Rattle.xdp_machine.specs.Helpers.{stack_byte, stack_bytes};
 ghost use Rattle.xdp_state.specs.Views.{value_of};
 ghost use Rattle.xdp_state.specs.Cases.{Makes, Fills};
 
@@ -25,7 +25,7 @@ pub struct Stack {
 
 impl Model for Stack {
     ghost use Rattle.std.specs.Prelude.{List, map};
-    ghost use Rattle.xdp_object.specs.Values as seen;
+    ghost use Rattle.xdp_machine.specs.Values as seen;
     ghost use Rattle.xdp_state.specs.Views.{value_of};
 
     ghost Value = { List seen.Value };

@@ -19,7 +19,7 @@ pub struct State {
 impl State {
     ghost use Rattle.std.specs.Prelude.{◌≡◌, List, ℕ};
     ghost use Rattle.xdp_maps.specs.State.{MapState};
-    ghost use Rattle.xdp_object.specs.State.{start};
+    ghost use Rattle.xdp_machine.specs.State.{start};
     ghost use Rattle.xdp_state.specs.Machines.{machine_of};
 
     pub fn new() -> State {
@@ -34,7 +34,7 @@ impl State {
 
     /// The start of a run, whatever the frame and the maps are.
     pub fn restart(&mut self, ifindex: u32)
-        ensures { (frame : List ℕ) (maps : MapState) → machine_of self.new frame maps ≡ start frame ifindex maps }
+        ensures { (frame : List ℕ) (maps : MapState) → machine_of self.new frame maps ≡ start (record { frame = frame; ifindex = ifindex }) maps }
     {
         self.registers.restart();
         self.stack.clear();

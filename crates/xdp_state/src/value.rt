@@ -37,7 +37,7 @@ impl Key {
     }
 }
 
-/// A value, as `Value` of `xdp_object` has it.
+/// A value, as `Value` of `xdp_machine` has it.
 #[derive(Clone, Copy)]
 pub enum Value {
     Unset,

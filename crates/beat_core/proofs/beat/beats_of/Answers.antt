@@ -1,6 +1,6 @@
 use Rattle.std.proofs.Common.{◌<◌, ◌∙◌, length, sym, ap, subst, rules}
 use Rattle.beat_core.specs.Beats.{frame_of, IsWhole}
-use Rattle.beat_core.proofs.Cutting.{beats_more, beats_done, rest_after, IsWhole-beats_of, frame_of-beats_of, length-beats_of}
+use Rattle.beat_core.proofs.BeatLaws.{beats_more, beats_done, rest_after, IsWhole-beats_of, frame_of-beats_of, length-beats_of}
 use Rattle.beat_core.proofs.beat.beats_of.Goals as goal
 
 pub loop-rest-preserved : goal.loop-rest-preserved

@@ -2,8 +2,8 @@ use Rattle.std.proofs.Common.{◌≡◌, min, take, length, refl, ap, ◌∙◌,
 use Rattle.std.proofs.lemmas.List.{take_min}
 use Rattle.beat_core.specs.Beats.{first_beat}
 use Rattle.beat_core.specs.Words.{word_of}
-use Rattle.beat_core.proofs.Words.{little_from-word_of}
-use Rattle.beat_core.proofs.Cutting.{same_beat}
+use Rattle.beat_core.proofs.WordLaws.{little_from-word_of}
+use Rattle.beat_core.proofs.BeatLaws.{same_beat}
 use Rattle.beat_core.proofs.beat.first_beat.Goals as goal
 
 pub returns : goal.returns

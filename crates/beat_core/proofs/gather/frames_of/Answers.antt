@@ -1,7 +1,7 @@
 use Rattle.std.proofs.Common.{◌≡◌, ◌++◌, List, ℕ, [], ◌∷◌, None, get_or, refl, sym, ap, ◌∙◌}
 use Rattle.std.proofs.lemmas.List.{append-nil}
 use Rattle.beat_core.specs.Clocks.{Gathered, frames_among, after_clock, went_over}
-use Rattle.beat_core.proofs.Order.{completed, room_at, left_at, told_more, completed_last, completed_none}
+use Rattle.beat_core.proofs.OrderLaws.{completed, room_at, left_at, told_more, completed_last, completed_none}
 use Rattle.beat_core.proofs.gather.frames_of.Goals as goal
 use Rattle.beat_core.proofs.gather.frames_of.Goals.{then-clock+in_ok-of+in_ok-push, else-clock}
 

@@ -1,6 +1,6 @@
 use Rattle.std.proofs.Common.{[], drop}
 use Rattle.beat_core.specs.Clocks.{went_over, frames_among}
-use Rattle.beat_core.proofs.Order.{OffersLeft, Told}
+use Rattle.beat_core.proofs.OrderLaws.{OffersLeft, Told}
 use Rattle.beat_core.proofs.gather.frames_of.Given as goal
 
 -- the frames so far and those of the clocks to come are all, and what is to come are well-formed offers

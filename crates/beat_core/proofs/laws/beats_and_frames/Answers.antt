@@ -1,4 +1,4 @@
-use Rattle.beat_core.proofs.Cutting.{frame_of-beats_of, beats_of-frame_of, IsWhole-beats_of, IsFilledUp-beats_of, length-beats_of}
+use Rattle.beat_core.proofs.BeatLaws.{frame_of-beats_of, beats_of-frame_of, IsWhole-beats_of, IsFilledUp-beats_of, length-beats_of}
 use Rattle.beat_core.proofs.laws.beats_and_frames.Goals as goal
 
 pub returns : goal.returns

@@ -1,4 +1,4 @@
-use Rattle.beat_core.proofs.Order.{room_after, offers-frames, frames-frames}
+use Rattle.beat_core.proofs.OrderLaws.{room_after, offers-frames, frames-frames}
 use Rattle.beat_core.proofs.laws.frames_in_order.Goals as goal
 
 pub returns : goal.returns

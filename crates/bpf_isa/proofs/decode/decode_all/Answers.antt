@@ -1,5 +1,5 @@
 use Rattle.std.proofs.Common.{◌∙◌}
-use Rattle.bpf_isa.proofs.Texts.{decoded_step}
+use Rattle.bpf_isa.proofs.TextLaws.{decoded_step}
 use Rattle.bpf_isa.proofs.decode.decode_all.Goals as goal
 
 pub loop-at-preserved : goal.loop-at-preserved

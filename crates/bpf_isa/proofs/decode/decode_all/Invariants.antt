@@ -1,5 +1,5 @@
 use Rattle.std.proofs.Common.{◌≡◌, ◌%◌, ◌-◌, length}
-use Rattle.bpf_isa.proofs.Texts.{Decoded}
+use Rattle.bpf_isa.proofs.TextLaws.{Decoded}
 use Rattle.bpf_isa.proofs.decode.decode_all.Given as goal
 
 abbrev pub invariant-loop-at : goal.invariant-loop-at

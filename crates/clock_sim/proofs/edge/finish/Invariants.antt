@@ -5,5 +5,5 @@ use Rattle.clock_sim.proofs.edge.finish.Given as goal
 abbrev pub invariant-loop-s : goal.invariant-loop-s
 invariant-loop-s l = record {
   there : AreStores (drop l.s-index l.stores) (length l.slots);
-  made : applied l.slots (drop l.s-index l.stores) l.banks ≡ applied l.slots l.stores l.initial.banks;
+  made : applied l.slots (drop l.s-index l.stores) l.contents ≡ applied l.slots l.stores l.initial.contents;
 }

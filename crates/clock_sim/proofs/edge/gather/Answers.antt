@@ -1,5 +1,5 @@
 use Rattle.std.proofs.Common.{◌∙◌}
-use Rattle.clock_sim.proofs.Acting.{slot_at, gather_more}
+use Rattle.clock_sim.proofs.StatementLemmas.{slot_at, gather_more}
 use Rattle.clock_sim.proofs.edge.gather.Goals as goal
 
 pub bounds-slots-slot : goal.bounds-slots-slot

@@ -1,5 +1,5 @@
 use Rattle.std.proofs.Common.{drop}
-use Rattle.clock_sim.proofs.Laying.{Laying}
+use Rattle.clock_sim.proofs.LayoutLemmas.{Laying}
 use Rattle.clock_sim.proofs.layout.layout_of.Given as goal
 
 abbrev pub invariant-loop-d : goal.invariant-loop-d

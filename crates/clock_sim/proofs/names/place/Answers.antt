@@ -1,7 +1,7 @@
 use Rattle.std.specs.Prelude.{if◌then◌else◌}
 use Rattle.std.proofs.Common.{◌<◌, length, sym, ◌∙◌, arith}
 use Rattle.net_core.specs.Names.{is_register, is_memory}
-use Rattle.clock_sim.proofs.Naming.{counted, found, passed, skipped}
+use Rattle.clock_sim.proofs.NameLemmas.{counted, found, passed, skipped}
 use Rattle.clock_sim.proofs.names.place.Goals as goal
 use Rattle.clock_sim.proofs.names.place.Goals.{then-counts+else-left-eq0, else-counts}
 

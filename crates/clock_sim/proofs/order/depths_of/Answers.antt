@@ -3,7 +3,7 @@ use Rattle.std.proofs.Common.{◌≡◌, suc, ◌+◌, ◌≤◌, length, get_or
 use Rattle.std.proofs.lemmas.List.{drop_more, drop_all, length-set}
 use Rattle.clock_sim.specs.Flat.{AreReading, Climb}
 use Rattle.clock_sim.specs.Orders.{AreDepths, depth_of}
-use Rattle.clock_sim.proofs.Ordering.{depths_after, depths_are, low_set, depth_low}
+use Rattle.clock_sim.proofs.OrderLemmas.{depths_after, depths_are, low_set, depth_low}
 use Rattle.clock_sim.proofs.order.depths_of.Goals as goal
 
 pub loop-step-preserved : goal.loop-step-preserved

@@ -1,6 +1,6 @@
 use Rattle.std.proofs.Common.{◌≡◌, ℕ, ◌≤◌, length, drop, get_or}
 use Rattle.clock_sim.specs.Flat.{AreReading, Climb}
-use Rattle.clock_sim.proofs.Ordering.{depths_after}
+use Rattle.clock_sim.proofs.OrderLemmas.{depths_after}
 use Rattle.clock_sim.proofs.order.depths_of.Given as goal
 
 abbrev pub invariant-loop-step : goal.invariant-loop-step

@@ -1,7 +1,7 @@
 use Rattle.std.specs.Prelude.{replicate}
 use Rattle.std.proofs.Common.{◌≡◌, ◌++◌, drop}
-use Rattle.clock_sim.specs.Orders.{works_in, works_of}
+use Rattle.clock_sim.specs.Orders.{opcodes_in, opcodes_of}
 use Rattle.clock_sim.proofs.order.groups_of.Given as goal
 
 abbrev pub invariant-loop-step : goal.invariant-loop-step
-invariant-loop-step l = works_of l.groups.items ++ (replicate l.last.count l.last.work ++ works_in (drop l.step-index l.steps)) ≡ works_in l.steps
+invariant-loop-step l = opcodes_of l.groups.items ++ (replicate l.last.count l.last.opcode ++ opcodes_in (drop l.step-index l.steps)) ≡ opcodes_in l.steps

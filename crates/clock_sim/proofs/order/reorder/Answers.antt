@@ -1,7 +1,7 @@
 use Rattle.std.proofs.Common.{subst, rules}
 use Rattle.std.proofs.lemmas.List.Sorted.{IsNonDecreasingBy-from_sort_by_key}
 use Rattle.clock_sim.specs.Orders.{AreDepths, rank}
-use Rattle.clock_sim.proofs.Ordering.{reordered}
+use Rattle.clock_sim.proofs.OrderLemmas.{reordered}
 use Rattle.clock_sim.proofs.order.reorder.Goals as goal
 
 pub returns : goal.returns

@@ -1,7 +1,7 @@
 use Rattle.std.proofs.Common.{arith}
 use Rattle.clock_sim.specs.Flat.{flat_of}
-use Rattle.clock_sim.proofs.Growing.{extends_none, extends_more}
-use Rattle.clock_sim.proofs.Showing.{shows_later}
+use Rattle.clock_sim.proofs.BuilderLemmas.{extends_none, extends_more}
+use Rattle.clock_sim.proofs.OutputLemmas.{shows_later}
 use Rattle.clock_sim.proofs.outputs.add_outputs.Goals as goal
 
 pub returns-clause-extends : goal.returns-clause-extends
@@ -23,7 +23,7 @@ returns-clause-there c = record {
 
 pub returns-clause-shows : goal.returns-clause-shows
 returns-clause-shows c = record {
-  in_ready = shows_later _ _ _ _ _ _ _ _ (extends_none (flat_of c.args.code.now)) (extends_more _ _ _ (extends_more _ _ _ (extends_more _ _ _ (extends_more _ _ _ (extends_more _ _ _ (extends_more _ _ _ (extends_more _ _ _ c.in_ok-out_valid.ensures.extends c.in_ok-out_data.ensures.extends) c.in_ok-out_bytes.ensures.extends) c.in_ok-out_last.ensures.extends) c.in_ok-out_verdict.ensures.extends) c.in_ok-out_target.ensures.extends) c.in_ok-out_reload.ensures.extends) c.in_ok-host_value.ensures.extends) c.in_ok-in_ready.ensures.shows;
+  in_ready = shows_later _ _ _ _ _ _ _ _ (extends_none (flat_of c.args.builder.now)) (extends_more _ _ _ (extends_more _ _ _ (extends_more _ _ _ (extends_more _ _ _ (extends_more _ _ _ (extends_more _ _ _ (extends_more _ _ _ c.in_ok-out_valid.ensures.extends c.in_ok-out_data.ensures.extends) c.in_ok-out_bytes.ensures.extends) c.in_ok-out_last.ensures.extends) c.in_ok-out_verdict.ensures.extends) c.in_ok-out_target.ensures.extends) c.in_ok-out_reload.ensures.extends) c.in_ok-host_value.ensures.extends) c.in_ok-in_ready.ensures.shows;
   out_valid = shows_later _ _ _ _ _ _ _ _ (c.in_ok-in_ready.ensures.extends) (extends_more _ _ _ (extends_more _ _ _ (extends_more _ _ _ (extends_more _ _ _ (extends_more _ _ _ (extends_more _ _ _ c.in_ok-out_data.ensures.extends c.in_ok-out_bytes.ensures.extends) c.in_ok-out_last.ensures.extends) c.in_ok-out_verdict.ensures.extends) c.in_ok-out_target.ensures.extends) c.in_ok-out_reload.ensures.extends) c.in_ok-host_value.ensures.extends) c.in_ok-out_valid.ensures.shows;
   out_data = shows_later _ _ _ _ _ _ _ _ (extends_more _ _ _ c.in_ok-in_ready.ensures.extends c.in_ok-out_valid.ensures.extends) (extends_more _ _ _ (extends_more _ _ _ (extends_more _ _ _ (extends_more _ _ _ (extends_more _ _ _ c.in_ok-out_bytes.ensures.extends c.in_ok-out_last.ensures.extends) c.in_ok-out_verdict.ensures.extends) c.in_ok-out_target.ensures.extends) c.in_ok-out_reload.ensures.extends) c.in_ok-host_value.ensures.extends) c.in_ok-out_data.ensures.shows;
   out_bytes = shows_later _ _ _ _ _ _ _ _ (extends_more _ _ _ (extends_more _ _ _ c.in_ok-in_ready.ensures.extends c.in_ok-out_valid.ensures.extends) c.in_ok-out_data.ensures.extends) (extends_more _ _ _ (extends_more _ _ _ (extends_more _ _ _ (extends_more _ _ _ c.in_ok-out_last.ensures.extends c.in_ok-out_verdict.ensures.extends) c.in_ok-out_target.ensures.extends) c.in_ok-out_reload.ensures.extends) c.in_ok-host_value.ensures.extends) c.in_ok-out_bytes.ensures.shows;

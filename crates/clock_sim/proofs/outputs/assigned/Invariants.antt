@@ -8,7 +8,7 @@ use Rattle.clock_sim.proofs.outputs.assigned.Given as goal
 
 abbrev pub invariant-loop-a : goal.invariant-loop-a
 invariant-loop-a l = record {
-  kept : l.code ≡ l.initial.code;
-  typed : AreShown l.places (drop l.a-index (map assign_of l.assigns));
+  kept : l.builder ≡ l.initial.builder;
+  typed : AreShown l.operands (drop l.a-index (map assign_of l.assigns));
   same : (v : Env Net) → assigned v (drop l.a-index (map assign_of l.assigns)) l.port ≡ assigned v (map assign_of l.assigns) l.port;
 }

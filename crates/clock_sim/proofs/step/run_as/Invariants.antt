@@ -7,6 +7,6 @@ use Rattle.clock_sim.proofs.step.run_as.Given as goal
 abbrev pub invariant-loop-step : goal.invariant-loop-step
 invariant-loop-step l = record {
   reading : AreReading (length l.slots) (drop l.step-index l.steps);
-  work : AreOf l.work (drop l.step-index l.steps);
-  made : run l.banks (drop l.step-index l.steps) l.slots ≡ run l.banks l.steps l.initial.slots;
+  opcode : AreOf l.opcode (drop l.step-index l.steps);
+  made : run l.contents (drop l.step-index l.steps) l.slots ≡ run l.contents l.steps l.initial.slots;
 }

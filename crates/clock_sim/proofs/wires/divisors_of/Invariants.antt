@@ -5,6 +5,6 @@ use Rattle.clock_sim.proofs.wires.divisors_of.Given as goal
 
 abbrev pub invariant-loop-i : goal.invariant-loop-i
 invariant-loop-i l = record {
-  divided : AreDivided l.places (drop l.i (map wire_of l.all));
-  made : l.divisors.items ++ divisors_from l.places l.i (drop l.i (map wire_of l.all)) ≡ divisors_from l.places 0 (map wire_of l.all);
+  divided : AreDivided l.operands (drop l.i (map wire_of l.all));
+  made : l.divisors.items ++ divisors_from l.operands l.i (drop l.i (map wire_of l.all)) ≡ divisors_from l.operands 0 (map wire_of l.all);
 }

@@ -1,49 +1,90 @@
 use Rattle.std.proofs.Common.{Err, ap, ◌∙◌, inl, inr, subst}
 use Rattle.ehdl_top.specs.declared.status.Status.{Status}
 use Rattle.ehdl_top.specs.declared.status.Status.TheVariants as status
-use Rattle.ehdl_top.specs.declared.stop.Stop.TheVariants as stop
+use Rattle.ehdl_top.specs.declared.error.CommandError.TheVariants as error
+use Rattle.ehdl_top.specs.States.{state_of, sink_of}
 use Rattle.ehdl_top.specs.Ends.{ByInputs}
-use Rattle.ehdl_top.proofs.Causes.{err_caused, ends_err, no_inputs, says_reason, same_error, reported_of, reported_written, reported_caused, reported_usage, reported_loses, done_of, done_cause, exact_of, complete_of}
+use Rattle.ehdl_top.proofs.CauseLemmas.{done_ended, report_ended, stops_of, stops_cause, no_inputs, reported, usage_only, ended_outcome, ended_complete, ended_read, ended_write, ended_can, ended_inputs, ended_driven, ended_loses}
 use Rattle.ehdl_top.proofs.command.top.Goals as goal
 
-pub returns-in-Ok-clause-exact : goal.returns-in-Ok-clause-exact
-returns-in-Ok-clause-exact g c = λ asked asks told s cause.
-    let h = c.in-Ok.ensures.ends asked asks told in absurd (done_cause asked _ h.files s h.outcome cause)
+pub returns-in-Ok-clause-inputs : goal.returns-in-Ok-clause-inputs
+returns-in-Ok-clause-inputs g c = λ request asks told e stop.
+    ended_inputs request (state_of g.S.Shelf c.args.shelf.now) (state_of g.S.Shelf c.run_words.new.shelf) status.Done (done_ended request (state_of g.S.Shelf c.args.shelf.now) (state_of g.S.Shelf c.run_words.new.shelf) c.run_words.result _ c.in-Ok.is (c.run_words.ensures.ends request asks)) told e stop
+
+pub returns-in-Ok-clause-driven : goal.returns-in-Ok-clause-driven
+returns-in-Ok-clause-driven g c = λ request asks told e outputs outcome.
+    ended_driven request (state_of g.S.Shelf c.args.shelf.now) (state_of g.S.Shelf c.run_words.new.shelf) status.Done (done_ended request (state_of g.S.Shelf c.args.shelf.now) (state_of g.S.Shelf c.run_words.new.shelf) c.run_words.result _ c.in-Ok.is (c.run_words.ensures.ends request asks)) told e outputs outcome
 
 pub returns-in-Err-clause-outcome : goal.returns-in-Err-clause-outcome
-returns-in-Err-clause-outcome g c = λ all told asked asks.
-    reported_written asked _ _ _ _ (reported_of asked _ _ _ c.run_words.result c.in-Err.stop c.report.result _ _ _ c.in-Err.is (c.run_words.ensures.ends asked asks) c.report.ensures.why) told all
+returns-in-Err-clause-outcome g c = λ all told request asks.
+    ended_outcome request (state_of g.S.Shelf c.args.shelf.now) (state_of g.S.Shelf c.run_words.new.shelf) c.report.result
+    (report_ended request (state_of g.S.Shelf c.args.shelf.now) (state_of g.S.Shelf c.run_words.new.shelf) c.run_words.result c.in-Err.error c.report.result
+    (sink_of g.O.Sink c.args.out.now) (sink_of g.O.Sink c.report.new.out) c.in-Err.is (c.run_words.ensures.ends request asks) c.report.ensures.why c.report.ensures.fixed) all told
 
 pub returns-in-Err-clause-complete : goal.returns-in-Err-clause-complete
-returns-in-Err-clause-complete g c = λ asked asks told ready quiet calm.
-    let x = reported_of asked (g.S.Shelf.tells c.args.shelf.now) (g.S.Shelf.held c.args.shelf.now) (g.S.Shelf.held c.run_words.new.shelf) c.run_words.result c.in-Err.stop c.report.result _ _ _ c.in-Err.is (c.run_words.ensures.ends asked asks) c.report.ensures.why in
-    complete_of asked (g.S.Shelf.held c.args.shelf.now) c.report.result (reported_usage asked _ _ _ _ x) (reported_caused asked _ _ _ _ x told) ready
-    (λ read. quiet (c.run_words.ensures.read_fault (c.in-Err.is ∙ ap Err (says_reason status.ReadFault _ _ _ _ _ read (λ e. cc) c.report.ensures.why)) asked asks))
-    (λ write. calm (c.run_words.ensures.write_fault (c.in-Err.is ∙ ap Err (says_reason status.WriteFault _ _ _ _ _ write (λ e. cc) c.report.ensures.why)) asked asks))
+returns-in-Err-clause-complete g c = λ request asks told ready quiet calm.
+    ended_complete request (state_of g.S.Shelf c.args.shelf.now) (state_of g.S.Shelf c.run_words.new.shelf) c.report.result
+    (report_ended request (state_of g.S.Shelf c.args.shelf.now) (state_of g.S.Shelf c.run_words.new.shelf) c.run_words.result c.in-Err.error c.report.result
+    (sink_of g.O.Sink c.args.out.now) (sink_of g.O.Sink c.report.new.out) c.in-Err.is (c.run_words.ensures.ends request asks) c.report.ensures.why c.report.ensures.fixed) told ready quiet calm
 
-pub returns-in-Err-clause-usage : goal.returns-in-Err-clause-usage
-returns-in-Err-clause-usage g c = (
-  (λ usage. c.run_words.ensures.usage.0 (c.in-Err.is ∙ ap Err (says_reason status.Usage _ _ _ _ _ usage (λ e. cc) c.report.ensures.why))),
-  (λ none. c.report.ensures.usage (same_error _ _ _ c.in-Err.is (c.run_words.ensures.usage.1 none))),
-)
+pub returns-in-Err-clause-inputs : goal.returns-in-Err-clause-inputs
+returns-in-Err-clause-inputs g c = λ request asks told e stop.
+    ended_inputs request (state_of g.S.Shelf c.args.shelf.now) (state_of g.S.Shelf c.run_words.new.shelf) c.report.result
+    (report_ended request (state_of g.S.Shelf c.args.shelf.now) (state_of g.S.Shelf c.run_words.new.shelf) c.run_words.result c.in-Err.error c.report.result
+    (sink_of g.O.Sink c.args.out.now) (sink_of g.O.Sink c.report.new.out) c.in-Err.is (c.run_words.ensures.ends request asks) c.report.ensures.why c.report.ensures.fixed) told e stop
 
-pub returns-in-Err-clause-exact : goal.returns-in-Err-clause-exact
-returns-in-Err-clause-exact g c = λ asked asks told s cause.
-    let x = reported_of asked (g.S.Shelf.tells c.args.shelf.now) (g.S.Shelf.held c.args.shelf.now) (g.S.Shelf.held c.run_words.new.shelf) c.run_words.result c.in-Err.stop c.report.result _ _ _ c.in-Err.is (c.run_words.ensures.ends asked asks) c.report.ensures.why in
-    exact_of asked (g.S.Shelf.held c.args.shelf.now) c.report.result (reported_usage asked _ _ _ _ x) (λ done. absurd (done_of asked _ _ _ _ x done)) (reported_caused asked _ _ _ _ x told) s cause
+pub returns-in-Err-clause-driven : goal.returns-in-Err-clause-driven
+returns-in-Err-clause-driven g c = λ request asks told e outputs outcome.
+    ended_driven request (state_of g.S.Shelf c.args.shelf.now) (state_of g.S.Shelf c.run_words.new.shelf) c.report.result
+    (report_ended request (state_of g.S.Shelf c.args.shelf.now) (state_of g.S.Shelf c.run_words.new.shelf) c.run_words.result c.in-Err.error c.report.result
+    (sink_of g.O.Sink c.args.out.now) (sink_of g.O.Sink c.report.new.out) c.in-Err.is (c.run_words.ensures.ends request asks) c.report.ensures.why c.report.ensures.fixed) told e outputs outcome
 
 pub returns-in-Err-clause-broken : goal.returns-in-Err-clause-broken
-returns-in-Err-clause-broken g c = λ told asked asks.
-    reported_loses asked _ _ _ _ (reported_of asked _ _ _ c.run_words.result c.in-Err.stop c.report.result _ _ _ c.in-Err.is (c.run_words.ensures.ends asked asks) c.report.ensures.why) told
+returns-in-Err-clause-broken g c = λ told request asks.
+    ended_loses request (state_of g.S.Shelf c.args.shelf.now) (state_of g.S.Shelf c.run_words.new.shelf) c.report.result
+    (report_ended request (state_of g.S.Shelf c.args.shelf.now) (state_of g.S.Shelf c.run_words.new.shelf) c.run_words.result c.in-Err.error c.report.result
+    (sink_of g.O.Sink c.args.out.now) (sink_of g.O.Sink c.report.new.out) c.in-Err.is (c.run_words.ensures.ends request asks) c.report.ensures.why c.report.ensures.fixed) told
 
 pub returns-in-Err-clause-why : goal.returns-in-Err-clause-why
 returns-in-Err-clause-why g c = λ stopped. elim c.report.ensures.why [
   | inl w ↦ (
-    c.in-Err.stop,
+    c.in-Err.error,
     w,
-    λ by told asked asks.
+    λ by told request asks.
         let P : Status → Type 0 = ByInputs in
-        err_caused asked (g.S.Shelf.tells c.args.shelf.now) _ (g.S.Shelf.held c.run_words.new.shelf) c.in-Err.stop (ends_err asked _ _ _ c.run_words.result c.in-Err.stop c.in-Err.is (c.run_words.ensures.ends asked asks)).1 told (subst P w.status by),
+        stops_cause request (state_of g.S.Shelf c.args.shelf.now) (state_of g.S.Shelf c.run_words.new.shelf) c.in-Err.error (stops_of request (state_of g.S.Shelf c.args.shelf.now) (state_of g.S.Shelf c.run_words.new.shelf) c.run_words.result c.in-Err.error c.in-Err.is (c.run_words.ensures.ends request asks)) (subst P w.status by) told,
   )
-  | inr w ↦ (stop.NoMemory, w, λ by. absurd (no_inputs c.report.result w.status by))
+  | inr w ↦ (error.NoMemory, w, λ by. absurd (no_inputs c.report.result w.status by))
 ]
+
+pub returns-in-Ok-clause-outcome : goal.returns-in-Ok-clause-outcome
+returns-in-Ok-clause-outcome g c = λ all told request asks.
+    ended_outcome request (state_of g.S.Shelf c.args.shelf.now) (state_of g.S.Shelf c.run_words.new.shelf) status.Done (done_ended request (state_of g.S.Shelf c.args.shelf.now) (state_of g.S.Shelf c.run_words.new.shelf) c.run_words.result _ c.in-Ok.is (c.run_words.ensures.ends request asks)) all told
+
+pub returns-in-Ok-clause-others : goal.returns-in-Ok-clause-others
+returns-in-Ok-clause-others g c = λ request asks. (c.run_words.ensures.ends request asks).kept
+
+pub returns-in-Err-clause-usage : goal.returns-in-Err-clause-usage
+returns-in-Err-clause-usage g c = λ is.
+    c.run_words.ensures.usage (c.in-Err.is ∙ ap Err (usage_only c.in-Err.error c.report.result (reported c.in-Err.error c.report.result (sink_of g.O.Sink c.args.out.now) (sink_of g.O.Sink c.report.new.out) c.report.ensures.why) is))
+
+pub returns-in-Err-clause-read_fault : goal.returns-in-Err-clause-read_fault
+returns-in-Err-clause-read_fault g c = λ is request asks.
+    ended_read request (state_of g.S.Shelf c.args.shelf.now) (state_of g.S.Shelf c.run_words.new.shelf) c.report.result
+    (report_ended request (state_of g.S.Shelf c.args.shelf.now) (state_of g.S.Shelf c.run_words.new.shelf) c.run_words.result c.in-Err.error c.report.result
+    (sink_of g.O.Sink c.args.out.now) (sink_of g.O.Sink c.report.new.out) c.in-Err.is (c.run_words.ensures.ends request asks) c.report.ensures.why c.report.ensures.fixed) is
+
+pub returns-in-Err-clause-write_fault : goal.returns-in-Err-clause-write_fault
+returns-in-Err-clause-write_fault g c = λ is request asks.
+    ended_write request (state_of g.S.Shelf c.args.shelf.now) (state_of g.S.Shelf c.run_words.new.shelf) c.report.result
+    (report_ended request (state_of g.S.Shelf c.args.shelf.now) (state_of g.S.Shelf c.run_words.new.shelf) c.run_words.result c.in-Err.error c.report.result
+    (sink_of g.O.Sink c.args.out.now) (sink_of g.O.Sink c.report.new.out) c.in-Err.is (c.run_words.ensures.ends request asks) c.report.ensures.why c.report.ensures.fixed) is
+
+pub returns-in-Err-clause-never : goal.returns-in-Err-clause-never
+returns-in-Err-clause-never g c = λ request asks.
+    ended_can request (state_of g.S.Shelf c.args.shelf.now) (state_of g.S.Shelf c.run_words.new.shelf) c.report.result
+    (report_ended request (state_of g.S.Shelf c.args.shelf.now) (state_of g.S.Shelf c.run_words.new.shelf) c.run_words.result c.in-Err.error c.report.result
+    (sink_of g.O.Sink c.args.out.now) (sink_of g.O.Sink c.report.new.out) c.in-Err.is (c.run_words.ensures.ends request asks) c.report.ensures.why c.report.ensures.fixed)
+
+pub returns-in-Err-clause-others : goal.returns-in-Err-clause-others
+returns-in-Err-clause-others g c = λ request asks. (c.run_words.ensures.ends request asks).kept

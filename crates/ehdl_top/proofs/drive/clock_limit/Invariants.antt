@@ -1,5 +1,5 @@
 use Rattle.std.proofs.Common.{◌≡◌, ◌≤◌, drop, max}
-use Rattle.ehdl_build.specs.Realizes.{most_beats}
+use Rattle.ehdl_build.specs.Bounds.{most_beats}
 use Rattle.ehdl_top.proofs.drive.clock_limit.Given as goal
 
 abbrev pub invariant-loop-frame : goal.invariant-loop-frame

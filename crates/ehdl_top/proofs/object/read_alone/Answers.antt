@@ -1,6 +1,6 @@
-use Rattle.std.proofs.Common.{option_copied}
-use Rattle.ehdl_top.proofs.Stops.{read_stops}
+use Rattle.xdp_object.specs.Choice.{chosen_of}
+use Rattle.ehdl_top.proofs.FormLemmas.{object_given_up}
 use Rattle.ehdl_top.proofs.object.read_alone.Goals as goal
 
-pub returns-in-Err-clause-stops : goal.returns-in-Err-clause-stops
-returns-in-Err-clause-stops c = read_stops (option_copied c.args.choice) c.args.object.now c.in-Err.error c.stop_of.result c.in-Err.ensures.fault c.stop_of.ensures
+pub returns-in-Err-clause-given_up : goal.returns-in-Err-clause-given_up
+returns-in-Err-clause-given_up c = object_given_up (chosen_of c.args.choice) c.args.object.now c.in-Err.error c.error_of.result c.in-Err.ensures.fault c.error_of.ensures

@@ -1,15 +1,13 @@
-use Rattle.std.proofs.Common.{◌≡◌, ◌++◌, ◌<◌, ◌^◌, length, map}
-use Rattle.std.specs.List.{AllByRecursion}
-use Rattle.pcap_core.specs.Next.{seen}
-use Rattle.ehdl_top.specs.Steps.{HasFrame}
+use Rattle.std.proofs.Common.{◌≡◌, ◌++◌, List, length}
+use Rattle.pcap_core.specs.Format.{Packet}
+use Rattle.ehdl_top.specs.Steps.{IsCaptureOf}
 use Rattle.ehdl_top.proofs.packets.read_capture.Given as goal
 
 abbrev pub invariant-loop-packet : goal.invariant-loop-packet
 invariant-loop-packet l = record {
-  packets : map seen l.packets.items ++ l.capture.packets ≡ l.initial.capture.packets;
+  packets : (before : List Packet) × IsCaptureOf l.captured before × (before ++ l.capture.packets ≡ l.initial.capture.packets);
+  magic : l.captured.magic ≡ l.initial.captured.magic;
   fault : l.capture.fault ≡ l.initial.capture.fault;
-  frames : AllByRecursion HasFrame l.packets.items;
-  many : length l.packets.items < 2 ^ 32;
 }
 
 abbrev pub decreases-loop-packet : goal.decreases-loop-packet

@@ -1,82 +1,51 @@
-use Rattle.std.proofs.Common.{rules, ◌≡◌, ◌++◌, ◌∷◌, true, length, map, None, IsTrue, ap, ◌∙◌, arith, inr}
-use Rattle.pcap_core.specs.Next.{seen}
-use Rattle.command_words.specs.Asked.{AskRun, names_of, selected_of}
-use Rattle.ehdl_top.specs.Files.{file}
-use Rattle.ehdl_top.specs.Outcome.{IsOutcome}
-use Rattle.ehdl_top.specs.Results.{frames_of, result_files, final_files}
-use Rattle.ehdl_top.proofs.Files.{same_twice, written_from, broken_from}
-use Rattle.ehdl_top.proofs.Outcomes.{answers_count, realizes_as, captured_there, run_outcome}
+use Rattle.std.proofs.Common.{None, [], List, map, refl, subst}
+use Rattle.xdp_object.specs.Choice.{chosen_of}
+use Rattle.command_line.specs.Request.{AskRun, names_of}
+use Rattle.ehdl_top.specs.declared.write.Write as code
+use Rattle.ehdl_top.specs.States.{state_of}
+use Rattle.ehdl_top.specs.Writes.{AreDone, OneFailed}
+use Rattle.ehdl_top.specs.Results.{run_outputs}
+use Rattle.ehdl_top.specs.Requests.{outputs_of}
+use Rattle.ehdl_top.specs.Steps.{write_of}
+use Rattle.ehdl_top.proofs.StateLemmas.{changes_then}
+use Rattle.ehdl_top.proofs.WriteLemmas.{of_as}
+use Rattle.ehdl_top.proofs.ResultLemmas.{run_of}
+use Rattle.ehdl_top.proofs.OutcomeLemmas.{run_makes}
+use Rattle.ehdl_top.proofs.EndLemmas.{ends_unwritten, ends_done}
 use Rattle.ehdl_top.proofs.run.run_files.Goals as goal
 
-pub write_run-requires-clause-many : goal.write_run-requires-clause-many
-write_run-requires-clause-many g c =
-    let b = c.in-Ok.ensures.ok in
-    let runs = c.in-Ok-answers_of.ensures b.program.insns (realizes_as b.program.insns c.in-Ok.text.items c.deref-3.result.now c.deref-3.ensures.value b.realizes) in
-    let e : length c.in-Ok-answers_of.answers ≡ length c.in-Ok-read_capture.capture.packets.items =
-    answers_count b.program.insns c.args.ifindex c.deref-4.result.now c.in-Ok-answers_of.answers runs ∙ ap length c.deref-4.ensures.value ∙ c.in-Ok-frames_to_offer.ensures.many ∙ ap length c.deref-2.ensures.value in
-    omega (arith, e)
-
-pub returns-in-Ok-write_run-clause-ends : goal.returns-in-Ok-write_run-clause-ends
-returns-in-Ok-write_run-clause-ends g c = λ told.
+pub returns-in_err-write_all : goal.returns-in_err-write_all
+returns-in_err-write_all g c =
     let names = names_of c.args.files.now in
-    let b = c.in-Ok.ensures.ok in
-    let tells : IsTrue (g.S.Shelf.tells c.built.new.shelf) = search rules in
-    let tell : IsTrue (g.S.Shelf.tells c.capture_bytes.new.shelf) = search rules in
-    let runs = c.in-Ok-answers_of.ensures b.program.insns (realizes_as b.program.insns c.in-Ok.text.items c.deref-3.result.now c.deref-3.ensures.value b.realizes) in
-    let files = file names.verilog c.deref-5.result.now ∷ (result_files names c.in-Ok-read_capture.capture.magic (map seen c.in-Ok-read_capture.capture.packets.items) c.in-Ok-answers_of.answers ++ final_files names true) in
-    let outcome : IsOutcome (AskRun names (selected_of c.args.choice) c.args.ifindex) (g.S.Shelf.held c.args.shelf.now) None files =
-    run_outcome names (selected_of c.args.choice) c.args.ifindex (g.S.Shelf.held c.args.shelf.now) (g.S.Shelf.tells c.args.shelf.now) c.in-Ok.text.items c.deref-5.result.now b told c.deref-5.ensures.value
-    c.in-Ok-read_capture.capture.magic (map seen c.in-Ok-read_capture.capture.packets.items)
-    (captured_there _ _ c.deref.result.now c.in-Ok-capture_bytes.bytes.items _ _ (c.built.ensures.held.each names.capture) (c.in-Ok-capture_bytes.ensures.whole tells) c.deref.ensures.value (omega (arith, c.deref.ensures.len, c.in-Ok-capture_bytes.ensures.within)) c.in-Ok-read_capture.ensures.ok)
-    c.deref-4.result.now (c.deref-4.ensures.value ∙ c.in-Ok-frames_to_offer.ensures.frames ∙ ap (λ ps. frames_of (map seen ps)) c.deref-2.ensures.value) c.in-Ok-answers_of.answers runs in
-    record {
-      files = files;
-      outcome = outcome;
-      written = written_from files (g.S.Shelf.held c.args.shelf.now) (g.S.Shelf.held c.capture_bytes.new.shelf) (g.S.Shelf.held c.write_run.new.shelf) (same_twice _ _ _ c.built.ensures.held c.capture_bytes.ensures.held) (c.in-Ok-write_run.ensures.done tell) c.write_run.ensures.others;
-    }
+    let request = AskRun names (chosen_of c.args.choice) c.args.ifindex in
+    let old = state_of g.S.Shelf c.args.shelf.now in
+    let read = state_of g.S.Shelf c.read_input.new.shelf in
+    let mid = state_of g.S.Shelf c.read_input-2.new.shelf in
+    let new = state_of g.S.Shelf c.write_all.new.shelf in
+    let object = c.in_ok-text.ensures.read in
+    let capture = c.in_ok-capture.ensures.read in
+    let run = c.in_ok-writes.ensures object.2.program object.2.size object.2.realized capture.2.packets capture.2.of in
+    let P : List code.Write → Type 0 = λ ws. OneFailed (map write_of ws) mid new in
+    ends_unwritten request None old mid new (map write_of c.in_ok-writes.writes.items) c.from_residual-in_err-write_all.result c.from_residual-in_err-write_all.ensures.1
+    (of_as (outputs_of request) (map write_of c.in_ok-writes.writes.items) (run_outputs names c.in_ok-text.text.items c.in_ok-capture.capture.magic capture.2.packets run.answers).writes run.writes_are (run_of names c.in_ok-text.text.items c.in_ok-capture.capture.magic capture.2.packets run.answers))
+    (changes_then [] old read mid c.read_input.ensures.kept c.read_input-2.ensures.kept)
+    (run_makes names (chosen_of c.args.choice) c.args.ifindex old read object.0 capture.0 c.in_ok-text.text.items c.in_ok-capture.capture.magic capture.2.packets c.in_ok-writes.writes.items c.requires c.read_input.ensures.kept object.1 object.2 capture.1 capture.2.is run)
+    (subst P c.deref.ensures.value c.in_err-write_all.ensures.failed)
 
-pub returns-in-Err-Failed-clause-ends : goal.returns-in-Err-Failed-clause-ends
-returns-in-Err-Failed-clause-ends g c = (
-  inr tt,
-  λ told.
-      let names = names_of c.args.files.now in
-      let b = c.in-Ok.ensures.ok in
-      let tells : IsTrue (g.S.Shelf.tells c.built.new.shelf) = search rules in
-      let tell : IsTrue (g.S.Shelf.tells c.capture_bytes.new.shelf) = search rules in
-      let runs = c.in-Ok-answers_of.ensures b.program.insns (realizes_as b.program.insns c.in-Ok.text.items c.deref-3.result.now c.deref-3.ensures.value b.realizes) in
-      let files = file names.verilog c.deref-5.result.now ∷ (result_files names c.in-Ok-read_capture.capture.magic (map seen c.in-Ok-read_capture.capture.packets.items) c.in-Ok-answers_of.answers ++ final_files names true) in
-      let outcome : IsOutcome (AskRun names (selected_of c.args.choice) c.args.ifindex) (g.S.Shelf.held c.args.shelf.now) None files =
-      run_outcome names (selected_of c.args.choice) c.args.ifindex (g.S.Shelf.held c.args.shelf.now) (g.S.Shelf.tells c.args.shelf.now) c.in-Ok.text.items c.deref-5.result.now b told c.deref-5.ensures.value
-      c.in-Ok-read_capture.capture.magic (map seen c.in-Ok-read_capture.capture.packets.items)
-      (captured_there _ _ c.deref.result.now c.in-Ok-capture_bytes.bytes.items _ _ (c.built.ensures.held.each names.capture) (c.in-Ok-capture_bytes.ensures.whole tells) c.deref.ensures.value (omega (arith, c.deref.ensures.len, c.in-Ok-capture_bytes.ensures.within)) c.in-Ok-read_capture.ensures.ok)
-      c.deref-4.result.now (c.deref-4.ensures.value ∙ c.in-Ok-frames_to_offer.ensures.frames ∙ ap (λ ps. frames_of (map seen ps)) c.deref-2.ensures.value) c.in-Ok-answers_of.answers runs in
-      record {
-        end = None;
-        files = files;
-        outcome = outcome;
-        broken = broken_from files (g.S.Shelf.held c.args.shelf.now) (g.S.Shelf.held c.capture_bytes.new.shelf) (g.S.Shelf.held c.write_run.new.shelf) (same_twice _ _ _ c.built.ensures.held c.capture_bytes.ensures.held) (c.in-Err-Failed.ensures.kept tell) c.write_run.ensures.others;
-      },
-)
-
-pub returns-clause-ends : goal.returns-clause-ends
-returns-clause-ends g c = (
-  inr tt,
-  λ told.
-      let names = names_of c.args.files.now in
-      let b = c.in-Ok.ensures.ok in
-      let tells : IsTrue (g.S.Shelf.tells c.built.new.shelf) = search rules in
-      let tell : IsTrue (g.S.Shelf.tells c.capture_bytes.new.shelf) = search rules in
-      let runs = c.in-Ok-answers_of.ensures b.program.insns (realizes_as b.program.insns c.in-Ok.text.items c.deref-3.result.now c.deref-3.ensures.value b.realizes) in
-      let files = file names.verilog c.deref-5.result.now ∷ (result_files names c.in-Ok-read_capture.capture.magic (map seen c.in-Ok-read_capture.capture.packets.items) c.in-Ok-answers_of.answers ++ final_files names true) in
-      let outcome : IsOutcome (AskRun names (selected_of c.args.choice) c.args.ifindex) (g.S.Shelf.held c.args.shelf.now) None files =
-      run_outcome names (selected_of c.args.choice) c.args.ifindex (g.S.Shelf.held c.args.shelf.now) (g.S.Shelf.tells c.args.shelf.now) c.in-Ok.text.items c.deref-5.result.now b told c.deref-5.ensures.value
-      c.in-Ok-read_capture.capture.magic (map seen c.in-Ok-read_capture.capture.packets.items)
-      (captured_there _ _ c.deref.result.now c.in-Ok-capture_bytes.bytes.items _ _ (c.built.ensures.held.each names.capture) (c.in-Ok-capture_bytes.ensures.whole tells) c.deref.ensures.value (omega (arith, c.deref.ensures.len, c.in-Ok-capture_bytes.ensures.within)) c.in-Ok-read_capture.ensures.ok)
-      c.deref-4.result.now (c.deref-4.ensures.value ∙ c.in-Ok-frames_to_offer.ensures.frames ∙ ap (λ ps. frames_of (map seen ps)) c.deref-2.ensures.value) c.in-Ok-answers_of.answers runs in
-      inr (record {
-        end = None;
-        files = files;
-        outcome = outcome;
-        broken = broken_from files (g.S.Shelf.held c.args.shelf.now) (g.S.Shelf.held c.capture_bytes.new.shelf) (g.S.Shelf.held c.write_run.new.shelf) (same_twice _ _ _ c.built.ensures.held c.capture_bytes.ensures.held) (c.in-Err-NoMemory.ensures.kept tell) c.write_run.ensures.others;
-      }),
-)
+pub returns : goal.returns
+returns g c =
+    let names = names_of c.args.files.now in
+    let request = AskRun names (chosen_of c.args.choice) c.args.ifindex in
+    let old = state_of g.S.Shelf c.args.shelf.now in
+    let read = state_of g.S.Shelf c.read_input.new.shelf in
+    let mid = state_of g.S.Shelf c.read_input-2.new.shelf in
+    let new = state_of g.S.Shelf c.write_all.new.shelf in
+    let object = c.in_ok-text.ensures.read in
+    let capture = c.in_ok-capture.ensures.read in
+    let run = c.in_ok-writes.ensures object.2.program object.2.size object.2.realized capture.2.packets capture.2.of in
+    let P : List code.Write → Type 0 = λ ws. AreDone (map write_of ws) mid new in
+    ends_done request old mid new (map write_of c.in_ok-writes.writes.items) refl
+    (of_as (outputs_of request) (map write_of c.in_ok-writes.writes.items) (run_outputs names c.in_ok-text.text.items c.in_ok-capture.capture.magic capture.2.packets run.answers).writes run.writes_are (run_of names c.in_ok-text.text.items c.in_ok-capture.capture.magic capture.2.packets run.answers))
+    (changes_then [] old read mid c.read_input.ensures.kept c.read_input-2.ensures.kept)
+    (run_makes names (chosen_of c.args.choice) c.args.ifindex old read object.0 capture.0 c.in_ok-text.text.items c.in_ok-capture.capture.magic capture.2.packets c.in_ok-writes.writes.items c.requires c.read_input.ensures.kept object.1 object.2 capture.1 capture.2.is run)
+    (subst P c.deref.ensures.value c.in_ok-write_all.ensures.done)

@@ -1,139 +1,91 @@
-use Rattle.std.proofs.Common.{rules, ◌++◌, length, map, Option, Some, IsTrue, subst, sym, ap, ◌∙◌, arith, inr}
-use Rattle.pcap_core.specs.Next.{seen}
-use Rattle.net_core.specs.Clock.{first_stored}
-use Rattle.net_core.specs.History.{Drive}
-use Rattle.net_core.specs.View.{plan_of}
-use Rattle.port_drive.specs.Reports.{full_drive}
-use Rattle.command_words.specs.Asked.{AskSim, names_of, selected_of}
-use Rattle.ehdl_top.specs.Inputs.{HoldsText}
-use Rattle.ehdl_top.specs.Outcome.{IsOutcome}
-use Rattle.ehdl_top.specs.Results.{frames_of, result_files, final_files}
-use Rattle.ehdl_top.proofs.Files.{same_twice, written_from, broken_from}
-use Rattle.ehdl_top.proofs.Outcomes.{turned, captured_there, sim_outcome}
-use Rattle.ehdl_top.proofs.Stops.{sim_driven}
-use Rattle.ehdl_top.specs.Ends.{HasWritten}
-use Rattle.ehdl_top.specs.declared.stop.Stop.{Stop}
+use Rattle.std.proofs.Common.{Option, [], List, map, length, is_none, inl, refl, sym, subst, ◌∙◌}
+use Rattle.net_core.specs.View.{netlist_of}
+use Rattle.net_core.specs.History.{answers_given}
+use Rattle.xdp_object.specs.Choice.{chosen_of}
+use Rattle.command_line.specs.Request.{AskSim, names_of}
+use Rattle.ehdl_top.specs.declared.error.CommandError.{CommandError}
+use Rattle.ehdl_top.specs.declared.write.Write as code
+use Rattle.ehdl_top.specs.States.{state_of}
+use Rattle.ehdl_top.specs.Writes.{AreDone, OneFailed}
+use Rattle.ehdl_top.specs.Results.{sim_outputs}
+use Rattle.ehdl_top.specs.Requests.{outputs_of}
+use Rattle.ehdl_top.specs.Steps.{write_of}
+use Rattle.ehdl_top.proofs.StateLemmas.{changes_then}
+use Rattle.ehdl_top.proofs.WriteLemmas.{of_as}
+use Rattle.ehdl_top.proofs.ResultLemmas.{sim_outputs_of}
+use Rattle.ehdl_top.proofs.OutcomeLemmas.{Makes, sim_makes}
+use Rattle.ehdl_top.proofs.EndLemmas.{ends_unwritten, ends_done, ends_driven, drive_ends}
 use Rattle.ehdl_top.proofs.sim.sim_files.Goals as goal
 
-pub returns-in-Err-Failed-clause-ends : goal.returns-in-Err-Failed-clause-ends
-returns-in-Err-Failed-clause-ends g c = (
-  inr tt,
-  λ told.
-      let names = names_of c.args.files.now in
-      let told1 : IsTrue (g.S.Shelf.tells c.check_object.new.shelf) = search rules in
-      let told2 : IsTrue (g.S.Shelf.tells c.verilog_bytes.new.shelf) = search rules in
-      let told3 : IsTrue (g.S.Shelf.tells c.capture_bytes.new.shelf) = search rules in
-      let object = c.in-Ok.ensures.ok told in
-      let text : HoldsText (g.S.Shelf.held c.args.shelf.now names.verilog) (plan_of c.in-Ok-read_verilog.design) = record {
-        bytes = c.deref.result.now;
-        there = sym (c.check_object.ensures.held.each names.verilog) ∙ c.in-Ok-verilog_bytes.ensures.whole told1 ∙ ap Some (sym c.deref.ensures.value);
-        within = omega (arith, c.deref.ensures.len, c.in-Ok-verilog_bytes.ensures.within);
-        spells = c.in-Ok-read_verilog.ensures.found;
-      } in
-      let files = result_files names c.in-Ok-read_capture.capture.magic (map seen c.in-Ok-read_capture.capture.packets.items) c.in-Ok-drive_design.driven.answers ++ final_files names c.is_none.result in
-      let outcome : IsOutcome (AskSim names (selected_of c.args.choice) c.args.ifindex c.args.clocks) (g.S.Shelf.held c.args.shelf.now) c.in-Ok-drive_design.driven.stop files =
-      sim_outcome names (selected_of c.args.choice) c.args.ifindex c.args.clocks (g.S.Shelf.held c.args.shelf.now) object.0 object.1 (plan_of c.in-Ok-read_verilog.design) text c.in-Ok-read_verilog.ensures.only
-      c.in-Ok-read_capture.capture.magic (map seen c.in-Ok-read_capture.capture.packets.items)
-      (captured_there _ _ c.deref-2.result.now c.in-Ok-capture_bytes.bytes.items _ _ (c.verilog_bytes.ensures.held.each names.capture ∙ c.check_object.ensures.held.each names.capture) (c.in-Ok-capture_bytes.ensures.whole told2) c.deref-2.ensures.value (omega (arith, c.deref-2.ensures.len, c.in-Ok-capture_bytes.ensures.within)) c.in-Ok-read_capture.ensures.ok)
-      c.deref-4.result.now (c.deref-4.ensures.value ∙ c.in-Ok-frames_to_offer.ensures.frames ∙ ap (λ ps. frames_of (map seen ps)) c.deref-3.ensures.value)
-      c.from.result c.from.ensures c.in-Ok-drive_design.driven c.in-Ok-drive_design.ensures c.is_none.result (turned _ _ c.is_none.ensures) in
-      record {
-        end = c.in-Ok-drive_design.driven.stop;
-        files = files;
-        outcome = outcome;
-        broken = broken_from files (g.S.Shelf.held c.args.shelf.now) (g.S.Shelf.held c.capture_bytes.new.shelf) (g.S.Shelf.held c.write_results.new.shelf)
-            (same_twice _ _ _ (same_twice _ _ _ c.check_object.ensures.held c.verilog_bytes.ensures.held) c.capture_bytes.ensures.held) (c.in-Err-Failed.ensures.kept told3) c.write_results.ensures.others;
-      },
-)
-
-pub returns-in-Err-NoMemory-clause-ends : goal.returns-in-Err-NoMemory-clause-ends
-returns-in-Err-NoMemory-clause-ends g c = (
-  inr tt,
-  λ told.
-      let names = names_of c.args.files.now in
-      let told1 : IsTrue (g.S.Shelf.tells c.check_object.new.shelf) = search rules in
-      let told2 : IsTrue (g.S.Shelf.tells c.verilog_bytes.new.shelf) = search rules in
-      let told3 : IsTrue (g.S.Shelf.tells c.capture_bytes.new.shelf) = search rules in
-      let object = c.in-Ok.ensures.ok told in
-      let text : HoldsText (g.S.Shelf.held c.args.shelf.now names.verilog) (plan_of c.in-Ok-read_verilog.design) = record {
-        bytes = c.deref.result.now;
-        there = sym (c.check_object.ensures.held.each names.verilog) ∙ c.in-Ok-verilog_bytes.ensures.whole told1 ∙ ap Some (sym c.deref.ensures.value);
-        within = omega (arith, c.deref.ensures.len, c.in-Ok-verilog_bytes.ensures.within);
-        spells = c.in-Ok-read_verilog.ensures.found;
-      } in
-      let files = result_files names c.in-Ok-read_capture.capture.magic (map seen c.in-Ok-read_capture.capture.packets.items) c.in-Ok-drive_design.driven.answers ++ final_files names c.is_none.result in
-      let outcome : IsOutcome (AskSim names (selected_of c.args.choice) c.args.ifindex c.args.clocks) (g.S.Shelf.held c.args.shelf.now) c.in-Ok-drive_design.driven.stop files =
-      sim_outcome names (selected_of c.args.choice) c.args.ifindex c.args.clocks (g.S.Shelf.held c.args.shelf.now) object.0 object.1 (plan_of c.in-Ok-read_verilog.design) text c.in-Ok-read_verilog.ensures.only
-      c.in-Ok-read_capture.capture.magic (map seen c.in-Ok-read_capture.capture.packets.items)
-      (captured_there _ _ c.deref-2.result.now c.in-Ok-capture_bytes.bytes.items _ _ (c.verilog_bytes.ensures.held.each names.capture ∙ c.check_object.ensures.held.each names.capture) (c.in-Ok-capture_bytes.ensures.whole told2) c.deref-2.ensures.value (omega (arith, c.deref-2.ensures.len, c.in-Ok-capture_bytes.ensures.within)) c.in-Ok-read_capture.ensures.ok)
-      c.deref-4.result.now (c.deref-4.ensures.value ∙ c.in-Ok-frames_to_offer.ensures.frames ∙ ap (λ ps. frames_of (map seen ps)) c.deref-3.ensures.value)
-      c.from.result c.from.ensures c.in-Ok-drive_design.driven c.in-Ok-drive_design.ensures c.is_none.result (turned _ _ c.is_none.ensures) in
-      inr (record {
-        end = c.in-Ok-drive_design.driven.stop;
-        files = files;
-        outcome = outcome;
-        broken = broken_from files (g.S.Shelf.held c.args.shelf.now) (g.S.Shelf.held c.capture_bytes.new.shelf) (g.S.Shelf.held c.write_results.new.shelf)
-            (same_twice _ _ _ (same_twice _ _ _ c.check_object.ensures.held c.verilog_bytes.ensures.held) c.capture_bytes.ensures.held) (c.in-Err-NoMemory.ensures.kept told3) c.write_results.ensures.others;
-      }),
-)
-
-pub returns-in-None-clause-ends : goal.returns-in-None-clause-ends
-returns-in-None-clause-ends g c = λ told.
+pub returns-in_err-write_all : goal.returns-in_err-write_all
+returns-in_err-write_all g c =
     let names = names_of c.args.files.now in
-    let told1 : IsTrue (g.S.Shelf.tells c.check_object.new.shelf) = search rules in
-    let told2 : IsTrue (g.S.Shelf.tells c.verilog_bytes.new.shelf) = search rules in
-    let told3 : IsTrue (g.S.Shelf.tells c.capture_bytes.new.shelf) = search rules in
-    let object = c.in-Ok.ensures.ok told in
-    let text : HoldsText (g.S.Shelf.held c.args.shelf.now names.verilog) (plan_of c.in-Ok-read_verilog.design) = record {
-      bytes = c.deref.result.now;
-      there = sym (c.check_object.ensures.held.each names.verilog) ∙ c.in-Ok-verilog_bytes.ensures.whole told1 ∙ ap Some (sym c.deref.ensures.value);
-      within = omega (arith, c.deref.ensures.len, c.in-Ok-verilog_bytes.ensures.within);
-      spells = c.in-Ok-read_verilog.ensures.found;
-    } in
-    let files = result_files names c.in-Ok-read_capture.capture.magic (map seen c.in-Ok-read_capture.capture.packets.items) c.in-Ok-drive_design.driven.answers ++ final_files names c.is_none.result in
-    let outcome : IsOutcome (AskSim names (selected_of c.args.choice) c.args.ifindex c.args.clocks) (g.S.Shelf.held c.args.shelf.now) c.in-Ok-drive_design.driven.stop files =
-    sim_outcome names (selected_of c.args.choice) c.args.ifindex c.args.clocks (g.S.Shelf.held c.args.shelf.now) object.0 object.1 (plan_of c.in-Ok-read_verilog.design) text c.in-Ok-read_verilog.ensures.only
-    c.in-Ok-read_capture.capture.magic (map seen c.in-Ok-read_capture.capture.packets.items)
-    (captured_there _ _ c.deref-2.result.now c.in-Ok-capture_bytes.bytes.items _ _ (c.verilog_bytes.ensures.held.each names.capture ∙ c.check_object.ensures.held.each names.capture) (c.in-Ok-capture_bytes.ensures.whole told2) c.deref-2.ensures.value (omega (arith, c.deref-2.ensures.len, c.in-Ok-capture_bytes.ensures.within)) c.in-Ok-read_capture.ensures.ok)
-    c.deref-4.result.now (c.deref-4.ensures.value ∙ c.in-Ok-frames_to_offer.ensures.frames ∙ ap (λ ps. frames_of (map seen ps)) c.deref-3.ensures.value)
-    c.from.result c.from.ensures c.in-Ok-drive_design.driven c.in-Ok-drive_design.ensures c.is_none.result (turned _ _ c.is_none.ensures) in
-    let has : HasWritten (AskSim names (selected_of c.args.choice) c.args.ifindex c.args.clocks) c.in-Ok-drive_design.driven.stop (g.S.Shelf.held c.args.shelf.now) (g.S.Shelf.held c.write_results.new.shelf) = record {
-      files = files;
-      outcome = outcome;
-      written = written_from files (g.S.Shelf.held c.args.shelf.now) (g.S.Shelf.held c.capture_bytes.new.shelf) (g.S.Shelf.held c.write_results.new.shelf)
-          (same_twice _ _ _ (same_twice _ _ _ c.check_object.ensures.held c.verilog_bytes.ensures.held) c.capture_bytes.ensures.held) (c.in-Ok-write_results.ensures.done told3) c.write_results.ensures.others;
-    } in
-    let P : Option Stop → Type 0 = λ end. HasWritten (AskSim names (selected_of c.args.choice) c.args.ifindex c.args.clocks) end (g.S.Shelf.held c.args.shelf.now) (g.S.Shelf.held c.write_results.new.shelf) in
-    subst P c.in-None.is has
+    let request = AskSim names (chosen_of c.args.choice) c.args.ifindex c.args.clocks in
+    let old = state_of g.S.Shelf c.args.shelf.now in
+    let first = state_of g.S.Shelf c.read_input.new.shelf in
+    let second = state_of g.S.Shelf c.read_input-2.new.shelf in
+    let mid = state_of g.S.Shelf c.read_input-3.new.shelf in
+    let new = state_of g.S.Shelf c.write_all.new.shelf in
+    let object = c.in_ok-read_input.ensures.read in
+    let text = c.in_ok-design.ensures.read in
+    let capture = c.in_ok-capture.ensures.read in
+    let simulated = c.in_ok-simulated.simulated in
+    let sim = c.in_ok-simulated.ensures capture.2.packets capture.2.of in
+    let both = changes_then [] old first second c.read_input.ensures.kept c.read_input-2.ensures.kept in
+    let same = changes_then [] old second mid both c.read_input-3.ensures.kept in
+    let of = of_as (outputs_of request) (map write_of simulated.writes.items) (sim_outputs names c.in_ok-capture.capture.magic capture.2.packets (answers_given [] sim.drive.trace) (is_none simulated.end)).writes sim.writes_are
+    (sim_outputs_of names c.in_ok-capture.capture.magic capture.2.packets (answers_given [] sim.drive.trace) (is_none simulated.end)) in
+    let makes = sim_makes names (chosen_of c.args.choice) c.args.ifindex c.args.clocks old first second object.0 text.0 capture.0 (netlist_of c.in_ok-design.design) c.in_ok-capture.capture.magic capture.2.packets simulated c.requires c.read_input.ensures.kept both
+    object.1 text.1 text.2 capture.1 capture.2.is sim in
+    let P : List code.Write → Type 0 = λ ws. OneFailed (map write_of ws) mid new in
+    ends_unwritten request simulated.end old mid new (map write_of simulated.writes.items) c.from_residual-in_err-write_all.result c.from_residual-in_err-write_all.ensures.1 of same makes (subst P c.deref.ensures.value c.in_err-write_all.ensures.failed)
 
-pub returns-clause-ends : goal.returns-clause-ends
-returns-clause-ends g c =
-    let drive : Drive = full_drive (plan_of c.in-Ok-read_verilog.design) c.args.ifindex (first_stored (plan_of c.in-Ok-read_verilog.design)) c.deref-4.result.now c.from.result in
-    sim_driven (names_of c.args.files.now) (selected_of c.args.choice) c.args.ifindex c.args.clocks (g.S.Shelf.tells c.args.shelf.now) (g.S.Shelf.held c.args.shelf.now) (g.S.Shelf.held c.write_results.new.shelf)
-    (plan_of c.in-Ok-read_verilog.design) (length c.deref-4.result.now) drive drive.ended c.in-Some.stop (sym c.in-Some.is ∙ c.in-Ok-drive_design.ensures.stop) (λ told.
+pub returns-in-None : goal.returns-in-None
+returns-in-None g c =
     let names = names_of c.args.files.now in
-    let told1 : IsTrue (g.S.Shelf.tells c.check_object.new.shelf) = search rules in
-    let told2 : IsTrue (g.S.Shelf.tells c.verilog_bytes.new.shelf) = search rules in
-    let told3 : IsTrue (g.S.Shelf.tells c.capture_bytes.new.shelf) = search rules in
-    let object = c.in-Ok.ensures.ok told in
-    let text : HoldsText (g.S.Shelf.held c.args.shelf.now names.verilog) (plan_of c.in-Ok-read_verilog.design) = record {
-      bytes = c.deref.result.now;
-      there = sym (c.check_object.ensures.held.each names.verilog) ∙ c.in-Ok-verilog_bytes.ensures.whole told1 ∙ ap Some (sym c.deref.ensures.value);
-      within = omega (arith, c.deref.ensures.len, c.in-Ok-verilog_bytes.ensures.within);
-      spells = c.in-Ok-read_verilog.ensures.found;
-    } in
-    let files = result_files names c.in-Ok-read_capture.capture.magic (map seen c.in-Ok-read_capture.capture.packets.items) c.in-Ok-drive_design.driven.answers ++ final_files names c.is_none.result in
-    let outcome : IsOutcome (AskSim names (selected_of c.args.choice) c.args.ifindex c.args.clocks) (g.S.Shelf.held c.args.shelf.now) c.in-Ok-drive_design.driven.stop files =
-    sim_outcome names (selected_of c.args.choice) c.args.ifindex c.args.clocks (g.S.Shelf.held c.args.shelf.now) object.0 object.1 (plan_of c.in-Ok-read_verilog.design) text c.in-Ok-read_verilog.ensures.only
-    c.in-Ok-read_capture.capture.magic (map seen c.in-Ok-read_capture.capture.packets.items)
-    (captured_there _ _ c.deref-2.result.now c.in-Ok-capture_bytes.bytes.items _ _ (c.verilog_bytes.ensures.held.each names.capture ∙ c.check_object.ensures.held.each names.capture) (c.in-Ok-capture_bytes.ensures.whole told2) c.deref-2.ensures.value (omega (arith, c.deref-2.ensures.len, c.in-Ok-capture_bytes.ensures.within)) c.in-Ok-read_capture.ensures.ok)
-    c.deref-4.result.now (c.deref-4.ensures.value ∙ c.in-Ok-frames_to_offer.ensures.frames ∙ ap (λ ps. frames_of (map seen ps)) c.deref-3.ensures.value)
-    c.from.result c.from.ensures c.in-Ok-drive_design.driven c.in-Ok-drive_design.ensures c.is_none.result (turned _ _ c.is_none.ensures) in
-    let has : HasWritten (AskSim names (selected_of c.args.choice) c.args.ifindex c.args.clocks) c.in-Ok-drive_design.driven.stop (g.S.Shelf.held c.args.shelf.now) (g.S.Shelf.held c.write_results.new.shelf) = record {
-      files = files;
-      outcome = outcome;
-      written = written_from files (g.S.Shelf.held c.args.shelf.now) (g.S.Shelf.held c.capture_bytes.new.shelf) (g.S.Shelf.held c.write_results.new.shelf)
-          (same_twice _ _ _ (same_twice _ _ _ c.check_object.ensures.held c.verilog_bytes.ensures.held) c.capture_bytes.ensures.held) (c.in-Ok-write_results.ensures.done told3) c.write_results.ensures.others;
-    } in
-    let P : Option Stop → Type 0 = λ end. HasWritten (AskSim names (selected_of c.args.choice) c.args.ifindex c.args.clocks) end (g.S.Shelf.held c.args.shelf.now) (g.S.Shelf.held c.write_results.new.shelf) in
-    subst P c.in-Some.is has)
+    let request = AskSim names (chosen_of c.args.choice) c.args.ifindex c.args.clocks in
+    let old = state_of g.S.Shelf c.args.shelf.now in
+    let first = state_of g.S.Shelf c.read_input.new.shelf in
+    let second = state_of g.S.Shelf c.read_input-2.new.shelf in
+    let mid = state_of g.S.Shelf c.read_input-3.new.shelf in
+    let new = state_of g.S.Shelf c.write_all.new.shelf in
+    let object = c.in_ok-read_input.ensures.read in
+    let text = c.in_ok-design.ensures.read in
+    let capture = c.in_ok-capture.ensures.read in
+    let simulated = c.in_ok-simulated.simulated in
+    let sim = c.in_ok-simulated.ensures capture.2.packets capture.2.of in
+    let both = changes_then [] old first second c.read_input.ensures.kept c.read_input-2.ensures.kept in
+    let same = changes_then [] old second mid both c.read_input-3.ensures.kept in
+    let of = of_as (outputs_of request) (map write_of simulated.writes.items) (sim_outputs names c.in_ok-capture.capture.magic capture.2.packets (answers_given [] sim.drive.trace) (is_none simulated.end)).writes sim.writes_are
+    (sim_outputs_of names c.in_ok-capture.capture.magic capture.2.packets (answers_given [] sim.drive.trace) (is_none simulated.end)) in
+    let makes = sim_makes names (chosen_of c.args.choice) c.args.ifindex c.args.clocks old first second object.0 text.0 capture.0 (netlist_of c.in_ok-design.design) c.in_ok-capture.capture.magic capture.2.packets simulated c.requires c.read_input.ensures.kept both
+    object.1 text.1 text.2 capture.1 capture.2.is sim in
+    let P : List code.Write → Type 0 = λ ws. AreDone (map write_of ws) mid new in
+    let Q : Option CommandError → Type 0 = λ end. Makes request old.held end (map write_of simulated.writes.items) in
+    ends_done request old mid new (map write_of simulated.writes.items) (inl refl) of same (λ told. subst Q c.in-None.is (makes told)) (subst P c.deref.ensures.value c.in_ok-write_all.ensures.done)
+
+pub returns : goal.returns
+returns g c =
+    let names = names_of c.args.files.now in
+    let request = AskSim names (chosen_of c.args.choice) c.args.ifindex c.args.clocks in
+    let old = state_of g.S.Shelf c.args.shelf.now in
+    let first = state_of g.S.Shelf c.read_input.new.shelf in
+    let second = state_of g.S.Shelf c.read_input-2.new.shelf in
+    let mid = state_of g.S.Shelf c.read_input-3.new.shelf in
+    let new = state_of g.S.Shelf c.write_all.new.shelf in
+    let object = c.in_ok-read_input.ensures.read in
+    let text = c.in_ok-design.ensures.read in
+    let capture = c.in_ok-capture.ensures.read in
+    let simulated = c.in_ok-simulated.simulated in
+    let sim = c.in_ok-simulated.ensures capture.2.packets capture.2.of in
+    let both = changes_then [] old first second c.read_input.ensures.kept c.read_input-2.ensures.kept in
+    let same = changes_then [] old second mid both c.read_input-3.ensures.kept in
+    let of = of_as (outputs_of request) (map write_of simulated.writes.items) (sim_outputs names c.in_ok-capture.capture.magic capture.2.packets (answers_given [] sim.drive.trace) (is_none simulated.end)).writes sim.writes_are
+    (sim_outputs_of names c.in_ok-capture.capture.magic capture.2.packets (answers_given [] sim.drive.trace) (is_none simulated.end)) in
+    let makes = sim_makes names (chosen_of c.args.choice) c.args.ifindex c.args.clocks old first second object.0 text.0 capture.0 (netlist_of c.in_ok-design.design) c.in_ok-capture.capture.magic capture.2.packets simulated c.requires c.read_input.ensures.kept both
+    object.1 text.1 text.2 capture.1 capture.2.is sim in
+    let P : List code.Write → Type 0 = λ ws. AreDone (map write_of ws) mid new in
+    let Q : Option CommandError → Type 0 = λ end. Makes request old.held end (map write_of simulated.writes.items) in
+    ends_driven request c.in-Some.error old mid new (map write_of simulated.writes.items)
+    (drive_ends names (chosen_of c.args.choice) c.args.ifindex c.args.clocks (netlist_of c.in_ok-design.design) (length capture.2.packets) sim.drive sim.drive.ended c.in-Some.error (sym c.in-Some.is ∙ sim.end_is))
+    of same (λ told. subst Q c.in-Some.is (makes told)) (subst P c.deref.ensures.value c.in_ok-write_all.ensures.done)

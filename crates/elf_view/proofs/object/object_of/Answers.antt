@@ -2,9 +2,9 @@
 use Rattle.std.proofs.Common.{◌∙◌, ◌++◌, ◌*◌, length, ap, sym, arith}
 use Rattle.elf_view.specs.Layout.{base_headers, headers_at, map_headers, records, rels, strings, symbols}
 use Rattle.elf_view.specs.Pieces.{elf_header}
-use Rattle.elf_view.proofs.Lengths.{length-object, length-records, small_object}
+use Rattle.elf_view.proofs.LengthLaws.{length-object, length-records, small_object}
 use Rattle.elf_view.specs.Rules.{first_error}
-use Rattle.elf_view.proofs.Opens.{opens}
+use Rattle.elf_view.proofs.OpenLaws.{opens}
 use Rattle.elf_view.proofs.Whole.{object_whole, ten_writes, zeros}
 use Rattle.elf_view.proofs.object.object_of.Goals as goal
 

@@ -1,6 +1,6 @@
 -- The sizes are the lengths of the parts.
 use Rattle.std.proofs.Common.{◌≡◌, ℕ, length, arith, sym}
-use Rattle.elf_view.proofs.Lengths.{length-records, length-rels, length-symbols, small_object}
+use Rattle.elf_view.proofs.LengthLaws.{length-records, length-rels, length-symbols, small_object}
 use Rattle.elf_view.specs.declared.sizes.Sizes.{Sizes}
 use Rattle.elf_view.proofs.object.sizes_of.Goals as goal
 

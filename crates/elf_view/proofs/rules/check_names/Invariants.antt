@@ -1,7 +1,8 @@
 use Rattle.std.proofs.Common.{◌≡◌, ◌-◌}
-use Rattle.elf_view.specs.File.{e_shnum, first_from}
+use Rattle.elf_view.specs.File.{e_shnum}
 use Rattle.elf_view.specs.Rules.{name_open}
 use Rattle.elf_view.proofs.rules.check_names.Given as goal
+use Rattle.list_laws.specs.Firsts.{first_from}
 
 -- the names so far end
 abbrev pub invariant-loop-i : goal.invariant-loop-i

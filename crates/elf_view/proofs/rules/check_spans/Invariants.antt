@@ -1,7 +1,8 @@
 use Rattle.std.proofs.Common.{◌≡◌, ℕ, ◌-◌, ◌<◌}
-use Rattle.elf_view.specs.File.{e_shnum, first_from, section_at}
+use Rattle.elf_view.specs.File.{e_shnum, section_at}
 use Rattle.elf_view.specs.Rules.{IsInside, section_outside}
 use Rattle.elf_view.proofs.rules.check_spans.Given as goal
+use Rattle.list_laws.specs.Firsts.{first_from}
 
 -- the sections so far stand in the file
 abbrev pub invariant-loop-i : goal.invariant-loop-i

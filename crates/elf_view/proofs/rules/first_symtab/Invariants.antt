@@ -1,6 +1,7 @@
 use Rattle.std.proofs.Common.{◌≡◌, ◌-◌}
-use Rattle.elf_view.specs.File.{e_shnum, first_from, symtab_at}
+use Rattle.elf_view.specs.File.{e_shnum, symtab_at}
 use Rattle.elf_view.proofs.rules.first_symtab.Given as goal
+use Rattle.list_laws.specs.Firsts.{first_from}
 
 -- there was no symbol table so far
 abbrev pub invariant-loop-i : goal.invariant-loop-i

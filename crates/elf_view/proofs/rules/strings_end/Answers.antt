@@ -1,6 +1,6 @@
 -- The loop stops behind the last zero byte, or at 0.
 use Rattle.std.proofs.Common.{arith}
-use Rattle.elf_view.proofs.Searches.{is_some-string_at}
+use Rattle.elf_view.proofs.SearchLaws.{is_some-string_at}
 use Rattle.elf_view.proofs.rules.strings_end.Goals as goal
 
 pub returns-else-table-end-ne0 : goal.returns-else-table-end-ne0

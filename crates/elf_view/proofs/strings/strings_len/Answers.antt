@@ -3,7 +3,7 @@ use Rattle.std.proofs.Common.{◌<◌, ◌≤◌, length, arith}
 use Rattle.std.proofs.lemmas.Bool.Decides.{nat_tests}
 use Rattle.std.proofs.lemmas.List.{at_drop_all}
 use Rattle.elf_view.specs.Layout.{map_names}
-use Rattle.elf_view.proofs.Lengths.{length-strings}
+use Rattle.elf_view.proofs.LengthLaws.{length-strings}
 use Rattle.elf_view.proofs.strings.strings_len.Goals as goal
 
 pub returns : goal.returns

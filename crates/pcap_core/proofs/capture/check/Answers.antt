@@ -1,6 +1,6 @@
 use Rattle.std.proofs.Common.{◌∙◌, ap, sym, arith}
 use Rattle.pcap_core.specs.Reading.{count_of}
-use Rattle.pcap_core.proofs.Checking.{content_of-count, count-is, is-count, count-reads}
+use Rattle.pcap_core.proofs.CheckLemmas.{content_of-count, count-is, is-count, count-reads}
 use Rattle.pcap_core.proofs.capture.check.Goals as goal
 
 pub count-requires : goal.count-requires

@@ -1,4 +1,4 @@
-use Rattle.pcap_core.proofs.All.{content_of-is, is-content_of, content_of-fault, fault-content_of, written-content_of}
+use Rattle.pcap_core.proofs.ContentLaws.{content_of-is, is-content_of, content_of-fault, fault-content_of, written-content_of}
 use Rattle.pcap_core.proofs.laws.one_reading.Goals as goal
 
 pub returns : goal.returns

@@ -1,9 +1,8 @@
 use Rattle.std.proofs.Common.{◌≡◌, drop, refl, sym, ap, ◌∙◌}
 use Rattle.net_core.specs.Ports.{words_of}
-use Rattle.net_core.specs.History.{drive_inputs, moment_of}
-use Rattle.clock_sim.proofs.Turning.{clock_leaves}
-use Rattle.port_drive.specs.Offering.{inputs_with}
-use Rattle.port_drive.proofs.Leaving.{inputs_are, left_gone, left_stays}
+use Rattle.net_core.specs.History.{drive_inputs, cycle_of, inputs_with}
+use Rattle.net_core.proofs.ClockLaws.{clock_leaves}
+use Rattle.port_drive.proofs.BeatLemmas.{inputs_are, left_gone, left_stays}
 use Rattle.port_drive.proofs.advance.advance.Goals as goal
 
 pub returns-in-Err-clause-stops : goal.returns-in-Err-clause-stops
@@ -19,7 +18,7 @@ returns-then-shown-clause-runs c =
 pub returns-then-shown-clause-stored : goal.returns-then-shown-clause-stored
 returns-then-shown-clause-stored c =
     let is : c.inputs_with-inputs.result ≡ drive_inputs c.args.ifindex c.args.left.now = c.inputs_with-inputs.ensures ∙ ap (λ b. inputs_with b c.args.ifindex) c.first.ensures.first ∙ inputs_are c.args.left.now c.args.ifindex in
-    rw (← is) (clock_leaves c.args.sim.now.plan (words_of c.inputs_with-inputs.result) c.args.sim.now.stored _ c.in-Ok.ensures.runs c.in-Ok.ensures.stored)
+    rw (← is) (clock_leaves c.args.sim.now.netlist (words_of c.inputs_with-inputs.result) c.args.sim.now.stored _ c.in-Ok.ensures.runs c.in-Ok.ensures.stored)
 
 pub returns-then-shown-clause-outputs : goal.returns-then-shown-clause-outputs
 returns-then-shown-clause-outputs c =
@@ -30,7 +29,7 @@ pub returns-then-shown-clause-left : goal.returns-then-shown-clause-left
 returns-then-shown-clause-left c =
     let is : c.inputs_with-inputs.result ≡ drive_inputs c.args.ifindex c.args.left.now = c.inputs_with-inputs.ensures ∙ ap (λ b. inputs_with b c.args.ifindex) c.first.ensures.first ∙ inputs_are c.args.left.now c.args.ifindex in
     let shown = ap (λ o. o.in_ready) (rw is at c.in-Ok.ensures.outputs) in
-    c.take.ensures ∙ ap (λ l. drop 1 l) c.first.ensures.same ∙ sym (left_gone (moment_of c.args.sim.now.plan c.args.sim.now.stored (drive_inputs c.args.ifindex c.args.left.now)) c.args.left.now c.args.ifindex refl (sym shown ∙ c.if-shown.true))
+    c.take.ensures ∙ ap (λ l. drop 1 l) c.first.ensures.same ∙ sym (left_gone (cycle_of c.args.sim.now.netlist c.args.sim.now.stored (drive_inputs c.args.ifindex c.args.left.now)) c.args.left.now c.args.ifindex refl (sym shown ∙ c.if-shown.true))
 
 pub returns-else-shown-clause-runs : goal.returns-else-shown-clause-runs
 returns-else-shown-clause-runs c =
@@ -40,7 +39,7 @@ returns-else-shown-clause-runs c =
 pub returns-else-shown-clause-stored : goal.returns-else-shown-clause-stored
 returns-else-shown-clause-stored c =
     let is : c.inputs_with-inputs.result ≡ drive_inputs c.args.ifindex c.args.left.now = c.inputs_with-inputs.ensures ∙ ap (λ b. inputs_with b c.args.ifindex) c.first.ensures.first ∙ inputs_are c.args.left.now c.args.ifindex in
-    rw (← is) (clock_leaves c.args.sim.now.plan (words_of c.inputs_with-inputs.result) c.args.sim.now.stored _ c.in-Ok.ensures.runs c.in-Ok.ensures.stored)
+    rw (← is) (clock_leaves c.args.sim.now.netlist (words_of c.inputs_with-inputs.result) c.args.sim.now.stored _ c.in-Ok.ensures.runs c.in-Ok.ensures.stored)
 
 pub returns-else-shown-clause-outputs : goal.returns-else-shown-clause-outputs
 returns-else-shown-clause-outputs c =
@@ -51,4 +50,4 @@ pub returns-else-shown-clause-left : goal.returns-else-shown-clause-left
 returns-else-shown-clause-left c =
     let is : c.inputs_with-inputs.result ≡ drive_inputs c.args.ifindex c.args.left.now = c.inputs_with-inputs.ensures ∙ ap (λ b. inputs_with b c.args.ifindex) c.first.ensures.first ∙ inputs_are c.args.left.now c.args.ifindex in
     let shown = ap (λ o. o.in_ready) (rw is at c.in-Ok.ensures.outputs) in
-    c.first.ensures.same ∙ sym (left_stays (moment_of c.args.sim.now.plan c.args.sim.now.stored (drive_inputs c.args.ifindex c.args.left.now)) c.args.left.now (sym shown ∙ c.if-shown.false))
+    c.first.ensures.same ∙ sym (left_stays (cycle_of c.args.sim.now.netlist c.args.sim.now.stored (drive_inputs c.args.ifindex c.args.left.now)) c.args.left.now (sym shown ∙ c.if-shown.false))

@@ -1,5 +1,5 @@
 use Rattle.std.proofs.Common.{◌∙◌, rules}
-use Rattle.beat_core.proofs.Words.{written_bytes}
+use Rattle.beat_core.proofs.WordLaws.{written_bytes}
 use Rattle.port_drive.proofs.answers.bytes_of_word.Goals as goal
 
 pub returns : goal.returns

@@ -1,10 +1,10 @@
 use Rattle.std.proofs.Common.{◌≡◌, ◌-◌, length}
 use Rattle.port_drive.specs.Reports.{full_drive}
-use Rattle.port_drive.proofs.Turning.{Driven}
+use Rattle.port_drive.proofs.DriveLaws.{Driven}
 use Rattle.port_drive.proofs.driving.drive.Given as goal
 
 abbrev pub invariant-loop-clocks : goal.invariant-loop-clocks
 invariant-loop-clocks l = record {
-  plan : l.sim.plan ≡ l.initial.sim.plan;
-  driven : Driven l.initial.sim.plan l.meta.ifindex (full_drive l.initial.sim.plan l.meta.ifindex l.initial.sim.stored l.frames l.limit) l.initial.answers (length l.frames) l.initial.sim.stored l.sim.stored l.left l.begun l.answers l.owed l.reloads l.clocks (l.limit - l.clocks);
+  netlist : l.sim.netlist ≡ l.initial.sim.netlist;
+  driven : Driven l.initial.sim.netlist l.meta.ifindex (full_drive l.initial.sim.netlist l.meta.ifindex l.initial.sim.stored l.frames l.limit) l.initial.answers (length l.frames) l.initial.sim.stored l.sim.stored l.left l.begun l.answers l.owed l.reloads l.clocks (l.limit - l.clocks);
 }

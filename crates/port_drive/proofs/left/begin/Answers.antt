@@ -1,5 +1,5 @@
 use Rattle.std.proofs.Common.{arith}
-use Rattle.port_drive.proofs.Leaving.{begins_ahead}
+use Rattle.port_drive.proofs.BeatLemmas.{begins_ahead}
 use Rattle.port_drive.proofs.left.begin.Goals as goal
 
 pub returns-in-len1-up-clause-ahead : goal.returns-in-len1-up-clause-ahead

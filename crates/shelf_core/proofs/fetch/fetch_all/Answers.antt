@@ -10,6 +10,7 @@ loop-block-preserved g c = record {
   held = search rules;
   reads = search rules;
   writes = search rules;
+  made = search rules;
   room = search rules;
   within = search rules;
   front = λ t.

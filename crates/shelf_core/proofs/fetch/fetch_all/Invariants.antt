@@ -9,6 +9,7 @@ invariant-loop-block g l = record {
   held : SameHeld (g.S.Shelf.held l.fn.shelf) (g.S.Shelf.held l.shelf);
   reads : NoneFell (g.S.Shelf.read_faults l.fn.shelf) (g.S.Shelf.read_faults l.shelf);
   writes : NoneFell (g.S.Shelf.write_faults l.fn.shelf) (g.S.Shelf.write_faults l.shelf);
+  made : g.S.Shelf.made l.shelf ≤ g.S.Shelf.made l.fn.shelf + length l.all.items;
   room : 0 < length l.block.items;
   within : length l.all.items ≤ l.limit;
   front : IsTrue (g.S.Shelf.tells l.fn.shelf) → HasRead (g.S.Shelf.held l.fn.shelf l.name) l.all.items;

@@ -1,22 +1,22 @@
 use Rattle.std.proofs.Common.{◌≡◌, ℕ, ◌+◌, ◌-◌, List, [], ◌∷◌, ◌++◌, length, take, drop, Ok, Err, refl, sym, ap, subst, ◌∙◌, arith, length-drop}
 use Rattle.std.proofs.Math.Seq.{take-length}
 use Rattle.std.proofs.lemmas.Grind.{common_steps}
-use Rattle.verilog_lex.specs.Piece.{piece_in}
+use Rattle.verilog_lex.specs.Element.{element_in}
 use Rattle.verilog_lex.specs.Lexeme.{lexemes_of}
 use Rattle.verilog_lex.specs.Tokens.{Leads, Read, token}
 use Rattle.verilog_lex.specs.Tokens.Leads.{here}
-use Rattle.verilog_lex.specs.declared.piece.Piece.{Piece}
+use Rattle.verilog_lex.specs.declared.element.LexicalElement.{LexicalElement}
 use Rattle.verilog_lex.specs.declared.token.Token.{Token}
-use Rattle.verilog_lex.proofs.Leading.{AreSpans-leads, Leads-separator, Leads-token, tokens_in-leads, tokens_in-stuck}
-use Rattle.verilog_lex.proofs.Lexing.{Lexes-leads, tokens_in-lexes}
+use Rattle.verilog_lex.proofs.LeadsLemmas.{AreSpans-leads, Leads-separator, Leads-token, tokens_in-leads, tokens_in-stuck}
+use Rattle.verilog_lex.proofs.LexemeLemmas.{Lexes-leads, tokens_in-lexes}
 use Rattle.verilog_lex.proofs.lex.tokens.Goals as goal
 
--- the piece of `&text[at..]`
-piece_here : (text : List ℕ) (at : ℕ) (p : Piece) → p ≡ piece_in (take (length text - at) (drop at text)) → piece_in (drop at text) ≡ p
-piece_here text at p e =
+-- the element of `&text[at..]`
+element_here : (text : List ℕ) (at : ℕ) (p : LexicalElement) → p ≡ element_in (take (length text - at) (drop at text)) → element_in (drop at text) ≡ p
+element_here text at p e =
     let same : take (length text - at) (drop at text) ≡ drop at text =
     ap (λ n. take n (drop at text)) (sym (length-drop at text)) ∙ take-length (drop at text) in
-    ap piece_in (sym same) ∙ sym e
+    ap element_in (sym same) ∙ sym e
 
 pub loop-at-init : goal.loop-at-init
 loop-at-init c = record {
@@ -29,7 +29,7 @@ loop-at-init c = record {
 pub loop-at-preserved-in-Separator : goal.loop-at-preserved-in-Separator
 loop-at-preserved-in-Separator c = record {
   leads = Leads-separator c.args.text.now 0 c.loop-at.all.items c.loop-at.at c.in-Separator.len c.loop-at.invariant.leads
-      (piece_here c.args.text.now c.loop-at.at _ c.in-Separator.ensures.piece);
+      (element_here c.args.text.now c.loop-at.at _ c.in-Separator.ensures.element);
   within = grind (arith, common_steps);
 }
 
@@ -40,14 +40,14 @@ loop-at-preserved c =
     let P : List Token → Type 0 = λ ts. Leads c.args.text.now 0 ts (c.loop-at.at + c.in-Token.len) in
     record {
       leads = subst P (sym pushed) (Leads-token c.args.text.now 0 c.loop-at.all.items c.loop-at.at c.in-Token.len c.in-Token.kind c.loop-at.invariant.leads
-          (piece_here c.args.text.now c.loop-at.at _ c.in-Token.ensures.piece));
+          (element_here c.args.text.now c.loop-at.at _ c.in-Token.ensures.element));
       within = grind (arith, common_steps);
     }
 
 pub returns-in-Nothing-clause-exact : goal.returns-in-Nothing-clause-exact
 returns-in-Nothing-clause-exact c =
     tokens_in-stuck c.args.text.now c.loop-at.at
-    (c.loop-at.all.items, c.loop-at.invariant.leads, c.loop-at-test.true, piece_here c.args.text.now c.loop-at.at _ c.in-Nothing.ensures.piece)
+    (c.loop-at.all.items, c.loop-at.invariant.leads, c.loop-at-test.true, element_here c.args.text.now c.loop-at.at _ c.in-Nothing.ensures.element)
 
 pub returns-in-Nothing-clause-only : goal.returns-in-Nothing-clause-only
 returns-in-Nothing-clause-only c = λ ts leads.

@@ -1,5 +1,5 @@
 use Rattle.std.proofs.Common.{rules, refl, [], ◌∷◌, ◌++◌}
-use Rattle.verilog_lex.proofs.Writing.{IsClosed-comment, separates}
+use Rattle.verilog_lex.proofs.SpellingLaws.{IsClosed-comment, separates}
 use Rattle.verilog_lex.proofs.write.push_comment.Goals as goal
 
 pub returns-clause-read : goal.returns-clause-read

@@ -1,7 +1,7 @@
 use Rattle.std.proofs.Common.{rules}
 use Rattle.verilog_lex.specs.Lexeme.{LKeyword}
 use Rattle.verilog_lex.specs.Words.{keyword_text}
-use Rattle.verilog_lex.proofs.Writing.{IsOpen-keyword, opens}
+use Rattle.verilog_lex.proofs.SpellingLaws.{IsOpen-keyword, opens}
 use Rattle.verilog_lex.proofs.write.push_keyword.Goals as goal
 
 pub returns-clause-read : goal.returns-clause-read

@@ -1,6 +1,6 @@
 use Rattle.std.proofs.Common.{rules}
 use Rattle.verilog_lex.specs.Lexeme.{LName}
-use Rattle.verilog_lex.proofs.Writing.{IsOpen-name, opens}
+use Rattle.verilog_lex.proofs.SpellingLaws.{IsOpen-name, opens}
 use Rattle.verilog_lex.proofs.write.push_name.Goals as goal
 
 pub returns-clause-read : goal.returns-clause-read

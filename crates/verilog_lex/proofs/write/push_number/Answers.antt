@@ -1,7 +1,7 @@
 use Rattle.std.proofs.Common.{rules}
 use Rattle.std.specs.Fmt.{decimal}
 use Rattle.verilog_lex.specs.Lexeme.{LNumber}
-use Rattle.verilog_lex.proofs.Writing.{IsOpen-number, opens}
+use Rattle.verilog_lex.proofs.SpellingLaws.{IsOpen-number, opens}
 use Rattle.verilog_lex.proofs.write.push_number.Goals as goal
 
 pub returns-clause-read : goal.returns-clause-read

@@ -1,7 +1,7 @@
 use Rattle.std.proofs.Common.{rules}
 use Rattle.verilog_lex.specs.Lexeme.{LSized}
 use Rattle.verilog_lex.specs.Spelling.{sized_text}
-use Rattle.verilog_lex.proofs.Writing.{IsOpen-sized, opens}
+use Rattle.verilog_lex.proofs.SpellingLaws.{IsOpen-sized, opens}
 use Rattle.verilog_lex.proofs.write.push_sized.Goals as goal
 
 pub returns-clause-read : goal.returns-clause-read

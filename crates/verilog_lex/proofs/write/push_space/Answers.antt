@@ -1,5 +1,5 @@
 use Rattle.std.proofs.Common.{rules, refl, [], ◌∷◌}
-use Rattle.verilog_lex.proofs.Writing.{IsClosed-space, separates}
+use Rattle.verilog_lex.proofs.SpellingLaws.{IsClosed-space, separates}
 use Rattle.verilog_lex.proofs.write.push_space.Goals as goal
 
 pub returns-clause-read : goal.returns-clause-read

@@ -1,7 +1,7 @@
 use Rattle.std.proofs.Common.{rules}
 use Rattle.verilog_lex.specs.Lexeme.{LSymbol}
 use Rattle.verilog_lex.specs.Spelling.{symbol_spelling}
-use Rattle.verilog_lex.proofs.Writing.{IsClosed-symbol, closes, goes_on-symbol}
+use Rattle.verilog_lex.proofs.SpellingLaws.{IsClosed-symbol, closes, goes_on-symbol}
 use Rattle.verilog_lex.proofs.write.push_symbol.Goals as goal
 
 pub returns-clause-read : goal.returns-clause-read

@@ -1,5 +1,5 @@
 use Rattle.std.proofs.Common.{◌≡◌, ℕ, suc, ◌-◌, vec_len}
-use Rattle.verilog_read.specs.Seen.{is_up}
+use Rattle.verilog_read.specs.View.{is_up}
 use Rattle.verilog_read.proofs.flags.raise.Given as goal
 
 abbrev pub invariant-loop-flags : goal.invariant-loop-flags

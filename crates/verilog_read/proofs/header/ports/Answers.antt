@@ -1,6 +1,6 @@
 use Rattle.std.proofs.Common.{◌∙◌, arith}
-use Rattle.phrase_read.proofs.Turns.{fails_on, gives_error, gives_fault}
-use Rattle.verilog_read.proofs.Turns.{port_fails, last_port, next_port, no_port}
+use Rattle.verilog_expression.proofs.LoopStepLaws.{fails_on, gives_error, gives_fault}
+use Rattle.verilog_read.proofs.LoopStep.{port_fails, last_port, next_port, no_port}
 use Rattle.verilog_read.proofs.header.ports.Goals as goal
 
 pub returns-in_err-partial-clause-read : goal.returns-in_err-partial-clause-read

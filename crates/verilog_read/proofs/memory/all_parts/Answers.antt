@@ -1,6 +1,6 @@
 use Rattle.std.proofs.Common.{◌∙◌}
-use Rattle.phrase_read.proofs.Turns.{fails_on, gives_error}
-use Rattle.verilog_read.proofs.Turns.{part_passes, part_fails, no_part}
+use Rattle.verilog_expression.proofs.LoopStepLaws.{fails_on, gives_error}
+use Rattle.verilog_read.proofs.LoopStep.{part_passes, part_fails, no_part}
 use Rattle.verilog_read.proofs.memory.all_parts.Goals as goal
 
 pub returns-in_err-after : goal.returns-in_err-after

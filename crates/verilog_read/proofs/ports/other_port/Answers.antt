@@ -8,5 +8,5 @@ returns-then-not-is_listed c = sym (c.loop-k.invariant ∙ other_here (map strin
 pub loop-k-preserved : goal.loop-k-preserved
 loop-k-preserved c = c.loop-k.invariant ∙ other_later (map string_bytes c.args.names.now) c.args.ports.now c.loop-k.k (omega arith) (sym c.is_listed.ensures ∙ c.if-not-is_listed.false)
 
-pub returns-then-ports-gt-COUNT : goal.returns-then-ports-gt-COUNT
-returns-then-ports-gt-COUNT c = sym (c.loop-k.invariant ∙ more_ports (map string_bytes c.args.names.now) c.args.ports.now c.loop-k.k (omega arith) (omega arith))
+pub returns-then-ports-gt-PORT_COUNT : goal.returns-then-ports-gt-PORT_COUNT
+returns-then-ports-gt-PORT_COUNT c = sym (c.loop-k.invariant ∙ more_ports (map string_bytes c.args.names.now) c.args.ports.now c.loop-k.k (omega arith) (omega arith))

@@ -1,6 +1,6 @@
 use Rattle.std.proofs.Common.{◌∙◌, arith}
-use Rattle.phrase_read.proofs.Turns.{fails_on, gives_error, gives_fault}
-use Rattle.verilog_read.proofs.Turns.{items_end, item_fails, next_item, no_item}
+use Rattle.verilog_expression.proofs.LoopStepLaws.{fails_on, gives_error, gives_fault}
+use Rattle.verilog_read.proofs.LoopStep.{items_end, item_fails, next_item, no_item}
 use Rattle.verilog_read.proofs.sections.items.Goals as goal
 
 pub returns-in-Some : goal.returns-in-Some

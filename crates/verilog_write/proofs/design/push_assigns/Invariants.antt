@@ -1,9 +1,9 @@
 -- What stands for the items so far was added.
 use Rattle.std.proofs.Common.{◌≡◌, take}
-use Rattle.net_core.specs.View.{plan_of}
-use Rattle.verilog_write.specs.Adding.{AddsLine}
+use Rattle.net_core.specs.View.{netlist_of}
+use Rattle.verilog_write.specs.Adds.{AddsLine}
 use Rattle.verilog_write.proofs.Sections.{section, assign_at}
 use Rattle.verilog_write.proofs.design.push_assigns.Given as goal
 
 abbrev pub invariant-loop-k : goal.invariant-loop-k
-invariant-loop-k l = (l.assigns ≡ l.design.assigns.items) × AddsLine l.initial.text.items l.text.items (section (assign_at (plan_of l.design)) 0 (take l.k l.design.assigns.items))
+invariant-loop-k l = (l.assigns ≡ l.design.assigns.items) × AddsLine l.initial.text.items l.text.items (section (assign_at (netlist_of l.design)) 0 (take l.k l.design.assigns.items))

@@ -1,9 +1,9 @@
 use Rattle.std.proofs.Common.{[], sym, subst, List, ℕ}
-use Rattle.net_core.specs.View.{plan_of}
-use Rattle.spelling_core.specs.Grammar.{ports_lexemes, items_lexemes}
+use Rattle.net_core.specs.View.{netlist_of}
+use Rattle.verilog_grammar.specs.Grammar.{ports_lexemes, items_lexemes}
 use Rattle.verilog_lex.specs.Spelling.{IsClosed}
-use Rattle.verilog_lex.proofs.Writing.{IsClosed-nothing, Lexes-open}
-use Rattle.verilog_write.proofs.Adding.{opened, whole_text}
+use Rattle.verilog_lex.proofs.SpellingLaws.{IsClosed-nothing, Lexes-open}
+use Rattle.verilog_write.proofs.AddsLemmas.{opened, whole_text}
 use Rattle.verilog_write.proofs.design.write_text.Goals as goal
 
 pub returns : goal.returns
@@ -12,7 +12,7 @@ returns c =
     record {
       lexemes =
           Lexes-open _ _
-          (opened (whole_text c.push_line.new.text.items _ _ _ _ _ _ (ports_lexemes (plan_of c.args.design.now) 0 c.args.design.now.ports.items) (items_lexemes (plan_of c.args.design.now))
+          (opened (whole_text c.push_line.new.text.items _ _ _ _ _ _ (ports_lexemes (netlist_of c.args.design.now) 0 c.args.design.now.ports.items) (items_lexemes (netlist_of c.args.design.now))
           (c.in_ok-push_line.ensures.read _ (c.in_ok-push_keyword.ensures.read _ (c.in_ok-push_items.ensures.read _ (c.in_ok-push_head.ensures.read _ (subst P (sym c.new-text.ensures.items) IsClosed-nothing)))))));
       formed = c.requires;
     }

@@ -1,40 +1,40 @@
 use Rattle.std.proofs.Common.{append_assoc}
-use Rattle.verilog_write.proofs.Adding.{from_ok, opened}
+use Rattle.verilog_write.proofs.AddsLemmas.{from_ok, opened}
 use Rattle.verilog_write.proofs.expression.+expression.Goals as goal
 
-pub push_expression-returns-in_ok-push_expression-in-Cell : goal.push_expression-returns-in_ok-push_expression-in-Cell
-push_expression-returns-in_ok-push_expression-in-Cell t c =
-    rw c.in-Cell.is (from_ok c.push_symbol-in-Cell.result c.push_symbol-in-Cell.ensures.read (λ last. record {
+pub push_expression-returns-in_ok-push_expression-in-MemoryWord : goal.push_expression-returns-in_ok-push_expression-in-MemoryWord
+push_expression-returns-in_ok-push_expression-in-MemoryWord t c =
+    rw c.in-MemoryWord.is (from_ok c.push_symbol-in-MemoryWord.result c.push_symbol-in-MemoryWord.ensures.read (λ last. record {
       read = λ before h.
           simp (append_assoc, c.deref.ensures) at
-          (opened (last _ (c.in_ok-push_expression-in-Cell.ensures.read _ (c.in_ok-push_symbol-in-Cell.ensures.read _ (c.in_ok-push_net-in-Cell.ensures.read _ h)))));
+          (opened (last _ (c.in_ok-push_expression-in-MemoryWord.ensures.read _ (c.in_ok-push_symbol-in-MemoryWord.ensures.read _ (c.in_ok-push_net-in-MemoryWord.ensures.read _ h)))));
     }))
 
-pub push_expression-returns-in_ok-push_expression-in-Two-2 : goal.push_expression-returns-in_ok-push_expression-in-Two-2
-push_expression-returns-in_ok-push_expression-in-Two-2 t c =
-    rw c.in-Two.is (from_ok c.push_symbol-in-Two-2.result c.push_symbol-in-Two-2.ensures.read (λ last. record {
+pub push_expression-returns-in_ok-push_expression-in-Binary-2 : goal.push_expression-returns-in_ok-push_expression-in-Binary-2
+push_expression-returns-in_ok-push_expression-in-Binary-2 t c =
+    rw c.in-Binary.is (from_ok c.push_symbol-in-Binary-2.result c.push_symbol-in-Binary-2.ensures.read (λ last. record {
       read = λ before h.
-          simp (append_assoc, c.op_symbol.ensures, c.deref-in-Two.ensures, c.deref-in-Two-2.ensures) at
-          (opened (last _ (c.in_ok-push_expression-in-Two-2.ensures.read _ (c.in_ok-push_operator-in-Two.ensures.read _
-          (c.in_ok-push_expression-in-Two.ensures.read _ (c.in_ok-push_symbol-in-Two.ensures.read _ (opened h)))))));
+          simp (append_assoc, c.op_symbol.ensures, c.deref-in-Binary.ensures, c.deref-in-Binary-2.ensures) at
+          (opened (last _ (c.in_ok-push_expression-in-Binary-2.ensures.read _ (c.in_ok-push_operator-in-Binary.ensures.read _
+          (c.in_ok-push_expression-in-Binary.ensures.read _ (c.in_ok-push_symbol-in-Binary.ensures.read _ (opened h)))))));
     }))
 
-pub push_expression-returns-in_ok-push_expression-in-Choose-3 : goal.push_expression-returns-in_ok-push_expression-in-Choose-3
-push_expression-returns-in_ok-push_expression-in-Choose-3 t c =
-    rw c.in-Choose.is (from_ok c.push_symbol-in-Choose-2.result c.push_symbol-in-Choose-2.ensures.read (λ last. record {
+pub push_expression-returns-in_ok-push_expression-in-Conditional-3 : goal.push_expression-returns-in_ok-push_expression-in-Conditional-3
+push_expression-returns-in_ok-push_expression-in-Conditional-3 t c =
+    rw c.in-Conditional.is (from_ok c.push_symbol-in-Conditional-2.result c.push_symbol-in-Conditional-2.ensures.read (λ last. record {
       read = λ before h.
-          simp (append_assoc, c.deref-in-Choose.ensures, c.deref-in-Choose-2.ensures, c.deref-in-Choose-3.ensures) at
-          (opened (last _ (c.in_ok-push_expression-in-Choose-3.ensures.read _ (c.in_ok-push_operator-in-Choose-2.ensures.read _
-          (c.in_ok-push_expression-in-Choose-2.ensures.read _ (c.in_ok-push_operator-in-Choose.ensures.read _
-          (c.in_ok-push_expression-in-Choose.ensures.read _ (c.in_ok-push_symbol-in-Choose.ensures.read _ (opened h)))))))));
+          simp (append_assoc, c.deref-in-Conditional.ensures, c.deref-in-Conditional-2.ensures, c.deref-in-Conditional-3.ensures) at
+          (opened (last _ (c.in_ok-push_expression-in-Conditional-3.ensures.read _ (c.in_ok-push_operator-in-Conditional-2.ensures.read _
+          (c.in_ok-push_expression-in-Conditional-2.ensures.read _ (c.in_ok-push_operator-in-Conditional.ensures.read _
+          (c.in_ok-push_expression-in-Conditional.ensures.read _ (c.in_ok-push_symbol-in-Conditional.ensures.read _ (opened h)))))))));
     }))
 
-pub push_expression-returns-in_ok-push_parts-in-Join : goal.push_expression-returns-in_ok-push_parts-in-Join
-push_expression-returns-in_ok-push_parts-in-Join t c =
-    rw c.in-Join.is (from_ok c.push_symbol-in-Join-2.result c.push_symbol-in-Join-2.ensures.read (λ last. record {
+pub push_expression-returns-in_ok-push_parts-in-Concatenation : goal.push_expression-returns-in_ok-push_parts-in-Concatenation
+push_expression-returns-in_ok-push_parts-in-Concatenation t c =
+    rw c.in-Concatenation.is (from_ok c.push_symbol-in-Concatenation-2.result c.push_symbol-in-Concatenation-2.ensures.read (λ last. record {
       read = λ before h.
-          simp (append_assoc, c.deref-in-Join.ensures) at
-          (opened (last _ (c.in_ok-push_parts-in-Join.ensures.read _ (c.in_ok-push_symbol-in-Join.ensures.read _ (opened h)))));
+          simp (append_assoc, c.deref-in-Concatenation.ensures) at
+          (opened (last _ (c.in_ok-push_parts-in-Concatenation.ensures.read _ (c.in_ok-push_symbol-in-Concatenation.ensures.read _ (opened h)))));
     }))
 
 pub push_parts-returns-in_ok-push_apart-in-More : goal.push_parts-returns-in_ok-push_apart-in-More

@@ -1,5 +1,5 @@
 use Rattle.std.proofs.Common.{append_assoc}
-use Rattle.verilog_write.proofs.Adding.{from_ok}
+use Rattle.verilog_write.proofs.AddsLemmas.{from_ok}
 use Rattle.verilog_write.proofs.fill.push_head.Goals as goal
 
 pub returns : goal.returns

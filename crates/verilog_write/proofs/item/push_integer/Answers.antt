@@ -1,5 +1,5 @@
 use Rattle.std.proofs.Common.{append_assoc}
-use Rattle.verilog_write.proofs.Adding.{from_ok, opened}
+use Rattle.verilog_write.proofs.AddsLemmas.{from_ok, opened}
 use Rattle.verilog_write.proofs.item.push_integer.Goals as goal
 
 pub returns : goal.returns

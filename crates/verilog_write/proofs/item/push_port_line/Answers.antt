@@ -1,4 +1,4 @@
-use Rattle.verilog_write.proofs.Adding.{from_ok, opened, marked_line}
+use Rattle.verilog_write.proofs.AddsLemmas.{from_ok, opened, marked_line}
 use Rattle.verilog_write.proofs.item.push_port_line.Goals as goal
 
 pub returns : goal.returns

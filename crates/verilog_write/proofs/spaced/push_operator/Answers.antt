@@ -1,4 +1,4 @@
-use Rattle.verilog_write.proofs.Adding.{from_ok, opened}
+use Rattle.verilog_write.proofs.AddsLemmas.{from_ok, opened}
 use Rattle.verilog_write.proofs.spaced.push_operator.Goals as goal
 
 pub returns : goal.returns

@@ -1,5 +1,5 @@
 use Rattle.std.proofs.Common.{append_assoc}
-use Rattle.verilog_write.proofs.Adding.{from_ok}
+use Rattle.verilog_write.proofs.AddsLemmas.{from_ok}
 use Rattle.verilog_write.proofs.statement.+statement.Goals as goal
 
 pub push_statement-returns-in_ok-push_else-in-IfElse : goal.push_statement-returns-in_ok-push_else-in-IfElse

@@ -1,4 +1,4 @@
-use Rattle.verilog_write.proofs.Adding.{from_ok}
+use Rattle.verilog_write.proofs.AddsLemmas.{from_ok}
 use Rattle.verilog_write.proofs.statement.push_else.Goals as goal
 
 pub returns : goal.returns

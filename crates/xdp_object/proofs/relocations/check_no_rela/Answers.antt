@@ -1,11 +1,11 @@
 use Rattle.std.proofs.Common.{◌∙◌, arith}
 use Rattle.elf_view.specs.File.{e_shnum}
-use Rattle.elf_view.proofs.Searches.{first_from-step}
 use Rattle.xdp_object.specs.Relocations.{rela_table}
 use Rattle.xdp_object.proofs.Searches.{passed}
 use Rattle.xdp_object.proofs.relocations.check_no_rela.Goals as goal
+use Rattle.list_laws.proofs.FirstLaws.{first_from-more}
 
 pub loop-i-preserved : goal.loop-i-preserved
 loop-i-preserved c =
-    c.loop-i.invariant ∙ first_from-step (rela_table c.args.view.now c.args.target) c.loop-i.i (e_shnum c.args.view.now) (omega arith)
+    c.loop-i.invariant ∙ first_from-more (rela_table c.args.view.now c.args.target) c.loop-i.i (e_shnum c.args.view.now) (omega arith)
     (passed _ _ _ c.relocates.ensures c.if-relocates.false)

@@ -1,7 +1,7 @@
 use Rattle.std.proofs.Common.{length, ◌∙◌, refl, ap}
-use Rattle.xdp_object.specs.State.{start}
+use Rattle.xdp_machine.specs.State.{start}
 use Rattle.xdp_seq.specs.declared.run.TheConstants.{STEP_LIMIT}
-use Rattle.xdp_seq.proofs.Runs.{runs_keep_sizes}
+use Rattle.xdp_machine.proofs.RunLaws.{runs_keep_sizes}
 use Rattle.xdp_seq.proofs.Kept.{frame_answered, maps_answered}
 use Rattle.xdp_seq.proofs.plan.run_packet.Goals as goal
 
@@ -13,9 +13,9 @@ returns-clause-answer c =
 pub returns-clause-frame : goal.returns-clause-frame
 returns-clause-frame c =
     ap length (frame_answered _ _ _ _ (returns-clause-answer c))
-    ∙ (runs_keep_sizes c.args.plan.now STEP_LIMIT (start c.args.frame.now c.args.meta.ifindex c.args.maps.now) refl).frame
+    ∙ (runs_keep_sizes c.args.plan.now STEP_LIMIT (start (record { frame = c.args.frame.now; ifindex = c.args.meta.ifindex }) c.args.maps.now) refl).frame
 
 pub returns-clause-decls : goal.returns-clause-decls
 returns-clause-decls c =
     ap (λ s. s.decls) (maps_answered _ _ _ _ (returns-clause-answer c))
-    ∙ (runs_keep_sizes c.args.plan.now STEP_LIMIT (start c.args.frame.now c.args.meta.ifindex c.args.maps.now) refl).decls
+    ∙ (runs_keep_sizes c.args.plan.now STEP_LIMIT (start (record { frame = c.args.frame.now; ifindex = c.args.meta.ifindex }) c.args.maps.now) refl).decls

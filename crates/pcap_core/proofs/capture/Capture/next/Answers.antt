@@ -2,7 +2,7 @@ use Rattle.std.proofs.Common.{refl, sym, ap, ◌∙◌, arith}
 use Rattle.pcap_core.specs.Format.{Content}
 use Rattle.pcap_core.specs.Next.{seen}
 use Rattle.pcap_core.specs.Reading.{Coming}
-use Rattle.pcap_core.proofs.Opening.{coming_none, coming_fault, coming_packet, packet_fits, packet_len}
+use Rattle.pcap_core.proofs.OpenLemmas.{coming_none, coming_fault, coming_packet, packet_fits, packet_len}
 use Rattle.pcap_core.proofs.capture.Capture.next.Goals as goal
 
 pub overflow_add-self-in-Ok-Some : goal.overflow_add-self-in-Ok-Some

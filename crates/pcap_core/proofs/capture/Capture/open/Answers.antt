@@ -1,7 +1,7 @@
 use Rattle.std.proofs.Common.{sym, arith}
 use Rattle.pcap_core.proofs.Heads.{header_of-tested, header_of-fault}
-use Rattle.pcap_core.proofs.All.{content_of-is}
-use Rattle.pcap_core.proofs.Opening.{opened, not_opened}
+use Rattle.pcap_core.proofs.ContentLaws.{content_of-is}
+use Rattle.pcap_core.proofs.OpenLemmas.{opened, not_opened}
 use Rattle.pcap_core.proofs.capture.Capture.open.Goals as goal
 
 pub u32_at-requires : goal.u32_at-requires

@@ -1,5 +1,5 @@
 use Rattle.std.proofs.Common.{drop, ap, ◌∙◌}
-use Rattle.port_drive.proofs.Leaving.{take_last}
+use Rattle.port_drive.proofs.BeatLemmas.{take_last}
 use Rattle.port_drive.proofs.left.Left.take.Goals as goal
 
 pub returns-then-is_none : goal.returns-then-is_none

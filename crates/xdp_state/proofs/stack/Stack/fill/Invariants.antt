@@ -1,6 +1,6 @@
 use Rattle.std.proofs.Common.{◌≡◌, ◌+◌, ◌-◌, ◌++◌, length, take}
 use Rattle.std.specs.Option.{option_map}
-use Rattle.xdp_object.specs.Helpers.{stack_bytes}
+use Rattle.xdp_machine.specs.Helpers.{stack_bytes}
 use Rattle.xdp_state.proofs.stack.Stack.fill.Given as goal
 
 abbrev pub invariant-loop-i : goal.invariant-loop-i

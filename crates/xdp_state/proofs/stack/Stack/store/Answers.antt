@@ -1,6 +1,6 @@
 use Rattle.std.proofs.Common.{◌<◌, ◌≡◌, ◌/◌, ◌+ℤ◌, length, Some, arith, w16, w64}
 use Rattle.std.proofs.lemmas.Int.{to_z-of_z}
-use Rattle.xdp_object.specs.Memory.{in_stack, bytes_in}
+use Rattle.xdp_machine.specs.Memory.{in_stack, bytes_in}
 use Rattle.xdp_state.proofs.Slots.{to_stack-at}
 use Rattle.xdp_state.proofs.stack.Stack.store.Goals as goal
 

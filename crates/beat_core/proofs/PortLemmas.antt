@@ -1,0 +1,85 @@
+-- The beats of frames and answers at the ports of a design.
+use Rattle.std.proofs.Common.{◌≡◌, ℕ, zero, suc, ◌+◌, ◌-◌, ◌*◌, ◌<◌, ◌≤◌, true, false, List, [], ◌∷◌, ◌++◌, length, take, drop, map, Some, None, refl, ap, ◌∙◌, arith, append_assoc, length-drop}
+use Rattle.std.specs.Prelude.{nat_le}
+use Rattle.std.specs.List.{flat_map, AllByRecursion}
+use Rattle.std.proofs.lemmas.List.{take_all, take-append-drop, map-append}
+use Rattle.std.proofs.lemmas.Bool.{lt-leb, le-leb}
+use Rattle.beat_core.specs.Beats.{bytes_of_beat, first_beat, first_beats, beat_count, beats_of}
+use Rattle.beat_core.specs.Ports.{Offered, Arrival, offered, arrivals_among, Given, given, answers_among}
+use Rattle.beat_core.specs.declared.answer.Answer.{Answer}
+use Rattle.beat_core.specs.Laws.{IsFrame, HasFrame, arrival_of}
+use Rattle.beat_core.proofs.BeatLaws.{bytes_of_beat-first_beat}
+use Rattle.list_laws.specs.Bytes.{IsBytes}
+use Rattle.list_laws.proofs.ByteLaws.{IsBytes-drop}
+
+-- the bytes of a last beat, and of one before
+last_bytes : (xs : List ℕ) → IsBytes xs → length xs ≤ 8 → bytes_of_beat (first_beat xs) ≡ xs
+last_bytes xs h fits = bytes_of_beat-first_beat xs h ∙ take_all 8 xs fits
+
+joined : (so_far xs : List ℕ) → (so_far ++ take 8 xs) ++ drop 8 xs ≡ so_far ++ xs
+joined so_far xs =
+    append_assoc so_far (take 8 xs) (drop 8 xs) ∙ ap (λ (r : List ℕ). so_far ++ r) (take-append-drop 8 xs)
+
+-- ---- frames that are offered
+
+arrives_on : (m ifindex : ℕ) (so_far xs : List ℕ) (rest : List Offered) → IsBytes xs → 8 * m < length xs → length xs ≤ 8 * m + 8 → arrivals_among (Some (arrival_of ifindex so_far)) (map (offered ifindex) (first_beats (suc m) xs) ++ rest) ≡ arrival_of ifindex (so_far ++ xs) ∷ arrivals_among None rest
+unfolding first_beats
+arrives_on zero ifindex so_far xs rest h some fits =
+    let last : nat_le (length xs) 8 ≡ true = le-leb (length xs) 8 (omega arith) in
+    rw (last, last_bytes xs h (omega arith)) refl
+arrives_on (suc m) ifindex so_far xs rest h some fits =
+    let on : nat_le (length xs) 8 ≡ false = lt-leb (length xs) 8 (omega arith) in
+    let later = arrives_on m ifindex (so_far ++ take 8 xs) (drop 8 xs) rest (IsBytes-drop 8 xs h) (omega (arith, length-drop 8 xs)) (omega (arith, length-drop 8 xs)) in
+    rw (on, bytes_of_beat-first_beat xs h) (later ∙ ap (λ (f : List ℕ). arrival_of ifindex f ∷ arrivals_among None rest) (joined so_far xs))
+
+arrives : (m ifindex : ℕ) (xs : List ℕ) (rest : List Offered) → IsBytes xs → 8 * m < length xs → length xs ≤ 8 * m + 8 → arrivals_among None (map (offered ifindex) (first_beats (suc m) xs) ++ rest) ≡ arrival_of ifindex xs ∷ arrivals_among None rest
+unfolding first_beats
+arrives zero ifindex xs rest h some fits =
+    let last : nat_le (length xs) 8 ≡ true = le-leb (length xs) 8 (omega arith) in
+    rw (last, last_bytes xs h (omega arith)) refl
+arrives (suc m) ifindex xs rest h some fits =
+    let on : nat_le (length xs) 8 ≡ false = lt-leb (length xs) 8 (omega arith) in
+    let later = arrives_on m ifindex (take 8 xs) (drop 8 xs) rest (IsBytes-drop 8 xs h) (omega (arith, length-drop 8 xs)) (omega (arith, length-drop 8 xs)) in
+    rw (on, bytes_of_beat-first_beat xs h) (later ∙ ap (λ (f : List ℕ). arrival_of ifindex f ∷ arrivals_among None rest) (take-append-drop 8 xs))
+
+frame-arrives : (ifindex : ℕ) (xs : List ℕ) (rest : List Offered) → IsFrame xs → arrivals_among None (map (offered ifindex) (beats_of xs) ++ rest) ≡ arrival_of ifindex xs ∷ arrivals_among None rest
+unfolding beats_of
+frame-arrives ifindex xs rest h =
+    let m = beat_count (length xs) - 1 in
+    let more : beat_count (length xs) ≡ suc m = omega (arith, h.some) in
+    rw more (arrives m ifindex xs rest h.bytes (omega (arith, h.some)) (omega (arith, h.some)))
+
+pub frames-arrive : (ifindex : ℕ) (frames : List (List ℕ)) → AllByRecursion IsFrame frames → arrivals_among None (map (offered ifindex) (flat_map beats_of frames)) ≡ map (arrival_of ifindex) frames
+frames-arrive ifindex [] h = refl
+frames-arrive ifindex (xs ∷ frames) h =
+    let rest = map (offered ifindex) (flat_map beats_of frames) in
+    ap (arrivals_among None) (map-append (offered ifindex) (beats_of xs) (flat_map beats_of frames)) ∙ frame-arrives ifindex xs rest h.0
+    ∙ ap (λ (r : List Arrival). arrival_of ifindex xs ∷ r) (frames-arrive ifindex frames h.1)
+
+-- ---- answers that are given
+
+abbrev answer : ℕ → ℕ → List ℕ → Answer
+answer verdict target xs = record { verdict = verdict; target = target; frame = xs }
+
+gives : (m verdict target : ℕ) (so_far xs : List ℕ) (rest : List Given) → IsBytes xs → 8 * m < length xs → length xs ≤ 8 * m + 8 → answers_among so_far (map (given verdict target) (first_beats (suc m) xs) ++ rest) ≡ answer verdict target (so_far ++ xs) ∷ answers_among [] rest
+unfolding first_beats
+gives zero verdict target so_far xs rest h some fits =
+    let last : nat_le (length xs) 8 ≡ true = le-leb (length xs) 8 (omega arith) in
+    rw (last, last_bytes xs h (omega arith)) refl
+gives (suc m) verdict target so_far xs rest h some fits =
+    let on : nat_le (length xs) 8 ≡ false = lt-leb (length xs) 8 (omega arith) in
+    let later = gives m verdict target (so_far ++ take 8 xs) (drop 8 xs) rest (IsBytes-drop 8 xs h) (omega (arith, length-drop 8 xs)) (omega (arith, length-drop 8 xs)) in
+    rw (on, bytes_of_beat-first_beat xs h) (later ∙ ap (λ (f : List ℕ). answer verdict target f ∷ answers_among [] rest) (joined so_far xs))
+
+answer-given : (r : Answer) (rest : List Given) → HasFrame r → answers_among [] (map (given r.verdict r.target) (beats_of r.frame) ++ rest) ≡ r ∷ answers_among [] rest
+unfolding beats_of
+answer-given r rest h =
+    let m = beat_count (length r.frame) - 1 in
+    let more : beat_count (length r.frame) ≡ suc m = omega (arith, h.some) in
+    rw more (gives m r.verdict r.target [] r.frame rest h.bytes (omega (arith, h.some)) (omega (arith, h.some)))
+
+pub answers-given : (answers : List Answer) → AllByRecursion HasFrame answers → answers_among [] (flat_map (λ r. map (given r.verdict r.target) (beats_of r.frame)) answers) ≡ answers
+answers-given [] h = refl
+answers-given (r ∷ answers) h =
+    let rest = flat_map (λ (r' : Answer). map (given r'.verdict r'.target) (beats_of r'.frame)) answers in
+    answer-given r rest h.0 ∙ ap (λ (rs : List Answer). r ∷ rs) (answers-given answers h.1)

@@ -1,0 +1,10 @@
+pub mod Nones
+pub mod Numbers
+pub mod Apart
+pub mod Lists
+pub mod Options
+pub mod Walks
+pub mod Taken
+pub mod Once
+pub mod BuilderLemmas
+pub mod Help

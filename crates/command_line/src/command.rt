@@ -1,0 +1,41 @@
+// What the words can ask for.
+
+use xdp_object::Choice;
+
+/// The files of a run: what is read, and what is written. No two have the same name.
+#[derive(Clone, Copy, PartialEq, Eq, Debug)]
+pub struct Files<'a> {
+    pub object: &'a str,
+    pub capture: &'a str,
+    pub verilog: &'a str,
+    pub answer: &'a str,
+    pub verdicts: &'a str,
+    pub final_maps: &'a str,
+}
+
+/// What the words ask for.
+#[derive(Clone, Copy, PartialEq, Eq, Debug)]
+pub enum Command<'a> {
+    /// To compile an object to a Verilog text.
+    Compile {
+        object: &'a str,
+        verilog: &'a str,
+        choice: Choice<'a>,
+    },
+    /// To compile an object to a Verilog text, and to run this text over a capture.
+    Run {
+        files: Files<'a>,
+        choice: Choice<'a>,
+        /// The interface that the packets come in by.
+        ifindex: u32,
+    },
+    /// To run a Verilog text that is there.
+    Sim {
+        files: Files<'a>,
+        choice: Choice<'a>,
+        /// The interface that the packets come in by.
+        ifindex: u32,
+        /// How many clocks the text may take, at most 500,000,000.
+        clocks: u32,
+    },
+}

@@ -1,0 +1,119 @@
+// The values of options.
+
+ghost use Rattle.std.specs.Prelude.{◌≡◌, ◌≢◌, ◌↔◌, ◌≤◌, ℕ, List, Some, map, codes, IfSome, IfNone, IsTrue};
+ghost use Rattle.std.specs.Option.{option_copied};
+ghost use Rattle.xdp_object.specs.Choice.{Chosen, chosen_of};
+ghost use Rattle.command_line.specs.Request.{Names, names_of};
+ghost use Rattle.command_line.specs.Means.{AreApart, GivesFiles, GivesNumber, GivesChosen, MayGiveNumber};
+ghost use Rattle.command_line.specs.Rows.{values_from};
+
+use crate::command::Files;
+use crate::number::number;
+use clap::ArgMatches;
+use xdp_object::Choice;
+
+const HASH_CAP_LIMIT: u32 = 1024;
+
+const USUAL_HASH_CAP: u32 = 256;
+
+const USUAL_IFINDEX: u32 = 1;
+
+// The value of an option.
+pub(crate) fn optional<'a>(matches: &ArgMatches<'a>, option: &str) -> Option<&'a str>
+    ensures { values_from matches.now option.now ≡ option_copied result }
+{
+    matches.get_str(option)
+}
+
+// The same, of one that the command requires.
+pub(crate) fn required<'a>(matches: &ArgMatches<'a>, option: &str) -> Option<&'a str>
+    ensures some { IfSome result (λ value. values_from matches.now option.now ≡ Some value.now) }
+    ensures none { IfNone result ((value : List ℕ) → values_from matches.now option.now ≢ Some value) }
+{
+    optional(matches, option)
+}
+
+// The number of an option.
+pub(crate) fn required_number(
+    matches: &ArgMatches<'_>,
+    option: &str,
+    low: u32,
+    high: u32,
+) -> Option<u32>
+    ensures some { IfSome result (λ n. GivesNumber (values_from matches.now) option.now low high n) }
+    ensures none { IfNone result ((n : ℕ) → ¬ GivesNumber (values_from matches.now) option.now low high n) }
+{
+    let text = required(matches, option)?;
+    number(text, low, high)
+}
+
+// The same, and where the option is not there the usual number.
+fn optional_number(
+    matches: &ArgMatches<'_>,
+    option: &str,
+    low: u32,
+    high: u32,
+    usual: u32,
+) -> Option<u32>
+    ensures some { IfSome result (λ n. MayGiveNumber (values_from matches.now) option.now low high usual n) }
+    ensures none { IfNone result ((n : ℕ) → ¬ MayGiveNumber (values_from matches.now) option.now low high usual n) }
+{
+    match optional(matches, option) {
+        Some(text) => number(text, low, high),
+        None => Some(usual),
+    }
+}
+
+// The files of a run.
+pub(crate) fn read_files<'a>(matches: &ArgMatches<'a>) -> Option<Files<'a>>
+    ensures some { IfSome result (λ files. GivesFiles (values_from matches.now) (names_of files)) }
+    ensures none { IfNone result ((names : Names) → ¬ GivesFiles (values_from matches.now) names) }
+{
+    let object = required(matches, "object")?;
+    let capture = required(matches, "capture")?;
+    let verilog = required(matches, "verilog")?;
+    let answer = required(matches, "answer")?;
+    let verdicts = required(matches, "verdicts")?;
+    let final_maps = required(matches, "final")?;
+    if !are_apart(&[object, capture, verilog, answer, verdicts, final_maps]) {
+        return None;
+    }
+    Some(Files {
+        object,
+        capture,
+        verilog,
+        answer,
+        verdicts,
+        final_maps,
+    })
+}
+
+pub(crate) fn read_choice<'a>(matches: &ArgMatches<'a>) -> Option<Choice<'a>>
+    ensures some { IfSome result (λ choice. GivesChosen (values_from matches.now) (chosen_of choice)) }
+    ensures none { IfNone result ((selected : Chosen) → ¬ GivesChosen (values_from matches.now) selected) }
+{
+    let program = optional(matches, "program");
+    let hash_cap = optional_number(matches, "hash-cap", 1, HASH_CAP_LIMIT, USUAL_HASH_CAP)?;
+    Some(Choice { program, hash_cap })
+}
+
+pub(crate) fn read_ifindex(matches: &ArgMatches<'_>) -> Option<u32>
+    ensures some { IfSome result (λ n. MayGiveNumber (values_from matches.now) (codes "ifindex") 0 4294967295 1 n) }
+    ensures none { IfNone result ((n : ℕ) → ¬ MayGiveNumber (values_from matches.now) (codes "ifindex") 0 4294967295 1 n) }
+{
+    optional_number(matches, "ifindex", 0, u32::MAX, USUAL_IFINDEX)
+}
+
+// Whether no two names are equal.
+fn are_apart(names: &[&str]) -> bool
+    ensures { IsTrue result ↔ AreApart (map (λ name. name.now) names.now) }
+{
+    for later in 0..names.len() {
+        for earlier in 0..later {
+            if names[earlier] == names[later] {
+                return false;
+            }
+        }
+    }
+    true
+}

@@ -1,5 +1,0 @@
-pub mod Numbers
-pub mod Among
-pub mod Nones
-pub mod Once
-pub mod Apart

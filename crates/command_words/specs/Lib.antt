@@ -1,4 +1,0 @@
-pub mod Asked
-pub mod Options
-pub mod Standings
-pub mod AsksFor

@@ -1,0 +1,13 @@
+-- Captures, packet by packet.
+use Rattle.std.proofs.Common.{◌≡◌, ◌∷◌, Option, Some, None, Ok, ap, ◌∙◌}
+use Rattle.pcap_core.specs.declared.record.Rec.{Rec}
+use Rattle.pcap_core.specs.Next.{seen, GivesNext}
+use Rattle.pcap_core.specs.Format.{Content}
+
+-- a packet that `next` gave
+pub next_some : (o : Option Rec) (r : Rec) (old new : Content) → o ≡ Some r → GivesNext (Ok o) old new → (old.packets ≡ seen r ∷ new.packets) × (new.fault ≡ old.fault)
+next_some (Some x) r old new e gives = (gives.0 ∙ ap (λ y. seen y ∷ new.packets) (same_rec x r e), gives.1)
+  where
+    same_rec : (x r : Rec) → Some x ≡ Some r → x ≡ r
+    same_rec x r e = cc
+next_some None r old new e gives = absurd cc

@@ -1,0 +1,234 @@
+-- What is known of a command that has ended, by the status that is reported.
+use Rattle.std.proofs.Common.{◌≡◌, ◌≢◌, ◌⊎◌, IsTrue, [], Option, Some, None, Result, Ok, Err, OnOk, OnErr, IfErr, refl, ◌∙◌, ap, sym, subst, inl, inr}
+use Rattle.shelf_core.specs.Shelf.{SameHeld}
+use Rattle.command_line.specs.Request.{Request, AskCompile, AskRun, AskSim}
+use Rattle.ehdl_top.specs.declared.status.Status.{Status}
+use Rattle.ehdl_top.specs.declared.status.Status.TheVariants as status
+use Rattle.ehdl_top.specs.declared.error.CommandError.{CommandError}
+use Rattle.ehdl_top.specs.declared.error.CommandError.TheVariants as error
+use Rattle.ehdl_top.specs.Status.{ended, status_of}
+use Rattle.ehdl_top.specs.States.{ShelfState, SinkState, Changes, OneRose}
+use Rattle.ehdl_top.specs.Inputs.{AreReady, FirstStop, OneUnread, EndsAtInput, names_in}
+use Rattle.ehdl_top.specs.Writes.{Outputs}
+use Rattle.ehdl_top.specs.Requests.{inputs_of, outputs_of, IsOutcome, EndsItself, IsFault, CanEnd, IsCause}
+use Rattle.ehdl_top.specs.Ends.{EndsAs, Loses, AllWritten, ByInputs, IsEarly, SaysWhy}
+use Rattle.ehdl_top.specs.Steps.{FailsWrite, WritesAll, StopsBy, Unread, OutOfMemory, AtInput, Unwritten, AtEnd, EndsIn, EndsBy, IsFixed}
+use Rattle.ehdl_top.proofs.StateLemmas.{same_held}
+use Rattle.ehdl_top.proofs.InputLemmas.{IsInputStatus, ready_stops, one_stop, ends_input, unread_rose}
+use Rattle.ehdl_top.proofs.FormLemmas.{inputs_sound}
+use Rattle.ehdl_top.proofs.OutcomeLemmas.{outcome_ready, ends_one}
+
+-- A command has ended with this status: a read failed; memory ran out, and nothing was written; an input is not in its form; a write
+-- failed; all was written; all was written, and memory ran out behind it.
+pub data Ended (request : Request) (old new : ShelfState) (result : Status) : Type 0 where
+  AtRead : result ≡ status.ReadFault → OneUnread (inputs_of request) old new → Changes [] old new → Ended request old new result
+  Out : result ≡ status.NoMemory → Changes [] old new → Ended request old new result
+  NotReady : (e : CommandError) → result ≡ status_of e → EndsAtInput (inputs_of request) (status_of e) → (IsTrue old.tells → FirstStop (inputs_of request) old.held e) → Changes [] old new → Ended request old new result
+  AtWrite : result ≡ status.WriteFault → FailsWrite request old new → Ended request old new result
+  Whole : (end : Option CommandError) → result ≡ ended end → WritesAll request end old new → Ended request old new result
+  WholeOut : (end : Option CommandError) → result ≡ status.NoMemory → WritesAll request end old new → Ended request old new result
+
+-- ---- from the end to the status that is reported
+pub done_ended : (request : Request) (old new : ShelfState) (r : Result (Unit {0}) CommandError) (u : Unit {0}) → r ≡ Ok u → EndsIn request old new r → Ended request old new status.Done
+done_ended request old new r u e ends = let P : Result (Unit {0}) CommandError → Type 0 = EndsBy request old new in let w : WritesAll request None old new = subst P e ends.by in Whole None refl w
+
+pub stops_of : (request : Request) (old new : ShelfState) (r : Result (Unit {0}) CommandError) (e : CommandError) → r ≡ Err e → EndsIn request old new r → StopsBy request old new e
+stops_of request old new r e is ends = let P : Result (Unit {0}) CommandError → Type 0 = EndsBy request old new in subst P is ends.by
+
+fixed_as : (e f : CommandError) → e ≡ f → IsFixed f → IsFixed e
+fixed_as e f is fixed = let P : CommandError → Type 0 = IsFixed in subst P (sym is) fixed
+
+stop_ended : (request : Request) (old new : ShelfState) (e : CommandError) (result : Status) → StopsBy request old new e → (result ≡ status_of e) ⊎ (result ≡ status.NoMemory) → (IsFixed e → result ≡ status_of e) → Ended request old new result
+stop_ended request old new e result (Unread is u same) reported fixed = AtRead (fixed (fixed_as e error.ReadFault is tt) ∙ ap status_of is) u same
+stop_ended request old new e result (OutOfMemory is same) (inl r) fixed = Out (r ∙ ap status_of is) same
+stop_ended request old new e result (OutOfMemory is same) (inr r) fixed = Out r same
+stop_ended request old new e result (AtInput ends first same) (inl r) fixed = NotReady e r ends first same
+stop_ended request old new e result (AtInput ends first same) (inr r) fixed = Out r same
+stop_ended request old new e result (Unwritten is f) reported fixed = AtWrite (fixed (fixed_as e error.WriteFault is tt) ∙ ap status_of is) f
+stop_ended request old new e result (AtEnd w) (inl r) fixed = Whole (Some e) r w
+stop_ended request old new e result (AtEnd w) (inr r) fixed = WholeOut (Some e) r w
+
+pub reported : (e : CommandError) (result : Status) (old new : SinkState) → SaysWhy e result old new ⊎ SaysWhy error.NoMemory result old new → (result ≡ status_of e) ⊎ (result ≡ status.NoMemory)
+reported e result old new (inl w) = inl w.status
+reported e result old new (inr w) = inr w.status
+
+pub report_ended : (request : Request) (old new : ShelfState) (r : Result (Unit {0}) CommandError) (e : CommandError) (result : Status) (before after : SinkState) → r ≡ Err e → EndsIn request old new r → SaysWhy e result before after ⊎ SaysWhy error.NoMemory result before after → (IsFixed e → result ≡ status_of e) → Ended request old new result
+report_ended request old new r e result before after is ends why fixed = stop_ended request old new e result (stops_of request old new r e is ends) (reported e result before after why) fixed
+
+-- ---- kinds of statuses
+as_status : (P : Status → Type 0) (s t : Status) → s ≡ t → P s → P t
+as_status P s t e p = subst P e p
+
+itself_written : (request : Request) (s : Status) → EndsItself request s → AllWritten s
+itself_written (AskCompile object verilog chosen) s e = as_status AllWritten status.Done s (sym e) tt
+itself_written (AskRun names chosen ifindex) s e = as_status AllWritten status.Done s (sym e) tt
+itself_written (AskSim names chosen ifindex clocks) s (inl e) = as_status AllWritten status.Done s (sym e) tt
+itself_written (AskSim names chosen ifindex clocks) s (inr (inl e)) = as_status AllWritten status.XValue s (sym e) tt
+itself_written (AskSim names chosen ifindex clocks) s (inr (inr e)) = as_status AllWritten status.Late s (sym e) tt
+
+input_unwritten : (s : Status) → IsInputStatus s → ¬ AllWritten s
+input_unwritten status.Object i w = w
+input_unwritten status.Refused i w = w
+input_unwritten status.Input i w = w
+input_unwritten s i w = i
+
+written_late : (s : Status) → AllWritten s → ¬ IsEarly s
+written_late status.Done w early = early
+written_late status.XValue w early = early
+written_late status.Late w early = early
+written_late s w early = w
+
+loses_input : (request : Request) (old new : ShelfState) (s : Status) → IsInputStatus s → Loses s request old new
+loses_input request old new status.Object i = tt
+loses_input request old new status.Refused i = tt
+loses_input request old new status.Input i = tt
+loses_input request old new s i = absurd i
+
+loses_written : (request : Request) (old new : ShelfState) (s : Status) → AllWritten s → Loses s request old new
+loses_written request old new status.Done w = tt
+loses_written request old new status.XValue w = tt
+loses_written request old new status.Late w = tt
+loses_written request old new s w = absurd w
+
+-- ---- one command that has ended
+module _ (request : Request) (old new : ShelfState) (result : Status) where
+  -- an input that is not in its form is no end of another kind
+  at_input : (e : CommandError) → result ≡ status_of e → EndsAtInput (inputs_of request) (status_of e) → IsInputStatus result
+  at_input e r ends = as_status IsInputStatus (status_of e) result (sym r) (ends_input (inputs_of request) (status_of e) (inputs_sound request) ends)
+
+  at_end : (end : Option CommandError) → result ≡ ended end → WritesAll request end old new → AllWritten result
+  at_end end r w = as_status AllWritten (ended end) result (sym r) (itself_written request (ended end) w.can)
+
+  outcome_stops : (end : Option CommandError) (outputs : Outputs) (e : CommandError) → IsOutcome request old.held end outputs → ¬ FirstStop (inputs_of request) old.held e
+  outcome_stops end outputs e o = ready_stops (inputs_of request) old.held e (inputs_sound request) (outcome_ready request old.held end outputs o)
+
+  pub ended_outcome : Ended request old new result → AllWritten result → IsTrue old.tells → EndsAs request result old new
+  ended_outcome (AtRead r u same) all told = absurd (as_status AllWritten result status.ReadFault r all)
+  ended_outcome (Out r same) all told = absurd (as_status AllWritten result status.NoMemory r all)
+  ended_outcome (NotReady e r ends first same) all told = absurd (input_unwritten result (at_input e r ends) all)
+  ended_outcome (AtWrite r f) all told = absurd (as_status AllWritten result status.WriteFault r all)
+  ended_outcome (Whole end r w) all told = record { end = end; status = r; has = w.has told }
+  ended_outcome (WholeOut end r w) all told = absurd (as_status AllWritten result status.NoMemory r all)
+
+  pub ended_complete : Ended request old new result → IsTrue old.tells → AreReady (inputs_of request) old.held → ¬ OneRose (names_in (inputs_of request)) old.read_faults new.read_faults → ¬ OneRose (outputs_of request) old.write_faults new.write_faults
+      → AllWritten result ⊎ (result ≡ status.NoMemory)
+  ended_complete (AtRead r u same) told ready quiet calm = absurd (quiet (unread_rose (inputs_of request) old new u))
+  ended_complete (Out r same) told ready quiet calm = inr r
+  ended_complete (NotReady e r ends first same) told ready quiet calm = absurd (ready_stops (inputs_of request) old.held e (inputs_sound request) ready (first told))
+  ended_complete (AtWrite r f) told ready quiet calm = absurd (calm f.rose)
+  ended_complete (Whole end r w) told ready quiet calm = inl (at_end end r w)
+  ended_complete (WholeOut end r w) told ready quiet calm = inr r
+
+  pub ended_usage : Ended request old new result → result ≢ status.Usage
+  ended_usage (AtRead r u same) e = let f : status.ReadFault ≡ status.Usage = sym r ∙ e in absurd cc
+  ended_usage (Out r same) e = let f : status.NoMemory ≡ status.Usage = sym r ∙ e in absurd cc
+  ended_usage (NotReady e' r ends first same) e = as_status IsInputStatus result status.Usage e (at_input e' r ends)
+  ended_usage (AtWrite r f) e = let f' : status.WriteFault ≡ status.Usage = sym r ∙ e in absurd cc
+  ended_usage (Whole end r w) e = as_status AllWritten result status.Usage e (at_end end r w)
+  ended_usage (WholeOut end r w) e = let f : status.NoMemory ≡ status.Usage = sym r ∙ e in absurd cc
+
+  pub ended_read : Ended request old new result → result ≡ status.ReadFault → OneUnread (inputs_of request) old new
+  ended_read (AtRead r u same) e = u
+  ended_read (Out r same) e = let f : status.NoMemory ≡ status.ReadFault = sym r ∙ e in absurd cc
+  ended_read (NotReady e' r ends first same) e = absurd (as_status IsInputStatus result status.ReadFault e (at_input e' r ends))
+  ended_read (AtWrite r f) e = let f' : status.WriteFault ≡ status.ReadFault = sym r ∙ e in absurd cc
+  ended_read (Whole end r w) e = absurd (as_status AllWritten result status.ReadFault e (at_end end r w))
+  ended_read (WholeOut end r w) e = let f : status.NoMemory ≡ status.ReadFault = sym r ∙ e in absurd cc
+
+  pub ended_write : Ended request old new result → result ≡ status.WriteFault → OneRose (outputs_of request) old.write_faults new.write_faults
+  ended_write (AtRead r u same) e = let f : status.ReadFault ≡ status.WriteFault = sym r ∙ e in absurd cc
+  ended_write (Out r same) e = let f : status.NoMemory ≡ status.WriteFault = sym r ∙ e in absurd cc
+  ended_write (NotReady e' r ends first same) e = absurd (as_status IsInputStatus result status.WriteFault e (at_input e' r ends))
+  ended_write (AtWrite r f) e = f.rose
+  ended_write (Whole end r w) e = absurd (as_status AllWritten result status.WriteFault e (at_end end r w))
+  ended_write (WholeOut end r w) e = let f : status.NoMemory ≡ status.WriteFault = sym r ∙ e in absurd cc
+
+  pub ended_can : Ended request old new result → CanEnd request result
+  ended_can (AtRead r u same) = inr (inr (as_status IsFault status.ReadFault result (sym r) tt))
+  ended_can (Out r same) = inr (inr (as_status IsFault status.NoMemory result (sym r) tt))
+  ended_can (NotReady e' r ends first same) = inl (as_status (EndsAtInput (inputs_of request)) (status_of e') result (sym r) ends)
+  ended_can (AtWrite r f) = inr (inr (as_status IsFault status.WriteFault result (sym r) tt))
+  ended_can (Whole end r w) = inr (inl (as_status (EndsItself request) (ended end) result (sym r) w.can))
+  ended_can (WholeOut end r w) = inr (inr (as_status IsFault status.NoMemory result (sym r) tt))
+
+  pub ended_inputs : Ended request old new result → IsTrue old.tells → (e : CommandError) → FirstStop (inputs_of request) old.held e → (result ≡ status_of e) ⊎ ((result ≡ status.ReadFault) ⊎ (result ≡ status.NoMemory))
+  ended_inputs (AtRead r u same) told e stop = inr (inl r)
+  ended_inputs (Out r same) told e stop = inr (inr r)
+  ended_inputs (NotReady e' r ends first same) told e stop = inl (r ∙ one_stop (inputs_of request) old.held e' e (inputs_sound request) (first told) stop)
+  ended_inputs (AtWrite r f) told e stop = let b = f.broken told in absurd (outcome_stops b.end b.outputs e b.outcome stop)
+  ended_inputs (Whole end r w) told e stop = let h = w.has told in absurd (outcome_stops end h.outputs e h.outcome stop)
+  ended_inputs (WholeOut end r w) told e stop = inr (inr r)
+
+  pub ended_driven : Ended request old new result → IsTrue old.tells → (e : CommandError) (outputs : Outputs) → IsOutcome request old.held (Some e) outputs → (result ≡ status_of e) ⊎ IsFault result
+  ended_driven (AtRead r u same) told e outputs o = inr (as_status IsFault status.ReadFault result (sym r) tt)
+  ended_driven (Out r same) told e outputs o = inr (as_status IsFault status.NoMemory result (sym r) tt)
+  ended_driven (NotReady e' r ends first same) told e outputs o = absurd (outcome_stops (Some e) outputs e' o (first told))
+  ended_driven (AtWrite r f) told e outputs o = inr (as_status IsFault status.WriteFault result (sym r) tt)
+  ended_driven (Whole end r w) told e outputs o = let h = w.has told in inl (r ∙ ap ended (ends_one request old.held end (Some e) h.outputs outputs h.outcome o))
+  ended_driven (WholeOut end r w) told e outputs o = inr (as_status IsFault status.NoMemory result (sym r) tt)
+
+  pub ended_loses : Ended request old new result → IsTrue old.tells → Loses result request old new
+  ended_loses (AtRead r u same) told = as_status (λ s. Loses s request old new) status.ReadFault result (sym r) tt
+  ended_loses (Out r same) told = as_status (λ s. Loses s request old new) status.NoMemory result (sym r) (inl same)
+  ended_loses (NotReady e r ends first same) told = loses_input request old new result (at_input e r ends)
+  ended_loses (AtWrite r f) told = as_status (λ s. Loses s request old new) status.WriteFault result (sym r) (f.broken told)
+  ended_loses (Whole end r w) told = loses_written request old new result (at_end end r w)
+  ended_loses (WholeOut end r w) told = as_status (λ s. Loses s request old new) status.NoMemory result (sym r) (inr (end, w.has told))
+
+-- ---- the line that says why
+by_as : (e f : CommandError) → e ≡ f → ByInputs (status_of e) → ByInputs (status_of f)
+by_as e f is by = let P : CommandError → Type 0 = λ x. ByInputs (status_of x) in subst P is by
+
+pub stops_cause : (request : Request) (old new : ShelfState) (e : CommandError) → StopsBy request old new e → ByInputs (status_of e) → IsTrue old.tells → IsCause request old.held e
+stops_cause request old new e (Unread is u same) by told = absurd (by_as e error.ReadFault is by)
+stops_cause request old new e (OutOfMemory is same) by told = absurd (by_as e error.NoMemory is by)
+stops_cause request old new e (AtInput ends first same) by told = inl (first told)
+stops_cause request old new e (Unwritten is f) by told = absurd (by_as e error.WriteFault is by)
+stops_cause request old new e (AtEnd w) by told = let h = w.has told in inr (h.outputs, h.outcome)
+
+pub no_inputs : (result : Status) → result ≡ status.NoMemory → ¬ ByInputs result
+no_inputs result r by = as_status ByInputs result status.NoMemory r by
+
+-- a line that was put, or not whole
+pub put_line : {T E A B C R : Type 0} (r : Result T E) → OnOk r (C → A) → OnErr r (C → B) → OnErr r R → C → A ⊎ (R × B)
+put_line (Ok x) a b rose c = inl (a c)
+put_line (Err e) a b rose c = inr (rose, b c)
+
+-- ---- usage
+-- a command that is asked for does not end so
+pub never_usage : (request : Request) (old new : ShelfState) → ¬ StopsBy request old new error.Usage
+never_usage request old new stops = ended_usage request old new status.Usage (stop_ended request old new error.Usage status.Usage stops (inl refl) (λ fixed. refl)) refl
+
+pub usage_only : (e : CommandError) (result : Status) → (result ≡ status_of e) ⊎ (result ≡ status.NoMemory) → result ≡ status.Usage → e ≡ error.Usage
+usage_only e result (inl r) u = usage_error e (sym r ∙ u)
+  where
+    usage_error : (e : CommandError) → status_of e ≡ status.Usage → e ≡ error.Usage
+    usage_error error.Usage u = refl
+    usage_error (error.Object fault) u = absurd cc
+    usage_error (error.Refused at why) u = absurd cc
+    usage_error error.LongVerilog u = absurd cc
+    usage_error (error.Verilog fault) u = absurd cc
+    usage_error error.LongCapture u = absurd cc
+    usage_error (error.Capture fault) u = absurd cc
+    usage_error error.ReadFault u = absurd cc
+    usage_error error.WriteFault u = absurd cc
+    usage_error (error.XValue net) u = absurd cc
+    usage_error (error.Late given owed) u = absurd cc
+    usage_error error.NoMemory u = absurd cc
+usage_only e result (inr r) u = let f : status.NoMemory ≡ status.Usage = sym r ∙ u in absurd cc
+
+-- ---- early
+early_as : (e f : CommandError) → e ≡ f → IsEarly (status_of e) → IsEarly (status_of f)
+early_as e f is early = let P : CommandError → Type 0 = λ x. IsEarly (status_of x) in subst P is early
+
+stops_early : (request : Request) (old new : ShelfState) (e : CommandError) → StopsBy request old new e → IsEarly (status_of e) → SameHeld old.held new.held
+stops_early request old new e (Unread is u same) early = same_held old new same
+stops_early request old new e (OutOfMemory is same) early = same_held old new same
+stops_early request old new e (AtInput ends first same) early = same_held old new same
+stops_early request old new e (Unwritten is f) early = absurd (early_as e error.WriteFault is early)
+stops_early request old new e (AtEnd w) early = absurd (written_late (status_of e) (itself_written request (status_of e) w.can) early)
+
+-- before any output was begun all names hold what they held
+pub early_of : (request : Request) (old new : ShelfState) (r : Result (Unit {0}) CommandError) → EndsIn request old new r → IfErr r (λ e. IsEarly (status_of e) → SameHeld old.held new.held)
+early_of request old new (Ok u) ends = tt
+early_of request old new (Err e) ends = stops_early request old new e ends.by

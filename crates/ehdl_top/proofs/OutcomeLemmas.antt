@@ -1,0 +1,228 @@
+-- What a command is to leave: its inputs are in their forms, and it comes to one end.
+use Rattle.std.proofs.Common.{◌≡◌, ℕ, ◌≤◌, IsTrue, is_none, List, [], ◌∷◌, suc, length, map, Option, Some, None, refl, sym, ap, subst, ◌∙◌, inl, arith}
+use Rattle.std.proofs.lemmas.List.{length-map}
+use Rattle.shelf_core.specs.Shelf.{Holding}
+use Rattle.pcap_core.specs.Format.{Packet, Content}
+use Rattle.net_core.specs.Nets.{Netlist}
+use Rattle.net_core.specs.Clock.{first_stored}
+use Rattle.net_core.specs.History.{Arrival, Drive, answers_given}
+use Rattle.beat_core.specs.declared.answer.Answer.{Answer}
+use Rattle.port_drive.specs.Reports.{full_drive}
+use Rattle.ehdl_build.specs.Realizes.{came_by}
+use Rattle.xdp_maps.specs.State.{MapState}
+use Rattle.xdp_object.specs.Program.{XdpProgram}
+use Rattle.xdp_machine.proofs.RunLaws.{runs_length}
+use Rattle.ehdl_build.specs.Compiled.{code_of, packets_in, answer_of, IsSequential}
+use Rattle.xdp_object.specs.Choice.{Chosen}
+use Rattle.command_line.specs.Request.{Request, AskCompile, AskRun, AskSim, Names}
+use Rattle.ehdl_top.specs.declared.limits.TheConstants.{OBJECT_LIMIT, VERILOG_LIMIT, CAPTURE_LIMIT}
+use Rattle.ehdl_top.specs.declared.error.CommandError.{CommandError}
+use Rattle.ehdl_top.specs.declared.write.Write as code
+use Rattle.ehdl_top.specs.declared.sim.Simulated.{Simulated}
+use Rattle.ehdl_top.specs.declared.packets.Captured.{Captured}
+use Rattle.ehdl_top.specs.Status.{ended}
+use Rattle.ehdl_top.specs.States.{ShelfState, Changes}
+use Rattle.ehdl_top.specs.Forms.{Holds, IsTextOf, IsCaptured, program_form, text_form, capture_form, object_form}
+use Rattle.ehdl_top.specs.Inputs.{AreReady}
+use Rattle.ehdl_top.specs.Writes.{Outputs, names_in, Write, AreDone, OneFailed}
+use Rattle.ehdl_top.specs.Results.{frames_of, compile_outputs, run_outputs, sim_outputs}
+use Rattle.ehdl_top.specs.Outcome.{IsSimulated, drive_error}
+use Rattle.ehdl_top.specs.Requests.{inputs_of, outputs_of, IsOutcome, EndsItself}
+use Rattle.ehdl_top.specs.Steps.{IsRead, IsTextFor, IsCaptureOf, IsRunOf, IsSimOf, AreApart, FailsWrite, WritesAll, write_of, stamp_of}
+use Rattle.ehdl_top.proofs.StateLemmas.{tells_later}
+use Rattle.ehdl_top.proofs.InputLemmas.{holds_both}
+use Rattle.ehdl_top.proofs.FormLemmas.{one_captured}
+use Rattle.ehdl_top.proofs.WriteLemmas.{AreOf, AreBuilt, done_from, failed_from, done_changes, failed_changes, failed_rose, done_whole, failed_prefixes}
+use Rattle.ehdl_top.proofs.ResultLemmas.{compile_built, run_built, run_of, sim_built, sim_of}
+
+-- ---- where the inputs are in their forms
+-- what a name holds of which this is so, so is that
+pub holds_as : (limit : ℕ) (held : Option (List ℕ)) (A B : List ℕ → Type 0) → ((bytes : List ℕ) → A bytes → B bytes) → Holds limit held A → Holds limit held B
+holds_as limit held A B f h = record { bytes = h.bytes; there = h.there; within = h.within; is = f h.bytes h.is }
+
+pub outcome_ready : (request : Request) (held : Holding) (end : Option CommandError) (outputs : Outputs) → IsOutcome request held end outputs → AreReady (inputs_of request) held
+outcome_ready (AskCompile object verilog chosen) held end outputs o =
+    (holds_as OBJECT_LIMIT (held object) _ (program_form chosen).Fits (λ bytes is. (o.1.program, is)) o.1.held_program, tt)
+outcome_ready (AskRun names chosen ifindex) held end outputs o = (
+  holds_as OBJECT_LIMIT (held names.object) _ (program_form chosen).Fits (λ bytes is. (o.1.program, is)) o.1.held_program,
+  (holds_as CAPTURE_LIMIT (held names.capture) _ capture_form.Fits (λ bytes is. (o.1.magic, o.1.packets, is)) o.1.held_capture, tt),
+)
+outcome_ready (AskSim names chosen ifindex clocks) held end outputs o = (
+  holds_as OBJECT_LIMIT (held names.object) _ (object_form chosen).Fits (λ bytes is. (o.program, is)) o.held_object,
+  (
+    holds_as VERILOG_LIMIT (held names.verilog) _ text_form.Fits (λ bytes is. (o.design, is.spells)) o.held_text,
+    (holds_as CAPTURE_LIMIT (held names.capture) _ capture_form.Fits (λ bytes is. (o.magic, o.packets, is)) o.held_capture, tt),
+  ),
+)
+
+-- ---- one end of a simulation
+same_packets : (held : Option (List ℕ)) (m n : ℕ) (ps qs : List Packet) → Holds CAPTURE_LIMIT held (λ bytes. IsCaptured bytes m ps) → Holds CAPTURE_LIMIT held (λ bytes. IsCaptured bytes n qs) → qs ≡ ps
+same_packets held m n ps qs a b =
+    holds_both CAPTURE_LIMIT held (λ bytes. IsCaptured bytes m ps) (λ bytes. IsCaptured bytes n qs) (λ bytes. qs ≡ ps)
+    (λ bytes c d. ap (λ (x : Content). x.packets) (one_captured bytes _ _ d c)) a b
+
+same_design : (held : Option (List ℕ)) (d e : Netlist) → Holds VERILOG_LIMIT held (λ bytes. IsTextOf bytes d) → Holds VERILOG_LIMIT held (λ bytes. IsTextOf bytes e) → e ≡ d
+same_design held d e a b =
+    holds_both VERILOG_LIMIT held (λ bytes. IsTextOf bytes d) (λ bytes. IsTextOf bytes e) (λ bytes. e ≡ d) (λ bytes c f. c.only e f.spells) a b
+
+one_end : (names : Names) (chosen : Chosen) (ifindex clocks : ℕ) (held : Holding) (end end' : Option CommandError) (outputs outputs' : Outputs)
+    → IsSimulated names chosen ifindex clocks held end outputs → IsSimulated names chosen ifindex clocks held end' outputs' → end ≡ end'
+one_end names chosen ifindex clocks held end end' outputs outputs' a b =
+    let design : b.design ≡ a.design = same_design (held names.verilog) a.design b.design a.held_text b.held_text in
+    let packets : b.packets ≡ a.packets = same_packets (held names.capture) a.magic b.magic a.packets b.packets a.held_capture b.held_capture in
+    let F : Netlist → List Packet → Option CommandError = λ d ps.
+    let r : Drive = full_drive d ifindex (first_stored d) (frames_of ps) clocks in drive_error d (length ps) r r.ended in
+    a.end_is ∙ ap (λ r. drive_error a.design (length a.packets) r r.ended) a.is_drive ∙ ap (λ d. F d a.packets) (sym design) ∙ ap (λ ps. F b.design ps) (sym packets)
+    ∙ ap (λ r. drive_error b.design (length b.packets) r r.ended) (sym b.is_drive) ∙ sym b.end_is
+
+pub ends_one : (request : Request) (held : Holding) (end end' : Option CommandError) (outputs outputs' : Outputs) → IsOutcome request held end outputs → IsOutcome request held end' outputs' → end ≡ end'
+ends_one (AskCompile object verilog chosen) held end end' outputs outputs' a b = a.0 ∙ sym b.0
+ends_one (AskRun names chosen ifindex) held end end' outputs outputs' a b = a.0 ∙ sym b.0
+ends_one (AskSim names chosen ifindex clocks) held end end' outputs outputs' a b = one_end names chosen ifindex clocks held end end' outputs outputs' a b
+
+-- ---- from what was read to what is written
+-- these writes make what the command is to leave, and come to this end
+pub record Makes (request : Request) (held : Holding) (end : Option CommandError) (ws : List Write) : Type 0 where
+  pub outputs : Outputs
+  pub outcome : IsOutcome request held end outputs
+  pub writes_are : ws ≡ outputs.writes
+  pub built : AreBuilt outputs.files outputs.writes
+  pub of : AreOf (names_in outputs.files) outputs.writes
+
+pub writes_all : (request : Request) (end : Option CommandError) (old mid new : ShelfState) (ws : List Write) → EndsItself request (ended end) → Changes [] old mid → (IsTrue old.tells → Makes request old.held end ws) → AreDone ws mid new → WritesAll request end old new
+writes_all request end old mid new ws can same makes done = record {
+  can = can;
+  has = λ told.
+      let m = makes told in
+      let P : List Write → Type 0 = λ vs. AreDone vs old new in
+      let d : AreDone m.outputs.writes old new = subst P m.writes_are (done_from ws old mid new same done) in
+      record {
+        outputs = m.outputs;
+        outcome = m.outcome;
+        whole = done_whole m.outputs.files m.outputs.writes old new m.built d told;
+        others = done_changes (names_in m.outputs.files) m.outputs.writes old new m.of d;
+        in_order = d;
+      };
+}
+
+pub fails_write : (request : Request) (end : Option CommandError) (old mid new : ShelfState) (ws : List Write) → AreOf (outputs_of request) ws → Changes [] old mid → (IsTrue old.tells → Makes request old.held end ws) → OneFailed ws mid new → FailsWrite request old new
+fails_write request end old mid new ws of same makes failed = record {
+  rose = failed_rose (outputs_of request) ws old new of (failed_from ws old mid new same failed);
+  broken = λ told.
+      let m = makes told in
+      let P : List Write → Type 0 = λ vs. OneFailed vs old new in
+      let f : OneFailed m.outputs.writes old new = subst P m.writes_are (failed_from ws old mid new same failed) in
+      record {
+        end = end;
+        outputs = m.outputs;
+        outcome = m.outcome;
+        prefixes = failed_prefixes m.outputs.files m.outputs.writes old new m.built f told;
+        others = failed_changes (names_in m.outputs.files) m.outputs.writes old new m.of f;
+        in_order = f;
+      };
+}
+
+-- ---- each command
+-- an input that was read from a later state, in which nothing has changed
+pub was_held : (limit : ℕ) (name : List ℕ) (a b : ShelfState) (bytes : List ℕ) (Is : List ℕ → Type 0) → Changes [] a b → (IsTrue b.tells → b.held name ≡ Some bytes) → length bytes ≤ limit → Is bytes → IsTrue a.tells → Holds limit (a.held name) Is
+was_held limit name a b bytes Is same there within is told = record {
+  bytes = bytes;
+  there = sym (same.others name tt) ∙ there (tells_later a b same.later told);
+  within = within;
+  is = is;
+}
+
+pub compile_makes : (object verilog : List ℕ) (chosen : Chosen) (old : ShelfState) (bytes text : List ℕ) (ws : List Write) → IsRead (program_form chosen) object old bytes → IsTextFor chosen bytes text
+    → ws ≡ (compile_outputs verilog text).writes → IsTrue old.tells → Makes (AskCompile object verilog chosen) old.held None ws
+compile_makes object verilog chosen old bytes text ws read is e told = record {
+  outputs = compile_outputs verilog text;
+  outcome = (
+    refl,
+    record {
+      program = is.program;
+      held_program = record { bytes = bytes; there = read.there told; within = read.within; is = is.accepted };
+      text = text;
+      size = is.size;
+      has_size = is.realized.has_size;
+      realizes = is.realized.realizes;
+      outputs_are = refl;
+    },
+  );
+  writes_are = e;
+  built = compile_built verilog text;
+  of = (inl refl, (inl refl, tt));
+}
+
+pub run_makes : (names : Names) (chosen : Chosen) (ifindex : ℕ) (a b : ShelfState) (object capture text : List ℕ) (magic : ℕ) (packets : List Packet) (writes : List code.Write) → AreApart names → Changes [] a b
+    → IsRead (program_form chosen) names.object a object → (is : IsTextFor chosen object text) → IsRead capture_form names.capture b capture → IsCaptured capture magic packets
+    → IsRunOf names text is.program ifindex magic packets writes → IsTrue a.tells → Makes (AskRun names chosen ifindex) a.held None (map write_of writes)
+run_makes names chosen ifindex a b object capture text magic packets writes apart same read is read' captured run told = record {
+  outputs = run_outputs names text magic packets run.answers;
+  outcome = (
+    refl,
+    record {
+      program = is.program;
+      held_program = record { bytes = object; there = read.there told; within = read.within; is = is.accepted };
+      text = text;
+      size = is.size;
+      has_size = is.realized.has_size;
+      realizes = is.realized.realizes;
+      magic = magic;
+      packets = packets;
+      held_capture = was_held CAPTURE_LIMIT names.capture a b capture (λ bytes. IsCaptured bytes magic packets) same read'.there read'.within captured told;
+      answers = run.answers;
+      final = run.final;
+      runs = run.runs;
+      outputs_are = refl;
+    },
+  );
+  writes_are = run.writes_are;
+  built = run_built names text magic packets run.answers apart;
+  of = run_of names text magic packets run.answers;
+}
+
+pub sim_makes : (names : Names) (chosen : Chosen) (ifindex clocks : ℕ) (a b c : ShelfState) (object text capture : List ℕ) (design : Netlist) (magic : ℕ) (packets : List Packet) (simulated : Simulated) → AreApart names → Changes [] a b → Changes [] a c
+    → IsRead (object_form chosen) names.object a object → IsRead text_form names.verilog b text → IsTextOf text design → IsRead capture_form names.capture c capture → IsCaptured capture magic packets
+    → IsSimOf names design ifindex clocks magic packets simulated → IsTrue a.tells → Makes (AskSim names chosen ifindex clocks) a.held simulated.end (map write_of simulated.writes.items)
+sim_makes names chosen ifindex clocks a b c object text capture design magic packets simulated apart same same' read read' spells read'' captured sim told = record {
+  outputs = sim_outputs names magic packets (answers_given [] sim.drive.trace) (is_none simulated.end);
+  outcome = record {
+    program = read.fits.0;
+    held_object = record { bytes = object; there = read.there told; within = read.within; is = read.fits.1 };
+    design = design;
+    held_text = was_held VERILOG_LIMIT names.verilog a b text (λ bytes. IsTextOf bytes design) same read'.there read'.within spells told;
+    magic = magic;
+    packets = packets;
+    held_capture = was_held CAPTURE_LIMIT names.capture a c capture (λ bytes. IsCaptured bytes magic packets) same' read''.there read''.within captured told;
+    drive = sim.drive;
+    is_drive = sim.is_drive;
+    end_is = sim.end_is;
+    outputs_are = refl;
+  };
+  writes_are = sim.writes_are;
+  built = sim_built names magic packets (answers_given [] sim.drive.trace) (is_none simulated.end) apart;
+  of = sim_of names magic packets (answers_given [] sim.drive.trace) (is_none simulated.end);
+}
+
+-- ---- as many answers as frames
+packets_count : (arrivals : List Arrival) → length (packets_in arrivals) ≡ length arrivals
+packets_count [] = refl
+packets_count (a ∷ rest) = ap suc (packets_count rest)
+
+came_count : (ifindex : ℕ) (frames : List (List ℕ)) → length (came_by ifindex frames) ≡ length frames
+came_count ifindex [] = refl
+came_count ifindex (f ∷ fs) = ap suc (came_count ifindex fs)
+
+answers_count : (program : XdpProgram) (maps last : MapState) (ifindex : ℕ) (frames : List (List ℕ)) (answers : List Answer) → IsSequential program maps (came_by ifindex frames) answers last → length answers ≡ length frames
+answers_count program maps last ifindex frames answers is =
+    ap length is.answers_are ∙ length-map is.leaves answer_of ∙ runs_length (code_of program) maps (packets_in (came_by ifindex frames)) is.leaves last is.runs
+    ∙ packets_count (came_by ifindex frames) ∙ came_count ifindex frames
+
+pub counted : (program : XdpProgram) (maps last : MapState) (ifindex : ℕ) (frames : List (List ℕ)) (answers : List Answer) (captured : Captured) (packets : List Packet) → IsSequential program maps (came_by ifindex frames) answers last → frames ≡ captured.frames.items → IsCaptureOf captured packets → length answers ≤ length captured.stamps.items
+counted program maps last ifindex frames answers captured packets is same of =
+    let e : length answers ≡ length frames = answers_count program maps last ifindex frames answers is in
+    let f : length frames ≡ length (frames_of packets) = ap length (same ∙ of.frames) in
+    let s : length captured.stamps.items ≡ length (map stamp_of packets) = ap length of.stamps in
+    let g : length (frames_of packets) ≡ length packets = length-map packets (λ p. p.bytes) in
+    let h : length (map stamp_of packets) ≡ length packets = length-map packets stamp_of in
+    omega (arith, e, f, s, g, h)

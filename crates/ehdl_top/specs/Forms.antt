@@ -1,0 +1,129 @@
+-- The forms of inputs: how many bytes one may have, which bytes are in its form, and the first fault of the others.
+use Rattle.std.specs.Prelude.{◌≡◌, ◌⊎◌, ℕ, ◌≤◌, List, length, Option, Some, None, Err}
+use Rattle.shelf_core.specs.Shelf.{IsLonger}
+use Rattle.pcap_core.specs.declared.error.PcapError.{PcapError}
+use Rattle.list_laws.specs.Bytes.{IsBytes}
+use Rattle.pcap_core.specs.Format.{Packet, Content, IsContent, IsHeaderFault}
+use Rattle.net_core.specs.Nets.{Netlist}
+use Rattle.verilog_grammar.specs.Spelling.{Spells}
+use Rattle.verilog_read.specs.declared.error.ReadError.{ReadError}
+use Rattle.verilog_read.specs.Texts.{outcome_of}
+use Rattle.xdp_object.specs.declared.error.ObjectError.TheVariants.{Long}
+use Rattle.xdp_object.specs.Program.{XdpProgram}
+use Rattle.xdp_object.specs.Choice.{Chosen}
+use Rattle.xdp_object.specs.Object.{FirstFault, IsObject}
+use Rattle.ehdl_build.specs.declared.built.Why.{Why}
+use Rattle.ehdl_build.specs.Compiled.{FirstRefusal, IsRefused}
+use Rattle.ehdl_top.specs.declared.limits.TheConstants.{OBJECT_LIMIT, VERILOG_LIMIT, CAPTURE_LIMIT}
+use Rattle.ehdl_top.specs.declared.status.Status.{Status}
+use Rattle.ehdl_top.specs.declared.status.Status.TheVariants as status
+use Rattle.ehdl_top.specs.declared.error.CommandError.{CommandError}
+use Rattle.ehdl_top.specs.declared.error.CommandError.TheVariants as error
+
+-- A form of input. Bytes beyond its limit are too many; others are in the form, or have a first fault, for which a command is
+-- given up. How a command may then end is said, too.
+pub record InputForm : Type 1 where
+  pub limit : ℕ
+  pub too_long : CommandError
+  pub Fits : List ℕ → Type 0
+  pub Faults : List ℕ → CommandError → Type 0
+  pub Ends : Status → Type 0
+
+-- ---- what a name holds
+-- a name holds bytes, no more than the limit, of which this is so
+pub record Holds (limit : ℕ) (held : Option (List ℕ)) (Is : List ℕ → Type 0) : Type 0 where
+  pub bytes : List ℕ
+  pub there : held ≡ Some bytes
+  pub within : length bytes ≤ limit
+  pub is : Is bytes
+
+-- a name holds bytes in a form
+abbrev pub IsReady : InputForm → Option (List ℕ) → Type 0
+IsReady form held = Holds form.limit held form.Fits
+
+-- a name holds bytes that are not in a form: too many, or with this first fault
+abbrev pub IsFaulty : InputForm → Option (List ℕ) → CommandError → Type 0
+IsFaulty form held e = (IsLonger form.limit held × (e ≡ form.too_long)) ⊎ Holds form.limit held (λ bytes. form.Faults bytes e)
+
+-- ---- objects
+-- The choice is the name of the function that is asked for, or none.
+abbrev pub ObjectFaults : Chosen → List ℕ → CommandError → Type 0
+ObjectFaults choice bytes (error.Object fault) = FirstFault choice bytes fault
+ObjectFaults choice bytes e = ⊥
+
+-- an object, whatever its program
+abbrev pub object_form : Chosen → InputForm
+object_form choice = record {
+  limit = OBJECT_LIMIT;
+  too_long = error.Object Long;
+  Fits = λ bytes. (program : XdpProgram) × IsObject choice bytes program;
+  Faults = ObjectFaults choice;
+  Ends = λ s. s ≡ status.Object;
+}
+
+-- bytes are an object of this program, which is compiled
+pub record IsAccepted (choice : Chosen) (bytes : List ℕ) (program : XdpProgram) : Type 0 where
+  pub object : IsObject choice bytes program
+  pub accepted : (at : ℕ) (why : Why) → ¬ FirstRefusal program.insns at why
+
+abbrev pub ProgramFaults : Chosen → List ℕ → CommandError → Type 0
+ProgramFaults choice bytes (error.Object fault) = FirstFault choice bytes fault
+ProgramFaults choice bytes (error.Refused at why) = IsRefused choice bytes at why
+ProgramFaults choice bytes e = ⊥
+
+-- an object of a program that is compiled
+abbrev pub program_form : Chosen → InputForm
+program_form choice = record {
+  limit = OBJECT_LIMIT;
+  too_long = error.Object Long;
+  Fits = λ bytes. (program : XdpProgram) × IsAccepted choice bytes program;
+  Faults = ProgramFaults choice;
+  Ends = λ s. (s ≡ status.Object) ⊎ (s ≡ status.Refused);
+}
+
+-- ---- Verilog texts
+-- a text spells this design, and no other
+pub record IsTextOf (bytes : List ℕ) (design : Netlist) : Type 0 where
+  pub spells : Spells bytes design
+  pub only : (other : Netlist) → Spells bytes other → other ≡ design
+
+-- a text spells no design, and this is its first error
+pub record IsTextFault (bytes : List ℕ) (fault : ReadError) : Type 0 where
+  pub first : outcome_of bytes ≡ Err fault
+  pub none : (design : Netlist) → ¬ Spells bytes design
+
+abbrev pub TextFaults : List ℕ → CommandError → Type 0
+TextFaults bytes (error.Verilog fault) = IsTextFault bytes fault
+TextFaults bytes e = ⊥
+
+abbrev pub text_form : InputForm
+text_form = record {
+  limit = VERILOG_LIMIT;
+  too_long = error.LongVerilog;
+  Fits = λ bytes. (design : Netlist) × Spells bytes design;
+  Faults = TextFaults;
+  Ends = λ s. s ≡ status.Input;
+}
+
+-- ---- captures
+-- The bytes are a capture of these packets and nothing else. Its magic number says what fractions of a second are.
+abbrev pub IsCaptured : List ℕ → ℕ → List Packet → Type 0
+IsCaptured bytes magic packets = IsContent bytes (record { magic = magic; packets = packets; fault = None })
+
+-- The bytes are no capture, and this is the first fault: that of the header, or that of the first record which is not whole.
+pub record IsCaptureFault (bytes : List ℕ) (fault : PcapError) : Type 0 where
+  pub are_bytes : IsBytes bytes
+  pub first : IsHeaderFault bytes fault ⊎ ((c : Content) × IsContent bytes c × (c.fault ≡ Some fault))
+
+abbrev pub CaptureFaults : List ℕ → CommandError → Type 0
+CaptureFaults bytes (error.Capture fault) = IsCaptureFault bytes fault
+CaptureFaults bytes e = ⊥
+
+abbrev pub capture_form : InputForm
+capture_form = record {
+  limit = CAPTURE_LIMIT;
+  too_long = error.LongCapture;
+  Fits = λ bytes. (magic : ℕ) × (packets : List Packet) × IsCaptured bytes magic packets;
+  Faults = CaptureFaults;
+  Ends = λ s. s ≡ status.Input;
+}

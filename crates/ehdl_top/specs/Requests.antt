@@ -1,0 +1,52 @@
+-- The commands: the inputs of each with their forms, its outputs, what it leaves, and how it may end. A command is a row of each.
+use Rattle.std.specs.Prelude.{◌≡◌, ◌⊎◌, ℕ, List, [], ◌∷◌, Option, Some, None}
+use Rattle.shelf_core.specs.Shelf.{Holding}
+use Rattle.command_line.specs.Request.{Request, AskCompile, AskRun, AskSim}
+use Rattle.ehdl_top.specs.declared.status.Status.{Status}
+use Rattle.ehdl_top.specs.declared.status.Status.TheVariants as status
+use Rattle.ehdl_top.specs.declared.error.CommandError.{CommandError}
+use Rattle.ehdl_top.specs.Forms.{object_form, program_form, text_form, capture_form}
+use Rattle.ehdl_top.specs.Inputs.{Input, input, FirstStop, EndsAtInput}
+use Rattle.ehdl_top.specs.Writes.{Outputs}
+use Rattle.ehdl_top.specs.Outcome.{IsCompiled, IsRun, IsSimulated}
+
+-- in the order in which they are looked at
+abbrev pub inputs_of : Request → List Input
+inputs_of (AskCompile object verilog chosen) = input object (program_form chosen) ∷ []
+inputs_of (AskRun names chosen ifindex) =
+    input names.object (program_form chosen) ∷ input names.capture capture_form ∷ []
+inputs_of (AskSim names chosen ifindex clocks) =
+    input names.object (object_form chosen) ∷ input names.verilog text_form ∷ input names.capture capture_form ∷ []
+
+-- the names that may be written
+abbrev pub outputs_of : Request → List (List ℕ)
+outputs_of (AskCompile object verilog chosen) = verilog ∷ []
+outputs_of (AskRun names chosen ifindex) = names.verilog ∷ names.answer ∷ names.verdicts ∷ names.final_maps ∷ []
+outputs_of (AskSim names chosen ifindex clocks) = names.answer ∷ names.verdicts ∷ names.final_maps ∷ []
+
+-- what the outputs are to hold by what is held, and the end that the command then comes to
+abbrev pub IsOutcome : Request → Holding → Option CommandError → Outputs → Type 0
+IsOutcome (AskCompile object verilog chosen) held end outputs = (end ≡ None) × IsCompiled object verilog chosen held outputs
+IsOutcome (AskRun names chosen ifindex) held end outputs = (end ≡ None) × IsRun names chosen ifindex held outputs
+IsOutcome (AskSim names chosen ifindex clocks) held end outputs = IsSimulated names chosen ifindex clocks held end outputs
+
+-- the ends that a command may come to where its inputs are in their forms, faults aside
+abbrev pub EndsItself : Request → Status → Type 0
+EndsItself (AskCompile object verilog chosen) s = s ≡ status.Done
+EndsItself (AskRun names chosen ifindex) s = s ≡ status.Done
+EndsItself (AskSim names chosen ifindex clocks) s = (s ≡ status.Done) ⊎ ((s ≡ status.XValue) ⊎ (s ≡ status.Late))
+
+-- a fault of a name, or want of memory
+abbrev pub IsFault : Status → Type 0
+IsFault status.ReadFault = Unit {0}
+IsFault status.WriteFault = Unit {0}
+IsFault status.NoMemory = Unit {0}
+IsFault s = ⊥
+
+-- the ends of a command
+abbrev pub CanEnd : Request → Status → Type 0
+CanEnd request s = EndsAtInput (inputs_of request) s ⊎ (EndsItself request s ⊎ IsFault s)
+
+-- what the inputs give a command up for: a fault of them, or a drive that is given up
+abbrev pub IsCause : Request → Holding → CommandError → Type 0
+IsCause request held e = FirstStop (inputs_of request) held e ⊎ ((outputs : Outputs) × IsOutcome request held (Some e) outputs)

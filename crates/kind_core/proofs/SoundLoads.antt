@@ -1,0 +1,186 @@
+-- Loads through pointers that kinds describe give values that their kinds describe.
+use Rattle.std.proofs.Common.{◌≡◌, ℕ, ◌+◌, ◌*◌, ◌/◌, ◌%◌, ◌==◌, ◌≤◌, ◌⊎◌, inl, inr, ℤ, pos, negsuc, ◌+ℤ◌, Bool, true, false, cond, nat_le, refl, sym, ap, ◌∙◌, subst, arith, Option, Some, None, Result, Ok, Err, IfOk, List, length, get_or, slice_get, is_some, IsTrue}
+use Rattle.std.specs.Ordering.{int_eq}
+use Rattle.byteorder.specs.Endian.{little_bytes}
+use Rattle.bpf_isa.specs.declared.operation.Size.{Size}
+use Rattle.bpf_isa.specs.declared.operation.Size.TheVariants.{B, H, W, Dw}
+use Rattle.bpf_isa.specs.declared.operation.Width.TheVariants.{Bits64}
+use Rattle.xdp_maps.specs.declared.decl.MapDecl.{MapDecl}
+use Rattle.xdp_maps.specs.State.{MapState, contents_at}
+use Rattle.xdp_maps.specs.Calls.{lookup_of}
+use Rattle.xdp_machine.specs.Values.{Value}
+use Rattle.xdp_machine.specs.Values as is
+use Rattle.xdp_machine.specs.State.{Machine}
+use Rattle.xdp_machine.specs.Arithmetic.{extended}
+use Rattle.xdp_machine.specs.Memory.{bytes_in, number_at}
+use Rattle.xdp_machine.specs.Memory as machine
+use Rattle.kind_core.specs.declared.number.Number.TheVariants.{Unknown}
+use Rattle.kind_core.specs.declared.kind.Kind.{Kind}
+use Rattle.kind_core.specs.declared.kind.Kind.TheVariants.{Unset, Num, Packet, End, Stack, Ctx, Entry, Stale, Mixed}
+use Rattle.kind_core.specs.declared.kind.Kinds.{Kinds}
+use Rattle.kind_core.specs.declared.places.Place.{Place}
+use Rattle.kind_core.specs.declared.places.Place.TheVariants.{InPacket, InStack, InEntry}
+use Rattle.kind_core.specs.declared.why.Why.{Why}
+use Rattle.kind_core.specs.declared.why.Why.TheVariants as why
+use Rattle.kind_core.specs.Numbers.{number_extended}
+use Rattle.kind_core.specs.Kinds.{value_in, value_bytes}
+use Rattle.kind_core.specs.Tests.{◌>>=◌, readable, number_in, within, aligned}
+use Rattle.kind_core.specs.Places.{in_packet, in_stack, in_value}
+use Rattle.kind_core.specs.Access.{context_field, from_slot, found, loaded, loaded_plain, loaded_signed}
+use Rattle.kind_core.specs.Describes.{World, Describes, DescribesMachine}
+use Rattle.kind_core.proofs.Sound.{Gives, by_test, bind_ok, bind_passed, number_of, of_number, one_is}
+use Rattle.kind_core.proofs.MachineSteps.{some_of, aligned_at, from_frame_at, from_stack_at, from_entry_at, signed_load}
+
+-- where an access lies that is inside
+pub within_is : (z : ℤ) (n len a : ℕ) → within z n len ≡ Ok a → (z ≡ pos a) × (nat_le (a + n) len ≡ true)
+within_is (negsuc b) n len a e = cc
+within_is (pos b) n len a e =
+    by_test (λ t. cond t (Ok b) (Err why.Offset) ≡ Ok a → (nat_le (b + n) len ≡ t) → (pos b ≡ pos a) × (nat_le (a + n) len ≡ true)) (nat_le (b + n) len)
+    (λ h f g. let same : b ≡ a = cc in (ap pos same, subst (λ c. nat_le (c + n) len ≡ true) same g))
+    (λ h f g. cc)
+    e refl
+
+pub aligned_is : (z : ℤ) (n len a : ℕ) → aligned z n len ≡ Ok a → (z ≡ pos a) × (nat_le (a + n) len ≡ true) × ((a % n == 0) ≡ true)
+aligned_is z n len a e =
+    let b = bind_passed (within z n len) (λ c. cond (c % n == 0) (Ok c) (Err why.Misaligned)) a e in
+    let i = within_is z n len b.0 b.1 in
+    by_test (λ t. cond t (Ok b.0) (Err why.Misaligned) ≡ Ok a → ((b.0 % n == 0) ≡ t) → (z ≡ pos a) × (nat_le (a + n) len ≡ true) × ((a % n == 0) ≡ true)) (b.0 % n == 0)
+    (λ h f g. let same : b.0 ≡ a = cc in (i.0 ∙ ap pos same, subst (λ c. nat_le (c + n) len ≡ true) same i.1, subst (λ c. (c % n == 0) ≡ true) same g))
+    (λ h f g. cc)
+    b.2 refl
+
+-- where an access to the packet lies that is checked
+pub in_packet_is : (checked : ℕ) (z : ℤ) (n : ℕ) (p : Place) → in_packet checked z n ≡ Ok p → (a : ℕ) × (InPacket ≡ p) × (z ≡ pos a) × (nat_le (a + n) checked ≡ true)
+in_packet_is checked z n p e =
+    let b = bind_passed (within z n 256) (λ a. cond (nat_le (a + n) checked) (Ok InPacket) (Err why.Unchecked)) p e in
+    let i = within_is z n 256 b.0 b.1 in
+    by_test (λ t. cond t (Ok InPacket) (Err why.Unchecked) ≡ Ok p → (nat_le (b.0 + n) checked ≡ t) → (a : ℕ) × (InPacket ≡ p) × (z ≡ pos a) × (nat_le (a + n) checked ≡ true)) (nat_le (b.0 + n) checked)
+    (λ h f g. let same : InPacket ≡ p = cc in (b.0, same, i.0, g))
+    (λ h f g. cc)
+    b.2 refl
+
+packet_load : (w : World) (maps : MapState) (slots : List Kind) (frame : List ℕ) (checked : ℕ) (z : ℤ) (size : Size) → checked ≤ length frame
+    → IfOk (in_packet checked z (bytes_in size) >>= (λ p. found slots size p)) (Gives w maps (machine.from_frame frame z size))
+packet_load w maps slots frame checked z size c =
+    let P : Kind → Type 0 = λ k. Gives w maps (machine.from_frame frame z size) k in
+    bind_ok (in_packet checked z (bytes_in size)) (λ p. found slots size p) P (λ p e.
+    let i = in_packet_is checked z (bytes_in size) p e in
+    let there : nat_le (i.0 + bytes_in size) (length frame) ≡ true = grind (arith, i.3) in
+    subst (λ x. IfOk (found slots size x) P) (i.1)
+    (is.Number (number_at size i.0 frame), ap (λ x. machine.from_frame frame x size) (i.2) ∙ from_frame_at frame size i.0 there, (number_at size i.0 frame, refl)))
+
+slot_load : (w : World) (maps : MapState) (size : Size) (at : ℕ) (k : Kind) (v : Value) → Describes w maps k v
+    → IfOk (readable k >>= (λ _. from_slot size at k)) (Gives w maps (machine.from_slot size at v))
+slot_load w maps Dw at Unset v d = tt
+slot_load w maps Dw at Mixed v d = tt
+slot_load w maps Dw at Stale v d = tt
+slot_load w maps Dw at k v d = (v, refl, d)
+slot_load w maps B at (Num n) v d = let u = number_of n v d in rw (u.1) (is.Number (number_at B at (little_bytes 8 u.0)), refl, of_number _ _ (one_is (λ x. number_at B at (little_bytes 8 x)) n u.0 u.2))
+slot_load w maps H at (Num n) v d = let u = number_of n v d in rw (u.1) (is.Number (number_at H at (little_bytes 8 u.0)), refl, of_number _ _ (one_is (λ x. number_at H at (little_bytes 8 x)) n u.0 u.2))
+slot_load w maps W at (Num n) v d = let u = number_of n v d in rw (u.1) (is.Number (number_at W at (little_bytes 8 u.0)), refl, of_number _ _ (one_is (λ x. number_at W at (little_bytes 8 x)) n u.0 u.2))
+slot_load w maps size at k v d = tt
+
+stack_load : (w : World) (maps : MapState) (slots : List Kind) (stack : List Value) (z : ℤ) (size : Size)
+    → ((s : ℕ) → Describes w maps (get_or slots s Unset) (get_or stack s is.Unset))
+    → IfOk (in_stack z size >>= (λ p. found slots size p)) (Gives w maps (machine.from_stack stack z size))
+stack_load w maps slots stack z size d =
+    let P : Kind → Type 0 = λ k. Gives w maps (machine.from_stack stack z size) k in
+    bind_ok (in_stack z size) (λ p. found slots size p) P (λ p e.
+    let b = bind_passed (aligned (z +ℤ pos 512) (bytes_in size) 512) (λ a. Ok (InStack a)) p e in
+    let i = aligned_is (z +ℤ pos 512) (bytes_in size) 512 b.0 b.1 in
+    let same : InStack b.0 ≡ p = cc in
+    let at : machine.in_stack z (bytes_in size) ≡ Some b.0 = ap (λ x. machine.aligned x (bytes_in size) 512) (i.0) ∙ aligned_at b.0 (bytes_in size) 512 (i.1) (i.2) in
+    subst (λ x. IfOk (found slots size x) P) same
+    (subst (λ o. IfOk (found slots size (InStack b.0)) (λ k. Gives w maps o k)) (sym (from_stack_at stack z size b.0 at))
+    (slot_load w maps size (b.0 % 8) (get_or slots (b.0 / 8) Unset) (get_or stack (b.0 / 8) is.Unset) (d (b.0 / 8)))))
+
+pub either_decl : (o : Option MapDecl) → (o ≡ None) ⊎ ((d : MapDecl) × (o ≡ Some d))
+either_decl None = inl refl
+either_decl (Some d) = inr (d, refl)
+
+pub some_bytes : (size : Size) → 1 ≤ bytes_in size
+some_bytes B = omega arith
+some_bytes H = omega arith
+some_bytes W = omega arith
+some_bytes Dw = omega arith
+
+entry_load : (w : World) (maps : MapState) (slots : List Kind) (q : ℕ) (key : List ℕ) (z : ℤ) (size : Size) → IsTrue (is_some (lookup_of (contents_at maps q) key))
+    → IfOk (in_value maps.decls q z size >>= (λ p. found slots size p)) (Gives w maps (machine.from_entry maps q key z size))
+entry_load w maps slots q key z size there =
+    let P : Kind → Type 0 = λ k. Gives w maps (machine.from_entry maps q key z size) k in
+    bind_ok (in_value maps.decls q z size) (λ p. found slots size p) P (λ p e.
+    let b = bind_passed (aligned z (bytes_in size) (value_bytes maps.decls q)) (λ a. Ok InEntry) p e in
+    let i = aligned_is z (bytes_in size) (value_bytes maps.decls q) b.0 b.1 in
+    let same : InEntry ≡ p = cc in
+    let value = some_of (lookup_of (contents_at maps q) key) there in
+    subst (λ x. IfOk (found slots size x) P) same (elim (either_decl (slice_get maps.decls q)) [
+      | inl none ↦
+          let short : value_bytes maps.decls q ≡ 0 = ap value_in none in
+          let some = some_bytes size in
+          let room : b.0 + bytes_in size ≤ value_bytes maps.decls q = grind (arith, i.1) in
+          absurd (omega arith)
+      | inr (d, e) ↦
+          let len : value_bytes maps.decls q ≡ d.value = ap value_in e in
+          let inside : nat_le (b.0 + bytes_in size) d.value ≡ true = subst (λ n. nat_le (b.0 + bytes_in size) n ≡ true) len (i.1) in
+          let at : machine.aligned z (bytes_in size) d.value ≡ Some b.0 = ap (λ x. machine.aligned x (bytes_in size) d.value) (i.0) ∙ aligned_at b.0 (bytes_in size) d.value inside (i.2) in
+          (is.Number (number_at size b.0 value.0), from_entry_at maps q key z size d b.0 value.0 e at value.1, (number_at size b.0 value.0, refl))
+    ]))
+
+pub loaded_sound : (w : World) (k : Kinds) (m : Machine) (base : Kind) (x : Value) (offset : ℤ) (size : Size) → DescribesMachine w k m → Describes w m.maps base x
+    → IfOk (loaded m.maps.decls k base offset size) (Gives w m.maps (machine.loaded m x offset size))
+unfolding loaded
+loaded_sound w k m (Packet o) x offset size d h = rw h (packet_load w m.maps k.slots m.frame k.checked (pos o +ℤ offset) size d.checked)
+loaded_sound w k m (Stack o) x offset size d h = rw h (stack_load w m.maps k.slots m.stack (o +ℤ offset) size d.slots)
+loaded_sound w k m (Entry q o) x offset size d (key, there, h) = rw h (entry_load w m.maps k.slots q key (pos o +ℤ offset) size there)
+loaded_sound w k m base x offset size d h = tt
+
+context_gives : (w : World) (maps : MapState) (ifindex : ℕ) (a b c d : Bool)
+    → IfOk (cond a (Ok (Packet 0)) (cond b (Ok End) (cond c (Ok (Num Unknown)) (cond d (Ok (Num Unknown)) (Err why.Offset)))))
+    (Gives w maps (cond a (Some (is.Packet (pos 0))) (cond b (Some (is.Packet (pos w.frame))) (cond c (Some (is.Number ifindex)) (cond d (Some (is.Number 0)) None)))))
+context_gives w maps ifindex true b c d = (is.Packet (pos 0), refl, refl)
+context_gives w maps ifindex false true c d = (is.Packet (pos w.frame), refl, refl)
+context_gives w maps ifindex false false true d = (is.Number ifindex, refl, (ifindex, refl))
+context_gives w maps ifindex false false false true = (is.Number 0, refl, (0, refl))
+context_gives w maps ifindex false false false false = tt
+
+field_sound : (w : World) (k : Kinds) (m : Machine) (offset : ℤ) → DescribesMachine w k m → IfOk (context_field offset) (Gives w m.maps (machine.from_context m offset))
+field_sound w k m offset d = rw (d.frame) (context_gives w m.maps m.ifindex (int_eq offset (pos 0)) (int_eq offset (pos 4)) (int_eq offset (pos 12)) (int_eq offset (pos 16)))
+
+abbrev is_memory : Kind → Bool
+is_memory (Packet o) = true
+is_memory (Stack o) = true
+is_memory (Entry q o) = true
+is_memory k = false
+
+-- other kinds are refused
+refused_load : (w : World) (k : Kinds) (m : Machine) (base : Kind) (x : Value) (offset : ℤ) (size : Size) → is_memory base ≡ false
+    → IfOk (loaded m.maps.decls k base offset size) (Gives w m.maps (machine.loaded_plain m x offset size))
+unfolding loaded
+refused_load w k m (Packet o) x offset size h = cc
+refused_load w k m (Stack o) x offset size h = cc
+refused_load w k m (Entry q o) x offset size h = cc
+refused_load w k m base x offset size h = tt
+
+pub loaded_plain_sound : (w : World) (k : Kinds) (m : Machine) (base : Kind) (x : Value) (offset : ℤ) (size : Size) → DescribesMachine w k m → Describes w m.maps base x
+    → IfOk (loaded_plain m.maps.decls k base offset size) (Gives w m.maps (machine.loaded_plain m x offset size))
+unfolding loaded_plain
+loaded_plain_sound w k m Ctx x offset W d h = rw h (field_sound w k m offset d)
+loaded_plain_sound w k m Ctx x offset size d h = tt
+loaded_plain_sound w k m (Packet o) x offset size d h = rw h (loaded_sound w k m (Packet o) (is.Packet (pos o)) offset size d refl)
+loaded_plain_sound w k m (Stack o) x offset size d h = rw h (loaded_sound w k m (Stack o) (is.Stack o) offset size d refl)
+loaded_plain_sound w k m (Entry q o) x offset size d (key, there, h) = rw h (loaded_sound w k m (Entry q o) (is.Entry q key (pos o)) offset size d (key, there, refl))
+loaded_plain_sound w k m base x offset size d h = refused_load w k m base x offset size refl
+
+signed_gives : (w : World) (maps : MapState) (size : Size) (r : Result Kind Why) (o : Option Value) → IfOk r (Gives w maps o)
+    → IfOk (r >>= (λ x. number_in x >>= (λ n. Ok (Num (number_extended Bits64 (8 * bytes_in size) n))))) (Gives w maps (signed_load size o))
+signed_gives w maps size (Err e) o g = tt
+signed_gives w maps size (Ok (Num n)) o (v, e, d) =
+    let u = number_of n v d in
+    rw (e, u.1) (is.Number (extended 64 (8 * bytes_in size) u.0), refl, of_number _ _ (one_is (extended 64 (8 * bytes_in size)) n u.0 u.2))
+signed_gives w maps size (Ok k) o g = tt
+
+pub loaded_signed_sound : (w : World) (k : Kinds) (m : Machine) (base : Kind) (x : Value) (offset : ℤ) (size : Size) → DescribesMachine w k m → Describes w m.maps base x
+    → IfOk (loaded_signed m.maps.decls k base offset size) (Gives w m.maps (machine.loaded_signed m x offset size))
+unfolding loaded_signed
+loaded_signed_sound w k m Ctx x offset size d h = tt
+loaded_signed_sound w k m base x offset size d h = signed_gives w m.maps size (loaded m.maps.decls k base offset size) (machine.loaded m x offset size) (loaded_sound w k m base x offset size d h)

@@ -1,0 +1,228 @@
+// Calls of helpers: the table of their arguments and answers, and what is asked of arguments.
+
+ghost use Rattle.std.specs.Prelude.{◌≡◌, ◌<◌, ◌≤◌, ◌+ℤ◌, ℕ, length, IfOk};
+ghost use Rattle.kind_core.specs.Effects.{IsInside};
+ghost use Rattle.kind_core.specs.Kinds.{register};
+ghost use Rattle.kind_core.specs.Calls.{row, helper_of, is_used, argument, argument_read, arguments_read, declared, region, plain, fits_argument, argument_fits, change_of, answer_of, called_as, called};
+
+use crate::effects::Effect;
+use crate::kind::{Kind, Kinds};
+use crate::places::{STACK_BYTES, in_packet, is_hash, key_bytes, value_bytes};
+use crate::tests::{all_numbers, read_if, within};
+use crate::why::Why;
+use xdp_maps::decl::MapDecl;
+
+/// What an argument is.
+#[derive(Copy, Clone)]
+pub(crate) enum Argument {
+    Unused,
+    /// A map.
+    Map,
+    /// The bytes of a key of the map in R1.
+    Key,
+    /// The bytes of a value of the map in R1.
+    Value,
+    /// A number.
+    Plain,
+}
+
+/// What an answer is.
+#[derive(Copy, Clone)]
+pub(crate) enum Answer {
+    /// An entry of the map, or null.
+    EntryOrNull,
+    /// A number.
+    Plainly,
+    /// A number, after a change of the map.
+    AfterChange,
+}
+
+/// A row of the table.
+#[derive(Copy, Clone)]
+pub(crate) struct Helper {
+    /// R1 to R5.
+    pub(crate) arguments: [Argument; 5],
+    pub(crate) answer: Answer,
+}
+
+// A row.
+fn row(a: Argument, b: Argument, c: Argument, d: Argument, answer: Answer) -> Helper
+    ensures { result ≡ row a b c d Argument.Unused answer }
+{
+    Helper {
+        arguments: [a, b, c, d, Argument::Unused],
+        answer,
+    }
+}
+
+/// The table: lookup, update, delete, the time, redirect.
+pub(crate) fn helper_of(id: i64) -> Option<Helper>
+    ensures { result ≡ helper_of id }
+{
+    use Answer::{AfterChange, EntryOrNull, Plainly};
+    use Argument::{Key, Map, Plain, Unused, Value};
+    match id {
+        1 => Some(row(Map, Key, Unused, Unused, EntryOrNull)),
+        2 => Some(row(Map, Key, Value, Plain, AfterChange)),
+        3 => Some(row(Map, Key, Unused, Unused, AfterChange)),
+        5 => Some(row(Unused, Unused, Unused, Unused, Plainly)),
+        23 => Some(row(Plain, Plain, Unused, Unused, Plainly)),
+        _ => None,
+    }
+}
+
+// Whether there is an argument.
+fn is_used(argument: Argument) -> bool
+    ensures { result ≡ is_used argument }
+{
+    match argument {
+        Argument::Unused => false,
+        _ => true,
+    }
+}
+
+// The register of an argument is read.
+fn argument_read(kinds: &Kinds, helper: &Helper, n: usize) -> Result<(), Why>
+    requires { n < 5 }
+    ensures { result ≡ argument_read kinds.now helper.now n }
+{
+    read_if(is_used(helper.arguments[n]), kinds.registers[n + 1])
+}
+
+/// The registers of all arguments are read.
+pub(crate) fn arguments_read(kinds: &Kinds, helper: &Option<Helper>) -> Result<(), Why>
+    ensures { result ≡ arguments_read kinds.now helper.now }
+{
+    match helper {
+        None => Ok(()),
+        Some(h) => {
+            argument_read(kinds, h, 0)?;
+            argument_read(kinds, h, 1)?;
+            argument_read(kinds, h, 2)?;
+            argument_read(kinds, h, 3)?;
+            argument_read(kinds, h, 4)
+        }
+    }
+}
+
+// A map of the program.
+fn declared(decls: &[MapDecl], kind: Kind) -> Result<u32, Why>
+    ensures { result ≡ declared decls.now kind }
+{
+    match kind {
+        Kind::MapRef(q) if (q as usize) < decls.len() => Ok(q),
+        _ => Err(Why::Argument),
+    }
+}
+
+// Bytes for a helper.
+fn region(kinds: &Kinds, n: u32, kind: Kind) -> Result<(), Why>
+    ensures { result ≡ region kinds.now n kind }
+{
+    let count = n as usize;
+    match kind {
+        Kind::Packet(o) => {
+            in_packet(kinds.checked, i128::from(o), count)?;
+            Ok(())
+        }
+        Kind::Stack(o) => {
+            let at = within(i128::from(o) + STACK_BYTES as i128, count, STACK_BYTES)?;
+            all_numbers(&kinds.slots[at / 8..(at + count + 7) / 8])
+        }
+        Kind::Maybe(_, _) => Err(Why::Null),
+        _ => Err(Why::Argument),
+    }
+}
+
+// A number.
+fn plain(kind: Kind) -> Result<(), Why>
+    ensures { result ≡ plain kind }
+{
+    match kind {
+        Kind::Num(_) => Ok(()),
+        _ => Err(Why::Argument),
+    }
+}
+
+// What is asked of an argument.
+fn fits_argument(
+    decls: &[MapDecl],
+    kinds: &Kinds,
+    argument: Argument,
+    kind: Kind,
+) -> Result<(), Why>
+    ensures { result ≡ fits_argument decls.now kinds.now argument kind }
+{
+    match argument {
+        Argument::Unused => Ok(()),
+        Argument::Map => {
+            declared(decls, kind)?;
+            Ok(())
+        }
+        Argument::Key => {
+            let q = declared(decls, kinds.registers[1])?;
+            region(kinds, key_bytes(decls, q), kind)
+        }
+        Argument::Value => {
+            let q = declared(decls, kinds.registers[1])?;
+            region(kinds, value_bytes(decls, q), kind)
+        }
+        Argument::Plain => plain(kind),
+    }
+}
+
+// What is asked of one of five arguments.
+fn argument_fits(decls: &[MapDecl], kinds: &Kinds, helper: &Helper, n: usize) -> Result<(), Why>
+    requires { n < 5 }
+    ensures { result ≡ argument_fits decls.now kinds.now helper.now n }
+{
+    fits_argument(decls, kinds, helper.arguments[n], kinds.registers[n + 1])
+}
+
+// What a change of a map does.
+fn change_of(decls: &[MapDecl], q: u32) -> Effect
+    ensures value { result ≡ change_of decls.now q }
+    ensures inside { IsInside result }
+{
+    if is_hash(decls, q) {
+        Effect::Changed(q)
+    } else {
+        Effect::Answered
+    }
+}
+
+// What an answer does.
+fn answer_of(decls: &[MapDecl], kinds: &Kinds, answer: Answer) -> Result<Effect, Why>
+    ensures value { result ≡ answer_of decls.now kinds.now answer }
+    ensures inside { IfOk result IsInside }
+{
+    match answer {
+        Answer::EntryOrNull => Ok(Effect::Lookup(declared(decls, kinds.registers[1])?)),
+        Answer::Plainly => Ok(Effect::Answered),
+        Answer::AfterChange => Ok(change_of(decls, declared(decls, kinds.registers[1])?)),
+    }
+}
+
+// A call of a helper of the table.
+fn called_as(decls: &[MapDecl], kinds: &Kinds, helper: &Helper) -> Result<Effect, Why>
+    ensures value { result ≡ called_as decls.now kinds.now helper.now }
+    ensures inside { IfOk result IsInside }
+{
+    argument_fits(decls, kinds, helper, 0)?;
+    argument_fits(decls, kinds, helper, 1)?;
+    argument_fits(decls, kinds, helper, 2)?;
+    argument_fits(decls, kinds, helper, 3)?;
+    argument_fits(decls, kinds, helper, 4)?;
+    answer_of(decls, kinds, helper.answer)
+}
+
+/// A call of a helper.
+pub(crate) fn called(decls: &[MapDecl], kinds: &Kinds, id: i64) -> Result<Effect, Why>
+    ensures value { result ≡ called decls.now kinds.now id (helper_of id) }
+    ensures inside { IfOk result IsInside }
+{
+    match helper_of(id) {
+        None => Err(Why::Helper(id)),
+        Some(h) => called_as(decls, kinds, &h),
+    }
+}

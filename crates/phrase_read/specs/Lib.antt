@@ -1,7 +1,0 @@
-pub mod Reads
-pub mod Lexemes
-pub mod Expressions
-pub mod Rights
-pub mod Statements
-pub mod Laws
-pub mod Seen

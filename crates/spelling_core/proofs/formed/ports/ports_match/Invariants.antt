@@ -1,8 +1,0 @@
-use Rattle.std.proofs.Common.{◌≡◌, drop, length}
-use Rattle.std.specs.Cmp.Lexicographic.{pointwise}
-use Rattle.net_core.specs.Ports.{port_list}
-use Rattle.spelling_core.specs.Formed.{same_port}
-use Rattle.spelling_core.proofs.formed.ports.ports_match.Given as goal
-
-abbrev pub invariant-loop-k : goal.invariant-loop-k
-invariant-loop-k l = (length l.ports ≡ 21) × (pointwise same_port (drop l.k l.ports) (drop l.k port_list) ≡ pointwise same_port l.ports port_list)

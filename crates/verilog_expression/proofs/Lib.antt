@@ -1,0 +1,12 @@
+pub mod LexemeLaws
+pub mod SoundTreeLaws
+pub mod Widths
+pub mod RoundTripTreeLaws
+pub mod SoundRightLaws
+pub mod RoundTripRightLaws
+pub mod StatementRules
+pub mod SoundStatementLaws
+pub mod RoundTripStatementLaws
+pub mod Spelled
+pub mod Linked
+pub mod LoopStepLaws

@@ -1,0 +1,7 @@
+pub mod Reads
+pub mod Lexemes
+pub mod Expressions
+pub mod Rights
+pub mod Statements
+pub mod Laws
+pub mod View

@@ -1,0 +1,11 @@
+pub mod Local
+pub mod LexemeLocal
+pub mod ExpressionLocal
+pub mod RightLocal
+pub mod StatementLocal
+pub mod HeaderLocal
+pub mod DeclarationLocal
+pub mod ItemLocal
+pub mod FrontLaws
+pub mod DesignLaws
+pub mod TextLaws

@@ -1,0 +1,222 @@
+//! Widths (IEEE 1364-2005, 5.4, for operands of one width).
+
+ghost use Rattle.std.specs.Prelude.{◌≡◌, ◌==◌, ◌^◌, ◌≤◌, nat_lt, length};
+ghost use Rattle.net_core.specs.View.{netlist_of, tree_of, trees_of, right_of, statement_of, statements_of};
+ghost use Rattle.net_core.specs.Width as width;
+ghost use Rattle.net_core.specs.Width.{register_widths, memory_widths};
+ghost use Rattle.verilog_grammar.specs.FormedScope.{scope_before};
+
+use crate::formed::scope::{memory_width, net_width, register_width, words_width};
+use net_core::design::Design;
+use net_core::tree::{Expr, Net, Op, Parts, Right, Stmt, Stmts, UnaryOp, Word};
+
+/// Whether a number fits its width.
+fn is_small(w: Word) -> bool
+    requires { w.width ≤ 64 }
+    ensures { result ≡ nat_lt w.value (2 ^ w.width) }
+{
+    u128::from(w.value) < 1u128 << w.width
+}
+
+/// Whether a number fits its width, which is of 1 to 64 bits.
+pub fn word_fits(w: Word) -> bool
+    ensures { result ≡ width.word_fits w }
+{
+    w.width > 0 && w.width <= 64 && is_small(w)
+}
+
+fn const_width(w: Word) -> u8
+    ensures { result ≡ width.const_width w }
+{
+    if w.width <= 64 && is_small(w) {
+        w.width
+    } else {
+        0
+    }
+}
+
+fn same_width(a: u8, b: u8) -> u8
+    ensures { result ≡ width.same_width a b }
+{
+    if a == b { a } else { 0 }
+}
+
+fn test_width(a: u8, b: u8) -> u8
+    ensures { result ≡ width.test_width a b }
+{
+    if a > 0 && a == b { 1 } else { 0 }
+}
+
+/// The width of an operator between operands of these widths, or 0.
+pub fn op_width(op: Op, a: u8, b: u8) -> u8
+    ensures { result ≡ width.op_width op a b }
+{
+    match op {
+        Op::Add | Op::Sub | Op::Mul | Op::And | Op::Or | Op::Xor => same_width(a, b),
+        Op::ShiftLeft | Op::ShiftRight => { if b > 0 { a } else { 0 } }
+        Op::Equal | Op::NotEqual | Op::Less | Op::LessEqual | Op::Greater | Op::GreaterEqual => {
+            test_width(a, b)
+        }
+    }
+}
+
+/// The width of an operator before an operand of this width, or 0.
+pub fn unary_width(unary_op: UnaryOp, a: u8) -> u8
+    ensures { result ≡ width.unary_width unary_op a }
+{
+    match unary_op {
+        UnaryOp::Not => a,
+        UnaryOp::ReduceOr => { if a > 0 { 1 } else { 0 } }
+    }
+}
+
+/// The width of the bits of a net of `w` bits from `high` down to `low`, or 0: a net of one bit has no selects.
+pub fn part_select_width(w: u8, high: u8, low: u8) -> u8
+    ensures { result ≡ width.part_select_width w high low }
+{
+    if w >= 2 && low <= high && high < w {
+        high + 1 - low
+    } else {
+        0
+    }
+}
+
+/// The width of a word of `cell` bits at an index of `i` bits, in a memory whose index has `index` bits, or 0.
+pub fn memory_word_width(i: u8, index: u8, memory_word: u8) -> u8
+    ensures { result ≡ width.memory_word_width i index memory_word }
+{
+    if i > 0 && i == index { memory_word } else { 0 }
+}
+
+/// The width of a choice by a condition of `c` bits between two values, or 0.
+pub fn conditional_width(c: u8, a: u8, b: u8) -> u8
+    ensures { result ≡ width.conditional_width c a b }
+{
+    if c == 1 && a == b { a } else { 0 }
+}
+
+fn concatenation_width(a: u8, b: u8) -> u8
+    ensures { result ≡ width.concatenation_width a b }
+{
+    if a > 0 && b > 0 && u16::from(a) + u16::from(b) <= 64 {
+        a + b
+    } else {
+        0
+    }
+}
+
+/// Whether two sides have one width.
+pub fn same(a: u8, b: u8) -> bool
+    ensures { result ≡ width.same a b }
+{
+    a > 0 && a == b
+}
+
+/// The width of an expression where so many wires stand before, or 0.
+#[cycle(width_of)]
+pub fn width_of(design: &Design, before: usize, e: &Expr<Net>) -> u8
+    requires { before ≤ length design.now.wires.items }
+    ensures { result ≡ width.width_of (scope_before (netlist_of design.now) before) (tree_of e.now) }
+{
+    match e {
+        Expr::Const(w) => const_width(*w),
+        Expr::Read(n) => net_width(design, before, *n),
+        Expr::Bit(n, i) => part_select_width(net_width(design, before, *n), *i, *i),
+        Expr::PartSelect(n, high, low) => part_select_width(
+            net_width(design, before, *n),
+            *high,
+            *low,
+        ),
+        Expr::MemoryWord(m, i) => {
+            let (index, memory_word) = words_width(design, *m);
+            memory_word_width(width_of(design, before, i), index, memory_word)
+        }
+        Expr::Unary(unary_op, a) => unary_width(*unary_op, width_of(design, before, a)),
+        Expr::Binary(op, a, b) => {
+            let left = width_of(design, before, a);
+            let right = width_of(design, before, b);
+            op_width(*op, left, right)
+        }
+        Expr::Conditional(c, a, b) => {
+            let condition = width_of(design, before, c);
+            let first = width_of(design, before, a);
+            let second = width_of(design, before, b);
+            conditional_width(condition, first, second)
+        }
+        Expr::Concatenation(parts) => parts_width(design, before, parts),
+    }
+}
+
+#[cycle(width_of)]
+fn parts_width(design: &Design, before: usize, parts: &Parts<Net>) -> u8
+    requires { before ≤ length design.now.wires.items }
+    ensures { result ≡ width.parts_width (scope_before (netlist_of design.now) before) (trees_of parts.now) }
+{
+    match parts {
+        Parts::Last(a) => width_of(design, before, a),
+        Parts::More(a, more) => {
+            let front = width_of(design, before, a);
+            concatenation_width(front, parts_width(design, before, more))
+        }
+    }
+}
+
+/// The width of the right side of a wire, or 0.
+pub fn right_width(design: &Design, before: usize, right: &Right<Net>) -> u8
+    requires { before ≤ length design.now.wires.items }
+    ensures { result ≡ width.right_width (scope_before (netlist_of design.now) before) (right_of right.now) }
+{
+    match right {
+        Right::Plain(e) => width_of(design, before, e),
+        Right::Quotient(a, b) | Right::Remainder(a, b) => same_width(
+            net_width(design, before, *a),
+            net_width(design, before, *b),
+        ),
+    }
+}
+
+/// Whether a condition has width 1.
+fn is_condition(design: &Design, before: usize, c: &Expr<Net>) -> bool
+    requires { before ≤ length design.now.wires.items }
+    ensures { result ≡ (width.width_of (scope_before (netlist_of design.now) before) (tree_of c.now) == 1) }
+{
+    width_of(design, before, c) == 1
+}
+
+/// Whether conditions have width 1, and both sides of each assignment one width.
+#[cycle(stmt_typed)]
+pub fn stmt_typed(design: &Design, before: usize, stmt: &Stmt<Net>) -> bool
+    requires { before ≤ length design.now.wires.items }
+    ensures { result ≡ width.statement_typed (scope_before (netlist_of design.now) before) (register_widths design.now.declared.items) (memory_widths design.now.declared.items) (statement_of stmt.now) }
+{
+    match stmt {
+        Stmt::Block(more) => stmts_typed(design, before, more),
+        Stmt::If(c, a) => is_condition(design, before, c) && stmt_typed(design, before, a),
+        Stmt::IfElse(c, a, b) => {
+            is_condition(design, before, c)
+                & (stmt_typed(design, before, a) & stmt_typed(design, before, b))
+        }
+        Stmt::Set(r, e) => same(
+            register_width(&design.declared, *r),
+            width_of(design, before, e),
+        ),
+        Stmt::Store(m, i, e) => {
+            let (index, memory_word) = memory_width(&design.declared, *m);
+            same(index, width_of(design, before, i))
+                && same(memory_word, width_of(design, before, e))
+        }
+    }
+}
+
+#[cycle(stmt_typed)]
+fn stmts_typed(design: &Design, before: usize, stmts: &Stmts<Net>) -> bool
+    requires { before ≤ length design.now.wires.items }
+    ensures { result ≡ width.statements_typed (scope_before (netlist_of design.now) before) (register_widths design.now.declared.items) (memory_widths design.now.declared.items) (statements_of stmts.now) }
+{
+    match stmts {
+        Stmts::End => true,
+        Stmts::Then(a, more) => {
+            stmt_typed(design, before, a) && stmts_typed(design, before, more)
+        }
+    }
+}

@@ -1,0 +1,13 @@
+pub mod Values
+pub mod State
+pub mod Arithmetic
+pub mod Program
+pub mod Pointers
+pub mod Memory
+pub mod Atomics
+pub mod Helpers
+pub mod Step
+pub mod Runs
+pub mod Touched
+pub mod Ranges
+pub mod MachineLaws
