@@ -1,6 +1,6 @@
 // The eleven registers.
 
-ghost use Rattle.std.specs.Prelude.{◌≡◌, ◌≤◌, ◌∷◌, drop, length, get_or, slice_set};
+ghost use Rattle.std.specs.Prelude.{◌≡◌, ◌≤◌, ◌∷◌, drop, length, replicate, get_or, slice_set};
 ghost use Rattle.std.specs.Option.{option_map};
 ghost use Rattle.xdp_machine.specs.Values as seen;
 ghost use Rattle.xdp_machine.specs.State.{register, put, first_registers};
@@ -27,7 +27,10 @@ impl Model for Registers {
 }
 
 impl Registers {
-    pub fn new() -> Registers {
+    /// All hold nothing.
+    pub fn new() -> Registers
+        ensures { result ≡ replicate 11 seen.Unset }
+    {
         Registers {
             values: [Value::Unset; 11],
         }

@@ -80,7 +80,10 @@ fn to_slot(size: Size, at: usize, slot: &Value, value: &Value) -> Option<Value>
 }
 
 impl Stack {
-    pub fn new() -> Stack {
+    /// All slots hold nothing.
+    pub fn new() -> Stack
+        ensures { result ≡ replicate 64 seen.Unset }
+    {
         Stack {
             slots: [Value::Unset; 64],
         }

@@ -17,12 +17,18 @@ pub struct State {
 }
 
 impl State {
-    ghost use Rattle.std.specs.Prelude.{◌≡◌, List, ℕ};
+    ghost use Rattle.std.specs.Prelude.{◌≡◌, List, ℕ, replicate};
+    ghost use Rattle.xdp_machine.specs.Values as seen;
     ghost use Rattle.xdp_maps.specs.State.{MapState};
     ghost use Rattle.xdp_machine.specs.State.{start};
     ghost use Rattle.xdp_state.specs.Machines.{machine_of};
 
-    pub fn new() -> State {
+    /// Nothing is held, and the place is the first.
+    pub fn new() -> State
+        ensures registers { result.registers ≡ replicate 11 seen.Unset }
+        ensures stack { result.stack ≡ replicate 64 seen.Unset }
+        ensures rest { (result.ifindex ≡ 0) × (result.target ≡ 0) × (result.place ≡ 0) }
+    {
         State {
             registers: Registers::new(),
             stack: Stack::new(),
