@@ -1,0 +1,5 @@
+pub mod Values
+pub mod Sites
+pub mod Kept
+pub mod Running
+pub mod Rows
