@@ -1,0 +1,6 @@
+use Rattle.std.proofs.Common.{◌≡◌, take}
+use Rattle.unfold_core.proofs.Laid.{laid}
+use Rattle.unfold_core.proofs.units.units_of.Given as goal
+
+abbrev pub invariant-loop-insn : goal.invariant-loop-insn
+invariant-loop-insn l = l.units.items ≡ laid (take l.insn-index l.insns)
