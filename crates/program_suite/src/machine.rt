@@ -1,6 +1,7 @@
 //! Cases of the sequential machine.
 
 use crate::bytes::Named;
+use crate::graph;
 use crate::maps::Tables;
 use crate::numbers::{front, number, number_32};
 use anyhow::{Result, ensure};
@@ -78,6 +79,7 @@ impl Machine {
         let answer = match verb {
             "run" => self.run(tables, &named.bytes(rest)?, &named.bytes(first)?)?,
             "compute" => self.compute(tables, &named.bytes(first)?, rest)?,
+            "loops" | "walk" => self.ask(tables.maps.decls(), &named.bytes(first)?, verb)?,
             _ => return Ok(None),
         };
         Ok(Some(answer))
@@ -90,6 +92,14 @@ impl Machine {
         let digits = hex::encode(self.alloc, frame.bytes())?;
         let pairs = tables.show()?;
         Ok(format!(in self.alloc; "{end}, frame {digits}{pairs}")?)
+    }
+
+    // What is asked of the program's graph.
+    fn ask(&self, decls: &[MapDecl], hole: &[u8], verb: &str) -> Result<String> {
+        match self.program(decls, hole)? {
+            Some(program) => graph::answer(self.alloc, &program, verb),
+            None => Ok(String::from_str(self.alloc, "no program")?),
+        }
     }
 
     // A run over a frame of numbers.

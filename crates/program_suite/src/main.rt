@@ -1,4 +1,4 @@
-//! Cases of words, instructions, objects, maps and the sequential machine, in files of lines.
+//! Cases of words, instructions, objects, maps, the graph of a program and the sequential machine, in files of lines.
 //!
 //! The program is called with the names of the files, and does their lines in order. An empty line and one that begins with
 //! `# ` is nothing, and ` # ` begins a comment in any other. A line that asks prints itself, ` => ` and its answer, whose
@@ -69,6 +69,12 @@
 //!     copy MAP KEY VALUE              other maps of the same declarations first get this pair, become the same as these, and go on
 //!                                     in their place: the answer of that update
 //!
+//! Of the graph of the program of the case (`unfold_core`, `kind_core`), with a BYTE-WORD in the hole, or its first refusal, by place and
+//! number:
+//!
+//!     loops [CODE]                    how many loops, and the first and the last place of each
+//!     walk [CODE]                     the nodes from the start on, along the last edge of each, by place and copies; 100 at most
+//!
 //! Of the program of the case (`xdp_object`, `xdp_seq`, `xdp_state`): how it ends, or that its parts make up no program; the frame
 //! that it leaves, and the pairs of each map:
 //!
@@ -79,6 +85,7 @@
 mod bits;
 mod bytes;
 mod elf;
+mod graph;
 mod machine;
 mod maps;
 mod numbers;
