@@ -8,7 +8,7 @@ use Rattle.beat_core.specs.Beats.{bytes_of_beat, first_beat, first_beats, beat_c
 use Rattle.beat_core.specs.Ports.{Offered, Arrival, offered, offers_of, arrivals_among, Given, given, answers_among}
 use Rattle.beat_core.specs.declared.frame.Timed.{Timed}
 use Rattle.beat_core.specs.declared.answer.Answer.{Answer}
-use Rattle.beat_core.specs.Laws.{IsFrame, HasFrame, IsPacket, arrival_of}
+use Rattle.beat_core.specs.Laws.{HasFrame, IsPacket, arrival_of}
 use Rattle.beat_core.proofs.BeatLaws.{bytes_of_beat-first_beat}
 use Rattle.list_laws.specs.Bytes.{IsBytes}
 use Rattle.list_laws.proofs.ByteLaws.{IsBytes-drop}
