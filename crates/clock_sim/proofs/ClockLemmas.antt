@@ -11,11 +11,11 @@ use Rattle.net_core.specs.Nets.{Netlist, WireTree, AssignTree, StatementTree}
 use Rattle.net_core.specs.Value.{nothing, value, right_value}
 use Rattle.net_core.specs.Width.{port_width, output_width, register_widths, memory_widths, net_width, memory_width, scope, full_scope, wire_widths, wires_typed, same, width_of, right_width, statement_typed, statements_all_typed, assigns_typed}
 use Rattle.net_core.specs.Clock.{Stored, net_value, memory_word_value, env, env_of, with_wires, edge, after, assigned}
-use Rattle.net_core.specs.Ports.{port_list}
+use Rattle.net_core.specs.Ports.{port_list, FitOutputs}
 use Rattle.net_core.specs.Suits.{IsOfWidth, Suits}
 use Rattle.net_core.proofs.WidthLaws.{value_fits, right_fits}
 use Rattle.list_laws.proofs.PlaceLaws.{some_below}
-use Rattle.clock_sim.specs.Ready.{ArePorts, IsStored, FitOutputs}
+use Rattle.clock_sim.specs.Ready.{ArePorts, IsStored}
 use Rattle.clock_sim.proofs.StoredLemmas.{same_sides, done_kept}
 
 -- what has a width is there
@@ -104,8 +104,5 @@ module _ (d : Netlist) (ports : d.ports ≡ port_list) (ins : List Word) (are : 
         by_test true e x y = subst (λ k. (value (env_of d ins s) a.value).value < 2 ^ output_width (get_or d.ports k (record { output = false; width = 0 }))) (eqb-true a.port port e) x
         by_test false e x y = y
 
-    at_port : (as_ : List AssignTree) → IsTrue (assigns_typed d as_) → (port : ℕ) → (assigned (env_of d ins s) as_ port).value < 2 ^ output_width (get_or port_list port (record { output = false; width = 0 }))
-    at_port as_ h port = subst (λ ps. (assigned (env_of d ins s) as_ port).value < 2 ^ output_width (get_or ps port (record { output = false; width = 0 }))) ports (shown_small as_ h port)
-
-    pub outputs_fit : (as_ : List AssignTree) → IsTrue (assigns_typed d as_) → FitOutputs (assigned (env_of d ins s) as_)
-    outputs_fit as_ h = record { frame = at_port as_ h 9; bytes = at_port as_ h 10; verdict = at_port as_ h 12; target = at_port as_ h 13; value = at_port as_ h 20 }
+    pub outputs_fit : (as_ : List AssignTree) → IsTrue (assigns_typed d as_) → FitOutputs (λ port. (assigned (env_of d ins s) as_ port).value)
+    outputs_fit as_ h port = subst (λ ps. (assigned (env_of d ins s) as_ port).value < 2 ^ output_width (get_or ps port (record { output = false; width = 0 }))) ports (shown_small as_ h port)

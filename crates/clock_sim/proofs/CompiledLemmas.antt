@@ -3,6 +3,7 @@ use Rattle.std.specs.Prelude.{replicate, nat_lt, ◌==◌, IsTrue}
 use Rattle.std.proofs.Common.{◌≡◌, ℕ, zero, suc, ◌+◌, ◌^◌, ◌<◌, ◌≤◌, true, false, Option, Some, None, List, [], ◌∷◌, ◌++◌, length, get_or, map, refl, sym, ap, ◌∙◌, subst, arith, ⊎_elim}
 use Rattle.std.proofs.lemmas.Bool.{and_parts, cases_lt, ltb-true, eqb-true}
 use Rattle.std.proofs.lemmas.List.{length-map, length-replicate, get_or-replicate, get_or_append_left, get_or_past}
+use Rattle.net_core.specs.declared.ports.TheConstants.{PORT_COUNT}
 use Rattle.net_core.specs.declared.tree.Word.{Word}
 use Rattle.net_core.specs.declared.tree.Net.{Net}
 use Rattle.net_core.specs.declared.tree.Net.TheVariants as net
@@ -20,19 +21,18 @@ use Rattle.clock_sim.specs.declared.step.Step.{Step}
 use Rattle.clock_sim.specs.declared.builder.Operand.{Operand}
 use Rattle.clock_sim.specs.declared.operands.Operands.{Operands}
 use Rattle.clock_sim.specs.declared.edge.Store.{Store}
-use Rattle.clock_sim.specs.declared.outputs.Shown.{Shown}
 use Rattle.clock_sim.specs.declared.wires.Divisor.{Divisor}
 use Rattle.clock_sim.specs.declared.compile.Parts.{Parts}
 use Rattle.clock_sim.specs.declared.clock.CompiledDesign.{CompiledDesign}
 use Rattle.clock_sim.specs.Ready.{IsStored}
 use Rattle.clock_sim.specs.Steps.{run}
 use Rattle.clock_sim.specs.Flat.{Flat, Situation, IsFine, numbers, contents_of, Starts, Numbers, Gives, Climb, IsConsistent, Extends, AreOperands, no_operand, operand_in, widths_in, scope_of, env_at, Knows, WriteFrom, AreReading, AreFree}
-use Rattle.clock_sim.specs.Edges.{widths_at, sizes_of, Matches, AreTyped, AddsWires, AreKnown, AreDivided, divisors_from, first_zero, AreDivisors, Stops, AreShown, Shows, ShowsAll, AreSlots, AreStores, Leads, applied, AreStatements, ExecutesAll, IsShown}
+use Rattle.clock_sim.specs.Edges.{widths_at, sizes_of, Matches, AreTyped, AddsWires, AreKnown, AreDivided, divisors_from, first_zero, AreDivisors, Stops, AreShown, ShowsAll, AreSlots, AreStores, Leads, applied, AreStatements, ExecutesAll, IsShown}
 use Rattle.clock_sim.specs.Orders.{AreGroups, Reordered}
 use Rattle.clock_sim.specs.Layouts.{port_operands, operands_from, slots_in, constants_in, with_words, stored_of, ShowsPorts, Compiles, IsCompiled, IsReady}
 use Rattle.clock_sim.proofs.BuilderLemmas.{extends_more, extends_length, numbers_later, knows_later, operands_later}
 use Rattle.clock_sim.proofs.WireLemmas.{width_get, word_get, index_get, scope_same, divisors_there, stops_all}
-use Rattle.clock_sim.proofs.StatementLemmas.{leads_later}
+use Rattle.clock_sim.proofs.StatementLemmas.{slots_more, leads_later}
 use Rattle.clock_sim.proofs.StepLemmas.{number_at}
 use Rattle.clock_sim.proofs.StoredLemmas.{first_is_stored}
 use Rattle.clock_sim.proofs.RunLemmas.{with_words_length, with_words_above, with_words_at, stored_is}
@@ -84,16 +84,14 @@ divisors_more : (n m : ℕ) → n ≤ m → (ds : List Divisor) → AreDivisors 
 divisors_more n m le [] h = tt
 divisors_more n m le (d ∷ ds) h = let lt : d.slot < n = h.0 in (omega arith, divisors_more n m le ds h.1)
 
-shown_more : (n m : ℕ) → n ≤ m → (s : Shown) → IsShown s n → IsShown s m
-shown_more n m le s h =
-    let a = h.in_ready in let b = h.out_valid in let c = h.out_data in let d = h.out_bytes in let e = h.out_last in let f = h.out_verdict in let g = h.out_target in let i = h.out_reload in let j = h.host_value in
-    record { in_ready = omega arith; out_valid = omega arith; out_data = omega arith; out_bytes = omega arith; out_last = omega arith; out_verdict = omega arith; out_target = omega arith; out_reload = omega arith; host_value = omega arith }
+shown_more : (n m : ℕ) → n ≤ m → (s : List ℕ) → IsShown s n → IsShown s m
+shown_more n m le s h = record { ports = h.ports; slots = slots_more n m le s h.slots }
 
 pub compiles :
     (d : Netlist) (old wired shown new : Flat) (n n' : Operands) (next next' : List ℕ) (stores stores' : List Store) (parts : Parts)
     → Extends old wired → AreKnown old wired n n' d.wires → AreDivided n' d.wires → AreOperands n' (length wired.slots)
     → parts.divisors.items ≡ divisors_from n' 0 d.wires
-    → Extends wired shown → IsShown parts.shown (length shown.slots) → ShowsAll wired shown n' d.assigns parts.shown
+    → Extends wired shown → IsShown parts.shown.items (length shown.slots) → ShowsAll wired shown n' d.assigns parts.shown.items
     → Extends shown new → IsConsistent new → AreSlots next' (length new.slots) → AreStores stores' (length new.slots) → stores ≡ [] → ExecutesAll shown new n' d.always next next' stores stores'
     → Compiles d old new n next next' stores' parts
 compiles d old wired shown new n n' next next' stores stores' parts e known divided there divisors f is_shown shows g builder slots in_slots none executes =
@@ -103,24 +101,13 @@ compiles d old wired shown new n n' next next' stores stores' parts e known divi
       builder = builder;
       extends = extends_more old wired new e last;
       divisors = subst (λ l. AreDivisors l (length new.slots)) (sym divisors) (divisors_there n' (length new.slots) (operands_later n' (length wired.slots) (length new.slots) le there) 0 d.wires divided);
-      shown = shown_more (length shown.slots) (length new.slots) (extends_length shown new g) parts.shown is_shown;
+      shown = shown_more (length shown.slots) (length new.slots) (extends_length shown new g) parts.shown.items is_shown;
       next = slots;
       stores = in_slots;
       stops = λ ds k. subst (λ l. Stops ds new l (λ x. stopping d x.ins x.stored)) (sym divisors) (stops_all ds new n' (λ x. with_wires x.ins x.stored [] d.wires) d.wires (knows_later ds wired new n' (λ x. with_wires x.ins x.stored [] d.wires) last (known.knows ds k)) divided);
       shows = λ ds k.
           let w = known.knows ds k in
-          let one = λ (slot : ℕ) (port : ℕ) (s : Shows wired shown n' d.assigns port slot). numbers_later ds shown new slot (λ x. (assigned (env_of d x.ins x.stored) d.assigns port).value) g (s.shows ds (λ x. with_wires x.ins x.stored [] d.wires) w) in
-          record {
-            in_ready = one parts.shown.in_ready 6 shows.in_ready;
-            out_valid = one parts.shown.out_valid 8 shows.out_valid;
-            out_data = one parts.shown.out_data 9 shows.out_data;
-            out_bytes = one parts.shown.out_bytes 10 shows.out_bytes;
-            out_last = one parts.shown.out_last 11 shows.out_last;
-            out_verdict = one parts.shown.out_verdict 12 shows.out_verdict;
-            out_target = one parts.shown.out_target 13 shows.out_target;
-            out_reload = one parts.shown.out_reload 14 shows.out_reload;
-            host_value = one parts.shown.host_value 20 shows.host_value;
-          };
+          λ port lt. numbers_later ds shown new (get_or parts.shown.items port 0) (λ x. (assigned (env_of d x.ins x.stored) d.assigns port).value) g ((shows port lt).shows ds (λ x. with_wires x.ins x.stored [] d.wires) w);
       leads = λ ds k l.
           let w = knows_later ds wired shown n' (λ x. with_wires x.ins x.stored [] d.wires) f (known.knows ds k) in
           let first = leads_later ds old shown next [] (λ x. x.stored) (extends_more old wired shown e f) tt l in
@@ -154,10 +141,10 @@ from_length : (ws : List ℕ) (at : ℕ) → length (operands_from at ws) ≡ le
 from_length [] at = refl
 from_length (w ∷ ws) at = ap suc (from_length ws (suc at))
 
-port_slot : (k : ℕ) → k < 21 → (get_or port_operands k no_operand).slot ≡ k
+port_slot : (k : ℕ) → k < PORT_COUNT → (get_or port_operands k no_operand).slot ≡ k
 port_slot k lt =
     let e : slots_in port_operands ≡ numbers_up 0 (widths_at port_operands) = refl in
-    let c : length (widths_at port_operands) ≡ 21 = refl in
+    let c : length (widths_at port_operands) ≡ PORT_COUNT = refl in
     let n = numbers_up_at (widths_at port_operands) 0 k 0 (omega arith) in
     slot_get port_operands k ∙ ap (λ l. get_or l k 0) e ∙ n ∙ (let z : 0 + k ≡ k = omega arith in z)
 
@@ -174,41 +161,41 @@ port_same (suc k) =
     let e : widths_at back ≡ map input_width ports = refl in
     width_get back k ∙ ap (λ l. get_or l k 0) e ∙ sym (input_get ports k)
 
-module _ (d : Netlist) (t : IsTyped d) (n : Operands) (ports : n.ports.items ≡ port_operands) (registers : n.registers.items ≡ operands_from 21 (register_widths d.declared)) (memories : sizes_of n.memories.items ≡ memory_widths d.declared) (wires : n.wires.items ≡ []) (c : Flat) (steps : c.steps ≡ []) (slots : c.slots ≡ replicate (21 + length (register_widths d.declared)) None) where
+module _ (d : Netlist) (t : IsTyped d) (n : Operands) (ports : n.ports.items ≡ port_operands) (registers : n.registers.items ≡ operands_from PORT_COUNT (register_widths d.declared)) (memories : sizes_of n.memories.items ≡ memory_widths d.declared) (wires : n.wires.items ≡ []) (c : Flat) (steps : c.steps ≡ []) (slots : c.slots ≡ replicate (PORT_COUNT + length (register_widths d.declared)) None) where
   pub matches_first : Matches d n
   matches_first = record {
     ports = λ k. ap (λ l. (get_or l k no_operand).width) ports ∙ port_same k ∙ ap (λ ps. port_width ps k) (sym t.ports);
-    registers = ap widths_at registers ∙ from_widths (register_widths d.declared) 21;
+    registers = ap widths_at registers ∙ from_widths (register_widths d.declared) PORT_COUNT;
     memories = memories;
   }
 
   pub builder_first : IsConsistent c
   builder_first = record { climb = subst (λ l. Climb 0 l) (sym steps) tt; reading = subst (λ l. AreReading (length c.slots) l) (sym steps) tt; free = subst (λ l. AreFree c.slots l) (sym steps) tt }
 
-  pub slots_count : length c.slots ≡ 21 + length (register_widths d.declared)
-  slots_count = ap length slots ∙ length-replicate (21 + length (register_widths d.declared)) None
+  pub slots_count : length c.slots ≡ PORT_COUNT + length (register_widths d.declared)
+  slots_count = ap length slots ∙ length-replicate (PORT_COUNT + length (register_widths d.declared)) None
 
-  port_in : (k : ℕ) → 0 < (get_or n.ports.items k no_operand).width → k < 21
+  port_in : (k : ℕ) → 0 < (get_or n.ports.items k no_operand).width → k < PORT_COUNT
   port_in k some =
       let h = subst (λ l. 0 < (get_or l k no_operand).width) ports some in
       let lt = some_below (λ p. p.width) no_operand port_operands k refl h in
-      let e : length port_operands ≡ 21 = refl in
+      let e : length port_operands ≡ PORT_COUNT = refl in
       omega arith
 
   port_slot_in : (k : ℕ) → 0 < (get_or n.ports.items k no_operand).width → (get_or n.ports.items k no_operand).slot ≡ k
   port_slot_in k some = ap (λ l. (get_or l k no_operand).slot) ports ∙ port_slot k (port_in k some)
 
   pub registers_count : length n.registers.items ≡ length (register_widths d.declared)
-  registers_count = ap length registers ∙ from_length (register_widths d.declared) 21
+  registers_count = ap length registers ∙ from_length (register_widths d.declared) PORT_COUNT
 
   register_in : (r : ℕ) → 0 < (get_or n.registers.items r no_operand).width → r < length (register_widths d.declared)
   register_in r some = let lt = some_below (λ p. p.width) no_operand n.registers.items r refl some in let e = registers_count in omega arith
 
-  register_slot : (r : ℕ) → r < length (register_widths d.declared) → get_or (slots_in n.registers.items) r 0 ≡ 21 + r
-  register_slot r lt = ap (λ l. get_or (slots_in l) r 0) registers ∙ ap (λ l. get_or l r 0) (from_slots (register_widths d.declared) 21) ∙ numbers_up_at (register_widths d.declared) 21 r 0 lt
+  register_slot : (r : ℕ) → r < length (register_widths d.declared) → get_or (slots_in n.registers.items) r 0 ≡ PORT_COUNT + r
+  register_slot r lt = ap (λ l. get_or (slots_in l) r 0) registers ∙ ap (λ l. get_or l r 0) (from_slots (register_widths d.declared) PORT_COUNT) ∙ numbers_up_at (register_widths d.declared) PORT_COUNT r 0 lt
 
   register_width : (r : ℕ) → (get_or n.registers.items r no_operand).width ≡ get_or (register_widths d.declared) r 0
-  register_width r = width_get n.registers.items r ∙ ap (λ l. get_or l r 0) (ap widths_at registers ∙ from_widths (register_widths d.declared) 21)
+  register_width r = width_get n.registers.items r ∙ ap (λ l. get_or l r 0) (ap widths_at registers ∙ from_widths (register_widths d.declared) PORT_COUNT)
 
   slot_small : (k : Net) → 0 < (operand_in n k).width → (operand_in n k).slot < length c.slots
   slot_small (net.Port k) some = let lt = port_in k some in let e = port_slot_in k some in let s = slots_count in omega arith
@@ -262,7 +249,7 @@ module _ (d : Netlist) (t : IsTyped d) (n : Operands) (ports : n.ports.items ≡
   knows_first = record { net = net_first; cells = record { fit = memory_word_first } }
 
   pub next_first : AreSlots (slots_in n.registers.items) (length c.slots)
-  next_first = subst (λ l. AreSlots l (length c.slots)) (sym (ap slots_in registers ∙ from_slots (register_widths d.declared) 21)) (below (register_widths d.declared) 21 (let e = slots_count in omega arith))
+  next_first = subst (λ l. AreSlots l (length c.slots)) (sym (ap slots_in registers ∙ from_slots (register_widths d.declared) PORT_COUNT)) (below (register_widths d.declared) PORT_COUNT (let e = slots_count in omega arith))
     where
       below : (ws : List ℕ) (at : ℕ) → at + length ws ≤ length c.slots → AreSlots (numbers_up at ws) (length c.slots)
       below [] at le = tt
@@ -342,18 +329,8 @@ module _ (ds : List Declared) (constants : List (Option ℕ)) (old new : List St
   pub stops_moved : (divisors : List Divisor) (f : Situation → Option ℕ) → Stops ds before divisors f → Stops ds moved divisors f
   stops_moved divisors f h = record { at = λ x slots fine s. ap (first_zero divisors) (order.same (contents_of x.stored) slots s.room) ∙ h.at x slots fine (starts_moved x slots s) }
 
-  pub shows_moved : (shown : Shown) (at : ℕ → Situation → Word) → ShowsPorts ds before shown at → ShowsPorts ds moved shown at
-  shows_moved shown at h = record {
-    in_ready = numbers_moved shown.in_ready (λ x. (at 6 x).value) h.in_ready;
-    out_valid = numbers_moved shown.out_valid (λ x. (at 8 x).value) h.out_valid;
-    out_data = numbers_moved shown.out_data (λ x. (at 9 x).value) h.out_data;
-    out_bytes = numbers_moved shown.out_bytes (λ x. (at 10 x).value) h.out_bytes;
-    out_last = numbers_moved shown.out_last (λ x. (at 11 x).value) h.out_last;
-    out_verdict = numbers_moved shown.out_verdict (λ x. (at 12 x).value) h.out_verdict;
-    out_target = numbers_moved shown.out_target (λ x. (at 13 x).value) h.out_target;
-    out_reload = numbers_moved shown.out_reload (λ x. (at 14 x).value) h.out_reload;
-    host_value = numbers_moved shown.host_value (λ x. (at 20 x).value) h.host_value;
-  }
+  pub shows_moved : (shown : List ℕ) (at : ℕ → Situation → Word) → ShowsPorts ds before shown at → ShowsPorts ds moved shown at
+  shows_moved shown at h port lt = numbers_moved (get_or shown port 0) (λ x. (at port x).value) (h port lt)
 
   pub leads_moved : (next : List ℕ) (stores : List Store) (f : Situation → Stored) → Leads ds before next stores f → Leads ds moved next stores f
   leads_moved next stores f h = record {
@@ -363,7 +340,7 @@ module _ (ds : List Declared) (constants : List (Option ℕ)) (old new : List St
   }
 
 module _ (p : CompiledDesign) (n : Operands) (c : Flat) (constants : List (Option ℕ)) (flat : List Step) (first : List ℕ) (t : IsTyped (netlist_of p.design))
-    (steps : c.steps ≡ []) (slots : c.slots ≡ replicate (21 + length (register_widths p.design.declared.items)) None) (next : first ≡ slots_in n.registers.items)
+    (steps : c.steps ≡ []) (slots : c.slots ≡ replicate (PORT_COUNT + length (register_widths p.design.declared.items)) None) (next : first ≡ slots_in n.registers.items)
     (made : Compiles (netlist_of p.design) c (record { steps = flat; slots = constants }) n first p.next.items p.stores.items (record { divisors = p.divisors; shown = p.shown }))
     (knows : Knows p.design.declared.items c n (λ x. [])) (leads : Leads p.design.declared.items c (slots_in n.registers.items) [] (λ x. x.stored)) (count : length p.next.items ≡ length (register_widths p.design.declared.items)) (order : Reordered (length constants) flat p.steps.items) (groups : AreGroups p.groups.items p.steps.items) where
   abbrev built : Flat
@@ -375,16 +352,16 @@ module _ (p : CompiledDesign) (n : Operands) (c : Flat) (constants : List (Optio
     reading = order.reading;
     free = order.free constants made.builder.free;
     groups = groups;
-    own = order.own (21 + length (register_widths p.design.declared.items)) (own_steps c built (21 + length (register_widths p.design.declared.items)) steps slots made.extends);
-    first = constants_after c built (21 + length (register_widths p.design.declared.items)) steps slots made.extends;
-    room = room_after c built (21 + length (register_widths p.design.declared.items)) steps slots made.extends;
+    own = order.own (PORT_COUNT + length (register_widths p.design.declared.items)) (own_steps c built (PORT_COUNT + length (register_widths p.design.declared.items)) steps slots made.extends);
+    first = constants_after c built (PORT_COUNT + length (register_widths p.design.declared.items)) steps slots made.extends;
+    room = room_after c built (PORT_COUNT + length (register_widths p.design.declared.items)) steps slots made.extends;
     divisors = made.divisors;
     shown = made.shown;
     next = made.next;
     count = count;
     stores = made.stores;
     stops = stops_moved p.design.declared.items constants flat p.steps.items order p.divisors.items (λ x. stopping (netlist_of p.design) x.ins x.stored) (made.stops p.design.declared.items knows);
-    shows = shows_moved p.design.declared.items constants flat p.steps.items order p.shown (λ port x. assigned (env_of (netlist_of p.design) x.ins x.stored) (netlist_of p.design).assigns port) (made.shows p.design.declared.items knows);
+    shows = shows_moved p.design.declared.items constants flat p.steps.items order p.shown.items (λ port x. assigned (env_of (netlist_of p.design) x.ins x.stored) (netlist_of p.design).assigns port) (made.shows p.design.declared.items knows);
     leads = leads_moved p.design.declared.items constants flat p.steps.items order p.next.items p.stores.items (λ x. after (netlist_of p.design) x.ins x.stored) (made.leads p.design.declared.items knows (subst (λ l. Leads p.design.declared.items c l [] (λ x. x.stored)) (sym next) leads));
   }
 
@@ -394,16 +371,16 @@ module _ (p : CompiledDesign) (n : Operands) (c : Flat) (constants : List (Optio
   abbrev begun : Stored
   begun = first_stored (netlist_of p.design)
 
-  pub stored_first : (all : List ℕ) (contents : List (List ℕ)) → all ≡ with_words 21 (numbers (first_words ds)) (constants_in constants) → contents ≡ map numbers (first_memories ds) → stored_of p all contents ≡ first_stored (netlist_of p.design)
+  pub stored_first : (all : List ℕ) (contents : List (List ℕ)) → all ≡ with_words PORT_COUNT (numbers (first_words ds)) (constants_in constants) → contents ≡ map numbers (first_memories ds) → stored_of p all contents ≡ first_stored (netlist_of p.design)
   stored_first all contents e b =
       let f = first_is_stored ds t.declared in
       let l = length-map (first_words ds) (λ (w : Word). w.value) in
       let g = f.registers in let r = compiled_is.room in let q = constants_length constants in
       stored_is ds all contents begun f
-      (λ k lt. ap (λ s. get_or s (21 + k) 0) e ∙ with_words_at (numbers (first_words ds)) 21 (constants_in constants) k (omega arith) (omega arith) ∙ number_at (first_words ds) k)
+      (λ k lt. ap (λ s. get_or s (PORT_COUNT + k) 0) e ∙ with_words_at (numbers (first_words ds)) PORT_COUNT (constants_in constants) k (omega arith) (omega arith) ∙ number_at (first_words ds) k)
       b
 
-  pub ready_first : (all : List ℕ) (contents : List (List ℕ)) (size : ℕ) → all ≡ with_words 21 (numbers (first_words ds)) (constants_in constants) → contents ≡ map numbers (first_memories ds) → size ≡ length (register_widths ds) → IsReady p all contents size
+  pub ready_first : (all : List ℕ) (contents : List (List ℕ)) (size : ℕ) → all ≡ with_words PORT_COUNT (numbers (first_words ds)) (constants_in constants) → contents ≡ map numbers (first_memories ds) → size ≡ length (register_widths ds) → IsReady p all contents size
   ready_first all contents size e b s =
       let f = first_is_stored ds t.declared in
       let l = length-map (first_words ds) (λ (w : Word). w.value) in
@@ -411,21 +388,21 @@ module _ (p : CompiledDesign) (n : Operands) (c : Flat) (constants : List (Optio
       record {
         constants = constants;
         compiled = compiled_is;
-        count = ap length e ∙ with_words_length (numbers (first_words ds)) 21 (constants_in constants) ∙ constants_length constants;
-        kept = λ k n h. let le = compiled_is.first k n h in ap (λ w. get_or w k 0) e ∙ with_words_above (numbers (first_words ds)) 21 (constants_in constants) k (omega arith) ∙ constants_get constants k n h;
+        count = ap length e ∙ with_words_length (numbers (first_words ds)) PORT_COUNT (constants_in constants) ∙ constants_length constants;
+        kept = λ k n h. let le = compiled_is.first k n h in ap (λ w. get_or w k 0) e ∙ with_words_above (numbers (first_words ds)) PORT_COUNT (constants_in constants) k (omega arith) ∙ constants_get constants k n h;
         stored = subst (λ w. IsStored ds w) (sym (stored_first all contents e b)) f;
         contents_count = ap length b ∙ length-map (first_memories ds) numbers ∙ f.memories;
         next_count = s ∙ sym count;
       }
 
-pub count_is : (ps : List Operand) (k : ℕ) (ws : List ℕ) → k ≡ length ps → ps ≡ operands_from 21 ws → k ≡ length ws
-count_is ps k ws e is = e ∙ ap length is ∙ from_length ws 21
+pub count_is : (ps : List Operand) (k : ℕ) (ws : List ℕ) → k ≡ length ps → ps ≡ operands_from PORT_COUNT ws → k ≡ length ws
+count_is ps k ws e is = e ∙ ap length is ∙ from_length ws PORT_COUNT
 
-pub write_at_room : (ds : List Declared) (c new : Flat) → c.slots ≡ replicate (21 + length (register_widths ds)) None → Extends c new → IsTrue (declared_typed ds) → 21 + length (numbers (first_words ds)) ≤ length (constants_in new.slots)
+pub write_at_room : (ds : List Declared) (c new : Flat) → c.slots ≡ replicate (PORT_COUNT + length (register_widths ds)) None → Extends c new → IsTrue (declared_typed ds) → PORT_COUNT + length (numbers (first_words ds)) ≤ length (constants_in new.slots)
 write_at_room ds c new slots e t =
     let f = (first_is_stored ds t).registers in
     let l = length-map (first_words ds) (λ (w : Word). w.value) in
-    let s = ap length slots ∙ length-replicate (21 + length (register_widths ds)) None in
+    let s = ap length slots ∙ length-replicate (PORT_COUNT + length (register_widths ds)) None in
     let le = extends_length c new e in
     let q = constants_length new.slots in
     omega arith

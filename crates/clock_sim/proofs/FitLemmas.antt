@@ -5,9 +5,9 @@ use Rattle.net_core.specs.declared.design.Port.{Port}
 use Rattle.net_core.specs.declared.ports.Inputs.{Inputs}
 use Rattle.net_core.specs.Value.{nothing, bit, word}
 use Rattle.net_core.specs.Width.{input_width, port_width}
-use Rattle.net_core.specs.Ports.{port_list, words_of, AreInputs}
+use Rattle.net_core.specs.Ports.{port_list, words_of, AreInputs, FitInputs}
 use Rattle.net_core.specs.Suits.{IsOfWidth}
-use Rattle.clock_sim.specs.Ready.{ArePorts, FitPorts}
+use Rattle.clock_sim.specs.Ready.{ArePorts}
 
 -- ---- ports
 abbrev FitAll : List Port → List Word → Type 0
@@ -34,7 +34,7 @@ word_is w v some most small = record { width = refl; fits = record { some = some
 absent : {w : Word} → 0 < 0 → IsOfWidth 0 w
 absent h = absurd (omega (arith, h))
 
-pub ports_fit : (i : Inputs) → AreInputs i → FitPorts i → ArePorts (words_of i)
+pub ports_fit : (i : Inputs) → AreInputs i → FitInputs i → ArePorts (words_of i)
 ports_fit i a f = record { fit = at }
   where
     back : List Port
@@ -44,49 +44,7 @@ ports_fit i a f = record { fit = at }
     back_words = elim (words_of i) as (λ _. List Word) [ [] ↦ [] | w ∷ ws ↦ ws ]
 
     all : FitAll back back_words
-    all = (
-      (λ _. bit_is i.in_valid),
-      (
-        (λ _. word_is 64 i.in_data (omega arith) (omega arith) f.frame),
-        (
-          (λ _. word_is 4 i.in_bytes (omega arith) (omega arith) a.bytes),
-          (
-            (λ _. bit_is i.in_last),
-            (
-              (λ _. word_is 32 i.in_ifindex (omega arith) (omega arith) f.interface),
-              (
-                absent,
-                (
-                  (λ _. bit_is i.out_ready),
-                  (
-                    absent,
-                    (
-                      absent,
-                      (
-                        absent,
-                        (
-                          absent,
-                          (
-                            absent,
-                            (
-                              absent,
-                              (
-                                absent,
-                                ((λ _. bit_is i.host_write), ((λ _. word_is 4 i.host_map (omega arith) (omega arith) a.map), ((λ _. word_is 16 i.host_index (omega arith) (omega arith) f.index), ((λ _. word_is 4 i.host_word (omega arith) (omega arith) a.word), ((λ _. word_is 64 i.host_data (omega arith) (omega arith) f.word), (absent, tt)))))),
-                              ),
-                            ),
-                          ),
-                        ),
-                      ),
-                    ),
-                  ),
-                ),
-              ),
-            ),
-          ),
-        ),
-      ),
-    )
+    all = ((λ _. bit_is i.in_valid), ((λ _. word_is 64 i.in_data (omega arith) (omega arith) f.frame), ((λ _. word_is 4 i.in_bytes (omega arith) (omega arith) a.bytes), ((λ _. bit_is i.in_last), ((λ _. word_is 32 i.in_ifindex (omega arith) (omega arith) f.interface), ((λ _. word_is 64 i.in_time (omega arith) (omega arith) f.time), (absent, ((λ _. bit_is i.out_ready), (absent, (absent, (absent, (absent, (absent, (absent, (absent, ((λ _. bit_is i.host_write), ((λ _. word_is 4 i.host_map (omega arith) (omega arith) a.map), ((λ _. word_is 16 i.host_index (omega arith) (omega arith) f.index), ((λ _. word_is 4 i.host_word (omega arith) (omega arith) a.word), ((λ _. word_is 64 i.host_data (omega arith) (omega arith) f.word), (absent, (absent, (absent, tt)))))))))))))))))))))))
 
     at : (k : ℕ) → 0 < port_width port_list k → IsOfWidth (port_width port_list k) (get_or (words_of i) k nothing)
     at zero h = absurd (omega (arith, h))

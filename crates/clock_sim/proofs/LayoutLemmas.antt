@@ -3,6 +3,7 @@ use Rattle.std.specs.Prelude.{nat_le, replicate, ◌^◌}
 use Rattle.std.proofs.Common.{◌≡◌, ℕ, zero, suc, ◌+◌, true, ◌&&◌, List, [], ◌∷◌, ◌++◌, length, map, refl, sym, ap, ◌∙◌, subst, arith, append_assoc}
 use Rattle.std.proofs.lemmas.Bool.{and_parts, and_from}
 use Rattle.std.proofs.lemmas.List.{append-nil, length_push, map_push}
+use Rattle.net_core.specs.declared.ports.TheConstants.{PORT_COUNT}
 use Rattle.net_core.specs.declared.tree.Word.{Word}
 use Rattle.net_core.specs.declared.design.Declared.{Declared}
 use Rattle.net_core.specs.declared.design.Declared.TheVariants as declared
@@ -41,23 +42,23 @@ contents_split declared.Integer rest = refl
 contents_split (declared.Register w) rest = refl
 contents_split (declared.Memory i w n) rest = refl
 
-same_operands : (old new : List Operand) (rest : List ℕ) → new ≡ old ++ [] → old ++ operands_from (21 + length old) rest ≡ new ++ operands_from (21 + length new) rest
-same_operands old new rest e = subst (λ l. old ++ operands_from (21 + length old) rest ≡ l ++ operands_from (21 + length l) rest) (sym (e ∙ append-nil old)) refl
+same_operands : (old new : List Operand) (rest : List ℕ) → new ≡ old ++ [] → old ++ operands_from (PORT_COUNT + length old) rest ≡ new ++ operands_from (PORT_COUNT + length new) rest
+same_operands old new rest e = subst (λ l. old ++ operands_from (PORT_COUNT + length old) rest ≡ l ++ operands_from (PORT_COUNT + length l) rest) (sym (e ∙ append-nil old)) refl
 
-registers_more : (d : Declared) (rest : List Declared) (old new : List Operand) → new ≡ old ++ operands_from (21 + length old) (register_widths (d ∷ [])) → old ++ operands_from (21 + length old) (register_widths (d ∷ rest)) ≡ new ++ operands_from (21 + length new) (register_widths rest)
+registers_more : (d : Declared) (rest : List Declared) (old new : List Operand) → new ≡ old ++ operands_from (PORT_COUNT + length old) (register_widths (d ∷ [])) → old ++ operands_from (PORT_COUNT + length old) (register_widths (d ∷ rest)) ≡ new ++ operands_from (PORT_COUNT + length new) (register_widths rest)
 registers_more declared.Integer rest old new e = same_operands old new (register_widths rest) e
 registers_more (declared.Memory i w n) rest old new e = same_operands old new (register_widths rest) e
 registers_more (declared.Register w) rest old new e =
-    let p : Operand = record { slot = 21 + length old; width = w.width } in
+    let p : Operand = record { slot = PORT_COUNT + length old; width = w.width } in
     let l : length new ≡ length old + 1 = ap length e ∙ length_push old p in
-    let at : suc (21 + length old) ≡ 21 + length new = omega arith in
-    sym (append_assoc old (p ∷ []) (operands_from (suc (21 + length old)) (register_widths rest)))
+    let at : suc (PORT_COUNT + length old) ≡ PORT_COUNT + length new = omega arith in
+    sym (append_assoc old (p ∷ []) (operands_from (suc (PORT_COUNT + length old)) (register_widths rest)))
     ∙ ap (λ k. (old ++ p ∷ []) ++ operands_from k (register_widths rest)) at
-    ∙ ap (λ m. m ++ operands_from (21 + length new) (register_widths rest)) (sym e)
+    ∙ ap (λ m. m ++ operands_from (PORT_COUNT + length new) (register_widths rest)) (sym e)
 
 pub record Laying (all left : List Declared) (l : Layout) : Type 0 where
   pub typed : declared_typed left ≡ true
-  pub registers : l.registers.items ++ operands_from (21 + length l.registers.items) (register_widths left) ≡ operands_from 21 (register_widths all)
+  pub registers : l.registers.items ++ operands_from (PORT_COUNT + length l.registers.items) (register_widths left) ≡ operands_from PORT_COUNT (register_widths all)
   pub memories : sizes_of l.memories.items ++ memory_widths left ≡ memory_widths all
   pub values : l.numbers.items ++ numbers (first_words left) ≡ numbers (first_words all)
   pub contents : l.contents.items ++ map numbers (first_memories left) ≡ map numbers (first_memories all)
@@ -89,3 +90,13 @@ adds_memory i w k old new memory registers values memories is contents = record 
   values = ap (λ v. v.items) values ∙ sym (append-nil old.numbers.items);
   contents = contents ∙ ap (λ b. old.contents.items ++ b ∷ []) (is ∙ sym (numbers_replicate (2 ^ i) w));
 }
+
+-- ---- ports, one after another
+pub ports_more : (left : List ℕ) (k w : ℕ) (ws : List ℕ) (old new all : List Operand) → left ≡ w ∷ ws → new ≡ old ++ record { slot = k; width = w } ∷ [] → old ++ operands_from k left ≡ all → new ++ operands_from (k + 1) ws ≡ all
+ports_more left k w ws old new all e made h =
+    let next : k + 1 ≡ suc k = omega arith in
+    ap (λ j. new ++ operands_from j ws) next
+    ∙ ap (λ l. l ++ operands_from (suc k) ws) made
+    ∙ append_assoc old (record { slot = k; width = w } ∷ []) (operands_from (suc k) ws)
+    ∙ ap (λ l. old ++ operands_from k l) (sym e)
+    ∙ h

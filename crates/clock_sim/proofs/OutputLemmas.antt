@@ -1,7 +1,8 @@
 -- What a port shows, as a walk finds it.
 use Rattle.std.specs.Prelude.{◌==◌}
-use Rattle.std.proofs.Common.{◌≡◌, ℕ, ◌<◌, List, [], ◌∷◌, sym, ap, ◌∙◌, subst}
-use Rattle.std.proofs.lemmas.Bool.{cond-true, cond-false, eq-eqb, ne_eqb}
+use Rattle.std.proofs.Common.{◌≡◌, ℕ, ◌<◌, List, [], ◌∷◌, ◌++◌, length, get_or, sym, ap, ◌∙◌, subst, arith, ⊎_elim}
+use Rattle.std.proofs.lemmas.Bool.{cases_lt, cond-true, cond-false, eq-eqb, ne_eqb}
+use Rattle.std.proofs.lemmas.List.{get_or_append_left, get_or_at, length_push}
 use Rattle.net_core.specs.declared.tree.Net.{Net}
 use Rattle.net_core.specs.Nets.{AssignTree}
 use Rattle.net_core.specs.Value.{Env, nothing, value}
@@ -10,8 +11,8 @@ use Rattle.net_core.specs.Clock.{assigned}
 use Rattle.clock_sim.specs.declared.builder.Operand.{Operand}
 use Rattle.clock_sim.specs.declared.operands.Operands.{Operands}
 use Rattle.clock_sim.specs.Flat.{Flat, Holds, Extends, Values, scope_of, env_at}
-use Rattle.clock_sim.specs.Edges.{AreShown, Shows}
-use Rattle.clock_sim.proofs.BuilderLemmas.{numbers_later, knows_later}
+use Rattle.clock_sim.specs.Edges.{AreShown, AreSlots, Shows, ShowsAll}
+use Rattle.clock_sim.proofs.BuilderLemmas.{extends_none, numbers_later, knows_later}
 use Rattle.clock_sim.proofs.StatementLemmas.{numbers_fine}
 
 module _ (n : Operands) (port : ℕ) (a : AssignTree) (left rest : List AssignTree) (e : left ≡ a ∷ rest) where
@@ -44,3 +45,22 @@ pub shows_later : (old mid new last : Flat) (n : Operands) (all : List AssignTre
 shows_later old mid new last n all port slot e f h = record {
   shows = λ ds wires k. numbers_later ds new last slot (λ x. (assigned (env_at wires x) all port).value) f (h.shows ds wires (knows_later ds old mid n wires e k));
 }
+
+-- ---- the slots of several ports
+pub slots_push : (n : ℕ) (ks : List ℕ) (k : ℕ) → k < n → AreSlots ks n → AreSlots (ks ++ k ∷ []) n
+slots_push n [] k lt h = (lt, tt)
+slots_push n (j ∷ ks) k lt h = (h.0, slots_push n ks k lt h.1)
+
+pub shows_none : (old new : Flat) (n : Operands) (all : List AssignTree) → ShowsAll old new n all []
+shows_none old new n all port lt = absurd (omega (arith, lt))
+
+pub shows_push : (old new last : Flat) (n : Operands) (all : List AssignTree) (ks : List ℕ) (k port : ℕ) → Extends old new → Extends new last → port ≡ length ks
+    → ShowsAll old new n all ks → Shows new last n all port k → ShowsAll old last n all (ks ++ k ∷ [])
+shows_push old new last n all ks k port e f at h one q lt =
+    ⊎_elim (λ before. let P : ℕ → Type 0 = Shows old last n all q in subst P (sym (get_or_append_left ks (k ∷ []) 0 q before)) (shows_later old old new last n all q (get_or ks q 0) (extends_none old) f (h q before)))
+    (λ from.
+    let last_one : length ks ≡ q = omega (arith, lt, length_push ks k) in
+    let P : ℕ → Type 0 = Shows old last n all q in
+    let Q : ℕ → Type 0 = λ p. Shows old last n all p k in
+    subst P (sym (get_or_at ks k [] 0 q last_one)) (subst Q (at ∙ last_one) (shows_later old new last last n all port k e (extends_none last) one)))
+    (cases_lt q (length ks))

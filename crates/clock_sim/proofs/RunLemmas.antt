@@ -1,7 +1,10 @@
 -- One clock of a ready simulator.
-use Rattle.std.specs.Prelude.{option_map, slice_set, ◌==◌}
-use Rattle.std.proofs.Common.{◌≡◌, ℕ, zero, suc, ◌+◌, ◌<◌, ◌≤◌, Result, refl, List, [], ◌∷◌, Ok, Some, None, length, get_or, map, sym, ap, ◌∙◌, subst, arith}
-use Rattle.std.proofs.lemmas.List.{length-set, length-map, get_or-set_same, get_or-set_other, get_or-map}
+use Rattle.std.specs.Prelude.{option_map, slice_set}
+use Rattle.std.proofs.Common.{◌≡◌, ℕ, false, zero, suc, ◌+◌, ◌^◌, ◌<◌, ◌≤◌, refl, List, [], ◌∷◌, Some, None, length, get_or, map, sym, ap, ◌∙◌, subst, arith, ⊎_elim}
+use Rattle.std.proofs.lemmas.Bool.{cases_lt}
+use Rattle.std.proofs.lemmas.Nat.{pow_pos}
+use Rattle.std.proofs.lemmas.List.{length-set, length-map, get_or-set_same, get_or-set_other, get_or-map, get_or_past}
+use Rattle.net_core.specs.declared.ports.TheConstants.{PORT_COUNT}
 use Rattle.net_core.specs.declared.tree.Word.{Word}
 use Rattle.net_core.specs.declared.tree.Net.TheVariants.{Wire}
 use Rattle.net_core.specs.declared.design.Declared.{Declared}
@@ -9,20 +12,20 @@ use Rattle.net_core.specs.declared.ports.Inputs.{Inputs}
 use Rattle.net_core.specs.Nets.{Netlist}
 use Rattle.net_core.specs.Value.{nothing, word}
 use Rattle.net_core.specs.Width.{register_widths, memory_widths}
-use Rattle.net_core.specs.Clock.{Stored, env_of, stopping, after, clock, assigned, shown}
-use Rattle.net_core.specs.Ports.{AreInputs, words_of, outputs_of}
+use Rattle.net_core.specs.Clock.{Stored, stopping, after, shown}
+use Rattle.net_core.specs.Ports.{AreInputs, FitInputs, FitOutputs, words_of, port_list, output_width, outputs_at, outputs_of}
 use Rattle.net_core.specs.Suits.{IsOfWidth}
 use Rattle.net_core.specs.View.{netlist_of}
-use Rattle.net_core.specs.declared.ports.Outputs.{Outputs}
 use Rattle.clock_sim.specs.declared.step.Step.{Step}
 use Rattle.clock_sim.specs.declared.edge.Store.{Store}
 use Rattle.clock_sim.specs.declared.clock.CompiledDesign.{CompiledDesign}
-use Rattle.clock_sim.specs.Ready.{FitPorts, FitOutputs, IsMemory, IsStored}
+use Rattle.clock_sim.specs.Ready.{IsMemory, IsStored}
 use Rattle.clock_sim.specs.Running.{stopped_net}
 use Rattle.clock_sim.specs.Steps.{run}
 use Rattle.clock_sim.specs.Flat.{Situation, IsFine, numbers, contents_of, Starts, AreReading}
-use Rattle.clock_sim.specs.Edges.{first_zero, AreDivisors, AreSlots, AreStores, applied, taken, IsShown, FitShown, outputs_in}
+use Rattle.clock_sim.specs.Edges.{first_zero, AreDivisors, AreSlots, AreStores, applied, taken, IsShown, shown_in}
 use Rattle.clock_sim.specs.Layouts.{with_words, words_from, cells_from, stored_in, stored_of, flat_with, IsReady}
+use Rattle.net_core.proofs.PortLaws.{outputs_same}
 use Rattle.clock_sim.proofs.FitLemmas.{ports_fit}
 use Rattle.clock_sim.proofs.ClockLemmas.{after_stored, outputs_fit}
 use Rattle.clock_sim.proofs.BuilderLemmas.{run_length, run_below, run_kept}
@@ -117,15 +120,15 @@ cells_are (w ∷ ws) (us ∷ all) l h =
     ∙ ap (λ k. us ∷ k) (cells_are ws all (omega arith) (λ i lt. h (suc i) (omega arith)))
 
 -- numbers of what is stored give it back
-pub stored_is : (ds : List Declared) (slots : List ℕ) (contents : List (List ℕ)) (t : Stored) → IsStored ds t → ((r : ℕ) → r < length (register_widths ds) → get_or slots (21 + r) 0 ≡ (get_or t.registers r nothing).value) → contents ≡ contents_of t → stored_in ds slots contents ≡ t
+pub stored_is : (ds : List Declared) (slots : List ℕ) (contents : List (List ℕ)) (t : Stored) → IsStored ds t → ((r : ℕ) → r < length (register_widths ds) → get_or slots (PORT_COUNT + r) 0 ≡ (get_or t.registers r nothing).value) → contents ≡ contents_of t → stored_in ds slots contents ≡ t
 stored_is ds slots contents t s h e =
     let made : List Word → List (List Word) → Stored = λ rs ms. record { registers = rs; memories = ms } in
-    ap (λ rs. made rs (cells_from (memory_widths ds) contents)) (words_are (register_widths ds) 21 slots t.registers s.registers s.register h)
+    ap (λ rs. made rs (cells_from (memory_widths ds) contents)) (words_are (register_widths ds) PORT_COUNT slots t.registers s.registers s.register h)
     ∙ ap (λ bs. made t.registers (cells_from (memory_widths ds) bs)) e
     ∙ ap (λ ms. made t.registers ms) (cells_are (memory_widths ds) t.memories s.memories s.memory)
 
 -- ---- a clock
-module _ (p : CompiledDesign) (i : Inputs) (slots : List ℕ) (contents : List (List ℕ)) (next : ℕ) (ready : IsReady p slots contents next) (inputs : AreInputs i) (fit : FitPorts i) where
+module _ (p : CompiledDesign) (i : Inputs) (slots : List ℕ) (contents : List (List ℕ)) (next : ℕ) (ready : IsReady p slots contents next) (inputs : AreInputs i) (fit : FitInputs i) where
   abbrev ds : List Declared
   ds = p.design.declared.items
 
@@ -138,7 +141,7 @@ module _ (p : CompiledDesign) (i : Inputs) (slots : List ℕ) (contents : List (
   abbrev done : List ℕ
   done = run contents p.steps.items begun
 
-  first_room : 21 + length (register_widths ds) ≤ length slots
+  first_room : PORT_COUNT + length (register_widths ds) ≤ length slots
   first_room = let r = ready.compiled.room in let c = ready.count in omega arith
 
   pub ports_room : 0 + length (numbers (words_of i)) ≤ length slots
@@ -154,8 +157,8 @@ module _ (p : CompiledDesign) (i : Inputs) (slots : List ℕ) (contents : List (
   starts = record {
     ports = λ k lt. let e : 0 + k ≡ k = omega arith in subst (λ j. get_or begun j 0 ≡ (get_or (words_of i) k nothing).value) e (with_words_at (numbers (words_of i)) 0 slots k ports_room lt ∙ number_at (words_of i) k);
     registers = λ r lt.
-        let l = words_length (register_widths ds) 21 slots in
-        with_words_above (numbers (words_of i)) 0 slots (21 + r) (omega arith) ∙ words_at (register_widths ds) 21 slots r (omega arith);
+        let l = words_length (register_widths ds) PORT_COUNT slots in
+        with_words_above (numbers (words_of i)) 0 slots (PORT_COUNT + r) (omega arith) ∙ words_at (register_widths ds) PORT_COUNT slots r (omega arith);
     kept = λ k n e. let f = ready.compiled.first k n e in with_words_above (numbers (words_of i)) 0 slots k (omega arith) ∙ ready.kept k n e;
     room = let c = begun_count in omega arith;
   }
@@ -172,8 +175,8 @@ module _ (p : CompiledDesign) (i : Inputs) (slots : List ℕ) (contents : List (
   done_kept : (k n : ℕ) → get_or ready.constants k None ≡ Some n → get_or done k 0 ≡ n
   done_kept k n e = run_kept contents ready.constants p.steps.items ready.compiled.free begun starts.kept k n e
 
-  done_first : (k : ℕ) → 21 ≤ k → k < 21 + length (register_widths ds) → get_or done k 0 ≡ get_or slots k 0
-  done_first k le lt = run_below contents (21 + length (register_widths ds)) p.steps.items ready.compiled.own begun k lt ∙ with_words_above (numbers (words_of i)) 0 slots k (omega arith)
+  done_first : (k : ℕ) → PORT_COUNT ≤ k → k < PORT_COUNT + length (register_widths ds) → get_or done k 0 ≡ get_or slots k 0
+  done_first k le lt = run_below contents (PORT_COUNT + length (register_widths ds)) p.steps.items ready.compiled.own begun k lt ∙ with_words_above (numbers (words_of i)) 0 slots k (omega arith)
 
   pub reads : AreReading (length begun) p.steps.items
   reads = subst (λ n. AreReading n p.steps.items) (sym begun_count) ready.compiled.reading
@@ -181,8 +184,8 @@ module _ (p : CompiledDesign) (i : Inputs) (slots : List ℕ) (contents : List (
   pub divisors_in : AreDivisors p.divisors.items (length done)
   divisors_in = subst (λ n. AreDivisors p.divisors.items n) (sym done_count) ready.compiled.divisors
 
-  pub shown_in : IsShown p.shown (length done)
-  shown_in = subst (λ n. IsShown p.shown n) (sym done_count) ready.compiled.shown
+  pub shown_there : IsShown p.shown.items (length done)
+  shown_there = subst (λ n. IsShown p.shown.items n) (sym done_count) ready.compiled.shown
 
   pub next_in : AreSlots p.next.items (length done)
   next_in = subst (λ n. AreSlots p.next.items n) (sym done_count) ready.compiled.next
@@ -197,50 +200,34 @@ module _ (p : CompiledDesign) (i : Inputs) (slots : List ℕ) (contents : List (
   abbrev at : ℕ → ℕ
   at port = (shown (netlist_of p.design) (words_of i) (stored_of p slots contents) port).value
 
-  outputs_small : FitOutputs (assigned (env_of (netlist_of p.design) (words_of i) (stored_of p slots contents)) (netlist_of p.design).assigns)
+  outputs_small : FitOutputs at
   outputs_small =
       let t = ready.compiled.typed in
       outputs_fit (netlist_of p.design) t.ports (words_of i) (ports_fit i inputs fit) (stored_of p slots contents) ready.stored t.wires (netlist_of p.design).assigns t.assigns
 
-  pub shown_fit : FitShown p.shown done
-  shown_fit =
-      let s = ready.compiled.shows in let f = outputs_small in
-      let bytes = number_done p.shown.out_bytes _ (s.out_bytes.at before begun fine starts) in
-      let verdict = number_done p.shown.out_verdict _ (s.out_verdict.at before begun fine starts) in
-      let target = number_done p.shown.out_target _ (s.out_target.at before begun fine starts) in
-      let b = f.bytes in let v = f.verdict in let t = f.target in
-      record { bytes = omega arith; verdict = omega arith; target = omega arith }
+  shown_at : (port : ℕ) → port < PORT_COUNT → shown_in p.shown.items done port ≡ at port
+  shown_at port lt =
+      let c = ready.compiled.shown.ports in
+      let inside : port < length p.shown.items = omega (arith, c, lt) in
+      get_or-map (λ k. get_or done k 0) p.shown.items port 0 0 inside ∙ number_done (get_or p.shown.items port 0) (at port) ((ready.compiled.shows port inside).at before begun fine starts)
 
-  pub shows_is : outputs_in p.shown done ≡ outputs_of (netlist_of p.design) i (stored_of p slots contents)
-  shows_is =
-      let s = ready.compiled.shows in
-      let make : ℕ → ℕ → ℕ → ℕ → ℕ → ℕ → ℕ → ℕ → ℕ → Outputs = λ a b c d e f g h j. record {
-        in_ready = a == 1;
-        out_valid = b == 1;
-        out_data = c;
-        out_bytes = d;
-        out_last = e == 1;
-        out_verdict = f;
-        out_target = g;
-        out_reload = h == 1;
-        host_value = j;
-      } in
-      let get : ℕ → ℕ = λ k. get_or done k 0 in
-      ap (λ k. make k (get p.shown.out_valid) (get p.shown.out_data) (get p.shown.out_bytes) (get p.shown.out_last) (get p.shown.out_verdict) (get p.shown.out_target) (get p.shown.out_reload) (get p.shown.host_value)) (number_done p.shown.in_ready (at 6) (s.in_ready.at before begun fine starts))
-      ∙ ap (λ k. make (at 6) k (get p.shown.out_data) (get p.shown.out_bytes) (get p.shown.out_last) (get p.shown.out_verdict) (get p.shown.out_target) (get p.shown.out_reload) (get p.shown.host_value)) (number_done p.shown.out_valid (at 8) (s.out_valid.at before begun fine starts))
-      ∙ ap (λ k. make (at 6) (at 8) k (get p.shown.out_bytes) (get p.shown.out_last) (get p.shown.out_verdict) (get p.shown.out_target) (get p.shown.out_reload) (get p.shown.host_value)) (number_done p.shown.out_data (at 9) (s.out_data.at before begun fine starts))
-      ∙ ap (λ k. make (at 6) (at 8) (at 9) k (get p.shown.out_last) (get p.shown.out_verdict) (get p.shown.out_target) (get p.shown.out_reload) (get p.shown.host_value)) (number_done p.shown.out_bytes (at 10) (s.out_bytes.at before begun fine starts))
-      ∙ ap (λ k. make (at 6) (at 8) (at 9) (at 10) k (get p.shown.out_verdict) (get p.shown.out_target) (get p.shown.out_reload) (get p.shown.host_value)) (number_done p.shown.out_last (at 11) (s.out_last.at before begun fine starts))
-      ∙ ap (λ k. make (at 6) (at 8) (at 9) (at 10) (at 11) k (get p.shown.out_target) (get p.shown.out_reload) (get p.shown.host_value)) (number_done p.shown.out_verdict (at 12) (s.out_verdict.at before begun fine starts))
-      ∙ ap (λ k. make (at 6) (at 8) (at 9) (at 10) (at 11) (at 12) k (get p.shown.out_reload) (get p.shown.host_value)) (number_done p.shown.out_target (at 13) (s.out_target.at before begun fine starts))
-      ∙ ap (λ k. make (at 6) (at 8) (at 9) (at 10) (at 11) (at 12) (at 13) k (get p.shown.host_value)) (number_done p.shown.out_reload (at 14) (s.out_reload.at before begun fine starts))
-      ∙ ap (λ k. make (at 6) (at 8) (at 9) (at 10) (at 11) (at 12) (at 13) (at 14) k) (number_done p.shown.host_value (at 20) (s.host_value.at before begun fine starts))
+  pub shown_fit : FitOutputs (shown_in p.shown.items done)
+  shown_fit port =
+      let w = output_width (get_or port_list port (record { output = false; width = 0 })) in
+      ⊎_elim (λ lt. subst (λ n. n < 2 ^ w) (sym (shown_at port lt)) (outputs_small port))
+      (λ le.
+      let past : length (taken p.shown.items done) ≤ port = omega (arith, le, ready.compiled.shown.ports, length-map p.shown.items (λ k. get_or done k 0)) in
+      subst (λ n. n < 2 ^ w) (sym (get_or_past (taken p.shown.items done) port 0 past)) (pow_pos w))
+      (cases_lt port PORT_COUNT)
+
+  pub shows_is : outputs_at (shown_in p.shown.items done) ≡ outputs_of (netlist_of p.design) i (stored_of p slots contents)
+  shows_is = outputs_same (shown_in p.shown.items done) at shown_at
 
   -- a clock that stops
   pub stopped_stored : stored_of p done contents ≡ stored_of p slots contents
   stopped_stored =
       let made : List Word → Stored = λ rs. record { registers = rs; memories = cells_from (memory_widths ds) contents } in
-      ap made (words_same (register_widths ds) 21 slots done (λ r lt. done_first (21 + r) (omega arith) (omega arith)))
+      ap made (words_same (register_widths ds) PORT_COUNT slots done (λ r lt. done_first (PORT_COUNT + r) (omega arith) (omega arith)))
 
   pub stopped_ready : IsReady p done contents next
   stopped_ready = record {
@@ -260,11 +247,11 @@ module _ (p : CompiledDesign) (i : Inputs) (slots : List ℕ) (contents : List (
   words_count : length words ≡ length (register_widths ds)
   words_count = length-map p.next.items (λ k. get_or done k 0) ∙ ready.compiled.count
 
-  pub words_room : 21 + length words ≤ length done
+  pub words_room : PORT_COUNT + length words ≤ length done
   words_room = let w = words_count in let d = done_count in let r = ready.compiled.room in omega arith
 
   abbrev ended : List ℕ
-  ended = with_words 21 words done
+  ended = with_words PORT_COUNT words done
 
   abbrev stores_done : List (List ℕ)
   stores_done = applied done p.stores.items contents
@@ -277,7 +264,7 @@ module _ (p : CompiledDesign) (i : Inputs) (slots : List ℕ) (contents : List (
       (λ r lt.
       let c = ready.compiled.count in let w = words_count in
       let inside : r < length p.next.items = omega arith in
-      with_words_at words 21 done r words_room (omega arith)
+      with_words_at words PORT_COUNT done r words_room (omega arith)
       ∙ get_or-map (λ k. get_or done k 0) p.next.items r 0 0 inside
       ∙ number_done (get_or p.next.items r 0) _ ((ready.compiled.leads.registers r inside).at before begun fine starts))
       (subst (λ b. applied (run b p.steps.items begun) p.stores.items b ≡ contents_of (after (netlist_of p.design) (words_of i) (stored_of p slots contents))) contents_same (ready.compiled.leads.memories before begun fine starts))
@@ -288,8 +275,8 @@ module _ (p : CompiledDesign) (i : Inputs) (slots : List ℕ) (contents : List (
       record {
         constants = ready.constants;
         compiled = ready.compiled;
-        count = with_words_length words 21 done ∙ done_count;
-        kept = λ k n e. let f = ready.compiled.first k n e in let w = words_count in with_words_above words 21 done k (omega arith) ∙ done_kept k n e;
+        count = with_words_length words PORT_COUNT done ∙ done_count;
+        kept = λ k n e. let f = ready.compiled.first k n e in let w = words_count in with_words_above words PORT_COUNT done k (omega arith) ∙ done_kept k n e;
         stored = subst (λ s. IsStored ds s) (sym after_is) (after_stored (netlist_of p.design) t.ports (words_of i) (ports_fit i inputs fit) (stored_of p slots contents) ready.stored t.wires t.always);
         contents_count = applied_length done p.stores.items contents ∙ ready.contents_count;
         next_count = ready.next_count;
@@ -308,5 +295,5 @@ module _ (p : CompiledDesign) (i : Inputs) (slots : List ℕ) (contents : List (
   pub contents_are : (slots' : List ℕ) (ss : List Store) (all : List (List ℕ)) → ss ≡ p.stores.items → slots' ≡ run contents p.steps.items (with_words 0 (numbers (words_of i)) slots) → all ≡ applied slots' ss contents → all ≡ applied (run contents p.steps.items (with_words 0 (numbers (words_of i)) slots)) p.stores.items contents
   contents_are slots' ss all e f g = g ∙ ap (λ k. applied slots' k contents) e ∙ ap (λ l. applied l p.stores.items contents) f
 
-  pub ended_is : (slots' new all : List ℕ) → slots' ≡ run contents p.steps.items (with_words 0 (numbers (words_of i)) slots) → new ≡ taken p.next.items (run contents p.steps.items (with_words 0 (numbers (words_of i)) slots)) → all ≡ with_words 21 new slots' → all ≡ with_words 21 (taken p.next.items (run contents p.steps.items (with_words 0 (numbers (words_of i)) slots))) (run contents p.steps.items (with_words 0 (numbers (words_of i)) slots))
-  ended_is slots' new all e f g = g ∙ ap (λ l. with_words 21 l slots') f ∙ ap (λ l. with_words 21 (taken p.next.items (run contents p.steps.items (with_words 0 (numbers (words_of i)) slots))) l) e
+  pub ended_is : (slots' new all : List ℕ) → slots' ≡ run contents p.steps.items (with_words 0 (numbers (words_of i)) slots) → new ≡ taken p.next.items (run contents p.steps.items (with_words 0 (numbers (words_of i)) slots)) → all ≡ with_words PORT_COUNT new slots' → all ≡ with_words PORT_COUNT (taken p.next.items (run contents p.steps.items (with_words 0 (numbers (words_of i)) slots))) (run contents p.steps.items (with_words 0 (numbers (words_of i)) slots))
+  ended_is slots' new all e f g = g ∙ ap (λ l. with_words PORT_COUNT l slots') f ∙ ap (λ l. with_words PORT_COUNT (taken p.next.items (run contents p.steps.items (with_words 0 (numbers (words_of i)) slots))) l) e

@@ -2,8 +2,8 @@
 use Rattle.std.specs.Prelude.{slice_set, if◌then◌else◌, ◌==◌, nat_lt}
 use Rattle.std.proofs.Common.{◌≡◌, ℕ, zero, suc, ◌+◌, ◌-◌, ◌<◌, ◌≤◌, Bool, true, false, ◌&&◌, not, Option, Some, None, List, [], ◌∷◌, ◌++◌, length, get_or, take, map, refl, sym, ap, ◌∙◌, subst, arith, ⊎_elim}
 use Rattle.std.proofs.Math.Path.{fun_ext}
-use Rattle.std.proofs.lemmas.Bool.{and_parts, ltb-true, ne_eqb, cases_lt, cases_eq, cond-true, cond-false}
-use Rattle.std.proofs.lemmas.List.{length-set, length-map, map-set, get_or-set_same, get_or-set_other, get_or-map, get_or_past, take_more, take_more_set}
+use Rattle.std.proofs.lemmas.Bool.{and_parts, ltb-true, ne_eqb, cases_eq, cond-true, cond-false}
+use Rattle.std.proofs.lemmas.List.{length-set, length-map, map-set, get_or-set_same, get_or-set_other, get_or-map, take_more, take_more_set}
 use Rattle.net_core.specs.declared.tree.Word.{Word}
 use Rattle.net_core.specs.declared.tree.Net.{Net}
 use Rattle.net_core.specs.declared.design.Declared.{Declared}

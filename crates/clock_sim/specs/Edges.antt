@@ -1,10 +1,10 @@
 -- What steps say of wires, outputs and the rising edge.
-use Rattle.std.specs.Prelude.{◌≡◌, ℕ, suc, ⊤, ◌-◌, ◌^◌, ◌<◌, ◌==◌, if◌then◌else◌, Bool, true, Option, Some, None, List, [], ◌∷◌, ◌++◌, length, slice_set, map}
+use Rattle.std.specs.Prelude.{◌≡◌, ℕ, suc, ⊤, ◌-◌, ◌<◌, ◌==◌, if◌then◌else◌, Bool, true, Option, Some, None, List, [], ◌∷◌, ◌++◌, length, slice_set, map}
 use Rattle.std.proofs.Common.{get_or, ◌&&◌, not}
 use Rattle.net_core.specs.declared.tree.Word.{Word}
 use Rattle.net_core.specs.declared.tree.Net.{Net}
 use Rattle.net_core.specs.declared.design.Declared.{Declared}
-use Rattle.net_core.specs.declared.ports.Outputs.{Outputs}
+use Rattle.net_core.specs.declared.ports.TheConstants.{PORT_COUNT}
 use Rattle.net_core.specs.Nets.{WireTree, AssignTree, StatementTree, StatementTrees, RightTree, RPlain, RQuotient, RRemainder, Netlist}
 use Rattle.net_core.specs.Value.{nothing}
 use Rattle.net_core.specs.Width.{port_width, register_widths, memory_widths, wire_widths, wires_typed, width_of, statement_typed}
@@ -14,7 +14,6 @@ use Rattle.clock_sim.specs.declared.operands.Operands.{Operands}
 use Rattle.clock_sim.specs.declared.operands.Widths.{Widths}
 use Rattle.clock_sim.specs.declared.edge.Store.{Store}
 use Rattle.clock_sim.specs.declared.wires.Divisor.{Divisor}
-use Rattle.clock_sim.specs.declared.outputs.Shown.{Shown}
 use Rattle.clock_sim.specs.Steps.{run}
 use Rattle.clock_sim.specs.Flat.{Flat, Situation, IsFine, contents_of, Starts, Numbers, operand_in, no_operand, scope_of, env_at, Knows}
 
@@ -93,16 +92,9 @@ AreShown n (a ∷ rest) = (0 < width_of (scope_of n) a.value) × AreShown n rest
 pub record Shows (old new : Flat) (n : Operands) (assigns : List AssignTree) (port slot : ℕ) : Type 0 where
   pub shows : (ds : List Declared) (wires : Situation → List Word) → Knows ds old n wires → Numbers ds new slot (λ x. (assigned (env_at wires x) assigns port).value)
 
-pub record ShowsAll (old new : Flat) (n : Operands) (assigns : List AssignTree) (s : Shown) : Type 0 where
-  pub in_ready : Shows old new n assigns 6 s.in_ready
-  pub out_valid : Shows old new n assigns 8 s.out_valid
-  pub out_data : Shows old new n assigns 9 s.out_data
-  pub out_bytes : Shows old new n assigns 10 s.out_bytes
-  pub out_last : Shows old new n assigns 11 s.out_last
-  pub out_verdict : Shows old new n assigns 12 s.out_verdict
-  pub out_target : Shows old new n assigns 13 s.out_target
-  pub out_reload : Shows old new n assigns 14 s.out_reload
-  pub host_value : Shows old new n assigns 20 s.host_value
+-- of each port
+abbrev pub ShowsAll : Flat → Flat → Operands → List AssignTree → List ℕ → Type 0
+ShowsAll old new n assigns slots = (port : ℕ) → port < length slots → Shows old new n assigns port (get_or slots port 0)
 
 -- ---- the rising edge
 -- the memories after these stores, one after another
@@ -182,31 +174,11 @@ abbrev pub taken : List ℕ → List ℕ → List ℕ
 taken next slots = map (λ k. get_or slots k 0) next
 
 -- ---- what a clock shows
-pub record IsShown (s : Shown) (count : ℕ) : Type 0 where
-  pub in_ready : s.in_ready < count
-  pub out_valid : s.out_valid < count
-  pub out_data : s.out_data < count
-  pub out_bytes : s.out_bytes < count
-  pub out_last : s.out_last < count
-  pub out_verdict : s.out_verdict < count
-  pub out_target : s.out_target < count
-  pub out_reload : s.out_reload < count
-  pub host_value : s.host_value < count
+-- the slot of each port
+pub record IsShown (shown : List ℕ) (count : ℕ) : Type 0 where
+  pub ports : length shown ≡ PORT_COUNT
+  pub slots : AreSlots shown count
 
-pub record FitShown (s : Shown) (slots : List ℕ) : Type 0 where
-  pub bytes : get_or slots s.out_bytes 0 < 2 ^ 8
-  pub verdict : get_or slots s.out_verdict 0 < 2 ^ 32
-  pub target : get_or slots s.out_target 0 < 2 ^ 32
-
-abbrev pub outputs_in : Shown → List ℕ → Outputs
-outputs_in s slots = record {
-  in_ready = get_or slots s.in_ready 0 == 1;
-  out_valid = get_or slots s.out_valid 0 == 1;
-  out_data = get_or slots s.out_data 0;
-  out_bytes = get_or slots s.out_bytes 0;
-  out_last = get_or slots s.out_last 0 == 1;
-  out_verdict = get_or slots s.out_verdict 0;
-  out_target = get_or slots s.out_target 0;
-  out_reload = get_or slots s.out_reload 0 == 1;
-  host_value = get_or slots s.host_value 0;
-}
+-- the number of a port
+abbrev pub shown_in : List ℕ → List ℕ → ℕ → ℕ
+shown_in shown slots port = get_or (taken shown slots) port 0

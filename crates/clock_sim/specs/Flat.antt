@@ -1,6 +1,7 @@
 -- The steps of a design as they are built, and what they give in each clock.
 use Rattle.std.specs.Prelude.{◌≡◌, ℕ, suc, ⊤, ◌+◌, ◌^◌, ◌<◌, ◌≤◌, Option, Some, None, List, [], ◌∷◌, ◌++◌, length, map}
 use Rattle.std.proofs.Common.{get_or}
+use Rattle.net_core.specs.declared.ports.TheConstants.{PORT_COUNT}
 use Rattle.net_core.specs.declared.tree.Word.{Word}
 use Rattle.net_core.specs.declared.tree.Net.{Net}
 use Rattle.net_core.specs.declared.tree.Net.TheVariants.{Port, Register, Memory, Wire}
@@ -45,8 +46,8 @@ contents_of s = map numbers s.memories
 
 -- Slots as a clock finds them: the ports' numbers first, then the registers', and each constant in its slot.
 pub record Starts (c : Flat) (x : Situation) (slots : List ℕ) : Type 0 where
-  pub ports : (k : ℕ) → k < 21 → get_or slots k 0 ≡ (get_or x.ins k nothing).value
-  pub registers : (r : ℕ) → r < length x.stored.registers → get_or slots (21 + r) 0 ≡ (get_or x.stored.registers r nothing).value
+  pub ports : (k : ℕ) → k < PORT_COUNT → get_or slots k 0 ≡ (get_or x.ins k nothing).value
+  pub registers : (r : ℕ) → r < length x.stored.registers → get_or slots (PORT_COUNT + r) 0 ≡ (get_or x.stored.registers r nothing).value
   pub kept : (k n : ℕ) → get_or c.slots k None ≡ Some n → get_or slots k 0 ≡ n
   pub room : length c.slots ≤ length slots
 

@@ -1,6 +1,7 @@
 -- Where words stand, and what holds of a simulator between two clocks.
-use Rattle.std.specs.Prelude.{◌≡◌, ℕ, suc, ◌+◌, ◌≤◌, Option, Some, None, List, [], ◌∷◌, ◌++◌, length, map, slice_set}
+use Rattle.std.specs.Prelude.{◌≡◌, ℕ, suc, ◌+◌, ◌<◌, ◌≤◌, Option, Some, None, List, [], ◌∷◌, ◌++◌, length, drop, map, slice_set}
 use Rattle.std.proofs.Common.{get_or}
+use Rattle.net_core.specs.declared.ports.TheConstants.{PORT_COUNT}
 use Rattle.net_core.specs.declared.tree.Word.{Word}
 use Rattle.net_core.specs.declared.design.Declared.{Declared}
 use Rattle.net_core.specs.Nets.{Netlist}
@@ -8,9 +9,9 @@ use Rattle.net_core.specs.Value.{word}
 use Rattle.net_core.specs.Width.{IsTyped, register_widths, memory_widths}
 use Rattle.net_core.specs.Clock.{Stored, first_words, first_memories, env_of, stopping, assigned, after}
 use Rattle.net_core.specs.View.{netlist_of}
+use Rattle.net_core.specs.Ports.{port_list, input_width}
 use Rattle.clock_sim.specs.declared.builder.Operand.{Operand}
 use Rattle.clock_sim.specs.declared.layout.Layout.{Layout}
-use Rattle.clock_sim.specs.declared.outputs.Shown.{Shown}
 use Rattle.clock_sim.specs.declared.clock.CompiledDesign.{CompiledDesign}
 use Rattle.clock_sim.specs.declared.compile.Parts.{Parts}
 use Rattle.clock_sim.specs.declared.operands.Operands.{Operands}
@@ -20,27 +21,28 @@ use Rattle.clock_sim.specs.Flat.{Flat, Situation, numbers, Numbers, IsConsistent
 use Rattle.clock_sim.specs.Orders.{AreGroups}
 use Rattle.clock_sim.specs.Edges.{sizes_of, AreDivisors, AreSlots, AreStores, Stops, Leads, IsShown}
 
-abbrev pub port_operands : List Operand
-port_operands =
-    record { slot = 0; width = 0 } ∷ record { slot = 1; width = 1 } ∷ record { slot = 2; width = 64 } ∷ record { slot = 3; width = 4 } ∷ record { slot = 4; width = 1 } ∷ record { slot = 5; width = 32 } ∷ record { slot = 6; width = 0 }
-    ∷ record { slot = 7; width = 1 } ∷ record { slot = 8; width = 0 } ∷ record { slot = 9; width = 0 } ∷ record { slot = 10; width = 0 } ∷ record { slot = 11; width = 0 } ∷ record { slot = 12; width = 0 } ∷ record { slot = 13; width = 0 }
-    ∷ record { slot = 14; width = 0 } ∷ record { slot = 15; width = 1 } ∷ record { slot = 16; width = 4 } ∷ record { slot = 17; width = 16 } ∷ record { slot = 18; width = 4 } ∷ record { slot = 19; width = 64 } ∷ record { slot = 20; width = 0 } ∷ []
-
--- registers of these widths, one after another
+-- operands of these widths, one after another
 abbrev pub operands_from : ℕ → List ℕ → List Operand
 operands_from at [] = []
 operands_from at (w ∷ ws) = record { slot = at; width = w } ∷ operands_from (suc at) ws
 
+-- `clk` and the outputs are not read, so they have no width
+abbrev pub port_widths : List ℕ
+port_widths = 0 ∷ map input_width (drop 1 port_list)
+
+abbrev pub port_operands : List Operand
+port_operands = operands_from 0 port_widths
+
 -- what stands where for what is declared
 pub record IsLayout (ds : List Declared) (l : Layout) : Type 0 where
-  pub registers : l.registers.items ≡ operands_from 21 (register_widths ds)
+  pub registers : l.registers.items ≡ operands_from PORT_COUNT (register_widths ds)
   pub memories : sizes_of l.memories.items ≡ memory_widths ds
   pub values : l.numbers.items ≡ numbers (first_words ds)
   pub contents : l.contents.items ≡ map numbers (first_memories ds)
 
 -- one more item
 pub record AddsItem (d : Declared) (old new : Layout) : Type 0 where
-  pub registers : new.registers.items ≡ old.registers.items ++ operands_from (21 + length old.registers.items) (register_widths (d ∷ []))
+  pub registers : new.registers.items ≡ old.registers.items ++ operands_from (PORT_COUNT + length old.registers.items) (register_widths (d ∷ []))
   pub memories : sizes_of new.memories.items ≡ sizes_of old.memories.items ++ memory_widths (d ∷ [])
   pub values : new.numbers.items ≡ old.numbers.items ++ numbers (first_words (d ∷ []))
   pub contents : new.contents.items ≡ old.contents.items ++ map numbers (first_memories (d ∷ []))
@@ -69,22 +71,14 @@ cells_from (w ∷ ws) [] = []
 cells_from (w ∷ ws) (b ∷ contents) = map (λ n. word w.1 n) b ∷ cells_from ws contents
 
 abbrev pub stored_in : List Declared → List ℕ → List (List ℕ) → Stored
-stored_in ds slots contents = record { registers = words_from (register_widths ds) 21 slots; memories = cells_from (memory_widths ds) contents }
+stored_in ds slots contents = record { registers = words_from (register_widths ds) PORT_COUNT slots; memories = cells_from (memory_widths ds) contents }
 
 abbrev pub stored_of : CompiledDesign → List ℕ → List (List ℕ) → Stored
 stored_of p slots contents = stored_in p.design.declared.items slots contents
 
--- the slots of what the ports show
-pub record ShowsPorts (ds : List Declared) (c : Flat) (s : Shown) (at : ℕ → Situation → Word) : Type 0 where
-  pub in_ready : Numbers ds c s.in_ready (λ x. (at 6 x).value)
-  pub out_valid : Numbers ds c s.out_valid (λ x. (at 8 x).value)
-  pub out_data : Numbers ds c s.out_data (λ x. (at 9 x).value)
-  pub out_bytes : Numbers ds c s.out_bytes (λ x. (at 10 x).value)
-  pub out_last : Numbers ds c s.out_last (λ x. (at 11 x).value)
-  pub out_verdict : Numbers ds c s.out_verdict (λ x. (at 12 x).value)
-  pub out_target : Numbers ds c s.out_target (λ x. (at 13 x).value)
-  pub out_reload : Numbers ds c s.out_reload (λ x. (at 14 x).value)
-  pub host_value : Numbers ds c s.host_value (λ x. (at 20 x).value)
+-- the slot of each port holds what it shows
+abbrev pub ShowsPorts : List Declared → Flat → List ℕ → (ℕ → Situation → Word) → Type 0
+ShowsPorts ds c shown at = (port : ℕ) → port < length shown → Numbers ds c (get_or shown port 0) (λ x. (at port x).value)
 
 -- the steps of a compiled design, with the constants that stand in its slots
 abbrev pub flat_with : CompiledDesign → List (Option ℕ) → Flat
@@ -96,16 +90,16 @@ pub record IsCompiled (p : CompiledDesign) (constants : List (Option ℕ)) : Typ
   pub reading : AreReading (length constants) p.steps.items
   pub free : AreFree constants p.steps.items
   pub groups : AreGroups p.groups.items p.steps.items
-  pub own : WriteFrom (21 + length (register_widths p.design.declared.items)) p.steps.items
-  pub first : (k n : ℕ) → get_or constants k None ≡ Some n → 21 + length (register_widths p.design.declared.items) ≤ k
-  pub room : 21 + length (register_widths p.design.declared.items) ≤ length constants
+  pub own : WriteFrom (PORT_COUNT + length (register_widths p.design.declared.items)) p.steps.items
+  pub first : (k n : ℕ) → get_or constants k None ≡ Some n → PORT_COUNT + length (register_widths p.design.declared.items) ≤ k
+  pub room : PORT_COUNT + length (register_widths p.design.declared.items) ≤ length constants
   pub divisors : AreDivisors p.divisors.items (length constants)
-  pub shown : IsShown p.shown (length constants)
+  pub shown : IsShown p.shown.items (length constants)
   pub next : AreSlots p.next.items (length constants)
   pub count : length p.next.items ≡ length (register_widths p.design.declared.items)
   pub stores : AreStores p.stores.items (length constants)
   pub stops : Stops p.design.declared.items (flat_with p constants) p.divisors.items (λ x. stopping (netlist_of p.design) x.ins x.stored)
-  pub shows : ShowsPorts p.design.declared.items (flat_with p constants) p.shown (λ port x. assigned (env_of (netlist_of p.design) x.ins x.stored) (netlist_of p.design).assigns port)
+  pub shows : ShowsPorts p.design.declared.items (flat_with p constants) p.shown.items (λ port x. assigned (env_of (netlist_of p.design) x.ins x.stored) (netlist_of p.design).assigns port)
   pub leads : Leads p.design.declared.items (flat_with p constants) p.next.items p.stores.items (λ x. after (netlist_of p.design) x.ins x.stored)
 
 -- a simulator between two clocks, with so many words for the next registers
@@ -123,9 +117,9 @@ pub record Compiles (d : Netlist) (old new : Flat) (n : Operands) (begun ended :
   pub builder : IsConsistent new
   pub extends : Extends old new
   pub divisors : AreDivisors parts.divisors.items (length new.slots)
-  pub shown : IsShown parts.shown (length new.slots)
+  pub shown : IsShown parts.shown.items (length new.slots)
   pub next : AreSlots ended (length new.slots)
   pub stores : AreStores made (length new.slots)
   pub stops : (ds : List Declared) → Knows ds old n (λ x. []) → Stops ds new parts.divisors.items (λ x. stopping d x.ins x.stored)
-  pub shows : (ds : List Declared) → Knows ds old n (λ x. []) → ShowsPorts ds new parts.shown (λ port x. assigned (env_of d x.ins x.stored) d.assigns port)
+  pub shows : (ds : List Declared) → Knows ds old n (λ x. []) → ShowsPorts ds new parts.shown.items (λ port x. assigned (env_of d x.ins x.stored) d.assigns port)
   pub leads : (ds : List Declared) → Knows ds old n (λ x. []) → Leads ds old begun [] (λ x. x.stored) → Leads ds new ended made (λ x. after d x.ins x.stored)

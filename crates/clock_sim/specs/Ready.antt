@@ -1,9 +1,8 @@
--- Ports, what is stored and outputs that fit.
+-- Ports and what is stored that fit.
 use Rattle.std.specs.Prelude.{◌≡◌, ℕ, ◌^◌, ◌<◌, List, [], length}
 use Rattle.std.proofs.Common.{get_or}
 use Rattle.net_core.specs.declared.tree.Word.{Word}
 use Rattle.net_core.specs.declared.design.Declared.{Declared}
-use Rattle.net_core.specs.declared.ports.Inputs.{Inputs}
 use Rattle.net_core.specs.Value.{nothing}
 use Rattle.net_core.specs.Width.{register_widths, memory_widths, port_width}
 use Rattle.net_core.specs.Clock.{Stored}
@@ -13,13 +12,6 @@ use Rattle.net_core.specs.Suits.{IsOfWidth}
 -- the words at the ports
 pub record ArePorts (words : List Word) : Type 0 where
   pub fit : (k : ℕ) → 0 < port_width port_list k → IsOfWidth (port_width port_list k) (get_or words k nothing)
-
--- what the input ports' types say
-pub record FitPorts (i : Inputs) : Type 0 where
-  pub frame : i.in_data < 2 ^ 64
-  pub interface : i.in_ifindex < 2 ^ 32
-  pub index : i.host_index < 2 ^ 16
-  pub word : i.host_data < 2 ^ 64
 
 -- the words of a memory whose index and words have these widths
 pub record IsMemory (widths : ℕ × ℕ) (words : List Word) : Type 0 where
@@ -32,11 +24,3 @@ pub record IsStored (ds : List Declared) (s : Stored) : Type 0 where
   pub register : (r : ℕ) → r < length (register_widths ds) → IsOfWidth (get_or (register_widths ds) r 0) (get_or s.registers r nothing)
   pub memories : length s.memories ≡ length (memory_widths ds)
   pub memory : (m : ℕ) → m < length (memory_widths ds) → IsMemory (get_or (memory_widths ds) m (0, 0)) (get_or s.memories m [])
-
--- what the outputs show fits them
-pub record FitOutputs (at : ℕ → Word) : Type 0 where
-  pub frame : (at 9).value < 2 ^ 64
-  pub bytes : (at 10).value < 2 ^ 4
-  pub verdict : (at 12).value < 2 ^ 32
-  pub target : (at 13).value < 2 ^ 32
-  pub value : (at 20).value < 2 ^ 64

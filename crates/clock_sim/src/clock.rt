@@ -10,12 +10,11 @@ ghost use Rattle.clock_sim.specs.Running.{stopped_net};
 use crate::XValue;
 use crate::edge::{Store, finish, gather};
 use crate::memory::MemoryWords;
-use crate::outputs::{Shown, show};
-use crate::ports::numbers_at;
+use crate::outputs::show;
 use crate::step::{Group, Step, run};
 use crate::wires::{Divisor, stopped};
 use net_core::design::Design;
-use net_core::ports::{Inputs, Outputs};
+use net_core::ports::{Inputs, Outputs, PORT_COUNT, numbers_at};
 use net_core::tree::Net;
 
 /// A design, and what a clock of it does.
@@ -25,7 +24,7 @@ pub struct CompiledDesign {
     pub steps: Vec<Step>,
     pub groups: Vec<Group>,
     pub divisors: Vec<Divisor>,
-    pub shown: Shown,
+    pub shown: Vec<u32>,
     pub next: Vec<u32>,
     pub stores: Vec<Store>,
 }
@@ -64,9 +63,9 @@ pub fn clock(
         let net = Net::Wire(wire);
         return Err(XValue { net });
     }
-    let outputs = show(compiled.shown, slots);
+    let outputs = show(&compiled.shown, slots);
     gather(&compiled.next, slots, next);
     finish(&compiled.stores, slots, contents);
-    write_at(21, next, slots);
+    write_at(PORT_COUNT, next, slots);
     Ok(outputs)
 }

@@ -11,13 +11,14 @@ ghost use Rattle.clock_sim.specs.Layouts.{stored_of, IsReady, constants_in, slot
 use crate::builder::{Operand, StepBuilder};
 use crate::clock::{CompiledDesign, write_at};
 use crate::edge::{Store, add_always};
-use crate::layout::{Layout, PORTS, layout_of, port_operands_of};
+use crate::layout::{Layout, layout_of, port_operands_of};
 use crate::memory::MemoryWords;
 use crate::operands::Operands;
 use crate::order::{groups_of, reorder};
-use crate::outputs::{Shown, add_outputs};
+use crate::outputs::add_outputs;
 use crate::wires::{Divisor, add_wires, divisors_of};
 use net_core::design::Design;
+use net_core::ports::PORT_COUNT;
 use std::alloc::{AllocError, Global};
 
 /// A compiled design, and what a clock finds at first.
@@ -62,11 +63,11 @@ fn blank_slots(alloc: Global, count: usize) -> Result<Vec<Option<u64>>, AllocErr
     Ok(slots)
 }
 
-/// The divisors of a design, and the slots of what it shows.
+/// The divisors of a design, and the slot of what each port shows.
 #[derive(Drop)]
 pub struct Parts {
     pub divisors: Vec<Divisor>,
-    pub shown: Shown,
+    pub shown: Vec<u32>,
 }
 
 // Adds the steps of wires, outputs and always blocks.
@@ -90,7 +91,7 @@ fn add_parts(
 {
     add_wires(&design.wires, operands, builder)?;
     let divisors = divisors_of(alloc, &design.wires, operands)?;
-    let shown = add_outputs(&design.assigns, operands, builder)?;
+    let shown = add_outputs(alloc, &design.assigns, operands, builder)?;
     add_always(&design.always, operands, builder, next, stores)?;
     Ok(Parts { divisors, shown })
 }
@@ -120,7 +121,7 @@ pub fn compile(alloc: Global, design: Design) -> Result<Start, AllocError>
         wires,
     };
     let steps = Vec::new(alloc);
-    let slots = blank_slots(alloc, PORTS + count)?;
+    let slots = blank_slots(alloc, PORT_COUNT + count)?;
     let mut builder = StepBuilder { steps, slots };
     let mut stores = Vec::new(alloc);
     let parts = add_parts(
@@ -135,7 +136,7 @@ pub fn compile(alloc: Global, design: Design) -> Result<Start, AllocError>
     reorder(alloc, &mut steps, builder.slots.len())?;
     let groups = groups_of(alloc, &steps)?;
     let mut slots = constants_of(alloc, &builder.slots)?;
-    write_at(PORTS, &numbers, &mut slots);
+    write_at(PORT_COUNT, &numbers, &mut slots);
     let words = vec![in alloc; 0; count]?;
     let compiled = CompiledDesign {
         design,

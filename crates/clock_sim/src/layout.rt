@@ -1,17 +1,16 @@
 //! What stands where before any step.
 
-ghost use Rattle.std.specs.Prelude.{◌≡◌, [], ◌∷◌, OnOk, IfOk, IsTrue};
+ghost use Rattle.std.specs.Prelude.{◌≡◌, ◌<◌, [], ◌∷◌, OnOk, IfOk, IsTrue};
+ghost use Rattle.std.proofs.Common.{get_or};
 ghost use Rattle.net_core.specs.Width.{declared_typed};
-ghost use Rattle.clock_sim.specs.Layouts.{IsLayout, AddsItem, port_operands};
+ghost use Rattle.clock_sim.specs.Layouts.{IsLayout, AddsItem, port_operands, port_widths};
 
 use crate::builder::Operand;
 use crate::memory::MemoryWords;
 use crate::operands::Widths;
 use net_core::design::Declared;
+use net_core::ports::{PORT_COUNT, PORTS};
 use std::alloc::{AllocError, Global};
-
-/// How many ports there are: their words stand in the first slots, and those of the registers behind them.
-pub const PORTS: usize = 21;
 
 /// The operands and first numbers of what is declared.
 #[derive(Drop)]
@@ -28,34 +27,27 @@ fn operand(slot: u32, width: u8) -> Operand
     Operand { slot, width }
 }
 
-/// The operands of the ports. `clk` and the outputs are not read, so they have no width.
+// The width that is read of a port.
+fn port_width(port: usize) -> u8
+    requires { port < PORT_COUNT }
+    ensures { result ≡ get_or port_widths port 0 }
+{
+    if port == 0 || PORTS[port].output {
+        0
+    } else {
+        PORTS[port].width
+    }
+}
+
+/// The operands of the ports: their words stand in the first slots, and those of the registers behind them.
 pub fn port_operands_of(alloc: Global) -> Result<Vec<Operand>, AllocError>
     ensures { IfOk result (λ v. v.items ≡ port_operands) }
 {
-    let all = [
-        operand(0, 0),
-        operand(1, 1),
-        operand(2, 64),
-        operand(3, 4),
-        operand(4, 1),
-        operand(5, 32),
-        operand(6, 0),
-        operand(7, 1),
-        operand(8, 0),
-        operand(9, 0),
-        operand(10, 0),
-        operand(11, 0),
-        operand(12, 0),
-        operand(13, 0),
-        operand(14, 0),
-        operand(15, 1),
-        operand(16, 4),
-        operand(17, 16),
-        operand(18, 4),
-        operand(19, 64),
-        operand(20, 0),
-    ];
-    Vec::from_slice(alloc, &all)
+    let mut all = Vec::new(alloc);
+    for port in 0..PORT_COUNT {
+        all.push(operand(port as u32, port_width(port)))?;
+    }
+    Ok(all)
 }
 
 // Adds what a register or a memory needs.
@@ -66,7 +58,7 @@ fn add_item(alloc: Global, d: &Declared, layout: &mut Layout) -> Result<(), Allo
     match d {
         Declared::Integer => Ok(()),
         Declared::Register(word) => {
-            let Ok(slot) = u32::try_from(PORTS + layout.registers.len()) else {
+            let Ok(slot) = u32::try_from(PORT_COUNT + layout.registers.len()) else {
                 return Err(AllocError);
             };
             let width = word.width;

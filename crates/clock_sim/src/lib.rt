@@ -12,7 +12,6 @@ mod names;
 mod operands;
 mod order;
 mod outputs;
-mod ports;
 mod sim;
 mod step;
 mod wires;

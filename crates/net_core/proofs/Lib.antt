@@ -1,3 +1,4 @@
+pub mod PortLaws
 pub mod LowBitsLaws
 pub mod ClockLaws
 pub mod NameLaws

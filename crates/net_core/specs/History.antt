@@ -5,6 +5,7 @@ use Rattle.beat_core.specs.declared.beat.Beat.{Beat}
 use Rattle.beat_core.specs.Ports.{Offered, arrivals_among, Given, answers_among}
 use Rattle.net_core.specs.declared.ports.Inputs.{Inputs}
 use Rattle.net_core.specs.declared.ports.Outputs.{Outputs}
+use Rattle.net_core.specs.declared.ports.TheConstants.{SILENT}
 use Rattle.net_core.specs.Nets.{Netlist}
 use Rattle.net_core.specs.Clock.{Stored, after, stopping}
 use Rattle.net_core.specs.Ports.{words_of, outputs_of}
@@ -46,10 +47,10 @@ abbrev pub beats_in : List Cycle → List Beat
 beats_in [] = []
 beats_in (m ∷ ms) = if goes_in m then offered_beat m ∷ beats_in ms else beats_in ms
 
--- the beats that went over, each with the interface number that stood beside it
+-- the beats that went over, each with the interface number and the time that stood beside it
 abbrev pub offers_in : List Cycle → List Offered
 offers_in [] = []
-offers_in (m ∷ ms) = if goes_in m then record { beat = offered_beat m; ifindex = m.given.in_ifindex } ∷ offers_in ms else offers_in ms
+offers_in (m ∷ ms) = if goes_in m then record { beat = offered_beat m; ifindex = m.given.in_ifindex; time = m.given.in_time } ∷ offers_in ms else offers_in ms
 
 -- The frames that went over whole. Of the first this went over before, where one is begun.
 abbrev pub arrivals : Option Arrival → List Cycle → List Arrival
@@ -86,6 +87,7 @@ pub record IsInput (i : Inputs) : Type 0 where
   pub in_data : i.in_data < 2 ^ 64
   pub in_bytes : i.in_bytes < 2 ^ 4
   pub in_ifindex : i.in_ifindex < 2 ^ 32
+  pub in_time : i.in_time < 2 ^ 64
   pub host_map : i.host_map < 2 ^ 4
   pub host_index : i.host_index < 2 ^ 16
   pub host_word : i.host_word < 2 ^ 4
@@ -100,39 +102,24 @@ pub record IsSilent (i : Inputs) : Type 0 where
   pub host_data : i.host_data ≡ 0
 
 -- ---- the full drive
--- what stands at the inputs while a beat is offered, or none: what is shown is taken, and the host is silent
-abbrev pub inputs_with : Option Beat → ℕ → Inputs
-inputs_with None ifindex = record {
-  in_valid = false;
-  in_data = 0;
-  in_bytes = 0;
-  in_last = false;
-  in_ifindex = 0;
-  out_ready = true;
-  host_write = false;
-  host_map = 0;
-  host_index = 0;
-  host_word = 0;
-  host_data = 0;
-}
-inputs_with (Some b) ifindex = record {
+-- what stands at the inputs while a beat is offered beside its interface number and its time, or none: what is shown is taken, and
+-- the host is silent
+abbrev pub inputs_with : Option Offered → Inputs
+inputs_with None = record SILENT { out_ready = true }
+inputs_with (Some o) = record SILENT {
   in_valid = true;
-  in_data = b.word;
-  in_bytes = b.bytes;
-  in_last = b.last;
-  in_ifindex = ifindex;
+  in_data = o.beat.word;
+  in_bytes = o.beat.bytes;
+  in_last = o.beat.last;
+  in_ifindex = o.ifindex;
+  in_time = o.time;
   out_ready = true;
-  host_write = false;
-  host_map = 0;
-  host_index = 0;
-  host_word = 0;
-  host_data = 0;
 }
 
 -- the next beat is offered while one is left
-abbrev pub drive_inputs : ℕ → List Beat → Inputs
-drive_inputs ifindex [] = inputs_with None ifindex
-drive_inputs ifindex (b ∷ bs) = inputs_with (Some b) ifindex
+abbrev pub drive_inputs : List Offered → Inputs
+drive_inputs [] = inputs_with None
+drive_inputs (o ∷ os) = inputs_with (Some o)
 
 -- how a drive ends: with its last answer, at a wire whose divisor is zero, or out of clocks
 pub data Ended : Type 0 where
@@ -148,24 +135,23 @@ abbrev pub and_then : Cycle → Drive → Drive
 and_then m rest = record { trace = m ∷ rest.trace; ended = rest.ended }
 
 -- what is left to offer after a clock
-abbrev pub left_after : Cycle → List Beat → List Beat
+abbrev pub left_after : Cycle → List Offered → List Offered
 left_after m [] = []
-left_after m (b ∷ bs) = if goes_in m then bs else b ∷ bs
+left_after m (o ∷ os) = if goes_in m then os else o ∷ os
 
 -- how many of these answers are owed after a clock
 abbrev pub owed_after : Cycle → ℕ → ℕ
 owed_after m zero = zero
 owed_after m (suc owed) = if goes_out m && m.shown.out_last then owed else suc owed
 
--- The drive of a design from what is stored, with these beats to offer under one interface number, while answers are
--- owed, in at most so many clocks.
-unfoldable pub drive : Netlist → ℕ → Stored → List Beat → ℕ → ℕ → Drive
-drive d ifindex s left zero limit = record { trace = []; ended = Answered }
-drive d ifindex s left (suc owed) zero = record { trace = []; ended = OutOfClocks }
-drive d ifindex s left (suc owed) (suc limit) =
-    let i : Inputs = drive_inputs ifindex left in
+-- The drive of a design from what is stored, with these beats to offer, while answers are owed, in at most so many clocks.
+unfoldable pub drive : Netlist → Stored → List Offered → ℕ → ℕ → Drive
+drive d s left zero limit = record { trace = []; ended = Answered }
+drive d s left (suc owed) zero = record { trace = []; ended = OutOfClocks }
+drive d s left (suc owed) (suc limit) =
+    let i : Inputs = drive_inputs left in
     let m : Cycle = cycle_of d s i in
     elim (stopping d (words_of i) s) [
-      | None ↦ and_then m (drive d ifindex (after d (words_of i) s) (left_after m left) (owed_after m (suc owed)) limit)
+      | None ↦ and_then m (drive d (after d (words_of i) s) (left_after m left) (owed_after m (suc owed)) limit)
       | Some w ↦ record { trace = []; ended = Stopped w }
     ]

@@ -1,11 +1,13 @@
--- The ports that every design has, in their order.
-use Rattle.std.specs.Prelude.{ℕ, Bool, true, false, ◌==◌, ◌<◌, List, [], ◌∷◌, codes}
+-- The ports that every design has, in their order, and what stands at them in a clock.
+use Rattle.std.specs.Prelude.{ℕ, ◌^◌, ◌<◌, ◌==◌, if◌then◌else◌, true, false, List, [], ◌∷◌, map}
+use Rattle.std.proofs.Common.{get_or}
 use Rattle.net_core.specs.declared.tree.Word.{Word}
 use Rattle.net_core.specs.declared.design.Port.{Port}
 use Rattle.net_core.specs.declared.ports.Inputs.{Inputs}
 use Rattle.net_core.specs.declared.ports.Outputs.{Outputs}
+use Rattle.net_core.specs.declared.ports.TheConstants.{PORTS, PORT_NAMES, IN_READY, OUT_VALID, OUT_DATA, OUT_BYTES, OUT_LAST, OUT_VERDICT, OUT_TARGET, OUT_RELOAD, HOST_VALUE, HOST_READY, HOST_PASSED}
 use Rattle.net_core.specs.Nets.{Netlist}
-use Rattle.net_core.specs.Value.{word, bit, nothing}
+use Rattle.net_core.specs.Value.{word, number_of}
 use Rattle.net_core.specs.Clock.{Stored, shown}
 
 abbrev pub input : ℕ → Port
@@ -15,20 +17,34 @@ abbrev pub output : ℕ → Port
 output w = record { output = true; width = w }
 
 abbrev pub port_list : List Port
-port_list = input 1 ∷ input 1 ∷ input 64 ∷ input 4 ∷ input 1 ∷ input 32 ∷ output 1 ∷ input 1 ∷ output 1 ∷ output 64 ∷ output 4 ∷ output 1 ∷ output 32 ∷ output 32 ∷ output 1 ∷ input 1 ∷ input 4 ∷ input 16 ∷ input 4 ∷ input 64 ∷ output 64 ∷ []
+port_list = PORTS
 
 abbrev pub port_names : List (List ℕ)
-port_names =
-    codes "clk" ∷ codes "in_valid" ∷ codes "in_data" ∷ codes "in_bytes" ∷ codes "in_last" ∷ codes "in_ifindex" ∷ codes "in_ready"
-    ∷ codes "out_ready" ∷ codes "out_valid" ∷ codes "out_data" ∷ codes "out_bytes" ∷ codes "out_last" ∷ codes "out_verdict" ∷ codes "out_target" ∷ codes "out_reload"
-    ∷ codes "host_write" ∷ codes "host_map" ∷ codes "host_index" ∷ codes "host_word" ∷ codes "host_data" ∷ codes "host_value" ∷ []
+port_names = map (λ name. name.now) PORT_NAMES
 
--- the words at the ports, by their place: `clk` and the outputs are not read
+-- the width that is read of a port, and the one that is assigned to it
+abbrev pub input_width : Port → ℕ
+input_width p = if p.output then 0 else p.width
+
+abbrev pub output_width : Port → ℕ
+output_width p = if p.output then p.width else 0
+
+-- ---- inputs
+-- the number at each port, by its place: `clk` and the outputs have none
+abbrev pub numbers_of : Inputs → List ℕ
+numbers_of i =
+    0 ∷ number_of i.in_valid ∷ i.in_data ∷ i.in_bytes ∷ number_of i.in_last ∷ i.in_ifindex ∷ i.in_time ∷ 0
+    ∷ number_of i.out_ready ∷ 0 ∷ 0 ∷ 0 ∷ 0 ∷ 0 ∷ 0 ∷ 0
+    ∷ number_of i.host_write ∷ i.host_map ∷ i.host_index ∷ i.host_word ∷ i.host_data ∷ 0 ∷ 0 ∷ 0 ∷ []
+
+abbrev pub words_by : List Port → List ℕ → List Word
+words_by [] ns = []
+words_by (p ∷ ps) [] = []
+words_by (p ∷ ps) (n ∷ ns) = word (input_width p) n ∷ words_by ps ns
+
+-- the words at the ports, by their place
 abbrev pub words_of : Inputs → List Word
-words_of i =
-    nothing ∷ bit i.in_valid ∷ word 64 i.in_data ∷ word 4 i.in_bytes ∷ bit i.in_last ∷ word 32 i.in_ifindex ∷ nothing
-    ∷ bit i.out_ready ∷ nothing ∷ nothing ∷ nothing ∷ nothing ∷ nothing ∷ nothing ∷ nothing
-    ∷ bit i.host_write ∷ word 4 i.host_map ∷ word 16 i.host_index ∷ word 4 i.host_word ∷ word 64 i.host_data ∷ nothing ∷ []
+words_of i = words_by port_list (numbers_of i)
 
 -- each number fits its port
 pub record AreInputs (i : Inputs) : Type 0 where
@@ -36,21 +52,35 @@ pub record AreInputs (i : Inputs) : Type 0 where
   pub map : i.host_map < 16
   pub word : i.host_word < 16
 
-abbrev pub is_one : Word → Bool
-is_one w = w.value == 1
+-- what the types of inputs say
+pub record FitInputs (i : Inputs) : Type 0 where
+  pub frame : i.in_data < 2 ^ 64
+  pub interface : i.in_ifindex < 2 ^ 32
+  pub time : i.in_time < 2 ^ 64
+  pub index : i.host_index < 2 ^ 16
+  pub word : i.host_data < 2 ^ 64
+
+-- ---- outputs
+-- the number that each output shows fits it
+abbrev pub FitOutputs : (ℕ → ℕ) → Type 0
+FitOutputs at = (port : ℕ) → at port < 2 ^ output_width (get_or port_list port (record { output = false; width = 0 }))
+
+-- what the outputs show where these numbers stand at their places
+abbrev pub outputs_at : (ℕ → ℕ) → Outputs
+outputs_at at = record {
+  in_ready = at IN_READY == 1;
+  out_valid = at OUT_VALID == 1;
+  out_data = at OUT_DATA;
+  out_bytes = at OUT_BYTES;
+  out_last = at OUT_LAST == 1;
+  out_verdict = at OUT_VERDICT;
+  out_target = at OUT_TARGET;
+  out_reload = at OUT_RELOAD == 1;
+  host_value = at HOST_VALUE;
+  host_ready = at HOST_READY == 1;
+  host_passed = at HOST_PASSED;
+}
 
 -- what the outputs show in a clock
 abbrev pub outputs_of : Netlist → Inputs → Stored → Outputs
-outputs_of d i s =
-    let at : ℕ → Word = shown d (words_of i) s in
-    record {
-      in_ready = is_one (at 6);
-      out_valid = is_one (at 8);
-      out_data = (at 9).value;
-      out_bytes = (at 10).value;
-      out_last = is_one (at 11);
-      out_verdict = (at 12).value;
-      out_target = (at 13).value;
-      out_reload = is_one (at 14);
-      host_value = (at 20).value;
-    }
+outputs_of d i s = outputs_at (λ port. (shown d (words_of i) s port).value)

@@ -13,6 +13,7 @@ use Rattle.net_core.specs.declared.design.Declared.{Declared}
 use Rattle.net_core.specs.declared.design.Declared.TheVariants as declared
 use Rattle.net_core.specs.Nets.{Tree, TConst, TRead, TBit, TPartSelect, TMemoryWord, TUnary, TBinary, TConditional, TConcatenation, Trees, TLast, TMore, RightTree, RPlain, RQuotient, RRemainder, StatementTree, SBlock, SIf, SIfElse, SSet, SStore, StatementTrees, SEnd, SThen, WireTree, AssignTree, Netlist}
 use Rattle.net_core.specs.Ports.{port_list}
+pub use Rattle.net_core.specs.Ports.{input_width, output_width}
 
 -- a number that fits its width, of 1 to 64 bits
 pub record Fits (w : Word) : Type 0 where
@@ -125,9 +126,6 @@ memory_widths (declared.Integer ∷ ds) = memory_widths ds
 memory_widths (declared.Register w ∷ ds) = memory_widths ds
 memory_widths (declared.Memory i w n ∷ ds) = (i, w.width) ∷ memory_widths ds
 
-abbrev pub input_width : port.Port → ℕ
-input_width p = if p.output then 0 else p.width
-
 -- `clk`, the first port, is not read
 abbrev pub port_width : List port.Port → ℕ → ℕ
 port_width ports zero = 0
@@ -172,10 +170,6 @@ declared_typed (declared.Memory i w n ∷ ds) = (nat_le 1 i && nat_le i 16) && (
 abbrev pub statements_all_typed : Netlist → List (StatementTree Net) → Bool
 statements_all_typed d [] = true
 statements_all_typed d (a ∷ rest) = statement_typed (full_scope d) (register_widths d.declared) (memory_widths d.declared) a && statements_all_typed d rest
-
--- an output and its width
-abbrev pub output_width : port.Port → ℕ
-output_width p = if p.output then p.width else 0
 
 abbrev pub assigns_typed : Netlist → List AssignTree → Bool
 assigns_typed d [] = true

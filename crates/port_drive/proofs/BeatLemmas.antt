@@ -1,9 +1,11 @@
 -- Beats, as they are offered and go over.
-use Rattle.std.specs.Prelude.{slice_get, is_some}
+use Rattle.std.specs.Prelude.{slice_get, is_some, option_map}
 use Rattle.std.proofs.Common.{◌≡◌, ℕ, zero, suc, ◌<◌, true, false, Option, Some, None, List, [], ◌∷◌, length, drop, refl, sym, ap, ◌∙◌, subst, arith}
 use Rattle.std.specs.List.{flat_map}
 use Rattle.beat_core.specs.declared.beat.Beat.{Beat}
+use Rattle.beat_core.specs.declared.frame.Timed.{Timed}
 use Rattle.beat_core.specs.Beats.{first_beats, beat_count, beats_of}
+use Rattle.beat_core.specs.Ports.{Offered, offered, offers_of}
 use Rattle.beat_core.proofs.BeatLaws.{beats_of-step}
 use Rattle.net_core.specs.History.{Cycle, drive_inputs, left_after, inputs_with}
 use Rattle.port_drive.specs.Offering.{AreSmall, IsAhead, left_of}
@@ -18,13 +20,13 @@ pub small_beats : (xs : List ℕ) → AreSmall (beats_of xs)
 unfolding beats_of
 small_beats xs = small_first (beat_count (length xs)) xs
 
-pub begins_ahead : (xs : List ℕ) (frames : List (List ℕ)) (beats : List Beat) → beats ≡ beats_of xs → 0 < length xs → IsAhead (Some beats) frames
+pub begins_ahead : (xs : List ℕ) (frames : List Timed) (beats : List Beat) → beats ≡ beats_of xs → 0 < length xs → IsAhead (Some beats) frames
 begins_ahead xs frames beats e some =
     let s = beats_of-step xs some in
     let small = subst AreSmall s (small_beats xs) in
     subst (λ b. IsAhead (Some b) frames) (sym (e ∙ s)) small
 
-pub stays_ahead : (beats : List Beat) (frames : List (List ℕ)) (b : Beat) → IsAhead (Some beats) frames → slice_get (drop 1 beats) 0 ≡ Some b → IsAhead (Some (drop 1 beats)) frames
+pub stays_ahead : (beats : List Beat) (frames : List Timed) (b : Beat) → IsAhead (Some beats) frames → slice_get (drop 1 beats) 0 ≡ Some b → IsAhead (Some (drop 1 beats)) frames
 stays_ahead [] frames b h e = absurd h
 stays_ahead (x ∷ []) frames b h e = absurd (none_some b e)
   where
@@ -32,39 +34,52 @@ stays_ahead (x ∷ []) frames b h e = absurd (none_some b e)
     none_some b e = cc
 stays_ahead (x ∷ y ∷ rest) frames b h e = h.1
 
-pub last_gone : (beats : List Beat) (frames : List (List ℕ)) → IsAhead (Some beats) frames → slice_get (drop 1 beats) 0 ≡ None → flat_map beats_of frames ≡ drop 1 (left_of (Some beats) frames)
-last_gone [] frames h e = absurd h
-last_gone (x ∷ []) frames h e = refl
-last_gone (x ∷ y ∷ rest) frames h e = absurd (some_none y e)
-  where
-    some_none : (y : Beat) → Some y ≡ None → ⊥
-    some_none y e = cc
+-- ---- the beats that are left
+module _ (ifindex time : ℕ) (packets : List Timed) where
+  pub first_left : (beats : List Beat) (o : Option Beat) → IsAhead (Some beats) packets → o ≡ slice_get beats 0 → option_map (offered ifindex time) o ≡ slice_get (left_of ifindex time (Some beats) packets) 0
+  first_left [] o h e = absurd h
+  first_left (b ∷ bs) o h e = ap (option_map (offered ifindex time)) e
 
-pub take_last : (beats after : List Beat) (frames : List (List ℕ)) (o : Option Beat) → IsAhead (Some beats) frames → after ≡ drop 1 beats → o ≡ slice_get after 0 → is_some o ≡ false → flat_map beats_of frames ≡ drop 1 (left_of (Some beats) frames)
-take_last beats after frames o h a e n = last_gone beats frames h (sym (sym (none_of o n) ∙ e ∙ ap (λ l. slice_get l 0) a))
-  where
-    sym_none : (b : Beat) → is_some (Some b) ≡ false → Some b ≡ None
-    sym_none b n = cc
+  pub more_left : (beats : List Beat) → IsAhead (Some beats) packets → left_of ifindex time (Some (drop 1 beats)) packets ≡ drop 1 (left_of ifindex time (Some beats) packets)
+  more_left [] h = absurd h
+  more_left (b ∷ bs) h = refl
 
-    none_of : (o : Option Beat) → is_some o ≡ false → o ≡ None
-    none_of None n = refl
-    none_of (Some b) n = sym_none b n
+  last_gone : (beats : List Beat) → IsAhead (Some beats) packets → slice_get (drop 1 beats) 0 ≡ None → flat_map (offers_of ifindex) packets ≡ drop 1 (left_of ifindex time (Some beats) packets)
+  last_gone [] h e = absurd h
+  last_gone (x ∷ []) h e = refl
+  last_gone (x ∷ y ∷ rest) h e = absurd (some_none y e)
+    where
+      some_none : (y : Beat) → Some y ≡ None → ⊥
+      some_none y e = cc
+
+  pub take_last : (beats after : List Beat) (o : Option Beat) → IsAhead (Some beats) packets → after ≡ drop 1 beats → o ≡ slice_get after 0 → is_some o ≡ false → flat_map (offers_of ifindex) packets ≡ drop 1 (left_of ifindex time (Some beats) packets)
+  take_last beats after o h a e n = last_gone beats h (sym (sym (none_of o n) ∙ e ∙ ap (λ l. slice_get l 0) a))
+    where
+      sym_none : (b : Beat) → is_some (Some b) ≡ false → Some b ≡ None
+      sym_none b n = cc
+
+      none_of : (o : Option Beat) → is_some o ≡ false → o ≡ None
+      none_of None n = refl
+      none_of (Some b) n = sym_none b n
+
+pub begins_left : (ifindex : ℕ) (p : Timed) (packets : List Timed) (beats : List Beat) → beats ≡ beats_of p.frame → left_of ifindex p.time (Some beats) packets ≡ flat_map (offers_of ifindex) (p ∷ packets)
+begins_left ifindex p packets beats e = ap (λ b. left_of ifindex p.time (Some b) packets) e
 
 -- ---- a clock
-pub inputs_are : (left : List Beat) (ifindex : ℕ) → inputs_with (slice_get left 0) ifindex ≡ drive_inputs ifindex left
-inputs_are [] ifindex = refl
-inputs_are (b ∷ bs) ifindex = refl
+pub inputs_are : (left : List Offered) → inputs_with (slice_get left 0) ≡ drive_inputs left
+inputs_are [] = refl
+inputs_are (o ∷ os) = refl
 
-pub takes_out : (left : List Beat) (ifindex : ℕ) → (drive_inputs ifindex left).out_ready ≡ true
-takes_out [] ifindex = refl
-takes_out (b ∷ bs) ifindex = refl
+pub takes_out : (left : List Offered) → (drive_inputs left).out_ready ≡ true
+takes_out [] = refl
+takes_out (o ∷ os) = refl
 
-pub left_gone : (m : Cycle) (left : List Beat) (ifindex : ℕ) → m.given ≡ drive_inputs ifindex left → m.shown.in_ready ≡ true → left_after m left ≡ drop 1 left
-left_gone m [] ifindex g r = refl
-left_gone m (b ∷ bs) ifindex g r =
+pub left_gone : (m : Cycle) (left : List Offered) → m.given ≡ drive_inputs left → m.shown.in_ready ≡ true → left_after m left ≡ drop 1 left
+left_gone m [] g r = refl
+left_gone m (o ∷ os) g r =
     let v : m.given.in_valid ≡ true = ap (λ i. i.in_valid) g in
     rw (r, v) refl
 
-pub left_stays : (m : Cycle) (left : List Beat) → m.shown.in_ready ≡ false → left_after m left ≡ left
+pub left_stays : (m : Cycle) (left : List Offered) → m.shown.in_ready ≡ false → left_after m left ≡ left
 left_stays m [] r = refl
-left_stays m (b ∷ bs) r = rw r refl
+left_stays m (o ∷ os) r = rw r refl

@@ -1,7 +1,8 @@
 -- The full drive of frames, and how a call reports it.
 use Rattle.std.specs.Prelude.{◌≡◌, ℕ, ◌+◌, ◌++◌, List, [], ◌∷◌, length, map, if◌then◌else◌, Result, Ok, Err, ⊤}
 use Rattle.std.specs.List.{flat_map}
-use Rattle.beat_core.specs.Beats.{beats_of}
+use Rattle.beat_core.specs.declared.frame.Timed.{Timed}
+use Rattle.beat_core.specs.Ports.{offers_of}
 use Rattle.net_core.specs.declared.tree.Net.TheVariants.{Wire}
 use Rattle.net_core.specs.declared.ports.Inputs.{Inputs}
 use Rattle.net_core.specs.Nets.{Netlist}
@@ -13,9 +14,9 @@ use Rattle.port_drive.specs.declared.report.Drive.{Drive}
 use Rattle.port_drive.specs.declared.report.DriveError.{DriveError}
 use Rattle.port_drive.specs.declared.report.DriveError.TheVariants.{X, Late, NoMemory}
 
--- the full drive of these frames under one interface number, in at most so many clocks
-abbrev pub full_drive : Netlist → ℕ → Stored → List (List ℕ) → ℕ → history.Drive
-full_drive d ifindex s frames limit = drive d ifindex s (flat_map beats_of frames) (length frames) limit
+-- the full drive of these packets, each beat beside its time, under one interface number, in at most so many clocks
+abbrev pub full_drive : Netlist → ℕ → Stored → List Timed → ℕ → history.Drive
+full_drive d ifindex s packets limit = drive d s (flat_map (offers_of ifindex) packets) (length packets) limit
 
 -- the clocks in which a packet is sent back
 abbrev pub reloads_in : List Cycle → ℕ

@@ -8,28 +8,29 @@ use crate::advance::advance;
 use crate::answers::{Answers, take_shown};
 use crate::left::Left;
 use crate::report::{Drive, DriveError};
-use beat_core::{Bytes, Frame, Meta};
+use beat_core::{Bytes, Timed};
 use clock_sim::Sim;
 use std::alloc::Global;
 
 /// Drives a design by these frames, in at most `limit` clocks. At each clock the next beat is offered while one is
-/// left, a last word filled up with zeros; what is shown is taken, and the host is silent. The drive ends with the clock
+/// left, beside the interface number and the time of its frame, a last word filled up with zeros; what is shown is taken,
+/// and the host is silent. The drive ends with the clock
 /// that takes the last beat of as many answers as there are frames, even where beats are left to offer. What was given is
 /// added to the answers, after an error too.
 pub fn drive(
     alloc: Global,
     sim: &mut Sim,
-    frames: &[Frame],
-    meta: Meta,
+    frames: &[Timed],
+    ifindex: u32,
     limit: u64,
     answers: &mut Answers,
 ) -> Result<Drive, DriveError>
     ensures netlist { sim.new.netlist ≡ sim.old.netlist }
-    ensures reports { Reports (full_drive sim.old.netlist meta.ifindex sim.old.stored frames.now limit) (length frames.now) result }
-    ensures answers { Gives result answers.old answers.new (answers_given [] (full_drive sim.old.netlist meta.ifindex sim.old.stored frames.now limit).trace) }
-    ensures stored { Leaves result sim.old.netlist sim.old.stored (full_drive sim.old.netlist meta.ifindex sim.old.stored frames.now limit).trace sim.new.stored }
+    ensures reports { Reports (full_drive sim.old.netlist ifindex sim.old.stored frames.now limit) (length frames.now) result }
+    ensures answers { Gives result answers.old answers.new (answers_given [] (full_drive sim.old.netlist ifindex sim.old.stored frames.now limit).trace) }
+    ensures stored { Leaves result sim.old.netlist sim.old.stored (full_drive sim.old.netlist ifindex sim.old.stored frames.now limit).trace sim.new.stored }
 {
-    let mut left = Left::new(frames);
+    let mut left = Left::new(frames, ifindex);
     let mut begun = Bytes::new(alloc);
     let mut owed = frames.len();
     let mut reloads = 0;
@@ -37,7 +38,7 @@ pub fn drive(
         if owed == 0 {
             return Ok(Drive { clocks, reloads });
         }
-        let shown = match advance(sim, &mut left, meta.ifindex) {
+        let shown = match advance(sim, &mut left) {
             Ok(shown) => shown,
             Err(x) => return Err(DriveError::X(x)),
         };

@@ -5,7 +5,7 @@ use Rattle.net_core.specs.Nets.{Netlist}
 use Rattle.verilog_lex.specs.declared.token.Token.{Token}
 use Rattle.verilog_lex.specs.Lexeme.{Lexeme, Lexes, lexeme_of, lexemes_of}
 use Rattle.verilog_lex.specs.Tokens.{tokens_in}
-use Rattle.verilog_lex.proofs.LexemeLemmas.{tokens_in-lexes}
+use Rattle.verilog_lex.proofs.LexemeLaws.{tokens_in-lexes}
 use Rattle.verilog_expression.specs.declared.fault.Code.{Code}
 use Rattle.verilog_expression.specs.declared.fault.Code.TheVariants as code
 use Rattle.verilog_expression.specs.Reads.{Reading}
@@ -13,7 +13,7 @@ use Rattle.verilog_read.specs.declared.error.ReadError.{ReadError}
 use Rattle.verilog_read.specs.declared.error.ReadError.TheVariants.{Ports}
 use Rattle.verilog_read.specs.Designs.{design_at, port_fault}
 use Rattle.verilog_read.specs.Texts.{place_of, by_ports, by_tokens, by_lexemes, error_of, outcome_of}
-use Rattle.verilog_read.proofs.LawTexts.{outcome_only}
+use Rattle.verilog_read.proofs.TextLaws.{outcome_only}
 use Rattle.verilog_faults.specs.Faults.{lexemes_behind, fault_with, BeginsWith, start_of, SharesError}
 use Rattle.verilog_faults.proofs.DesignLaws.{design_fault}
 

@@ -1,8 +1,9 @@
 pub mod Choices
 pub mod Elements
 pub mod LeadsLemmas
-pub mod LexemeLemmas
+pub mod LexemeLaws
 pub mod Prefixes
 pub mod SpellingLaws
+pub mod KindLemmas
 pub mod Longest
 pub mod NameLaws

@@ -10,15 +10,20 @@ use Rattle.std.specs.Str.Parse.{digits_value}
 use Rattle.std.specs.List.{prefix_len, list_all, find, starts_with}
 use Rattle.verilog_lex.specs.Bytes.{is_space, is_comment_byte, is_digit, begins_word, is_word_byte, begins_with, is_digit_of}
 use Rattle.verilog_lex.specs.Words.{symbol_text, symbols as all_symbols}
-use Rattle.verilog_lex.specs.Number.{has_leading_zero, radix_of, some_digits, digits_after, constant_in}
-use Rattle.verilog_lex.specs.Element.{element_in, number_in, number_element, sized_or_plain, symbol_at, symbol_or_nothing}
-use Rattle.verilog_lex.specs.Forms.{IsRun, IsForm, IsLongest, IsRefused, IsLongestElement}
+use Rattle.verilog_lex.specs.Number.{has_leading_zero, radix_of, some_digits, digits_after, constant_in, sized_kind}
+use Rattle.verilog_lex.specs.Element.{element_in, word_in, word_kind, number_in, number_element, sized_or_plain, symbol_at, symbol_or_nothing}
+use Rattle.verilog_lex.specs.Forms.{IsRun, IsSeparator, IsForm, IsLongest, IsRefused, HasKind, IsLongestElement}
+use Rattle.verilog_lex.specs.Forms.IsSeparator.{space, comment}
 use Rattle.verilog_lex.specs.Forms.IsRefused.{above, zero_first}
-use Rattle.verilog_lex.specs.Forms.IsForm.{space, comment, word, number, constant, symbol}
+use Rattle.verilog_lex.specs.Forms.IsForm.{separator, word, number, constant, symbol}
+use Rattle.verilog_lex.specs.Forms.HasKind.{number as number_kind, constant as sized_as, symbol as symbol_kind}
 use Rattle.verilog_lex.specs.declared.token.Symbol.{Symbol}
 use Rattle.verilog_lex.specs.declared.token.Symbol.TheVariants as symbols
+use Rattle.verilog_lex.specs.declared.token.TokenKind.{TokenKind}
+use Rattle.verilog_lex.specs.declared.token.TokenKind.TheVariants as kind
 use Rattle.verilog_lex.specs.declared.element.LexicalElement.{LexicalElement}
-use Rattle.verilog_lex.specs.declared.element.LexicalElement.TheVariants.{Nothing}
+use Rattle.verilog_lex.specs.declared.element.LexicalElement.TheVariants.{Separator, Token, Nothing}
+use Rattle.verilog_lex.proofs.KindLemmas.{kind_form, kind_not_refused, word_has_kind}
 use Rattle.verilog_lex.proofs.Elements.{symbol_positive, comment_within, constant_within, longer}
 use Rattle.verilog_lex.proofs.Choices.{either, if_true, if_false, both, first_true, second_true, first_false, or_second, find_passes, prefix_of, prefix_len-whole, word_no_space, word_no_slash, word_no_digit, digit_no_space, digit_no_slash}
 
@@ -116,8 +121,8 @@ symbol_within_reach s rest = omega arith
 
 -- each form is within the reach of a text that begins with it
 within_reach : (bytes rest : List ℕ) → IsForm bytes → length bytes ≤ reach (bytes ++ rest)
-within_reach bytes rest (space c e) = let one : reach (c ∷ rest) ≡ 1 = if_true {A = ℕ} (is_space c) _ _ e in omega (arith, one)
-within_reach bytes rest (comment bs e) = let more : length bs ≤ prefix_len is_comment_byte (bs ++ rest) = run_reach is_comment_byte bs rest e in omega arith
+within_reach bytes rest (separator bs (space c e)) = let one : reach (c ∷ rest) ≡ 1 = if_true {A = ℕ} (is_space c) _ _ e in omega (arith, one)
+within_reach bytes rest (separator ds (comment bs e)) = let more : length bs ≤ prefix_len is_comment_byte (bs ++ rest) = run_reach is_comment_byte bs rest e in omega arith
 within_reach bytes rest (word c bs b e) =
     let more : length (c ∷ bs) ≤ prefix_len is_word_byte ((c ∷ bs) ++ rest) = run_reach is_word_byte (c ∷ bs) rest (word_run c bs b e) in
     omega (arith, reach-letter c (bs ++ rest) b)
@@ -144,6 +149,16 @@ longest_at text n e within form = record {
   no_more = λ m h f. omega (arith, prefix_reach text m h f, e);
 }
 
+separator_at : (text : List ℕ) (n : ℕ) → reach text ≡ n → n ≤ length text → IsSeparator (take n text) → IsLongestElement text (Separator n)
+separator_at text n e within s = (longest_at text n e within (separator (take n text) s), s)
+
+token_at : (text : List ℕ) (k : TokenKind) (n : ℕ) → reach text ≡ n → n ≤ length text → HasKind (take n text) k → IsLongestElement text (Token k n)
+token_at text k n e within h = record {
+  longest = longest_at text n e within (kind_form (take n text) k h);
+  has_kind = h;
+  no_refusal = kind_not_refused (take n text) k h;
+}
+
 -- a run is one
 run_all : (p : ℕ → Bool) (text : List ℕ) → list_all p (take (prefix_len p text) text) ≡ true
 run_all p [] = refl
@@ -160,8 +175,8 @@ run_of p c rest e =
     record { some = omega (arith, count, some); all = run_all p (c ∷ rest) }
 
 form_some : (bytes : List ℕ) → IsForm bytes → 0 < length bytes
-form_some bytes (space c e) = omega arith
-form_some bytes (comment bs e) = omega arith
+form_some bytes (separator bs (space c e)) = omega arith
+form_some bytes (separator ds (comment bs e)) = omega arith
 form_some bytes (word c bs b e) = omega arith
 form_some bytes (number ds r) = r.some
 form_some bytes (constant size base radix ds r e s) = omega (arith, r.some, length-append size (39 ∷ base ∷ ds))
@@ -176,61 +191,64 @@ none_longest text n e l =
 eq_true : (m n : ℕ) → (m == n) ≡ true → m ≡ n
 eq_true m n e = grind (arith, nat_tests)
 
-comment_form : (c d : ℕ) (rest : List ℕ) → c ≡ 47 → d ≡ 47 → IsForm (take (2 + prefix_len is_comment_byte rest) (c ∷ d ∷ rest))
+comment_form : (c d : ℕ) (rest : List ℕ) → c ≡ 47 → d ≡ 47 → IsSeparator (take (2 + prefix_len is_comment_byte rest) (c ∷ d ∷ rest))
 comment_form c d rest e f =
     let k = prefix_len is_comment_byte rest in
     let two : suc (suc k) ≡ 2 + k = omega arith in
-    let P : ℕ → Type 0 = λ n. IsForm (take n (c ∷ d ∷ rest)) in
-    let Q : ℕ → Type 0 = λ x. IsForm (x ∷ d ∷ take k rest) in
-    let R : ℕ → Type 0 = λ x. IsForm (47 ∷ x ∷ take k rest) in
+    let P : ℕ → Type 0 = λ n. IsSeparator (take n (c ∷ d ∷ rest)) in
+    let Q : ℕ → Type 0 = λ x. IsSeparator (x ∷ d ∷ take k rest) in
+    let R : ℕ → Type 0 = λ x. IsSeparator (47 ∷ x ∷ take k rest) in
     subst P two (subst Q (sym e) (subst R (sym f) (comment (take k rest) (run_all is_comment_byte rest))))
 
-comment_longest : (c : ℕ) (rest : List ℕ) → is_space c ≡ false → (c == 47) && begins_with 47 rest ≡ true → IsLongest (c ∷ rest) (2 + prefix_len is_comment_byte (drop 1 rest))
+comment_longest : (c : ℕ) (rest : List ℕ) → is_space c ≡ false → (c == 47) && begins_with 47 rest ≡ true → IsLongestElement (c ∷ rest) (Separator (2 + prefix_len is_comment_byte (drop 1 rest)))
 comment_longest c [] a e = absurd (let f : false ≡ true = second_true (c == 47) false e in cc)
 comment_longest c (d ∷ rest) a e =
-    longest_at (c ∷ d ∷ rest) (2 + prefix_len is_comment_byte rest)
+    separator_at (c ∷ d ∷ rest) (2 + prefix_len is_comment_byte rest)
     (if_false {A = ℕ} (is_space c) _ _ a ∙ if_true {A = ℕ} ((c == 47) && begins_with 47 (d ∷ rest)) _ _ e)
     (comment_within (d ∷ rest) (second_true (c == 47) (d == 47) e))
     (comment_form c d rest (eq_true c 47 (first_true (c == 47) (d == 47) e)) (eq_true d 47 (second_true (c == 47) (d == 47) e)))
 
-word_longest : (c : ℕ) (rest : List ℕ) → begins_word c ≡ true → IsLongest (c ∷ rest) (prefix_len is_word_byte (c ∷ rest))
+word_longest : (c : ℕ) (rest : List ℕ) → begins_word c ≡ true → IsLongestElement (c ∷ rest) (word_in (c ∷ rest))
 word_longest c rest e =
     let k = prefix_len is_word_byte rest in
     let first : prefix_len is_word_byte (c ∷ rest) ≡ 1 + k = if_true {A = ℕ} (is_word_byte c) _ _ (or_second (is_digit c) (begins_word c) e) in
     let whole : suc k ≡ prefix_len is_word_byte (c ∷ rest) = omega (arith, first) in
-    let P : ℕ → Type 0 = λ n. IsForm (take n (c ∷ rest)) in
-    longest_at (c ∷ rest) (prefix_len is_word_byte (c ∷ rest)) (reach-letter c rest e) (prefix_len-le-length is_word_byte (c ∷ rest))
-    (subst P whole (word c (take k rest) e (run_all is_word_byte rest)))
+    let P : ℕ → Type 0 = λ n. HasKind (take n (c ∷ rest)) (word_kind (take n (c ∷ rest))) in
+    token_at (c ∷ rest) (word_kind (take (prefix_len is_word_byte (c ∷ rest)) (c ∷ rest))) (prefix_len is_word_byte (c ∷ rest)) (reach-letter c rest e)
+    (prefix_len-le-length is_word_byte (c ∷ rest)) (subst P whole (word_has_kind c (take k rest) e (run_all is_word_byte rest)))
 
 -- a size and what of a constant follows it
-some_form : (size rest : List ℕ) (q base radix k : ℕ) → IsRun is_digit size → q ≡ 39 → radix_of base ≡ Some radix → k ≡ prefix_len (is_digit_of radix) rest → 0 < k → IsForm (size ++ take (2 + k) (q ∷ base ∷ rest))
-some_form size rest q base radix k run e f h some =
+abbrev HasSize : List ℕ → List ℕ → ℕ × ℕ → Type 0
+HasSize size after c = HasKind (size ++ take (2 + c.1) after) (sized_kind (digits_value 10 size) (digits_value c.0 (take c.1 (drop 2 after))))
+
+some_kind : (size rest : List ℕ) (q base radix k : ℕ) → IsRun is_digit size → has_leading_zero size ≡ false → q ≡ 39 → radix_of base ≡ Some radix → k ≡ prefix_len (is_digit_of radix) rest → 0 < k → HasSize size (q ∷ base ∷ rest) (radix, k)
+some_kind size rest q base radix k run z e f h some =
     let two : suc (suc k) ≡ 2 + k = omega arith in
     let count : length (take k rest) ≡ k = ap (λ n. length (take n rest)) h ∙ length-prefix_len (is_digit_of radix) rest ∙ sym h in
     let digits : IsRun (is_digit_of radix) (take k rest) = record {
       some = omega (arith, count, some);
       all = ap (λ n. list_all (is_digit_of radix) (take n rest)) h ∙ run_all (is_digit_of radix) rest;
     } in
-    let P : ℕ → Type 0 = λ n. IsForm (size ++ take n (q ∷ base ∷ rest)) in
-    let Q : ℕ → Type 0 = λ x. IsForm (size ++ (x ∷ base ∷ take k rest)) in
-    subst P two (subst Q (sym e) (constant size base radix (take k rest) run f digits))
+    let made = sized_kind (digits_value 10 size) (digits_value radix (take k rest)) in
+    let P : ℕ → Type 0 = λ n. HasKind (size ++ take n (q ∷ base ∷ rest)) made in
+    let Q : ℕ → Type 0 = λ x. HasKind (size ++ (x ∷ base ∷ take k rest)) made in
+    subst P two (subst Q (sym e) (sized_as size base radix (take k rest) run z f digits))
 
-digits_form : (size rest : List ℕ) (q base : ℕ) (o : Option ℕ) (c : ℕ × ℕ) → IsRun is_digit size → q ≡ 39 → radix_of base ≡ o → digits_after o rest ≡ Some c → IsForm (size ++ take (2 + c.1) (q ∷ base ∷ rest))
-digits_form size rest q base None c run e f = λ g. absurd cc
-digits_form size rest q base (Some radix) c run e f =
+digits_kind : (size rest : List ℕ) (q base : ℕ) (o : Option ℕ) (c : ℕ × ℕ) → IsRun is_digit size → has_leading_zero size ≡ false → q ≡ 39 → radix_of base ≡ o → digits_after o rest ≡ Some c → HasSize size (q ∷ base ∷ rest) c
+digits_kind size rest q base None c run z e f = λ g. absurd cc
+digits_kind size rest q base (Some radix) c run z e f =
     let k = prefix_len (is_digit_of radix) rest in
-    let P : Option (ℕ × ℕ) → Type 0 = λ o. o ≡ Some c → IsForm (size ++ take (2 + c.1) (q ∷ base ∷ rest)) in
-    either P (k == 0) None (Some (radix, k)) (λ _ g. absurd cc) (λ z g.
+    let P : Option (ℕ × ℕ) → Type 0 = λ o. o ≡ Some c → HasSize size (q ∷ base ∷ rest) c in
+    either P (k == 0) None (Some (radix, k)) (λ _ g. absurd cc) (λ n g.
     let same : (radix, k) ≡ c = cc in
-    let Q : ℕ × ℕ → Type 0 = λ d. IsForm (size ++ take (2 + d.1) (q ∷ base ∷ rest)) in
-    subst Q same (some_form size rest q base radix k run e f refl (grind (arith, nat_tests))))
+    subst (HasSize size (q ∷ base ∷ rest)) same (some_kind size rest q base radix k run z e f refl (grind (arith, nat_tests))))
 
-constant_form : (size after : List ℕ) (c : ℕ × ℕ) → IsRun is_digit size → constant_in after ≡ Some c → IsForm (size ++ take (2 + c.1) after)
-constant_form size [] c run = λ e. absurd cc
-constant_form size (q ∷ []) c run = λ e. absurd cc
-constant_form size (q ∷ base ∷ rest) c run =
-    let P : Option (ℕ × ℕ) → Type 0 = λ o. o ≡ Some c → IsForm (size ++ take (2 + c.1) (q ∷ base ∷ rest)) in
-    either P (q == 39) (digits_after (radix_of base) rest) None (λ t e. digits_form size rest q base (radix_of base) c run (eq_true q 39 t) refl e) (λ _ e. absurd cc)
+constant_kind : (size after : List ℕ) (c : ℕ × ℕ) → IsRun is_digit size → has_leading_zero size ≡ false → constant_in after ≡ Some c → HasSize size after c
+constant_kind size [] c run z = λ e. absurd cc
+constant_kind size (q ∷ []) c run z = λ e. absurd cc
+constant_kind size (q ∷ base ∷ rest) c run z =
+    let P : Option (ℕ × ℕ) → Type 0 = λ o. o ≡ Some c → HasSize size (q ∷ base ∷ rest) c in
+    either P (q == 39) (digits_after (radix_of base) rest) None (λ t e. digits_kind size rest q base (radix_of base) c run z (eq_true q 39 t) refl e) (λ _ e. absurd cc)
 
 -- the size itself has a form
 size_form : (size after : List ℕ) → IsRun is_digit size → IsForm (take (length size) (size ++ after))
@@ -250,29 +268,32 @@ above_refused : (size after : List ℕ) (n : ℕ) → IsRun is_digit size → 65
 above_refused size after n run h e =
     subst IsRefused (sym (ap (λ m. take m (size ++ after)) e ∙ take-append_seam size after)) (above size run h)
 
-sized_longest : (size after : List ℕ) (o : Option (ℕ × ℕ)) → IsRun is_digit size → reach (size ++ after) ≡ length size + tail_reach o → constant_in after ≡ o → IsLongestElement (size ++ after) (sized_or_plain size after o)
-sized_longest size after None run e f =
+sized_longest : (size after : List ℕ) (o : Option (ℕ × ℕ)) → IsRun is_digit size → has_leading_zero size ≡ false → reach (size ++ after) ≡ length size + tail_reach o → constant_in after ≡ o → IsLongestElement (size ++ after) (sized_or_plain size after o)
+sized_longest size after None run z e f =
     let P : LexicalElement → Type 0 = λ p. IsLongestElement (size ++ after) p in
     let whole : reach (size ++ after) ≡ length size = omega (arith, e) in
     either P (nat_le (digits_value 10 size) 65536) _ _
-    (λ _. longest_at (size ++ after) (length size) whole (omega (arith, length-append size after)) (size_form size after run))
+    (λ b. token_at (size ++ after) (kind.Number (digits_value 10 size)) (length size) whole (omega (arith, length-append size after))
+    (subst (λ bytes. HasKind bytes (kind.Number (digits_value 10 size))) (sym (take-append_seam size after)) (number_kind size run z (grind (arith, nat_tests)))))
     (λ b n l.
     let most : n ≤ length size = omega (arith, prefix_reach (size ++ after) n l.within l.form, whole) in
     let same : n ≡ length size = omega (arith, most, size_first size after n run l) in
     above_refused size after n run (grind (arith, nat_tests)) same)
-sized_longest size after (Some c) run e f =
+sized_longest size after (Some c) run z e f =
     let within : 2 + c.1 ≤ length after = constant_within after c f in
     let whole : reach (size ++ after) ≡ length size + 2 + c.1 = omega (arith, e) in
     let sum : length size + (2 + c.1) ≡ length size + 2 + c.1 = omega arith in
-    let P : ℕ → Type 0 = λ n. IsForm (take n (size ++ after)) in
-    longest_at (size ++ after) (length size + 2 + c.1) whole (omega (arith, within, length-append size after))
-    (subst P sum (subst IsForm (sym (take-append-add size after (2 + c.1))) (constant_form size after c run f)))
+    let k = sized_kind (digits_value 10 size) (digits_value c.0 (take c.1 (drop 2 after))) in
+    let P : ℕ → Type 0 = λ n. HasKind (take n (size ++ after)) k in
+    let Q : List ℕ → Type 0 = λ bytes. HasKind bytes k in
+    token_at (size ++ after) k (length size + 2 + c.1) whole (omega (arith, within, length-append size after))
+    (subst P sum (subst Q (sym (take-append-add size after (2 + c.1))) (constant_kind size after c run z f)))
 
 number_parts : (size after : List ℕ) → IsRun is_digit size → reach (size ++ after) ≡ length size + tail_reach (constant_in after) → IsLongestElement (size ++ after) (number_element size after)
 number_parts size after run e =
     let P : LexicalElement → Type 0 = λ p. IsLongestElement (size ++ after) p in
     either P (has_leading_zero size) Nothing (sized_or_plain size after (constant_in after))
-    (λ z n l. zero_refused size after n run z (size_first size after n run l)) (λ _. sized_longest size after (constant_in after) run e refl)
+    (λ z n l. zero_refused size after n run z (size_first size after n run l)) (λ z. sized_longest size after (constant_in after) run z e refl)
 
 number_longest : (c : ℕ) (rest : List ℕ) → is_digit c ≡ true → IsLongestElement (c ∷ rest) (number_in (c ∷ rest))
 number_longest c rest e =
@@ -288,14 +309,15 @@ symbol_longest : (text : List ℕ) (o : Option Symbol) → reach text ≡ symbol
 symbol_longest text None e f = λ n l. none_longest text n e l
 symbol_longest text (Some s) e f =
     let starts = find_passes (λ s. starts_with nat_eq text (symbol_text s)) all_symbols s f in
-    longest_at text (length (symbol_text s)) e (longer text (symbol_text s) starts)
-    (subst IsForm (same_text (symbol_text s) (take (length (symbol_text s)) text) (sym starts)) (symbol s))
+    let P : List ℕ → Type 0 = λ bytes. HasKind bytes (kind.Symbol s) in
+    token_at text (kind.Symbol s) (length (symbol_text s)) e (longer text (symbol_text s) starts)
+    (subst P (same_text (symbol_text s) (take (length (symbol_text s)) text) (sym starts)) (symbol_kind s))
 
 pub element_longest : (text : List ℕ) → IsLongestElement text (element_in text)
 element_longest [] = λ n l. none_longest [] n refl l
 element_longest (c ∷ rest) =
     let P : LexicalElement → Type 0 = λ p. IsLongestElement (c ∷ rest) p in
-    either P (is_space c) _ _ (λ e. longest_at (c ∷ rest) 1 (if_true {A = ℕ} (is_space c) _ _ e) (omega arith) (space c e)) (λ a.
+    either P (is_space c) _ _ (λ e. separator_at (c ∷ rest) 1 (if_true {A = ℕ} (is_space c) _ _ e) (omega arith) (space c e)) (λ a.
     either P ((c == 47) && begins_with 47 rest) _ _ (λ e. comment_longest c rest a e) (λ b.
     either P (is_digit c) _ _ (λ d. number_longest c rest d) (λ d.
     either P (begins_word c) _ _ (λ w. word_longest c rest w) (λ w.

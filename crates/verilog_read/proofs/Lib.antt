@@ -25,7 +25,7 @@ pub mod SoundNamed
 pub mod SoundUnnamed
 pub mod SoundPorts
 pub mod SoundDesign
-pub mod LawTexts
+pub mod TextLaws
 pub mod Tables
 pub mod Places
 pub mod Known

@@ -2,6 +2,7 @@ use Rattle.std.proofs.Common.{◌≡◌, ◌+◌, None, [], length, sym, ap, ◌
 use Rattle.std.specs.Prelude.{replicate}
 use Rattle.std.proofs.lemmas.List.{take_at, with_items_is, length-map}
 use Rattle.std.specs.Vec.{with_items}
+use Rattle.net_core.specs.declared.ports.TheConstants.{PORT_COUNT}
 use Rattle.net_core.specs.Clock.{first_words}
 use Rattle.net_core.specs.Width.{register_widths}
 use Rattle.net_core.specs.View.{netlist_of}
@@ -23,7 +24,7 @@ add_parts-requires-clause-matches c =
     let regs = c.in_ok-layout.layout.registers in
     let len : c.len-count.result ≡ length regs.items = omega (arith, c.len-count.ensures, regs.ok.0) in
     let count : c.len-count.result ≡ length (register_widths c.args.design.declared.items) = count_is regs.items c.len-count.result (register_widths c.args.design.declared.items) len il.registers in
-    let slots : f.slots ≡ replicate (21 + length (register_widths c.args.design.declared.items)) None = c.in_ok-slots.ensures ∙ ap (λ k. replicate (21 + k) None) count in
+    let slots : f.slots ≡ replicate (PORT_COUNT + length (register_widths c.args.design.declared.items)) None = c.in_ok-slots.ensures ∙ ap (λ k. replicate (PORT_COUNT + k) None) count in
     let steps : f.steps ≡ [] = c.new-steps.ensures.items in
     matches_first d c.requires n c.in_ok-ports.ensures il.registers il.memories c.new-wires.ensures.items f steps slots
 
@@ -36,7 +37,7 @@ add_parts-requires-clause-operands c =
     let regs = c.in_ok-layout.layout.registers in
     let len : c.len-count.result ≡ length regs.items = omega (arith, c.len-count.ensures, regs.ok.0) in
     let count : c.len-count.result ≡ length (register_widths c.args.design.declared.items) = count_is regs.items c.len-count.result (register_widths c.args.design.declared.items) len il.registers in
-    let slots : f.slots ≡ replicate (21 + length (register_widths c.args.design.declared.items)) None = c.in_ok-slots.ensures ∙ ap (λ k. replicate (21 + k) None) count in
+    let slots : f.slots ≡ replicate (PORT_COUNT + length (register_widths c.args.design.declared.items)) None = c.in_ok-slots.ensures ∙ ap (λ k. replicate (PORT_COUNT + k) None) count in
     let steps : f.steps ≡ [] = c.new-steps.ensures.items in
     operands_first d c.requires n c.in_ok-ports.ensures il.registers il.memories c.new-wires.ensures.items f steps slots
 
@@ -49,7 +50,7 @@ add_parts-requires-clause-next c =
     let regs = c.in_ok-layout.layout.registers in
     let len : c.len-count.result ≡ length regs.items = omega (arith, c.len-count.ensures, regs.ok.0) in
     let count : c.len-count.result ≡ length (register_widths c.args.design.declared.items) = count_is regs.items c.len-count.result (register_widths c.args.design.declared.items) len il.registers in
-    let slots : f.slots ≡ replicate (21 + length (register_widths c.args.design.declared.items)) None = c.in_ok-slots.ensures ∙ ap (λ k. replicate (21 + k) None) count in
+    let slots : f.slots ≡ replicate (PORT_COUNT + length (register_widths c.args.design.declared.items)) None = c.in_ok-slots.ensures ∙ ap (λ k. replicate (PORT_COUNT + k) None) count in
     let steps : f.steps ≡ [] = c.new-steps.ensures.items in
     let next : c.deref_mut.result.now ≡ slots_in regs.items = c.deref_mut.ensures.value ∙ c.in_ok-next.ensures ∙ ap slots_in c.deref-2.ensures.value in
     subst (λ l. AreSlots l (length f.slots)) (sym next) (next_first d c.requires n c.in_ok-ports.ensures il.registers il.memories c.new-wires.ensures.items f steps slots)
@@ -72,7 +73,7 @@ write_at-requires c =
     let regs = c.in_ok-layout.layout.registers in
     let len : c.len-count.result ≡ length regs.items = omega (arith, c.len-count.ensures, regs.ok.0) in
     let count : c.len-count.result ≡ length (register_widths c.args.design.declared.items) = count_is regs.items c.len-count.result (register_widths c.args.design.declared.items) len il.registers in
-    let slots : f.slots ≡ replicate (21 + length (register_widths c.args.design.declared.items)) None = c.in_ok-slots.ensures ∙ ap (λ k. replicate (21 + k) None) count in
+    let slots : f.slots ≡ replicate (PORT_COUNT + length (register_widths c.args.design.declared.items)) None = c.in_ok-slots.ensures ∙ ap (λ k. replicate (PORT_COUNT + k) None) count in
     let steps : f.steps ≡ [] = c.new-steps.ensures.items in
     let made = c.in_ok-parts.ensures in
     let new : Flat = record { steps = c.add_parts.new.builder.steps.items; slots = c.add_parts.new.builder.slots.items } in
@@ -90,7 +91,7 @@ returns-clause-stored c =
     let regs = c.in_ok-layout.layout.registers in
     let len : c.len-count.result ≡ length regs.items = omega (arith, c.len-count.ensures, regs.ok.0) in
     let count : c.len-count.result ≡ length (register_widths c.args.design.declared.items) = count_is regs.items c.len-count.result (register_widths c.args.design.declared.items) len il.registers in
-    let slots : f.slots ≡ replicate (21 + length (register_widths c.args.design.declared.items)) None = c.in_ok-slots.ensures ∙ ap (λ k. replicate (21 + k) None) count in
+    let slots : f.slots ≡ replicate (PORT_COUNT + length (register_widths c.args.design.declared.items)) None = c.in_ok-slots.ensures ∙ ap (λ k. replicate (PORT_COUNT + k) None) count in
     let steps : f.steps ≡ [] = c.new-steps.ensures.items in
     let new : Flat = record { steps = c.add_parts.new.builder.steps.items; slots = c.add_parts.new.builder.slots.items } in
     let next : c.deref_mut.result.now ≡ slots_in regs.items = c.deref_mut.ensures.value ∙ c.in_ok-next.ensures ∙ ap slots_in c.deref-2.ensures.value in
@@ -101,7 +102,7 @@ returns-clause-stored c =
     let same : length c.write_at.new.slots ≡ c.in_ok-slots-2.slots.len = omega (arith, c.write_at.auto.slots, c.deref_mut-2.ensures.len, c.in_ok-slots-2.slots.ok.0) in
     let values = c.deref-5.ensures.value ∙ il.values in
     let begun = c.deref_mut-2.ensures.value ∙ c.in_ok-slots-2.ensures ∙ ap constants_in c.deref-4.ensures.value in
-    let all = take_at c.write_at.new.slots _ _ same ∙ c.write_at.ensures ∙ ap (λ l. with_words 21 l c.deref_mut-2.result.now) values ∙ ap (λ l. with_words 21 (numbers (first_words c.args.design.declared.items)) l) begun in
+    let all = take_at c.write_at.new.slots _ _ same ∙ c.write_at.ensures ∙ ap (λ l. with_words PORT_COUNT l c.deref_mut-2.result.now) values ∙ ap (λ l. with_words PORT_COUNT (numbers (first_words c.args.design.declared.items)) l) begun in
     let room : c.len.result ≡ length new.slots = omega (arith, c.len.ensures, c.add_parts.new.builder.slots.ok.0) in
     let order = subst (λ k. Reordered k new.steps c.reorder.new.steps.items) room c.in_ok-reorder.ensures in
     let groups = subst (λ l. AreGroups c.in_ok-groups.groups.items l) c.deref-3.ensures.value c.in_ok-groups.ensures in
@@ -117,7 +118,7 @@ returns-clause-ready c =
     let regs = c.in_ok-layout.layout.registers in
     let len : c.len-count.result ≡ length regs.items = omega (arith, c.len-count.ensures, regs.ok.0) in
     let count : c.len-count.result ≡ length (register_widths c.args.design.declared.items) = count_is regs.items c.len-count.result (register_widths c.args.design.declared.items) len il.registers in
-    let slots : f.slots ≡ replicate (21 + length (register_widths c.args.design.declared.items)) None = c.in_ok-slots.ensures ∙ ap (λ k. replicate (21 + k) None) count in
+    let slots : f.slots ≡ replicate (PORT_COUNT + length (register_widths c.args.design.declared.items)) None = c.in_ok-slots.ensures ∙ ap (λ k. replicate (PORT_COUNT + k) None) count in
     let steps : f.steps ≡ [] = c.new-steps.ensures.items in
     let new : Flat = record { steps = c.add_parts.new.builder.steps.items; slots = c.add_parts.new.builder.slots.items } in
     let next : c.deref_mut.result.now ≡ slots_in regs.items = c.deref_mut.ensures.value ∙ c.in_ok-next.ensures ∙ ap slots_in c.deref-2.ensures.value in
@@ -128,7 +129,7 @@ returns-clause-ready c =
     let same : length c.write_at.new.slots ≡ c.in_ok-slots-2.slots.len = omega (arith, c.write_at.auto.slots, c.deref_mut-2.ensures.len, c.in_ok-slots-2.slots.ok.0) in
     let values = c.deref-5.ensures.value ∙ il.values in
     let begun = c.deref_mut-2.ensures.value ∙ c.in_ok-slots-2.ensures ∙ ap constants_in c.deref-4.ensures.value in
-    let all = take_at c.write_at.new.slots _ _ same ∙ c.write_at.ensures ∙ ap (λ l. with_words 21 l c.deref_mut-2.result.now) values ∙ ap (λ l. with_words 21 (numbers (first_words c.args.design.declared.items)) l) begun in
+    let all = take_at c.write_at.new.slots _ _ same ∙ c.write_at.ensures ∙ ap (λ l. with_words PORT_COUNT l c.deref_mut-2.result.now) values ∙ ap (λ l. with_words PORT_COUNT (numbers (first_words c.args.design.declared.items)) l) begun in
     let room : c.len.result ≡ length new.slots = omega (arith, c.len.ensures, c.add_parts.new.builder.slots.ok.0) in
     let order = subst (λ k. Reordered k new.steps c.reorder.new.steps.items) room c.in_ok-reorder.ensures in
     let groups = subst (λ l. AreGroups c.in_ok-groups.groups.items l) c.deref-3.ensures.value c.in_ok-groups.ensures in

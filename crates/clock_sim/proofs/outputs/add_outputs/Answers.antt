@@ -1,35 +1,37 @@
-use Rattle.std.proofs.Common.{arith}
+use Rattle.std.proofs.Common.{ℕ, ◌+◌, List, length, map, sym, ap, ◌∙◌, subst}
+use Rattle.std.proofs.lemmas.List.{length_push}
+use Rattle.net_core.specs.View.{assign_of}
 use Rattle.clock_sim.specs.Flat.{flat_of}
-use Rattle.clock_sim.proofs.BuilderLemmas.{extends_none, extends_more}
-use Rattle.clock_sim.proofs.OutputLemmas.{shows_later}
+use Rattle.clock_sim.specs.Edges.{AreSlots, ShowsAll}
+use Rattle.clock_sim.proofs.BuilderLemmas.{extends_none, extends_more, extends_length}
+use Rattle.clock_sim.proofs.StatementLemmas.{slots_more}
+use Rattle.clock_sim.proofs.OutputLemmas.{slots_push, shows_none, shows_push}
 use Rattle.clock_sim.proofs.outputs.add_outputs.Goals as goal
 
-pub returns-clause-extends : goal.returns-clause-extends
-returns-clause-extends c =
-    extends_more _ _ _ (extends_more _ _ _ (extends_more _ _ _ (extends_more _ _ _ (extends_more _ _ _ (extends_more _ _ _ (extends_more _ _ _ (extends_more _ _ _ c.in_ok-in_ready.ensures.extends c.in_ok-out_valid.ensures.extends) c.in_ok-out_data.ensures.extends) c.in_ok-out_bytes.ensures.extends) c.in_ok-out_last.ensures.extends) c.in_ok-out_verdict.ensures.extends) c.in_ok-out_target.ensures.extends) c.in_ok-out_reload.ensures.extends) c.in_ok-host_value.ensures.extends
+pub loop-port-init : goal.loop-port-init
+loop-port-init c =
+    let first = flat_of c.args.builder.now in
+    record {
+      extends = extends_none first;
+      builder = c.requires.builder;
+      operands = c.requires.operands;
+      count = ap (λ (l : List ℕ). length l) c.new-shown.ensures.items;
+      slots = subst (λ l. AreSlots l (length first.slots)) (sym c.new-shown.ensures.items) tt;
+      shows = subst (λ l. ShowsAll first first c.args.operands.now (map assign_of c.args.assigns.now) l) (sym c.new-shown.ensures.items) (shows_none first first c.args.operands.now (map assign_of c.args.assigns.now));
+    }
 
-pub returns-clause-there : goal.returns-clause-there
-returns-clause-there c = record {
-  in_ready = omega (arith, c.in_ok-in_ready.ensures.there, c.in_ok-out_valid.ensures.grows, c.in_ok-out_data.ensures.grows, c.in_ok-out_bytes.ensures.grows, c.in_ok-out_last.ensures.grows, c.in_ok-out_verdict.ensures.grows, c.in_ok-out_target.ensures.grows, c.in_ok-out_reload.ensures.grows, c.in_ok-host_value.ensures.grows);
-  out_valid = omega (arith, c.in_ok-out_valid.ensures.there, c.in_ok-out_data.ensures.grows, c.in_ok-out_bytes.ensures.grows, c.in_ok-out_last.ensures.grows, c.in_ok-out_verdict.ensures.grows, c.in_ok-out_target.ensures.grows, c.in_ok-out_reload.ensures.grows, c.in_ok-host_value.ensures.grows);
-  out_data = omega (arith, c.in_ok-out_data.ensures.there, c.in_ok-out_bytes.ensures.grows, c.in_ok-out_last.ensures.grows, c.in_ok-out_verdict.ensures.grows, c.in_ok-out_target.ensures.grows, c.in_ok-out_reload.ensures.grows, c.in_ok-host_value.ensures.grows);
-  out_bytes = omega (arith, c.in_ok-out_bytes.ensures.there, c.in_ok-out_last.ensures.grows, c.in_ok-out_verdict.ensures.grows, c.in_ok-out_target.ensures.grows, c.in_ok-out_reload.ensures.grows, c.in_ok-host_value.ensures.grows);
-  out_last = omega (arith, c.in_ok-out_last.ensures.there, c.in_ok-out_verdict.ensures.grows, c.in_ok-out_target.ensures.grows, c.in_ok-out_reload.ensures.grows, c.in_ok-host_value.ensures.grows);
-  out_verdict = omega (arith, c.in_ok-out_verdict.ensures.there, c.in_ok-out_target.ensures.grows, c.in_ok-out_reload.ensures.grows, c.in_ok-host_value.ensures.grows);
-  out_target = omega (arith, c.in_ok-out_target.ensures.there, c.in_ok-out_reload.ensures.grows, c.in_ok-host_value.ensures.grows);
-  out_reload = omega (arith, c.in_ok-out_reload.ensures.there, c.in_ok-host_value.ensures.grows);
-  host_value = omega (arith, c.in_ok-host_value.ensures.there);
-}
-
-pub returns-clause-shows : goal.returns-clause-shows
-returns-clause-shows c = record {
-  in_ready = shows_later _ _ _ _ _ _ _ _ (extends_none (flat_of c.args.builder.now)) (extends_more _ _ _ (extends_more _ _ _ (extends_more _ _ _ (extends_more _ _ _ (extends_more _ _ _ (extends_more _ _ _ (extends_more _ _ _ c.in_ok-out_valid.ensures.extends c.in_ok-out_data.ensures.extends) c.in_ok-out_bytes.ensures.extends) c.in_ok-out_last.ensures.extends) c.in_ok-out_verdict.ensures.extends) c.in_ok-out_target.ensures.extends) c.in_ok-out_reload.ensures.extends) c.in_ok-host_value.ensures.extends) c.in_ok-in_ready.ensures.shows;
-  out_valid = shows_later _ _ _ _ _ _ _ _ (c.in_ok-in_ready.ensures.extends) (extends_more _ _ _ (extends_more _ _ _ (extends_more _ _ _ (extends_more _ _ _ (extends_more _ _ _ (extends_more _ _ _ c.in_ok-out_data.ensures.extends c.in_ok-out_bytes.ensures.extends) c.in_ok-out_last.ensures.extends) c.in_ok-out_verdict.ensures.extends) c.in_ok-out_target.ensures.extends) c.in_ok-out_reload.ensures.extends) c.in_ok-host_value.ensures.extends) c.in_ok-out_valid.ensures.shows;
-  out_data = shows_later _ _ _ _ _ _ _ _ (extends_more _ _ _ c.in_ok-in_ready.ensures.extends c.in_ok-out_valid.ensures.extends) (extends_more _ _ _ (extends_more _ _ _ (extends_more _ _ _ (extends_more _ _ _ (extends_more _ _ _ c.in_ok-out_bytes.ensures.extends c.in_ok-out_last.ensures.extends) c.in_ok-out_verdict.ensures.extends) c.in_ok-out_target.ensures.extends) c.in_ok-out_reload.ensures.extends) c.in_ok-host_value.ensures.extends) c.in_ok-out_data.ensures.shows;
-  out_bytes = shows_later _ _ _ _ _ _ _ _ (extends_more _ _ _ (extends_more _ _ _ c.in_ok-in_ready.ensures.extends c.in_ok-out_valid.ensures.extends) c.in_ok-out_data.ensures.extends) (extends_more _ _ _ (extends_more _ _ _ (extends_more _ _ _ (extends_more _ _ _ c.in_ok-out_last.ensures.extends c.in_ok-out_verdict.ensures.extends) c.in_ok-out_target.ensures.extends) c.in_ok-out_reload.ensures.extends) c.in_ok-host_value.ensures.extends) c.in_ok-out_bytes.ensures.shows;
-  out_last = shows_later _ _ _ _ _ _ _ _ (extends_more _ _ _ (extends_more _ _ _ (extends_more _ _ _ c.in_ok-in_ready.ensures.extends c.in_ok-out_valid.ensures.extends) c.in_ok-out_data.ensures.extends) c.in_ok-out_bytes.ensures.extends) (extends_more _ _ _ (extends_more _ _ _ (extends_more _ _ _ c.in_ok-out_verdict.ensures.extends c.in_ok-out_target.ensures.extends) c.in_ok-out_reload.ensures.extends) c.in_ok-host_value.ensures.extends) c.in_ok-out_last.ensures.shows;
-  out_verdict = shows_later _ _ _ _ _ _ _ _ (extends_more _ _ _ (extends_more _ _ _ (extends_more _ _ _ (extends_more _ _ _ c.in_ok-in_ready.ensures.extends c.in_ok-out_valid.ensures.extends) c.in_ok-out_data.ensures.extends) c.in_ok-out_bytes.ensures.extends) c.in_ok-out_last.ensures.extends) (extends_more _ _ _ (extends_more _ _ _ c.in_ok-out_target.ensures.extends c.in_ok-out_reload.ensures.extends) c.in_ok-host_value.ensures.extends) c.in_ok-out_verdict.ensures.shows;
-  out_target = shows_later _ _ _ _ _ _ _ _ (extends_more _ _ _ (extends_more _ _ _ (extends_more _ _ _ (extends_more _ _ _ (extends_more _ _ _ c.in_ok-in_ready.ensures.extends c.in_ok-out_valid.ensures.extends) c.in_ok-out_data.ensures.extends) c.in_ok-out_bytes.ensures.extends) c.in_ok-out_last.ensures.extends) c.in_ok-out_verdict.ensures.extends) (extends_more _ _ _ c.in_ok-out_reload.ensures.extends c.in_ok-host_value.ensures.extends) c.in_ok-out_target.ensures.shows;
-  out_reload = shows_later _ _ _ _ _ _ _ _ (extends_more _ _ _ (extends_more _ _ _ (extends_more _ _ _ (extends_more _ _ _ (extends_more _ _ _ (extends_more _ _ _ c.in_ok-in_ready.ensures.extends c.in_ok-out_valid.ensures.extends) c.in_ok-out_data.ensures.extends) c.in_ok-out_bytes.ensures.extends) c.in_ok-out_last.ensures.extends) c.in_ok-out_verdict.ensures.extends) c.in_ok-out_target.ensures.extends) (c.in_ok-host_value.ensures.extends) c.in_ok-out_reload.ensures.shows;
-  host_value = shows_later _ _ _ _ _ _ _ _ (extends_more _ _ _ (extends_more _ _ _ (extends_more _ _ _ (extends_more _ _ _ (extends_more _ _ _ (extends_more _ _ _ (extends_more _ _ _ c.in_ok-in_ready.ensures.extends c.in_ok-out_valid.ensures.extends) c.in_ok-out_data.ensures.extends) c.in_ok-out_bytes.ensures.extends) c.in_ok-out_last.ensures.extends) c.in_ok-out_verdict.ensures.extends) c.in_ok-out_target.ensures.extends) c.in_ok-out_reload.ensures.extends) (extends_none _) c.in_ok-host_value.ensures.shows;
-}
+pub loop-port-preserved : goal.loop-port-preserved
+loop-port-preserved c =
+    let first = flat_of c.args.builder.now in let old = flat_of c.loop-port.builder in let new = flat_of c.assigned.new.builder in
+    let all = map assign_of c.args.assigns.now in
+    let pushed = c.in_ok-push.ensures.items in
+    let more = c.in_ok-slot.ensures.extends in
+    let at = c.loop-port.invariant.count in
+    record {
+      extends = extends_more first old new c.loop-port.invariant.extends more;
+      builder = c.in_ok-slot.ensures.builder;
+      operands = c.in_ok-slot.ensures.operands;
+      count = ap (λ (l : List ℕ). length l) pushed ∙ length_push c.loop-port.shown.items c.in_ok-slot.slot ∙ ap (λ n. n + 1) at;
+      slots = subst (λ l. AreSlots l (length new.slots)) (sym pushed) (slots_push (length new.slots) c.loop-port.shown.items c.in_ok-slot.slot c.in_ok-slot.ensures.there (slots_more (length old.slots) (length new.slots) (extends_length old new more) c.loop-port.shown.items c.loop-port.invariant.slots));
+      shows = subst (λ l. ShowsAll first new c.args.operands.now all l) (sym pushed) (shows_push first old new c.args.operands.now all c.loop-port.shown.items c.in_ok-slot.slot c.loop-port.port c.loop-port.invariant.extends more (sym at) c.loop-port.invariant.shows c.in_ok-slot.ensures.shows);
+    }

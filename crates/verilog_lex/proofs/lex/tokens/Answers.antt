@@ -8,7 +8,7 @@ use Rattle.verilog_lex.specs.Tokens.Leads.{here}
 use Rattle.verilog_lex.specs.declared.element.LexicalElement.{LexicalElement}
 use Rattle.verilog_lex.specs.declared.token.Token.{Token}
 use Rattle.verilog_lex.proofs.LeadsLemmas.{AreSpans-leads, Leads-separator, Leads-token, tokens_in-leads, tokens_in-stuck}
-use Rattle.verilog_lex.proofs.LexemeLemmas.{Lexes-leads, tokens_in-lexes}
+use Rattle.verilog_lex.proofs.LexemeLaws.{Lexes-leads, tokens_in-lexes}
 use Rattle.verilog_lex.proofs.lex.tokens.Goals as goal
 
 -- the element of `&text[at..]`

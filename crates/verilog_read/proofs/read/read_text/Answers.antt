@@ -1,4 +1,4 @@
-use Rattle.verilog_read.proofs.LawTexts.{found_clause, only_clause}
+use Rattle.verilog_read.proofs.TextLaws.{found_clause, only_clause}
 use Rattle.verilog_read.proofs.Outcomes.{tokens_read, no_tokens}
 use Rattle.verilog_read.proofs.read.read_text.Goals as goal
 
