@@ -1,5 +1,5 @@
 -- The store-and-forward design answers frames, whatever is offered and taken, and in the stated clocks.
-use Rattle.std.specs.Prelude.{◌≡◌, ℕ, suc, ◌+◌, ◌-◌, ◌*◌, ◌≤◌, if◌then◌else◌, false, None, List, [], ◌∷◌, ◌++◌, length, map, replicate}
+use Rattle.std.specs.Prelude.{◌≡◌, ℕ, suc, ◌+◌, ◌-◌, ◌*◌, ◌^◌, ◌≤◌, if◌then◌else◌, false, None, List, [], ◌∷◌, ◌++◌, length, map, replicate}
 use Rattle.std.specs.List.{flat_map, AllByRecursion}
 use Rattle.std.proofs.Common.{refl, sym, ap, ◌∙◌, arith, subst, append-nil, length-append}
 use Rattle.std.proofs.lemmas.List.{length-replicate, length-map}
@@ -8,6 +8,7 @@ use Rattle.beat_core.specs.Beats.{frame_of, beats_of}
 use Rattle.beat_core.specs.Filling.{filled_up}
 use Rattle.beat_core.specs.Clocks.{AreOffers, frames_among}
 use Rattle.beat_core.specs.Laws.{IsFrame}
+use Rattle.beat_core.specs.Ports.{Offered}
 use Rattle.beat_core.proofs.FillingLaws.{frames_among-filled_up, AreOffers-filled_up}
 use Rattle.beat_core.proofs.OrderLaws.{offers-frames, frames-frames}
 use Rattle.net_core.specs.declared.ports.Inputs.{Inputs}
@@ -20,11 +21,11 @@ use Rattle.host_history.specs.Host.{ShowsMaps}
 use Rattle.xdp_maps.specs.State.{MapState}
 use Rattle.xdp_machine.specs.Touched.{Touched}
 use Rattle.ehdl_build.specs.StoreAndForward.{StoreAndForward, Receiving, Sending, state_trace, state_after}
-use Rattle.ehdl_build.specs.StoreAndForwardNetlist.{store_and_forward, answer, answers_to}
+use Rattle.ehdl_build.specs.StoreAndForwardNetlist.{store_and_forward, place_width, answer, answers_to}
 use Rattle.ehdl_build.specs.Bounds.{clock_bound, most_beats}
-use Rattle.ehdl_build.specs.Realizes.{IsPattern, IsPrefix, BeginNext, IsWhole, Meets, came_by, inputs_in}
+use Rattle.ehdl_build.specs.Realizes.{IsPattern, IsPrefix, BeginNext, IsWhole, Meets, inputs_in, frames_in, all_offers, beats_offered}
 use Rattle.ehdl_build.proofs.Flows.{total, pending, so_far, given_beats}
-use Rattle.ehdl_build.proofs.Histories.{History, history, frames-arrivals, answers_to-frames, answers_given-append}
+use Rattle.ehdl_build.proofs.Histories.{History, history, frames-arrivals, answers_to-frames, answers_given-append, beats-all_offers, frames-packets}
 use Rattle.ehdl_build.proofs.Places.{Place, stored}
 use Rattle.ehdl_build.proofs.Holds.{Holds}
 use Rattle.ehdl_build.proofs.Prefixes.{given_prefix}
@@ -77,23 +78,33 @@ safe_from v p is h w =
       next = subst (λ (ms : List Cycle). BeginNext (open_beats [] ms) (pending v s)) (sym r.same) (subst (λ bs. BeginNext bs (pending v s)) (sym k.opens) (prefix_case s v r.kept));
     }
 
--- all answers to these frames
-answers_to-came_by : (v ifindex : ℕ) (fs : List (List ℕ)) → map (answer v) fs ≡ answers_to v (came_by ifindex fs)
-answers_to-came_by v ifindex [] = refl
-answers_to-came_by v ifindex (f ∷ fs) = ap (λ t. answer v f ∷ t) (answers_to-came_by v ifindex fs)
+-- all answers to these packets
+all_of : (v : ℕ) (packets : List Arrival) → AllByRecursion IsFrame (frames_in packets) → total v (Receiving []) (flat_map beats_of (frames_in packets)) ≡ answers_to v packets
+all_of v packets f = ap (map (answer v)) (frames-frames (frames_in packets) f) ∙ answers_to-frames v packets
 
-all_of : (v : ℕ) (fs : List (List ℕ)) → AllByRecursion IsFrame fs → total v (Receiving []) (flat_map beats_of fs) ≡ map (answer v) fs
-all_of v fs f = ap (map (answer v)) (frames-frames fs f)
+length-answers_to : (v : ℕ) (packets : List Arrival) → length (answers_to v packets) ≡ length packets
+length-answers_to v [] = refl
+length-answers_to v (a ∷ rest) = ap suc (length-answers_to v rest)
 
-complete_from : (v : ℕ) (p : Place) (fs : List (List ℕ)) (ifindex limit : ℕ) → Holds p (Receiving []) → AllByRecursion IsFrame fs → 2 * length (flat_map beats_of fs) ≤ limit →
-    WholeOf [] (drive (store_and_forward v) ifindex (stored p) (flat_map beats_of fs) (length fs) limit) (answers_to v (came_by ifindex fs))
-complete_from v p fs ifindex limit h f n =
-    let left : List Beat = flat_map beats_of fs in
-    let all : total v (Receiving []) left ≡ map (answer v) fs = all_of v fs f in
-    let owed : length fs ≡ length (total v (Receiving []) left) = sym (ap length all ∙ length-map fs (answer v)) in
-    let few : needed (Receiving []) left ≤ limit = omega arith in
-    let d = drives.drives v ifindex limit p (Receiving []) left (length fs) h tt (offers-frames fs f) (ends_frames fs f) owed few in
-    record { ended = d.ended; all = d.all ∙ all ∙ answers_to-came_by v ifindex fs }
+-- each packet has one frame
+count-frames_in : (packets : List Arrival) → length (frames_in packets) ≡ length packets
+count-frames_in packets = length-map packets (λ (a : Arrival). a.frame)
+
+enough_for : (packets : List Arrival) (more : ℕ) → 2 * length (flat_map beats_of (frames_in packets)) ≤ clock_bound (length packets + more) 0 (most_beats (frames_in packets)) 0
+enough_for packets more =
+    subst (λ n. 2 * length (flat_map beats_of (frames_in packets)) ≤ clock_bound (n + more) 0 (most_beats (frames_in packets)) 0) (count-frames_in packets) (bound_enough (frames_in packets) more)
+
+complete_from : (v : ℕ) (p : Place) (packets : List Arrival) (limit : ℕ) → Holds p (Receiving []) → AllByRecursion IsFrame (frames_in packets) → 2 * length (flat_map beats_of (frames_in packets)) ≤ limit →
+    WholeOf [] (drive (store_and_forward v) (stored p) (all_offers packets) (length packets) limit) (answers_to v packets)
+complete_from v p packets limit h f n =
+    let fs : List (List ℕ) = frames_in packets in
+    let left : List Offered = all_offers packets in
+    let same : beats_offered left ≡ flat_map beats_of fs = beats-all_offers packets in
+    let all : total v (Receiving []) (beats_offered left) ≡ answers_to v packets = ap (total v (Receiving [])) same ∙ all_of v packets f in
+    let owed : length packets ≡ length (total v (Receiving []) (beats_offered left)) = sym (ap length all ∙ length-answers_to v packets) in
+    let few : needed (Receiving []) (beats_offered left) ≤ limit = omega (arith, ap length same) in
+    let d = drives.drives v limit p (Receiving []) left (length packets) h tt (subst (AreOffers 0) (sym same) (offers-frames fs f)) (subst (EndsWhole 0) (sym same) (ends_frames fs f)) owed few in
+    record { ended = d.ended; all = d.all ∙ all }
 
 so_far_is : (s : StoreAndForward) → frame_of (given_beats s) ≡ so_far s
 so_far_is (Receiving got) = refl
@@ -108,38 +119,40 @@ EndsWhole-filled_up : (n : ℕ) (bs rest : List Beat) → EndsWhole n (map fille
 EndsWhole-filled_up n [] rest h = h
 EndsWhole-filled_up n (b ∷ bs) rest h = EndsWhole-filled_up (if b.last then 0 else suc n) bs rest h
 
-late_from : (v : ℕ) (p : Place) (is : List Inputs) (fs : List (List ℕ)) (left : List Beat) (ifindex limit : ℕ) → Holds p (Receiving []) → IsPattern (store_and_forward v) (stored p) is → AllByRecursion IsFrame fs →
-    map filled_up (beats_in (trace (store_and_forward v) (stored p) is)) ++ left ≡ flat_map beats_of fs → clock_bound (length fs + 1) 0 (most_beats fs) 0 ≤ limit →
+late_from : (v : ℕ) (p : Place) (is : List Inputs) (packets : List Arrival) (left : List Offered) (limit : ℕ) → Holds p (Receiving []) → IsPattern (store_and_forward v) (stored p) is → AllByRecursion IsFrame (frames_in packets) →
+    map filled_up (beats_in (trace (store_and_forward v) (stored p) is)) ++ beats_offered left ≡ flat_map beats_of (frames_in packets) → clock_bound (length packets + 1) 0 (most_beats (frames_in packets)) 0 ≤ limit →
     WholeOf (trace (store_and_forward v) (stored p) is)
-    (drive (store_and_forward v) ifindex (stored_after (store_and_forward v) (stored p) is) left (length fs - length (answers_given [] (trace (store_and_forward v) (stored p) is))) limit) (answers_to v (came_by ifindex fs))
-late_from v p is fs left ifindex limit h w f e n =
+    (drive (store_and_forward v) (stored_after (store_and_forward v) (stored p) is) left (length packets - length (answers_given [] (trace (store_and_forward v) (stored p) is))) limit) (answers_to v packets)
+late_from v p is packets left limit h w f e n =
+    let fs : List (List ℕ) = frames_in packets in
+    let bs : List Beat = beats_offered left in
     let r : Refined v p (Receiving []) is = refined v p (Receiving []) is h tt w.inputs w.offers in
     let k : History v (Receiving []) is = history v (Receiving []) is tt in
     let s : StoreAndForward = state_after (Receiving []) is in
     let ms : List Cycle = state_trace v (Receiving []) is in
-    let beats : map filled_up (beats_in ms) ++ left ≡ flat_map beats_of fs = subst (λ (t : List Cycle). map filled_up (beats_in t) ++ left ≡ flat_map beats_of fs) r.same e in
-    let many : length (beats_in ms ++ left) ≡ length (flat_map beats_of fs) = length-filled_up (beats_in ms) left ∙ ap length beats in
-    let all : answers_given [] ms ++ total v s left ≡ map (answer v) fs = k.keeps left ∙ ap (map (answer v)) (sym (frames_among-filled_up [] (beats_in ms) left)) ∙ ap (total v (Receiving [])) beats ∙ all_of v fs f in
-    let count : length (answers_given [] ms) + length (total v s left) ≡ length fs = sym (length-append (answers_given [] ms) (total v s left)) ∙ ap length all ∙ length-map fs (answer v) in
-    let owed : length fs - length (answers_given [] ms) ≡ length (total v s left) = omega arith in
-    let few : needed s left ≤ limit = omega (arith, needed_after v (Receiving []) is left, many, bound_enough fs 1) in
-    let offers : AreOffers (so_many s) left = history_on AreOffers offers_on v (Receiving []) is left (AreOffers-filled_up 0 (beats_in ms) left (subst (AreOffers 0) (sym beats) (offers-frames fs f))) in
-    let ends : EndsWhole (so_many s) left = history_on EndsWhole ends_on v (Receiving []) is left (EndsWhole-filled_up 0 (beats_in ms) left (subst (EndsWhole 0) (sym beats) (ends_frames fs f))) in
-    let d = drives.drives v ifindex limit r.place s left (length fs - length (answers_given [] ms)) r.holds k.sound offers ends owed few in
-    let done : WholeOf ms (drive (store_and_forward v) ifindex (stored r.place) left (length fs - length (answers_given [] ms)) limit) (answers_to v (came_by ifindex fs)) =
+    let beats : map filled_up (beats_in ms) ++ bs ≡ flat_map beats_of fs = subst (λ (t : List Cycle). map filled_up (beats_in t) ++ bs ≡ flat_map beats_of fs) r.same e in
+    let many : length (beats_in ms ++ bs) ≡ length (flat_map beats_of fs) = length-filled_up (beats_in ms) bs ∙ ap length beats in
+    let all : answers_given [] ms ++ total v s bs ≡ answers_to v packets = k.keeps bs ∙ ap (map (answer v)) (sym (frames_among-filled_up [] (beats_in ms) bs)) ∙ ap (total v (Receiving [])) beats ∙ all_of v packets f in
+    let count : length (answers_given [] ms) + length (total v s bs) ≡ length packets = sym (length-append (answers_given [] ms) (total v s bs)) ∙ ap length all ∙ length-answers_to v packets in
+    let owed : length packets - length (answers_given [] ms) ≡ length (total v s bs) = omega arith in
+    let few : needed s bs ≤ limit = omega (arith, needed_after v (Receiving []) is bs, many, enough_for packets 1) in
+    let offers : AreOffers (so_many s) bs = history_on AreOffers offers_on v (Receiving []) is bs (AreOffers-filled_up 0 (beats_in ms) bs (subst (AreOffers 0) (sym beats) (offers-frames fs f))) in
+    let ends : EndsWhole (so_many s) bs = history_on EndsWhole ends_on v (Receiving []) is bs (EndsWhole-filled_up 0 (beats_in ms) bs (subst (EndsWhole 0) (sym beats) (ends_frames fs f))) in
+    let d = drives.drives v limit r.place s left (length packets - length (answers_given [] ms)) r.holds k.sound offers ends owed few in
+    let done : WholeOf ms (drive (store_and_forward v) (stored r.place) left (length packets - length (answers_given [] ms)) limit) (answers_to v packets) =
     record {
       ended = d.ended;
-      all = answers_given-append ms _ [] ∙ ap (λ t. answers_given [] ms ++ answers_given t (drive (store_and_forward v) ifindex (stored r.place) left (length fs - length (answers_given [] ms)) limit).trace) (ap frame_of k.opens ∙ so_far_is s)
-          ∙ ap (λ t. answers_given [] ms ++ t) d.all ∙ all ∙ answers_to-came_by v ifindex fs;
+      all = answers_given-append ms _ [] ∙ ap (λ t. answers_given [] ms ++ answers_given t (drive (store_and_forward v) (stored r.place) left (length packets - length (answers_given [] ms)) limit).trace) (ap frame_of k.opens ∙ so_far_is s)
+          ∙ ap (λ t. answers_given [] ms ++ t) d.all ∙ all;
     } in
-    subst (λ (t : List Cycle). WholeOf t (drive (store_and_forward v) ifindex (stored_after (store_and_forward v) (stored p) is) left (length fs - length (answers_given [] t)) limit) (answers_to v (came_by ifindex fs))) (sym r.same)
-    (subst (λ (t : Stored). WholeOf ms (drive (store_and_forward v) ifindex t left (length fs - length (answers_given [] ms)) limit) (answers_to v (came_by ifindex fs))) (sym r.is_stored) done)
+    subst (λ (t : List Cycle). WholeOf t (drive (store_and_forward v) (stored_after (store_and_forward v) (stored p) is) left (length packets - length (answers_given [] t)) limit) (answers_to v packets)) (sym r.same)
+    (subst (λ (t : Stored). WholeOf ms (drive (store_and_forward v) t left (length packets - length (answers_given [] ms)) limit) (answers_to v packets)) (sym r.is_stored) done)
 
 -- ---- the declared values hold the empty state
 abbrev empty_place : ℕ → Place
 empty_place n = record { sending = false; count = 0; at = 0; bytes = 0; cells = replicate n (word 64 0) }
 
-holds_empty : (n : ℕ) → n ≡ 256 → Holds (empty_place n) (Receiving [])
+holds_empty : (n : ℕ) → n ≡ 2 ^ place_width → Holds (empty_place n) (Receiving [])
 holds_empty n e = record { sending = refl; at = refl; count = refl; room = omega arith; size = length-replicate n (word 64 0) ∙ e; held = refl; full = tt }
 
 -- ---- as is wanted
@@ -173,12 +186,18 @@ whole_of v maps wanted d s is r packets fits shown h = record {
 pub realized : (v : ℕ) (maps : MapState) (wanted : List Arrival → List Answer → MapState → Type 0) (apart : List Arrival → List Touched → Type 0) → Fits v maps wanted → Shown maps →
     Meets (store_and_forward v) (first_stored (store_and_forward v)) wanted apart 0 0
 realized v maps wanted apart fits shown =
-    let h : Holds (empty_place 256) (Receiving []) = holds_empty 256 refl in
+    let place : Place = empty_place (2 ^ place_width) in
+    let h : Holds place (Receiving []) = holds_empty (2 ^ place_width) refl in
     let d : Netlist = store_and_forward v in
     let s : Stored = first_stored (store_and_forward v) in
     record {
-      safe = λ is w. prefix_of v maps wanted d s is fits (safe_from v (empty_place 256) is h w);
-      complete = λ fs ifindex limit f i n. whole_of v maps wanted d s [] _ (came_by ifindex fs) fits shown (complete_from v (empty_place 256) fs ifindex limit h f (omega (arith, n, bound_enough fs 0)));
-      complete_apart = λ fs ifindex limit ts f i a n. whole_of v maps wanted d s [] _ (came_by ifindex fs) fits shown (complete_from v (empty_place 256) fs ifindex limit h f (omega (arith, n, apart_enough fs ts)));
-      late = λ is fs left ifindex limit w f i e c n. whole_of v maps wanted d s is _ (came_by ifindex fs) fits shown (late_from v (empty_place 256) is fs left ifindex limit h w f e n);
+      safe = λ is w. prefix_of v maps wanted d s is fits (safe_from v place is h w);
+      complete = λ packets limit k n.
+          whole_of v maps wanted d s [] _ packets fits shown
+          (complete_from v place packets limit h (frames-packets packets k) (omega (arith, n, enough_for packets 0)));
+      complete_apart = λ packets limit ts k a n.
+          whole_of v maps wanted d s [] _ packets fits shown
+          (complete_from v place packets limit h (frames-packets packets k) (omega (arith, n, apart_enough (frames_in packets) ts)));
+      late = λ is packets left limit w k e c n.
+          whole_of v maps wanted d s is _ packets fits shown (late_from v place is packets left limit h w (frames-packets packets k) e n);
     }
