@@ -36,7 +36,7 @@ verdict_of k = cast_unsigned w64 k % 2 ^ 32
 abbrev left_by : ℕ → MapState → Arrival → Leaves
 left_by v maps a = record { verdict = v; target = 0; frame = a.frame; maps = maps }
 
-two_steps : (k : ℤ) (a : Arrival) (maps : MapState) → IsRun (record { insns = two_units k; refs = [] }) (record { frame = a.frame; ifindex = a.ifindex }) maps (left_by (verdict_of k) maps a)
+two_steps : (k : ℤ) (a : Arrival) (maps : MapState) → IsRun (record { insns = two_units k; refs = [] }) (record { frame = a.frame; ifindex = a.ifindex; time = a.time }) maps (left_by (verdict_of k) maps a)
 unfolding run
 two_steps k a maps = (2, refl)
 

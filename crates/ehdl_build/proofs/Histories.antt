@@ -5,7 +5,7 @@ use Rattle.beat_core.specs.declared.beat.Beat.{Beat}
 use Rattle.beat_core.specs.Beats.{bytes_of_beat, frame_of}
 use Rattle.beat_core.specs.Clocks.{frames_among}
 use Rattle.net_core.specs.declared.ports.Inputs.{Inputs}
-use Rattle.beat_core.specs.Ports.{Offered, Arrival, arrived, arrivals_among, Given, answers_among}
+use Rattle.beat_core.specs.Ports.{Offered, offered, Arrival, arrived, arrivals_among, Given, answers_among}
 use Rattle.net_core.specs.History.{Cycle, answers_given, given_out, beats_in, open_beats, goes_in, offered_beat, offers_in, goes_out, shown_beat, arrivals}
 use Rattle.ehdl_build.specs.StoreAndForwardNetlist.{answer, answers_to}
 use Rattle.ehdl_build.specs.StoreAndForward.{StoreAndForward, step, state_cycle, state_trace, state_after}
@@ -50,28 +50,28 @@ abbrev pub frames : List Arrival → List (List ℕ)
 frames [] = []
 frames (a ∷ rest) = a.frame ∷ frames rest
 
-arrival_case : (t l : Bool) (word bytes ifindex : ℕ) (begun : Option Arrival) (before : List ℕ) (os : List Offered) (bs : List Beat) →
+arrival_case : (t l : Bool) (word bytes ifindex time : ℕ) (begun : Option Arrival) (before : List ℕ) (os : List Offered) (bs : List Beat) →
     let b : Beat = record { word = word; bytes = bytes; last = l } in
-    let o : Offered = record { beat = b; ifindex = ifindex } in
+    let o : Offered = offered ifindex time b in
     (arrived begun o).frame ≡ before ++ bytes_of_beat b →
     frames (arrivals_among None os) ≡ frames_among [] bs →
     frames (arrivals_among (Some (arrived begun o)) os) ≡ frames_among (arrived begun o).frame bs →
     frames (arrivals_among begun os) ≡ frames_among before bs →
     frames (arrivals_among begun (if t then o ∷ os else os)) ≡ frames_among before (if t then b ∷ bs else bs)
-arrival_case true true word bytes ifindex begun before os bs e none some same =
+arrival_case true true word bytes ifindex time begun before os bs e none some same =
     ap (λ f. f ∷ frames (arrivals_among None os)) e ∙ ap (λ t. (before ++ bytes_of_beat (record { word = word; bytes = bytes; last = true })) ∷ t) none
-arrival_case true false word bytes ifindex begun before os bs e none some same = some ∙ ap (λ f. frames_among f bs) e
-arrival_case false l word bytes ifindex begun before os bs e none some same = same
+arrival_case true false word bytes ifindex time begun before os bs e none some same = some ∙ ap (λ f. frames_among f bs) e
+arrival_case false l word bytes ifindex time begun before os bs e none some same = same
 
 pub frames-arrivals : (ms : List Cycle) (begun : Option Arrival) → frames (arrivals begun ms) ≡ frames_among (begun_bytes begun) (beats_in ms)
 frames-arrivals [] None = refl
 frames-arrivals [] (Some a) = refl
 frames-arrivals (m ∷ ms) None =
-    let a : Arrival = arrived None (record { beat = offered_beat m; ifindex = m.given.in_ifindex }) in
-    arrival_case (goes_in m) m.given.in_last m.given.in_data m.given.in_bytes m.given.in_ifindex None [] (offers_in ms) (beats_in ms) refl (frames-arrivals ms None) (frames-arrivals ms (Some a)) (frames-arrivals ms None)
+    let a : Arrival = arrived None (offered m.given.in_ifindex m.given.in_time (offered_beat m)) in
+    arrival_case (goes_in m) m.given.in_last m.given.in_data m.given.in_bytes m.given.in_ifindex m.given.in_time None [] (offers_in ms) (beats_in ms) refl (frames-arrivals ms None) (frames-arrivals ms (Some a)) (frames-arrivals ms None)
 frames-arrivals (m ∷ ms) (Some before) =
-    let a : Arrival = arrived (Some before) (record { beat = offered_beat m; ifindex = m.given.in_ifindex }) in
-    arrival_case (goes_in m) m.given.in_last m.given.in_data m.given.in_bytes m.given.in_ifindex (Some before) before.frame (offers_in ms) (beats_in ms) refl (frames-arrivals ms None) (frames-arrivals ms (Some a)) (frames-arrivals ms (Some before))
+    let a : Arrival = arrived (Some before) (offered m.given.in_ifindex m.given.in_time (offered_beat m)) in
+    arrival_case (goes_in m) m.given.in_last m.given.in_data m.given.in_bytes m.given.in_ifindex m.given.in_time (Some before) before.frame (offers_in ms) (beats_in ms) refl (frames-arrivals ms None) (frames-arrivals ms (Some a)) (frames-arrivals ms (Some before))
 
 pub answers_to-frames : (v : ℕ) (as' : List Arrival) → map (answer v) (frames as') ≡ answers_to v as'
 answers_to-frames v [] = refl

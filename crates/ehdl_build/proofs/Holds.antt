@@ -1,16 +1,18 @@
 -- The netlist's registers and memory hold the state of the store-and-forward machine.
-use Rattle.std.specs.Prelude.{◌≡◌, ◌≢◌, ℕ, suc, ◌+◌, ◌<◌, ◌≤◌, ◌==◌, if◌then◌else◌, Bool, true, false, List, [], ◌∷◌, ◌++◌, length, map, slice_set}
+use Rattle.std.specs.Prelude.{◌≡◌, ◌≢◌, ℕ, suc, ◌+◌, ◌^◌, ◌<◌, ◌≤◌, ◌==◌, if◌then◌else◌, Bool, true, false, List, [], ◌∷◌, ◌++◌, length, map, slice_set}
 use Rattle.std.proofs.Common.{get_or, take, refl, sym, ap, ◌∙◌, arith, append_assoc, length-append}
 use Rattle.std.proofs.lemmas.Bool.Decides.{nat_tests}
 use Rattle.std.proofs.lemmas.List.{map-set, length-map, length-set, get_or-take, map-append}
 use Rattle.std.proofs.Math.Seq.{take-suc-set, get_or-append_seam}
 use Rattle.std.proofs.Math.ListN.{get_or-map}
 use Rattle.beat_core.specs.declared.beat.Beat.{Beat}
+use Rattle.beat_core.specs.declared.frame.TheConstants.{BEAT_LIMIT}
 use Rattle.beat_core.specs.Beats.{IsOffer}
 use Rattle.beat_core.proofs.BeatLaws.{IsOffer-eight}
 use Rattle.net_core.specs.declared.tree.Word.{Word}
 use Rattle.net_core.specs.declared.ports.Inputs.{Inputs}
 use Rattle.net_core.specs.Value.{word, nothing}
+use Rattle.ehdl_build.specs.declared.store_and_forward.TheConstants.{COUNT_WIDTH}
 use Rattle.ehdl_build.specs.StoreAndForward.{StoreAndForward, Receiving, Sending, sending, input_beat, step, show}
 use Rattle.ehdl_build.proofs.Places.{Place, go, shown_at, next}
 
@@ -37,8 +39,8 @@ pub record HoldsReceiving (p : Place) (got : List Beat) : Type 0 where
   pub sending : p.sending ≡ false
   pub at : p.at ≡ 0
   pub count : p.count ≡ length got
-  pub room : length got ≤ 192
-  pub size : length p.cells ≡ 256
+  pub room : length got ≤ BEAT_LIMIT
+  pub size : length p.cells ≡ 2 ^ COUNT_WIDTH
   pub held : take (length got) (values p.cells) ≡ words got
   pub full : AllFull got
 
@@ -46,8 +48,8 @@ pub record HoldsSending (p : Place) (given : List Beat) (b : Beat) (rest : List 
   pub sending : p.sending ≡ true
   pub at : p.at ≡ length given
   pub count : p.count ≡ length given + suc (length rest)
-  pub room : length given + suc (length rest) ≤ 192
-  pub size : length p.cells ≡ 256
+  pub room : length given + suc (length rest) ≤ BEAT_LIMIT
+  pub size : length p.cells ≡ 2 ^ COUNT_WIDTH
   pub held : take (length given + suc (length rest)) (values p.cells) ≡ words (given ++ b ∷ rest)
   pub ends : EndsAt p.bytes b rest
 
@@ -73,7 +75,7 @@ beat_at cells given b rest n e h =
     ∙ ap (λ k. get_or (words given ++ b.word ∷ words rest) k 0) (sym (length-map given (λ (x : Beat). x.word)))
     ∙ get_or-append_seam (words given) b.word (words rest) 0
 
-next_is : (n : ℕ) → n < 255 → next n ≡ n + 1
+next_is : (n : ℕ) → n + 1 < 2 ^ COUNT_WIDTH → next n ≡ n + 1
 next_is n h = omega arith
 
 shows_at : (v : ℕ) (g : Bool) (c a bytes : ℕ) (cells : List Word) (given : List Beat) (b : Beat) (rest : List Beat) (t : Bool) → g ≡ true → t ≡ (next a == c) → (get_or cells a nothing).value ≡ b.word → t ≡ b.last → (if t then bytes else 8) ≡ b.bytes →
@@ -111,7 +113,7 @@ shows v p (Sending given b (c ∷ rest)) h =
 -- ---- a clock
 -- what may be offered to the machine
 abbrev pub MayOffer : StoreAndForward → Inputs → Type 0
-MayOffer (Receiving got) i = i.in_valid ≡ true → IsOffer (input_beat i) × (length got < 192)
+MayOffer (Receiving got) i = i.in_valid ≡ true → IsOffer (input_beat i) × (length got < BEAT_LIMIT)
 MayOffer (Sending given b rest) i = Unit {0}
 
 held_more : (got : List Beat) (b : Beat) (cells : List Word) → take (length got) (values cells) ≡ words got → length got < length cells →
@@ -136,7 +138,7 @@ place g c a b cells = record { sending = g; count = c; at = a; bytes = b; cells 
 abbrev inputs : Bool → Bool → Bool → ℕ → ℕ → Inputs → Inputs
 inputs valid last ready dat bytes i = record i { in_valid = valid; in_data = dat; in_bytes = bytes; in_last = last; out_ready = ready }
 
-sending_holds : (p : Place) (got : List Beat) (b : Beat) → p.sending ≡ true → p.at ≡ 0 → p.count ≡ suc (length got) → length got < 192 → length p.cells ≡ 256 →
+sending_holds : (p : Place) (got : List Beat) (b : Beat) → p.sending ≡ true → p.at ≡ 0 → p.count ≡ suc (length got) → length got < BEAT_LIMIT → length p.cells ≡ 2 ^ COUNT_WIDTH →
     take (suc (length got)) (values p.cells) ≡ words (got ++ b ∷ []) → AllFull got → b.last ≡ true → b.bytes ≡ p.bytes → Holds p (sending got b)
 sending_holds p [] b g a c few size held full l e = record { sending = g; at = a; count = c; room = omega arith; size = size; held = held; ends = (l, e) }
 sending_holds p (x ∷ got) b g a c few size held full l e =
@@ -158,7 +160,7 @@ receiving_steps valid last ready dat bytes i true c a b cells got h m = let g : 
 receiving_steps false last ready dat bytes i false c a b cells got h m = h
 receiving_steps true false ready dat bytes i false c a b cells got h m =
     let x : Beat = record { word = dat; bytes = bytes; last = false } in
-    let few : length got < 192 = (m refl).1 in
+    let few : length got < BEAT_LIMIT = (m refl).1 in
     let n : next c ≡ suc (length got) = next_is c (omega (arith, h.count)) ∙ omega (arith, h.count) in
     let more : length (got ++ x ∷ []) ≡ suc (length got) = omega (arith, length-append got (x ∷ [])) in
     let slot : slice_set cells c (word 64 dat) ≡ slice_set cells (length got) (word 64 dat) = ap (λ k. slice_set cells k (word 64 dat)) h.count in
@@ -173,7 +175,7 @@ receiving_steps true false ready dat bytes i false c a b cells got h m =
     }
 receiving_steps true true ready dat bytes i false c a b cells got h m =
     let x : Beat = record { word = dat; bytes = bytes; last = true } in
-    let few : length got < 192 = (m refl).1 in
+    let few : length got < BEAT_LIMIT = (m refl).1 in
     let n : next c ≡ suc (length got) = next_is c (omega (arith, h.count)) ∙ omega (arith, h.count) in
     let slot : slice_set cells c (word 64 dat) ≡ slice_set cells (length got) (word 64 dat) = ap (λ k. slice_set cells k (word 64 dat)) h.count in
     sending_holds (place true (next c) a bytes (slice_set cells c (word 64 dat))) got x refl h.at n few (length-set cells c (word 64 dat) ∙ h.size)

@@ -7,6 +7,7 @@ use Rattle.net_core.specs.declared.ports.Outputs.{Outputs}
 use Rattle.net_core.specs.Value.{word, bit, nothing, number_of}
 use Rattle.net_core.specs.Clock.{Stored, after, stopping}
 use Rattle.net_core.specs.Ports.{words_of, outputs_of}
+use Rattle.ehdl_build.specs.declared.store_and_forward.TheConstants.{COUNT_WIDTH}
 use Rattle.ehdl_build.specs.StoreAndForwardNetlist.{store_and_forward}
 
 pub record Place : Type 0 where
@@ -17,10 +18,10 @@ pub record Place : Type 0 where
   pub cells : List Word
 
 abbrev pub stored : Place → Stored
-stored p = record { registers = bit p.sending ∷ word 8 p.count ∷ word 8 p.at ∷ word 4 p.bytes ∷ []; memories = p.cells ∷ [] }
+stored p = record { registers = bit p.sending ∷ word COUNT_WIDTH p.count ∷ word COUNT_WIDTH p.at ∷ word 4 p.bytes ∷ []; memories = p.cells ∷ [] }
 
 abbrev pub next : ℕ → ℕ
-next n = (n + 1) % 2 ^ 8
+next n = (n + 1) % 2 ^ COUNT_WIDTH
 
 abbrev pub is_at_last : Place → Bool
 is_at_last p = next p.at == p.count
@@ -45,25 +46,27 @@ shown_at verdict p = record {
   out_target = 0;
   out_reload = false;
   host_value = 0;
+  host_ready = false;
+  host_passed = 0;
 }
 
 by_last : (t : Bool) (more done : Stored) (last other : Place) → more ≡ stored other → done ≡ stored last → (if number_of t == 0 then more else done) ≡ stored (if t then last else other)
 by_last true more done last other m d = d
 by_last false more done last other m d = m
 
-after_at : (v : ℕ) (valid last ready g : Bool) (dat bytes ifindex hm hi hwd hd : ℕ) (hw : Bool) (c a b : ℕ) (cells : List Word) →
-    let i : Inputs = record { in_valid = valid; in_data = dat; in_bytes = bytes; in_last = last; in_ifindex = ifindex; out_ready = ready; host_write = hw; host_map = hm; host_index = hi; host_word = hwd; host_data = hd } in
+after_at : (v : ℕ) (valid last ready g : Bool) (dat bytes ifindex time hm hi hwd hd : ℕ) (hw : Bool) (c a b : ℕ) (cells : List Word) →
+    let i : Inputs = record { in_valid = valid; in_data = dat; in_bytes = bytes; in_last = last; in_ifindex = ifindex; in_time = time; out_ready = ready; host_write = hw; host_map = hm; host_index = hi; host_word = hwd; host_data = hd } in
     let p : Place = record { sending = g; count = c; at = a; bytes = b; cells = cells } in
     after (store_and_forward v) (words_of i) (stored p) ≡ stored (go i p)
-after_at v false last ready false dat bytes ifindex hm hi hwd hd hw c a b cells = refl
-after_at v true last ready false dat bytes ifindex hm hi hwd hd hw c a b cells = refl
-after_at v true last false true dat bytes ifindex hm hi hwd hd hw c a b cells = refl
-after_at v false last false true dat bytes ifindex hm hi hwd hd hw c a b cells = refl
-after_at v true last true true dat bytes ifindex hm hi hwd hd hw c a b cells = by_last (next a == c) _ _ _ _ refl refl
-after_at v false last true true dat bytes ifindex hm hi hwd hd hw c a b cells = by_last (next a == c) _ _ _ _ refl refl
+after_at v false last ready false dat bytes ifindex time hm hi hwd hd hw c a b cells = refl
+after_at v true last ready false dat bytes ifindex time hm hi hwd hd hw c a b cells = refl
+after_at v true last false true dat bytes ifindex time hm hi hwd hd hw c a b cells = refl
+after_at v false last false true dat bytes ifindex time hm hi hwd hd hw c a b cells = refl
+after_at v true last true true dat bytes ifindex time hm hi hwd hd hw c a b cells = by_last (next a == c) _ _ _ _ refl refl
+after_at v false last true true dat bytes ifindex time hm hi hwd hd hw c a b cells = by_last (next a == c) _ _ _ _ refl refl
 
 pub after_is : (v : ℕ) (i : Inputs) (p : Place) → after (store_and_forward v) (words_of i) (stored p) ≡ stored (go i p)
-after_is v i p = after_at v i.in_valid i.in_last i.out_ready p.sending i.in_data i.in_bytes i.in_ifindex i.host_map i.host_index i.host_word i.host_data i.host_write p.count p.at p.bytes p.cells
+after_is v i p = after_at v i.in_valid i.in_last i.out_ready p.sending i.in_data i.in_bytes i.in_ifindex i.in_time i.host_map i.host_index i.host_word i.host_data i.host_write p.count p.at p.bytes p.cells
 
 sending_shown : (v w b : ℕ) (t : Bool) →
     let was : Outputs = record {
@@ -76,6 +79,8 @@ sending_shown : (v w b : ℕ) (t : Bool) →
       out_target = 0;
       out_reload = false;
       host_value = 0;
+      host_ready = false;
+      host_passed = 0;
     } in
     let is : Outputs = record {
       in_ready = false;
@@ -87,6 +92,8 @@ sending_shown : (v w b : ℕ) (t : Bool) →
       out_target = 0;
       out_reload = false;
       host_value = 0;
+      host_ready = false;
+      host_passed = 0;
     } in was ≡ is
 sending_shown v w b true = refl
 sending_shown v w b false = refl

@@ -30,7 +30,7 @@ code_of p = record { insns = p.insns; refs = p.refs }
 -- packets that came over the ports, as the machine takes them
 abbrev pub packets_in : List Arrival → List PacketIn
 packets_in [] = []
-packets_in (a ∷ rest) = record { frame = a.frame; ifindex = a.ifindex } ∷ packets_in rest
+packets_in (a ∷ rest) = record { frame = a.frame; ifindex = a.ifindex; time = a.time } ∷ packets_in rest
 
 abbrev pub answer_of : Leaves → Answer
 answer_of e = record { verdict = e.verdict; target = e.target; frame = e.frame }

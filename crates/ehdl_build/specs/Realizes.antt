@@ -5,22 +5,24 @@
 use Rattle.std.specs.Prelude.{◌≡◌, ℕ, ◌+◌, ◌-◌, ◌^◌, ◌<◌, ◌≤◌, if◌then◌else◌, MatchBool, Bool, true, false, None, List, [], ◌∷◌, ◌++◌, length, map as map_list}
 use Rattle.std.specs.List.{flat_map, AllByRecursion}
 use Rattle.beat_core.specs.declared.beat.Beat.{Beat}
+use Rattle.beat_core.specs.declared.frame.Timed.{Timed}
 use Rattle.beat_core.specs.Beats.{beats_of}
+use Rattle.beat_core.specs.Ports.{Offered, offers_of}
 use Rattle.beat_core.specs.Filling.{filled_up}
 use Rattle.beat_core.specs.Clocks.{AreOffers}
-use Rattle.beat_core.specs.Laws.{IsFrame}
+use Rattle.beat_core.specs.Laws.{IsFrame, arrival_of}
 use Rattle.xdp_maps.specs.State.{MapState}
 use Rattle.xdp_machine.specs.Touched.{Touched}
 use Rattle.net_core.specs.declared.ports.Inputs.{Inputs}
 use Rattle.net_core.specs.Nets.{Netlist}
 use Rattle.net_core.specs.Clock.{Stored}
-use Rattle.net_core.specs.History.{Cycle, trace, stored_after, NeverStops, goes_in, beats_in, Arrival, arrivals, answers_given, open_beats, IsInput, IsSilent, Drive, Answered, drive}
+use Rattle.net_core.specs.History.{Cycle, trace, stored_after, NeverStops, beats_in, offers_in, Arrival, arrivals, answers_given, open_beats, IsInput, IsSilent, Drive, Answered, drive}
 use Rattle.beat_core.specs.declared.answer.Answer.{Answer}
 use Rattle.host_history.specs.Host.{ShowsMaps}
 use Rattle.ehdl_build.specs.Bounds.{clock_bound, clock_bound_apart, most_beats}
 
 -- Clocks with the host silent and offers well formed: each beat that goes over has 8 bytes unless it is a last one with 1 to 8,
--- and a frame has 1 to 192 beats.
+-- and a frame has no more of them than the bound.
 pub record IsPattern (d : Netlist) (s : Stored) (is : List Inputs) : Type 0 where
   pub inputs : AllByRecursion IsInput is
   pub silent : AllByRecursion IsSilent is
@@ -39,10 +41,17 @@ pub record IsPrefix (d : Netlist) (s : Stored) (is : List Inputs) (wanted : List
   pub prefix : wanted (arrivals None (trace d s is)) (answers_given [] (trace d s is) ++ later) maps
   pub next : BeginNext (open_beats [] (trace d s is)) later
 
--- these frames, all by one interface
-abbrev pub came_by : ℕ → List (List ℕ) → List Arrival
-came_by ifindex [] = []
-came_by ifindex (f ∷ fs) = record { frame = f; ifindex = ifindex } ∷ came_by ifindex fs
+-- these packets, all by one interface
+abbrev pub came_by : ℕ → List Timed → List Arrival
+came_by ifindex packets = map_list (arrival_of ifindex) packets
+
+abbrev pub frames_of : List Timed → List (List ℕ)
+frames_of packets = map_list (λ p. p.frame) packets
+
+-- a packet with the bytes of a frame, and a time of 64 bits
+pub record IsTimed (p : Timed) : Type 0 where
+  pub frame : IsFrame p.frame
+  pub time : p.time < 2 ^ 64
 
 -- what stood at the inputs
 abbrev pub inputs_in : List Cycle → List Inputs
@@ -56,11 +65,14 @@ pub record IsWhole (d : Netlist) (s : Stored) (is : List Inputs) (r : Drive) (pa
   pub all : wanted packets (answers_given [] (trace d s is ++ r.trace)) maps
   pub shown : ShowsMaps d (stored_after d (stored_after d s is) (inputs_in r.trace)) maps
 
--- each first beat of a frame that went over came by this interface
-abbrev pub CameBy : ℕ → Bool → List Cycle → Type 0
-CameBy ifindex begun [] = Unit {0}
-CameBy ifindex begun (m ∷ ms) =
-    MatchBool (goes_in m) (MatchBool begun (Unit {0}) (m.given.in_ifindex ≡ ifindex) × CameBy ifindex (if m.given.in_last then false else true) ms) (CameBy ifindex begun ms)
+-- These beats went over as others were to: the same with their filling cut off, and beside the first beat of each frame the same
+-- interface number and time.
+abbrev pub WentAs : Bool → List Offered → List Offered → Type 0
+WentAs begun [] [] = Unit {0}
+WentAs begun [] (o ∷ os) = ⊥
+WentAs begun (w ∷ ws) [] = ⊥
+WentAs begun (w ∷ ws) (o ∷ os) =
+    (filled_up w.beat ≡ o.beat) × MatchBool begun (Unit {0}) ((w.ifindex ≡ o.ifindex) × (w.time ≡ o.time)) × WentAs (if w.beat.last then false else true) ws os
 
 -- A design that holds these values answers as is wanted, with so many stages and record sites. Packets are apart where their runs,
 -- which touch this, do not conflict.
@@ -68,15 +80,16 @@ pub record Meets (d : Netlist) (s : Stored) (wanted : List Arrival → List Answ
   -- under every pattern of offered and taken beats
   pub safe : (is : List Inputs) → IsPattern d s is → IsPrefix d s is wanted
   -- offered and taken at every clock
-  pub complete : (frames : List (List ℕ)) (ifindex limit : ℕ) → AllByRecursion IsFrame frames → ifindex < 2 ^ 32 →
-      clock_bound (length frames) stages (most_beats frames) records ≤ limit →
-      IsWhole d s [] (drive d ifindex s (flat_map beats_of frames) (length frames) limit) (came_by ifindex frames) wanted
+  pub complete : (packets : List Timed) (ifindex limit : ℕ) → AllByRecursion IsTimed packets → ifindex < 2 ^ 32 →
+      clock_bound (length packets) stages (most_beats (frames_of packets)) records ≤ limit →
+      IsWhole d s [] (drive d s (flat_map (offers_of ifindex) packets) (length packets) limit) (came_by ifindex packets) wanted
   -- the same, with the stages counted once, of packets that do not conflict
-  pub complete_apart : (frames : List (List ℕ)) (ifindex limit : ℕ) (ts : List Touched) → AllByRecursion IsFrame frames → ifindex < 2 ^ 32 →
-      apart (came_by ifindex frames) ts → clock_bound_apart stages frames ts ≤ limit →
-      IsWhole d s [] (drive d ifindex s (flat_map beats_of frames) (length frames) limit) (came_by ifindex frames) wanted
-  -- the same from every state that a pattern leads to, by which these frames' first beats went over: bytes that do not count are not asked
-  pub late : (is : List Inputs) (frames : List (List ℕ)) (left : List Beat) (ifindex limit : ℕ) → IsPattern d s is → AllByRecursion IsFrame frames → ifindex < 2 ^ 32 →
-      map_list filled_up (beats_in (trace d s is)) ++ left ≡ flat_map beats_of frames → CameBy ifindex false (trace d s is) →
-      clock_bound (length frames + 1) stages (most_beats frames) records ≤ limit →
-      IsWhole d s is (drive d ifindex (stored_after d s is) left (length frames - length (answers_given [] (trace d s is))) limit) (came_by ifindex frames) wanted
+  pub complete_apart : (packets : List Timed) (ifindex limit : ℕ) (ts : List Touched) → AllByRecursion IsTimed packets → ifindex < 2 ^ 32 →
+      apart (came_by ifindex packets) ts → clock_bound_apart stages (frames_of packets) ts ≤ limit →
+      IsWhole d s [] (drive d s (flat_map (offers_of ifindex) packets) (length packets) limit) (came_by ifindex packets) wanted
+  -- the same from every state that a pattern leads to, by which the first beats of these packets went over: bytes that do not count
+  -- are not asked
+  pub late : (is : List Inputs) (packets : List Timed) (gone left : List Offered) (ifindex limit : ℕ) → IsPattern d s is → AllByRecursion IsTimed packets → ifindex < 2 ^ 32 →
+      gone ++ left ≡ flat_map (offers_of ifindex) packets → WentAs false (offers_in (trace d s is)) gone →
+      clock_bound (length packets + 1) stages (most_beats (frames_of packets)) records ≤ limit →
+      IsWhole d s is (drive d (stored_after d s is) left (length packets - length (answers_given [] (trace d s is))) limit) (came_by ifindex packets) wanted

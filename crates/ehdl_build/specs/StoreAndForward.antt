@@ -44,6 +44,8 @@ show verdict (Receiving got) = record {
   out_target = 0;
   out_reload = false;
   host_value = 0;
+  host_ready = false;
+  host_passed = 0;
 }
 show verdict (Sending given b rest) = record {
   in_ready = false;
@@ -55,6 +57,8 @@ show verdict (Sending given b rest) = record {
   out_target = 0;
   out_reload = false;
   host_value = 0;
+  host_ready = false;
+  host_passed = 0;
 }
 
 abbrev pub state_cycle : ℕ → StoreAndForward → Inputs → Cycle

@@ -9,6 +9,8 @@ use Rattle.net_core.specs.declared.design.Declared.TheVariants as declared
 use Rattle.net_core.specs.Nets.{Tree, TConst, TRead, TMemoryWord, TUnary, TBinary, TConditional, RPlain, StatementTree, SBlock, SIf, SIfElse, SSet, SStore, SEnd, SThen, WireTree, AssignTree, Netlist}
 use Rattle.net_core.specs.Value.{word}
 use Rattle.net_core.specs.Ports.{port_list, port_names}
+use Rattle.net_core.specs.declared.ports.TheConstants.{IN_VALID, IN_DATA, IN_BYTES, IN_LAST, IN_READY, OUT_READY, OUT_VALID, OUT_DATA, OUT_BYTES, OUT_LAST, OUT_VERDICT, OUT_TARGET, OUT_RELOAD, HOST_VALUE, HOST_READY, HOST_PASSED}
+use Rattle.ehdl_build.specs.declared.store_and_forward.TheConstants.{COUNT_WIDTH}
 use Rattle.net_core.specs.History.{Arrival}
 use Rattle.beat_core.specs.declared.answer.Answer.{Answer}
 
@@ -39,22 +41,22 @@ store_and_forward_names =
 -- whether a frame is given, how many beats it has so far, the beat that is shown, the bytes of the last beat; the beats
 abbrev pub store_and_forward_declared : List Declared
 store_and_forward_declared =
-    declared.Integer ∷ declared.Register (word 1 0) ∷ declared.Register (word 8 0) ∷ declared.Register (word 8 0) ∷ declared.Register (word 4 0)
-    ∷ declared.Memory 8 (word 64 0) 0 ∷ []
+    declared.Integer ∷ declared.Register (word 1 0) ∷ declared.Register (word COUNT_WIDTH 0) ∷ declared.Register (word COUNT_WIDTH 0) ∷ declared.Register (word 4 0)
+    ∷ declared.Memory COUNT_WIDTH (word 64 0) 0 ∷ []
 
 -- 0: ready to take a beat; 1: a beat is taken; 2: a beat is given
 abbrev pub going_wires : List WireTree
 going_wires =
     wire 1 (TUnary Not (read_register 0))
-    ∷ wire 1 (TBinary And (read_port 1) (read_wire 0))
-    ∷ wire 1 (TBinary And (read_register 0) (read_port 7))
+    ∷ wire 1 (TBinary And (read_port IN_VALID) (read_wire 0))
+    ∷ wire 1 (TBinary And (read_register 0) (read_port OUT_READY))
     ∷ []
 
 -- 3, 4: the count and the place that follow; 5, 6: the last beat is at its place, and is shown
 abbrev pub next_wires : List WireTree
 next_wires =
-    wire 8 (TBinary Add (read_register 1) (constant 8 1))
-    ∷ wire 8 (TBinary Add (read_register 2) (constant 8 1))
+    wire COUNT_WIDTH (TBinary Add (read_register 1) (constant COUNT_WIDTH 1))
+    ∷ wire COUNT_WIDTH (TBinary Add (read_register 2) (constant COUNT_WIDTH 1))
     ∷ wire 1 (TBinary Equal (read_wire 4) (read_register 1))
     ∷ wire 1 (TBinary And (read_register 0) (read_wire 5))
     ∷ []
@@ -73,22 +75,24 @@ store_and_forward_wires = going_wires ++ next_wires ++ shown_wires
 
 -- the beat that is shown
 abbrev pub beat_assigns : List AssignTree
-beat_assigns = assign 6 (read_wire 0) ∷ assign 8 (read_register 0) ∷ assign 9 (read_wire 8) ∷ assign 10 (read_wire 10) ∷ assign 11 (read_wire 6) ∷ []
+beat_assigns = assign IN_READY (read_wire 0) ∷ assign OUT_VALID (read_register 0) ∷ assign OUT_DATA (read_wire 8) ∷ assign OUT_BYTES (read_wire 10) ∷ assign OUT_LAST (read_wire 6) ∷ []
 
--- the verdict, and what is always 0: the target, the reload, the value for the host
+-- the verdict, and what is always 0: the target, the reload, all that the host is shown
 abbrev pub answer_assigns : ℕ → List AssignTree
-answer_assigns verdict = assign 12 (constant 32 verdict) ∷ assign 13 (constant 32 0) ∷ assign 14 (constant 1 0) ∷ assign 20 (constant 64 0) ∷ []
+answer_assigns verdict =
+    assign OUT_VERDICT (constant 32 verdict) ∷ assign OUT_TARGET (constant 32 0) ∷ assign OUT_RELOAD (constant 1 0)
+    ∷ assign HOST_VALUE (constant 64 0) ∷ assign HOST_READY (constant 1 0) ∷ assign HOST_PASSED (constant 32 0) ∷ []
 
 abbrev pub store_and_forward_assigns : ℕ → List AssignTree
 store_and_forward_assigns verdict = beat_assigns ++ answer_assigns verdict
 
 -- A beat comes in: it is stored behind those that are there, and a last one begins the answer.
 abbrev pub store_and_forward_take : StatementTree Net
-store_and_forward_take = SIf (read_wire 1) (SBlock (SThen (SStore 0 (read_register 1) (read_port 2)) (SThen (SSet 1 (read_wire 3)) (SThen (SSet 3 (read_port 3)) (SThen (SSet 0 (read_port 4)) SEnd)))))
+store_and_forward_take = SIf (read_wire 1) (SBlock (SThen (SStore 0 (read_register 1) (read_port IN_DATA)) (SThen (SSet 1 (read_wire 3)) (SThen (SSet 3 (read_port IN_BYTES)) (SThen (SSet 0 (read_port IN_LAST)) SEnd)))))
 
 -- the memory is empty again
 abbrev pub store_and_forward_clear : StatementTree Net
-store_and_forward_clear = SBlock (SThen (SSet 0 (constant 1 0)) (SThen (SSet 1 (constant 8 0)) (SThen (SSet 2 (constant 8 0)) SEnd)))
+store_and_forward_clear = SBlock (SThen (SSet 0 (constant 1 0)) (SThen (SSet 1 (constant COUNT_WIDTH 0)) (SThen (SSet 2 (constant COUNT_WIDTH 0)) SEnd)))
 
 -- A beat goes out: the last one leaves the memory empty.
 abbrev pub store_and_forward_give : StatementTree Net

@@ -11,32 +11,19 @@ use net_core::build::{
     binary, block, conditional, constant, memory_word, then, unary, when, when_else, wire,
 };
 use net_core::design::{Assign, Declared, Design, Port, Wire};
-use net_core::ports::PORTS;
+use net_core::ports::{
+    HOST_PASSED, HOST_READY, HOST_VALUE, IN_BYTES, IN_DATA, IN_LAST, IN_READY, IN_VALID, OUT_BYTES,
+    OUT_DATA, OUT_LAST, OUT_READY, OUT_RELOAD, OUT_TARGET, OUT_VALID, OUT_VERDICT, PORT_NAMES,
+    PORTS,
+};
 use net_core::tree::{Expr, Net, Op, Stmt, Stmts, UnaryOp, Word};
 use std::alloc::{AllocError, Global};
 
-const NAMES: [&str; 38] = [
-    "clk",
-    "in_valid",
-    "in_data",
-    "in_bytes",
-    "in_last",
-    "in_ifindex",
-    "in_ready",
-    "out_ready",
-    "out_valid",
-    "out_data",
-    "out_bytes",
-    "out_last",
-    "out_verdict",
-    "out_target",
-    "out_reload",
-    "host_write",
-    "host_map",
-    "host_index",
-    "host_word",
-    "host_data",
-    "host_value",
+/// The width of a beat's number within a frame: enough for the beats of the longest frame.
+pub(crate) const COUNT_WIDTH: u8 = 11;
+
+// The names of what is declared, and of the wires.
+const NAMES: [&str; 17] = [
     "i_word",
     "r_giving",
     "r_count",
@@ -70,7 +57,10 @@ fn texts(alloc: Global, all: &[&str]) -> Result<Vec<String>, AllocError>
 fn names(alloc: Global) -> Result<Vec<String>, AllocError>
     ensures { IfOk result (λ v. map string_bytes v.items ≡ store_and_forward_names) }
 {
-    texts(alloc, &NAMES)
+    let mut all = texts(alloc, &PORT_NAMES)?;
+    let mut own = texts(alloc, &NAMES)?;
+    all.append(&mut own)?;
+    Ok(all)
 }
 
 fn ports(alloc: Global) -> Result<Vec<Port>, AllocError>
@@ -82,11 +72,17 @@ fn ports(alloc: Global) -> Result<Vec<Port>, AllocError>
 const DECLARED: [Declared; 6] = [
     Declared::Integer,
     Declared::Register(Word { width: 1, value: 0 }),
-    Declared::Register(Word { width: 8, value: 0 }),
-    Declared::Register(Word { width: 8, value: 0 }),
+    Declared::Register(Word {
+        width: COUNT_WIDTH,
+        value: 0,
+    }),
+    Declared::Register(Word {
+        width: COUNT_WIDTH,
+        value: 0,
+    }),
     Declared::Register(Word { width: 4, value: 0 }),
     Declared::Memory {
-        index: 8,
+        index: COUNT_WIDTH,
         first: Word {
             width: 64,
             value: 0,
@@ -126,8 +122,8 @@ fn going(alloc: Global) -> Result<Vec<Wire>, AllocError>
 {
     let mut wires = Vec::new(alloc);
     wires.push(wire(1, unary(alloc, UnaryOp::Not, register(0))?))?;
-    wires.push(wire(1, binary(alloc, Op::And, port(1), net(0))?))?;
-    wires.push(wire(1, binary(alloc, Op::And, register(0), port(7))?))?;
+    wires.push(wire(1, binary(alloc, Op::And, port(IN_VALID), net(0))?))?;
+    wires.push(wire(1, binary(alloc, Op::And, register(0), port(OUT_READY))?))?;
     Ok(wires)
 }
 
@@ -136,8 +132,8 @@ fn following(alloc: Global) -> Result<Vec<Wire>, AllocError>
     ensures { IfOk result (λ v. map wire_of v.items ≡ next_wires) }
 {
     let mut wires = Vec::new(alloc);
-    wires.push(wire(8, binary(alloc, Op::Add, register(1), constant(8, 1))?))?;
-    wires.push(wire(8, binary(alloc, Op::Add, register(2), constant(8, 1))?))?;
+    wires.push(wire(COUNT_WIDTH, binary(alloc, Op::Add, register(1), constant(COUNT_WIDTH, 1))?))?;
+    wires.push(wire(COUNT_WIDTH, binary(alloc, Op::Add, register(2), constant(COUNT_WIDTH, 1))?))?;
     wires.push(wire(1, binary(alloc, Op::Equal, net(4), register(1))?))?;
     wires.push(wire(1, binary(alloc, Op::And, register(0), net(5))?))?;
     Ok(wires)
@@ -180,23 +176,25 @@ fn beat(alloc: Global) -> Result<Vec<Assign>, AllocError>
     ensures { IfOk result (λ v. map assign_of v.items ≡ beat_assigns) }
 {
     let mut assigns = Vec::new(alloc);
-    assigns.push(assign(6, net(0)))?;
-    assigns.push(assign(8, register(0)))?;
-    assigns.push(assign(9, net(8)))?;
-    assigns.push(assign(10, net(10)))?;
-    assigns.push(assign(11, net(6)))?;
+    assigns.push(assign(IN_READY, net(0)))?;
+    assigns.push(assign(OUT_VALID, register(0)))?;
+    assigns.push(assign(OUT_DATA, net(8)))?;
+    assigns.push(assign(OUT_BYTES, net(10)))?;
+    assigns.push(assign(OUT_LAST, net(6)))?;
     Ok(assigns)
 }
 
-// The verdict, and what is always 0: the target, the reload, the value for the host.
+// The verdict, and what is always 0: the target, the reload, all that the host is shown.
 fn answer(alloc: Global, verdict: u32) -> Result<Vec<Assign>, AllocError>
     ensures { IfOk result (λ v. map assign_of v.items ≡ answer_assigns verdict) }
 {
     let mut assigns = Vec::new(alloc);
-    assigns.push(assign(12, constant(32, u64::from(verdict))))?;
-    assigns.push(assign(13, constant(32, 0)))?;
-    assigns.push(assign(14, constant(1, 0)))?;
-    assigns.push(assign(20, constant(64, 0)))?;
+    assigns.push(assign(OUT_VERDICT, constant(32, u64::from(verdict))))?;
+    assigns.push(assign(OUT_TARGET, constant(32, 0)))?;
+    assigns.push(assign(OUT_RELOAD, constant(1, 0)))?;
+    assigns.push(assign(HOST_VALUE, constant(64, 0)))?;
+    assigns.push(assign(HOST_READY, constant(1, 0)))?;
+    assigns.push(assign(HOST_PASSED, constant(32, 0)))?;
     Ok(assigns)
 }
 
@@ -213,10 +211,10 @@ fn assigns(alloc: Global, verdict: u32) -> Result<Vec<Assign>, AllocError>
 fn take(alloc: Global) -> Result<Stmt<Net>, AllocError>
     ensures { IfOk result (λ s. statement_of s ≡ store_and_forward_take) }
 {
-    let rest = then(alloc, Stmt::Set(0, port(4)), Stmts::End)?;
-    let rest = then(alloc, Stmt::Set(3, port(3)), rest)?;
+    let rest = then(alloc, Stmt::Set(0, port(IN_LAST)), Stmts::End)?;
+    let rest = then(alloc, Stmt::Set(3, port(IN_BYTES)), rest)?;
     let rest = then(alloc, Stmt::Set(1, net(3)), rest)?;
-    let all = then(alloc, Stmt::Store(0, register(1), port(2)), rest)?;
+    let all = then(alloc, Stmt::Store(0, register(1), port(IN_DATA)), rest)?;
     let body = block(alloc, all)?;
     when(alloc, net(1), body)
 }
@@ -225,8 +223,8 @@ fn take(alloc: Global) -> Result<Stmt<Net>, AllocError>
 fn clear(alloc: Global) -> Result<Stmt<Net>, AllocError>
     ensures { IfOk result (λ s. statement_of s ≡ store_and_forward_clear) }
 {
-    let rest = then(alloc, Stmt::Set(2, constant(8, 0)), Stmts::End)?;
-    let rest = then(alloc, Stmt::Set(1, constant(8, 0)), rest)?;
+    let rest = then(alloc, Stmt::Set(2, constant(COUNT_WIDTH, 0)), Stmts::End)?;
+    let rest = then(alloc, Stmt::Set(1, constant(COUNT_WIDTH, 0)), rest)?;
     let all = then(alloc, Stmt::Set(0, constant(1, 0)), rest)?;
     block(alloc, all)
 }

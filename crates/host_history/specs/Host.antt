@@ -1,11 +1,12 @@
 -- What the host writes before the first beat and reads behind the last answer: a word a clock, maps in the order of their
 -- declarations, indexes ascending, words ascending. No beat is offered or taken meanwhile.
-use Rattle.std.specs.Prelude.{◌≡◌, ℕ, zero, suc, ◌+◌, ◌*◌, List, [], ◌∷◌, ◌++◌, map as map_list, take, drop, true, false}
+use Rattle.std.specs.Prelude.{◌≡◌, ℕ, zero, suc, ◌+◌, ◌*◌, List, [], ◌∷◌, ◌++◌, map as map_list, take, drop, true}
 use Rattle.std.specs.List.{flat_map, range_with_len}
 use Rattle.xdp_maps.specs.declared.decl.MapDecl.{MapDecl}
 use Rattle.xdp_maps.specs.Contents.{Contents}
 use Rattle.xdp_maps.specs.State.{MapState}
 use Rattle.net_core.specs.declared.ports.Inputs.{Inputs}
+use Rattle.net_core.specs.declared.ports.TheConstants.{SILENT}
 use Rattle.net_core.specs.Nets.{Netlist}
 use Rattle.net_core.specs.Clock.{Stored}
 use Rattle.net_core.specs.History.{Cycle, trace, NeverStops}
@@ -13,19 +14,7 @@ use Rattle.host_history.specs.Rows.{row_length, rows_of, contents_of}
 
 -- the inputs in a clock in which the host reads a word of an index of a map
 abbrev pub asked : ℕ → ℕ → ℕ → Inputs
-asked map index word = record {
-  in_valid = false;
-  in_data = 0;
-  in_bytes = 0;
-  in_last = false;
-  in_ifindex = 0;
-  out_ready = false;
-  host_write = false;
-  host_map = map;
-  host_index = index;
-  host_word = word;
-  host_data = 0;
-}
+asked map index word = record SILENT { host_map = map; host_index = index; host_word = word }
 
 -- and in one in which it writes this data there
 abbrev pub written : ℕ → ℕ → ℕ → ℕ → Inputs
