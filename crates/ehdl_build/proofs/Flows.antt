@@ -96,11 +96,10 @@ is_last : {A : Type 0} (t : Bool) (xs ys : A) → t ≡ true → (if t then xs e
 is_last true xs ys h = refl
 is_last false xs ys h = cc
 
-receiving_flows : (v : ℕ) (got : List Beat) (valid last ready hw : Bool) (dat bytes ifindex time hm hi hwd hd : ℕ) → NoneLast got →
-    Flows v (Receiving got) (record { in_valid = valid; in_data = dat; in_bytes = bytes; in_last = last; in_ifindex = ifindex; in_time = time; out_ready = ready; host_write = hw; host_map = hm; host_index = hi; host_word = hwd; host_data = hd })
-receiving_flows v got false last ready hw dat bytes ifindex time hm hi hwd hd h = record { out = []; sound = h; count = λ owed. omega arith; opens = λ ms. refl; goes = λ ms. refl; keeps = λ left. refl }
-receiving_flows v got true false ready hw dat bytes ifindex time hm hi hwd hd h =
-    let b : Beat = record { word = dat; bytes = bytes; last = false } in
+receiving_flows : (v : ℕ) (got : List Beat) (valid last : Bool) (i : Inputs) → NoneLast got → Flows v (Receiving got) (record i { in_valid = valid; in_last = last })
+receiving_flows v got false last i h = record { out = []; sound = h; count = λ owed. omega arith; opens = λ ms. refl; goes = λ ms. refl; keeps = λ left. refl }
+receiving_flows v got true false i h =
+    let b : Beat = record { word = i.in_data; bytes = i.in_bytes; last = false } in
     record {
       out = [];
       sound = none_last-append got b h refl;
@@ -109,8 +108,8 @@ receiving_flows v got true false ready hw dat bytes ifindex time hm hi hwd hd h 
       goes = λ ms. refl;
       keeps = λ left. ap (λ f. map (answer v) (frames_among f left)) (sym (frame_of-append got b));
     }
-receiving_flows v got true true ready hw dat bytes ifindex time hm hi hwd hd h =
-    let b : Beat = record { word = dat; bytes = bytes; last = true } in
+receiving_flows v got true true i h =
+    let b : Beat = record { word = i.in_data; bytes = i.in_bytes; last = true } in
     record {
       out = [];
       sound = sound_sending got b h refl;
@@ -120,10 +119,9 @@ receiving_flows v got true true ready hw dat bytes ifindex time hm hi hwd hd h =
       keeps = λ left. ap (λ f. answer v f ∷ map (answer v) (frames_among [] left)) (sym (frame_of-append got b)) ∙ sym (total-sending v got b left);
     }
 
-sending_flows : (v : ℕ) (given : List Beat) (b : Beat) (rest : List Beat) (valid last ready hw : Bool) (dat bytes ifindex time hm hi hwd hd : ℕ) → IsSound (Sending given b rest) →
-    Flows v (Sending given b rest) (record { in_valid = valid; in_data = dat; in_bytes = bytes; in_last = last; in_ifindex = ifindex; in_time = time; out_ready = ready; host_write = hw; host_map = hm; host_index = hi; host_word = hwd; host_data = hd })
-sending_flows v given b rest valid last false hw dat bytes ifindex time hm hi hwd hd h = record { out = []; sound = h; count = λ owed. omega arith; opens = λ ms. refl; goes = λ ms. refl; keeps = λ left. refl }
-sending_flows v given b [] valid last true hw dat bytes ifindex time hm hi hwd hd h =
+sending_flows : (v : ℕ) (given : List Beat) (b : Beat) (rest : List Beat) (ready : Bool) (i : Inputs) → IsSound (Sending given b rest) → Flows v (Sending given b rest) (record i { out_ready = ready })
+sending_flows v given b rest false i h = record { out = []; sound = h; count = λ owed. omega arith; opens = λ ms. refl; goes = λ ms. refl; keeps = λ left. refl }
+sending_flows v given b [] true i h =
     record {
       out = answer v (frame_of given ++ bytes_of_beat b) ∷ [];
       sound = tt;
@@ -132,7 +130,7 @@ sending_flows v given b [] valid last true hw dat bytes ifindex time hm hi hwd h
       goes = λ ms. is_last b.last _ _ h.1;
       keeps = λ left. ap (λ f. answer v f ∷ map (answer v) (frames_among [] left)) (frame_of-append given b);
     }
-sending_flows v given b (c ∷ rest) valid last true hw dat bytes ifindex time hm hi hwd hd h =
+sending_flows v given b (c ∷ rest) true i h =
     record {
       out = [];
       sound = (none_last-append given b h.0 h.1.0, h.1.1);
@@ -143,5 +141,5 @@ sending_flows v given b (c ∷ rest) valid last true hw dat bytes ifindex time h
     }
 
 pub flows : (v : ℕ) (s : StoreAndForward) (i : Inputs) → IsSound s → Flows v s i
-flows v (Receiving got) i h = receiving_flows v got i.in_valid i.in_last i.out_ready i.host_write i.in_data i.in_bytes i.in_ifindex i.in_time i.host_map i.host_index i.host_word i.host_data h
-flows v (Sending given b rest) i h = sending_flows v given b rest i.in_valid i.in_last i.out_ready i.host_write i.in_data i.in_bytes i.in_ifindex i.in_time i.host_map i.host_index i.host_word i.host_data h
+flows v (Receiving got) i h = receiving_flows v got i.in_valid i.in_last i h
+flows v (Sending given b rest) i h = sending_flows v given b rest i.out_ready i h

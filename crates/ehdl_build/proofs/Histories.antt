@@ -1,14 +1,17 @@
 -- The store-and-forward machine over a list of clocks.
 use Rattle.std.specs.Prelude.{◌≡◌, ℕ, if◌then◌else◌, Bool, true, false, Option, Some, None, List, [], ◌∷◌, ◌++◌, map}
+use Rattle.std.specs.List.{flat_map, AllByRecursion}
 use Rattle.std.proofs.Common.{refl, sym, ap, ◌∙◌, subst, append_assoc}
 use Rattle.beat_core.specs.declared.beat.Beat.{Beat}
-use Rattle.beat_core.specs.Beats.{bytes_of_beat, frame_of}
+use Rattle.beat_core.specs.Beats.{bytes_of_beat, frame_of, beats_of}
 use Rattle.beat_core.specs.Clocks.{frames_among}
+use Rattle.beat_core.specs.Laws.{IsFrame}
 use Rattle.net_core.specs.declared.ports.Inputs.{Inputs}
 use Rattle.beat_core.specs.Ports.{Offered, offered, Arrival, arrived, arrivals_among, Given, answers_among}
 use Rattle.net_core.specs.History.{Cycle, answers_given, given_out, beats_in, open_beats, goes_in, offered_beat, offers_in, goes_out, shown_beat, arrivals}
 use Rattle.ehdl_build.specs.StoreAndForwardNetlist.{answer, answers_to}
 use Rattle.ehdl_build.specs.StoreAndForward.{StoreAndForward, step, state_cycle, state_trace, state_after}
+use Rattle.ehdl_build.specs.Realizes.{IsPacket, frames_in, offers_from, all_offers, beats_offered}
 use Rattle.ehdl_build.proofs.Flows.{so_far, total, IsSound, given_beats, Flows, flows, frame_of-append}
 
 by_test : {A : Type 0} (t : Bool) (x : A) (xs : List A) → (if t then x ∷ xs else xs) ≡ (if t then x ∷ [] else []) ++ xs
@@ -46,36 +49,50 @@ abbrev pub begun_bytes : Option Arrival → List ℕ
 begun_bytes None = []
 begun_bytes (Some a) = a.frame
 
-abbrev pub frames : List Arrival → List (List ℕ)
-frames [] = []
-frames (a ∷ rest) = a.frame ∷ frames rest
-
 arrival_case : (t l : Bool) (word bytes ifindex time : ℕ) (begun : Option Arrival) (before : List ℕ) (os : List Offered) (bs : List Beat) →
     let b : Beat = record { word = word; bytes = bytes; last = l } in
-    let o : Offered = offered ifindex time b in
+    let o : Offered = record { beat = b; ifindex = ifindex; time = time } in
     (arrived begun o).frame ≡ before ++ bytes_of_beat b →
-    frames (arrivals_among None os) ≡ frames_among [] bs →
-    frames (arrivals_among (Some (arrived begun o)) os) ≡ frames_among (arrived begun o).frame bs →
-    frames (arrivals_among begun os) ≡ frames_among before bs →
-    frames (arrivals_among begun (if t then o ∷ os else os)) ≡ frames_among before (if t then b ∷ bs else bs)
+    frames_in (arrivals_among None os) ≡ frames_among [] bs →
+    frames_in (arrivals_among (Some (arrived begun o)) os) ≡ frames_among (arrived begun o).frame bs →
+    frames_in (arrivals_among begun os) ≡ frames_among before bs →
+    frames_in (arrivals_among begun (if t then o ∷ os else os)) ≡ frames_among before (if t then b ∷ bs else bs)
 arrival_case true true word bytes ifindex time begun before os bs e none some same =
-    ap (λ f. f ∷ frames (arrivals_among None os)) e ∙ ap (λ t. (before ++ bytes_of_beat (record { word = word; bytes = bytes; last = true })) ∷ t) none
+    ap (λ f. f ∷ frames_in (arrivals_among None os)) e ∙ ap (λ t. (before ++ bytes_of_beat (record { word = word; bytes = bytes; last = true })) ∷ t) none
 arrival_case true false word bytes ifindex time begun before os bs e none some same = some ∙ ap (λ f. frames_among f bs) e
 arrival_case false l word bytes ifindex time begun before os bs e none some same = same
 
-pub frames-arrivals : (ms : List Cycle) (begun : Option Arrival) → frames (arrivals begun ms) ≡ frames_among (begun_bytes begun) (beats_in ms)
+-- what went over in a clock, if anything did
+abbrev offer_at : Cycle → Offered
+offer_at m = record { beat = offered_beat m; ifindex = m.given.in_ifindex; time = m.given.in_time }
+
+pub frames-arrivals : (ms : List Cycle) (begun : Option Arrival) → frames_in (arrivals begun ms) ≡ frames_among (begun_bytes begun) (beats_in ms)
 frames-arrivals [] None = refl
 frames-arrivals [] (Some a) = refl
 frames-arrivals (m ∷ ms) None =
-    let a : Arrival = arrived None (offered m.given.in_ifindex m.given.in_time (offered_beat m)) in
-    arrival_case (goes_in m) m.given.in_last m.given.in_data m.given.in_bytes m.given.in_ifindex m.given.in_time None [] (offers_in ms) (beats_in ms) refl (frames-arrivals ms None) (frames-arrivals ms (Some a)) (frames-arrivals ms None)
+    arrival_case (goes_in m) m.given.in_last m.given.in_data m.given.in_bytes m.given.in_ifindex m.given.in_time None [] (offers_in ms) (beats_in ms) refl
+    (frames-arrivals ms None) (frames-arrivals ms (Some (arrived None (offer_at m)))) (frames-arrivals ms None)
 frames-arrivals (m ∷ ms) (Some before) =
-    let a : Arrival = arrived (Some before) (offered m.given.in_ifindex m.given.in_time (offered_beat m)) in
-    arrival_case (goes_in m) m.given.in_last m.given.in_data m.given.in_bytes m.given.in_ifindex m.given.in_time (Some before) before.frame (offers_in ms) (beats_in ms) refl (frames-arrivals ms None) (frames-arrivals ms (Some a)) (frames-arrivals ms (Some before))
+    arrival_case (goes_in m) m.given.in_last m.given.in_data m.given.in_bytes m.given.in_ifindex m.given.in_time (Some before) before.frame (offers_in ms) (beats_in ms) refl
+    (frames-arrivals ms None) (frames-arrivals ms (Some (arrived (Some before) (offer_at m)))) (frames-arrivals ms (Some before))
 
-pub answers_to-frames : (v : ℕ) (as' : List Arrival) → map (answer v) (frames as') ≡ answers_to v as'
+pub answers_to-frames : (v : ℕ) (as' : List Arrival) → map (answer v) (frames_in as') ≡ answers_to v as'
 answers_to-frames v [] = refl
 answers_to-frames v (a ∷ rest) = ap (λ t. answer v a.frame ∷ t) (answers_to-frames v rest)
+
+-- ---- the beats of packets
+pub beats-offered : (ifindex time : ℕ) (bs : List Beat) (rest : List Offered) → beats_offered (map (offered ifindex time) bs ++ rest) ≡ bs ++ beats_offered rest
+beats-offered ifindex time [] rest = refl
+beats-offered ifindex time (b ∷ bs) rest = ap (λ t. b ∷ t) (beats-offered ifindex time bs rest)
+
+pub beats-all_offers : (packets : List Arrival) → beats_offered (all_offers packets) ≡ flat_map beats_of (frames_in packets)
+beats-all_offers [] = refl
+beats-all_offers (a ∷ rest) =
+    beats-offered a.ifindex a.time (beats_of a.frame) (all_offers rest) ∙ ap (λ t. beats_of a.frame ++ t) (beats-all_offers rest)
+
+pub frames-packets : (packets : List Arrival) → AllByRecursion IsPacket packets → AllByRecursion IsFrame (frames_in packets)
+frames-packets [] h = tt
+frames-packets (a ∷ rest) h = (h.0.frame, frames-packets rest h.1)
 
 -- ---- what went over before, and what goes over then
 abbrev Splits : List ℕ → List Beat → List Cycle → List Cycle → Type 0

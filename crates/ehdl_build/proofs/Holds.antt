@@ -1,5 +1,5 @@
 -- The netlist's registers and memory hold the state of the store-and-forward machine.
-use Rattle.std.specs.Prelude.{◌≡◌, ◌≢◌, ℕ, suc, ◌+◌, ◌^◌, ◌<◌, ◌≤◌, ◌==◌, if◌then◌else◌, Bool, true, false, List, [], ◌∷◌, ◌++◌, length, map, slice_set}
+use Rattle.std.specs.Prelude.{◌≡◌, ◌≢◌, ℕ, suc, ◌+◌, ◌-◌, ◌^◌, ◌<◌, ◌≤◌, ◌==◌, if◌then◌else◌, Bool, true, false, List, [], ◌∷◌, ◌++◌, length, map, slice_set}
 use Rattle.std.proofs.Common.{get_or, take, refl, sym, ap, ◌∙◌, arith, append_assoc, length-append}
 use Rattle.std.proofs.lemmas.Bool.Decides.{nat_tests}
 use Rattle.std.proofs.lemmas.List.{map-set, length-map, length-set, get_or-take, map-append}
@@ -12,7 +12,7 @@ use Rattle.beat_core.proofs.BeatLaws.{IsOffer-eight}
 use Rattle.net_core.specs.declared.tree.Word.{Word}
 use Rattle.net_core.specs.declared.ports.Inputs.{Inputs}
 use Rattle.net_core.specs.Value.{word, nothing}
-use Rattle.ehdl_build.specs.declared.store_and_forward.TheConstants.{COUNT_WIDTH}
+use Rattle.ehdl_build.specs.StoreAndForwardNetlist.{place_width}
 use Rattle.ehdl_build.specs.StoreAndForward.{StoreAndForward, Receiving, Sending, sending, input_beat, step, show}
 use Rattle.ehdl_build.proofs.Places.{Place, go, shown_at, next}
 
@@ -40,7 +40,7 @@ pub record HoldsReceiving (p : Place) (got : List Beat) : Type 0 where
   pub at : p.at ≡ 0
   pub count : p.count ≡ length got
   pub room : length got ≤ BEAT_LIMIT
-  pub size : length p.cells ≡ 2 ^ COUNT_WIDTH
+  pub size : length p.cells ≡ 2 ^ place_width
   pub held : take (length got) (values p.cells) ≡ words got
   pub full : AllFull got
 
@@ -49,7 +49,7 @@ pub record HoldsSending (p : Place) (given : List Beat) (b : Beat) (rest : List 
   pub at : p.at ≡ length given
   pub count : p.count ≡ length given + suc (length rest)
   pub room : length given + suc (length rest) ≤ BEAT_LIMIT
-  pub size : length p.cells ≡ 2 ^ COUNT_WIDTH
+  pub size : length p.cells ≡ 2 ^ place_width
   pub held : take (length given + suc (length rest)) (values p.cells) ≡ words (given ++ b ∷ rest)
   pub ends : EndsAt p.bytes b rest
 
@@ -75,7 +75,7 @@ beat_at cells given b rest n e h =
     ∙ ap (λ k. get_or (words given ++ b.word ∷ words rest) k 0) (sym (length-map given (λ (x : Beat). x.word)))
     ∙ get_or-append_seam (words given) b.word (words rest) 0
 
-next_is : (n : ℕ) → n + 1 < 2 ^ COUNT_WIDTH → next n ≡ n + 1
+next_is : (n : ℕ) → n < 2 ^ place_width - 1 → next n ≡ n + 1
 next_is n h = omega arith
 
 shows_at : (v : ℕ) (g : Bool) (c a bytes : ℕ) (cells : List Word) (given : List Beat) (b : Beat) (rest : List Beat) (t : Bool) → g ≡ true → t ≡ (next a == c) → (get_or cells a nothing).value ≡ b.word → t ≡ b.last → (if t then bytes else 8) ≡ b.bytes →
@@ -138,7 +138,7 @@ place g c a b cells = record { sending = g; count = c; at = a; bytes = b; cells 
 abbrev inputs : Bool → Bool → Bool → ℕ → ℕ → Inputs → Inputs
 inputs valid last ready dat bytes i = record i { in_valid = valid; in_data = dat; in_bytes = bytes; in_last = last; out_ready = ready }
 
-sending_holds : (p : Place) (got : List Beat) (b : Beat) → p.sending ≡ true → p.at ≡ 0 → p.count ≡ suc (length got) → length got < BEAT_LIMIT → length p.cells ≡ 2 ^ COUNT_WIDTH →
+sending_holds : (p : Place) (got : List Beat) (b : Beat) → p.sending ≡ true → p.at ≡ 0 → p.count ≡ suc (length got) → length got < BEAT_LIMIT → length p.cells ≡ 2 ^ place_width →
     take (suc (length got)) (values p.cells) ≡ words (got ++ b ∷ []) → AllFull got → b.last ≡ true → b.bytes ≡ p.bytes → Holds p (sending got b)
 sending_holds p [] b g a c few size held full l e = record { sending = g; at = a; count = c; room = omega arith; size = size; held = held; ends = (l, e) }
 sending_holds p (x ∷ got) b g a c few size held full l e =

@@ -7,8 +7,7 @@ use Rattle.net_core.specs.declared.ports.Outputs.{Outputs}
 use Rattle.net_core.specs.Value.{word, bit, nothing, number_of}
 use Rattle.net_core.specs.Clock.{Stored, after, stopping}
 use Rattle.net_core.specs.Ports.{words_of, outputs_of}
-use Rattle.ehdl_build.specs.declared.store_and_forward.TheConstants.{COUNT_WIDTH}
-use Rattle.ehdl_build.specs.StoreAndForwardNetlist.{store_and_forward}
+use Rattle.ehdl_build.specs.StoreAndForwardNetlist.{store_and_forward, place_width}
 
 pub record Place : Type 0 where
   pub sending : Bool
@@ -18,10 +17,10 @@ pub record Place : Type 0 where
   pub cells : List Word
 
 abbrev pub stored : Place → Stored
-stored p = record { registers = bit p.sending ∷ word COUNT_WIDTH p.count ∷ word COUNT_WIDTH p.at ∷ word 4 p.bytes ∷ []; memories = p.cells ∷ [] }
+stored p = record { registers = bit p.sending ∷ word place_width p.count ∷ word place_width p.at ∷ word 4 p.bytes ∷ []; memories = p.cells ∷ [] }
 
 abbrev pub next : ℕ → ℕ
-next n = (n + 1) % 2 ^ COUNT_WIDTH
+next n = (n + 1) % 2 ^ place_width
 
 abbrev pub is_at_last : Place → Bool
 is_at_last p = next p.at == p.count
@@ -54,19 +53,19 @@ by_last : (t : Bool) (more done : Stored) (last other : Place) → more ≡ stor
 by_last true more done last other m d = d
 by_last false more done last other m d = m
 
-after_at : (v : ℕ) (valid last ready g : Bool) (dat bytes ifindex time hm hi hwd hd : ℕ) (hw : Bool) (c a b : ℕ) (cells : List Word) →
-    let i : Inputs = record { in_valid = valid; in_data = dat; in_bytes = bytes; in_last = last; in_ifindex = ifindex; in_time = time; out_ready = ready; host_write = hw; host_map = hm; host_index = hi; host_word = hwd; host_data = hd } in
+after_at : (v : ℕ) (valid last ready g : Bool) (i : Inputs) (c a b : ℕ) (cells : List Word) →
+    let j : Inputs = record i { in_valid = valid; in_last = last; out_ready = ready } in
     let p : Place = record { sending = g; count = c; at = a; bytes = b; cells = cells } in
-    after (store_and_forward v) (words_of i) (stored p) ≡ stored (go i p)
-after_at v false last ready false dat bytes ifindex time hm hi hwd hd hw c a b cells = refl
-after_at v true last ready false dat bytes ifindex time hm hi hwd hd hw c a b cells = refl
-after_at v true last false true dat bytes ifindex time hm hi hwd hd hw c a b cells = refl
-after_at v false last false true dat bytes ifindex time hm hi hwd hd hw c a b cells = refl
-after_at v true last true true dat bytes ifindex time hm hi hwd hd hw c a b cells = by_last (next a == c) _ _ _ _ refl refl
-after_at v false last true true dat bytes ifindex time hm hi hwd hd hw c a b cells = by_last (next a == c) _ _ _ _ refl refl
+    after (store_and_forward v) (words_of j) (stored p) ≡ stored (go j p)
+after_at v false last ready false i c a b cells = refl
+after_at v true last ready false i c a b cells = refl
+after_at v true last false true i c a b cells = refl
+after_at v false last false true i c a b cells = refl
+after_at v true last true true i c a b cells = by_last (next a == c) _ _ _ _ refl refl
+after_at v false last true true i c a b cells = by_last (next a == c) _ _ _ _ refl refl
 
 pub after_is : (v : ℕ) (i : Inputs) (p : Place) → after (store_and_forward v) (words_of i) (stored p) ≡ stored (go i p)
-after_is v i p = after_at v i.in_valid i.in_last i.out_ready p.sending i.in_data i.in_bytes i.in_ifindex i.in_time i.host_map i.host_index i.host_word i.host_data i.host_write p.count p.at p.bytes p.cells
+after_is v i p = after_at v i.in_valid i.in_last i.out_ready p.sending i p.count p.at p.bytes p.cells
 
 sending_shown : (v w b : ℕ) (t : Bool) →
     let was : Outputs = record {

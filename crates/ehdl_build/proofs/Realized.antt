@@ -1,38 +1,36 @@
 -- The store-and-forward design answers frames, whatever is offered and taken, and in the stated clocks.
-use Rattle.std.specs.Prelude.{◌≡◌, ℕ, suc, ◌+◌, ◌-◌, ◌*◌, ◌^◌, ◌≤◌, if◌then◌else◌, Bool, true, false, None, List, [], ◌∷◌, ◌++◌, length, map, replicate}
+use Rattle.std.specs.Prelude.{◌≡◌, ℕ, suc, ◌+◌, ◌-◌, ◌*◌, ◌^◌, ◌≤◌, if◌then◌else◌, false, None, List, [], ◌∷◌, ◌++◌, length, map, replicate}
 use Rattle.std.specs.List.{flat_map, AllByRecursion}
 use Rattle.std.proofs.Common.{refl, sym, ap, ◌∙◌, arith, subst, append-nil, length-append}
 use Rattle.std.proofs.lemmas.List.{length-replicate, length-map}
 use Rattle.beat_core.specs.declared.beat.Beat.{Beat}
-use Rattle.beat_core.specs.declared.frame.Timed.{Timed}
 use Rattle.beat_core.specs.Beats.{frame_of, beats_of}
-use Rattle.beat_core.specs.Ports.{Offered, offered, offers_of}
 use Rattle.beat_core.specs.Filling.{filled_up}
 use Rattle.beat_core.specs.Clocks.{AreOffers, frames_among}
 use Rattle.beat_core.specs.Laws.{IsFrame}
+use Rattle.beat_core.specs.Ports.{Offered}
 use Rattle.beat_core.proofs.FillingLaws.{frames_among-filled_up, AreOffers-filled_up}
 use Rattle.beat_core.proofs.OrderLaws.{offers-frames, frames-frames}
 use Rattle.net_core.specs.declared.ports.Inputs.{Inputs}
 use Rattle.net_core.specs.Value.{word}
 use Rattle.net_core.specs.Clock.{Stored, first_stored}
 use Rattle.net_core.specs.Nets.{Netlist}
-use Rattle.net_core.specs.History.{Cycle, trace, stored_after, NeverStops, goes_in, offered_beat, beats_in, offers_in, Arrival, arrivals, answers_given, open_beats, Drive, Answered, drive}
+use Rattle.net_core.specs.History.{Cycle, trace, stored_after, NeverStops, beats_in, Arrival, arrivals, answers_given, open_beats, Drive, Answered, drive}
 use Rattle.beat_core.specs.declared.answer.Answer.{Answer}
 use Rattle.host_history.specs.Host.{ShowsMaps}
 use Rattle.xdp_maps.specs.State.{MapState}
 use Rattle.xdp_machine.specs.Touched.{Touched}
-use Rattle.ehdl_build.specs.declared.store_and_forward.TheConstants.{COUNT_WIDTH}
 use Rattle.ehdl_build.specs.StoreAndForward.{StoreAndForward, Receiving, Sending, state_trace, state_after}
-use Rattle.ehdl_build.specs.StoreAndForwardNetlist.{store_and_forward, answer, answers_to}
+use Rattle.ehdl_build.specs.StoreAndForwardNetlist.{store_and_forward, place_width, answer, answers_to}
 use Rattle.ehdl_build.specs.Bounds.{clock_bound, most_beats}
-use Rattle.ehdl_build.specs.Realizes.{IsPattern, IsPrefix, BeginNext, IsWhole, Meets, came_by, frames_of, IsTimed, WentAs, inputs_in}
+use Rattle.ehdl_build.specs.Realizes.{IsPattern, IsPrefix, BeginNext, IsWhole, Meets, inputs_in, frames_in, all_offers, beats_offered}
 use Rattle.ehdl_build.proofs.Flows.{total, pending, so_far, given_beats}
-use Rattle.ehdl_build.proofs.Histories.{History, history, frames-arrivals, answers_to-frames, answers_given-append}
+use Rattle.ehdl_build.proofs.Histories.{History, history, frames-arrivals, answers_to-frames, answers_given-append, beats-all_offers, frames-packets}
 use Rattle.ehdl_build.proofs.Places.{Place, stored}
 use Rattle.ehdl_build.proofs.Holds.{Holds}
 use Rattle.ehdl_build.proofs.Prefixes.{given_prefix}
 use Rattle.ehdl_build.proofs.Refined.{Kept, so_many, Refined, refined, offers_on}
-use Rattle.ehdl_build.proofs.LoopStep.{beats, EndsWhole, needed}
+use Rattle.ehdl_build.proofs.LoopStep.{EndsWhole, needed}
 use Rattle.ehdl_build.proofs.Drives as drives
 use Rattle.ehdl_build.proofs.Bounds.{history_on, ends_on, ends_frames, needed_after, bound_enough, apart_enough}
 
@@ -81,58 +79,32 @@ safe_from v p is h w =
     }
 
 -- all answers to these packets
-answers_to-came_by : (v ifindex : ℕ) (ps : List Timed) → map (answer v) (frames_of ps) ≡ answers_to v (came_by ifindex ps)
-answers_to-came_by v ifindex [] = refl
-answers_to-came_by v ifindex (p ∷ ps) = ap (λ t. answer v p.frame ∷ t) (answers_to-came_by v ifindex ps)
+all_of : (v : ℕ) (packets : List Arrival) → AllByRecursion IsFrame (frames_in packets) → total v (Receiving []) (flat_map beats_of (frames_in packets)) ≡ answers_to v packets
+all_of v packets f = ap (map (answer v)) (frames-frames (frames_in packets) f) ∙ answers_to-frames v packets
 
-frames_in : (ps : List Timed) → AllByRecursion IsTimed ps → AllByRecursion IsFrame (frames_of ps)
-frames_in [] h = tt
-frames_in (p ∷ ps) h = (h.0.frame, frames_in ps h.1)
+length-answers_to : (v : ℕ) (packets : List Arrival) → length (answers_to v packets) ≡ length packets
+length-answers_to v [] = refl
+length-answers_to v (a ∷ rest) = ap suc (length-answers_to v rest)
 
--- ---- the beats that are offered are those of the frames
-beats-offered : (ifindex time : ℕ) (bs : List Beat) (rest : List Offered) → beats (map (offered ifindex time) bs ++ rest) ≡ bs ++ beats rest
-beats-offered ifindex time [] rest = refl
-beats-offered ifindex time (b ∷ bs) rest = ap (λ t. b ∷ t) (beats-offered ifindex time bs rest)
+-- each packet has one frame
+count-frames_in : (packets : List Arrival) → length (frames_in packets) ≡ length packets
+count-frames_in packets = length-map packets (λ (a : Arrival). a.frame)
 
-beats-offers_of : (ifindex : ℕ) (ps : List Timed) → beats (flat_map (offers_of ifindex) ps) ≡ flat_map beats_of (frames_of ps)
-beats-offers_of ifindex [] = refl
-beats-offers_of ifindex (p ∷ ps) = beats-offered ifindex p.time (beats_of p.frame) (flat_map (offers_of ifindex) ps) ∙ ap (λ t. beats_of p.frame ++ t) (beats-offers_of ifindex ps)
+enough_for : (packets : List Arrival) (more : ℕ) → 2 * length (flat_map beats_of (frames_in packets)) ≤ clock_bound (length packets + more) 0 (most_beats (frames_in packets)) 0
+enough_for packets more =
+    subst (λ n. 2 * length (flat_map beats_of (frames_in packets)) ≤ clock_bound (n + more) 0 (most_beats (frames_in packets)) 0) (count-frames_in packets) (bound_enough (frames_in packets) more)
 
-beats-append : (os ws : List Offered) → beats (os ++ ws) ≡ beats os ++ beats ws
-beats-append [] ws = refl
-beats-append (o ∷ os) ws = ap (λ t. o.beat ∷ t) (beats-append os ws)
-
-beats-offers_in : (ms : List Cycle) → beats (offers_in ms) ≡ beats_in ms
-beats-offers_in [] = refl
-beats-offers_in (m ∷ ms) = by_test (goes_in m) (beats-offers_in ms)
-  where
-    by_test : (t : Bool) → beats (offers_in ms) ≡ beats_in ms → beats (if t then offered m.given.in_ifindex m.given.in_time (offered_beat m) ∷ offers_in ms else offers_in ms) ≡ (if t then offered_beat m ∷ beats_in ms else beats_in ms)
-    by_test true e = ap (λ t. offered_beat m ∷ t) e
-    by_test false e = e
-
-went_beats : (begun : Bool) (ws os : List Offered) → WentAs begun ws os → map filled_up (beats ws) ≡ beats os
-went_beats begun [] [] h = refl
-went_beats begun [] (o ∷ os) h = absurd h
-went_beats begun (w ∷ ws) [] h = absurd h
-went_beats begun (w ∷ ws) (o ∷ os) h = ap (λ b. b ∷ map filled_up (beats ws)) h.0 ∙ ap (λ t. o.beat ∷ t) (went_beats (if w.beat.last then false else true) ws os h.2)
-
-all_of : (v : ℕ) (fs : List (List ℕ)) → AllByRecursion IsFrame fs → total v (Receiving []) (flat_map beats_of fs) ≡ map (answer v) fs
-all_of v fs f = ap (map (answer v)) (frames-frames fs f)
-
-complete_from : (v : ℕ) (p : Place) (ps : List Timed) (ifindex limit : ℕ) → Holds p (Receiving []) → AllByRecursion IsTimed ps → 2 * length (flat_map beats_of (frames_of ps)) ≤ limit →
-    WholeOf [] (drive (store_and_forward v) (stored p) (flat_map (offers_of ifindex) ps) (length ps) limit) (answers_to v (came_by ifindex ps))
-complete_from v p ps ifindex limit h t n =
-    let fs : List (List ℕ) = frames_of ps in
-    let f : AllByRecursion IsFrame fs = frames_in ps t in
-    let left : List Offered = flat_map (offers_of ifindex) ps in
-    let same : beats left ≡ flat_map beats_of fs = beats-offers_of ifindex ps in
-    let all : total v (Receiving []) (beats left) ≡ map (answer v) fs = ap (total v (Receiving [])) same ∙ all_of v fs f in
-    let owed : length ps ≡ length (total v (Receiving []) (beats left)) = sym (ap length all ∙ length-map fs (answer v) ∙ length-map ps (λ (q : Timed). q.frame)) in
-    let few : needed (Receiving []) (beats left) ≤ limit = omega (arith, n, ap length same) in
-    let offers : AreOffers 0 (beats left) = subst (AreOffers 0) (sym same) (offers-frames fs f) in
-    let ends : EndsWhole 0 (beats left) = subst (EndsWhole 0) (sym same) (ends_frames fs f) in
-    let d = drives.drives v limit p (Receiving []) left (length ps) h tt offers ends owed few in
-    record { ended = d.ended; all = d.all ∙ all ∙ answers_to-came_by v ifindex ps }
+complete_from : (v : ℕ) (p : Place) (packets : List Arrival) (limit : ℕ) → Holds p (Receiving []) → AllByRecursion IsFrame (frames_in packets) → 2 * length (flat_map beats_of (frames_in packets)) ≤ limit →
+    WholeOf [] (drive (store_and_forward v) (stored p) (all_offers packets) (length packets) limit) (answers_to v packets)
+complete_from v p packets limit h f n =
+    let fs : List (List ℕ) = frames_in packets in
+    let left : List Offered = all_offers packets in
+    let same : beats_offered left ≡ flat_map beats_of fs = beats-all_offers packets in
+    let all : total v (Receiving []) (beats_offered left) ≡ answers_to v packets = ap (total v (Receiving [])) same ∙ all_of v packets f in
+    let owed : length packets ≡ length (total v (Receiving []) (beats_offered left)) = sym (ap length all ∙ length-answers_to v packets) in
+    let few : needed (Receiving []) (beats_offered left) ≤ limit = omega (arith, ap length same) in
+    let d = drives.drives v limit p (Receiving []) left (length packets) h tt (subst (AreOffers 0) (sym same) (offers-frames fs f)) (subst (EndsWhole 0) (sym same) (ends_frames fs f)) owed few in
+    record { ended = d.ended; all = d.all ∙ all }
 
 so_far_is : (s : StoreAndForward) → frame_of (given_beats s) ≡ so_far s
 so_far_is (Receiving got) = refl
@@ -147,46 +119,40 @@ EndsWhole-filled_up : (n : ℕ) (bs rest : List Beat) → EndsWhole n (map fille
 EndsWhole-filled_up n [] rest h = h
 EndsWhole-filled_up n (b ∷ bs) rest h = EndsWhole-filled_up (if b.last then 0 else suc n) bs rest h
 
-late_from : (v : ℕ) (p : Place) (is : List Inputs) (ps : List Timed) (gone left : List Offered) (ifindex limit : ℕ) → Holds p (Receiving []) → IsPattern (store_and_forward v) (stored p) is → AllByRecursion IsTimed ps →
-    gone ++ left ≡ flat_map (offers_of ifindex) ps → WentAs false (offers_in (trace (store_and_forward v) (stored p) is)) gone → clock_bound (length ps + 1) 0 (most_beats (frames_of ps)) 0 ≤ limit →
+late_from : (v : ℕ) (p : Place) (is : List Inputs) (packets : List Arrival) (left : List Offered) (limit : ℕ) → Holds p (Receiving []) → IsPattern (store_and_forward v) (stored p) is → AllByRecursion IsFrame (frames_in packets) →
+    map filled_up (beats_in (trace (store_and_forward v) (stored p) is)) ++ beats_offered left ≡ flat_map beats_of (frames_in packets) → clock_bound (length packets + 1) 0 (most_beats (frames_in packets)) 0 ≤ limit →
     WholeOf (trace (store_and_forward v) (stored p) is)
-    (drive (store_and_forward v) (stored_after (store_and_forward v) (stored p) is) left (length ps - length (answers_given [] (trace (store_and_forward v) (stored p) is))) limit) (answers_to v (came_by ifindex ps))
-late_from v p is ps gone left ifindex limit h w g e c n =
+    (drive (store_and_forward v) (stored_after (store_and_forward v) (stored p) is) left (length packets - length (answers_given [] (trace (store_and_forward v) (stored p) is))) limit) (answers_to v packets)
+late_from v p is packets left limit h w f e n =
+    let fs : List (List ℕ) = frames_in packets in
+    let bs : List Beat = beats_offered left in
     let r : Refined v p (Receiving []) is = refined v p (Receiving []) is h tt w.inputs w.offers in
     let k : History v (Receiving []) is = history v (Receiving []) is tt in
     let s : StoreAndForward = state_after (Receiving []) is in
     let ms : List Cycle = state_trace v (Receiving []) is in
-    let fs : List (List ℕ) = frames_of ps in
-    let f : AllByRecursion IsFrame fs = frames_in ps g in
-    let many_frames : length fs ≡ length ps = length-map ps (λ (q : Timed). q.frame) in
-    let went : map filled_up (beats_in ms) ≡ beats gone =
-    ap (map filled_up) (sym (beats-offers_in ms)) ∙ went_beats false (offers_in ms) gone (subst (λ (t : List Cycle). WentAs false (offers_in t) gone) r.same c) in
-    let bs : List Beat = beats left in
-    let all_beats : map filled_up (beats_in ms) ++ bs ≡ flat_map beats_of fs = ap (λ t. t ++ bs) went ∙ sym (beats-append gone left) ∙ ap beats e ∙ beats-offers_of ifindex ps in
-    let many : length (beats_in ms ++ bs) ≡ length (flat_map beats_of fs) = length-filled_up (beats_in ms) bs ∙ ap length all_beats in
-    let all : answers_given [] ms ++ total v s bs ≡ map (answer v) fs = k.keeps bs ∙ ap (map (answer v)) (sym (frames_among-filled_up [] (beats_in ms) bs)) ∙ ap (total v (Receiving [])) all_beats ∙ all_of v fs f in
-    let count : length (answers_given [] ms) + length (total v s bs) ≡ length fs = sym (length-append (answers_given [] ms) (total v s bs)) ∙ ap length all ∙ length-map fs (answer v) in
-    let owed : length ps - length (answers_given [] ms) ≡ length (total v s bs) = omega (arith, count, many_frames) in
-    let bound : clock_bound (length fs + 1) 0 (most_beats fs) 0 ≤ limit = subst (λ m. clock_bound (m + 1) 0 (most_beats fs) 0 ≤ limit) (sym many_frames) n in
-    let few : needed s bs ≤ limit = omega (arith, needed_after v (Receiving []) is bs, many, bound_enough fs 1, bound) in
-    let offers : AreOffers (so_many s) bs = history_on AreOffers offers_on v (Receiving []) is bs (AreOffers-filled_up 0 (beats_in ms) bs (subst (AreOffers 0) (sym all_beats) (offers-frames fs f))) in
-    let ends : EndsWhole (so_many s) bs = history_on EndsWhole ends_on v (Receiving []) is bs (EndsWhole-filled_up 0 (beats_in ms) bs (subst (EndsWhole 0) (sym all_beats) (ends_frames fs f))) in
-    let owes : ℕ = length ps - length (answers_given [] ms) in
-    let d = drives.drives v limit r.place s left owes r.holds k.sound offers ends owed few in
-    let done : WholeOf ms (drive (store_and_forward v) (stored r.place) left owes limit) (answers_to v (came_by ifindex ps)) =
+    let beats : map filled_up (beats_in ms) ++ bs ≡ flat_map beats_of fs = subst (λ (t : List Cycle). map filled_up (beats_in t) ++ bs ≡ flat_map beats_of fs) r.same e in
+    let many : length (beats_in ms ++ bs) ≡ length (flat_map beats_of fs) = length-filled_up (beats_in ms) bs ∙ ap length beats in
+    let all : answers_given [] ms ++ total v s bs ≡ answers_to v packets = k.keeps bs ∙ ap (map (answer v)) (sym (frames_among-filled_up [] (beats_in ms) bs)) ∙ ap (total v (Receiving [])) beats ∙ all_of v packets f in
+    let count : length (answers_given [] ms) + length (total v s bs) ≡ length packets = sym (length-append (answers_given [] ms) (total v s bs)) ∙ ap length all ∙ length-answers_to v packets in
+    let owed : length packets - length (answers_given [] ms) ≡ length (total v s bs) = omega arith in
+    let few : needed s bs ≤ limit = omega (arith, needed_after v (Receiving []) is bs, many, enough_for packets 1) in
+    let offers : AreOffers (so_many s) bs = history_on AreOffers offers_on v (Receiving []) is bs (AreOffers-filled_up 0 (beats_in ms) bs (subst (AreOffers 0) (sym beats) (offers-frames fs f))) in
+    let ends : EndsWhole (so_many s) bs = history_on EndsWhole ends_on v (Receiving []) is bs (EndsWhole-filled_up 0 (beats_in ms) bs (subst (EndsWhole 0) (sym beats) (ends_frames fs f))) in
+    let d = drives.drives v limit r.place s left (length packets - length (answers_given [] ms)) r.holds k.sound offers ends owed few in
+    let done : WholeOf ms (drive (store_and_forward v) (stored r.place) left (length packets - length (answers_given [] ms)) limit) (answers_to v packets) =
     record {
       ended = d.ended;
-      all = answers_given-append ms _ [] ∙ ap (λ t. answers_given [] ms ++ answers_given t (drive (store_and_forward v) (stored r.place) left owes limit).trace) (ap frame_of k.opens ∙ so_far_is s)
-          ∙ ap (λ t. answers_given [] ms ++ t) d.all ∙ all ∙ answers_to-came_by v ifindex ps;
+      all = answers_given-append ms _ [] ∙ ap (λ t. answers_given [] ms ++ answers_given t (drive (store_and_forward v) (stored r.place) left (length packets - length (answers_given [] ms)) limit).trace) (ap frame_of k.opens ∙ so_far_is s)
+          ∙ ap (λ t. answers_given [] ms ++ t) d.all ∙ all;
     } in
-    subst (λ (t : List Cycle). WholeOf t (drive (store_and_forward v) (stored_after (store_and_forward v) (stored p) is) left (length ps - length (answers_given [] t)) limit) (answers_to v (came_by ifindex ps))) (sym r.same)
-    (subst (λ (t : Stored). WholeOf ms (drive (store_and_forward v) t left owes limit) (answers_to v (came_by ifindex ps))) (sym r.is_stored) done)
+    subst (λ (t : List Cycle). WholeOf t (drive (store_and_forward v) (stored_after (store_and_forward v) (stored p) is) left (length packets - length (answers_given [] t)) limit) (answers_to v packets)) (sym r.same)
+    (subst (λ (t : Stored). WholeOf ms (drive (store_and_forward v) t left (length packets - length (answers_given [] ms)) limit) (answers_to v packets)) (sym r.is_stored) done)
 
 -- ---- the declared values hold the empty state
 abbrev empty_place : ℕ → Place
 empty_place n = record { sending = false; count = 0; at = 0; bytes = 0; cells = replicate n (word 64 0) }
 
-holds_empty : (n : ℕ) → n ≡ 2 ^ COUNT_WIDTH → Holds (empty_place n) (Receiving [])
+holds_empty : (n : ℕ) → n ≡ 2 ^ place_width → Holds (empty_place n) (Receiving [])
 holds_empty n e = record { sending = refl; at = refl; count = refl; room = omega arith; size = length-replicate n (word 64 0) ∙ e; held = refl; full = tt }
 
 -- ---- as is wanted
@@ -217,20 +183,21 @@ whole_of v maps wanted d s is r packets fits shown h = record {
   shown = shown d (stored_after d (stored_after d s is) (inputs_in r.trace));
 }
 
-enough : (ps : List Timed) (limit : ℕ) → clock_bound (length ps) 0 (most_beats (frames_of ps)) 0 ≤ limit → 2 * length (flat_map beats_of (frames_of ps)) ≤ limit
-enough ps limit n =
-    let many : length (frames_of ps) + 0 ≡ length ps = omega (arith, length-map ps (λ (q : Timed). q.frame)) in
-    omega (arith, n, bound_enough (frames_of ps) 0, ap (λ m. clock_bound m 0 (most_beats (frames_of ps)) 0) many)
-
 pub realized : (v : ℕ) (maps : MapState) (wanted : List Arrival → List Answer → MapState → Type 0) (apart : List Arrival → List Touched → Type 0) → Fits v maps wanted → Shown maps →
     Meets (store_and_forward v) (first_stored (store_and_forward v)) wanted apart 0 0
 realized v maps wanted apart fits shown =
-    let h : Holds (empty_place (2 ^ COUNT_WIDTH)) (Receiving []) = holds_empty (2 ^ COUNT_WIDTH) refl in
+    let place : Place = empty_place (2 ^ place_width) in
+    let h : Holds place (Receiving []) = holds_empty (2 ^ place_width) refl in
     let d : Netlist = store_and_forward v in
     let s : Stored = first_stored (store_and_forward v) in
     record {
-      safe = λ is w. prefix_of v maps wanted d s is fits (safe_from v (empty_place (2 ^ COUNT_WIDTH)) is h w);
-      complete = λ ps ifindex limit f i n. whole_of v maps wanted d s [] _ (came_by ifindex ps) fits shown (complete_from v (empty_place (2 ^ COUNT_WIDTH)) ps ifindex limit h f (enough ps limit n));
-      complete_apart = λ ps ifindex limit ts f i a n. whole_of v maps wanted d s [] _ (came_by ifindex ps) fits shown (complete_from v (empty_place (2 ^ COUNT_WIDTH)) ps ifindex limit h f (omega (arith, n, apart_enough (frames_of ps) ts)));
-      late = λ is ps gone left ifindex limit w f i e c n. whole_of v maps wanted d s is _ (came_by ifindex ps) fits shown (late_from v (empty_place (2 ^ COUNT_WIDTH)) is ps gone left ifindex limit h w f e c n);
+      safe = λ is w. prefix_of v maps wanted d s is fits (safe_from v place is h w);
+      complete = λ packets limit k n.
+          whole_of v maps wanted d s [] _ packets fits shown
+          (complete_from v place packets limit h (frames-packets packets k) (omega (arith, n, enough_for packets 0)));
+      complete_apart = λ packets limit ts k a n.
+          whole_of v maps wanted d s [] _ packets fits shown
+          (complete_from v place packets limit h (frames-packets packets k) (omega (arith, n, apart_enough (frames_in packets) ts)));
+      late = λ is packets left limit w k e c n.
+          whole_of v maps wanted d s is _ packets fits shown (late_from v place is packets left limit h w (frames-packets packets k) e n);
     }

@@ -2,15 +2,14 @@
 -- wanted maps.
 --
 -- What is wanted is a relation of packets that came, in their order, their answers, and the maps behind the last of them.
-use Rattle.std.specs.Prelude.{◌≡◌, ℕ, ◌+◌, ◌-◌, ◌^◌, ◌<◌, ◌≤◌, if◌then◌else◌, MatchBool, Bool, true, false, None, List, [], ◌∷◌, ◌++◌, length, map as map_list}
+use Rattle.std.specs.Prelude.{◌≡◌, ℕ, ◌+◌, ◌-◌, ◌^◌, ◌<◌, ◌≤◌, None, List, [], ◌∷◌, ◌++◌, length, map as map_list}
 use Rattle.std.specs.List.{flat_map, AllByRecursion}
 use Rattle.beat_core.specs.declared.beat.Beat.{Beat}
-use Rattle.beat_core.specs.declared.frame.Timed.{Timed}
 use Rattle.beat_core.specs.Beats.{beats_of}
-use Rattle.beat_core.specs.Ports.{Offered, offers_of}
 use Rattle.beat_core.specs.Filling.{filled_up}
 use Rattle.beat_core.specs.Clocks.{AreOffers}
-use Rattle.beat_core.specs.Laws.{IsFrame, arrival_of}
+use Rattle.beat_core.specs.Laws.{IsFrame}
+use Rattle.beat_core.specs.Ports.{Offered, offered, arrivals_among}
 use Rattle.xdp_maps.specs.State.{MapState}
 use Rattle.xdp_machine.specs.Touched.{Touched}
 use Rattle.net_core.specs.declared.ports.Inputs.{Inputs}
@@ -22,7 +21,7 @@ use Rattle.host_history.specs.Host.{ShowsMaps}
 use Rattle.ehdl_build.specs.Bounds.{clock_bound, clock_bound_apart, most_beats}
 
 -- Clocks with the host silent and offers well formed: each beat that goes over has 8 bytes unless it is a last one with 1 to 8,
--- and a frame has no more of them than the bound.
+-- and a frame has at least one beat and no more than the bound.
 pub record IsPattern (d : Netlist) (s : Stored) (is : List Inputs) : Type 0 where
   pub inputs : AllByRecursion IsInput is
   pub silent : AllByRecursion IsSilent is
@@ -41,17 +40,24 @@ pub record IsPrefix (d : Netlist) (s : Stored) (is : List Inputs) (wanted : List
   pub prefix : wanted (arrivals None (trace d s is)) (answers_given [] (trace d s is) ++ later) maps
   pub next : BeginNext (open_beats [] (trace d s is)) later
 
--- these packets, all by one interface
-abbrev pub came_by : ℕ → List Timed → List Arrival
-came_by ifindex packets = map_list (arrival_of ifindex) packets
+-- a packet with the bytes of a frame, whose numbers fit their ports
+pub record IsPacket (a : Arrival) : Type 0 where
+  pub frame : IsFrame a.frame
+  pub ifindex : a.ifindex < 2 ^ 32
+  pub time : a.time < 2 ^ 64
 
-abbrev pub frames_of : List Timed → List (List ℕ)
-frames_of packets = map_list (λ p. p.frame) packets
+abbrev pub frames_in : List Arrival → List (List ℕ)
+frames_in packets = map_list (λ a. a.frame) packets
 
--- a packet with the bytes of a frame, and a time of 64 bits
-pub record IsTimed (p : Timed) : Type 0 where
-  pub frame : IsFrame p.frame
-  pub time : p.time < 2 ^ 64
+-- the beats of packets as they are offered, each beside its packet's interface number and time
+abbrev pub offers_from : Arrival → List Offered
+offers_from a = map_list (offered a.ifindex a.time) (beats_of a.frame)
+
+abbrev pub all_offers : List Arrival → List Offered
+all_offers packets = flat_map offers_from packets
+
+abbrev pub beats_offered : List Offered → List Beat
+beats_offered os = map_list (λ o. o.beat) os
 
 -- what stood at the inputs
 abbrev pub inputs_in : List Cycle → List Inputs
@@ -65,31 +71,23 @@ pub record IsWhole (d : Netlist) (s : Stored) (is : List Inputs) (r : Drive) (pa
   pub all : wanted packets (answers_given [] (trace d s is ++ r.trace)) maps
   pub shown : ShowsMaps d (stored_after d (stored_after d s is) (inputs_in r.trace)) maps
 
--- These beats went over as others were to: the same with their filling cut off, and beside the first beat of each frame the same
--- interface number and time.
-abbrev pub WentAs : Bool → List Offered → List Offered → Type 0
-WentAs begun [] [] = Unit {0}
-WentAs begun [] (o ∷ os) = ⊥
-WentAs begun (w ∷ ws) [] = ⊥
-WentAs begun (w ∷ ws) (o ∷ os) =
-    (filled_up w.beat ≡ o.beat) × MatchBool begun (Unit {0}) ((w.ifindex ≡ o.ifindex) × (w.time ≡ o.time)) × WentAs (if w.beat.last then false else true) ws os
-
 -- A design that holds these values answers as is wanted, with so many stages and record sites. Packets are apart where their runs,
 -- which touch this, do not conflict.
 pub record Meets (d : Netlist) (s : Stored) (wanted : List Arrival → List Answer → MapState → Type 0) (apart : List Arrival → List Touched → Type 0) (stages records : ℕ) : Type 0 where
   -- under every pattern of offered and taken beats
   pub safe : (is : List Inputs) → IsPattern d s is → IsPrefix d s is wanted
   -- offered and taken at every clock
-  pub complete : (packets : List Timed) (ifindex limit : ℕ) → AllByRecursion IsTimed packets → ifindex < 2 ^ 32 →
-      clock_bound (length packets) stages (most_beats (frames_of packets)) records ≤ limit →
-      IsWhole d s [] (drive d s (flat_map (offers_of ifindex) packets) (length packets) limit) (came_by ifindex packets) wanted
+  pub complete : (packets : List Arrival) (limit : ℕ) → AllByRecursion IsPacket packets →
+      clock_bound (length packets) stages (most_beats (frames_in packets)) records ≤ limit →
+      IsWhole d s [] (drive d s (all_offers packets) (length packets) limit) packets wanted
   -- the same, with the stages counted once, of packets that do not conflict
-  pub complete_apart : (packets : List Timed) (ifindex limit : ℕ) (ts : List Touched) → AllByRecursion IsTimed packets → ifindex < 2 ^ 32 →
-      apart (came_by ifindex packets) ts → clock_bound_apart stages (frames_of packets) ts ≤ limit →
-      IsWhole d s [] (drive d s (flat_map (offers_of ifindex) packets) (length packets) limit) (came_by ifindex packets) wanted
-  -- the same from every state that a pattern leads to, by which the first beats of these packets went over: bytes that do not count
-  -- are not asked
-  pub late : (is : List Inputs) (packets : List Timed) (gone left : List Offered) (ifindex limit : ℕ) → IsPattern d s is → AllByRecursion IsTimed packets → ifindex < 2 ^ 32 →
-      gone ++ left ≡ flat_map (offers_of ifindex) packets → WentAs false (offers_in (trace d s is)) gone →
-      clock_bound (length packets + 1) stages (most_beats (frames_of packets)) records ≤ limit →
-      IsWhole d s is (drive d (stored_after d s is) left (length packets - length (answers_given [] (trace d s is))) limit) (came_by ifindex packets) wanted
+  pub complete_apart : (packets : List Arrival) (limit : ℕ) (ts : List Touched) → AllByRecursion IsPacket packets →
+      apart packets ts → clock_bound_apart stages (frames_in packets) ts ≤ limit →
+      IsWhole d s [] (drive d s (all_offers packets) (length packets) limit) packets wanted
+  -- The same from every state that a pattern leads to, by which some of these packets' beats went over. Bytes that do not count are
+  -- not asked, nor what stood beside a beat that is no first one.
+  pub late : (is : List Inputs) (packets : List Arrival) (left : List Offered) (limit : ℕ) → IsPattern d s is → AllByRecursion IsPacket packets →
+      map_list filled_up (beats_in (trace d s is)) ++ beats_offered left ≡ flat_map beats_of (frames_in packets) →
+      arrivals_among None (offers_in (trace d s is) ++ left) ≡ packets →
+      clock_bound (length packets + 1) stages (most_beats (frames_in packets)) records ≤ limit →
+      IsWhole d s is (drive d (stored_after d s is) left (length packets - length (answers_given [] (trace d s is))) limit) packets wanted

@@ -6,11 +6,10 @@ use Rattle.net_core.specs.declared.tree.Net.{Net}
 use Rattle.net_core.specs.declared.tree.Net.TheVariants.{Port, Register, Memory, Wire}
 use Rattle.net_core.specs.declared.design.Declared.{Declared}
 use Rattle.net_core.specs.declared.design.Declared.TheVariants as declared
+use Rattle.net_core.specs.declared.ports.TheConstants.{IN_VALID, IN_DATA, IN_BYTES, IN_LAST, IN_READY, OUT_READY, OUT_VALID, OUT_DATA, OUT_BYTES, OUT_LAST, OUT_VERDICT, OUT_TARGET, OUT_RELOAD, HOST_VALUE, HOST_READY, HOST_PASSED}
 use Rattle.net_core.specs.Nets.{Tree, TConst, TRead, TMemoryWord, TUnary, TBinary, TConditional, RPlain, StatementTree, SBlock, SIf, SIfElse, SSet, SStore, SEnd, SThen, WireTree, AssignTree, Netlist}
 use Rattle.net_core.specs.Value.{word}
 use Rattle.net_core.specs.Ports.{port_list, port_names}
-use Rattle.net_core.specs.declared.ports.TheConstants.{IN_VALID, IN_DATA, IN_BYTES, IN_LAST, IN_READY, OUT_READY, OUT_VALID, OUT_DATA, OUT_BYTES, OUT_LAST, OUT_VERDICT, OUT_TARGET, OUT_RELOAD, HOST_VALUE, HOST_READY, HOST_PASSED}
-use Rattle.ehdl_build.specs.declared.store_and_forward.TheConstants.{COUNT_WIDTH}
 use Rattle.net_core.specs.History.{Arrival}
 use Rattle.beat_core.specs.declared.answer.Answer.{Answer}
 
@@ -38,11 +37,15 @@ store_and_forward_names =
     ++ (codes "i_word" ∷ codes "r_giving" ∷ codes "r_count" ∷ codes "r_at" ∷ codes "r_bytes" ∷ codes "m_frame"
     ∷ codes "w_ready" ∷ codes "w_take" ∷ codes "w_give" ∷ codes "w_next_count" ∷ codes "w_next_at" ∷ codes "w_is_last" ∷ codes "w_last" ∷ codes "w_word" ∷ codes "w_data" ∷ codes "w_some" ∷ codes "w_bytes" ∷ [])
 
+-- How many bits the number of a beat has in the memory, which has room for a frame's beats.
+abbrev pub place_width : ℕ
+place_width = 11
+
 -- whether a frame is given, how many beats it has so far, the beat that is shown, the bytes of the last beat; the beats
 abbrev pub store_and_forward_declared : List Declared
 store_and_forward_declared =
-    declared.Integer ∷ declared.Register (word 1 0) ∷ declared.Register (word COUNT_WIDTH 0) ∷ declared.Register (word COUNT_WIDTH 0) ∷ declared.Register (word 4 0)
-    ∷ declared.Memory COUNT_WIDTH (word 64 0) 0 ∷ []
+    declared.Integer ∷ declared.Register (word 1 0) ∷ declared.Register (word place_width 0) ∷ declared.Register (word place_width 0) ∷ declared.Register (word 4 0)
+    ∷ declared.Memory place_width (word 64 0) 0 ∷ []
 
 -- 0: ready to take a beat; 1: a beat is taken; 2: a beat is given
 abbrev pub going_wires : List WireTree
@@ -55,8 +58,8 @@ going_wires =
 -- 3, 4: the count and the place that follow; 5, 6: the last beat is at its place, and is shown
 abbrev pub next_wires : List WireTree
 next_wires =
-    wire COUNT_WIDTH (TBinary Add (read_register 1) (constant COUNT_WIDTH 1))
-    ∷ wire COUNT_WIDTH (TBinary Add (read_register 2) (constant COUNT_WIDTH 1))
+    wire place_width (TBinary Add (read_register 1) (constant place_width 1))
+    ∷ wire place_width (TBinary Add (read_register 2) (constant place_width 1))
     ∷ wire 1 (TBinary Equal (read_wire 4) (read_register 1))
     ∷ wire 1 (TBinary And (read_register 0) (read_wire 5))
     ∷ []
@@ -75,9 +78,10 @@ store_and_forward_wires = going_wires ++ next_wires ++ shown_wires
 
 -- the beat that is shown
 abbrev pub beat_assigns : List AssignTree
-beat_assigns = assign IN_READY (read_wire 0) ∷ assign OUT_VALID (read_register 0) ∷ assign OUT_DATA (read_wire 8) ∷ assign OUT_BYTES (read_wire 10) ∷ assign OUT_LAST (read_wire 6) ∷ []
+beat_assigns =
+    assign IN_READY (read_wire 0) ∷ assign OUT_VALID (read_register 0) ∷ assign OUT_DATA (read_wire 8) ∷ assign OUT_BYTES (read_wire 10) ∷ assign OUT_LAST (read_wire 6) ∷ []
 
--- the verdict, and what is always 0: the target, the reload, all that the host is shown
+-- the verdict, and what is always 0: the target, the reload, and what the host is shown
 abbrev pub answer_assigns : ℕ → List AssignTree
 answer_assigns verdict =
     assign OUT_VERDICT (constant 32 verdict) ∷ assign OUT_TARGET (constant 32 0) ∷ assign OUT_RELOAD (constant 1 0)
@@ -92,7 +96,7 @@ store_and_forward_take = SIf (read_wire 1) (SBlock (SThen (SStore 0 (read_regist
 
 -- the memory is empty again
 abbrev pub store_and_forward_clear : StatementTree Net
-store_and_forward_clear = SBlock (SThen (SSet 0 (constant 1 0)) (SThen (SSet 1 (constant COUNT_WIDTH 0)) (SThen (SSet 2 (constant COUNT_WIDTH 0)) SEnd)))
+store_and_forward_clear = SBlock (SThen (SSet 0 (constant 1 0)) (SThen (SSet 1 (constant place_width 0)) (SThen (SSet 2 (constant place_width 0)) SEnd)))
 
 -- A beat goes out: the last one leaves the memory empty.
 abbrev pub store_and_forward_give : StatementTree Net

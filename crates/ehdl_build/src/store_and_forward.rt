@@ -19,11 +19,8 @@ use net_core::ports::{
 use net_core::tree::{Expr, Net, Op, Stmt, Stmts, UnaryOp, Word};
 use std::alloc::{AllocError, Global};
 
-/// The width of a beat's number within a frame: enough for the beats of the longest frame.
-pub(crate) const COUNT_WIDTH: u8 = 11;
-
-// The names of what is declared, and of the wires.
-const NAMES: [&str; 17] = [
+// The names of its nets, behind those of the ports.
+const NET_NAMES: [&str; 17] = [
     "i_word",
     "r_giving",
     "r_count",
@@ -57,10 +54,10 @@ fn texts(alloc: Global, all: &[&str]) -> Result<Vec<String>, AllocError>
 fn names(alloc: Global) -> Result<Vec<String>, AllocError>
     ensures { IfOk result (λ v. map string_bytes v.items ≡ store_and_forward_names) }
 {
-    let mut all = texts(alloc, &PORT_NAMES)?;
-    let mut own = texts(alloc, &NAMES)?;
-    all.append(&mut own)?;
-    Ok(all)
+    let mut names = texts(alloc, &PORT_NAMES)?;
+    let mut nets = texts(alloc, &NET_NAMES)?;
+    names.append(&mut nets)?;
+    Ok(names)
 }
 
 fn ports(alloc: Global) -> Result<Vec<Port>, AllocError>
@@ -69,20 +66,23 @@ fn ports(alloc: Global) -> Result<Vec<Port>, AllocError>
     Vec::from_slice(alloc, &PORTS)
 }
 
+// How many bits the number of a beat has in the memory, which has room for a frame's beats.
+const PLACE_WIDTH: u8 = 11;
+
 const DECLARED: [Declared; 6] = [
     Declared::Integer,
     Declared::Register(Word { width: 1, value: 0 }),
     Declared::Register(Word {
-        width: COUNT_WIDTH,
+        width: PLACE_WIDTH,
         value: 0,
     }),
     Declared::Register(Word {
-        width: COUNT_WIDTH,
+        width: PLACE_WIDTH,
         value: 0,
     }),
     Declared::Register(Word { width: 4, value: 0 }),
     Declared::Memory {
-        index: COUNT_WIDTH,
+        index: PLACE_WIDTH,
         first: Word {
             width: 64,
             value: 0,
@@ -132,8 +132,14 @@ fn following(alloc: Global) -> Result<Vec<Wire>, AllocError>
     ensures { IfOk result (λ v. map wire_of v.items ≡ next_wires) }
 {
     let mut wires = Vec::new(alloc);
-    wires.push(wire(COUNT_WIDTH, binary(alloc, Op::Add, register(1), constant(COUNT_WIDTH, 1))?))?;
-    wires.push(wire(COUNT_WIDTH, binary(alloc, Op::Add, register(2), constant(COUNT_WIDTH, 1))?))?;
+    wires.push(wire(
+        PLACE_WIDTH,
+        binary(alloc, Op::Add, register(1), constant(PLACE_WIDTH, 1))?,
+    ))?;
+    wires.push(wire(
+        PLACE_WIDTH,
+        binary(alloc, Op::Add, register(2), constant(PLACE_WIDTH, 1))?,
+    ))?;
     wires.push(wire(1, binary(alloc, Op::Equal, net(4), register(1))?))?;
     wires.push(wire(1, binary(alloc, Op::And, register(0), net(5))?))?;
     Ok(wires)
@@ -184,7 +190,7 @@ fn beat(alloc: Global) -> Result<Vec<Assign>, AllocError>
     Ok(assigns)
 }
 
-// The verdict, and what is always 0: the target, the reload, all that the host is shown.
+// The verdict, and what is always 0: the target, the reload, and what the host is shown.
 fn answer(alloc: Global, verdict: u32) -> Result<Vec<Assign>, AllocError>
     ensures { IfOk result (λ v. map assign_of v.items ≡ answer_assigns verdict) }
 {
@@ -223,8 +229,8 @@ fn take(alloc: Global) -> Result<Stmt<Net>, AllocError>
 fn clear(alloc: Global) -> Result<Stmt<Net>, AllocError>
     ensures { IfOk result (λ s. statement_of s ≡ store_and_forward_clear) }
 {
-    let rest = then(alloc, Stmt::Set(2, constant(COUNT_WIDTH, 0)), Stmts::End)?;
-    let rest = then(alloc, Stmt::Set(1, constant(COUNT_WIDTH, 0)), rest)?;
+    let rest = then(alloc, Stmt::Set(2, constant(PLACE_WIDTH, 0)), Stmts::End)?;
+    let rest = then(alloc, Stmt::Set(1, constant(PLACE_WIDTH, 0)), rest)?;
     let all = then(alloc, Stmt::Set(0, constant(1, 0)), rest)?;
     block(alloc, all)
 }

@@ -1,6 +1,7 @@
 //! A capture, packet by packet.
 
 ghost use Rattle.std.specs.Prelude.{◌≡◌, ℕ, ◌<◌, ◌^◌, length, MatchResult, IfOk, Ok};
+ghost use Rattle.beat_core.specs.Laws.{IsPacket};
 ghost use Rattle.pcap_core.specs.Format.{IsLength, IsContent, IsHeaderFault, IsCapture};
 ghost use Rattle.pcap_core.specs.Reading.{content_of, count_of, counted, IsReadWhole};
 ghost use Rattle.pcap_core.specs.Next.{GivesNext, GivesFrame, seen};
@@ -27,7 +28,8 @@ pub struct Capture<'a> {
 
 impl<'a> Model for Capture<'a> {
     ghost use Rattle.std.specs.Prelude.{◌≤◌, length, drop};
-    ghost use Rattle.pcap_core.specs.Format.{Content};
+    ghost use Rattle.beat_core.specs.Laws.{IsPacket};
+ghost use Rattle.pcap_core.specs.Format.{Content};
     ghost use Rattle.pcap_core.specs.Reading.{content_from, records_at};
 
     ghost Value = { Content };
@@ -79,12 +81,15 @@ impl<'a> Capture<'a> {
     /// A packet of this capture as a frame with its time.
     pub fn timed(&self, alloc: Global, packet: &Rec) -> Result<Timed, AllocError>
         requires { IsLength (length packet.now.bytes.now) }
-        ensures { IfOk result (λ timed. timed ≡ timed_of self.now.magic (seen packet.now)) }
+        ensures timed { IfOk result (λ timed. timed ≡ timed_of self.now.magic (seen packet.now)) }
+        ensures frame { IfOk result IsPacket }
+        ensures range { IfOk result (λ timed. timed.time < 2 ^ 63) }
     {
-        Ok(Timed {
-            frame: Frame::of(alloc, packet.bytes)?,
-            time: self.time(packet),
-        })
+        let frame = Frame::of(alloc, packet.bytes)?;
+        // A frame has bytes.
+        prove!(!frame.bytes().is_empty());
+        let time = self.time(packet);
+        Ok(Timed { frame, time })
     }
 
     /// The next packet, or none at the end. A fault comes again at each further call.
