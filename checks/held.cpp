@@ -14,6 +14,7 @@ int main(int argc, char **argv) {
     dut.in_bytes = 1;
     dut.in_last = 1;
     dut.in_ifindex = 1;
+    dut.in_time = 0;
     dut.out_ready = 1;
     dut.host_write = 0;
     dut.host_map = 0;
@@ -28,7 +29,8 @@ int main(int argc, char **argv) {
         dut.clk = 0;
         dut.eval();
     }
-    std::printf("%x %x %016llx %x %x %08x %08x %x %016llx\n", dut.in_ready, dut.out_valid, (unsigned long long)dut.out_data,
-                dut.out_bytes, dut.out_last, dut.out_verdict, dut.out_target, dut.out_reload, (unsigned long long)dut.host_value);
+    std::printf("%x %x %016llx %x %x %08x %08x %x %016llx %x %08x\n", dut.in_ready, dut.out_valid, (unsigned long long)dut.out_data,
+                dut.out_bytes, dut.out_last, dut.out_verdict, dut.out_target, dut.out_reload, (unsigned long long)dut.host_value,
+                dut.host_ready, dut.host_passed);
     return 0;
 }

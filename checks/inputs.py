@@ -19,8 +19,8 @@ def wide(source, bits):
 
 def line(source):
     bit = lambda: source.randrange(2)
-    return [bit(), wide(source, 64), source.randrange(16), bit(), wide(source, 32), bit(), bit(), source.randrange(16),
-            wide(source, 16), source.randrange(16), wide(source, 64)]
+    return [bit(), wide(source, 64), source.randrange(16), bit(), wide(source, 32), wide(source, 64), bit(), bit(),
+            source.randrange(16), wide(source, 16), source.randrange(16), wide(source, 64)]
 
 
 source = random.Random(20231107)

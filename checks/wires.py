@@ -7,11 +7,11 @@ each wire, and else constants: an event-driven simulator would value the end of 
 import random
 import sys
 
-PORTS = ("clk in_valid in_data in_bytes in_last in_ifindex in_ready out_ready out_valid out_data out_bytes out_last out_verdict "
-         "out_target out_reload host_write host_map host_index host_word host_data host_value").split()
-WIDTHS = {"in_data": 64, "in_bytes": 4, "in_ifindex": 32, "out_data": 64, "out_bytes": 4, "out_verdict": 32, "out_target": 32,
-          "host_map": 4, "host_index": 16, "host_word": 4, "host_data": 64, "host_value": 64}
-OUTPUTS = "in_ready out_valid out_data out_bytes out_last out_verdict out_target out_reload host_value".split()
+PORTS = ("clk in_valid in_data in_bytes in_last in_ifindex in_time in_ready out_ready out_valid out_data out_bytes out_last out_verdict "
+         "out_target out_reload host_write host_map host_index host_word host_data host_value host_ready host_passed").split()
+WIDTHS = {"in_data": 64, "in_bytes": 4, "in_ifindex": 32, "in_time": 64, "out_data": 64, "out_bytes": 4, "out_verdict": 32, "out_target": 32,
+          "host_map": 4, "host_index": 16, "host_word": 4, "host_data": 64, "host_value": 64, "host_passed": 32}
+OUTPUTS = "in_ready out_valid out_data out_bytes out_last out_verdict out_target out_reload host_value host_ready host_passed".split()
 
 
 def bits(width):
@@ -90,7 +90,7 @@ def text(wires):
     out += ["reg [63:0] m_words [0:255];", "initial for (i_words = 0; i_words < 256; i_words = i_words + 1) m_words[i_words] = 64'd7;"]
     out += t.wires
     shown = {"out_data": "r_seed", "out_bytes": "r_seed[3:0]", "out_verdict": "r_lane_0[31:0]", "out_target": "r_lane_1[63:32]",
-             "out_reload": "r_seed[63]", "host_value": stored}
+             "out_reload": "r_seed[63]", "host_value": stored, "host_passed": "r_lane_0[63:32]"}
     out += ["assign %s = %s;" % (name, shown.get(name, "1'd0")) for name in OUTPUTS]
     out += ["always @(posedge clk) begin", "  r_seed <= ((r_seed + 64'd7046029254386353131) ^ (in_data + %s));" % stored,
             "  m_words[%s] <= %s;" % (place, stored)]

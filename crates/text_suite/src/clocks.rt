@@ -28,7 +28,7 @@ fn wire_names(alloc: Global, design: &Design) -> Result<Vec<String>, AllocError>
     Ok(names)
 }
 
-/// The inputs that eleven numbers stand for, in the order of the ports, each cut to the width of its port. Of another number
+/// The inputs that twelve numbers stand for, in the order of the ports, each cut to the width of its port. Of another number
 /// of them there are none.
 fn inputs_of(numbers: &[u64]) -> Option<Inputs>
     ensures { IfSome result AreInputs }
@@ -40,6 +40,7 @@ fn inputs_of(numbers: &[u64]) -> Option<Inputs>
             in_bytes,
             in_last,
             in_ifindex,
+            in_time,
             out_ready,
             host_write,
             host_map,
@@ -52,6 +53,7 @@ fn inputs_of(numbers: &[u64]) -> Option<Inputs>
             in_bytes: (in_bytes % 16) as u8,
             in_last: in_last % 2 == 1,
             in_ifindex: (in_ifindex % (1 << 32)) as u32,
+            in_time,
             out_ready: out_ready % 2 == 1,
             host_write: host_write % 2 == 1,
             host_map: (host_map % 16) as u8,
@@ -74,8 +76,10 @@ fn show_outputs(rt: &impl Print, outputs: &Outputs) -> Result<()> {
     let out_target = outputs.out_target;
     let out_reload = u8::from(outputs.out_reload);
     let host_value = outputs.host_value;
+    let host_ready = u8::from(outputs.host_ready);
+    let host_passed = outputs.host_passed;
     println!(rt;
-        "{in_ready:x} {out_valid:x} {out_data:016x} {out_bytes:x} {out_last:x} {out_verdict:08x} {out_target:08x} {out_reload:x} {host_value:016x}"
+        "{in_ready:x} {out_valid:x} {out_data:016x} {out_bytes:x} {out_last:x} {out_verdict:08x} {out_target:08x} {out_reload:x} {host_value:016x} {host_ready:x} {host_passed:08x}"
     )?;
     Ok(())
 }

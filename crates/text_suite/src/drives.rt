@@ -3,14 +3,19 @@
 use crate::clocks::Running;
 use crate::escapes::{escaped, unescaped};
 use anyhow::{Context, Result, bail, ensure};
-use beat_core::{FRAME_LIMIT, Frame, Meta};
+use beat_core::{FRAME_LIMIT, Frame, Timed};
 use port_drive::{Answers, Drive, DriveError, drive};
 use std::alloc::Global;
 
-fn frame_of(alloc: Global, word: &str) -> Result<Frame> {
-    let bytes = unescaped(alloc, word)?;
+// A frame behind its time, as `5:abc`.
+fn frame_of(alloc: Global, word: &str) -> Result<Timed> {
+    let (time, frame) = word.split_once(':').context("a time")?;
+    let bytes = unescaped(alloc, frame)?;
     ensure!(!bytes.is_empty() && bytes.len() <= FRAME_LIMIT, "no frame");
-    Ok(Frame::of(alloc, &bytes)?)
+    Ok(Timed {
+        frame: Frame::of(alloc, &bytes)?,
+        time: time.parse()?,
+    })
 }
 
 // Prints how a drive ended.
@@ -52,9 +57,6 @@ fn show_answers(rt: &impl Print, alloc: Global, answers: &Answers) -> Result<()>
 pub(crate) fn show_drive(rt: &impl Print, alloc: Global, text: &[u8], row: &str) -> Result<()> {
     let (ifindex, rest) = row.split_once(' ').context("an interface")?;
     let (limit, rest) = rest.split_once(' ').unwrap_or((rest, ""));
-    let meta = Meta {
-        ifindex: ifindex.parse()?,
-    };
     let mut frames = Vec::new(alloc);
     for word in rest.split_whitespace() {
         frames.push(frame_of(alloc, word)?)?;
@@ -65,7 +67,7 @@ pub(crate) fn show_drive(rt: &impl Print, alloc: Global, text: &[u8], row: &str)
         alloc,
         &mut running.sim,
         &frames,
-        meta,
+        ifindex.parse()?,
         limit.parse()?,
         &mut answers,
     );

@@ -37,10 +37,10 @@
 //!     written NAME        whether what is written of it is what is kept by this name, and that is written so again
 //!     edit EDIT; EDIT ..  the first fault of it with these edits
 //!     open                opens it, with its first values
-//!     clock N N ..        a clock of what is open, at eleven inputs in decimal, in the order of the ports, `clk` apart: the
+//!     clock N N ..        a clock of what is open, at twelve inputs in decimal, in the order of the ports, `clk` apart: the
 //!                         outputs in hexadecimal, in the order of the ports, or `x` and the wire whose divisor is zero
-//!     drive I N FRAME ..  drives it from its first values by frames that come in by interface I, in at most N clocks: how that
-//!                         ends, and each answer, its verdict, its target and its bytes
+//!     drive I N T:FRAME ..  drives it from its first values by frames that come in by interface I, each at a time T, in at most N
+//!                         clocks: how that ends, and each answer, its verdict, its target and its bytes
 //!
 //! An edit is one of these. A net is `p`, `r`, `m` or `w` and the number of a port, a register, a memory or a wire.
 //!

@@ -7,6 +7,7 @@ use Rattle.std.proofs.lemmas.Bool.{and_parts, or_parts, leb-true, ltb-true, case
 use Rattle.std.proofs.lemmas.List.{get_or-take, take-take, get_or_default, get_or_past, length-take}
 use Rattle.std.proofs.lemmas.List.Recursion.{is_count_by}
 use Rattle.std.proofs.lemmas.Slice.Eq.{bytes_eq-Decides}
+use Rattle.net_core.specs.declared.ports.TheConstants.{PORT_COUNT}
 use Rattle.net_core.specs.declared.design.Declared.{Declared}
 use Rattle.net_core.specs.declared.design.Declared.TheVariants as declared
 use Rattle.net_core.specs.declared.tree.Net.{Net}
@@ -48,36 +49,36 @@ each_at p (suc n) k h l = go (each_at p n k (and_parts (p n) (each_below p n) h)
 abbrev new_in : List (List ℕ) → ℕ → Bool
 new_in names k = not (list_any (bytes_eq (get_or names k [])) (take k names))
 
-ports_named : each_below (λ k. is_name (get_or port_names k [])) 21 ≡ true
+ports_named : each_below (λ k. is_name (get_or port_names k [])) PORT_COUNT ≡ true
 ports_named = refl
 
-ports_new : each_below (new_in port_names) 21 ≡ true
+ports_new : each_below (new_in port_names) PORT_COUNT ≡ true
 ports_new = refl
 
-name_first : (d : Netlist) → IsWellFormed d → (k : ℕ) → k < 21 → get_or d.names k [] ≡ get_or port_names k []
-name_first d h k l = sym (get_or-take 21 d.names k [] l) ∙ ap (λ names. get_or names k []) (port_names_first d h)
+name_first : (d : Netlist) → IsWellFormed d → (k : ℕ) → k < PORT_COUNT → get_or d.names k [] ≡ get_or port_names k []
+name_first d h k l = sym (get_or-take PORT_COUNT d.names k [] l) ∙ ap (λ names. get_or names k []) (port_names_first d h)
 
-before_first : (d : Netlist) → IsWellFormed d → (k : ℕ) → k < 21 → take k d.names ≡ take k port_names
-before_first d h k l = sym (take-take k 21 d.names (omega arith)) ∙ ap (take k) (port_names_first d h)
+before_first : (d : Netlist) → IsWellFormed d → (k : ℕ) → k < PORT_COUNT → take k d.names ≡ take k port_names
+before_first d h k l = sym (take-take k PORT_COUNT d.names (omega arith)) ∙ ap (take k) (port_names_first d h)
 
-pub ports_counted : (d : Netlist) → IsWellFormed d → length d.ports ≡ 21
+pub ports_counted : (d : Netlist) → IsWellFormed d → length d.ports ≡ PORT_COUNT
 ports_counted d h = ap length (ports_listed d h)
 
 -- a place of a name is a port's, a declaration's or a wire's
-by_place : (d : Netlist) → IsWellFormed d → (P : ℕ → Type 0) → ((k : ℕ) → k < 21 → P k) → ((k : ℕ) → k < length d.declared → P (declared_place d k)) → ((k : ℕ) → k < length d.wires → P (wire_place d k))
+by_place : (d : Netlist) → IsWellFormed d → (P : ℕ → Type 0) → ((k : ℕ) → k < PORT_COUNT → P k) → ((k : ℕ) → k < length d.declared → P (declared_place d k)) → ((k : ℕ) → k < length d.wires → P (wire_place d k))
     → (place : ℕ) → place < length d.names → P place
-by_place d h P ports declared wires place l = go (cases_lt place 21) (cases_lt place (21 + length d.declared))
+by_place d h P ports declared wires place l = go (cases_lt place PORT_COUNT) (cases_lt place (PORT_COUNT + length d.declared))
   where
-    go : (place < 21) ⊎ (21 ≤ place) → (place < 21 + length d.declared) ⊎ (21 + length d.declared ≤ place) → P place
+    go : (place < PORT_COUNT) ⊎ (PORT_COUNT ≤ place) → (place < PORT_COUNT + length d.declared) ⊎ (PORT_COUNT + length d.declared ≤ place) → P place
     go (inl p) q = ports place p
-    go (inr p) (inl q) = let e : declared_place d (place - 21) ≡ place = omega (arith, ports_counted d h) in subst P e (declared (place - 21) (omega arith))
-    go (inr p) (inr q) = let e : wire_place d (place - (21 + length d.declared)) ≡ place = omega (arith, ports_counted d h) in
-        subst P e (wires (place - (21 + length d.declared)) (omega (arith, l, ports_counted d h, (last_kept d h).names)))
+    go (inr p) (inl q) = let e : declared_place d (place - PORT_COUNT) ≡ place = omega (arith, ports_counted d h) in subst P e (declared (place - PORT_COUNT) (omega arith))
+    go (inr p) (inr q) = let e : wire_place d (place - (PORT_COUNT + length d.declared)) ≡ place = omega (arith, ports_counted d h) in
+        subst P e (wires (place - (PORT_COUNT + length d.declared)) (omega (arith, l, ports_counted d h, (last_kept d h).names)))
 
 -- each name is one of the grammar
 pub name_spelled : (d : Netlist) → IsWellFormed d → (place : ℕ) → place < length d.names → IsTrue (is_name (get_or d.names place []))
 name_spelled d h = by_place d h (λ place. is_name (get_or d.names place []) ≡ true)
-    (λ k l. ap is_name (name_first d h k l) ∙ each_at (λ n. is_name (get_or port_names n [])) 21 k ports_named l)
+    (λ k l. ap is_name (name_first d h k l) ∙ each_at (λ n. is_name (get_or port_names n [])) PORT_COUNT k ports_named l)
     (λ k l. (declared_kept d h k (get_or d.declared k declared.Integer) l (get_or_default d.declared k declared.Integer _ l)).name)
     (λ k l. (wire_kept d h k (get_or d.wires k no_wire) l (get_or_default d.wires k no_wire _ l)).name)
 
@@ -85,7 +86,7 @@ name_spelled d h = by_place d h (λ place. is_name (get_or d.names place []) ≡
 name_new : (d : Netlist) → IsWellFormed d → (place : ℕ) → place < length d.names → new_in d.names place ≡ true
 name_new d h = by_place d h (λ place. new_in d.names place ≡ true)
     (λ k l. ap (λ n. not (list_any (bytes_eq n) (take k d.names))) (name_first d h k l) ∙ ap (λ names. not (list_any (bytes_eq (get_or port_names k [])) names)) (before_first d h k l)
-    ∙ each_at (new_in port_names) 21 k ports_new l)
+    ∙ each_at (new_in port_names) PORT_COUNT k ports_new l)
     (λ k l. (declared_kept d h k (get_or d.declared k declared.Integer) l (get_or_default d.declared k declared.Integer _ l)).new)
     (λ k l. (wire_kept d h k (get_or d.wires k no_wire) l (get_or_default d.wires k no_wire _ l)).new)
 

@@ -1,5 +1,6 @@
 -- Lists that are compared place by place, and outputs that are asked one by one.
-use Rattle.std.specs.Prelude.{◌≡◌, ◌≢◌, ℕ, zero, suc, ◌+◌, ◌<◌, if◌then◌else◌, Bool, true, false, ◌&&◌, List, [], ◌∷◌, length, drop}
+use Rattle.std.specs.Prelude.{◌≡◌, ◌≢◌, ℕ, zero, suc, ◌+◌, ◌<◌, if◌then◌else◌, Bool, true, false, ◌&&◌, List, [], ◌∷◌, length, drop, map}
+use Rattle.std.specs.Borrow.{Bor}
 use Rattle.std.specs.Cmp.Lexicographic.{pointwise}
 use Rattle.std.proofs.Common.{get_or, refl, sym, ap, ◌∙◌, add-one, arith}
 use Rattle.std.proofs.lemmas.Bool.{and_right}
@@ -35,3 +36,9 @@ pub pointwise_more : {A B : Type 0} (E : A → B → Bool) (xs : List A) (ys : L
     → E (get_or xs k d) (get_or ys k e) ≡ true → pointwise E (drop (k + 1) xs) (drop (k + 1) ys) ≡ pointwise E (drop k xs) (drop k ys)
 pointwise_more E xs ys k d e h l t =
     rw (add-one k) (sym (pointwise_drop E xs ys k d e h l ∙ ap (λ t. t && pointwise E (drop (suc k) xs) (drop (suc k) ys)) t))
+
+-- a text of a list of texts that are pointed at
+pub now_at : (texts : List (Bor (List ℕ))) (k : ℕ) (none : Bor (List ℕ)) → none.now ≡ [] → (get_or texts k none).now ≡ get_or (map (λ text. text.now) texts) k []
+now_at [] k none e = e
+now_at (t ∷ texts) zero none e = refl
+now_at (t ∷ texts) (suc k) none e = now_at texts k none e

@@ -6,6 +6,7 @@ use Rattle.std.specs.List.{list_any}
 use Rattle.std.proofs.lemmas.Bool.{false_from_ne_true}
 use Rattle.std.proofs.lemmas.List.{get_or-take, take-take, length-take-le}
 use Rattle.std.proofs.lemmas.Slice.Eq.{bytes_eq-Decides}
+use Rattle.net_core.specs.declared.ports.TheConstants.{PORT_COUNT}
 use Rattle.net_core.specs.Nets.{Netlist}
 use Rattle.net_core.specs.Names.{is_integer, place_of}
 use Rattle.verilog_grammar.specs.Grammar.{text_at, integer_name}
@@ -37,7 +38,7 @@ new_behind d h a place e l = record {
 }
 
 first_is_clock : (d : Netlist) → IsWellFormed d → text_at d 0 ≡ codes "clk"
-first_is_clock d h = sym (get_or-take 21 d.names 0 [] (omega arith)) ∙ ap (λ names. get_or names 0 []) (port_names_first d h)
+first_is_clock d h = sym (get_or-take PORT_COUNT d.names 0 [] (omega arith)) ∙ ap (λ names. get_or names 0 []) (port_names_first d h)
 
 not_clock : (d : Netlist) → IsWellFormed d → (place : ℕ) → 0 < place → place < length d.names → bytes_eq (text_at d place) (codes "clk") ≡ false
 not_clock d h place l n = false_from_ne_true _ (λ t. names_distinct d h 0 place l n (first_is_clock d h ∙ sym ((bytes_eq-Decides (text_at d place) (codes "clk")).0 t)))

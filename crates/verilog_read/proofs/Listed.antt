@@ -5,6 +5,7 @@ use Rattle.std.proofs.lemmas.Bool.{ltb-true, ltb-false}
 use Rattle.std.proofs.lemmas.List.{drop_all}
 use Rattle.std.specs.Prelude.{nat_lt}
 use Rattle.std.specs.Str.{bytes_eq}
+use Rattle.net_core.specs.declared.ports.TheConstants.{PORT_COUNT}
 use Rattle.net_core.specs.declared.design.Port.{Port}
 use Rattle.net_core.specs.Nets.{AssignTree}
 use Rattle.net_core.specs.Ports.{input, port_list, port_names}
@@ -27,7 +28,7 @@ prefix_port : (i : ℕ) (s n : List ℕ) (p q : Port) (names ns ms os : List (Li
 prefix_port i s n p q names ns ms os ps qs rs ts d e f g = rw (d, e, f, g) refl
 
 -- the port of a number
-pub port_at_number : (names : List (List ℕ)) (ps : List Port) (k : ℕ) → k < 21 → other_port k (drop k names) (drop k ps) (drop k port_names) (drop k port_list) ≡ after_port k (drop (suc k) names) (drop (suc k) ps) (drop (suc k) port_names) (drop (suc k) port_list) (is_listed names ps k)
+pub port_at_number : (names : List (List ℕ)) (ps : List Port) (k : ℕ) → k < PORT_COUNT → other_port k (drop k names) (drop k ps) (drop k port_names) (drop k port_list) ≡ after_port k (drop (suc k) names) (drop (suc k) ps) (drop (suc k) port_names) (drop (suc k) port_list) (is_listed names ps k)
 port_at_number names ps k h = by_ports (nat_lt k (length ps)) refl
   where
     listed : drop k port_list ≡ get_or port_list k (input 0) ∷ drop (suc k) port_list
@@ -44,22 +45,22 @@ port_at_number names ps k h = by_ports (nat_lt k (length ps)) refl
     by_ports true e = by_names (nat_lt k (length names)) refl (ltb-true k (length ps) e)
     by_ports false e = few_ports k _ _ _ _ _ _ (drop_all k ps (ltb-false k (length ps) e)) listed
 
-pub other_here : (names : List (List ℕ)) (ps : List Port) (k : ℕ) → k < 21 → is_listed names ps k ≡ false → other_port k (drop k names) (drop k ps) (drop k port_names) (drop k port_list) ≡ Some k
+pub other_here : (names : List (List ℕ)) (ps : List Port) (k : ℕ) → k < PORT_COUNT → is_listed names ps k ≡ false → other_port k (drop k names) (drop k ps) (drop k port_names) (drop k port_list) ≡ Some k
 other_here names ps k h e = port_at_number names ps k h ∙ rw e refl
 
-pub other_later : (names : List (List ℕ)) (ps : List Port) (k : ℕ) → k < 21 → is_listed names ps k ≡ true → other_port k (drop k names) (drop k ps) (drop k port_names) (drop k port_list) ≡ other_port (k + 1) (drop (k + 1) names) (drop (k + 1) ps) (drop (k + 1) port_names) (drop (k + 1) port_list)
+pub other_later : (names : List (List ℕ)) (ps : List Port) (k : ℕ) → k < PORT_COUNT → is_listed names ps k ≡ true → other_port k (drop k names) (drop k ps) (drop k port_names) (drop k port_list) ≡ other_port (k + 1) (drop (k + 1) names) (drop (k + 1) ps) (drop (k + 1) port_names) (drop (k + 1) port_list)
 other_later names ps k h e = let s : k + 1 ≡ suc k = omega arith in rw s (port_at_number names ps k h ∙ rw e refl)
 
-pub more_ports : (names : List (List ℕ)) (ps : List Port) (k : ℕ) → k ≡ 21 → 21 < length ps → other_port k (drop k names) (drop k ps) (drop k port_names) (drop k port_list) ≡ Some 21
-more_ports names ps k e h = rw e (last (drop 21 names) (drop 21 ps) (get_or ps 21 (input 0)) (drop 22 ps) (drop-cons ps 21 (input 0) h))
+pub more_ports : (names : List (List ℕ)) (ps : List Port) (k : ℕ) → k ≡ PORT_COUNT → PORT_COUNT < length ps → other_port k (drop k names) (drop k ps) (drop k port_names) (drop k port_list) ≡ Some PORT_COUNT
+more_ports names ps k e h = rw e (last (drop PORT_COUNT names) (drop PORT_COUNT ps) (get_or ps PORT_COUNT (input 0)) (drop (suc PORT_COUNT) ps) (drop-cons ps PORT_COUNT (input 0) h))
   where
-    last : (ns : List (List ℕ)) (rs : List Port) (p : Port) (more : List Port) → rs ≡ p ∷ more → other_port 21 ns rs [] [] ≡ Some 21
+    last : (ns : List (List ℕ)) (rs : List Port) (p : Port) (more : List Port) → rs ≡ p ∷ more → other_port PORT_COUNT ns rs [] [] ≡ Some PORT_COUNT
     last ns rs p more f = rw f refl
 
-pub no_more_ports : (names : List (List ℕ)) (ps : List Port) (k : ℕ) → k ≡ 21 → length ps ≤ 21 → other_port k (drop k names) (drop k ps) (drop k port_names) (drop k port_list) ≡ None
-no_more_ports names ps k e h = rw e (last (drop 21 names) (drop 21 ps) (drop_all 21 ps h))
+pub no_more_ports : (names : List (List ℕ)) (ps : List Port) (k : ℕ) → k ≡ PORT_COUNT → length ps ≤ PORT_COUNT → other_port k (drop k names) (drop k ps) (drop k port_names) (drop k port_list) ≡ None
+no_more_ports names ps k e h = rw e (last (drop PORT_COUNT names) (drop PORT_COUNT ps) (drop_all PORT_COUNT ps h))
   where
-    last : (ns : List (List ℕ)) (rs : List Port) → rs ≡ [] → other_port 21 ns rs [] [] ≡ None
+    last : (ns : List (List ℕ)) (rs : List Port) → rs ≡ [] → other_port PORT_COUNT ns rs [] [] ≡ None
     last ns rs f = rw f refl
 
 -- ---- outputs

@@ -14,7 +14,7 @@ use verilog_grammar::formed::{PORT_COUNT, name_matches, port_matches};
 
 // Whether the port of a number is there, and as every design has it.
 fn is_listed(names: &[String], ports: &[Port], k: usize) -> bool
-    requires { k < 21 }
+    requires { k < PORT_COUNT }
     ensures { result ≡ is_listed (map string_bytes names.now) ports.now k }
 {
     if k >= ports.len() {

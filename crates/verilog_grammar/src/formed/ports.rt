@@ -13,36 +13,22 @@ ghost use Rattle.verilog_grammar.specs.Formed.{first_broken};
 use crate::formed::Why;
 use crate::formed::items::is_assigned;
 use net_core::design::{Assign, Declared, Design, Port, Wire};
-use net_core::ports::{PORT_COUNT, PORTS};
+use net_core::ports::{PORT_COUNT, PORT_NAMES, PORTS};
+
+// A text of several.
+fn text_at<'a>(texts: &[&'a str], k: usize) -> &'a str
+    requires { k < length texts.now }
+    ensures { result.now ≡ get_or (map (λ text. text.now) texts.now) k [] }
+{
+    texts[k]
+}
 
 /// The name of a port.
 fn port_name(k: usize) -> &'static str
     requires { k < length list.port_names }
     ensures { result.now ≡ get_or list.port_names k [] }
 {
-    match k {
-        0 => "clk",
-        1 => "in_valid",
-        2 => "in_data",
-        3 => "in_bytes",
-        4 => "in_last",
-        5 => "in_ifindex",
-        6 => "in_ready",
-        7 => "out_ready",
-        8 => "out_valid",
-        9 => "out_data",
-        10 => "out_bytes",
-        11 => "out_last",
-        12 => "out_verdict",
-        13 => "out_target",
-        14 => "out_reload",
-        15 => "host_write",
-        16 => "host_map",
-        17 => "host_index",
-        18 => "host_word",
-        19 => "host_data",
-        _ => "host_value",
-    }
+    text_at(&PORT_NAMES, k)
 }
 
 fn same_port(a: Port, b: Port) -> bool
