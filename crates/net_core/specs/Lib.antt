@@ -8,3 +8,4 @@ pub mod Names
 pub mod Suits
 pub mod Codes
 pub mod History
+pub mod PortNames

@@ -3,5 +3,6 @@
 
 pub mod build;
 pub mod design;
+pub mod laws;
 pub mod ports;
 pub mod tree;
