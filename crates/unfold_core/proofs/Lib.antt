@@ -6,3 +6,7 @@ pub mod NodeSteps
 pub mod NodeLaws
 pub mod Leaving
 pub mod EdgesUp
+pub mod Arriving
+pub mod Walking
+pub mod Numbering
+pub mod Linking
