@@ -10,3 +10,5 @@ pub mod Arriving
 pub mod Walking
 pub mod Numbering
 pub mod Linking
+pub mod Reaching
+pub mod EdgeParts

@@ -9,3 +9,4 @@ pub mod EdgeLaws
 pub mod Graphs
 pub mod Pending
 pub mod Unfolding
+pub mod RunLaws
