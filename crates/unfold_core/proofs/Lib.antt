@@ -12,3 +12,5 @@ pub mod Numbering
 pub mod Linking
 pub mod Reaching
 pub mod EdgeParts
+pub mod SizedGraph
+pub mod Runs
