@@ -1,8 +1,7 @@
 -- The parts of what leaves a node: its instruction, its test, and its edges one by one.
-use Rattle.std.proofs.Common.{◌≡◌, ℕ, zero, suc, ◌+◌, ◌≤◌, ◌<◌, inl, inr, not, Bool, true, false, List, [], ◌∷◌, ◌++◌, length, Option, Some, None, Result, Ok, Err, refl, sym, ◌∙◌, ap, subst, arith}
-use Rattle.std.specs.Prelude.{All, if◌then◌else◌, unwrap_or}
+use Rattle.std.proofs.Common.{◌≡◌, ℕ, ◌+◌, inl, inr, not, Bool, true, false, List, [], ◌∷◌, ◌++◌, Option, Some, None, Result, Ok, Err, refl, sym, ◌∙◌, ap, subst, arith}
+use Rattle.std.specs.Prelude.{All, if◌then◌else◌}
 use Rattle.std.specs.List.{Contains, list_all}
-use Rattle.std.proofs.lemmas.Bool.{true≢false}
 use Rattle.bpf_isa.specs.declared.instruction.Insn.{Insn}
 use Rattle.bpf_isa.specs.Spelling.{units_of}
 use Rattle.bpf_isa.specs.Text.{insn_at}
@@ -16,7 +15,6 @@ use Rattle.kind_core.specs.Effects.{effect_of, verdict}
 use Rattle.kind_core.specs.Edges.{decided}
 use Rattle.unfold_core.specs.declared.nesting.Loop.{Loop}
 use Rattle.unfold_core.specs.declared.edges.Point.{Point}
-use Rattle.unfold_core.specs.declared.links.Edge.{Edge}
 use Rattle.unfold_core.specs.Jumps.{target_of}
 use Rattle.unfold_core.specs.Nodes.{GraphNode, next_copies, fits, reached}
 use Rattle.unfold_core.specs.Edges.{goes_next, goes_jump, at_copy, edge_to, if_present, in_turn, is_reference, next_edge, jump_edge, edges_of, if_allowed, leaving_by, leaving}
@@ -143,6 +141,6 @@ leaving_sized p ls number at es h e =
     let i = parts.0 in
     turn_all (λ x. IsSized x.kinds) (if_present (goes_next i.op (decided at.kinds i)) (next_edge p ls number at i)) (if_present (goes_jump i.op (decided at.kinds i)) (jump_edge p ls number at i)) es parts.3
     (λ ys f. present_all (λ x. IsSized x.kinds) (goes_next i.op (decided at.kinds i)) (next_edge p ls number at i) ys f
-        (λ q b g. subst IsSized (sym (edge_gives p.insns ls at.node _ (Some (at.node.place + units_of i.op)) q g).kinds) (transferred_sized p.decls at.kinds i number (is_reference p at.node.place) false h)))
+    (λ q b g. subst IsSized (sym (edge_gives p.insns ls at.node _ (Some (at.node.place + units_of i.op)) q g).kinds) (transferred_sized p.decls at.kinds i number (is_reference p at.node.place) false h)))
     (λ ys f. present_all (λ x. IsSized x.kinds) (goes_jump i.op (decided at.kinds i)) (jump_edge p ls number at i) ys f
-        (λ q b g. subst IsSized (sym (edge_gives p.insns ls at.node _ (target_of at.node.place (Some i)) q g).kinds) (transferred_sized p.decls at.kinds i number (is_reference p at.node.place) true h)))
+    (λ q b g. subst IsSized (sym (edge_gives p.insns ls at.node _ (target_of at.node.place (Some i)) q g).kinds) (transferred_sized p.decls at.kinds i number (is_reference p at.node.place) true h)))

@@ -14,3 +14,4 @@ pub mod Reaching
 pub mod EdgeParts
 pub mod SizedGraph
 pub mod Runs
+pub mod OneGraph

@@ -1,8 +1,8 @@
 -- What a graph holds at the ends of its edges.
-use Rattle.std.proofs.Common.{◌≡◌, ℕ, zero, suc, ◌+◌, ◌≤◌, ◌<◌, ◌⊎◌, inl, inr, Bool, true, false, List, [], ◌∷◌, ◌++◌, length, get_or, Option, Some, None, Result, Ok, Err, refl, sym, ◌∙◌, ap, subst, arith}
+use Rattle.std.proofs.Common.{◌≡◌, ℕ, zero, suc, ◌+◌, ◌<◌, ◌⊎◌, inl, inr, Bool, true, false, List, [], ◌∷◌, ◌++◌, length, get_or, Option, Some, None, Ok, refl, sym, ◌∙◌, ap, subst, arith}
 use Rattle.std.specs.Prelude.{All, IfSome, if◌then◌else◌}
-use Rattle.std.specs.List.{AllPairs, Contains}
-use Rattle.std.proofs.lemmas.List.Elements.{All-head, All-tail, All-nil, All-cons, All-append, Contains-append_left, Contains-append_right}
+use Rattle.std.specs.List.{Contains}
+use Rattle.std.proofs.lemmas.List.Elements.{All-head, All-tail, All-nil, All-append, Contains-append_left, Contains-append_right}
 use Rattle.bpf_isa.specs.Text.{insn_at}
 use Rattle.xdp_machine.specs.Program.{XdpProgram}
 use Rattle.kind_core.specs.declared.kind.Kinds.{Kinds}
@@ -10,15 +10,13 @@ use Rattle.kind_core.specs.Joins.{joined}
 use Rattle.unfold_core.specs.declared.nesting.Loop.{Loop}
 use Rattle.unfold_core.specs.declared.edges.Point.{Point}
 use Rattle.unfold_core.specs.declared.links.Edge.{Edge}
-use Rattle.unfold_core.specs.Loops.{AreLoops}
 use Rattle.unfold_core.specs.Nodes.{GraphNode, IsNode, comes_before}
 use Rattle.unfold_core.specs.Laws.{IsStrictTotalOrder}
 use Rattle.unfold_core.specs.Edges.{leaving}
-use Rattle.unfold_core.specs.Graphs.{same, found, met, arrives, arriving, first_point, ends, edges_from, leading, Pass, IsGraph}
+use Rattle.unfold_core.specs.Graphs.{same, found, met, arrives, arriving, ends, edges_from, Pass}
 use Rattle.unfold_core.specs.Pending.{number_of}
 use Rattle.unfold_core.specs.Unfolding.{jumps_first, numbered, links}
-use Rattle.unfold_core.proofs.NodeLaws.{nodes_are_ordered}
-use Rattle.unfold_core.proofs.Arriving.{Fine, Later, fine_of, fine_nodes, same_not, same_itself, same_is, found_skip, found_here}
+use Rattle.unfold_core.proofs.Arriving.{Fine, fine_nodes, same_not, same_itself, same_is, found_skip, found_here}
 
 abbrev pub In : Point → List Point → Type 0
 In e [] = ⊥

@@ -1,8 +1,9 @@
 -- The runs of a program that unfolds: at each node of its graph a step ends the run, or goes along an edge to a later node.
-use Rattle.std.proofs.Common.{◌≡◌, ◌≢◌, ℕ, zero, suc, ℤ, pos, negsuc, ◌+◌, ◌+ℤ◌, ◌≤◌, ◌<◌, ◌==◌, ◌⊎◌, inl, inr, not, Bool, true, false, List, [], ◌∷◌, ◌++◌, length, replicate, get_or, Option, Some, None, Result, Ok, Err, refl, sym, ◌∙◌, ap, subst, arith}
-use Rattle.std.specs.Prelude.{All, IfSome, if◌then◌else◌}
+use Rattle.std.proofs.Common.{◌≡◌, ℕ, zero, suc, ℤ, pos, negsuc, ◌+◌, ◌+ℤ◌, ◌≤◌, ◌<◌, ◌==◌, ◌⊎◌, inl, inr, not, Bool, true, false, List, [], ◌∷◌, length, replicate, get_or, Option, Some, None, Ok, refl, sym, ◌∙◌, ap, subst, arith}
+use Rattle.std.specs.Prelude.{All, IfSome, nat_lt, if◌then◌else◌}
 use Rattle.std.specs.List.{Contains, list_any}
 use Rattle.std.proofs.lemmas.List.Elements.{All-head, All-tail}
+use Rattle.std.proofs.lemmas.Bool.{le-ltb}
 use Rattle.bpf_isa.specs.declared.operation.Width.TheVariants.{Bits32, Bits64}
 use Rattle.bpf_isa.specs.declared.operation.Width.{Width}
 use Rattle.bpf_isa.specs.declared.operation.JumpCode.{JumpCode}
@@ -13,12 +14,11 @@ use Rattle.bpf_isa.specs.declared.instruction.Insn.{Insn}
 use Rattle.bpf_isa.specs.Spelling.{units_of, IsInsn}
 use Rattle.bpf_isa.specs.Text.{insn_at}
 use Rattle.xdp_maps.specs.declared.decl.MapDecl.{MapDecl}
-use Rattle.xdp_maps.specs.State.{MapState}
 use Rattle.xdp_machine.specs.Values.{Value}
 use Rattle.xdp_machine.specs.Values as is
 use Rattle.xdp_machine.specs.State.{Code, Machine, PacketIn, begins}
 use Rattle.xdp_machine.specs.State as machine
-use Rattle.xdp_machine.specs.Step.{Outcome, Goes, Ends, NoCase, step, goes_to}
+use Rattle.xdp_machine.specs.Step.{Goes, Ends, NoCase, step, goes_to}
 use Rattle.xdp_machine.specs.Program.{XdpProgram, program_code, IsProgram, IsDeclaration}
 use Rattle.xdp_machine.specs.Runs.{Leaves, leaves, run, then_on, Ended}
 use Rattle.xdp_machine.specs.MachineLaws.{StepsChangeOnly}
@@ -27,28 +27,27 @@ use Rattle.kind_core.specs.Kinds.{value_bytes}
 use Rattle.kind_core.specs.Tests.{passed}
 use Rattle.kind_core.specs.Effects.{effect_of, verdict}
 use Rattle.kind_core.specs.Edges.{decided, decided_as, transferred}
-use Rattle.kind_core.specs.Joins.{joined}
 use Rattle.kind_core.specs.Describes.{World, DescribesMachine, StartIsDescribed, JoinDescribes}
-use Rattle.kind_core.specs.Soundness.{Stands, StepsAreSound, LaterDescribes, IsLater, IsNext, Leads as StepLeads, GoesOn, target}
-use Rattle.kind_core.proofs.TransferLaws.{IsSized, is_jump, transferred_fixed}
+use Rattle.kind_core.specs.Soundness.{StepsAreSound, LaterDescribes, IsLater, IsNext, Leads as StepLeads, GoesOn, target}
+use Rattle.kind_core.proofs.TransferLaws.{is_jump, transferred_fixed}
 use Rattle.unfold_core.specs.declared.nesting.Loop.{Loop}
 use Rattle.unfold_core.specs.declared.edges.Point.{Point}
 use Rattle.unfold_core.specs.declared.links.Edge.{Edge}
 use Rattle.unfold_core.specs.declared.unfolding.Unfolded.{Unfolded}
 use Rattle.unfold_core.specs.Jumps.{distance, natural, led_to, target_of}
 use Rattle.unfold_core.specs.Loops.{AreLoops}
-use Rattle.unfold_core.specs.Nodes.{GraphNode, IsNode, comes_before, start}
-use Rattle.unfold_core.specs.Edges.{goes_next, goes_jump, is_reference, next_edge, jump_edge, edges_of, leaving}
+use Rattle.unfold_core.specs.Nodes.{IsNode, first, rest, differs, copies_before, start}
+use Rattle.unfold_core.specs.Edges.{goes_next, goes_jump, is_reference, edges_of, leaving}
 use Rattle.unfold_core.specs.EdgeLaws.{LeadsUp}
-use Rattle.unfold_core.specs.Graphs.{same, found, arriving, first_point, ends, edges_from, leading, IsGraph}
+use Rattle.unfold_core.specs.Graphs.{first_point, ends, leading, IsGraph}
 use Rattle.unfold_core.specs.Pending.{number_of}
 use Rattle.unfold_core.specs.Unfolding.{jumps_first, numbered, links, IsUnfolded}
-use Rattle.unfold_core.specs.RunLaws.{StandsAt, edge, Follows, ends as comes_to_end, goes as goes_on, IsSoundRun, AsksNoTime, RunsAreSound}
+use Rattle.unfold_core.specs.RunLaws.{StandsAt, edge, Follows, ends as comes_to_end, goes as goes_on, AsksNoTime, RunsAreSound}
 use Rattle.unfold_core.proofs.Laid.{legal_at}
 use Rattle.unfold_core.proofs.NodeLaws.{nodes_are_ordered, start_is_node}
 use Rattle.unfold_core.proofs.EdgesUp.{leaving_goes_up}
 use Rattle.unfold_core.proofs.Arriving.{Fine, fine_of, same_itself}
-use Rattle.unfold_core.proofs.Reaching.{In, in_right, all_in, found_at, number_above, arriving_has, pass_at, in_edges, numbered_at, in_links}
+use Rattle.unfold_core.proofs.Reaching.{In, all_in, found_at, number_above, arriving_has, pass_at, in_edges, numbered_at, in_links}
 use Rattle.unfold_core.proofs.EdgeParts.{leaving_parts, IsOne, next_there, jump_there, LeadsTo, edge_gives}
 use Rattle.unfold_core.proofs.SizedGraph.{sized_at}
 
@@ -299,12 +298,12 @@ pub record Ending (p : XdpProgram) (u : Unfolded) (w : World) (m : Machine) (mos
 
 ending_more : (p : XdpProgram) (u : Unfolded) (w : World) (m : Machine) (most : ℕ) → u.edges.items ≡ links p u.loops.items u.nodes.items 0 u.nodes.items → StandsAt u.nodes.items w m
     → (moves : Moves p u.loops.items u.nodes.items w m) → Ending p u moves.world moves.next most → Ending p u w m (suc most)
-ending_more p u w m most edges stands moves rest = record {
-  left = rest.left;
-  path = goes_on stands moves.goes (subst (λ xs. Contains xs (edge w.node moves.taken moves.world.node)) (sym edges) moves.along) moves.later rest.path;
-  steps = suc rest.steps;
-  few = omega (arith, rest.few);
-  ended = run_goes (program_code p) m moves.next rest.steps moves.goes ∙ rest.ended;
+ending_more p u w m most edges stands moves onward = record {
+  left = onward.left;
+  path = goes_on stands moves.goes (subst (λ xs. Contains xs (edge w.node moves.taken moves.world.node)) (sym edges) moves.along) moves.later onward.path;
+  steps = suc onward.steps;
+  few = omega (arith, onward.few);
+  ended = run_goes (program_code p) m moves.next onward.steps moves.goes ∙ onward.ended;
 }
 
 ending_now : (p : XdpProgram) (u : Unfolded) (w : World) (m : Machine) (most verdict : ℕ) → StandsAt u.nodes.items w m → step (program_code p) m ≡ Ends verdict → Ending p u w m (suc most)
@@ -328,6 +327,19 @@ ending p u (suc n) w m laws program h asks most fits stands =
     by_step (inl (verdict, e)) on = ending_now p u w m n verdict stands e
     by_step (inr moves) on = ending_more p u w m n h.edges stands moves (on moves)
 
+-- no node comes before the start, so it is the first
+none_before : (ls : List Loop) (place : ℕ) (cs : List ℕ) → copies_before ls place cs 0 (replicate (length ls) 0) ≡ false
+none_before [] place cs = le-ltb place 0 (omega arith)
+none_before (l ∷ ls) place cs = by_test (none_before ls place (rest cs)) (differs l place (first cs) 0 0)
+  where
+    by_test : copies_before ls place (rest cs) 0 (replicate (length ls) 0) ≡ false → (b : Bool) → (if b then nat_lt (first cs) 0 else copies_before ls place (rest cs) 0 (replicate (length ls) 0)) ≡ false
+    by_test later true = le-ltb (first cs) 0 (omega arith)
+    by_test later false = later
+
+start_is_first : (ls : List Loop) (g : List Point) → number_of ls (start ls) g ≡ 0
+start_is_first ls [] = refl
+start_is_first ls (p ∷ ps) = ap (λ b. if b then suc (number_of ls (start ls) ps) else zero) (none_before ls p.node.place p.node.copies)
+
 -- no lookup has been made
 nothing_yet : ℕ → Value
 nothing_yet n = is.Unset
@@ -337,12 +349,12 @@ runs_are_sound laws p u packet maps program h declared asks =
     let ls = u.loops.items in
     let g = u.nodes.items in
     let m : Machine = machine.start packet maps in
-    let first : Point = first_point ls in
-    let w : World = record { frame = length packet.frame; node = number_of ls first.node g; gave = nothing_yet } in
+    let begin : Point = first_point ls in
+    let w : World = record { frame = length packet.frame; node = number_of ls begin.node g; gave = nothing_yet } in
     let begun : World = record { frame = length packet.frame; node = 0; gave = nothing_yet } in
     let fits : Fits p m = record { registers = refl; stack = refl; decls = declared } in
     let later : IsLater begun w = record { frame = refl; node = omega arith; gave = λ n lt. refl } in
-    let described : DescribesMachine w first.kinds m = laws.later begun w first.kinds m later (laws.start nothing_yet m refl refl) in
-    let stands : StandsAt g w m = arrives_at p ls g first w m laws program h.loops.loops h.graph (inl refl) (start_is_node ls) described refl refl fits in
-    let rest : Ending p u w m (length g) = ending p u (length g) w m laws program h asks (omega arith) fits stands in
-    record { world = w; left = rest.left; path = rest.path; steps = rest.steps; few = rest.few; ended = rest.ended }
+    let described : DescribesMachine w begin.kinds m = laws.later begun w begin.kinds m later (laws.start nothing_yet m refl refl) in
+    let stands : StandsAt g w m = arrives_at p ls g begin w m laws program h.loops.loops h.graph (inl refl) (start_is_node ls) described refl refl fits in
+    let onward : Ending p u w m (length g) = ending p u (length g) w m laws program h asks (omega arith) fits stands in
+    record { world = w; first = start_is_first ls g; left = onward.left; path = onward.path; steps = onward.steps; few = onward.few; ended = onward.ended }

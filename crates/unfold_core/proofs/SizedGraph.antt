@@ -1,5 +1,5 @@
 -- All kinds of a graph are of 11 registers and 64 slots.
-use Rattle.std.proofs.Common.{◌≡◌, ℕ, zero, suc, ◌+◌, ◌≤◌, ◌<◌, ◌⊎◌, inl, inr, Bool, true, false, List, [], ◌∷◌, ◌++◌, length, get_or, Option, Some, None, Result, Ok, Err, refl, sym, ◌∙◌, ap, subst, arith}
+use Rattle.std.proofs.Common.{◌≡◌, ℕ, zero, suc, ◌+◌, ◌<◌, inl, inr, true, false, List, length, get_or, Some, None, Ok, refl, sym, ◌∙◌, subst, arith}
 use Rattle.std.specs.Prelude.{All, IfSome}
 use Rattle.std.proofs.lemmas.List.{get_or_default}
 use Rattle.std.proofs.lemmas.List.Elements.{All-cons}
@@ -9,9 +9,9 @@ use Rattle.kind_core.proofs.TransferLaws.{IsSized, joined_sized}
 use Rattle.unfold_core.specs.declared.nesting.Loop.{Loop}
 use Rattle.unfold_core.specs.declared.edges.Point.{Point}
 use Rattle.unfold_core.specs.Loops.{AreLoops}
-use Rattle.unfold_core.specs.Nodes.{GraphNode, IsNode, comes_before}
+use Rattle.unfold_core.specs.Nodes.{IsNode, comes_before}
 use Rattle.unfold_core.specs.Edges.{leaving}
-use Rattle.unfold_core.specs.Graphs.{same, found, arriving, first_point, ends, edges_from, leading, AreOrdered, IsGraph}
+use Rattle.unfold_core.specs.Graphs.{same, arriving, first_point, ends, edges_from, leading, AreOrdered, IsGraph}
 use Rattle.unfold_core.proofs.NodeLaws.{nodes_are_ordered}
 use Rattle.unfold_core.proofs.EdgesUp.{leaving_goes_up}
 use Rattle.unfold_core.proofs.Arriving.{same_is, fine_of}

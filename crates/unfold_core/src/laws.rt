@@ -2,6 +2,7 @@
 
 ghost use Rattle.unfold_core.specs.Laws.{NodesAreOrdered, StartIsNode, EdgesReachNodes, EdgesGoUp};
 ghost use Rattle.unfold_core.specs.EdgeLaws.{LeavingGoesUp};
+ghost use Rattle.unfold_core.specs.GraphLaws.{HasOneGraph, HasOneRefusal, HasNotBoth};
 ghost use Rattle.unfold_core.specs.RunLaws.{RunsAreSound};
 
 /// Of two nodes of a program one comes before the other, and never in a circle.
@@ -27,6 +28,21 @@ pub fn edges_go_up()
 /// All edges that leave a node of a program lead to nodes that come later, so runs never come back.
 pub fn leaving_goes_up()
     ensures { LeavingGoesUp }
+{}
+
+/// A program has one graph: what is known at each node is the one solution of its equation.
+pub fn has_one_graph()
+    ensures { HasOneGraph }
+{}
+
+/// A program has one first node that is refused,
+pub fn has_one_refusal()
+    ensures { HasOneRefusal }
+{}
+
+/// and none where it has a graph.
+pub fn has_not_both()
+    ensures { HasNotBoth }
 {}
 
 /// Every packet, over all maps of the declarations of a program that unfolds, has a run that follows the graph: a path of present edges
