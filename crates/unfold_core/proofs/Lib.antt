@@ -15,3 +15,4 @@ pub mod EdgeParts
 pub mod SizedGraph
 pub mod Runs
 pub mod OneGraph
+pub mod LinkLaws

@@ -1,15 +1,15 @@
 -- The number of a node among nodes in unfolded order, and where the end of an edge goes.
 use Rattle.std.proofs.Common.{◌≡◌, ℕ, zero, suc, ◌≤◌, ◌<◌, inl, inr, Bool, true, false, List, [], ◌∷◌, length, get_or, set, refl, sym, ◌∙◌, ap, subst, arith}
-use Rattle.std.specs.Prelude.{if◌then◌else◌}
+use Rattle.std.specs.Prelude.{nat_lt, replicate, if◌then◌else◌}
 use Rattle.std.specs.List.{insert}
 use Rattle.std.specs.List.Sorted.{IsPartitionedBy, IsPartitionPoint}
 use Rattle.std.proofs.lemmas.List.{get_or_default}
-use Rattle.std.proofs.lemmas.Bool.{cases_order}
+use Rattle.std.proofs.lemmas.Bool.{cases_order, le-ltb}
 use Rattle.kind_core.specs.declared.kind.Kinds.{Kinds}
 use Rattle.kind_core.specs.Joins.{joined}
 use Rattle.unfold_core.specs.declared.nesting.Loop.{Loop}
 use Rattle.unfold_core.specs.declared.edges.Point.{Point}
-use Rattle.unfold_core.specs.Nodes.{GraphNode, IsNode, comes_before}
+use Rattle.unfold_core.specs.Nodes.{GraphNode, first, rest, differs, IsNode, copies_before, comes_before, start}
 use Rattle.unfold_core.specs.Graphs.{AreOrdered}
 use Rattle.unfold_core.specs.Pending.{number_of, meets, put, with_end}
 use Rattle.unfold_core.proofs.NodeLaws.{nodes_are_ordered}
@@ -84,3 +84,16 @@ number_in ls n (p ∷ ps) = by_first (comes_before ls p.node n) (number_in ls n 
     by_first : (b : Bool) → number_of ls n ps ≤ length ps → (if b then suc (number_of ls n ps) else zero) ≤ suc (length ps)
     by_first true h = omega arith
     by_first false h = omega arith
+
+-- no node comes before the start, so it is the first
+none_before : (ls : List Loop) (place : ℕ) (cs : List ℕ) → copies_before ls place cs 0 (replicate (length ls) 0) ≡ false
+none_before [] place cs = le-ltb place 0 (omega arith)
+none_before (l ∷ ls) place cs = by_test (none_before ls place (rest cs)) (differs l place (first cs) 0 0)
+  where
+    by_test : copies_before ls place (rest cs) 0 (replicate (length ls) 0) ≡ false → (b : Bool) → (if b then nat_lt (first cs) 0 else copies_before ls place (rest cs) 0 (replicate (length ls) 0)) ≡ false
+    by_test later true = le-ltb (first cs) 0 (omega arith)
+    by_test later false = later
+
+pub start_is_first : (ls : List Loop) (g : List Point) → number_of ls (start ls) g ≡ 0
+start_is_first ls [] = refl
+start_is_first ls (p ∷ ps) = ap (λ b. if b then suc (number_of ls (start ls) ps) else zero) (none_before ls p.node.place p.node.copies)

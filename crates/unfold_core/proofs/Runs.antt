@@ -1,9 +1,8 @@
 -- The runs of a program that unfolds: at each node of its graph a step ends the run, or goes along an edge to a later node.
-use Rattle.std.proofs.Common.{◌≡◌, ℕ, zero, suc, ℤ, pos, negsuc, ◌+◌, ◌+ℤ◌, ◌≤◌, ◌<◌, ◌==◌, ◌⊎◌, inl, inr, not, Bool, true, false, List, [], ◌∷◌, length, replicate, get_or, Option, Some, None, Ok, refl, sym, ◌∙◌, ap, subst, arith}
-use Rattle.std.specs.Prelude.{All, IfSome, nat_lt, if◌then◌else◌}
+use Rattle.std.proofs.Common.{◌≡◌, ℕ, zero, suc, ℤ, pos, negsuc, ◌+◌, ◌+ℤ◌, ◌≤◌, ◌<◌, ◌==◌, ◌⊎◌, inl, inr, not, Bool, true, false, List, [], ◌∷◌, length, get_or, Option, Some, None, Ok, refl, sym, ◌∙◌, ap, subst, arith}
+use Rattle.std.specs.Prelude.{All, IfSome, if◌then◌else◌}
 use Rattle.std.specs.List.{Contains, list_any}
 use Rattle.std.proofs.lemmas.List.Elements.{All-head, All-tail}
-use Rattle.std.proofs.lemmas.Bool.{le-ltb}
 use Rattle.bpf_isa.specs.declared.operation.Width.TheVariants.{Bits32, Bits64}
 use Rattle.bpf_isa.specs.declared.operation.Width.{Width}
 use Rattle.bpf_isa.specs.declared.operation.JumpCode.{JumpCode}
@@ -36,7 +35,7 @@ use Rattle.unfold_core.specs.declared.links.Edge.{Edge}
 use Rattle.unfold_core.specs.declared.unfolding.Unfolded.{Unfolded}
 use Rattle.unfold_core.specs.Jumps.{distance, natural, led_to, target_of}
 use Rattle.unfold_core.specs.Loops.{AreLoops}
-use Rattle.unfold_core.specs.Nodes.{IsNode, first, rest, differs, copies_before, start}
+use Rattle.unfold_core.specs.Nodes.{IsNode}
 use Rattle.unfold_core.specs.Edges.{goes_next, goes_jump, is_reference, edges_of, leaving}
 use Rattle.unfold_core.specs.EdgeLaws.{LeadsUp}
 use Rattle.unfold_core.specs.Graphs.{first_point, ends, leading, IsGraph}
@@ -47,6 +46,7 @@ use Rattle.unfold_core.proofs.Laid.{legal_at}
 use Rattle.unfold_core.proofs.NodeLaws.{nodes_are_ordered, start_is_node}
 use Rattle.unfold_core.proofs.EdgesUp.{leaving_goes_up}
 use Rattle.unfold_core.proofs.Arriving.{Fine, fine_of, same_itself}
+use Rattle.unfold_core.proofs.Numbering.{start_is_first}
 use Rattle.unfold_core.proofs.Reaching.{In, all_in, found_at, number_above, arriving_has, pass_at, in_edges, numbered_at, in_links}
 use Rattle.unfold_core.proofs.EdgeParts.{leaving_parts, IsOne, next_there, jump_there, LeadsTo, edge_gives}
 use Rattle.unfold_core.proofs.SizedGraph.{sized_at}
@@ -326,19 +326,6 @@ ending p u (suc n) w m laws program h asks most fits stands =
     by_step : Steps p u.loops.items u.nodes.items w m → ((moves : Moves p u.loops.items u.nodes.items w m) → Ending p u moves.world moves.next n) → Ending p u w m (suc n)
     by_step (inl (verdict, e)) on = ending_now p u w m n verdict stands e
     by_step (inr moves) on = ending_more p u w m n h.edges stands moves (on moves)
-
--- no node comes before the start, so it is the first
-none_before : (ls : List Loop) (place : ℕ) (cs : List ℕ) → copies_before ls place cs 0 (replicate (length ls) 0) ≡ false
-none_before [] place cs = le-ltb place 0 (omega arith)
-none_before (l ∷ ls) place cs = by_test (none_before ls place (rest cs)) (differs l place (first cs) 0 0)
-  where
-    by_test : copies_before ls place (rest cs) 0 (replicate (length ls) 0) ≡ false → (b : Bool) → (if b then nat_lt (first cs) 0 else copies_before ls place (rest cs) 0 (replicate (length ls) 0)) ≡ false
-    by_test later true = le-ltb (first cs) 0 (omega arith)
-    by_test later false = later
-
-start_is_first : (ls : List Loop) (g : List Point) → number_of ls (start ls) g ≡ 0
-start_is_first ls [] = refl
-start_is_first ls (p ∷ ps) = ap (λ b. if b then suc (number_of ls (start ls) ps) else zero) (none_before ls p.node.place p.node.copies)
 
 -- no lookup has been made
 nothing_yet : ℕ → Value

@@ -9,5 +9,5 @@ pub mod EdgeLaws
 pub mod Graphs
 pub mod Pending
 pub mod Unfolding
-pub mod GraphLaws
 pub mod RunLaws
+pub mod GraphLaws

@@ -2,7 +2,7 @@
 
 ghost use Rattle.unfold_core.specs.Laws.{NodesAreOrdered, StartIsNode, EdgesReachNodes, EdgesGoUp};
 ghost use Rattle.unfold_core.specs.EdgeLaws.{LeavingGoesUp};
-ghost use Rattle.unfold_core.specs.GraphLaws.{HasOneGraph, HasOneRefusal, HasNotBoth};
+ghost use Rattle.unfold_core.specs.GraphLaws.{HasOneGraph, HasOneRefusal, HasNotBoth, EdgesLeadOn, NodesAreReached};
 ghost use Rattle.unfold_core.specs.RunLaws.{RunsAreSound};
 
 /// Of two nodes of a program one comes before the other, and never in a circle.
@@ -43,6 +43,16 @@ pub fn has_one_refusal()
 /// and none where it has a graph.
 pub fn has_not_both()
     ensures { HasNotBoth }
+{}
+
+/// The edges of a graph lead to later nodes of it,
+pub fn edges_lead_on()
+    ensures { EdgesLeadOn }
+{}
+
+/// and to each node but the first: so the nodes are exactly those that are reached from the first.
+pub fn nodes_are_reached()
+    ensures { NodesAreReached }
 {}
 
 /// Every packet, over all maps of the declarations of a program that unfolds, has a run that follows the graph: a path of present edges
