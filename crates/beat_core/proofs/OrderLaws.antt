@@ -6,7 +6,7 @@ use Rattle.std.specs.List.{flat_map, AllByRecursion}
 use Rattle.std.proofs.lemmas.List.{take_all, take-append-drop, drop_more}
 use Rattle.std.proofs.lemmas.Bool.{lt-leb, le-leb}
 use Rattle.beat_core.specs.declared.beat.Beat.{Beat}
-use Rattle.beat_core.specs.declared.frame.TheConstants.{FRAME_LIMIT}
+use Rattle.beat_core.specs.declared.frame.TheConstants.{FRAME_LIMIT, BEAT_LIMIT}
 use Rattle.beat_core.specs.Beats.{bytes_of_beat, first_beat, first_beats, beat_count, beats_of, IsOffer}
 use Rattle.beat_core.specs.Clocks.{Gathered, begun, gathered, after_clock, went_over, frames_among, AreOffers}
 use Rattle.beat_core.specs.Laws.{IsFrame}
@@ -17,7 +17,7 @@ use Rattle.list_laws.proofs.ByteLaws.{IsBytes-drop}
 
 -- ---- the beats of one frame before others
 
-offers-first_beats : (m n : ℕ) (xs : List ℕ) (rest : List Beat) → 8 * m < length xs → length xs ≤ 8 * m + 8 → n + m < 192 → AreOffers 0 rest → AreOffers n (first_beats (suc m) xs ++ rest)
+offers-first_beats : (m n : ℕ) (xs : List ℕ) (rest : List Beat) → 8 * m < length xs → length xs ≤ 8 * m + 8 → n + m < BEAT_LIMIT → AreOffers 0 rest → AreOffers n (first_beats (suc m) xs ++ rest)
 unfolding first_beats
 offers-first_beats zero n xs rest some fits room others =
     let last : nat_le (length xs) 8 ≡ true = le-leb (length xs) 8 (omega arith) in
@@ -90,7 +90,7 @@ length-bytes_of_beat : (b : Beat) → IsOffer b → length (bytes_of_beat b) ≡
 length-bytes_of_beat b h = omega (arith, IsOffer-count b h, length-low_bytes (min b.bytes 8) b.word)
 
 -- a beat has room after whole words
-pub room_after : (so_far : List ℕ) (n : ℕ) (b : Beat) → length so_far ≡ 8 * n → n < 192 → IsOffer b → length (so_far ++ bytes_of_beat b) ≤ FRAME_LIMIT
+pub room_after : (so_far : List ℕ) (n : ℕ) (b : Beat) → length so_far ≡ 8 * n → n < BEAT_LIMIT → IsOffer b → length (so_far ++ bytes_of_beat b) ≤ FRAME_LIMIT
 room_after so_far n b len below offer =
     omega (arith, length-append so_far (bytes_of_beat b), length-bytes_of_beat b offer, IsOffer-count b offer)
 

@@ -2,12 +2,13 @@
 use Rattle.std.proofs.Common.{◌≡◌, ℕ, zero, suc, ◌+◌, ◌-◌, ◌*◌, ◌<◌, ◌≤◌, true, false, List, [], ◌∷◌, ◌++◌, length, take, drop, map, Some, None, refl, ap, ◌∙◌, arith, append_assoc, length-drop}
 use Rattle.std.specs.Prelude.{nat_le}
 use Rattle.std.specs.List.{flat_map, AllByRecursion}
-use Rattle.std.proofs.lemmas.List.{take_all, take-append-drop, map-append}
+use Rattle.std.proofs.lemmas.List.{take_all, take-append-drop}
 use Rattle.std.proofs.lemmas.Bool.{lt-leb, le-leb}
 use Rattle.beat_core.specs.Beats.{bytes_of_beat, first_beat, first_beats, beat_count, beats_of}
-use Rattle.beat_core.specs.Ports.{Offered, Arrival, offered, arrivals_among, Given, given, answers_among}
+use Rattle.beat_core.specs.Ports.{Offered, Arrival, offered, offers_of, arrivals_among, Given, given, answers_among}
+use Rattle.beat_core.specs.declared.frame.Timed.{Timed}
 use Rattle.beat_core.specs.declared.answer.Answer.{Answer}
-use Rattle.beat_core.specs.Laws.{IsFrame, HasFrame, arrival_of}
+use Rattle.beat_core.specs.Laws.{HasFrame, IsPacket, arrival_of}
 use Rattle.beat_core.proofs.BeatLaws.{bytes_of_beat-first_beat}
 use Rattle.list_laws.specs.Bytes.{IsBytes}
 use Rattle.list_laws.proofs.ByteLaws.{IsBytes-drop}
@@ -22,39 +23,40 @@ joined so_far xs =
 
 -- ---- frames that are offered
 
-arrives_on : (m ifindex : ℕ) (so_far xs : List ℕ) (rest : List Offered) → IsBytes xs → 8 * m < length xs → length xs ≤ 8 * m + 8 → arrivals_among (Some (arrival_of ifindex so_far)) (map (offered ifindex) (first_beats (suc m) xs) ++ rest) ≡ arrival_of ifindex (so_far ++ xs) ∷ arrivals_among None rest
+abbrev arrival : ℕ → ℕ → List ℕ → Arrival
+arrival ifindex time xs = record { ifindex = ifindex; time = time; frame = xs }
+
+arrives_on : (m ifindex time : ℕ) (so_far xs : List ℕ) (rest : List Offered) → IsBytes xs → 8 * m < length xs → length xs ≤ 8 * m + 8 → arrivals_among (Some (arrival ifindex time so_far)) (map (offered ifindex time) (first_beats (suc m) xs) ++ rest) ≡ arrival ifindex time (so_far ++ xs) ∷ arrivals_among None rest
 unfolding first_beats
-arrives_on zero ifindex so_far xs rest h some fits =
+arrives_on zero ifindex time so_far xs rest h some fits =
     let last : nat_le (length xs) 8 ≡ true = le-leb (length xs) 8 (omega arith) in
     rw (last, last_bytes xs h (omega arith)) refl
-arrives_on (suc m) ifindex so_far xs rest h some fits =
+arrives_on (suc m) ifindex time so_far xs rest h some fits =
     let on : nat_le (length xs) 8 ≡ false = lt-leb (length xs) 8 (omega arith) in
-    let later = arrives_on m ifindex (so_far ++ take 8 xs) (drop 8 xs) rest (IsBytes-drop 8 xs h) (omega (arith, length-drop 8 xs)) (omega (arith, length-drop 8 xs)) in
-    rw (on, bytes_of_beat-first_beat xs h) (later ∙ ap (λ (f : List ℕ). arrival_of ifindex f ∷ arrivals_among None rest) (joined so_far xs))
+    let later = arrives_on m ifindex time (so_far ++ take 8 xs) (drop 8 xs) rest (IsBytes-drop 8 xs h) (omega (arith, length-drop 8 xs)) (omega (arith, length-drop 8 xs)) in
+    rw (on, bytes_of_beat-first_beat xs h) (later ∙ ap (λ (f : List ℕ). arrival ifindex time f ∷ arrivals_among None rest) (joined so_far xs))
 
-arrives : (m ifindex : ℕ) (xs : List ℕ) (rest : List Offered) → IsBytes xs → 8 * m < length xs → length xs ≤ 8 * m + 8 → arrivals_among None (map (offered ifindex) (first_beats (suc m) xs) ++ rest) ≡ arrival_of ifindex xs ∷ arrivals_among None rest
+arrives : (m ifindex time : ℕ) (xs : List ℕ) (rest : List Offered) → IsBytes xs → 8 * m < length xs → length xs ≤ 8 * m + 8 → arrivals_among None (map (offered ifindex time) (first_beats (suc m) xs) ++ rest) ≡ arrival ifindex time xs ∷ arrivals_among None rest
 unfolding first_beats
-arrives zero ifindex xs rest h some fits =
+arrives zero ifindex time xs rest h some fits =
     let last : nat_le (length xs) 8 ≡ true = le-leb (length xs) 8 (omega arith) in
     rw (last, last_bytes xs h (omega arith)) refl
-arrives (suc m) ifindex xs rest h some fits =
+arrives (suc m) ifindex time xs rest h some fits =
     let on : nat_le (length xs) 8 ≡ false = lt-leb (length xs) 8 (omega arith) in
-    let later = arrives_on m ifindex (take 8 xs) (drop 8 xs) rest (IsBytes-drop 8 xs h) (omega (arith, length-drop 8 xs)) (omega (arith, length-drop 8 xs)) in
-    rw (on, bytes_of_beat-first_beat xs h) (later ∙ ap (λ (f : List ℕ). arrival_of ifindex f ∷ arrivals_among None rest) (take-append-drop 8 xs))
+    let later = arrives_on m ifindex time (take 8 xs) (drop 8 xs) rest (IsBytes-drop 8 xs h) (omega (arith, length-drop 8 xs)) (omega (arith, length-drop 8 xs)) in
+    rw (on, bytes_of_beat-first_beat xs h) (later ∙ ap (λ (f : List ℕ). arrival ifindex time f ∷ arrivals_among None rest) (take-append-drop 8 xs))
 
-frame-arrives : (ifindex : ℕ) (xs : List ℕ) (rest : List Offered) → IsFrame xs → arrivals_among None (map (offered ifindex) (beats_of xs) ++ rest) ≡ arrival_of ifindex xs ∷ arrivals_among None rest
+frame-arrives : (ifindex : ℕ) (p : Timed) (rest : List Offered) → IsPacket p → arrivals_among None (offers_of ifindex p ++ rest) ≡ arrival_of ifindex p ∷ arrivals_among None rest
 unfolding beats_of
-frame-arrives ifindex xs rest h =
-    let m = beat_count (length xs) - 1 in
-    let more : beat_count (length xs) ≡ suc m = omega (arith, h.some) in
-    rw more (arrives m ifindex xs rest h.bytes (omega (arith, h.some)) (omega (arith, h.some)))
+frame-arrives ifindex p rest h =
+    let m = beat_count (length p.frame) - 1 in
+    let more : beat_count (length p.frame) ≡ suc m = omega (arith, h.some) in
+    rw more (arrives m ifindex p.time p.frame rest h.bytes (omega (arith, h.some)) (omega (arith, h.some)))
 
-pub frames-arrive : (ifindex : ℕ) (frames : List (List ℕ)) → AllByRecursion IsFrame frames → arrivals_among None (map (offered ifindex) (flat_map beats_of frames)) ≡ map (arrival_of ifindex) frames
+pub frames-arrive : (ifindex : ℕ) (packets : List Timed) → AllByRecursion IsPacket packets → arrivals_among None (flat_map (offers_of ifindex) packets) ≡ map (arrival_of ifindex) packets
 frames-arrive ifindex [] h = refl
-frames-arrive ifindex (xs ∷ frames) h =
-    let rest = map (offered ifindex) (flat_map beats_of frames) in
-    ap (arrivals_among None) (map-append (offered ifindex) (beats_of xs) (flat_map beats_of frames)) ∙ frame-arrives ifindex xs rest h.0
-    ∙ ap (λ (r : List Arrival). arrival_of ifindex xs ∷ r) (frames-arrive ifindex frames h.1)
+frames-arrive ifindex (p ∷ packets) h =
+    frame-arrives ifindex p (flat_map (offers_of ifindex) packets) h.0 ∙ ap (λ (r : List Arrival). arrival_of ifindex p ∷ r) (frames-arrive ifindex packets h.1)
 
 -- ---- answers that are given
 

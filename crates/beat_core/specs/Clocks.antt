@@ -2,6 +2,7 @@
 use Rattle.std.specs.Prelude.{ℕ, zero, suc, ◌<◌, List, [], ◌∷◌, ◌++◌, Bool, false, if◌then◌else◌, Option, Some, None, option_to_list}
 use Rattle.std.specs.List.{flat_map}
 use Rattle.beat_core.specs.declared.beat.Beat.{Beat}
+use Rattle.beat_core.specs.declared.frame.TheConstants.{BEAT_LIMIT}
 use Rattle.beat_core.specs.Beats.{bytes_of_beat, IsOffer}
 
 -- what a gatherer holds: the bytes of the frame so far, and whether its last beat has come
@@ -36,8 +37,8 @@ frames_among so_far [] = []
 frames_among so_far (b ∷ bs) =
     if b.last then (so_far ++ bytes_of_beat b) ∷ frames_among [] bs else frames_among (so_far ++ bytes_of_beat b) bs
 
--- Offers are well formed: each beat may be offered, and a frame has at most 192 of them. Of the first
+-- Offers are well formed: each beat may be offered, and a frame has no more of them than the bound. Of the first
 -- frame n beats have come before.
 abbrev pub AreOffers : ℕ → List Beat → Type 0
 AreOffers n [] = Unit {0}
-AreOffers n (b ∷ bs) = IsOffer b × (n < 192) × AreOffers (if b.last then zero else suc n) bs
+AreOffers n (b ∷ bs) = IsOffer b × (n < BEAT_LIMIT) × AreOffers (if b.last then zero else suc n) bs

@@ -1,25 +1,32 @@
 -- What has gone over at the ports of a design, as frames that came and answers that were given.
-use Rattle.std.specs.Prelude.{ℕ, List, [], ◌∷◌, ◌++◌, Option, Some, None, if◌then◌else◌}
+use Rattle.std.specs.Prelude.{ℕ, List, [], ◌∷◌, ◌++◌, Option, Some, None, map, if◌then◌else◌}
 use Rattle.beat_core.specs.declared.beat.Beat.{Beat}
+use Rattle.beat_core.specs.declared.frame.Timed.{Timed}
 use Rattle.beat_core.specs.declared.answer.Answer.{Answer}
-use Rattle.beat_core.specs.Beats.{bytes_of_beat}
+use Rattle.beat_core.specs.Beats.{bytes_of_beat, beats_of}
 
--- a beat that went over inwards, and the interface number beside it
+-- a beat that went over inwards, and the interface number and the time beside it
 pub record Offered : Type 0 where
   pub beat : Beat
   pub ifindex : ℕ
+  pub time : ℕ
 
-abbrev pub offered : ℕ → Beat → Offered
-offered ifindex b = record { beat = b; ifindex = ifindex }
+abbrev pub offered : ℕ → ℕ → Beat → Offered
+offered ifindex time b = record { beat = b; ifindex = ifindex; time = time }
 
--- a frame that came whole, or so far, with the interface number of its first beat
+-- the beats of a frame, each beside its time
+abbrev pub offers_of : ℕ → Timed → List Offered
+offers_of ifindex p = map (offered ifindex p.time) (beats_of p.frame)
+
+-- a frame that came whole, or so far, with the interface number and the time of its first beat
 pub record Arrival : Type 0 where
   pub ifindex : ℕ
+  pub time : ℕ
   pub frame : List ℕ
 
 -- what has come of a frame after one more beat: before the first beat there is none
 abbrev pub arrived : Option Arrival → Offered → Arrival
-arrived None o = record { ifindex = o.ifindex; frame = bytes_of_beat o.beat }
+arrived None o = record { ifindex = o.ifindex; time = o.time; frame = bytes_of_beat o.beat }
 arrived (Some a) o = record a { frame = a.frame ++ bytes_of_beat o.beat }
 
 -- the frames that came whole, the first of them begun before

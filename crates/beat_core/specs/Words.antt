@@ -1,5 +1,5 @@
 -- Bytes, and words of up to eight of them.
-use Rattle.std.specs.Prelude.{ℕ, zero, suc, ◌+◌, ◌*◌, ◌/◌, ◌%◌, ◌<◌, List, [], ◌∷◌}
+use Rattle.std.specs.Prelude.{ℕ, zero, suc, ◌+◌, ◌*◌, ◌/◌, ◌%◌, List, [], ◌∷◌}
 
 -- the lowest n bytes of a word, the lowest first
 unfoldable pub low_bytes : ℕ → ℕ → List ℕ

@@ -7,16 +7,29 @@ use std::alloc::{AllocError, Global};
 use std::marker::Model;
 
 /// The most bytes that a frame has.
-pub const FRAME_LIMIT: usize = 1536;
+pub const FRAME_LIMIT: usize = 9216;
+
+/// The most beats that a frame has, of eight bytes each.
+pub const BEAT_LIMIT: usize = 1152;
 
 /// What comes with a frame.
 #[derive(Clone, Copy, Debug, PartialEq, Eq)]
 pub struct Meta {
     /// The number of the interface that the frame came in by.
     pub ifindex: u32,
+    /// When it was captured, in nanoseconds.
+    pub time: u64,
 }
 
-/// A frame: 1 to 1,536 bytes. Contracts see it as the list of its bytes.
+/// A frame, and when it was captured.
+#[derive(Debug, Drop)]
+pub struct Timed {
+    pub frame: Frame,
+    /// In nanoseconds.
+    pub time: u64,
+}
+
+/// A frame: 1 to `FRAME_LIMIT` bytes. Contracts see it as the list of its bytes.
 #[derive(Debug, Drop)]
 pub struct Frame {
     bytes: Vec<u8>,

@@ -11,7 +11,7 @@ mod scatter;
 
 pub use answer::{Answer, Bytes};
 pub use beat::{Beat, beats_of};
-pub use frame::{FRAME_LIMIT, Frame, Meta};
+pub use frame::{BEAT_LIMIT, FRAME_LIMIT, Frame, Meta, Timed};
 pub use gather::{Gather, frames_of};
 pub use laws::{beats_and_frames, frames_in_order, ports};
 pub use scatter::Scatter;

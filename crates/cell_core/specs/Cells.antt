@@ -10,7 +10,7 @@ use Rattle.bpf_isa.specs.declared.operation.JumpCode.TheVariants as jump
 use Rattle.xdp_machine.specs.Arithmetic.{low, arithmetic, holds}
 use Rattle.xdp_machine.specs.State.{PacketIn}
 use Rattle.cell_core.specs.declared.operator.Operator.{Operator}
-use Rattle.cell_core.specs.declared.operator.Operator.TheVariants.{Constant, Byte, Length, Ifindex, Wire, Later, Join, SignExtend, Not, And, Or, Xor, Any, Select, Phi, Difference, Quotient, Remainder, Add, Sub, Mul, ShiftLeft, ShiftRight, Equal, Less, LessOrEqual, NonZero, Found, Answer, Pending}
+use Rattle.cell_core.specs.declared.operator.Operator.TheVariants.{Constant, Byte, Length, Ifindex, Time, Wire, Later, Join, SignExtend, Not, And, Or, Xor, Any, Select, Phi, Difference, Quotient, Remainder, Add, Sub, Mul, ShiftLeft, ShiftRight, Equal, Less, LessOrEqual, NonZero, Found, Answer, Pending}
 
 -- a cell, without the places in memory where it lies
 pub record CellView : Type 0 where
@@ -85,6 +85,7 @@ number packet (Constant n) xs = n
 number packet (Byte i) xs = slice_index packet.frame i
 number packet Length xs = length packet.frame
 number packet Ifindex xs = packet.ifindex
+number packet Time xs = packet.time
 number packet Wire xs = slice_index xs 0
 number packet Later xs = slice_index xs 0
 number packet (Join bits) xs = joined bits xs

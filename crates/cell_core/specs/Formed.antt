@@ -8,7 +8,7 @@ use Rattle.xdp_machine.specs.Memory.{bytes_in}
 use Rattle.cell_core.specs.declared.site.Act.{Act}
 use Rattle.cell_core.specs.declared.site.Act.TheVariants as act
 use Rattle.cell_core.specs.declared.operator.Operator.{Operator}
-use Rattle.cell_core.specs.declared.operator.Operator.TheVariants.{Constant, Byte, Length, Ifindex, Wire, Later, Join, SignExtend, Not, Any, Select, Phi, Quotient, Remainder, NonZero, Found, Answer, Pending}
+use Rattle.cell_core.specs.declared.operator.Operator.TheVariants.{Constant, Byte, Length, Ifindex, Time, Wire, Later, Join, SignExtend, Not, Any, Select, Phi, Quotient, Remainder, NonZero, Found, Answer, Pending}
 use Rattle.cell_core.specs.Cells.{site_in, CellView, cell_at}
 use Rattle.cell_core.specs.Sites.{SiteView, ProgramView, site_at}
 
@@ -18,6 +18,7 @@ takes (Constant n) = 0
 takes (Byte i) = 0
 takes Length = 0
 takes Ifindex = 0
+takes Time = 0
 takes Wire = 1
 takes Later = 1
 takes (Join bits) = 0

@@ -25,4 +25,4 @@ program_of p = record {
 }
 
 abbrev pub packet_of : PacketIn → machine.PacketIn
-packet_of packet = record { frame = packet.frame; ifindex = packet.ifindex }
+packet_of packet = record { frame = packet.frame; ifindex = packet.ifindex; time = packet.time }

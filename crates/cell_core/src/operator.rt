@@ -14,6 +14,8 @@ pub enum Operator {
     Length,
     /// The interface that the frame came in by. It takes none.
     Ifindex,
+    /// When the packet was captured, in nanoseconds. It takes none.
+    Time,
     /// Its one input.
     Wire,
     /// Its one input, in the row after it.

@@ -9,6 +9,8 @@ use beat_core::Frame;
 pub struct PacketIn {
     pub frame: Frame,
     pub ifindex: u32,
+    /// When it was captured, in nanoseconds.
+    pub time: u64,
 }
 
 /// A node of the unfolded program: the place of its instruction, the cell that is 1 where it is on the path, and the

@@ -124,6 +124,7 @@ pub fn number(packet: &PacketIn, op: Operator, values: &[u64], ins: &[u32]) -> u
         Operator::Byte(i) => byte(packet.frame.bytes(), i),
         Operator::Length => packet.frame.len() as u64,
         Operator::Ifindex => u64::from(packet.ifindex),
+        Operator::Time => packet.time,
         Operator::Wire | Operator::Later => a,
         Operator::Join(bits) => joined(bits, values, ins),
         Operator::SignExtend(bits) => sext(low(a, bits), bits),

@@ -341,6 +341,22 @@ delete_sound w k m st =
       ),
     ))))
 
+-- a number is answered, and all else stays
+number_leaves : (w : World) (k : Kinds) (m : Machine) (n : ℕ) → Stands w k m → Leaves w k (Some (helpers.answering (is.Number n) m)) Answered
+number_leaves w k m n st = (
+  helpers.answering (is.Number n) m,
+  refl,
+  (
+    next w,
+    (next_later w, refl),
+    later_machine w (next w) (answering (Num Unknown) k) (helpers.answering (is.Number n) m) (next_later w)
+        (answered_machine w k m (Num Unknown) (is.Number n) st.registers st.described (n, refl)),
+  ),
+)
+
+time_sound : (w : World) (k : Kinds) (m : Machine) → Stands w k m → IfOk (called_as m.maps.decls k (row Unused Unused Unused Unused Unused Plainly)) (Leaves w k (helpers.packet_time m))
+time_sound w k m st = number_leaves w k m m.time st
+
 redirected_leaves : (w : World) (k : Kinds) (m : Machine) (a b : ℕ) → Stands w k m → Leaves w k (Some (helpers.redirected a b m)) Answered
 redirected_leaves w k m a zero st = (
   helpers.redirected a zero m,
@@ -356,16 +372,7 @@ redirected_leaves w k m a zero st = (
     target_machine : (t : ℕ) → DescribesMachine w (answering (Num Unknown) k) (helpers.answering (is.Number 4) m)
         → DescribesMachine w (answering (Num Unknown) k) (helpers.answering (is.Number 4) (record m { target = t }))
     target_machine t d = record { registers = d.registers; slots = d.slots; checked = d.checked; frame = d.frame }
-redirected_leaves w k m a (suc b) st = (
-  helpers.redirected a (suc b) m,
-  refl,
-  (
-    next w,
-    (next_later w, refl),
-    later_machine w (next w) (answering (Num Unknown) k) (helpers.redirected a (suc b) m) (next_later w)
-        (answered_machine w k m (Num Unknown) (is.Number 0) st.registers st.described (0, refl)),
-  ),
-)
+redirected_leaves w k m a (suc b) st = number_leaves w k m 0 st
 
 redirect_sound : (w : World) (k : Kinds) (m : Machine) → Stands w k m → IfOk (called_as m.maps.decls k (row Plain Plain Unused Unused Unused Plainly)) (Leaves w k (helpers.redirect m))
 redirect_sound w k m st =
@@ -398,12 +405,12 @@ no_row : (w : World) (k : Kinds) (m : Machine) (id : ℤ) (a b c d e : Bool) →
     → IfOk (called m.maps.decls k id (helper_by a b c d e)) (Leaves w k (helpers.called (cast_unsigned w64 id) m))
 no_row w k m id a b c d e p q r s t = rw (p, q, r, s, t) tt
 
-by_id : (w : World) (k : Kinds) (m : Machine) (id : ℤ) → Stands w k m → id ≢ pos 5 → Sound w k m id
-by_id w k m id st ne =
+by_id : (w : World) (k : Kinds) (m : Machine) (id : ℤ) → Stands w k m → Sound w k m id
+by_id w k m id st =
     by_test (λ t. int_eq id (pos 1) ≡ t → Sound w k m id) (int_eq id (pos 1)) (λ _ h. subst (Sound w k m) (sym (int_is id (pos 1) h)) (lookup_sound w k m st)) (λ _ a.
     by_test (λ t. int_eq id (pos 2) ≡ t → Sound w k m id) (int_eq id (pos 2)) (λ _ h. subst (Sound w k m) (sym (int_is id (pos 2) h)) (update_sound w k m st)) (λ _ b.
     by_test (λ t. int_eq id (pos 3) ≡ t → Sound w k m id) (int_eq id (pos 3)) (λ _ h. subst (Sound w k m) (sym (int_is id (pos 3) h)) (delete_sound w k m st)) (λ _ c.
-    by_test (λ t. int_eq id (pos 5) ≡ t → Sound w k m id) (int_eq id (pos 5)) (λ _ h. absurd (ne (int_is id (pos 5) h))) (λ _ d.
+    by_test (λ t. int_eq id (pos 5) ≡ t → Sound w k m id) (int_eq id (pos 5)) (λ _ h. subst (Sound w k m) (sym (int_is id (pos 5) h)) (time_sound w k m st)) (λ _ d.
     by_test (λ t. int_eq id (pos 23) ≡ t → Sound w k m id) (int_eq id (pos 23)) (λ _ h. subst (Sound w k m) (sym (int_is id (pos 23) h)) (redirect_sound w k m st)) (λ _ e.
     no_row w k m id (int_eq id (pos 1)) (int_eq id (pos 2)) (int_eq id (pos 3)) (int_eq id (pos 5)) (int_eq id (pos 23)) a b c d e)
     refl) refl) refl) refl) refl
@@ -414,11 +421,11 @@ source_is false t h = cc
 
 pub calls_are_sound : CallsAreSound
 unfolding effect_of
-calls_are_sound w k m i st op ne =
+calls_are_sound w k m i st op =
     bind_ok (profiled i k) (λ _. effect_as m.maps.decls k i i.op) (Leaves w k (step.calls m i)) (λ u e.
     let a = bind_passed (in_profile i i.op) (λ _. keeps_stack_end i >>= (λ _. registers_read i k)) u e in
     let call = subst (λ p. in_profile i p ≡ passed) op a.1 in
     let source = source_is (i.src == 0) (known_helper i.imm (helper_of i.imm)) call in
     subst (λ p. IfOk (effect_as m.maps.decls k i p) (Leaves w k (step.calls m i))) (sym op)
     (subst (λ o. IfOk (called m.maps.decls k i.imm (helper_of i.imm)) (Leaves w k o)) (sym (ap (λ b. cond b (helpers.called (cast_unsigned w64 i.imm) m) None) source))
-    (by_id w k m i.imm st ne)))
+    (by_id w k m i.imm st)))

@@ -1,5 +1,5 @@
 -- Steps are sound.
-use Rattle.std.proofs.Common.{◌≡◌, ◌≢◌, ℕ, ◌+◌, ◌⊎◌, inl, ℤ, pos, Bool, true, false, cond, refl, sym, ap, ◌∙◌, subst, Option, Some, None, Result, Ok, Err, IfOk, List}
+use Rattle.std.proofs.Common.{◌≡◌, ℕ, ◌+◌, ◌⊎◌, inl, ℤ, pos, Bool, true, false, cond, refl, sym, ap, ◌∙◌, subst, Option, Some, None, Result, Ok, Err, IfOk, List}
 use Rattle.bpf_isa.specs.declared.operation.Width.{Width}
 use Rattle.bpf_isa.specs.declared.operation.Width.TheVariants.{Bits32, Bits64}
 use Rattle.bpf_isa.specs.declared.operation.Op.{Op}
@@ -146,18 +146,18 @@ along code w k m i wd e same goes st allowed =
     }
 
 by_operation : (code : machine.Code) (w : World) (k : Kinds) (m : Machine) (i : Insn) (op : Op) (e : Effect) → i.op ≡ op → step.step code m ≡ step.outcome code m i op
-    → Stands w k m → IsInsn i → (i.op ≡ Call → i.imm ≢ pos 5) → effect_of m.maps.decls k i ≡ Ok e → GoesOn code w k m i op
+    → Stands w k m → IsInsn i → effect_of m.maps.decls k i ≡ Ok e → GoesOn code w k m i op
 unfolding effect_of
-by_operation code w k m i (Alu wd c s) e same goes st legal time allowed = written code w k m i (Alu wd c s) e same allowed refl goes refl (registers_are_sound code.refs w k m i st (ap writes_destination same))
-by_operation code w k m i (Neg wd) e same goes st legal time allowed = written code w k m i (Neg wd) e same allowed refl goes refl (registers_are_sound code.refs w k m i st (ap writes_destination same))
-by_operation code w k m i (EndOp s) e same goes st legal time allowed = written code w k m i (EndOp s) e same allowed refl goes refl (registers_are_sound code.refs w k m i st (ap writes_destination same))
-by_operation code w k m i Swap e same goes st legal time allowed = written code w k m i Swap e same allowed refl goes refl (registers_are_sound code.refs w k m i st (ap writes_destination same))
-by_operation code w k m i LoadImm e same goes st legal time allowed = written code w k m i LoadImm e same allowed refl goes refl (registers_are_sound code.refs w k m i st (ap writes_destination same))
-by_operation code w k m i (Load size) e same goes st legal time allowed = written code w k m i (Load size) e same allowed refl goes refl (registers_are_sound code.refs w k m i st (ap writes_destination same))
-by_operation code w k m i (LoadSigned size) e same goes st legal time allowed = written code w k m i (LoadSigned size) e same allowed refl goes refl (registers_are_sound code.refs w k m i st (ap writes_destination same))
-by_operation code w k m i (StoreImm size) e same goes st legal time allowed = written code w k m i (StoreImm size) e same allowed refl goes refl (stores_are_sound code.refs w k m i st (ap is_store same))
-by_operation code w k m i (Store size) e same goes st legal time allowed = written code w k m i (Store size) e same allowed refl goes refl (stores_are_sound code.refs w k m i st (ap is_store same))
-by_operation code w k m i (Atomic size) e same goes st legal time allowed =
+by_operation code w k m i (Alu wd c s) e same goes st legal allowed = written code w k m i (Alu wd c s) e same allowed refl goes refl (registers_are_sound code.refs w k m i st (ap writes_destination same))
+by_operation code w k m i (Neg wd) e same goes st legal allowed = written code w k m i (Neg wd) e same allowed refl goes refl (registers_are_sound code.refs w k m i st (ap writes_destination same))
+by_operation code w k m i (EndOp s) e same goes st legal allowed = written code w k m i (EndOp s) e same allowed refl goes refl (registers_are_sound code.refs w k m i st (ap writes_destination same))
+by_operation code w k m i Swap e same goes st legal allowed = written code w k m i Swap e same allowed refl goes refl (registers_are_sound code.refs w k m i st (ap writes_destination same))
+by_operation code w k m i LoadImm e same goes st legal allowed = written code w k m i LoadImm e same allowed refl goes refl (registers_are_sound code.refs w k m i st (ap writes_destination same))
+by_operation code w k m i (Load size) e same goes st legal allowed = written code w k m i (Load size) e same allowed refl goes refl (registers_are_sound code.refs w k m i st (ap writes_destination same))
+by_operation code w k m i (LoadSigned size) e same goes st legal allowed = written code w k m i (LoadSigned size) e same allowed refl goes refl (registers_are_sound code.refs w k m i st (ap writes_destination same))
+by_operation code w k m i (StoreImm size) e same goes st legal allowed = written code w k m i (StoreImm size) e same allowed refl goes refl (stores_are_sound code.refs w k m i st (ap is_store same))
+by_operation code w k m i (Store size) e same goes st legal allowed = written code w k m i (Store size) e same allowed refl goes refl (stores_are_sound code.refs w k m i st (ap is_store same))
+by_operation code w k m i (Atomic size) e same goes st legal allowed =
     let P : Effect → Type 0 = λ e. (n : Machine) × (step.effect code.refs m i (Atomic size) ≡ Some n) × DescribesMachine w (changed w.node false false k e) n in
     let g = of_effect P (effect_of m.maps.decls k i) e allowed (atomics_are_sound w k m i size st legal same) in
     let plain = of_effect Plain (effect_of m.maps.decls k i) e allowed (plain_effect m.maps.decls k i (Atomic size) same
@@ -165,13 +165,13 @@ by_operation code w k m i (Atomic size) e same goes st legal time allowed =
     straight code w k m i (Atomic size) e allowed refl goes refl g.0 g.1 (next w) (next_later w, refl)
     (subst (λ x. DescribesMachine (next w) x g.0) (same_change w.node (at_reference code.refs m) false k e plain)
     (later_machine w (next w) (changed w.node false false k e) g.0 (next_later w) g.2))
-by_operation code w k m i Call e same goes st legal time allowed =
+by_operation code w k m i Call e same goes st legal allowed =
     let P : Effect → Type 0 = λ e. (n : Machine) × (step.calls m i ≡ Some n) × ((v : World) × IsNext w v × DescribesMachine v (changed w.node false false k e) n) in
-    let g = of_effect P (effect_of m.maps.decls k i) e allowed (calls_are_sound w k m i st same (time same)) in
+    let g = of_effect P (effect_of m.maps.decls k i) e allowed (calls_are_sound w k m i st same) in
     let plain = of_effect Plain (effect_of m.maps.decls k i) e allowed (plain_effect m.maps.decls k i Call same (plain_call m.maps.decls k i.imm (helper_of i.imm))) in
     straight code w k m i Call e allowed refl goes refl g.0 g.1 g.2.0 g.2.1
     (subst (λ x. DescribesMachine g.2.0 x g.0) (same_change w.node (at_reference code.refs m) false k e plain) g.2.2)
-by_operation code w k m i (Jump wd c s) e same goes st legal time allowed =
+by_operation code w k m i (Jump wd c s) e same goes st legal allowed =
     let o = compared wd c (machine.register m.registers i.dst) (step.operand m.registers i s) in
     let P : Effect → Type 0 = λ e. (taken : Bool) × (o ≡ Some taken) × ((decided_as k i i.op ≡ None) ⊎ (decided_as k i i.op ≡ Some taken)) × DescribesMachine w (changed w.node false taken k e) m in
     let g = of_effect P (effect_of m.maps.decls k i) e allowed (conditions_are_sound w k m i wd c s st same) in
@@ -188,25 +188,25 @@ by_operation code w k m i (Jump wd c s) e same goes st legal time allowed =
           (subst (λ x. DescribesMachine (next w) x m) (same_change w.node (at_reference code.refs m) g.0 k e plain)
           (later_machine w (next w) (changed w.node false g.0 k e) m (next_later w) g.3));
     }
-by_operation code w k m i (Ja Bits64) e same goes st legal time allowed = along code w k m i Bits64 e same goes st allowed
-by_operation code w k m i (Ja Bits32) e same goes st legal time allowed = along code w k m i Bits32 e same goes st allowed
-by_operation code w k m i Exit e same goes st legal time allowed =
+by_operation code w k m i (Ja Bits64) e same goes st legal allowed = along code w k m i Bits64 e same goes st allowed
+by_operation code w k m i (Ja Bits32) e same goes st legal allowed = along code w k m i Bits32 e same goes st allowed
+by_operation code w k m i Exit e same goes st legal allowed =
     let b = bind_passed (profiled i k) (λ _. effect_as m.maps.decls k i i.op) e allowed in
     let c = bind_passed (number_in (register k 0)) (λ _. Ok Nothing) e (subst (λ p. effect_as m.maps.decls k i p ≡ Ok e) same b.2) in
     let v = numbered w m.maps (register k 0) c.0 (machine.register m.registers 0) c.1 (st.described.registers 0) in
     (low 32 v.0, goes ∙ ap (λ x. step.exits (is.number_in x)) (v.1))
-by_operation code w k m i (Abs size) e same goes st legal time allowed =
+by_operation code w k m i (Abs size) e same goes st legal allowed =
     let b = bind_passed (profiled i k) (λ _. effect_as m.maps.decls k i i.op) e allowed in
     let a = bind_passed (in_profile i i.op) (λ _. keeps_stack_end i >>= (λ _. registers_read i k)) b.0 b.1 in
     let no = subst (λ p. in_profile i p ≡ passed) same a.1 in
     absurd (cc)
-by_operation code w k m i (Ind size) e same goes st legal time allowed =
+by_operation code w k m i (Ind size) e same goes st legal allowed =
     let b = bind_passed (profiled i k) (λ _. effect_as m.maps.decls k i i.op) e allowed in
     let a = bind_passed (in_profile i i.op) (λ _. keeps_stack_end i >>= (λ _. registers_read i k)) b.0 b.1 in
     let no = subst (λ p. in_profile i p ≡ passed) same a.1 in
     absurd (cc)
 
 pub steps_are_sound : StepsAreSound
-steps_are_sound code w k m i st legal at time allowed =
+steps_are_sound code w k m i st legal at allowed =
     let a = allowed_effect (effect_of m.maps.decls k i) allowed in
-    by_operation code w k m i i.op a.0 refl (ap (step.outcome_at code m) at) st legal time (a.1)
+    by_operation code w k m i i.op a.0 refl (ap (step.outcome_at code m) at) st legal (a.1)

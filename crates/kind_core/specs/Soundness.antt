@@ -1,5 +1,5 @@
 -- Kinds are sound: where an instruction is allowed, the machine has a step, and the kinds behind it describe what the step leaves.
-use Rattle.std.specs.Prelude.{ℕ, ℤ, pos, ◌+◌, ◌+ℤ◌, if◌then◌else◌, ◌<◌, ◌≢◌, ◌≡◌, ◌==◌, ◌≤◌, ◌⊎◌, Bool, true, false, Some, None, IfOk, List, length}
+use Rattle.std.specs.Prelude.{ℕ, ℤ, pos, ◌+◌, ◌+ℤ◌, if◌then◌else◌, ◌<◌, ◌≡◌, ◌==◌, ◌≤◌, ◌⊎◌, Bool, true, false, Some, None, IfOk, List, length}
 use Rattle.std.specs.List.{list_any}
 use Rattle.bpf_isa.specs.declared.operation.Src.{Src}
 use Rattle.bpf_isa.specs.declared.operation.Size.{Size}
@@ -74,10 +74,10 @@ IsNext w v = IsLater w v × (v.node ≡ w.node + 1)
 abbrev pub LaterDescribes : Type 0
 LaterDescribes = (w v : World) (k : Kinds) (m : Machine) → IsLater w v → DescribesMachine w k m → DescribesMachine v k m
 
--- Calls of the helpers that the machine has.
+-- Calls of helpers.
 abbrev pub CallsAreSound : Type 0
 CallsAreSound = (w : World) (k : Kinds) (m : Machine) (i : Insn)
-    → Stands w k m → i.op ≡ Call → i.imm ≢ pos 5
+    → Stands w k m → i.op ≡ Call
     → IfOk (effect_of m.maps.decls k i) (λ e. (n : Machine) × (step.calls m i ≡ Some n) × ((v : World) × IsNext w v × DescribesMachine v (changed w.node false false k e) n))
 
 -- an edge that is not absent
@@ -112,9 +112,8 @@ abbrev pub GoesOn : machine.Code → World → Kinds → Machine → Insn → Op
 GoesOn code w k m i Exit = (verdict : ℕ) × (step.step code m ≡ step.Ends verdict)
 GoesOn code w k m i op = Leads code w k m i op
 
--- So a machine that kinds describe at an allowed instruction is not stuck there: it ends, or goes along an edge. (The helper that asks
--- for the time has no step yet.)
+-- So a machine that kinds describe at an allowed instruction is not stuck there: it ends, or goes along an edge.
 abbrev pub StepsAreSound : Type 0
 StepsAreSound = (code : machine.Code) (w : World) (k : Kinds) (m : Machine) (i : Insn)
-    → Stands w k m → IsInsn i → insn_at code.insns m.place ≡ Some i → (i.op ≡ Call → i.imm ≢ pos 5) → verdict (effect_of m.maps.decls k i) ≡ passed
+    → Stands w k m → IsInsn i → insn_at code.insns m.place ≡ Some i → verdict (effect_of m.maps.decls k i) ≡ passed
     → GoesOn code w k m i i.op

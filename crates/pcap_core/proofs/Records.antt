@@ -12,14 +12,15 @@ use Rattle.pcap_core.specs.Reading.{is_length, packet_at, record_at}
 use Rattle.pcap_core.proofs.Numbers.{wide4}
 use Rattle.pcap_core.proofs.Parts.{behind, number_behind, four_parts, five_before}
 use Rattle.pcap_core.proofs.Heads.{either}
+use Rattle.beat_core.specs.declared.frame.TheConstants.{FRAME_LIMIT}
 use Rattle.list_laws.specs.Bytes.{IsBytes}
 use Rattle.list_laws.proofs.ByteLaws.{IsBytes-drop, IsBytes-take}
 
 -- ---- the cases of a record
 
 is_length-true : (n : ℕ) → is_length n ≡ true → IsLength n
-is_length-true n h = both (nat_le 1 n) (nat_le n 1536) h (leb-true 1 n) (leb-true n 1536) where
-  both : (a b : Bool) → (a && b) ≡ true → (a ≡ true → 1 ≤ n) → (b ≡ true → n ≤ 1536) → IsLength n
+is_length-true n h = both (nat_le 1 n) (nat_le n FRAME_LIMIT) h (leb-true 1 n) (leb-true n FRAME_LIMIT) where
+  both : (a b : Bool) → (a && b) ≡ true → (a ≡ true → 1 ≤ n) → (b ≡ true → n ≤ FRAME_LIMIT) → IsLength n
   both true true h f g = (f refl, g refl)
   both true false h f g = absurd cc
   both false b h f g = absurd cc
@@ -27,7 +28,7 @@ is_length-true n h = both (nat_le 1 n) (nat_le n 1536) h (leb-true 1 n) (leb-tru
 IsLength-is_length : (n : ℕ) → IsLength n → is_length n ≡ true
 IsLength-is_length n h =
     let low : nat_le 1 n ≡ true = le-leb 1 n h.0 in
-    let high : nat_le n 1536 ≡ true = le-leb n 1536 h.1 in
+    let high : nat_le n FRAME_LIMIT ≡ true = le-leb n FRAME_LIMIT h.1 in
     rw (low, high) refl
 
 is_length-false : (n : ℕ) → is_length n ≡ false → ¬ IsLength n

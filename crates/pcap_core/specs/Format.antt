@@ -5,6 +5,7 @@ use Rattle.pcap_core.specs.declared.order.Order.{Order}
 use Rattle.pcap_core.specs.declared.error.PcapError.{PcapError}
 use Rattle.pcap_core.specs.declared.error.PcapError.TheVariants.{Short, Magic, Version, Link, Frame}
 use Rattle.pcap_core.specs.Number.{number, spelled}
+use Rattle.beat_core.specs.declared.frame.TheConstants.{FRAME_LIMIT}
 use Rattle.list_laws.specs.Bytes.{IsBytes}
 
 -- ---- the header
@@ -47,7 +48,7 @@ pub record Record : Type 0 where
 
 -- how many bytes a record may hold
 abbrev pub IsLength : ℕ → Type 0
-IsLength n = (1 ≤ n) × (n ≤ 1536)
+IsLength n = (1 ≤ n) × (n ≤ FRAME_LIMIT)
 
 pub record IsRecord (r : Record) : Type 0 where
   pub seconds : r.packet.seconds < 2 ^ 32

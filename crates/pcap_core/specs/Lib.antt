@@ -2,4 +2,5 @@ pub mod Number
 pub mod Format
 pub mod Reading
 pub mod Next
+pub mod Time
 pub mod Laws

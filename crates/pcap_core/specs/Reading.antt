@@ -4,6 +4,7 @@ use Rattle.pcap_core.specs.declared.order.Order.{Order}
 use Rattle.pcap_core.specs.declared.order.Order.TheVariants.{Little, Big}
 use Rattle.pcap_core.specs.declared.error.PcapError.{PcapError}
 use Rattle.pcap_core.specs.declared.error.PcapError.TheVariants.{Short, Magic, Version, Link, Frame}
+use Rattle.beat_core.specs.declared.frame.TheConstants.{FRAME_LIMIT}
 use Rattle.pcap_core.specs.Number.{number}
 use Rattle.pcap_core.specs.Format.{Packet, Content, announced}
 
@@ -32,7 +33,7 @@ header_of bytes = if nat_lt (length bytes) 24 then Err (Short 0) else tested (or
 -- ---- a record
 
 abbrev pub is_length : ℕ → Bool
-is_length n = nat_le 1 n && nat_le n 1536
+is_length n = nat_le 1 n && nat_le n FRAME_LIMIT
 
 abbrev pub packet_at : Order → ℕ → List ℕ → Packet
 packet_at order n rest =

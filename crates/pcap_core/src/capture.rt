@@ -1,14 +1,17 @@
 //! A capture, packet by packet.
 
 ghost use Rattle.std.specs.Prelude.{◌≡◌, ℕ, ◌<◌, ◌^◌, length, MatchResult, IfOk, Ok};
-ghost use Rattle.pcap_core.specs.Format.{IsContent, IsHeaderFault, IsCapture};
+ghost use Rattle.pcap_core.specs.Format.{IsLength, IsContent, IsHeaderFault, IsCapture};
 ghost use Rattle.pcap_core.specs.Reading.{content_of, count_of, counted, IsReadWhole};
-ghost use Rattle.pcap_core.specs.Next.{GivesNext, GivesFrame};
+ghost use Rattle.pcap_core.specs.Next.{GivesNext, GivesFrame, seen};
+ghost use Rattle.pcap_core.specs.Time.{time_of, timed_of};
 
 use crate::error::PcapError;
-use crate::header::{HEADER_BYTES, header_of};
+use crate::header::{HEADER_BYTES, NANOSECONDS, header_of};
 use crate::order::Order;
 use crate::record::{NUMBERS_BYTES, Rec, record_at};
+use beat_core::{Frame, Timed};
+use std::alloc::{AllocError, Global};
 use std::marker::Model;
 
 /// A capture that is read packet by packet, out of its bytes. Contracts see its magic number, the packets
@@ -59,10 +62,35 @@ impl<'a> Capture<'a> {
         self.magic
     }
 
+    /// When a packet of this capture was captured, in nanoseconds.
+    pub fn time(&self, packet: &Rec) -> u64
+        ensures time { result ≡ time_of self.now.magic (seen packet.now) }
+        ensures range { result < 2 ^ 63 }
+    {
+        let packet = *packet;
+        let fraction = if self.magic == NANOSECONDS {
+            packet.fraction as u64
+        } else {
+            packet.fraction as u64 * 1_000
+        };
+        packet.seconds as u64 * 1_000_000_000 + fraction
+    }
+
+    /// A packet of this capture as a frame with its time.
+    pub fn timed(&self, alloc: Global, packet: &Rec) -> Result<Timed, AllocError>
+        requires { IsLength (length packet.now.bytes.now) }
+        ensures { IfOk result (λ timed. timed ≡ timed_of self.now.magic (seen packet.now)) }
+    {
+        Ok(Timed {
+            frame: Frame::of(alloc, packet.bytes)?,
+            time: self.time(packet),
+        })
+    }
+
     /// The next packet, or none at the end. A fault comes again at each further call.
     pub fn next(&mut self) -> Result<Option<Rec<'a>>, PcapError>
         ensures next { GivesNext result self.old self.new }
-        // What is given has 1 to 1,536 bytes.
+        // What is given has the length of a frame.
         ensures frame { GivesFrame result }
     {
         let rest = &self.bytes[self.at..];

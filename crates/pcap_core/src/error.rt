@@ -18,7 +18,7 @@ pub enum PcapError {
     /// The link type is `n`, and not 1.
     #[error("link type {n}")]
     Link { n: u32 },
-    /// Record `index`, from 0, has a captured length of 0 or above 1,536 bytes.
+    /// Record `index`, from 0, has a captured length of 0 or above the bound on frames.
     #[error("record {index} has {length} bytes")]
     Frame { index: u64, length: u32 },
 }

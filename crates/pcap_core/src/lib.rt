@@ -14,4 +14,4 @@ pub use error::PcapError;
 pub use header::{MICROSECONDS, NANOSECONDS, write_header};
 pub use laws::one_reading;
 pub use order::Order;
-pub use record::{FRAME_LIMIT, Rec, write_record};
+pub use record::{Rec, write_record};

@@ -9,11 +9,9 @@ ghost use Rattle.pcap_core.specs.declared.order.Order.TheVariants.{Little};
 
 use crate::error::PcapError;
 use crate::order::Order;
+use beat_core::FRAME_LIMIT;
 use byteorder::{ByteOrder, LittleEndian};
 use std::alloc::AllocError;
-
-/// The most bytes that a record's frame has.
-pub const FRAME_LIMIT: u32 = 1536;
 
 /// How many bytes the numbers of a record take.
 pub(crate) const NUMBERS_BYTES: usize = 16;
@@ -44,7 +42,7 @@ pub(crate) fn record_at<'a>(
         return Err(PcapError::Short { at });
     }
     let length = order.u32_at(&rest[8..]);
-    if length < 1 || FRAME_LIMIT < length {
+    if length < 1 || FRAME_LIMIT < length as usize {
         return Err(PcapError::Frame { index, length });
     }
     let end = NUMBERS_BYTES + length as usize;

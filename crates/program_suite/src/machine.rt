@@ -13,7 +13,7 @@ use xdp_maps::decl::MapDecl;
 use xdp_object::Program;
 use xdp_seq::{Ended, SeqError, SeqPlan, run_packet};
 
-/// The program of a case, with a hole or without, its references to maps, and the interface that frames come in by.
+/// The program of a case, with a hole or without, its references to maps, and with what frames come: the interface and the time.
 #[derive(Drop)]
 pub(crate) struct Machine {
     alloc: Global,
@@ -21,6 +21,7 @@ pub(crate) struct Machine {
     behind: Option<Vec<u8>>,
     refs: Vec<u32>,
     ifindex: u32,
+    time: u64,
 }
 
 impl Machine {
@@ -32,6 +33,7 @@ impl Machine {
             behind: None,
             refs: Vec::new(alloc),
             ifindex: 1,
+            time: 0,
         }
     }
 
@@ -45,6 +47,7 @@ impl Machine {
             }
             "refs" => self.refer(rest)?,
             "interface" => self.ifindex = number_32(rest)?,
+            "time" => self.time = number(rest)?,
             _ => return Ok(false),
         }
         Ok(true)
@@ -127,6 +130,7 @@ impl Machine {
         let mut plan = SeqPlan::open(self.alloc, &program)?;
         let meta = Meta {
             ifindex: self.ifindex,
+            time: self.time,
         };
         match run_packet(&mut plan, &mut tables.maps, frame, meta) {
             Ok(Ended { verdict, target }) => Ok(format!(in self.alloc;
@@ -159,7 +163,7 @@ impl Machine {
 fn frame_of(alloc: Global, bytes: &[u8]) -> Result<Frame> {
     ensure!(
         1 <= bytes.len() && bytes.len() <= FRAME_LIMIT,
-        "1 to 1536 bytes"
+        "1 to {FRAME_LIMIT} bytes"
     );
     Ok(Frame::of(alloc, bytes)?)
 }

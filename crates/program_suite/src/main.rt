@@ -15,7 +15,7 @@
 //!
 //! Lines that ask nothing:
 //!
-//!     case TITLE                      prints `== TITLE`: no maps, no program, and the interface 1, but names stay
+//!     case TITLE                      prints `== TITLE`: no maps, no program, the interface 1 and the time 0, but names stay
 //!     bytes NAME BYTES                gives bytes a name
 //!     more BYTES                      adds to the bytes that were named last
 //!     object NAME FUNCTION CODE       gives the object of a function a name; CODE is a BYTE-WORD
@@ -26,6 +26,7 @@
 //!     hole                            leaves a hole there, the only one
 //!     refs PLACE..                    adds places of the program that refer to a map
 //!     interface NUMBER                frames come in by this interface
+//!     time NUMBER                     they come at this time, in nanoseconds
 //!
 //! Of any bytes:
 //!

@@ -24,7 +24,7 @@ use Rattle.xdp_machine.specs.Values.{Value, Unset, Number, Packet, Stack, Entry,
 use Rattle.xdp_machine.specs.State.{Code, Machine, register, put, with_registers, begins}
 use Rattle.xdp_machine.specs.Memory.{bytes_in, inside, aligned, in_stack, to_slot, to_frame, to_stack, to_entry, number_stored, stored}
 use Rattle.xdp_machine.specs.Atomics.{fetches, change_of, taking, changed_entry, changed_at, atomic}
-use Rattle.xdp_machine.specs.Helpers.{region, answering, entry_or_null, lookup, update, delete, redirected, redirect, called}
+use Rattle.xdp_machine.specs.Helpers.{region, answering, entry_or_null, lookup, update, delete, redirected, redirect, packet_time, called}
 use Rattle.xdp_machine.specs.Step.{Goes, NoCase, goes_to, goes_on, jumps, exits, assigned, renumbered, alu, effect, outcome, outcome_at}
 use Rattle.xdp_machine.specs.MachineLaws.{map_under, map_named_as, ChangesOnly, StepsChangeOnly}
 
@@ -70,6 +70,7 @@ with_registers-changes named m new None keeps e = absurd (cc)
 with_registers-changes named m new (Some r) keeps e =
     subst (ChangesOnly named m) (some_inj (record m { registers = r }) new e) (record {
       ifindex = refl;
+      time = refl;
       stack_end = (keeps r refl).stack_end;
       registers = (keeps r refl).len;
       stack = refl;
@@ -124,12 +125,13 @@ changed_entry-keeps maps q key o size x found e =
 
 -- a machine is as it was
 same : (named : Option ℕ) (m : Machine) → ChangesOnly named m m
-same named m = record { ifindex = refl; stack_end = refl; registers = refl; stack = refl; frame = refl; decls = refl; maps = λ q ne. refl }
+same named m = record { ifindex = refl; time = refl; stack_end = refl; registers = refl; stack = refl; frame = refl; decls = refl; maps = λ q ne. refl }
 
 -- the same machine with other maps, but for one as they were
 other_maps : (q : ℕ) (m : Machine) (maps : MapState) → KeepsOthers q m.maps maps → ChangesOnly (Some q) m (record m { maps = maps })
 other_maps q m maps h = record {
   ifindex = refl;
+  time = refl;
   stack_end = refl;
   registers = refl;
   stack = refl;
@@ -144,6 +146,7 @@ stored-changes m (Packet o) offset size v new e =
     bind_inv (number_in v) (to_frame m.frame (o +ℤ offset) size) frame f (λ n _ k.
     subst (ChangesOnly None m) (some_inj (record m { frame = frame }) new h) (record {
       ifindex = refl;
+      time = refl;
       stack_end = refl;
       registers = refl;
       stack = refl;
@@ -155,6 +158,7 @@ stored-changes m (Stack o) offset size v new e =
     bind_inv (to_stack m.stack (o +ℤ offset) size v) (λ stack. Some (record m { stack = stack })) new e (λ stack f h.
     subst (ChangesOnly None m) (some_inj (record m { stack = stack }) new h) (record {
       ifindex = refl;
+      time = refl;
       stack_end = refl;
       registers = refl;
       stack = to_stack-length m.stack (o +ℤ offset) size v stack f;
@@ -183,6 +187,7 @@ and_registers named m other new None before keeps e = absurd (cc)
 and_registers named m other new (Some r) before keeps e =
     subst (ChangesOnly named m) (some_inj (record other { registers = r }) new e) (record {
       ifindex = before.ifindex;
+      time = before.time;
       stack_end = (keeps r refl).stack_end;
       registers = (keeps r refl).len;
       stack = before.stack;
@@ -217,6 +222,7 @@ answering-changes named m other new v len regs before e =
     let keeps : KeepsRegisters m.registers (answering v other).registers = subst (λ rs. KeepsRegisters m.registers (v ∷ Unset ∷ Unset ∷ Unset ∷ Unset ∷ Unset ∷ drop 6 rs)) (sym regs) (answer-keeps v m.registers len) in
     subst (ChangesOnly named m) (some_inj (answering v other) new e) (record {
       ifindex = before.ifindex;
+      time = before.time;
       stack_end = keeps.stack_end;
       registers = keeps.len;
       stack = before.stack;
@@ -257,7 +263,7 @@ delete-changes m new len e =
 
 redirected-changes : (named : Option ℕ) (ifindex flags : ℕ) (m new : Machine) → length m.registers ≡ 11 → Some (redirected ifindex flags m) ≡ Some new → ChangesOnly named m new
 redirected-changes named ifindex zero m new len e =
-    let target_alone : ChangesOnly named m (record m { target = ifindex % 2 ^ 32 }) = record { ifindex = refl; stack_end = refl; registers = refl; stack = refl; frame = refl; decls = refl; maps = λ q ne. refl } in
+    let target_alone : ChangesOnly named m (record m { target = ifindex % 2 ^ 32 }) = record { ifindex = refl; time = refl; stack_end = refl; registers = refl; stack = refl; frame = refl; decls = refl; maps = λ q ne. refl } in
     answering-changes named m (record m { target = ifindex % 2 ^ 32 }) new (Number 4) len refl target_alone e
 redirected-changes named ifindex (suc flags) m new len e = answering-changes named m m new (Number 0) len refl (same named m) e
 
@@ -276,7 +282,8 @@ called-changes id m new len e =
     chosen (id == 1) (lookup m) _ new e (lookup-changes m new len) (λ h.
     chosen (id == 2) (update m) _ new h (update-changes m new len) (λ k.
     chosen (id == 3) (delete m) _ new k (delete-changes m new len) (λ l.
-    chosen (id == 23) (redirect m) None new l (redirect-changes _ m new len) (λ n. absurd (cc)))))
+    chosen (id == 5) (packet_time m) _ new l (answering-changes _ m m new (Number m.time) len refl (same _ m)) (λ n.
+    chosen (id == 23) (redirect m) None new n (redirect-changes _ m new len) (λ o. absurd (cc))))))
 
 -- what an instruction that does not jump changes
 effect-changes : (refs : List ℕ) (m : Machine) (i : Insn) (op : Op) (new : Machine) → length m.registers ≡ 11 → effect refs m i op ≡ Some new → ChangesOnly (map_named_as m i op) m new
@@ -303,6 +310,7 @@ goes_to-changes named insns (pos to) m other new before e = by_test (begins insn
     by_test false h = absurd (cc)
     by_test true h = subst (ChangesOnly named m) (goes_inj (record other { place = to }) new h) (record {
       ifindex = before.ifindex;
+      time = before.time;
       stack_end = before.stack_end;
       registers = before.registers;
       stack = before.stack;

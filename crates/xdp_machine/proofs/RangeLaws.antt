@@ -43,7 +43,7 @@ use Rattle.xdp_machine.specs.Arithmetic.{low}
 use Rattle.xdp_machine.specs.Pointers.{at_offset, moved, sum, difference, copied, computed, combined}
 use Rattle.xdp_machine.specs.Memory.{bytes_in, inside, aligned, in_stack, from_slot, from_entry, loaded, from_context, loaded_plain, loaded_signed, to_frame, underlying, to_slot, to_stack, to_entry, stored}
 use Rattle.xdp_machine.specs.Atomics.{fetches, change_of, taking, changed_entry, changed_at}
-use Rattle.xdp_machine.specs.Helpers.{region, answering, entry_or_null, lookup, update, delete, redirected, redirect, called}
+use Rattle.xdp_machine.specs.Helpers.{region, answering, entry_or_null, lookup, update, delete, redirected, redirect, packet_time, called}
 use Rattle.xdp_machine.specs.Step.{Goes, NoCase, goes_to, goes_on, jumps, operand, assigned, renumbered, constant, alu, effect, outcome, outcome_at, Outcome, Ends, exits, step}
 use Rattle.xdp_machine.specs.Runs.{Progress, Ended, Leaves, leaves, run, then_on}
 use Rattle.xdp_machine.specs.Touched.{after, operation_at}
@@ -208,10 +208,11 @@ record Own (m new : Machine) : Type 0 where
   frame : AreBytes new.frame
   frame_len : length new.frame ≡ length m.frame
   ifindex : new.ifindex ≡ m.ifindex
+  time : new.time ≡ m.time
   target : new.target < 2 ^ 32
 
 own : (m : Machine) → IsInRange m → Own m m
-own m range = record { registers = range.registers; stack = range.stack; frame = range.frame; frame_len = refl; ifindex = refl; target = range.target }
+own m range = record { registers = range.registers; stack = range.stack; frame = range.frame; frame_len = refl; ifindex = refl; time = refl; target = range.target }
 
 -- other registers, on top of other changes
 registers_own : (m other new : Machine) (rs : Option (List Value)) → Own m other → ((r : List Value) → rs ≡ Some r → All (InRange m.maps.decls) r) → with_registers other rs ≡ Some new → Own m new
@@ -223,12 +224,13 @@ registers_own m other new (Some r) before range e =
       frame = before.frame;
       frame_len = before.frame_len;
       ifindex = before.ifindex;
+      time = before.time;
       target = before.target;
     })
 
 -- other maps
 maps_own : (m : Machine) (s : MapState) → IsInRange m → Own m (record m { maps = s })
-maps_own m s range = record { registers = range.registers; stack = range.stack; frame = range.frame; frame_len = refl; ifindex = refl; target = range.target }
+maps_own m s range = record { registers = range.registers; stack = range.stack; frame = range.frame; frame_len = refl; ifindex = refl; time = refl; target = range.target }
 
 put_slot_in_range : (decls : List MapDecl) (size : Size) (a : ℕ) (old v slot : Value) → InRange decls v → to_slot size a old v ≡ Some slot → InRange decls slot
 put_slot_in_range decls Dw a old v slot range e = held_in_range decls v slot range e
@@ -248,6 +250,7 @@ stored_own m (Packet o) offset size v new range fits e =
       frame = subst AreBytes (some_inj _ frame l) (bytes_patched m.frame a (little_bytes (bytes_in size) n) range.frame (IsBytes-little_bytes (bytes_in size) n).bytes_fit);
       frame_len = to_frame-length m.frame (o +ℤ offset) size n frame k;
       ifindex = refl;
+      time = refl;
       target = range.target;
     }))))
 stored_own m (Stack o) offset size v new range fits e =
@@ -261,6 +264,7 @@ stored_own m (Stack o) offset size v new range fits e =
       frame = range.frame;
       frame_len = refl;
       ifindex = refl;
+      time = refl;
       target = range.target;
     }))))
 stored_own m (Entry q key o) offset size v new range fits e =
@@ -312,6 +316,7 @@ answering_own m other new v before range e =
       frame = before.frame;
       frame_len = before.frame_len;
       ifindex = before.ifindex;
+      time = before.time;
       target = before.target;
     })
 
@@ -357,6 +362,7 @@ redirected_own m new ifindex zero range e =
       frame = range.frame;
       frame_len = refl;
       ifindex = refl;
+      time = refl;
       target = mod_below ifindex (2 ^ 32) (omega arith);
     }) (omega arith) e
 redirected_own m new ifindex (suc flags) range e = answering_own m m new (Number 0) (own m range) (omega arith) e
@@ -371,7 +377,8 @@ called_own id m new range e =
     chosen (id == 1) (lookup m) _ new e (lookup_own m new range) (λ h.
     chosen (id == 2) (update m) _ new h (update_own m new range) (λ k.
     chosen (id == 3) (delete m) _ new k (delete_own m new range) (λ l.
-    chosen (id == 23) (redirect m) None new l (redirect_own m new range) (λ n. absurd (cc)))))
+    chosen (id == 5) (packet_time m) _ new l (answering_own m m new (Number m.time) (own m range) range.time) (λ n.
+    chosen (id == 23) (redirect m) None new n (redirect_own m new range) (λ o. absurd (cc))))))
 
 -- ---- steps
 
@@ -409,6 +416,7 @@ goes_to_own insns (pos to) m other new before e = by_test (begins insns to) e
       frame = before.frame;
       frame_len = before.frame_len;
       ifindex = before.ifindex;
+      time = before.time;
       target = before.target;
     })
 
@@ -465,6 +473,7 @@ steps_keep_ranges code old new all range e =
       frame = kept.frame;
       frame_short = omega (arith, range.frame_short, kept.frame_len);
       ifindex = omega (arith, range.ifindex, kept.ifindex);
+      time = omega (arith, range.time, kept.time);
       target = kept.target;
       maps = subst IsSound (sym maps) (after_sound (operation_at code old) old.maps range.maps (fits_at code old range));
     }
@@ -472,12 +481,13 @@ steps_keep_ranges code old new all range e =
 -- ---- runs
 
 pub starts_in_range : StartsInRange
-starts_in_range packet maps bytes short ifindex sound = record {
+starts_in_range packet maps bytes short ifindex time sound = record {
   registers = All-from_recursion (InRange maps.decls) first_registers (tt, (tt, (tt, (tt, (tt, (tt, (tt, (tt, (tt, (tt, (tt, tt)))))))))));
   stack = All-replicate (InRange maps.decls) 64 (Number 0) (omega arith);
   frame = bytes;
   frame_short = short;
   ifindex = ifindex;
+  time = time;
   target = omega arith;
   maps = sound;
 }

@@ -29,7 +29,7 @@ use Rattle.xdp_machine.specs.State.{Code, Machine, register, put, with_registers
 use Rattle.xdp_machine.specs.Memory.{bytes_in, aligned, number_at, loaded, from_entry, from_context, loaded_plain, loaded_signed, to_frame, to_stack, to_entry, number_stored, stored}
 use Rattle.xdp_machine.specs.Arithmetic.{extended}
 use Rattle.xdp_machine.specs.Atomics.{fetches, change_of, taking, changed_entry, changed_at, atomic}
-use Rattle.xdp_machine.specs.Helpers.{region, answering, lookup, update, delete, redirected, redirect, called}
+use Rattle.xdp_machine.specs.Helpers.{region, answering, lookup, update, delete, redirected, redirect, packet_time, called}
 use Rattle.xdp_machine.specs.Step.{Goes, NoCase, goes_to, goes_on, jumps, exits, assigned, constant, alu, effect, outcome, outcome_at, step}
 use Rattle.xdp_machine.specs.Touched.{accesses, stores, answers_old, atomics, under_key, updates, calls_on, operation_as, operation_at, after}
 use Rattle.xdp_machine.specs.MachineLaws.{with_maps, StepsOperate}
@@ -346,20 +346,25 @@ redirect_same m cs new other e e' _ =
     both_inv (number_in (register m.registers 2)) _ _ new other h h' (λ flags is' k k'.
     redirected_same m cs ifindex flags new other k k'))
 
+time_same : (m : Machine) (cs : List Contents) (new other : Machine) → packet_time m ≡ Some new → packet_time (over m cs) ≡ Some other → Same m cs None new other
+time_same m cs new other e e' _ =
+    sym (some_inj _ other e') ∙ ap (λ (x : Machine). record x { maps = holding m.maps cs }) (some_inj (answering (Number m.time) m) new e)
+
 -- by the tests of the helper's number
-called_by : (m : Machine) (cs : List Contents) (one two three redirects : Bool) (new other : Machine)
-    → (if one then lookup m else if two then update m else if three then delete m else if redirects then redirect m else None) ≡ Some new
-    → (if one then lookup (over m cs) else if two then update (over m cs) else if three then delete (over m cs) else if redirects then redirect (over m cs) else None) ≡ Some other
+called_by : (m : Machine) (cs : List Contents) (one two three times redirects : Bool) (new other : Machine)
+    → (if one then lookup m else if two then update m else if three then delete m else if times then packet_time m else if redirects then redirect m else None) ≡ Some new
+    → (if one then lookup (over m cs) else if two then update (over m cs) else if three then delete (over m cs) else if times then packet_time (over m cs) else if redirects then redirect (over m cs) else None) ≡ Some other
     → Same m cs (if one then under_key m (λ d key. Some (map.Lookup key)) else if two then under_key m (updates m) else if three then under_key m (λ d key. Some (map.Delete key)) else None) new other
-called_by m cs true two three redirects new other e e' = lookup_same m cs new other e e'
-called_by m cs false true three redirects new other e e' = update_same m cs new other e e'
-called_by m cs false false true redirects new other e e' = delete_same m cs new other e e'
-called_by m cs false false false true new other e e' = redirect_same m cs new other e e'
-called_by m cs false false false false new other e e' = absurd (cc)
+called_by m cs true two three times redirects new other e e' = lookup_same m cs new other e e'
+called_by m cs false true three times redirects new other e e' = update_same m cs new other e e'
+called_by m cs false false true times redirects new other e e' = delete_same m cs new other e e'
+called_by m cs false false false true redirects new other e e' = time_same m cs new other e e'
+called_by m cs false false false false true new other e e' = redirect_same m cs new other e e'
+called_by m cs false false false false false new other e e' = absurd (cc)
 
 calls_same : (m : Machine) (cs : List Contents) (helper : Bool) (id : ℕ) (new other : Machine) → (if helper then called id m else None) ≡ Some new
     → (if helper then called id (over m cs) else None) ≡ Some other → Same m cs (calls_on id m) new other
-calls_same m cs true id new other e e' = called_by m cs (id == 1) (id == 2) (id == 3) (id == 23) new other e e'
+calls_same m cs true id new other e e' = called_by m cs (id == 1) (id == 2) (id == 3) (id == 5) (id == 23) new other e e'
 calls_same m cs false id new other e e' = absurd (cc)
 
 -- ---- what an instruction makes of both machines

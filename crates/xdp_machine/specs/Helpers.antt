@@ -1,5 +1,5 @@
 -- Calls of helpers (bpf-helpers(7)), by their numbers: bpf_map_lookup_elem 1, bpf_map_update_elem 2, bpf_map_delete_elem 3,
--- bpf_redirect 23.
+-- bpf_ktime_get_ns 5, bpf_redirect 23.
 use Rattle.std.specs.Prelude.{ℕ, zero, suc, pos, ◌+◌, ◌/◌, ◌%◌, ◌^◌, ◌+ℤ◌, ◌==◌, if◌then◌else◌, is_some, Option, Some, None, List, [], ◌∷◌, length, drop, get_or, slice_get, slice_index, slice_range}
 use Rattle.std.specs.Int.{w64, cast_unsigned}
 use Rattle.byteorder.specs.Endian.{little_bytes}
@@ -69,10 +69,15 @@ redirected ifindex (suc flags) m = answering (Number 0) m
 abbrev pub redirect : Machine → Option Machine
 redirect m = number_in (register m.registers 1) >>= λ ifindex. number_in (register m.registers 2) >>= λ flags. Some (redirected ifindex flags m)
 
+-- ktime_get_ns(): the time of the packet's capture, in place of that since the system started
+abbrev pub packet_time : Machine → Option Machine
+packet_time m = Some (answering (Number m.time) m)
+
 abbrev pub called : ℕ → Machine → Option Machine
 called id m =
     if id == 1 then lookup m else
     if id == 2 then update m else
     if id == 3 then delete m else
+    if id == 5 then packet_time m else
     if id == 23 then redirect m else
     None

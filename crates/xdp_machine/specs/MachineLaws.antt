@@ -49,6 +49,7 @@ map_named code m = insn_at code.insns m.place >>= λ i. map_named_as m i i.op
 -- that its instruction names, and nothing else.
 pub record ChangesOnly (named : Option ℕ) (old new : Machine) : Type 0 where
   pub ifindex : new.ifindex ≡ old.ifindex
+  pub time : new.time ≡ old.time
   pub stack_end : register new.registers 10 ≡ register old.registers 10
   pub registers : length new.registers ≡ length old.registers
   pub stack : length new.stack ≡ length old.stack
@@ -125,7 +126,7 @@ StepsKeepRanges = (code : Code) (old new : Machine) → All IsInsn code.insns �
 -- A run begins in range.
 abbrev pub StartsInRange : Type 0
 StartsInRange =
-    (packet : PacketIn) (maps : MapState) → All (λ b. b < 256) packet.frame → length packet.frame < 2 ^ 63 → packet.ifindex < 2 ^ 32 → IsSound maps
+    (packet : PacketIn) (maps : MapState) → All (λ b. b < 256) packet.frame → length packet.frame < 2 ^ 63 → packet.ifindex < 2 ^ 32 → packet.time < 2 ^ 64 → IsSound maps
     → IsInRange (start packet maps)
 
 -- So what it leaves is in range.

@@ -22,5 +22,6 @@ pub record IsInRange (m : Machine) : Type 0 where
   pub frame : All (λ b. b < 256) m.frame
   pub frame_short : length m.frame < 2 ^ 63
   pub ifindex : m.ifindex < 2 ^ 32
+  pub time : m.time < 2 ^ 64
   pub target : m.target < 2 ^ 32
   pub maps : IsSound m.maps

@@ -18,16 +18,19 @@ pub record Machine : Type 0 where
   pub frame : List ℕ
   -- the interface that the frame came in by
   pub ifindex : ℕ
+  -- when it was captured, in nanoseconds
+  pub time : ℕ
   pub maps : MapState
   -- the interface that a redirect recorded, or 0
   pub target : ℕ
   -- the unit with which the next instruction begins
   pub place : ℕ
 
--- a packet as it comes in: its frame, and the interface that it came in by
+-- a packet as it comes in: its frame, the interface that it came in by, and when it was captured, in nanoseconds
 pub record PacketIn : Type 0 where
   pub frame : List ℕ
   pub ifindex : ℕ
+  pub time : ℕ
 
 -- R1 is the context, R10 the end of the stack
 abbrev pub first_registers : List Value
@@ -40,6 +43,7 @@ start packet maps = record {
   stack = replicate 64 (Number 0);
   frame = packet.frame;
   ifindex = packet.ifindex;
+  time = packet.time;
   maps = maps;
   target = 0;
   place = 0;

@@ -3,7 +3,7 @@
 ghost use Rattle.std.specs.Prelude.{◌≡◌, ℕ, List};
 ghost use Rattle.xdp_maps.specs.State.{MapState};
 ghost use Rattle.xdp_machine.specs.Values as seen;
-ghost use Rattle.xdp_machine.specs.Helpers.{lookup, update, delete, redirect, called};
+ghost use Rattle.xdp_machine.specs.Helpers.{lookup, update, delete, packet_time, redirect, called};
 ghost use Rattle.xdp_state.specs.Views.{value_of};
 ghost use Rattle.xdp_state.specs.Cases.{Makes};
 ghost use Rattle.xdp_state.specs.Machines.{machine_of};
@@ -103,6 +103,14 @@ fn delete(state: &mut State, frame: &Frame, maps: &mut Maps) -> bool
     true
 }
 
+// bpf_ktime_get_ns(): when the packet was captured, whatever the frame and the maps are
+fn packet_time(state: &mut State) -> bool
+    ensures { (frame : List ℕ) (maps : MapState) → Makes result (packet_time (machine_of state.old frame maps)) (machine_of state.old frame maps) (machine_of state.new frame maps) }
+{
+    state.registers.answer(Value::Number(state.time));
+    true
+}
+
 // bpf_redirect(ifindex, flags), whatever the frame and the maps are
 fn redirect(state: &mut State) -> bool
     ensures { (frame : List ℕ) (maps : MapState) → Makes result (redirect (machine_of state.old frame maps)) (machine_of state.old frame maps) (machine_of state.new frame maps) }
@@ -130,6 +138,7 @@ pub(crate) fn call(state: &mut State, frame: &Frame, maps: &mut Maps, id: u64) -
         1 => lookup(state, frame, maps),
         2 => update(state, frame, maps),
         3 => delete(state, frame, maps),
+        5 => packet_time(state),
         23 => redirect(state),
         _ => false,
     }

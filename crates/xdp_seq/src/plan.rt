@@ -83,11 +83,11 @@ pub fn run_packet(
     frame: &mut Frame,
     meta: Meta,
 ) -> Result<Ended, SeqError>
-    ensures answer { Answers result (run plan.old STEP_LIMIT (start (record { frame = frame.old; ifindex = meta.ifindex }) maps.old)) frame.new maps.new }
+    ensures answer { Answers result (run plan.old STEP_LIMIT (start (record { frame = frame.old; ifindex = meta.ifindex; time = meta.time }) maps.old)) frame.new maps.new }
     ensures plan { plan.new ≡ plan.old }
     ensures frame { length frame.new ≡ length frame.old }
     ensures decls { maps.new.decls ≡ maps.old.decls }
 {
-    plan.state.restart(meta.ifindex);
+    plan.state.restart(meta);
     run(&plan.units, &plan.refs, &mut plan.state, frame, maps)
 }

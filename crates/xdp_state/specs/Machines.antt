@@ -10,6 +10,7 @@ machine_of s frame maps = record {
   stack = s.stack;
   frame = frame;
   ifindex = s.ifindex;
+  time = s.time;
   maps = maps;
   target = s.target;
   place = s.place;

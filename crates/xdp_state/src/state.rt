@@ -2,6 +2,7 @@
 
 use crate::registers::Registers;
 use crate::stack::Stack;
+use beat_core::Meta;
 
 /// The machine but for its frame and its maps.
 #[derive(Drop)]
@@ -10,6 +11,8 @@ pub struct State {
     pub stack: Stack,
     /// The interface that the frame came in by.
     pub ifindex: u32,
+    /// When it was captured, in nanoseconds.
+    pub time: u64,
     /// The interface that a redirect recorded.
     pub target: u32,
     /// The unit with which the next instruction begins.
@@ -27,24 +30,26 @@ impl State {
     pub fn new() -> State
         ensures registers { result.registers ≡ replicate 11 seen.Unset }
         ensures stack { result.stack ≡ replicate 64 seen.Unset }
-        ensures rest { (result.ifindex ≡ 0) × (result.target ≡ 0) × (result.place ≡ 0) }
+        ensures rest { (result.ifindex ≡ 0) × (result.time ≡ 0) × (result.target ≡ 0) × (result.place ≡ 0) }
     {
         State {
             registers: Registers::new(),
             stack: Stack::new(),
             ifindex: 0,
+            time: 0,
             target: 0,
             place: 0,
         }
     }
 
     /// The start of a run, whatever the frame and the maps are.
-    pub fn restart(&mut self, ifindex: u32)
-        ensures { (frame : List ℕ) (maps : MapState) → machine_of self.new frame maps ≡ start (record { frame = frame; ifindex = ifindex }) maps }
+    pub fn restart(&mut self, meta: Meta)
+        ensures { (frame : List ℕ) (maps : MapState) → machine_of self.new frame maps ≡ start (record { frame = frame; ifindex = meta.ifindex; time = meta.time }) maps }
     {
         self.registers.restart();
         self.stack.clear();
-        self.ifindex = ifindex;
+        self.ifindex = meta.ifindex;
+        self.time = meta.time;
         self.target = 0;
         self.place = 0;
     }

@@ -13,9 +13,9 @@ returns-clause-answer c =
 pub returns-clause-frame : goal.returns-clause-frame
 returns-clause-frame c =
     ap length (frame_answered _ _ _ _ (returns-clause-answer c))
-    ∙ (runs_keep_sizes c.args.plan.now STEP_LIMIT (start (record { frame = c.args.frame.now; ifindex = c.args.meta.ifindex }) c.args.maps.now) refl).frame
+    ∙ (runs_keep_sizes c.args.plan.now STEP_LIMIT (start (record { frame = c.args.frame.now; ifindex = c.args.meta.ifindex; time = c.args.meta.time }) c.args.maps.now) refl).frame
 
 pub returns-clause-decls : goal.returns-clause-decls
 returns-clause-decls c =
     ap (λ s. s.decls) (maps_answered _ _ _ _ (returns-clause-answer c))
-    ∙ (runs_keep_sizes c.args.plan.now STEP_LIMIT (start (record { frame = c.args.frame.now; ifindex = c.args.meta.ifindex }) c.args.maps.now) refl).decls
+    ∙ (runs_keep_sizes c.args.plan.now STEP_LIMIT (start (record { frame = c.args.frame.now; ifindex = c.args.meta.ifindex; time = c.args.meta.time }) c.args.maps.now) refl).decls
