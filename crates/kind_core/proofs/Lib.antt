@@ -17,3 +17,4 @@ pub mod SoundCalls
 pub mod MachineAtomics
 pub mod SoundAtomics
 pub mod SoundSteps
+pub mod TransferLaws

@@ -1,21 +1,52 @@
 //! Cases of the loops and the nodes of a program.
 
 use anyhow::Result;
-use kind_core::{BuildError, Kinds};
+use kind_core::{BuildError, Kinds, Why};
 use std::alloc::Global;
-use unfold_core::{Loop, Node, Point, leave, loops, places};
+use unfold_core::{Edge, Loop, Node, Point, Unfolded, leave, loops, places, unfold};
 use xdp_object::Program;
 
 /// The most nodes of a walk.
 const MOST_NODES: u32 = 100;
 
-/// What is asked of a program, if the verb is one.
+/// What is asked of a program.
 pub(crate) fn answer(alloc: Global, program: &Program, verb: &str) -> Result<String> {
+    if verb == "unfold" || verb == "count" {
+        return match unfold(alloc, program) {
+            Ok(graph) if verb == "count" => count(alloc, &graph),
+            Ok(graph) => show_graph(alloc, &graph),
+            Err(e) => refusal(alloc, e),
+        };
+    }
     match loops(alloc, program) {
         Ok(found) if verb == "loops" => show_loops(alloc, &found),
         Ok(found) => walk(alloc, program, &found),
         Err(e) => refusal(alloc, e),
     }
+}
+
+// How many nodes and edges.
+fn count(alloc: Global, graph: &Unfolded) -> Result<String> {
+    Ok(format!(in alloc; "{} nodes, {} edges", graph.nodes.len(), graph.edges.len())?)
+}
+
+// The nodes, and the edges by the numbers of the nodes.
+fn show_graph(alloc: Global, graph: &Unfolded) -> Result<String> {
+    let mut text = String::from_str(alloc, "nodes")?;
+    for at in &graph.nodes {
+        text.push_str(format!(in alloc; " {}", show_node(alloc, &at.node)?)?.as_str())?;
+    }
+    text.push_str(", edges")?;
+    for edge in &graph.edges {
+        text.push_str(show_edge(alloc, *edge)?.as_str())?;
+    }
+    Ok(text)
+}
+
+// An edge, which leads to the next place or, behind two signs, along a jump.
+fn show_edge(alloc: Global, edge: Edge) -> Result<String> {
+    let sign = if edge.taken { ">>" } else { ">" };
+    Ok(format!(in alloc; " {}{sign}{}", edge.from, edge.to)?)
 }
 
 // The first and the last place of each loop.
@@ -61,14 +92,14 @@ fn show_node(alloc: Global, node: &Node) -> Result<String> {
     Ok(text)
 }
 
-// The place and the number of a refusal.
+// The place and the number of a refusal, and of a helper its own number.
 fn refusal(alloc: Global, error: BuildError) -> Result<String> {
-    match error {
-        BuildError::Refused(refused) => Ok(format!(in alloc;
-            "refused {} {}",
-            refused.at,
-            refused.why.number()
-        )?),
-        BuildError::NoMemory => Ok(String::from_str(alloc, "no memory")?),
+    let BuildError::Refused(refused) = error else {
+        return Ok(String::from_str(alloc, "no memory")?);
+    };
+    let number = refused.why.number();
+    match refused.why {
+        Why::Helper(id) => Ok(format!(in alloc; "refused {} {number} {id}", refused.at)?),
+        _ => Ok(format!(in alloc; "refused {} {number}", refused.at)?),
     }
 }

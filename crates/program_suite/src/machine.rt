@@ -82,7 +82,11 @@ impl Machine {
         let answer = match verb {
             "run" => self.run(tables, &named.bytes(rest)?, &named.bytes(first)?)?,
             "compute" => self.compute(tables, &named.bytes(first)?, rest)?,
-            "loops" | "walk" => self.ask(tables.maps.decls(), &named.bytes(first)?, verb)?,
+            "loops" | "walk" | "unfold" | "count" => self.ask(
+                tables.maps.decls(),
+                &named.bytes(first)?,
+                verb,
+            )?,
             _ => return Ok(None),
         };
         Ok(Some(answer))

@@ -75,6 +75,10 @@
 //!
 //!     loops [CODE]                    how many loops, and the first and the last place of each
 //!     walk [CODE]                     the nodes from the start on, along the last edge of each, by place and copies; 100 at most
+//!     unfold [CODE]                   the nodes, and the edges by the nodes' numbers: `>` to the next place, `>>` along a jump
+//!     count [CODE]                    how many nodes and edges
+//!
+//! The refusal of a call has the number of the helper behind it.
 //!
 //! Of the program of the case (`xdp_object`, `xdp_seq`, `xdp_state`): how it ends, or that its parts make up no program; the frame
 //! that it leaves, and the pairs of each map:

@@ -40,12 +40,12 @@ edge_reaches insns ls n k (Some to) p e = by_begin (begins insns to) e
     by_begin true f = by_node (reached ls n to) refl f
     by_begin false f = let bad : Err why.Jump ≡ Ok p = f in absurd (cc)
 
-present_all : (P : Point → Type 0) (b : Bool) (e : Result Point Why) (xs : List Point) → if_present b e ≡ Ok xs → ((p : Point) → b ≡ true → e ≡ Ok p → P p) → All P xs
+pub present_all : (P : Point → Type 0) (b : Bool) (e : Result Point Why) (xs : List Point) → if_present b e ≡ Ok xs → ((p : Point) → b ≡ true → e ≡ Ok p → P p) → All P xs
 present_all P true (Ok p) xs h f = let there : Ok (p ∷ []) ≡ Ok xs = h in let same : p ∷ [] ≡ xs = cc in subst (All P) same (All-cons P p [] (f p refl refl) (All-nil P))
 present_all P true (Err w) xs h f = let bad : Err w ≡ Ok xs = h in absurd (cc)
 present_all P false e xs h f = let there : Ok [] ≡ Ok xs = h in let same : [] ≡ xs = cc in subst (All P) same (All-nil P)
 
-turn_all : (P : Point → Type 0) (a b : Result (List Point) Why) (xs : List Point) → in_turn a b ≡ Ok xs → ((ys : List Point) → a ≡ Ok ys → All P ys) → ((ys : List Point) → b ≡ Ok ys → All P ys) → All P xs
+pub turn_all : (P : Point → Type 0) (a b : Result (List Point) Why) (xs : List Point) → in_turn a b ≡ Ok xs → ((ys : List Point) → a ≡ Ok ys → All P ys) → ((ys : List Point) → b ≡ Ok ys → All P ys) → All P xs
 turn_all P (Ok ys) (Ok zs) xs h f g = let there : Ok (ys ++ zs) ≡ Ok xs = h in let same : ys ++ zs ≡ xs = cc in subst (All P) same (All-append P ys zs (f ys refl) (g zs refl))
 turn_all P (Ok ys) (Err w) xs h f g = let bad : Err w ≡ Ok xs = h in absurd (cc)
 turn_all P (Err w) r xs h f g = let bad : Err w ≡ Ok xs = h in absurd (cc)

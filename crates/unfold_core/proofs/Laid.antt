@@ -79,7 +79,7 @@ pub none_behind : (is : List Insn) (place : ℕ) → unit_count is ≤ place →
 none_behind is place h = sym (begins_at is place) ∙ get_or_past (laid is) place None (omega (arith, length-laid is))
 
 -- what begins at a place is one of the instructions
-legal_at : (is : List Insn) (place : ℕ) → All IsInsn is → IfSome (insn_at is place) IsInsn
+pub legal_at : (is : List Insn) (place : ℕ) → All IsInsn is → IfSome (insn_at is place) IsInsn
 legal_at [] place all = tt
 legal_at (i ∷ is) zero all = all 0 i (omega arith)
 legal_at (i ∷ is) (suc n) all = later (nat_lt (suc n) (units_of i.op)) (legal_at is (suc n - units_of i.op) (λ k d h. all (suc k) d (omega (arith, h))))

@@ -6,3 +6,13 @@ pub mod NodeSteps
 pub mod NodeLaws
 pub mod Leaving
 pub mod EdgesUp
+pub mod Arriving
+pub mod Walking
+pub mod Numbering
+pub mod Linking
+pub mod Reaching
+pub mod EdgeParts
+pub mod SizedGraph
+pub mod Runs
+pub mod OneGraph
+pub mod LinkLaws

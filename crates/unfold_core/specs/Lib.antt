@@ -6,3 +6,8 @@ pub mod Edges
 pub mod Tables
 pub mod Laws
 pub mod EdgeLaws
+pub mod Graphs
+pub mod Pending
+pub mod Unfolding
+pub mod RunLaws
+pub mod GraphLaws

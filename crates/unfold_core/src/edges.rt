@@ -24,8 +24,8 @@ pub struct Point {
     pub kinds: Kinds,
 }
 
-// Whether an edge goes to the next place.
-fn goes_next(op: Op, decided: Option<bool>) -> bool
+/// Whether an edge goes to the next place.
+pub(crate) fn goes_next(op: Op, decided: Option<bool>) -> bool
     ensures { result ≡ goes_next op decided }
 {
     match op {
@@ -49,8 +49,8 @@ fn goes_jump(op: Op, decided: Option<bool>) -> bool
     }
 }
 
-// A refusal at a place.
-fn refused(at: u32, why: Why) -> BuildError
+/// A refusal at a place.
+pub(crate) fn refused(at: u32, why: Why) -> BuildError
     ensures { result ≡ Refused (record { at = at; why = why }) }
 {
     BuildError::Refused(Refusal { at, why })
@@ -68,8 +68,8 @@ fn begins(units: &[Option<Insn>], place: u64) -> bool
     }
 }
 
-// The instruction that begins at a place.
-fn insn_at(units: &[Option<Insn>], place: usize) -> Option<&Insn>
+/// The instruction that begins at a place.
+pub(crate) fn insn_at(units: &[Option<Insn>], place: usize) -> Option<&Insn>
     requires { All (λ unit. IfSome unit IsInsn) units.now }
     ensures found { option_copied result ≡ slice_index_or units.now place None }
     ensures legal { IfSome result (λ i. IsInsn i.now) }

@@ -2,6 +2,8 @@
 
 ghost use Rattle.unfold_core.specs.Laws.{NodesAreOrdered, StartIsNode, EdgesReachNodes, EdgesGoUp};
 ghost use Rattle.unfold_core.specs.EdgeLaws.{LeavingGoesUp};
+ghost use Rattle.unfold_core.specs.GraphLaws.{HasOneGraph, HasOneRefusal, HasNotBoth, EdgesLeadOn, NodesAreReached};
+ghost use Rattle.unfold_core.specs.RunLaws.{RunsAreSound};
 
 /// Of two nodes of a program one comes before the other, and never in a circle.
 pub fn nodes_are_ordered()
@@ -27,3 +29,41 @@ pub fn edges_go_up()
 pub fn leaving_goes_up()
     ensures { LeavingGoesUp }
 {}
+
+/// A program has one graph: what is known at each node is the one solution of its equation.
+pub fn has_one_graph()
+    ensures { HasOneGraph }
+{}
+
+/// A program has one first node that is refused,
+pub fn has_one_refusal()
+    ensures { HasOneRefusal }
+{}
+
+/// and none where it has a graph.
+pub fn has_not_both()
+    ensures { HasNotBoth }
+{}
+
+/// The edges of a graph lead to later nodes of it,
+pub fn edges_lead_on()
+    ensures { EdgesLeadOn }
+{}
+
+/// and to each node but the first: so the nodes are exactly those that are reached from the first.
+pub fn nodes_are_reached()
+    ensures { NodesAreReached }
+{}
+
+/// Every packet, over all maps of the declarations of a program that unfolds, has a run that follows the graph: a path of present edges
+/// from the start, where at each node the machine is described by what is known there. It comes to an end after at most as many steps
+/// as there are nodes, so it is never stuck. (The machine has no step yet for the helper that asks for the time.)
+pub fn runs_are_sound()
+    ensures { RunsAreSound }
+{
+    kind_core::laws::steps_are_sound();
+    kind_core::laws::later_describes();
+    kind_core::laws::join_describes();
+    kind_core::laws::start_is_described();
+    xdp_machine::laws::steps_change_only();
+}

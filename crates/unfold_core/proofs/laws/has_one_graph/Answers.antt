@@ -1,0 +1,5 @@
+use Rattle.unfold_core.proofs.OneGraph.{has_one_graph}
+use Rattle.unfold_core.proofs.laws.has_one_graph.Goals as goal
+
+pub returns : goal.returns
+returns c = has_one_graph
