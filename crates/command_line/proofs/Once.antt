@@ -1,12 +1,14 @@
 -- Words ask for one thing at most.
-use Rattle.std.proofs.Common.{◌≡◌, ◌≢◌, inl, inr, ◌∙◌, sym, ap, subst, ℕ, ◌<◌, ◌^◌, List, Option, Some, None, get_or, codes, decimal, arith, unwrap_or}
+use Rattle.std.proofs.Common.{◌≡◌, inl, inr, ◌∙◌, sym, ap, subst, refl, ℕ, ◌<◌, ◌^◌, true, false, true≢false, List, Option, Some, None, codes, decimal, arith, unwrap_or}
 use Rattle.std.proofs.lemmas.Fmt.{decimal_injective}
+use Rattle.std.specs.Str.{bytes_eq}
+use Rattle.std.proofs.lemmas.Slice.Eq.{bytes_eq-Decides}
 use Rattle.clap.specs.Walk.{Row}
 use Rattle.clap.specs.Simple.{subcommand_of}
 use Rattle.xdp_object.specs.Choice.{Chosen}
-use Rattle.command_line.specs.Request.{Names, Request, AskCompile, AskRun, AskSim, files_of}
+use Rattle.command_line.specs.Request.{Names, Request, AskCompile, AskRun, AskSim, AskRef, files_of}
 use Rattle.command_line.specs.Commands.{app}
-use Rattle.command_line.specs.Means.{AreApart, GivesFiles, GivesNames, GivesNumber, GivesRun, GivesChosen, MayGiveNumber, Means, MeansCompile, MeansRun, MeansSim, Values}
+use Rattle.command_line.specs.Means.{AreApart, GivesFiles, GivesNames, GivesText, GivesNumber, GivesRun, GivesChosen, MayGiveNumber, Means, MeansCompile, MeansRun, MeansSim, MeansRef, Values}
 use Rattle.command_line.specs.AsksFor.{AsksFor, values_in}
 
 -- ---- an option
@@ -27,21 +29,24 @@ one_optional_number values option low high usual a b small (inr g) (inl h) = abs
 one_optional_number values option low high usual a b small (inr g) (inr h) = g.1 ∙ sym h.1
 
 -- ---- what is asked for
-made : (object capture verilog answer verdicts final_maps : List ℕ) → Names
-made o c v n d f = record { object = o; capture = c; verilog = v; answer = n; verdicts = d; final_maps = f }
+made : (object capture answer verdicts final_maps : List ℕ) → Names
+made o c n d f = record { object = o; capture = c; answer = n; verdicts = d; final_maps = f }
 
-same_names : (a b : Names) → a.object ≡ b.object → a.capture ≡ b.capture → a.verilog ≡ b.verilog → a.answer ≡ b.answer → a.verdicts ≡ b.verdicts → a.final_maps ≡ b.final_maps → a ≡ b
+same_names : (a b : Names) → a.object ≡ b.object → a.capture ≡ b.capture → a.answer ≡ b.answer → a.verdicts ≡ b.verdicts → a.final_maps ≡ b.final_maps → a ≡ b
 unfolding made
-same_names a b o c v n d f = λ i. made (o i) (c i) (v i) (n i) (d i) (f i)
+same_names a b o c n d f = λ i. made (o i) (c i) (n i) (d i) (f i)
 
 one_names : (values : Values) (a b : Names) → GivesNames values a → GivesNames values b → a ≡ b
 one_names values a b g h = same_names a b
-    (same_value _ a.object b.object g.object h.object) (same_value _ a.capture b.capture g.capture h.capture) (same_value _ a.verilog b.verilog g.verilog h.verilog)
-    (same_value _ a.answer b.answer g.answer h.answer) (same_value _ a.verdicts b.verdicts g.verdicts h.verdicts) (same_value _ a.final_maps b.final_maps g.final_maps h.final_maps)
+    (same_value _ a.object b.object g.object h.object) (same_value _ a.capture b.capture g.capture h.capture) (same_value _ a.answer b.answer g.answer h.answer) (same_value _ a.verdicts b.verdicts g.verdicts h.verdicts) (same_value _ a.final_maps b.final_maps g.final_maps h.final_maps)
 
 -- the names that are given are apart where any are
 pub apart_of : (values : Values) (a b : Names) → GivesNames values a → GivesFiles values b → AreApart (files_of a)
 apart_of values a b given g = let P : Names → Type 0 = λ n. AreApart (files_of n) in subst P (one_names values b a g.gives_names given) g.apart
+
+-- the name of a text that is none of theirs
+pub text_of : (values : Values) (a b : Names) (verilog : List ℕ) → GivesFiles values a → GivesFiles values b → GivesText values a verilog → GivesText values b verilog
+text_of values a b verilog g h t = let P : Names → Type 0 = λ n. GivesText values n verilog in subst P (one_names values a b g.gives_names h.gives_names) t
 
 selected : Option (List ℕ) → ℕ → Chosen
 selected p n = record { program = p; hash_cap = n }
@@ -56,19 +61,21 @@ one_selected values a b g h = same_selected a b (sym g.program ∙ h.program) (o
 one_ifindex : (values : Values) (n m : Names) (s t : Chosen) (i j : ℕ) → GivesRun values n s i → GivesRun values m t j → i ≡ j
 one_ifindex values n m s t i j g h = one_optional_number values _ 0 4294967295 1 i j (omega arith) g.gives_ifindex h.gives_ifindex
 
--- no two commands begin with one letter
-two_commands : {P : Type 0} (command a b : List ℕ) → command ≡ a → command ≡ b → get_or a 0 0 ≢ get_or b 0 0 → P
-two_commands command a b e f differ = absurd (differ (ap (λ w. get_or w 0 0) (sym e ∙ f)))
+-- no two commands have one name
+two_commands : {P : Type 0} (command a b : List ℕ) → command ≡ a → command ≡ b → bytes_eq a b ≡ false → P
+two_commands command a b e f differ = let same : bytes_eq a b ≡ true = (bytes_eq-Decides a b).1 (sym e ∙ f) in absurd (true≢false (sym same ∙ differ))
 
 one_meant : (command : List ℕ) (values : Values) (a b : Request) → Means command values a → Means command values b → a ≡ b
 one_meant command values (AskCompile o v s) (AskCompile p w t) g h =
     λ i. AskCompile (same_value _ o p g.gives_object h.gives_object i) (same_value _ v w g.gives_verilog h.gives_verilog i) (one_selected values s t g.gives_selected h.gives_selected i)
-one_meant command values (AskRun n s i) (AskRun m t j) g h =
-    λ k. AskRun (one_names values n m g.gives_run.gives_files.gives_names h.gives_run.gives_files.gives_names k) (one_selected values s t g.gives_run.gives_selected h.gives_run.gives_selected k) (one_ifindex values n m s t i j g.gives_run h.gives_run k)
-one_meant command values (AskSim n s i c) (AskSim m t j d) g h =
-    λ k. AskSim (one_names values n m g.gives_run.gives_files.gives_names h.gives_run.gives_files.gives_names k) (one_selected values s t g.gives_run.gives_selected h.gives_run.gives_selected k) (one_ifindex values n m s t i j g.gives_run h.gives_run k)
+one_meant command values (AskRun n v s i) (AskRun m w t j) g h =
+    λ k. AskRun (one_names values n m g.gives_run.gives_files.gives_names h.gives_run.gives_files.gives_names k) (same_value _ v w g.gives_text.given h.gives_text.given k) (one_selected values s t g.gives_run.gives_selected h.gives_run.gives_selected k) (one_ifindex values n m s t i j g.gives_run h.gives_run k)
+one_meant command values (AskSim n v s i c) (AskSim m w t j d) g h =
+    λ k. AskSim (one_names values n m g.gives_run.gives_files.gives_names h.gives_run.gives_files.gives_names k) (same_value _ v w g.gives_text.given h.gives_text.given k) (one_selected values s t g.gives_run.gives_selected h.gives_run.gives_selected k) (one_ifindex values n m s t i j g.gives_run h.gives_run k)
     (one_number values _ 0 500000000 c d (omega arith) g.gives_clocks h.gives_clocks k)
-one_meant command values a b g h = two_commands command _ _ g.called h.called (λ e. omega (arith, e))
+one_meant command values (AskRef n s i) (AskRef m t j) g h =
+    λ k. AskRef (one_names values n m g.gives_run.gives_files.gives_names h.gives_run.gives_files.gives_names k) (one_selected values s t g.gives_run.gives_selected h.gives_run.gives_selected k) (one_ifindex values n m s t i j g.gives_run h.gives_run k)
+one_meant command values a b g h = two_commands command _ _ g.called h.called refl
 
 -- what words ask for is what the command and the values of their matches mean
 pub asks_means : (words : List (List ℕ)) (command : List ℕ) (rows : List Row) (request : Request) → subcommand_of app words ≡ Some (command, rows) → AsksFor words request → Means command (values_in rows) request
@@ -83,12 +90,16 @@ one_request words a b g h = one_meant g.command (values_in g.rows) a b g.meant (
 -- ---- the command is this one
 pub compile_alone : (command : List ℕ) (values : Values) → command ≡ codes "compile" → ((o v : List ℕ) (s : Chosen) → ¬ MeansCompile command values o v s) → (request : Request) → ¬ Means command values request
 compile_alone command values is none (AskCompile o v s) means = none o v s means
-compile_alone command values is none other means = two_commands command _ _ is means.called (λ e. omega (arith, e))
+compile_alone command values is none other means = two_commands command _ _ is means.called refl
 
-pub run_alone : (command : List ℕ) (values : Values) → command ≡ codes "run" → ((n : Names) (s : Chosen) (i : ℕ) → ¬ MeansRun command values n s i) → (request : Request) → ¬ Means command values request
-run_alone command values is none (AskRun n s i) means = none n s i means
-run_alone command values is none other means = two_commands command _ _ is means.called (λ e. omega (arith, e))
+pub run_alone : (command : List ℕ) (values : Values) → command ≡ codes "run" → ((n : Names) (v : List ℕ) (s : Chosen) (i : ℕ) → ¬ MeansRun command values n v s i) → (request : Request) → ¬ Means command values request
+run_alone command values is none (AskRun n v s i) means = none n v s i means
+run_alone command values is none other means = two_commands command _ _ is means.called refl
 
-pub sim_alone : (command : List ℕ) (values : Values) → command ≡ codes "sim" → ((n : Names) (s : Chosen) (i c : ℕ) → ¬ MeansSim command values n s i c) → (request : Request) → ¬ Means command values request
-sim_alone command values is none (AskSim n s i c) means = none n s i c means
-sim_alone command values is none other means = two_commands command _ _ is means.called (λ e. omega (arith, e))
+pub sim_alone : (command : List ℕ) (values : Values) → command ≡ codes "sim" → ((n : Names) (v : List ℕ) (s : Chosen) (i c : ℕ) → ¬ MeansSim command values n v s i c) → (request : Request) → ¬ Means command values request
+sim_alone command values is none (AskSim n v s i c) means = none n v s i c means
+sim_alone command values is none other means = two_commands command _ _ is means.called refl
+
+pub ref_alone : (command : List ℕ) (values : Values) → command ≡ codes "ref" → ((n : Names) (s : Chosen) (i : ℕ) → ¬ MeansRef command values n s i) → (request : Request) → ¬ Means command values request
+ref_alone command values is none (AskRef n s i) means = none n s i means
+ref_alone command values is none other means = two_commands command _ _ is means.called refl

@@ -26,8 +26,14 @@ run_form = record {
 abbrev pub sim_form : CommandForm
 sim_form = record run_form { name = codes "sim"; required = codes "clocks" ∷ run_form.required }
 
+abbrev pub ref_form : CommandForm
+ref_form = record run_form {
+  name = codes "ref";
+  required = codes "object" ∷ codes "capture" ∷ codes "answer" ∷ codes "verdicts" ∷ codes "final" ∷ [];
+}
+
 abbrev pub commands : List CommandForm
-commands = compile_form ∷ run_form ∷ sim_form ∷ []
+commands = compile_form ∷ run_form ∷ sim_form ∷ ref_form ∷ []
 
 -- the option `--NAME`
 abbrev pub option_rule : Bool → List ℕ → Rule

@@ -1,7 +1,7 @@
 -- What a command with its values asks for.
-use Rattle.std.specs.Prelude.{◌≡◌, ◌≢◌, ◌⊎◌, ℕ, ◌≤◌, List, Option, Some, None, codes, decimal, AllPairs}
+use Rattle.std.specs.Prelude.{◌≡◌, ◌≢◌, ◌⊎◌, ℕ, ◌≤◌, List, ◌∷◌, Option, Some, None, codes, decimal, AllPairs}
 use Rattle.xdp_object.specs.Choice.{Chosen}
-use Rattle.command_line.specs.Request.{Names, Request, AskCompile, AskRun, AskSim, files_of}
+use Rattle.command_line.specs.Request.{Names, Request, AskCompile, AskRun, AskSim, AskRef, files_of}
 
 -- the value of each option that is there, by the option's name
 abbrev pub Values : Type 0
@@ -29,7 +29,6 @@ pub record GivesChosen (values : Values) (selected : Chosen) : Type 0 where
 pub record GivesNames (values : Values) (names : Names) : Type 0 where
   pub object : values (codes "object") ≡ Some names.object
   pub capture : values (codes "capture") ≡ Some names.capture
-  pub verilog : values (codes "verilog") ≡ Some names.verilog
   pub answer : values (codes "answer") ≡ Some names.answer
   pub verdicts : values (codes "verdicts") ≡ Some names.verdicts
   pub final_maps : values (codes "final") ≡ Some names.final_maps
@@ -38,6 +37,11 @@ pub record GivesFiles (values : Values) (names : Names) : Type 0 where
   pub gives_names : GivesNames values names
   pub apart : AreApart (files_of names)
 
+-- the name of a Verilog text, which no other file has
+pub record GivesText (values : Values) (names : Names) (verilog : List ℕ) : Type 0 where
+  pub given : values (codes "verilog") ≡ Some verilog
+  pub apart : AreApart (verilog ∷ files_of names)
+
 pub record MeansCompile (command : List ℕ) (values : Values) (object verilog : List ℕ) (selected : Chosen) : Type 0 where
   pub called : command ≡ codes "compile"
   pub gives_object : values (codes "object") ≡ Some object
@@ -45,23 +49,30 @@ pub record MeansCompile (command : List ℕ) (values : Values) (object verilog :
   pub apart : object ≢ verilog
   pub gives_selected : GivesChosen values selected
 
--- what `run` and `sim` have in common
+-- what `run`, `sim` and `ref` have in common
 pub record GivesRun (values : Values) (names : Names) (selected : Chosen) (ifindex : ℕ) : Type 0 where
   pub gives_files : GivesFiles values names
   pub gives_selected : GivesChosen values selected
   pub gives_ifindex : MayGiveNumber values (codes "ifindex") 0 4294967295 1 ifindex
 
-pub record MeansRun (command : List ℕ) (values : Values) (names : Names) (selected : Chosen) (ifindex : ℕ) : Type 0 where
+pub record MeansRun (command : List ℕ) (values : Values) (names : Names) (verilog : List ℕ) (selected : Chosen) (ifindex : ℕ) : Type 0 where
   pub called : command ≡ codes "run"
   pub gives_run : GivesRun values names selected ifindex
+  pub gives_text : GivesText values names verilog
 
-pub record MeansSim (command : List ℕ) (values : Values) (names : Names) (selected : Chosen) (ifindex clocks : ℕ) : Type 0 where
+pub record MeansSim (command : List ℕ) (values : Values) (names : Names) (verilog : List ℕ) (selected : Chosen) (ifindex clocks : ℕ) : Type 0 where
   pub called : command ≡ codes "sim"
   pub gives_run : GivesRun values names selected ifindex
+  pub gives_text : GivesText values names verilog
   pub gives_clocks : GivesNumber values (codes "clocks") 0 500000000 clocks
+
+pub record MeansRef (command : List ℕ) (values : Values) (names : Names) (selected : Chosen) (ifindex : ℕ) : Type 0 where
+  pub called : command ≡ codes "ref"
+  pub gives_run : GivesRun values names selected ifindex
 
 -- A command with these values of its options asks for this. Numbers are in their ranges, and no two files have one name.
 abbrev pub Means : List ℕ → Values → Request → Type 0
 Means command values (AskCompile object verilog selected) = MeansCompile command values object verilog selected
-Means command values (AskRun names selected ifindex) = MeansRun command values names selected ifindex
-Means command values (AskSim names selected ifindex clocks) = MeansSim command values names selected ifindex clocks
+Means command values (AskRun names verilog selected ifindex) = MeansRun command values names verilog selected ifindex
+Means command values (AskSim names verilog selected ifindex clocks) = MeansSim command values names verilog selected ifindex clocks
+Means command values (AskRef names selected ifindex) = MeansRef command values names selected ifindex

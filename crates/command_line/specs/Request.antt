@@ -5,27 +5,27 @@ use Rattle.command_line.specs.declared.command.Files.{Files}
 use Rattle.command_line.specs.declared.command.Command.{Command}
 use Rattle.command_line.specs.declared.command.Command.TheVariants as command
 
--- the names of the files of a run
+-- the names of the files of a run, the Verilog text apart
 pub record Names : Type 0 where
   pub object : List ℕ
   pub capture : List ℕ
-  pub verilog : List ℕ
   pub answer : List ℕ
   pub verdicts : List ℕ
   pub final_maps : List ℕ
 
 -- to compile an object to a Verilog text; to do this and run the text over a capture; to run a Verilog text that is there for at
--- most so many clocks. The number behind `Chosen` is that of the interface that packets come in by, the last one the clocks
+-- most so many clocks; to run the object's program over a capture. The text's name stands behind those of the other files, the
+-- number behind `Chosen` is that of the interface that packets come in by, the last one the clocks
 pub data Request : Type 0 where
   AskCompile : List ℕ → List ℕ → Chosen → Request
-  AskRun : Names → Chosen → ℕ → Request
-  AskSim : Names → Chosen → ℕ → ℕ → Request
+  AskRun : Names → List ℕ → Chosen → ℕ → Request
+  AskSim : Names → List ℕ → Chosen → ℕ → ℕ → Request
+  AskRef : Names → Chosen → ℕ → Request
 
 abbrev pub names_of : Files → Names
 names_of files = record {
   object = files.object.now;
   capture = files.capture.now;
-  verilog = files.verilog.now;
   answer = files.answer.now;
   verdicts = files.verdicts.now;
   final_maps = files.final_maps.now;
@@ -33,9 +33,10 @@ names_of files = record {
 
 abbrev pub request_of : Command → Request
 request_of (command.Compile object verilog choice) = AskCompile object.now verilog.now (chosen_of choice)
-request_of (command.Run files choice ifindex) = AskRun (names_of files) (chosen_of choice) ifindex
-request_of (command.Sim files choice ifindex clocks) = AskSim (names_of files) (chosen_of choice) ifindex clocks
+request_of (command.Run files verilog choice ifindex) = AskRun (names_of files) verilog.now (chosen_of choice) ifindex
+request_of (command.Sim files verilog choice ifindex clocks) = AskSim (names_of files) verilog.now (chosen_of choice) ifindex clocks
+request_of (command.Ref files choice ifindex) = AskRef (names_of files) (chosen_of choice) ifindex
 
--- the files of a run, in the order of its options
+-- these files, in the order of the options
 abbrev pub files_of : Names → List (List ℕ)
-files_of names = names.object ∷ names.capture ∷ names.verilog ∷ names.answer ∷ names.verdicts ∷ names.final_maps ∷ []
+files_of names = names.object ∷ names.capture ∷ names.answer ∷ names.verdicts ∷ names.final_maps ∷ []

@@ -2,12 +2,11 @@
 
 use xdp_object::Choice;
 
-/// The files of a run: what is read, and what is written. No two have the same name.
+/// The files of a run, the Verilog text apart: what is read, and what is written. No two have the same name.
 #[derive(Clone, Copy, PartialEq, Eq, Debug)]
 pub struct Files<'a> {
     pub object: &'a str,
     pub capture: &'a str,
-    pub verilog: &'a str,
     pub answer: &'a str,
     pub verdicts: &'a str,
     pub final_maps: &'a str,
@@ -25,6 +24,7 @@ pub enum Command<'a> {
     /// To compile an object to a Verilog text, and to run this text over a capture.
     Run {
         files: Files<'a>,
+        verilog: &'a str,
         choice: Choice<'a>,
         /// The interface that the packets come in by.
         ifindex: u32,
@@ -32,10 +32,18 @@ pub enum Command<'a> {
     /// To run a Verilog text that is there.
     Sim {
         files: Files<'a>,
+        verilog: &'a str,
         choice: Choice<'a>,
         /// The interface that the packets come in by.
         ifindex: u32,
         /// How many clocks the text may take, at most 500,000,000.
         clocks: u32,
+    },
+    /// To run the object's program, one instruction after another.
+    Ref {
+        files: Files<'a>,
+        choice: Choice<'a>,
+        /// The interface that the packets come in by.
+        ifindex: u32,
     },
 }

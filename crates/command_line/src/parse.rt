@@ -19,7 +19,7 @@ struct CommandRow {
     optional: &'static [&'static str],
 }
 
-const COMMANDS: [CommandRow; 3] = [
+const COMMANDS: [CommandRow; 4] = [
     CommandRow {
         name: "compile",
         required: &["object", "verilog"],
@@ -37,6 +37,11 @@ const COMMANDS: [CommandRow; 3] = [
         required: &[
             "clocks", "object", "capture", "verilog", "answer", "verdicts", "final",
         ],
+        optional: &["program", "hash-cap", "ifindex"],
+    },
+    CommandRow {
+        name: "ref",
+        required: &["object", "capture", "answer", "verdicts", "final"],
         optional: &["program", "hash-cap", "ifindex"],
     },
 ];

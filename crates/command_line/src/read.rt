@@ -9,7 +9,7 @@ ghost use Rattle.command_line.specs.Rows.{values_from};
 use crate::command::Command;
 use crate::error::WordsError;
 use crate::parse::parse;
-use crate::values::{read_choice, read_files, read_ifindex, required, required_number};
+use crate::values::{read_choice, read_files, read_ifindex, read_text, required, required_number};
 use crate::words::Words;
 use clap::ArgMatches;
 use std::alloc::Global;
@@ -21,8 +21,9 @@ const CLOCK_LIMIT: u32 = 500_000_000;
 /// - `compile --object A --verilog B`
 /// - `run --object A --capture C --verilog D --answer E --verdicts F --final G`
 /// - `sim`, as `run`, and `--clocks N`, at most 500,000,000
+/// - `ref`, as `run` without `--verilog`
 ///
-/// Each may have `--program NAME` and `--hash-cap N`, 1 to 1,024 and without it 256; `run` and `sim` may have `--ifindex N`, at most
+/// Each may have `--program NAME` and `--hash-cap N`, 1 to 1,024 and without it 256; all but `compile` may have `--ifindex N`, at most
 /// 4,294,967,295 and without it 1. A number stands in decimal without a needless zero in front, and no two file names of a command
 /// are equal. All else is [`WordsError::Usage`], a request for help too.
 pub fn read_words<'a>(alloc: Global, words: &'a Words) -> Result<Command<'a>, WordsError>
@@ -69,6 +70,9 @@ fn read_command<'a>(name: &str, matches: &ArgMatches<'a>) -> Option<Command<'a>>
     if name == "sim" {
         return read_sim(name, matches);
     }
+    if name == "ref" {
+        return read_ref(name, matches);
+    }
     None
 }
 
@@ -96,10 +100,12 @@ fn read_run<'a>(name: &str, matches: &ArgMatches<'a>) -> Option<Command<'a>>
     ensures none { IfNone result ((request : Request) → ¬ Means name.now (values_from matches.now) request) }
 {
     let files = read_files(matches)?;
+    let verilog = read_text(matches, &files)?;
     let choice = read_choice(matches)?;
     let ifindex = read_ifindex(matches)?;
     Some(Command::Run {
         files,
+        verilog,
         choice,
         ifindex,
     })
@@ -111,13 +117,30 @@ fn read_sim<'a>(name: &str, matches: &ArgMatches<'a>) -> Option<Command<'a>>
     ensures none { IfNone result ((request : Request) → ¬ Means name.now (values_from matches.now) request) }
 {
     let files = read_files(matches)?;
+    let verilog = read_text(matches, &files)?;
     let choice = read_choice(matches)?;
     let ifindex = read_ifindex(matches)?;
     let clocks = required_number(matches, "clocks", 0, CLOCK_LIMIT)?;
     Some(Command::Sim {
         files,
+        verilog,
         choice,
         ifindex,
         clocks,
+    })
+}
+
+fn read_ref<'a>(name: &str, matches: &ArgMatches<'a>) -> Option<Command<'a>>
+    requires { name.now ≡ codes "ref" }
+    ensures some { IfSome result (λ command. Means name.now (values_from matches.now) (request_of command)) }
+    ensures none { IfNone result ((request : Request) → ¬ Means name.now (values_from matches.now) request) }
+{
+    let files = read_files(matches)?;
+    let choice = read_choice(matches)?;
+    let ifindex = read_ifindex(matches)?;
+    Some(Command::Ref {
+        files,
+        choice,
+        ifindex,
     })
 }

@@ -4,7 +4,7 @@ ghost use Rattle.std.specs.Prelude.{◌≡◌, ◌≢◌, ◌↔◌, ◌≤◌, 
 ghost use Rattle.std.specs.Option.{option_copied};
 ghost use Rattle.xdp_object.specs.Choice.{Chosen, chosen_of};
 ghost use Rattle.command_line.specs.Request.{Names, names_of};
-ghost use Rattle.command_line.specs.Means.{AreApart, GivesFiles, GivesNumber, GivesChosen, MayGiveNumber};
+ghost use Rattle.command_line.specs.Means.{AreApart, GivesFiles, GivesText, GivesNumber, GivesChosen, MayGiveNumber};
 ghost use Rattle.command_line.specs.Rows.{values_from};
 
 use crate::command::Files;
@@ -64,28 +64,46 @@ fn optional_number(
     }
 }
 
-// The files of a run.
+// The files of a run, the Verilog text apart.
 pub(crate) fn read_files<'a>(matches: &ArgMatches<'a>) -> Option<Files<'a>>
     ensures some { IfSome result (λ files. GivesFiles (values_from matches.now) (names_of files)) }
     ensures none { IfNone result ((names : Names) → ¬ GivesFiles (values_from matches.now) names) }
 {
     let object = required(matches, "object")?;
     let capture = required(matches, "capture")?;
-    let verilog = required(matches, "verilog")?;
     let answer = required(matches, "answer")?;
     let verdicts = required(matches, "verdicts")?;
     let final_maps = required(matches, "final")?;
-    if !are_apart(&[object, capture, verilog, answer, verdicts, final_maps]) {
+    if !are_apart(&[object, capture, answer, verdicts, final_maps]) {
         return None;
     }
     Some(Files {
         object,
         capture,
-        verilog,
         answer,
         verdicts,
         final_maps,
     })
+}
+
+// The name of a run's Verilog text.
+pub(crate) fn read_text<'a>(matches: &ArgMatches<'a>, files: &Files<'a>) -> Option<&'a str>
+    ensures some { IfSome result (λ verilog. GivesText (values_from matches.now) (names_of files.now) verilog.now) }
+    ensures none { IfNone result ((verilog : List ℕ) → ¬ GivesText (values_from matches.now) (names_of files.now) verilog) }
+{
+    let verilog = required(matches, "verilog")?;
+    let names = [
+        verilog,
+        files.object,
+        files.capture,
+        files.answer,
+        files.verdicts,
+        files.final_maps,
+    ];
+    if !are_apart(&names) {
+        return None;
+    }
+    Some(verilog)
 }
 
 pub(crate) fn read_choice<'a>(matches: &ArgMatches<'a>) -> Option<Choice<'a>>

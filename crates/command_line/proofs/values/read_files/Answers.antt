@@ -10,7 +10,6 @@ returns-then-not-are_apart-clause-none c = λ names gives.
     let given : Names = record {
       object = c.in_ok-object.object.now;
       capture = c.in_ok-capture.capture.now;
-      verilog = c.in_ok-verilog.verilog.now;
       answer = c.in_ok-answer.answer.now;
       verdicts = c.in_ok-verdicts.verdicts.now;
       final_maps = c.in_ok-final_maps.final_maps.now;

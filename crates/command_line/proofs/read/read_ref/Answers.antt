@@ -1,0 +1,13 @@
+use Rattle.command_line.specs.Rows.{values_from}
+use Rattle.command_line.proofs.Nones.{if_none}
+use Rattle.command_line.proofs.Once.{ref_alone}
+use Rattle.command_line.proofs.read.read_ref.Goals as goal
+
+pub returns-in_err-files-clause-none : goal.returns-in_err-files-clause-none
+returns-in_err-files-clause-none c = if_none c.from_residual.result (ref_alone c.args.name.now (values_from c.args.matches.now) c.requires (λ names selected ifindex means. c.in_err-files.ensures.none names means.gives_run.gives_files))
+
+pub returns-in_err-choice-clause-none : goal.returns-in_err-choice-clause-none
+returns-in_err-choice-clause-none c = if_none c.from_residual-in_err-choice.result (ref_alone c.args.name.now (values_from c.args.matches.now) c.requires (λ names selected ifindex means. c.in_err-choice.ensures.none selected means.gives_run.gives_selected))
+
+pub returns-in_err-ifindex-clause-none : goal.returns-in_err-ifindex-clause-none
+returns-in_err-ifindex-clause-none c = if_none c.from_residual-in_err-ifindex.result (ref_alone c.args.name.now (values_from c.args.matches.now) c.requires (λ names selected ifindex means. c.in_err-ifindex.ensures.none ifindex means.gives_run.gives_ifindex))
