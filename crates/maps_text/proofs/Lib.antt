@@ -6,3 +6,6 @@ pub mod Pairs
 pub mod Steps
 pub mod Runs
 pub mod Written
+pub mod Spelled
+pub mod Filled
+pub mod ReadBack

@@ -48,10 +48,10 @@ same_cases a b = elim (same a b) as (λ t. same a b ≡ t → (a ≡ b) ⊎ (a �
 
 -- ---- one key more
 
-listed_here : (keys : List (ℕ × List ℕ)) (m : ℕ) (key q : List ℕ) → is_listed ((m, key) ∷ keys) m q ≡ (same q key || is_listed keys m q)
+pub listed_here : (keys : List (ℕ × List ℕ)) (m : ℕ) (key q : List ℕ) → is_listed ((m, key) ∷ keys) m q ≡ (same q key || is_listed keys m q)
 listed_here keys m key q = let e : (m == m) ≡ true = eq-eqb m m refl in rw e refl
 
-listed_other : (keys : List (ℕ × List ℕ)) (m j : ℕ) (key q : List ℕ) → (j ≡ m → ⊥) → is_listed ((m, key) ∷ keys) j q ≡ is_listed keys j q
+pub listed_other : (keys : List (ℕ × List ℕ)) (m j : ℕ) (key q : List ℕ) → (j ≡ m → ⊥) → is_listed ((m, key) ∷ keys) j q ≡ is_listed keys j q
 listed_other keys m j key q differ = let e : (j == m) ≡ false = ne_eqb j m differ in rw e refl
 
 some_cond : (b : Bool) (v : List ℕ) (o : Option (List ℕ)) → is_some (cond b (Some v) o) ≡ (b || is_some o)

@@ -2,3 +2,4 @@ pub mod Lines
 pub mod Reading
 pub mod Writing
 pub mod Steps
+pub mod Laws

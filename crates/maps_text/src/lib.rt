@@ -10,10 +10,12 @@ mod decls;
 mod digits;
 mod error;
 mod fields;
+mod laws;
 mod listed;
 mod read;
 mod write;
 
 pub use error::MapsError;
+pub use laws::written_is_read;
 pub use read::read_maps_text;
 pub use write::write_maps_text;
