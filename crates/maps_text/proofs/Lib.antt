@@ -9,3 +9,4 @@ pub mod Written
 pub mod Spelled
 pub mod Filled
 pub mod ReadBack
+pub mod Texts

@@ -58,7 +58,7 @@ some_cond : (b : Bool) (v : List ℕ) (o : Option (List ℕ)) → is_some (cond 
 some_cond true v o = refl
 some_cond false v o = refl
 
-contains-insert : (c : Contents) (key v q : List ℕ) → map.contains_key (map.insert c key v) q ≡ (same q key || map.contains_key c q)
+pub contains-insert : (c : Contents) (key v q : List ℕ) → map.contains_key (map.insert c key v) q ≡ (same q key || map.contains_key c q)
 contains-insert c key v q = ap is_some (get-insert nat_list_cmp_total c key v q) ∙ some_cond (same q key) v (map.get c q)
 
 module _ (marks : List Bool) (before : Listed) (m : ℕ) (key value : List ℕ) (known : Marks marks before) (lt : m < length before.maps.decls) (beside : length before.maps.contents ≡ length before.maps.decls) where

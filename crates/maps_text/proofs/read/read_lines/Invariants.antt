@@ -1,7 +1,7 @@
 -- what was listed, and the rest of the text, give what the text gives
 use Rattle.std.proofs.Common.{length}
 use Rattle.maps_text.proofs.Runs.{IsReading}
-use Rattle.maps_text.proofs.read.read_maps_text.Given as goal
+use Rattle.maps_text.proofs.read.read_lines.Given as goal
 
 abbrev pub invariant-lines : goal.invariant-lines
 invariant-lines l = IsReading l.decls l.text l.rest l.n l.maps l.marks
