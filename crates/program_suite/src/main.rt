@@ -70,6 +70,11 @@
 //!     copy MAP KEY VALUE              other maps of the same declarations first get this pair, become the same as these, and go on
 //!                                     in their place: the answer of that update
 //!
+//! Of texts of these maps (`maps_text`), in which `_` is a space, `/` a line feed and `^` a carriage return:
+//!
+//!     read-maps TEXT                  the maps hold what it lists: the text of them; or the code of its first bad line
+//!     write-maps                      the text of what they hold
+//!
 //! Of the graph of the program of the case (`unfold_core`, `kind_core`), with a BYTE-WORD in the hole, or its first refusal, by place and
 //! number:
 //!

@@ -3,6 +3,7 @@
 use crate::bytes::Named;
 use crate::numbers::{front, number, number_32, numbers};
 use anyhow::{Context, Result, bail, ensure};
+use maps_text::{MapsError, read_maps_text, write_maps_text};
 use std::alloc::Global;
 use xdp_maps::change::{Change, ChangeKind};
 use xdp_maps::decl::{MapDecl, MapKind};
@@ -42,6 +43,11 @@ impl Tables {
         verb: &str,
         rest: &str,
     ) -> Result<Option<String>> {
+        match verb {
+            "read-maps" => return Ok(Some(self.read(rest)?)),
+            "write-maps" => return Ok(Some(self.written("written")?)),
+            _ => {}
+        }
         let (map, rest) = front(rest);
         let answer = match verb {
             "lookup" => self.lookup(number_32(map)?, &named.bytes(rest)?)?,
@@ -54,6 +60,32 @@ impl Tables {
             _ => return Ok(None),
         };
         Ok(Some(answer))
+    }
+
+    // The maps hold what a text lists, and it is written again; or its first bad line.
+    fn read(&mut self, rest: &str) -> Result<String> {
+        let text = text_of(self.alloc, rest)?;
+        let few = self.decls.len() <= 16;
+        let limits = self.decls.iter().all(|d| d.is_within_limits());
+        ensure!(few && limits, "maps within the limits");
+        match read_maps_text(self.alloc, &self.decls, &text) {
+            Ok(maps) => {
+                self.maps = maps;
+                self.written("read")
+            }
+            Err(error) => fault(self.alloc, error),
+        }
+    }
+
+    // A word, and the lines of the text of the maps.
+    fn written(&self, word: &str) -> Result<String> {
+        ensure!(self.maps.decls().len() <= 16, "16 maps");
+        let text = write_maps_text(self.alloc, &self.maps)?;
+        let mut answer = String::from_str(self.alloc, word)?;
+        for line in str::from_utf8(&text)?.lines() {
+            answer.push_str(format!(in self.alloc; "\n| {line}")?.as_str())?;
+        }
+        Ok(answer)
     }
 
     // The value under a key.
@@ -211,6 +243,33 @@ fn opened(alloc: Global, decls: &[MapDecl]) -> Result<Maps> {
     let all = decls.iter().all(|d| d.is_within_limits());
     ensure!(all, "maps within the limits");
     Ok(Maps::new(alloc, decls)?)
+}
+
+// The bytes of a text of maps.
+fn text_of(alloc: Global, rest: &str) -> Result<Vec<u8>> {
+    let mut text = Vec::new(alloc);
+    for byte in rest.as_bytes() {
+        text.push(match *byte {
+            b'_' => b' ',
+            b'/' => b'\n',
+            b'^' => b'\r',
+            other => other,
+        })?;
+    }
+    Ok(text)
+}
+
+// The code of a fault, and its line.
+fn fault(alloc: Global, error: MapsError) -> Result<String> {
+    let (code, n) = match error {
+        MapsError::Line { n } => ("M1", n),
+        MapsError::Unknown { n } => ("M2", n),
+        MapsError::Length { n } => ("M3", n),
+        MapsError::Twice { n } => ("M4", n),
+        MapsError::Full { n } => ("M5", n),
+        MapsError::NoMemory => bail!("out of memory"),
+    };
+    Ok(format!(in alloc; "{code} {n}")?)
 }
 
 // An atomic change.

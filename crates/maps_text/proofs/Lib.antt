@@ -1,0 +1,12 @@
+pub mod Cuts
+pub mod Entries
+pub mod Marking
+pub mod Names
+pub mod Pairs
+pub mod Steps
+pub mod Runs
+pub mod Written
+pub mod Spelled
+pub mod Filled
+pub mod ReadBack
+pub mod Texts

@@ -1,0 +1,6 @@
+pub mod Lines
+pub mod Reading
+pub mod Writing
+pub mod Steps
+pub mod Text
+pub mod Laws
