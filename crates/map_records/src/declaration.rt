@@ -68,6 +68,7 @@ fn capacity(kind: MapKind, entries: u32, hash_cap: u32) -> u32
 pub fn declare(name: ShortBytes, fields: &MapFields, hash_cap: u32) -> Result<MapDecl, MapRule>
     ensures value { result ≡ declared hash_cap name fields.now }
     ensures limits { IfOk result IsWithinLimits }
+    ensures name { IfOk result (λ decl. decl.name ≡ name) }
 {
     let Some(number) = fields.kind else {
         return Err(MapRule::Absent);
