@@ -1,5 +1,5 @@
 -- What is read of the least object of a function with no maps.
-use Rattle.std.proofs.Common.{◌≡◌, ◌≢◌, ◌∙◌, ℕ, ◌+◌, ◌/◌, ◌%◌, ◌<◌, ◌≤◌, ◌==◌, ◌&&◌, nat_eq, Bool, true, false, not, cond, ltb, Option, Some, None, List, [], ◌∷◌, ◌++◌, length, take, drop, filter, All, codes, refl, sym, ap, arith}
+use Rattle.std.proofs.Common.{◌≡◌, ◌≢◌, ◌∙◌, ℕ, ◌+◌, ◌-◌, ◌/◌, ◌%◌, ◌<◌, ◌≤◌, ◌==◌, ◌&&◌, nat_eq, Bool, true, false, not, cond, ltb, Option, Some, None, List, [], ◌∷◌, ◌++◌, length, take, drop, filter, map, All, codes, refl, sym, ap, arith}
 use Rattle.std.proofs.lemmas.Bool.{lt-ltb, le-ltb}
 use Rattle.std.proofs.lemmas.Bool.Decides.{nat_tests}
 use Rattle.std.proofs.lemmas.List.{append_assoc, append-nil, drop_at, take_at, take_all, length-append}
@@ -27,7 +27,11 @@ use Rattle.xdp_object.specs.Choice.{Chosen, chosen}
 use Rattle.xdp_object.specs.Functions.{function_code, is_asked_for, is_code_section, is_function, programs, section_name, symbol_name, symbol_of, symbol_strings}
 use Rattle.xdp_object.specs.Laws.{LayoutLaw, without_maps}
 use Rattle.xdp_object.specs.Object.{IsObject, first_fault, odd_units, open_name, outside, relocation_fault, too_long, wrong_elf, wrong_function}
-use Rattle.xdp_object.specs.Relocations.{cut_table, cut_tables, least_from, least_in_section, least_in_table, least_place, rela_table, rela_tables, relocated, relocates}
+use Rattle.xdp_object.specs.Relocations.{Reference, cut_table, cut_tables, first_unknown, places_of, rela_table, rela_tables, relocated_at, relocates, said_by_section, said_by_table, together}
+use Rattle.xdp_object.specs.declared.relocated.Relocated.{Relocated}
+use Rattle.xdp_object.specs.declared.relocated.Relocated.TheVariants.{Untouched}
+use Rattle.xdp_object.specs.Maps.{all_referred, no_maps}
+use Rattle.xdp_object.proofs.Places.{UntouchedAll, untouched_known, untouched_numbers, untouched_places, untouched_references}
 use Rattle.xdp_object.proofs.Strings.{string_there, xdp_letters}
 use Rattle.xdp_object.proofs.ReadLaws.{Sole, has_code, is_object}
 
@@ -242,27 +246,35 @@ no_cut bytes i e = ap (λ b. cond (b && not ((section_at bytes i).size % 16 == 0
 no_entry : (bytes : List ℕ) (i : ℕ) → relocates bytes 4 1 i ≡ false → rela_table bytes 1 i ≡ None
 no_entry bytes i e = ap (λ b. cond b (Some (Relocation 0)) None) e
 
-no_place : (bytes : List ℕ) (s : Symbol) (i : ℕ) → relocates bytes 9 s.section i ≡ false → least_in_section bytes s i ≡ None
-no_place bytes s i e = ap (λ b. cond b (least_in_table s (section_bytes bytes i)) None) e
+no_place : (bytes : List ℕ) (s : Symbol) (place i : ℕ) → relocates bytes 9 s.section i ≡ false → said_by_section bytes s place i ≡ Untouched
+no_place bytes s place i e = ap (λ b. cond b (said_by_table bytes s place i) Untouched) e
 
-four_places : (f : ℕ → Option ℕ) (n : ℕ) → n ≡ 4 → f 0 ≡ None → f 1 ≡ None → f 2 ≡ None → f 3 ≡ None → least_from f 0 n ≡ None
+four_places : (f : ℕ → Relocated) (n : ℕ) → n ≡ 4 → f 0 ≡ Untouched → f 1 ≡ Untouched → f 2 ≡ Untouched → f 3 ≡ Untouched → together f 0 n ≡ Untouched
 four_places f n e a b c d = rw (e, a, b, c, d) refl
 
-no_relocation : (bytes name code : List ℕ) → Seen bytes name code → relocation_fault bytes (function_symbol (length code)) ≡ None
-unfolding relocation_fault cut_tables rela_tables least_place
-no_relocation bytes name code h =
+untouched_at : (bytes name code : List ℕ) → Seen bytes name code → (p : ℕ) → relocated_at bytes (function_symbol (length code)) p ≡ Untouched
+unfolding relocated_at
+untouched_at bytes name code h p =
+    let r = no_rel bytes name code h in
+    let s = function_symbol (length code) in
+    four_places (said_by_section bytes s p) (e_shnum bytes) h.count (no_place bytes s p 0 r.none) (no_place bytes s p 1 r.code) (no_place bytes s p 2 r.symbols) (no_place bytes s p 3 r.strings)
+
+untouched : (bytes name code : List ℕ) → Seen bytes name code → UntouchedAll (places_of bytes (function_symbol (length code)))
+untouched bytes name code h = untouched_places bytes (function_symbol (length code)) (untouched_at bytes name code h)
+
+no_relocation : (bytes name code : List ℕ) (insns : List Insn) → Seen bytes name code → relocation_fault bytes (function_symbol (length code)) insns ≡ None
+unfolding relocation_fault cut_tables rela_tables
+no_relocation bytes name code insns h =
     let r = no_rel bytes name code h in
     let a = no_rela bytes name code h in
-    let s = function_symbol (length code) in
+    let places : List Relocated = places_of bytes (function_symbol (length code)) in
     let cut : cut_tables bytes 1 ≡ None =
     four_none (cut_table bytes 1) (e_shnum bytes) h.count (no_cut bytes 0 r.none) (no_cut bytes 1 r.code) (no_cut bytes 2 r.symbols) (no_cut bytes 3 r.strings) in
     let rela : rela_tables bytes 1 ≡ None =
     four_none (rela_table bytes 1) (e_shnum bytes) h.count (no_entry bytes 0 a.none) (no_entry bytes 1 a.code) (no_entry bytes 2 a.symbols) (no_entry bytes 3 a.strings) in
-    let place : least_place bytes s ≡ None =
-    four_places (least_in_section bytes s) (e_shnum bytes) h.count (no_place bytes s 0 r.none) (no_place bytes s 1 r.code) (no_place bytes s 2 r.symbols) (no_place bytes s 3 r.strings) in
-    ap (λ o. option_or o (option_or (rela_tables bytes 1) (option_or (relocated bytes s) None))) cut
-    ∙ ap (λ o. option_or o (option_or (relocated bytes s) None)) rela
-    ∙ ap (λ o. option_or (option_map (λ at. Relocation at) o) None) place
+    ap (λ o. option_or o (option_or (rela_tables bytes 1) (option_or (first_unknown places insns) None))) cut
+    ∙ ap (λ o. option_or o (option_or (first_unknown places insns) None)) rela
+    ∙ ap (λ o. option_or o None) (untouched_known places insns (untouched bytes name code h))
 
 -- ---- the object
 
@@ -276,8 +288,13 @@ object_read choice bytes name code insns h letters spells some asked =
     let bytes_are : function_code bytes (symbol_of bytes 1) ≡ code =
     ap (function_code bytes) symbol ∙ ap (take (length code)) h.code_bytes ∙ take_all (length code) code (omega arith) in
     let has = has_code choice bytes 1 s code sole (no_fault bytes name code h letters whole) (sym symbol) (sym bytes_are) in
-    is_object choice bytes 1 s code name insns (without_maps name insns) sole has (name_is bytes name code h letters) spells
-    (no_relocation bytes name code h) refl refl refl refl
+    let places : List Relocated = places_of bytes s in
+    let none = untouched bytes name code h in
+    is_object choice bytes 1 s code name insns places no_maps (without_maps name insns) sole has (name_is bytes name code h letters) spells
+    (no_relocation bytes name code insns h) refl
+    (ap (all_referred choice.hash_cap bytes no_maps) (untouched_references places 0 (length places - 0) none)) refl
+    (sym (untouched_numbers places [] 0 insns none)) refl
+    (sym (ap (map (λ (r : Reference). r.place)) (untouched_references places 0 (length places) none)))
 
 not_empty : (xs : List ℕ) → xs ≢ [] → 0 < length xs
 not_empty [] h = absurd (h refl)

@@ -1,8 +1,13 @@
 pub mod FaultLaws
 pub mod Layouts
+pub mod MapLemmas
+pub mod NumberLaws
 pub mod Opened
 pub mod PartLemmas
+pub mod Places
 pub mod OutcomeLaws
 pub mod ReadLaws
 pub mod Searches
 pub mod Strings
+pub mod TableLaws
+pub mod UnitLaws

@@ -1,6 +1,8 @@
 -- The parts of a program, one after the other.
-use Rattle.std.proofs.Common.{◌≡◌, ◌≢◌, ℕ, ◌+◌, ◌*◌, ◌<◌, ◌≤◌, List, [], ◌∷◌, length, get_or, take, inl, inr, sym, ap, ◌∙◌, arith}
+use Rattle.std.proofs.Common.{◌≡◌, ◌≢◌, ℕ, ◌+◌, ◌*◌, ◌<◌, ◌≤◌, true, false, List, [], ◌∷◌, length, get_or, take, inl, inr, sym, ap, ◌∙◌, arith}
+use Rattle.std.proofs.lemmas.Slice.Eq.{bytes_eq-Decides}
 use Rattle.std.specs.List.{AllPairs}
+use Rattle.std.specs.Str.{bytes_eq}
 use Rattle.std.proofs.lemmas.Bool.{cases_lt}
 use Rattle.std.proofs.lemmas.List.{get_or-take, get_or_default, length-take-le, take_more}
 use Rattle.bpf_isa.specs.declared.operation.Op.{Op}
@@ -10,10 +12,7 @@ use Rattle.bpf_isa.specs.Spelling.{units_of}
 use Rattle.bpf_isa.specs.Text.{unit_count}
 use Rattle.bpf_isa.proofs.TextLaws.{unit_count-append}
 use Rattle.xdp_maps.specs.declared.decl.MapDecl.{MapDecl}
-
--- a name is that of one of these declarations
-abbrev pub IsNameIn : List MapDecl → List ℕ → Type 0
-IsNameIn ds name = (k : ℕ) × (k < length ds) × ((d : MapDecl) → (get_or ds k d).name ≡ name)
+use Rattle.xdp_object.specs.Maps.{IsNameIn}
 
 front_short : (ds : List MapDecl) (i : ℕ) → i < length ds → length (take i ds) ≡ i
 front_short ds i lt = length-take-le i ds (omega (arith, lt))
@@ -59,3 +58,15 @@ counted_more is n d units more lt so_far e = record {
       ∙ sym (ap unit_count (take_more is n d lt) ∙ unit_count-append (take n is) (get_or is n d ∷ []) ∙ omega arith);
   few = omega (arith, so_far.few, units_few (get_or is n d).op);
 }
+
+-- one more declaration that has another name
+pub other_more : (ds : List MapDecl) (i : ℕ) (e : MapDecl) (name : List ℕ) → i < length ds → ((k : ℕ) (d : MapDecl) → k < i → (get_or ds k d).name ≢ name)
+    → bytes_eq (get_or ds i e).name name ≡ false → (k : ℕ) (d : MapDecl) → k < i + 1 → (get_or ds k d).name ≢ name
+other_more ds i e name lt before other k d below same = elim (cases_lt k i) [
+  | inl earlier ↦ before k d earlier same
+  | inr last ↦
+      let here : k ≡ i = omega (arith, below, last) in
+      let at_end : get_or ds i e ≡ get_or ds k d = get_or_default ds i e d lt ∙ ap (λ n. get_or ds n d) (sym here) in
+      let yes : bytes_eq (get_or ds i e).name name ≡ true = (bytes_eq-Decides (get_or ds i e).name name).1 (ap (λ (x : MapDecl). x.name) at_end ∙ same) in
+      absurd (cc (yes, other))
+]

@@ -1,40 +1,10 @@
--- The searches of an object: the only one that is asked for, and the least place.
-use Rattle.std.proofs.Common.{◌≡◌, ◌≢◌, ◌∙◌, ℕ, suc, ◌+◌, ◌-◌, ◌<◌, ◌≤◌, min, Bool, true, false, cond, Option, Some, None, List, [], ◌∷◌, ◌++◌, length, refl, sym, ap, subst, arith}
+-- The search for the only function that is asked for.
+use Rattle.std.proofs.Common.{◌≡◌, ◌≢◌, ◌∙◌, ℕ, ◌+◌, ◌<◌, ◌≤◌, Bool, true, false, cond, Some, None, List, [], ◌∷◌, ◌++◌, length, refl, sym, ap, subst, arith}
 use Rattle.std.proofs.lemmas.List.{append-nil, length_push, map-id}
 use Rattle.std.proofs.lemmas.List.FromFn.{filter_of_map_range_with_len_more}
 use Rattle.std.specs.List.{filter, range_with_len}
 use Rattle.xdp_object.specs.declared.error.ObjectError.TheVariants.{ManyPrograms, NoProgram}
 use Rattle.xdp_object.specs.Object.{wrong_count}
-use Rattle.xdp_object.specs.Relocations.{least_from, lesser}
-
-lesser-none : (a : Option ℕ) → lesser a None ≡ a
-lesser-none None = refl
-lesser-none (Some a) = refl
-
-lesser-assoc : (a b c : Option ℕ) → lesser (lesser a b) c ≡ lesser a (lesser b c)
-lesser-assoc None b c = refl
-lesser-assoc (Some a) None c = refl
-lesser-assoc (Some a) (Some b) None = refl
-lesser-assoc (Some a) (Some b) (Some c) = ap Some (least a b c)
-  where
-    least : (a b c : ℕ) → min (min a b) c ≡ min a (min b c)
-    least a b c = omega arith
-
--- one more, after those with the least `least`
-pub least_from-step : (f : ℕ → Option ℕ) (least one new : Option ℕ) (i n : ℕ) → i < n → one ≡ f i → new ≡ lesser least one
-    → lesser least (least_from f i (n - i)) ≡ lesser new (least_from f (i + 1) (n - (i + 1)))
-least_from-step f least one new i n h e m =
-    let size : n - i ≡ suc (n - (i + 1)) = omega arith in
-    let next : suc i ≡ i + 1 = omega arith in
-    ap (λ k. lesser least (least_from f i k)) size
-    ∙ ap (λ o. lesser least (lesser o (least_from f (suc i) (n - (i + 1))))) (sym e)
-    ∙ sym (lesser-assoc least one (least_from f (suc i) (n - (i + 1))))
-    ∙ ap (λ k. lesser (lesser least one) (least_from f k (n - (i + 1)))) next
-    ∙ ap (λ o. lesser o (least_from f (i + 1) (n - (i + 1)))) (sym m)
-
--- and none after the last
-pub least_from-end : (f : ℕ → Option ℕ) (least : Option ℕ) (i n : ℕ) → n ≡ i → lesser least (least_from f i (n - i)) ≡ least
-least_from-end f least i n e = let none : n - i ≡ 0 = omega arith in ap (λ k. lesser least (least_from f i k)) none ∙ lesser-none least
 
 -- ---- the functions that are asked for
 

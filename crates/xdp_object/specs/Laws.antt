@@ -1,11 +1,12 @@
 -- What holds of objects, whatever their bytes.
-use Rattle.std.specs.Prelude.{ℕ, ◌≡◌, ◌≢◌, ◌≤◌, List, [], Some, None, All}
+use Rattle.std.specs.Prelude.{ℕ, ℤ, ◌≡◌, ◌≢◌, ◌≤◌, List, [], Some, None, All}
 use Rattle.bpf_isa.specs.declared.instruction.Insn.{Insn}
 use Rattle.bpf_isa.specs.Text.{Spells}
 use Rattle.elf_view.specs.Layout.{object_layout, object_size}
 use Rattle.xdp_object.specs.declared.error.ObjectError.{ObjectError}
 use Rattle.xdp_object.specs.Choice.{Chosen, chosen}
 use Rattle.xdp_object.specs.Object.{FirstFault, IsObject}
+use Rattle.xdp_object.specs.TwoUnits.{two_units}
 use Rattle.xdp_machine.specs.Program.{XdpProgram}
 
 -- Under a choice, bytes are an object of one program at most, or have one first fault, and never both.
@@ -27,3 +28,7 @@ pub record ReadsLayout (name code : List ℕ) (insns : List Insn) : Type 0 where
 abbrev pub LayoutLaw : List ℕ → List ℕ → List Insn → Type 0
 LayoutLaw name code insns =
     All (λ b. b ≢ 0) name → code ≢ [] → Spells code insns → object_size name code [] [] ≤ 1048576 → ReadsLayout name code insns
+
+-- an object of the program `r0 = k`, `exit` has no maps
+abbrev pub TwoUnitsLaw : Chosen → List ℕ → XdpProgram → ℤ → Type 0
+TwoUnitsLaw choice bytes p k = IsObject choice bytes p → p.insns ≡ two_units k → (p.decls ≡ []) × (p.refs ≡ [])

@@ -10,6 +10,7 @@ pub mod TwoUnits
 pub mod Choice
 pub mod Functions
 pub mod Relocations
+pub mod Maps
 pub mod Object
 pub mod Codes
 pub mod Laws

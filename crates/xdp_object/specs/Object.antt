@@ -1,5 +1,5 @@
 -- Which bytes are an object, and of which program; for the others, the first fault.
-use Rattle.std.specs.Prelude.{ℕ, ◌+◌, ◌%◌, ◌==◌, ◌≡◌, nat_lt, is_some, ◌&&◌, if◌then◌else◌, List, [], ◌∷◌, length, slice_index, Option, Some, None, Result, Ok, Err}
+use Rattle.std.specs.Prelude.{ℕ, ◌+◌, ◌%◌, ◌==◌, ◌≡◌, nat_lt, is_some, ◌&&◌, if◌then◌else◌, List, [], ◌∷◌, length, slice_index, Option, Some, None, Result, Ok, Err, map as map_list}
 use Rattle.std.specs.Option.{option_map, option_or}
 use Rattle.bpf_isa.specs.declared.instruction.Insn.{Insn}
 use Rattle.bpf_isa.specs.Text.{FirstBad, Spells}
@@ -11,7 +11,8 @@ use Rattle.xdp_object.specs.declared.error.ObjectError.{ObjectError}
 use Rattle.xdp_object.specs.declared.error.ObjectError.TheVariants.{Elf, NoProgram, ManyPrograms, Odd, Bad, Long}
 use Rattle.xdp_object.specs.Choice.{Chosen}
 use Rattle.xdp_object.specs.Functions.{function_code, programs, symbol_name, symbol_of}
-use Rattle.xdp_object.specs.Relocations.{cut_tables, rela_tables, relocated}
+use Rattle.xdp_object.specs.Relocations.{Reference, cut_tables, first_unknown, places_of, rela_tables, references}
+use Rattle.xdp_object.specs.Maps.{MapTable, all_referred, no_maps, with_numbers}
 use Rattle.xdp_machine.specs.Program.{XdpProgram}
 
 -- ---- the rules, in their order
@@ -65,10 +66,14 @@ fault_before_code choice bytes =
     ∷ wrong_function bytes (program_symbol choice bytes) ∷ []
     )
 
--- the rules on the relocations of a function
-unfoldable pub relocation_fault : List ℕ → Symbol → Option ObjectError
-relocation_fault bytes s =
-    first_fault (cut_tables bytes s.section ∷ rela_tables bytes s.section ∷ relocated bytes s ∷ [])
+-- the rules on the relocations of a function of these instructions
+unfoldable pub relocation_fault : List ℕ → Symbol → List Insn → Option ObjectError
+relocation_fault bytes s insns =
+    first_fault (cut_tables bytes s.section ∷ rela_tables bytes s.section ∷ first_unknown (places_of bytes s) insns ∷ [])
+
+-- the maps that a function refers to, or the first fault of one
+unfoldable pub maps_of : (hash_cap : ℕ) → List ℕ → Symbol → Result MapTable ObjectError
+maps_of hash_cap bytes s = all_referred hash_cap bytes no_maps (references (places_of bytes s))
 
 -- ---- programs and faults
 
@@ -76,21 +81,30 @@ relocation_fault bytes s =
 abbrev pub function_of : Chosen → List ℕ → Symbol
 function_of choice bytes = symbol_of bytes (program_symbol choice bytes)
 
+-- the rules up to the maps, for a function of these instructions
+pub record HasNoFault (choice : Chosen) (bytes : List ℕ) (insns : List Insn) : Type 0 where
+  pub function : fault_before_code choice bytes ≡ None
+  pub code : Spells (function_code bytes (function_of choice bytes)) insns
+  pub relocations : relocation_fault bytes (function_of choice bytes) insns ≡ None
+
 -- The bytes are, under this choice, an object of this program.
 pub record IsObject (choice : Chosen) (bytes : List ℕ) (p : XdpProgram) : Type 0 where
-  pub function : fault_before_code choice bytes ≡ None
+  pub insns : List Insn
+  pub no_fault : HasNoFault choice bytes insns
+  pub maps : MapTable
+  pub has_maps : maps_of choice.hash_cap bytes (function_of choice bytes) ≡ Ok maps
   pub name : symbol_name bytes (program_symbol choice bytes) ≡ Some p.name
-  pub code : Spells (function_code bytes (function_of choice bytes)) p.insns
-  pub relocations : relocation_fault bytes (function_of choice bytes) ≡ None
-  pub decls : p.decls ≡ []
-  pub refs : p.refs ≡ []
+  pub insns_are : p.insns ≡ with_numbers (places_of bytes (function_of choice bytes)) maps.symbols insns
+  pub decls_are : p.decls ≡ maps.decls
+  pub refs_are : p.refs ≡ map_list (λ (r : Reference). r.place) (references (places_of bytes (function_of choice bytes)))
 
 -- They are none, and this is their first fault.
 pub data FirstFault (choice : Chosen) (bytes : List ℕ) (e : ObjectError) : Type 0 where
   BeforeCode : fault_before_code choice bytes ≡ Some e → FirstFault choice bytes e
   -- the first unit where an instruction has to begin and none does
   InCode : fault_before_code choice bytes ≡ None → (at : ℕ) → FirstBad (function_code bytes (function_of choice bytes)) at → e ≡ Bad at → FirstFault choice bytes e
-  InRelocations : fault_before_code choice bytes ≡ None → (insns : List Insn) → Spells (function_code bytes (function_of choice bytes)) insns → relocation_fault bytes (function_of choice bytes) ≡ Some e → FirstFault choice bytes e
+  InRelocations : fault_before_code choice bytes ≡ None → (insns : List Insn) → Spells (function_code bytes (function_of choice bytes)) insns → relocation_fault bytes (function_of choice bytes) insns ≡ Some e → FirstFault choice bytes e
+  InMaps : (insns : List Insn) → HasNoFault choice bytes insns → maps_of choice.hash_cap bytes (function_of choice bytes) ≡ Err e → FirstFault choice bytes e
 
 -- ---- calls
 

@@ -1,9 +1,10 @@
 //! What is written of a fault.
 
-ghost use Rattle.std.specs.Prelude.{◌≡◌, ◌++◌, IfOk, decimal};
-ghost use Rattle.xdp_object.specs.Codes.{code_of, elf_code_of};
+ghost use Rattle.std.specs.Prelude.{◌≡◌, ◌++◌, IfOk, OnOk, decimal};
+ghost use Rattle.xdp_object.specs.Codes.{code_of};
 
 use crate::error::ObjectError;
+use btf_view::BtfError;
 use elf_view::ElfError;
 use itoa::Buffer;
 use std::alloc::{AllocError, Global};
@@ -22,6 +23,13 @@ impl ObjectError {
             ObjectError::Odd => Vec::from_slice(alloc, b"O7 odd"),
             ObjectError::Bad { at } => numbered(alloc, b"O7 ", u128::from(at)),
             ObjectError::Relocation { at } => numbered(alloc, b"O4 ", u128::from(at)),
+            ObjectError::Map { symbol, rule } => {
+                let mut text = numbered(alloc, b"O5 ", u128::from(symbol))?;
+                text.push(b' ')?;
+                push_number(&mut text, u128::from(rule.number()))?;
+                Ok(text)
+            }
+            ObjectError::Btf(error) => btf_code(alloc, error),
             ObjectError::NoMemory => Ok(Vec::new(alloc)),
         }
     }
@@ -40,12 +48,32 @@ fn elf_code(alloc: Global, error: ElfError) -> Result<Vec<u8>, AllocError>
     }
 }
 
+// The code of an error of type information.
+fn btf_code(alloc: Global, error: BtfError) -> Result<Vec<u8>, AllocError>
+    ensures { IfOk result (λ text. text.items ≡ code_of (ObjectError.Btf error)) }
+{
+    match error {
+        BtfError::Short => Vec::from_slice(alloc, b"O6 B1"),
+        BtfError::Magic => Vec::from_slice(alloc, b"O6 B2"),
+        BtfError::Kind { id } => numbered(alloc, b"O6 B3 ", u128::from(id)),
+        BtfError::Depth => Vec::from_slice(alloc, b"O6 B4"),
+        BtfError::Field { member } => numbered(alloc, b"O6 B5 ", u128::from(member)),
+    }
+}
+
+// Puts a number in decimal.
+fn push_number(text: &mut Vec<u8>, number: u128) -> Result<(), AllocError>
+    ensures { OnOk result (text.new.items ≡ text.old.items ++ decimal number) }
+{
+    let mut buffer = Buffer::new();
+    text.extend_from_slice(buffer.format(number).as_bytes())
+}
+
 // A word and a number in decimal.
 fn numbered(alloc: Global, word: &[u8], number: u128) -> Result<Vec<u8>, AllocError>
     ensures { IfOk result (λ text. text.items ≡ word.now ++ decimal number) }
 {
     let mut text = Vec::from_slice(alloc, word)?;
-    let mut buffer = Buffer::new();
-    text.extend_from_slice(buffer.format(number).as_bytes())?;
+    push_number(&mut text, number)?;
     Ok(text)
 }

@@ -1,10 +1,12 @@
 //! Why bytes are no object of one program.
 
+use btf_view::BtfError;
 use elf_view::ElfError;
+use map_records::MapRule;
 use std::alloc::{AllocError, AllocFailed};
 use thiserror::Error;
 
-/// Why there is no program. The faults are asked for in the order of the variants.
+/// Why there is no program. The faults are asked for in the order of the variants, but that each map has its turn: its rules and the type information that it needs come before the next map's.
 #[derive(Clone, Copy, Debug, PartialEq, Eq, Error)]
 pub enum ObjectError {
     /// The object has more than 1,048,576 bytes.
@@ -28,6 +30,12 @@ pub enum ObjectError {
     /// The relocation of this unit of the function is not known.
     #[error("an unknown relocation at unit {at}")]
     Relocation { at: u64 },
+    /// The map that this symbol stands for breaks a rule.
+    #[error("the map of symbol {symbol}: {rule}")]
+    Map { symbol: u32, rule: MapRule },
+    /// The type information of the maps cannot be read, or tells no map.
+    #[error("{0}")]
+    Btf(BtfError),
     #[error("out of memory")]
     NoMemory,
 }
@@ -39,6 +47,17 @@ impl From<AllocError> for ObjectError {
     ghost from_gives = { λ _ e. e ≡ NoMemory };
 
     fn from(_: AllocError) -> ObjectError {
+        ObjectError::NoMemory
+    }
+}
+
+impl<T: Drop> From<AllocFailed<T>> for ObjectError {
+    ghost use Rattle.std.specs.Prelude.{◌≡◌};
+    ghost use Rattle.xdp_object.specs.declared.error.ObjectError.TheVariants.{NoMemory};
+
+    ghost from_gives = { λ _ e. e ≡ NoMemory };
+
+    fn from(_failed: AllocFailed<T>) -> ObjectError {
         ObjectError::NoMemory
     }
 }

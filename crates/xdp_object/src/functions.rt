@@ -50,7 +50,7 @@ fn symbol_strings<'a>(view: &ElfView<'a>) -> &'a [u8]
 }
 
 /// The name of symbol `n`.
-fn symbol_name<'a>(view: &ElfView<'a>, n: u32) -> Result<&'a [u8], ElfError>
+pub fn symbol_name<'a>(view: &ElfView<'a>, n: u32) -> Result<&'a [u8], ElfError>
     requires opened { first_error view.now ≡ None }
     requires entry { n < entry_count 24 (symbol_table view.now) }
     ensures found { IfOk result (λ name. symbol_name view.now n ≡ Some name.now) }
@@ -122,6 +122,7 @@ pub fn function_at<'a>(view: &ElfView<'a>, n: u32) -> Result<Function<'a>, Objec
     ensures name { IfOk result (λ f. symbol_name view.now n ≡ Some f.name.now) }
     ensures code { IfOk result (λ f. f.code.now ≡ function_code view.now (symbol_of view.now n)) }
     ensures whole { IfOk result (λ f. length f.code.now % 8 ≡ 0) }
+    ensures size { IfOk result (λ f. f.symbol.size ≡ length f.code.now) }
 {
     let name = match symbol_name(view, n) {
         Ok(name) => name,

@@ -1,9 +1,10 @@
 //! What holds of objects, whatever their bytes. Each function's contract is a law; it computes nothing.
 
-ghost use Rattle.std.specs.Prelude.{ℕ, List};
+ghost use Rattle.std.specs.Prelude.{ℕ, ℤ, List};
 ghost use Rattle.bpf_isa.specs.declared.instruction.Insn.{Insn};
 ghost use Rattle.xdp_object.specs.Choice.{Chosen};
-ghost use Rattle.xdp_object.specs.Laws.{LayoutLaw, OneOutcome};
+ghost use Rattle.xdp_object.specs.Laws.{LayoutLaw, OneOutcome, TwoUnitsLaw};
+ghost use Rattle.xdp_machine.specs.Program.{XdpProgram};
 
 /// Under a choice, bytes are an object of one program at most, or have one first fault, and never both.
 pub fn one_outcome()
@@ -13,4 +14,9 @@ pub fn one_outcome()
 /// What `elf_view::object_of` writes of a function with no maps is an object of just that function.
 pub fn reads_layout()
     ensures { (name code : List ℕ) (insns : List Insn) → LayoutLaw name code insns }
+{}
+
+/// An object of the program `r0 = k`, `exit` has no maps.
+pub fn two_units_alone()
+    ensures { (choice : Chosen) (bytes : List ℕ) (p : XdpProgram) (k : ℤ) → TwoUnitsLaw choice bytes p k }
 {}

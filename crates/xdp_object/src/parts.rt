@@ -1,13 +1,13 @@
 //! The parts of a program: what they have to be.
 
-ghost use Rattle.std.specs.Prelude.{ℕ, ◌≡◌, ◌≢◌, ◌↔◌, ◌<◌, All, IsTrue, length, slice_index_or};
+ghost use Rattle.std.specs.Prelude.{◌≡◌, ◌≢◌, ◌↔◌, All, IsTrue, length};
 ghost use Rattle.std.specs.List.{AllPairs};
 ghost use Rattle.std.specs.List.Sorted.{IsStrictlyIncreasing};
 ghost use Rattle.std.specs.Option.{option_copied};
 ghost use Rattle.bpf_isa.specs.Spelling.{IsInsn};
 ghost use Rattle.bpf_isa.specs.Text.{insn_at, unit_count};
-ghost use Rattle.xdp_maps.specs.declared.decl.MapDecl.{MapDecl};
 ghost use Rattle.xdp_machine.specs.Program.{IsDeclaration, IsMapName, IsReference, is_name_byte};
+ghost use Rattle.xdp_object.specs.Maps.{IsNameIn, is_map_name, is_taken};
 
 use bpf_isa::{Insn, Op};
 use xdp_maps::decl::MapDecl;
@@ -42,9 +42,10 @@ fn is_name_byte(byte: u8) -> bool
     byte.is_ascii_alphanumeric() || byte == b'_' || byte == b'.'
 }
 
-// Whether a text can name a map.
-fn is_map_name(name: &[u8]) -> bool
-    ensures { IsTrue result ↔ IsMapName name.now }
+/// Whether a text can name a map.
+pub fn is_map_name(name: &[u8]) -> bool
+    ensures name { IsTrue result ↔ IsMapName name.now }
+    ensures value { result ≡ is_map_name name.now }
 {
     if name.is_empty() || name.len() > 63 {
         return false;
@@ -76,9 +77,10 @@ pub fn are_declarations(decls: &[MapDecl]) -> bool
     true
 }
 
-// Whether a name is that of one of these maps.
-fn is_taken(decls: &[MapDecl], name: &[u8]) -> bool
-    ensures { IsTrue result ↔ ((k : ℕ) × (k < length decls.now) × ((d : MapDecl) → (slice_index_or decls.now k d).name ≡ name.now)) }
+/// Whether a name is that of one of these maps.
+pub fn is_taken(decls: &[MapDecl], name: &[u8]) -> bool
+    ensures taken { IsTrue result ↔ IsNameIn decls.now name.now }
+    ensures value { result ≡ is_taken decls.now name.now }
 {
     for decl in decls {
         if decl.name.as_slice() == name {

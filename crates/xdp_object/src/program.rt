@@ -9,7 +9,6 @@ use crate::parts::{
     are_ascending, are_declarations, are_legal, are_references, have_own_names, unit_count,
 };
 use bpf_isa::Insn;
-use std::alloc::Global;
 use std::marker::Model;
 use xdp_maps::decl::MapDecl;
 
@@ -62,17 +61,21 @@ impl Program {
         }
     }
 
-    // A program that refers to no map.
-    pub(crate) fn without_maps(alloc: Global, name: Vec<u8>, insns: Vec<Insn>) -> Program
-        requires legal { All IsInsn insns.items }
-        requires few { unit_count insns.items < 2 ^ 32 }
-        ensures { result ≡ record { name = name.items; insns = insns.items; decls = []; refs = [] } }
+    // The program of these parts, which make up one.
+    pub(crate) fn of(
+        name: Vec<u8>,
+        insns: Vec<Insn>,
+        decls: Vec<MapDecl>,
+        refs: Vec<u32>,
+    ) -> Program
+        requires { IsProgram (record { name = name.items; insns = insns.items; decls = decls.items; refs = refs.items }) }
+        ensures { result ≡ record { name = name.items; insns = insns.items; decls = decls.items; refs = refs.items } }
     {
         Program {
             name,
             insns,
-            decls: Vec::new(alloc),
-            refs: Vec::new(alloc),
+            decls,
+            refs,
         }
     }
 

@@ -11,8 +11,10 @@ ghost use Rattle.xdp_object.specs.Object.{FailsAs, FirstFault, IsObject, too_lon
 use crate::choice::Choice;
 use crate::error::ObjectError;
 use crate::functions::{find_program, function_at};
+use crate::maps::map_table;
+use crate::numbers::{numbered, referring};
 use crate::program::Program;
-use crate::relocations::check_relocations;
+use crate::relocations::known_places;
 use bpf_isa::{DecodeError, Insn, decode_all};
 use byteorder::{ByteOrder, LittleEndian};
 use elf_view::ElfView;
@@ -60,19 +62,23 @@ fn decode(alloc: Global, code: &[u8]) -> Result<Vec<Insn>, ObjectError>
     }
 }
 
-/// The program of an object that is chosen.
+/// The program of an object that is chosen. Its maps are numbered as they are first referred to, by place.
 ///
-/// An error is the first fault of the object, or `NoMemory`. For now a program has no maps, and each relocation of the
-/// function is a fault.
+/// An error is the first fault of the object, or `NoMemory`.
 pub fn read_object(alloc: Global, bytes: &[u8], choice: Choice<'_>) -> Result<Program, ObjectError>
     ensures program { IfOk result (λ p. IsObject (chosen_of choice.entry) bytes.now p) }
     ensures fault { IfErr result (λ e. e ≢ ObjectError.NoMemory → FirstFault (chosen_of choice.entry) bytes.now e) }
 {
     let view = open(bytes)?;
-    let number = find_program(&view, section_names(bytes), choice.program)?;
+    let names = section_names(bytes);
+    let number = find_program(&view, names, choice.program)?;
     let function = function_at(&view, number)?;
     let insns = decode(alloc, function.code)?;
-    check_relocations(&view, &function.symbol)?;
+    let strings = view.bytes_of(names);
+    let places = known_places(alloc, &view, strings, &function.symbol, &insns)?;
+    let maps = map_table(alloc, &view, strings, &places, choice.hash_cap)?;
     let name = Vec::from_slice(alloc, function.name)?;
-    Ok(Program::without_maps(alloc, name, insns))
+    let insns = numbered(alloc, &insns, &places, maps.symbols())?;
+    let refs = referring(alloc, &places)?;
+    Ok(Program::of(name, insns, maps.into_decls(), refs))
 }

@@ -1,0 +1,4 @@
+pub mod Declarations
+pub mod Records
+pub mod Rules
+pub mod Variables
