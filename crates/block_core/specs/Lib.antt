@@ -1,0 +1,6 @@
+pub mod Rename
+pub mod Blocks
+pub mod Link
+pub mod Parts
+pub mod Order
+pub mod Law
