@@ -1,5 +1,5 @@
 -- A block's statement does among others what it does alone.
-use Rattle.std.specs.Prelude.{◌≡◌, ℕ, suc, ◌+◌, ◌-◌, ◌<◌, ◌==◌, cond, List, [], ◌∷◌, ◌++◌, length, slice_set}
+use Rattle.std.specs.Prelude.{◌≡◌, ℕ, ◌+◌, ◌-◌, ◌<◌, ◌==◌, cond, List, [], ◌∷◌, ◌++◌, length, slice_set}
 use Rattle.std.proofs.Common.{refl, sym, ap, ◌∙◌, arith, get_or, append_assoc, length-append, subst, inl, inr}
 use Rattle.std.proofs.lemmas.List.{get_or_append_left, get_or-append-add, set-append_left, set-append_right, length-set}
 use Rattle.net_core.specs.declared.tree.Word.{Word}
@@ -7,7 +7,6 @@ use Rattle.net_core.specs.declared.tree.Net.{Net}
 use Rattle.net_core.specs.Nets.{StatementTree, SBlock, SIf, SIfElse, SSet, SStore, StatementTrees, SEnd, SThen}
 use Rattle.net_core.specs.Value.{Env, value}
 use Rattle.net_core.specs.Clock.{Stored, done, all_done, edge}
-use Rattle.block_core.specs.declared.name.Name.{Name}
 use Rattle.block_core.specs.Rename.{rename, rename_statement, rename_statements, seen}
 use Rattle.block_core.specs.Blocks.{registers_of, memories_of, Whole, Among, start}
 use Rattle.block_core.specs.Link.{resolve, link_statement, all_statements}

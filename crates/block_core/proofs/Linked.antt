@@ -3,23 +3,20 @@ use Rattle.std.specs.Prelude.{◌≡◌, ℕ, suc, ◌+◌, ◌==◌, cond, fals
 use Rattle.std.proofs.Common.{refl, sym, ap, ◌∙◌, arith, get_or, subst, inl, inr}
 use Rattle.net_core.specs.declared.tree.Word.{Word}
 use Rattle.net_core.specs.declared.tree.Net.{Net}
-use Rattle.net_core.specs.declared.tree.Net.TheVariants as net
 use Rattle.net_core.specs.declared.design.Declared.{Declared}
-use Rattle.net_core.specs.declared.design.Declared.TheVariants as declared
-use Rattle.net_core.specs.declared.design.Port.{Port}
 use Rattle.net_core.specs.Nets.{WireTree}
 use Rattle.net_core.specs.Value.{nothing, Env, value, stops}
-use Rattle.net_core.specs.Clock.{Stored, first_words, first_memories, env_of, stopped_at, rights, assigned, first_stored, done}
+use Rattle.net_core.specs.Clock.{first_words, first_memories, env_of, stopped_at, rights, assigned}
 use Rattle.block_core.specs.declared.name.Name.{Name}
 use Rattle.block_core.specs.declared.block.BlockMemory.{BlockMemory}
 use Rattle.block_core.specs.Rename.{rename, rename_right, seen}
-use Rattle.block_core.specs.Blocks.{BlockTree, BlockWireTree, OutputTree, registers_of, memories_of, wires_of, first_memory, first_of, Whole, IsPlaced, Among, gather, start}
-use Rattle.block_core.specs.Link.{resolve, link_wires, link_output, all_wires, all_memories, declare_memory, link}
-use Rattle.block_core.specs.Parts.{stored_in, stored_of, IsSized, Solve, Goes, shown_by, ClockOfParts}
-use Rattle.block_core.specs.Law.{IsLinkable, Linked, StartsAsParts, SizesStay}
+use Rattle.block_core.specs.Blocks.{BlockWireTree, OutputTree, registers_of, memories_of, wires_of, first_memory, Whole, Among, gather, start}
+use Rattle.block_core.specs.Link.{resolve, link_wires, link_output, all_wires, all_memories, declare_memory, declare_register, link}
+use Rattle.block_core.specs.Parts.{stored_of, Solve, Goes, shown_by}
+use Rattle.block_core.specs.Law.{Linked, StartsAsParts, SizesStay}
 use Rattle.block_core.proofs.Gathered.{Runs, runs, get_gather, map_gather}
 use Rattle.block_core.proofs.Renamed.{by_test, value-rename, right-rename, stops-rename}
-use Rattle.block_core.proofs.Solved.{Ordered, Solved, solved}
+use Rattle.block_core.proofs.Solved.{Solved, solved}
 use Rattle.block_core.proofs.Ordered.{ordered}
 use Rattle.block_core.proofs.Edges.{sizes, edge_parts}
 
@@ -81,7 +78,7 @@ linked P d port_names ports outputs ins ss l z =
     }
 
 -- ---- what is stored first
-words_declared : (rs : List Word) (ds : List Declared) → first_words (map (λ w. declared.Register w) rs ++ ds) ≡ rs ++ first_words ds
+words_declared : (rs : List Word) (ds : List Declared) → first_words (map declare_register rs ++ ds) ≡ rs ++ first_words ds
 words_declared [] ds = refl
 words_declared (r ∷ rs) ds = ap (λ l. r ∷ l) (words_declared rs ds)
 
@@ -89,7 +86,7 @@ no_words : (ms : List BlockMemory) → first_words (map declare_memory ms) ≡ [
 no_words [] = refl
 no_words (m ∷ ms) = no_words ms
 
-memories_past : (rs : List Word) (ds : List Declared) → first_memories (map (λ w. declared.Register w) rs ++ ds) ≡ first_memories ds
+memories_past : (rs : List Word) (ds : List Declared) → first_memories (map declare_register rs ++ ds) ≡ first_memories ds
 memories_past [] ds = refl
 memories_past (r ∷ rs) ds = memories_past rs ds
 
@@ -105,8 +102,8 @@ pub starts_as_parts : (P : Type 0) → StartsAsParts P
 starts_as_parts P d port_names ports outputs =
     let rs = gather (λ p. (d.block p).registers) d.parts in
     let ms = all_memories d d.parts in
-    let words : first_words (map (λ w. declared.Register w) rs ++ map declare_memory ms) ≡ rs = words_declared rs (map declare_memory ms) ∙ ap (λ l. rs ++ l) (no_words ms) ∙ no_more rs in
-    let memories : first_memories (map (λ w. declared.Register w) rs ++ map declare_memory ms) ≡ gather (λ p. map first_memory (d.block p).memories) d.parts =
+    let words : first_words (map declare_register rs ++ map declare_memory ms) ≡ rs = words_declared rs (map declare_memory ms) ∙ ap (λ l. rs ++ l) (no_words ms) ∙ no_more rs in
+    let memories : first_memories (map declare_register rs ++ map declare_memory ms) ≡ gather (λ p. map first_memory (d.block p).memories) d.parts =
     memories_past rs (map declare_memory ms) ∙ memories_declared ms ∙ map_gather first_memory (λ p. (d.block p).memories) d.parts in
     rw (words, memories)
 

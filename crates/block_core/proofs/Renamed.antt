@@ -1,5 +1,5 @@
 -- A tree under other names has the value that it has where each net is seen through its name.
-use Rattle.std.specs.Prelude.{◌≡◌, ◌==◌, true, false, Bool, cond}
+use Rattle.std.specs.Prelude.{◌≡◌, true, false, Bool}
 use Rattle.std.proofs.Common.{refl, ap}
 use Rattle.net_core.specs.declared.tree.Word.{Word}
 use Rattle.net_core.specs.Nets.{Tree, TConst, TRead, TBit, TPartSelect, TMemoryWord, TUnary, TBinary, TConditional, TConcatenation, Trees, TLast, TMore, RightTree, RPlain, RQuotient, RRemainder}

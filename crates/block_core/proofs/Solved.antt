@@ -1,13 +1,13 @@
 -- Wires that read earlier ones have the values of their right sides, once all are valued in text order.
 use Rattle.std.specs.Prelude.{◌≡◌, ℕ, suc, ◌<◌, List, [], ◌∷◌, ◌++◌, length}
-use Rattle.std.proofs.Common.{refl, sym, ap, ◌∙◌, arith, get_or, append_assoc, length-append, subst}
+use Rattle.std.proofs.Common.{refl, sym, ap, ◌∙◌, arith, append_assoc, length-append, subst}
 use Rattle.std.proofs.lemmas.List.{get_or_append_left, get_or_at, append-nil}
 use Rattle.net_core.specs.declared.tree.Word.{Word}
 use Rattle.net_core.specs.declared.tree.Net.{Net}
 use Rattle.net_core.specs.declared.tree.Net.TheVariants as net
 use Rattle.net_core.specs.Nets.{Tree, TConst, TRead, TBit, TPartSelect, TMemoryWord, TUnary, TBinary, TConditional, TConcatenation, Trees, TLast, TMore, RightTree, RPlain, RQuotient, RRemainder, WireTree}
 use Rattle.net_core.specs.Value.{nothing, part_select, apply_unary, value, concatenated_parts, right_value, Env}
-use Rattle.net_core.specs.Clock.{Stored, net_value, memory_word_value, env, with_wires, rights}
+use Rattle.net_core.specs.Clock.{Stored, net_value, memory_word_value, env, with_wires}
 use Rattle.block_core.specs.Order.{Reads, AllRead, RightReads}
 
 abbrev pub IsEarly : ℕ → Net → Type 0

@@ -4,3 +4,6 @@ pub mod Link
 pub mod Parts
 pub mod Order
 pub mod Law
+pub mod Chains
+pub mod Formed
+pub mod View

@@ -12,7 +12,7 @@ use Rattle.block_core.specs.declared.name.Name.{Name}
 use Rattle.block_core.specs.declared.name.Name.TheVariants as name
 use Rattle.block_core.specs.declared.block.BlockMemory.{BlockMemory}
 use Rattle.block_core.specs.Rename.{rename, rename_right, rename_statement}
-use Rattle.block_core.specs.Blocks.{BlockTree, BlockWireTree, OutputTree, registers_of, memories_of, wires_of, Whole, gather, start}
+use Rattle.block_core.specs.Blocks.{BlockWireTree, OutputTree, registers_of, memories_of, wires_of, Whole, gather, start}
 
 -- a part's net as one of the design
 abbrev pub resolve : {P : Type 0} → Whole P → Name P → Net
@@ -49,8 +49,11 @@ all_statements d ps = map (link_statement d) ps
 abbrev pub declare_memory : BlockMemory → Declared
 declare_memory m = declared.Memory m.index m.first 0
 
+abbrev pub declare_register : Word → Declared
+declare_register w = declared.Register w
+
 abbrev pub all_declared : List Word → List BlockMemory → List Declared
-all_declared rs ms = declared.Integer ∷ (map (λ w. declared.Register w) rs ++ map declare_memory ms)
+all_declared rs ms = declared.Integer ∷ (map declare_register rs ++ map declare_memory ms)
 
 -- a letter, an underscore and a number for each
 abbrev pub numbered : List ℕ → ℕ → ℕ → List (List ℕ)
