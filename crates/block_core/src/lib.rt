@@ -6,6 +6,7 @@
 #![tactic(auto)]
 
 pub mod block;
+pub mod build;
 mod chains;
 mod error;
 pub mod laws;

@@ -22,3 +22,16 @@ pub trait Part: Copy {
     fn place(self) -> usize
         ensures { result ≡ place self };
 }
+
+/// The nets of a block as an enum of its own, as `Register::Count`, or those that it reads of other parts and at the ports.
+pub trait Named: Copy {
+    /// The parts of the design.
+    type Part: Part;
+
+    /// The name of a net.
+    ghost name: { Self → Name Self.Part };
+
+    /// The name of a net.
+    fn name(self) -> Name<Self::Part>
+        ensures { result ≡ name self };
+}
