@@ -11,7 +11,7 @@ use Rattle.block_core.specs.Rename.{rename, rename_statement, rename_statements,
 use Rattle.block_core.specs.Blocks.{registers_of, memories_of, Whole, Among, start}
 use Rattle.block_core.specs.Link.{resolve, link_statement, all_statements}
 use Rattle.block_core.specs.Parts.{stored_in, IsSized, Within, AllWithin}
-use Rattle.block_core.proofs.Gathered.{Runs}
+use Rattle.block_core.proofs.GatheredLaws.{Runs}
 use Rattle.block_core.proofs.Renamed.{by_test, value-rename}
 
 -- two that are stored, one after the other

@@ -1,4 +1,4 @@
-pub mod Gathered
+pub mod GatheredLaws
 pub mod Renamed
 pub mod Solved
 pub mod Ordered
@@ -9,4 +9,4 @@ pub mod Chained
 pub mod LinkedTrees
 pub mod Linkings
 pub mod Widths
-pub mod Typed
+pub mod TypedLaws

@@ -14,17 +14,13 @@ use Rattle.block_core.specs.Blocks.{BlockWireTree, OutputTree, registers_of, mem
 use Rattle.block_core.specs.Link.{resolve, link_wires, link_output, all_wires, all_memories, declare_memory, declare_register, link}
 use Rattle.block_core.specs.Parts.{stored_of, Solve, Goes, shown_by}
 use Rattle.block_core.specs.Law.{Linked, StartsAsParts, SizesStay}
-use Rattle.block_core.proofs.Gathered.{Runs, runs, get_gather, map_gather}
+use Rattle.block_core.proofs.GatheredLaws.{Runs, runs, get_gather, map_gather, length_map}
 use Rattle.block_core.proofs.Renamed.{by_test, value-rename, right-rename, stops-rename}
 use Rattle.block_core.proofs.Solved.{Solved, solved}
 use Rattle.block_core.proofs.Ordered.{ordered}
 use Rattle.block_core.proofs.Edges.{sizes, edge_parts}
 
 -- ---- equations by part
-pub length_map : {A B : Type 0} (f : A → B) (xs : List A) → length (map f xs) ≡ length xs
-length_map f [] = refl
-length_map f (x ∷ xs) = ap (λ (n : ℕ). suc n) (length_map f xs)
-
 part_right : (v : Env Net) (at : ℕ) (xs ys : List WireTree) → Solved v at (xs ++ ys) → Solved v (at + length xs) ys
 part_right v at [] ys h = let e : at + 0 ≡ at = omega arith in rw e h
 part_right v at (x ∷ xs) ys h = let q : at + suc (length xs) ≡ suc at + length xs = omega arith in rw q (part_right v (suc at) xs ys h.1)

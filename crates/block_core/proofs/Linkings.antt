@@ -18,8 +18,8 @@ use Rattle.block_core.specs.Rename.{rename_statement}
 use Rattle.block_core.specs.Blocks.{BlockTree, OutputTree, Whole, Among, gather, running, start, registers_of, memories_of, wires_of}
 use Rattle.block_core.specs.Link.{resolve, link_wires, link_output, link_statement, all_registers, all_memories, all_wires, declare_register, declare_memory, net_names, link}
 use Rattle.block_core.specs.View.{block_of, count_in, resolve_in, linked_statement, Makes}
-use Rattle.block_core.proofs.Gathered.{map_gather}
-use Rattle.block_core.proofs.Linked.{length_map}
+use Rattle.block_core.proofs.GatheredLaws.{map_gather}
+use Rattle.block_core.proofs.GatheredLaws.{length_map}
 
 pub assign_same : (a : Assign) (port : ℕ) (v : Tree Net) → a.port ≡ port → tree_of a.value ≡ v → assign_of a ≡ record { port = port; value = v }
 assign_same a port v p e = λ i. record { port = p i; value = e i }

@@ -8,7 +8,7 @@ use Rattle.block_core.specs.Rename.{rename, rename_parts, rename_right}
 use Rattle.block_core.specs.Blocks.{BlockWireTree, wires_of, Whole, IsPlaced, Among, start}
 use Rattle.block_core.specs.Link.{resolve, link_wires, all_wires}
 use Rattle.block_core.specs.Order.{Reads, AllRead, RightReads, IsBefore, InOrder, AllInOrder}
-use Rattle.block_core.proofs.Gathered.{Runs, runs}
+use Rattle.block_core.proofs.GatheredLaws.{Runs, runs}
 use Rattle.block_core.proofs.Solved.{IsEarly, Ordered}
 
 module _ {M N : Type 0} (f : M → N) (p : M → Type 0) (q : N → Type 0) (h : (n : M) → p n → q (f n)) where

@@ -14,8 +14,8 @@ use Rattle.block_core.specs.Blocks.{BlockWireTree, registers_of, memories_of, wi
 use Rattle.block_core.specs.Link.{resolve, link_wires, all_wires, all_registers, all_memories, all_declared, declare_register, declare_memory}
 use Rattle.block_core.specs.Order.{Reads, AllRead, RightReads}
 use Rattle.block_core.specs.Formed.{word_width, block_memory_width, block_wire_width, block_registers, block_memories, block_wires, words_fit, memories_fit}
-use Rattle.block_core.proofs.Gathered.{runs, get_gather, map_gather}
-use Rattle.block_core.proofs.Linked.{length_map}
+use Rattle.block_core.proofs.GatheredLaws.{runs, get_gather, map_gather}
+use Rattle.block_core.proofs.GatheredLaws.{length_map}
 
 -- what is there under its name has the same width under the other
 pub record Agree {M N : Type 0} (f : M → N) (q : M → Type 0) (s : Scope M) (t : Scope N) : Type 0 where

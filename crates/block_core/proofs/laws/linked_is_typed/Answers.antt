@@ -1,4 +1,4 @@
-use Rattle.block_core.proofs.Typed.{linked_is_typed}
+use Rattle.block_core.proofs.TypedLaws.{linked_is_typed}
 use Rattle.block_core.specs.contracts.laws.linked_is_typed.{P-type}
 use Rattle.block_core.proofs.laws.linked_is_typed.Goals as goal
 

@@ -1,7 +1,7 @@
 use Rattle.std.proofs.Common.{map, sym, ◌∙◌, string_bytes}
 use Rattle.net_core.specs.View.{wire_of}
 use Rattle.block_core.specs.View.{output_of}
-use Rattle.block_core.proofs.Linked.{length_map}
+use Rattle.block_core.proofs.GatheredLaws.{length_map}
 use Rattle.block_core.proofs.Linkings.{StartsOf, link_made}
 use Rattle.block_core.proofs.whole.link.Goals as goal
 

@@ -14,7 +14,7 @@ use Rattle.block_core.specs.Blocks.{BlockWireTree, OutputTree, registers_of, mem
 use Rattle.block_core.specs.Link.{resolve, link_wires, link_output, all_wires, all_statements, link}
 use Rattle.block_core.specs.Order.{Reads, IsBefore, InOrder, AllInOrder}
 use Rattle.block_core.specs.Formed.{block_wire_width, block_registers, block_memories, block_wires, names_scope, block_wires_typed, IsTypedBlock, StatementReads, StatementsRead, OutputsRead, IsThere, outputs_typed, LinkedIsTyped}
-use Rattle.block_core.proofs.Gathered.{Runs, runs}
+use Rattle.block_core.proofs.GatheredLaws.{Runs, runs}
 use Rattle.block_core.proofs.Renamed.{by_test}
 use Rattle.block_core.proofs.Ordered.{Below, below_next}
 use Rattle.block_core.proofs.Widths.{Agree, width_renamed, right_renamed, sides, both_true, register_at, memory_at, wire_at, all_declared_typed}

@@ -44,3 +44,7 @@ map_gather f g (p ∷ ps) = map_append f (g p) (gather g ps) ∙ ap (λ xs. map 
     map_append : {A B : Type 0} (f : A → B) (xs ys : List A) → map f (xs ++ ys) ≡ map f xs ++ map f ys
     map_append f [] ys = refl
     map_append f (x ∷ xs) ys = ap (λ l. f x ∷ l) (map_append f xs ys)
+
+pub length_map : {A B : Type 0} (f : A → B) (xs : List A) → length (map f xs) ≡ length xs
+length_map f [] = refl
+length_map f (x ∷ xs) = ap (λ (n : ℕ). suc n) (length_map f xs)
