@@ -1,0 +1,12 @@
+pub mod GatheredLaws
+pub mod Renamed
+pub mod Solved
+pub mod Ordered
+pub mod Edges
+pub mod Linked
+pub mod Loops
+pub mod Chained
+pub mod LinkedTrees
+pub mod Linkings
+pub mod Widths
+pub mod TypedLaws

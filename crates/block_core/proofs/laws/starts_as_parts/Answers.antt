@@ -1,0 +1,6 @@
+use Rattle.block_core.proofs.Linked.{starts_as_parts}
+use Rattle.block_core.specs.contracts.laws.starts_as_parts.{P-type}
+use Rattle.block_core.proofs.laws.starts_as_parts.Goals as goal
+
+pub returns : goal.returns
+returns g c = starts_as_parts (P-type g.row.P)
