@@ -1,0 +1,6 @@
+pub mod Tables
+pub mod Held
+pub mod Overlay
+pub mod Rows
+pub mod Marks
+pub mod Commits

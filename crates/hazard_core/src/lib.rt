@@ -1,0 +1,3 @@
+//! Operations of packets that overlap: maps as tables of slots, what a packet reads over its own earlier operations, which
+//! reads an operation touches, and what it leaves. It stands here as definitions.
+#![tactic(auto)]
