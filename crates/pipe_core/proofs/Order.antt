@@ -94,7 +94,7 @@ pub append_none : {X : Type 0} (xs : List X) → xs ++ [] ≡ xs
 append_none [] = refl
 append_none (x ∷ xs) = ap (λ l. x ∷ l) (append_none xs)
 
-some_last : (x : Option Packet) (xs : List (Option Packet)) → bit (is_some (last_or x xs)) ≤ inside (x ∷ xs)
+pub some_last : (x : Option Packet) (xs : List (Option Packet)) → bit (is_some (last_or x xs)) ≤ inside (x ∷ xs)
 some_last None [] = omega arith
 some_last (Some x) [] = omega arith
 some_last None (y ∷ ys) = some_last y ys
@@ -268,9 +268,17 @@ scatters g (a ∷ more) new pos true h = by (first_beat (drop (8 * pos) a.frame)
 
 -- ---- the whole clock
 
-pub keeps_order : (b : Build) (i : Input) (t : Trace) → IsInOrder b t → IsInOrder b (next b i t)
-unfolding next clock
-keeps_order b i t o =
+-- what beats do to the state after the work of the clock
+pub record BeatsKeep (b : Build) (s w c : State) (more : List Came) (gone : List Answer) : Type 0 where
+  pub places : c.places ≡ w.places
+  pub frames : c.frames ≡ w.frames ++ more
+  pub answers : gone ++ c.answers ≡ w.answers
+  pub room : length c.answers + length c.frames + bit (is_some c.part) ≤ b.slots
+
+pub beats_keep : (b : Build) (i : Input) (t : Trace) → IsInOrder b t →
+    BeatsKeep b t.state (work b i t.state) (clock b i t.state) (came_in t.state i (beat_over b t.state i)) (gave_in t.state.answers (taken_beat t.state i))
+unfolding clock
+beats_keep b i t o =
     let s = t.state in
     let w = work b i s in
     let k = work_keeps b i s o.places o.packets in
@@ -281,22 +289,37 @@ keeps_order b i t o =
     let part : bit (is_some w.part) ≡ bit (is_some s.part) = ap (λ c. bit (is_some c)) k.part in
     let gs = gathers n w i e (omega (arith, many, part, o.room)) (λ x q. omega (arith, many, ready_room b s i o.room x q)) in
     let g = gathered w i e in
-    let more = came_in s i e in
-    let same : came_in w i e ≡ more = came_same w s i e k.part in
-    let frames : g.frames ≡ w.frames ++ more = gs.frames ∙ ap (λ l. w.frames ++ l) same in
     let sc = scatters g s.answers (answers_of b.program left s.frames) s.pos i.take (gs.answers ∙ k.answers) in
     let gone = gave_in s.answers (taken_beat s i) in
     let c = scattered g (taken_beat s i) in
+    record {
+      places = sc.places ∙ gs.places;
+      frames = sc.frames ∙ gs.frames ∙ ap (λ l. w.frames ++ l) (came_same w s i e k.part);
+      answers = sc.answers ∙ gs.answers;
+      room = omega (arith, gs.room, ap length sc.frames, ap (λ x. bit (is_some x)) sc.part, ap length sc.answers, length-append gone c.answers, ap length gs.answers, many, o.room);
+    }
+
+pub keeps_order : (b : Build) (i : Input) (t : Trace) → IsInOrder b t → IsInOrder b (next b i t)
+unfolding next
+keeps_order b i t o =
+    let s = t.state in
+    let w = work b i s in
+    let k = work_keeps b i s o.places o.packets in
+    let left = left_in b i s in
+    let c = clock b i s in
+    let more = came_in s i (beat_over b s i) in
+    let gone = gave_in s.answers (taken_beat s i) in
+    let beats = beats_keep b i t o in
     let count : length left ≤ length t.came - length t.left = omega (arith, k.one, ap length o.frames, length-drop (length t.left) t.came) in
     let begun : length (t.left ++ left) ≤ length t.came = omega (arith, length-append t.left left, count, o.begun) in
     record {
-      room = omega (arith, gs.room, ap length sc.frames, ap (λ x. bit (is_some x)) sc.part, ap length sc.answers, length-append gone c.answers, ap length gs.answers, many, o.room);
-      places = ap length sc.places ∙ ap length gs.places ∙ k.places;
-      packets = omega (arith, ap inside sc.places, ap inside gs.places, k.packets, ap length sc.frames, ap length frames, length-append w.frames more);
+      room = beats.room;
+      places = ap length beats.places ∙ k.places;
+      packets = omega (arith, ap inside beats.places, k.packets, ap length beats.frames, length-append w.frames more);
       begun = omega (arith, begun, length-append t.came more);
-      frames = sc.frames ∙ frames ∙ ap (λ l. l ++ more) (k.frames ∙ ap (drop (length left)) o.frames ∙ drop_drop (length t.left) (length left) t.came o.begun ∙ ap (λ k. drop k t.came) (sym (length-append t.left left)))
+      frames = beats.frames ∙ ap (λ l. l ++ more) (k.frames ∙ ap (drop (length left)) o.frames ∙ drop_drop (length t.left) (length left) t.came o.begun ∙ ap (λ k. drop k t.came) (sym (length-append t.left left)))
           ∙ sym (drop-append-le (length (t.left ++ left)) t.came more begun);
-      answers = append_assoc t.gave gone c.answers ∙ ap (λ l. t.gave ++ l) (sc.answers ∙ gs.answers ∙ k.answers) ∙ sym (append_assoc t.gave s.answers (answers_of b.program left s.frames))
+      answers = append_assoc t.gave gone c.answers ∙ ap (λ l. t.gave ++ l) (beats.answers ∙ k.answers) ∙ sym (append_assoc t.gave s.answers (answers_of b.program left s.frames))
           ∙ ap (λ l. l ++ answers_of b.program left s.frames) o.answers ∙ ap (λ l. answers_of b.program t.left t.came ++ answers_of b.program left l) o.frames
           ∙ sym (answers_append b.program t.left left t.came o.begun) ∙ sym (answers_more b.program (t.left ++ left) t.came more begun);
     }
@@ -309,7 +332,7 @@ no_packets : (n : ℕ) → inside (replicate n None) ≡ 0
 no_packets zero = refl
 no_packets (suc n) = no_packets n
 
-begins : (b : Build) (maps : MapState) → IsInOrder b (begin b maps)
+pub begins : (b : Build) (maps : MapState) → IsInOrder b (begin b maps)
 begins b maps = record {
   room = omega arith;
   places = length-replicate (suc b.plan.last) None;

@@ -1,2 +1,4 @@
 pub mod Machine
 pub mod History
+pub mod Computed
+pub mod Sequential

@@ -1,9 +1,26 @@
 //! What holds over all lists of clocks of the machine. Each function's contract is a law; it computes nothing.
 
 ghost use Rattle.pipe_core.specs.History.{KeepsOrder, IsAlwaysInOrder};
+ghost use Rattle.pipe_core.specs.Computed.{KeepsComputed, IsAlwaysComputed};
+ghost use Rattle.pipe_core.specs.Sequential.{RunsWithoutMaps};
 
 /// The pipe holds frames and answers in the order in which the frames came, and each answer is that of its own packet.
 pub fn in_order()
     ensures clock { KeepsOrder }
     ensures always { IsAlwaysInOrder }
 {}
+
+/// Each cell that is no read, of the rows that a packet has taken in, is its operator's on the packet's own cells.
+pub fn computed()
+    ensures clock { KeepsComputed }
+    ensures always { IsAlwaysComputed }
+{
+    cell_core::laws::rows_rise();
+}
+
+/// Without operations on maps the packets that left are cell runs, one after another.
+pub fn runs_without_maps()
+    ensures { RunsWithoutMaps }
+{
+    cell_core::laws::rows_rise();
+}
