@@ -1,11 +1,9 @@
 -- What packets hold as they move.
-use Rattle.std.proofs.Common.{◌≡◌, ℕ, zero, suc, ◌+◌, ◌-◌, ◌<◌, ◌≤◌, Bool, true, false, List, [], ◌∷◌, ◌++◌, Option, Some, None, length, get_or, drop, refl, sym, ap, ◌∙◌, subst, arith, not, cond}
+use Rattle.std.proofs.Common.{◌≡◌, ℕ, zero, suc, ◌+◌, ◌<◌, ◌≤◌, Bool, true, false, List, [], ◌∷◌, ◌++◌, Option, Some, None, length, get_or, drop, refl, sym, ap, ◌∙◌, subst, arith, not}
 use Rattle.std.specs.Prelude.{if◌then◌else◌, nat_lt, ◌&&◌, ◌||◌, is_some, replicate}
 use Rattle.std.specs.Option.{option_map}
-use Rattle.std.proofs.lemmas.Bool.Decides.{nat_tests}
 use Rattle.std.proofs.lemmas.List.{get_or-drop}
 use Rattle.std.proofs.lemmas.Grind.{common_steps}
-use Rattle.beat_core.specs.declared.beat.Beat.{Beat}
 use Rattle.xdp_maps.specs.State.{MapState}
 use Rattle.cell_core.specs.Cells.{bit}
 use Rattle.cell_core.specs.Rows.{RowsRise}
@@ -13,7 +11,7 @@ use Rattle.hazard_core.specs.Held.{Held}
 use Rattle.hazard_core.specs.Tables.{TableState}
 use Rattle.hazard_core.specs.Marks.{Change}
 use Rattle.hazard_core.specs.Commits.{change_by, host_change}
-use Rattle.pipe_core.specs.Machine.{Packet, Came, State, Input, Build, Turn, Commits, Writes, Moves, no_frame, packet_of, place_at, inside, sends, swept, some_send, entered, struck, struck_below, enters, moved, newcomer, injected, worked, work, turn_of, came_with, gathered, scattered, beat_over, taken_beat, clock}
+use Rattle.pipe_core.specs.Machine.{Packet, Came, State, Input, Build, Turn, Commits, Writes, Moves, no_frame, packet_of, place_at, inside, sends, swept, some_send, entered, struck, struck_below, enters, moved, newcomer, injected, worked, work, turn_of, gathered, scattered, beat_over, taken_beat, clock}
 use Rattle.pipe_core.specs.History.{Trace, came_in, left_as, left_in, next, run, begin, IsInOrder}
 use Rattle.pipe_core.specs.Computed.{Computes, PlacesCompute, LeftCompute, IsComputed, IsPlanned, KeepsComputed, IsAlwaysComputed}
 use Rattle.pipe_core.proofs.Order.{last_or, moved_inside, place_last, some_last, swept_length, swept_inside, struck_inside, work_keeps, beats_keep, keeps_order, begins}
@@ -21,7 +19,7 @@ use Rattle.pipe_core.proofs.Computing.{takes_row, nothing_computes}
 
 -- ---- sending back
 
-swept_none : (b : Build) (k : ℕ) (xs : List (Option Packet)) → some_send b k xs ≡ false → swept b k xs ≡ xs
+pub swept_none : (b : Build) (k : ℕ) (xs : List (Option Packet)) → some_send b k xs ≡ false → swept b k xs ≡ xs
 swept_none b k [] e = refl
 swept_none b k (x ∷ xs) e = by (sends b k x) (some_send b (suc k) xs) refl e (swept_none b (suc k) xs)
   where
@@ -86,19 +84,24 @@ moved_computes b rise plan t fs k x (y ∷ ys) r h = by x y r h (moved_computes 
   where
     out : ℕ
     out = bit (is_some (last_or y ys))
+
     next : (y : Option Packet) → PlacesCompute b fs k (y ∷ ys) → Ready b (get_or fs (inside ys) no_frame) (suc k) y
     next None h = tt
     next (Some y) h = h.0
+
     rest : (y : Option Packet) → PlacesCompute b fs k (y ∷ ys) → PlacesCompute b fs (suc k) ys
     rest None h = h
     rest (Some y) h = h.1
+
     by : (x y : Option Packet) → Ready b (get_or fs (inside (y ∷ ys)) no_frame) k x → PlacesCompute b fs k (y ∷ ys) → PlacesCompute b (drop (bit (is_some (last_or y ys))) fs) (suc k) (moved b t fs (suc k) y ys) →
         PlacesCompute b (drop (bit (is_some (last_or y ys))) fs) k (enters b t k (get_or fs (inside (y ∷ ys)) no_frame) x ∷ moved b t fs (suc k) y ys)
     by None y r h more = more
-    by (Some x) y r h more =
-        (subst (λ c. Computes b (packet_of c) (suc k) (entered b t k (get_or fs (inside (y ∷ ys)) no_frame) x).held)
-            (sym (behind (bit (is_some (last_or y ys))) fs (inside (moved b t fs (suc k) y ys)) (inside (y ∷ ys)) (moved_inside b t fs (suc k) y ys)))
-            (entered_computes b rise plan t k (get_or fs (inside (y ∷ ys)) no_frame) x r), more)
+    by (Some x) y r h more = (
+      subst (λ c. Computes b (packet_of c) (suc k) (entered b t k (get_or fs (inside (y ∷ ys)) no_frame) x).held)
+          (sym (behind (bit (is_some (last_or y ys))) fs (inside (moved b t fs (suc k) y ys)) (inside (y ∷ ys)) (moved_inside b t fs (suc k) y ys)))
+          (entered_computes b rise plan t k (get_or fs (inside (y ∷ ys)) no_frame) x r),
+      more,
+    )
 
 -- the packet at the last place has the oldest frame
 last_computes : (b : Build) (fs : List Came) (k n : ℕ) (x : Option Packet) (ys : List (Option Packet)) (z : Packet) → last_or x ys ≡ Some z → PlacesCompute b fs k (x ∷ ys) → k + length ys ≡ n →
@@ -132,15 +135,17 @@ moves_carry : (b : Build) → RowsRise → IsPlanned b → (s : State) (back : B
     Carries b s (worked b s back rest Moves) (left_as Moves (place_at rest b.plan.last))
 moves_carry b rise plan s back [] h l k = absurd (omega (arith, h))
 moves_carry b rise plan s back (x ∷ xs) h l k = record {
-    places = subst (λ (y : Option Packet). PlacesCompute b (drop (bit (is_some y)) s.frames) 0 (moved b s.tables s.frames 0 new (x ∷ xs))) (sym here)
-        (moved_computes b rise plan s.tables s.frames 0 new (x ∷ xs) (newcomer_ready b back s.frames (x ∷ xs) (get_or s.frames (inside (x ∷ xs)) no_frame)) k);
-    left = by (place_at (x ∷ xs) b.plan.last) here;
-  }
+  places = subst (λ (y : Option Packet). PlacesCompute b (drop (bit (is_some y)) s.frames) 0 (moved b s.tables s.frames 0 new (x ∷ xs))) (sym here)
+      (moved_computes b rise plan s.tables s.frames 0 new (x ∷ xs) (newcomer_ready b back s.frames (x ∷ xs) (get_or s.frames (inside (x ∷ xs)) no_frame)) k);
+  left = by (place_at (x ∷ xs) b.plan.last) here;
+}
   where
     new : Option Packet
     new = newcomer b back s.frames (x ∷ xs)
+
     here : place_at (x ∷ xs) b.plan.last ≡ last_or x xs
     here = subst (λ n. place_at (x ∷ xs) n ≡ last_or x xs) (omega (arith, h)) (place_last x xs)
+
     by : (y : Option Packet) → y ≡ last_or x xs → LeftCompute b (left_as Moves y) s.frames
     by None e = tt
     by (Some y) e =
@@ -150,17 +155,17 @@ moves_carry b rise plan s back (x ∷ xs) h l k = record {
 turned_carries : (b : Build) → RowsRise → IsPlanned b → (s : State) (back : Bool) (rest : List (Option Packet)) (u : Turn) → length rest ≡ suc b.plan.last → inside rest ≤ length s.frames → PlacesCompute b s.frames 0 rest →
     Carries b s (worked b s back rest u) (left_as u (place_at rest b.plan.last))
 turned_carries b rise plan s back rest (Commits j x) h l k = record {
-    places = struck_computes b.plan.commit b s.tables (change_by b.program s.tables s.taken x.held j) s.frames 0 rest k;
-    left = nothing (place_at rest b.plan.last);
-  }
+  places = struck_computes b.plan.commit b s.tables (change_by b.program s.tables s.taken x.held j) s.frames 0 rest k;
+  left = nothing (place_at rest b.plan.last);
+}
   where
     nothing : (y : Option Packet) → LeftCompute b (left_as (Commits j x) y) s.frames
     nothing None = tt
     nothing (Some y) = tt
 turned_carries b rise plan s back rest (Writes a n) h l k = record {
-    places = struck_computes (suc b.plan.commit) b s.tables (host_change s.tables a) s.frames 0 rest k;
-    left = nothing (place_at rest b.plan.last);
-  }
+  places = struck_computes (suc b.plan.commit) b s.tables (host_change s.tables a) s.frames 0 rest k;
+  left = nothing (place_at rest b.plan.last);
+}
   where
     nothing : (y : Option Packet) → LeftCompute b (left_as (Writes a n) y) s.frames
     nothing None = tt

@@ -1,9 +1,9 @@
 -- Cells that are no reads.
-use Rattle.std.proofs.Common.{◌≡◌, ◌≢◌, ℕ, zero, suc, ◌+◌, ◌-◌, ◌<◌, ◌≤◌, ◌⊎◌, inl, inr, Bool, true, false, List, [], ◌∷◌, ◌++◌, Option, Some, None, length, get_or, drop, refl, sym, ap, ◌∙◌, subst, arith, cond, length-append, length-drop, length-set, get_or-set_other, get_or-set_same}
-use Rattle.std.specs.Prelude.{if◌then◌else◌, nat_lt, ◌==◌, is_some, replicate, slice_set, map as map_list, All}
-use Rattle.std.proofs.lemmas.Bool.Decides.{nat_tests, Decides-eqb}
+use Rattle.std.proofs.Common.{◌≡◌, ◌≢◌, ℕ, zero, suc, ◌+◌, ◌<◌, ◌⊎◌, inl, inr, Bool, true, false, List, [], ◌∷◌, length, get_or, drop, refl, sym, ap, ◌∙◌, subst, arith, length-set, get_or-set_other, get_or-set_same}
+use Rattle.std.specs.Prelude.{if◌then◌else◌, ◌==◌, map as map_list, All}
+use Rattle.std.proofs.lemmas.Bool.Decides.{Decides-eqb}
 use Rattle.std.proofs.lemmas.Bool.{cases_lt}
-use Rattle.std.proofs.lemmas.List.{get_or-drop, length-replicate}
+use Rattle.std.proofs.lemmas.List.{length-replicate}
 use Rattle.xdp_machine.specs.State.{PacketIn}
 use Rattle.cell_core.specs.declared.operator.Operator.{Operator}
 use Rattle.cell_core.specs.declared.operator.Operator.TheVariants.{Found, Answer}
@@ -47,7 +47,7 @@ record Made (b : Build) (packet : PacketIn) (r k : ℕ) (h : Held) : Type 0 wher
 unmoved : (packet : PacketIn) (h : Held) (k x : ℕ) (p : Pointer) (c : CellView) → All (λ i. i ≢ k) c.ins → value packet (held_value h) c ≡ value packet (held_value (with_cell h k x p)) c
 unmoved packet h k x p c other =
     ap (λ (xs : List ℕ). bits_from (number packet c.op xs) c.from c.width)
-      (map_alike (held_value h) (held_value (with_cell h k x p)) c.ins (λ i d l. sym (get_or-set_other h.values k (get_or c.ins i d) x 0 (other i d l))))
+    (map_alike (held_value h) (held_value (with_cell h k x p)) c.ins (λ i d l. sym (get_or-set_other h.values k (get_or c.ins i d) x 0 (other i d l))))
 
 -- the inputs of a cell that is there
 others : (b : Build) → RowsRise → IsPlanned b → (r k c : ℕ) → b.plan.row k ≡ r → c < length b.program.cells → There b.plan.row r k c → All (λ i. i ≢ k) (cell_at b.program.cells c).ins
@@ -64,21 +64,21 @@ not_here b r k c here (inr now) e = omega (arith, now.1, e)
 next_there : (row : ℕ → ℕ) (r k c : ℕ) → There row r (suc k) c → There row r k c ⊎ (c ≡ k)
 next_there row r k c (inl lower) = inl (inl lower)
 next_there row r k c (inr now) = elim (cases_lt c k) [
-    | inl l ↦ inl (inr (now.0, l))
-    | inr l ↦ inr (omega (arith, now.1, l))
-  ]
+  | inl l ↦ inl (inr (now.0, l))
+  | inr l ↦ inr (omega (arith, now.1, l))
+]
 
 made_one : (b : Build) → RowsRise → IsPlanned b → (packet : PacketIn) (r k x : ℕ) (p : Pointer) (h : Held) → k < length b.program.cells → b.plan.row k ≡ r →
     (is_read (cell_at b.program.cells k).op ≡ false → x ≡ value packet (held_value h) (cell_at b.program.cells k)) → Made b packet r k h → Made b packet r (suc k) (with_cell h k x p)
 made_one b rise plan packet r k x p h in_range here is m = record {
-    count = length-set h.values k x ∙ m.count;
-    each = λ c l there read. elim (next_there b.plan.row r k c there) [
-        | inl before ↦
-            get_or-set_other h.values k c x 0 (not_here b r k c here before) ∙ m.each c l before read
-            ∙ unmoved packet h k x p (cell_at b.program.cells c) (others b rise plan r k c here l before)
-        | inr e ↦ own c e read
-      ];
-  }
+  count = length-set h.values k x ∙ m.count;
+  each = λ c l there read. elim (next_there b.plan.row r k c there) [
+    | inl before ↦
+        get_or-set_other h.values k c x 0 (not_here b r k c here before) ∙ m.each c l before read
+        ∙ unmoved packet h k x p (cell_at b.program.cells c) (others b rise plan r k c here l before)
+    | inr e ↦ own c e read
+  ];
+}
   where
     own : (c : ℕ) → c ≡ k → is_read (cell_at b.program.cells c).op ≡ false → held_value (with_cell h k x p) c ≡ value packet (held_value (with_cell h k x p)) (cell_at b.program.cells c)
     own c e read = subst (λ c. is_read (cell_at b.program.cells c).op ≡ false → held_value (with_cell h k x p) c ≡ value packet (held_value (with_cell h k x p)) (cell_at b.program.cells c)) (sym e) (λ read.
@@ -87,12 +87,12 @@ made_one b rise plan packet r k x p h in_range here is m = record {
 
 later : (b : Build) (packet : PacketIn) (r k : ℕ) (h : Held) → (b.plan.row k ≡ r → ⊥) → Made b packet r k h → Made b packet r (suc k) h
 later b packet r k h apart m = record {
-    count = m.count;
-    each = λ c l there read. elim (next_there b.plan.row r k c there) [
-        | inl before ↦ m.each c l before read
-        | inr e ↦ m.each c l (lower c there e) read
-      ];
-  }
+  count = m.count;
+  each = λ c l there read. elim (next_there b.plan.row r k c there) [
+    | inl before ↦ m.each c l before read
+    | inr e ↦ m.each c l (lower c there e) read
+  ];
+}
   where
     lower : (c : ℕ) → There b.plan.row r (suc k) c → c ≡ k → There b.plan.row r k c
     lower c (inl l) e = inl l
@@ -107,8 +107,10 @@ made_all b rise plan packet r t k (c ∷ cs) h e n m =
   where
     x : ℕ
     x = bits_from (cell_number b.program b.plan.row r t packet h c c.op) c.from c.width
+
     p : Pointer
     p = cell_pointer b.program b.plan.row r t h c c.op
+
     one : (here : Bool) → (b.plan.row k == r) ≡ here → cell_at b.program.cells k ≡ c → k < length b.program.cells → Made b packet r (suc k) (if here then with_cell h k x p else h)
     one true here same l = made_one b rise plan packet r k x p h l ((Decides-eqb (b.plan.row k) r).0 here) (λ read.
         subst (λ d. is_read d.op ≡ false → x ≡ value packet (held_value h) d) (sym same) (λ read. ap (λ n. bits_from n c.from c.width) (plain b.program b.plan.row r t packet h c c.op read)) read) m
@@ -127,11 +129,12 @@ takes_row b rise plan packet r t h k =
     below : (c : ℕ) → There b.plan.row r 0 c → b.plan.row c < r
     below c (inl lower) = lower
     below c (inr now) = absurd (omega (arith, now.1))
+
     there : (c : ℕ) → c < length b.program.cells → b.plan.row c < suc r → There b.plan.row r (length b.program.cells) c
     there c l lower = elim (cases_lt (b.plan.row c) r) [
-        | inl m ↦ inl m
-        | inr m ↦ inr (omega arith, l)
-      ]
+      | inl m ↦ inl m
+      | inr m ↦ inr (omega arith, l)
+    ]
 
 pub nothing_computes : (b : Build) (packet : PacketIn) → Computes b packet 0 (nothing_held b.program)
 nothing_computes b packet = record { count = length-replicate (length b.program.cells) 0; each = λ c l lower read. absurd (omega arith) }

@@ -1,5 +1,5 @@
 -- Programs without operations on maps.
-use Rattle.std.proofs.Common.{◌≡◌, ℕ, ◌+◌, ◌<◌, Bool, true, false, List, [], ◌∷◌, Option, Some, None, length, refl, sym, ap, ◌∙◌, subst, arith}
+use Rattle.std.proofs.Common.{◌≡◌, ℕ, ◌+◌, ◌<◌, Bool, true, false, List, [], ◌∷◌, Some, length, refl, sym, ap, subst, arith}
 use Rattle.xdp_maps.specs.State.{MapState}
 use Rattle.xdp_maps.specs.declared.decl.MapDecl.{MapDecl}
 use Rattle.xdp_machine.specs.State.{PacketIn}
@@ -7,12 +7,12 @@ use Rattle.cell_core.specs.declared.operator.Operator.{Operator}
 use Rattle.cell_core.specs.declared.operator.Operator.TheVariants.{Found, Answer}
 use Rattle.cell_core.specs.Cells.{CellView, cell_at, is_read, site_in, Solves_as, value}
 use Rattle.cell_core.specs.Rows.{RowsRise}
-use Rattle.cell_core.specs.Sites.{SiteView, ProgramView, IsCellRun, after}
+use Rattle.cell_core.specs.Sites.{ProgramView, IsCellRun, after}
 use Rattle.cell_core.specs.Formed.{AreSited}
 use Rattle.hazard_core.specs.Held.{Held, held_value}
-use Rattle.pipe_core.specs.Machine.{Came, Input, Build, packet_of}
+use Rattle.pipe_core.specs.Machine.{Came, Build, packet_of}
 use Rattle.pipe_core.specs.History.{run, begin}
-use Rattle.pipe_core.specs.Computed.{Computes, LeftCompute, IsComputed, IsPlanned}
+use Rattle.pipe_core.specs.Computed.{Computes, LeftCompute, IsPlanned}
 use Rattle.pipe_core.specs.Sequential.{AreCellRuns, RunsWithoutMaps}
 use Rattle.pipe_core.proofs.Carrying.{computed}
 
@@ -42,9 +42,10 @@ is_run b decls plan sited none maps packet h k = record {
 all_run : (b : Build) (decls : List MapDecl) → IsPlanned b → AreSited decls b.program → b.program.sites ≡ [] → (maps : MapState) (hs : List Held) (cs : List Came) → LeftCompute b hs cs → AreCellRuns b.program maps hs cs maps
 all_run b decls plan sited none maps [] cs k = refl
 all_run b decls plan sited none maps (h ∷ hs) [] k = absurd k
-all_run b decls plan sited none maps (h ∷ hs) (c ∷ cs) k =
-    (is_run b decls plan sited none maps (packet_of c) h (subst (λ r. Computes b (packet_of c) r h) (omega arith) k.0),
-     subst (λ ss. AreCellRuns b.program (after (held_value h) maps ss) hs cs maps) (sym none) (all_run b decls plan sited none maps hs cs k.1))
+all_run b decls plan sited none maps (h ∷ hs) (c ∷ cs) k = (
+  is_run b decls plan sited none maps (packet_of c) h (subst (λ r. Computes b (packet_of c) r h) (omega arith) k.0),
+  subst (λ ss. AreCellRuns b.program (after (held_value h) maps ss) hs cs maps) (sym none) (all_run b decls plan sited none maps hs cs k.1),
+)
 
 pub runs_without_maps : RowsRise → RunsWithoutMaps
 runs_without_maps rise b decls plan sited none maps is =

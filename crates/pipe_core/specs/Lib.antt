@@ -2,3 +2,4 @@ pub mod Machine
 pub mod History
 pub mod Computed
 pub mod Sequential
+pub mod Drive

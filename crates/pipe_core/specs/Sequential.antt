@@ -1,14 +1,12 @@
 -- One packet after another: the cell runs of packets, each on the maps that the one before left.
-use Rattle.std.specs.Prelude.{◌≡◌, ℕ, ◌<◌, List, [], ◌∷◌, length}
+use Rattle.std.specs.Prelude.{◌≡◌, List, [], ◌∷◌}
 use Rattle.xdp_maps.specs.State.{MapState}
 use Rattle.xdp_maps.specs.declared.decl.MapDecl.{MapDecl}
-use Rattle.cell_core.specs.Cells.{cell_at}
 use Rattle.cell_core.specs.Sites.{ProgramView, IsCellRun, after}
 use Rattle.cell_core.specs.Formed.{AreSited}
 use Rattle.hazard_core.specs.Held.{Held, held_value}
-use Rattle.hazard_core.specs.Tables.{tables_of}
-use Rattle.pipe_core.specs.Machine.{Came, State, Input, Build, packet_of}
-use Rattle.pipe_core.specs.History.{Trace, run, begin}
+use Rattle.pipe_core.specs.Machine.{Came, Input, Build, packet_of}
+use Rattle.pipe_core.specs.History.{run, begin}
 use Rattle.pipe_core.specs.Computed.{IsPlanned}
 
 -- what packets held as they left is the cell run of each on its frame

@@ -3,6 +3,7 @@
 ghost use Rattle.pipe_core.specs.History.{KeepsOrder, IsAlwaysInOrder};
 ghost use Rattle.pipe_core.specs.Computed.{KeepsComputed, IsAlwaysComputed};
 ghost use Rattle.pipe_core.specs.Sequential.{RunsWithoutMaps};
+ghost use Rattle.pipe_core.specs.Drive.{EndsWithoutMaps};
 
 /// The pipe holds frames and answers in the order in which the frames came, and each answer is that of its own packet.
 pub fn in_order()
@@ -24,3 +25,9 @@ pub fn runs_without_maps()
 {
     cell_core::laws::rows_rise();
 }
+
+/// Without operations on maps the full drive of frames ends: each beat counts a clock in and one out, each frame one, and the
+/// places count once.
+pub fn ends_without_maps()
+    ensures { EndsWithoutMaps }
+{}
