@@ -4,3 +4,4 @@ pub mod Overlay
 pub mod Rows
 pub mod Marks
 pub mod Commits
+pub mod Changes
