@@ -1,1 +1,2 @@
 pub mod Unmoved
+pub mod Changing

@@ -213,7 +213,7 @@ module _ (p : ProgramView) (t : TableState) (ts : List (List Slot)) (e : Change)
       by true false false true x y z = cc
       by true false false false x y z = cc
 
-  answer_stays : (before : List ℕ) (j : ℕ) → reads (site_at p.sites j).act ≡ true → Untouched j → (finds_key (site_at p.sites j).act ≡ true → pointer_in h (found_cell p.cells j) ≡ found_pointer p t h before j) →
+  answer_stays : (before : List ℕ) (j : ℕ) → reads (site_at p.sites j).act ≡ true → Untouched j → ((site_at p.sites j).act ≡ act.Update → (decl_of t.decls (site_at p.sites j).map).kind ≡ Hash → pointer_in h (found_cell p.cells j) ≡ found_pointer p t h before j) →
       answer_over p (with_tables t ts) h before j ≡ answer_over p t h before j
   answer_stays before j r q held = by s.act refl r
     where
@@ -247,7 +247,7 @@ module _ (p : ProgramView) (t : TableState) (ts : List (List Slot)) (e : Change)
           let found = not (is_null (pointer_in h (found_cell p.cells j))) in
           let l : looks (asked t.decls h s) ≡ true = looks_by act.Update is (ap not past) in
           let at_key : found_pointer p t h before j ≡ key_pointer p t h before j = ap (λ (z : Bool). if z then key_pointer p t h before j else Null) l in
-          let same : found ≡ present t = ap (λ x. not (is_null x)) (held (finds_by act.Update is refl) ∙ at_key) in
+          let same : found ≡ present t = ap (λ x. not (is_null x)) (held (sym is) kind ∙ at_key) in
           let u : (s.map == e.map) && presence_touched d.kind (asked t.decls h s) found e ≡ false = subst (λ x. (s.map == e.map) && x ≡ false) (touched_is s.act j (finds_by act.Update is refl)) q in
           let v : (s.map == e.map) && presence_touched Hash (operation_as act.Update key value flags second) found e ≡ false =
               subst (λ (b : Act). (s.map == e.map) && presence_touched Hash (operation_as b key value flags second) found e ≡ false) (sym is) (subst (λ k. (s.map == e.map) && presence_touched k (asked t.decls h s) found e ≡ false) kind u) in
