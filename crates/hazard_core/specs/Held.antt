@@ -83,16 +83,15 @@ asked decls h s = operation_with (decl_of decls s.map) s.act (map_list (held_val
 abbrev pub asked_key : List MapDecl → Held → SiteView → List ℕ
 asked_key decls h s = key_in (asked decls h s)
 
--- Of an access to an entry the pointer is its last operand: a load has no other, a store has the number before it, an atomic change the
+-- Of an access to an entry the pointer is the last operand: a load has no other, a store has the number before it, an atomic change the
 -- source and what is compared. Of the pointer's cell the value says whether it is not null.
-abbrev pub pointer_cell : Act → List ℕ → ℕ
-pointer_cell (act.Load at size) operands = get_or operands 0 0
-pointer_cell (act.Store at size) operands = get_or operands 1 0
-pointer_cell (act.Atomic at a) operands = get_or operands 2 0
-pointer_cell a operands = 0
+abbrev pub pointer_operand : Act → ℕ
+pointer_operand (act.Store at size) = 1
+pointer_operand (act.Atomic at a) = 2
+pointer_operand a = 0
 
 abbrev pub access_pointer : Held → SiteView → Pointer
-access_pointer h s = pointer_in h (pointer_cell s.act s.operands)
+access_pointer h s = get_or (map_list (pointer_in h) s.operands) (pointer_operand s.act) Null
 
 -- whether an operation writes that answered this number
 abbrev pub writes_as : Act → MapKind → ℕ → Bool

@@ -5,3 +5,4 @@ pub mod Rows
 pub mod Marks
 pub mod Commits
 pub mod Changes
+pub mod Keeping

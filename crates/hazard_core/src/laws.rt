@@ -1,5 +1,6 @@
 //! What holds of reads and changes. Each function's contract is a law; it computes nothing.
 
+ghost use Rattle.hazard_core.specs.Keeping.{ReadsKeep};
 ghost use Rattle.hazard_core.specs.Changes.{Unmoved, CommitsChange, HostChanges};
 
 /// A read that a change does not touch finds what it found before.
@@ -11,4 +12,9 @@ pub fn unmoved()
 pub fn changes()
     ensures commits { CommitsChange }
     ensures host { HostChanges }
+{}
+
+/// A read finds and answers the same in packets that hold the same of earlier rows.
+pub fn reads_keep()
+    ensures { ReadsKeep }
 {}
