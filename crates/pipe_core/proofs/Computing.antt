@@ -16,7 +16,7 @@ use Rattle.hazard_core.specs.Rows.{cell_number, cell_pointer, with_made, made_fr
 use Rattle.pipe_core.specs.Machine.{Build}
 use Rattle.pipe_core.specs.Computed.{Computes, IsPlanned}
 
-map_alike : (v w : ℕ → ℕ) (xs : List ℕ) → All (λ i. v i ≡ w i) xs → map_list v xs ≡ map_list w xs
+pub map_alike : (v w : ℕ → ℕ) (xs : List ℕ) → All (λ i. v i ≡ w i) xs → map_list v xs ≡ map_list w xs
 map_alike v w [] h = refl
 map_alike v w (x ∷ xs) h =
     ap (λ y. y ∷ map_list v xs) (h 0 x (omega arith)) ∙ ap (λ ys. w x ∷ ys) (map_alike v w xs (λ k d l. h (suc k) d (omega arith)))
@@ -28,14 +28,14 @@ plain p row r t packet h c (Found j) e = cc
 plain p row r t packet h c (Answer j) e = cc
 plain p row r t packet h c op e = refl
 
-drop_next : {X : Type 0} (k : ℕ) (xs : List X) (c : X) (cs : List X) (d : X) → drop k xs ≡ c ∷ cs → (get_or xs k d ≡ c) × (k < length xs) × (drop (suc k) xs ≡ cs)
+pub drop_next : {X : Type 0} (k : ℕ) (xs : List X) (c : X) (cs : List X) (d : X) → drop k xs ≡ c ∷ cs → (get_or xs k d ≡ c) × (k < length xs) × (drop (suc k) xs ≡ cs)
 drop_next zero [] c cs d e = cc
 drop_next zero (x ∷ xs) c cs d e = (cc, omega arith, cc)
 drop_next (suc k) [] c cs d e = cc
 drop_next (suc k) (x ∷ xs) c cs d e = let h = drop_next k xs c cs d e in (h.0, omega (arith, h.1), h.2)
 
 -- cell c is there when the cells before k are made in row r
-abbrev There : (ℕ → ℕ) → ℕ → ℕ → ℕ → Type 0
+abbrev pub There : (ℕ → ℕ) → ℕ → ℕ → ℕ → Type 0
 There row r k c = (row c < r) ⊎ ((row c ≡ r) × (c < k))
 
 record Made (b : Build) (packet : PacketIn) (r k : ℕ) (h : Held) : Type 0 where
@@ -50,18 +50,18 @@ unmoved packet h k x p c other =
     (map_alike (held_value h) (held_value (with_cell h k x p)) c.ins (λ i d l. sym (get_or-set_other h.values k (get_or c.ins i d) x 0 (other i d l))))
 
 -- the inputs of a cell that is there
-others : (b : Build) → RowsRise → IsPlanned b → (r k c : ℕ) → b.plan.row k ≡ r → c < length b.program.cells → There b.plan.row r k c → All (λ i. i ≢ k) (cell_at b.program.cells c).ins
+pub others : (b : Build) → RowsRise → IsPlanned b → (r k c : ℕ) → b.plan.row k ≡ r → c < length b.program.cells → There b.plan.row r k c → All (λ i. i ≢ k) (cell_at b.program.cells c).ins
 others b rise plan r k c here l (inl lower) i d m e =
     let up = rise b.program.cells b.plan.row plan.rows c l i d m in
     let same : b.plan.row (get_or (cell_at b.program.cells c).ins i d) ≡ b.plan.row k = ap b.plan.row e in
     omega (arith, up, same, here, lower)
 others b rise plan r k c here l (inr now) i d m e = let up = (plan.formed.each c l).earlier i d m in omega (arith, up, e, now.1)
 
-not_here : (b : Build) (r k c : ℕ) → b.plan.row k ≡ r → There b.plan.row r k c → c ≢ k
+pub not_here : (b : Build) (r k c : ℕ) → b.plan.row k ≡ r → There b.plan.row r k c → c ≢ k
 not_here b r k c here (inl lower) e = let same : b.plan.row c ≡ b.plan.row k = ap b.plan.row e in omega (arith, same, here, lower)
 not_here b r k c here (inr now) e = omega (arith, now.1, e)
 
-next_there : (row : ℕ → ℕ) (r k c : ℕ) → There row r (suc k) c → There row r k c ⊎ (c ≡ k)
+pub next_there : (row : ℕ → ℕ) (r k c : ℕ) → There row r (suc k) c → There row r k c ⊎ (c ≡ k)
 next_there row r k c (inl lower) = inl (inl lower)
 next_there row r k c (inr now) = elim (cases_lt c k) [
   | inl l ↦ inl (inr (now.0, l))

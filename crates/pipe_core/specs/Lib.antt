@@ -3,3 +3,4 @@ pub mod History
 pub mod Computed
 pub mod Sequential
 pub mod Drive
+pub mod Agreement

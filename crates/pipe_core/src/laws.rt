@@ -4,6 +4,7 @@ ghost use Rattle.pipe_core.specs.History.{KeepsOrder, IsAlwaysInOrder};
 ghost use Rattle.pipe_core.specs.Computed.{KeepsComputed, IsAlwaysComputed};
 ghost use Rattle.pipe_core.specs.Sequential.{RunsWithoutMaps};
 ghost use Rattle.pipe_core.specs.Drive.{EndsWithoutMaps};
+ghost use Rattle.pipe_core.specs.Agreement.{EnteringAgrees, StrikingAgrees};
 
 /// The pipe holds frames and answers in the order in which the frames came, and each answer is that of its own packet.
 pub fn in_order()
@@ -31,3 +32,14 @@ pub fn runs_without_maps()
 pub fn ends_without_maps()
     ensures { EndsWithoutMaps }
 {}
+
+/// What a packet holds of the maps stays what it would find now, but for reads that are marked or off the path: where it takes in
+/// a row, and where the tables change.
+pub fn agreement()
+    ensures entering { EnteringAgrees }
+    ensures striking { StrikingAgrees }
+{
+    cell_core::laws::rows_rise();
+    hazard_core::laws::reads_keep();
+    hazard_core::laws::unmoved();
+}
