@@ -1,0 +1,26 @@
+-- What a read finds rests on the cells of earlier rows.
+use Rattle.std.specs.Prelude.{◌≡◌, ℕ, ◌<◌, ◌≤◌, ◌⊎◌, List, ◌++◌, length, All}
+use Rattle.std.specs.List.{AllByRecursion}
+use Rattle.cell_core.specs.Sites.{SiteView, ProgramView, site_at}
+use Rattle.hazard_core.specs.Tables.{TableState}
+use Rattle.hazard_core.specs.Held.{Held, held_value, pointer_in, pending}
+use Rattle.hazard_core.specs.Overlay.{found_pointer, answer_over}
+
+-- two packets hold the same of a cell
+pub record SameCell (h g : Held) (c : ℕ) : Type 0 where
+  pub value : held_value h c ≡ held_value g c
+  pub pointer : pointer_in h c ≡ pointer_in g c
+
+-- and of all cells of the rows below r; past the last cell there is nothing
+abbrev pub AreAlike : ProgramView → (ℕ → ℕ) → ℕ → Held → Held → Type 0
+AreAlike p row r h g = (c : ℕ) → (row c < r) ⊎ (length p.cells ≤ c) → SameCell h g c
+
+-- What the operation of a site looks for stands in earlier rows. Its guard may stand in a later one.
+abbrev pub LooksBelow : (ℕ → ℕ) → ℕ → SiteView → Type 0
+LooksBelow row r s = AllByRecursion (λ c. row c < r) s.key × AllByRecursion (λ c. row c < r) s.operands
+
+-- A read in row r finds and answers the same in packets that hold the same of the rows below.
+abbrev pub ReadsKeep : Type 0
+ReadsKeep =
+    (p : ProgramView) (row : ℕ → ℕ) (r j : ℕ) (t : TableState) (h g : Held) → AreAlike p row r h g → LooksBelow row r (site_at p.sites j)
+    → (found_pointer p t h (pending p row r j) j ≡ found_pointer p t g (pending p row r j) j) × (answer_over p t h (pending p row r j) j ≡ answer_over p t g (pending p row r j) j)

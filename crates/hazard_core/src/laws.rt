@@ -1,0 +1,20 @@
+//! What holds of reads and changes. Each function's contract is a law; it computes nothing.
+
+ghost use Rattle.hazard_core.specs.Keeping.{ReadsKeep};
+ghost use Rattle.hazard_core.specs.Changes.{Unmoved, CommitsChange, HostChanges};
+
+/// A read that a change does not touch finds what it found before.
+pub fn unmoved()
+    ensures { Unmoved }
+{}
+
+/// A commit, and what the host writes while packets are inside, change the tables as their changes say.
+pub fn changes()
+    ensures commits { CommitsChange }
+    ensures host { HostChanges }
+{}
+
+/// A read finds and answers the same in packets that hold the same of earlier rows.
+pub fn reads_keep()
+    ensures { ReadsKeep }
+{}

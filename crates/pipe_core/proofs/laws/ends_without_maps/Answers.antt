@@ -1,0 +1,5 @@
+use Rattle.pipe_core.proofs.Draining.{ends_without_maps}
+use Rattle.pipe_core.proofs.laws.ends_without_maps.Goals as goal
+
+pub returns : goal.returns
+returns c = ends_without_maps

@@ -1,0 +1,60 @@
+-- What the packets hold of reads: what the read finds on the maps as they are now, unless it is marked or known to be off the path.
+use Rattle.std.specs.Prelude.{◌≡◌, ℕ, suc, ◌<◌, nat_lt, Bool, true, false, not, ◌&&◌, ◌||◌, Option, Some, None, List, length}
+use Rattle.xdp_maps.specs.declared.decl.MapDecl.{MapDecl}
+use Rattle.xdp_maps.specs.declared.decl.MapKind.TheVariants.{Hash}
+use Rattle.xdp_machine.specs.State.{PacketIn}
+use Rattle.cell_core.specs.declared.operator.Operator.TheVariants.{Found, Answer}
+use Rattle.cell_core.specs.declared.site.Act.TheVariants as act
+use Rattle.cell_core.specs.Cells.{cell_at, bits_from, site_in}
+use Rattle.cell_core.specs.Sites.{SiteView, site_at}
+use Rattle.hazard_core.specs.Tables.{Slot, TableState, decl_of}
+use Rattle.hazard_core.specs.Held.{Held, held_value, pointer_in, guard_on, found_cell}
+use Rattle.hazard_core.specs.Rows.{cell_number, cell_pointer}
+use Rattle.hazard_core.specs.Marks.{Change}
+use Rattle.hazard_core.specs.Changes.{IsChange, with_tables, finds_key, reads}
+use Rattle.hazard_core.specs.Keeping.{LooksBelow}
+use Rattle.pipe_core.specs.Machine.{Packet, Came, Build, packet_of, marked_at, entered, struck}
+use Rattle.pipe_core.specs.Computed.{IsPlanned}
+
+-- The reads of a site stand in one row, after all that they take. Only what looks for a key says whether it is there, and only what reads
+-- answers; an update of a hash that answers says also whether the key is there.
+pub record ReadsArePlanned (b : Build) : Type 0 where
+  pub planned : IsPlanned b
+  pub sites : (c j : ℕ) → c < length b.program.cells → site_in (cell_at b.program.cells c).op ≡ Some j → j < length b.program.sites
+  pub below : (c j : ℕ) → c < length b.program.cells → site_in (cell_at b.program.cells c).op ≡ Some j → LooksBelow b.plan.row (b.plan.row c) (site_at b.program.sites j)
+  pub together : (c d j : ℕ) → c < length b.program.cells → d < length b.program.cells → site_in (cell_at b.program.cells c).op ≡ Some j → site_in (cell_at b.program.cells d).op ≡ Some j → b.plan.row c ≡ b.plan.row d
+  pub finds : (c j : ℕ) → c < length b.program.cells → (cell_at b.program.cells c).op ≡ Found j → finds_key (site_at b.program.sites j).act ≡ true
+  pub answers : (c j : ℕ) → c < length b.program.cells → (cell_at b.program.cells c).op ≡ Answer j → reads (site_at b.program.sites j).act ≡ true
+  pub found : (decls : List MapDecl) (c j : ℕ) → c < length b.program.cells → site_in (cell_at b.program.cells c).op ≡ Some j → (site_at b.program.sites j).act ≡ act.Update
+      → (decl_of decls (site_at b.program.sites j).map).kind ≡ Hash → found_cell b.program.cells j < length b.program.cells
+
+-- a cell is as it would be made on these tables from what the packet holds
+pub record IsMade (b : Build) (t : TableState) (packet : PacketIn) (h : Held) (c : ℕ) : Type 0 where
+  pub value : held_value h c
+      ≡ bits_from (cell_number b.program b.plan.row (b.plan.row c) t packet h (cell_at b.program.cells c) (cell_at b.program.cells c).op) (cell_at b.program.cells c).from (cell_at b.program.cells c).width
+  pub pointer : pointer_in h c ≡ cell_pointer b.program b.plan.row (b.plan.row c) t h (cell_at b.program.cells c) (cell_at b.program.cells c).op
+
+-- in a packet that holds the rows below r
+abbrev pub off_below : (ℕ → ℕ) → ℕ → Held → SiteView → Bool
+off_below row r h s = nat_lt (row s.guard) r && not (guard_on h s)
+
+abbrev pub excused_as : Build → ℕ → Packet → Option ℕ → Bool
+excused_as b r x None = false
+excused_as b r x (Some j) = marked_at x j || off_below b.plan.row r x.held (site_at b.program.sites j)
+
+-- Each cell of the rows below r is as it would be made now, but for reads that are marked or off the path.
+pub record Agrees (b : Build) (t : TableState) (packet : PacketIn) (r : ℕ) (x : Packet) : Type 0 where
+  pub values : length x.held.values ≡ length b.program.cells
+  pub pointers : length x.held.pointers ≡ length b.program.cells
+  pub each : (c : ℕ) → c < length b.program.cells → b.plan.row c < r → excused_as b r x (site_in (cell_at b.program.cells c).op) ≡ false → IsMade b t packet x.held c
+
+-- A packet that takes in a row agrees with the maps as it did before.
+abbrev pub EnteringAgrees : Type 0
+EnteringAgrees =
+    (b : Build) → ReadsArePlanned b → (t : TableState) (c : Came) (k : ℕ) (x : Packet) → Agrees b t (packet_of c) k x → Agrees b t (packet_of c) (suc k) (entered b t k c x)
+
+-- So does one that a change may mark.
+abbrev pub StrikingAgrees : Type 0
+StrikingAgrees =
+    (b : Build) → ReadsArePlanned b → (t : TableState) (ts : List (List Slot)) (e : Change) (packet : PacketIn) (k : ℕ) (x : Packet) → IsChange t e ts → Agrees b t packet (suc k) x
+    → Agrees b (with_tables t ts) packet (suc k) (struck b t k e x)

@@ -1,0 +1,6 @@
+pub mod Machine
+pub mod History
+pub mod Computed
+pub mod Sequential
+pub mod Drive
+pub mod Agreement

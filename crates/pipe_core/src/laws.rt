@@ -1,0 +1,45 @@
+//! What holds over all lists of clocks of the machine. Each function's contract is a law; it computes nothing.
+
+ghost use Rattle.pipe_core.specs.History.{KeepsOrder, IsAlwaysInOrder};
+ghost use Rattle.pipe_core.specs.Computed.{KeepsComputed, IsAlwaysComputed};
+ghost use Rattle.pipe_core.specs.Sequential.{RunsWithoutMaps};
+ghost use Rattle.pipe_core.specs.Drive.{EndsWithoutMaps};
+ghost use Rattle.pipe_core.specs.Agreement.{EnteringAgrees, StrikingAgrees};
+
+/// The pipe holds frames and answers in the order in which the frames came, and each answer is that of its own packet.
+pub fn in_order()
+    ensures clock { KeepsOrder }
+    ensures always { IsAlwaysInOrder }
+{}
+
+/// Each cell that is no read, of the rows that a packet has taken in, is its operator's on the packet's own cells.
+pub fn computed()
+    ensures clock { KeepsComputed }
+    ensures always { IsAlwaysComputed }
+{
+    cell_core::laws::rows_rise();
+}
+
+/// Without operations on maps the packets that left are cell runs, one after another.
+pub fn runs_without_maps()
+    ensures { RunsWithoutMaps }
+{
+    cell_core::laws::rows_rise();
+}
+
+/// Without operations on maps the full drive of frames ends: each beat counts a clock in and one out, each frame one, and the
+/// places count once.
+pub fn ends_without_maps()
+    ensures { EndsWithoutMaps }
+{}
+
+/// What a packet holds of the maps stays what it would find now, but for reads that are marked or off the path: where it takes in
+/// a row, and where the tables change.
+pub fn agreement()
+    ensures entering { EnteringAgrees }
+    ensures striking { StrikingAgrees }
+{
+    cell_core::laws::rows_rise();
+    hazard_core::laws::reads_keep();
+    hazard_core::laws::unmoved();
+}
