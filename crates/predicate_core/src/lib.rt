@@ -1,0 +1,4 @@
+//! Every accepted program as cells: operators on earlier cells, under guards, for all nodes of its graph at once.
+#![tactic(auto)]
+
+mod cells;
