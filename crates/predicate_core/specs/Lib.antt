@@ -1,1 +1,4 @@
 pub mod Making
+pub mod Paths
+pub mod Held
+pub mod Law
