@@ -129,3 +129,12 @@ pushed_adds cells more x cell at e is n = record {
     is = ap seen e ∙ seen_more cells x ∙ ap (λ (c : CellView). seen cells ++ c ∷ []) is;
     at = n ∙ sym (seen_length cells);
   }
+
+-- cells behind others that were added before
+pub makes_after : (a b d : List CellView) (c : ℕ) (f g : PacketIn → (ℕ → ℕ) → ℕ) → Grows a b → Makes b d c f
+    → ((packet : PacketIn) (v : ℕ → ℕ) → IsRun packet b v → f packet v ≡ g packet v) → Makes a d c g
+makes_after a b d c f g before made same = record {
+    grows = grown a b d before made.grows;
+    there = made.there;
+    value = λ packet v r. made.value packet v r ∙ same packet v (made.grows.run packet v r);
+  }
