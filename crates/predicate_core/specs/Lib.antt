@@ -1,4 +1,5 @@
 pub mod Making
+pub mod Comparing
 pub mod Paths
 pub mod Held
 pub mod Law

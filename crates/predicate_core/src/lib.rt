@@ -2,4 +2,5 @@
 #![tactic(auto)]
 
 mod cells;
+mod comparing;
 mod working;
