@@ -138,3 +138,4 @@ makes_after a b d c f g before made same = record {
     there = made.there;
     value = λ packet v r. made.value packet v r ∙ same packet v (made.grows.run packet v r);
   }
+

@@ -1,4 +1,5 @@
 pub mod Making
+pub mod Shifting
 pub mod Comparing
 pub mod Paths
 pub mod Held

@@ -3,4 +3,5 @@
 
 mod cells;
 mod comparing;
+mod shifting;
 mod working;
