@@ -1,0 +1,4 @@
+pub mod Growing
+pub mod Numbers
+pub mod Conditions
+pub mod Shifts

@@ -1,0 +1,24 @@
+-- Signed numbers in the order of unsigned ones.
+use Rattle.std.specs.Prelude.{ℕ, ◌+◌, ◌-◌, ◌%◌, ◌^◌, Bool, true, false}
+use Rattle.bpf_isa.specs.declared.operation.JumpCode.{JumpCode}
+use Rattle.bpf_isa.specs.declared.operation.JumpCode.TheVariants.{Jeq, Jgt, Jge, Jset, Jne, Jsgt, Jsge, Jlt, Jle, Jslt, Jsle}
+use Rattle.xdp_machine.specs.Arithmetic.{low}
+
+-- the low w bits of a number with the highest of them turned
+abbrev pub turned : ℕ → ℕ → ℕ
+turned w n = low w (n + 2 ^ (w - 1))
+
+-- the comparisons of signed numbers, and the same of unsigned ones
+abbrev pub is_signed : JumpCode → Bool
+is_signed Jsgt = true
+is_signed Jsge = true
+is_signed Jslt = true
+is_signed Jsle = true
+is_signed c = false
+
+abbrev pub unsigned : JumpCode → JumpCode
+unsigned Jsgt = Jgt
+unsigned Jsge = Jge
+unsigned Jslt = Jlt
+unsigned Jsle = Jle
+unsigned c = c

@@ -1,0 +1,54 @@
+-- What code does that adds cells to a list.
+use Rattle.std.specs.Prelude.{ℕ, ◌≡◌, Bool, true, false, ◌<◌, ◌≤◌, List, [], ◌∷◌, ◌++◌, length, map as map_list}
+use Rattle.bpf_isa.specs.declared.operation.AluCode.{AluCode}
+use Rattle.bpf_isa.specs.declared.operation.AluCode.TheVariants as alu
+use Rattle.xdp_machine.specs.State.{PacketIn}
+use Rattle.cell_core.specs.declared.cell.Cell.{Cell}
+use Rattle.cell_core.specs.declared.operator.Operator.{Operator}
+use Rattle.cell_core.specs.declared.operator.Operator.TheVariants as op
+use Rattle.cell_core.specs.Cells.{CellView, IsRun, number, bits_from}
+use Rattle.cell_core.specs.Formed.{AreFormed}
+use Rattle.cell_core.specs.View.{cell_of}
+
+-- cells, without the places in memory where they lie
+unfoldable pub seen : List Cell → List CellView
+seen cells = map_list cell_of cells
+
+-- one more cell, behind the others
+pub record Adds (old new : List CellView) (c : ℕ) (cell : CellView) : Type 0 where
+  pub is : new ≡ old ++ cell ∷ []
+  pub at : c ≡ length old
+
+-- More cells: those that were there stay, and keep to what cells keep to; values of all are values of those.
+pub record Grows (old new : List CellView) : Type 0 where
+  pub longer : length old ≤ length new
+  pub formed : AreFormed old → AreFormed new
+  pub run : (packet : PacketIn) (v : ℕ → ℕ) → IsRun packet new v → IsRun packet old v
+
+-- The same, and a cell among them whose value in every run is this.
+pub record Makes (old new : List CellView) (c : ℕ) (is : PacketIn → (ℕ → ℕ) → ℕ) : Type 0 where
+  pub grows : Grows old new
+  pub there : c < length new
+  pub value : (packet : PacketIn) (v : ℕ → ℕ) → IsRun packet new v → v c ≡ is packet v
+
+-- what an operator makes of the values of its inputs, cut to a width
+abbrev pub operated : Operator → List ℕ → ℕ → ℕ → PacketIn → (ℕ → ℕ) → ℕ
+operated op ins from width packet v = bits_from (number packet op (map_list v ins)) from width
+
+-- the arithmetic that is one operator, and which it is
+abbrev pub is_one : AluCode → Bool
+is_one alu.Add = true
+is_one alu.Sub = true
+is_one alu.Mul = true
+is_one alu.Or = true
+is_one alu.And = true
+is_one alu.Xor = true
+is_one c = false
+
+abbrev pub operator_of : AluCode → Operator
+operator_of alu.Add = op.Add
+operator_of alu.Sub = op.Sub
+operator_of alu.Mul = op.Mul
+operator_of alu.Or = op.Or
+operator_of alu.Xor = op.Xor
+operator_of c = op.And

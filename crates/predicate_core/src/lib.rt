@@ -1,0 +1,7 @@
+//! Every accepted program as cells: operators on earlier cells, under guards, for all nodes of its graph at once.
+#![tactic(auto)]
+
+mod cells;
+mod comparing;
+mod shifting;
+mod working;
