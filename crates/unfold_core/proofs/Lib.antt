@@ -16,3 +16,4 @@ pub mod SizedGraph
 pub mod Runs
 pub mod OneGraph
 pub mod LinkLaws
+pub mod OneOutcomeLaws

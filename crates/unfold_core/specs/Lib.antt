@@ -11,3 +11,4 @@ pub mod Pending
 pub mod Unfolding
 pub mod RunLaws
 pub mod GraphLaws
+pub mod Acceptance

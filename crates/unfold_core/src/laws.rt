@@ -4,6 +4,8 @@ ghost use Rattle.unfold_core.specs.Laws.{NodesAreOrdered, StartIsNode, EdgesReac
 ghost use Rattle.unfold_core.specs.EdgeLaws.{LeavingGoesUp};
 ghost use Rattle.unfold_core.specs.GraphLaws.{HasOneGraph, HasOneRefusal, HasNotBoth, EdgesLeadOn, NodesAreReached};
 ghost use Rattle.unfold_core.specs.RunLaws.{RunsAreSound};
+ghost use Rattle.xdp_machine.specs.Program.{XdpProgram};
+ghost use Rattle.unfold_core.specs.Acceptance.{HasOneOutcome};
 
 /// Of two nodes of a program one comes before the other, and never in a circle.
 pub fn nodes_are_ordered()
@@ -67,3 +69,8 @@ pub fn runs_are_sound()
     kind_core::laws::start_is_described();
     xdp_machine::laws::steps_change_only();
 }
+
+/// A program has one first refusal at most, and none where it is accepted.
+pub fn has_one_outcome()
+    ensures { (p : XdpProgram) → HasOneOutcome p }
+{}

@@ -1,11 +1,13 @@
 // Programs without loops.
 
-ghost use Rattle.std.specs.Prelude.{◌≡◌};
+ghost use Rattle.std.specs.Prelude.{◌≡◌, ◌⊎◌, IfErr, IsErrOf};
+ghost use Rattle.kind_core.specs.declared.why.Refusal.{Refusal};
 ghost use Rattle.kind_core.specs.declared.why.BuildError.TheVariants.{Refused};
 ghost use Rattle.unfold_core.specs.Loops.{AreLoops};
 ghost use Rattle.unfold_core.specs.Units.{ArePlaces};
 ghost use Rattle.unfold_core.specs.Graphs.{Walks};
 ghost use Rattle.unfold_core.specs.Unfolding.{Unfolds};
+ghost use Rattle.unfold_core.specs.Acceptance.{IsAccepted, IsFirstRefusal};
 
 use crate::edges::{Point, leave, refused};
 use crate::links::{Edge, links};
@@ -68,10 +70,8 @@ fn walk(
     }
 }
 
-/// Unfolds a program. Without want of memory a refusal comes exactly where the program is refused, and is the first one: the first place
-/// that its loops or its size refuse, else the first node, in unfolded order, that is refused: node 16,384, counted from 0, by `Size`
-/// before any test of its own, and each other one by the first test that it fails.
-pub fn unfold(alloc: Global, program: &Program) -> Result<Unfolded, BuildError>
+// The loops of a program, the nodes of its graph and its edges, or its first refusal.
+fn unfold_parts(alloc: Global, program: &Program) -> Result<Unfolded, BuildError>
     ensures { Unfolds program.now result }
 {
     let found = loops(alloc, program)?;
@@ -87,4 +87,15 @@ pub fn unfold(alloc: Global, program: &Program) -> Result<Unfolded, BuildError>
         }),
         Err(_) => Err(BuildError::NoMemory),
     }
+}
+
+/// Unfolds a program. Without want of memory a refusal comes exactly where the program is refused, and is the first one: the first place
+/// that its loops or its size refuse, else the first node, in unfolded order, that is refused: node 16,384, counted from 0, by `Size`
+/// before any test of its own, and each other one by the first test that it fails.
+pub fn unfold(alloc: Global, program: &Program) -> Result<Unfolded, BuildError>
+    ensures unfolds { Unfolds program.now result }
+    ensures refused { (r : Refusal) → IsFirstRefusal program.now r → IsErrOf result (BuildError.Refused r) ⊎ IsErrOf result BuildError.NoMemory }
+    ensures accepted { IsAccepted program.now → IfErr result (λ e. e ≡ BuildError.NoMemory) }
+{
+    unfold_parts(alloc, program)
 }
