@@ -2,8 +2,9 @@
 use Rattle.std.specs.Prelude.{if◌then◌else◌}
 use Rattle.std.proofs.Common.{◌≡◌, ℕ, zero, suc, ◌+◌, ◌<◌, ◌≤◌, Bool, true, false, ◌&&◌, Option, Some, None, List, [], ◌∷◌, ◌++◌, length, refl, sym, ap, ◌∙◌, subst, arith, flat_map, Result, Ok, Err}
 use Rattle.beat_core.specs.declared.beat.Beat.{Beat}
-use Rattle.beat_core.specs.Beats.{beats_of, bytes_of_beat}
-use Rattle.beat_core.specs.Ports.{Given, answers_among}
+use Rattle.beat_core.specs.Beats.{bytes_of_beat}
+use Rattle.beat_core.specs.declared.frame.Timed.{Timed}
+use Rattle.beat_core.specs.Ports.{Offered, offers_of, Given, answers_among}
 use Rattle.net_core.specs.declared.tree.Net.{Net}
 use Rattle.net_core.specs.declared.tree.Net.TheVariants.{Wire}
 use Rattle.net_core.specs.Nets.{Netlist, RightTree, WireTree}
@@ -42,12 +43,12 @@ length_rights [] = refl
 length_rights (w ∷ ws) = ap suc (length_rights ws)
 
 -- a drive, by whether its first clock stops
-by_stop : (P : Drive → Type 0) (d : Netlist) (x : ℕ) (s : Stored) (left : List Beat) (owed limit : ℕ) (o : Option ℕ) → stopping d (words_of (drive_inputs x left)) s ≡ o
-    → ((w : ℕ) → stopping d (words_of (drive_inputs x left)) s ≡ Some w → P (record { trace = []; ended = Stopped w }))
-    → P (and_then (cycle_of d s (drive_inputs x left)) (drive d x (after d (words_of (drive_inputs x left)) s) (left_after (cycle_of d s (drive_inputs x left)) left) (owed_after (cycle_of d s (drive_inputs x left)) (suc owed)) limit))
-    → P (drive d x s left (suc owed) (suc limit))
-by_stop P d x s left owed limit None e stop go = subst P (sym (next_drive d x s left owed limit e)) go
-by_stop P d x s left owed limit (Some w) e stop go = subst P (sym (stopped_drive d x s left owed limit w e)) (stop w e)
+by_stop : (P : Drive → Type 0) (d : Netlist) (s : Stored) (left : List Offered) (owed limit : ℕ) (o : Option ℕ) → stopping d (words_of (drive_inputs left)) s ≡ o
+    → ((w : ℕ) → stopping d (words_of (drive_inputs left)) s ≡ Some w → P (record { trace = []; ended = Stopped w }))
+    → P (and_then (cycle_of d s (drive_inputs left)) (drive d (after d (words_of (drive_inputs left)) s) (left_after (cycle_of d s (drive_inputs left)) left) (owed_after (cycle_of d s (drive_inputs left)) (suc owed)) limit))
+    → P (drive d s left (suc owed) (suc limit))
+by_stop P d s left owed limit None e stop go = subst P (sym (next_drive d s left owed limit e)) go
+by_stop P d s left owed limit (Some w) e stop go = subst P (sym (stopped_drive d s left owed limit w e)) (stop w e)
 
 abbrev StopsWithin : Netlist → Drive → Type 0
 StopsWithin d r = (w : ℕ) → r.ended ≡ Stopped w → w < length d.wires
@@ -58,16 +59,16 @@ never_stopped d r e is other = λ w f. absurd (other w (sym (ap (λ (q : Drive).
 same_stop : (v w : ℕ) → Stopped v ≡ Stopped w → v ≡ w
 same_stop v w e = cc
 
-pub drive_stopped : (d : Netlist) (x : ℕ) (s : Stored) (left : List Beat) (owed limit : ℕ) → StopsWithin d (drive d x s left owed limit)
-drive_stopped d x s left zero limit = never_stopped d (drive d x s left zero limit) Answered (done_drive d x s left limit) (λ w e. cc)
-drive_stopped d x s left (suc owed) zero = never_stopped d (drive d x s left (suc owed) zero) OutOfClocks (late_drive d x s left owed) (λ w e. cc)
-drive_stopped d x s left (suc owed) (suc limit) =
-    by_stop (StopsWithin d) d x s left owed limit (stopping d (words_of (drive_inputs x left)) s) refl
+pub drive_stopped : (d : Netlist) (s : Stored) (left : List Offered) (owed limit : ℕ) → StopsWithin d (drive d s left owed limit)
+drive_stopped d s left zero limit = never_stopped d (drive d s left zero limit) Answered (done_drive d s left limit) (λ w e. cc)
+drive_stopped d s left (suc owed) zero = never_stopped d (drive d s left (suc owed) zero) OutOfClocks (late_drive d s left owed) (λ w e. cc)
+drive_stopped d s left (suc owed) (suc limit) =
+    by_stop (StopsWithin d) d s left owed limit (stopping d (words_of (drive_inputs left)) s) refl
     (λ w e v f.
-    let here : w < 0 + length (rights d.wires) = stopped_within (env_of d (words_of (drive_inputs x left)) s) 0 w (rights d.wires) e in
+    let here : w < 0 + length (rights d.wires) = stopped_within (env_of d (words_of (drive_inputs left)) s) 0 w (rights d.wires) e in
     let same : w ≡ v = same_stop w v f in
     omega (arith, here, same, length_rights d.wires))
-    (drive_stopped d x (after d (words_of (drive_inputs x left)) s) (left_after (cycle_of d s (drive_inputs x left)) left) (owed_after (cycle_of d s (drive_inputs x left)) (suc owed)) limit)
+    (drive_stopped d (after d (words_of (drive_inputs left)) s) (left_after (cycle_of d s (drive_inputs left)) left) (owed_after (cycle_of d s (drive_inputs left)) (suc owed)) limit)
 
 -- a wire has a name
 pub wire_named : (d : Netlist) → IsWellFormed d → (w : ℕ) → w < length d.wires → name_place d (Wire w) < length d.names
@@ -90,73 +91,73 @@ GivesFew owed r = (so_far : List ℕ) → length (answers_given so_far r.trace) 
 gives_none : (owed : ℕ) (r : Drive) (e : Ended) → r ≡ record { trace = []; ended = e } → GivesFew owed r
 gives_none owed r e is = λ so_far. let n : length (answers_given so_far r.trace) ≡ 0 = ap (λ (q : Drive). length (answers_given so_far q.trace)) is in omega (arith, n)
 
-pub drive_few : (d : Netlist) (x : ℕ) (s : Stored) (left : List Beat) (owed limit : ℕ) → GivesFew owed (drive d x s left owed limit)
-drive_few d x s left zero limit = gives_none zero (drive d x s left zero limit) Answered (done_drive d x s left limit)
-drive_few d x s left (suc owed) zero = gives_none (suc owed) (drive d x s left (suc owed) zero) OutOfClocks (late_drive d x s left owed)
-drive_few d x s left (suc owed) (suc limit) =
-    by_stop (GivesFew (suc owed)) d x s left owed limit (stopping d (words_of (drive_inputs x left)) s) refl
+pub drive_few : (d : Netlist) (s : Stored) (left : List Offered) (owed limit : ℕ) → GivesFew owed (drive d s left owed limit)
+drive_few d s left zero limit = gives_none zero (drive d s left zero limit) Answered (done_drive d s left limit)
+drive_few d s left (suc owed) zero = gives_none (suc owed) (drive d s left (suc owed) zero) OutOfClocks (late_drive d s left owed)
+drive_few d s left (suc owed) (suc limit) =
+    by_stop (GivesFew (suc owed)) d s left owed limit (stopping d (words_of (drive_inputs left)) s) refl
     (λ w e. gives_none (suc owed) (record { trace = []; ended = Stopped w }) (Stopped w) refl)
     (λ so_far.
-    let m : Cycle = cycle_of d s (drive_inputs x left) in
-    let rest : Drive = drive d x (after d (words_of (drive_inputs x left)) s) (left_after m left) (owed_after m (suc owed)) limit in
-    let few : GivesFew (owed_after m (suc owed)) rest = drive_few d x (after d (words_of (drive_inputs x left)) s) (left_after m left) (owed_after m (suc owed)) limit in
+    let m : Cycle = cycle_of d s (drive_inputs left) in
+    let rest : Drive = drive d (after d (words_of (drive_inputs left)) s) (left_after m left) (owed_after m (suc owed)) limit in
+    let few : GivesFew (owed_after m (suc owed)) rest = drive_few d (after d (words_of (drive_inputs left)) s) (left_after m left) (owed_after m (suc owed)) limit in
     one_clock (goes_out m) m.shown.out_last owed m.shown.out_data m.shown.out_bytes m.shown.out_verdict m.shown.out_target so_far (given_out rest.trace)
     (few []) (few (so_far ++ bytes_of_beat (shown_beat m))) (few so_far))
 
 -- ---- what a call of `drive` gave
-pub drive_is : (d p : Netlist) (s : Stored) (x : ℕ) (frames : List (List ℕ)) (limit : ℕ) → p ≡ d → s ≡ first_stored d → full_drive p x s frames limit ≡ full_drive d x (first_stored d) frames limit
-drive_is d p s x frames limit e f = ap (λ q. full_drive q x s frames limit) e ∙ ap (λ t. full_drive d x t frames limit) f
+pub drive_is : (d p : Netlist) (s : Stored) (x : ℕ) (packets : List Timed) (limit : ℕ) → p ≡ d → s ≡ first_stored d → full_drive p x s packets limit ≡ full_drive d x (first_stored d) packets limit
+drive_is d p s x packets limit e f = ap (λ q. full_drive q x s packets limit) e ∙ ap (λ t. full_drive d x t packets limit) f
 
-is_driven : (d : Netlist) (x : ℕ) (frames : List (List ℕ)) (clocks : ℕ) (D : Drive) (answers : List Answer) (end : Option CommandError) → D ≡ full_drive d x (first_stored d) frames clocks → answers ≡ answers_given [] D.trace → end ≡ drive_error d (length frames) D D.ended
-    → IsDriven d x frames clocks (record { answers = answers; end = end })
-is_driven d x frames clocks D answers end is given why =
-    let all : answers ≡ answers_given [] (full_drive d x (first_stored d) frames clocks).trace = given ∙ ap (λ (r : Drive). answers_given [] r.trace) is in
-    let few : length (answers_given [] (full_drive d x (first_stored d) frames clocks).trace) ≤ length frames = drive_few d x (first_stored d) (flat_map beats_of frames) (length frames) clocks [] in
-    let count : length answers ≡ length (answers_given [] (full_drive d x (first_stored d) frames clocks).trace) = ap length all in
+is_driven : (d : Netlist) (x : ℕ) (packets : List Timed) (clocks : ℕ) (D : Drive) (answers : List Answer) (end : Option CommandError) → D ≡ full_drive d x (first_stored d) packets clocks → answers ≡ answers_given [] D.trace → end ≡ drive_error d (length packets) D D.ended
+    → IsDriven d x packets clocks (record { answers = answers; end = end })
+is_driven d x packets clocks D answers end is given why =
+    let all : answers ≡ answers_given [] (full_drive d x (first_stored d) packets clocks).trace = given ∙ ap (λ (r : Drive). answers_given [] r.trace) is in
+    let few : length (answers_given [] (full_drive d x (first_stored d) packets clocks).trace) ≤ length packets = drive_few d (first_stored d) (flat_map (offers_of x) packets) (length packets) clocks [] in
+    let count : length answers ≡ length (answers_given [] (full_drive d x (first_stored d) packets clocks).trace) = ap length all in
     record {
       answers = all;
       few = omega (arith, few, count);
-      end = why ∙ ap (λ (r : Drive). drive_error d (length frames) r r.ended) is;
+      end = why ∙ ap (λ (r : Drive). drive_error d (length packets) r r.ended) is;
     }
 
 none_before : (before after all : List Answer) → before ≡ [] → after ≡ before ++ all → after ≡ all
 none_before before after all e f = f ∙ ap (λ b. b ++ all) e
 
-pub driven_ok : (d : Netlist) (x : ℕ) (frames : List (List ℕ)) (clocks : ℕ) (D : Drive) (before after : List Answer) (r : Result report.Drive DriveError) (done : report.Drive) → D ≡ full_drive d x (first_stored d) frames clocks → before ≡ [] → r ≡ Ok done
-    → Gives r before after (answers_given [] D.trace) → Reports D (length frames) r → IsDriven d x frames clocks (record { answers = after; end = None })
-driven_ok d x frames clocks D before after r done is none e gives reports =
+pub driven_ok : (d : Netlist) (x : ℕ) (packets : List Timed) (clocks : ℕ) (D : Drive) (before after : List Answer) (r : Result report.Drive DriveError) (done : report.Drive) → D ≡ full_drive d x (first_stored d) packets clocks → before ≡ [] → r ≡ Ok done
+    → Gives r before after (answers_given [] D.trace) → Reports D (length packets) r → IsDriven d x packets clocks (record { answers = after; end = None })
+driven_ok d x packets clocks D before after r done is none e gives reports =
     let P : Result report.Drive DriveError → Type 0 = λ q. Gives q before after (answers_given [] D.trace) in
-    let Q : Result report.Drive DriveError → Type 0 = Reports D (length frames) in
-    is_driven d x frames clocks D after None is (none_before before after _ none (subst P e gives)) (ap (drive_error d (length frames) D) (sym (subst Q e reports).0))
+    let Q : Result report.Drive DriveError → Type 0 = Reports D (length packets) in
+    is_driven d x packets clocks D after None is (none_before before after _ none (subst P e gives)) (ap (drive_error d (length packets) D) (sym (subst Q e reports).0))
 
-pub driven_x : (d p : Netlist) (x : ℕ) (frames : List (List ℕ)) (clocks : ℕ) (D : Drive) (before after : List Answer) (r : Result report.Drive DriveError) (error : DriveError) (stopped : XValue) (name : List ℕ) → D ≡ full_drive d x (first_stored d) frames clocks → before ≡ []
-    → r ≡ Err error → error ≡ X stopped → Gives r before after (answers_given [] D.trace) → Reports D (length frames) r → p ≡ d → name ≡ name_of p stopped.net → IsDriven d x frames clocks (record { answers = after; end = Some (fault.XValue name) })
-driven_x d p x frames clocks D before after r error stopped name is none e f gives reports same named =
+pub driven_x : (d p : Netlist) (x : ℕ) (packets : List Timed) (clocks : ℕ) (D : Drive) (before after : List Answer) (r : Result report.Drive DriveError) (error : DriveError) (stopped : XValue) (name : List ℕ) → D ≡ full_drive d x (first_stored d) packets clocks → before ≡ []
+    → r ≡ Err error → error ≡ X stopped → Gives r before after (answers_given [] D.trace) → Reports D (length packets) r → p ≡ d → name ≡ name_of p stopped.net → IsDriven d x packets clocks (record { answers = after; end = Some (fault.XValue name) })
+driven_x d p x packets clocks D before after r error stopped name is none e f gives reports same named =
     let P : Result report.Drive DriveError → Type 0 = λ q. Gives q before after (answers_given [] D.trace) in
-    let Q : Result report.Drive DriveError → Type 0 = Reports D (length frames) in
+    let Q : Result report.Drive DriveError → Type 0 = Reports D (length packets) in
     let g : r ≡ Err (X stopped) = e ∙ ap Err f in
     let w = subst Q g reports in
-    is_driven d x frames clocks D after (Some (fault.XValue name)) is (none_before before after _ none (subst P g gives))
-    (ap (λ n. Some (fault.XValue n)) (named ∙ ap (λ q. name_of q stopped.net) same ∙ ap (name_of d) w.2) ∙ ap (drive_error d (length frames) D) (sym w.1))
+    is_driven d x packets clocks D after (Some (fault.XValue name)) is (none_before before after _ none (subst P g gives))
+    (ap (λ n. Some (fault.XValue n)) (named ∙ ap (λ q. name_of q stopped.net) same ∙ ap (name_of d) w.2) ∙ ap (drive_error d (length packets) D) (sym w.1))
 
-pub driven_late : (d : Netlist) (x : ℕ) (frames : List (List ℕ)) (clocks : ℕ) (D : Drive) (before after : List Answer) (r : Result report.Drive DriveError) (error : DriveError) (given owed limit : ℕ) → D ≡ full_drive d x (first_stored d) frames clocks → before ≡ []
-    → r ≡ Err error → error ≡ Late given owed limit → Gives r before after (answers_given [] D.trace) → Reports D (length frames) r → IsDriven d x frames clocks (record { answers = after; end = Some (fault.Late given owed) })
-driven_late d x frames clocks D before after r error given owed limit is none e f gives reports =
+pub driven_late : (d : Netlist) (x : ℕ) (packets : List Timed) (clocks : ℕ) (D : Drive) (before after : List Answer) (r : Result report.Drive DriveError) (error : DriveError) (given owed limit : ℕ) → D ≡ full_drive d x (first_stored d) packets clocks → before ≡ []
+    → r ≡ Err error → error ≡ Late given owed limit → Gives r before after (answers_given [] D.trace) → Reports D (length packets) r → IsDriven d x packets clocks (record { answers = after; end = Some (fault.Late given owed) })
+driven_late d x packets clocks D before after r error given owed limit is none e f gives reports =
     let P : Result report.Drive DriveError → Type 0 = λ q. Gives q before after (answers_given [] D.trace) in
-    let Q : Result report.Drive DriveError → Type 0 = Reports D (length frames) in
+    let Q : Result report.Drive DriveError → Type 0 = Reports D (length packets) in
     let g : r ≡ Err (Late given owed limit) = e ∙ ap Err f in
     let w = subst Q g reports in
-    is_driven d x frames clocks D after (Some (fault.Late given owed)) is (none_before before after _ none (subst P g gives))
-    (ap (λ n. Some (fault.Late n owed)) w.1 ∙ ap (λ n. Some (fault.Late (length (answers_given [] D.trace)) n)) w.2 ∙ ap (drive_error d (length frames) D) (sym w.0))
+    is_driven d x packets clocks D after (Some (fault.Late given owed)) is (none_before before after _ none (subst P g gives))
+    (ap (λ n. Some (fault.Late n owed)) w.1 ∙ ap (λ n. Some (fault.Late (length (answers_given [] D.trace)) n)) w.2 ∙ ap (drive_error d (length packets) D) (sym w.0))
 
 -- the net at which a drive stops has a name
-pub stop_named : (d p q : Netlist) (s : Stored) (x : ℕ) (frames : List (List ℕ)) (clocks : ℕ) (r : Result report.Drive DriveError) (error : DriveError) (stopped : XValue) → IsWellFormed d → r ≡ Err error → error ≡ X stopped
-    → Reports (full_drive p x s frames clocks) (length frames) r → p ≡ d → q ≡ p → name_place q stopped.net < length q.names
-stop_named d p q s x frames clocks r error stopped formed e f reports same kept =
-    let Q : Result report.Drive DriveError → Type 0 = Reports (full_drive p x s frames clocks) (length frames) in
+pub stop_named : (d p q : Netlist) (s : Stored) (x : ℕ) (packets : List Timed) (clocks : ℕ) (r : Result report.Drive DriveError) (error : DriveError) (stopped : XValue) → IsWellFormed d → r ≡ Err error → error ≡ X stopped
+    → Reports (full_drive p x s packets clocks) (length packets) r → p ≡ d → q ≡ p → name_place q stopped.net < length q.names
+stop_named d p q s x packets clocks r error stopped formed e f reports same kept =
+    let Q : Result report.Drive DriveError → Type 0 = Reports (full_drive p x s packets clocks) (length packets) in
     let w = subst Q (e ∙ ap Err f) reports in
     let P : Netlist → Type 0 = IsWellFormed in
     let N : Net → Type 0 = λ n. name_place p n < length p.names in
-    let there : name_place p stopped.net < length p.names = subst N (sym w.2) (wire_named p (subst P (sym same) formed) w.0 (drive_stopped p x s (flat_map beats_of frames) (length frames) clocks w.0 w.1)) in
+    let there : name_place p stopped.net < length p.names = subst N (sym w.2) (wire_named p (subst P (sym same) formed) w.0 (drive_stopped p s (flat_map (offers_of x) packets) (length packets) clocks w.0 w.1)) in
     let M : Netlist → Type 0 = λ z. name_place z stopped.net < length z.names in
     subst M (sym kept) there

@@ -8,7 +8,9 @@ use Rattle.net_core.specs.Clock.{first_stored}
 use Rattle.net_core.specs.History.{Arrival, Drive, answers_given}
 use Rattle.beat_core.specs.declared.answer.Answer.{Answer}
 use Rattle.port_drive.specs.Reports.{full_drive}
-use Rattle.ehdl_build.specs.Realizes.{came_by}
+use Rattle.beat_core.specs.declared.frame.Timed.{Timed}
+use Rattle.beat_core.specs.Laws.{arrival_of}
+use Rattle.pcap_core.specs.Time.{timed_of}
 use Rattle.xdp_maps.specs.State.{MapState}
 use Rattle.xdp_object.specs.Program.{XdpProgram}
 use Rattle.xdp_machine.proofs.RunLaws.{runs_length}
@@ -25,7 +27,7 @@ use Rattle.ehdl_top.specs.States.{ShelfState, Changes}
 use Rattle.ehdl_top.specs.Forms.{Holds, IsTextOf, IsCaptured, program_form, text_form, capture_form, object_form}
 use Rattle.ehdl_top.specs.Inputs.{AreReady}
 use Rattle.ehdl_top.specs.Writes.{Outputs, names_in, Write, AreDone, OneFailed}
-use Rattle.ehdl_top.specs.Results.{frames_of, compile_outputs, run_outputs, sim_outputs}
+use Rattle.ehdl_top.specs.Results.{timed_packets, came_by, compile_outputs, run_outputs, sim_outputs}
 use Rattle.ehdl_top.specs.Outcome.{IsSimulated, drive_error}
 use Rattle.ehdl_top.specs.Requests.{inputs_of, outputs_of, IsOutcome, EndsItself}
 use Rattle.ehdl_top.specs.Steps.{IsRead, IsTextFor, IsCaptureOf, IsRunOf, IsSimOf, AreApart, FailsWrite, WritesAll, write_of, stamp_of}
@@ -56,10 +58,10 @@ outcome_ready (AskSim names chosen ifindex clocks) held end outputs o = (
 )
 
 -- ---- one end of a simulation
-same_packets : (held : Option (List ℕ)) (m n : ℕ) (ps qs : List Packet) → Holds CAPTURE_LIMIT held (λ bytes. IsCaptured bytes m ps) → Holds CAPTURE_LIMIT held (λ bytes. IsCaptured bytes n qs) → qs ≡ ps
+same_packets : (held : Option (List ℕ)) (m n : ℕ) (ps qs : List Packet) → Holds CAPTURE_LIMIT held (λ bytes. IsCaptured bytes m ps) → Holds CAPTURE_LIMIT held (λ bytes. IsCaptured bytes n qs) → (n ≡ m) × (qs ≡ ps)
 same_packets held m n ps qs a b =
-    holds_both CAPTURE_LIMIT held (λ bytes. IsCaptured bytes m ps) (λ bytes. IsCaptured bytes n qs) (λ bytes. qs ≡ ps)
-    (λ bytes c d. ap (λ (x : Content). x.packets) (one_captured bytes _ _ d c)) a b
+    holds_both CAPTURE_LIMIT held (λ bytes. IsCaptured bytes m ps) (λ bytes. IsCaptured bytes n qs) (λ bytes. (n ≡ m) × (qs ≡ ps))
+    (λ bytes c d. let same = one_captured bytes _ _ d c in (ap (λ (x : Content). x.magic) same, ap (λ (x : Content). x.packets) same)) a b
 
 same_design : (held : Option (List ℕ)) (d e : Netlist) → Holds VERILOG_LIMIT held (λ bytes. IsTextOf bytes d) → Holds VERILOG_LIMIT held (λ bytes. IsTextOf bytes e) → e ≡ d
 same_design held d e a b =
@@ -69,10 +71,11 @@ one_end : (names : Names) (chosen : Chosen) (ifindex clocks : ℕ) (held : Holdi
     → IsSimulated names chosen ifindex clocks held end outputs → IsSimulated names chosen ifindex clocks held end' outputs' → end ≡ end'
 one_end names chosen ifindex clocks held end end' outputs outputs' a b =
     let design : b.design ≡ a.design = same_design (held names.verilog) a.design b.design a.held_text b.held_text in
-    let packets : b.packets ≡ a.packets = same_packets (held names.capture) a.magic b.magic a.packets b.packets a.held_capture b.held_capture in
-    let F : Netlist → List Packet → Option CommandError = λ d ps.
-    let r : Drive = full_drive d ifindex (first_stored d) (frames_of ps) clocks in drive_error d (length ps) r r.ended in
-    a.end_is ∙ ap (λ r. drive_error a.design (length a.packets) r r.ended) a.is_drive ∙ ap (λ d. F d a.packets) (sym design) ∙ ap (λ ps. F b.design ps) (sym packets)
+    let capture = same_packets (held names.capture) a.magic b.magic a.packets b.packets a.held_capture b.held_capture in
+    let F : Netlist → ℕ → List Packet → Option CommandError = λ d magic ps.
+    let r : Drive = full_drive d ifindex (first_stored d) (timed_packets magic ps) clocks in drive_error d (length ps) r r.ended in
+    a.end_is ∙ ap (λ r. drive_error a.design (length a.packets) r r.ended) a.is_drive ∙ ap (λ d. F d a.magic a.packets) (sym design)
+    ∙ ap (λ m. F b.design m a.packets) (sym capture.0) ∙ ap (λ ps. F b.design b.magic ps) (sym capture.1)
     ∙ ap (λ r. drive_error b.design (length b.packets) r r.ended) (sym b.is_drive) ∙ sym b.end_is
 
 pub ends_one : (request : Request) (held : Holding) (end end' : Option CommandError) (outputs outputs' : Outputs) → IsOutcome request held end outputs → IsOutcome request held end' outputs' → end ≡ end'
@@ -209,20 +212,16 @@ packets_count : (arrivals : List Arrival) → length (packets_in arrivals) ≡ l
 packets_count [] = refl
 packets_count (a ∷ rest) = ap suc (packets_count rest)
 
-came_count : (ifindex : ℕ) (frames : List (List ℕ)) → length (came_by ifindex frames) ≡ length frames
-came_count ifindex [] = refl
-came_count ifindex (f ∷ fs) = ap suc (came_count ifindex fs)
+answers_count : (program : XdpProgram) (maps last : MapState) (ifindex : ℕ) (packets : List Timed) (answers : List Answer) → IsSequential program maps (came_by ifindex packets) answers last → length answers ≡ length packets
+answers_count program maps last ifindex packets answers is =
+    ap length is.answers_are ∙ length-map is.leaves answer_of ∙ runs_length (code_of program) maps (packets_in (came_by ifindex packets)) is.leaves last is.runs
+    ∙ packets_count (came_by ifindex packets) ∙ length-map packets (arrival_of ifindex)
 
-answers_count : (program : XdpProgram) (maps last : MapState) (ifindex : ℕ) (frames : List (List ℕ)) (answers : List Answer) → IsSequential program maps (came_by ifindex frames) answers last → length answers ≡ length frames
-answers_count program maps last ifindex frames answers is =
-    ap length is.answers_are ∙ length-map is.leaves answer_of ∙ runs_length (code_of program) maps (packets_in (came_by ifindex frames)) is.leaves last is.runs
-    ∙ packets_count (came_by ifindex frames) ∙ came_count ifindex frames
-
-pub counted : (program : XdpProgram) (maps last : MapState) (ifindex : ℕ) (frames : List (List ℕ)) (answers : List Answer) (captured : Captured) (packets : List Packet) → IsSequential program maps (came_by ifindex frames) answers last → frames ≡ captured.frames.items → IsCaptureOf captured packets → length answers ≤ length captured.stamps.items
-counted program maps last ifindex frames answers captured packets is same of =
-    let e : length answers ≡ length frames = answers_count program maps last ifindex frames answers is in
-    let f : length frames ≡ length (frames_of packets) = ap length (same ∙ of.frames) in
+pub counted : (program : XdpProgram) (maps last : MapState) (ifindex : ℕ) (timed : List Timed) (answers : List Answer) (captured : Captured) (packets : List Packet) → IsSequential program maps (came_by ifindex timed) answers last → timed ≡ captured.packets.items → IsCaptureOf captured packets → length answers ≤ length captured.stamps.items
+counted program maps last ifindex timed answers captured packets is same of =
+    let e : length answers ≡ length timed = answers_count program maps last ifindex timed answers is in
+    let f : length timed ≡ length (timed_packets captured.magic packets) = ap length (same ∙ of.timed) in
     let s : length captured.stamps.items ≡ length (map stamp_of packets) = ap length of.stamps in
-    let g : length (frames_of packets) ≡ length packets = length-map packets (λ p. p.bytes) in
+    let g : length (timed_packets captured.magic packets) ≡ length packets = length-map packets (timed_of captured.magic) in
     let h : length (map stamp_of packets) ≡ length packets = length-map packets stamp_of in
     omega (arith, e, f, s, g, h)

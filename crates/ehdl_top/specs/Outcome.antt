@@ -11,7 +11,6 @@ use Rattle.beat_core.specs.declared.answer.Answer.{Answer}
 use Rattle.port_drive.specs.Reports.{full_drive}
 use Rattle.xdp_object.specs.Program.{XdpProgram}
 use Rattle.xdp_object.specs.Object.{IsObject}
-use Rattle.ehdl_build.specs.Realizes.{came_by}
 use Rattle.xdp_maps.specs.State.{MapState, opened_state}
 use Rattle.ehdl_build.specs.Compiled.{PipelineSize, HasSize, IsSequential, Realizes}
 use Rattle.xdp_object.specs.Choice.{Chosen}
@@ -21,7 +20,7 @@ use Rattle.ehdl_top.specs.declared.error.CommandError.{CommandError}
 use Rattle.ehdl_top.specs.declared.error.CommandError.TheVariants as error
 use Rattle.ehdl_top.specs.Forms.{Holds, IsAccepted, IsTextOf, IsCaptured}
 use Rattle.ehdl_top.specs.Writes.{Outputs}
-use Rattle.ehdl_top.specs.Results.{frames_of, compile_outputs, run_outputs, sim_outputs}
+use Rattle.ehdl_top.specs.Results.{timed_packets, came_by, compile_outputs, run_outputs, sim_outputs}
 
 -- ---- compile
 -- The text that an object asks for: it realizes the object's program.
@@ -49,7 +48,7 @@ pub record IsRun (names : Names) (chosen : Chosen) (ifindex : ℕ) (held : Holdi
   pub held_capture : Holds CAPTURE_LIMIT (held names.capture) (λ bytes. IsCaptured bytes magic packets)
   pub answers : List Answer
   pub final : MapState
-  pub runs : IsSequential program (opened_state program.decls) (came_by ifindex (frames_of packets)) answers final
+  pub runs : IsSequential program (opened_state program.decls) (came_by ifindex (timed_packets magic packets)) answers final
   pub outputs_are : outputs ≡ run_outputs names text magic packets answers
 
 -- ---- sim
@@ -70,6 +69,6 @@ pub record IsSimulated (names : Names) (chosen : Chosen) (ifindex clocks : ℕ) 
   pub packets : List Packet
   pub held_capture : Holds CAPTURE_LIMIT (held names.capture) (λ bytes. IsCaptured bytes magic packets)
   pub drive : Drive
-  pub is_drive : drive ≡ full_drive design ifindex (first_stored design) (frames_of packets) clocks
+  pub is_drive : drive ≡ full_drive design ifindex (first_stored design) (timed_packets magic packets) clocks
   pub end_is : end ≡ drive_error design (length packets) drive drive.ended
   pub outputs_are : outputs ≡ sim_outputs names magic packets (answers_given [] drive.trace) (is_none end)

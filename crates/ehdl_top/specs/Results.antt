@@ -2,6 +2,10 @@
 use Rattle.std.specs.Prelude.{ℕ, zero, suc, Bool, true, false, List, [], ◌∷◌, ◌++◌, length, map, slice_index_or}
 use Rattle.pcap_core.specs.declared.order.Order.TheVariants.{Little}
 use Rattle.pcap_core.specs.Format.{Packet, header_bytes, record_bytes}
+use Rattle.pcap_core.specs.Time.{timed_of}
+use Rattle.beat_core.specs.declared.frame.Timed.{Timed}
+use Rattle.beat_core.specs.Ports.{Arrival}
+use Rattle.beat_core.specs.Laws.{arrival_of}
 use Rattle.beat_core.specs.declared.answer.Answer.{Answer}
 use Rattle.command_line.specs.Request.{Names}
 use Rattle.ehdl_top.specs.Lines.{verdict_line_of}
@@ -43,8 +47,13 @@ answer_bytes magic packets answers = answer_header magic ++ texts (record_at pac
 abbrev pub verdict_lines : List Answer → List ℕ
 verdict_lines answers = texts (line_at answers) (length answers)
 
-abbrev pub frames_of : List Packet → List (List ℕ)
-frames_of packets = map (λ p. p.bytes) packets
+-- the packets of a capture, each a frame with its time
+abbrev pub timed_packets : ℕ → List Packet → List Timed
+timed_packets magic packets = map (timed_of magic) packets
+
+-- as they come by one interface
+abbrev pub came_by : ℕ → List Timed → List Arrival
+came_by ifindex packets = map (arrival_of ifindex) packets
 
 -- the capture of the answers, and their verdicts
 abbrev pub result_files : Names → ℕ → List Packet → List Answer → List File

@@ -2,7 +2,8 @@
 use Rattle.std.specs.Prelude.{◌≡◌, ◌≢◌, ◌⊎◌, ℕ, ◌<◌, ◌≤◌, ◌^◌, IsTrue, List, [], length, map, Option, Some, None, is_none, Result, Ok, Err}
 use Rattle.std.specs.List.{AllByRecursion}
 use Rattle.shelf_core.specs.Shelf.{Rose}
-use Rattle.beat_core.specs.Laws.{IsFrame}
+use Rattle.beat_core.specs.Laws.{IsPacket}
+use Rattle.beat_core.specs.declared.frame.Timed.{Timed}
 use Rattle.pcap_core.specs.Format.{Packet}
 use Rattle.net_core.specs.Nets.{Netlist}
 use Rattle.net_core.specs.Clock.{first_stored}
@@ -11,7 +12,6 @@ use Rattle.beat_core.specs.declared.answer.Answer.{Answer}
 use Rattle.port_drive.specs.Reports.{full_drive}
 use Rattle.xdp_object.specs.Program.{XdpProgram}
 use Rattle.xdp_object.specs.Choice.{Chosen}
-use Rattle.ehdl_build.specs.Realizes.{came_by}
 use Rattle.xdp_maps.specs.State.{MapState, opened_state}
 use Rattle.ehdl_build.specs.Compiled.{PipelineSize, HasSize, IsSequential, Realizes}
 use Rattle.command_line.specs.Request.{Request, AskCompile, AskRun, AskSim, Names}
@@ -19,7 +19,7 @@ use Rattle.ehdl_top.specs.States.{ShelfState, Changes, OneRose}
 use Rattle.ehdl_top.specs.Forms.{InputForm, IsFaulty, IsAccepted, IsTextFault, IsCaptured}
 use Rattle.ehdl_top.specs.Inputs.{FirstStop, OneUnread, EndsAtInput}
 use Rattle.ehdl_top.specs.Writes.{Write, Begin, Append}
-use Rattle.ehdl_top.specs.Results.{frames_of, run_outputs, sim_outputs}
+use Rattle.ehdl_top.specs.Results.{timed_packets, came_by, run_outputs, sim_outputs}
 use Rattle.ehdl_top.specs.Outcome.{drive_error}
 use Rattle.ehdl_top.specs.Requests.{inputs_of, outputs_of, EndsItself}
 use Rattle.ehdl_top.specs.Ends.{HasWritten, HasBroken}
@@ -70,16 +70,20 @@ pub record IsTextFor (choice : Chosen) (bytes text : List ℕ) : Type 0 where
   pub size : PipelineSize
   pub realized : IsRealized text program size
 
--- when a packet came
+-- when a packet came, as its record says
 abbrev pub stamp_of : Packet → Stamp
 stamp_of p = record { seconds = p.seconds; fraction = p.fraction }
 
--- what was read of a capture: the times and the frames of these packets
+-- a packet with the bytes of a frame, and a time of 64 bits
+abbrev pub IsLegal : Timed → Type 0
+IsLegal p = IsPacket p × (p.time < 2 ^ 64)
+
+-- what was read of a capture: these packets, as frames with their times, and what stands for the times in the file
 pub record IsCaptureOf (captured : Captured) (packets : List Packet) : Type 0 where
   pub stamps : captured.stamps.items ≡ map stamp_of packets
-  pub frames : captured.frames.items ≡ frames_of packets
-  pub are : AllByRecursion IsFrame captured.frames.items
-  pub few : length captured.frames.items < 2 ^ 32
+  pub timed : captured.packets.items ≡ timed_packets captured.magic packets
+  pub are : AllByRecursion IsLegal captured.packets.items
+  pub few : length captured.packets.items < 2 ^ 32
 
 pub record HasCaptured (bytes : List ℕ) (captured : Captured) : Type 0 where
   pub packets : List Packet
@@ -93,11 +97,11 @@ TextStops bytes error.NoMemory = Unit {0}
 TextStops bytes e = ⊥
 
 -- ---- the drive
--- what the full drive of these frames in at most so many clocks gave: no more answers than there are frames
-pub record IsDriven (design : Netlist) (ifindex : ℕ) (frames : List (List ℕ)) (clocks : ℕ) (d : Driven) : Type 0 where
-  pub answers : d.answers ≡ answers_given [] (full_drive design ifindex (first_stored design) frames clocks).trace
-  pub few : length d.answers ≤ length frames
-  pub end : d.end ≡ drive_error design (length frames) (full_drive design ifindex (first_stored design) frames clocks) (full_drive design ifindex (first_stored design) frames clocks).ended
+-- what the full drive of these packets in at most so many clocks gave: no more answers than there are packets
+pub record IsDriven (design : Netlist) (ifindex : ℕ) (packets : List Timed) (clocks : ℕ) (d : Driven) : Type 0 where
+  pub answers : d.answers ≡ answers_given [] (full_drive design ifindex (first_stored design) packets clocks).trace
+  pub few : length d.answers ≤ length packets
+  pub end : d.end ≡ drive_error design (length packets) (full_drive design ifindex (first_stored design) packets clocks) (full_drive design ifindex (first_stored design) packets clocks).ended
 
 -- ---- outputs
 abbrev pub write_of : code.Write → Write
@@ -108,13 +112,13 @@ write_of (write.Append name bytes) = Append name.now bytes.items
 pub record IsRunOf (names : Names) (text : List ℕ) (program : XdpProgram) (ifindex magic : ℕ) (packets : List Packet) (writes : List code.Write) : Type 0 where
   pub answers : List Answer
   pub final : MapState
-  pub runs : IsSequential program (opened_state program.decls) (came_by ifindex (frames_of packets)) answers final
+  pub runs : IsSequential program (opened_state program.decls) (came_by ifindex (timed_packets magic packets)) answers final
   pub writes_are : map write_of writes ≡ (run_outputs names text magic packets answers).writes
 
 -- the writes and the end of a simulation over these packets
 pub record IsSimOf (names : Names) (design : Netlist) (ifindex clocks magic : ℕ) (packets : List Packet) (simulated : Simulated) : Type 0 where
   pub drive : Drive
-  pub is_drive : drive ≡ full_drive design ifindex (first_stored design) (frames_of packets) clocks
+  pub is_drive : drive ≡ full_drive design ifindex (first_stored design) (timed_packets magic packets) clocks
   pub end_is : simulated.end ≡ drive_error design (length packets) drive drive.ended
   pub writes_are : map write_of simulated.writes.items ≡ (sim_outputs names magic packets (answers_given [] drive.trace) (is_none simulated.end)).writes
 

@@ -1,20 +1,19 @@
 // A design, driven over frames.
 
-ghost use Rattle.std.specs.Prelude.{◌≡◌, ◌≤◌, ◌<◌, ◌^◌, List, length, drop, IfOk};
+ghost use Rattle.std.specs.Prelude.{◌≡◌, ◌≤◌, ◌<◌, ◌^◌, List, length, map, drop, IfOk};
 ghost use Rattle.std.specs.List.{AllByRecursion};
 ghost use Rattle.xdp_maps.specs.State.{MapState, opened_state};
 ghost use Rattle.xdp_object.specs.Program.{XdpProgram};
-ghost use Rattle.beat_core.specs.Laws.{IsFrame};
 ghost use Rattle.net_core.specs.View.{netlist_of};
 ghost use Rattle.verilog_grammar.specs.Formed.{IsWellFormed};
 ghost use Rattle.ehdl_build.specs.Bounds.{clock_bound, most_beats};
-ghost use Rattle.ehdl_build.specs.Realizes.{came_by};
 ghost use Rattle.ehdl_build.specs.Compiled.{PipelineSize, IsSequential};
-ghost use Rattle.ehdl_top.specs.Steps.{IsDriven, IsRealized};
+ghost use Rattle.ehdl_top.specs.Results.{came_by};
+ghost use Rattle.ehdl_top.specs.Steps.{IsDriven, IsLegal, IsRealized};
 
 use crate::error::{CommandError, NetName};
 use crate::verilog::read_verilog;
-use beat_core::{Frame, Meta};
+use beat_core::Timed;
 use clock_sim::Sim;
 use net_core::design::Design;
 use port_drive::{Answers, DriveError, drive};
@@ -27,21 +26,20 @@ pub(crate) struct Driven {
     pub(crate) end: Option<CommandError>,
 }
 
-/// Drives a design by frames that are offered, and taken, at every clock, in at most so many clocks.
+/// Drives a design by packets whose beats are offered, and those of answers taken, at every clock, in at most so many clocks.
 pub(crate) fn drive_design(
     alloc: Global,
     design: Design,
-    frames: &[Frame],
+    packets: &[Timed],
     ifindex: u32,
     clocks: u64,
 ) -> Result<Driven, AllocError>
     requires { IsWellFormed (netlist_of design) }
-    ensures { IfOk result (IsDriven (netlist_of design) ifindex frames.now clocks) }
+    ensures { IfOk result (IsDriven (netlist_of design) ifindex packets.now clocks) }
 {
     let mut sim = Sim::open(alloc, design)?;
     let mut answers = Answers::new(alloc);
-    let meta = Meta { ifindex };
-    match drive(alloc, &mut sim, frames, meta, clocks, &mut answers) {
+    match drive(alloc, &mut sim, packets, ifindex, clocks, &mut answers) {
         Ok(_drive) => Ok(Driven { answers, end: None }),
         Err(DriveError::X(x)) => {
             let name = NetName::new(alloc, sim.name(x.net))?;
@@ -67,29 +65,29 @@ pub(crate) fn drive_design(
     }
 }
 
-// The clocks that these frames may take: `n * (2 * B + 8)` for n frames of at most B beats.
-fn clock_limit(frames: &[Frame]) -> u64
-    requires { length frames.now < 2 ^ 32 }
-    ensures { result ≡ clock_bound (length frames.now) 0 (most_beats frames.now) 0 }
+// The clocks that these packets may take: `n * (2 * B + 8)` for n frames of at most B beats.
+fn clock_limit(packets: &[Timed]) -> u64
+    requires { length packets.now < 2 ^ 32 }
+    ensures { result ≡ clock_bound (length packets.now) 0 (most_beats (map (λ p. p.frame) packets.now)) 0 }
 {
     let mut most = 0;
-    for frame in frames {
-        most = u64::max(most, frame.len().div_ceil(8) as u64);
+    for packet in packets {
+        most = u64::max(most, packet.frame.len().div_ceil(8) as u64);
     }
-    frames.len() as u64 * (2 * most + 8)
+    packets.len() as u64 * (2 * most + 8)
 }
 
 /// The answers of the design of a text that realizes a program: those of sequential execution.
 pub(crate) fn answers_of(
     alloc: Global,
     text: &[u8],
-    frames: &[Frame],
+    packets: &[Timed],
     ifindex: u32,
 ) -> Result<Answers, AllocError>
     requires realized { (program : XdpProgram) × (size : PipelineSize) × IsRealized text.now program size }
-    requires many { length frames.now < 2 ^ 32 }
-    requires frames { AllByRecursion IsFrame frames.now }
-    ensures { (program : XdpProgram) (size : PipelineSize) → IsRealized text.now program size → IfOk result (λ answers. (last : MapState) × IsSequential program (opened_state program.decls) (came_by ifindex frames.now) answers last) }
+    requires many { length packets.now < 2 ^ 32 }
+    requires packets { AllByRecursion IsLegal packets.now }
+    ensures { (program : XdpProgram) (size : PipelineSize) → IsRealized text.now program size → IfOk result (λ answers. (last : MapState) × IsSequential program (opened_state program.decls) (came_by ifindex packets.now) answers last) }
 {
     let design = match read_verilog(alloc, text) {
         Ok(design) => design,
@@ -97,7 +95,7 @@ pub(crate) fn answers_of(
         // The text spells a design.
         Err(_) => unreachable!(),
     };
-    let driven = drive_design(alloc, design, frames, ifindex, clock_limit(frames))?;
+    let driven = drive_design(alloc, design, packets, ifindex, clock_limit(packets))?;
     let Driven { answers, end } = driven;
     match end {
         None => Ok(answers),

@@ -1,19 +1,20 @@
 // The packets of a capture.
 
 ghost use Rattle.std.specs.Prelude.{◌≡◌, ◌<◌, ◌-◌, ◌^◌, ◌++◌, ◌∷◌, List, [], length, OnOk, IfOk, IfErr};
-ghost use Rattle.pcap_core.specs.Format.{Packet, IsLength};
+ghost use Rattle.pcap_core.specs.Format.{Packet};
 ghost use Rattle.pcap_core.specs.Next.{seen};
+ghost use Rattle.pcap_core.specs.Time.{timed_of};
 ghost use Rattle.ehdl_top.specs.Forms.{capture_form};
-ghost use Rattle.ehdl_top.specs.Steps.{IsCaptureOf, HasCaptured, IsGivenUp};
+ghost use Rattle.ehdl_top.specs.Steps.{IsLegal, IsCaptureOf, HasCaptured, IsGivenUp};
 
 use crate::error::CommandError;
 use crate::form::Form;
 use crate::limits::CAPTURE_LIMIT;
-use beat_core::Frame;
+use beat_core::Timed;
 use pcap_core::{Capture, Rec};
 use std::alloc::{AllocError, Global};
 
-/// When a packet came.
+/// When a packet came, as its record says.
 #[derive(Clone, Copy, Debug)]
 pub(crate) struct Stamp {
     pub(crate) seconds: u32,
@@ -26,9 +27,10 @@ pub(crate) struct Stamp {
 pub(crate) struct Captured {
     /// The magic number, which says what fractions of a second are.
     pub(crate) magic: u32,
-    /// When the packets came, in their order, and their frames.
+    /// When the packets came, in their order, as their records say.
     pub(crate) stamps: Vec<Stamp>,
-    pub(crate) frames: Vec<Frame>,
+    /// The frames of the packets, with their times.
+    pub(crate) packets: Vec<Timed>,
 }
 
 /// A capture, which is read whole.
@@ -63,24 +65,22 @@ impl Captured {
         Captured {
             magic,
             stamps: Vec::new(alloc),
-            frames: Vec::new(alloc),
+            packets: Vec::new(alloc),
         }
     }
 
     // One packet more.
-    fn push(&mut self, alloc: Global, packet: Rec) -> Result<(), AllocError>
-        requires frame { IsLength (length packet.bytes.now) }
-        requires room { length self.old.frames.items < 2 ^ 32 - 1 }
+    fn push(&mut self, packet: Rec, timed: Timed) -> Result<(), AllocError>
+        requires same { timed ≡ timed_of self.old.magic (seen packet) }
+        requires legal { IsLegal timed }
+        requires room { length self.old.packets.items < 2 ^ 32 - 1 }
         ensures { OnOk result ((packets : List Packet) → IsCaptureOf self.old packets → (self.new.magic ≡ self.old.magic) × IsCaptureOf self.new (packets ++ seen packet.entry ∷ [])) }
     {
-        let frame = Frame::of(alloc, packet.bytes)?;
-        // A frame has bytes.
-        prove!(!frame.bytes().is_empty());
         self.stamps.push(Stamp {
             seconds: packet.seconds,
             fraction: packet.fraction,
         })?;
-        self.frames.push(frame)?;
+        self.packets.push(timed)?;
         Ok(())
     }
 }
@@ -99,10 +99,11 @@ fn read_capture(alloc: Global, bytes: &[u8]) -> Result<Captured, CommandError>
         match capture.next() {
             Ok(Some(packet)) => {
                 // The bytes of a capture have room for fewer packets.
-                if captured.frames.len() >= u32::MAX as usize {
+                if captured.packets.len() >= u32::MAX as usize {
                     return Err(CommandError::NoMemory);
                 }
-                captured.push(alloc, packet)?;
+                let timed = capture.timed(alloc, &packet)?;
+                captured.push(packet, timed)?;
             }
             Ok(None) => return Ok(captured),
             Err(fault) => return Err(CommandError::Capture(fault)),

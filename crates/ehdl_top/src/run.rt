@@ -32,7 +32,7 @@ fn run_writes<'a>(
     requires captured { (packets : List Packet) × IsCaptureOf capture.now packets }
     ensures { IfOk result (λ writes. (program : XdpProgram) (size : PipelineSize) → IsRealized text.items program size → (packets : List Packet) → IsCaptureOf capture.now packets → IsRunOf (names_of files.now) text.items program ifindex capture.now.magic packets writes.items) }
 {
-    let answers = answers_of(alloc, &text, &capture.frames, ifindex)?;
+    let answers = answers_of(alloc, &text, &capture.packets, ifindex)?;
     let mut writes = Vec::new(alloc);
     push_file(&mut writes, files.verilog, text)?;
     push_results(alloc, &mut writes, files, capture, &answers, true)?;

@@ -45,7 +45,7 @@ fn simulate<'a>(
     let Driven { answers, end } = drive_design(
         alloc,
         design,
-        &capture.frames,
+        &capture.packets,
         ifindex,
         u64::from(clocks),
     )?;

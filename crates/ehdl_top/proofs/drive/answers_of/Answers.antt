@@ -1,4 +1,4 @@
-use Rattle.std.proofs.Common.{◌≡◌, ℕ, ◌≤◌, List, length, Option, Some, None, sym, ap, subst, ◌∙◌, arith}
+use Rattle.std.proofs.Common.{◌≡◌, ℕ, ◌≤◌, List, length, map, Option, Some, None, sym, ap, subst, ◌∙◌, arith}
 use Rattle.beat_core.specs.declared.answer.Answer.{Answer}
 use Rattle.net_core.specs.View.{netlist_of}
 use Rattle.net_core.specs.Clock.{first_stored}
@@ -6,7 +6,7 @@ use Rattle.net_core.specs.History.{Drive}
 use Rattle.port_drive.specs.Reports.{full_drive}
 use Rattle.xdp_maps.specs.State.{opened_state}
 use Rattle.ehdl_build.specs.Bounds.{clock_bound, most_beats}
-use Rattle.ehdl_build.specs.Realizes.{came_by}
+use Rattle.ehdl_top.specs.Results.{came_by}
 use Rattle.ehdl_build.specs.Compiled.{IsSequential}
 use Rattle.ehdl_top.specs.declared.error.CommandError.{CommandError}
 use Rattle.ehdl_top.specs.Outcome.{drive_error}
@@ -24,17 +24,17 @@ pub unreachable-requires-in-Some : goal.unreachable-requires-in-Some
 unreachable-requires-in-Some c =
     let r = c.requires.realized in
     let d = netlist_of c.in-Ok.design in
-    let frames = c.args.frames.now in
-    let drive : Drive = full_drive d c.args.ifindex (first_stored d) frames c.clock_limit.result in
-    let a : Answers r.0 d c.args.ifindex c.clock_limit.result frames = answers c.args.text.now r.0 r.1 r.2 d c.args.ifindex c.clock_limit.result frames
-    (c.in-Ok.ensures.design.only r.2.realizes.design r.2.realizes.spells) c.requires.frames c.ranges.ifindex.fits (enough (clock_bound (length frames) 0 (most_beats frames) 0) c.clock_limit.result c.clock_limit.ensures) in
-    none_is c.in_ok-driven.driven.end c.in-Some.field-0 c.in-Some.is (c.in_ok-driven.ensures.end ∙ ap (drive_error d (length frames) drive) a.ended)
+    let packets = c.args.packets.now in
+    let drive : Drive = full_drive d c.args.ifindex (first_stored d) packets c.clock_limit.result in
+    let a : Answers r.0 d c.args.ifindex c.clock_limit.result packets = answers c.args.text.now r.0 r.1 r.2 d c.args.ifindex c.clock_limit.result packets
+    (c.in-Ok.ensures.design.only r.2.realizes.design r.2.realizes.spells) c.requires.packets c.ranges.ifindex.fits (enough (clock_bound (length packets) 0 (most_beats (map (λ p. p.frame) packets)) 0) c.clock_limit.result c.clock_limit.ensures) in
+    none_is c.in_ok-driven.driven.end c.in-Some.field-0 c.in-Some.is (c.in_ok-driven.ensures.end ∙ ap (drive_error d (length packets) drive) a.ended)
 
 pub returns : goal.returns
 returns c = λ program size realized.
     let d = netlist_of c.in-Ok.design in
-    let frames = c.args.frames.now in
-    let a : Answers program d c.args.ifindex c.clock_limit.result frames = answers c.args.text.now program size realized d c.args.ifindex c.clock_limit.result frames
-    (c.in-Ok.ensures.design.only realized.realizes.design realized.realizes.spells) c.requires.frames c.ranges.ifindex.fits (enough (clock_bound (length frames) 0 (most_beats frames) 0) c.clock_limit.result c.clock_limit.ensures) in
-    let P : List Answer → Type 0 = λ given. IsSequential program (opened_state program.decls) (came_by c.args.ifindex frames) given a.last in
+    let packets = c.args.packets.now in
+    let a : Answers program d c.args.ifindex c.clock_limit.result packets = answers c.args.text.now program size realized d c.args.ifindex c.clock_limit.result packets
+    (c.in-Ok.ensures.design.only realized.realizes.design realized.realizes.spells) c.requires.packets c.ranges.ifindex.fits (enough (clock_bound (length packets) 0 (most_beats (map (λ p. p.frame) packets)) 0) c.clock_limit.result c.clock_limit.ensures) in
+    let P : List Answer → Type 0 = λ given. IsSequential program (opened_state program.decls) (came_by c.args.ifindex packets) given a.last in
     (a.last, subst P (sym c.in_ok-driven.ensures.answers) a.all)

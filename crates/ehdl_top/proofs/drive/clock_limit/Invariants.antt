@@ -1,9 +1,10 @@
-use Rattle.std.proofs.Common.{◌≡◌, ◌≤◌, drop, max}
+use Rattle.std.proofs.Common.{◌≡◌, ◌≤◌, drop, map, max}
+use Rattle.beat_core.specs.declared.frame.TheConstants.{BEAT_LIMIT}
 use Rattle.ehdl_build.specs.Bounds.{most_beats}
 use Rattle.ehdl_top.proofs.drive.clock_limit.Given as goal
 
-abbrev pub invariant-loop-frame : goal.invariant-loop-frame
-invariant-loop-frame l = record {
-  most : max l.most (most_beats (drop l.frame-index l.frames)) ≡ most_beats l.frames;
-  bound : l.most ≤ 192;
+abbrev pub invariant-loop-packet : goal.invariant-loop-packet
+invariant-loop-packet l = record {
+  most : max l.most (most_beats (map (λ p. p.frame) (drop l.packet-index l.packets))) ≡ most_beats (map (λ p. p.frame) l.packets);
+  bound : l.most ≤ BEAT_LIMIT;
 }

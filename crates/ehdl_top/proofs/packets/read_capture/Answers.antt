@@ -10,6 +10,7 @@ loop-packet-preserved c =
     let p = c.in_ok-push-in-Ok-Some.ensures i.0 i.1 in
     record {
       packets = (i.0 ++ seen c.in-Ok-Some.packet ∷ [], p.1, append_assoc i.0 (seen c.in-Ok-Some.packet ∷ []) c.next.new.self.packets ∙ ap (λ t. i.0 ++ t) (sym n.0) ∙ i.2);
+      same = p.0 ∙ c.loop-packet.invariant.same ∙ sym n.2;
       magic = p.0 ∙ c.loop-packet.invariant.magic;
       fault = n.1 ∙ c.loop-packet.invariant.fault;
     }

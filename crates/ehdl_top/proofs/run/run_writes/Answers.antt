@@ -1,10 +1,10 @@
 use Rattle.std.proofs.Common.{ℕ, List, ◌++◌, map, true, sym, ap, subst, ◌∙◌}
 use Rattle.xdp_maps.specs.State.{opened_state}
-use Rattle.ehdl_build.specs.Realizes.{came_by}
+use Rattle.beat_core.specs.declared.frame.Timed.{Timed}
 use Rattle.ehdl_build.specs.Compiled.{IsSequential}
 use Rattle.command_line.specs.Request.{names_of}
 use Rattle.ehdl_top.specs.Writes.{file_writes}
-use Rattle.ehdl_top.specs.Results.{result_writes}
+use Rattle.ehdl_top.specs.Results.{came_by, result_writes}
 use Rattle.ehdl_top.specs.Steps.{IsRealized, write_of}
 use Rattle.ehdl_top.proofs.OutcomeLemmas.{counted}
 use Rattle.ehdl_top.proofs.run.run_writes.Goals as goal
@@ -20,12 +20,12 @@ pub returns : goal.returns
 returns c = λ program size realized packets of.
     let P : List ℕ → Type 0 = λ text. IsRealized text program size in
     let run = c.in_ok-answers.ensures program size (subst P (sym c.deref.ensures.value) realized) in
-    let Q : List (List ℕ) → Type 0 = λ frames. IsSequential program (opened_state program.decls) (came_by c.args.ifindex frames) c.in_ok-answers.answers run.0 in
+    let Q : List Timed → Type 0 = λ timed. IsSequential program (opened_state program.decls) (came_by c.args.ifindex timed) c.in_ok-answers.answers run.0 in
     let names = names_of c.args.files.now in
     record {
       answers = c.in_ok-answers.answers;
       final = run.0;
-      runs = subst Q (c.deref-2.ensures.value ∙ of.frames) run.1;
+      runs = subst Q (c.deref-2.ensures.value ∙ of.timed) run.1;
       writes_are =
           c.in_ok-push_results.ensures packets of
           ∙ ap (λ ws. ws ++ result_writes names c.args.capture.now.magic packets c.in_ok-answers.answers true)
