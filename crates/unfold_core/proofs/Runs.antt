@@ -41,7 +41,7 @@ use Rattle.unfold_core.specs.EdgeLaws.{LeadsUp}
 use Rattle.unfold_core.specs.Graphs.{first_point, ends, leading, IsGraph}
 use Rattle.unfold_core.specs.Pending.{number_of}
 use Rattle.unfold_core.specs.Unfolding.{jumps_first, numbered, links, IsUnfolded}
-use Rattle.unfold_core.specs.RunLaws.{StandsAt, edge, Follows, ends as comes_to_end, goes as goes_on, AsksNoTime, RunsAreSound}
+use Rattle.unfold_core.specs.RunLaws.{StandsAt, edge, Follows, ends as comes_to_end, goes as goes_on, RunsAreSound}
 use Rattle.unfold_core.proofs.Laid.{legal_at}
 use Rattle.unfold_core.proofs.NodeLaws.{nodes_are_ordered, start_is_node}
 use Rattle.unfold_core.proofs.EdgesUp.{leaving_goes_up}
@@ -262,8 +262,8 @@ by_op p ls g es w m i op h e l = inr (plain_moves p ls g es w m i op h e (λ o. 
 
 -- ---- a step from a node
 
-steps_on : (p : XdpProgram) (ls : List Loop) (g : List Point) (w : World) (m : Machine) → Laws → IsProgram p → AreLoops p.insns ls → IsGraph p ls g → AsksNoTime p.insns → Fits p m → StandsAt g w m → Steps p ls g w m
-steps_on p ls g w m laws program loops graph asks fits stands =
+steps_on : (p : XdpProgram) (ls : List Loop) (g : List Point) (w : World) (m : Machine) → Laws → IsProgram p → AreLoops p.insns ls → IsGraph p ls g → Fits p m → StandsAt g w m → Steps p ls g w m
+steps_on p ls g w m laws program loops graph fits stands =
     let at = node_at ls g w in
     let d = first_point ls in
     let pass = pass_at p ls 0 g w.node d graph.pass stands.inside in
@@ -276,7 +276,7 @@ steps_on p ls g w m laws program loops graph asks fits stands =
     let passes : verdict (effect_of m.maps.decls at.kinds i) ≡ passed = ap (λ ds. verdict (effect_of ds at.kinds i)) fits.decls ∙ parts.2 in
     by_op p ls g pass.0 w m i i.op
     (record { laws = laws; program = program; loops = loops; graph = graph; fits = fits; stands = stands; begins = parts.1; passes = parts.2; leaves = leaves; edges = parts.3 }) refl
-    (laws.steps (program_code p) w at.kinds m i (stands.stands d) legal here (asks m.place i here) passes)
+    (laws.steps (program_code p) w at.kinds m i (stands.stands d) legal here passes)
 
 -- ---- whole runs
 
@@ -316,12 +316,12 @@ ending_now p u w m most verdict stands e = record {
 }
 
 -- a run ends before the nodes do
-ending : (p : XdpProgram) (u : Unfolded) (most : ℕ) (w : World) (m : Machine) → Laws → IsProgram p → IsUnfolded p u → AsksNoTime p.insns → length u.nodes.items ≤ w.node + most → Fits p m → StandsAt u.nodes.items w m
+ending : (p : XdpProgram) (u : Unfolded) (most : ℕ) (w : World) (m : Machine) → Laws → IsProgram p → IsUnfolded p u → length u.nodes.items ≤ w.node + most → Fits p m → StandsAt u.nodes.items w m
     → Ending p u w m most
-ending p u zero w m laws program h asks most fits stands = absurd (omega (arith, stands.inside))
-ending p u (suc n) w m laws program h asks most fits stands =
-    by_step (steps_on p u.loops.items u.nodes.items w m laws program h.loops.loops h.graph asks fits stands)
-    (λ moves. ending p u n moves.world moves.next laws program h asks (omega (arith, moves.above)) moves.fits moves.stands)
+ending p u zero w m laws program h most fits stands = absurd (omega (arith, stands.inside))
+ending p u (suc n) w m laws program h most fits stands =
+    by_step (steps_on p u.loops.items u.nodes.items w m laws program h.loops.loops h.graph fits stands)
+    (λ moves. ending p u n moves.world moves.next laws program h (omega (arith, moves.above)) moves.fits moves.stands)
   where
     by_step : Steps p u.loops.items u.nodes.items w m → ((moves : Moves p u.loops.items u.nodes.items w m) → Ending p u moves.world moves.next n) → Ending p u w m (suc n)
     by_step (inl (verdict, e)) on = ending_now p u w m n verdict stands e
@@ -332,7 +332,7 @@ nothing_yet : ℕ → Value
 nothing_yet n = is.Unset
 
 pub runs_are_sound : Laws → RunsAreSound
-runs_are_sound laws p u packet maps program h declared asks =
+runs_are_sound laws p u packet maps program h declared =
     let ls = u.loops.items in
     let g = u.nodes.items in
     let m : Machine = machine.start packet maps in
@@ -343,5 +343,5 @@ runs_are_sound laws p u packet maps program h declared asks =
     let later : IsLater begun w = record { frame = refl; node = omega arith; gave = λ n lt. refl } in
     let described : DescribesMachine w begin.kinds m = laws.later begun w begin.kinds m later (laws.start nothing_yet m refl refl) in
     let stands : StandsAt g w m = arrives_at p ls g begin w m laws program h.loops.loops h.graph (inl refl) (start_is_node ls) described refl refl fits in
-    let onward : Ending p u w m (length g) = ending p u (length g) w m laws program h asks (omega arith) fits stands in
+    let onward : Ending p u w m (length g) = ending p u (length g) w m laws program h (omega arith) fits stands in
     record { world = w; first = start_is_first ls g; left = onward.left; path = onward.path; steps = onward.steps; few = onward.few; ended = onward.ended }

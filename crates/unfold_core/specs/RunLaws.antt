@@ -1,9 +1,6 @@
 -- What holds of the runs of a program that unfolds: they are paths in its graph, and end.
-use Rattle.std.specs.Prelude.{ℕ, pos, ◌≡◌, ◌≢◌, ◌<◌, ◌≤◌, Bool, List, length, slice_index_or, Some}
+use Rattle.std.specs.Prelude.{ℕ, ◌≡◌, ◌<◌, ◌≤◌, Bool, List, length, slice_index_or}
 use Rattle.std.specs.List.{Contains}
-use Rattle.bpf_isa.specs.declared.operation.Op.TheVariants.{Call}
-use Rattle.bpf_isa.specs.declared.instruction.Insn.{Insn}
-use Rattle.bpf_isa.specs.Text.{insn_at}
 use Rattle.xdp_maps.specs.State.{MapState}
 use Rattle.xdp_machine.specs.State.{Code, Machine, PacketIn, start}
 use Rattle.xdp_machine.specs.Step.{step, Goes, Ends}
@@ -41,10 +38,6 @@ pub record IsSoundRun (p : XdpProgram) (u : Unfolded) (packet : PacketIn) (maps 
   pub few : steps ≤ length u.nodes.items
   pub ended : run (program_code p) steps (start packet maps) ≡ Ended left
 
--- the machine has no step yet for the helper that asks for the time
-abbrev pub AsksNoTime : List Insn → Type 0
-AsksNoTime insns = (place : ℕ) (i : Insn) → insn_at insns place ≡ Some i → i.op ≡ Call → i.imm ≢ pos 5
-
 -- Every packet, over all maps of the declarations of a program that unfolds, has such a run.
 abbrev pub RunsAreSound : Type 0
-RunsAreSound = (p : XdpProgram) (u : Unfolded) (packet : PacketIn) (maps : MapState) → IsProgram p → IsUnfolded p u → maps.decls ≡ p.decls → AsksNoTime p.insns → IsSoundRun p u packet maps
+RunsAreSound = (p : XdpProgram) (u : Unfolded) (packet : PacketIn) (maps : MapState) → IsProgram p → IsUnfolded p u → maps.decls ≡ p.decls → IsSoundRun p u packet maps
