@@ -1,6 +1,6 @@
 -- The entry of a line, by its fields as they are written.
-use Rattle.std.proofs.Common.{◌≡◌, ℕ, ◌*◌, ◌%◌, Bool, true, false, List, [], ◌∷◌, length, Option, Some, None, Result, Ok, Err, is_some, is_ok, IsTrue, refl, sym, ap, ◌∙◌, arith}
-use Rattle.std.specs.Prelude.{◌==◌, ◌↔◌, not, ◌&&◌, ◌||◌, if◌then◌else◌}
+use Rattle.std.proofs.Common.{◌≡◌, ℕ, ◌%◌, Bool, true, false, List, [], ◌∷◌, length, Option, Some, None, Result, Ok, Err, is_some, is_ok, IsTrue, refl, sym, ap, ◌∙◌}
+use Rattle.std.specs.Prelude.{◌↔◌, not, ◌&&◌, ◌||◌, if◌then◌else◌}
 use Rattle.std.specs.List.{AllPass}
 use Rattle.hex.specs.declared.error.FromHexError.{FromHexError}
 use Rattle.hex.specs.Hex.{decode_of, is_hex_digit}

@@ -1,6 +1,6 @@
 -- What the written pairs of a map make of its opened contents is what it holds.
 use Rattle.std.proofs.Common.{◌≡◌, ◌≢◌, ℕ, zero, suc, ◌+◌, ◌<◌, ◌≤◌, Bool, true, false, cond, List, [], ◌∷◌, length, replicate, Option, Some, None, slice_get, IsTrue, IfSome, is_some, refl, sym, ap, subst, ◌∙◌, inl, inr, arith}
-use Rattle.std.specs.Prelude.{◌==◌, ◌&&◌, if◌then◌else◌}
+use Rattle.std.specs.Prelude.{◌==◌, if◌then◌else◌}
 use Rattle.std.proofs.lemmas.Bool.{cases_eq, eqb-true, and_parts}
 use Rattle.std.specs.List.{list_all}
 use Rattle.std.specs.Option.{option_map, unwrap_or}
@@ -12,9 +12,9 @@ use Rattle.std.specs.FinMap.{find, get-insert, get-empty, get-from_entries, len-
 use Rattle.xdp_maps.specs.declared.decl.MapKind.{MapKind}
 use Rattle.xdp_maps.specs.declared.decl.MapKind.TheVariants.{Hash, Array}
 use Rattle.xdp_maps.specs.declared.decl.MapDecl.{MapDecl}
-use Rattle.xdp_maps.specs.Contents.{Contents, IsBytes, IsOver, IsFilled_as, IsWithinLimits, TakesKey, TakesKey_as, limits_as, index_key, index_of, indexed, array_of, opened, opened_as}
+use Rattle.xdp_maps.specs.Contents.{Contents, IsBytes, IsOver, IsFilled_as, IsWithinLimits, TakesKey_as, limits_as, index_key, index_of, indexed, opened, opened_as}
 use Rattle.xdp_maps.specs.Calls.{entry_as, entry_of}
-use Rattle.xdp_maps.specs.Laws.{PairLaws, IndexLaws, KeepsOver, SameByLookups}
+use Rattle.xdp_maps.specs.Laws.{PairLaws, IndexLaws, SameByLookups}
 use Rattle.maps_text.specs.Writing.{are_zeros, is_left_out}
 use Rattle.maps_text.specs.Reading.{same}
 use Rattle.maps_text.proofs.Marking.{same_itself, differ_false, same_cases}

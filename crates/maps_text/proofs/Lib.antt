@@ -10,3 +10,4 @@ pub mod Spelled
 pub mod Filled
 pub mod ReadBack
 pub mod Texts
+pub mod Faults

@@ -1,12 +1,10 @@
 -- The text of maps is read line by line as what they hold.
-use Rattle.std.proofs.Common.{◌≡◌, ◌≢◌, ℕ, zero, suc, ◌+◌, ◌*◌, ◌<◌, ◌≤◌, ◌^◌, Bool, true, false, cond, List, [], ◌∷◌, ◌++◌, length, get_or, set, All, Option, Some, None, Result, Ok, Err, slice_get, T, IsTrue, IfSome, is_some, refl, sym, ap, subst, ◌∙◌, ◌⊎◌, inl, inr, arith, append_assoc, get_or-set_same, get_or-set_other, length-set}
-use Rattle.std.specs.Prelude.{◌==◌, ◌&&◌, ◌||◌, nat_le, nat_lt, if◌then◌else◌, map as map_list}
+use Rattle.std.proofs.Common.{◌≡◌, ℕ, zero, suc, ◌+◌, ◌<◌, ◌≤◌, ◌^◌, Bool, true, false, cond, List, [], ◌∷◌, ◌++◌, length, get_or, Option, Some, None, Result, Ok, slice_get, T, IfSome, is_some, refl, sym, ap, subst, ◌∙◌, inl, inr, arith, append_assoc, get_or-set_same, get_or-set_other, length-set}
+use Rattle.std.specs.Prelude.{◌==◌, ◌&&◌, if◌then◌else◌}
 use Rattle.std.proofs.lemmas.Bool.{cases_eq, cases_lt, eq-eqb, lt-ltb, lt-leb}
-use Rattle.std.proofs.lemmas.List.{set-set, set-get_or, ext_get_or, get_or-map, length-map, get_or_default, get_or_past, append-nil}
+use Rattle.std.proofs.lemmas.List.{set-set, set-get_or, ext_get_or, get_or-map, length-map, get_or_default, get_or_past}
 use Rattle.std.proofs.lemmas.List.Elements.{All-get_or}
 use Rattle.std.specs.Option.{option_map}
-use Rattle.std.specs.declared.cmp.Ordering.{Ordering}
-use Rattle.std.specs.declared.cmp.Ordering.TheVariants.{Less, Equal, Greater}
 use Rattle.std.specs.Ordering.{nat_cmp, is_lt}
 use Rattle.std.specs.Cmp.Lexicographic.{slice_cmp}
 use Rattle.std.proofs.lemmas.Cmp.{tied_itself, nat_list_cmp_total}
@@ -17,15 +15,15 @@ use Rattle.hex.specs.Hex as hex
 use Rattle.xdp_maps.specs.declared.decl.MapKind.{MapKind}
 use Rattle.xdp_maps.specs.declared.decl.MapKind.TheVariants.{Hash, Array}
 use Rattle.xdp_maps.specs.declared.decl.MapDecl.{MapDecl}
-use Rattle.xdp_maps.specs.Contents.{Contents, IsBytes, IsOver, IsWithinLimits, TakesKey_as, limits_as, index_key, index_of, opened, opened_as}
+use Rattle.xdp_maps.specs.Contents.{Contents, IsBytes, TakesKey_as, limits_as, index_key, index_of, opened, opened_as}
 use Rattle.xdp_maps.specs.Calls.{entry_as, entry_of}
-use Rattle.xdp_maps.specs.State.{MapState, IsSound, no_decl, opened_state, decl_at, contents_at, with_contents}
+use Rattle.xdp_maps.specs.State.{MapState, IsSound, no_decl, decl_at, contents_at, with_contents}
 use Rattle.xdp_maps.specs.Laws.{PairLaws, IndexLaws, KeepsOver, SameByLookups}
 use Rattle.maps_text.specs.declared.error.MapsError.{MapsError}
 use Rattle.maps_text.specs.Lines.{Entry, lines_of, entry_in}
-use Rattle.maps_text.specs.Reading.{same, map_named, has_key_as, fits, Listed, is_listed, is_full_as, with_pair, listed_with, placed, put_in, put_named, put_line, line_read, and_then, read_from, unlisted, outcome}
-use Rattle.maps_text.specs.Writing.{line_text, is_left_out, pair_text, pairs_text, map_text, all_text, text_of}
-use Rattle.maps_text.specs.Laws.{IsField, AreNamed, WrittenIsRead}
+use Rattle.maps_text.specs.Reading.{same, map_named, has_key_as, fits, Listed, is_listed, is_full_as, listed_with, put_in, put_named, put_line, line_read, and_then, read_from, unlisted, outcome}
+use Rattle.maps_text.specs.Writing.{line_text, is_left_out, pair_text, pairs_text, all_text, text_of}
+use Rattle.maps_text.specs.Laws.{IsField, AreNamed}
 use Rattle.maps_text.proofs.Marking.{differ_false, listed_here, listed_other}
 use Rattle.maps_text.proofs.Names.{map_named-found}
 use Rattle.maps_text.proofs.Spelled.{body, lines_of-written, entry_in-written}
@@ -168,10 +166,9 @@ module _ (s : MapState) (sound : IsSound s) (named : AreNamed s.decls) (index : 
       let can : has_key_as d.kind d.cap key ≡ true = has_key-true d.kind d key takes.1 in
       let e : Entry = record { name = d.name; key = key; value = value } in
       let fit : fits d e ≡ true = rw (k_len, v_len) can in
-      let roomy : is_full_as d.kind d.cap (contents_at before.maps m) ≡ false = full_not d.kind d.cap (contents_at before.maps m) (λ hash. omega (arith, ready.room hash, hash_inside d c i key value hash over is, hash_room d c hash over)) in
-      (
+      let roomy : is_full_as d.kind d.cap (contents_at before.maps m) ≡ false = full_not d.kind d.cap (contents_at before.maps m) (λ hash. omega (arith, ready.room hash, hash_inside d c i key value hash over is, hash_room d c hash over)) in (
         read_written n before m d.name key value rest field (bytes_at d.key key takes.0) (bytes_at d.value value bytes) (omega (arith, takes.0.len, limits.key_some)) (omega (arith, bytes.len, limits.value_some))
-        (ap (map_named d.name) ready.decls ∙ own) (ap (λ (x : MapDecl). fits x e) d_is ∙ fit) (ready.fresh i key value (omega arith) within is) (ap (λ (x : MapDecl). is_full_as x.kind x.cap (contents_at before.maps m)) d_is ∙ roomy),
+            (ap (map_named d.name) ready.decls ∙ own) (ap (λ (x : MapDecl). fits x e) d_is ∙ fit) (ready.fresh i key value (omega arith) within is) (ap (λ (x : MapDecl). is_full_as x.kind x.cap (contents_at before.maps m)) d_is ∙ roomy),
         record {
           decls = ready.decls;
           len = length-set before.maps.contents m _ ∙ ready.len;
@@ -221,9 +218,9 @@ module _ (s : MapState) (sound : IsSound s) (named : AreNamed s.decls) (index : 
           after = r.after;
           is_after = record {
             maps = r.is_after.maps
-            ∙ ap (λ (t : MapState). with_contents t m (filled d c (suc i) left (contents_at t m))) maps
-            ∙ ap (λ (x : Contents). with_contents (with_contents before.maps m y) m (filled d c (suc i) left x)) (at_new before y ready.len)
-            ∙ ap (λ (cs : List Contents). record before.maps { contents = cs }) (set-set before.maps.contents m y (filled d c (suc i) left y));
+                ∙ ap (λ (t : MapState). with_contents t m (filled d c (suc i) left (contents_at t m))) maps
+                ∙ ap (λ (x : Contents). with_contents (with_contents before.maps m y) m (filled d c (suc i) left x)) (at_new before y ready.len)
+                ∙ ap (λ (cs : List Contents). record before.maps { contents = cs }) (set-set before.maps.contents m y (filled d c (suc i) left y));
             others = λ j q differ. r.is_after.others j q differ ∙ others j q differ;
           };
           reads = ap (λ (text : List ℕ). read_from n before (lines_of text)) (append_assoc (pair_text d (entry_of d c i)) (pairs_text d c (suc i) left) rest) ∙ step ∙ r.reads;

@@ -1,21 +1,19 @@
 -- Lines are read one after another.
-use Rattle.std.proofs.Common.{◌≡◌, ℕ, ◌+◌, ◌*◌, ◌<◌, ◌≤◌, ◌^◌, Bool, true, false, List, [], ◌∷◌, length, replicate, get_or, Some, None, Result, Ok, Err, is_some, refl, sym, ap, subst, ◌∙◌, inl, inr, arith}
-use Rattle.std.specs.Prelude.{map as map_list}
+use Rattle.std.proofs.Common.{◌≡◌, ℕ, ◌+◌, ◌*◌, ◌<◌, ◌≤◌, Bool, false, List, [], ◌∷◌, length, replicate, get_or, Result, Ok, Err, is_some, sym, ap, ◌∙◌, inl, inr, arith}
 use Rattle.std.proofs.lemmas.Bool.{cases_lt}
 use Rattle.std.proofs.lemmas.List.{get_or-replicate, get_or-map, get_or_past, length-replicate}
 use Rattle.std.specs.Ordering.{nat_cmp}
 use Rattle.std.specs.Cmp.Lexicographic.{slice_cmp}
 use Rattle.std.specs.FinMap as map
 use Rattle.std.specs.FinMap.{get-empty}
-use Rattle.xdp_maps.specs.declared.decl.MapKind.{MapKind}
-use Rattle.xdp_maps.specs.declared.decl.MapKind.TheVariants.{Hash, Array}
+use Rattle.xdp_maps.specs.declared.decl.MapKind.TheVariants.{Hash}
 use Rattle.xdp_maps.specs.declared.decl.MapDecl.{MapDecl}
 use Rattle.xdp_maps.specs.Contents.{Contents, opened, opened_as}
 use Rattle.xdp_maps.specs.State.{MapState, no_decl, opened_state, decl_at, contents_at}
 use Rattle.maps_text.specs.declared.error.MapsError.{MapsError}
 use Rattle.maps_text.specs.Lines.{lines_of}
-use Rattle.maps_text.specs.Reading.{Listed, and_then, line_read, read_from, unlisted, outcome}
-use Rattle.maps_text.specs.Steps.{Marks, Takes, Gives}
+use Rattle.maps_text.specs.Reading.{Gives, Listed, and_then, line_read, read_from, unlisted, outcome}
+use Rattle.maps_text.specs.Steps.{Marks, Takes}
 use Rattle.maps_text.proofs.Steps.{gives_err}
 
 -- What was listed up to the rest of a text, in the maps and the marks, and that reading goes on there.

@@ -1,6 +1,6 @@
 -- A written line is read as its entry.
-use Rattle.std.proofs.Common.{◌≡◌, ◌≢◌, ℕ, zero, suc, ◌+◌, ◌*◌, ◌<◌, Bool, true, false, List, [], ◌∷◌, ◌++◌, length, get_or, All, Some, None, Result, Ok, Err, refl, sym, ap, subst, ◌∙◌, arith, append_assoc}
-use Rattle.std.specs.Prelude.{◌==◌, ◌||◌, if◌then◌else◌}
+use Rattle.std.proofs.Common.{◌≡◌, ◌≢◌, ℕ, ◌<◌, true, false, List, [], ◌∷◌, ◌++◌, length, All, Some, Ok, refl, sym, ap, ◌∙◌, arith, append_assoc}
+use Rattle.std.specs.Prelude.{◌==◌}
 use Rattle.std.proofs.lemmas.Bool.{ne_eqb}
 use Rattle.std.proofs.lemmas.List.Elements.{All-head, All-tail}
 use Rattle.std.specs.List.{AllPass}
@@ -8,7 +8,7 @@ use Rattle.hex.specs.Hex.{decode_of, encode_lower, is_hex_digit}
 use Rattle.hex.specs.Hex as hex
 use Rattle.hex.proofs.HexLemmas.{decode_of-ok, decode_of-encode_lower, length-encode_with}
 use Rattle.hex.specs.Hex.{lower_digits}
-use Rattle.maps_text.specs.Lines.{in_front, lines_of, fields_of, is_empty, decoded, Entry, entry_as, entry_in}
+use Rattle.maps_text.specs.Lines.{in_front, lines_of, fields_of, is_empty, decoded, entry_as, entry_in}
 use Rattle.maps_text.specs.Laws.{IsField}
 use Rattle.maps_text.specs.Writing.{line_text}
 

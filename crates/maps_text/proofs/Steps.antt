@@ -1,20 +1,20 @@
 -- A line is taken as reading says.
-use Rattle.std.proofs.Common.{◌≡◌, ℕ, ◌<◌, ◌≤◌, Bool, true, false, List, ◌∷◌, length, get_or, set, Fits, w8, Option, Some, None, Result, Ok, Err, OnOk, refl, sym, ap, subst, ◌∙◌, arith}
+use Rattle.std.proofs.Common.{◌≡◌, ℕ, ◌<◌, ◌≤◌, Bool, true, false, List, length, get_or, set, Fits, w8, Option, Some, None, Result, Ok, Err, OnOk, refl, sym, ap, subst, ◌∙◌, arith}
 use Rattle.std.specs.Prelude.{if◌then◌else◌, nat_le}
 use Rattle.std.specs.FinMap as map
 use Rattle.std.proofs.lemmas.Bool.{ltb-true}
 use Rattle.std.proofs.lemmas.List.Elements.{All-from_get_or}
 use Rattle.xdp_maps.specs.declared.decl.MapKind.TheVariants.{Hash, Array}
 use Rattle.xdp_maps.specs.declared.decl.MapDecl.{MapDecl}
-use Rattle.xdp_maps.specs.Contents.{Contents, IsBytes, IsWithinLimits, limits_as, index_of}
+use Rattle.xdp_maps.specs.Contents.{IsBytes, IsWithinLimits, limits_as, index_of}
 use Rattle.xdp_maps.specs.State.{MapState, IsSound, decl_at, contents_at}
 use Rattle.xdp_maps.specs.Laws.{IndexLaws}
 use Rattle.maps_text.specs.declared.error.MapsError.{MapsError}
 use Rattle.maps_text.specs.declared.error.MapsError.TheVariants.{Line, Unknown, Length, Twice, Full, NoMemory}
 use Rattle.maps_text.specs.declared.fields.Fields.{Fields}
 use Rattle.maps_text.specs.Lines.{entry_in}
-use Rattle.maps_text.specs.Reading.{Listed, is_listed, is_full_as, has_key_as, fits, map_named, with_pair, listed_with, placed, put_in, put_named, put_line, line_read}
-use Rattle.maps_text.specs.Steps.{FindsEntry, Marks, Takes, Gives, place_of, told, hash_result, array_result}
+use Rattle.maps_text.specs.Reading.{Gives, Listed, is_listed, is_full_as, has_key_as, fits, map_named, with_pair, listed_with, placed, put_in, put_named, put_line, line_read}
+use Rattle.maps_text.specs.Steps.{FindsEntry, Marks, Takes, place_of, told, hash_result, array_result}
 use Rattle.maps_text.proofs.Marking.{marks_with_hash, marks_with_array}
 
 -- what becomes of a key by the two tests

@@ -1,6 +1,6 @@
 -- A text is read as the maps of which it is a text, and no other is read.
-use Rattle.std.proofs.Common.{◌≡◌, ◌≢◌, ℕ, zero, suc, ◌+◌, ◌<◌, ◌≤◌, Bool, true, false, cond, List, [], ◌∷◌, length, get_or, set, Option, Some, None, Result, Ok, Err, IfOk, is_some, refl, sym, ap, subst, ◌∙◌, ◌⊎◌, inl, inr, arith, get_or-set_same, get_or-set_other, length-set}
-use Rattle.std.specs.Prelude.{◌==◌, ◌&&◌, ◌||◌, nat_le, if◌then◌else◌}
+use Rattle.std.proofs.Common.{◌≡◌, ℕ, suc, ◌+◌, ◌<◌, ◌≤◌, Bool, true, false, cond, List, [], ◌∷◌, length, get_or, Option, Some, None, Result, Ok, Err, IfOk, is_some, refl, sym, ap, subst, ◌∙◌, ◌⊎◌, inl, inr, arith, get_or-set_same, get_or-set_other, length-set}
+use Rattle.std.specs.Prelude.{◌==◌, ◌||◌, nat_le, if◌then◌else◌}
 use Rattle.std.proofs.lemmas.Bool.{cases_eq, eq-eqb, ne_eqb, leb-false, lt-leb}
 use Rattle.std.proofs.lemmas.List.{ext_get_or, get_or-map, length-map}
 use Rattle.std.proofs.lemmas.Cmp.{nat_list_cmp_total}
@@ -13,15 +13,14 @@ use Rattle.xdp_maps.specs.declared.decl.MapKind.{MapKind}
 use Rattle.xdp_maps.specs.declared.decl.MapKind.TheVariants.{Hash, Array}
 use Rattle.xdp_maps.specs.declared.decl.MapDecl.{MapDecl}
 use Rattle.xdp_maps.specs.Contents.{Contents, opened, opened_as}
-use Rattle.xdp_maps.specs.State.{MapState, no_decl, opened_state, decl_at, contents_at, with_contents}
+use Rattle.xdp_maps.specs.State.{MapState, no_decl, opened_state, decl_at, contents_at}
 use Rattle.xdp_maps.specs.Laws.{SameByLookups}
 use Rattle.maps_text.specs.declared.error.MapsError.{MapsError}
-use Rattle.maps_text.specs.declared.error.MapsError.TheVariants.{Line, Unknown, Length, Twice, Full, NoMemory}
+use Rattle.maps_text.specs.declared.error.MapsError.TheVariants.{Length, Twice, Full}
 use Rattle.maps_text.specs.Lines.{Entry, lines_of, entry_in}
-use Rattle.maps_text.specs.Reading.{same, map_named, fits, Listed, is_listed, is_full_as, with_pair, listed_with, placed, put_in, put_named, put_line, line_read, and_then, read_from, unlisted, outcome}
-use Rattle.maps_text.specs.Steps.{Gives}
-use Rattle.maps_text.specs.Text.{Item, Lists, ListAll, IsListed, AreOwn, count_of, IsMapsText}
-use Rattle.maps_text.proofs.Marking.{same_itself, same_equal, differ_false, same_cases, listed_here, listed_other, contains-insert}
+use Rattle.maps_text.specs.Reading.{Gives, same, map_named, fits, Listed, is_listed, is_full_as, listed_with, put_in, put_named, put_line, line_read, and_then, read_from, unlisted, outcome}
+use Rattle.maps_text.specs.Text.{Item, Lists, ListAll, IsListed, AreOwn, count_of, AreGood, IsMapsText}
+use Rattle.maps_text.proofs.Marking.{same_itself, differ_false, same_cases, listed_here, listed_other, contains-insert}
 use Rattle.maps_text.proofs.Filled.{get_same, get_other}
 
 abbrev pub with_item : Listed → Item → Listed
@@ -40,14 +39,14 @@ Steps before (item ∷ items) =
 -- ---- lines and items
 
 -- what a line gives that is read
-record IsItem (before : Listed) (line : List ℕ) (after : Listed) : Type 0 where
-  item : Item
-  lists : Lists before.maps.decls line item
-  new : is_listed before.keys item.map item.key ≡ false
-  room : is_full_as (decl_at before.maps item.map).kind (decl_at before.maps item.map).cap (contents_at before.maps item.map) ≡ false
-  is : with_item before item ≡ after
+pub record IsItem (before : Listed) (line : List ℕ) (after : Listed) : Type 0 where
+  pub item : Item
+  pub lists : Lists before.maps.decls line item
+  pub new : is_listed before.keys item.map item.key ≡ false
+  pub room : is_full_as (decl_at before.maps item.map).kind (decl_at before.maps item.map).cap (contents_at before.maps item.map) ≡ false
+  pub is : with_item before item ≡ after
 
-value_or : {A : Type 0} → A → Result A MapsError → A
+pub value_or : {A : Type 0} → A → Result A MapsError → A
 value_or d (Ok x) = x
 value_or d (Err e) = d
 
@@ -77,11 +76,11 @@ item_in : (n : ℕ) (before : Listed) (line : List ℕ) (after : Listed) (o : Op
 item_in n before line after None is h = cc
 item_in n before line after (Some e) is h = item_named n before line after e (map_named e.name before.maps.decls) is refl h
 
-item_of : (n : ℕ) (before : Listed) (line : List ℕ) (after : Listed) → line_read n before line ≡ Ok after → IsItem before line after
+pub item_of : (n : ℕ) (before : Listed) (line : List ℕ) (after : Listed) → line_read n before line ≡ Ok after → IsItem before line after
 unfolding line_read
 item_of n before line after h = item_in n before line after (entry_in line) refl h
 
-line_of : (n : ℕ) (before : Listed) (line : List ℕ) (item : Item) → Lists before.maps.decls line item → is_listed before.keys item.map item.key ≡ false → is_full_as (decl_at before.maps item.map).kind (decl_at before.maps item.map).cap (contents_at before.maps item.map) ≡ false → line_read n before line ≡ Ok (with_item before item)
+pub line_of : (n : ℕ) (before : Listed) (line : List ℕ) (item : Item) → Lists before.maps.decls line item → is_listed before.keys item.map item.key ≡ false → is_full_as (decl_at before.maps item.map).kind (decl_at before.maps item.map).cap (contents_at before.maps item.map) ≡ false → line_read n before line ≡ Ok (with_item before item)
 unfolding line_read
 line_of n before line item lists new room =
     let e : Entry = record { name = lists.name; key = item.key; value = item.value } in
@@ -131,13 +130,13 @@ within_by name ds rest true o is m h = let e : 0 ≡ m = ap (index_or m) h in om
 within_by name ds rest false None is m h = cc
 within_by name ds rest false (Some k) is m h = let e : suc k ≡ m = ap (index_or m) h in omega (arith, e, rest k is)
 
-named_within : (name : List ℕ) (ds : List MapDecl) (m : ℕ) → map_named name ds ≡ Some m → m < length ds
+pub named_within : (name : List ℕ) (ds : List MapDecl) (m : ℕ) → map_named name ds ≡ Some m → m < length ds
 unfolding map_named
 named_within name [] m h = cc
 named_within name (d ∷ ds) m h = within_by name ds (λ k is. named_within name ds k is) (same name d.name) (map_named name ds) refl m h
 
 -- each item is of a map
-abbrev Within : ℕ → List Item → Type 0
+abbrev pub Within : ℕ → List Item → Type 0
 Within n [] = Unit {0}
 Within n (item ∷ items) = (item.map < n) × Within n items
 
@@ -147,7 +146,7 @@ within_all decls (line ∷ lines) (item ∷ items) lists = (named_within lists.0
 within_all decls [] (item ∷ items) lists = absurd lists
 within_all decls (line ∷ lines) [] lists = absurd lists
 
-decls_kept : (items : List Item) (before : Listed) → (with_items before items).maps.decls ≡ before.maps.decls
+pub decls_kept : (items : List Item) (before : Listed) → (with_items before items).maps.decls ≡ before.maps.decls
 decls_kept [] before = refl
 decls_kept (item ∷ items) before = decls_kept items (with_item before item)
 
@@ -203,7 +202,7 @@ or_right : (a b : Bool) → (a || b) ≡ false → b ≡ false
 or_right true b h = cc
 or_right false b h = h
 
-here_listed : (before : Listed) (item : Item) → is_listed (with_item before item).keys item.map item.key ≡ true
+pub here_listed : (before : Listed) (item : Item) → is_listed (with_item before item).keys item.map item.key ≡ true
 here_listed before item = let t : same item.key item.key ≡ true = same_itself item.key in listed_here before.keys item.map item.key item.key ∙ rw t refl
 
 steps_own : (items : List Item) (before : Listed) → Steps before items → AreOwn items × ((m : ℕ) (key value : List ℕ) → IsListed items m key value → is_listed before.keys m key ≡ false)
@@ -230,10 +229,10 @@ new_after items before item own new m key value there = elim (cases_eq m item.ma
 -- ---- room in a hash
 
 -- a hash holds just what is listed of it
-abbrev HashHolds : Listed → Type 0
+abbrev pub HashHolds : Listed → Type 0
 HashHolds before = (m : ℕ) (key : List ℕ) → (decl_at before.maps m).kind ≡ Hash → m < length before.maps.contents → map.contains_key (contents_at before.maps m) key ≡ is_listed before.keys m key
 
-hash_holds_on : (before : Listed) (item : Item) → item.map < length before.maps.contents → HashHolds before → HashHolds (with_item before item)
+pub hash_holds_on : (before : Listed) (item : Item) → item.map < length before.maps.contents → HashHolds before → HashHolds (with_item before item)
 hash_holds_on before item lt holds m key hash within = elim (cases_eq m item.map) [
   | inl is ↦
       let P : ℕ → Type 0 = λ j. map.contains_key (contents_at (with_item before item).maps j) key ≡ is_listed (with_item before item).keys j key in
@@ -243,7 +242,7 @@ hash_holds_on before item lt holds m key hash within = elim (cases_eq m item.map
 ]
 
 -- how many keys a map has after an item
-len_after : (before : Listed) (item : Item) (m : ℕ) → item.map < length before.maps.contents → HashHolds before → is_listed before.keys item.map item.key ≡ false → (decl_at before.maps m).kind ≡ Hash → map.len (contents_at (with_item before item).maps m) ≡ cond (item.map == m) 1 0 + map.len (contents_at before.maps m)
+pub len_after : (before : Listed) (item : Item) (m : ℕ) → item.map < length before.maps.contents → HashHolds before → is_listed before.keys item.map item.key ≡ false → (decl_at before.maps m).kind ≡ Hash → map.len (contents_at (with_item before item).maps m) ≡ cond (item.map == m) 1 0 + map.len (contents_at before.maps m)
 len_after before item m lt holds new hash = elim (cases_eq item.map m) [
   | inl is ↦
       let yes : (item.map == item.map) ≡ true = eq-eqb item.map item.map refl in
@@ -283,7 +282,7 @@ full_by : (k : MapKind) (cap : ℕ) (c : Contents) → (k ≡ Hash → map.len c
 full_by Hash cap c h = lt-leb cap (map.len c) (h refl)
 full_by Array cap c h = refl
 
-one_by : (b : Bool) → b ≡ true → 1 ≤ cond b 1 0
+pub one_by : (b : Bool) → b ≡ true → 1 ≤ cond b 1 0
 one_by true h = omega arith
 one_by false h = cc
 
@@ -293,16 +292,15 @@ steps_from [] before within holds own new room = tt
 steps_from (item ∷ items) before within holds own new room =
     let kept : length before.maps.contents ≡ length (with_item before item).maps.contents = sym (length-set before.maps.contents item.map _) in
     let fresh = new item.map item.key item.value (inl (refl, refl, refl)) in
-    let yes : (item.map == item.map) ≡ true = eq-eqb item.map item.map refl in
-    (
+    let yes : (item.map == item.map) ≡ true = eq-eqb item.map item.map refl in (
       fresh,
       full_by (decl_at before.maps item.map).kind (decl_at before.maps item.map).cap (contents_at before.maps item.map) (λ hash.
           let all = room item.map within.0 hash in
           let one : 1 ≤ cond (item.map == item.map) 1 0 = one_by (item.map == item.map) yes in
           omega (arith, all, one)),
       steps_from items (with_item before item) (subst (λ n. Within n items) kept within.1) (hash_holds_on before item within.0 holds) own.1
-      (new_after items before item own.0 (λ m key value there. new m key value (inr there)))
-      (λ m lt hash.
+          (new_after items before item own.0 (λ m key value there. new m key value (inr there)))
+          (λ m lt hash.
           let all = room m (omega (arith, lt, kept)) hash in
           let len = len_after before item m within.0 holds fresh hash in
           omega (arith, all, len)),
@@ -311,21 +309,36 @@ steps_from (item ∷ items) before within holds own new room =
 -- ---- the whole
 
 module _ (decls : List MapDecl) where
-  opened_at : (m : ℕ) → m < length decls → contents_at (opened_state decls) m ≡ opened (decl_at (opened_state decls) m)
+  pub opened_at : (m : ℕ) → m < length decls → contents_at (opened_state decls) m ≡ opened (decl_at (opened_state decls) m)
   opened_at m lt = get_or-map opened decls m no_decl map.empty lt
 
-  len_first : length (opened_state decls).contents ≡ length decls
+  pub len_first : length (opened_state decls).contents ≡ length decls
   len_first = length-map decls opened
 
   hash_first : (m : ℕ) → m < length decls → (decl_at (opened_state decls) m).kind ≡ Hash → contents_at (opened_state decls) m ≡ map.empty
   unfolding opened
   hash_first m lt hash = opened_at m lt ∙ ap (λ k. opened_as k (decl_at (opened_state decls) m)) hash
 
-  none_first : HashHolds (unlisted decls)
+  pub none_first : HashHolds (unlisted decls)
   none_first m key hash within = ap (λ (c : Contents). map.contains_key c key) (hash_first m (omega (arith, within, len_first)) hash) ∙ ap is_some (get-empty (slice_cmp nat_cmp) key)
 
-  len_none : (m : ℕ) → m < length decls → (decl_at (opened_state decls) m).kind ≡ Hash → map.len (contents_at (opened_state decls) m) ≡ 0
+  pub len_none : (m : ℕ) → m < length decls → (decl_at (opened_state decls) m).kind ≡ Hash → map.len (contents_at (opened_state decls) m) ≡ 0
   len_none m lt hash = ap map.len (hash_first m lt hash) ∙ len-empty (slice_cmp nat_cmp) (List ℕ)
+
+  pub within_first : (lines : List (List ℕ)) (items : List Item) → ListAll decls lines items → Within (length (opened_state decls).contents) items
+  within_first lines items lists = subst (λ n. Within n items) (sym len_first) (within_all decls lines items lists)
+
+  pub are_good : (lines : List (List ℕ)) (items : List Item) → ListAll decls lines items → Steps (unlisted decls) items → AreGood decls lines items
+  are_good lines items lists steps = record {
+    lists = lists;
+    own = (steps_own items (unlisted decls) steps).0;
+    room = λ m lt hash. (let r = steps_room items (unlisted decls) m (within_first lines items lists) none_first steps hash (omega (arith, len_none m lt hash)) in omega (arith, r));
+  }
+
+  pub good_steps : (lines : List (List ℕ)) (items : List Item) → AreGood decls lines items → Steps (unlisted decls) items
+  good_steps lines items good = steps_from items (unlisted decls) (within_first lines items good.lists) none_first good.own (λ m key value there. refl) (λ m lt hash.
+      let inside : m < length decls = omega (arith, lt, len_first) in
+      omega (arith, good.room m inside hash, len_none m inside hash))
 
   module _ (text : List ℕ) where
     is_text : (after : Listed) → AreItems (unlisted decls) (lines_of text) after → IsMapsText decls text after.maps
@@ -334,9 +347,7 @@ module _ (decls : List MapDecl) where
         let own = steps_own are.items (unlisted decls) are.steps in
         let moved : IsMapsText decls text (with_items (unlisted decls) are.items).maps = record {
           items = are.items;
-          lines = are.lists;
-          own = own.0;
-          room = λ m lt hash. (let r = steps_room are.items (unlisted decls) m within none_first are.steps hash (omega (arith, len_none m lt hash)) in omega (arith, r));
+          good = are_good (lines_of text) are.items are.lists are.steps;
           decls_are = decls_kept are.items (unlisted decls);
           beside = len_kept are.items (unlisted decls) ∙ len_first;
           holds = λ m key value there. listed_value are.items (unlisted decls) m key value within own.0 there;
@@ -364,11 +375,11 @@ module _ (decls : List MapDecl) where
     maps_are : (s : MapState) (t : IsMapsText decls text s) → SameByLookups → (with_items (unlisted decls) t.items).maps ≡ s
     maps_are s t alike =
         let made = (with_items (unlisted decls) t.items).maps in
-        let within = subst (λ n. Within n t.items) (sym len_first) (within_all decls (lines_of text) t.items t.lines) in
+        let within = subst (λ n. Within n t.items) (sym len_first) (within_all decls (lines_of text) t.items t.good.lists) in
         let ds : made.decls ≡ s.decls = decls_kept t.items (unlisted decls) ∙ sym t.decls_are in
         let len : length made.contents ≡ length decls = len_kept t.items (unlisted decls) ∙ len_first in
         let at : (m : ℕ) → m < length made.contents → contents_at made m ≡ contents_at s m = λ m lt. alike (contents_at made m) (contents_at s m) (λ key. elim (listed_or_not t.items m key) [
-          | inl there ↦ listed_value t.items (unlisted decls) m key there.0 within t.own there.1 ∙ sym (t.holds m key there.0 there.1)
+          | inl there ↦ listed_value t.items (unlisted decls) m key there.0 within t.good.own there.1 ∙ sym (t.holds m key there.0 there.1)
           | inr never ↦
               let inside : m < length decls = omega (arith, lt, len) in
               let d_is : opened (decl_at (opened_state decls) m) ≡ opened (decl_at s m) = ap (λ (x : List MapDecl). opened (get_or x m no_decl)) (sym t.decls_are) in
@@ -380,11 +391,9 @@ module _ (decls : List MapDecl) where
     pub text-outcome : (s : MapState) → SameByLookups → IsMapsText decls text s → outcome decls text ≡ Ok s
     unfolding outcome
     text-outcome s alike t =
-        let within = subst (λ n. Within n t.items) (sym len_first) (within_all decls (lines_of text) t.items t.lines) in
-        let steps = steps_from t.items (unlisted decls) within none_first t.own (λ m key value there. refl) (λ m lt hash.
-            let inside : m < length decls = omega (arith, lt, len_first) in
-            omega (arith, t.room m inside hash, len_none m inside hash)) in
-        ap (λ (r : Result Listed MapsError). and_then r (λ all. Ok all.maps)) (lines_are 1 (unlisted decls) (lines_of text) t.items t.lines steps) ∙ ap Ok (maps_are s t alike)
+        let within = subst (λ n. Within n t.items) (sym len_first) (within_all decls (lines_of text) t.items t.good.lists) in
+        let steps = good_steps (lines_of text) t.items t.good in
+        ap (λ (r : Result Listed MapsError). and_then r (λ all. Ok all.maps)) (lines_are 1 (unlisted decls) (lines_of text) t.items t.good.lists steps) ∙ ap Ok (maps_are s t alike)
 
     found_by : (r : Result Listed MapsError) (s : MapState) → read_from 1 (unlisted decls) (lines_of text) ≡ r → and_then r (λ all. Ok all.maps) ≡ Ok s → IsMapsText decls text s
     unfolding value_or

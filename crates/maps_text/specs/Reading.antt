@@ -1,5 +1,5 @@
 -- What a text of maps says, or its first bad line by the first check that this line fails.
-use Rattle.std.specs.Prelude.{◌≡◌, ℕ, ◌+◌, suc, ◌==◌, nat_lt, nat_le, ◌&&◌, ◌||◌, not, Bool, true, false, if◌then◌else◌, List, [], ◌∷◌, length, Option, Some, None, Result, Ok, Err}
+use Rattle.std.specs.Prelude.{◌≡◌, ℕ, ◌+◌, suc, ◌==◌, nat_lt, nat_le, ◌&&◌, ◌||◌, Bool, true, false, if◌then◌else◌, List, [], ◌∷◌, length, Option, Some, None, Result, Ok, Err}
 use Rattle.std.specs.Ordering.{nat_cmp, eq_by_cmp}
 use Rattle.std.specs.Cmp.Lexicographic.{slice_cmp}
 use Rattle.std.specs.Option.{option_map}
@@ -10,7 +10,7 @@ use Rattle.xdp_maps.specs.declared.decl.MapDecl.{MapDecl}
 use Rattle.xdp_maps.specs.Contents.{Contents, index_of}
 use Rattle.xdp_maps.specs.State.{MapState, opened_state, decl_at, contents_at, with_contents}
 use Rattle.maps_text.specs.declared.error.MapsError.{MapsError}
-use Rattle.maps_text.specs.declared.error.MapsError.TheVariants.{Line, Unknown, Length, Twice, Full}
+use Rattle.maps_text.specs.declared.error.MapsError.TheVariants.{Line, Unknown, Length, Twice, Full, NoMemory}
 use Rattle.maps_text.specs.Lines.{lines_of, Entry, entry_in}
 
 -- whether two byte strings are equal
@@ -95,3 +95,8 @@ unlisted decls = record { maps = opened_state decls; keys = [] }
 -- what the maps of these declarations hold by a text, or the first bad line
 unfoldable pub outcome : List MapDecl → List ℕ → Result MapState MapsError
 outcome decls text = and_then (read_from 1 (unlisted decls) (lines_of text)) (λ all. Ok all.maps)
+
+-- what was returned is what reading gives, or memory was wanted
+abbrev pub Gives : Result MapState MapsError → Result MapState MapsError → Type 0
+Gives (Err NoMemory) read = Unit {0}
+Gives result read = result ≡ read

@@ -1,4 +1,4 @@
--- What the steps of reading and writing give. No caller's clause cites this but `Gives`.
+-- What the steps of reading give. No caller's clause cites this.
 use Rattle.std.specs.Prelude.{◌≡◌, ℕ, ◌+◌, ◌*◌, ◌<◌, ◌==◌, nat_le, Bool, true, false, if◌then◌else◌, List, [], ◌∷◌, length, slice_index_or, Option, Some, None, Result, Ok, Err}
 use Rattle.std.specs.FinMap as map
 use Rattle.hex.specs.Hex.{decode_of}
@@ -7,15 +7,10 @@ use Rattle.xdp_maps.specs.declared.decl.MapDecl.{MapDecl}
 use Rattle.xdp_maps.specs.Contents.{Contents, IsBytes, index_of}
 use Rattle.xdp_maps.specs.State.{MapState, decl_at, contents_at}
 use Rattle.maps_text.specs.declared.error.MapsError.{MapsError}
-use Rattle.maps_text.specs.declared.error.MapsError.TheVariants.{NoMemory, Twice, Full}
+use Rattle.maps_text.specs.declared.error.MapsError.TheVariants.{Twice, Full}
 use Rattle.maps_text.specs.declared.fields.Fields.{Fields}
 use Rattle.maps_text.specs.Lines.{Entry, entry_in}
 use Rattle.maps_text.specs.Reading.{Listed, is_listed, fits}
-
--- what was returned is what reading gives, or memory was wanted
-abbrev pub Gives : Result MapState MapsError → Result MapState MapsError → Type 0
-Gives (Err NoMemory) read = Unit {0}
-Gives result read = result ≡ read
 
 -- the part before the first separator, and what follows that, if it is there
 unfoldable pub cut : ℕ → List ℕ → List ℕ × Option (List ℕ)

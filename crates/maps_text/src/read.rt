@@ -1,11 +1,12 @@
 //! Reading a text of maps.
 
-ghost use Rattle.std.specs.Prelude.{◌≡◌, ◌<◌, ◌^◌, false, length, replicate, All, IfOk, Ok};
+ghost use Rattle.std.specs.Prelude.{◌≡◌, ◌<◌, ◌^◌, ◌⊎◌, false, length, replicate, All, IfOk, IfErr, Ok, Err};
 ghost use Rattle.xdp_maps.specs.Contents.{IsWithinLimits};
-ghost use Rattle.maps_text.specs.Reading.{outcome};
+ghost use Rattle.maps_text.specs.Reading.{Gives, outcome};
+ghost use Rattle.maps_text.specs.declared.error.MapsError.{MapsError};
+ghost use Rattle.maps_text.specs.declared.error.MapsError.TheVariants.{NoMemory};
 ghost use Rattle.xdp_maps.specs.State.{MapState};
-ghost use Rattle.maps_text.specs.Text.{IsMapsText};
-ghost use Rattle.maps_text.specs.Steps.{Gives};
+ghost use Rattle.maps_text.specs.Text.{IsMapsText, IsFirstBad};
 
 use crate::error::MapsError;
 use crate::fields::first_line;
@@ -23,7 +24,9 @@ pub fn read_maps_text(alloc: Global, decls: &[MapDecl], text: &[u8]) -> Result<M
     // Which bytes are a text, and of which maps.
     ensures found { IfOk result (IsMapsText decls.now text.now) }
     ensures only { (s : MapState) → IsMapsText decls.now text.now s → Gives result (Ok s) }
-    // Which fault it is.
+    // The fault of others.
+    ensures fault { IfErr result (λ e. (e ≡ NoMemory) ⊎ IsFirstBad decls.now text.now e) }
+    ensures only_fault { (e : MapsError) → IsFirstBad decls.now text.now e → Gives result (Err e) }
     ensures exact { Gives result (outcome decls.now text.now) }
 {
     same_by_lookups();

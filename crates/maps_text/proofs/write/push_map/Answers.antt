@@ -1,5 +1,4 @@
-use Rattle.std.proofs.Common.{◌<◌, ◌≤◌, arith, subst, ap}
-use Rattle.xdp_maps.specs.declared.decl.MapDecl.{MapDecl}
+use Rattle.std.proofs.Common.{◌<◌, ◌≤◌, arith}
 use Rattle.xdp_maps.specs.State.{decl_at, contents_at}
 use Rattle.maps_text.proofs.Written.{pairs_on, pairs_all}
 use Rattle.maps_text.proofs.write.push_map.Goals as goal

@@ -1,5 +1,3 @@
-use Rattle.std.proofs.Common.{subst}
-use Rattle.xdp_maps.specs.State.{decl_at, contents_at}
 use Rattle.maps_text.proofs.Written.{value_short}
 use Rattle.maps_text.proofs.write.push_pair.Goals as goal
 

@@ -1,6 +1,5 @@
-use Rattle.std.proofs.Common.{◌≡◌, ◌<◌, ◌≤◌, ◌++◌, List, ℕ, length, arith, ap, ◌∙◌}
+use Rattle.std.proofs.Common.{◌<◌, ◌≤◌, List, length, arith, ap}
 use Rattle.xdp_maps.specs.declared.decl.MapDecl.{MapDecl}
-use Rattle.maps_text.specs.Writing.{text_of, all_text}
 use Rattle.maps_text.proofs.Written.{maps_begun, maps_on, maps_all}
 use Rattle.maps_text.proofs.write.write_maps_text.Goals as goal
 
