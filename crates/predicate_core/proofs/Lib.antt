@@ -2,3 +2,4 @@ pub mod Growing
 pub mod Numbers
 pub mod Conditions
 pub mod Shifts
+pub mod Arms

@@ -3,5 +3,6 @@
 
 mod cells;
 mod comparing;
+mod joining;
 mod shifting;
 mod working;

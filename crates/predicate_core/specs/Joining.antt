@@ -1,0 +1,19 @@
+-- Where edges meet.
+use Rattle.std.specs.Prelude.{ℕ, ◌≡◌, ◌<◌, ◌≤◌, if◌then◌else◌, List, [], ◌∷◌, length, All, map as map_list}
+use Rattle.cell_core.specs.Cells.{CellView, on, cell_at}
+use Rattle.predicate_core.specs.declared.joining.Arm.{Arm}
+
+-- what the first edge that is on brings, or else the last one
+abbrev pub chosen : (ℕ → ℕ) → List Arm → ℕ
+chosen v [] = 0
+chosen v (a ∷ []) = v a.cell
+chosen v (a ∷ b ∷ more) = if on (v a.bit) then v a.cell else chosen v (b ∷ more)
+
+-- bits and cells, one after the other
+abbrev pub flat : List Arm → List ℕ
+flat [] = []
+flat (a ∷ more) = a.bit ∷ a.cell ∷ flat more
+
+-- there are the cells of edges
+abbrev pub AreThere : List CellView → List Arm → Type 0
+AreThere cells arms = All (λ a. (a.bit < length cells) × (a.cell < length cells)) arms
