@@ -8,6 +8,7 @@ use Rattle.xdp_object.specs.declared.error.ObjectError.TheVariants.{NoMemory as 
 use Rattle.xdp_object.specs.Choice.{Chosen}
 use Rattle.xdp_object.specs.Object.{FirstFault, IsObject}
 use Rattle.xdp_object.proofs.OutcomeLaws.{one_outcome, never_both}
+use Rattle.xdp_object.proofs.UnitLaws.{two_units_alone}
 use Rattle.xdp_object.specs.Program.{XdpProgram}
 use Rattle.xdp_object.specs.TwoUnits.{two_units}
 use Rattle.xdp_maps.specs.State.{MapState}
@@ -24,8 +25,15 @@ use Rattle.ehdl_build.specs.StoreAndForwardNetlist.{store_and_forward, answer, a
 use Rattle.ehdl_build.specs.Realizes.{Meets}
 use Rattle.ehdl_build.specs.declared.built.CompileError.{CompileError}
 use Rattle.ehdl_build.specs.declared.built.CompileError.TheVariants.{NoMemory, Object, Refused}
-use Rattle.ehdl_build.specs.declared.built.Why.{Why}
-use Rattle.ehdl_build.specs.Compiled.{packets_in, answer_of, IsSequential, DoNotConflict, AreMapsOf, Realizes, Compiles, FailsFor, IsRefused}
+use Rattle.kind_core.specs.declared.why.Refusal.{Refusal}
+use Rattle.kind_core.specs.declared.why.Why.TheVariants.{Instruction}
+use Rattle.kind_core.specs.declared.why.BuildError.{BuildError}
+use Rattle.kind_core.specs.declared.why.BuildError.TheVariants as build
+use Rattle.unfold_core.specs.Acceptance.{IsAccepted, IsFirstRefusal}
+use Rattle.unfold_core.specs.Unfolding.{Unfolds}
+use Rattle.unfold_core.specs.declared.unfolding.Unfolded.{Unfolded}
+use Rattle.unfold_core.proofs.OneOutcomeLaws.{has_one_outcome}
+use Rattle.ehdl_build.specs.Compiled.{packets_in, answer_of, IsSequential, DoNotConflict, AreMapsOf, Realizes, Compiles, FailsFor, IsNotBuilt, IsRefused, compile_error}
 use Rattle.ehdl_build.proofs.Realized.{realized}
 
 -- the verdict of `r0 = k`, `exit`
@@ -78,28 +86,60 @@ realizes p k v text units decls refs same s = record {
     none : (maps : MapState) → AreMapsOf p maps → NoMapsNoClocks maps
     none maps are = need_no_clocks maps are.sound (are.declared ∙ decls)
 
-pub compiled : (choice : Chosen) (bytes text : List ℕ) (p : XdpProgram) (k : ℤ) (v : ℕ) → IsObject choice bytes p → p.insns ≡ two_units k
+pub compiled : (choice : Chosen) (bytes text : List ℕ) (p : XdpProgram) (k : ℤ) (v : ℕ) → IsObject choice bytes p → IsAccepted p → p.insns ≡ two_units k
     → v ≡ verdict_of k → Spells text (store_and_forward v) → Compiles choice bytes text
-compiled choice bytes text p k v o units same s = record {
+compiled choice bytes text p k v o accepted units same s = record {
   program = p;
   object = o;
+  accepted = accepted;
   size = record { stages = 0; records = 0; nodes = 2 };
   has_size = record { number = k; is = units; size = refl };
-  realizes = realizes p k v text units o.decls o.refs same s;
+  realizes = let alone = two_units_alone choice bytes p k o units in realizes p k v text units alone.0 alone.1 same s;
 }
 
 -- ---- one outcome
 
--- an object of two units is not refused
-pub no_refusal : (choice : Chosen) (bytes : List ℕ) (p : XdpProgram) (k : ℤ) (at : ℕ) (why : Why) → IsObject choice bytes p
-    → p.insns ≡ two_units k → ¬ IsRefused choice bytes at why
-no_refusal choice bytes p k at why o units h =
-    let same : h.program ≡ p = (one_outcome choice bytes).program h.program p h.object o in
-    h.refusal.other k (ap (λ (q : XdpProgram). q.insns) same ∙ units)
+-- the refusal of an object is that of its program
+refusal_in : (choice : Chosen) (bytes : List ℕ) (p : XdpProgram) (r : Refusal) → IsObject choice bytes p → IsRefused choice bytes r → IsFirstRefusal p r ⊎ IsNotBuilt p r
+refusal_in choice bytes p r o h = subst (λ (q : XdpProgram). IsFirstRefusal q r ⊎ IsNotBuilt q r) ((one_outcome choice bytes).program h.program p h.object o) h.refusal
+
+-- an accepted object of two units is not refused
+pub no_refusal : (choice : Chosen) (bytes : List ℕ) (p : XdpProgram) (k : ℤ) (r : Refusal) → IsObject choice bytes p → IsAccepted p → p.insns ≡ two_units k → ¬ IsRefused choice bytes r
+no_refusal choice bytes p k r o accepted units h = elim (refusal_in choice bytes p r o h) [
+  | inl own ↦ (has_one_outcome p).never_both r own accepted
+  | inr left ↦ left.other k units
+]
+
+-- an accepted object of other units is refused at its first place
+pub not_built : (choice : Chosen) (bytes : List ℕ) (p : XdpProgram) (r : Refusal) → IsObject choice bytes p → IsAccepted p → IsRefused choice bytes r → r ≡ record { at = 0; why = Instruction }
+not_built choice bytes p r o accepted h = elim (refusal_in choice bytes p r o h) [
+  | inl own ↦ absurd ((has_one_outcome p).never_both r own accepted)
+  | inr left ↦ left.refusal
+]
 
 -- bytes with a fault are not refused
-pub not_refused : (choice : Chosen) (bytes : List ℕ) (e : ObjectError) (at : ℕ) (why : Why) → FirstFault choice bytes e → ¬ IsRefused choice bytes at why
-not_refused choice bytes e at why f h = never_both choice bytes h.program e h.object f
+pub not_refused : (choice : Chosen) (bytes : List ℕ) (e : ObjectError) (r : Refusal) → FirstFault choice bytes e → ¬ IsRefused choice bytes r
+not_refused choice bytes e r f h = never_both choice bytes h.program e h.object f
+
+-- ---- an error of the program
+pub failed_program : (choice : Chosen) (bytes : List ℕ) (p : XdpProgram) (error : BuildError) (r : CompileError) → IsObject choice bytes p → Unfolds p (Err error) → r ≡ compile_error error → FailsFor choice bytes r
+failed_program choice bytes p error r o is e = subst (λ (x : CompileError). FailsFor choice bytes x) (sym e) (by_error error is)
+  where
+    by_error : (error : BuildError) → Unfolds p (Err error) → FailsFor choice bytes (compile_error error)
+    by_error (build.Refused q) is = record { program = p; object = o; refusal = inl is }
+    by_error build.NoMemory is = tt
+
+pub only_refusal : {T : Type 0} (choice : Chosen) (bytes : List ℕ) (p : XdpProgram) (error : BuildError) (r : CompileError) (q : Refusal) → IsObject choice bytes p → Unfolds p (Err error) → r ≡ compile_error error → IsRefused choice bytes q
+    → IsErrOf {T = T} (Err r) (Refused q) ⊎ IsErrOf {T = T} (Err r) NoMemory
+only_refusal {T} choice bytes p error r q o is e h = by_error error is e
+  where
+    by_refusal : (own : Refusal) → IsFirstRefusal p own → IsFirstRefusal p q ⊎ IsNotBuilt p q → own ≡ q
+    by_refusal own is (inl other) = (has_one_outcome p).refusal own q is other
+    by_refusal own is (inr left) = absurd ((has_one_outcome p).never_both own is left.accepted)
+
+    by_error : (error : BuildError) → Unfolds p (Err error) → r ≡ compile_error error → IsErrOf {T = T} (Err r) (Refused q) ⊎ IsErrOf {T = T} (Err r) NoMemory
+    by_error (build.Refused own) is e = inl (ap Err (e ∙ ap Refused (by_refusal own is (refusal_in choice bytes p q o h))))
+    by_error build.NoMemory is e = inr (ap Err e)
 
 -- ---- an error of the object
 
@@ -118,8 +158,8 @@ only_fault choice bytes error r e (inl (memory, m)) fault f = inr (ap Err m)
 only_fault choice bytes error r e (inr (other, m)) fault f =
     inl (ap Err (m ∙ ap Object ((one_outcome choice bytes).fault error e (fault other) f)))
 
-pub never_refused : {T : Type 0} (choice : Chosen) (bytes : List ℕ) (error : ObjectError) (r : CompileError) (at : ℕ) (why : Why) → IsErrorOf error r
-    → (error ≢ ObjectMemory → FirstFault choice bytes error) → IsRefused choice bytes at why
-    → IsErrOf {T = T} (Err r) (Refused at why) ⊎ IsErrOf {T = T} (Err r) NoMemory
-never_refused choice bytes error r at why (inl (memory, m)) fault h = inr (ap Err m)
-never_refused choice bytes error r at why (inr (other, m)) fault h = absurd (not_refused choice bytes error at why (fault other) h)
+pub never_refused : {T : Type 0} (choice : Chosen) (bytes : List ℕ) (error : ObjectError) (r : CompileError) (q : Refusal) → IsErrorOf error r
+    → (error ≢ ObjectMemory → FirstFault choice bytes error) → IsRefused choice bytes q
+    → IsErrOf {T = T} (Err r) (Refused q) ⊎ IsErrOf {T = T} (Err r) NoMemory
+never_refused choice bytes error r q (inl (memory, m)) fault h = inr (ap Err m)
+never_refused choice bytes error r q (inr (other, m)) fault h = absurd (not_refused choice bytes error q (fault other) h)

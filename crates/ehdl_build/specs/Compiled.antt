@@ -1,5 +1,5 @@
 -- The bytes of a text realize a program, and a text that an object was compiled to.
-use Rattle.std.specs.Prelude.{◌≡◌, ◌≢◌, ℕ, ℤ, ◌+◌, IsTrue, List, [], ◌∷◌, map as map_list}
+use Rattle.std.specs.Prelude.{◌≡◌, ◌≢◌, ◌⊎◌, ℕ, ℤ, ◌+◌, IsTrue, List, [], ◌∷◌, map as map_list}
 use Rattle.bpf_isa.specs.declared.instruction.Insn.{Insn}
 use Rattle.xdp_object.specs.Choice.{Chosen}
 use Rattle.xdp_object.specs.Object.{FirstFault, IsObject}
@@ -17,8 +17,11 @@ use Rattle.host_history.specs.Host.{load}
 use Rattle.verilog_grammar.specs.Spelling.{Spells}
 use Rattle.ehdl_build.specs.declared.built.CompileError.{CompileError}
 use Rattle.ehdl_build.specs.declared.built.CompileError.TheVariants.{Object, Refused, NoMemory}
-use Rattle.ehdl_build.specs.declared.built.Why.{Why}
-use Rattle.ehdl_build.specs.declared.built.Why.TheVariants.{Instruction}
+use Rattle.kind_core.specs.declared.why.Refusal.{Refusal}
+use Rattle.kind_core.specs.declared.why.Why.TheVariants.{Instruction}
+use Rattle.kind_core.specs.declared.why.BuildError.{BuildError}
+use Rattle.kind_core.specs.declared.why.BuildError.TheVariants as build
+use Rattle.unfold_core.specs.Acceptance.{IsAccepted, IsFirstRefusal}
 use Rattle.ehdl_build.specs.Bounds.{AreApart}
 use Rattle.ehdl_build.specs.Products.{products_apart}
 use Rattle.ehdl_build.specs.Realizes.{Meets}
@@ -73,28 +76,38 @@ pub record Realizes (text : List ℕ) (p : XdpProgram) (z : PipelineSize) : Type
   pub meets : (maps : MapState) → AreMapsOf p maps →
       Meets design (stored_after design (first_stored design) (load maps)) (IsSequential p maps) (DoNotConflict p maps z.stages) z.stages z.records
 
--- under a choice the bytes are an object, and the text realizes its program
+-- under a choice the bytes are an object of an accepted program, and the text realizes this program
 pub record Compiles (choice : Chosen) (bytes text : List ℕ) : Type 0 where
   pub program : XdpProgram
   pub object : IsObject choice bytes program
+  pub accepted : IsAccepted program
   pub size : PipelineSize
   pub has_size : HasSize program size
   pub realizes : Realizes text program size
 
--- The first refusal of instructions. For now all are refused but `r0 = k`, `exit`, at the first place.
-pub record FirstRefusal (insns : List Insn) (at : ℕ) (why : Why) : Type 0 where
-  pub other : (k : ℤ) → insns ≢ two_units k
-  pub first : at ≡ 0
-  pub reason : why ≡ Instruction
+-- For now an accepted program is built only where it is `r0 = k`, `exit`. Others are refused at their first place.
+pub record IsNotBuilt (p : XdpProgram) (r : Refusal) : Type 0 where
+  pub accepted : IsAccepted p
+  pub other : (k : ℤ) → p.insns ≢ two_units k
+  pub refusal : r ≡ record { at = 0; why = Instruction }
+
+-- A program is refused: it is not accepted, and this is its first refusal, or it is not built.
+abbrev pub RefusesProgram : XdpProgram → Refusal → Type 0
+RefusesProgram p r = IsFirstRefusal p r ⊎ IsNotBuilt p r
 
 -- under a choice the bytes are an object, and this is the first refusal of its program
-pub record IsRefused (choice : Chosen) (bytes : List ℕ) (at : ℕ) (why : Why) : Type 0 where
+pub record IsRefused (choice : Chosen) (bytes : List ℕ) (r : Refusal) : Type 0 where
   pub program : XdpProgram
   pub object : IsObject choice bytes program
-  pub refusal : FirstRefusal program.insns at why
+  pub refusal : RefusesProgram program r
 
 -- what holds of the bytes that an error is answered for; of want of memory nothing is said
 abbrev pub FailsFor : Chosen → List ℕ → CompileError → Type 0
 FailsFor choice bytes (Object e) = FirstFault choice bytes e
-FailsFor choice bytes (Refused at why) = IsRefused choice bytes at why
+FailsFor choice bytes (Refused r) = IsRefused choice bytes r
 FailsFor choice bytes NoMemory = Unit {0}
+
+-- the error of compiling, by that of a program
+abbrev pub compile_error : BuildError → CompileError
+compile_error (build.Refused r) = Refused r
+compile_error build.NoMemory = NoMemory

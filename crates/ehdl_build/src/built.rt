@@ -5,13 +5,21 @@ ghost use Rattle.std.specs.Int.{w64, cast_unsigned};
 ghost use Rattle.xdp_object.specs.declared.error.ObjectError.{ObjectError};
 ghost use Rattle.xdp_object.specs.Choice.{chosen_of};
 ghost use Rattle.xdp_object.specs.Object.{FirstFault, IsObject};
-ghost use Rattle.ehdl_build.specs.declared.built.Why.{Why};
-ghost use Rattle.ehdl_build.specs.Compiled.{Compiles, FailsFor, IsRefused};
+ghost use Rattle.kind_core.specs.declared.why.Refusal.{Refusal};
+ghost use Rattle.ehdl_build.specs.Compiled.{Compiles, FailsFor, IsRefused, compile_error};
 
 use crate::store_and_forward;
+use kind_core::{BuildError, Refusal, Why};
 use std::alloc::{AllocError, Global};
+use unfold_core::unfold;
 use verilog_write::write_text;
 use xdp_object::{Choice, ObjectError, Program, read_object, two_units};
+
+/// The refusal of an accepted program that is not built yet.
+const NOT_BUILT: Refusal = Refusal {
+    at: 0,
+    why: Why::Instruction,
+};
 
 /// What an object was compiled to.
 #[derive(Debug, Drop)]
@@ -20,22 +28,15 @@ pub struct Built {
     pub text: Vec<u8>,
 }
 
-/// Why a program is refused, by its number.
-#[derive(Clone, Copy, Debug, PartialEq, Eq)]
-pub enum Why {
-    /// An instruction that is not built.
-    Instruction = 1,
-}
-
 /// Why there is no text.
 #[derive(Clone, Copy, Debug, PartialEq, Eq, thiserror::Error)]
 pub enum CompileError {
     /// The bytes are no object of one program: its first fault, which is never want of memory.
     #[error("{0}")]
     Object(ObjectError),
-    /// The program is refused at this place.
-    #[error("the program is refused at place {at}")]
-    Refused { at: u32, why: Why },
+    /// The program is refused: the first refusal.
+    #[error("{0}")]
+    Refused(Refusal),
     #[error("out of memory")]
     NoMemory,
 }
@@ -69,11 +70,21 @@ fn error_of(error: ObjectError) -> CompileError
     }
 }
 
+// The same error of a program.
+fn refusal_of(error: BuildError) -> CompileError
+    ensures { result ≡ compile_error error }
+{
+    match error {
+        BuildError::Refused(refusal) => CompileError::Refused(refusal),
+        BuildError::NoMemory => CompileError::NoMemory,
+    }
+}
+
 /// Compiles an object. The text realizes the program: it spells a design that,
 /// clock by clock and under every pattern of offered and taken beats, answers frames as sequential execution of the program
 /// does, in the stated clocks.
 ///
-/// For now each program but `r0 = k`, `exit` is refused at its first place.
+/// A program that is not accepted has its own first refusal. For now each accepted one but `r0 = k`, `exit` is refused at its first place.
 pub fn compile(alloc: Global, bytes: &[u8], choice: Choice<'_>) -> Result<Built, CompileError>
     ensures ok { IfOk result (λ built. Compiles (chosen_of choice.entry) bytes.now built.text.items) }
     ensures error { IfErr result (FailsFor (chosen_of choice.entry) bytes.now) }
@@ -81,18 +92,18 @@ pub fn compile(alloc: Global, bytes: &[u8], choice: Choice<'_>) -> Result<Built,
     // Want of memory aside, each error comes wherever it is said to.
     ensures object { (e : ObjectError) → FirstFault (chosen_of choice.entry) bytes.now e
         → IsErrOf result (CompileError.Object e) ⊎ IsErrOf result CompileError.NoMemory }
-    ensures refused { (at : ℕ) (why : Why) → IsRefused (chosen_of choice.entry) bytes.now at why
-        → IsErrOf result (CompileError.Refused at why) ⊎ IsErrOf result CompileError.NoMemory }
+    ensures refused { (r : Refusal) → IsRefused (chosen_of choice.entry) bytes.now r
+        → IsErrOf result (CompileError.Refused r) ⊎ IsErrOf result CompileError.NoMemory }
 {
     let program = match read_object(alloc, bytes, choice) {
         Ok(program) => program,
         Err(error) => return Err(error_of(error)),
     };
+    if let Err(error) = unfold(alloc, &program) {
+        return Err(refusal_of(error));
+    }
     let Some(number) = two_units(&program) else {
-        return Err(CompileError::Refused {
-            at: 0,
-            why: Why::Instruction,
-        });
+        return Err(CompileError::Refused(NOT_BUILT));
     };
     let design = store_and_forward::design(alloc, low_word(number))?;
     let text = write_text(alloc, &design)?;

@@ -4,4 +4,4 @@
 mod built;
 mod store_and_forward;
 
-pub use built::{Built, CompileError, Why, compile};
+pub use built::{Built, CompileError, compile};
