@@ -280,39 +280,39 @@ steps_on p ls g w m laws program loops graph fits stands =
 
 -- ---- whole runs
 
-run_ends : (code : Code) (m : Machine) (verdict : ℕ) → step code m ≡ Ends verdict → run code 1 m ≡ Ended (leaves verdict m)
+run_ends : (code : Code) (m : Machine) (verdict n : ℕ) → step code m ≡ Ends verdict → run code (suc n) m ≡ Ended (leaves verdict m)
 unfolding run
-run_ends code m verdict e = ap (then_on (run code 0) m) e
+run_ends code m verdict n e = ap (then_on (run code n) m) e
 
 run_goes : (code : Code) (m next : Machine) (n : ℕ) → step code m ≡ Goes next → run code (suc n) m ≡ run code n next
 unfolding run
 run_goes code m next n e = ap (then_on (run code n) m) e
 
--- the rest of a run, in so many steps at most
+-- the rest of a run, which ends in so many steps
 pub record Ending (p : XdpProgram) (u : Unfolded) (w : World) (m : Machine) (most : ℕ) : Type 0 where
   pub left : Leaves
   pub path : Follows (program_code p) u w m left
-  pub steps : ℕ
-  pub few : steps ≤ most
-  pub ended : run (program_code p) steps m ≡ Ended left
+  pub ended : (steps : ℕ) → most ≤ steps → run (program_code p) steps m ≡ Ended left
+
+at_least : (most steps : ℕ) → suc most ≤ steps → (n : ℕ) × (steps ≡ suc n) × (most ≤ n)
+at_least most zero h = absurd (omega arith)
+at_least most (suc n) h = (n, refl, omega arith)
 
 ending_more : (p : XdpProgram) (u : Unfolded) (w : World) (m : Machine) (most : ℕ) → u.edges.items ≡ links p u.loops.items u.nodes.items 0 u.nodes.items → StandsAt u.nodes.items w m
     → (moves : Moves p u.loops.items u.nodes.items w m) → Ending p u moves.world moves.next most → Ending p u w m (suc most)
 ending_more p u w m most edges stands moves onward = record {
   left = onward.left;
   path = goes_on stands moves.goes (subst (λ xs. Contains xs (edge w.node moves.taken moves.world.node)) (sym edges) moves.along) moves.later onward.path;
-  steps = suc onward.steps;
-  few = omega (arith, onward.few);
-  ended = run_goes (program_code p) m moves.next onward.steps moves.goes ∙ onward.ended;
+  ended = λ steps enough.
+      let n = at_least most steps enough in
+      ap (λ k. run (program_code p) k m) n.1 ∙ run_goes (program_code p) m moves.next n.0 moves.goes ∙ onward.ended n.0 n.2;
 }
 
 ending_now : (p : XdpProgram) (u : Unfolded) (w : World) (m : Machine) (most verdict : ℕ) → StandsAt u.nodes.items w m → step (program_code p) m ≡ Ends verdict → Ending p u w m (suc most)
 ending_now p u w m most verdict stands e = record {
   left = leaves verdict m;
   path = comes_to_end stands e;
-  steps = 1;
-  few = omega arith;
-  ended = run_ends (program_code p) m verdict e;
+  ended = λ steps enough. let n = at_least most steps enough in ap (λ k. run (program_code p) k m) n.1 ∙ run_ends (program_code p) m verdict n.0 e;
 }
 
 -- a run ends before the nodes do
@@ -344,4 +344,4 @@ runs_are_sound laws p u packet maps program h declared =
     let described : DescribesMachine w begin.kinds m = laws.later begun w begin.kinds m later (laws.start nothing_yet m refl refl) in
     let stands : StandsAt g w m = arrives_at p ls g begin w m laws program h.loops.loops h.graph (inl refl) (start_is_node ls) described refl refl fits in
     let onward : Ending p u w m (length g) = ending p u (length g) w m laws program h (omega arith) fits stands in
-    record { world = w; first = start_is_first ls g; left = onward.left; path = onward.path; steps = onward.steps; few = onward.few; ended = onward.ended }
+    record { world = w; first = start_is_first ls g; left = onward.left; path = onward.path; ended = onward.ended }

@@ -28,15 +28,14 @@ pub data Follows (code : Code) (u : Unfolded) : World → Machine → Leaves →
   goes : {w v : World} {m n : Machine} {e : Leaves} {taken : Bool} → StandsAt u.nodes.items w m → step code m ≡ Goes n → Contains u.edges.items (edge w.node taken v.node) → IsLater w v → Follows code u v n e
       → Follows code u w m e
 
--- The run of a packet follows the graph from its first node to its end, which comes after at most as many steps as there are nodes: it is never stuck.
+-- The run of a packet follows the graph from its first node to its end, to which it comes in as many steps as there are nodes, or in any more: so it
+-- is never stuck.
 pub record IsSoundRun (p : XdpProgram) (u : Unfolded) (packet : PacketIn) (maps : MapState) : Type 0 where
   pub world : World
   pub first : world.node ≡ 0
   pub left : Leaves
   pub path : Follows (program_code p) u world (start packet maps) left
-  pub steps : ℕ
-  pub few : steps ≤ length u.nodes.items
-  pub ended : run (program_code p) steps (start packet maps) ≡ Ended left
+  pub ended : (steps : ℕ) → length u.nodes.items ≤ steps → run (program_code p) steps (start packet maps) ≡ Ended left
 
 -- Every packet, over all maps of the declarations of a program that unfolds, has such a run.
 abbrev pub RunsAreSound : Type 0

@@ -58,8 +58,8 @@ pub fn nodes_are_reached()
 {}
 
 /// Every packet, over all maps of the declarations of a program that unfolds, has a run that follows the graph: a path of present edges
-/// from the start, where at each node the machine is described by what is known there. It comes to an end after at most as many steps
-/// as there are nodes, so it is never stuck.
+/// from the start, where at each node the machine is described by what is known there. It comes to one end in as many steps as there are
+/// nodes, or in any more, so it is never stuck.
 pub fn runs_are_sound()
     ensures { RunsAreSound }
 {
