@@ -1,7 +1,7 @@
 -- What is known of a command that has ended, by the status that is reported.
 use Rattle.std.proofs.Common.{◌≡◌, ◌≢◌, ◌⊎◌, IsTrue, [], Option, Some, None, Result, Ok, Err, OnOk, OnErr, IfErr, refl, ◌∙◌, ap, sym, subst, inl, inr}
 use Rattle.shelf_core.specs.Shelf.{SameHeld}
-use Rattle.command_line.specs.Request.{Request, AskCompile, AskRun, AskSim}
+use Rattle.command_line.specs.Request.{Request, AskCompile, AskRun, AskSim, AskRef}
 use Rattle.ehdl_top.specs.declared.status.Status.{Status}
 use Rattle.ehdl_top.specs.declared.status.Status.TheVariants as status
 use Rattle.ehdl_top.specs.declared.error.CommandError.{CommandError}
@@ -61,10 +61,11 @@ as_status P s t e p = subst P e p
 
 itself_written : (request : Request) (s : Status) → EndsItself request s → AllWritten s
 itself_written (AskCompile object verilog chosen) s e = as_status AllWritten status.Done s (sym e) tt
-itself_written (AskRun names chosen ifindex) s e = as_status AllWritten status.Done s (sym e) tt
-itself_written (AskSim names chosen ifindex clocks) s (inl e) = as_status AllWritten status.Done s (sym e) tt
-itself_written (AskSim names chosen ifindex clocks) s (inr (inl e)) = as_status AllWritten status.XValue s (sym e) tt
-itself_written (AskSim names chosen ifindex clocks) s (inr (inr e)) = as_status AllWritten status.Late s (sym e) tt
+itself_written (AskRun names verilog chosen ifindex) s e = as_status AllWritten status.Done s (sym e) tt
+itself_written (AskRef names chosen ifindex) s e = as_status AllWritten status.Done s (sym e) tt
+itself_written (AskSim names verilog chosen ifindex clocks) s (inl e) = as_status AllWritten status.Done s (sym e) tt
+itself_written (AskSim names verilog chosen ifindex clocks) s (inr (inl e)) = as_status AllWritten status.XValue s (sym e) tt
+itself_written (AskSim names verilog chosen ifindex clocks) s (inr (inr e)) = as_status AllWritten status.Late s (sym e) tt
 
 input_unwritten : (s : Status) → IsInputStatus s → ¬ AllWritten s
 input_unwritten status.Object i w = w

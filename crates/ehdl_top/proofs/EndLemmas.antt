@@ -46,7 +46,7 @@ ends_driven request e old mid new ws can of same makes done = record {
 }
 
 -- why a drive is given up
-pub drive_ends : (names : Names) (chosen : Chosen) (ifindex clocks : ℕ) (design : Netlist) (frames : ℕ) (drive : Drive) (at : Ended) (e : CommandError) → Some e ≡ drive_error design frames drive at → EndsItself (AskSim names chosen ifindex clocks) (ended (Some e))
-drive_ends names chosen ifindex clocks design frames drive Answered e is = absurd cc
-drive_ends names chosen ifindex clocks design frames drive (Stopped w) e is = inr (inl (ap ended is))
-drive_ends names chosen ifindex clocks design frames drive OutOfClocks e is = inr (inr (ap ended is))
+pub drive_ends : (names : Names) (verilog : List ℕ) (chosen : Chosen) (ifindex clocks : ℕ) (design : Netlist) (frames : ℕ) (drive : Drive) (at : Ended) (e : CommandError) → Some e ≡ drive_error design frames drive at → EndsItself (AskSim names verilog chosen ifindex clocks) (ended (Some e))
+drive_ends names verilog chosen ifindex clocks design frames drive Answered e is = absurd cc
+drive_ends names verilog chosen ifindex clocks design frames drive (Stopped w) e is = inr (inl (ap ended is))
+drive_ends names verilog chosen ifindex clocks design frames drive OutOfClocks e is = inr (inr (ap ended is))

@@ -12,15 +12,15 @@ use Rattle.xdp_object.specs.Program.{XdpProgram}
 use Rattle.xdp_object.specs.Choice.{Chosen}
 use Rattle.xdp_object.specs.Object.{FirstFault, IsObject}
 use Rattle.xdp_object.proofs.OutcomeLaws.{one_outcome}
-use Rattle.ehdl_build.specs.declared.built.Why.{Why}
-use Rattle.ehdl_build.specs.Compiled.{FirstRefusal, IsRefused}
-use Rattle.command_line.specs.Request.{Request, AskCompile, AskRun, AskSim}
+use Rattle.kind_core.specs.declared.why.Refusal.{Refusal}
+use Rattle.unfold_core.proofs.OneOutcomeLaws.{has_one_outcome}
+use Rattle.command_line.specs.Request.{Request, AskCompile, AskRun, AskSim, AskRef}
 use Rattle.ehdl_top.specs.declared.status.Status.{Status}
 use Rattle.ehdl_top.specs.declared.status.Status.TheVariants as status
 use Rattle.ehdl_top.specs.declared.error.CommandError.{CommandError}
 use Rattle.ehdl_top.specs.declared.error.CommandError.TheVariants as error
 use Rattle.ehdl_top.specs.Status.{status_of}
-use Rattle.ehdl_top.specs.Forms.{ObjectFaults, ProgramFaults, TextFaults, CaptureFaults, IsAccepted, IsCaptured, IsCaptureFault, object_form, program_form, text_form, capture_form}
+use Rattle.ehdl_top.specs.Forms.{ProgramRule, ProgramFaults, TextFaults, CaptureFaults, IsTaken, IsCaptured, IsCaptureFault, built, accepted, without_maps, program_form, text_form, capture_form}
 use Rattle.ehdl_top.specs.Requests.{inputs_of}
 use Rattle.ehdl_top.specs.Steps.{IsGivenUp}
 use Rattle.ehdl_top.proofs.InputLemmas.{IsSound, AreSound, IsInputStatus}
@@ -30,57 +30,54 @@ input_status : (s t : Status) → s ≡ t → IsInputStatus t → IsInputStatus 
 input_status s t e is = let P : Status → Type 0 = IsInputStatus in subst P (sym e) is
 
 -- ---- objects
-object_apart : (choice : Chosen) (bytes : List ℕ) (e : CommandError) → (program : XdpProgram) × IsObject choice bytes program → ¬ ObjectFaults choice bytes e
-object_apart choice bytes (error.Object fault) is u = (one_outcome choice bytes).apart is.0 fault is.1 u
-object_apart choice bytes e is u = u
-
-object_status : (choice : Chosen) (bytes : List ℕ) (e : CommandError) → ObjectFaults choice bytes e → status_of e ≡ status.Object
-object_status choice bytes (error.Object fault) u = refl
-object_status choice bytes e u = absurd u
-
-object_sound : (choice : Chosen) → IsSound (object_form choice)
-object_sound choice = record {
-  apart = object_apart choice;
-  one = λ bytes e f a b. object_status choice bytes e a ∙ sym (object_status choice bytes f b);
-  ends = λ s e. input_status s status.Object e tt;
-}
+object_apart : (choice : Chosen) (bytes : List ℕ) (fault : ObjectError) → (program : XdpProgram) × IsObject choice bytes program → ¬ FirstFault choice bytes fault
+object_apart choice bytes fault is u = (one_outcome choice bytes).apart is.0 fault is.1 u
 
 -- an object that is none, or that is refused
 abbrev IsProgramFault : Chosen → List ℕ → CommandError → Type 0
-IsProgramFault choice bytes e = ObjectFaults choice bytes e ⊎ ((status_of e ≡ status.Refused) × (program : XdpProgram) × IsObject choice bytes program)
+IsProgramFault choice bytes e =
+    ((fault : ObjectError) × FirstFault choice bytes fault × (status_of e ≡ status.Object)) ⊎ ((status_of e ≡ status.Refused) × (program : XdpProgram) × IsObject choice bytes program)
 
-program_fault : (choice : Chosen) (bytes : List ℕ) (e : CommandError) → ProgramFaults choice bytes e → IsProgramFault choice bytes e
-program_fault choice bytes (error.Object fault) u = inl u
-program_fault choice bytes (error.Refused at why) u = inr (refl, u.program, u.object)
-program_fault choice bytes e u = absurd u
+program_fault : (choice : Chosen) (rule : ProgramRule) (bytes : List ℕ) (e : CommandError) → ProgramFaults choice rule bytes e → IsProgramFault choice bytes e
+program_fault choice rule bytes (error.Object fault) u = inl (fault, u, refl)
+program_fault choice rule bytes (error.Refused r) u = inr (refl, u.program, u.object)
+program_fault choice rule bytes e u = absurd u
 
 program_one : (choice : Chosen) (bytes : List ℕ) (e f : CommandError) → IsProgramFault choice bytes e → IsProgramFault choice bytes f → status_of e ≡ status_of f
-program_one choice bytes e f (inl a) (inl b) = object_status choice bytes e a ∙ sym (object_status choice bytes f b)
-program_one choice bytes e f (inl a) (inr b) = absurd (object_apart choice bytes e (b.1, b.2) a)
-program_one choice bytes e f (inr a) (inl b) = absurd (object_apart choice bytes f (a.1, a.2) b)
+program_one choice bytes e f (inl a) (inl b) = a.2 ∙ sym b.2
+program_one choice bytes e f (inl a) (inr b) = absurd (object_apart choice bytes a.0 (b.1, b.2) a.1)
+program_one choice bytes e f (inr a) (inl b) = absurd (object_apart choice bytes b.0 (a.1, a.2) b.1)
 program_one choice bytes e f (inr a) (inr b) = a.0 ∙ sym b.0
 
--- a program that is compiled is not refused
-accepted_apart : (choice : Chosen) (bytes : List ℕ) (program : XdpProgram) (at : ℕ) (why : Why) → IsAccepted choice bytes program → ¬ IsRefused choice bytes at why
-accepted_apart choice bytes program at why is refused =
-    let P : XdpProgram → Type 0 = λ q. FirstRefusal q.insns at why in
-    is.accepted at why (subst P ((one_outcome choice bytes).program refused.program program refused.object is.object) refused.refusal)
+-- no program is taken that is refused
+abbrev IsRule : ProgramRule → Type 0
+IsRule rule = (p : XdpProgram) (r : Refusal) → rule.Takes p → ¬ rule.Refuses p r
 
-program_apart : (choice : Chosen) (bytes : List ℕ) (e : CommandError) → (program : XdpProgram) × IsAccepted choice bytes program → ¬ ProgramFaults choice bytes e
-program_apart choice bytes (error.Object fault) is u = (one_outcome choice bytes).apart is.0 fault is.1.object u
-program_apart choice bytes (error.Refused at why) is u = accepted_apart choice bytes is.0 at why is.1 u
-program_apart choice bytes e is u = u
+program_apart : (choice : Chosen) (rule : ProgramRule) → IsRule rule → (bytes : List ℕ) (e : CommandError) → (program : XdpProgram) × IsTaken choice rule bytes program → ¬ ProgramFaults choice rule bytes e
+program_apart choice rule is bytes (error.Object fault) taken u = object_apart choice bytes fault (taken.0, taken.1.object) u
+program_apart choice rule is bytes (error.Refused r) taken u =
+    is taken.0 r taken.1.takes (subst (λ (p : XdpProgram). rule.Refuses p r) ((one_outcome choice bytes).program u.program taken.0 u.object taken.1.object) u.refuses)
+program_apart choice rule is bytes e taken u = u
 
 program_ends : (s : Status) → (s ≡ status.Object) ⊎ (s ≡ status.Refused) → IsInputStatus s
 program_ends s (inl e) = input_status s status.Object e tt
 program_ends s (inr e) = input_status s status.Refused e tt
 
-program_sound : (choice : Chosen) → IsSound (program_form choice)
-program_sound choice = record {
-  apart = program_apart choice;
-  one = λ bytes e f a b. program_one choice bytes e f (program_fault choice bytes e a) (program_fault choice bytes f b);
+program_sound : (choice : Chosen) (rule : ProgramRule) → IsRule rule → IsSound (program_form choice rule)
+program_sound choice rule is = record {
+  apart = program_apart choice rule is;
+  one = λ bytes e f a b. program_one choice bytes e f (program_fault choice rule bytes e a) (program_fault choice rule bytes f b);
   ends = program_ends;
 }
+
+built_apart : IsRule built
+built_apart p r takes refuses = takes r refuses
+
+accepted_apart : IsRule accepted
+accepted_apart p r takes refuses = (has_one_outcome p).never_both r refuses takes
+
+maps_apart : IsRule without_maps
+maps_apart p r takes refuses = refuses.0 takes
 
 -- ---- Verilog texts
 text_apart : (bytes : List ℕ) (e : CommandError) → (design : Netlist) × Spells bytes design → ¬ TextFaults bytes e
@@ -135,12 +132,13 @@ capture_sound = record {
 
 -- ---- the inputs of each command
 pub inputs_sound : (request : Request) → AreSound (inputs_of request)
-inputs_sound (AskCompile object verilog chosen) = (program_sound chosen, tt)
-inputs_sound (AskRun names chosen ifindex) = (program_sound chosen, (capture_sound, tt))
-inputs_sound (AskSim names chosen ifindex clocks) = (object_sound chosen, (text_sound, (capture_sound, tt)))
+inputs_sound (AskCompile object verilog chosen) = (program_sound chosen built built_apart, tt)
+inputs_sound (AskRun names verilog chosen ifindex) = (program_sound chosen built built_apart, (capture_sound, tt))
+inputs_sound (AskSim names verilog chosen ifindex clocks) = (program_sound chosen without_maps maps_apart, (text_sound, (capture_sound, tt)))
+inputs_sound (AskRef names chosen ifindex) = (program_sound chosen accepted accepted_apart, (capture_sound, tt))
 
 -- ---- what bytes are given up for
-pub object_given_up : (choice : Chosen) (bytes : List ℕ) (fault : ObjectError) (e : CommandError) → (fault ≢ object.NoMemory → FirstFault choice bytes fault)
-    → ((fault ≡ object.NoMemory) × (e ≡ error.NoMemory)) ⊎ ((fault ≢ object.NoMemory) × (e ≡ error.Object fault)) → IsGivenUp (object_form choice) bytes e
-object_given_up choice bytes fault e first (inl is) = inl is.1
-object_given_up choice bytes fault e first (inr is) = let P : CommandError → Type 0 = IsGivenUp (object_form choice) bytes in subst P (sym is.1) (inr (refl, first is.0))
+pub object_given_up : (choice : Chosen) (rule : ProgramRule) (bytes : List ℕ) (fault : ObjectError) (e : CommandError) → (fault ≢ object.NoMemory → FirstFault choice bytes fault)
+    → ((fault ≡ object.NoMemory) × (e ≡ error.NoMemory)) ⊎ ((fault ≢ object.NoMemory) × (e ≡ error.Object fault)) → IsGivenUp (program_form choice rule) bytes e
+object_given_up choice rule bytes fault e first (inl is) = inl is.1
+object_given_up choice rule bytes fault e first (inr is) = let P : CommandError → Type 0 = IsGivenUp (program_form choice rule) bytes in subst P (sym is.1) (inr (inl refl, first is.0))

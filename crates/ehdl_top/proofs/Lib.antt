@@ -12,3 +12,4 @@ pub mod OutcomeLemmas
 pub mod EndLemmas
 pub mod CauseLemmas
 pub mod NameLemmas
+pub mod SequentialLemmas

@@ -16,7 +16,8 @@ use Rattle.xdp_object.specs.Program.{XdpProgram}
 use Rattle.xdp_machine.proofs.RunLaws.{runs_length}
 use Rattle.ehdl_build.specs.Compiled.{code_of, packets_in, answer_of, IsSequential}
 use Rattle.xdp_object.specs.Choice.{Chosen}
-use Rattle.command_line.specs.Request.{Request, AskCompile, AskRun, AskSim, Names}
+use Rattle.command_line.specs.Request.{Request, AskCompile, AskRun, AskSim, AskRef, Names}
+use Rattle.maps_text.specs.Writing.{text_of}
 use Rattle.ehdl_top.specs.declared.limits.TheConstants.{OBJECT_LIMIT, VERILOG_LIMIT, CAPTURE_LIMIT}
 use Rattle.ehdl_top.specs.declared.error.CommandError.{CommandError}
 use Rattle.ehdl_top.specs.declared.write.Write as code
@@ -24,18 +25,18 @@ use Rattle.ehdl_top.specs.declared.sim.Simulated.{Simulated}
 use Rattle.ehdl_top.specs.declared.packets.Captured.{Captured}
 use Rattle.ehdl_top.specs.Status.{ended}
 use Rattle.ehdl_top.specs.States.{ShelfState, Changes}
-use Rattle.ehdl_top.specs.Forms.{Holds, IsTextOf, IsCaptured, program_form, text_form, capture_form, object_form}
+use Rattle.ehdl_top.specs.Forms.{Holds, IsTaken, IsTextOf, IsCaptured, built, accepted, without_maps, program_form, text_form, capture_form}
 use Rattle.ehdl_top.specs.Inputs.{AreReady}
 use Rattle.ehdl_top.specs.Writes.{Outputs, names_in, Write, AreDone, OneFailed}
-use Rattle.ehdl_top.specs.Results.{timed_packets, came_by, compile_outputs, run_outputs, sim_outputs}
+use Rattle.ehdl_top.specs.Results.{timed_packets, came_by, compile_outputs, result_outputs, run_outputs, sim_outputs, finals_if}
 use Rattle.ehdl_top.specs.Outcome.{IsSimulated, drive_error}
 use Rattle.ehdl_top.specs.Requests.{inputs_of, outputs_of, IsOutcome, EndsItself}
-use Rattle.ehdl_top.specs.Steps.{IsRead, IsTextFor, IsCaptureOf, IsRunOf, IsSimOf, AreApart, FailsWrite, WritesAll, write_of, stamp_of}
+use Rattle.ehdl_top.specs.Steps.{IsRead, IsTextFor, IsCaptureOf, IsRunOf, IsSimOf, IsReferenceOf, AreApart, IsTextApart, FailsWrite, WritesAll, write_of, stamp_of}
 use Rattle.ehdl_top.proofs.StateLemmas.{tells_later}
 use Rattle.ehdl_top.proofs.InputLemmas.{holds_both}
 use Rattle.ehdl_top.proofs.FormLemmas.{one_captured}
 use Rattle.ehdl_top.proofs.WriteLemmas.{AreOf, AreBuilt, done_from, failed_from, done_changes, failed_changes, failed_rose, done_whole, failed_prefixes}
-use Rattle.ehdl_top.proofs.ResultLemmas.{compile_built, run_built, run_of, sim_built, sim_of}
+use Rattle.ehdl_top.proofs.ResultLemmas.{compile_built, result_built, result_names, run_built, run_of}
 
 -- ---- where the inputs are in their forms
 -- what a name holds of which this is so, so is that
@@ -44,17 +45,21 @@ holds_as limit held A B f h = record { bytes = h.bytes; there = h.there; within 
 
 pub outcome_ready : (request : Request) (held : Holding) (end : Option CommandError) (outputs : Outputs) → IsOutcome request held end outputs → AreReady (inputs_of request) held
 outcome_ready (AskCompile object verilog chosen) held end outputs o =
-    (holds_as OBJECT_LIMIT (held object) _ (program_form chosen).Fits (λ bytes is. (o.1.program, is)) o.1.held_program, tt)
-outcome_ready (AskRun names chosen ifindex) held end outputs o = (
-  holds_as OBJECT_LIMIT (held names.object) _ (program_form chosen).Fits (λ bytes is. (o.1.program, is)) o.1.held_program,
+    (holds_as OBJECT_LIMIT (held object) _ (program_form chosen built).Fits (λ bytes is. (o.1.program, is)) o.1.held_program, tt)
+outcome_ready (AskRun names verilog chosen ifindex) held end outputs o = (
+  holds_as OBJECT_LIMIT (held names.object) _ (program_form chosen built).Fits (λ bytes is. (o.1.program, is)) o.1.held_program,
   (holds_as CAPTURE_LIMIT (held names.capture) _ capture_form.Fits (λ bytes is. (o.1.magic, o.1.packets, is)) o.1.held_capture, tt),
 )
-outcome_ready (AskSim names chosen ifindex clocks) held end outputs o = (
-  holds_as OBJECT_LIMIT (held names.object) _ (object_form chosen).Fits (λ bytes is. (o.program, is)) o.held_object,
+outcome_ready (AskSim names verilog chosen ifindex clocks) held end outputs o = (
+  holds_as OBJECT_LIMIT (held names.object) _ (program_form chosen without_maps).Fits (λ bytes is. (o.program, is)) o.held_object,
   (
-    holds_as VERILOG_LIMIT (held names.verilog) _ text_form.Fits (λ bytes is. (o.design, is.spells)) o.held_text,
+    holds_as VERILOG_LIMIT (held verilog) _ text_form.Fits (λ bytes is. (o.design, is.spells)) o.held_text,
     (holds_as CAPTURE_LIMIT (held names.capture) _ capture_form.Fits (λ bytes is. (o.magic, o.packets, is)) o.held_capture, tt),
   ),
+)
+outcome_ready (AskRef names chosen ifindex) held end outputs o = (
+  holds_as OBJECT_LIMIT (held names.object) _ (program_form chosen accepted).Fits (λ bytes is. (o.1.program, is)) o.1.held_program,
+  (holds_as CAPTURE_LIMIT (held names.capture) _ capture_form.Fits (λ bytes is. (o.1.magic, o.1.packets, is)) o.1.held_capture, tt),
 )
 
 -- ---- one end of a simulation
@@ -67,10 +72,10 @@ same_design : (held : Option (List ℕ)) (d e : Netlist) → Holds VERILOG_LIMIT
 same_design held d e a b =
     holds_both VERILOG_LIMIT held (λ bytes. IsTextOf bytes d) (λ bytes. IsTextOf bytes e) (λ bytes. e ≡ d) (λ bytes c f. c.only e f.spells) a b
 
-one_end : (names : Names) (chosen : Chosen) (ifindex clocks : ℕ) (held : Holding) (end end' : Option CommandError) (outputs outputs' : Outputs)
-    → IsSimulated names chosen ifindex clocks held end outputs → IsSimulated names chosen ifindex clocks held end' outputs' → end ≡ end'
-one_end names chosen ifindex clocks held end end' outputs outputs' a b =
-    let design : b.design ≡ a.design = same_design (held names.verilog) a.design b.design a.held_text b.held_text in
+one_end : (names : Names) (verilog : List ℕ) (chosen : Chosen) (ifindex clocks : ℕ) (held : Holding) (end end' : Option CommandError) (outputs outputs' : Outputs)
+    → IsSimulated names verilog chosen ifindex clocks held end outputs → IsSimulated names verilog chosen ifindex clocks held end' outputs' → end ≡ end'
+one_end names verilog chosen ifindex clocks held end end' outputs outputs' a b =
+    let design : b.design ≡ a.design = same_design (held verilog) a.design b.design a.held_text b.held_text in
     let capture = same_packets (held names.capture) a.magic b.magic a.packets b.packets a.held_capture b.held_capture in
     let F : Netlist → ℕ → List Packet → Option CommandError = λ d magic ps.
     let r : Drive = full_drive d ifindex (first_stored d) (timed_packets magic ps) clocks in drive_error d (length ps) r r.ended in
@@ -80,8 +85,9 @@ one_end names chosen ifindex clocks held end end' outputs outputs' a b =
 
 pub ends_one : (request : Request) (held : Holding) (end end' : Option CommandError) (outputs outputs' : Outputs) → IsOutcome request held end outputs → IsOutcome request held end' outputs' → end ≡ end'
 ends_one (AskCompile object verilog chosen) held end end' outputs outputs' a b = a.0 ∙ sym b.0
-ends_one (AskRun names chosen ifindex) held end end' outputs outputs' a b = a.0 ∙ sym b.0
-ends_one (AskSim names chosen ifindex clocks) held end end' outputs outputs' a b = one_end names chosen ifindex clocks held end end' outputs outputs' a b
+ends_one (AskRun names verilog chosen ifindex) held end end' outputs outputs' a b = a.0 ∙ sym b.0
+ends_one (AskSim names verilog chosen ifindex clocks) held end end' outputs outputs' a b = one_end names verilog chosen ifindex clocks held end end' outputs outputs' a b
+ends_one (AskRef names chosen ifindex) held end end' outputs outputs' a b = a.0 ∙ sym b.0
 
 -- ---- from what was read to what is written
 -- these writes make what the command is to leave, and come to this end
@@ -135,7 +141,7 @@ was_held limit name a b bytes Is same there within is told = record {
   is = is;
 }
 
-pub compile_makes : (object verilog : List ℕ) (chosen : Chosen) (old : ShelfState) (bytes text : List ℕ) (ws : List Write) → IsRead (program_form chosen) object old bytes → IsTextFor chosen bytes text
+pub compile_makes : (object verilog : List ℕ) (chosen : Chosen) (old : ShelfState) (bytes text : List ℕ) (ws : List Write) → IsRead (program_form chosen built) object old bytes → IsTextFor chosen bytes text
     → ws ≡ (compile_outputs verilog text).writes → IsTrue old.tells → Makes (AskCompile object verilog chosen) old.held None ws
 compile_makes object verilog chosen old bytes text ws read is e told = record {
   outputs = compile_outputs verilog text;
@@ -143,7 +149,7 @@ compile_makes object verilog chosen old bytes text ws read is e told = record {
     refl,
     record {
       program = is.program;
-      held_program = record { bytes = bytes; there = read.there told; within = read.within; is = is.accepted };
+      held_program = record { bytes = bytes; there = read.there told; within = read.within; is = is.taken };
       text = text;
       size = is.size;
       has_size = is.realized.has_size;
@@ -156,16 +162,16 @@ compile_makes object verilog chosen old bytes text ws read is e told = record {
   of = (inl refl, (inl refl, tt));
 }
 
-pub run_makes : (names : Names) (chosen : Chosen) (ifindex : ℕ) (a b : ShelfState) (object capture text : List ℕ) (magic : ℕ) (packets : List Packet) (writes : List code.Write) → AreApart names → Changes [] a b
-    → IsRead (program_form chosen) names.object a object → (is : IsTextFor chosen object text) → IsRead capture_form names.capture b capture → IsCaptured capture magic packets
-    → IsRunOf names text is.program ifindex magic packets writes → IsTrue a.tells → Makes (AskRun names chosen ifindex) a.held None (map write_of writes)
-run_makes names chosen ifindex a b object capture text magic packets writes apart same read is read' captured run told = record {
-  outputs = run_outputs names text magic packets run.answers;
+pub run_makes : (names : Names) (verilog : List ℕ) (chosen : Chosen) (ifindex : ℕ) (a b : ShelfState) (object capture text : List ℕ) (magic : ℕ) (packets : List Packet) (writes : List code.Write) → AreApart names → IsTextApart names verilog → Changes [] a b
+    → IsRead (program_form chosen built) names.object a object → (is : IsTextFor chosen object text) → IsRead capture_form names.capture b capture → IsCaptured capture magic packets
+    → IsRunOf names verilog text is.program ifindex magic packets writes → IsTrue a.tells → Makes (AskRun names verilog chosen ifindex) a.held None (map write_of writes)
+run_makes names verilog chosen ifindex a b object capture text magic packets writes apart own same read is read' captured run told = record {
+  outputs = run_outputs names verilog text magic packets run.answers;
   outcome = (
     refl,
     record {
       program = is.program;
-      held_program = record { bytes = object; there = read.there told; within = read.within; is = is.accepted };
+      held_program = record { bytes = object; there = read.there told; within = read.within; is = is.taken };
       text = text;
       size = is.size;
       has_size = is.realized.has_size;
@@ -180,20 +186,20 @@ run_makes names chosen ifindex a b object capture text magic packets writes apar
     },
   );
   writes_are = run.writes_are;
-  built = run_built names text magic packets run.answers apart;
-  of = run_of names text magic packets run.answers;
+  built = run_built names verilog text magic packets run.answers apart own;
+  of = run_of names verilog text magic packets run.answers;
 }
 
-pub sim_makes : (names : Names) (chosen : Chosen) (ifindex clocks : ℕ) (a b c : ShelfState) (object text capture : List ℕ) (design : Netlist) (magic : ℕ) (packets : List Packet) (simulated : Simulated) → AreApart names → Changes [] a b → Changes [] a c
-    → IsRead (object_form chosen) names.object a object → IsRead text_form names.verilog b text → IsTextOf text design → IsRead capture_form names.capture c capture → IsCaptured capture magic packets
-    → IsSimOf names design ifindex clocks magic packets simulated → IsTrue a.tells → Makes (AskSim names chosen ifindex clocks) a.held simulated.end (map write_of simulated.writes.items)
-sim_makes names chosen ifindex clocks a b c object text capture design magic packets simulated apart same same' read read' spells read'' captured sim told = record {
+pub sim_makes : (names : Names) (verilog : List ℕ) (chosen : Chosen) (ifindex clocks : ℕ) (a b c : ShelfState) (object text capture : List ℕ) (design : Netlist) (magic : ℕ) (packets : List Packet) (simulated : Simulated) → AreApart names → Changes [] a b → Changes [] a c
+    → IsRead (program_form chosen without_maps) names.object a object → IsRead text_form verilog b text → IsTextOf text design → IsRead capture_form names.capture c capture → IsCaptured capture magic packets
+    → IsSimOf names design ifindex clocks magic packets simulated → IsTrue a.tells → Makes (AskSim names verilog chosen ifindex clocks) a.held simulated.end (map write_of simulated.writes.items)
+sim_makes names verilog chosen ifindex clocks a b c object text capture design magic packets simulated apart same same' read read' spells read'' captured sim told = record {
   outputs = sim_outputs names magic packets (answers_given [] sim.drive.trace) (is_none simulated.end);
   outcome = record {
     program = read.fits.0;
     held_object = record { bytes = object; there = read.there told; within = read.within; is = read.fits.1 };
     design = design;
-    held_text = was_held VERILOG_LIMIT names.verilog a b text (λ bytes. IsTextOf bytes design) same read'.there read'.within spells told;
+    held_text = was_held VERILOG_LIMIT verilog a b text (λ bytes. IsTextOf bytes design) same read'.there read'.within spells told;
     magic = magic;
     packets = packets;
     held_capture = was_held CAPTURE_LIMIT names.capture a c capture (λ bytes. IsCaptured bytes magic packets) same' read''.there read''.within captured told;
@@ -203,8 +209,32 @@ sim_makes names chosen ifindex clocks a b c object text capture design magic pac
     outputs_are = refl;
   };
   writes_are = sim.writes_are;
-  built = sim_built names magic packets (answers_given [] sim.drive.trace) (is_none simulated.end) apart;
-  of = sim_of names magic packets (answers_given [] sim.drive.trace) (is_none simulated.end);
+  built = result_built names magic packets (answers_given [] sim.drive.trace) (finals_if (is_none simulated.end)) apart;
+  of = result_names names magic packets (answers_given [] sim.drive.trace) (finals_if (is_none simulated.end));
+}
+
+pub ref_makes : (names : Names) (chosen : Chosen) (ifindex : ℕ) (a b : ShelfState) (object capture : List ℕ) (program : XdpProgram) (magic : ℕ) (packets : List Packet) (writes : List code.Write) → AreApart names → Changes [] a b
+    → IsRead (program_form chosen accepted) names.object a object → IsTaken chosen accepted object program → IsRead capture_form names.capture b capture → IsCaptured capture magic packets
+    → IsReferenceOf names program ifindex magic packets writes → IsTrue a.tells → Makes (AskRef names chosen ifindex) a.held None (map write_of writes)
+ref_makes names chosen ifindex a b object capture program magic packets writes apart same read is read' captured ref told = record {
+  outputs = result_outputs names magic packets ref.answers (Some (text_of ref.final));
+  outcome = (
+    refl,
+    record {
+      program = program;
+      held_program = record { bytes = object; there = read.there told; within = read.within; is = is };
+      magic = magic;
+      packets = packets;
+      held_capture = was_held CAPTURE_LIMIT names.capture a b capture (λ bytes. IsCaptured bytes magic packets) same read'.there read'.within captured told;
+      answers = ref.answers;
+      final = ref.final;
+      runs = ref.runs;
+      outputs_are = refl;
+    },
+  );
+  writes_are = ref.writes_are;
+  built = result_built names magic packets ref.answers (Some (text_of ref.final)) apart;
+  of = result_names names magic packets ref.answers (Some (text_of ref.final));
 }
 
 -- ---- as many answers as frames

@@ -1,12 +1,12 @@
 -- The writes of a command make its files.
-use Rattle.std.proofs.Common.{◌≡◌, ◌≢◌, ℕ, zero, suc, Bool, true, false, List, [], ◌∷◌, ◌++◌, length, refl, sym, ap, inl, inr, append-nil, slice_get, Some}
+use Rattle.std.proofs.Common.{◌≡◌, ◌≢◌, ℕ, zero, suc, Option, None, List, [], ◌∷◌, ◌++◌, length, refl, sym, ap, inl, inr, append-nil, slice_get, Some}
 use Rattle.std.proofs.lemmas.Option.{get_or_from_slice_get}
 use Rattle.pcap_core.specs.Format.{Packet}
 use Rattle.beat_core.specs.declared.answer.Answer.{Answer}
 use Rattle.command_line.specs.Request.{Names}
 use Rattle.ehdl_top.specs.Writes.{names_in, Write, Append}
-use Rattle.ehdl_top.specs.Results.{texts, record_at, line_at, answer_bytes, verdict_lines, line_of, no_answer, packet_writes, final_writes, result_writes, compile_outputs, run_outputs, sim_outputs}
-use Rattle.ehdl_top.specs.Steps.{AreApart}
+use Rattle.ehdl_top.specs.Results.{texts, record_at, line_at, answer_bytes, verdict_lines, line_of, no_answer, packet_writes, final_writes, result_writes, no_maps, compile_outputs, result_outputs, run_outputs}
+use Rattle.ehdl_top.specs.Steps.{AreApart, IsTextApart}
 use Rattle.ehdl_top.proofs.StateLemmas.{IsOneOf}
 use Rattle.ehdl_top.proofs.WriteLemmas.{AreOf, of_both, Adds, Builds, AreBuilt, adds_as, adds_both, Skips, skips_both, skips_adds, builds_after}
 
@@ -39,13 +39,13 @@ packet_of names ps rs zero those a v = tt
 packet_of names ps rs (suc n) those a v = of_both those (packet_writes names ps rs n) _ (packet_of names ps rs n those a v) (a, (v, tt))
 
 -- ---- the final maps
-final_skips : (names : Names) (finals : Bool) (name : List ℕ) → name ≢ names.final_maps → Skips (final_writes names finals) name
-final_skips names true name apart = (apart, (apart, tt))
-final_skips names false name apart = tt
+final_skips : (names : Names) (finals : Option (List ℕ)) (name : List ℕ) → name ≢ names.final_maps → Skips (final_writes names finals) name
+final_skips names (Some text) name apart = (apart, (apart, tt))
+final_skips names None name apart = tt
 
-final_of : (names : Names) (finals : Bool) (those : List (List ℕ)) → IsOneOf those names.final_maps → AreOf those (final_writes names finals)
-final_of names true those one = (one, (one, tt))
-final_of names false those one = tt
+final_of : (names : Names) (finals : Option (List ℕ)) (those : List (List ℕ)) → IsOneOf those names.final_maps → AreOf those (final_writes names finals)
+final_of names (Some text) those one = (one, (one, tt))
+final_of names None those one = tt
 
 -- ---- the results
 turned : (a b : List ℕ) → a ≢ b → b ≢ a
@@ -55,7 +55,7 @@ turned a b apart e = apart (sym e)
 then_none : (ws vs : List Write) (name bytes : List ℕ) → Adds ws name bytes → Skips vs name → Adds (ws ++ vs) name bytes
 then_none ws vs name bytes adds skips = adds_as (ws ++ vs) name (bytes ++ []) bytes (append-nil bytes) (adds_both ws vs name bytes [] adds (skips_adds vs name skips))
 
-builds_answer : (names : Names) (magic : ℕ) (ps : List Packet) (rs : List Answer) (finals : Bool) → AreApart names → Builds (result_writes names magic ps rs finals) names.answer (answer_bytes magic ps rs)
+builds_answer : (names : Names) (magic : ℕ) (ps : List Packet) (rs : List Answer) (finals : Option (List ℕ)) → AreApart names → Builds (result_writes names magic ps rs finals) names.answer (answer_bytes magic ps rs)
 builds_answer names magic ps rs finals apart =
     inl (
       refl,
@@ -67,7 +67,7 @@ builds_answer names magic ps rs finals apart =
       ),
     )
 
-builds_lines : (names : Names) (magic : ℕ) (ps : List Packet) (rs : List Answer) (finals : Bool) → AreApart names → Builds (result_writes names magic ps rs finals) names.verdicts (verdict_lines rs)
+builds_lines : (names : Names) (magic : ℕ) (ps : List Packet) (rs : List Answer) (finals : Option (List ℕ)) → AreApart names → Builds (result_writes names magic ps rs finals) names.verdicts (verdict_lines rs)
 builds_lines names magic ps rs finals apart =
     let back : names.verdicts ≢ names.answer = turned names.answer names.verdicts apart.answer_verdicts in
     inr (
@@ -81,17 +81,17 @@ builds_lines names magic ps rs finals apart =
       ),
     )
 
-builds_final : (names : Names) (magic : ℕ) (ps : List Packet) (rs : List Answer) → AreApart names → Builds (result_writes names magic ps rs true) names.final_maps []
-builds_final names magic ps rs apart =
+builds_final : (names : Names) (magic : ℕ) (ps : List Packet) (rs : List Answer) (text : List ℕ) → AreApart names → Builds (result_writes names magic ps rs (Some text)) names.final_maps text
+builds_final names magic ps rs text apart =
     let a : names.final_maps ≢ names.answer = turned names.answer names.final_maps apart.answer_final in
     let v : names.final_maps ≢ names.verdicts = turned names.verdicts names.final_maps apart.verdicts_final in
-    inr (a, (a, inr (v, builds_after (packet_writes names ps rs (length rs)) (final_writes names true) names.final_maps [] (packet_skips names ps rs (length rs) names.final_maps a v) (inl (refl, inl (refl, [], refl, refl))))))
+    inr (a, (a, inr (v, builds_after (packet_writes names ps rs (length rs)) (final_writes names (Some text)) names.final_maps text (packet_skips names ps rs (length rs) names.final_maps a v) (inl (refl, inl (refl, [], sym (append-nil text), refl))))))
 
-result_skips : (names : Names) (magic : ℕ) (ps : List Packet) (rs : List Answer) (finals : Bool) (name : List ℕ) → name ≢ names.answer → name ≢ names.verdicts → name ≢ names.final_maps → Skips (result_writes names magic ps rs finals) name
+result_skips : (names : Names) (magic : ℕ) (ps : List Packet) (rs : List Answer) (finals : Option (List ℕ)) (name : List ℕ) → name ≢ names.answer → name ≢ names.verdicts → name ≢ names.final_maps → Skips (result_writes names magic ps rs finals) name
 result_skips names magic ps rs finals name a v f =
     (a, (a, (v, skips_both (packet_writes names ps rs (length rs)) (final_writes names finals) name (packet_skips names ps rs (length rs) name a v) (final_skips names finals name f))))
 
-pub result_of : (names : Names) (magic : ℕ) (ps : List Packet) (rs : List Answer) (finals : Bool) (those : List (List ℕ)) → IsOneOf those names.answer → IsOneOf those names.verdicts → AreOf those (final_writes names finals) → AreOf those (result_writes names magic ps rs finals)
+pub result_of : (names : Names) (magic : ℕ) (ps : List Packet) (rs : List Answer) (finals : Option (List ℕ)) (those : List (List ℕ)) → IsOneOf those names.answer → IsOneOf those names.verdicts → AreOf those (final_writes names finals) → AreOf those (result_writes names magic ps rs finals)
 result_of names magic ps rs finals those a v f =
     (a, (a, (v, of_both those (packet_writes names ps rs (length rs)) (final_writes names finals) (packet_of names ps rs (length rs) those a v) f)))
 
@@ -99,35 +99,37 @@ result_of names magic ps rs finals those a v f =
 pub compile_built : (verilog text : List ℕ) → AreBuilt (compile_outputs verilog text).files (compile_outputs verilog text).writes
 compile_built verilog text = (inl (refl, inl (refl, [], sym (append-nil text), refl)), tt)
 
-pub sim_built : (names : Names) (magic : ℕ) (ps : List Packet) (rs : List Answer) (finals : Bool) → AreApart names → AreBuilt (sim_outputs names magic ps rs finals).files (sim_outputs names magic ps rs finals).writes
-sim_built names magic ps rs true apart = (builds_answer names magic ps rs true apart, (builds_lines names magic ps rs true apart, (builds_final names magic ps rs apart, tt)))
-sim_built names magic ps rs false apart = (builds_answer names magic ps rs false apart, (builds_lines names magic ps rs false apart, tt))
+pub result_built : (names : Names) (magic : ℕ) (ps : List Packet) (rs : List Answer) (finals : Option (List ℕ)) → AreApart names → AreBuilt (result_outputs names magic ps rs finals).files (result_outputs names magic ps rs finals).writes
+result_built names magic ps rs (Some text) apart =
+    (builds_answer names magic ps rs (Some text) apart, (builds_lines names magic ps rs (Some text) apart, (builds_final names magic ps rs text apart, tt)))
+result_built names magic ps rs None apart = (builds_answer names magic ps rs None apart, (builds_lines names magic ps rs None apart, tt))
 
-pub sim_of : (names : Names) (magic : ℕ) (ps : List Packet) (rs : List Answer) (finals : Bool) → AreOf (names_in (sim_outputs names magic ps rs finals).files) (sim_outputs names magic ps rs finals).writes
-sim_of names magic ps rs true =
+pub result_names : (names : Names) (magic : ℕ) (ps : List Packet) (rs : List Answer) (finals : Option (List ℕ)) → AreOf (names_in (result_outputs names magic ps rs finals).files) (result_outputs names magic ps rs finals).writes
+result_names names magic ps rs (Some text) =
     let those : List (List ℕ) = names.answer ∷ names.verdicts ∷ names.final_maps ∷ [] in
-    result_of names magic ps rs true those (inl refl) (inr (inl refl)) (final_of names true those (inr (inr (inl refl))))
-sim_of names magic ps rs false = result_of names magic ps rs false (names.answer ∷ names.verdicts ∷ []) (inl refl) (inr (inl refl)) tt
+    result_of names magic ps rs (Some text) those (inl refl) (inr (inl refl)) (final_of names (Some text) those (inr (inr (inl refl))))
+result_names names magic ps rs None = result_of names magic ps rs None (names.answer ∷ names.verdicts ∷ []) (inl refl) (inr (inl refl)) tt
 
 -- the names that a command may write
-pub sim_outputs_of : (names : Names) (magic : ℕ) (ps : List Packet) (rs : List Answer) (finals : Bool) → AreOf (names.answer ∷ names.verdicts ∷ names.final_maps ∷ []) (sim_outputs names magic ps rs finals).writes
-sim_outputs_of names magic ps rs finals =
+pub result_outputs_of : (names : Names) (magic : ℕ) (ps : List Packet) (rs : List Answer) (finals : Option (List ℕ)) → AreOf (names.answer ∷ names.verdicts ∷ names.final_maps ∷ []) (result_outputs names magic ps rs finals).writes
+result_outputs_of names magic ps rs finals =
     let those : List (List ℕ) = names.answer ∷ names.verdicts ∷ names.final_maps ∷ [] in
     result_of names magic ps rs finals those (inl refl) (inr (inl refl)) (final_of names finals those (inr (inr (inl refl))))
 
-pub run_built : (names : Names) (text : List ℕ) (magic : ℕ) (ps : List Packet) (rs : List Answer) → AreApart names → AreBuilt (run_outputs names text magic ps rs).files (run_outputs names text magic ps rs).writes
-run_built names text magic ps rs apart =
-    let a : names.answer ≢ names.verilog = turned names.verilog names.answer apart.verilog_answer in
-    let v : names.verdicts ≢ names.verilog = turned names.verilog names.verdicts apart.verilog_verdicts in
-    let f : names.final_maps ≢ names.verilog = turned names.verilog names.final_maps apart.verilog_final in (
-      inl (refl, inl (refl, [], sym (append-nil text), skips_adds (result_writes names magic ps rs true) names.verilog (result_skips names magic ps rs true names.verilog apart.verilog_answer apart.verilog_verdicts apart.verilog_final))),
+pub run_built : (names : Names) (verilog text : List ℕ) (magic : ℕ) (ps : List Packet) (rs : List Answer) → AreApart names → IsTextApart names verilog → AreBuilt (run_outputs names verilog text magic ps rs).files (run_outputs names verilog text magic ps rs).writes
+run_built names verilog text magic ps rs apart own =
+    let finals : Option (List ℕ) = Some no_maps in
+    let a : names.answer ≢ verilog = turned verilog names.answer own.answer in
+    let v : names.verdicts ≢ verilog = turned verilog names.verdicts own.verdicts in
+    let f : names.final_maps ≢ verilog = turned verilog names.final_maps own.final in (
+      inl (refl, inl (refl, [], sym (append-nil text), skips_adds (result_writes names magic ps rs finals) verilog (result_skips names magic ps rs finals verilog own.answer own.verdicts own.final))),
       (
-        inr (a, (a, builds_answer names magic ps rs true apart)),
-        (inr (v, (v, builds_lines names magic ps rs true apart)), (inr (f, (f, builds_final names magic ps rs apart)), tt)),
+        inr (a, (a, builds_answer names magic ps rs finals apart)),
+        (inr (v, (v, builds_lines names magic ps rs finals apart)), (inr (f, (f, builds_final names magic ps rs no_maps apart)), tt)),
       ),
     )
 
-pub run_of : (names : Names) (text : List ℕ) (magic : ℕ) (ps : List Packet) (rs : List Answer) → AreOf (names.verilog ∷ names.answer ∷ names.verdicts ∷ names.final_maps ∷ []) (run_outputs names text magic ps rs).writes
-run_of names text magic ps rs =
-    let those : List (List ℕ) = names.verilog ∷ names.answer ∷ names.verdicts ∷ names.final_maps ∷ [] in
-    (inl refl, (inl refl, result_of names magic ps rs true those (inr (inl refl)) (inr (inr (inl refl))) (final_of names true those (inr (inr (inr (inl refl)))))))
+pub run_of : (names : Names) (verilog text : List ℕ) (magic : ℕ) (ps : List Packet) (rs : List Answer) → AreOf (verilog ∷ names.answer ∷ names.verdicts ∷ names.final_maps ∷ []) (run_outputs names verilog text magic ps rs).writes
+run_of names verilog text magic ps rs =
+    let those : List (List ℕ) = verilog ∷ names.answer ∷ names.verdicts ∷ names.final_maps ∷ [] in
+    (inl refl, (inl refl, result_of names magic ps rs (Some no_maps) those (inr (inl refl)) (inr (inr (inl refl))) (final_of names (Some no_maps) those (inr (inr (inr (inl refl)))))))

@@ -1,5 +1,5 @@
 -- The forms of inputs: how many bytes one may have, which bytes are in its form, and the first fault of the others.
-use Rattle.std.specs.Prelude.{◌≡◌, ◌⊎◌, ℕ, ◌≤◌, List, length, Option, Some, None, Err}
+use Rattle.std.specs.Prelude.{◌≡◌, ◌≢◌, ◌⊎◌, ℕ, ◌≤◌, List, [], length, Option, Some, None, Err}
 use Rattle.shelf_core.specs.Shelf.{IsLonger}
 use Rattle.pcap_core.specs.declared.error.PcapError.{PcapError}
 use Rattle.list_laws.specs.Bytes.{IsBytes}
@@ -12,8 +12,10 @@ use Rattle.xdp_object.specs.declared.error.ObjectError.TheVariants.{Long}
 use Rattle.xdp_object.specs.Program.{XdpProgram}
 use Rattle.xdp_object.specs.Choice.{Chosen}
 use Rattle.xdp_object.specs.Object.{FirstFault, IsObject}
-use Rattle.ehdl_build.specs.declared.built.Why.{Why}
-use Rattle.ehdl_build.specs.Compiled.{FirstRefusal, IsRefused}
+use Rattle.kind_core.specs.declared.why.Refusal.{Refusal}
+use Rattle.kind_core.specs.declared.why.Why.TheVariants.{Instruction}
+use Rattle.unfold_core.specs.Acceptance.{IsAccepted, IsFirstRefusal}
+use Rattle.ehdl_build.specs.Compiled.{RefusesProgram}
 use Rattle.ehdl_top.specs.declared.limits.TheConstants.{OBJECT_LIMIT, VERILOG_LIMIT, CAPTURE_LIMIT}
 use Rattle.ehdl_top.specs.declared.status.Status.{Status}
 use Rattle.ehdl_top.specs.declared.status.Status.TheVariants as status
@@ -46,40 +48,48 @@ abbrev pub IsFaulty : InputForm → Option (List ℕ) → CommandError → Type 
 IsFaulty form held e = (IsLonger form.limit held × (e ≡ form.too_long)) ⊎ Holds form.limit held (λ bytes. form.Faults bytes e)
 
 -- ---- objects
--- The choice is the name of the function that is asked for, or none.
-abbrev pub ObjectFaults : Chosen → List ℕ → CommandError → Type 0
-ObjectFaults choice bytes (error.Object fault) = FirstFault choice bytes fault
-ObjectFaults choice bytes e = ⊥
+-- Which programs a command takes, and how it refuses the others.
+pub record ProgramRule : Type 1 where
+  pub Takes : XdpProgram → Type 0
+  pub Refuses : XdpProgram → Refusal → Type 0
 
--- an object, whatever its program
-abbrev pub object_form : Chosen → InputForm
-object_form choice = record {
-  limit = OBJECT_LIMIT;
-  too_long = error.Object Long;
-  Fits = λ bytes. (program : XdpProgram) × IsObject choice bytes program;
-  Faults = ObjectFaults choice;
-  Ends = λ s. s ≡ status.Object;
-}
-
--- bytes are an object of this program, which is compiled
-pub record IsAccepted (choice : Chosen) (bytes : List ℕ) (program : XdpProgram) : Type 0 where
+-- bytes are an object of a program that is taken
+pub record IsTaken (choice : Chosen) (rule : ProgramRule) (bytes : List ℕ) (program : XdpProgram) : Type 0 where
   pub object : IsObject choice bytes program
-  pub accepted : (at : ℕ) (why : Why) → ¬ FirstRefusal program.insns at why
+  pub takes : rule.Takes program
 
-abbrev pub ProgramFaults : Chosen → List ℕ → CommandError → Type 0
-ProgramFaults choice bytes (error.Object fault) = FirstFault choice bytes fault
-ProgramFaults choice bytes (error.Refused at why) = IsRefused choice bytes at why
-ProgramFaults choice bytes e = ⊥
+-- they are an object of a program with this refusal
+pub record IsRefusedBy (choice : Chosen) (rule : ProgramRule) (bytes : List ℕ) (r : Refusal) : Type 0 where
+  pub program : XdpProgram
+  pub object : IsObject choice bytes program
+  pub refuses : rule.Refuses program r
 
--- an object of a program that is compiled
-abbrev pub program_form : Chosen → InputForm
-program_form choice = record {
+abbrev pub ProgramFaults : Chosen → ProgramRule → List ℕ → CommandError → Type 0
+ProgramFaults choice rule bytes (error.Object fault) = FirstFault choice bytes fault
+ProgramFaults choice rule bytes (error.Refused r) = IsRefusedBy choice rule bytes r
+ProgramFaults choice rule bytes e = ⊥
+
+-- an object of a program that is taken
+abbrev pub program_form : Chosen → ProgramRule → InputForm
+program_form choice rule = record {
   limit = OBJECT_LIMIT;
   too_long = error.Object Long;
-  Fits = λ bytes. (program : XdpProgram) × IsAccepted choice bytes program;
-  Faults = ProgramFaults choice;
+  Fits = λ bytes. (program : XdpProgram) × IsTaken choice rule bytes program;
+  Faults = ProgramFaults choice rule;
   Ends = λ s. (s ≡ status.Object) ⊎ (s ≡ status.Refused);
 }
+
+-- programs that are compiled
+abbrev pub built : ProgramRule
+built = record { Takes = λ p. (r : Refusal) → ¬ RefusesProgram p r; Refuses = RefusesProgram }
+
+-- programs that are accepted
+abbrev pub accepted : ProgramRule
+accepted = record { Takes = IsAccepted; Refuses = IsFirstRefusal }
+
+-- For now a text that is given is simulated for programs without maps alone.
+abbrev pub without_maps : ProgramRule
+without_maps = record { Takes = λ p. p.decls ≡ []; Refuses = λ p r. (p.decls ≢ []) × (r ≡ record { at = 0; why = Instruction }) }
 
 -- ---- Verilog texts
 -- a text spells this design, and no other

@@ -1,8 +1,11 @@
 -- The lines that are written: that of a verdict, and the one that says why a command stops.
 use Rattle.std.specs.Prelude.{ℕ, List, ◌++◌, [], codes, decimal}
+use Rattle.std.specs.Fmt.{signed_decimal}
 use Rattle.xdp_object.specs.Codes as object
-use Rattle.ehdl_build.specs.declared.built.Why.{Why}
-use Rattle.ehdl_build.specs.declared.built.Why.TheVariants.{Instruction}
+use Rattle.kind_core.specs.declared.why.Why.{Why}
+use Rattle.kind_core.specs.declared.why.Why.TheVariants.{Helper}
+use Rattle.kind_core.specs.declared.why.Refusal.{Refusal}
+use Rattle.kind_core.specs.Reasons.{reason_number}
 use Rattle.pcap_core.specs.declared.error.PcapError.{PcapError}
 use Rattle.pcap_core.specs.declared.error.PcapError.TheVariants.{Short, Magic, Version, Link, Frame}
 use Rattle.verilog_read.specs.declared.error.ReadError.{ReadError}
@@ -16,9 +19,13 @@ abbrev pub verdict_line_of : ℕ → ℕ → ℕ → ℕ → List ℕ
 verdict_line_of index verdict target length = decimal index ++ codes " " ++ decimal verdict ++ codes " " ++ decimal target ++ codes " " ++ decimal length ++ codes "\n"
 
 -- ---- codes, and then their numbers in decimal
--- why a program is refused
-abbrev pub why_code : Why → ℕ
-why_code Instruction = 1
+-- why a program is refused, and where: behind the reason of an unknown helper stands its number
+abbrev pub helper_code : Why → List ℕ
+helper_code (Helper id) = codes " " ++ signed_decimal id
+helper_code why = []
+
+abbrev pub refusal_code : Refusal → List ℕ
+refusal_code r = decimal r.at ++ codes " " ++ decimal (reason_number r.why) ++ helper_code r.why
 
 -- the fault of a capture
 abbrev pub capture_code : PcapError → List ℕ
@@ -43,7 +50,7 @@ verilog_code verilog.NoMemory = []
 abbrev pub line_of : CommandError → List ℕ
 line_of error.Usage = codes "usage\n"
 line_of (error.Object fault) = codes "object " ++ object.code_of fault ++ codes "\n"
-line_of (error.Refused at why) = codes "refused " ++ decimal at ++ codes " " ++ decimal (why_code why) ++ codes "\n"
+line_of (error.Refused r) = codes "refused " ++ refusal_code r ++ codes "\n"
 line_of error.LongVerilog = codes "input verilog long\n"
 line_of (error.Verilog fault) = codes "input verilog " ++ verilog_code fault ++ codes "\n"
 line_of error.LongCapture = codes "input capture long\n"

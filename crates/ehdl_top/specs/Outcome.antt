@@ -10,23 +10,23 @@ use Rattle.net_core.specs.History.{answers_given, Drive, Ended, Answered, Stoppe
 use Rattle.beat_core.specs.declared.answer.Answer.{Answer}
 use Rattle.port_drive.specs.Reports.{full_drive}
 use Rattle.xdp_object.specs.Program.{XdpProgram}
-use Rattle.xdp_object.specs.Object.{IsObject}
 use Rattle.xdp_maps.specs.State.{MapState, opened_state}
+use Rattle.maps_text.specs.Writing.{text_of}
 use Rattle.ehdl_build.specs.Compiled.{PipelineSize, HasSize, IsSequential, Realizes}
 use Rattle.xdp_object.specs.Choice.{Chosen}
 use Rattle.command_line.specs.Request.{Names}
 use Rattle.ehdl_top.specs.declared.limits.TheConstants.{OBJECT_LIMIT, VERILOG_LIMIT, CAPTURE_LIMIT}
 use Rattle.ehdl_top.specs.declared.error.CommandError.{CommandError}
 use Rattle.ehdl_top.specs.declared.error.CommandError.TheVariants as error
-use Rattle.ehdl_top.specs.Forms.{Holds, IsAccepted, IsTextOf, IsCaptured}
+use Rattle.ehdl_top.specs.Forms.{Holds, IsTaken, IsTextOf, IsCaptured, built, accepted, without_maps}
 use Rattle.ehdl_top.specs.Writes.{Outputs}
-use Rattle.ehdl_top.specs.Results.{timed_packets, came_by, compile_outputs, run_outputs, sim_outputs}
+use Rattle.ehdl_top.specs.Results.{timed_packets, came_by, compile_outputs, run_outputs, result_outputs, sim_outputs}
 
 -- ---- compile
 -- The text that an object asks for: it realizes the object's program.
 pub record IsCompiled (object verilog : List ℕ) (chosen : Chosen) (held : Holding) (outputs : Outputs) : Type 0 where
   pub program : XdpProgram
-  pub held_program : Holds OBJECT_LIMIT (held object) (λ bytes. IsAccepted chosen bytes program)
+  pub held_program : Holds OBJECT_LIMIT (held object) (λ bytes. IsTaken chosen built bytes program)
   pub text : List ℕ
   pub size : PipelineSize
   pub has_size : HasSize program size
@@ -36,9 +36,9 @@ pub record IsCompiled (object verilog : List ℕ) (chosen : Chosen) (held : Hold
 -- ---- run
 -- The files that an object and a capture ask for. The text realizes the object's program; answers and verdicts are those of
 -- sequential execution, one packet of the capture after another, all by one interface, from maps in which nothing was written.
-pub record IsRun (names : Names) (chosen : Chosen) (ifindex : ℕ) (held : Holding) (outputs : Outputs) : Type 0 where
+pub record IsRun (names : Names) (verilog : List ℕ) (chosen : Chosen) (ifindex : ℕ) (held : Holding) (outputs : Outputs) : Type 0 where
   pub program : XdpProgram
-  pub held_program : Holds OBJECT_LIMIT (held names.object) (λ bytes. IsAccepted chosen bytes program)
+  pub held_program : Holds OBJECT_LIMIT (held names.object) (λ bytes. IsTaken chosen built bytes program)
   pub text : List ℕ
   pub size : PipelineSize
   pub has_size : HasSize program size
@@ -49,7 +49,7 @@ pub record IsRun (names : Names) (chosen : Chosen) (ifindex : ℕ) (held : Holdi
   pub answers : List Answer
   pub final : MapState
   pub runs : IsSequential program (opened_state program.decls) (came_by ifindex (timed_packets magic packets)) answers final
-  pub outputs_are : outputs ≡ run_outputs names text magic packets answers
+  pub outputs_are : outputs ≡ run_outputs names verilog text magic packets answers
 
 -- ---- sim
 -- why a drive over so many frames was given up, if it was
@@ -60,11 +60,11 @@ drive_error design frames drive OutOfClocks = Some (error.Late (length (answers_
 
 -- The files that a Verilog text and a capture ask for, and whether the drive was given up: the answers are those of the full
 -- drive, in at most so many clocks, of the one design that the text spells. Without all answers there are no final maps.
-pub record IsSimulated (names : Names) (chosen : Chosen) (ifindex clocks : ℕ) (held : Holding) (end : Option CommandError) (outputs : Outputs) : Type 0 where
+pub record IsSimulated (names : Names) (verilog : List ℕ) (chosen : Chosen) (ifindex clocks : ℕ) (held : Holding) (end : Option CommandError) (outputs : Outputs) : Type 0 where
   pub program : XdpProgram
-  pub held_object : Holds OBJECT_LIMIT (held names.object) (λ bytes. IsObject chosen bytes program)
+  pub held_object : Holds OBJECT_LIMIT (held names.object) (λ bytes. IsTaken chosen without_maps bytes program)
   pub design : Netlist
-  pub held_text : Holds VERILOG_LIMIT (held names.verilog) (λ bytes. IsTextOf bytes design)
+  pub held_text : Holds VERILOG_LIMIT (held verilog) (λ bytes. IsTextOf bytes design)
   pub magic : ℕ
   pub packets : List Packet
   pub held_capture : Holds CAPTURE_LIMIT (held names.capture) (λ bytes. IsCaptured bytes magic packets)
@@ -72,3 +72,17 @@ pub record IsSimulated (names : Names) (chosen : Chosen) (ifindex clocks : ℕ) 
   pub is_drive : drive ≡ full_drive design ifindex (first_stored design) (timed_packets magic packets) clocks
   pub end_is : end ≡ drive_error design (length packets) drive drive.ended
   pub outputs_are : outputs ≡ sim_outputs names magic packets (answers_given [] drive.trace) (is_none end)
+
+-- ---- ref
+-- The files that an object and a capture ask for of sequential execution alone: the answers of the object's program to one packet of
+-- the capture after another, all by one interface, from maps in which nothing was written, and the maps behind the last.
+pub record IsReference (names : Names) (chosen : Chosen) (ifindex : ℕ) (held : Holding) (outputs : Outputs) : Type 0 where
+  pub program : XdpProgram
+  pub held_program : Holds OBJECT_LIMIT (held names.object) (λ bytes. IsTaken chosen accepted bytes program)
+  pub magic : ℕ
+  pub packets : List Packet
+  pub held_capture : Holds CAPTURE_LIMIT (held names.capture) (λ bytes. IsCaptured bytes magic packets)
+  pub answers : List Answer
+  pub final : MapState
+  pub runs : IsSequential program (opened_state program.decls) (came_by ifindex (timed_packets magic packets)) answers final
+  pub outputs_are : outputs ≡ result_outputs names magic packets answers (Some (text_of final))

@@ -1,40 +1,45 @@
 -- The commands: the inputs of each with their forms, its outputs, what it leaves, and how it may end. A command is a row of each.
 use Rattle.std.specs.Prelude.{◌≡◌, ◌⊎◌, ℕ, List, [], ◌∷◌, Option, Some, None}
 use Rattle.shelf_core.specs.Shelf.{Holding}
-use Rattle.command_line.specs.Request.{Request, AskCompile, AskRun, AskSim}
+use Rattle.command_line.specs.Request.{Request, AskCompile, AskRun, AskSim, AskRef}
 use Rattle.ehdl_top.specs.declared.status.Status.{Status}
 use Rattle.ehdl_top.specs.declared.status.Status.TheVariants as status
 use Rattle.ehdl_top.specs.declared.error.CommandError.{CommandError}
-use Rattle.ehdl_top.specs.Forms.{object_form, program_form, text_form, capture_form}
+use Rattle.ehdl_top.specs.Forms.{program_form, built, accepted, without_maps, text_form, capture_form}
 use Rattle.ehdl_top.specs.Inputs.{Input, input, FirstStop, EndsAtInput}
 use Rattle.ehdl_top.specs.Writes.{Outputs}
-use Rattle.ehdl_top.specs.Outcome.{IsCompiled, IsRun, IsSimulated}
+use Rattle.ehdl_top.specs.Outcome.{IsCompiled, IsRun, IsSimulated, IsReference}
 
 -- in the order in which they are looked at
 abbrev pub inputs_of : Request → List Input
-inputs_of (AskCompile object verilog chosen) = input object (program_form chosen) ∷ []
-inputs_of (AskRun names chosen ifindex) =
-    input names.object (program_form chosen) ∷ input names.capture capture_form ∷ []
-inputs_of (AskSim names chosen ifindex clocks) =
-    input names.object (object_form chosen) ∷ input names.verilog text_form ∷ input names.capture capture_form ∷ []
+inputs_of (AskCompile object verilog chosen) = input object (program_form chosen built) ∷ []
+inputs_of (AskRun names verilog chosen ifindex) =
+    input names.object (program_form chosen built) ∷ input names.capture capture_form ∷ []
+inputs_of (AskSim names verilog chosen ifindex clocks) =
+    input names.object (program_form chosen without_maps) ∷ input verilog text_form ∷ input names.capture capture_form ∷ []
+inputs_of (AskRef names chosen ifindex) =
+    input names.object (program_form chosen accepted) ∷ input names.capture capture_form ∷ []
 
 -- the names that may be written
 abbrev pub outputs_of : Request → List (List ℕ)
 outputs_of (AskCompile object verilog chosen) = verilog ∷ []
-outputs_of (AskRun names chosen ifindex) = names.verilog ∷ names.answer ∷ names.verdicts ∷ names.final_maps ∷ []
-outputs_of (AskSim names chosen ifindex clocks) = names.answer ∷ names.verdicts ∷ names.final_maps ∷ []
+outputs_of (AskRun names verilog chosen ifindex) = verilog ∷ names.answer ∷ names.verdicts ∷ names.final_maps ∷ []
+outputs_of (AskSim names verilog chosen ifindex clocks) = names.answer ∷ names.verdicts ∷ names.final_maps ∷ []
+outputs_of (AskRef names chosen ifindex) = names.answer ∷ names.verdicts ∷ names.final_maps ∷ []
 
 -- what the outputs are to hold by what is held, and the end that the command then comes to
 abbrev pub IsOutcome : Request → Holding → Option CommandError → Outputs → Type 0
 IsOutcome (AskCompile object verilog chosen) held end outputs = (end ≡ None) × IsCompiled object verilog chosen held outputs
-IsOutcome (AskRun names chosen ifindex) held end outputs = (end ≡ None) × IsRun names chosen ifindex held outputs
-IsOutcome (AskSim names chosen ifindex clocks) held end outputs = IsSimulated names chosen ifindex clocks held end outputs
+IsOutcome (AskRun names verilog chosen ifindex) held end outputs = (end ≡ None) × IsRun names verilog chosen ifindex held outputs
+IsOutcome (AskSim names verilog chosen ifindex clocks) held end outputs = IsSimulated names verilog chosen ifindex clocks held end outputs
+IsOutcome (AskRef names chosen ifindex) held end outputs = (end ≡ None) × IsReference names chosen ifindex held outputs
 
 -- the ends that a command may come to where its inputs are in their forms, faults aside
 abbrev pub EndsItself : Request → Status → Type 0
 EndsItself (AskCompile object verilog chosen) s = s ≡ status.Done
-EndsItself (AskRun names chosen ifindex) s = s ≡ status.Done
-EndsItself (AskSim names chosen ifindex clocks) s = (s ≡ status.Done) ⊎ ((s ≡ status.XValue) ⊎ (s ≡ status.Late))
+EndsItself (AskRun names verilog chosen ifindex) s = s ≡ status.Done
+EndsItself (AskSim names verilog chosen ifindex clocks) s = (s ≡ status.Done) ⊎ ((s ≡ status.XValue) ⊎ (s ≡ status.Late))
+EndsItself (AskRef names chosen ifindex) s = s ≡ status.Done
 
 -- a fault of a name, or want of memory
 abbrev pub IsFault : Status → Type 0

@@ -1,5 +1,5 @@
 -- The texts of answers: a capture of them, and a verdict line for each.
-use Rattle.std.specs.Prelude.{ℕ, zero, suc, Bool, true, false, List, [], ◌∷◌, ◌++◌, length, map, slice_index_or}
+use Rattle.std.specs.Prelude.{ℕ, zero, suc, Bool, if◌then◌else◌, Option, Some, None, List, [], ◌∷◌, ◌++◌, length, map, slice_index_or}
 use Rattle.pcap_core.specs.declared.order.Order.TheVariants.{Little}
 use Rattle.pcap_core.specs.Format.{Packet, header_bytes, record_bytes}
 use Rattle.pcap_core.specs.Time.{timed_of}
@@ -59,10 +59,10 @@ came_by ifindex packets = map (arrival_of ifindex) packets
 abbrev pub result_files : Names → ℕ → List Packet → List Answer → List File
 result_files names magic packets answers = file names.answer (answer_bytes magic packets answers) ∷ file names.verdicts (verdict_lines answers) ∷ []
 
--- the final maps, where they are written: there are no maps so far
-abbrev pub final_files : Names → Bool → List File
-final_files names true = file names.final_maps [] ∷ []
-final_files names false = []
+-- the text of the final maps, where they are written
+abbrev pub final_files : Names → Option (List ℕ) → List File
+final_files names (Some text) = file names.final_maps text ∷ []
+final_files names None = []
 
 -- ---- the order in which they are written
 -- of each of the first n packets the record of its answer, and then its verdict line
@@ -71,12 +71,12 @@ packet_writes names packets answers zero = []
 packet_writes names packets answers (suc n) =
     packet_writes names packets answers n ++ Append names.answer (record_at packets answers n) ∷ Append names.verdicts (line_at answers n) ∷ []
 
-abbrev pub final_writes : Names → Bool → List Write
-final_writes names true = file_writes names.final_maps []
-final_writes names false = []
+abbrev pub final_writes : Names → Option (List ℕ) → List Write
+final_writes names (Some text) = file_writes names.final_maps text
+final_writes names None = []
 
 -- The answer is begun, and its header written; the verdicts are begun; then comes packet by packet, and the final maps come last.
-abbrev pub result_writes : Names → ℕ → List Packet → List Answer → Bool → List Write
+abbrev pub result_writes : Names → ℕ → List Packet → List Answer → Option (List ℕ) → List Write
 result_writes names magic packets answers finals =
     file_writes names.answer (answer_header magic) ++ Begin names.verdicts ∷ (packet_writes names packets answers (length answers) ++ final_writes names finals)
 
@@ -84,14 +84,26 @@ result_writes names magic packets answers finals =
 abbrev pub compile_outputs : List ℕ → List ℕ → Outputs
 compile_outputs verilog text = record { files = file verilog text ∷ []; writes = file_writes verilog text }
 
-abbrev pub run_outputs : Names → List ℕ → ℕ → List Packet → List Answer → Outputs
-run_outputs names text magic packets answers = record {
-  files = file names.verilog text ∷ (result_files names magic packets answers ++ final_files names true);
-  writes = file_writes names.verilog text ++ result_writes names magic packets answers true;
-}
-
-abbrev pub sim_outputs : Names → ℕ → List Packet → List Answer → Bool → Outputs
-sim_outputs names magic packets answers finals = record {
+-- of the answers and the text of the final maps
+abbrev pub result_outputs : Names → ℕ → List Packet → List Answer → Option (List ℕ) → Outputs
+result_outputs names magic packets answers finals = record {
   files = result_files names magic packets answers ++ final_files names finals;
   writes = result_writes names magic packets answers finals;
 }
+
+-- the text of no maps
+abbrev pub no_maps : List ℕ
+no_maps = []
+
+abbrev pub run_outputs : Names → List ℕ → List ℕ → ℕ → List Packet → List Answer → Outputs
+run_outputs names verilog text magic packets answers = record {
+  files = file verilog text ∷ (result_files names magic packets answers ++ final_files names (Some no_maps));
+  writes = file_writes verilog text ++ result_writes names magic packets answers (Some no_maps);
+}
+
+-- the final maps only where all answers are there
+abbrev pub finals_if : Bool → Option (List ℕ)
+finals_if whole = if whole then Some no_maps else None
+
+abbrev pub sim_outputs : Names → ℕ → List Packet → List Answer → Bool → Outputs
+sim_outputs names magic packets answers whole = result_outputs names magic packets answers (finals_if whole)

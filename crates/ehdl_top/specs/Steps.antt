@@ -1,6 +1,8 @@
 -- What the steps of a command give each other.
 use Rattle.std.specs.Prelude.{◌≡◌, ◌≢◌, ◌⊎◌, ℕ, ◌<◌, ◌≤◌, ◌^◌, IsTrue, List, [], length, map, Option, Some, None, is_none, Result, Ok, Err}
 use Rattle.std.specs.List.{AllByRecursion}
+use Rattle.std.specs.declared.vec.Vec.{Vec}
+use Rattle.std.specs.declared.alloc.Global.{Global}
 use Rattle.shelf_core.specs.Shelf.{Rose}
 use Rattle.beat_core.specs.Laws.{IsPacket}
 use Rattle.beat_core.specs.declared.frame.Timed.{Timed}
@@ -13,13 +15,18 @@ use Rattle.port_drive.specs.Reports.{full_drive}
 use Rattle.xdp_object.specs.Program.{XdpProgram}
 use Rattle.xdp_object.specs.Choice.{Chosen}
 use Rattle.xdp_maps.specs.State.{MapState, opened_state}
-use Rattle.ehdl_build.specs.Compiled.{PipelineSize, HasSize, IsSequential, Realizes}
-use Rattle.command_line.specs.Request.{Request, AskCompile, AskRun, AskSim, Names}
+use Rattle.maps_text.specs.Writing.{text_of}
+use Rattle.ehdl_build.specs.Compiled.{PipelineSize, HasSize, IsSequential, Realizes, answer_of}
+use Rattle.xdp_machine.specs.State.{Code, PacketIn, start}
+use Rattle.xdp_machine.specs.Runs.{Leaves, Ended, IsRun, run}
+use Rattle.unfold_core.specs.declared.unfolding.Unfolded.{Unfolded}
+use Rattle.unfold_core.specs.Unfolding.{IsUnfolded}
+use Rattle.command_line.specs.Request.{Request, AskCompile, AskRun, AskSim, AskRef, Names}
 use Rattle.ehdl_top.specs.States.{ShelfState, Changes, OneRose}
-use Rattle.ehdl_top.specs.Forms.{InputForm, IsFaulty, IsAccepted, IsTextFault, IsCaptured}
+use Rattle.ehdl_top.specs.Forms.{InputForm, IsFaulty, IsTaken, built, accepted, IsTextFault, IsCaptured}
 use Rattle.ehdl_top.specs.Inputs.{FirstStop, OneUnread, EndsAtInput}
 use Rattle.ehdl_top.specs.Writes.{Write, Begin, Append}
-use Rattle.ehdl_top.specs.Results.{timed_packets, came_by, run_outputs, sim_outputs}
+use Rattle.ehdl_top.specs.Results.{timed_packets, came_by, run_outputs, result_outputs, sim_outputs}
 use Rattle.ehdl_top.specs.Outcome.{drive_error}
 use Rattle.ehdl_top.specs.Requests.{inputs_of, outputs_of, EndsItself}
 use Rattle.ehdl_top.specs.Ends.{HasWritten, HasBroken}
@@ -66,7 +73,7 @@ pub record IsRealized (text : List ℕ) (program : XdpProgram) (size : PipelineS
 -- a text that realizes the program of an object
 pub record IsTextFor (choice : Chosen) (bytes text : List ℕ) : Type 0 where
   pub program : XdpProgram
-  pub accepted : IsAccepted choice bytes program
+  pub taken : IsTaken choice built bytes program
   pub size : PipelineSize
   pub realized : IsRealized text program size
 
@@ -103,17 +110,44 @@ pub record IsDriven (design : Netlist) (ifindex : ℕ) (packets : List Timed) (c
   pub few : length d.answers ≤ length packets
   pub end : d.end ≡ drive_error design (length packets) (full_drive design ifindex (first_stored design) packets clocks) (full_drive design ifindex (first_stored design) packets clocks).ended
 
+-- ---- sequential execution
+-- a packet that comes by an interface, as the machine takes it
+abbrev pub packet_in : ℕ → Timed → PacketIn
+packet_in ifindex p = record { frame = p.frame; ifindex = ifindex; time = p.time }
+
+-- its run ends within the steps that a run may take
+abbrev pub HasEnd : Code → PacketIn → MapState → Type 0
+HasEnd code packet maps = (e : Leaves) × (run code 1048576 (start packet maps) ≡ Ended e)
+
+-- its run leaves this answer, and these maps
+pub record LeavesAs (code : Code) (packet : PacketIn) (maps : MapState) (answer : Answer) (after : MapState) : Type 0 where
+  pub left : Leaves
+  pub ran : IsRun code packet maps left
+  pub answer_is : answer ≡ answer_of left
+  pub maps_are : after ≡ left.maps
+
+-- an object's program that was unfolded
+pub record IsUnfoldedBy (choice : Chosen) (bytes : List ℕ) (program : XdpProgram) : Type 0 where
+  pub taken : IsTaken choice accepted bytes program
+  pub graph : Unfolded
+  pub unfolded : IsUnfolded program graph
+
 -- ---- outputs
 abbrev pub write_of : code.Write → Write
 write_of (write.Begin name) = Begin name.now
 write_of (write.Append name bytes) = Append name.now bytes.items
 
+-- the text of the final maps, if there is one
+abbrev pub text_in : Option (Vec ℕ Global) → Option (List ℕ)
+text_in None = None
+text_in (Some text) = Some text.items
+
 -- the writes of a run of these packets, and its answers
-pub record IsRunOf (names : Names) (text : List ℕ) (program : XdpProgram) (ifindex magic : ℕ) (packets : List Packet) (writes : List code.Write) : Type 0 where
+pub record IsRunOf (names : Names) (verilog text : List ℕ) (program : XdpProgram) (ifindex magic : ℕ) (packets : List Packet) (writes : List code.Write) : Type 0 where
   pub answers : List Answer
   pub final : MapState
   pub runs : IsSequential program (opened_state program.decls) (came_by ifindex (timed_packets magic packets)) answers final
-  pub writes_are : map write_of writes ≡ (run_outputs names text magic packets answers).writes
+  pub writes_are : map write_of writes ≡ (run_outputs names verilog text magic packets answers).writes
 
 -- the writes and the end of a simulation over these packets
 pub record IsSimOf (names : Names) (design : Netlist) (ifindex clocks magic : ℕ) (packets : List Packet) (simulated : Simulated) : Type 0 where
@@ -122,11 +156,21 @@ pub record IsSimOf (names : Names) (design : Netlist) (ifindex clocks magic : �
   pub end_is : simulated.end ≡ drive_error design (length packets) drive drive.ended
   pub writes_are : map write_of simulated.writes.items ≡ (sim_outputs names magic packets (answers_given [] drive.trace) (is_none simulated.end)).writes
 
--- no two of the files that may be written have one name
+-- the writes of sequential execution alone
+pub record IsReferenceOf (names : Names) (program : XdpProgram) (ifindex magic : ℕ) (packets : List Packet) (writes : List code.Write) : Type 0 where
+  pub answers : List Answer
+  pub final : MapState
+  pub runs : IsSequential program (opened_state program.decls) (came_by ifindex (timed_packets magic packets)) answers final
+  pub writes_are : map write_of writes ≡ (result_outputs names magic packets answers (Some (text_of final))).writes
+
+-- the text is none of the files that may be written beside it
+pub record IsTextApart (names : Names) (verilog : List ℕ) : Type 0 where
+  pub answer : verilog ≢ names.answer
+  pub verdicts : verilog ≢ names.verdicts
+  pub final : verilog ≢ names.final_maps
+
+-- no two of these have one name
 pub record AreApart (names : Names) : Type 0 where
-  pub verilog_answer : names.verilog ≢ names.answer
-  pub verilog_verdicts : names.verilog ≢ names.verdicts
-  pub verilog_final : names.verilog ≢ names.final_maps
   pub answer_verdicts : names.answer ≢ names.verdicts
   pub answer_final : names.answer ≢ names.final_maps
   pub verdicts_final : names.verdicts ≢ names.final_maps
@@ -135,8 +179,9 @@ pub record AreApart (names : Names) : Type 0 where
 -- no two of the files that a command may write have one name
 abbrev pub NamesApart : Request → Type 0
 NamesApart (AskCompile object verilog chosen) = Unit {0}
-NamesApart (AskRun names chosen ifindex) = AreApart names
-NamesApart (AskSim names chosen ifindex clocks) = AreApart names
+NamesApart (AskRun names verilog chosen ifindex) = AreApart names × IsTextApart names verilog
+NamesApart (AskSim names verilog chosen ifindex clocks) = AreApart names
+NamesApart (AskRef names chosen ifindex) = AreApart names
 
 -- a write failed
 pub record FailsWrite (request : Request) (old new : ShelfState) : Type 0 where

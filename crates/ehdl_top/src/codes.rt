@@ -1,21 +1,34 @@
 // The texts of lines: words, codes and numbers in decimal.
 
 ghost use Rattle.std.specs.Prelude.{◌≡◌, ◌++◌, IfOk, codes, decimal};
-ghost use Rattle.ehdl_top.specs.Lines.{capture_code, verilog_code, why_code};
+ghost use Rattle.ehdl_top.specs.Lines.{capture_code, verilog_code, refusal_code};
 
 use crate::line::push_decimal;
-use ehdl_build::Why;
+use kind_core::{Refusal, Why};
 use pcap_core::PcapError;
 use std::alloc::{AllocError, Global};
 use verilog_read::ReadError;
 
-/// The number of the reason why a program is refused.
-pub(crate) fn why_code(why: Why) -> u64
-    ensures { result ≡ why_code why }
+/// The line of a refusal.
+pub(crate) fn refusal_line(alloc: Global, refusal: Refusal) -> Result<Vec<u8>, AllocError>
+    ensures { IfOk result (λ line. line.items ≡ codes "refused " ++ refusal_code refusal ++ codes "\n") }
 {
-    match why {
-        Why::Instruction => 1,
+    let code = refusal_code(alloc, refusal)?;
+    named(alloc, b"refused ", &code)
+}
+
+// The place, the number of the reason, and that of an unknown helper.
+fn refusal_code(alloc: Global, refusal: Refusal) -> Result<Vec<u8>, AllocError>
+    ensures { IfOk result (λ text. text.items ≡ refusal_code refusal) }
+{
+    let mut text = Vec::new(alloc);
+    push_decimal(&mut text, refusal.at, b" ")?;
+    push_decimal(&mut text, refusal.why.number(), b"")?;
+    if let Why::Helper(id) = refusal.why {
+        text.extend_from_slice(b" ")?;
+        push_decimal(&mut text, id, b"")?;
     }
+    Ok(text)
 }
 
 /// A line of a word and a name.

@@ -15,6 +15,7 @@ ghost use Rattle.ehdl_top.specs.declared.error.CommandError.{CommandError};
 
 use crate::compile::compile_file;
 use crate::error::CommandError;
+use crate::reference::ref_files;
 use crate::run::run_files;
 use crate::sim::sim_files;
 use crate::status::Status;
@@ -39,15 +40,22 @@ fn run_command<S: Shelf>(
         } => compile_file(alloc, shelf, object, verilog, *choice),
         Command::Run {
             files,
+            verilog,
             choice,
             ifindex,
-        } => run_files(alloc, shelf, files, *choice, *ifindex),
+        } => run_files(alloc, shelf, files, verilog, *choice, *ifindex),
         Command::Sim {
             files,
+            verilog,
             choice,
             ifindex,
             clocks,
-        } => sim_files(alloc, shelf, files, *choice, *ifindex, *clocks),
+        } => sim_files(alloc, shelf, files, verilog, *choice, *ifindex, *clocks),
+        Command::Ref {
+            files,
+            choice,
+            ifindex,
+        } => ref_files(alloc, shelf, files, *choice, *ifindex),
     }
 }
 
@@ -88,7 +96,7 @@ fn report<O: Sink>(alloc: Global, error: &CommandError, out: &mut O) -> Status
 
 /// All that the program does, on the words that it is called with. `compile` compiles an object to a Verilog text. `run` writes
 /// the same text, simulates its bytes clock by clock over a capture, and writes what its ports gave. `sim` simulates a Verilog
-/// text that is there, in at most so many clocks. Of every way to end but [`Status::Done`] one line is put to the sink.
+/// text that is there, in at most so many clocks. `ref` runs the object's program over a capture, one instruction after another. Of every way to end but [`Status::Done`] one line is put to the sink.
 pub fn top<S: Shelf, O: Sink>(alloc: Global, words: &Words, shelf: &mut S, out: &mut O) -> Status
     // What is written: a text that realizes the object's program, and what sequential execution on the capture gives; of a text
     // that is given, what its full drive gives. It is written in the command's order.

@@ -5,9 +5,9 @@ ghost use Rattle.ehdl_top.specs.Lines.{line_of};
 ghost use Rattle.ehdl_top.specs.Status.{status_of};
 ghost use Rattle.ehdl_top.specs.Steps.{bytes_of, IsFixed};
 
-use crate::codes::{capture_line, named, numbered, verilog_line, why_code};
+use crate::codes::{capture_line, named, numbered, refusal_line, verilog_line};
 use crate::status::Status;
-use ehdl_build::Why;
+use kind_core::Refusal;
 use pcap_core::PcapError;
 use shelf_core::Failed;
 use std::alloc::{AllocError, Global};
@@ -69,8 +69,8 @@ pub(crate) enum CommandError {
     Usage,
     /// The object is none: its first fault.
     Object(ObjectError),
-    /// The object's program is refused at this place.
-    Refused { at: u32, why: Why },
+    /// The object's program is refused.
+    Refused(Refusal),
     /// The Verilog text is longer than its limit.
     LongVerilog,
     /// The Verilog text is not in the subset.
@@ -121,7 +121,7 @@ impl CommandError {
         match self {
             CommandError::Usage => Status::Usage,
             CommandError::Object(_) => Status::Object,
-            CommandError::Refused { .. } => Status::Refused,
+            CommandError::Refused(_) => Status::Refused,
             CommandError::LongVerilog | CommandError::Verilog(_) => Status::Input,
             CommandError::LongCapture | CommandError::Capture(_) => Status::Input,
             CommandError::ReadFault => Status::ReadFault,
@@ -145,12 +145,7 @@ impl CommandError {
             CommandError::WriteFault => return Ok(Line::Fixed(b"write fault\n")),
             CommandError::NoMemory => return Ok(Line::Fixed(b"no memory\n")),
             CommandError::Object(fault) => named(alloc, b"object ", &fault.code(alloc)?)?,
-            CommandError::Refused { at, why } => numbered(
-                alloc,
-                b"refused ",
-                u64::from(*at),
-                why_code(*why),
-            )?,
+            CommandError::Refused(refusal) => refusal_line(alloc, *refusal)?,
             CommandError::Verilog(fault) => verilog_line(alloc, *fault)?,
             CommandError::Capture(fault) => capture_line(alloc, *fault)?,
             CommandError::XValue(net) => named(alloc, b"x value ", net.as_bytes())?,

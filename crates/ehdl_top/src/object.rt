@@ -4,15 +4,23 @@ ghost use Rattle.std.specs.Prelude.{◌≡◌, ◌≢◌, ◌⊎◌, ℕ, List, 
 ghost use Rattle.xdp_object.specs.Object.{IsObject};
 ghost use Rattle.xdp_object.specs.Program.{XdpProgram};
 ghost use Rattle.xdp_object.specs.Choice.{chosen_of};
-ghost use Rattle.ehdl_top.specs.Forms.{object_form, program_form};
-ghost use Rattle.ehdl_top.specs.Steps.{IsTextFor, IsGivenUp};
+ghost use Rattle.ehdl_top.specs.Forms.{IsTaken, program_form, built, accepted, without_maps};
+ghost use Rattle.ehdl_top.specs.Steps.{IsTextFor, IsUnfoldedBy, IsGivenUp};
 
 use crate::error::CommandError;
 use crate::form::Form;
 use crate::limits::OBJECT_LIMIT;
 use ehdl_build::{CompileError, compile};
+use kind_core::{BuildError, Refusal, Why};
 use std::alloc::Global;
-use xdp_object::{Choice, ObjectError, read_object};
+use unfold_core::unfold;
+use xdp_object::{Choice, ObjectError, Program, read_object};
+
+/// The refusal of maps where they are not simulated yet.
+const NOT_YET: Refusal = Refusal {
+    at: 0,
+    why: Why::Instruction,
+};
 
 /// An object of a program that is compiled. Its Verilog text is what is read.
 #[derive(Clone, Copy)]
@@ -23,7 +31,7 @@ pub(crate) struct ProgramForm<'a> {
 impl Form for ProgramForm<'_> {
     type Value = Vec<u8>;
 
-    ghost form = { λ f. program_form (chosen_of f.choice) };
+    ghost form = { λ f. program_form (chosen_of f.choice) built };
 
     ghost Gives = { λ f bytes text. IsTextFor (chosen_of f.choice) bytes text.items };
 
@@ -40,7 +48,33 @@ impl Form for ProgramForm<'_> {
     }
 }
 
-/// An object, which is read for its maps alone, of which there are none so far.
+/// An object of an accepted program, which is what is read.
+#[derive(Clone, Copy)]
+pub(crate) struct AcceptedForm<'a> {
+    pub(crate) choice: Choice<'a>,
+}
+
+impl Form for AcceptedForm<'_> {
+    type Value = Program;
+
+    ghost form = { λ f. program_form (chosen_of f.choice) accepted };
+
+    ghost Gives = { λ f bytes program. IsUnfoldedBy (chosen_of f.choice) bytes program };
+
+    fn limit(&self) -> u64 {
+        OBJECT_LIMIT
+    }
+
+    fn too_long(&self) -> CommandError {
+        CommandError::Object(ObjectError::Long)
+    }
+
+    fn read(&self, alloc: Global, bytes: &[u8]) -> Result<Program, CommandError> {
+        accepted_program(alloc, bytes, self.choice)
+    }
+}
+
+/// An object, which is read for its maps alone. For now it has to have none.
 #[derive(Clone, Copy)]
 pub(crate) struct ObjectForm<'a> {
     pub(crate) choice: Choice<'a>,
@@ -49,7 +83,7 @@ pub(crate) struct ObjectForm<'a> {
 impl Form for ObjectForm<'_> {
     type Value = ();
 
-    ghost form = { λ f. object_form (chosen_of f.choice) };
+    ghost form = { λ f. program_form (chosen_of f.choice) without_maps };
 
     ghost Gives = { λ _ _ _. Unit {0} };
 
@@ -69,23 +103,44 @@ impl Form for ObjectForm<'_> {
 // The Verilog text of an object.
 fn text_of(alloc: Global, object: &[u8], choice: Choice) -> Result<Vec<u8>, CommandError>
     ensures text { IfOk result (λ text. IsTextFor (chosen_of choice.entry) object.now text.items) }
-    ensures given_up { IfErr result (IsGivenUp (program_form (chosen_of choice.entry)) object.now) }
+    ensures given_up { IfErr result (IsGivenUp (program_form (chosen_of choice.entry) built) object.now) }
 {
     match compile(alloc, object, choice) {
         Ok(built) => Ok(built.text),
         Err(CompileError::Object(fault)) => Err(CommandError::Object(fault)),
-        Err(CompileError::Refused { at, why }) => Err(CommandError::Refused { at, why }),
+        Err(CompileError::Refused(refusal)) => Err(CommandError::Refused(refusal)),
         Err(CompileError::NoMemory) => Err(CommandError::NoMemory),
     }
 }
 
-// Whether these bytes are an object.
+// The accepted program of an object.
+fn accepted_program(
+    alloc: Global,
+    object: &[u8],
+    choice: Choice,
+) -> Result<Program, CommandError>
+    ensures program { IfOk result (IsUnfoldedBy (chosen_of choice.entry) object.now) }
+    ensures given_up { IfErr result (IsGivenUp (program_form (chosen_of choice.entry) accepted) object.now) }
+{
+    let program = match read_object(alloc, object, choice) {
+        Ok(program) => program,
+        Err(error) => return Err(error_of(error)),
+    };
+    match unfold(alloc, &program) {
+        Ok(_graph) => Ok(program),
+        Err(BuildError::Refused(refusal)) => Err(CommandError::Refused(refusal)),
+        Err(BuildError::NoMemory) => Err(CommandError::NoMemory),
+    }
+}
+
+// Whether these bytes are an object of a program without maps.
 fn read_alone(alloc: Global, object: &[u8], choice: Choice) -> Result<(), CommandError>
-    ensures object { OnOk result ((program : XdpProgram) × IsObject (chosen_of choice.entry) object.now program) }
-    ensures given_up { IfErr result (IsGivenUp (object_form (chosen_of choice.entry)) object.now) }
+    ensures object { OnOk result ((program : XdpProgram) × IsTaken (chosen_of choice.entry) without_maps object.now program) }
+    ensures given_up { IfErr result (IsGivenUp (program_form (chosen_of choice.entry) without_maps) object.now) }
 {
     match read_object(alloc, object, choice) {
-        Ok(_program) => Ok(()),
+        Ok(program) if program.decls().is_empty() => Ok(()),
+        Ok(_) => Err(CommandError::Refused(NOT_YET)),
         Err(error) => Err(error_of(error)),
     }
 }

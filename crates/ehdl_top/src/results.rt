@@ -5,7 +5,7 @@ ghost use Rattle.pcap_core.specs.Format.{Packet};
 ghost use Rattle.command_line.specs.Request.{names_of};
 ghost use Rattle.ehdl_top.specs.Writes.{Append};
 ghost use Rattle.ehdl_top.specs.Results.{record_at, line_at, packet_writes, result_writes};
-ghost use Rattle.ehdl_top.specs.Steps.{IsCaptureOf, stamp_of, write_of};
+ghost use Rattle.ehdl_top.specs.Steps.{IsCaptureOf, stamp_of, text_in, write_of};
 
 use crate::line::verdict_line;
 use crate::packets::{Captured, Stamp};
@@ -86,24 +86,24 @@ fn push_packets<'a>(
     Ok(())
 }
 
-/// Adds the writes of answers and verdicts, and then of the final maps if they are asked for: there are no maps so far.
+/// Adds the writes of answers and verdicts, and then of the text of the final maps, if there is one.
 pub(crate) fn push_results<'a>(
     alloc: Global,
     writes: &mut Vec<Write<'a>>,
     files: &Files<'a>,
     capture: &Captured,
     answers: &Answers,
-    finals: bool,
+    finals: Option<Vec<u8>>,
 ) -> Result<(), AllocError>
     requires { length answers.now ≤ length capture.now.stamps.items }
-    ensures { OnOk result ((packets : List Packet) → IsCaptureOf capture.now packets → map write_of writes.new.items ≡ map write_of writes.old.items ++ result_writes (names_of files.now) capture.now.magic packets answers.now finals) }
+    ensures { OnOk result ((packets : List Packet) → IsCaptureOf capture.now packets → map write_of writes.new.items ≡ map write_of writes.old.items ++ result_writes (names_of files.now) capture.now.magic packets answers.now (text_in finals)) }
 {
     let header = Vec::from_slice(alloc, &write_header(capture.magic))?;
     push_file(writes, files.answer, header)?;
     writes.push(Write::Begin(files.verdicts))?;
     push_packets(alloc, writes, files, &capture.stamps, answers)?;
-    if finals {
-        push_file(writes, files.final_maps, Vec::new(alloc))?;
+    if let Some(text) = finals {
+        push_file(writes, files.final_maps, text)?;
     }
     Ok(())
 }

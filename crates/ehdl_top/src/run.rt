@@ -7,7 +7,7 @@ ghost use Rattle.ehdl_build.specs.Compiled.{PipelineSize};
 ghost use Rattle.xdp_object.specs.Choice.{chosen_of};
 ghost use Rattle.command_line.specs.Request.{AskRun, names_of};
 ghost use Rattle.ehdl_top.specs.States.{state_of};
-ghost use Rattle.ehdl_top.specs.Steps.{AreApart, EndsIn, IsCaptureOf, IsRealized, IsRunOf};
+ghost use Rattle.ehdl_top.specs.Steps.{AreApart, IsTextApart, EndsIn, IsCaptureOf, IsRealized, IsRunOf};
 
 use crate::drive::answers_of;
 use crate::error::CommandError;
@@ -24,18 +24,20 @@ use std::alloc::{AllocError, Global};
 fn run_writes<'a>(
     alloc: Global,
     files: &Files<'a>,
+    verilog: &'a str,
     text: Vec<u8>,
     capture: &Captured,
     ifindex: u32,
 ) -> Result<Vec<Write<'a>>, AllocError>
     requires realized { (program : XdpProgram) × (size : PipelineSize) × IsRealized text.items program size }
     requires captured { (packets : List Packet) × IsCaptureOf capture.now packets }
-    ensures { IfOk result (λ writes. (program : XdpProgram) (size : PipelineSize) → IsRealized text.items program size → (packets : List Packet) → IsCaptureOf capture.now packets → IsRunOf (names_of files.now) text.items program ifindex capture.now.magic packets writes.items) }
+    ensures { IfOk result (λ writes. (program : XdpProgram) (size : PipelineSize) → IsRealized text.items program size → (packets : List Packet) → IsCaptureOf capture.now packets → IsRunOf (names_of files.now) verilog.now text.items program ifindex capture.now.magic packets writes.items) }
 {
     let answers = answers_of(alloc, &text, &capture.packets, ifindex)?;
     let mut writes = Vec::new(alloc);
-    push_file(&mut writes, files.verilog, text)?;
-    push_results(alloc, &mut writes, files, capture, &answers, true)?;
+    push_file(&mut writes, verilog, text)?;
+    let no_maps = Vec::new(alloc);
+    push_results(alloc, &mut writes, files, capture, &answers, Some(no_maps))?;
     Ok(writes)
 }
 
@@ -44,15 +46,17 @@ pub(crate) fn run_files<S: Shelf>(
     alloc: Global,
     shelf: &mut S,
     files: &Files,
+    verilog: &str,
     choice: Choice,
     ifindex: u32,
 ) -> Result<(), CommandError>
-    requires { AreApart (names_of files.now) }
-    ensures { EndsIn (AskRun (names_of files.now) (chosen_of choice.entry) ifindex) (state_of S.Shelf shelf.old) (state_of S.Shelf shelf.new) result }
+    requires apart { AreApart (names_of files.now) }
+    requires text { IsTextApart (names_of files.now) verilog.now }
+    ensures { EndsIn (AskRun (names_of files.now) verilog.now (chosen_of choice.entry) ifindex) (state_of S.Shelf shelf.old) (state_of S.Shelf shelf.new) result }
 {
     let text = read_input(alloc, shelf, files.object, &ProgramForm { choice })?;
     let capture = read_input(alloc, shelf, files.capture, &CaptureForm)?;
-    let writes = run_writes(alloc, files, text, &capture, ifindex)?;
+    let writes = run_writes(alloc, files, verilog, text, &capture, ifindex)?;
     write_all(shelf, &writes)?;
     Ok(())
 }

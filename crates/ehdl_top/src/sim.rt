@@ -50,7 +50,8 @@ fn simulate<'a>(
         u64::from(clocks),
     )?;
     let mut writes = Vec::new(alloc);
-    push_results(alloc, &mut writes, files, capture, &answers, end.is_none())?;
+    let finals = if end.is_none() { Some(Vec::new(alloc)) } else { None };
+    push_results(alloc, &mut writes, files, capture, &answers, finals)?;
     Ok(Simulated { writes, end })
 }
 
@@ -60,15 +61,16 @@ pub(crate) fn sim_files<S: Shelf>(
     alloc: Global,
     shelf: &mut S,
     files: &Files,
+    verilog: &str,
     choice: Choice,
     ifindex: u32,
     clocks: u32,
 ) -> Result<(), CommandError>
     requires { AreApart (names_of files.now) }
-    ensures { EndsIn (AskSim (names_of files.now) (chosen_of choice.entry) ifindex clocks) (state_of S.Shelf shelf.old) (state_of S.Shelf shelf.new) result }
+    ensures { EndsIn (AskSim (names_of files.now) verilog.now (chosen_of choice.entry) ifindex clocks) (state_of S.Shelf shelf.old) (state_of S.Shelf shelf.new) result }
 {
     read_input(alloc, shelf, files.object, &ObjectForm { choice })?;
-    let design = read_input(alloc, shelf, files.verilog, &TextForm)?;
+    let design = read_input(alloc, shelf, verilog, &TextForm)?;
     let capture = read_input(alloc, shelf, files.capture, &CaptureForm)?;
     let simulated = simulate(alloc, files, design, &capture, ifindex, clocks)?;
     let Simulated { writes, end } = simulated;

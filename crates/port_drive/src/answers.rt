@@ -57,8 +57,8 @@ impl Answers {
         &self.items[i]
     }
 
-    // One more answer. An `Err` changes nothing.
-    fn add(&mut self, answer: Answer) -> Result<(), AllocError>
+    /// One more answer. An `Err` changes nothing.
+    pub fn push(&mut self, answer: Answer) -> Result<(), AllocError>
         ensures ok { OnOk result (self.new ≡ self.old ++ answer ∷ []) }
         ensures err { OnErr result (self.new ≡ self.old) }
     {
@@ -89,7 +89,7 @@ pub(crate) fn take_shown(
         return Ok(false);
     }
     let frame = std::mem::replace(begun, Bytes::new(alloc));
-    answers.add(Answer {
+    answers.push(Answer {
         verdict: shown.out_verdict,
         target: shown.out_target,
         frame,

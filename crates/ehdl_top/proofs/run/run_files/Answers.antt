@@ -17,7 +17,7 @@ use Rattle.ehdl_top.proofs.run.run_files.Goals as goal
 pub returns-in_err-write_all : goal.returns-in_err-write_all
 returns-in_err-write_all g c =
     let names = names_of c.args.files.now in
-    let request = AskRun names (chosen_of c.args.choice) c.args.ifindex in
+    let request = AskRun names c.args.verilog.now (chosen_of c.args.choice) c.args.ifindex in
     let old = state_of g.S.Shelf c.args.shelf.now in
     let read = state_of g.S.Shelf c.read_input.new.shelf in
     let mid = state_of g.S.Shelf c.read_input-2.new.shelf in
@@ -27,15 +27,15 @@ returns-in_err-write_all g c =
     let run = c.in_ok-writes.ensures object.2.program object.2.size object.2.realized capture.2.packets capture.2.of in
     let P : List code.Write → Type 0 = λ ws. OneFailed (map write_of ws) mid new in
     ends_unwritten request None old mid new (map write_of c.in_ok-writes.writes.items) c.from_residual-in_err-write_all.result c.from_residual-in_err-write_all.ensures.1
-    (of_as (outputs_of request) (map write_of c.in_ok-writes.writes.items) (run_outputs names c.in_ok-text.text.items c.in_ok-capture.capture.magic capture.2.packets run.answers).writes run.writes_are (run_of names c.in_ok-text.text.items c.in_ok-capture.capture.magic capture.2.packets run.answers))
+    (of_as (outputs_of request) (map write_of c.in_ok-writes.writes.items) (run_outputs names c.args.verilog.now c.in_ok-text.text.items c.in_ok-capture.capture.magic capture.2.packets run.answers).writes run.writes_are (run_of names c.args.verilog.now c.in_ok-text.text.items c.in_ok-capture.capture.magic capture.2.packets run.answers))
     (changes_then [] old read mid c.read_input.ensures.kept c.read_input-2.ensures.kept)
-    (run_makes names (chosen_of c.args.choice) c.args.ifindex old read object.0 capture.0 c.in_ok-text.text.items c.in_ok-capture.capture.magic capture.2.packets c.in_ok-writes.writes.items c.requires c.read_input.ensures.kept object.1 object.2 capture.1 capture.2.is run)
+    (run_makes names c.args.verilog.now (chosen_of c.args.choice) c.args.ifindex old read object.0 capture.0 c.in_ok-text.text.items c.in_ok-capture.capture.magic capture.2.packets c.in_ok-writes.writes.items c.requires.apart c.requires.text c.read_input.ensures.kept object.1 object.2 capture.1 capture.2.is run)
     (subst P c.deref.ensures.value c.in_err-write_all.ensures.failed)
 
 pub returns : goal.returns
 returns g c =
     let names = names_of c.args.files.now in
-    let request = AskRun names (chosen_of c.args.choice) c.args.ifindex in
+    let request = AskRun names c.args.verilog.now (chosen_of c.args.choice) c.args.ifindex in
     let old = state_of g.S.Shelf c.args.shelf.now in
     let read = state_of g.S.Shelf c.read_input.new.shelf in
     let mid = state_of g.S.Shelf c.read_input-2.new.shelf in
@@ -45,7 +45,7 @@ returns g c =
     let run = c.in_ok-writes.ensures object.2.program object.2.size object.2.realized capture.2.packets capture.2.of in
     let P : List code.Write → Type 0 = λ ws. AreDone (map write_of ws) mid new in
     ends_done request old mid new (map write_of c.in_ok-writes.writes.items) refl
-    (of_as (outputs_of request) (map write_of c.in_ok-writes.writes.items) (run_outputs names c.in_ok-text.text.items c.in_ok-capture.capture.magic capture.2.packets run.answers).writes run.writes_are (run_of names c.in_ok-text.text.items c.in_ok-capture.capture.magic capture.2.packets run.answers))
+    (of_as (outputs_of request) (map write_of c.in_ok-writes.writes.items) (run_outputs names c.args.verilog.now c.in_ok-text.text.items c.in_ok-capture.capture.magic capture.2.packets run.answers).writes run.writes_are (run_of names c.args.verilog.now c.in_ok-text.text.items c.in_ok-capture.capture.magic capture.2.packets run.answers))
     (changes_then [] old read mid c.read_input.ensures.kept c.read_input-2.ensures.kept)
-    (run_makes names (chosen_of c.args.choice) c.args.ifindex old read object.0 capture.0 c.in_ok-text.text.items c.in_ok-capture.capture.magic capture.2.packets c.in_ok-writes.writes.items c.requires c.read_input.ensures.kept object.1 object.2 capture.1 capture.2.is run)
+    (run_makes names c.args.verilog.now (chosen_of c.args.choice) c.args.ifindex old read object.0 capture.0 c.in_ok-text.text.items c.in_ok-capture.capture.magic capture.2.packets c.in_ok-writes.writes.items c.requires.apart c.requires.text c.read_input.ensures.kept object.1 object.2 capture.1 capture.2.is run)
     (subst P c.deref.ensures.value c.in_ok-write_all.ensures.done)

@@ -1,10 +1,10 @@
-use Rattle.std.proofs.Common.{ℕ, List, ◌++◌, map, true, sym, ap, subst, ◌∙◌}
+use Rattle.std.proofs.Common.{ℕ, List, ◌++◌, map, Some, sym, ap, subst, ◌∙◌}
 use Rattle.xdp_maps.specs.State.{opened_state}
 use Rattle.beat_core.specs.declared.frame.Timed.{Timed}
 use Rattle.ehdl_build.specs.Compiled.{IsSequential}
 use Rattle.command_line.specs.Request.{names_of}
 use Rattle.ehdl_top.specs.Writes.{file_writes}
-use Rattle.ehdl_top.specs.Results.{came_by, result_writes}
+use Rattle.ehdl_top.specs.Results.{came_by, result_writes, no_maps}
 use Rattle.ehdl_top.specs.Steps.{IsRealized, write_of}
 use Rattle.ehdl_top.proofs.OutcomeLemmas.{counted}
 use Rattle.ehdl_top.proofs.run.run_writes.Goals as goal
@@ -28,6 +28,6 @@ returns c = λ program size realized packets of.
       runs = subst Q (c.deref-2.ensures.value ∙ of.timed) run.1;
       writes_are =
           c.in_ok-push_results.ensures packets of
-          ∙ ap (λ ws. ws ++ result_writes names c.args.capture.now.magic packets c.in_ok-answers.answers true)
-          (c.in_ok-push_file.ensures ∙ ap (λ items. map write_of items ++ file_writes names.verilog c.args.text.items) c.new-writes.ensures.items);
+          ∙ ap (λ ws. ws ++ result_writes names c.args.capture.now.magic packets c.in_ok-answers.answers (Some no_maps))
+          (c.in_ok-push_file.ensures ∙ ap (λ items. map write_of items ++ file_writes c.args.verilog.now c.args.text.items) c.new-writes.ensures.items);
     }

@@ -7,12 +7,12 @@ use Rattle.ehdl_top.specs.declared.error.CommandError.{CommandError}
 use Rattle.ehdl_top.specs.declared.write.Write as code
 use Rattle.ehdl_top.specs.States.{state_of}
 use Rattle.ehdl_top.specs.Writes.{AreDone, OneFailed}
-use Rattle.ehdl_top.specs.Results.{sim_outputs}
+use Rattle.ehdl_top.specs.Results.{sim_outputs, finals_if}
 use Rattle.ehdl_top.specs.Requests.{outputs_of}
 use Rattle.ehdl_top.specs.Steps.{write_of}
 use Rattle.ehdl_top.proofs.StateLemmas.{changes_then}
 use Rattle.ehdl_top.proofs.WriteLemmas.{of_as}
-use Rattle.ehdl_top.proofs.ResultLemmas.{sim_outputs_of}
+use Rattle.ehdl_top.proofs.ResultLemmas.{result_outputs_of}
 use Rattle.ehdl_top.proofs.OutcomeLemmas.{Makes, sim_makes}
 use Rattle.ehdl_top.proofs.EndLemmas.{ends_unwritten, ends_done, ends_driven, drive_ends}
 use Rattle.ehdl_top.proofs.sim.sim_files.Goals as goal
@@ -20,7 +20,7 @@ use Rattle.ehdl_top.proofs.sim.sim_files.Goals as goal
 pub returns-in_err-write_all : goal.returns-in_err-write_all
 returns-in_err-write_all g c =
     let names = names_of c.args.files.now in
-    let request = AskSim names (chosen_of c.args.choice) c.args.ifindex c.args.clocks in
+    let request = AskSim names c.args.verilog.now (chosen_of c.args.choice) c.args.ifindex c.args.clocks in
     let old = state_of g.S.Shelf c.args.shelf.now in
     let first = state_of g.S.Shelf c.read_input.new.shelf in
     let second = state_of g.S.Shelf c.read_input-2.new.shelf in
@@ -34,8 +34,8 @@ returns-in_err-write_all g c =
     let both = changes_then [] old first second c.read_input.ensures.kept c.read_input-2.ensures.kept in
     let same = changes_then [] old second mid both c.read_input-3.ensures.kept in
     let of = of_as (outputs_of request) (map write_of simulated.writes.items) (sim_outputs names c.in_ok-capture.capture.magic capture.2.packets (answers_given [] sim.drive.trace) (is_none simulated.end)).writes sim.writes_are
-    (sim_outputs_of names c.in_ok-capture.capture.magic capture.2.packets (answers_given [] sim.drive.trace) (is_none simulated.end)) in
-    let makes = sim_makes names (chosen_of c.args.choice) c.args.ifindex c.args.clocks old first second object.0 text.0 capture.0 (netlist_of c.in_ok-design.design) c.in_ok-capture.capture.magic capture.2.packets simulated c.requires c.read_input.ensures.kept both
+    (result_outputs_of names c.in_ok-capture.capture.magic capture.2.packets (answers_given [] sim.drive.trace) (finals_if (is_none simulated.end))) in
+    let makes = sim_makes names c.args.verilog.now (chosen_of c.args.choice) c.args.ifindex c.args.clocks old first second object.0 text.0 capture.0 (netlist_of c.in_ok-design.design) c.in_ok-capture.capture.magic capture.2.packets simulated c.requires c.read_input.ensures.kept both
     object.1 text.1 text.2 capture.1 capture.2.is sim in
     let P : List code.Write → Type 0 = λ ws. OneFailed (map write_of ws) mid new in
     ends_unwritten request simulated.end old mid new (map write_of simulated.writes.items) c.from_residual-in_err-write_all.result c.from_residual-in_err-write_all.ensures.1 of same makes (subst P c.deref.ensures.value c.in_err-write_all.ensures.failed)
@@ -43,7 +43,7 @@ returns-in_err-write_all g c =
 pub returns-in-None : goal.returns-in-None
 returns-in-None g c =
     let names = names_of c.args.files.now in
-    let request = AskSim names (chosen_of c.args.choice) c.args.ifindex c.args.clocks in
+    let request = AskSim names c.args.verilog.now (chosen_of c.args.choice) c.args.ifindex c.args.clocks in
     let old = state_of g.S.Shelf c.args.shelf.now in
     let first = state_of g.S.Shelf c.read_input.new.shelf in
     let second = state_of g.S.Shelf c.read_input-2.new.shelf in
@@ -57,8 +57,8 @@ returns-in-None g c =
     let both = changes_then [] old first second c.read_input.ensures.kept c.read_input-2.ensures.kept in
     let same = changes_then [] old second mid both c.read_input-3.ensures.kept in
     let of = of_as (outputs_of request) (map write_of simulated.writes.items) (sim_outputs names c.in_ok-capture.capture.magic capture.2.packets (answers_given [] sim.drive.trace) (is_none simulated.end)).writes sim.writes_are
-    (sim_outputs_of names c.in_ok-capture.capture.magic capture.2.packets (answers_given [] sim.drive.trace) (is_none simulated.end)) in
-    let makes = sim_makes names (chosen_of c.args.choice) c.args.ifindex c.args.clocks old first second object.0 text.0 capture.0 (netlist_of c.in_ok-design.design) c.in_ok-capture.capture.magic capture.2.packets simulated c.requires c.read_input.ensures.kept both
+    (result_outputs_of names c.in_ok-capture.capture.magic capture.2.packets (answers_given [] sim.drive.trace) (finals_if (is_none simulated.end))) in
+    let makes = sim_makes names c.args.verilog.now (chosen_of c.args.choice) c.args.ifindex c.args.clocks old first second object.0 text.0 capture.0 (netlist_of c.in_ok-design.design) c.in_ok-capture.capture.magic capture.2.packets simulated c.requires c.read_input.ensures.kept both
     object.1 text.1 text.2 capture.1 capture.2.is sim in
     let P : List code.Write → Type 0 = λ ws. AreDone (map write_of ws) mid new in
     let Q : Option CommandError → Type 0 = λ end. Makes request old.held end (map write_of simulated.writes.items) in
@@ -67,7 +67,7 @@ returns-in-None g c =
 pub returns : goal.returns
 returns g c =
     let names = names_of c.args.files.now in
-    let request = AskSim names (chosen_of c.args.choice) c.args.ifindex c.args.clocks in
+    let request = AskSim names c.args.verilog.now (chosen_of c.args.choice) c.args.ifindex c.args.clocks in
     let old = state_of g.S.Shelf c.args.shelf.now in
     let first = state_of g.S.Shelf c.read_input.new.shelf in
     let second = state_of g.S.Shelf c.read_input-2.new.shelf in
@@ -81,11 +81,11 @@ returns g c =
     let both = changes_then [] old first second c.read_input.ensures.kept c.read_input-2.ensures.kept in
     let same = changes_then [] old second mid both c.read_input-3.ensures.kept in
     let of = of_as (outputs_of request) (map write_of simulated.writes.items) (sim_outputs names c.in_ok-capture.capture.magic capture.2.packets (answers_given [] sim.drive.trace) (is_none simulated.end)).writes sim.writes_are
-    (sim_outputs_of names c.in_ok-capture.capture.magic capture.2.packets (answers_given [] sim.drive.trace) (is_none simulated.end)) in
-    let makes = sim_makes names (chosen_of c.args.choice) c.args.ifindex c.args.clocks old first second object.0 text.0 capture.0 (netlist_of c.in_ok-design.design) c.in_ok-capture.capture.magic capture.2.packets simulated c.requires c.read_input.ensures.kept both
+    (result_outputs_of names c.in_ok-capture.capture.magic capture.2.packets (answers_given [] sim.drive.trace) (finals_if (is_none simulated.end))) in
+    let makes = sim_makes names c.args.verilog.now (chosen_of c.args.choice) c.args.ifindex c.args.clocks old first second object.0 text.0 capture.0 (netlist_of c.in_ok-design.design) c.in_ok-capture.capture.magic capture.2.packets simulated c.requires c.read_input.ensures.kept both
     object.1 text.1 text.2 capture.1 capture.2.is sim in
     let P : List code.Write → Type 0 = λ ws. AreDone (map write_of ws) mid new in
     let Q : Option CommandError → Type 0 = λ end. Makes request old.held end (map write_of simulated.writes.items) in
     ends_driven request c.in-Some.error old mid new (map write_of simulated.writes.items)
-    (drive_ends names (chosen_of c.args.choice) c.args.ifindex c.args.clocks (netlist_of c.in_ok-design.design) (length capture.2.packets) sim.drive sim.drive.ended c.in-Some.error (sym c.in-Some.is ∙ sim.end_is))
+    (drive_ends names c.args.verilog.now (chosen_of c.args.choice) c.args.ifindex c.args.clocks (netlist_of c.in_ok-design.design) (length capture.2.packets) sim.drive sim.drive.ended c.in-Some.error (sym c.in-Some.is ∙ sim.end_is))
     of same (λ told. subst Q c.in-Some.is (makes told)) (subst P c.deref.ensures.value c.in_ok-write_all.ensures.done)

@@ -1,0 +1,54 @@
+use Rattle.std.proofs.Common.{List, [], map, None, Some, refl, subst}
+use Rattle.xdp_object.specs.Choice.{chosen_of}
+use Rattle.maps_text.specs.Writing.{text_of}
+use Rattle.command_line.specs.Request.{AskRef, names_of}
+use Rattle.ehdl_top.specs.declared.write.Write as code
+use Rattle.ehdl_top.specs.States.{state_of}
+use Rattle.ehdl_top.specs.Writes.{AreDone, OneFailed}
+use Rattle.ehdl_top.specs.Results.{result_outputs}
+use Rattle.ehdl_top.specs.Requests.{outputs_of}
+use Rattle.ehdl_top.specs.Steps.{write_of}
+use Rattle.ehdl_top.proofs.StateLemmas.{changes_then}
+use Rattle.ehdl_top.proofs.WriteLemmas.{of_as}
+use Rattle.ehdl_top.proofs.ResultLemmas.{result_outputs_of}
+use Rattle.ehdl_top.proofs.OutcomeLemmas.{ref_makes}
+use Rattle.ehdl_top.proofs.EndLemmas.{ends_unwritten, ends_done}
+use Rattle.ehdl_top.proofs.reference.ref_files.Goals as goal
+
+pub returns-in_err-write_all : goal.returns-in_err-write_all
+returns-in_err-write_all g c =
+    let names = names_of c.args.files.now in
+    let request = AskRef names (chosen_of c.args.choice) c.args.ifindex in
+    let old = state_of g.S.Shelf c.args.shelf.now in
+    let read = state_of g.S.Shelf c.read_input.new.shelf in
+    let mid = state_of g.S.Shelf c.read_input-2.new.shelf in
+    let new = state_of g.S.Shelf c.write_all.new.shelf in
+    let object = c.in_ok-program.ensures.read in
+    let capture = c.in_ok-capture.ensures.read in
+    let ref = c.in_ok-writes.ensures capture.2.packets capture.2.of in
+    let P : List code.Write → Type 0 = λ ws. OneFailed (map write_of ws) mid new in
+    ends_unwritten request None old mid new (map write_of c.in_ok-writes.writes.items) c.from_residual-in_err-write_all.result c.from_residual-in_err-write_all.ensures.1
+    (of_as (outputs_of request) (map write_of c.in_ok-writes.writes.items) (result_outputs names c.in_ok-capture.capture.magic capture.2.packets ref.answers (Some (text_of ref.final))).writes ref.writes_are
+    (result_outputs_of names c.in_ok-capture.capture.magic capture.2.packets ref.answers (Some (text_of ref.final))))
+    (changes_then [] old read mid c.read_input.ensures.kept c.read_input-2.ensures.kept)
+    (ref_makes names (chosen_of c.args.choice) c.args.ifindex old read object.0 capture.0 c.in_ok-program.program c.in_ok-capture.capture.magic capture.2.packets c.in_ok-writes.writes.items c.requires c.read_input.ensures.kept object.1 object.2.taken capture.1 capture.2.is ref)
+    (subst P c.deref.ensures.value c.in_err-write_all.ensures.failed)
+
+pub returns : goal.returns
+returns g c =
+    let names = names_of c.args.files.now in
+    let request = AskRef names (chosen_of c.args.choice) c.args.ifindex in
+    let old = state_of g.S.Shelf c.args.shelf.now in
+    let read = state_of g.S.Shelf c.read_input.new.shelf in
+    let mid = state_of g.S.Shelf c.read_input-2.new.shelf in
+    let new = state_of g.S.Shelf c.write_all.new.shelf in
+    let object = c.in_ok-program.ensures.read in
+    let capture = c.in_ok-capture.ensures.read in
+    let ref = c.in_ok-writes.ensures capture.2.packets capture.2.of in
+    let P : List code.Write → Type 0 = λ ws. AreDone (map write_of ws) mid new in
+    ends_done request old mid new (map write_of c.in_ok-writes.writes.items) refl
+    (of_as (outputs_of request) (map write_of c.in_ok-writes.writes.items) (result_outputs names c.in_ok-capture.capture.magic capture.2.packets ref.answers (Some (text_of ref.final))).writes ref.writes_are
+    (result_outputs_of names c.in_ok-capture.capture.magic capture.2.packets ref.answers (Some (text_of ref.final))))
+    (changes_then [] old read mid c.read_input.ensures.kept c.read_input-2.ensures.kept)
+    (ref_makes names (chosen_of c.args.choice) c.args.ifindex old read object.0 capture.0 c.in_ok-program.program c.in_ok-capture.capture.magic capture.2.packets c.in_ok-writes.writes.items c.requires c.read_input.ensures.kept object.1 object.2.taken capture.1 capture.2.is ref)
+    (subst P c.deref.ensures.value c.in_ok-write_all.ensures.done)
