@@ -10,7 +10,7 @@ use std::fmt::Write;
 fn frame_of(alloc: Global, bytes: &[u8]) -> Result<Frame> {
     ensure!(
         !bytes.is_empty() && bytes.len() <= FRAME_LIMIT,
-        "a frame has 1 to 1,536 bytes"
+        "a frame has 1 to {FRAME_LIMIT} bytes"
     );
     Ok(Frame::of(alloc, bytes)?)
 }

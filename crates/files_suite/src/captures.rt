@@ -2,7 +2,7 @@
 
 use crate::said::quoted;
 use anyhow::{Result, ensure};
-use pcap_core::{Capture, PcapError, Rec, check, write_header, write_record};
+use pcap_core::{Capture, check, write_header, write_record};
 use std::alloc::Global;
 use std::fmt::Write;
 
@@ -21,22 +21,22 @@ pub(crate) fn read(alloc: Global, bytes: &[u8], calls: u64) -> Result<String> {
     let magic = capture.magic();
     let mut said = format!(in alloc; "{magic:x}")?;
     for _ in 0..calls {
-        push_packet(alloc, &mut said, capture.next())?;
+        push_next(alloc, &mut said, &mut capture)?;
     }
     Ok(said)
 }
 
-// Adds what a call of `next` gave.
-fn push_packet(
-    alloc: Global,
-    said: &mut String,
-    packet: Result<Option<Rec>, PcapError>,
-) -> Result<()> {
-    match packet {
+// Adds what a call of `next` gives.
+fn push_next(alloc: Global, said: &mut String, capture: &mut Capture) -> Result<()> {
+    match capture.next() {
         Ok(Some(packet)) => {
-            let (seconds, fraction) = (packet.seconds, packet.fraction);
+            let (seconds, fraction, time) = (
+                packet.seconds,
+                packet.fraction,
+                capture.time(&packet),
+            );
             let bytes = quoted(alloc, packet.bytes)?;
-            write!(said, ", {seconds} {fraction} {bytes}")?;
+            write!(said, ", {seconds} {fraction} {bytes} at {time}")?;
         }
         Ok(None) => said.push_str(", none")?,
         Err(error) => write!(said, ", Err({error:?})")?,

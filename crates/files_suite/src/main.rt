@@ -44,7 +44,7 @@
 //! | `words WORD..` | how many words there are, and each |
 //! | `ask WORD..` | what `read_words` says of them |
 //! | `verdict INDEX VERDICT TARGET LENGTH` | the line of `verdict_line` |
-//! | `check BYTES`, `capture BYTES N` | the result of `check`; the magic number, and what N calls of `next` give |
+//! | `check BYTES`, `capture BYTES N` | the result of `check`; the magic number, and what N calls of `next` give, a packet with its time |
 //! | `header MAGIC`, `record BYTES SECONDS FRACTION BYTES` | the digits of `write_header`; of `write_record` in a buffer of the first bytes |
 //! | `beats BYTES` | how many beats the frame has, and each |
 //! | `scatter BYTES CLOCK..` | what `Scatter` shows of it in each clock, which is `take` or `keep` |
