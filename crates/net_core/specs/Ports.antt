@@ -1,11 +1,11 @@
 -- The ports that every design has, in their order, and what stands at them in a clock.
-use Rattle.std.specs.Prelude.{ℕ, ◌^◌, ◌<◌, ◌==◌, if◌then◌else◌, true, false, List, [], ◌∷◌, map}
+use Rattle.std.specs.Prelude.{ℕ, ◌^◌, ◌<◌, ◌==◌, if◌then◌else◌, true, false, List, [], ◌∷◌, map, replicate, slice_set}
 use Rattle.std.proofs.Common.{get_or}
 use Rattle.net_core.specs.declared.tree.Word.{Word}
 use Rattle.net_core.specs.declared.design.Port.{Port}
 use Rattle.net_core.specs.declared.ports.Inputs.{Inputs}
 use Rattle.net_core.specs.declared.ports.Outputs.{Outputs}
-use Rattle.net_core.specs.declared.ports.TheConstants.{PORTS, PORT_NAMES, IN_READY, OUT_VALID, OUT_DATA, OUT_BYTES, OUT_LAST, OUT_VERDICT, OUT_TARGET, OUT_RELOAD, HOST_VALUE, HOST_READY, HOST_PASSED}
+use Rattle.net_core.specs.declared.ports.TheConstants.{PORT_COUNT, PORTS, PORT_NAMES, IN_VALID, IN_DATA, IN_BYTES, IN_LAST, IN_IFINDEX, IN_TIME, IN_READY, OUT_READY, OUT_VALID, OUT_DATA, OUT_BYTES, OUT_LAST, OUT_VERDICT, OUT_TARGET, OUT_RELOAD, HOST_WRITE, HOST_MAP, HOST_INDEX, HOST_WORD, HOST_DATA, HOST_VALUE, HOST_READY, HOST_PASSED}
 use Rattle.net_core.specs.Nets.{Netlist}
 use Rattle.net_core.specs.Value.{word, number_of}
 use Rattle.net_core.specs.Clock.{Stored, shown}
@@ -30,12 +30,16 @@ abbrev pub output_width : Port → ℕ
 output_width p = if p.output then p.width else 0
 
 -- ---- inputs
+abbrev pub at_place : ℕ → ℕ → List ℕ → List ℕ
+at_place place number numbers = slice_set numbers place number
+
 -- the number at each port, by its place: `clk` and the outputs have none
 abbrev pub numbers_of : Inputs → List ℕ
 numbers_of i =
-    0 ∷ number_of i.in_valid ∷ i.in_data ∷ i.in_bytes ∷ number_of i.in_last ∷ i.in_ifindex ∷ i.in_time ∷ 0
-    ∷ number_of i.out_ready ∷ 0 ∷ 0 ∷ 0 ∷ 0 ∷ 0 ∷ 0 ∷ 0
-    ∷ number_of i.host_write ∷ i.host_map ∷ i.host_index ∷ i.host_word ∷ i.host_data ∷ 0 ∷ 0 ∷ 0 ∷ []
+    at_place HOST_DATA i.host_data (at_place HOST_WORD i.host_word (at_place HOST_INDEX i.host_index (at_place HOST_MAP i.host_map
+    (at_place HOST_WRITE (number_of i.host_write) (at_place OUT_READY (number_of i.out_ready) (at_place IN_TIME i.in_time
+    (at_place IN_IFINDEX i.in_ifindex (at_place IN_LAST (number_of i.in_last) (at_place IN_BYTES i.in_bytes (at_place IN_DATA i.in_data
+    (at_place IN_VALID (number_of i.in_valid) (replicate PORT_COUNT 0))))))))))))
 
 abbrev pub words_by : List Port → List ℕ → List Word
 words_by [] ns = []

@@ -252,32 +252,20 @@ pub fn numbers_at(i: Inputs) -> [u64; PORT_COUNT]
     ensures numbers { result ≡ numbers_of i }
     ensures fit { FitInputs i }
 {
-    [
-        0,
-        number_of(i.in_valid),
-        i.in_data,
-        u64::from(i.in_bytes),
-        number_of(i.in_last),
-        u64::from(i.in_ifindex),
-        i.in_time,
-        0,
-        number_of(i.out_ready),
-        0,
-        0,
-        0,
-        0,
-        0,
-        0,
-        0,
-        number_of(i.host_write),
-        u64::from(i.host_map),
-        u64::from(i.host_index),
-        u64::from(i.host_word),
-        i.host_data,
-        0,
-        0,
-        0,
-    ]
+    let mut numbers = [0; PORT_COUNT];
+    numbers[IN_VALID as usize] = number_of(i.in_valid);
+    numbers[IN_DATA as usize] = i.in_data;
+    numbers[IN_BYTES as usize] = u64::from(i.in_bytes);
+    numbers[IN_LAST as usize] = number_of(i.in_last);
+    numbers[IN_IFINDEX as usize] = u64::from(i.in_ifindex);
+    numbers[IN_TIME as usize] = i.in_time;
+    numbers[OUT_READY as usize] = number_of(i.out_ready);
+    numbers[HOST_WRITE as usize] = number_of(i.host_write);
+    numbers[HOST_MAP as usize] = u64::from(i.host_map);
+    numbers[HOST_INDEX as usize] = u64::from(i.host_index);
+    numbers[HOST_WORD as usize] = u64::from(i.host_word);
+    numbers[HOST_DATA as usize] = i.host_data;
+    numbers
 }
 
 /// What the outputs show, from the number at each port by its place.
