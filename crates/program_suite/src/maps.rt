@@ -65,9 +65,9 @@ impl Tables {
     // The maps hold what a text lists, and it is written again; or its first bad line.
     fn read(&mut self, rest: &str) -> Result<String> {
         let text = text_of(self.alloc, rest)?;
-        let few = self.decls.len() <= 16;
-        let limits = self.decls.iter().all(|d| d.is_within_limits());
-        ensure!(few && limits, "maps within the limits");
+        ensure!(self.decls.len() <= 16, "16 maps");
+        let all = self.decls.iter().all(|d| d.is_within_limits());
+        ensure!(all, "maps within the limits");
         match read_maps_text(self.alloc, &self.decls, &text) {
             Ok(maps) => {
                 self.maps = maps;
