@@ -8,6 +8,7 @@ use Rattle.xdp_object.specs.declared.error.ObjectError.TheVariants.{NoMemory as 
 use Rattle.xdp_object.specs.Choice.{Chosen}
 use Rattle.xdp_object.specs.Object.{FirstFault, IsObject}
 use Rattle.xdp_object.proofs.OutcomeLaws.{one_outcome, never_both}
+use Rattle.xdp_object.proofs.UnitLaws.{two_units_alone}
 use Rattle.xdp_object.specs.Program.{XdpProgram}
 use Rattle.xdp_object.specs.TwoUnits.{two_units}
 use Rattle.xdp_maps.specs.State.{MapState}
@@ -85,7 +86,7 @@ compiled choice bytes text p k v o units same s = record {
   object = o;
   size = record { stages = 0; records = 0; nodes = 2 };
   has_size = record { number = k; is = units; size = refl };
-  realizes = realizes p k v text units o.decls o.refs same s;
+  realizes = let alone = two_units_alone choice bytes p k o units in realizes p k v text units alone.0 alone.1 same s;
 }
 
 -- ---- one outcome

@@ -3,6 +3,7 @@ use Rattle.std.proofs.Common.{◌≡◌, ◌⊎◌, ℕ, List, Result, Ok, IsErr
 use Rattle.xdp_object.specs.declared.error.ObjectError.{ObjectError}
 use Rattle.xdp_object.specs.Choice.{Chosen}
 use Rattle.xdp_object.specs.Object.{FirstFault}
+use Rattle.xdp_object.proofs.UnitLaws.{two_units_alone}
 use Rattle.ehdl_build.specs.declared.built.Why.{Why}
 use Rattle.ehdl_build.specs.declared.built.Built.{Built}
 use Rattle.ehdl_build.specs.declared.built.CompileError.{CompileError}
@@ -17,7 +18,7 @@ text_for choice bytes text r built e c refuses = record {
   program = c.program;
   accepted = record { object = c.object; accepted = λ at why f. never r built e at why (refuses at why (record { program = c.program; object = c.object; refusal = f })) };
   size = c.size;
-  realized = record { no_maps = c.object.decls; has_size = c.has_size; realizes = c.realizes };
+  realized = record { no_maps = (two_units_alone choice bytes c.program c.has_size.number c.object c.has_size.is).0; has_size = c.has_size; realizes = c.realizes };
 }
   where
     never : (r : Result Built CompileError) (built : Built) → r ≡ Ok built → (at : ℕ) (why : Why) → IsErrOf r (Refused at why) ⊎ IsErrOf r NoMemory → ⊥
