@@ -55,7 +55,8 @@
 //!
 //! Of objects (`xdp_object`):
 //!
-//!     program CHOICE BYTES            the program that a function's name chooses, or `-`; or the code of the fault
+//!     program CHOICE BYTES            the program that a function's name chooses, or `-`, with its maps and the places that refer to
+//!                                     one; or the code of the fault
 //!     fault KIND NUMBER               the code of a fault: `short`, `bad` or `relocation`, or `memory` without a number
 //!
 //! Of the maps of the case (`xdp_maps`), by their numbers from 0; KEY and VALUE are BYTE-WORDs:

@@ -7,6 +7,7 @@ use anyhow::{Context, Result, bail, ensure};
 use elf_view::{ElfError, MapRecord, object_of};
 use std::alloc::Global;
 use std::str;
+use xdp_maps::decl::MapDecl;
 use xdp_object::{Choice, ObjectError, Program, read_object, two_units};
 
 /// The most bytes that the code of an object has here.
@@ -50,13 +51,28 @@ fn program(alloc: Global, named: &Named, rest: &str) -> Result<String> {
     }
 }
 
-// A program: its name, how many maps and references it has, its instructions, and the number that it is the least program of.
+// A program: its name, how many maps and references it has, the number that it is the least program of, its maps, the places of its
+// references, and its instructions.
 fn show(alloc: Global, program: &Program) -> Result<String> {
     let name = str::from_utf8(program.name())?;
     let (maps, refs) = (program.decls().len(), program.refs().len());
     let least = two_units(program);
-    let lines = show_all(alloc, program.insns())?;
+    let mut lines = String::new(alloc);
+    for decl in program.decls() {
+        lines.push_str(map_line(alloc, decl)?.as_str())?;
+    }
+    for place in program.refs() {
+        lines.push_str(format!(in alloc; "\n| map at {place}")?.as_str())?;
+    }
+    lines.push_str(show_all(alloc, program.insns())?.as_str())?;
     Ok(format!(in alloc; "{name:?}, {maps} maps, {refs} references, least {least:?}{lines}")?)
+}
+
+// The line of a map: its name, its kind, the sizes of its keys and values, and its capacity.
+fn map_line(alloc: Global, decl: &MapDecl) -> Result<String> {
+    let name = str::from_utf8(decl.name.as_slice())?;
+    let (kind, key, value, cap) = (decl.kind, decl.key, decl.value, decl.cap);
+    Ok(format!(in alloc; "\n| map {name:?} {kind:?} {key} {value} {cap}")?)
 }
 
 // The code of a fault.
