@@ -4,6 +4,7 @@ ghost use Rattle.pipe_core.specs.History.{KeepsOrder, IsAlwaysInOrder};
 ghost use Rattle.pipe_core.specs.Computed.{KeepsComputed, IsAlwaysComputed};
 ghost use Rattle.pipe_core.specs.Sequential.{RunsWithoutMaps};
 ghost use Rattle.pipe_core.specs.Drive.{EndsWithoutMaps};
+ghost use Rattle.pipe_core.specs.Sending.{AlwaysSendsBack};
 ghost use Rattle.pipe_core.specs.Agreement.{EnteringAgrees, StrikingAgrees};
 
 /// The pipe holds frames and answers in the order in which the frames came, and each answer is that of its own packet.
@@ -43,3 +44,8 @@ pub fn agreement()
     hazard_core::laws::reads_keep();
     hazard_core::laws::unmoved();
 }
+
+/// Where a packet has a mark whose guard is known as 1, it and all younger ones go back, and no other; none is injected then.
+pub fn sends_back()
+    ensures { AlwaysSendsBack }
+{}
