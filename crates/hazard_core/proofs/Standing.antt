@@ -1,11 +1,11 @@
 -- The tables that a load leaves.
-use Rattle.std.proofs.Common.{◌≡◌, ◌≢◌, ℕ, zero, suc, ◌+◌, ◌-◌, ◌<◌, ◌≤◌, ◌^◌, ◌⊎◌, inl, inr, Bool, true, false, cond, List, [], ◌∷◌, ◌++◌, Option, Some, None, length, get_or, refl, sym, ap, ◌∙◌, subst, arith, IsTrue}
+use Rattle.std.proofs.Common.{◌≡◌, ◌≢◌, ℕ, zero, suc, ◌+◌, ◌-◌, ◌<◌, ◌≤◌, ◌⊎◌, inl, inr, Bool, true, false, cond, List, [], ◌∷◌, ◌++◌, Option, Some, None, length, get_or, refl, sym, ap, ◌∙◌, subst, arith, IsTrue}
 use Rattle.std.specs.Prelude.{replicate, map as map_list, unwrap_or, is_some}
 use Rattle.std.specs.List.{range_with_len}
 use Rattle.std.specs.Ordering.{nat_cmp, eq_by_cmp}
 use Rattle.std.specs.Cmp.Lexicographic.{slice_cmp, nat_list_cmp_total}
 use Rattle.std.specs.FinMap as map
-use Rattle.std.specs.FinMap.{FinMap, find, get-entries, get-insert, get-empty, same_map, slice_cmp-IsAntisymmetric, nat_cmp-IsAntisymmetric}
+use Rattle.std.specs.FinMap.{find, get-entries, get-insert, get-empty, same_map, slice_cmp-IsAntisymmetric, nat_cmp-IsAntisymmetric}
 use Rattle.std.specs.Str.{bytes_eq}
 use Rattle.std.proofs.lemmas.Bool.{cases_lt}
 use Rattle.std.proofs.lemmas.Slice.Eq.{bytes_eq-Decides}
@@ -15,10 +15,9 @@ use Rattle.xdp_maps.specs.declared.decl.MapKind.TheVariants.{Hash, Array}
 use Rattle.xdp_maps.specs.declared.decl.MapDecl.{MapDecl}
 use Rattle.xdp_maps.specs.Contents.{Contents, IsOver, IsWithinLimits, IsFilled_as, limits_as, index_key, index_of, TakesKey, TakesKey_as, IsBytes}
 use Rattle.xdp_maps.specs.Laws.{IndexLaws}
-use Rattle.xdp_maps.specs.State.{MapState, IsSound, no_decl}
+use Rattle.xdp_maps.specs.State.{no_decl}
 use Rattle.hazard_core.specs.Standing.{TablesStand}
-use Rattle.hazard_core.specs.Tables.{Slot, empty_slot, pair_slot, index_slot, contents_of, loaded_as, loaded_tables, tables_of, maps_of}
-
+use Rattle.hazard_core.specs.Tables.{empty_slot, pair_slot, index_slot, contents_of, loaded_as, loaded_tables}
 
 empties : (d : MapDecl) (n : ℕ) → contents_of (replicate n (empty_slot d)) ≡ map.empty
 empties d zero = refl
@@ -45,12 +44,16 @@ indexed d c a (suc n) q = by (bytes_eq q (index_key a)) refl (indexed d c (a + 1
   where
     rest : Contents
     rest = contents_of (map_list (index_slot d c) (range_with_len (a + 1) n))
+
     value : List ℕ
     value = unwrap_or (map.get c (index_key a)) (replicate d.value 0)
+
     here : map.get (map.insert rest (index_key a) value) q ≡ cond (bytes_eq q (index_key a)) (Some value) (map.get rest q)
     here = get-insert nat_list_cmp_total rest (index_key a) value q ∙ ap (λ (b : Bool). cond b (Some value) (map.get rest q)) (is_eq-slice_cmp q (index_key a))
+
     false_true : false ≡ true → ⊥
     false_true e = cc
+
     by : (b : Bool) → bytes_eq q (index_key a) ≡ b → Indexed d c (a + 1) n q → Indexed d c a (suc n) q
     by true e more =
         let same : q ≡ index_key a = (bytes_eq-Decides q (index_key a)).0 e in
@@ -74,13 +77,16 @@ array_stands laws d c kind limits over = same_map nat_list_cmp_total (slice_cmp-
   where
     sized : (d.key ≡ 4) × (d.cap ≤ 65536)
     sized = subst (λ k. limits_as k d) kind limits.by_kind
+
     filled : IsFilled_as Array d c
     filled = subst (λ k. IsFilled_as k d c) kind over.filled
+
     takes : (i : ℕ) → i < d.cap → TakesKey d (index_key i)
     takes i l = (subst (λ n. IsBytes n (index_key i)) (sym sized.0) (laws.key_bytes i), subst (λ k. TakesKey_as k d (index_key i)) (sym kind) (below i l))
       where
         below : (i : ℕ) → i < d.cap → index_of (index_key i) < d.cap
         below i l = let e = laws.index_back i (omega (arith, l, sized.1)) in omega (arith, e, l)
+
     at : (q : List ℕ) → Indexed d c 0 d.cap q → map.get (contents_of (loaded_as Array d c)) q ≡ map.get c q
     at q (inl w) = w.3 ∙ some_is (map.get c q) (replicate d.value 0) (subst (λ k. IsTrue (map.contains_key c k)) (sym w.2) (filled (index_key w.0) (takes w.0 (omega (arith, w.1)))))
     at q (inr w) = w.0 ∙ sym (none (map.get c q) refl)

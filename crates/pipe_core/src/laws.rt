@@ -2,7 +2,7 @@
 
 ghost use Rattle.pipe_core.specs.History.{KeepsOrder, IsAlwaysInOrder};
 ghost use Rattle.pipe_core.specs.Computed.{KeepsComputed, IsAlwaysComputed};
-ghost use Rattle.pipe_core.specs.Sequential.{RunsWithoutMaps};
+ghost use Rattle.pipe_core.specs.Sequential.{RunsWithoutMaps, MapsStay};
 ghost use Rattle.pipe_core.specs.Drive.{EndsWithoutMaps};
 ghost use Rattle.pipe_core.specs.Sending.{AlwaysSendsBack};
 ghost use Rattle.pipe_core.specs.Agreement.{EnteringAgrees, StrikingAgrees};
@@ -26,6 +26,13 @@ pub fn runs_without_maps()
     ensures { RunsWithoutMaps }
 {
     cell_core::laws::rows_rise();
+}
+
+/// Without operations on maps, and with a silent host, the maps stay.
+pub fn maps_stay()
+    ensures { MapsStay }
+{
+    hazard_core::laws::tables_stand();
 }
 
 /// Without operations on maps the full drive of frames ends: each beat counts a clock in and one out, each frame one, and the
