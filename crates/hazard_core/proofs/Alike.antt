@@ -1,7 +1,7 @@
 -- Packets that hold the same of earlier rows.
-use Rattle.std.proofs.Common.{◌≡◌, ◌≢◌, ℕ, zero, suc, ◌+◌, ◌<◌, ◌≤◌, ◌⊎◌, inl, inr, Bool, true, false, List, [], ◌∷◌, ◌++◌, get_or, length, refl, sym, ap, ◌∙◌, subst, arith, not, cond}
-use Rattle.std.specs.Prelude.{◌==◌, ◌&&◌, ◌||◌, if◌then◌else◌, nat_lt, fold, map as map_list, count_by, slice_index, drop, filter}
-use Rattle.std.specs.List.{AllByRecursion, list_all, sum_by}
+use Rattle.std.proofs.Common.{◌≡◌, ℕ, ◌+◌, ◌<◌, ◌≤◌, ◌⊎◌, inl, inr, Bool, true, false, List, [], ◌∷◌, ◌++◌, get_or, length, refl, ap, ◌∙◌, arith, not, cond}
+use Rattle.std.specs.Prelude.{◌==◌, ◌&&◌, if◌then◌else◌, nat_lt, fold, map as map_list, count_by, filter}
+use Rattle.std.specs.List.{AllByRecursion, list_all}
 use Rattle.std.specs.Int.{w64, cast_unsigned}
 use Rattle.std.specs.Str.{bytes_eq}
 use Rattle.std.proofs.lemmas.Bool.Decides.{nat_tests}
@@ -17,8 +17,8 @@ use Rattle.cell_core.specs.declared.site.Act.TheVariants as act
 use Rattle.cell_core.specs.Cells.{on, bit}
 use Rattle.cell_core.specs.Sites.{SiteView, ProgramView, site_at, records, operation_with}
 use Rattle.cell_core.specs.Rows.{numbers, taken_by}
-use Rattle.hazard_core.specs.Tables.{Slot, TableState, decl_of, table_at, used_count}
-use Rattle.hazard_core.specs.Held.{Pointer, Null, same_pointer, is_null, is_update, is_delete, Held, held_value, pointer_in, found_cell, answer_cell, read_cells, asked, asked_key, access_pointer, pointer_operand, guard_on, writes_as, writes, update_pointer, slot_pointer, written_as, written_pointer, parts, is_pending, pending}
+use Rattle.hazard_core.specs.Tables.{TableState, decl_of, table_at, used_count}
+use Rattle.hazard_core.specs.Held.{Pointer, Null, same_pointer, is_null, is_update, is_delete, Held, held_value, pointer_in, found_cell, answer_cell, read_cells, asked, asked_key, access_pointer, pointer_operand, writes_as, writes, update_pointer, slot_pointer, written_as, written_pointer, parts, is_pending, pending}
 use Rattle.hazard_core.specs.Overlay.{found_as, found_over, key_pointer_as, key_pointer, looks, found_pointer, value_as, value_over, value_under, entry_value, adds_key, takes_key, update_answer, delete_answer, where_some, answer_as, answer_over}
 use Rattle.hazard_core.specs.Keeping.{SameCell, AreAlike, LooksBelow, ReadsKeep}
 
@@ -195,20 +195,28 @@ module _ (p : ProgramView) (row : ℕ → ℕ) (r : ℕ) (t : TableState) (h g :
     where
       s : SiteView
       s = site_at p.sites j
+
       d : MapDecl
       d = decl_of t.decls s.map
+
       key : key_pointer p t h before j ≡ key_pointer p t g before j
       key = key_same before j all below
+
       access : access_pointer h s ≡ access_pointer g s
       access = access_alike s below
+
       present : bit (not (is_null (key_pointer p t h before j))) ≡ bit (not (is_null (key_pointer p t g before j)))
       present = ap (λ (q : Pointer). bit (not (is_null q))) key
+
       adds : count_by (adds_key p t h) before ≡ count_by (adds_key p t g) before
       adds = count_same (adds_key p t h) (adds_key p t g) before all adds_same
+
       takes : count_by (takes_key p t h) before ≡ count_by (takes_key p t g) before
       takes = count_same (takes_key p t h) (takes_key p t g) before all takes_same
+
       used : ℕ
       used = used_count (table_at t s.map)
+
       by : (a : Act) (op : Operation) → answer_as a op p t h before j ≡ answer_as a op p t g before j
       by (act.Load at size) op =
           ap (λ (q : Pointer). where_some q (number_at size at (entry_value p t h before s.map q))) access

@@ -1,22 +1,20 @@
 -- What a commit and the host change.
-use Rattle.std.proofs.Common.{◌≡◌, ◌≢◌, ℕ, zero, suc, ◌+◌, ◌<◌, ◌≤◌, ◌⊎◌, inl, inr, Bool, true, false, List, [], ◌∷◌, get_or, length, refl, sym, ap, ◌∙◌, subst, arith, not, cond, length-set, get_or-set_other, get_or-set_same}
-use Rattle.std.specs.Prelude.{◌==◌, ◌&&◌, ◌||◌, if◌then◌else◌, nat_lt, slice_set, count_by}
+use Rattle.std.proofs.Common.{◌≡◌, ◌≢◌, ℕ, zero, suc, ◌+◌, ◌<◌, ◌⊎◌, inl, inr, Bool, true, false, List, [], ◌∷◌, get_or, length, refl, sym, ap, ◌∙◌, subst, arith, not, cond, length-set, get_or-set_other, get_or-set_same}
+use Rattle.std.specs.Prelude.{◌&&◌, ◌||◌, if◌then◌else◌, nat_lt, slice_set}
 use Rattle.std.specs.List.{position_or_len, prefix_len}
 use Rattle.std.specs.Str.{bytes_eq}
-use Rattle.std.proofs.lemmas.Bool.Decides.{nat_tests, Decides-eqb}
+use Rattle.std.proofs.lemmas.Bool.Decides.{Decides-eqb}
 use Rattle.std.proofs.lemmas.List.Sums.{sum_by-set}
 use Rattle.std.proofs.lemmas.Slice.Eq.{bytes_eq-Decides}
-use Rattle.xdp_maps.specs.declared.decl.MapKind.{MapKind}
-use Rattle.xdp_maps.specs.declared.decl.MapKind.TheVariants.{Hash, Array}
+use Rattle.xdp_maps.specs.declared.decl.MapKind.TheVariants.{Array}
 use Rattle.xdp_maps.specs.Operations.{Operation}
 use Rattle.cell_core.specs.declared.site.Act.{Act}
 use Rattle.cell_core.specs.declared.site.Act.TheVariants as act
 use Rattle.cell_core.specs.Sites.{SiteView, ProgramView, site_at}
 use Rattle.hazard_core.specs.Tables.{Slot, no_slot, TableState, decl_of, table_at, slot_at, has_key, slot_of, free_slot, used_count}
-use Rattle.hazard_core.specs.Held.{Pointer, Null, InSlot, Pending, same_pointer, is_null, is_update, is_delete, Held, held_value, pointer_in, found_cell, answer_cell, asked, asked_key, access_pointer, guard_on, writes_as, writes, update_pointer, slot_pointer, written_as, written_pointer}
+use Rattle.hazard_core.specs.Held.{Pointer, Null, InSlot, Pending, same_pointer, is_update, is_delete, Held, held_value, answer_cell, asked, asked_key, guard_on, writes_as, writes, slot_pointer, written_as, written_pointer}
 use Rattle.hazard_core.specs.Overlay.{value_as}
-use Rattle.hazard_core.specs.Marks.{Change}
-use Rattle.hazard_core.specs.Commits.{with_slot, makes_entry, slot_under, written_slot, slot_as, committed, changed_key, change_by, Access, host_written, host_change, word_in, may_write, Word, Used, Key, Value, Nothing, written_word}
+use Rattle.hazard_core.specs.Commits.{with_slot, makes_entry, slot_under, written_slot, slot_as, committed, changed_key, change_by, host_written, word_in, may_write, Word, Used, Key, Value, Nothing, written_word}
 use Rattle.hazard_core.specs.Changes.{IsChange, IsRightCommit, CommitsChange, HostChanges}
 
 -- a slot that passes a test as the old one does leaves the first one that passes it
@@ -78,9 +76,11 @@ first_passes test (x ∷ slots) l = by (test x) refl l (first_passes test slots)
   where
     n : ℕ
     n = position_or_len test slots
+
     next : (m : ℕ) → suc n ≡ m → test (slot_at slots n) ≡ true → test (slot_at (x ∷ slots) m) ≡ true
     next zero e h = absurd (omega arith)
     next (suc m) e h = subst (λ k. test (slot_at slots k) ≡ true) (omega arith) h
+
     by : (c : Bool) → test x ≡ c → cond (not c) (1 + n) 0 < length (x ∷ slots) → (n < length slots → test (slot_at slots n) ≡ true) → test (slot_at (x ∷ slots) (cond (not c) (1 + n) 0)) ≡ true
     by true e l more = e
     by false e l more = next (1 + n) (omega arith) (more (omega arith))
@@ -112,8 +112,10 @@ module _ (p : ProgramView) (t : TableState) (taken : List ℕ) (h : Held) (j : �
       second : (a b : Bool) → a && b ≡ true → b ≡ true
       second true b e = e
       second false b e = cc
+
       itself : (slots : List Slot) → slot_under slots taken j (Pending j) ≡ free_slot slots
       itself slots = ap (λ (b : Bool). if b then free_slot slots else get_or taken j 0) ((Decides-eqb j j).1 refl)
+
       unused : (u : Bool) → not u ≡ true → u ≡ false
       unused true e = cc
       unused false e = refl
@@ -154,24 +156,30 @@ module _ (p : ProgramView) (t : TableState) (taken : List ℕ) (h : Held) (j : �
     where
       s : SiteView
       s = site_at p.sites j
+
       n : ℕ
       n = written_slot p t taken h j
+
       x : Slot
       x = slot_at (table_at t s.map) n
+
       op : Operation
       op = asked t.decls h s
+
       key : List ℕ
       key = asked_key t.decls h s
+
       value_only : (a : Act) → slot_as a false op key x ≡ record x { value = value_as op x.value } → changed_key a key x.key ≡ changed_key a key x.key → IsWritten t s.map n (changed_key a key x.key) false (record x { value = value_as op x.value })
       value_only a e f = record { map = right.map; slot = right.slot; keys = λ k why. refl; size = λ k. refl; arrays = λ k. refl }
+
       by : (a : Act) → a ≡ s.act → (m : Bool) → same_pointer (written_pointer p t h j) (Pending j) ≡ m → IsWritten t s.map n (changed_key a key x.key) (is_delete a || (is_update a && m)) (slot_as a (is_update a && m) op key x)
       by act.Update is true e = record {
         map = right.map;
         slot = right.slot;
         keys = λ k why. elim why [
-            | inl other ↦ ap (λ b. true && b) (other_key key k other) ∙ sym (unused_key x k (free_is_unused (ap (λ (a : Act). is_update a && same_pointer (written_pointer p t h j) (Pending j)) (sym is) ∙ e)))
-            | inr kept ↦ cc
-          ];
+          | inl other ↦ ap (λ b. true && b) (other_key key k other) ∙ sym (unused_key x k (free_is_unused (ap (λ (a : Act). is_update a && same_pointer (written_pointer p t h j) (Pending j)) (sym is) ∙ e)))
+          | inr kept ↦ cc
+        ];
         size = λ kept. cc;
         arrays = λ kind. absurd (no_entry act.Update is kind (subst (λ (a : Act). same_pointer (written_as a (decl_of t.decls s.map).kind p t h j) (Pending j) ≡ true) (sym is) e) refl);
       }
@@ -180,11 +188,11 @@ module _ (p : ProgramView) (t : TableState) (taken : List ℕ) (h : Held) (j : �
         map = right.map;
         slot = right.slot;
         keys = λ k why. elim why [
-            | inl other ↦
-                let d : is_delete s.act ≡ true = ap is_delete (sym is) in
-                sym (ap (λ b. b && bytes_eq x.key k) (right.used d) ∙ ap (λ a. bytes_eq a k) (right.key d) ∙ other_key key k other)
-            | inr kept ↦ cc
-          ];
+          | inl other ↦
+              let d : is_delete s.act ≡ true = ap is_delete (sym is) in
+              sym (ap (λ b. b && bytes_eq x.key k) (right.used d) ∙ ap (λ a. bytes_eq a k) (right.key d) ∙ other_key key k other)
+          | inr kept ↦ cc
+        ];
         size = λ kept. cc;
         arrays = λ kind. absurd (no_delete kind is);
       }
@@ -199,7 +207,7 @@ commits_change p t taken h j on right =
     let s = site_at p.sites j in
     let n = written_slot p t taken h j in
     written_changes t s.map n (changed_key s.act (asked_key t.decls h s) (slot_at (table_at t s.map) n).key) (is_delete s.act || makes_entry p t h j)
-      (slot_as s.act (makes_entry p t h j) (asked t.decls h s) (asked_key t.decls h s) (slot_at (table_at t s.map) n)) (commit_writes p t taken h j on right)
+    (slot_as s.act (makes_entry p t h j) (asked t.decls h s) (asked_key t.decls h s) (slot_at (table_at t s.map) n)) (commit_writes p t taken h j on right)
 
 -- ---- the host
 
@@ -210,6 +218,7 @@ host_changes t a n map slot may =
   where
     x : Slot
     x = slot_at (table_at t a.map) a.index
+
     by : (w : Word) → may_write false x w ≡ true → IsWritten t a.map a.index x.key false (written_word x w n)
     by Used e = cc
     by (Key w) e = cc

@@ -1,3 +1,4 @@
 pub mod Unmoved
 pub mod Changing
 pub mod Alike
+pub mod Standing

@@ -1,5 +1,5 @@
 -- A read that a change does not touch.
-use Rattle.std.proofs.Common.{◌≡◌, ◌≢◌, ℕ, ◌+◌, ◌<◌, ◌≤◌, ◌⊎◌, inl, inr, Bool, true, false, List, [], ◌∷◌, Option, Some, None, get_or, refl, sym, ap, ◌∙◌, subst, arith, not, cond}
+use Rattle.std.proofs.Common.{◌≡◌, ◌≢◌, ℕ, ◌+◌, ◌≤◌, ◌⊎◌, inl, inr, Bool, true, false, List, [], ◌∷◌, Some, None, get_or, refl, sym, ap, ◌∙◌, subst, arith, not}
 use Rattle.std.specs.Prelude.{◌==◌, ◌&&◌, ◌||◌, if◌then◌else◌, nat_lt, nat_le, fold, map as map_list, count_by, slice_index, drop}
 use Rattle.std.specs.Int.{w64, cast_unsigned}
 use Rattle.std.specs.Str.{bytes_eq}
@@ -10,7 +10,7 @@ use Rattle.xdp_maps.specs.declared.decl.MapKind.{MapKind}
 use Rattle.xdp_maps.specs.declared.decl.MapKind.TheVariants.{Hash, Array}
 use Rattle.xdp_maps.specs.declared.errno.TheConstants.{ENOENT, E2BIG, EEXIST, EINVAL}
 use Rattle.xdp_maps.specs.Calls.{hash_refusal, number_of, number_at as changed_at}
-use Rattle.xdp_maps.specs.Operations.{Operation, key_in}
+use Rattle.xdp_maps.specs.Operations.{key_in}
 use Rattle.xdp_machine.specs.Memory.{number_at}
 use Rattle.cell_core.specs.declared.site.Act.{Act}
 use Rattle.cell_core.specs.declared.site.Act.TheVariants as act
@@ -20,7 +20,7 @@ use Rattle.hazard_core.specs.Tables.{Slot, TableState, decl_of, table_at, slot_a
 use Rattle.hazard_core.specs.Held.{Pointer, Null, InSlot, Pending, same_pointer, is_null, Held, held_value, pointer_in, found_cell, asked, asked_key, access_pointer, writes, slot_pointer, written_as, written_pointer}
 use Rattle.hazard_core.specs.Overlay.{found_as, found_over, key_pointer_as, key_pointer, looks, found_pointer, value_as, value_over, value_under, entry_value, adds_key, takes_key, update_answer, delete_answer, where_some, answer_as, answer_over}
 use Rattle.hazard_core.specs.Marks.{Change, key_touched, entry_touched, presence_touched, touched_as, touches}
-use Rattle.hazard_core.specs.Changes.{with_tables, IsChange, finds_key, reads, Stays, Unmoved}
+use Rattle.hazard_core.specs.Changes.{with_tables, IsChange, finds_key, reads, Unmoved}
 
 false_true : false ≡ true → ⊥
 false_true e = cc
@@ -44,15 +44,15 @@ module _ (p : ProgramView) (t : TableState) (ts : List (List Slot)) (e : Change)
   slot_stays : (m : ℕ) (key : List ℕ) → KeyStays t e m key → slot_pointer (get_or ts m []) key ≡ slot_pointer (table_at t m) key
   slot_stays m key (inl other) = ap (λ slots. slot_pointer slots key) (change.maps m other)
   slot_stays m key (inr why) = elim (same_or m e.map) [
-      | inl same ↦ subst (λ n. slot_pointer (get_or ts n []) key ≡ slot_pointer (table_at t n) key) (sym same) (change.keys key why)
-      | inr other ↦ ap (λ slots. slot_pointer slots key) (change.maps m other)
-    ]
+    | inl same ↦ subst (λ n. slot_pointer (get_or ts n []) key ≡ slot_pointer (table_at t n) key) (sym same) (change.keys key why)
+    | inr other ↦ ap (λ slots. slot_pointer slots key) (change.maps m other)
+  ]
 
   array_stays : (m : ℕ) (key : List ℕ) → (decl_of t.decls m).kind ≡ Array → KeyStays t e m key
   array_stays m key kind = elim (same_or m e.map) [
-      | inl same ↦ inr (inr (change.arrays (subst (λ n. (decl_of t.decls n).kind ≡ Array) same kind)))
-      | inr other ↦ inl other
-    ]
+    | inl same ↦ inr (inr (change.arrays (subst (λ n. (decl_of t.decls n).kind ≡ Array) same kind)))
+    | inr other ↦ inl other
+  ]
 
   written_stays_as : (a : Act) (k : MapKind) (i : ℕ) → (decl_of t.decls (site_at p.sites i).map).kind ≡ k → written_as a k p (with_tables t ts) h i ≡ written_as a k p t h i
   written_stays_as act.Update Hash i kind = refl
@@ -84,9 +84,9 @@ module _ (p : ProgramView) (t : TableState) (ts : List (List Slot)) (e : Change)
   start_stays m (Pending i) why = refl
   start_stays m (InSlot n) (inl other) = ap (λ slots. (slot_at slots n).value) (change.maps m other)
   start_stays m (InSlot n) (inr free) = elim (same_or m e.map) [
-      | inl same ↦ subst (λ k. (slot_at (get_or ts k []) n).value ≡ (slot_at (table_at t k) n).value) (sym same) (change.values n (λ q. false_true (sym free ∙ (Decides-eqb n e.slot).1 q)))
-      | inr other ↦ ap (λ slots. (slot_at slots n).value) (change.maps m other)
-    ]
+    | inl same ↦ subst (λ k. (slot_at (get_or ts k []) n).value ≡ (slot_at (table_at t k) n).value) (sym same) (change.values n (λ q. false_true (sym free ∙ (Decides-eqb n e.slot).1 q)))
+    | inr other ↦ ap (λ slots. (slot_at slots n).value) (change.maps m other)
+  ]
 
   entry_stays : (before : List ℕ) (m : ℕ) (under : Pointer) → (m ≢ e.map) ⊎ (entry_touched p t.decls h e under ≡ false) → entry_value p (with_tables t ts) h before m under ≡ entry_value p t h before m under
   entry_stays before m under why =
@@ -142,7 +142,7 @@ module _ (p : ProgramView) (t : TableState) (ts : List (List Slot)) (e : Change)
   why_key Hash j found kind f l (inr q) =
       let s = site_at p.sites j in
       inr (looked s.act (bytes_of (decl_of t.decls s.map).key (map_list (held_value h) s.key)) (bytes_of (decl_of t.decls s.map).value (drop 1 (map_list (held_value h) s.operands)))
-        (slice_index (map_list (held_value h) s.operands) 0) (slice_index (map_list (held_value h) s.operands) 1) found f l q)
+      (slice_index (map_list (held_value h) s.operands) 0) (slice_index (map_list (held_value h) s.operands) 1) found f l q)
 
   -- ---- answers
 
@@ -189,6 +189,7 @@ module _ (p : ProgramView) (t : TableState) (ts : List (List Slot)) (e : Change)
               rw two refl
       two true false e past k = cc
       two false true e past k = cc
+
       by : (c : Bool) → nat_lt 2 flags ≡ c → (c ≡ false → x ≡ y) → (c ≡ false → nat_lt flags 2 && not y ≡ true → m ≡ n) →
           (if c then Some EINVAL else if (flags == 1) && x then Some EEXIST else if (flags == 2) && not x then Some ENOENT else if not x && nat_le cap m then Some E2BIG else None)
           ≡ (if c then Some EINVAL else if (flags == 1) && y then Some EEXIST else if (flags == 2) && not y then Some ENOENT else if not y && nat_le cap n then Some E2BIG else None)
@@ -198,9 +199,9 @@ module _ (p : ProgramView) (t : TableState) (ts : List (List Slot)) (e : Change)
   size_stays : (m : ℕ) → (m ≢ e.map) ⊎ (e.presence ≡ false) → used_count (get_or ts m []) ≡ used_count (table_at t m)
   size_stays m (inl other) = ap used_count (change.maps m other)
   size_stays m (inr kept) = elim (same_or m e.map) [
-      | inl same ↦ subst (λ n. used_count (get_or ts n []) ≡ used_count (table_at t n)) (sym same) (change.size kept)
-      | inr other ↦ ap used_count (change.maps m other)
-    ]
+    | inl same ↦ subst (λ n. used_count (get_or ts n []) ≡ used_count (table_at t n)) (sym same) (change.size kept)
+    | inr other ↦ ap used_count (change.maps m other)
+  ]
 
   -- an update that asks for the size is touched by each change of it
   asks_size : (key : List ℕ) (flags : ℕ) (found : Bool) → nat_lt 2 flags ≡ false → nat_lt flags 2 && not found ≡ true → e.presence && (not (nat_lt 2 flags) && (bytes_eq key e.key || (nat_lt flags 2 && not found))) ≡ false → e.presence ≡ false
@@ -219,28 +220,40 @@ module _ (p : ProgramView) (t : TableState) (ts : List (List Slot)) (e : Change)
     where
       s : SiteView
       s = site_at p.sites j
+
       d : MapDecl
       d = decl_of t.decls s.map
+
       key : List ℕ
       key = bytes_of d.key (map_list (held_value h) s.key)
+
       value : List ℕ
       value = bytes_of d.value (drop 1 (map_list (held_value h) s.operands))
+
       flags : ℕ
       flags = slice_index (map_list (held_value h) s.operands) 0
+
       second : ℕ
       second = slice_index (map_list (held_value h) s.operands) 1
+
       under : Pointer
       under = access_pointer h s
+
       present : TableState → Bool
       present x = not (is_null (key_pointer p x h before j))
+
       looks_by : (a : Act) → a ≡ s.act → looks (operation_as a key value flags second) ≡ true → looks (asked t.decls h s) ≡ true
       looks_by a is l = subst (λ b. looks (operation_as b key value flags second) ≡ true) is l
+
       finds_by : (a : Act) → a ≡ s.act → finds_key a ≡ true → finds_key s.act ≡ true
       finds_by a is f = subst (λ b. finds_key b ≡ true) is f
+
       key_by : (a : Act) → a ≡ s.act → finds_key a ≡ true → looks (operation_as a key value flags second) ≡ true → key_pointer p (with_tables t ts) h before j ≡ key_pointer p t h before j
       key_by a is f l = key_stays before j (found_why j (finds_by a is f) q (looks_by a is l))
+
       entry_by : (a : Act) → a ≡ s.act → touched_as a p t.decls h j e ≡ entry_touched p t.decls h e under → entry_value p (with_tables t ts) h before s.map under ≡ entry_value p t h before s.map under
       entry_by a is same = entry_stays before s.map under (access_why j a (subst (λ b. touched_as b p t.decls h j e ≡ entry_touched p t.decls h e under) is same) q)
+
       size_by : act.Update ≡ s.act → (k : MapKind) → d.kind ≡ k → k ≡ Hash → nat_lt 2 flags ≡ false → nat_lt flags 2 && not (present t) ≡ true → used_count (get_or ts s.map []) ≡ used_count (table_at t s.map)
       size_by is Array kind hash past asks = cc
       size_by is Hash kind hash past asks =
@@ -250,18 +263,20 @@ module _ (p : ProgramView) (t : TableState) (ts : List (List Slot)) (e : Change)
           let same : found ≡ present t = ap (λ x. not (is_null x)) (held (sym is) kind ∙ at_key) in
           let u : (s.map == e.map) && presence_touched d.kind (asked t.decls h s) found e ≡ false = subst (λ x. (s.map == e.map) && x ≡ false) (touched_is s.act j (finds_by act.Update is refl)) q in
           let v : (s.map == e.map) && presence_touched Hash (operation_as act.Update key value flags second) found e ≡ false =
-              subst (λ (b : Act). (s.map == e.map) && presence_touched Hash (operation_as b key value flags second) found e ≡ false) (sym is) (subst (λ k. (s.map == e.map) && presence_touched k (asked t.decls h s) found e ≡ false) kind u) in
+          subst (λ (b : Act). (s.map == e.map) && presence_touched Hash (operation_as b key value flags second) found e ≡ false) (sym is) (subst (λ k. (s.map == e.map) && presence_touched k (asked t.decls h s) found e ≡ false) kind u) in
           size_stays s.map (elim (apart s.map (presence_touched Hash (operation_as act.Update key value flags second) found e) v) [
-              | inl other ↦ inl other
-              | inr z ↦ inr (asks_size key flags found past (subst (λ x. nat_lt flags 2 && not x ≡ true) (sym same) asks) z)
-            ])
+            | inl other ↦ inl other
+            | inr z ↦ inr (asks_size key flags found past (subst (λ x. nat_lt flags 2 && not x ≡ true) (sym same) asks) z)
+          ])
+
       update_by : act.Update ≡ s.act → (k : MapKind) → d.kind ≡ k → (plus minus : ℕ) →
           update_answer k d (used_count (get_or ts s.map []) + plus) minus (present (with_tables t ts)) key flags ≡ update_answer k d (used_count (table_at t s.map) + plus) minus (present t) key flags
       update_by is Array kind plus minus = refl
       update_by is Hash kind plus minus =
           ap number_of (refused (d.cap + minus) (used_count (get_or ts s.map []) + plus) (used_count (table_at t s.map) + plus) flags (present (with_tables t ts)) (present t)
-            (λ past. ap (λ x. not (is_null x)) (key_by act.Update is refl (ap not past)))
-            (λ past asks. ap (λ n. n + plus) (size_by is Hash kind refl past asks)))
+          (λ past. ap (λ x. not (is_null x)) (key_by act.Update is refl (ap not past)))
+          (λ past asks. ap (λ n. n + plus) (size_by is Hash kind refl past asks)))
+
       by : (a : Act) → a ≡ s.act → reads a ≡ true → answer_as a (operation_as a key value flags second) p (with_tables t ts) h before j ≡ answer_as a (operation_as a key value flags second) p t h before j
       by act.Lookup is f = ap (λ x. bit (not (is_null x))) (key_by act.Lookup is f refl)
       by act.Delete is f = ap (λ x. cast_unsigned w64 (delete_answer d.kind (not (is_null x)))) (key_by act.Delete is f refl)

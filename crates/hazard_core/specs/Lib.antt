@@ -6,3 +6,4 @@ pub mod Marks
 pub mod Commits
 pub mod Changes
 pub mod Keeping
+pub mod Standing

@@ -1,5 +1,6 @@
 //! What holds of reads and changes. Each function's contract is a law; it computes nothing.
 
+ghost use Rattle.hazard_core.specs.Standing.{TablesStand};
 ghost use Rattle.hazard_core.specs.Keeping.{ReadsKeep};
 ghost use Rattle.hazard_core.specs.Changes.{Unmoved, CommitsChange, HostChanges};
 
@@ -18,3 +19,10 @@ pub fn changes()
 pub fn reads_keep()
     ensures { ReadsKeep }
 {}
+
+/// The tables that a load leaves stand for the maps that were loaded.
+pub fn tables_stand()
+    ensures { TablesStand }
+{
+    xdp_maps::laws::index_laws();
+}

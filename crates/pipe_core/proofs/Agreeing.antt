@@ -1,6 +1,6 @@
 -- What packets hold of reads.
-use Rattle.std.proofs.Common.{◌≡◌, ◌≢◌, ℕ, zero, suc, ◌+◌, ◌<◌, ◌≤◌, ◌⊎◌, inl, inr, Bool, true, false, List, [], ◌∷◌, Option, Some, None, length, get_or, drop, refl, sym, ap, ◌∙◌, subst, arith, not, cond, length-set, get_or-set_other, get_or-set_same}
-use Rattle.std.specs.Prelude.{if◌then◌else◌, nat_lt, nat_le, ◌==◌, ◌&&◌, ◌||◌, slice_set, slice_index, map as map_list, All}
+use Rattle.std.proofs.Common.{◌≡◌, ◌≢◌, ℕ, zero, suc, ◌+◌, ◌<◌, ◌≤◌, ◌⊎◌, inl, inr, Bool, true, false, List, [], ◌∷◌, Option, Some, None, length, get_or, drop, refl, sym, ap, ◌∙◌, subst, arith, not, length-set, get_or-set_other, get_or-set_same}
+use Rattle.std.specs.Prelude.{if◌then◌else◌, nat_lt, nat_le, ◌==◌, ◌&&◌, ◌||◌, map as map_list, All}
 use Rattle.std.proofs.lemmas.Bool.Decides.{nat_tests, Decides-eqb}
 use Rattle.std.proofs.lemmas.Bool.{cases_lt}
 use Rattle.xdp_machine.specs.State.{PacketIn}
@@ -8,18 +8,16 @@ use Rattle.cell_core.specs.declared.operator.Operator.{Operator}
 use Rattle.cell_core.specs.declared.operator.Operator.TheVariants.{Found, Answer, Wire, Phi}
 use Rattle.cell_core.specs.Cells.{CellView, cell_at, no_cell, site_in, number, bits_from, bit, on}
 use Rattle.cell_core.specs.Formed.{takes}
-use Rattle.cell_core.specs.Sites.{ProgramView, SiteView, site_at}
+use Rattle.cell_core.specs.Sites.{SiteView, site_at}
 use Rattle.cell_core.specs.Rows.{RowsRise, numbers}
-use Rattle.hazard_core.specs.Tables.{Slot, TableState}
-use Rattle.hazard_core.specs.Held.{Held, Pointer, Null, is_null, held_value, pointer_in, with_cell, pending, guard_on}
-use Rattle.hazard_core.specs.Overlay.{found_pointer, answer_over}
+use Rattle.hazard_core.specs.Tables.{TableState}
+use Rattle.hazard_core.specs.Held.{Held, Pointer, Null, is_null, held_value, pointer_in, with_cell, guard_on}
 use Rattle.hazard_core.specs.Rows.{phi_pointer, cell_number, cell_pointer, with_made, made_from, with_row}
 use Rattle.hazard_core.specs.Marks.{known_off}
 use Rattle.hazard_core.specs.Keeping.{SameCell, AreAlike, LooksBelow, ReadsKeep}
-use Rattle.pipe_core.specs.Machine.{Packet, Came, Build, packet_of, marked_at, with_kept_marks, entered}
-use Rattle.pipe_core.specs.Computed.{IsPlanned}
-use Rattle.pipe_core.specs.Agreement.{ReadsArePlanned, IsMade, Agrees, excused_as, off_below, EnteringAgrees}
-use Rattle.pipe_core.proofs.Computing.{map_alike, drop_next, There, next_there, not_here, others}
+use Rattle.pipe_core.specs.Machine.{Build, packet_of, marked_at, with_kept_marks, entered}
+use Rattle.pipe_core.specs.Agreement.{ReadsArePlanned, IsMade, excused_as, off_below, EnteringAgrees}
+use Rattle.pipe_core.proofs.Computing.{map_alike, drop_next}
 
 -- ---- a cell is made the same from the same inputs
 
@@ -83,26 +81,28 @@ made_step : (keep : ReadsKeep) (b : Build) → ReadsArePlanned b → (t : TableS
     p ≡ cell_pointer b.program b.plan.row r t h (cell_at b.program.cells k) (cell_at b.program.cells k).op →
     AllMade b t packet r k h → AllMade b t packet r (suc k) (with_cell h k x p)
 made_step keep b plan t packet r k x p h in_range here is_value is_pointer m = record {
-    values = length-set h.values k x ∙ m.values;
-    pointers = length-set h.pointers k p ∙ m.pointers;
-    each = λ c l there. elim (cases_lt c k) [
-        | inl before ↦ stays_made keep b plan t packet h g c l (alike c (there.0)) (λ i d n. set_same h k x p (get_or (cell_at b.program.cells c).ins i d) (λ e. let up = (plan.planned.formed.each c l).earlier i d n in omega (arith, up, e, before)))
-            (set_same h k x p c (λ e. omega arith)) (m.each c l (there.0, before))
-        | inr after ↦ own c (omega (arith, there.1, after))
-      ];
-  }
+  values = length-set h.values k x ∙ m.values;
+  pointers = length-set h.pointers k p ∙ m.pointers;
+  each = λ c l there. elim (cases_lt c k) [
+    | inl before ↦ stays_made keep b plan t packet h g c l (alike c (there.0)) (λ i d n. set_same h k x p (get_or (cell_at b.program.cells c).ins i d) (λ e. let up = (plan.planned.formed.each c l).earlier i d n in omega (arith, up, e, before)))
+        (set_same h k x p c (λ e. omega arith)) (m.each c l (there.0, before))
+    | inr after ↦ own c (omega (arith, there.1, after))
+  ];
+}
   where
     g : Held
     g = with_cell h k x p
+
     alike : (c : ℕ) → b.plan.row c ≡ r → AreAlike b.program b.plan.row (b.plan.row c) h g
     alike c e i (inl lower) = set_same h k x p i (λ q. let s : b.plan.row i ≡ b.plan.row k = ap b.plan.row q in omega (arith, s, here, e, lower))
     alike c e i (inr past) = set_same h k x p i (λ q. omega (arith, q, past, in_range))
+
     own : (c : ℕ) → c ≡ k → IsMade b t packet g c
     own c e = subst (IsMade b t packet g) (sym e) (
         let d = cell_at b.program.cells k in
         let q = made_same keep b (b.plan.row k) t packet h g d d.op (alike k here)
-              (λ i y n. set_same h k x p (get_or d.ins i y) (λ e. let up = (plan.planned.formed.each k in_range).earlier i y n in omega (arith, up, e)))
-              (plan.planned.formed.each k in_range).enough (λ j e. plan.below k j in_range e) in
+        (λ i y n. set_same h k x p (get_or d.ins i y) (λ e. let up = (plan.planned.formed.each k in_range).earlier i y n in omega (arith, up, e)))
+        (plan.planned.formed.each k in_range).enough (λ j e. plan.below k j in_range e) in
         record {
           value = get_or-set_same h.values k x 0 (omega (arith, in_range, m.values)) ∙ is_value
               ∙ ap (λ r. bits_from (cell_number b.program b.plan.row r t packet h d d.op) d.from d.width) (sym here) ∙ ap (λ n. bits_from n d.from d.width) q.number;
@@ -112,13 +112,13 @@ made_step keep b plan t packet r k x p h in_range here is_value is_pointer m = r
 
 made_past : (b : Build) (t : TableState) (packet : PacketIn) (r k : ℕ) (h : Held) → (b.plan.row k ≡ r → ⊥) → AllMade b t packet r k h → AllMade b t packet r (suc k) h
 made_past b t packet r k h apart m = record {
-    values = m.values;
-    pointers = m.pointers;
-    each = λ c l there. elim (cases_lt c k) [
-        | inl before ↦ m.each c l (there.0, before)
-        | inr after ↦ let e : c ≡ k = omega (arith, there.1, after) in absurd (apart (sym (ap b.plan.row e) ∙ there.0))
-      ];
-  }
+  values = m.values;
+  pointers = m.pointers;
+  each = λ c l there. elim (cases_lt c k) [
+    | inl before ↦ m.each c l (there.0, before)
+    | inr after ↦ let e : c ≡ k = omega (arith, there.1, after) in absurd (apart (sym (ap b.plan.row e) ∙ there.0))
+  ];
+}
 
 row_made : (keep : ReadsKeep) (b : Build) → ReadsArePlanned b → (t : TableState) (packet : PacketIn) (r k : ℕ) (cs : List CellView) (h : Held) → drop k b.program.cells ≡ cs → k + length cs ≡ length b.program.cells →
     AllMade b t packet r k h → AllMade b t packet r (length b.program.cells) (made_from b.program b.plan.row r t packet k cs h)
@@ -129,8 +129,10 @@ row_made keep b plan t packet r k (c ∷ cs) h e n m =
   where
     x : ℕ
     x = bits_from (cell_number b.program b.plan.row r t packet h c c.op) c.from c.width
+
     p : Pointer
     p = cell_pointer b.program b.plan.row r t h c c.op
+
     one : (here : Bool) → (b.plan.row k == r) ≡ here → cell_at b.program.cells k ≡ c → k < length b.program.cells → AllMade b t packet r (suc k) (if here then with_cell h k x p else h)
     one true here same l = made_step keep b plan t packet r k x p h l ((Decides-eqb (b.plan.row k) r).0 here)
         (ap (λ (d : CellView). bits_from (cell_number b.program b.plan.row r t packet h d d.op) d.from d.width) (sym same)) (ap (λ (d : CellView). cell_pointer b.program b.plan.row r t h d d.op) (sym same)) m
@@ -147,11 +149,14 @@ keeps_other b r t packet k (d ∷ cs) h n c why =
   where
     x : ℕ
     x = bits_from (cell_number b.program b.plan.row r t packet h d d.op) d.from d.width
+
     p : Pointer
     p = cell_pointer b.program b.plan.row r t h d d.op
+
     apart : b.plan.row k ≡ r → (b.plan.row c ≢ r) ⊎ (length b.program.cells ≤ c) → c ≢ k
     apart here (inl other) e = other (ap b.plan.row e ∙ here)
     apart here (inr past) e = omega (arith, n, past, e)
+
     one : (here : Bool) → (b.plan.row k == r) ≡ here → SameCell h (if here then with_cell h k x p else h) c
     one true here = set_same h k x p c (apart ((Decides-eqb (b.plan.row k) r).0 here) why)
     one false here = record { value = refl; pointer = refl }
@@ -214,6 +219,7 @@ excused_before row k h g s mark same e =
     kept true false e f = cc
     kept true true e f = cc
     kept false b e f = refl
+
     by : (c : Bool) → nat_lt (row s.guard) k ≡ c → c && not (guard_on h s) ≡ false
     by false f = refl
     by true f =
@@ -236,19 +242,21 @@ entering keep rise b plan t came k x a =
       values = w.values;
       pointers = w.pointers;
       each = λ c l lower free. elim (cases_lt (b.plan.row c) k) [
-          | inl before ↦
-              stays_made keep b plan t packet x.held (with_row b.program b.plan.row k t packet x.held) c l (alike w.same c before)
-                (λ i d n. w.same (get_or (cell_at b.program.cells c).ins i d) (inl (let up = rise b.program.cells b.plan.row plan.planned.rows c l i d n in omega (arith, up, before))))
-                (w.same c (inl before)) (a.each c l before (free_before w.same c l (site_in (cell_at b.program.cells c).op) refl free))
-          | inr after ↦ w.made c l (omega (arith, lower, after))
-        ];
+        | inl before ↦
+            stays_made keep b plan t packet x.held (with_row b.program b.plan.row k t packet x.held) c l (alike w.same c before)
+            (λ i d n. w.same (get_or (cell_at b.program.cells c).ins i d) (inl (let up = rise b.program.cells b.plan.row plan.planned.rows c l i d n in omega (arith, up, before))))
+            (w.same c (inl before)) (a.each c l before (free_before w.same c l (site_in (cell_at b.program.cells c).op) refl free))
+        | inr after ↦ w.made c l (omega (arith, lower, after))
+      ];
     }
   where
     g : Held
     g = with_row b.program b.plan.row k t (packet_of came) x.held
+
     alike : ((c : ℕ) → (b.plan.row c < k) ⊎ (length b.program.cells ≤ c) → SameCell x.held g c) → (c : ℕ) → b.plan.row c < k → AreAlike b.program b.plan.row (b.plan.row c) x.held g
     alike same c lower i (inl l) = same i (inl (omega (arith, l, lower)))
     alike same c lower i (inr past) = same i (inr past)
+
     free_before : ((c : ℕ) → (b.plan.row c < k) ⊎ (length b.program.cells ≤ c) → SameCell x.held g c) → (c : ℕ) → c < length b.program.cells → (o : Option ℕ) → site_in (cell_at b.program.cells c).op ≡ o →
         excused_as b (suc k) (with_kept_marks b k g x) o ≡ false → excused_as b k x o ≡ false
     free_before same c l None e free = refl

@@ -108,7 +108,7 @@ no_choice : (b : Build) → b.program.sites ≡ [] → (s : State) (x : Option P
 no_choice b none s None = refl
 no_choice b none s (Some x) = rw none refl
 
-work_is : (b : Build) → b.program.sites ≡ [] → (i : Input) → i.host ≡ None → (s : State) → work b i s ≡ worked b s false s.places Moves
+pub work_is : (b : Build) → b.program.sites ≡ [] → (i : Input) → i.host ≡ None → (s : State) → work b i s ≡ worked b s false s.places Moves
 unfolding work
 work_is b none i silent s = rw (no_sends b none 0 s.places, swept_none b 0 s.places (no_sends b none 0 s.places), silent, no_choice b none s (place_at s.places b.plan.commit)) refl
 

@@ -1,24 +1,24 @@
 -- A change marks the reads that it touches; the others find what they found.
-use Rattle.std.proofs.Common.{◌≡◌, ℕ, zero, suc, ◌+◌, ◌<◌, ◌≤◌, ◌⊎◌, inl, inr, Bool, true, false, List, [], ◌∷◌, Option, Some, None, length, get_or, refl, sym, ap, ◌∙◌, subst, arith, not, cond}
-use Rattle.std.specs.Prelude.{if◌then◌else◌, nat_lt, nat_le, ◌==◌, ◌&&◌, ◌||◌, filter, map as map_list}
-use Rattle.std.specs.List.{position_or_len, prefix_len, list_any}
+use Rattle.std.proofs.Common.{◌≡◌, ℕ, zero, suc, ◌+◌, ◌<◌, ◌≤◌, Bool, true, false, List, [], ◌∷◌, Option, Some, None, length, refl, sym, ap, ◌∙◌, subst, arith, not, cond}
+use Rattle.std.specs.Prelude.{nat_lt, nat_le, ◌&&◌, ◌||◌, filter, map as map_list}
+use Rattle.std.specs.List.{position_or_len, list_any}
 use Rattle.std.proofs.lemmas.Bool.Decides.{nat_tests, Decides-eqb}
 use Rattle.xdp_machine.specs.State.{PacketIn}
 use Rattle.xdp_maps.specs.declared.decl.MapKind.TheVariants.{Hash}
 use Rattle.cell_core.specs.declared.operator.Operator.{Operator}
 use Rattle.cell_core.specs.declared.operator.Operator.TheVariants.{Found, Answer}
 use Rattle.cell_core.specs.declared.site.Act.TheVariants as act
-use Rattle.cell_core.specs.Cells.{CellView, cell_at, no_cell, site_in, bits_from, bit}
-use Rattle.cell_core.specs.Sites.{ProgramView, SiteView, site_at}
+use Rattle.cell_core.specs.Cells.{CellView, cell_at, site_in, bits_from, bit}
+use Rattle.cell_core.specs.Sites.{ProgramView, site_at}
 use Rattle.cell_core.specs.Rows.{numbers}
-use Rattle.hazard_core.specs.Tables.{Slot, TableState, decl_of}
-use Rattle.hazard_core.specs.Held.{Held, Pointer, is_null, is_found_of, is_answer_of, found_cell, answer_cell, read_cells, pointer_in, pending, guard_on}
-use Rattle.hazard_core.specs.Overlay.{found_pointer, answer_over}
+use Rattle.hazard_core.specs.Tables.{TableState, decl_of}
+use Rattle.hazard_core.specs.Held.{Held, Pointer, is_null, is_found_of, is_answer_of, found_cell, answer_cell, pointer_in, pending, guard_on}
+use Rattle.hazard_core.specs.Overlay.{found_pointer}
 use Rattle.hazard_core.specs.Rows.{cell_number, cell_pointer}
-use Rattle.hazard_core.specs.Marks.{Change, touches, known_off, has_read, is_marked}
-use Rattle.hazard_core.specs.Changes.{IsChange, with_tables, finds_key, reads, Stays, Unmoved}
+use Rattle.hazard_core.specs.Marks.{touches, known_off, has_read, is_marked}
+use Rattle.hazard_core.specs.Changes.{with_tables, finds_key, reads, Stays, Unmoved}
 use Rattle.pipe_core.specs.Machine.{Packet, Build, marked_at, struck}
-use Rattle.pipe_core.specs.Agreement.{ReadsArePlanned, IsMade, Agrees, excused_as, off_below, StrikingAgrees}
+use Rattle.pipe_core.specs.Agreement.{ReadsArePlanned, IsMade, excused_as, off_below, StrikingAgrees}
 use Rattle.pipe_core.proofs.Agreeing.{marked_of, or_false, le_lt}
 
 record First (test : CellView → Bool) (xs : List CellView) (c : ℕ) : Type 0 where
@@ -31,9 +31,11 @@ first_at test (x ∷ xs) zero l e = record { at_most = by (test x) e; passes = a
   where
     n : ℕ
     n = position_or_len test xs
+
     by : (b : Bool) → b ≡ true → cond (not b) (1 + n) 0 ≤ 0
     by true e = omega arith
     by false e = cc
+
     at : (b : Bool) → b ≡ true → test (cell_at (x ∷ xs) (cond (not b) (1 + n) 0)) ≡ true
     at true f = e
     at false f = cc
@@ -41,12 +43,15 @@ first_at test (x ∷ xs) (suc c) l e = by (test x) refl (first_at test xs c (ome
   where
     n : ℕ
     n = position_or_len test xs
+
     next : (m : ℕ) → suc n ≡ m → test (cell_at xs n) ≡ true → test (cell_at (x ∷ xs) m) ≡ true
     next zero e h = absurd (omega arith)
     next (suc m) e h = subst (λ k. test (cell_at xs k) ≡ true) (omega arith) h
+
     two : (b : Bool) → test x ≡ b → First test xs c → (cond (not b) (1 + n) 0 ≤ suc c) × (test (cell_at (x ∷ xs) (cond (not b) (1 + n) 0)) ≡ true)
     two true f h = (omega arith, f)
     two false f h = (omega (arith, h.at_most), next (1 + n) (omega arith) h.passes)
+
     by : (b : Bool) → test x ≡ b → First test xs c → First test (x ∷ xs) (suc c)
     by b f h = let q = two (test x) refl h in record { at_most = q.0; passes = q.1 }
 
@@ -57,9 +62,11 @@ first_in test (x ∷ xs) l = by (test x) refl l (first_in test xs)
   where
     n : ℕ
     n = position_or_len test xs
+
     next : (m : ℕ) → suc n ≡ m → test (cell_at xs n) ≡ true → test (cell_at (x ∷ xs) m) ≡ true
     next zero e h = absurd (omega arith)
     next (suc m) e h = subst (λ k. test (cell_at xs k) ≡ true) (omega arith) h
+
     by : (b : Bool) → test x ≡ b → cond (not b) (1 + n) 0 < length (x ∷ xs) → (n < length xs → test (cell_at xs n) ≡ true) → test (cell_at (x ∷ xs) (cond (not b) (1 + n) 0)) ≡ true
     by true e l more = e
     by false e l more = next (1 + n) (omega arith) (more (omega arith))
@@ -86,6 +93,7 @@ any_second test keep x y k e = by (keep x) (any_first test keep y [] k e)
     or_true : (a b : Bool) → b ≡ true → a || b ≡ true
     or_true true b f = refl
     or_true false b f = f
+
     by : (c : Bool) → list_any test (filter keep (y ∷ [])) ≡ true → list_any test (cond c (x ∷ filter keep (y ∷ [])) (filter keep (y ∷ []))) ≡ true
     by true more = or_true (test x) (list_any test (filter keep (y ∷ []))) more
     by false more = more
@@ -107,12 +115,16 @@ module _ (b : Build) (plan : ReadsArePlanned b) where
     where
       cells : List CellView
       cells = b.program.cells
+
       test : ℕ → Bool
       test d = nat_le (b.plan.row d) k
+
       keep : ℕ → Bool
       keep d = nat_lt d (length b.program.cells)
+
       site : (i : ℕ) → Some i ≡ Some j → i ≡ j
       site i e = cc
+
       by : (op : Operator) → (cell_at b.program.cells c).op ≡ op → site_in op ≡ Some j → list_any test (filter keep (found_cell b.program.cells j ∷ answer_cell b.program.cells j ∷ [])) ≡ true
       by (Found i) is e =
           let o : (cell_at b.program.cells c).op ≡ Found j = is ∙ ap Found (site i e) in
@@ -147,8 +159,8 @@ read_stays : (p : ProgramView) (row : ℕ → ℕ) (r j : ℕ) (t u : TableState
 read_stays p row r j t u packet h c (Found i) e s f a =
     let same : i ≡ j = cc in
     subst (λ k. TablesSame p row r t u packet h c (Found k)) (sym same) (
-      let q = s.found (f (ap Found same)) in
-      record { number = ap (λ (x : Pointer). bit (not (is_null x))) q; pointer = q })
+    let q = s.found (f (ap Found same)) in
+    record { number = ap (λ (x : Pointer). bit (not (is_null x))) q; pointer = q })
 read_stays p row r j t u packet h c (Answer i) e s f a =
     let same : i ≡ j = cc in
     subst (λ k. TablesSame p row r t u packet h c (Answer k)) (sym same) (record { number = s.answer (a (ap Answer same)); pointer = refl })
@@ -167,19 +179,23 @@ untouched false off touch e f g = cc
 pub striking : Unmoved → StrikingAgrees
 unfolding struck
 striking unmoved b plan t ts e packet k x change a = record {
-    values = a.values;
-    pointers = a.pointers;
-    each = λ c l lower free. by c l lower (site_in (cell_at b.program.cells c).op) refl free;
-  }
+  values = a.values;
+  pointers = a.pointers;
+  each = λ c l lower free. by c l lower (site_in (cell_at b.program.cells c).op) refl free;
+}
   where
     p : ProgramView
     p = b.program
+
     row : ℕ → ℕ
     row = b.plan.row
+
     h : Held
     h = x.held
+
     y : Packet
     y = record x { marks = map_list (λ j. marked_at x j || is_marked p row t.decls k h e j) (numbers 0 (length p.sites)) }
+
     -- a read that is not excused after the change
     record_free : (j : ℕ) → j < length p.sites → excused_as b (suc k) y (Some j) ≡ false → has_read p row k j ≡ true → (excused_as b (suc k) x (Some j) ≡ false) × (touches p t.decls h j e ≡ false)
     record_free j l free read =
@@ -189,17 +205,18 @@ striking unmoved b plan t ts e packet k x change a = record {
         let u = or_false (marked_at x j) (is_marked p row t.decls k h e j) (sym m ∙ q.0) in
         let off : known_off row k h s ≡ false = ap (λ c. c && not (guard_on h s)) (le_lt (row s.guard) k) ∙ q.1 in
         (ap (λ c. c || off_below row (suc k) h s) u.0 ∙ q.1, untouched (has_read p row k j) (known_off row k h s) (touches p t.decls h j e) read off u.1)
+
     by : (c : ℕ) → c < length p.cells → row c < suc k → (o : Option ℕ) → site_in (cell_at p.cells c).op ≡ o → excused_as b (suc k) y o ≡ false → IsMade b (with_tables t ts) packet h c
     by c l lower None is free =
         made_on b t (with_tables t ts) packet h c (unread p row (row c) t (with_tables t ts) packet h (cell_at p.cells c) (cell_at p.cells c).op is)
-          (a.each c l lower (ap (excused_as b (suc k) x) is))
+        (a.each c l lower (ap (excused_as b (suc k) x) is))
     by c l lower (Some j) is free =
         let q = record_free j (plan.sites c j l is) free (read_first b plan j c k l (omega arith) is) in
         let before = pending p row (row c) j in
         let stays = unmoved p t ts e h before j change q.1 (λ update hash. found_now c l lower j is q.0 update hash) in
         made_on b t (with_tables t ts) packet h c
-          (read_stays p row (row c) j t (with_tables t ts) packet h (cell_at p.cells c) (cell_at p.cells c).op is stays (plan.finds c j l) (plan.answers c j l))
-          (a.each c l lower (ap (excused_as b (suc k) x) is ∙ q.0))
+        (read_stays p row (row c) j t (with_tables t ts) packet h (cell_at p.cells c) (cell_at p.cells c).op is stays (plan.finds c j l) (plan.answers c j l))
+        (a.each c l lower (ap (excused_as b (suc k) x) is ∙ q.0))
       where
         found_now : (c : ℕ) → c < length p.cells → row c < suc k → (j : ℕ) → site_in (cell_at p.cells c).op ≡ Some j → excused_as b (suc k) x (Some j) ≡ false → (site_at p.sites j).act ≡ act.Update → (decl_of t.decls (site_at p.sites j).map).kind ≡ Hash →
             pointer_in h (found_cell p.cells j) ≡ found_pointer p t h (pending p row (row c) j) j

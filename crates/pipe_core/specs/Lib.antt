@@ -4,3 +4,4 @@ pub mod Computed
 pub mod Sequential
 pub mod Drive
 pub mod Agreement
+pub mod Sending

@@ -1,9 +1,11 @@
 -- One packet after another: the cell runs of packets, each on the maps that the one before left.
-use Rattle.std.specs.Prelude.{◌≡◌, List, [], ◌∷◌}
-use Rattle.xdp_maps.specs.State.{MapState}
+use Rattle.std.specs.Prelude.{◌≡◌, None, List, [], ◌∷◌}
+use Rattle.std.specs.List.{AllByRecursion}
+use Rattle.xdp_maps.specs.State.{MapState, IsSound}
 use Rattle.xdp_maps.specs.declared.decl.MapDecl.{MapDecl}
 use Rattle.cell_core.specs.Sites.{ProgramView, IsCellRun, after}
 use Rattle.cell_core.specs.Formed.{AreSited}
+use Rattle.hazard_core.specs.Tables.{maps_of}
 use Rattle.hazard_core.specs.Held.{Held, held_value}
 use Rattle.pipe_core.specs.Machine.{Came, Input, Build, packet_of}
 use Rattle.pipe_core.specs.History.{run, begin}
@@ -21,3 +23,9 @@ abbrev pub RunsWithoutMaps : Type 0
 RunsWithoutMaps =
     (b : Build) (decls : List MapDecl) → IsPlanned b → AreSited decls b.program → b.program.sites ≡ []
     → (maps : MapState) (is : List Input) → AreCellRuns b.program maps (run b is (begin b maps)).left (run b is (begin b maps)).came maps
+
+-- And while the host is silent the maps stay as they were.
+abbrev pub MapsStay : Type 0
+MapsStay =
+    (b : Build) → b.program.sites ≡ [] → (maps : MapState) → IsSound maps → (is : List Input) → AllByRecursion (λ i. i.host ≡ None) is
+    → maps_of (run b is (begin b maps)).state.tables ≡ maps

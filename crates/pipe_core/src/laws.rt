@@ -2,8 +2,9 @@
 
 ghost use Rattle.pipe_core.specs.History.{KeepsOrder, IsAlwaysInOrder};
 ghost use Rattle.pipe_core.specs.Computed.{KeepsComputed, IsAlwaysComputed};
-ghost use Rattle.pipe_core.specs.Sequential.{RunsWithoutMaps};
+ghost use Rattle.pipe_core.specs.Sequential.{RunsWithoutMaps, MapsStay};
 ghost use Rattle.pipe_core.specs.Drive.{EndsWithoutMaps};
+ghost use Rattle.pipe_core.specs.Sending.{AlwaysSendsBack};
 ghost use Rattle.pipe_core.specs.Agreement.{EnteringAgrees, StrikingAgrees};
 
 /// The pipe holds frames and answers in the order in which the frames came, and each answer is that of its own packet.
@@ -27,6 +28,13 @@ pub fn runs_without_maps()
     cell_core::laws::rows_rise();
 }
 
+/// Without operations on maps, and with a silent host, the maps stay.
+pub fn maps_stay()
+    ensures { MapsStay }
+{
+    hazard_core::laws::tables_stand();
+}
+
 /// Without operations on maps the full drive of frames ends: each beat counts a clock in and one out, each frame one, and the
 /// places count once.
 pub fn ends_without_maps()
@@ -43,3 +51,8 @@ pub fn agreement()
     hazard_core::laws::reads_keep();
     hazard_core::laws::unmoved();
 }
+
+/// Where a packet has a mark whose guard is known as 1, it and all younger ones go back, and no other; none is injected then.
+pub fn sends_back()
+    ensures { AlwaysSendsBack }
+{}
