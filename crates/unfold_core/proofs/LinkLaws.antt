@@ -12,7 +12,6 @@ use Rattle.unfold_core.specs.declared.edges.Point.{Point}
 use Rattle.unfold_core.specs.declared.links.Edge.{Edge}
 use Rattle.unfold_core.specs.Loops.{AreLoops}
 use Rattle.unfold_core.specs.Nodes.{GraphNode, IsNode, start}
-use Rattle.unfold_core.specs.Laws.{IsStrictTotalOrder}
 use Rattle.unfold_core.specs.Edges.{leaving}
 use Rattle.unfold_core.specs.EdgeLaws.{LeadsUp}
 use Rattle.unfold_core.specs.Graphs.{same, met, arriving, first_point, ends, edges_from, leading, IsGraph}
@@ -22,9 +21,9 @@ use Rattle.unfold_core.specs.RunLaws.{edge}
 use Rattle.unfold_core.specs.GraphLaws.{EdgesLeadOn, NodesAreReached}
 use Rattle.unfold_core.proofs.NodeLaws.{nodes_are_ordered, start_is_node}
 use Rattle.unfold_core.proofs.EdgesUp.{leaving_goes_up}
-use Rattle.unfold_core.proofs.Arriving.{Fine, fine_of, same_itself, same_is}
+use Rattle.unfold_core.proofs.Arriving.{fine_of, same_itself, same_is}
 use Rattle.unfold_core.proofs.Numbering.{start_is_first}
-use Rattle.unfold_core.proofs.Reaching.{In, all_in, found_at, found_own, number_above, arriving_has, in_edges, numbered_at, in_links}
+use Rattle.unfold_core.proofs.Reaching.{In, all_in, found_at, found_own, number_own, number_above, arriving_has, in_edges, numbered_at, in_links}
 
 in_at : (es : List Point) (k : ℕ) (d : Point) → k < length es → In (get_or es k d) es
 in_at [] k d below = absurd (omega arith)
@@ -68,12 +67,6 @@ edges_lead_on p ls g loops h = links_all (λ x. (x.from < x.to) × (x.to < lengt
     by_result k below (Err w) e = All-nil (λ x. (t : Bool) → ((edge (0 + k) t (number_of ls x.node g)).from < (edge (0 + k) t (number_of ls x.node g)).to) × ((edge (0 + k) t (number_of ls x.node g)).to < length g))
 
 -- ---- an edge leads to each node but the first
-
-number_own : (ls : List Loop) (g : List Point) (k : ℕ) (d : Point) → IsStrictTotalOrder ls → Fine ls g → k < length g → number_of ls (get_or g k d).node g ≡ k
-number_own ls [] k d o h below = absurd (omega arith)
-number_own ls (p ∷ ps) zero d o h below = ap (λ b. if b then suc (number_of ls p.node ps) else zero) (o.irreflexive p.node h.0)
-number_own ls (p ∷ ps) (suc k) d o h below =
-    ap (λ b. if b then suc (number_of ls (get_or ps k d).node ps) else zero) (h.1 k d (omega arith)) ∙ ap suc (number_own ls ps k d o h.2 (omega arith))
 
 -- what arrives comes from somewhere
 arriving_source : (ls : List Loop) (n : GraphNode) (es : List Point) (k : Kinds) → arriving ls n None es ≡ Some k → (e : Point) × In e es × (same ls e.node n ≡ true)

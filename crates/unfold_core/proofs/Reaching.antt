@@ -13,10 +13,11 @@ use Rattle.unfold_core.specs.declared.links.Edge.{Edge}
 use Rattle.unfold_core.specs.Nodes.{GraphNode, IsNode, comes_before}
 use Rattle.unfold_core.specs.Laws.{IsStrictTotalOrder}
 use Rattle.unfold_core.specs.Edges.{leaving}
-use Rattle.unfold_core.specs.Graphs.{same, found, met, arrives, arriving, ends, edges_from, Pass}
+use Rattle.unfold_core.specs.Graphs.{same, AreOrdered, found, met, arrives, arriving, ends, edges_from, Pass}
 use Rattle.unfold_core.specs.Pending.{number_of}
 use Rattle.unfold_core.specs.Unfolding.{jumps_first, numbered, links}
-use Rattle.unfold_core.proofs.Arriving.{Fine, fine_nodes, same_not, same_itself, same_is, found_skip, found_here}
+use Rattle.unfold_core.proofs.NodeLaws.{nodes_are_ordered}
+use Rattle.unfold_core.proofs.Arriving.{Fine, fine_of, fine_nodes, same_not, same_itself, same_is, found_skip, found_here}
 
 abbrev pub In : Point → List Point → Type 0
 In e [] = ⊥
@@ -64,6 +65,20 @@ found_own ls [] k d o h below = absurd (omega arith)
 found_own ls (p ∷ ps) zero d o h below = found_here ls p.node p ps (same_itself ls p.node o h.0)
 found_own ls (p ∷ ps) (suc k) d o h below =
     found_skip ls (get_or ps k d).node p ps (same_not ls p.node (get_or ps k d).node (h.1 k d (omega arith))) ∙ found_own ls ps k d o h.2 (omega arith)
+
+pub number_own : (ls : List Loop) (g : List Point) (k : ℕ) (d : Point) → IsStrictTotalOrder ls → Fine ls g → k < length g → number_of ls (get_or g k d).node g ≡ k
+number_own ls [] k d o h below = absurd (omega arith)
+number_own ls (p ∷ ps) zero d o h below = ap (λ b. if b then suc (number_of ls p.node ps) else zero) (o.irreflexive p.node h.0)
+number_own ls (p ∷ ps) (suc k) d o h below =
+    ap (λ b. if b then suc (number_of ls (get_or ps k d).node ps) else zero) (h.1 k d (omega arith)) ∙ ap suc (number_own ls ps k d o h.2 (omega arith))
+
+-- neither comes before the other: they are one
+pub number_here : (ls : List Loop) (g : List Point) (d : Point) (n : GraphNode) (k : ℕ) → AreOrdered ls g → IsNode ls n → k < length g → comes_before ls (get_or g k d).node n ≡ false → comes_before ls n (get_or g k d).node ≡ false
+    → k ≡ number_of ls n g
+number_here ls g d n k h s below after before =
+    let o = nodes_are_ordered ls h.nested in
+    let one : (get_or g k d).node ≡ n = o.total (get_or g k d).node n (h.nodes k d below) s after before in
+    sym (number_own ls g k d o (fine_of ls g h.nodes h.ascending) below) ∙ ap (λ y. number_of ls y g) one
 
 pub number_above : (ls : List Loop) (g : List Point) (n : GraphNode) (k : ℕ) (d : Point) → IsStrictTotalOrder ls → Fine ls g → IsNode ls n → k < length g → comes_before ls (get_or g k d).node n ≡ true → k < number_of ls n g
 number_above ls [] n k d o h s below first = absurd (omega arith)

@@ -6,10 +6,12 @@ ghost use Rattle.unfold_core.specs.Loops.{AreLoops};
 ghost use Rattle.unfold_core.specs.Units.{ArePlaces};
 ghost use Rattle.unfold_core.specs.Nodes.{IsNode};
 ghost use Rattle.unfold_core.specs.Graphs.{AreOrdered, IsGraph};
+ghost use Rattle.unfold_core.specs.Pending.{number_of};
 ghost use Rattle.unfold_core.specs.Unfolding.{jumps_first, numbered, links};
 
 use crate::edges::{Point, goes_next, insn_at, leave};
 use crate::nesting::Loop;
+use crate::nodes::{Node, comes_before};
 use crate::pending::number_of;
 use bpf_isa::Insn;
 use kind_core::{BuildError, decide};
@@ -35,6 +37,23 @@ fn jumps_first(program: &Program, units: &[Option<Insn>], at: &Point) -> bool
     }
 }
 
+// The number of the node at the end of an edge: mostly the next one.
+fn number_behind(loops: &[Loop], nodes: &[Point], from: u32, node: &Node) -> usize
+    requires nodes { AreOrdered loops.now nodes.now }
+    requires node { IsNode loops.now node.now }
+    ensures number { result ≡ number_of loops.now node.now nodes.now }
+    ensures inside { result ≤ length nodes.now }
+{
+    let next = from as usize + 1;
+    if next < nodes.len() {
+        let at = &nodes[next].node;
+        if !comes_before(loops, at, node) && !comes_before(loops, node, at) {
+            return next;
+        }
+    }
+    number_of(loops, nodes, node)
+}
+
 // Adds the edges from a node to these.
 fn add_links(
     loops: &[Loop],
@@ -51,7 +70,7 @@ fn add_links(
 {
     let mut taken = jumps_first;
     for end in ends {
-        let to = number_of(loops, nodes, &end.node) as u32;
+        let to = number_behind(loops, nodes, from, &end.node) as u32;
         edges.push(Edge { from, taken, to })?;
         taken = true;
     }
