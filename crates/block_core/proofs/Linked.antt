@@ -1,6 +1,7 @@
 -- One clock of a linked design, part by part.
 use Rattle.std.specs.Prelude.{◌≡◌, ℕ, suc, ◌+◌, ◌==◌, cond, false, List, [], ◌∷◌, ◌++◌, length, map, None}
 use Rattle.std.proofs.Common.{refl, sym, ap, ◌∙◌, arith, get_or, subst, inl, inr}
+use Rattle.std.proofs.lemmas.List.{append-nil}
 use Rattle.net_core.specs.declared.tree.Word.{Word}
 use Rattle.net_core.specs.declared.tree.Net.{Net}
 use Rattle.net_core.specs.declared.design.Declared.{Declared}
@@ -90,15 +91,11 @@ memories_declared : (ms : List BlockMemory) → first_memories (map declare_memo
 memories_declared [] = refl
 memories_declared (m ∷ ms) = ap (λ l. first_memory m ∷ l) (memories_declared ms)
 
-no_more : (rs : List Word) → rs ++ [] ≡ rs
-no_more [] = refl
-no_more (r ∷ rs) = ap (λ l. r ∷ l) (no_more rs)
-
 pub starts_as_parts : (P : Type 0) → StartsAsParts P
 starts_as_parts P d port_names ports outputs =
     let rs = gather (λ p. (d.block p).registers) d.parts in
     let ms = all_memories d d.parts in
-    let words : first_words (map declare_register rs ++ map declare_memory ms) ≡ rs = words_declared rs (map declare_memory ms) ∙ ap (λ l. rs ++ l) (no_words ms) ∙ no_more rs in
+    let words : first_words (map declare_register rs ++ map declare_memory ms) ≡ rs = words_declared rs (map declare_memory ms) ∙ ap (λ l. rs ++ l) (no_words ms) ∙ append-nil rs in
     let memories : first_memories (map declare_register rs ++ map declare_memory ms) ≡ gather (λ p. map first_memory (d.block p).memories) d.parts =
     memories_past rs (map declare_memory ms) ∙ memories_declared ms ∙ map_gather first_memory (λ p. (d.block p).memories) d.parts in
     rw (words, memories)

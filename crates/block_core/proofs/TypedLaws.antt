@@ -1,7 +1,7 @@
 -- The wires, statements and outputs of a linked design are well typed where the blocks' are.
 use Rattle.std.specs.Prelude.{◌≡◌, ◌≢◌, ℕ, suc, ◌+◌, ◌<◌, ◌==◌, nat_le, ◌&&◌, true, false, List, [], ◌∷◌, ◌++◌, length, map}
 use Rattle.std.proofs.Common.{refl, sym, ap, ◌∙◌, arith, get_or, append_assoc, length-append, subst, inl, inr}
-use Rattle.std.proofs.lemmas.Bool.{eqb-true, and_parts}
+use Rattle.std.proofs.lemmas.Bool.{eqb-true, and_parts, and_from}
 use Rattle.std.proofs.lemmas.Bool.Decides.{nat_tests}
 use Rattle.std.proofs.lemmas.List.{get_or_append_left, get_or_at}
 use Rattle.net_core.specs.declared.design.Port.{Port}
@@ -17,7 +17,7 @@ use Rattle.block_core.specs.Formed.{block_wire_width, block_registers, block_mem
 use Rattle.block_core.proofs.GatheredLaws.{Runs, runs}
 use Rattle.block_core.proofs.Renamed.{by_test}
 use Rattle.block_core.proofs.Ordered.{Below, below_next}
-use Rattle.block_core.proofs.Widths.{Agree, width_renamed, right_renamed, sides, both_true, register_at, memory_at, wire_at, all_declared_typed}
+use Rattle.block_core.proofs.Widths.{Agree, width_renamed, right_renamed, sides, register_at, memory_at, wire_at, all_declared_typed}
 
 -- ---- wires: what stands before has its width
 pub record Known {P : Type 0} (d : Whole P) (before : List P) (p : P) (at : ℕ) (ws : List ℕ) : Type 0 where
@@ -50,11 +50,11 @@ module _ {M N : Type 0} (f : M → N) (q : M → Type 0) (s : Scope M) (t : Scop
       statement_moved (SBlock more) e h = statements_moved more e h
       statement_moved (SIf c x) e h =
           let p = and_parts (width_of s c == 1) (statement_typed s rs ms x) h in
-          both_true _ _ (one_typed c e.0 p.0) (statement_moved x e.1 p.1)
+          and_from _ _ (one_typed c e.0 p.0) (statement_moved x e.1 p.1)
       statement_moved (SIfElse c x y) e h =
           let p = and_parts (width_of s c == 1) (statement_typed s rs ms x && statement_typed s rs ms y) h in
           let o = and_parts (statement_typed s rs ms x) (statement_typed s rs ms y) p.1 in
-          both_true _ _ (one_typed c e.0 p.0) (both_true _ _ (statement_moved x e.1 o.0) (statement_moved y e.2 o.1))
+          and_from _ _ (one_typed c e.0 p.0) (and_from _ _ (statement_moved x e.1 o.0) (statement_moved y e.2 o.1))
       statement_moved (SSet i x) e h =
           let p = sides (get_or rs i 0) (width_of s x) h in
           let k = width_renamed f q s t a x e (omega (arith, p.some, p.is)) in
@@ -73,7 +73,7 @@ module _ {M N : Type 0} (f : M → N) (q : M → Type 0) (s : Scope M) (t : Scop
       statements_moved SEnd e h = refl
       statements_moved (SThen x more) e h =
           let p = and_parts (statement_typed s rs ms x) (statements_typed s rs ms more) h in
-          both_true _ _ (statement_moved x e.0 p.0) (statements_moved more e.1 p.1)
+          and_from _ _ (statement_moved x e.0 p.0) (statements_moved more e.1 p.1)
 
 module _ {P : Type 0} (d : Whole P) (port_names : List (List ℕ)) (ports : List Port) (outputs : List (OutputTree (Name P))) (l : IsPlaced d) where
   agree_before : (before : List P) (p : P) (at : ℕ) (ws : List ℕ) → Known d before p at ws → Agree (resolve d) (IsBefore d before p at) (names_scope d ports) (scope (link d port_names ports outputs) ws)
@@ -111,7 +111,7 @@ module _ {P : Type 0} (d : Whole P) (port_names : List (List ℕ)) (ports : List
       let r : right_width t (rename_right (resolve d) x.right) ≡ right_width s x.right = right_renamed (resolve d) (IsBefore d before p at) s t (agree_before before p at ws k) x.right o.0 (omega (arith, w.some, w.is)) in
       let one : (same x.width (right_width t (rename_right (resolve d) x.right)) && nat_le x.width 64) ≡ true = rw r y.0 in
       let n : at + suc (length own) ≡ suc at + length own = omega arith in
-      both_true _ _ one (part_typed before p (suc at) (ws ++ x.width ∷ []) (front ++ x.width ∷ []) own rest b
+      and_from _ _ one (part_typed before p (suc at) (ws ++ x.width ∷ []) (front ++ x.width ∷ []) own rest b
       (next_known d before p at ws front (map block_wire_width own) x.width k b e c) (e ∙ sym (append_assoc front (x.width ∷ []) (map block_wire_width own))) (length-append front (x.width ∷ []) ∙ omega arith) o.1 y.1
       (λ ws k. go ws (subst (λ m. Known d before p m ws) (sym n) k)))
 
@@ -159,7 +159,7 @@ module _ {P : Type 0} (d : Whole P) (port_names : List (List ℕ)) (ports : List
   statements_typed_in [] h r i = refl
   statements_typed_in (p ∷ ps) h r i =
       let a = i p (inl refl) in
-      both_true _ _
+      and_from _ _
       (statement_moved (resolve d) (IsThere d) (names_scope d ports) (full_scope (link d port_names ports outputs)) agree_all (block_registers (d.block p)) (block_memories (d.block p)) _ _ (start registers_of d p) (start memories_of d p)
       (record { register = λ j q. register_at d l p j a q; memory = λ j q. memory_at d l p j a q }) (d.block p).statement (r p a) (h p a).statement)
       (statements_typed_in ps h r (λ q x. i q (inr x)))
@@ -172,7 +172,7 @@ module _ {P : Type 0} (d : Whole P) (port_names : List (List ℕ)) (ports : List
       let p = and_parts (same w (width_of s x.value)) (outputs_typed s ports os) h in
       let o = sides w (width_of s x.value) p.0 in
       let k = width_renamed (resolve d) (IsThere d) s (full_scope (link d port_names ports outputs)) agree_all x.value r.0 (omega (arith, o.some, o.is)) in
-      both_true _ _ (rw k p.0) (outputs_shown os r.1 p.1)
+      and_from _ _ (rw k p.0) (outputs_shown os r.1 p.1)
 
 pub linked_is_typed : (P : Type 0) → LinkedIsTyped P
 linked_is_typed P d port_names ports outputs h = record {

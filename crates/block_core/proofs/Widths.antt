@@ -1,7 +1,9 @@
 -- Widths under other names, and those of a linked design.
-use Rattle.std.specs.Prelude.{◌≡◌, ℕ, zero, suc, ◌+◌, ◌<◌, ◌==◌, nat_lt, nat_le, ◌&&◌, Bool, true, false, List, [], ◌∷◌, ◌++◌, length, map}
+use Rattle.std.specs.Prelude.{◌≡◌, ℕ, ◌+◌, ◌<◌, ◌==◌, nat_lt, nat_le, ◌&&◌, true, List, [], ◌∷◌, ◌++◌, map}
 use Rattle.std.proofs.Common.{refl, ap, ◌∙◌, arith, get_or, inl, inr}
-use Rattle.std.proofs.lemmas.Bool.{eqb-true, ltb-true, and_parts}
+use Rattle.std.proofs.lemmas.Bool.{eqb-true, ltb-true, and_parts, and_from}
+use Rattle.std.proofs.lemmas.List.{append-nil}
+use Rattle.list_laws.proofs.PlaceLaws.{some_below}
 use Rattle.net_core.specs.declared.tree.Word.{Word}
 use Rattle.net_core.specs.declared.design.Declared.{Declared}
 use Rattle.net_core.specs.Nets.{Tree, TConst, TRead, TBit, TPartSelect, TMemoryWord, TUnary, TBinary, TConditional, TConcatenation, Trees, TLast, TMore, RightTree, RPlain, RQuotient, RRemainder, WireTree}
@@ -78,11 +80,6 @@ pub record Sides (a b : ℕ) : Type 0 where
 pub sides : (a b : ℕ) → same a b ≡ true → Sides a b
 sides a b h = let p = and_parts (nat_lt 0 a) (a == b) h in record { some = ltb-true 0 a p.0; is = eqb-true a b p.1 }
 
-pub both_true : (a b : Bool) → a ≡ true → b ≡ true → (a && b) ≡ true
-both_true true true h k = refl
-both_true true false h k = k
-both_true false b h k = h
-
 -- ---- what is declared
 registers_past : (rs : List Word) (ds : List Declared) → register_widths (map declare_register rs ++ ds) ≡ map word_width rs ++ register_widths ds
 registers_past [] ds = refl
@@ -100,29 +97,12 @@ memories_past : (ms : List BlockMemory) → memory_widths (map declare_memory ms
 memories_past [] = refl
 memories_past (m ∷ ms) = ap (λ l. block_memory_width m ∷ l) (memories_past ms)
 
-no_more : {A : Type 0} (xs : List A) → xs ++ [] ≡ xs
-no_more [] = refl
-no_more (x ∷ xs) = ap (λ l. x ∷ l) (no_more xs)
-
--- what is read at an index is there
-below_some : (xs : List ℕ) (i : ℕ) → 0 < get_or xs i 0 → i < length xs
-below_some [] zero h = absurd (omega arith)
-below_some [] (suc i) h = absurd (omega arith)
-below_some (x ∷ xs) zero h = omega arith
-below_some (x ∷ xs) (suc i) h = let k = below_some xs i h in omega arith
-
-below_pair : (xs : List (ℕ × ℕ)) (i : ℕ) → 0 < (get_or xs i (0, 0)).1 → i < length xs
-below_pair [] zero h = absurd (omega arith)
-below_pair [] (suc i) h = absurd (omega arith)
-below_pair (x ∷ xs) zero h = omega arith
-below_pair (x ∷ xs) (suc i) h = let k = below_pair xs i h in omega arith
-
 module _ {P : Type 0} (d : Whole P) (l : IsPlaced d) where
   all_register_widths : register_widths (all_declared (all_registers d d.parts) (all_memories d d.parts)) ≡ gather (λ p. block_registers (d.block p)) d.parts
   all_register_widths =
       let rs = all_registers d d.parts in
       let ms = all_memories d d.parts in
-      registers_past rs (map declare_memory ms) ∙ ap (λ xs. map word_width rs ++ xs) (no_registers ms) ∙ no_more (map word_width rs) ∙ map_gather word_width (λ p. (d.block p).registers) d.parts
+      registers_past rs (map declare_memory ms) ∙ ap (λ xs. map word_width rs ++ xs) (no_registers ms) ∙ append-nil (map word_width rs) ∙ map_gather word_width (λ p. (d.block p).registers) d.parts
 
   all_memory_widths : memory_widths (all_declared (all_registers d d.parts) (all_memories d d.parts)) ≡ gather (λ p. block_memories (d.block p)) d.parts
   all_memory_widths =
@@ -141,36 +121,36 @@ module _ {P : Type 0} (d : Whole P) (l : IsPlaced d) where
   pub register_at : (p : P) (i : ℕ) → Among p d.parts → 0 < get_or (block_registers (d.block p)) i 0
       → get_or (register_widths (all_declared (all_registers d d.parts) (all_memories d d.parts))) (start registers_of d p + i) 0 ≡ get_or (block_registers (d.block p)) i 0
   register_at p i a h = ap (λ xs. get_or xs (start registers_of d p + i) 0) all_register_widths
-      ∙ get_gather (λ p. block_registers (d.block p)) (λ p. registers_of (d.block p)) (start registers_of d) [] 0 d.parts refl (runs registers_of d l) (λ p a. length_map word_width (d.block p).registers) p i 0 a (below_some (block_registers (d.block p)) i h)
+      ∙ get_gather (λ p. block_registers (d.block p)) (λ p. registers_of (d.block p)) (start registers_of d) [] 0 d.parts refl (runs registers_of d l) (λ p a. length_map word_width (d.block p).registers) p i 0 a (some_below (λ n. n) 0 (block_registers (d.block p)) i refl h)
 
   pub memory_at : (p : P) (i : ℕ) → Among p d.parts → 0 < (get_or (block_memories (d.block p)) i (0, 0)).1
       → get_or (memory_widths (all_declared (all_registers d d.parts) (all_memories d d.parts))) (start memories_of d p + i) (0, 0) ≡ get_or (block_memories (d.block p)) i (0, 0)
   memory_at p i a h = ap (λ xs. get_or xs (start memories_of d p + i) (0, 0)) all_memory_widths
-      ∙ get_gather (λ p. block_memories (d.block p)) (λ p. memories_of (d.block p)) (start memories_of d) [] 0 d.parts refl (runs memories_of d l) (λ p a. length_map block_memory_width (d.block p).memories) p i (0, 0) a (below_pair (block_memories (d.block p)) i h)
+      ∙ get_gather (λ p. block_memories (d.block p)) (λ p. memories_of (d.block p)) (start memories_of d) [] 0 d.parts refl (runs memories_of d l) (λ p a. length_map block_memory_width (d.block p).memories) p i (0, 0) a (some_below (λ (x : ℕ × ℕ). x.1) (0, 0) (block_memories (d.block p)) i refl h)
 
   pub wire_at : (p : P) (i : ℕ) → Among p d.parts → 0 < get_or (block_wires (d.block p)) i 0 → get_or (wire_widths (all_wires d d.parts)) (start wires_of d p + i) 0 ≡ get_or (block_wires (d.block p)) i 0
   wire_at p i a h = ap (λ xs. get_or xs (start wires_of d p + i) 0) (all_wire_widths d.parts)
-      ∙ get_gather (λ p. block_wires (d.block p)) (λ p. wires_of (d.block p)) (start wires_of d) [] 0 d.parts refl (runs wires_of d l) (λ p a. length_map block_wire_width (d.block p).wires) p i 0 a (below_some (block_wires (d.block p)) i h)
+      ∙ get_gather (λ p. block_wires (d.block p)) (λ p. wires_of (d.block p)) (start wires_of d) [] 0 d.parts refl (runs wires_of d l) (λ p a. length_map block_wire_width (d.block p).wires) p i 0 a (some_below (λ n. n) 0 (block_wires (d.block p)) i refl h)
 
 -- ---- first values fit
 words_declared : (rs : List Word) (ds : List Declared) → words_fit rs ≡ true → declared_typed ds ≡ true → declared_typed (map declare_register rs ++ ds) ≡ true
 words_declared [] ds h k = k
-words_declared (r ∷ rs) ds h k = let p = and_parts (word_fits r) (words_fit rs) h in both_true _ _ p.0 (words_declared rs ds p.1 k)
+words_declared (r ∷ rs) ds h k = let p = and_parts (word_fits r) (words_fit rs) h in and_from _ _ p.0 (words_declared rs ds p.1 k)
 
 memories_declared : (ms : List BlockMemory) → memories_fit ms ≡ true → declared_typed (map declare_memory ms) ≡ true
 memories_declared [] h = refl
 memories_declared (m ∷ ms) h =
     let p = and_parts ((nat_le 1 m.index && nat_le m.index 16) && word_fits m.first) (memories_fit ms) h in
     let q = and_parts (nat_le 1 m.index && nat_le m.index 16) (word_fits m.first) p.0 in
-    both_true _ _ q.0 (both_true _ _ q.1 (memories_declared ms p.1))
+    and_from _ _ q.0 (and_from _ _ q.1 (memories_declared ms p.1))
 
 words_both : (xs ys : List Word) → words_fit xs ≡ true → words_fit ys ≡ true → words_fit (xs ++ ys) ≡ true
 words_both [] ys h k = k
-words_both (x ∷ xs) ys h k = let p = and_parts (word_fits x) (words_fit xs) h in both_true _ _ p.0 (words_both xs ys p.1 k)
+words_both (x ∷ xs) ys h k = let p = and_parts (word_fits x) (words_fit xs) h in and_from _ _ p.0 (words_both xs ys p.1 k)
 
 memories_both : (xs ys : List BlockMemory) → memories_fit xs ≡ true → memories_fit ys ≡ true → memories_fit (xs ++ ys) ≡ true
 memories_both [] ys h k = k
-memories_both (x ∷ xs) ys h k = let p = and_parts ((nat_le 1 x.index && nat_le x.index 16) && word_fits x.first) (memories_fit xs) h in both_true _ _ p.0 (memories_both xs ys p.1 k)
+memories_both (x ∷ xs) ys h k = let p = and_parts ((nat_le 1 x.index && nat_le x.index 16) && word_fits x.first) (memories_fit xs) h in and_from _ _ p.0 (memories_both xs ys p.1 k)
 
 words_gathered : {P : Type 0} (g : P → List Word) (ps : List P) → ((p : P) → Among p ps → words_fit (g p) ≡ true) → words_fit (gather g ps) ≡ true
 words_gathered g [] h = refl

@@ -1,5 +1,5 @@
 -- No two parts set the same register or memory.
-use Rattle.std.specs.Prelude.{◌≡◌, ℕ, zero, suc, ◌+◌, ◌<◌, ◌≤◌, ◌==◌, nat_lt, Bool, true, false, ◌&&◌, List, [], ◌∷◌, ◌++◌, length, map, take}
+use Rattle.std.specs.Prelude.{◌≡◌, ℕ, zero, suc, ◌+◌, ◌<◌, ◌≤◌, ◌==◌, nat_lt, Bool, true, ◌&&◌, List, [], ◌∷◌, ◌++◌, length, take}
 use Rattle.std.specs.List.{list_all}
 use Rattle.std.proofs.Common.{get_or, not, refl, sym, ap, ◌∙◌, append_assoc, arith, inl, inr}
 use Rattle.std.proofs.lemmas.Bool.{and_parts, and_from, eqb-true, ltb-true, lt-ltb}
@@ -97,8 +97,8 @@ free_at d front r m (p ∷ ps) h x y z zero a l e =
     ap (λ b. targets_free b a) (append-nil front) ∙ ap (targets_free front) e
     ∙ moved_targets (resolve d) (start registers_of d p) (start memories_of d p) (λ n. list_all (leaves_register n) front) (λ n. list_all (leaves_memory n) front) (d.block p).statement
     ∙ pass_more (λ k. true) (λ k. list_all (leaves_register (start registers_of d p + k)) front) (λ k. true) (λ k. list_all (leaves_memory (start memories_of d p + k)) front)
-      (λ k q. all_leave_register front r m (start registers_of d p + k) h (let s = x.0 in omega (arith, s)))
-      (λ k q. all_leave_memory front r m (start memories_of d p + k) h (let s = y.0 in omega (arith, s))) (d.block p).statement (all_targets (d.block p).statement)
+    (λ k q. all_leave_register front r m (start registers_of d p + k) h (let s = x.0 in omega (arith, s)))
+    (λ k q. all_leave_memory front r m (start memories_of d p + k) h (let s = y.0 in omega (arith, s))) (d.block p).statement (all_targets (d.block p).statement)
 free_at d front r m (p ∷ ps) h x y z (suc i) a l e =
     let one = link_statement d p in
     let r' = r + registers_of (d.block p) in
@@ -106,7 +106,7 @@ free_at d front r m (p ∷ ps) h x y z (suc i) a l e =
     let own : below r' m' one ≡ true =
     moved_targets (resolve d) (start registers_of d p) (start memories_of d p) (λ k. nat_lt k r') (λ k. nat_lt k m') (d.block p).statement
     ∙ pass_more (λ k. nat_lt k (registers_of (d.block p))) (λ k. nat_lt (start registers_of d p + k) r') (λ k. nat_lt k (memories_of (d.block p))) (λ k. nat_lt (start memories_of d p + k) m')
-      (λ k q. let s = x.0 in let b = ltb-true k (registers_of (d.block p)) q in lt-ltb (start registers_of d p + k) r' (omega (arith, s, b)))
-      (λ k q. let s = y.0 in let b = ltb-true k (memories_of (d.block p)) q in lt-ltb (start memories_of d p + k) m' (omega (arith, s, b))) (d.block p).statement (z p (inl refl)) in
+    (λ k q. let s = x.0 in let b = ltb-true k (registers_of (d.block p)) q in lt-ltb (start registers_of d p + k) r' (omega (arith, s, b)))
+    (λ k q. let s = y.0 in let b = ltb-true k (memories_of (d.block p)) q in lt-ltb (start memories_of d p + k) m' (omega (arith, s, b))) (d.block p).statement (z p (inl refl)) in
     ap (λ b. targets_free b a) (sym (append_assoc front (one ∷ []) (take i (all_statements d ps))))
     ∙ free_at d (front ++ one ∷ []) r' m' ps (one_more (below r' m') front one (all_later front r m r' m' (omega arith) (omega arith) h) own) x.1 y.1 (λ q a. z q (inr a)) i a (omega arith) e

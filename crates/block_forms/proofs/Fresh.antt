@@ -1,5 +1,5 @@
 -- The names of a linked design are names, and no two of them are the same.
-use Rattle.std.specs.Prelude.{◌≡◌, ℕ, zero, suc, ◌+◌, ◌^◌, ◌<◌, ◌≤◌, ◌==◌, nat_eq, Bool, true, false, ◌&&◌, ◌||◌, List, [], ◌∷◌, ◌++◌, length, take, drop, codes}
+use Rattle.std.specs.Prelude.{◌≡◌, ℕ, zero, suc, ◌+◌, ◌^◌, ◌<◌, ◌≤◌, nat_eq, Bool, true, false, ◌&&◌, ◌||◌, List, [], ◌∷◌, ◌++◌, length, take, drop, codes}
 use Rattle.std.specs.Str.{bytes_eq, all_ascii_digits}
 use Rattle.std.specs.Char.{is_ascii_digit}
 use Rattle.std.specs.List.{list_any, list_all}
@@ -88,7 +88,7 @@ numbered_fresh letter name before at (suc n) l h = (
   name at (omega arith),
   h at (omega arith) (omega arith),
   numbered_fresh letter name (before ++ named letter at ∷ []) (suc at) n (omega arith)
-    (λ k a b. any_both (bytes_eq (named letter k)) before (named letter at ∷ []) (h k (omega arith) b) (ap (λ t. t || false) (other_number letter k at b (omega arith) (omega arith)))),
+      (λ k a b. any_both (bytes_eq (named letter k)) before (named letter at ∷ []) (h k (omega arith) b) (ap (λ t. t || false) (other_number letter k at b (omega arith) (omega arith)))),
 )
 
 registers_named : (k : ℕ) → k < 2 ^ 64 → is_name (named 114 k) ≡ true
@@ -108,11 +108,11 @@ names_fresh r m w hr hm hw =
       refl,
       refl,
       fresh_append first rs (ms ++ numbered (codes "w_") 0 w)
-      (numbered_fresh 114 registers_named first 0 r (omega arith) (λ k a b. refl))
-      (fresh_append (first ++ rs) ms (numbered (codes "w_") 0 w)
-      (numbered_fresh 109 memories_named (first ++ rs) 0 m (omega arith) (λ k a b. any_both (bytes_eq (named 109 k)) first rs refl (other_letter 109 114 refl k 0 r)))
-      (numbered_fresh 119 wires_named ((first ++ rs) ++ ms) 0 w (omega arith)
-        (λ k a b. any_both (bytes_eq (named 119 k)) (first ++ rs) ms (any_both (bytes_eq (named 119 k)) first rs refl (other_letter 119 114 refl k 0 r)) (other_letter 119 109 refl k 0 m)))),
+          (numbered_fresh 114 registers_named first 0 r (omega arith) (λ k a b. refl))
+          (fresh_append (first ++ rs) ms (numbered (codes "w_") 0 w)
+          (numbered_fresh 109 memories_named (first ++ rs) 0 m (omega arith) (λ k a b. any_both (bytes_eq (named 109 k)) first rs refl (other_letter 109 114 refl k 0 r)))
+          (numbered_fresh 119 wires_named ((first ++ rs) ++ ms) 0 w (omega arith)
+          (λ k a b. any_both (bytes_eq (named 119 k)) (first ++ rs) ms (any_both (bytes_eq (named 119 k)) first rs refl (other_letter 119 114 refl k 0 r)) (other_letter 119 109 refl k 0 m)))),
     )
 
 numbered_count : (letter : List ℕ) (at n : ℕ) → length (numbered letter at n) ≡ n

@@ -1,20 +1,21 @@
 -- What a well typed netlist reads and sets is there.
 use Rattle.std.specs.Prelude.{◌≡◌, ℕ, zero, suc, ◌+◌, ◌<◌, ◌==◌, nat_lt, nat_le, cond, Bool, true, false, ◌&&◌, List, [], ◌∷◌, ◌++◌, length, take, count_by}
-use Rattle.std.proofs.Common.{get_or, not, refl, sym, ap, ◌∙◌, subst, append_assoc, arith}
+use Rattle.std.proofs.Common.{get_or, not, refl, sym, ap, ◌∙◌, append_assoc, arith}
 use Rattle.std.proofs.lemmas.Bool.{and_parts, and_from, eqb-true, ltb-true, lt-ltb}
 use Rattle.std.proofs.lemmas.List.{append-nil}
 use Rattle.std.proofs.lemmas.List.Recursion.{is_count_by}
+use Rattle.list_laws.proofs.PlaceLaws.{some_below}
 use Rattle.net_core.specs.declared.tree.Net.{Net}
 use Rattle.net_core.specs.declared.tree.Net.TheVariants as net
 use Rattle.net_core.specs.declared.design.Port as port
 use Rattle.net_core.specs.declared.design.Declared.{Declared}
 use Rattle.net_core.specs.declared.design.Declared.TheVariants as declared
-use Rattle.net_core.specs.Nets.{Tree, TConst, TRead, TBit, TPartSelect, TMemoryWord, TUnary, TBinary, TConditional, TConcatenation, Trees, TLast, TMore, RightTree, RPlain, RQuotient, RRemainder, StatementTree, SBlock, SIf, SIfElse, SSet, SStore, StatementTrees, SEnd, SThen, WireTree, AssignTree, Netlist}
+use Rattle.net_core.specs.Nets.{Tree, TConst, TRead, TBit, TPartSelect, TMemoryWord, TUnary, TBinary, TConditional, TConcatenation, Trees, TLast, TMore, RightTree, RPlain, RQuotient, RRemainder, StatementTree, SBlock, SIf, SIfElse, SSet, SStore, StatementTrees, SEnd, SThen, WireTree, Netlist}
 use Rattle.net_core.specs.Names.{is_register, is_memory}
-use Rattle.net_core.specs.Width.{Scope, same_width, width_of, parts_width, right_width, same, statement_typed, statements_typed, register_widths, memory_widths, input_width, port_width, net_width, memory_width, scope, wires_typed, wire_widths, output_width}
+use Rattle.net_core.specs.Width.{Scope, same_width, width_of, parts_width, right_width, same, statement_typed, statements_typed, register_widths, memory_widths, input_width, port_width, net_width, memory_width, scope, wires_typed, wire_widths}
 use Rattle.net_core.proofs.WidthLaws.{same_parts, op_parts, unary_parts, part_select_parts, memory_word_parts, conditional_some, concatenation_parts}
 use Rattle.verilog_grammar.specs.FormedSyntax.{trees_pass, all_trees_pass}
-use Rattle.verilog_grammar.specs.FormedScope.{Sorts, reads_known, parts_known, right_known, targets_pass, all_targets_pass, is_input, is_output, registers_of, memories_of, is_value, is_words, sorts}
+use Rattle.verilog_grammar.specs.FormedScope.{Sorts, reads_known, parts_known, right_known, targets_pass, all_targets_pass, is_input, registers_of, memories_of, is_value, is_words, sorts}
 
 pub by_test : (P : Bool → Type 0) (b : Bool) → (b ≡ true → P true) → (b ≡ false → P false) → P b
 by_test P true then_ else_ = then_ refl
@@ -26,7 +27,6 @@ pub record Holds {N : Type 0} (s : Scope N) (k : Sorts N) : Type 0 where
   pub memory : (m : N) → 0 < s.memory_word m → k.memory m ≡ true
 
 module _ {N : Type 0} (s : Scope N) (k : Sorts N) (holds : Holds s k) where
-
   mutual
     pub tree_known : (e : Tree N) → 0 < width_of s e → reads_known k e ≡ true
     tree_known (TConst w) h = refl
@@ -103,18 +103,6 @@ module _ {N : Type 0} (s : Scope N) (k : Sorts N) (holds : Holds s k) where
           and_from _ _ (and_from _ _ q.0 t.0) (and_from _ _ q.1 t.1)
 
 -- ---- the nets of a netlist
-pub below_some : (xs : List ℕ) (i : ℕ) → 0 < get_or xs i 0 → i < length xs
-below_some [] zero h = absurd (omega arith)
-below_some [] (suc i) h = absurd (omega arith)
-below_some (x ∷ xs) zero h = omega arith
-below_some (x ∷ xs) (suc i) h = let k = below_some xs i h in omega arith
-
-pub below_pair : (xs : List (ℕ × ℕ)) (i : ℕ) → 0 < (get_or xs i (0, 0)).1 → i < length xs
-below_pair [] zero h = absurd (omega arith)
-below_pair [] (suc i) h = absurd (omega arith)
-below_pair (x ∷ xs) zero h = omega arith
-below_pair (x ∷ xs) (suc i) h = let k = below_pair xs i h in omega arith
-
 register_step : (x : Declared) (xs : List Declared) → length (register_widths (x ∷ xs)) ≡ cond (is_register x) (1 + length (register_widths xs)) (length (register_widths xs))
 register_step declared.Integer xs = refl
 register_step (declared.Register w) xs = omega arith
@@ -132,10 +120,10 @@ memories_counted : (ds : List Declared) → length (memory_widths ds) ≡ count_
 memories_counted ds = is_count_by (λ ds. length (memory_widths ds)) is_memory refl memory_step ds
 
 pub register_there : (d : Netlist) (i : ℕ) → 0 < get_or (register_widths d.declared) i 0 → nat_lt i (registers_of d) ≡ true
-register_there d i h = let l = below_some (register_widths d.declared) i h in let e = registers_counted d.declared in lt-ltb i (registers_of d) (omega (arith, l, e))
+register_there d i h = let l = some_below (λ n. n) 0 (register_widths d.declared) i refl h in let e = registers_counted d.declared in lt-ltb i (registers_of d) (omega (arith, l, e))
 
 pub memory_there : (d : Netlist) (i : ℕ) → 0 < (get_or (memory_widths d.declared) i (0, 0)).1 → nat_lt i (memories_of d) ≡ true
-memory_there d i h = let l = below_pair (memory_widths d.declared) i h in let e = memories_counted d.declared in lt-ltb i (memories_of d) (omega (arith, l, e))
+memory_there d i h = let l = some_below (λ (x : ℕ × ℕ). x.1) (0, 0) (memory_widths d.declared) i refl h in let e = memories_counted d.declared in lt-ltb i (memories_of d) (omega (arith, l, e))
 
 input_there : (p : port.Port) → 0 < input_width p → not p.output ≡ true
 input_there p h = by_test (λ o. 0 < (cond o 0 p.width) → not o ≡ true) p.output (λ e h. absurd (omega arith)) (λ e h. refl) h
@@ -148,7 +136,7 @@ value_there : (d : Netlist) (ws : List ℕ) (n : ℕ) → length ws ≡ n → (x
 value_there d ws n c (net.Port i) h = port_there d.ports i h
 value_there d ws n c (net.Register i) h = register_there d i h
 value_there d ws n c (net.Memory i) h = absurd (omega arith)
-value_there d ws n c (net.Wire i) h = let l = below_some ws i h in lt-ltb i n (omega (arith, l, c))
+value_there d ws n c (net.Wire i) h = let l = some_below (λ n. n) 0 ws i refl h in lt-ltb i n (omega (arith, l, c))
 
 words_there : (d : Netlist) (x : Net) → 0 < (memory_width d x).1 → is_words d x ≡ true
 words_there d (net.Port i) h = absurd (omega arith)

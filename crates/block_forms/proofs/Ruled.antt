@@ -1,34 +1,34 @@
 -- A linked design breaks no rule of the subset.
-use Rattle.std.specs.Prelude.{◌≡◌, ℕ, zero, suc, ◌+◌, ◌-◌, ◌<◌, ◌≤◌, ◌==◌, nat_lt, nat_le, cond, Bool, true, false, ◌&&◌, ◌||◌, None, List, [], ◌∷◌, ◌++◌, length, map, take, count_by, codes}
-use Rattle.std.specs.Str.{bytes_eq}
-use Rattle.std.specs.List.{list_any, list_all}
+use Rattle.std.specs.Prelude.{◌≡◌, ℕ, zero, suc, ◌+◌, ◌<◌, ◌≤◌, ◌==◌, nat_lt, nat_le, cond, Bool, true, false, ◌&&◌, ◌||◌, None, List, [], ◌∷◌, ◌++◌, length, map, take, count_by}
+use Rattle.std.specs.List.{list_all}
 use Rattle.std.proofs.Common.{get_or, not, refl, sym, ap, ◌∙◌, subst, append_assoc, length-append, arith, inl, inr}
 use Rattle.std.proofs.lemmas.Bool.{and_parts, and_from, eqb-true, ltb-true, lt-ltb, eq-eqb}
 use Rattle.std.proofs.lemmas.List.{append-nil}
 use Rattle.std.proofs.lemmas.List.Recursion.{is_count_by}
+use Rattle.list_laws.proofs.PlaceLaws.{some_below}
 use Rattle.net_core.specs.declared.tree.Word.{Word}
 use Rattle.net_core.specs.declared.tree.Net.{Net}
 use Rattle.net_core.specs.declared.design.Port as port
 use Rattle.net_core.specs.declared.design.Declared.{Declared}
 use Rattle.net_core.specs.declared.design.Declared.TheVariants as declared
 use Rattle.net_core.specs.Names.{is_integer}
-use Rattle.net_core.specs.Nets.{Tree, RightTree, StatementTree, WireTree, AssignTree, Netlist}
+use Rattle.net_core.specs.Nets.{StatementTree, AssignTree, Netlist}
 use Rattle.net_core.specs.Ports.{port_list, port_names}
-use Rattle.net_core.specs.Width.{Scope, width_of, right_width, same, statement_typed, register_widths, memory_widths, scope, full_scope, wire_widths, word_fits, declared_typed, output_width, assigns_typed, is_assigned, statements_all_typed, IsTyped}
+use Rattle.net_core.specs.Width.{width_of, right_width, same, statement_typed, register_widths, memory_widths, scope, full_scope, wire_widths, word_fits, declared_typed, output_width, assigns_typed, is_assigned, statements_all_typed, IsTyped}
 use Rattle.net_core.proofs.WireLaws.{length_widths}
-use Rattle.verilog_grammar.specs.FormedSyntax.{tree_spelled, right_spelled, statement_spelled, trees_pass}
-use Rattle.verilog_grammar.specs.FormedScope.{sorts, reads_known, right_known, targets_pass, is_output, integer_known, registers_of as registers_in, memories_of as memories_in}
-use Rattle.verilog_grammar.specs.Formed.{first_broken, section_fault, first_fault, has_name, is_new, declared_place, wire_place, declared_fits, wire_fits, assign_fits, targets_free, targets_known, block_known, block_fits, ports_match, port_names_match, declared_rules, wire_rules, assign_rules, always_rules, last_rules, wires_start, assigns_start, always_start, items_of}
+use Rattle.verilog_grammar.specs.FormedSyntax.{tree_spelled, right_spelled, statement_spelled}
+use Rattle.verilog_grammar.specs.FormedScope.{sorts, reads_known, right_known, is_output, integer_known, registers_of as registers_in, memories_of as memories_in}
+use Rattle.verilog_grammar.specs.Formed.{first_broken, section_fault, first_fault, has_name, is_new, declared_place, wire_place, declared_fits, wire_fits, assign_fits, targets_free, block_known, block_fits, declared_rules, wire_rules, assign_rules, always_rules, last_rules, wires_start, assigns_start, always_start}
 use Rattle.block_core.specs.declared.name.Name.{Name}
 use Rattle.block_core.specs.declared.block.BlockMemory.{BlockMemory}
 use Rattle.block_core.specs.Blocks.{BlockTree, OutputTree, registers_of, memories_of, Whole, Among, start}
-use Rattle.block_core.specs.Link.{resolve, link_output, link_statement, all_registers, all_memories, all_wires, all_statements, all_declared, declare_register, declare_memory, net_names, link}
+use Rattle.block_core.specs.Link.{resolve, link_output, all_registers, all_memories, all_wires, all_statements, declare_register, declare_memory, net_names, link}
 use Rattle.block_core.specs.Formed.{word_width, block_memory_width, block_registers, block_memories, names_scope, IsFormed}
 use Rattle.block_core.proofs.GatheredLaws.{runs, length_map}
 use Rattle.block_core.proofs.TypedLaws.{linked_is_typed}
 use Rattle.block_forms.specs.WellFormed.{output_spelled, is_shown, shown_once, IsSpelled, LinkedIsWellFormed}
 use Rattle.block_forms.proofs.Rules.{four_kept, three_kept, section_none, no_faults}
-use Rattle.block_forms.proofs.Known.{by_test, Holds, tree_known, right_all_known, statement_known, register_there, memory_there, scope_holds, wires_at, below_some, below_pair}
+use Rattle.block_forms.proofs.Known.{by_test, tree_known, right_all_known, statement_known, register_there, memory_there, scope_holds, wires_at}
 use Rattle.block_forms.proofs.Spelled.{same_tree, same_statement, passes_at, tree_passes, all_wires_pass}
 use Rattle.block_forms.proofs.Fresh.{FreshAt, fresh_at, names_fresh, names_count}
 use Rattle.block_forms.proofs.Apart.{below, free_at}
@@ -128,9 +128,9 @@ sets_own : {P : Type 0} (d : Whole P) (b : BlockTree (Name P)) → statement_typ
 sets_own d b h =
     let s = names_scope d port_list in
     (and_parts _ _ (statement_known s (record { value = λ n. nat_lt 0 (s.net n); memory = λ m. nat_lt 0 (s.memory_word m) })
-      (record { net = λ n k. lt-ltb 0 (s.net n) k; memory = λ m k. lt-ltb 0 (s.memory_word m) k }) (block_registers b) (block_memories b) (λ k. nat_lt k (registers_of b)) (λ k. nat_lt k (memories_of b))
-      (λ i k. let l = below_some (block_registers b) i k in let e = length_map word_width b.registers in lt-ltb i (registers_of b) (omega (arith, l, e)))
-      (λ i k. let l = below_pair (block_memories b) i k in let e = length_map block_memory_width b.memories in lt-ltb i (memories_of b) (omega (arith, l, e))) b.statement h)).0
+    (record { net = λ n k. lt-ltb 0 (s.net n) k; memory = λ m k. lt-ltb 0 (s.memory_word m) k }) (block_registers b) (block_memories b) (λ k. nat_lt k (registers_of b)) (λ k. nat_lt k (memories_of b))
+    (λ i k. let l = some_below (λ n. n) 0 (block_registers b) i refl k in let e = length_map word_width b.registers in lt-ltb i (registers_of b) (omega (arith, l, e)))
+    (λ i k. let l = some_below (λ (x : ℕ × ℕ). x.1) (0, 0) (block_memories b) i refl k in let e = length_map block_memory_width b.memories in lt-ltb i (memories_of b) (omega (arith, l, e))) b.statement h)).0
 
 taken : (k : ℕ) (xs : List ℕ) → k ≤ length xs → length (take k xs) ≡ k
 taken zero xs l = refl
@@ -170,7 +170,7 @@ module _ {P : Type 0} (d : Whole P) (outputs : List (OutputTree (Name P))) (h : 
       let f = fresh i (omega arith) in
       ap (λ k. first_broken (declared_rules whole k x)) z
       ∙ four_kept (has_name whole (declared_place whole i)) (integer_known (take i whole.declared) x) (is_new whole (declared_place whole i)) (declared_fits x)
-        f.0 (integers_known (map declare_register (all_registers d d.parts) ++ map declare_memory (all_memories d d.parts)) (all_filled (all_registers d d.parts) (all_memories d d.parts)) i x l e) (ap not f.1) (fits_at whole.declared typed.declared i x l e))
+      f.0 (integers_known (map declare_register (all_registers d d.parts) ++ map declare_memory (all_memories d d.parts)) (all_filled (all_registers d d.parts) (all_memories d d.parts)) i x l e) (ap not f.1) (fits_at whole.declared typed.declared i x l e))
 
   wires_none : section_fault (wire_rules whole) (wires_start whole) 0 whole.wires ≡ None
   wires_none = section_none (wire_rules whole) (wires_start whole) 0 whole.wires (λ i w l e.
@@ -183,7 +183,7 @@ module _ {P : Type 0} (d : Whole P) (outputs : List (OutputTree (Name P))) (h : 
       let known = right_all_known (scope whole before) (sorts whole i) (scope_holds whole before i (taken i (wire_widths whole.wires) (let c = length_widths whole.wires in omega (arith, c, l)))) w.right some.1 in
       ap (λ k. first_broken (wire_rules whole k w)) z
       ∙ four_kept (has_name whole (wire_place whole i) && right_spelled w.right) (right_known (sorts whole i) w.right) (is_new whole (wire_place whole i)) (wire_fits whole i w)
-        (and_from _ _ f.0 (passes_at tree_passes whole.wires (all_wires_pass d d.parts s.wires) i w l e)) known (ap not f.1) fits)
+      (and_from _ _ f.0 (passes_at tree_passes whole.wires (all_wires_pass d d.parts s.wires) i w l e)) known (ap not f.1) fits)
 
   assigns_none : section_fault (assign_rules whole) (assigns_start whole) 0 whole.assigns ≡ None
   assigns_none = section_none (assign_rules whole) (assigns_start whole) 0 whole.assigns (λ i a l e.
@@ -194,7 +194,7 @@ module _ {P : Type 0} (d : Whole P) (outputs : List (OutputTree (Name P))) (h : 
       let known = tree_known (full_scope whole) (sorts whole (length whole.wires)) (scope_holds whole (wire_widths whole.wires) (length whole.wires) (length_widths whole.wires)) a.value some.1 in
       ap (λ k. first_broken (assign_rules whole k a)) z
       ∙ four_kept (tree_spelled a.value) (is_output whole.ports a.port && reads_known (sorts whole (length whole.wires)) a.value) (not (is_assigned (take i whole.assigns) a.port)) (assign_fits whole a)
-        (passes_at (λ (x : AssignTree). tree_spelled x.value) whole.assigns (outputs_spelled d outputs s.shows) i a l e) (and_from _ _ (output_there p some.0) known) (once_at d [] outputs s.once i a l e) fits)
+      (passes_at (λ (x : AssignTree). tree_spelled x.value) whole.assigns (outputs_spelled d outputs s.shows) i a l e) (and_from _ _ (output_there p some.0) known) (once_at d [] outputs s.once i a l e) fits)
 
   always_none : section_fault (always_rules whole) (always_start whole) 0 whole.always ≡ None
   always_none = section_none (always_rules whole) (always_start whole) 0 whole.always (λ i a l e.
@@ -204,8 +204,8 @@ module _ {P : Type 0} (d : Whole P) (outputs : List (OutputTree (Name P))) (h : 
       (λ k. nat_lt k (registers_in whole)) (λ k. nat_lt k (memories_in whole)) (register_there whole) (memory_there whole) a fits in
       ap (λ k. first_broken (always_rules whole k a)) z
       ∙ four_kept (statement_spelled a) (block_known whole a) (targets_free (take i whole.always) a) (block_fits whole a)
-        (passes_at statement_spelled whole.always (statements_spelled d d.parts s.statements) i a l e) known
-        (free_at d [] 0 0 d.parts refl (runs registers_of d h.placed) (runs memories_of d h.placed) (λ p a. sets_own d (d.block p) (h.blocks p a).statement) i a l e) fits)
+      (passes_at statement_spelled whole.always (statements_spelled d d.parts s.statements) i a l e) known
+      (free_at d [] 0 0 d.parts refl (runs registers_of d h.placed) (runs memories_of d h.placed) (λ p a. sets_own d (d.block p) (h.blocks p a).statement) i a l e) fits)
 
   last_none : first_broken (last_rules whole) ≡ None
   last_none =

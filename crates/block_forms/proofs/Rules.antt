@@ -1,6 +1,6 @@
 -- Sections without a fault, from the rules of their items.
-use Rattle.std.specs.Prelude.{◌≡◌, ℕ, zero, suc, ◌+◌, ◌<◌, Bool, true, false, Option, Some, None, List, [], ◌∷◌, length}
-use Rattle.std.proofs.Common.{get_or, refl, sym, ap, ◌∙◌, arith}
+use Rattle.std.specs.Prelude.{◌≡◌, ℕ, suc, ◌+◌, ◌<◌, Bool, true, Option, None, List, [], ◌∷◌, length}
+use Rattle.std.proofs.Common.{get_or, refl, ap, ◌∙◌, arith}
 use Rattle.verilog_grammar.specs.declared.formed.NetError.{NetError}
 use Rattle.verilog_grammar.specs.declared.formed.Why.{Why}
 use Rattle.verilog_grammar.specs.declared.formed.Why.TheVariants.{Syntax, Unknown, Twice, Width, Ports}

@@ -1,17 +1,16 @@
 -- Other names for nets change nothing of how a tree is spelled.
-use Rattle.std.specs.Prelude.{◌≡◌, ℕ, zero, suc, ◌<◌, nat_le, max, Bool, true, false, ◌&&◌, List, [], ◌∷◌, ◌++◌, length, map}
+use Rattle.std.specs.Prelude.{◌≡◌, ℕ, zero, suc, ◌<◌, nat_le, max, Bool, true, ◌&&◌, List, [], ◌∷◌, length}
 use Rattle.std.specs.List.{list_all}
-use Rattle.std.proofs.Common.{get_or, not, refl, sym, ap, ◌∙◌, arith, inl, inr}
+use Rattle.std.proofs.Common.{get_or, not, refl, ap, ◌∙◌, arith, inl, inr}
 use Rattle.std.proofs.lemmas.Bool.{and_parts, and_from}
-use Rattle.std.proofs.lemmas.List.Folds.{list_all-append, list_all-map}
+use Rattle.std.proofs.lemmas.List.Folds.{list_all-append}
 use Rattle.net_core.specs.Nets.{Tree, TConst, TRead, TBit, TPartSelect, TMemoryWord, TUnary, TBinary, TConditional, TConcatenation, Trees, TLast, TMore, RightTree, RPlain, RQuotient, RRemainder, StatementTree, SBlock, SIf, SIfElse, SSet, SStore, StatementTrees, SEnd, SThen, WireTree}
 use Rattle.net_core.specs.declared.tree.Net.{Net}
 use Rattle.verilog_grammar.specs.FormedSyntax.{depth, parts_depth, is_prefixed, prefixes_apart, parts_apart, tree_spelled, right_spelled, statement_depth, statements_depth, ends_open, elses_placed, all_placed, trees_pass, all_trees_pass, statement_spelled}
-use Rattle.block_core.specs.declared.name.Name.{Name}
 use Rattle.block_core.specs.Rename.{rename, rename_parts, rename_right, rename_statement, rename_statements}
-use Rattle.block_core.specs.Blocks.{BlockWireTree, OutputTree, Whole, Among, gather}
-use Rattle.block_core.specs.Link.{resolve, link_wire, link_wires, link_output, link_statement, all_wires}
-use Rattle.block_forms.specs.WellFormed.{wire_spelled, output_spelled}
+use Rattle.block_core.specs.Blocks.{BlockWireTree, Whole, Among}
+use Rattle.block_core.specs.Link.{resolve, link_wires, all_wires}
+use Rattle.block_forms.specs.WellFormed.{wire_spelled}
 
 module _ {M N : Type 0} (f : M → N) where
   mutual
