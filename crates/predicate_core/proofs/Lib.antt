@@ -3,3 +3,5 @@ pub mod Numbers
 pub mod Conditions
 pub mod Shifts
 pub mod Arms
+pub mod Edges
+pub mod Bytes

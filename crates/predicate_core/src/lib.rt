@@ -4,5 +4,7 @@
 mod cells;
 mod comparing;
 mod joining;
+mod leaving;
 mod shifting;
+mod slicing;
 mod working;
