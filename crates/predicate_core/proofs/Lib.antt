@@ -5,3 +5,4 @@ pub mod Shifts
 pub mod Arms
 pub mod Edges
 pub mod Bytes
+pub mod Division

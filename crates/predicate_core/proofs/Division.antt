@@ -1,0 +1,86 @@
+-- Division.
+use Rattle.std.proofs.Common.{◌≡◌, ℕ, zero, suc, ◌+◌, ◌%◌, ◌/◌, ◌^◌, ◌<◌, ◌≤◌, Bool, true, false, not, if◌then◌else◌, List, [], ◌∷◌, ◌++◌, length, All, refl, sym, ◌∙◌, ap, subst, arith}
+use Rattle.std.specs.Prelude.{◌==◌, slice_index}
+use Rattle.std.proofs.lemmas.Bool.{eqb-true, eqb-false}
+use Rattle.std.proofs.Math.Nat.{pow-le-pow_right}
+use Rattle.bits_core.specs.Bits.{div_u_of, mod_u_of}
+use Rattle.bpf_isa.specs.declared.operation.AluCode.TheVariants.{Div, Mod}
+use Rattle.xdp_machine.specs.State.{PacketIn}
+use Rattle.xdp_machine.specs.Arithmetic.{low, arithmetic}
+use Rattle.cell_core.specs.declared.operator.Operator.{Operator}
+use Rattle.cell_core.specs.declared.operator.Operator.TheVariants.{Wire, NonZero, Quotient, Remainder}
+use Rattle.cell_core.specs.Cells.{CellView, IsRun, cell_at, on, number, bits_from, is_read}
+use Rattle.cell_core.specs.Formed.{AreFormed, IsSome, takes, divides, IsInRange}
+use Rattle.predicate_core.specs.Making.{Adds, Grows, Makes, operated}
+use Rattle.predicate_core.specs.Dividing.{some, divided, divider}
+use Rattle.predicate_core.proofs.Growing.{IsNext, added_makes, makes_after, grown, old-cell, new-cell}
+use Rattle.predicate_core.proofs.Numbers.{from_zero, low_same, low_below}
+
+abbrev pub own_cell : ℕ → ℕ → CellView
+own_cell b w = record { op = Wire; ins = b ∷ []; width = w; from = 0 }
+
+abbrev pub divisor_cell : ℕ → ℕ → ℕ → CellView
+divisor_cell own a w = record { op = NonZero; ins = own ∷ a ∷ []; width = w; from = 0 }
+
+abbrev pub quotient_cell : Bool → ℕ → ℕ → ℕ → CellView
+quotient_cell r a d w = record { op = divider r; ins = a ∷ d ∷ []; width = w; from = 0 }
+
+one-in : (n a : ℕ) → a < n → All (λ i. i < n) (a ∷ [])
+one-in n a h zero d l = h
+one-in n a h (suc i) d l = absurd (omega arith)
+
+two-in : (n a b : ℕ) → a < n → b < n → All (λ i. i < n) (a ∷ b ∷ [])
+two-in n a b h g zero d l = h
+two-in n a b h g (suc zero) d l = g
+two-in n a b h g (suc (suc i)) d l = absurd (omega arith)
+
+some_64 : (w n : ℕ) → 1 ≤ w → w ≤ 64 → n < 2 ^ w → low 64 (bits_from (some n) 0 w) ≡ some n
+some_64 w n least most h = by (on n) (pow-le-pow_right {n = 2} (omega arith) {i = 1} {j = w} least) (pow-le-pow_right {n = 2} (omega arith) {i = w} {j = 64} most)
+  where
+    by : (t : Bool) → 2 ^ 1 ≤ 2 ^ w → 2 ^ w ≤ 2 ^ 64 → low 64 (bits_from (if t then n else 1) 0 w) ≡ (if t then n else 1)
+    by true g k = ap (low 64) (from_zero n w ∙ low_same w n h) ∙ low_same 64 n (omega (arith, h, k))
+    by false g k = ap (low 64) (from_zero 1 w ∙ low_same w 1 (omega (arith, g))) ∙ refl
+
+divided_as : (packet : PacketIn) (r : Bool) (a d : ℕ) → number packet (divider r) (a ∷ d ∷ []) ≡ divided r (low 64 a) (low 64 d)
+divided_as packet true a d = refl
+divided_as packet false a d = refl
+
+divider_two : (r : Bool) → takes (divider r) ≤ 2
+divider_two true = omega arith
+divider_two false = omega arith
+
+divider_range : (r : Bool) → IsInRange (divider r)
+divider_range true = tt
+divider_range false = tt
+
+divider_plain : (r : Bool) → is_read (divider r) ≡ false
+divider_plain true = refl
+divider_plain false = refl
+
+pub divides_some : (s0 s1 s2 s3 : List CellView) (r : Bool) (a b own d c w : ℕ) → a < length s0 → b < length s0 → 1 ≤ w → w ≤ 64
+    → Adds s0 s1 own (own_cell b w) → Adds s1 s2 d (divisor_cell own a w) → Adds s2 s3 c (quotient_cell r a d w)
+    → Makes s0 s3 c (λ packet v. low w (divided r (low 64 (v a)) (some (low w (v b)))))
+divides_some s0 s1 s2 s3 r a b own d c w ha hb least most first second third =
+    let m1 : Makes s0 s1 own (operated Wire (b ∷ []) 0 w) = added_makes s0 s1 own (own_cell b w) first
+        (record { earlier = one-in (length s0) b hb; enough = omega arith; in_range = tt; width = most; from = omega arith; divisor = λ f t. absurd (cc) }) refl in
+    let a1 : a < length s1 = omega (arith, ha, m1.grows.longer) in
+    let m2 : Makes s1 s2 d (operated NonZero (own ∷ a ∷ []) 0 w) = added_makes s1 s2 d (divisor_cell own a w) second
+        (record { earlier = two-in (length s1) own a m1.there a1; enough = omega arith; in_range = tt; width = most; from = omega arith; divisor = λ f t. absurd (cc) }) refl in
+    let a2 : a < length s2 = omega (arith, a1, m2.grows.longer) in
+    let is_divisor : cell_at s2 d ≡ divisor_cell own a w = ap (cell_at s2) second.at ∙ ap (λ (cs : List CellView). cell_at cs (length s1)) second.is ∙ new-cell s1 (divisor_cell own a w) in
+    let is_own : cell_at s2 own ≡ own_cell b w = ap (λ (cs : List CellView). cell_at cs own) second.is ∙ old-cell s1 (divisor_cell own a w) own m1.there
+        ∙ ap (cell_at s1) first.at ∙ ap (λ (cs : List CellView). cell_at cs (length s0)) first.is ∙ new-cell s0 (own_cell b w) in
+    let is_some : IsSome s2 d = record {
+        op = ap (λ (x : CellView). x.op) is_divisor;
+        from = ap (λ (x : CellView). x.from) is_divisor;
+        wide = subst (λ (x : CellView). 1 ≤ x.width) (sym is_divisor) least;
+        fits = subst (λ (x : CellView). (cell_at s2 (slice_index x.ins 0)).width ≤ x.width) (sym is_divisor)
+            (subst (λ (x : CellView). x.width ≤ w) (sym is_own) (omega arith));
+      } in
+    let m3 : Makes s2 s3 c (operated (divider r) (a ∷ d ∷ []) 0 w) = added_makes s2 s3 c (quotient_cell r a d w) third
+        (record { earlier = two-in (length s2) a d a2 m2.there; enough = divider_two r; in_range = divider_range r; width = most; from = omega arith; divisor = λ f t. (m2.there, is_some) }) (divider_plain r) in
+    makes_after s0 s2 s3 c _ _ (grown s0 s1 s2 m1.grows m2.grows) m3
+    (λ packet v run.
+        let own_is : v own ≡ low w (v b) = m1.value packet v (m2.grows.run packet v run) ∙ from_zero (v b) w in
+        let d_is : low 64 (v d) ≡ some (low w (v b)) = ap (low 64) (m2.value packet v run ∙ ap (λ (n : ℕ). bits_from (some n) 0 w) own_is) ∙ some_64 w (low w (v b)) least most (low_below w (v b)) in
+        from_zero _ w ∙ ap (low w) (divided_as packet r (v a) (v d) ∙ ap (divided r (low 64 (v a))) d_is))
