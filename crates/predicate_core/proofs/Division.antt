@@ -2,19 +2,22 @@
 use Rattle.std.proofs.Common.{◌≡◌, ℕ, zero, suc, ◌+◌, ◌%◌, ◌/◌, ◌^◌, ◌<◌, ◌≤◌, Bool, true, false, not, if◌then◌else◌, List, [], ◌∷◌, ◌++◌, length, All, refl, sym, ◌∙◌, ap, subst, arith}
 use Rattle.std.specs.Prelude.{◌==◌, slice_index}
 use Rattle.std.proofs.lemmas.Bool.{eqb-true, eqb-false}
-use Rattle.std.proofs.Math.Nat.{pow-le-pow_right}
+use Rattle.std.proofs.lemmas.Nat.{pow_pos}
+use Rattle.std.proofs.Math.Nat.{pow-le-pow_right, mod-le, div-le_self}
+use Rattle.bpf_isa.specs.declared.operation.Width.{Width}
+use Rattle.bpf_isa.specs.declared.operation.Width.TheVariants.{Bits32, Bits64}
 use Rattle.bits_core.specs.Bits.{div_u_of, mod_u_of}
 use Rattle.bpf_isa.specs.declared.operation.AluCode.TheVariants.{Div, Mod}
 use Rattle.xdp_machine.specs.State.{PacketIn}
-use Rattle.xdp_machine.specs.Arithmetic.{low, arithmetic}
+use Rattle.xdp_machine.specs.Arithmetic.{bits_in, low, arithmetic}
 use Rattle.cell_core.specs.declared.operator.Operator.{Operator}
 use Rattle.cell_core.specs.declared.operator.Operator.TheVariants.{Wire, NonZero, Quotient, Remainder}
-use Rattle.cell_core.specs.Cells.{CellView, IsRun, cell_at, on, number, bits_from, is_read}
+use Rattle.cell_core.specs.Cells.{CellView, IsRun, cell_at, bit, on, number, bits_from, is_read}
 use Rattle.cell_core.specs.Formed.{AreFormed, IsSome, takes, divides, IsInRange}
 use Rattle.predicate_core.specs.Making.{Adds, Grows, Makes, operated}
-use Rattle.predicate_core.specs.Dividing.{some, divided, divider}
+use Rattle.predicate_core.specs.Dividing.{some, divided, divider, code_of}
 use Rattle.predicate_core.proofs.Growing.{IsNext, added_makes, makes_after, grown, old-cell, new-cell}
-use Rattle.predicate_core.proofs.Numbers.{from_zero, low_same, low_below}
+use Rattle.predicate_core.proofs.Numbers.{from_zero, low_same, low_below, in_64}
 
 abbrev pub own_cell : ℕ → ℕ → CellView
 own_cell b w = record { op = Wire; ins = b ∷ []; width = w; from = 0 }
@@ -84,3 +87,70 @@ divides_some s0 s1 s2 s3 r a b own d c w ha hb least most first second third =
         let own_is : v own ≡ low w (v b) = m1.value packet v (m2.grows.run packet v run) ∙ from_zero (v b) w in
         let d_is : low 64 (v d) ≡ some (low w (v b)) = ap (low 64) (m2.value packet v run ∙ ap (λ (n : ℕ). bits_from (some n) 0 w) own_is) ∙ some_64 w (low w (v b)) least most (low_below w (v b)) in
         from_zero _ w ∙ ap (low w) (divided_as packet r (v a) (v d) ∙ ap (divided r (low 64 (v a))) d_is))
+
+on_bit : (t : Bool) → on (bit t) ≡ t
+on_bit true = refl
+on_bit false = refl
+
+-- what the choice of a division comes to
+pub unless_is : (w a b n nil none other : ℕ) (r : Bool) (v : ℕ → ℕ) → v nil ≡ bits_from 0 0 1 → v none ≡ bit (low 64 (v b) == low 64 (v nil)) → other ≡ (if r then a else nil)
+    → bits_from (if on (v none) then v other else v n) 0 w ≡ low w (if low 64 (v b) == 0 then (if r then v a else 0) else v n)
+unless_is w a b n nil none other r v e f g =
+    let nothing : v nil ≡ 0 = e ∙ from_zero 0 1 in
+    let test : on (v none) ≡ (low 64 (v b) == 0) = ap on (f ∙ ap (λ (k : ℕ). bit (low 64 (v b) == low 64 k)) nothing) ∙ on_bit (low 64 (v b) == 0) in
+    let other_is : v other ≡ (if r then v a else 0) = ap v g ∙ by r nothing in
+    from_zero _ w
+    ∙ ap (λ (t : Bool). low w (if t then v other else v n)) test
+    ∙ ap (λ (k : ℕ). low w (if low 64 (v b) == 0 then k else v n)) other_is
+  where
+    by : (r : Bool) → v nil ≡ 0 → v (if r then a else nil) ≡ (if r then v a else 0)
+    by true z = refl
+    by false z = z
+
+some_suc : (b : ℕ) → some (suc b) ≡ suc b
+some_suc b = by (suc b == 0) refl
+  where
+    by : (t : Bool) → (suc b == 0) ≡ t → (if not t then suc b else 1) ≡ suc b
+    by true e = absurd (omega (arith, eqb-true (suc b) 0 e))
+    by false e = refl
+
+unless_suc : (b k n : ℕ) → (if suc b == 0 then k else n) ≡ n
+unless_suc b k n = by (suc b == 0) refl
+  where
+    by : (t : Bool) → (suc b == 0) ≡ t → (if t then k else n) ≡ n
+    by true e = absurd (omega (arith, eqb-true (suc b) 0 e))
+    by false e = refl
+
+divided_below : (r : Bool) (a b k : ℕ) → a < k → divided r a (suc b) < k
+divided_below true a b k h = omega (arith, h, mod-le a (suc b))
+divided_below false a b k h = omega (arith, h, div-le_self a (suc b))
+
+divided_code : (r : Bool) (w a b : ℕ) → divided r a b ≡ arithmetic (code_of r) false w a b
+divided_code true w a b = refl
+divided_code false w a b = refl
+
+by_none : (r : Bool) (w a : ℕ) → a < 2 ^ w → low w (if r then a else 0) ≡ arithmetic (code_of r) false w a 0
+by_none true w a h = low_same w a h
+by_none false w a h = low_same w 0 (pow_pos w)
+
+whole : (w a b : ℕ) → w ≤ 64 → a < 2 ^ w → b < 2 ^ w → (r : Bool) (n : ℕ) → n ≡ low w (divided r (low 64 a) (some b)) → low w (if b == 0 then (if r then a else 0) else n) ≡ arithmetic (code_of r) false w a b
+whole w a zero most h g r n e = by_none r w a h
+whole w a (suc b) most h g r n e =
+    let cut : low 64 a ≡ a = low_same 64 a (omega (arith, h, pow-le-pow_right {n = 2} (omega arith) {i = w} {j = 64} most)) in
+    let is : n ≡ divided r a (suc b) = e ∙ ap (λ (k : ℕ). low w (divided r k (some (suc b)))) cut ∙ ap (λ (k : ℕ). low w (divided r a k)) (some_suc b) ∙ low_same w _ (divided_below r a b (2 ^ w) h) in
+    ap (low w) (unless_suc b (if r then a else 0) n ∙ is) ∙ low_same w _ (divided_below r a b (2 ^ w) h) ∙ divided_code r w a (suc b)
+
+-- division of what is cut to w bits
+pub divided_is : (w : Width) (r : Bool) (a b x y n : ℕ) → x ≡ low (bits_in w) a → y ≡ low (bits_in w) b → n ≡ low (bits_in w) (divided r (low 64 x) (some (low (bits_in w) y)))
+    → low (bits_in w) (if low 64 y == 0 then (if r then x else 0) else n) ≡ arithmetic (code_of r) false (bits_in w) (low (bits_in w) a) (low (bits_in w) b)
+divided_is w r a b x y n e f g =
+    let below : y < 2 ^ bits_in w = subst (λ (k : ℕ). k < 2 ^ bits_in w) (sym f) (low_below (bits_in w) b) in
+    let less : x < 2 ^ bits_in w = subst (λ (k : ℕ). k < 2 ^ bits_in w) (sym e) (low_below (bits_in w) a) in
+    ap (λ (k : ℕ). low (bits_in w) (if k == 0 then (if r then x else 0) else n)) (low_same 64 y (in_64 w y below))
+    ∙ whole (bits_in w) x y (most w) less below r n (g ∙ ap (λ (k : ℕ). low (bits_in w) (divided r (low 64 x) (some k))) (low_same (bits_in w) y below))
+    ∙ ap (λ (k : ℕ). arithmetic (code_of r) false (bits_in w) k y) e
+    ∙ ap (arithmetic (code_of r) false (bits_in w) (low (bits_in w) a)) f
+  where
+    most : (w : Width) → bits_in w ≤ 64
+    most Bits32 = omega arith
+    most Bits64 = omega arith

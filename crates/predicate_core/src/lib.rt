@@ -3,6 +3,7 @@
 
 mod cells;
 mod comparing;
+mod dividing;
 mod joining;
 mod leaving;
 mod shifting;
