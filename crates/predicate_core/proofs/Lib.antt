@@ -2,6 +2,7 @@ pub mod Growing
 pub mod Numbers
 pub mod Conditions
 pub mod Shifts
+pub mod SignedShifts
 pub mod Arms
 pub mod Edges
 pub mod Bytes

@@ -46,7 +46,7 @@ lowered_is w a n h = lowered_as (bits_in w) n a (omega (arith, h))
 
 
 -- the count of a shift: as many low bits as tell the bits of a word
-count_is : (w : Width) (b : ℕ) → low 64 (bits_from b 0 (count_bits w)) % 64 ≡ low (bits_in w) b % bits_in w
+pub count_is : (w : Width) (b : ℕ) → low 64 (bits_from b 0 (count_bits w)) % 64 ≡ low (bits_in w) b % bits_in w
 count_is Bits32 b = omega arith
 count_is Bits64 b = omega arith
 
