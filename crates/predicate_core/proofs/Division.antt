@@ -1,22 +1,19 @@
 -- Division.
-use Rattle.std.proofs.Common.{◌≡◌, ℕ, zero, suc, ◌+◌, ◌%◌, ◌/◌, ◌^◌, ◌<◌, ◌≤◌, Bool, true, false, not, if◌then◌else◌, List, [], ◌∷◌, ◌++◌, length, All, refl, sym, ◌∙◌, ap, subst, arith}
+use Rattle.std.proofs.Common.{◌≡◌, ℕ, zero, suc, ◌^◌, ◌<◌, ◌≤◌, Bool, true, false, not, if◌then◌else◌, List, [], ◌∷◌, length, All, refl, sym, ◌∙◌, ap, subst, arith}
 use Rattle.std.specs.Prelude.{◌==◌, slice_index}
-use Rattle.std.proofs.lemmas.Bool.{eqb-true, eqb-false}
+use Rattle.std.proofs.lemmas.Bool.{eqb-true}
 use Rattle.std.proofs.lemmas.Nat.{pow_pos}
 use Rattle.std.proofs.Math.Nat.{pow-le-pow_right, mod-le, div-le_self}
 use Rattle.bpf_isa.specs.declared.operation.Width.{Width}
 use Rattle.bpf_isa.specs.declared.operation.Width.TheVariants.{Bits32, Bits64}
-use Rattle.bits_core.specs.Bits.{div_u_of, mod_u_of}
-use Rattle.bpf_isa.specs.declared.operation.AluCode.TheVariants.{Div, Mod}
 use Rattle.xdp_machine.specs.State.{PacketIn}
 use Rattle.xdp_machine.specs.Arithmetic.{bits_in, low, arithmetic}
-use Rattle.cell_core.specs.declared.operator.Operator.{Operator}
-use Rattle.cell_core.specs.declared.operator.Operator.TheVariants.{Wire, NonZero, Quotient, Remainder}
-use Rattle.cell_core.specs.Cells.{CellView, IsRun, cell_at, bit, on, number, bits_from, is_read}
-use Rattle.cell_core.specs.Formed.{AreFormed, IsSome, takes, divides, IsInRange}
-use Rattle.predicate_core.specs.Making.{Adds, Grows, Makes, operated}
+use Rattle.cell_core.specs.declared.operator.Operator.TheVariants.{Wire, NonZero}
+use Rattle.cell_core.specs.Cells.{CellView, cell_at, bit, on, number, bits_from, is_read}
+use Rattle.cell_core.specs.Formed.{IsSome, takes, IsInRange}
+use Rattle.predicate_core.specs.Making.{Adds, Makes, operated}
 use Rattle.predicate_core.specs.Dividing.{some, divided, divider, code_of}
-use Rattle.predicate_core.proofs.Growing.{IsNext, added_makes, makes_after, grown, old-cell, new-cell}
+use Rattle.predicate_core.proofs.Growing.{added_makes, makes_after, grown, old-cell, new-cell}
 use Rattle.predicate_core.proofs.Numbers.{from_zero, low_same, low_below, in_64}
 
 abbrev pub own_cell : ℕ → ℕ → CellView
@@ -65,28 +62,28 @@ pub divides_some : (s0 s1 s2 s3 : List CellView) (r : Bool) (a b own d c w : ℕ
     → Makes s0 s3 c (λ packet v. low w (divided r (low 64 (v a)) (some (low w (v b)))))
 divides_some s0 s1 s2 s3 r a b own d c w ha hb least most first second third =
     let m1 : Makes s0 s1 own (operated Wire (b ∷ []) 0 w) = added_makes s0 s1 own (own_cell b w) first
-        (record { earlier = one-in (length s0) b hb; enough = omega arith; in_range = tt; width = most; from = omega arith; divisor = λ f t. absurd (cc) }) refl in
+    (record { earlier = one-in (length s0) b hb; enough = omega arith; in_range = tt; width = most; from = omega arith; divisor = λ f t. absurd (cc) }) refl in
     let a1 : a < length s1 = omega (arith, ha, m1.grows.longer) in
     let m2 : Makes s1 s2 d (operated NonZero (own ∷ a ∷ []) 0 w) = added_makes s1 s2 d (divisor_cell own a w) second
-        (record { earlier = two-in (length s1) own a m1.there a1; enough = omega arith; in_range = tt; width = most; from = omega arith; divisor = λ f t. absurd (cc) }) refl in
+    (record { earlier = two-in (length s1) own a m1.there a1; enough = omega arith; in_range = tt; width = most; from = omega arith; divisor = λ f t. absurd (cc) }) refl in
     let a2 : a < length s2 = omega (arith, a1, m2.grows.longer) in
     let is_divisor : cell_at s2 d ≡ divisor_cell own a w = ap (cell_at s2) second.at ∙ ap (λ (cs : List CellView). cell_at cs (length s1)) second.is ∙ new-cell s1 (divisor_cell own a w) in
     let is_own : cell_at s2 own ≡ own_cell b w = ap (λ (cs : List CellView). cell_at cs own) second.is ∙ old-cell s1 (divisor_cell own a w) own m1.there
-        ∙ ap (cell_at s1) first.at ∙ ap (λ (cs : List CellView). cell_at cs (length s0)) first.is ∙ new-cell s0 (own_cell b w) in
+    ∙ ap (cell_at s1) first.at ∙ ap (λ (cs : List CellView). cell_at cs (length s0)) first.is ∙ new-cell s0 (own_cell b w) in
     let is_some : IsSome s2 d = record {
-        op = ap (λ (x : CellView). x.op) is_divisor;
-        from = ap (λ (x : CellView). x.from) is_divisor;
-        wide = subst (λ (x : CellView). 1 ≤ x.width) (sym is_divisor) least;
-        fits = subst (λ (x : CellView). (cell_at s2 (slice_index x.ins 0)).width ≤ x.width) (sym is_divisor)
-            (subst (λ (x : CellView). x.width ≤ w) (sym is_own) (omega arith));
-      } in
+      op = ap (λ (x : CellView). x.op) is_divisor;
+      from = ap (λ (x : CellView). x.from) is_divisor;
+      wide = subst (λ (x : CellView). 1 ≤ x.width) (sym is_divisor) least;
+      fits = subst (λ (x : CellView). (cell_at s2 (slice_index x.ins 0)).width ≤ x.width) (sym is_divisor)
+          (subst (λ (x : CellView). x.width ≤ w) (sym is_own) (omega arith));
+    } in
     let m3 : Makes s2 s3 c (operated (divider r) (a ∷ d ∷ []) 0 w) = added_makes s2 s3 c (quotient_cell r a d w) third
-        (record { earlier = two-in (length s2) a d a2 m2.there; enough = divider_two r; in_range = divider_range r; width = most; from = omega arith; divisor = λ f t. (m2.there, is_some) }) (divider_plain r) in
+    (record { earlier = two-in (length s2) a d a2 m2.there; enough = divider_two r; in_range = divider_range r; width = most; from = omega arith; divisor = λ f t. (m2.there, is_some) }) (divider_plain r) in
     makes_after s0 s2 s3 c _ _ (grown s0 s1 s2 m1.grows m2.grows) m3
     (λ packet v run.
-        let own_is : v own ≡ low w (v b) = m1.value packet v (m2.grows.run packet v run) ∙ from_zero (v b) w in
-        let d_is : low 64 (v d) ≡ some (low w (v b)) = ap (low 64) (m2.value packet v run ∙ ap (λ (n : ℕ). bits_from (some n) 0 w) own_is) ∙ some_64 w (low w (v b)) least most (low_below w (v b)) in
-        from_zero _ w ∙ ap (low w) (divided_as packet r (v a) (v d) ∙ ap (divided r (low 64 (v a))) d_is))
+    let own_is : v own ≡ low w (v b) = m1.value packet v (m2.grows.run packet v run) ∙ from_zero (v b) w in
+    let d_is : low 64 (v d) ≡ some (low w (v b)) = ap (low 64) (m2.value packet v run ∙ ap (λ (n : ℕ). bits_from (some n) 0 w) own_is) ∙ some_64 w (low w (v b)) least most (low_below w (v b)) in
+    from_zero _ w ∙ ap (low w) (divided_as packet r (v a) (v d) ∙ ap (divided r (low 64 (v a))) d_is))
 
 on_bit : (t : Bool) → on (bit t) ≡ t
 on_bit true = refl

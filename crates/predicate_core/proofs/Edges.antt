@@ -1,5 +1,5 @@
 -- The bits of edges.
-use Rattle.std.proofs.Common.{◌≡◌, ℕ, zero, suc, ◌-◌, ◌^◌, ◌<◌, Bool, true, false, not, ◌&&◌, ◌⊎◌, inl, inr, List, refl, sym, ◌∙◌, ap, subst, arith}
+use Rattle.std.proofs.Common.{◌≡◌, ℕ, zero, suc, ◌-◌, ◌^◌, ◌<◌, Bool, true, false, not, ◌&&◌, List, refl, ◌∙◌, ap, arith}
 use Rattle.bpf_isa.specs.declared.operation.AluCode.TheVariants.{And}
 use Rattle.xdp_machine.specs.Arithmetic.{low, arithmetic}
 use Rattle.xdp_machine.specs.State.{PacketIn}
@@ -38,7 +38,7 @@ passed_is g c d h k e =
 pub makes_if : (a b d : List CellView) (c : ℕ) (P : (ℕ → ℕ) → Type 0) (f g : PacketIn → (ℕ → ℕ) → ℕ) → Grows a b → Makes b d c f
     → ((packet : PacketIn) (v : ℕ → ℕ) → IsRun packet b v → P v → f packet v ≡ g packet v) → MakesIf a d c P g
 makes_if a b d c P f g before made same = record {
-    grows = grown a b d before made.grows;
-    there = made.there;
-    value = λ packet v r p. made.value packet v r ∙ same packet v (made.grows.run packet v r) p;
-  }
+  grows = grown a b d before made.grows;
+  there = made.there;
+  value = λ packet v r p. made.value packet v r ∙ same packet v (made.grows.run packet v r) p;
+}

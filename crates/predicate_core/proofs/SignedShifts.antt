@@ -1,10 +1,10 @@
 -- Shifts to the right that keep the sign.
-use Rattle.std.proofs.Common.{◌≡◌, ℕ, zero, suc, ◌+◌, ◌-◌, ◌*◌, ◌/◌, ◌%◌, ◌^◌, ◌<◌, ◌≤◌, Bool, true, false, not, if◌then◌else◌, pos, negsuc, List, [], ◌∷◌, nat_lt, refl, sym, ◌∙◌, ap, subst, arith}
+use Rattle.std.proofs.Common.{◌≡◌, ℕ, ◌+◌, ◌-◌, ◌*◌, ◌/◌, ◌%◌, ◌^◌, ◌<◌, ◌≤◌, Bool, true, false, not, if◌then◌else◌, pos, negsuc, nat_lt, refl, sym, ◌∙◌, ap, subst, arith}
 use Rattle.std.proofs.lemmas.Bool.Decides.{nat_tests}
 use Rattle.std.proofs.lemmas.Nat.{mod_below, pow_pos, pow-add, div-mul-add, div-add-mod'}
 use Rattle.std.proofs.Math.Nat.{add-mul, div-le_self, div-lt_iff_lt-mul}
 use Rattle.std.specs.Int.{int_div_euclid}
-use Rattle.bits_core.specs.Bits.{signed_of, bits_of, sext_of, arsh_of}
+use Rattle.bits_core.specs.Bits.{bits_of, sext_of, arsh_of}
 use Rattle.bpf_isa.specs.declared.operation.Width.{Width}
 use Rattle.bpf_isa.specs.declared.operation.Width.TheVariants.{Bits32, Bits64}
 use Rattle.xdp_machine.specs.Arithmetic.{bits_in, low}
@@ -41,23 +41,32 @@ sign_kept w n a h g =
   where
     m : ℕ
     m = 2 ^ n
+
     k : ℕ
     k = bits_in w - n
+
     all : 2 ^ bits_in w ≡ 2 ^ (bits_in w - n) * 2 ^ n
     all = let e : bits_in w ≡ bits_in w - n + n = omega (arith, h) in ap (λ (j : ℕ). 2 ^ j) e ∙ pow-add 2 (bits_in w - n) n
+
     half : 2 ^ (bits_in w - 1) ≡ 2 ^ (bits_in w - n - 1) * 2 ^ n
     half = let e : bits_in w - 1 ≡ bits_in w - n - 1 + n = omega (arith, h) in ap (λ (j : ℕ). 2 ^ j) e ∙ pow-add 2 (bits_in w - n - 1) n
+
     same : nat_lt (a / 2 ^ n) (2 ^ (bits_in w - n - 1)) ≡ nat_lt a (2 ^ (bits_in w - 1))
     same = halved (2 ^ (bits_in w - n - 1)) (2 ^ n) a (pow_pos n) ∙ ap (nat_lt a) (sym half)
+
     inside : a / 2 ^ n < 2 ^ (bits_in w - n)
     inside = (div-lt_iff_lt-mul {k = 2 ^ n} {x = a} {y = 2 ^ (bits_in w - n)} (pow_pos n)).1 (subst (λ (j : ℕ). a < j) all g)
+
     split : a ≡ a / 2 ^ n * 2 ^ n + a % 2 ^ n
     split = sym (div-add-mod' a (2 ^ n))
+
     rest : (2 ^ bits_in w - 1 - a) / 2 ^ n ≡ 2 ^ (bits_in w - n) - 1 - a / 2 ^ n
     rest = ap (λ (j : ℕ). (j - 1 - a) / 2 ^ n) all ∙ ap (λ (j : ℕ). (2 ^ (bits_in w - n) * 2 ^ n - 1 - j) / 2 ^ n) split
         ∙ complement_div (2 ^ (bits_in w - n)) (2 ^ n) (a / 2 ^ n) (a % 2 ^ n) inside (mod_below a (2 ^ n) (pow_pos n))
+
     small : (2 ^ bits_in w - 1 - a) / 2 ^ n < 2 ^ bits_in w
     small = omega (arith, div-le_self (2 ^ bits_in w - 1 - a) (2 ^ n), pow_pos (bits_in w))
+
     by : (s t : Bool) → s ≡ t → low (bits_in w) (bits_of 64 (if s then pos (a / 2 ^ n) else negsuc (2 ^ (bits_in w - n) - 1 - a / 2 ^ n)))
         ≡ bits_of (bits_in w) (int_div_euclid (if t then pos a else negsuc (2 ^ bits_in w - 1 - a)) (pos (2 ^ n)))
     by true true e = cut_twice w (a / 2 ^ n)
@@ -108,16 +117,22 @@ shifted_signed w a e sign other moved back plain h s o m b p =
   where
     other_is : other ≡ 2 ^ bits_in w - 1 - a
     other_is = o ∙ complement_is w a h
+
     other_below : other < 2 ^ bits_in w
     other_below = omega (arith, other_is, pow_pos (bits_in w))
+
     moved_is : moved ≡ (2 ^ bits_in w - 1 - a) / 2 ^ e
     moved_is = m ∙ shift_down w other (2 ^ e) other_below ∙ ap (λ (j : ℕ). j / 2 ^ e) other_is
+
     moved_below : moved < 2 ^ bits_in w
     moved_below = omega (arith, moved_is, div-le_self (2 ^ bits_in w - 1 - a) (2 ^ e), pow_pos (bits_in w))
+
     back_is : back ≡ 2 ^ bits_in w - 1 - moved
     back_is = b ∙ complement_is w moved moved_below
+
     plain_is : plain ≡ a / 2 ^ e
     plain_is = p ∙ shift_down w a (2 ^ e) h
+
     by : (t : Bool) → low (bits_in w) (if not t then back else plain) ≡ bits_of (bits_in w) (int_div_euclid (if t then pos a else negsuc (2 ^ bits_in w - 1 - a)) (pos (2 ^ e)))
     by true = ap (low (bits_in w)) plain_is
     by false = low_same (bits_in w) back (omega (arith, back_is, pow_pos (bits_in w))) ∙ back_is

@@ -1,6 +1,6 @@
 -- Where edges meet.
-use Rattle.std.specs.Prelude.{ℕ, ◌≡◌, ◌<◌, ◌≤◌, if◌then◌else◌, List, [], ◌∷◌, length, All, map as map_list}
-use Rattle.cell_core.specs.Cells.{CellView, on, cell_at}
+use Rattle.std.specs.Prelude.{ℕ, ◌<◌, if◌then◌else◌, List, [], ◌∷◌, length, All}
+use Rattle.cell_core.specs.Cells.{CellView, on}
 use Rattle.predicate_core.specs.declared.joining.Arm.{Arm}
 
 -- what the first edge that is on brings, or else the last one

@@ -1,6 +1,5 @@
 -- What the code of a node does: between nodes the edges that are on lead to where the run is, and hold what its machine holds.
 use Rattle.std.specs.Prelude.{ℕ, ◌≡◌, ◌+◌, ◌<◌, ◌≤◌, ◌++◌, true, Some, List, length, take, All, Contains}
-use Rattle.xdp_maps.specs.declared.decl.MapDecl.{MapDecl}
 use Rattle.xdp_maps.specs.State.{MapState}
 use Rattle.xdp_machine.specs.State.{Machine, PacketIn}
 use Rattle.kind_core.specs.declared.kind.Kinds.{Kinds}

@@ -65,12 +65,7 @@ pub(crate) fn constant(cells: &mut Vec<Cell>, n: u64, width: u32) -> Result<u32,
 }
 
 /// So many bits of a cell's value, from one on.
-pub(crate) fn slice(
-    cells: &mut Vec<Cell>,
-    a: u32,
-    from: u32,
-    width: u32,
-) -> Result<u32, AllocError>
+pub(crate) fn slice(cells: &mut Vec<Cell>, a: u32, from: u32, width: u32) -> Result<u32, AllocError>
     requires there { a < length (seen cells.old.items) }
     requires from { from ≤ 63 }
     requires width { width ≤ 64 }

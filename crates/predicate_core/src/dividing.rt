@@ -38,13 +38,7 @@ fn unless_zero(
     let zero = constant(cells, 0, 1)?;
     let none = equal(cells, b, zero)?;
     let other = instead(rest, a, zero);
-    let c = operate(
-        cells,
-        Operator::Select,
-        &[none, other, n],
-        0,
-        bits(width),
-    )?;
+    let c = operate(cells, Operator::Select, &[none, other, n], 0, bits(width))?;
     Ok(c)
 }
 

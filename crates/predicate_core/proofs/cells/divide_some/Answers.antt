@@ -1,4 +1,3 @@
-use Rattle.std.proofs.Common.{◌≡◌, ℕ}
 use Rattle.predicate_core.proofs.Division.{divides_some}
 use Rattle.predicate_core.proofs.cells.divide_some.Goals as goal
 

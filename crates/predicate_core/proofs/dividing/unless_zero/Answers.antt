@@ -1,4 +1,3 @@
-use Rattle.std.proofs.Common.{◌≡◌, ℕ}
 use Rattle.xdp_machine.specs.Arithmetic.{bits_in}
 use Rattle.predicate_core.proofs.Growing.{grown, makes_after}
 use Rattle.predicate_core.proofs.Division.{unless_is}

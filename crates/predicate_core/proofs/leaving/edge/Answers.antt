@@ -1,4 +1,3 @@
-use Rattle.std.proofs.Common.{◌≡◌, ℕ}
 use Rattle.predicate_core.proofs.Growing.{grown_none}
 use Rattle.predicate_core.proofs.Edges.{taken_is, passed_is, makes_if}
 use Rattle.predicate_core.proofs.leaving.edge.Goals as goal

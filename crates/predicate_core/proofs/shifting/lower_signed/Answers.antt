@@ -1,4 +1,3 @@
-use Rattle.std.proofs.Common.{◌≡◌, ℕ}
 use Rattle.predicate_core.proofs.Growing.{makes_after}
 use Rattle.predicate_core.proofs.SignedShifts.{lowered_signed}
 use Rattle.predicate_core.proofs.shifting.lower_signed.Goals as goal

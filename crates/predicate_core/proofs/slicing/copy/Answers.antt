@@ -1,5 +1,4 @@
-use Rattle.std.proofs.Common.{◌≡◌, ◌<◌, ◌^◌, ℕ, sym, ap, ◌∙◌, subst}
-use Rattle.cell_core.specs.Cells.{cell_at}
+use Rattle.std.proofs.Common.{◌<◌, ◌^◌, ℕ, sym, ◌∙◌, subst}
 use Rattle.predicate_core.specs.Making.{seen}
 use Rattle.predicate_core.proofs.Growing.{grown_none, makes_after}
 use Rattle.predicate_core.proofs.Numbers.{from_zero, low_same}
@@ -10,5 +9,5 @@ returns c =
     let width = rw c.deref.ensures.value at c.width_of-width.ensures.width in
     makes_after _ _ _ _ _ _ (grown_none _) c.in_ok-c.ensures
     (λ packet v r. from_zero (v c.args.a) c.width_of-width.result
-        ∙ low_same c.width_of-width.result (v c.args.a)
-            (subst (λ (n : ℕ). v c.args.a < 2 ^ n) (sym width) (c.values_fit.ensures packet (seen c.args.cells.now.items) v r c.args.a c.requires.there)))
+    ∙ low_same c.width_of-width.result (v c.args.a)
+    (subst (λ (n : ℕ). v c.args.a < 2 ^ n) (sym width) (c.values_fit.ensures packet (seen c.args.cells.now.items) v r c.args.a c.requires.there)))

@@ -1,4 +1,4 @@
-use Rattle.std.proofs.Common.{◌≡◌, ◌*◌, ℕ, List, reverse, length, arith, sym, ap, ◌∙◌}
+use Rattle.std.proofs.Common.{reverse, arith, ap, ◌∙◌}
 use Rattle.predicate_core.proofs.Growing.{grown_none}
 use Rattle.predicate_core.proofs.Edges.{makes_if}
 use Rattle.predicate_core.proofs.Bytes.{bytes_joined}

@@ -1,5 +1,5 @@
-use Rattle.std.proofs.Common.{◌≡◌, ◌<◌, ◌≤◌, ℕ, arith, sym, ap, subst, length}
-use Rattle.cell_core.specs.Cells.{CellView, cell_at}
+use Rattle.std.proofs.Common.{◌≤◌, ℕ, arith, sym, ap, subst}
+use Rattle.cell_core.specs.Cells.{CellView}
 use Rattle.predicate_core.proofs.Growing.{seen_length, seen_at}
 use Rattle.predicate_core.proofs.slicing.width_of.Goals as goal
 

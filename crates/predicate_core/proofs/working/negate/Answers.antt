@@ -1,4 +1,3 @@
-use Rattle.std.proofs.Common.{◌≡◌, ℕ}
 use Rattle.predicate_core.proofs.Growing.{grown, makes_after}
 use Rattle.predicate_core.proofs.Numbers.{negated_is}
 use Rattle.predicate_core.proofs.working.negate.Goals as goal
