@@ -5,6 +5,7 @@ mod cells;
 mod comparing;
 mod dividing;
 mod joining;
+pub mod laws;
 mod leaving;
 mod shifting;
 mod slicing;
