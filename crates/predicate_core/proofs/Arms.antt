@@ -10,7 +10,7 @@ use Rattle.xdp_machine.specs.State.{PacketIn}
 use Rattle.cell_core.specs.Cells.{CellView, IsRun, cell_at, on, phi, bits_from}
 use Rattle.cell_core.specs.CellLaws.{ValuesFit}
 use Rattle.predicate_core.specs.declared.joining.Arm.{Arm}
-use Rattle.predicate_core.specs.Joining.{chosen, flat, AreThere}
+use Rattle.predicate_core.specs.Joining.{chosen, flat, AreThere, ChoiceIsRight}
 use Rattle.predicate_core.proofs.Numbers.{from_zero, low_same}
 
 flat_behind : (xs : List Arm) (a : Arm) → flat (xs ++ a ∷ []) ≡ flat xs ++ a.bit ∷ a.cell ∷ []
@@ -75,3 +75,14 @@ flat_there n (a ∷ more) there = ((there 0 a (omega arith)).0, ((there 0 a (ome
 pub flat_long : (arms : List Arm) → 1 ≤ length arms → 2 ≤ length (flat arms)
 flat_long [] h = absurd (omega arith)
 flat_long (a ∷ more) h = omega arith
+
+pub choice_is_right : ChoiceIsRight
+choice_is_right v [] n i d l h all = absurd (omega arith)
+choice_is_right v (a ∷ []) n zero d l h all = all 0 a (omega arith) h
+choice_is_right v (a ∷ []) n (suc i) d l h all = absurd (omega arith)
+choice_is_right v (a ∷ b ∷ more) n zero d l h all = rw h (all 0 a (omega arith) h)
+choice_is_right v (a ∷ b ∷ more) n (suc i) d l h all = by (on (v a.bit)) refl (choice_is_right v (b ∷ more) n i d (omega arith) h (λ j e m. all (suc j) e (omega arith)))
+  where
+    by : (t : Bool) → on (v a.bit) ≡ t → chosen v (b ∷ more) ≡ n → (if t then v a.cell else chosen v (b ∷ more)) ≡ n
+    by true e rest = all 0 a (omega arith) e
+    by false e rest = rest

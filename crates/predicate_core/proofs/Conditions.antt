@@ -1,5 +1,5 @@
 -- Conditions of jumps.
-use Rattle.std.proofs.Common.{◌≡◌, ℕ, zero, suc, ◌+◌, ◌-◌, ◌*◌, ◌/◌, ◌%◌, ◌^◌, ◌<◌, ◌≤◌, Bool, true, false, not, if◌then◌else◌, ℤ, pos, negsuc, List, [], ◌∷◌, nat_lt, nat_le, int_lt, int_le, refl, sym, ◌∙◌, ap, subst, arith}
+use Rattle.std.proofs.Common.{◌≡◌, ℕ, ◌-◌, ◌^◌, ◌<◌, Bool, true, false, not, [], ◌∷◌, nat_lt, nat_le, int_lt, int_le, refl, ◌∙◌, ap, arith}
 use Rattle.std.specs.Prelude.{◌==◌, bit_and}
 use Rattle.std.proofs.lemmas.Bool.Decides.{nat_tests}
 use Rattle.std.proofs.lemmas.Int.{ints}
@@ -98,7 +98,7 @@ pub none_common : (a b both nil none : ℕ) → both ≡ bits_from (arithmetic A
     → low 1 (2 ^ 64 - 1 - none) ≡ bit (holds Jset 64 (low 64 a) (low 64 b))
 none_common a b both nil none e f g =
     ap (λ (n : ℕ). low 1 (2 ^ 64 - 1 - n)) (g ∙ (ap (λ (n : ℕ). bit (low 64 n == low 64 nil)) (e ∙ from_zero _ 64 ∙ is) ∙ ap (λ (n : ℕ). bit (low 64 (bit_and (low 64 a) (low 64 b)) == low 64 n)) (f ∙ from_zero 0 1)
-        ∙ ap (λ (n : ℕ). bit (n == 0)) is))
+    ∙ ap (λ (n : ℕ). bit (n == 0)) is))
     ∙ not_bit (bit_and (low 64 a) (low 64 b) == 0)
   where
     is : low 64 (bit_and (low 64 a) (low 64 b)) ≡ bit_and (low 64 a) (low 64 b)

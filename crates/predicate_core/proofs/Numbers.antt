@@ -1,6 +1,5 @@
 -- What operators on 64 bits are on w.
-use Rattle.std.proofs.Common.{◌≡◌, ℕ, zero, suc, ◌+◌, ◌-◌, ◌*◌, ◌/◌, ◌%◌, ◌^◌, ◌<◌, ◌≤◌, Bool, true, false, List, [], ◌∷◌, length, refl, sym, ◌∙◌, ap, subst, arith}
-use Rattle.std.specs.Prelude.{slice_index}
+use Rattle.std.proofs.Common.{◌≡◌, ℕ, ◌+◌, ◌-◌, ◌*◌, ◌%◌, ◌^◌, ◌<◌, ◌≤◌, Bool, true, false, List, [], ◌∷◌, length, refl, ◌∙◌, ap, arith}
 use Rattle.std.specs.Int.Bits.{and_lt}
 use Rattle.std.proofs.lemmas.Nat.{mod_below, pow_pos, or_lt, xor_lt}
 use Rattle.std.proofs.Math.Nat.{div-one, mod-eq_of_lt, pow-le-pow_right}
@@ -10,7 +9,7 @@ use Rattle.bpf_isa.specs.declared.operation.AluCode.{AluCode}
 use Rattle.bpf_isa.specs.declared.operation.AluCode.TheVariants as alu
 use Rattle.xdp_machine.specs.Arithmetic.{bits_in, low, arithmetic, negated}
 use Rattle.xdp_machine.specs.State.{PacketIn}
-use Rattle.cell_core.specs.declared.operator.Operator.{Operator}
+use Rattle.cell_core.specs.declared.operator.Operator.TheVariants as op
 use Rattle.cell_core.specs.Cells.{CellView, IsRun, cell_at, number, bits_from, is_read}
 use Rattle.cell_core.specs.CellLaws.{ValuesFit}
 use Rattle.cell_core.specs.Formed.{AreFormed, takes, divides, IsInRange}
@@ -110,3 +109,13 @@ operator_in_range c = tt
 
 pub fits_64 : (packet : PacketIn) (cells : List CellView) (v : ℕ → ℕ) → ValuesFit → AreFormed cells → IsRun packet cells v → (a : ℕ) → a < length cells → v a < 2 ^ 64
 fits_64 packet cells v fit formed run a h = omega (arith, fit packet cells v run a h, pow-le-pow_right {n = 2} (omega arith) {i = (cell_at cells a).width} {j = 64} (formed.each a h).width)
+
+-- 0 less a number is the number with the other sign
+pub negated_is : (packet : PacketIn) (w : Width) (n nil x : ℕ) → nil ≡ bits_from 0 0 1 → x ≡ low (bits_in w) n → bits_from (number packet op.Sub (nil ∷ x ∷ [])) 0 (bits_in w) ≡ negated (bits_in w) n
+negated_is packet w n nil x e f =
+    let none : nil ≡ 0 = e ∙ from_zero 0 1 in
+    let plus : 0 + (2 ^ bits_in w - low (bits_in w) n) ≡ 2 ^ bits_in w - low (bits_in w) n = omega arith in
+    ap (λ (k : ℕ). bits_from (number packet op.Sub (k ∷ x ∷ [])) 0 (bits_in w)) none
+    ∙ ap (λ (k : ℕ). bits_from (number packet op.Sub (0 ∷ k ∷ [])) 0 (bits_in w)) f
+    ∙ operated_one packet w alu.Sub false 0 (low (bits_in w) n) refl (pow_pos (bits_in w)) (low_below (bits_in w) n)
+    ∙ ap (low (bits_in w)) plus

@@ -1,5 +1,5 @@
 -- Shifts.
-use Rattle.std.proofs.Common.{◌≡◌, ℕ, zero, suc, ◌+◌, ◌-◌, ◌*◌, ◌/◌, ◌%◌, ◌^◌, ◌<◌, ◌≤◌, Bool, true, false, List, [], ◌∷◌, refl, sym, ◌∙◌, ap, subst, arith}
+use Rattle.std.proofs.Common.{◌≡◌, ℕ, ◌+◌, ◌-◌, ◌*◌, ◌/◌, ◌%◌, ◌^◌, ◌<◌, ◌≤◌, Bool, false, [], ◌∷◌, sym, ◌∙◌, ap, subst, arith}
 use Rattle.std.proofs.lemmas.Nat.{mod_below, pow_pos, mod-pow-add, mul-mod_first, div-mul-add}
 use Rattle.std.proofs.Math.Nat.{mod-mod, div-le_self}
 use Rattle.bpf_isa.specs.declared.operation.Width.{Width}
@@ -38,15 +38,14 @@ lowered_as : (w n a : ℕ) → n ≤ w → a / 2 ^ n % 2 ^ (w - n) ≡ a % 2 ^ w
 lowered_as w n a h =
     let split : w - n + n ≡ w = omega (arith, h) in
     sym (subst (λ (k : ℕ). a % 2 ^ k / 2 ^ n ≡ a / 2 ^ n % 2 ^ (w - n)) split
-      (ap (λ (k : ℕ). k / 2 ^ n) (mod-pow-add a (w - n) n) ∙ div-mul-add (a / 2 ^ n % 2 ^ (w - n)) (2 ^ n) (a % 2 ^ n) (mod_below a (2 ^ n) (pow_pos n))))
+    (ap (λ (k : ℕ). k / 2 ^ n) (mod-pow-add a (w - n) n) ∙ div-mul-add (a / 2 ^ n % 2 ^ (w - n)) (2 ^ n) (a % 2 ^ n) (mod_below a (2 ^ n) (pow_pos n))))
 
 -- the bits from n on, among w
 pub lowered_is : (w : Width) (a n : ℕ) → n < bits_in w → bits_from a n (bits_in w - n) ≡ low (bits_in w) a / 2 ^ n
 lowered_is w a n h = lowered_as (bits_in w) n a (omega (arith, h))
 
-
 -- the count of a shift: as many low bits as tell the bits of a word
-count_is : (w : Width) (b : ℕ) → low 64 (bits_from b 0 (count_bits w)) % 64 ≡ low (bits_in w) b % bits_in w
+pub count_is : (w : Width) (b : ℕ) → low 64 (bits_from b 0 (count_bits w)) % 64 ≡ low (bits_in w) b % bits_in w
 count_is Bits32 b = omega arith
 count_is Bits64 b = omega arith
 

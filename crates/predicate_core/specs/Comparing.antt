@@ -1,7 +1,7 @@
 -- Signed numbers in the order of unsigned ones.
-use Rattle.std.specs.Prelude.{ℕ, ◌+◌, ◌-◌, ◌%◌, ◌^◌, Bool, true, false}
+use Rattle.std.specs.Prelude.{ℕ, ◌+◌, ◌-◌, ◌^◌, Bool, true, false}
 use Rattle.bpf_isa.specs.declared.operation.JumpCode.{JumpCode}
-use Rattle.bpf_isa.specs.declared.operation.JumpCode.TheVariants.{Jeq, Jgt, Jge, Jset, Jne, Jsgt, Jsge, Jlt, Jle, Jslt, Jsle}
+use Rattle.bpf_isa.specs.declared.operation.JumpCode.TheVariants.{Jgt, Jge, Jsgt, Jsge, Jlt, Jle, Jslt, Jsle}
 use Rattle.xdp_machine.specs.Arithmetic.{low}
 
 -- the low w bits of a number with the highest of them turned

@@ -1,5 +1,5 @@
 -- What cells hold of a machine, by the kinds of its values. A kind without data has no cell: it says by itself what the value is.
-use Rattle.std.specs.Prelude.{ℕ, ◌≡◌, ◌<◌, ◌≤◌, ℤ, pos, true, if◌then◌else◌, List, [], length, slice_index, get_or, map as map_list}
+use Rattle.std.specs.Prelude.{ℕ, ◌≡◌, ◌<◌, ◌≤◌, pos, true, if◌then◌else◌, List, [], length, slice_index, get_or, map as map_list}
 use Rattle.xdp_maps.specs.declared.decl.MapDecl.{MapDecl}
 use Rattle.xdp_machine.specs.Values.{Value}
 use Rattle.xdp_machine.specs.Values as is

@@ -10,7 +10,7 @@ use Rattle.cell_core.specs.declared.program.Node.{Node}
 use Rattle.cell_core.specs.Cells.{IsRun, cell_at, site_in, bits_from, bit, on}
 use Rattle.cell_core.specs.Sites.{SiteView, ProgramView, site_at, operation_on, after, read_on, IsCellRun, leaves, touched}
 use Rattle.cell_core.specs.Formed.{AreFormed, AreSited, IsBelow}
-use Rattle.predicate_core.specs.Paths.{GraphView, Stage, At, node_at, before, on_path, maps_in}
+use Rattle.predicate_core.specs.Paths.{GraphView, At, node_at, before, on_path, maps_in}
 use Rattle.predicate_core.specs.Held.{HeldView, AreHeld}
 
 abbrev pub no_made : Node

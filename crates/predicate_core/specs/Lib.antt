@@ -1,4 +1,6 @@
 pub mod Making
+pub mod Steps
+pub mod Dividing
 pub mod Joining
 pub mod Shifting
 pub mod Comparing

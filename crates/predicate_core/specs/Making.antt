@@ -52,3 +52,9 @@ operator_of alu.Mul = op.Mul
 operator_of alu.Or = op.Or
 operator_of alu.Xor = op.Xor
 operator_of c = op.And
+
+-- The same where something holds of the values of cells that were there.
+pub record MakesIf (old new : List CellView) (c : ℕ) (P : (ℕ → ℕ) → Type 0) (is : PacketIn → (ℕ → ℕ) → ℕ) : Type 0 where
+  pub grows : Grows old new
+  pub there : c < length new
+  pub value : (packet : PacketIn) (v : ℕ → ℕ) → IsRun packet new v → P v → v c ≡ is packet v

@@ -23,8 +23,8 @@ pub(crate) fn not(cells: &mut Vec<Cell>, a: u32) -> Result<u32, AllocError>
     Ok(c)
 }
 
-// Whether numbers are the same.
-fn equal(cells: &mut Vec<Cell>, a: u32, b: u32) -> Result<u32, AllocError>
+/// Whether numbers are the same.
+pub(crate) fn equal(cells: &mut Vec<Cell>, a: u32, b: u32) -> Result<u32, AllocError>
     requires left { a < length (seen cells.old.items) }
     requires right { b < length (seen cells.old.items) }
     ensures { IfOk result (λ c. Makes (seen cells.old.items) (seen cells.new.items) c (λ packet v. bit (low 64 (v a) == low 64 (v b)))) }

@@ -3,6 +3,10 @@
 
 mod cells;
 mod comparing;
+mod dividing;
 mod joining;
+pub mod laws;
+mod leaving;
 mod shifting;
+mod slicing;
 mod working;

@@ -1,7 +1,9 @@
 // Shifts.
 
-ghost use Rattle.std.specs.Prelude.{ℕ, ◌≡◌, ◌<◌, ◌≤◌, ◌/◌, ◌^◌, ◌*◌, ◌%◌, length, IfOk, Bool};
+ghost use Rattle.std.specs.Prelude.{ℕ, ◌≡◌, ◌<◌, ◌-◌, ◌/◌, ◌^◌, ◌*◌, ◌%◌, length, IfOk, Bool};
+ghost use Rattle.bits_core.specs.Bits.{arsh_of};
 ghost use Rattle.xdp_machine.specs.Arithmetic.{bits_in, low, arithmetic};
+ghost use Rattle.cell_core.specs.Cells.{bits_from};
 ghost use Rattle.cell_core.specs.Formed.{AreFormed};
 ghost use Rattle.predicate_core.specs.Making.{seen, Makes};
 ghost use Rattle.predicate_core.specs.Shifting.{count_bits};
@@ -87,5 +89,70 @@ pub(crate) fn shift_right(
     let x = cut(cells, width, a)?;
     let count = slice(cells, b, 0, count_bits(width))?;
     let c = operate(cells, Operator::ShiftRight, &[x, count], 0, bits(width))?;
+    Ok(c)
+}
+
+/// A shift to the right by a known count that keeps the sign.
+pub(crate) fn lower_signed(
+    cells: &mut Vec<Cell>,
+    width: Width,
+    a: u32,
+    count: u32,
+) -> Result<u32, AllocError>
+    requires there { a < length (seen cells.old.items) }
+    requires count { count < bits_in width }
+    ensures { IfOk result (λ c. Makes (seen cells.old.items) (seen cells.new.items) c (λ packet v. arsh_of (low (bits_in width) (v a)) count (bits_in width))) }
+{
+    let rest = lower(cells, width, a, count)?;
+    let left = bits(width) - count;
+    let c = operate(cells, Operator::SignExtend(left), &[rest], 0, bits(width))?;
+    Ok(c)
+}
+
+// The bits of a number, each turned.
+fn complement(cells: &mut Vec<Cell>, width: Width, a: u32) -> Result<u32, AllocError>
+    requires { a < length (seen cells.old.items) }
+    ensures { IfOk result (λ c. Makes (seen cells.old.items) (seen cells.new.items) c (λ packet v. bits_from (2 ^ 64 - 1 - v a) 0 (bits_in width))) }
+{
+    let c = operate(cells, Operator::Not, &[a], 0, bits(width))?;
+    Ok(c)
+}
+
+// A number moved down.
+fn move_down(cells: &mut Vec<Cell>, width: Width, a: u32, count: u32) -> Result<u32, AllocError>
+    requires left { a < length (seen cells.old.items) }
+    requires right { count < length (seen cells.old.items) }
+    ensures { IfOk result (λ c. Makes (seen cells.old.items) (seen cells.new.items) c (λ packet v. bits_from (low 64 (v a) / 2 ^ (low 64 (v count) % 64)) 0 (bits_in width))) }
+{
+    let c = operate(cells, Operator::ShiftRight, &[a, count], 0, bits(width))?;
+    Ok(c)
+}
+
+/// A shift to the right by a count that is not known that keeps the sign.
+pub(crate) fn shift_signed(
+    cells: &mut Vec<Cell>,
+    width: Width,
+    a: u32,
+    b: u32,
+) -> Result<u32, AllocError>
+    requires formed { AreFormed (seen cells.old.items) }
+    requires left { a < length (seen cells.old.items) }
+    requires right { b < length (seen cells.old.items) }
+    ensures { (signed : Bool) → IfOk result (λ c. Makes (seen cells.old.items) (seen cells.new.items) c (λ packet v. arithmetic AluCode.Arsh signed (bits_in width) (low (bits_in width) (v a)) (low (bits_in width) (v b)))) }
+{
+    let x = cut(cells, width, a)?;
+    let count = slice(cells, b, 0, count_bits(width))?;
+    let sign = slice(cells, x, bits(width) - 1, 1)?;
+    let other = complement(cells, width, x)?;
+    let moved = move_down(cells, width, other, count)?;
+    let back = complement(cells, width, moved)?;
+    let plain = move_down(cells, width, x, count)?;
+    let c = operate(
+        cells,
+        Operator::Select,
+        &[sign, back, plain],
+        0,
+        bits(width),
+    )?;
     Ok(c)
 }

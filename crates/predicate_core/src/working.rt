@@ -71,3 +71,15 @@ pub(crate) fn combine(
     let c = operate(cells, operator(code), &[x, y], 0, bits(width))?;
     Ok(c)
 }
+
+/// The number with the other sign.
+pub(crate) fn negate(cells: &mut Vec<Cell>, width: Width, a: u32) -> Result<u32, AllocError>
+    requires formed { AreFormed (seen cells.old.items) }
+    requires there { a < length (seen cells.old.items) }
+    ensures { IfOk result (λ c. Makes (seen cells.old.items) (seen cells.new.items) c (λ packet v. negated (bits_in width) (v a))) }
+{
+    let x = cut(cells, width, a)?;
+    let zero = constant(cells, 0, 1)?;
+    let c = operate(cells, Operator::Sub, &[zero, x], 0, bits(width))?;
+    Ok(c)
+}

@@ -1,5 +1,4 @@
-use Rattle.std.proofs.Common.{rules, ℕ, ◌≡◌, List, arith, refl, sym, ap, ◌∙◌}
-use Rattle.cell_core.specs.Cells.{CellView}
+use Rattle.std.proofs.Common.{ℕ, List, arith, ap}
 use Rattle.predicate_core.proofs.Growing.{pushed_adds}
 use Rattle.predicate_core.proofs.cells.push.Goals as goal
 

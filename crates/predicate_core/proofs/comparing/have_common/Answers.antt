@@ -1,4 +1,3 @@
-use Rattle.std.proofs.Common.{ℕ, ◌≡◌, ◌∙◌, ap, sym}
 use Rattle.predicate_core.proofs.Growing.{grown, makes_after}
 use Rattle.predicate_core.proofs.Conditions.{none_common}
 use Rattle.predicate_core.proofs.comparing.have_common.Goals as goal
@@ -10,6 +9,6 @@ returns c =
     let n = c.in_ok-none.ensures in
     makes_after _ _ _ _ _ _ (grown _ _ _ b.grows (grown _ _ _ z.grows n.grows)) c.in_ok-c.ensures
     (λ packet v r.
-        let rz = n.grows.run packet v r in
-        let rb = z.grows.run packet v rz in
-        none_common (v c.args.a) (v c.args.b) _ _ _ (b.value packet v rb) (z.value packet v rz) (n.value packet v r))
+    let rz = n.grows.run packet v r in
+    let rb = z.grows.run packet v rz in
+    none_common (v c.args.a) (v c.args.b) _ _ _ (b.value packet v rb) (z.value packet v rz) (n.value packet v r))

@@ -1,4 +1,3 @@
-use Rattle.std.proofs.Common.{◌≡◌}
 use Rattle.predicate_core.specs.declared.joining.Arm.{Arm}
 use Rattle.predicate_core.proofs.Arms.{flat_step}
 use Rattle.predicate_core.proofs.joining.flat.Goals as goal

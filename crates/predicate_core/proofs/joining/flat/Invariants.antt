@@ -1,4 +1,4 @@
-use Rattle.std.proofs.Common.{◌≡◌, All, take}
+use Rattle.std.proofs.Common.{◌≡◌, take}
 use Rattle.predicate_core.specs.Joining.{flat}
 use Rattle.predicate_core.proofs.joining.flat.Given as goal
 

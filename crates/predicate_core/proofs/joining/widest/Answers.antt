@@ -1,4 +1,4 @@
-use Rattle.std.proofs.Common.{◌≡◌, ◌<◌, ◌≤◌, ℕ, List, arith, sym, ◌∙◌, ap, subst, length, get_or}
+use Rattle.std.proofs.Common.{◌<◌, ◌≤◌, ℕ, arith, sym, ap, subst, length, get_or}
 use Rattle.cell_core.specs.Cells.{CellView, cell_at}
 use Rattle.predicate_core.specs.declared.joining.Arm.{Arm}
 use Rattle.predicate_core.specs.Making.{seen}

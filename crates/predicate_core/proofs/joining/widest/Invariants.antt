@@ -1,4 +1,4 @@
-use Rattle.std.proofs.Common.{◌≡◌, ◌<◌, ◌≤◌, ℕ, get_or}
+use Rattle.std.proofs.Common.{◌<◌, ◌≤◌, ℕ, get_or}
 use Rattle.cell_core.specs.Cells.{cell_at}
 use Rattle.predicate_core.specs.declared.joining.Arm.{Arm}
 use Rattle.predicate_core.specs.Making.{seen}
@@ -6,6 +6,6 @@ use Rattle.predicate_core.proofs.joining.widest.Given as goal
 
 abbrev pub invariant-loop-arm : goal.invariant-loop-arm
 invariant-loop-arm l = record {
-    wide : (i : ℕ) (d : Arm) → i < l.arm-index → (cell_at (seen l.cells) (get_or l.arms i d).cell).width ≤ l.width;
-    most : l.width ≤ 64;
-  }
+  wide : (i : ℕ) (d : Arm) → i < l.arm-index → (cell_at (seen l.cells) (get_or l.arms i d).cell).width ≤ l.width;
+  most : l.width ≤ 64;
+}

@@ -1,4 +1,3 @@
-use Rattle.std.proofs.Common.{ℕ, ◌≡◌}
 use Rattle.predicate_core.proofs.Growing.{grown_none, makes_after}
 use Rattle.predicate_core.proofs.Shifts.{lowered_is}
 use Rattle.predicate_core.proofs.shifting.lower.Goals as goal

@@ -1,4 +1,3 @@
-use Rattle.std.proofs.Common.{ℕ, ◌≡◌}
 use Rattle.predicate_core.proofs.Growing.{makes_after}
 use Rattle.predicate_core.proofs.Shifts.{raised_is}
 use Rattle.predicate_core.proofs.shifting.raise.Goals as goal

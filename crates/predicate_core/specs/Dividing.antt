@@ -1,0 +1,25 @@
+-- Division without a zero divisor.
+use Rattle.std.specs.Prelude.{ℕ, Bool, true, false, if◌then◌else◌}
+use Rattle.bits_core.specs.Bits.{div_u_of, mod_u_of}
+use Rattle.bpf_isa.specs.declared.operation.AluCode.{AluCode}
+use Rattle.bpf_isa.specs.declared.operation.AluCode.TheVariants.{Div, Mod}
+use Rattle.cell_core.specs.Cells.{on}
+use Rattle.cell_core.specs.declared.operator.Operator.{Operator}
+use Rattle.cell_core.specs.declared.operator.Operator.TheVariants.{Quotient, Remainder}
+
+-- a divisor, with 1 in place of 0
+abbrev pub some : ℕ → ℕ
+some n = if on n then n else 1
+
+-- the quotient, or the remainder
+abbrev pub divided : Bool → ℕ → ℕ → ℕ
+divided true a b = mod_u_of a b
+divided false a b = div_u_of a b
+
+abbrev pub divider : Bool → Operator
+divider true = Remainder
+divider false = Quotient
+
+abbrev pub code_of : Bool → AluCode
+code_of true = Mod
+code_of false = Div
