@@ -206,7 +206,7 @@ usage_only e result (inl r) u = usage_error e (sym r ∙ u)
     usage_error : (e : CommandError) → status_of e ≡ status.Usage → e ≡ error.Usage
     usage_error error.Usage u = refl
     usage_error (error.Object fault) u = absurd cc
-    usage_error (error.Refused at why) u = absurd cc
+    usage_error (error.Refused r) u = absurd cc
     usage_error error.LongVerilog u = absurd cc
     usage_error (error.Verilog fault) u = absurd cc
     usage_error error.LongCapture u = absurd cc

@@ -1,44 +1,28 @@
 -- Sequential execution, one packet after another.
-use Rattle.std.proofs.Common.{◌≡◌, ◌∙◌, ℕ, zero, suc, ◌+◌, ◌<◌, ◌≤◌, List, [], ◌∷◌, ◌++◌, length, map, take, get_or, Err, refl, sym, ap, ap₂, subst, arith}
+use Rattle.std.proofs.Common.{◌≡◌, ◌∙◌, ℕ, suc, ◌+◌, ◌<◌, ◌≤◌, List, [], ◌∷◌, ◌++◌, length, map, take, get_or, Err, refl, sym, ap, ap₂, subst, arith}
 use Rattle.std.proofs.Math.Seq.{take-suc}
 use Rattle.beat_core.specs.declared.answer.Answer.{Answer}
 use Rattle.beat_core.specs.declared.frame.Timed.{Timed}
 use Rattle.beat_core.specs.Laws.{arrival_of}
 use Rattle.xdp_maps.specs.State.{MapState}
-use Rattle.xdp_machine.specs.State.{Code, Machine, PacketIn, start}
-use Rattle.xdp_machine.specs.Step.{Outcome, Goes, Ends, NoCase, step}
-use Rattle.xdp_machine.specs.Runs.{Leaves, Progress, Ended, Going, IsRun, AreRuns, run, then_on}
+use Rattle.xdp_machine.specs.State.{Code, PacketIn}
+use Rattle.xdp_machine.specs.Runs.{Leaves, Progress, Ended, IsRun, AreRuns}
 use Rattle.xdp_machine.specs.Program.{XdpProgram, IsProgram, program_code}
 use Rattle.xdp_seq.specs.declared.run.SeqError.{SeqError}
 use Rattle.xdp_seq.specs.declared.run.SeqError.TheVariants.{Stuck, Spent}
 use Rattle.xdp_seq.specs.Answers.{Answers}
 use Rattle.unfold_core.specs.declared.unfolding.Unfolded.{Unfolded}
 use Rattle.unfold_core.specs.Unfolding.{IsUnfolded}
-use Rattle.unfold_core.specs.RunLaws.{IsSoundRun, RunsAreSound}
+use Rattle.unfold_core.specs.RunLaws.{RunsAreSound}
 use Rattle.ehdl_build.specs.Compiled.{IsSequential, answer_of, code_of, packets_in}
 use Rattle.ehdl_top.specs.Results.{came_by}
 use Rattle.ehdl_top.specs.Steps.{packet_in, HasEnd, LeavesAs}
 
 -- ---- a run that ends
--- a run that has ended is the same after more steps
-run_longer : (code : Code) (n k : ℕ) (m : Machine) (e : Leaves) → n ≤ k → run code n m ≡ Ended e → run code k m ≡ Ended e
-unfolding run
-run_longer code zero k m e le h = absurd (going_not m e h)
-  where
-    going_not : (m : Machine) (e : Leaves) → ¬ (Going m ≡ Ended e)
-    going_not m e h = cc
-run_longer code (suc n) zero m e le h = absurd (omega (arith, le))
-run_longer code (suc n) (suc k) m e le h = by_outcome (step code m) h
-  where
-    by_outcome : (o : Outcome) → then_on (run code n) m o ≡ Ended e → then_on (run code k) m o ≡ Ended e
-    by_outcome (Goes next) g = run_longer code n k next e (omega (arith, le)) g
-    by_outcome (Ends verdict) g = g
-    by_outcome NoCase g = g
-
-pub has_end : (sound : RunsAreSound) (p : XdpProgram) (u : Unfolded) (packet : PacketIn) (maps : MapState) → IsProgram p → IsUnfolded p u → maps.decls ≡ p.decls → HasEnd (program_code p) packet maps
-has_end sound p u packet maps program unfolded decls =
+pub has_end : (sound : RunsAreSound) (p : XdpProgram) (u : Unfolded) (code : Code) (packet : PacketIn) (maps : MapState) → IsProgram p → IsUnfolded p u → code ≡ program_code p → maps.decls ≡ p.decls → HasEnd code packet maps
+has_end sound p u code packet maps program unfolded is decls =
     let s = sound p u packet maps program unfolded decls in
-    (s.left, run_longer (program_code p) s.steps 1048576 (start packet maps) s.left (omega (arith, s.few, unfolded.graph.few)) s.ended)
+    subst (λ (c : Code). HasEnd c packet maps) (sym is) (s.left, s.ended 1048576 (omega (arith, unfolded.graph.few)))
 
 -- it is neither stuck nor spent
 pub no_error : (error : SeqError) (r : Progress) (frame : List ℕ) (maps : MapState) (e : Leaves) → Answers (Err error) r frame maps → ¬ (r ≡ Ended e)

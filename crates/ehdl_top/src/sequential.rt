@@ -1,7 +1,7 @@
 // Sequential execution of a program on the packets of a capture.
 
 ghost use Rattle.std.specs.Prelude.{◌≡◌, IfOk, OnOk};
-ghost use Rattle.xdp_machine.specs.Program.{program_code};
+ghost use Rattle.xdp_machine.specs.Program.{IsProgram, program_code};
 ghost use Rattle.unfold_core.specs.declared.unfolding.Unfolded.{Unfolded};
 ghost use Rattle.unfold_core.specs.Unfolding.{IsUnfolded};
 ghost use Rattle.ehdl_build.specs.Compiled.{IsSequential};
@@ -57,9 +57,11 @@ pub(crate) fn run_packets(
     ifindex: u32,
     maps: &mut Maps,
 ) -> Result<Answers, AllocError>
+    requires program { IsProgram program.now }
     requires unfolded { (graph : Unfolded) × IsUnfolded program.now graph }
     requires decls { maps.old.decls ≡ program.now.decls }
-    ensures { IfOk result (λ answers. IsSequential program.now maps.old (came_by ifindex packets.now) answers maps.new) }
+    ensures answers { IfOk result (λ answers. IsSequential program.now maps.old (came_by ifindex packets.now) answers maps.new) }
+    ensures decls { OnOk result (maps.new.decls ≡ program.now.decls) }
 {
     // Each run ends.
     unfold_core::laws::runs_are_sound();
