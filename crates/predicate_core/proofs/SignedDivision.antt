@@ -1,10 +1,9 @@
 -- Division of signed numbers by their distances from 0.
-use Rattle.std.proofs.Common.{◌≡◌, ◌≢◌, ℕ, zero, suc, ◌+◌, ◌-◌, ◌%◌, ◌/◌, ◌^◌, ◌<◌, ◌≤◌, Bool, true, false, not, if◌then◌else◌, ℤ, pos, negsuc, neg_ℤ, List, [], ◌∷◌, nat_lt, refl, sym, ◌∙◌, ap, subst, arith}
+use Rattle.std.proofs.Common.{◌≡◌, ◌≢◌, ℕ, zero, suc, ◌-◌, ◌%◌, ◌/◌, ◌^◌, ◌<◌, ◌≤◌, Bool, true, false, not, if◌then◌else◌, ℤ, pos, negsuc, neg_ℤ, nat_lt, refl, sym, ◌∙◌, ap, subst, arith}
 use Rattle.std.specs.Prelude.{◌==◌}
 use Rattle.std.proofs.lemmas.Bool.Decides.{nat_tests}
-use Rattle.std.proofs.lemmas.Nat.{pow_pos}
 use Rattle.std.proofs.Math.Nat.{mod-le, div-le_self}
-use Rattle.bits_core.specs.Bits.{signed_of, bits_of, quotient_of, remainder_of, div_s_of, mod_s_of}
+use Rattle.bits_core.specs.Bits.{signed_of, bits_of, quotient_of, remainder_of}
 use Rattle.bpf_isa.specs.declared.operation.Width.{Width}
 use Rattle.bpf_isa.specs.declared.operation.Width.TheVariants.{Bits32, Bits64}
 use Rattle.bpf_isa.specs.declared.operation.AluCode.TheVariants.{Sub, Xor}
@@ -178,10 +177,10 @@ in_all w r x (suc b) p q n d t h g e f hp hq is od te =
     let y : ℕ = suc b in
     let ne : suc b ≢ 0 = λ z. absurd (omega (arith, z)) in
     let n_is : n ≡ divided r p q = is
-        ∙ ap (λ (k : ℕ). low (bits_in w) (divided r k (some (low (bits_in w) q)))) (low_same 64 p (in_64 w p hp))
-        ∙ ap (λ (k : ℕ). low (bits_in w) (divided r p (some k))) (low_same (bits_in w) q hq)
-        ∙ ap (λ (k : ℕ). low (bits_in w) (divided r p k)) (some_same q (size_some (nat_lt (suc b) (2 ^ (bits_in w - 1))) (suc b) (2 ^ bits_in w) q f g ne))
-        ∙ low_same (bits_in w) _ (divided_any r p q (2 ^ bits_in w) hp) in
+    ∙ ap (λ (k : ℕ). low (bits_in w) (divided r k (some (low (bits_in w) q)))) (low_same 64 p (in_64 w p hp))
+    ∙ ap (λ (k : ℕ). low (bits_in w) (divided r p (some k))) (low_same (bits_in w) q hq)
+    ∙ ap (λ (k : ℕ). low (bits_in w) (divided r p k)) (some_same q (size_some (nat_lt (suc b) (2 ^ (bits_in w - 1))) (suc b) (2 ^ bits_in w) q f g ne))
+    ∙ low_same (bits_in w) _ (divided_any r p q (2 ^ bits_in w) hp) in
     ap (low (bits_in w)) (ap (λ (k : ℕ). if k == 0 then (if r then x else 0) else t) (low_same 64 (suc b) (in_64 w (suc b) g)) ∙ unless_suc b (if r then x else 0) t ∙ te)
     ∙ ap (λ (s : Bool). low (bits_in w) (low (bits_in w) (if s then negated (bits_in w) n else n))) od
     ∙ core w r (nat_lt x (2 ^ (bits_in w - 1))) (nat_lt (suc b) (2 ^ (bits_in w - 1))) x (suc b) p q n h g (above_zero w x) ne e f n_is
@@ -200,6 +199,6 @@ signed_is w r a b x y l s p q n d t ex ey el es ep eq en ed et =
     let hp : p < 2 ^ bits_in w = subst (λ (k : ℕ). k < 2 ^ bits_in w) (sym ep) (low_below (bits_in w) _) in
     let hq : q < 2 ^ bits_in w = subst (λ (k : ℕ). k < 2 ^ bits_in w) (sym eq) (low_below (bits_in w) _) in
     in_all w r x y p q n d t hx hy (distance_is w x l p hx el ep) (distance_is w y s q hy es eq) hp hq en
-        (side_is r l s d _ _ (high_bit w x l hx el) (high_bit w y s hy es) ed) et
+    (side_is r l s d _ _ (high_bit w x l hx el) (high_bit w y s hy es) ed) et
     ∙ ap (λ (k : ℕ). arithmetic (code_of r) true (bits_in w) k y) ex
     ∙ ap (arithmetic (code_of r) true (bits_in w) (low (bits_in w) a)) ey

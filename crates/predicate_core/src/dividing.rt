@@ -64,12 +64,7 @@ pub(crate) fn divide(
 }
 
 // A number with the other sign where a bit is 1. It is there with the number.
-fn turn_where(
-    cells: &mut Vec<Cell>,
-    width: Width,
-    sign: u32,
-    a: u32,
-) -> Result<u32, AllocError>
+fn turn_where(cells: &mut Vec<Cell>, width: Width, sign: u32, a: u32) -> Result<u32, AllocError>
     requires sign { sign < length (seen cells.old.items) }
     requires there { a < length (seen cells.old.items) }
     ensures { IfOk result (λ c. Makes (seen cells.old.items) (seen cells.new.items) c (λ packet v. low (bits_in width) (if on (v sign) then negated (bits_in width) (v a) else v a))) }
@@ -81,12 +76,7 @@ fn turn_where(
 }
 
 // The bit that tells whether a result is below 0.
-fn result_sign(
-    cells: &mut Vec<Cell>,
-    rest: bool,
-    left: u32,
-    right: u32,
-) -> Result<u32, AllocError>
+fn result_sign(cells: &mut Vec<Cell>, rest: bool, left: u32, right: u32) -> Result<u32, AllocError>
     requires left { left < length (seen cells.old.items) }
     requires right { right < length (seen cells.old.items) }
     ensures { IfOk result (λ c. Makes (seen cells.old.items) (seen cells.new.items) c (λ packet v. sign_of rest (v left) (v right))) }

@@ -1,4 +1,4 @@
-use Rattle.std.proofs.Common.{◌≡◌, ℕ, refl}
+use Rattle.std.proofs.Common.{refl}
 use Rattle.predicate_core.proofs.Growing.{grown_none}
 use Rattle.predicate_core.proofs.dividing.result_sign.Goals as goal
 

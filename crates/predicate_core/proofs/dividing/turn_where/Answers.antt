@@ -1,4 +1,3 @@
-use Rattle.std.proofs.Common.{◌≡◌, ℕ}
 use Rattle.predicate_core.proofs.Growing.{grown, makes_after}
 use Rattle.predicate_core.proofs.SignedDivision.{turned_where}
 use Rattle.predicate_core.proofs.dividing.turn_where.Goals as goal
