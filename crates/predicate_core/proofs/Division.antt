@@ -104,14 +104,14 @@ unless_is w a b n nil none other r v e f g =
     by true z = refl
     by false z = z
 
-some_suc : (b : ℕ) → some (suc b) ≡ suc b
+pub some_suc : (b : ℕ) → some (suc b) ≡ suc b
 some_suc b = by (suc b == 0) refl
   where
     by : (t : Bool) → (suc b == 0) ≡ t → (if not t then suc b else 1) ≡ suc b
     by true e = absurd (omega (arith, eqb-true (suc b) 0 e))
     by false e = refl
 
-unless_suc : (b k n : ℕ) → (if suc b == 0 then k else n) ≡ n
+pub unless_suc : (b k n : ℕ) → (if suc b == 0 then k else n) ≡ n
 unless_suc b k n = by (suc b == 0) refl
   where
     by : (t : Bool) → (suc b == 0) ≡ t → (if t then k else n) ≡ n

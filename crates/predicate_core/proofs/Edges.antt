@@ -8,7 +8,7 @@ use Rattle.cell_core.specs.Cells.{CellView, IsRun, bit, on, bits_from}
 use Rattle.predicate_core.specs.Making.{Grows, Makes, MakesIf}
 use Rattle.predicate_core.proofs.Growing.{grown}
 
-is_bit : (n : ℕ) → n < 2 → n ≡ bit (on n)
+pub is_bit : (n : ℕ) → n < 2 → n ≡ bit (on n)
 is_bit zero h = refl
 is_bit (suc zero) h = refl
 is_bit (suc (suc n)) h = absurd (omega arith)

@@ -7,3 +7,4 @@ pub mod Arms
 pub mod Edges
 pub mod Bytes
 pub mod Division
+pub mod SignedDivision

@@ -2,8 +2,9 @@
 use Rattle.std.specs.Prelude.{ℕ, Bool, true, false, if◌then◌else◌}
 use Rattle.bits_core.specs.Bits.{div_u_of, mod_u_of}
 use Rattle.bpf_isa.specs.declared.operation.AluCode.{AluCode}
-use Rattle.bpf_isa.specs.declared.operation.AluCode.TheVariants.{Div, Mod}
-use Rattle.cell_core.specs.Cells.{on}
+use Rattle.bpf_isa.specs.declared.operation.AluCode.TheVariants.{Div, Mod, Xor}
+use Rattle.xdp_machine.specs.Arithmetic.{low, arithmetic}
+use Rattle.cell_core.specs.Cells.{on, bits_from}
 use Rattle.cell_core.specs.declared.operator.Operator.{Operator}
 use Rattle.cell_core.specs.declared.operator.Operator.TheVariants.{Quotient, Remainder}
 
@@ -23,3 +24,8 @@ divider false = Quotient
 abbrev pub code_of : Bool → AluCode
 code_of true = Mod
 code_of false = Div
+
+-- the bit that tells whether a result is below 0, by the highest bits of two numbers: of a remainder that of the first number
+abbrev pub sign_of : Bool → ℕ → ℕ → ℕ
+sign_of true a b = a
+sign_of false a b = bits_from (arithmetic Xor false 64 (low 64 a) (low 64 b)) 0 1

@@ -1,7 +1,9 @@
 -- What the code of a node does: between nodes the edges that are on lead to where the run is, and hold what its machine holds.
-use Rattle.std.specs.Prelude.{ℕ, ◌≡◌, ◌+◌, ◌<◌, ◌≤◌, ◌++◌, true, Some, List, length, take, All, Contains}
+use Rattle.std.specs.Prelude.{ℕ, ◌≡◌, ◌≢◌, ◌+◌, ◌<◌, ◌≤◌, ◌++◌, true, Some, List, length, take, All, Contains}
 use Rattle.xdp_maps.specs.State.{MapState}
 use Rattle.xdp_machine.specs.State.{Machine, PacketIn}
+use Rattle.std.proofs.Common.{get_or}
+use Rattle.kind_core.specs.declared.kind.Kind.TheVariants.{Unset}
 use Rattle.kind_core.specs.declared.kind.Kinds.{Kinds}
 use Rattle.kind_core.specs.Describes.{World}
 use Rattle.kind_core.specs.Soundness.{Stands}
@@ -23,6 +25,8 @@ pub record IsKnown (g : GraphView) (packet : PacketIn) (v : ℕ → ℕ) (k : �
   pub world : World
   pub node : world.node ≤ k
   pub stands : Stands world kinds m
+  -- the stack begins as zeros and takes what may be read, so no slot of it is unset
+  pub filled : (s : ℕ) → s < 64 → get_or kinds.slots s Unset ≢ Unset
   pub held_is : AreHeld g.decls packet v held kinds m
 
 -- an edge that is on leads to where the run stands

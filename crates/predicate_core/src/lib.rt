@@ -1,4 +1,8 @@
-//! Every accepted program as cells: operators on earlier cells, under guards, for all nodes of its graph at once.
+//! The cells of instructions: what arithmetic, shifts, division, conditions, bytes, joins and edges are as operators on earlier cells.
+//!
+//! Each function adds cells behind those that there are, and says what the value of the last one is in every run of all cells. What the
+//! cells of a whole program are to hold is in `specs/Law`, and what those of one node do in `specs/Steps`; the code that puts the cells
+//! of whole programs together is not here yet.
 #![tactic(auto)]
 
 mod cells;
