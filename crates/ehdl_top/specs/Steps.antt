@@ -1,8 +1,7 @@
 -- What the steps of a command give each other.
 use Rattle.std.specs.Prelude.{◌≡◌, ◌≢◌, ◌⊎◌, ℕ, ◌<◌, ◌≤◌, ◌^◌, IsTrue, List, [], length, map, Option, Some, None, is_none, Result, Ok, Err}
+use Rattle.std.specs.Borrow.{Bor}
 use Rattle.std.specs.List.{AllByRecursion}
-use Rattle.std.specs.declared.vec.Vec.{Vec}
-use Rattle.std.specs.declared.alloc.Global.{Global}
 use Rattle.shelf_core.specs.Shelf.{Rose}
 use Rattle.beat_core.specs.Laws.{IsPacket}
 use Rattle.beat_core.specs.declared.frame.Timed.{Timed}
@@ -138,9 +137,9 @@ write_of (write.Begin name) = Begin name.now
 write_of (write.Append name bytes) = Append name.now bytes.items
 
 -- the text of the final maps, if there is one
-abbrev pub text_in : Option (Vec ℕ Global) → Option (List ℕ)
+abbrev pub text_in : Option (Bor (List ℕ)) → Option (List ℕ)
 text_in None = None
-text_in (Some text) = Some text.items
+text_in (Some text) = Some text.now
 
 -- the writes of a run of these packets, and its answers
 pub record IsRunOf (names : Names) (verilog text : List ℕ) (program : XdpProgram) (ifindex magic : ℕ) (packets : List Packet) (writes : List code.Write) : Type 0 where

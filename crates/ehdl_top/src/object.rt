@@ -114,11 +114,7 @@ fn text_of(alloc: Global, object: &[u8], choice: Choice) -> Result<Vec<u8>, Comm
 }
 
 // The accepted program of an object.
-fn accepted_program(
-    alloc: Global,
-    object: &[u8],
-    choice: Choice,
-) -> Result<Program, CommandError>
+fn accepted_program(alloc: Global, object: &[u8], choice: Choice) -> Result<Program, CommandError>
     ensures program { IfOk result (IsUnfoldedBy (chosen_of choice.entry) object.now) }
     ensures given_up { IfErr result (IsGivenUp (program_form (chosen_of choice.entry) accepted) object.now) }
 {

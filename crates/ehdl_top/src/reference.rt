@@ -39,7 +39,7 @@ fn ref_writes<'a>(
     let answers = run_packets(alloc, program, &capture.packets, ifindex, &mut maps)?;
     let text = write_maps_text(alloc, &maps)?;
     let mut writes = Vec::new(alloc);
-    push_results(alloc, &mut writes, files, capture, &answers, Some(text))?;
+    push_results(alloc, &mut writes, files, capture, &answers, Some(&text))?;
     Ok(writes)
 }
 

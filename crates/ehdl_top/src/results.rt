@@ -93,17 +93,17 @@ pub(crate) fn push_results<'a>(
     files: &Files<'a>,
     capture: &Captured,
     answers: &Answers,
-    finals: Option<Vec<u8>>,
+    finals: Option<&[u8]>,
 ) -> Result<(), AllocError>
     requires { length answers.now ≤ length capture.now.stamps.items }
-    ensures { OnOk result ((packets : List Packet) → IsCaptureOf capture.now packets → map write_of writes.new.items ≡ map write_of writes.old.items ++ result_writes (names_of files.now) capture.now.magic packets answers.now (text_in finals)) }
+    ensures { OnOk result ((packets : List Packet) → IsCaptureOf capture.now packets → map write_of writes.new.items ≡ map write_of writes.old.items ++ result_writes (names_of files.now) capture.now.magic packets answers.now (text_in finals.entry)) }
 {
     let header = Vec::from_slice(alloc, &write_header(capture.magic))?;
     push_file(writes, files.answer, header)?;
     writes.push(Write::Begin(files.verdicts))?;
     push_packets(alloc, writes, files, &capture.stamps, answers)?;
     if let Some(text) = finals {
-        push_file(writes, files.final_maps, text)?;
+        push_file(writes, files.final_maps, Vec::from_slice(alloc, text)?)?;
     }
     Ok(())
 }

@@ -34,10 +34,9 @@ fn run_writes<'a>(
     ensures { IfOk result (λ writes. (program : XdpProgram) (size : PipelineSize) → IsRealized text.items program size → (packets : List Packet) → IsCaptureOf capture.now packets → IsRunOf (names_of files.now) verilog.now text.items program ifindex capture.now.magic packets writes.items) }
 {
     let answers = answers_of(alloc, &text, &capture.packets, ifindex)?;
-    let no_maps = Vec::new(alloc);
     let mut writes = Vec::new(alloc);
     push_file(&mut writes, verilog, text)?;
-    push_results(alloc, &mut writes, files, capture, &answers, Some(no_maps))?;
+    push_results(alloc, &mut writes, files, capture, &answers, Some(&[]))?;
     Ok(writes)
 }
 

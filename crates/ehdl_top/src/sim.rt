@@ -50,7 +50,7 @@ fn simulate<'a>(
         u64::from(clocks),
     )?;
     let mut writes = Vec::new(alloc);
-    let finals = if end.is_none() { Some(Vec::new(alloc)) } else { None };
+    let finals: Option<&[u8]> = if end.is_none() { Some(&[]) } else { None };
     push_results(alloc, &mut writes, files, capture, &answers, finals)?;
     Ok(Simulated { writes, end })
 }

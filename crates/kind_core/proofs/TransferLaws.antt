@@ -71,7 +71,7 @@ changed_sized node is_ref taken k (Constant r imm) h = record { registers = leng
 changed_sized node is_ref taken k (Slot s x) h = record { registers = h.registers; slots = length-set k.slots s x ∙ h.slots }
 changed_sized node is_ref taken k (Lookup q) h = answering_sized _ k h
 changed_sized node is_ref taken k Answered h = answering_sized _ k h
-changed_sized node is_ref taken k (Changed q) h = 
+changed_sized node is_ref taken k (Changed q) h =
     let a = answering_sized (Num Unknown) k h in
     record { registers = length-map (answering (Num Unknown) k).registers (refined (IsStale q)) ∙ a.registers; slots = length-map (answering (Num Unknown) k).slots (refined (IsStale q)) ∙ a.slots }
 changed_sized node is_ref taken k (Compared x) h = edge_sized taken x k h
@@ -111,8 +111,8 @@ called_fixed : (decls : List MapDecl) (k : Kinds) (i : Insn) (o : Option Helper)
 called_fixed decls k i None = tt
 called_fixed decls k i (Some h) =
     bind_if (argument_fits decls k h 0) _ Fixed (λ a.
-        bind_if (argument_fits decls k h 1) _ Fixed (λ b.
-            bind_if (argument_fits decls k h 2) _ Fixed (λ c. bind_if (argument_fits decls k h 3) _ Fixed (λ d. bind_if (argument_fits decls k h 4) _ Fixed (λ e. answer_fixed decls k h.answer)))))
+    bind_if (argument_fits decls k h 1) _ Fixed (λ b.
+    bind_if (argument_fits decls k h 2) _ Fixed (λ c. bind_if (argument_fits decls k h 3) _ Fixed (λ d. bind_if (argument_fits decls k h 4) _ Fixed (λ e. answer_fixed decls k h.answer)))))
 
 stored_at_fixed : (slots : List Kind) (size : Size) (x : Kind) (place : Place) → IfOk (stored_at slots size x place) Fixed
 stored_at_fixed slots size x InPacket = bind_if (number_in x) (λ n. Ok Nothing) Fixed (λ n node is_ref taken k. refl)

@@ -29,7 +29,7 @@ pub struct Capture<'a> {
 impl<'a> Model for Capture<'a> {
     ghost use Rattle.std.specs.Prelude.{◌≤◌, length, drop};
     ghost use Rattle.beat_core.specs.Laws.{IsPacket};
-ghost use Rattle.pcap_core.specs.Format.{Content};
+    ghost use Rattle.pcap_core.specs.Format.{Content};
     ghost use Rattle.pcap_core.specs.Reading.{content_from, records_at};
 
     ghost Value = { Content };
