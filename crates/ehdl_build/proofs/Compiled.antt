@@ -31,7 +31,6 @@ use Rattle.kind_core.specs.declared.why.BuildError.{BuildError}
 use Rattle.kind_core.specs.declared.why.BuildError.TheVariants as build
 use Rattle.unfold_core.specs.Acceptance.{IsAccepted, IsFirstRefusal}
 use Rattle.unfold_core.specs.Unfolding.{Unfolds}
-use Rattle.unfold_core.specs.declared.unfolding.Unfolded.{Unfolded}
 use Rattle.unfold_core.proofs.OneOutcomeLaws.{has_one_outcome}
 use Rattle.ehdl_build.specs.Compiled.{packets_in, answer_of, IsSequential, DoNotConflict, AreMapsOf, Realizes, Compiles, FailsFor, IsNotBuilt, IsRefused, compile_error}
 use Rattle.ehdl_build.proofs.Realized.{realized}

@@ -1,6 +1,5 @@
 -- The bytes of a text realize a program, and a text that an object was compiled to.
 use Rattle.std.specs.Prelude.{◌≡◌, ◌≢◌, ◌⊎◌, ℕ, ℤ, ◌+◌, IsTrue, List, [], ◌∷◌, map as map_list}
-use Rattle.bpf_isa.specs.declared.instruction.Insn.{Insn}
 use Rattle.xdp_object.specs.Choice.{Chosen}
 use Rattle.xdp_object.specs.Object.{FirstFault, IsObject}
 use Rattle.xdp_object.specs.Program.{XdpProgram}

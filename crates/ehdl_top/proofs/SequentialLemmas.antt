@@ -1,9 +1,8 @@
 -- Sequential execution, one packet after another.
-use Rattle.std.proofs.Common.{◌≡◌, ◌∙◌, ℕ, suc, ◌+◌, ◌<◌, ◌≤◌, List, [], ◌∷◌, ◌++◌, length, map, take, get_or, Err, refl, sym, ap, ap₂, subst, arith}
+use Rattle.std.proofs.Common.{◌≡◌, ◌∙◌, ℕ, suc, ◌+◌, ◌<◌, List, [], ◌∷◌, ◌++◌, length, map, take, get_or, Err, refl, sym, ap, ap₂, subst, arith}
 use Rattle.std.proofs.Math.Seq.{take-suc}
 use Rattle.beat_core.specs.declared.answer.Answer.{Answer}
 use Rattle.beat_core.specs.declared.frame.Timed.{Timed}
-use Rattle.beat_core.specs.Laws.{arrival_of}
 use Rattle.xdp_maps.specs.State.{MapState}
 use Rattle.xdp_machine.specs.State.{Code, PacketIn}
 use Rattle.xdp_machine.specs.Runs.{Leaves, Progress, Ended, IsRun, AreRuns}

@@ -1,17 +1,16 @@
 -- A program is accepted, or has one first refusal.
-use Rattle.std.proofs.Common.{◌≡◌, ◌⊎◌, inl, inr, ◌∙◌, ℕ, zero, suc, ◌<◌, List, [], ◌∷◌, get_or, Result, Ok, Err, refl, sym, ap, ap₂, subst, arith}
+use Rattle.std.proofs.Common.{◌≡◌, ◌⊎◌, inl, inr, ◌∙◌, ℕ, zero, suc, ◌<◌, List, [], ◌∷◌, Result, Ok, Err, refl, sym, ap, ap₂, subst, arith}
 use Rattle.std.specs.List.{AllPairs, Contains}
 use Rattle.std.specs.Prelude.{IfErr, IsErrOf}
 use Rattle.bpf_isa.specs.declared.instruction.Insn.{Insn}
 use Rattle.xdp_machine.specs.Program.{XdpProgram}
 use Rattle.kind_core.specs.declared.why.Why.{Why}
-use Rattle.kind_core.specs.declared.why.Why.TheVariants as why
 use Rattle.kind_core.specs.declared.why.Refusal.{Refusal}
 use Rattle.kind_core.specs.declared.why.BuildError.{BuildError}
 use Rattle.kind_core.specs.declared.why.BuildError.TheVariants.{Refused, NoMemory}
 use Rattle.unfold_core.specs.declared.nesting.Loop.{Loop}
 use Rattle.unfold_core.specs.declared.unfolding.Unfolded.{Unfolded}
-use Rattle.unfold_core.specs.Loops.{IsLoop, AreLoops, HasLoops, IsFirstPlace, Precedes}
+use Rattle.unfold_core.specs.Loops.{IsLoop, AreLoops, IsFirstPlace, Precedes}
 use Rattle.unfold_core.specs.Graphs.{IsFirstNode, IsGraph}
 use Rattle.unfold_core.specs.Unfolding.{Unfolds, IsUnfolded}
 use Rattle.unfold_core.specs.Acceptance.{IsAccepted, IsFirstRefusal, HasOneOutcome}

@@ -1,12 +1,9 @@
-use Rattle.std.proofs.Common.{rules, ◌≡◌, ◌∙◌, inl, inr, refl, ap, sym, subst, Err}
+use Rattle.std.proofs.Common.{rules, ◌∙◌, inl, inr, refl, ap, sym, subst, Err}
 use Rattle.std.proofs.lemmas.Int.{to_z-of_z}
 use Rattle.std.specs.Int.{w64}
 use Rattle.xdp_object.specs.Choice.{chosen_of}
 use Rattle.net_core.specs.Nets.{Netlist}
 use Rattle.verilog_grammar.specs.Spelling.{Spells}
-use Rattle.kind_core.specs.declared.why.BuildError.{BuildError}
-use Rattle.unfold_core.specs.declared.unfolding.Unfolded.{Unfolded}
-use Rattle.unfold_core.specs.Unfolding.{Unfolds}
 use Rattle.unfold_core.proofs.OneOutcomeLaws.{accepted_of}
 use Rattle.ehdl_build.specs.declared.built.CompileError.TheVariants.{Refused}
 use Rattle.ehdl_build.proofs.Compiled.{compiled, failed, failed_program, never_refused, no_refusal, not_built, only_fault, only_refusal, verdict_of}
