@@ -11,7 +11,8 @@ use Rattle.hazard_core.specs.Held.{Held}
 use Rattle.hazard_core.specs.Tables.{TableState}
 use Rattle.hazard_core.specs.Marks.{Change}
 use Rattle.hazard_core.specs.Commits.{change_by, host_change}
-use Rattle.pipe_core.specs.Machine.{Packet, Came, State, Input, Build, Turn, Commits, Writes, Moves, no_frame, packet_of, place_at, inside, sends, swept, some_send, entered, struck, struck_below, enters, moved, newcomer, injected, worked, work, turn_of, gathered, scattered, beat_over, taken_beat, clock}
+use Rattle.beat_core.specs.Ports.{Arrival}
+use Rattle.pipe_core.specs.Machine.{Packet, State, Input, Build, Turn, Commits, Writes, Moves, no_frame, packet_of, place_at, inside, sends, swept, some_send, entered, struck, struck_below, enters, moved, newcomer, injected, worked, work, turn_of, gathered, scattered, beat_over, taken_beat, clock}
 use Rattle.pipe_core.specs.History.{Trace, came_in, left_as, left_in, next, run, begin, IsInOrder}
 use Rattle.pipe_core.specs.Computed.{Computes, PlacesCompute, LeftCompute, IsComputed, IsPlanned, KeepsComputed, IsAlwaysComputed}
 use Rattle.pipe_core.proofs.Order.{last_or, moved_inside, place_last, some_last, swept_length, swept_inside, struck_inside, work_keeps, beats_keep, keeps_order, begins}
@@ -28,7 +29,7 @@ swept_none b k (x ∷ xs) e = by (sends b k x) (some_send b (suc k) xs) refl e (
     by false true p e more = cc
     by false false p e more = ap (λ l. x ∷ l) (more p)
 
-pub swept_computes : (b : Build) (fs : List Came) (k : ℕ) (xs : List (Option Packet)) → PlacesCompute b fs k xs → PlacesCompute b fs k (swept b k xs)
+pub swept_computes : (b : Build) (fs : List Arrival) (k : ℕ) (xs : List (Option Packet)) → PlacesCompute b fs k xs → PlacesCompute b fs k (swept b k xs)
 swept_computes b fs k [] h = tt
 swept_computes b fs k (None ∷ xs) h = by (some_send b k (None ∷ xs)) (swept_computes b fs (suc k) xs h)
   where
@@ -44,11 +45,11 @@ swept_computes b fs k (Some x ∷ xs) h = by (sends b k (Some x)) (some_send b (
 
 -- ---- marks
 
-struck_computes_one : (b : Build) (t : TableState) (k : ℕ) (e : Change) (c : Came) (r : ℕ) (x : Packet) → Computes b (packet_of c) r x.held → Computes b (packet_of c) r (struck b t k e x).held
+struck_computes_one : (b : Build) (t : TableState) (k : ℕ) (e : Change) (c : Arrival) (r : ℕ) (x : Packet) → Computes b (packet_of c) r x.held → Computes b (packet_of c) r (struck b t k e x).held
 unfolding struck
 struck_computes_one b t k e c r x h = h
 
-pub struck_computes : (to : ℕ) (b : Build) (t : TableState) (e : Change) (fs : List Came) (k : ℕ) (xs : List (Option Packet)) → PlacesCompute b fs k xs → PlacesCompute b fs k (struck_below to b t e k xs)
+pub struck_computes : (to : ℕ) (b : Build) (t : TableState) (e : Change) (fs : List Arrival) (k : ℕ) (xs : List (Option Packet)) → PlacesCompute b fs k xs → PlacesCompute b fs k (struck_below to b t e k xs)
 struck_computes to b t e fs k [] h = tt
 struck_computes to b t e fs k (None ∷ xs) h = by (nat_lt k to) (struck_computes to b t e fs (suc k) xs h)
   where
@@ -65,19 +66,19 @@ struck_computes to b t e fs k (Some x ∷ xs) h = by (nat_lt k to) (subst (λ n.
 -- ---- moving on
 
 -- of a packet that is to enter place k
-abbrev Ready : Build → Came → ℕ → Option Packet → Type 0
+abbrev Ready : Build → Arrival → ℕ → Option Packet → Type 0
 Ready b c k None = Unit {0}
 Ready b c k (Some x) = Computes b (packet_of c) k x.held
 
-entered_computes : (b : Build) → RowsRise → IsPlanned b → (t : TableState) (k : ℕ) (c : Came) (x : Packet) → Computes b (packet_of c) k x.held → Computes b (packet_of c) (suc k) (entered b t k c x).held
+entered_computes : (b : Build) → RowsRise → IsPlanned b → (t : TableState) (k : ℕ) (c : Arrival) (x : Packet) → Computes b (packet_of c) k x.held → Computes b (packet_of c) (suc k) (entered b t k c x).held
 unfolding entered
 entered_computes b rise plan t k c x h = takes_row b rise plan (packet_of c) k t x.held h
 
 -- the frames behind those of the packets that leave
-behind : (out : ℕ) (fs : List Came) (n m : ℕ) → n + out ≡ m → get_or (drop out fs) n no_frame ≡ get_or fs m no_frame
+behind : (out : ℕ) (fs : List Arrival) (n m : ℕ) → n + out ≡ m → get_or (drop out fs) n no_frame ≡ get_or fs m no_frame
 behind out fs n m e = get_or-drop out fs n no_frame ∙ ap (λ j. get_or fs j no_frame) (omega (arith, e))
 
-pub moved_computes : (b : Build) → RowsRise → IsPlanned b → (t : TableState) (fs : List Came) (k : ℕ) (x : Option Packet) (ys : List (Option Packet)) →
+pub moved_computes : (b : Build) → RowsRise → IsPlanned b → (t : TableState) (fs : List Arrival) (k : ℕ) (x : Option Packet) (ys : List (Option Packet)) →
     Ready b (get_or fs (inside ys) no_frame) k x → PlacesCompute b fs k ys → PlacesCompute b (drop (bit (is_some (last_or x ys))) fs) k (moved b t fs k x ys)
 moved_computes b rise plan t fs k x [] r h = tt
 moved_computes b rise plan t fs k x (y ∷ ys) r h = by x y r h (moved_computes b rise plan t fs (suc k) y ys (next y h) (rest y h))
@@ -104,7 +105,7 @@ moved_computes b rise plan t fs k x (y ∷ ys) r h = by x y r h (moved_computes 
     )
 
 -- the packet at the last place has the oldest frame
-last_computes : (b : Build) (fs : List Came) (k n : ℕ) (x : Option Packet) (ys : List (Option Packet)) (z : Packet) → last_or x ys ≡ Some z → PlacesCompute b fs k (x ∷ ys) → k + length ys ≡ n →
+last_computes : (b : Build) (fs : List Arrival) (k n : ℕ) (x : Option Packet) (ys : List (Option Packet)) (z : Packet) → last_or x ys ≡ Some z → PlacesCompute b fs k (x ∷ ys) → k + length ys ≡ n →
     Computes b (packet_of (get_or fs 0 no_frame)) (suc n) z.held
 last_computes b fs k n None [] z e h m = cc
 last_computes b fs k n (Some x) [] z e h m =
@@ -114,7 +115,7 @@ last_computes b fs k n (Some x) [] z e h m =
 last_computes b fs k n None (y ∷ ys) z e h m = last_computes b fs (suc k) n y ys z e h (omega (arith, m))
 last_computes b fs k n (Some x) (y ∷ ys) z e h m = last_computes b fs (suc k) n y ys z e h.1 (omega (arith, m))
 
-newcomer_ready : (b : Build) (back : Bool) (fs : List Came) (rest : List (Option Packet)) (c : Came) → Ready b c 0 (newcomer b back fs rest)
+newcomer_ready : (b : Build) (back : Bool) (fs : List Arrival) (rest : List (Option Packet)) (c : Arrival) → Ready b c 0 (newcomer b back fs rest)
 newcomer_ready b back fs rest c = by (not back && nat_lt (inside rest) (length fs))
   where
     by : (d : Bool) → Ready b c 0 (if d then Some (injected b.program) else None)
@@ -127,7 +128,7 @@ pub record Carries (b : Build) (s w : State) (gone : List Held) : Type 0 where
   pub places : PlacesCompute b w.frames 0 w.places
   pub left : LeftCompute b gone s.frames
 
-left_one : (b : Build) (fs : List Came) (h : Held) → 1 ≤ length fs → Computes b (packet_of (get_or fs 0 no_frame)) (suc b.plan.last) h → LeftCompute b (h ∷ []) fs
+left_one : (b : Build) (fs : List Arrival) (h : Held) → 1 ≤ length fs → Computes b (packet_of (get_or fs 0 no_frame)) (suc b.plan.last) h → LeftCompute b (h ∷ []) fs
 left_one b [] h l k = absurd (omega arith)
 left_one b (f ∷ fs) h l k = (k, tt)
 
@@ -183,18 +184,18 @@ work_carries b rise plan i s h l k =
 get_or_front : {X : Type 0} (xs ys : List X) (i : ℕ) (d : X) → i < length xs → get_or (xs ++ ys) i d ≡ get_or xs i d
 get_or_front xs ys i d h = grind (arith, common_steps)
 
-pub places_more : (b : Build) (fs more : List Came) (k : ℕ) (xs : List (Option Packet)) → inside xs ≤ length fs → PlacesCompute b fs k xs → PlacesCompute b (fs ++ more) k xs
+pub places_more : (b : Build) (fs more : List Arrival) (k : ℕ) (xs : List (Option Packet)) → inside xs ≤ length fs → PlacesCompute b fs k xs → PlacesCompute b (fs ++ more) k xs
 places_more b fs more k [] l h = tt
 places_more b fs more k (None ∷ xs) l h = places_more b fs more (suc k) xs l h
 places_more b fs more k (Some x ∷ xs) l h =
     (subst (λ c. Computes b (packet_of c) (suc k) x.held) (sym (get_or_front fs more (inside xs) no_frame (omega arith))) h.0, places_more b fs more (suc k) xs (omega arith) h.1)
 
-pub left_more : (b : Build) (hs : List Held) (cs ds : List Came) → LeftCompute b hs cs → LeftCompute b hs (cs ++ ds)
+pub left_more : (b : Build) (hs : List Held) (cs ds : List Arrival) → LeftCompute b hs cs → LeftCompute b hs (cs ++ ds)
 left_more b [] cs ds h = tt
 left_more b (x ∷ hs) [] ds h = absurd h
 left_more b (x ∷ hs) (c ∷ cs) ds h = (h.0, left_more b hs cs ds h.1)
 
-pub left_append : (b : Build) (hs gs : List Held) (cs : List Came) → LeftCompute b hs cs → LeftCompute b gs (drop (length hs) cs) → LeftCompute b (hs ++ gs) cs
+pub left_append : (b : Build) (hs gs : List Held) (cs : List Arrival) → LeftCompute b hs cs → LeftCompute b gs (drop (length hs) cs) → LeftCompute b (hs ++ gs) cs
 left_append b [] gs cs h k = k
 left_append b (x ∷ hs) gs [] h k = absurd h
 left_append b (x ∷ hs) gs (c ∷ cs) h k = (h.0, left_append b hs gs cs h.1 k)

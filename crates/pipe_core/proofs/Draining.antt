@@ -16,7 +16,8 @@ use Rattle.cell_core.specs.declared.program.FrameByte.{FrameByte}
 use Rattle.cell_core.specs.Cells.{bit}
 use Rattle.cell_core.specs.Sites.{ProgramView, with_bytes}
 use Rattle.hazard_core.specs.Tables.{TableState}
-use Rattle.pipe_core.specs.Machine.{Packet, Came, State, Input, Build, Moves, inside, some_send, is_due, moved, injected, place_at, answers_by, commits_or_moves, worked, work, came_with, gathered, is_ready, beat_over, beat_at, taken_beat, scattered, clock}
+use Rattle.beat_core.specs.Ports.{Arrival}
+use Rattle.pipe_core.specs.Machine.{Packet, State, Input, Build, Moves, inside, some_send, is_due, moved, injected, place_at, answers_by, commits_or_moves, worked, work, came_with, gathered, is_ready, beat_over, beat_at, taken_beat, scattered, clock}
 use Rattle.pipe_core.specs.History.{came_in, next, IsInOrder}
 use Rattle.pipe_core.specs.Drive.{Driven, first_of, driving, drive_clock, drive, drive_start, EndsWithoutMaps}
 use Rattle.pipe_core.proofs.Carrying.{swept_none}
@@ -33,13 +34,13 @@ abbrev answer_beats : List Answer → ℕ
 answer_beats [] = 0
 answer_beats (a ∷ more) = beats (length a.frame) + answer_beats more
 
-abbrev frame_beats : List Came → ℕ
+abbrev frame_beats : List Arrival → ℕ
 frame_beats [] = 0
-frame_beats (c ∷ cs) = beats (length c.arrival.frame) + frame_beats cs
+frame_beats (c ∷ cs) = beats (length c.frame) + frame_beats cs
 
-abbrev part_beats : Option Came → ℕ
+abbrev part_beats : Option Arrival → ℕ
 part_beats None = 0
-part_beats (Some c) = beats (length c.arrival.frame)
+part_beats (Some c) = beats (length c.frame)
 
 abbrev lasts : List Beat → ℕ
 lasts [] = 0
@@ -55,13 +56,13 @@ answer_append : (xs ys : List Answer) → answer_beats (xs ++ ys) ≡ answer_bea
 answer_append [] ys = omega arith
 answer_append (x ∷ xs) ys = omega (arith, answer_append xs ys)
 
-frame_append : (cs ds : List Came) → frame_beats (cs ++ ds) ≡ frame_beats cs + frame_beats ds
+frame_append : (cs ds : List Arrival) → frame_beats (cs ++ ds) ≡ frame_beats cs + frame_beats ds
 frame_append [] ds = omega arith
 frame_append (c ∷ cs) ds = omega (arith, frame_append cs ds)
 
 -- ---- moving on
 
-way_moved : (b : Build) (t : TableState) (fs : List Came) (k : ℕ) (x : Option Packet) (ys : List (Option Packet)) → way (moved b t fs k x ys) ≡ way (x ∷ ys) - 1
+way_moved : (b : Build) (t : TableState) (fs : List Arrival) (k : ℕ) (x : Option Packet) (ys : List (Option Packet)) → way (moved b t fs k x ys) ≡ way (x ∷ ys) - 1
 way_moved b t fs k None [] = refl
 way_moved b t fs k (Some x) [] = refl
 way_moved b t fs k None (y ∷ ys) = way_moved b t fs (suc k) y ys
@@ -82,11 +83,11 @@ bytes_length v frame [] = refl
 bytes_length v frame (x ∷ bs) = bytes_length v (slice_set frame x.at (v x.cell)) bs ∙ length-set frame x.at (v x.cell)
 
 -- an answer has the beats of its frame
-answered_beats : (p : ProgramView) (fs : List Came) (x : Option Packet) → bit (is_some x) ≤ length fs → answer_beats (answers_by p fs x) + frame_beats (drop (bit (is_some x)) fs) ≡ frame_beats fs
+answered_beats : (p : ProgramView) (fs : List Arrival) (x : Option Packet) → bit (is_some x) ≤ length fs → answer_beats (answers_by p fs x) + frame_beats (drop (bit (is_some x)) fs) ≡ frame_beats fs
 answered_beats p fs None h = omega arith
 answered_beats p [] (Some x) h = absurd (omega arith)
 answered_beats p (c ∷ cs) (Some x) h =
-    let e = ap beats (bytes_length (λ k. get_or x.held.values k 0) c.arrival.frame p.frame) in omega (arith, e)
+    let e = ap beats (bytes_length (λ k. get_or x.held.values k 0) c.frame p.frame) in omega (arith, e)
 
 -- ---- nothing is sent back, and no operation stalls
 
@@ -180,9 +181,9 @@ advances b s h l = by (nat_lt (inside s.places) (length s.frames)) refl
 
 -- ---- a beat comes
 
-abbrev part_length : Option Came → ℕ
+abbrev part_length : Option Arrival → ℕ
 part_length None = 0
-part_length (Some c) = length c.arrival.frame
+part_length (Some c) = length c.frame
 
 -- the frames that come are whole
 abbrev EndsWhole : Bool → List Beat → Type 0
@@ -206,9 +207,9 @@ beats_last m n by e l h = omega arith
 length_beat : (x : Beat) → IsOffer x → length (bytes_of_beat x) ≡ x.bytes
 length_beat x o = let c = IsOffer-count x o in omega (arith, length-low_bytes (min x.bytes 8) x.word, c.0, c.1)
 
-with_length : (part : Option Came) (i : Input) (x : Beat) → length (came_with part i x).arrival.frame ≡ part_length part + length (bytes_of_beat x)
+with_length : (part : Option Arrival) (i : Input) (x : Beat) → length (came_with part i x).frame ≡ part_length part + length (bytes_of_beat x)
 with_length None i x = omega arith
-with_length (Some c) i x = length-append c.arrival.frame (bytes_of_beat x)
+with_length (Some c) i x = length-append c.frame (bytes_of_beat x)
 
 took_none : (w : State) (left : List Beat) → 8 * part_beats w.part ≡ part_length w.part → AreOffers (part_beats w.part) left → EndsWhole (is_some w.part) left → Took w w left left
 took_none w left f o n = record { beats_stay = refl; frames_stay = refl; fewer = omega arith; full = f; offers = o; ends = n; places = refl; answers = refl; pos_stays = refl }
@@ -217,14 +218,14 @@ took_one : (w : State) (i : Input) (x : Beat) (left : List Beat) → 8 * part_be
     Took w (gathered w i (Some x)) (x ∷ left) left
 took_one w i x left f o n = by x.last refl o.2 n (λ e. IsOffer-eight x o.0 e)
   where
-    c : Came
+    c : Arrival
     c = came_with w.part i x
 
-    size : length c.arrival.frame ≡ 8 * part_beats w.part + x.bytes
+    size : length c.frame ≡ 8 * part_beats w.part + x.bytes
     size = omega (arith, with_length w.part i x, length_beat x o.0, f)
 
-    weight : beats (length c.arrival.frame) ≡ part_beats w.part + 1
-    weight = let q = IsOffer-count x o.0 in beats_last (part_beats w.part) (length c.arrival.frame) x.bytes size q.0 q.1
+    weight : beats (length c.frame) ≡ part_beats w.part + 1
+    weight = let q = IsOffer-count x o.0 in beats_last (part_beats w.part) (length c.frame) x.bytes size q.0 q.1
 
     by : (l : Bool) → x.last ≡ l → AreOffers (if l then zero else suc (part_beats w.part)) left → EndsWhole (not l) left → (l ≡ false → x.bytes ≡ 8) →
         Took w (if l then record w { frames = w.frames ++ c ∷ []; part = None } else record w { part = Some c }) (x ∷ left) left
@@ -347,11 +348,11 @@ no_answers : (xs : List Answer) → length xs ≡ 0 → answer_beats xs ≡ 0
 no_answers [] h = refl
 no_answers (a ∷ xs) h = absurd (omega arith)
 
-no_frames : (xs : List Came) → length xs ≡ 0 → frame_beats xs ≡ 0
+no_frames : (xs : List Arrival) → length xs ≡ 0 → frame_beats xs ≡ 0
 no_frames [] h = refl
 no_frames (c ∷ xs) h = absurd (omega arith)
 
-no_part : (part : Option Came) (left : List Beat) → length left ≡ 0 → EndsWhole (is_some part) left → part_beats part ≡ 0
+no_part : (part : Option Arrival) (left : List Beat) → length left ≡ 0 → EndsWhole (is_some part) left → part_beats part ≡ 0
 no_part None left h e = refl
 no_part (Some c) [] h e = cc
 no_part (Some c) (x ∷ left) h e = absurd (omega arith)

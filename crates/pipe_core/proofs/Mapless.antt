@@ -10,7 +10,8 @@ use Rattle.cell_core.specs.Rows.{RowsRise}
 use Rattle.cell_core.specs.Sites.{ProgramView, IsCellRun, after}
 use Rattle.cell_core.specs.Formed.{AreSited}
 use Rattle.hazard_core.specs.Held.{Held, held_value}
-use Rattle.pipe_core.specs.Machine.{Came, Build, packet_of}
+use Rattle.beat_core.specs.Ports.{Arrival}
+use Rattle.pipe_core.specs.Machine.{Build, packet_of}
 use Rattle.pipe_core.specs.History.{run, begin}
 use Rattle.pipe_core.specs.Computed.{Computes, LeftCompute, IsPlanned}
 use Rattle.pipe_core.specs.Sequential.{AreCellRuns, RunsWithoutMaps}
@@ -39,7 +40,7 @@ is_run b decls plan sited none maps packet h k = record {
       };
 }
 
-all_run : (b : Build) (decls : List MapDecl) → IsPlanned b → AreSited decls b.program → b.program.sites ≡ [] → (maps : MapState) (hs : List Held) (cs : List Came) → LeftCompute b hs cs → AreCellRuns b.program maps hs cs maps
+all_run : (b : Build) (decls : List MapDecl) → IsPlanned b → AreSited decls b.program → b.program.sites ≡ [] → (maps : MapState) (hs : List Held) (cs : List Arrival) → LeftCompute b hs cs → AreCellRuns b.program maps hs cs maps
 all_run b decls plan sited none maps [] cs k = refl
 all_run b decls plan sited none maps (h ∷ hs) [] k = absurd k
 all_run b decls plan sited none maps (h ∷ hs) (c ∷ cs) k = (

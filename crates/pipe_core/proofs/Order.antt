@@ -14,7 +14,8 @@ use Rattle.hazard_core.specs.Held.{Held}
 use Rattle.hazard_core.specs.Tables.{TableState}
 use Rattle.hazard_core.specs.Marks.{Change}
 use Rattle.hazard_core.specs.Commits.{change_by, host_change}
-use Rattle.pipe_core.specs.Machine.{Packet, Came, State, Input, Build, Turn, Commits, Writes, Moves, place_at, inside, swept, some_send, struck, struck_below, enters, moved, newcomer, injected, answers_by, answer_of, worked, work, turn_of, came_with, gathered, beat_over, beat_at, taken_beat, scattered, clock}
+use Rattle.beat_core.specs.Ports.{Arrival}
+use Rattle.pipe_core.specs.Machine.{Packet, State, Input, Build, Turn, Commits, Writes, Moves, place_at, inside, swept, some_send, struck, struck_below, enters, moved, newcomer, injected, answers_by, answer_of, worked, work, turn_of, came_with, gathered, beat_over, beat_at, taken_beat, scattered, clock}
 use Rattle.pipe_core.specs.History.{Trace, came_in, left_as, left_in, gave_in, next, run, begin, answers_of, IsInOrder}
 
 -- ---- packets in the places
@@ -56,15 +57,15 @@ pub place_last : (x : Option Packet) (xs : List (Option Packet)) → place_at (x
 place_last x [] = refl
 place_last x (y ∷ ys) = place_last y ys
 
-pub moved_length : (b : Build) (t : TableState) (fs : List Came) (k : ℕ) (x : Option Packet) (ys : List (Option Packet)) → length (moved b t fs k x ys) ≡ length ys
+pub moved_length : (b : Build) (t : TableState) (fs : List Arrival) (k : ℕ) (x : Option Packet) (ys : List (Option Packet)) → length (moved b t fs k x ys) ≡ length ys
 moved_length b t fs k x [] = refl
 moved_length b t fs k x (y ∷ ys) = ap suc (moved_length b t fs (suc k) y ys)
 
-pub enters_inside : (b : Build) (t : TableState) (k : ℕ) (c : Came) (x : Option Packet) (ys : List (Option Packet)) → inside (enters b t k c x ∷ ys) ≡ inside (x ∷ ys)
+pub enters_inside : (b : Build) (t : TableState) (k : ℕ) (c : Arrival) (x : Option Packet) (ys : List (Option Packet)) → inside (enters b t k c x ∷ ys) ≡ inside (x ∷ ys)
 enters_inside b t k c None ys = refl
 enters_inside b t k c (Some x) ys = refl
 
-pub moved_inside : (b : Build) (t : TableState) (fs : List Came) (k : ℕ) (x : Option Packet) (ys : List (Option Packet)) →
+pub moved_inside : (b : Build) (t : TableState) (fs : List Arrival) (k : ℕ) (x : Option Packet) (ys : List (Option Packet)) →
     inside (moved b t fs k x ys) + bit (is_some (last_or x ys)) ≡ inside (x ∷ ys)
 moved_inside b t fs k None [] = refl
 moved_inside b t fs k (Some x) [] = refl
@@ -72,7 +73,7 @@ moved_inside b t fs k None (y ∷ ys) = moved_inside b t fs (suc k) y ys
 moved_inside b t fs k (Some x) (y ∷ ys) = let h = moved_inside b t fs (suc k) y ys in omega (arith, h)
 
 -- with one that comes, no more than there are frames
-pub came_inside : (b : Build) (back : Bool) (fs : List Came) (rest : List (Option Packet)) → inside rest ≤ length fs → inside (newcomer b back fs rest ∷ rest) ≤ length fs
+pub came_inside : (b : Build) (back : Bool) (fs : List Arrival) (rest : List (Option Packet)) → inside rest ≤ length fs → inside (newcomer b back fs rest ∷ rest) ≤ length fs
 came_inside b back fs rest h = by (not back) (nat_lt (inside rest) (length fs)) refl
   where
     by : (c d : Bool) → nat_lt (inside rest) (length fs) ≡ d → inside ((if c && d then Some (injected b.program) else None) ∷ rest) ≤ length fs
@@ -142,7 +143,7 @@ moves b s back (x ∷ xs) h l = by (place_at (x ∷ xs) b.plan.last) here
         let n : bit (is_some (last_or x xs)) ≡ 1 = sym (ap (λ z. bit (is_some z)) e) in
         some s.frames refl (omega (arith, many, l, n)) n
       where
-        some : (fs : List Came) → fs ≡ s.frames → 1 ≤ length fs → bit (is_some (last_or x xs)) ≡ 1 → Worked b s (record s {
+        some : (fs : List Arrival) → fs ≡ s.frames → 1 ≤ length fs → bit (is_some (last_or x xs)) ≡ 1 → Worked b s (record s {
           answers = s.answers ++ answers_by b.program s.frames (Some y);
           frames = drop 1 s.frames;
           places = moved b s.tables s.frames 0 new (x ∷ xs);
@@ -197,17 +198,17 @@ work_keeps b i s h l =
 
 -- ---- answers to frames
 
-pub answers_length : (p : ProgramView) (hs : List Held) (cs : List Came) → length hs ≤ length cs → length (answers_of p hs cs) ≡ length hs
+pub answers_length : (p : ProgramView) (hs : List Held) (cs : List Arrival) → length hs ≤ length cs → length (answers_of p hs cs) ≡ length hs
 answers_length p [] cs h = refl
 answers_length p (x ∷ hs) [] h = absurd (omega arith)
 answers_length p (x ∷ hs) (c ∷ cs) h = ap suc (answers_length p hs cs (omega arith))
 
-pub answers_append : (p : ProgramView) (hs gs : List Held) (cs : List Came) → length hs ≤ length cs → answers_of p (hs ++ gs) cs ≡ answers_of p hs cs ++ answers_of p gs (drop (length hs) cs)
+pub answers_append : (p : ProgramView) (hs gs : List Held) (cs : List Arrival) → length hs ≤ length cs → answers_of p (hs ++ gs) cs ≡ answers_of p hs cs ++ answers_of p gs (drop (length hs) cs)
 answers_append p [] gs cs h = refl
 answers_append p (x ∷ hs) gs [] h = absurd (omega arith)
 answers_append p (x ∷ hs) gs (c ∷ cs) h = ap (λ l. answer_of p x c ∷ l) (answers_append p hs gs cs (omega arith))
 
-pub answers_more : (p : ProgramView) (hs : List Held) (cs ds : List Came) → length hs ≤ length cs → answers_of p hs (cs ++ ds) ≡ answers_of p hs cs
+pub answers_more : (p : ProgramView) (hs : List Held) (cs ds : List Arrival) → length hs ≤ length cs → answers_of p hs (cs ++ ds) ≡ answers_of p hs cs
 answers_more p [] cs ds h = refl
 answers_more p (x ∷ hs) [] ds h = absurd (omega arith)
 answers_more p (x ∷ hs) (c ∷ cs) ds h = ap (λ l. answer_of p x c ∷ l) (answers_more p hs cs ds (omega arith))
@@ -219,7 +220,7 @@ drop_drop (suc m) n (x ∷ xs) h = let e : suc (m + n) ≡ suc m + n = omega ari
 
 -- ---- a beat comes
 
-pub record Gathers (n : ℕ) (w g : State) (more : List Came) : Type 0 where
+pub record Gathers (n : ℕ) (w g : State) (more : List Arrival) : Type 0 where
   pub places : g.places ≡ w.places
   pub answers : g.answers ≡ w.answers
   pub frames : g.frames ≡ w.frames ++ more
@@ -269,7 +270,7 @@ scatters g (a ∷ more) new pos true h = by (first_beat (drop (8 * pos) a.frame)
 -- ---- the whole clock
 
 -- what beats do to the state after the work of the clock
-pub record BeatsKeep (b : Build) (s w c : State) (more : List Came) (gone : List Answer) : Type 0 where
+pub record BeatsKeep (b : Build) (s w c : State) (more : List Arrival) (gone : List Answer) : Type 0 where
   pub places : c.places ≡ w.places
   pub frames : c.frames ≡ w.frames ++ more
   pub answers : gone ++ c.answers ≡ w.answers

@@ -13,7 +13,8 @@ use Rattle.hazard_core.specs.Rows.{cell_number, cell_pointer}
 use Rattle.hazard_core.specs.Marks.{Change}
 use Rattle.hazard_core.specs.Changes.{IsChange, with_tables, finds_key, reads}
 use Rattle.hazard_core.specs.Keeping.{LooksBelow}
-use Rattle.pipe_core.specs.Machine.{Packet, Came, Build, packet_of, marked_at, entered, struck}
+use Rattle.beat_core.specs.Ports.{Arrival}
+use Rattle.pipe_core.specs.Machine.{Packet, Build, packet_of, marked_at, entered, struck}
 use Rattle.pipe_core.specs.Computed.{IsPlanned}
 
 -- The reads of a site stand in one row, after all that they take. Only what looks for a key says whether it is there, and only what reads
@@ -51,7 +52,7 @@ pub record Agrees (b : Build) (t : TableState) (packet : PacketIn) (r : ℕ) (x 
 -- A packet that takes in a row agrees with the maps as it did before.
 abbrev pub EnteringAgrees : Type 0
 EnteringAgrees =
-    (b : Build) → ReadsArePlanned b → (t : TableState) (c : Came) (k : ℕ) (x : Packet) → Agrees b t (packet_of c) k x → Agrees b t (packet_of c) (suc k) (entered b t k c x)
+    (b : Build) → ReadsArePlanned b → (t : TableState) (c : Arrival) (k : ℕ) (x : Packet) → Agrees b t (packet_of c) k x → Agrees b t (packet_of c) (suc k) (entered b t k c x)
 
 -- So does one that a change may mark.
 abbrev pub StrikingAgrees : Type 0

@@ -8,7 +8,8 @@ use Rattle.cell_core.specs.Cells.{cell_at, is_read, value}
 use Rattle.cell_core.specs.Formed.{AreFormed}
 use Rattle.cell_core.specs.Rows.{AreRows}
 use Rattle.hazard_core.specs.Held.{Held, held_value}
-use Rattle.pipe_core.specs.Machine.{Packet, Came, Input, Build, no_frame, packet_of, inside}
+use Rattle.beat_core.specs.Ports.{Arrival}
+use Rattle.pipe_core.specs.Machine.{Packet, Input, Build, no_frame, packet_of, inside}
 use Rattle.pipe_core.specs.History.{Trace, next, run, begin, IsInOrder}
 
 -- the cells of the rows below r
@@ -18,14 +19,14 @@ pub record Computes (b : Build) (packet : PacketIn) (r : ℕ) (h : Held) : Type 
       → held_value h c ≡ value packet (held_value h) (cell_at b.program.cells c)
 
 -- A packet at place k holds the rows up to k. Its frame stands behind those of the older ones.
-abbrev pub PlacesCompute : Build → List Came → ℕ → List (Option Packet) → Type 0
+abbrev pub PlacesCompute : Build → List Arrival → ℕ → List (Option Packet) → Type 0
 PlacesCompute b frames k [] = Unit {0}
 PlacesCompute b frames k (None ∷ xs) = PlacesCompute b frames (suc k) xs
 PlacesCompute b frames k (Some x ∷ xs) =
     Computes b (packet_of (get_or frames (inside xs) no_frame)) (suc k) x.held × PlacesCompute b frames (suc k) xs
 
 -- packets that left, and their frames
-abbrev pub LeftCompute : Build → List Held → List Came → Type 0
+abbrev pub LeftCompute : Build → List Held → List Arrival → Type 0
 LeftCompute b [] cs = Unit {0}
 LeftCompute b (h ∷ hs) [] = ⊥
 LeftCompute b (h ∷ hs) (c ∷ cs) = Computes b (packet_of c) (suc b.plan.last) h × LeftCompute b hs cs

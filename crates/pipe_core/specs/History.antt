@@ -6,17 +6,18 @@ use Rattle.xdp_maps.specs.State.{MapState}
 use Rattle.cell_core.specs.Cells.{bit}
 use Rattle.cell_core.specs.Sites.{ProgramView}
 use Rattle.hazard_core.specs.Held.{Held}
-use Rattle.pipe_core.specs.Machine.{Packet, Came, State, Input, Build, Turn, Moves, new_state, place_at, inside, swept, turn_of, came_with, beat_over, taken_beat, first_answer, answer_of, clock}
+use Rattle.beat_core.specs.Ports.{Arrival}
+use Rattle.pipe_core.specs.Machine.{Packet, State, Input, Build, Turn, Moves, new_state, place_at, inside, swept, turn_of, came_with, beat_over, taken_beat, first_answer, answer_of, clock}
 
 -- Of the clocks so far: the frames that came whole, what each packet held of the cells when it left the pipe, and the answers that
 -- were given whole.
 pub record Trace : Type 0 where
   pub state : State
-  pub came : List Came
+  pub came : List Arrival
   pub left : List Held
   pub gave : List Answer
 
-abbrev pub came_in : State → Input → Option Beat → List Came
+abbrev pub came_in : State → Input → Option Beat → List Arrival
 came_in s i None = []
 came_in s i (Some b) = if b.last then came_with s.part i b ∷ [] else []
 
@@ -49,7 +50,7 @@ abbrev pub begin : Build → MapState → Trace
 begin b maps = record { state = new_state b maps; came = []; left = []; gave = [] }
 
 -- what packets answer that held this when they left, to these frames
-abbrev pub answers_of : ProgramView → List Held → List Came → List Answer
+abbrev pub answers_of : ProgramView → List Held → List Arrival → List Answer
 answers_of p [] cs = []
 answers_of p (h ∷ hs) [] = []
 answers_of p (h ∷ hs) (c ∷ cs) = answer_of p h c ∷ answers_of p hs cs

@@ -26,20 +26,15 @@ pub record Packet : Type 0 where
   pub held : Held
   pub marks : List Bool
 
--- a frame that came, or came so far, and the time of its first beat
-pub record Came : Type 0 where
-  pub arrival : Arrival
-  pub time : ℕ
-
 pub record State : Type 0 where
   pub tables : TableState
   -- the answers that are not given wholly, the oldest first, and how many beats of the first are given
   pub answers : List Answer
   pub pos : ℕ
   -- the frames without an answer, the oldest first: those of the packets in the places, and behind them those that wait
-  pub frames : List Came
+  pub frames : List Arrival
   -- the frame of which the last beat has not come
-  pub part : Option Came
+  pub part : Option Arrival
   -- from place 0 on, where the youngest packets are
   pub places : List (Option Packet)
   -- of the packet at the commit place: the sites below this number are through
@@ -106,11 +101,11 @@ inside [] = 0
 inside (None ∷ places) = inside places
 inside (Some x ∷ places) = suc (inside places)
 
-abbrev pub no_frame : Came
-no_frame = record { arrival = record { ifindex = 0; frame = [] }; time = 0 }
+abbrev pub no_frame : Arrival
+no_frame = record { ifindex = 0; time = 0; frame = [] }
 
-abbrev pub packet_of : Came → PacketIn
-packet_of c = record { frame = c.arrival.frame; ifindex = c.arrival.ifindex }
+abbrev pub packet_of : Arrival → PacketIn
+packet_of c = record { frame = c.frame; ifindex = c.ifindex; time = c.time }
 
 -- a packet at its injection
 abbrev pub injected : ProgramView → Packet
@@ -123,7 +118,7 @@ with_kept_marks b k h x = record {
   marks = map_list (λ j. marked_at x j && not (known_off b.plan.row k h (site_at b.program.sites j))) (site_numbers b.program);
 }
 
-unfoldable pub entered : Build → TableState → ℕ → Came → Packet → Packet
+unfoldable pub entered : Build → TableState → ℕ → Arrival → Packet → Packet
 entered b t k c x = with_kept_marks b k (with_row b.program b.plan.row k t (packet_of c) x.held) x
 
 -- A change marks a packet at place k.
@@ -154,29 +149,29 @@ swept b k (x ∷ xs) = (if some_send b k (x ∷ xs) then None else x) ∷ swept 
 
 -- ---- moving on
 
-abbrev pub enters : Build → TableState → ℕ → Came → Option Packet → Option Packet
+abbrev pub enters : Build → TableState → ℕ → Arrival → Option Packet → Option Packet
 enters b t k c None = None
 enters b t k c (Some x) = Some (entered b t k c x)
 
 -- Each packet moves one place on, x into place k; its frame is that behind the frames of the older ones.
-abbrev pub moved : Build → TableState → List Came → ℕ → Option Packet → List (Option Packet) → List (Option Packet)
+abbrev pub moved : Build → TableState → List Arrival → ℕ → Option Packet → List (Option Packet) → List (Option Packet)
 moved b t frames k x [] = []
 moved b t frames k x (y ∷ ys) = enters b t k (get_or frames (inside (y ∷ ys)) no_frame) x ∷ moved b t frames (suc k) y ys
 
 -- the next frame that waits is injected, where nothing is sent back
-abbrev pub newcomer : Build → Bool → List Came → List (Option Packet) → Option Packet
+abbrev pub newcomer : Build → Bool → List Arrival → List (Option Packet) → Option Packet
 newcomer b back frames rest = if not back && nat_lt (inside rest) (length frames) then Some (injected b.program) else None
 
 -- what a packet answers whose frame this is
-abbrev pub answer_of : ProgramView → Held → Came → Answer
+abbrev pub answer_of : ProgramView → Held → Arrival → Answer
 answer_of p h c = record {
   verdict = held_value h p.verdict;
   target = held_value h p.target;
-  frame = with_bytes (held_value h) c.arrival.frame p.frame;
+  frame = with_bytes (held_value h) c.frame p.frame;
 }
 
 -- the packet that leaves the last place answers the oldest frame
-abbrev pub answers_by : ProgramView → List Came → Option Packet → List Answer
+abbrev pub answers_by : ProgramView → List Arrival → Option Packet → List Answer
 answers_by p frames None = []
 answers_by p frames (Some x) = answer_of p x.held (get_or frames 0 no_frame) ∷ []
 
@@ -267,9 +262,8 @@ abbrev pub beat_over : Build → State → Input → Option Beat
 beat_over b s i = if is_ready b s then i.beat else None
 
 -- what has come of a frame after one more beat
-abbrev pub came_with : Option Came → Input → Beat → Came
-came_with None i b = record { arrival = arrived None (offered i.ifindex b); time = i.time }
-came_with (Some c) i b = record c { arrival = arrived (Some c.arrival) (offered i.ifindex b) }
+abbrev pub came_with : Option Arrival → Input → Beat → Arrival
+came_with part i b = arrived part (offered i.ifindex i.time b)
 
 -- A frame waits once its last beat has come.
 abbrev pub gathered : State → Input → Option Beat → State

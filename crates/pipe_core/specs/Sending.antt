@@ -1,6 +1,7 @@
 -- Who is sent back in a clock.
 use Rattle.std.specs.Prelude.{◌≡◌, ℕ, ◌<◌, ◌≤◌, true, Option, None, List, length}
-use Rattle.pipe_core.specs.Machine.{Packet, Build, place_at, sends, some_send, swept, newcomer, Came}
+use Rattle.beat_core.specs.Ports.{Arrival}
+use Rattle.pipe_core.specs.Machine.{Packet, Build, place_at, sends, some_send, swept, newcomer}
 
 -- A place at or past place k sends back: it holds a packet with a mark whose guard is known as 1, and lies not past the commit place.
 pub record SentBack (b : Build) (places : List (Option Packet)) (k : ℕ) : Type 0 where
@@ -13,7 +14,7 @@ pub record SentBack (b : Build) (places : List (Option Packet)) (k : ℕ) : Type
 pub record SendsBack (b : Build) (places : List (Option Packet)) : Type 0 where
   pub sent : (k : ℕ) → k < length places → SentBack b places k → place_at (swept b 0 places) k ≡ None
   pub kept : (k : ℕ) → k < length places → (SentBack b places k → ⊥) → place_at (swept b 0 places) k ≡ place_at places k
-  pub none_injected : SentBack b places 0 → (frames : List Came) (rest : List (Option Packet)) → newcomer b (some_send b 0 places) frames rest ≡ None
+  pub none_injected : SentBack b places 0 → (frames : List Arrival) (rest : List (Option Packet)) → newcomer b (some_send b 0 places) frames rest ≡ None
 
 abbrev pub AlwaysSendsBack : Type 0
 AlwaysSendsBack = (b : Build) (places : List (Option Packet)) → SendsBack b places

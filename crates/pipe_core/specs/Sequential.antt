@@ -7,12 +7,13 @@ use Rattle.cell_core.specs.Sites.{ProgramView, IsCellRun, after}
 use Rattle.cell_core.specs.Formed.{AreSited}
 use Rattle.hazard_core.specs.Tables.{maps_of}
 use Rattle.hazard_core.specs.Held.{Held, held_value}
-use Rattle.pipe_core.specs.Machine.{Came, Input, Build, packet_of}
+use Rattle.beat_core.specs.Ports.{Arrival}
+use Rattle.pipe_core.specs.Machine.{Input, Build, packet_of}
 use Rattle.pipe_core.specs.History.{run, begin}
 use Rattle.pipe_core.specs.Computed.{IsPlanned}
 
 -- what packets held as they left is the cell run of each on its frame
-abbrev pub AreCellRuns : ProgramView → MapState → List Held → List Came → MapState → Type 0
+abbrev pub AreCellRuns : ProgramView → MapState → List Held → List Arrival → MapState → Type 0
 AreCellRuns p maps [] cs last = last ≡ maps
 AreCellRuns p maps (h ∷ hs) [] last = ⊥
 AreCellRuns p maps (h ∷ hs) (c ∷ cs) last =
