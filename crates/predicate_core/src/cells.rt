@@ -36,7 +36,7 @@ fn push(
 }
 
 /// Adds a cell of an operator that reads no map and does not divide: so many bits of its number, from one on.
-pub(crate) fn operate(
+pub fn operate(
     cells: &mut Vec<Cell>,
     op: Operator,
     ins: &[u32],
@@ -57,7 +57,7 @@ pub(crate) fn operate(
 }
 
 /// A number.
-pub(crate) fn constant(cells: &mut Vec<Cell>, n: u64, width: u32) -> Result<u32, AllocError>
+pub fn constant(cells: &mut Vec<Cell>, n: u64, width: u32) -> Result<u32, AllocError>
     requires { width ≤ 64 }
     ensures { IfOk result (λ c. Makes (seen cells.old.items) (seen cells.new.items) c (operated (Operator.Constant n) [] 0 width)) }
 {
@@ -65,7 +65,7 @@ pub(crate) fn constant(cells: &mut Vec<Cell>, n: u64, width: u32) -> Result<u32,
 }
 
 /// So many bits of a cell's value, from one on.
-pub(crate) fn slice(cells: &mut Vec<Cell>, a: u32, from: u32, width: u32) -> Result<u32, AllocError>
+pub fn slice(cells: &mut Vec<Cell>, a: u32, from: u32, width: u32) -> Result<u32, AllocError>
     requires there { a < length (seen cells.old.items) }
     requires from { from ≤ 63 }
     requires width { width ≤ 64 }
@@ -87,7 +87,7 @@ fn divider(rest: bool) -> Operator
 
 /// The quotient of two numbers, or the remainder, of so many bits; the divisor is cut to them, and 1 where it is 0. It is made once both
 /// numbers are there.
-pub(crate) fn divide_some(
+pub fn divide_some(
     cells: &mut Vec<Cell>,
     rest: bool,
     a: u32,

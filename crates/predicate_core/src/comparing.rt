@@ -15,7 +15,7 @@ use cell_core::operator::Operator;
 use std::alloc::AllocError;
 
 /// The other truth.
-pub(crate) fn not(cells: &mut Vec<Cell>, a: u32) -> Result<u32, AllocError>
+pub fn not(cells: &mut Vec<Cell>, a: u32) -> Result<u32, AllocError>
     requires there { a < length (seen cells.old.items) }
     ensures { IfOk result (λ c. Makes (seen cells.old.items) (seen cells.new.items) c (λ packet v. low 1 (2 ^ 64 - 1 - v a))) }
 {
@@ -24,7 +24,7 @@ pub(crate) fn not(cells: &mut Vec<Cell>, a: u32) -> Result<u32, AllocError>
 }
 
 /// Whether numbers are the same.
-pub(crate) fn equal(cells: &mut Vec<Cell>, a: u32, b: u32) -> Result<u32, AllocError>
+pub fn equal(cells: &mut Vec<Cell>, a: u32, b: u32) -> Result<u32, AllocError>
     requires left { a < length (seen cells.old.items) }
     requires right { b < length (seen cells.old.items) }
     ensures { IfOk result (λ c. Makes (seen cells.old.items) (seen cells.new.items) c (λ packet v. bit (low 64 (v a) == low 64 (v b)))) }
@@ -132,7 +132,7 @@ fn unsigned(code: JumpCode) -> JumpCode
 }
 
 /// A condition on the low bits of two numbers.
-pub(crate) fn compare(
+pub fn compare(
     cells: &mut Vec<Cell>,
     code: JumpCode,
     width: Width,

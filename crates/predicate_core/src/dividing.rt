@@ -44,7 +44,7 @@ fn unless_zero(
 }
 
 /// The quotient of the low bits of two numbers, or the remainder.
-pub(crate) fn divide(
+pub fn divide(
     cells: &mut Vec<Cell>,
     rest: bool,
     width: Width,
@@ -89,7 +89,7 @@ fn result_sign(cells: &mut Vec<Cell>, rest: bool, left: u32, right: u32) -> Resu
 }
 
 /// The quotient of the low bits of two numbers as signed ones, rounded toward 0, or the remainder.
-pub(crate) fn divide_signed(
+pub fn divide_signed(
     cells: &mut Vec<Cell>,
     rest: bool,
     width: Width,

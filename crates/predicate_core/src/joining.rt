@@ -15,13 +15,13 @@ use std::alloc::{AllocError, Global};
 
 /// Of an edge the cell that is 1 where it is on the path, and the cell that it brings to a place.
 #[derive(Copy, Clone)]
-pub(crate) struct Arm {
-    pub(crate) bit: u32,
-    pub(crate) cell: u32,
+pub struct Arm {
+    pub bit: u32,
+    pub cell: u32,
 }
 
 /// The bits of edges as one: 1 where one of them is on the path.
-pub(crate) fn guard(cells: &mut Vec<Cell>, bits: &[u32]) -> Result<u32, AllocError>
+pub fn guard(cells: &mut Vec<Cell>, bits: &[u32]) -> Result<u32, AllocError>
     requires there { All (λ i. i < length (seen cells.old.items)) bits.now }
     ensures { IfOk result (λ c. Makes (seen cells.old.items) (seen cells.new.items) c (λ packet v. bit (list_any on (map_list v bits.now)))) }
 {
@@ -78,7 +78,7 @@ fn widest(cells: &[Cell], arms: &[Arm]) -> u32
 }
 
 /// Of the cells that edges bring to a place that of the edge on the path. Where all bring one, it is that.
-pub(crate) fn choose(cells: &mut Vec<Cell>, arms: &[Arm]) -> Result<u32, AllocError>
+pub fn choose(cells: &mut Vec<Cell>, arms: &[Arm]) -> Result<u32, AllocError>
     requires formed { AreFormed (seen cells.old.items) }
     requires some { 1 ≤ length arms.now }
     requires there { AreThere (seen cells.old.items) arms.now }

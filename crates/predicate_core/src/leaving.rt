@@ -12,7 +12,7 @@ use cell_core::operator::Operator;
 use std::alloc::AllocError;
 
 /// The edge of an undecided jump: its guard, and its condition or the other one.
-pub(crate) fn edge(
+pub fn edge(
     cells: &mut Vec<Cell>,
     guard: u32,
     condition: u32,

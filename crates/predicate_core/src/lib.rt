@@ -5,12 +5,12 @@
 //! of whole programs together is not here yet.
 #![tactic(auto)]
 
-mod cells;
-mod comparing;
-mod dividing;
-mod joining;
+pub mod cells;
+pub mod comparing;
+pub mod dividing;
+pub mod joining;
 pub mod laws;
-mod leaving;
-mod shifting;
-mod slicing;
-mod working;
+pub mod leaving;
+pub mod shifting;
+pub mod slicing;
+pub mod working;

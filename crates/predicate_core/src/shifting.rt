@@ -16,12 +16,7 @@ use cell_core::operator::Operator;
 use std::alloc::AllocError;
 
 /// A shift to the left by a known count: so many zeros below a number.
-pub(crate) fn raise(
-    cells: &mut Vec<Cell>,
-    width: Width,
-    a: u32,
-    count: u32,
-) -> Result<u32, AllocError>
+pub fn raise(cells: &mut Vec<Cell>, width: Width, a: u32, count: u32) -> Result<u32, AllocError>
     requires there { a < length (seen cells.old.items) }
     requires count { count < bits_in width }
     ensures { IfOk result (λ c. Makes (seen cells.old.items) (seen cells.new.items) c (λ packet v. low (bits_in width) (low (bits_in width) (v a) * 2 ^ count))) }
@@ -32,12 +27,7 @@ pub(crate) fn raise(
 }
 
 /// A shift to the right by a known count: a number without so many of its low bits.
-pub(crate) fn lower(
-    cells: &mut Vec<Cell>,
-    width: Width,
-    a: u32,
-    count: u32,
-) -> Result<u32, AllocError>
+pub fn lower(cells: &mut Vec<Cell>, width: Width, a: u32, count: u32) -> Result<u32, AllocError>
     requires there { a < length (seen cells.old.items) }
     requires count { count < bits_in width }
     ensures { IfOk result (λ c. Makes (seen cells.old.items) (seen cells.new.items) c (λ packet v. low (bits_in width) (v a) / 2 ^ count)) }
@@ -57,12 +47,7 @@ fn count_bits(width: Width) -> u32
 }
 
 /// A shift to the left by a count that is not known.
-pub(crate) fn shift_left(
-    cells: &mut Vec<Cell>,
-    width: Width,
-    a: u32,
-    b: u32,
-) -> Result<u32, AllocError>
+pub fn shift_left(cells: &mut Vec<Cell>, width: Width, a: u32, b: u32) -> Result<u32, AllocError>
     requires formed { AreFormed (seen cells.old.items) }
     requires left { a < length (seen cells.old.items) }
     requires right { b < length (seen cells.old.items) }
@@ -75,12 +60,7 @@ pub(crate) fn shift_left(
 }
 
 /// A shift to the right by a count that is not known.
-pub(crate) fn shift_right(
-    cells: &mut Vec<Cell>,
-    width: Width,
-    a: u32,
-    b: u32,
-) -> Result<u32, AllocError>
+pub fn shift_right(cells: &mut Vec<Cell>, width: Width, a: u32, b: u32) -> Result<u32, AllocError>
     requires formed { AreFormed (seen cells.old.items) }
     requires left { a < length (seen cells.old.items) }
     requires right { b < length (seen cells.old.items) }
@@ -93,7 +73,7 @@ pub(crate) fn shift_right(
 }
 
 /// A shift to the right by a known count that keeps the sign.
-pub(crate) fn lower_signed(
+pub fn lower_signed(
     cells: &mut Vec<Cell>,
     width: Width,
     a: u32,
@@ -129,12 +109,7 @@ fn move_down(cells: &mut Vec<Cell>, width: Width, a: u32, count: u32) -> Result<
 }
 
 /// A shift to the right by a count that is not known that keeps the sign.
-pub(crate) fn shift_signed(
-    cells: &mut Vec<Cell>,
-    width: Width,
-    a: u32,
-    b: u32,
-) -> Result<u32, AllocError>
+pub fn shift_signed(cells: &mut Vec<Cell>, width: Width, a: u32, b: u32) -> Result<u32, AllocError>
     requires formed { AreFormed (seen cells.old.items) }
     requires left { a < length (seen cells.old.items) }
     requires right { b < length (seen cells.old.items) }

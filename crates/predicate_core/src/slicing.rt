@@ -26,7 +26,7 @@ fn width_of(cells: &[Cell], a: u32) -> u32
 }
 
 /// The same value in a new cell.
-pub(crate) fn copy(cells: &mut Vec<Cell>, a: u32) -> Result<u32, AllocError>
+pub fn copy(cells: &mut Vec<Cell>, a: u32) -> Result<u32, AllocError>
     requires formed { AreFormed (seen cells.old.items) }
     requires there { a < length (seen cells.old.items) }
     ensures { IfOk result (λ c. Makes (seen cells.old.items) (seen cells.new.items) c (λ packet v. v a)) }
@@ -38,12 +38,7 @@ pub(crate) fn copy(cells: &mut Vec<Cell>, a: u32) -> Result<u32, AllocError>
 }
 
 /// What MOV makes of a number: with a count, the sign of so many bits is extended.
-pub(crate) fn extend(
-    cells: &mut Vec<Cell>,
-    width: Width,
-    count: u32,
-    a: u32,
-) -> Result<u32, AllocError>
+pub fn extend(cells: &mut Vec<Cell>, width: Width, count: u32, a: u32) -> Result<u32, AllocError>
     requires there { a < length (seen cells.old.items) }
     requires count { count ≤ 64 }
     ensures { IfOk result (λ c. Makes (seen cells.old.items) (seen cells.new.items) c (λ packet v. extended (bits_in width) count (v a))) }
@@ -57,7 +52,7 @@ pub(crate) fn extend(
 }
 
 /// The number that one to eight bytes are, of which the first is the lowest.
-pub(crate) fn join_bytes(cells: &mut Vec<Cell>, bytes: &[u32]) -> Result<u32, AllocError>
+pub fn join_bytes(cells: &mut Vec<Cell>, bytes: &[u32]) -> Result<u32, AllocError>
     requires there { All (λ i. i < length (seen cells.old.items)) bytes.now }
     requires most { length bytes.now ≤ 8 }
     ensures { IfOk result (λ c. MakesIf (seen cells.old.items) (seen cells.new.items) c (λ v. All (λ i. v i < 256) bytes.now) (λ packet v. little_number (length bytes.now) (map_list v bytes.now))) }

@@ -13,7 +13,7 @@ use cell_core::operator::Operator;
 use std::alloc::AllocError;
 
 /// How many bits an operation works on.
-pub(crate) fn bits(width: Width) -> u32
+pub fn bits(width: Width) -> u32
     ensures { result ≡ bits_in width }
 {
     match width {
@@ -37,7 +37,7 @@ fn operator(code: AluCode) -> Operator
 }
 
 /// The low bits of a number, in a cell of so many.
-pub(crate) fn cut(cells: &mut Vec<Cell>, width: Width, a: u32) -> Result<u32, AllocError>
+pub fn cut(cells: &mut Vec<Cell>, width: Width, a: u32) -> Result<u32, AllocError>
     requires formed { AreFormed (seen cells.old.items) }
     requires there { a < length (seen cells.old.items) }
     ensures { IfOk result (λ c. Makes (seen cells.old.items) (seen cells.new.items) c (λ packet v. low (bits_in width) (v a))) }
@@ -53,7 +53,7 @@ pub(crate) fn cut(cells: &mut Vec<Cell>, width: Width, a: u32) -> Result<u32, Al
 }
 
 /// Arithmetic on the low bits of two numbers by one operator.
-pub(crate) fn combine(
+pub fn combine(
     cells: &mut Vec<Cell>,
     code: AluCode,
     width: Width,
@@ -73,7 +73,7 @@ pub(crate) fn combine(
 }
 
 /// The number with the other sign.
-pub(crate) fn negate(cells: &mut Vec<Cell>, width: Width, a: u32) -> Result<u32, AllocError>
+pub fn negate(cells: &mut Vec<Cell>, width: Width, a: u32) -> Result<u32, AllocError>
     requires formed { AreFormed (seen cells.old.items) }
     requires there { a < length (seen cells.old.items) }
     ensures { IfOk result (λ c. Makes (seen cells.old.items) (seen cells.new.items) c (λ packet v. negated (bits_in width) (v a))) }
