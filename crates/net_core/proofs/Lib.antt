@@ -4,3 +4,4 @@ pub mod ClockLaws
 pub mod NameLaws
 pub mod WireLaws
 pub mod WidthLaws
+pub mod ChainLaws

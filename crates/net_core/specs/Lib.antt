@@ -3,6 +3,7 @@ pub mod Value
 pub mod Clock
 pub mod Ports
 pub mod View
+pub mod Chains
 pub mod Width
 pub mod Names
 pub mod Suits

@@ -1,12 +1,13 @@
 //! Trees and statements from their parts.
 
-ghost use Rattle.std.specs.Prelude.{◌≡◌, IfOk};
-ghost use Rattle.net_core.specs.View.{tree_of, statement_of, statements_of, wire_of};
+ghost use Rattle.std.specs.Prelude.{◌≡◌, IfOk, map};
+ghost use Rattle.net_core.specs.View.{tree_of, trees_of, statement_of, statements_of, wire_of};
+ghost use Rattle.net_core.specs.Chains.{parts_before, statements_before};
 ghost use Rattle.net_core.specs.Value.{word};
-ghost use Rattle.net_core.specs.Nets.{TConst, TMemoryWord, TUnary, TBinary, TConditional, RPlain, SIf, SIfElse, SBlock, SThen};
+ghost use Rattle.net_core.specs.Nets.{TConst, TMemoryWord, TUnary, TBinary, TConditional, TLast, RPlain, SIf, SIfElse, SBlock, SThen, SEnd};
 
 use crate::design::Wire;
-use crate::tree::{Expr, Net, Op, Right, Stmt, Stmts, UnaryOp, Word};
+use crate::tree::{Expr, Net, Op, Parts, Right, Stmt, Stmts, UnaryOp, Word};
 use std::alloc::{AllocError, Global};
 
 /// A constant of a width.
@@ -94,6 +95,32 @@ pub fn then<N: Drop>(alloc: Global, first: Stmt<N>, rest: Stmts<N>) -> Result<St
     ensures { IfOk result (λ s. statements_of s ≡ SThen (statement_of first) (statements_of rest)) }
 {
     Ok(Stmts::Then(first, Box::new(alloc, rest)?))
+}
+
+/// The parts of a concatenation: these, and a last one.
+pub fn parts<N: Drop>(
+    alloc: Global,
+    mut prefix: Vec<Expr<N>>,
+    last: Expr<N>,
+) -> Result<Parts<N>, AllocError>
+    ensures { IfOk result (λ ps. trees_of ps ≡ parts_before (map tree_of prefix.items) (TLast (tree_of last))) }
+{
+    let mut list = Parts::Last(last);
+    while let Some(part) = prefix.pop() {
+        list = Parts::More(part, Box::new(alloc, list)?);
+    }
+    Ok(list)
+}
+
+/// Statements, one after another.
+pub fn statements<N: Drop>(alloc: Global, mut prefix: Vec<Stmt<N>>) -> Result<Stmts<N>, AllocError>
+    ensures { IfOk result (λ more. statements_of more ≡ statements_before (map statement_of prefix.items) SEnd) }
+{
+    let mut list = Stmts::End;
+    while let Some(first) = prefix.pop() {
+        list = then(alloc, first, list)?;
+    }
+    Ok(list)
 }
 
 /// The statements between `begin` and `end`.

@@ -66,11 +66,23 @@ pub enum Expr<N: Drop> {
 }
 
 /// The expressions of a concatenation, one or more.
-#[derive(Drop)]
 #[cycle(expr)]
 pub enum Parts<N: Drop> {
     Last(Expr<N>),
     More(Expr<N>, Box<Parts<N>>),
+}
+
+// A loop, since a text may have as many parts as it is long.
+impl<N: Drop> Drop for Parts<N> {
+    #[cycle(drop_parts)]
+    fn drop(mut self) {
+        loop {
+            match self {
+                Parts::Last(_) => return,
+                Parts::More(_, rest) => self = Box::into_inner(rest),
+            }
+        }
+    }
 }
 
 /// The right side of a wire.
@@ -94,9 +106,21 @@ pub enum Stmt<N: Drop> {
 }
 
 /// The statements between `begin` and `end`.
-#[derive(Drop)]
 #[cycle(stmt)]
 pub enum Stmts<N: Drop> {
     End,
     Then(Stmt<N>, Box<Stmts<N>>),
+}
+
+// A loop, since a text may have as many statements as it is long.
+impl<N: Drop> Drop for Stmts<N> {
+    #[cycle(drop_statements)]
+    fn drop(mut self) {
+        loop {
+            match self {
+                Stmts::End => return,
+                Stmts::Then(_, rest) => self = Box::into_inner(rest),
+            }
+        }
+    }
 }
