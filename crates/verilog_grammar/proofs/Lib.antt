@@ -10,3 +10,4 @@ pub mod FormedSections
 pub mod FormedItemLaws
 pub mod FormedWidthLaws
 pub mod FormedLaws
+pub mod FormedSums

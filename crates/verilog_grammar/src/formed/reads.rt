@@ -34,10 +34,16 @@ pub fn reads_known(design: &Design, before: usize, e: &Expr<Net>) -> bool
 fn parts_known(design: &Design, before: usize, parts: &Parts<Net>) -> bool
     ensures { result ≡ scope.parts_known (scope.sorts (netlist_of design.now) before) (trees_of parts.now) }
 {
-    match parts {
-        Parts::Last(a) => reads_known(design, before, a),
-        Parts::More(a, more) => {
-            reads_known(design, before, a) && parts_known(design, before, more)
+    let mut left = parts;
+    loop {
+        match left {
+            Parts::Last(a) => return reads_known(design, before, a),
+            Parts::More(a, more) => {
+                if !reads_known(design, before, a) {
+                    return false;
+                }
+                left = more;
+            }
         }
     }
 }
@@ -76,10 +82,12 @@ pub fn stmt_known(design: &Design, before: usize, stmt: &Stmt<Net>) -> bool
 fn stmts_known(design: &Design, before: usize, stmts: &Stmts<Net>) -> bool
     ensures { result ≡ all_trees_pass (scope.reads_known (scope.sorts (netlist_of design.now) before)) (statements_of stmts.now) }
 {
-    match stmts {
-        Stmts::End => true,
-        Stmts::Then(a, more) => {
-            stmt_known(design, before, a) && stmts_known(design, before, more)
+    let mut left = stmts;
+    while let Stmts::Then(a, more) = left {
+        if !stmt_known(design, before, a) {
+            return false;
         }
+        left = more;
     }
+    true
 }

@@ -35,9 +35,17 @@ fn nests(e: &Expr<Net>, most: u8) -> bool
 fn parts_nest(parts: &Parts<Net>, most: u8) -> bool
     ensures { IsTrue result ↔ (parts_depth (trees_of parts.now) ≤ most) }
 {
-    match parts {
-        Parts::Last(a) => nests(a, most),
-        Parts::More(a, more) => nests(a, most) && parts_nest(more, most),
+    let mut left = parts;
+    loop {
+        match left {
+            Parts::Last(a) => return nests(a, most),
+            Parts::More(a, more) => {
+                if !nests(a, most) {
+                    return false;
+                }
+                left = more;
+            }
+        }
     }
 }
 
@@ -70,9 +78,17 @@ fn prefixes_apart(e: &Expr<Net>) -> bool
 fn parts_apart(parts: &Parts<Net>) -> bool
     ensures { result ≡ syntax.parts_apart (trees_of parts.now) }
 {
-    match parts {
-        Parts::Last(a) => prefixes_apart(a),
-        Parts::More(a, more) => prefixes_apart(a) && parts_apart(more),
+    let mut left = parts;
+    loop {
+        match left {
+            Parts::Last(a) => return prefixes_apart(a),
+            Parts::More(a, more) => {
+                if !prefixes_apart(a) {
+                    return false;
+                }
+                left = more;
+            }
+        }
     }
 }
 
@@ -114,10 +130,14 @@ fn stmt_nests(stmt: &Stmt<Net>, most: u8) -> bool
 fn stmts_nest(stmts: &Stmts<Net>, most: u8) -> bool
     ensures { IsTrue result ↔ (statements_depth (statements_of stmts.now) ≤ most) }
 {
-    match stmts {
-        Stmts::End => true,
-        Stmts::Then(a, more) => stmt_nests(a, most) && stmts_nest(more, most),
+    let mut left = stmts;
+    while let Stmts::Then(a, more) = left {
+        if !stmt_nests(a, most) {
+            return false;
+        }
+        left = more;
     }
+    true
 }
 
 /// Whether a statement ends with an `if` that would take an `else` behind it.
@@ -148,10 +168,14 @@ fn elses_placed(stmt: &Stmt<Net>) -> bool
 fn all_placed(stmts: &Stmts<Net>) -> bool
     ensures { result ≡ syntax.all_placed (statements_of stmts.now) }
 {
-    match stmts {
-        Stmts::End => true,
-        Stmts::Then(a, more) => elses_placed(a) && all_placed(more),
+    let mut left = stmts;
+    while let Stmts::Then(a, more) = left {
+        if !elses_placed(a) {
+            return false;
+        }
+        left = more;
     }
+    true
 }
 
 /// Whether the grammar has each expression of a statement.
@@ -172,10 +196,14 @@ fn trees_spelled(stmt: &Stmt<Net>) -> bool
 fn all_trees_spelled(stmts: &Stmts<Net>) -> bool
     ensures { result ≡ all_trees_pass syntax.tree_spelled (statements_of stmts.now) }
 {
-    match stmts {
-        Stmts::End => true,
-        Stmts::Then(a, more) => trees_spelled(a) && all_trees_spelled(more),
+    let mut left = stmts;
+    while let Stmts::Then(a, more) = left {
+        if !trees_spelled(a) {
+            return false;
+        }
+        left = more;
     }
+    true
 }
 
 /// Whether the grammar has a statement.

@@ -29,12 +29,14 @@ pub fn targets_known(registers: usize, memories: usize, stmt: &Stmt<Net>) -> boo
 fn all_targets_known(registers: usize, memories: usize, stmts: &Stmts<Net>) -> bool
     ensures { result ≡ all_targets_pass (λ r. nat_lt r registers) (λ m. nat_lt m memories) (statements_of stmts.now) }
 {
-    match stmts {
-        Stmts::End => true,
-        Stmts::Then(a, more) => {
-            targets_known(registers, memories, a) && all_targets_known(registers, memories, more)
+    let mut left = stmts;
+    while let Stmts::Then(a, more) = left {
+        if !targets_known(registers, memories, a) {
+            return false;
         }
+        left = more;
     }
+    true
 }
 
 /// Whether a statement does not set a register.
@@ -55,12 +57,14 @@ fn leaves_register(register: u32, stmt: &Stmt<Net>) -> bool
 fn all_leave_register(register: u32, stmts: &Stmts<Net>) -> bool
     ensures { result ≡ all_targets_pass (λ k. not (k == register)) (λ k. true) (statements_of stmts.now) }
 {
-    match stmts {
-        Stmts::End => true,
-        Stmts::Then(a, more) => {
-            leaves_register(register, a) && all_leave_register(register, more)
+    let mut left = stmts;
+    while let Stmts::Then(a, more) = left {
+        if !leaves_register(register, a) {
+            return false;
         }
+        left = more;
     }
+    true
 }
 
 /// Whether a statement does not set a memory.
@@ -81,10 +85,14 @@ fn leaves_memory(memory: u32, stmt: &Stmt<Net>) -> bool
 fn all_leave_memory(memory: u32, stmts: &Stmts<Net>) -> bool
     ensures { result ≡ all_targets_pass (λ k. true) (λ k. not (k == memory)) (statements_of stmts.now) }
 {
-    match stmts {
-        Stmts::End => true,
-        Stmts::Then(a, more) => leaves_memory(memory, a) && all_leave_memory(memory, more),
+    let mut left = stmts;
+    while let Stmts::Then(a, more) = left {
+        if !leaves_memory(memory, a) {
+            return false;
+        }
+        left = more;
     }
+    true
 }
 
 /// Whether no block sets a register.
@@ -119,8 +127,12 @@ pub fn targets_free(stmt: &Stmt<Net>, before: &[Stmt<Net>]) -> bool
 fn all_targets_free(stmts: &Stmts<Net>, before: &[Stmt<Net>]) -> bool
     ensures { result ≡ all_targets_pass (λ r. list_all (λ b. scope.leaves_register r (statement_of b)) before.now) (λ m. list_all (λ b. scope.leaves_memory m (statement_of b)) before.now) (statements_of stmts.now) }
 {
-    match stmts {
-        Stmts::End => true,
-        Stmts::Then(a, more) => targets_free(a, before) && all_targets_free(more, before),
+    let mut left = stmts;
+    while let Stmts::Then(a, more) = left {
+        if !targets_free(a, before) {
+            return false;
+        }
+        left = more;
     }
+    true
 }

@@ -156,7 +156,26 @@ fn parts_width(design: &Design, before: usize, parts: &Parts<Net>) -> u8
         Parts::Last(a) => width_of(design, before, a),
         Parts::More(a, more) => {
             let front = width_of(design, before, a);
-            concatenation_width(front, parts_width(design, before, more))
+            width_behind(design, before, front, more)
+        }
+    }
+}
+
+// The width of a concatenation of these parts behind others, whose widths are so many together.
+#[cycle(width_of)]
+fn width_behind(design: &Design, before: usize, front: u8, parts: &Parts<Net>) -> u8
+    requires { before ≤ length design.now.wires.items }
+    ensures { result ≡ width.concatenation_width front (width.parts_width (scope_before (netlist_of design.now) before) (trees_of parts.now)) }
+{
+    let mut sum = front;
+    let mut left = parts;
+    loop {
+        match left {
+            Parts::Last(a) => return concatenation_width(sum, width_of(design, before, a)),
+            Parts::More(a, more) => {
+                sum = concatenation_width(sum, width_of(design, before, a));
+                left = more;
+            }
         }
     }
 }
@@ -213,10 +232,12 @@ fn stmts_typed(design: &Design, before: usize, stmts: &Stmts<Net>) -> bool
     requires { before ≤ length design.now.wires.items }
     ensures { result ≡ width.statements_typed (scope_before (netlist_of design.now) before) (register_widths design.now.declared.items) (memory_widths design.now.declared.items) (statements_of stmts.now) }
 {
-    match stmts {
-        Stmts::End => true,
-        Stmts::Then(a, more) => {
-            stmt_typed(design, before, a) && stmts_typed(design, before, more)
+    let mut left = stmts;
+    while let Stmts::Then(a, more) = left {
+        if !stmt_typed(design, before, a) {
+            return false;
         }
+        left = more;
     }
+    true
 }
