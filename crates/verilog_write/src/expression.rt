@@ -147,13 +147,16 @@ fn push_parts(text: &mut Vec<u8>, design: &Design, parts: &Parts<Net>) -> Result
     requires { AreWritable (netlist_of design.now) (trees_of parts.now) }
     ensures { OnOk result (AddsWord text.old.items text.new.items (parts_lexemes (name_of (netlist_of design.now)) (trees_of parts.now))) }
 {
-    match parts {
-        Parts::Last(a) => push_expression(text, design, a),
-        Parts::More(a, more) => {
-            push_expression(text, design, a)?;
-            push_symbol(text, Symbol::Comma)?;
-            push_apart(text)?;
-            push_parts(text, design, more)
+    let mut left = parts;
+    loop {
+        match left {
+            Parts::Last(a) => return push_expression(text, design, a),
+            Parts::More(a, more) => {
+                push_expression(text, design, a)?;
+                push_symbol(text, Symbol::Comma)?;
+                push_apart(text)?;
+                left = more;
+            }
         }
     }
 }

@@ -117,12 +117,11 @@ fn push_statements(text: &mut Vec<u8>, design: &Design, more: &Stmts<Net>) -> Re
     requires { AreStatementsWritable (netlist_of design.now) (statements_of more.now) }
     ensures { OnOk result (AddsLine text.old.items text.new.items (statement_trees_lexemes (name_of (netlist_of design.now)) (register_name (netlist_of design.now)) (memory_name (netlist_of design.now)) (statements_of more.now))) }
 {
-    match more {
-        Stmts::End => Ok(()),
-        Stmts::Then(first, rest) => {
-            push_statement(text, design, first)?;
-            push_line(text)?;
-            push_statements(text, design, rest)
-        }
+    let mut left = more;
+    while let Stmts::Then(first, rest) = left {
+        push_statement(text, design, first)?;
+        push_line(text)?;
+        left = rest;
     }
+    Ok(())
 }

@@ -1,4 +1,7 @@
-use Rattle.std.proofs.Common.{append_assoc}
+use Rattle.std.proofs.Common.{ap, append_assoc, arith}
+use Rattle.net_core.specs.declared.tree.Net.{Net}
+use Rattle.net_core.specs.declared.tree.Expr.TheViews.{sized-More}
+use Rattle.net_core.specs.declared.tree.Parts.{size-Parts}
 use Rattle.verilog_write.proofs.AddsLemmas.{from_ok, opened}
 use Rattle.verilog_write.proofs.expression.+expression.Goals as goal
 
@@ -37,10 +40,18 @@ push_expression-returns-in_ok-push_parts-in-Concatenation t c =
           (opened (last _ (c.in_ok-push_parts-in-Concatenation.ensures.read _ (c.in_ok-push_symbol-in-Concatenation.ensures.read _ (opened h)))));
     }))
 
-pub push_parts-returns-in_ok-push_apart-in-More : goal.push_parts-returns-in_ok-push_apart-in-More
-push_parts-returns-in_ok-push_apart-in-More t c =
-    rw c.in-More.is (from_ok c.push_parts.result c.push_parts.ensures (λ last. record {
-      read = λ before h.
-          simp (append_assoc, c.deref.ensures) at
-          (last.read _ (c.in_ok-push_apart-in-More.ensures _ (c.in_ok-push_symbol-in-More.ensures.read _ (c.in_ok-push_expression-in-More.ensures.read _ h))));
-    }))
+pub push_parts-loop-left-preserved : goal.push_parts-loop-left-preserved
+push_parts-loop-left-preserved t c =
+    let z = sized-More Net c.in-More.a c.in-More.more in
+    let whole = ap (size-Parts Net) c.in-More.is in
+    let part = ap (size-Parts Net) c.deref-left.ensures in
+    record {
+      rest = λ new k.
+          c.loop-left.invariant.rest new (rw c.in-More.is (record {
+            read = λ before h.
+                simp (append_assoc, c.deref-left.ensures) at
+                (k.read _ (c.in_ok-push_apart-in-More.ensures _ (c.in_ok-push_symbol-in-More.ensures.read _ (c.in_ok-push_expression-in-More.ensures.read _ h))));
+          }));
+      writable = rw c.deref-left.ensures (rw c.in-More.is at c.loop-left.invariant.writable).1;
+      depth = omega (arith, z, whole, part, c.loop-left.invariant.depth);
+    }
