@@ -8,5 +8,4 @@ pub mod StatementRules
 pub mod SoundStatementLaws
 pub mod RoundTripStatementLaws
 pub mod Spelled
-pub mod Linked
 pub mod LoopStepLaws

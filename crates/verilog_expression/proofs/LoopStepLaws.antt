@@ -4,6 +4,7 @@ use Rattle.std.proofs.lemmas.List.{drop_all}
 use Rattle.std.specs.Result.{IsErr, IsErrAnd}
 use Rattle.net_core.specs.declared.tree.Net.{Net}
 use Rattle.net_core.specs.Nets.{Tree, Trees, TLast, TMore, StatementTree, StatementTrees, SEnd, SThen}
+use Rattle.net_core.specs.Chains.{parts_before, statements_before}
 use Rattle.verilog_lex.specs.Lexeme.{Lexeme, LKeyword, LSymbol}
 use Rattle.verilog_lex.specs.declared.token.Symbol.TheVariants as symbol
 use Rattle.verilog_lex.specs.declared.token.Keyword.TheVariants as keyword
@@ -16,7 +17,7 @@ use Rattle.verilog_expression.specs.Reads.{Read, Reading, ◌>>=◌}
 use Rattle.verilog_expression.specs.Expressions.{Sized, SizedParts, more_at, parts_at}
 use Rattle.verilog_expression.specs.Statements.{block_at}
 use Rattle.verilog_expression.specs.declared.mark.Mark.{Mark}
-use Rattle.verilog_expression.specs.View.{Fails, Gives, mark_lexeme, comma_at, end_at, capped, parts_before, statements_before, behind_parts, behind_statements}
+use Rattle.verilog_expression.specs.View.{Fails, Gives, mark_lexeme, comma_at, end_at, capped, behind_parts, behind_statements}
 
 -- what fails in a step fails as a whole
 pub fails_on : {X Y : Type 0} (e : PhraseError) (reading : Reading X) (whole : Reading Y) → ((f : Fault) → reading ≡ Err f → whole ≡ Err f) → Fails e reading → Fails e whole

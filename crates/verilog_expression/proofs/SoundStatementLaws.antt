@@ -1,5 +1,5 @@
 -- What is read as a statement is spelled so, and keeps the rules.
-use Rattle.std.specs.Prelude.{◌==◌, if◌then◌else◌}
+use Rattle.std.specs.Prelude.{◌==◌}
 use Rattle.std.proofs.Common.{◌≡◌, ℕ, zero, suc, ◌≤◌, Bool, true, false, not, Some, Ok, List, [], ◌∷◌, ◌++◌, length, refl, sym, ap, ◌∙◌, subst, append_assoc, get_or, arith}
 use Rattle.std.proofs.lemmas.Bool.{eqb-true}
 use Rattle.net_core.specs.declared.tree.Net.{Net}
@@ -15,7 +15,7 @@ use Rattle.verilog_grammar.specs.FormedScope.{Sorts}
 use Rattle.verilog_expression.specs.declared.fault.Code.TheVariants as code
 use Rattle.verilog_expression.specs.declared.entry.Entry.{Entry}
 use Rattle.verilog_expression.specs.declared.entry.Entry.TheVariants as entry
-use Rattle.verilog_expression.specs.Reads.{Read, ◌>>=◌, fault, kept_if}
+use Rattle.verilog_expression.specs.Reads.{Read, ◌>>=◌, kept_if}
 use Rattle.verilog_expression.specs.Lexemes.{symbol_at}
 use Rattle.verilog_expression.specs.Expressions.{Resolve, Sized, entry_at, whole_expr_at}
 use Rattle.verilog_expression.specs.Statements.{Free, assigned_at, set_at, index_at, word_at, store_at, target_at, else_at, condition_at, if_at, block_at, begin_at, one_statement_at, statement_at, whole_statement_at}

@@ -1,12 +1,13 @@
 -- What lexemes, trees and results in memory stand for.
-use Rattle.std.specs.Prelude.{◌≡◌, ℕ, ◌+◌, Option, Some, None, List, [], ◌∷◌, length, min, Result, Ok, Err}
+use Rattle.std.specs.Prelude.{◌≡◌, ℕ, ◌+◌, Option, Some, None, List, ◌∷◌, length, min, Result, Ok, Err}
 use Rattle.net_core.specs.declared.tree.Net.{Net}
 use Rattle.net_core.specs.declared.tree.Expr.{Expr}
 use Rattle.net_core.specs.declared.tree.Parts.{Parts}
 use Rattle.net_core.specs.declared.tree.Right.{Right}
 use Rattle.net_core.specs.declared.tree.Stmt.{Stmt}
 use Rattle.net_core.specs.declared.tree.Stmts.{Stmts}
-use Rattle.net_core.specs.Nets.{Tree, Trees, TMore, StatementTree, StatementTrees, SThen}
+use Rattle.net_core.specs.Nets.{Tree, StatementTree, StatementTrees}
+use Rattle.net_core.specs.Chains.{parts_before, statements_before}
 use Rattle.net_core.specs.View.{tree_of, trees_of, right_of, statement_of, statements_of}
 use Rattle.verilog_lex.specs.declared.token.Keyword.TheVariants as keyword
 use Rattle.verilog_lex.specs.declared.token.Symbol.TheVariants as symbol
@@ -85,15 +86,6 @@ comma_at ts = None
 abbrev pub end_at : List Lexeme → Option (List Lexeme)
 end_at (LKeyword keyword.End ∷ ts) = Some ts
 end_at ts = None
-
--- parts in front of others
-abbrev pub parts_before : {N : Type 0} → List (Tree N) → Trees N → Trees N
-parts_before [] ps = ps
-parts_before (t ∷ ts) ps = TMore t (parts_before ts ps)
-
-abbrev pub statements_before : {N : Type 0} → List (StatementTree N) → StatementTrees N → StatementTrees N
-statements_before [] more = more
-statements_before (a ∷ rest) more = SThen a (statements_before rest more)
 
 -- what is read behind parts that stand in front, and whose widths are so many together
 abbrev pub behind_parts : List (Tree Net) → ℕ → Read SizedParts → Read SizedParts

@@ -1,6 +1,7 @@
 //! Expressions, read from left to right, each with its width.
 
 ghost use Rattle.std.specs.Prelude.{◌≡◌, length, true, false};
+ghost use Rattle.verilog_expression.specs.Expressions as phrase;
 ghost use Rattle.verilog_expression.specs.Expressions.{memory_word_at, expr_at, first_at, unary_at, concatenation_at, named_at, paren_at, parts_at, second_at, symbol_first, whole_expr_at};
 ghost use Rattle.verilog_expression.specs.View.{Gives, as_sized, capped, parts_of, lexemes_left, sized_of};
 
@@ -10,10 +11,9 @@ use crate::fault::Code;
 use crate::lexemes::{fault, operator, symbol};
 use crate::lookahead::{begins_number, comma};
 use crate::names::{Names, entry};
-use crate::parts::{linked, whole_width};
 use crate::rest::Rest;
 use crate::value::{behind_value, constant_expr, sized};
-use net_core::build::{binary, conditional, memory_word, unary};
+use net_core::build::{self, binary, conditional, memory_word, unary};
 use net_core::tree::{Expr, Net, Parts, UnaryOp};
 use std::alloc::{AllocError, Global};
 use verilog_grammar::formed::{conditional_width, memory_word_width, op_width, unary_width};
@@ -243,6 +243,13 @@ fn second<'a, N: Names>(
     }
 }
 
+// The width of a concatenation from the sum of its parts' widths: at most 64, and else none.
+fn whole_width(sum: u8) -> u8
+    ensures { result ≡ phrase.whole_width sum }
+{
+    if sum <= 64 { sum } else { 0 }
+}
+
 #[cycle(reader)]
 #[tactic(auto, unfolding(crate::specs::Expressions::concatenation_at))]
 fn concatenation<'a, N: Names>(
@@ -278,7 +285,7 @@ fn parts<'a, N: Names>(
         let (part, width, rest) = expr(alloc, names, depth, true, after)?;
         sum = sum.saturating_add(width);
         let Some(next) = comma(rest) else {
-            let list = linked(alloc, prefix, part)?;
+            let list = build::parts(alloc, prefix, part)?;
             return Ok((list, sum, rest));
         };
         prefix.push(part)?;

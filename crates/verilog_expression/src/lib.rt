@@ -1,7 +1,6 @@
 //! Expressions, right sides and statements from the tokens of a Verilog text, or the first fault in them.
 #![tactic(auto)]
 
-mod block;
 mod entry;
 mod error;
 mod expr;
@@ -10,7 +9,6 @@ pub mod lexemes;
 mod lookahead;
 mod mark;
 mod names;
-mod parts;
 mod rest;
 mod right;
 mod stmt;

@@ -6,7 +6,6 @@ ghost use Rattle.verilog_expression.specs.Expressions.{whole_expr_at};
 ghost use Rattle.verilog_expression.specs.View.{Gives, statement_and_rest, statements_and_rest, lexemes_left, tree_and_rest};
 ghost use Rattle.verilog_expression.specs.Statements.{one_statement_at, begin_at, block_at, condition_at, else_at, if_at, statement_at, whole_statement_at};
 
-use crate::block::linked;
 use crate::error::PhraseError;
 use crate::expr::{MOST_DEPTH, expression};
 use crate::fault::Code;
@@ -15,7 +14,7 @@ use crate::lookahead::block_end;
 use crate::names::{Names, entry};
 use crate::rest::Rest;
 use crate::target::target;
-use net_core::build::{block, when, when_else};
+use net_core::build::{block, statements, when, when_else};
 use net_core::tree::{Expr, Net, Stmt, Stmts};
 use std::alloc::{AllocError, Global};
 use verilog_lex::{Keyword, Symbol, Token, TokenKind};
@@ -170,7 +169,7 @@ fn list<'a, N: Names>(
     let mut after = rest;
     while left > 0 {
         if let Some(rest) = block_end(after) {
-            let list = linked(alloc, prefix)?;
+            let list = statements(alloc, prefix)?;
             return Ok((list, rest));
         }
         let (first, rest) = stmt(alloc, names, depth, after)?;
