@@ -5,7 +5,6 @@ pub mod Ordered
 pub mod Edges
 pub mod Linked
 pub mod Loops
-pub mod Chained
 pub mod LinkedTrees
 pub mod Linkings
 pub mod Widths

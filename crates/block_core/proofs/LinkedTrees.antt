@@ -8,8 +8,8 @@ use Rattle.net_core.specs.declared.tree.Stmt.{Stmt}
 use Rattle.net_core.specs.Nets.{Tree, TMemoryWord, TUnary, TBinary, TConditional, Trees, TLast, TMore, StatementTree, SBlock, SIf, SIfElse, SStore, StatementTrees, SThen}
 use Rattle.net_core.specs.View.{tree_of, statement_of}
 use Rattle.block_core.specs.Rename.{rename, rename_parts, rename_statement, rename_statements}
-use Rattle.block_core.specs.Chains.{parts_before, statements_before}
-use Rattle.block_core.proofs.Chained.{parts_one_more, statements_one_more}
+use Rattle.net_core.specs.Chains.{parts_before, statements_before}
+use Rattle.net_core.proofs.ChainLaws.{parts_one_more, statements_one_more}
 
 module _ {M N : Type 0} (f : M → N) where
   pub memory_word_linked : (t : Tree M) (out : Tree N) (m : M) (m' : N) (i : Tree M) (i' : Tree N) → t ≡ TMemoryWord m i → m' ≡ f m → i' ≡ rename f i → out ≡ TMemoryWord m' i' → out ≡ rename f t

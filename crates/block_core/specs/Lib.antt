@@ -4,6 +4,5 @@ pub mod Link
 pub mod Parts
 pub mod Order
 pub mod Law
-pub mod Chains
 pub mod Formed
 pub mod View

@@ -7,7 +7,6 @@
 
 pub mod block;
 pub mod build;
-mod chains;
 mod error;
 pub mod laws;
 pub mod name;

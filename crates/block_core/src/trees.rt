@@ -5,11 +5,10 @@ ghost use Rattle.net_core.specs.View.{tree_of, trees_of, right_of, statement_of,
 ghost use Rattle.block_core.specs.Rename.{rename, rename_parts, rename_right, rename_statement, rename_statements};
 ghost use Rattle.block_core.specs.View.{resolve_in};
 
-use crate::chains;
 use crate::error::LinkError;
 use crate::name::{Name, Part};
 use crate::starts::{Starts, behind, resolve};
-use net_core::build::{binary, block, conditional, memory_word, unary, when, when_else};
+use net_core::build::{self, binary, block, conditional, memory_word, unary, when, when_else};
 use net_core::tree::{Expr, Net, Parts, Right, Stmt, Stmts};
 use std::alloc::Global;
 
@@ -75,7 +74,7 @@ fn link_parts<P: Part>(
     match left {
         Parts::Last(last) => {
             let last = link_expr(alloc, last, starts)?;
-            Ok(chains::parts(alloc, prefix, last)?)
+            Ok(build::parts(alloc, prefix, last)?)
         }
         Parts::More(..) => unreachable!(),
     }
@@ -160,5 +159,5 @@ fn link_stmts<P: Part>(
         prefix.push(link_stmt(alloc, first, starts, registers, memories)?)?;
         left = more;
     }
-    Ok(chains::statements(alloc, prefix)?)
+    Ok(build::statements(alloc, prefix)?)
 }

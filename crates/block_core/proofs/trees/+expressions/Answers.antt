@@ -6,7 +6,7 @@ use Rattle.net_core.specs.declared.tree.Parts.{size-Parts}
 use Rattle.net_core.specs.Nets.{TMore}
 use Rattle.net_core.specs.View.{tree_of, trees_of}
 use Rattle.block_core.specs.Rename.{rename, rename_parts}
-use Rattle.block_core.specs.Chains.{parts_before}
+use Rattle.net_core.specs.Chains.{parts_before}
 use Rattle.block_core.specs.View.{resolve_in}
 use Rattle.block_core.proofs.LinkedTrees.{memory_word_linked, unary_linked, binary_linked, conditional_linked, parts_step}
 use Rattle.block_core.proofs.trees.+expressions.Goals as goal

@@ -3,7 +3,7 @@ use Rattle.net_core.specs.declared.tree.Expr.{size-Expr}
 use Rattle.net_core.specs.declared.tree.Parts.{size-Parts}
 use Rattle.net_core.specs.View.{tree_of, trees_of}
 use Rattle.block_core.specs.Rename.{rename_parts}
-use Rattle.block_core.specs.Chains.{parts_before}
+use Rattle.net_core.specs.Chains.{parts_before}
 use Rattle.block_core.specs.View.{resolve_in}
 use Rattle.block_core.proofs.trees.+expressions.Given as goal
 

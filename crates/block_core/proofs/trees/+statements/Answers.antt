@@ -6,7 +6,7 @@ use Rattle.net_core.specs.declared.tree.Stmts.{size-Stmts}
 use Rattle.net_core.specs.Nets.{SThen}
 use Rattle.net_core.specs.View.{statement_of, statements_of}
 use Rattle.block_core.specs.Rename.{rename_statement, rename_statements}
-use Rattle.block_core.specs.Chains.{statements_before}
+use Rattle.net_core.specs.Chains.{statements_before}
 use Rattle.block_core.specs.View.{resolve_in}
 use Rattle.block_core.proofs.LinkedTrees.{block_linked, when_linked, when_else_linked, store_linked, statements_step}
 use Rattle.block_core.proofs.trees.+statements.Goals as goal

@@ -3,7 +3,7 @@ use Rattle.net_core.specs.declared.tree.Stmt.{size-Stmt}
 use Rattle.net_core.specs.declared.tree.Stmts.{size-Stmts}
 use Rattle.net_core.specs.View.{statement_of, statements_of}
 use Rattle.block_core.specs.Rename.{rename_statements}
-use Rattle.block_core.specs.Chains.{statements_before}
+use Rattle.net_core.specs.Chains.{statements_before}
 use Rattle.block_core.specs.View.{resolve_in}
 use Rattle.block_core.proofs.trees.+statements.Given as goal
 
