@@ -9,7 +9,7 @@ use Rattle.net_core.specs.declared.tree.Net.{Net}
 use Rattle.net_core.specs.declared.design.Declared.{Declared}
 use Rattle.net_core.specs.Nets.{Tree, StatementTree, SBlock, SIf, SIfElse, SSet, SStore, StatementTrees, SEnd, SThen}
 use Rattle.net_core.specs.Value.{nothing, value}
-use Rattle.net_core.specs.Width.{same, statement_typed}
+use Rattle.net_core.specs.Width.{same, statement_typed, statements_typed}
 use Rattle.net_core.specs.Clock.{Stored, done, all_done, edge}
 use Rattle.list_laws.proofs.PlaceLaws.{some_below}
 use Rattle.clock_sim.specs.declared.step.Opcode.TheVariants.{Conditional, Complement}
@@ -18,8 +18,8 @@ use Rattle.clock_sim.specs.declared.operands.Operands.{Operands}
 use Rattle.clock_sim.specs.declared.edge.Store.{Store}
 use Rattle.clock_sim.specs.Steps.{worked, run}
 use Rattle.clock_sim.specs.Flat.{Flat, Situation, IsFine, numbers, contents_of, Numbers, Works, Holds, IsConsistent, Extends, Values, AreOperands, scope_of, env_at, Knows}
-use Rattle.clock_sim.specs.Edges.{applied, AreSlots, IsStore, AreStores, Leads, GuardsBy, Guards, Picks, GuardsBoth, Opposes, GuardsAs, ExecutesOne, ExecutesMore, ExecutesAll, AreStatements, widths_at, sizes_of, taken}
-use Rattle.clock_sim.proofs.BuilderLemmas.{run_append, run_below, extends_none, extends_more, starts_before, numbers_later, knows_later}
+use Rattle.clock_sim.specs.Edges.{applied, AreSlots, IsStore, AreStores, IsGuard, Leads, GuardsBy, Guards, Picks, GuardsBoth, Opposes, GuardsAs, ExecutesOne, ExecutesMore, ExecutesAll, AreStatements, widths_at, sizes_of, taken}
+use Rattle.clock_sim.proofs.BuilderLemmas.{run_append, run_below, extends_none, extends_more, extends_length, starts_before, numbers_later, knows_later}
 use Rattle.clock_sim.proofs.StepLemmas.{memory_at}
 
 pub numbers_fine : (ds : List Declared) (c : Flat) (slot : ℕ) (f g : Situation → ℕ) → ((x : Situation) → IsFine ds x → f x ≡ g x) → Numbers ds c slot f → Numbers ds c slot g
@@ -384,6 +384,45 @@ pub acting_all : (old now : Flat) (n : Operands) (all left : List (StatementTree
 acting_all old now n all left next next' stores stores' e h0 =
     let h = subst (λ l. Acting old now n all l next next' stores stores') e h0 in
     record { leads = λ ds wires f knows l. let k = h.leads ds wires f knows l in leads_same ds now next' stores' k.state (λ x. edge (env_at wires x) all (f x)) k.same k.leads }
+
+-- ---- the statements of a block, one after another
+guard_later : (n m : ℕ) → n ≤ m → (guard : Option ℕ) → IsGuard guard n → IsGuard guard m
+guard_later n m le None h = h
+guard_later n m le (Some slot) h = omega (arith, le, h)
+
+-- what executes the statements that are left executes all of them
+pub record Executing (n : Operands) (guard : Option ℕ) (all left : StatementTrees Net) (old now : Flat) (next next' : List ℕ) (stores stores' : List Store) : Type 0 where
+  pub typed : statements_typed (scope_of n) (widths_at n.registers.items) (sizes_of n.memories.items) left ≡ true
+  pub builder : IsConsistent now
+  pub extends : Extends old now
+  pub grows : length old.slots ≤ length now.slots
+  pub there : AreOperands n (length now.slots)
+  pub guarded : IsGuard guard (length now.slots)
+  pub count : length next' ≡ length n.registers.items
+  pub slots : AreSlots next' (length now.slots)
+  pub in_slots : AreStores stores' (length now.slots)
+  pub executes : (last : Flat) (next'' : List ℕ) (stores'' : List Store) → ExecutesMore now last n guard left next' next'' stores' stores'' → ExecutesMore old last n guard all next next'' stores stores''
+
+pub executing_more :
+    (n : Operands) (guard : Option ℕ) (all left rest : StatementTrees Net) (a : StatementTree Net) (old now new : Flat) (next next' next'' : List ℕ) (stores stores' stores'' : List Store)
+    → left ≡ SThen a rest → Extends now new → IsConsistent new → AreOperands n (length new.slots) → length next'' ≡ length next' → AreSlots next'' (length new.slots) → AreStores stores'' (length new.slots)
+    → ExecutesOne now new n guard a next' next'' stores' stores'' → Executing n guard all left old now next next' stores stores' → Executing n guard all rest old new next next'' stores stores''
+executing_more n guard all left rest a old now new next next' next'' stores stores' stores'' e ext builder there same slots in_slots one h0 =
+    let h = subst (λ l. Executing n guard all l old now next next' stores stores') e h0 in
+    let typed = and_parts (statement_typed (scope_of n) (widths_at n.registers.items) (sizes_of n.memories.items) a) (statements_typed (scope_of n) (widths_at n.registers.items) (sizes_of n.memories.items) rest) h.typed in
+    let extends = extends_more old now new h.extends ext in
+    record {
+      typed = typed.1;
+      builder = builder;
+      extends = extends;
+      grows = extends_length old new extends;
+      there = there;
+      guarded = guard_later (length now.slots) (length new.slots) (extends_length now new ext) guard h.guarded;
+      count = same ∙ h.count;
+      slots = slots;
+      in_slots = in_slots;
+      executes = λ last ks ss more. h.executes last ks ss (then_executes now new last n guard a rest next' next'' ks stores' stores'' ss ext one more);
+    }
 
 -- ---- what a statement needs
 pub set_there : (ps : List Operand) (r w : ℕ) → same (get_or (widths_at ps) r 0) w ≡ true → r < length ps

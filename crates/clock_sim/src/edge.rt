@@ -202,14 +202,12 @@ fn add_statements(
     ensures stores { OnOk result (AreStores stores.new.items (length builder.new.slots.items)) }
     ensures executes { OnOk result (ExecutesMore (flat_of builder.old) (flat_of builder.new) operands.now guard (statements_of more.now) next.old next.new stores.old.items stores.new.items) }
 {
-    match more {
-        Stmts::End => Ok(()),
-        Stmts::Then(s, rest) => {
-            add_statement(s, guard, operands, builder, next, stores)?;
-            add_statements(rest, guard, operands, builder, next, stores)?;
-            Ok(())
-        }
+    let mut left = more;
+    while let Stmts::Then(s, rest) = left {
+        add_statement(s, guard, operands, builder, next, stores)?;
+        left = rest;
     }
+    Ok(())
 }
 
 /// Adds the steps of all always blocks.

@@ -1,15 +1,16 @@
 use Rattle.std.specs.Prelude.{◌==◌}
-use Rattle.std.proofs.Common.{◌<◌, ◌≤◌, ◌&&◌, length, refl, ap, arith}
+use Rattle.std.proofs.Common.{rules, ◌<◌, ◌≤◌, ◌&&◌, length, refl, ap, arith}
 use Rattle.std.proofs.lemmas.Bool.{and_parts}
 use Rattle.net_core.specs.declared.tree.Net.{Net}
 use Rattle.net_core.specs.declared.tree.Stmt.{size-Stmt}
-use Rattle.net_core.specs.declared.tree.Stmt.TheViews.{sized-If, sized-IfElse}
-use Rattle.net_core.specs.View.{tree_of, statement_of}
+use Rattle.net_core.specs.declared.tree.Stmt.TheViews.{sized-If, sized-IfElse, sized-Then}
+use Rattle.net_core.specs.declared.tree.Stmts.{size-Stmts}
+use Rattle.net_core.specs.View.{tree_of, statement_of, statements_of}
 use Rattle.net_core.specs.Width.{width_of, statement_typed}
 use Rattle.clock_sim.specs.Flat.{flat_of, scope_of}
 use Rattle.clock_sim.specs.Edges.{widths_at, sizes_of}
 use Rattle.clock_sim.proofs.BuilderLemmas.{extends_none, extends_more, operands_later}
-use Rattle.clock_sim.proofs.StatementLemmas.{slots_more, slots_set, slot_at, stores_more, stores_push, set_there, block_executes, if_executes, else_executes, set_executes, store_executes, then_executes}
+use Rattle.clock_sim.proofs.StatementLemmas.{slots_more, slots_set, slot_at, stores_more, stores_push, set_there, block_executes, if_executes, else_executes, set_executes, store_executes, end_executes, executing_more}
 use Rattle.clock_sim.proofs.edge.+edge.Goals as goal
 
 pub add_statement-add_statement-requires : goal.add_statement-add_statement-requires
@@ -142,13 +143,34 @@ add_statement-returns-in_ok-push-in-Store-clause-executes t c =
     (store_executes _ _ _ _ _ _ _ _ _ _ _ _ _ _ c.in_ok-at-in-Store.ensures.extends c.in_ok-word-in-Store.ensures.extends c.in_ok-guard-in-Store.ensures.extends c.requires.stores c.in_ok-at-in-Store.ensures.values c.in_ok-word-in-Store.ensures.values
     c.in_ok-guard-in-Store.ensures.guards refl refl c.in_ok-push-in-Store.ensures.items)
 
-pub add_statements-returns-in-End-clause-extends : goal.add_statements-returns-in-End-clause-extends
-add_statements-returns-in-End-clause-extends t c = extends_none (flat_of c.args.builder.now)
+pub add_statements-loop-left-init : goal.add_statements-loop-left-init
+add_statements-loop-left-init t c = record {
+  less = omega arith;
+  done = record {
+    typed = c.requires.typed;
+    builder = c.requires.builder;
+    extends = extends_none (flat_of c.args.builder.now);
+    grows = omega arith;
+    there = c.requires.operands;
+    guarded = c.requires.guard;
+    count = c.requires.count;
+    slots = c.requires.next;
+    in_slots = c.requires.stores;
+    executes = λ last next stores h. h;
+  };
+}
 
-pub add_statements-returns-in_ok-add_statements-in-Then-clause-extends : goal.add_statements-returns-in_ok-add_statements-in-Then-clause-extends
-add_statements-returns-in_ok-add_statements-in-Then-clause-extends t c = extends_more _ _ _ c.in_ok-add_statement-in-Then.ensures.extends c.in_ok-add_statements-in-Then.ensures.extends
+pub add_statements-loop-left-preserved : goal.add_statements-loop-left-preserved
+add_statements-loop-left-preserved t c =
+    let now = c.in_ok-add_statement.ensures in
+    let whole = ap (size-Stmts Net) c.in-Then.is in
+    let part = ap (size-Stmts Net) c.deref-left.ensures in
+    record {
+      less = omega (arith, sized-Then Net c.in-Then.s c.in-Then.rest, whole, part, c.loop-left.invariant.less);
+      done = rw c.deref-left.ensures
+      (executing_more _ _ _ _ _ _ _ _ _ _ _ _ _ _ _ (ap statements_of c.in-Then.is) now.extends now.builder now.operands (search rules) now.next now.stores now.executes c.loop-left.invariant.done);
+    }
 
-pub add_statements-returns-in_ok-add_statements-in-Then-clause-executes : goal.add_statements-returns-in_ok-add_statements-in-Then-clause-executes
-add_statements-returns-in_ok-add_statements-in-Then-clause-executes t c =
-    let rest = rw c.deref.ensures at c.in_ok-add_statements-in-Then.ensures.executes in
-    rw c.in-Then.is (then_executes _ _ _ _ _ _ _ _ _ _ _ _ _ c.in_ok-add_statement-in-Then.ensures.extends c.in_ok-add_statement-in-Then.ensures.executes rest)
+pub add_statements-returns-clause-executes : goal.add_statements-returns-clause-executes
+add_statements-returns-clause-executes t c =
+    c.loop-left.invariant.done.executes _ _ _ (rw c.in_default.is (end_executes (flat_of c.loop-left.builder) c.args.operands.now c.args.guard c.loop-left.next c.loop-left.stores.items))
