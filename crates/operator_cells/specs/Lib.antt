@@ -1,0 +1,5 @@
+pub mod Making
+pub mod Dividing
+pub mod Joining
+pub mod Shifting
+pub mod Comparing
