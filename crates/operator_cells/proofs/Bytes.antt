@@ -11,7 +11,7 @@ use Rattle.xdp_machine.specs.Arithmetic.{low}
 use Rattle.cell_core.specs.Cells.{joined, bits_from}
 use Rattle.operator_cells.proofs.Numbers.{from_zero, low_same}
 
-bytes_power : (n : ℕ) → 256 ^ n ≡ 2 ^ (8 * n)
+pub bytes_power : (n : ℕ) → 256 ^ n ≡ 2 ^ (8 * n)
 bytes_power zero = refl
 bytes_power (suc n) =
     let more : 8 * n + 8 ≡ 8 * suc n = omega arith in
@@ -20,7 +20,7 @@ bytes_power (suc n) =
 little_cons : (n b : ℕ) (bs : List ℕ) → little_number (suc n) (b ∷ bs) ≡ b + 256 * little_number n bs
 little_cons n b bs = ap (λ (k : ℕ). b + 256 * k) (little_from-cons 0 n b bs)
 
-little_below : (v : ℕ → ℕ) (bytes : List ℕ) → All (λ i. v i < 256) bytes → little_number (length bytes) (map_list v bytes) < 256 ^ length bytes
+pub little_below : (v : ℕ → ℕ) (bytes : List ℕ) → All (λ i. v i < 256) bytes → little_number (length bytes) (map_list v bytes) < 256 ^ length bytes
 little_below v [] all = omega arith
 little_below v (b ∷ bs) all = omega (arith, little_cons (length bs) (v b) (map_list v bs), little_below v bs (λ i d l. all (suc i) d (omega arith)), all 0 b (omega arith), pow-suc 256 (length bs))
 

@@ -8,3 +8,4 @@ pub mod Edges
 pub mod Bytes
 pub mod Division
 pub mod SignedDivision
+pub mod Spread

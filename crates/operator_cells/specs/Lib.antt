@@ -2,4 +2,5 @@ pub mod Making
 pub mod Dividing
 pub mod Joining
 pub mod Shifting
+pub mod Spreading
 pub mod Comparing

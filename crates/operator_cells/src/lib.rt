@@ -13,4 +13,5 @@ pub mod laws;
 pub mod leaving;
 pub mod shifting;
 pub mod slicing;
+pub mod spreading;
 pub mod working;
