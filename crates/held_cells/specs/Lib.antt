@@ -1,0 +1,5 @@
+pub mod Held
+pub mod Carrying
+pub mod Paths
+pub mod Steps
+pub mod Law

@@ -1,0 +1,24 @@
+//! Numbers as operands.
+
+ghost use Rattle.std.specs.Prelude.{◌≡◌, ◌<◌, length, IfOk};
+ghost use Rattle.operator_cells.specs.Making.{seen, Makes};
+ghost use Rattle.held_cells.specs.Held.{number_of, IsThere};
+
+use cell_core::cell::Cell;
+use kind_core::Number;
+use operator_cells::cells::constant;
+use std::alloc::AllocError;
+
+/// The cell of a number: of one that is known a constant, else the one that holds it.
+pub fn number_cell(cells: &mut Vec<Cell>, number: Number, held: u32) -> Result<u32, AllocError>
+    requires { IsThere (length (seen cells.old.items)) number held }
+    ensures { IfOk result (λ c. Makes (seen cells.old.items) (seen cells.new.items) c (λ packet v. number_of v number held)) }
+{
+    match number {
+        Number::Known(n) => {
+            let c = constant(cells, n, 64)?;
+            Ok(c)
+        }
+        Number::Unknown => Ok(held),
+    }
+}

@@ -1,0 +1,145 @@
+-- One cell more, and more of them.
+use Rattle.std.proofs.Common.{◌≡◌, ℕ, ◌+◌, ◌<◌, ◌≤◌, ◌⊎◌, inl, inr, true, false, List, [], ◌∷◌, ◌++◌, length, get_or, length-append, refl, sym, ◌∙◌, ap, subst, arith}
+use Rattle.std.specs.Prelude.{slice_index, All}
+use Rattle.std.proofs.Math.ListN.{get_or-append}
+use Rattle.std.proofs.Math.Seq.{get_or-append_seam}
+use Rattle.std.proofs.lemmas.Bool.{cases_lt}
+use Rattle.std.proofs.lemmas.List.{length-map, get_or-map}
+use Rattle.xdp_machine.specs.State.{PacketIn}
+use Rattle.cell_core.specs.declared.cell.Cell.{Cell}
+use Rattle.cell_core.specs.declared.operator.Operator.{Operator}
+use Rattle.cell_core.specs.Cells.{CellView, IsRun, no_cell, cell_at, is_read, value, Solves_as}
+use Rattle.cell_core.specs.Formed.{AreFormed, IsFormed, IsSome, takes, divides, IsInRange}
+use Rattle.cell_core.specs.View.{cell_of}
+use Rattle.operator_cells.specs.Making.{seen, Adds, Grows, Makes, operated}
+
+pub old-cell : (cells : List CellView) (cell : CellView) (k : ℕ) → k < length cells → cell_at (cells ++ cell ∷ []) k ≡ cell_at cells k
+old-cell cells cell k h = get_or-append cells (cell ∷ []) no_cell k h
+
+pub new-cell : (cells : List CellView) (cell : CellView) → cell_at (cells ++ cell ∷ []) (length cells) ≡ cell
+new-cell cells cell = get_or-append_seam cells cell [] no_cell
+
+one-longer : (cells : List CellView) (cell : CellView) → length (cells ++ cell ∷ []) ≡ length cells + 1
+one-longer cells cell = length-append cells (cell ∷ [])
+
+-- a cell that may stand behind others
+pub record IsNext (cells : List CellView) (cell : CellView) : Type 0 where
+  pub earlier : All (λ i. i < length cells) cell.ins
+  pub enough : takes cell.op ≤ length cell.ins
+  pub in_range : IsInRange cell.op
+  pub width : cell.width ≤ 64
+  pub from : cell.from ≤ 63
+  pub divisor : AreFormed cells → divides cell.op ≡ true → (slice_index cell.ins 1 < length cells) × IsSome cells (slice_index cell.ins 1)
+
+some-stays : (cells : List CellView) (cell : CellView) (d : ℕ) → AreFormed cells → d < length cells → IsSome cells d → IsSome (cells ++ cell ∷ []) d
+some-stays cells cell d formed h some = let e = old-cell cells cell d h in record {
+  op = ap (λ (c : CellView). c.op) e ∙ some.op;
+  from = ap (λ (c : CellView). c.from) e ∙ some.from;
+  wide = subst (λ (c : CellView). 1 ≤ c.width) (sym e) some.wide;
+  fits = let i : ℕ = slice_index (cell_at cells d).ins 0 in
+      let same : slice_index (cell_at (cells ++ cell ∷ []) d).ins 0 ≡ i = ap (λ (c : CellView). slice_index c.ins 0) e in
+      let enough : 1 ≤ length (cell_at cells d).ins = subst (λ (op : Operator). takes op ≤ length (cell_at cells d).ins) some.op (formed.each d h).enough in
+      let inside : i < length cells = omega (arith, h, (formed.each d h).earlier 0 0 (omega (arith, enough))) in
+      let f = old-cell cells cell i inside in
+      subst (λ (j : ℕ). (cell_at (cells ++ cell ∷ []) j).width ≤ (cell_at (cells ++ cell ∷ []) d).width) (sym same)
+      (subst (λ (c : CellView). c.width ≤ (cell_at (cells ++ cell ∷ []) d).width) (sym f)
+      (subst (λ (c : CellView). (cell_at cells i).width ≤ c.width) (sym e) some.fits));
+}
+
+formed-old : (cells : List CellView) (cell : CellView) (k : ℕ) → AreFormed cells → k < length cells → IsFormed (cells ++ cell ∷ []) k
+formed-old cells cell k formed h = let e = old-cell cells cell k h in let f = formed.each k h in record {
+  earlier = subst (λ (c : CellView). All (λ i. i < k) c.ins) (sym e) f.earlier;
+  enough = subst (λ (c : CellView). takes c.op ≤ length c.ins) (sym e) f.enough;
+  in_range = subst (λ (c : CellView). IsInRange c.op) (sym e) f.in_range;
+  width = subst (λ (c : CellView). c.width ≤ 64) (sym e) f.width;
+  from = subst (λ (c : CellView). c.from ≤ 63) (sym e) f.from;
+  divisor = subst (λ (c : CellView). divides c.op ≡ true → IsSome (cells ++ cell ∷ []) (slice_index c.ins 1)) (sym e)
+      (λ t. some-stays cells cell (slice_index (cell_at cells k).ins 1) formed (below t) (f.divisor t));
+}
+  where
+    two : (op : Operator) → divides op ≡ true → 2 ≤ takes op
+    two Operator.Quotient t = omega arith
+    two Operator.Remainder t = omega arith
+    two op t = absurd (cc)
+
+    below : divides (cell_at cells k).op ≡ true → slice_index (cell_at cells k).ins 1 < length cells
+    below t = omega (arith, h, (formed.each k h).earlier 1 0 (omega (arith, two (cell_at cells k).op t, (formed.each k h).enough)))
+
+formed-new : (cells : List CellView) (cell : CellView) → AreFormed cells → IsNext cells cell → IsFormed (cells ++ cell ∷ []) (length cells)
+formed-new cells cell formed n = let e = new-cell cells cell in record {
+  earlier = subst (λ (c : CellView). All (λ i. i < length cells) c.ins) (sym e) n.earlier;
+  enough = subst (λ (c : CellView). takes c.op ≤ length c.ins) (sym e) n.enough;
+  in_range = subst (λ (c : CellView). IsInRange c.op) (sym e) n.in_range;
+  width = subst (λ (c : CellView). c.width ≤ 64) (sym e) n.width;
+  from = subst (λ (c : CellView). c.from ≤ 63) (sym e) n.from;
+  divisor = subst (λ (c : CellView). divides c.op ≡ true → IsSome (cells ++ cell ∷ []) (slice_index c.ins 1)) (sym e)
+      (λ t. let d = n.divisor formed t in some-stays cells cell (slice_index cell.ins 1) formed d.0 d.1);
+}
+
+pub grows_one : (cells : List CellView) (cell : CellView) → IsNext cells cell → Grows cells (cells ++ cell ∷ [])
+grows_one cells cell n = record {
+  longer = omega (arith, one-longer cells cell);
+  formed = λ formed. record { each = λ k h. by formed k (cases_lt k (length cells)) h };
+  run = λ packet v r. record { each = λ k h. subst (λ (c : CellView). Solves_as (is_read c.op) packet v c (v k)) (old-cell cells cell k h) (r.each k (omega (arith, one-longer cells cell, h))) };
+}
+  where
+    by : AreFormed cells → (k : ℕ) → (k < length cells) ⊎ (length cells ≤ k) → k < length (cells ++ cell ∷ []) → IsFormed (cells ++ cell ∷ []) k
+    by formed k (inl l) h = formed-old cells cell k formed l
+    by formed k (inr l) h =
+        let is : length cells ≡ k = omega (arith, l, h, one-longer cells cell) in
+        subst (λ (j : ℕ). IsFormed (cells ++ cell ∷ []) j) is (formed-new cells cell formed n)
+
+pub makes_one : (cells : List CellView) (cell : CellView) → IsNext cells cell → is_read cell.op ≡ false
+    → Makes cells (cells ++ cell ∷ []) (length cells) (operated cell.op cell.ins cell.from cell.width)
+makes_one cells cell n plain = record {
+  grows = grows_one cells cell n;
+  there = omega (arith, one-longer cells cell);
+  value = λ packet v r. solved packet v (subst (λ (c : CellView). Solves_as (is_read c.op) packet v c (v (length cells))) (new-cell cells cell) (r.each (length cells) (omega (arith, one-longer cells cell))));
+}
+  where
+    solved : (packet : PacketIn) (v : ℕ → ℕ) → Solves_as (is_read cell.op) packet v cell (v (length cells)) → v (length cells) ≡ value packet v cell
+    solved packet v h = rw plain at h
+
+-- a cell that was added
+pub added_makes : (old new : List CellView) (c : ℕ) (cell : CellView) → Adds old new c cell → IsNext old cell → is_read cell.op ≡ false
+    → Makes old new c (operated cell.op cell.ins cell.from cell.width)
+added_makes old new c cell adds n plain = subst (λ (j : ℕ). Makes old new j (operated cell.op cell.ins cell.from cell.width)) (sym adds.at)
+    (subst (λ (cells : List CellView). Makes old cells (length old) (operated cell.op cell.ins cell.from cell.width)) (sym adds.is) (makes_one old cell n plain))
+
+pub grown : (a b c : List CellView) → Grows a b → Grows b c → Grows a c
+grown a b c g h = record {
+  longer = omega (arith, g.longer, h.longer);
+  formed = λ f. h.formed (g.formed f);
+  run = λ packet v r. g.run packet v (h.run packet v r);
+}
+
+pub grown_none : (a : List CellView) → Grows a a
+grown_none a = record { longer = omega arith; formed = λ f. f; run = λ packet v r. r }
+
+pub seen_more : (cells : List Cell) (x : Cell) → seen (cells ++ x ∷ []) ≡ seen cells ++ cell_of x ∷ []
+unfolding seen
+seen_more [] x = refl
+seen_more (y ∷ cells) x = ap (λ (cs : List CellView). cell_of y ∷ cs) (seen_more cells x)
+
+pub seen_length : (cells : List Cell) → length (seen cells) ≡ length cells
+unfolding seen
+seen_length cells = length-map cells cell_of
+
+pub pushed_adds : (cells more : List Cell) (x : Cell) (cell : CellView) (at : ℕ) → more ≡ cells ++ x ∷ [] → cell_of x ≡ cell → at ≡ length cells → Adds (seen cells) (seen more) at cell
+pushed_adds cells more x cell at e is n = record {
+  is = ap seen e ∙ seen_more cells x ∙ ap (λ (c : CellView). seen cells ++ c ∷ []) is;
+  at = n ∙ sym (seen_length cells);
+}
+
+-- cells behind others that were added before
+pub makes_after : (a b d : List CellView) (c : ℕ) (f g : PacketIn → (ℕ → ℕ) → ℕ) → Grows a b → Makes b d c f
+    → ((packet : PacketIn) (v : ℕ → ℕ) → IsRun packet b v → f packet v ≡ g packet v) → Makes a d c g
+makes_after a b d c f g before made same = record {
+  grows = grown a b d before made.grows;
+  there = made.there;
+  value = λ packet v r. made.value packet v r ∙ same packet v (made.grows.run packet v r);
+}
+
+pub seen_at : (cells : List Cell) (k : ℕ) (d : Cell) → k < length cells → cell_at (seen cells) k ≡ cell_of (get_or cells k d)
+unfolding seen
+seen_at cells k d h = get_or-map cell_of cells k d no_cell h

@@ -1,0 +1,11 @@
+pub mod Growing
+pub mod Numbers
+pub mod Conditions
+pub mod Shifts
+pub mod SignedShifts
+pub mod Arms
+pub mod Edges
+pub mod Bytes
+pub mod Division
+pub mod SignedDivision
+pub mod Spread

@@ -1,0 +1,121 @@
+-- What operators on 64 bits are on w.
+use Rattle.std.proofs.Common.{◌≡◌, ℕ, ◌+◌, ◌-◌, ◌*◌, ◌%◌, ◌^◌, ◌<◌, ◌≤◌, Bool, true, false, List, [], ◌∷◌, length, refl, ◌∙◌, ap, arith}
+use Rattle.std.specs.Int.Bits.{and_lt}
+use Rattle.std.proofs.lemmas.Nat.{mod_below, pow_pos, or_lt, xor_lt}
+use Rattle.std.proofs.Math.Nat.{div-one, mod-eq_of_lt, pow-le-pow_right}
+use Rattle.bpf_isa.specs.declared.operation.Width.{Width}
+use Rattle.bpf_isa.specs.declared.operation.Width.TheVariants.{Bits32, Bits64}
+use Rattle.bpf_isa.specs.declared.operation.AluCode.{AluCode}
+use Rattle.bpf_isa.specs.declared.operation.AluCode.TheVariants as alu
+use Rattle.xdp_machine.specs.Arithmetic.{bits_in, low, arithmetic, negated}
+use Rattle.xdp_machine.specs.State.{PacketIn}
+use Rattle.cell_core.specs.declared.operator.Operator.TheVariants as op
+use Rattle.cell_core.specs.Cells.{CellView, IsRun, cell_at, number, bits_from, is_read}
+use Rattle.cell_core.specs.CellLaws.{ValuesFit}
+use Rattle.cell_core.specs.Formed.{AreFormed, takes, divides, IsInRange}
+use Rattle.operator_cells.specs.Making.{operator_of, is_one}
+
+pub from_zero : (n w : ℕ) → bits_from n 0 w ≡ low w n
+from_zero n w = ap (λ (k : ℕ). k % 2 ^ w) (div-one n)
+
+pub low_same : (w n : ℕ) → n < 2 ^ w → low w n ≡ n
+low_same w n h = mod-eq_of_lt {n = n} {m = 2 ^ w} h
+
+pub low_below : (w n : ℕ) → low w n < 2 ^ w
+low_below w n = mod_below n (2 ^ w) (pow_pos w)
+
+-- 32 or 64 bits are among 64
+pub in_64 : (w : Width) (n : ℕ) → n < 2 ^ bits_in w → n < 2 ^ 64
+in_64 Bits32 n h = omega (arith, h)
+in_64 Bits64 n h = h
+
+narrow : (n : ℕ) → n % 2 ^ 64 % 2 ^ 32 ≡ n % 2 ^ 32
+narrow n = omega arith
+
+less : (p q : ℕ) → q < 2 ^ 32 → (p + (2 ^ 64 - q)) % 2 ^ 64 % 2 ^ 32 ≡ (p + (2 ^ 32 - q)) % 2 ^ 32
+less p q h = omega (arith, h)
+
+one_32 : (c : AluCode) (signed : Bool) (p q : ℕ) → is_one c ≡ true → p < 2 ^ 32 → q < 2 ^ 32 → low 32 (arithmetic c false 64 p q) ≡ arithmetic c signed 32 p q
+one_32 alu.Add signed p q t h g = narrow (p + q)
+one_32 alu.Sub signed p q t h g = less p q g
+one_32 alu.Mul signed p q t h g = narrow (p * q)
+one_32 alu.Or signed p q t h g = low_same 32 _ (or_lt 32 p q h g)
+one_32 alu.And signed p q t h g = low_same 32 _ (and_lt 32 p q h g)
+one_32 alu.Xor signed p q t h g = low_same 32 _ (xor_lt 32 p q h g)
+one_32 c signed p q t h g = absurd (cc)
+
+one_64 : (c : AluCode) (signed : Bool) (p q : ℕ) → is_one c ≡ true → p < 2 ^ 64 → q < 2 ^ 64 → low 64 (arithmetic c false 64 p q) ≡ arithmetic c signed 64 p q
+one_64 alu.Add signed p q t h g = low_same 64 _ (low_below 64 _)
+one_64 alu.Sub signed p q t h g = low_same 64 _ (low_below 64 _)
+one_64 alu.Mul signed p q t h g = low_same 64 _ (low_below 64 _)
+one_64 alu.Or signed p q t h g = low_same 64 _ (or_lt 64 p q h g)
+one_64 alu.And signed p q t h g = low_same 64 _ (and_lt 64 p q h g)
+one_64 alu.Xor signed p q t h g = low_same 64 _ (xor_lt 64 p q h g)
+one_64 c signed p q t h g = absurd (cc)
+
+one_is : (w : Width) (c : AluCode) (signed : Bool) (p q : ℕ) → is_one c ≡ true → p < 2 ^ bits_in w → q < 2 ^ bits_in w
+    → low (bits_in w) (arithmetic c false 64 p q) ≡ arithmetic c signed (bits_in w) p q
+one_is Bits32 c signed p q t h g = one_32 c signed p q t h g
+one_is Bits64 c signed p q t h g = one_64 c signed p q t h g
+
+operator_number : (packet : PacketIn) (c : AluCode) (p q : ℕ) → is_one c ≡ true → number packet (operator_of c) (p ∷ q ∷ []) ≡ arithmetic c false 64 (low 64 p) (low 64 q)
+operator_number packet alu.Add p q t = refl
+operator_number packet alu.Sub p q t = refl
+operator_number packet alu.Mul p q t = refl
+operator_number packet alu.Or p q t = refl
+operator_number packet alu.And p q t = refl
+operator_number packet alu.Xor p q t = refl
+operator_number packet c p q t = absurd (cc)
+
+-- one operator on two numbers of w bits
+pub operated_one : (packet : PacketIn) (w : Width) (c : AluCode) (signed : Bool) (p q : ℕ) → is_one c ≡ true → p < 2 ^ bits_in w → q < 2 ^ bits_in w
+    → bits_from (number packet (operator_of c) (p ∷ q ∷ [])) 0 (bits_in w) ≡ arithmetic c signed (bits_in w) p q
+operated_one packet w c signed p q t h g =
+    from_zero (number packet (operator_of c) (p ∷ q ∷ [])) (bits_in w)
+    ∙ ap (low (bits_in w)) (operator_number packet c p q t ∙ (ap (λ (n : ℕ). arithmetic c false 64 n (low 64 q)) (low_same 64 p (in_64 w p h)) ∙ ap (arithmetic c false 64 p) (low_same 64 q (in_64 w q g))))
+    ∙ one_is w c signed p q t h g
+
+pub operator_two : (c : AluCode) → takes (operator_of c) ≤ 2
+operator_two alu.Add = omega arith
+operator_two alu.Sub = omega arith
+operator_two alu.Mul = omega arith
+operator_two alu.Or = omega arith
+operator_two alu.Xor = omega arith
+operator_two c = omega arith
+
+pub operator_plain : (c : AluCode) → is_read (operator_of c) ≡ false
+operator_plain alu.Add = refl
+operator_plain alu.Sub = refl
+operator_plain alu.Mul = refl
+operator_plain alu.Or = refl
+operator_plain alu.Xor = refl
+operator_plain c = refl
+
+pub operator_undivided : (c : AluCode) → divides (operator_of c) ≡ false
+operator_undivided alu.Add = refl
+operator_undivided alu.Sub = refl
+operator_undivided alu.Mul = refl
+operator_undivided alu.Or = refl
+operator_undivided alu.Xor = refl
+operator_undivided c = refl
+
+pub operator_in_range : (c : AluCode) → IsInRange (operator_of c)
+operator_in_range alu.Add = tt
+operator_in_range alu.Sub = tt
+operator_in_range alu.Mul = tt
+operator_in_range alu.Or = tt
+operator_in_range alu.Xor = tt
+operator_in_range c = tt
+
+pub fits_64 : (packet : PacketIn) (cells : List CellView) (v : ℕ → ℕ) → ValuesFit → AreFormed cells → IsRun packet cells v → (a : ℕ) → a < length cells → v a < 2 ^ 64
+fits_64 packet cells v fit formed run a h = omega (arith, fit packet cells v run a h, pow-le-pow_right {n = 2} (omega arith) {i = (cell_at cells a).width} {j = 64} (formed.each a h).width)
+
+-- 0 less a number is the number with the other sign
+pub negated_is : (packet : PacketIn) (w : Width) (n nil x : ℕ) → nil ≡ bits_from 0 0 1 → x ≡ low (bits_in w) n → bits_from (number packet op.Sub (nil ∷ x ∷ [])) 0 (bits_in w) ≡ negated (bits_in w) n
+negated_is packet w n nil x e f =
+    let none : nil ≡ 0 = e ∙ from_zero 0 1 in
+    let plus : 0 + (2 ^ bits_in w - low (bits_in w) n) ≡ 2 ^ bits_in w - low (bits_in w) n = omega arith in
+    ap (λ (k : ℕ). bits_from (number packet op.Sub (k ∷ x ∷ [])) 0 (bits_in w)) none
+    ∙ ap (λ (k : ℕ). bits_from (number packet op.Sub (0 ∷ k ∷ [])) 0 (bits_in w)) f
+    ∙ operated_one packet w alu.Sub false 0 (low (bits_in w) n) refl (pow_pos (bits_in w)) (low_below (bits_in w) n)
+    ∙ ap (low (bits_in w)) plus

@@ -1,0 +1,13 @@
+use Rattle.std.proofs.Common.{◌≡◌, sym, ◌∙◌, false, true}
+use Rattle.operator_cells.proofs.Growing.{added_makes}
+use Rattle.operator_cells.proofs.cells.operate.Goals as goal
+
+pub returns : goal.returns
+returns c = added_makes _ _ _ _ c.in_ok-c.ensures (record {
+  earlier = c.requires.earlier;
+  enough = c.requires.enough;
+  in_range = c.requires.in_range;
+  width = c.requires.width;
+  from = c.requires.from;
+  divisor = λ formed d. let e : true ≡ false = sym d ∙ c.requires.undivided in absurd cc;
+}) c.requires.plain

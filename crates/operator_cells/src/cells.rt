@@ -1,0 +1,107 @@
+// A cell more.
+
+ghost use Rattle.std.specs.Prelude.{ℕ, ◌≡◌, ◌<◌, ◌≤◌, false, [], ◌∷◌, length, All, IfOk};
+ghost use Rattle.cell_core.specs.Cells.{is_read};
+ghost use Rattle.cell_core.specs.Formed.{takes, divides, IsInRange, IsSome};
+ghost use Rattle.xdp_machine.specs.Arithmetic.{low};
+ghost use Rattle.operator_cells.specs.Making.{seen, Adds, Makes, operated};
+ghost use Rattle.operator_cells.specs.Dividing.{some, divided, divider};
+
+use cell_core::cell::Cell;
+use cell_core::operator::Operator;
+use smallvec::SmallVec;
+use std::alloc::AllocError;
+
+/// Adds a cell, and says which number it has.
+fn push(
+    cells: &mut Vec<Cell>,
+    op: Operator,
+    ins: &[u32],
+    from: u32,
+    width: u32,
+) -> Result<u32, AllocError>
+    ensures { IfOk result (λ c. Adds (seen cells.old.items) (seen cells.new.items) c (record { op = op; ins = ins.now; width = width; from = from })) }
+{
+    let Ok(at) = u32::try_from(cells.len()) else {
+        return Err(AllocError);
+    };
+    let ins = SmallVec::from_slice(*cells.allocator(), ins)?;
+    cells.push(Cell {
+        op,
+        ins,
+        width,
+        from,
+    })?;
+    Ok(at)
+}
+
+/// Adds a cell of an operator that reads no map and does not divide: so many bits of its number, from one on.
+pub fn operate(
+    cells: &mut Vec<Cell>,
+    op: Operator,
+    ins: &[u32],
+    from: u32,
+    width: u32,
+) -> Result<u32, AllocError>
+    requires earlier { All (λ i. i < length (seen cells.old.items)) ins.now }
+    requires enough { takes op ≤ length ins.now }
+    requires in_range { IsInRange op }
+    requires plain { is_read op ≡ false }
+    requires undivided { divides op ≡ false }
+    requires from { from ≤ 63 }
+    requires width { width ≤ 64 }
+    ensures { IfOk result (λ c. Makes (seen cells.old.items) (seen cells.new.items) c (operated op ins.now from width)) }
+{
+    let c = push(cells, op, ins, from, width)?;
+    Ok(c)
+}
+
+/// A number.
+pub fn constant(cells: &mut Vec<Cell>, n: u64, width: u32) -> Result<u32, AllocError>
+    requires { width ≤ 64 }
+    ensures { IfOk result (λ c. Makes (seen cells.old.items) (seen cells.new.items) c (operated (Operator.Constant n) [] 0 width)) }
+{
+    operate(cells, Operator::Constant(n), &[], 0, width)
+}
+
+/// So many bits of a cell's value, from one on.
+pub fn slice(cells: &mut Vec<Cell>, a: u32, from: u32, width: u32) -> Result<u32, AllocError>
+    requires there { a < length (seen cells.old.items) }
+    requires from { from ≤ 63 }
+    requires width { width ≤ 64 }
+    ensures { IfOk result (λ c. Makes (seen cells.old.items) (seen cells.new.items) c (operated Operator.Wire (a ∷ []) from width)) }
+{
+    operate(cells, Operator::Wire, &[a], from, width)
+}
+
+// The operator of a quotient or of a remainder.
+fn divider(rest: bool) -> Operator
+    ensures { result ≡ divider rest }
+{
+    if rest {
+        Operator::Remainder
+    } else {
+        Operator::Quotient
+    }
+}
+
+/// The quotient of two numbers, or the remainder, of so many bits; the divisor is cut to them, and 1 where it is 0. It is made once both
+/// numbers are there.
+pub fn divide_some(
+    cells: &mut Vec<Cell>,
+    rest: bool,
+    a: u32,
+    b: u32,
+    width: u32,
+) -> Result<u32, AllocError>
+    requires left { a < length (seen cells.old.items) }
+    requires right { b < length (seen cells.old.items) }
+    requires least { 1 ≤ width }
+    requires most { width ≤ 64 }
+    ensures { IfOk result (λ c. Makes (seen cells.old.items) (seen cells.new.items) c (λ packet v. low width (divided rest (low 64 (v a)) (some (low width (v b)))))) }
+{
+    let own = push(cells, Operator::Wire, &[b], 0, width)?;
+    let divisor = push(cells, Operator::NonZero, &[own, a], 0, width)?;
+    let c = push(cells, divider(rest), &[a, divisor], 0, width)?;
+    Ok(c)
+}

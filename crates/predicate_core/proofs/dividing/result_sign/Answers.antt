@@ -1,9 +1,0 @@
-use Rattle.std.proofs.Common.{refl}
-use Rattle.predicate_core.proofs.Growing.{grown_none}
-use Rattle.predicate_core.proofs.dividing.result_sign.Goals as goal
-
-pub returns-then-rest : goal.returns-then-rest
-returns-then-rest c = rw c.if-rest.true (record { grows = grown_none _; there = c.requires.left; value = λ packet v r. refl })
-
-pub returns : goal.returns
-returns c = rw c.if-rest.false c.in_ok-c.ensures

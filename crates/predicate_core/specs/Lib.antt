@@ -1,9 +1,0 @@
-pub mod Making
-pub mod Steps
-pub mod Dividing
-pub mod Joining
-pub mod Shifting
-pub mod Comparing
-pub mod Paths
-pub mod Held
-pub mod Law

@@ -1,0 +1,5 @@
+pub mod Growing
+pub mod Finding
+pub mod Yielding
+pub mod Known
+pub mod Carrying

@@ -1,0 +1,9 @@
+use Rattle.std.proofs.Common.{◌≡◌, Ok, IfOk, subst, List, ℕ}
+use Rattle.register_cells.specs.Giving.{given, given_kind}
+use Rattle.register_cells.proofs.Carrying.{carried_by}
+use Rattle.register_cells.proofs.registers.carry_computed.Goals as goal
+
+pub returns : goal.returns
+returns c = λ decls ps node is_ref allowed inside.
+    carried_by decls ps c.args.insn.now node is_ref c.args.kinds.now c.args.held.now _ _ c.in_ok-c.c c.requires.writes c.requires.insn.dst_register c.are_whole.ensures.registers c.are_whole.ensures.register_cells inside allowed
+    (λ refs. c.in_ok-c.ensures decls ps refs node is_ref inside)

@@ -1,0 +1,46 @@
+-- What instructions that write their destination put there.
+use Rattle.std.specs.Prelude.{ℕ, Bool, Option, Some, None, Result, Ok, List, unsigned_abs}
+use Rattle.bpf_isa.specs.declared.operation.Src.TheVariants.{X}
+use Rattle.bpf_isa.specs.declared.operation.Op.{Op}
+use Rattle.bpf_isa.specs.declared.operation.Op.TheVariants.{Alu, Neg, End, Swap, LoadImm, Load, LoadSigned}
+use Rattle.bpf_isa.specs.declared.instruction.Insn.{Insn}
+use Rattle.xdp_maps.specs.declared.decl.MapDecl.{MapDecl}
+use Rattle.xdp_machine.specs.Values.{Value, Number, number_in, ◌>>=◌}
+use Rattle.xdp_machine.specs.State.{Machine, register}
+use Rattle.xdp_machine.specs.Arithmetic.{bits_in, negated, ordered}
+use Rattle.xdp_machine.specs.Pointers.{combined}
+use Rattle.xdp_machine.specs.Memory.{loaded_plain, loaded_signed}
+use Rattle.xdp_machine.specs.Step as machine
+use Rattle.kind_core.specs.declared.kind.Kind.{Kind}
+use Rattle.kind_core.specs.declared.kind.Kinds.{Kinds}
+use Rattle.kind_core.specs.declared.why.Why.{Why}
+use Rattle.kind_core.specs.Kinds as kinds
+use Rattle.kind_core.specs.Access as kind
+use Rattle.kind_core.specs.Effects as effects
+use Rattle.kind_core.specs.Edges as edges
+
+-- a number, changed
+abbrev pub numbered : (ℕ → ℕ) → Value → Option Value
+numbered f x = number_in x >>= λ n. Some (Number (f n))
+
+-- the number in the destination, changed
+abbrev pub given_number : Machine → Insn → (ℕ → ℕ) → Option Value
+given_number m i f = numbered f (register m.registers i.dst)
+
+-- the value that goes into the destination
+abbrev pub given : List ℕ → Machine → Insn → Op → Option Value
+given refs m i (Alu w c s) = combined w c i.offset (register m.registers i.dst) (machine.operand m.registers i s)
+given refs m i (Neg w) = given_number m i (negated (bits_in w))
+given refs m i (End s) = given_number m i (ordered s (unsigned_abs i.imm))
+given refs m i Swap = given_number m i (ordered X (unsigned_abs i.imm))
+given refs m i LoadImm = machine.constant refs m.place i
+given refs m i (Load size) = loaded_plain m (register m.registers i.src) i.offset size
+given refs m i (LoadSigned size) = loaded_signed m (register m.registers i.src) i.offset size
+given refs m i op = None
+
+-- and its kind, where the instruction is allowed
+abbrev pub given_kind : Bool → List MapDecl → Kinds → Insn → Op → Result Kind Why
+given_kind is_ref decls k i LoadImm = Ok (edges.constant is_ref i.imm)
+given_kind is_ref decls k i (Load size) = kind.loaded_plain decls k (kinds.register k i.src) i.offset size
+given_kind is_ref decls k i (LoadSigned size) = kind.loaded_signed decls k (kinds.register k i.src) i.offset size
+given_kind is_ref decls k i op = effects.alu decls k i op

@@ -1,0 +1,7 @@
+//! The cells of instructions that read no map.
+#![tactic(auto)]
+
+pub mod computing;
+pub mod moving;
+pub mod registers;
+mod sizes;

@@ -1,0 +1,186 @@
+//! Arithmetic on values, pointers among them.
+
+ghost use Rattle.std.specs.Prelude.{◌≡◌, ◌<◌, ◌≤◌, ◌+◌, ◌-◌, ◌^◌, ◌⊎◌, length, ℕ, pos, List, Some, Ok, IfOk, unsigned_abs};
+ghost use Rattle.std.specs.Ordering.{int_eq};
+ghost use Rattle.xdp_maps.specs.declared.decl.MapDecl.{MapDecl};
+ghost use Rattle.xdp_machine.specs.Arithmetic.{low};
+ghost use Rattle.xdp_machine.specs.Pointers as machine;
+ghost use Rattle.xdp_machine.specs.Values.{Value};
+ghost use Rattle.kind_core.specs.Pointers as kind;
+ghost use Rattle.kind_core.specs.Kinds as kinds;
+ghost use Rattle.cell_core.specs.Formed.{AreFormed};
+ghost use Rattle.operator_cells.specs.Making.{seen, Makes};
+ghost use Rattle.held_cells.specs.Held.{PointerView, Counts};
+ghost use Rattle.register_cells.specs.Reading.{HasNumber, Yields, place_of};
+ghost use Rattle.kind_core.specs.declared.kind.Kind.{Kind};
+
+use crate::computing::{compute, extended};
+use bpf_isa::{AluCode, Width};
+use cell_core::cell::Cell;
+use cell_core::operator::Operator;
+use kind_core::{Kind, Number};
+use operator_cells::cells::{constant, operate};
+use operator_cells::slicing::copy;
+use operator_cells::working::combine;
+use std::alloc::AllocError;
+
+// Where a pointer into the packet leads, or its end.
+fn place(cells: &mut Vec<Cell>, kind: Kind) -> Result<u32, AllocError>
+    ensures { IfOk result (λ c. Makes (seen cells.old.items) (seen cells.new.items) c (λ packet v. low 64 (place_of packet kind))) }
+{
+    match kind {
+        Kind::Packet(o) => {
+            let c = constant(cells, u64::from(o), 64)?;
+            Ok(c)
+        }
+        _ => {
+            let c = operate(cells, Operator::Length, &[], 0, 64)?;
+            Ok(c)
+        }
+    }
+}
+
+// The distance of two places in the packet.
+fn distance(cells: &mut Vec<Cell>, a: Kind, b: Kind) -> Result<u32, AllocError>
+    requires formed { AreFormed (seen cells.old.items) }
+    ensures { IfOk result (λ c. Makes (seen cells.old.items) (seen cells.new.items) c (λ packet v. low 64 (low 64 (place_of packet a) + (2 ^ 64 - low 64 (place_of packet b))))) }
+{
+    let to = place(cells, a)?;
+    let from = place(cells, b)?;
+    let c = combine(cells, AluCode::Sub, Width::Bits64, to, from)?;
+    Ok(c)
+}
+
+// ADD of 64 bits: a pointer that is moved has the pointer's cells.
+fn sum(cells: &mut Vec<Cell>, a: Kind, p: u32, b: Kind, q: u32) -> Result<u32, AllocError>
+    requires formed { AreFormed (seen cells.old.items) }
+    requires left { HasNumber (length (seen cells.old.items)) a p }
+    requires right { HasNumber (length (seen cells.old.items)) b q }
+    ensures { (decls : List MapDecl) (ps : List PointerView) → Counts decls (length (seen cells.old.items)) ps a p → Counts decls (length (seen cells.old.items)) ps b q → IfOk (kind.sum decls a b) (λ x. IfOk result (λ c. Yields decls ps a p b q (seen cells.old.items) (seen cells.new.items) x c (λ s t. machine.sum s t))) }
+{
+    match a {
+        Kind::Num(x) => match b {
+            Kind::Num(y) => {
+                let c = compute(cells, AluCode::Add, false, Width::Bits64, x, p, y, q)?;
+                Ok(c)
+            }
+            _ => Ok(q),
+        },
+        _ => Ok(p),
+    }
+}
+
+// SUB of 64 bits.
+fn difference(cells: &mut Vec<Cell>, a: Kind, p: u32, b: Kind, q: u32) -> Result<u32, AllocError>
+    requires formed { AreFormed (seen cells.old.items) }
+    requires left { HasNumber (length (seen cells.old.items)) a p }
+    requires right { HasNumber (length (seen cells.old.items)) b q }
+    ensures { (decls : List MapDecl) (ps : List PointerView) → Counts decls (length (seen cells.old.items)) ps a p → Counts decls (length (seen cells.old.items)) ps b q → IfOk (kind.difference decls a b) (λ x. IfOk result (λ c. Yields decls ps a p b q (seen cells.old.items) (seen cells.new.items) x c (λ s t. machine.difference s t))) }
+{
+    match b {
+        Kind::Num(y) => match a {
+            Kind::Num(x) => {
+                let c = compute(cells, AluCode::Sub, false, Width::Bits64, x, p, y, q)?;
+                Ok(c)
+            }
+            _ => Ok(p),
+        },
+        _ => {
+            let c = distance(cells, a, b)?;
+            Ok(c)
+        }
+    }
+}
+
+// MOV: what is copied whole stays as wide as it is.
+fn copied(
+    cells: &mut Vec<Cell>,
+    width: Width,
+    count: u32,
+    b: Kind,
+    q: u32,
+) -> Result<u32, AllocError>
+    requires formed { AreFormed (seen cells.old.items) }
+    requires there { HasNumber (length (seen cells.old.items)) b q }
+    requires count { count ≤ 32 }
+    ensures { (decls : List MapDecl) (ps : List PointerView) (a : Kind) (p : ℕ) → Counts decls (length (seen cells.old.items)) ps b q → IfOk (kind.copied width count b) (λ x. IfOk result (λ c. Yields decls ps a p b q (seen cells.old.items) (seen cells.new.items) x c (λ s t. machine.copied width count t))) }
+{
+    match b {
+        Kind::Num(Number::Unknown) if width == Width::Bits64 && count == 0 => {
+            let c = copy(cells, q)?;
+            Ok(c)
+        }
+        Kind::Num(y) => {
+            let c = extended(cells, width, count, y, q)?;
+            Ok(c)
+        }
+        _ => Ok(q),
+    }
+}
+
+// The other operations, which are on numbers.
+fn computed(
+    cells: &mut Vec<Cell>,
+    width: Width,
+    code: AluCode,
+    signed: bool,
+    a: Kind,
+    p: u32,
+    b: Kind,
+    q: u32,
+) -> Result<u32, AllocError>
+    requires formed { AreFormed (seen cells.old.items) }
+    requires left { HasNumber (length (seen cells.old.items)) a p }
+    requires right { HasNumber (length (seen cells.old.items)) b q }
+    ensures { (decls : List MapDecl) (ps : List PointerView) → IfOk (kind.computed width code signed a b) (λ x. IfOk result (λ c. Yields decls ps a p b q (seen cells.old.items) (seen cells.new.items) x c (λ s t. machine.computed width code signed s t))) }
+{
+    match a {
+        Kind::Num(x) => match b {
+            Kind::Num(y) => {
+                let c = compute(cells, code, signed, width, x, p, y, q)?;
+                Ok(c)
+            }
+            _ => Ok(0),
+        },
+        _ => Ok(0),
+    }
+}
+
+// Whether a division is signed, by the offset of its instruction.
+fn is_signed(offset: i16) -> bool
+    ensures { result ≡ int_eq offset (pos 1) }
+{
+    offset == 1
+}
+
+/// An arithmetic instruction with this offset.
+pub fn combined(
+    cells: &mut Vec<Cell>,
+    width: Width,
+    code: AluCode,
+    offset: i16,
+    a: Kind,
+    p: u32,
+    b: Kind,
+    q: u32,
+) -> Result<u32, AllocError>
+    requires formed { AreFormed (seen cells.old.items) }
+    requires left { HasNumber (length (seen cells.old.items)) a p }
+    requires right { HasNumber (length (seen cells.old.items)) b q }
+    requires offset { unsigned_abs offset ≤ 32 }
+    ensures { (decls : List MapDecl) (ps : List PointerView) → Counts decls (length (seen cells.old.items)) ps a p → Counts decls (length (seen cells.old.items)) ps b q → IfOk (kind.combined decls width code offset a b) (λ x. IfOk result (λ c. Yields decls ps a p b q (seen cells.old.items) (seen cells.new.items) x c (λ s t. machine.combined width code offset s t))) }
+{
+    let signed = is_signed(offset);
+    match code {
+        AluCode::Mov => copied(cells, width, u32::from(offset.unsigned_abs()), b, q),
+        AluCode::Add => match width {
+            Width::Bits64 => sum(cells, a, p, b, q),
+            Width::Bits32 => computed(cells, width, code, signed, a, p, b, q),
+        },
+        AluCode::Sub => match width {
+            Width::Bits64 => difference(cells, a, p, b, q),
+            Width::Bits32 => computed(cells, width, code, signed, a, p, b, q),
+        },
+        _ => computed(cells, width, code, signed, a, p, b, q),
+    }
+}

@@ -1,0 +1,162 @@
+//! Instructions that write their destination.
+
+ghost use Rattle.std.specs.Prelude.{◌≡◌, ◌≢◌, ◌<◌, ◌≤◌, true, false, ℕ, Bool, List, length, slice_index, IfOk, OnOk, unsigned_abs};
+ghost use Rattle.bpf_isa.specs.Spelling.{IsInsn};
+ghost use Rattle.xdp_machine.specs.Arithmetic.{bits_in, negated, ordered};
+ghost use Rattle.xdp_maps.specs.declared.decl.MapDecl.{MapDecl};
+ghost use Rattle.xdp_machine.specs.State.{register};
+ghost use Rattle.kind_core.specs.Effects.{operand, renumbered, alu, effect_of, verdict};
+ghost use Rattle.kind_core.specs.Numbers.{number_negated, number_ordered};
+ghost use Rattle.kind_core.specs.Profile.{writes_destination};
+ghost use Rattle.kind_core.specs.Tests.{passed};
+ghost use Rattle.cell_core.specs.Formed.{AreFormed};
+ghost use Rattle.operator_cells.specs.Making.{seen};
+ghost use Rattle.held_cells.specs.Held.{PointerView, AreInside};
+ghost use Rattle.held_cells.specs.Carrying.{Gives, Carries};
+ghost use Rattle.register_cells.specs.Giving.{given, given_kind, given_number};
+ghost use Rattle.bpf_isa.specs.Rules.{Allows};
+ghost use Rattle.bpf_isa.specs.declared.fields.Rule.TheVariants.{SwapBits};
+
+use crate::computing::{negated, ordered};
+use crate::moving::combined;
+use crate::sizes::are_whole;
+use bpf_isa::{AluCode, Insn, Op, Size, Src, Width};
+use cell_core::cell::Cell;
+use held_cells::held::Held;
+use kind_core::{Kind, Kinds, Number};
+use std::alloc::AllocError;
+
+// The kind of the second operand.
+fn operand(kinds: &Kinds, insn: &Insn, src: Src) -> Kind
+    requires { insn.now.src ≤ 10 }
+    ensures { result ≡ operand kinds.now insn.now src }
+{
+    match src {
+        Src::K => Kind::Num(Number::Known(insn.imm.cast_unsigned())),
+        Src::X => kinds.registers[insn.src as usize],
+    }
+}
+
+// What arithmetic with two operands gives.
+fn combine(
+    cells: &mut Vec<Cell>,
+    held: &Held,
+    kinds: &Kinds,
+    insn: &Insn,
+    width: Width,
+    code: AluCode,
+    src: Src,
+) -> Result<u32, AllocError>
+    requires insn { IsInsn insn.now }
+    requires op { insn.now.op ≡ Op.Alu width code src }
+    requires formed { AreFormed (seen cells.old.items) }
+    requires inside { (decls : List MapDecl) × (ps : List PointerView) × AreInside decls (length (seen cells.old.items)) ps held.now kinds.now }
+    ensures { (decls : List MapDecl) (ps : List PointerView) (refs : List ℕ) (node : ℕ) → AreInside decls (length (seen cells.old.items)) ps held.now kinds.now → IfOk (alu decls kinds.now insn.now (Op.Alu width code src)) (λ x. IfOk result (λ c. Gives decls ps node kinds.now held.now (seen cells.old.items) (seen cells.new.items) x c (λ m. given refs m insn.now (Op.Alu width code src)))) }
+{
+    let a = kinds.registers[insn.dst as usize];
+    let b = operand(kinds, insn, src);
+    let p = held.registers[insn.dst as usize];
+    let q = held.registers[insn.src as usize];
+    let c = combined(cells, width, code, insn.offset, a, p, b, q)?;
+    Ok(c)
+}
+
+// What the number in the destination with the other sign is.
+fn negate(
+    cells: &mut Vec<Cell>,
+    held: &Held,
+    kinds: &Kinds,
+    insn: &Insn,
+    width: Width,
+) -> Result<u32, AllocError>
+    requires dst { insn.now.dst ≤ 10 }
+    requires formed { AreFormed (seen cells.old.items) }
+    requires inside { (decls : List MapDecl) × (ps : List PointerView) × AreInside decls (length (seen cells.old.items)) ps held.now kinds.now }
+    ensures { (decls : List MapDecl) (ps : List PointerView) (node : ℕ) → IfOk (renumbered kinds.now insn.now (number_negated width)) (λ x. IfOk result (λ c. Gives decls ps node kinds.now held.now (seen cells.old.items) (seen cells.new.items) x c (λ m. given_number m insn.now (negated (bits_in width))))) }
+{
+    match kinds.registers[insn.dst as usize] {
+        Kind::Num(x) => {
+            let c = negated(cells, width, x, held.registers[insn.dst as usize])?;
+            Ok(c)
+        }
+        _ => Ok(0),
+    }
+}
+
+// The number in the destination with its low bytes in an order.
+fn order(
+    cells: &mut Vec<Cell>,
+    held: &Held,
+    kinds: &Kinds,
+    insn: &Insn,
+    end: Src,
+) -> Result<u32, AllocError>
+    requires dst { insn.now.dst ≤ 10 }
+    requires bits { Allows SwapBits insn.now.imm }
+    requires formed { AreFormed (seen cells.old.items) }
+    requires inside { (decls : List MapDecl) × (ps : List PointerView) × AreInside decls (length (seen cells.old.items)) ps held.now kinds.now }
+    ensures { (decls : List MapDecl) (ps : List PointerView) (node : ℕ) → IfOk (renumbered kinds.now insn.now (number_ordered end (unsigned_abs insn.now.imm))) (λ x. IfOk result (λ c. Gives decls ps node kinds.now held.now (seen cells.old.items) (seen cells.new.items) x c (λ m. given_number m insn.now (ordered end (unsigned_abs insn.now.imm))))) }
+{
+    match kinds.registers[insn.dst as usize] {
+        Kind::Num(x) => {
+            let c = ordered(
+                cells,
+                end,
+                insn.imm as u32,
+                x,
+                held.registers[insn.dst as usize],
+            )?;
+            Ok(c)
+        }
+        _ => Ok(0),
+    }
+}
+
+// What an instruction that is no load puts into its destination.
+fn give(cells: &mut Vec<Cell>, held: &Held, kinds: &Kinds, insn: &Insn) -> Result<u32, AllocError>
+    requires insn { IsInsn insn.now }
+    requires formed { AreFormed (seen cells.old.items) }
+    requires inside { (decls : List MapDecl) × (ps : List PointerView) × AreInside decls (length (seen cells.old.items)) ps held.now kinds.now }
+    requires plain { (size : Size) → (insn.now.op ≢ Op.Load size) × (insn.now.op ≢ Op.LoadSigned size) }
+    ensures { (decls : List MapDecl) (ps : List PointerView) (refs : List ℕ) (node : ℕ) (is_ref : Bool) → AreInside decls (length (seen cells.old.items)) ps held.now kinds.now → IfOk (given_kind is_ref decls kinds.now insn.now insn.now.op) (λ x. IfOk result (λ c. Gives decls ps node kinds.now held.now (seen cells.old.items) (seen cells.new.items) x c (λ m. given refs m insn.now insn.now.op))) }
+{
+    match insn.op {
+        Op::Alu(width, code, src) => {
+            let c = combine(cells, held, kinds, insn, width, code, src)?;
+            Ok(c)
+        }
+        Op::Neg(width) => {
+            let c = negate(cells, held, kinds, insn, width)?;
+            Ok(c)
+        }
+        Op::End(end) => {
+            let c = order(cells, held, kinds, insn, end)?;
+            Ok(c)
+        }
+        Op::Swap => {
+            let c = order(cells, held, kinds, insn, Src::X)?;
+            Ok(c)
+        }
+        _ => Ok(0),
+    }
+}
+
+/// An instruction that writes its destination, but for loads: its cells, and the destination's.
+pub fn carry_computed(
+    cells: &mut Vec<Cell>,
+    held: &mut Held,
+    kinds: &Kinds,
+    insn: &Insn,
+) -> Result<(), AllocError>
+    requires insn { IsInsn insn.now }
+    requires writes { writes_destination insn.now.op ≡ true }
+    requires formed { AreFormed (seen cells.old.items) }
+    requires inside { (decls : List MapDecl) × (ps : List PointerView) × AreInside decls (length (seen cells.old.items)) ps held.old kinds.now }
+    requires plain { (size : Size) → (insn.now.op ≢ Op.Load size) × (insn.now.op ≢ Op.LoadSigned size) }
+    ensures { (decls : List MapDecl) (ps : List PointerView) (node : ℕ) (is_ref : Bool) → verdict (effect_of decls kinds.now insn.now) ≡ passed → AreInside decls (length (seen cells.old.items)) ps held.old kinds.now → OnOk result (Carries decls ps insn.now node is_ref false kinds.now held.old held.new (seen cells.old.items) (seen cells.new.items)) }
+{
+    are_whole(held, kinds);
+    let c = give(cells, held, kinds, insn)?;
+    held.registers[insn.dst as usize] = c;
+    Ok(())
+}
