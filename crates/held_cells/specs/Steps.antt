@@ -49,8 +49,8 @@ pub record IsHere (g : GraphView) (packet : PacketIn) (v : ℕ → ℕ) (ps : Li
 
 -- edges and ends name cells that are there
 pub record AreMade (g : GraphView) (cells : List CellView) (ps : List PointerView) (ways : List Way) (exits : List Exit) : Type 0 where
-  pub ways : All (λ e. (e.bit < length cells) × AreInside g.decls (length cells) ps e.held e.kinds) ways
-  pub exits : All (λ x. (x.guard < length cells) × (x.held.target < length cells) × IsThere (length cells) x.verdict (slice_index x.held.registers 0)
+  pub each_way : All (λ e. (e.bit < length cells) × AreInside g.decls (length cells) ps e.held e.kinds) ways
+  pub each_exit : All (λ x. (x.guard < length cells) × (x.held.target < length cells) × IsThere (length cells) x.verdict (slice_index x.held.registers 0)
       × ((i : ℕ) → i < 256 → slice_index x.held.window i < length cells)) exits
 
 -- The reads of these sites, where their guards are on, answer as the maps after the operations before them do.
