@@ -1,0 +1,29 @@
+-- More cells.
+use Rattle.std.proofs.Common.{ℕ, List, arith}
+use Rattle.xdp_machine.specs.State.{PacketIn}
+use Rattle.cell_core.specs.Cells.{CellView}
+use Rattle.operator_cells.specs.Making.{Grows, Makes}
+use Rattle.held_cells.specs.declared.way.Way.{Way}
+use Rattle.edge_cells.specs.Meeting.{Picks}
+
+pub grown : {a b c : List CellView} → Grows a b → Grows b c → Grows a c
+grown g h = record {
+  longer = omega (arith, g.longer, h.longer);
+  formed = λ f. h.formed (g.formed f);
+  run = λ packet v r. g.run packet v (h.run packet v r);
+}
+
+pub grown_none : {a : List CellView} → Grows a a
+grown_none = record { longer = omega arith; formed = λ f. f; run = λ packet v r. r }
+
+pub makes_after : {a b d : List CellView} {c : ℕ} {f : PacketIn → (ℕ → ℕ) → ℕ} → Grows a b → Makes b d c f → Makes a d c f
+makes_after g m = record { grows = grown g m.grows; there = m.there; value = m.value }
+
+pub makes_before : {a b d : List CellView} {c : ℕ} {f : PacketIn → (ℕ → ℕ) → ℕ} → Makes a b c f → Grows b d → Makes a d c f
+makes_before m g = record { grows = grown m.grows g; there = omega (arith, m.there, g.longer); value = λ packet v r. m.value packet v (g.run packet v r) }
+
+pub picks_after : {a b d : List CellView} {here : List Way} {brings : (ℕ → ℕ) → Way → ℕ} {c : ℕ} → Grows a b → Picks b d here brings c → Picks a d here brings c
+picks_after g p = record { grows = grown g p.grows; there = p.there; value = p.value }
+
+pub picks_before : {a b d : List CellView} {here : List Way} {brings : (ℕ → ℕ) → Way → ℕ} {c : ℕ} → Picks a b here brings c → Grows b d → Picks a d here brings c
+picks_before p g = record { grows = grown p.grows g; there = omega (arith, p.there, g.longer); value = λ packet v d r. p.value packet v d (g.run packet v r) }

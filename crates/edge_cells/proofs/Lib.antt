@@ -1,0 +1,11 @@
+pub mod Growth
+pub mod Choices
+pub mod Extending
+pub mod Words
+pub mod Widened
+pub mod Arriving
+pub mod PartsMet
+pub mod Pointed
+pub mod Assembled
+pub mod Rows
+pub mod Tested

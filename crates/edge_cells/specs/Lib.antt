@@ -1,0 +1,4 @@
+pub mod Widening
+pub mod Meeting
+pub mod Joining
+pub mod Testing
