@@ -3,3 +3,4 @@ pub mod Units
 pub mod Fronts
 pub mod Laws
 pub mod TextLaws
+pub mod LaidLaws

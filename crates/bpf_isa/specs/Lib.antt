@@ -1,3 +1,4 @@
+pub mod Laid
 pub mod Opcode
 pub mod Rules
 pub mod Spelling

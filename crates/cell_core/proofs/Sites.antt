@@ -7,20 +7,11 @@ use Rattle.byteorder.specs.Endian.{little_bytes}
 use Rattle.xdp_maps.specs.State.{MapState}
 use Rattle.cell_core.specs.declared.site.Site.{Site}
 use Rattle.cell_core.specs.View.{site_of}
-use Rattle.bpf_isa.specs.declared.operation.Size.{Size}
-use Rattle.bpf_isa.specs.declared.operation.Size.TheVariants.{B, H, W, Dw}
-use Rattle.xdp_machine.specs.Memory.{bytes_in}
 use Rattle.cell_core.specs.Sites.{SiteView, site_at, no_site, spelled, bytes_of, records, operation_on, applied, after}
 use Rattle.cell_core.specs.Cells.{on}
 use Rattle.xdp_maps.specs.Operations.{operated}
 use Rattle.std.specs.Prelude.{if◌then◌else◌, ◌&&◌, ◌==◌, not}
 use Rattle.std.proofs.lemmas.Bool.{eqb-true}
-
-pub low_part : (size : Size) (n : ℕ) → take (bytes_in size) (little_bytes 8 n) ≡ little_bytes (bytes_in size) n
-low_part B n = refl
-low_part H n = refl
-low_part W n = refl
-low_part Dw n = refl
 
 pub spelled_length : (xs : List ℕ) → length (spelled xs) ≡ 8 * length xs
 spelled_length [] = refl

@@ -93,7 +93,7 @@ fn load(maps: &Maps, map: u32, key: &[u8], at: u32, size: Size) -> u64
 }
 
 /// A store of the low bytes of a number into the value under a key: 1 where the key is there, else 0.
-#[tactic(auto, using(crate::proofs::Sites::low_part))]
+#[tactic(auto, using(xdp_machine::proofs::SizeLaws::low_part))]
 fn store(maps: &mut Maps, map: u32, key: &[u8], at: u32, size: Size, n: u64) -> u64
     requires map { map < length maps.old.decls }
     requires key { length key.now ≡ (decl_at maps.old map).key }

@@ -18,8 +18,8 @@ use Rattle.cell_core.specs.Cells.{on, bit}
 use Rattle.cell_core.specs.Sites.{SiteView, ProgramView, site_at, records, operation_with}
 use Rattle.cell_core.specs.Rows.{numbers, taken_by}
 use Rattle.hazard_core.specs.Tables.{TableState, decl_of, table_at, used_count}
-use Rattle.hazard_core.specs.Held.{Pointer, Null, same_pointer, is_null, is_update, is_delete, Held, held_value, pointer_in, found_cell, answer_cell, read_cells, asked, asked_key, access_pointer, pointer_operand, writes_as, writes, update_pointer, slot_pointer, written_as, written_pointer, parts, is_pending, pending}
-use Rattle.hazard_core.specs.Overlay.{found_as, found_over, key_pointer_as, key_pointer, looks, found_pointer, value_as, value_over, value_under, entry_value, adds_key, takes_key, update_answer, delete_answer, where_some, answer_as, answer_over}
+use Rattle.hazard_core.specs.Held.{Pointer, Null, same_pointer, is_null, is_update, is_delete, Held, held_value, pointer_in, found_cell, answer_cell, read_cells, asked, asked_key, access_pointer, pointer_operand, writes_as, writes, adds_key, takes_key, update_pointer, slot_pointer, written_as, written_pointer, parts, is_pending, pending}
+use Rattle.hazard_core.specs.Overlay.{found_as, found_over, key_pointer_as, key_pointer, looks, found_pointer, value_as, value_over, value_under, entry_value, update_answer, delete_answer, where_some, answer_as, answer_over}
 use Rattle.hazard_core.specs.Keeping.{SameCell, AreAlike, LooksBelow, ReadsKeep}
 
 and_parts : (a b : Bool) → a && b ≡ true → (a ≡ true) × (b ≡ true)
@@ -149,13 +149,13 @@ module _ (p : ProgramView) (row : ℕ → ℕ) (r : ℕ) (t : TableState) (h g :
       ∙ ap (λ (q : Pointer). if writes p t.decls g i && same_pointer q under then value_as (asked t.decls h s) old else old) (written_same i b)
       ∙ ap (λ (op : Operation). if writes p t.decls g i && same_pointer (written_pointer p t g i) under then value_as op old else old) (asked_alike s (looks_below i b))
 
-  adds_same : (i : ℕ) → Below i → adds_key p t h i ≡ adds_key p t g i
+  adds_same : (i : ℕ) → Below i → adds_key p t.decls h i ≡ adds_key p t.decls g i
   adds_same i b =
       let s = site_at p.sites i in
       ap (λ (c : Bool). c && is_update s.act && is_null (pointer_in h (found_cell p.cells i))) (writes_same i b)
       ∙ ap (λ (q : Pointer). writes p t.decls g i && is_update s.act && is_null q) (found_same i b).pointer
 
-  takes_same : (i : ℕ) → Below i → takes_key p t h i ≡ takes_key p t g i
+  takes_same : (i : ℕ) → Below i → takes_key p t.decls h i ≡ takes_key p t.decls g i
   takes_same i b = ap (λ (c : Bool). c && is_delete (site_at p.sites i).act) (writes_same i b)
 
   count_same : (f k : ℕ → Bool) (xs : List ℕ) → AllByRecursion Below xs → ((i : ℕ) → Below i → f i ≡ k i) → count_by f xs ≡ count_by k xs
@@ -208,11 +208,11 @@ module _ (p : ProgramView) (row : ℕ → ℕ) (r : ℕ) (t : TableState) (h g :
       present : bit (not (is_null (key_pointer p t h before j))) ≡ bit (not (is_null (key_pointer p t g before j)))
       present = ap (λ (q : Pointer). bit (not (is_null q))) key
 
-      adds : count_by (adds_key p t h) before ≡ count_by (adds_key p t g) before
-      adds = count_same (adds_key p t h) (adds_key p t g) before all adds_same
+      adds : count_by (adds_key p t.decls h) before ≡ count_by (adds_key p t.decls g) before
+      adds = count_same (adds_key p t.decls h) (adds_key p t.decls g) before all adds_same
 
-      takes : count_by (takes_key p t h) before ≡ count_by (takes_key p t g) before
-      takes = count_same (takes_key p t h) (takes_key p t g) before all takes_same
+      takes : count_by (takes_key p t.decls h) before ≡ count_by (takes_key p t.decls g) before
+      takes = count_same (takes_key p t.decls h) (takes_key p t.decls g) before all takes_same
 
       used : ℕ
       used = used_count (table_at t s.map)
@@ -225,9 +225,9 @@ module _ (p : ProgramView) (row : ℕ → ℕ) (r : ℕ) (t : TableState) (h g :
           ap (λ (q : Pointer). where_some q (changed_at a.wide at (entry_value p t h before s.map q))) access
           ∙ ap (λ (bytes : List ℕ). where_some (access_pointer g s) (changed_at a.wide at bytes)) (entry_same before s.map (access_pointer g s) all)
       by act.Update (map.Update k v f) =
-          ap (λ (n : ℕ). cast_unsigned w64 (update_answer d.kind d (used + n) (count_by (takes_key p t h) before) (not (is_null (key_pointer p t h before j))) k f)) adds
-          ∙ ap (λ (n : ℕ). cast_unsigned w64 (update_answer d.kind d (used + count_by (adds_key p t g) before) n (not (is_null (key_pointer p t h before j))) k f)) takes
-          ∙ ap (λ (q : Pointer). cast_unsigned w64 (update_answer d.kind d (used + count_by (adds_key p t g) before) (count_by (takes_key p t g) before) (not (is_null q)) k f)) key
+          ap (λ (n : ℕ). cast_unsigned w64 (update_answer d.kind d (used + n) (count_by (takes_key p t.decls h) before) (not (is_null (key_pointer p t h before j))) k f)) adds
+          ∙ ap (λ (n : ℕ). cast_unsigned w64 (update_answer d.kind d (used + count_by (adds_key p t.decls g) before) n (not (is_null (key_pointer p t h before j))) k f)) takes
+          ∙ ap (λ (q : Pointer). cast_unsigned w64 (update_answer d.kind d (used + count_by (adds_key p t.decls g) before) (count_by (takes_key p t.decls g) before) (not (is_null q)) k f)) key
       by act.Update op = present
       by act.Delete op = ap (λ (q : Pointer). cast_unsigned w64 (delete_answer d.kind (not (is_null q)))) key
       by act.Lookup op = present

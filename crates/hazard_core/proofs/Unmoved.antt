@@ -17,8 +17,8 @@ use Rattle.cell_core.specs.declared.site.Act.TheVariants as act
 use Rattle.cell_core.specs.Cells.{bit}
 use Rattle.cell_core.specs.Sites.{SiteView, ProgramView, site_at, operation_as, bytes_of}
 use Rattle.hazard_core.specs.Tables.{Slot, TableState, decl_of, table_at, slot_at, used_count}
-use Rattle.hazard_core.specs.Held.{Pointer, Null, InSlot, Pending, same_pointer, is_null, Held, held_value, pointer_in, found_cell, asked, asked_key, access_pointer, writes, slot_pointer, written_as, written_pointer}
-use Rattle.hazard_core.specs.Overlay.{found_as, found_over, key_pointer_as, key_pointer, looks, found_pointer, value_as, value_over, value_under, entry_value, adds_key, takes_key, update_answer, delete_answer, where_some, answer_as, answer_over}
+use Rattle.hazard_core.specs.Held.{Pointer, Null, InSlot, Pending, same_pointer, is_null, Held, held_value, pointer_in, found_cell, asked, asked_key, access_pointer, writes, adds_key, takes_key, slot_pointer, written_as, written_pointer}
+use Rattle.hazard_core.specs.Overlay.{found_as, found_over, key_pointer_as, key_pointer, looks, found_pointer, value_as, value_over, value_under, entry_value, update_answer, delete_answer, where_some, answer_as, answer_over}
 use Rattle.hazard_core.specs.Marks.{Change, key_touched, entry_touched, presence_touched, touched_as, touches}
 use Rattle.hazard_core.specs.Changes.{with_tables, IsChange, finds_key, reads, Unmoved}
 
@@ -280,7 +280,7 @@ module _ (p : ProgramView) (t : TableState) (ts : List (List Slot)) (e : Change)
       by : (a : Act) → a ≡ s.act → reads a ≡ true → answer_as a (operation_as a key value flags second) p (with_tables t ts) h before j ≡ answer_as a (operation_as a key value flags second) p t h before j
       by act.Lookup is f = ap (λ x. bit (not (is_null x))) (key_by act.Lookup is f refl)
       by act.Delete is f = ap (λ x. cast_unsigned w64 (delete_answer d.kind (not (is_null x)))) (key_by act.Delete is f refl)
-      by act.Update is f = ap (cast_unsigned w64) (update_by is d.kind refl (count_by (adds_key p t h) before) (count_by (takes_key p t h) before))
+      by act.Update is f = ap (cast_unsigned w64) (update_by is d.kind refl (count_by (adds_key p t.decls h) before) (count_by (takes_key p t.decls h) before))
       by (act.Load at size) is f = ap (λ bytes. where_some under (number_at size at bytes)) (entry_by (act.Load at size) is refl)
       by (act.Atomic at a) is f = ap (λ bytes. where_some under (changed_at a.wide at bytes)) (entry_by (act.Atomic at a) is (ap (λ (z : Bool). z && entry_touched p t.decls h e under) f))
       by (act.Store at size) is f = cc

@@ -107,6 +107,13 @@ writes p decls h j =
     guard_on h (site_at p.sites j)
     && writes_as (site_at p.sites j).act (decl_of decls (site_at p.sites j).map).kind (held_value h (answer_cell p.cells j))
 
+-- how many keys a hash has: an update of a new key adds one, a delete takes one away
+abbrev pub adds_key : ProgramView → List MapDecl → Held → ℕ → Bool
+adds_key p decls h j = writes p decls h j && is_update (site_at p.sites j).act && is_null (pointer_in h (found_cell p.cells j))
+
+abbrev pub takes_key : ProgramView → List MapDecl → Held → ℕ → Bool
+takes_key p decls h j = writes p decls h j && is_delete (site_at p.sites j).act
+
 -- ---- the pointer of the entry that an operation writes
 -- an update of a key that was found writes there; of a new one it makes an entry
 abbrev pub update_pointer : ℕ → Pointer → Pointer

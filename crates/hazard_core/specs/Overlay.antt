@@ -17,7 +17,7 @@ use Rattle.cell_core.specs.declared.site.Act.TheVariants as act
 use Rattle.cell_core.specs.Cells.{bit}
 use Rattle.cell_core.specs.Sites.{ProgramView, site_at}
 use Rattle.hazard_core.specs.Tables.{Slot, TableState, decl_of, table_at, slot_at, used_count}
-use Rattle.hazard_core.specs.Held.{Pointer, Null, InSlot, same_pointer, is_null, is_update, is_delete, Held, pointer_in, found_cell, asked, asked_key, access_pointer, writes, slot_pointer, written_pointer}
+use Rattle.hazard_core.specs.Held.{Pointer, Null, InSlot, same_pointer, is_null, Held, asked, asked_key, access_pointer, writes, adds_key, takes_key, slot_pointer, written_pointer}
 
 -- ---- where a key is found
 abbrev pub found_as : Act → Pointer → Pointer → Pointer
@@ -71,13 +71,6 @@ value_under d slots other = replicate d.value 0
 abbrev pub entry_value : ProgramView → TableState → Held → List ℕ → ℕ → Pointer → List ℕ
 entry_value p t h before m under = fold (value_over p t h under) (value_under (decl_of t.decls m) (table_at t m) under) before
 
--- ---- how many keys a hash has: an own update of a new key adds one, an own delete takes one away
-abbrev pub adds_key : ProgramView → TableState → Held → ℕ → Bool
-adds_key p t h i = writes p t.decls h i && is_update (site_at p.sites i).act && is_null (pointer_in h (found_cell p.cells i))
-
-abbrev pub takes_key : ProgramView → TableState → Held → ℕ → Bool
-takes_key p t h i = writes p t.decls h i && is_delete (site_at p.sites i).act
-
 -- ---- what a site answers
 abbrev pub update_answer : MapKind → MapDecl → ℕ → ℕ → Bool → List ℕ → ℕ → ℤ
 update_answer Hash d plus minus present key flags = number_of (hash_refusal (d.cap + minus) plus present flags)
@@ -102,7 +95,7 @@ answer_as (act.Atomic at a) op p t h before j =
 answer_as act.Update (map.Update key value flags) p t h before j =
     let m = (site_at p.sites j).map in
     let d = decl_of t.decls m in
-    cast_unsigned w64 (update_answer d.kind d (used_count (table_at t m) + count_by (adds_key p t h) before) (count_by (takes_key p t h) before) (not (is_null (key_pointer p t h before j))) key flags)
+    cast_unsigned w64 (update_answer d.kind d (used_count (table_at t m) + count_by (adds_key p t.decls h) before) (count_by (takes_key p t.decls h) before) (not (is_null (key_pointer p t h before j))) key flags)
 answer_as act.Delete op p t h before j =
     cast_unsigned w64 (delete_answer (decl_of t.decls (site_at p.sites j).map).kind (not (is_null (key_pointer p t h before j))))
 answer_as a op p t h before j = bit (not (is_null (key_pointer p t h before j)))

@@ -1,4 +1,3 @@
-pub mod Parts
 pub mod Lists
 pub mod JoinLaws
 pub mod Order

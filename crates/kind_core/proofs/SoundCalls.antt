@@ -1,11 +1,12 @@
 -- Calls of helpers are sound.
-use Rattle.std.proofs.Common.{◌≡◌, ◌≢◌, map as map_list, ℕ, zero, suc, ◌+◌, ◌-◌, ◌/◌, ◌%◌, ◌^◌, ◌==◌, ◌<◌, ◌≤◌, ◌⊎◌, inl, inr, ℤ, pos, ◌+ℤ◌, Bool, true, false, cond, nat_le, nat_lt, refl, sym, ap, ◌∙◌, subst, arith, Option, Some, None, Result, Ok, Err, IfOk, List, [], ◌∷◌, length, get_or, drop, slice_get, is_some}
+use Rattle.std.proofs.Common.{◌≡◌, ◌≢◌, map as map_list, ℕ, zero, suc, ◌+◌, ◌-◌, ◌/◌, ◌%◌, ◌^◌, ◌==◌, ◌<◌, ◌≤◌, ◌⊎◌, inl, inr, ℤ, pos, ◌+ℤ◌, Bool, true, false, cond, nat_le, nat_lt, refl, sym, ap, ◌∙◌, subst, arith, Option, Some, None, Ok, Err, IfOk, List, [], ◌∷◌, length, get_or, drop, slice_get, is_some}
 use Rattle.std.specs.Prelude.{slice_range}
 use Rattle.std.specs.Ordering.{int_eq}
 use Rattle.std.specs.Int.{w64, cast_unsigned}
 use Rattle.std.specs.FinMap as map
 use Rattle.std.proofs.lemmas.Int.{ints}
 use Rattle.std.proofs.lemmas.List.{get_or-take, get_or-drop, length-take, length-drop, get_or-set_other}
+use Rattle.std.proofs.lemmas.Bool.{cases_Bool}
 use Rattle.std.proofs.lemmas.Bool.Decides.{nat_tests}
 use Rattle.xdp_maps.specs.declared.decl.MapDecl.{MapDecl}
 use Rattle.xdp_maps.specs.declared.decl.MapKind.{MapKind}
@@ -31,18 +32,17 @@ use Rattle.kind_core.specs.declared.helpers.Helper.{Helper}
 use Rattle.kind_core.specs.declared.effects.Effect.{Effect}
 use Rattle.kind_core.specs.declared.effects.Effect.TheVariants.{Lookup, Answered, Changed}
 use Rattle.kind_core.specs.declared.refinements.Refinement.TheVariants.{IsStale}
-use Rattle.kind_core.specs.declared.why.Why.{Why}
 use Rattle.kind_core.specs.declared.why.Why.TheVariants as why
 use Rattle.kind_core.specs.Kinds.{register, answering, key_in, value_in, hash_in, is_hash_kind, key_bytes, value_bytes, is_hash}
 use Rattle.kind_core.specs.Tests.{◌>>=◌, Test, passed, readable, number_in, one_number, all_numbers, within}
 use Rattle.kind_core.specs.Places.{in_packet}
-use Rattle.kind_core.specs.Calls.{row, helper_of, declared, region, plain, fits_argument, argument_fits, change_of, answer_of, called_as, called}
+use Rattle.kind_core.specs.Calls.{row, helper_of, declared, region, plain, fits_argument, argument_fits, change_of, called_as, called}
 use Rattle.kind_core.specs.Profile.{in_profile, keeps_stack_end, registers_read, profiled, known_helper}
 use Rattle.kind_core.specs.Effects.{effect_as, effect_of}
 use Rattle.kind_core.specs.Edges.{refined, refined_all, changed}
 use Rattle.kind_core.specs.Describes.{World, Describes, DescribesMachine, IsEntry}
 use Rattle.kind_core.specs.Soundness.{Stands, IsLater, IsNext, CallsAreSound}
-use Rattle.kind_core.proofs.Sound.{by_test, bind_ok, bind_passed, number_of, is_number}
+use Rattle.kind_core.proofs.Sound.{bind_ok, bind_passed, number_of, is_number}
 use Rattle.kind_core.proofs.SoundLoads.{within_is, in_packet_is}
 use Rattle.kind_core.proofs.MachineSteps.{inside_at}
 use Rattle.kind_core.proofs.MachineCalls.{bytes_there, packet_region, stack_region, lookup_there, after_update, after_delete, update_there, delete_there, redirect_there}
@@ -98,10 +98,10 @@ decl_there (d ∷ decls) (suc q) h = decl_there decls q (omega arith)
 
 declared_is : (decls : List MapDecl) (x : Kind) (q : ℕ) → declared decls x ≡ Ok q → (x ≡ MapRef q) × (q < length decls)
 declared_is decls (MapRef r) q e =
-    by_test (λ t. cond t (Ok r) (Err why.Argument) ≡ Ok q → (nat_lt r (length decls) ≡ t) → (MapRef r ≡ MapRef q) × (q < length decls)) (nat_lt r (length decls))
-    (λ h f g. let same : r ≡ q = cc in (ap MapRef same, subst (λ s. s < length decls) same (grind (arith, nat_tests))))
-    (λ h f g. cc)
-    e refl
+    (elim (nat_lt r (length decls)) as (λ t. cond t (Ok r) (Err why.Argument) ≡ Ok q → (nat_lt r (length decls) ≡ t) → (MapRef r ≡ MapRef q) × (q < length decls)) [
+      | true ↦ λ f g. let same : r ≡ q = cc in (ap MapRef same, subst (λ s. s < length decls) same (grind (arith, nat_tests)))
+      | false ↦ λ f g. cc
+    ]) e refl
 declared_is decls x q e = cc
 
 -- the map that R1 refers to
@@ -210,15 +210,15 @@ Leaves w k o e = (n : Machine) × (o ≡ Some n) × ((v : World) × IsNext w v �
 stale_kind : (w : World) (old new : MapState) (q : ℕ) → ((p : ℕ) (key : List ℕ) → p ≢ q → Present (contents_at old p) key → Present (contents_at new p) key)
     → (k : Kind) (v : Value) → Describes w old k v → Describes w new (refined (IsStale q) k) v
 stale_kind w old new q h (Maybe r n) v (before, gave, z) =
-    by_test (λ t. ((r == q) ≡ t) → Describes w new (cond t Stale (Maybe r n)) v) (r == q)
-    (λ e f. elim z [ inl y ↦ inl y | inr (key, there, y) ↦ inr (r, key, pos 0, y) ])
-    (λ e f. let other : r ≢ q = (λ g. grind (arith, nat_tests)) in (before, gave, elim z [ inl y ↦ inl y | inr (key, there, y) ↦ inr (key, h r key other there, y) ]))
-    refl
+    (elim (r == q) as (λ t. ((r == q) ≡ t) → Describes w new (cond t Stale (Maybe r n)) v) [
+      | true ↦ λ f. elim z [ inl y ↦ inl y | inr (key, there, y) ↦ inr (r, key, pos 0, y) ]
+      | false ↦ λ f. let other : r ≢ q = (λ g. grind (arith, nat_tests)) in (before, gave, elim z [ inl y ↦ inl y | inr (key, there, y) ↦ inr (key, h r key other there, y) ])
+    ]) refl
 stale_kind w old new q h (Entry r o) v (key, there, y) =
-    by_test (λ t. ((r == q) ≡ t) → Describes w new (cond t Stale (Entry r o)) v) (r == q)
-    (λ e f. inr (r, key, pos o, y))
-    (λ e f. let other : r ≢ q = (λ g. grind (arith, nat_tests)) in (key, h r key other there, y))
-    refl
+    (elim (r == q) as (λ t. ((r == q) ≡ t) → Describes w new (cond t Stale (Entry r o)) v) [
+      | true ↦ λ f. inr (r, key, pos o, y)
+      | false ↦ λ f. let other : r ≢ q = (λ g. grind (arith, nat_tests)) in (key, h r key other there, y)
+    ]) refl
 stale_kind w old new q h k v d = d
 
 stale_machine : (w : World) (k : Kinds) (m : Machine) (maps : MapState) (q : ℕ) → ((p : ℕ) (key : List ℕ) → p ≢ q → Present (contents_at m.maps p) key → Present (contents_at maps p) key)
@@ -260,12 +260,6 @@ delete_keeps Hash c key e other h = cc
 delete_keeps Array c key e other h = h
 
 -- ---- the rows of the table
-abbrev tail2 : List MapDecl → Kinds → Helper → Result Effect Why
-tail2 decls k h = argument_fits decls k h 2 >>= λ _. argument_fits decls k h 3 >>= λ _. argument_fits decls k h 4 >>= λ _. answer_of decls k h.answer
-
-abbrev tail1 : List MapDecl → Kinds → Helper → Result Effect Why
-tail1 decls k h = argument_fits decls k h 1 >>= λ _. tail2 decls k h
-
 null_or_entry : (maps : MapState) (q : ℕ) (key : List ℕ) (t : Bool) → is_some (lookup_of (contents_at maps q) key) ≡ t
     → (cond t (is.Entry q key (pos 0)) (is.Number 0) ≡ is.Number 0) ⊎ IsEntry maps q 0 (cond t (is.Entry q key (pos 0)) (is.Number 0))
 null_or_entry maps q key true h = inr (key, h, refl)
@@ -276,8 +270,8 @@ lookup_sound w k m st =
     let decls = m.maps.decls in
     let h = row Map Key Unused Unused Unused EntryOrNull in
     let P : Effect → Type 0 = Leaves w k (helpers.lookup m) in
-    bind_ok (argument_fits decls k h 0) (λ _. tail1 decls k h) P (λ u e.
-    bind_ok (argument_fits decls k h 1) (λ _. tail2 decls k h) P (λ u' e'.
+    bind_ok (argument_fits decls k h 0) _ P (λ u e.
+    bind_ok (argument_fits decls k h 1) _ P (λ u' e'.
     bind_ok (declared decls (register k 1)) (λ q. Ok (Lookup q)) P (λ q f.
     let r = refers w k m q st f in
     let key = key_there w k m q r 2 u' st e' in
@@ -298,10 +292,10 @@ update_sound w k m st =
     let decls = m.maps.decls in
     let h = row Map Key ValueBytes Plain Unused AfterChange in
     let P : Effect → Type 0 = Leaves w k (helpers.update m) in
-    bind_ok (argument_fits decls k h 0) (λ _. tail1 decls k h) P (λ u e.
-    bind_ok (argument_fits decls k h 1) (λ _. tail2 decls k h) P (λ u1 e1.
-    bind_ok (argument_fits decls k h 2) (λ _. argument_fits decls k h 3 >>= (λ _. argument_fits decls k h 4 >>= (λ _. answer_of decls k AfterChange))) P (λ u2 e2.
-    bind_ok (argument_fits decls k h 3) (λ _. argument_fits decls k h 4 >>= (λ _. answer_of decls k AfterChange)) P (λ u3 e3.
+    bind_ok (argument_fits decls k h 0) _ P (λ u e.
+    bind_ok (argument_fits decls k h 1) _ P (λ u1 e1.
+    bind_ok (argument_fits decls k h 2) _ P (λ u2 e2.
+    bind_ok (argument_fits decls k h 3) _ P (λ u3 e3.
     bind_ok (declared decls (register k 1)) (λ q. Ok (change_of decls q)) P (λ q f.
     let r = refers w k m q st f in
     let key = key_there w k m q r 2 u1 st e1 in
@@ -324,8 +318,8 @@ delete_sound w k m st =
     let decls = m.maps.decls in
     let h = row Map Key Unused Unused Unused AfterChange in
     let P : Effect → Type 0 = Leaves w k (helpers.delete m) in
-    bind_ok (argument_fits decls k h 0) (λ _. tail1 decls k h) P (λ u e.
-    bind_ok (argument_fits decls k h 1) (λ _. tail2 decls k h) P (λ u1 e1.
+    bind_ok (argument_fits decls k h 0) _ P (λ u e.
+    bind_ok (argument_fits decls k h 1) _ P (λ u1 e1.
     bind_ok (declared decls (register k 1)) (λ q. Ok (change_of decls q)) P (λ q f.
     let r = refers w k m q st f in
     let key = key_there w k m q r 2 u1 st e1 in
@@ -379,8 +373,8 @@ redirect_sound w k m st =
     let decls = m.maps.decls in
     let h = row Plain Plain Unused Unused Unused Plainly in
     let P : Effect → Type 0 = Leaves w k (helpers.redirect m) in
-    bind_ok (argument_fits decls k h 0) (λ _. tail1 decls k h) P (λ u e.
-    bind_ok (argument_fits decls k h 1) (λ _. tail2 decls k h) P (λ u1 e1.
+    bind_ok (argument_fits decls k h 0) _ P (λ u e.
+    bind_ok (argument_fits decls k h 1) _ P (λ u1 e1.
     let a = plain_there w k m 1 u st e in
     let b = plain_there w k m 2 u1 st e1 in
     subst (λ o. Leaves w k o Answered) (sym (redirect_there m a.0 b.0 (a.1) (b.1))) (redirected_leaves w k m a.0 b.0 st)))
@@ -406,14 +400,22 @@ no_row : (w : World) (k : Kinds) (m : Machine) (id : ℤ) (a b c d e : Bool) →
 no_row w k m id a b c d e p q r s t = rw (p, q, r, s, t) tt
 
 by_id : (w : World) (k : Kinds) (m : Machine) (id : ℤ) → Stands w k m → Sound w k m id
-by_id w k m id st =
-    by_test (λ t. int_eq id (pos 1) ≡ t → Sound w k m id) (int_eq id (pos 1)) (λ _ h. subst (Sound w k m) (sym (int_is id (pos 1) h)) (lookup_sound w k m st)) (λ _ a.
-    by_test (λ t. int_eq id (pos 2) ≡ t → Sound w k m id) (int_eq id (pos 2)) (λ _ h. subst (Sound w k m) (sym (int_is id (pos 2) h)) (update_sound w k m st)) (λ _ b.
-    by_test (λ t. int_eq id (pos 3) ≡ t → Sound w k m id) (int_eq id (pos 3)) (λ _ h. subst (Sound w k m) (sym (int_is id (pos 3) h)) (delete_sound w k m st)) (λ _ c.
-    by_test (λ t. int_eq id (pos 5) ≡ t → Sound w k m id) (int_eq id (pos 5)) (λ _ h. subst (Sound w k m) (sym (int_is id (pos 5) h)) (time_sound w k m st)) (λ _ d.
-    by_test (λ t. int_eq id (pos 23) ≡ t → Sound w k m id) (int_eq id (pos 23)) (λ _ h. subst (Sound w k m) (sym (int_is id (pos 23) h)) (redirect_sound w k m st)) (λ _ e.
-    no_row w k m id (int_eq id (pos 1)) (int_eq id (pos 2)) (int_eq id (pos 3)) (int_eq id (pos 5)) (int_eq id (pos 23)) a b c d e)
-    refl) refl) refl) refl) refl
+by_id w k m id st = elim (cases_Bool (int_eq id (pos 1))) [
+  | inl h ↦ subst (Sound w k m) (sym (int_is id (pos 1) h)) (lookup_sound w k m st)
+  | inr a ↦ elim (cases_Bool (int_eq id (pos 2))) [
+    | inl h ↦ subst (Sound w k m) (sym (int_is id (pos 2) h)) (update_sound w k m st)
+    | inr b ↦ elim (cases_Bool (int_eq id (pos 3))) [
+      | inl h ↦ subst (Sound w k m) (sym (int_is id (pos 3) h)) (delete_sound w k m st)
+      | inr c ↦ elim (cases_Bool (int_eq id (pos 5))) [
+        | inl h ↦ subst (Sound w k m) (sym (int_is id (pos 5) h)) (time_sound w k m st)
+        | inr d ↦ elim (cases_Bool (int_eq id (pos 23))) [
+          | inl h ↦ subst (Sound w k m) (sym (int_is id (pos 23) h)) (redirect_sound w k m st)
+          | inr e ↦ no_row w k m id (int_eq id (pos 1)) (int_eq id (pos 2)) (int_eq id (pos 3)) (int_eq id (pos 5)) (int_eq id (pos 23)) a b c d e
+        ]
+      ]
+    ]
+  ]
+]
 
 source_is : (b : Bool) (t : Test) → cond b t (Err why.Instruction) ≡ passed → b ≡ true
 source_is true t h = refl

@@ -35,16 +35,16 @@ use Rattle.kind_core.specs.Effects.{operand, jump, effect_as, effect_of}
 use Rattle.kind_core.specs.Edges.{refined, refined_all, raised, on_edge, changed, decision, decided_as}
 use Rattle.kind_core.specs.Describes.{World, Describes, DescribesNumber, DescribesMachine}
 use Rattle.kind_core.specs.Soundness.{ConditionsAreSound}
-use Rattle.kind_core.proofs.Sound.{by_test, bind_ok, number_of}
+use Rattle.kind_core.proofs.Sound.{bind_ok, number_of}
 use Rattle.kind_core.proofs.SoundRegisters.{operand_described}
 
 -- ---- what is learnt of the answer of a lookup
 refined_null : (w : World) (maps : MapState) (n : ℕ) (x : Value) (k : Kind) (v : Value) → x ≡ w.gave n → x ≡ is.Number 0 → Describes w maps k v → Describes w maps (refined (IsNull n) k) v
 refined_null w maps n x (Maybe q t) v g e d =
-    by_test (λ b. ((t == n) ≡ b) → Describes w maps (cond b (Num (Known 0)) (Maybe q t)) v) (t == n)
-    (λ h f. let same : t ≡ n = grind (arith, nat_tests) in d.1 ∙ (ap w.gave same ∙ (sym g ∙ e)))
-    (λ h f. d)
-    refl
+    (elim (t == n) as (λ b. ((t == n) ≡ b) → Describes w maps (cond b (Num (Known 0)) (Maybe q t)) v) [
+      | true ↦ λ f. let same : t ≡ n = grind (arith, nat_tests) in d.1 ∙ (ap w.gave same ∙ (sym g ∙ e))
+      | false ↦ λ f. d
+    ]) refl
 refined_null w maps n x k v g e d = d
 
 entry_of : (w : World) (maps : MapState) (q : ℕ) (key : List ℕ) (o : ℤ) (r t : ℕ) (v : Value) → v ≡ is.Entry q key o → Describes w maps (Maybe r t) v → Describes w maps (Entry r 0) v
@@ -53,10 +53,10 @@ entry_of w maps q key o r t v e (before, gave, inr h) = h
 
 refined_entry : (w : World) (maps : MapState) (n p : ℕ) (key : List ℕ) (o : ℤ) (x : Value) (k : Kind) (v : Value) → x ≡ w.gave n → x ≡ is.Entry p key o → Describes w maps k v → Describes w maps (refined (IsEntry n) k) v
 refined_entry w maps n p key o x (Maybe q t) v g e d =
-    by_test (λ b. ((t == n) ≡ b) → Describes w maps (cond b (Entry q 0) (Maybe q t)) v) (t == n)
-    (λ h f. let same : t ≡ n = grind (arith, nat_tests) in entry_of w maps p key o q t v (d.1 ∙ (ap w.gave same ∙ (sym g ∙ e))) d)
-    (λ h f. d)
-    refl
+    (elim (t == n) as (λ b. ((t == n) ≡ b) → Describes w maps (cond b (Entry q 0) (Maybe q t)) v) [
+      | true ↦ λ f. let same : t ≡ n = grind (arith, nat_tests) in entry_of w maps p key o q t v (d.1 ∙ (ap w.gave same ∙ (sym g ∙ e))) d
+      | false ↦ λ f. d
+    ]) refl
 refined_entry w maps n p key o x k v g e d = d
 
 refined_list : (w : World) (maps : MapState) (f : Kind → Kind) → ((k : Kind) (v : Value) → Describes w maps k v → Describes w maps (f k) v) → (ks : List Kind) (vs : List Value)

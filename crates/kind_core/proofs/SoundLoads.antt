@@ -28,36 +28,36 @@ use Rattle.kind_core.specs.Tests.{◌>>=◌, readable, number_in, within, aligne
 use Rattle.kind_core.specs.Places.{in_packet, in_stack, in_value}
 use Rattle.kind_core.specs.Access.{context_field, from_slot, found, loaded, loaded_plain, loaded_signed}
 use Rattle.kind_core.specs.Describes.{World, Describes, DescribesMachine}
-use Rattle.kind_core.proofs.Sound.{Gives, by_test, bind_ok, bind_passed, number_of, of_number, one_is}
+use Rattle.kind_core.proofs.Sound.{Gives, bind_ok, bind_passed, number_of, of_number, one_is}
 use Rattle.kind_core.proofs.MachineSteps.{some_of, aligned_at, from_frame_at, from_stack_at, from_entry_at, signed_load}
 
 -- where an access lies that is inside
 pub within_is : (z : ℤ) (n len a : ℕ) → within z n len ≡ Ok a → (z ≡ pos a) × (nat_le (a + n) len ≡ true)
 within_is (negsuc b) n len a e = cc
 within_is (pos b) n len a e =
-    by_test (λ t. cond t (Ok b) (Err why.Offset) ≡ Ok a → (nat_le (b + n) len ≡ t) → (pos b ≡ pos a) × (nat_le (a + n) len ≡ true)) (nat_le (b + n) len)
-    (λ h f g. let same : b ≡ a = cc in (ap pos same, subst (λ c. nat_le (c + n) len ≡ true) same g))
-    (λ h f g. cc)
-    e refl
+    (elim (nat_le (b + n) len) as (λ t. cond t (Ok b) (Err why.Offset) ≡ Ok a → (nat_le (b + n) len ≡ t) → (pos b ≡ pos a) × (nat_le (a + n) len ≡ true)) [
+      | true ↦ λ f g. let same : b ≡ a = cc in (ap pos same, subst (λ c. nat_le (c + n) len ≡ true) same g)
+      | false ↦ λ f g. cc
+    ]) e refl
 
 pub aligned_is : (z : ℤ) (n len a : ℕ) → aligned z n len ≡ Ok a → (z ≡ pos a) × (nat_le (a + n) len ≡ true) × ((a % n == 0) ≡ true)
 aligned_is z n len a e =
     let b = bind_passed (within z n len) (λ c. cond (c % n == 0) (Ok c) (Err why.Misaligned)) a e in
     let i = within_is z n len b.0 b.1 in
-    by_test (λ t. cond t (Ok b.0) (Err why.Misaligned) ≡ Ok a → ((b.0 % n == 0) ≡ t) → (z ≡ pos a) × (nat_le (a + n) len ≡ true) × ((a % n == 0) ≡ true)) (b.0 % n == 0)
-    (λ h f g. let same : b.0 ≡ a = cc in (i.0 ∙ ap pos same, subst (λ c. nat_le (c + n) len ≡ true) same i.1, subst (λ c. (c % n == 0) ≡ true) same g))
-    (λ h f g. cc)
-    b.2 refl
+    (elim (b.0 % n == 0) as (λ t. cond t (Ok b.0) (Err why.Misaligned) ≡ Ok a → ((b.0 % n == 0) ≡ t) → (z ≡ pos a) × (nat_le (a + n) len ≡ true) × ((a % n == 0) ≡ true)) [
+      | true ↦ λ f g. let same : b.0 ≡ a = cc in (i.0 ∙ ap pos same, subst (λ c. nat_le (c + n) len ≡ true) same i.1, subst (λ c. (c % n == 0) ≡ true) same g)
+      | false ↦ λ f g. cc
+    ]) b.2 refl
 
 -- where an access to the packet lies that is checked
 pub in_packet_is : (checked : ℕ) (z : ℤ) (n : ℕ) (p : Place) → in_packet checked z n ≡ Ok p → (a : ℕ) × (InPacket ≡ p) × (z ≡ pos a) × (nat_le (a + n) checked ≡ true)
 in_packet_is checked z n p e =
     let b = bind_passed (within z n 256) (λ a. cond (nat_le (a + n) checked) (Ok InPacket) (Err why.Unchecked)) p e in
     let i = within_is z n 256 b.0 b.1 in
-    by_test (λ t. cond t (Ok InPacket) (Err why.Unchecked) ≡ Ok p → (nat_le (b.0 + n) checked ≡ t) → (a : ℕ) × (InPacket ≡ p) × (z ≡ pos a) × (nat_le (a + n) checked ≡ true)) (nat_le (b.0 + n) checked)
-    (λ h f g. let same : InPacket ≡ p = cc in (b.0, same, i.0, g))
-    (λ h f g. cc)
-    b.2 refl
+    (elim (nat_le (b.0 + n) checked) as (λ t. cond t (Ok InPacket) (Err why.Unchecked) ≡ Ok p → (nat_le (b.0 + n) checked ≡ t) → (a : ℕ) × (InPacket ≡ p) × (z ≡ pos a) × (nat_le (a + n) checked ≡ true)) [
+      | true ↦ λ f g. let same : InPacket ≡ p = cc in (b.0, same, i.0, g)
+      | false ↦ λ f g. cc
+    ]) b.2 refl
 
 packet_load : (w : World) (maps : MapState) (slots : List Kind) (frame : List ℕ) (checked : ℕ) (z : ℤ) (size : Size) → checked ≤ length frame
     → IfOk (in_packet checked z (bytes_in size) >>= (λ p. found slots size p)) (Gives w maps (machine.from_frame frame z size))

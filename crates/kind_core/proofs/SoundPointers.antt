@@ -25,25 +25,27 @@ use Rattle.kind_core.specs.Kinds.{value_bytes}
 use Rattle.kind_core.specs.Tests.{◌>>=◌, passed, readable, within}
 use Rattle.kind_core.specs.Pointers.{stack_at, moved, sum, difference, copied, computed, combined}
 use Rattle.kind_core.specs.Describes.{World, Describes}
-use Rattle.kind_core.proofs.Sound.{Gives, by_test, number_of, of_number, one_is, two_is, held_is}
+use Rattle.kind_core.proofs.Sound.{Gives, number_of, of_number, one_is, two_is, held_is}
 
 -- a pointer that its kind lets stay in a region
 within_gives : (w : World) (maps : MapState) (kind : ℕ → Kind) (point : ℤ → Value) (z : ℤ) (len : ℕ) → len ≤ 256 → ((a : ℕ) → Describes w maps (kind a) (point (pos a)))
     → IfOk (within z 0 len >>= (λ a. Ok (kind a))) (Gives w maps (machine.at_offset point z))
 within_gives w maps kind point (negsuc a) len short d = tt
 within_gives w maps kind point (pos a) len short d =
-    by_test (λ t. IfOk (cond t (Ok a) (Err why.Offset) >>= (λ b. Ok (kind b))) (Gives w maps (machine.at_offset point (pos a)))) (nat_le (a + 0) len)
-    (λ h. let fits : nat_lt a (2 ^ 63) ≡ true = grind arith in (point (pos a), ap (λ t. cond t (Some (point (pos a))) None) fits, d a))
-    (λ h. tt)
+    (elim (nat_le (a + 0) len) as (λ t. (nat_le (a + 0) len ≡ t) → IfOk (cond t (Ok a) (Err why.Offset) >>= (λ b. Ok (kind b))) (Gives w maps (machine.at_offset point (pos a)))) [
+      | true ↦ λ h. let fits : nat_lt a (2 ^ 63) ≡ true = grind arith in (point (pos a), ap (λ t. cond t (Some (point (pos a))) None) fits, d a)
+      | false ↦ λ h. tt
+    ]) refl
 
 stack_fits : (z : ℤ) → (int_le (negsuc 511) z && int_le z (pos 0)) ≡ true → (int_le (negsuc (2 ^ 63 - 1)) z && int_lt z (pos (2 ^ 63))) ≡ true
 stack_fits z h = grind (arith, ints)
 
 stack_gives : (w : World) (maps : MapState) (z : ℤ) → IfOk (stack_at z) (Gives w maps (machine.at_offset is.Stack z))
 stack_gives w maps z =
-    by_test (λ t. IfOk (cond t (Ok (Stack z)) (Err why.Offset)) (Gives w maps (machine.at_offset is.Stack z))) (int_le (negsuc 511) z && int_le z (pos 0))
-    (λ h. (is.Stack z, ap (λ t. cond t (Some (is.Stack z)) None) (stack_fits z h), refl))
-    (λ h. tt)
+    (elim (int_le (negsuc 511) z && int_le z (pos 0)) as (λ t. ((int_le (negsuc 511) z && int_le z (pos 0)) ≡ t) → IfOk (cond t (Ok (Stack z)) (Err why.Offset)) (Gives w maps (machine.at_offset is.Stack z))) [
+      | true ↦ λ h. (is.Stack z, ap (λ t. cond t (Some (is.Stack z)) None) (stack_fits z h), refl)
+      | false ↦ λ h. tt
+    ]) refl
 
 -- the distance of a number
 abbrev pub by_number : Bool → ℕ → ℤ

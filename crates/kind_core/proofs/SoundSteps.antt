@@ -36,7 +36,7 @@ use Rattle.kind_core.specs.Effects.{jump, effect_as, effect_of, verdict}
 use Rattle.kind_core.specs.Edges.{changed, changed_if, decided_as}
 use Rattle.kind_core.specs.Describes.{World, DescribesMachine}
 use Rattle.kind_core.specs.Soundness.{Stands, at_reference, is_store, IsNext, target, Leads, GoesOn, StepsAreSound}
-use Rattle.kind_core.proofs.Sound.{bind_passed, numbered}
+use Rattle.kind_core.proofs.Sound.{bind_all, bind_passed, numbered}
 use Rattle.kind_core.proofs.SoundRegisters.{registers_are_sound}
 use Rattle.kind_core.proofs.SoundStores.{stores_are_sound}
 use Rattle.kind_core.proofs.SoundAtomics.{atomics_are_sound}
@@ -54,10 +54,6 @@ same_change node is_ref taken k e h = refl
 
 abbrev Plain : Effect → Type 0
 Plain e = is_constant e ≡ false
-
-bind_all : {A B : Type 0} (r : Result A Why) (f : A → Result B Why) (P : B → Type 0) → ((a : A) → IfOk (f a) P) → IfOk (r >>= f) P
-bind_all (Ok a) f P h = h a
-bind_all (Err e) f P h = tt
 
 plain_taking : (a b : Bool) (r : ℕ) → Plain (cond a (Register 0 (Num Unknown)) (cond b (Register r (Num Unknown)) Nothing))
 plain_taking true b r = refl

@@ -1,6 +1,5 @@
 -- Stores are sound.
 use Rattle.std.proofs.Common.{◌≡◌, ℕ, ◌+◌, ◌/◌, ◌%◌, ◌≤◌, inl, inr, ℤ, pos, ◌+ℤ◌, Bool, true, nat_le, refl, ap, ◌∙◌, subst, arith, Option, Some, Result, Ok, Err, IfOk, List, length, get_or, slice_set, slice_get, is_some, IsTrue}
-use Rattle.std.proofs.lemmas.List.{length-append, length-take, length-drop}
 use Rattle.std.specs.Int.{w64, cast_unsigned}
 use Rattle.byteorder.specs.Endian.{little_bytes, little_number}
 use Rattle.bpf_isa.specs.declared.operation.Size.{Size}
@@ -10,6 +9,7 @@ use Rattle.bpf_isa.specs.declared.operation.Op.TheVariants.{StoreImm, Store}
 use Rattle.bpf_isa.specs.declared.instruction.Insn.{Insn}
 use Rattle.xdp_maps.specs.State.{MapState, contents_at, with_contents}
 use Rattle.xdp_maps.specs.Calls.{lookup_of, patched, stored as entry_stored}
+use Rattle.xdp_maps.proofs.ByteLaws.{length-patched}
 use Rattle.xdp_machine.specs.Values.{Value}
 use Rattle.xdp_machine.specs.Values as is
 use Rattle.xdp_machine.specs.State as machine
@@ -45,9 +45,6 @@ length-little B n = refl
 length-little H n = refl
 length-little W n = refl
 length-little Dw n = refl
-
-length-patched : (value : List ℕ) (at : ℕ) (bytes : List ℕ) → at + length bytes ≤ length value → length (patched value at bytes) ≡ length value
-length-patched value at bytes h = simp (length-append, length-take, length-drop) (omega (arith, h))
 
 packet_store : (w : World) (k : Kinds) (m : Machine) (is_ref : Bool) (o : ℕ) (offset : ℤ) (size : Size) (x : Kind) (v : Value) → Stands w k m → Describes w m.maps x v
     → IfOk (in_packet k.checked (pos o +ℤ offset) (bytes_in size) >>= (λ p. stored_at k.slots size x p)) (Leaves w k m is_ref (memory.stored m (is.Packet (pos o)) offset size v))

@@ -1,6 +1,6 @@
 -- What holds of the kinds on edges: they are of 11 registers and 64 slots, and but for conditional jumps they are one on both edges.
-use Rattle.std.proofs.Common.{◌≡◌, ℕ, ℤ, zero, suc, ◌+◌, ◌-◌, ◌/◌, ◌%◌, ◌≤◌, ◌<◌, ◌⊎◌, inl, inr, min, Bool, true, false, List, [], ◌∷◌, length, drop, map, set, get_or, Option, Some, None, Result, Ok, Err, IfOk, refl, sym, ◌∙◌, ap, subst, arith, length-drop}
-use Rattle.std.specs.Prelude.{All, if◌then◌else◌}
+use Rattle.std.proofs.Common.{◌≡◌, ℕ, ℤ, suc, ◌/◌, ◌%◌, Bool, true, false, List, [], ◌∷◌, length, get_or, Option, Some, None, Result, Ok, Err, IfOk, refl, sym, ◌∙◌, ap, arith, length-drop}
+use Rattle.std.specs.Prelude.{if◌then◌else◌}
 use Rattle.std.proofs.lemmas.List.{length-set, length-map}
 use Rattle.std.specs.Int.{w64, cast_unsigned}
 use Rattle.bpf_isa.specs.declared.operation.Op.{Op}
@@ -24,15 +24,16 @@ use Rattle.kind_core.specs.declared.places.Place.{Place}
 use Rattle.kind_core.specs.declared.places.Place.TheVariants.{InPacket, InStack, InEntry}
 use Rattle.kind_core.specs.declared.refinements.Refinement.TheVariants.{IsStale}
 use Rattle.kind_core.specs.declared.why.Why.{Why}
-use Rattle.kind_core.specs.Tests.{◌>>=◌, number_in}
+use Rattle.kind_core.specs.Tests.{number_in}
 use Rattle.kind_core.specs.Joins.{join_list, joined}
 use Rattle.kind_core.specs.Kinds.{register, is_hash, answering}
 use Rattle.kind_core.specs.Places.{accessed}
-use Rattle.kind_core.specs.Access.{loaded_plain, loaded_signed, stored, stored_at, atomic, changed_at, comparand, taking, compares, to_slot}
-use Rattle.kind_core.specs.Calls.{helper_of, called, called_as, answer_of, change_of, declared, argument_fits}
+use Rattle.kind_core.specs.Access.{loaded_plain, loaded_signed, stored, stored_at, changed_at, comparand, taking, compares, to_slot}
+use Rattle.kind_core.specs.Calls.{helper_of, called, answer_of, change_of, declared, argument_fits}
 use Rattle.kind_core.specs.Profile.{profiled}
 use Rattle.kind_core.specs.Effects.{alu, assigned, effect_as, effect_of, immediate}
 use Rattle.kind_core.specs.Edges.{refined, agrees, on_edge, raised, changed, changed_if, transferred}
+use Rattle.kind_core.proofs.Sound.{bind_all}
 
 -- ---- sizes
 
@@ -88,12 +89,8 @@ transferred_sized decls k i node is_ref taken h = by_effect (effect_of decls k i
 abbrev Fixed : Effect → Type 0
 Fixed e = (node : ℕ) (is_ref taken : Bool) (k : Kinds) → changed node is_ref taken k e ≡ changed node is_ref false k e
 
-bind_if : {A B : Type 0} (r : Result A Why) (f : A → Result B Why) (P : B → Type 0) → ((a : A) → IfOk (f a) P) → IfOk (r >>= f) P
-bind_if (Ok a) f P h = h a
-bind_if (Err e) f P h = tt
-
 assigned_fixed : (i : Insn) (r : Result Kind Why) → IfOk (assigned i r) Fixed
-assigned_fixed i r = bind_if r (λ x. Ok (Register i.dst x)) Fixed (λ x node is_ref taken k. refl)
+assigned_fixed i r = bind_all r (λ x. Ok (Register i.dst x)) Fixed (λ x node is_ref taken k. refl)
 
 change_fixed : (decls : List MapDecl) (q : ℕ) → Fixed (change_of decls q)
 change_fixed decls q = by_kind (is_hash decls q)
@@ -103,25 +100,25 @@ change_fixed decls q = by_kind (is_hash decls q)
     by_kind false = λ node is_ref taken k. refl
 
 answer_fixed : (decls : List MapDecl) (k : Kinds) (a : Answer) → IfOk (answer_of decls k a) Fixed
-answer_fixed decls k EntryOrNull = bind_if (declared decls (register k 1)) (λ q. Ok (Lookup q)) Fixed (λ q node is_ref taken j. refl)
+answer_fixed decls k EntryOrNull = bind_all (declared decls (register k 1)) (λ q. Ok (Lookup q)) Fixed (λ q node is_ref taken j. refl)
 answer_fixed decls k Plainly = λ node is_ref taken j. refl
-answer_fixed decls k AfterChange = bind_if (declared decls (register k 1)) (λ q. Ok (change_of decls q)) Fixed (λ q. change_fixed decls q)
+answer_fixed decls k AfterChange = bind_all (declared decls (register k 1)) (λ q. Ok (change_of decls q)) Fixed (λ q. change_fixed decls q)
 
 called_fixed : (decls : List MapDecl) (k : Kinds) (i : Insn) (o : Option Helper) → IfOk (called decls k i.imm o) Fixed
 called_fixed decls k i None = tt
 called_fixed decls k i (Some h) =
-    bind_if (argument_fits decls k h 0) _ Fixed (λ a.
-    bind_if (argument_fits decls k h 1) _ Fixed (λ b.
-    bind_if (argument_fits decls k h 2) _ Fixed (λ c. bind_if (argument_fits decls k h 3) _ Fixed (λ d. bind_if (argument_fits decls k h 4) _ Fixed (λ e. answer_fixed decls k h.answer)))))
+    bind_all (argument_fits decls k h 0) _ Fixed (λ a.
+    bind_all (argument_fits decls k h 1) _ Fixed (λ b.
+    bind_all (argument_fits decls k h 2) _ Fixed (λ c. bind_all (argument_fits decls k h 3) _ Fixed (λ d. bind_all (argument_fits decls k h 4) _ Fixed (λ e. answer_fixed decls k h.answer)))))
 
 stored_at_fixed : (slots : List Kind) (size : Size) (x : Kind) (place : Place) → IfOk (stored_at slots size x place) Fixed
-stored_at_fixed slots size x InPacket = bind_if (number_in x) (λ n. Ok Nothing) Fixed (λ n node is_ref taken k. refl)
-stored_at_fixed slots size x (InStack a) = bind_if (to_slot size (a % 8) (get_or slots (a / 8) Unset) x) (λ y. Ok (Slot (a / 8) y)) Fixed (λ y node is_ref taken k. refl)
-stored_at_fixed slots size x InEntry = bind_if (number_in x) (λ n. Ok Nothing) Fixed (λ n node is_ref taken k. refl)
+stored_at_fixed slots size x InPacket = bind_all (number_in x) (λ n. Ok Nothing) Fixed (λ n node is_ref taken k. refl)
+stored_at_fixed slots size x (InStack a) = bind_all (to_slot size (a % 8) (get_or slots (a / 8) Unset) x) (λ y. Ok (Slot (a / 8) y)) Fixed (λ y node is_ref taken k. refl)
+stored_at_fixed slots size x InEntry = bind_all (number_in x) (λ n. Ok Nothing) Fixed (λ n node is_ref taken k. refl)
 
 stored_fixed : (decls : List MapDecl) (k : Kinds) (base : Kind) (offset : ℤ) (size : Size) (x : Kind) → IfOk (stored decls k base offset size x) Fixed
 unfolding stored
-stored_fixed decls k base offset size x = bind_if _ _ Fixed (λ place. stored_at_fixed k.slots size x place)
+stored_fixed decls k base offset size x = bind_all _ _ Fixed (λ place. stored_at_fixed k.slots size x place)
 
 taking_fixed : (i : Insn) → Fixed (taking i)
 taking_fixed i = by_code (compares i) (fetches (cast_unsigned w64 i.imm))
@@ -134,7 +131,7 @@ taking_fixed i = by_code (compares i) (fetches (cast_unsigned w64 i.imm))
 changed_at_fixed : (k : Kinds) (i : Insn) (place : Place) → IfOk (changed_at k i place) Fixed
 changed_at_fixed k i InPacket = tt
 changed_at_fixed k i (InStack a) = tt
-changed_at_fixed k i InEntry = bind_if (number_in (register k i.src)) _ Fixed (λ n. bind_if (comparand i k) _ Fixed (λ u. taking_fixed i))
+changed_at_fixed k i InEntry = bind_all (number_in (register k i.src)) _ Fixed (λ n. bind_all (comparand i k) _ Fixed (λ u. taking_fixed i))
 
 abbrev pub is_jump : Op → Bool
 is_jump (Jump w c s) = true
@@ -144,18 +141,18 @@ effect_fixed : (decls : List MapDecl) (k : Kinds) (i : Insn) (op : Op) → is_ju
 effect_fixed decls k i (Jump w c s) h = let bad : true ≡ false = h in absurd (cc)
 effect_fixed decls k i (Ja w) h = λ node is_ref taken j. refl
 effect_fixed decls k i Call h = called_fixed decls k i (helper_of i.imm)
-effect_fixed decls k i Exit h = bind_if (number_in (register k 0)) (λ n. Ok Nothing) Fixed (λ n node is_ref taken j. refl)
+effect_fixed decls k i Exit h = bind_all (number_in (register k 0)) (λ n. Ok Nothing) Fixed (λ n node is_ref taken j. refl)
 effect_fixed decls k i LoadImm h = λ node is_ref taken j. refl
 effect_fixed decls k i (StoreImm size) h = stored_fixed decls k (register k i.dst) i.offset size (immediate i)
 effect_fixed decls k i (Store size) h = stored_fixed decls k (register k i.dst) i.offset size (register k i.src)
 effect_fixed decls k i (Load size) h = assigned_fixed i (loaded_plain decls k (register k i.src) i.offset size)
 effect_fixed decls k i (LoadSigned size) h = assigned_fixed i (loaded_signed decls k (register k i.src) i.offset size)
-effect_fixed decls k i (Atomic size) h = bind_if (accessed decls k.checked (register k i.dst) i.offset size) (λ place. changed_at k i place) Fixed (λ place. changed_at_fixed k i place)
+effect_fixed decls k i (Atomic size) h = bind_all (accessed decls k.checked (register k i.dst) i.offset size) (λ place. changed_at k i place) Fixed (λ place. changed_at_fixed k i place)
 effect_fixed decls k i op h = assigned_fixed i (alu decls k i op)
 
 pub transferred_fixed : (decls : List MapDecl) (k : Kinds) (i : Insn) (node : ℕ) (is_ref taken : Bool) → is_jump i.op ≡ false → transferred decls k i node is_ref taken ≡ transferred decls k i node is_ref false
 unfolding effect_of
-transferred_fixed decls k i node is_ref taken h = by_effect (effect_of decls k i) (bind_if (profiled i k) _ Fixed (λ u. effect_fixed decls k i i.op h))
+transferred_fixed decls k i node is_ref taken h = by_effect (effect_of decls k i) (bind_all (profiled i k) _ Fixed (λ u. effect_fixed decls k i i.op h))
   where
     by_effect : (r : Result Effect Why) → IfOk r Fixed → changed_if node is_ref taken k r ≡ changed_if node is_ref false k r
     by_effect (Ok e) f = f node is_ref taken k

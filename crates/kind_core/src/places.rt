@@ -73,7 +73,7 @@ pub(crate) fn in_packet(checked: u16, at: i128, n: usize) -> Result<Place, Why>
 }
 
 // An access to the stack, at a place from its end: it lies in one slot.
-#[tactic(auto, using(crate::proofs::Parts::part_fits))]
+#[tactic(auto, using(xdp_machine::proofs::SizeLaws::part_fits))]
 fn in_stack(z: i128, size: Size) -> Result<Place, Why>
     requires { FitsSigned w32 z }
     ensures value { result ≡ in_stack z size }

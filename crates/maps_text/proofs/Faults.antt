@@ -1,7 +1,7 @@
 -- The fault of a text is that of its first bad line, by the first check that this line fails.
 use Rattle.std.proofs.Common.{◌≡◌, ℕ, suc, ◌+◌, ◌<◌, ◌≤◌, Bool, true, false, List, [], ◌∷◌, ◌++◌, length, get_or, Option, Some, None, Result, Ok, Err, IfErr, refl, sym, ap, subst, ◌∙◌, ◌⊎◌, inl, inr, arith, length-set}
 use Rattle.std.specs.Prelude.{◌||◌, nat_le, if◌then◌else◌}
-use Rattle.std.proofs.lemmas.Bool.{cases_eq, leb-true, le-leb}
+use Rattle.std.proofs.lemmas.Bool.{cases_eq, leb-true, le-leb, or_right}
 use Rattle.std.specs.FinMap as map
 use Rattle.xdp_maps.specs.declared.decl.MapKind.{MapKind}
 use Rattle.xdp_maps.specs.declared.decl.MapKind.TheVariants.{Hash, Array}
@@ -63,15 +63,11 @@ stop_of n before (line ∷ lines) e h = stop_by n before line lines e (line_read
 
 -- ---- what was listed before
 
-or_true : (a b : Bool) → b ≡ true → (a || b) ≡ true
-or_true true b h = refl
-or_true false b h = h
-
 listed_more : (before : Listed) (item : Item) (m : ℕ) (key : List ℕ) → is_listed before.keys m key ≡ true → is_listed (with_item before item).keys m key ≡ true
 listed_more before item m key h = elim (cases_eq m item.map) [
   | inl is ↦
       let P : ℕ → Type 0 = λ j. is_listed (with_item before item).keys j key ≡ true in
-      subst P (sym is) (listed_here before.keys item.map item.key key ∙ or_true (same key item.key) _ (subst (λ j. is_listed before.keys j key ≡ true) is h))
+      subst P (sym is) (listed_here before.keys item.map item.key key ∙ or_right (same key item.key) _ (subst (λ j. is_listed before.keys j key ≡ true) is h))
   | inr differ ↦ listed_other before.keys item.map m item.key key differ ∙ h
 ]
 

@@ -7,6 +7,7 @@ use Rattle.std.specs.Option.{option_map, unwrap_or}
 use Rattle.std.specs.Ordering.{nat_cmp, eq_by_cmp}
 use Rattle.std.specs.Cmp.Lexicographic.{slice_cmp}
 use Rattle.std.proofs.lemmas.Cmp.{nat_list_cmp_total}
+use Rattle.std.proofs.lemmas.Option.{slice_get_within}
 use Rattle.std.specs.FinMap as map
 use Rattle.std.specs.FinMap.{find, get-insert, get-empty, get-from_entries, len-entries}
 use Rattle.xdp_maps.specs.declared.decl.MapKind.{MapKind}
@@ -95,16 +96,11 @@ hash_first : (d : MapDecl) (q : List ℕ) → d.kind ≡ Hash → map.get (opene
 unfolding opened
 hash_first d q hash = ap (λ k. map.get (opened_as k d) q) hash ∙ get-empty (slice_cmp nat_cmp) q
 
-inside : {X : Type 0} (xs : List X) (i : ℕ) (x : X) → slice_get xs i ≡ Some x → i < length xs
-inside [] i x h = cc
-inside (y ∷ xs) zero x h = omega arith
-inside (y ∷ xs) (suc i) x h = let rest = inside xs i x h in omega (arith, rest)
-
 -- a pair of a hash has a number below the capacity
 pub hash_inside : (d : MapDecl) (c : Contents) (i : ℕ) (q v : List ℕ) → d.kind ≡ Hash → IsOver d c → entry_of d c i ≡ Some (q, v) → i < map.len c
 hash_inside d c i q v hash over is =
     let at : slice_get (map.entries c) i ≡ Some (q, v) = subst (λ k. entry_as k c i ≡ Some (q, v)) hash is in
-    let lt = inside (map.entries c) i (q, v) at in
+    let lt = slice_get_within (map.entries c) i (q, v) at in
     omega (arith, lt, len-entries c)
 
 pub hash_room : (d : MapDecl) (c : Contents) → d.kind ≡ Hash → IsOver d c → map.len c ≤ d.cap

@@ -2,7 +2,7 @@
 use Rattle.std.proofs.Common.{◌≡◌, ◌≢◌, ℕ, zero, suc, ◌+◌, ◌<◌, ◌≤◌, ◌⊎◌, inl, inr, Bool, true, false, List, [], ◌∷◌, Option, Some, None, length, get_or, drop, refl, sym, ap, ◌∙◌, subst, arith, not, length-set, get_or-set_other, get_or-set_same}
 use Rattle.std.specs.Prelude.{if◌then◌else◌, nat_lt, nat_le, ◌==◌, ◌&&◌, ◌||◌, map as map_list, All}
 use Rattle.std.proofs.lemmas.Bool.Decides.{nat_tests, Decides-eqb}
-use Rattle.std.proofs.lemmas.Bool.{cases_lt}
+use Rattle.std.proofs.lemmas.Bool.{cases_lt, or_parts}
 use Rattle.xdp_machine.specs.State.{PacketIn}
 use Rattle.cell_core.specs.declared.operator.Operator.{Operator}
 use Rattle.cell_core.specs.declared.operator.Operator.TheVariants.{Found, Answer, Wire, Phi}
@@ -193,10 +193,6 @@ numbered f from (suc n) (suc j) l = numbered f (suc from) n j (omega arith) ∙ 
 pub marked_of : (f : ℕ → Bool) (n j : ℕ) → j < n → get_or (map_list f (numbers 0 n)) j false ≡ f j
 marked_of f n j l = numbered f 0 n j l ∙ ap f (omega arith)
 
-pub or_false : (a b : Bool) → a || b ≡ false → (a ≡ false) × (b ≡ false)
-or_false true b e = cc
-or_false false b e = (refl, e)
-
 pub le_lt : (a k : ℕ) → nat_le a k ≡ nat_lt a (suc k)
 le_lt a k = by (nat_le a k) (nat_lt a (suc k)) refl refl
   where
@@ -210,7 +206,7 @@ le_lt a k = by (nat_le a k) (nat_lt a (suc k)) refl refl
 excused_before : (row : ℕ → ℕ) (k : ℕ) (h g : Held) (s : SiteView) (mark : Bool) → (row s.guard < k → held_value h s.guard ≡ held_value g s.guard) →
     (mark && not (known_off row k g s)) || off_below row (suc k) g s ≡ false → mark || off_below row k h s ≡ false
 excused_before row k h g s mark same e =
-    let q = or_false (mark && not (known_off row k g s)) (off_below row (suc k) g s) e in
+    let q = or_parts (mark && not (known_off row k g s)) (off_below row (suc k) g s) e in
     let off : known_off row k g s ≡ false = ap (λ b. b && not (guard_on g s)) (le_lt (row s.guard) k) ∙ q.1 in
     let none : mark ≡ false = kept mark (known_off row k g s) off q.0 in
     ap (λ b. b || off_below row k h s) none ∙ by (nat_lt (row s.guard) k) refl
@@ -225,7 +221,7 @@ excused_before row k h g s mark same e =
     by true f =
         let l : row s.guard < k = grind (arith, nat_tests) in
         let m : nat_lt (row s.guard) (suc k) ≡ true = sym (le_lt (row s.guard) k) ∙ at_most (nat_le (row s.guard) k) refl l in
-        let q = or_false (mark && not (known_off row k g s)) (off_below row (suc k) g s) e in
+        let q = or_parts (mark && not (known_off row k g s)) (off_below row (suc k) g s) e in
         let u : not (guard_on g s) ≡ false = sym (ap (λ b. b && not (guard_on g s)) m) ∙ q.1 in
         ap (λ (n : ℕ). not (on n)) (same l) ∙ u
       where

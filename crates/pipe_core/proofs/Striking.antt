@@ -2,7 +2,8 @@
 use Rattle.std.proofs.Common.{◌≡◌, ℕ, zero, suc, ◌+◌, ◌<◌, ◌≤◌, Bool, true, false, List, [], ◌∷◌, Option, Some, None, length, refl, sym, ap, ◌∙◌, subst, arith, not, cond}
 use Rattle.std.specs.Prelude.{nat_lt, nat_le, ◌&&◌, ◌||◌, filter, map as map_list}
 use Rattle.std.specs.List.{position_or_len, list_any}
-use Rattle.std.proofs.lemmas.Bool.Decides.{nat_tests, Decides-eqb}
+use Rattle.std.proofs.lemmas.Bool.{lt-ltb, le-leb, or_parts, or_right}
+use Rattle.std.proofs.lemmas.Bool.Decides.{Decides-eqb}
 use Rattle.xdp_machine.specs.State.{PacketIn}
 use Rattle.xdp_maps.specs.declared.decl.MapKind.TheVariants.{Hash}
 use Rattle.cell_core.specs.declared.operator.Operator.{Operator}
@@ -19,7 +20,7 @@ use Rattle.hazard_core.specs.Marks.{touches, known_off, has_read, is_marked}
 use Rattle.hazard_core.specs.Changes.{with_tables, finds_key, reads, Stays, Unmoved}
 use Rattle.pipe_core.specs.Machine.{Packet, Build, marked_at, struck}
 use Rattle.pipe_core.specs.Agreement.{ReadsArePlanned, IsMade, excused_as, off_below, StrikingAgrees}
-use Rattle.pipe_core.proofs.Agreeing.{marked_of, or_false, le_lt}
+use Rattle.pipe_core.proofs.Agreeing.{marked_of, le_lt}
 
 record First (test : CellView → Bool) (xs : List CellView) (c : ℕ) : Type 0 where
   at_most : position_or_len test xs ≤ c
@@ -90,23 +91,9 @@ any_first test keep x xs k e = by (keep x) (test x) k e
 any_second : (test keep : ℕ → Bool) (x y : ℕ) → keep y ≡ true → test y ≡ true → list_any test (filter keep (x ∷ y ∷ [])) ≡ true
 any_second test keep x y k e = by (keep x) (any_first test keep y [] k e)
   where
-    or_true : (a b : Bool) → b ≡ true → a || b ≡ true
-    or_true true b f = refl
-    or_true false b f = f
-
     by : (c : Bool) → list_any test (filter keep (y ∷ [])) ≡ true → list_any test (cond c (x ∷ filter keep (y ∷ [])) (filter keep (y ∷ []))) ≡ true
-    by true more = or_true (test x) (list_any test (filter keep (y ∷ []))) more
+    by true more = or_right (test x) (list_any test (filter keep (y ∷ []))) more
     by false more = more
-
-lt_true : (m n : ℕ) → m < n → nat_lt m n ≡ true
-lt_true m n l = by (nat_lt m n) refl
-  where
-    by : (c : Bool) → nat_lt m n ≡ c → c ≡ true
-    by true e = refl
-    by false e = let q : n ≤ m = grind (arith, nat_tests) in absurd (omega arith)
-
-le_true : (m n : ℕ) → m ≤ n → nat_le m n ≡ true
-le_true m n l = le_lt m n ∙ lt_true m (suc n) (omega arith)
 
 module _ (b : Build) (plan : ReadsArePlanned b) where
   -- the cell of a read and the first one of its kind
@@ -133,7 +120,7 @@ module _ (b : Build) (plan : ReadsArePlanned b) where
           let m : d < length b.program.cells = omega (arith, f.at_most, l) in
           let s : site_in (cell_at b.program.cells d).op ≡ Some j = ap site_in (found_is j (cell_at b.program.cells d).op f.passes) in
           let r : b.plan.row d ≡ b.plan.row c = plan.together d c j m l s (ap site_in o) in
-          any_first test keep d (answer_cell b.program.cells j ∷ []) (lt_true d (length b.program.cells) m) (le_true (b.plan.row d) k (omega (arith, r, lower)))
+          any_first test keep d (answer_cell b.program.cells j ∷ []) (lt-ltb d (length b.program.cells) m) (le-leb (b.plan.row d) k (omega (arith, r, lower)))
       by (Answer i) is e =
           let o : (cell_at b.program.cells c).op ≡ Answer j = is ∙ ap Answer (site i e) in
           let f = first_at (λ d. is_answer_of j d.op) b.program.cells c l (ap (is_answer_of j) o ∙ (Decides-eqb j j).1 refl) in
@@ -141,7 +128,7 @@ module _ (b : Build) (plan : ReadsArePlanned b) where
           let m : d < length b.program.cells = omega (arith, f.at_most, l) in
           let s : site_in (cell_at b.program.cells d).op ≡ Some j = ap site_in (answer_is j (cell_at b.program.cells d).op f.passes) in
           let r : b.plan.row d ≡ b.plan.row c = plan.together d c j m l s (ap site_in o) in
-          any_second test keep (found_cell b.program.cells j) d (lt_true d (length b.program.cells) m) (le_true (b.plan.row d) k (omega (arith, r, lower)))
+          any_second test keep (found_cell b.program.cells j) d (lt-ltb d (length b.program.cells) m) (le-leb (b.plan.row d) k (omega (arith, r, lower)))
       by op is e = cc
 
 -- what is no read does not see the tables
@@ -201,8 +188,8 @@ striking unmoved b plan t ts e packet k x change a = record {
     record_free j l free read =
         let s = site_at p.sites j in
         let m : marked_at y j ≡ marked_at x j || is_marked p row t.decls k h e j = marked_of (λ j. marked_at x j || is_marked p row t.decls k h e j) (length p.sites) j l in
-        let q = or_false (marked_at y j) (off_below row (suc k) h s) free in
-        let u = or_false (marked_at x j) (is_marked p row t.decls k h e j) (sym m ∙ q.0) in
+        let q = or_parts (marked_at y j) (off_below row (suc k) h s) free in
+        let u = or_parts (marked_at x j) (is_marked p row t.decls k h e j) (sym m ∙ q.0) in
         let off : known_off row k h s ≡ false = ap (λ c. c && not (guard_on h s)) (le_lt (row s.guard) k) ∙ q.1 in
         (ap (λ c. c || off_below row (suc k) h s) u.0 ∙ q.1, untouched (has_read p row k j) (known_off row k h s) (touches p t.decls h j e) read off u.1)
 

@@ -4,7 +4,7 @@ use Rattle.std.specs.Prelude.{All, if◌then◌else◌}
 use Rattle.std.specs.List.{AllPairs}
 use Rattle.std.proofs.lemmas.List.Elements.{All-nil, All-cons, All-head, All-tail}
 use Rattle.std.proofs.lemmas.List.Kept.{AllPairs-cons}
-use Rattle.std.proofs.lemmas.Bool.{and_left, and_right, and_from, and_parts}
+use Rattle.std.proofs.lemmas.Bool.{and_left, and_right, and_from, and_parts, not-true}
 use Rattle.kind_core.specs.declared.kind.Kinds.{Kinds}
 use Rattle.unfold_core.specs.declared.nesting.Loop.{Loop}
 use Rattle.unfold_core.specs.declared.edges.Point.{Point}
@@ -69,10 +69,6 @@ fine_before ls (a ∷ g) w q h =
 
 -- ---- the same node
 
-not_true : (b : Bool) → not b ≡ true → b ≡ false
-not_true true h = let bad : false ≡ true = h in absurd (cc)
-not_true false h = refl
-
 pub same_not : (ls : List Loop) (a b : GraphNode) → comes_before ls a b ≡ true → same ls a b ≡ false
 same_not ls a b h = and_left (not (comes_before ls a b)) (not (comes_before ls b a)) (ap not h)
 
@@ -88,7 +84,7 @@ same_itself ls a o s = same_yes ls a a (o.irreflexive a s) (o.irreflexive a s)
 pub same_is : (ls : List Loop) (a b : GraphNode) → IsStrictTotalOrder ls → IsNode ls a → IsNode ls b → same ls a b ≡ true → a ≡ b
 same_is ls a b o s t h =
     let parts = and_parts (not (comes_before ls a b)) (not (comes_before ls b a)) h in
-    o.total a b s t (not_true (comes_before ls a b) parts.0) (not_true (comes_before ls b a) parts.1)
+    o.total a b s t (not-true (comes_before ls a b) parts.0) (not-true (comes_before ls b a) parts.1)
 
 -- ---- what a list holds
 

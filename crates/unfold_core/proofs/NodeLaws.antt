@@ -5,16 +5,16 @@ use Rattle.std.specs.List.{list_all}
 use Rattle.std.proofs.lemmas.Bool.{cases_lt, cases_eq}
 use Rattle.bpf_isa.specs.declared.instruction.Insn.{Insn}
 use Rattle.bpf_isa.specs.Text.{unit_count}
+use Rattle.bpf_isa.proofs.Laws.{units_of-positive}
 use Rattle.unfold_core.specs.declared.nesting.Loop.{Loop}
 use Rattle.unfold_core.specs.Jumps.{target_of, target, Leads}
 use Rattle.unfold_core.specs.Loops.{AreLoops}
 use Rattle.unfold_core.specs.Tables.{IsLast, loop}
 use Rattle.unfold_core.specs.Nodes.{GraphNode, IsNode, AreCopies, comes_before, next_copies, fits, reached}
 use Rattle.unfold_core.specs.Laws.{NodesAreOrdered, StartIsNode, EdgesReachNodes, EdgesGoUp}
-use Rattle.unfold_core.proofs.Laid.{some_units}
 use Rattle.unfold_core.proofs.Found.{last_more, last_here}
 use Rattle.unfold_core.proofs.FoundLoops.{inside}
-use Rattle.unfold_core.proofs.Order.{key_before, before_by_key, key_irreflexive, key_transitive, key_total, next_are_copies, forward_up, HasLoop, has_loop, back_up}
+use Rattle.unfold_core.proofs.Order.{key, key_before, before_by_key, key_irreflexive, key_transitive, key_total, next_are_copies, forward_up, HasLoop, has_loop, back_up}
 
 abbrev node_of : ℕ → List ℕ → GraphNode
 node_of p cs = record { place = p; copies = cs }
@@ -24,10 +24,10 @@ same_node a b e f = ap (λ p. node_of p a.copies) e ∙ ap (λ cs. node_of b.pla
 
 pub nodes_are_ordered : NodesAreOrdered
 nodes_are_ordered ls n = record {
-  irreflexive = λ a s. before_by_key ls a a n s s ∙ key_irreflexive ls a.place a.copies;
+  irreflexive = λ a s. before_by_key ls a a n s s ∙ key_irreflexive (key ls a.place a.copies);
   transitive = λ a b c s t u h k.
       before_by_key ls a c n s u
-      ∙ key_transitive ls a.place b.place c.place a.copies b.copies c.copies (sym (before_by_key ls a b n s t) ∙ h) (sym (before_by_key ls b c n t u) ∙ k);
+      ∙ key_transitive (key ls a.place a.copies) (key ls b.place b.copies) (key ls c.place c.copies) (sym (before_by_key ls a b n s t) ∙ h) (sym (before_by_key ls b c n t u) ∙ k);
   total = λ a b s t h k.
       let x = key_total ls a.place b.place a.copies b.copies s t (sym (before_by_key ls a b n s t) ∙ h) (sym (before_by_key ls b a n t s) ∙ k) in
       same_node a b x.0 x.1;
@@ -90,8 +90,8 @@ edges_go_up insns ls n m to loops s leads e =
     let copies = next_are_copies ls n.place to n.copies x.0 in
     subst (λ k. comes_before ls n k ≡ true) x.1 (before_by_key ls n (node_of to (next_copies ls n.place to n.copies)) loops.nested s copies ∙ up leads)
   where
-    up : Leads insns n.place to → key_before ls n.place n.copies to (next_copies ls n.place to n.copies) ≡ true
-    up (i, begins, inl next) = forward_up ls n.place to n.copies (omega (arith, next.1, some_units i.op)) s
+    up : Leads insns n.place to → key_before (key ls n.place n.copies) (key ls to (next_copies ls n.place to n.copies)) ≡ true
+    up (i, begins, inl next) = forward_up ls n.place to n.copies (omega (arith, next.1, units_of-positive i.op)) s
     up (i, begins, inr jump) = elim (cases_lt n.place to) [
       | inl forward ↦ forward_up ls n.place to n.copies forward s
       | inr back ↦ back_up ls n.place to n.copies loops.nested back (loop_of insns ls n.place to loops (ap (target_of n.place) begins ∙ jump) back)

@@ -278,7 +278,7 @@ refusals_same p ls c (a ∷ x) (b ∷ y) q r w v loops h i =
 refusal : ℕ → Why → Refusal
 refusal at why = record { at = at; why = why }
 
-same_refusal : (r s : Refusal) → r.at ≡ s.at → r.why ≡ s.why → r ≡ s
+pub same_refusal : (r s : Refusal) → r.at ≡ s.at → r.why ≡ s.why → r ≡ s
 unfolding refusal
 same_refusal r s e f = ap (λ n. refusal n r.why) e ∙ ap (refusal s.at) f
 

@@ -1,10 +1,9 @@
 -- A program is accepted, or has one first refusal.
-use Rattle.std.proofs.Common.{◌≡◌, ◌⊎◌, inl, inr, ◌∙◌, ℕ, zero, suc, ◌<◌, List, [], ◌∷◌, Result, Ok, Err, refl, sym, ap, ap₂, subst, arith}
+use Rattle.std.proofs.Common.{◌≡◌, ◌⊎◌, inl, inr, ◌∙◌, zero, suc, ◌<◌, List, [], ◌∷◌, Result, Ok, Err, refl, sym, ap, ap₂, subst, arith}
 use Rattle.std.specs.List.{AllPairs, Contains}
 use Rattle.std.specs.Prelude.{IfErr, IsErrOf}
 use Rattle.bpf_isa.specs.declared.instruction.Insn.{Insn}
 use Rattle.xdp_machine.specs.Program.{XdpProgram}
-use Rattle.kind_core.specs.declared.why.Why.{Why}
 use Rattle.kind_core.specs.declared.why.Refusal.{Refusal}
 use Rattle.kind_core.specs.declared.why.BuildError.{BuildError}
 use Rattle.kind_core.specs.declared.why.BuildError.TheVariants.{Refused, NoMemory}
@@ -14,7 +13,7 @@ use Rattle.unfold_core.specs.Loops.{IsLoop, AreLoops, IsFirstPlace, Precedes}
 use Rattle.unfold_core.specs.Graphs.{IsFirstNode, IsGraph}
 use Rattle.unfold_core.specs.Unfolding.{Unfolds, IsUnfolded}
 use Rattle.unfold_core.specs.Acceptance.{IsAccepted, IsFirstRefusal, HasOneOutcome}
-use Rattle.unfold_core.proofs.OneGraph.{has_one_refusal, has_not_both}
+use Rattle.unfold_core.proofs.OneGraph.{same_refusal, has_one_refusal, has_not_both}
 
 -- ---- loops with ascending heads are one list
 abbrev Rising : List Loop → Type 0
@@ -69,13 +68,6 @@ one_loops insns ls ms a b = same_loops ls ms (rising_of insns ls a) (rising_of i
     is_loop xs loops z (k, below, at) = subst (IsLoop insns) at (loops.are k z below)
 
 -- ---- one first place
-refusal_of : ℕ → Why → Refusal
-refusal_of at w = record { at = at; why = w }
-
-same_refusal : (r s : Refusal) → r.at ≡ s.at → r.why ≡ s.why → r ≡ s
-unfolding refusal_of
-same_refusal r s at w = λ i. refusal_of (at i) (w i)
-
 one_at : (r s : Refusal) → Precedes r s → Precedes s r → r.at ≡ s.at
 one_at r s (inl a) (inl b) = absurd (omega (arith, a, b))
 one_at r s (inl a) (inr b) = absurd (omega (arith, a, b.0))

@@ -74,9 +74,44 @@ turned : (b x y : Bool) → (if not b then x else y) ≡ (if b then y else x)
 turned true x y = refl
 turned false x y = refl
 
-abbrev pub key_before : List Loop → ℕ → List ℕ → ℕ → List ℕ → Bool
-key_before [] p cs q ds = ltb p q
-key_before (l ∷ ls) p cs q ds = lex (side l p (first cs)) (side l q (first ds)) (key_before ls p (rest cs) q (rest ds))
+lex_last : (x y : ℕ) → lex x y false ≡ ltb x y
+lex_last x y = elim (cases_order x y) [
+  | inl e ↦ lex_same x y false e ∙ sym (le-ltb x y (omega (arith, e)))
+  | inr (inl lt) ↦ lex_lt x y false lt ∙ sym (lt-ltb x y lt)
+  | inr (inr gt) ↦ lex_gt x y false gt ∙ sym (le-ltb x y (omega (arith, gt)))
+]
+
+abbrev pub key_before : List ℕ → List ℕ → Bool
+key_before [] ys = false
+key_before (x ∷ xs) [] = false
+key_before (x ∷ xs) (y ∷ ys) = lex x y (key_before xs ys)
+
+pub key_irreflexive : (xs : List ℕ) → key_before xs xs ≡ false
+key_irreflexive [] = refl
+key_irreflexive (x ∷ xs) = lex_same x x (key_before xs xs) refl ∙ key_irreflexive xs
+
+pub key_transitive : (xs ys zs : List ℕ) → key_before xs ys ≡ true → key_before ys zs ≡ true → key_before xs zs ≡ true
+key_transitive [] ys zs h k = absurd (true≢false (sym h))
+key_transitive (x ∷ xs) [] zs h k = absurd (true≢false (sym h))
+key_transitive (x ∷ xs) (y ∷ ys) [] h k = absurd (true≢false (sym k))
+key_transitive (x ∷ xs) (y ∷ ys) (z ∷ zs) h k = joined (key_transitive xs ys zs) (lex_cases x y (key_before xs ys) true h) (lex_cases y z (key_before ys zs) true k)
+  where
+    joined : (key_before xs ys ≡ true → key_before ys zs ≡ true → key_before xs zs ≡ true)
+        → ((x < y) × (true ≡ true)) ⊎ (((y < x) × (true ≡ false)) ⊎ ((x ≡ y) × (key_before xs ys ≡ true)))
+        → ((y < z) × (true ≡ true)) ⊎ (((z < y) × (true ≡ false)) ⊎ ((y ≡ z) × (key_before ys zs ≡ true)))
+        → lex x z (key_before xs zs) ≡ true
+    joined later (inl a) (inl b) = lex_lt x z (key_before xs zs) (omega (arith, a.0, b.0))
+    joined later (inl a) (inr (inr b)) = lex_lt x z (key_before xs zs) (omega (arith, a.0, b.0))
+    joined later (inr (inr a)) (inl b) = lex_lt x z (key_before xs zs) (omega (arith, a.0, b.0))
+    joined later (inr (inr a)) (inr (inr b)) = lex_same x z (key_before xs zs) (a.0 ∙ b.0) ∙ later a.1 b.1
+    joined later (inr (inl a)) b = absurd (true≢false a.1)
+    joined later (inl a) (inr (inl b)) = absurd (true≢false b.1)
+    joined later (inr (inr a)) (inr (inl b)) = absurd (true≢false b.1)
+
+-- the key of a node: where its place stands to each loop, and then the place
+abbrev pub key : List Loop → ℕ → List ℕ → List ℕ
+key [] p cs = p ∷ []
+key (l ∷ ls) p cs = side l p (first cs) ∷ key ls p (rest cs)
 
 -- ---- loops inside one another
 
@@ -109,16 +144,16 @@ unshared (l ∷ ls) p q cs ds h =
     ∙ unshared ls p q (rest cs) (rest ds) (All-tail (Shared p q) l ls h)
 
 -- a loop tells two places apart by their copies, or by where they stand to it
-by_loop : (l : Loop) (ls : List Loop) (p q : ℕ) (cs ds : List ℕ) → AllPairs Nests (l ∷ ls) → Small cs → Small ds → copies_before ls p (rest cs) q (rest ds) ≡ key_before ls p (rest cs) q (rest ds)
-    → Stands l p → Stands l q → copies_before (l ∷ ls) p cs q ds ≡ key_before (l ∷ ls) p cs q ds
+by_loop : (l : Loop) (ls : List Loop) (p q : ℕ) (cs ds : List ℕ) → AllPairs Nests (l ∷ ls) → Small cs → Small ds → copies_before ls p (rest cs) q (rest ds) ≡ key_before (key ls p (rest cs)) (key ls q (rest ds))
+    → Stands l p → Stands l q → copies_before (l ∷ ls) p cs q ds ≡ key_before (key (l ∷ ls) p cs) (key (l ∷ ls) q ds)
 by_loop l ls p q cs ds n s t later = by_sides
   where
     -- l holds not both: it does not tell
     skipped : Shared p q l → copies_before (l ∷ ls) p cs q ds ≡ copies_before ls p (rest cs) q (rest ds)
     skipped h = ap (λ b. if b && not (eqb (first cs) (first ds)) then ltb (first cs) (first ds) else copies_before ls p (rest cs) q (rest ds)) h
 
-    both_outside : Shared p q l → side l p (first cs) ≡ side l q (first ds) → copies_before (l ∷ ls) p cs q ds ≡ key_before (l ∷ ls) p cs q ds
-    both_outside h e = skipped h ∙ later ∙ sym (lex_same (side l p (first cs)) (side l q (first ds)) (key_before ls p (rest cs) q (rest ds)) e)
+    both_outside : Shared p q l → side l p (first cs) ≡ side l q (first ds) → copies_before (l ∷ ls) p cs q ds ≡ key_before (key (l ∷ ls) p cs) (key (l ∷ ls) q ds)
+    both_outside h e = skipped h ∙ later ∙ sym (lex_same (side l p (first cs)) (side l q (first ds)) (key_before (key ls p (rest cs)) (key ls q (rest ds))) e)
 
     -- the loops behind or inside l hold no place before it
     none_before : (x : ℕ) → x < l.head → All (λ m. holds m x ≡ false) ls
@@ -139,11 +174,11 @@ by_loop l ls p q cs ds n s t later = by_sides
     across h k = skipped h ∙ unshared ls p q (rest cs) (rest ds) (All-weaker (λ m. (holds m p ≡ false) ⊎ (holds m q ≡ false)) (Shared p q)
         (λ m e. elim e [ inl a ↦ and_left (holds m p) (holds m q) a | inr a ↦ and_right (holds m p) (holds m q) a ]) ls k)
 
-    up : copies_before (l ∷ ls) p cs q ds ≡ ltb p q → p < q → side l p (first cs) < side l q (first ds) → copies_before (l ∷ ls) p cs q ds ≡ key_before (l ∷ ls) p cs q ds
-    up e h k = e ∙ lt-ltb p q h ∙ sym (lex_lt (side l p (first cs)) (side l q (first ds)) (key_before ls p (rest cs) q (rest ds)) k)
+    up : copies_before (l ∷ ls) p cs q ds ≡ ltb p q → p < q → side l p (first cs) < side l q (first ds) → copies_before (l ∷ ls) p cs q ds ≡ key_before (key (l ∷ ls) p cs) (key (l ∷ ls) q ds)
+    up e h k = e ∙ lt-ltb p q h ∙ sym (lex_lt (side l p (first cs)) (side l q (first ds)) (key_before (key ls p (rest cs)) (key ls q (rest ds))) k)
 
-    down : copies_before (l ∷ ls) p cs q ds ≡ ltb p q → q ≤ p → side l q (first ds) < side l p (first cs) → copies_before (l ∷ ls) p cs q ds ≡ key_before (l ∷ ls) p cs q ds
-    down e h k = e ∙ le-ltb p q h ∙ sym (lex_gt (side l p (first cs)) (side l q (first ds)) (key_before ls p (rest cs) q (rest ds)) k)
+    down : copies_before (l ∷ ls) p cs q ds ≡ ltb p q → q ≤ p → side l q (first ds) < side l p (first cs) → copies_before (l ∷ ls) p cs q ds ≡ key_before (key (l ∷ ls) p cs) (key (l ∷ ls) q ds)
+    down e h k = e ∙ le-ltb p q h ∙ sym (lex_gt (side l p (first cs)) (side l q (first ds)) (key_before (key ls p (rest cs)) (key ls q (rest ds))) k)
 
     -- l holds both: their copies tell, where they differ
     within : holds l p ≡ true → holds l q ≡ true → copies_before (l ∷ ls) p cs q ds ≡ lex (first cs) (first ds) (copies_before ls p (rest cs) q (rest ds))
@@ -151,7 +186,7 @@ by_loop l ls p q cs ds n s t later = by_sides
         ap (λ b. if b && not (eqb (first cs) (first ds)) then ltb (first cs) (first ds) else copies_before ls p (rest cs) q (rest ds)) (and_from (holds l p) (holds l q) h k)
         ∙ turned (eqb (first cs) (first ds)) (ltb (first cs) (first ds)) (copies_before ls p (rest cs) q (rest ds))
 
-    by_sides : Stands l p → Stands l q → copies_before (l ∷ ls) p cs q ds ≡ key_before (l ∷ ls) p cs q ds
+    by_sides : Stands l p → Stands l q → copies_before (l ∷ ls) p cs q ds ≡ key_before (key (l ∷ ls) p cs) (key (l ∷ ls) q ds)
     by_sides (Before a) (Before b) = both_outside (and_left (holds l p) (holds l q) (holds_before l p a)) (side_before l p (first cs) a ∙ sym (side_before l q (first ds) b))
     by_sides (Before a) (Inside b d) =
         up (apart_left (and_left (holds l p) (holds l q) (holds_before l p a)) (none_before p a)) (omega arith) (omega (arith, side_before l p (first cs) a, side_inside l q (first ds) b d))
@@ -162,9 +197,9 @@ by_loop l ls p q cs ds n s t later = by_sides
     by_sides (Inside a c) (Inside b d) =
         within (holds_inside l p a c) (holds_inside l q b d)
         ∙ ap (lex (first cs) (first ds)) later
-        ∙ lex_raised (first cs) (first ds) (key_before ls p (rest cs) q (rest ds))
-        ∙ ap (λ x. lex x (first ds + 1) (key_before ls p (rest cs) q (rest ds))) (sym (side_inside l p (first cs) a c))
-        ∙ ap (λ x. lex (side l p (first cs)) x (key_before ls p (rest cs) q (rest ds))) (sym (side_inside l q (first ds) b d))
+        ∙ lex_raised (first cs) (first ds) (key_before (key ls p (rest cs)) (key ls q (rest ds)))
+        ∙ ap (λ x. lex x (first ds + 1) (key_before (key ls p (rest cs)) (key ls q (rest ds)))) (sym (side_inside l p (first cs) a c))
+        ∙ ap (λ x. lex (side l p (first cs)) x (key_before (key ls p (rest cs)) (key ls q (rest ds)))) (sym (side_inside l q (first ds) b d))
     by_sides (Inside a c) (Behind b d) =
         up (across (and_right (holds l p) (holds l q) (holds_behind l q d)) (none_across p q c d)) (omega arith)
         (omega (arith, side_inside l p (first cs) a c, side_behind l q (first ds) b d, small_first cs s))
@@ -176,8 +211,8 @@ by_loop l ls p q cs ds n s t later = by_sides
         (omega (arith, side_behind l p (first cs) a c, side_inside l q (first ds) b d, small_first ds t))
     by_sides (Behind a c) (Behind b d) = both_outside (and_left (holds l p) (holds l q) (holds_behind l p c)) (side_behind l p (first cs) a c ∙ sym (side_behind l q (first ds) b d))
 
-by_key : (ls : List Loop) (p q : ℕ) (cs ds : List ℕ) → AllPairs Nests ls → Small cs → Small ds → copies_before ls p cs q ds ≡ key_before ls p cs q ds
-by_key [] p q cs ds n s t = refl
+by_key : (ls : List Loop) (p q : ℕ) (cs ds : List ℕ) → AllPairs Nests ls → Small cs → Small ds → copies_before ls p cs q ds ≡ key_before (key ls p cs) (key ls q ds)
+by_key [] p q cs ds n s t = sym (lex_last p q)
 by_key (l ∷ ls) p q cs ds n s t =
     by_loop l ls p q cs ds n s t (by_key ls p q (rest cs) (rest ds) (nested_rest l ls n) (small_rest cs s) (small_rest ds t)) (stands l p) (stands l q)
 
@@ -189,33 +224,8 @@ small_copies [] p (c ∷ cs) h = absurd h
 small_copies (l ∷ ls) p [] h = absurd h
 small_copies (l ∷ ls) p (c ∷ cs) h = (omega (arith, h.0.0), small_copies ls p cs h.1)
 
-pub before_by_key : (ls : List Loop) (a b : GraphNode) → AllPairs Nests ls → IsNode ls a → IsNode ls b → comes_before ls a b ≡ key_before ls a.place a.copies b.place b.copies
+pub before_by_key : (ls : List Loop) (a b : GraphNode) → AllPairs Nests ls → IsNode ls a → IsNode ls b → comes_before ls a b ≡ key_before (key ls a.place a.copies) (key ls b.place b.copies)
 before_by_key ls a b n s t = by_key ls a.place b.place a.copies b.copies n (small_copies ls a.place a.copies s) (small_copies ls b.place b.copies t)
-
-pub key_irreflexive : (ls : List Loop) (p : ℕ) (cs : List ℕ) → key_before ls p cs p cs ≡ false
-key_irreflexive [] p cs = le-ltb p p (omega arith)
-key_irreflexive (l ∷ ls) p cs = lex_same (side l p (first cs)) (side l p (first cs)) (key_before ls p (rest cs) p (rest cs)) refl ∙ key_irreflexive ls p (rest cs)
-
-pub key_transitive : (ls : List Loop) (p q r : ℕ) (cs ds es : List ℕ) → key_before ls p cs q ds ≡ true → key_before ls q ds r es ≡ true → key_before ls p cs r es ≡ true
-key_transitive [] p q r cs ds es h k = lt-ltb p r (omega (arith, ltb-true p q h, ltb-true q r k))
-key_transitive (l ∷ ls) p q r cs ds es h k =
-    joined
-    (λ x y. key_transitive ls p q r (rest cs) (rest ds) (rest es) x y)
-    (lex_cases (side l p (first cs)) (side l q (first ds)) (key_before ls p (rest cs) q (rest ds)) true h)
-    (lex_cases (side l q (first ds)) (side l r (first es)) (key_before ls q (rest ds) r (rest es)) true k)
-  where
-    joined : (key_before ls p (rest cs) q (rest ds) ≡ true → key_before ls q (rest ds) r (rest es) ≡ true → key_before ls p (rest cs) r (rest es) ≡ true)
-        → ((side l p (first cs) < side l q (first ds)) × (true ≡ true)) ⊎ (((side l q (first ds) < side l p (first cs)) × (true ≡ false)) ⊎ ((side l p (first cs) ≡ side l q (first ds)) × (key_before ls p (rest cs) q (rest ds) ≡ true)))
-        → ((side l q (first ds) < side l r (first es)) × (true ≡ true)) ⊎ (((side l r (first es) < side l q (first ds)) × (true ≡ false)) ⊎ ((side l q (first ds) ≡ side l r (first es)) × (key_before ls q (rest ds) r (rest es) ≡ true)))
-        → lex (side l p (first cs)) (side l r (first es)) (key_before ls p (rest cs) r (rest es)) ≡ true
-    joined later (inl a) (inl b) = lex_lt (side l p (first cs)) (side l r (first es)) (key_before ls p (rest cs) r (rest es)) (omega (arith, a.0, b.0))
-    joined later (inl a) (inr (inr b)) = lex_lt (side l p (first cs)) (side l r (first es)) (key_before ls p (rest cs) r (rest es)) (omega (arith, a.0, b.0))
-    joined later (inr (inr a)) (inl b) = lex_lt (side l p (first cs)) (side l r (first es)) (key_before ls p (rest cs) r (rest es)) (omega (arith, a.0, b.0))
-    joined later (inr (inr a)) (inr (inr b)) =
-        lex_same (side l p (first cs)) (side l r (first es)) (key_before ls p (rest cs) r (rest es)) (a.0 ∙ b.0) ∙ later a.1 b.1
-    joined later (inr (inl a)) b = absurd (true≢false a.1)
-    joined later (inl a) (inr (inl b)) = absurd (true≢false b.1)
-    joined later (inr (inr a)) (inr (inl b)) = absurd (true≢false b.1)
 
 -- copies of one loop at one place that stand at one side are the same
 same_copy : (l : Loop) (p c d : ℕ) → IsCopy l p c → IsCopy l p d → side l p c ≡ side l p d → c ≡ d
@@ -226,8 +236,8 @@ same_copy l p c d h k e = by_side (stands l p)
     by_side (Inside a b) = omega (arith, sym (side_inside l p c a b) ∙ e ∙ side_inside l p d a b)
     by_side (Behind a b) = h.1 (holds_behind l p b) ∙ sym (k.1 (holds_behind l p b))
 
-pub key_total : (ls : List Loop) (p q : ℕ) (cs ds : List ℕ) → AreCopies ls p cs → AreCopies ls q ds → key_before ls p cs q ds ≡ false → key_before ls q ds p cs ≡ false → (p ≡ q) × (cs ≡ ds)
-key_total [] p q [] [] s t h k = (omega (arith, ltb-false p q h, ltb-false q p k), refl)
+pub key_total : (ls : List Loop) (p q : ℕ) (cs ds : List ℕ) → AreCopies ls p cs → AreCopies ls q ds → key_before (key ls p cs) (key ls q ds) ≡ false → key_before (key ls q ds) (key ls p cs) ≡ false → (p ≡ q) × (cs ≡ ds)
+key_total [] p q [] [] s t h k = (omega (arith, ltb-false p q (sym (lex_last p q) ∙ h), ltb-false q p (sym (lex_last q p) ∙ k)), refl)
 key_total [] p q [] (d ∷ ds) s t h k = absurd t
 key_total [] p q (c ∷ cs) ds s t h k = absurd s
 key_total (l ∷ ls) p q [] ds s t h k = absurd s
@@ -235,12 +245,12 @@ key_total (l ∷ ls) p q (c ∷ cs) [] s t h k = absurd t
 key_total (l ∷ ls) p q (c ∷ cs) (d ∷ ds) s t h k =
     joined
     (λ x y. key_total ls p q cs ds s.1 t.1 x y)
-    (lex_cases (side l p c) (side l q d) (key_before ls p cs q ds) false h)
-    (lex_cases (side l q d) (side l p c) (key_before ls q ds p cs) false k)
+    (lex_cases (side l p c) (side l q d) (key_before (key ls p cs) (key ls q ds)) false h)
+    (lex_cases (side l q d) (side l p c) (key_before (key ls q ds) (key ls p cs)) false k)
   where
-    joined : (key_before ls p cs q ds ≡ false → key_before ls q ds p cs ≡ false → (p ≡ q) × (cs ≡ ds))
-        → ((side l p c < side l q d) × (false ≡ true)) ⊎ (((side l q d < side l p c) × (false ≡ false)) ⊎ ((side l p c ≡ side l q d) × (key_before ls p cs q ds ≡ false)))
-        → ((side l q d < side l p c) × (false ≡ true)) ⊎ (((side l p c < side l q d) × (false ≡ false)) ⊎ ((side l q d ≡ side l p c) × (key_before ls q ds p cs ≡ false)))
+    joined : (key_before (key ls p cs) (key ls q ds) ≡ false → key_before (key ls q ds) (key ls p cs) ≡ false → (p ≡ q) × (cs ≡ ds))
+        → ((side l p c < side l q d) × (false ≡ true)) ⊎ (((side l q d < side l p c) × (false ≡ false)) ⊎ ((side l p c ≡ side l q d) × (key_before (key ls p cs) (key ls q ds) ≡ false)))
+        → ((side l q d < side l p c) × (false ≡ true)) ⊎ (((side l p c < side l q d) × (false ≡ false)) ⊎ ((side l q d ≡ side l p c) × (key_before (key ls q ds) (key ls p cs) ≡ false)))
         → (p ≡ q) × ((c ∷ cs) ≡ (d ∷ ds))
     joined later (inr (inr a)) (inr (inr b)) =
         let same = later a.1 b.1 in
@@ -272,13 +282,13 @@ first_small : (ls : List Loop) (l : Loop) (p : ℕ) (cs : List ℕ) → AreCopie
 first_small ls l p [] h = absurd h
 first_small ls l p (c ∷ cs) h = (h.0.0, h.1)
 
-pub forward_up : (ls : List Loop) (p q : ℕ) (cs : List ℕ) → p < q → AreCopies ls p cs → key_before ls p cs q (next_copies ls p q cs) ≡ true
-forward_up [] p q cs h s = lt-ltb p q h
+pub forward_up : (ls : List Loop) (p q : ℕ) (cs : List ℕ) → p < q → AreCopies ls p cs → key_before (key ls p cs) (key ls q (next_copies ls p q cs)) ≡ true
+forward_up [] p q cs h s = lex_lt p q false h
 forward_up (l ∷ ls) p q cs h s =
     let x = first_small ls l p cs s in
     elim (side_up l p q (first cs) h x.0) [
-      | inl a ↦ lex_lt (side l p (first cs)) (side l q (next_copy l p q (first cs))) (key_before ls p (rest cs) q (next_copies ls p q (rest cs))) a
-      | inr e ↦ lex_same (side l p (first cs)) (side l q (next_copy l p q (first cs))) (key_before ls p (rest cs) q (next_copies ls p q (rest cs))) e ∙ forward_up ls p q (rest cs) h x.1
+      | inl a ↦ lex_lt (side l p (first cs)) (side l q (next_copy l p q (first cs))) (key_before (key ls p (rest cs)) (key ls q (next_copies ls p q (rest cs)))) a
+      | inr e ↦ lex_same (side l p (first cs)) (side l q (next_copy l p q (first cs))) (key_before (key ls p (rest cs)) (key ls q (next_copies ls p q (rest cs)))) e ∙ forward_up ls p q (rest cs) h x.1
     ]
 
 -- back to a head from inside its loop, an outer loop keeps its copy
@@ -307,11 +317,11 @@ nests_has l (m ∷ ms) q p n (inl h) =
     (m.last, h.1, subst (λ x. l.head < x) h.0 x.0, subst (λ x. (l.last < x) ⊎ (m.last ≤ l.last)) h.0 x.1)
 nests_has l (m ∷ ms) q p n (inr h) = nests_has l ms q p (All-tail (Nests l) m ms n) h
 
-pub back_up : (ls : List Loop) (p q : ℕ) (cs : List ℕ) → AllPairs Nests ls → q ≤ p → HasLoop ls q p → key_before ls p cs q (next_copies ls p q cs) ≡ true
+pub back_up : (ls : List Loop) (p q : ℕ) (cs : List ℕ) → AllPairs Nests ls → q ≤ p → HasLoop ls q p → key_before (key ls p cs) (key ls q (next_copies ls p q cs)) ≡ true
 back_up [] p q cs n h has = absurd has
 back_up (l ∷ ls) p q cs n h (inl has) =
-    lex_lt (side l p (first cs)) (side l q (next_copy l p q (first cs))) (key_before ls p (rest cs) q (next_copies ls p q (rest cs))) (own_up l p q (first cs) h has.1 has.0)
+    lex_lt (side l p (first cs)) (side l q (next_copy l p q (first cs))) (key_before (key ls p (rest cs)) (key ls q (next_copies ls p q (rest cs)))) (own_up l p q (first cs) h has.1 has.0)
 back_up (l ∷ ls) p q cs n h (inr has) =
     let o = nests_has l ls q p (nested_first l ls n) has in
-    lex_same (side l p (first cs)) (side l q (next_copy l p q (first cs))) (key_before ls p (rest cs) q (next_copies ls p q (rest cs))) (outer_same l p q (first cs) o.0 h o.1 o.2 o.3)
+    lex_same (side l p (first cs)) (side l q (next_copy l p q (first cs))) (key_before (key ls p (rest cs)) (key ls q (next_copies ls p q (rest cs)))) (outer_same l p q (first cs) o.0 h o.1 o.2 o.3)
     ∙ back_up ls p q (rest cs) (nested_rest l ls n) h has

@@ -12,10 +12,11 @@ use Rattle.bpf_isa.specs.declared.operation.Op.TheVariants.{Ja, Jump, Exit}
 use Rattle.bpf_isa.specs.declared.instruction.Insn.{Insn}
 use Rattle.bpf_isa.specs.Spelling.{units_of, IsInsn}
 use Rattle.bpf_isa.specs.Text.{insn_at}
+use Rattle.bpf_isa.proofs.LaidLaws.{legal_at}
 use Rattle.xdp_maps.specs.declared.decl.MapDecl.{MapDecl}
 use Rattle.xdp_machine.specs.Values.{Value}
 use Rattle.xdp_machine.specs.Values as is
-use Rattle.xdp_machine.specs.State.{Code, Machine, PacketIn, begins}
+use Rattle.xdp_machine.specs.State.{Code, Machine, begins}
 use Rattle.xdp_machine.specs.State as machine
 use Rattle.xdp_machine.specs.Step.{Goes, Ends, NoCase, step, goes_to}
 use Rattle.xdp_machine.specs.Program.{XdpProgram, program_code, IsProgram, IsDeclaration}
@@ -42,7 +43,6 @@ use Rattle.unfold_core.specs.Graphs.{first_point, ends, leading, IsGraph}
 use Rattle.unfold_core.specs.Pending.{number_of}
 use Rattle.unfold_core.specs.Unfolding.{jumps_first, numbered, links, IsUnfolded}
 use Rattle.unfold_core.specs.RunLaws.{StandsAt, edge, Follows, ends as comes_to_end, goes as goes_on, RunsAreSound}
-use Rattle.unfold_core.proofs.Laid.{legal_at}
 use Rattle.unfold_core.proofs.NodeLaws.{nodes_are_ordered, start_is_node}
 use Rattle.unfold_core.proofs.EdgesUp.{leaving_goes_up}
 use Rattle.unfold_core.proofs.Arriving.{Fine, fine_of, same_itself}

@@ -4,6 +4,7 @@ use Rattle.std.proofs.lemmas.Bool.Decides.{nat_tests}
 use Rattle.std.specs.Cmp.Lexicographic.{pointwise, same_text}
 use Rattle.std.specs.List.{list_all}
 use Rattle.std.specs.Str.Parse.{digits_value}
+use Rattle.std.proofs.lemmas.Bool.{and_from, and_left, and_parts}
 use Rattle.verilog_lex.specs.Bytes.{is_digit, begins_word, is_word_byte}
 use Rattle.verilog_lex.specs.Words.{keyword_text, keywords, symbol_text}
 use Rattle.verilog_lex.specs.Number.{has_leading_zero}
@@ -18,7 +19,7 @@ use Rattle.verilog_lex.specs.declared.token.Symbol.{Symbol}
 use Rattle.verilog_lex.specs.declared.token.Symbol.TheVariants as symbol_named
 use Rattle.verilog_lex.specs.declared.token.TokenKind.{TokenKind}
 use Rattle.verilog_lex.specs.declared.token.TokenKind.TheVariants as kind
-use Rattle.verilog_lex.proofs.Choices.{both, first_true, second_true, first_false, find_passes, word_no_digit}
+use Rattle.verilog_lex.proofs.ByteRuns.{find_passes, word_no_digit}
 use Rattle.verilog_lex.proofs.Prefixes.{word_kind-keyword}
 
 -- a zero in front of a digit
@@ -30,7 +31,7 @@ zero_front (c ∷ d ∷ rest) = (c == 48) && is_digit d
 zero_shows : (digits rest : List ℕ) → list_all is_digit digits ≡ true → has_leading_zero digits ≡ true → zero_front (digits ++ rest) ≡ true
 zero_shows [] rest e z = absurd cc
 zero_shows (c ∷ []) rest e z = absurd cc
-zero_shows (c ∷ d ∷ digits) rest e z = both (c == 48) (is_digit d) z (first_true (is_digit d) (list_all is_digit digits) (second_true (is_digit c) _ e))
+zero_shows (c ∷ d ∷ digits) rest e z = and_from (c == 48) (is_digit d) z (and_parts (is_digit d) (list_all is_digit digits) (and_parts (is_digit c) _ e).1).0
 
 -- no digits above 65,536, and no zero in front of another digit
 not_refused : (bytes : List ℕ) → (list_all is_digit bytes ≡ true → digits_value 10 bytes ≤ 65536) → zero_front bytes ≡ false → IsRefused bytes → ⊥
@@ -61,12 +62,12 @@ word_no_zero c e = grind (arith, nat_tests)
 
 word_front : (c : ℕ) (bytes : List ℕ) → begins_word c ≡ true → zero_front (c ∷ bytes) ≡ false
 word_front c [] e = refl
-word_front c (d ∷ bytes) e = first_false (c == 48) (is_digit d) (word_no_zero c e)
+word_front c (d ∷ bytes) e = and_left (c == 48) (is_digit d) (word_no_zero c e)
 
 digits_front : (digits : List ℕ) → has_leading_zero digits ≡ false → zero_front digits ≡ false
 digits_front [] z = refl
 digits_front (c ∷ []) z = refl
-digits_front (c ∷ d ∷ digits) z = first_false (c == 48) (is_digit d) z
+digits_front (c ∷ d ∷ digits) z = and_left (c == 48) (is_digit d) z
 
 second_false : (a : Bool) → a && false ≡ false
 second_false true = refl
@@ -76,17 +77,17 @@ size_front : (size rest : List ℕ) → has_leading_zero size ≡ false → zero
 size_front [] [] z = refl
 size_front [] (c ∷ rest) z = refl
 size_front (c ∷ []) rest z = second_false (c == 48)
-size_front (c ∷ d ∷ size) rest z = first_false (c == 48) (is_digit d) z
+size_front (c ∷ d ∷ size) rest z = and_left (c == 48) (is_digit d) z
 
 -- an apostrophe is no digit
 constant_digits : (size rest : List ℕ) → list_all is_digit (size ++ (39 ∷ rest)) ≡ true → ⊥
 constant_digits [] rest e = absurd cc
-constant_digits (c ∷ size) rest e = constant_digits size rest (second_true (is_digit c) _ e)
+constant_digits (c ∷ size) rest e = constant_digits size rest (and_parts (is_digit c) _ e).1
 
 pub kind_not_refused : (bytes : List ℕ) (k : TokenKind) → HasKind bytes k → IsRefused bytes → ⊥
 kind_not_refused bytes k (keyword w) = not_refused (keyword_text w) (true_or_false _ (keyword_digits w)) (keyword_front w)
 kind_not_refused bytes k (name c cs b e other) =
-    not_refused (c ∷ cs) (λ d. true_or_false (is_digit c) (word_no_digit c b) (first_true (is_digit c) (list_all is_digit cs) d)) (word_front c cs b)
+    not_refused (c ∷ cs) (λ d. true_or_false (is_digit c) (word_no_digit c b) (and_parts (is_digit c) (list_all is_digit cs) d).0) (word_front c cs b)
 kind_not_refused bytes k (number digits r z h) = not_refused digits (λ _. h) (digits_front digits z)
 kind_not_refused bytes k (constant size base radix digits r z e s) =
     not_refused (size ++ (39 ∷ base ∷ digits)) (λ d. absurd (constant_digits size (base ∷ digits) d)) (size_front size (base ∷ digits) z)

@@ -1,4 +1,4 @@
-pub mod Choices
+pub mod ByteRuns
 pub mod Elements
 pub mod LeadsLemmas
 pub mod LexemeLaws

@@ -8,6 +8,7 @@ use Rattle.std.proofs.lemmas.List.Sums.{prefix_len-le-length}
 use Rattle.std.specs.Cmp.Lexicographic.{same_text}
 use Rattle.std.specs.Str.Parse.{digits_value}
 use Rattle.std.specs.List.{prefix_len, list_all, find, starts_with}
+use Rattle.std.proofs.lemmas.Bool.{and_from, and_left, and_parts, cond-false, cond-true, cond_both, or_right, eqb-true}
 use Rattle.verilog_lex.specs.Bytes.{is_space, is_comment_byte, is_digit, begins_word, is_word_byte, begins_with, is_digit_of}
 use Rattle.verilog_lex.specs.Words.{symbol_text, symbols as all_symbols}
 use Rattle.verilog_lex.specs.Number.{has_leading_zero, radix_of, some_digits, digits_after, constant_in, sized_kind}
@@ -25,7 +26,7 @@ use Rattle.verilog_lex.specs.declared.element.LexicalElement.{LexicalElement}
 use Rattle.verilog_lex.specs.declared.element.LexicalElement.TheVariants.{Separator, Token, Nothing}
 use Rattle.verilog_lex.proofs.KindLemmas.{kind_form, kind_not_refused, word_has_kind}
 use Rattle.verilog_lex.proofs.Elements.{symbol_positive, comment_within, constant_within, longer}
-use Rattle.verilog_lex.proofs.Choices.{either, if_true, if_false, both, first_true, second_true, first_false, or_second, find_passes, prefix_of, prefix_len-whole, word_no_space, word_no_slash, word_no_digit, digit_no_space, digit_no_slash}
+use Rattle.verilog_lex.proofs.ByteRuns.{find_passes, prefix_of, prefix_len-whole, word_no_space, word_no_slash, word_no_digit, digit_no_space, digit_no_slash}
 
 -- how many bytes the longest prefix with a form has, whether or not it is refused
 abbrev tail_reach : Option (ℕ × ℕ) → ℕ
@@ -50,34 +51,34 @@ reach (c ∷ rest) =
 
 reach-letter : (c : ℕ) (rest : List ℕ) → begins_word c ≡ true → reach (c ∷ rest) ≡ prefix_len is_word_byte (c ∷ rest)
 reach-letter c rest e =
-    if_false (is_space c) _ _ (word_no_space c e)
-    ∙ if_false ((c == 47) && begins_with 47 rest) _ _ (first_false (c == 47) (begins_with 47 rest) (word_no_slash c e))
-    ∙ if_false (is_digit c) _ _ (word_no_digit c e)
-    ∙ if_true (begins_word c) _ _ e
+    cond-false (is_space c) _ _ (word_no_space c e)
+    ∙ cond-false ((c == 47) && begins_with 47 rest) _ _ (and_left (c == 47) (begins_with 47 rest) (word_no_slash c e))
+    ∙ cond-false (is_digit c) _ _ (word_no_digit c e)
+    ∙ cond-true (begins_word c) _ _ e
 
 reach-digit : (c : ℕ) (rest : List ℕ) → is_digit c ≡ true → reach (c ∷ rest) ≡ number_reach (c ∷ rest)
 reach-digit c rest e =
-    if_false (is_space c) _ _ (digit_no_space c e)
-    ∙ if_false ((c == 47) && begins_with 47 rest) _ _ (first_false (c == 47) (begins_with 47 rest) (digit_no_slash c e))
-    ∙ if_true (is_digit c) _ _ e
+    cond-false (is_space c) _ _ (digit_no_space c e)
+    ∙ cond-false ((c == 47) && begins_with 47 rest) _ _ (and_left (c == 47) (begins_with 47 rest) (digit_no_slash c e))
+    ∙ cond-true (is_digit c) _ _ e
 
 -- a run is within the run of a longer text
 run_reach : (p : ℕ → Bool) (run rest : List ℕ) → list_all p run ≡ true → length run ≤ prefix_len p (run ++ rest)
 run_reach p [] rest e = omega arith
 run_reach p (c ∷ run) rest e =
-    let more : length run ≤ prefix_len p (run ++ rest) = run_reach p run rest (second_true (p c) (list_all p run) e) in
-    let one : prefix_len p ((c ∷ run) ++ rest) ≡ 1 + prefix_len p (run ++ rest) = if_true (p c) (1 + prefix_len p (run ++ rest)) 0 (first_true (p c) (list_all p run) e) in
+    let more : length run ≤ prefix_len p (run ++ rest) = run_reach p run rest (and_parts (p c) (list_all p run) e).1 in
+    let one : prefix_len p ((c ∷ run) ++ rest) ≡ 1 + prefix_len p (run ++ rest) = cond-true (p c) (1 + prefix_len p (run ++ rest)) 0 (and_parts (p c) (list_all p run) e).0 in
     omega arith
 
 digits_reach : (digits rest : List ℕ) → IsRun is_digit digits → reach (digits ++ rest) ≡ number_reach (digits ++ rest)
 digits_reach [] rest r = absurd (omega (arith, r.some))
-digits_reach (c ∷ digits) rest r = reach-digit c (digits ++ rest) (first_true _ _ r.all)
+digits_reach (c ∷ digits) rest r = reach-digit c (digits ++ rest) (and_parts _ _ r.all).0
 
 word_run : (c : ℕ) (bytes : List ℕ) → begins_word c ≡ true → list_all is_word_byte bytes ≡ true → list_all is_word_byte (c ∷ bytes) ≡ true
-word_run c bytes b e = both (is_word_byte c) (list_all is_word_byte bytes) (or_second (is_digit c) (begins_word c) b) e
+word_run c bytes b e = and_from (is_word_byte c) (list_all is_word_byte bytes) (or_right (is_digit c) (begins_word c) b) e
 
 some_tail : (radix n : ℕ) → 0 < n → tail_reach (some_digits radix n) ≡ 2 + n
-some_tail radix n h = ap tail_reach (if_false (n == 0) None (Some (radix, n)) (grind (arith, nat_tests)))
+some_tail radix n h = ap tail_reach (cond-false (n == 0) None (Some (radix, n)) (grind (arith, nat_tests)))
 
 -- what follows a size reaches as far as its digits
 tail_of : (base radix : ℕ) (digits rest : List ℕ) → radix_of base ≡ Some radix → IsRun (is_digit_of radix) digits → 2 + length digits ≤ tail_reach (constant_in (39 ∷ base ∷ (digits ++ rest)))
@@ -103,8 +104,8 @@ constant_reach size base radix digits rest r e s =
 
 -- a search that one element passes finds one
 finds : {X : Type 0} (P : Option X → Type 0) (test : X → Bool) (xs ys : List X) (x : X) → test x ≡ true → ((y : X) → P (Some y)) → P (find test (xs ++ x ∷ ys))
-finds P test [] ys x e h = subst P (sym (if_true (test x) (Some x) (find test ys) e)) (h x)
-finds P test (z ∷ xs) ys x e h = either P (test z) (Some z) (find test (xs ++ x ∷ ys)) (λ _. h z) (λ _. finds P test xs ys x e h)
+finds P test [] ys x e h = subst P (sym (cond-true (test x) (Some x) (find test ys) e)) (h x)
+finds P test (z ∷ xs) ys x e h = cond_both (test z) (Some z) (find test (xs ++ x ∷ ys)) P (λ _. h z) (λ _. finds P test xs ys x e h)
 
 -- a symbol of one byte is within reach, though a longer one may stand there
 one_byte : (c : ℕ) (rest : List ℕ) (before after : List Symbol) (s : Symbol) → starts_with nat_eq (c ∷ rest) (symbol_text s) ≡ true → 1 ≤ symbol_reach (find (λ s. starts_with nat_eq (c ∷ rest) (symbol_text s)) (before ++ s ∷ after))
@@ -115,13 +116,13 @@ symbol_within_reach symbols.Assign rest = one_byte 61 rest (take 17 all_symbols)
 symbol_within_reach symbols.Less rest = one_byte 60 rest (take 18 all_symbols) (drop 19 all_symbols) symbols.Less refl
 symbol_within_reach symbols.Greater rest = one_byte 62 rest (take 19 all_symbols) (drop 20 all_symbols) symbols.Greater refl
 symbol_within_reach symbols.Slash rest =
-    either (λ n. 1 ≤ n) (begins_with 47 rest) (2 + prefix_len is_comment_byte (drop 1 rest)) (symbol_reach (symbol_at (47 ∷ rest)))
+    cond_both (begins_with 47 rest) (2 + prefix_len is_comment_byte (drop 1 rest)) (symbol_reach (symbol_at (47 ∷ rest))) (λ n. 1 ≤ n)
     (λ _. omega arith) (λ _. one_byte 47 rest (take 23 all_symbols) (drop 24 all_symbols) symbols.Slash refl)
 symbol_within_reach s rest = omega arith
 
 -- each form is within the reach of a text that begins with it
 within_reach : (bytes rest : List ℕ) → IsForm bytes → length bytes ≤ reach (bytes ++ rest)
-within_reach bytes rest (separator bs (space c e)) = let one : reach (c ∷ rest) ≡ 1 = if_true {A = ℕ} (is_space c) _ _ e in omega (arith, one)
+within_reach bytes rest (separator bs (space c e)) = let one : reach (c ∷ rest) ≡ 1 = cond-true {A = ℕ} (is_space c) _ _ e in omega (arith, one)
 within_reach bytes rest (separator ds (comment bs e)) = let more : length bs ≤ prefix_len is_comment_byte (bs ++ rest) = run_reach is_comment_byte bs rest e in omega arith
 within_reach bytes rest (word c bs b e) =
     let more : length (c ∷ bs) ≤ prefix_len is_word_byte ((c ∷ bs) ++ rest) = run_reach is_word_byte (c ∷ bs) rest (word_run c bs b e) in
@@ -163,10 +164,10 @@ token_at text k n e within h = record {
 run_all : (p : ℕ → Bool) (text : List ℕ) → list_all p (take (prefix_len p text) text) ≡ true
 run_all p [] = refl
 run_all p (c ∷ text) =
-    either (λ n. list_all p (take n (c ∷ text)) ≡ true) (p c) (1 + prefix_len p text) 0
+    cond_both (p c) (1 + prefix_len p text) 0 (λ n. list_all p (take n (c ∷ text)) ≡ true)
     (λ e.
     let more : 1 + prefix_len p text ≡ suc (prefix_len p text) = omega arith in
-    ap (λ n. list_all p (take n (c ∷ text))) more ∙ both (p c) (list_all p (take (prefix_len p text) text)) e (run_all p text)) (λ _. refl)
+    ap (λ n. list_all p (take n (c ∷ text))) more ∙ and_from (p c) (list_all p (take (prefix_len p text) text)) e (run_all p text)) (λ _. refl)
 
 run_of : (p : ℕ → Bool) (c : ℕ) (rest : List ℕ) → p c ≡ true → IsRun p (take (prefix_len p (c ∷ rest)) (c ∷ rest))
 run_of p c rest e =
@@ -188,9 +189,6 @@ none_longest text n e l =
     let none : n ≡ 0 = omega (arith, prefix_reach text n l.within l.form, e) in
     absurd (omega (arith, form_some (take n text) l.form, ap (λ m. length (take m text)) none))
 
-eq_true : (m n : ℕ) → (m == n) ≡ true → m ≡ n
-eq_true m n e = grind (arith, nat_tests)
-
 comment_form : (c d : ℕ) (rest : List ℕ) → c ≡ 47 → d ≡ 47 → IsSeparator (take (2 + prefix_len is_comment_byte rest) (c ∷ d ∷ rest))
 comment_form c d rest e f =
     let k = prefix_len is_comment_byte rest in
@@ -201,17 +199,17 @@ comment_form c d rest e f =
     subst P two (subst Q (sym e) (subst R (sym f) (comment (take k rest) (run_all is_comment_byte rest))))
 
 comment_longest : (c : ℕ) (rest : List ℕ) → is_space c ≡ false → (c == 47) && begins_with 47 rest ≡ true → IsLongestElement (c ∷ rest) (Separator (2 + prefix_len is_comment_byte (drop 1 rest)))
-comment_longest c [] a e = absurd (let f : false ≡ true = second_true (c == 47) false e in cc)
+comment_longest c [] a e = absurd (let f : false ≡ true = (and_parts (c == 47) false e).1 in cc)
 comment_longest c (d ∷ rest) a e =
     separator_at (c ∷ d ∷ rest) (2 + prefix_len is_comment_byte rest)
-    (if_false {A = ℕ} (is_space c) _ _ a ∙ if_true {A = ℕ} ((c == 47) && begins_with 47 (d ∷ rest)) _ _ e)
-    (comment_within (d ∷ rest) (second_true (c == 47) (d == 47) e))
-    (comment_form c d rest (eq_true c 47 (first_true (c == 47) (d == 47) e)) (eq_true d 47 (second_true (c == 47) (d == 47) e)))
+    (cond-false {A = ℕ} (is_space c) _ _ a ∙ cond-true {A = ℕ} ((c == 47) && begins_with 47 (d ∷ rest)) _ _ e)
+    (comment_within (d ∷ rest) (and_parts (c == 47) (d == 47) e).1)
+    (comment_form c d rest (eqb-true c 47 (and_parts (c == 47) (d == 47) e).0) (eqb-true d 47 (and_parts (c == 47) (d == 47) e).1))
 
 word_longest : (c : ℕ) (rest : List ℕ) → begins_word c ≡ true → IsLongestElement (c ∷ rest) (word_in (c ∷ rest))
 word_longest c rest e =
     let k = prefix_len is_word_byte rest in
-    let first : prefix_len is_word_byte (c ∷ rest) ≡ 1 + k = if_true {A = ℕ} (is_word_byte c) _ _ (or_second (is_digit c) (begins_word c) e) in
+    let first : prefix_len is_word_byte (c ∷ rest) ≡ 1 + k = cond-true {A = ℕ} (is_word_byte c) _ _ (or_right (is_digit c) (begins_word c) e) in
     let whole : suc k ≡ prefix_len is_word_byte (c ∷ rest) = omega (arith, first) in
     let P : ℕ → Type 0 = λ n. HasKind (take n (c ∷ rest)) (word_kind (take n (c ∷ rest))) in
     token_at (c ∷ rest) (word_kind (take (prefix_len is_word_byte (c ∷ rest)) (c ∷ rest))) (prefix_len is_word_byte (c ∷ rest)) (reach-letter c rest e)
@@ -239,7 +237,7 @@ digits_kind size rest q base None c run z e f = λ g. absurd cc
 digits_kind size rest q base (Some radix) c run z e f =
     let k = prefix_len (is_digit_of radix) rest in
     let P : Option (ℕ × ℕ) → Type 0 = λ o. o ≡ Some c → HasSize size (q ∷ base ∷ rest) c in
-    either P (k == 0) None (Some (radix, k)) (λ _ g. absurd cc) (λ n g.
+    cond_both (k == 0) None (Some (radix, k)) P (λ _ g. absurd cc) (λ n g.
     let same : (radix, k) ≡ c = cc in
     subst (HasSize size (q ∷ base ∷ rest)) same (some_kind size rest q base radix k run z e f refl (grind (arith, nat_tests))))
 
@@ -248,7 +246,7 @@ constant_kind size [] c run z = λ e. absurd cc
 constant_kind size (q ∷ []) c run z = λ e. absurd cc
 constant_kind size (q ∷ base ∷ rest) c run z =
     let P : Option (ℕ × ℕ) → Type 0 = λ o. o ≡ Some c → HasSize size (q ∷ base ∷ rest) c in
-    either P (q == 39) (digits_after (radix_of base) rest) None (λ t e. digits_kind size rest q base (radix_of base) c run z (eq_true q 39 t) refl e) (λ _ e. absurd cc)
+    cond_both (q == 39) (digits_after (radix_of base) rest) None P (λ t e. digits_kind size rest q base (radix_of base) c run z (eqb-true q 39 t) refl e) (λ _ e. absurd cc)
 
 -- the size itself has a form
 size_form : (size after : List ℕ) → IsRun is_digit size → IsForm (take (length size) (size ++ after))
@@ -272,7 +270,7 @@ sized_longest : (size after : List ℕ) (o : Option (ℕ × ℕ)) → IsRun is_d
 sized_longest size after None run z e f =
     let P : LexicalElement → Type 0 = λ p. IsLongestElement (size ++ after) p in
     let whole : reach (size ++ after) ≡ length size = omega (arith, e) in
-    either P (nat_le (digits_value 10 size) 65536) _ _
+    cond_both (nat_le (digits_value 10 size) 65536) _ _ P
     (λ b. token_at (size ++ after) (kind.Number (digits_value 10 size)) (length size) whole (omega (arith, length-append size after))
     (subst (λ bytes. HasKind bytes (kind.Number (digits_value 10 size))) (sym (take-append_seam size after)) (number_kind size run z (grind (arith, nat_tests)))))
     (λ b n l.
@@ -292,7 +290,7 @@ sized_longest size after (Some c) run z e f =
 number_parts : (size after : List ℕ) → IsRun is_digit size → reach (size ++ after) ≡ length size + tail_reach (constant_in after) → IsLongestElement (size ++ after) (number_element size after)
 number_parts size after run e =
     let P : LexicalElement → Type 0 = λ p. IsLongestElement (size ++ after) p in
-    either P (has_leading_zero size) Nothing (sized_or_plain size after (constant_in after))
+    cond_both (has_leading_zero size) Nothing (sized_or_plain size after (constant_in after)) P
     (λ z n l. zero_refused size after n run z (size_first size after n run l)) (λ z. sized_longest size after (constant_in after) run z e refl)
 
 number_longest : (c : ℕ) (rest : List ℕ) → is_digit c ≡ true → IsLongestElement (c ∷ rest) (number_in (c ∷ rest))
@@ -317,10 +315,10 @@ pub element_longest : (text : List ℕ) → IsLongestElement text (element_in te
 element_longest [] = λ n l. none_longest [] n refl l
 element_longest (c ∷ rest) =
     let P : LexicalElement → Type 0 = λ p. IsLongestElement (c ∷ rest) p in
-    either P (is_space c) _ _ (λ e. separator_at (c ∷ rest) 1 (if_true {A = ℕ} (is_space c) _ _ e) (omega arith) (space c e)) (λ a.
-    either P ((c == 47) && begins_with 47 rest) _ _ (λ e. comment_longest c rest a e) (λ b.
-    either P (is_digit c) _ _ (λ d. number_longest c rest d) (λ d.
-    either P (begins_word c) _ _ (λ w. word_longest c rest w) (λ w.
+    cond_both (is_space c) _ _ P (λ e. separator_at (c ∷ rest) 1 (cond-true {A = ℕ} (is_space c) _ _ e) (omega arith) (space c e)) (λ a.
+    cond_both ((c == 47) && begins_with 47 rest) _ _ P (λ e. comment_longest c rest a e) (λ b.
+    cond_both (is_digit c) _ _ P (λ d. number_longest c rest d) (λ d.
+    cond_both (begins_word c) _ _ P (λ w. word_longest c rest w) (λ w.
     symbol_longest (c ∷ rest) (symbol_at (c ∷ rest))
-    (if_false {A = ℕ} (is_space c) _ _ a ∙ if_false {A = ℕ} ((c == 47) && begins_with 47 rest) _ _ b ∙ if_false {A = ℕ} (is_digit c) _ _ d ∙ if_false {A = ℕ} (begins_word c) _ _ w)
+    (cond-false {A = ℕ} (is_space c) _ _ a ∙ cond-false {A = ℕ} ((c == 47) && begins_with 47 rest) _ _ b ∙ cond-false {A = ℕ} (is_digit c) _ _ d ∙ cond-false {A = ℕ} (begins_word c) _ _ w)
     refl))))

@@ -18,7 +18,7 @@ use Rattle.verilog_lex.specs.declared.token.Symbol.TheVariants as symbol
 use Rattle.verilog_lex.specs.declared.token.TokenKind.{TokenKind}
 use Rattle.verilog_lex.specs.declared.token.TokenKind.TheVariants as kind
 use Rattle.verilog_lex.proofs.Prefixes.{element_in-word, element_in-number, element_in-sized, keyword_is_word, word_kind-keyword, stops_words}
-use Rattle.verilog_lex.proofs.Choices.{prefix_len-whole}
+use Rattle.verilog_lex.proofs.ByteRuns.{prefix_len-whole}
 
 -- a token, and then a text
 Lexes-prefix : (text rest : List ℕ) (k : TokenKind) (ls : List Lexeme) → element_in (text ++ rest) ≡ Token k (length text) → Lexes rest ls → Lexes (text ++ rest) (lexeme k text ∷ ls)

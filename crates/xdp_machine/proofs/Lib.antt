@@ -4,5 +4,6 @@ pub mod StepLaws
 pub mod PartLaws
 pub mod NumberLaws
 pub mod FitLaws
+pub mod SizeLaws
 pub mod TouchLaws
 pub mod RangeLaws

@@ -1,7 +1,7 @@
 -- A step keeps what a machine holds in range.
-use Rattle.std.proofs.Common.{◌≡◌, ℕ, zero, suc, ◌+◌, ◌-◌, ◌*◌, ◌/◌, ◌%◌, ◌^◌, ◌<◌, ℤ, pos, negsuc, ◌+ℤ◌, neg_ℤ, Bool, true, false, List, [], ◌∷◌, length, drop, get_or, set, Some, None, IfSome, refl, sym, ◌∙◌, ap, subst, arith}
+use Rattle.std.proofs.Common.{◌≡◌, ℕ, zero, suc, ◌+◌, ◌-◌, ◌*◌, ◌/◌, ◌%◌, ◌^◌, ◌<◌, ℤ, pos, negsuc, ◌+ℤ◌, neg_ℤ, Bool, true, false, List, ◌∷◌, length, drop, get_or, set, Some, None, IfSome, refl, sym, ◌∙◌, ap, subst, arith}
 use Rattle.std.specs.Option.{option_map}
-use Rattle.std.specs.Prelude.{Option, nat_lt, All, if◌then◌else◌, is_some, slice_get, unsigned_abs, int_le, int_lt, ◌==◌, ◌&&◌}
+use Rattle.std.specs.Prelude.{Option, All, if◌then◌else◌, is_some, slice_get, unsigned_abs, int_le, int_lt, ◌==◌, ◌&&◌}
 use Rattle.std.specs.Ordering.{int_eq}
 use Rattle.std.specs.List.{list_any}
 use Rattle.std.specs.Int.{w64, cast_unsigned}
@@ -9,7 +9,7 @@ use Rattle.std.specs.Int.RustNames.{FitsSigned}
 use Rattle.std.specs.Int.Signed.{mag}
 use Rattle.std.proofs.lemmas.Nat.{mod_below}
 use Rattle.std.proofs.lemmas.Bool.Decides.{nat_tests}
-use Rattle.std.proofs.lemmas.List.Elements.{All-from_recursion, All-replicate, All-head, All-tail, All-cons, All-set, All-drop}
+use Rattle.std.proofs.lemmas.List.Elements.{All-from_recursion, All-replicate, All-cons, All-set, All-drop}
 use Rattle.std.proofs.lemmas.Option.{get_or_from_slice_get, slice_get_within}
 use Rattle.byteorder.specs.Endian.{little_bytes}
 use Rattle.bits_core.specs.Bits.{signed_of}
@@ -27,6 +27,7 @@ use Rattle.bpf_isa.specs.declared.instruction.Insn.{Insn}
 use Rattle.bpf_isa.specs.Rules.{Allows, rules_of}
 use Rattle.bpf_isa.specs.Spelling.{IsInsn, FitsOp, units_of}
 use Rattle.bpf_isa.specs.Text.{insn_at}
+use Rattle.bpf_isa.proofs.LaidLaws.{legal_at}
 use Rattle.xdp_maps.specs.declared.change.Change.{Change}
 use Rattle.xdp_maps.specs.declared.change.ChangeKind.{ChangeKind}
 use Rattle.xdp_maps.specs.declared.change.ChangeKind.TheVariants.{Cmpxchg}
@@ -437,21 +438,10 @@ outcome_own code m i Exit new range legal e = absurd (exits-goes _ new e)
 outcome_own code m i op new range legal e =
     goes_on_own code.insns m.place (units_of op) m new (effect code.refs m i op) (λ other h. effect_own code.refs m i op other range legal h) e
 
--- an instruction that begins at a place is one of the code
-legal_at : (is : List Insn) (place : ℕ) (i : Insn) → All IsInsn is → insn_at is place ≡ Some i → IsInsn i
-legal_at [] place i all e = absurd (cc)
-legal_at (j ∷ is) zero i all e = subst IsInsn (some_inj j i e) (All-head IsInsn j is all)
-legal_at (j ∷ is) (suc n) i all e =
-    by_test (nat_lt (suc n) (units_of j.op)) (legal_at is (suc n - units_of j.op) i (All-tail IsInsn j is all)) e
-  where
-    by_test : (b : Bool) → (insn_at is (suc n - units_of j.op) ≡ Some i → IsInsn i) → (if b then None else insn_at is (suc n - units_of j.op)) ≡ Some i → IsInsn i
-    by_test true later h = absurd (cc)
-    by_test false later h = later h
-
 at_own : (code : Code) (m : Machine) (o : Option Insn) (new : Machine) → All IsInsn code.insns → IsInRange m → insn_at code.insns m.place ≡ o → outcome_at code m o ≡ Goes new → Own m new
 at_own code m None new all range is e = absurd (cc)
 at_own code m (Some i) new all range is e =
-    let legal = legal_at code.insns m.place i all is in
+    let legal = subst (λ o. IfSome o IsInsn) is (legal_at code.insns m.place all) in
     outcome_own code m i i.op new range (record { range = legal.imm_range; imm = legal.imm }) e
 
 after_decls : (o : Option (ℕ × Operation)) (s : MapState) → (after o s).decls ≡ s.decls

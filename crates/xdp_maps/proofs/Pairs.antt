@@ -1,5 +1,5 @@
 -- The numbered pairs of a map are those that lookups find.
-use Rattle.std.proofs.Common.{◌≡◌, ℕ, zero, suc, ◌<◌, true, false, cond, List, [], ◌∷◌, length, get_or, Option, Some, None, slice_get, refl, sym, ap, subst, ◌∙◌, arith}
+use Rattle.std.proofs.Common.{◌≡◌, ℕ, suc, true, false, cond, List, [], ◌∷◌, get_or, Option, Some, None, slice_get, refl, sym, ap, subst, ◌∙◌}
 use Rattle.std.specs.declared.cmp.Ordering.{Ordering}
 use Rattle.std.specs.Ordering.{nat_cmp, eq_by_cmp}
 use Rattle.std.specs.Cmp.{IsTotalOrder}
@@ -7,7 +7,7 @@ use Rattle.std.specs.Cmp.Lexicographic.{slice_cmp}
 use Rattle.std.specs.Option.{option_map}
 use Rattle.std.specs.FinMap as map
 use Rattle.std.specs.FinMap.{IsAntisymmetric, find, get-entries, entries_sorted}
-use Rattle.std.proofs.lemmas.Option.{get_or_from_slice_get}
+use Rattle.std.proofs.lemmas.Option.{get_or_from_slice_get, slice_get_within}
 use Rattle.xdp_maps.specs.declared.decl.MapKind.{MapKind}
 use Rattle.xdp_maps.specs.declared.decl.MapKind.TheVariants.{Hash, Array}
 use Rattle.xdp_maps.specs.declared.decl.MapDecl.{MapDecl}
@@ -19,11 +19,6 @@ use Rattle.xdp_maps.proofs.Hashes.{order_total, order_exact, from_T}
 use Rattle.xdp_maps.proofs.Arrays.{index_key-index_of}
 use Rattle.xdp_maps.proofs.Opened.{bytes_below}
 
-inside : {X : Type 0} (xs : List X) (i : ℕ) (x : X) → slice_get xs i ≡ Some x → i < length xs
-inside [] i x h = cc
-inside (y ∷ xs) zero x h = omega arith
-inside (y ∷ xs) (suc i) x h = let rest = inside xs i x h in omega arith
-
 module _ {K X : Type 0} (order : K → K → Ordering) (total : IsTotalOrder order) (exact : IsAntisymmetric order) where
   -- a pair is found under its key
   pub pair_found : (m : map.FinMap order X) (i : ℕ) (k : K) (v : X) → slice_get (map.entries m) i ≡ Some (k, v) → map.get m k ≡ Some v
@@ -31,7 +26,7 @@ module _ {K X : Type 0} (order : K → K → Ordering) (total : IsTotalOrder ord
       let es = map.entries m in
       let rising : IsRising order es = from_T _ (entries_sorted m) in
       let pair : (d : K × X) → get_or es i d ≡ (k, v) = λ d. get_or_from_slice_get es i (k, v) d h in
-      let at : IsAt es k i = record { in_range = inside es i (k, v) h; has_key = λ d. sym (ap (λ (e : K × X). e.0) (pair d)) } in
+      let at : IsAt es k i = record { in_range = slice_get_within es i (k, v) h; has_key = λ d. sym (ap (λ (e : K × X). e.0) (pair d)) } in
       get-entries m k ∙ find_at order total exact es k i rising at (k, v) ∙ ap (λ (e : K × X). Some e.1) (pair (k, v))
 
   pair_among : (es : List (K × X)) (k : K) (v : X) → find order k es ≡ Some v → (i : ℕ) × (slice_get es i ≡ Some (k, v))

@@ -1,17 +1,17 @@
 -- What the relocations of a function say of its places, one relocation after the other.
-use Rattle.std.proofs.Common.{◌≡◌, ◌∙◌, ℕ, pos, zero, suc, ◌+◌, ◌-◌, ◌/◌, ◌<◌, ◌≤◌, ◌==◌, ◌⊎◌, inl, inr, Bool, true, false, cond, ltb, Option, Some, None, List, [], ◌∷◌, ◌++◌, length, get_or, take, drop, map, refl, sym, ap, subst, arith}
+use Rattle.std.proofs.Common.{◌≡◌, ◌∙◌, ℕ, pos, zero, suc, ◌+◌, ◌-◌, ◌/◌, ◌<◌, ◌≤◌, ◌==◌, inl, inr, Bool, true, false, cond, ltb, Option, Some, None, List, [], ◌∷◌, ◌++◌, length, get_or, take, drop, map, refl, sym, ap, subst, arith}
 use Rattle.std.proofs.lemmas.Bool.{cases_lt, le-ltb}
 use Rattle.std.proofs.lemmas.List.{drop_all, get_or_past, take_at}
 use Rattle.std.proofs.lemmas.List.FromFn.{fill_by_all, get_or-map-range_with_len, length-map-range_with_len}
 use Rattle.std.proofs.Math.Seq.{drop-cons}
 use Rattle.std.specs.List.{range_with_len}
 use Rattle.std.specs.Option.{option_map_or, option_or}
-use Rattle.bpf_isa.specs.declared.operation.Op.{Op}
 use Rattle.bpf_isa.specs.declared.operation.Op.TheVariants.{LoadImm}
 use Rattle.bpf_isa.specs.declared.instruction.Insn.{Insn}
 use Rattle.bpf_isa.specs.Spelling.{units_of}
 use Rattle.bpf_isa.specs.Text.{insn_at, unit_count}
 use Rattle.bpf_isa.proofs.Laws.{units_of-positive}
+use Rattle.bpf_isa.proofs.LaidLaws.{one_or_two}
 use Rattle.elf_view.specs.declared.parts.Rel.{Rel}
 use Rattle.elf_view.specs.declared.parts.Symbol.{Symbol}
 use Rattle.elf_view.specs.File.{e_shnum, entry_count, rel_at, section_bytes}
@@ -118,17 +118,13 @@ or_none : {X : Type 0} (a : Option X) → option_or a None ≡ a
 or_none None = refl
 or_none (Some x) = refl
 
-units_cases : (op : Op) → (units_of op ≡ 1) ⊎ (units_of op ≡ 2)
-units_cases LoadImm = inr refl
-units_cases op = inl refl
-
 -- the places of an instruction, and those behind it
 pub unknown-step : (places : List Relocated) (insns : List Insn) (k place n : ℕ) (d : Insn) → Walked insns k place → k < length insns
     → place + units_of (get_or insns k d).op ≤ n
     → first_from (unknown_at places insns) place (n - place)
     ≡ option_or (unknown_in places place (get_or insns k d))
     (first_from (unknown_at places insns) (place + units_of (get_or insns k d).op) (n - (place + units_of (get_or insns k d).op)))
-unknown-step places insns k place n d w lt inside = elim (units_cases (get_or insns k d).op) [
+unknown-step places insns k place n d w lt inside = elim (one_or_two (get_or insns k d).op) [
   | inl one ↦
       let left : n - place - 1 ≡ n - (place + 1) = omega arith in
       first_from-next (unknown_at places insns) place (n - place) (omega (arith, one, inside))

@@ -1,13 +1,9 @@
 -- Instructions by their units.
-use Rattle.std.specs.Prelude.{ℕ, ◌≡◌, ◌-◌, ◌^◌, ◌<◌, List, [], ◌∷◌, ◌++◌, length, replicate, slice_index_or, All, Option, Some, None}
+use Rattle.std.specs.Prelude.{ℕ, ◌≡◌, ◌^◌, ◌<◌, List, [], ◌∷◌, length, slice_index_or, All, Option, Some, None}
 use Rattle.bpf_isa.specs.declared.instruction.Insn.{Insn}
-use Rattle.bpf_isa.specs.Spelling.{units_of, IsInsn}
+use Rattle.bpf_isa.specs.Spelling.{IsInsn}
+use Rattle.bpf_isa.specs.Laid.{laid}
 use Rattle.xdp_machine.specs.State.{Code}
-
--- each instruction at its first unit, and nothing at the second of a load of 64 bits
-abbrev pub laid : List Insn → List (Option Insn)
-laid [] = []
-laid (i ∷ is) = Some i ∷ (replicate (units_of i.op - 1) None ++ laid is)
 
 -- the instructions of units
 abbrev pub insns_of : List (Option Insn) → List Insn

@@ -3,10 +3,10 @@
 ghost use Rattle.std.specs.Prelude.{◌≡◌, ◌-◌, ◌∷◌, ◌++◌, length, replicate, Some, None, IfOk, OnOk};
 ghost use Rattle.bpf_isa.specs.declared.instruction.Insn.{Insn};
 ghost use Rattle.bpf_isa.specs.Spelling.{units_of};
+ghost use Rattle.bpf_isa.specs.Laid.{laid};
 ghost use Rattle.xdp_machine.specs.State.{start};
 ghost use Rattle.xdp_machine.specs.Program.{program_code};
 ghost use Rattle.xdp_machine.specs.Runs.{run};
-ghost use Rattle.xdp_seq.specs.Units.{laid};
 ghost use Rattle.xdp_seq.specs.Answers.{Answers};
 
 use crate::run::{Ended, STEP_LIMIT, SeqError, run};

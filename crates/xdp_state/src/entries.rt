@@ -56,7 +56,7 @@ pub fn from_entry(maps: &Maps, q: u32, key: &[u8], o: i64, offset: i16, size: Si
 }
 
 // A store of a number into the value under a key, if there is one.
-#[tactic(auto, using(crate::proofs::Bytes::low_part))]
+#[tactic(auto, using(xdp_machine::proofs::SizeLaws::low_part))]
 fn store_number(maps: &mut Maps, q: u32, key: &[u8], at: u32, size: Size, n: u64) -> bool
     requires map { q < length maps.old.decls }
     requires key { length key.now ≡ (decl_at maps.old q).key }

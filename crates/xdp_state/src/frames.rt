@@ -28,7 +28,7 @@ pub fn from_frame(frame: &Frame, o: i64, offset: i16, size: Size) -> Option<Valu
 }
 
 /// A store of a number likewise.
-#[tactic(auto, using(crate::proofs::Bytes::low_part))]
+#[tactic(auto, using(xdp_machine::proofs::SizeLaws::low_part))]
 pub fn to_frame(frame: &mut Frame, o: i64, offset: i16, size: Size, n: u64) -> bool
     ensures { Makes result (to_frame frame.old (o +ℤ offset) size n) frame.old frame.new }
 {

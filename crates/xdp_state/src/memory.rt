@@ -71,7 +71,7 @@ pub fn bytes_of(n: u64) -> [u8; 8]
 }
 
 /// Writes the low bytes of a number from a place on.
-#[tactic(auto, using(crate::proofs::Bytes::low_part))]
+#[tactic(auto, using(xdp_machine::proofs::SizeLaws::low_part))]
 pub fn write_number(bytes: &mut [u8], at: usize, size: Size, n: u64)
     requires { at + bytes_in size ≤ length bytes.old }
     ensures { bytes.new ≡ patched bytes.old at (little_bytes (bytes_in size) n) }

@@ -34,7 +34,7 @@ impl Model for Stack {
 }
 
 // Where an access begins, from the lowest byte of the stack: it lies in one slot.
-#[tactic(auto, using(crate::proofs::Bytes::part_fits))]
+#[tactic(auto, using(xdp_machine::proofs::SizeLaws::part_fits))]
 fn in_stack(o: i64, offset: i16, size: Size) -> Option<usize>
     ensures value { result ≡ in_stack (o +ℤ offset) (bytes_in size) }
     ensures inside { IfSome result (λ a. a < 512) }

@@ -1,4 +1,5 @@
-use Rattle.unfold_core.proofs.Laid.{laid_more, laid_all}
+use Rattle.bpf_isa.proofs.LaidLaws.{laid_more}
+use Rattle.unfold_core.proofs.Laid.{laid_all}
 use Rattle.unfold_core.proofs.units.units_of.Goals as goal
 
 pub loop-insn-preserved : goal.loop-insn-preserved
