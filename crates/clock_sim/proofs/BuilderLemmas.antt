@@ -2,7 +2,7 @@
 use Rattle.std.specs.Prelude.{slice_set}
 use Rattle.std.proofs.Common.{◌≡◌, ℕ, suc, ◌+◌, ◌<◌, ◌≤◌, Option, Some, None, List, [], ◌∷◌, ◌++◌, length, get_or, refl, sym, ap, ◌∙◌, subst, arith, ⊎_elim, append_assoc}
 use Rattle.std.proofs.lemmas.Bool.{cases_lt}
-use Rattle.std.proofs.lemmas.List.{length-set, length-append, length_push, get_or-set_same, get_or-set_other, get_or_append_left, get_or_past, get_or_at, append-nil}
+use Rattle.std.proofs.lemmas.List.{length-set, length_push, get_or-set_same, get_or-set_other, get_or_append_left, get_or_past, get_or_at, append-nil}
 use Rattle.net_core.specs.declared.tree.Word.{Word}
 use Rattle.net_core.specs.declared.design.Declared.{Declared}
 use Rattle.clock_sim.specs.declared.step.Step.{Step}
@@ -11,7 +11,7 @@ use Rattle.clock_sim.specs.declared.step.Opcode.TheVariants.{Conditional}
 use Rattle.clock_sim.specs.declared.builder.Operand.{Operand}
 use Rattle.clock_sim.specs.declared.operands.Operands.{Operands}
 use Rattle.clock_sim.specs.Steps.{given, run}
-use Rattle.clock_sim.specs.Flat.{Flat, Situation, contents_of, Starts, Numbers, Gives, IsThere, IsReading, AreReading, AreFree, IsBehind, Climb, IsConsistent, WriteFrom, Extends, Works, Holds, operand_in, AreOperands, env_at, Knows}
+use Rattle.clock_sim.specs.Flat.{Flat, Situation, contents_of, Starts, Numbers, Gives, IsThere, IsReading, AreReading, AreFree, IsBehind, Climb, IsConsistent, WriteFrom, Extends, Adds, Works, Holds, operand_in, AreOperands, env_at, Knows}
 
 -- ---- running
 pub run_append : (contents : List (List ℕ)) (xs ys : List Step) (slots : List ℕ) → run contents (xs ++ ys) slots ≡ run contents ys (run contents xs slots)
@@ -79,19 +79,22 @@ from_append n [] ys h g = g
 from_append n (s ∷ xs) ys h g = (h.0, from_append n xs ys h.1 g)
 
 pub extends_none : (c : Flat) → Extends c c
-extends_none c = record { more = []; fresh = []; steps = sym (append-nil c.steps); slots = sym (append-nil c.slots); own = tt }
-
-pub extends_length : (a b : Flat) → Extends a b → length a.slots ≤ length b.slots
-extends_length a b e = let n = ap length e.slots in omega (arith, n, length-append a.slots e.fresh)
+extends_none c = record { more = []; fresh = []; steps = sym (append-nil c.steps); slots = sym (append-nil c.slots); own = tt; grows = omega arith }
 
 pub extends_more : (a b c : Flat) → Extends a b → Extends b c → Extends a c
-extends_more a b c e f = record {
-  more = e.more ++ f.more;
-  fresh = e.fresh ++ f.fresh;
-  steps = f.steps ∙ ap (λ l. l ++ f.more) e.steps ∙ append_assoc a.steps e.more f.more;
-  slots = f.slots ∙ ap (λ l. l ++ f.fresh) e.slots ∙ append_assoc a.slots e.fresh f.fresh;
-  own = from_append (length a.slots) e.more f.more e.own (from_less (length a.slots) (length b.slots) (extends_length a b e) f.more f.own);
-}
+extends_more a b c e f =
+    let g = e.grows in let h = f.grows in
+    record {
+      more = e.more ++ f.more;
+      fresh = e.fresh ++ f.fresh;
+      steps = f.steps ∙ ap (λ l. l ++ f.more) e.steps ∙ append_assoc a.steps e.more f.more;
+      slots = f.slots ∙ ap (λ l. l ++ f.fresh) e.slots ∙ append_assoc a.slots e.fresh f.fresh;
+      own = from_append (length a.slots) e.more f.more e.own (from_less (length a.slots) (length b.slots) g f.more f.own);
+      grows = omega arith;
+    }
+
+pub adds_more : (a b c : Flat) (slot : ℕ) → Extends a b → Adds b c slot → Adds a c slot
+adds_more a b c slot e f = record { extends = extends_more a b c e f.extends; there = f.there }
 
 -- ---- what was given stays
 constant_there : (all : List (Option ℕ)) (k n : ℕ) → get_or all k None ≡ Some n → k < length all
@@ -99,7 +102,7 @@ constant_there all k n e = ⊎_elim (λ lt. lt) (λ le. absurd (none_some n (get
 
 pub starts_before : (old new : Flat) (x : Situation) (slots : List ℕ) → Extends old new → Starts new x slots → Starts old x slots
 starts_before old new x slots e s =
-    let le = extends_length old new e in let r = s.room in
+    let le = e.grows in let r = s.room in
     record {
       ports = s.ports;
       registers = s.registers;
@@ -109,7 +112,7 @@ starts_before old new x slots e s =
 
 pub numbers_later : (ds : List Declared) (old new : Flat) (slot : ℕ) (f : Situation → ℕ) → Extends old new → Numbers ds old slot f → Numbers ds new slot f
 numbers_later ds old new slot f e g =
-    let le = extends_length old new e in let t = g.there in
+    let le = e.grows in let t = g.there in
     record {
       there = omega arith;
       at = λ x slots fine s.
@@ -122,22 +125,33 @@ numbers_later ds old new slot f e g =
 pub gives_later : (ds : List Declared) (old new : Flat) (p : Operand) (f : Situation → Word) → Extends old new → Gives ds old p f → Gives ds new p f
 gives_later ds old new p f e g = record { number = numbers_later ds old new p.slot (λ x. (f x).value) e g.number; fits = g.fits }
 
-pub operands_later : (n : Operands) (a b : ℕ) → a ≤ b → AreOperands n a → AreOperands n b
-operands_later n a b le h = record { there = λ k some. let lt = h.there k some in omega arith }
+pub operands_later : (n : Operands) (old new : Flat) → Extends old new → AreOperands n (length old.slots) → AreOperands n (length new.slots)
+operands_later n old new e h = let le = e.grows in record { there = λ k some. let lt = h.there k some in omega arith }
 
 pub knows_later : (ds : List Declared) (old new : Flat) (n : Operands) (wires : Situation → List Word) → Extends old new → Knows ds old n wires → Knows ds new n wires
 knows_later ds old new n wires e h = record { net = λ k some. gives_later ds old new (operand_in n k) (λ x. (env_at wires x).net k) e (h.net k some); cells = h.cells }
+
+-- ---- one more slot
+pub slot_builder : (old new : Flat) (word : Option ℕ) → new.slots ≡ old.slots ++ word ∷ [] → new.steps ≡ old.steps → IsConsistent old → IsConsistent new
+slot_builder old new word slots steps builder =
+    let n = ap length slots ∙ length_push old.slots word in
+    let le : length old.slots ≤ length new.slots = omega arith in
+    record {
+      climb = subst (λ l. Climb 0 l) (sym steps) builder.climb;
+      reading = subst (λ l. AreReading (length new.slots) l) (sym steps) (reading_more (length old.slots) (length new.slots) le old.steps builder.reading);
+      free = subst (λ l. AreFree new.slots l) (sym steps) (subst (λ l. AreFree l old.steps) (sym slots) (free_more old.slots (word ∷ []) old.steps builder.reading builder.free));
+    }
 
 -- ---- one more step
 module _ (old new : Flat) (s : Step) (slots : new.slots ≡ old.slots ++ None ∷ []) (steps : new.steps ≡ old.steps ++ s ∷ []) (to : s.to ≡ length old.slots) where
   step_count : length new.slots ≡ length old.slots + 1
   step_count = ap length slots ∙ length_push old.slots None
 
-  pub step_there : s.to < length new.slots
+  step_there : s.to < length new.slots
   step_there = let c = step_count in omega arith
 
-  pub step_extends : Extends old new
-  step_extends = record { more = s ∷ []; fresh = None ∷ []; steps = steps; slots = slots; own = (omega arith, tt) }
+  step_extends : Extends old new
+  step_extends = let n = step_count in record { more = s ∷ []; fresh = None ∷ []; steps = steps; slots = slots; own = (omega arith, tt); grows = omega arith }
 
   behind : s.a < length old.slots → s.b < length old.slots → IsThere s.opcode s.number (length old.slots) → IsBehind (length old.slots) s
   behind a b third = record { from = omega arith; left = omega arith; right = omega arith; third = subst (λ k. IsThere s.opcode s.number k) (sym to) third }
@@ -178,23 +192,13 @@ module _ (old new : Flat) (slot n : ℕ) (slots : new.slots ≡ old.slots ++ Som
   constant_count : length new.slots ≡ length old.slots + 1
   constant_count = ap length slots ∙ length_push old.slots (Some n)
 
-  pub constant_extends : Extends old new
-  constant_extends = record { more = []; fresh = Some n ∷ []; steps = steps ∙ sym (append-nil old.steps); slots = slots; own = tt }
+  pub constant_adds : Adds old new slot
+  constant_adds = let c = constant_count in record { extends = record { more = []; fresh = Some n ∷ []; steps = steps ∙ sym (append-nil old.steps); slots = slots; own = tt; grows = omega arith }; there = omega arith }
 
-  pub constant_builder : IsConsistent old → IsConsistent new
-  constant_builder builder =
-      let c = constant_count in
-      let le : length old.slots ≤ length new.slots = omega arith in
-      record {
-        climb = subst (λ l. Climb 0 l) (sym steps) builder.climb;
-        reading = subst (λ l. AreReading (length new.slots) l) (sym steps) (reading_more (length old.slots) (length new.slots) le old.steps builder.reading);
-        free = subst (λ l. AreFree new.slots l) (sym steps) (subst (λ l. AreFree l old.steps) (sym slots) (free_more old.slots (Some n ∷ []) old.steps builder.reading builder.free));
-      }
-
-  pub constant_holds : IsConsistent old → Holds new slot n
-  constant_holds builder = record {
+  pub constant_holds : AreFree new.slots new.steps → Holds new slot n
+  constant_holds free = record {
     gives = λ ds. record {
       there = let c = constant_count in omega arith;
-      at = λ x first fine starts. run_kept (contents_of x.stored) new.slots new.steps (constant_builder builder).free first starts.kept slot n (ap (λ l. get_or l slot None) slots ∙ get_or_at old.slots (Some n) [] None slot (sym at));
+      at = λ x first fine starts. run_kept (contents_of x.stored) new.slots new.steps free first starts.kept slot n (ap (λ l. get_or l slot None) slots ∙ get_or_at old.slots (Some n) [] None slot (sym at));
     };
   }

@@ -1,7 +1,7 @@
 -- What a design is compiled into.
-use Rattle.std.specs.Prelude.{replicate, nat_lt, ◌==◌, IsTrue}
+use Rattle.std.specs.Prelude.{replicate, IsTrue}
 use Rattle.std.proofs.Common.{◌≡◌, ℕ, zero, suc, ◌+◌, ◌^◌, ◌<◌, ◌≤◌, true, false, Option, Some, None, List, [], ◌∷◌, ◌++◌, length, get_or, map, refl, sym, ap, ◌∙◌, subst, arith, ⊎_elim}
-use Rattle.std.proofs.lemmas.Bool.{and_parts, cases_lt, ltb-true, eqb-true}
+use Rattle.std.proofs.lemmas.Bool.{and_parts, cases_lt}
 use Rattle.std.proofs.lemmas.List.{length-map, length-replicate, get_or-replicate, get_or_append_left, get_or_past}
 use Rattle.net_core.specs.declared.ports.TheConstants.{PORT_COUNT}
 use Rattle.net_core.specs.declared.tree.Word.{Word}
@@ -21,20 +21,21 @@ use Rattle.clock_sim.specs.declared.step.Step.{Step}
 use Rattle.clock_sim.specs.declared.builder.Operand.{Operand}
 use Rattle.clock_sim.specs.declared.operands.Operands.{Operands}
 use Rattle.clock_sim.specs.declared.edge.Store.{Store}
+use Rattle.clock_sim.specs.declared.edge.Edge.{Edge}
 use Rattle.clock_sim.specs.declared.wires.Divisor.{Divisor}
 use Rattle.clock_sim.specs.declared.compile.Parts.{Parts}
 use Rattle.clock_sim.specs.declared.clock.CompiledDesign.{CompiledDesign}
 use Rattle.clock_sim.specs.Ready.{IsStored}
 use Rattle.clock_sim.specs.Steps.{run}
-use Rattle.clock_sim.specs.Flat.{Flat, Situation, IsFine, numbers, contents_of, Starts, Numbers, Gives, Climb, IsConsistent, Extends, AreOperands, no_operand, operand_in, widths_in, scope_of, env_at, Knows, WriteFrom, AreReading, AreFree}
-use Rattle.clock_sim.specs.Edges.{widths_at, sizes_of, Matches, AreTyped, AddsWires, AreKnown, AreDivided, divisors_from, first_zero, AreDivisors, Stops, AreShown, ShowsAll, AreSlots, AreStores, Leads, applied, AreStatements, ExecutesAll, IsShown}
+use Rattle.clock_sim.specs.Flat.{Flat, Situation, IsFine, numbers, contents_of, Starts, Numbers, Gives, IsConsistent, Extends, AreOperands, no_operand, operand_in, widths_in, scope_of, env_at, Knows, WriteFrom}
+use Rattle.clock_sim.specs.Edges.{widths_at, sizes_of, Matches, AreTyped, AddsWires, AreKnown, AreDivided, divisors_from, first_zero, AreDivisors, Stops, AreShown, ShowsAll, AreSlots, AreStores, IsEdge, Leads, applied, AreStatements, ExecutesAll, IsShown}
 use Rattle.clock_sim.specs.Orders.{AreGroups, Reordered}
-use Rattle.clock_sim.specs.Layouts.{port_operands, operands_from, slots_in, constants_in, with_words, stored_of, ShowsPorts, Compiles, IsCompiled, IsReady}
-use Rattle.clock_sim.proofs.BuilderLemmas.{extends_more, extends_length, numbers_later, knows_later, operands_later}
+use Rattle.clock_sim.specs.Layouts.{port_operands, operands_from, slots_in, constants_in, with_words, stored_of, ShowsPorts, Begins, Compiles, IsCompiled, IsReady}
+use Rattle.clock_sim.proofs.BuilderLemmas.{extends_more, numbers_later, knows_later, operands_later}
 use Rattle.clock_sim.proofs.WireLemmas.{width_get, word_get, index_get, scope_same, divisors_there, stops_all}
 use Rattle.clock_sim.proofs.StatementLemmas.{slots_more, leads_later}
 use Rattle.clock_sim.proofs.StepLemmas.{number_at}
-use Rattle.clock_sim.proofs.StoredLemmas.{first_is_stored}
+use Rattle.clock_sim.proofs.StoredLemmas.{same_sides, first_is_stored}
 use Rattle.clock_sim.proofs.RunLemmas.{with_words_length, with_words_above, with_words_at, stored_is}
 
 -- ---- what is typed can be compiled
@@ -51,18 +52,12 @@ matches_later d n n' ws adds m = record {
 pub full_same : (d : Netlist) (n : Operands) → Matches d n → widths_at n.wires.items ≡ wire_widths d.wires → scope_of n ≡ full_scope d
 full_same d n m wires = scope_same d n (wire_widths d.wires) m wires
 
-side_some : (a b : ℕ) → same a b ≡ true → 0 < b
-side_some a b h =
-    let p = and_parts (nat_lt 0 a) (a == b) h in
-    let lt = ltb-true 0 a p.0 in let e = eqb-true a b p.1 in
-    omega arith
-
 shown_from : (d : Netlist) (n : Operands) → scope_of n ≡ full_scope d → (all : List AssignTree) → assigns_typed d all ≡ true → AreShown n all
 shown_from d n e [] h = tt
 shown_from d n e (a ∷ rest) h =
     let w = output_width (get_or d.ports a.port (record { output = false; width = 0 })) in
     let p = and_parts (same w (width_of (full_scope d) a.value)) (assigns_typed d rest) h in
-    (subst (λ s. 0 < width_of s a.value) (sym e) (side_some w (width_of (full_scope d) a.value) p.0), shown_from d n e rest p.1)
+    (subst (λ s. 0 < width_of s a.value) (sym e) (let q = same_sides w (width_of (full_scope d) a.value) p.0 in subst (λ k. 0 < k) q.is q.some), shown_from d n e rest p.1)
 
 executes_from : (d : Netlist) (n : Operands) → Matches d n → scope_of n ≡ full_scope d → (all : List (StatementTree Net)) → statements_all_typed d all ≡ true → AreStatements n all
 executes_from d n m e [] h = tt
@@ -79,40 +74,9 @@ module _ (d : Netlist) (n n' : Operands) (t : IsTyped d) (m : Matches d n) (adds
   pub are_statements : AreStatements n' d.always
   are_statements = let k = matches_later d n n' d.wires adds m in executes_from d n' k (full_same d n' k adds.wires) d.always t.always
 
--- ---- all parts
-divisors_more : (n m : ℕ) → n ≤ m → (ds : List Divisor) → AreDivisors ds n → AreDivisors ds m
-divisors_more n m le [] h = tt
-divisors_more n m le (d ∷ ds) h = let lt : d.slot < n = h.0 in (omega arith, divisors_more n m le ds h.1)
-
+-- ---- more slots
 shown_more : (n m : ℕ) → n ≤ m → (s : List ℕ) → IsShown s n → IsShown s m
 shown_more n m le s h = record { ports = h.ports; slots = slots_more n m le s h.slots }
-
-pub compiles :
-    (d : Netlist) (old wired shown new : Flat) (n n' : Operands) (next next' : List ℕ) (stores stores' : List Store) (parts : Parts)
-    → Extends old wired → AreKnown old wired n n' d.wires → AreDivided n' d.wires → AreOperands n' (length wired.slots)
-    → parts.divisors.items ≡ divisors_from n' 0 d.wires
-    → Extends wired shown → IsShown parts.shown.items (length shown.slots) → ShowsAll wired shown n' d.assigns parts.shown.items
-    → Extends shown new → IsConsistent new → AreSlots next' (length new.slots) → AreStores stores' (length new.slots) → stores ≡ [] → ExecutesAll shown new n' d.always next next' stores stores'
-    → Compiles d old new n next next' stores' parts
-compiles d old wired shown new n n' next next' stores stores' parts e known divided there divisors f is_shown shows g builder slots in_slots none executes =
-    let last = extends_more wired shown new f g in
-    let le = extends_length wired new last in
-    record {
-      builder = builder;
-      extends = extends_more old wired new e last;
-      divisors = subst (λ l. AreDivisors l (length new.slots)) (sym divisors) (divisors_there n' (length new.slots) (operands_later n' (length wired.slots) (length new.slots) le there) 0 d.wires divided);
-      shown = shown_more (length shown.slots) (length new.slots) (extends_length shown new g) parts.shown.items is_shown;
-      next = slots;
-      stores = in_slots;
-      stops = λ ds k. subst (λ l. Stops ds new l (λ x. stopping d x.ins x.stored)) (sym divisors) (stops_all ds new n' (λ x. with_wires x.ins x.stored [] d.wires) d.wires (knows_later ds wired new n' (λ x. with_wires x.ins x.stored [] d.wires) last (known.knows ds k)) divided);
-      shows = λ ds k.
-          let w = known.knows ds k in
-          λ port lt. numbers_later ds shown new (get_or parts.shown.items port 0) (λ x. (assigned (env_of d x.ins x.stored) d.assigns port).value) g ((shows port lt).shows ds (λ x. with_wires x.ins x.stored [] d.wires) w);
-      leads = λ ds k l.
-          let w = knows_later ds wired shown n' (λ x. with_wires x.ins x.stored [] d.wires) f (known.knows ds k) in
-          let first = leads_later ds old shown next [] (λ x. x.stored) (extends_more old wired shown e f) tt l in
-          executes.leads ds (λ x. with_wires x.ins x.stored [] d.wires) (λ x. x.stored) w (subst (λ ss. Leads ds shown next ss (λ x. x.stored)) (sym none) first);
-    }
 
 -- ---- what stands where at first
 abbrev numbers_up : ℕ → List ℕ → List ℕ
@@ -161,53 +125,50 @@ port_same (suc k) =
     let e : widths_at back ≡ map input_width ports = refl in
     width_get back k ∙ ap (λ l. get_or l k 0) e ∙ sym (input_get ports k)
 
-module _ (d : Netlist) (t : IsTyped d) (n : Operands) (ports : n.ports.items ≡ port_operands) (registers : n.registers.items ≡ operands_from PORT_COUNT (register_widths d.declared)) (memories : sizes_of n.memories.items ≡ memory_widths d.declared) (wires : n.wires.items ≡ []) (c : Flat) (steps : c.steps ≡ []) (slots : c.slots ≡ replicate (PORT_COUNT + length (register_widths d.declared)) None) where
+module _ (d : Netlist) (t : IsTyped d) (n : Operands) (c : Flat) (e : Edge) (begins : Begins d.declared n c e) where
   pub matches_first : Matches d n
   matches_first = record {
-    ports = λ k. ap (λ l. (get_or l k no_operand).width) ports ∙ port_same k ∙ ap (λ ps. port_width ps k) (sym t.ports);
-    registers = ap widths_at registers ∙ from_widths (register_widths d.declared) PORT_COUNT;
-    memories = memories;
+    ports = λ k. ap (λ l. (get_or l k no_operand).width) begins.ports ∙ port_same k ∙ ap (λ ps. port_width ps k) (sym t.ports);
+    registers = ap widths_at begins.registers ∙ from_widths (register_widths d.declared) PORT_COUNT;
+    memories = begins.memories;
   }
 
-  pub builder_first : IsConsistent c
-  builder_first = record { climb = subst (λ l. Climb 0 l) (sym steps) tt; reading = subst (λ l. AreReading (length c.slots) l) (sym steps) tt; free = subst (λ l. AreFree c.slots l) (sym steps) tt }
-
   pub slots_count : length c.slots ≡ PORT_COUNT + length (register_widths d.declared)
-  slots_count = ap length slots ∙ length-replicate (PORT_COUNT + length (register_widths d.declared)) None
+  slots_count = ap length begins.slots ∙ length-replicate (PORT_COUNT + length (register_widths d.declared)) None
 
   port_in : (k : ℕ) → 0 < (get_or n.ports.items k no_operand).width → k < PORT_COUNT
   port_in k some =
-      let h = subst (λ l. 0 < (get_or l k no_operand).width) ports some in
+      let h = subst (λ l. 0 < (get_or l k no_operand).width) begins.ports some in
       let lt = some_below (λ p. p.width) no_operand port_operands k refl h in
-      let e : length port_operands ≡ PORT_COUNT = refl in
+      let all : length port_operands ≡ PORT_COUNT = refl in
       omega arith
 
   port_slot_in : (k : ℕ) → 0 < (get_or n.ports.items k no_operand).width → (get_or n.ports.items k no_operand).slot ≡ k
-  port_slot_in k some = ap (λ l. (get_or l k no_operand).slot) ports ∙ port_slot k (port_in k some)
+  port_slot_in k some = ap (λ l. (get_or l k no_operand).slot) begins.ports ∙ port_slot k (port_in k some)
 
   pub registers_count : length n.registers.items ≡ length (register_widths d.declared)
-  registers_count = ap length registers ∙ from_length (register_widths d.declared) PORT_COUNT
+  registers_count = ap length begins.registers ∙ from_length (register_widths d.declared) PORT_COUNT
 
   register_in : (r : ℕ) → 0 < (get_or n.registers.items r no_operand).width → r < length (register_widths d.declared)
   register_in r some = let lt = some_below (λ p. p.width) no_operand n.registers.items r refl some in let e = registers_count in omega arith
 
   register_slot : (r : ℕ) → r < length (register_widths d.declared) → get_or (slots_in n.registers.items) r 0 ≡ PORT_COUNT + r
-  register_slot r lt = ap (λ l. get_or (slots_in l) r 0) registers ∙ ap (λ l. get_or l r 0) (from_slots (register_widths d.declared) PORT_COUNT) ∙ numbers_up_at (register_widths d.declared) PORT_COUNT r 0 lt
+  register_slot r lt = ap (λ l. get_or (slots_in l) r 0) begins.registers ∙ ap (λ l. get_or l r 0) (from_slots (register_widths d.declared) PORT_COUNT) ∙ numbers_up_at (register_widths d.declared) PORT_COUNT r 0 lt
 
   register_width : (r : ℕ) → (get_or n.registers.items r no_operand).width ≡ get_or (register_widths d.declared) r 0
-  register_width r = width_get n.registers.items r ∙ ap (λ l. get_or l r 0) (ap widths_at registers ∙ from_widths (register_widths d.declared) PORT_COUNT)
+  register_width r = width_get n.registers.items r ∙ ap (λ l. get_or l r 0) (ap widths_at begins.registers ∙ from_widths (register_widths d.declared) PORT_COUNT)
 
   slot_small : (k : Net) → 0 < (operand_in n k).width → (operand_in n k).slot < length c.slots
   slot_small (net.Port k) some = let lt = port_in k some in let e = port_slot_in k some in let s = slots_count in omega arith
   slot_small (net.Register k) some = let lt = register_in k some in let e = slot_get n.registers.items k ∙ register_slot k lt in let s = slots_count in omega arith
   slot_small (net.Memory k) some = absurd (omega (arith, some))
-  slot_small (net.Wire k) some = let h = subst (λ l. 0 < (get_or l k no_operand).width) wires some in absurd (omega (arith, h))
+  slot_small (net.Wire k) some = let h = subst (λ l. 0 < (get_or l k no_operand).width) begins.wires some in absurd (omega (arith, h))
 
   pub operands_first : AreOperands n (length c.slots)
   operands_first = record { there = slot_small }
 
   same_slots : (x : Situation) (all : List ℕ) (k : ℕ) → get_or (run (contents_of x.stored) c.steps all) k 0 ≡ get_or all k 0
-  same_slots x all k = ap (λ l. get_or (run (contents_of x.stored) l all) k 0) steps
+  same_slots x all k = ap (λ l. get_or (run (contents_of x.stored) l all) k 0) begins.steps
 
   net_first : (k : Net) → 0 < (operand_in n k).width → Gives d.declared c (operand_in n k) (λ x. (env_at (λ y. []) x).net k)
   net_first (net.Port k) some = record {
@@ -216,7 +177,7 @@ module _ (d : Netlist) (t : IsTyped d) (n : Operands) (ports : n.ports.items ≡
       at = λ x all fine starts. same_slots x all (operand_in n (net.Port k)).slot ∙ ap (λ j. get_or all j 0) (port_slot_in k some) ∙ starts.ports k (port_in k some);
     };
     fits = λ x fine.
-        let e = ap (λ l. (get_or l k no_operand).width) ports ∙ port_same k in
+        let e = ap (λ l. (get_or l k no_operand).width) begins.ports ∙ port_same k in
         subst (λ w. IsOfWidth w (get_or x.ins k nothing)) (sym e) (fine.ports.fit k (subst (λ w. 0 < w) e some));
   }
   net_first (net.Register k) some = record {
@@ -230,7 +191,7 @@ module _ (d : Netlist) (t : IsTyped d) (n : Operands) (ports : n.ports.items ≡
     fits = λ x fine. subst (λ w. IsOfWidth w (get_or x.stored.registers k nothing)) (sym (register_width k)) (fine.stored.register k (register_in k some));
   }
   net_first (net.Memory k) some = absurd (omega (arith, some))
-  net_first (net.Wire k) some = let h = subst (λ l. 0 < (get_or l k no_operand).width) wires some in absurd (omega (arith, h))
+  net_first (net.Wire k) some = let h = subst (λ l. 0 < (get_or l k no_operand).width) begins.wires some in absurd (omega (arith, h))
 
   pair_there : (ns : List (ℕ × ℕ)) (i : ℕ) → 0 < (get_or ns i (0, 0)).1 → i < length ns
   pair_there ns i h = ⊎_elim (λ lt. lt) (λ le. let e = ap (λ (p : ℕ × ℕ). p.1) (get_or_past ns i (0, 0) le) in absurd (omega (arith, e, h))) (cases_lt i (length ns))
@@ -240,23 +201,30 @@ module _ (d : Netlist) (t : IsTyped d) (n : Operands) (ports : n.ports.items ≡
   memory_word_first (net.Register k) a x fine some lt = absurd (omega (arith, some))
   memory_word_first (net.Wire k) a x fine some lt = absurd (omega (arith, some))
   memory_word_first (net.Memory k) a x fine some lt =
-      let w = word_get n.memories.items k ∙ ap (λ (l : List (ℕ × ℕ)). let q : ℕ × ℕ = get_or l k (0, 0) in q.1) memories in
-      let i = index_get n.memories.items k ∙ ap (λ (l : List (ℕ × ℕ)). let q : ℕ × ℕ = get_or l k (0, 0) in q.0) memories in
+      let w = word_get n.memories.items k ∙ ap (λ (l : List (ℕ × ℕ)). let q : ℕ × ℕ = get_or l k (0, 0) in q.1) begins.memories in
+      let i = index_get n.memories.items k ∙ ap (λ (l : List (ℕ × ℕ)). let q : ℕ × ℕ = get_or l k (0, 0) in q.0) begins.memories in
       let inside = pair_there (memory_widths d.declared) k (subst (λ j. 0 < j) w some) in
       subst (λ j. IsOfWidth j (memory_word_value x.stored (net.Memory k) a)) (sym w) ((fine.stored.memory k inside).fit a (subst (λ j. a < 2 ^ j) i lt))
 
   pub knows_first : Knows d.declared c n (λ x. [])
   knows_first = record { net = net_first; cells = record { fit = memory_word_first } }
 
-  pub next_first : AreSlots (slots_in n.registers.items) (length c.slots)
-  next_first = subst (λ l. AreSlots l (length c.slots)) (sym (ap slots_in registers ∙ from_slots (register_widths d.declared) PORT_COUNT)) (below (register_widths d.declared) PORT_COUNT (let e = slots_count in omega arith))
+  next_first : AreSlots (slots_in n.registers.items) (length c.slots)
+  next_first = subst (λ l. AreSlots l (length c.slots)) (sym (ap slots_in begins.registers ∙ from_slots (register_widths d.declared) PORT_COUNT)) (below (register_widths d.declared) PORT_COUNT (let e = slots_count in omega arith))
     where
       below : (ws : List ℕ) (at : ℕ) → at + length ws ≤ length c.slots → AreSlots (numbers_up at ws) (length c.slots)
       below [] at le = tt
       below (w ∷ ws) at le = (omega arith, below ws (suc at) (omega arith))
 
-  pub leads_first : Leads d.declared c (slots_in n.registers.items) [] (λ x. x.stored)
-  leads_first = record {
+  pub edge_first : IsEdge e n c
+  edge_first = record {
+    count = ap length begins.next ∙ length-map n.registers.items (λ (p : Operand). p.slot);
+    next = subst (λ l. AreSlots l (length c.slots)) (sym begins.next) next_first;
+    stores = subst (λ l. AreStores l (length c.slots)) (sym begins.stores) tt;
+  }
+
+  leads_slots : Leads d.declared c (slots_in n.registers.items) [] (λ x. x.stored)
+  leads_slots = record {
     count = λ x fine. fine.stored.registers ∙ sym (length-map n.registers.items (λ (p : Operand). p.slot) ∙ registers_count);
     registers = λ r lt.
         let l = length-map n.registers.items (λ (p : Operand). p.slot) in let e = registers_count in
@@ -268,6 +236,9 @@ module _ (d : Netlist) (t : IsTyped d) (n : Operands) (ports : n.ports.items ≡
         };
     memories = λ x all fine starts. refl;
   }
+
+  pub leads_first : Leads d.declared c e.next.items e.stores.items (λ x. x.stored)
+  leads_first = subst (λ l. Leads d.declared c l e.stores.items (λ x. x.stored)) (sym begins.next) (subst (λ l. Leads d.declared c (slots_in n.registers.items) l (λ x. x.stored)) (sym begins.stores) leads_slots)
 
 -- ---- the first slots
 pub constants_length : (all : List (Option ℕ)) → length (constants_in all) ≡ length all
@@ -307,7 +278,41 @@ module _ (c new : Flat) (size : ℕ) (steps : c.steps ≡ []) (slots : c.slots �
       (cases_lt k size)
 
   pub room_after : size ≤ length new.slots
-  room_after = let l = ap length slots ∙ length-replicate size None in let le = extends_length c new e in omega arith
+  room_after = let l = ap length slots ∙ length-replicate size None in let le = e.grows in omega arith
+
+-- the registers are those before the wires
+pub edge_wired : (n n' : Operands) (ws : List WireTree) (c : Flat) (e : Edge) → AddsWires n n' ws → IsEdge e n c → IsEdge e n' c
+edge_wired n n' ws c e adds h = record { count = h.count ∙ sym (ap (λ v. length v.items) adds.registers); next = h.next; stores = h.stores }
+
+-- ---- all parts
+pub compiles :
+    (d : Netlist) (t : IsTyped d) (old wired shown new : Flat) (n n' : Operands) (begun ended : Edge) (parts : Parts)
+    → Begins d.declared n old begun
+    → Extends old wired → AreKnown old wired n n' d.wires → AreDivided n' d.wires → AreOperands n' (length wired.slots) → AddsWires n n' d.wires
+    → parts.divisors.items ≡ divisors_from n' 0 d.wires
+    → Extends wired shown → IsShown parts.shown.items (length shown.slots) → ShowsAll wired shown n' d.assigns parts.shown.items
+    → Extends shown new → IsEdge ended n' new → ExecutesAll shown new n' d.always begun ended
+    → Compiles d new ended parts
+compiles d t old wired shown new n n' begun ended parts begins e known divided there adds divisors f is_shown shows g edge executes =
+    let last = extends_more wired shown new f g in
+    let whole = extends_more old wired new e last in
+    let size = PORT_COUNT + length (register_widths d.declared) in
+    let wires = λ (x : Situation). with_wires x.ins x.stored [] d.wires in
+    let k = known.knows d.declared (knows_first d t n old begun begins) in
+    record {
+      own = own_steps old new size begins.steps begins.slots whole;
+      first = constants_after old new size begins.steps begins.slots whole;
+      room = room_after old new size begins.steps begins.slots whole;
+      divisors = subst (λ l. AreDivisors l (length new.slots)) (sym divisors) (divisors_there n' (length new.slots) (operands_later n' wired new last there) 0 d.wires divided);
+      shown = shown_more (length shown.slots) (length new.slots) g.grows parts.shown.items is_shown;
+      next = edge.next;
+      count = edge.count ∙ ap (λ v. length v.items) adds.registers ∙ registers_count d t n old begun begins;
+      stores = edge.stores;
+      stops = subst (λ l. Stops d.declared new l (λ x. stopping d x.ins x.stored)) (sym divisors) (stops_all d.declared new n' wires d.wires (knows_later d.declared wired new n' wires last k) divided);
+      shows = λ port lt. numbers_later d.declared shown new (get_or parts.shown.items port 0) (λ x. (assigned (env_of d x.ins x.stored) d.assigns port).value) g ((shows port lt).shows d.declared wires k);
+      leads = executes.leads d.declared wires (λ x. x.stored) (knows_later d.declared wired shown n' wires f k)
+          (leads_later d.declared old shown begun.next.items begun.stores.items (λ x. x.stored) (extends_more old wired shown e f) (edge_first d t n old begun begins).stores (leads_first d t n old begun begins));
+    }
 
 -- ---- what steps give in another order
 module _ (ds : List Declared) (constants : List (Option ℕ)) (old new : List Step) (order : Reordered (length constants) old new) where
@@ -339,30 +344,26 @@ module _ (ds : List Declared) (constants : List (Option ℕ)) (old new : List St
     memories = λ x slots fine s. ap (λ l. applied l stores (contents_of x.stored)) (order.same (contents_of x.stored) slots s.room) ∙ h.memories x slots fine (starts_moved x slots s);
   }
 
-module _ (p : CompiledDesign) (n : Operands) (c : Flat) (constants : List (Option ℕ)) (flat : List Step) (first : List ℕ) (t : IsTyped (netlist_of p.design))
-    (steps : c.steps ≡ []) (slots : c.slots ≡ replicate (PORT_COUNT + length (register_widths p.design.declared.items)) None) (next : first ≡ slots_in n.registers.items)
-    (made : Compiles (netlist_of p.design) c (record { steps = flat; slots = constants }) n first p.next.items p.stores.items (record { divisors = p.divisors; shown = p.shown }))
-    (knows : Knows p.design.declared.items c n (λ x. [])) (leads : Leads p.design.declared.items c (slots_in n.registers.items) [] (λ x. x.stored)) (count : length p.next.items ≡ length (register_widths p.design.declared.items)) (order : Reordered (length constants) flat p.steps.items) (groups : AreGroups p.groups.items p.steps.items) where
-  abbrev built : Flat
-  built = record { steps = flat; slots = constants }
-
+module _ (p : CompiledDesign) (flat : List Step) (constants : List (Option ℕ)) (t : IsTyped (netlist_of p.design)) (consistent : IsConsistent (record { steps = flat; slots = constants }))
+    (made : Compiles (netlist_of p.design) (record { steps = flat; slots = constants }) (record { next = p.next; stores = p.stores }) (record { divisors = p.divisors; shown = p.shown }))
+    (order : Reordered (length constants) flat p.steps.items) (groups : AreGroups p.groups.items p.steps.items) where
   pub compiled_is : IsCompiled p constants
   compiled_is = record {
     typed = t;
     reading = order.reading;
-    free = order.free constants made.builder.free;
+    free = order.free constants consistent.free;
     groups = groups;
-    own = order.own (PORT_COUNT + length (register_widths p.design.declared.items)) (own_steps c built (PORT_COUNT + length (register_widths p.design.declared.items)) steps slots made.extends);
-    first = constants_after c built (PORT_COUNT + length (register_widths p.design.declared.items)) steps slots made.extends;
-    room = room_after c built (PORT_COUNT + length (register_widths p.design.declared.items)) steps slots made.extends;
+    own = order.own (PORT_COUNT + length (register_widths p.design.declared.items)) made.own;
+    first = made.first;
+    room = made.room;
     divisors = made.divisors;
     shown = made.shown;
     next = made.next;
-    count = count;
+    count = made.count;
     stores = made.stores;
-    stops = stops_moved p.design.declared.items constants flat p.steps.items order p.divisors.items (λ x. stopping (netlist_of p.design) x.ins x.stored) (made.stops p.design.declared.items knows);
-    shows = shows_moved p.design.declared.items constants flat p.steps.items order p.shown.items (λ port x. assigned (env_of (netlist_of p.design) x.ins x.stored) (netlist_of p.design).assigns port) (made.shows p.design.declared.items knows);
-    leads = leads_moved p.design.declared.items constants flat p.steps.items order p.next.items p.stores.items (λ x. after (netlist_of p.design) x.ins x.stored) (made.leads p.design.declared.items knows (subst (λ l. Leads p.design.declared.items c l [] (λ x. x.stored)) (sym next) leads));
+    stops = stops_moved p.design.declared.items constants flat p.steps.items order p.divisors.items (λ x. stopping (netlist_of p.design) x.ins x.stored) made.stops;
+    shows = shows_moved p.design.declared.items constants flat p.steps.items order p.shown.items (λ port x. assigned (env_of (netlist_of p.design) x.ins x.stored) (netlist_of p.design).assigns port) made.shows;
+    leads = leads_moved p.design.declared.items constants flat p.steps.items order p.next.items p.stores.items (λ x. after (netlist_of p.design) x.ins x.stored) made.leads;
   }
 
   abbrev ds : List Declared
@@ -380,7 +381,7 @@ module _ (p : CompiledDesign) (n : Operands) (c : Flat) (constants : List (Optio
       (λ k lt. ap (λ s. get_or s (PORT_COUNT + k) 0) e ∙ with_words_at (numbers (first_words ds)) PORT_COUNT (constants_in constants) k (omega arith) (omega arith) ∙ number_at (first_words ds) k)
       b
 
-  pub ready_first : (all : List ℕ) (contents : List (List ℕ)) (size : ℕ) → all ≡ with_words PORT_COUNT (numbers (first_words ds)) (constants_in constants) → contents ≡ map numbers (first_memories ds) → size ≡ length (register_widths ds) → IsReady p all contents size
+  pub ready_first : (all : List ℕ) (contents : List (List ℕ)) (size : ℕ) → all ≡ with_words PORT_COUNT (numbers (first_words ds)) (constants_in constants) → contents ≡ map numbers (first_memories ds) → size ≡ length p.next.items → IsReady p all contents size
   ready_first all contents size e b s =
       let f = first_is_stored ds t.declared in
       let l = length-map (first_words ds) (λ (w : Word). w.value) in
@@ -392,17 +393,15 @@ module _ (p : CompiledDesign) (n : Operands) (c : Flat) (constants : List (Optio
         kept = λ k n h. let le = compiled_is.first k n h in ap (λ w. get_or w k 0) e ∙ with_words_above (numbers (first_words ds)) PORT_COUNT (constants_in constants) k (omega arith) ∙ constants_get constants k n h;
         stored = subst (λ w. IsStored ds w) (sym (stored_first all contents e b)) f;
         contents_count = ap length b ∙ length-map (first_memories ds) numbers ∙ f.memories;
-        next_count = s ∙ sym count;
+        next_count = s;
       }
 
 pub count_is : (ps : List Operand) (k : ℕ) (ws : List ℕ) → k ≡ length ps → ps ≡ operands_from PORT_COUNT ws → k ≡ length ws
 count_is ps k ws e is = e ∙ ap length is ∙ from_length ws PORT_COUNT
 
-pub write_at_room : (ds : List Declared) (c new : Flat) → c.slots ≡ replicate (PORT_COUNT + length (register_widths ds)) None → Extends c new → IsTrue (declared_typed ds) → PORT_COUNT + length (numbers (first_words ds)) ≤ length (constants_in new.slots)
-write_at_room ds c new slots e t =
+pub write_at_room : (ds : List Declared) (slots : List (Option ℕ)) → PORT_COUNT + length (register_widths ds) ≤ length slots → IsTrue (declared_typed ds) → PORT_COUNT + length (numbers (first_words ds)) ≤ length (constants_in slots)
+write_at_room ds slots room t =
     let f = (first_is_stored ds t).registers in
     let l = length-map (first_words ds) (λ (w : Word). w.value) in
-    let s = ap length slots ∙ length-replicate (PORT_COUNT + length (register_widths ds)) None in
-    let le = extends_length c new e in
-    let q = constants_length new.slots in
+    let q = constants_length slots in
     omega arith

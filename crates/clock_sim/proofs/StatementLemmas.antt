@@ -16,10 +16,11 @@ use Rattle.clock_sim.specs.declared.step.Opcode.TheVariants.{Conditional, Comple
 use Rattle.clock_sim.specs.declared.builder.Operand.{Operand}
 use Rattle.clock_sim.specs.declared.operands.Operands.{Operands}
 use Rattle.clock_sim.specs.declared.edge.Store.{Store}
+use Rattle.clock_sim.specs.declared.edge.Edge.{Edge}
 use Rattle.clock_sim.specs.Steps.{worked, run}
-use Rattle.clock_sim.specs.Flat.{Flat, Situation, IsFine, numbers, contents_of, Numbers, Works, Holds, IsConsistent, Extends, Values, AreOperands, scope_of, env_at, Knows}
-use Rattle.clock_sim.specs.Edges.{applied, AreSlots, IsStore, AreStores, IsGuard, Leads, GuardsBy, Guards, Picks, GuardsBoth, Opposes, GuardsAs, ExecutesOne, ExecutesMore, ExecutesAll, AreStatements, widths_at, sizes_of, taken}
-use Rattle.clock_sim.proofs.BuilderLemmas.{run_append, run_below, extends_none, extends_more, extends_length, starts_before, numbers_later, knows_later}
+use Rattle.clock_sim.specs.Flat.{Flat, Situation, IsFine, numbers, contents_of, Numbers, Works, Holds, Extends, Values, AreOperands, scope_of, env_at, Knows}
+use Rattle.clock_sim.specs.Edges.{applied, AreSlots, IsStore, AreStores, IsEdge, IsGuard, Leads, GuardsBy, Guards, Picks, GuardsBoth, Opposes, GuardsAs, ExecutesOne, ExecutesMore, ExecutesAll, AreStatements, widths_at, sizes_of, taken}
+use Rattle.clock_sim.proofs.BuilderLemmas.{run_append, run_below, extends_none, extends_more, starts_before, numbers_later, knows_later, operands_later}
 use Rattle.clock_sim.proofs.StepLemmas.{memory_at}
 
 pub numbers_fine : (ds : List Declared) (c : Flat) (slot : ℕ) (f g : Situation → ℕ) → ((x : Situation) → IsFine ds x → f x ≡ g x) → Numbers ds c slot f → Numbers ds c slot g
@@ -137,18 +138,22 @@ slot_at n [] h r d lt = absurd (omega arith)
 slot_at n (k ∷ ks) h zero d lt = h.0
 slot_at n (k ∷ ks) h (suc r) d lt = slot_at n ks h.1 r d (omega arith)
 
-pub stores_more : (n m : ℕ) → n ≤ m → (ss : List Store) → AreStores ss n → AreStores ss m
+stores_more : (n m : ℕ) → n ≤ m → (ss : List Store) → AreStores ss n → AreStores ss m
 stores_more n m le [] h = tt
 stores_more n m le (s ∷ ss) h =
     let a = h.0.guard in let b = h.0.at in let c = h.0.word in
     (record { guard = omega arith; at = omega arith; word = omega arith }, stores_more n m le ss h.1)
 
+pub edge_later : (old new : Flat) (n : Operands) (edge : Edge) → Extends old new → IsEdge edge n old → IsEdge edge n new
+edge_later old new n edge e h = record {
+  count = h.count;
+  next = slots_more (length old.slots) (length new.slots) e.grows edge.next.items h.next;
+  stores = stores_more (length old.slots) (length new.slots) e.grows edge.stores.items h.stores;
+}
+
 pub stores_push : (n : ℕ) (ss : List Store) (s : Store) → AreStores ss n → IsStore s n → AreStores (ss ++ s ∷ []) n
 stores_push n [] s h i = (i, tt)
 stores_push n (t ∷ ss) s h i = (h.0, stores_push n ss s h.1 i)
-
-set_if : (t : Bool) (s : Stored) (r : ℕ) (w : Word) → Stored
-set_if t s r w = if t then record s { registers = slice_set s.registers r w } else s
 
 set_count : (t : Bool) (s : Stored) (r : ℕ) (w : Word) → length (if t then record s { registers = slice_set s.registers r w } else s).registers ≡ length s.registers
 set_count true s r w = length-set s.registers r w
@@ -176,9 +181,6 @@ leads_set ds c next stores f r slot holds u h lt n = record {
   memories = λ x slots fine starts. h.memories x slots fine starts ∙ ap (λ ms. map numbers ms) (set_memories (holds x) (f x) r (u x));
 }
   where
-    after : Situation → Stored
-    after x = if holds x then record (f x) { registers = slice_set (f x).registers r (u x) } else f x
-
     here : (k : ℕ) → k < length (slice_set next r slot) → k ≡ r → Numbers ds c (get_or (slice_set next r slot) k 0) (λ x. (get_or (if holds x then record (f x) { registers = slice_set (f x).registers r (u x) } else f x).registers k nothing).value)
     here k inside same =
         subst (λ j. Numbers ds c (get_or (slice_set next r slot) j 0) (λ x. (get_or (if holds x then record (f x) { registers = slice_set (f x).registers r (u x) } else f x).registers j nothing).value)) (sym same)
@@ -235,15 +237,15 @@ if_cases true false s t = refl
 if_cases false z s t = refl
 
 pub if_executes :
-    (old one two new : Flat) (n : Operands) (guard : Option ℕ) (c : Tree Net) (q : Operand) (inner : ℕ) (a : StatementTree Net) (next next' : List ℕ) (stores stores' : List Store)
-    → Extends old one → Extends one two → AreStores stores (length old.slots) → Values old one n c q → GuardsBoth one two guard q.slot inner → ExecutesOne two new n (Some inner) a next next' stores stores' → ExecutesOne old new n guard (SIf c a) next next' stores stores'
-if_executes old one two new n guard c q inner a next next' stores stores' e f within v g executes = record {
+    (old one two new : Flat) (n : Operands) (guard : Option ℕ) (c : Tree Net) (q : Operand) (inner : ℕ) (a : StatementTree Net) (begun ended : Edge)
+    → Extends old one → Extends one two → IsEdge begun n old → Values old one n c q → GuardsBoth one two guard q.slot inner → ExecutesOne two new n (Some inner) a begun ended → ExecutesOne old new n guard (SIf c a) begun ended
+if_executes old one two new n guard c q inner a begun ended e f within v g executes = record {
   leads = λ ds wires holds s knows guards h.
       let both = extends_more old one two e f in
-      leads_same ds new next' stores' _ _ (λ x. if_cases (holds x) ((value (env_at wires x) c).value == 0) (s x) (done (env_at wires x) a (s x)))
+      leads_same ds new ended.next.items ended.stores.items _ _ (λ x. if_cases (holds x) ((value (env_at wires x) c).value == 0) (s x) (done (env_at wires x) a (s x)))
       (executes.leads ds wires (λ x. holds x && not ((value (env_at wires x) c).value == 0)) s (knows_later ds old two n wires both knows)
       (g.gives ds holds (λ x. (value (env_at wires x) c).value) (guards_later ds old one guard holds e guards) (v.gives ds wires knows).number)
-      (leads_later ds old two next stores s both within h));
+      (leads_later ds old two begun.next.items begun.stores.items s both within.stores h));
 }
 
 minus_zero : (k : ℕ) → (1 - k == 0) ≡ not (k == 0)
@@ -258,11 +260,11 @@ else_cases true false false s t b e = cc
 else_cases false z y s t b e = refl
 
 pub else_executes :
-    (old one two three four five new : Flat) (n : Operands) (guard : Option ℕ) (c : Tree Net) (q : Operand) (inner turned other : ℕ) (a b : StatementTree Net) (next next' next'' : List ℕ) (stores stores' stores'' : List Store)
-    → Extends old one → Extends one two → Extends two three → Extends three four → Extends four five → AreStores stores (length old.slots)
+    (old one two three four five new : Flat) (n : Operands) (guard : Option ℕ) (c : Tree Net) (q : Operand) (inner turned other : ℕ) (a b : StatementTree Net) (begun midway ended : Edge)
+    → Extends old one → Extends one two → Extends two three → Extends three four → Extends four five → IsEdge begun n old
     → Values old one n c q → GuardsBoth one two guard q.slot inner → Opposes two three q.slot turned → GuardsBoth three four guard turned other
-    → ExecutesOne four five n (Some inner) a next next' stores stores' → ExecutesOne five new n (Some other) b next' next'' stores' stores'' → ExecutesOne old new n guard (SIfElse c a b) next next'' stores stores''
-else_executes old one two three four five new n guard c q inner turned other a b next next' next'' stores stores' stores'' e f g h i within v first turns second executes executes' = record {
+    → ExecutesOne four five n (Some inner) a begun midway → ExecutesOne five new n (Some other) b midway ended → ExecutesOne old new n guard (SIfElse c a b) begun ended
+else_executes old one two three four five new n guard c q inner turned other a b begun midway ended e f g h i within v first turns second executes executes' = record {
   leads = λ ds wires holds s knows guards l.
       let to_two = extends_more old one two e f in
       let to_three = extends_more old two three to_two g in
@@ -273,59 +275,64 @@ else_executes old one two three four five new n guard c q inner turned other a b
       let then_guard = first.gives ds holds (λ x. (value (env_at wires x) c).value) (guards_later ds old one guard holds e guards) test in
       let else_guard = second.gives ds holds (λ x. 1 - (value (env_at wires x) c).value) (guards_later ds old three guard holds to_three guards) (turns.gives ds (λ x. (value (env_at wires x) c).value) in_two) in
       let made = executes.leads ds wires (λ x. holds x && not ((value (env_at wires x) c).value == 0)) s (knows_later ds old four n wires to_four knows)
-      (guards_later ds two four (Some inner) (λ x. holds x && not ((value (env_at wires x) c).value == 0)) (extends_more two three four g h) then_guard) (leads_later ds old four next stores s to_four within l) in
-      leads_same ds new next'' stores'' _ _ (λ x. else_cases (holds x) ((value (env_at wires x) c).value == 0) (1 - (value (env_at wires x) c).value == 0) (s x) (done (env_at wires x) a (s x)) (λ t. done (env_at wires x) b t) (minus_zero (value (env_at wires x) c).value))
+      (guards_later ds two four (Some inner) (λ x. holds x && not ((value (env_at wires x) c).value == 0)) (extends_more two three four g h) then_guard) (leads_later ds old four begun.next.items begun.stores.items s to_four within.stores l) in
+      leads_same ds new ended.next.items ended.stores.items _ _ (λ x. else_cases (holds x) ((value (env_at wires x) c).value == 0) (1 - (value (env_at wires x) c).value == 0) (s x) (done (env_at wires x) a (s x)) (λ t. done (env_at wires x) b t) (minus_zero (value (env_at wires x) c).value))
       (executes'.leads ds wires (λ x. holds x && not (1 - (value (env_at wires x) c).value == 0)) _ (knows_later ds old five n wires to_five knows)
       (guards_later ds four five (Some other) (λ x. holds x && not (1 - (value (env_at wires x) c).value == 0)) i else_guard) made);
 }
 
 pub set_executes :
-    (old one new : Flat) (n : Operands) (guard : Option ℕ) (r : ℕ) (t : Tree Net) (q : Operand) (slot : ℕ) (next next' : List ℕ) (stores : List Store)
-    → Extends old one → Extends one new → AreStores stores (length old.slots) → Values old one n t q → Picks one new guard q.slot (get_or next r 0) slot → r < length next → next' ≡ slice_set next r slot → ExecutesOne old new n guard (SSet r t) next next' stores stores
-set_executes old one new n guard r t q slot next next' stores e f within v p lt is = record {
+    (old one new : Flat) (n : Operands) (guard : Option ℕ) (r : ℕ) (t : Tree Net) (q : Operand) (slot : ℕ) (begun ended : Edge)
+    → Extends old one → Extends one new → IsEdge begun n old → Values old one n t q → Picks one new guard q.slot (get_or begun.next.items r 0) slot → r < length begun.next.items
+    → ended.next.items ≡ slice_set begun.next.items r slot → ended.stores.items ≡ begun.stores.items → ExecutesOne old new n guard (SSet r t) begun ended
+set_executes old one new n guard r t q slot begun ended e f within v p lt is same = record {
   leads = λ ds wires holds s knows guards l.
-      let here = leads_later ds old one next stores s e within l in
-      subst (λ k. Leads ds new k stores (λ x. if holds x then done (env_at wires x) (SSet r t) (s x) else s x)) (sym is)
-      (leads_set ds new next stores s r slot holds (λ x. value (env_at wires x) t) (leads_later ds old new next stores s (extends_more old one new e f) within l) lt
-      (p.gives ds holds (λ x. (value (env_at wires x) t).value) (λ x. (get_or (s x).registers r nothing).value) (guards_later ds old one guard holds e guards) (v.gives ds wires knows).number (here.registers r lt)));
+      let next = begun.next.items in let stores = begun.stores.items in
+      let here = leads_later ds old one next stores s e within.stores l in
+      subst (λ k. Leads ds new k ended.stores.items (λ x. if holds x then done (env_at wires x) (SSet r t) (s x) else s x)) (sym is)
+      (subst (λ k. Leads ds new (slice_set next r slot) k (λ x. if holds x then done (env_at wires x) (SSet r t) (s x) else s x)) (sym same)
+      (leads_set ds new next stores s r slot holds (λ x. value (env_at wires x) t) (leads_later ds old new next stores s (extends_more old one new e f) within.stores l) lt
+      (p.gives ds holds (λ x. (value (env_at wires x) t).value) (λ x. (get_or (s x).registers r nothing).value) (guards_later ds old one guard holds e guards) (v.gives ds wires knows).number (here.registers r lt))));
 }
 
 pub store_executes :
-    (old one two new : Flat) (n : Operands) (guard : Option ℕ) (i t : Tree Net) (q r : Operand) (s : Store) (next : List ℕ) (stores stores' : List Store)
-    → Extends old one → Extends one two → Extends two new → AreStores stores (length old.slots) → Values old one n i q → Values one two n t r → GuardsAs two new guard s.guard
-    → s.at ≡ q.slot → s.word ≡ r.slot → stores' ≡ stores ++ s ∷ [] → ExecutesOne old new n guard (SStore s.memory i t) next next stores stores'
-store_executes old one two new n guard i t q r s next stores stores' e f g within v w gu at word is = record {
+    (old one two new : Flat) (n : Operands) (guard : Option ℕ) (i t : Tree Net) (q r : Operand) (s : Store) (begun ended : Edge)
+    → Extends old one → Extends one two → Extends two new → IsEdge begun n old → Values old one n i q → Values one two n t r → GuardsAs two new guard s.guard
+    → s.at ≡ q.slot → s.word ≡ r.slot → ended.next.items ≡ begun.next.items → ended.stores.items ≡ begun.stores.items ++ s ∷ [] → ExecutesOne old new n guard (SStore s.memory i t) begun ended
+store_executes old one two new n guard i t q r s begun ended e f g within v w gu at word same is = record {
   leads = λ ds wires holds k knows guards l.
+      let next = begun.next.items in let stores = begun.stores.items in
       let to_two = extends_more old one two e f in
       let index = numbers_later ds one new q.slot (λ x. (value (env_at wires x) i).value) (extends_more one two new f g) (v.gives ds wires knows).number in
       let stored = numbers_later ds two new r.slot (λ x. (value (env_at wires x) t).value) g (w.gives ds wires (knows_later ds old one n wires e knows)).number in
-      subst (λ ss. Leads ds new next ss (λ x. if holds x then done (env_at wires x) (SStore s.memory i t) (k x) else k x)) (sym is)
-      (leads_store ds new next stores k s holds (λ x. value (env_at wires x) i) (λ x. value (env_at wires x) t) (leads_later ds old new next stores k (extends_more old two new to_two g) within l)
+      subst (λ ks. Leads ds new ks ended.stores.items (λ x. if holds x then done (env_at wires x) (SStore s.memory i t) (k x) else k x)) (sym same)
+      (subst (λ ss. Leads ds new next ss (λ x. if holds x then done (env_at wires x) (SStore s.memory i t) (k x) else k x)) (sym is)
+      (leads_store ds new next stores k s holds (λ x. value (env_at wires x) i) (λ x. value (env_at wires x) t) (leads_later ds old new next stores k (extends_more old two new to_two g) within.stores l)
       (gu.gives ds holds (guards_later ds old two guard holds to_two guards))
       (subst (λ j. Numbers ds new j (λ x. (value (env_at wires x) i).value)) (sym at) index)
-      (subst (λ j. Numbers ds new j (λ x. (value (env_at wires x) t).value)) (sym word) stored));
+      (subst (λ j. Numbers ds new j (λ x. (value (env_at wires x) t).value)) (sym word) stored)));
 }
 
-pub block_executes : (old new : Flat) (n : Operands) (guard : Option ℕ) (more : StatementTrees Net) (next next' : List ℕ) (stores stores' : List Store) → ExecutesMore old new n guard more next next' stores stores' → ExecutesOne old new n guard (SBlock more) next next' stores stores'
-block_executes old new n guard more next next' stores stores' h = record { leads = h.leads }
+pub block_executes : (old new : Flat) (n : Operands) (guard : Option ℕ) (more : StatementTrees Net) (begun ended : Edge) → ExecutesMore old new n guard more begun ended → ExecutesOne old new n guard (SBlock more) begun ended
+block_executes old new n guard more begun ended h = record { leads = h.leads }
 
 same_if : (h : Bool) (s : Stored) → s ≡ (if h then s else s)
 same_if true s = refl
 same_if false s = refl
 
-pub end_executes : (old : Flat) (n : Operands) (guard : Option ℕ) (next : List ℕ) (stores : List Store) → ExecutesMore old old n guard SEnd next next stores stores
-end_executes old n guard next stores = record { leads = λ ds wires holds s knows guards h. leads_same ds old next stores s _ (λ x. same_if (holds x) (s x)) h }
+pub end_executes : (old : Flat) (n : Operands) (guard : Option ℕ) (edge : Edge) → ExecutesMore old old n guard SEnd edge edge
+end_executes old n guard edge = record { leads = λ ds wires holds s knows guards h. leads_same ds old edge.next.items edge.stores.items s _ (λ x. same_if (holds x) (s x)) h }
 
 then_cases : (h : Bool) (s : Stored) (f g : Stored → Stored) → (if h then g (if h then f s else s) else (if h then f s else s)) ≡ (if h then g (f s) else s)
 then_cases true s f g = refl
 then_cases false s f g = refl
 
 pub then_executes :
-    (old one new : Flat) (n : Operands) (guard : Option ℕ) (a : StatementTree Net) (more : StatementTrees Net) (next next' next'' : List ℕ) (stores stores' stores'' : List Store)
-    → Extends old one → ExecutesOne old one n guard a next next' stores stores' → ExecutesMore one new n guard more next' next'' stores' stores'' → ExecutesMore old new n guard (SThen a more) next next'' stores stores''
-then_executes old one new n guard a more next next' next'' stores stores' stores'' e executes executes' = record {
+    (old one new : Flat) (n : Operands) (guard : Option ℕ) (a : StatementTree Net) (more : StatementTrees Net) (begun midway ended : Edge)
+    → Extends old one → ExecutesOne old one n guard a begun midway → ExecutesMore one new n guard more midway ended → ExecutesMore old new n guard (SThen a more) begun ended
+then_executes old one new n guard a more begun midway ended e executes executes' = record {
   leads = λ ds wires holds s knows guards h.
-      leads_same ds new next'' stores'' _ _ (λ x. then_cases (holds x) (s x) (λ t. done (env_at wires x) a t) (λ t. all_done (env_at wires x) more t))
+      leads_same ds new ended.next.items ended.stores.items _ _ (λ x. then_cases (holds x) (s x) (λ t. done (env_at wires x) a t) (λ t. all_done (env_at wires x) more t))
       (executes'.leads ds wires holds _ (knows_later ds old one n wires e knows) (guards_later ds old one guard holds e guards) (executes.leads ds wires holds s knows guards h));
 }
 
@@ -335,38 +342,31 @@ pub record Led (ds : List Declared) (c : Flat) (next : List ℕ) (stores : List 
   pub leads : Leads ds c next stores state
   pub same : (x : Situation) → edge (env_at wires x) left (state x) ≡ edge (env_at wires x) all (f x)
 
-pub record Acting (old now : Flat) (n : Operands) (all left : List (StatementTree Net)) (next next' : List ℕ) (stores stores' : List Store) : Type 0 where
-  pub builder : IsConsistent now
+pub record Acting (old now : Flat) (n : Operands) (all left : List (StatementTree Net)) (begun ended : Edge) : Type 0 where
   pub extends : Extends old now
   pub there : AreOperands n (length now.slots)
-  pub slots : AreSlots next' (length now.slots)
-  pub in_slots : AreStores stores' (length now.slots)
+  pub within : IsEdge ended n now
   pub typed : AreStatements n left
-  pub leads : (ds : List Declared) (wires : Situation → List Word) (f : Situation → Stored) → Knows ds old n wires → Leads ds old next stores f → Led ds now next' stores' wires all left f
+  pub leads : (ds : List Declared) (wires : Situation → List Word) (f : Situation → Stored) → Knows ds old n wires → Leads ds old begun.next.items begun.stores.items f → Led ds now ended.next.items ended.stores.items wires all left f
 
-pub acting_none : (old : Flat) (n : Operands) (all : List (StatementTree Net)) (next : List ℕ) (stores : List Store) → IsConsistent old → AreOperands n (length old.slots) → AreSlots next (length old.slots) → AreStores stores (length old.slots) → AreStatements n all → Acting old old n all all next next stores stores
-acting_none old n all next stores builder there slots in_slots typed = record {
-  builder = builder;
+pub acting_none : (old : Flat) (n : Operands) (all : List (StatementTree Net)) (edge : Edge) → AreOperands n (length old.slots) → IsEdge edge n old → AreStatements n all → Acting old old n all all edge edge
+acting_none old n all edge there within typed = record {
   extends = extends_none old;
   there = there;
-  slots = slots;
-  in_slots = in_slots;
+  within = within;
   typed = typed;
   leads = λ ds wires f knows h. record { state = f; leads = h; same = λ x. refl };
 }
 
 pub acting_more :
-    (old now new : Flat) (n : Operands) (all left rest : List (StatementTree Net)) (a : StatementTree Net) (next next' next'' : List ℕ) (stores stores' stores'' : List Store)
-    → left ≡ a ∷ rest → Extends now new → IsConsistent new → AreOperands n (length new.slots) → AreSlots next'' (length new.slots) → AreStores stores'' (length new.slots) → ExecutesOne now new n None a next' next'' stores' stores''
-    → Acting old now n all left next next' stores stores' → Acting old new n all rest next next'' stores stores''
-acting_more old now new n all left rest a next next' next'' stores stores' stores'' e ext builder there slots in_slots executes h0 =
-    let h = subst (λ l. Acting old now n all l next next' stores stores') e h0 in
+    (old now new : Flat) (n : Operands) (all left rest : List (StatementTree Net)) (a : StatementTree Net) (begun midway ended : Edge)
+    → left ≡ a ∷ rest → Extends now new → IsEdge ended n new → ExecutesOne now new n None a midway ended → Acting old now n all left begun midway → Acting old new n all rest begun ended
+acting_more old now new n all left rest a begun midway ended e ext within executes h0 =
+    let h = subst (λ l. Acting old now n all l begun midway) e h0 in
     record {
-      builder = builder;
       extends = extends_more old now new h.extends ext;
-      there = there;
-      slots = slots;
-      in_slots = in_slots;
+      there = operands_later n now new ext h.there;
+      within = within;
       typed = h.typed.1;
       leads = λ ds wires f knows l.
           let k = h.leads ds wires f knows l in
@@ -377,13 +377,13 @@ acting_more old now new n all left rest a next next' next'' stores stores' store
           };
     }
 
-pub acting_first : (old now : Flat) (n : Operands) (all left rest : List (StatementTree Net)) (a : StatementTree Net) (next next' : List ℕ) (stores stores' : List Store) → left ≡ a ∷ rest → Acting old now n all left next next' stores stores' → statement_typed (scope_of n) (widths_at n.registers.items) (sizes_of n.memories.items) a ≡ true
-acting_first old now n all left rest a next next' stores stores' e h = (subst (λ l. AreStatements n l) e h.typed).0
+pub acting_first : (old now : Flat) (n : Operands) (all left rest : List (StatementTree Net)) (a : StatementTree Net) (begun ended : Edge) → left ≡ a ∷ rest → Acting old now n all left begun ended → statement_typed (scope_of n) (widths_at n.registers.items) (sizes_of n.memories.items) a ≡ true
+acting_first old now n all left rest a begun ended e h = (subst (λ l. AreStatements n l) e h.typed).0
 
-pub acting_all : (old now : Flat) (n : Operands) (all left : List (StatementTree Net)) (next next' : List ℕ) (stores stores' : List Store) → left ≡ [] → Acting old now n all left next next' stores stores' → ExecutesAll old now n all next next' stores stores'
-acting_all old now n all left next next' stores stores' e h0 =
-    let h = subst (λ l. Acting old now n all l next next' stores stores') e h0 in
-    record { leads = λ ds wires f knows l. let k = h.leads ds wires f knows l in leads_same ds now next' stores' k.state (λ x. edge (env_at wires x) all (f x)) k.same k.leads }
+pub acting_all : (old now : Flat) (n : Operands) (all left : List (StatementTree Net)) (begun ended : Edge) → left ≡ [] → Acting old now n all left begun ended → ExecutesAll old now n all begun ended
+acting_all old now n all left begun ended e h0 =
+    let h = subst (λ l. Acting old now n all l begun ended) e h0 in
+    record { leads = λ ds wires f knows l. let k = h.leads ds wires f knows l in leads_same ds now ended.next.items ended.stores.items k.state (λ x. edge (env_at wires x) all (f x)) k.same k.leads }
 
 -- ---- the statements of a block, one after another
 guard_later : (n m : ℕ) → n ≤ m → (guard : Option ℕ) → IsGuard guard n → IsGuard guard m
@@ -391,37 +391,27 @@ guard_later n m le None h = h
 guard_later n m le (Some slot) h = omega (arith, le, h)
 
 -- what executes the statements that are left executes all of them
-pub record Executing (n : Operands) (guard : Option ℕ) (all left : StatementTrees Net) (old now : Flat) (next next' : List ℕ) (stores stores' : List Store) : Type 0 where
+pub record Executing (n : Operands) (guard : Option ℕ) (all left : StatementTrees Net) (old now : Flat) (begun midway : Edge) : Type 0 where
   pub typed : statements_typed (scope_of n) (widths_at n.registers.items) (sizes_of n.memories.items) left ≡ true
-  pub builder : IsConsistent now
   pub extends : Extends old now
-  pub grows : length old.slots ≤ length now.slots
   pub there : AreOperands n (length now.slots)
   pub guarded : IsGuard guard (length now.slots)
-  pub count : length next' ≡ length n.registers.items
-  pub slots : AreSlots next' (length now.slots)
-  pub in_slots : AreStores stores' (length now.slots)
-  pub executes : (last : Flat) (next'' : List ℕ) (stores'' : List Store) → ExecutesMore now last n guard left next' next'' stores' stores'' → ExecutesMore old last n guard all next next'' stores stores''
+  pub within : IsEdge midway n now
+  pub executes : (last : Flat) (ended : Edge) → ExecutesMore now last n guard left midway ended → ExecutesMore old last n guard all begun ended
 
 pub executing_more :
-    (n : Operands) (guard : Option ℕ) (all left rest : StatementTrees Net) (a : StatementTree Net) (old now new : Flat) (next next' next'' : List ℕ) (stores stores' stores'' : List Store)
-    → left ≡ SThen a rest → Extends now new → IsConsistent new → AreOperands n (length new.slots) → length next'' ≡ length next' → AreSlots next'' (length new.slots) → AreStores stores'' (length new.slots)
-    → ExecutesOne now new n guard a next' next'' stores' stores'' → Executing n guard all left old now next next' stores stores' → Executing n guard all rest old new next next'' stores stores''
-executing_more n guard all left rest a old now new next next' next'' stores stores' stores'' e ext builder there same slots in_slots one h0 =
-    let h = subst (λ l. Executing n guard all l old now next next' stores stores') e h0 in
+    (n : Operands) (guard : Option ℕ) (all left rest : StatementTrees Net) (a : StatementTree Net) (old now new : Flat) (begun midway next : Edge)
+    → left ≡ SThen a rest → Extends now new → IsEdge next n new → ExecutesOne now new n guard a midway next → Executing n guard all left old now begun midway → Executing n guard all rest old new begun next
+executing_more n guard all left rest a old now new begun midway next e ext within one h0 =
+    let h = subst (λ l. Executing n guard all l old now begun midway) e h0 in
     let typed = and_parts (statement_typed (scope_of n) (widths_at n.registers.items) (sizes_of n.memories.items) a) (statements_typed (scope_of n) (widths_at n.registers.items) (sizes_of n.memories.items) rest) h.typed in
-    let extends = extends_more old now new h.extends ext in
     record {
       typed = typed.1;
-      builder = builder;
-      extends = extends;
-      grows = extends_length old new extends;
-      there = there;
-      guarded = guard_later (length now.slots) (length new.slots) (extends_length now new ext) guard h.guarded;
-      count = same ∙ h.count;
-      slots = slots;
-      in_slots = in_slots;
-      executes = λ last ks ss more. h.executes last ks ss (then_executes now new last n guard a rest next' next'' ks stores' stores'' ss ext one more);
+      extends = extends_more old now new h.extends ext;
+      there = operands_later n now new ext h.there;
+      guarded = guard_later (length now.slots) (length new.slots) ext.grows guard h.guarded;
+      within = within;
+      executes = λ last ended more. h.executes last ended (then_executes now new last n guard a rest midway next ended ext one more);
     }
 
 -- ---- what a statement needs

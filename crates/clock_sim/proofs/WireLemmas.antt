@@ -1,8 +1,8 @@
 -- Wires, one after another.
-use Rattle.std.specs.Prelude.{if◌then◌else◌, ◌==◌, nat_lt, nat_le, ◌^◌}
+use Rattle.std.specs.Prelude.{if◌then◌else◌, ◌==◌, nat_le, ◌^◌}
 use Rattle.std.proofs.Common.{◌≡◌, ℕ, zero, suc, ◌+◌, ◌<◌, ◌≤◌, true, ◌&&◌, Option, Some, None, List, [], ◌∷◌, ◌++◌, length, get_or, refl, sym, ap, ◌∙◌, subst, arith, ⊎_elim, append_assoc}
 use Rattle.std.proofs.Math.Path.{fun_ext}
-use Rattle.std.proofs.lemmas.Bool.{and_parts, cases_lt, cases_eq, eqb-true, ltb-true}
+use Rattle.std.proofs.lemmas.Bool.{and_parts, cases_lt, cases_eq}
 use Rattle.std.proofs.lemmas.List.{get_or_append_left, get_or_at, length_push, map_push, append-nil}
 use Rattle.net_core.specs.declared.tree.Word.{Word}
 use Rattle.net_core.specs.declared.tree.Net.{Net}
@@ -20,9 +20,10 @@ use Rattle.clock_sim.specs.declared.operands.Operands.{Operands}
 use Rattle.clock_sim.specs.declared.operands.Widths.{Widths}
 use Rattle.clock_sim.specs.declared.wires.Divisor.{Divisor}
 use Rattle.clock_sim.specs.Steps.{run}
-use Rattle.clock_sim.specs.Flat.{Flat, Situation, IsFine, contents_of, Starts, Gives, IsConsistent, Extends, RightValues, AreOperands, no_operand, no_widths, operand_in, widths_in, scope_of, env_at, AreCells, Knows}
+use Rattle.clock_sim.specs.Flat.{Flat, Situation, IsFine, contents_of, Starts, Gives, Extends, Adds, RightValues, AreOperands, no_operand, no_widths, operand_in, widths_in, scope_of, env_at, AreCells, Knows}
 use Rattle.clock_sim.specs.Edges.{Matches, widths_at, sizes_of, AreTyped, divisor_in, IsDivided, AreDivided, AddsWires, AreKnown, first_zero, AreDivisors, Stops, divisors_at, divisors_from}
-use Rattle.clock_sim.proofs.BuilderLemmas.{extends_none, extends_more, extends_length, gives_later}
+use Rattle.clock_sim.proofs.StoredLemmas.{same_sides}
+use Rattle.clock_sim.proofs.BuilderLemmas.{extends_none, extends_more, gives_later}
 
 -- ---- scopes
 pub width_get : (ps : List Operand) (k : ℕ) → (get_or ps k no_operand).width ≡ get_or (widths_at ps) k 0
@@ -161,7 +162,6 @@ wired_more ds old new n n' p all w rest adds e made h = record {
 }
 
 pub record Wiring (first now : Flat) (begun n : Operands) (all passed rest : List WireTree) : Type 0 where
-  pub builder : IsConsistent now
   pub extends : Extends first now
   pub there : AreOperands n (length now.slots)
   pub ports : n.ports ≡ begun.ports
@@ -172,9 +172,8 @@ pub record Wiring (first now : Flat) (begun n : Operands) (all passed rest : Lis
   pub divided : AreDivided n passed
   pub knows : (ds : List Declared) → Knows ds first begun (λ x. []) → Wired ds now n all rest
 
-pub wiring_none : (first : Flat) (begun : Operands) (all : List WireTree) → begun.wires.items ≡ [] → IsConsistent first → AreOperands begun (length first.slots) → AreTyped begun all → Wiring first first begun begun all [] all
-wiring_none first begun all none builder there typed = record {
-  builder = builder;
+pub wiring_none : (first : Flat) (begun : Operands) (all : List WireTree) → begun.wires.items ≡ [] → AreOperands begun (length first.slots) → AreTyped begun all → Wiring first first begun begun all [] all
+wiring_none first begun all none there typed = record {
   extends = extends_none first;
   there = there;
   ports = refl;
@@ -185,13 +184,6 @@ wiring_none first begun all none builder there typed = record {
   divided = tt;
   knows = λ ds k. record { values = λ x. []; knows = k; counts = λ x. ap length (sym none); settled = λ x. refl };
 }
-
-record Side (a b : ℕ) : Type 0 where
-  some : 0 < a
-  is : a ≡ b
-
-side_of : (a b : ℕ) → same a b ≡ true → Side a b
-side_of a b h = let p = and_parts (nat_lt 0 a) (a == b) h in record { some = ltb-true 0 a p.0; is = eqb-true a b p.1 }
 
 module _ (n : Operands) (w : WireTree) (rest : List WireTree) (t : AreTyped n (w ∷ rest)) where
   parts : (same w.width (right_width (scope t.netlist (widths_at n.wires.items)) w.right) ≡ true) × (wires_typed t.netlist (widths_at n.wires.items ++ w.width ∷ []) rest ≡ true)
@@ -204,10 +196,10 @@ module _ (n : Operands) (w : WireTree) (rest : List WireTree) (t : AreTyped n (w
   scopes = scope_same t.netlist n (widths_at n.wires.items) t.matches refl
 
   pub wire_width : w.width ≡ right_width (scope_of n) w.right
-  wire_width = (side_of w.width (right_width (scope t.netlist (widths_at n.wires.items)) w.right) parts.0).is ∙ ap (λ s. right_width s w.right) (sym scopes)
+  wire_width = (same_sides w.width (right_width (scope t.netlist (widths_at n.wires.items)) w.right) parts.0).is ∙ ap (λ s. right_width s w.right) (sym scopes)
 
   pub right_some : 0 < right_width (scope_of n) w.right
-  right_some = subst (λ k. 0 < k) wire_width (side_of w.width (right_width (scope t.netlist (widths_at n.wires.items)) w.right) parts.0).some
+  right_some = subst (λ k. 0 < k) wire_width (same_sides w.width (right_width (scope t.netlist (widths_at n.wires.items)) w.right) parts.0).some
 
   matches_more : (n' : Operands) (p : Operand) → AddsOne n n' p → Matches t.netlist n'
   matches_more n' p adds = record {
@@ -238,14 +230,14 @@ divided_push n (v ∷ ws) w h i = (h.0, divided_push n ws w h.1 i)
 
 pub wiring_more :
     (first old new : Flat) (begun n n' : Operands) (p : Operand) (all passed passed' left rest : List WireTree) (w : WireTree)
-    → left ≡ w ∷ rest → passed' ≡ passed ++ w ∷ [] → AddsOne n n' p → Extends old new → IsConsistent new → p.slot < length new.slots → p.width ≡ right_width (scope_of n) w.right → RightValues old new n w.right p
+    → left ≡ w ∷ rest → passed' ≡ passed ++ w ∷ [] → AddsOne n n' p → Adds old new p.slot → p.width ≡ right_width (scope_of n) w.right → RightValues old new n w.right p
     → Wiring first old begun n all passed left → Wiring first new begun n' all passed' rest
-wiring_more first old new begun n n' p all passed passed' left rest w e e' adds ext builder slot width made h0 =
+wiring_more first old new begun n n' p all passed passed' left rest w e e' adds more width made h0 =
     let h = subst (λ l. Wiring first old begun n all passed l) e h0 in
+    let ext = more.extends in
     record {
-      builder = builder;
       extends = extends_more first old new h.extends ext;
-      there = operands_more n n' p adds (length old.slots) (length new.slots) (extends_length old new ext) slot h.there;
+      there = operands_more n n' p adds (length old.slots) (length new.slots) ext.grows more.there h.there;
       ports = adds.ports ∙ h.ports;
       registers = adds.registers ∙ h.registers;
       memories = adds.memories ∙ h.memories;

@@ -13,6 +13,7 @@ use Rattle.clock_sim.specs.declared.builder.Operand.{Operand}
 use Rattle.clock_sim.specs.declared.operands.Operands.{Operands}
 use Rattle.clock_sim.specs.declared.operands.Widths.{Widths}
 use Rattle.clock_sim.specs.declared.edge.Store.{Store}
+use Rattle.clock_sim.specs.declared.edge.Edge.{Edge}
 use Rattle.clock_sim.specs.declared.wires.Divisor.{Divisor}
 use Rattle.clock_sim.specs.Steps.{run}
 use Rattle.clock_sim.specs.Flat.{Flat, Situation, IsFine, contents_of, Starts, Numbers, operand_in, no_operand, scope_of, env_at, Knows}
@@ -116,6 +117,12 @@ abbrev pub AreStores : List Store → ℕ → Type 0
 AreStores [] count = ⊤
 AreStores (s ∷ rest) count = IsStore s count × AreStores rest count
 
+-- slots of words for each register, and stores from slots
+pub record IsEdge (e : Edge) (n : Operands) (c : Flat) : Type 0 where
+  pub count : length e.next.items ≡ length n.registers.items
+  pub next : AreSlots e.next.items (length c.slots)
+  pub stores : AreStores e.stores.items (length c.slots)
+
 -- the slots of the registers' next words, and the stores, lead to this in every clock
 pub record Leads (ds : List Declared) (c : Flat) (next : List ℕ) (stores : List Store) (f : Situation → Stored) : Type 0 where
   pub count : (x : Situation) → IsFine ds x → length (f x).registers ≡ length next
@@ -151,24 +158,24 @@ pub record GuardsAs (old new : Flat) (guard : Option ℕ) (slot : ℕ) : Type 0 
   pub gives : (ds : List Declared) (holds : Situation → Bool) → Guards ds old guard holds → GuardsBy ds new slot holds
 
 -- a statement, done where the guard holds
-pub record ExecutesOne (old new : Flat) (n : Operands) (guard : Option ℕ) (a : StatementTree Net) (next next' : List ℕ) (stores stores' : List Store) : Type 0 where
+pub record ExecutesOne (old new : Flat) (n : Operands) (guard : Option ℕ) (a : StatementTree Net) (begun ended : Edge) : Type 0 where
   pub leads :
       (ds : List Declared) (wires : Situation → List Word) (holds : Situation → Bool) (f : Situation → Stored)
-      → Knows ds old n wires → Guards ds old guard holds → Leads ds old next stores f → Leads ds new next' stores' (λ x. if holds x then done (env_at wires x) a (f x) else f x)
+      → Knows ds old n wires → Guards ds old guard holds → Leads ds old begun.next.items begun.stores.items f → Leads ds new ended.next.items ended.stores.items (λ x. if holds x then done (env_at wires x) a (f x) else f x)
 
-pub record ExecutesMore (old new : Flat) (n : Operands) (guard : Option ℕ) (a : StatementTrees Net) (next next' : List ℕ) (stores stores' : List Store) : Type 0 where
+pub record ExecutesMore (old new : Flat) (n : Operands) (guard : Option ℕ) (a : StatementTrees Net) (begun ended : Edge) : Type 0 where
   pub leads :
       (ds : List Declared) (wires : Situation → List Word) (holds : Situation → Bool) (f : Situation → Stored)
-      → Knows ds old n wires → Guards ds old guard holds → Leads ds old next stores f → Leads ds new next' stores' (λ x. if holds x then all_done (env_at wires x) a (f x) else f x)
+      → Knows ds old n wires → Guards ds old guard holds → Leads ds old begun.next.items begun.stores.items f → Leads ds new ended.next.items ended.stores.items (λ x. if holds x then all_done (env_at wires x) a (f x) else f x)
 
 abbrev pub AreStatements : Operands → List (StatementTree Net) → Type 0
 AreStatements n [] = ⊤
 AreStatements n (a ∷ rest) = (statement_typed (scope_of n) (widths_at n.registers.items) (sizes_of n.memories.items) a ≡ true) × AreStatements n rest
 
-pub record ExecutesAll (old new : Flat) (n : Operands) (all : List (StatementTree Net)) (next next' : List ℕ) (stores stores' : List Store) : Type 0 where
+pub record ExecutesAll (old new : Flat) (n : Operands) (all : List (StatementTree Net)) (begun ended : Edge) : Type 0 where
   pub leads :
       (ds : List Declared) (wires : Situation → List Word) (f : Situation → Stored)
-      → Knows ds old n wires → Leads ds old next stores f → Leads ds new next' stores' (λ x. edge (env_at wires x) all (f x))
+      → Knows ds old n wires → Leads ds old begun.next.items begun.stores.items f → Leads ds new ended.next.items ended.stores.items (λ x. edge (env_at wires x) all (f x))
 
 abbrev pub taken : List ℕ → List ℕ → List ℕ
 taken next slots = map (λ k. get_or slots k 0) next

@@ -7,14 +7,13 @@ use Rattle.net_core.specs.declared.tree.Net.{Net}
 use Rattle.net_core.specs.declared.tree.Net.TheVariants.{Port, Register, Memory, Wire}
 use Rattle.net_core.specs.declared.design.Declared.{Declared}
 use Rattle.net_core.specs.Nets.{Tree, Trees, RightTree}
-use Rattle.net_core.specs.Value.{Env, nothing, value, concatenated_parts, right_value}
+use Rattle.net_core.specs.Value.{Env, nothing, value, concatenated, concatenated_parts, right_value}
 use Rattle.net_core.specs.Width.{Scope}
 use Rattle.net_core.specs.Suits.{IsOfWidth}
 use Rattle.net_core.specs.Clock.{Stored, env, memory_word_value}
 use Rattle.clock_sim.specs.declared.step.Step.{Step}
 use Rattle.clock_sim.specs.declared.step.Opcode.{Opcode}
 use Rattle.clock_sim.specs.declared.step.Opcode.TheVariants.{Conditional}
-use Rattle.clock_sim.specs.declared.builder.StepBuilder.{StepBuilder}
 use Rattle.clock_sim.specs.declared.builder.Operand.{Operand}
 use Rattle.clock_sim.specs.declared.operands.Operands.{Operands}
 use Rattle.clock_sim.specs.declared.operands.Widths.{Widths}
@@ -25,9 +24,6 @@ use Rattle.clock_sim.specs.Ready.{ArePorts, IsStored}
 pub record Flat : Type 0 where
   pub steps : List Step
   pub slots : List (Option ℕ)
-
-abbrev pub flat_of : StepBuilder → Flat
-flat_of c = record { steps = c.steps.items; slots = c.slots.items }
 
 -- what a clock begins with: the words at the ports, and what is stored
 pub record Situation : Type 0 where
@@ -111,6 +107,12 @@ pub record Extends (old new : Flat) : Type 0 where
   pub steps : new.steps ≡ old.steps ++ more
   pub slots : new.slots ≡ old.slots ++ fresh
   pub own : WriteFrom (length old.slots) more
+  pub grows : length old.slots ≤ length new.slots
+
+-- more steps, and a slot
+pub record Adds (old new : Flat) (slot : ℕ) : Type 0 where
+  pub extends : Extends old new
+  pub there : slot < length new.slots
 
 -- what one more step gives, at its slot
 pub record Works (opcode : Opcode) (a b shift number : ℕ) (old new : Flat) (to : ℕ) : Type 0 where
@@ -183,6 +185,10 @@ pub record Values (old new : Flat) (n : Operands) (e : Tree Net) (p : Operand) :
 
 pub record PartValues (old new : Flat) (n : Operands) (ps : Trees Net) (p : Operand) : Type 0 where
   pub gives : (ds : List Declared) (wires : Situation → List Word) → Knows ds old n wires → Gives ds new p (λ x. concatenated_parts (env_at wires x) ps)
+
+-- what gives a word before parts
+pub record Joins (old new : Flat) (n : Operands) (first : Operand) (ps : Trees Net) (p : Operand) : Type 0 where
+  pub gives : (ds : List Declared) (wires : Situation → List Word) (u : Situation → Word) → Knows ds old n wires → Gives ds old first u → Gives ds new p (λ x. concatenated (u x) (concatenated_parts (env_at wires x) ps))
 
 pub record RightValues (old new : Flat) (n : Operands) (r : RightTree Net) (p : Operand) : Type 0 where
   pub gives : (ds : List Declared) (wires : Situation → List Word) → Knows ds old n wires → Gives ds new p (λ x. right_value (env_at wires x) r)

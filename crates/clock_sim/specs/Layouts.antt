@@ -1,5 +1,5 @@
 -- Where words stand, and what holds of a simulator between two clocks.
-use Rattle.std.specs.Prelude.{◌≡◌, ℕ, suc, ◌+◌, ◌<◌, ◌≤◌, Option, Some, None, List, [], ◌∷◌, ◌++◌, length, drop, map, slice_set}
+use Rattle.std.specs.Prelude.{◌≡◌, ℕ, suc, ◌+◌, ◌<◌, ◌≤◌, Option, Some, None, List, [], ◌∷◌, ◌++◌, length, drop, map, replicate, slice_set}
 use Rattle.std.proofs.Common.{get_or}
 use Rattle.net_core.specs.declared.ports.TheConstants.{PORT_COUNT}
 use Rattle.net_core.specs.declared.tree.Word.{Word}
@@ -15,9 +15,9 @@ use Rattle.clock_sim.specs.declared.layout.Layout.{Layout}
 use Rattle.clock_sim.specs.declared.clock.CompiledDesign.{CompiledDesign}
 use Rattle.clock_sim.specs.declared.compile.Parts.{Parts}
 use Rattle.clock_sim.specs.declared.operands.Operands.{Operands}
-use Rattle.clock_sim.specs.declared.edge.Store.{Store}
+use Rattle.clock_sim.specs.declared.edge.Edge.{Edge}
 use Rattle.clock_sim.specs.Ready.{IsStored}
-use Rattle.clock_sim.specs.Flat.{Flat, Situation, numbers, Numbers, IsConsistent, AreReading, AreFree, WriteFrom, Extends, Knows}
+use Rattle.clock_sim.specs.Flat.{Flat, Situation, numbers, Numbers, AreReading, AreFree, WriteFrom}
 use Rattle.clock_sim.specs.Orders.{AreGroups}
 use Rattle.clock_sim.specs.Edges.{sizes_of, AreDivisors, AreSlots, AreStores, Stops, Leads, IsShown}
 
@@ -40,15 +40,26 @@ pub record IsLayout (ds : List Declared) (l : Layout) : Type 0 where
   pub values : l.numbers.items ≡ numbers (first_words ds)
   pub contents : l.contents.items ≡ map numbers (first_memories ds)
 
+abbrev pub slots_in : List Operand → List ℕ
+slots_in ps = map (λ p. p.slot) ps
+
+-- before any step, ports and registers have the first slots, and an edge leaves the registers as they are
+pub record Begins (ds : List Declared) (n : Operands) (c : Flat) (e : Edge) : Type 0 where
+  pub ports : n.ports.items ≡ port_operands
+  pub registers : n.registers.items ≡ operands_from PORT_COUNT (register_widths ds)
+  pub memories : sizes_of n.memories.items ≡ memory_widths ds
+  pub wires : n.wires.items ≡ []
+  pub steps : c.steps ≡ []
+  pub slots : c.slots ≡ replicate (PORT_COUNT + length (register_widths ds)) None
+  pub next : e.next.items ≡ slots_in n.registers.items
+  pub stores : e.stores.items ≡ []
+
 -- one more item
 pub record AddsItem (d : Declared) (old new : Layout) : Type 0 where
   pub registers : new.registers.items ≡ old.registers.items ++ operands_from (PORT_COUNT + length old.registers.items) (register_widths (d ∷ []))
   pub memories : sizes_of new.memories.items ≡ sizes_of old.memories.items ++ memory_widths (d ∷ [])
   pub values : new.numbers.items ≡ old.numbers.items ++ numbers (first_words (d ∷ []))
   pub contents : new.contents.items ≡ old.contents.items ++ map numbers (first_memories (d ∷ []))
-
-abbrev pub slots_in : List Operand → List ℕ
-slots_in ps = map (λ p. p.slot) ps
 
 abbrev pub constants_in : List (Option ℕ) → List ℕ
 constants_in [] = []
@@ -112,14 +123,16 @@ pub record IsReady (p : CompiledDesign) (slots : List ℕ) (contents : List (Lis
   pub contents_count : length contents ≡ length (memory_widths p.design.declared.items)
   pub next_count : next ≡ length p.next.items
 
--- what the steps of wires, outputs and always blocks give
-pub record Compiles (d : Netlist) (old new : Flat) (n : Operands) (begun ended : List ℕ) (made : List Store) (parts : Parts) : Type 0 where
-  pub builder : IsConsistent new
-  pub extends : Extends old new
-  pub divisors : AreDivisors parts.divisors.items (length new.slots)
-  pub shown : IsShown parts.shown.items (length new.slots)
-  pub next : AreSlots ended (length new.slots)
-  pub stores : AreStores made (length new.slots)
-  pub stops : (ds : List Declared) → Knows ds old n (λ x. []) → Stops ds new parts.divisors.items (λ x. stopping d x.ins x.stored)
-  pub shows : (ds : List Declared) → Knows ds old n (λ x. []) → ShowsPorts ds new parts.shown.items (λ port x. assigned (env_of d x.ins x.stored) d.assigns port)
-  pub leads : (ds : List Declared) → Knows ds old n (λ x. []) → Leads ds old begun [] (λ x. x.stored) → Leads ds new ended made (λ x. after d x.ins x.stored)
+-- what the steps of wires, outputs and always blocks give in every clock
+pub record Compiles (d : Netlist) (c : Flat) (e : Edge) (parts : Parts) : Type 0 where
+  pub own : WriteFrom (PORT_COUNT + length (register_widths d.declared)) c.steps
+  pub first : (k n : ℕ) → get_or c.slots k None ≡ Some n → PORT_COUNT + length (register_widths d.declared) ≤ k
+  pub room : PORT_COUNT + length (register_widths d.declared) ≤ length c.slots
+  pub divisors : AreDivisors parts.divisors.items (length c.slots)
+  pub shown : IsShown parts.shown.items (length c.slots)
+  pub next : AreSlots e.next.items (length c.slots)
+  pub count : length e.next.items ≡ length (register_widths d.declared)
+  pub stores : AreStores e.stores.items (length c.slots)
+  pub stops : Stops d.declared c parts.divisors.items (λ x. stopping d x.ins x.stored)
+  pub shows : ShowsPorts d.declared c parts.shown.items (λ port x. assigned (env_of d x.ins x.stored) d.assigns port)
+  pub leads : Leads d.declared c e.next.items e.stores.items (λ x. after d x.ins x.stored)

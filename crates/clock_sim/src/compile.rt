@@ -1,23 +1,22 @@
 //! From a design to its steps.
 
-ghost use Rattle.std.specs.Prelude.{◌≡◌, None, [], length, replicate, IfOk};
-ghost use Rattle.net_core.specs.Clock.{first_stored};
+ghost use Rattle.std.specs.Prelude.{◌≡◌, length, map, IfOk, IsTrue};
+ghost use Rattle.net_core.specs.Clock.{first_words, first_memories, first_stored};
 ghost use Rattle.net_core.specs.View.{netlist_of};
-ghost use Rattle.net_core.specs.Width.{IsTyped};
-ghost use Rattle.clock_sim.specs.Flat.{flat_of, IsConsistent, AreOperands};
-ghost use Rattle.clock_sim.specs.Edges.{Matches, AreSlots};
-ghost use Rattle.clock_sim.specs.Layouts.{stored_of, IsReady, constants_in, slots_in, Compiles};
+ghost use Rattle.net_core.specs.Width.{declared_typed, IsTyped};
+ghost use Rattle.clock_sim.specs.Flat.{numbers};
+ghost use Rattle.clock_sim.specs.Layouts.{stored_of, IsReady, constants_in, slots_in, Begins, Compiles};
 
 use crate::builder::{Operand, StepBuilder};
 use crate::clock::{CompiledDesign, write_at};
-use crate::edge::{Store, add_always};
+use crate::edge::{Edge, add_always};
 use crate::layout::{Layout, layout_of, port_operands_of};
 use crate::memory::MemoryWords;
 use crate::operands::Operands;
 use crate::order::{groups_of, reorder};
 use crate::outputs::add_outputs;
 use crate::wires::{Divisor, add_wires, divisors_of};
-use net_core::design::Design;
+use net_core::design::{Declared, Design};
 use net_core::ports::PORT_COUNT;
 use std::alloc::{AllocError, Global};
 
@@ -52,22 +51,56 @@ fn constants_of(alloc: Global, slots: &[Option<u64>]) -> Result<Vec<u64>, AllocE
     Ok(numbers)
 }
 
-// Slots that the ports and registers have.
-fn blank_slots(alloc: Global, count: usize) -> Result<Vec<Option<u64>>, AllocError>
-    ensures { IfOk result (λ v. v.items ≡ replicate count None) }
-{
-    let mut slots = Vec::new(alloc);
-    for _ in 0..count {
-        slots.push(None)?;
-    }
-    Ok(slots)
-}
-
 /// The divisors of a design, and the slot of what each port shows.
 #[derive(Drop)]
 pub struct Parts {
     pub divisors: Vec<Divisor>,
     pub shown: Vec<u32>,
+}
+
+/// What stands where before any step.
+#[derive(Drop)]
+pub struct Beginning {
+    pub operands: Operands,
+    pub builder: StepBuilder,
+    pub edge: Edge,
+    pub numbers: Vec<u64>,
+    pub contents: Vec<MemoryWords>,
+}
+
+// Before any step the words of ports and registers stand in the first slots, and an edge leaves the registers as they are.
+fn begin(alloc: Global, declared: &[Declared]) -> Result<Beginning, AllocError>
+    requires { IsTrue (declared_typed declared.now) }
+    ensures begins { IfOk result (λ b. Begins declared.now b.operands b.builder b.edge) }
+    ensures values { IfOk result (λ b. b.numbers.items ≡ numbers (first_words declared.now)) }
+    ensures contents { IfOk result (λ b. b.contents.items ≡ map numbers (first_memories declared.now)) }
+{
+    let layout = layout_of(alloc, declared)?;
+    let Layout {
+        registers,
+        memories,
+        numbers,
+        contents,
+    } = layout;
+    let builder = StepBuilder::new(alloc, PORT_COUNT + registers.len())?;
+    let next = slots_of(alloc, &registers)?;
+    let stores = Vec::new(alloc);
+    let edge = Edge { next, stores };
+    let ports = port_operands_of(alloc)?;
+    let wires = Vec::new(alloc);
+    let operands = Operands {
+        ports,
+        registers,
+        memories,
+        wires,
+    };
+    Ok(Beginning {
+        operands,
+        builder,
+        edge,
+        numbers,
+        contents,
+    })
 }
 
 // Adds the steps of wires, outputs and always blocks.
@@ -76,23 +109,16 @@ fn add_parts(
     design: &Design,
     operands: &mut Operands,
     builder: &mut StepBuilder,
-    next: &mut [u32],
-    stores: &mut Vec<Store>,
+    edge: &mut Edge,
 ) -> Result<Parts, AllocError>
     requires typed { IsTyped (netlist_of design.now) }
-    requires none { operands.old.wires.items ≡ [] }
-    requires matches { Matches (netlist_of design.now) operands.old }
-    requires builder { IsConsistent (flat_of builder.old) }
-    requires operands { AreOperands operands.old (length builder.old.slots.items) }
-    requires count { length next.old ≡ length operands.old.registers.items }
-    requires next { AreSlots next.old (length builder.old.slots.items) }
-    requires stores { stores.old.items ≡ [] }
-    ensures { IfOk result (λ parts. Compiles (netlist_of design.now) (flat_of builder.old) (flat_of builder.new) operands.old next.old next.new stores.new.items parts) }
+    requires begins { Begins design.now.declared.items operands.old builder.old edge.old }
+    ensures { IfOk result (λ parts. Compiles (netlist_of design.now) builder.new edge.new parts) }
 {
     add_wires(&design.wires, operands, builder)?;
     let divisors = divisors_of(alloc, &design.wires, operands)?;
     let shown = add_outputs(alloc, &design.assigns, operands, builder)?;
-    add_always(&design.always, operands, builder, next, stores)?;
+    add_always(&design.always, operands, builder, edge)?;
     Ok(Parts { divisors, shown })
 }
 
@@ -103,54 +129,34 @@ pub fn compile(alloc: Global, design: Design) -> Result<Start, AllocError>
     ensures stored { IfOk result (λ s. stored_of s.compiled s.slots.items s.contents.items ≡ first_stored (netlist_of design)) }
     ensures ready { IfOk result (λ s. IsReady s.compiled s.slots.items s.contents.items (length s.next.items)) }
 {
-    let layout = layout_of(alloc, &design.declared)?;
-    let Layout {
-        registers,
-        memories,
+    let beginning = begin(alloc, &design.declared)?;
+    let Beginning {
+        mut operands,
+        mut builder,
+        mut edge,
         numbers,
         contents,
-    } = layout;
-    let count = registers.len();
-    let mut next = slots_of(alloc, &registers)?;
-    let ports = port_operands_of(alloc)?;
-    let wires = Vec::new(alloc);
-    let mut operands = Operands {
-        ports,
-        registers,
-        memories,
-        wires,
-    };
-    let steps = Vec::new(alloc);
-    let slots = blank_slots(alloc, PORT_COUNT + count)?;
-    let mut builder = StepBuilder { steps, slots };
-    let mut stores = Vec::new(alloc);
-    let parts = add_parts(
-        alloc,
-        &design,
-        &mut operands,
-        &mut builder,
-        &mut next,
-        &mut stores,
-    )?;
-    let mut steps = builder.steps;
-    reorder(alloc, &mut steps, builder.slots.len())?;
+    } = beginning;
+    let parts = add_parts(alloc, &design, &mut operands, &mut builder, &mut edge)?;
+    let (mut steps, constants) = builder.finish();
+    reorder(alloc, &mut steps, constants.len())?;
     let groups = groups_of(alloc, &steps)?;
-    let mut slots = constants_of(alloc, &builder.slots)?;
+    let mut slots = constants_of(alloc, &constants)?;
     write_at(PORT_COUNT, &numbers, &mut slots);
-    let words = vec![in alloc; 0; count]?;
+    let next = vec![in alloc; 0; edge.next.len()]?;
     let compiled = CompiledDesign {
         design,
         steps,
         groups,
         divisors: parts.divisors,
         shown: parts.shown,
-        next,
-        stores,
+        next: edge.next,
+        stores: edge.stores,
     };
     Ok(Start {
         compiled,
         slots,
         contents,
-        next: words,
+        next,
     })
 }

@@ -1,10 +1,10 @@
 //! The assignments of a rising edge (IEEE 1364-2005, 9.2.2): all from the values before it.
 
-ghost use Rattle.std.specs.Prelude.{◌≡◌, ◌<◌, ◌≤◌, true, [], ◌∷◌, length, map, OnOk, IfOk};
+ghost use Rattle.std.specs.Prelude.{◌≡◌, ◌<◌, true, [], ◌∷◌, length, map, OnOk, IfOk};
 ghost use Rattle.net_core.specs.View.{statement_of, statements_of};
 ghost use Rattle.net_core.specs.Width.{statement_typed, statements_typed};
-ghost use Rattle.clock_sim.specs.Flat.{flat_of, IsConsistent, Extends, AreOperands, scope_of};
-ghost use Rattle.clock_sim.specs.Edges.{applied, AreSlots, IsStore, AreStores, IsGuard, Picks, GuardsBoth, Opposes, GuardsAs, ExecutesOne, ExecutesMore, ExecutesAll, AreStatements, widths_at, sizes_of, taken};
+ghost use Rattle.clock_sim.specs.Flat.{Adds, Extends, AreOperands, scope_of};
+ghost use Rattle.clock_sim.specs.Edges.{applied, AreSlots, IsStore, AreStores, IsEdge, IsGuard, Picks, GuardsBoth, Opposes, GuardsAs, ExecutesOne, ExecutesMore, ExecutesAll, AreStatements, widths_at, sizes_of, taken};
 
 use crate::builder::{StepBuilder, add_step, constant};
 use crate::emit::value_of;
@@ -23,7 +23,7 @@ pub struct Store {
     pub word: u32,
 }
 
-/// What an edge does: of each register the slot of its next word, and the stores in their order.
+/// What a rising edge does: of each register the slot of its next word, and the stores in their order.
 #[derive(Drop)]
 pub struct Edge {
     pub next: Vec<u32>,
@@ -37,15 +37,11 @@ fn picked(
     second: u32,
     builder: &mut StepBuilder,
 ) -> Result<u32, AllocError>
-    requires builder { IsConsistent (flat_of builder.old) }
-    requires guard { IsGuard guard (length builder.old.slots.items) }
-    requires first { first < length builder.old.slots.items }
-    requires second { second < length builder.old.slots.items }
-    ensures extends { OnOk result (Extends (flat_of builder.old) (flat_of builder.new)) }
-    ensures builder { OnOk result (IsConsistent (flat_of builder.new)) }
-    ensures grows { OnOk result (length builder.old.slots.items ≤ length builder.new.slots.items) }
-    ensures there { IfOk result (λ slot. slot < length builder.new.slots.items) }
-    ensures picks { IfOk result (λ slot. Picks (flat_of builder.old) (flat_of builder.new) guard first second slot) }
+    requires guard { IsGuard guard (length builder.old.slots) }
+    requires first { first < length builder.old.slots }
+    requires second { second < length builder.old.slots }
+    ensures adds { IfOk result (λ slot. Adds builder.old builder.new slot) }
+    ensures picks { IfOk result (λ slot. Picks builder.old builder.new guard first second slot) }
 {
     match guard {
         None => Ok(first),
@@ -59,14 +55,10 @@ fn picked(
 
 // Where a guard holds, and a test.
 fn both(guard: Option<u32>, test: u32, builder: &mut StepBuilder) -> Result<u32, AllocError>
-    requires builder { IsConsistent (flat_of builder.old) }
-    requires guard { IsGuard guard (length builder.old.slots.items) }
-    requires test { test < length builder.old.slots.items }
-    ensures extends { OnOk result (Extends (flat_of builder.old) (flat_of builder.new)) }
-    ensures builder { OnOk result (IsConsistent (flat_of builder.new)) }
-    ensures grows { OnOk result (length builder.old.slots.items ≤ length builder.new.slots.items) }
-    ensures there { IfOk result (λ slot. slot < length builder.new.slots.items) }
-    ensures guards { IfOk result (λ slot. GuardsBoth (flat_of builder.old) (flat_of builder.new) guard test slot) }
+    requires guard { IsGuard guard (length builder.old.slots) }
+    requires test { test < length builder.old.slots }
+    ensures adds { IfOk result (λ slot. Adds builder.old builder.new slot) }
+    ensures guards { IfOk result (λ slot. GuardsBoth builder.old builder.new guard test slot) }
 {
     match guard {
         None => Ok(test),
@@ -80,13 +72,9 @@ fn both(guard: Option<u32>, test: u32, builder: &mut StepBuilder) -> Result<u32,
 
 // Where a test is zero.
 fn opposite(test: u32, builder: &mut StepBuilder) -> Result<u32, AllocError>
-    requires builder { IsConsistent (flat_of builder.old) }
-    requires test { test < length builder.old.slots.items }
-    ensures extends { OnOk result (Extends (flat_of builder.old) (flat_of builder.new)) }
-    ensures builder { OnOk result (IsConsistent (flat_of builder.new)) }
-    ensures grows { OnOk result (length builder.old.slots.items ≤ length builder.new.slots.items) }
-    ensures there { IfOk result (λ slot. slot < length builder.new.slots.items) }
-    ensures opposes { IfOk result (λ slot. Opposes (flat_of builder.old) (flat_of builder.new) test slot) }
+    requires test { test < length builder.old.slots }
+    ensures adds { IfOk result (λ slot. Adds builder.old builder.new slot) }
+    ensures opposes { IfOk result (λ slot. Opposes builder.old builder.new test slot) }
 {
     let slot = add_step(builder, Opcode::Complement, test, test, 0, 1)?;
     Ok(slot)
@@ -94,13 +82,9 @@ fn opposite(test: u32, builder: &mut StepBuilder) -> Result<u32, AllocError>
 
 // The slot of a guard.
 fn guard_of(guard: Option<u32>, builder: &mut StepBuilder) -> Result<u32, AllocError>
-    requires builder { IsConsistent (flat_of builder.old) }
-    requires guard { IsGuard guard (length builder.old.slots.items) }
-    ensures extends { OnOk result (Extends (flat_of builder.old) (flat_of builder.new)) }
-    ensures builder { OnOk result (IsConsistent (flat_of builder.new)) }
-    ensures grows { OnOk result (length builder.old.slots.items ≤ length builder.new.slots.items) }
-    ensures there { IfOk result (λ slot. slot < length builder.new.slots.items) }
-    ensures guards { IfOk result (λ slot. GuardsAs (flat_of builder.old) (flat_of builder.new) guard slot) }
+    requires guard { IsGuard guard (length builder.old.slots) }
+    ensures adds { IfOk result (λ slot. Adds builder.old builder.new slot) }
+    ensures guards { IfOk result (λ slot. GuardsAs builder.old builder.new guard slot) }
 {
     match guard {
         None => {
@@ -118,33 +102,25 @@ pub fn add_statement(
     guard: Option<u32>,
     operands: &Operands,
     builder: &mut StepBuilder,
-    next: &mut [u32],
-    stores: &mut Vec<Store>,
+    edge: &mut Edge,
 ) -> Result<(), AllocError>
     requires typed { statement_typed (scope_of operands.now) (widths_at operands.now.registers.items) (sizes_of operands.now.memories.items) (statement_of s.now) ≡ true }
-    requires builder { IsConsistent (flat_of builder.old) }
-    requires operands { AreOperands operands.now (length builder.old.slots.items) }
-    requires guard { IsGuard guard (length builder.old.slots.items) }
-    requires count { length next.old ≡ length operands.now.registers.items }
-    requires next { AreSlots next.old (length builder.old.slots.items) }
-    requires stores { AreStores stores.old.items (length builder.old.slots.items) }
-    ensures extends { OnOk result (Extends (flat_of builder.old) (flat_of builder.new)) }
-    ensures builder { OnOk result (IsConsistent (flat_of builder.new)) }
-    ensures operands { OnOk result (AreOperands operands.now (length builder.new.slots.items)) }
-    ensures grows { OnOk result (length builder.old.slots.items ≤ length builder.new.slots.items) }
-    ensures next { OnOk result (AreSlots next.new (length builder.new.slots.items)) }
-    ensures stores { OnOk result (AreStores stores.new.items (length builder.new.slots.items)) }
-    ensures executes { OnOk result (ExecutesOne (flat_of builder.old) (flat_of builder.new) operands.now guard (statement_of s.now) next.old next.new stores.old.items stores.new.items) }
+    requires operands { AreOperands operands.now (length builder.old.slots) }
+    requires guard { IsGuard guard (length builder.old.slots) }
+    requires edge { IsEdge edge.old operands.now builder.old }
+    ensures extends { OnOk result (Extends builder.old builder.new) }
+    ensures edge { OnOk result (IsEdge edge.new operands.now builder.new) }
+    ensures executes { OnOk result (ExecutesOne builder.old builder.new operands.now guard (statement_of s.now) edge.old edge.new) }
 {
     match s {
         Stmt::Block(more) => {
-            add_statements(more, guard, operands, builder, next, stores)?;
+            add_statements(more, guard, operands, builder, edge)?;
             Ok(())
         }
         Stmt::If(c, a) => {
             let test = value_of(c, operands, builder)?;
             let inner = both(guard, test.slot, builder)?;
-            add_statement(a, Some(inner), operands, builder, next, stores)?;
+            add_statement(a, Some(inner), operands, builder, edge)?;
             Ok(())
         }
         Stmt::IfElse(c, a, b) => {
@@ -152,22 +128,22 @@ pub fn add_statement(
             let inner = both(guard, test.slot, builder)?;
             let turned = opposite(test.slot, builder)?;
             let other = both(guard, turned, builder)?;
-            add_statement(a, Some(inner), operands, builder, next, stores)?;
-            add_statement(b, Some(other), operands, builder, next, stores)?;
+            add_statement(a, Some(inner), operands, builder, edge)?;
+            add_statement(b, Some(other), operands, builder, edge)?;
             Ok(())
         }
         Stmt::Set(register, e) => {
             let value = value_of(e, operands, builder)?;
             let register = *register as usize;
-            let slot = picked(guard, value.slot, next[register], builder)?;
-            next[register] = slot;
+            let slot = picked(guard, value.slot, edge.next[register], builder)?;
+            edge.next[register] = slot;
             Ok(())
         }
         Stmt::Store(memory, index, e) => {
             let at = value_of(index, operands, builder)?;
             let word = value_of(e, operands, builder)?;
             let guard = guard_of(guard, builder)?;
-            stores.push(Store {
+            edge.stores.push(Store {
                 guard,
                 memory: *memory,
                 at: at.slot,
@@ -184,27 +160,19 @@ fn add_statements(
     guard: Option<u32>,
     operands: &Operands,
     builder: &mut StepBuilder,
-    next: &mut [u32],
-    stores: &mut Vec<Store>,
+    edge: &mut Edge,
 ) -> Result<(), AllocError>
     requires typed { statements_typed (scope_of operands.now) (widths_at operands.now.registers.items) (sizes_of operands.now.memories.items) (statements_of more.now) ≡ true }
-    requires builder { IsConsistent (flat_of builder.old) }
-    requires operands { AreOperands operands.now (length builder.old.slots.items) }
-    requires guard { IsGuard guard (length builder.old.slots.items) }
-    requires count { length next.old ≡ length operands.now.registers.items }
-    requires next { AreSlots next.old (length builder.old.slots.items) }
-    requires stores { AreStores stores.old.items (length builder.old.slots.items) }
-    ensures extends { OnOk result (Extends (flat_of builder.old) (flat_of builder.new)) }
-    ensures builder { OnOk result (IsConsistent (flat_of builder.new)) }
-    ensures operands { OnOk result (AreOperands operands.now (length builder.new.slots.items)) }
-    ensures grows { OnOk result (length builder.old.slots.items ≤ length builder.new.slots.items) }
-    ensures next { OnOk result (AreSlots next.new (length builder.new.slots.items)) }
-    ensures stores { OnOk result (AreStores stores.new.items (length builder.new.slots.items)) }
-    ensures executes { OnOk result (ExecutesMore (flat_of builder.old) (flat_of builder.new) operands.now guard (statements_of more.now) next.old next.new stores.old.items stores.new.items) }
+    requires operands { AreOperands operands.now (length builder.old.slots) }
+    requires guard { IsGuard guard (length builder.old.slots) }
+    requires edge { IsEdge edge.old operands.now builder.old }
+    ensures extends { OnOk result (Extends builder.old builder.new) }
+    ensures edge { OnOk result (IsEdge edge.new operands.now builder.new) }
+    ensures executes { OnOk result (ExecutesMore builder.old builder.new operands.now guard (statements_of more.now) edge.old edge.new) }
 {
     let mut left = more;
     while let Stmts::Then(s, rest) = left {
-        add_statement(s, guard, operands, builder, next, stores)?;
+        add_statement(s, guard, operands, builder, edge)?;
         left = rest;
     }
     Ok(())
@@ -215,23 +183,17 @@ pub fn add_always(
     all: &[Stmt<Net>],
     operands: &Operands,
     builder: &mut StepBuilder,
-    next: &mut [u32],
-    stores: &mut Vec<Store>,
+    edge: &mut Edge,
 ) -> Result<(), AllocError>
     requires typed { AreStatements operands.now (map statement_of all.now) }
-    requires builder { IsConsistent (flat_of builder.old) }
-    requires operands { AreOperands operands.now (length builder.old.slots.items) }
-    requires count { length next.old ≡ length operands.now.registers.items }
-    requires next { AreSlots next.old (length builder.old.slots.items) }
-    requires stores { AreStores stores.old.items (length builder.old.slots.items) }
-    ensures extends { OnOk result (Extends (flat_of builder.old) (flat_of builder.new)) }
-    ensures builder { OnOk result (IsConsistent (flat_of builder.new)) }
-    ensures next { OnOk result (AreSlots next.new (length builder.new.slots.items)) }
-    ensures stores { OnOk result (AreStores stores.new.items (length builder.new.slots.items)) }
-    ensures executes { OnOk result (ExecutesAll (flat_of builder.old) (flat_of builder.new) operands.now (map statement_of all.now) next.old next.new stores.old.items stores.new.items) }
+    requires operands { AreOperands operands.now (length builder.old.slots) }
+    requires edge { IsEdge edge.old operands.now builder.old }
+    ensures extends { OnOk result (Extends builder.old builder.new) }
+    ensures edge { OnOk result (IsEdge edge.new operands.now builder.new) }
+    ensures executes { OnOk result (ExecutesAll builder.old builder.new operands.now (map statement_of all.now) edge.old edge.new) }
 {
     for s in all {
-        add_statement(s, None, operands, builder, next, stores)?;
+        add_statement(s, None, operands, builder, edge)?;
     }
     Ok(())
 }

@@ -1,10 +1,10 @@
 //! Steps for expressions and right sides of wires.
 
-ghost use Rattle.std.specs.Prelude.{◌≡◌, ℕ, ◌-◌, ◌^◌, ◌<◌, ◌≤◌, length, OnOk, IfOk, if◌then◌else◌};
+ghost use Rattle.std.specs.Prelude.{◌≡◌, ℕ, ◌-◌, ◌^◌, ◌<◌, ◌≤◌, length, IfOk, if◌then◌else◌};
 ghost use Rattle.net_core.specs.Value.{apply_unary, apply, part_select, concatenated, conditional, value, concatenated_parts, right_value};
 ghost use Rattle.net_core.specs.Width.{unary_width, op_width, part_select_width, concatenation_width, conditional_width, memory_word_width, width_of, parts_width, right_width};
 ghost use Rattle.net_core.specs.View.{tree_of, trees_of, right_of};
-ghost use Rattle.clock_sim.specs.Flat.{flat_of, IsConsistent, Extends, MakesOne, MakesTwo, MakesThree, Fetches, AreOperands, scope_of, widths_in, Values, PartValues, RightValues};
+ghost use Rattle.clock_sim.specs.Flat.{Adds, MakesOne, MakesTwo, MakesThree, Fetches, AreOperands, scope_of, widths_in, Values, PartValues, Joins, RightValues};
 ghost use Rattle.clock_sim.specs.Steps.{opcode_of, op_swaps, op_tests};
 
 use crate::builder::{Operand, StepBuilder, add_step, constant};
@@ -30,14 +30,10 @@ fn apply_unary(
     a: Operand,
     builder: &mut StepBuilder,
 ) -> Result<Operand, AllocError>
-    requires builder { IsConsistent (flat_of builder.old) }
-    requires there { a.slot < length builder.old.slots.items }
-    ensures extends { OnOk result (Extends (flat_of builder.old) (flat_of builder.new)) }
-    ensures builder { OnOk result (IsConsistent (flat_of builder.new)) }
-    ensures grows { OnOk result (length builder.old.slots.items ≤ length builder.new.slots.items) }
-    ensures there { IfOk result (λ p. p.slot < length builder.new.slots.items) }
+    requires there { a.slot < length builder.old.slots }
+    ensures adds { IfOk result (λ p. Adds builder.old builder.new p.slot) }
     ensures width { IfOk result (λ p. 0 < a.width → p.width ≡ unary_width unary_op a.width) }
-    ensures makes { IfOk result (λ p. MakesOne (flat_of builder.old) (flat_of builder.new) a p (apply_unary unary_op)) }
+    ensures makes { IfOk result (λ p. MakesOne builder.old builder.new a p (apply_unary unary_op)) }
 {
     match unary_op {
         UnaryOp::Not => {
@@ -100,15 +96,11 @@ fn result_width(op: Op, width: u8) -> u8
 
 fn binary(op: Op, a: Operand, b: Operand, builder: &mut StepBuilder) -> Result<Operand, AllocError>
     requires typed { 0 < op_width op a.width b.width }
-    requires builder { IsConsistent (flat_of builder.old) }
-    requires left { a.slot < length builder.old.slots.items }
-    requires right { b.slot < length builder.old.slots.items }
-    ensures extends { OnOk result (Extends (flat_of builder.old) (flat_of builder.new)) }
-    ensures builder { OnOk result (IsConsistent (flat_of builder.new)) }
-    ensures grows { OnOk result (length builder.old.slots.items ≤ length builder.new.slots.items) }
-    ensures there { IfOk result (λ p. p.slot < length builder.new.slots.items) }
+    requires left { a.slot < length builder.old.slots }
+    requires right { b.slot < length builder.old.slots }
+    ensures adds { IfOk result (λ p. Adds builder.old builder.new p.slot) }
     ensures width { IfOk result (λ p. p.width ≡ op_width op a.width b.width) }
-    ensures makes { IfOk result (λ p. MakesTwo (flat_of builder.old) (flat_of builder.new) a b p (apply op)) }
+    ensures makes { IfOk result (λ p. MakesTwo builder.old builder.new a b p (apply op)) }
 {
     let mask = greatest(a.width);
     let width = result_width(op, a.width);
@@ -124,14 +116,10 @@ fn part_select(
     builder: &mut StepBuilder,
 ) -> Result<Operand, AllocError>
     requires typed { 0 < part_select_width from.width high low }
-    requires builder { IsConsistent (flat_of builder.old) }
-    requires there { from.slot < length builder.old.slots.items }
-    ensures extends { OnOk result (Extends (flat_of builder.old) (flat_of builder.new)) }
-    ensures builder { OnOk result (IsConsistent (flat_of builder.new)) }
-    ensures grows { OnOk result (length builder.old.slots.items ≤ length builder.new.slots.items) }
-    ensures there { IfOk result (λ p. p.slot < length builder.new.slots.items) }
+    requires there { from.slot < length builder.old.slots }
+    ensures adds { IfOk result (λ p. Adds builder.old builder.new p.slot) }
     ensures width { IfOk result (λ p. p.width ≡ part_select_width from.width high low) }
-    ensures makes { IfOk result (λ p. MakesOne (flat_of builder.old) (flat_of builder.new) from p (λ w. part_select w high low)) }
+    ensures makes { IfOk result (λ p. MakesOne builder.old builder.new from p (λ w. part_select w high low)) }
 {
     let width = high + 1 - low;
     let mask = greatest(width);
@@ -145,15 +133,11 @@ fn concatenated(
     builder: &mut StepBuilder,
 ) -> Result<Operand, AllocError>
     requires typed { 0 < concatenation_width left.width right.width }
-    requires builder { IsConsistent (flat_of builder.old) }
-    requires left { left.slot < length builder.old.slots.items }
-    requires right { right.slot < length builder.old.slots.items }
-    ensures extends { OnOk result (Extends (flat_of builder.old) (flat_of builder.new)) }
-    ensures builder { OnOk result (IsConsistent (flat_of builder.new)) }
-    ensures grows { OnOk result (length builder.old.slots.items ≤ length builder.new.slots.items) }
-    ensures there { IfOk result (λ p. p.slot < length builder.new.slots.items) }
+    requires left { left.slot < length builder.old.slots }
+    requires right { right.slot < length builder.old.slots }
+    ensures adds { IfOk result (λ p. Adds builder.old builder.new p.slot) }
     ensures width { IfOk result (λ p. p.width ≡ concatenation_width left.width right.width) }
-    ensures makes { IfOk result (λ p. MakesTwo (flat_of builder.old) (flat_of builder.new) left right p concatenated) }
+    ensures makes { IfOk result (λ p. MakesTwo builder.old builder.new left right p concatenated) }
 {
     let width = left.width + right.width;
     let slot = add_step(
@@ -174,16 +158,12 @@ fn conditional(
     builder: &mut StepBuilder,
 ) -> Result<Operand, AllocError>
     requires typed { 0 < conditional_width test.width a.width b.width }
-    requires builder { IsConsistent (flat_of builder.old) }
-    requires test { test.slot < length builder.old.slots.items }
-    requires first { a.slot < length builder.old.slots.items }
-    requires second { b.slot < length builder.old.slots.items }
-    ensures extends { OnOk result (Extends (flat_of builder.old) (flat_of builder.new)) }
-    ensures builder { OnOk result (IsConsistent (flat_of builder.new)) }
-    ensures grows { OnOk result (length builder.old.slots.items ≤ length builder.new.slots.items) }
-    ensures there { IfOk result (λ p. p.slot < length builder.new.slots.items) }
+    requires test { test.slot < length builder.old.slots }
+    requires first { a.slot < length builder.old.slots }
+    requires second { b.slot < length builder.old.slots }
+    ensures adds { IfOk result (λ p. Adds builder.old builder.new p.slot) }
     ensures width { IfOk result (λ p. p.width ≡ conditional_width test.width a.width b.width) }
-    ensures makes { IfOk result (λ p. MakesThree (flat_of builder.old) (flat_of builder.new) test a b p conditional) }
+    ensures makes { IfOk result (λ p. MakesThree builder.old builder.new test a b p conditional) }
 {
     let other = u64::from(b.slot);
     let slot = add_step(builder, Opcode::Conditional, test.slot, a.slot, 0, other)?;
@@ -198,14 +178,10 @@ fn fetched(
     builder: &mut StepBuilder,
 ) -> Result<Operand, AllocError>
     requires typed { 0 < memory_word_width at.width (widths_in operands.now memory).index (widths_in operands.now memory).word }
-    requires builder { IsConsistent (flat_of builder.old) }
-    requires there { at.slot < length builder.old.slots.items }
-    ensures extends { OnOk result (Extends (flat_of builder.old) (flat_of builder.new)) }
-    ensures builder { OnOk result (IsConsistent (flat_of builder.new)) }
-    ensures grows { OnOk result (length builder.old.slots.items ≤ length builder.new.slots.items) }
-    ensures there { IfOk result (λ p. p.slot < length builder.new.slots.items) }
+    requires there { at.slot < length builder.old.slots }
+    ensures adds { IfOk result (λ p. Adds builder.old builder.new p.slot) }
     ensures width { IfOk result (λ p. p.width ≡ (widths_in operands.now memory).word) }
-    ensures makes { IfOk result (λ p. Fetches (flat_of builder.old) (flat_of builder.new) operands.now memory at p) }
+    ensures makes { IfOk result (λ p. Fetches builder.old builder.new operands.now memory at p) }
 {
     match memory {
         Net::Memory(i) => {
@@ -226,15 +202,10 @@ pub fn value_of(
     builder: &mut StepBuilder,
 ) -> Result<Operand, AllocError>
     requires typed { 0 < width_of (scope_of operands.now) (tree_of e.now) }
-    requires builder { IsConsistent (flat_of builder.old) }
-    requires operands { AreOperands operands.now (length builder.old.slots.items) }
-    ensures extends { OnOk result (Extends (flat_of builder.old) (flat_of builder.new)) }
-    ensures builder { OnOk result (IsConsistent (flat_of builder.new)) }
-    ensures operands { OnOk result (AreOperands operands.now (length builder.new.slots.items)) }
-    ensures grows { OnOk result (length builder.old.slots.items ≤ length builder.new.slots.items) }
-    ensures there { IfOk result (λ p. p.slot < length builder.new.slots.items) }
+    requires operands { AreOperands operands.now (length builder.old.slots) }
+    ensures adds { IfOk result (λ p. Adds builder.old builder.new p.slot) }
     ensures width { IfOk result (λ p. p.width ≡ width_of (scope_of operands.now) (tree_of e.now)) }
-    ensures values { IfOk result (λ p. Values (flat_of builder.old) (flat_of builder.new) operands.now (tree_of e.now) p) }
+    ensures values { IfOk result (λ p. Values builder.old builder.new operands.now (tree_of e.now) p) }
 {
     match e {
         Expr::Const(word) => {
@@ -290,15 +261,10 @@ fn parts_of(
     builder: &mut StepBuilder,
 ) -> Result<Operand, AllocError>
     requires typed { 0 < parts_width (scope_of operands.now) (trees_of parts.now) }
-    requires builder { IsConsistent (flat_of builder.old) }
-    requires operands { AreOperands operands.now (length builder.old.slots.items) }
-    ensures extends { OnOk result (Extends (flat_of builder.old) (flat_of builder.new)) }
-    ensures builder { OnOk result (IsConsistent (flat_of builder.new)) }
-    ensures operands { OnOk result (AreOperands operands.now (length builder.new.slots.items)) }
-    ensures grows { OnOk result (length builder.old.slots.items ≤ length builder.new.slots.items) }
-    ensures there { IfOk result (λ p. p.slot < length builder.new.slots.items) }
+    requires operands { AreOperands operands.now (length builder.old.slots) }
+    ensures adds { IfOk result (λ p. Adds builder.old builder.new p.slot) }
     ensures width { IfOk result (λ p. p.width ≡ parts_width (scope_of operands.now) (trees_of parts.now)) }
-    ensures values { IfOk result (λ p. PartValues (flat_of builder.old) (flat_of builder.new) operands.now (trees_of parts.now) p) }
+    ensures values { IfOk result (λ p. PartValues builder.old builder.new operands.now (trees_of parts.now) p) }
 {
     match parts {
         Parts::Last(a) => {
@@ -306,11 +272,42 @@ fn parts_of(
             Ok(operand)
         }
         Parts::More(a, more) => {
-            let left = value_of(a, operands, builder)?;
-            let right = parts_of(more, operands, builder)?;
-            let operand = concatenated(left, right, builder)?;
+            let first = value_of(a, operands, builder)?;
+            let operand = joined(first, more, operands, builder)?;
             Ok(operand)
         }
+    }
+}
+
+// A word before parts, one after another.
+#[cycle(value)]
+fn joined(
+    first: Operand,
+    parts: &Parts<Net>,
+    operands: &Operands,
+    builder: &mut StepBuilder,
+) -> Result<Operand, AllocError>
+    requires typed { 0 < concatenation_width first.width (parts_width (scope_of operands.now) (trees_of parts.now)) }
+    requires first { first.slot < length builder.old.slots }
+    requires operands { AreOperands operands.now (length builder.old.slots) }
+    ensures adds { IfOk result (λ p. Adds builder.old builder.new p.slot) }
+    ensures width { IfOk result (λ p. p.width ≡ concatenation_width first.width (parts_width (scope_of operands.now) (trees_of parts.now))) }
+    ensures joins { IfOk result (λ p. Joins builder.old builder.new operands.now first (trees_of parts.now) p) }
+{
+    let mut front = first;
+    let mut left = parts;
+    while let Parts::More(a, more) = left {
+        let next = value_of(a, operands, builder)?;
+        front = concatenated(front, next, builder)?;
+        left = more;
+    }
+    match left {
+        Parts::Last(a) => {
+            let last = value_of(a, operands, builder)?;
+            let operand = concatenated(front, last, builder)?;
+            Ok(operand)
+        }
+        Parts::More(..) => unreachable!(),
     }
 }
 
@@ -321,15 +318,10 @@ pub fn right_value_of(
     builder: &mut StepBuilder,
 ) -> Result<Operand, AllocError>
     requires typed { 0 < right_width (scope_of operands.now) (right_of right.now) }
-    requires builder { IsConsistent (flat_of builder.old) }
-    requires operands { AreOperands operands.now (length builder.old.slots.items) }
-    ensures extends { OnOk result (Extends (flat_of builder.old) (flat_of builder.new)) }
-    ensures builder { OnOk result (IsConsistent (flat_of builder.new)) }
-    ensures operands { OnOk result (AreOperands operands.now (length builder.new.slots.items)) }
-    ensures grows { OnOk result (length builder.old.slots.items ≤ length builder.new.slots.items) }
-    ensures there { IfOk result (λ p. p.slot < length builder.new.slots.items) }
+    requires operands { AreOperands operands.now (length builder.old.slots) }
+    ensures adds { IfOk result (λ p. Adds builder.old builder.new p.slot) }
     ensures width { IfOk result (λ p. p.width ≡ right_width (scope_of operands.now) (right_of right.now)) }
-    ensures values { IfOk result (λ p. RightValues (flat_of builder.old) (flat_of builder.new) operands.now (right_of right.now) p) }
+    ensures values { IfOk result (λ p. RightValues builder.old builder.new operands.now (right_of right.now) p) }
 {
     match right {
         Right::Plain(e) => {

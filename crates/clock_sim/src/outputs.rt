@@ -1,8 +1,8 @@
 //! What the outputs show.
 
-ghost use Rattle.std.specs.Prelude.{◌≡◌, ◌<◌, ◌≤◌, length, map, OnOk, IfOk};
+ghost use Rattle.std.specs.Prelude.{◌≡◌, length, map, OnOk, IfOk};
 ghost use Rattle.net_core.specs.View.{assign_of};
-ghost use Rattle.clock_sim.specs.Flat.{flat_of, IsConsistent, Extends, AreOperands};
+ghost use Rattle.clock_sim.specs.Flat.{Adds, Extends, AreOperands};
 ghost use Rattle.net_core.specs.Ports.{FitOutputs, outputs_at};
 ghost use Rattle.clock_sim.specs.Edges.{AreShown, Shows, ShowsAll, IsShown, shown_in};
 
@@ -22,14 +22,9 @@ fn assigned(
     builder: &mut StepBuilder,
 ) -> Result<u32, AllocError>
     requires typed { AreShown operands.now (map assign_of assigns.now) }
-    requires builder { IsConsistent (flat_of builder.old) }
-    requires operands { AreOperands operands.now (length builder.old.slots.items) }
-    ensures extends { OnOk result (Extends (flat_of builder.old) (flat_of builder.new)) }
-    ensures builder { OnOk result (IsConsistent (flat_of builder.new)) }
-    ensures operands { OnOk result (AreOperands operands.now (length builder.new.slots.items)) }
-    ensures grows { OnOk result (length builder.old.slots.items ≤ length builder.new.slots.items) }
-    ensures there { IfOk result (λ slot. slot < length builder.new.slots.items) }
-    ensures shows { IfOk result (λ slot. Shows (flat_of builder.old) (flat_of builder.new) operands.now (map assign_of assigns.now) port slot) }
+    requires operands { AreOperands operands.now (length builder.old.slots) }
+    ensures adds { IfOk result (λ slot. Adds builder.old builder.new slot) }
+    ensures shows { IfOk result (λ slot. Shows builder.old builder.new operands.now (map assign_of assigns.now) port slot) }
 {
     for a in assigns {
         if a.port == port {
@@ -49,13 +44,10 @@ pub fn add_outputs(
     builder: &mut StepBuilder,
 ) -> Result<Vec<u32>, AllocError>
     requires typed { AreShown operands.now (map assign_of assigns.now) }
-    requires builder { IsConsistent (flat_of builder.old) }
-    requires operands { AreOperands operands.now (length builder.old.slots.items) }
-    ensures extends { OnOk result (Extends (flat_of builder.old) (flat_of builder.new)) }
-    ensures builder { OnOk result (IsConsistent (flat_of builder.new)) }
-    ensures operands { OnOk result (AreOperands operands.now (length builder.new.slots.items)) }
-    ensures there { IfOk result (λ s. IsShown s.items (length builder.new.slots.items)) }
-    ensures shows { IfOk result (λ s. ShowsAll (flat_of builder.old) (flat_of builder.new) operands.now (map assign_of assigns.now) s.items) }
+    requires operands { AreOperands operands.now (length builder.old.slots) }
+    ensures extends { OnOk result (Extends builder.old builder.new) }
+    ensures there { IfOk result (λ s. IsShown s.items (length builder.new.slots)) }
+    ensures shows { IfOk result (λ s. ShowsAll builder.old builder.new operands.now (map assign_of assigns.now) s.items) }
 {
     let mut shown = Vec::new(alloc);
     for port in 0..PORT_COUNT {

@@ -2,7 +2,7 @@
 
 ghost use Rattle.std.specs.Prelude.{◌≡◌, ◌++◌, [], length, map, Some, None, OnOk, IfOk};
 ghost use Rattle.net_core.specs.View.{right_of, wire_of};
-ghost use Rattle.clock_sim.specs.Flat.{flat_of, IsConsistent, Extends, AreOperands};
+ghost use Rattle.clock_sim.specs.Flat.{Extends, AreOperands};
 ghost use Rattle.clock_sim.specs.Edges.{AreTyped, AreDivided, IsDivided, AddsWires, AreKnown, AreDivisors, first_zero, divisor_in, divisors_at, divisors_from};
 
 use crate::builder::StepBuilder;
@@ -38,14 +38,12 @@ pub fn add_wires(
 ) -> Result<(), AllocError>
     requires none { operands.old.wires.items ≡ [] }
     requires typed { AreTyped operands.old (map wire_of all.now) }
-    requires builder { IsConsistent (flat_of builder.old) }
-    requires operands { AreOperands operands.old (length builder.old.slots.items) }
-    ensures extends { OnOk result (Extends (flat_of builder.old) (flat_of builder.new)) }
-    ensures builder { OnOk result (IsConsistent (flat_of builder.new)) }
-    ensures operands { OnOk result (AreOperands operands.new (length builder.new.slots.items)) }
+    requires operands { AreOperands operands.old (length builder.old.slots) }
+    ensures extends { OnOk result (Extends builder.old builder.new) }
+    ensures operands { OnOk result (AreOperands operands.new (length builder.new.slots)) }
     ensures adds { OnOk result (AddsWires operands.old operands.new (map wire_of all.now)) }
     ensures divided { OnOk result (AreDivided operands.new (map wire_of all.now)) }
-    ensures known { OnOk result (AreKnown (flat_of builder.old) (flat_of builder.new) operands.old operands.new (map wire_of all.now)) }
+    ensures known { OnOk result (AreKnown builder.old builder.new operands.old operands.new (map wire_of all.now)) }
 {
     for wire in all {
         let operand = right_value_of(&wire.right, operands, builder)?;

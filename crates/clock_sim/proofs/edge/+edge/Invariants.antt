@@ -3,7 +3,6 @@ use Rattle.net_core.specs.declared.tree.Net.{Net}
 use Rattle.net_core.specs.declared.tree.Stmt.{size-Stmt}
 use Rattle.net_core.specs.declared.tree.Stmts.{size-Stmts}
 use Rattle.net_core.specs.View.{statements_of}
-use Rattle.clock_sim.specs.Flat.{flat_of}
 use Rattle.clock_sim.proofs.StatementLemmas.{Executing}
 use Rattle.clock_sim.proofs.edge.+edge.Given as goal
 
@@ -16,5 +15,5 @@ decreases-add_statements l = size-Stmts Net l.more.now
 abbrev pub invariant-add_statements-loop-left : goal.invariant-add_statements-loop-left
 invariant-add_statements-loop-left l = record {
   less : size-Stmts Net l.left ≤ size-Stmts Net l.fn.more;
-  done : Executing l.operands l.guard (statements_of l.fn.more) (statements_of l.left) (flat_of l.fn.builder) (flat_of l.builder) l.fn.next l.next l.fn.stores.items l.stores.items;
+  done : Executing l.operands l.guard (statements_of l.fn.more) (statements_of l.left) l.fn.builder l.builder l.fn.edge l.edge;
 }

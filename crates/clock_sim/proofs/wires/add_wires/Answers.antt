@@ -5,7 +5,7 @@ use Rattle.clock_sim.proofs.WireLemmas.{AddsOne, wiring_none, wiring_first, wiri
 use Rattle.clock_sim.proofs.wires.add_wires.Goals as goal
 
 pub loop-wire-init : goal.loop-wire-init
-loop-wire-init c = wiring_none _ _ _ c.requires.none c.requires.builder c.requires.operands c.requires.typed
+loop-wire-init c = wiring_none _ _ _ c.requires.none c.requires.operands c.requires.typed
 
 pub right_value_of-requires-clause-typed : goal.right_value_of-requires-clause-typed
 right_value_of-requires-clause-typed c =
@@ -17,4 +17,4 @@ loop-wire-preserved c =
     let e = at_item wire_of c.args.all.now c.loop-wire.wire-index c.wire-item.result c.loop-wire-test.true c.wire-item.is in
     let e' = take_item wire_of c.args.all.now c.loop-wire.wire-index c.wire-item.result c.loop-wire-test.true c.wire-item.is in
     let adds : AddsOne c.loop-wire.operands _ c.in_ok-operand.operand = record { ports = refl; registers = refl; memories = refl; wires = c.in_ok-push.ensures.items } in
-    wiring_more _ _ _ _ _ _ c.in_ok-operand.operand _ _ _ _ _ _ e e' adds c.in_ok-operand.ensures.extends c.in_ok-operand.ensures.builder c.in_ok-operand.ensures.there c.in_ok-operand.ensures.width c.in_ok-operand.ensures.values c.loop-wire.invariant
+    wiring_more _ _ _ _ _ _ c.in_ok-operand.operand _ _ _ _ _ _ e e' adds c.in_ok-operand.ensures.adds c.in_ok-operand.ensures.width c.in_ok-operand.ensures.values c.loop-wire.invariant

@@ -1,5 +1,5 @@
 use Rattle.std.proofs.Common.{◌≡◌, None, replicate}
-use Rattle.clock_sim.proofs.compile.blank_slots.Given as goal
+use Rattle.clock_sim.proofs.builder.blank_slots.Given as goal
 
 abbrev pub invariant-loop : goal.invariant-loop
 invariant-loop l = l.slots.items ≡ replicate l.counter None
