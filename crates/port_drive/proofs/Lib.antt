@@ -1,3 +1,5 @@
 pub mod AnswerLemmas
 pub mod BeatLemmas
 pub mod DriveLaws
+pub mod HostClocks
+pub mod LoadLemmas

@@ -1,3 +1,5 @@
 pub mod Answering
+pub mod Hosting
 pub mod Offering
+pub mod Reading
 pub mod Reports

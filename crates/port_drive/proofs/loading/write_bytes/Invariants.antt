@@ -1,0 +1,16 @@
+use Rattle.std.proofs.Common.{◌≡◌, ◌+◌, ◌≤◌, length}
+use Rattle.beat_core.specs.Beats.{beat_count}
+use Rattle.host_history.specs.Rows.{words_of}
+use Rattle.host_history.specs.Host.{row_writes}
+use Rattle.port_drive.proofs.HostClocks.{UnderWay}
+use Rattle.port_drive.proofs.loading.write_bytes.Given as goal
+
+abbrev pub invariant-loop-rest : goal.invariant-loop-rest
+invariant-loop-rest l = record {
+  netlist : l.sim.netlist ≡ l.initial.sim.netlist;
+  way : UnderWay l.initial.sim.netlist l.initial.sim.stored (row_writes l.map l.index l.first (words_of l.bytes)) (row_writes l.map l.index l.word (words_of l.rest)) l.sim.stored;
+  room : l.word + beat_count (length l.rest) ≤ 16;
+}
+
+abbrev pub decreases-loop-rest : goal.decreases-loop-rest
+decreases-loop-rest l = length l.rest
