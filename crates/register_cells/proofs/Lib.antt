@@ -3,3 +3,4 @@ pub mod Finding
 pub mod Yielding
 pub mod Known
 pub mod Carrying
+pub mod Loads
