@@ -4,3 +4,4 @@ pub mod Yielding
 pub mod Known
 pub mod Carrying
 pub mod Loads
+pub mod Answering

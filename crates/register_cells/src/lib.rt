@@ -2,6 +2,7 @@
 #![tactic(auto)]
 
 pub mod computing;
+pub mod helpers;
 pub mod loading;
 pub mod moving;
 pub mod registers;
