@@ -101,7 +101,7 @@ given_is refs m n i (Load size) t e = put_is m n i.dst _ e
 given_is refs m n i (LoadSigned size) t e = put_is m n i.dst _ e
 given_is refs m n i op t e = absurd (cc)
 
-passed_ok : (r : _) → verdict r ≡ passed → (e : _) × (r ≡ Ok e)
+pub passed_ok : (r : _) → verdict r ≡ passed → (e : _) × (r ≡ Ok e)
 passed_ok (Ok e) h = (e, refl)
 passed_ok (Err w) h = cc
 

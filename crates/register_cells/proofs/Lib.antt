@@ -3,3 +3,5 @@ pub mod Finding
 pub mod Yielding
 pub mod Known
 pub mod Carrying
+pub mod Loads
+pub mod Answering

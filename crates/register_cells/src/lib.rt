@@ -2,6 +2,8 @@
 #![tactic(auto)]
 
 pub mod computing;
+pub mod helpers;
+pub mod loading;
 pub mod moving;
 pub mod registers;
 mod sizes;

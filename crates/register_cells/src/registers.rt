@@ -7,6 +7,8 @@ ghost use Rattle.xdp_maps.specs.declared.decl.MapDecl.{MapDecl};
 ghost use Rattle.xdp_machine.specs.State.{register};
 ghost use Rattle.kind_core.specs.Effects.{operand, renumbered, alu, effect_of, verdict};
 ghost use Rattle.kind_core.specs.Numbers.{number_negated, number_ordered};
+ghost use Rattle.kind_core.specs.Kinds as kind;
+ghost use Rattle.kind_core.specs.declared.kind.Kind.TheVariants as kind_is;
 ghost use Rattle.kind_core.specs.Profile.{writes_destination};
 ghost use Rattle.kind_core.specs.Tests.{passed};
 ghost use Rattle.cell_core.specs.Formed.{AreFormed};
@@ -18,6 +20,7 @@ ghost use Rattle.bpf_isa.specs.Rules.{Allows};
 ghost use Rattle.bpf_isa.specs.declared.fields.Rule.TheVariants.{SwapBits};
 
 use crate::computing::{negated, ordered};
+use crate::loading::loaded_plain;
 use crate::moving::combined;
 use crate::sizes::are_whole;
 use bpf_isa::{AluCode, Insn, Op, Size, Src, Width};
@@ -157,6 +160,27 @@ pub fn carry_computed(
 {
     are_whole(held, kinds);
     let c = give(cells, held, kinds, insn)?;
+    held.registers[insn.dst as usize] = c;
+    Ok(())
+}
+
+/// A load from the packet, the stack or the context: its cells, and the destination's.
+pub fn carry_load(
+    cells: &mut Vec<Cell>,
+    held: &mut Held,
+    kinds: &Kinds,
+    insn: &Insn,
+    size: Size,
+) -> Result<(), AllocError>
+    requires insn { IsInsn insn.now }
+    requires op { insn.now.op ≡ Op.Load size }
+    requires formed { AreFormed (seen cells.old.items) }
+    requires inside { (decls : List MapDecl) × (ps : List PointerView) × AreInside decls (length (seen cells.old.items)) ps held.old kinds.now }
+    requires plain { (q o : ℕ) → kind.register kinds.now insn.now.src ≢ kind_is.Entry q o }
+    ensures { (decls : List MapDecl) (ps : List PointerView) (node : ℕ) (is_ref : Bool) → verdict (effect_of decls kinds.now insn.now) ≡ passed → AreInside decls (length (seen cells.old.items)) ps held.old kinds.now → OnOk result (Carries decls ps insn.now node is_ref false kinds.now held.old held.new (seen cells.old.items) (seen cells.new.items)) }
+{
+    are_whole(held, kinds);
+    let c = loaded_plain(cells, held, kinds, insn, size)?;
     held.registers[insn.dst as usize] = c;
     Ok(())
 }

@@ -1,0 +1,27 @@
+use Rattle.std.proofs.Common.{◌≡◌, ◌∙◌, ◌<◌, ◌≤◌, sym, refl, ap, arith, length}
+use Rattle.register_cells.proofs.Growing.{grown}
+use Rattle.register_cells.proofs.Known.{counts_number}
+use Rattle.register_cells.proofs.Answering.{answer_carried, redirect_answers, redirect_is, redirected_is, number_read}
+use Rattle.register_cells.proofs.helpers.carry_redirect.Goals as goal
+
+pub returns : goal.returns
+returns c = λ decls ps node allowed inside.
+    let w = redirect_answers decls c.args.kinds.now c.args.insn.now node c.requires.op c.requires.helper allowed in
+    let interface = c.in_ok-interface.ensures.number w.1 w.2 in
+    let flags = c.in_ok-flags.ensures.number w.3 w.4 in
+    let sent = c.in_ok-sent.ensures in
+    let answer = c.in_ok-c.ensures in
+    let target = c.in_ok-t.ensures in
+    let grows = grown interface.grows (grown flags.grows (grown sent.grows (grown answer.grows target.grows))) in
+    answer_carried decls ps c.args.insn.now node c.args.kinds.now c.args.held.now _ _ c.in_ok-c.c c.in_ok-t.t grows (omega (arith, answer.there, target.grows.longer)) target.there c.are_whole.ensures.register_cells inside
+    w.0
+    (λ packet v m n refs run known e.
+    let r4 = target.grows.run packet v run in
+    let r3 = answer.grows.run packet v r4 in
+    let r2 = sent.grows.run packet v r3 in
+    let r1 = flags.grows.run packet v r2 in
+    let one = number_read decls packet v ps node c.args.kinds.now c.args.held.now m 1 w.1 known (omega arith) w.2 in
+    let two = number_read decls packet v ps node c.args.kinds.now c.args.held.now m 2 w.3 known (omega arith) w.4 in
+    redirected_is _ _ m n (v c.in_ok-flags.flags) (v c.in_ok-interface.interface) (v c.args.held.now.target) (v c.in_ok-sent.sent) (v c.in_ok-c.c) (v c.in_ok-t.t)
+    (redirect_is refs m n c.args.insn.now _ _ c.requires.op c.requires.helper one.0 two.0 e) two.1 (flags.value packet v r2) (interface.value packet v r1) known.held.target known.in_range.target
+    (sent.value packet v r3) (answer.value packet v r4) (target.value packet v run))

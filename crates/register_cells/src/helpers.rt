@@ -1,0 +1,128 @@
+//! The helpers that ask no map.
+
+ghost use Rattle.std.specs.Prelude.{◌≡◌, ◌<◌, ◌==◌, true, false, pos, ℕ, Bool, List, length, if◌then◌else◌, IfOk, OnOk};
+ghost use Rattle.bpf_isa.specs.Spelling.{IsInsn};
+ghost use Rattle.xdp_maps.specs.declared.decl.MapDecl.{MapDecl};
+ghost use Rattle.xdp_machine.specs.Arithmetic.{low};
+ghost use Rattle.kind_core.specs.Effects.{effect_of, verdict};
+ghost use Rattle.kind_core.specs.Tests.{passed};
+ghost use Rattle.cell_core.specs.Cells.{bit, on};
+ghost use Rattle.cell_core.specs.Formed.{AreFormed};
+ghost use Rattle.operator_cells.specs.Making.{seen, Makes, Grows};
+ghost use Rattle.kind_core.specs.declared.kind.Kind.TheVariants as kind_is;
+ghost use Rattle.kind_core.specs.declared.number.Number.{Number};
+ghost use Rattle.register_cells.specs.Reading.{HasNumber};
+ghost use Rattle.held_cells.specs.Held.{PointerView, AreInside, number_of, IsThere};
+ghost use Rattle.held_cells.specs.Carrying.{Carries};
+
+use crate::sizes::are_whole;
+use bpf_isa::{Insn, Op};
+use cell_core::cell::Cell;
+use cell_core::operator::Operator;
+use held_cells::held::Held;
+use held_cells::operand::number_cell;
+use kind_core::{Kind, Kinds, Number};
+use operator_cells::cells::{constant, operate, slice};
+use std::alloc::AllocError;
+
+// When the packet was captured; helpers answer a row later.
+fn time(cells: &mut Vec<Cell>) -> Result<u32, AllocError>
+    ensures { IfOk result (λ c. Makes (seen cells.old.items) (seen cells.new.items) c (λ packet v. low 64 packet.time)) }
+{
+    let now = operate(cells, Operator::Time, &[], 0, 64)?;
+    let c = operate(cells, Operator::Later, &[now], 0, 64)?;
+    Ok(c)
+}
+
+/// The time: R0 gets that of the packet's capture.
+pub fn carry_time(
+    cells: &mut Vec<Cell>,
+    held: &mut Held,
+    kinds: &Kinds,
+    insn: &Insn,
+) -> Result<(), AllocError>
+    requires op { insn.now.op ≡ Op.Call }
+    requires helper { insn.now.imm ≡ pos 5 }
+    ensures { (decls : List MapDecl) (ps : List PointerView) (node : ℕ) → verdict (effect_of decls kinds.now insn.now) ≡ passed → AreInside decls (length (seen cells.old.items)) ps held.old kinds.now → OnOk result (Carries decls ps insn.now node false false kinds.now held.old held.new (seen cells.old.items) (seen cells.new.items)) }
+{
+    are_whole(held, kinds);
+    let c = time(cells)?;
+    held.registers[0] = c;
+    Ok(())
+}
+
+// Whether a number is 0; it is there a row after all of these cells.
+fn is_zero(cells: &mut Vec<Cell>, n: u32, interface: u32, target: u32) -> Result<u32, AllocError>
+    requires number { n < length (seen cells.old.items) }
+    requires interface { interface < length (seen cells.old.items) }
+    requires target { target < length (seen cells.old.items) }
+    ensures { IfOk result (λ c. Makes (seen cells.old.items) (seen cells.new.items) c (λ packet v. bit (low 64 (v n) == 0))) }
+{
+    let zero = constant(cells, 0, 1)?;
+    let c = operate(cells, Operator::Equal, &[n, zero, interface, target], 0, 1)?;
+    Ok(c)
+}
+
+// XDP_REDIRECT where a bit is 1, else XDP_ABORTED.
+fn answer(cells: &mut Vec<Cell>, sent: u32) -> Result<u32, AllocError>
+    requires { sent < length (seen cells.old.items) }
+    ensures { IfOk result (λ c. Makes (seen cells.old.items) (seen cells.new.items) c (λ packet v. if on (v sent) then 4 else 0)) }
+{
+    let redirect = constant(cells, 4, 3)?;
+    let aborted = constant(cells, 0, 1)?;
+    let c = operate(cells, Operator::Select, &[sent, redirect, aborted], 0, 3)?;
+    Ok(c)
+}
+
+// The interface where a bit is 1, else the old target.
+fn target(cells: &mut Vec<Cell>, sent: u32, interface: u32, old: u32) -> Result<u32, AllocError>
+    requires sent { sent < length (seen cells.old.items) }
+    requires interface { interface < length (seen cells.old.items) }
+    requires old { old < length (seen cells.old.items) }
+    ensures { IfOk result (λ c. Makes (seen cells.old.items) (seen cells.new.items) c (λ packet v. low 32 (if on (v sent) then v interface else v old))) }
+{
+    let c = operate(cells, Operator::Select, &[sent, interface, old], 0, 32)?;
+    Ok(c)
+}
+
+// The cell of a number by its kind, or of 0.
+fn number_in(cells: &mut Vec<Cell>, kind: Kind, held: u32) -> Result<u32, AllocError>
+    requires { HasNumber (length (seen cells.old.items)) kind held }
+    ensures made { IfOk result (λ c. Grows (seen cells.old.items) (seen cells.new.items) × (c < length (seen cells.new.items))) }
+    ensures number { (n : Number) → kind ≡ kind_is.Num n → IfOk result (λ c. Makes (seen cells.old.items) (seen cells.new.items) c (λ packet v. number_of v n held)) }
+{
+    match kind {
+        Kind::Num(n) => {
+            let c = number_cell(cells, n, held)?;
+            Ok(c)
+        }
+        _ => {
+            let c = constant(cells, 0, 1)?;
+            Ok(c)
+        }
+    }
+}
+
+/// A redirect: where its flags are 0, R0 gets XDP_REDIRECT and the target becomes the interface; else R0 gets XDP_ABORTED.
+pub fn carry_redirect(
+    cells: &mut Vec<Cell>,
+    held: &mut Held,
+    kinds: &Kinds,
+    insn: &Insn,
+) -> Result<(), AllocError>
+    requires op { insn.now.op ≡ Op.Call }
+    requires helper { insn.now.imm ≡ pos 23 }
+    requires formed { AreFormed (seen cells.old.items) }
+    requires inside { (decls : List MapDecl) × (ps : List PointerView) × AreInside decls (length (seen cells.old.items)) ps held.old kinds.now }
+    ensures { (decls : List MapDecl) (ps : List PointerView) (node : ℕ) → verdict (effect_of decls kinds.now insn.now) ≡ passed → AreInside decls (length (seen cells.old.items)) ps held.old kinds.now → OnOk result (Carries decls ps insn.now node false false kinds.now held.old held.new (seen cells.old.items) (seen cells.new.items)) }
+{
+    are_whole(held, kinds);
+    let interface = number_in(cells, kinds.registers[1], held.registers[1])?;
+    let flags = number_in(cells, kinds.registers[2], held.registers[2])?;
+    let sent = is_zero(cells, flags, interface, held.target)?;
+    let c = answer(cells, sent)?;
+    let t = target(cells, sent, interface, held.target)?;
+    held.registers[0] = c;
+    held.target = t;
+    Ok(())
+}

@@ -1,0 +1,200 @@
+//! Loads from the packet, the stack and the context.
+
+ghost use Rattle.std.specs.Prelude.{◌≡◌, ◌≢◌, ◌<◌, ◌≤◌, ◌+◌, ◌/◌, ◌%◌, ℕ, ℤ, pos, Some, List, length, slice_index, get_or, IfOk, IfSome, FitsSigned, ◌+ℤ◌};
+ghost use Rattle.std.specs.Int.{w16};
+ghost use Rattle.xdp_maps.specs.declared.decl.MapDecl.{MapDecl};
+ghost use Rattle.xdp_machine.specs.Memory.{bytes_in};
+ghost use Rattle.xdp_machine.specs.Memory as machine;
+ghost use Rattle.xdp_machine.specs.Values as is;
+ghost use Rattle.kind_core.specs.declared.kind.Kind.TheVariants as kind_is;
+ghost use Rattle.kind_core.specs.Access as access;
+ghost use Rattle.kind_core.specs.Kinds.{register};
+ghost use Rattle.kind_core.specs.declared.kind.Kinds.{Kinds};
+ghost use Rattle.held_cells.specs.declared.held.Held.{Held};
+ghost use Rattle.cell_core.specs.Formed.{AreFormed};
+ghost use Rattle.operator_cells.specs.Making.{seen, MakesIf};
+ghost use Rattle.held_cells.specs.Held.{PointerView, AreInside, Counts};
+ghost use Rattle.held_cells.specs.Carrying.{Gives};
+ghost use Rattle.register_cells.specs.Reading.{HasNumber, Yields};
+ghost use Rattle.register_cells.specs.Giving.{given};
+
+use crate::computing::{extended, parted};
+use crate::sizes::are_whole;
+use bpf_isa::{Insn, Op, Size, Width};
+use cell_core::cell::Cell;
+use cell_core::operator::Operator;
+use held_cells::held::Held;
+use kind_core::{Kind, Kinds, Number};
+use operator_cells::cells::{constant, operate};
+use operator_cells::slicing::{copy, join_bytes};
+use std::alloc::AllocError;
+use xdp_state::memory::{aligned, bytes_in, inside};
+
+// A slot that is read whole: its number goes into a new cell.
+fn whole(cells: &mut Vec<Cell>, kind: Kind, p: u32) -> Result<u32, AllocError>
+    requires formed { AreFormed (seen cells.old.items) }
+    requires there { HasNumber (length (seen cells.old.items)) kind p }
+    ensures { (decls : List MapDecl) (ps : List PointerView) → Counts decls (length (seen cells.old.items)) ps kind p → IfOk result (λ c. Yields decls ps kind p kind p (seen cells.old.items) (seen cells.new.items) kind c (λ s t. Some t)) }
+{
+    match kind {
+        Kind::Num(Number::Unknown) => {
+            let c = copy(cells, p)?;
+            Ok(c)
+        }
+        _ => Ok(p),
+    }
+}
+
+// Bytes of a slot.
+fn from_slot(
+    cells: &mut Vec<Cell>,
+    size: Size,
+    at: u32,
+    kind: Kind,
+    p: u32,
+) -> Result<u32, AllocError>
+    requires formed { AreFormed (seen cells.old.items) }
+    requires there { HasNumber (length (seen cells.old.items)) kind p }
+    requires slot { at + bytes_in size ≤ 8 }
+    ensures { (decls : List MapDecl) (ps : List PointerView) → Counts decls (length (seen cells.old.items)) ps kind p → IfOk (access.from_slot size at kind) (λ x. IfOk result (λ c. Yields decls ps kind p kind p (seen cells.old.items) (seen cells.new.items) x c (λ s t. machine.from_slot size at t))) }
+{
+    match size {
+        Size::Dw => {
+            let c = whole(cells, kind, p)?;
+            Ok(c)
+        }
+        _ => match kind {
+            Kind::Num(n) => {
+                let c = parted(cells, size, at, n, p)?;
+                Ok(c)
+            }
+            _ => Ok(0),
+        },
+    }
+}
+
+// Where an access to the packet begins, if it lies in its first 256 bytes.
+fn packet_at(o: u16, offset: i16, size: Size) -> Option<usize>
+    ensures value { result ≡ machine.inside (pos o +ℤ offset) (bytes_in size) 256 }
+    ensures within { IfSome result (λ a. a + bytes_in size ≤ 256) }
+{
+    inside(i128::from(o) + i128::from(offset), bytes_in(size), 256)
+}
+
+// Where an access to the stack begins, from its lowest byte: it lies in one slot.
+fn stack_at(o: i16, offset: i16, size: Size) -> Option<usize>
+    ensures value { result ≡ machine.in_stack (o +ℤ offset) (bytes_in size) }
+    ensures within { IfSome result (λ a. a + bytes_in size ≤ 512) }
+    ensures slot { IfSome result (λ a. a % 8 + bytes_in size ≤ 8) }
+{
+    let z = i128::from(o) + i128::from(offset);
+    aligned(z + 512, bytes_in(size), 512)
+}
+
+// The same of a kind.
+fn slot_at(base: Kind, offset: i16, size: Size) -> Option<usize>
+    ensures value { (o : ℤ) → base ≡ kind_is.Stack o → result ≡ machine.in_stack (o +ℤ offset) (bytes_in size) }
+    ensures within { IfSome result (λ a. a + bytes_in size ≤ 512) }
+    ensures slot { IfSome result (λ a. a % 8 + bytes_in size ≤ 8) }
+{
+    match base {
+        Kind::Stack(o) => stack_at(o, offset, size),
+        _ => None,
+    }
+}
+
+// Bytes of the stack.
+fn from_stack(
+    cells: &mut Vec<Cell>,
+    held: &Held,
+    kinds: &Kinds,
+    base: Kind,
+    offset: i16,
+    size: Size,
+) -> Result<u32, AllocError>
+    requires formed { AreFormed (seen cells.old.items) }
+    requires inside { (decls : List MapDecl) × (ps : List PointerView) × AreInside decls (length (seen cells.old.items)) ps held.now kinds.now }
+    ensures { (decls : List MapDecl) (ps : List PointerView) (node : ℕ) (o : ℤ) → base ≡ kind_is.Stack o → AreInside decls (length (seen cells.old.items)) ps held.now kinds.now → IfOk (access.loaded decls kinds.now (kind_is.Stack o) offset size) (λ x. IfOk result (λ c. Gives decls ps node kinds.now held.now (seen cells.old.items) (seen cells.new.items) x c (λ m. machine.loaded m (is.Stack o) offset size))) }
+{
+    match slot_at(base, offset, size) {
+        Some(at) => {
+            let slot = at / 8;
+            let c = from_slot(
+                cells,
+                size,
+                (at % 8) as u32,
+                kinds.slots[slot],
+                held.slots[slot],
+            )?;
+            Ok(c)
+        }
+        None => Ok(0),
+    }
+}
+
+// Bytes of the packet, the lowest first.
+fn from_packet(
+    cells: &mut Vec<Cell>,
+    held: &Held,
+    kinds: &Kinds,
+    o: u16,
+    offset: i16,
+    size: Size,
+) -> Result<u32, AllocError>
+    requires inside { (decls : List MapDecl) × (ps : List PointerView) × AreInside decls (length (seen cells.old.items)) ps held.now kinds.now }
+    ensures { (decls : List MapDecl) (ps : List PointerView) (node : ℕ) → IfOk (access.loaded decls kinds.now (kind_is.Packet o) offset size) (λ x. IfOk result (λ c. Gives decls ps node kinds.now held.now (seen cells.old.items) (seen cells.new.items) x c (λ m. machine.loaded m (is.Packet (pos o)) offset size))) }
+{
+    are_whole(held, kinds);
+    match packet_at(o, offset, size) {
+        Some(at) => {
+            let c = join_bytes(cells, &held.window[at..at + bytes_in(size)])?;
+            Ok(c)
+        }
+        None => Ok(0),
+    }
+}
+
+// A field of the context.
+fn from_context(cells: &mut Vec<Cell>, offset: i16, size: Size) -> Result<u32, AllocError>
+    ensures { (decls : List MapDecl) (ps : List PointerView) (node : ℕ) (k : Kinds) (h : Held) → IfOk (access.from_context offset size) (λ x. IfOk result (λ c. Gives decls ps node k h (seen cells.old.items) (seen cells.new.items) x c (λ m. machine.loaded_plain m is.Context offset size))) }
+{
+    if offset == 12 {
+        let c = operate(cells, Operator::Ifindex, &[], 0, 32)?;
+        return Ok(c);
+    }
+    let c = constant(cells, 0, 32)?;
+    Ok(c)
+}
+
+/// MEM, but for entries of maps.
+pub fn loaded_plain(
+    cells: &mut Vec<Cell>,
+    held: &Held,
+    kinds: &Kinds,
+    insn: &Insn,
+    size: Size,
+) -> Result<u32, AllocError>
+    requires src { insn.now.src ≤ 10 }
+    requires offset { FitsSigned w16 insn.now.offset }
+    requires formed { AreFormed (seen cells.old.items) }
+    requires inside { (decls : List MapDecl) × (ps : List PointerView) × AreInside decls (length (seen cells.old.items)) ps held.now kinds.now }
+    requires plain { (q o : ℕ) → register kinds.now insn.now.src ≢ kind_is.Entry q o }
+    ensures { (decls : List MapDecl) (ps : List PointerView) (refs : List ℕ) (node : ℕ) → AreInside decls (length (seen cells.old.items)) ps held.now kinds.now → IfOk (access.loaded_plain decls kinds.now (register kinds.now insn.now.src) insn.now.offset size) (λ x. IfOk result (λ c. Gives decls ps node kinds.now held.now (seen cells.old.items) (seen cells.new.items) x c (λ m. given refs m insn.now (Op.Load size)))) }
+{
+    let base = kinds.registers[insn.src as usize];
+    match base {
+        Kind::Ctx => {
+            let c = from_context(cells, insn.offset, size)?;
+            Ok(c)
+        }
+        Kind::Packet(o) => {
+            let c = from_packet(cells, held, kinds, o, insn.offset, size)?;
+            Ok(c)
+        }
+        Kind::Stack(_) => {
+            let c = from_stack(cells, held, kinds, base, insn.offset, size)?;
+            Ok(c)
+        }
+        _ => Ok(0),
+    }
+}
