@@ -9,3 +9,4 @@ pub mod Pointed
 pub mod Assembled
 pub mod Rows
 pub mod Tested
+pub mod EdgeKnown
