@@ -10,3 +10,5 @@ pub mod Assembled
 pub mod Rows
 pub mod Tested
 pub mod EdgeKnown
+pub mod JumpKinds
+pub mod EdgeLaws

@@ -4,6 +4,7 @@ use Rattle.bpf_isa.specs.declared.operation.Width.{Width}
 use Rattle.bpf_isa.specs.declared.operation.JumpCode.{JumpCode}
 use Rattle.bpf_isa.specs.declared.operation.Src.{Src}
 use Rattle.bpf_isa.specs.declared.operation.Src.TheVariants.{K, X}
+use Rattle.bpf_isa.specs.declared.operation.Op.TheVariants.{Jump}
 use Rattle.bpf_isa.specs.declared.instruction.Insn.{Insn}
 use Rattle.xdp_maps.specs.declared.decl.MapDecl.{MapDecl}
 use Rattle.xdp_machine.specs.State.{Machine, PacketIn}
@@ -17,14 +18,15 @@ use Rattle.xdp_machine.specs.Runs.{leaves}
 use Rattle.kind_core.specs.declared.kind.Kind.TheVariants.{Num}
 use Rattle.kind_core.specs.declared.kind.Kinds.{Kinds}
 use Rattle.kind_core.specs.Kinds.{register}
-use Rattle.kind_core.specs.Effects.{operand}
+use Rattle.kind_core.specs.Tests.{passed}
+use Rattle.kind_core.specs.Effects.{effect_of, verdict, operand}
 use Rattle.kind_core.specs.Edges.{agrees, transferred}
 use Rattle.cell_core.specs.Cells.{CellView, IsRun, on, bit}
 use Rattle.operator_cells.specs.Making.{Grows}
 use Rattle.held_cells.specs.declared.held.Held.{Held}
 use Rattle.held_cells.specs.declared.way.Way.{Way}
 use Rattle.held_cells.specs.declared.way.Exit.{Exit}
-use Rattle.held_cells.specs.Held.{PointerView}
+use Rattle.held_cells.specs.Held.{PointerView, AreInside}
 use Rattle.held_cells.specs.Carrying.{IsKnown}
 use Rattle.held_cells.specs.Steps.{IsLeft}
 use Rattle.edge_cells.specs.Testing.{Tests}
@@ -71,6 +73,21 @@ JumpsAreTested =
     (decls : List MapDecl) (packet : PacketIn) (v : ℕ → ℕ) (ps : List PointerView) (node : ℕ) (k : Kinds) (h : Held) (m : Machine) (i : Insn) (w : Width) (c : JumpCode) (s : Src) (old new : List CellView) (condition : ℕ) (taken : Bool)
     → TestsJump ps k h i w c s old new condition → IsRun packet new v → IsKnown decls packet v ps node k h m → i.dst ≤ 10 → i.src ≤ 10
     → compared w c (machine.register m.registers i.dst) (step.operand m.registers i s) ≡ Some taken → v condition ≡ bit taken
+
+-- What is held at a jump is there along its edges.
+abbrev pub EdgesAreInside : Type 0
+EdgesAreInside =
+    (decls : List MapDecl) (n : ℕ) (ps : List PointerView) (k : Kinds) (h : Held) (i : Insn) (node : ℕ) (w : Width) (c : JumpCode) (s : Src) (taken : Bool)
+    → i.op ≡ Jump w c s → AreInside decls n ps h k → AreInside decls n ps h (transferred decls k i node false taken)
+
+-- What is known at an allowed jump and held there is known and held along the edge that the machine takes: of what a lookup answered, that
+-- it is null or an entry.
+abbrev pub EdgesAreKnown : Type 0
+EdgesAreKnown =
+    (decls : List MapDecl) (packet : PacketIn) (v : ℕ → ℕ) (ps : List PointerView) (node to place : ℕ) (k : Kinds) (h : Held) (m : Machine) (i : Insn) (w : Width) (c : JumpCode) (s : Src) (taken : Bool)
+    → IsKnown decls packet v ps node k h m → node ≤ to → i.op ≡ Jump w c s → verdict (effect_of decls k i) ≡ passed
+    → compared w c (machine.register m.registers i.dst) (step.operand m.registers i s) ≡ Some taken
+    → IsKnown decls packet v ps to (transferred decls k i node false taken) h (record m { place = place })
 
 -- The cells of an end hold what the packet leaves there.
 abbrev pub EndsAreLeft : Type 0

@@ -2,7 +2,7 @@
 
 ghost use Rattle.edge_cells.specs.Widening.{JoinsWiden, JoinsAreFilled};
 ghost use Rattle.edge_cells.specs.Joining.{HereIsRight};
-ghost use Rattle.edge_cells.specs.Leaving.{JumpsAreTested, EndsAreLeft};
+ghost use Rattle.edge_cells.specs.Leaving.{JumpsAreTested, EdgesAreInside, EdgesAreKnown, EndsAreLeft};
 
 /// What is known where edges meet says no more than what is known on each.
 pub fn joins_widen()
@@ -23,6 +23,19 @@ pub fn here_is_right()
 pub fn jumps_are_tested()
     ensures { JumpsAreTested }
 {}
+
+/// What is held at a jump is there along its edges.
+pub fn edges_are_inside()
+    ensures { EdgesAreInside }
+{}
+
+/// What is known at an allowed jump and held there is known and held along the edge that the machine takes.
+pub fn edges_are_known()
+    ensures { EdgesAreKnown }
+{
+    kind_core::laws::conditions_are_sound();
+    kind_core::laws::later_describes();
+}
 
 /// The cells of an end hold what the packet leaves there.
 pub fn ends_are_left()
