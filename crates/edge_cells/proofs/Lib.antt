@@ -9,3 +9,6 @@ pub mod Pointed
 pub mod Assembled
 pub mod Rows
 pub mod Tested
+pub mod EdgeKnown
+pub mod JumpKinds
+pub mod EdgeLaws

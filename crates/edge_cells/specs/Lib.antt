@@ -2,3 +2,4 @@ pub mod Widening
 pub mod Meeting
 pub mod Joining
 pub mod Testing
+pub mod Leaving

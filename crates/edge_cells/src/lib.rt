@@ -3,6 +3,7 @@
 
 pub mod joining;
 pub mod laws;
+pub mod leaving;
 pub mod meeting;
 pub mod part;
 pub mod testing;
