@@ -9,11 +9,12 @@ use Rattle.bpf_isa.specs.declared.operation.Width.TheVariants.{Bits32, Bits64}
 use Rattle.bpf_isa.specs.declared.operation.JumpCode.{JumpCode}
 use Rattle.bpf_isa.specs.declared.operation.JumpCode.TheVariants.{Jeq, Jgt, Jge, Jset, Jne, Jsgt, Jsge, Jlt, Jle, Jslt, Jsle}
 use Rattle.xdp_machine.specs.Arithmetic.{bits_in, low, arithmetic, holds}
+use Rattle.xdp_machine.proofs.NumberLaws.{widened}
 use Rattle.bpf_isa.specs.declared.operation.AluCode.TheVariants.{And}
 use Rattle.std.specs.Int.Bits.{and_lt}
 use Rattle.cell_core.specs.Cells.{bit, joined, bits_from}
 use Rattle.operator_cells.specs.Comparing.{turned, is_signed, unsigned}
-use Rattle.operator_cells.proofs.Numbers.{from_zero, low_same, low_below, in_64}
+use Rattle.operator_cells.proofs.Numbers.{from_zero, low_same, low_below}
 
 pub low_bit : (b : Bool) → low 1 (bit b) ≡ bit b
 low_bit true = refl
@@ -58,7 +59,7 @@ at_most_is Bits32 a b h g = at_most_32 a b h g
 at_most_is Bits64 a b h g = at_most_64 a b h g
 
 pub turned_below : (w : Width) (n : ℕ) → turned (bits_in w) n < 2 ^ 64
-turned_below w n = in_64 w _ (low_below (bits_in w) _)
+turned_below w n = widened w _ (low_below (bits_in w) _)
 
 holds_signed_as : (c : JumpCode) (w : Width) (p q : ℕ) → is_signed c ≡ true → p < 2 ^ bits_in w → q < 2 ^ bits_in w
     → holds (unsigned c) 64 (turned (bits_in w) p) (turned (bits_in w) q) ≡ holds c (bits_in w) p q
@@ -87,7 +88,7 @@ holds_signed c w p q t h g = cut_low (unsigned c) _ _ (turned_below w p) (turned
 
 pub holds_plain : (c : JumpCode) (w : Width) (p q : ℕ) → is_signed c ≡ false → p < 2 ^ bits_in w → q < 2 ^ bits_in w
     → holds c 64 (low 64 p) (low 64 q) ≡ holds c (bits_in w) p q
-holds_plain c w p q t h g = cut_low c p q (in_64 w p h) (in_64 w q g) ∙ holds_plain_as c (bits_in w) p q t
+holds_plain c w p q t h g = cut_low c p q (widened w p h) (widened w q g) ∙ holds_plain_as c (bits_in w) p q t
 
 -- the numbers of what is compared
 pub of_both : (c : JumpCode) (w a b p q : ℕ) → p ≡ a → q ≡ b → bit (holds c w p q) ≡ bit (holds c w a b)

@@ -8,13 +8,14 @@ use Rattle.bpf_isa.specs.declared.operation.Width.{Width}
 use Rattle.bpf_isa.specs.declared.operation.Width.TheVariants.{Bits32, Bits64}
 use Rattle.xdp_machine.specs.State.{PacketIn}
 use Rattle.xdp_machine.specs.Arithmetic.{bits_in, low, arithmetic}
+use Rattle.xdp_machine.proofs.NumberLaws.{widened}
 use Rattle.cell_core.specs.declared.operator.Operator.TheVariants.{Wire, NonZero}
 use Rattle.cell_core.specs.Cells.{CellView, cell_at, bit, on, number, bits_from, is_read}
 use Rattle.cell_core.specs.Formed.{IsSome, takes, IsInRange}
 use Rattle.operator_cells.specs.Making.{Adds, Makes, operated}
 use Rattle.operator_cells.specs.Dividing.{some, divided, divider, code_of}
 use Rattle.operator_cells.proofs.Growing.{added_makes, makes_after, grown, old-cell, new-cell}
-use Rattle.operator_cells.proofs.Numbers.{from_zero, low_same, low_below, in_64}
+use Rattle.operator_cells.proofs.Numbers.{from_zero, low_same, low_below}
 
 abbrev pub own_cell : ℕ → ℕ → CellView
 own_cell b w = record { op = Wire; ins = b ∷ []; width = w; from = 0 }
@@ -143,7 +144,7 @@ pub divided_is : (w : Width) (r : Bool) (a b x y n : ℕ) → x ≡ low (bits_in
 divided_is w r a b x y n e f g =
     let below : y < 2 ^ bits_in w = subst (λ (k : ℕ). k < 2 ^ bits_in w) (sym f) (low_below (bits_in w) b) in
     let less : x < 2 ^ bits_in w = subst (λ (k : ℕ). k < 2 ^ bits_in w) (sym e) (low_below (bits_in w) a) in
-    ap (λ (k : ℕ). low (bits_in w) (if k == 0 then (if r then x else 0) else n)) (low_same 64 y (in_64 w y below))
+    ap (λ (k : ℕ). low (bits_in w) (if k == 0 then (if r then x else 0) else n)) (low_same 64 y (widened w y below))
     ∙ whole (bits_in w) x y (most w) less below r n (g ∙ ap (λ (k : ℕ). low (bits_in w) (divided r (low 64 x) (some k))) (low_same (bits_in w) y below))
     ∙ ap (λ (k : ℕ). arithmetic (code_of r) false (bits_in w) k y) e
     ∙ ap (arithmetic (code_of r) false (bits_in w) (low (bits_in w) a)) f

@@ -7,6 +7,7 @@ use Rattle.kind_core.specs.Edges.{agrees}
 use Rattle.cell_core.specs.Cells.{CellView, IsRun, bit, on, bits_from}
 use Rattle.operator_cells.specs.Making.{Grows, Makes, MakesIf}
 use Rattle.operator_cells.proofs.Growing.{grown}
+use Rattle.operator_cells.proofs.Conditions.{not_bit}
 
 pub is_bit : (n : ℕ) → n < 2 → n ≡ bit (on n)
 is_bit zero h = refl
@@ -25,14 +26,10 @@ taken_is g c h k =
     ∙ ap (λ (n : ℕ). bits_from (arithmetic And false 64 (low 64 (bit (on g))) (low 64 n)) 0 1) (is_bit c k)
     ∙ both (on g) (on c)
 
-other_is : (b : Bool) → low 1 (2 ^ 64 - 1 - bit b) ≡ bit (not b)
-other_is true = refl
-other_is false = refl
-
 pub passed_is : (g c d : ℕ) → g < 2 → c < 2 → d ≡ low 1 (2 ^ 64 - 1 - c) → bits_from (arithmetic And false 64 (low 64 g) (low 64 d)) 0 1 ≡ bit (on g && agrees false (on c))
 passed_is g c d h k e =
     ap (λ (n : ℕ). bits_from (arithmetic And false 64 (low 64 n) (low 64 d)) 0 1) (is_bit g h)
-    ∙ ap (λ (n : ℕ). bits_from (arithmetic And false 64 (low 64 (bit (on g))) (low 64 n)) 0 1) (e ∙ ap (λ (n : ℕ). low 1 (2 ^ 64 - 1 - n)) (is_bit c k) ∙ other_is (on c))
+    ∙ ap (λ (n : ℕ). bits_from (arithmetic And false 64 (low 64 (bit (on g))) (low 64 n)) 0 1) (e ∙ ap (λ (n : ℕ). low 1 (2 ^ 64 - 1 - n)) (is_bit c k) ∙ not_bit (on c))
     ∙ both (on g) (not (on c))
 
 pub makes_if : (a b d : List CellView) (c : ℕ) (P : (ℕ → ℕ) → Type 0) (f g : PacketIn → (ℕ → ℕ) → ℕ) → Grows a b → Makes b d c f

@@ -9,6 +9,7 @@ use Rattle.bpf_isa.specs.declared.operation.AluCode.{AluCode}
 use Rattle.bpf_isa.specs.declared.operation.AluCode.TheVariants as alu
 use Rattle.xdp_machine.specs.Arithmetic.{bits_in, low, arithmetic, negated}
 use Rattle.xdp_machine.specs.State.{PacketIn}
+use Rattle.xdp_machine.proofs.NumberLaws.{widened}
 use Rattle.cell_core.specs.declared.operator.Operator.TheVariants as op
 use Rattle.cell_core.specs.Cells.{CellView, IsRun, cell_at, number, bits_from, is_read}
 use Rattle.cell_core.specs.CellLaws.{ValuesFit}
@@ -23,11 +24,6 @@ low_same w n h = mod-eq_of_lt {n = n} {m = 2 ^ w} h
 
 pub low_below : (w n : ℕ) → low w n < 2 ^ w
 low_below w n = mod_below n (2 ^ w) (pow_pos w)
-
--- 32 or 64 bits are among 64
-pub in_64 : (w : Width) (n : ℕ) → n < 2 ^ bits_in w → n < 2 ^ 64
-in_64 Bits32 n h = omega (arith, h)
-in_64 Bits64 n h = h
 
 narrow : (n : ℕ) → n % 2 ^ 64 % 2 ^ 32 ≡ n % 2 ^ 32
 narrow n = omega arith
@@ -72,7 +68,7 @@ pub operated_one : (packet : PacketIn) (w : Width) (c : AluCode) (signed : Bool)
     → bits_from (number packet (operator_of c) (p ∷ q ∷ [])) 0 (bits_in w) ≡ arithmetic c signed (bits_in w) p q
 operated_one packet w c signed p q t h g =
     from_zero (number packet (operator_of c) (p ∷ q ∷ [])) (bits_in w)
-    ∙ ap (low (bits_in w)) (operator_number packet c p q t ∙ (ap (λ (n : ℕ). arithmetic c false 64 n (low 64 q)) (low_same 64 p (in_64 w p h)) ∙ ap (arithmetic c false 64 p) (low_same 64 q (in_64 w q g))))
+    ∙ ap (low (bits_in w)) (operator_number packet c p q t ∙ (ap (λ (n : ℕ). arithmetic c false 64 n (low 64 q)) (low_same 64 p (widened w p h)) ∙ ap (arithmetic c false 64 p) (low_same 64 q (widened w q g))))
     ∙ one_is w c signed p q t h g
 
 pub operator_two : (c : AluCode) → takes (operator_of c) ≤ 2

@@ -6,9 +6,10 @@ use Rattle.bpf_isa.specs.declared.operation.Width.{Width}
 use Rattle.bpf_isa.specs.declared.operation.Width.TheVariants.{Bits32, Bits64}
 use Rattle.bpf_isa.specs.declared.operation.AluCode.TheVariants.{Lsh, Rsh}
 use Rattle.xdp_machine.specs.Arithmetic.{bits_in, low, arithmetic}
+use Rattle.xdp_machine.proofs.NumberLaws.{widened}
 use Rattle.cell_core.specs.Cells.{bits_from, joined}
 use Rattle.operator_cells.specs.Shifting.{count_bits}
-use Rattle.operator_cells.proofs.Numbers.{from_zero, low_same, low_below, in_64}
+use Rattle.operator_cells.proofs.Numbers.{from_zero, low_same, low_below}
 
 -- cutting to 64 bits first changes nothing
 pub cut_twice : (w : Width) (n : ℕ) → low (bits_in w) (low 64 n) ≡ low (bits_in w) n
@@ -56,7 +57,7 @@ shifted_left w signed a b =
     let x = low (bits_in w) a in
     from_zero _ (bits_in w)
     ∙ cut_twice w _
-    ∙ ap (λ (k : ℕ). low (bits_in w) (k * 2 ^ (low 64 (bits_from b 0 (count_bits w)) % 64))) (low_same 64 x (in_64 w x (low_below (bits_in w) a)))
+    ∙ ap (λ (k : ℕ). low (bits_in w) (k * 2 ^ (low 64 (bits_from b 0 (count_bits w)) % 64))) (low_same 64 x (widened w x (low_below (bits_in w) a)))
     ∙ ap (λ (k : ℕ). low (bits_in w) (x * 2 ^ k)) (count_is w b)
 
 div_below : (a m k : ℕ) → a < k → a / m < k
@@ -67,6 +68,6 @@ pub shifted_right : (w : Width) (signed : Bool) (a b : ℕ) → bits_from (arith
 shifted_right w signed a b =
     let x = low (bits_in w) a in
     from_zero _ (bits_in w)
-    ∙ ap (λ (k : ℕ). low (bits_in w) (k / 2 ^ (low 64 (bits_from b 0 (count_bits w)) % 64))) (low_same 64 x (in_64 w x (low_below (bits_in w) a)))
+    ∙ ap (λ (k : ℕ). low (bits_in w) (k / 2 ^ (low 64 (bits_from b 0 (count_bits w)) % 64))) (low_same 64 x (widened w x (low_below (bits_in w) a)))
     ∙ ap (λ (k : ℕ). low (bits_in w) (x / 2 ^ k)) (count_is w b)
     ∙ low_same (bits_in w) _ (div_below x _ (2 ^ bits_in w) (low_below (bits_in w) a))

@@ -8,9 +8,10 @@ use Rattle.bpf_isa.specs.declared.operation.Width.{Width}
 use Rattle.bpf_isa.specs.declared.operation.Width.TheVariants.{Bits32, Bits64}
 use Rattle.bpf_isa.specs.declared.operation.AluCode.TheVariants.{Sub, Xor}
 use Rattle.xdp_machine.specs.Arithmetic.{bits_in, low, arithmetic, negated}
+use Rattle.xdp_machine.proofs.NumberLaws.{widened}
 use Rattle.cell_core.specs.Cells.{bit, on, bits_from}
 use Rattle.operator_cells.specs.Dividing.{some, divided, code_of, sign_of}
-use Rattle.operator_cells.proofs.Numbers.{from_zero, low_same, low_below, in_64}
+use Rattle.operator_cells.proofs.Numbers.{from_zero, low_same, low_below}
 use Rattle.operator_cells.proofs.Division.{some_suc, unless_suc}
 use Rattle.operator_cells.proofs.Edges.{is_bit}
 use Rattle.operator_cells.proofs.SignedShifts.{sign_is}
@@ -177,11 +178,11 @@ in_all w r x (suc b) p q n d t h g e f hp hq is od te =
     let y : ℕ = suc b in
     let ne : suc b ≢ 0 = λ z. absurd (omega (arith, z)) in
     let n_is : n ≡ divided r p q = is
-    ∙ ap (λ (k : ℕ). low (bits_in w) (divided r k (some (low (bits_in w) q)))) (low_same 64 p (in_64 w p hp))
+    ∙ ap (λ (k : ℕ). low (bits_in w) (divided r k (some (low (bits_in w) q)))) (low_same 64 p (widened w p hp))
     ∙ ap (λ (k : ℕ). low (bits_in w) (divided r p (some k))) (low_same (bits_in w) q hq)
     ∙ ap (λ (k : ℕ). low (bits_in w) (divided r p k)) (some_same q (size_some (nat_lt (suc b) (2 ^ (bits_in w - 1))) (suc b) (2 ^ bits_in w) q f g ne))
     ∙ low_same (bits_in w) _ (divided_any r p q (2 ^ bits_in w) hp) in
-    ap (low (bits_in w)) (ap (λ (k : ℕ). if k == 0 then (if r then x else 0) else t) (low_same 64 (suc b) (in_64 w (suc b) g)) ∙ unless_suc b (if r then x else 0) t ∙ te)
+    ap (low (bits_in w)) (ap (λ (k : ℕ). if k == 0 then (if r then x else 0) else t) (low_same 64 (suc b) (widened w (suc b) g)) ∙ unless_suc b (if r then x else 0) t ∙ te)
     ∙ ap (λ (s : Bool). low (bits_in w) (low (bits_in w) (if s then negated (bits_in w) n else n))) od
     ∙ core w r (nat_lt x (2 ^ (bits_in w - 1))) (nat_lt (suc b) (2 ^ (bits_in w - 1))) x (suc b) p q n h g (above_zero w x) ne e f n_is
     ∙ sym (conv r (bits_in w) x (suc b) (nat_lt x (2 ^ (bits_in w - 1))) (nat_lt (suc b) (2 ^ (bits_in w - 1))) refl refl)

@@ -8,8 +8,9 @@ use Rattle.bits_core.specs.Bits.{bits_of, sext_of, arsh_of}
 use Rattle.bpf_isa.specs.declared.operation.Width.{Width}
 use Rattle.bpf_isa.specs.declared.operation.Width.TheVariants.{Bits32, Bits64}
 use Rattle.xdp_machine.specs.Arithmetic.{bits_in, low}
+use Rattle.xdp_machine.proofs.NumberLaws.{widened}
 use Rattle.cell_core.specs.Cells.{bits_from, on}
-use Rattle.operator_cells.proofs.Numbers.{from_zero, low_same, low_below, in_64}
+use Rattle.operator_cells.proofs.Numbers.{from_zero, low_same, low_below}
 use Rattle.operator_cells.proofs.Shifts.{cut_twice}
 
 -- the complement of a number over m
@@ -104,7 +105,7 @@ complement_is Bits32 a h = from_zero _ 32 ∙ omega (arith, h)
 complement_is Bits64 a h = from_zero _ 64 ∙ omega (arith, h)
 
 shift_down : (w : Width) (a m : ℕ) → a < 2 ^ bits_in w → bits_from (low 64 a / m) 0 (bits_in w) ≡ a / m
-shift_down w a m h = from_zero _ (bits_in w) ∙ ap (λ (j : ℕ). low (bits_in w) (j / m)) (low_same 64 a (in_64 w a h)) ∙ low_same (bits_in w) _ (omega (arith, h, div-le_self a m))
+shift_down w a m h = from_zero _ (bits_in w) ∙ ap (λ (j : ℕ). low (bits_in w) (j / m)) (low_same 64 a (widened w a h)) ∙ low_same (bits_in w) _ (omega (arith, h, div-le_self a m))
 
 -- of a signed number the complement is shifted, and turned back
 pub shifted_signed : (w : Width) (a e sign other moved back plain : ℕ) → a < 2 ^ bits_in w → sign ≡ bits_from a (bits_in w - 1) 1 → other ≡ bits_from (2 ^ 64 - 1 - a) 0 (bits_in w)
