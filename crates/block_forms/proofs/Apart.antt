@@ -2,7 +2,7 @@
 use Rattle.std.specs.Prelude.{◌≡◌, ℕ, zero, suc, ◌+◌, ◌<◌, ◌≤◌, ◌==◌, nat_lt, Bool, true, ◌&&◌, List, [], ◌∷◌, ◌++◌, length, take}
 use Rattle.std.specs.List.{list_all}
 use Rattle.std.proofs.Common.{get_or, not, refl, sym, ap, ◌∙◌, append_assoc, arith, inl, inr}
-use Rattle.std.proofs.lemmas.Bool.{and_parts, and_from, eqb-true, ltb-true, lt-ltb}
+use Rattle.std.proofs.lemmas.Bool.{and_parts, and_from, ne_eqb, ltb-true, lt-ltb}
 use Rattle.std.proofs.lemmas.List.{append-nil}
 use Rattle.net_core.specs.declared.tree.Net.{Net}
 use Rattle.net_core.specs.Nets.{StatementTree, SBlock, SIf, SIfElse, SSet, SStore, StatementTrees, SEnd, SThen}
@@ -12,7 +12,6 @@ use Rattle.block_core.specs.Rename.{rename_statement, rename_statements}
 use Rattle.block_core.specs.Blocks.{registers_of, memories_of, Whole, Among, start}
 use Rattle.block_core.specs.Link.{resolve, link_statement, all_statements}
 use Rattle.block_core.proofs.GatheredLaws.{Runs}
-use Rattle.block_forms.proofs.Known.{by_test}
 
 mutual
   pub pass_more : {N : Type 0} (p q s t : ℕ → Bool) → ((k : ℕ) → p k ≡ true → q k ≡ true) → ((k : ℕ) → s k ≡ true → t k ≡ true) → (a : StatementTree N) → targets_pass p s a ≡ true → targets_pass q t a ≡ true
@@ -64,7 +63,7 @@ later_lt k r r' l h = let e = ltb-true k r h in lt-ltb k r' (omega (arith, e, l)
 not_same : (k r n : ℕ) → r ≤ n → nat_lt k r ≡ true → not (k == n) ≡ true
 not_same k r n l h =
     let e = ltb-true k r h in
-    by_test (λ t. (k == n) ≡ t → not t ≡ true) (k == n) (λ q s. let z = eqb-true k n q in absurd (omega (arith, e, l, z))) (λ q s. refl) refl
+    ap not (ne_eqb k n (λ z. absurd (omega (arith, e, l, z))))
 
 all_leave_register : (before : List (StatementTree Net)) (r m n : ℕ) → list_all (below r m) before ≡ true → r ≤ n → list_all (leaves_register n) before ≡ true
 all_leave_register [] r m n h l = refl

@@ -6,7 +6,7 @@ use Rattle.std.specs.List.{list_any, list_all}
 use Rattle.std.specs.Cmp.Lexicographic.{pointwise}
 use Rattle.std.specs.Fmt.{decimal}
 use Rattle.std.proofs.Common.{get_or, refl, sym, ap, ◌∙◌, subst, append_assoc, length-append, arith}
-use Rattle.std.proofs.lemmas.Bool.{and_parts, and_from}
+use Rattle.std.proofs.lemmas.Bool.{and_parts, and_from, or_right, false_from_ne_true}
 use Rattle.std.proofs.lemmas.List.{append-nil, get_or_at}
 use Rattle.std.proofs.lemmas.Slice.Eq.{bytes_eq-Decides}
 use Rattle.std.proofs.lemmas.Fmt.{decimal_injective, digits_decimal}
@@ -14,7 +14,6 @@ use Rattle.std.proofs.lemmas.Str.Parse.{numerals_by_value, tells_all_ascii_digit
 use Rattle.net_core.specs.Ports.{port_names}
 use Rattle.verilog_grammar.specs.FormedSyntax.{is_digit, begins_name, continues_name, is_name}
 use Rattle.block_core.specs.Link.{numbered, net_names}
-use Rattle.block_forms.proofs.Known.{by_test}
 
 -- each is a name, and none of those before it
 abbrev pub AllFresh : List (List ℕ) → List (List ℕ) → Type 0
@@ -46,15 +45,11 @@ fresh_at before (x ∷ xs) h (suc i) l =
     (subst (λ names. FreshAt names (length (before ++ x ∷ []) + i)) (append_assoc before (x ∷ []) xs) (fresh_at (before ++ x ∷ []) xs h.2 i (omega arith)))
 
 -- ---- numbers behind a letter
-or_second : (a b : Bool) → b ≡ true → (a || b) ≡ true
-or_second true b h = refl
-or_second false b h = h
-
 digits_continue : (cs : List ℕ) → all_ascii_digits cs ≡ true → list_all continues_name cs ≡ true
 digits_continue [] h = refl
 digits_continue (c ∷ cs) h =
     let p = and_parts (is_ascii_digit c) (all_ascii_digits cs) h in
-    and_from (continues_name c) (list_all continues_name cs) (or_second (begins_name c) (is_digit c) p.0) (digits_continue cs p.1)
+    and_from (continues_name c) (list_all continues_name cs) (or_right (begins_name c) (is_digit c) p.0) (digits_continue cs p.1)
 
 decimal_continues : (k : ℕ) → k < 2 ^ 64 → list_all continues_name (decimal k) ≡ true
 decimal_continues k h = digits_continue (decimal k) (digits_decimal (numerals_by_value (λ ds. all_ascii_digits ds ≡ true) tells_all_ascii_digits) k h)
@@ -73,9 +68,8 @@ any_both p (x ∷ xs) ys h k = none_both (p x) (list_any p xs) (list_any p (xs +
 
 other_number : (letter k n : ℕ) → k < 2 ^ 64 → n < 2 ^ 64 → n < k → bytes_eq (named letter k) (named letter n) ≡ false
 other_number letter k n hk hn l =
-    by_test (λ t. bytes_eq (named letter k) (named letter n) ≡ t → t ≡ false) (bytes_eq (named letter k) (named letter n))
-    (λ e q. let s = decimal_injective k n hk hn (ap (drop 2) ((bytes_eq-Decides (named letter k) (named letter n)).0 e)) in absurd (omega (arith, s)))
-    (λ e q. refl) refl
+    false_from_ne_true (bytes_eq (named letter k) (named letter n))
+    (λ e. let s = decimal_injective k n hk hn (ap (drop 2) ((bytes_eq-Decides (named letter k) (named letter n)).0 e)) in absurd (omega (arith, s)))
 
 other_letter : (a b : ℕ) → nat_eq a b ≡ false → (k at n : ℕ) → list_any (bytes_eq (named a k)) (numbered (b ∷ 95 ∷ []) at n) ≡ false
 other_letter a b h k at zero = refl

@@ -1,7 +1,7 @@
 -- What a well typed netlist reads and sets is there.
 use Rattle.std.specs.Prelude.{◌≡◌, ℕ, zero, suc, ◌+◌, ◌<◌, ◌==◌, nat_lt, nat_le, cond, Bool, true, false, ◌&&◌, List, [], ◌∷◌, ◌++◌, length, take, count_by}
 use Rattle.std.proofs.Common.{get_or, not, refl, sym, ap, ◌∙◌, append_assoc, arith}
-use Rattle.std.proofs.lemmas.Bool.{and_parts, and_from, eqb-true, ltb-true, lt-ltb}
+use Rattle.std.proofs.lemmas.Bool.{and_parts, and_from, eqb-true, lt-ltb}
 use Rattle.std.proofs.lemmas.List.{append-nil}
 use Rattle.std.proofs.lemmas.List.Recursion.{is_count_by}
 use Rattle.list_laws.proofs.PlaceLaws.{some_below}
@@ -16,10 +16,7 @@ use Rattle.net_core.specs.Width.{Scope, same_width, width_of, parts_width, right
 use Rattle.net_core.proofs.WidthLaws.{same_parts, op_parts, unary_parts, part_select_parts, memory_word_parts, conditional_some, concatenation_parts}
 use Rattle.verilog_grammar.specs.FormedSyntax.{trees_pass, all_trees_pass}
 use Rattle.verilog_grammar.specs.FormedScope.{Sorts, reads_known, parts_known, right_known, targets_pass, all_targets_pass, is_input, registers_of, memories_of, is_value, is_words, sorts}
-
-pub by_test : (P : Bool → Type 0) (b : Bool) → (b ≡ true → P true) → (b ≡ false → P false) → P b
-by_test P true then_ else_ = then_ refl
-by_test P false then_ else_ = else_ refl
+use Rattle.verilog_grammar.proofs.FormedWidthLaws.{same_some}
 
 -- ---- what has a width is there
 pub record Holds {N : Type 0} (s : Scope N) (k : Sorts N) : Type 0 where
@@ -60,13 +57,6 @@ module _ {N : Type 0} (s : Scope N) (k : Sorts N) (holds : Holds s k) where
   right_all_known (RPlain e) h = tree_known e h
   right_all_known (RQuotient a b) h = sides_known a b h
   right_all_known (RRemainder a b) h = sides_known a b h
-
-  same_some : (a b : ℕ) → same a b ≡ true → (0 < a) × (0 < b)
-  same_some a b h =
-      let p = and_parts (nat_lt 0 a) (a == b) h in
-      let l = ltb-true 0 a p.0 in
-      let e = eqb-true a b p.1 in
-      (l, omega (arith, l, e))
 
   one_some : (a : ℕ) → (a == 1) ≡ true → 0 < a
   one_some a h = let e = eqb-true a 1 h in omega (arith, e)
@@ -126,7 +116,7 @@ pub memory_there : (d : Netlist) (i : ℕ) → 0 < (get_or (memory_widths d.decl
 memory_there d i h = let l = some_below (λ (x : ℕ × ℕ). x.1) (0, 0) (memory_widths d.declared) i refl h in let e = memories_counted d.declared in lt-ltb i (memories_of d) (omega (arith, l, e))
 
 input_there : (p : port.Port) → 0 < input_width p → not p.output ≡ true
-input_there p h = by_test (λ o. 0 < (cond o 0 p.width) → not o ≡ true) p.output (λ e h. absurd (omega arith)) (λ e h. refl) h
+input_there p h = (elim p.output as (λ o. 0 < (cond o 0 p.width) → not o ≡ true) [ true ↦ λ h. absurd (omega arith) | false ↦ λ h. refl ]) h
 
 port_there : (ports : List port.Port) (i : ℕ) → 0 < port_width ports i → is_input ports i ≡ true
 port_there ports zero h = absurd (omega arith)

@@ -2,7 +2,7 @@
 use Rattle.std.specs.Prelude.{◌≡◌, ℕ, zero, suc, ◌+◌, ◌<◌, ◌≤◌, ◌==◌, nat_lt, nat_le, cond, Bool, true, false, ◌&&◌, ◌||◌, None, List, [], ◌∷◌, ◌++◌, length, map, take, count_by}
 use Rattle.std.specs.List.{list_all}
 use Rattle.std.proofs.Common.{get_or, not, refl, sym, ap, ◌∙◌, subst, append_assoc, length-append, arith, inl, inr}
-use Rattle.std.proofs.lemmas.Bool.{and_parts, and_from, eqb-true, ltb-true, lt-ltb, eq-eqb}
+use Rattle.std.proofs.lemmas.Bool.{and_parts, and_from, eqb-true, lt-ltb, eq-eqb}
 use Rattle.std.proofs.lemmas.List.{append-nil}
 use Rattle.std.proofs.lemmas.List.Recursion.{is_count_by}
 use Rattle.list_laws.proofs.PlaceLaws.{some_below}
@@ -19,6 +19,7 @@ use Rattle.net_core.proofs.WireLaws.{length_widths}
 use Rattle.verilog_grammar.specs.FormedSyntax.{tree_spelled, right_spelled, statement_spelled}
 use Rattle.verilog_grammar.specs.FormedScope.{sorts, reads_known, right_known, is_output, integer_known, registers_of as registers_in, memories_of as memories_in}
 use Rattle.verilog_grammar.specs.Formed.{first_broken, section_fault, first_fault, has_name, is_new, declared_place, wire_place, declared_fits, wire_fits, assign_fits, targets_free, block_known, block_fits, declared_rules, wire_rules, assign_rules, always_rules, last_rules, wires_start, assigns_start, always_start}
+use Rattle.verilog_grammar.proofs.FormedWidthLaws.{same_some}
 use Rattle.block_core.specs.declared.name.Name.{Name}
 use Rattle.block_core.specs.declared.block.BlockMemory.{BlockMemory}
 use Rattle.block_core.specs.Blocks.{BlockTree, OutputTree, registers_of, memories_of, Whole, Among, start}
@@ -28,7 +29,7 @@ use Rattle.block_core.proofs.GatheredLaws.{runs, length_map}
 use Rattle.block_core.proofs.TypedLaws.{linked_is_typed}
 use Rattle.block_forms.specs.WellFormed.{output_spelled, is_shown, shown_once, IsSpelled, LinkedIsWellFormed}
 use Rattle.block_forms.proofs.Rules.{four_kept, three_kept, section_none, no_faults}
-use Rattle.block_forms.proofs.Known.{by_test, tree_known, right_all_known, statement_known, register_there, memory_there, scope_holds, wires_at}
+use Rattle.block_forms.proofs.Known.{tree_known, right_all_known, statement_known, register_there, memory_there, scope_holds, wires_at}
 use Rattle.block_forms.proofs.Spelled.{same_tree, same_statement, passes_at, tree_passes, all_wires_pass}
 use Rattle.block_forms.proofs.Fresh.{FreshAt, fresh_at, names_fresh, names_count}
 use Rattle.block_forms.proofs.Apart.{below, free_at}
@@ -111,7 +112,7 @@ assigns_at n (y ∷ xs) h zero x l e = ap (assign_fits n) e ∙ (and_parts (assi
 assigns_at n (y ∷ xs) h (suc i) x l e = assigns_at n xs (and_parts (assign_fits n y) (assigns_typed n xs) h).1 i x (omega arith) e
 
 output_there : (p : port.Port) → 0 < output_width p → p.output ≡ true
-output_there p h = by_test (λ o. 0 < (cond o p.width 0) → o ≡ true) p.output (λ e h. refl) (λ e h. absurd (omega arith)) h
+output_there p h = (elim p.output as (λ o. 0 < (cond o p.width 0) → o ≡ true) [ true ↦ λ h. refl | false ↦ λ h. absurd (omega arith) ]) h
 
 -- ---- always blocks
 blocks_at : (n : Netlist) (xs : List (StatementTree Net)) → statements_all_typed n xs ≡ true → (i : ℕ) (x : StatementTree Net) → i < length xs → x ≡ get_or xs i x → block_fits n x ≡ true
@@ -136,13 +137,6 @@ taken : (k : ℕ) (xs : List ℕ) → k ≤ length xs → length (take k xs) ≡
 taken zero xs l = refl
 taken (suc k) [] l = absurd (omega arith)
 taken (suc k) (x ∷ xs) l = ap (λ (n : ℕ). suc n) (taken k xs (omega arith))
-
-same_some : (a b : ℕ) → same a b ≡ true → (0 < a) × (0 < b)
-same_some a b h =
-    let p = and_parts (nat_lt 0 a) (a == b) h in
-    let l = ltb-true 0 a p.0 in
-    let e = eqb-true a b p.1 in
-    (l, omega (arith, l, e))
 
 module _ {P : Type 0} (d : Whole P) (outputs : List (OutputTree (Name P))) (h : IsFormed d port_list outputs) (s : IsSpelled d outputs) where
   abbrev whole : Netlist

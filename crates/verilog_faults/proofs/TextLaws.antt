@@ -12,15 +12,14 @@ use Rattle.verilog_expression.specs.Reads.{Reading}
 use Rattle.verilog_read.specs.declared.error.ReadError.{ReadError}
 use Rattle.verilog_read.specs.declared.error.ReadError.TheVariants.{Ports}
 use Rattle.verilog_read.specs.Designs.{design_at, port_fault}
-use Rattle.verilog_read.specs.Texts.{place_of, by_ports, by_tokens, by_lexemes, error_of, outcome_of}
-use Rattle.verilog_read.proofs.TextLaws.{outcome_only}
+use Rattle.verilog_read.specs.Texts.{place_of, by_ports, by_lexemes, error_of, outcome_of}
+use Rattle.verilog_read.proofs.TextLaws.{by_its_tokens, outcome_only}
 use Rattle.verilog_faults.specs.Faults.{lexemes_behind, fault_with, BeginsWith, start_of, SharesError}
 use Rattle.verilog_faults.proofs.DesignLaws.{design_fault}
 
 outcome_at : (text : List ℕ) (ts : List Token) (c : Code) (left : ℕ) → tokens_in text ≡ Ok ts → design_at (lexemes_of text ts) ≡ Err (fault_with c left)
     → outcome_of text ≡ Err (error_of c (start_of text ts (length ts - left)))
-unfolding outcome_of
-outcome_at text ts c left e h = ap (by_tokens text) e ∙ ap (by_lexemes text ts) h
+outcome_at text ts c left e h = by_its_tokens text ts e ∙ ap (by_lexemes text ts) h
 
 -- ---- the fault of an error
 error_same : (c d : Code) (p q : ℕ) → error_of c p ≡ error_of d q → (c ≡ d) × (p ≡ q)
@@ -51,10 +50,6 @@ fault_of text ts (Ok d) c at e = absurd (no_ports d (port_fault d) c at e)
 fault_of text ts (Err f) c at e =
     let k = error_same f.code c (place_of text ts f.left) at (same_error (error_of f.code (place_of text ts f.left)) (error_of c at) e) in
     (f.left, ap (λ (x : Code). let y : Reading Netlist = Err (fault_with x f.left) in y) k.0, sym k.1)
-
-by_its_tokens : (text : List ℕ) (ts : List Token) → tokens_in text ≡ Ok ts → outcome_of text ≡ by_lexemes text ts (design_at (lexemes_of text ts))
-unfolding outcome_of
-by_its_tokens text ts e = ap (by_tokens text) e
 
 count : (text : List ℕ) (ts : List Token) (front : List Lexeme) (b : BeginsWith text ts front) → length ts ≡ length front + length b.rest
 count text ts front b = sym (length-map ts (lexeme_of text)) ∙ ap (λ (l : List Lexeme). length l) b.lexemes ∙ length-append front b.rest

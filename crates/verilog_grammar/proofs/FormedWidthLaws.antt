@@ -1,8 +1,8 @@
 -- A well-formed design is well typed.
-use Rattle.std.specs.Prelude.{◌≡◌, ℕ, zero, suc, ◌<◌, ◌==◌, nat_le, Bool, true, false, ◌&&◌, List, [], ◌∷◌, ◌++◌, length, take, drop}
+use Rattle.std.specs.Prelude.{◌≡◌, ℕ, zero, suc, ◌<◌, ◌==◌, nat_lt, nat_le, Bool, true, false, ◌&&◌, List, [], ◌∷◌, ◌++◌, length, take, drop}
 use Rattle.std.specs.Cmp.Lexicographic.{pointwise}
 use Rattle.std.proofs.Common.{get_or, refl, sym, subst, ap, ◌∙◌, add-one, arith}
-use Rattle.std.proofs.lemmas.Bool.{and_parts, and_from, eqb-true}
+use Rattle.std.proofs.lemmas.Bool.{and_parts, and_from, eqb-true, ltb-true}
 use Rattle.std.proofs.lemmas.List.{take_more}
 use Rattle.net_core.specs.declared.design.Port.{Port}
 use Rattle.net_core.specs.declared.design.Declared.{Declared}
@@ -10,7 +10,7 @@ use Rattle.net_core.specs.declared.design.Declared.TheVariants.{Integer, Registe
 use Rattle.net_core.specs.declared.tree.Net.{Net}
 use Rattle.net_core.specs.Nets.{StatementTree, WireTree, AssignTree, Netlist}
 use Rattle.net_core.specs.Ports.{port_list}
-use Rattle.net_core.specs.Width.{IsTyped, declared_typed, wires_typed, wire_widths, assigns_typed, statements_all_typed, word_fits}
+use Rattle.net_core.specs.Width.{IsTyped, same, declared_typed, wires_typed, wire_widths, assigns_typed, statements_all_typed, word_fits}
 use Rattle.net_core.proofs.WireLaws.{width_at, length_widths}
 use Rattle.verilog_grammar.specs.Formed.{IsWellFormed, same_bool, same_port, declared_fits, wire_fits, assign_fits, block_fits}
 use Rattle.verilog_grammar.proofs.FormedItemLaws.{declared_kept, wire_kept, assign_kept, block_kept, last_kept}
@@ -84,3 +84,11 @@ typed d h = record {
   outputs = (last_kept d h).assigned;
   always = blocks_all d d.always (λ i a l e. (block_kept d h i a l e).fits);
 }
+
+-- both sides of an assignment have a width
+pub same_some : (a b : ℕ) → same a b ≡ true → (0 < a) × (0 < b)
+same_some a b h =
+    let s = and_parts (nat_lt 0 a) (a == b) h in
+    let l : 0 < a = ltb-true 0 a s.0 in
+    let e : a ≡ b = eqb-true a b s.1 in
+    (l, omega arith)

@@ -28,7 +28,7 @@ lexemes_found text ts (Ok d) p h =
 lexemes_found text ts (Err f) p h = absurd cc
 
 -- the outcome of a text by its tokens
-by_its_tokens : (text : List ℕ) (ts : List Token) → tokens_in text ≡ Ok ts → outcome_of text ≡ by_lexemes text ts (design_at (lexemes_of text ts))
+pub by_its_tokens : (text : List ℕ) (ts : List Token) → tokens_in text ≡ Ok ts → outcome_of text ≡ by_lexemes text ts (design_at (lexemes_of text ts))
 unfolding outcome_of
 by_its_tokens text ts e = ap (by_tokens text) e
 

@@ -21,11 +21,11 @@ use Rattle.verilog_grammar.specs.FormedScope.{sorts, scope_before, reads_known, 
 use Rattle.verilog_grammar.specs.Formed.{IsWellFormed, result_of, targets_known}
 use Rattle.verilog_grammar.specs.Grammar.{text_at, integer_name}
 use Rattle.verilog_grammar.proofs.FormedItemLaws.{declared_kept, wire_kept, assign_kept, block_kept, last_kept}
-use Rattle.verilog_grammar.proofs.FormedWidthLaws.{ports_listed}
+use Rattle.verilog_grammar.proofs.FormedWidthLaws.{ports_listed, same_some}
 use Rattle.verilog_grammar.proofs.FormedLaws.{name_spelled, value_named, words_named, place_of_below}
 use Rattle.verilog_write.specs.Writable.{IsWritable, IsRightWritable, IsStatementWritable, IsDeclarationWritable}
 use Rattle.verilog_write.proofs.Words.{word_of_name}
-use Rattle.verilog_write.proofs.Written.{AreNamed, tree_written, right_written, statement_written, same_some, fits_of_word}
+use Rattle.verilog_write.proofs.Written.{AreNamed, tree_written, right_written, statement_written, fits_of_word}
 
 pub text_named : (d : Netlist) → IsWellFormed d → (place : ℕ) → place < length d.names → IsName (text_at d place)
 text_named d h place l = word_of_name (text_at d place) (name_spelled d h place l)

@@ -1,5 +1,5 @@
 -- What a well-formed design reads and sets can be written.
-use Rattle.std.specs.Prelude.{◌≡◌, ℕ, ◌+◌, ◌<◌, ◌==◌, ◌^◌, nat_lt, nat_le, if◌then◌else◌, Bool, true, false, ◌&&◌, List}
+use Rattle.std.specs.Prelude.{◌≡◌, ℕ, ◌<◌, ◌==◌, ◌^◌, nat_lt, nat_le, if◌then◌else◌, Bool, true, false, ◌&&◌, List}
 use Rattle.std.proofs.Common.{get_or, refl, arith}
 use Rattle.std.proofs.lemmas.Bool.{and_parts, eqb-true, leb-true, ltb-true}
 use Rattle.net_core.specs.declared.tree.Word.{Word}
@@ -10,6 +10,7 @@ use Rattle.net_core.specs.Width.{Fits, Scope, const_width, width_of, parts_width
 use Rattle.net_core.proofs.WidthLaws.{memory_word_parts, unary_parts, op_parts, conditional_some, concatenation_parts}
 use Rattle.verilog_grammar.specs.FormedSyntax.{trees_pass, all_trees_pass}
 use Rattle.verilog_grammar.specs.FormedScope.{Sorts, reads_known, parts_known, right_known, targets_pass, all_targets_pass}
+use Rattle.verilog_grammar.proofs.FormedWidthLaws.{same_some}
 use Rattle.verilog_write.specs.Writable.{IsNamed, IsWritable, AreWritable, IsRightWritable, IsStatementWritable, AreStatementsWritable}
 
 some_if : (b : Bool) (n : ℕ) → 0 < (if b then n else 0) → (b ≡ true) × (0 < n)
@@ -68,14 +69,6 @@ pub right_written : (d : Netlist) (s : Sorts Net) (r m : ℕ → Bool) → AreNa
 right_written d s r m n w (RPlain e) k h = tree_written d s r m n w e k h
 right_written d s r m n w (RQuotient a b) k h = let p = and_parts (s.value a) (s.value b) k in (n.value a p.0, n.value b p.1)
 right_written d s r m n w (RRemainder a b) k h = let p = and_parts (s.value a) (s.value b) k in (n.value a p.0, n.value b p.1)
-
--- both sides of an assignment have a width
-pub same_some : (a b : ℕ) → same a b ≡ true → (0 < a) × (0 < b)
-same_some a b h =
-    let s = and_parts (nat_lt 0 a) (a == b) h in
-    let l : 0 < a = ltb-true 0 a s.0 in
-    let e : a ≡ b = eqb-true a b s.1 in
-    (l, omega arith)
 
 one_some : (a : ℕ) → (a == 1) ≡ true → 0 < a
 one_some a h = let e : a ≡ 1 = eqb-true a 1 h in omega arith
