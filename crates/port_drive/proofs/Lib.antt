@@ -3,3 +3,5 @@ pub mod BeatLemmas
 pub mod DriveLaws
 pub mod HostClocks
 pub mod LoadLemmas
+pub mod DumpLemmas
+pub mod DumpSteps

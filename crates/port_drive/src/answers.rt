@@ -97,8 +97,8 @@ pub(crate) fn take_shown(
     Ok(true)
 }
 
-// The bytes of a word, the lowest first.
-fn bytes_of_word(word: u64) -> [u8; 8]
+/// The bytes of a word, the lowest first.
+pub(crate) fn bytes_of_word(word: u64) -> [u8; 8]
     ensures { result ≡ low_bytes 8 word }
 {
     let mut bytes = [0; 8];

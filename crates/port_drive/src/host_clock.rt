@@ -1,6 +1,7 @@
-//! One clock in which the host writes a word.
+//! One clock in which the host writes or reads a word.
 
-ghost use Rattle.std.specs.Prelude.{◌≡◌, ◌<◌, ◌∷◌, []};
+ghost use Rattle.std.specs.Prelude.{◌≡◌, ◌<◌, ◌∷◌, [], IfOk};
+ghost use Rattle.net_core.specs.Ports.{outputs_of};
 ghost use Rattle.host_history.specs.Host.{asked, written};
 ghost use Rattle.port_drive.specs.Hosting.{Clocks};
 
@@ -38,6 +39,20 @@ pub(crate) fn write_word(
     };
     match sim.clock(&inputs) {
         Ok(_) => Ok(()),
+        Err(stopped) => Err(stopped),
+    }
+}
+
+/// A clock in which the host reads a word under an index of a map.
+pub(crate) fn read_word(sim: &mut Sim, map: u8, index: u16, word: u8) -> Result<u64, XValue>
+    requires map { map < 16 }
+    requires word { word < 16 }
+    ensures netlist { sim.new.netlist ≡ sim.old.netlist }
+    ensures clocks { Clocks sim.old.netlist sim.old.stored (asked map index word ∷ []) result sim.new.stored }
+    ensures shown { IfOk result (λ shown. shown ≡ (outputs_of sim.old.netlist (asked map index word) sim.old.stored).host_value) }
+{
+    match sim.clock(&asked(map, index, word)) {
+        Ok(shown) => Ok(shown.host_value),
         Err(stopped) => Err(stopped),
     }
 }
