@@ -27,8 +27,8 @@ use Rattle.cell_core.specs.Cells.{on}
 use Rattle.held_cells.specs.declared.held.Held.{Held}
 use Rattle.held_cells.specs.Held.{PointerView, pointer_at, key_of, Holds, Counts}
 use Rattle.held_cells.specs.Carrying.{IsKnown}
-use Rattle.edge_cells.specs.Leaving.{EdgesAreKnown, EdgesAreInside}
-use Rattle.edge_cells.proofs.JumpKinds.{Along, same, null, entry, IsEdge, edge_of}
+use Rattle.edge_cells.specs.Leaving.{EdgesAreKnown, EdgesAreInside, SingleEdgesAreKnown}
+use Rattle.edge_cells.proofs.JumpKinds.{Along, same, null, entry, IsEdge, edge_of, edge-any, single_edge}
 
 counts-along : (decls : List MapDecl) (n : ℕ) (ps : List PointerView) (a b : Kind) (c : ℕ) → Along a b → Counts decls n ps a c → Counts decls n ps b c
 counts-along decls n ps a b c (same k) h = h
@@ -123,3 +123,9 @@ edges_are_known sound later decls packet v ps node to place k h m i w c s taken 
       values = known.stands.values;
     }) known.decls_are is ok cmp)
     (edge_of decls k i node w c s taken is)
+
+pub single_edges_are_known : LaterDescribes → SingleEdgesAreKnown
+single_edges_are_known later decls packet v ps node to place k h m i w taken known l is =
+    subst (λ (j : Kinds). IsKnown decls packet v ps to j h (record m { place = place })) (sym (single_edge decls k i node w taken is))
+    (known-along decls packet v ps node to place k k h m known l
+    (later known.world (at_node known.world node) k m (record { frame = refl; node = known.node_is; gave = λ n p. refl }) known.stands.described) (edge-any k k refl refl))

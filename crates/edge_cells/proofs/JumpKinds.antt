@@ -1,5 +1,5 @@
 -- The kinds along the edges of a jump.
-use Rattle.std.proofs.Common.{◌≡◌, ℕ, pos, zero, suc, ◌==◌, Bool, true, false, if◌then◌else◌, List, [], ◌∷◌, length, get_or, refl, sym, ap, subst}
+use Rattle.std.proofs.Common.{◌≡◌, ℕ, pos, zero, suc, ◌==◌, Bool, true, false, if◌then◌else◌, List, [], ◌∷◌, length, get_or, refl, ◌∙◌, sym, ap, subst}
 use Rattle.std.specs.Prelude.{Ok, Err}
 use Rattle.bpf_isa.specs.declared.operation.Width.{Width}
 use Rattle.bpf_isa.specs.declared.operation.Width.TheVariants.{Bits64}
@@ -8,7 +8,7 @@ use Rattle.bpf_isa.specs.declared.operation.JumpCode.TheVariants.{Jeq, Jne, Jgt}
 use Rattle.bpf_isa.specs.declared.operation.Src.{Src}
 use Rattle.bpf_isa.specs.declared.operation.Src.TheVariants.{X}
 use Rattle.bpf_isa.specs.declared.operation.Op.{Op}
-use Rattle.bpf_isa.specs.declared.operation.Op.TheVariants.{Jump, Exit}
+use Rattle.bpf_isa.specs.declared.operation.Op.TheVariants.{Ja, Jump, Exit}
 use Rattle.bpf_isa.specs.declared.instruction.Insn.{Insn}
 use Rattle.xdp_maps.specs.declared.decl.MapDecl.{MapDecl}
 use Rattle.kind_core.specs.declared.number.Number.{Number}
@@ -44,7 +44,7 @@ on_two = record { op = Exit; dst = 0; src = 1; offset = pos 0; imm = pos 0 }
 abbrev along : ℕ → Bool → Kinds → Width → JumpCode → Kind → Kind → Kinds
 along node taken k w c a b = changed_if node false taken k (effect_as [] (two a b) on_two (Jump w c X))
 
-edge-any : (k j : Kinds) → j.registers ≡ k.registers → j.slots ≡ k.slots → IsEdge k j
+pub edge-any : (k j : Kinds) → j.registers ≡ k.registers → j.slots ≡ k.slots → IsEdge k j
 edge-any k j e f = record {
   registers = λ r. subst (λ (xs : List Kind). Along (get_or k.registers r Unset) (get_or xs r Unset)) (sym e) (same (get_or k.registers r Unset));
   slots = λ s. subst (λ (xs : List Kind). Along (get_or k.slots s Unset) (get_or xs s Unset)) (sym f) (same (get_or k.slots s Unset));
@@ -172,3 +172,12 @@ pub edge_of : (decls : List MapDecl) (k : Kinds) (i : Insn) (node : ℕ) (w : Wi
 unfolding effect_of
 edge_of decls k i node w c s taken is =
     subst (λ (op : Op). IsEdge k (changed_if node false taken k (profiled i k >>= λ _. effect_as decls k i op))) (sym is) (edge-if decls k i node w c s taken (profiled i k))
+
+-- a jump without a condition leaves all kinds
+single-if : (decls : List MapDecl) (k : Kinds) (i : Insn) (node : ℕ) (w : Width) (taken : Bool) (t : Test) → changed_if node false taken k (t >>= λ _. effect_as decls k i (Ja w)) ≡ k
+single-if decls k i node w taken (Ok u) = refl
+single-if decls k i node w taken (Err y) = refl
+
+pub single_edge : (decls : List MapDecl) (k : Kinds) (i : Insn) (node : ℕ) (w : Width) (taken : Bool) → i.op ≡ Ja w → transferred decls k i node false taken ≡ k
+unfolding effect_of
+single_edge decls k i node w taken is = ap (λ (op : Op). changed_if node false taken k (profiled i k >>= λ _. effect_as decls k i op)) is ∙ single-if decls k i node w taken (profiled i k)

@@ -12,3 +12,4 @@ pub mod Tested
 pub mod EdgeKnown
 pub mod JumpKinds
 pub mod EdgeLaws
+pub mod Operands

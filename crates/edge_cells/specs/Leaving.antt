@@ -4,7 +4,7 @@ use Rattle.bpf_isa.specs.declared.operation.Width.{Width}
 use Rattle.bpf_isa.specs.declared.operation.JumpCode.{JumpCode}
 use Rattle.bpf_isa.specs.declared.operation.Src.{Src}
 use Rattle.bpf_isa.specs.declared.operation.Src.TheVariants.{K, X}
-use Rattle.bpf_isa.specs.declared.operation.Op.TheVariants.{Jump}
+use Rattle.bpf_isa.specs.declared.operation.Op.TheVariants.{Ja, Jump}
 use Rattle.bpf_isa.specs.declared.instruction.Insn.{Insn}
 use Rattle.xdp_maps.specs.declared.decl.MapDecl.{MapDecl}
 use Rattle.xdp_machine.specs.State.{Machine, PacketIn}
@@ -29,7 +29,7 @@ use Rattle.held_cells.specs.declared.way.Exit.{Exit}
 use Rattle.held_cells.specs.Held.{PointerView, AreInside}
 use Rattle.held_cells.specs.Carrying.{IsKnown}
 use Rattle.held_cells.specs.Steps.{IsLeft}
-use Rattle.edge_cells.specs.Testing.{Tests}
+use Rattle.edge_cells.specs.Testing.{IsReady, Tests}
 
 -- the cell of the second operand, or its pointer; an immediate number has none
 abbrev pub operand_held : Held → Insn → Src → ℕ
@@ -88,6 +88,18 @@ EdgesAreKnown =
     → IsKnown decls packet v ps node k h m → node ≤ to → i.op ≡ Jump w c s → verdict (effect_of decls k i) ≡ passed
     → compared w c (machine.register m.registers i.dst) (step.operand m.registers i s) ≡ Some taken
     → IsKnown decls packet v ps to (transferred decls k i node false taken) h (record m { place = place })
+
+-- The same along the edge of a jump without a condition.
+abbrev pub SingleEdgesAreKnown : Type 0
+SingleEdgesAreKnown =
+    (decls : List MapDecl) (packet : PacketIn) (v : ℕ → ℕ) (ps : List PointerView) (node to place : ℕ) (k : Kinds) (h : Held) (m : Machine) (i : Insn) (w : Width) (taken : Bool)
+    → IsKnown decls packet v ps node k h m → node ≤ to → i.op ≡ Ja w → IsKnown decls packet v ps to (transferred decls k i node false taken) h (record m { place = place })
+
+-- What the operands of a jump take is there.
+abbrev pub OperandsAreReady : Type 0
+OperandsAreReady =
+    (decls : List MapDecl) (n : ℕ) (ps : List PointerView) (k : Kinds) (h : Held) (i : Insn) (s : Src) → AreInside decls n ps h k → i.dst ≤ 10 → i.src ≤ 10
+    → IsReady n ps (register k i.dst) (slice_index h.registers i.dst) × IsReady n ps (operand k i s) (operand_held h i s)
 
 -- The cells of an end hold what the packet leaves there.
 abbrev pub EndsAreLeft : Type 0

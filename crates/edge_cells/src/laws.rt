@@ -2,7 +2,7 @@
 
 ghost use Rattle.edge_cells.specs.Widening.{JoinsWiden, JoinsAreFilled};
 ghost use Rattle.edge_cells.specs.Joining.{HereIsRight};
-ghost use Rattle.edge_cells.specs.Leaving.{JumpsAreTested, EdgesAreInside, EdgesAreKnown, EndsAreLeft};
+ghost use Rattle.edge_cells.specs.Leaving.{JumpsAreTested, EdgesAreInside, EdgesAreKnown, SingleEdgesAreKnown, OperandsAreReady, EndsAreLeft};
 
 /// What is known where edges meet says no more than what is known on each.
 pub fn joins_widen()
@@ -36,6 +36,18 @@ pub fn edges_are_known()
     kind_core::laws::conditions_are_sound();
     kind_core::laws::later_describes();
 }
+
+/// The same along the edge of a jump without a condition.
+pub fn single_edges_are_known()
+    ensures { SingleEdgesAreKnown }
+{
+    kind_core::laws::later_describes();
+}
+
+/// What the operands of a jump take is there.
+pub fn operands_are_ready()
+    ensures { OperandsAreReady }
+{}
 
 /// The cells of an end hold what the packet leaves there.
 pub fn ends_are_left()
