@@ -14,6 +14,7 @@
 //!
 //!     text                begins it anew
 //!     | LINE              adds a line
+//!     times N TEXT        adds a text N times
 //!     put NAME            adds a text that is kept
 //!     keep NAME           keeps it by this name
 //!     replace OLD => NEW  puts NEW in place of the first OLD in it

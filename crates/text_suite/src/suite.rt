@@ -40,6 +40,7 @@ impl Suite {
             "==" => Ok(rt.println(row)?),
             "text" => self.begin(),
             "|" => self.add_line(rest),
+            "times" => self.add_often(rest),
             "put" => self.put(rest),
             "keep" => self.keep(rest),
             "replace" => self.replace(rest),
@@ -76,6 +77,16 @@ impl Suite {
     fn add_line(&mut self, line: &str) -> Result<()> {
         self.text.push_str(line)?;
         self.text.push('\n')?;
+        Ok(())
+    }
+
+    // Adds a text as often as a row says, which has a number in front of it.
+    fn add_often(&mut self, rest: &str) -> Result<()> {
+        let (count, part) = rest.split_once(' ').context("a number and a text")?;
+        let part = self.plain(part)?;
+        for _ in 0..count.parse::<u32>()? {
+            self.text.push_str(part.as_str())?;
+        }
         Ok(())
     }
 
