@@ -1,4 +1,5 @@
 pub mod Values
+pub mod SpelledLaws
 pub mod Sites
 pub mod Kept
 pub mod Running

@@ -9,13 +9,10 @@ use Rattle.cell_core.specs.declared.site.Site.{Site}
 use Rattle.cell_core.specs.View.{site_of}
 use Rattle.cell_core.specs.Sites.{SiteView, site_at, no_site, spelled, bytes_of, records, operation_on, applied, after}
 use Rattle.cell_core.specs.Cells.{on}
+use Rattle.cell_core.proofs.SpelledLaws.{spelled_length}
 use Rattle.xdp_maps.specs.Operations.{operated}
 use Rattle.std.specs.Prelude.{if◌then◌else◌, ◌&&◌, ◌==◌, not}
 use Rattle.std.proofs.lemmas.Bool.{eqb-true}
-
-pub spelled_length : (xs : List ℕ) → length (spelled xs) ≡ 8 * length xs
-spelled_length [] = refl
-spelled_length (x ∷ xs) = omega (arith, spelled_length xs)
 
 pub bytes_length : (n : ℕ) (xs : List ℕ) → n ≤ 8 * length xs → length (bytes_of n xs) ≡ n
 bytes_length n xs h = length-take-le n (spelled xs) (omega (arith, spelled_length xs))

@@ -1,8 +1,6 @@
 -- What the steps of a tree give is its value.
-use Rattle.std.specs.Prelude.{nat_lt, nat_le}
-use Rattle.std.proofs.Common.{◌≡◌, ℕ, ◌+◌, ◌*◌, ◌^◌, ◌<◌, ◌≤◌, ◌/◌, ◌%◌, ◌&&◌, length, get_or, refl, sym, ap, ◌∙◌, subst, arith}
+use Rattle.std.proofs.Common.{◌≡◌, ℕ, ◌+◌, ◌*◌, ◌^◌, ◌<◌, ◌≤◌, ◌/◌, ◌%◌, length, get_or, refl, sym, ap, ◌∙◌, subst, arith}
 use Rattle.std.proofs.Math.Path.{fun_ext}
-use Rattle.std.proofs.lemmas.Bool.{lt-ltb, le-leb, cond-true}
 use Rattle.std.proofs.lemmas.Nat.{pow-add}
 use Rattle.std.proofs.Math.Nat.{div-le_self, mod-le}
 use Rattle.net_core.specs.declared.tree.Word.{Word}
@@ -13,7 +11,7 @@ use Rattle.net_core.specs.Nets.{Tree, TConst, TBit, TPartSelect, TMemoryWord, TU
 use Rattle.net_core.specs.Value.{apply, apply_unary, part_select, concatenated, conditional, word, value, concatenated_parts, right_value}
 use Rattle.net_core.specs.Width.{const_width, same_width, part_select_width, concatenation_width, width_of, parts_width}
 use Rattle.net_core.specs.Suits.{IsOfWidth}
-use Rattle.net_core.proofs.WidthLaws.{const_parts, part_select_parts, same_parts, concatenation_parts}
+use Rattle.net_core.proofs.WidthLaws.{const_parts, part_select_parts, same_parts, concatenation_parts, concatenation_is}
 use Rattle.clock_sim.specs.declared.step.Opcode.TheVariants.{Quotient, Remainder}
 use Rattle.clock_sim.specs.declared.builder.Operand.{Operand}
 use Rattle.clock_sim.specs.Steps.{worked, run}
@@ -82,9 +80,6 @@ concatenated_assoc a b c =
   where
     shifted : (x y z p q r : ℕ) → r ≡ p * q → (x * p + y) * q + z ≡ x * r + (y * q + z)
     shifted x y z p q r e = rw e (grind arith)
-
-concatenation_is : (a b : ℕ) → 0 < a → 0 < b → a + b ≤ 64 → concatenation_width a b ≡ a + b
-concatenation_is a b l r most = cond-true (nat_lt 0 a && (nat_lt 0 b && nat_le (a + b) 64)) (a + b) 0 (rw (lt-ltb 0 a l, lt-ltb 0 b r, le-leb (a + b) 64 most) refl)
 
 -- a word before others can be put before the first of them
 record Regroups (a b c : ℕ) : Type 0 where

@@ -3,6 +3,7 @@ pub mod JoinLaws
 pub mod Order
 pub mod JoinOrder
 pub mod Described
+pub mod TestLaws
 pub mod Sound
 pub mod SoundPointers
 pub mod MachineSteps

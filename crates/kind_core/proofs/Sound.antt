@@ -16,17 +16,6 @@ use Rattle.kind_core.specs.Describes.{World, Describes, DescribesNumber}
 abbrev pub Gives : World → MapState → Option Value → Kind → Type 0
 Gives w maps o k = (v : Value) × (o ≡ Some v) × Describes w maps k v
 
-pub bind_passed : {A B : Type 0} (r : Result A Why) (f : A → Result B Why) (b : B) → (r >>= f) ≡ Ok b → (a : A) × (r ≡ Ok a) × (f a ≡ Ok b)
-bind_passed (Ok a) f b h = (a, refl, h)
-bind_passed (Err e) f b h = cc
-
-pub bind_ok : {A B : Type 0} (r : Result A Why) (f : A → Result B Why) (P : B → Type 0) → ((a : A) → r ≡ Ok a → IfOk (f a) P) → IfOk (r >>= f) P
-bind_ok (Ok a) f P h = h a refl
-bind_ok (Err e) f P h = tt
-
-pub bind_all : {A B : Type 0} (r : Result A Why) (f : A → Result B Why) (P : B → Type 0) → ((a : A) → IfOk (f a) P) → IfOk (r >>= f) P
-bind_all r f P h = bind_ok r f P (λ a _. h a)
-
 -- what is known of a number holds of it
 abbrev pub NumberIs : Number → ℕ → Type 0
 NumberIs (Known a) y = y ≡ a

@@ -33,7 +33,8 @@ use Rattle.kind_core.specs.Profile.{writes_destination, writes_source, in_profil
 use Rattle.kind_core.specs.Effects.{effect_as, effect_of}
 use Rattle.kind_core.specs.Describes.{World, Describes, DescribesMachine}
 use Rattle.kind_core.specs.Soundness.{Stands, AtomicsAreSound}
-use Rattle.kind_core.proofs.Sound.{bind_ok, bind_passed, numbered}
+use Rattle.kind_core.proofs.Sound.{numbered}
+use Rattle.kind_core.proofs.TestLaws.{bind_ok, bind_passed}
 use Rattle.kind_core.proofs.SoundLoads.{in_packet_is, aligned_is, either_decl, some_bytes}
 use Rattle.kind_core.proofs.SoundRegisters.{Leaves, set_described}
 use Rattle.kind_core.proofs.Kept.{kept_machine, map_kept, with_value_keeps}

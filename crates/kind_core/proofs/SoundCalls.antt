@@ -42,7 +42,8 @@ use Rattle.kind_core.specs.Effects.{effect_as, effect_of}
 use Rattle.kind_core.specs.Edges.{refined, refined_all, changed}
 use Rattle.kind_core.specs.Describes.{World, Describes, DescribesMachine, IsEntry}
 use Rattle.kind_core.specs.Soundness.{Stands, IsLater, IsNext, CallsAreSound}
-use Rattle.kind_core.proofs.Sound.{bind_ok, bind_passed, number_of, is_number}
+use Rattle.kind_core.proofs.Sound.{number_of, is_number}
+use Rattle.kind_core.proofs.TestLaws.{bind_ok, bind_passed}
 use Rattle.kind_core.proofs.SoundLoads.{within_is, in_packet_is}
 use Rattle.kind_core.proofs.MachineSteps.{inside_at}
 use Rattle.kind_core.proofs.MachineCalls.{bytes_there, packet_region, stack_region, lookup_there, after_update, after_delete, update_there, delete_there, redirect_there}

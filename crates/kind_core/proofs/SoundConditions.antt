@@ -35,7 +35,8 @@ use Rattle.kind_core.specs.Effects.{operand, jump, effect_as, effect_of}
 use Rattle.kind_core.specs.Edges.{refined, refined_all, raised, on_edge, changed, decision, decided_as}
 use Rattle.kind_core.specs.Describes.{World, Describes, DescribesNumber, DescribesMachine}
 use Rattle.kind_core.specs.Soundness.{ConditionsAreSound}
-use Rattle.kind_core.proofs.Sound.{bind_ok, number_of}
+use Rattle.kind_core.proofs.Sound.{number_of}
+use Rattle.kind_core.proofs.TestLaws.{bind_ok}
 use Rattle.kind_core.proofs.SoundRegisters.{operand_described}
 
 -- ---- what is learnt of the answer of a lookup

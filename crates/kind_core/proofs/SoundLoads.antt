@@ -28,7 +28,8 @@ use Rattle.kind_core.specs.Tests.{◌>>=◌, readable, number_in, within, aligne
 use Rattle.kind_core.specs.Places.{in_packet, in_stack, in_value}
 use Rattle.kind_core.specs.Access.{context_field, from_slot, found, loaded, loaded_plain, loaded_signed}
 use Rattle.kind_core.specs.Describes.{World, Describes, DescribesMachine}
-use Rattle.kind_core.proofs.Sound.{Gives, bind_ok, bind_passed, number_of, of_number, one_is}
+use Rattle.kind_core.proofs.Sound.{Gives, number_of, of_number, one_is}
+use Rattle.kind_core.proofs.TestLaws.{bind_ok, bind_passed}
 use Rattle.kind_core.proofs.MachineSteps.{some_of, aligned_at, from_frame_at, from_stack_at, from_entry_at, signed_load}
 
 -- where an access lies that is inside

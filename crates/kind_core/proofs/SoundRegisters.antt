@@ -34,7 +34,8 @@ use Rattle.kind_core.specs.Effects.{operand, assigned, renumbered, effect_as, ef
 use Rattle.kind_core.specs.Edges.{constant, changed}
 use Rattle.kind_core.specs.Describes.{World, Describes, DescribesMachine}
 use Rattle.kind_core.specs.Soundness.{Stands, at_reference, RegistersAreSound}
-use Rattle.kind_core.proofs.Sound.{Gives, bind_ok, bind_passed, number_of, of_number, one_is}
+use Rattle.kind_core.proofs.Sound.{Gives, number_of, of_number, one_is}
+use Rattle.kind_core.proofs.TestLaws.{bind_ok, bind_passed}
 use Rattle.kind_core.proofs.SoundPointers.{combined_sound}
 use Rattle.kind_core.proofs.SoundLoads.{loaded_plain_sound, loaded_signed_sound}
 use Rattle.kind_core.proofs.MachineSteps.{assigned_at, changed_number, renumbered_is}

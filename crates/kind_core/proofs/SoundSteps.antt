@@ -36,7 +36,8 @@ use Rattle.kind_core.specs.Effects.{jump, effect_as, effect_of, verdict}
 use Rattle.kind_core.specs.Edges.{changed, changed_if, decided_as}
 use Rattle.kind_core.specs.Describes.{World, DescribesMachine}
 use Rattle.kind_core.specs.Soundness.{Stands, at_reference, is_store, IsNext, target, Leads, GoesOn, StepsAreSound}
-use Rattle.kind_core.proofs.Sound.{bind_all, bind_passed, numbered}
+use Rattle.kind_core.proofs.Sound.{numbered}
+use Rattle.kind_core.proofs.TestLaws.{bind_all, bind_passed}
 use Rattle.kind_core.proofs.SoundRegisters.{registers_are_sound}
 use Rattle.kind_core.proofs.SoundStores.{stores_are_sound}
 use Rattle.kind_core.proofs.SoundAtomics.{atomics_are_sound}

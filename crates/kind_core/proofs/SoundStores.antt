@@ -34,7 +34,8 @@ use Rattle.kind_core.specs.Profile.{in_profile, keeps_stack_end, reads_destinati
 use Rattle.kind_core.specs.Effects.{immediate, effect_as, effect_of}
 use Rattle.kind_core.specs.Describes.{World, Describes}
 use Rattle.kind_core.specs.Soundness.{Stands, at_reference, is_store, StoresAreSound}
-use Rattle.kind_core.proofs.Sound.{bind_ok, bind_passed, NumberIs, number_of, of_number, numbered, two_is, held_is}
+use Rattle.kind_core.proofs.Sound.{NumberIs, number_of, of_number, numbered, two_is, held_is}
+use Rattle.kind_core.proofs.TestLaws.{bind_ok, bind_passed}
 use Rattle.kind_core.proofs.SoundLoads.{in_packet_is, aligned_is, either_decl, some_bytes}
 use Rattle.kind_core.proofs.SoundRegisters.{Leaves}
 use Rattle.kind_core.proofs.Kept.{kept_machine, frame_machine, slot_machine, map_kept, with_value_keeps}

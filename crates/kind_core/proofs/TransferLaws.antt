@@ -33,7 +33,7 @@ use Rattle.kind_core.specs.Calls.{helper_of, called, answer_of, change_of, decla
 use Rattle.kind_core.specs.Profile.{profiled}
 use Rattle.kind_core.specs.Effects.{alu, assigned, effect_as, effect_of, immediate}
 use Rattle.kind_core.specs.Edges.{refined, agrees, on_edge, raised, changed, changed_if, transferred}
-use Rattle.kind_core.proofs.Sound.{bind_all}
+use Rattle.kind_core.proofs.TestLaws.{bind_all}
 
 -- ---- sizes
 

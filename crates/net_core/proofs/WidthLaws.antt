@@ -1,7 +1,7 @@
 -- A well typed tree's value has the tree's width, where each net's value has its width.
 use Rattle.std.specs.Prelude.{◌==◌, nat_lt, nat_le, if◌then◌else◌, bit_and, bit_or, bit_xor}
 use Rattle.std.proofs.Common.{◌≡◌, ℕ, ◌+◌, ◌-◌, ◌*◌, ◌/◌, ◌%◌, ◌^◌, ◌<◌, ◌≤◌, Bool, true, false, ◌&&◌, refl, sym, ◌∙◌, subst, arith}
-use Rattle.std.proofs.lemmas.Bool.{eqb-true, ltb-true, leb-true, and_parts}
+use Rattle.std.proofs.lemmas.Bool.{eqb-true, ltb-true, lt-ltb, leb-true, le-leb, and_parts}
 use Rattle.std.proofs.lemmas.Bool.Decides.{nat_tests}
 use Rattle.std.proofs.lemmas.Nat.{pow_pos, or_lt, xor_lt, and_le_l, shr_le, mod_below}
 use Rattle.std.proofs.Math.Nat.{div-le_self, mod-le}
@@ -15,6 +15,10 @@ use Rattle.net_core.specs.Value.{word, bit, apply, apply_unary, concatenated, pa
 use Rattle.net_core.specs.Width.{Fits, Scope, same_width, test_width, shift_width, op_width, unary_width, const_width, part_select_width, memory_word_width, conditional_width, concatenation_width, width_of, parts_width, right_width}
 use Rattle.net_core.specs.Suits.{IsOfWidth, Suits}
 use Rattle.net_core.proofs.LowBitsLaws.{concatenated_small}
+
+-- widths whose sum is one are added
+pub concatenation_is : (a b : ℕ) → 0 < a → 0 < b → a + b ≤ 64 → concatenation_width a b ≡ a + b
+concatenation_is a b p q r = rw (lt-ltb 0 a p, lt-ltb 0 b q, le-leb (a + b) 64 r) refl
 
 -- ---- what a width says of its parts
 pub record Same (a b w : ℕ) : Type 0 where

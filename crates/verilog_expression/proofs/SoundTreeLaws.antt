@@ -55,9 +55,6 @@ whole_sum n h = by_test (nat_le n 64) refl
     by_test true e = (leb-true n 64 e, rw e refl)
     by_test false e = let k = rw e at h in absurd (omega arith)
 
-concatenation_parts_width : (a b : ℕ) → 0 < a → 0 < b → a + b ≤ 64 → concatenation_width a b ≡ a + b
-concatenation_parts_width a b p q r = rw (lt-ltb 0 a p, lt-ltb 0 b q, le-leb (a + b) 64 r) refl
-
 -- ---- texts from their parts
 pub then_text : (a t1 t2 ts : List Lexeme) → ts ≡ a ++ t1 → t1 ≡ t2 → ts ≡ a ++ t2
 then_text a t1 t2 ts p q = p ∙ ap (λ (t : List Lexeme). a ++ t) q
@@ -273,7 +270,7 @@ module _ (name : Net → List ℕ) (s : Scope Net) (k : Sorts Net) where
           text = more_text (tree_lexemes name a.tree) (parts_lexemes name ps.0.0.parts) t0 ts ps.0.1 f.text g.text;
           deep = let h : parts_depth ps.0.0.parts ≤ d = g.deep in let l : depth a.tree ≤ d = f.deep in omega arith;
           apart = and_from _ _ f.apart g.apart;
-          width = λ (h : a.width + ps.0.0.width ≤ 64). rw (f.width, g.width (omega arith)) (concatenation_parts_width a.width ps.0.0.width i j h);
+          width = λ (h : a.width + ps.0.0.width ≤ 64). rw (f.width, g.width (omega arith)) (concatenation_is a.width ps.0.0.width i j h);
           some = omega arith;
           known = and_from _ _ f.known g.known;
         })
