@@ -1,5 +1,5 @@
 -- What a helper's answer carries.
-use Rattle.std.proofs.Common.{◌≡◌, ℕ, zero, suc, ◌+◌, ◌^◌, ◌<◌, ◌≤◌, ◌==◌, ℤ, pos, if◌then◌else◌, Bool, true, false, Option, Some, None, Ok, List, [], ◌∷◌, length, drop, get_or, set as set_list, slice_index, slice_set, refl, sym, ◌∙◌, ap, subst, arith}
+use Rattle.std.proofs.Common.{◌≡◌, ℕ, zero, suc, ◌+◌, ◌^◌, ◌<◌, ◌≤◌, ◌==◌, ℤ, pos, if◌then◌else◌, Bool, true, false, Some, None, Ok, List, [], ◌∷◌, length, drop, get_or, set as set_list, slice_index, slice_set, refl, sym, ◌∙◌, ap, subst, arith}
 use Rattle.std.proofs.lemmas.List.{get_or-set_same, get_or-set_other, get_or-drop}
 use Rattle.std.proofs.lemmas.Bool.Decides.{nat_tests}
 use Rattle.std.specs.Int.{w64, cast_unsigned}
@@ -27,7 +27,7 @@ use Rattle.kind_core.specs.Edges.{transferred, changed_if}
 use Rattle.cell_core.specs.Cells.{CellView, IsRun, bit, on}
 use Rattle.operator_cells.specs.Making.{Grows}
 use Rattle.held_cells.specs.declared.held.Held.{Held}
-use Rattle.held_cells.specs.Held.{PointerView, Holds, Counts, AreHeld, AreInside}
+use Rattle.held_cells.specs.Held.{PointerView, Holds, Counts, AreInside}
 use Rattle.held_cells.specs.Carrying.{IsKnown, Carries}
 use Rattle.xdp_machine.specs.Arithmetic.{low}
 use Rattle.register_cells.proofs.Finding.{low_same}

@@ -1,5 +1,5 @@
 -- A destination that is given a value carries what cells hold behind the instruction.
-use Rattle.std.proofs.Common.{IfOk, ◌≡◌, ◌≢◌, ◌⊎◌, inl, inr, ℕ, suc, ◌+◌, ◌<◌, ◌≤◌, ◌==◌, if◌then◌else◌, Bool, true, false, cond, Option, Some, None, Result, Ok, Err, List, [], length, get_or, set as set_list, slice_index, slice_set, refl, sym, ◌∙◌, ap, subst, arith}
+use Rattle.std.proofs.Common.{IfOk, ◌≡◌, ◌≢◌, ℕ, ◌<◌, ◌≤◌, ◌==◌, if◌then◌else◌, Bool, true, false, Option, Some, None, Result, Ok, Err, List, [], length, get_or, set as set_list, slice_index, slice_set, refl, sym, ◌∙◌, ap, subst, arith}
 use Rattle.std.proofs.lemmas.List.{get_or-set_same, get_or-set_other}
 use Rattle.bpf_isa.specs.declared.operation.Op.{Op}
 use Rattle.bpf_isa.specs.declared.operation.Op.TheVariants.{Alu, Neg, End, Swap, LoadImm, Load, LoadSigned}
@@ -7,8 +7,8 @@ use Rattle.bpf_isa.specs.declared.instruction.Insn.{Insn}
 use Rattle.xdp_maps.specs.declared.decl.MapDecl.{MapDecl}
 use Rattle.xdp_machine.specs.Values.{Value, ◌>>=◌}
 use Rattle.xdp_machine.specs.Values as is
-use Rattle.xdp_machine.specs.State.{Machine, PacketIn, register, put, with_registers}
-use Rattle.xdp_machine.specs.Step.{effect, assigned}
+use Rattle.xdp_machine.specs.State.{Machine, PacketIn, put, with_registers}
+use Rattle.xdp_machine.specs.Step.{effect}
 use Rattle.kind_core.specs.declared.kind.Kind.{Kind}
 use Rattle.kind_core.specs.declared.why.Why.{Why}
 use Rattle.kind_core.specs.declared.kind.Kind.TheVariants.{Unset, Num, Maybe, Entry}
@@ -18,18 +18,15 @@ use Rattle.kind_core.specs.Kinds.{with_register}
 use Rattle.kind_core.specs.Profile.{writes_destination}
 use Rattle.kind_core.specs.Profile as profile
 use Rattle.kind_core.specs.Tests.{passed}
-use Rattle.kind_core.specs.Tests as tests
 use Rattle.kind_core.specs.Effects.{effect_of, effect_as, verdict}
 use Rattle.kind_core.specs.Effects as effects
 use Rattle.kind_core.specs.Edges.{transferred, changed_if}
-use Rattle.kind_core.specs.Soundness.{at_reference}
-use Rattle.cell_core.specs.Cells.{CellView, IsRun}
-use Rattle.operator_cells.specs.Making.{Grows}
+use Rattle.cell_core.specs.Cells.{CellView}
 use Rattle.held_cells.specs.declared.held.Held.{Held}
 use Rattle.held_cells.specs.Held.{PointerView, IsPointer, Holds, Counts, AreHeld, AreInside}
-use Rattle.held_cells.specs.Carrying.{IsKnown, Gives, Carries}
+use Rattle.held_cells.specs.Carrying.{Gives, Carries}
 use Rattle.register_cells.specs.Giving.{given, given_kind}
-use Rattle.register_cells.proofs.Growing.{by_test, bind_passed}
+use Rattle.register_cells.proofs.Growing.{bind_passed}
 
 pointer_more : (decls : List MapDecl) (n m q : ℕ) (p : PointerView) → n ≤ m → IsPointer decls n q p → IsPointer decls m q p
 pointer_more decls n m q p l i = record { found = omega (arith, l, i.found); key = λ j d h. omega (arith, l, i.key j d h); enough = i.enough }

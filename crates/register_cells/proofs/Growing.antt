@@ -1,5 +1,5 @@
 -- More cells, and tests.
-use Rattle.std.proofs.Common.{◌≡◌, ℕ, ◌<◌, ◌≤◌, Bool, true, false, Result, Ok, Err, IfOk, refl, ◌∙◌, List, length, arith}
+use Rattle.std.proofs.Common.{◌≡◌, ℕ, ◌≤◌, Bool, true, false, Result, Ok, Err, IfOk, refl, ◌∙◌, List, arith}
 use Rattle.xdp_machine.specs.State.{PacketIn}
 use Rattle.kind_core.specs.declared.number.Number.{Number}
 use Rattle.kind_core.specs.declared.number.Number.TheVariants.{Known, Unknown}
@@ -27,14 +27,6 @@ makes_after before made same = record {
   there = made.there;
   value = λ packet v r. made.value packet v r ∙ same packet v (made.grows.run packet v r);
 }
-
-pub makes_as : {a b : List CellView} {c : ℕ} {f g : PacketIn → (ℕ → ℕ) → ℕ} → Makes a b c f
-    → ((packet : PacketIn) (v : ℕ → ℕ) → IsRun packet a v → f packet v ≡ g packet v) → Makes a b c g
-makes_as made same = makes_after grown_none made same
-
-pub there_more : (n m : ℕ) (x : Number) (c : ℕ) → n ≤ m → IsThere n x c → IsThere m x c
-there_more n m (Known a) c h t = tt
-there_more n m Unknown c h t = omega (arith, h, t)
 
 pub by_test : (P : Bool → Type 0) (b : Bool) → (b ≡ true → P true) → (b ≡ false → P false) → P b
 by_test P true f g = f refl

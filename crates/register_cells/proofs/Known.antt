@@ -1,5 +1,5 @@
 -- What is known of the values that an instruction reads.
-use Rattle.std.proofs.Common.{◌≡◌, ◌⊎◌, inl, inr, ℕ, zero, suc, ◌^◌, ◌<◌, ◌≤◌, ℤ, pos, negsuc, ◌%◌, ◌-◌, ◌≢◌, Bool, true, false, Option, Some, None, Result, Ok, Err, IfOk, List, [], ◌∷◌, length, get_or, slice_index, refl, sym, ◌∙◌, ap, subst, arith}
+use Rattle.std.proofs.Common.{◌≡◌, ◌⊎◌, inl, inr, ℕ, zero, suc, ◌^◌, ◌<◌, ◌≤◌, ℤ, pos, ◌≢◌, Bool, true, false, Option, Ok, IfOk, List, [], ◌∷◌, length, get_or, slice_index, refl, sym, ◌∙◌, ap, subst, arith}
 use Rattle.std.proofs.lemmas.Bool.{cases_lt}
 use Rattle.std.specs.Int.{w64, cast_unsigned}
 use Rattle.bpf_isa.specs.declared.operation.Src.{Src}
@@ -94,12 +94,6 @@ pub operand_read : (decls : List MapDecl) (packet : PacketIn) (v : ℕ → ℕ) 
 operand_read decls packet v ps node k h m i K fits known l = (refl, fits)
 operand_read decls packet v ps node k h m i X fits known l = register_read decls packet v ps node k h m i.src known l
 
--- what is there has the cell of its number
-pub counts_number : (decls : List MapDecl) (n : ℕ) (ps : List PointerView) (x : Kind) (c : ℕ) → Counts decls n ps x c → HasNumber n x c
-counts_number decls n ps (Num Unknown) c h = h
-counts_number decls n ps (Num (Known a)) c h = tt
-counts_number decls n ps x c h = tt
-
 pub frame_short : (decls : List MapDecl) (packet : PacketIn) (v : ℕ → ℕ) (ps : List PointerView) (node : ℕ) (k : Kinds) (h : Held) (m : Machine) → IsKnown decls packet v ps node k h m → length packet.frame < 2 ^ 63
 frame_short decls packet v ps node k h m known = omega (arith, known.held.length_is, known.in_range.frame_short)
 
@@ -113,26 +107,6 @@ gives_yielded decls ps node k h a p b q old new x c f s t read yields = record {
   counts = yields.counts;
   holds = λ packet v m y run known e. let r = read packet v m known in yields.holds packet v (s m) (t m) y run (frame_short decls packet v ps node k h m known) r.0 r.1 e;
 }
-
--- a number in a register that is known yields what the instruction makes of it
-pub gives_number : (decls : List MapDecl) (ps : List PointerView) (node : ℕ) (k : Kinds) (h : Held) (i : Insn) (n : Number) (old new : List CellView) (c : ℕ) (f : ℕ → ℕ) → i.dst ≤ 10 → kinds.register k i.dst ≡ Num n
-    → Finds old new (from_one f n) c (λ packet v. f (number_of v n (slice_index h.registers i.dst)))
-    → IfOk (effects.renumbered k i (from_one f)) (λ x. Gives decls ps node k h old new x c (λ m. given_number m i f))
-gives_number decls ps node k h i n old new c f dst is found =
-    subst (λ (a : Kind). IfOk (tests.number_in a >>= (λ z. Ok (Num (from_one f z)))) (λ x. Gives decls ps node k h old new x c (λ m. given_number m i f))) (sym is)
-    (gives_yielded decls ps node k h (Num n) (slice_index h.registers i.dst) (Num n) (slice_index h.registers i.dst) old new (Num (from_one f n)) c (λ s t. numbered f t)
-    (λ m. register m.registers i.dst) (λ m. register m.registers i.dst)
-    (λ packet v m known.
-    let r = subst (λ (a : Kind). IsRead decls packet v ps a (slice_index h.registers i.dst) (register m.registers i.dst)) is (register_read decls packet v ps node k h m i.dst known dst) in (r, r))
-    (yields_one f f (λ s t. numbered f t) decls ps old new (Num n) (slice_index h.registers i.dst) n (slice_index h.registers i.dst) c (λ s z l. refl) found))
-
-pub gives_none : (decls : List MapDecl) (ps : List PointerView) (node : ℕ) (k : Kinds) (h : Held) (i : Insn) (old new : List CellView) (c : ℕ) (f : ℕ → ℕ) (g : Number → Number) → ((n : Number) → kinds.register k i.dst ≢ Num n)
-    → IfOk (effects.renumbered k i g) (λ x. Gives decls ps node k h old new x c (λ m. given_number m i f))
-gives_none decls ps node k h i old new c f g other = by (kinds.register k i.dst) other
-  where
-    by : (a : Kind) → ((n : Number) → a ≢ Num n) → IfOk (tests.number_in a >>= (λ z. Ok (Num (g z)))) (λ x. Gives decls ps node k h old new x c (λ m. given_number m i f))
-    by (Num n) other = absurd (other n refl)
-    by a other = tt
 
 pub operand_counts : (decls : List MapDecl) (n : ℕ) (ps : List PointerView) (h : Held) (k : Kinds) (i : Insn) (s : Src) → i.src ≤ 10 → AreInside decls n ps h k → Counts decls n ps (effects.operand k i s) (slice_index h.registers i.src)
 operand_counts decls n ps h k i K l inside = tt

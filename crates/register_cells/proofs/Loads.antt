@@ -1,11 +1,10 @@
 -- Loads.
-use Rattle.std.proofs.Common.{◌≡◌, ◌≢◌, ℕ, zero, suc, ◌+◌, ◌-◌, ◌*◌, ◌/◌, ◌%◌, ◌^◌, ◌<◌, ◌≤◌, ◌==◌, ℤ, pos, negsuc, ◌+ℤ◌, nat_le, if◌then◌else◌, Bool, true, false, cond, Option, Some, None, Result, Ok, Err, IfOk, List, [], ◌∷◌, length, take, drop, slice_range, slice_index, get_or, All, map as map_list, refl, sym, ◌∙◌, ap, subst, arith}
+use Rattle.std.proofs.Common.{◌≡◌, ◌≢◌, ℕ, zero, suc, ◌+◌, ◌-◌, ◌/◌, ◌%◌, ◌<◌, ◌≤◌, ◌==◌, ℤ, pos, negsuc, ◌+ℤ◌, nat_le, Bool, true, false, Option, Some, None, IfOk, List, [], ◌∷◌, length, drop, slice_range, slice_index, get_or, All, map as map_list, refl, sym, ◌∙◌, ap, subst, arith}
 use Rattle.std.proofs.lemmas.List.{get_or_default, get_or-take, get_or-drop, get_or-map, length-take, length-drop}
-use Rattle.std.specs.Ordering.{int_eq}
 use Rattle.std.specs.Prelude.{◌⊎◌}
 use Rattle.std.proofs.Common.{inl, inr}
 use Rattle.std.proofs.lemmas.Bool.{cases_lt}
-use Rattle.byteorder.specs.Endian.{little_number, little_bytes, little_from}
+use Rattle.byteorder.specs.Endian.{little_number, little_from}
 use Rattle.bpf_isa.specs.declared.operation.Size.{Size}
 use Rattle.bpf_isa.specs.declared.operation.Size.TheVariants.{B, H, W, Dw}
 use Rattle.xdp_maps.specs.declared.decl.MapDecl.{MapDecl}
@@ -14,13 +13,10 @@ use Rattle.xdp_machine.specs.Values as is
 use Rattle.xdp_machine.specs.State.{Machine, PacketIn, register}
 use Rattle.xdp_machine.specs.Memory.{bytes_in, number_at, inside, aligned}
 use Rattle.xdp_machine.specs.Memory as machine
-use Rattle.kind_core.specs.declared.number.Number.{Number}
-use Rattle.kind_core.specs.declared.number.Number.TheVariants.{Known, Unknown}
+use Rattle.kind_core.specs.declared.number.Number.TheVariants.{Unknown}
 use Rattle.kind_core.specs.declared.kind.Kind.{Kind}
-use Rattle.kind_core.specs.declared.kind.Kind.TheVariants.{Unset, Num, Packet, End, Stack, Ctx, Maybe, Entry}
+use Rattle.kind_core.specs.declared.kind.Kind.TheVariants.{Unset, Num, Packet, Stack, Ctx, Entry}
 use Rattle.kind_core.specs.declared.kind.Kinds.{Kinds}
-use Rattle.kind_core.specs.declared.why.Why.{Why}
-use Rattle.kind_core.specs.declared.why.Why.TheVariants as why
 use Rattle.kind_core.specs.Tests.{◌>>=◌, within}
 use Rattle.kind_core.specs.Tests as tests
 use Rattle.kind_core.specs.Kinds as kinds
@@ -31,15 +27,13 @@ use Rattle.register_cells.specs.Giving.{given}
 use Rattle.kind_core.specs.Places as places
 use Rattle.kind_core.specs.Access as kind
 use Rattle.cell_core.specs.Cells.{CellView, IsRun}
-use Rattle.operator_cells.specs.Making.{Grows, Makes, MakesIf}
+use Rattle.operator_cells.specs.Making.{Grows, MakesIf}
 use Rattle.held_cells.specs.declared.held.Held.{Held}
-use Rattle.held_cells.specs.Held.{PointerView, Holds, Counts, AreInside}
+use Rattle.held_cells.specs.Held.{PointerView}
 use Rattle.held_cells.specs.Carrying.{IsKnown, Gives}
-use Rattle.register_cells.specs.Reading.{Finds, IsRead, Yields}
-use Rattle.register_cells.proofs.Growing.{grown_none, by_test, bind_ok, ok_map}
-use Rattle.register_cells.proofs.Finding.{low_same}
+use Rattle.register_cells.specs.Reading.{Yields}
+use Rattle.register_cells.proofs.Growing.{bind_ok, ok_map}
 use Rattle.register_cells.proofs.Known.{slot_read, gives_yielded}
-use Rattle.register_cells.proofs.Yielding.{yields_one, read_holds}
 
 -- ---- numbers of bytes
 

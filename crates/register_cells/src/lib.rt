@@ -1,4 +1,8 @@
-//! The cells of instructions that read no map.
+//! The cells of instructions that read no map: arithmetic, byte orders, constants, loads from the packet, the stack and the context, and the
+//! helpers for the time and for redirects.
+//!
+//! Each `carry_` function adds the cells of one instruction and changes what is held: its contract, `Carries`, says that these cells hold the
+//! machine behind the instruction wherever the old ones held the one before. A value whose kind says what it is has no cell.
 #![tactic(auto)]
 
 pub mod computing;

@@ -184,3 +184,24 @@ pub fn carry_load(
     held.registers[insn.dst as usize] = c;
     Ok(())
 }
+
+/// An instruction that writes its destination and reads no entry of a map, but for loads that extend the sign.
+pub fn carry_register(
+    cells: &mut Vec<Cell>,
+    held: &mut Held,
+    kinds: &Kinds,
+    insn: &Insn,
+) -> Result<(), AllocError>
+    requires insn { IsInsn insn.now }
+    requires writes { writes_destination insn.now.op ≡ true }
+    requires unsigned { (size : Size) → insn.now.op ≢ Op.LoadSigned size }
+    requires formed { AreFormed (seen cells.old.items) }
+    requires inside { (decls : List MapDecl) × (ps : List PointerView) × AreInside decls (length (seen cells.old.items)) ps held.old kinds.now }
+    requires plain { (size : Size) (q o : ℕ) → insn.now.op ≡ Op.Load size → kind.register kinds.now insn.now.src ≢ kind_is.Entry q o }
+    ensures { (decls : List MapDecl) (ps : List PointerView) (node : ℕ) (is_ref : Bool) → verdict (effect_of decls kinds.now insn.now) ≡ passed → AreInside decls (length (seen cells.old.items)) ps held.old kinds.now → OnOk result (Carries decls ps insn.now node is_ref false kinds.now held.old held.new (seen cells.old.items) (seen cells.new.items)) }
+{
+    match insn.op {
+        Op::Load(size) => carry_load(cells, held, kinds, insn, size),
+        _ => carry_computed(cells, held, kinds, insn),
+    }
+}

@@ -1,4 +1,4 @@
-use Rattle.std.proofs.Common.{◌∙◌, ◌<◌, sym, refl, ap, arith}
+use Rattle.std.proofs.Common.{arith}
 use Rattle.register_cells.proofs.Answering.{answer_carried, time_answers, time_is, time_low}
 use Rattle.register_cells.proofs.helpers.carry_time.Goals as goal
 

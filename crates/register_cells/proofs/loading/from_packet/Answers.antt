@@ -1,4 +1,4 @@
-use Rattle.std.proofs.Common.{◌∙◌, sym, ap, refl, to_z-of_z, ℕ, ◌+◌, slice_range}
+use Rattle.std.proofs.Common.{sym, ap, to_z-of_z, ℕ, ◌+◌, slice_range}
 use Rattle.register_cells.proofs.Loads.{packet_gives, packet_none}
 use Rattle.register_cells.proofs.loading.from_packet.Goals as goal
 

@@ -1,4 +1,4 @@
-use Rattle.std.proofs.Common.{◌∙◌, ◌<◌, ◌/◌, sym, arith, to_z-of_z}
+use Rattle.std.proofs.Common.{◌<◌, ◌/◌, sym, arith, to_z-of_z}
 use Rattle.register_cells.proofs.Loads.{stack_gives, stack_none, some_bytes}
 use Rattle.register_cells.proofs.loading.from_stack.Goals as goal
 

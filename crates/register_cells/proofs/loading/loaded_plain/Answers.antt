@@ -1,4 +1,4 @@
-use Rattle.std.proofs.Common.{refl, to_z-of_z}
+use Rattle.std.proofs.Common.{to_z-of_z}
 use Rattle.std.specs.Int.{w16}
 use Rattle.register_cells.proofs.Loads.{load_packet, load_stack, load_context, load_other}
 use Rattle.register_cells.proofs.loading.loaded_plain.Goals as goal

@@ -1,5 +1,3 @@
-use Rattle.std.proofs.Common.{◌≡◌, Ok, IfOk, subst, List, ℕ}
-use Rattle.register_cells.specs.Giving.{given, given_kind}
 use Rattle.register_cells.proofs.Carrying.{carried_by}
 use Rattle.register_cells.proofs.registers.carry_computed.Goals as goal
 

@@ -1,4 +1,4 @@
-use Rattle.std.proofs.Common.{◌≡◌, ap, sym, refl, ◌∙◌, Bool, true}
+use Rattle.std.proofs.Common.{ap}
 use Rattle.bpf_isa.specs.declared.operation.Op.TheVariants as op
 use Rattle.kind_core.specs.Profile.{writes_destination}
 use Rattle.register_cells.proofs.Carrying.{carried_by}

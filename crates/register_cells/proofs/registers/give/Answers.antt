@@ -1,4 +1,3 @@
-use Rattle.bpf_isa.specs.declared.operation.Src.TheVariants.{X}
 use Rattle.bpf_isa.specs.declared.operation.Op.TheVariants as op
 use Rattle.register_cells.proofs.Known.{give_as, gives_nothing}
 use Rattle.register_cells.proofs.registers.give.Goals as goal
