@@ -14,7 +14,7 @@ use Rattle.held_cells.specs.Held.{PointerView}
 use Rattle.held_cells.specs.Carrying.{IsKnown}
 use Rattle.held_cells.specs.Steps.{Leads, IsGood}
 use Rattle.edge_cells.specs.Meeting.{first_on}
-use Rattle.edge_cells.proofs.Growth.{grown_none}
+use Rattle.operator_cells.proofs.MakingLaws.{grown_none}
 use Rattle.edge_cells.specs.Joining.{any_on, Guards, LeadTo, HereIsRight}
 
 -- where an edge is on so is the first one that is on

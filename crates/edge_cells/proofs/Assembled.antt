@@ -25,7 +25,7 @@ use Rattle.edge_cells.specs.declared.part.Part.TheVariants.{Register, Slot, Byte
 use Rattle.edge_cells.specs.Widening.{Widens, AreWider, AreFilled}
 use Rattle.edge_cells.specs.Meeting.{IsPart, held_at, kind_at, IsSaid, Extends, AreWays, Meets, first_on}
 use Rattle.edge_cells.specs.Joining.{Guards, Joins}
-use Rattle.edge_cells.proofs.Growth.{grown}
+use Rattle.operator_cells.proofs.MakingLaws.{grown}
 use Rattle.edge_cells.proofs.Extending.{extends_none, holds_later, part_counts, inside_from_parts}
 use Rattle.edge_cells.proofs.Arriving.{first_below}
 

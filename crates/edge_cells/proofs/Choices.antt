@@ -16,7 +16,7 @@ use Rattle.held_cells.specs.declared.held.Held.{Held}
 use Rattle.held_cells.specs.Held.{number_of}
 use Rattle.edge_cells.specs.declared.part.Part.{Part}
 use Rattle.edge_cells.specs.Meeting.{Picks, first_on, kind_at, held_at, number_in}
-use Rattle.edge_cells.proofs.Growth.{grown, grown_none}
+use Rattle.operator_cells.proofs.MakingLaws.{grown, grown_none}
 
 -- a cell has what an edge brings, behind its bit
 pub record IsArm (cells : List CellView) (a : Arm) (e : Way) (brings : (ℕ → ℕ) → Way → ℕ) : Type 0 where

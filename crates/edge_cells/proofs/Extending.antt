@@ -17,6 +17,7 @@ use Rattle.held_cells.specs.Held.{PointerView, no_pointer, pointer_at, key_of, e
 use Rattle.edge_cells.specs.declared.part.Part.{Part}
 use Rattle.edge_cells.specs.declared.part.Part.TheVariants.{Register, Slot, Byte, Target}
 use Rattle.edge_cells.specs.Meeting.{Extends, AreWays, Meets, IsPart, kind_at, held_at}
+use Rattle.held_cells.proofs.PointerLaws.{pointer_later}
 
 pub extends_none : (ps : List PointerView) → Extends ps ps
 extends_none ps = record { more = []; is = sym (append-nil ps) }
@@ -30,17 +31,14 @@ same_pointer ps qs c e h = ap (λ (xs : List PointerView). pointer_at xs c) e.is
 longer : (ps qs : List PointerView) → Extends ps qs → length ps ≤ length qs
 longer ps qs e = omega (arith, ap length e.is, length-append ps e.more)
 
-is_pointer_later : (decls : List MapDecl) (n m q : ℕ) (p : PointerView) → n ≤ m → IsPointer decls n q p → IsPointer decls m q p
-is_pointer_later decls n m q p h i = record { found = omega (arith, i.found, h); key = λ j d l. omega (arith, i.key j d l, h); enough = i.enough }
-
-pointer_later : (decls : List MapDecl) (n m q c : ℕ) (ps qs : List PointerView) → n ≤ m → Extends ps qs → (c < length ps) × IsPointer decls n q (pointer_at ps c) → (c < length qs) × IsPointer decls m q (pointer_at qs c)
-pointer_later decls n m q c ps qs h e k =
-    (omega (arith, k.0, longer ps qs e), subst (λ (p : PointerView). IsPointer decls m q p) (sym (same_pointer ps qs c e k.0)) (is_pointer_later decls n m q (pointer_at ps c) h k.1))
+pointer_kept : (decls : List MapDecl) (n m q c : ℕ) (ps qs : List PointerView) → n ≤ m → Extends ps qs → (c < length ps) × IsPointer decls n q (pointer_at ps c) → (c < length qs) × IsPointer decls m q (pointer_at qs c)
+pointer_kept decls n m q c ps qs h e k =
+    (omega (arith, k.0, longer ps qs e), subst (λ (p : PointerView). IsPointer decls m q p) (sym (same_pointer ps qs c e k.0)) (pointer_later decls n m q (pointer_at ps c) h k.1))
 
 pub counts_later : (decls : List MapDecl) (n m : ℕ) (ps qs : List PointerView) (x : Kind) (c : ℕ) → n ≤ m → Extends ps qs → Counts decls n ps x c → Counts decls m qs x c
 counts_later decls n m ps qs (Num Unknown) c h e k = omega (arith, k, h)
-counts_later decls n m ps qs (Maybe q j) c h e k = pointer_later decls n m q c ps qs h e k
-counts_later decls n m ps qs (Entry q o) c h e k = pointer_later decls n m q c ps qs h e k
+counts_later decls n m ps qs (Maybe q j) c h e k = pointer_kept decls n m q c ps qs h e k
+counts_later decls n m ps qs (Entry q o) c h e k = pointer_kept decls n m q c ps qs h e k
 counts_later decls n m ps qs (Num (Known a)) c h e k = tt
 counts_later decls n m ps qs (Packet o) c h e k = tt
 counts_later decls n m ps qs End c h e k = tt

@@ -5,16 +5,7 @@ use Rattle.cell_core.specs.Cells.{CellView}
 use Rattle.operator_cells.specs.Making.{Grows, Makes}
 use Rattle.held_cells.specs.declared.way.Way.{Way}
 use Rattle.edge_cells.specs.Meeting.{Picks}
-
-pub grown : {a b c : List CellView} → Grows a b → Grows b c → Grows a c
-grown g h = record {
-  longer = omega (arith, g.longer, h.longer);
-  formed = λ f. h.formed (g.formed f);
-  run = λ packet v r. g.run packet v (h.run packet v r);
-}
-
-pub grown_none : {a : List CellView} → Grows a a
-grown_none = record { longer = omega arith; formed = λ f. f; run = λ packet v r. r }
+use Rattle.operator_cells.proofs.MakingLaws.{grown}
 
 pub makes_after : {a b d : List CellView} {c : ℕ} {f : PacketIn → (ℕ → ℕ) → ℕ} → Grows a b → Makes b d c f → Makes a d c f
 makes_after g m = record { grows = grown g m.grows; there = m.there; value = m.value }

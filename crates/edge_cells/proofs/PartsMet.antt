@@ -21,7 +21,7 @@ use Rattle.edge_cells.specs.declared.part.Part.{Part}
 use Rattle.edge_cells.specs.declared.part.Part.TheVariants.{Register, Slot, Byte, Target}
 use Rattle.edge_cells.specs.Widening.{Widens, AreWider}
 use Rattle.edge_cells.specs.Meeting.{IsPart, held_at, kind_at, number_in, number_brought, BringNumbers, cell_in, BringCells, Picks, PicksPointer, words_of, is_known, is_unknown, map_of, IsSaid, AreWays, MeetsMore, first_on}
-use Rattle.edge_cells.proofs.Growth.{grown_none}
+use Rattle.operator_cells.proofs.MakingLaws.{grown_none}
 use Rattle.edge_cells.proofs.Words.{bytes_same}
 use Rattle.edge_cells.proofs.Extending.{extends_none, extended, same_pointer, part_counts}
 use Rattle.edge_cells.proofs.Arriving.{first_below}

@@ -15,7 +15,8 @@ use Rattle.edge_cells.specs.Meeting.{held_at, cell_in, cell_brought, BringCells,
 use Rattle.kind_core.specs.declared.kind.Kind.{Kind}
 use Rattle.kind_core.specs.declared.kind.Kind.TheVariants.{Maybe}
 use Rattle.edge_cells.specs.Testing.{HasPointer, found_of}
-use Rattle.edge_cells.proofs.Growth.{grown, picks_after, picks_before}
+use Rattle.edge_cells.proofs.Growth.{picks_after, picks_before}
+use Rattle.operator_cells.proofs.MakingLaws.{grown}
 
 pub pointed_length : (ps : List Pointer) → length (pointed ps) ≡ length ps
 unfolding pointed

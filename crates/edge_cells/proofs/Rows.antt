@@ -13,7 +13,7 @@ use Rattle.held_cells.specs.Held.{PointerView}
 use Rattle.edge_cells.specs.declared.part.Part.{Part}
 use Rattle.edge_cells.specs.declared.part.Part.TheVariants.{Register, Slot, Byte, Target}
 use Rattle.edge_cells.specs.Meeting.{kind_at, Extends, Meets, MeetsMore, MeetRow}
-use Rattle.edge_cells.proofs.Growth.{grown, grown_none}
+use Rattle.operator_cells.proofs.MakingLaws.{grown, grown_none}
 use Rattle.edge_cells.proofs.Extending.{extends_none, extended, meets_later}
 use Rattle.edge_cells.proofs.Assembled.{AreMet}
 

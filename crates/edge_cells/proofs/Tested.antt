@@ -23,7 +23,8 @@ use Rattle.operator_cells.specs.Making.{Makes, operated}
 use Rattle.held_cells.specs.Held.{PointerView, pointer_at, key_of, number_of, IsThere}
 use Rattle.edge_cells.specs.Testing.{is_order, is_equality, is_equal, is_open, null_holds, place_of, found_of, HasPointer, IsReady, is_number, Tests}
 use Rattle.edge_cells.specs.Meeting.{number_in}
-use Rattle.edge_cells.proofs.Growth.{grown}
+use Rattle.operator_cells.proofs.MakingLaws.{grown}
+use Rattle.operator_cells.proofs.MakingLaws.{not_bit}
 
 pub bit_small : (b : Bool) → bit b < 2
 bit_small true = omega arith
@@ -105,10 +106,6 @@ not_not false = refl
 zero_is : (n : ℕ) → n < 2 ^ 64 → (low 64 n == low 64 0) ≡ not (on n)
 zero_is zero h = refl
 zero_is (suc n) h = ap (λ (m : ℕ). m == 0) (low_same (suc n) h) ∙ sym (not_not (suc n == 0))
-
-not_bit : (b : Bool) → low 1 (2 ^ 64 - 1 - bit b) ≡ bit (not b)
-not_bit true = refl
-not_bit false = refl
 
 -- a value of a cell that was there, against the constant 0
 null_bit : (old mid : List CellView) (z f : ℕ) → ValuesFit → AreFormed old → f < length old → Makes old mid z (operated (Constant 0) [] 0 1)

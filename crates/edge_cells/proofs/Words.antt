@@ -4,14 +4,11 @@ use Rattle.std.proofs.lemmas.List.{take-append-le}
 use Rattle.byteorder.specs.Endian.{little_bytes}
 use Rattle.xdp_maps.proofs.ByteLaws.{IsBytes-little_bytes}
 use Rattle.cell_core.specs.Sites.{spelled, bytes_of}
+use Rattle.cell_core.proofs.SpelledLaws.{spelled_length}
 
 spelled_append : (xs ys : List ℕ) → spelled (xs ++ ys) ≡ spelled xs ++ spelled ys
 spelled_append [] ys = refl
 spelled_append (x ∷ xs) ys = ap (λ (bs : List ℕ). little_bytes 8 x ++ bs) (spelled_append xs ys) ∙ sym (append_assoc (little_bytes 8 x) (spelled xs) (spelled ys))
-
-spelled_length : (xs : List ℕ) → length (spelled xs) ≡ 8 * length xs
-spelled_length [] = refl
-spelled_length (x ∷ xs) = omega (arith, length-append (little_bytes 8 x) (spelled xs), (IsBytes-little_bytes 8 x).len, spelled_length xs)
 
 prefix : (xs ys : List ℕ) → length xs ≤ length ys → ((j : ℕ) → j < length xs → get_or xs j 0 ≡ get_or ys j 0) → ys ≡ xs ++ drop (length xs) ys
 prefix [] ys h same = refl

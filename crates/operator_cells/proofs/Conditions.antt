@@ -15,6 +15,7 @@ use Rattle.std.specs.Int.Bits.{and_lt}
 use Rattle.cell_core.specs.Cells.{bit, joined, bits_from}
 use Rattle.operator_cells.specs.Comparing.{turned, is_signed, unsigned}
 use Rattle.operator_cells.proofs.Numbers.{from_zero, low_same, low_below}
+use Rattle.operator_cells.proofs.MakingLaws.{not_bit}
 
 pub low_bit : (b : Bool) → low 1 (bit b) ≡ bit b
 low_bit true = refl
@@ -22,10 +23,6 @@ low_bit false = refl
 
 pub bit_is : (b : Bool) → bits_from (bit b) 0 1 ≡ bit b
 bit_is b = from_zero (bit b) 1 ∙ low_bit b
-
-pub not_bit : (b : Bool) → low 1 (2 ^ 64 - 1 - bit b) ≡ bit (not b)
-not_bit true = refl
-not_bit false = refl
 
 -- what the cells of `turn` make
 turned_32 : (n : ℕ) → bits_from (joined 31 (low 1 (2 ^ 64 - 1 - bits_from n 31 1) ∷ bits_from n 0 31 ∷ [])) 0 32 ≡ turned 32 n

@@ -7,7 +7,7 @@ use Rattle.kind_core.specs.Edges.{agrees}
 use Rattle.cell_core.specs.Cells.{CellView, IsRun, bit, on, bits_from}
 use Rattle.operator_cells.specs.Making.{Grows, Makes, MakesIf}
 use Rattle.operator_cells.proofs.Growing.{grown}
-use Rattle.operator_cells.proofs.Conditions.{not_bit}
+use Rattle.operator_cells.proofs.MakingLaws.{not_bit}
 
 pub is_bit : (n : ℕ) → n < 2 → n ≡ bit (on n)
 is_bit zero h = refl

@@ -1,3 +1,4 @@
+pub mod MakingLaws
 pub mod Growing
 pub mod Numbers
 pub mod Conditions

@@ -103,9 +103,6 @@ operator_in_range alu.Or = tt
 operator_in_range alu.Xor = tt
 operator_in_range c = tt
 
-pub fits_64 : (packet : PacketIn) (cells : List CellView) (v : ℕ → ℕ) → ValuesFit → AreFormed cells → IsRun packet cells v → (a : ℕ) → a < length cells → v a < 2 ^ 64
-fits_64 packet cells v fit formed run a h = omega (arith, fit packet cells v run a h, pow-le-pow_right {n = 2} (omega arith) {i = (cell_at cells a).width} {j = 64} (formed.each a h).width)
-
 -- 0 less a number is the number with the other sign
 pub negated_is : (packet : PacketIn) (w : Width) (n nil x : ℕ) → nil ≡ bits_from 0 0 1 → x ≡ low (bits_in w) n → bits_from (number packet op.Sub (nil ∷ x ∷ [])) 0 (bits_in w) ≡ negated (bits_in w) n
 negated_is packet w n nil x e f =

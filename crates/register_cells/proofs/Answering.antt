@@ -34,7 +34,7 @@ use Rattle.register_cells.proofs.Finding.{low_same}
 use Rattle.held_cells.specs.Held.{number_of}
 use Rattle.register_cells.specs.Reading.{IsRead}
 use Rattle.register_cells.proofs.Known.{register_read}
-use Rattle.register_cells.proofs.Growing.{bind_passed}
+use Rattle.kind_core.proofs.TestLaws.{bind_passed}
 use Rattle.register_cells.proofs.Carrying.{inside_more, passed_ok}
 
 -- the answer is in the first of three lists, the next five have nothing, and the others stay

@@ -26,16 +26,14 @@ use Rattle.held_cells.specs.declared.held.Held.{Held}
 use Rattle.held_cells.specs.Held.{PointerView, IsPointer, Holds, Counts, AreHeld, AreInside}
 use Rattle.held_cells.specs.Carrying.{Gives, Carries}
 use Rattle.register_cells.specs.Giving.{given, given_kind}
-use Rattle.register_cells.proofs.Growing.{bind_passed}
-
-pointer_more : (decls : List MapDecl) (n m q : ℕ) (p : PointerView) → n ≤ m → IsPointer decls n q p → IsPointer decls m q p
-pointer_more decls n m q p l i = record { found = omega (arith, l, i.found); key = λ j d h. omega (arith, l, i.key j d h); enough = i.enough }
+use Rattle.kind_core.proofs.TestLaws.{bind_passed}
+use Rattle.held_cells.proofs.PointerLaws.{pointer_later}
 
 pub counts_more : (decls : List MapDecl) (n m : ℕ) (ps : List PointerView) (x : Kind) (c : ℕ) → n ≤ m → Counts decls n ps x c → Counts decls m ps x c
 counts_more decls n m ps (Num Unknown) c l h = omega (arith, l, h)
 counts_more decls n m ps (Num (Known a)) c l h = tt
-counts_more decls n m ps (Maybe q j) c l h = (h.0, pointer_more decls n m q _ l h.1)
-counts_more decls n m ps (Entry q o) c l h = (h.0, pointer_more decls n m q _ l h.1)
+counts_more decls n m ps (Maybe q j) c l h = (h.0, pointer_later decls n m q _ l h.1)
+counts_more decls n m ps (Entry q o) c l h = (h.0, pointer_later decls n m q _ l h.1)
 counts_more decls n m ps x c l h = tt
 
 pub inside_more : (decls : List MapDecl) (n m : ℕ) (ps : List PointerView) (h : Held) (k : Kinds) → n ≤ m → AreInside decls n ps h k → AreInside decls m ps h k

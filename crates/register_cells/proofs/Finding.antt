@@ -15,7 +15,7 @@ use Rattle.cell_core.specs.Formed.{AreFormed}
 use Rattle.operator_cells.specs.Making.{Makes}
 use Rattle.held_cells.specs.Held.{number_of}
 use Rattle.register_cells.specs.Reading.{Finds}
-use Rattle.register_cells.proofs.Growing.{grown_none}
+use Rattle.operator_cells.proofs.MakingLaws.{grown_none}
 
 pub low_same : (w n : ℕ) → n < 2 ^ w → low w n ≡ n
 low_same w n h = mod-eq_of_lt {n = n} {m = 2 ^ w} h

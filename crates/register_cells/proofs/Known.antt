@@ -43,7 +43,8 @@ use Rattle.xdp_machine.proofs.NumberLaws.{word_of}
 use Rattle.xdp_machine.specs.Pointers as pointers
 use Rattle.kind_core.specs.Pointers as kind
 use Rattle.register_cells.specs.Giving.{given}
-use Rattle.register_cells.proofs.Growing.{ok_map, grown_none}
+use Rattle.register_cells.proofs.Growing.{ok_map}
+use Rattle.operator_cells.proofs.MakingLaws.{grown_none}
 use Rattle.register_cells.proofs.Yielding.{yields_one}
 
 pub imm_fits : (op : Op) (z : ℤ) → FitsOp op z → cast_unsigned w64 z < 2 ^ 64

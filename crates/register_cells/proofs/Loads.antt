@@ -32,7 +32,8 @@ use Rattle.held_cells.specs.declared.held.Held.{Held}
 use Rattle.held_cells.specs.Held.{PointerView}
 use Rattle.held_cells.specs.Carrying.{IsKnown, Gives}
 use Rattle.register_cells.specs.Reading.{Yields}
-use Rattle.register_cells.proofs.Growing.{bind_ok, ok_map}
+use Rattle.register_cells.proofs.Growing.{ok_map}
+use Rattle.kind_core.proofs.TestLaws.{bind_ok}
 use Rattle.register_cells.proofs.Known.{slot_read, gives_yielded}
 
 -- ---- numbers of bytes

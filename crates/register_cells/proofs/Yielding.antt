@@ -29,7 +29,7 @@ use Rattle.cell_core.specs.Cells.{CellView}
 use Rattle.operator_cells.specs.Making.{Makes}
 use Rattle.held_cells.specs.Held.{PointerView, Holds, Counts, key_of, pointer_at, number_of}
 use Rattle.register_cells.specs.Reading.{Finds, IsRead, Yields, place_of}
-use Rattle.register_cells.proofs.Growing.{grown_none, by_test}
+use Rattle.operator_cells.proofs.MakingLaws.{grown_none}
 use Rattle.register_cells.proofs.Finding.{low_same}
 
 -- of one, whatever the other value is

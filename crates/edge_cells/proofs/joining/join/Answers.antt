@@ -1,4 +1,4 @@
-use Rattle.edge_cells.proofs.Growth.{grown}
+use Rattle.operator_cells.proofs.MakingLaws.{grown}
 use Rattle.edge_cells.proofs.Extending.{extended}
 use Rattle.edge_cells.proofs.Assembled.{joins_met}
 use Rattle.edge_cells.proofs.Rows.{rows_met}

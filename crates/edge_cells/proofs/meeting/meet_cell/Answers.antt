@@ -2,7 +2,7 @@ use Rattle.std.proofs.Common.{List, refl, sym, ap, subst}
 use Rattle.operator_cells.specs.declared.joining.Arm.{Arm}
 use Rattle.operator_cells.specs.Making.{seen, Makes}
 use Rattle.operator_cells.specs.Joining.{chosen, AreThere}
-use Rattle.edge_cells.proofs.Growth.{grown_none}
+use Rattle.operator_cells.proofs.MakingLaws.{grown_none}
 use Rattle.edge_cells.proofs.Choices.{arms_more, arms_there, arms_all, picks_chosen}
 use Rattle.edge_cells.proofs.Pointed.{cell_index, cell_long, cell_same, cell_inside}
 use Rattle.edge_cells.proofs.meeting.meet_cell.Goals as goal

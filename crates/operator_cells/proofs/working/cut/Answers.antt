@@ -1,6 +1,7 @@
 use Rattle.std.proofs.Common.{sym}
 use Rattle.operator_cells.proofs.Growing.{grown_none}
-use Rattle.operator_cells.proofs.Numbers.{low_same, fits_64}
+use Rattle.operator_cells.proofs.Numbers.{low_same}
+use Rattle.operator_cells.proofs.MakingLaws.{fits_64}
 use Rattle.operator_cells.proofs.working.cut.Goals as goal
 
 pub returns-in-Bits64 : goal.returns-in-Bits64

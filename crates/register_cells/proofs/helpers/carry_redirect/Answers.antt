@@ -1,5 +1,5 @@
 use Rattle.std.proofs.Common.{arith}
-use Rattle.register_cells.proofs.Growing.{grown}
+use Rattle.operator_cells.proofs.MakingLaws.{grown}
 use Rattle.register_cells.proofs.Answering.{answer_carried, redirect_answers, redirect_is, redirected_is, number_read}
 use Rattle.register_cells.proofs.helpers.carry_redirect.Goals as goal
 

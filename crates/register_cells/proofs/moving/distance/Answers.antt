@@ -1,6 +1,7 @@
 use Rattle.std.proofs.Common.{false}
 use Rattle.register_cells.specs.Reading.{place_of}
-use Rattle.register_cells.proofs.Growing.{grown, makes_after}
+use Rattle.register_cells.proofs.Growing.{makes_after}
+use Rattle.operator_cells.proofs.MakingLaws.{grown}
 use Rattle.register_cells.proofs.Finding.{low_less}
 use Rattle.register_cells.proofs.moving.distance.Goals as goal
 
