@@ -24,6 +24,8 @@ use Rattle.xdp_maps.specs.Calls.{array_refusal, update_error_as, updated, unless
 use Rattle.host_history.specs.Rows.{entry_of, bytes_of, row_length, row_length_as, contents_as}
 use Rattle.host_history.specs.Host.{cut_in_rows}
 use Rattle.port_drive.specs.Reading.{read_of, read_as, with_entry}
+use Rattle.xdp_maps.proofs.ChoiceLaws.{eq_equal, swapped, shadowed}
+use Rattle.xdp_maps.proofs.IndexLaws.{index_of-index_key}
 
 -- ---- words, row by row
 pub cut-append : (count n : ℕ) (a b : List ℕ) → length a ≡ count * n → cut_in_rows count n (a ++ b) ≡ cut_in_rows count n a
@@ -43,11 +45,6 @@ cut-step left count n row rest words more len is =
 -- ---- entries of a hash
 exact : IsAntisymmetric (slice_cmp nat_cmp)
 exact = slice_cmp-IsAntisymmetric nat_cmp-IsAntisymmetric
-
-equal : (r : Ordering) → IsTrue (is_eq r) → r ≡ Equal
-equal Less h = cc
-equal Equal h = refl
-equal Greater h = cc
 
 get_of : (es : List (List ℕ × List ℕ)) (q : List ℕ) → finite.get (finite.from_entries {R = slice_cmp nat_cmp} es) q ≡ find (slice_cmp nat_cmp) q es
 get_of es q = get-from_entries nat_list_cmp_total es q
@@ -71,7 +68,7 @@ find_first [] k v q w there = absurd (none_some w there)
     none_some w e = cc
 find_first (e ∷ es) k v q w there =
     elim (eq_by_cmp (slice_cmp nat_cmp) k e.0) as (λ b. eq_by_cmp (slice_cmp nat_cmp) k e.0 ≡ b → cond b (Some e.1) (find (slice_cmp nat_cmp) k es) ≡ Some w → find (slice_cmp nat_cmp) q ((e ∷ es) ++ (k, v) ∷ []) ≡ find (slice_cmp nat_cmp) q (e ∷ es)) [
-      | true ↦ λ tie _. tied_first e es k v q (exact k e.0 (equal _ tie))
+      | true ↦ λ tie _. tied_first e es k v q (exact k e.0 (eq_equal _ tie))
       | false ↦ λ _ later. ap (cond (eq_by_cmp (slice_cmp nat_cmp) q e.0) (Some e.1)) (find_first es k v q w later)
     ] refl there
 
@@ -126,32 +123,19 @@ room_left d rows = omega (arith, few_entries (flat_map (entry_of d) rows), few_s
 inside_array : (cap index : ℕ) (c new : Contents) → index < cap → unless (array_refusal cap index 0) c new ≡ new
 inside_array cap index c new lt = rw (lt-leb cap index lt) refl
 
-pub index_back : (i : ℕ) → i < 2 ^ 32 → index_of (index_key i) ≡ i
-unfolding index_of index_key
-index_back i h = little_number-reads_back 4 i [] h
-
 pub value_updated : (d : MapDecl) (c : Contents) (index : ℕ) (key value : List ℕ) → d.kind ≡ Array → key ≡ index_key index → index < d.cap → index < 2 ^ 32 → updated d c key value 0 ≡ finite.insert c (index_key index) value
 value_updated d c index key value array is lt few =
     ap (λ k. updated d c k value 0) is
     ∙ ap (λ k. unless (update_error_as k d c (index_key index) 0) c (finite.insert c (index_key index) value)) array
-    ∙ ap (λ i. unless (array_refusal d.cap i 0) c (finite.insert c (index_key index) value)) (index_back index few)
+    ∙ ap (λ i. unless (array_refusal d.cap i 0) c (finite.insert c (index_key index) value)) (index_of-index_key index few)
     ∙ inside_array d.cap index c (finite.insert c (index_key index) value) lt
 
 -- ---- values of an array
-shadowed : {A : Type 0} (b : Bool) (x y z : A) → cond b x z ≡ cond b x (cond b y z)
-shadowed true x y z = refl
-shadowed false x y z = refl
-
-swapped : {A : Type 0} (a b : Bool) (x y z : A) → (IsTrue a → IsTrue b → ⊥) → cond a x (cond b y z) ≡ cond b y (cond a x z)
-swapped true true x y z apart = absurd (apart refl refl)
-swapped true false x y z apart = refl
-swapped false b x y z apart = refl
-
 -- two indexes never tie with one key
 apart : (q : List ℕ) (i j : ℕ) → i < j → j < 2 ^ 32 → IsTrue (eq_by_cmp (slice_cmp nat_cmp) q (index_key i)) → IsTrue (eq_by_cmp (slice_cmp nat_cmp) q (index_key j)) → ⊥
 apart q i j lt few p r =
-    let same : index_key i ≡ index_key j = sym (exact q (index_key i) (equal _ p)) ∙ exact q (index_key j) (equal _ r) in
-    let clash : i ≡ j = sym (index_back i (omega arith)) ∙ ap index_of same ∙ index_back j few in
+    let same : index_key i ≡ index_key j = sym (exact q (index_key i) (eq_equal _ p)) ∙ exact q (index_key j) (eq_equal _ r) in
+    let clash : i ≡ j = sym (index_of-index_key i (omega arith)) ∙ ap index_of same ∙ index_of-index_key j few in
     omega arith
 
 -- a value written over another is found under its index

@@ -12,14 +12,12 @@ use Rattle.std.proofs.lemmas.Nat.{le_bytes_4}
 use Rattle.std.proofs.lemmas.Option.{slice_get-get_or}
 use Rattle.byteorder.specs.Numbers.{little_number-reads_back, little_from-lt}
 use Rattle.xdp_maps.specs.Contents.{index_key, index_of, indexed, array_of}
-use Rattle.xdp_maps.proofs.Entries.{swapped, eq_equal}
+use Rattle.xdp_maps.proofs.ChoiceLaws.{swapped, eq_equal}
 use Rattle.xdp_maps.proofs.Hashes.{order_total, order_exact}
+use Rattle.xdp_maps.proofs.ChoiceLaws.{shadowed}
+use Rattle.xdp_maps.proofs.IndexLaws.{index_of-index_key}
 
 -- an index is read back from its key
-pub index_of-index_key : (i : ℕ) → i < 2 ^ 32 → index_of (index_key i) ≡ i
-unfolding index_of index_key
-index_of-index_key i h = little_number-reads_back 4 i [] h
-
 -- and a key of four bytes from its index
 pub index_key-index_of : (key : List ℕ) → length key ≡ 4 → ((i : ℕ) → get_or key i 0 < 256) → index_key (index_of key) ≡ key
 unfolding index_of index_key
@@ -37,10 +35,6 @@ index_of-fits key fits = little_from-lt 0 4 key fits
 
 pub index_key-injective : (i j : ℕ) → i < 2 ^ 32 → j < 2 ^ 32 → index_key i ≡ index_key j → i ≡ j
 index_key-injective i j a b e = sym (index_of-index_key i a) ∙ ap index_of e ∙ index_of-index_key j b
-
-shadowed : {A : Type 0} (b : Bool) (x y z : A) → cond b x z ≡ cond b x (cond b y z)
-shadowed true x y z = refl
-shadowed false x y z = refl
 
 not_tied : (b : Bool) → (IsTrue b → ⊥) → b ≡ false
 not_tied b never = elim b as (λ x. (IsTrue x → ⊥) → x ≡ false) [ true ↦ λ n. absurd (n refl) | false ↦ λ _. refl ] never

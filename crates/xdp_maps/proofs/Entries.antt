@@ -10,16 +10,12 @@ use Rattle.std.specs.FinMap.{find, put, IsAntisymmetric}
 use Rattle.std.specs.FinMap.Entries.{below_all}
 use Rattle.std.proofs.lemmas.List.Sorted.{searchable_from_sorted}
 use Rattle.xdp_maps.specs.Layout.{IsRising, IsAt, IsGapFor}
+use Rattle.xdp_maps.proofs.ChoiceLaws.{eq_equal, swapped}
 
 lt_less : (r : Ordering) → IsTrue (is_lt r) → r ≡ Less
 lt_less Less h = refl
 lt_less Equal h = cc
 lt_less Greater h = cc
-
-pub eq_equal : (r : Ordering) → IsTrue (is_eq r) → r ≡ Equal
-eq_equal Less h = cc
-eq_equal Equal h = refl
-eq_equal Greater h = cc
 
 equal_not_greater : Equal ≡ Greater → ⊥
 equal_not_greater h = cc
@@ -35,11 +31,6 @@ right_of false b h = cc
 both : (a b : Bool) → IsTrue a → IsTrue b → IsTrue (a && b)
 both true b p q = q
 both false b p q = cc
-
-pub swapped : {A : Type 0} (a b : Bool) (x y z : A) → (IsTrue a → IsTrue b → ⊥) → cond a x (cond b y z) ≡ cond b y (cond a x z)
-swapped true true x y z apart = absurd (apart refl refl)
-swapped true false x y z apart = refl
-swapped false b x y z apart = refl
 
 less_flip : {K : Type 0} {order : K → K → Ordering} → IsTotalOrder order → (a b : K) → order a b ≡ Less → order b a ≡ Greater
 less_flip total a b h = total.antisymm b a ∙ ap ordering_reverse h

@@ -5,7 +5,7 @@ use Rattle.std.specs.Ordering.{eq_by_cmp, is_eq}
 use Rattle.std.specs.Cmp.{IsTotalOrder, tied_itself}
 use Rattle.std.specs.FinMap as map
 use Rattle.std.specs.FinMap.{IsAntisymmetric, get-insert, get-remove}
-use Rattle.xdp_maps.proofs.Entries.{eq_equal}
+use Rattle.xdp_maps.proofs.ChoiceLaws.{eq_equal}
 
 module _ {K : Type 0} (order : K → K → Ordering) (total : IsTotalOrder order) (exact : IsAntisymmetric order) where
   tied : (k : K) → eq_by_cmp order k k ≡ true

@@ -1,4 +1,6 @@
 pub mod ByteLaws
+pub mod ChoiceLaws
+pub mod IndexLaws
 pub mod Entries
 pub mod Hashes
 pub mod Refusals

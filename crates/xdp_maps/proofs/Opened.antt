@@ -11,9 +11,10 @@ use Rattle.xdp_maps.specs.declared.decl.MapKind.{MapKind}
 use Rattle.xdp_maps.specs.declared.decl.MapKind.TheVariants.{Hash, Array}
 use Rattle.xdp_maps.specs.declared.decl.MapDecl.{MapDecl}
 use Rattle.xdp_maps.specs.Contents.{IsBytes, IsOver, IsFilled_as, IsWithinLimits, TakesKey, TakesKey_as, limits_as, index_key, index_of, indexed, array_of, opened, opened_as}
-use Rattle.xdp_maps.proofs.Entries.{eq_equal}
+use Rattle.xdp_maps.proofs.ChoiceLaws.{eq_equal}
 use Rattle.xdp_maps.proofs.Hashes.{order_total, order_exact}
-use Rattle.xdp_maps.proofs.Arrays.{get_inside, index_of-index_key}
+use Rattle.xdp_maps.proofs.Arrays.{get_inside}
+use Rattle.xdp_maps.proofs.IndexLaws.{index_of-index_key}
 use Rattle.xdp_maps.proofs.ByteLaws.{IsBytes-little_bytes}
 
 -- an index's key is four bytes

@@ -14,7 +14,8 @@ use Rattle.xdp_maps.specs.declared.decl.MapDecl.{MapDecl}
 use Rattle.xdp_maps.specs.Contents.{Contents, IsBytes, limits_as, index_key, index_of}
 use Rattle.xdp_maps.specs.Calls.{entry_as}
 use Rattle.xdp_maps.specs.Layout.{IsRising, IsAt}
-use Rattle.xdp_maps.proofs.Entries.{eq_equal, find_at}
+use Rattle.xdp_maps.proofs.Entries.{find_at}
+use Rattle.xdp_maps.proofs.ChoiceLaws.{eq_equal}
 use Rattle.xdp_maps.proofs.Hashes.{order_total, order_exact, from_T}
 use Rattle.xdp_maps.proofs.Arrays.{index_key-index_of}
 use Rattle.xdp_maps.proofs.Opened.{bytes_below}

@@ -14,7 +14,8 @@ use Rattle.xdp_maps.specs.Contents.{IsBytes, IsOver, array_of, index_key}
 use Rattle.xdp_maps.specs.Calls.{entry_of, entry_as}
 use Rattle.xdp_maps.specs.Layout.{IsRising}
 use Rattle.xdp_maps.specs.Tables.{IsTable}
-use Rattle.xdp_maps.proofs.Arrays.{get-array_of, index_of-index_key}
+use Rattle.xdp_maps.proofs.Arrays.{get-array_of}
+use Rattle.xdp_maps.proofs.IndexLaws.{index_of-index_key}
 use Rattle.xdp_maps.proofs.Hashes.{order_total, order_exact, entries_of_rising, contains_at}
 use Rattle.xdp_maps.proofs.Opened.{IsBytes-index_key, bytes_below}
 

@@ -1,4 +1,5 @@
-use Rattle.xdp_maps.proofs.Arrays.{index_of-index_key, index_key-index_of}
+use Rattle.xdp_maps.proofs.Arrays.{index_key-index_of}
+use Rattle.xdp_maps.proofs.IndexLaws.{index_of-index_key}
 use Rattle.xdp_maps.proofs.Opened.{IsBytes-index_key, bytes_below}
 use Rattle.xdp_maps.proofs.laws.index_laws.Goals as goal
 
