@@ -90,7 +90,7 @@ slot_entry d es used words =
     slot : List (List ℕ × List ℕ)
     slot = (bytes_of d.key (take (beat_count d.key) words), bytes_of d.value (drop (beat_count d.key) words)) ∷ []
 
-pub slot_more : (d : MapDecl) (rows : List (List ℕ)) (row : List ℕ) → 0 < length row → with_entry (read_as Hash d rows) (entry_of d row) ≡ read_as Hash d (rows ++ row ∷ [])
+pub slot_more : (d : MapDecl) (rows : List (List ℕ)) (row : List ℕ) → 0 < length row → with_entry (read_as d rows Hash) (entry_of d row) ≡ read_as d (rows ++ row ∷ []) Hash
 slot_more d rows [] some = absurd (omega arith)
 slot_more d rows (used ∷ words) some =
     sym (ap finite.from_entries (flat_map-append (entry_of d) rows ((used ∷ words) ∷ [])) ∙ slot_entry d (flat_map (entry_of d) rows) used words)
@@ -116,7 +116,7 @@ few_slots : (d : MapDecl) (rows : List (List ℕ)) → length (flat_map (entry_o
 few_slots d [] = omega arith
 few_slots d (row ∷ rows) = omega (arith, length-append (entry_of d row) (flat_map (entry_of d) rows), few_in_row d row, few_slots d rows)
 
-pub room_left : (d : MapDecl) (rows : List (List ℕ)) → finite.len (read_as Hash d rows) ≤ length rows
+pub room_left : (d : MapDecl) (rows : List (List ℕ)) → finite.len (read_as d rows Hash) ≤ length rows
 room_left d rows = omega (arith, few_entries (flat_map (entry_of d) rows), few_slots d rows)
 
 -- ---- what an update does to an array
@@ -155,7 +155,7 @@ array_written a b k old new at few = same_map nat_list_cmp_total exact _ _ (λ q
     ∙ sym (get_of (indexed 0 (a ++ new ∷ b)) q ∙ find-written a b 0 k old new q (omega arith) few))
 
 -- the value under the next index
-pub value_more : (d : MapDecl) (rows : List (List ℕ)) (row : List ℕ) (index : ℕ) → length rows ≡ index → index < d.cap → index < 2 ^ 32 → finite.insert (read_as Array d rows) (index_key index) (bytes_of d.value row) ≡ read_as Array d (rows ++ row ∷ [])
+pub value_more : (d : MapDecl) (rows : List (List ℕ)) (row : List ℕ) (index : ℕ) → length rows ≡ index → index < d.cap → index < 2 ^ 32 → finite.insert (read_as d rows Array) (index_key index) (bytes_of d.value row) ≡ read_as d (rows ++ row ∷ []) Array
 value_more d rows row index at lt few =
     let zeros : List ℕ = replicate d.value 0 in
     let left : d.cap - length rows ≡ suc (d.cap - length (rows ++ row ∷ [])) = omega (arith, length-append rows (row ∷ [])) in
@@ -164,7 +164,7 @@ value_more d rows row index at lt few =
     ∙ ap array_of (sym (ap (λ l. l ++ replicate (d.cap - length (rows ++ row ∷ [])) zeros) (map-append (bytes_of d.value) rows (row ∷ [])) ∙ append_assoc (map (bytes_of d.value) rows) (bytes_of d.value row ∷ []) _))
 
 -- ---- before the first row and behind the last
-none_read : (kind : MapKind) (d : MapDecl) → opened_as kind d ≡ read_as kind d []
+none_read : (kind : MapKind) (d : MapDecl) → opened_as kind d ≡ read_as d [] kind
 none_read Hash d = refl
 none_read Array d = ap (λ n. array_of (replicate n (replicate d.value 0))) (omega arith)
 
@@ -172,7 +172,7 @@ pub opened_is : (d : MapDecl) → opened d ≡ read_of d []
 unfolding opened
 opened_is d = none_read d.kind d
 
-pub all_read : (kind : MapKind) (d : MapDecl) (rows : List (List ℕ)) → length rows ≡ d.cap → read_as kind d rows ≡ contents_as kind d rows
+pub all_read : (kind : MapKind) (d : MapDecl) (rows : List (List ℕ)) → length rows ≡ d.cap → read_as d rows kind ≡ contents_as kind d rows
 all_read Hash d rows all = refl
 all_read Array d rows all =
     let none : d.cap - length rows ≡ 0 = omega arith in
@@ -194,16 +194,16 @@ first_bytes b words i n all so_far le =
 -- ---- one more row
 pub room_before : (d : MapDecl) (c : Contents) (index : ℕ) → d.kind ≡ Hash → (rows : List (List ℕ)) × (length rows ≡ index) × (c ≡ read_of d rows) → index < d.cap → finite.len c < d.cap
 room_before d c index hash h lt =
-    let len : finite.len c ≡ finite.len (read_as Hash d h.0) = ap finite.len (h.2 ∙ ap (λ k. read_as k d h.0) hash) in
+    let len : finite.len c ≡ finite.len (read_as d h.0 Hash) = ap finite.len (h.2 ∙ ap (λ k. read_as d h.0 k) hash) in
     omega (arith, len, room_left d h.0, h.1)
 
 pub slot_step : (d : MapDecl) (c : Contents) (rows : List (List ℕ)) (row : List ℕ) → d.kind ≡ Hash → c ≡ read_of d rows → 0 < length row → with_entry c (entry_of d row) ≡ read_of d (rows ++ row ∷ [])
 slot_step d c rows row hash is some =
-    ap (λ x. with_entry x (entry_of d row)) (is ∙ ap (λ k. read_as k d rows) hash) ∙ slot_more d rows row some ∙ ap (λ k. read_as k d (rows ++ row ∷ [])) (sym hash)
+    ap (λ x. with_entry x (entry_of d row)) (is ∙ ap (λ k. read_as d rows k) hash) ∙ slot_more d rows row some ∙ ap (λ k. read_as d (rows ++ row ∷ []) k) (sym hash)
 
 pub value_step : (d : MapDecl) (c : Contents) (rows : List (List ℕ)) (row : List ℕ) (index : ℕ) → d.kind ≡ Array → c ≡ read_of d rows → length rows ≡ index → index < d.cap → index < 2 ^ 32 → finite.insert c (index_key index) (bytes_of d.value row) ≡ read_of d (rows ++ row ∷ [])
 value_step d c rows row index array is at lt few =
-    ap (λ x. finite.insert x (index_key index) (bytes_of d.value row)) (is ∙ ap (λ k. read_as k d rows) array) ∙ value_more d rows row index at lt few ∙ ap (λ k. read_as k d (rows ++ row ∷ [])) (sym array)
+    ap (λ x. finite.insert x (index_key index) (bytes_of d.value row)) (is ∙ ap (λ k. read_as d rows k) array) ∙ value_more d rows row index at lt few ∙ ap (λ k. read_as d (rows ++ row ∷ []) k) (sym array)
 
 pub row_some : (d : MapDecl) (row : List ℕ) → d.kind ≡ Hash → length row ≡ row_length d → 0 < length row
 row_some d row hash len = let long : row_length d ≡ 1 + beat_count d.key + beat_count d.value = ap (λ k. row_length_as k d) hash in omega arith

@@ -17,12 +17,12 @@ row_with Array key (Some value) = words_of value
 
 -- What is known of a map whose first rows were read: of a hash the entries of their used slots, of an array their values,
 -- and zeros under all other indexes.
-abbrev pub read_as : MapKind → MapDecl → List (List ℕ) → Contents
-read_as Hash d rows = map.from_entries (flat_map (entry_of d) rows)
-read_as Array d rows = array_of (map_list (bytes_of d.value) rows ++ replicate (d.cap - length rows) (replicate d.value 0))
+abbrev pub read_as : MapDecl → List (List ℕ) → MapKind → Contents
+read_as d rows Hash = map.from_entries (flat_map (entry_of d) rows)
+read_as d rows Array = array_of (map_list (bytes_of d.value) rows ++ replicate (d.cap - length rows) (replicate d.value 0))
 
 abbrev pub read_of : MapDecl → List (List ℕ) → Contents
-read_of d rows = read_as d.kind d rows
+read_of d rows = read_as d rows d.kind
 
 -- a hash with the entry of one more slot, if it has one: where the key is there already, what stands there counts
 abbrev pub with_entry : Contents → List (List ℕ × List ℕ) → Contents

@@ -1,4 +1,4 @@
-//! Cases of texts: tokens, faults, designs, clocks and drives.
+//! Cases of texts: tokens, faults, designs, clocks, drives, loads and dumps.
 //!
 //! The words of the program are names of files of cases, which it reads in order. Each row is a verb, a space, and what the
 //! verb takes; what a verb prints has the row in it. A text in a row is written as it is, but for `\n`, a line feed, and `\x`
@@ -43,6 +43,12 @@
 //!     drive I N T:FRAME ..  drives it from its first values by frames that come in by interface I, each at a time T, in at most N
 //!                         clocks: how that ends, and each answer, its verdict, its target and its bytes
 //!
+//! The maps of the text under way, and of what is open:
+//!
+//!     map KIND KEY VALUE CAPACITY  adds a map, `hash` or `array`, of keys and values of so many bytes
+//!     load LINE; LINE ..  loads maps that these lines of a text of maps list: `loaded`, or `x` and the wire whose divisor is zero
+//!     dump                the lines of the text of the maps that it shows, or `x` and the wire
+//!
 //! An edit is one of these. A net is `p`, `r`, `m` or `w` and the number of a port, a register, a memory or a wire.
 //!
 //!     nothing
@@ -75,6 +81,7 @@ mod drives;
 mod edits;
 mod escapes;
 mod faults;
+mod hosts;
 mod suite;
 mod tokens;
 mod trees;

@@ -6,11 +6,13 @@ use crate::drives::show_drive;
 use crate::edits::show_fault;
 use crate::escapes::{escaped, unescaped};
 use crate::faults::show_part;
+use crate::hosts::{decl_of, show_dump, show_load};
 use crate::tokens::{show_tokens, written_anew};
 use anyhow::{Context, Result, bail};
 use indexmap::IndexMap;
 use std::alloc::Global;
 use verilog_grammar::formed;
+use xdp_maps::decl::MapDecl;
 
 /// The text under way, texts that are kept by their names, and the design that runs.
 #[derive(Drop)]
@@ -19,6 +21,7 @@ pub(crate) struct Suite {
     text: String,
     kept: IndexMap<String, String>,
     running: Option<Running>,
+    decls: Vec<MapDecl>,
 }
 
 impl Suite {
@@ -29,6 +32,7 @@ impl Suite {
             text: String::new(alloc),
             kept: IndexMap::new(alloc),
             running: None,
+            decls: Vec::new(alloc),
         }
     }
 
@@ -46,6 +50,9 @@ impl Suite {
             "replace" => self.replace(rest),
             "open" => self.open(),
             "clock" => self.clock(rt, rest),
+            "map" => self.add_map(rest),
+            "load" => self.load(rt, rest),
+            "dump" => self.dump(rt),
             _ => self.show(rt, verb, rest),
         }
     }
@@ -71,6 +78,7 @@ impl Suite {
 
     fn begin(&mut self) -> Result<()> {
         self.text.clear();
+        self.decls.clear();
         Ok(())
     }
 
@@ -180,6 +188,21 @@ impl Suite {
     fn clock(&mut self, rt: &impl Print, rest: &str) -> Result<()> {
         let running = self.running.as_mut().context("nothing is open")?;
         running.show_clock(rt, self.alloc, rest)
+    }
+
+    fn add_map(&mut self, rest: &str) -> Result<()> {
+        self.decls.push(decl_of(self.decls.len(), rest)?)?;
+        Ok(())
+    }
+
+    fn load(&mut self, rt: &impl Print, rest: &str) -> Result<()> {
+        let running = self.running.as_mut().context("nothing is open")?;
+        show_load(rt, self.alloc, running, &self.decls, rest)
+    }
+
+    fn dump(&mut self, rt: &impl Print) -> Result<()> {
+        let running = self.running.as_mut().context("nothing is open")?;
+        show_dump(rt, self.alloc, running, &self.decls)
     }
 }
 
