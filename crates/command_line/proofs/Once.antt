@@ -29,16 +29,17 @@ one_optional_number values option low high usual a b small (inr g) (inl h) = abs
 one_optional_number values option low high usual a b small (inr g) (inr h) = g.1 ∙ sym h.1
 
 -- ---- what is asked for
-made : (object capture answer verdicts final_maps : List ℕ) → Names
-made o c n d f = record { object = o; capture = c; answer = n; verdicts = d; final_maps = f }
+made : (object capture answer verdicts final_maps : List ℕ) → Option (List ℕ) → Names
+made o c n d f m = record { object = o; capture = c; answer = n; verdicts = d; final_maps = f; maps = m }
 
-same_names : (a b : Names) → a.object ≡ b.object → a.capture ≡ b.capture → a.answer ≡ b.answer → a.verdicts ≡ b.verdicts → a.final_maps ≡ b.final_maps → a ≡ b
+same_names : (a b : Names) → a.object ≡ b.object → a.capture ≡ b.capture → a.answer ≡ b.answer → a.verdicts ≡ b.verdicts → a.final_maps ≡ b.final_maps → a.maps ≡ b.maps → a ≡ b
 unfolding made
-same_names a b o c n d f = λ i. made (o i) (c i) (n i) (d i) (f i)
+same_names a b o c n d f m = λ i. made (o i) (c i) (n i) (d i) (f i) (m i)
 
 one_names : (values : Values) (a b : Names) → GivesNames values a → GivesNames values b → a ≡ b
 one_names values a b g h = same_names a b
     (same_value _ a.object b.object g.object h.object) (same_value _ a.capture b.capture g.capture h.capture) (same_value _ a.answer b.answer g.answer h.answer) (same_value _ a.verdicts b.verdicts g.verdicts h.verdicts) (same_value _ a.final_maps b.final_maps g.final_maps h.final_maps)
+    (sym g.maps ∙ h.maps)
 
 -- the names that are given are apart where any are
 pub apart_of : (values : Values) (a b : Names) → GivesNames values a → GivesFiles values b → AreApart (files_of a)

@@ -24,12 +24,17 @@ run_form = record {
 }
 
 abbrev pub sim_form : CommandForm
-sim_form = record run_form { name = codes "sim"; required = codes "clocks" ∷ run_form.required }
+sim_form = record {
+  name = codes "sim";
+  required = codes "clocks" ∷ run_form.required;
+  optional = codes "maps" ∷ run_form.optional;
+}
 
 abbrev pub ref_form : CommandForm
-ref_form = record run_form {
+ref_form = record {
   name = codes "ref";
   required = codes "object" ∷ codes "capture" ∷ codes "answer" ∷ codes "verdicts" ∷ codes "final" ∷ [];
+  optional = codes "maps" ∷ run_form.optional;
 }
 
 abbrev pub commands : List CommandForm

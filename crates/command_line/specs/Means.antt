@@ -32,6 +32,7 @@ pub record GivesNames (values : Values) (names : Names) : Type 0 where
   pub answer : values (codes "answer") ≡ Some names.answer
   pub verdicts : values (codes "verdicts") ≡ Some names.verdicts
   pub final_maps : values (codes "final") ≡ Some names.final_maps
+  pub maps : values (codes "maps") ≡ names.maps
 
 pub record GivesFiles (values : Values) (names : Names) : Type 0 where
   pub gives_names : GivesNames values names

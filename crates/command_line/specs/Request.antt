@@ -1,17 +1,19 @@
 -- What the words of the program can ask for.
-use Rattle.std.specs.Prelude.{ℕ, List, [], ◌∷◌}
+use Rattle.std.specs.Prelude.{ℕ, List, [], ◌∷◌, Option, Some, None}
+use Rattle.std.specs.Option.{option_copied}
 use Rattle.xdp_object.specs.Choice.{Chosen, chosen_of}
 use Rattle.command_line.specs.declared.command.Files.{Files}
 use Rattle.command_line.specs.declared.command.Command.{Command}
 use Rattle.command_line.specs.declared.command.Command.TheVariants as command
 
--- the names of the files of a run, the Verilog text apart
+-- the names of the files of a run, the Verilog text apart; that of the maps that it starts from, if there is one
 pub record Names : Type 0 where
   pub object : List ℕ
   pub capture : List ℕ
   pub answer : List ℕ
   pub verdicts : List ℕ
   pub final_maps : List ℕ
+  pub maps : Option (List ℕ)
 
 -- to compile an object to a Verilog text; to do this and run the text over a capture; to run a Verilog text that is there for at
 -- most so many clocks; to run the object's program over a capture. The text's name stands behind those of the other files, the
@@ -29,6 +31,7 @@ names_of files = record {
   answer = files.answer.now;
   verdicts = files.verdicts.now;
   final_maps = files.final_maps.now;
+  maps = option_copied files.maps;
 }
 
 abbrev pub request_of : Command → Request
@@ -37,6 +40,11 @@ request_of (command.Run files verilog choice ifindex) = AskRun (names_of files) 
 request_of (command.Sim files verilog choice ifindex clocks) = AskSim (names_of files) verilog.now (chosen_of choice) ifindex clocks
 request_of (command.Ref files choice ifindex) = AskRef (names_of files) (chosen_of choice) ifindex
 
+-- a file that is named or not
+abbrev pub file_in : Option (List ℕ) → List (List ℕ)
+file_in (Some name) = name ∷ []
+file_in None = []
+
 -- these files, in the order of the options
 abbrev pub files_of : Names → List (List ℕ)
-files_of names = names.object ∷ names.capture ∷ names.answer ∷ names.verdicts ∷ names.final_maps ∷ []
+files_of names = names.object ∷ names.capture ∷ names.answer ∷ names.verdicts ∷ names.final_maps ∷ file_in names.maps

@@ -2,7 +2,8 @@
 
 use xdp_object::Choice;
 
-/// The files of a run, the Verilog text apart: what is read, and what is written. No two have the same name.
+/// The files of a run, the Verilog text apart: what is read, and what is written. No two have the same name. The maps that it starts
+/// from need no file.
 #[derive(Clone, Copy, PartialEq, Eq, Debug)]
 pub struct Files<'a> {
     pub object: &'a str,
@@ -10,6 +11,7 @@ pub struct Files<'a> {
     pub answer: &'a str,
     pub verdicts: &'a str,
     pub final_maps: &'a str,
+    pub maps: Option<&'a str>,
 }
 
 /// What the words ask for.

@@ -37,12 +37,12 @@ const COMMANDS: [CommandRow; 4] = [
         required: &[
             "clocks", "object", "capture", "verilog", "answer", "verdicts", "final",
         ],
-        optional: &["program", "hash-cap", "ifindex"],
+        optional: &["maps", "program", "hash-cap", "ifindex"],
     },
     CommandRow {
         name: "ref",
         required: &["object", "capture", "answer", "verdicts", "final"],
-        optional: &["program", "hash-cap", "ifindex"],
+        optional: &["maps", "program", "hash-cap", "ifindex"],
     },
 ];
 

@@ -24,7 +24,7 @@ const CLOCK_LIMIT: u32 = 500_000_000;
 /// - `ref`, as `run` without `--verilog`
 ///
 /// Each may have `--program NAME` and `--hash-cap N`, 1 to 1,024 and without it 256; all but `compile` may have `--ifindex N`, at most
-/// 4,294,967,295 and without it 1. A number stands in decimal without a needless zero in front, and no two file names of a command
+/// 4,294,967,295 and without it 1; `sim` and `ref` may have `--maps B`. A number stands in decimal without a needless zero in front, and no two file names of a command
 /// are equal. All else is [`WordsError::Usage`], a request for help too.
 pub fn read_words<'a>(alloc: Global, words: &'a Words) -> Result<Command<'a>, WordsError>
     ensures ok { IfOk result (λ command. AsksFor words.now (request_of command)) }

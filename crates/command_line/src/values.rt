@@ -1,9 +1,9 @@
 // The values of options.
 
-ghost use Rattle.std.specs.Prelude.{◌≡◌, ◌≢◌, ◌↔◌, ◌≤◌, ℕ, List, Some, map, codes, IfSome, IfNone, IsTrue};
+ghost use Rattle.std.specs.Prelude.{◌≡◌, ◌≢◌, ◌↔◌, ◌≤◌, ◌∷◌, ℕ, List, Some, map, codes, IfSome, IfNone, IsTrue};
 ghost use Rattle.std.specs.Option.{option_copied};
 ghost use Rattle.xdp_object.specs.Choice.{Chosen, chosen_of};
-ghost use Rattle.command_line.specs.Request.{Names, names_of};
+ghost use Rattle.command_line.specs.Request.{Names, names_of, files_of};
 ghost use Rattle.command_line.specs.Means.{AreApart, GivesFiles, GivesText, GivesNumber, GivesChosen, MayGiveNumber};
 ghost use Rattle.command_line.specs.Rows.{values_from};
 
@@ -74,16 +74,18 @@ pub(crate) fn read_files<'a>(matches: &ArgMatches<'a>) -> Option<Files<'a>>
     let answer = required(matches, "answer")?;
     let verdicts = required(matches, "verdicts")?;
     let final_maps = required(matches, "final")?;
-    if !are_apart(&[object, capture, answer, verdicts, final_maps]) {
-        return None;
-    }
-    Some(Files {
+    let files = Files {
         object,
         capture,
         answer,
         verdicts,
         final_maps,
-    })
+        maps: optional(matches, "maps"),
+    };
+    if !are_files_apart(&files) {
+        return None;
+    }
+    Some(files)
 }
 
 // The name of a run's Verilog text.
@@ -92,15 +94,7 @@ pub(crate) fn read_text<'a>(matches: &ArgMatches<'a>, files: &Files<'a>) -> Opti
     ensures none { IfNone result ((verilog : List ℕ) → ¬ GivesText (values_from matches.now) (names_of files.now) verilog) }
 {
     let verilog = required(matches, "verilog")?;
-    let names = [
-        verilog,
-        files.object,
-        files.capture,
-        files.answer,
-        files.verdicts,
-        files.final_maps,
-    ];
-    if !are_apart(&names) {
+    if !is_text_apart(verilog, files) {
         return None;
     }
     Some(verilog)
@@ -120,6 +114,42 @@ pub(crate) fn read_ifindex(matches: &ArgMatches<'_>) -> Option<u32>
     ensures none { IfNone result ((n : ℕ) → ¬ MayGiveNumber (values_from matches.now) (codes "ifindex") 0 4294967295 1 n) }
 {
     optional_number(matches, "ifindex", 0, u32::MAX, USUAL_IFINDEX)
+}
+
+// Whether no two of these files have one name.
+fn are_files_apart(files: &Files) -> bool
+    ensures { IsTrue result ↔ AreApart (files_of (names_of files.now)) }
+{
+    let Files {
+        object,
+        capture,
+        answer,
+        verdicts,
+        final_maps,
+        maps,
+    } = *files;
+    match maps {
+        Some(maps) => are_apart(&[object, capture, answer, verdicts, final_maps, maps]),
+        None => are_apart(&[object, capture, answer, verdicts, final_maps]),
+    }
+}
+
+// The same of these files and a Verilog text.
+fn is_text_apart(verilog: &str, files: &Files) -> bool
+    ensures { IsTrue result ↔ AreApart (verilog.now ∷ files_of (names_of files.now)) }
+{
+    let Files {
+        object,
+        capture,
+        answer,
+        verdicts,
+        final_maps,
+        maps,
+    } = *files;
+    match maps {
+        Some(maps) => are_apart(&[verilog, object, capture, answer, verdicts, final_maps, maps]),
+        None => are_apart(&[verilog, object, capture, answer, verdicts, final_maps]),
+    }
 }
 
 // Whether no two names are equal.

@@ -21,9 +21,9 @@ use Rattle.ehdl_top.proofs.OutcomeLemmas.{outcome_ready, ends_one}
 -- A command has ended with this status: a read failed; memory ran out, and nothing was written; an input is not in its form; a write
 -- failed; all was written; all was written, and memory ran out behind it.
 pub data Ended (request : Request) (old new : ShelfState) (result : Status) : Type 0 where
-  AtRead : result ≡ status.ReadFault → OneUnread (inputs_of request) old new → Changes [] old new → Ended request old new result
+  AtRead : result ≡ status.ReadFault → OneUnread (inputs_of request old.held) old new → Changes [] old new → Ended request old new result
   Out : result ≡ status.NoMemory → Changes [] old new → Ended request old new result
-  NotReady : (e : CommandError) → result ≡ status_of e → EndsAtInput (inputs_of request) (status_of e) → (IsTrue old.tells → FirstStop (inputs_of request) old.held e) → Changes [] old new → Ended request old new result
+  NotReady : (e : CommandError) → result ≡ status_of e → EndsAtInput (inputs_of request old.held) (status_of e) → (IsTrue old.tells → FirstStop (inputs_of request old.held) old.held e) → Changes [] old new → Ended request old new result
   AtWrite : result ≡ status.WriteFault → FailsWrite request old new → Ended request old new result
   Whole : (end : Option CommandError) → result ≡ ended end → WritesAll request end old new → Ended request old new result
   WholeOut : (end : Option CommandError) → result ≡ status.NoMemory → WritesAll request end old new → Ended request old new result
@@ -94,14 +94,14 @@ loses_written request old new s w = absurd w
 -- ---- one command that has ended
 module _ (request : Request) (old new : ShelfState) (result : Status) where
   -- an input that is not in its form is no end of another kind
-  at_input : (e : CommandError) → result ≡ status_of e → EndsAtInput (inputs_of request) (status_of e) → IsInputStatus result
-  at_input e r ends = as_status IsInputStatus (status_of e) result (sym r) (ends_input (inputs_of request) (status_of e) (inputs_sound request) ends)
+  at_input : (e : CommandError) → result ≡ status_of e → EndsAtInput (inputs_of request old.held) (status_of e) → IsInputStatus result
+  at_input e r ends = as_status IsInputStatus (status_of e) result (sym r) (ends_input (inputs_of request old.held) (status_of e) (inputs_sound request old.held) ends)
 
   at_end : (end : Option CommandError) → result ≡ ended end → WritesAll request end old new → AllWritten result
   at_end end r w = as_status AllWritten (ended end) result (sym r) (itself_written request (ended end) w.can)
 
-  outcome_stops : (end : Option CommandError) (outputs : Outputs) (e : CommandError) → IsOutcome request old.held end outputs → ¬ FirstStop (inputs_of request) old.held e
-  outcome_stops end outputs e o = ready_stops (inputs_of request) old.held e (inputs_sound request) (outcome_ready request old.held end outputs o)
+  outcome_stops : (end : Option CommandError) (outputs : Outputs) (e : CommandError) → IsOutcome request old.held end outputs → ¬ FirstStop (inputs_of request old.held) old.held e
+  outcome_stops end outputs e o = ready_stops (inputs_of request old.held) old.held e (inputs_sound request old.held) (outcome_ready request old.held end outputs o)
 
   pub ended_outcome : Ended request old new result → AllWritten result → IsTrue old.tells → EndsAs request result old new
   ended_outcome (AtRead r u same) all told = absurd (as_status AllWritten result status.ReadFault r all)
@@ -111,11 +111,11 @@ module _ (request : Request) (old new : ShelfState) (result : Status) where
   ended_outcome (Whole end r w) all told = record { end = end; status = r; has = w.has told }
   ended_outcome (WholeOut end r w) all told = absurd (as_status AllWritten result status.NoMemory r all)
 
-  pub ended_complete : Ended request old new result → IsTrue old.tells → AreReady (inputs_of request) old.held → ¬ OneRose (names_in (inputs_of request)) old.read_faults new.read_faults → ¬ OneRose (outputs_of request) old.write_faults new.write_faults
+  pub ended_complete : Ended request old new result → IsTrue old.tells → AreReady (inputs_of request old.held) old.held → ¬ OneRose (names_in (inputs_of request old.held)) old.read_faults new.read_faults → ¬ OneRose (outputs_of request) old.write_faults new.write_faults
       → AllWritten result ⊎ (result ≡ status.NoMemory)
-  ended_complete (AtRead r u same) told ready quiet calm = absurd (quiet (unread_rose (inputs_of request) old new u))
+  ended_complete (AtRead r u same) told ready quiet calm = absurd (quiet (unread_rose (inputs_of request old.held) old new u))
   ended_complete (Out r same) told ready quiet calm = inr r
-  ended_complete (NotReady e r ends first same) told ready quiet calm = absurd (ready_stops (inputs_of request) old.held e (inputs_sound request) ready (first told))
+  ended_complete (NotReady e r ends first same) told ready quiet calm = absurd (ready_stops (inputs_of request old.held) old.held e (inputs_sound request old.held) ready (first told))
   ended_complete (AtWrite r f) told ready quiet calm = absurd (calm f.rose)
   ended_complete (Whole end r w) told ready quiet calm = inl (at_end end r w)
   ended_complete (WholeOut end r w) told ready quiet calm = inr r
@@ -128,7 +128,7 @@ module _ (request : Request) (old new : ShelfState) (result : Status) where
   ended_usage (Whole end r w) e = as_status AllWritten result status.Usage e (at_end end r w)
   ended_usage (WholeOut end r w) e = let f : status.NoMemory ≡ status.Usage = sym r ∙ e in absurd cc
 
-  pub ended_read : Ended request old new result → result ≡ status.ReadFault → OneUnread (inputs_of request) old new
+  pub ended_read : Ended request old new result → result ≡ status.ReadFault → OneUnread (inputs_of request old.held) old new
   ended_read (AtRead r u same) e = u
   ended_read (Out r same) e = let f : status.NoMemory ≡ status.ReadFault = sym r ∙ e in absurd cc
   ended_read (NotReady e' r ends first same) e = absurd (as_status IsInputStatus result status.ReadFault e (at_input e' r ends))
@@ -144,18 +144,18 @@ module _ (request : Request) (old new : ShelfState) (result : Status) where
   ended_write (Whole end r w) e = absurd (as_status AllWritten result status.WriteFault e (at_end end r w))
   ended_write (WholeOut end r w) e = let f : status.NoMemory ≡ status.WriteFault = sym r ∙ e in absurd cc
 
-  pub ended_can : Ended request old new result → CanEnd request result
+  pub ended_can : Ended request old new result → CanEnd request old.held result
   ended_can (AtRead r u same) = inr (inr (as_status IsFault status.ReadFault result (sym r) tt))
   ended_can (Out r same) = inr (inr (as_status IsFault status.NoMemory result (sym r) tt))
-  ended_can (NotReady e' r ends first same) = inl (as_status (EndsAtInput (inputs_of request)) (status_of e') result (sym r) ends)
+  ended_can (NotReady e' r ends first same) = inl (as_status (EndsAtInput (inputs_of request old.held)) (status_of e') result (sym r) ends)
   ended_can (AtWrite r f) = inr (inr (as_status IsFault status.WriteFault result (sym r) tt))
   ended_can (Whole end r w) = inr (inl (as_status (EndsItself request) (ended end) result (sym r) w.can))
   ended_can (WholeOut end r w) = inr (inr (as_status IsFault status.NoMemory result (sym r) tt))
 
-  pub ended_inputs : Ended request old new result → IsTrue old.tells → (e : CommandError) → FirstStop (inputs_of request) old.held e → (result ≡ status_of e) ⊎ ((result ≡ status.ReadFault) ⊎ (result ≡ status.NoMemory))
+  pub ended_inputs : Ended request old new result → IsTrue old.tells → (e : CommandError) → FirstStop (inputs_of request old.held) old.held e → (result ≡ status_of e) ⊎ ((result ≡ status.ReadFault) ⊎ (result ≡ status.NoMemory))
   ended_inputs (AtRead r u same) told e stop = inr (inl r)
   ended_inputs (Out r same) told e stop = inr (inr r)
-  ended_inputs (NotReady e' r ends first same) told e stop = inl (r ∙ one_stop (inputs_of request) old.held e' e (inputs_sound request) (first told) stop)
+  ended_inputs (NotReady e' r ends first same) told e stop = inl (r ∙ one_stop (inputs_of request old.held) old.held e' e (inputs_sound request old.held) (first told) stop)
   ended_inputs (AtWrite r f) told e stop = let b = f.broken told in absurd (outcome_stops b.end b.outputs e b.outcome stop)
   ended_inputs (Whole end r w) told e stop = let h = w.has told in absurd (outcome_stops end h.outputs e h.outcome stop)
   ended_inputs (WholeOut end r w) told e stop = inr (inr r)
@@ -209,6 +209,8 @@ usage_only e result (inl r) u = usage_error e (sym r ∙ u)
     usage_error (error.Refused r) u = absurd cc
     usage_error error.LongVerilog u = absurd cc
     usage_error (error.Verilog fault) u = absurd cc
+    usage_error error.LongMaps u = absurd cc
+    usage_error (error.Maps fault) u = absurd cc
     usage_error error.LongCapture u = absurd cc
     usage_error (error.Capture fault) u = absurd cc
     usage_error error.ReadFault u = absurd cc

@@ -1,25 +1,78 @@
 -- How a command ends, by the step at which it does.
-use Rattle.std.proofs.Common.{◌≡◌, ℕ, IsTrue, List, [], Option, Some, None, Result, Ok, Err, IsErrAnd, refl, ap, inl, inr}
+use Rattle.std.proofs.Common.{◌≡◌, ℕ, Bool, IsTrue, List, [], ◌∷◌, ◌++◌, Option, Some, None, Result, Ok, Err, IsErrAnd, refl, sym, ap, subst, inl, inr}
+use Rattle.xdp_maps.specs.declared.decl.MapDecl.{MapDecl}
 use Rattle.net_core.specs.Nets.{Netlist}
 use Rattle.net_core.specs.History.{Drive, Ended, Answered, Stopped, OutOfClocks}
 use Rattle.xdp_object.specs.Choice.{Chosen}
 use Rattle.command_line.specs.Request.{Request, AskSim, Names}
 use Rattle.ehdl_top.specs.declared.error.CommandError.{CommandError}
 use Rattle.ehdl_top.specs.declared.error.CommandError.TheVariants as error
-use Rattle.ehdl_top.specs.Status.{ended}
+use Rattle.ehdl_top.specs.Status.{ended, status_of}
 use Rattle.ehdl_top.specs.States.{ShelfState, Changes}
 use Rattle.ehdl_top.specs.Writes.{Write, AreDone, OneFailed}
 use Rattle.ehdl_top.specs.Outcome.{drive_error}
-use Rattle.ehdl_top.specs.Requests.{outputs_of, EndsItself}
-use Rattle.ehdl_top.specs.Steps.{OutOfMemory, Unwritten, AtEnd, EndsIn}
-use Rattle.ehdl_top.proofs.StateLemmas.{changes_none, changes_then, changes_within}
+use Rattle.ehdl_top.specs.Forms.{InputForm, IsReady, IsFaulty, maps_form}
+use Rattle.ehdl_top.specs.Inputs.{Input, input, may_input, AreReady, FirstStop, OneUnread, EndsAtInput}
+use Rattle.ehdl_top.specs.Requests.{inputs_of, outputs_of, EndsItself}
+use Rattle.ehdl_top.specs.Steps.{IsRead, IsUnread, AreUnread, StopsBy, Unread, AtInput, OutOfMemory, Unwritten, AtEnd, EndsIn}
+use Rattle.ehdl_top.proofs.StateLemmas.{changes_none, changes_then, changes_within, rose_from, tells_later}
+use Rattle.ehdl_top.proofs.InputLemmas.{unread_behind, stop_behind, ends_behind}
 use Rattle.ehdl_top.proofs.WriteLemmas.{AreOf, done_changes, failed_changes}
-use Rattle.ehdl_top.proofs.OutcomeLemmas.{Makes, writes_all, fails_write}
+use Rattle.ehdl_top.proofs.OutcomeLemmas.{Makes, was_held, writes_all, fails_write}
 
 -- memory ran out before anything was read
 pub out_of_memory : (request : Request) (s : ShelfState) → EndsIn request s s (Err error.NoMemory)
 out_of_memory request s = record { by = OutOfMemory refl (changes_none s); kept = changes_within (outputs_of request) s s (changes_none s) }
 
+-- ---- an input that was not read
+-- what was read from a later state, in which nothing has changed, is in its form
+pub was_ready : (form : InputForm) (name : List ℕ) (a b : ShelfState) (bytes : List ℕ) → Changes [] a b → IsRead form name b bytes → IsTrue a.tells → IsReady form (a.held name)
+was_ready form name a b bytes same read told = was_held form.limit name a b bytes form.Fits same read.there read.within read.fits told
+
+module _ (request : Request) (old mid new : ShelfState) (e : CommandError) (kept : Changes [] old mid) (same : Changes [] mid new) where
+  stops_unread : (before : List Input) (i : Input) (after : List Input) → inputs_of request old.held ≡ before ++ i ∷ after → (IsTrue old.tells → AreReady before old.held) → IsUnread i.form i.name mid new e → StopsBy request old new e
+  stops_unread before i after are ready (inl fault) =
+      let P : List Input → Type 0 = λ is. OneUnread is old new in
+      Unread fault.0 (subst P (sym are) (unread_behind before i after old new ready (rose_from (old.read_faults i.name) (mid.read_faults i.name) (new.read_faults i.name) (kept.later.reads.each i.name) fault.1)))
+      (changes_then [] old mid new kept same)
+  stops_unread before i after are ready (inr (inl memory)) = OutOfMemory memory (changes_then [] old mid new kept same)
+  stops_unread before i after are ready (inr (inr stop)) =
+      let P : List Input → Type 0 = λ is. EndsAtInput is (status_of e) in
+      let Q : List Input → Type 0 = λ is. FirstStop is old.held e in
+      let R : Option (List ℕ) → Type 0 = λ held. IsFaulty i.form held e in
+      AtInput (subst P (sym are) (ends_behind before i after (status_of e) stop.0))
+      (λ told. subst Q (sym are) (stop_behind before i after old.held e (ready told) (subst R (kept.others i.name tt) (stop.1 (tells_later old mid kept.later told)))))
+      (changes_then [] old mid new kept same)
+
+  ends_stopped : (r : Result (Unit {0}) CommandError) → IsErrAnd r (λ f. f ≡ e) → StopsBy request old new e → EndsIn request old new r
+  ends_stopped (Ok u) is stops = absurd is
+  ends_stopped (Err f) is stops =
+      let P : CommandError → Type 0 = StopsBy request old new in
+      record { by = subst P (sym is) stops; kept = changes_within (outputs_of request) old new (changes_then [] old mid new kept same) }
+
+  pub ends_unread : (r : Result (Unit {0}) CommandError) (before : List Input) (i : Input) (after : List Input) → IsErrAnd r (λ f. f ≡ e) → inputs_of request old.held ≡ before ++ i ∷ after → (IsTrue old.tells → AreReady before old.held)
+      → IsUnread i.form i.name mid new e → EndsIn request old new r
+  ends_unread r before i after is are ready unread = ends_stopped r is (stops_unread before i after are ready unread)
+
+  -- the maps that the object declares, which the shelf may not tell
+  unread_as : (name : List ℕ) (decls of_held : List MapDecl) → (IsTrue old.tells → of_held ≡ decls) → IsUnread (maps_form decls) name mid new e → IsUnread (maps_form of_held) name mid new e
+  unread_as name decls of_held declared (inl fault) = inl fault
+  unread_as name decls of_held declared (inr (inl memory)) = inr (inl memory)
+  unread_as name decls of_held declared (inr (inr stop)) =
+      let P : List MapDecl → Type 0 = λ ds. IsFaulty (maps_form ds) (mid.held name) e in
+      let Q : Bool → Type 0 = λ t. IsTrue t in
+      inr (inr (stop.0, λ told. subst P (sym (declared (subst Q kept.later.tells told))) (stop.1 told)))
+
+  stops_mapless : (before after : List Input) (name : Option (List ℕ)) (decls of_held : List MapDecl) → inputs_of request old.held ≡ before ++ (may_input name (maps_form of_held) ++ after) → (IsTrue old.tells → AreReady before old.held) → (IsTrue old.tells → of_held ≡ decls)
+      → AreUnread name decls mid new e → StopsBy request old new e
+  stops_mapless before after (Some name) decls of_held are ready declared unread = stops_unread before (input name (maps_form of_held)) after are ready (unread_as name decls of_held declared unread)
+  stops_mapless before after None decls of_held are ready declared unread = OutOfMemory unread (changes_then [] old mid new kept same)
+
+  pub ends_mapless : (r : Result (Unit {0}) CommandError) (before after : List Input) (name : Option (List ℕ)) (decls of_held : List MapDecl) → IsErrAnd r (λ f. f ≡ e) → inputs_of request old.held ≡ before ++ (may_input name (maps_form of_held) ++ after)
+      → (IsTrue old.tells → AreReady before old.held) → (IsTrue old.tells → of_held ≡ decls) → AreUnread name decls mid new e → EndsIn request old new r
+  ends_mapless r before after name decls of_held is are ready declared unread = ends_stopped r is (stops_mapless before after name decls of_held are ready declared unread)
+
+-- ---- what is written
 -- a write failed
 pub ends_unwritten : (request : Request) (end : Option CommandError) (old mid new : ShelfState) (ws : List Write) (r : Result (Unit {0}) CommandError) → IsErrAnd r (λ e. e ≡ error.WriteFault) → AreOf (outputs_of request) ws → Changes [] old mid
     → (IsTrue old.tells → Makes request old.held end ws) → OneFailed ws mid new → EndsIn request old new r

@@ -12,18 +12,23 @@ use Rattle.xdp_object.specs.Program.{XdpProgram}
 use Rattle.xdp_object.specs.Choice.{Chosen}
 use Rattle.xdp_object.specs.Object.{FirstFault, IsObject}
 use Rattle.xdp_object.proofs.OutcomeLaws.{one_outcome}
+use Rattle.xdp_maps.specs.declared.decl.MapDecl.{MapDecl}
+use Rattle.xdp_maps.specs.State.{MapState}
+use Rattle.maps_text.specs.Text.{IsMapsText}
+use Rattle.maps_text.proofs.TextLaws.{never_both}
 use Rattle.kind_core.specs.declared.why.Refusal.{Refusal}
 use Rattle.unfold_core.proofs.OneOutcomeLaws.{has_one_outcome}
+use Rattle.shelf_core.specs.Shelf.{Holding}
 use Rattle.command_line.specs.Request.{Request, AskCompile, AskRun, AskSim, AskRef}
 use Rattle.ehdl_top.specs.declared.status.Status.{Status}
 use Rattle.ehdl_top.specs.declared.status.Status.TheVariants as status
 use Rattle.ehdl_top.specs.declared.error.CommandError.{CommandError}
 use Rattle.ehdl_top.specs.declared.error.CommandError.TheVariants as error
 use Rattle.ehdl_top.specs.Status.{status_of}
-use Rattle.ehdl_top.specs.Forms.{ProgramRule, ProgramFaults, TextFaults, CaptureFaults, IsTaken, IsCaptured, IsCaptureFault, built, accepted, without_maps, program_form, text_form, capture_form}
+use Rattle.ehdl_top.specs.Forms.{ProgramRule, ProgramFaults, TextFaults, MapsFaults, CaptureFaults, IsTaken, IsCaptured, IsCaptureFault, built, accepted, without_maps, program_form, text_form, maps_form, decls_in, held_decls, capture_form}
 use Rattle.ehdl_top.specs.Requests.{inputs_of}
 use Rattle.ehdl_top.specs.Steps.{IsGivenUp}
-use Rattle.ehdl_top.proofs.InputLemmas.{IsSound, AreSound, IsInputStatus}
+use Rattle.ehdl_top.proofs.InputLemmas.{IsSound, AreSound, IsInputStatus, may_sound}
 
 -- these statuses are of inputs
 input_status : (s t : Status) → s ≡ t → IsInputStatus t → IsInputStatus s
@@ -76,8 +81,12 @@ built_apart p r takes refuses = takes r refuses
 accepted_apart : IsRule accepted
 accepted_apart p r takes refuses = (has_one_outcome p).never_both r refuses takes
 
-maps_apart : IsRule without_maps
-maps_apart p r takes refuses = refuses.0 takes
+without_apart : IsRule without_maps
+without_apart p r takes refuses = refuses.0 takes
+
+-- the declarations of the object that a name holds are those of its program
+pub decls_held : (choice : Chosen) (held : Option (List ℕ)) (bytes : List ℕ) (program : XdpProgram) → held ≡ Some bytes → IsObject choice bytes program → held_decls choice held ≡ program.decls
+decls_held choice held bytes program there is = ap (held_decls choice) there ∙ ap decls_in is.has_maps ∙ sym is.decls_are
 
 -- ---- Verilog texts
 text_apart : (bytes : List ℕ) (e : CommandError) → (design : Netlist) × Spells bytes design → ¬ TextFaults bytes e
@@ -92,6 +101,22 @@ text_sound : IsSound text_form
 text_sound = record {
   apart = text_apart;
   one = λ bytes e f a b. text_status bytes e a ∙ sym (text_status bytes f b);
+  ends = λ s e. input_status s status.Input e tt;
+}
+
+-- ---- texts of maps
+maps_apart : (decls : List MapDecl) (bytes : List ℕ) (e : CommandError) → (maps : MapState) × IsMapsText decls bytes maps → ¬ MapsFaults decls bytes e
+maps_apart decls bytes (error.Maps fault) is u = never_both decls bytes is.0 fault is.1 u
+maps_apart decls bytes e is u = u
+
+maps_status : (decls : List MapDecl) (bytes : List ℕ) (e : CommandError) → MapsFaults decls bytes e → status_of e ≡ status.Input
+maps_status decls bytes (error.Maps fault) u = refl
+maps_status decls bytes e u = absurd u
+
+maps_sound : (decls : List MapDecl) → IsSound (maps_form decls)
+maps_sound decls = record {
+  apart = maps_apart decls;
+  one = λ bytes e f a b. maps_status decls bytes e a ∙ sym (maps_status decls bytes f b);
   ends = λ s e. input_status s status.Input e tt;
 }
 
@@ -131,11 +156,13 @@ capture_sound = record {
 }
 
 -- ---- the inputs of each command
-pub inputs_sound : (request : Request) → AreSound (inputs_of request)
-inputs_sound (AskCompile object verilog chosen) = (program_sound chosen built built_apart, tt)
-inputs_sound (AskRun names verilog chosen ifindex) = (program_sound chosen built built_apart, (capture_sound, tt))
-inputs_sound (AskSim names verilog chosen ifindex clocks) = (program_sound chosen without_maps maps_apart, (text_sound, (capture_sound, tt)))
-inputs_sound (AskRef names chosen ifindex) = (program_sound chosen accepted accepted_apart, (capture_sound, tt))
+pub inputs_sound : (request : Request) (held : Holding) → AreSound (inputs_of request held)
+inputs_sound (AskCompile object verilog chosen) held = (program_sound chosen built built_apart, tt)
+inputs_sound (AskRun names verilog chosen ifindex) held = (program_sound chosen built built_apart, (capture_sound, tt))
+inputs_sound (AskSim names verilog chosen ifindex clocks) held =
+    (program_sound chosen without_maps without_apart, (text_sound, may_sound names.maps _ _ (maps_sound (held_decls chosen (held names.object))) (capture_sound, tt)))
+inputs_sound (AskRef names chosen ifindex) held =
+    (program_sound chosen accepted accepted_apart, may_sound names.maps _ _ (maps_sound (held_decls chosen (held names.object))) (capture_sound, tt))
 
 -- ---- what bytes are given up for
 pub object_given_up : (choice : Chosen) (rule : ProgramRule) (bytes : List ℕ) (fault : ObjectError) (e : CommandError) → (fault ≢ object.NoMemory → FirstFault choice bytes fault)

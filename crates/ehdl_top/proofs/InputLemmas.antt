@@ -1,9 +1,9 @@
 -- The first input that is not in its form is one, and there is none where all are.
-use Rattle.std.proofs.Common.{◌≡◌, ℕ, ◌<◌, ◌≤◌, List, [], ◌∷◌, length, Option, Some, sym, ◌∙◌, ap, subst, inl, inr, arith}
-use Rattle.shelf_core.specs.Shelf.{Holding, IsLonger}
+use Rattle.std.proofs.Common.{◌≡◌, ℕ, ◌<◌, ◌≤◌, IsTrue, List, [], ◌∷◌, ◌++◌, length, Option, Some, None, sym, ◌∙◌, ap, subst, inl, inr, arith}
+use Rattle.shelf_core.specs.Shelf.{Holding, IsLonger, Rose}
 use Rattle.ehdl_top.specs.States.{ShelfState, OneRose}
 use Rattle.ehdl_top.specs.Forms.{InputForm, Holds, IsReady, IsFaulty}
-use Rattle.ehdl_top.specs.Inputs.{Input, names_in, AreReady, FirstStop, OneUnread, EndsAtInput}
+use Rattle.ehdl_top.specs.Inputs.{Input, may_input, names_in, AreReady, FirstStop, OneUnread, EndsAtInput}
 use Rattle.ehdl_top.specs.Status.{status_of}
 use Rattle.ehdl_top.specs.declared.status.Status.{Status}
 use Rattle.ehdl_top.specs.declared.status.Status.TheVariants as status
@@ -72,3 +72,23 @@ unread_rose (i ∷ rest) old new (inl rose) = inl rose
 unread_rose (i ∷ rest) old new (inr u) = inr (unread_rose rest old new u.1)
 
 -- ---- inputs that are read one after the other
+pub ready_both : (before after : List Input) (held : Holding) → AreReady before held → AreReady after held → AreReady (before ++ after) held
+ready_both [] after held ready more = more
+ready_both (i ∷ before) after held ready more = (ready.0, ready_both before after held ready.1 more)
+
+pub may_sound : (name : Option (List ℕ)) (form : InputForm) (after : List Input) → IsSound form → AreSound after → AreSound (may_input name form ++ after)
+may_sound (Some name) form after sound more = (sound, more)
+may_sound None form after sound more = more
+
+-- one that was not read, behind some that were
+pub unread_behind : (before : List Input) (i : Input) (after : List Input) (old new : ShelfState) → (IsTrue old.tells → AreReady before old.held) → Rose (old.read_faults i.name) (new.read_faults i.name) → OneUnread (before ++ i ∷ after) old new
+unread_behind [] i after old new ready rose = inl rose
+unread_behind (j ∷ before) i after old new ready rose = inr (λ told. (ready told).0, unread_behind before i after old new (λ told. (ready told).1) rose)
+
+pub stop_behind : (before : List Input) (i : Input) (after : List Input) (held : Holding) (e : CommandError) → AreReady before held → IsFaulty i.form (held i.name) e → FirstStop (before ++ i ∷ after) held e
+stop_behind [] i after held e ready fault = inl fault
+stop_behind (j ∷ before) i after held e ready fault = inr (ready.0, stop_behind before i after held e ready.1 fault)
+
+pub ends_behind : (before : List Input) (i : Input) (after : List Input) (s : Status) → i.form.Ends s → EndsAtInput (before ++ i ∷ after) s
+ends_behind [] i after s ends = inl ends
+ends_behind (j ∷ before) i after s ends = inr (ends_behind before i after s ends)

@@ -11,30 +11,32 @@ use Rattle.port_drive.specs.Reports.{full_drive}
 use Rattle.beat_core.specs.declared.frame.Timed.{Timed}
 use Rattle.beat_core.specs.Laws.{arrival_of}
 use Rattle.pcap_core.specs.Time.{timed_of}
+use Rattle.xdp_maps.specs.declared.decl.MapDecl.{MapDecl}
 use Rattle.xdp_maps.specs.State.{MapState}
 use Rattle.xdp_object.specs.Program.{XdpProgram}
 use Rattle.xdp_machine.proofs.RunLaws.{runs_length}
 use Rattle.ehdl_build.specs.Compiled.{code_of, packets_in, answer_of, IsSequential}
 use Rattle.xdp_object.specs.Choice.{Chosen}
 use Rattle.command_line.specs.Request.{Request, AskCompile, AskRun, AskSim, AskRef, Names}
+use Rattle.maps_text.specs.Text.{IsMapsText}
 use Rattle.maps_text.specs.Writing.{text_of}
-use Rattle.ehdl_top.specs.declared.limits.TheConstants.{OBJECT_LIMIT, VERILOG_LIMIT, CAPTURE_LIMIT}
+use Rattle.ehdl_top.specs.declared.limits.TheConstants.{OBJECT_LIMIT, VERILOG_LIMIT, MAPS_LIMIT, CAPTURE_LIMIT}
 use Rattle.ehdl_top.specs.declared.error.CommandError.{CommandError}
 use Rattle.ehdl_top.specs.declared.write.Write as code
 use Rattle.ehdl_top.specs.declared.sim.Simulated.{Simulated}
 use Rattle.ehdl_top.specs.declared.packets.Captured.{Captured}
 use Rattle.ehdl_top.specs.Status.{ended}
 use Rattle.ehdl_top.specs.States.{ShelfState, Changes}
-use Rattle.ehdl_top.specs.Forms.{Holds, IsTaken, IsTextOf, IsCaptured, built, accepted, without_maps, program_form, text_form, capture_form}
-use Rattle.ehdl_top.specs.Inputs.{AreReady}
+use Rattle.ehdl_top.specs.Forms.{Holds, ProgramRule, IsReady, IsTaken, IsTextOf, StartsFrom, IsCaptured, built, accepted, without_maps, program_form, text_form, maps_form, held_decls, capture_form}
+use Rattle.ehdl_top.specs.Inputs.{input, may_input, AreReady}
 use Rattle.ehdl_top.specs.Writes.{Outputs, names_in, Write, AreDone, OneFailed}
 use Rattle.ehdl_top.specs.Results.{timed_packets, came_by, compile_outputs, result_outputs, run_outputs, sim_outputs, finals_if}
 use Rattle.ehdl_top.specs.Outcome.{IsSimulated, drive_error}
 use Rattle.ehdl_top.specs.Requests.{inputs_of, outputs_of, IsOutcome, EndsItself}
-use Rattle.ehdl_top.specs.Steps.{IsRead, IsTextFor, IsCaptureOf, IsRunOf, IsSimOf, IsReferenceOf, AreApart, IsTextApart, FailsWrite, WritesAll, write_of, stamp_of}
+use Rattle.ehdl_top.specs.Steps.{IsRead, AreRead, IsTextFor, IsCaptureOf, IsRunOf, IsSimOf, IsReferenceOf, AreApart, IsTextApart, FailsWrite, WritesAll, write_of, stamp_of}
 use Rattle.ehdl_top.proofs.StateLemmas.{tells_later}
-use Rattle.ehdl_top.proofs.InputLemmas.{holds_both}
-use Rattle.ehdl_top.proofs.FormLemmas.{one_captured}
+use Rattle.ehdl_top.proofs.InputLemmas.{holds_both, ready_both}
+use Rattle.ehdl_top.proofs.FormLemmas.{one_captured, decls_held}
 use Rattle.ehdl_top.proofs.WriteLemmas.{AreOf, AreBuilt, done_from, failed_from, done_changes, failed_changes, failed_rose, done_whole, failed_prefixes}
 use Rattle.ehdl_top.proofs.ResultLemmas.{compile_built, result_built, result_names, run_built, run_of}
 
@@ -43,23 +45,39 @@ use Rattle.ehdl_top.proofs.ResultLemmas.{compile_built, result_built, result_nam
 pub holds_as : (limit : ℕ) (held : Option (List ℕ)) (A B : List ℕ → Type 0) → ((bytes : List ℕ) → A bytes → B bytes) → Holds limit held A → Holds limit held B
 holds_as limit held A B f h = record { bytes = h.bytes; there = h.there; within = h.within; is = f h.bytes h.is }
 
-pub outcome_ready : (request : Request) (held : Holding) (end : Option CommandError) (outputs : Outputs) → IsOutcome request held end outputs → AreReady (inputs_of request) held
+-- maps that are started from
+pub may_ready : (name : Option (List ℕ)) (decls of_held : List MapDecl) (held : Holding) (first : MapState) → of_held ≡ decls → StartsFrom name decls held first → AreReady (may_input name (maps_form of_held)) held
+may_ready (Some name) decls of_held held first same starts =
+    let P : List MapDecl → Type 0 = λ ds. IsReady (maps_form ds) (held name) in
+    (subst P (sym same) (holds_as MAPS_LIMIT (held name) _ (maps_form decls).Fits (λ bytes is. (first, is)) starts), tt)
+may_ready None decls of_held held first same starts = tt
+
+-- the declarations of the object of a program that is taken
+taken_decls : (choice : Chosen) (rule : ProgramRule) (program : XdpProgram) (held : Option (List ℕ)) → Holds OBJECT_LIMIT held (λ bytes. IsTaken choice rule bytes program) → held_decls choice held ≡ program.decls
+taken_decls choice rule program held h = decls_held choice held h.bytes program h.there h.is.object
+
+capture_ready : (held : Holding) (name : List ℕ) (magic : ℕ) (packets : List Packet) → Holds CAPTURE_LIMIT (held name) (λ bytes. IsCaptured bytes magic packets) → AreReady (input name capture_form ∷ []) held
+capture_ready held name magic packets h = (holds_as CAPTURE_LIMIT (held name) _ capture_form.Fits (λ bytes is. (magic, packets, is)) h, tt)
+
+pub outcome_ready : (request : Request) (held : Holding) (end : Option CommandError) (outputs : Outputs) → IsOutcome request held end outputs → AreReady (inputs_of request held) held
 outcome_ready (AskCompile object verilog chosen) held end outputs o =
     (holds_as OBJECT_LIMIT (held object) _ (program_form chosen built).Fits (λ bytes is. (o.1.program, is)) o.1.held_program, tt)
 outcome_ready (AskRun names verilog chosen ifindex) held end outputs o = (
   holds_as OBJECT_LIMIT (held names.object) _ (program_form chosen built).Fits (λ bytes is. (o.1.program, is)) o.1.held_program,
-  (holds_as CAPTURE_LIMIT (held names.capture) _ capture_form.Fits (λ bytes is. (o.1.magic, o.1.packets, is)) o.1.held_capture, tt),
+  capture_ready held names.capture o.1.magic o.1.packets o.1.held_capture,
 )
 outcome_ready (AskSim names verilog chosen ifindex clocks) held end outputs o = (
   holds_as OBJECT_LIMIT (held names.object) _ (program_form chosen without_maps).Fits (λ bytes is. (o.program, is)) o.held_object,
   (
     holds_as VERILOG_LIMIT (held verilog) _ text_form.Fits (λ bytes is. (o.design, is.spells)) o.held_text,
-    (holds_as CAPTURE_LIMIT (held names.capture) _ capture_form.Fits (λ bytes is. (o.magic, o.packets, is)) o.held_capture, tt),
+    ready_both _ _ held (may_ready names.maps o.program.decls _ held o.first (taken_decls chosen without_maps o.program (held names.object) o.held_object) o.starts)
+        (capture_ready held names.capture o.magic o.packets o.held_capture),
   ),
 )
 outcome_ready (AskRef names chosen ifindex) held end outputs o = (
   holds_as OBJECT_LIMIT (held names.object) _ (program_form chosen accepted).Fits (λ bytes is. (o.1.program, is)) o.1.held_program,
-  (holds_as CAPTURE_LIMIT (held names.capture) _ capture_form.Fits (λ bytes is. (o.1.magic, o.1.packets, is)) o.1.held_capture, tt),
+  ready_both _ _ held (may_ready names.maps o.1.program.decls _ held o.1.first (taken_decls chosen accepted o.1.program (held names.object) o.1.held_program) o.1.starts)
+      (capture_ready held names.capture o.1.magic o.1.packets o.1.held_capture),
 )
 
 -- ---- one end of a simulation
@@ -141,6 +159,11 @@ was_held limit name a b bytes Is same there within is told = record {
   is = is;
 }
 
+-- the maps that were read from a later state, in which nothing has changed
+pub starts_from : (name : Option (List ℕ)) (decls : List MapDecl) (a b : ShelfState) (first : MapState) → Changes [] a b → AreRead name decls b first → IsTrue a.tells → StartsFrom name decls a.held first
+starts_from (Some name) decls a b first same read told = was_held MAPS_LIMIT name a b read.0 (λ bytes. IsMapsText decls bytes first) same read.1.there read.1.within read.2 told
+starts_from None decls a b first same read told = read
+
 pub compile_makes : (object verilog : List ℕ) (chosen : Chosen) (old : ShelfState) (bytes text : List ℕ) (ws : List Write) → IsRead (program_form chosen built) object old bytes → IsTextFor chosen bytes text
     → ws ≡ (compile_outputs verilog text).writes → IsTrue old.tells → Makes (AskCompile object verilog chosen) old.held None ws
 compile_makes object verilog chosen old bytes text ws read is e told = record {
@@ -190,19 +213,21 @@ run_makes names verilog chosen ifindex a b object capture text magic packets wri
   of = run_of names verilog text magic packets run.answers;
 }
 
-pub sim_makes : (names : Names) (verilog : List ℕ) (chosen : Chosen) (ifindex clocks : ℕ) (a b c : ShelfState) (object text capture : List ℕ) (design : Netlist) (magic : ℕ) (packets : List Packet) (simulated : Simulated) → AreApart names → Changes [] a b → Changes [] a c
-    → IsRead (program_form chosen without_maps) names.object a object → IsRead text_form verilog b text → IsTextOf text design → IsRead capture_form names.capture c capture → IsCaptured capture magic packets
+pub sim_makes : (names : Names) (verilog : List ℕ) (chosen : Chosen) (ifindex clocks : ℕ) (a b c d : ShelfState) (object text capture : List ℕ) (program : XdpProgram) (design : Netlist) (first : MapState) (magic : ℕ) (packets : List Packet) (simulated : Simulated) → AreApart names → Changes [] a b → Changes [] a c → Changes [] a d
+    → IsRead (program_form chosen without_maps) names.object a object → IsTaken chosen without_maps object program → IsRead text_form verilog b text → IsTextOf text design → AreRead names.maps program.decls c first → IsRead capture_form names.capture d capture → IsCaptured capture magic packets
     → IsSimOf names design ifindex clocks magic packets simulated → IsTrue a.tells → Makes (AskSim names verilog chosen ifindex clocks) a.held simulated.end (map write_of simulated.writes.items)
-sim_makes names verilog chosen ifindex clocks a b c object text capture design magic packets simulated apart same same' read read' spells read'' captured sim told = record {
+sim_makes names verilog chosen ifindex clocks a b c d object text capture program design first magic packets simulated apart same same' same'' read is read' spells starts read'' captured sim told = record {
   outputs = sim_outputs names magic packets (answers_given [] sim.drive.trace) (is_none simulated.end);
   outcome = record {
-    program = read.fits.0;
-    held_object = record { bytes = object; there = read.there told; within = read.within; is = read.fits.1 };
+    program = program;
+    held_object = record { bytes = object; there = read.there told; within = read.within; is = is };
     design = design;
     held_text = was_held VERILOG_LIMIT verilog a b text (λ bytes. IsTextOf bytes design) same read'.there read'.within spells told;
+    first = first;
+    starts = starts_from names.maps program.decls a c first same' starts told;
     magic = magic;
     packets = packets;
-    held_capture = was_held CAPTURE_LIMIT names.capture a c capture (λ bytes. IsCaptured bytes magic packets) same' read''.there read''.within captured told;
+    held_capture = was_held CAPTURE_LIMIT names.capture a d capture (λ bytes. IsCaptured bytes magic packets) same'' read''.there read''.within captured told;
     drive = sim.drive;
     is_drive = sim.is_drive;
     end_is = sim.end_is;
@@ -213,19 +238,21 @@ sim_makes names verilog chosen ifindex clocks a b c object text capture design m
   of = result_names names magic packets (answers_given [] sim.drive.trace) (finals_if (is_none simulated.end));
 }
 
-pub ref_makes : (names : Names) (chosen : Chosen) (ifindex : ℕ) (a b : ShelfState) (object capture : List ℕ) (program : XdpProgram) (magic : ℕ) (packets : List Packet) (writes : List code.Write) → AreApart names → Changes [] a b
-    → IsRead (program_form chosen accepted) names.object a object → IsTaken chosen accepted object program → IsRead capture_form names.capture b capture → IsCaptured capture magic packets
-    → IsReferenceOf names program ifindex magic packets writes → IsTrue a.tells → Makes (AskRef names chosen ifindex) a.held None (map write_of writes)
-ref_makes names chosen ifindex a b object capture program magic packets writes apart same read is read' captured ref told = record {
+pub ref_makes : (names : Names) (chosen : Chosen) (ifindex : ℕ) (a b c : ShelfState) (object capture : List ℕ) (program : XdpProgram) (first : MapState) (magic : ℕ) (packets : List Packet) (writes : List code.Write) → AreApart names → Changes [] a b → Changes [] a c
+    → IsRead (program_form chosen accepted) names.object a object → IsTaken chosen accepted object program → AreRead names.maps program.decls b first → IsRead capture_form names.capture c capture → IsCaptured capture magic packets
+    → IsReferenceOf names program first ifindex magic packets writes → IsTrue a.tells → Makes (AskRef names chosen ifindex) a.held None (map write_of writes)
+ref_makes names chosen ifindex a b c object capture program first magic packets writes apart same same' read is starts read' captured ref told = record {
   outputs = result_outputs names magic packets ref.answers (Some (text_of ref.final));
   outcome = (
     refl,
     record {
       program = program;
       held_program = record { bytes = object; there = read.there told; within = read.within; is = is };
+      first = first;
+      starts = starts_from names.maps program.decls a b first same starts told;
       magic = magic;
       packets = packets;
-      held_capture = was_held CAPTURE_LIMIT names.capture a b capture (λ bytes. IsCaptured bytes magic packets) same read'.there read'.within captured told;
+      held_capture = was_held CAPTURE_LIMIT names.capture a c capture (λ bytes. IsCaptured bytes magic packets) same' read'.there read'.within captured told;
       answers = ref.answers;
       final = ref.final;
       runs = ref.runs;

@@ -1,6 +1,6 @@
 -- The forms of inputs: how many bytes one may have, which bytes are in its form, and the first fault of the others.
-use Rattle.std.specs.Prelude.{◌≡◌, ◌≢◌, ◌⊎◌, ℕ, ◌≤◌, List, [], length, Option, Some, None, Err}
-use Rattle.shelf_core.specs.Shelf.{IsLonger}
+use Rattle.std.specs.Prelude.{◌≡◌, ◌≢◌, ◌⊎◌, ℕ, ◌≤◌, List, [], length, Option, Some, None, Result, Ok, Err}
+use Rattle.shelf_core.specs.Shelf.{Holding, IsLonger}
 use Rattle.pcap_core.specs.declared.error.PcapError.{PcapError}
 use Rattle.list_laws.specs.Bytes.{IsBytes}
 use Rattle.pcap_core.specs.Format.{Packet, Content, IsContent, IsHeaderFault}
@@ -8,15 +8,20 @@ use Rattle.net_core.specs.Nets.{Netlist}
 use Rattle.verilog_grammar.specs.Spelling.{Spells}
 use Rattle.verilog_read.specs.declared.error.ReadError.{ReadError}
 use Rattle.verilog_read.specs.Texts.{outcome_of}
+use Rattle.xdp_maps.specs.declared.decl.MapDecl.{MapDecl}
+use Rattle.xdp_maps.specs.State.{MapState, opened_state}
+use Rattle.maps_text.specs.Text.{IsMapsText, IsFirstBad}
+use Rattle.xdp_object.specs.declared.error.ObjectError.{ObjectError}
 use Rattle.xdp_object.specs.declared.error.ObjectError.TheVariants.{Long}
 use Rattle.xdp_object.specs.Program.{XdpProgram}
 use Rattle.xdp_object.specs.Choice.{Chosen}
-use Rattle.xdp_object.specs.Object.{FirstFault, IsObject}
+use Rattle.xdp_object.specs.Maps.{MapTable}
+use Rattle.xdp_object.specs.Object.{FirstFault, IsObject, function_of, maps_of}
 use Rattle.kind_core.specs.declared.why.Refusal.{Refusal}
 use Rattle.kind_core.specs.declared.why.Why.TheVariants.{Instruction}
 use Rattle.unfold_core.specs.Acceptance.{IsAccepted, IsFirstRefusal}
 use Rattle.ehdl_build.specs.Compiled.{RefusesProgram}
-use Rattle.ehdl_top.specs.declared.limits.TheConstants.{OBJECT_LIMIT, VERILOG_LIMIT, CAPTURE_LIMIT}
+use Rattle.ehdl_top.specs.declared.limits.TheConstants.{OBJECT_LIMIT, VERILOG_LIMIT, MAPS_LIMIT, CAPTURE_LIMIT}
 use Rattle.ehdl_top.specs.declared.status.Status.{Status}
 use Rattle.ehdl_top.specs.declared.status.Status.TheVariants as status
 use Rattle.ehdl_top.specs.declared.error.CommandError.{CommandError}
@@ -114,6 +119,35 @@ text_form = record {
   Faults = TextFaults;
   Ends = λ s. s ≡ status.Input;
 }
+
+-- ---- texts of maps
+abbrev pub MapsFaults : List MapDecl → List ℕ → CommandError → Type 0
+MapsFaults decls bytes (error.Maps fault) = IsFirstBad decls bytes fault
+MapsFaults decls bytes e = ⊥
+
+-- a text of the maps of these declarations
+abbrev pub maps_form : List MapDecl → InputForm
+maps_form decls = record {
+  limit = MAPS_LIMIT;
+  too_long = error.LongMaps;
+  Fits = λ bytes. (maps : MapState) × IsMapsText decls bytes maps;
+  Faults = MapsFaults decls;
+  Ends = λ s. s ≡ status.Input;
+}
+
+-- the declarations of the maps of the object that a name holds
+abbrev pub decls_in : Result MapTable ObjectError → List MapDecl
+decls_in (Ok table) = table.decls
+decls_in (Err e) = []
+
+abbrev pub held_decls : Chosen → Option (List ℕ) → List MapDecl
+held_decls choice (Some bytes) = decls_in (maps_of choice.hash_cap bytes (function_of choice bytes))
+held_decls choice None = []
+
+-- The maps that a run starts from are those of the text that a name holds, and without a name those in which nothing was written.
+abbrev pub StartsFrom : Option (List ℕ) → List MapDecl → Holding → MapState → Type 0
+StartsFrom (Some name) decls held maps = Holds MAPS_LIMIT (held name) (λ bytes. IsMapsText decls bytes maps)
+StartsFrom None decls held maps = maps ≡ opened_state decls
 
 -- ---- captures
 -- The bytes are a capture of these packets and nothing else. Its magic number says what fractions of a second are.

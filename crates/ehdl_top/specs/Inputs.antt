@@ -1,5 +1,5 @@
 -- The inputs of a command, in the order in which they are looked at, and the first at which it stops.
-use Rattle.std.specs.Prelude.{◌⊎◌, ℕ, IsTrue, List, [], ◌∷◌}
+use Rattle.std.specs.Prelude.{◌⊎◌, ℕ, IsTrue, List, [], ◌∷◌, Option, Some, None}
 use Rattle.shelf_core.specs.Shelf.{Holding, Rose}
 use Rattle.ehdl_top.specs.States.{ShelfState}
 use Rattle.ehdl_top.specs.Forms.{InputForm, IsReady, IsFaulty}
@@ -13,6 +13,11 @@ pub record Input : Type 1 where
 
 abbrev pub input : List ℕ → InputForm → Input
 input name form = record { name = name; form = form }
+
+-- an input that is named or not
+abbrev pub may_input : Option (List ℕ) → InputForm → List Input
+may_input (Some name) form = input name form ∷ []
+may_input None form = []
 
 abbrev pub names_in : List Input → List (List ℕ)
 names_in [] = []

@@ -8,6 +8,8 @@ use Rattle.kind_core.specs.declared.why.Refusal.{Refusal}
 use Rattle.kind_core.specs.Reasons.{reason_number}
 use Rattle.pcap_core.specs.declared.error.PcapError.{PcapError}
 use Rattle.pcap_core.specs.declared.error.PcapError.TheVariants.{Short, Magic, Version, Link, Frame}
+use Rattle.maps_text.specs.declared.error.MapsError.{MapsError}
+use Rattle.maps_text.specs.declared.error.MapsError.TheVariants as maps
 use Rattle.verilog_read.specs.declared.error.ReadError.{ReadError}
 use Rattle.verilog_read.specs.declared.error.ReadError.TheVariants as verilog
 use Rattle.verilog_read.specs.declared.error.ReadError.TheVariants.{Lex, Syntax, Unknown, Twice, Width, Order, Ports}
@@ -35,6 +37,15 @@ capture_code Version = codes "P3"
 capture_code (Link n) = codes "P4 " ++ decimal n
 capture_code (Frame index length) = codes "P5 " ++ decimal index ++ codes " " ++ decimal length
 
+-- the first bad line of a text of maps
+abbrev pub maps_code : MapsError → List ℕ
+maps_code (maps.Line n) = codes "M1 " ++ decimal n
+maps_code (maps.Unknown n) = codes "M2 " ++ decimal n
+maps_code (maps.Length n) = codes "M3 " ++ decimal n
+maps_code (maps.Twice n) = codes "M4 " ++ decimal n
+maps_code (maps.Full n) = codes "M5 " ++ decimal n
+maps_code maps.NoMemory = []
+
 -- the first error of a Verilog text
 abbrev pub verilog_code : ReadError → List ℕ
 verilog_code (Lex at) = codes "V1 " ++ decimal at
@@ -53,6 +64,8 @@ line_of (error.Object fault) = codes "object " ++ object.code_of fault ++ codes 
 line_of (error.Refused r) = codes "refused " ++ refusal_code r ++ codes "\n"
 line_of error.LongVerilog = codes "input verilog long\n"
 line_of (error.Verilog fault) = codes "input verilog " ++ verilog_code fault ++ codes "\n"
+line_of error.LongMaps = codes "input maps long\n"
+line_of (error.Maps fault) = codes "input maps " ++ maps_code fault ++ codes "\n"
 line_of error.LongCapture = codes "input capture long\n"
 line_of (error.Capture fault) = codes "input capture " ++ capture_code fault ++ codes "\n"
 line_of error.ReadFault = codes "read fault\n"

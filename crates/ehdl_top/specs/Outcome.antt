@@ -18,7 +18,7 @@ use Rattle.command_line.specs.Request.{Names}
 use Rattle.ehdl_top.specs.declared.limits.TheConstants.{OBJECT_LIMIT, VERILOG_LIMIT, CAPTURE_LIMIT}
 use Rattle.ehdl_top.specs.declared.error.CommandError.{CommandError}
 use Rattle.ehdl_top.specs.declared.error.CommandError.TheVariants as error
-use Rattle.ehdl_top.specs.Forms.{Holds, IsTaken, IsTextOf, IsCaptured, built, accepted, without_maps}
+use Rattle.ehdl_top.specs.Forms.{Holds, IsTaken, IsTextOf, StartsFrom, IsCaptured, built, accepted, without_maps}
 use Rattle.ehdl_top.specs.Writes.{Outputs}
 use Rattle.ehdl_top.specs.Results.{timed_packets, came_by, compile_outputs, run_outputs, result_outputs, sim_outputs}
 
@@ -65,6 +65,8 @@ pub record IsSimulated (names : Names) (verilog : List ℕ) (chosen : Chosen) (i
   pub held_object : Holds OBJECT_LIMIT (held names.object) (λ bytes. IsTaken chosen without_maps bytes program)
   pub design : Netlist
   pub held_text : Holds VERILOG_LIMIT (held verilog) (λ bytes. IsTextOf bytes design)
+  pub first : MapState
+  pub starts : StartsFrom names.maps program.decls held first
   pub magic : ℕ
   pub packets : List Packet
   pub held_capture : Holds CAPTURE_LIMIT (held names.capture) (λ bytes. IsCaptured bytes magic packets)
@@ -74,15 +76,18 @@ pub record IsSimulated (names : Names) (verilog : List ℕ) (chosen : Chosen) (i
   pub outputs_are : outputs ≡ sim_outputs names magic packets (answers_given [] drive.trace) (is_none end)
 
 -- ---- ref
--- The files that an object and a capture ask for of sequential execution alone: the answers of the object's program to one packet of
--- the capture after another, all by one interface, from maps in which nothing was written, and the maps behind the last.
+-- The files that an object, a capture and, if it is named, a text of maps ask for of sequential execution alone: the answers of the
+-- object's program to one packet of the capture after another, all by one interface, from the maps of the text, or from maps in which
+-- nothing was written, and the maps behind the last.
 pub record IsReference (names : Names) (chosen : Chosen) (ifindex : ℕ) (held : Holding) (outputs : Outputs) : Type 0 where
   pub program : XdpProgram
   pub held_program : Holds OBJECT_LIMIT (held names.object) (λ bytes. IsTaken chosen accepted bytes program)
+  pub first : MapState
+  pub starts : StartsFrom names.maps program.decls held first
   pub magic : ℕ
   pub packets : List Packet
   pub held_capture : Holds CAPTURE_LIMIT (held names.capture) (λ bytes. IsCaptured bytes magic packets)
   pub answers : List Answer
   pub final : MapState
-  pub runs : IsSequential program (opened_state program.decls) (came_by ifindex (timed_packets magic packets)) answers final
+  pub runs : IsSequential program first (came_by ifindex (timed_packets magic packets)) answers final
   pub outputs_are : outputs ≡ result_outputs names magic packets answers (Some (text_of final))

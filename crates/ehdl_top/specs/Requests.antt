@@ -1,24 +1,26 @@
 -- The commands: the inputs of each with their forms, its outputs, what it leaves, and how it may end. A command is a row of each.
-use Rattle.std.specs.Prelude.{◌≡◌, ◌⊎◌, ℕ, List, [], ◌∷◌, Option, Some, None}
+use Rattle.std.specs.Prelude.{◌≡◌, ◌⊎◌, ℕ, List, [], ◌∷◌, ◌++◌, Option, Some, None}
 use Rattle.shelf_core.specs.Shelf.{Holding}
 use Rattle.command_line.specs.Request.{Request, AskCompile, AskRun, AskSim, AskRef}
 use Rattle.ehdl_top.specs.declared.status.Status.{Status}
 use Rattle.ehdl_top.specs.declared.status.Status.TheVariants as status
 use Rattle.ehdl_top.specs.declared.error.CommandError.{CommandError}
-use Rattle.ehdl_top.specs.Forms.{program_form, built, accepted, without_maps, text_form, capture_form}
-use Rattle.ehdl_top.specs.Inputs.{Input, input, FirstStop, EndsAtInput}
+use Rattle.ehdl_top.specs.Forms.{program_form, built, accepted, without_maps, text_form, maps_form, held_decls, capture_form}
+use Rattle.ehdl_top.specs.Inputs.{Input, input, may_input, FirstStop, EndsAtInput}
 use Rattle.ehdl_top.specs.Writes.{Outputs}
 use Rattle.ehdl_top.specs.Outcome.{IsCompiled, IsRun, IsSimulated, IsReference}
 
--- in the order in which they are looked at
-abbrev pub inputs_of : Request → List Input
-inputs_of (AskCompile object verilog chosen) = input object (program_form chosen built) ∷ []
-inputs_of (AskRun names verilog chosen ifindex) =
+-- In the order in which they are looked at. What is held has a say: a text of maps is one of the maps that the object declares.
+abbrev pub inputs_of : Request → Holding → List Input
+inputs_of (AskCompile object verilog chosen) held = input object (program_form chosen built) ∷ []
+inputs_of (AskRun names verilog chosen ifindex) held =
     input names.object (program_form chosen built) ∷ input names.capture capture_form ∷ []
-inputs_of (AskSim names verilog chosen ifindex clocks) =
-    input names.object (program_form chosen without_maps) ∷ input verilog text_form ∷ input names.capture capture_form ∷ []
-inputs_of (AskRef names chosen ifindex) =
-    input names.object (program_form chosen accepted) ∷ input names.capture capture_form ∷ []
+inputs_of (AskSim names verilog chosen ifindex clocks) held =
+    input names.object (program_form chosen without_maps) ∷ input verilog text_form
+    ∷ (may_input names.maps (maps_form (held_decls chosen (held names.object))) ++ input names.capture capture_form ∷ [])
+inputs_of (AskRef names chosen ifindex) held =
+    input names.object (program_form chosen accepted)
+    ∷ (may_input names.maps (maps_form (held_decls chosen (held names.object))) ++ input names.capture capture_form ∷ [])
 
 -- the names that may be written
 abbrev pub outputs_of : Request → List (List ℕ)
@@ -49,9 +51,9 @@ IsFault status.NoMemory = Unit {0}
 IsFault s = ⊥
 
 -- the ends of a command
-abbrev pub CanEnd : Request → Status → Type 0
-CanEnd request s = EndsAtInput (inputs_of request) s ⊎ (EndsItself request s ⊎ IsFault s)
+abbrev pub CanEnd : Request → Holding → Status → Type 0
+CanEnd request held s = EndsAtInput (inputs_of request held) s ⊎ (EndsItself request s ⊎ IsFault s)
 
 -- what the inputs give a command up for: a fault of them, or a drive that is given up
 abbrev pub IsCause : Request → Holding → CommandError → Type 0
-IsCause request held e = FirstStop (inputs_of request) held e ⊎ ((outputs : Outputs) × IsOutcome request held (Some e) outputs)
+IsCause request held e = FirstStop (inputs_of request held) held e ⊎ ((outputs : Outputs) × IsOutcome request held (Some e) outputs)

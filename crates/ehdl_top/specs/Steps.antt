@@ -13,7 +13,9 @@ use Rattle.beat_core.specs.declared.answer.Answer.{Answer}
 use Rattle.port_drive.specs.Reports.{full_drive}
 use Rattle.xdp_object.specs.Program.{XdpProgram}
 use Rattle.xdp_object.specs.Choice.{Chosen}
+use Rattle.xdp_maps.specs.declared.decl.MapDecl.{MapDecl}
 use Rattle.xdp_maps.specs.State.{MapState, opened_state}
+use Rattle.maps_text.specs.Text.{IsMapsText}
 use Rattle.maps_text.specs.Writing.{text_of}
 use Rattle.ehdl_build.specs.Compiled.{PipelineSize, HasSize, IsSequential, Realizes, answer_of}
 use Rattle.xdp_machine.specs.State.{Code, PacketIn, start}
@@ -22,7 +24,7 @@ use Rattle.unfold_core.specs.declared.unfolding.Unfolded.{Unfolded}
 use Rattle.unfold_core.specs.Unfolding.{IsUnfolded}
 use Rattle.command_line.specs.Request.{Request, AskCompile, AskRun, AskSim, AskRef, Names}
 use Rattle.ehdl_top.specs.States.{ShelfState, Changes, OneRose}
-use Rattle.ehdl_top.specs.Forms.{InputForm, IsFaulty, IsTaken, built, accepted, IsTextFault, IsCaptured}
+use Rattle.ehdl_top.specs.Forms.{InputForm, IsFaulty, IsTaken, built, accepted, IsTextFault, maps_form, IsCaptured}
 use Rattle.ehdl_top.specs.Inputs.{FirstStop, OneUnread, EndsAtInput}
 use Rattle.ehdl_top.specs.Writes.{Write, Begin, Append}
 use Rattle.ehdl_top.specs.Results.{timed_packets, came_by, run_outputs, result_outputs, sim_outputs}
@@ -96,6 +98,16 @@ pub record HasCaptured (bytes : List ℕ) (captured : Captured) : Type 0 where
   pub is : IsCaptured bytes captured.magic packets
   pub of : IsCaptureOf captured packets
 
+-- the maps that a run starts from were read, or are those in which nothing was written
+abbrev pub AreRead : Option (List ℕ) → List MapDecl → ShelfState → MapState → Type 0
+AreRead (Some name) decls old maps = (bytes : List ℕ) × IsRead (maps_form decls) name old bytes × IsMapsText decls bytes maps
+AreRead None decls old maps = maps ≡ opened_state decls
+
+-- why there are none
+abbrev pub AreUnread : Option (List ℕ) → List MapDecl → ShelfState → ShelfState → CommandError → Type 0
+AreUnread (Some name) decls old new e = IsUnread (maps_form decls) name old new e
+AreUnread None decls old new e = e ≡ error.NoMemory
+
 -- what a text spells no design for
 abbrev pub TextStops : List ℕ → CommandError → Type 0
 TextStops bytes (error.Verilog fault) = IsTextFault bytes fault
@@ -155,11 +167,11 @@ pub record IsSimOf (names : Names) (design : Netlist) (ifindex clocks magic : �
   pub end_is : simulated.end ≡ drive_error design (length packets) drive drive.ended
   pub writes_are : map write_of simulated.writes.items ≡ (sim_outputs names magic packets (answers_given [] drive.trace) (is_none simulated.end)).writes
 
--- the writes of sequential execution alone
-pub record IsReferenceOf (names : Names) (program : XdpProgram) (ifindex magic : ℕ) (packets : List Packet) (writes : List code.Write) : Type 0 where
+-- the writes of sequential execution alone, from these maps on
+pub record IsReferenceOf (names : Names) (program : XdpProgram) (first : MapState) (ifindex magic : ℕ) (packets : List Packet) (writes : List code.Write) : Type 0 where
   pub answers : List Answer
   pub final : MapState
-  pub runs : IsSequential program (opened_state program.decls) (came_by ifindex (timed_packets magic packets)) answers final
+  pub runs : IsSequential program first (came_by ifindex (timed_packets magic packets)) answers final
   pub writes_are : map write_of writes ≡ (result_outputs names magic packets answers (Some (text_of final))).writes
 
 -- the text is none of the files that may be written beside it
@@ -195,9 +207,9 @@ pub record WritesAll (request : Request) (end : Option CommandError) (old new : 
 -- Why a command was given up: a read failed, memory ran out, or an input is not in its form, and nothing was written; a write failed;
 -- or all was written, and the drive was given up.
 pub data StopsBy (request : Request) (old new : ShelfState) (e : CommandError) : Type 0 where
-  Unread : e ≡ error.ReadFault → OneUnread (inputs_of request) old new → Changes [] old new → StopsBy request old new e
+  Unread : e ≡ error.ReadFault → OneUnread (inputs_of request old.held) old new → Changes [] old new → StopsBy request old new e
   OutOfMemory : e ≡ error.NoMemory → Changes [] old new → StopsBy request old new e
-  AtInput : EndsAtInput (inputs_of request) (status_of e) → (IsTrue old.tells → FirstStop (inputs_of request) old.held e) → Changes [] old new → StopsBy request old new e
+  AtInput : EndsAtInput (inputs_of request old.held) (status_of e) → (IsTrue old.tells → FirstStop (inputs_of request old.held) old.held e) → Changes [] old new → StopsBy request old new e
   Unwritten : e ≡ error.WriteFault → FailsWrite request old new → StopsBy request old new e
   AtEnd : WritesAll request (Some e) old new → StopsBy request old new e
 
@@ -214,6 +226,7 @@ pub record EndsIn (request : Request) (old new : ShelfState) (result : Result (U
 abbrev pub IsFixed : CommandError → Type 0
 IsFixed error.Usage = Unit {0}
 IsFixed error.LongVerilog = Unit {0}
+IsFixed error.LongMaps = Unit {0}
 IsFixed error.LongCapture = Unit {0}
 IsFixed error.ReadFault = Unit {0}
 IsFixed error.WriteFault = Unit {0}

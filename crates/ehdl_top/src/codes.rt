@@ -1,10 +1,11 @@
 // The texts of lines: words, codes and numbers in decimal.
 
 ghost use Rattle.std.specs.Prelude.{◌≡◌, ◌++◌, IfOk, codes, decimal};
-ghost use Rattle.ehdl_top.specs.Lines.{capture_code, verilog_code, refusal_code};
+ghost use Rattle.ehdl_top.specs.Lines.{capture_code, maps_code, verilog_code, refusal_code};
 
 use crate::line::push_decimal;
 use kind_core::{Refusal, Why};
+use maps_text::MapsError;
 use pcap_core::PcapError;
 use std::alloc::{AllocError, Global};
 use verilog_read::ReadError;
@@ -89,6 +90,28 @@ fn coded(alloc: Global, code: &[u8], number: u64) -> Result<Vec<u8>, AllocError>
     let mut text = Vec::from_slice(alloc, code)?;
     push_decimal(&mut text, number, b"")?;
     Ok(text)
+}
+
+/// The line of the first bad line of a text of maps.
+pub(crate) fn maps_line(alloc: Global, error: MapsError) -> Result<Vec<u8>, AllocError>
+    ensures { IfOk result (λ line. line.items ≡ codes "input maps " ++ maps_code error ++ codes "\n") }
+{
+    let code = maps_code(alloc, error)?;
+    named(alloc, b"input maps ", &code)
+}
+
+// The code of a text's first bad line, and its number.
+fn maps_code(alloc: Global, error: MapsError) -> Result<Vec<u8>, AllocError>
+    ensures { IfOk result (λ text. text.items ≡ maps_code error) }
+{
+    match error {
+        MapsError::Line { n } => coded(alloc, b"M1 ", n),
+        MapsError::Unknown { n } => coded(alloc, b"M2 ", n),
+        MapsError::Length { n } => coded(alloc, b"M3 ", n),
+        MapsError::Twice { n } => coded(alloc, b"M4 ", n),
+        MapsError::Full { n } => coded(alloc, b"M5 ", n),
+        MapsError::NoMemory => Ok(Vec::new(alloc)),
+    }
 }
 
 /// The line of the first error of a Verilog text.

@@ -102,20 +102,20 @@ pub fn top<S: Shelf, O: Sink>(alloc: Global, words: &Words, shelf: &mut S, out: 
     // that is given, what its full drive gives. It is written in the command's order.
     ensures outcome { AllWritten result → IsTrue (S.tells shelf.old) → (request : Request) → AsksFor words.now request → EndsAs request result (state_of S.Shelf shelf.old) (state_of S.Shelf shelf.new) }
     // Where the inputs are there in their forms and no fault comes, all is written, want of memory aside.
-    ensures complete { (request : Request) → AsksFor words.now request → IsTrue (S.tells shelf.old) → AreReady (inputs_of request) (S.held shelf.old) → ¬ OneRose (names_in (inputs_of request)) (S.read_faults shelf.old) (S.read_faults shelf.new) → ¬ OneRose (outputs_of request) (S.write_faults shelf.old) (S.write_faults shelf.new) → AllWritten result ⊎ (result ≡ Status.NoMemory) }
+    ensures complete { (request : Request) → AsksFor words.now request → IsTrue (S.tells shelf.old) → AreReady (inputs_of request (S.held shelf.old)) (S.held shelf.old) → ¬ OneRose (names_in (inputs_of request (S.held shelf.old))) (S.read_faults shelf.old) (S.read_faults shelf.new) → ¬ OneRose (outputs_of request) (S.write_faults shelf.old) (S.write_faults shelf.new) → AllWritten result ⊎ (result ≡ Status.NoMemory) }
 
     // The causes: exactly where the words ask for nothing, want of memory aside, and then nothing is read;
     ensures usage { result ≡ Status.Usage → (request : Request) → ¬ AsksFor words.now request }
     ensures unread { ((request : Request) → ¬ AsksFor words.now request) → (result ≡ Status.Usage) ⊎ (result ≡ Status.NoMemory) }
     ensures untouched { result ≡ Status.Usage → shelf.new ≡ shelf.old }
     // exactly where an input is not in its form and those before it are, want of memory aside, and a fault of a read up to it;
-    ensures inputs { (request : Request) → AsksFor words.now request → IsTrue (S.tells shelf.old) → (e : CommandError) → FirstStop (inputs_of request) (S.held shelf.old) e → (result ≡ status_of e) ⊎ ((result ≡ Status.ReadFault) ⊎ (result ≡ Status.NoMemory)) }
+    ensures inputs { (request : Request) → AsksFor words.now request → IsTrue (S.tells shelf.old) → (e : CommandError) → FirstStop (inputs_of request (S.held shelf.old)) (S.held shelf.old) e → (result ≡ status_of e) ⊎ ((result ≡ Status.ReadFault) ⊎ (result ≡ Status.NoMemory)) }
     // exactly where a drive is given up, faults and want of memory aside.
     ensures driven { (request : Request) → AsksFor words.now request → IsTrue (S.tells shelf.old) → (e : CommandError) (outputs : Outputs) → IsOutcome request (S.held shelf.old) (Some e) outputs → (result ≡ status_of e) ⊎ IsFault result }
     // A fault of a read: the count of this input rose, and those before it are in their forms. A fault of a write.
-    ensures read_fault { result ≡ Status.ReadFault → (request : Request) → AsksFor words.now request → OneUnread (inputs_of request) (state_of S.Shelf shelf.old) (state_of S.Shelf shelf.new) }
+    ensures read_fault { result ≡ Status.ReadFault → (request : Request) → AsksFor words.now request → OneUnread (inputs_of request (S.held shelf.old)) (state_of S.Shelf shelf.old) (state_of S.Shelf shelf.new) }
     ensures write_fault { result ≡ Status.WriteFault → (request : Request) → AsksFor words.now request → OneRose (outputs_of request) (S.write_faults shelf.old) (S.write_faults shelf.new) }
-    ensures never { (request : Request) → AsksFor words.now request → CanEnd request result }
+    ensures never { (request : Request) → AsksFor words.now request → CanEnd request (S.held shelf.old) result }
 
     // What is lost: nothing where no output was begun. Where a write fails, those before it were done, and none behind it was begun.
     ensures early { IsEarly result → SameHeld (S.held shelf.old) (S.held shelf.new) }

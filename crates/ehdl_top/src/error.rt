@@ -5,9 +5,10 @@ ghost use Rattle.ehdl_top.specs.Lines.{line_of};
 ghost use Rattle.ehdl_top.specs.Status.{status_of};
 ghost use Rattle.ehdl_top.specs.Steps.{bytes_of, IsFixed};
 
-use crate::codes::{capture_line, named, numbered, refusal_line, verilog_line};
+use crate::codes::{capture_line, maps_line, named, numbered, refusal_line, verilog_line};
 use crate::status::Status;
 use kind_core::Refusal;
+use maps_text::MapsError;
 use pcap_core::PcapError;
 use shelf_core::Failed;
 use std::alloc::{AllocError, Global};
@@ -75,6 +76,10 @@ pub(crate) enum CommandError {
     LongVerilog,
     /// The Verilog text is not in the subset.
     Verilog(ReadError),
+    /// The text of maps is longer than its limit.
+    LongMaps,
+    /// The text of maps is none: its first bad line.
+    Maps(MapsError),
     /// The capture is longer than its limit.
     LongCapture,
     /// The capture is none: its first fault.
@@ -123,6 +128,7 @@ impl CommandError {
             CommandError::Object(_) => Status::Object,
             CommandError::Refused(_) => Status::Refused,
             CommandError::LongVerilog | CommandError::Verilog(_) => Status::Input,
+            CommandError::LongMaps | CommandError::Maps(_) => Status::Input,
             CommandError::LongCapture | CommandError::Capture(_) => Status::Input,
             CommandError::ReadFault => Status::ReadFault,
             CommandError::WriteFault => Status::WriteFault,
@@ -140,6 +146,7 @@ impl CommandError {
         let text = match self {
             CommandError::Usage => return Ok(Line::Fixed(b"usage\n")),
             CommandError::LongVerilog => return Ok(Line::Fixed(b"input verilog long\n")),
+            CommandError::LongMaps => return Ok(Line::Fixed(b"input maps long\n")),
             CommandError::LongCapture => return Ok(Line::Fixed(b"input capture long\n")),
             CommandError::ReadFault => return Ok(Line::Fixed(b"read fault\n")),
             CommandError::WriteFault => return Ok(Line::Fixed(b"write fault\n")),
@@ -147,6 +154,7 @@ impl CommandError {
             CommandError::Object(fault) => named(alloc, b"object ", &fault.code(alloc)?)?,
             CommandError::Refused(refusal) => refusal_line(alloc, *refusal)?,
             CommandError::Verilog(fault) => verilog_line(alloc, *fault)?,
+            CommandError::Maps(fault) => maps_line(alloc, *fault)?,
             CommandError::Capture(fault) => capture_line(alloc, *fault)?,
             CommandError::XValue(net) => named(alloc, b"x value ", net.as_bytes())?,
             CommandError::Late { answers, frames } => numbered(alloc, b"late ", *answers, *frames)?,

@@ -9,6 +9,7 @@ mod error;
 mod form;
 mod limits;
 mod line;
+mod maps;
 mod object;
 mod packets;
 mod reference;

@@ -81,11 +81,11 @@ pub(crate) struct ObjectForm<'a> {
 }
 
 impl Form for ObjectForm<'_> {
-    type Value = ();
+    type Value = Program;
 
     ghost form = { λ f. program_form (chosen_of f.choice) without_maps };
 
-    ghost Gives = { λ _ _ _. Unit {0} };
+    ghost Gives = { λ f bytes program. IsTaken (chosen_of f.choice) without_maps bytes program };
 
     fn limit(&self) -> u64 {
         OBJECT_LIMIT
@@ -95,7 +95,7 @@ impl Form for ObjectForm<'_> {
         CommandError::Object(ObjectError::Long)
     }
 
-    fn read(&self, alloc: Global, bytes: &[u8]) -> Result<(), CommandError> {
+    fn read(&self, alloc: Global, bytes: &[u8]) -> Result<Program, CommandError> {
         read_alone(alloc, bytes, self.choice)
     }
 }
@@ -129,13 +129,13 @@ fn accepted_program(alloc: Global, object: &[u8], choice: Choice) -> Result<Prog
     }
 }
 
-// Whether these bytes are an object of a program without maps.
-fn read_alone(alloc: Global, object: &[u8], choice: Choice) -> Result<(), CommandError>
-    ensures object { OnOk result ((program : XdpProgram) × IsTaken (chosen_of choice.entry) without_maps object.now program) }
+// The program without maps of an object.
+fn read_alone(alloc: Global, object: &[u8], choice: Choice) -> Result<Program, CommandError>
+    ensures program { IfOk result (IsTaken (chosen_of choice.entry) without_maps object.now) }
     ensures given_up { IfErr result (IsGivenUp (program_form (chosen_of choice.entry) without_maps) object.now) }
 {
     match read_object(alloc, object, choice) {
-        Ok(program) if program.decls().is_empty() => Ok(()),
+        Ok(program) if program.decls().is_empty() => Ok(program),
         Ok(_) => Err(CommandError::Refused(NOT_YET)),
         Err(error) => Err(error_of(error)),
     }

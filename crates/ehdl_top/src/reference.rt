@@ -1,6 +1,6 @@
 // The command `ref`.
 
-ghost use Rattle.std.specs.Prelude.{List, IfOk};
+ghost use Rattle.std.specs.Prelude.{◌≡◌, List, IfOk};
 ghost use Rattle.pcap_core.specs.Format.{Packet};
 ghost use Rattle.unfold_core.specs.declared.unfolding.Unfolded.{Unfolded};
 ghost use Rattle.unfold_core.specs.Unfolding.{IsUnfolded};
@@ -11,6 +11,7 @@ ghost use Rattle.ehdl_top.specs.Steps.{AreApart, EndsIn, IsCaptureOf, IsReferenc
 
 use crate::error::CommandError;
 use crate::form::read_input;
+use crate::maps::read_maps;
 use crate::object::AcceptedForm;
 use crate::packets::{CaptureForm, Captured};
 use crate::results::push_results;
@@ -23,19 +24,22 @@ use std::alloc::{AllocError, Global};
 use xdp_maps::state::Maps;
 use xdp_object::Program;
 
-// Runs an accepted program over a capture, from maps in which nothing was written. What is to be written is what it answers.
+// Runs an accepted program over a capture, from these maps on. What is to be written is what it answers, and the maps in the end.
 fn ref_writes<'a>(
     alloc: Global,
     files: &Files<'a>,
     program: &Program,
+    mut maps: Maps,
     capture: &Captured,
     ifindex: u32,
 ) -> Result<Vec<Write<'a>>, AllocError>
     requires unfolded { (graph : Unfolded) × IsUnfolded program.now graph }
+    requires decls { maps.decls ≡ program.now.decls }
     requires captured { (packets : List Packet) × IsCaptureOf capture.now packets }
-    ensures { IfOk result (λ writes. (packets : List Packet) → IsCaptureOf capture.now packets → IsReferenceOf (names_of files.now) program.now ifindex capture.now.magic packets writes.items) }
+    ensures { IfOk result (λ writes. (packets : List Packet) → IsCaptureOf capture.now packets → IsReferenceOf (names_of files.now) program.now maps ifindex capture.now.magic packets writes.items) }
 {
-    let mut maps = Maps::new(alloc, program.decls())?;
+    // A program has few maps.
+    let _decls = program.decls();
     let answers = run_packets(alloc, program, &capture.packets, ifindex, &mut maps)?;
     let text = write_maps_text(alloc, &maps)?;
     let mut writes = Vec::new(alloc);
@@ -43,7 +47,8 @@ fn ref_writes<'a>(
     Ok(writes)
 }
 
-/// Runs an object's program over a capture, one packet after another, and writes what it answers and the maps that it leaves.
+/// Runs an object's program over a capture, one packet after another, from the maps of a text if one is named, and writes what it
+/// answers and the maps that it leaves.
 pub(crate) fn ref_files<S: Shelf>(
     alloc: Global,
     shelf: &mut S,
@@ -55,8 +60,9 @@ pub(crate) fn ref_files<S: Shelf>(
     ensures { EndsIn (AskRef (names_of files.now) (chosen_of choice.entry) ifindex) (state_of S.Shelf shelf.old) (state_of S.Shelf shelf.new) result }
 {
     let program = read_input(alloc, shelf, files.object, &AcceptedForm { choice })?;
+    let maps = read_maps(alloc, shelf, files.maps, &program)?;
     let capture = read_input(alloc, shelf, files.capture, &CaptureForm)?;
-    let writes = ref_writes(alloc, files, &program, &capture, ifindex)?;
+    let writes = ref_writes(alloc, files, &program, maps, &capture, ifindex)?;
     write_all(shelf, &writes)?;
     Ok(())
 }

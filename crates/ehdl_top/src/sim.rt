@@ -12,6 +12,7 @@ ghost use Rattle.ehdl_top.specs.Steps.{AreApart, EndsIn, IsCaptureOf, IsSimOf};
 use crate::drive::{Driven, drive_design};
 use crate::error::CommandError;
 use crate::form::read_input;
+use crate::maps::read_maps;
 use crate::object::ObjectForm;
 use crate::packets::{CaptureForm, Captured};
 use crate::results::push_results;
@@ -69,8 +70,10 @@ pub(crate) fn sim_files<S: Shelf>(
     requires { AreApart (names_of files.now) }
     ensures { EndsIn (AskSim (names_of files.now) verilog.now (chosen_of choice.entry) ifindex clocks) (state_of S.Shelf shelf.old) (state_of S.Shelf shelf.new) result }
 {
-    read_input(alloc, shelf, files.object, &ObjectForm { choice })?;
+    let program = read_input(alloc, shelf, files.object, &ObjectForm { choice })?;
     let design = read_input(alloc, shelf, verilog, &TextForm)?;
+    // There are no maps to load.
+    let _maps = read_maps(alloc, shelf, files.maps, &program)?;
     let capture = read_input(alloc, shelf, files.capture, &CaptureForm)?;
     let simulated = simulate(alloc, files, design, &capture, ifindex, clocks)?;
     let Simulated { writes, end } = simulated;

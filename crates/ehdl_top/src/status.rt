@@ -14,7 +14,7 @@ pub enum Status {
     Object,
     /// The object is sound, and holds what is not compiled.
     Refused,
-    /// A Verilog text or a capture is damaged, or too long.
+    /// A Verilog text, a text of maps or a capture is damaged, or too long.
     Input,
     /// A file could not be read.
     ReadFault,

@@ -11,3 +11,4 @@ pub mod Filled
 pub mod ReadBack
 pub mod Texts
 pub mod Faults
+pub mod TextLaws

@@ -388,12 +388,15 @@ module _ (decls : List MapDecl) where
         let cs : made.contents ≡ s.contents = ext_get_or map.empty made.contents s.contents (len ∙ sym t.beside) at in
         ap (λ (x : List MapDecl). let r : MapState = record { decls = x; contents = made.contents } in r) ds ∙ ap (λ (x : List Contents). let r : MapState = record { decls = s.decls; contents = x } in r) cs
 
-    pub text-outcome : (s : MapState) → SameByLookups → IsMapsText decls text s → outcome decls text ≡ Ok s
+    -- a text is read as some maps
+    pub text-made : (s : MapState) (t : IsMapsText decls text s) → outcome decls text ≡ Ok (with_items (unlisted decls) t.items).maps
     unfolding outcome
-    text-outcome s alike t =
-        let within = subst (λ n. Within n t.items) (sym len_first) (within_all decls (lines_of text) t.items t.good.lists) in
+    text-made s t =
         let steps = good_steps (lines_of text) t.items t.good in
-        ap (λ (r : Result Listed MapsError). and_then r (λ all. Ok all.maps)) (lines_are 1 (unlisted decls) (lines_of text) t.items t.good.lists steps) ∙ ap Ok (maps_are s t alike)
+        ap (λ (r : Result Listed MapsError). and_then r (λ all. Ok all.maps)) (lines_are 1 (unlisted decls) (lines_of text) t.items t.good.lists steps)
+
+    pub text-outcome : (s : MapState) → SameByLookups → IsMapsText decls text s → outcome decls text ≡ Ok s
+    text-outcome s alike t = text-made s t ∙ ap Ok (maps_are s t alike)
 
     found_by : (r : Result Listed MapsError) (s : MapState) → read_from 1 (unlisted decls) (lines_of text) ≡ r → and_then r (λ all. Ok all.maps) ≡ Ok s → IsMapsText decls text s
     unfolding value_or

@@ -1,4 +1,4 @@
-use Rattle.std.proofs.Common.{Option, [], List, map, length, is_none, inl, refl, sym, subst, ◌∙◌}
+use Rattle.std.proofs.Common.{Option, [], ◌∷◌, List, map, length, is_none, inl, refl, sym, subst, ◌∙◌}
 use Rattle.net_core.specs.View.{netlist_of}
 use Rattle.net_core.specs.History.{answers_given}
 use Rattle.xdp_object.specs.Choice.{chosen_of}
@@ -8,14 +8,60 @@ use Rattle.ehdl_top.specs.declared.write.Write as code
 use Rattle.ehdl_top.specs.States.{state_of}
 use Rattle.ehdl_top.specs.Writes.{AreDone, OneFailed}
 use Rattle.ehdl_top.specs.Results.{sim_outputs, finals_if}
+use Rattle.ehdl_top.specs.Forms.{without_maps, program_form, text_form, maps_form, held_decls, capture_form}
+use Rattle.ehdl_top.specs.Inputs.{input, may_input}
 use Rattle.ehdl_top.specs.Requests.{outputs_of}
 use Rattle.ehdl_top.specs.Steps.{write_of}
-use Rattle.ehdl_top.proofs.StateLemmas.{changes_then}
+use Rattle.ehdl_top.proofs.StateLemmas.{changes_none, changes_then}
 use Rattle.ehdl_top.proofs.WriteLemmas.{of_as}
 use Rattle.ehdl_top.proofs.ResultLemmas.{result_outputs_of}
-use Rattle.ehdl_top.proofs.OutcomeLemmas.{Makes, sim_makes}
-use Rattle.ehdl_top.proofs.EndLemmas.{ends_unwritten, ends_done, ends_driven, drive_ends}
+use Rattle.ehdl_top.proofs.OutcomeLemmas.{Makes, may_ready, starts_from, sim_makes}
+use Rattle.ehdl_top.proofs.FormLemmas.{decls_held}
+use Rattle.ehdl_top.proofs.EndLemmas.{was_ready, ends_unread, ends_mapless, ends_unwritten, ends_done, ends_driven, drive_ends}
 use Rattle.ehdl_top.proofs.sim.sim_files.Goals as goal
+
+pub returns-in_err-_maps : goal.returns-in_err-_maps
+returns-in_err-_maps g c =
+    let names = names_of c.args.files.now in
+    let choice = chosen_of c.args.choice in
+    let old = state_of g.S.Shelf c.args.shelf.now in
+    let first = state_of g.S.Shelf c.read_input.new.shelf in
+    let second = state_of g.S.Shelf c.read_input-2.new.shelf in
+    let new = state_of g.S.Shelf c.read_maps.new.shelf in
+    let object = c.in_ok-program.ensures.read in
+    let text = c.in_ok-design.ensures.read in
+    ends_mapless (AskSim names c.args.verilog.now choice c.args.ifindex c.args.clocks) old second new c.in_err-_maps.field-0.0 (changes_then [] old first second c.read_input.ensures.kept c.read_input-2.ensures.kept) c.read_maps.ensures.kept c.from_residual-in_err-_maps.result
+    (input names.object (program_form choice without_maps) ∷ input c.args.verilog.now text_form ∷ []) (input names.capture capture_form ∷ []) names.maps c.in_ok-program.program.decls (held_decls choice (old.held names.object)) c.from_residual-in_err-_maps.ensures.1 refl
+    (λ told. (
+      was_ready (program_form choice without_maps) names.object old old object.0 (changes_none old) object.1 told,
+      (was_ready text_form c.args.verilog.now old first text.0 c.read_input.ensures.kept text.1 told, tt),
+    ))
+    (λ told. decls_held choice (old.held names.object) object.0 c.in_ok-program.program (object.1.there told) object.2.object) c.in_err-_maps.ensures.unread
+
+pub returns-in_err-capture : goal.returns-in_err-capture
+returns-in_err-capture g c =
+    let names = names_of c.args.files.now in
+    let choice = chosen_of c.args.choice in
+    let old = state_of g.S.Shelf c.args.shelf.now in
+    let first = state_of g.S.Shelf c.read_input.new.shelf in
+    let second = state_of g.S.Shelf c.read_input-2.new.shelf in
+    let third = state_of g.S.Shelf c.read_maps.new.shelf in
+    let new = state_of g.S.Shelf c.read_input-3.new.shelf in
+    let object = c.in_ok-program.ensures.read in
+    let text = c.in_ok-design.ensures.read in
+    let both = changes_then [] old first second c.read_input.ensures.kept c.read_input-2.ensures.kept in
+    let declared = held_decls choice (old.held names.object) in
+    ends_unread (AskSim names c.args.verilog.now choice c.args.ifindex c.args.clocks) old third new c.in_err-capture.field-0.0 (changes_then [] old second third both c.read_maps.ensures.kept) c.read_input-3.ensures.kept c.from_residual-in_err-capture.result
+    (input names.object (program_form choice without_maps) ∷ input c.args.verilog.now text_form ∷ may_input names.maps (maps_form declared)) (input names.capture capture_form) [] c.from_residual-in_err-capture.ensures.1 refl
+    (λ told. (
+      was_ready (program_form choice without_maps) names.object old old object.0 (changes_none old) object.1 told,
+      (
+        was_ready text_form c.args.verilog.now old first text.0 c.read_input.ensures.kept text.1 told,
+        may_ready names.maps c.in_ok-program.program.decls declared old.held c.in_ok-_maps._maps (decls_held choice (old.held names.object) object.0 c.in_ok-program.program (object.1.there told) object.2.object)
+            (starts_from names.maps c.in_ok-program.program.decls old second c.in_ok-_maps._maps both c.in_ok-_maps.ensures.read told),
+      ),
+    ))
+    c.in_err-capture.ensures.unread
 
 pub returns-in_err-write_all : goal.returns-in_err-write_all
 returns-in_err-write_all g c =
@@ -24,19 +70,21 @@ returns-in_err-write_all g c =
     let old = state_of g.S.Shelf c.args.shelf.now in
     let first = state_of g.S.Shelf c.read_input.new.shelf in
     let second = state_of g.S.Shelf c.read_input-2.new.shelf in
+    let third = state_of g.S.Shelf c.read_maps.new.shelf in
     let mid = state_of g.S.Shelf c.read_input-3.new.shelf in
     let new = state_of g.S.Shelf c.write_all.new.shelf in
-    let object = c.in_ok-read_input.ensures.read in
+    let object = c.in_ok-program.ensures.read in
     let text = c.in_ok-design.ensures.read in
     let capture = c.in_ok-capture.ensures.read in
     let simulated = c.in_ok-simulated.simulated in
     let sim = c.in_ok-simulated.ensures capture.2.packets capture.2.of in
     let both = changes_then [] old first second c.read_input.ensures.kept c.read_input-2.ensures.kept in
-    let same = changes_then [] old second mid both c.read_input-3.ensures.kept in
+    let all = changes_then [] old second third both c.read_maps.ensures.kept in
+    let same = changes_then [] old third mid all c.read_input-3.ensures.kept in
     let of = of_as (outputs_of request) (map write_of simulated.writes.items) (sim_outputs names c.in_ok-capture.capture.magic capture.2.packets (answers_given [] sim.drive.trace) (is_none simulated.end)).writes sim.writes_are
     (result_outputs_of names c.in_ok-capture.capture.magic capture.2.packets (answers_given [] sim.drive.trace) (finals_if (is_none simulated.end))) in
-    let makes = sim_makes names c.args.verilog.now (chosen_of c.args.choice) c.args.ifindex c.args.clocks old first second object.0 text.0 capture.0 (netlist_of c.in_ok-design.design) c.in_ok-capture.capture.magic capture.2.packets simulated c.requires c.read_input.ensures.kept both
-    object.1 text.1 text.2 capture.1 capture.2.is sim in
+    let makes = sim_makes names c.args.verilog.now (chosen_of c.args.choice) c.args.ifindex c.args.clocks old first second third object.0 text.0 capture.0 c.in_ok-program.program (netlist_of c.in_ok-design.design) c.in_ok-_maps._maps c.in_ok-capture.capture.magic capture.2.packets simulated c.requires c.read_input.ensures.kept both all
+    object.1 object.2 text.1 text.2 c.in_ok-_maps.ensures.read capture.1 capture.2.is sim in
     let P : List code.Write → Type 0 = λ ws. OneFailed (map write_of ws) mid new in
     ends_unwritten request simulated.end old mid new (map write_of simulated.writes.items) c.from_residual-in_err-write_all.result c.from_residual-in_err-write_all.ensures.1 of same makes (subst P c.deref.ensures.value c.in_err-write_all.ensures.failed)
 
@@ -47,19 +95,21 @@ returns-in-None g c =
     let old = state_of g.S.Shelf c.args.shelf.now in
     let first = state_of g.S.Shelf c.read_input.new.shelf in
     let second = state_of g.S.Shelf c.read_input-2.new.shelf in
+    let third = state_of g.S.Shelf c.read_maps.new.shelf in
     let mid = state_of g.S.Shelf c.read_input-3.new.shelf in
     let new = state_of g.S.Shelf c.write_all.new.shelf in
-    let object = c.in_ok-read_input.ensures.read in
+    let object = c.in_ok-program.ensures.read in
     let text = c.in_ok-design.ensures.read in
     let capture = c.in_ok-capture.ensures.read in
     let simulated = c.in_ok-simulated.simulated in
     let sim = c.in_ok-simulated.ensures capture.2.packets capture.2.of in
     let both = changes_then [] old first second c.read_input.ensures.kept c.read_input-2.ensures.kept in
-    let same = changes_then [] old second mid both c.read_input-3.ensures.kept in
+    let all = changes_then [] old second third both c.read_maps.ensures.kept in
+    let same = changes_then [] old third mid all c.read_input-3.ensures.kept in
     let of = of_as (outputs_of request) (map write_of simulated.writes.items) (sim_outputs names c.in_ok-capture.capture.magic capture.2.packets (answers_given [] sim.drive.trace) (is_none simulated.end)).writes sim.writes_are
     (result_outputs_of names c.in_ok-capture.capture.magic capture.2.packets (answers_given [] sim.drive.trace) (finals_if (is_none simulated.end))) in
-    let makes = sim_makes names c.args.verilog.now (chosen_of c.args.choice) c.args.ifindex c.args.clocks old first second object.0 text.0 capture.0 (netlist_of c.in_ok-design.design) c.in_ok-capture.capture.magic capture.2.packets simulated c.requires c.read_input.ensures.kept both
-    object.1 text.1 text.2 capture.1 capture.2.is sim in
+    let makes = sim_makes names c.args.verilog.now (chosen_of c.args.choice) c.args.ifindex c.args.clocks old first second third object.0 text.0 capture.0 c.in_ok-program.program (netlist_of c.in_ok-design.design) c.in_ok-_maps._maps c.in_ok-capture.capture.magic capture.2.packets simulated c.requires c.read_input.ensures.kept both all
+    object.1 object.2 text.1 text.2 c.in_ok-_maps.ensures.read capture.1 capture.2.is sim in
     let P : List code.Write → Type 0 = λ ws. AreDone (map write_of ws) mid new in
     let Q : Option CommandError → Type 0 = λ end. Makes request old.held end (map write_of simulated.writes.items) in
     ends_done request old mid new (map write_of simulated.writes.items) (inl refl) of same (λ told. subst Q c.in-None.is (makes told)) (subst P c.deref.ensures.value c.in_ok-write_all.ensures.done)
@@ -71,19 +121,21 @@ returns g c =
     let old = state_of g.S.Shelf c.args.shelf.now in
     let first = state_of g.S.Shelf c.read_input.new.shelf in
     let second = state_of g.S.Shelf c.read_input-2.new.shelf in
+    let third = state_of g.S.Shelf c.read_maps.new.shelf in
     let mid = state_of g.S.Shelf c.read_input-3.new.shelf in
     let new = state_of g.S.Shelf c.write_all.new.shelf in
-    let object = c.in_ok-read_input.ensures.read in
+    let object = c.in_ok-program.ensures.read in
     let text = c.in_ok-design.ensures.read in
     let capture = c.in_ok-capture.ensures.read in
     let simulated = c.in_ok-simulated.simulated in
     let sim = c.in_ok-simulated.ensures capture.2.packets capture.2.of in
     let both = changes_then [] old first second c.read_input.ensures.kept c.read_input-2.ensures.kept in
-    let same = changes_then [] old second mid both c.read_input-3.ensures.kept in
+    let all = changes_then [] old second third both c.read_maps.ensures.kept in
+    let same = changes_then [] old third mid all c.read_input-3.ensures.kept in
     let of = of_as (outputs_of request) (map write_of simulated.writes.items) (sim_outputs names c.in_ok-capture.capture.magic capture.2.packets (answers_given [] sim.drive.trace) (is_none simulated.end)).writes sim.writes_are
     (result_outputs_of names c.in_ok-capture.capture.magic capture.2.packets (answers_given [] sim.drive.trace) (finals_if (is_none simulated.end))) in
-    let makes = sim_makes names c.args.verilog.now (chosen_of c.args.choice) c.args.ifindex c.args.clocks old first second object.0 text.0 capture.0 (netlist_of c.in_ok-design.design) c.in_ok-capture.capture.magic capture.2.packets simulated c.requires c.read_input.ensures.kept both
-    object.1 text.1 text.2 capture.1 capture.2.is sim in
+    let makes = sim_makes names c.args.verilog.now (chosen_of c.args.choice) c.args.ifindex c.args.clocks old first second third object.0 text.0 capture.0 c.in_ok-program.program (netlist_of c.in_ok-design.design) c.in_ok-_maps._maps c.in_ok-capture.capture.magic capture.2.packets simulated c.requires c.read_input.ensures.kept both all
+    object.1 object.2 text.1 text.2 c.in_ok-_maps.ensures.read capture.1 capture.2.is sim in
     let P : List code.Write → Type 0 = λ ws. AreDone (map write_of ws) mid new in
     let Q : Option CommandError → Type 0 = λ end. Makes request old.held end (map write_of simulated.writes.items) in
     ends_driven request c.in-Some.error old mid new (map write_of simulated.writes.items)
