@@ -38,7 +38,7 @@ pub returns-in_default-two_units-clause-error : goal.returns-in_default-two_unit
 returns-in_default-two_units-clause-error c = record {
   program = c.in-Ok.program;
   object = c.in-Ok.ensures.program;
-  refusal = inr (record { accepted = accepted_of c.in-Ok.program c.in_default.field-0 c.in_default.ensures.unfolds; other = search rules; refusal = refl });
+  refusal = inr (record { accepted = accepted_of c.in-Ok.program c.in-Ok-unfold.graph c.in-Ok-unfold.ensures.unfolds; other = search rules; refusal = refl });
 }
 
 pub returns-in_default-two_units-clause-object : goal.returns-in_default-two_units-clause-object
@@ -47,14 +47,15 @@ returns-in_default-two_units-clause-object c = λ e fault.
 
 pub returns-in_default-two_units-clause-refused : goal.returns-in_default-two_units-clause-refused
 returns-in_default-two_units-clause-refused c = λ r refused.
-    inl (ap (λ x. Err (Refused x)) (sym (not_built (chosen_of c.args.choice) c.args.bytes.now c.in-Ok.program r c.in-Ok.ensures.program (accepted_of c.in-Ok.program c.in_default.field-0 c.in_default.ensures.unfolds) refused)))
+    inl (ap (λ x. Err (Refused x)) (sym (not_built (chosen_of c.args.choice) c.args.bytes.now c.in-Ok.program r c.in-Ok.ensures.program (accepted_of c.in-Ok.program c.in-Ok-unfold.graph c.in-Ok-unfold.ensures.unfolds) refused)))
 
 pub returns-clause-ok : goal.returns-clause-ok
 returns-clause-ok c =
-    compiled (chosen_of c.args.choice) c.args.bytes.now c.in_ok-text.text.items c.in-Ok.program c.in-Some.number c.low_word.result
-    c.in-Ok.ensures.program (accepted_of c.in-Ok.program c.in_default.field-0 c.in_default.ensures.unfolds) c.in-Some.ensures.found
+    compiled (chosen_of c.args.choice) c.args.bytes.now c.in_ok-text.text c.in_ok-decls.decls c.in-Ok.program c.in-Some.number c.low_word.result _
+    c.in-Ok.ensures.program (accepted_of c.in-Ok.program c.in-Ok-unfold.graph c.in-Ok-unfold.ensures.unfolds) c.in-Some.ensures.found
     (c.low_word.ensures ∙ ap verdict_of (to_z-of_z w64 c.in-Some.number (search rules)))
     (subst (λ (d : Netlist). Spells c.in_ok-text.text.items d) c.in_ok-design.ensures.netlist c.in_ok-text.ensures)
+    (c.in_ok-decls.ensures ∙ c.decls.ensures.decls) refl
 
 pub returns-clause-object : goal.returns-clause-object
 returns-clause-object c = λ e fault.
@@ -62,4 +63,4 @@ returns-clause-object c = λ e fault.
 
 pub returns-clause-refused : goal.returns-clause-refused
 returns-clause-refused c = λ r refused.
-    absurd (no_refusal (chosen_of c.args.choice) c.args.bytes.now c.in-Ok.program c.in-Some.number r c.in-Ok.ensures.program (accepted_of c.in-Ok.program c.in_default.field-0 c.in_default.ensures.unfolds) c.in-Some.ensures.found refused)
+    absurd (no_refusal (chosen_of c.args.choice) c.args.bytes.now c.in-Ok.program c.in-Some.number r c.in-Ok.ensures.program (accepted_of c.in-Ok.program c.in-Ok-unfold.graph c.in-Ok-unfold.ensures.unfolds) c.in-Some.ensures.found refused)
