@@ -15,7 +15,7 @@ use Rattle.xdp_maps.specs.declared.decl.MapDecl.{MapDecl}
 use Rattle.xdp_maps.specs.State.{MapState}
 use Rattle.xdp_object.specs.Program.{XdpProgram}
 use Rattle.xdp_machine.proofs.RunLaws.{runs_length}
-use Rattle.ehdl_build.specs.Compiled.{code_of, packets_in, answer_of, IsSequential}
+use Rattle.ehdl_build.specs.Compiled.{PipelineSize, code_of, packets_in, answer_of, IsSequential}
 use Rattle.xdp_object.specs.Choice.{Chosen}
 use Rattle.command_line.specs.Request.{Request, AskCompile, AskRun, AskSim, AskRef, Names}
 use Rattle.maps_text.specs.Text.{IsMapsText}
@@ -164,9 +164,9 @@ pub starts_from : (name : Option (List ℕ)) (decls : List MapDecl) (a b : Shelf
 starts_from (Some name) decls a b first same read told = was_held MAPS_LIMIT name a b read.0 (λ bytes. IsMapsText decls bytes first) same read.1.there read.1.within read.2 told
 starts_from None decls a b first same read told = read
 
-pub compile_makes : (object verilog : List ℕ) (chosen : Chosen) (old : ShelfState) (bytes text : List ℕ) (ws : List Write) → IsRead (program_form chosen built) object old bytes → IsTextFor chosen bytes text
+pub compile_makes : (object verilog : List ℕ) (chosen : Chosen) (old : ShelfState) (bytes text : List ℕ) (size : PipelineSize) (ws : List Write) → IsRead (program_form chosen built) object old bytes → IsTextFor chosen bytes text size
     → ws ≡ (compile_outputs verilog text).writes → IsTrue old.tells → Makes (AskCompile object verilog chosen) old.held None ws
-compile_makes object verilog chosen old bytes text ws read is e told = record {
+compile_makes object verilog chosen old bytes text size ws read is e told = record {
   outputs = compile_outputs verilog text;
   outcome = (
     refl,
@@ -174,7 +174,7 @@ compile_makes object verilog chosen old bytes text ws read is e told = record {
       program = is.program;
       held_program = record { bytes = bytes; there = read.there told; within = read.within; is = is.taken };
       text = text;
-      size = is.size;
+      size = size;
       has_size = is.realized.has_size;
       realizes = is.realized.realizes;
       outputs_are = refl;
@@ -185,10 +185,10 @@ compile_makes object verilog chosen old bytes text ws read is e told = record {
   of = (inl refl, (inl refl, tt));
 }
 
-pub run_makes : (names : Names) (verilog : List ℕ) (chosen : Chosen) (ifindex : ℕ) (a b : ShelfState) (object capture text : List ℕ) (magic : ℕ) (packets : List Packet) (writes : List code.Write) → AreApart names → IsTextApart names verilog → Changes [] a b
-    → IsRead (program_form chosen built) names.object a object → (is : IsTextFor chosen object text) → IsRead capture_form names.capture b capture → IsCaptured capture magic packets
+pub run_makes : (names : Names) (verilog : List ℕ) (chosen : Chosen) (ifindex : ℕ) (a b : ShelfState) (object capture text : List ℕ) (size : PipelineSize) (magic : ℕ) (packets : List Packet) (writes : List code.Write) → AreApart names → IsTextApart names verilog → Changes [] a b
+    → IsRead (program_form chosen built) names.object a object → (is : IsTextFor chosen object text size) → IsRead capture_form names.capture b capture → IsCaptured capture magic packets
     → IsRunOf names verilog text is.program ifindex magic packets writes → IsTrue a.tells → Makes (AskRun names verilog chosen ifindex) a.held None (map write_of writes)
-run_makes names verilog chosen ifindex a b object capture text magic packets writes apart own same read is read' captured run told = record {
+run_makes names verilog chosen ifindex a b object capture text size magic packets writes apart own same read is read' captured run told = record {
   outputs = run_outputs names verilog text magic packets run.answers;
   outcome = (
     refl,
@@ -196,7 +196,7 @@ run_makes names verilog chosen ifindex a b object capture text magic packets wri
       program = is.program;
       held_program = record { bytes = object; there = read.there told; within = read.within; is = is.taken };
       text = text;
-      size = is.size;
+      size = size;
       has_size = is.realized.has_size;
       realizes = is.realized.realizes;
       magic = magic;

@@ -50,19 +50,19 @@ pub record Answers (p : XdpProgram) (d : Netlist) (ifindex limit : ℕ) (packets
   pub all : IsSequential p (opened_state p.decls) (came_by ifindex packets) (answers_given [] (full_drive d ifindex (first_stored d) packets limit).trace) last
 
 -- so many clocks are enough
-abbrev pub IsEnough : List Timed → ℕ → Type 0
-IsEnough packets limit = clock_bound (length packets) 0 (most_beats (map (λ p. p.frame) packets)) 0 ≤ limit
+abbrev pub IsEnough : PipelineSize → List Timed → ℕ → Type 0
+IsEnough z packets limit = clock_bound (length packets) z.stages (most_beats (map (λ p. p.frame) packets)) z.records ≤ limit
 
-whole : (p : XdpProgram) (d : Netlist) (s : Stored) (z : PipelineSize) (ifindex limit : ℕ) (packets : List Timed) → z ≡ record { stages = 0; records = 0; nodes = 2 } → s ≡ first_stored d
+whole : (p : XdpProgram) (d : Netlist) (s : Stored) (z : PipelineSize) (ifindex limit : ℕ) (packets : List Timed) → s ≡ first_stored d
     → Meets d s (IsSequential p (opened_state p.decls)) (DoNotConflict p (opened_state p.decls) z.stages) z.stages z.records
-    → AllByRecursion IsLegal packets → ifindex < 2 ^ 32 → IsEnough packets limit → Answers p d ifindex limit packets
-whole p d s z ifindex limit packets size from meets are fits enough =
+    → AllByRecursion IsLegal packets → ifindex < 2 ^ 32 → IsEnough z packets limit → Answers p d ifindex limit packets
+whole p d s z ifindex limit packets from meets are fits enough =
     let came : List Arrival = came_by ifindex packets in
     let many : length came ≡ length packets = length-map packets (arrival_of ifindex) in
     let wanted : List Arrival → List Answer → MapState → Type 0 = IsSequential p (opened_state p.decls) in
     let bound : clock_bound (length came) z.stages (most_beats (frames_in came)) z.records ≤ limit =
-    subst (λ (y : PipelineSize). clock_bound (length came) y.stages (most_beats (frames_in came)) y.records ≤ limit) (sym size)
-    (subst (λ n. clock_bound n 0 (most_beats (frames_in came)) 0 ≤ limit) (sym many) (subst (λ fs. clock_bound (length packets) 0 (most_beats fs) 0 ≤ limit) (sym (frames-came_by ifindex packets)) enough)) in
+    subst (λ n. clock_bound n z.stages (most_beats (frames_in came)) z.records ≤ limit) (sym many)
+    (subst (λ fs. clock_bound (length packets) z.stages (most_beats fs) z.records ≤ limit) (sym (frames-came_by ifindex packets)) enough) in
     let W : Stored → List Offered → ℕ → Type 0 = λ t os n. IsWhole d t [] (drive d t os n limit) came wanted in
     let w : W (first_stored d) (flat_map (offers_of ifindex) packets) (length packets) =
     subst (λ t. W t (flat_map (offers_of ifindex) packets) (length packets)) from
@@ -72,11 +72,11 @@ whole p d s z ifindex limit packets size from meets are fits enough =
 
 -- the design of the text answers in the stated clocks, as sequential execution does
 pub answers : (text : List ℕ) (p : XdpProgram) (z : PipelineSize) (r : IsRealized text p z) (d : Netlist) (ifindex limit : ℕ) (packets : List Timed) → r.realizes.design ≡ d
-    → AllByRecursion IsLegal packets → ifindex < 2 ^ 32 → IsEnough packets limit → Answers p d ifindex limit packets
+    → AllByRecursion IsLegal packets → ifindex < 2 ^ 32 → IsEnough z packets limit → Answers p d ifindex limit packets
 answers text p z r d ifindex limit packets same are fits enough =
     let maps : MapState = opened_state p.decls in
     let mine : AreMapsOf p maps = none_of p r.no_maps in
     let none : NoMapsNoClocks maps = need_no_clocks maps mine.sound r.no_maps in
     subst (λ (e : Netlist). Answers p e ifindex limit packets) same
-    (whole p r.realizes.design (stored_after r.realizes.design (first_stored r.realizes.design) (load maps)) z ifindex limit packets r.has_size.size
+    (whole p r.realizes.design (stored_after r.realizes.design (first_stored r.realizes.design) (load maps)) z ifindex limit packets
     (ap (stored_after r.realizes.design (first_stored r.realizes.design)) none.no_load) (r.realizes.meets maps mine) are fits enough)

@@ -71,11 +71,10 @@ pub record IsRealized (text : List ℕ) (program : XdpProgram) (size : PipelineS
   pub has_size : HasSize program size
   pub realizes : Realizes text program size
 
--- a text that realizes the program of an object
-pub record IsTextFor (choice : Chosen) (bytes text : List ℕ) : Type 0 where
+-- a text that realizes the program of an object, whose pipeline has this size
+pub record IsTextFor (choice : Chosen) (bytes text : List ℕ) (size : PipelineSize) : Type 0 where
   pub program : XdpProgram
   pub taken : IsTaken choice built bytes program
-  pub size : PipelineSize
   pub realized : IsRealized text program size
 
 -- when a packet came, as its record says
