@@ -13,6 +13,7 @@ use Rattle.xdp_object.specs.Object.{FirstFault, IsObject}
 use Rattle.xdp_object.proofs.OutcomeLaws.{one_outcome, never_both}
 use Rattle.xdp_object.proofs.UnitLaws.{two_units_alone}
 use Rattle.xdp_object.specs.Program.{XdpProgram}
+use Rattle.xdp_machine.specs.Program.{IsProgram}
 use Rattle.xdp_object.specs.TwoUnits.{two_units}
 use Rattle.xdp_maps.specs.State.{MapState}
 use Rattle.xdp_machine.specs.State.{Code}
@@ -88,12 +89,13 @@ realizes p k v nodes text units decls refs same s = record {
     none : (maps : MapState) → AreMapsOf p maps → NoMapsNoClocks maps
     none maps are = need_no_clocks maps are.sound (are.declared ∙ decls)
 
-pub compiled : (choice : Chosen) (bytes : List ℕ) (text : Vec ℕ Global) (decls : Vec MapDecl Global) (p : XdpProgram) (k : ℤ) (v nodes : ℕ) → IsObject choice bytes p → (accepted : IsAccepted p) → p.insns ≡ two_units k
+pub compiled : (choice : Chosen) (bytes : List ℕ) (text : Vec ℕ Global) (decls : Vec MapDecl Global) (p : XdpProgram) (k : ℤ) (v nodes : ℕ) → IsObject choice bytes p → IsProgram p → (accepted : IsAccepted p) → p.insns ≡ two_units k
     → v ≡ verdict_of k → Spells text.items (store_and_forward v) → decls.items ≡ p.decls → nodes ≡ length accepted.graph
     → Compiles choice bytes (record { text = text; decls = decls; rows = 0; records = 0; nodes = nodes })
-compiled choice bytes text decls p k v nodes o accepted units same s own count = record {
+compiled choice bytes text decls p k v nodes o whole accepted units same s own count = record {
   program = p;
   object = o;
+  is_program = whole;
   accepted = accepted;
   decls = own;
   has_size = record { number = k; is = units; accepted = accepted; stages = refl; records = refl; nodes = count };

@@ -3,6 +3,7 @@ use Rattle.std.specs.Prelude.{◌≡◌, ◌≢◌, ◌⊎◌, ℕ, ℤ, ◌+◌
 use Rattle.xdp_object.specs.Choice.{Chosen}
 use Rattle.xdp_object.specs.Object.{FirstFault, IsObject}
 use Rattle.xdp_object.specs.Program.{XdpProgram}
+use Rattle.xdp_machine.specs.Program.{IsProgram}
 use Rattle.xdp_object.specs.TwoUnits.{two_units}
 use Rattle.xdp_maps.specs.State.{MapState, IsSound}
 use Rattle.xdp_machine.specs.State.{Code, PacketIn}
@@ -84,11 +85,12 @@ pub record Realizes (text : List ℕ) (p : XdpProgram) (z : PipelineSize) : Type
 abbrev pub size_of : Built → PipelineSize
 size_of b = record { stages = b.rows; records = b.records; nodes = b.nodes }
 
--- Under a choice the bytes are an object of an accepted program. What was built are its declarations and the size of its pipeline, and a
+-- Under a choice the bytes are an object of an accepted program, whose parts make up one. What was built are its declarations and the size of its pipeline, and a
 -- text that realizes it.
 pub record Compiles (choice : Chosen) (bytes : List ℕ) (built : Built) : Type 0 where
   pub program : XdpProgram
   pub object : IsObject choice bytes program
+  pub is_program : IsProgram program
   pub accepted : IsAccepted program
   pub decls : built.decls.items ≡ program.decls
   pub has_size : HasSize program (size_of built)

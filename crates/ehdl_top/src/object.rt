@@ -4,9 +4,8 @@ ghost use Rattle.std.specs.Prelude.{◌≡◌, ◌≢◌, ◌⊎◌, ℕ, List, 
 ghost use Rattle.xdp_object.specs.Object.{IsObject};
 ghost use Rattle.xdp_object.specs.Program.{XdpProgram};
 ghost use Rattle.xdp_object.specs.Choice.{chosen_of};
-ghost use Rattle.ehdl_build.specs.Compiled.{size_of};
 ghost use Rattle.ehdl_top.specs.Forms.{IsTaken, program_form, built, accepted, without_maps};
-ghost use Rattle.ehdl_top.specs.Steps.{IsTextFor, IsUnfoldedBy, IsGivenUp};
+ghost use Rattle.ehdl_top.specs.Steps.{IsBuiltOf, IsUnfoldedBy, IsGivenUp};
 
 use crate::error::CommandError;
 use crate::form::Form;
@@ -34,7 +33,7 @@ impl Form for ProgramForm<'_> {
 
     ghost form = { λ f. program_form (chosen_of f.choice) built };
 
-    ghost Gives = { λ f bytes built. IsTextFor (chosen_of f.choice) bytes built.text.items (size_of built) };
+    ghost Gives = { λ f bytes built. IsBuiltOf (chosen_of f.choice) bytes built };
 
     fn limit(&self) -> u64 {
         OBJECT_LIMIT
@@ -103,7 +102,7 @@ impl Form for ObjectForm<'_> {
 
 // What is built of an object.
 fn build(alloc: Global, object: &[u8], choice: Choice) -> Result<Built, CommandError>
-    ensures text { IfOk result (λ built. IsTextFor (chosen_of choice.entry) object.now built.text.items (size_of built)) }
+    ensures text { IfOk result (IsBuiltOf (chosen_of choice.entry) object.now) }
     ensures given_up { IfErr result (IsGivenUp (program_form (chosen_of choice.entry) built) object.now) }
 {
     match compile(alloc, object, choice) {

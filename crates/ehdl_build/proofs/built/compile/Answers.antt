@@ -52,7 +52,7 @@ returns-in_default-clause-refused c = λ r refused.
 pub returns-clause-ok : goal.returns-clause-ok
 returns-clause-ok c =
     compiled (chosen_of c.args.choice) c.args.bytes.now c.in_ok-text.text c.in_ok-decls.decls c.in-Ok.program c.in-Some.number c.low_word.result _
-    c.in-Ok.ensures.program (record { loops = c.in-Ok-unfold.graph.loops.items; graph = c.in-Ok-unfold.graph.nodes.items; has_loops = c.in-Ok-unfold.ensures.unfolds.loops; is_graph = c.in-Ok-unfold.ensures.unfolds.graph }) c.in-Some.ensures.found
+    c.in-Ok.ensures.program c.decls.ensures.program (record { loops = c.in-Ok-unfold.graph.loops.items; graph = c.in-Ok-unfold.graph.nodes.items; has_loops = c.in-Ok-unfold.ensures.unfolds.loops; is_graph = c.in-Ok-unfold.ensures.unfolds.graph }) c.in-Some.ensures.found
     (c.low_word.ensures ∙ ap verdict_of (to_z-of_z w64 c.in-Some.number (search rules)))
     (subst (λ (d : Netlist). Spells c.in_ok-text.text.items d) c.in_ok-design.ensures.netlist c.in_ok-text.ensures)
     (c.in_ok-decls.ensures ∙ c.decls.ensures.decls) (omega (arith, c.len.ensures, c.in-Ok-unfold.graph.nodes.ok.0))

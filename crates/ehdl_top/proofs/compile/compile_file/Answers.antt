@@ -1,6 +1,5 @@
 use Rattle.std.proofs.Common.{◌≡◌, None, [], ◌∷◌, map, ◌++◌, refl, ap, ◌∙◌, inl, List}
 use Rattle.xdp_object.specs.Choice.{chosen_of}
-use Rattle.ehdl_build.specs.Compiled.{size_of}
 use Rattle.command_line.specs.Request.{AskCompile}
 use Rattle.ehdl_top.specs.States.{state_of}
 use Rattle.ehdl_top.specs.Writes.{Write, file_writes}
@@ -17,7 +16,7 @@ returns-in_err-write_all g c =
     let are : map write_of c.deref.result.now ≡ writes = ap (map write_of) c.deref.ensures.value ∙ c.in_ok-push_file.ensures ∙ ap (λ ws. map write_of ws ++ writes) c.new-writes.ensures.items in
     ends_unwritten (AskCompile c.args.object.now c.args.verilog.now (chosen_of c.args.choice)) None (state_of g.S.Shelf c.args.shelf.now) (state_of g.S.Shelf c.read_input.new.shelf) (state_of g.S.Shelf c.write_all.new.shelf) (map write_of c.deref.result.now)
     c.from_residual-in_err-write_all.result c.from_residual-in_err-write_all.ensures.1 (of_as (c.args.verilog.now ∷ []) (map write_of c.deref.result.now) writes are (inl refl, (inl refl, tt))) c.read_input.ensures.kept
-    (compile_makes c.args.object.now c.args.verilog.now (chosen_of c.args.choice) (state_of g.S.Shelf c.args.shelf.now) read.0 c.in_ok-built.built.text.items (size_of c.in_ok-built.built) (map write_of c.deref.result.now) read.1 read.2 are) c.in_err-write_all.ensures.failed
+    (compile_makes c.args.object.now c.args.verilog.now (chosen_of c.args.choice) (state_of g.S.Shelf c.args.shelf.now) read.0 c.in_ok-built.built (map write_of c.deref.result.now) read.1 read.2 are) c.in_err-write_all.ensures.failed
 
 pub returns : goal.returns
 returns g c =
@@ -26,4 +25,4 @@ returns g c =
     let are : map write_of c.deref.result.now ≡ writes = ap (map write_of) c.deref.ensures.value ∙ c.in_ok-push_file.ensures ∙ ap (λ ws. map write_of ws ++ writes) c.new-writes.ensures.items in
     ends_done (AskCompile c.args.object.now c.args.verilog.now (chosen_of c.args.choice)) (state_of g.S.Shelf c.args.shelf.now) (state_of g.S.Shelf c.read_input.new.shelf) (state_of g.S.Shelf c.write_all.new.shelf) (map write_of c.deref.result.now)
     refl (of_as (c.args.verilog.now ∷ []) (map write_of c.deref.result.now) writes are (inl refl, (inl refl, tt))) c.read_input.ensures.kept
-    (compile_makes c.args.object.now c.args.verilog.now (chosen_of c.args.choice) (state_of g.S.Shelf c.args.shelf.now) read.0 c.in_ok-built.built.text.items (size_of c.in_ok-built.built) (map write_of c.deref.result.now) read.1 read.2 are) c.in_ok-write_all.ensures.done
+    (compile_makes c.args.object.now c.args.verilog.now (chosen_of c.args.choice) (state_of g.S.Shelf c.args.shelf.now) read.0 c.in_ok-built.built (map write_of c.deref.result.now) read.1 read.2 are) c.in_ok-write_all.ensures.done
