@@ -1,5 +1,5 @@
 -- What a command is to leave: its inputs are in their forms, and it comes to one end.
-use Rattle.std.proofs.Common.{◌≡◌, ℕ, ◌≤◌, IsTrue, is_none, List, [], ◌∷◌, ◌++◌, suc, length, map, Option, Some, None, refl, sym, ap, subst, ◌∙◌, inl, arith}
+use Rattle.std.proofs.Common.{◌≡◌, ℕ, ◌≤◌, IsTrue, is_none, List, [], ◌∷◌, suc, length, map, Option, Some, None, refl, sym, ap, subst, ◌∙◌, inl, arith}
 use Rattle.std.proofs.lemmas.List.{length-map}
 use Rattle.shelf_core.specs.Shelf.{Holding}
 use Rattle.pcap_core.specs.Format.{Packet, Content}
@@ -28,7 +28,7 @@ use Rattle.ehdl_top.specs.declared.sim.Simulated.{Simulated}
 use Rattle.ehdl_top.specs.declared.packets.Captured.{Captured}
 use Rattle.ehdl_top.specs.Status.{ended}
 use Rattle.ehdl_top.specs.States.{ShelfState, Changes}
-use Rattle.ehdl_top.specs.Forms.{Holds, ProgramRule, IsReady, InputForm, IsTaken, IsTextOf, StartsFrom, IsCaptured, built, accepted, without_maps, program_form, text_form, maps_form, held_decls, capture_form}
+use Rattle.ehdl_top.specs.Forms.{Holds, ProgramRule, IsReady, IsTaken, IsTextOf, StartsFrom, IsCaptured, built, accepted, without_maps, program_form, text_form, maps_form, held_decls, capture_form}
 use Rattle.ehdl_top.specs.Inputs.{input, may_input, AreReady}
 use Rattle.ehdl_top.specs.Writes.{Outputs, names_in, Write, AreDone, OneFailed}
 use Rattle.ehdl_top.specs.Results.{timed_packets, came_by, compile_outputs, result_outputs, run_outputs, sim_outputs, finals_if}

@@ -38,6 +38,8 @@ fn ref_writes<'a>(
     requires captured { (packets : List Packet) × IsCaptureOf capture.now packets }
     ensures { IfOk result (λ writes. (packets : List Packet) → IsCaptureOf capture.now packets → IsReferenceOf (names_of files.now) program.now maps ifindex capture.now.magic packets writes.items) }
 {
+    // A program has few maps.
+    let _decls = program.decls();
     let answers = run_packets(alloc, program, &capture.packets, ifindex, &mut maps)?;
     let text = write_maps_text(alloc, &maps)?;
     let mut writes = Vec::new(alloc);

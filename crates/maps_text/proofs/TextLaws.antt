@@ -5,7 +5,7 @@ use Rattle.xdp_maps.specs.State.{MapState}
 use Rattle.maps_text.specs.declared.error.MapsError.{MapsError}
 use Rattle.maps_text.specs.Reading.{outcome}
 use Rattle.maps_text.specs.Text.{IsMapsText, IsFirstBad}
-use Rattle.maps_text.proofs.Texts.{with_items, text-made}
+use Rattle.maps_text.proofs.Texts.{text-made}
 use Rattle.maps_text.proofs.Faults.{bad-outcome}
 
 never_ok : (r : Result MapState MapsError) (s : MapState) (e : MapsError) → r ≡ Ok s → r ≡ Err e → ⊥

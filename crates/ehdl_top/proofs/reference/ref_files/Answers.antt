@@ -1,4 +1,4 @@
-use Rattle.std.proofs.Common.{List, [], ◌∷◌, ◌++◌, map, None, Some, refl, subst}
+use Rattle.std.proofs.Common.{List, [], ◌∷◌, map, None, Some, refl, subst}
 use Rattle.xdp_object.specs.Choice.{chosen_of}
 use Rattle.maps_text.specs.Writing.{text_of}
 use Rattle.command_line.specs.Request.{AskRef, names_of}

@@ -4,7 +4,7 @@ use Rattle.ehdl_top.proofs.OutcomeLemmas.{counted}
 use Rattle.ehdl_top.proofs.reference.ref_writes.Goals as goal
 
 pub write_maps_text-requires : goal.write_maps_text-requires
-write_maps_text-requires c = omega (arith, ap (λ (ds : List MapDecl). length ds) c.in_ok-answers.ensures.decls, c.decls.ensures.program.maps)
+write_maps_text-requires c = omega (arith, ap (λ (ds : List MapDecl). length ds) c.in_ok-answers.ensures.decls, c.decls-decls.ensures.program.maps)
 
 pub push_results-requires : goal.push_results-requires
 push_results-requires c =

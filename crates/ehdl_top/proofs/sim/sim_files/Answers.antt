@@ -1,4 +1,4 @@
-use Rattle.std.proofs.Common.{Option, [], ◌∷◌, ◌++◌, List, map, length, is_none, inl, refl, sym, subst, ◌∙◌}
+use Rattle.std.proofs.Common.{Option, [], ◌∷◌, List, map, length, is_none, inl, refl, sym, subst, ◌∙◌}
 use Rattle.net_core.specs.View.{netlist_of}
 use Rattle.net_core.specs.History.{answers_given}
 use Rattle.xdp_object.specs.Choice.{chosen_of}
