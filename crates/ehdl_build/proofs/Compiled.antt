@@ -1,6 +1,9 @@
 -- What the text of the store-and-forward design realizes.
-use Rattle.std.specs.Prelude.{◌≡◌, ◌≢◌, ◌⊎◌, Err, IsErrOf, ℕ, ℤ, ◌%◌, ◌^◌, List, [], ◌∷◌, map as map_list}
+use Rattle.std.specs.Prelude.{◌≡◌, ◌≢◌, ◌⊎◌, Err, IsErrOf, ℕ, ℤ, ◌%◌, ◌^◌, List, [], ◌∷◌, length, map as map_list}
 use Rattle.std.specs.Int.{w64, cast_unsigned}
+use Rattle.std.specs.declared.vec.Vec.{Vec}
+use Rattle.std.specs.declared.alloc.Global.{Global}
+use Rattle.xdp_maps.specs.declared.decl.MapDecl.{MapDecl}
 use Rattle.std.proofs.Common.{refl, sym, ap, subst, inl, inr, ◌∙◌}
 use Rattle.bpf_isa.specs.declared.instruction.Insn.{Insn}
 use Rattle.xdp_object.specs.declared.error.ObjectError.{ObjectError}
@@ -10,6 +13,7 @@ use Rattle.xdp_object.specs.Object.{FirstFault, IsObject}
 use Rattle.xdp_object.proofs.OutcomeLaws.{one_outcome, never_both}
 use Rattle.xdp_object.proofs.UnitLaws.{two_units_alone}
 use Rattle.xdp_object.specs.Program.{XdpProgram}
+use Rattle.xdp_machine.specs.Program.{IsProgram}
 use Rattle.xdp_object.specs.TwoUnits.{two_units}
 use Rattle.xdp_maps.specs.State.{MapState}
 use Rattle.xdp_machine.specs.State.{Code}
@@ -69,8 +73,8 @@ sequential p k maps units refs arrived = record {
 loaded_none : (d : Netlist) (maps : MapState) → NoMapsNoClocks maps → stored_after d (first_stored d) (load maps) ≡ first_stored d
 loaded_none d maps h = ap (stored_after d (first_stored d)) h.no_load
 
-realizes : (p : XdpProgram) (k : ℤ) (v : ℕ) (text : List ℕ) → p.insns ≡ two_units k → p.decls ≡ [] → p.refs ≡ [] → v ≡ verdict_of k → Spells text (store_and_forward v) → Realizes text p (record { stages = 0; records = 0; nodes = 2 })
-realizes p k v text units decls refs same s = record {
+realizes : (p : XdpProgram) (k : ℤ) (v nodes : ℕ) (text : List ℕ) → p.insns ≡ two_units k → p.decls ≡ [] → p.refs ≡ [] → v ≡ verdict_of k → Spells text (store_and_forward v) → Realizes text p (record { stages = 0; records = 0; nodes = nodes })
+realizes p k v nodes text units decls refs same s = record {
   design = store_and_forward v;
   spells = s;
   products = refl;
@@ -85,15 +89,17 @@ realizes p k v text units decls refs same s = record {
     none : (maps : MapState) → AreMapsOf p maps → NoMapsNoClocks maps
     none maps are = need_no_clocks maps are.sound (are.declared ∙ decls)
 
-pub compiled : (choice : Chosen) (bytes text : List ℕ) (p : XdpProgram) (k : ℤ) (v : ℕ) → IsObject choice bytes p → IsAccepted p → p.insns ≡ two_units k
-    → v ≡ verdict_of k → Spells text (store_and_forward v) → Compiles choice bytes text
-compiled choice bytes text p k v o accepted units same s = record {
+pub compiled : (choice : Chosen) (bytes : List ℕ) (text : Vec ℕ Global) (decls : Vec MapDecl Global) (p : XdpProgram) (k : ℤ) (v nodes : ℕ) → IsObject choice bytes p → IsProgram p → (accepted : IsAccepted p) → p.insns ≡ two_units k
+    → v ≡ verdict_of k → Spells text.items (store_and_forward v) → decls.items ≡ p.decls → nodes ≡ length accepted.graph
+    → Compiles choice bytes (record { text = text; decls = decls; rows = 0; records = 0; nodes = nodes })
+compiled choice bytes text decls p k v nodes o whole accepted units same s own count = record {
   program = p;
   object = o;
+  is_program = whole;
   accepted = accepted;
-  size = record { stages = 0; records = 0; nodes = 2 };
-  has_size = record { number = k; is = units; size = refl };
-  realizes = let alone = two_units_alone choice bytes p k o units in realizes p k v text units alone.0 alone.1 same s;
+  decls = own;
+  has_size = record { number = k; is = units; accepted = accepted; stages = refl; records = refl; nodes = count };
+  realizes = let alone = two_units_alone choice bytes p k o units in realizes p k v nodes text.items units alone.0 alone.1 same s;
 }
 
 -- ---- one outcome

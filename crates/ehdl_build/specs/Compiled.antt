@@ -1,8 +1,9 @@
 -- The bytes of a text realize a program, and a text that an object was compiled to.
-use Rattle.std.specs.Prelude.{◌≡◌, ◌≢◌, ◌⊎◌, ℕ, ℤ, ◌+◌, IsTrue, List, [], ◌∷◌, map as map_list}
+use Rattle.std.specs.Prelude.{◌≡◌, ◌≢◌, ◌⊎◌, ℕ, ℤ, ◌+◌, IsTrue, List, [], ◌∷◌, length, map as map_list}
 use Rattle.xdp_object.specs.Choice.{Chosen}
 use Rattle.xdp_object.specs.Object.{FirstFault, IsObject}
 use Rattle.xdp_object.specs.Program.{XdpProgram}
+use Rattle.xdp_machine.specs.Program.{IsProgram}
 use Rattle.xdp_object.specs.TwoUnits.{two_units}
 use Rattle.xdp_maps.specs.State.{MapState, IsSound}
 use Rattle.xdp_machine.specs.State.{Code, PacketIn}
@@ -14,6 +15,7 @@ use Rattle.net_core.specs.History.{Arrival, NeverStops, stored_after}
 use Rattle.beat_core.specs.declared.answer.Answer.{Answer}
 use Rattle.host_history.specs.Host.{load}
 use Rattle.verilog_grammar.specs.Spelling.{Spells}
+use Rattle.ehdl_build.specs.declared.built.Built.{Built}
 use Rattle.ehdl_build.specs.declared.built.CompileError.{CompileError}
 use Rattle.ehdl_build.specs.declared.built.CompileError.TheVariants.{Object, Refused, NoMemory}
 use Rattle.kind_core.specs.declared.why.Refusal.{Refusal}
@@ -54,11 +56,15 @@ pub record PipelineSize : Type 0 where
   pub records : ℕ
   pub nodes : ℕ
 
--- The size of a program's pipeline. For now only the program `r0 = k`, `exit` has one: two nodes in stage 0, and no record site.
+-- The size of an accepted program's pipeline, with as many nodes as its graph has. For now only the program `r0 = k`, `exit` has one: all
+-- nodes in stage 0, and no record site.
 pub record HasSize (p : XdpProgram) (z : PipelineSize) : Type 0 where
   pub number : ℤ
   pub is : p.insns ≡ two_units number
-  pub size : z ≡ record { stages = 0; records = 0; nodes = 2 }
+  pub accepted : IsAccepted p
+  pub stages : z.stages ≡ 0
+  pub records : z.records ≡ 0
+  pub nodes : z.nodes ≡ length accepted.graph
 
 -- maps over a program's declarations
 pub record AreMapsOf (p : XdpProgram) (maps : MapState) : Type 0 where
@@ -75,14 +81,20 @@ pub record Realizes (text : List ℕ) (p : XdpProgram) (z : PipelineSize) : Type
   pub meets : (maps : MapState) → AreMapsOf p maps →
       Meets design (stored_after design (first_stored design) (load maps)) (IsSequential p maps) (DoNotConflict p maps z.stages) z.stages z.records
 
--- under a choice the bytes are an object of an accepted program, and the text realizes this program
-pub record Compiles (choice : Chosen) (bytes text : List ℕ) : Type 0 where
+-- the size of the pipeline that was built
+abbrev pub size_of : Built → PipelineSize
+size_of b = record { stages = b.rows; records = b.records; nodes = b.nodes }
+
+-- Under a choice the bytes are an object of an accepted program, whose parts make up one. What was built are its declarations and the size of its pipeline, and a
+-- text that realizes it.
+pub record Compiles (choice : Chosen) (bytes : List ℕ) (built : Built) : Type 0 where
   pub program : XdpProgram
   pub object : IsObject choice bytes program
+  pub is_program : IsProgram program
   pub accepted : IsAccepted program
-  pub size : PipelineSize
-  pub has_size : HasSize program size
-  pub realizes : Realizes text program size
+  pub decls : built.decls.items ≡ program.decls
+  pub has_size : HasSize program (size_of built)
+  pub realizes : Realizes built.text.items program (size_of built)
 
 -- For now an accepted program is built only where it is `r0 = k`, `exit`. Others are refused at their first place.
 pub record IsNotBuilt (p : XdpProgram) (r : Refusal) : Type 0 where

@@ -13,6 +13,7 @@ use kind_core::{BuildError, Refusal, Why};
 use std::alloc::{AllocError, Global};
 use unfold_core::unfold;
 use verilog_write::write_text;
+use xdp_maps::decl::MapDecl;
 use xdp_object::{Choice, ObjectError, Program, read_object, two_units};
 
 /// The refusal of an accepted program that is not built yet.
@@ -26,6 +27,14 @@ const NOT_BUILT: Refusal = Refusal {
 pub struct Built {
     /// The Verilog text.
     pub text: Vec<u8>,
+    /// The declarations of the program's maps, by their numbers.
+    pub decls: Vec<MapDecl>,
+    /// The last stage of the pipeline.
+    pub rows: u16,
+    /// How many sites of the program may write to a map.
+    pub records: u16,
+    /// How many nodes the graph of the program has.
+    pub nodes: u16,
 }
 
 /// Why there is no text.
@@ -80,13 +89,24 @@ fn refusal_of(error: BuildError) -> CompileError
     }
 }
 
+// Copies of these declarations.
+fn copies(alloc: Global, decls: &[MapDecl]) -> Result<Vec<MapDecl>, AllocError>
+    ensures { IfOk result (λ copies. copies.items ≡ decls.now) }
+{
+    let mut copies = Vec::new(alloc);
+    for decl in decls {
+        copies.push(decl.copied())?;
+    }
+    Ok(copies)
+}
+
 /// Compiles an object. The text realizes the program: it spells a design that,
 /// clock by clock and under every pattern of offered and taken beats, answers frames as sequential execution of the program
-/// does, in the stated clocks.
+/// does, in the stated clocks of a pipeline of the size that is answered beside it.
 ///
 /// A program that is not accepted has its own first refusal. For now each accepted one but `r0 = k`, `exit` is refused at its first place.
 pub fn compile(alloc: Global, bytes: &[u8], choice: Choice<'_>) -> Result<Built, CompileError>
-    ensures ok { IfOk result (λ built. Compiles (chosen_of choice.entry) bytes.now built.text.items) }
+    ensures ok { IfOk result (λ built. Compiles (chosen_of choice.entry) bytes.now built) }
     ensures error { IfErr result (FailsFor (chosen_of choice.entry) bytes.now) }
 
     // Want of memory aside, each error comes wherever it is said to.
@@ -99,13 +119,21 @@ pub fn compile(alloc: Global, bytes: &[u8], choice: Choice<'_>) -> Result<Built,
         Ok(program) => program,
         Err(error) => return Err(error_of(error)),
     };
-    if let Err(error) = unfold(alloc, &program) {
-        return Err(refusal_of(error));
-    }
+    let graph = match unfold(alloc, &program) {
+        Ok(graph) => graph,
+        Err(error) => return Err(refusal_of(error)),
+    };
     let Some(number) = two_units(&program) else {
         return Err(CompileError::Refused(NOT_BUILT));
     };
     let design = store_and_forward::design(alloc, low_word(number))?;
     let text = write_text(alloc, &design)?;
-    Ok(Built { text })
+    let decls = copies(alloc, program.decls())?;
+    Ok(Built {
+        text,
+        decls,
+        rows: 0,
+        records: 0,
+        nodes: graph.nodes.len() as u16,
+    })
 }

@@ -3,22 +3,20 @@ use Rattle.std.proofs.Common.{◌≡◌, ◌⊎◌, ℕ, List, Result, Ok, IsErr
 use Rattle.xdp_object.specs.declared.error.ObjectError.{ObjectError}
 use Rattle.xdp_object.specs.Choice.{Chosen}
 use Rattle.xdp_object.specs.Object.{FirstFault}
-use Rattle.xdp_object.proofs.UnitLaws.{two_units_alone}
 use Rattle.kind_core.specs.declared.why.Refusal.{Refusal}
 use Rattle.ehdl_build.specs.declared.built.Built.{Built}
 use Rattle.ehdl_build.specs.declared.built.CompileError.{CompileError}
 use Rattle.ehdl_build.specs.declared.built.CompileError.TheVariants.{Object, Refused, NoMemory}
 use Rattle.ehdl_build.specs.Compiled.{Compiles, FailsFor, IsRefused}
-use Rattle.ehdl_top.specs.Steps.{IsTextFor}
+use Rattle.ehdl_top.specs.Steps.{IsBuiltOf}
 
 -- what was compiled was not refused
-pub text_for : (choice : Chosen) (bytes text : List ℕ) (r : Result Built CompileError) (built : Built) → r ≡ Ok built → (c : Compiles choice bytes text)
-    → ((q : Refusal) → IsRefused choice bytes q → IsErrOf r (Refused q) ⊎ IsErrOf r NoMemory) → IsTextFor choice bytes text
-text_for choice bytes text r built e c refuses = record {
+pub built_of : (choice : Chosen) (bytes : List ℕ) (r : Result Built CompileError) (built : Built) → r ≡ Ok built → (c : Compiles choice bytes built)
+    → ((q : Refusal) → IsRefused choice bytes q → IsErrOf r (Refused q) ⊎ IsErrOf r NoMemory) → IsBuiltOf choice bytes built
+built_of choice bytes r built e c refuses = record {
   program = c.program;
   taken = record { object = c.object; takes = λ q f. never r built e q (refuses q (record { program = c.program; object = c.object; refusal = f })) };
-  size = c.size;
-  realized = record { no_maps = (two_units_alone choice bytes c.program c.has_size.number c.object c.has_size.is).0; has_size = c.has_size; realizes = c.realizes };
+  realized = record { is_program = c.is_program; decls = c.decls; has_size = c.has_size; realizes = c.realizes };
 }
   where
     never : (r : Result Built CompileError) (built : Built) → r ≡ Ok built → (q : Refusal) → IsErrOf r (Refused q) ⊎ IsErrOf r NoMemory → ⊥

@@ -15,7 +15,8 @@ use Rattle.xdp_maps.specs.declared.decl.MapDecl.{MapDecl}
 use Rattle.xdp_maps.specs.State.{MapState}
 use Rattle.xdp_object.specs.Program.{XdpProgram}
 use Rattle.xdp_machine.proofs.RunLaws.{runs_length}
-use Rattle.ehdl_build.specs.Compiled.{code_of, packets_in, answer_of, IsSequential}
+use Rattle.ehdl_build.specs.declared.built.Built.{Built}
+use Rattle.ehdl_build.specs.Compiled.{size_of, code_of, packets_in, answer_of, IsSequential}
 use Rattle.xdp_object.specs.Choice.{Chosen}
 use Rattle.command_line.specs.Request.{Request, AskCompile, AskRun, AskSim, AskRef, Names}
 use Rattle.maps_text.specs.Text.{IsMapsText}
@@ -33,7 +34,7 @@ use Rattle.ehdl_top.specs.Writes.{Outputs, names_in, Write, AreDone, OneFailed}
 use Rattle.ehdl_top.specs.Results.{timed_packets, came_by, compile_outputs, result_outputs, run_outputs, sim_outputs, finals_if}
 use Rattle.ehdl_top.specs.Outcome.{IsSimulated, drive_error}
 use Rattle.ehdl_top.specs.Requests.{inputs_of, outputs_of, IsOutcome, EndsItself}
-use Rattle.ehdl_top.specs.Steps.{IsRead, AreRead, IsTextFor, IsCaptureOf, IsRunOf, IsSimOf, IsReferenceOf, AreApart, IsTextApart, FailsWrite, WritesAll, write_of, stamp_of}
+use Rattle.ehdl_top.specs.Steps.{IsRead, AreRead, IsBuiltOf, IsCaptureOf, IsRunOf, IsSimOf, IsReferenceOf, AreApart, IsTextApart, FailsWrite, WritesAll, write_of, stamp_of}
 use Rattle.ehdl_top.proofs.StateLemmas.{tells_later}
 use Rattle.ehdl_top.proofs.InputLemmas.{holds_both, ready_both}
 use Rattle.ehdl_top.proofs.FormLemmas.{one_captured, decls_held}
@@ -164,39 +165,39 @@ pub starts_from : (name : Option (List ℕ)) (decls : List MapDecl) (a b : Shelf
 starts_from (Some name) decls a b first same read told = was_held MAPS_LIMIT name a b read.0 (λ bytes. IsMapsText decls bytes first) same read.1.there read.1.within read.2 told
 starts_from None decls a b first same read told = read
 
-pub compile_makes : (object verilog : List ℕ) (chosen : Chosen) (old : ShelfState) (bytes text : List ℕ) (ws : List Write) → IsRead (program_form chosen built) object old bytes → IsTextFor chosen bytes text
-    → ws ≡ (compile_outputs verilog text).writes → IsTrue old.tells → Makes (AskCompile object verilog chosen) old.held None ws
-compile_makes object verilog chosen old bytes text ws read is e told = record {
-  outputs = compile_outputs verilog text;
+pub compile_makes : (object verilog : List ℕ) (chosen : Chosen) (old : ShelfState) (bytes : List ℕ) (pipeline : Built) (ws : List Write) → IsRead (program_form chosen built) object old bytes → IsBuiltOf chosen bytes pipeline
+    → ws ≡ (compile_outputs verilog pipeline.text.items).writes → IsTrue old.tells → Makes (AskCompile object verilog chosen) old.held None ws
+compile_makes object verilog chosen old bytes pipeline ws read is e told = record {
+  outputs = compile_outputs verilog pipeline.text.items;
   outcome = (
     refl,
     record {
       program = is.program;
       held_program = record { bytes = bytes; there = read.there told; within = read.within; is = is.taken };
-      text = text;
-      size = is.size;
+      text = pipeline.text.items;
+      size = size_of pipeline;
       has_size = is.realized.has_size;
       realizes = is.realized.realizes;
       outputs_are = refl;
     },
   );
   writes_are = e;
-  built = compile_built verilog text;
+  built = compile_built verilog pipeline.text.items;
   of = (inl refl, (inl refl, tt));
 }
 
-pub run_makes : (names : Names) (verilog : List ℕ) (chosen : Chosen) (ifindex : ℕ) (a b : ShelfState) (object capture text : List ℕ) (magic : ℕ) (packets : List Packet) (writes : List code.Write) → AreApart names → IsTextApart names verilog → Changes [] a b
-    → IsRead (program_form chosen built) names.object a object → (is : IsTextFor chosen object text) → IsRead capture_form names.capture b capture → IsCaptured capture magic packets
-    → IsRunOf names verilog text is.program ifindex magic packets writes → IsTrue a.tells → Makes (AskRun names verilog chosen ifindex) a.held None (map write_of writes)
-run_makes names verilog chosen ifindex a b object capture text magic packets writes apart own same read is read' captured run told = record {
-  outputs = run_outputs names verilog text magic packets run.answers;
+pub run_makes : (names : Names) (verilog : List ℕ) (chosen : Chosen) (ifindex : ℕ) (a b : ShelfState) (object capture : List ℕ) (pipeline : Built) (magic : ℕ) (packets : List Packet) (writes : List code.Write) → AreApart names → IsTextApart names verilog → Changes [] a b
+    → IsRead (program_form chosen built) names.object a object → (is : IsBuiltOf chosen object pipeline) → IsRead capture_form names.capture b capture → IsCaptured capture magic packets
+    → IsRunOf names verilog pipeline.text.items is.program ifindex magic packets writes → IsTrue a.tells → Makes (AskRun names verilog chosen ifindex) a.held None (map write_of writes)
+run_makes names verilog chosen ifindex a b object capture pipeline magic packets writes apart own same read is read' captured run told = record {
+  outputs = run_outputs names verilog pipeline.text.items magic packets run.answers (text_of run.final);
   outcome = (
     refl,
     record {
       program = is.program;
       held_program = record { bytes = object; there = read.there told; within = read.within; is = is.taken };
-      text = text;
-      size = is.size;
+      text = pipeline.text.items;
+      size = size_of pipeline;
       has_size = is.realized.has_size;
       realizes = is.realized.realizes;
       magic = magic;
@@ -209,8 +210,8 @@ run_makes names verilog chosen ifindex a b object capture text magic packets wri
     },
   );
   writes_are = run.writes_are;
-  built = run_built names verilog text magic packets run.answers apart own;
-  of = run_of names verilog text magic packets run.answers;
+  built = run_built names verilog pipeline.text.items magic packets run.answers (text_of run.final) apart own;
+  of = run_of names verilog pipeline.text.items magic packets run.answers (text_of run.final);
 }
 
 pub sim_makes : (names : Names) (verilog : List ℕ) (chosen : Chosen) (ifindex clocks : ℕ) (a b c d : ShelfState) (object text capture : List ℕ) (program : XdpProgram) (design : Netlist) (first : MapState) (magic : ℕ) (packets : List Packet) (simulated : Simulated) → AreApart names → Changes [] a b → Changes [] a c → Changes [] a d

@@ -1,34 +1,76 @@
--- What a text that realizes a program without maps gives over a capture.
-use Rattle.std.specs.Prelude.{◌≡◌, ℕ, ◌^◌, ◌<◌, ◌≤◌, List, [], ◌∷◌, ◌++◌, length, map}
+-- What a pipeline that was built of a program gives over a capture.
+use Rattle.std.specs.Prelude.{◌≡◌, ◌≢◌, ℕ, ◌^◌, ◌<◌, ◌≤◌, List, [], ◌∷◌, ◌++◌, length, map, Option, Some, None, Result, Ok, Err, IfErr, All}
 use Rattle.std.specs.List.{flat_map, AllByRecursion}
 use Rattle.std.proofs.lemmas.List.{length-map}
-use Rattle.std.proofs.Common.{refl, sym, ap, subst, arith}
+use Rattle.std.proofs.Common.{refl, sym, ap, subst, ◌∙◌, arith}
 use Rattle.beat_core.specs.declared.frame.Timed.{Timed}
 use Rattle.beat_core.specs.declared.answer.Answer.{Answer}
 use Rattle.beat_core.specs.Ports.{Offered, Arrival, offers_of}
 use Rattle.beat_core.specs.Laws.{arrival_of}
+use Rattle.net_core.specs.declared.ports.Inputs.{Inputs}
 use Rattle.net_core.specs.Nets.{Netlist}
-use Rattle.net_core.specs.Clock.{Stored, first_stored}
-use Rattle.net_core.specs.History.{Answered, answers_given, stored_after, drive}
-use Rattle.port_drive.specs.Reports.{full_drive}
+use Rattle.net_core.specs.Clock.{Stored, first_stored, after, stopping}
+use Rattle.net_core.specs.Ports.{words_of}
+use Rattle.net_core.specs.History.{Answered, NeverStops, answers_given, stored_after, drive}
+use Rattle.port_drive.specs.Hosting.{StopsAt, ClocksOrNone}
+use Rattle.port_drive.specs.Reports.{full_drive, given_in}
+use Rattle.port_drive.specs.declared.report.DriveError.{DriveError}
+use Rattle.port_drive.specs.declared.report.DriveError.TheVariants.{X, Late, NoMemory}
+use Rattle.xdp_maps.specs.Contents.{IsWithinLimits}
 use Rattle.xdp_maps.specs.State.{MapState, IsSound, opened_state}
 use Rattle.xdp_maps.specs.declared.decl.MapDecl.{MapDecl}
 use Rattle.xdp_object.specs.Program.{XdpProgram}
-use Rattle.host_history.specs.Host.{load}
-use Rattle.host_history.specs.Laws.{NoMapsNoClocks}
-use Rattle.host_history.proofs.HostLaws.{need_no_clocks}
+use Rattle.xdp_machine.specs.Program.{IsProgram}
+use Rattle.xdp_machine.specs.State.{Code, PacketIn, start}
+use Rattle.xdp_machine.specs.Runs.{Leaves, Progress, IsRun, AreRuns}
+use Rattle.xdp_machine.specs.MachineLaws.{KeepsSizes}
+use Rattle.xdp_machine.proofs.RunLaws.{runs_keep_sizes}
+use Rattle.host_history.specs.Host.{load, ShowsMaps}
+use Rattle.ehdl_build.specs.declared.built.Built.{Built}
 use Rattle.ehdl_build.specs.Bounds.{clock_bound, most_beats}
 use Rattle.ehdl_build.specs.Realizes.{Meets, IsWhole, IsPacket, frames_in, all_offers}
-use Rattle.ehdl_build.specs.Compiled.{AreMapsOf, PipelineSize, IsSequential, DoNotConflict}
+use Rattle.ehdl_build.specs.Compiled.{AreMapsOf, PipelineSize, IsSequential, DoNotConflict, code_of, packets_in, size_of}
 use Rattle.ehdl_top.specs.Results.{came_by}
 use Rattle.ehdl_top.specs.Steps.{IsLegal, IsRealized}
 
--- maps of no declarations
-none_sound : (ds : List MapDecl) → ds ≡ [] → IsSound (opened_state ds)
-none_sound ds e = subst (λ (d : List MapDecl). IsSound (opened_state d)) (sym e) (record { beside = refl; limits = λ m h. absurd (omega (arith, h)); over = λ m h. absurd (omega (arith, h)) })
+-- ---- the maps that a capture run leaves
+run_decls : (code : Code) (packet : PacketIn) (maps : MapState) (e : Leaves) → IsRun code packet maps e → e.maps.decls ≡ maps.decls
+run_decls code packet maps e (n, ran) = let P : Progress → Type 0 = KeepsSizes (start packet maps) in (subst P ran (runs_keep_sizes code n (start packet maps) refl)).decls
 
-none_of : (p : XdpProgram) → p.decls ≡ [] → AreMapsOf p (opened_state p.decls)
-none_of p e = record { declared = refl; sound = none_sound p.decls e }
+runs_decls : (code : Code) (maps : MapState) (packets : List PacketIn) (es : List Leaves) (last : MapState) → AreRuns code maps packets es last → last.decls ≡ maps.decls
+runs_decls code maps [] [] last runs = ap (λ (m : MapState). m.decls) runs
+runs_decls code maps [] (e ∷ es) last runs = absurd runs
+runs_decls code maps (packet ∷ packets) [] last runs = absurd runs
+runs_decls code maps (packet ∷ packets) (e ∷ es) last runs = runs_decls code e.maps packets es last runs.1 ∙ run_decls code packet maps e runs.0
+
+pub sequential_decls : (p : XdpProgram) (maps : MapState) (packets : List Arrival) (answers : List Answer) (after : MapState) → IsSequential p maps packets answers after → after.decls ≡ maps.decls
+sequential_decls p maps packets answers after s = runs_decls (code_of p) maps (packets_in packets) s.leaves after s.runs
+
+-- the maps in which nothing was written, of the declarations of a program
+pub opened_of : (p : XdpProgram) (decls : List MapDecl) (maps : MapState) → decls ≡ p.decls → maps ≡ opened_state decls → IsSound maps → AreMapsOf p (opened_state p.decls)
+opened_of p decls maps same is sound = record { declared = refl; sound = subst IsSound (is ∙ ap opened_state same) sound }
+
+-- ---- a call that has the host go on for clocks of which none stops
+never_at : (d : Netlist) (s : Stored) (before : List Inputs) (i : Inputs) (behind : List Inputs) → NeverStops d s (before ++ i ∷ behind) → stopping d (words_of i) (stored_after d s before) ≡ None
+never_at d s [] i behind never = never.0
+never_at d s (x ∷ before) i behind never = never_at d (after d (words_of x) s) before i behind never.1
+
+never_stops : (d : Netlist) (s t : Stored) (clocks : List Inputs) (wire : ℕ) → NeverStops d s clocks → StopsAt d s clocks wire t → ⊥
+never_stops d s t clocks wire never p =
+    none_some (sym (never_at d s p.before p.at p.behind (subst (NeverStops d s) p.all never)) ∙ ap (λ x. stopping d (words_of p.at) x) (sym p.left) ∙ p.stops)
+  where
+    none_some : None ≡ Some wire → ⊥
+    none_some e = cc
+
+pub goes_whole : {A : Type 0} (d : Netlist) (s t : Stored) (clocks : List Inputs) (r : Result A DriveError) (e : DriveError) → r ≡ Err e → ClocksOrNone d s clocks r t → IfErr r (λ f. f ≢ NoMemory) → NeverStops d s clocks → ⊥
+goes_whole d s t clocks (Ok a) e is went memory never = cc
+goes_whole d s t clocks (Err (X x)) e is went memory never = never_stops d s t clocks went.0 never went.1
+goes_whole d s t clocks (Err (Late answers frames limit)) e is went memory never = absurd went
+goes_whole d s t clocks (Err NoMemory) e is went memory never = memory refl
+
+-- a design that holds these values shows the same maps
+pub shows_as : (d e : Netlist) (s t : Stored) (maps : MapState) → e ≡ d → t ≡ s → ShowsMaps d s maps → ShowsMaps e t maps
+shows_as d e s t maps same stored shows = subst (λ (x : Netlist). ShowsMaps x t maps) (sym same) (subst (λ (y : Stored). ShowsMaps d y maps) (sym stored) shows)
 
 -- ---- packets that come by one interface
 offers-came_by : (ifindex : ℕ) (packets : List Timed) → all_offers (came_by ifindex packets) ≡ flat_map (offers_of ifindex) packets
@@ -43,40 +85,50 @@ legal-came_by : (ifindex : ℕ) (packets : List Timed) → ifindex < 2 ^ 32 → 
 legal-came_by ifindex [] fits h = tt
 legal-came_by ifindex (p ∷ rest) fits h = (record { frame = h.0.0; ifindex = fits; time = h.0.1 }, legal-came_by ifindex rest fits h.1)
 
--- the drive from the first values on
-pub record Answers (p : XdpProgram) (d : Netlist) (ifindex limit : ℕ) (packets : List Timed) : Type 0 where
-  pub ended : (full_drive d ifindex (first_stored d) packets limit).ended ≡ Answered
+-- what is stored when the host has loaded maps
+abbrev pub loaded : Netlist → MapState → Stored
+loaded d maps = stored_after d (first_stored d) (load maps)
+
+-- what a drive from there on gives
+pub record Runs (p : XdpProgram) (d : Netlist) (s : Stored) (ifindex limit : ℕ) (packets : List Timed) : Type 0 where
+  pub ended : (full_drive d ifindex s packets limit).ended ≡ Answered
   pub last : MapState
-  pub all : IsSequential p (opened_state p.decls) (came_by ifindex packets) (answers_given [] (full_drive d ifindex (first_stored d) packets limit).trace) last
+  pub all : IsSequential p (opened_state p.decls) (came_by ifindex packets) (answers_given [] (full_drive d ifindex s packets limit).trace) last
+  pub shown : ShowsMaps d (stored_after d s (given_in (full_drive d ifindex s packets limit).trace)) last
 
--- so many clocks are enough
-abbrev pub IsEnough : List Timed → ℕ → Type 0
-IsEnough packets limit = clock_bound (length packets) 0 (most_beats (map (λ p. p.frame) packets)) 0 ≤ limit
-
-whole : (p : XdpProgram) (d : Netlist) (s : Stored) (z : PipelineSize) (ifindex limit : ℕ) (packets : List Timed) → z ≡ record { stages = 0; records = 0; nodes = 2 } → s ≡ first_stored d
+whole : (p : XdpProgram) (d : Netlist) (s : Stored) (z : PipelineSize) (ifindex limit : ℕ) (packets : List Timed)
     → Meets d s (IsSequential p (opened_state p.decls)) (DoNotConflict p (opened_state p.decls) z.stages) z.stages z.records
-    → AllByRecursion IsLegal packets → ifindex < 2 ^ 32 → IsEnough packets limit → Answers p d ifindex limit packets
-whole p d s z ifindex limit packets size from meets are fits enough =
+    → AllByRecursion IsLegal packets → ifindex < 2 ^ 32 → clock_bound (length packets) z.stages (most_beats (map (λ p. p.frame) packets)) z.records ≤ limit → Runs p d s ifindex limit packets
+whole p d s z ifindex limit packets meets are fits enough =
     let came : List Arrival = came_by ifindex packets in
     let many : length came ≡ length packets = length-map packets (arrival_of ifindex) in
     let wanted : List Arrival → List Answer → MapState → Type 0 = IsSequential p (opened_state p.decls) in
     let bound : clock_bound (length came) z.stages (most_beats (frames_in came)) z.records ≤ limit =
-    subst (λ (y : PipelineSize). clock_bound (length came) y.stages (most_beats (frames_in came)) y.records ≤ limit) (sym size)
-    (subst (λ n. clock_bound n 0 (most_beats (frames_in came)) 0 ≤ limit) (sym many) (subst (λ fs. clock_bound (length packets) 0 (most_beats fs) 0 ≤ limit) (sym (frames-came_by ifindex packets)) enough)) in
-    let W : Stored → List Offered → ℕ → Type 0 = λ t os n. IsWhole d t [] (drive d t os n limit) came wanted in
-    let w : W (first_stored d) (flat_map (offers_of ifindex) packets) (length packets) =
-    subst (λ t. W t (flat_map (offers_of ifindex) packets) (length packets)) from
-    (subst (λ n. W s (flat_map (offers_of ifindex) packets) n) many
-    (subst (λ os. W s os (length came)) (offers-came_by ifindex packets) (meets.complete came limit (legal-came_by ifindex packets fits are) bound))) in
-    record { ended = w.ended; last = w.maps; all = w.all }
+    subst (λ n. clock_bound n z.stages (most_beats (frames_in came)) z.records ≤ limit) (sym many)
+    (subst (λ fs. clock_bound (length packets) z.stages (most_beats fs) z.records ≤ limit) (sym (frames-came_by ifindex packets)) enough) in
+    let W : List Offered → ℕ → Type 0 = λ os n. IsWhole d s [] (drive d s os n limit) came wanted in
+    let w : W (flat_map (offers_of ifindex) packets) (length packets) =
+    subst (λ n. W (flat_map (offers_of ifindex) packets) n) many
+    (subst (λ os. W os (length came)) (offers-came_by ifindex packets) (meets.complete came limit (legal-came_by ifindex packets fits are) bound)) in
+    record { ended = w.ended; last = w.maps; all = w.all; shown = w.shown }
 
--- the design of the text answers in the stated clocks, as sequential execution does
-pub answers : (text : List ℕ) (p : XdpProgram) (z : PipelineSize) (r : IsRealized text p z) (d : Netlist) (ifindex limit : ℕ) (packets : List Timed) → r.realizes.design ≡ d
-    → AllByRecursion IsLegal packets → ifindex < 2 ^ 32 → IsEnough packets limit → Answers p d ifindex limit packets
-answers text p z r d ifindex limit packets same are fits enough =
+at_most : (n limit : ℕ) → limit ≡ n → n ≤ limit
+at_most n limit is = omega (arith, is)
+
+-- The design of the text, in which the host has loaded maps in which nothing was written, answers in the stated clocks as sequential
+-- execution does, and shows the maps that this leaves.
+pub runs : (b : Built) (p : XdpProgram) (r : IsRealized b p) (first : MapState) (d e : Netlist) (s : Stored) (ifindex limit : ℕ) (packets : List Timed) → first ≡ opened_state b.decls.items → IsSound first
+    → r.realizes.design ≡ d → e ≡ d → s ≡ loaded d first → AllByRecursion IsLegal packets → ifindex < 2 ^ 32
+    → limit ≡ clock_bound (length packets) b.rows (most_beats (map (λ p. p.frame) packets)) b.records → Runs p e s ifindex limit packets
+runs b p r first d e s ifindex limit packets is sound same netlist stored are fits enough =
     let maps : MapState = opened_state p.decls in
-    let mine : AreMapsOf p maps = none_of p r.no_maps in
-    let none : NoMapsNoClocks maps = need_no_clocks maps mine.sound r.no_maps in
-    subst (λ (e : Netlist). Answers p e ifindex limit packets) same
-    (whole p r.realizes.design (stored_after r.realizes.design (first_stored r.realizes.design) (load maps)) z ifindex limit packets r.has_size.size
-    (ap (stored_after r.realizes.design (first_stored r.realizes.design)) none.no_load) (r.realizes.meets maps mine) are fits enough)
+    let z : PipelineSize = size_of b in
+    let from : s ≡ loaded d maps = stored ∙ ap (loaded d) (is ∙ ap opened_state r.decls) in
+    let there : Runs p r.realizes.design (loaded r.realizes.design maps) ifindex limit packets =
+    whole p r.realizes.design (loaded r.realizes.design maps) z ifindex limit packets (r.realizes.meets maps (opened_of p b.decls.items first r.decls is sound)) are fits (at_most _ limit enough) in
+    subst (λ (t : Stored). Runs p e t ifindex limit packets) (sym from)
+    (subst (λ (x : Netlist). Runs p x (loaded d maps) ifindex limit packets) (sym netlist) (subst (λ (x : Netlist). Runs p x (loaded x maps) ifindex limit packets) same there))
+
+-- the declarations of a program are within their limits
+pub limits_of : (p : XdpProgram) (decls : List MapDecl) → IsProgram p → decls ≡ p.decls → All IsWithinLimits decls
+limits_of p decls program same = subst (λ (ds : List MapDecl). All IsWithinLimits ds) (sym same) (λ k d lt. (program.decls k d lt).limits)

@@ -5,7 +5,7 @@ use Rattle.pcap_core.specs.Format.{Packet}
 use Rattle.beat_core.specs.declared.answer.Answer.{Answer}
 use Rattle.command_line.specs.Request.{Names}
 use Rattle.ehdl_top.specs.Writes.{names_in, Write, Append}
-use Rattle.ehdl_top.specs.Results.{texts, record_at, line_at, answer_bytes, verdict_lines, line_of, no_answer, packet_writes, final_writes, result_writes, no_maps, compile_outputs, result_outputs, run_outputs}
+use Rattle.ehdl_top.specs.Results.{texts, record_at, line_at, answer_bytes, verdict_lines, line_of, no_answer, packet_writes, final_writes, result_writes, compile_outputs, result_outputs, run_outputs}
 use Rattle.ehdl_top.specs.Steps.{AreApart, IsTextApart}
 use Rattle.ehdl_top.proofs.StateLemmas.{IsOneOf}
 use Rattle.ehdl_top.proofs.WriteLemmas.{AreOf, of_both, Adds, Builds, AreBuilt, adds_as, adds_both, Skips, skips_both, skips_adds, builds_after}
@@ -116,20 +116,20 @@ result_outputs_of names magic ps rs finals =
     let those : List (List ℕ) = names.answer ∷ names.verdicts ∷ names.final_maps ∷ [] in
     result_of names magic ps rs finals those (inl refl) (inr (inl refl)) (final_of names finals those (inr (inr (inl refl))))
 
-pub run_built : (names : Names) (verilog text : List ℕ) (magic : ℕ) (ps : List Packet) (rs : List Answer) → AreApart names → IsTextApart names verilog → AreBuilt (run_outputs names verilog text magic ps rs).files (run_outputs names verilog text magic ps rs).writes
-run_built names verilog text magic ps rs apart own =
-    let finals : Option (List ℕ) = Some no_maps in
+pub run_built : (names : Names) (verilog text : List ℕ) (magic : ℕ) (ps : List Packet) (rs : List Answer) (final : List ℕ) → AreApart names → IsTextApart names verilog → AreBuilt (run_outputs names verilog text magic ps rs final).files (run_outputs names verilog text magic ps rs final).writes
+run_built names verilog text magic ps rs final apart own =
+    let finals : Option (List ℕ) = Some final in
     let a : names.answer ≢ verilog = turned verilog names.answer own.answer in
     let v : names.verdicts ≢ verilog = turned verilog names.verdicts own.verdicts in
     let f : names.final_maps ≢ verilog = turned verilog names.final_maps own.final in (
       inl (refl, inl (refl, [], sym (append-nil text), skips_adds (result_writes names magic ps rs finals) verilog (result_skips names magic ps rs finals verilog own.answer own.verdicts own.final))),
       (
         inr (a, (a, builds_answer names magic ps rs finals apart)),
-        (inr (v, (v, builds_lines names magic ps rs finals apart)), (inr (f, (f, builds_final names magic ps rs no_maps apart)), tt)),
+        (inr (v, (v, builds_lines names magic ps rs finals apart)), (inr (f, (f, builds_final names magic ps rs final apart)), tt)),
       ),
     )
 
-pub run_of : (names : Names) (verilog text : List ℕ) (magic : ℕ) (ps : List Packet) (rs : List Answer) → AreOf (verilog ∷ names.answer ∷ names.verdicts ∷ names.final_maps ∷ []) (run_outputs names verilog text magic ps rs).writes
-run_of names verilog text magic ps rs =
+pub run_of : (names : Names) (verilog text : List ℕ) (magic : ℕ) (ps : List Packet) (rs : List Answer) (final : List ℕ) → AreOf (verilog ∷ names.answer ∷ names.verdicts ∷ names.final_maps ∷ []) (run_outputs names verilog text magic ps rs final).writes
+run_of names verilog text magic ps rs final =
     let those : List (List ℕ) = verilog ∷ names.answer ∷ names.verdicts ∷ names.final_maps ∷ [] in
-    (inl refl, (inl refl, result_of names magic ps rs (Some no_maps) those (inr (inl refl)) (inr (inr (inl refl))) (final_of names (Some no_maps) those (inr (inr (inr (inl refl)))))))
+    (inl refl, (inl refl, result_of names magic ps rs (Some final) those (inr (inl refl)) (inr (inr (inl refl))) (final_of names (Some final) those (inr (inr (inr (inl refl)))))))

@@ -35,7 +35,8 @@ pub record IsCompiled (object verilog : List ℕ) (chosen : Chosen) (held : Hold
 
 -- ---- run
 -- The files that an object and a capture ask for. The text realizes the object's program; answers and verdicts are those of
--- sequential execution, one packet of the capture after another, all by one interface, from maps in which nothing was written.
+-- sequential execution, one packet of the capture after another, all by one interface, from maps in which nothing was written, and the
+-- final maps are those behind the last.
 pub record IsRun (names : Names) (verilog : List ℕ) (chosen : Chosen) (ifindex : ℕ) (held : Holding) (outputs : Outputs) : Type 0 where
   pub program : XdpProgram
   pub held_program : Holds OBJECT_LIMIT (held names.object) (λ bytes. IsTaken chosen built bytes program)
@@ -49,7 +50,7 @@ pub record IsRun (names : Names) (verilog : List ℕ) (chosen : Chosen) (ifindex
   pub answers : List Answer
   pub final : MapState
   pub runs : IsSequential program (opened_state program.decls) (came_by ifindex (timed_packets magic packets)) answers final
-  pub outputs_are : outputs ≡ run_outputs names verilog text magic packets answers
+  pub outputs_are : outputs ≡ run_outputs names verilog text magic packets answers (text_of final)
 
 -- ---- sim
 -- why a drive over so many frames was given up, if it was

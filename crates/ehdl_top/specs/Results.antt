@@ -91,15 +91,16 @@ result_outputs names magic packets answers finals = record {
   writes = result_writes names magic packets answers finals;
 }
 
--- the text of no maps
+-- of these, and before them of the text that was simulated
+abbrev pub run_outputs : Names → List ℕ → List ℕ → ℕ → List Packet → List Answer → List ℕ → Outputs
+run_outputs names verilog text magic packets answers final = record {
+  files = file verilog text ∷ (result_files names magic packets answers ++ final_files names (Some final));
+  writes = file_writes verilog text ++ result_writes names magic packets answers (Some final);
+}
+
+-- the text of no maps, which are all that are simulated by a text that is read so far
 abbrev pub no_maps : List ℕ
 no_maps = []
-
-abbrev pub run_outputs : Names → List ℕ → List ℕ → ℕ → List Packet → List Answer → Outputs
-run_outputs names verilog text magic packets answers = record {
-  files = file verilog text ∷ (result_files names magic packets answers ++ final_files names (Some no_maps));
-  writes = file_writes verilog text ++ result_writes names magic packets answers (Some no_maps);
-}
 
 -- the final maps only where all answers are there
 abbrev pub finals_if : Bool → Option (List ℕ)

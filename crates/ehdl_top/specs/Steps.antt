@@ -17,7 +17,9 @@ use Rattle.xdp_maps.specs.declared.decl.MapDecl.{MapDecl}
 use Rattle.xdp_maps.specs.State.{MapState, opened_state}
 use Rattle.maps_text.specs.Text.{IsMapsText}
 use Rattle.maps_text.specs.Writing.{text_of}
-use Rattle.ehdl_build.specs.Compiled.{PipelineSize, HasSize, IsSequential, Realizes, answer_of}
+use Rattle.ehdl_build.specs.declared.built.Built.{Built}
+use Rattle.ehdl_build.specs.Compiled.{HasSize, IsSequential, Realizes, answer_of, size_of}
+use Rattle.xdp_machine.specs.Program.{IsProgram}
 use Rattle.xdp_machine.specs.State.{Code, PacketIn, start}
 use Rattle.xdp_machine.specs.Runs.{Leaves, Ended, IsRun, run}
 use Rattle.unfold_core.specs.declared.unfolding.Unfolded.{Unfolded}
@@ -65,18 +67,18 @@ pub record IsRead (form : InputForm) (name : List ℕ) (old : ShelfState) (bytes
   pub within : length bytes ≤ form.limit
   pub fits : form.Fits bytes
 
--- a text that realizes a program, whose pipeline has this size; it has no maps so far
-pub record IsRealized (text : List ℕ) (program : XdpProgram) (size : PipelineSize) : Type 0 where
-  pub no_maps : program.decls ≡ []
-  pub has_size : HasSize program size
-  pub realizes : Realizes text program size
+-- what was built of a program: its declarations, the size of its pipeline, and a text that realizes it
+pub record IsRealized (pipeline : Built) (program : XdpProgram) : Type 0 where
+  pub is_program : IsProgram program
+  pub decls : pipeline.decls.items ≡ program.decls
+  pub has_size : HasSize program (size_of pipeline)
+  pub realizes : Realizes pipeline.text.items program (size_of pipeline)
 
--- a text that realizes the program of an object
-pub record IsTextFor (choice : Chosen) (bytes text : List ℕ) : Type 0 where
+-- what was built of the program of an object
+pub record IsBuiltOf (choice : Chosen) (bytes : List ℕ) (pipeline : Built) : Type 0 where
   pub program : XdpProgram
   pub taken : IsTaken choice built bytes program
-  pub size : PipelineSize
-  pub realized : IsRealized text program size
+  pub realized : IsRealized pipeline program
 
 -- when a packet came, as its record says
 abbrev pub stamp_of : Packet → Stamp
@@ -153,12 +155,12 @@ abbrev pub text_in : Option (Bor (List ℕ)) → Option (List ℕ)
 text_in None = None
 text_in (Some text) = Some text.now
 
--- the writes of a run of these packets, and its answers
+-- the writes of a run of these packets, its answers, and the maps that it leaves
 pub record IsRunOf (names : Names) (verilog text : List ℕ) (program : XdpProgram) (ifindex magic : ℕ) (packets : List Packet) (writes : List code.Write) : Type 0 where
   pub answers : List Answer
   pub final : MapState
   pub runs : IsSequential program (opened_state program.decls) (came_by ifindex (timed_packets magic packets)) answers final
-  pub writes_are : map write_of writes ≡ (run_outputs names verilog text magic packets answers).writes
+  pub writes_are : map write_of writes ≡ (run_outputs names verilog text magic packets answers (text_of final)).writes
 
 -- the writes and the end of a simulation over these packets
 pub record IsSimOf (names : Names) (design : Netlist) (ifindex clocks magic : ℕ) (packets : List Packet) (simulated : Simulated) : Type 0 where

@@ -23,9 +23,9 @@ pub(crate) fn compile_file<S: Shelf>(
 ) -> Result<(), CommandError>
     ensures { EndsIn (AskCompile object.now verilog.now (chosen_of choice.entry)) (state_of S.Shelf shelf.old) (state_of S.Shelf shelf.new) result }
 {
-    let text = read_input(alloc, shelf, object, &ProgramForm { choice })?;
+    let built = read_input(alloc, shelf, object, &ProgramForm { choice })?;
     let mut writes = Vec::new(alloc);
-    push_file(&mut writes, verilog, text)?;
+    push_file(&mut writes, verilog, built.text)?;
     write_all(shelf, &writes)?;
     Ok(())
 }

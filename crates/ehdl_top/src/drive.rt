@@ -1,18 +1,12 @@
 // A design, driven over frames.
 
 ghost use Rattle.std.specs.Prelude.{◌≡◌, ◌≤◌, ◌<◌, ◌^◌, List, length, map, drop, IfOk};
-ghost use Rattle.std.specs.List.{AllByRecursion};
-ghost use Rattle.xdp_maps.specs.State.{MapState, opened_state};
-ghost use Rattle.xdp_object.specs.Program.{XdpProgram};
 ghost use Rattle.net_core.specs.View.{netlist_of};
 ghost use Rattle.verilog_grammar.specs.Formed.{IsWellFormed};
 ghost use Rattle.ehdl_build.specs.Bounds.{clock_bound, most_beats};
-ghost use Rattle.ehdl_build.specs.Compiled.{PipelineSize, IsSequential};
-ghost use Rattle.ehdl_top.specs.Results.{came_by};
-ghost use Rattle.ehdl_top.specs.Steps.{IsDriven, IsLegal, IsRealized};
+ghost use Rattle.ehdl_top.specs.Steps.{IsDriven};
 
 use crate::error::{CommandError, NetName};
-use crate::verilog::read_verilog;
 use beat_core::Timed;
 use clock_sim::Sim;
 use net_core::design::Design;
@@ -65,41 +59,14 @@ pub(crate) fn drive_design(
     }
 }
 
-// The clocks that these packets may take: `n * (2 * B + 8)` for n frames of at most B beats.
-fn clock_limit(packets: &[Timed]) -> u64
+/// The clocks that these packets may take: `n * (S + 2 * B + Q + 8)` for n frames of at most B beats, S the last stage and Q the record sites.
+pub(crate) fn clock_limit(packets: &[Timed], rows: u16, records: u16) -> u64
     requires { length packets.now < 2 ^ 32 }
-    ensures { result ≡ clock_bound (length packets.now) 0 (most_beats (map (λ p. p.frame) packets.now)) 0 }
+    ensures { result ≡ clock_bound (length packets.now) rows (most_beats (map (λ p. p.frame) packets.now)) records }
 {
     let mut most = 0;
     for packet in packets {
         most = u64::max(most, packet.frame.len().div_ceil(8) as u64);
     }
-    packets.len() as u64 * (2 * most + 8)
-}
-
-/// The answers of the design of a text that realizes a program: those of sequential execution.
-pub(crate) fn answers_of(
-    alloc: Global,
-    text: &[u8],
-    packets: &[Timed],
-    ifindex: u32,
-) -> Result<Answers, AllocError>
-    requires realized { (program : XdpProgram) × (size : PipelineSize) × IsRealized text.now program size }
-    requires many { length packets.now < 2 ^ 32 }
-    requires packets { AllByRecursion IsLegal packets.now }
-    ensures { (program : XdpProgram) (size : PipelineSize) → IsRealized text.now program size → IfOk result (λ answers. (last : MapState) × IsSequential program (opened_state program.decls) (came_by ifindex packets.now) answers last) }
-{
-    let design = match read_verilog(alloc, text) {
-        Ok(design) => design,
-        Err(CommandError::NoMemory) => return Err(AllocError),
-        // The text spells a design.
-        Err(_) => unreachable!(),
-    };
-    let driven = drive_design(alloc, design, packets, ifindex, clock_limit(packets))?;
-    let Driven { answers, end } = driven;
-    match end {
-        None => Ok(answers),
-        // The design answers in time.
-        Some(_) => unreachable!(),
-    }
+    packets.len() as u64 * (u64::from(rows) + 2 * most + u64::from(records) + 8)
 }

@@ -12,6 +12,7 @@ mod line;
 mod maps;
 mod object;
 mod packets;
+mod pipeline;
 mod reference;
 mod results;
 mod run;

@@ -5,12 +5,12 @@ ghost use Rattle.xdp_object.specs.Object.{IsObject};
 ghost use Rattle.xdp_object.specs.Program.{XdpProgram};
 ghost use Rattle.xdp_object.specs.Choice.{chosen_of};
 ghost use Rattle.ehdl_top.specs.Forms.{IsTaken, program_form, built, accepted, without_maps};
-ghost use Rattle.ehdl_top.specs.Steps.{IsTextFor, IsUnfoldedBy, IsGivenUp};
+ghost use Rattle.ehdl_top.specs.Steps.{IsBuiltOf, IsUnfoldedBy, IsGivenUp};
 
 use crate::error::CommandError;
 use crate::form::Form;
 use crate::limits::OBJECT_LIMIT;
-use ehdl_build::{CompileError, compile};
+use ehdl_build::{Built, CompileError, compile};
 use kind_core::{BuildError, Refusal, Why};
 use std::alloc::Global;
 use unfold_core::unfold;
@@ -22,18 +22,18 @@ const NOT_YET: Refusal = Refusal {
     why: Why::Instruction,
 };
 
-/// An object of a program that is compiled. Its Verilog text is what is read.
+/// An object of a program that is compiled. What is built of it is what is read.
 #[derive(Clone, Copy)]
 pub(crate) struct ProgramForm<'a> {
     pub(crate) choice: Choice<'a>,
 }
 
 impl Form for ProgramForm<'_> {
-    type Value = Vec<u8>;
+    type Value = Built;
 
     ghost form = { λ f. program_form (chosen_of f.choice) built };
 
-    ghost Gives = { λ f bytes text. IsTextFor (chosen_of f.choice) bytes text.items };
+    ghost Gives = { λ f bytes built. IsBuiltOf (chosen_of f.choice) bytes built };
 
     fn limit(&self) -> u64 {
         OBJECT_LIMIT
@@ -43,8 +43,8 @@ impl Form for ProgramForm<'_> {
         CommandError::Object(ObjectError::Long)
     }
 
-    fn read(&self, alloc: Global, bytes: &[u8]) -> Result<Vec<u8>, CommandError> {
-        text_of(alloc, bytes, self.choice)
+    fn read(&self, alloc: Global, bytes: &[u8]) -> Result<Built, CommandError> {
+        build(alloc, bytes, self.choice)
     }
 }
 
@@ -100,13 +100,13 @@ impl Form for ObjectForm<'_> {
     }
 }
 
-// The Verilog text of an object.
-fn text_of(alloc: Global, object: &[u8], choice: Choice) -> Result<Vec<u8>, CommandError>
-    ensures text { IfOk result (λ text. IsTextFor (chosen_of choice.entry) object.now text.items) }
+// What is built of an object.
+fn build(alloc: Global, object: &[u8], choice: Choice) -> Result<Built, CommandError>
+    ensures text { IfOk result (IsBuiltOf (chosen_of choice.entry) object.now) }
     ensures given_up { IfErr result (IsGivenUp (program_form (chosen_of choice.entry) built) object.now) }
 {
     match compile(alloc, object, choice) {
-        Ok(built) => Ok(built.text),
+        Ok(built) => Ok(built),
         Err(CompileError::Object(fault)) => Err(CommandError::Object(fault)),
         Err(CompileError::Refused(refusal)) => Err(CommandError::Refused(refusal)),
         Err(CompileError::NoMemory) => Err(CommandError::NoMemory),

@@ -3,40 +3,43 @@
 ghost use Rattle.std.specs.Prelude.{◌≡◌, List, map, IfOk};
 ghost use Rattle.pcap_core.specs.Format.{Packet};
 ghost use Rattle.xdp_object.specs.Program.{XdpProgram};
-ghost use Rattle.ehdl_build.specs.Compiled.{PipelineSize};
 ghost use Rattle.xdp_object.specs.Choice.{chosen_of};
 ghost use Rattle.command_line.specs.Request.{AskRun, names_of};
 ghost use Rattle.ehdl_top.specs.States.{state_of};
 ghost use Rattle.ehdl_top.specs.Steps.{AreApart, IsTextApart, EndsIn, IsCaptureOf, IsRealized, IsRunOf};
 
-use crate::drive::answers_of;
 use crate::error::CommandError;
 use crate::form::read_input;
 use crate::object::ProgramForm;
 use crate::packets::{CaptureForm, Captured};
+use crate::pipeline::run_pipeline;
 use crate::results::push_results;
 use crate::write::{Write, push_file, write_all};
 use command_line::{Choice, Files};
+use ehdl_build::Built;
+use maps_text::write_maps_text;
 use shelf_core::Shelf;
 use std::alloc::{AllocError, Global};
 
-// Simulates a text that realizes a program over a capture. What is to be written is the text, and what its ports gave.
+// Simulates the text that was built of a program over a capture. What is to be written is the text, what its ports
+// gave, and the maps that it shows in the end.
 fn run_writes<'a>(
     alloc: Global,
     files: &Files<'a>,
     verilog: &'a str,
-    text: Vec<u8>,
+    built: Built,
     capture: &Captured,
     ifindex: u32,
 ) -> Result<Vec<Write<'a>>, AllocError>
-    requires realized { (program : XdpProgram) × (size : PipelineSize) × IsRealized text.items program size }
+    requires realized { (program : XdpProgram) × IsRealized built program }
     requires captured { (packets : List Packet) × IsCaptureOf capture.now packets }
-    ensures { IfOk result (λ writes. (program : XdpProgram) (size : PipelineSize) → IsRealized text.items program size → (packets : List Packet) → IsCaptureOf capture.now packets → IsRunOf (names_of files.now) verilog.now text.items program ifindex capture.now.magic packets writes.items) }
+    ensures { IfOk result (λ writes. (program : XdpProgram) → IsRealized built program → (packets : List Packet) → IsCaptureOf capture.now packets → IsRunOf (names_of files.now) verilog.now built.text.items program ifindex capture.now.magic packets writes.items) }
 {
-    let answers = answers_of(alloc, &text, &capture.packets, ifindex)?;
+    let ran = run_pipeline(alloc, &built, &capture.packets, ifindex)?;
+    let finals = write_maps_text(alloc, &ran.maps)?;
     let mut writes = Vec::new(alloc);
-    push_file(&mut writes, verilog, text)?;
-    push_results(alloc, &mut writes, files, capture, &answers, Some(&[]))?;
+    push_file(&mut writes, verilog, built.text)?;
+    push_results(alloc, &mut writes, files, capture, &ran.answers, Some(&finals))?;
     Ok(writes)
 }
 
@@ -53,9 +56,9 @@ pub(crate) fn run_files<S: Shelf>(
     requires text { IsTextApart (names_of files.now) verilog.now }
     ensures { EndsIn (AskRun (names_of files.now) verilog.now (chosen_of choice.entry) ifindex) (state_of S.Shelf shelf.old) (state_of S.Shelf shelf.new) result }
 {
-    let text = read_input(alloc, shelf, files.object, &ProgramForm { choice })?;
+    let built = read_input(alloc, shelf, files.object, &ProgramForm { choice })?;
     let capture = read_input(alloc, shelf, files.capture, &CaptureForm)?;
-    let writes = run_writes(alloc, files, verilog, text, &capture, ifindex)?;
+    let writes = run_writes(alloc, files, verilog, built, &capture, ifindex)?;
     write_all(shelf, &writes)?;
     Ok(())
 }

@@ -1,5 +1,6 @@
 use Rattle.std.proofs.Common.{None, [], List, map, refl, subst}
 use Rattle.xdp_object.specs.Choice.{chosen_of}
+use Rattle.maps_text.specs.Writing.{text_of}
 use Rattle.command_line.specs.Request.{AskRun, names_of}
 use Rattle.ehdl_top.specs.declared.write.Write as code
 use Rattle.ehdl_top.specs.States.{state_of}
@@ -22,14 +23,14 @@ returns-in_err-write_all g c =
     let read = state_of g.S.Shelf c.read_input.new.shelf in
     let mid = state_of g.S.Shelf c.read_input-2.new.shelf in
     let new = state_of g.S.Shelf c.write_all.new.shelf in
-    let object = c.in_ok-text.ensures.read in
+    let object = c.in_ok-built.ensures.read in
     let capture = c.in_ok-capture.ensures.read in
-    let run = c.in_ok-writes.ensures object.2.program object.2.size object.2.realized capture.2.packets capture.2.of in
+    let run = c.in_ok-writes.ensures object.2.program object.2.realized capture.2.packets capture.2.of in
     let P : List code.Write → Type 0 = λ ws. OneFailed (map write_of ws) mid new in
     ends_unwritten request None old mid new (map write_of c.in_ok-writes.writes.items) c.from_residual-in_err-write_all.result c.from_residual-in_err-write_all.ensures.1
-    (of_as (outputs_of request) (map write_of c.in_ok-writes.writes.items) (run_outputs names c.args.verilog.now c.in_ok-text.text.items c.in_ok-capture.capture.magic capture.2.packets run.answers).writes run.writes_are (run_of names c.args.verilog.now c.in_ok-text.text.items c.in_ok-capture.capture.magic capture.2.packets run.answers))
+    (of_as (outputs_of request) (map write_of c.in_ok-writes.writes.items) (run_outputs names c.args.verilog.now c.in_ok-built.built.text.items c.in_ok-capture.capture.magic capture.2.packets run.answers (text_of run.final)).writes run.writes_are (run_of names c.args.verilog.now c.in_ok-built.built.text.items c.in_ok-capture.capture.magic capture.2.packets run.answers (text_of run.final)))
     (changes_then [] old read mid c.read_input.ensures.kept c.read_input-2.ensures.kept)
-    (run_makes names c.args.verilog.now (chosen_of c.args.choice) c.args.ifindex old read object.0 capture.0 c.in_ok-text.text.items c.in_ok-capture.capture.magic capture.2.packets c.in_ok-writes.writes.items c.requires.apart c.requires.text c.read_input.ensures.kept object.1 object.2 capture.1 capture.2.is run)
+    (run_makes names c.args.verilog.now (chosen_of c.args.choice) c.args.ifindex old read object.0 capture.0 c.in_ok-built.built c.in_ok-capture.capture.magic capture.2.packets c.in_ok-writes.writes.items c.requires.apart c.requires.text c.read_input.ensures.kept object.1 object.2 capture.1 capture.2.is run)
     (subst P c.deref.ensures.value c.in_err-write_all.ensures.failed)
 
 pub returns : goal.returns
@@ -40,12 +41,12 @@ returns g c =
     let read = state_of g.S.Shelf c.read_input.new.shelf in
     let mid = state_of g.S.Shelf c.read_input-2.new.shelf in
     let new = state_of g.S.Shelf c.write_all.new.shelf in
-    let object = c.in_ok-text.ensures.read in
+    let object = c.in_ok-built.ensures.read in
     let capture = c.in_ok-capture.ensures.read in
-    let run = c.in_ok-writes.ensures object.2.program object.2.size object.2.realized capture.2.packets capture.2.of in
+    let run = c.in_ok-writes.ensures object.2.program object.2.realized capture.2.packets capture.2.of in
     let P : List code.Write → Type 0 = λ ws. AreDone (map write_of ws) mid new in
     ends_done request old mid new (map write_of c.in_ok-writes.writes.items) refl
-    (of_as (outputs_of request) (map write_of c.in_ok-writes.writes.items) (run_outputs names c.args.verilog.now c.in_ok-text.text.items c.in_ok-capture.capture.magic capture.2.packets run.answers).writes run.writes_are (run_of names c.args.verilog.now c.in_ok-text.text.items c.in_ok-capture.capture.magic capture.2.packets run.answers))
+    (of_as (outputs_of request) (map write_of c.in_ok-writes.writes.items) (run_outputs names c.args.verilog.now c.in_ok-built.built.text.items c.in_ok-capture.capture.magic capture.2.packets run.answers (text_of run.final)).writes run.writes_are (run_of names c.args.verilog.now c.in_ok-built.built.text.items c.in_ok-capture.capture.magic capture.2.packets run.answers (text_of run.final)))
     (changes_then [] old read mid c.read_input.ensures.kept c.read_input-2.ensures.kept)
-    (run_makes names c.args.verilog.now (chosen_of c.args.choice) c.args.ifindex old read object.0 capture.0 c.in_ok-text.text.items c.in_ok-capture.capture.magic capture.2.packets c.in_ok-writes.writes.items c.requires.apart c.requires.text c.read_input.ensures.kept object.1 object.2 capture.1 capture.2.is run)
+    (run_makes names c.args.verilog.now (chosen_of c.args.choice) c.args.ifindex old read object.0 capture.0 c.in_ok-built.built c.in_ok-capture.capture.magic capture.2.packets c.in_ok-writes.writes.items c.requires.apart c.requires.text c.read_input.ensures.kept object.1 object.2 capture.1 capture.2.is run)
     (subst P c.deref.ensures.value c.in_ok-write_all.ensures.done)
