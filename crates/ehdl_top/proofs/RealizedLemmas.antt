@@ -9,10 +9,10 @@ use Rattle.beat_core.specs.Ports.{Offered, Arrival, offers_of}
 use Rattle.beat_core.specs.Laws.{arrival_of}
 use Rattle.net_core.specs.declared.ports.Inputs.{Inputs}
 use Rattle.net_core.specs.Nets.{Netlist}
-use Rattle.net_core.specs.Clock.{Stored, first_stored, after, stopping}
-use Rattle.net_core.specs.Ports.{words_of}
+use Rattle.net_core.specs.Clock.{Stored, first_stored}
 use Rattle.net_core.specs.History.{Answered, NeverStops, answers_given, stored_after, drive}
-use Rattle.port_drive.specs.Hosting.{StopsAt, ClocksOrNone}
+use Rattle.port_drive.specs.Hosting.{ClocksOrNone}
+use Rattle.port_drive.proofs.HostLaws.{never_stops}
 use Rattle.port_drive.specs.Reports.{full_drive, given_in}
 use Rattle.port_drive.specs.declared.report.DriveError.{DriveError}
 use Rattle.port_drive.specs.declared.report.DriveError.TheVariants.{X, Late, NoMemory}
@@ -51,17 +51,6 @@ pub opened_of : (p : XdpProgram) (decls : List MapDecl) (maps : MapState) → de
 opened_of p decls maps same is sound = record { declared = refl; sound = subst IsSound (is ∙ ap opened_state same) sound }
 
 -- ---- a call that has the host go on for clocks of which none stops
-never_at : (d : Netlist) (s : Stored) (before : List Inputs) (i : Inputs) (behind : List Inputs) → NeverStops d s (before ++ i ∷ behind) → stopping d (words_of i) (stored_after d s before) ≡ None
-never_at d s [] i behind never = never.0
-never_at d s (x ∷ before) i behind never = never_at d (after d (words_of x) s) before i behind never.1
-
-never_stops : (d : Netlist) (s t : Stored) (clocks : List Inputs) (wire : ℕ) → NeverStops d s clocks → StopsAt d s clocks wire t → ⊥
-never_stops d s t clocks wire never p =
-    none_some (sym (never_at d s p.before p.at p.behind (subst (NeverStops d s) p.all never)) ∙ ap (λ x. stopping d (words_of p.at) x) (sym p.left) ∙ p.stops)
-  where
-    none_some : None ≡ Some wire → ⊥
-    none_some e = cc
-
 pub goes_whole : {A : Type 0} (d : Netlist) (s t : Stored) (clocks : List Inputs) (r : Result A DriveError) (e : DriveError) → r ≡ Err e → ClocksOrNone d s clocks r t → IfErr r (λ f. f ≢ NoMemory) → NeverStops d s clocks → ⊥
 goes_whole d s t clocks (Ok a) e is went memory never = cc
 goes_whole d s t clocks (Err (X x)) e is went memory never = never_stops d s t clocks went.0 never went.1

@@ -39,7 +39,14 @@ fn run_writes<'a>(
     let finals = write_maps_text(alloc, &ran.maps)?;
     let mut writes = Vec::new(alloc);
     push_file(&mut writes, verilog, built.text)?;
-    push_results(alloc, &mut writes, files, capture, &ran.answers, Some(&finals))?;
+    push_results(
+        alloc,
+        &mut writes,
+        files,
+        capture,
+        &ran.answers,
+        Some(&finals),
+    )?;
     Ok(writes)
 }
 

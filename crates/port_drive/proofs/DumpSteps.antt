@@ -7,15 +7,15 @@ use Rattle.std.specs.List.{flat_map, range_with_len}
 use Rattle.std.specs.FinMap as finite
 use Rattle.net_core.specs.declared.ports.Inputs.{Inputs}
 use Rattle.net_core.specs.Nets.{Netlist}
-use Rattle.net_core.specs.Clock.{Stored, after, stopping}
-use Rattle.net_core.specs.Ports.{words_of, outputs_of}
+use Rattle.net_core.specs.Clock.{Stored}
+use Rattle.net_core.specs.Ports.{outputs_of}
 use Rattle.net_core.specs.History.{NeverStops, stored_after, trace}
 use Rattle.xdp_maps.specs.declared.decl.MapDecl.{MapDecl}
 use Rattle.xdp_maps.specs.Contents.{Contents, opened}
 use Rattle.xdp_maps.specs.State.{MapState, no_decl, decl_at, contents_at, with_contents, opened_state}
 use Rattle.host_history.specs.Rows.{row_length, contents_of}
 use Rattle.host_history.specs.Host.{asked, map_reads, reads, dump, cut_in_rows, dumped, shown_words, ShowsMaps}
-use Rattle.port_drive.specs.Hosting.{StopsAt, shown_maps}
+use Rattle.port_drive.specs.Hosting.{shown_maps}
 use Rattle.port_drive.specs.Reading.{read_of}
 use Rattle.port_drive.proofs.HostClocks.{UnderWay, goes_on, ends, shown-part, length-shown}
 use Rattle.port_drive.proofs.DumpLemmas.{cut-append, cut-step, opened_is, all_read}
@@ -207,18 +207,6 @@ module _ (d : Netlist) (s : Stored) (decls : List MapDecl) (m : ℕ) (t : Stored
   dump_gone le = ends d s (dump decls) (reads m (drop m decls)) t h.way (at_drop_all (reads m) decls m le)
 
 -- ---- a design that shows maps
-never_at : (d : Netlist) (s : Stored) (before : List Inputs) (i : Inputs) (behind : List Inputs) → NeverStops d s (before ++ i ∷ behind) → stopping d (words_of i) (stored_after d s before) ≡ None
-never_at d s [] i behind never = never.0
-never_at d s (x ∷ before) i behind never = never_at d (after d (words_of x) s) before i behind never.1
-
-pub never_stops : (d : Netlist) (s t : Stored) (clocks : List Inputs) (wire : ℕ) → NeverStops d s clocks → StopsAt d s clocks wire t → ⊥
-never_stops d s t clocks wire never p =
-    let none = never_at d s p.before p.at p.behind (subst (NeverStops d s) p.all never) in
-    none_some (sym none ∙ ap (λ x. stopping d (words_of p.at) x) (sym p.left) ∙ p.stops)
-  where
-    none_some : None ≡ Some wire → ⊥
-    none_some e = cc
-
 pub these_maps : (d : Netlist) (s : Stored) (maps given : MapState) (decls : List MapDecl) → maps.decls ≡ decls → ShowsMaps d s maps → given ≡ shown_maps decls (trace d s (dump decls)) → given ≡ maps
 these_maps d s maps given decls same shows is =
     is ∙ ap (λ l. shown_maps l (trace d s (dump l))) (sym same) ∙ ap (λ cs. record { decls = maps.decls; contents = cs }) shows.shown

@@ -1,6 +1,7 @@
 pub mod AnswerLemmas
 pub mod BeatLemmas
 pub mod DriveLaws
+pub mod HostLaws
 pub mod HostClocks
 pub mod LoadLemmas
 pub mod DumpLemmas

@@ -3,7 +3,8 @@ use Rattle.net_core.specs.History.{NeverStops}
 use Rattle.xdp_maps.specs.State.{decl_at}
 use Rattle.host_history.specs.Host.{map_reads, reads, dump}
 use Rattle.port_drive.proofs.HostClocks.{stops_in}
-use Rattle.port_drive.proofs.DumpSteps.{next_map, dumped_on, never_stops}
+use Rattle.port_drive.proofs.DumpSteps.{next_map, dumped_on}
+use Rattle.port_drive.proofs.HostLaws.{never_stops}
 use Rattle.port_drive.proofs.dumping.dump.Goals as goal
 
 pub returns-in-Err-clause-clocks : goal.returns-in-Err-clause-clocks
