@@ -8,6 +8,7 @@ use Rattle.net_core.specs.declared.tree.UnaryOp.{UnaryOp}
 use Rattle.net_core.specs.declared.tree.UnaryOp.TheVariants as unary_op
 use Rattle.net_core.specs.declared.tree.Word.{Word}
 use Rattle.net_core.specs.Nets.{Tree, TConst, TRead, TBit, TPartSelect, TMemoryWord, TUnary, TBinary, TConditional, TConcatenation, TLast, TMore}
+use Rattle.net_core.proofs.WidthLaws.{concatenation_is}
 use Rattle.net_core.specs.Width.{Scope, const_width, part_select_width, memory_word_width, unary_width, op_width, conditional_width, concatenation_width, word_fits, width_of, parts_width}
 use Rattle.verilog_lex.specs.declared.token.Symbol.{Symbol}
 use Rattle.verilog_lex.specs.declared.token.Symbol.TheVariants as symbol
