@@ -1,18 +1,18 @@
 -- The law of cells: what a program's cells say of the run of a packet.
-use Rattle.std.specs.Prelude.{ℕ, ◌≡◌, ◌+◌, ◌^◌, ◌<◌, ◌≤◌, ◌==◌, nat_lt, true, Option, Some, None, List, [], ◌∷◌, length, take, All}
+use Rattle.std.specs.Prelude.{ℕ, ◌≡◌, ◌+◌, ◌^◌, ◌<◌, ◌≤◌, ◌==◌, nat_lt, true, Some, List, length, take, All}
 use Rattle.std.proofs.Common.{get_or, filter}
 use Rattle.std.specs.List.{AllPairs}
 use Rattle.xdp_maps.specs.State.{MapState, IsSound}
-use Rattle.xdp_maps.specs.Operations.{Operation}
 use Rattle.xdp_machine.specs.State.{Machine, PacketIn}
 use Rattle.xdp_machine.specs.Touched as machine
 use Rattle.cell_core.specs.declared.program.Node.{Node}
 use Rattle.cell_core.specs.Cells.{IsRun, cell_at, site_in, bits_from, bit, on}
-use Rattle.cell_core.specs.Sites.{SiteView, ProgramView, site_at, operation_on, after, read_on, IsCellRun, leaves, touched}
+use Rattle.cell_core.specs.Sites.{SiteView, ProgramView, site_at, after, read_on, IsCellRun, leaves, touched}
 use Rattle.cell_core.specs.Formed.{AreFormed, AreSited, IsBelow}
 use Rattle.held_cells.specs.Paths.{GraphView, At, node_at, before, on_path, maps_in}
 use Rattle.held_cells.specs.declared.held.Held.{Held}
 use Rattle.held_cells.specs.Held.{PointerView, AreHeld}
+use Rattle.held_cells.specs.Steps.{DoAs}
 
 abbrev pub no_made : Node
 no_made = record { place = 0; guard = 0; first = 0; end = 0 }
@@ -40,12 +40,6 @@ sites_below k sites = filter (λ s. nat_lt s.node k) sites
 
 abbrev pub sites_at : ℕ → List SiteView → List SiteView
 sites_at k sites = filter (λ s. s.node == k) sites
-
--- The sites of a node do the operation of its step: one site, or none where it does none.
-abbrev pub DoAs : (ℕ → ℕ) → MapState → List SiteView → Option (ℕ × Operation) → Type 0
-DoAs v maps [] op = op ≡ None
-DoAs v maps (s ∷ []) op = op ≡ Some (s.map, operation_on v maps s)
-DoAs v maps (s ∷ r ∷ more) op = ⊥
 
 -- As far as node k the cells are right: guards, off the path too, are 1 exactly on it, and on the path cells hold what the machine holds,
 -- sites do what its steps do, and their operations leave its maps.

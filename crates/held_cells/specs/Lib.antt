@@ -2,4 +2,5 @@ pub mod Held
 pub mod Carrying
 pub mod Paths
 pub mod Steps
+pub mod Operating
 pub mod Law

@@ -1,12 +1,14 @@
 -- What the code of a node does: between nodes the edges that are on lead to where the run is, and hold what its machine holds.
-use Rattle.std.specs.Prelude.{ℕ, ◌≡◌, ◌≢◌, ◌+◌, ◌<◌, ◌≤◌, ◌++◌, true, Some, List, length, slice_index, get_or, take, All, Contains}
+use Rattle.std.specs.Prelude.{ℕ, ◌≡◌, ◌≢◌, ◌+◌, ◌<◌, ◌≤◌, ◌++◌, true, Option, Some, None, List, [], ◌∷◌, length, slice_index, get_or, take, All, Contains}
 use Rattle.xdp_maps.specs.State.{MapState}
+use Rattle.xdp_maps.specs.Operations.{Operation}
 use Rattle.xdp_machine.specs.Arithmetic.{low}
 use Rattle.xdp_machine.specs.State.{Machine, PacketIn}
 use Rattle.xdp_machine.specs.Runs.{Leaves}
+use Rattle.xdp_machine.specs.Touched.{operation_at}
 use Rattle.kind_core.specs.declared.kind.Kinds.{Kinds}
 use Rattle.cell_core.specs.Cells.{CellView, IsRun, cell_at, site_in, bits_from, bit, on}
-use Rattle.cell_core.specs.Sites.{SiteView, site_at, after, read_on}
+use Rattle.cell_core.specs.Sites.{SiteView, site_at, operation_on, after, read_on}
 use Rattle.operator_cells.specs.Making.{Grows}
 use Rattle.held_cells.specs.declared.held.Held.{Held}
 use Rattle.held_cells.specs.declared.way.Way.{Way}
@@ -58,6 +60,12 @@ abbrev pub AreRead : MapState → List CellView → List SiteView → (ℕ → �
 AreRead maps cells sites v = (c j : ℕ) → c < length cells → j < length sites → site_in (cell_at cells c).op ≡ Some j → on (v (site_at sites j).guard) ≡ true
     → v c ≡ bits_from (read_on v (after v maps (take j sites)) (site_at sites j) (cell_at cells c).op) (cell_at cells c).from (cell_at cells c).width
 
+-- The sites of a node do the operation of its step: one site, or none where it does none.
+abbrev pub DoAs : (ℕ → ℕ) → MapState → List SiteView → Option (ℕ × Operation) → Type 0
+DoAs v maps [] op = op ≡ None
+DoAs v maps (s ∷ []) op = op ≡ Some (s.map, operation_on v maps s)
+DoAs v maps (s ∷ r ∷ more) op = ⊥
+
 -- What the code of node k does behind its guard: cells, pointers, sites, edges and ends are added; and for all values of the cells and every
 -- run, where things are good before the node they are good behind it, and the operations of the sites leave the maps of the run.
 pub record Steps (g : GraphView) (k guard : ℕ) (held : Held) (cells cells2 : List CellView) (ps ps2 : List PointerView) (sites sites2 : List SiteView) (ways ways2 : List Way) (exits exits2 : List Exit) : Type 0 where
@@ -71,3 +79,6 @@ pub record Steps (g : GraphView) (k guard : ℕ) (held : Held) (cells cells2 : L
   pub step : (packet : PacketIn) (maps : MapState) (v : ℕ → ℕ) (s : Stage) → IsRun packet cells2 v → AreRead maps cells2 sites2 v
       → after v maps sites ≡ maps_in maps s → IsHere g packet v ps k guard held s → IsGood g packet v ps k ways exits s
       → IsGood g packet v ps2 (k + 1) ways2 exits2 (visit g k s) × (after v maps sites2 ≡ maps_in maps (visit g k s))
+  -- where the run stands at the node its sites do what the step does
+  pub does : (packet : PacketIn) (maps : MapState) (v : ℕ → ℕ) (m : Machine) → IsRun packet cells2 v → AreRead maps cells2 sites2 v
+      → after v maps sites ≡ m.maps → IsHere g packet v ps k guard held (At k m) → DoAs v m.maps more (operation_at g.code m)
