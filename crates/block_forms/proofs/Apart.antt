@@ -6,8 +6,8 @@ use Rattle.std.proofs.lemmas.Bool.{and_parts, and_from, ne_eqb, ltb-true, lt-ltb
 use Rattle.std.proofs.lemmas.List.{append-nil}
 use Rattle.net_core.specs.declared.tree.Net.{Net}
 use Rattle.net_core.specs.Nets.{StatementTree, SBlock, SIf, SIfElse, SSet, SStore, StatementTrees, SEnd, SThen}
-use Rattle.verilog_grammar.specs.FormedScope.{targets_pass, all_targets_pass, leaves_register, leaves_memory}
-use Rattle.verilog_grammar.specs.Formed.{targets_free}
+use Rattle.design_rules.specs.FormedScope.{targets_pass, all_targets_pass, leaves_register, leaves_memory}
+use Rattle.design_rules.specs.Formed.{targets_free}
 use Rattle.block_core.specs.Rename.{rename_statement, rename_statements}
 use Rattle.block_core.specs.Blocks.{registers_of, memories_of, Whole, Among, start}
 use Rattle.block_core.specs.Link.{resolve, link_statement, all_statements}

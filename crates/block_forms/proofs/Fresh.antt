@@ -12,7 +12,7 @@ use Rattle.std.proofs.lemmas.Slice.Eq.{bytes_eq-Decides}
 use Rattle.std.proofs.lemmas.Fmt.{decimal_injective, digits_decimal}
 use Rattle.std.proofs.lemmas.Str.Parse.{numerals_by_value, tells_all_ascii_digits}
 use Rattle.net_core.specs.Ports.{port_names}
-use Rattle.verilog_grammar.specs.FormedSyntax.{is_digit, begins_name, continues_name, is_name}
+use Rattle.design_rules.specs.FormedSyntax.{is_digit, begins_name, continues_name, is_name}
 use Rattle.block_core.specs.Link.{numbered, net_names}
 
 -- each is a name, and none of those before it

@@ -14,9 +14,9 @@ use Rattle.net_core.specs.Nets.{Tree, TConst, TRead, TBit, TPartSelect, TMemoryW
 use Rattle.net_core.specs.Names.{is_register, is_memory}
 use Rattle.net_core.specs.Width.{Scope, same_width, width_of, parts_width, right_width, same, statement_typed, statements_typed, register_widths, memory_widths, input_width, port_width, net_width, memory_width, scope, wires_typed, wire_widths}
 use Rattle.net_core.proofs.WidthLaws.{same_parts, op_parts, unary_parts, part_select_parts, memory_word_parts, conditional_some, concatenation_parts}
-use Rattle.verilog_grammar.specs.FormedSyntax.{trees_pass, all_trees_pass}
-use Rattle.verilog_grammar.specs.FormedScope.{Sorts, reads_known, parts_known, right_known, targets_pass, all_targets_pass, is_input, registers_of, memories_of, is_value, is_words, sorts}
-use Rattle.verilog_grammar.proofs.FormedWidthLaws.{same_some}
+use Rattle.design_rules.specs.FormedSyntax.{trees_pass, all_trees_pass}
+use Rattle.design_rules.specs.FormedScope.{Sorts, reads_known, parts_known, right_known, targets_pass, all_targets_pass, is_input, registers_of, memories_of, is_value, is_words, sorts}
+use Rattle.design_rules.proofs.FormedWidthLaws.{same_some}
 
 -- ---- what has a width is there
 pub record Holds {N : Type 0} (s : Scope N) (k : Sorts N) : Type 0 where

@@ -16,10 +16,10 @@ use Rattle.net_core.specs.Nets.{StatementTree, AssignTree, Netlist}
 use Rattle.net_core.specs.Ports.{port_list, port_names}
 use Rattle.net_core.specs.Width.{width_of, right_width, same, statement_typed, register_widths, memory_widths, scope, full_scope, wire_widths, word_fits, declared_typed, output_width, assigns_typed, is_assigned, statements_all_typed, IsTyped}
 use Rattle.net_core.proofs.WireLaws.{length_widths}
-use Rattle.verilog_grammar.specs.FormedSyntax.{tree_spelled, right_spelled, statement_spelled}
-use Rattle.verilog_grammar.specs.FormedScope.{sorts, reads_known, right_known, is_output, integer_known, registers_of as registers_in, memories_of as memories_in}
-use Rattle.verilog_grammar.specs.Formed.{first_broken, section_fault, first_fault, has_name, is_new, declared_place, wire_place, declared_fits, wire_fits, assign_fits, targets_free, block_known, block_fits, declared_rules, wire_rules, assign_rules, always_rules, last_rules, wires_start, assigns_start, always_start}
-use Rattle.verilog_grammar.proofs.FormedWidthLaws.{same_some}
+use Rattle.design_rules.specs.FormedSyntax.{tree_spelled, right_spelled, statement_spelled}
+use Rattle.design_rules.specs.FormedScope.{sorts, reads_known, right_known, is_output, integer_known, registers_of as registers_in, memories_of as memories_in}
+use Rattle.design_rules.specs.Formed.{first_broken, section_fault, first_fault, has_name, is_new, declared_place, wire_place, declared_fits, wire_fits, assign_fits, targets_free, block_known, block_fits, declared_rules, wire_rules, assign_rules, always_rules, last_rules, wires_start, assigns_start, always_start}
+use Rattle.design_rules.proofs.FormedWidthLaws.{same_some}
 use Rattle.block_core.specs.declared.name.Name.{Name}
 use Rattle.block_core.specs.declared.block.BlockMemory.{BlockMemory}
 use Rattle.block_core.specs.Blocks.{BlockTree, OutputTree, registers_of, memories_of, Whole, Among, start}

@@ -1,10 +1,10 @@
 -- Sections without a fault, from the rules of their items.
 use Rattle.std.specs.Prelude.{◌≡◌, ℕ, suc, ◌+◌, ◌<◌, Bool, true, Option, None, List, [], ◌∷◌, length}
 use Rattle.std.proofs.Common.{get_or, refl, ap, ◌∙◌, arith}
-use Rattle.verilog_grammar.specs.declared.formed.NetError.{NetError}
-use Rattle.verilog_grammar.specs.declared.formed.Why.{Why}
-use Rattle.verilog_grammar.specs.declared.formed.Why.TheVariants.{Syntax, Unknown, Twice, Width, Ports}
-use Rattle.verilog_grammar.specs.Formed.{Rule, first_broken, fault_at, or_else, section_fault}
+use Rattle.design_rules.specs.declared.formed.NetError.{NetError}
+use Rattle.design_rules.specs.declared.formed.Why.{Why}
+use Rattle.design_rules.specs.declared.formed.Why.TheVariants.{Syntax, Unknown, Twice, Width, Ports}
+use Rattle.design_rules.specs.Formed.{Rule, first_broken, fault_at, or_else, section_fault}
 
 pub four_kept : (a b c e : Bool) → a ≡ true → b ≡ true → c ≡ true → e ≡ true → first_broken ((a, Syntax) ∷ (b, Unknown) ∷ (c, Twice) ∷ (e, Width) ∷ []) ≡ None
 four_kept a b c e p q r s = λ i. first_broken ((p i, Syntax) ∷ (q i, Unknown) ∷ (r i, Twice) ∷ (s i, Width) ∷ [])

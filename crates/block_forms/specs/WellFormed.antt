@@ -7,8 +7,8 @@ use Rattle.block_core.specs.declared.name.Name.{Name}
 use Rattle.block_core.specs.Blocks.{BlockWireTree, OutputTree, Whole, Among}
 use Rattle.block_core.specs.Link.{all_registers, all_memories, all_wires, link}
 use Rattle.block_core.specs.Formed.{IsFormed}
-use Rattle.verilog_grammar.specs.FormedSyntax.{tree_spelled, right_spelled, statement_spelled}
-use Rattle.verilog_grammar.specs.Formed.{IsWellFormed}
+use Rattle.design_rules.specs.FormedSyntax.{tree_spelled, right_spelled, statement_spelled}
+use Rattle.design_rules.specs.Formed.{IsWellFormed}
 
 abbrev pub wire_spelled : {N : Type 0} → BlockWireTree N → Bool
 wire_spelled w = right_spelled w.right

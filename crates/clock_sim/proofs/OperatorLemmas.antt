@@ -6,7 +6,7 @@ use Rattle.net_core.specs.declared.tree.Net.TheVariants.{Memory}
 use Rattle.net_core.specs.declared.tree.Op.{Op}
 use Rattle.net_core.specs.declared.tree.UnaryOp.TheVariants.{Not, ReduceOr}
 use Rattle.net_core.specs.Value.{apply, apply_unary, part_select, concatenated, conditional}
-use Rattle.net_core.specs.Width.{op_width, part_select_width, concatenation_width, conditional_width, memory_word_width}
+use Rattle.net_core.specs.Width.{op_width, unary_width, part_select_width, concatenation_width, conditional_width, memory_word_width}
 use Rattle.net_core.specs.Clock.{memory_word_value}
 use Rattle.net_core.specs.Suits.{IsOfWidth}
 use Rattle.net_core.proofs.WidthLaws.{apply_fits, apply_unary_fits, part_select_fit, concatenated_fit, conditional_parts, memory_word_parts}
@@ -43,14 +43,14 @@ not_makes old new a p n y w mask width = record {
   };
 }
 
-pub reduce_or_makes : (old new : Flat) (a p : Operand) (n y : ℕ) → Works opcode.ReduceOr a.slot y 0 n old new p.slot → p.width ≡ 1 → MakesOne old new a p (apply_unary ReduceOr)
+pub reduce_or_makes : (old new : Flat) (a p : Operand) (n y : ℕ) → Works opcode.ReduceOr a.slot y 0 n old new p.slot → p.width ≡ unary_width ReduceOr a.width → MakesOne old new a p (apply_unary ReduceOr)
 reduce_or_makes old new a p n y w width = record {
   gives = λ ds u g. record {
     number = w.gives ds (λ x. (apply_unary ReduceOr (u x)).value) (λ x slots fine starts. ap (λ k. worked opcode.ReduceOr (contents_of x.stored) slots n 0 k 0) (g.number.at x slots fine starts));
     fits = λ x fine.
         let f = g.fits x fine in
         let o = apply_unary_fits ReduceOr (u x) f.fits in
-        record { width = sym width; fits = o.fits };
+        record { width = o.width ∙ ap (unary_width ReduceOr) f.width ∙ sym width; fits = o.fits };
   };
 }
 

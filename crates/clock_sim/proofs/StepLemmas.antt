@@ -10,10 +10,10 @@ use Rattle.net_core.specs.declared.tree.Op.{Op}
 use Rattle.net_core.specs.declared.tree.Op.TheVariants.{Add, Sub, Mul, And, Or, Xor, ShiftLeft, ShiftRight, Equal, NotEqual, Less, LessEqual, Greater, GreaterEqual}
 use Rattle.net_core.specs.Value.{nothing, apply, part_select, concatenated, conditional}
 use Rattle.net_core.specs.Width.{Fits, op_width, part_select_width, concatenation_width}
-use Rattle.net_core.proofs.WidthLaws.{same_parts, shift_parts, test_parts, part_select_parts, concatenation_parts}
+use Rattle.net_core.proofs.WidthLaws.{same_parts, part_select_parts, concatenation_parts}
 use Rattle.net_core.proofs.LowBitsLaws.{low_low, low_difference, shifted_whole, concatenated_small}
 use Rattle.clock_sim.specs.declared.step.Opcode.TheVariants as opcode
-use Rattle.clock_sim.specs.Steps.{worked, opcode_of, op_swaps, op_tests}
+use Rattle.clock_sim.specs.Steps.{worked, opcode_of, op_swaps}
 use Rattle.clock_sim.specs.Flat.{numbers}
 
 -- a mask of a width keeps the low bits
@@ -73,22 +73,6 @@ module _ (contents : List (List ℕ)) (slots : List ℕ) (u v : Word) (n : ℕ) 
   op_works LessEqual h = refl
   op_works Greater h = refl
   op_works GreaterEqual h = refl
-
-pub op_result : (op : Op) (a b : ℕ) → 0 < op_width op a b → (if op_tests op then 1 else a) ≡ op_width op a b
-op_result Add a b h = sym (same_parts a b h).is
-op_result Sub a b h = sym (same_parts a b h).is
-op_result Mul a b h = sym (same_parts a b h).is
-op_result And a b h = sym (same_parts a b h).is
-op_result Or a b h = sym (same_parts a b h).is
-op_result Xor a b h = sym (same_parts a b h).is
-op_result ShiftLeft a b h = sym (shift_parts a b h).is
-op_result ShiftRight a b h = sym (shift_parts a b h).is
-op_result Equal a b h = sym (test_parts a b h).is
-op_result NotEqual a b h = sym (test_parts a b h).is
-op_result Less a b h = sym (test_parts a b h).is
-op_result LessEqual a b h = sym (test_parts a b h).is
-op_result Greater a b h = sym (test_parts a b h).is
-op_result GreaterEqual a b h = sym (test_parts a b h).is
 
 -- ---- selects, concatenations, choices, memories
 pub part_select_works : (contents : List (List ℕ)) (slots : List ℕ) (u : Word) (hi lo n y : ℕ) → Fits u → 0 < part_select_width u.width hi lo → n ≡ 2 ^ (hi + 1 - lo) - 1 → worked opcode.PartSelect contents slots n lo u.value y ≡ (part_select u hi lo).value

@@ -61,13 +61,3 @@ abbrev pub op_swaps : Op → Bool
 op_swaps op.Greater = true
 op_swaps op.GreaterEqual = true
 op_swaps _ = false
-
--- it answers one bit
-abbrev pub op_tests : Op → Bool
-op_tests op.Equal = true
-op_tests op.NotEqual = true
-op_tests op.Less = true
-op_tests op.LessEqual = true
-op_tests op.Greater = true
-op_tests op.GreaterEqual = true
-op_tests _ = false

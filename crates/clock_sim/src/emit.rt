@@ -5,12 +5,15 @@ ghost use Rattle.net_core.specs.Value.{apply_unary, apply, part_select, concaten
 ghost use Rattle.net_core.specs.Width.{unary_width, op_width, part_select_width, concatenation_width, conditional_width, memory_word_width, width_of, parts_width, right_width};
 ghost use Rattle.net_core.specs.View.{tree_of, trees_of, right_of};
 ghost use Rattle.clock_sim.specs.Flat.{Adds, MakesOne, MakesTwo, MakesThree, Fetches, AreOperands, scope_of, widths_in, Values, PartValues, Joins, RightValues};
-ghost use Rattle.clock_sim.specs.Steps.{opcode_of, op_swaps, op_tests};
+ghost use Rattle.clock_sim.specs.Steps.{opcode_of, op_swaps};
 
 use crate::builder::{Operand, StepBuilder, add_step, constant};
 use crate::operands::{Operands, operand_of, word_width};
 use crate::step::Opcode;
 use net_core::tree::{Expr, Net, Op, Parts, Right, UnaryOp};
+use net_core::width::{
+    concatenation_width, conditional_width, op_width, part_select_width, unary_width,
+};
 use std::alloc::AllocError;
 
 // The greatest number of a width.
@@ -35,16 +38,16 @@ fn apply_unary(
     ensures width { IfOk result (λ p. 0 < a.width → p.width ≡ unary_width unary_op a.width) }
     ensures makes { IfOk result (λ p. MakesOne builder.old builder.new a p (apply_unary unary_op)) }
 {
+    let width = unary_width(unary_op, a.width);
     match unary_op {
         UnaryOp::Not => {
             let mask = greatest(a.width);
             let slot = add_step(builder, Opcode::Complement, a.slot, a.slot, 0, mask)?;
-            let width = a.width;
             Ok(Operand { slot, width })
         }
         UnaryOp::ReduceOr => {
             let slot = add_step(builder, Opcode::ReduceOr, a.slot, a.slot, 0, 0)?;
-            Ok(Operand { slot, width: 1 })
+            Ok(Operand { slot, width })
         }
     }
 }
@@ -83,17 +86,6 @@ fn ordered(op: Op, a: u32, b: u32) -> (u32, u32)
     }
 }
 
-// The width of what an operator gives.
-fn result_width(op: Op, width: u8) -> u8
-    ensures { result ≡ (if op_tests op then 1 else width) }
-{
-    match op {
-        Op::Equal | Op::NotEqual | Op::Less => 1,
-        Op::LessEqual | Op::Greater | Op::GreaterEqual => 1,
-        _ => width,
-    }
-}
-
 fn binary(op: Op, a: Operand, b: Operand, builder: &mut StepBuilder) -> Result<Operand, AllocError>
     requires typed { 0 < op_width op a.width b.width }
     requires left { a.slot < length builder.old.slots }
@@ -103,7 +95,7 @@ fn binary(op: Op, a: Operand, b: Operand, builder: &mut StepBuilder) -> Result<O
     ensures makes { IfOk result (λ p. MakesTwo builder.old builder.new a b p (apply op)) }
 {
     let mask = greatest(a.width);
-    let width = result_width(op, a.width);
+    let width = op_width(op, a.width, b.width);
     let (x, y) = ordered(op, a.slot, b.slot);
     let slot = add_step(builder, opcode_of(op), x, y, 0, mask)?;
     Ok(Operand { slot, width })
@@ -121,7 +113,7 @@ fn part_select(
     ensures width { IfOk result (λ p. p.width ≡ part_select_width from.width high low) }
     ensures makes { IfOk result (λ p. MakesOne builder.old builder.new from p (λ w. part_select w high low)) }
 {
-    let width = high + 1 - low;
+    let width = part_select_width(from.width, high, low);
     let mask = greatest(width);
     let slot = add_step(builder, Opcode::PartSelect, from.slot, from.slot, low, mask)?;
     Ok(Operand { slot, width })
@@ -139,7 +131,7 @@ fn concatenated(
     ensures width { IfOk result (λ p. p.width ≡ concatenation_width left.width right.width) }
     ensures makes { IfOk result (λ p. MakesTwo builder.old builder.new left right p concatenated) }
 {
-    let width = left.width + right.width;
+    let width = concatenation_width(left.width, right.width);
     let slot = add_step(
         builder,
         Opcode::Concatenation,
@@ -167,7 +159,7 @@ fn conditional(
 {
     let other = u64::from(b.slot);
     let slot = add_step(builder, Opcode::Conditional, test.slot, a.slot, 0, other)?;
-    let width = a.width;
+    let width = conditional_width(test.width, a.width, b.width);
     Ok(Operand { slot, width })
 }
 

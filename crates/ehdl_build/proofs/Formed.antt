@@ -2,7 +2,7 @@
 use Rattle.std.specs.Prelude.{◌≡◌, ℕ, ◌^◌, ◌<◌, nat_lt, true}
 use Rattle.std.proofs.Common.{refl, arith}
 use Rattle.std.proofs.lemmas.Bool.Decides.{nat_tests}
-use Rattle.verilog_grammar.specs.Formed.{IsWellFormed, first_fault}
+use Rattle.design_rules.specs.Formed.{IsWellFormed, first_fault}
 use Rattle.ehdl_build.specs.StoreAndForwardNetlist.{store_and_forward}
 
 fits : (v : ℕ) → v < 2 ^ 32 → nat_lt v (2 ^ 32) ≡ true

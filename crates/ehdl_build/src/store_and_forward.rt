@@ -5,7 +5,7 @@ ghost use Rattle.net_core.specs.View.{statement_of, assign_of, netlist_of, tree_
 ghost use Rattle.net_core.specs.Ports.{port_list};
 ghost use Rattle.ehdl_build.specs.StoreAndForwardNetlist.{store_and_forward, store_and_forward_clear, store_and_forward_declared, store_and_forward_give, store_and_forward_names, store_and_forward_take, store_and_forward_assigns, store_and_forward_wires, going_wires, next_wires, shown_wires, beat_assigns, answer_assigns, read_port, read_register, read_wire};
 ghost use Rattle.ehdl_build.specs.StoreAndForwardNetlist.{assign as assign_tree};
-ghost use Rattle.verilog_grammar.specs.Formed.{IsWellFormed};
+ghost use Rattle.design_rules.specs.Formed.{IsWellFormed};
 
 use net_core::build::{
     binary, block, conditional, constant, memory_word, then, unary, when, when_else, wire,

@@ -24,8 +24,8 @@ use Rattle.ehdl_top.specs.declared.error.CommandError.TheVariants as fault
 use Rattle.ehdl_top.specs.Outcome.{drive_error}
 use Rattle.ehdl_top.specs.Steps.{IsDriven}
 use Rattle.port_drive.proofs.DriveLaws.{done_drive, late_drive, stopped_drive, next_drive}
-use Rattle.verilog_grammar.specs.Formed.{IsWellFormed}
-use Rattle.verilog_grammar.proofs.FormedItemLaws.{last_kept}
+use Rattle.design_rules.specs.Formed.{IsWellFormed}
+use Rattle.design_rules.proofs.FormedItemLaws.{last_kept}
 
 -- ---- the wire that stops a clock
 first_or_later : (b : Bool) (at most w : ℕ) (later : Option ℕ) → (if b then Some at else later) ≡ Some w → at < most → (later ≡ Some w → w < most) → w < most

@@ -2,7 +2,7 @@
 
 ghost use Rattle.std.specs.Prelude.{◌≡◌, ◌≤◌, ◌<◌, ◌^◌, List, length, map, drop, IfOk};
 ghost use Rattle.net_core.specs.View.{netlist_of};
-ghost use Rattle.verilog_grammar.specs.Formed.{IsWellFormed};
+ghost use Rattle.design_rules.specs.Formed.{IsWellFormed};
 ghost use Rattle.ehdl_build.specs.Bounds.{clock_bound, most_beats};
 ghost use Rattle.ehdl_top.specs.Steps.{IsDriven};
 

@@ -10,7 +10,7 @@ ghost use Rattle.net_core.specs.Clock.{first_stored};
 ghost use Rattle.net_core.specs.History.{NeverStops, Answered, answers_given, stored_after};
 ghost use Rattle.host_history.specs.Host.{load, ShowsMaps};
 ghost use Rattle.port_drive.specs.Reports.{full_drive, given_in};
-ghost use Rattle.verilog_grammar.specs.Formed.{IsWellFormed};
+ghost use Rattle.design_rules.specs.Formed.{IsWellFormed};
 ghost use Rattle.ehdl_build.specs.Compiled.{IsSequential};
 ghost use Rattle.ehdl_top.specs.Results.{came_by};
 ghost use Rattle.ehdl_top.specs.Steps.{IsLegal, IsRealized};

@@ -3,7 +3,7 @@
 ghost use Rattle.std.specs.Prelude.{List, IfOk};
 ghost use Rattle.pcap_core.specs.Format.{Packet};
 ghost use Rattle.net_core.specs.View.{netlist_of};
-ghost use Rattle.verilog_grammar.specs.Formed.{IsWellFormed};
+ghost use Rattle.design_rules.specs.Formed.{IsWellFormed};
 ghost use Rattle.xdp_object.specs.Choice.{chosen_of};
 ghost use Rattle.command_line.specs.Request.{AskSim, names_of};
 ghost use Rattle.ehdl_top.specs.States.{state_of};

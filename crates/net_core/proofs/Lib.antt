@@ -5,3 +5,6 @@ pub mod NameLaws
 pub mod WireLaws
 pub mod WidthLaws
 pub mod ChainLaws
+pub mod RegisterLemmas
+pub mod ConcatenationLemmas
+pub mod TestLemmas

@@ -1,5 +1,5 @@
 -- The width of an expression, or 0 where it has none, and what is well typed.
-use Rattle.std.specs.Prelude.{◌≡◌, ℕ, zero, suc, ◌+◌, ◌-◌, ◌^◌, ◌<◌, ◌≤◌, ◌==◌, nat_lt, nat_le, if◌then◌else◌, Bool, true, false, ◌&&◌, ◌||◌, List, [], ◌∷◌, ◌++◌, IsTrue}
+use Rattle.std.specs.Prelude.{◌≡◌, ℕ, zero, suc, ◌+◌, ◌-◌, ◌^◌, ◌<◌, ◌≤◌, ◌==◌, nat_lt, nat_le, if◌then◌else◌, Bool, true, false, ◌&&◌, ◌||◌, List, [], ◌∷◌, ◌++◌, take, IsTrue}
 use Rattle.std.proofs.Common.{get_or}
 use Rattle.net_core.specs.declared.tree.Word.{Word}
 use Rattle.net_core.specs.declared.tree.Op.{Op}
@@ -157,6 +157,10 @@ wire_widths (w ∷ ws) = w.width ∷ wire_widths ws
 
 abbrev pub full_scope : Netlist → Scope Net
 full_scope d = scope d (wire_widths d.wires)
+
+-- where so many wires stand before
+abbrev pub scope_before : Netlist → ℕ → Scope Net
+scope_before d before = scope d (take before (wire_widths d.wires))
 
 abbrev pub word_fits : Word → Bool
 word_fits w = nat_lt 0 w.width && (nat_le w.width 64 && nat_lt w.value (2 ^ w.width))

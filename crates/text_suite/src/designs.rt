@@ -2,7 +2,7 @@
 
 ghost use Rattle.std.specs.Prelude.{IfOk};
 ghost use Rattle.net_core.specs.View.{netlist_of};
-ghost use Rattle.verilog_grammar.specs.Formed.{IsWellFormed};
+ghost use Rattle.design_rules.specs.Formed.{IsWellFormed};
 
 use anyhow::{Context, Result};
 use net_core::design::Design;

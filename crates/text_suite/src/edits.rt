@@ -2,10 +2,10 @@
 
 use crate::trees::{expression_of, net_of, statement_of};
 use anyhow::{Context, Result, bail};
+use design_rules::formed::well_formed;
 use net_core::design::{Declared, Design};
 use net_core::tree::{Net, Right};
 use std::alloc::Global;
-use verilog_grammar::formed::well_formed;
 
 // The right side of the first wire.
 fn set_right(design: &mut Design, right: Right<Net>) -> Result<()> {

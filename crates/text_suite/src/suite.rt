@@ -9,9 +9,9 @@ use crate::faults::show_part;
 use crate::hosts::{decl_of, show_dump, show_load};
 use crate::tokens::{show_tokens, written_anew};
 use anyhow::{Context, Result, bail};
+use design_rules::formed;
 use indexmap::IndexMap;
 use std::alloc::Global;
-use verilog_grammar::formed;
 use xdp_maps::decl::MapDecl;
 
 /// The text under way, texts that are kept by their names, and the design that runs.

@@ -17,7 +17,7 @@ use Rattle.verilog_lex.specs.declared.token.Symbol.TheVariants as symbol
 use Rattle.verilog_lex.specs.Words.{keyword_text, symbol_text, symbols}
 use Rattle.verilog_lex.specs.Element.{keyword_of}
 use Rattle.verilog_lex.specs.Lexeme.{Lexeme, LName, LKeyword, LNumber, LSized, LOutOfRange, LSymbol}
-use Rattle.verilog_grammar.specs.FormedSyntax.{is_name}
+use Rattle.design_rules.specs.FormedSyntax.{is_name}
 use Rattle.verilog_grammar.specs.Grammar.{constant, op_symbol}
 use Rattle.verilog_expression.specs.declared.fault.Code.{Code}
 use Rattle.verilog_expression.specs.declared.fault.Code.TheVariants as code

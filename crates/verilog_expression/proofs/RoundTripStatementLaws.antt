@@ -9,8 +9,8 @@ use Rattle.verilog_lex.specs.declared.token.Keyword.TheVariants as keyword
 use Rattle.verilog_lex.specs.declared.token.Symbol.TheVariants as symbol
 use Rattle.verilog_lex.specs.Lexeme.{Lexeme, LName, LKeyword, LSymbol}
 use Rattle.verilog_grammar.specs.Grammar.{tree_lexemes}
-use Rattle.verilog_grammar.specs.FormedSyntax.{statement_depth, statements_depth, ends_open}
-use Rattle.verilog_grammar.specs.FormedScope.{Sorts}
+use Rattle.design_rules.specs.FormedSyntax.{statement_depth, statements_depth, ends_open}
+use Rattle.design_rules.specs.FormedScope.{Sorts}
 use Rattle.verilog_expression.specs.declared.entry.Entry.TheVariants as entry
 use Rattle.verilog_expression.specs.Reads.{Read}
 use Rattle.verilog_expression.specs.Lexemes.{lexeme_at}

@@ -9,8 +9,8 @@ use Rattle.verilog_lex.specs.declared.token.Symbol.{Symbol}
 use Rattle.verilog_lex.specs.declared.token.Symbol.TheVariants as symbol
 use Rattle.verilog_lex.specs.Lexeme.{Lexeme, LName, LSymbol}
 use Rattle.verilog_grammar.specs.Grammar.{right_lexemes}
-use Rattle.verilog_grammar.specs.FormedSyntax.{right_spelled}
-use Rattle.verilog_grammar.specs.FormedScope.{Sorts, right_known}
+use Rattle.design_rules.specs.FormedSyntax.{right_spelled}
+use Rattle.design_rules.specs.FormedScope.{Sorts, right_known}
 use Rattle.verilog_expression.specs.declared.fault.Code.TheVariants as code
 use Rattle.verilog_expression.specs.declared.entry.Entry.{Entry}
 use Rattle.verilog_expression.specs.declared.entry.Entry.TheVariants as entry

@@ -14,8 +14,8 @@ use Rattle.verilog_lex.specs.declared.token.Symbol.{Symbol}
 use Rattle.verilog_lex.specs.declared.token.Symbol.TheVariants as symbol
 use Rattle.verilog_lex.specs.Lexeme.{Lexeme, LName, LNumber, LSized, LOutOfRange, LSymbol}
 use Rattle.verilog_grammar.specs.Grammar.{op_symbol, unary_symbol, tree_lexemes, parts_lexemes}
-use Rattle.verilog_grammar.specs.FormedSyntax.{depth, parts_depth, is_prefixed, prefixes_apart, parts_apart}
-use Rattle.verilog_grammar.specs.FormedScope.{Sorts, reads_known, parts_known}
+use Rattle.design_rules.specs.FormedSyntax.{depth, parts_depth, is_prefixed, prefixes_apart, parts_apart}
+use Rattle.design_rules.specs.FormedScope.{Sorts, reads_known, parts_known}
 use Rattle.verilog_expression.specs.declared.fault.Code.TheVariants as code
 use Rattle.verilog_expression.specs.declared.entry.Entry.{Entry}
 use Rattle.verilog_expression.specs.declared.entry.Entry.TheVariants as entry

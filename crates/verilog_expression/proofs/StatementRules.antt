@@ -6,8 +6,8 @@ use Rattle.net_core.specs.declared.tree.Net.{Net}
 use Rattle.net_core.specs.declared.tree.Net.TheVariants as net
 use Rattle.net_core.specs.Nets.{Tree, StatementTree, SBlock, SIf, SIfElse, SSet, SStore, StatementTrees, SEnd, SThen}
 use Rattle.net_core.specs.Width.{Scope, width_of, same, statement_typed, statements_typed}
-use Rattle.verilog_grammar.specs.FormedSyntax.{tree_spelled, statement_depth, ends_open, elses_placed, all_placed, trees_pass, all_trees_pass}
-use Rattle.verilog_grammar.specs.FormedScope.{Sorts, reads_known, targets_pass, all_targets_pass}
+use Rattle.design_rules.specs.FormedSyntax.{tree_spelled, statement_depth, ends_open, elses_placed, all_placed, trees_pass, all_trees_pass}
+use Rattle.design_rules.specs.FormedScope.{Sorts, reads_known, targets_pass, all_targets_pass}
 use Rattle.verilog_expression.specs.Statements.{Free}
 use Rattle.verilog_expression.specs.Laws.{IsTreeKept, IsStatementKept}
 

@@ -10,7 +10,7 @@ use Rattle.net_core.specs.declared.tree.UnaryOp.TheVariants as unary_op
 use Rattle.net_core.specs.declared.tree.Word.{Word}
 use Rattle.net_core.specs.Nets.{Tree, TConst, TRead, TBit, TPartSelect, TMemoryWord, TUnary, TBinary, TConditional, TConcatenation, Trees, TLast, TMore}
 use Rattle.net_core.specs.Width.{Scope, same_width, const_width, part_select_width, unary_width, op_width, concatenation_width, word_fits, width_of, parts_width}
-use Rattle.verilog_grammar.specs.FormedScope.{Sorts, reads_known, parts_known}
+use Rattle.design_rules.specs.FormedScope.{Sorts, reads_known, parts_known}
 use Rattle.verilog_expression.specs.Expressions.{whole_width}
 
 -- a width that is 0 where a test fails

@@ -6,7 +6,7 @@ use Rattle.net_core.specs.declared.tree.Op.TheVariants as op
 use Rattle.net_core.specs.declared.tree.Word.{Word}
 use Rattle.net_core.specs.Value.{word}
 use Rattle.net_core.specs.Width.{word_fits}
-use Rattle.verilog_grammar.specs.FormedSyntax.{is_name}
+use Rattle.design_rules.specs.FormedSyntax.{is_name}
 use Rattle.verilog_lex.specs.declared.token.Symbol.{Symbol}
 use Rattle.verilog_lex.specs.declared.token.Symbol.TheVariants as symbol
 use Rattle.verilog_lex.specs.Words.{keyword_text, symbol_text}

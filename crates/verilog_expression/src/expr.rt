@@ -15,8 +15,8 @@ use crate::rest::Rest;
 use crate::value::{behind_value, constant_expr, sized};
 use net_core::build::{self, binary, conditional, memory_word, unary};
 use net_core::tree::{Expr, Net, Parts, UnaryOp};
+use net_core::width::{conditional_width, memory_word_width, op_width, unary_width};
 use std::alloc::{AllocError, Global};
-use verilog_grammar::formed::{conditional_width, memory_word_width, op_width, unary_width};
 use verilog_lex::{Symbol, Token, TokenKind};
 
 /// How deep expressions and statements nest.

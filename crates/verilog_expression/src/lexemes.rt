@@ -8,8 +8,9 @@ use crate::error::PhraseError;
 use crate::fault::Code;
 use crate::mark::{Mark, is_mark};
 use crate::rest::{Rest, spelled};
+use design_rules::formed::is_name;
 use net_core::tree::{Op, Word};
-use verilog_grammar::formed::{is_name, word_fits};
+use net_core::width::word_fits;
 use verilog_lex::{Symbol, Token, TokenKind};
 
 /// A fault at the first token that is left, or at the end of the text where none is left.

@@ -5,7 +5,7 @@ ghost use Rattle.verilog_expression.specs.Lexemes.{begins_expression, begins_num
 ghost use Rattle.verilog_expression.specs.View.{Finds, comma_at, end_at, lexemes_left};
 
 use crate::rest::{Rest, spelled};
-use verilog_grammar::formed::is_name;
+use design_rules::formed::is_name;
 use verilog_lex::{Keyword, Symbol, Token, TokenKind};
 
 /// Whether a number stands in front.

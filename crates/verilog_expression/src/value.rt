@@ -16,7 +16,7 @@ use crate::lexemes::{constant, fault, number, symbol};
 use crate::lookahead::{begins_expression, begins_number};
 use crate::rest::Rest;
 use net_core::tree::{Expr, Net};
-use verilog_grammar::formed::part_select_width;
+use net_core::width::part_select_width;
 use verilog_lex::{Symbol, Token, TokenKind};
 
 /// An expression and what is left behind it. Where it has no width, the fault is at the token that ends it.

@@ -7,7 +7,7 @@ use Rattle.net_core.specs.Nets.{Netlist}
 use Rattle.verilog_lex.specs.declared.token.Keyword.TheVariants as keyword
 use Rattle.verilog_lex.specs.declared.token.Symbol.TheVariants as symbol
 use Rattle.verilog_lex.specs.Lexeme.{Lexeme, LName, LKeyword, LNumber, LSymbol}
-use Rattle.verilog_grammar.specs.FormedSyntax.{is_name}
+use Rattle.design_rules.specs.FormedSyntax.{is_name}
 use Rattle.verilog_expression.specs.declared.fault.Code.TheVariants as code
 use Rattle.verilog_expression.specs.Reads.{Read, ◌>>=◌, kept_if, found}
 use Rattle.verilog_expression.specs.Lexemes.{same_lexeme, lexeme_at, symbol_at, number_at, constant_at}

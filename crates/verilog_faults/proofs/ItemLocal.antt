@@ -6,7 +6,7 @@ use Rattle.net_core.specs.Width.{is_assigned}
 use Rattle.verilog_lex.specs.declared.token.Keyword.TheVariants as keyword
 use Rattle.verilog_lex.specs.declared.token.Symbol.TheVariants as symbol
 use Rattle.verilog_lex.specs.Lexeme.{Lexeme, LName, LKeyword, LSymbol}
-use Rattle.verilog_grammar.specs.FormedSyntax.{is_name}
+use Rattle.design_rules.specs.FormedSyntax.{is_name}
 use Rattle.verilog_expression.specs.declared.fault.Code.TheVariants as code
 use Rattle.verilog_expression.specs.Reads.{Read, ◌>>=◌, fault, kept_if, found}
 use Rattle.verilog_expression.specs.Expressions.{whole_expr_at}

@@ -6,7 +6,7 @@ use Rattle.net_core.specs.Width.{word_fits}
 use Rattle.verilog_lex.specs.declared.token.Symbol.{Symbol}
 use Rattle.verilog_lex.specs.declared.token.Symbol.TheVariants as symbol
 use Rattle.verilog_lex.specs.Lexeme.{Lexeme, LName, LNumber, LSized, LOutOfRange, LSymbol}
-use Rattle.verilog_grammar.specs.FormedSyntax.{is_name}
+use Rattle.design_rules.specs.FormedSyntax.{is_name}
 use Rattle.verilog_expression.specs.declared.fault.Code.{Code}
 use Rattle.verilog_expression.specs.declared.fault.Code.TheVariants as code
 use Rattle.verilog_expression.specs.declared.entry.Entry.{Entry}

@@ -1,5 +1,2 @@
-pub mod FormedSyntax
-pub mod FormedScope
-pub mod Formed
 pub mod Grammar
 pub mod Spelling

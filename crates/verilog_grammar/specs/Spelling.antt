@@ -4,7 +4,7 @@ use Rattle.std.specs.Prelude.{ℕ, List}
 use Rattle.verilog_lex.specs.Lexeme.{Lexes}
 use Rattle.net_core.specs.Nets.{Netlist}
 use Rattle.verilog_grammar.specs.Grammar.{design_lexemes}
-use Rattle.verilog_grammar.specs.Formed.{IsWellFormed}
+use Rattle.design_rules.specs.Formed.{IsWellFormed}
 
 pub record Spells (text : List ℕ) (d : Netlist) : Type 0 where
   pub lexemes : Lexes text (design_lexemes d)

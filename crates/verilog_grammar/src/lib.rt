@@ -1,5 +1,2 @@
-//! Which text spells which design: the rules of the subset of IEEE 1364-2005 that designs are written in, and their
-//! lexemes.
+//! Which bytes spell which design: the lexemes of a design in a subset of IEEE 1364-2005. It stands here as definitions alone.
 #![tactic(auto)]
-
-pub mod formed;

@@ -11,10 +11,10 @@ use Rattle.verilog_lex.specs.declared.token.Keyword.TheVariants as keyword
 use Rattle.verilog_lex.specs.declared.token.Symbol.TheVariants as symbol
 use Rattle.verilog_lex.specs.Lexeme.{Lexeme, LName, LKeyword, LSymbol}
 use Rattle.verilog_grammar.specs.Grammar.{port_lexemes, ports_lexemes, text_at}
-use Rattle.verilog_grammar.specs.Formed.{IsWellFormed, same_bool}
-use Rattle.verilog_grammar.proofs.FormedItemLaws.{last_kept}
-use Rattle.verilog_grammar.proofs.FormedWidthLaws.{ports_listed}
-use Rattle.verilog_grammar.proofs.FormedLaws.{port_names_first, ports_counted}
+use Rattle.design_rules.specs.Formed.{IsWellFormed, same_bool}
+use Rattle.design_rules.proofs.FormedItemLaws.{last_kept}
+use Rattle.design_rules.proofs.FormedWidthLaws.{ports_listed}
+use Rattle.design_rules.proofs.FormedLaws.{port_names_first, ports_counted}
 use Rattle.verilog_expression.proofs.LexemeLaws.{behind_again}
 use Rattle.verilog_read.specs.Header.{port_at, more_ports_at, ports_at, header_at}
 use Rattle.verilog_read.specs.Designs.{other_port, unassigned, port_fault}

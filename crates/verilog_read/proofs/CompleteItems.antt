@@ -8,14 +8,14 @@ use Rattle.net_core.specs.declared.design.Declared.{Declared}
 use Rattle.net_core.specs.declared.design.Declared.TheVariants as declared
 use Rattle.net_core.specs.Nets.{StatementTree, WireTree, AssignTree, Netlist}
 use Rattle.net_core.specs.Names.{is_integer, name_of}
-use Rattle.net_core.specs.Width.{same, width_of, right_width, full_scope, output_width, word_fits, register_widths, memory_widths}
+use Rattle.net_core.specs.Width.{same, width_of, right_width, full_scope, output_width, word_fits, register_widths, memory_widths, scope_before}
 use Rattle.verilog_lex.specs.Lexeme.{Lexeme}
 use Rattle.verilog_grammar.specs.Grammar.{port_lexemes, declared_lexemes, wire_lexemes, assign_lexemes, always_lexemes, text_at, integer_name}
-use Rattle.verilog_grammar.specs.FormedSyntax.{trees_pass}
-use Rattle.verilog_grammar.specs.FormedScope.{reads_known, sorts, scope_before}
-use Rattle.verilog_grammar.specs.Formed.{IsWellFormed, declared_place, wire_place, targets_known}
-use Rattle.verilog_grammar.proofs.FormedItemLaws.{declared_kept, wire_kept, assign_kept, block_kept, last_kept}
-use Rattle.verilog_grammar.proofs.FormedLaws.{name_spelled}
+use Rattle.design_rules.specs.FormedSyntax.{trees_pass}
+use Rattle.design_rules.specs.FormedScope.{reads_known, sorts}
+use Rattle.design_rules.specs.Formed.{IsWellFormed, declared_place, wire_place, targets_known}
+use Rattle.design_rules.proofs.FormedItemLaws.{declared_kept, wire_kept, assign_kept, block_kept, last_kept}
+use Rattle.design_rules.proofs.FormedLaws.{name_spelled}
 use Rattle.verilog_expression.specs.Laws.{IsStatementKept, IsBehindStatement, statement_lexemes}
 use Rattle.verilog_read.specs.Entries.{free_in}
 use Rattle.verilog_read.specs.Header.{port_at}

@@ -8,14 +8,14 @@ use Rattle.net_core.specs.declared.tree.Net.TheVariants as net
 use Rattle.net_core.specs.declared.design.Port.{Port}
 use Rattle.net_core.specs.Nets.{StatementTree, AssignTree, Netlist}
 use Rattle.net_core.specs.Names.{is_register, is_memory, name_place, name_of}
-use Rattle.net_core.specs.Width.{net_width, memory_width, scope, full_scope, register_widths, memory_widths, wire_widths}
+use Rattle.net_core.specs.Width.{net_width, memory_width, scope, full_scope, register_widths, memory_widths, wire_widths, scope_before}
 use Rattle.net_core.proofs.WireLaws.{length_widths}
 use Rattle.verilog_grammar.specs.Grammar.{text_at}
-use Rattle.verilog_grammar.specs.FormedScope.{is_output, is_value, is_words, registers_of, memories_of, sorts, scope_before}
-use Rattle.verilog_grammar.specs.Formed.{IsWellFormed}
-use Rattle.verilog_grammar.proofs.FormedItemLaws.{last_kept}
-use Rattle.verilog_grammar.proofs.FormedWidthLaws.{ports_listed}
-use Rattle.verilog_grammar.proofs.FormedLaws.{name_spelled, place_of_below, value_named, words_named, ports_counted}
+use Rattle.design_rules.specs.FormedScope.{is_output, is_value, is_words, registers_of, memories_of, sorts}
+use Rattle.design_rules.specs.Formed.{IsWellFormed}
+use Rattle.design_rules.proofs.FormedItemLaws.{last_kept}
+use Rattle.design_rules.proofs.FormedWidthLaws.{ports_listed}
+use Rattle.design_rules.proofs.FormedLaws.{name_spelled, place_of_below, value_named, words_named, ports_counted}
 use Rattle.verilog_expression.specs.declared.entry.Entry.TheVariants as entry
 use Rattle.verilog_expression.specs.Laws.{Names, AreTargetWidths}
 use Rattle.verilog_read.specs.Entries.{entry_of, entry_in}

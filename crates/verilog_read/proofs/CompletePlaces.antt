@@ -10,9 +10,9 @@ use Rattle.net_core.specs.declared.ports.TheConstants.{PORT_COUNT}
 use Rattle.net_core.specs.Nets.{Netlist}
 use Rattle.net_core.specs.Names.{is_integer, place_of}
 use Rattle.verilog_grammar.specs.Grammar.{text_at, integer_name}
-use Rattle.verilog_grammar.specs.Formed.{IsWellFormed}
-use Rattle.verilog_grammar.proofs.FormedItemLaws.{last_kept}
-use Rattle.verilog_grammar.proofs.FormedLaws.{port_names_first, name_spelled, names_distinct, place_of_below, ports_counted}
+use Rattle.design_rules.specs.Formed.{IsWellFormed}
+use Rattle.design_rules.proofs.FormedItemLaws.{last_kept}
+use Rattle.design_rules.proofs.FormedLaws.{port_names_first, name_spelled, names_distinct, place_of_below, ports_counted}
 use Rattle.verilog_read.specs.Entries.{entry_of, entry_in}
 use Rattle.verilog_read.proofs.LawPlaces.{place_prefix}
 use Rattle.verilog_read.proofs.LawEntries.{entry_integer}

@@ -6,8 +6,8 @@ use Rattle.net_core.specs.declared.design.Port.{Port}
 use Rattle.net_core.specs.declared.design.Declared.{Declared}
 use Rattle.net_core.specs.Nets.{StatementTree, WireTree, AssignTree, Netlist}
 use Rattle.verilog_grammar.specs.Grammar.{text_at}
-use Rattle.verilog_grammar.specs.Formed.{IsWellFormed, declared_place, wire_place}
-use Rattle.verilog_grammar.proofs.FormedItemLaws.{last_kept}
+use Rattle.design_rules.specs.Formed.{IsWellFormed, declared_place, wire_place}
+use Rattle.design_rules.proofs.FormedItemLaws.{last_kept}
 use Rattle.verilog_read.specs.Header.{with_port, no_design}
 use Rattle.verilog_read.specs.Declarations.{with_declared}
 use Rattle.verilog_read.specs.Items.{with_wire, with_assign, with_always}

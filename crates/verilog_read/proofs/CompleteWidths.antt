@@ -10,12 +10,11 @@ use Rattle.net_core.specs.declared.design.Declared.{Declared}
 use Rattle.net_core.specs.declared.design.Declared.TheVariants as declared
 use Rattle.net_core.specs.Nets.{TConst, RPlain, WireTree, Netlist}
 use Rattle.net_core.specs.Names.{is_register, is_memory, place_of}
-use Rattle.net_core.specs.Width.{same, right_width, register_widths, memory_widths, wire_widths, word_fits}
+use Rattle.net_core.specs.Width.{same, right_width, register_widths, memory_widths, wire_widths, word_fits, scope_before}
 use Rattle.net_core.proofs.WireLaws.{width_at}
-use Rattle.verilog_grammar.specs.FormedScope.{scope_before}
-use Rattle.verilog_grammar.specs.Formed.{IsWellFormed, declared_fits}
-use Rattle.verilog_grammar.proofs.FormedItemLaws.{declared_kept, wire_kept}
-use Rattle.verilog_grammar.proofs.FormedWidthLaws.{ports_listed}
+use Rattle.design_rules.specs.Formed.{IsWellFormed, declared_fits}
+use Rattle.design_rules.proofs.FormedItemLaws.{declared_kept, wire_kept}
+use Rattle.design_rules.proofs.FormedWidthLaws.{ports_listed}
 use Rattle.verilog_read.proofs.LawPlaces.{place_at, bits_of, register_bits, memory_bits}
 use Rattle.verilog_read.proofs.SoundKnows.{all_at}
 

@@ -9,7 +9,7 @@ use Rattle.net_core.specs.declared.tree.Net.{Net}
 use Rattle.net_core.specs.declared.tree.Net.TheVariants as net
 use Rattle.net_core.specs.Nets.{Netlist}
 use Rattle.net_core.specs.View.{netlist_of}
-use Rattle.verilog_grammar.specs.FormedScope.{leaves_register, leaves_memory}
+use Rattle.design_rules.specs.FormedScope.{leaves_register, leaves_memory}
 use Rattle.verilog_expression.specs.declared.entry.Entry.{Entry}
 use Rattle.verilog_expression.specs.declared.entry.Entry.TheVariants as entry
 use Rattle.verilog_read.specs.declared.partial.Counts.{Counts}

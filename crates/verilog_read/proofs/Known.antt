@@ -19,7 +19,7 @@ use Rattle.net_core.specs.Nets.{StatementTree, AssignTree, WireTree, Netlist}
 use Rattle.net_core.specs.View.{netlist_of, wire_of, assign_of, statement_of}
 use Rattle.net_core.specs.Width.{wire_widths, is_assigned}
 use Rattle.net_core.proofs.WireLaws.{length_widths}
-use Rattle.verilog_grammar.specs.FormedScope.{leaves_register, leaves_memory}
+use Rattle.design_rules.specs.FormedScope.{leaves_register, leaves_memory}
 use Rattle.verilog_expression.specs.declared.entry.Entry.{Entry}
 use Rattle.verilog_expression.specs.declared.entry.Entry.TheVariants as entry
 use Rattle.verilog_read.specs.declared.partial.Counts.{Counts}

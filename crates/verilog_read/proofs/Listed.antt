@@ -10,7 +10,7 @@ use Rattle.net_core.specs.declared.design.Port.{Port}
 use Rattle.net_core.specs.Nets.{AssignTree}
 use Rattle.net_core.specs.Ports.{input, port_list, port_names}
 use Rattle.net_core.specs.Width.{is_assigned}
-use Rattle.verilog_grammar.specs.Formed.{same_port}
+use Rattle.design_rules.specs.Formed.{same_port}
 use Rattle.verilog_read.specs.Designs.{other_port, unassigned}
 use Rattle.verilog_read.specs.View.{is_listed}
 

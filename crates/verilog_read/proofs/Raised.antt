@@ -7,7 +7,7 @@ use Rattle.net_core.specs.declared.tree.Net.{Net}
 use Rattle.net_core.specs.Nets.{Tree, StatementTree, SBlock, SIf, SIfElse, SSet, SStore, StatementTrees, SEnd, SThen}
 use Rattle.std.specs.declared.vec.Vec.{Vec}
 use Rattle.std.specs.declared.alloc.Global.{Global}
-use Rattle.verilog_grammar.specs.FormedScope.{leaves_register, leaves_memory, all_targets_pass}
+use Rattle.design_rules.specs.FormedScope.{leaves_register, leaves_memory, all_targets_pass}
 use Rattle.verilog_read.specs.declared.targets.Targets.{Targets}
 use Rattle.verilog_read.specs.View.{is_up, Raises, AddsTargets, AddsAllTargets}
 

@@ -8,9 +8,9 @@ use Rattle.net_core.specs.Width.{wire_widths}
 use Rattle.verilog_lex.specs.declared.token.Keyword.TheVariants as keyword
 use Rattle.verilog_lex.specs.declared.token.Symbol.TheVariants as symbol
 use Rattle.verilog_lex.specs.Lexeme.{Lexeme, LName, LKeyword, LSymbol}
-use Rattle.verilog_grammar.specs.declared.formed.NetError.{NetError}
+use Rattle.design_rules.specs.declared.formed.NetError.{NetError}
 use Rattle.verilog_grammar.specs.Grammar.{ports_lexemes, items_lexemes, design_lexemes}
-use Rattle.verilog_grammar.specs.Formed.{declared_fits, first_broken, last_rules, fault_at, or_else, section_fault, declared_rules, wire_rules, assign_rules, always_rules, wires_start, assigns_start, always_start, items_of, first_fault, IsWellFormed}
+use Rattle.design_rules.specs.Formed.{declared_fits, first_broken, last_rules, fault_at, or_else, section_fault, declared_rules, wire_rules, assign_rules, always_rules, wires_start, assigns_start, always_start, items_of, first_fault, IsWellFormed}
 use Rattle.verilog_expression.specs.declared.fault.Code.TheVariants as code
 use Rattle.verilog_expression.specs.Reads.{found, kept_if}
 use Rattle.verilog_expression.proofs.LexemeLaws.{bind_ok, same_ok, ok_so, kept_takes, found_takes}

@@ -11,8 +11,8 @@ use Rattle.verilog_lex.specs.declared.token.Keyword.TheVariants as keyword
 use Rattle.verilog_lex.specs.declared.token.Symbol.TheVariants as symbol
 use Rattle.verilog_lex.specs.Lexeme.{Lexeme, LName, LKeyword, LSymbol}
 use Rattle.verilog_grammar.specs.Grammar.{tree_lexemes, right_lexemes, range_lexemes, wire_lexemes, assign_lexemes, always_lexemes}
-use Rattle.verilog_grammar.specs.FormedScope.{Sorts}
-use Rattle.verilog_grammar.specs.FormedSyntax.{is_name}
+use Rattle.design_rules.specs.FormedScope.{Sorts}
+use Rattle.design_rules.specs.FormedSyntax.{is_name}
 use Rattle.verilog_expression.specs.declared.fault.Code.TheVariants as code
 use Rattle.verilog_expression.specs.declared.entry.Entry.{Entry}
 use Rattle.verilog_expression.specs.declared.entry.Entry.TheVariants as entry

@@ -9,7 +9,7 @@ use Rattle.net_core.specs.Nets.{Netlist}
 use Rattle.net_core.specs.Names.{is_integer, place_of}
 use Rattle.net_core.specs.Width.{output_width}
 use Rattle.verilog_grammar.specs.Grammar.{text_at, integer_name}
-use Rattle.verilog_grammar.specs.FormedScope.{is_output}
+use Rattle.design_rules.specs.FormedScope.{is_output}
 use Rattle.verilog_expression.specs.declared.entry.Entry.TheVariants as entry
 use Rattle.verilog_read.specs.Entries.{entry_in}
 use Rattle.verilog_read.proofs.LawPlaces.{number_at, place_prefix}

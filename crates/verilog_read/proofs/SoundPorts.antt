@@ -10,9 +10,9 @@ use Rattle.net_core.specs.declared.design.Port.{Port}
 use Rattle.net_core.specs.Nets.{AssignTree, Netlist}
 use Rattle.net_core.specs.Ports.{port_list, port_names}
 use Rattle.net_core.specs.Width.{is_assigned, all_assigned}
-use Rattle.verilog_grammar.specs.declared.formed.Why.{Why}
-use Rattle.verilog_grammar.specs.declared.formed.Why.TheVariants.{Syntax, Ports}
-use Rattle.verilog_grammar.specs.Formed.{first_broken, same_bool, same_port, ports_match, port_names_match, last_rules}
+use Rattle.design_rules.specs.declared.formed.Why.{Why}
+use Rattle.design_rules.specs.declared.formed.Why.TheVariants.{Syntax, Ports}
+use Rattle.design_rules.specs.Formed.{first_broken, same_bool, same_port, ports_match, port_names_match, last_rules}
 use Rattle.verilog_read.specs.Designs.{other_port, unassigned, or_else, port_fault}
 use Rattle.verilog_read.proofs.SoundKnows.{HasPortsOfAll}
 

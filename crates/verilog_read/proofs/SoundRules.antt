@@ -8,13 +8,13 @@ use Rattle.std.proofs.lemmas.List.{take_at, get_or_at}
 use Rattle.net_core.specs.declared.tree.Net.{Net}
 use Rattle.net_core.specs.declared.design.Declared.{Declared}
 use Rattle.net_core.specs.Nets.{StatementTree, WireTree, AssignTree, Netlist}
-use Rattle.net_core.specs.Width.{scope, width_of, right_width, same, full_scope, wire_widths, register_widths, memory_widths, output_width, is_assigned}
-use Rattle.verilog_grammar.specs.declared.formed.NetError.{NetError}
-use Rattle.verilog_grammar.specs.declared.formed.Why.{Why}
-use Rattle.verilog_grammar.specs.declared.formed.Why.TheVariants.{Syntax, Unknown, Twice, Width}
-use Rattle.verilog_grammar.specs.Formed.{Rule, first_broken, is_new, has_name, declared_fits, declared_place, wire_place, declared_rules, wire_fits, wire_rules, assign_fits, assign_rules, targets_free, targets_known, block_known, block_fits, always_rules, fault_at, or_else, section_fault}
-use Rattle.verilog_grammar.specs.FormedScope.{sorts, scope_before, right_known, reads_known, integer_known, is_output}
-use Rattle.verilog_grammar.specs.FormedSyntax.{is_name, tree_spelled, right_spelled, statement_spelled, trees_pass}
+use Rattle.net_core.specs.Width.{scope, width_of, right_width, same, full_scope, wire_widths, register_widths, memory_widths, output_width, is_assigned, scope_before}
+use Rattle.design_rules.specs.declared.formed.NetError.{NetError}
+use Rattle.design_rules.specs.declared.formed.Why.{Why}
+use Rattle.design_rules.specs.declared.formed.Why.TheVariants.{Syntax, Unknown, Twice, Width}
+use Rattle.design_rules.specs.Formed.{Rule, first_broken, is_new, has_name, declared_fits, declared_place, wire_place, declared_rules, wire_fits, wire_rules, assign_fits, assign_rules, targets_free, targets_known, block_known, block_fits, always_rules, fault_at, or_else, section_fault}
+use Rattle.design_rules.specs.FormedScope.{sorts, right_known, reads_known, integer_known, is_output}
+use Rattle.design_rules.specs.FormedSyntax.{is_name, tree_spelled, right_spelled, statement_spelled, trees_pass}
 use Rattle.verilog_expression.specs.Laws.{IsTreeKept, IsRightKept, IsStatementKept}
 use Rattle.verilog_read.specs.Entries.{free_in}
 use Rattle.verilog_read.proofs.LawNames.{take_widths}

@@ -8,7 +8,7 @@ use Rattle.verilog_lex.specs.Lexeme.{Lexeme, LName, LKeyword, LNumber, LSized, L
 use Rattle.verilog_expression.specs.declared.fault.Code.TheVariants as code
 use Rattle.verilog_expression.specs.Lexemes.{name_at}
 use Rattle.verilog_expression.specs.Reads.{Read, kept_if}
-use Rattle.verilog_grammar.specs.FormedSyntax.{begins_name, continues_name, is_identifier, is_unreserved, is_name}
+use Rattle.design_rules.specs.FormedSyntax.{begins_name, continues_name, is_identifier, is_unreserved, is_name}
 
 small : (c : ℕ) → continues_name c ≡ true → c < 128
 small c h = grind arith

@@ -6,7 +6,7 @@ use Rattle.net_core.specs.declared.design.Port as port
 use Rattle.net_core.specs.Nets.{AssignTree, Netlist}
 use Rattle.net_core.specs.Ports.{port_list, port_names}
 use Rattle.net_core.specs.Width.{is_assigned}
-use Rattle.verilog_grammar.specs.Formed.{same_port}
+use Rattle.design_rules.specs.Formed.{same_port}
 use Rattle.verilog_lex.specs.Lexeme.{Lexeme}
 use Rattle.verilog_expression.specs.declared.fault.Code.TheVariants as code
 use Rattle.verilog_expression.specs.Reads.{Reading, ◌>>=◌, fault}

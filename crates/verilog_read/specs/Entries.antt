@@ -9,7 +9,7 @@ use Rattle.net_core.specs.declared.design.Declared.{Declared}
 use Rattle.net_core.specs.declared.design.Declared.TheVariants as declared
 use Rattle.net_core.specs.Nets.{Netlist}
 use Rattle.net_core.specs.Width.{wire_widths}
-use Rattle.verilog_grammar.specs.FormedScope.{leaves_register, leaves_memory}
+use Rattle.design_rules.specs.FormedScope.{leaves_register, leaves_memory}
 use Rattle.verilog_expression.specs.declared.entry.Entry.{Entry}
 use Rattle.verilog_expression.specs.declared.entry.Entry.TheVariants as entry
 use Rattle.verilog_expression.specs.Expressions.{Resolve}

@@ -13,8 +13,8 @@ use Rattle.net_core.specs.declared.design.Declared.TheVariants as declared
 use Rattle.net_core.specs.Nets.{StatementTree, StatementTrees, Netlist}
 use Rattle.net_core.specs.Ports.{input, port_list, port_names}
 use Rattle.net_core.specs.Width.{is_assigned}
-use Rattle.verilog_grammar.specs.Formed.{same_port}
-use Rattle.verilog_grammar.specs.FormedScope.{leaves_register, leaves_memory, all_targets_pass}
+use Rattle.design_rules.specs.Formed.{same_port}
+use Rattle.design_rules.specs.FormedScope.{leaves_register, leaves_memory, all_targets_pass}
 use Rattle.verilog_lex.specs.Lexeme.{Lexeme, LKeyword}
 use Rattle.verilog_lex.specs.declared.token.Keyword.TheVariants as keyword
 use Rattle.verilog_expression.specs.declared.entry.Entry.{Entry}

@@ -2,7 +2,7 @@
 
 ghost use Rattle.std.specs.Prelude.{◌≡◌, IfOk, IsTrue};
 ghost use Rattle.net_core.specs.View.{netlist_of};
-ghost use Rattle.verilog_grammar.specs.FormedSyntax.{is_name};
+ghost use Rattle.design_rules.specs.FormedSyntax.{is_name};
 ghost use Rattle.verilog_expression.specs.View.{Gives, lexemes_left};
 ghost use Rattle.verilog_read.specs.Declarations.{ends_at};
 ghost use Rattle.verilog_read.specs.Header.{fresh_at, range_at};

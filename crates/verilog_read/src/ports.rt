@@ -9,8 +9,9 @@ ghost use Rattle.verilog_read.specs.Designs as designs;
 ghost use Rattle.verilog_read.specs.View.{is_listed};
 
 use crate::partial::Partial;
+use design_rules::formed::{name_matches, port_matches};
 use net_core::design::Port;
-use verilog_grammar::formed::{PORT_COUNT, name_matches, port_matches};
+use net_core::ports::PORT_COUNT;
 
 // Whether the port of a number is there, and as every design has it.
 fn is_listed(names: &[String], ports: &[Port], k: usize) -> bool

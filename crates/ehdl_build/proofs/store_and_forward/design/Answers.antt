@@ -3,7 +3,7 @@ use Rattle.std.specs.declared.alloc.AllocError.{AllocError}
 use Rattle.net_core.specs.declared.design.Design.{Design}
 use Rattle.net_core.specs.Nets.{Netlist}
 use Rattle.net_core.specs.View.{netlist_of}
-use Rattle.verilog_grammar.specs.Formed.{IsWellFormed}
+use Rattle.design_rules.specs.Formed.{IsWellFormed}
 use Rattle.ehdl_build.specs.StoreAndForwardNetlist.{store_and_forward}
 use Rattle.ehdl_build.proofs.Formed.{formed}
 use Rattle.ehdl_build.proofs.store_and_forward.design.Goals as goal

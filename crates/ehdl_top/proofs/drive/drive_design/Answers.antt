@@ -1,6 +1,6 @@
 use Rattle.net_core.specs.View.{netlist_of}
 use Rattle.port_drive.specs.Reports.{full_drive}
-use Rattle.verilog_grammar.proofs.FormedWidthLaws.{typed}
+use Rattle.design_rules.proofs.FormedWidthLaws.{typed}
 use Rattle.ehdl_top.proofs.DriveLemmas.{drive_is, driven_ok, driven_x, driven_late, stop_named}
 use Rattle.ehdl_top.proofs.drive.drive_design.Goals as goal
 use Rattle.std.proofs.Common.{◌∙◌}

@@ -1,5 +1,5 @@
 use Rattle.std.proofs.Common.{rules, ◌≡◌}
-use Rattle.verilog_grammar.proofs.FormedWidthLaws.{typed}
+use Rattle.design_rules.proofs.FormedWidthLaws.{typed}
 use Rattle.text_suite.proofs.clocks.Running.open.Goals as goal
 
 pub open-requires : goal.open-requires

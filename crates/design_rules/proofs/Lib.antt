@@ -1,0 +1,9 @@
+pub mod FormedNames
+pub mod FormedSyntax
+pub mod FormedAssigns
+pub mod FormedBlocks
+pub mod FormedPorts
+pub mod FormedSections
+pub mod FormedItemLaws
+pub mod FormedWidthLaws
+pub mod FormedLaws

@@ -1,0 +1,3 @@
+pub mod FormedSyntax
+pub mod FormedScope
+pub mod Formed
