@@ -1,20 +1,36 @@
 -- What stands where, one item after another.
 use Rattle.std.specs.Prelude.{nat_le, replicate, ◌^◌}
-use Rattle.std.proofs.Common.{◌≡◌, ℕ, zero, suc, ◌+◌, true, ◌&&◌, List, [], ◌∷◌, ◌++◌, length, map, refl, sym, ap, ◌∙◌, subst, arith, append_assoc}
+use Rattle.std.proofs.Common.{◌≡◌, ℕ, zero, suc, ◌+◌, true, ◌&&◌, List, [], ◌∷◌, ◌++◌, length, map, drop, get_or, refl, sym, ap, ◌∙◌, subst, arith, append_assoc}
 use Rattle.std.proofs.lemmas.Bool.{and_parts, and_from}
 use Rattle.std.proofs.lemmas.List.{append-nil, length_push, map_push}
 use Rattle.net_core.specs.declared.ports.TheConstants.{PORT_COUNT}
 use Rattle.net_core.specs.declared.tree.Word.{Word}
+use Rattle.net_core.specs.declared.design.Port.{Port}
 use Rattle.net_core.specs.declared.design.Declared.{Declared}
 use Rattle.net_core.specs.declared.design.Declared.TheVariants as declared
-use Rattle.net_core.specs.Width.{word_fits, declared_typed, register_widths, memory_widths}
+use Rattle.net_core.specs.Ports.{input_width, port_list}
+use Rattle.net_core.specs.Width.{word_fits, declared_typed, register_widths, memory_widths, port_width}
 use Rattle.net_core.specs.Clock.{first_words, first_memories}
 use Rattle.clock_sim.specs.declared.builder.Operand.{Operand}
 use Rattle.clock_sim.specs.declared.operands.Widths.{Widths}
 use Rattle.clock_sim.specs.declared.layout.Layout.{Layout}
 use Rattle.clock_sim.specs.Flat.{numbers}
 use Rattle.clock_sim.specs.Edges.{sizes_of}
-use Rattle.clock_sim.specs.Layouts.{operands_from, AddsItem}
+use Rattle.clock_sim.specs.Layouts.{operands_from, port_widths, AddsItem}
+
+-- the widths that are read of ports, one by one
+inputs_at : (ports : List Port) (k : ℕ) → input_width (get_or ports k (record { output = true; width = 0 })) ≡ get_or (map input_width ports) k 0
+inputs_at [] k = refl
+inputs_at (p ∷ ports) zero = refl
+inputs_at (p ∷ ports) (suc k) = inputs_at ports k
+
+from_clock : (ports : List Port) (k : ℕ) → port_width ports k ≡ get_or (0 ∷ map input_width (drop 1 ports)) k 0
+from_clock ports zero = refl
+from_clock [] (suc k) = refl
+from_clock (p ∷ ports) (suc k) = inputs_at ports k
+
+pub port_width_at : (k : ℕ) → port_width port_list k ≡ get_or port_widths k 0
+port_width_at k = from_clock port_list k
 
 typed_one : (d : Declared) (rest : List Declared) → declared_typed (d ∷ rest) ≡ true → (declared_typed (d ∷ []) ≡ true) × (declared_typed rest ≡ true)
 typed_one declared.Integer rest h = (refl, h)

@@ -10,6 +10,7 @@ use crate::memory::MemoryWords;
 use crate::operands::Widths;
 use net_core::design::Declared;
 use net_core::ports::{PORT_COUNT, PORTS};
+use net_core::scope::port_width;
 use std::alloc::{AllocError, Global};
 
 /// The operands and first numbers of what is declared.
@@ -28,15 +29,12 @@ fn operand(slot: u32, width: u8) -> Operand
 }
 
 // The width that is read of a port.
-fn port_width(port: usize) -> u8
+#[tactic(auto, using(crate::proofs::LayoutLemmas::port_width_at))]
+fn width_at(port: usize) -> u8
     requires { port < PORT_COUNT }
     ensures { result ≡ get_or port_widths port 0 }
 {
-    if port == 0 || PORTS[port].output {
-        0
-    } else {
-        PORTS[port].width
-    }
+    port_width(&PORTS, port as u32)
 }
 
 /// The operands of the ports: their words stand in the first slots, and those of the registers behind them.
@@ -45,7 +43,7 @@ pub fn port_operands_of(alloc: Global) -> Result<Vec<Operand>, AllocError>
 {
     let mut all = Vec::new(alloc);
     for port in 0..PORT_COUNT {
-        all.push(operand(port as u32, port_width(port)))?;
+        all.push(operand(port as u32, width_at(port)))?;
     }
     Ok(all)
 }

@@ -10,7 +10,7 @@ use crate::design::{Declared, Design, Port, Wire};
 use crate::tree::Net;
 
 /// The width of a port that can be read, or 0.
-fn port_width(ports: &[Port], k: u32) -> u8
+pub fn port_width(ports: &[Port], k: u32) -> u8
     ensures { result ≡ width.port_width ports.now k }
 {
     if k == 0 {
