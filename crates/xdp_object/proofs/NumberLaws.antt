@@ -44,7 +44,7 @@ legal_low LoadImm dst src offset imm new e fits h = record {
 legal_low op dst src offset imm new e fits h = absurd (cc)
 
 -- a load keeps its range
-load_fits : (op : Op) (dst src : ℕ) (offset imm : ℤ) → is_load_op op ≡ true → IsInsn (record { op = op; dst = dst; src = src; offset = offset; imm = imm }) → FitsSigned w64 imm
+pub load_fits : (op : Op) (dst src : ℕ) (offset imm : ℤ) → is_load_op op ≡ true → IsInsn (record { op = op; dst = dst; src = src; offset = offset; imm = imm }) → FitsSigned w64 imm
 load_fits LoadImm dst src offset imm e h = h.imm_range
 load_fits op dst src offset imm e h = absurd (cc)
 
