@@ -202,6 +202,22 @@ number_in_range count n h =
     ap (λ k. cond (ltb k (length (range_with_len 2 count))) (Some k) None) (place_in_range 2 count n h)
     ∙ ap (λ b. cond b (Some n) None) (lt-ltb n (length (range_with_len 2 count)) (omega (arith, length-range_with_len 2 count)))
 
+-- of each place that they refer to, and of no other
+pub said_number : (number : ℕ → ℕ) (count : ℕ) (qs : List ℕ) (from end p : ℕ) → Ascend from end qs → All (λ q. number q < count) qs
+    → map_number (range_with_len 2 count) (said_by number qs p) ≡ cond (list_any (λ r. r == p) qs) (Some (number p)) None
+said_number number count [] from end p h each = refl
+said_number number count (q ∷ qs) from end p (above, below, later) each = elim (cases_eq q p) [
+  | inl here ↦
+      let found : (q == p) ≡ true = subst (λ (x : ℕ). (q == x) ≡ true) here (is_same q) in
+      let one : said_by number (q ∷ qs) p ≡ Refers (2 + number q) = subst (λ (x : ℕ). said_by number (q ∷ qs) x ≡ Refers (2 + number q)) here (said_first number q qs from end (above, below, later)) in
+      ap (map_number (range_with_len 2 count)) one ∙ number_in_range count (number q) (All-head (λ x. number x < count) q qs each) ∙ ap (λ x. Some (number x)) here
+      ∙ sym (ap (λ b. cond (b || list_any (λ r. r == p) qs) (Some (number p)) None) found)
+  | inr other ↦
+      ap (map_number (range_with_len 2 count)) (apart number q qs p other)
+      ∙ said_number number count qs (suc q) end p later (All-tail (λ x. number x < count) q qs each)
+      ∙ sym (ap (λ b. cond (b || list_any (λ r. r == p) qs) (Some (number p)) None) (is_other q p other))
+]
+
 -- each declaration is that of its symbol, behind those before it
 abbrev pub AreNext : (hash_cap : ℕ) → List ℕ → List MapDecl → Type 0
 AreNext hash_cap bytes decls =

@@ -1,16 +1,18 @@
 -- What is written of whole programs, and of functions with no maps, is read back.
-use Rattle.std.proofs.Common.{◌≡◌, ◌≢◌, ◌∙◌, ℕ, zero, suc, ◌+◌, ◌-◌, ◌*◌, ◌/◌, ◌%◌, ◌^◌, ◌<◌, ◌≤◌, Bool, true, false, ltb, Option, Some, None, List, [], ◌∷◌, length, get_or, refl, sym, ap, subst, arith}
+use Rattle.std.proofs.Common.{◌≡◌, ◌≢◌, ◌∙◌, ℕ, ◌+◌, ◌-◌, ◌*◌, ◌/◌, ◌%◌, ◌^◌, ◌<◌, ◌≤◌, ◌==◌, ◌||◌, Bool, true, false, cond, Option, Some, None, List, [], ◌∷◌, length, get_or, refl, sym, ap, subst, arith, inl, inr}
 use Rattle.std.proofs.Math.Facts.{to_z-of_z}
-use Rattle.std.proofs.lemmas.Bool.{ltb-false}
-use Rattle.std.proofs.lemmas.List.{length-append, length-map}
-use Rattle.std.proofs.lemmas.List.Elements.{All-nil}
+use Rattle.std.proofs.lemmas.Bool.{cases_lt, eqb-true}
+use Rattle.std.proofs.lemmas.List.{get_or_past, length-append, length-map}
+use Rattle.std.proofs.lemmas.List.Elements.{All-head, All-nil, All-tail}
 use Rattle.std.specs.Int.{w64, cast_signed, cast_unsigned}
 use Rattle.std.specs.Int.RustNames.{FitsSigned}
-use Rattle.std.specs.List.{All, range_with_len}
+use Rattle.std.specs.List.{All, list_any, range_with_len}
 use Rattle.bpf_isa.specs.declared.instruction.Insn.{Insn}
 use Rattle.bpf_isa.specs.declared.operation.Op.TheVariants.{LoadImm}
-use Rattle.bpf_isa.specs.Spelling.{IsInsn, units_of}
+use Rattle.bpf_isa.specs.Spelling.{units_of}
 use Rattle.bpf_isa.specs.Text.{insn_at, unit_count}
+use Rattle.bpf_isa.specs.Laid.{laid}
+use Rattle.bpf_isa.proofs.LaidLaws.{insn_at-laid, length-laid}
 use Rattle.bpf_isa.proofs.Laws.{units_of-positive}
 use Rattle.bpf_isa.proofs.TextLaws.{insn_at-stands, length-text_of}
 use Rattle.elf_view.specs.declared.object.MapRecord.{MapRecord}
@@ -18,19 +20,17 @@ use Rattle.elf_view.specs.Layout.{function_symbol, object_layout, object_size, r
 use Rattle.elf_view.proofs.LengthLaws.{length-rels}
 use Rattle.xdp_maps.specs.declared.decl.MapDecl.{MapDecl}
 use Rattle.xdp_machine.specs.Program.{IsReference, XdpProgram}
-use Rattle.xdp_object.specs.declared.relocated.Relocated.{Relocated}
-use Rattle.xdp_object.specs.declared.relocated.Relocated.TheVariants.{Untouched, Refers, Unknown}
 use Rattle.xdp_object.specs.Choice.{Chosen, chosen}
 use Rattle.xdp_object.specs.Functions.{is_asked_for}
-use Rattle.xdp_object.specs.Laws.{AreRecords, IsWritable, LayoutLaw, ProgramLaw, map_at, map_by, refs_of, without_maps}
-use Rattle.xdp_object.specs.Maps.{map_number, numbered, with_low, with_numbers}
+use Rattle.xdp_object.specs.Laws.{AreRecords, IsWritable, LayoutLaw, NumbersLaw, ProgramLaw, map_at, map_by, number_in, refs_of, without_maps}
+use Rattle.xdp_object.specs.Maps.{map_number, numbered, with_low}
 use Rattle.xdp_object.specs.Object.{IsObject}
 use Rattle.xdp_object.specs.Relocations.{is_load, said_at}
 use Rattle.xdp_object.proofs.Layouts.{asked_by_name, asked_by_section, seen}
 use Rattle.xdp_object.proofs.MapLayouts.{next_is, seen_maps}
-use Rattle.xdp_object.proofs.NumberLaws.{and_first, load_fits}
+use Rattle.xdp_object.proofs.NumberLaws.{and_first, load_fits, numbered_back, numbered_units}
 use Rattle.xdp_object.proofs.Places.{insn_at-skip}
-use Rattle.xdp_object.proofs.Referring.{AreNext, Ascend, IsSaid, ascend, counts, number_in_range, said_by, said_is}
+use Rattle.xdp_object.proofs.Referring.{AreNext, Ascend, ascend, counts, said_number}
 use Rattle.xdp_object.proofs.TableLaws.{LoadAt}
 use Rattle.xdp_object.proofs.WrittenBack.{Good, Says, object_read, says_maps, says_nothing}
 
@@ -58,17 +58,17 @@ same_low i fits =
     halves : (n : ℕ) → n / 2 ^ 32 * 2 ^ 32 + n % 2 ^ 32 ≡ n
     halves n = omega arith
 
+-- they are given the same numbers
+numbered_alike : (f g : ℕ → Option ℕ) (at : ℕ) (is : List Insn) → ((p : ℕ) → f p ≡ g p) → numbered f at is ≡ numbered g at is
+numbered_alike f g at [] h = refl
+numbered_alike f g at (i ∷ is) h =
+    ap (λ o. with_low o i ∷ numbered f (at + units_of i.op) is) (h at) ∙ ap (λ js. with_low (g at) i ∷ js) (numbered_alike f g (at + units_of i.op) is h)
+
 below_units : (is : List Insn) (p : ℕ) (i : Insn) → insn_at is p ≡ Some i → p < unit_count is
-below_units [] p i e = absurd (cc)
-below_units (x ∷ is) zero i e = omega (arith, units_of-positive x.op)
-below_units (x ∷ is) (suc n) i e = by_test (λ q f. below_units is q i f) (ltb (suc n) (units_of x.op)) refl
-  where
-    by_test : ((q : ℕ) → insn_at is q ≡ Some i → q < unit_count is) → (b : Bool) → ltb (suc n) (units_of x.op) ≡ b → suc n < units_of x.op + unit_count is
-    by_test rest true t = absurd (cc (t, e))
-    by_test rest false t =
-        let past : units_of x.op ≤ suc n = ltb-false (suc n) (units_of x.op) t in
-        let later = rest (suc n - units_of x.op) (sym (insn_at-skip x is (suc n) past) ∙ e) in
-        omega (arith, past, later)
+below_units is p i e = elim (cases_lt p (unit_count is)) [
+  | inl below ↦ below
+  | inr past ↦ let none = insn_at-laid is p ∙ get_or_past (laid is) p None (omega (arith, past, length-laid is)) in absurd (cc (none, e))
+]
 
 not_empty : {X : Type 0} (xs : List X) → xs ≢ [] → 0 < length xs
 not_empty [] h = absurd (h refl)
@@ -119,27 +119,46 @@ ref_of p h k d below =
     is_a_load : (i : Insn) → i.op ≡ LoadImm → i.src ≡ 0 → is_load i ≡ true
     is_a_load i e f = rw (e, f) refl
 
+found_in : (P : ℕ → Type 0) (qs : List ℕ) (q : ℕ) → All P qs → list_any (λ r. r == q) qs ≡ true → P q
+found_in P [] q each e = absurd (cc)
+found_in P (x ∷ qs) q each e = by_test (found_in P qs q (All-tail P x qs each)) (x == q) refl
+  where
+    by_test : (list_any (λ r. r == q) qs ≡ true → P q) → (b : Bool) → (x == q) ≡ b → P q
+    by_test rest true t = subst (λ (y : ℕ). P y) (eqb-true x q t) (All-head P x qs each)
+    by_test rest false t = rest (ap (λ b. b || list_any (λ r. r == q) qs) (sym t) ∙ e)
+
 -- the numbers of its loads are those of their maps
-keeps_numbers : (p : XdpProgram) (end : ℕ) → All IsInsn p.insns → All (IsRef p) p.refs → Ascend 0 end p.refs
-    → (places : List Relocated) → ((at : ℕ) → said_at places at ≡ said_by (map_at p) p.refs at) → with_numbers places (range_with_len 2 (length p.decls)) p.insns ≡ p.insns
-keeps_numbers p end legal refs rising places said =
-    numbers_stay (λ q. map_number (range_with_len 2 (length p.decls)) (said_at places q)) 0 p.insns
+pub keeps_numbers : (p : XdpProgram) → NumbersLaw p
+keeps_numbers p h =
+    numbers_stay (number_in p) 0 p.insns
     (λ q i e.
     let here : 0 + q ≡ q = omega arith in
-    ap (λ k. with_low (map_number (range_with_len 2 (length p.decls)) (said_at places k)) i) here
-    ∙ ap (λ r. with_low (map_number (range_with_len 2 (length p.decls)) r) i) (said q)
-    ∙ by_said q i e (said_by (map_at p) p.refs q) (said_is (map_at p) (IsRef p) p.refs 0 end q rising refs))
+    ap (λ k. with_low (number_in p k) i) here ∙ by_test q i e (list_any (λ r. r == q) p.refs) refl)
   where
-    by_said : (q : ℕ) (i : Insn) → insn_at p.insns q ≡ Some i → (r : Relocated) → IsSaid (map_at p) (IsRef p) q r → with_low (map_number (range_with_len 2 (length p.decls)) r) i ≡ i
-    by_said q i e Untouched tt = refl
-    by_said q i e (Refers s) (is, ref) =
+    by_test : (q : ℕ) (i : Insn) → insn_at p.insns q ≡ Some i → (b : Bool) → list_any (λ r. r == q) p.refs ≡ b → with_low (cond b (Some (map_at p q)) None) i ≡ i
+    by_test q i e false t = refl
+    by_test q i e true t =
+        let ref = found_in (IsRef p) p.refs q (ref_of p h.refs) t in
         let same : ref.0.insn ≡ i = cc (ref.0.begins, e) in
         let load : is_load i ≡ true = ap is_load (sym same) ∙ ref.0.load in
-        let number : map_at p q ≡ map_by (Some i) = ap map_by e in
-        ap (λ t. with_low (map_number (range_with_len 2 (length p.decls)) (Refers t)) i) is
-        ∙ ap (λ o. with_low o i) (number_in_range (length p.decls) (map_at p q) ref.1 ∙ ap Some number)
-        ∙ same_low i (load_fits i.op i.dst i.src i.offset i.imm (and_first _ _ load) (insn_at-stands p.insns q i legal e).legal)
-    by_said q i e Unknown none = absurd none
+        ap (λ o. with_low (Some (map_by o)) i) e
+        ∙ same_low i (load_fits i.op i.dst i.src i.offset i.imm (and_first _ _ load) (insn_at-stands p.insns q i h.legal e).legal)
+
+-- the loads of code that has yet other numbers
+loads_before : (p : XdpProgram) (insns : List Insn) → numbered (number_in p) 0 insns ≡ p.insns → All (IsRef p) p.refs → All (LoadAt insns) p.refs
+loads_before p insns becomes refs k d below =
+    let q = get_or p.refs k d in
+    let r = (refs k d below).0 in
+    let back = numbered_back (number_in p) 0 insns q r.insn (ap (λ is. insn_at is q) becomes ∙ r.begins) in
+    record {
+      insn = back.0;
+      begins = back.1;
+      load = kept (number_in p (0 + q)) back.0 ∙ ap is_load back.2 ∙ r.load;
+    }
+  where
+    kept : (o : Option ℕ) (i : Insn) → is_load i ≡ is_load (with_low o i)
+    kept None i = refl
+    kept (Some n) i = refl
 
 small_rels : (name code : List ℕ) (maps : List MapRecord) (refs : List (ℕ × ℕ)) → object_size name code maps refs ≤ 1048576 → length (rels refs) ≤ 1048576
 small_rels name code maps refs fits = omega (arith, fits, length-rels refs)
@@ -184,31 +203,38 @@ maps_of_program hash_cap p code (m ∷ ms) w records_are fits refs good =
       next = next_is hash_cap bytes p.name code maps (refs_of p) p.decls h k records_are w.program.maps w.program.decls w.program.names w.hashes;
     }
 
-pub reads_program : (hash_cap : ℕ) (p : XdpProgram) (code : List ℕ) (maps : List MapRecord) → ProgramLaw hash_cap p code maps
-reads_program hash_cap p code maps w spells records_are fits =
+pub reads_program : (hash_cap : ℕ) (p : XdpProgram) (code : List ℕ) (insns : List Insn) (maps : List MapRecord) → ProgramLaw hash_cap p code insns maps
+reads_program hash_cap p code insns maps w spells becomes records_are fits =
     let bytes = object_layout p.name code maps (refs_of p) in
     let h = seen p.name code maps (refs_of p) fits in
     let refs = ref_of p w.program.refs in
-    let units : length code ≡ 8 * unit_count p.insns = ap length spells.bytes ∙ length-text_of p.insns in
-    let inside : All (λ q. q < length code / 8) p.refs = λ k d below. let r = refs k d below in omega (arith, units, below_units p.insns (get_or p.refs k d) r.0.insn r.0.begins) in
+    let loads = loads_before p insns becomes refs in
+    let small : All (λ q. map_at p q < length p.decls) p.refs = λ k d below. (refs k d below).1 in
+    let units : length code ≡ 8 * unit_count insns = ap length spells.bytes ∙ length-text_of insns in
+    let same_units : unit_count p.insns ≡ unit_count insns = ap unit_count (sym becomes) ∙ numbered_units (number_in p) 0 insns in
+    let inside : All (λ q. q < length code / 8) p.refs = λ k d below. let r = loads k d below in omega (arith, units, below_units insns (get_or p.refs k d) r.insn r.begins) in
     let rising : Ascend 0 (length code / 8) p.refs = ascend 0 (length code / 8) p.refs w.program.ascending inside (λ some. omega arith) in
-    let good : All (Good (map_at p) (length maps) (length code / 8)) p.refs = λ k d below. (omega (arith, (refs k d below).1, as_many maps p.decls records_are), inside k d below) in
+    let good : All (Good (map_at p) (length maps) (length code / 8)) p.refs = λ k d below. (omega (arith, small k d below, as_many maps p.decls records_are), inside k d below) in
     let m = maps_of_program hash_cap p code maps w records_are fits refs good in
     let read : (program : Option (List ℕ)) → is_asked_for program bytes 1 ≡ true → IsObject (chosen program hash_cap) bytes p = λ program asked.
-    object_read (chosen program hash_cap) bytes p.name code p.insns maps (map_at p) p.refs p.decls
+    object_read (chosen program hash_cap) bytes p.name code insns maps (map_at p) p.refs p.decls
     (record {
       seen = h;
       says = m.says;
       letters = w.name;
       spells = spells;
-      some = filled (not_empty p.insns w.some) units;
+      some = filled (not_empty p.insns w.some) units same_units;
       asked = asked;
       rising = rising;
-      loads = λ k d below. (refs k d below).0;
+      loads = loads;
       next = m.next;
-      counts = counts (map_at p) (length p.decls) 0 p.refs (omega arith) (λ k d below. (refs k d below).1) (λ n low below. w.numbered n below);
+      counts = counts (map_at p) (length p.decls) 0 p.refs (omega arith) small (λ n low below. w.numbered n below);
     })
-    p refl (keeps_numbers p (length code / 8) w.program.legal refs rising) refl refl in
+    p refl
+    (λ places said.
+    numbered_alike (λ q. map_number (range_with_len 2 (length p.decls)) (said_at places q)) (number_in p) 0 insns
+    (λ q. ap (map_number (range_with_len 2 (length p.decls))) (said q) ∙ said_number (map_at p) (length p.decls) p.refs 0 (length code / 8) q rising small)
+    ∙ becomes) refl refl in
     record {
       by_section = read None (asked_by_section bytes p.name code maps (refs_of p) h);
       by_name = read (Some p.name) (asked_by_name bytes p.name code maps (refs_of p) h w.name);
@@ -218,5 +244,5 @@ reads_program hash_cap p code maps w spells records_are fits =
     some_units [] h = h
     some_units (i ∷ is) h = omega (arith, units_of-positive i.op)
 
-    filled : 0 < length p.insns → length code ≡ 8 * unit_count p.insns → 0 < length code
-    filled some e = omega (arith, e, some_units p.insns some)
+    filled : 0 < length p.insns → length code ≡ 8 * unit_count insns → unit_count p.insns ≡ unit_count insns → 0 < length code
+    filled some e f = omega (arith, e, f, some_units p.insns some)

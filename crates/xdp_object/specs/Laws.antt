@@ -1,5 +1,6 @@
 -- What holds of objects, whatever their bytes.
-use Rattle.std.specs.Prelude.{ℕ, ℤ, ◌≡◌, ◌≢◌, ◌<◌, ◌≤◌, List, [], ◌∷◌, length, slice_index, Option, Some, None, All, map as map_list}
+use Rattle.std.specs.Prelude.{ℕ, ℤ, ◌≡◌, ◌≢◌, ◌<◌, ◌≤◌, ◌==◌, if◌then◌else◌, List, [], ◌∷◌, length, slice_index, Option, Some, None, All, map as map_list}
+use Rattle.std.specs.List.{list_any}
 use Rattle.std.specs.Int.{w64, cast_unsigned}
 use Rattle.bpf_isa.specs.declared.instruction.Insn.{Insn}
 use Rattle.bpf_isa.specs.Text.{Spells, insn_at}
@@ -12,6 +13,7 @@ use Rattle.xdp_machine.specs.Arithmetic.{low}
 use Rattle.xdp_machine.specs.Program.{IsProgram, XdpProgram}
 use Rattle.xdp_object.specs.declared.error.ObjectError.{ObjectError}
 use Rattle.xdp_object.specs.Choice.{Chosen, chosen}
+use Rattle.xdp_object.specs.Maps.{numbered}
 use Rattle.xdp_object.specs.Object.{FirstFault, IsObject}
 use Rattle.xdp_object.specs.TwoUnits.{two_units}
 
@@ -63,6 +65,10 @@ map_at p place = map_by (insn_at p.insns place)
 abbrev pub refs_of : XdpProgram → List (ℕ × ℕ)
 refs_of p = map_list (λ place. (place, map_at p place)) p.refs
 
+-- the number of the map that a place refers to, if it refers to one
+abbrev pub number_in : XdpProgram → ℕ → Option ℕ
+number_in p place = if list_any (λ r. r == place) p.refs then Some (map_at p place) else None
+
 -- Maps are numbered as they are first referred to: each is referred to, and all references before its first one are to maps of
 -- smaller numbers.
 abbrev pub AreNumbered : XdpProgram → Type 0
@@ -83,11 +89,16 @@ pub record ReadsAs (hash_cap : ℕ) (bytes : List ℕ) (p : XdpProgram) : Type 0
   pub by_section : IsObject (chosen None hash_cap) bytes p
   pub by_name : IsObject (chosen (Some p.name) hash_cap) bytes p
 
--- The object that is written of a program, of its code, the records of its maps and its references, is read back as this program.
-abbrev pub ProgramLaw : ℕ → XdpProgram → List ℕ → List MapRecord → Type 0
-ProgramLaw hash_cap p code maps =
-    IsWritable hash_cap p → Spells code p.insns → AreRecords maps p.decls
+-- The object that is written of a program is read back as this program: of code that is the program's once the numbers of its
+-- maps are put in, of the records of its maps, and of its references.
+abbrev pub ProgramLaw : ℕ → XdpProgram → List ℕ → List Insn → List MapRecord → Type 0
+ProgramLaw hash_cap p code insns maps =
+    IsWritable hash_cap p → Spells code insns → numbered (number_in p) 0 insns ≡ p.insns → AreRecords maps p.decls
     → object_size p.name code maps (refs_of p) ≤ 1048576 → ReadsAs hash_cap (object_layout p.name code maps (refs_of p)) p
+
+-- the program's own instructions have these numbers
+abbrev pub NumbersLaw : XdpProgram → Type 0
+NumbersLaw p = IsProgram p → numbered (number_in p) 0 p.insns ≡ p.insns
 
 -- an object of the program `r0 = k`, `exit` has no maps
 abbrev pub TwoUnitsLaw : Chosen → List ℕ → XdpProgram → ℤ → Type 0
