@@ -80,7 +80,7 @@ no_next hash_cap bytes decls none before d after e = absurd (omega (arith, ap le
 -- ---- functions with no maps
 
 pub reads_layout : (name code : List ℕ) (insns : List Insn) → LayoutLaw name code insns
-reads_layout name code insns letters some spells fits =
+reads_layout name code insns letters some spells fits hash_cap =
     let bytes = object_layout name code [] [] in
     let number : ℕ → ℕ = λ q. 0 in
     let h = seen name code [] [] fits in
@@ -101,8 +101,8 @@ reads_layout name code insns letters some spells fits =
     (without_maps name insns) refl
     (λ places said. numbers_stay (λ p. map_number [] (said_at places p)) 0 insns (λ p i e. ap (λ r. with_low (map_number [] r) i) (said (0 + p)))) refl refl in
     record {
-      by_section = λ hash_cap. read (chosen None hash_cap) (asked_by_section bytes name code [] [] h);
-      by_name = λ hash_cap. read (chosen (Some name) hash_cap) (asked_by_name bytes name code [] [] h letters);
+      by_section = read (chosen None hash_cap) (asked_by_section bytes name code [] [] h);
+      by_name = read (chosen (Some name) hash_cap) (asked_by_name bytes name code [] [] h letters);
     }
 
 -- ---- whole programs

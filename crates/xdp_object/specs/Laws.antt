@@ -27,15 +27,17 @@ pub record OneOutcome (choice : Chosen) (bytes : List ℕ) : Type 0 where
 abbrev pub without_maps : List ℕ → List Insn → XdpProgram
 without_maps name insns = record { name = name; insns = insns; decls = []; refs = [] }
 
+-- bytes are an object of just this program, asked for by its section or by its name
+pub record ReadsAs (hash_cap : ℕ) (bytes : List ℕ) (p : XdpProgram) : Type 0 where
+  pub by_section : IsObject (chosen None hash_cap) bytes p
+  pub by_name : IsObject (chosen (Some p.name) hash_cap) bytes p
+
 -- The least object of a function with no maps is an object of just that function: of some code that is legal, of a name
 -- with no zero byte in it, and of at most 1,048,576 bytes.
-pub record ReadsLayout (name code : List ℕ) (insns : List Insn) : Type 0 where
-  pub by_section : (hash_cap : ℕ) → IsObject (chosen None hash_cap) (object_layout name code [] []) (without_maps name insns)
-  pub by_name : (hash_cap : ℕ) → IsObject (chosen (Some name) hash_cap) (object_layout name code [] []) (without_maps name insns)
-
 abbrev pub LayoutLaw : List ℕ → List ℕ → List Insn → Type 0
 LayoutLaw name code insns =
-    All (λ b. b ≢ 0) name → code ≢ [] → Spells code insns → object_size name code [] [] ≤ 1048576 → ReadsLayout name code insns
+    All (λ b. b ≢ 0) name → code ≢ [] → Spells code insns → object_size name code [] [] ≤ 1048576
+    → (hash_cap : ℕ) → ReadsAs hash_cap (object_layout name code [] []) (without_maps name insns)
 
 -- ---- programs with maps
 
@@ -83,11 +85,6 @@ pub record IsWritable (hash_cap : ℕ) (p : XdpProgram) : Type 0 where
   pub some : p.insns ≢ []
   pub numbered : AreNumbered p
   pub hashes : All (λ d. d.kind ≡ Hash → d.cap ≤ hash_cap) p.decls
-
--- bytes are an object of just this program, asked for by its section or by its name
-pub record ReadsAs (hash_cap : ℕ) (bytes : List ℕ) (p : XdpProgram) : Type 0 where
-  pub by_section : IsObject (chosen None hash_cap) bytes p
-  pub by_name : IsObject (chosen (Some p.name) hash_cap) bytes p
 
 -- The object that is written of a program is read back as this program: of code that is the program's once the numbers of its
 -- maps are put in, of the records of its maps, and of its references.
