@@ -1,7 +1,7 @@
 pub mod LengthLaws
 pub mod Loops
 pub mod NoErrorLaws
-pub mod NoMapsLaws
+pub mod PartLaws
 pub mod OpenLaws
 pub mod ReadBack
 pub mod SearchLaws

@@ -9,7 +9,7 @@ use Rattle.elf_view.specs.declared.sizes.Sizes.{Sizes}
 use Rattle.elf_view.specs.declared.object.MapRecord.{MapRecord}
 use Rattle.elf_view.proofs.LengthLaws.{length-elf_header, length-map_headers, length-object_layout, length-padded, length-strings, length-strings_no_maps, length-symbols, small_object}
 use Rattle.elf_view.proofs.NoErrorLaws.{all_kept, four_none, is_string_table-true, name_open-none, names_there, no_short_file, no_short_headers, no_wrong_header, no_wrong_machine, no_wrong_symbols, section_at-place, section_outside-none, six_none, strings-end, symtab_at-none, symtab_at-some, third_of_four, third_of_six}
-use Rattle.elf_view.proofs.NoMapsLaws.{regrouped}
+use Rattle.elf_view.proofs.PartLaws.{regrouped}
 use Rattle.elf_view.proofs.ReadBack.{ReadsFour, ReadsTwo, front, header-ident, header-machine, header-shentsize, header-shnum, header-shoff, header-shstrndx, header-type, length-front, reads_four, reads_two}
 use Rattle.list_laws.specs.Firsts.{first_from}
 

@@ -1,311 +1,311 @@
--- What is read of the least object of a function with no maps.
-use Rattle.std.proofs.Common.{◌≡◌, ◌≢◌, ◌∙◌, ℕ, ◌+◌, ◌-◌, ◌/◌, ◌%◌, ◌<◌, ◌≤◌, ◌==◌, ◌&&◌, nat_eq, Bool, true, false, not, cond, ltb, Option, Some, None, List, [], ◌∷◌, ◌++◌, length, take, drop, filter, map, All, codes, refl, sym, ap, arith}
+-- What is read of the least object of a function: its sections, its symbols and its code.
+use Rattle.std.proofs.Common.{◌≡◌, ◌∙◌, ℕ, suc, zero, ◌+◌, ◌*◌, ◌/◌, ◌%◌, ◌<◌, ◌≤◌, ◌==◌, ◌&&◌, nat_eq, Bool, true, false, cond, ltb, Option, Some, None, List, [], ◌∷◌, ◌++◌, length, take, drop, filter, codes, refl, sym, ap, subst, arith}
 use Rattle.std.proofs.lemmas.Bool.{lt-ltb, le-ltb}
 use Rattle.std.proofs.lemmas.Bool.Decides.{nat_tests}
-use Rattle.std.proofs.lemmas.List.{append_assoc, append-nil, drop_at, take_at, take_all, length-append}
+use Rattle.std.proofs.lemmas.Grind.{flat_map-append}
+use Rattle.std.proofs.lemmas.List.{append_assoc, drop_at, take_at, length-append}
 use Rattle.std.proofs.lemmas.Slice.Eq.{bytes_eq-Decides}
 use Rattle.std.specs.List.{range_with_len, starts_with}
 use Rattle.std.specs.Option.{is_some, option_map, option_map_or, option_or}
 use Rattle.std.specs.Str.{bytes_eq}
+use Rattle.elf_view.specs.declared.object.MapRecord.{MapRecord}
 use Rattle.elf_view.specs.declared.parts.Section.{Section}
 use Rattle.elf_view.specs.declared.parts.Symbol.{Symbol}
+use Rattle.elf_view.specs.declared.sizes.Sizes.{Sizes}
 use Rattle.elf_view.specs.Pieces.{elf_header, symbol_bytes}
 use Rattle.elf_view.specs.File.{e_shnum, e_shstrndx, entry_count, first_symtab, section_at, section_bytes, span_of, string_at, symbol_at, symbol_table, symbols_of, symtab_at}
-use Rattle.elf_view.specs.Layout.{base_headers, code_section, function_symbol, headers_at, map_headers, no_section, no_symbol, object_layout, object_size, padded, records, rels, sizes_of, strings, strings_section, symbols, symbols_section, text}
+use Rattle.elf_view.specs.Layout.{base_headers, code_section, function_symbol, headers_at, map_headers, map_names, map_strings, map_symbol, map_symbols, no_section, no_symbol, object_layout, object_size, padded, records, rels, section_count, sizes_of, strings, symbols, symbols_section, text}
 use Rattle.elf_view.specs.Rules.{first_error}
 use Rattle.elf_view.specs.declared.error.ElfError.TheVariants.{At, Section as ElfSection}
-use Rattle.elf_view.proofs.LengthLaws.{length-elf_header, length-object, length-symbol_bytes, length-symbols, small_object}
-use Rattle.elf_view.proofs.NoErrorLaws.{four_none, symtab_at-none, symtab_at-some, third_of_four}
-use Rattle.elf_view.proofs.NoMapsLaws.{regrouped, sole_code_at}
-use Rattle.elf_view.proofs.OpenLaws.{opens, read_head, read_sections, read_strings}
+use Rattle.elf_view.proofs.LengthLaws.{length-elf_header, length-map_names-cons, length-map_symbols, length-object, length-symbol_bytes, length-symbols, small_object}
+use Rattle.elf_view.proofs.NoErrorLaws.{symtab_at-none, symtab_at-some, third_of_four, third_of_six}
+use Rattle.elf_view.proofs.PartLaws.{regrouped}
+use Rattle.elf_view.proofs.OpenLaws.{Sections, opens, read_head, read_sections, read_strings}
 use Rattle.elf_view.proofs.WrittenLaws.{symbol_at-written}
-use Rattle.bpf_isa.specs.declared.instruction.Insn.{Insn}
-use Rattle.bpf_isa.specs.Text.{Spells}
-use Rattle.bpf_isa.proofs.TextLaws.{length-text_of}
-use Rattle.xdp_object.specs.declared.error.ObjectError.TheVariants.{Elf, Long, Odd, Relocation}
-use Rattle.xdp_object.specs.Choice.{Chosen, chosen}
-use Rattle.xdp_object.specs.Functions.{function_code, is_asked_for, is_code_section, is_function, programs, section_name, symbol_name, symbol_of, symbol_strings}
-use Rattle.xdp_object.specs.Laws.{LayoutLaw, without_maps}
-use Rattle.xdp_object.specs.Object.{IsObject, first_fault, odd_units, open_name, outside, relocation_fault, too_long, wrong_elf, wrong_function}
-use Rattle.xdp_object.specs.Relocations.{Reference, cut_table, cut_tables, first_unknown, places_of, rela_table, rela_tables, relocated_at, relocates, said_by_section, said_by_table, together}
-use Rattle.xdp_object.specs.declared.relocated.Relocated.{Relocated}
-use Rattle.xdp_object.specs.declared.relocated.Relocated.TheVariants.{Untouched}
-use Rattle.xdp_object.specs.Maps.{all_referred, no_maps}
-use Rattle.xdp_object.proofs.Places.{UntouchedAll, untouched_known, untouched_numbers, untouched_places, untouched_references}
-use Rattle.xdp_object.proofs.Strings.{string_there, xdp_letters}
-use Rattle.xdp_object.proofs.ReadLaws.{Sole, has_code, is_object}
-
--- ---- the names
-
--- the names of the first section and of the function
-xdp_there : (name : List ℕ) → string_at (strings name []) 1 ≡ Some (codes "xdp")
-unfolding text
-xdp_there name = string_there (strings name []) (codes "xdp") (drop 5 (strings name [])) 1 xdp_letters refl
-
-name_there : (name : List ℕ) → All (λ b. b ≢ 0) name → string_at (strings name []) 21 ≡ Some name
-unfolding text
-name_there name h = string_there (strings name []) name [] 21 h (append-nil (name ++ 0 ∷ []))
+use Rattle.xdp_object.specs.declared.error.ObjectError.TheVariants.{Elf, Long, Odd}
+use Rattle.xdp_object.specs.Functions.{is_asked_for, is_code_section, is_function, programs, section_name, symbol_name, symbol_of, symbol_strings}
+use Rattle.xdp_object.specs.Object.{first_fault, odd_units, open_name, outside, too_long, wrong_elf, wrong_function}
+use Rattle.xdp_object.proofs.Strings.{Letters, string_there, xdp_letters}
 
 -- ---- the parts of the object
 
--- the symbol table is a span of the object
-symbols_span : (name code : List ℕ)
-    → take (length (symbols (length name) (length code) [])) (drop (64 + length code) (object_layout name code [] []))
-    ≡ symbols (length name) (length code) []
+-- a part is a span
+pub part_span : (front part rest bytes : List ℕ) (at : ℕ) → bytes ≡ front ++ (part ++ rest) → length front ≡ at → take (length part) (drop at bytes) ≡ part
+part_span front part rest bytes at e size =
+    ap (λ ys. take (length part) (drop at ys)) e ∙ ap (take (length part)) (drop_at front (part ++ rest) at size) ∙ take_at part rest (length part) refl
+
+code_span : (name code : List ℕ) (maps : List MapRecord) (refs : List (ℕ × ℕ)) → take (length code) (drop 64 (object_layout name code maps refs)) ≡ code
 unfolding object_layout
-symbols_span name code =
-    let s = sizes_of name code [] [] in
-    let h = elf_header (headers_at s) 4 in
-    let y = symbols (length name) (length code) [] in
-    let rest = rels [] ++ (padded (records []) ++ (padded (strings name []) ++ (base_headers s ++ map_headers (length name) s []))) in
-    cut h code y rest (object_layout name code [] []) (length-elf_header (headers_at s) 4)
-    (regrouped h code y (rels []) (padded (records [])) (padded (strings name [])) (base_headers s) (map_headers (length name) s []))
+code_span name code maps refs =
+    let s = sizes_of name code maps refs in
+    part_span (elf_header (headers_at s) (section_count maps)) code _ (object_layout name code maps refs) 64
+    (regrouped (elf_header (headers_at s) (section_count maps)) code (symbols (length name) (length code) maps) (rels refs) (padded (records maps)) (padded (strings name maps)) (base_headers s) (map_headers (length name) s maps))
+    (length-elf_header (headers_at s) (section_count maps))
+
+symbols_span : (name code : List ℕ) (maps : List MapRecord) (refs : List (ℕ × ℕ))
+    → take (length (symbols (length name) (length code) maps)) (drop (64 + length code) (object_layout name code maps refs)) ≡ symbols (length name) (length code) maps
+unfolding object_layout
+symbols_span name code maps refs =
+    let s = sizes_of name code maps refs in
+    let h = elf_header (headers_at s) (section_count maps) in
+    part_span (h ++ code) (symbols (length name) (length code) maps) _ (object_layout name code maps refs) (64 + length code)
+    (behind h code (symbols (length name) (length code) maps) (rels refs) (padded (records maps)) (padded (strings name maps)) (base_headers s) (map_headers (length name) s maps))
+    (omega (arith, length-append h code, length-elf_header (headers_at s) (section_count maps)))
   where
-    cut : (h c y rest bytes : List ℕ) → length h ≡ 64 → bytes ≡ h ++ (c ++ (y ++ rest)) → take (length y) (drop (64 + length c) bytes) ≡ y
-    cut h c y rest bytes lh e =
-        let size : length (h ++ c) ≡ 64 + length c = omega (arith, length-append h c) in
-        ap (λ ys. take (length y) (drop (64 + length c) ys)) (e ∙ sym (append_assoc h c (y ++ rest)))
-        ∙ ap (take (length y)) (drop_at (h ++ c) (y ++ rest) (64 + length c) size) ∙ take_at y rest (length y) refl
+    behind : (h c y r m t b x : List ℕ) → h ++ c ++ y ++ r ++ m ++ t ++ b ++ x ≡ (h ++ c) ++ (y ++ (r ++ (m ++ (t ++ (b ++ x)))))
+    behind h c y r m t b x = simp append_assoc
 
 -- what is seen of it
-record Seen (bytes name code : List ℕ) : Type 0 where
-  no_error : first_error bytes ≡ None
-  size : length bytes ≤ 1048576
-  small : length code ≤ 1048576
-  count : e_shnum bytes ≡ 4
-  names : e_shstrndx bytes ≡ 3
-  none : section_at bytes 0 ≡ no_section
-  code_section : section_at bytes 1 ≡ code_section (sizes_of name code [] [])
-  symbols_section : section_at bytes 2 ≡ symbols_section (sizes_of name code [] [])
-  strings_section : section_at bytes 3 ≡ strings_section (sizes_of name code [] [])
-  code_bytes : section_bytes bytes 1 ≡ code
-  symbol_bytes : section_bytes bytes 2 ≡ symbols (length name) (length code) []
-  strings_bytes : section_bytes bytes 3 ≡ strings name []
-  symtab : first_symtab bytes ≡ Some 2
+pub record Seen (bytes name code : List ℕ) (maps : List MapRecord) (refs : List (ℕ × ℕ)) : Type 0 where
+  pub no_error : first_error bytes ≡ None
+  pub size : length bytes ≤ 1048576
+  pub small : length code ≤ 1048576
+  pub few : length maps ≤ 52428
+  pub short : length name + length (map_names maps) ≤ 1048576
+  pub count : e_shnum bytes ≡ section_count maps
+  pub names : e_shstrndx bytes ≡ 3
+  pub sections : Sections bytes (sizes_of name code maps refs)
+  pub code_bytes : section_bytes bytes 1 ≡ code
+  pub symbol_bytes : section_bytes bytes 2 ≡ symbols (length name) (length code) maps
+  pub strings_bytes : section_bytes bytes 3 ≡ strings name maps
+  pub symtab : first_symtab bytes ≡ Some 2
 
-seen : (bytes name code : List ℕ) → bytes ≡ object_layout name code [] [] → object_size name code [] [] ≤ 1048576 → Seen bytes name code
+symtab_is : (bytes : List ℕ) (s : Sizes) (maps : List MapRecord) → e_shnum bytes ≡ section_count maps → Sections bytes s → first_symtab bytes ≡ Some 2
 unfolding first_symtab
-seen bytes name code e fits =
-    let layout = object_layout name code [] [] in
-    let s = sizes_of name code [] [] in
-    let small = small_object name code [] [] fits in
-    let head = read_head name code [] [] small.headers in
-    let x = read_sections name code [] [] small.headers in
-    let size = length-object name code [] [] in
-    let count : e_shnum bytes ≡ 4 = ap e_shnum e ∙ head.shnum in
-    let at : (i : ℕ) → section_at bytes i ≡ section_at layout i = λ i. ap (λ b. section_at b i) e in
-    let spans : (i : ℕ) → section_bytes bytes i ≡ section_bytes layout i = λ i. ap (λ b. section_bytes b i) e in
-    let first : first_symtab bytes ≡ Some 2 =
-    third_of_four (symtab_at bytes) (e_shnum bytes) 2 count (symtab_at-none bytes 0 no_section (at 0 ∙ x.none) refl)
-    (symtab_at-none bytes 1 (code_section s) (at 1 ∙ x.code) refl) (symtab_at-some bytes 2 (symbols_section s) (at 2 ∙ x.symbols) refl) in
+symtab_is bytes s [] count x =
+    third_of_four (symtab_at bytes) (e_shnum bytes) 2 count (symtab_at-none bytes 0 no_section x.none refl)
+    (symtab_at-none bytes 1 (code_section s) x.code refl) (symtab_at-some bytes 2 (symbols_section s) x.symbols refl)
+symtab_is bytes s (m ∷ ms) count x =
+    third_of_six (symtab_at bytes) (e_shnum bytes) 2 count (symtab_at-none bytes 0 no_section x.none refl)
+    (symtab_at-none bytes 1 (code_section s) x.code refl) (symtab_at-some bytes 2 (symbols_section s) x.symbols refl)
+
+pub seen : (name code : List ℕ) (maps : List MapRecord) (refs : List (ℕ × ℕ)) → object_size name code maps refs ≤ 1048576
+    → Seen (object_layout name code maps refs) name code maps refs
+seen name code maps refs fits =
+    let bytes = object_layout name code maps refs in
+    let small = small_object name code maps refs fits in
+    let head = read_head name code maps refs small.headers in
+    let x = read_sections name code maps refs small.headers in
     record {
-      no_error = ap first_error e ∙ opens name code [] [] fits;
-      size = omega (arith, ap length e, size, fits);
+      no_error = opens name code maps refs fits;
+      size = omega (arith, length-object name code maps refs, fits);
       small = omega (arith, small.headers);
-      count = count;
-      names = ap e_shstrndx e ∙ head.names;
-      none = at 0 ∙ x.none;
-      code_section = at 1 ∙ x.code;
-      symbols_section = at 2 ∙ x.symbols;
-      strings_section = at 3 ∙ x.strings;
-      code_bytes = spans 1 ∙ ap (span_of layout) x.code ∙ sole_code_at layout name code refl;
-      symbol_bytes = spans 2 ∙ ap (span_of layout) x.symbols ∙ symbols_span name code;
-      strings_bytes = spans 3 ∙ read_strings name code [] [] layout refl x;
-      symtab = first;
+      few = small.maps_fit;
+      short = small.names_fit;
+      count = head.shnum;
+      names = head.names;
+      sections = x;
+      code_bytes = ap (span_of bytes) x.code ∙ code_span name code maps refs;
+      symbol_bytes = ap (span_of bytes) x.symbols ∙ symbols_span name code maps refs;
+      strings_bytes = read_strings name code maps refs bytes refl x;
+      symtab = symtab_is bytes (sizes_of name code maps refs) maps head.shnum x;
     }
+
+-- ---- its strings
+
+xdp_there : (name : List ℕ) (maps : List MapRecord) → string_at (strings name maps) 1 ≡ Some (codes "xdp")
+unfolding text
+xdp_there name maps = string_there (strings name maps) (codes "xdp") (drop 5 (strings name maps)) 1 xdp_letters refl
+
+name_there : (name : List ℕ) (maps : List MapRecord) → Letters name → string_at (strings name maps) 21 ≡ Some name
+unfolding text
+name_there name maps h = string_there (strings name maps) name (map_strings maps) 21 h (append_assoc name (0 ∷ []) (map_strings maps))
 
 -- ---- its symbols
 
-table_is : (bytes name code : List ℕ) → Seen bytes name code → symbol_table bytes ≡ symbols (length name) (length code) []
-table_is bytes name code h = ap (symbols_of bytes) h.symtab ∙ h.symbol_bytes
+pub table_is : (bytes name code : List ℕ) (maps : List MapRecord) (refs : List (ℕ × ℕ)) → Seen bytes name code maps refs
+    → symbol_table bytes ≡ symbols (length name) (length code) maps
+table_is bytes name code maps refs h = ap (symbols_of bytes) h.symtab ∙ h.symbol_bytes
 
-two_symbols : (bytes name code : List ℕ) → Seen bytes name code → entry_count 24 (symbol_table bytes) ≡ 2
-two_symbols bytes name code h =
-    ap (entry_count 24) (table_is bytes name code h) ∙ two (symbols (length name) (length code) []) (length-symbols (length name) (length code) [])
+pub symbol_count : (bytes name code : List ℕ) (maps : List MapRecord) (refs : List (ℕ × ℕ)) → Seen bytes name code maps refs
+    → entry_count 24 (symbol_table bytes) ≡ 2 + length maps
+symbol_count bytes name code maps refs h =
+    ap (entry_count 24) (table_is bytes name code maps refs h) ∙ counted (symbols (length name) (length code) maps) (length maps) (length-symbols (length name) (length code) maps) h.few
   where
-    two : (xs : List ℕ) → length xs ≡ 48 → entry_count 24 xs ≡ 2
-    two xs e = omega (arith, e)
+    counted : (xs : List ℕ) (n : ℕ) → length xs ≡ 24 * (2 + n) → n ≤ 52428 → entry_count 24 xs ≡ 2 + n
+    counted xs n e few = omega (arith, e)
 
-first_symbol : (bytes name code : List ℕ) → Seen bytes name code → symbol_of bytes 0 ≡ no_symbol
-first_symbol bytes name code h =
-    ap (λ t. symbol_at t 0) (table_is bytes name code h ∙ append_assoc (symbol_bytes no_symbol) (symbol_bytes (function_symbol (length code))) [])
-    ∙ symbol_at-written [] no_symbol (symbol_bytes (function_symbol (length code)) ++ []) 0 refl
+first_symbol : (bytes name code : List ℕ) (maps : List MapRecord) (refs : List (ℕ × ℕ)) → Seen bytes name code maps refs → symbol_of bytes 0 ≡ no_symbol
+first_symbol bytes name code maps refs h =
+    ap (λ t. symbol_at t 0) (table_is bytes name code maps refs h ∙ append_assoc (symbol_bytes no_symbol) (symbol_bytes (function_symbol (length code))) (map_symbols (35 + length name) 0 maps))
+    ∙ symbol_at-written [] no_symbol (symbol_bytes (function_symbol (length code)) ++ map_symbols (35 + length name) 0 maps) 0 refl
     (record { name = omega arith; section = omega arith; value = omega arith; size = omega arith })
 
-second_symbol : (bytes name code : List ℕ) → Seen bytes name code → symbol_of bytes 1 ≡ function_symbol (length code)
-second_symbol bytes name code h =
-    ap (λ t. symbol_at t 1) (table_is bytes name code h ∙ append_assoc (symbol_bytes no_symbol) (symbol_bytes (function_symbol (length code))) [])
-    ∙ symbol_at-written (symbol_bytes no_symbol) (function_symbol (length code)) [] 1 (length-symbol_bytes no_symbol)
+pub second_symbol : (bytes name code : List ℕ) (maps : List MapRecord) (refs : List (ℕ × ℕ)) → Seen bytes name code maps refs
+    → symbol_of bytes 1 ≡ function_symbol (length code)
+second_symbol bytes name code maps refs h =
+    ap (λ t. symbol_at t 1) (table_is bytes name code maps refs h ∙ append_assoc (symbol_bytes no_symbol) (symbol_bytes (function_symbol (length code))) (map_symbols (35 + length name) 0 maps))
+    ∙ symbol_at-written (symbol_bytes no_symbol) (function_symbol (length code)) (map_symbols (35 + length name) 0 maps) 1 (length-symbol_bytes no_symbol)
     (record { name = omega arith; section = omega arith; value = omega arith; size = omega (arith, h.small) })
+
+-- the symbols of some maps, and of others behind them
+map_symbols-append : (name_at value : ℕ) (before after : List MapRecord)
+    → map_symbols name_at value (before ++ after) ≡ map_symbols name_at value before ++ map_symbols (name_at + length (map_names before)) (value + 20 * length before) after
+map_symbols-append name_at value [] after =
+    let a : name_at ≡ name_at + 0 = omega arith in
+    let b : value ≡ value + 20 * 0 = omega arith in
+    ap (λ n. map_symbols n value after) a ∙ ap (λ v. map_symbols (name_at + 0) v after) b
+map_symbols-append name_at value (m ∷ before) after =
+    let one = symbol_bytes (map_symbol name_at value) in
+    let a : name_at + (length m.name.now + 1) + length (map_names before) ≡ name_at + length (map_names (m ∷ before)) = omega (arith, length-map_names-cons m before) in
+    let b : value + 20 + 20 * length before ≡ value + 20 * length (m ∷ before) = omega arith in
+    let front = map_symbols (name_at + (length m.name.now + 1)) (value + 20) before in
+    ap (λ xs. one ++ xs) (map_symbols-append (name_at + (length m.name.now + 1)) (value + 20) before after)
+    ∙ ap (λ n. one ++ (front ++ map_symbols n (value + 20 + 20 * length before) after)) a
+    ∙ ap (λ v. one ++ (front ++ map_symbols (name_at + length (map_names (m ∷ before))) v after)) b
+    ∙ sym (append_assoc one front (map_symbols (name_at + length (map_names (m ∷ before))) (value + 20 * length (m ∷ before)) after))
+
+-- the symbol of a map
+abbrev pub symbol_of_map : (name_len : ℕ) (before : List MapRecord) → Symbol
+symbol_of_map name_len before = map_symbol (35 + name_len + length (map_names before)) (0 + 20 * length before)
+
+names_longer : (before : List MapRecord) (m : MapRecord) (after : List MapRecord) → length (map_names before) ≤ length (map_names (before ++ m ∷ after))
+names_longer before m after =
+    omega (arith, ap length (flat_map-append (λ (m : MapRecord). text m.name.now) before (m ∷ after)), length-append (map_names before) (map_names (m ∷ after)))
+
+pub map_symbol_there : (bytes name code : List ℕ) (before : List MapRecord) (m : MapRecord) (after : List MapRecord) (refs : List (ℕ × ℕ))
+    → Seen bytes name code (before ++ m ∷ after) refs → symbol_of bytes (2 + length before) ≡ symbol_of_map (length name) before
+map_symbol_there bytes name code before m after refs h =
+    let two = symbol_bytes no_symbol ++ symbol_bytes (function_symbol (length code)) in
+    let front = map_symbols (35 + length name) 0 before in
+    let s = symbol_of_map (length name) before in
+    let rest = map_symbols (35 + length name + length (map_names before) + (length m.name.now + 1)) (0 + 20 * length before + 20) after in
+    let whole : symbol_table bytes ≡ (two ++ front) ++ (symbol_bytes s ++ rest) =
+    table_is bytes name code (before ++ m ∷ after) refs h ∙ ap (λ xs. two ++ xs) (map_symbols-append (35 + length name) 0 before (m ∷ after))
+    ∙ sym (append_assoc two front (symbol_bytes s ++ rest)) in
+    let place : length (two ++ front) ≡ 24 * (2 + length before) =
+    omega (arith, length-append two front, length-append (symbol_bytes no_symbol) (symbol_bytes (function_symbol (length code))), length-symbol_bytes no_symbol, length-symbol_bytes (function_symbol (length code)), length-map_symbols (35 + length name) 0 before) in
+    let few : length before ≤ 52428 = omega (arith, h.few, length-append before (m ∷ after)) in
+    ap (λ t. symbol_at t (2 + length before)) whole
+    ∙ symbol_at-written (two ++ front) s rest (2 + length before) place
+    (record { name = omega (arith, h.short, names_longer before m after); section = omega arith; value = omega (arith, few); size = omega arith })
+
+-- a list at one of its places
+pub record Split {X : Type 0} (xs : List X) (k : ℕ) : Type 0 where
+  pub before : List X
+  pub here : X
+  pub after : List X
+  pub whole : xs ≡ before ++ here ∷ after
+  pub place : length before ≡ k
+
+pub split : {X : Type 0} (xs : List X) (k : ℕ) → k < length xs → Split xs k
+split [] k h = absurd (omega arith)
+split (x ∷ xs) zero h = record { before = []; here = x; after = xs; whole = refl; place = refl }
+split (x ∷ xs) (suc k) h =
+    let s = split xs k (omega arith) in
+    record { before = x ∷ s.before; here = s.here; after = s.after; whole = ap (λ ys. x ∷ ys) s.whole; place = ap suc s.place }
+
+-- it is no function
+no_function_of_map : (bytes name code : List ℕ) (maps : List MapRecord) (refs : List (ℕ × ℕ)) → Seen bytes name code maps refs → (k : ℕ) → k < length maps
+    → is_function bytes (2 + k) ≡ false
+no_function_of_map bytes name code maps refs h k below =
+    let s = split maps k below in
+    let there = map_symbol_there bytes name code s.before s.here s.after refs (subst (λ (ms : List MapRecord). Seen bytes name code ms refs) s.whole h) in
+    ap (λ n. is_function bytes (2 + n)) (sym s.place)
+    ∙ ap (λ (z : Symbol). (z.info % 16 == 2) && ltb 0 z.size && is_code_section bytes z.section) there
 
 -- ---- its function
 
-no_function : (bytes name code : List ℕ) → Seen bytes name code → is_function bytes 0 ≡ false
-no_function bytes name code h =
-    ap (λ (s : Symbol). (s.info % 16 == 2) && ltb 0 s.size && is_code_section bytes s.section) (first_symbol bytes name code h)
+no_function : (bytes name code : List ℕ) (maps : List MapRecord) (refs : List (ℕ × ℕ)) → Seen bytes name code maps refs → is_function bytes 0 ≡ false
+no_function bytes name code maps refs h =
+    ap (λ (s : Symbol). (s.info % 16 == 2) && ltb 0 s.size && is_code_section bytes s.section) (first_symbol bytes name code maps refs h)
 
-code_there : (bytes name code : List ℕ) → Seen bytes name code → is_code_section bytes 1 ≡ true
-code_there bytes name code h =
-    ap (λ (s : Section). ltb 1 (e_shnum bytes) && (s.kind == 1) && (s.flags / 4 % 2 == 1)) h.code_section
-    ∙ ap (λ (n : ℕ). ltb 1 n && true && true) h.count
+some_sections : (maps : List MapRecord) → ltb 1 (section_count maps) ≡ true
+some_sections [] = refl
+some_sections (m ∷ ms) = refl
 
-a_function : (bytes name code : List ℕ) → Seen bytes name code → 0 < length code → is_function bytes 1 ≡ true
-a_function bytes name code h some =
-    ap (λ (s : Symbol). (s.info % 16 == 2) && ltb 0 s.size && is_code_section bytes s.section) (second_symbol bytes name code h)
+code_there : (bytes name code : List ℕ) (maps : List MapRecord) (refs : List (ℕ × ℕ)) → Seen bytes name code maps refs → is_code_section bytes 1 ≡ true
+code_there bytes name code maps refs h =
+    ap (λ (s : Section). ltb 1 (e_shnum bytes) && (s.kind == 1) && (s.flags / 4 % 2 == 1)) h.sections.code
+    ∙ ap (λ (n : ℕ). ltb 1 n && true && true) h.count ∙ ap (λ b. b && true && true) (some_sections maps)
+
+a_function : (bytes name code : List ℕ) (maps : List MapRecord) (refs : List (ℕ × ℕ)) → Seen bytes name code maps refs → 0 < length code → is_function bytes 1 ≡ true
+a_function bytes name code maps refs h some =
+    ap (λ (s : Symbol). (s.info % 16 == 2) && ltb 0 s.size && is_code_section bytes s.section) (second_symbol bytes name code maps refs h)
     ∙ ap (λ b. true && b && is_code_section bytes 1) (lt-ltb 0 (length code) some)
-    ∙ code_there bytes name code h
+    ∙ code_there bytes name code maps refs h
 
-name_is : (bytes name code : List ℕ) → Seen bytes name code → All (λ b. b ≢ 0) name → symbol_name bytes 1 ≡ Some name
-name_is bytes name code h letters =
-    ap (λ (s : Symbol). string_at (symbol_strings bytes (first_symtab bytes)) s.name) (second_symbol bytes name code h)
-    ∙ ap (λ o. string_at (symbol_strings bytes o) 21) h.symtab
-    ∙ ap (λ (z : Section). string_at (section_bytes bytes z.link) 21) h.symbols_section
-    ∙ ap (λ t. string_at t 21) h.strings_bytes ∙ name_there name letters
+-- what stands in the string table is the name of a symbol, or of a section
+pub symbol_named : (bytes name code : List ℕ) (maps : List MapRecord) (refs : List (ℕ × ℕ)) → Seen bytes name code maps refs → (n : ℕ) (s : Symbol) → symbol_of bytes n ≡ s
+    → symbol_name bytes n ≡ string_at (strings name maps) s.name
+symbol_named bytes name code maps refs h n s e =
+    ap (λ (z : Symbol). string_at (symbol_strings bytes (first_symtab bytes)) z.name) e
+    ∙ ap (λ o. string_at (symbol_strings bytes o) s.name) h.symtab
+    ∙ ap (λ (z : Section). string_at (section_bytes bytes z.link) s.name) h.sections.symbols
+    ∙ ap (λ t. string_at t s.name) h.strings_bytes
 
-section_is : (bytes name code : List ℕ) → Seen bytes name code → section_name bytes (symbol_of bytes 1).section ≡ Some (codes "xdp")
-section_is bytes name code h =
-    ap (λ (s : Symbol). section_name bytes s.section) (second_symbol bytes name code h)
-    ∙ ap (λ (z : Section). string_at (section_bytes bytes (e_shstrndx bytes)) z.name) h.code_section
-    ∙ ap (λ i. string_at (section_bytes bytes i) 1) h.names
-    ∙ ap (λ t. string_at t 1) h.strings_bytes ∙ xdp_there name
+pub section_named : (bytes name code : List ℕ) (maps : List MapRecord) (refs : List (ℕ × ℕ)) → Seen bytes name code maps refs → (i : ℕ) (s : Section) → section_at bytes i ≡ s
+    → section_name bytes i ≡ string_at (strings name maps) s.name
+section_named bytes name code maps refs h i s e =
+    ap (λ (z : Section). string_at (section_bytes bytes (e_shstrndx bytes)) z.name) e
+    ∙ ap (λ n. string_at (section_bytes bytes n) s.name) h.names
+    ∙ ap (λ t. string_at t s.name) h.strings_bytes
 
-asked_by_section : (bytes name code : List ℕ) → Seen bytes name code → is_asked_for None bytes 1 ≡ true
-asked_by_section bytes name code h = ap (λ o. option_map_or (λ s. starts_with nat_eq s (codes "xdp")) o false) (section_is bytes name code h)
+pub name_is : (bytes name code : List ℕ) (maps : List MapRecord) (refs : List (ℕ × ℕ)) → Seen bytes name code maps refs → Letters name → symbol_name bytes 1 ≡ Some name
+name_is bytes name code maps refs h letters =
+    symbol_named bytes name code maps refs h 1 (function_symbol (length code)) (second_symbol bytes name code maps refs h) ∙ name_there name maps letters
 
-asked_by_name : (bytes name code : List ℕ) → Seen bytes name code → All (λ b. b ≢ 0) name → is_asked_for (Some name) bytes 1 ≡ true
-asked_by_name bytes name code h letters =
-    ap (λ o. option_map_or (λ s. bytes_eq s name) o false) (name_is bytes name code h letters) ∙ (bytes_eq-Decides name name).1 refl
+section_is : (bytes name code : List ℕ) (maps : List MapRecord) (refs : List (ℕ × ℕ)) → Seen bytes name code maps refs
+    → section_name bytes (symbol_of bytes 1).section ≡ Some (codes "xdp")
+section_is bytes name code maps refs h =
+    ap (λ (s : Symbol). section_name bytes s.section) (second_symbol bytes name code maps refs h)
+    ∙ section_named bytes name code maps refs h 1 (code_section (sizes_of name code maps refs)) h.sections.code ∙ xdp_there name maps
 
-only_second : (p : ℕ → Bool) (n : ℕ) → n ≡ 2 → p 0 ≡ false → p 1 ≡ true → filter p (range_with_len 0 n) ≡ 1 ∷ []
-only_second p n e a b = rw (e, a, b) refl
+pub asked_by_section : (bytes name code : List ℕ) (maps : List MapRecord) (refs : List (ℕ × ℕ)) → Seen bytes name code maps refs → is_asked_for None bytes 1 ≡ true
+asked_by_section bytes name code maps refs h =
+    ap (λ o. option_map_or (λ s. starts_with nat_eq s (codes "xdp")) o false) (section_is bytes name code maps refs h)
 
-the_program : (choice : Option (List ℕ)) (bytes name code : List ℕ) → Seen bytes name code → 0 < length code → is_asked_for choice bytes 1 ≡ true
-    → programs choice bytes ≡ 1 ∷ []
+pub asked_by_name : (bytes name code : List ℕ) (maps : List MapRecord) (refs : List (ℕ × ℕ)) → Seen bytes name code maps refs → Letters name
+    → is_asked_for (Some name) bytes 1 ≡ true
+asked_by_name bytes name code maps refs h letters =
+    ap (λ o. option_map_or (λ s. bytes_eq s name) o false) (name_is bytes name code maps refs h letters) ∙ (bytes_eq-Decides name name).1 refl
+
+none_pass : (p : ℕ → Bool) (a n : ℕ) → ((k : ℕ) → k < n → p (a + k) ≡ false) → filter p (range_with_len a n) ≡ []
+none_pass p a zero h = refl
+none_pass p a (suc n) h =
+    let here : a ≡ a + 0 = omega arith in
+    ap (λ b. cond b (a ∷ filter p (range_with_len (a + 1) n)) (filter p (range_with_len (a + 1) n))) (ap p here ∙ h 0 (omega arith))
+    ∙ none_pass p (a + 1) n (λ k low. let next : a + 1 + k ≡ a + suc k = omega arith in ap p next ∙ h (suc k) (omega arith))
+
+only_second : (p : ℕ → Bool) (n k : ℕ) → n ≡ 2 + k → p 0 ≡ false → p 1 ≡ true → ((j : ℕ) → j < k → p (2 + j) ≡ false) → filter p (range_with_len 0 n) ≡ 1 ∷ []
+only_second p n k e a b c =
+    ap (λ m. filter p (range_with_len 0 m)) (e ∙ two)
+    ∙ ap (λ t. cond t (0 ∷ filter p (range_with_len 1 (suc k))) (filter p (range_with_len 1 (suc k)))) a
+    ∙ ap (λ t. cond t (1 ∷ filter p (range_with_len 2 k)) (filter p (range_with_len 2 k))) b
+    ∙ ap (λ xs. 1 ∷ xs) (none_pass p 2 k c)
+  where
+    two : 2 + k ≡ suc (suc k)
+    two = omega arith
+
+pub the_program : (choice : Option (List ℕ)) (bytes name code : List ℕ) (maps : List MapRecord) (refs : List (ℕ × ℕ)) → Seen bytes name code maps refs → 0 < length code
+    → is_asked_for choice bytes 1 ≡ true → programs choice bytes ≡ 1 ∷ []
 unfolding programs
-the_program choice bytes name code h some asked =
-    only_second (λ n. is_function bytes n && is_asked_for choice bytes n) (entry_count 24 (symbol_table bytes)) (two_symbols bytes name code h)
-    (ap (λ b. b && is_asked_for choice bytes 0) (no_function bytes name code h))
-    (ap (λ b. b && is_asked_for choice bytes 1) (a_function bytes name code h some) ∙ asked)
+the_program choice bytes name code maps refs h some asked =
+    only_second (λ n. is_function bytes n && is_asked_for choice bytes n) (entry_count 24 (symbol_table bytes)) (length maps) (symbol_count bytes name code maps refs h)
+    (ap (λ b. b && is_asked_for choice bytes 0) (no_function bytes name code maps refs h))
+    (ap (λ b. b && is_asked_for choice bytes 1) (a_function bytes name code maps refs h some) ∙ asked)
+    (λ k low. ap (λ b. b && is_asked_for choice bytes (2 + k)) (no_function_of_map bytes name code maps refs h k low))
 
 -- ---- the rules
 
-no_fault : (bytes name code : List ℕ) → Seen bytes name code → All (λ b. b ≢ 0) name → length code % 8 ≡ 0 → wrong_function bytes 1 ≡ None
+pub no_fault : (bytes name code : List ℕ) (maps : List MapRecord) (refs : List (ℕ × ℕ)) → Seen bytes name code maps refs → Letters name → length code % 8 ≡ 0
+    → wrong_function bytes 1 ≡ None
 unfolding wrong_function open_name outside odd_units
-no_fault bytes name code h letters whole =
-    let named : is_some (symbol_name bytes 1) ≡ true = ap is_some (name_is bytes name code h letters) in
+no_fault bytes name code maps refs h letters whole =
+    let named : is_some (symbol_name bytes 1) ≡ true = ap is_some (name_is bytes name code maps refs h letters) in
     let inside : ltb (length (section_bytes bytes 1)) (0 + length code) ≡ false =
     le-ltb (length (section_bytes bytes 1)) (0 + length code) (omega (arith, ap length h.code_bytes)) in
     let units : (length code % 8 == 0) ≡ true = is_zero_test (length code % 8) whole in
     ap (λ b. option_or (cond b None (Some (Elf (At (symbol_of bytes 1).name)))) (first_fault (outside bytes (symbol_of bytes 1) ∷ odd_units (symbol_of bytes 1) ∷ []))) named
-    ∙ ap (λ (s : Symbol). first_fault (outside bytes s ∷ odd_units s ∷ [])) (second_symbol bytes name code h)
+    ∙ ap (λ (s : Symbol). first_fault (outside bytes s ∷ odd_units s ∷ [])) (second_symbol bytes name code maps refs h)
     ∙ ap (λ b. option_or (cond b (Some (Elf (ElfSection 1))) None) (option_or (odd_units (function_symbol (length code))) None)) inside
     ∙ ap (λ b. option_or (cond (true && b) None (Some Odd)) None) units
   where
     is_zero_test : (n : ℕ) → n ≡ 0 → (n == 0) ≡ true
     is_zero_test n e = grind (arith, nat_tests)
 
-opened : (bytes name code : List ℕ) → Seen bytes name code → option_or (too_long bytes) (wrong_elf bytes) ≡ None
+pub opened : (bytes name code : List ℕ) (maps : List MapRecord) (refs : List (ℕ × ℕ)) → Seen bytes name code maps refs → option_or (too_long bytes) (wrong_elf bytes) ≡ None
 unfolding too_long wrong_elf
-opened bytes name code h =
+opened bytes name code maps refs h =
     ap (λ b. option_or (cond b (Some Long) None) (option_map (λ e. Elf e) (first_error bytes))) (le-ltb 1048576 (length bytes) h.size)
     ∙ ap (λ o. option_map (λ e. Elf e) o) h.no_error
-
--- ---- its relocations
-
--- no section of a type that is none of its four
-record NoSection (bytes : List ℕ) (kind target : ℕ) : Type 0 where
-  none : relocates bytes kind target 0 ≡ false
-  code : relocates bytes kind target 1 ≡ false
-  symbols : relocates bytes kind target 2 ≡ false
-  strings : relocates bytes kind target 3 ≡ false
-
-other_section : (bytes : List ℕ) (kind target i : ℕ) (z : Section) → section_at bytes i ≡ z → (z.kind == kind) ≡ false
-    → relocates bytes kind target i ≡ false
-other_section bytes kind target i z e k =
-    ap (λ (s : Section). (s.kind == kind) && (s.info == target)) e ∙ ap (λ b. b && (z.info == target)) k
-
-no_rel : (bytes name code : List ℕ) → Seen bytes name code → NoSection bytes 9 1
-no_rel bytes name code h = record {
-  none = other_section bytes 9 1 0 no_section h.none refl;
-  code = other_section bytes 9 1 1 (code_section (sizes_of name code [] [])) h.code_section refl;
-  symbols = other_section bytes 9 1 2 (symbols_section (sizes_of name code [] [])) h.symbols_section refl;
-  strings = other_section bytes 9 1 3 (strings_section (sizes_of name code [] [])) h.strings_section refl;
-}
-
-no_rela : (bytes name code : List ℕ) → Seen bytes name code → NoSection bytes 4 1
-no_rela bytes name code h = record {
-  none = other_section bytes 4 1 0 no_section h.none refl;
-  code = other_section bytes 4 1 1 (code_section (sizes_of name code [] [])) h.code_section refl;
-  symbols = other_section bytes 4 1 2 (symbols_section (sizes_of name code [] [])) h.symbols_section refl;
-  strings = other_section bytes 4 1 3 (strings_section (sizes_of name code [] [])) h.strings_section refl;
-}
-
-no_cut : (bytes : List ℕ) (i : ℕ) → relocates bytes 9 1 i ≡ false → cut_table bytes 1 i ≡ None
-no_cut bytes i e = ap (λ b. cond (b && not ((section_at bytes i).size % 16 == 0)) (Some (Elf (ElfSection i))) None) e
-
-no_entry : (bytes : List ℕ) (i : ℕ) → relocates bytes 4 1 i ≡ false → rela_table bytes 1 i ≡ None
-no_entry bytes i e = ap (λ b. cond b (Some (Relocation 0)) None) e
-
-no_place : (bytes : List ℕ) (s : Symbol) (place i : ℕ) → relocates bytes 9 s.section i ≡ false → said_by_section bytes s place i ≡ Untouched
-no_place bytes s place i e = ap (λ b. cond b (said_by_table bytes s place i) Untouched) e
-
-four_places : (f : ℕ → Relocated) (n : ℕ) → n ≡ 4 → f 0 ≡ Untouched → f 1 ≡ Untouched → f 2 ≡ Untouched → f 3 ≡ Untouched → together f 0 n ≡ Untouched
-four_places f n e a b c d = rw (e, a, b, c, d) refl
-
-untouched_at : (bytes name code : List ℕ) → Seen bytes name code → (p : ℕ) → relocated_at bytes (function_symbol (length code)) p ≡ Untouched
-unfolding relocated_at
-untouched_at bytes name code h p =
-    let r = no_rel bytes name code h in
-    let s = function_symbol (length code) in
-    four_places (said_by_section bytes s p) (e_shnum bytes) h.count (no_place bytes s p 0 r.none) (no_place bytes s p 1 r.code) (no_place bytes s p 2 r.symbols) (no_place bytes s p 3 r.strings)
-
-untouched : (bytes name code : List ℕ) → Seen bytes name code → UntouchedAll (places_of bytes (function_symbol (length code)))
-untouched bytes name code h = untouched_places bytes (function_symbol (length code)) (untouched_at bytes name code h)
-
-no_relocation : (bytes name code : List ℕ) (insns : List Insn) → Seen bytes name code → relocation_fault bytes (function_symbol (length code)) insns ≡ None
-unfolding relocation_fault cut_tables rela_tables
-no_relocation bytes name code insns h =
-    let r = no_rel bytes name code h in
-    let a = no_rela bytes name code h in
-    let places : List Relocated = places_of bytes (function_symbol (length code)) in
-    let cut : cut_tables bytes 1 ≡ None =
-    four_none (cut_table bytes 1) (e_shnum bytes) h.count (no_cut bytes 0 r.none) (no_cut bytes 1 r.code) (no_cut bytes 2 r.symbols) (no_cut bytes 3 r.strings) in
-    let rela : rela_tables bytes 1 ≡ None =
-    four_none (rela_table bytes 1) (e_shnum bytes) h.count (no_entry bytes 0 a.none) (no_entry bytes 1 a.code) (no_entry bytes 2 a.symbols) (no_entry bytes 3 a.strings) in
-    ap (λ o. option_or o (option_or (rela_tables bytes 1) (option_or (first_unknown places insns) None))) cut
-    ∙ ap (λ o. option_or o (option_or (first_unknown places insns) None)) rela
-    ∙ ap (λ o. option_or o None) (untouched_known places insns (untouched bytes name code h))
-
--- ---- the object
-
-object_read : (choice : Chosen) (bytes name code : List ℕ) (insns : List Insn) → Seen bytes name code → All (λ b. b ≢ 0) name
-    → Spells code insns → 0 < length code → is_asked_for choice.program bytes 1 ≡ true → IsObject choice bytes (without_maps name insns)
-object_read choice bytes name code insns h letters spells some asked =
-    let whole : length code % 8 ≡ 0 = omega (arith, ap length spells.bytes, length-text_of insns) in
-    let s = function_symbol (length code) in
-    let symbol = second_symbol bytes name code h in
-    let sole : Sole choice bytes 1 = record { opened = opened bytes name code h; sole = the_program choice.program bytes name code h some asked } in
-    let bytes_are : function_code bytes (symbol_of bytes 1) ≡ code =
-    ap (function_code bytes) symbol ∙ ap (take (length code)) h.code_bytes ∙ take_all (length code) code (omega arith) in
-    let has = has_code choice bytes 1 s code sole (no_fault bytes name code h letters whole) (sym symbol) (sym bytes_are) in
-    let places : List Relocated = places_of bytes s in
-    let none = untouched bytes name code h in
-    is_object choice bytes 1 s code name insns places no_maps (without_maps name insns) sole has (name_is bytes name code h letters) spells
-    (no_relocation bytes name code insns h) refl
-    (ap (all_referred choice.hash_cap bytes no_maps) (untouched_references places 0 (length places - 0) none)) refl
-    (sym (untouched_numbers places [] 0 insns none)) refl
-    (sym (ap (map (λ (r : Reference). r.place)) (untouched_references places 0 (length places) none)))
-
-not_empty : (xs : List ℕ) → xs ≢ [] → 0 < length xs
-not_empty [] h = absurd (h refl)
-not_empty (x ∷ xs) h = omega arith
-
-pub reads_layout : (name code : List ℕ) (insns : List Insn) → LayoutLaw name code insns
-reads_layout name code insns letters some spells fits =
-    let bytes = object_layout name code [] [] in
-    let h = seen bytes name code refl fits in
-    let long = not_empty code some in
-    record {
-      by_section = λ hash_cap. object_read (chosen None hash_cap) bytes name code insns h letters spells long (asked_by_section bytes name code h);
-      by_name = λ hash_cap. object_read (chosen (Some name) hash_cap) bytes name code insns h letters spells long (asked_by_name bytes name code h letters);
-    }

@@ -1,5 +1,5 @@
 -- Instructions with the numbers of their maps: they are legal, stand where they stood, and refer to these maps.
-use Rattle.std.proofs.Common.{◌≡◌, ◌∙◌, ℕ, ℤ, zero, suc, ◌+◌, ◌-◌, ◌*◌, ◌/◌, ◌%◌, ◌^◌, ◌<◌, ◌≤◌, ◌&&◌, ◌++◌, Bool, true, false, ltb, Option, Some, None, List, [], ◌∷◌, get_or, map, refl, sym, ap, subst, arith}
+use Rattle.std.proofs.Common.{◌≡◌, ◌∙◌, ℕ, ℤ, zero, suc, ◌+◌, ◌-◌, ◌*◌, ◌/◌, ◌%◌, ◌^◌, ◌<◌, ◌≤◌, ◌&&◌, ◌++◌, Bool, true, false, cond, ltb, Option, Some, None, List, [], ◌∷◌, get_or, map, refl, sym, ap, subst, arith}
 use Rattle.std.proofs.Math.Facts.{sfits_to_z, of_z-to_z, Fits-bits, Fits-lt-pow, Fits-of_z}
 use Rattle.std.proofs.lemmas.Bool.{eqb-true, ltb-false}
 use Rattle.std.proofs.lemmas.List.Elements.{All-cons, All-head, All-nil, All-tail}
@@ -44,7 +44,7 @@ legal_low LoadImm dst src offset imm new e fits h = record {
 legal_low op dst src offset imm new e fits h = absurd (cc)
 
 -- a load keeps its range
-load_fits : (op : Op) (dst src : ℕ) (offset imm : ℤ) → is_load_op op ≡ true → IsInsn (record { op = op; dst = dst; src = src; offset = offset; imm = imm }) → FitsSigned w64 imm
+pub load_fits : (op : Op) (dst src : ℕ) (offset imm : ℤ) → is_load_op op ≡ true → IsInsn (record { op = op; dst = dst; src = src; offset = offset; imm = imm }) → FitsSigned w64 imm
 load_fits LoadImm dst src offset imm e h = h.imm_range
 load_fits op dst src offset imm e h = absurd (cc)
 
@@ -71,7 +71,7 @@ pub same_op : (o : Option ℕ) (i : Insn) → (with_low o i).op ≡ i.op
 same_op None i = refl
 same_op (Some n) i = refl
 
-same_src : (o : Option ℕ) (i : Insn) → (with_low o i).src ≡ i.src
+pub same_src : (o : Option ℕ) (i : Insn) → (with_low o i).src ≡ i.src
 same_src None i = refl
 same_src (Some n) i = refl
 
@@ -110,6 +110,19 @@ numbered_units number at (i ∷ is) =
     ap (λ op. units_of op + unit_count (numbered number (at + units_of i.op) is)) (same_op (number at) i)
     ∙ ap (λ n. units_of i.op + n) (numbered_units number (at + units_of i.op) is)
 
+-- no instruction stands where none stood
+nowhere : (number : ℕ → Option ℕ) (at : ℕ) (is : List Insn) (p : ℕ) → insn_at is p ≡ None → insn_at (numbered number at is) p ≡ None
+nowhere number at [] p e = refl
+nowhere number at (j ∷ is) zero e = absurd (cc)
+nowhere number at (j ∷ is) (suc m) e =
+    ap (λ op. cond (ltb (suc m) (units_of op)) None (insn_at (numbered number (at + units_of j.op) is) (suc m - units_of op))) (same_op (number at) j)
+    ∙ by_test (nowhere number (at + units_of j.op) is (suc m - units_of j.op)) (ltb (suc m) (units_of j.op)) refl
+  where
+    by_test : (insn_at is (suc m - units_of j.op) ≡ None → insn_at (numbered number (at + units_of j.op) is) (suc m - units_of j.op) ≡ None)
+        → (b : Bool) → ltb (suc m) (units_of j.op) ≡ b → cond b None (insn_at (numbered number (at + units_of j.op) is) (suc m - units_of j.op)) ≡ None
+    by_test behind true t = refl
+    by_test behind false t = behind (sym (insn_at-skip j is (suc m) (ltb-false (suc m) (units_of j.op) t)) ∙ e)
+
 -- an instruction stands where it stood
 pub numbered_at : (number : ℕ → Option ℕ) (at : ℕ) (is : List Insn) (p : ℕ) (i : Insn) → insn_at is p ≡ Some i
     → insn_at (numbered number at is) p ≡ Some (with_low (number (at + p)) i)
@@ -132,6 +145,18 @@ numbered_at number at (j ∷ is) (suc m) i e = by_test (λ q f. numbered_at numb
         ∙ ap (λ op. insn_at (numbered number (at + units_of j.op) is) (suc m - units_of op)) units
         ∙ behind (suc m - units_of j.op) later
         ∙ ap (λ q. Some (with_low (number q) i)) back
+
+some_same : {x y : Insn} → Some x ≡ Some y → x ≡ y
+some_same e = cc
+
+-- and what stands there is one that stood there
+pub numbered_back : (number : ℕ → Option ℕ) (at : ℕ) (is : List Insn) (p : ℕ) (j : Insn) → insn_at (numbered number at is) p ≡ Some j
+    → (i : Insn) × (insn_at is p ≡ Some i) × (with_low (number (at + p)) i ≡ j)
+numbered_back number at is p j e = by_place (insn_at is p) refl
+  where
+    by_place : (o : Option Insn) → insn_at is p ≡ o → (i : Insn) × (insn_at is p ≡ Some i) × (with_low (number (at + p)) i ≡ j)
+    by_place (Some i) f = (i, f, some_same (sym (numbered_at number at is p i f) ∙ e))
+    by_place None f = absurd (cc (nowhere number at is p f, e))
 
 -- it refers to the map of its number
 pub numbered_refers : (number : ℕ → Option ℕ) (is : List Insn) (maps p n : ℕ) (i : Insn) → All IsInsn is → insn_at is p ≡ Some i → IsInsn i → number p ≡ Some n

@@ -1,10 +1,9 @@
 -- What the relocations of a function say of its places, one relocation after the other.
-use Rattle.std.proofs.Common.{◌≡◌, ◌∙◌, ℕ, pos, zero, suc, ◌+◌, ◌-◌, ◌/◌, ◌<◌, ◌≤◌, ◌==◌, inl, inr, Bool, true, false, cond, ltb, Option, Some, None, List, [], ◌∷◌, ◌++◌, length, get_or, take, drop, map, refl, sym, ap, subst, arith}
-use Rattle.std.proofs.lemmas.Bool.{cases_lt, le-ltb}
-use Rattle.std.proofs.lemmas.List.{drop_all, get_or_past, take_at}
+use Rattle.std.proofs.Common.{◌≡◌, ◌∙◌, ℕ, pos, zero, suc, ◌+◌, ◌-◌, ◌/◌, ◌<◌, ◌≤◌, ◌==◌, inl, inr, Bool, true, false, cond, ltb, Option, Some, None, List, ◌∷◌, ◌++◌, length, get_or, take, drop, refl, sym, ap, subst, arith}
+use Rattle.std.proofs.lemmas.Bool.{le-ltb}
+use Rattle.std.proofs.lemmas.List.{drop_all, take_at}
 use Rattle.std.proofs.lemmas.List.FromFn.{fill_by_all, get_or-map-range_with_len, length-map-range_with_len}
 use Rattle.std.proofs.Math.Seq.{drop-cons}
-use Rattle.std.specs.List.{range_with_len}
 use Rattle.std.specs.Option.{option_map_or, option_or}
 use Rattle.bpf_isa.specs.declared.operation.Op.TheVariants.{LoadImm}
 use Rattle.bpf_isa.specs.declared.instruction.Insn.{Insn}
@@ -18,12 +17,11 @@ use Rattle.elf_view.specs.File.{e_shnum, entry_count, rel_at, section_bytes}
 use Rattle.xdp_object.specs.declared.relocated.Relocated.{Relocated}
 use Rattle.xdp_object.specs.declared.relocated.Relocated.TheVariants.{Untouched, Refers, Unknown}
 use Rattle.xdp_object.specs.declared.error.ObjectError.{ObjectError}
-use Rattle.xdp_object.specs.Maps.{map_number, numbered, with_low}
-use Rattle.xdp_object.specs.Relocations.{both, first_unknown, is_map_relocation, is_map_symbol, place_in, places_of, reference_by, references_from, relocated_at, relocates, relocation_of, said_at, said_by_section, said_by_table, said_of, together, unknown_at, unknown_by, unknown_in}
+use Rattle.xdp_object.specs.Relocations.{both, is_map_relocation, is_map_symbol, place_in, places_of, relocated_at, relocates, relocation_of, said_at, said_by_section, said_by_table, said_of, together, unknown_at, unknown_by, unknown_in}
 use Rattle.xdp_object.proofs.Opened.{and_right}
 use Rattle.xdp_object.proofs.FaultLaws.{first_there, option_or-assoc}
 use Rattle.list_laws.specs.Firsts.{first_from}
-use Rattle.list_laws.proofs.FirstLaws.{first_from-next, first_from-none}
+use Rattle.list_laws.proofs.FirstLaws.{first_from-next}
 
 both-none : (a : Relocated) → both a Untouched ≡ a
 both-none Untouched = refl
@@ -247,34 +245,3 @@ places_of_maps bytes f places p n same below said =
     let few : p < f.size / 8 = omega (arith, below, ap length same, length-map-range_with_len (relocated_at bytes f) 0 (f.size / 8)) in
     place_of_map bytes f p n
     (sym (get_or-map-range_with_len (relocated_at bytes f) 0 (f.size / 8) p p Untouched few (omega arith)) ∙ ap (λ ps. get_or ps p Untouched) (sym same) ∙ said)
-
--- ---- a function with no relocations
-
-pub record UntouchedAll (places : List Relocated) : Type 0 where
-  pub at : (p : ℕ) → said_at places p ≡ Untouched
-
-pub untouched_places : (bytes : List ℕ) (f : Symbol) → ((p : ℕ) → relocated_at bytes f p ≡ Untouched) → UntouchedAll (places_of bytes f)
-unfolding places_of
-untouched_places bytes f h = record {
-  at = λ p. elim (cases_lt p (f.size / 8)) [
-    | inl below ↦ get_or-map-range_with_len (relocated_at bytes f) 0 (f.size / 8) p p Untouched below (omega arith) ∙ h p
-    | inr past ↦ get_or_past (map (relocated_at bytes f) (range_with_len 0 (f.size / 8))) p Untouched
-        (omega (arith, past, length-map-range_with_len (relocated_at bytes f) 0 (f.size / 8)))
-  ];
-}
-
-pub untouched_known : (places : List Relocated) (insns : List Insn) → UntouchedAll places → first_unknown places insns ≡ None
-unfolding first_unknown
-untouched_known places insns h = first_from-none (unknown_at places insns) 0 (length places) (λ k low. ap (λ r. unknown_by k r (insn_at insns k)) (h.at k))
-
-pub untouched_references : (places : List Relocated) (i n : ℕ) → UntouchedAll places → references_from places i n ≡ []
-untouched_references places i zero h = refl
-untouched_references places i (suc n) h =
-    ap (λ r. reference_by i r ++ references_from places (suc i) n) (h.at i) ∙ untouched_references places (suc i) n h
-
-pub untouched_numbers : (places : List Relocated) (symbols : List ℕ) (at : ℕ) (is : List Insn) → UntouchedAll places
-    → numbered (λ p. map_number symbols (said_at places p)) at is ≡ is
-untouched_numbers places symbols at [] h = refl
-untouched_numbers places symbols at (i ∷ is) h =
-    ap (λ r. with_low (map_number symbols r) i ∷ numbered (λ p. map_number symbols (said_at places p)) (at + units_of i.op) is) (h.at at)
-    ∙ ap (λ js. i ∷ js) (untouched_numbers places symbols (at + units_of i.op) is h)
