@@ -103,9 +103,9 @@ window_held decls packet v ps h k m a cs bs fits whole same_bytes room held =
 
 -- ---- pointers in memory
 
-pub pointed_length : (ps : List Pointer) → length (pointed ps) ≡ length ps
+pub pointed_there : (ps : List Pointer) (p : ℕ) → p < length (pointed ps) → p < length ps
 unfolding pointed
-pointed_length ps = length-map ps pointer_of
+pointed_there ps p h = omega (arith, h, length-map ps pointer_of)
 
 pub pointed_at : (ps : List Pointer) (p : ℕ) (d : Pointer) → p < length ps → pointer_at (pointed ps) p ≡ pointer_of (get_or ps p d)
 unfolding pointed
