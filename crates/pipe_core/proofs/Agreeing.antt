@@ -141,7 +141,7 @@ row_made keep b plan t packet r k (c ∷ cs) h e n m =
         no_case : false ≡ true → ⊥
         no_case e = cc
 
-keeps_other : (b : Build) (r : ℕ) (t : TableState) (packet : PacketIn) (k : ℕ) (cs : List CellView) (h : Held) → k + length cs ≡ length b.program.cells → (c : ℕ) → (b.plan.row c ≢ r) ⊎ (length b.program.cells ≤ c) →
+pub keeps_other : (b : Build) (r : ℕ) (t : TableState) (packet : PacketIn) (k : ℕ) (cs : List CellView) (h : Held) → k + length cs ≡ length b.program.cells → (c : ℕ) → (b.plan.row c ≢ r) ⊎ (length b.program.cells ≤ c) →
     SameCell h (made_from b.program b.plan.row r t packet k cs h) c
 keeps_other b r t packet k [] h n c why = record { value = refl; pointer = refl }
 keeps_other b r t packet k (d ∷ cs) h n c why =

@@ -6,6 +6,8 @@ ghost use Rattle.pipe_core.specs.Sequential.{RunsWithoutMaps, MapsStay};
 ghost use Rattle.pipe_core.specs.Drive.{EndsWithoutMaps};
 ghost use Rattle.pipe_core.specs.Sending.{AlwaysSendsBack};
 ghost use Rattle.pipe_core.specs.Agreement.{EnteringAgrees, StrikingAgrees};
+ghost use Rattle.pipe_core.specs.Agreed.{KeepsAgreed, PathsAreMade};
+ghost use Rattle.pipe_core.specs.Marked.{KeepsMarked, AreAlwaysMarked};
 
 /// The pipe holds frames and answers in the order in which the frames came, and each answer is that of its own packet.
 pub fn in_order()
@@ -56,3 +58,20 @@ pub fn agreement()
 pub fn sends_back()
     ensures { AlwaysSendsBack }
 {}
+
+/// Over every list of clocks a mark stands exactly where the guard is not known as 0 and the packet has seen, since it was injected, a
+/// change that touched what it had read.
+pub fn marks()
+    ensures clock { KeepsMarked }
+    ensures always { AreAlwaysMarked }
+{}
+
+/// Packets hold of the maps what these hold, where no mark stands and the path is not known to be another: of those of now before the
+/// commit place, and from there on of those before the packet's own operations. What stays at the commit place has no mark.
+pub fn agreed()
+    ensures clock { KeepsAgreed }
+    ensures path { PathsAreMade }
+{
+    agreement();
+    hazard_core::laws::changes();
+}
