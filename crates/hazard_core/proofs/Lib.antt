@@ -1,4 +1,11 @@
-pub mod Unmoved
 pub mod Changing
+pub mod Unmoved
 pub mod Alike
 pub mod Standing
+pub mod Slots
+pub mod Lookups
+pub mod Effects
+pub mod Writing
+pub mod Finding
+pub mod Committing
+pub mod Turns

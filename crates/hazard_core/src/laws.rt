@@ -2,6 +2,7 @@
 
 ghost use Rattle.hazard_core.specs.Standing.{TablesStand};
 ghost use Rattle.hazard_core.specs.Keeping.{ReadsKeep};
+ghost use Rattle.hazard_core.specs.Replay.{CommitsInTurn};
 ghost use Rattle.hazard_core.specs.Changes.{Unmoved, CommitsChange, HostChanges};
 
 /// A read that a change does not touch finds what it found before.
@@ -23,6 +24,14 @@ pub fn reads_keep()
 /// The tables that a load leaves stand for the maps that were loaded.
 pub fn tables_stand()
     ensures { TablesStand }
+{
+    xdp_maps::laws::index_laws();
+}
+
+/// Of a packet that holds on its path what it finds on the tables, the operations, committed one after another, each write a slot of their
+/// own key, and leave tables.
+pub fn in_turn()
+    ensures { CommitsInTurn }
 {
     xdp_maps::laws::index_laws();
 }
