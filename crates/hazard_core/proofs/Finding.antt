@@ -55,7 +55,7 @@ asked_bytes p decls h j fit l =
 
 -- ---- folds over the earlier operations
 
-numbers_more : (from n : ℕ) → numbers from (suc n) ≡ numbers from n ++ (from + n) ∷ []
+pub numbers_more : (from n : ℕ) → numbers from (suc n) ≡ numbers from n ++ (from + n) ∷ []
 numbers_more from zero = ap (λ k. k ∷ []) (omega arith)
 numbers_more from (suc n) = ap (λ l. from ∷ l) (numbers_more (suc from) n ∙ ap (λ k. numbers (suc from) n ++ k ∷ []) (omega arith))
 

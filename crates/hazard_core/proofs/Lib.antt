@@ -9,3 +9,5 @@ pub mod Writing
 pub mod Finding
 pub mod Committing
 pub mod Turns
+pub mod Seeing
+pub mod Loading

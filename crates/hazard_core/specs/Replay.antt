@@ -1,6 +1,6 @@
 -- The operations of one packet, one after another.
-use Rattle.std.specs.Prelude.{◌≡◌, ℕ, zero, suc, ◌<◌, ◌≤◌, ◌==◌, Bool, true, false, ◌&&◌, ◌||◌, if◌then◌else◌, List, length, take}
-use Rattle.std.specs.List.{filter}
+use Rattle.std.specs.Prelude.{◌≡◌, ℕ, zero, suc, ◌<◌, ◌≤◌, ◌==◌, nat_lt, Bool, true, false, ◌&&◌, ◌||◌, if◌then◌else◌, List, length, take}
+use Rattle.std.specs.List.{filter, list_all}
 use Rattle.xdp_maps.specs.declared.decl.MapDecl.{MapDecl}
 use Rattle.xdp_maps.specs.declared.decl.MapKind.{MapKind}
 use Rattle.xdp_maps.specs.declared.decl.MapKind.TheVariants.{Hash}
@@ -11,7 +11,7 @@ use Rattle.cell_core.specs.Sites.{ProgramView, site_at, records, after}
 use Rattle.cell_core.specs.Formed.{AllFit}
 use Rattle.cell_core.specs.Rows.{numbers}
 use Rattle.hazard_core.specs.Tables.{TableState, decl_of, maps_of}
-use Rattle.hazard_core.specs.Held.{Held, held_value, pointer_in, is_null, guard_on, asked_key, access_pointer, found_cell, answer_cell, is_update, is_delete, writes}
+use Rattle.hazard_core.specs.Held.{Held, held_value, pointer_in, is_null, guard_on, asked_key, access_pointer, found_cell, answer_cell, is_update, is_delete, writes, parts, pending}
 use Rattle.hazard_core.specs.Overlay.{found_pointer, answer_over}
 use Rattle.hazard_core.specs.Commits.{committed, taken_after}
 use Rattle.hazard_core.specs.Changes.{IsRightCommit}
@@ -94,3 +94,10 @@ abbrev pub CommitsInTurn : Type 0
 CommitsInTurn =
     (p : ProgramView) (t : TableState) (taken : List ℕ) (h : Held) → AreTables t → AllFit t.decls p.sites → length taken ≡ length p.sites → HoldsReads p t h
     → (j : ℕ) → j ≤ length p.sites → IsInTurn p t taken h j
+
+-- A read in row r that has behind it each earlier operation of its map that writes finds what it finds over all of them.
+abbrev pub SeesEarlier : Type 0
+SeesEarlier =
+    (p : ProgramView) (row : ℕ → ℕ) (r j : ℕ) (t : TableState) (h : Held)
+    → ((i : ℕ) → i < j → (site_at p.sites i).map ≡ (site_at p.sites j).map → writes p t.decls h i ≡ true → list_all (λ c. nat_lt (row c) r) (parts p i) ≡ true)
+    → (found_pointer p t h (pending p row r j) j ≡ found_pointer p t h (earlier p j) j) × (answer_over p t h (pending p row r j) j ≡ answer_over p t h (earlier p j) j)

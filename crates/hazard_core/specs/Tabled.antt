@@ -4,7 +4,8 @@ use Rattle.xdp_maps.specs.declared.decl.MapDecl.{MapDecl}
 use Rattle.xdp_maps.specs.declared.decl.MapKind.{MapKind}
 use Rattle.xdp_maps.specs.declared.decl.MapKind.TheVariants.{Hash, Array}
 use Rattle.xdp_maps.specs.Contents.{IsWithinLimits, IsBytes, index_key}
-use Rattle.hazard_core.specs.Tables.{Slot, TableState, decl_of, table_at, slot_at, has_key}
+use Rattle.xdp_maps.specs.State.{MapState, IsSound}
+use Rattle.hazard_core.specs.Tables.{Slot, TableState, decl_of, table_at, slot_at, has_key, tables_of}
 
 -- an array has its index in each slot
 abbrev pub IsFilledTable : MapKind → List Slot → Type 0
@@ -22,3 +23,7 @@ pub record AreTables (t : TableState) : Type 0 where
   pub beside : length t.tables ≡ length t.decls
   pub limits : (m : ℕ) → m < length t.decls → IsWithinLimits (decl_of t.decls m)
   pub each : (m : ℕ) → m < length t.decls → IsTable (decl_of t.decls m) (table_at t m)
+
+-- What a load leaves are such tables.
+abbrev pub LoadsTables : Type 0
+LoadsTables = (maps : MapState) → IsSound maps → AreTables (tables_of maps)

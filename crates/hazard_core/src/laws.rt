@@ -2,7 +2,8 @@
 
 ghost use Rattle.hazard_core.specs.Standing.{TablesStand};
 ghost use Rattle.hazard_core.specs.Keeping.{ReadsKeep};
-ghost use Rattle.hazard_core.specs.Replay.{CommitsInTurn};
+ghost use Rattle.hazard_core.specs.Tabled.{LoadsTables};
+ghost use Rattle.hazard_core.specs.Replay.{CommitsInTurn, SeesEarlier};
 ghost use Rattle.hazard_core.specs.Changes.{Unmoved, CommitsChange, HostChanges};
 
 /// A read that a change does not touch finds what it found before.
@@ -32,6 +33,18 @@ pub fn tables_stand()
 /// own key, and leave tables.
 pub fn in_turn()
     ensures { CommitsInTurn }
+{
+    xdp_maps::laws::index_laws();
+}
+
+/// A read that has behind it each earlier operation of its map that writes finds what it finds over all of them.
+pub fn sees_earlier()
+    ensures { SeesEarlier }
+{}
+
+/// What a load leaves are tables of the declarations: as long as the capacity, with no key twice.
+pub fn loads_tables()
+    ensures { LoadsTables }
 {
     xdp_maps::laws::index_laws();
 }
