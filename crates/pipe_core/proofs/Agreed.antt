@@ -119,10 +119,10 @@ entered_clean b t k c x j l e =
     marked_of (λ j. marked_at x j && not (known_off b.plan.row k g (site_at b.program.sites j))) (length b.program.sites) j l
     ∙ ap (λ d. d && not (known_off b.plan.row k g (site_at b.program.sites j))) e
 
-record Known (b : Build) (w : Watched) (k : ℕ) (c : Arrival) (x : Packet) : Type 0 where
-  marks : MarksAre b w.trace.state.tables.decls (w.seen k) k x
-  clean : IsClean b k x
-  agrees : Agrees b (w.views k) (packet_of c) (suc k) x
+pub record Known (b : Build) (w : Watched) (k : ℕ) (c : Arrival) (x : Packet) : Type 0 where
+  pub marks : MarksAre b w.trace.state.tables.decls (w.seen k) k x
+  pub clean : IsClean b k x
+  pub agrees : Agrees b (w.views k) (packet_of c) (suc k) x
 
 both_placed : (P Q R : ℕ → Arrival → Packet → Type 0) → ((k : ℕ) (c : Arrival) (x : Packet) → P k c x → Q k c x → R k c x) → (fs : List Arrival) (k : ℕ) (xs : List (Option Packet)) → Placed P fs k xs → Placed Q fs k xs → Placed R fs k xs
 both_placed P Q R join fs k [] p q = tt
@@ -132,7 +132,7 @@ both_placed P Q R join fs k (Some x ∷ xs) p q = (join k _ x p.0 q.0, both_plac
 pub each_placed : (P Q : ℕ → Arrival → Packet → Type 0) → ((k : ℕ) (c : Arrival) (x : Packet) → P k c x → Q k c x) → (fs : List Arrival) (k : ℕ) (xs : List (Option Packet)) → Placed P fs k xs → Placed Q fs k xs
 each_placed P Q f fs k xs p = both_placed P P Q (λ k c x h g. f k c x h) fs k xs p p
 
-all_known : (b : Build) (w : Watched) → IsAgreed b w → Placed (Known b w) w.trace.state.frames 0 w.trace.state.places
+pub all_known : (b : Build) (w : Watched) → IsAgreed b w → Placed (Known b w) w.trace.state.frames 0 w.trace.state.places
 all_known b w h =
     let s = w.trace.state in
     both_placed (λ k c x. MarksAre b s.tables.decls (w.seen k) k x × IsClean b k x) (λ k c x. Agrees b (w.views k) (packet_of c) (suc k) x) (Known b w) (λ k c x p q. record { marks = p.0; clean = p.1; agrees = q }) s.frames 0 s.places
@@ -140,7 +140,7 @@ all_known b w h =
     h.agree
 
 -- from the commit place on a packet that stays has no mark
-unmarked : (b : Build) → IsPipeable b → (w : Watched) (rest : List (Option Packet)) (k : ℕ) (c : Arrival) (x : Packet) → b.plan.commit ≤ k → Settled b rest (Known b w) k c x → (j : ℕ) → j < length b.program.sites → marked_at x j ≡ false
+pub unmarked : (b : Build) → IsPipeable b → (w : Watched) (rest : List (Option Packet)) (k : ℕ) (c : Arrival) (x : Packet) → b.plan.commit ≤ k → Settled b rest (Known b w) k c x → (j : ℕ) → j < length b.program.sites → marked_at x j ≡ false
 unmarked b fit w rest k c x up m j l = elim (cases_lt b.plan.commit k) [
   | inl past ↦ m.holds.clean past j l
   | inr low ↦
@@ -262,7 +262,7 @@ keeps_agreed entering striking changes b fit i silent w o right h =
 
 -- ---- the path
 
-path_made : (b : Build) → IsPipeable b → (t : TableState) (packet : PacketIn) (k : ℕ) (x : Packet) → b.plan.commit ≤ k → ((j : ℕ) → j < length b.program.sites → marked_at x j ≡ false) → Agrees b t packet (suc k) x → IsPathMade b t packet x
+pub path_made : (b : Build) → IsPipeable b → (t : TableState) (packet : PacketIn) (k : ℕ) (x : Packet) → b.plan.commit ≤ k → ((j : ℕ) → j < length b.program.sites → marked_at x j ≡ false) → Agrees b t packet (suc k) x → IsPathMade b t packet x
 path_made b fit t packet k x up none a c j l e on =
     let low = fit.read_rows c j l e in
     let n = fit.reads.sites c j l e in

@@ -72,11 +72,11 @@ first_in test (x ∷ xs) l = by (test x) refl l (first_in test xs)
     by true e l more = e
     by false e l more = next (1 + n) (omega arith) (more (omega arith))
 
-found_is : (j : ℕ) (op : Operator) → is_found_of j op ≡ true → op ≡ Found j
+pub found_is : (j : ℕ) (op : Operator) → is_found_of j op ≡ true → op ≡ Found j
 found_is j (Found i) e = ap Found ((Decides-eqb i j).0 e)
 found_is j op e = cc
 
-answer_is : (j : ℕ) (op : Operator) → is_answer_of j op ≡ true → op ≡ Answer j
+pub answer_is : (j : ℕ) (op : Operator) → is_answer_of j op ≡ true → op ≡ Answer j
 answer_is j (Answer i) e = ap Answer ((Decides-eqb i j).0 e)
 answer_is j op e = cc
 

@@ -10,3 +10,4 @@ pub mod Watched
 pub mod Marked
 pub mod Pipeable
 pub mod Agreed
+pub mod Right

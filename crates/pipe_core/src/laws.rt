@@ -7,6 +7,7 @@ ghost use Rattle.pipe_core.specs.Drive.{EndsWithoutMaps};
 ghost use Rattle.pipe_core.specs.Sending.{AlwaysSendsBack};
 ghost use Rattle.pipe_core.specs.Agreement.{EnteringAgrees, StrikingAgrees};
 ghost use Rattle.pipe_core.specs.Agreed.{KeepsAgreed, PathsAreMade};
+ghost use Rattle.pipe_core.specs.Right.{TurnsAreRight, KeepsRight, IsAlwaysRight};
 ghost use Rattle.pipe_core.specs.Marked.{KeepsMarked, AreAlwaysMarked};
 
 /// The pipe holds frames and answers in the order in which the frames came, and each answer is that of its own packet.
@@ -74,4 +75,17 @@ pub fn agreed()
 {
     agreement();
     hazard_core::laws::changes();
+}
+
+/// Over every list of clocks with a silent host the tables are tables of their declarations, packets agree with those of their places, and
+/// what is committed is right.
+pub fn right()
+    ensures turn { TurnsAreRight }
+    ensures clock { KeepsRight }
+    ensures always { IsAlwaysRight }
+{
+    agreed();
+    hazard_core::laws::in_turn();
+    hazard_core::laws::sees_earlier();
+    hazard_core::laws::loads_tables();
 }
