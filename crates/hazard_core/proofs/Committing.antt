@@ -26,7 +26,8 @@ use Rattle.hazard_core.specs.Commits.{with_slot, makes_entry, slot_under, writte
 use Rattle.hazard_core.specs.Changes.{with_tables, IsRightCommit}
 use Rattle.hazard_core.specs.Tabled.{IsFilledTable, IsTable, AreTables}
 use Rattle.hazard_core.specs.Replay.{Replayed, replay_one, replayed, earlier, HoldsReads, is_access, asks, says_done, IsInTurn, CommitsInTurn}
-use Rattle.hazard_core.proofs.Slots.{Stands, pointer_is, pointer_only, pointer_no_pending, has_free, free_is_unused}
+use Rattle.hazard_core.proofs.Changing.{pointer_stays}
+use Rattle.hazard_core.proofs.Slots.{Stands, alone, comes, goes, pointer_null, pointer_is, pointer_only, pointer_no_pending, has_free, free_is_unused}
 use Rattle.hazard_core.proofs.Effects.{resolve, key_at, adds_at, takes_at, Follows, map_of, key_of, Effect, effect_follows}
 use Rattle.hazard_core.proofs.Writing.{insert_effect, write_effect, remove_effect}
 use Rattle.hazard_core.proofs.Finding.{asked_bytes, array_key, key_found, found_key, adds_fold, takes_fold, Reaches, reaches}
@@ -36,7 +37,7 @@ no_case e = cc
 
 -- ---- what a done answer says
 
-hash_tests : (a b c d e : Bool) → (cast_unsigned w64 (number_of (if a then Some EINVAL else if b && c then Some EEXIST else if d && not c then Some ENOENT else if not c && e then Some E2BIG else None)) == 0) ≡ true → (a ≡ false) × (c ≡ false → e ≡ false)
+pub hash_tests : (a b c d e : Bool) → (cast_unsigned w64 (number_of (if a then Some EINVAL else if b && c then Some EEXIST else if d && not c then Some ENOENT else if not c && e then Some E2BIG else None)) == 0) ≡ true → (a ≡ false) × (c ≡ false → e ≡ false)
 hash_tests true b c d e q = cc
 hash_tests false true true d e q = cc
 hash_tests false false true d e q = (refl, λ z. absurd (no_case z))
@@ -46,12 +47,12 @@ hash_tests false true false false true q = cc
 hash_tests false false false false true q = cc
 hash_tests false b false false false q = (refl, λ z. refl)
 
-array_tests : (a b c : Bool) → (cast_unsigned w64 (number_of (if a then Some EINVAL else if b then Some E2BIG else if c then Some EEXIST else None)) == 0) ≡ true → b ≡ false
+pub array_tests : (a b c : Bool) → (cast_unsigned w64 (number_of (if a then Some EINVAL else if b then Some E2BIG else if c then Some EEXIST else None)) == 0) ≡ true → b ≡ false
 array_tests true b c q = cc
 array_tests false true c q = cc
 array_tests false false c q = refl
 
-delete_tests : (c : Bool) → (cast_unsigned w64 (delete_answer Hash c) == 0) ≡ true → c ≡ true
+pub delete_tests : (c : Bool) → (cast_unsigned w64 (delete_answer Hash c) == 0) ≡ true → c ≡ true
 delete_tests true q = refl
 delete_tests false q = cc
 
@@ -103,6 +104,9 @@ module _ (laws : IndexLaws) (p : ProgramView) (t : TableState) (h : Held) (base 
     pub new : slot_as (site_at p.sites j).act (makes_entry p (with_tables t ts) h j) (asked t.decls h (site_at p.sites j)) (asked_key t.decls h (site_at p.sites j)) (slot_at (get_or ts (map_of p t h j) []) n) ≡ s
     pub took : taken_after p (with_tables t ts) taken h j ≡ more
     pub right : IsRightCommit p (with_tables t ts) taken h j
+    pub lands : is_delete (site_at p.sites j).act ≡ false → slot_pointer (slice_set (get_or ts (map_of p t h j) []) n s) (key_of p t h j) ≡ InSlot n
+    pub gone : is_delete (site_at p.sites j).act ≡ true → slot_pointer (slice_set (get_or ts (map_of p t h j) []) n s) (key_of p t h j) ≡ Null
+    pub stood : is_update (site_at p.sites j).act ≡ false → slot_pointer (get_or ts (map_of p t h j) []) (key_of p t h j) ≡ InSlot n
 
   module _ (j : ℕ) (ts : List (List Slot)) (taken : List ℕ) (l : j < length p.sites) (f : Follows p t h j ts taken) (on : writes p t.decls h j ≡ true) where
     abbrev m : ℕ
@@ -153,6 +157,9 @@ module _ (laws : IndexLaws) (p : ProgramView) (t : TableState) (h : Held) (base 
         used = λ d. absurd (no_case (sym d ∙ stays));
         key = λ d. absurd (no_case (sym d ∙ stays));
       };
+      lands = λ d. pointer_stays slots r.n (record (slot_at slots r.n) { value = value_as (asked t.decls h (site_at p.sites j)) (slot_at slots r.n).value }) (key_of p t h j) (stands r.n r.at).in_range refl ∙ was_there;
+      gone = λ d. absurd (no_case (sym d ∙ stays));
+      stood = λ d. was_there;
     }
       where
         r : Resolved taken j (key_at p t h (map_of p t h j) (key_of p t h j) j)
@@ -160,6 +167,9 @@ module _ (laws : IndexLaws) (p : ProgramView) (t : TableState) (h : Held) (base 
 
         there : written_slot p (with_tables t ts) taken h j ≡ r.n
         there = ap (slot_under slots taken j) (same ∙ at) ∙ r.under slots
+
+        was_there : slot_pointer (get_or ts (map_of p t h j) []) (key_of p t h j) ≡ InSlot r.n
+        was_there = sym (f.keys (map_of p t h j) (key_of p t h j) in_map) ∙ r.at
 
         makes : makes_entry p (with_tables t ts) h j ≡ false
         makes = ap (λ q. is_update (site_at p.sites j).act && same_pointer q (Pending j)) (same ∙ at) ∙ ap (λ c. is_update (site_at p.sites j).act && c) r.apart ∙ and_false (is_update (site_at p.sites j).act)
@@ -189,6 +199,9 @@ module _ (laws : IndexLaws) (p : ProgramView) (t : TableState) (h : Held) (base 
         used = λ d. ap (λ k. (slot_at slots k).used) there ∙ st_parts.0;
         key = λ d. ap (λ k. (slot_at slots k).key) there ∙ (bytes_eq-Decides (slot_at slots r.n).key (key_of p t h j)).0 st_parts.1;
       };
+      lands = λ d. absurd (no_case (sym (ap is_delete is) ∙ d));
+      gone = λ d. goes slots r.n (record (slot_at slots r.n) { used = false }) (key_of p t h j) st.in_range refl (λ i m away. alone (decl_of t.decls (map_of p t h j)) slots (f.tables (map_of p t h j) in_map) (key_of p t h j) r.n i st.in_range m away st.has);
+      stood = λ d. sym (f.keys (map_of p t h j) (key_of p t h j) in_map) ∙ r.at;
     }
       where
         r : Resolved taken j (key_at p t h (map_of p t h j) (key_of p t h j) j)
@@ -222,6 +235,10 @@ module _ (laws : IndexLaws) (p : ProgramView) (t : TableState) (h : Held) (base 
         used = λ d. absurd (no_case (sym d ∙ ap is_delete is));
         key = λ d. absurd (no_case (sym d ∙ ap is_delete is));
       };
+      lands = λ d. comes slots (free_slot slots) (record { used = true; key = key_of p t h j; value = value_as (asked t.decls h (site_at p.sites j)) (slot_at slots (free_slot slots)).value }) (key_of p t h j) (has_free slots room)
+          ((bytes_eq-Decides (key_of p t h j) (key_of p t h j)).1 refl) (λ i m away. pointer_null slots (key_of p t h j) (sym (f.keys (map_of p t h j) (key_of p t h j) in_map) ∙ ap (resolve taken) none) i m);
+      gone = λ d. absurd (no_case (sym d ∙ ap is_delete is));
+      stood = λ d. absurd (no_case (sym (ap is_update is) ∙ d));
     }
       where
         itself : (j == j) ≡ true
@@ -248,11 +265,11 @@ module _ (laws : IndexLaws) (p : ProgramView) (t : TableState) (h : Held) (base 
     operands = map_list (held_value h) (site_at p.sites j).operands
 
     -- what an operation answers, were it the one of site j
-    abbrev answered : Act → ℕ
+    abbrev pub answered : Act → ℕ
     answered a = answer_as a (operation_with (decl_of t.decls (site_at p.sites j).map) a (map_list (held_value h) (site_at p.sites j).key) (map_list (held_value h) (site_at p.sites j).operands)) p t h (earlier p j) j
 
     -- a site that says that it was done answered 0
-    done : says_done (site_at p.sites j).act (decl_of t.decls (map_of p t h j)).kind ≡ true → (held_value h (answer_cell p.cells j) == 0) ≡ true → (a : Act) → (site_at p.sites j).act ≡ a → (answered a == 0) ≡ true
+    pub done : says_done (site_at p.sites j).act (decl_of t.decls (map_of p t h j)).kind ≡ true → (held_value h (answer_cell p.cells j) == 0) ≡ true → (a : Act) → (site_at p.sites j).act ≡ a → (answered a == 0) ≡ true
     done says done_zero a is = ap (λ (a : Act). answered a == 0) (sym is) ∙ sym (reads.done j l guard says) ∙ done_zero
 
     update_hash : (site_at p.sites j).act ≡ act.Update → (decl_of t.decls (map_of p t h j)).kind ≡ Hash → (held_value h (answer_cell p.cells j) == 0) ≡ true → Commit j ts taken

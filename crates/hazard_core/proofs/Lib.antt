@@ -11,3 +11,4 @@ pub mod Committing
 pub mod Turns
 pub mod Seeing
 pub mod Loading
+pub mod Leaving

@@ -85,7 +85,7 @@ module _ (laws : IndexLaws) (p : ProgramView) (t : TableState) (h : Held) (base 
   abbrev Com : (j : ℕ) (ts : List (List Slot)) (taken : List ℕ) → Type 0
   Com = Commit laws p t h base fit reads
 
-  committed_is : (j : ℕ) (ts : List (List Slot)) (taken : List ℕ) (c : Commit laws p t h base fit reads j ts taken) →
+  pub committed_is : (j : ℕ) (ts : List (List Slot)) (taken : List ℕ) (c : Commit laws p t h base fit reads j ts taken) →
       committed p (with_tables t ts) taken h j ≡ with_tables t (slice_set ts (map_of p t h j) (slice_set (get_or ts (map_of p t h j) []) c.n c.s))
   unfolding committed
   committed_is j ts taken c =

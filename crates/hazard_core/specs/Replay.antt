@@ -101,3 +101,9 @@ SeesEarlier =
     (p : ProgramView) (row : ℕ → ℕ) (r j : ℕ) (t : TableState) (h : Held)
     → ((i : ℕ) → i < j → (site_at p.sites i).map ≡ (site_at p.sites j).map → writes p t.decls h i ≡ true → list_all (λ c. nat_lt (row c) r) (parts p i) ≡ true)
     → (found_pointer p t h (pending p row r j) j ≡ found_pointer p t h (earlier p j) j) × (answer_over p t h (pending p row r j) j ≡ answer_over p t h (earlier p j) j)
+
+-- They leave the tables of the maps that the sites below one leave, one after another.
+abbrev pub MapsInTurn : Type 0
+MapsInTurn =
+    (p : ProgramView) (t : TableState) (taken : List ℕ) (h : Held) → AreTables t → AllFit t.decls p.sites → length taken ≡ length p.sites → HoldsReads p t h
+    → (j : ℕ) → j ≤ length p.sites → maps_of (replayed p h (record { tables = t; taken = taken }) j).tables ≡ after (held_value h) (maps_of t) (take j p.sites)

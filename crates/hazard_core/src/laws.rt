@@ -3,7 +3,7 @@
 ghost use Rattle.hazard_core.specs.Standing.{TablesStand};
 ghost use Rattle.hazard_core.specs.Keeping.{ReadsKeep};
 ghost use Rattle.hazard_core.specs.Tabled.{LoadsTables};
-ghost use Rattle.hazard_core.specs.Replay.{CommitsInTurn, SeesEarlier};
+ghost use Rattle.hazard_core.specs.Replay.{CommitsInTurn, MapsInTurn, SeesEarlier};
 ghost use Rattle.hazard_core.specs.Changes.{Unmoved, CommitsChange, HostChanges};
 
 /// A read that a change does not touch finds what it found before.
@@ -46,5 +46,15 @@ pub fn sees_earlier()
 pub fn loads_tables()
     ensures { LoadsTables }
 {
+    xdp_maps::laws::index_laws();
+}
+
+/// The operations of such a packet leave the tables of the maps that its sites leave, one after another.
+pub fn maps_in_turn()
+    ensures { MapsInTurn }
+{
+    xdp_maps::laws::update_laws();
+    xdp_maps::laws::delete_laws();
+    xdp_maps::laws::entry_laws();
     xdp_maps::laws::index_laws();
 }
