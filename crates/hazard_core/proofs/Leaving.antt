@@ -1,6 +1,6 @@
 -- What operations leave, as maps.
 use Rattle.std.proofs.Common.{◌≡◌, ◌≢◌, ℕ, ℤ, zero, suc, ◌+◌, ◌<◌, ◌≤◌, ◌⊎◌, inl, inr, Bool, true, false, List, [], ◌∷◌, Option, Some, None, get_or, length, refl, sym, ap, ◌∙◌, subst, arith, not, cond}
-use Rattle.std.specs.Prelude.{◌&&◌, ◌==◌, pos, if◌then◌else◌, nat_lt, nat_le, is_some, slice_set, slice_index, take, drop, count_by, map as map_list}
+use Rattle.std.specs.Prelude.{◌&&◌, ◌==◌, pos, if◌then◌else◌, nat_lt, nat_le, is_some, slice_set, slice_index, take, drop, count_by, replicate, map as map_list}
 use Rattle.std.specs.Int.{w64, cast_unsigned}
 use Rattle.std.specs.Option.{option_map}
 use Rattle.std.specs.Ordering.{nat_cmp}
@@ -10,38 +10,39 @@ use Rattle.std.specs.FinMap.{same_map, slice_cmp-IsAntisymmetric, nat_cmp-IsAnti
 use Rattle.std.specs.Str.{bytes_eq}
 use Rattle.std.proofs.lemmas.Bool.Decides.{nat_tests}
 use Rattle.std.proofs.lemmas.Bool.{and_parts}
-use Rattle.std.proofs.lemmas.List.{set-get_or}
+use Rattle.std.proofs.lemmas.List.{set-get_or, length-replicate}
 use Rattle.std.proofs.Math.ListN.{get_or-map}
 use Rattle.std.proofs.lemmas.Slice.Eq.{bytes_eq-Decides}
 use Rattle.byteorder.specs.Endian.{little_bytes}
-use Rattle.xdp_machine.specs.Memory.{bytes_in}
+use Rattle.xdp_machine.specs.Memory.{bytes_in, number_at}
 use Rattle.xdp_maps.specs.declared.decl.MapDecl.{MapDecl}
 use Rattle.xdp_maps.specs.declared.decl.MapKind.{MapKind}
 use Rattle.xdp_maps.specs.declared.decl.MapKind.TheVariants.{Hash, Array}
 use Rattle.xdp_maps.specs.declared.errno.TheConstants.{ENOENT, E2BIG, EEXIST, EINVAL}
 use Rattle.xdp_maps.specs.Contents.{Contents, index_of}
 use Rattle.xdp_maps.specs.State.{MapState, decl_at, contents_at, with_contents}
-use Rattle.xdp_maps.specs.Calls.{unless, lookup_of, hash_refusal, array_refusal, number_of, update_error_as, delete_error_as, update_number, updated, delete_number, deleted, with_value, patched, with_change}
+use Rattle.xdp_maps.specs.Calls.{unless, lookup_of, hash_refusal, array_refusal, number_of, update_error_as, delete_error_as, update_number, updated, delete_number, deleted, with_value, patched, with_change, number_at as changed_at}
 use Rattle.xdp_maps.specs.Operations as operation
 use Rattle.xdp_maps.specs.Operations.{Operation, key_in, left_by, operated}
 use Rattle.xdp_maps.specs.Laws.{UpdateLaws, DeleteLaws, EntryLaws, IndexLaws}
+use Rattle.cell_core.specs.declared.operator.Operator.TheVariants.{Found, Answer}
 use Rattle.cell_core.specs.declared.site.Act.{Act}
 use Rattle.cell_core.specs.declared.site.Act.TheVariants as act
-use Rattle.cell_core.specs.Cells.{on}
-use Rattle.cell_core.specs.Sites.{SiteView, ProgramView, site_at, records, operation_with, operation_on, bytes_of, change_of, applied, after}
+use Rattle.cell_core.specs.Cells.{bit, on}
+use Rattle.cell_core.specs.Sites.{SiteView, ProgramView, site_at, records, operation_with, operation_on, bytes_of, change_of, applied, after, found_in, loaded, number_or, read_on, answer_as as sites_answer}
 use Rattle.cell_core.specs.Formed.{AllFit}
 use Rattle.hazard_core.specs.Tables.{Slot, TableState, decl_of, table_at, slot_at, has_key, used_count, contents_of, maps_of}
-use Rattle.hazard_core.specs.Held.{Pointer, Null, InSlot, Pending, is_null, Held, held_value, guard_on, asked, asked_key, answer_cell, is_update, is_delete, writes_as, writes, adds_key, takes_key, slot_pointer}
-use Rattle.hazard_core.specs.Overlay.{key_pointer, value_as, update_answer, delete_answer, answer_as}
+use Rattle.hazard_core.specs.Held.{access_pointer, Pointer, Null, InSlot, Pending, is_null, Held, held_value, guard_on, asked, asked_key, answer_cell, is_update, is_delete, writes_as, writes, adds_key, takes_key, slot_pointer}
+use Rattle.hazard_core.specs.Overlay.{key_pointer, looks, found_pointer, entry_value, answer_over, value_as, update_answer, delete_answer, answer_as}
 use Rattle.hazard_core.specs.Commits.{makes_entry, slot_as, committed, taken_after}
-use Rattle.hazard_core.specs.Changes.{with_tables}
+use Rattle.hazard_core.specs.Changes.{with_tables, finds_key, reads as reads_as}
 use Rattle.hazard_core.specs.Tabled.{AreTables}
-use Rattle.hazard_core.specs.Replay.{Replayed, replay_one, replayed, earlier, HoldsReads, says_done, MapsInTurn}
+use Rattle.hazard_core.specs.Replay.{Replayed, replay_one, replayed, earlier, HoldsReads, says_done, is_access, MapsInTurn, ReadsRight, ReadsInTurn}
 use Rattle.hazard_core.proofs.Changing.{pointer_stays}
 use Rattle.hazard_core.proofs.Slots.{pointer_is, slot_here, slot_other}
 use Rattle.hazard_core.proofs.Lookups.{value_of, lookup_is, count_is}
-use Rattle.hazard_core.proofs.Effects.{resolve, key_at, adds_at, takes_at, Follows, map_of, key_of, Effect}
-use Rattle.hazard_core.proofs.Finding.{key_found, adds_fold, takes_fold}
+use Rattle.hazard_core.proofs.Effects.{resolve, key_at, value_at, adds_at, takes_at, Follows, map_of, key_of, Effect}
+use Rattle.hazard_core.proofs.Finding.{key_found, values_fold, adds_fold, takes_fold, Reaches, reaches}
 use Rattle.hazard_core.proofs.Committing.{Commit, commit, hash_tests}
 use Rattle.hazard_core.proofs.Turns.{Reached, all_follow, committed_is}
 
@@ -202,6 +203,76 @@ module _ (updates : (d : MapDecl) (c : Contents) (key value : List ℕ) (flags :
     said : says_done (site_at p.sites j).act (decl_of t.decls (map_of p t h j)).kind ≡ true → (a : Act) → (site_at p.sites j).act ≡ a → (answered a == 0) ≡ (held_value h (answer_cell p.cells j) == 0)
     said says a is = ap (λ (a : Act). answered a == 0) (sym is) ∙ sym (reads.done j l guard says)
 
+    -- ---- what reads find
+
+    found_by : (a : Act) → (site_at p.sites j).act ≡ a → finds_key a ≡ true → bit (if looks (asked_as a) then not (is_null (key_pointer p t h (earlier p j) j)) else false) ≡ bit (found_in (contents_of (get_or ts (map_of p t h j) [])) (asked_as a))
+    found_by act.Lookup is y = ap bit (sym present_is ∙ ap (map.contains_key c) (key_by act.Lookup is))
+    found_by act.Delete is y = ap bit (sym present_is ∙ ap (map.contains_key c) (key_by act.Delete is))
+    found_by act.Update is y =
+        ap (λ x. bit (if not (nat_lt 2 flags) then x else false)) (sym present_is ∙ ap (map.contains_key c) (key_by act.Update is)) ∙ ap bit (by (nat_lt 2 flags) (nat_le flags 2) refl refl (map.contains_key c key))
+      where
+        by : (x y : Bool) → nat_lt 2 flags ≡ x → nat_le flags 2 ≡ y → (z : Bool) → (if not x then z else false) ≡ y && z
+        by true false e g z = refl
+        by false true e g z = refl
+        by true true e g z = let m : 2 < flags = grind (arith, nat_tests) in let n : flags ≤ 2 = grind (arith, nat_tests) in absurd (omega (arith, m, n))
+        by false false e g z = let m : flags ≤ 2 = grind (arith, nat_tests) in let n : 2 < flags = grind (arith, nat_tests) in absurd (omega (arith, m, n))
+    found_by (act.Load at size) is y = cc
+    found_by (act.Store at size) is y = cc
+    found_by (act.Atomic at x) is y = cc
+
+    pub found_right : finds_key (site_at p.sites j).act ≡ true → bit (not (is_null (found_pointer p t h (earlier p j) j))) ≡ bit (found_in (contents_of (get_or ts (map_of p t h j) [])) (asked t.decls h (site_at p.sites j)))
+    found_right y = ap bit (by (looks (asked t.decls h (site_at p.sites j)))) ∙ found_by (site_at p.sites j).act refl y
+      where
+        by : (x : Bool) → not (is_null (if x then key_pointer p t h (earlier p j) j else Null)) ≡ (if x then not (is_null (key_pointer p t h (earlier p j) j)) else false)
+        by true = refl
+        by false = refl
+
+    -- the entry that an access goes to
+    record Entry : Type 0 where
+      n : ℕ
+      some : is_null (access_pointer h (site_at p.sites j)) ≡ false
+      seen : entry_value p t h (earlier p j) (site_at p.sites j).map (access_pointer h (site_at p.sites j)) ≡ (slot_at (get_or ts (map_of p t h j) []) n).value
+      there : lookup_of (contents_of (get_or ts (map_of p t h j) [])) (key_of p t h j) ≡ Some (slot_at (get_or ts (map_of p t h j) []) n).value
+
+    entry : is_access (site_at p.sites j).act ≡ true → Entry
+    entry y = by (key_at p t h (map_of p t h j) (key_of p t h j) j) refl
+      where
+        r : Reaches p t h j
+        r = reaches p t h reads j l (reads.accesses j l guard y)
+
+        at_slot : (n : ℕ) → resolve taken (key_at p t h (map_of p t h j) (key_of p t h j) j) ≡ InSlot n → Entry
+        at_slot n e = record {
+          n = n;
+          some = r.some;
+          seen = values_fold p t h (map_of p t h j) (access_pointer h (site_at p.sites j)) j ∙ ap (λ u. value_at p t h (map_of p t h j) u j) r.at ∙ f.values (map_of p t h j) (key_of p t h j) n in_map e;
+          there = lookup_is slots (key_of p t h j) ∙ ap (value_of slots) (sym (f.keys (map_of p t h j) (key_of p t h j) in_map) ∙ e);
+        }
+
+        by : (u : Pointer) → key_at p t h (map_of p t h j) (key_of p t h j) j ≡ u → Entry
+        by Null e = absurd (no_null (sym r.some ∙ ap is_null (r.at ∙ e)))
+          where
+            no_null : false ≡ true → ⊥
+            no_null e = cc
+        by (InSlot n) e = at_slot n (ap (resolve taken) e)
+        by (Pending i) e = at_slot (slice_index taken i) (ap (resolve taken) e)
+
+    answer_by : (a : Act) → (site_at p.sites j).act ≡ a → reads_as a ≡ true → answered a ≡ sites_answer a (decl_of t.decls (map_of p t h j)) (contents_of (get_or ts (map_of p t h j) [])) (asked_as a)
+    answer_by act.Lookup is y = ap bit (sym present_is ∙ ap (map.contains_key c) (key_by act.Lookup is))
+    answer_by act.Update is y = ap (cast_unsigned w64) (sym (update_same is d.kind refl))
+    answer_by act.Delete is y = ap (cast_unsigned w64) (sym (delete_same is d.kind refl))
+    answer_by (act.Load at size) is y =
+        let e = entry (ap is_access is) in
+        ap (λ (x : Bool). if x then 0 else number_at size at (entry_value p t h (earlier p j) (site_at p.sites j).map (access_pointer h (site_at p.sites j)))) e.some ∙ ap (number_at size at) e.seen
+        ∙ sym (ap (λ k. loaded at size (lookup_of c k)) (sym (key_by (act.Load at size) is)) ∙ ap (loaded at size) e.there)
+    answer_by (act.Atomic at x) is y =
+        let e = entry (ap is_access is) in
+        ap (λ (z : Bool). if z then 0 else changed_at x.wide at (entry_value p t h (earlier p j) (site_at p.sites j).map (access_pointer h (site_at p.sites j)))) e.some ∙ ap (changed_at x.wide at) e.seen
+        ∙ sym (ap (λ k. number_or (option_map (changed_at x.wide at) (lookup_of c k))) (sym (key_by (act.Atomic at x) is)) ∙ ap (λ o. number_or (option_map (changed_at x.wide at) o)) e.there)
+    answer_by (act.Store at size) is y = cc
+
+    pub answer_right : reads_as (site_at p.sites j).act ≡ true → answer_over p t h (earlier p j) j ≡ sites_answer (site_at p.sites j).act (decl_of t.decls (map_of p t h j)) (contents_of (get_or ts (map_of p t h j) [])) (asked t.decls h (site_at p.sites j))
+    answer_right y = answer_by (site_at p.sites j).act refl y
+
     -- an operation that does not write leaves its map as it is
     idle_left : (a : Act) → (site_at p.sites j).act ≡ a → (k : MapKind) → (decl_of t.decls (map_of p t h j)).kind ≡ k → writes_as a k (held_value h (answer_cell p.cells j)) ≡ false →
         left_by (decl_of t.decls (map_of p t h j)) (contents_of (get_or ts (map_of p t h j) [])) (asked_as a) ≡ contents_of (get_or ts (map_of p t h j) [])
@@ -351,6 +422,21 @@ module _ (updates : (d : MapDecl) (c : Contents) (key value : List ℕ) (flags :
       let r = replayed p h (record { tables = t; taken = taken }) j in
       one_maps j r (omega (arith, l)) (all_follow laws p t h base fit reads taken long j (omega (arith, l)))
       ∙ ap (λ m. applied (held_value h) m (site_at p.sites j)) (all_maps taken long j (omega (arith, l))) ∙ sym (taken_next (held_value h) (maps_of t) j p.sites (omega (arith, l)))
+
+  reads_right : (taken : List ℕ) → length taken ≡ length p.sites → (j : ℕ) → j < length p.sites → guard_on h (site_at p.sites j) ≡ true → ReadsRight p t h j
+  reads_right taken long j l guard =
+      let r = replayed p h (record { tables = t; taken = taken }) j in
+      let q = all_follow laws p t h base fit reads taken long j (omega (arith, l)) in
+      let s = site_at p.sites j in
+      let maps_are : maps_of (with_tables t q.ts) ≡ after (held_value h) (maps_of t) (take j p.sites) = sym (ap maps_of q.is) ∙ all_maps taken long j (omega (arith, l)) in
+      record {
+        found = λ y. found_right j q.ts r.taken l q.follows guard y ∙ ap (λ c. bit (found_in c (asked t.decls h s))) (sym (contents_are q.ts s.map)) ∙ ap (λ m. read_on (held_value h) m s (Found j)) maps_are;
+        answer = λ y. answer_right j q.ts r.taken l q.follows guard y ∙ ap (λ c. sites_answer s.act (decl_of t.decls s.map) c (asked t.decls h s)) (sym (contents_are q.ts s.map)) ∙ ap (λ m. read_on (held_value h) m s (Answer j)) maps_are;
+      }
+
+pub reads_in_turn : ((d : MapDecl) (c : Contents) (key value : List ℕ) (flags : ℕ) → UpdateLaws d c key value flags) → ((d : MapDecl) (c : Contents) (key : List ℕ) → DeleteLaws d c key) →
+    ((c : Contents) (key : List ℕ) (f : List ℕ → List ℕ) → EntryLaws c key f) → IndexLaws → ReadsInTurn
+reads_in_turn updates deletes entries laws p t h base fit reads j l guard = reads_right updates deletes entries laws p t h base fit reads (replicate (length p.sites) 0) (length-replicate (length p.sites) 0) j l guard
 
 pub maps_in_turn : ((d : MapDecl) (c : Contents) (key value : List ℕ) (flags : ℕ) → UpdateLaws d c key value flags) → ((d : MapDecl) (c : Contents) (key : List ℕ) → DeleteLaws d c key) →
     ((c : Contents) (key : List ℕ) (f : List ℕ → List ℕ) → EntryLaws c key f) → IndexLaws → MapsInTurn

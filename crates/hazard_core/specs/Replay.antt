@@ -1,20 +1,21 @@
 -- The operations of one packet, one after another.
-use Rattle.std.specs.Prelude.{◌≡◌, ℕ, zero, suc, ◌<◌, ◌≤◌, ◌==◌, nat_lt, Bool, true, false, ◌&&◌, ◌||◌, if◌then◌else◌, List, length, take}
+use Rattle.std.specs.Prelude.{◌≡◌, ℕ, zero, suc, ◌<◌, ◌≤◌, ◌==◌, nat_lt, Bool, true, false, not, ◌&&◌, ◌||◌, if◌then◌else◌, List, length, take}
 use Rattle.std.specs.List.{filter, list_all}
 use Rattle.xdp_maps.specs.declared.decl.MapDecl.{MapDecl}
 use Rattle.xdp_maps.specs.declared.decl.MapKind.{MapKind}
 use Rattle.xdp_maps.specs.declared.decl.MapKind.TheVariants.{Hash}
 use Rattle.cell_core.specs.declared.site.Act.{Act}
 use Rattle.cell_core.specs.declared.site.Act.TheVariants as act
-use Rattle.cell_core.specs.Cells.{on}
-use Rattle.cell_core.specs.Sites.{ProgramView, site_at, records, after}
+use Rattle.cell_core.specs.declared.operator.Operator.TheVariants.{Found, Answer}
+use Rattle.cell_core.specs.Cells.{bit, on}
+use Rattle.cell_core.specs.Sites.{ProgramView, site_at, records, after, read_on}
 use Rattle.cell_core.specs.Formed.{AllFit}
 use Rattle.cell_core.specs.Rows.{numbers}
 use Rattle.hazard_core.specs.Tables.{TableState, decl_of, maps_of}
 use Rattle.hazard_core.specs.Held.{Held, held_value, pointer_in, is_null, guard_on, asked_key, access_pointer, found_cell, answer_cell, is_update, is_delete, writes, parts, pending}
 use Rattle.hazard_core.specs.Overlay.{found_pointer, answer_over}
 use Rattle.hazard_core.specs.Commits.{committed, taken_after}
-use Rattle.hazard_core.specs.Changes.{IsRightCommit}
+use Rattle.hazard_core.specs.Changes.{IsRightCommit, finds_key, reads}
 use Rattle.hazard_core.specs.Tabled.{AreTables}
 
 -- tables, and the slots that the packet's updates took
@@ -107,3 +108,14 @@ abbrev pub MapsInTurn : Type 0
 MapsInTurn =
     (p : ProgramView) (t : TableState) (taken : List ℕ) (h : Held) → AreTables t → AllFit t.decls p.sites → length taken ≡ length p.sites → HoldsReads p t h
     → (j : ℕ) → j ≤ length p.sites → maps_of (replayed p h (record { tables = t; taken = taken }) j).tables ≡ after (held_value h) (maps_of t) (take j p.sites)
+
+-- And each read on the path is what the read of its site finds on the maps that the sites before it leave.
+pub record ReadsRight (p : ProgramView) (t : TableState) (h : Held) (j : ℕ) : Type 0 where
+  pub found : finds_key (site_at p.sites j).act ≡ true
+      → bit (not (is_null (found_pointer p t h (earlier p j) j))) ≡ read_on (held_value h) (after (held_value h) (maps_of t) (take j p.sites)) (site_at p.sites j) (Found j)
+  pub answer : reads (site_at p.sites j).act ≡ true → answer_over p t h (earlier p j) j ≡ read_on (held_value h) (after (held_value h) (maps_of t) (take j p.sites)) (site_at p.sites j) (Answer j)
+
+abbrev pub ReadsInTurn : Type 0
+ReadsInTurn =
+    (p : ProgramView) (t : TableState) (h : Held) → AreTables t → AllFit t.decls p.sites → HoldsReads p t h
+    → (j : ℕ) → j < length p.sites → guard_on h (site_at p.sites j) ≡ true → ReadsRight p t h j

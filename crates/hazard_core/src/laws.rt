@@ -3,7 +3,7 @@
 ghost use Rattle.hazard_core.specs.Standing.{TablesStand};
 ghost use Rattle.hazard_core.specs.Keeping.{ReadsKeep};
 ghost use Rattle.hazard_core.specs.Tabled.{LoadsTables};
-ghost use Rattle.hazard_core.specs.Replay.{CommitsInTurn, MapsInTurn, SeesEarlier};
+ghost use Rattle.hazard_core.specs.Replay.{CommitsInTurn, MapsInTurn, ReadsInTurn, SeesEarlier};
 ghost use Rattle.hazard_core.specs.Changes.{Unmoved, CommitsChange, HostChanges};
 
 /// A read that a change does not touch finds what it found before.
@@ -49,9 +49,11 @@ pub fn loads_tables()
     xdp_maps::laws::index_laws();
 }
 
-/// The operations of such a packet leave the tables of the maps that its sites leave, one after another.
+/// The operations of such a packet leave the tables of the maps that its sites leave, one after another, and each read on its path is what
+/// the read of its site finds on the maps before it.
 pub fn maps_in_turn()
-    ensures { MapsInTurn }
+    ensures maps { MapsInTurn }
+    ensures reads { ReadsInTurn }
 {
     xdp_maps::laws::update_laws();
     xdp_maps::laws::delete_laws();
