@@ -124,7 +124,7 @@ pub record Known (b : Build) (w : Watched) (k : ℕ) (c : Arrival) (x : Packet) 
   pub clean : IsClean b k x
   pub agrees : Agrees b (w.views k) (packet_of c) (suc k) x
 
-both_placed : (P Q R : ℕ → Arrival → Packet → Type 0) → ((k : ℕ) (c : Arrival) (x : Packet) → P k c x → Q k c x → R k c x) → (fs : List Arrival) (k : ℕ) (xs : List (Option Packet)) → Placed P fs k xs → Placed Q fs k xs → Placed R fs k xs
+pub both_placed : (P Q R : ℕ → Arrival → Packet → Type 0) → ((k : ℕ) (c : Arrival) (x : Packet) → P k c x → Q k c x → R k c x) → (fs : List Arrival) (k : ℕ) (xs : List (Option Packet)) → Placed P fs k xs → Placed Q fs k xs → Placed R fs k xs
 both_placed P Q R join fs k [] p q = tt
 both_placed P Q R join fs k (None ∷ xs) p q = both_placed P Q R join fs (suc k) xs p q
 both_placed P Q R join fs k (Some x ∷ xs) p q = (join k _ x p.0 q.0, both_placed P Q R join fs (suc k) xs p.1 q.1)

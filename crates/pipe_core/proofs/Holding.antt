@@ -139,7 +139,7 @@ module _ (seen : SeesEarlier) (b : Build) (t : TableState) (packet : PacketIn) (
   abbrev h : Held
   h = x.held
 
-  both_seen : (c j : ℕ) → c < length b.program.cells → site_in (cell_at b.program.cells c).op ≡ Some j → guard_on x.held (site_at b.program.sites j) ≡ true →
+  pub both_seen : (c j : ℕ) → c < length b.program.cells → site_in (cell_at b.program.cells c).op ≡ Some j → guard_on x.held (site_at b.program.sites j) ≡ true →
       (found_pointer b.program t x.held (pending b.program b.plan.row (b.plan.row c) j) j ≡ found_pointer b.program t x.held (earlier b.program j) j)
       × (answer_over b.program t x.held (pending b.program b.plan.row (b.plan.row c) j) j ≡ answer_over b.program t x.held (earlier b.program j) j)
   both_seen c j l e guard = seen p b.plan.row (b.plan.row c) j t h (λ i before same w.

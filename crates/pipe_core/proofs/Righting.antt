@@ -71,7 +71,7 @@ unmarked_not_due b k x none =
     (λ i l. let e : 0 + i ≡ i = omega arith in ap (λ j. marked_at x j && known_on b.plan.row k x.held (site_at b.program.sites j)) e ∙ ap (λ c. c && known_on b.plan.row k x.held (site_at b.program.sites i)) (none i l))
 
 -- a packet without a mark at the commit place stays there
-keeps_place : (b : Build) (places : List (Option Packet)) → b.plan.commit < length places → IsUnmarked b (place_at places b.plan.commit) → place_at (swept b 0 places) b.plan.commit ≡ place_at places b.plan.commit
+pub keeps_place : (b : Build) (places : List (Option Packet)) → b.plan.commit < length places → IsUnmarked b (place_at places b.plan.commit) → place_at (swept b 0 places) b.plan.commit ≡ place_at places b.plan.commit
 keeps_place b places l u = (always_sends_back b places).kept b.plan.commit l (λ s.
     let past : s.at ≤ b.plan.commit = at_most s.at (place_at places s.at) s.sends_back in
     let f = s.further in
@@ -114,7 +114,7 @@ sits b fit w h x here =
     let m : Settled b (rest_of b s) (Known b w) b.plan.commit q.0 x = subst (λ k. Settled b (rest_of b s) (Known b w) k q.0 x) e q.1 in
     record { came = q.0; agrees = m.holds.agrees; unmarked_there = unmarked b fit w (rest_of b s) b.plan.commit q.0 x (omega arith) m }
 
-reads_there : SeesEarlier → (b : Build) (decls : List MapDecl) → IsSuited decls b → (w : Watched) → (w.views b.plan.commit).decls ≡ decls → IsAgreed b w → (x : Packet) → place_at (rest_of b w.trace.state) b.plan.commit ≡ Some x →
+pub reads_there : SeesEarlier → (b : Build) (decls : List MapDecl) → IsSuited decls b → (w : Watched) → (w.views b.plan.commit).decls ≡ decls → IsAgreed b w → (x : Packet) → place_at (rest_of b w.trace.state) b.plan.commit ≡ Some x →
     HoldsReads b.program (w.views b.plan.commit) x.held
 reads_there seen b decls fit w same h x here =
     let q = sits b fit.rows w h x here in
@@ -125,7 +125,7 @@ reads_there seen b decls fit w same h x here =
 -- ---- a commit
 
 -- sites that do not write are passed
-skips : (b : Build) (h : Held) (r : Replayed) (decls : List MapDecl) (done n : ℕ) → ((j : ℕ) → j < done + n → (replayed b.program h r j).tables.decls ≡ decls) → ((i : ℕ) → done ≤ i → i < done + n → writes b.program decls h i ≡ false) →
+pub skips : (b : Build) (h : Held) (r : Replayed) (decls : List MapDecl) (done n : ℕ) → ((j : ℕ) → j < done + n → (replayed b.program h r j).tables.decls ≡ decls) → ((i : ℕ) → done ≤ i → i < done + n → writes b.program decls h i ≡ false) →
     replayed b.program h r (done + n) ≡ replayed b.program h r done
 skips b h r decls done zero same idle = ap (replayed b.program h r) (omega arith)
 skips b h r decls done (suc n) same idle =
@@ -210,7 +210,7 @@ begins_at b decls t taken place same tables long = record {
   amid = λ l. absurd (omega (arith, l));
 }
 
-moved_view : (commit : ℕ) (t : TableState) (views : ℕ → TableState) → views_on commit t views commit ≡ t
+pub moved_view : (commit : ℕ) (t : TableState) (views : ℕ → TableState) → views_on commit t views commit ≡ t
 moved_view zero t views = refl
 moved_view (suc k) t views = by (nat_lt k (suc k)) refl
   where
@@ -218,7 +218,7 @@ moved_view (suc k) t views = by (nat_lt k (suc k)) refl
     by true e = refl
     by false e = let m : suc k ≤ k = grind (arith, nat_tests) in absurd (omega (arith, m))
 
-kept_view : (commit : ℕ) (t : TableState) (views : ℕ → TableState) → views_below commit t views commit ≡ views commit
+pub kept_view : (commit : ℕ) (t : TableState) (views : ℕ → TableState) → views_below commit t views commit ≡ views commit
 kept_view commit t views = by (nat_lt commit commit) refl
   where
     by : (c : Bool) → nat_lt commit commit ≡ c → (if c then t else views commit) ≡ views commit

@@ -11,3 +11,4 @@ pub mod Marked
 pub mod Pipeable
 pub mod Agreed
 pub mod Right
+pub mod InTurn

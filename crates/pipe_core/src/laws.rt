@@ -8,6 +8,7 @@ ghost use Rattle.pipe_core.specs.Sending.{AlwaysSendsBack};
 ghost use Rattle.pipe_core.specs.Agreement.{EnteringAgrees, StrikingAgrees};
 ghost use Rattle.pipe_core.specs.Agreed.{KeepsAgreed, PathsAreMade};
 ghost use Rattle.pipe_core.specs.Right.{TurnsAreRight, KeepsRight, IsAlwaysRight};
+ghost use Rattle.pipe_core.specs.InTurn.{KeepsSequential, RunsInTurn, FinalMaps};
 ghost use Rattle.pipe_core.specs.Marked.{KeepsMarked, AreAlwaysMarked};
 
 /// The pipe holds frames and answers in the order in which the frames came, and each answer is that of its own packet.
@@ -88,4 +89,21 @@ pub fn right()
     hazard_core::laws::in_turn();
     hazard_core::laws::sees_earlier();
     hazard_core::laws::loads_tables();
+}
+
+/// Packets overlap, and over every list of clocks with a silent host those that left are cell runs one after another, each on the maps that
+/// the one before it left; when no packet is inside the tables stand for the maps that the last one left.
+pub fn runs_in_turn()
+    ensures clock { KeepsSequential }
+    ensures runs { RunsInTurn }
+    ensures last { FinalMaps }
+{
+    cell_core::laws::rows_rise();
+    right();
+    hazard_core::laws::maps_in_turn();
+    hazard_core::laws::in_turn();
+    hazard_core::laws::sees_earlier();
+    hazard_core::laws::loads_tables();
+    hazard_core::laws::tables_stand();
+    hazard_core::laws::reads_keep();
 }
