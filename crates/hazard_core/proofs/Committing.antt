@@ -1,36 +1,34 @@
 -- Each operation of a packet on its path, committed in its turn.
-use Rattle.std.proofs.Common.{◌≡◌, ◌≢◌, ℕ, ℤ, zero, suc, ◌+◌, ◌*◌, ◌<◌, ◌≤◌, ◌⊎◌, inl, inr, Bool, true, false, List, [], ◌∷◌, ◌++◌, Option, Some, None, get_or, length, refl, sym, ap, ◌∙◌, subst, arith, not, cond, length-set, get_or-set_other, get_or-set_same}
-use Rattle.std.specs.Prelude.{◌&&◌, ◌||◌, ◌==◌, if◌then◌else◌, nat_lt, nat_le, slice_set, slice_index, drop, count_by, map as map_list}
+use Rattle.std.proofs.Common.{◌≡◌, ℕ, ◌+◌, ◌<◌, Bool, true, false, List, [], Some, None, get_or, length, refl, sym, ap, ◌∙◌, subst, arith, not, length-set, get_or-set_other}
+use Rattle.std.specs.Prelude.{◌&&◌, ◌==◌, if◌then◌else◌, nat_lt, nat_le, slice_set, slice_index, count_by, map as map_list}
 use Rattle.std.specs.Int.{w64, cast_unsigned}
 use Rattle.std.specs.Str.{bytes_eq}
 use Rattle.std.proofs.lemmas.Bool.Decides.{nat_tests, Decides-eqb}
-use Rattle.std.proofs.lemmas.Bool.{and_parts, cases_lt}
+use Rattle.std.proofs.lemmas.Bool.{and_parts}
 use Rattle.std.proofs.lemmas.Slice.Eq.{bytes_eq-Decides}
-use Rattle.xdp_maps.specs.declared.decl.MapDecl.{MapDecl}
 use Rattle.xdp_maps.specs.declared.decl.MapKind.{MapKind}
 use Rattle.xdp_maps.specs.declared.decl.MapKind.TheVariants.{Hash, Array}
 use Rattle.xdp_maps.specs.declared.errno.TheConstants.{ENOENT, E2BIG, EEXIST, EINVAL}
-use Rattle.xdp_maps.specs.Contents.{IsBytes, IsWithinLimits, limits_as, index_key, index_of}
+use Rattle.xdp_maps.specs.Contents.{IsBytes, limits_as, index_key, index_of}
 use Rattle.xdp_maps.specs.Laws.{IndexLaws}
-use Rattle.xdp_maps.specs.Calls.{hash_refusal, array_refusal, number_of}
+use Rattle.xdp_maps.specs.Calls.{number_of}
 use Rattle.xdp_maps.specs.Operations.{Operation, key_in}
 use Rattle.cell_core.specs.declared.site.Act.{Act}
 use Rattle.cell_core.specs.declared.site.Act.TheVariants as act
-use Rattle.cell_core.specs.Cells.{bit, on}
-use Rattle.cell_core.specs.Sites.{SiteView, ProgramView, site_at, operation_as, operation_with, bytes_of}
+use Rattle.cell_core.specs.Sites.{ProgramView, site_at, operation_with, bytes_of}
 use Rattle.cell_core.specs.Formed.{AllFit}
 use Rattle.hazard_core.specs.Tables.{Slot, TableState, decl_of, table_at, slot_at, has_key, free_slot, used_count}
 use Rattle.hazard_core.specs.Held.{Pointer, Null, InSlot, Pending, same_pointer, is_null, Held, held_value, pointer_in, guard_on, asked, asked_key, access_pointer, found_cell, answer_cell, is_update, is_delete, writes_as, writes, adds_key, takes_key, update_pointer, slot_pointer, written_as, written_pointer}
-use Rattle.hazard_core.specs.Overlay.{key_pointer, looks, found_pointer, value_as, update_answer, delete_answer, answer_as, answer_over}
-use Rattle.hazard_core.specs.Commits.{with_slot, makes_entry, slot_under, written_slot, slot_as, committed, taken_after}
+use Rattle.hazard_core.specs.Overlay.{key_pointer, looks, value_as, update_answer, delete_answer, answer_as}
+use Rattle.hazard_core.specs.Commits.{makes_entry, slot_under, written_slot, slot_as, taken_after}
 use Rattle.hazard_core.specs.Changes.{with_tables, IsRightCommit}
-use Rattle.hazard_core.specs.Tabled.{IsFilledTable, IsTable, AreTables}
-use Rattle.hazard_core.specs.Replay.{Replayed, replay_one, replayed, earlier, HoldsReads, is_access, asks, says_done, IsInTurn, CommitsInTurn}
+use Rattle.hazard_core.specs.Tabled.{IsFilledTable, AreTables}
+use Rattle.hazard_core.specs.Replay.{earlier, HoldsReads, is_access, asks, says_done}
 use Rattle.hazard_core.proofs.Changing.{pointer_stays}
 use Rattle.hazard_core.proofs.Slots.{Stands, alone, comes, goes, pointer_null, pointer_is, pointer_only, pointer_no_pending, has_free, free_is_unused}
-use Rattle.hazard_core.proofs.Effects.{resolve, key_at, adds_at, takes_at, Follows, map_of, key_of, Effect, effect_follows}
+use Rattle.hazard_core.proofs.Effects.{resolve, key_at, Follows, map_of, key_of, Effect}
 use Rattle.hazard_core.proofs.Writing.{insert_effect, write_effect, remove_effect}
-use Rattle.hazard_core.proofs.Finding.{asked_bytes, array_key, key_found, found_key, adds_fold, takes_fold, Reaches, reaches}
+use Rattle.hazard_core.proofs.Finding.{asked_bytes, array_key, key_found, found_key, adds_fold, takes_fold, reaches}
 
 no_case : true ≡ false → ⊥
 no_case e = cc

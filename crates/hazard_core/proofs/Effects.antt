@@ -1,20 +1,19 @@
 -- What one operation of a packet does to what it reads after it.
-use Rattle.std.proofs.Common.{◌≡◌, ◌≢◌, ℕ, zero, suc, ◌+◌, ◌<◌, ◌≤◌, ◌⊎◌, inl, inr, Bool, true, false, List, [], ◌∷◌, get_or, length, refl, sym, ap, ◌∙◌, subst, arith, not, cond, length-set, get_or-set_other, get_or-set_same}
-use Rattle.std.specs.Prelude.{◌&&◌, ◌||◌, ◌==◌, if◌then◌else◌, nat_lt, slice_set, slice_index, fold, replicate}
+use Rattle.std.proofs.Common.{◌≡◌, ◌≢◌, ℕ, zero, suc, ◌+◌, ◌<◌, ◌⊎◌, inl, inr, Bool, true, false, List, [], get_or, length, refl, sym, ap, ◌∙◌, subst, arith, length-set, get_or-set_other, get_or-set_same}
+use Rattle.std.specs.Prelude.{◌&&◌, ◌==◌, if◌then◌else◌, slice_set, slice_index}
 use Rattle.std.specs.Str.{bytes_eq}
 use Rattle.std.proofs.lemmas.Bool.Decides.{Decides-eqb}
 use Rattle.std.proofs.lemmas.Slice.Eq.{bytes_eq-Decides}
-use Rattle.xdp_maps.specs.declared.decl.MapDecl.{MapDecl}
-use Rattle.xdp_maps.specs.declared.decl.MapKind.{MapKind}
-use Rattle.xdp_maps.specs.declared.decl.MapKind.TheVariants.{Hash, Array}
+use Rattle.xdp_maps.specs.declared.decl.MapKind.TheVariants.{Hash}
 use Rattle.cell_core.specs.Cells.{bit}
-use Rattle.cell_core.specs.Sites.{SiteView, ProgramView, site_at}
-use Rattle.hazard_core.specs.Tables.{Slot, no_slot, TableState, decl_of, table_at, slot_at, has_key, used_count}
+use Rattle.cell_core.specs.Sites.{ProgramView, site_at}
+use Rattle.hazard_core.specs.Tables.{Slot, TableState, decl_of, table_at, slot_at, has_key, used_count}
 use Rattle.hazard_core.specs.Held.{Pointer, Null, InSlot, Pending, same_pointer, Held, asked, asked_key, writes, adds_key, takes_key, slot_pointer, written_pointer}
 use Rattle.hazard_core.specs.Overlay.{found_as, found_over, value_as, value_over, value_under}
 use Rattle.hazard_core.specs.Tabled.{IsTable}
 use Rattle.hazard_core.proofs.Changing.{pointer_stays}
-use Rattle.hazard_core.proofs.Slots.{same_number, Stands, pointer_is, slot_here, slot_other, FitsSlot, table_keeps, same_key}
+use Rattle.hazard_core.proofs.Unmoved.{same_or}
+use Rattle.hazard_core.proofs.Slots.{pointer_is, slot_other, FitsSlot, table_keeps}
 
 -- a pointer to an entry that the packet made is to the slot that it took
 abbrev pub resolve : List ℕ → Pointer → Pointer
@@ -137,26 +136,26 @@ module _ (p : ProgramView) (t : TableState) (h : Held) where
   effect_follows j ts taken more n s f e = record {
     beside = length-set ts (map_of j) new ∙ f.beside;
     long = e.long ∙ f.long;
-    tables = λ m l. elim (same_number m (map_of j)) [
+    tables = λ m l. elim (same_or m (map_of j)) [
       | inl same ↦ subst (λ k. IsTable (decl_of t.decls k) (get_or us k [])) (sym same) (subst (IsTable (decl_of t.decls (map_of j))) (sym at_map) (table_keeps (decl_of t.decls (map_of j)) slots n s (f.tables (map_of j) e.map) e.fits))
       | inr other ↦ subst (IsTable (decl_of t.decls m)) (sym (past m other)) (f.tables m l)
     ];
-    keys = λ m key l. elim (same_number m (map_of j)) [
+    keys = λ m key l. elim (same_or m (map_of j)) [
       | inl same ↦ subst (λ k. resolve more (key_at k key (suc j)) ≡ slot_pointer (get_or us k []) key) (sym same) (own_keys key)
       | inr other ↦ ap (resolve more) (other_map j m key other) ∙ resolves j taken more (key_at m key j) e.same_taken (λ i q. f.pending m key i l q) ∙ f.keys m key l ∙ ap (λ xs. slot_pointer xs key) (sym (past m other))
     ];
-    pending = λ m key i l q. elim (same_number m (map_of j)) [
+    pending = λ m key i l q. elim (same_or m (map_of j)) [
       | inl same ↦ own_pending key i (subst (λ k. key_at k key (suc j) ≡ Pending i) same q)
       | inr other ↦ let low = f.pending m key i l (sym (other_map j m key other) ∙ q) in omega (arith, low)
     ];
-    values = λ m key k l q. elim (same_number m (map_of j)) [
+    values = λ m key k l q. elim (same_or m (map_of j)) [
       | inl same ↦ subst (λ x. value_at x (key_at x key (suc j)) (suc j) ≡ (slot_at (get_or us x []) k).value) (sym same) (own_values key k (subst (λ x. resolve more (key_at x key (suc j)) ≡ InSlot k) same q))
       | inr other ↦
           let u = other_map j m key other in
           let r = resolves j taken more (key_at m key j) e.same_taken (λ i z. f.pending m key i l z) in
           ap (λ x. value_at m x (suc j)) u ∙ other_map_value j m (key_at m key j) other ∙ f.values m key k l (sym r ∙ ap (resolve more) (sym u) ∙ q) ∙ ap (λ xs. (slot_at xs k).value) (sym (past m other))
     ];
-    size = λ m l kind. elim (same_number m (map_of j)) [
+    size = λ m l kind. elim (same_or m (map_of j)) [
       | inl same ↦
           subst (λ k. used_count (get_or us k []) + takes_at k (suc j) ≡ used_count (table_at t k) + adds_at k (suc j)) (sym same)
           (subst (λ xs. used_count xs + takes_at (map_of j) (suc j) ≡ used_count (table_at t (map_of j)) + adds_at (map_of j) (suc j)) (sym at_map) (e.size (subst (λ k. (decl_of t.decls k).kind ≡ Hash) same kind)))

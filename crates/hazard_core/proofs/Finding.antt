@@ -1,10 +1,10 @@
 -- What a packet on its path found, in the terms of its operations one after another.
-use Rattle.std.proofs.Common.{◌≡◌, ◌≢◌, ℕ, zero, suc, ◌+◌, ◌*◌, ◌<◌, ◌≤◌, ◌⊎◌, inl, inr, Bool, true, false, List, [], ◌∷◌, ◌++◌, get_or, length, refl, sym, ap, ◌∙◌, subst, arith, not, cond, All}
-use Rattle.std.specs.Prelude.{◌-◌, ◌&&◌, ◌||◌, ◌==◌, if◌then◌else◌, fold, take, count_by, map as map_list}
+use Rattle.std.proofs.Common.{◌≡◌, ℕ, zero, suc, ◌+◌, ◌*◌, ◌<◌, ◌≤◌, inl, inr, Bool, true, false, List, [], ◌∷◌, ◌++◌, length, refl, sym, ap, ◌∙◌, subst, arith, cond, All}
+use Rattle.std.specs.Prelude.{◌-◌, ◌&&◌, ◌||◌, ◌==◌, if◌then◌else◌, fold, count_by, map as map_list}
 use Rattle.std.specs.List.{filter}
 use Rattle.std.specs.Str.{bytes_eq}
 use Rattle.std.proofs.lemmas.Bool.Decides.{Decides-eqb}
-use Rattle.std.proofs.lemmas.Bool.{and_parts, cases_lt}
+use Rattle.std.proofs.lemmas.Bool.{cases_lt}
 use Rattle.std.proofs.lemmas.List.{length-take-le, length-map}
 use Rattle.std.proofs.lemmas.List.Elements.{All-nil, All-append, All-take, filter-append}
 use Rattle.std.proofs.lemmas.List.Sums.{fold-append}
@@ -14,19 +14,19 @@ use Rattle.xdp_maps.specs.declared.decl.MapDecl.{MapDecl}
 use Rattle.xdp_maps.specs.declared.decl.MapKind.{MapKind}
 use Rattle.xdp_maps.specs.declared.decl.MapKind.TheVariants.{Hash, Array}
 use Rattle.xdp_maps.specs.Contents.{IsBytes}
-use Rattle.xdp_maps.specs.Operations.{Operation, key_in}
+use Rattle.xdp_maps.specs.Operations.{key_in}
 use Rattle.xdp_maps.proofs.ByteLaws.{IsBytes-little_bytes}
 use Rattle.cell_core.specs.declared.site.Act.{Act}
 use Rattle.cell_core.specs.declared.site.Act.TheVariants as act
-use Rattle.cell_core.specs.Cells.{bit, on}
-use Rattle.cell_core.specs.Sites.{SiteView, ProgramView, site_at, records, spelled, bytes_of, operation_with}
+use Rattle.cell_core.specs.Cells.{bit}
+use Rattle.cell_core.specs.Sites.{ProgramView, site_at, records, spelled, bytes_of, operation_with}
 use Rattle.cell_core.specs.Formed.{AllFit}
 use Rattle.cell_core.specs.Rows.{numbers}
 use Rattle.cell_core.proofs.SpelledLaws.{spelled_length}
 use Rattle.hazard_core.specs.Tables.{TableState, decl_of, table_at}
 use Rattle.hazard_core.specs.Held.{Pointer, Null, same_pointer, is_null, Held, held_value, pointer_in, guard_on, asked, asked_key, access_pointer, found_cell, is_update, is_delete, writes_as, writes, adds_key, takes_key, slot_pointer, written_as, written_pointer, answer_cell}
-use Rattle.hazard_core.specs.Overlay.{found_as, found_over, key_pointer_as, key_pointer, looks, found_pointer, value_as, value_over, value_under, entry_value}
-use Rattle.hazard_core.specs.Replay.{earlier, IsAccess, HoldsReads, is_access, asks}
+use Rattle.hazard_core.specs.Overlay.{found_as, found_over, key_pointer_as, key_pointer, looks, value_as, value_over, entry_value}
+use Rattle.hazard_core.specs.Replay.{earlier, IsAccess, HoldsReads, asks}
 use Rattle.hazard_core.proofs.Effects.{key_at, value_at, adds_at, takes_at, map_of, key_of}
 
 -- ---- keys have the declared length

@@ -1,16 +1,15 @@
 -- What operations leave, as maps.
-use Rattle.std.proofs.Common.{◌≡◌, ◌≢◌, ℕ, ℤ, zero, suc, ◌+◌, ◌<◌, ◌≤◌, ◌⊎◌, inl, inr, Bool, true, false, List, [], ◌∷◌, Option, Some, None, get_or, length, refl, sym, ap, ◌∙◌, subst, arith, not, cond}
+use Rattle.std.proofs.Common.{◌≡◌, ◌≢◌, ℕ, ℤ, zero, suc, ◌+◌, ◌<◌, ◌≤◌, Bool, true, false, List, [], ◌∷◌, Some, None, get_or, length, refl, sym, ap, ◌∙◌, subst, arith, not}
 use Rattle.std.specs.Prelude.{◌&&◌, ◌==◌, pos, if◌then◌else◌, nat_lt, nat_le, is_some, slice_set, slice_index, take, drop, count_by, replicate, map as map_list}
 use Rattle.std.specs.Int.{w64, cast_unsigned}
 use Rattle.std.specs.Option.{option_map}
-use Rattle.std.specs.Ordering.{nat_cmp}
-use Rattle.std.specs.Cmp.Lexicographic.{slice_cmp, nat_list_cmp_total}
+use Rattle.std.specs.Cmp.Lexicographic.{nat_list_cmp_total}
 use Rattle.std.specs.FinMap as map
 use Rattle.std.specs.FinMap.{same_map, slice_cmp-IsAntisymmetric, nat_cmp-IsAntisymmetric}
 use Rattle.std.specs.Str.{bytes_eq}
 use Rattle.std.proofs.lemmas.Bool.Decides.{nat_tests}
 use Rattle.std.proofs.lemmas.Bool.{and_parts}
-use Rattle.std.proofs.lemmas.List.{set-get_or, length-replicate}
+use Rattle.std.proofs.lemmas.List.{set-get_or, length-replicate, map-set}
 use Rattle.std.proofs.Math.ListN.{get_or-map}
 use Rattle.std.proofs.lemmas.Slice.Eq.{bytes_eq-Decides}
 use Rattle.byteorder.specs.Endian.{little_bytes}
@@ -20,16 +19,15 @@ use Rattle.xdp_maps.specs.declared.decl.MapKind.{MapKind}
 use Rattle.xdp_maps.specs.declared.decl.MapKind.TheVariants.{Hash, Array}
 use Rattle.xdp_maps.specs.declared.errno.TheConstants.{ENOENT, E2BIG, EEXIST, EINVAL}
 use Rattle.xdp_maps.specs.Contents.{Contents, index_of}
-use Rattle.xdp_maps.specs.State.{MapState, decl_at, contents_at, with_contents}
-use Rattle.xdp_maps.specs.Calls.{unless, lookup_of, hash_refusal, array_refusal, number_of, update_error_as, delete_error_as, update_number, updated, delete_number, deleted, with_value, patched, with_change, number_at as changed_at}
-use Rattle.xdp_maps.specs.Operations as operation
+use Rattle.xdp_maps.specs.State.{MapState, contents_at, with_contents}
+use Rattle.xdp_maps.specs.Calls.{unless, lookup_of, number_of, update_error_as, delete_error_as, update_number, updated, delete_number, deleted, patched, with_change, number_at as changed_at}
 use Rattle.xdp_maps.specs.Operations.{Operation, key_in, left_by, operated}
 use Rattle.xdp_maps.specs.Laws.{UpdateLaws, DeleteLaws, EntryLaws, IndexLaws}
 use Rattle.cell_core.specs.declared.operator.Operator.TheVariants.{Found, Answer}
 use Rattle.cell_core.specs.declared.site.Act.{Act}
 use Rattle.cell_core.specs.declared.site.Act.TheVariants as act
 use Rattle.cell_core.specs.Cells.{bit, on}
-use Rattle.cell_core.specs.Sites.{SiteView, ProgramView, site_at, records, operation_with, operation_on, bytes_of, change_of, applied, after, found_in, loaded, number_or, read_on, answer_as as sites_answer}
+use Rattle.cell_core.specs.Sites.{SiteView, ProgramView, site_at, records, operation_with, bytes_of, change_of, applied, after, found_in, loaded, number_or, read_on, answer_as as sites_answer}
 use Rattle.cell_core.specs.Formed.{AllFit}
 use Rattle.hazard_core.specs.Tables.{Slot, TableState, decl_of, table_at, slot_at, has_key, used_count, contents_of, maps_of}
 use Rattle.hazard_core.specs.Held.{access_pointer, Pointer, Null, InSlot, Pending, is_null, Held, held_value, guard_on, asked, asked_key, answer_cell, is_update, is_delete, writes_as, writes, adds_key, takes_key, slot_pointer}
@@ -38,12 +36,13 @@ use Rattle.hazard_core.specs.Commits.{makes_entry, slot_as, committed, taken_aft
 use Rattle.hazard_core.specs.Changes.{with_tables, finds_key, reads as reads_as}
 use Rattle.hazard_core.specs.Tabled.{AreTables}
 use Rattle.hazard_core.specs.Replay.{Replayed, replay_one, replayed, earlier, HoldsReads, says_done, is_access, MapsInTurn, ReadsRight, ReadsInTurn}
+use Rattle.hazard_core.proofs.ActsLaws.{recorded}
 use Rattle.hazard_core.proofs.Changing.{pointer_stays}
 use Rattle.hazard_core.proofs.Slots.{pointer_is, slot_here, slot_other}
 use Rattle.hazard_core.proofs.Lookups.{value_of, lookup_is, count_is}
-use Rattle.hazard_core.proofs.Effects.{resolve, key_at, value_at, adds_at, takes_at, Follows, map_of, key_of, Effect}
+use Rattle.hazard_core.proofs.Effects.{resolve, key_at, value_at, Follows, map_of, key_of}
 use Rattle.hazard_core.proofs.Finding.{key_found, values_fold, adds_fold, takes_fold, Reaches, reaches}
-use Rattle.hazard_core.proofs.Committing.{Commit, commit, hash_tests}
+use Rattle.hazard_core.proofs.Committing.{Commit, commit}
 use Rattle.hazard_core.proofs.Turns.{Reached, all_follow, committed_is}
 
 no_case : true ≡ false → ⊥
@@ -82,14 +81,6 @@ not_zero n e z = no (sym (ap (λ m. cast_unsigned w64 m == 0) z) ∙ e)
     no : true ≡ false → ⊥
     no e = cc
 
-recorded : (a : Act) (k : MapKind) (n : ℕ) → writes_as a k n ≡ true → records a ≡ true
-recorded act.Lookup k n e = cc
-recorded (act.Load at size) k n e = cc
-recorded act.Update k n e = refl
-recorded act.Delete k n e = refl
-recorded (act.Store at size) k n e = refl
-recorded (act.Atomic at a) k n e = refl
-
 some_value : (slots : List Slot) (taken : List ℕ) (u : Pointer) → is_some (value_of slots (resolve taken u)) ≡ not (is_null u)
 some_value slots taken Null = refl
 some_value slots taken (InSlot n) = refl
@@ -120,11 +111,6 @@ leaves_same d slots op us key l = same_map nat_list_cmp_total (slice_cmp-IsAntis
     by : (q : List ℕ) (c : Bool) → bytes_eq q key ≡ c → value_of us (slot_pointer us q) ≡ lookup_of (left_by d (contents_of slots) op) q
     by q true e = let same : q ≡ key = (bytes_eq-Decides q key).0 e in subst (λ k. value_of us (slot_pointer us k) ≡ lookup_of (left_by d (contents_of slots) op) k) (sym same) l.own
     by q false e = let other : q ≢ key = λ s. no (sym e ∙ (bytes_eq-Decides q key).1 s) in l.others q other ∙ sym (l.kept q other)
-
-map_set : (ts : List (List Slot)) (m : ℕ) (us : List Slot) → map_list contents_of (slice_set ts m us) ≡ slice_set (map_list contents_of ts) m (contents_of us)
-map_set [] m us = refl
-map_set (x ∷ ts) zero us = refl
-map_set (x ∷ ts) (suc m) us = ap (λ l. contents_of x ∷ l) (map_set ts m us)
 
 taken_next : (v : ℕ → ℕ) (maps : MapState) (j : ℕ) (ss : List SiteView) → j < length ss → after v maps (take (suc j) ss) ≡ applied v (after v maps (take j ss)) (site_at ss j)
 taken_next v maps j [] l = absurd (omega (arith, l))
@@ -401,10 +387,10 @@ module _ (updates : (d : MapDecl) (c : Contents) (key value : List ℕ) (flags :
       let m = map_of p t h j in
       let us = slice_set (get_or ts m []) e.n e.s in
       let parts = and_parts (guard_on h s) (writes_as s.act (decl_of t.decls s.map).kind (held_value h (answer_cell p.cells j))) on in
-      ap (λ (cs : List Contents). record { decls = t.decls; contents = cs }) (map_set ts m us)
+      ap (λ (cs : List Contents). record { decls = t.decls; contents = cs }) (map-set contents_of ts m us)
       ∙ ap (λ c. with_contents (maps_of (with_tables t ts)) m c) (written_left j ts taken l f parts.0 on e ∙ ap (λ c. left_by (decl_of t.decls m) c (asked t.decls h s)) (sym (contents_are ts m)))
       ∙ sym (ap (λ (c : Bool). if c && guard_on h s then operated (maps_of (with_tables t ts)) s.map (asked t.decls h s) else maps_of (with_tables t ts)) (recorded s.act (decl_of t.decls s.map).kind (held_value h (answer_cell p.cells j)) parts.1)
-          ∙ ap (λ (c : Bool). if c then operated (maps_of (with_tables t ts)) s.map (asked t.decls h s) else maps_of (with_tables t ts)) parts.0)
+      ∙ ap (λ (c : Bool). if c then operated (maps_of (with_tables t ts)) s.map (asked t.decls h s) else maps_of (with_tables t ts)) parts.0)
 
   one_maps : (j : ℕ) (r : Replayed) → j < length p.sites → Reached p t h j r → maps_of (replay_one p h r j).tables ≡ applied (held_value h) (maps_of r.tables) (site_at p.sites j)
   one_maps j r l q = by (writes p r.tables.decls h j) (ap (λ (v : TableState). writes p v.decls h j) q.is)

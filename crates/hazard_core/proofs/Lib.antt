@@ -12,3 +12,4 @@ pub mod Turns
 pub mod Seeing
 pub mod Loading
 pub mod Leaving
+pub mod ActsLaws

@@ -1,12 +1,11 @@
 -- What lookups find in the contents of a table.
-use Rattle.std.proofs.Common.{◌≡◌, ◌≢◌, ℕ, zero, suc, ◌+◌, ◌<◌, ◌≤◌, Bool, true, false, cond, List, [], ◌∷◌, Option, Some, None, length, get_or, refl, sym, ap, ◌∙◌, subst, arith, not}
+use Rattle.std.proofs.Common.{◌≡◌, ℕ, suc, ◌+◌, ◌<◌, ◌≤◌, Bool, true, false, cond, List, [], ◌∷◌, Option, Some, None, length, refl, sym, ap, ◌∙◌, arith, not}
 use Rattle.std.specs.Prelude.{◌&&◌, if◌then◌else◌, nat_lt, is_some}
-use Rattle.std.specs.Ordering.{nat_cmp, eq_by_cmp}
+use Rattle.std.specs.Ordering.{nat_cmp}
 use Rattle.std.specs.Cmp.Lexicographic.{slice_cmp, nat_list_cmp_total}
 use Rattle.std.specs.FinMap as map
 use Rattle.std.specs.FinMap.{get-insert, get-empty, len-insert, len-empty}
 use Rattle.std.specs.Str.{bytes_eq}
-use Rattle.std.proofs.lemmas.Bool.{lt-ltb}
 use Rattle.std.proofs.lemmas.Bool.Decides.{nat_tests}
 use Rattle.std.proofs.lemmas.Slice.Eq.{bytes_eq-Decides}
 use Rattle.std.proofs.lemmas.Map.Text.{is_eq-slice_cmp}
@@ -14,7 +13,7 @@ use Rattle.xdp_maps.specs.Contents.{Contents}
 use Rattle.xdp_maps.specs.Calls.{lookup_of}
 use Rattle.hazard_core.specs.Tables.{Slot, slot_at, has_key, slot_of, used_count, contents_of}
 use Rattle.hazard_core.specs.Held.{Pointer, Null, InSlot, Pending, slot_pointer}
-use Rattle.hazard_core.proofs.Slots.{pointer_at, pointer_none, pointer_null, used_rec, used_is}
+use Rattle.hazard_core.proofs.Slots.{pointer_at, pointer_none, used_rec, used_is}
 
 -- the value under a pointer to a slot
 abbrev pub value_of : List Slot → Pointer → Option (List ℕ)

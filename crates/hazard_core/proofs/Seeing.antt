@@ -1,12 +1,11 @@
 -- A read that has all earlier operations behind it.
-use Rattle.std.proofs.Common.{◌≡◌, ℕ, zero, suc, ◌+◌, ◌<◌, ◌≤◌, Bool, true, false, List, [], ◌∷◌, ◌++◌, length, refl, sym, ap, ◌∙◌, subst, arith, not, cond}
+use Rattle.std.proofs.Common.{◌≡◌, ℕ, zero, suc, ◌+◌, ◌<◌, ◌≤◌, Bool, true, false, List, [], ◌∷◌, ◌++◌, refl, sym, ap, ◌∙◌, arith, not, cond}
 use Rattle.std.specs.Prelude.{◌&&◌, ◌==◌, if◌then◌else◌, nat_lt, fold, count_by}
 use Rattle.std.specs.List.{filter, list_all}
 use Rattle.std.specs.Int.{w64, cast_unsigned}
 use Rattle.std.proofs.lemmas.Bool.Decides.{Decides-eqb}
 use Rattle.std.proofs.lemmas.List.Elements.{filter-append}
 use Rattle.std.proofs.lemmas.List.Sums.{fold-append}
-use Rattle.xdp_maps.specs.declared.decl.MapDecl.{MapDecl}
 use Rattle.xdp_maps.specs.declared.decl.MapKind.{MapKind}
 use Rattle.xdp_maps.specs.declared.decl.MapKind.TheVariants.{Hash, Array}
 use Rattle.xdp_maps.specs.Calls.{number_at as changed_at}
@@ -16,7 +15,7 @@ use Rattle.xdp_machine.specs.Memory.{number_at}
 use Rattle.cell_core.specs.declared.site.Act.{Act}
 use Rattle.cell_core.specs.declared.site.Act.TheVariants as act
 use Rattle.cell_core.specs.Cells.{bit}
-use Rattle.cell_core.specs.Sites.{SiteView, ProgramView, site_at, records}
+use Rattle.cell_core.specs.Sites.{ProgramView, site_at, records}
 use Rattle.cell_core.specs.Rows.{numbers}
 use Rattle.hazard_core.specs.Tables.{TableState, decl_of, table_at, used_count}
 use Rattle.hazard_core.specs.Held.{Pointer, Null, is_null, Held, asked, asked_key, access_pointer, pointer_in, found_cell, is_update, is_delete, writes, adds_key, takes_key, slot_pointer, parts, is_pending, pending}
@@ -31,7 +30,7 @@ fold_alike step a k l j same zero le = refl
 fold_alike step a k l j same (suc n) le =
     let more : numbers 0 (suc n) ≡ numbers 0 n ++ n ∷ [] = numbers_more 0 n ∙ ap (λ m. numbers 0 n ++ m ∷ []) (omega arith) in
     let split : (q : ℕ → Bool) → fold step a (filter q (numbers 0 (suc n))) ≡ fold step (fold step a (filter q (numbers 0 n))) (filter q (n ∷ [])) =
-        λ q. ap (λ xs. fold step a (filter q xs)) more ∙ ap (fold step a) (filter-append q (numbers 0 n) (n ∷ [])) ∙ fold-append step a (filter q (numbers 0 n)) (filter q (n ∷ [])) in
+    λ q. ap (λ xs. fold step a (filter q xs)) more ∙ ap (fold step a) (filter-append q (numbers 0 n) (n ∷ [])) ∙ fold-append step a (filter q (numbers 0 n)) (filter q (n ∷ [])) in
     split k ∙ ap (λ x. fold step x (filter k (n ∷ []))) (fold_alike step a k l j same n (omega (arith, le))) ∙ same (fold step a (filter l (numbers 0 n))) n (omega (arith, le)) ∙ sym (split l)
 
 module _ (p : ProgramView) (row : ℕ → ℕ) (r j : ℕ) (t : TableState) (h : Held) (sees : (i : ℕ) → i < j → (site_at p.sites i).map ≡ (site_at p.sites j).map → writes p t.decls h i ≡ true → list_all (λ c. nat_lt (row c) r) (parts p i) ≡ true) where

@@ -1,10 +1,9 @@
 -- Where keys stand in a table.
-use Rattle.std.proofs.Common.{◌≡◌, ◌≢◌, ℕ, zero, suc, ◌+◌, ◌<◌, ◌≤◌, ◌⊎◌, inl, inr, Bool, true, false, List, [], ◌∷◌, get_or, length, refl, sym, ap, ◌∙◌, subst, arith, not, cond, length-set, get_or-set_other, get_or-set_same}
-use Rattle.std.specs.Prelude.{◌&&◌, if◌then◌else◌, nat_lt, slice_set, count_by}
-use Rattle.std.specs.List.{position_or_len}
+use Rattle.std.proofs.Common.{◌≡◌, ◌≢◌, ℕ, suc, ◌+◌, ◌<◌, ◌≤◌, ◌⊎◌, inl, inr, Bool, true, false, List, [], ◌∷◌, length, refl, sym, ap, ◌∙◌, subst, arith, not, cond, length-set, get_or-set_other, get_or-set_same}
+use Rattle.std.specs.Prelude.{if◌then◌else◌, nat_lt, slice_set}
 use Rattle.std.specs.Str.{bytes_eq}
 use Rattle.std.proofs.lemmas.Bool.{lt-ltb, and_parts, cases_lt}
-use Rattle.std.proofs.lemmas.Bool.Decides.{nat_tests, Decides-eqb}
+use Rattle.std.proofs.lemmas.Bool.Decides.{nat_tests}
 use Rattle.std.proofs.lemmas.Slice.Eq.{bytes_eq-Decides}
 use Rattle.std.proofs.lemmas.List.Sums.{position_or_len_is, passes_at_first, fails_before_first}
 use Rattle.std.proofs.lemmas.List.Recursion.{is_count_by}
@@ -13,17 +12,9 @@ use Rattle.xdp_maps.specs.declared.decl.MapKind.{MapKind}
 use Rattle.xdp_maps.specs.declared.decl.MapKind.TheVariants.{Hash, Array}
 use Rattle.xdp_maps.specs.Contents.{IsBytes, index_key}
 use Rattle.hazard_core.specs.Tables.{Slot, no_slot, slot_at, has_key, slot_of, free_slot, used_count}
-use Rattle.hazard_core.specs.Held.{Pointer, Null, InSlot, Pending, slot_pointer}
+use Rattle.hazard_core.specs.Held.{Null, InSlot, Pending, slot_pointer}
+use Rattle.hazard_core.proofs.Unmoved.{same_or}
 use Rattle.hazard_core.specs.Tabled.{IsFilledTable, IsTable}
-
-pub same_number : (m n : ℕ) → (m ≡ n) ⊎ (m ≢ n)
-same_number m n = elim (cases_lt m n) [
-  | inl l ↦ inr (λ e. omega (arith, l, e))
-  | inr g ↦ elim (cases_lt n m) [
-    | inl l ↦ inr (λ e. omega (arith, l, e))
-    | inr h ↦ inl (omega (arith, g, h))
-  ]
-]
 
 not_below : (n : ℕ) → nat_lt n n ≡ false
 not_below n = by (nat_lt n n) refl
@@ -132,7 +123,7 @@ comes slots n s key l e none =
 
 -- the key that goes
 pub goes : (slots : List Slot) (n : ℕ) (s : Slot) (key : List ℕ) → n < length slots → has_key key s ≡ false → ((i : ℕ) → i < length slots → i ≢ n → has_key key (slot_at slots i) ≡ false) → slot_pointer (slice_set slots n s) key ≡ Null
-goes slots n s key l e none = pointer_none (slice_set slots n s) key (λ i m. elim (same_number i n) [
+goes slots n s key l e none = pointer_none (slice_set slots n s) key (λ i m. elim (same_or i n) [
   | inl same ↦ ap (λ k. has_key key (slot_at (slice_set slots n s) k)) same ∙ ap (has_key key) (slot_here slots n s l) ∙ e
   | inr other ↦ ap (has_key key) (slot_other slots n i s other) ∙ none i (omega (arith, m, length-set slots n s)) other
 ])
@@ -150,11 +141,11 @@ no_true e = cc
 pub table_keeps : (d : MapDecl) (slots : List Slot) (n : ℕ) (s : Slot) → IsTable d slots → FitsSlot d slots n s → IsTable d (slice_set slots n s)
 table_keeps d slots n s table fits = record {
   count = length-set slots n s ∙ table.count;
-  keys = λ i m used. elim (same_number i n) [
+  keys = λ i m used. elim (same_or i n) [
     | inl same ↦ let e = at_n i same in subst (λ (x : Slot). IsBytes d.key x.key) (sym e) (fits.key (sym (ap (λ (x : Slot). x.used) e) ∙ used))
     | inr other ↦ let e = slot_other slots n i s other in subst (λ (x : Slot). IsBytes d.key x.key) (sym e) (table.keys i (below i m) (sym (ap (λ (x : Slot). x.used) e) ∙ used))
   ];
-  single = λ key i j l m e f. both key i j (below i l) (below j m) (same_number i n) (same_number j n) e f;
+  single = λ key i j l m e f. both key i j (below i l) (below j m) (same_or i n) (same_or j n) e f;
   filled = fill d.kind refl table.filled;
 }
   where
@@ -178,7 +169,7 @@ table_keeps d slots n s table fits = record {
 
     fill : (k : MapKind) → d.kind ≡ k → IsFilledTable k slots → IsFilledTable k (slice_set slots n s)
     fill Hash kind all = tt
-    fill Array kind all = λ i m. elim (same_number i n) [
+    fill Array kind all = λ i m. elim (same_or i n) [
       | inl same ↦ ap (has_key (index_key i)) (at_n i same) ∙ fits.kept kind (index_key i) ∙ ap (λ k. has_key (index_key i) (slot_at slots k)) (sym same) ∙ all i (below i m)
       | inr other ↦ ap (has_key (index_key i)) (slot_other slots n i s other) ∙ all i (below i m)
     ]

@@ -1,20 +1,19 @@
 -- All operations of a packet on its path, one after another.
-use Rattle.std.proofs.Common.{◌≡◌, ◌≢◌, ℕ, zero, suc, ◌+◌, ◌<◌, ◌≤◌, Bool, true, false, List, [], ◌∷◌, get_or, length, refl, sym, ap, ◌∙◌, subst, arith, not, cond}
-use Rattle.std.specs.Prelude.{◌&&◌, ◌==◌, if◌then◌else◌, nat_lt, slice_set, slice_index}
-use Rattle.xdp_maps.specs.declared.decl.MapKind.TheVariants.{Hash}
+use Rattle.std.proofs.Common.{◌≡◌, ℕ, zero, suc, ◌+◌, ◌<◌, ◌≤◌, Bool, true, false, List, [], get_or, length, refl, sym, ap, ◌∙◌, subst, arith}
+use Rattle.std.specs.Prelude.{◌&&◌, ◌==◌, if◌then◌else◌, slice_set}
 use Rattle.xdp_maps.specs.Laws.{IndexLaws}
 use Rattle.cell_core.specs.Cells.{bit}
 use Rattle.cell_core.specs.Sites.{ProgramView, site_at}
 use Rattle.cell_core.specs.Formed.{AllFit}
-use Rattle.hazard_core.specs.Tables.{Slot, TableState, decl_of, table_at, slot_at, used_count}
-use Rattle.hazard_core.specs.Held.{Pointer, Null, InSlot, Pending, same_pointer, is_null, is_update, is_delete, Held, asked, asked_key, pointer_in, found_cell, writes, adds_key, takes_key, slot_pointer, written_pointer}
-use Rattle.hazard_core.specs.Overlay.{found_as, found_over, value_as, value_over, value_under}
-use Rattle.hazard_core.specs.Commits.{with_slot, makes_entry, written_slot, slot_as, committed, taken_after}
+use Rattle.hazard_core.specs.Tables.{Slot, TableState, decl_of, table_at, slot_at}
+use Rattle.hazard_core.specs.Held.{Pointer, Null, InSlot, Pending, is_null, is_update, is_delete, Held, asked, asked_key, pointer_in, found_cell, writes, adds_key, takes_key, slot_pointer}
+use Rattle.hazard_core.specs.Overlay.{found_over, value_over, value_under}
+use Rattle.hazard_core.specs.Commits.{with_slot, makes_entry, slot_as, committed, taken_after}
 use Rattle.hazard_core.specs.Changes.{with_tables, IsRightCommit}
-use Rattle.hazard_core.specs.Tabled.{IsTable, AreTables}
+use Rattle.hazard_core.specs.Tabled.{AreTables}
 use Rattle.hazard_core.specs.Replay.{Replayed, replay_one, replayed, HoldsReads, IsInTurn, CommitsInTurn}
 use Rattle.hazard_core.proofs.Slots.{pointer_no_pending}
-use Rattle.hazard_core.proofs.Effects.{resolve, key_at, value_at, adds_at, takes_at, Follows, map_of, key_of, Effect, effect_follows}
+use Rattle.hazard_core.proofs.Effects.{resolve, key_at, value_at, adds_at, takes_at, Follows, map_of, effect_follows}
 use Rattle.hazard_core.proofs.Finding.{found_idle, value_idle}
 use Rattle.hazard_core.proofs.Committing.{Commit, commit}
 

@@ -1,6 +1,6 @@
 -- The three kinds of operations that write: one makes an entry, one writes its value, one takes it away.
-use Rattle.std.proofs.Common.{◌≡◌, ◌≢◌, ℕ, zero, suc, ◌+◌, ◌<◌, ◌≤◌, ◌⊎◌, inl, inr, Bool, true, false, List, [], ◌∷◌, get_or, length, refl, sym, ap, ◌∙◌, subst, arith, not, cond, length-set, get_or-set_other, get_or-set_same}
-use Rattle.std.specs.Prelude.{◌&&◌, ◌||◌, ◌==◌, if◌then◌else◌, nat_lt, slice_set, slice_index}
+use Rattle.std.proofs.Common.{◌≡◌, ◌≢◌, ℕ, suc, ◌+◌, ◌<◌, Bool, true, false, List, [], get_or, length, refl, sym, ap, ◌∙◌, subst, arith, cond, length-set, get_or-set_other, get_or-set_same}
+use Rattle.std.specs.Prelude.{◌&&◌, if◌then◌else◌, slice_set, slice_index}
 use Rattle.std.specs.Str.{bytes_eq}
 use Rattle.std.proofs.lemmas.Bool.Decides.{Decides-eqb}
 use Rattle.std.proofs.lemmas.Bool.{and_parts}
@@ -13,15 +13,15 @@ use Rattle.xdp_maps.specs.Operations.{Operation}
 use Rattle.cell_core.specs.declared.site.Act.{Act}
 use Rattle.cell_core.specs.declared.site.Act.TheVariants as act
 use Rattle.cell_core.specs.Cells.{bit}
-use Rattle.cell_core.specs.Sites.{SiteView, ProgramView, site_at}
-use Rattle.hazard_core.specs.Tables.{Slot, no_slot, TableState, decl_of, table_at, slot_at, has_key, used_count}
-use Rattle.hazard_core.specs.Held.{Pointer, Null, InSlot, Pending, same_pointer, is_null, Held, asked, asked_key, pointer_in, found_cell, is_update, is_delete, writes, adds_key, takes_key, slot_pointer, written_pointer}
-use Rattle.hazard_core.specs.Overlay.{found_as, found_over, value_as, value_over}
+use Rattle.cell_core.specs.Sites.{ProgramView, site_at}
+use Rattle.hazard_core.specs.Tables.{Slot, no_slot, TableState, decl_of, slot_at, has_key, used_count}
+use Rattle.hazard_core.specs.Held.{Pointer, Null, InSlot, Pending, same_pointer, is_null, Held, asked, pointer_in, found_cell, is_update, is_delete, writes, adds_key, takes_key, slot_pointer, written_pointer}
+use Rattle.hazard_core.specs.Overlay.{found_as, value_as}
 use Rattle.hazard_core.specs.Tabled.{IsTable}
 use Rattle.hazard_core.proofs.Changing.{pointer_tests, unused_key, other_key}
-use Rattle.hazard_core.proofs.Slots.{Stands, pointer_is, pointer_null, alone, comes, goes, slot_here, FitsSlot, same_key}
+use Rattle.hazard_core.proofs.Slots.{Stands, pointer_is, pointer_null, alone, comes, goes, slot_here, same_key}
 use Rattle.hazard_core.proofs.Changing.{pointer_stays, count_stays}
-use Rattle.hazard_core.proofs.Effects.{resolve, key_at, value_at, adds_at, takes_at, Follows, map_of, key_of, Effect, this_key, this_value, this_adds, this_takes, resolves}
+use Rattle.hazard_core.proofs.Effects.{resolve, key_at, value_at, Follows, map_of, key_of, Effect, this_key, this_value, this_adds, this_takes, resolves}
 
 own_bytes : (key : List ℕ) → bytes_eq key key ≡ true
 own_bytes key = (bytes_eq-Decides key key).1 refl

@@ -23,6 +23,7 @@ use Rattle.hazard_core.specs.Held.{Held, Pointer, is_null, held_value, pointer_i
 use Rattle.hazard_core.specs.Overlay.{key_pointer, found_pointer, update_answer, delete_answer, answer_as, answer_over}
 use Rattle.hazard_core.specs.Rows.{cell_number, cell_pointer}
 use Rattle.hazard_core.specs.Replay.{earlier, IsAccess, HoldsReads, is_access, asks, says_done, SeesEarlier}
+use Rattle.hazard_core.proofs.ActsLaws.{recorded}
 use Rattle.pipe_core.specs.Machine.{Packet, Build}
 use Rattle.pipe_core.specs.Agreement.{IsMade, Agrees, excused_as}
 use Rattle.pipe_core.specs.Pipeable.{IsOwn, TellsDone, IsSuited}
@@ -118,14 +119,6 @@ told_answer from width told p t h before j says = by (site_at p.sites j).act ref
       where
         no : false ≡ true → ⊥
         no e = cc
-
-recorded : (a : Act) (k : MapKind) (n : ℕ) → writes_as a k n ≡ true → records a ≡ true
-recorded act.Lookup k n e = cc
-recorded (act.Load at size) k n e = cc
-recorded act.Update k n e = refl
-recorded act.Delete k n e = refl
-recorded (act.Store at size) k n e = refl
-recorded (act.Atomic at a) k n e = refl
 
 -- ---- the reads of a packet
 
