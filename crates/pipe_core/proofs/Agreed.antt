@@ -1,36 +1,35 @@
 -- What the packets hold of the maps, over all clocks.
-use Rattle.std.proofs.Common.{◌≡◌, ◌≢◌, ℕ, zero, suc, ◌+◌, ◌<◌, ◌≤◌, ◌⊎◌, inl, inr, Bool, true, false, List, [], ◌∷◌, Option, Some, None, length, get_or, drop, refl, sym, ap, ◌∙◌, subst, arith, not}
-use Rattle.std.specs.Prelude.{if◌then◌else◌, nat_lt, nat_le, ◌==◌, ◌&&◌, ◌||◌, replicate, map as map_list}
+use Rattle.std.proofs.Common.{◌≡◌, ℕ, zero, suc, ◌+◌, ◌<◌, ◌≤◌, inl, inr, Bool, true, false, List, [], ◌∷◌, Option, Some, None, length, drop, refl, sym, ap, ◌∙◌, subst, arith, not}
+use Rattle.std.specs.Prelude.{if◌then◌else◌, nat_lt, nat_le, ◌==◌, ◌&&◌, ◌||◌}
 use Rattle.std.specs.List.{list_any}
 use Rattle.std.proofs.lemmas.Bool.Decides.{nat_tests, Decides-eqb}
 use Rattle.std.proofs.lemmas.Bool.{cases_lt, lt-ltb, le-leb}
 use Rattle.std.proofs.lemmas.List.{length-replicate}
-use Rattle.xdp_maps.specs.State.{MapState}
 use Rattle.xdp_machine.specs.State.{PacketIn}
 use Rattle.cell_core.specs.Cells.{CellView, cell_at, no_cell, site_in, bits_from}
 use Rattle.cell_core.specs.Sites.{SiteView, site_at}
 use Rattle.cell_core.specs.Rows.{numbers}
-use Rattle.hazard_core.specs.Tables.{TableState, tables_of}
-use Rattle.hazard_core.specs.Held.{Held, Null, held_value, with_cell, guard_on, writes}
+use Rattle.hazard_core.specs.Tables.{TableState}
+use Rattle.hazard_core.specs.Held.{Held, Null, with_cell, guard_on, writes}
 use Rattle.hazard_core.specs.Rows.{cell_number, cell_pointer, with_made, made_from, with_row}
-use Rattle.hazard_core.specs.Marks.{Change, known_on, known_off, is_known}
-use Rattle.hazard_core.specs.Changes.{with_tables, IsChange, IsRightCommit, CommitsChange}
+use Rattle.hazard_core.specs.Marks.{Change, known_on, known_off}
+use Rattle.hazard_core.specs.Changes.{IsRightCommit, CommitsChange}
 use Rattle.hazard_core.specs.Commits.{committed, change_by}
 use Rattle.beat_core.specs.Ports.{Arrival}
-use Rattle.pipe_core.specs.Machine.{Packet, State, Input, Build, Turn, Commits, Writes, Moves, packet_of, place_at, marked_at, site_numbers, injected, with_kept_marks, entered, struck, is_due, sends, some_send, worked, work, clock}
-use Rattle.pipe_core.specs.History.{Trace, next, begin, IsInOrder}
-use Rattle.pipe_core.specs.Agreement.{ReadsArePlanned, IsMade, Agrees, excused_as, off_below, EnteringAgrees, StrikingAgrees}
+use Rattle.pipe_core.specs.Machine.{Packet, State, Build, Turn, Commits, Writes, Moves, packet_of, marked_at, injected, with_kept_marks, entered, struck, is_due, sends, some_send, worked, work}
+use Rattle.pipe_core.specs.History.{next}
+use Rattle.pipe_core.specs.Agreement.{Agrees, excused_as, off_below, EnteringAgrees, StrikingAgrees}
 use Rattle.pipe_core.specs.Pipeable.{IsPipeable}
 use Rattle.pipe_core.specs.Placed.{Placed}
-use Rattle.pipe_core.specs.Watched.{Watched, views_below, views_on, views_after, seen_after, rest_of, turn_in, observed}
-use Rattle.pipe_core.specs.Marked.{touched_then, MarksAre, AreMarked}
+use Rattle.pipe_core.specs.Watched.{Watched, views_below, views_on, views_after, rest_of, turn_in, observed}
+use Rattle.pipe_core.specs.Marked.{touched_then, MarksAre}
 use Rattle.pipe_core.specs.Agreed.{IsClean, IsAgreed, IsRightTurn, KeepsAgreed, IsPathMade, PathsAreMade}
 use Rattle.pipe_core.proofs.Agreeing.{marked_of}
 use Rattle.pipe_core.proofs.Computing.{drop_next}
 use Rattle.pipe_core.proofs.Striking.{TablesSame, unread}
 use Rattle.pipe_core.proofs.Marking.{keeps_marked}
 use Rattle.pipe_core.proofs.Placing.{Settled, StruckSteps, MovedSteps, TurnSteps, next_placed, settled}
-use Rattle.pipe_core.proofs.Turning.{IsChosen, TurnIs, turn_is, Aside, clock_aside}
+use Rattle.pipe_core.proofs.Turning.{TurnIs, turn_is, clock_aside}
 
 -- ---- a row without reads does not see the tables
 
@@ -170,7 +169,7 @@ nothing_agrees b t c = record { values = length-replicate (length b.program.cell
 
 struck_agrees : StrikingAgrees → CommitsChange → (b : Build) → IsPipeable b → (w : Watched) (rest : List (Option Packet)) (j : ℕ) (y : Packet) → IsAgreed b w → writes b.program w.trace.state.tables.decls y.held j ≡ true → IsRightCommit b.program w.trace.state.tables w.trace.state.taken y.held j →
     StruckSteps b w.trace.state.tables (change_by b.program w.trace.state.tables w.trace.state.taken y.held j) b.plan.commit (Settled b rest (Known b w))
-        (λ k c x. Agrees b (views_below b.plan.commit (committed b.program w.trace.state.tables w.trace.state.taken y.held j) w.views k) (packet_of c) (suc k) x)
+    (λ k c x. Agrees b (views_below b.plan.commit (committed b.program w.trace.state.tables w.trace.state.taken y.held j) w.views k) (packet_of c) (suc k) x)
 unfolding committed
 struck_agrees striking changes b fit w rest j y h on right = record {
   hit = λ k c x l m.

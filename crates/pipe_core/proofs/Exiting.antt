@@ -1,15 +1,14 @@
 -- A packet that has taken in all rows is a cell run.
-use Rattle.std.proofs.Common.{◌≡◌, ◌≢◌, ℕ, suc, ◌+◌, ◌<◌, ◌≤◌, Bool, true, false, List, Option, Some, None, length, refl, sym, ap, ◌∙◌, subst, arith, not}
-use Rattle.std.specs.Prelude.{◌^◌, take}
-use Rattle.xdp_maps.specs.State.{MapState}
+use Rattle.std.proofs.Common.{◌≡◌, ℕ, suc, ◌<◌, Bool, true, false, Some, length, refl, sym, ap, ◌∙◌, subst, not}
+use Rattle.std.specs.Prelude.{take}
 use Rattle.xdp_machine.specs.State.{PacketIn}
 use Rattle.cell_core.specs.declared.operator.Operator.{Operator}
 use Rattle.cell_core.specs.declared.operator.Operator.TheVariants.{Found, Answer}
-use Rattle.cell_core.specs.Cells.{CellView, Solves_as, cell_at, site_in, is_read, bits_from, bit}
-use Rattle.cell_core.specs.Sites.{ProgramView, IsCellRun, site_at, after, read_on}
+use Rattle.cell_core.specs.Cells.{Solves_as, cell_at, site_in, is_read, bits_from, bit}
+use Rattle.cell_core.specs.Sites.{IsCellRun, site_at, after, read_on}
 use Rattle.hazard_core.specs.Tables.{TableState, maps_of}
 use Rattle.hazard_core.specs.Tabled.{AreTables}
-use Rattle.hazard_core.specs.Held.{Held, held_value, guard_on, is_null, pending}
+use Rattle.hazard_core.specs.Held.{held_value, guard_on, is_null}
 use Rattle.hazard_core.specs.Rows.{cell_number}
 use Rattle.hazard_core.specs.Replay.{ReadsRight, ReadsInTurn, SeesEarlier}
 use Rattle.pipe_core.specs.Machine.{Packet, Build}

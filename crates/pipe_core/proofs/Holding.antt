@@ -1,7 +1,7 @@
 -- A packet whose reads on the path are as they would be made holds what it finds over all its earlier operations.
-use Rattle.std.proofs.Common.{◌≡◌, ◌≢◌, ℕ, ℤ, zero, suc, ◌+◌, ◌<◌, ◌≤◌, Bool, true, false, List, [], ◌∷◌, Option, Some, None, length, get_or, refl, sym, ap, ◌∙◌, subst, arith, not}
-use Rattle.std.specs.Prelude.{if◌then◌else◌, nat_lt, nat_le, ◌==◌, ◌&&◌, ◌%◌, ◌/◌, ◌^◌, count_by, map as map_list, slice_index}
-use Rattle.std.specs.List.{list_all, position_or_len}
+use Rattle.std.proofs.Common.{◌≡◌, ℕ, ℤ, suc, ◌+◌, ◌<◌, Bool, true, false, List, [], ◌∷◌, Some, None, length, refl, sym, ap, ◌∙◌, subst, arith, not}
+use Rattle.std.specs.Prelude.{if◌then◌else◌, nat_lt, nat_le, ◌==◌, ◌&&◌, ◌%◌, ◌^◌, map as map_list}
+use Rattle.std.specs.List.{list_all}
 use Rattle.std.specs.Int.{w64, cast_unsigned}
 use Rattle.std.proofs.Math.Nat.{zero-mod, zero-div}
 use Rattle.std.proofs.lemmas.Bool.{and_parts}
@@ -10,23 +10,22 @@ use Rattle.xdp_maps.specs.declared.decl.MapDecl.{MapDecl}
 use Rattle.xdp_maps.specs.declared.decl.MapKind.{MapKind}
 use Rattle.xdp_maps.specs.declared.decl.MapKind.TheVariants.{Hash, Array}
 use Rattle.xdp_maps.specs.declared.errno.TheConstants.{ENOENT, E2BIG, EEXIST, EINVAL}
-use Rattle.xdp_maps.specs.Calls.{hash_refusal, array_refusal, number_of}
+use Rattle.xdp_maps.specs.Calls.{number_of}
 use Rattle.xdp_machine.specs.State.{PacketIn}
-use Rattle.cell_core.specs.declared.operator.Operator.{Operator}
 use Rattle.cell_core.specs.declared.operator.Operator.TheVariants.{Found, Answer}
 use Rattle.cell_core.specs.declared.site.Act.{Act}
 use Rattle.cell_core.specs.declared.site.Act.TheVariants as act
-use Rattle.cell_core.specs.Cells.{CellView, cell_at, no_cell, site_in, bits_from, bit, on}
-use Rattle.cell_core.specs.Sites.{SiteView, ProgramView, site_at, records, operation_with}
-use Rattle.hazard_core.specs.Tables.{TableState, decl_of, table_at, used_count}
-use Rattle.hazard_core.specs.Held.{Held, Pointer, is_null, held_value, pointer_in, guard_on, is_found_of, is_answer_of, found_cell, answer_cell, writes_as, writes, adds_key, takes_key, pending, parts}
-use Rattle.hazard_core.specs.Overlay.{key_pointer, found_pointer, update_answer, delete_answer, answer_as, answer_over}
+use Rattle.cell_core.specs.Cells.{cell_at, no_cell, site_in, bits_from, bit, on}
+use Rattle.cell_core.specs.Sites.{ProgramView, site_at, operation_with}
+use Rattle.hazard_core.specs.Tables.{TableState, decl_of}
+use Rattle.hazard_core.specs.Held.{Held, is_null, held_value, pointer_in, guard_on, is_found_of, is_answer_of, found_cell, answer_cell, writes_as, pending}
+use Rattle.hazard_core.specs.Overlay.{found_pointer, update_answer, delete_answer, answer_as, answer_over}
 use Rattle.hazard_core.specs.Rows.{cell_number, cell_pointer}
-use Rattle.hazard_core.specs.Replay.{earlier, IsAccess, HoldsReads, is_access, asks, says_done, SeesEarlier}
+use Rattle.hazard_core.specs.Replay.{earlier, HoldsReads, says_done, SeesEarlier}
 use Rattle.hazard_core.proofs.ActsLaws.{recorded}
 use Rattle.pipe_core.specs.Machine.{Packet, Build}
-use Rattle.pipe_core.specs.Agreement.{IsMade, Agrees, excused_as}
-use Rattle.pipe_core.specs.Pipeable.{IsOwn, TellsDone, IsSuited}
+use Rattle.pipe_core.specs.Agreement.{Agrees, excused_as}
+use Rattle.pipe_core.specs.Pipeable.{IsOwn, IsSuited}
 use Rattle.pipe_core.specs.Agreed.{IsPathMade}
 use Rattle.pipe_core.proofs.Striking.{found_is, answer_is}
 
@@ -163,8 +162,8 @@ module _ (seen : SeesEarlier) (b : Build) (t : TableState) (packet : PacketIn) (
         let made = path c j m s guard in
         let at : pointer_in h c ≡ found_pointer p t h (pending p b.plan.row (b.plan.row c) j) j = made.pointer ∙ ap (cell_pointer p b.plan.row (b.plan.row c) t h d) o in
         let value : held_value h c ≡ 0 =
-            made.value ∙ ap (λ q. bits_from (cell_number p b.plan.row (b.plan.row c) t packet h d q) d.from d.width) o
-            ∙ ap (λ q. bits_from (bit (not (is_null q))) d.from d.width) (sym at) ∙ ap (λ z. bits_from (bit (not z)) d.from d.width) none ∙ no_bits d.from d.width in
+        made.value ∙ ap (λ q. bits_from (cell_number p b.plan.row (b.plan.row c) t packet h d q) d.from d.width) o
+        ∙ ap (λ q. bits_from (bit (not (is_null q))) d.from d.width) (sym at) ∙ ap (λ z. bits_from (bit (not z)) d.from d.width) none ∙ no_bits d.from d.width in
         ap on value;
     done = λ j l guard says.
         let c = answer_cell p.cells j in
@@ -173,8 +172,8 @@ module _ (seen : SeesEarlier) (b : Build) (t : TableState) (packet : PacketIn) (
         let o = answer_op j tell.in_range in
         let s : site_in (cell_at p.cells c).op ≡ Some j = ap site_in o in
         let value : held_value h c ≡ bits_from (answer_over p t h (earlier p j) j) d.from d.width =
-            (path c j tell.in_range s guard).value ∙ ap (λ q. bits_from (cell_number p b.plan.row (b.plan.row c) t packet h d q) d.from d.width) o
-            ∙ ap (λ n. bits_from n d.from d.width) (both_seen c j tell.in_range s guard).1 in
+        (path c j tell.in_range s guard).value ∙ ap (λ q. bits_from (cell_number p b.plan.row (b.plan.row c) t packet h d q) d.from d.width) o
+        ∙ ap (λ n. bits_from n d.from d.width) (both_seen c j tell.in_range s guard).1 in
         ap (λ n. n == 0) value ∙ told_answer d.from d.width (errors_told d.from d.width tell.errors) p t h (earlier p j) j says;
     accesses = λ j l guard a. fit.accesses t packet h refl own j l guard a;
   }

@@ -1,22 +1,20 @@
 -- Where marks stand.
-use Rattle.std.proofs.Common.{◌≡◌, ◌≢◌, ℕ, zero, suc, ◌+◌, ◌<◌, ◌≤◌, ◌⊎◌, inl, inr, Bool, true, false, List, [], ◌∷◌, Option, Some, None, length, get_or, refl, sym, ap, ◌∙◌, subst, arith, not}
-use Rattle.std.specs.Prelude.{if◌then◌else◌, nat_lt, nat_le, ◌&&◌, ◌||◌, replicate, map as map_list}
+use Rattle.std.proofs.Common.{◌≡◌, ℕ, zero, suc, ◌≤◌, inl, Bool, true, false, List, [], ◌∷◌, Option, Some, None, length, get_or, refl, sym, ap, ◌∙◌, subst, arith, not}
+use Rattle.std.specs.Prelude.{if◌then◌else◌, nat_le, ◌&&◌, ◌||◌, replicate}
 use Rattle.std.specs.List.{list_any}
 use Rattle.std.proofs.lemmas.Bool.Decides.{nat_tests}
 use Rattle.std.proofs.lemmas.Bool.{le-leb}
 use Rattle.xdp_maps.specs.State.{MapState}
 use Rattle.xdp_maps.specs.declared.decl.MapDecl.{MapDecl}
-use Rattle.xdp_machine.specs.State.{PacketIn}
 use Rattle.cell_core.specs.Cells.{on}
 use Rattle.cell_core.specs.Sites.{SiteView, site_at}
-use Rattle.cell_core.specs.Rows.{numbers}
 use Rattle.hazard_core.specs.Tables.{TableState}
 use Rattle.hazard_core.specs.Held.{Held, held_value, guard_on}
 use Rattle.hazard_core.specs.Rows.{with_row}
 use Rattle.hazard_core.specs.Marks.{Change, touches, known_off, has_read, is_marked}
 use Rattle.hazard_core.specs.Commits.{committed, change_by, host_written, host_change}
 use Rattle.beat_core.specs.Ports.{Arrival}
-use Rattle.pipe_core.specs.Machine.{Packet, State, Input, Build, Turn, Commits, Writes, Moves, packet_of, place_at, marked_at, injected, with_kept_marks, entered, struck, some_send, worked, work, gathered, scattered, beat_over, taken_beat, clock}
+use Rattle.pipe_core.specs.Machine.{Packet, State, Input, Build, Turn, Commits, Writes, Moves, packet_of, place_at, marked_at, injected, entered, struck, some_send, worked, work, gathered, beat_over, taken_beat, clock}
 use Rattle.pipe_core.specs.History.{Trace, next, begin, IsInOrder}
 use Rattle.pipe_core.specs.Placed.{Placed}
 use Rattle.pipe_core.specs.Watched.{Seen, Watched, held_in, sees, seen_on, seen_after, rest_of, turn_in, observed, watch, watch_start}

@@ -1,6 +1,6 @@
 -- Over every list of clocks packets are cell runs one after another.
-use Rattle.std.proofs.Common.{◌≡◌, ◌≢◌, ℕ, zero, suc, ◌+◌, ◌<◌, ◌≤◌, ◌⊎◌, inl, inr, Bool, true, false, List, [], ◌∷◌, ◌++◌, Option, Some, None, length, get_or, drop, refl, sym, ap, ◌∙◌, subst, arith, not, length-append}
-use Rattle.std.specs.Prelude.{◌^◌, ◌%◌, ◌/◌, replicate}
+use Rattle.std.proofs.Common.{◌≡◌, ℕ, zero, suc, ◌<◌, inl, inr, List, [], ◌∷◌, ◌++◌, Option, Some, None, length, drop, refl, sym, ap, ◌∙◌, subst, arith}
+use Rattle.std.specs.Prelude.{◌^◌, ◌/◌, replicate}
 use Rattle.std.specs.List.{AllByRecursion}
 use Rattle.std.proofs.lemmas.Bool.{cases_lt}
 use Rattle.std.proofs.lemmas.List.{length-replicate}
@@ -8,35 +8,35 @@ use Rattle.std.proofs.lemmas.Nat.{pow_pos}
 use Rattle.std.proofs.Math.Nat.{mod-lt}
 use Rattle.xdp_maps.specs.State.{MapState, IsSound}
 use Rattle.xdp_machine.specs.State.{PacketIn}
-use Rattle.cell_core.specs.Cells.{cell_at, is_read, bits_from}
+use Rattle.cell_core.specs.Cells.{cell_at}
 use Rattle.cell_core.specs.Rows.{RowsRise}
 use Rattle.cell_core.specs.Sites.{ProgramView}
 use Rattle.hazard_core.specs.Tables.{TableState, tables_of, maps_of}
-use Rattle.hazard_core.specs.Tabled.{AreTables, LoadsTables}
+use Rattle.hazard_core.specs.Tabled.{LoadsTables}
 use Rattle.hazard_core.specs.Standing.{TablesStand}
-use Rattle.hazard_core.specs.Held.{Held, Null, held_value}
+use Rattle.hazard_core.specs.Held.{Held, Null}
 use Rattle.hazard_core.specs.Rows.{cell_number, with_row}
 use Rattle.hazard_core.specs.Keeping.{ReadsKeep}
 use Rattle.hazard_core.specs.Marks.{Change}
 use Rattle.hazard_core.specs.Commits.{change_by, host_change}
 use Rattle.hazard_core.specs.Replay.{CommitsInTurn, MapsInTurn, ReadsInTurn, SeesEarlier}
 use Rattle.beat_core.specs.Ports.{Arrival}
-use Rattle.pipe_core.specs.Machine.{Packet, State, Input, Build, Turn, Commits, Writes, Moves, packet_of, place_at, inside, injected, entered, struck, some_send, worked, work, clock, beat_over}
-use Rattle.pipe_core.specs.History.{Trace, came_in, left_as, left_in, next, run, begin, IsInOrder}
-use Rattle.pipe_core.specs.Computed.{IsComputed, KeepsComputed, IsAlwaysComputed}
+use Rattle.pipe_core.specs.Machine.{Packet, Input, Build, Turn, Commits, Writes, Moves, packet_of, place_at, inside, injected, entered, struck, some_send, work, clock, beat_over}
+use Rattle.pipe_core.specs.History.{Trace, came_in, left_in, next, run, IsInOrder}
+use Rattle.pipe_core.specs.Computed.{IsAlwaysComputed}
 use Rattle.pipe_core.specs.Sequential.{AreCellRuns}
 use Rattle.pipe_core.specs.Placed.{Placed}
 use Rattle.pipe_core.specs.Agreement.{ReadsArePlanned}
 use Rattle.pipe_core.specs.Pipeable.{IsSuited}
 use Rattle.pipe_core.specs.Watched.{Watched, views_after, rest_of, turn_in, observed, watch, watch_start}
-use Rattle.pipe_core.specs.Right.{IsRight, KeepsRight, IsAlwaysRight}
+use Rattle.pipe_core.specs.Right.{KeepsRight, IsAlwaysRight}
 use Rattle.pipe_core.specs.InTurn.{left_maps, passed_maps, AreChained, ReadsFit, IsSequential, KeepsSequential, RunsInTurn, FinalMaps}
-use Rattle.pipe_core.proofs.Order.{work_keeps, beats_keep, keeps_order, begins}
+use Rattle.pipe_core.proofs.Order.{beats_keep, keeps_order, begins}
 use Rattle.pipe_core.proofs.Carrying.{work_carries, keeps_computed, computed}
-use Rattle.pipe_core.proofs.Agreeing.{Rowed, rowed}
+use Rattle.pipe_core.proofs.Agreeing.{rowed}
 use Rattle.pipe_core.proofs.Marking.{begins_placed}
 use Rattle.pipe_core.proofs.Agreed.{Known, all_known, both_placed}
-use Rattle.pipe_core.proofs.Placing.{Settled, StruckSteps, MovedSteps, TurnSteps, next_placed}
+use Rattle.pipe_core.proofs.Placing.{Settled, StruckSteps, TurnSteps, next_placed}
 use Rattle.pipe_core.proofs.Turning.{turn_is}
 use Rattle.pipe_core.proofs.Sequencing.{left_append, runs_append, runs_more, Core, turn_core}
 

@@ -1,5 +1,5 @@
 -- What holds of the packets in their places, through a clock.
-use Rattle.std.proofs.Common.{◌≡◌, ℕ, zero, suc, ◌+◌, ◌<◌, ◌≤◌, Bool, true, false, List, [], ◌∷◌, ◌++◌, Option, Some, None, length, get_or, drop, refl, sym, ap, ◌∙◌, subst, arith, not}
+use Rattle.std.proofs.Common.{◌≡◌, ℕ, zero, suc, ◌+◌, ◌≤◌, Bool, true, false, List, [], ◌∷◌, ◌++◌, Option, Some, None, length, get_or, drop, refl, sym, ap, ◌∙◌, subst, arith, not}
 use Rattle.std.specs.Prelude.{if◌then◌else◌, nat_lt, ◌&&◌, ◌||◌, is_some}
 use Rattle.std.specs.Option.{option_map}
 use Rattle.cell_core.specs.Cells.{bit}
@@ -11,7 +11,7 @@ use Rattle.pipe_core.specs.Machine.{Packet, State, Input, Build, Turn, Commits, 
 use Rattle.pipe_core.specs.History.{Trace, came_in, next, IsInOrder}
 use Rattle.pipe_core.specs.Placed.{Placed}
 use Rattle.pipe_core.specs.Watched.{rest_of, turn_in}
-use Rattle.pipe_core.proofs.Order.{last_or, moved_inside, place_last, swept_length, swept_inside, struck_inside, work_keeps, beats_keep}
+use Rattle.pipe_core.proofs.Order.{last_or, moved_inside, place_last, swept_length, struck_inside, work_keeps, beats_keep}
 use Rattle.pipe_core.proofs.Carrying.{swept_none, behind, get_or_front}
 
 -- a packet that is not sent back, among those that stay

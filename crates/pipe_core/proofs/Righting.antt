@@ -1,10 +1,9 @@
 -- What commits do to the tables, over all clocks.
-use Rattle.std.proofs.Common.{◌≡◌, ◌≢◌, ℕ, zero, suc, ◌+◌, ◌-◌, ◌<◌, ◌≤◌, Bool, true, false, List, [], ◌∷◌, Option, Some, None, length, get_or, refl, sym, ap, ◌∙◌, subst, arith, not, length-set}
+use Rattle.std.proofs.Common.{◌≡◌, ℕ, zero, suc, ◌+◌, ◌-◌, ◌<◌, ◌≤◌, Bool, true, false, List, [], ◌∷◌, Option, Some, None, length, refl, sym, ap, ◌∙◌, subst, arith, length-set}
 use Rattle.std.specs.Prelude.{if◌then◌else◌, nat_lt, nat_le, ◌&&◌, ◌||◌, replicate, slice_set}
 use Rattle.std.specs.List.{AllByRecursion, list_any}
 use Rattle.std.specs.Option.{option_map}
 use Rattle.std.proofs.lemmas.Bool.Decides.{nat_tests}
-use Rattle.std.proofs.lemmas.Bool.{cases_lt}
 use Rattle.std.proofs.lemmas.List.{length-replicate}
 use Rattle.xdp_maps.specs.declared.decl.MapDecl.{MapDecl}
 use Rattle.xdp_maps.specs.State.{MapState, IsSound}
@@ -19,15 +18,13 @@ use Rattle.hazard_core.specs.Commits.{written_slot, committed, taken_after, chan
 use Rattle.hazard_core.specs.Changes.{IsRightCommit}
 use Rattle.hazard_core.specs.Replay.{Replayed, replay_one, replayed, HoldsReads, IsInTurn, CommitsInTurn, SeesEarlier}
 use Rattle.beat_core.specs.Ports.{Arrival}
-use Rattle.pipe_core.specs.Machine.{Packet, State, Input, Build, Turn, Commits, Writes, Moves, packet_of, place_at, marked_at, site_numbers, struck, struck_below, is_due, sends, swept, some_send, worked, work, clock}
-use Rattle.pipe_core.specs.History.{Trace, next, begin, IsInOrder}
-use Rattle.pipe_core.specs.Sending.{SentBack, SendsBack}
-use Rattle.pipe_core.specs.Placed.{Placed}
+use Rattle.pipe_core.specs.Machine.{Packet, State, Input, Build, Turn, Commits, Writes, Moves, packet_of, place_at, marked_at, struck, struck_below, is_due, sends, swept, some_send, worked, work, clock}
+use Rattle.pipe_core.specs.History.{next, begin, IsInOrder}
 use Rattle.pipe_core.specs.Agreement.{Agrees}
 use Rattle.pipe_core.specs.Pipeable.{IsPipeable, IsSuited}
 use Rattle.pipe_core.specs.Watched.{Watched, views_below, views_on, views_after, rest_of, turn_in, observed, watch, watch_start}
 use Rattle.pipe_core.specs.Marked.{MarksAre}
-use Rattle.pipe_core.specs.Agreed.{IsClean, IsAgreed, IsRightTurn, KeepsAgreed, IsPathMade}
+use Rattle.pipe_core.specs.Agreed.{IsClean, IsAgreed, IsRightTurn, KeepsAgreed}
 use Rattle.pipe_core.specs.Right.{Replays, IsUnmarked, IsRightAt, IsRight, TurnsAreRight, KeepsRight, IsAlwaysRight}
 use Rattle.pipe_core.proofs.Order.{keeps_order, begins, beats_keep}
 use Rattle.pipe_core.proofs.Sending.{always_sends_back}
@@ -177,8 +174,8 @@ turned in_turn seen b decls fit w h j x is = record {
         let e : w.trace.state.done + n ≡ j = omega (arith, f) in
         let q = is.in_range in
         rp.state ∙ sym (skips b x.held (record { tables = w.views b.plan.commit; taken = rp.first }) (w.views b.plan.commit).decls w.trace.state.done n
-            (λ k l. (turn k (omega (arith, l, e, q))).decls)
-            (λ i a l. ap (λ ds. writes b.program ds x.held i) (sym same_decls) ∙ is.before i a (omega (arith, l, e))))
+        (λ k l. (turn k (omega (arith, l, e, q))).decls)
+        (λ i a l. ap (λ ds. writes b.program ds x.held i) (sym same_decls) ∙ is.before i a (omega (arith, l, e))))
         ∙ ap (replayed b.program x.held (record { tables = w.views b.plan.commit; taken = rp.first })) e
 
     after_is : record { tables = committed b.program w.trace.state.tables w.trace.state.taken x.held j; taken = taken_after b.program w.trace.state.tables w.trace.state.taken x.held j } ≡ replayed b.program x.held (record { tables = w.views b.plan.commit; taken = rp.first }) (suc j)

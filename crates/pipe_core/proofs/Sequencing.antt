@@ -1,45 +1,33 @@
 -- Packets overlap, and are cell runs one after another.
-use Rattle.std.proofs.Common.{◌≡◌, ◌≢◌, ℕ, zero, suc, ◌+◌, ◌-◌, ◌<◌, ◌≤◌, ◌⊎◌, inl, inr, Bool, true, false, List, [], ◌∷◌, ◌++◌, Option, Some, None, length, get_or, drop, refl, sym, ap, ◌∙◌, subst, arith, not}
-use Rattle.std.specs.Prelude.{if◌then◌else◌, nat_lt, ◌&&◌, ◌^◌, ◌%◌, take, replicate}
-use Rattle.std.specs.List.{AllByRecursion}
+use Rattle.std.proofs.Common.{◌≡◌, ℕ, zero, suc, ◌+◌, ◌-◌, ◌<◌, ◌≤◌, inl, inr, Bool, true, false, List, [], ◌∷◌, ◌++◌, Option, Some, None, length, get_or, drop, refl, sym, ap, ◌∙◌, subst, arith}
+use Rattle.std.specs.Prelude.{if◌then◌else◌, nat_lt}
 use Rattle.std.proofs.lemmas.Bool.Decides.{nat_tests}
 use Rattle.std.proofs.lemmas.Bool.{cases_lt}
 use Rattle.std.proofs.lemmas.List.{length-drop, take_all}
-use Rattle.std.proofs.Math.Nat.{mod-lt}
 use Rattle.xdp_maps.specs.declared.decl.MapDecl.{MapDecl}
-use Rattle.xdp_maps.specs.State.{MapState, IsSound}
+use Rattle.xdp_maps.specs.State.{MapState}
 use Rattle.xdp_machine.specs.State.{PacketIn}
-use Rattle.cell_core.specs.Cells.{cell_at, is_read, bits_from}
 use Rattle.cell_core.specs.Formed.{AllFit}
-use Rattle.cell_core.specs.Rows.{RowsRise}
-use Rattle.cell_core.specs.Sites.{ProgramView, IsCellRun, site_at, after}
-use Rattle.hazard_core.specs.Tables.{TableState, tables_of, maps_of}
+use Rattle.cell_core.specs.Sites.{ProgramView, IsCellRun, after}
+use Rattle.hazard_core.specs.Tables.{TableState, maps_of}
 use Rattle.hazard_core.specs.Tabled.{AreTables}
-use Rattle.hazard_core.specs.Standing.{TablesStand}
 use Rattle.hazard_core.specs.Held.{Held, held_value, writes}
-use Rattle.hazard_core.specs.Rows.{cell_number, with_row}
 use Rattle.hazard_core.specs.Marks.{Change}
-use Rattle.hazard_core.specs.Keeping.{ReadsKeep}
 use Rattle.hazard_core.specs.Commits.{committed, change_by}
-use Rattle.hazard_core.specs.Replay.{Replayed, replayed, IsInTurn, CommitsInTurn, MapsInTurn, ReadsInTurn, SeesEarlier}
+use Rattle.hazard_core.specs.Replay.{Replayed, replayed, CommitsInTurn, MapsInTurn, ReadsInTurn, SeesEarlier}
 use Rattle.beat_core.specs.Ports.{Arrival}
-use Rattle.pipe_core.specs.Machine.{Packet, State, Input, Build, Turn, Commits, Writes, Moves, packet_of, place_at, inside, injected, entered, struck, struck_below, moved, newcomer, swept, some_send, worked, work, clock, beat_over}
-use Rattle.pipe_core.specs.History.{Trace, came_in, left_as, left_in, next, run, begin, IsInOrder}
-use Rattle.pipe_core.specs.Computed.{Computes, LeftCompute, IsComputed, IsPlanned, KeepsComputed}
+use Rattle.pipe_core.specs.Machine.{Packet, State, Build, Turn, Commits, Writes, Moves, packet_of, place_at, struck_below, moved, newcomer, worked}
+use Rattle.pipe_core.specs.History.{left_as, IsInOrder}
+use Rattle.pipe_core.specs.Computed.{Computes, LeftCompute}
 use Rattle.pipe_core.specs.Sequential.{AreCellRuns}
-use Rattle.pipe_core.specs.Placed.{Placed}
-use Rattle.pipe_core.specs.Agreement.{Agrees, excused_as}
-use Rattle.pipe_core.specs.Agreed.{IsPathMade}
-use Rattle.pipe_core.specs.Pipeable.{IsPipeable, IsSuited}
-use Rattle.pipe_core.specs.Watched.{Watched, views_below, views_on, views_after, rest_of, turn_in, observed, watch, watch_start}
-use Rattle.pipe_core.specs.Right.{Replays, IsRight, KeepsRight}
-use Rattle.pipe_core.specs.InTurn.{left_maps, passed_maps, AreChained, ReadsFit, IsSequential, KeepsSequential, RunsInTurn, FinalMaps}
-use Rattle.pipe_core.proofs.Order.{last_or, place_last, swept_length, work_keeps, beats_keep, keeps_order, begins}
-use Rattle.pipe_core.proofs.Carrying.{work_carries}
-use Rattle.pipe_core.proofs.Agreeing.{Rowed, rowed, keeps_other}
-use Rattle.pipe_core.proofs.Agreed.{Known, all_known, unmarked, path_made, each_placed, both_placed}
-use Rattle.pipe_core.proofs.Placing.{Settled, settled, placed_at, StruckSteps, MovedSteps, TurnSteps, next_placed}
-use Rattle.pipe_core.proofs.Turning.{IsChosen, TurnIs, turn_is}
+use Rattle.pipe_core.specs.Agreement.{excused_as}
+use Rattle.pipe_core.specs.Pipeable.{IsSuited}
+use Rattle.pipe_core.specs.Watched.{Watched, views_below, views_on, views_after, rest_of}
+use Rattle.pipe_core.specs.InTurn.{left_maps, passed_maps, AreChained, ReadsFit, IsSequential}
+use Rattle.pipe_core.proofs.Order.{last_or, place_last, swept_length}
+use Rattle.pipe_core.proofs.Agreed.{Known, all_known, unmarked, path_made}
+use Rattle.pipe_core.proofs.Placing.{Settled, settled, placed_at}
+use Rattle.pipe_core.proofs.Turning.{TurnIs}
 use Rattle.pipe_core.proofs.Righting.{stayed, keeps_place, skips, reads_there, moved_view, kept_view}
 use Rattle.pipe_core.proofs.Passing.{exit_maps, passed_moved, ReadyMaps, chained_moved, chained_same, drop_moved, drop_struck, drop_swept}
 use Rattle.pipe_core.proofs.Exiting.{cell_run}
@@ -86,7 +74,7 @@ commit_core : (b : Build) (maps : MapState) (w : Watched) (t : TableState) (e : 
 commit_core b maps w t e h =
     let s = w.trace.state in
     let places : drop (suc b.plan.commit) (struck_below b.plan.commit b s.tables e 0 (rest_of b s)) ≡ drop (suc b.plan.commit) s.places =
-        drop_struck b.plan.commit b s.tables e 0 (suc b.plan.commit) (rest_of b s) (omega arith) ∙ past_places b s in
+    drop_struck b.plan.commit b s.tables e 0 (suc b.plan.commit) (rest_of b s) (omega arith) ∙ past_places b s in
     let m = left_maps b.program maps w.trace.left in
     record {
       runs = refl;
@@ -173,7 +161,7 @@ module _ (seen : SeesEarlier) (in_turn : CommitsInTurn) (maps_turn : MapsInTurn)
       let all : s.done + n ≡ length p.sites = omega (arith, t) in
       let same : s.tables.decls ≡ view.decls = h.right.at.decls_are ∙ sym h.right.at.view_decls in
       let done_all = skips b x.held at view.decls s.done n (λ k l. (in_turn p view rp.first x.held h.right.at.view_tables fits rp.long reads k (omega (arith, l, all))).decls)
-          (λ i a l. ap (λ ds. writes p ds x.held i) (sym same) ∙ through x e i a (omega (arith, l, all))) in
+      (λ i a l. ap (λ ds. writes p ds x.held i) (sym same) ∙ through x e i a (omega (arith, l, all))) in
       ap (λ (q : Replayed). maps_of q.tables) (rp.state ∙ sym done_all ∙ ap (replayed p x.held at) all)
       ∙ maps_turn p view rp.first x.held h.right.at.view_tables fits rp.long reads (length p.sites) (omega arith)
       ∙ ap (after (held_value x.held) (maps_of view)) (take_all (length p.sites) p.sites (omega arith)) ∙ ap (λ m. after (held_value x.held) m p.sites) now_rest
@@ -210,7 +198,7 @@ module _ (seen : SeesEarlier) (in_turn : CommitsInTurn) (maps_turn : MapsInTurn)
       let last_is : place_at rest b.plan.last ≡ last_or at_commit past = last_dropped rest b.plan.commit b.plan.last (omega (arith, c, rest_length)) (sym rest_length) in
       let gone_is : left_maps p base (left_as Moves (place_at rest b.plan.last)) ≡ exit_maps p base (last_or at_commit past) = gone_maps p base (place_at rest b.plan.last) ∙ ap (exit_maps p base) last_is in
       let places : drop (suc b.plan.commit) (moved b s.tables s.frames 0 new rest) ≡ moved b s.tables s.frames (suc b.plan.commit) at_commit past =
-          drop_moved b s.tables s.frames 0 b.plan.commit new rest (omega (arith, c, rest_length)) ∙ ap (λ n. moved b s.tables s.frames (suc n) at_commit past) (omega arith) in
+      drop_moved b s.tables s.frames 0 b.plan.commit new rest (omega (arith, c, rest_length)) ∙ ap (λ n. moved b s.tables s.frames (suc n) at_commit past) (omega arith) in
       record {
         runs = exit_runs (place_at rest b.plan.last) refl s.frames k;
         chained = subst (λ m. AreChained p m views (suc b.plan.commit) (drop (suc b.plan.commit) (moved b s.tables s.frames 0 new rest))) (sym gone_is)

@@ -1,5 +1,5 @@
 -- Which turn a clock takes, and what beats leave as it is.
-use Rattle.std.proofs.Common.{◌≡◌, ℕ, zero, suc, ◌+◌, ◌<◌, ◌≤◌, ◌⊎◌, inl, inr, Bool, true, false, List, [], ◌∷◌, ◌++◌, Option, Some, None, length, drop, refl, sym, ap, ◌∙◌, subst, arith}
+use Rattle.std.proofs.Common.{◌≡◌, ℕ, zero, suc, ◌+◌, ◌<◌, ◌≤◌, inl, inr, Bool, true, false, List, [], ◌∷◌, ◌++◌, Option, Some, None, length, drop, refl, sym, ap, ◌∙◌, subst, arith}
 use Rattle.std.specs.Prelude.{if◌then◌else◌, nat_le, ◌&&◌}
 use Rattle.std.specs.List.{find}
 use Rattle.std.proofs.lemmas.Bool.{and_parts, cases_lt, le-leb}
@@ -7,8 +7,7 @@ use Rattle.std.proofs.lemmas.Bool.Decides.{nat_tests}
 use Rattle.beat_core.specs.declared.beat.Beat.{Beat}
 use Rattle.cell_core.specs.Rows.{numbers}
 use Rattle.hazard_core.specs.Held.{writes}
-use Rattle.hazard_core.specs.Tables.{TableState}
-use Rattle.pipe_core.specs.Machine.{Packet, State, Input, Build, Turn, Commits, Writes, Moves, site_numbers, place_at, chosen, commits_as, commits_or_moves, turn_as, turn_of, came_with, gathered, scattered, beat_over, taken_beat, work, clock}
+use Rattle.pipe_core.specs.Machine.{Packet, State, Input, Build, Turn, Commits, Writes, Moves, place_at, chosen, commits_as, commits_or_moves, turn_of, came_with, gathered, scattered, beat_over, taken_beat, work, clock}
 
 -- the first of some numbers that passes a test
 pub record FirstNumber (test : ℕ → Bool) (from to j : ℕ) : Type 0 where
@@ -27,10 +26,15 @@ first_number test from (suc n) j e = by (test from) refl e (first_number test (s
         record { passes = ap test (sym same) ∙ q; from_on = omega (arith, same); below = omega (arith, same); before = λ i l m. absurd (omega (arith, same)) }
     by false q e more =
         let f = more e in
-        record { passes = f.passes; from_on = omega (arith, f.from_on); below = omega (arith, f.below); before = λ i l m. elim (cases_lt from i) [
-          | inl after ↦ f.before i after m
-          | inr here ↦ let same : i ≡ from = omega (arith, l, here) in ap test same ∙ q
-        ] }
+        record {
+          passes = f.passes;
+          from_on = omega (arith, f.from_on);
+          below = omega (arith, f.below);
+          before = λ i l m. elim (cases_lt from i) [
+            | inl after ↦ f.before i after m
+            | inr here ↦ let same : i ≡ from = omega (arith, l, here) in ap test same ∙ q
+          ];
+        }
 
 -- the packet at the commit place commits the first of its operations that is not through and writes; of those before none is left that does
 pub record IsChosen (b : Build) (s : State) (rest : List (Option Packet)) (j : ℕ) (x : Packet) : Type 0 where

@@ -1,5 +1,5 @@
 -- What the packets hold of the maps, over all clocks.
-use Rattle.std.specs.Prelude.{◌≡◌, ℕ, suc, ◌<◌, ◌≤◌, true, false, None, Some, List, length}
+use Rattle.std.specs.Prelude.{◌≡◌, ℕ, suc, ◌<◌, ◌≤◌, true, false, None, Some, length}
 use Rattle.cell_core.specs.Cells.{cell_at, site_in}
 use Rattle.cell_core.specs.Sites.{site_at}
 use Rattle.hazard_core.specs.Tables.{TableState}

@@ -1,5 +1,5 @@
 -- Packets overlap, and what they answer and leave is that of one after another.
-use Rattle.std.specs.Prelude.{◌≡◌, ◌≢◌, ℕ, suc, ◌+◌, ◌<◌, ◌≤◌, ◌^◌, true, Option, Some, None, List, [], ◌∷◌, length, drop}
+use Rattle.std.specs.Prelude.{◌≡◌, ℕ, suc, ◌<◌, ◌≤◌, ◌^◌, true, Option, Some, None, List, [], ◌∷◌, length, drop}
 use Rattle.std.specs.List.{AllByRecursion}
 use Rattle.xdp_maps.specs.State.{MapState, IsSound}
 use Rattle.cell_core.specs.Cells.{cell_at, is_read}
@@ -8,7 +8,7 @@ use Rattle.hazard_core.specs.Tables.{TableState, maps_of}
 use Rattle.hazard_core.specs.Tabled.{AreTables}
 use Rattle.hazard_core.specs.Held.{Held, held_value}
 use Rattle.pipe_core.specs.Machine.{Packet, Input, Build, inside}
-use Rattle.pipe_core.specs.History.{Trace, run, begin, IsInOrder}
+use Rattle.pipe_core.specs.History.{run, begin, IsInOrder}
 use Rattle.pipe_core.specs.Computed.{IsComputed}
 use Rattle.pipe_core.specs.Sequential.{AreCellRuns}
 use Rattle.pipe_core.specs.Placed.{Placed}

@@ -5,7 +5,7 @@ use Rattle.xdp_maps.specs.declared.decl.MapDecl.{MapDecl}
 use Rattle.xdp_maps.specs.State.{MapState, IsSound}
 use Rattle.hazard_core.specs.Tables.{TableState}
 use Rattle.hazard_core.specs.Tabled.{AreTables}
-use Rattle.hazard_core.specs.Replay.{Replayed, replayed}
+use Rattle.hazard_core.specs.Replay.{replayed}
 use Rattle.pipe_core.specs.Machine.{Packet, Input, Build, marked_at, place_at}
 use Rattle.pipe_core.specs.History.{IsInOrder}
 use Rattle.pipe_core.specs.Watched.{Watched, turn_in, observed, watch, watch_start}
