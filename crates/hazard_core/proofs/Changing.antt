@@ -23,12 +23,12 @@ first_stays test [] n s l e = absurd (omega arith)
 first_stays test (x ∷ slots) zero s l e = ap (λ b. cond (not b) (1 + prefix_len (λ y. not (test y)) slots) 0) e
 first_stays test (x ∷ slots) (suc n) s l e = ap (λ m. cond (not (test x)) (1 + m) 0) (first_stays test slots n s (omega arith) e)
 
-pointer_stays : (slots : List Slot) (n : ℕ) (s : Slot) (key : List ℕ) → n < length slots → has_key key s ≡ has_key key (slot_at slots n) → slot_pointer (slice_set slots n s) key ≡ slot_pointer slots key
+pub pointer_stays : (slots : List Slot) (n : ℕ) (s : Slot) (key : List ℕ) → n < length slots → has_key key s ≡ has_key key (slot_at slots n) → slot_pointer (slice_set slots n s) key ≡ slot_pointer slots key
 pointer_stays slots n s key l e =
     ap (λ m. if nat_lt m (length (slice_set slots n s)) then InSlot m else Null) (first_stays (has_key key) slots n s l e)
     ∙ ap (λ m. if nat_lt (slot_of slots key) m then InSlot (slot_of slots key) else Null) (length-set slots n s)
 
-count_stays : (slots : List Slot) (n : ℕ) (s : Slot) → n < length slots → s.used ≡ (slot_at slots n).used → used_count (slice_set slots n s) ≡ used_count slots
+pub count_stays : (slots : List Slot) (n : ℕ) (s : Slot) → n < length slots → s.used ≡ (slot_at slots n).used → used_count (slice_set slots n s) ≡ used_count slots
 count_stays slots n s l e =
     let number : Bool → ℕ = λ b. cond b 1 0 in
     let q = sum_by-set (λ (x : Slot). number x.used) slots n s no_slot l in
@@ -58,7 +58,7 @@ written_changes t m n k b s w =
 false_true : false ≡ true → ⊥
 false_true e = cc
 
-pointer_tests : (p q : Pointer) → same_pointer p q ≡ true → p ≡ q
+pub pointer_tests : (p q : Pointer) → same_pointer p q ≡ true → p ≡ q
 pointer_tests Null Null e = refl
 pointer_tests Null (InSlot n) e = cc
 pointer_tests Null (Pending n) e = cc
@@ -85,10 +85,10 @@ first_passes test (x ∷ slots) l = by (test x) refl l (first_passes test slots)
     by true e l more = e
     by false e l more = next (1 + n) (omega arith) (more (omega arith))
 
-unused_key : (s : Slot) (key : List ℕ) → s.used ≡ false → has_key key s ≡ false
+pub unused_key : (s : Slot) (key : List ℕ) → s.used ≡ false → has_key key s ≡ false
 unused_key s key e = ap (λ b. b && bytes_eq s.key key) e
 
-other_key : (a key : List ℕ) → key ≢ a → bytes_eq a key ≡ false
+pub other_key : (a key : List ℕ) → key ≢ a → bytes_eq a key ≡ false
 other_key a key other = by (bytes_eq a key) refl
   where
     by : (c : Bool) → bytes_eq a key ≡ c → c ≡ false

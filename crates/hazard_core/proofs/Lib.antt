@@ -1,4 +1,15 @@
-pub mod Unmoved
 pub mod Changing
+pub mod Unmoved
 pub mod Alike
 pub mod Standing
+pub mod Slots
+pub mod Lookups
+pub mod Effects
+pub mod Writing
+pub mod Finding
+pub mod Committing
+pub mod Turns
+pub mod Seeing
+pub mod Loading
+pub mod Leaving
+pub mod ActsLaws

@@ -29,7 +29,7 @@ fold_alike : {A B : Type 0} (f g : B → A → B) (a b : B) (xs : List A) → ((
 fold_alike f g a b [] h e = e
 fold_alike f g a b (x ∷ xs) h e = fold_alike f g (f a x) (g b x) xs h (h a x ∙ ap (λ y. g y x) e)
 
-same_or : (m n : ℕ) → (m ≡ n) ⊎ (m ≢ n)
+pub same_or : (m n : ℕ) → (m ≡ n) ⊎ (m ≢ n)
 same_or m n = by (m == n) refl
   where
     by : (c : Bool) → (m == n) ≡ c → (m ≡ n) ⊎ (m ≢ n)

@@ -7,3 +7,5 @@ pub mod Commits
 pub mod Changes
 pub mod Keeping
 pub mod Standing
+pub mod Tabled
+pub mod Replay

@@ -141,7 +141,7 @@ row_made keep b plan t packet r k (c ∷ cs) h e n m =
         no_case : false ≡ true → ⊥
         no_case e = cc
 
-keeps_other : (b : Build) (r : ℕ) (t : TableState) (packet : PacketIn) (k : ℕ) (cs : List CellView) (h : Held) → k + length cs ≡ length b.program.cells → (c : ℕ) → (b.plan.row c ≢ r) ⊎ (length b.program.cells ≤ c) →
+pub keeps_other : (b : Build) (r : ℕ) (t : TableState) (packet : PacketIn) (k : ℕ) (cs : List CellView) (h : Held) → k + length cs ≡ length b.program.cells → (c : ℕ) → (b.plan.row c ≢ r) ⊎ (length b.program.cells ≤ c) →
     SameCell h (made_from b.program b.plan.row r t packet k cs h) c
 keeps_other b r t packet k [] h n c why = record { value = refl; pointer = refl }
 keeps_other b r t packet k (d ∷ cs) h n c why =
@@ -163,13 +163,13 @@ keeps_other b r t packet k (d ∷ cs) h n c why =
 
 -- ---- a packet takes in a row
 
-record Rowed (b : Build) (t : TableState) (packet : PacketIn) (r : ℕ) (h g : Held) : Type 0 where
-  values : length g.values ≡ length b.program.cells
-  pointers : length g.pointers ≡ length b.program.cells
-  same : (c : ℕ) → (b.plan.row c < r) ⊎ (length b.program.cells ≤ c) → SameCell h g c
-  made : (c : ℕ) → c < length b.program.cells → b.plan.row c ≡ r → IsMade b t packet g c
+pub record Rowed (b : Build) (t : TableState) (packet : PacketIn) (r : ℕ) (h g : Held) : Type 0 where
+  pub values : length g.values ≡ length b.program.cells
+  pub pointers : length g.pointers ≡ length b.program.cells
+  pub same : (c : ℕ) → (b.plan.row c < r) ⊎ (length b.program.cells ≤ c) → SameCell h g c
+  pub made : (c : ℕ) → c < length b.program.cells → b.plan.row c ≡ r → IsMade b t packet g c
 
-rowed : (keep : ReadsKeep) (b : Build) → ReadsArePlanned b → (t : TableState) (packet : PacketIn) (r : ℕ) (h : Held) → length h.values ≡ length b.program.cells → length h.pointers ≡ length b.program.cells →
+pub rowed : (keep : ReadsKeep) (b : Build) → ReadsArePlanned b → (t : TableState) (packet : PacketIn) (r : ℕ) (h : Held) → length h.values ≡ length b.program.cells → length h.pointers ≡ length b.program.cells →
     Rowed b t packet r h (with_row b.program b.plan.row r t packet h)
 unfolding with_row
 rowed keep b plan t packet r h v q =

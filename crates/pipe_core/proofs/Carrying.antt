@@ -75,7 +75,7 @@ unfolding entered
 entered_computes b rise plan t k c x h = takes_row b rise plan (packet_of c) k t x.held h
 
 -- the frames behind those of the packets that leave
-behind : (out : ℕ) (fs : List Arrival) (n m : ℕ) → n + out ≡ m → get_or (drop out fs) n no_frame ≡ get_or fs m no_frame
+pub behind : (out : ℕ) (fs : List Arrival) (n m : ℕ) → n + out ≡ m → get_or (drop out fs) n no_frame ≡ get_or fs m no_frame
 behind out fs n m e = get_or-drop out fs n no_frame ∙ ap (λ j. get_or fs j no_frame) (omega (arith, e))
 
 pub moved_computes : (b : Build) → RowsRise → IsPlanned b → (t : TableState) (fs : List Arrival) (k : ℕ) (x : Option Packet) (ys : List (Option Packet)) →
@@ -181,7 +181,7 @@ work_carries b rise plan i s h l k =
 
 -- ---- frames that come
 
-get_or_front : {X : Type 0} (xs ys : List X) (i : ℕ) (d : X) → i < length xs → get_or (xs ++ ys) i d ≡ get_or xs i d
+pub get_or_front : {X : Type 0} (xs ys : List X) (i : ℕ) (d : X) → i < length xs → get_or (xs ++ ys) i d ≡ get_or xs i d
 get_or_front xs ys i d h = grind (arith, common_steps)
 
 pub places_more : (b : Build) (fs more : List Arrival) (k : ℕ) (xs : List (Option Packet)) → inside xs ≤ length fs → PlacesCompute b fs k xs → PlacesCompute b (fs ++ more) k xs

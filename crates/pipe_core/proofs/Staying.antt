@@ -10,7 +10,7 @@ use Rattle.pipe_core.specs.History.{Trace, next, run, begin}
 use Rattle.pipe_core.specs.Sequential.{MapsStay}
 use Rattle.pipe_core.proofs.Draining.{work_is}
 
-gathered_tables : (s : State) (i : Input) (e : Option Beat) → (gathered s i e).tables ≡ s.tables
+pub gathered_tables : (s : State) (i : Input) (e : Option Beat) → (gathered s i e).tables ≡ s.tables
 gathered_tables s i None = refl
 gathered_tables s i (Some x) = by x.last
   where
@@ -18,7 +18,7 @@ gathered_tables s i (Some x) = by x.last
     by true = refl
     by false = refl
 
-scattered_tables : (s : State) (e : Option Beat) → (scattered s e).tables ≡ s.tables
+pub scattered_tables : (s : State) (e : Option Beat) → (scattered s e).tables ≡ s.tables
 scattered_tables s None = refl
 scattered_tables s (Some x) = by x.last
   where

@@ -72,11 +72,11 @@ first_in test (x ∷ xs) l = by (test x) refl l (first_in test xs)
     by true e l more = e
     by false e l more = next (1 + n) (omega arith) (more (omega arith))
 
-found_is : (j : ℕ) (op : Operator) → is_found_of j op ≡ true → op ≡ Found j
+pub found_is : (j : ℕ) (op : Operator) → is_found_of j op ≡ true → op ≡ Found j
 found_is j (Found i) e = ap Found ((Decides-eqb i j).0 e)
 found_is j op e = cc
 
-answer_is : (j : ℕ) (op : Operator) → is_answer_of j op ≡ true → op ≡ Answer j
+pub answer_is : (j : ℕ) (op : Operator) → is_answer_of j op ≡ true → op ≡ Answer j
 answer_is j (Answer i) e = ap Answer ((Decides-eqb i j).0 e)
 answer_is j op e = cc
 
@@ -132,11 +132,11 @@ module _ (b : Build) (plan : ReadsArePlanned b) where
       by op is e = cc
 
 -- what is no read does not see the tables
-record TablesSame (p : ProgramView) (row : ℕ → ℕ) (r : ℕ) (t u : TableState) (packet : PacketIn) (h : Held) (c : CellView) (op : Operator) : Type 0 where
-  number : cell_number p row r u packet h c op ≡ cell_number p row r t packet h c op
-  pointer : cell_pointer p row r u h c op ≡ cell_pointer p row r t h c op
+pub record TablesSame (p : ProgramView) (row : ℕ → ℕ) (r : ℕ) (t u : TableState) (packet : PacketIn) (h : Held) (c : CellView) (op : Operator) : Type 0 where
+  pub number : cell_number p row r u packet h c op ≡ cell_number p row r t packet h c op
+  pub pointer : cell_pointer p row r u h c op ≡ cell_pointer p row r t h c op
 
-unread : (p : ProgramView) (row : ℕ → ℕ) (r : ℕ) (t u : TableState) (packet : PacketIn) (h : Held) (c : CellView) (op : Operator) → site_in op ≡ None → TablesSame p row r t u packet h c op
+pub unread : (p : ProgramView) (row : ℕ → ℕ) (r : ℕ) (t u : TableState) (packet : PacketIn) (h : Held) (c : CellView) (op : Operator) → site_in op ≡ None → TablesSame p row r t u packet h c op
 unread p row r t u packet h c (Found j) e = cc
 unread p row r t u packet h c (Answer j) e = cc
 unread p row r t u packet h c op e = record { number = refl; pointer = refl }

@@ -5,3 +5,10 @@ pub mod Sequential
 pub mod Drive
 pub mod Agreement
 pub mod Sending
+pub mod Placed
+pub mod Watched
+pub mod Marked
+pub mod Pipeable
+pub mod Agreed
+pub mod Right
+pub mod InTurn
