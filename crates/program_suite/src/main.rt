@@ -20,8 +20,7 @@
 //!     more BYTES                      adds to the bytes that were named last
 //!     object NAME FUNCTION CODE       gives the object of a function a name; CODE is a BYTE-WORD
 //!     object NAME FUNCTION CODE MAP TYPE KEY VALUE CAPACITY FLAGS PLACE..
-//!                                     the same with one map, and with references to it at these places of the code;
-//!                                     behind ` / ` stands a second map with its places
+//!                                     the same with one map, and with references to it at these places of the code
 //!     map KIND KEY VALUE CAPACITY     adds a map, `hash` or `array`, of keys and values of so many bytes; all maps are empty
 //!     code BYTES                      adds to the program
 //!     hole                            leaves a hole there, the only one

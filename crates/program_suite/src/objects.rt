@@ -106,63 +106,34 @@ pub(crate) fn keep(alloc: Global, named: &mut Named, rest: &str) -> Result<()> {
         code.len() <= CODE_LIMIT && function.len() <= LIMIT,
         "an object too long"
     );
-    let object = match map.split_once(" / ") {
-        Some((first, second)) => with_two(alloc, function, &code, first, second)?,
-        None if map.is_empty() => object_of(alloc, function, &code, &[], &[])?,
-        None => with_map(alloc, function, &code, map)?,
+    let object = match map {
+        "" => object_of(alloc, function, &code, &[], &[])?,
+        _ => with_map(alloc, function, &code, map)?,
     };
     named.keep(name, object)
 }
 
 // The object of a function with one map and references to it.
 fn with_map(alloc: Global, function: &str, code: &[u8], rest: &str) -> Result<Vec<u8>> {
-    let mut refs = Vec::new(alloc);
-    let map = record(&mut refs, 0, rest)?;
-    ensure!(
-        code.len() <= CODE_LIMIT && function.len() <= LIMIT,
-        "an object too long"
-    );
-    ensure!(
-        map.name.len() <= LIMIT && refs.len() <= LIMIT,
-        "an object too long"
-    );
-    ensure!(refs.iter().all(|r| r.1 == 0), "a map that is there");
-    Ok(object_of(alloc, function, code, &[map], &refs)?)
-}
-
-// The same with two maps.
-fn with_two(
-    alloc: Global,
-    function: &str,
-    code: &[u8],
-    first: &str,
-    second: &str,
-) -> Result<Vec<u8>> {
-    let mut refs = Vec::new(alloc);
-    let first = record(&mut refs, 0, first)?;
-    let second = record(&mut refs, 1, second)?;
-    ensure!(
-        code.len() <= CODE_LIMIT && function.len() <= LIMIT,
-        "an object too long"
-    );
-    ensure!(
-        first.name.len() <= LIMIT && second.name.len() <= LIMIT && refs.len() <= LIMIT,
-        "an object too long"
-    );
-    ensure!(refs.iter().all(|r| r.1 < 2), "maps that are there");
-    Ok(object_of(alloc, function, code, &[first, second], &refs)?)
-}
-
-// The record of map n, whose references are put behind those so far.
-fn record<'a>(refs: &mut Vec<(u32, u32)>, n: u32, rest: &'a str) -> Result<MapRecord<'a>> {
     let (name, rest) = front(rest);
     let mut numbers = rest.split_whitespace();
     let mut words = [0; 5];
     for word in &mut words {
         *word = number_32(numbers.next().context("five words")?)?;
     }
+    let mut refs = Vec::new(alloc);
     for place in numbers {
-        refs.push((number_32(place)?, n))?;
+        refs.push((number_32(place)?, 0))?;
     }
-    Ok(MapRecord { name, words })
+    ensure!(
+        code.len() <= CODE_LIMIT && function.len() <= LIMIT,
+        "an object too long"
+    );
+    ensure!(
+        name.len() <= LIMIT && refs.len() <= LIMIT,
+        "an object too long"
+    );
+    ensure!(refs.iter().all(|r| r.1 == 0), "a map that is there");
+    let map = MapRecord { name, words };
+    Ok(object_of(alloc, function, code, &[map], &refs)?)
 }
