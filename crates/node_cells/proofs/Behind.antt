@@ -1,12 +1,11 @@
 -- Between nodes, behind a node: what its edges and ends are to do where the run stands there, and nothing where it does not.
-use Rattle.std.proofs.Common.{◌≡◌, ◌≢◌, ℕ, ◌+◌, ◌<◌, ◌≤◌, ◌==◌, Bool, true, false, if◌then◌else◌, List, [], ◌∷◌, ◌++◌, length, get_or, refl, sym, ◌∙◌, ap, subst, arith}
-use Rattle.std.specs.Prelude.{All, Contains, slice_index}
+use Rattle.std.proofs.Common.{◌≡◌, ◌≢◌, ℕ, ◌+◌, ◌<◌, ◌≤◌, ◌==◌, Bool, true, false, if◌then◌else◌, List, ◌++◌, length, get_or, refl, ◌∙◌, ap, subst, arith}
+use Rattle.std.specs.Prelude.{All, slice_index}
 use Rattle.std.proofs.lemmas.Bool.Decides.{nat_tests}
 use Rattle.std.proofs.lemmas.List.Elements.{All-append, Contains-append_left, Contains-append_right}
 use Rattle.xdp_maps.specs.declared.decl.MapDecl.{MapDecl}
 use Rattle.xdp_maps.specs.State.{MapState}
 use Rattle.xdp_machine.specs.State.{Machine, PacketIn}
-use Rattle.xdp_machine.specs.Runs.{Leaves}
 use Rattle.xdp_machine.specs.Step.{step}
 use Rattle.kind_core.specs.declared.kind.Kinds.{Kinds}
 use Rattle.cell_core.specs.Cells.{CellView, on, bit}
@@ -14,7 +13,7 @@ use Rattle.cell_core.specs.Sites.{SiteView, after}
 use Rattle.held_cells.specs.declared.held.Held.{Held}
 use Rattle.held_cells.specs.declared.way.Way.{Way}
 use Rattle.held_cells.specs.declared.way.Exit.{Exit}
-use Rattle.held_cells.specs.Paths.{GraphView, Stage, At, Over, Nowhere, stepped, visit, stands_at, maps_in}
+use Rattle.held_cells.specs.Paths.{GraphView, Stage, At, Over, Nowhere, stepped, visit, maps_in}
 use Rattle.held_cells.specs.Held.{PointerView, AreInside}
 use Rattle.held_cells.specs.Carrying.{IsKnown}
 use Rattle.held_cells.specs.Steps.{Leads, Closes, IsGood, IsHere, AreMade}
@@ -62,7 +61,7 @@ good_kept g packet v ps qs k cells ways more exits more_exits s extends made oth
   placed = good.placed;
   each = All-append (λ e. k + 1 ≤ e.to → Leads g packet v qs s e) ways more
       (λ i d l up h. let x = good.each i d l (omega (arith, up)) h in
-          (x.0, x.1, known_more g.decls packet (length cells) v ps qs (get_or ways i d).to (get_or ways i d).kinds (get_or ways i d).held x.0 extends (made.each_way i d l).1 x.2))
+      (x.0, x.1, known_more g.decls packet (length cells) v ps qs (get_or ways i d).to (get_or ways i d).kinds (get_or ways i d).held x.0 extends (made.each_way i d l).1 x.2))
       (λ i d l up h. absurd (off _ (offs.edges i d l) h));
   some = λ n m at. let x = good.some n m at in (x.0, Contains-append_left ways more x.0 x.1, x.2, x.3);
   ends = All-append (Closes packet v s) exits more_exits good.ends (λ i d l h. absurd (off _ (offs.ends i d l) h));
@@ -100,9 +99,10 @@ pub good_behind : (g : GraphView) (packet : PacketIn) (maps : MapState) (v : ℕ
     → IsTurn g packet maps v ps qs k guard h sites more_sites more more_exits s → IsGood g packet v ps k ways exits s
     → IsGood g packet v qs (k + 1) (ways ++ more) (exits ++ more_exits) (visit g k s) × (after v maps (sites ++ more_sites) ≡ maps_in maps (visit g k s))
 good_behind g packet maps v ps qs k guard h cells sites more_sites ways more exits more_exits Nowhere extends made own maps_are here turn good = absurd (good.somewhere refl)
-good_behind g packet maps v ps qs k guard h cells sites more_sites ways more exits more_exits (Over e) extends made own maps_are here turn good =
-    (good_kept g packet v ps qs k cells ways more exits more_exits (Over e) extends made (λ n m at. absurd (cc)) (turn.offs here.guard_is) good,
-    after_off v maps sites more_sites k guard own here.guard_is ∙ maps_are)
+good_behind g packet maps v ps qs k guard h cells sites more_sites ways more exits more_exits (Over e) extends made own maps_are here turn good = (
+  good_kept g packet v ps qs k cells ways more exits more_exits (Over e) extends made (λ n m at. absurd (cc)) (turn.offs here.guard_is) good,
+  after_off v maps sites more_sites k guard own here.guard_is ∙ maps_are,
+)
 good_behind g packet maps v ps qs k guard h cells sites more_sites ways more exits more_exits (At n m) extends made own maps_are here turn good = by (n == k) refl
   where
     by : (t : Bool) → (n == k) ≡ t
@@ -115,6 +115,7 @@ good_behind g packet maps v ps qs k guard h cells sites more_sites ways more exi
         (good_stepped g packet v ps qs k ways more exits more_exits m (stepped g k m (step g.code m)) (subst (λ (t : Stage). IsGood g packet v ps k ways exits t) at good) there.0, there.1)
     by false e =
         let zero : v guard ≡ 0 = here.guard_is ∙ ap bit e in
-        let ne : n ≢ k = grind (arith, nat_tests) in
-        (good_kept g packet v ps qs k cells ways more exits more_exits (At n m) extends made (λ j b at. let same : n ≡ j = cc in subst (λ (i : ℕ). i ≢ k) same ne) (turn.offs zero) good,
-        after_off v maps sites more_sites k guard own zero ∙ maps_are)
+        let ne : n ≢ k = grind (arith, nat_tests) in (
+          good_kept g packet v ps qs k cells ways more exits more_exits (At n m) extends made (λ j b at. let same : n ≡ j = cc in subst (λ (i : ℕ). i ≢ k) same ne) (turn.offs zero) good,
+          after_off v maps sites more_sites k guard own zero ∙ maps_are,
+        )

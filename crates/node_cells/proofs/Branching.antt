@@ -1,21 +1,20 @@
 -- A step that goes along one of the edges that a node adds.
-use Rattle.std.proofs.Common.{◌≡◌, ℕ, ℤ, pos, negsuc, ◌+◌, ◌+ℤ◌, ◌<◌, ◌≤◌, ◌==◌, ◌&&◌, Bool, true, false, not, if◌then◌else◌, Option, Some, None, List, [], ◌∷◌, length, get_or, refl, sym, ◌∙◌, ap, subst, arith}
+use Rattle.std.proofs.Common.{◌≡◌, ℕ, ℤ, ◌+◌, ◌<◌, Bool, true, false, if◌then◌else◌, List, [], length, get_or, refl, sym, ◌∙◌, ap, subst, arith}
 use Rattle.std.specs.Prelude.{All, Contains}
 use Rattle.std.proofs.lemmas.List.Elements.{All-nil}
 use Rattle.bpf_isa.specs.declared.instruction.Insn.{Insn}
 use Rattle.bpf_isa.specs.Text.{insn_at}
-use Rattle.xdp_machine.specs.State.{Code, Machine, PacketIn, begins}
-use Rattle.xdp_machine.specs.Step.{Outcome, Goes, Ends, NoCase, goes_to, step, outcome_at, outcome}
+use Rattle.xdp_machine.specs.State.{Machine, PacketIn}
+use Rattle.xdp_machine.specs.Step.{Goes, NoCase, goes_to, step, outcome_at, outcome}
 use Rattle.kind_core.specs.declared.kind.Kinds.{Kinds}
 use Rattle.kind_core.specs.Edges.{agrees}
 use Rattle.kind_core.specs.Soundness.{target}
 use Rattle.cell_core.specs.Cells.{on, bit}
 use Rattle.held_cells.specs.declared.way.Way.{Way}
-use Rattle.held_cells.specs.declared.way.Exit.{Exit}
-use Rattle.held_cells.specs.Paths.{GraphView, Stage, At, Over, Nowhere, node_at, led, stepped}
+use Rattle.held_cells.specs.Paths.{GraphView, Stage, At, Over, Nowhere, node_at, stepped}
 use Rattle.held_cells.specs.Held.{PointerView}
 use Rattle.held_cells.specs.Carrying.{IsKnown}
-use Rattle.held_cells.specs.Steps.{Leads, Closes, IsGood}
+use Rattle.held_cells.specs.Steps.{Closes, IsGood}
 use Rattle.node_cells.specs.Ends.{IsNode, IsEdge}
 
 abbrev pub at_place : Machine → ℕ → Machine

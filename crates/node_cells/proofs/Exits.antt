@@ -1,6 +1,6 @@
 -- Nodes where the run ends.
-use Rattle.std.proofs.Common.{◌≡◌, ℕ, ◌+◌, ◌<◌, Option, Some, Ok, Err, List, [], ◌∷◌, ◌++◌, length, get_or, refl, sym, ◌∙◌, ap, subst, arith}
-use Rattle.std.specs.Prelude.{All, Contains, IfSome, slice_index}
+use Rattle.std.proofs.Common.{◌≡◌, ℕ, ◌+◌, ◌<◌, Option, Ok, Err, List, [], ◌∷◌, length, refl, sym, ◌∙◌, ap, subst, arith}
+use Rattle.std.specs.Prelude.{IfSome, slice_index}
 use Rattle.std.proofs.lemmas.List.{append-nil}
 use Rattle.std.proofs.lemmas.List.Elements.{All-nil, All-cons}
 use Rattle.bpf_isa.specs.Spelling.{IsInsn}
@@ -10,7 +10,6 @@ use Rattle.bpf_isa.specs.declared.operation.Op.{Op}
 use Rattle.bpf_isa.specs.declared.operation.Op.TheVariants.{Exit}
 use Rattle.bpf_isa.specs.declared.instruction.Insn.{Insn}
 use Rattle.xdp_maps.specs.declared.decl.MapDecl.{MapDecl}
-use Rattle.xdp_maps.specs.State.{MapState}
 use Rattle.xdp_machine.specs.Values.{number_in}
 use Rattle.xdp_machine.specs.State.{Machine, PacketIn, register}
 use Rattle.xdp_machine.specs.Step.{step, outcome, Ends, exits}
@@ -26,7 +25,7 @@ use Rattle.kind_core.specs.Tests.{◌>>=◌, Test, passed}
 use Rattle.kind_core.specs.Profile.{profiled}
 use Rattle.kind_core.specs.Effects.{effect_of, effect_as, verdict}
 use Rattle.kind_core.specs.Soundness.{StepsAreSound, GoesOn}
-use Rattle.cell_core.specs.Cells.{CellView, IsRun, on}
+use Rattle.cell_core.specs.Cells.{CellView, on}
 use Rattle.cell_core.specs.Sites.{SiteView, after}
 use Rattle.operator_cells.proofs.MakingLaws.{grown_none}
 use Rattle.held_cells.specs.declared.held.Held.{Held}
@@ -39,7 +38,6 @@ use Rattle.edge_cells.specs.Meeting as kind
 use Rattle.edge_cells.specs.Leaving.{EndsAreLeft}
 use Rattle.edge_cells.proofs.ExtendingLaws.{extends_none}
 use Rattle.node_cells.specs.Ends.{IsNode}
-use Rattle.node_cells.proofs.Behind.{AreOff}
 use Rattle.node_cells.proofs.Branching.{step_is}
 use Rattle.node_cells.proofs.Turning.{IsAdded, ExitMade}
 
@@ -77,7 +75,7 @@ ending : StepsAreSound → (g : GraphView) (packet : PacketIn) (v : ℕ → ℕ)
     → IsKnown g.decls packet v ps k ks h m → m.place ≡ (node_at g.nodes k).place → IsEnding g m
 ending sound g packet v ps k i ks h m op is known place =
     let ends = subst (λ (o : Op). GoesOn g.code known.world ks m i o) op
-        (sound g.code known.world ks m i known.stands (legal_insn g k i ks is) (ap (insn_at g.code.insns) place ∙ is.insn) (ap (λ (ds : List MapDecl). verdict (effect_of ds ks i)) known.decls_are ∙ is.allowed)) in
+    (sound g.code known.world ks m i known.stands (legal_insn g k i ks is) (ap (insn_at g.code.insns) place ∙ is.insn) (ap (λ (ds : List MapDecl). verdict (effect_of ds ks i)) known.decls_are ∙ is.allowed)) in
     (ends.0, ends.1, sym (step_is g k i ks m is place ∙ ap (outcome g.code m i) op) ∙ ends.1)
 
 -- what is asked of the end of a node
@@ -94,22 +92,24 @@ end_added sound left g i k guard ks h cells ps sites x op is has there inside = 
   own = All-nil _;
   made = record {
     each_way = All-nil _;
-    each_exit = All-cons (ExitMade cells) x []
-        (subst (λ (n : ℕ). n < length cells) (sym has.guard_is) there,
-        subst (λ (j : Held). j.target < length cells) (sym has.held_is) inside.target,
-        subst (λ (n : Number). IsThere (length cells) n (slice_index x.held.registers 0)) (sym has.verdict_is)
-        (subst (λ (j : Held). IsThere (length cells) (kind.number_in (kinds.register ks 0)) (slice_index j.registers 0)) (sym has.held_is)
-        (there_of g.decls (length cells) ps (kind.number_in (kinds.register ks 0)) (slice_index h.registers 0)
-        (subst (λ (a : Kind). Counts g.decls (length cells) ps a (slice_index h.registers 0)) number (inside.registers 0 (omega arith))))),
-        subst (λ (j : Held). (i : ℕ) → i < 256 → slice_index j.window i < length cells) (sym has.held_is) inside.window) (All-nil (ExitMade cells));
+    each_exit = All-cons (ExitMade cells) x [] (
+      subst (λ (n : ℕ). n < length cells) (sym has.guard_is) there,
+      subst (λ (j : Held). j.target < length cells) (sym has.held_is) inside.target,
+      subst (λ (n : Number). IsThere (length cells) n (slice_index x.held.registers 0)) (sym has.verdict_is)
+          (subst (λ (j : Held). IsThere (length cells) (kind.number_in (kinds.register ks 0)) (slice_index j.registers 0)) (sym has.held_is)
+          (there_of g.decls (length cells) ps (kind.number_in (kinds.register ks 0)) (slice_index h.registers 0)
+          (subst (λ (a : Kind). Counts g.decls (length cells) ps a (slice_index h.registers 0)) number (inside.registers 0 (omega arith))))),
+      subst (λ (j : Held). (i : ℕ) → i < 256 → slice_index j.window i < length cells) (sym has.held_is) inside.window,
+    ) (All-nil (ExitMade cells));
   };
   offs = λ packet v run zero. record { edges = All-nil _; ends = All-cons (λ (y : End). v y.guard ≡ 0) x [] (ap v has.guard_is ∙ zero) (All-nil (λ (y : End). v y.guard ≡ 0)) };
   goes = λ packet maps v m run read one maps_are known place.
       let e = ending sound g packet v ps k i ks h m op is known place in
-      let at : stepped g k m (step g.code m) ≡ Over (leaves e.0 m) = ap (stepped g k m) e.1 in
-      (ends_good packet v m e.0 (stepped g k m (step g.code m)) at one known e.2,
-      ap (after v maps) (append-nil sites) ∙ maps_are ∙ ap (maps_in maps) (sym at),
-      ap (operation_as m i) op);
+      let at : stepped g k m (step g.code m) ≡ Over (leaves e.0 m) = ap (stepped g k m) e.1 in (
+        ends_good packet v m e.0 (stepped g k m (step g.code m)) at one known e.2,
+        ap (after v maps) (append-nil sites) ∙ maps_are ∙ ap (maps_in maps) (sym at),
+        ap (operation_as m i) op,
+      );
 }
   where
     number : kinds.register ks 0 ≡ Num (kind.number_in (kinds.register ks 0))

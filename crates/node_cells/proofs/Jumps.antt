@@ -1,9 +1,7 @@
 -- Nodes with jumps.
-use Rattle.std.proofs.Common.{◌≡◌, ℕ, ℤ, pos, ◌+◌, ◌+ℤ◌, ◌<◌, ◌≤◌, ◌&&◌, ◌⊎◌, inl, inr, Bool, true, false, not, if◌then◌else◌, Option, Some, None, Result, Ok, Err, IfOk, List, [], ◌∷◌, ◌++◌, length, get_or, refl, sym, ◌∙◌, ap, subst, arith}
-use Rattle.std.specs.Prelude.{All, Contains}
+use Rattle.std.proofs.Common.{◌≡◌, ℕ, ◌+◌, ◌<◌, ◌≤◌, ◌&&◌, Bool, true, false, Option, Some, None, Ok, Err, IfOk, List, [], ◌∷◌, ◌++◌, length, refl, sym, ◌∙◌, ap, arith}
 use Rattle.std.proofs.lemmas.List.{append-nil}
 use Rattle.std.proofs.lemmas.List.Elements.{All-nil, All-cons}
-use Rattle.bpf_isa.specs.Spelling.{IsInsn}
 use Rattle.bpf_isa.specs.declared.operation.Width.{Width}
 use Rattle.bpf_isa.specs.declared.operation.Width.TheVariants.{Bits32, Bits64}
 use Rattle.bpf_isa.specs.declared.operation.JumpCode.{JumpCode}
@@ -22,7 +20,7 @@ use Rattle.xdp_machine.specs.Touched.{operation_as}
 use Rattle.kind_core.specs.declared.kind.Kinds.{Kinds}
 use Rattle.kind_core.specs.Tests.{passed}
 use Rattle.kind_core.specs.Effects.{effect_of, verdict}
-use Rattle.kind_core.specs.Edges.{agrees, changed, decided, transferred}
+use Rattle.kind_core.specs.Edges.{agrees, changed, transferred}
 use Rattle.kind_core.specs.Describes.{DescribesMachine}
 use Rattle.kind_core.specs.Soundness.{IsPresent, ConditionsAreSound, target}
 use Rattle.cell_core.specs.Cells.{CellView, IsRun, on, bit}
@@ -31,15 +29,14 @@ use Rattle.operator_cells.specs.Making.{Grows}
 use Rattle.operator_cells.proofs.MakingLaws.{grown, grown_none}
 use Rattle.held_cells.specs.declared.held.Held.{Held}
 use Rattle.held_cells.specs.declared.way.Way.{Way}
-use Rattle.held_cells.specs.declared.way.Exit.{Exit}
-use Rattle.held_cells.specs.Paths.{GraphView, Stage, At, node_at, stepped, maps_in}
+use Rattle.held_cells.specs.Paths.{GraphView, At, node_at, stepped, maps_in}
 use Rattle.held_cells.specs.Held.{PointerView, AreInside}
 use Rattle.held_cells.specs.Carrying.{IsKnown}
-use Rattle.held_cells.specs.Steps.{IsGood, AreMade, AreRead, DoAs, Steps}
-use Rattle.edge_cells.specs.Leaving.{goes, IsBit, IsBranch, Branches, TestsJump, JumpsAreTested, EdgesAreInside, EdgesAreKnown, SingleEdgesAreKnown}
+use Rattle.held_cells.specs.Steps.{IsGood, DoAs}
+use Rattle.edge_cells.specs.Leaving.{IsBranch, TestsJump, JumpsAreTested, EdgesAreInside, EdgesAreKnown, SingleEdgesAreKnown}
 use Rattle.edge_cells.proofs.ExtendingLaws.{extends_none, inside_later}
 use Rattle.node_cells.specs.Ends.{IsNode, IsEdge}
-use Rattle.node_cells.proofs.Behind.{AreOff, off}
+use Rattle.node_cells.proofs.Behind.{off}
 use Rattle.node_cells.proofs.Branching.{at_place, step_is, goes_there, stands_there, good_along, BitOff, BitSmall, GoesTo}
 use Rattle.node_cells.proofs.Turning.{IsAdded, WayMade}
 
@@ -109,9 +106,10 @@ pub record HasOne (g : GraphView) (i : Insn) (k guard : ℕ) (kinds : Kinds) (h 
 way_inside : (g : GraphView) (i : Insn) (k guard : ℕ) (kinds : Kinds) (h : Held) (old mid mid2 new : List CellView) (ps : List PointerView) (condition : Option ℕ) (taken : Bool) (to : ℕ) (e : Way)
     → IsBranch g.decls mid mid2 k kinds h guard i condition taken to e → Grows old mid → Grows mid2 new → AreInside g.decls (length old) ps h (transferred g.decls kinds i k false taken)
     → (e.bit < length new) × AreInside g.decls (length new) ps e.held e.kinds
-way_inside g i k guard kinds h old mid mid2 new ps condition taken to e branch before behind inside =
-    (omega (arith, branch.branches.there, behind.longer),
-    rw (branch.held_is, branch.kinds_are) (inside_later g.decls (length old) (length new) ps ps h (transferred g.decls kinds i k false taken) (omega (arith, before.longer, branch.branches.grows.longer, behind.longer)) (extends_none ps) inside))
+way_inside g i k guard kinds h old mid mid2 new ps condition taken to e branch before behind inside = (
+  omega (arith, branch.branches.there, behind.longer),
+  rw (branch.held_is, branch.kinds_are) (inside_later g.decls (length old) (length new) ps ps h (transferred g.decls kinds i k false taken) (omega (arith, before.longer, branch.branches.grows.longer, behind.longer)) (extends_none ps) inside),
+)
 
 -- an edge that is taken leads there, and what is known goes along it
 way_known : (g : GraphView) (packet : PacketIn) (v : ℕ → ℕ) (i : Insn) (k guard : ℕ) (kinds : Kinds) (h : Held) (old new : List CellView) (ps : List PointerView) (condition : Option ℕ) (taken : Bool) (to place : ℕ) (m : Machine) (e : Way)
@@ -135,12 +133,13 @@ one_added g i k guard kinds h old new ps sites taken to e has = record {
       let takes = has.takes packet v m known place in
       let n : Machine = at_place m (node_at g.nodes to).place in
       let at : stepped g k m (step.step g.code m) ≡ At to n = stands_there g k i taken to m m has.edge (takes.goes ∙ goes_there g k i taken to m m has.edge place) in
-      let bit_one : v e.bit ≡ 1 = bit_is packet v run 1 (omega arith) one in
-      (good_along g packet v ps k to (e ∷ []) e n (stepped g k m (step.step g.code m)) at refl has.edge.up has.edge.inside (All-cons (BitSmall v) e [] (omega (arith, bit_one)) (All-nil (BitSmall v)))
-      (All-cons (GoesTo g packet v ps to n) e [] (λ is_on. way_known g packet v i k guard kinds h old new ps None taken to (node_at g.nodes to).place m e has.branch has.edge.up takes) (All-nil (GoesTo g packet v ps to n)))
-      (0, omega arith, refl) has.branch.leads (ap on bit_one),
-      ap (after v maps) (append-nil sites) ∙ maps_are ∙ ap (maps_in maps) (sym at),
-      has.plain m);
+      let bit_one : v e.bit ≡ 1 = bit_is packet v run 1 (omega arith) one in (
+        good_along g packet v ps k to (e ∷ []) e n (stepped g k m (step.step g.code m)) at refl has.edge.up has.edge.inside (All-cons (BitSmall v) e [] (omega (arith, bit_one)) (All-nil (BitSmall v)))
+            (All-cons (GoesTo g packet v ps to n) e [] (λ is_on. way_known g packet v i k guard kinds h old new ps None taken to (node_at g.nodes to).place m e has.branch has.edge.up takes) (All-nil (GoesTo g packet v ps to n)))
+            (0, omega arith, refl) has.branch.leads (ap on bit_one),
+        ap (after v maps) (append-nil sites) ∙ maps_are ∙ ap (maps_in maps) (sym at),
+        has.plain m,
+      );
 }
   where
     bit_is : (packet : PacketIn) (v : ℕ → ℕ) → IsRun packet new v → (n : ℕ) → n < 2 → v guard ≡ n → v e.bit ≡ bit (on n && true)
@@ -200,23 +199,25 @@ both_added laws g i k guard kinds h old mid mid2 new ps sites w code s c next ju
         let n : Machine = at_place m (node_at g.nodes jump).place in
         let at : stepped g k m (step.step g.code m) ≡ At jump n = stands_there g k i true jump m m has.jump_is (takes.goes ∙ goes_there g k i true jump m m has.jump_is place) in
         let e_is : v e.bit ≡ 0 = along_is packet v run 1 (omega arith) one ∙ ap (λ (x : ℕ). bit (agrees false (on x))) c_is in
-        let f_is : v f.bit ≡ 1 = aside_is packet v run 1 (omega arith) one ∙ ap (λ (x : ℕ). bit (agrees true (on x))) c_is in
-        (good_along g packet v ps k jump (e ∷ f ∷ []) f n (stepped g k m (step.step g.code m)) at refl has.jump_is.up has.jump_is.inside
-        (All-cons (BitSmall v) e (f ∷ []) (omega (arith, e_is)) (All-cons (BitSmall v) f [] (omega (arith, f_is)) (All-nil (BitSmall v))))
-        (All-cons (GoesTo g packet v ps jump n) e (f ∷ []) (λ is_on. absurd (off (v e.bit) e_is is_on))
-        (All-cons (GoesTo g packet v ps jump n) f [] (λ is_on. way_known g packet v i k guard kinds h mid2 new ps (Some c) true jump (node_at g.nodes jump).place m f has.aside has.jump_is.up takes) (All-nil (GoesTo g packet v ps jump n))))
-        (1, omega arith, refl) has.aside.leads (ap on f_is),
-        ap (after v maps) (append-nil sites) ∙ maps_are ∙ ap (maps_in maps) (sym at),
-        ap (operation_as m i) has.op)
+        let f_is : v f.bit ≡ 1 = aside_is packet v run 1 (omega arith) one ∙ ap (λ (x : ℕ). bit (agrees true (on x))) c_is in (
+          good_along g packet v ps k jump (e ∷ f ∷ []) f n (stepped g k m (step.step g.code m)) at refl has.jump_is.up has.jump_is.inside
+              (All-cons (BitSmall v) e (f ∷ []) (omega (arith, e_is)) (All-cons (BitSmall v) f [] (omega (arith, f_is)) (All-nil (BitSmall v))))
+              (All-cons (GoesTo g packet v ps jump n) e (f ∷ []) (λ is_on. absurd (off (v e.bit) e_is is_on))
+              (All-cons (GoesTo g packet v ps jump n) f [] (λ is_on. way_known g packet v i k guard kinds h mid2 new ps (Some c) true jump (node_at g.nodes jump).place m f has.aside has.jump_is.up takes) (All-nil (GoesTo g packet v ps jump n))))
+              (1, omega arith, refl) has.aside.leads (ap on f_is),
+          ap (after v maps) (append-nil sites) ∙ maps_are ∙ ap (maps_in maps) (sym at),
+          ap (operation_as m i) has.op,
+        )
     by packet maps v m run one maps_are place false c_is takes =
         let n : Machine = at_place m (node_at g.nodes next).place in
         let at : stepped g k m (step.step g.code m) ≡ At next n = stands_there g k i false next m m has.next_is (takes.goes ∙ goes_there g k i false next m m has.next_is place) in
         let e_is : v e.bit ≡ 1 = along_is packet v run 1 (omega arith) one ∙ ap (λ (x : ℕ). bit (agrees false (on x))) c_is in
-        let f_is : v f.bit ≡ 0 = aside_is packet v run 1 (omega arith) one ∙ ap (λ (x : ℕ). bit (agrees true (on x))) c_is in
-        (good_along g packet v ps k next (e ∷ f ∷ []) e n (stepped g k m (step.step g.code m)) at refl has.next_is.up has.next_is.inside
-        (All-cons (BitSmall v) e (f ∷ []) (omega (arith, e_is)) (All-cons (BitSmall v) f [] (omega (arith, f_is)) (All-nil (BitSmall v))))
-        (All-cons (GoesTo g packet v ps next n) e (f ∷ []) (λ is_on. way_known g packet v i k guard kinds h mid mid2 ps (Some c) false next (node_at g.nodes next).place m e has.along has.next_is.up takes)
-        (All-cons (GoesTo g packet v ps next n) f [] (λ is_on. absurd (off (v f.bit) f_is is_on)) (All-nil (GoesTo g packet v ps next n))))
-        (0, omega arith, refl) has.along.leads (ap on e_is),
-        ap (after v maps) (append-nil sites) ∙ maps_are ∙ ap (maps_in maps) (sym at),
-        ap (operation_as m i) has.op)
+        let f_is : v f.bit ≡ 0 = aside_is packet v run 1 (omega arith) one ∙ ap (λ (x : ℕ). bit (agrees true (on x))) c_is in (
+          good_along g packet v ps k next (e ∷ f ∷ []) e n (stepped g k m (step.step g.code m)) at refl has.next_is.up has.next_is.inside
+              (All-cons (BitSmall v) e (f ∷ []) (omega (arith, e_is)) (All-cons (BitSmall v) f [] (omega (arith, f_is)) (All-nil (BitSmall v))))
+              (All-cons (GoesTo g packet v ps next n) e (f ∷ []) (λ is_on. way_known g packet v i k guard kinds h mid mid2 ps (Some c) false next (node_at g.nodes next).place m e has.along has.next_is.up takes)
+              (All-cons (GoesTo g packet v ps next n) f [] (λ is_on. absurd (off (v f.bit) f_is is_on)) (All-nil (GoesTo g packet v ps next n))))
+              (0, omega arith, refl) has.along.leads (ap on e_is),
+          ap (after v maps) (append-nil sites) ∙ maps_are ∙ ap (maps_in maps) (sym at),
+          ap (operation_as m i) has.op,
+        )

@@ -6,3 +6,4 @@ pub mod Jumps
 pub mod Exits
 pub mod Onward
 pub mod Pushing
+pub mod Filled

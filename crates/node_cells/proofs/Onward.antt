@@ -1,6 +1,5 @@
 -- Nodes whose instructions lead on along one edge.
-use Rattle.std.proofs.Common.{◌≡◌, ◌≢◌, ℕ, ℤ, pos, ◌+◌, ◌<◌, ◌≤◌, ◌==◌, Bool, true, false, if◌then◌else◌, Option, Some, None, List, [], ◌∷◌, ◌++◌, length, get_or, refl, sym, ◌∙◌, ap, subst, arith}
-use Rattle.std.specs.Prelude.{All, Contains}
+use Rattle.std.proofs.Common.{◌≡◌, ℕ, ℤ, pos, ◌+◌, ◌<◌, ◌≤◌, ◌==◌, Bool, true, false, if◌then◌else◌, Option, Some, None, List, [], ◌∷◌, length, refl, sym, ◌∙◌, ap, subst, arith}
 use Rattle.std.specs.List.{list_any}
 use Rattle.std.proofs.lemmas.List.Elements.{All-nil, All-cons}
 use Rattle.bpf_isa.specs.Spelling.{units_of}
@@ -9,21 +8,17 @@ use Rattle.bpf_isa.specs.declared.operation.Op.{Op}
 use Rattle.bpf_isa.specs.declared.operation.Op.TheVariants.{Ja, Jump, Exit}
 use Rattle.bpf_isa.specs.declared.instruction.Insn.{Insn}
 use Rattle.xdp_maps.specs.declared.decl.MapDecl.{MapDecl}
-use Rattle.xdp_maps.specs.State.{MapState}
 use Rattle.xdp_machine.specs.State.{Code, Machine, PacketIn, begins}
 use Rattle.xdp_machine.specs.Step.{Outcome, step, outcome, effect, goes_on, goes_to, Goes, NoCase}
-use Rattle.xdp_machine.specs.Touched.{operation_as}
 use Rattle.xdp_machine.specs.MachineLaws.{StepsChangeOnly, StepsKeepRanges}
-use Rattle.kind_core.specs.declared.kind.Kind.TheVariants.{Unset}
 use Rattle.kind_core.specs.declared.kind.Kinds.{Kinds}
 use Rattle.kind_core.specs.Kinds.{value_bytes}
-use Rattle.kind_core.specs.Tests.{passed}
 use Rattle.kind_core.specs.Effects.{effect_of, verdict}
 use Rattle.kind_core.specs.Edges.{transferred}
 use Rattle.kind_core.specs.Describes.{World, DescribesMachine}
 use Rattle.kind_core.specs.Soundness.{Stands, StepsAreSound, LaterDescribes, Leads as StepLeads, GoesOn, at_reference, target}
 use Rattle.kind_core.proofs.TransferLaws.{IsSized, transferred_sized, is_jump, transferred_fixed}
-use Rattle.cell_core.specs.Cells.{CellView, IsRun}
+use Rattle.cell_core.specs.Cells.{CellView}
 use Rattle.cell_core.specs.Cells.{on as on_bit}
 use Rattle.cell_core.specs.Sites.{SiteView, after}
 use Rattle.held_cells.specs.declared.held.Held.{Held}
@@ -113,16 +108,16 @@ on_from : Laws → (g : GraphView) (packet : PacketIn) (v : ℕ → ℕ) (ps : L
 on_from laws g packet v ps k to i kinds h is_ref m is leads ref edge known place =
     let w : World = at_node known.world k in
     let on : LeadsOn g.code w kinds m i i.op = leading_on g.code w kinds m i i.op leads (laws.sound g.code w kinds m i (stands_later laws.later known.world kinds m k known.node_is known.stands)
-        (legal_insn g k i kinds is) (ap (insn_at g.code.insns) place ∙ is.insn) (ap (λ (ds : List MapDecl). verdict (effect_of ds kinds i)) known.decls_are ∙ is.allowed)) in
+    (legal_insn g k i kinds is) (ap (insn_at g.code.insns) place ∙ is.insn) (ap (λ (ds : List MapDecl). verdict (effect_of ds kinds i)) known.decls_are ∙ is.allowed)) in
     let l = on.leads in
     let aimed : pos (m.place + units_of i.op) ≡ pos (node_at g.nodes to).place = sym (on.aimed false) ∙ ap (λ (p : ℕ). target p i i.op false) place ∙ edge.target_is in
     let after_is : step g.code m ≡ Goes (at_place l.after (node_at g.nodes to).place) =
-        l.goes ∙ ap (λ (z : ℤ). goes_to g.code.insns z l.after) (on.aimed l.taken ∙ aimed) ∙ ap (λ (b : Bool). if b then Goes (at_place l.after (node_at g.nodes to).place) else NoCase) edge.starts in
+    l.goes ∙ ap (λ (z : ℤ). goes_to g.code.insns z l.after) (on.aimed l.taken ∙ aimed) ∙ ap (λ (b : Bool). if b then Goes (at_place l.after (node_at g.nodes to).place) else NoCase) edge.starts in
     let n = went g.code.insns (node_at g.nodes to).place m.place (units_of i.op) (effect g.code.refs m i i.op) l.after aimed edge.starts (sym (step_is g k i kinds m is place ∙ on.outcome_is) ∙ after_is) in
     let kinds_are : transferred m.maps.decls kinds i k (at_reference g.code.refs m) l.taken ≡ transferred g.decls kinds i k is_ref false =
-        ap (λ (ds : List MapDecl). transferred ds kinds i k (at_reference g.code.refs m) l.taken) known.decls_are
-        ∙ ap (λ (b : Bool). transferred g.decls kinds i k b l.taken) (ap (λ (p : ℕ). list_any (λ r. r == p) g.code.refs) place ∙ sym ref)
-        ∙ transferred_fixed g.decls kinds i k is_ref l.taken on.plain in
+    ap (λ (ds : List MapDecl). transferred ds kinds i k (at_reference g.code.refs m) l.taken) known.decls_are
+    ∙ ap (λ (b : Bool). transferred g.decls kinds i k b l.taken) (ap (λ (p : ℕ). list_any (λ r. r == p) g.code.refs) place ∙ sym ref)
+    ∙ transferred_fixed g.decls kinds i k is_ref l.taken on.plain in
     record {
       next = n.0;
       effect_is = n.1;
@@ -183,10 +178,11 @@ on_added laws g i k guard kinds is_ref h next old new ps qs sites sites2 to e is
       let done = o.holds packet maps v m on.next g.code.refs run (subst (λ (xs : List SiteView). AreRead maps new xs v) (sym o.sites_are) read) (ap on_bit one) maps_are known ref_is on.effect_is in
       let n : Machine = at_place on.next (node_at g.nodes to).place in
       let at : stepped g k m (step g.code m) ≡ At to n = stands_there g k i false to m on.next edge on.goes in
-      let bit_one : v e.bit ≡ 1 = ap v way.bit_is ∙ one in
-      (good_along g packet v qs k to (e ∷ []) e n (stepped g k m (step g.code m)) at refl edge.up edge.inside (All-cons (BitSmall v) e [] (omega (arith, bit_one)) (All-nil (BitSmall v)))
-      (All-cons (GoesTo g packet v qs to n) e [] (λ is_on. (way.leads, rw (way.kinds_are, way.held_is) (known_on laws g packet v ps qs k to i kinds h next is_ref m is sized edge (fills known.filled) known on done.0))) (All-nil (GoesTo g packet v qs to n)))
-      (0, omega arith, refl) way.leads (ap on_bit bit_one),
-      ap (after v maps) (sym o.sites_are) ∙ done.1 ∙ ap (maps_in maps) (sym at),
-      done.2);
+      let bit_one : v e.bit ≡ 1 = ap v way.bit_is ∙ one in (
+        good_along g packet v qs k to (e ∷ []) e n (stepped g k m (step g.code m)) at refl edge.up edge.inside (All-cons (BitSmall v) e [] (omega (arith, bit_one)) (All-nil (BitSmall v)))
+            (All-cons (GoesTo g packet v qs to n) e [] (λ is_on. (way.leads, rw (way.kinds_are, way.held_is) (known_on laws g packet v ps qs k to i kinds h next is_ref m is sized edge (fills known.filled) known on done.0))) (All-nil (GoesTo g packet v qs to n)))
+            (0, omega arith, refl) way.leads (ap on_bit bit_one),
+        ap (after v maps) (sym o.sites_are) ∙ done.1 ∙ ap (maps_in maps) (sym at),
+        done.2,
+      );
 }

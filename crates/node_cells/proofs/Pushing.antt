@@ -1,5 +1,5 @@
 -- What the code of nodes does, by the edges and ends that it pushes.
-use Rattle.std.proofs.Common.{◌≡◌, ℕ, ◌<◌, ◌⊎◌, inl, inr, Bool, true, false, Option, Some, None, Result, Ok, Err, IfOk, List, [], ◌∷◌, ◌++◌, length, append_assoc, refl, sym, ◌∙◌, ap, subst}
+use Rattle.std.proofs.Common.{◌≡◌, ℕ, ◌⊎◌, inl, inr, Bool, true, false, Option, Some, None, Result, Ok, Err, IfOk, List, [], ◌∷◌, ◌++◌, length, append_assoc, sym, ◌∙◌, ap, subst}
 use Rattle.std.proofs.lemmas.List.{append-nil}
 use Rattle.bpf_isa.specs.Spelling.{IsInsn}
 use Rattle.bpf_isa.specs.declared.operation.Width.{Width}
@@ -24,11 +24,11 @@ use Rattle.held_cells.specs.Carrying.{IsKnown}
 use Rattle.edge_cells.specs.declared.joining.Here.{Here}
 use Rattle.edge_cells.specs.Leaving.{IsBranch, TestsJump, EndsAreLeft}
 use Rattle.edge_cells.proofs.JumpKindLaws.{single_edge}
-use Rattle.edge_cells.specs.Widening.{AreFilled}
 use Rattle.node_cells.specs.Ends.{IsNode}
 use Rattle.node_cells.specs.Stepping.{JumpSteps, EdgeSteps, StepsOn, ExitSteps}
 use Rattle.node_cells.proofs.Turning.{steps_of}
-use Rattle.node_cells.proofs.Jumps.{Laws, IsTaken, tested, always, HasOne, one_added, HasBoth, both_added}
+use Rattle.node_cells.proofs.Jumps.{Laws, IsTaken, tested, always, one_added, both_added}
+use Rattle.node_cells.proofs.Filled.{edges_are_filled}
 use Rattle.node_cells.proofs.Exits.{IsEndOf, end_added}
 use Rattle.node_cells.proofs.Onward.{IsWay, on_added}
 use Rattle.node_cells.proofs.Onward as onward
@@ -83,7 +83,7 @@ pub decided_steps : Laws → (decls : List MapDecl) (node : ℕ) (k : Kinds) (he
 decided_steps laws decls node k here i w code s taken to old new ps ways ways2 e op decision inside branch pushed =
     edge_steps decls node k here i taken to old new ps ways ways2 e (laws.inside decls (length old) ps k here.held i node w code s taken op inside) branch pushed
     (λ g is packet v m known place. let t = tested laws g packet v ps node i k here.held m w code s op is known place in
-        subst (λ (b : Bool). IsTaken g packet v ps node i k here.held m b) (present_is (decided k i) t.taken taken decision t.present) t.is)
+    subst (λ (b : Bool). IsTaken g packet v ps node i k here.held m b) (present_is (decided k i) t.taken taken decision t.present) t.is)
     (λ m. ap (operation_as m i) op)
 
 pub always_steps : Laws → (decls : List MapDecl) (node : ℕ) (k : Kinds) (here : Here) (i : Insn) (w : Width) (to : ℕ) (old new : List CellView) (ps : List PointerView) (ways ways2 : List Way) (e : Way)
@@ -96,10 +96,10 @@ always_steps laws decls node k here i w to old new ps ways ways2 e op inside bra
 
 pub on_steps : onward.Laws → (decls : List MapDecl) (node : ℕ) (k : Kinds) (i : Insn) (is_ref : Bool) (guard : ℕ) (next : Held) (to : ℕ) (ways ways2 : List Way) (e : Way) → IsSized k → IsWay decls node k i is_ref guard next to e
     → ways2 ≡ ways ++ e ∷ [] → StepsOn decls node k i is_ref guard next to ways ways2
-on_steps laws decls node k i is_ref guard next to ways ways2 e sized way pushed g here old new ps qs sites sites2 exits d is leads ref fills edge there o made =
+on_steps laws decls node k i is_ref guard next to ways ways2 e sized way pushed g here old new ps qs sites sites2 exits d is leads ref edge there o made =
     steps_of g i node guard k here old new ps qs sites o.more sites2 ways (e ∷ []) ways2 exits [] exits o.sites_are pushed (sym (append-nil exits)) is made
     (on_added laws g i node guard k is_ref here next old new ps qs sites sites2 to e is sized leads ref edge there
-    (subst (λ (ds : List MapDecl). AreFilled k → AreFilled (transferred ds k i node is_ref false)) (sym d) fills)
+    (edges_are_filled g.decls k i node is_ref leads)
     (subst (λ (ds : List MapDecl). IsWay ds node k i is_ref guard next to e) (sym d) way) o)
 
 pub exit_steps : StepsAreSound → EndsAreLeft → (k : Kinds) (here : Here) (exits exits2 : List Exit) (x : Exit) → IsEndOf x here.guard k here.held → exits2 ≡ exits ++ x ∷ [] → ExitSteps k here exits exits2

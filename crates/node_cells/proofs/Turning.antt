@@ -1,11 +1,10 @@
 -- From what a node adds to what its code does.
-use Rattle.std.proofs.Common.{◌≡◌, ℕ, ◌+◌, ◌<◌, ◌≤◌, ◌==◌, Bool, true, false, Option, Some, List, [], ◌∷◌, ◌++◌, length, get_or, refl, sym, ◌∙◌, ap, subst, arith}
-use Rattle.std.specs.Prelude.{All, Contains, slice_index}
-use Rattle.std.proofs.lemmas.List.Elements.{All-append, All-nil}
+use Rattle.std.proofs.Common.{◌≡◌, ℕ, ◌+◌, ◌<◌, ◌≤◌, ◌==◌, true, Option, List, ◌++◌, length, refl, sym, ◌∙◌, ap, subst, arith}
+use Rattle.std.specs.Prelude.{All, slice_index}
+use Rattle.std.proofs.lemmas.List.Elements.{All-append}
 use Rattle.std.proofs.lemmas.Bool.Decides.{nat_tests}
 use Rattle.bpf_isa.specs.declared.instruction.Insn.{Insn}
 use Rattle.xdp_maps.specs.State.{MapState}
-use Rattle.xdp_maps.specs.Operations.{Operation}
 use Rattle.xdp_machine.specs.State.{Machine, PacketIn}
 use Rattle.xdp_machine.specs.Values.{◌>>=◌}
 use Rattle.xdp_machine.specs.Step.{step}
@@ -14,20 +13,20 @@ use Rattle.bpf_isa.specs.Text.{insn_at}
 use Rattle.kind_core.specs.declared.number.Number.{Number}
 use Rattle.kind_core.specs.declared.number.Number.TheVariants.{Known, Unknown}
 use Rattle.kind_core.specs.declared.kind.Kinds.{Kinds}
-use Rattle.cell_core.specs.Cells.{CellView, IsRun, bit, on}
+use Rattle.cell_core.specs.Cells.{CellView, IsRun, bit}
 use Rattle.cell_core.specs.Sites.{SiteView, after}
 use Rattle.operator_cells.specs.Making.{Grows}
 use Rattle.held_cells.specs.declared.held.Held.{Held}
 use Rattle.held_cells.specs.declared.way.Way.{Way}
 use Rattle.held_cells.specs.declared.way.Exit.{Exit}
-use Rattle.held_cells.specs.Paths.{GraphView, Stage, At, node_at, stepped, stands_at, visit, maps_in}
+use Rattle.held_cells.specs.Paths.{GraphView, Stage, At, node_at, stepped, maps_in}
 use Rattle.held_cells.specs.Held.{PointerView, AreInside, IsThere}
 use Rattle.held_cells.specs.Carrying.{IsKnown}
 use Rattle.held_cells.specs.Steps.{IsGood, IsHere, AreMade, AreRead, DoAs, Steps}
 use Rattle.edge_cells.specs.Meeting.{Extends}
 use Rattle.edge_cells.proofs.ExtendingLaws.{inside_later}
 use Rattle.node_cells.specs.Ends.{IsNode}
-use Rattle.node_cells.proofs.Behind.{AreOff, IsTurn, good_behind}
+use Rattle.node_cells.proofs.Behind.{AreOff, good_behind}
 
 there_later : (n m : ℕ) (x : Number) (c : ℕ) → n ≤ m → IsThere n x c → IsThere m x c
 there_later n m (Known a) c l h = tt
@@ -48,7 +47,7 @@ made_more g old new ps qs ways more exits more_exits grows extends made also = r
       (λ i d l. let w = made.each_way i d l in (omega (arith, w.0, grows.longer), inside_later g.decls (length old) (length new) ps qs _ _ grows.longer extends w.1)) also.each_way;
   each_exit = All-append (ExitMade new) exits more_exits
       (λ i d l. let x = made.each_exit i d l in
-          (omega (arith, x.0, grows.longer), omega (arith, x.1, grows.longer), there_later (length old) (length new) _ _ grows.longer x.2, λ j s. omega (arith, x.3 j s, grows.longer))) also.each_exit;
+      (omega (arith, x.0, grows.longer), omega (arith, x.1, grows.longer), there_later (length old) (length new) _ _ grows.longer x.2, λ j s. omega (arith, x.3 j s, grows.longer))) also.each_exit;
 }
 
 -- What a node adds, and what is asked of it: in every run of the cells the edges and ends are off where the guard is, and where the run stands

@@ -15,8 +15,8 @@ use bpf_isa::{Insn, JumpCode, Op, Src, Width};
 use cell_core::cell::Cell;
 use edge_cells::joining::Here;
 use edge_cells::laws::{
-    edges_are_inside, edges_are_known, jumps_are_tested, operands_are_ready, single_edges_are_known,
-    undecided_are_open,
+    edges_are_inside, edges_are_known, jumps_are_tested, operands_are_ready,
+    single_edges_are_known, undecided_are_open,
 };
 use edge_cells::leaving::{jump_condition, leave_edge};
 use held_cells::held::Pointer;
@@ -130,10 +130,16 @@ pub fn step_jump(
 {
     match (next, jump) {
         (Some(next), Some(jump)) => {
-            step_both(cells, pointers, decls, node, kinds, here, insn, width, code, src, next, jump, ways)
+            step_both(
+                cells, pointers, decls, node, kinds, here, insn, width, code, src, next, jump, ways,
+            )
         }
-        (Some(to), None) => step_one(cells, pointers, decls, node, kinds, here, insn, width, code, src, false, to, ways),
-        (None, Some(to)) => step_one(cells, pointers, decls, node, kinds, here, insn, width, code, src, true, to, ways),
+        (Some(to), None) => step_one(
+            cells, pointers, decls, node, kinds, here, insn, width, code, src, false, to, ways,
+        ),
+        (None, Some(to)) => step_one(
+            cells, pointers, decls, node, kinds, here, insn, width, code, src, true, to, ways,
+        ),
         (None, None) => Ok(()),
     }
 }

@@ -6,4 +6,5 @@
 
 pub mod ending;
 pub mod jumping;
+pub mod laws;
 pub mod leading;
