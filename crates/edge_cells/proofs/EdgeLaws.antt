@@ -35,7 +35,7 @@ counts-along decls n ps a b c (same k) h = h
 counts-along decls n ps a b c (null q m) h = tt
 counts-along decls n ps a b c (entry q m) h = h
 
-set-along : (a b : Kind) → Along a b → a ≢ Unset → b ≢ Unset
+pub set-along : (a b : Kind) → Along a b → a ≢ Unset → b ≢ Unset
 set-along a b (same k) h = h
 set-along a b (null q m) h = λ e. absurd (cc)
 set-along a b (entry q m) h = λ e. absurd (cc)

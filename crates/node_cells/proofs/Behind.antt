@@ -69,9 +69,6 @@ good_kept g packet v ps qs k cells ways more exits more_exits s extends made oth
   somewhere = good.somewhere;
 }
 
-at_own : (k : ℕ) → (k == k) ≡ true
-at_own k = grind (arith, nat_tests)
-
 -- the run stands at the node: no earlier edge is on that leads further, and no end
 good_stepped : (g : GraphView) (packet : PacketIn) (v : ℕ → ℕ) (ps qs : List PointerView) (k : ℕ) (ways more : List Way) (exits more_exits : List Exit) (m : Machine) (t : Stage)
     → IsGood g packet v ps k ways exits (At k m) → IsGood g packet v qs (k + 1) more more_exits t → IsGood g packet v qs (k + 1) (ways ++ more) (exits ++ more_exits) t

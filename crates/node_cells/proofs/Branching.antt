@@ -1,5 +1,5 @@
 -- A step that goes along one of the edges that a node adds.
-use Rattle.std.proofs.Common.{◌≡◌, ℕ, ℤ, ◌+◌, ◌<◌, Bool, true, false, if◌then◌else◌, List, [], length, get_or, refl, sym, ◌∙◌, ap, subst, arith}
+use Rattle.std.proofs.Common.{◌≡◌, ℕ, ℤ, ◌+◌, ◌<◌, Bool, true, if◌then◌else◌, List, [], length, get_or, sym, ◌∙◌, ap, subst, arith}
 use Rattle.std.specs.Prelude.{All, Contains}
 use Rattle.std.proofs.lemmas.List.Elements.{All-nil}
 use Rattle.bpf_isa.specs.declared.instruction.Insn.{Insn}
@@ -7,9 +7,8 @@ use Rattle.bpf_isa.specs.Text.{insn_at}
 use Rattle.xdp_machine.specs.State.{Machine, PacketIn}
 use Rattle.xdp_machine.specs.Step.{Goes, NoCase, goes_to, step, outcome_at, outcome}
 use Rattle.kind_core.specs.declared.kind.Kinds.{Kinds}
-use Rattle.kind_core.specs.Edges.{agrees}
 use Rattle.kind_core.specs.Soundness.{target}
-use Rattle.cell_core.specs.Cells.{on, bit}
+use Rattle.cell_core.specs.Cells.{on}
 use Rattle.held_cells.specs.declared.way.Way.{Way}
 use Rattle.held_cells.specs.Paths.{GraphView, Stage, At, Over, Nowhere, node_at, stepped}
 use Rattle.held_cells.specs.Held.{PointerView}
@@ -63,23 +62,3 @@ good_along g packet v ps k to more e n t at place up inside bits known among lea
   ended = λ x is. let bad : At to n ≡ Over x = sym at ∙ is in absurd (cc bad);
   somewhere = λ is. let bad : At to n ≡ Nowhere = sym at ∙ is in absurd (cc bad);
 }
-
--- ---- the bit of an edge, by that of its guard and of its condition
-
-pub small : (b : Bool) → bit b < 2
-small true = omega arith
-small false = omega arith
-
-pub bit_on : (b : Bool) → on (bit b) ≡ b
-bit_on true = refl
-bit_on false = refl
-
--- an edge that is on is the one that is taken
-pub agrees_alone : (t taken : Bool) → agrees t taken ≡ true → t ≡ taken
-agrees_alone true taken h = sym h
-agrees_alone false true h = absurd (cc h)
-agrees_alone false false h = refl
-
-pub agrees_own : (t : Bool) → agrees t t ≡ true
-agrees_own true = refl
-agrees_own false = refl

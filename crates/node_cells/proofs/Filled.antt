@@ -29,7 +29,8 @@ use Rattle.kind_core.specs.Profile.{profiled, in_profile, keeps_stack_end, reads
 use Rattle.kind_core.specs.Effects.{effect_of, effect_as, immediate, alu}
 use Rattle.kind_core.specs.Edges.{changed, changed_if}
 use Rattle.edge_cells.specs.Widening.{AreFilled}
-use Rattle.edge_cells.proofs.JumpKindLaws.{Along, same, null, entry, edge_of}
+use Rattle.edge_cells.proofs.EdgeLaws.{set-along}
+use Rattle.edge_cells.proofs.JumpKindLaws.{edge_of}
 use Rattle.node_cells.specs.Ends.{leads_on}
 use Rattle.node_cells.specs.Filling.{EdgesAreFilled, JumpsAreFilled}
 
@@ -57,11 +58,6 @@ if_fills node is_ref k false r t g x y = y
 either_fills : (node : ℕ) (is_ref : Bool) (k : Kinds) (b : Bool) (e f : _) → Fills (changed node is_ref false k e) → Fills (changed node is_ref false k f) → Fills (changed node is_ref false k (if b then e else f))
 either_fills node is_ref k true e f x y = x
 either_fills node is_ref k false e f x y = y
-
-along_set : (a b : Kind) → Along a b → a ≢ Unset → b ≢ Unset
-along_set a b (same k) h = h
-along_set a b (null q m) h = λ e. absurd (cc e)
-along_set a b (entry q m) h = λ e. absurd (cc e)
 
 -- ---- calls
 
@@ -204,4 +200,4 @@ edges_are_filled decls k i node is_ref leads h =
     (bind_fills node is_ref k (profiled i k) _ h (λ u e. fills_as decls node is_ref k i i.op leads (source_set k i u e) h)).each
 
 pub jumps_are_filled : JumpsAreFilled
-jumps_are_filled decls k i node w c s taken is h = λ r l. along_set _ _ ((edge_of decls k i node w c s taken is).slots r) (h r l)
+jumps_are_filled decls k i node w c s taken is h = λ r l. set-along _ _ ((edge_of decls k i node w c s taken is).slots r) (h r l)
