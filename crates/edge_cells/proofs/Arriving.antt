@@ -97,6 +97,7 @@ pub here_is_right : HereIsRight
 here_is_right g packet v ps qs k old new ways here exits guard h s joins lead run good = record {
   guard_is = joins.guards.value packet v run (λ i d l. All-contains (λ e. v e.bit < 2) ways (get_or here i d) good.bits (lead.among (get_or here i d) (Contains-get_or here i d l)))
       ∙ ap bit (guard_stands g packet v ps k ways here exits s lead good);
+  placed = good.placed k;
   known = λ m at.
       let e = good.some k m at in
       let c = lead.all e.0 e.1 e.2 in

@@ -26,7 +26,7 @@ use Rattle.edge_cells.specs.Widening.{Widens, AreWider, AreFilled}
 use Rattle.edge_cells.specs.Meeting.{IsPart, held_at, kind_at, IsSaid, Extends, AreWays, Meets, first_on}
 use Rattle.edge_cells.specs.Joining.{Guards, Joins}
 use Rattle.operator_cells.proofs.MakingLaws.{grown}
-use Rattle.edge_cells.proofs.Extending.{extends_none, holds_later, part_counts, inside_from_parts}
+use Rattle.edge_cells.proofs.ExtendingLaws.{extends_none, holds_later, part_counts, inside_from_parts}
 use Rattle.edge_cells.proofs.Arriving.{first_below}
 
 number-wider : (w : World) (maps : MapState) (n : Number) (x : Value) → Describes w maps (Num n) x → Describes w maps (Num Unknown) x

@@ -28,14 +28,14 @@ use Rattle.held_cells.specs.declared.held.Held.{Held}
 use Rattle.held_cells.specs.Held.{PointerView, pointer_at, key_of, Holds, Counts}
 use Rattle.held_cells.specs.Carrying.{IsKnown}
 use Rattle.edge_cells.specs.Leaving.{EdgesAreKnown, EdgesAreInside, SingleEdgesAreKnown}
-use Rattle.edge_cells.proofs.JumpKinds.{Along, same, null, entry, IsEdge, edge_of, edge-any, single_edge}
+use Rattle.edge_cells.proofs.JumpKindLaws.{Along, same, null, entry, IsEdge, edge_of, edge-any, single_edge}
 
 counts-along : (decls : List MapDecl) (n : ℕ) (ps : List PointerView) (a b : Kind) (c : ℕ) → Along a b → Counts decls n ps a c → Counts decls n ps b c
 counts-along decls n ps a b c (same k) h = h
 counts-along decls n ps a b c (null q m) h = tt
 counts-along decls n ps a b c (entry q m) h = h
 
-set-along : (a b : Kind) → Along a b → a ≢ Unset → b ≢ Unset
+pub set-along : (a b : Kind) → Along a b → a ≢ Unset → b ≢ Unset
 set-along a b (same k) h = h
 set-along a b (null q m) h = λ e. absurd (cc)
 set-along a b (entry q m) h = λ e. absurd (cc)

@@ -1,6 +1,6 @@
 pub mod Growth
 pub mod Choices
-pub mod Extending
+pub mod ExtendingLaws
 pub mod Words
 pub mod Widened
 pub mod Arriving
@@ -10,6 +10,7 @@ pub mod Assembled
 pub mod Rows
 pub mod Tested
 pub mod EdgeKnown
-pub mod JumpKinds
+pub mod JumpKindLaws
 pub mod EdgeLaws
 pub mod Operands
+pub mod Undecided

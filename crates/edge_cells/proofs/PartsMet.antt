@@ -23,7 +23,7 @@ use Rattle.edge_cells.specs.Widening.{Widens, AreWider}
 use Rattle.edge_cells.specs.Meeting.{IsPart, held_at, kind_at, number_in, number_brought, BringNumbers, cell_in, BringCells, Picks, PicksPointer, words_of, is_known, is_unknown, map_of, IsSaid, AreWays, MeetsMore, first_on}
 use Rattle.operator_cells.proofs.MakingLaws.{grown_none}
 use Rattle.edge_cells.proofs.Words.{bytes_same}
-use Rattle.edge_cells.proofs.Extending.{extends_none, extended, same_pointer, part_counts}
+use Rattle.edge_cells.proofs.ExtendingLaws.{extends_none, extended, same_pointer, part_counts}
 use Rattle.edge_cells.proofs.Arriving.{first_below}
 
 pub part_wider : (k j : Kinds) (part : Part) → AreWider k j → Widens (kind_at part k) (kind_at part j)

@@ -14,7 +14,7 @@ use Rattle.edge_cells.specs.declared.part.Part.{Part}
 use Rattle.edge_cells.specs.declared.part.Part.TheVariants.{Register, Slot, Byte, Target}
 use Rattle.edge_cells.specs.Meeting.{kind_at, Extends, Meets, MeetsMore, MeetRow}
 use Rattle.operator_cells.proofs.MakingLaws.{grown, grown_none}
-use Rattle.edge_cells.proofs.Extending.{extends_none, extended, meets_later}
+use Rattle.edge_cells.proofs.ExtendingLaws.{extends_none, extended, meets_later}
 use Rattle.edge_cells.proofs.Assembled.{AreMet}
 
 pub row_none : (decls : List MapDecl) (cells : List CellView) (ps : List PointerView) (here : List Way) (k : Kinds) (part : ℕ → Part) (held : List ℕ) → MeetRow decls cells cells ps ps here k part 0 held

@@ -20,7 +20,7 @@ use Rattle.kind_core.specs.declared.kind.Kinds.{Kinds}
 use Rattle.kind_core.specs.Kinds.{register}
 use Rattle.kind_core.specs.Tests.{passed}
 use Rattle.kind_core.specs.Effects.{effect_of, verdict, operand}
-use Rattle.kind_core.specs.Edges.{agrees, transferred}
+use Rattle.kind_core.specs.Edges.{agrees, decided, transferred}
 use Rattle.cell_core.specs.Cells.{CellView, IsRun, on, bit}
 use Rattle.operator_cells.specs.Making.{Grows}
 use Rattle.held_cells.specs.declared.held.Held.{Held}
@@ -29,7 +29,7 @@ use Rattle.held_cells.specs.declared.way.Exit.{Exit}
 use Rattle.held_cells.specs.Held.{PointerView, AreInside}
 use Rattle.held_cells.specs.Carrying.{IsKnown}
 use Rattle.held_cells.specs.Steps.{IsLeft}
-use Rattle.edge_cells.specs.Testing.{IsReady, Tests}
+use Rattle.edge_cells.specs.Testing.{is_open, IsReady, Tests}
 
 -- the cell of the second operand, or its pointer; an immediate number has none
 abbrev pub operand_held : Held → Insn → Src → ℕ
@@ -66,6 +66,12 @@ pub record IsBranch (decls : List MapDecl) (old new : List CellView) (node : ℕ
   pub leads : e.to ≡ to
   pub kinds_are : e.kinds ≡ transferred decls k i node false taken
   pub held_is : e.held ≡ h
+
+-- A jump that is allowed and undecided has a condition that needs a cell.
+abbrev pub UndecidedAreOpen : Type 0
+UndecidedAreOpen =
+    (decls : List MapDecl) (k : Kinds) (i : Insn) (w : Width) (c : JumpCode) (s : Src) → i.op ≡ Jump w c s → verdict (effect_of decls k i) ≡ passed → decided k i ≡ None
+    → is_open w c (register k i.dst) (operand k i s) ≡ true
 
 -- Where a machine is known at a node the bit of a jump's condition is 1 exactly where the machine takes the jump.
 abbrev pub JumpsAreTested : Type 0

@@ -2,7 +2,7 @@
 
 ghost use Rattle.edge_cells.specs.Widening.{JoinsWiden, JoinsAreFilled};
 ghost use Rattle.edge_cells.specs.Joining.{HereIsRight};
-ghost use Rattle.edge_cells.specs.Leaving.{JumpsAreTested, EdgesAreInside, EdgesAreKnown, SingleEdgesAreKnown, OperandsAreReady, EndsAreLeft};
+ghost use Rattle.edge_cells.specs.Leaving.{UndecidedAreOpen, JumpsAreTested, EdgesAreInside, EdgesAreKnown, SingleEdgesAreKnown, OperandsAreReady, EndsAreLeft};
 
 /// What is known where edges meet says no more than what is known on each.
 pub fn joins_widen()
@@ -17,6 +17,11 @@ pub fn joins_are_filled()
 /// What [`join`](crate::joining::join) makes of the edges that lead to a node is right there.
 pub fn here_is_right()
     ensures { HereIsRight }
+{}
+
+/// A jump that is allowed and undecided has a condition that needs a cell.
+pub fn undecided_are_open()
+    ensures { UndecidedAreOpen }
 {}
 
 /// Where a machine is known at a node the bit of a jump's condition is 1 exactly where the machine takes the jump.

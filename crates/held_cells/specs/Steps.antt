@@ -33,20 +33,23 @@ pub record IsLeft (packet : PacketIn) (v : ℕ → ℕ) (x : Exit) (e : Leaves) 
 abbrev pub Closes : PacketIn → (ℕ → ℕ) → Stage → Exit → Type 0
 Closes packet v s x = on (v x.guard) ≡ true → (e : Leaves) × (s ≡ Over e) × IsLeft packet v x e
 
--- Between nodes, before node k: bits are bits; edges that are on lead to where the run stands, and where it stands before a step an edge
--- that is on leads there; ends likewise.
+-- Between nodes, before node k: bits are bits; the run stands at this node or a later one, at its place; edges that are on lead to where the
+-- run stands, and where it stands before a step an edge that is on leads there; ends likewise.
 pub record IsGood (g : GraphView) (packet : PacketIn) (v : ℕ → ℕ) (ps : List PointerView) (k : ℕ) (ways : List Way) (exits : List Exit) (s : Stage) : Type 0 where
   pub bits : All (λ e. v e.bit < 2) ways
   pub ahead : (n : ℕ) (m : Machine) → s ≡ At n m → (k ≤ n) × (n < length g.nodes)
+  pub placed : (n : ℕ) (m : Machine) → s ≡ At n m → m.place ≡ (node_at g.nodes n).place
   pub each : All (λ e. k ≤ e.to → Leads g packet v ps s e) ways
   pub some : (n : ℕ) (m : Machine) → s ≡ At n m → (e : Way) × Contains ways e × (e.to ≡ n) × (on (v e.bit) ≡ true)
   pub ends : All (Closes packet v s) exits
   pub ended : (e : Leaves) → s ≡ Over e → (x : Exit) × Contains exits x × (on (v x.guard) ≡ true)
   pub somewhere : s ≢ Nowhere
 
--- the edges that lead to a node as one: the guard is 1 exactly where the run stands there, and the cells hold what its machine holds
+-- the edges that lead to a node as one: the guard is 1 exactly where the run stands there, its machine is at the place of the node, and the
+-- cells hold what it holds
 pub record IsHere (g : GraphView) (packet : PacketIn) (v : ℕ → ℕ) (ps : List PointerView) (k guard : ℕ) (held : Held) (s : Stage) : Type 0 where
   pub guard_is : v guard ≡ bit (stands_at k s)
+  pub placed : (m : Machine) → s ≡ At k m → m.place ≡ (node_at g.nodes k).place
   pub known : (m : Machine) → s ≡ At k m → IsKnown g.decls packet v ps k (node_at g.nodes k).kinds held m
 
 -- edges and ends name cells that are there

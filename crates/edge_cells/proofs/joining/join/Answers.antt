@@ -1,5 +1,5 @@
 use Rattle.operator_cells.proofs.MakingLaws.{grown}
-use Rattle.edge_cells.proofs.Extending.{extended}
+use Rattle.edge_cells.proofs.ExtendingLaws.{extended}
 use Rattle.edge_cells.proofs.Assembled.{joins_met}
 use Rattle.edge_cells.proofs.Rows.{rows_met}
 use Rattle.edge_cells.proofs.joining.join.Goals as goal

@@ -1,7 +1,7 @@
 use Rattle.std.proofs.Common.{arith}
 use Rattle.std.proofs.Math.ListN.{length-set}
 use Rattle.edge_cells.specs.declared.part.Part.TheVariants.{Slot}
-use Rattle.edge_cells.proofs.Extending.{ways_later}
+use Rattle.edge_cells.proofs.ExtendingLaws.{ways_later}
 use Rattle.edge_cells.proofs.Rows.{row_more}
 use Rattle.edge_cells.proofs.joining.meet_slots.Goals as goal
 

@@ -1,0 +1,56 @@
+//! Nodes whose instructions lead on along one edge.
+
+ghost use Rattle.std.specs.Prelude.{◌≡◌, ◌++◌, false, Some, length, map as map_list, IfOk};
+ghost use Rattle.bpf_isa.specs.Spelling.{IsInsn};
+ghost use Rattle.node_cells.specs.Ends.{brought, brought_along};
+ghost use Rattle.node_cells.specs.Stepping.{StepsOn};
+
+use bpf_isa::Insn;
+use held_cells::held::Held;
+use held_cells::way::Way;
+use kind_core::laws::{later_describes, steps_are_sound};
+use kind_core::{Kind, Kinds, transfer};
+use std::alloc::AllocError;
+use xdp_machine::laws::{steps_change_only, steps_keep_ranges};
+use xdp_maps::decl::MapDecl;
+
+// Kinds are those of 11 registers and 64 slots.
+fn are_whole(kinds: &Kinds)
+    ensures registers { length kinds.now.registers ≡ 11 }
+    ensures slots { length kinds.now.slots ≡ 64 }
+{
+    let _registers: &[Kind] = &kinds.registers;
+    let _slots: &[Kind] = &kinds.slots;
+}
+
+/// A node whose instruction leads on to this node, behind the cells of the instruction: its edge is on where the guard is, with what is held
+/// behind the instruction. `is_ref` tells whether the place is a reference to a map.
+pub fn step_on(
+    decls: &[MapDecl],
+    node: u32,
+    kinds: &Kinds,
+    insn: &Insn,
+    is_ref: bool,
+    guard: u32,
+    held: &Held,
+    to: u32,
+    ways: &mut Vec<Way>,
+) -> Result<(), AllocError>
+    requires { IsInsn insn.now }
+    ensures steps { IfOk result (λ done. StepsOn decls.now node kinds.now insn.now is_ref guard held.now to ways.old.items ways.new.items) }
+    ensures brought { IfOk result (λ done. map_list brought ways.new.items ≡ map_list brought ways.old.items ++ brought_along decls.now node kinds.now insn.now is_ref false (Some to)) }
+{
+    steps_are_sound();
+    later_describes();
+    steps_change_only();
+    steps_keep_ranges();
+    are_whole(kinds);
+    let edge = Way {
+        to,
+        bit: guard,
+        kinds: transfer(insn, kinds, decls, node, is_ref, false),
+        held: *held,
+    };
+    ways.push(edge)?;
+    Ok(())
+}
