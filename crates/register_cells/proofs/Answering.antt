@@ -52,12 +52,12 @@ answered_each P ks hs xs n c k y some one none all (suc (suc (suc (suc (suc (suc
     let h : slice_index (set_list hs 0 c) (suc (suc (suc (suc (suc (suc r)))))) ≡ slice_index hs (suc (suc (suc (suc (suc (suc r)))))) = get_or-set_other hs 0 (suc (suc (suc (suc (suc (suc r)))))) c 0 (λ q. absurd (omega (arith, q))) in
     rw (get_or-drop 6 ks r Unset ∙ ap (λ (j : ℕ). get_or ks j Unset) e, h, get_or-drop 6 xs r is.Unset ∙ ap (λ (j : ℕ). get_or xs j is.Unset) e) (all (suc (suc (suc (suc (suc (suc r)))))) l)
 
-pub answer_carried : (decls : List MapDecl) (ps : List PointerView) (i : Insn) (node : ℕ) (k : Kinds) (h : Held) (old new : List CellView) (c t : ℕ) → Grows old new → c < length new → t < length new → length h.registers ≡ 11
-    → AreInside decls (length old) ps h k → transferred decls k i node false false ≡ answering (Num Unknown) k
+pub answer_carried : (decls : List MapDecl) (ps : List PointerView) (i : Insn) (node : ℕ) (is_ref : Bool) (k : Kinds) (h : Held) (old new : List CellView) (c t : ℕ) → Grows old new → c < length new → t < length new → length h.registers ≡ 11
+    → AreInside decls (length old) ps h k → transferred decls k i node is_ref false ≡ answering (Num Unknown) k
     → ((packet : PacketIn) (v : ℕ → ℕ) (m n : Machine) (refs : List ℕ) → IsRun packet new v → IsKnown decls packet v ps node k h m → effect refs m i i.op ≡ Some n
     → (y tg : ℕ) × (n ≡ helpers.answering (is.Number y) (record m { target = tg })) × (y ≡ v c) × (tg ≡ v t))
-    → Carries decls ps i node false false k h (record h { registers = slice_set h.registers 0 c; target = t }) old new
-answer_carried decls ps i node k h old new c t grows there target hs inside after made =
+    → Carries decls ps i node is_ref false k h (record h { registers = slice_set h.registers 0 c; target = t }) old new
+answer_carried decls ps i node is_ref k h old new c t grows there target hs inside after made =
     let all = inside_more decls (length old) (length new) ps h k grows.longer inside in record {
       grows = grows;
       inside = rw after (record {
@@ -82,16 +82,16 @@ answer_carried decls ps i node k h old new c t grows there target hs inside afte
     }
 
 -- the kinds behind a helper that gives a number and changes no map
-pub answer_is : (decls : List MapDecl) (k : Kinds) (i : Insn) (node : ℕ) (id : ℤ) → i.op ≡ Call → i.imm ≡ id → ((e : _) → called decls k id (helper_of id) ≡ Ok e → changed_if node false false k (Ok e) ≡ answering (Num Unknown) k) → verdict (effect_of decls k i) ≡ passed
-    → transferred decls k i node false false ≡ answering (Num Unknown) k
+pub answer_is : (decls : List MapDecl) (k : Kinds) (i : Insn) (node : ℕ) (is_ref : Bool) (id : ℤ) → i.op ≡ Call → i.imm ≡ id → ((e : _) → called decls k id (helper_of id) ≡ Ok e → changed_if node is_ref false k (Ok e) ≡ answering (Num Unknown) k) → verdict (effect_of decls k i) ≡ passed
+    → transferred decls k i node is_ref false ≡ answering (Num Unknown) k
 unfolding effect_of
-answer_is decls k i node id op imm plain allowed =
+answer_is decls k i node is_ref id op imm plain allowed =
     let e = passed_ok (effect_of decls k i) allowed in
     let b = bind_passed (profile.profiled i k) (λ u. effect_as decls k i i.op) e.0 e.1 in
-    ap (changed_if node false false k) e.1 ∙ plain e.0 (sym (ap (effect_as decls k i) op ∙ ap (λ (z : ℤ). called decls k z (helper_of z)) imm) ∙ b.2)
+    ap (changed_if node is_ref false k) e.1 ∙ plain e.0 (sym (ap (effect_as decls k i) op ∙ ap (λ (z : ℤ). called decls k z (helper_of z)) imm) ∙ b.2)
 
-pub time_answers : (decls : List MapDecl) (k : Kinds) (i : Insn) (node : ℕ) → i.op ≡ Call → i.imm ≡ pos 5 → verdict (effect_of decls k i) ≡ passed → transferred decls k i node false false ≡ answering (Num Unknown) k
-time_answers decls k i node op imm allowed = answer_is decls k i node (pos 5) op imm (λ e h. sym (ap (changed_if node false false k) h)) allowed
+pub time_answers : (decls : List MapDecl) (k : Kinds) (i : Insn) (node : ℕ) (is_ref : Bool) → i.op ≡ Call → i.imm ≡ pos 5 → verdict (effect_of decls k i) ≡ passed → transferred decls k i node is_ref false ≡ answering (Num Unknown) k
+time_answers decls k i node is_ref op imm allowed = answer_is decls k i node is_ref (pos 5) op imm (λ e h. sym (ap (changed_if node is_ref false k) h)) allowed
 
 -- what the call of a helper leaves
 call_is : (refs : List ℕ) (m n : Machine) (i : Insn) (id : ℤ) → i.op ≡ Call → i.imm ≡ id → effect refs m i i.op ≡ Some n → helpers.called (cast_unsigned w64 id) m ≡ Some n
@@ -113,23 +113,23 @@ plain_is : (x : Kind) (u : Unit {0}) → calls.plain x ≡ Ok u → (n : Number)
 plain_is (Num n) u e = (n, refl)
 plain_is x u e = absurd cc
 
-redirect_fits : (decls : List MapDecl) (k : Kinds) (node : ℕ) (e : _) → called decls k (pos 23) (helper_of (pos 23)) ≡ Ok e
-    → (changed_if node false false k (Ok e) ≡ answering (Num Unknown) k) × (a : Number) × (kinds.register k 1 ≡ Num a) × (b : Number) × (kinds.register k 2 ≡ Num b)
-redirect_fits decls k node e h =
+redirect_fits : (decls : List MapDecl) (k : Kinds) (node : ℕ) (is_ref : Bool) (e : _) → called decls k (pos 23) (helper_of (pos 23)) ≡ Ok e
+    → (changed_if node is_ref false k (Ok e) ≡ answering (Num Unknown) k) × (a : Number) × (kinds.register k 1 ≡ Num a) × (b : Number) × (kinds.register k 2 ≡ Num b)
+redirect_fits decls k node is_ref e h =
     let one = bind_passed (calls.plain (kinds.register k 1)) _ e h in
     let two = bind_passed (calls.plain (kinds.register k 2)) _ e one.2 in
     let a = plain_is (kinds.register k 1) one.0 one.1 in
     let b = plain_is (kinds.register k 2) two.0 two.1 in
-    (sym (ap (changed_if node false false k) two.2), a.0, a.1, b.0, b.1)
+    (sym (ap (changed_if node is_ref false k) two.2), a.0, a.1, b.0, b.1)
 
-pub redirect_answers : (decls : List MapDecl) (k : Kinds) (i : Insn) (node : ℕ) → i.op ≡ Call → i.imm ≡ pos 23 → verdict (effect_of decls k i) ≡ passed
-    → (transferred decls k i node false false ≡ answering (Num Unknown) k) × (a : Number) × (kinds.register k 1 ≡ Num a) × (b : Number) × (kinds.register k 2 ≡ Num b)
+pub redirect_answers : (decls : List MapDecl) (k : Kinds) (i : Insn) (node : ℕ) (is_ref : Bool) → i.op ≡ Call → i.imm ≡ pos 23 → verdict (effect_of decls k i) ≡ passed
+    → (transferred decls k i node is_ref false ≡ answering (Num Unknown) k) × (a : Number) × (kinds.register k 1 ≡ Num a) × (b : Number) × (kinds.register k 2 ≡ Num b)
 unfolding effect_of
-redirect_answers decls k i node op imm allowed =
+redirect_answers decls k i node is_ref op imm allowed =
     let e = passed_ok (effect_of decls k i) allowed in
     let b = bind_passed (profile.profiled i k) (λ u. effect_as decls k i i.op) e.0 e.1 in
-    let f = redirect_fits decls k node e.0 (sym (ap (effect_as decls k i) op ∙ ap (λ (z : ℤ). called decls k z (helper_of z)) imm) ∙ b.2) in
-    (ap (changed_if node false false k) e.1 ∙ f.0, f.1, f.2, f.3, f.4)
+    let f = redirect_fits decls k node is_ref e.0 (sym (ap (effect_as decls k i) op ∙ ap (λ (z : ℤ). called decls k z (helper_of z)) imm) ∙ b.2) in
+    (ap (changed_if node is_ref false k) e.1 ∙ f.0, f.1, f.2, f.3, f.4)
 
 pub redirect_is : (refs : List ℕ) (m n : Machine) (i : Insn) (a b : ℕ) → i.op ≡ Call → i.imm ≡ pos 23 → register m.registers 1 ≡ is.Number a → register m.registers 2 ≡ is.Number b → effect refs m i i.op ≡ Some n → n ≡ helpers.redirected a b m
 redirect_is refs m n i a b op imm one two e =

@@ -14,7 +14,7 @@ use Rattle.kind_core.specs.declared.why.Why.{Why}
 use Rattle.kind_core.specs.declared.kind.Kind.TheVariants.{Unset, Num, Maybe, Entry}
 use Rattle.kind_core.specs.declared.number.Number.TheVariants.{Known, Unknown}
 use Rattle.kind_core.specs.declared.kind.Kinds.{Kinds}
-use Rattle.kind_core.specs.Kinds.{with_register}
+use Rattle.kind_core.specs.Kinds.{with_register, with_slot}
 use Rattle.kind_core.specs.Profile.{writes_destination}
 use Rattle.kind_core.specs.Profile as profile
 use Rattle.kind_core.specs.Tests.{passed}
@@ -23,7 +23,7 @@ use Rattle.kind_core.specs.Effects as effects
 use Rattle.kind_core.specs.Edges.{transferred, changed_if}
 use Rattle.cell_core.specs.Cells.{CellView}
 use Rattle.held_cells.specs.declared.held.Held.{Held}
-use Rattle.held_cells.specs.Held.{PointerView, IsPointer, Holds, Counts, AreHeld, AreInside}
+use Rattle.held_cells.specs.Held.{PointerView, Holds, Counts, AreHeld, AreInside}
 use Rattle.held_cells.specs.Carrying.{Gives, Carries}
 use Rattle.register_cells.specs.Giving.{given, given_kind}
 use Rattle.kind_core.proofs.TestLaws.{bind_passed}
@@ -137,6 +137,31 @@ register_held decls packet v ps h k m r c x y dst ks hs ms held one = record {
   registers = λ j s. set_three (Holds decls v ps) k.registers h.registers m.registers Unset is.Unset r 11 x c y (omega (arith, dst, ks)) (omega (arith, dst, hs)) (omega (arith, dst, ms)) one
       (λ q t. held.registers q (omega (arith, t))) j (omega (arith, s));
   slots = held.slots;
+  length_is = held.length_is;
+  window = held.window;
+  rest = held.rest;
+  target = held.target;
+  ifindex = held.ifindex;
+  time = held.time;
+}
+
+-- and with one slot of the stack changed
+pub slot_inside : (decls : List MapDecl) (n m : ℕ) (ps : List PointerView) (h : Held) (k : Kinds) (s c : ℕ) (x : Kind) → n ≤ m → s < 64 → length k.slots ≡ 64 → length h.slots ≡ 64
+    → AreInside decls n ps h k → Counts decls m ps x c → AreInside decls m ps (record h { slots = slice_set h.slots s c }) (with_slot k s x)
+slot_inside decls n m ps h k s c x l below ks hs inside counts = let all = inside_more decls n m ps h k l inside in record {
+  registers = all.registers;
+  slots = λ j t. set_two (Counts decls m ps) k.slots h.slots Unset s 64 x c (omega (arith, below, ks)) (omega (arith, below, hs)) counts (λ q u. all.slots q u) j t;
+  window = all.window;
+  target = all.target;
+}
+
+pub slot_held : (decls : List MapDecl) (packet : PacketIn) (v : ℕ → ℕ) (ps : List PointerView) (h : Held) (k : Kinds) (m : Machine) (s c : ℕ) (x : Kind) (y : Value) → s < 64
+    → length k.slots ≡ 64 → length h.slots ≡ 64 → length m.stack ≡ 64 → AreHeld decls packet v ps h k m → Holds decls v ps x c y
+    → AreHeld decls packet v ps (record h { slots = slice_set h.slots s c }) (with_slot k s x) (record m { stack = slice_set m.stack s y })
+slot_held decls packet v ps h k m s c x y below ks hs ms held one = record {
+  registers = held.registers;
+  slots = λ j t. set_three (Holds decls v ps) k.slots h.slots m.stack Unset is.Unset s 64 x c y (omega (arith, below, ks)) (omega (arith, below, hs)) (omega (arith, below, ms)) one
+      (λ q u. held.slots q u) j t;
   length_is = held.length_is;
   window = held.window;
   rest = held.rest;

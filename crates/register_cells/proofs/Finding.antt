@@ -1,21 +1,8 @@
 -- Numbers that cells hold.
-use Rattle.std.proofs.Common.{◌≡◌, ℕ, ◌+◌, ◌-◌, ◌%◌, ◌^◌, ◌<◌, refl, ◌∙◌, ap, List, length, arith}
+use Rattle.std.proofs.Common.{◌≡◌, ℕ, ◌+◌, ◌-◌, ◌^◌, ◌<◌, ◌∙◌, ap}
 use Rattle.std.proofs.lemmas.Nat.{mod_below, pow_pos}
-use Rattle.std.proofs.Math.Nat.{mod-eq_of_lt, pow-le-pow_right}
-use Rattle.bpf_isa.specs.declared.operation.Width.{Width}
-use Rattle.bpf_isa.specs.declared.operation.Width.TheVariants.{Bits32, Bits64}
-use Rattle.xdp_machine.specs.Arithmetic.{bits_in, low}
-use Rattle.xdp_machine.specs.State.{PacketIn}
-use Rattle.kind_core.specs.declared.number.Number.{Number}
-use Rattle.kind_core.specs.declared.number.Number.TheVariants.{Known, Unknown}
-use Rattle.kind_core.specs.Numbers.{from_one, from_two}
-use Rattle.cell_core.specs.Cells.{CellView, IsRun, cell_at}
-use Rattle.cell_core.specs.CellLaws.{ValuesFit}
-use Rattle.cell_core.specs.Formed.{AreFormed}
-use Rattle.operator_cells.specs.Making.{Makes}
-use Rattle.held_cells.specs.Held.{number_of}
-use Rattle.register_cells.specs.Reading.{Finds}
-use Rattle.operator_cells.proofs.MakingLaws.{grown_none}
+use Rattle.std.proofs.Math.Nat.{mod-eq_of_lt}
+use Rattle.xdp_machine.specs.Arithmetic.{low}
 
 pub low_same : (w n : ℕ) → n < 2 ^ w → low w n ≡ n
 low_same w n h = mod-eq_of_lt {n = n} {m = 2 ^ w} h

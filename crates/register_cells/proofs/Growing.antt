@@ -1,13 +1,9 @@
 -- More cells, and tests.
-use Rattle.std.proofs.Common.{◌≡◌, ℕ, ◌≤◌, Bool, true, false, Result, Ok, Err, IfOk, refl, ◌∙◌, List, arith}
+use Rattle.std.proofs.Common.{◌≡◌, ℕ, Result, Ok, Err, IfOk, ◌∙◌, List}
 use Rattle.xdp_machine.specs.State.{PacketIn}
-use Rattle.kind_core.specs.declared.number.Number.{Number}
-use Rattle.kind_core.specs.declared.number.Number.TheVariants.{Known, Unknown}
 use Rattle.kind_core.specs.declared.why.Why.{Why}
-use Rattle.kind_core.specs.Tests.{◌>>=◌}
 use Rattle.cell_core.specs.Cells.{CellView, IsRun}
 use Rattle.operator_cells.specs.Making.{Grows, Makes}
-use Rattle.held_cells.specs.Held.{IsThere}
 use Rattle.operator_cells.proofs.MakingLaws.{grown}
 
 -- a cell behind others that were added before

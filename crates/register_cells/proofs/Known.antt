@@ -1,5 +1,5 @@
 -- What is known of the values that an instruction reads.
-use Rattle.std.proofs.Common.{◌≡◌, ◌⊎◌, inl, inr, ℕ, zero, suc, ◌^◌, ◌<◌, ◌≤◌, ℤ, pos, ◌≢◌, Bool, true, false, Option, Ok, IfOk, List, [], ◌∷◌, length, get_or, slice_index, refl, sym, ◌∙◌, ap, subst, arith}
+use Rattle.std.proofs.Common.{◌≡◌, ◌⊎◌, inl, inr, ℕ, zero, suc, ◌^◌, ◌<◌, ◌≤◌, ℤ, pos, ◌≢◌, Bool, true, false, Option, IfOk, List, [], ◌∷◌, length, get_or, slice_index, refl, sym, ◌∙◌, ap, subst, arith}
 use Rattle.std.proofs.lemmas.Bool.{cases_lt}
 use Rattle.std.specs.Int.{w64, cast_unsigned}
 use Rattle.bpf_isa.specs.declared.operation.Src.{Src}
@@ -23,13 +23,7 @@ use Rattle.cell_core.specs.Cells.{CellView}
 use Rattle.held_cells.specs.declared.held.Held.{Held}
 use Rattle.held_cells.specs.Held.{PointerView, Holds, Counts, AreInside}
 use Rattle.held_cells.specs.Carrying.{IsKnown, Gives}
-use Rattle.kind_core.specs.declared.number.Number.{Number}
-use Rattle.kind_core.specs.Numbers.{from_one}
-use Rattle.kind_core.specs.Tests.{◌>>=◌}
-use Rattle.kind_core.specs.Tests as tests
-use Rattle.held_cells.specs.Held.{number_of}
-use Rattle.register_cells.specs.Giving.{given_number, numbered}
-use Rattle.register_cells.specs.Reading.{IsRead, HasNumber, Yields, Finds}
+use Rattle.register_cells.specs.Reading.{IsRead, Yields}
 use Rattle.bpf_isa.specs.declared.operation.Width.{Width}
 use Rattle.bpf_isa.specs.declared.operation.AluCode.{AluCode}
 use Rattle.bpf_isa.specs.declared.operation.Op.TheVariants.{Alu, Neg, Swap, Load, LoadSigned, LoadImm}
@@ -45,7 +39,6 @@ use Rattle.kind_core.specs.Pointers as kind
 use Rattle.register_cells.specs.Giving.{given}
 use Rattle.register_cells.proofs.Growing.{ok_map}
 use Rattle.operator_cells.proofs.MakingLaws.{grown_none}
-use Rattle.register_cells.proofs.Yielding.{yields_one}
 
 pub imm_fits : (op : Op) (z : ℤ) → FitsOp op z → cast_unsigned w64 z < 2 ^ 64
 imm_fits LoadImm z h = word_of z (omega (arith, h.sfits))

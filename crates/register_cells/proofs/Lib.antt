@@ -5,3 +5,6 @@ pub mod Known
 pub mod Carrying
 pub mod Loads
 pub mod Answering
+pub mod Stored
+pub mod Stores
+pub mod Signed

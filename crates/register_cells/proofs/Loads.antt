@@ -1,5 +1,5 @@
 -- Loads.
-use Rattle.std.proofs.Common.{◌≡◌, ◌≢◌, ℕ, zero, suc, ◌+◌, ◌-◌, ◌/◌, ◌%◌, ◌<◌, ◌≤◌, ◌==◌, ℤ, pos, negsuc, ◌+ℤ◌, nat_le, Bool, true, false, Option, Some, None, IfOk, List, [], ◌∷◌, length, drop, slice_range, slice_index, get_or, All, map as map_list, refl, sym, ◌∙◌, ap, subst, arith}
+use Rattle.std.proofs.Common.{◌≡◌, ◌≢◌, ℕ, zero, suc, ◌+◌, ◌-◌, ◌/◌, ◌%◌, ◌<◌, ◌≤◌, ◌==◌, ℤ, pos, negsuc, ◌+ℤ◌, nat_le, Bool, true, false, Option, Some, None, Result, IfOk, List, [], ◌∷◌, length, drop, slice_range, slice_index, get_or, All, map as map_list, refl, sym, ◌∙◌, ap, subst, arith}
 use Rattle.std.proofs.lemmas.List.{get_or_default, get_or-take, get_or-drop, get_or-map, length-take, length-drop}
 use Rattle.std.specs.Prelude.{◌⊎◌}
 use Rattle.std.proofs.Common.{inl, inr}
@@ -24,6 +24,7 @@ use Rattle.kind_core.specs.Describes.{Describes}
 use Rattle.bpf_isa.specs.declared.instruction.Insn.{Insn}
 use Rattle.bpf_isa.specs.declared.operation.Op.TheVariants.{Load}
 use Rattle.register_cells.specs.Giving.{given}
+use Rattle.kind_core.specs.declared.why.Why.{Why}
 use Rattle.kind_core.specs.Places as places
 use Rattle.kind_core.specs.Access as kind
 use Rattle.cell_core.specs.Cells.{CellView, IsRun}
@@ -86,7 +87,7 @@ window_small v frame window at n fits whole bytes same j d l =
 
 -- ---- what is found at a place
 
-gives_as : (decls : List MapDecl) (ps : List PointerView) (node : ℕ) (k : Kinds) (h : Held) (old new : List CellView) (x : Kind) (c : ℕ) (f g : Machine → Option Value)
+pub gives_as : (decls : List MapDecl) (ps : List PointerView) (node : ℕ) (k : Kinds) (h : Held) (old new : List CellView) (x : Kind) (c : ℕ) (f g : Machine → Option Value)
     → ((packet : PacketIn) (v : ℕ → ℕ) (m : Machine) → IsKnown decls packet v ps node k h m → f m ≡ g m) → Gives decls ps node k h old new x c f → Gives decls ps node k h old new x c g
 gives_as decls ps node k h old new x c f g same gives = record {
   grows = gives.grows;
@@ -108,7 +109,7 @@ frame_number frame a size y e = by (nat_le (a + bytes_in size) (length frame)) r
     by true t = let f = rw t at e in cc
     by false t = let f = rw t at e in cc
 
-inside_is : (z : ℤ) (n len a : ℕ) → inside z n len ≡ Some a → z ≡ pos a
+pub inside_is : (z : ℤ) (n len a : ℕ) → inside z n len ≡ Some a → z ≡ pos a
 inside_is (pos b) n len a e = by (nat_le (b + n) len) refl
   where
     by : (t : Bool) → nat_le (b + n) len ≡ t → pos b ≡ pos a
@@ -140,21 +141,21 @@ packet_gives decls ps node k h old new o offset size at c bs whole e fits named 
     (subst (λ (xs : List ℕ). All (λ i. v i < 256) xs) (sym named) (window_small v m.frame h.window at (bytes_in size) fits whole known.in_range.frame known.held.window))
     ∙ ap (λ (xs : List ℕ). little_number (length xs) (map_list v xs)) named)))))
 
+pub not_in_packet : {A : Type 0} (checked : ℕ) (z : ℤ) (size : Size) (f : _ → Result A Why) (P : A → Type 0) → inside z (bytes_in size) 256 ≡ None → IfOk (places.in_packet checked z (bytes_in size) >>= f) P
+not_in_packet checked (negsuc a) size f P e = tt
+not_in_packet checked (pos a) size f P e = test (nat_le (a + bytes_in size) 256) refl
+  where
+    test : (t : Bool) → nat_le (a + bytes_in size) 256 ≡ t → IfOk (places.in_packet checked (pos a) (bytes_in size) >>= f) P
+    test true t = let g = rw t at e in absurd cc
+    test false t = rw t tt
+
 pub packet_none : (decls : List MapDecl) (k : Kinds) (o : ℕ) (offset : ℤ) (size : Size) (P : Kind → Type 0) → inside (pos o +ℤ offset) (bytes_in size) 256 ≡ None → IfOk (kind.loaded decls k (Packet o) offset size) P
 unfolding kind.loaded
-packet_none decls k o offset size P e = by (pos o +ℤ offset) e
-  where
-    by : (z : ℤ) → inside z (bytes_in size) 256 ≡ None → IfOk (places.in_packet k.checked z (bytes_in size) >>= (λ place. kind.found k.slots size place)) P
-    by (negsuc a) f = tt
-    by (pos a) f = test (nat_le (a + bytes_in size) 256) refl
-      where
-        test : (t : Bool) → nat_le (a + bytes_in size) 256 ≡ t → IfOk (places.in_packet k.checked (pos a) (bytes_in size) >>= (λ place. kind.found k.slots size place)) P
-        test true t = let g = rw t at f in absurd cc
-        test false t = rw t tt
+packet_none decls k o offset size P e = not_in_packet k.checked (pos o +ℤ offset) size (λ place. kind.found k.slots size place) P e
 
 -- ---- the stack
 
-aligned_is : (z : ℤ) (n len a : ℕ) → aligned z n len ≡ Some a → (z ≡ pos a) × (nat_le (a + n) len ≡ true) × ((a % n == 0) ≡ true)
+pub aligned_is : (z : ℤ) (n len a : ℕ) → aligned z n len ≡ Some a → (z ≡ pos a) × (nat_le (a + n) len ≡ true) × ((a % n == 0) ≡ true)
 aligned_is (pos b) n len a e = by (nat_le (b + n) len) refl (b % n == 0) refl
   where
     by : (s : Bool) → nat_le (b + n) len ≡ s → (t : Bool) → (b % n == 0) ≡ t → (pos b ≡ pos a) × (nat_le (a + n) len ≡ true) × ((a % n == 0) ≡ true)
@@ -182,18 +183,22 @@ stack_gives decls ps node k h old new o offset size at c within e yields =
     subst (λ r. IfOk r (λ x. Gives decls ps node k h old new x c (λ m. machine.loaded m (is.Stack o) offset size))) (sym is_slot)
     (bind_ok (tests.readable kd) (λ u. kind.from_slot size (at % 8) kd) _ (λ u q. found))
 
+-- an access that does not lie there is not allowed
+pub not_in_stack : {A : Type 0} (z : ℤ) (size : Size) (f : _ → Result A Why) (P : A → Type 0) → machine.in_stack z (bytes_in size) ≡ None → IfOk (places.in_stack z size >>= f) P
+not_in_stack z size f P e = by (z +ℤ pos 512) refl e
+  where
+    by : (y : ℤ) → z +ℤ pos 512 ≡ y → aligned y (bytes_in size) 512 ≡ None → IfOk (places.in_stack z size >>= f) P
+    by (negsuc a) q g = rw q tt
+    by (pos a) q g = test (nat_le (a + bytes_in size) 512) refl (a % bytes_in size == 0) refl
+      where
+        test : (s : Bool) → nat_le (a + bytes_in size) 512 ≡ s → (t : Bool) → (a % bytes_in size == 0) ≡ t → IfOk (places.in_stack z size >>= f) P
+        test true h true t = let r = rw (h, t) at g in absurd cc
+        test true h false t = rw (q, h, t) tt
+        test false h t r = rw (q, h) tt
+
 pub stack_none : (decls : List MapDecl) (k : Kinds) (o offset : ℤ) (size : Size) (P : Kind → Type 0) → machine.in_stack (o +ℤ offset) (bytes_in size) ≡ None → IfOk (kind.loaded decls k (Stack o) offset size) P
 unfolding kind.loaded
-stack_none decls k o offset size P e = by (o +ℤ offset +ℤ pos 512) refl e
-  where
-    by : (z : ℤ) → o +ℤ offset +ℤ pos 512 ≡ z → aligned z (bytes_in size) 512 ≡ None → IfOk (places.in_stack (o +ℤ offset) size >>= (λ place. kind.found k.slots size place)) P
-    by (negsuc a) q f = rw q tt
-    by (pos a) q f = test (nat_le (a + bytes_in size) 512) refl (a % bytes_in size == 0) refl
-      where
-        test : (s : Bool) → nat_le (a + bytes_in size) 512 ≡ s → (t : Bool) → (a % bytes_in size == 0) ≡ t → IfOk (places.in_stack (o +ℤ offset) size >>= (λ place. kind.found k.slots size place)) P
-        test true g true t = let r = rw (g, t) at f in absurd cc
-        test true g false t = rw (q, g, t) tt
-        test false g t r = rw (q, g) tt
+stack_none decls k o offset size P e = not_in_stack (o +ℤ offset) size (λ place. kind.found k.slots size place) P e
 
 pub some_bytes : (size : Size) → 1 ≤ bytes_in size
 some_bytes B = omega arith
@@ -203,7 +208,7 @@ some_bytes Dw = omega arith
 
 -- ---- MEM
 
-register_is : (decls : List MapDecl) (packet : PacketIn) (v : ℕ → ℕ) (ps : List PointerView) (node : ℕ) (k : Kinds) (h : Held) (m : Machine) (r : ℕ) (x : Kind) (known : IsKnown decls packet v ps node k h m)
+pub register_is : (decls : List MapDecl) (packet : PacketIn) (v : ℕ → ℕ) (ps : List PointerView) (node : ℕ) (k : Kinds) (h : Held) (m : Machine) (r : ℕ) (x : Kind) (known : IsKnown decls packet v ps node k h m)
     → kinds.register k r ≡ x → Describes known.world m.maps x (register m.registers r)
 register_is decls packet v ps node k h m r x known e = subst (λ (y : Kind). Describes known.world m.maps y (register m.registers r)) e (known.stands.described.registers r)
 

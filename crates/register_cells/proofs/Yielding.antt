@@ -1,10 +1,7 @@
 -- Arithmetic on values by their kinds.
-use Rattle.std.proofs.Common.{◌≡◌, ◌≢◌, ℕ, zero, suc, ◌+◌, ◌-◌, ◌^◌, ◌<◌, ℤ, pos, negsuc, ◌+ℤ◌, ◌-ℤ◌, neg_ℤ, ◌&&◌, int_le, int_lt, nat_le, Bool, true, false, cond, if◌then◌else◌, Option, Some, None, Result, Ok, Err, IfOk, refl, sym, ◌∙◌, ap, subst, List, length, arith}
-use Rattle.std.specs.Int.{w64, cast_unsigned}
-use Rattle.std.proofs.lemmas.Int.{ints}
-use Rattle.bits_core.specs.Bits.{signed_of}
+use Rattle.std.proofs.Common.{◌≡◌, ◌≢◌, ℕ, ◌^◌, ◌<◌, ℤ, pos, Bool, Option, Some, Result, refl, sym, subst, List}
 use Rattle.bpf_isa.specs.declared.operation.Width.{Width}
-use Rattle.bpf_isa.specs.declared.operation.Width.TheVariants.{Bits32, Bits64}
+use Rattle.bpf_isa.specs.declared.operation.Width.TheVariants.{Bits64}
 use Rattle.bpf_isa.specs.declared.operation.AluCode.TheVariants.{Add, Sub, Mov}
 use Rattle.bpf_isa.specs.declared.operation.AluCode.{AluCode}
 use Rattle.kind_core.specs.declared.why.Why.{Why}
@@ -13,24 +10,16 @@ use Rattle.std.specs.Ordering.{int_eq}
 use Rattle.xdp_maps.specs.declared.decl.MapDecl.{MapDecl}
 use Rattle.xdp_machine.specs.Values.{Value}
 use Rattle.xdp_machine.specs.Values as is
-use Rattle.xdp_machine.specs.State.{PacketIn}
-use Rattle.xdp_machine.specs.Arithmetic.{bits_in, low, arithmetic, extended}
 use Rattle.xdp_machine.specs.Pointers as machine
 use Rattle.kind_core.specs.declared.number.Number.{Number}
 use Rattle.kind_core.specs.declared.number.Number.TheVariants.{Known, Unknown}
 use Rattle.kind_core.specs.declared.kind.Kind.{Kind}
-use Rattle.kind_core.specs.declared.kind.Kind.TheVariants.{Num, Packet, End, Stack, Maybe, Entry}
-use Rattle.kind_core.specs.declared.why.Why.TheVariants as why
-use Rattle.kind_core.specs.Numbers.{from_one, from_two}
-use Rattle.kind_core.specs.Kinds.{value_bytes}
-use Rattle.kind_core.specs.Tests.{◌>>=◌, within}
-use Rattle.kind_core.specs.Pointers.{stack_at, moved, sum, difference, copied, computed, combined}
+use Rattle.kind_core.specs.declared.kind.Kind.TheVariants.{Num}
+use Rattle.kind_core.specs.Numbers.{from_one}
+use Rattle.kind_core.specs.Pointers.{sum, difference, copied, computed, combined}
 use Rattle.cell_core.specs.Cells.{CellView}
-use Rattle.operator_cells.specs.Making.{Makes}
-use Rattle.held_cells.specs.Held.{PointerView, Holds, Counts, key_of, pointer_at, number_of}
-use Rattle.register_cells.specs.Reading.{Finds, IsRead, Yields, place_of}
-use Rattle.operator_cells.proofs.MakingLaws.{grown_none}
-use Rattle.register_cells.proofs.Finding.{low_same}
+use Rattle.held_cells.specs.Held.{PointerView, number_of}
+use Rattle.register_cells.specs.Reading.{Finds, Yields}
 
 -- of one, whatever the other value is
 pub yields_one : (f g : ℕ → ℕ) (F : Value → Value → Option Value) (decls : List MapDecl) (ps : List PointerView) (old new : List CellView) (a : Kind) (p : ℕ) (y : Number) (q c : ℕ)

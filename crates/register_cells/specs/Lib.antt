@@ -1,3 +1,5 @@
 pub mod Reading
 pub mod Shifting
 pub mod Giving
+pub mod Storing
+pub mod Plain

@@ -43,7 +43,7 @@ pub fn carry_time(
 ) -> Result<(), AllocError>
     requires op { insn.now.op ≡ Op.Call }
     requires helper { insn.now.imm ≡ pos 5 }
-    ensures { (decls : List MapDecl) (ps : List PointerView) (node : ℕ) → verdict (effect_of decls kinds.now insn.now) ≡ passed → AreInside decls (length (seen cells.old.items)) ps held.old kinds.now → OnOk result (Carries decls ps insn.now node false false kinds.now held.old held.new (seen cells.old.items) (seen cells.new.items)) }
+    ensures { (decls : List MapDecl) (ps : List PointerView) (node : ℕ) (is_ref : Bool) → verdict (effect_of decls kinds.now insn.now) ≡ passed → AreInside decls (length (seen cells.old.items)) ps held.old kinds.now → OnOk result (Carries decls ps insn.now node is_ref false kinds.now held.old held.new (seen cells.old.items) (seen cells.new.items)) }
 {
     are_whole(held, kinds);
     let c = time(cells)?;
@@ -114,7 +114,7 @@ pub fn carry_redirect(
     requires helper { insn.now.imm ≡ pos 23 }
     requires formed { AreFormed (seen cells.old.items) }
     requires inside { (decls : List MapDecl) × (ps : List PointerView) × AreInside decls (length (seen cells.old.items)) ps held.old kinds.now }
-    ensures { (decls : List MapDecl) (ps : List PointerView) (node : ℕ) → verdict (effect_of decls kinds.now insn.now) ≡ passed → AreInside decls (length (seen cells.old.items)) ps held.old kinds.now → OnOk result (Carries decls ps insn.now node false false kinds.now held.old held.new (seen cells.old.items) (seen cells.new.items)) }
+    ensures { (decls : List MapDecl) (ps : List PointerView) (node : ℕ) (is_ref : Bool) → verdict (effect_of decls kinds.now insn.now) ≡ passed → AreInside decls (length (seen cells.old.items)) ps held.old kinds.now → OnOk result (Carries decls ps insn.now node is_ref false kinds.now held.old held.new (seen cells.old.items) (seen cells.new.items)) }
 {
     are_whole(held, kinds);
     let interface = number_in(cells, kinds.registers[1], held.registers[1])?;

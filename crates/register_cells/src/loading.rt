@@ -1,11 +1,13 @@
 //! Loads from the packet, the stack and the context.
 
-ghost use Rattle.std.specs.Prelude.{◌≡◌, ◌≢◌, ◌<◌, ◌≤◌, ◌+◌, ◌/◌, ◌%◌, ℕ, ℤ, pos, Some, List, length, slice_index, get_or, IfOk, IfSome, FitsSigned, ◌+ℤ◌};
+ghost use Rattle.std.specs.Prelude.{◌≡◌, ◌≢◌, ◌<◌, ◌≤◌, ◌+◌, ◌*◌, ◌/◌, ◌%◌, ℕ, ℤ, pos, Some, List, length, slice_index, get_or, IfOk, IfSome, FitsSigned, ◌+ℤ◌};
 ghost use Rattle.std.specs.Int.{w16};
 ghost use Rattle.xdp_maps.specs.declared.decl.MapDecl.{MapDecl};
 ghost use Rattle.xdp_machine.specs.Memory.{bytes_in};
 ghost use Rattle.xdp_machine.specs.Memory as machine;
+ghost use Rattle.xdp_machine.specs.Arithmetic.{extended};
 ghost use Rattle.xdp_machine.specs.Values as is;
+ghost use Rattle.kind_core.specs.Numbers.{number_extended};
 ghost use Rattle.kind_core.specs.declared.kind.Kind.TheVariants as kind_is;
 ghost use Rattle.kind_core.specs.Access as access;
 ghost use Rattle.kind_core.specs.Kinds.{register};
@@ -13,12 +15,12 @@ ghost use Rattle.kind_core.specs.declared.kind.Kinds.{Kinds};
 ghost use Rattle.held_cells.specs.declared.held.Held.{Held};
 ghost use Rattle.cell_core.specs.Formed.{AreFormed};
 ghost use Rattle.operator_cells.specs.Making.{seen, MakesIf};
-ghost use Rattle.held_cells.specs.Held.{PointerView, AreInside, Counts};
+ghost use Rattle.held_cells.specs.Held.{PointerView, AreInside, Counts, number_of};
 ghost use Rattle.held_cells.specs.Carrying.{Gives};
-ghost use Rattle.register_cells.specs.Reading.{HasNumber, Yields};
+ghost use Rattle.register_cells.specs.Reading.{HasNumber, Yields, Finds};
 ghost use Rattle.register_cells.specs.Giving.{given};
 
-use crate::computing::{extended, parted};
+use crate::computing::parted;
 use crate::sizes::are_whole;
 use bpf_isa::{Insn, Op, Size, Width};
 use cell_core::cell::Cell;
@@ -26,12 +28,12 @@ use cell_core::operator::Operator;
 use held_cells::held::Held;
 use kind_core::{Kind, Kinds, Number};
 use operator_cells::cells::{constant, operate};
-use operator_cells::slicing::{copy, join_bytes};
+use operator_cells::slicing::{copy, extend, join_bytes};
 use std::alloc::AllocError;
 use xdp_state::memory::{aligned, bytes_in, inside};
 
 // A slot that is read whole: its number goes into a new cell.
-fn whole(cells: &mut Vec<Cell>, kind: Kind, p: u32) -> Result<u32, AllocError>
+pub(crate) fn whole(cells: &mut Vec<Cell>, kind: Kind, p: u32) -> Result<u32, AllocError>
     requires formed { AreFormed (seen cells.old.items) }
     requires there { HasNumber (length (seen cells.old.items)) kind p }
     ensures { (decls : List MapDecl) (ps : List PointerView) → Counts decls (length (seen cells.old.items)) ps kind p → IfOk result (λ c. Yields decls ps kind p kind p (seen cells.old.items) (seen cells.new.items) kind c (λ s t. Some t)) }
@@ -74,7 +76,7 @@ fn from_slot(
 }
 
 // Where an access to the packet begins, if it lies in its first 256 bytes.
-fn packet_at(o: u16, offset: i16, size: Size) -> Option<usize>
+pub(crate) fn packet_at(o: u16, offset: i16, size: Size) -> Option<usize>
     ensures value { result ≡ machine.inside (pos o +ℤ offset) (bytes_in size) 256 }
     ensures within { IfSome result (λ a. a + bytes_in size ≤ 256) }
 {
@@ -92,7 +94,7 @@ fn stack_at(o: i16, offset: i16, size: Size) -> Option<usize>
 }
 
 // The same of a kind.
-fn slot_at(base: Kind, offset: i16, size: Size) -> Option<usize>
+pub(crate) fn slot_at(base: Kind, offset: i16, size: Size) -> Option<usize>
     ensures value { (o : ℤ) → base ≡ kind_is.Stack o → result ≡ machine.in_stack (o +ℤ offset) (bytes_in size) }
     ensures within { IfSome result (λ a. a + bytes_in size ≤ 512) }
     ensures slot { IfSome result (λ a. a % 8 + bytes_in size ≤ 8) }
@@ -193,6 +195,96 @@ pub fn loaded_plain(
         }
         Kind::Stack(_) => {
             let c = from_stack(cells, held, kinds, base, insn.offset, size)?;
+            Ok(c)
+        }
+        _ => Ok(0),
+    }
+}
+
+// A number that was loaded, with its sign extended to 64 bits.
+fn signed(cells: &mut Vec<Cell>, size: Size, kind: Kind, p: u32) -> Result<u32, AllocError>
+    requires { HasNumber (length (seen cells.old.items)) kind p }
+    ensures { (n : Number) → kind ≡ kind_is.Num n → IfOk result (λ c. Finds (seen cells.old.items) (seen cells.new.items) (number_extended Width.Bits64 (8 * bytes_in size) n) c (λ packet v. extended 64 (8 * bytes_in size) (number_of v n p))) }
+{
+    match kind {
+        Kind::Num(Number::Unknown) => {
+            let c = extend(cells, Width::Bits64, 8 * bytes_in(size) as u32, p)?;
+            Ok(c)
+        }
+        _ => Ok(0),
+    }
+}
+
+// A signed number of the stack.
+fn signed_from_stack(
+    cells: &mut Vec<Cell>,
+    held: &Held,
+    kinds: &Kinds,
+    base: Kind,
+    offset: i16,
+    size: Size,
+) -> Result<u32, AllocError>
+    requires formed { AreFormed (seen cells.old.items) }
+    requires inside { (decls : List MapDecl) × (ps : List PointerView) × AreInside decls (length (seen cells.old.items)) ps held.now kinds.now }
+    ensures { (decls : List MapDecl) (ps : List PointerView) (node : ℕ) (o : ℤ) → base ≡ kind_is.Stack o → AreInside decls (length (seen cells.old.items)) ps held.now kinds.now → IfOk (access.loaded_signed decls kinds.now (kind_is.Stack o) offset size) (λ x. IfOk result (λ c. Gives decls ps node kinds.now held.now (seen cells.old.items) (seen cells.new.items) x c (λ m. machine.loaded_signed m (is.Stack o) offset size))) }
+{
+    match slot_at(base, offset, size) {
+        Some(at) => {
+            let kind = kinds.slots[at / 8];
+            let p = from_slot(cells, size, (at % 8) as u32, kind, held.slots[at / 8])?;
+            let c = signed(cells, size, kind, p)?;
+            Ok(c)
+        }
+        None => Ok(0),
+    }
+}
+
+// A signed number of the packet.
+fn signed_from_packet(
+    cells: &mut Vec<Cell>,
+    held: &Held,
+    kinds: &Kinds,
+    o: u16,
+    offset: i16,
+    size: Size,
+) -> Result<u32, AllocError>
+    requires inside { (decls : List MapDecl) × (ps : List PointerView) × AreInside decls (length (seen cells.old.items)) ps held.now kinds.now }
+    ensures { (decls : List MapDecl) (ps : List PointerView) (node : ℕ) → IfOk (access.loaded_signed decls kinds.now (kind_is.Packet o) offset size) (λ x. IfOk result (λ c. Gives decls ps node kinds.now held.now (seen cells.old.items) (seen cells.new.items) x c (λ m. machine.loaded_signed m (is.Packet (pos o)) offset size))) }
+{
+    are_whole(held, kinds);
+    match packet_at(o, offset, size) {
+        Some(at) => {
+            let p = join_bytes(cells, &held.window[at..at + bytes_in(size)])?;
+            let c = signed(cells, size, Kind::Num(Number::Unknown), p)?;
+            Ok(c)
+        }
+        None => Ok(0),
+    }
+}
+
+/// MEMSX, but for entries of maps.
+pub fn loaded_signed(
+    cells: &mut Vec<Cell>,
+    held: &Held,
+    kinds: &Kinds,
+    insn: &Insn,
+    size: Size,
+) -> Result<u32, AllocError>
+    requires src { insn.now.src ≤ 10 }
+    requires offset { FitsSigned w16 insn.now.offset }
+    requires formed { AreFormed (seen cells.old.items) }
+    requires inside { (decls : List MapDecl) × (ps : List PointerView) × AreInside decls (length (seen cells.old.items)) ps held.now kinds.now }
+    requires plain { (q o : ℕ) → register kinds.now insn.now.src ≢ kind_is.Entry q o }
+    ensures { (decls : List MapDecl) (ps : List PointerView) (refs : List ℕ) (node : ℕ) → AreInside decls (length (seen cells.old.items)) ps held.now kinds.now → IfOk (access.loaded_signed decls kinds.now (register kinds.now insn.now.src) insn.now.offset size) (λ x. IfOk result (λ c. Gives decls ps node kinds.now held.now (seen cells.old.items) (seen cells.new.items) x c (λ m. given refs m insn.now (Op.LoadSigned size)))) }
+{
+    let base = kinds.registers[insn.src as usize];
+    match base {
+        Kind::Packet(o) => {
+            let c = signed_from_packet(cells, held, kinds, o, insn.offset, size)?;
+            Ok(c)
+        }
+        Kind::Stack(_) => {
+            let c = signed_from_stack(cells, held, kinds, base, insn.offset, size)?;
             Ok(c)
         }
         _ => Ok(0),

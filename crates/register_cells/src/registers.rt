@@ -1,6 +1,6 @@
 //! Instructions that write their destination.
 
-ghost use Rattle.std.specs.Prelude.{◌≡◌, ◌≢◌, ◌<◌, ◌≤◌, true, false, ℕ, Bool, List, length, slice_index, IfOk, OnOk, unsigned_abs};
+ghost use Rattle.std.specs.Prelude.{◌≡◌, ◌≢◌, ◌<◌, ◌≤◌, ◌⊎◌, true, false, ℕ, Bool, List, length, slice_index, IfOk, OnOk, unsigned_abs};
 ghost use Rattle.bpf_isa.specs.Spelling.{IsInsn};
 ghost use Rattle.xdp_machine.specs.Arithmetic.{bits_in, negated, ordered};
 ghost use Rattle.xdp_maps.specs.declared.decl.MapDecl.{MapDecl};
@@ -20,7 +20,7 @@ ghost use Rattle.bpf_isa.specs.Rules.{Allows};
 ghost use Rattle.bpf_isa.specs.declared.fields.Rule.TheVariants.{SwapBits};
 
 use crate::computing::{negated, ordered};
-use crate::loading::loaded_plain;
+use crate::loading::{loaded_plain, loaded_signed};
 use crate::moving::combined;
 use crate::sizes::are_whole;
 use bpf_isa::{AluCode, Insn, Op, Size, Src, Width};
@@ -30,7 +30,7 @@ use kind_core::{Kind, Kinds, Number};
 use std::alloc::AllocError;
 
 // The kind of the second operand.
-fn operand(kinds: &Kinds, insn: &Insn, src: Src) -> Kind
+pub(crate) fn operand(kinds: &Kinds, insn: &Insn, src: Src) -> Kind
     requires { insn.now.src ≤ 10 }
     ensures { result ≡ operand kinds.now insn.now src }
 {
@@ -185,7 +185,28 @@ pub fn carry_load(
     Ok(())
 }
 
-/// An instruction that writes its destination and reads no entry of a map, but for loads that extend the sign.
+/// The same where the sign of what is loaded is extended.
+pub fn carry_signed(
+    cells: &mut Vec<Cell>,
+    held: &mut Held,
+    kinds: &Kinds,
+    insn: &Insn,
+    size: Size,
+) -> Result<(), AllocError>
+    requires insn { IsInsn insn.now }
+    requires op { insn.now.op ≡ Op.LoadSigned size }
+    requires formed { AreFormed (seen cells.old.items) }
+    requires inside { (decls : List MapDecl) × (ps : List PointerView) × AreInside decls (length (seen cells.old.items)) ps held.old kinds.now }
+    requires plain { (q o : ℕ) → kind.register kinds.now insn.now.src ≢ kind_is.Entry q o }
+    ensures { (decls : List MapDecl) (ps : List PointerView) (node : ℕ) (is_ref : Bool) → verdict (effect_of decls kinds.now insn.now) ≡ passed → AreInside decls (length (seen cells.old.items)) ps held.old kinds.now → OnOk result (Carries decls ps insn.now node is_ref false kinds.now held.old held.new (seen cells.old.items) (seen cells.new.items)) }
+{
+    are_whole(held, kinds);
+    let c = loaded_signed(cells, held, kinds, insn, size)?;
+    held.registers[insn.dst as usize] = c;
+    Ok(())
+}
+
+/// An instruction that writes its destination and reads no entry of a map.
 pub fn carry_register(
     cells: &mut Vec<Cell>,
     held: &mut Held,
@@ -194,14 +215,14 @@ pub fn carry_register(
 ) -> Result<(), AllocError>
     requires insn { IsInsn insn.now }
     requires writes { writes_destination insn.now.op ≡ true }
-    requires unsigned { (size : Size) → insn.now.op ≢ Op.LoadSigned size }
     requires formed { AreFormed (seen cells.old.items) }
     requires inside { (decls : List MapDecl) × (ps : List PointerView) × AreInside decls (length (seen cells.old.items)) ps held.old kinds.now }
-    requires plain { (size : Size) (q o : ℕ) → insn.now.op ≡ Op.Load size → kind.register kinds.now insn.now.src ≢ kind_is.Entry q o }
+    requires plain { (size : Size) (q o : ℕ) → (insn.now.op ≡ Op.Load size) ⊎ (insn.now.op ≡ Op.LoadSigned size) → kind.register kinds.now insn.now.src ≢ kind_is.Entry q o }
     ensures { (decls : List MapDecl) (ps : List PointerView) (node : ℕ) (is_ref : Bool) → verdict (effect_of decls kinds.now insn.now) ≡ passed → AreInside decls (length (seen cells.old.items)) ps held.old kinds.now → OnOk result (Carries decls ps insn.now node is_ref false kinds.now held.old held.new (seen cells.old.items) (seen cells.new.items)) }
 {
     match insn.op {
         Op::Load(size) => carry_load(cells, held, kinds, insn, size),
+        Op::LoadSigned(size) => carry_signed(cells, held, kinds, insn, size),
         _ => carry_computed(cells, held, kinds, insn),
     }
 }

@@ -4,15 +4,15 @@ use Rattle.register_cells.proofs.Answering.{answer_carried, redirect_answers, re
 use Rattle.register_cells.proofs.helpers.carry_redirect.Goals as goal
 
 pub returns : goal.returns
-returns c = λ decls ps node allowed inside.
-    let w = redirect_answers decls c.args.kinds.now c.args.insn.now node c.requires.op c.requires.helper allowed in
+returns c = λ decls ps node is_ref allowed inside.
+    let w = redirect_answers decls c.args.kinds.now c.args.insn.now node is_ref c.requires.op c.requires.helper allowed in
     let interface = c.in_ok-interface.ensures.number w.1 w.2 in
     let flags = c.in_ok-flags.ensures.number w.3 w.4 in
     let sent = c.in_ok-sent.ensures in
     let answer = c.in_ok-c.ensures in
     let target = c.in_ok-t.ensures in
     let grows = grown interface.grows (grown flags.grows (grown sent.grows (grown answer.grows target.grows))) in
-    answer_carried decls ps c.args.insn.now node c.args.kinds.now c.args.held.now _ _ c.in_ok-c.c c.in_ok-t.t grows (omega (arith, answer.there, target.grows.longer)) target.there c.are_whole.ensures.register_cells inside
+    answer_carried decls ps c.args.insn.now node is_ref c.args.kinds.now c.args.held.now _ _ c.in_ok-c.c c.in_ok-t.t grows (omega (arith, answer.there, target.grows.longer)) target.there c.are_whole.ensures.register_cells inside
     w.0
     (λ packet v m n refs run known e.
     let r4 = target.grows.run packet v run in

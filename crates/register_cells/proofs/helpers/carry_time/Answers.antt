@@ -3,9 +3,9 @@ use Rattle.register_cells.proofs.Answering.{answer_carried, time_answers, time_i
 use Rattle.register_cells.proofs.helpers.carry_time.Goals as goal
 
 pub returns : goal.returns
-returns c = λ decls ps node allowed inside.
+returns c = λ decls ps node is_ref allowed inside.
     let made = c.in_ok-c.ensures in
-    answer_carried decls ps c.args.insn.now node c.args.kinds.now c.args.held.now _ _ c.in_ok-c.c c.args.held.now.target made.grows made.there (omega (arith, inside.target, made.grows.longer)) c.are_whole.ensures.register_cells inside
-    (time_answers decls c.args.kinds.now c.args.insn.now node c.requires.op c.requires.helper allowed)
+    answer_carried decls ps c.args.insn.now node is_ref c.args.kinds.now c.args.held.now _ _ c.in_ok-c.c c.args.held.now.target made.grows made.there (omega (arith, inside.target, made.grows.longer)) c.are_whole.ensures.register_cells inside
+    (time_answers decls c.args.kinds.now c.args.insn.now node is_ref c.requires.op c.requires.helper allowed)
     (λ packet v m n refs run known e.
     (m.time, m.target, time_is refs m n c.args.insn.now c.requires.op c.requires.helper e, time_low m.time packet.time _ known.in_range.time known.held.time (made.value packet v run), known.held.target))

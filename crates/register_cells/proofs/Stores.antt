@@ -1,0 +1,307 @@
+-- Stores.
+use Rattle.std.proofs.Common.{◌≡◌, ◌≢◌, ℕ, ◌+◌, ◌/◌, ◌%◌, ◌==◌, ◌<◌, ◌≤◌, inl, inr, ℤ, pos, ◌+ℤ◌, nat_le, Bool, true, false, Option, Some, None, Result, Ok, Err, IfOk, OnOk, List, length, get_or, slice_index, slice_set, refl, sym, ◌∙◌, ap, subst, arith}
+use Rattle.byteorder.specs.Endian.{little_number, little_bytes}
+use Rattle.bpf_isa.specs.declared.operation.Size.{Size}
+use Rattle.bpf_isa.specs.declared.operation.Src.{Src}
+use Rattle.bpf_isa.specs.declared.instruction.Insn.{Insn}
+use Rattle.bpf_isa.specs.declared.operation.Size.TheVariants.{B, H, W, Dw}
+use Rattle.xdp_maps.specs.declared.decl.MapDecl.{MapDecl}
+use Rattle.xdp_maps.specs.State.{MapState}
+use Rattle.xdp_maps.specs.Calls.{patched}
+use Rattle.xdp_machine.specs.Values.{Value}
+use Rattle.xdp_machine.specs.Values as is
+use Rattle.xdp_machine.specs.State.{Machine, PacketIn, register}
+use Rattle.xdp_machine.specs.Step as step
+use Rattle.xdp_machine.specs.Memory.{bytes_in, inside}
+use Rattle.xdp_machine.specs.Memory as machine
+use Rattle.kind_core.specs.declared.number.Number.{Number}
+use Rattle.kind_core.specs.declared.number.Number.TheVariants.{Known, Unknown}
+use Rattle.kind_core.specs.declared.kind.Kind.{Kind}
+use Rattle.kind_core.specs.declared.kind.Kind.TheVariants.{Unset, Num, Packet, End, Stack, Ctx, MapRef, Maybe, Entry, Stale, Mixed}
+use Rattle.kind_core.specs.declared.kind.Kinds.{Kinds}
+use Rattle.kind_core.specs.declared.why.Why.{Why}
+use Rattle.kind_core.specs.Places as places
+use Rattle.kind_core.specs.Numbers.{number_patched}
+use Rattle.kind_core.specs.Kinds.{with_slot}
+use Rattle.kind_core.specs.Kinds as kinds
+use Rattle.kind_core.specs.Profile as profile
+use Rattle.kind_core.specs.Effects.{operand, effect_as, effect_of, verdict}
+use Rattle.kind_core.specs.Edges.{changed, changed_if, transferred}
+use Rattle.kind_core.specs.Tests.{◌>>=◌, passed}
+use Rattle.kind_core.specs.Access.{underlying}
+use Rattle.kind_core.specs.Access as access
+use Rattle.kind_core.specs.Describes.{World, Describes}
+use Rattle.cell_core.specs.Cells.{CellView}
+use Rattle.held_cells.specs.declared.held.Held.{Held}
+use Rattle.held_cells.specs.Held.{PointerView, pointer_at, Holds, Counts, AreInside, number_of, IsThere}
+use Rattle.held_cells.specs.Carrying.{IsKnown, Carries}
+use Rattle.register_cells.specs.Reading.{IsRead, Yields, Finds}
+use Rattle.register_cells.specs.Giving.{numbered}
+use Rattle.register_cells.specs.Storing.{points, left_of, IsSource, Fills, Leaves}
+use Rattle.operator_cells.specs.Spreading.{MakesBytes}
+use Rattle.kind_core.proofs.TestLaws.{bind_ok, bind_passed}
+use Rattle.register_cells.proofs.Known.{slot_read, frame_short}
+use Rattle.register_cells.proofs.Carrying.{slot_inside, slot_held, passed_ok}
+use Rattle.register_cells.proofs.Growing.{ok_map}
+use Rattle.register_cells.proofs.Loads.{inside_is, aligned_is, not_in_stack, not_in_packet}
+use Rattle.register_cells.proofs.Stored.{stack_stored, packet_stored, number_is, window_inside, window_held}
+
+pub found_there : (decls : List MapDecl) (n : ℕ) (ps : List PointerView) (a : Kind) (p : ℕ) → points a ≡ true → Counts decls n ps a p → (p < length ps) × ((pointer_at ps p).found < n)
+found_there decls n ps (Maybe q j) p e h = (h.0, h.1.found)
+found_there decls n ps (Entry q o) p e h = (h.0, h.1.found)
+found_there decls n ps a p e h = absurd (cc)
+
+-- ---- what a part of a slot is stored into
+
+left_by : (decls : List MapDecl) (packet : PacketIn) (v : ℕ → ℕ) (ps : List PointerView) (w : World) (maps : MapState) (a : Kind) (p : ℕ) (x : Value) (n : Number)
+    → Describes w maps a x → IsRead decls packet v ps a p x → a ≢ Unset → underlying a ≡ Ok n → machine.underlying x ≡ left_of v a p
+left_by decls packet v ps w maps (Num m) p x n d r some e = ap machine.underlying r.0
+left_by decls packet v ps w maps Unset p x n d r some e = absurd (some refl)
+left_by decls packet v ps w maps Mixed p x n d r some e = absurd (cc)
+left_by decls packet v ps w maps (Packet o) p x n d r some e = ap machine.underlying d
+left_by decls packet v ps w maps End p x n d r some e = ap machine.underlying d
+left_by decls packet v ps w maps (Stack o) p x n d r some e = ap machine.underlying d
+left_by decls packet v ps w maps Ctx p x n d r some e = ap machine.underlying d
+left_by decls packet v ps w maps (MapRef q) p x n d r some e = ap machine.underlying d
+left_by decls packet v ps w maps (Maybe q j) p x n (before, gave, inl z) r some e = ap machine.underlying z
+left_by decls packet v ps w maps (Maybe q j) p x n (before, gave, inr (key, there, z)) r some e = ap machine.underlying z
+left_by decls packet v ps w maps (Entry q o) p x n (key, there, z) r some e = ap machine.underlying z
+left_by decls packet v ps w maps Stale p x n (inl z) r some e = ap machine.underlying z
+left_by decls packet v ps w maps Stale p x n (inr (q, key, o, z)) r some e = ap machine.underlying z
+
+left_is : (decls : List MapDecl) (packet : PacketIn) (v : ℕ → ℕ) (ps : List PointerView) (node : ℕ) (k : Kinds) (h : Held) (m : Machine) (s : ℕ) (n : Number) → IsKnown decls packet v ps node k h m → s < 64
+    → underlying (get_or k.slots s Unset) ≡ Ok n → machine.underlying (get_or m.stack s is.Unset) ≡ left_of v (get_or k.slots s Unset) (slice_index h.slots s)
+left_is decls packet v ps node k h m s n known below e =
+    left_by decls packet v ps known.world m.maps (get_or k.slots s Unset) (slice_index h.slots s) (get_or m.stack s is.Unset) n
+    (known.stands.described.slots s) (slot_read decls packet v ps node k h m s known below) (known.filled s below) e
+
+pub underlying_is : (a : Kind) (n : Number) → ((m : Number) → a ≢ Num m) → a ≢ Unset → underlying a ≡ Ok n → Known 0 ≡ n
+underlying_is (Num m) n f g e = absurd (f m refl)
+underlying_is Unset n f g e = absurd (g refl)
+underlying_is Mixed n f g e = absurd (cc)
+underlying_is a n f g e = cc
+
+-- ---- a slot that is stored into
+
+counts_number : (decls : List MapDecl) (n : ℕ) (ps : List PointerView) (g : Number) (c : ℕ) → IsThere n g c → Counts decls n ps (Num g) c
+counts_number decls n ps (Known a) c h = tt
+counts_number decls n ps Unknown c h = h
+
+holds_number : (decls : List MapDecl) (v : ℕ → ℕ) (ps : List PointerView) (g : Number) (c : ℕ) (y : Value) → y ≡ is.Number (number_of v g c) → Holds decls v ps (Num g) c y
+holds_number decls v ps (Known a) c y h = tt
+holds_number decls v ps Unknown c y h = h
+
+abbrev part : Size → ℕ → ℕ → ℕ → ℕ
+part size at old n = little_number 8 (patched (little_bytes 8 old) at (little_bytes (bytes_in size) n))
+
+-- a part of a slot gets a number
+fills_part : (decls : List MapDecl) (ps : List PointerView) (size : Size) (at : ℕ) (a : Kind) (p : ℕ) (n : Number) (q : ℕ) (old new : List CellView) (m : Number) (c : ℕ)
+    → ((s t : Value) → machine.to_slot size at s t ≡ numbered (part size at (machine.underlying s)) t)
+    → underlying a ≡ Ok m → Finds old new (number_patched size at m n) c (λ packet v. part size at (left_of v a p) (number_of v n q))
+    → Fills decls ps size at a p (Num n) q old new (Num (number_patched size at m n)) c
+fills_part decls ps size at a p n q old new m c same e found = record {
+  grows = found.grows;
+  counts = counts_number decls (length new) ps (number_patched size at m n) c found.there;
+  holds = λ packet v s t y run short under read f. holds_number decls v ps (number_patched size at m n) c y (by v s t y (under m e) read.0 (same s t) f ∙ ap is.Number (sym (found.value packet v run)));
+}
+  where
+    by : (v : ℕ → ℕ) (s t y : Value) → machine.underlying s ≡ left_of v a p → t ≡ is.Number (number_of v n q)
+        → machine.to_slot size at s t ≡ numbered (part size at (machine.underlying s)) t → machine.to_slot size at s t ≡ Some y
+        → y ≡ is.Number (part size at (left_of v a p) (number_of v n q))
+    by v s t y u r e f =
+        let g = rw r at (sym e ∙ f) in
+        let h : y ≡ is.Number (part size at (machine.underlying s) (number_of v n q)) = cc in
+        h ∙ ap (λ (i : ℕ). is.Number (part size at i (number_of v n q))) u
+
+over : (decls : List MapDecl) (ps : List PointerView) (size : Size) (at : ℕ) (a : Kind) (p : ℕ) (n : Number) (q : ℕ) (old new : List CellView) (c : ℕ)
+    → ((s t : Value) → machine.to_slot size at s t ≡ numbered (part size at (machine.underlying s)) t)
+    → ((m : Number) → underlying a ≡ Ok m → Finds old new (number_patched size at m n) c (λ packet v. part size at (left_of v a p) (number_of v n q)))
+    → (r : Result Number Why) → underlying a ≡ r → IfOk (r >>= (λ m. Ok (Num (number_patched size at m n)))) (λ x. Fills decls ps size at a p (Num n) q old new x c)
+over decls ps size at a p n q old new c same found (Ok m) e = fills_part decls ps size at a p n q old new m c same e (found m e)
+over decls ps size at a p n q old new c same found (Err w) e = tt
+
+pub part_fills : (decls : List MapDecl) (ps : List PointerView) (size : Size) (at : ℕ) (a : Kind) (p : ℕ) (n : Number) (q : ℕ) (old new : List CellView) (c : ℕ) → size ≢ Dw
+    → ((m : Number) → underlying a ≡ Ok m → Finds old new (number_patched size at m n) c (λ packet v. part size at (left_of v a p) (number_of v n q)))
+    → IfOk (access.to_slot size at a (Num n)) (λ x. Fills decls ps size at a p (Num n) q old new x c)
+part_fills decls ps Dw at a p n q old new c other found = absurd (other refl)
+part_fills decls ps B at a p n q old new c other found = over decls ps B at a p n q old new c (λ s t. refl) found (underlying a) refl
+part_fills decls ps H at a p n q old new c other found = over decls ps H at a p n q old new c (λ s t. refl) found (underlying a) refl
+part_fills decls ps W at a p n q old new c other found = over decls ps W at a p n q old new c (λ s t. refl) found (underlying a) refl
+
+-- a slot gets a value whole
+pub whole_fills : (decls : List MapDecl) (ps : List PointerView) (at : ℕ) (a : Kind) (p : ℕ) (b : Kind) (q : ℕ) (old new : List CellView) (c : ℕ) → Yields decls ps b q b q old new b c (λ s t. Some t)
+    → Fills decls ps Dw at a p b q old new b c
+whole_fills decls ps at a p b q old new c yields = record {
+  grows = yields.grows;
+  counts = yields.counts;
+  holds = λ packet v s t y run short under read e. yields.holds packet v t t y run short read read (kept t y e);
+}
+  where
+    kept : (t y : Value) → is.held t ≡ Some y → Some t ≡ Some y
+    kept is.Unset y e = absurd (cc)
+    kept t y e = e
+
+-- nothing else is stored into a part
+pub other_refused : (size : Size) (at : ℕ) (a b : Kind) (P : Kind → Type 0) → size ≢ Dw → ((n : Number) → b ≢ Num n) → IfOk (access.to_slot size at a b) P
+other_refused size at a (Num n) P other f = absurd (f n refl)
+other_refused Dw at a b P other f = absurd (other refl)
+other_refused size at a b P other f = tt
+
+-- ---- a store into the stack
+
+stack_fills : (decls : List MapDecl) (ps : List PointerView) (node : ℕ) (is_ref : Bool) (k : Kinds) (h : Held) (old new : List CellView) (o offset : ℤ) (size : Size) (b : Kind) (q : ℕ) (t : Machine → Value) (a c : ℕ) (x : Kind)
+    → length k.slots ≡ 64 → length h.slots ≡ 64 → a < 512 → machine.in_stack (o +ℤ offset) (bytes_in size) ≡ Some a → AreInside decls (length old) ps h k → IsSource decls ps node k h b q t
+    → Fills decls ps size (a % 8) (get_or k.slots (a / 8) Unset) (slice_index h.slots (a / 8)) b q old new x c
+    → Leaves decls ps node k h (record h { slots = slice_set h.slots (a / 8) c }) old new (with_slot k (a / 8) x) (λ m. machine.stored m (is.Stack o) offset size (t m))
+stack_fills decls ps node is_ref k h old new o offset size b q t a c x ks hs within place inside source fills = let slot : a / 8 < 64 = omega (arith, within) in record {
+  grows = fills.grows;
+  inside = slot_inside decls (length old) (length new) ps h k (a / 8) c x fills.grows.longer slot ks hs inside fills.counts;
+  holds = λ packet v m n run known e.
+      let y = stack_stored m n o offset size (t m) a place e in
+      let one = fills.holds packet v (get_or m.stack (a / 8) is.Unset) (t m) y.0 run (frame_short decls packet v ps node k h m known)
+      (λ l u. left_is decls packet v ps node k h m (a / 8) l known slot u) (source packet v m known) y.1 in
+      rw y.2 (slot_held decls packet v ps h k m (a / 8) c x y.0 slot ks hs known.stands.stack known.held one);
+}
+
+slot_stored : (Q : Kinds → Type 0) (node : ℕ) (is_ref : Bool) (k : Kinds) (size : Size) (b : Kind) (z : ℤ) (a : ℕ) → z +ℤ pos 512 ≡ pos a → nat_le (a + bytes_in size) 512 ≡ true → (a % bytes_in size == 0) ≡ true
+    → IfOk (access.to_slot size (a % 8) (get_or k.slots (a / 8) Unset) b) (λ x. Q (with_slot k (a / 8) x))
+    → IfOk (places.in_stack z size >>= (λ place. access.stored_at k.slots size b place)) (λ e. Q (changed node is_ref false k e))
+slot_stored Q node is_ref k size b z a e f g h =
+    rw (e, f, g) (bind_ok (access.to_slot size (a % 8) (get_or k.slots (a / 8) Unset) b) _ _ (λ x i. subst (λ r. IfOk r (λ y. Q (with_slot k (a / 8) y))) i h))
+
+pub stack_stores : (decls : List MapDecl) (ps : List PointerView) (node : ℕ) (is_ref : Bool) (k : Kinds) (h : Held) (old new : List CellView) (o offset : ℤ) (size : Size) (b : Kind) (q : ℕ) (t : Machine → Value) (a c : ℕ)
+    → length k.slots ≡ 64 → length h.slots ≡ 64 → a < 512 → machine.in_stack (o +ℤ offset) (bytes_in size) ≡ Some a → AreInside decls (length old) ps h k → IsSource decls ps node k h b q t
+    → IfOk (access.to_slot size (a % 8) (get_or k.slots (a / 8) Unset) b) (λ x. Fills decls ps size (a % 8) (get_or k.slots (a / 8) Unset) (slice_index h.slots (a / 8)) b q old new x c)
+    → IfOk (access.stored decls k (Stack o) offset size b) (λ e. Leaves decls ps node k h (record h { slots = slice_set h.slots (a / 8) c }) old new (changed node is_ref false k e) (λ m. machine.stored m (is.Stack o) offset size (t m)))
+unfolding access.stored
+stack_stores decls ps node is_ref k h old new o offset size b q t a c ks hs within place there source fills =
+    let z = aligned_is (o +ℤ offset +ℤ pos 512) (bytes_in size) 512 a place in
+    slot_stored (λ after. Leaves decls ps node k h (record h { slots = slice_set h.slots (a / 8) c }) old new after (λ m. machine.stored m (is.Stack o) offset size (t m))) node is_ref k size b (o +ℤ offset) a z.0 z.1 z.2
+    (ok_map (access.to_slot size (a % 8) (get_or k.slots (a / 8) Unset) b) _ _ (λ x f. stack_fills decls ps node is_ref k h old new o offset size b q t a c x ks hs within place there source f) fills)
+
+pub stack_refused : (decls : List MapDecl) (k : Kinds) (o offset : ℤ) (size : Size) (b : Kind) (P : _ → Type 0) → machine.in_stack (o +ℤ offset) (bytes_in size) ≡ None
+    → IfOk (access.stored decls k (Stack o) offset size b) P
+unfolding access.stored
+stack_refused decls k o offset size b P e = not_in_stack (o +ℤ offset) size (λ place. access.stored_at k.slots size b place) P e
+
+-- ---- a store into the packet
+
+number_stored : (Q : Kinds → Type 0) (node : ℕ) (is_ref : Bool) (k : Kinds) (size : Size) (n : Number) (a : ℕ) → Q k
+    → IfOk (places.in_packet k.checked (pos a) (bytes_in size) >>= (λ place. access.stored_at k.slots size (Num n) place)) (λ e. Q (changed node is_ref false k e))
+number_stored Q node is_ref k size n a h = by (nat_le (a + bytes_in size) 256) refl (nat_le (a + bytes_in size) k.checked) refl
+  where
+    by : (s : Bool) → nat_le (a + bytes_in size) 256 ≡ s → (t : Bool) → nat_le (a + bytes_in size) k.checked ≡ t
+        → IfOk (places.in_packet k.checked (pos a) (bytes_in size) >>= (λ place. access.stored_at k.slots size (Num n) place)) (λ e. Q (changed node is_ref false k e))
+    by true e true g = rw (e, g) h
+    by true e false g = rw (e, g) tt
+    by false e t g = rw e tt
+
+pub packet_stores : (decls : List MapDecl) (ps : List PointerView) (node : ℕ) (is_ref : Bool) (k : Kinds) (h : Held) (old new : List CellView) (o : ℕ) (offset : ℤ) (size : Size) (i : Number) (q : ℕ) (t : Machine → Value) (a : ℕ) (cs : List ℕ)
+    → length h.window ≡ 256 → inside (pos o +ℤ offset) (bytes_in size) 256 ≡ Some a → a + bytes_in size ≤ 256 → AreInside decls (length old) ps h k → IsSource decls ps node k h (Num i) q t
+    → MakesBytes old new (bytes_in size) cs (λ v. little_bytes (bytes_in size) (number_of v i q))
+    → IfOk (access.stored decls k (Packet o) offset size (Num i)) (λ e. Leaves decls ps node k h (record h { window = patched h.window a cs }) old new (changed node is_ref false k e) (λ m. machine.stored m (is.Packet (pos o)) offset size (t m)))
+unfolding access.stored
+packet_stores decls ps node is_ref k h old new o offset size i q t a cs whole e fits there source made =
+    let z = inside_is (pos o +ℤ offset) (bytes_in size) 256 a e in
+    subst (λ (y : ℤ). IfOk (places.in_packet k.checked y (bytes_in size) >>= (λ place. access.stored_at k.slots size (Num i) place))
+    (λ f. Leaves decls ps node k h (record h { window = patched h.window a cs }) old new (changed node is_ref false k f) (λ m. machine.stored m (is.Packet (pos o)) offset size (t m)))) (sym z)
+    (number_stored (λ after. Leaves decls ps node k h (record h { window = patched h.window a cs }) old new after (λ m. machine.stored m (is.Packet (pos o)) offset size (t m))) node is_ref k size i a (record {
+      grows = made.grows;
+      inside = window_inside decls (length old) (length new) ps h k a cs made.grows.longer (omega (arith, fits, made.count)) whole made.there there;
+      holds = λ packet v m n run known f.
+          let s = packet_stored m n (pos o) offset size (t m) a z f in
+          let y = number_is s.0 (number_of v i q) (t m) s.1 (source packet v m known).0 in
+          let bytes = made.values packet v run ∙ ap (little_bytes (bytes_in size)) (sym y) in
+          rw s.3 (window_held decls packet v ps h k m a cs (little_bytes (bytes_in size) s.0) (omega (arith, fits, made.count)) whole bytes (omega (arith, s.2, made.count)) known.held);
+    }))
+
+all_ok : {A : Type 0} (r : Result A Why) (P : A → Type 0) → ((a : A) → P a) → IfOk r P
+all_ok (Ok a) P f = f a
+all_ok (Err e) P f = tt
+
+pub packet_stored_by : {R E : Type 0} (r : Result R E) (decls : List MapDecl) (ps : List PointerView) (node : ℕ) (is_ref : Bool) (k : Kinds) (h next : Held) (old new : List CellView) (o : ℕ) (offset : ℤ) (size : Size) (b : Kind) (i : Number) (q : ℕ) (t : Machine → Value) (a : ℕ)
+    → b ≡ Num i → length h.window ≡ 256 → inside (pos o +ℤ offset) (bytes_in size) 256 ≡ Some a → a + bytes_in size ≤ 256 → AreInside decls (length old) ps h k → IsSource decls ps node k h b q t
+    → OnOk r ((bytes : List ℕ) × (next ≡ record h { window = patched h.window a bytes }) × MakesBytes old new (bytes_in size) bytes (λ v. little_bytes (bytes_in size) (number_of v i q)))
+    → IfOk (access.stored decls k (Packet o) offset size b) (λ e. OnOk r (Leaves decls ps node k h next old new (changed node is_ref false k e) (λ m. machine.stored m (is.Packet (pos o)) offset size (t m))))
+packet_stored_by (Err w) decls ps node is_ref k h next old new o offset size b i q t a is_number whole e fits there source stored = all_ok (access.stored decls k (Packet o) offset size b) _ (λ f. tt)
+packet_stored_by (Ok u) decls ps node is_ref k h next old new o offset size b i q t a is_number whole e fits there source stored =
+    rw (is_number, stored.1)
+    (packet_stores decls ps node is_ref k h old new o offset size i q t a stored.0 whole e fits there (subst (λ (x : Kind). IsSource decls ps node k h x q t) is_number source) stored.2)
+
+pub packet_refused : (decls : List MapDecl) (k : Kinds) (o : ℕ) (offset : ℤ) (size : Size) (b : Kind) (P : _ → Type 0) → inside (pos o +ℤ offset) (bytes_in size) 256 ≡ None
+    → IfOk (access.stored decls k (Packet o) offset size b) P
+unfolding access.stored
+packet_refused decls k o offset size b P e = not_in_packet k.checked (pos o +ℤ offset) size (λ place. access.stored_at k.slots size b place) P e
+
+-- nothing but a number goes into the packet
+pub number_refused : (decls : List MapDecl) (k : Kinds) (o : ℕ) (offset : ℤ) (size : Size) (b : Kind) (P : _ → Type 0) (a : ℕ) → ((n : Number) → b ≢ Num n) → inside (pos o +ℤ offset) (bytes_in size) 256 ≡ Some a
+    → IfOk (access.stored decls k (Packet o) offset size b) P
+unfolding access.stored
+number_refused decls k o offset size b P a other e = rw (inside_is (pos o +ℤ offset) (bytes_in size) 256 a e) (by b other (nat_le (a + bytes_in size) 256) refl (nat_le (a + bytes_in size) k.checked) refl)
+  where
+    by : (b : Kind) → ((n : Number) → b ≢ Num n) → (s : Bool) → nat_le (a + bytes_in size) 256 ≡ s → (t : Bool) → nat_le (a + bytes_in size) k.checked ≡ t
+        → IfOk (places.in_packet k.checked (pos a) (bytes_in size) >>= (λ place. access.stored_at k.slots size b place)) P
+    by (Num n) f s g t h = absurd (f n refl)
+    by b f true g true h = rw (g, h) tt
+    by b f true g false h = rw (g, h) tt
+    by b f false g t h = rw g tt
+
+-- ---- stores
+
+pub leaves_as : (decls : List MapDecl) (ps : List PointerView) (node : ℕ) (k : Kinds) (h next : Held) (old new : List CellView) (after : Kinds) (f g : Machine → Option Machine)
+    → ((packet : PacketIn) (v : ℕ → ℕ) (m : Machine) → IsKnown decls packet v ps node k h m → f m ≡ g m) → Leaves decls ps node k h next old new after f → Leaves decls ps node k h next old new after g
+leaves_as decls ps node k h next old new after f g same leaves = record {
+  grows = leaves.grows;
+  inside = leaves.inside;
+  holds = λ packet v m n run known e. leaves.holds packet v m n run known (same packet v m known ∙ e);
+}
+
+-- a store through the destination
+pub store_as : {R E : Type 0} (r : Result R E) (decls : List MapDecl) (ps : List PointerView) (node : ℕ) (is_ref : Bool) (k : Kinds) (h next : Held) (i : Insn) (old new : List CellView) (base : Kind) (b : Value) (size : Size) (x y : Kind) (t : Machine → Value) {z : ℤ}
+    → kinds.register k i.dst ≡ base → z ≡ i.offset → y ≡ x → ((packet : PacketIn) (v : ℕ → ℕ) (m : Machine) → IsKnown decls packet v ps node k h m → register m.registers i.dst ≡ b)
+    → IfOk (access.stored decls k base z size y) (λ e. OnOk r (Leaves decls ps node k h next old new (changed node is_ref false k e) (λ m. machine.stored m b z size (t m))))
+    → IfOk (access.stored decls k (kinds.register k i.dst) i.offset size x) (λ e. OnOk r (Leaves decls ps node k h next old new (changed node is_ref false k e) (λ m. machine.stored m (register m.registers i.dst) i.offset size (t m))))
+store_as r decls ps node is_ref k h next i old new base b size x y t {z} e at same read leaves =
+    let P : _ → Type 0 = λ e. OnOk r (Leaves decls ps node k h next old new (changed node is_ref false k e) (λ m. machine.stored m (register m.registers i.dst) i.offset size (t m))) in
+    subst (λ (a : Kind). IfOk (access.stored decls k a i.offset size x) P) (sym e)
+    (ok_map (access.stored decls k base i.offset size x) _ P
+    (λ f g. on_ok r _ _ (leaves_as decls ps node k h next old new (changed node is_ref false k f) (λ m. machine.stored m b i.offset size (t m)) (λ m. machine.stored m (register m.registers i.dst) i.offset size (t m))
+    (λ packet v m known. sym (ap (λ (a : Value). machine.stored m a i.offset size (t m)) (read packet v m known)))) g)
+    (subst (λ (y : ℤ). IfOk (access.stored decls k base y size x) (λ e. OnOk r (Leaves decls ps node k h next old new (changed node is_ref false k e) (λ m. machine.stored m b y size (t m))))) at
+    (subst (λ (w : Kind). IfOk (access.stored decls k base z size w) (λ e. OnOk r (Leaves decls ps node k h next old new (changed node is_ref false k e) (λ m. machine.stored m b z size (t m))))) same leaves)))
+  where
+    on_ok : {R E : Type 0} (r : Result R E) (P Q : Type 0) → (P → Q) → OnOk r P → OnOk r Q
+    on_ok (Ok a) P Q f h = f h
+    on_ok (Err e) P Q f h = tt
+
+-- nothing is stored through anything else
+pub store_refused : (decls : List MapDecl) (k : Kinds) (b : Kind) (offset : ℤ) (size : Size) (x : Kind) (P : _ → Type 0) → ((o : ℕ) → b ≢ Packet o) → ((o : ℤ) → b ≢ Stack o) → ((q o : ℕ) → b ≢ Entry q o)
+    → IfOk (access.stored decls k b offset size x) P
+unfolding access.stored
+store_refused decls k (Packet o) offset size x P f g h = absurd (f o refl)
+store_refused decls k (Stack o) offset size x P f g h = absurd (g o refl)
+store_refused decls k (Entry q o) offset size x P f g h = absurd (h q o refl)
+store_refused decls k b offset size x P f g h = tt
+
+-- an allowed store carries what it leaves
+pub store_carried : {R E : Type 0} (r : Result R E) (decls : List MapDecl) (ps : List PointerView) (node : ℕ) (is_ref : Bool) (k : Kinds) (h next : Held) (i : Insn) (old new : List CellView) (size : Size) (s : Src)
+    → verdict (effect_of decls k i) ≡ passed → effect_as decls k i i.op ≡ access.stored decls k (kinds.register k i.dst) i.offset size (operand k i s)
+    → ((refs : List ℕ) (m : Machine) → step.effect refs m i i.op ≡ machine.stored m (register m.registers i.dst) i.offset size (step.operand m.registers i s))
+    → IfOk (access.stored decls k (kinds.register k i.dst) i.offset size (operand k i s)) (λ e. OnOk r (Leaves decls ps node k h next old new (changed node is_ref false k e) (λ m. machine.stored m (register m.registers i.dst) i.offset size (step.operand m.registers i s))))
+    → OnOk r (Carries decls ps i node is_ref false k h next old new)
+unfolding effect_of
+store_carried r decls ps node is_ref k h next i old new size s allowed kind_is machine_is leaves =
+    let e = passed_ok (effect_of decls k i) allowed in
+    let b = bind_passed (profile.profiled i k) (λ u. effect_as decls k i i.op) e.0 e.1 in
+    by r e.0 (ap (changed_if node is_ref false k) e.1)
+    (subst (λ q. IfOk q (λ f. OnOk r (Leaves decls ps node k h next old new (changed node is_ref false k f) (λ m. machine.stored m (register m.registers i.dst) i.offset size (step.operand m.registers i s))))) (sym kind_is ∙ b.2) leaves)
+  where
+    by : {R E : Type 0} (r : Result R E) (f : _) → transferred decls k i node is_ref false ≡ changed node is_ref false k f
+        → OnOk r (Leaves decls ps node k h next old new (changed node is_ref false k f) (λ m. machine.stored m (register m.registers i.dst) i.offset size (step.operand m.registers i s)))
+        → OnOk r (Carries decls ps i node is_ref false k h next old new)
+    by (Err w) f same l = tt
+    by (Ok u) f same l = record {
+      grows = l.grows;
+      inside = rw same l.inside;
+      holds = λ packet v m n refs run known at e. rw same (l.holds packet v m n run known (sym (machine_is refs m) ∙ e));
+    }

@@ -1,0 +1,35 @@
+use Rattle.std.proofs.Common.{to_z-of_z, pos}
+use Rattle.std.specs.Int.{w16}
+use Rattle.xdp_machine.specs.Values as is
+use Rattle.xdp_machine.specs.Step as step
+use Rattle.kind_core.specs.Effects.{operand}
+use Rattle.kind_core.specs.declared.kind.Kind.TheVariants.{Packet, Stack}
+use Rattle.register_cells.proofs.Known.{imm_fits, operand_counts, operand_read}
+use Rattle.register_cells.proofs.Loads.{register_is}
+use Rattle.register_cells.proofs.Stores.{store_as, store_refused}
+use Rattle.register_cells.proofs.storing.store.Goals as goal
+
+pub returns-in-Packet : goal.returns-in-Packet
+returns-in-Packet c = λ decls node is_ref inside.
+    store_as c.to_packet.result decls _ node is_ref c.args.kinds.now c.args.held.now c.to_packet.new.held c.args.insn.now _ _ (Packet c.in-Packet.o) (is.Packet (pos c.in-Packet.o)) c.args.size
+    (operand c.args.kinds.now c.args.insn.now c.args.src) c.operand-b.result (λ m. step.operand m.registers c.args.insn.now c.args.src) c.in-Packet.is
+    (to_z-of_z {w = w16} (record { sfits = c.requires.insn.offset_range.sfits })) c.operand-b.ensures
+    (λ packet v m known. register_is decls packet v _ node c.args.kinds.now c.args.held.now m _ _ known c.in-Packet.is)
+    (c.to_packet.ensures decls _ node is_ref (λ m. step.operand m.registers c.args.insn.now c.args.src) inside
+    (λ packet v m known. rw c.operand-b.ensures (operand_read decls packet v _ node c.args.kinds.now c.args.held.now m c.args.insn.now c.args.src
+    (imm_fits c.args.insn.now.op c.args.insn.now.imm c.requires.insn.imm_range) known c.requires.insn.src_register)))
+
+pub returns-in-Stack : goal.returns-in-Stack
+returns-in-Stack c = λ decls node is_ref inside.
+    store_as c.to_stack.result decls _ node is_ref c.args.kinds.now c.args.held.now c.to_stack.new.held c.args.insn.now _ _ (Stack _) (is.Stack _) c.args.size
+    (operand c.args.kinds.now c.args.insn.now c.args.src) c.operand-b.result (λ m. step.operand m.registers c.args.insn.now c.args.src) c.in-Stack.is
+    (to_z-of_z {w = w16} (record { sfits = c.requires.insn.offset_range.sfits })) c.operand-b.ensures
+    (λ packet v m known. register_is decls packet v _ node c.args.kinds.now c.args.held.now m _ _ known c.in-Stack.is)
+    (c.to_stack.ensures decls node is_ref _ (λ m. step.operand m.registers c.args.insn.now c.args.src) c.in-Stack.is inside
+    (rw c.operand-b.ensures (operand_counts decls _ _ c.args.held.now c.args.kinds.now c.args.insn.now c.args.src c.requires.insn.src_register inside))
+    (λ packet v m known. rw c.operand-b.ensures (operand_read decls packet v _ node c.args.kinds.now c.args.held.now m c.args.insn.now c.args.src
+    (imm_fits c.args.insn.now.op c.args.insn.now.imm c.requires.insn.imm_range) known c.requires.insn.src_register)))
+
+pub returns-in_default : goal.returns-in_default
+returns-in_default c = λ decls node is_ref inside.
+    store_refused decls c.args.kinds.now _ c.args.insn.now.offset c.args.size (operand c.args.kinds.now c.args.insn.now c.args.src) _ c.in_default.not-Packet c.in_default.not-Stack c.requires.plain
