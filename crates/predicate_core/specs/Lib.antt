@@ -1,0 +1,7 @@
+pub mod Making
+pub mod Computing
+pub mod Laws
+pub mod Opening
+pub mod Closing
+pub mod Arriving
+pub mod Feeding
