@@ -1,27 +1,25 @@
 -- Where edges lead to a node.
-use Rattle.std.proofs.Common.{◌≡◌, ℕ, ◌+◌, ◌<◌, ◌≤◌, ◌==◌, Bool, true, false, if◌then◌else◌, List, [], ◌∷◌, ◌++◌, length, get_or, take, refl, sym, ◌∙◌, ap, subst, arith}
+use Rattle.std.proofs.Common.{◌≡◌, ℕ, ◌<◌, ◌≤◌, ◌==◌, Bool, true, false, List, [], ◌∷◌, ◌++◌, length, get_or, take, refl, sym, ◌∙◌, ap, subst, arith}
 use Rattle.std.specs.Prelude.{All, Contains}
 use Rattle.std.specs.List.{filter}
 use Rattle.std.proofs.lemmas.Bool.Decides.{nat_tests}
 use Rattle.std.proofs.lemmas.List.{take_all}
 use Rattle.std.proofs.lemmas.List.Elements.{All-contains, All-filter, All-weaker, Contains-get_or, filter_passes}
 use Rattle.xdp_maps.specs.declared.decl.MapDecl.{MapDecl}
-use Rattle.xdp_machine.specs.State.{PacketIn, Machine}
+use Rattle.xdp_machine.specs.State.{PacketIn}
 use Rattle.kind_core.specs.declared.kind.Kinds.{Kinds}
 use Rattle.cell_core.specs.declared.operator.Operator.TheVariants.{Wire}
-use Rattle.cell_core.specs.Cells.{CellView, IsRun, bits_from, bit, on}
+use Rattle.cell_core.specs.Cells.{CellView, IsRun, bits_from, bit}
 use Rattle.operator_cells.specs.Making.{Grows, Makes, operated}
 use Rattle.operator_cells.proofs.MakingLaws.{grown, grown_none}
 use Rattle.held_cells.specs.declared.held.Held.{Held}
 use Rattle.held_cells.specs.declared.way.Way.{Way}
-use Rattle.held_cells.specs.Paths.{GraphView, Stage, node_at, stands_at}
+use Rattle.held_cells.specs.Paths.{Stage, node_at, stands_at}
 use Rattle.held_cells.specs.Held.{PointerView, AreInside}
 use Rattle.held_cells.specs.Steps.{IsGood, IsHere}
 use Rattle.edge_cells.specs.Widening.{AreWider}
-use Rattle.edge_cells.specs.Meeting.{AreWays}
 use Rattle.edge_cells.specs.Joining.{Joins, LeadTo, HereIsRight}
 use Rattle.edge_cells.proofs.ExtendingLaws.{inside_later, extends_none}
-use Rattle.predicate_core.specs.Making.{Making, Arrives}
 use Rattle.predicate_core.specs.Arriving.{IsOwn, ArrivesAt}
 use Rattle.predicate_core.proofs.Later.{contains_filter}
 
@@ -93,7 +91,7 @@ arrived right decls k kinds a b c ps qs ways here guard own h first lead joins f
     at : (packet : PacketIn) (v : ℕ → ℕ) (s : Stage) → IsRun packet c v → IsGood g packet v t.pointers k t.ways t.exits s → IsHere g packet v qs k own h s
     at packet v s run good =
         let x = right g packet v ps qs k a b ways here t.exits guard h s joined lead (is.grows.run packet v run)
-            (subst (λ (ws : List Way). IsGood g packet v ps k ws t.exits s) ways_are (subst (λ (xs : List PointerView). IsGood g packet v xs k t.ways t.exits s) pointers_are good)) in
+        (subst (λ (ws : List Way). IsGood g packet v ps k ws t.exits s) ways_are (subst (λ (xs : List PointerView). IsGood g packet v xs k t.ways t.exits s) pointers_are good)) in
         record {
           guard_is = is.value packet v run (omega (arith, x.guard_is, bit_small (stands_at k s))) ∙ x.guard_is;
           placed = x.placed;

@@ -1,11 +1,11 @@
 -- Values of more cells are values of those before.
-use Rattle.std.proofs.Common.{◌≡◌, ℕ, ◌+◌, ◌<◌, ◌≤◌, true, List, [], ◌∷◌, ◌++◌, length, length-append, get_or, refl, sym, ◌∙◌, ap, subst, arith}
-use Rattle.std.specs.Prelude.{take, All, Some}
+use Rattle.std.proofs.Common.{◌≡◌, ℕ, ◌<◌, ◌≤◌, List, ◌++◌, length, length-append, ◌∙◌, ap, arith}
+use Rattle.std.specs.Prelude.{take, All}
 use Rattle.std.proofs.Math.ListN.{get_or-append}
 use Rattle.std.proofs.lemmas.List.{take-append-le}
 use Rattle.xdp_maps.specs.State.{MapState}
 use Rattle.xdp_machine.specs.State.{PacketIn}
-use Rattle.cell_core.specs.Cells.{CellView, IsRun, cell_at, site_in, bits_from, on}
+use Rattle.cell_core.specs.Cells.{CellView, cell_at, site_in, bits_from, on}
 use Rattle.cell_core.specs.Sites.{SiteView, no_site, site_at, after, read_on}
 use Rattle.operator_cells.specs.Making.{Grows}
 use Rattle.held_cells.specs.Paths.{GraphView}

@@ -1,11 +1,11 @@
 -- The cells of what a packet leaves.
-use Rattle.std.proofs.Common.{◌≡◌, ◌≢◌, ℕ, zero, suc, ◌+◌, ◌/◌, ◌<◌, ◌≤◌, ◌^◌, ◌⊎◌, inl, inr, true, List, [], ◌∷◌, ◌++◌, length, length-append, get_or, refl, sym, ◌∙◌, ap, subst, arith}
-use Rattle.std.specs.Prelude.{slice_index, slice_set, All, Contains}
+use Rattle.std.proofs.Common.{◌≡◌, ℕ, ◌+◌, ◌/◌, ◌<◌, ◌≤◌, ◌^◌, ◌⊎◌, inl, inr, true, List, [], ◌∷◌, ◌++◌, length, length-append, get_or, refl, sym, ◌∙◌, ap, subst, arith}
+use Rattle.std.specs.Prelude.{slice_index, slice_set, All}
 use Rattle.std.proofs.Math.ListN.{get_or-append, length-set}
 use Rattle.std.proofs.Math.Seq.{get_or-append_seam}
 use Rattle.std.proofs.lemmas.Bool.{cases_lt}
 use Rattle.std.proofs.lemmas.Grind.{same_number_lists}
-use Rattle.std.proofs.lemmas.List.{get_or-set_same, get_or-set_other, get_or_past, get_or_default}
+use Rattle.std.proofs.lemmas.List.{get_or-set_same, get_or-set_other, get_or_past}
 use Rattle.std.proofs.lemmas.List.Elements.{All-nil, All-push, All-weaker, All-contains}
 use Rattle.xdp_machine.specs.Arithmetic.{low}
 use Rattle.xdp_machine.specs.State.{PacketIn}
@@ -16,7 +16,7 @@ use Rattle.cell_core.specs.Cells.{CellView, IsRun, bits_from, on}
 use Rattle.cell_core.specs.Sites.{with_bytes}
 use Rattle.operator_cells.specs.declared.joining.Arm.{Arm}
 use Rattle.operator_cells.specs.Joining.{chosen, ChoiceIsRight}
-use Rattle.operator_cells.specs.Making.{Grows, Makes, operated}
+use Rattle.operator_cells.specs.Making.{Makes, operated}
 use Rattle.operator_cells.proofs.MakingLaws.{grown, grown_none}
 use Rattle.held_cells.specs.declared.way.Exit.{Exit}
 use Rattle.held_cells.specs.Held.{number_of, IsThere}
@@ -182,11 +182,12 @@ pub answered : (a b c d : List CellView) (exits : List Exit) (window : List ℕ)
     → Answers a d exits verdict target frame
 answered a b c d exits window verdict target frame first second third = record {
   grows = grown first.grows (grown second.grows third.grows);
-  leaves = λ packet v e is run left some.
-      (first.value packet v e.verdict (second.grows.run packet v (third.grows.run packet v run)) some (λ i x l o. sym (left i x l o).verdict),
-      second.value packet v e.target (third.grows.run packet v run) some (λ i x l o. sym (left i x l o).target),
-      same_number_lists (with_bytes v packet.frame frame) e.frame (third.size packet v ∙ sym (left_at packet v exits e some left).length_is)
-      (λ i l. at packet v e is run left some i (cases_lt i 256)));
+  leaves = λ packet v e is run left some. (
+    first.value packet v e.verdict (second.grows.run packet v (third.grows.run packet v run)) some (λ i x l o. sym (left i x l o).verdict),
+    second.value packet v e.target (third.grows.run packet v run) some (λ i x l o. sym (left i x l o).target),
+    same_number_lists (with_bytes v packet.frame frame) e.frame (third.size packet v ∙ sym (left_at packet v exits e some left).length_is)
+        (λ i l. at packet v e is run left some i (cases_lt i 256)),
+  );
 }
   where
     at : (packet : PacketIn) (v : ℕ → ℕ) (e : Leaves) → IsPacket packet → IsRun packet d v → All (λ x. on (v x.guard) ≡ true → IsLeft packet v x e) exits → SomeEnds v exits → (i : ℕ) → (i < 256) ⊎ (256 ≤ i)

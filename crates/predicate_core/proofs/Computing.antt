@@ -1,19 +1,18 @@
 -- Cells of all nodes, and of the answer, compute the runs of a program.
-use Rattle.std.proofs.Common.{◌≡◌, ℕ, zero, suc, ◌+◌, ◌<◌, ◌≤◌, ◌==◌, true, List, [], ◌∷◌, ◌++◌, length, get_or, refl, sym, ◌∙◌, ap, subst, arith}
-use Rattle.std.specs.Prelude.{All, Contains}
+use Rattle.std.proofs.Common.{◌≡◌, ℕ, zero, suc, ◌+◌, ◌≤◌, ◌==◌, true, List, [], length, get_or, refl, sym, ◌∙◌, ap, subst, arith}
+use Rattle.std.specs.Prelude.{All}
 use Rattle.std.proofs.lemmas.Bool.Decides.{nat_tests}
 use Rattle.std.proofs.lemmas.List.{append-nil}
-use Rattle.std.proofs.lemmas.List.Elements.{All-filter, All-weaker, filter_passes}
+use Rattle.std.proofs.lemmas.List.Elements.{All-filter, filter_passes}
 use Rattle.xdp_maps.specs.State.{MapState, IsSound}
-use Rattle.xdp_machine.specs.State.{Machine, PacketIn, start}
+use Rattle.xdp_machine.specs.State.{PacketIn, start}
 use Rattle.xdp_machine.specs.Runs.{Leaves}
 use Rattle.xdp_machine.specs.Touched as machine
 use Rattle.cell_core.specs.declared.program.FrameByte.{FrameByte}
 use Rattle.cell_core.specs.Cells.{CellView, IsRun, bit, on}
 use Rattle.cell_core.specs.Sites.{SiteView, ProgramView, IsCellRun, after, leaves, touched, with_bytes}
 use Rattle.held_cells.specs.declared.held.Held.{Held}
-use Rattle.held_cells.specs.declared.way.Exit.{Exit}
-use Rattle.held_cells.specs.Paths.{GraphView, Stage, At, Over, Nowhere, before, on_path, stands_at, maps_in}
+use Rattle.held_cells.specs.Paths.{GraphView, Stage, At, Over, Nowhere, before, stands_at, maps_in}
 use Rattle.held_cells.specs.Steps.{IsGood, IsLeft}
 use Rattle.held_cells.specs.Law.{IsPacket, AreAnswered, IsRight, made_at, sites_below, sites_at}
 use Rattle.predicate_core.specs.Computing.{Computes}
@@ -25,7 +24,6 @@ use Rattle.predicate_core.proofs.Tracing.{Comes, comes_first, comes_more}
 
 module _ (g : GraphView) (hs : List Held) (t : Making) (cells : List CellView) (verdict target : ℕ) (frame : List FrameByte)
     (so_far : IsSoFar g (length g.nodes) hs t) (answers : Answers t.cells cells t.exits verdict target frame) (stay : ReadsStay t.cells cells t.sites) where
-
   abbrev pub p : ProgramView
   p = record { cells = cells; nodes = t.nodes; sites = t.sites; verdict = verdict; target = target; frame = frame }
 
@@ -98,10 +96,10 @@ module _ (g : GraphView) (hs : List Held) (t : Making) (cells : List CellView) (
           let l = answers.leaves packet v e is ran left x in
           let maps_are : after v maps t.sites ≡ e.maps = ap (after v maps) (sym all) ∙ same in
           let left_is : leaves v packet maps p ≡ e =
-              ap (λ (n : ℕ). record { verdict = n; target = v target; frame = with_bytes v packet.frame frame; maps = after v maps t.sites }) l.0
-              ∙ ap (λ (n : ℕ). record { verdict = e.verdict; target = n; frame = with_bytes v packet.frame frame; maps = after v maps t.sites }) l.1
-              ∙ ap (λ (f : List ℕ). record { verdict = e.verdict; target = e.target; frame = f; maps = after v maps t.sites }) l.2
-              ∙ ap (λ (ms : MapState). record { verdict = e.verdict; target = e.target; frame = e.frame; maps = ms }) maps_are in
+          ap (λ (n : ℕ). record { verdict = n; target = v target; frame = with_bytes v packet.frame frame; maps = after v maps t.sites }) l.0
+          ∙ ap (λ (n : ℕ). record { verdict = e.verdict; target = n; frame = with_bytes v packet.frame frame; maps = after v maps t.sites }) l.1
+          ∙ ap (λ (f : List ℕ). record { verdict = e.verdict; target = e.target; frame = f; maps = after v maps t.sites }) l.2
+          ∙ ap (λ (ms : MapState). record { verdict = e.verdict; target = e.target; frame = e.frame; maps = ms }) maps_are in
           subst (λ (y : Leaves). machine.Touches g.code packet maps y (touched v maps t.sites)) (sym left_is)
           (c.0, c.1, c.2 ∙ ap (touched v maps) all)
         where

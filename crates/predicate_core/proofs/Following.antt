@@ -1,5 +1,5 @@
 -- From one node to the next.
-use Rattle.std.proofs.Common.{◌≡◌, ℕ, suc, ◌+◌, ◌<◌, ◌≤◌, ◌⊎◌, inl, inr, List, [], ◌∷◌, ◌++◌, length, length-append, get_or, refl, sym, ◌∙◌, ap, subst, arith}
+use Rattle.std.proofs.Common.{◌≡◌, ℕ, suc, ◌+◌, ◌<◌, ◌≤◌, ◌⊎◌, inl, inr, List, [], ◌∷◌, ◌++◌, length, length-append, sym, ◌∙◌, ap, subst, arith}
 use Rattle.std.specs.Prelude.{All}
 use Rattle.std.proofs.Math.ListN.{get_or-append}
 use Rattle.std.proofs.Math.Seq.{get_or-append_seam}
@@ -8,7 +8,6 @@ use Rattle.std.proofs.lemmas.List.Elements.{All-weaker}
 use Rattle.xdp_maps.specs.State.{MapState}
 use Rattle.xdp_machine.specs.State.{Machine, PacketIn}
 use Rattle.xdp_machine.specs.Touched as machine
-use Rattle.cell_core.specs.declared.program.Node.{Node}
 use Rattle.cell_core.specs.Cells.{CellView, bit}
 use Rattle.cell_core.specs.Sites.{SiteView, after}
 use Rattle.cell_core.specs.Formed.{IsBelow}
@@ -28,12 +27,11 @@ use Rattle.predicate_core.specs.Laws.{NodesFollow, past, made_next}
 use Rattle.predicate_core.proofs.Later.{held_later, good_later, good_past, made_past}
 use Rattle.predicate_core.proofs.SiteLists.{below_all, below_more, at_more, at_new}
 use Rattle.predicate_core.proofs.Cases.{case_older, case_fewer, all_read}
-use Rattle.predicate_core.proofs.NodeLayout.{made_old, made_new, node_each, low_more, laid_more}
+use Rattle.predicate_core.proofs.NodeLayout.{node_each, low_more, laid_more}
 
 module _ (g : GraphView) (k : ℕ) (hs : List Held) (t : Making) (cells cells2 : List CellView) (ps ps2 : List PointerView) (sites2 : List SiteView) (ways : List Way) (exits : List Exit) (guard : ℕ) (h : Held)
     (so_far : IsSoFar g k hs t) (arrives : Arrives g k t cells ps guard h) (s : Steps g k guard h cells cells2 ps ps2 t.sites sites2 t.ways ways t.exits exits) (below : All (IsBelow (length cells2)) s.more)
     (stay : ReadsStay t.cells cells2 t.sites) where
-
   abbrev pub u : Making
   u = record { cells = cells2; pointers = ps2; sites = sites2; ways = past k ways; exits = exits; nodes = t.nodes ++ made_next g k guard t.cells cells2 ∷ [] }
 

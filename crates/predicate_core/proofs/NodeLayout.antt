@@ -101,5 +101,9 @@ laid_more g k guard t cells2 ps2 sites2 more ways exits laid low high longer is 
     next j h (inl l) = omega (arith, laid.ascending j l, ap (λ (x : Node). x.end) (made_old t.nodes n j (omega (arith, l, laid.count))), ap (λ (x : Node). x.first) (made_old t.nodes n (j + 1) (omega (arith, l, laid.count))))
     next j h (inr l) =
         let i = laid.inside j (omega (arith, h)) in
-        omega (arith, i.2, ap (λ (x : Node). x.end) (made_old t.nodes n j (omega (arith, h, laid.count))),
-        ap (λ (x : Node). x.first) (made_new t.nodes n (j + 1) (omega (arith, l, h, laid.count))))
+        omega (
+          arith,
+          i.2,
+          ap (λ (x : Node). x.end) (made_old t.nodes n j (omega (arith, h, laid.count))),
+          ap (λ (x : Node). x.first) (made_new t.nodes n (j + 1) (omega (arith, l, h, laid.count))),
+        )

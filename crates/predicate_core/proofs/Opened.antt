@@ -1,6 +1,6 @@
 -- The cells of what a machine holds at the start.
-use Rattle.std.proofs.Common.{◌≡◌, ◌≢◌, ℕ, zero, suc, ◌+◌, ◌<◌, ◌≤◌, ◌^◌, ◌⊎◌, inl, inr, true, List, [], ◌∷◌, length, get_or, pos, refl, sym, ◌∙◌, ap, subst, arith}
-use Rattle.std.specs.Prelude.{slice_index, slice_set, replicate, All, Contains}
+use Rattle.std.proofs.Common.{◌≡◌, ℕ, zero, suc, ◌+◌, ◌<◌, ◌≤◌, ◌⊎◌, inl, inr, List, [], ◌∷◌, length, get_or, pos, refl, sym, ◌∙◌, ap, subst, arith}
+use Rattle.std.specs.Prelude.{slice_index, slice_set, All}
 use Rattle.std.proofs.lemmas.Bool.{cases_lt}
 use Rattle.std.proofs.lemmas.List.{get_or-set_same, get_or-set_other, get_or-replicate, get_or_past}
 use Rattle.std.proofs.lemmas.List.Elements.{All-nil, All-cons}
@@ -9,7 +9,6 @@ use Rattle.xdp_maps.specs.State.{MapState, IsSound}
 use Rattle.xdp_machine.specs.Values.{Value}
 use Rattle.xdp_machine.specs.Values as is
 use Rattle.xdp_machine.specs.State.{Machine, PacketIn, start}
-use Rattle.xdp_machine.specs.Runs.{Leaves}
 use Rattle.xdp_machine.specs.MachineLaws.{StartsInRange}
 use Rattle.kind_core.specs.declared.number.Number.TheVariants.{Known}
 use Rattle.kind_core.specs.declared.kind.Kind.{Kind}
@@ -17,19 +16,18 @@ use Rattle.kind_core.specs.declared.kind.Kind.TheVariants.{Unset, Num, Stack, Ct
 use Rattle.kind_core.specs.declared.kind.Kinds.{Kinds}
 use Rattle.kind_core.specs.Kinds as kinds
 use Rattle.kind_core.specs.Kinds.{value_bytes}
-use Rattle.kind_core.specs.Describes.{World, StartIsDescribed}
+use Rattle.kind_core.specs.Describes.{StartIsDescribed}
 use Rattle.cell_core.specs.declared.operator.Operator.TheVariants.{Constant, Byte}
 use Rattle.cell_core.specs.Cells.{CellView, IsRun, bits_from, bit, on}
-use Rattle.cell_core.specs.Sites.{after}
 use Rattle.operator_cells.specs.Making.{Grows, Makes, operated}
 use Rattle.operator_cells.proofs.MakingLaws.{grown, grown_none}
 use Rattle.held_cells.specs.declared.held.Held.{Held}
 use Rattle.held_cells.specs.declared.way.Way.{Way}
-use Rattle.held_cells.specs.Paths.{GraphView, Stage, At, Over, node_at, before, maps_in}
-use Rattle.held_cells.specs.Held.{PointerView, Holds, Counts, AreHeld, AreInside}
+use Rattle.held_cells.specs.Paths.{GraphView, At, node_at, before, maps_in}
+use Rattle.held_cells.specs.Held.{PointerView, Holds, Counts, AreInside}
 use Rattle.held_cells.specs.Carrying.{IsKnown}
 use Rattle.held_cells.specs.Steps.{Leads, IsGood}
-use Rattle.held_cells.specs.Law.{IsPacket, sites_below}
+use Rattle.held_cells.specs.Law.{IsPacket}
 use Rattle.predicate_core.specs.Making.{Making, IsSoFar, IsCase}
 use Rattle.predicate_core.specs.Opening.{HaveBytes, AreBytes, Opens, OpensFollow}
 
@@ -144,7 +142,6 @@ known_start described starts g packet maps v ps h came sound decls values window
 }
 
 module _ (described : StartIsDescribed) (starts : StartsInRange) (g : GraphView) (cells : List CellView) (e : Way) (opens : Opens [] cells e) (some : 0 < length g.nodes) (first : (node_at g.nodes 0).place ≡ 0) (values : (q : ℕ) → value_bytes g.decls q ≤ 64) where
-
   abbrev pub t : Making
   t = record { cells = cells; pointers = []; sites = []; ways = e ∷ []; exits = []; nodes = [] }
 

@@ -1,27 +1,25 @@
 -- The run of the machine goes from node to node, and touches what the operations of the sites touch whose guards are on.
-use Rattle.std.proofs.Common.{◌≡◌, ℕ, zero, suc, ◌+◌, ◌<◌, ◌≤◌, ◌==◌, Bool, true, false, ◌&&◌, if◌then◌else◌, List, [], ◌∷◌, ◌++◌, refl, sym, ◌∙◌, ap, subst, arith}
+use Rattle.std.proofs.Common.{◌≡◌, ℕ, suc, ◌+◌, ◌==◌, Bool, true, false, if◌then◌else◌, List, [], ◌∷◌, ◌++◌, refl, sym, ◌∙◌, ap, subst, arith}
 use Rattle.std.specs.Prelude.{ℤ, pos, negsuc, Option, Some, None, All}
 use Rattle.std.proofs.Math.Nat.{add_assoc}
 use Rattle.std.proofs.lemmas.Bool.Decides.{nat_tests}
 use Rattle.std.proofs.lemmas.List.{append-nil, append_assoc}
 use Rattle.std.proofs.lemmas.List.Elements.{All-head, All-tail}
 use Rattle.bpf_isa.specs.declared.operation.Op.{Op}
-use Rattle.bpf_isa.specs.declared.operation.Op.TheVariants.{Ja, Jump, Exit, Load, LoadSigned, StoreImm, Store, Atomic, Call}
-use Rattle.bpf_isa.specs.declared.operation.Width.TheVariants.{Bits32, Bits64}
+use Rattle.bpf_isa.specs.declared.operation.Op.TheVariants.{Load, LoadSigned, StoreImm, Store, Atomic, Call}
 use Rattle.bpf_isa.specs.declared.instruction.Insn.{Insn}
 use Rattle.bpf_isa.specs.Spelling.{units_of}
 use Rattle.bpf_isa.specs.Text.{insn_at}
 use Rattle.xdp_maps.specs.State.{MapState}
-use Rattle.xdp_maps.specs.Operations.{Operation}
 use Rattle.xdp_machine.specs.Values.{◌>>=◌}
 use Rattle.xdp_machine.specs.State.{Code, Machine, begins}
 use Rattle.xdp_machine.specs.Step.{Outcome, Goes, Ends, NoCase, goes_to, goes_on, outcome, outcome_at, effect, step}
-use Rattle.xdp_machine.specs.Runs.{Progress, Ended, Leaves, leaves, run}
+use Rattle.xdp_machine.specs.Runs.{Ended, run}
 use Rattle.xdp_machine.specs.Touched as machine
 use Rattle.xdp_machine.specs.Touched.{Touched, nothing, both, touched_by, touched_at, operation_as, operation_at}
 use Rattle.xdp_machine.proofs.RunLaws.{run_first}
 use Rattle.cell_core.specs.Cells.{on, bit}
-use Rattle.cell_core.specs.Sites.{SiteView, records, operation_on, applied, after, touched}
+use Rattle.cell_core.specs.Sites.{SiteView, operation_on, applied, after, touched}
 use Rattle.held_cells.specs.Paths.{GraphView, Stage, At, Over, Nowhere, visit, stepped, stands_at, maps_in}
 use Rattle.held_cells.specs.Steps.{DoAs}
 
@@ -108,21 +106,27 @@ Comes code first t (Over e) = (i : ℕ) × (run code i first ≡ Ended e) × (ma
 Comes code first t Nowhere = Unit {0}
 
 pub comes_first : (code : Code) (m : Machine) → Comes code m nothing (At 0 m)
-comes_first code m =
-    (0, (λ j. let e : 0 + j ≡ j = omega arith in ap (λ (n : ℕ). run code n m) e),
-    (λ j. let e : 0 + j ≡ j = omega arith in ap (λ (n : ℕ). machine.touched code n m) e ∙ sym (nothing_both (machine.touched code j m))))
+comes_first code m = (
+  0,
+  (λ j. let e : 0 + j ≡ j = omega arith in ap (λ (n : ℕ). run code n m) e),
+  (λ j. let e : 0 + j ≡ j = omega arith in ap (λ (n : ℕ). machine.touched code n m) e ∙ sym (nothing_both (machine.touched code j m))),
+)
 
 step_on : (i j : ℕ) → i + 1 + j ≡ i + suc j
 step_on i j = omega arith
 
 -- a step at a node
 comes_step : (g : GraphView) (first : Machine) (t : Touched) (k : ℕ) (m : Machine) (o : Outcome) → step g.code m ≡ o → Comes g.code first t (At k m) → Comes g.code first (both t (touched_at g.code m)) (stepped g k m o)
-comes_step g first t k m (Goes next) e (i, ran, saw) =
-    (i + 1, (λ j. ap (λ (n : ℕ). run g.code n first) (step_on i j) ∙ ran (suc j) ∙ run_first g.code (suc j) j m (Goes next) refl e),
-    (λ j. ap (λ (n : ℕ). machine.touched g.code n first) (step_on i j) ∙ saw (suc j) ∙ ap (both t) (touched_first g.code j m (Goes next) e) ∙ sym (both_assoc t (touched_at g.code m) (machine.touched g.code j next))))
-comes_step g first t k m (Ends verdict) e (i, ran, saw) =
-    (i + 1, ran 1 ∙ run_first g.code 1 0 m (Ends verdict) refl e,
-    saw 1 ∙ ap (both t) (touched_first g.code 0 m (Ends verdict) e ∙ sym (ap (touched_by m.maps) (ends_nothing g.code m verdict e))))
+comes_step g first t k m (Goes next) e (i, ran, saw) = (
+  i + 1,
+  (λ j. ap (λ (n : ℕ). run g.code n first) (step_on i j) ∙ ran (suc j) ∙ run_first g.code (suc j) j m (Goes next) refl e),
+  (λ j. ap (λ (n : ℕ). machine.touched g.code n first) (step_on i j) ∙ saw (suc j) ∙ ap (both t) (touched_first g.code j m (Goes next) e) ∙ sym (both_assoc t (touched_at g.code m) (machine.touched g.code j next))),
+)
+comes_step g first t k m (Ends verdict) e (i, ran, saw) = (
+  i + 1,
+  ran 1 ∙ run_first g.code 1 0 m (Ends verdict) refl e,
+  saw 1 ∙ ap (both t) (touched_first g.code 0 m (Ends verdict) e ∙ sym (ap (touched_by m.maps) (ends_nothing g.code m verdict e))),
+)
 comes_step g first t k m NoCase e c = tt
 
 -- what the sites of a node touch, where their guards are on exactly where the run stands there

@@ -1,10 +1,10 @@
 -- From one node to the next, and what follows for all of them.
-use Rattle.std.specs.Prelude.{ℕ, ◌≡◌, ◌+◌, ◌<◌, ◌≤◌, not, ◌==◌, List, [], ◌∷◌, ◌++◌, length, All}
+use Rattle.std.specs.Prelude.{ℕ, ◌+◌, not, ◌==◌, List, [], ◌∷◌, ◌++◌, length, All}
 use Rattle.std.specs.List.{filter}
 use Rattle.cell_core.specs.declared.program.Node.{Node}
 use Rattle.cell_core.specs.declared.program.FrameByte.{FrameByte}
 use Rattle.cell_core.specs.Cells.{CellView}
-use Rattle.cell_core.specs.Sites.{SiteView, ProgramView}
+use Rattle.cell_core.specs.Sites.{SiteView}
 use Rattle.cell_core.specs.Formed.{IsBelow}
 use Rattle.held_cells.specs.declared.held.Held.{Held}
 use Rattle.held_cells.specs.declared.way.Way.{Way}

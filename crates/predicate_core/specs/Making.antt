@@ -1,5 +1,5 @@
 -- What has been made of a program once some of its nodes are done, from the first on.
-use Rattle.std.specs.Prelude.{ℕ, ◌≡◌, ◌+◌, ◌<◌, ◌≤◌, true, Some, List, [], ◌∷◌, ◌++◌, length, get_or, replicate, take, All, Contains}
+use Rattle.std.specs.Prelude.{ℕ, ◌≡◌, ◌+◌, ◌<◌, ◌≤◌, true, Some, List, ◌++◌, length, get_or, replicate, take, All, Contains}
 use Rattle.std.specs.List.{AllPairs}
 use Rattle.xdp_maps.specs.State.{MapState, IsSound}
 use Rattle.xdp_machine.specs.State.{Machine, PacketIn}

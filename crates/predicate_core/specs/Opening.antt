@@ -1,7 +1,6 @@
 -- The cells of what a machine holds at the start.
 use Rattle.std.specs.Prelude.{ℕ, ◌≡◌, ◌<◌, ◌≤◌, List, [], ◌∷◌, length, slice_index, All}
 use Rattle.xdp_machine.specs.State.{PacketIn}
-use Rattle.kind_core.specs.declared.kind.Kinds.{Kinds}
 use Rattle.kind_core.specs.Kinds as kinds
 use Rattle.kind_core.specs.Kinds.{value_bytes}
 use Rattle.cell_core.specs.Cells.{CellView, IsRun}

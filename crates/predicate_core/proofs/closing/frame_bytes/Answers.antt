@@ -10,7 +10,7 @@ use Rattle.predicate_core.proofs.closing.frame_bytes.Goals.{then-is_stored+in_ok
 
 pub loop-i-preserved : goal.loop-i-preserved
 loop-i-preserved c = elim c.if-is_stored.branch [
-  then-is_stored+in_ok-cell+in_ok-push w ↦
+  | then-is_stored+in_ok-cell+in_ok-push w ↦
       subst (λ (cells : List CellView). AreFrameBytes (seen c.args.cells.now.items) cells c.args.exits.now c.args.window.now (c.loop-i.i + 1) c.if-is_stored.frame.items)
       (sym (ap (λ (x : Vec Cell Global). seen x.items) w.cells-is))
       (frame_more _ _ _ _ _ _ _ _ _ c.loop-i-test.true c.loop-i.invariant w.in_ok-cell.ensures (ap (λ (x : Vec FrameByte Global). x.items) w.frame-is ∙ w.in_ok-push.ensures.items))

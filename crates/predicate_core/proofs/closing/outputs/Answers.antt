@@ -1,6 +1,5 @@
-use Rattle.std.proofs.Common.{arith}
 use Rattle.std.proofs.lemmas.List.{get_or_default}
-use Rattle.predicate_core.proofs.Closed.{end_later, outputs_more}
+use Rattle.predicate_core.proofs.Closed.{outputs_more}
 use Rattle.predicate_core.proofs.closing.outputs.Goals as goal
 
 pub loop-exit-preserved : goal.loop-exit-preserved
