@@ -14,8 +14,7 @@ use Rattle.cell_core.specs.Sites.{SiteView, ProgramView, IsCellRun, after, leave
 use Rattle.held_cells.specs.declared.held.Held.{Held}
 use Rattle.held_cells.specs.Paths.{GraphView, Stage, At, Over, Nowhere, before, stands_at, maps_in}
 use Rattle.held_cells.specs.Steps.{IsGood, IsLeft}
-use Rattle.held_cells.specs.Law.{IsPacket, AreAnswered, IsRight, made_at, sites_below, sites_at}
-use Rattle.predicate_core.specs.Computing.{Computes}
+use Rattle.held_cells.specs.Law.{IsPacket, AreAnswered, IsRight, made_at, sites_below, sites_at, Computes}
 use Rattle.predicate_core.specs.Making.{Making, IsSoFar, IsCase, ReadsStay, Answers, held_in}
 use Rattle.predicate_core.specs.Laws.{WholesCompute}
 use Rattle.predicate_core.proofs.SiteLists.{below_all, below_none}

@@ -12,7 +12,7 @@ use Rattle.held_cells.specs.declared.way.Exit.{Exit}
 use Rattle.held_cells.specs.Paths.{GraphView, node_at}
 use Rattle.held_cells.specs.Held.{PointerView}
 use Rattle.held_cells.specs.Steps.{Steps}
-use Rattle.predicate_core.specs.Computing.{Computes}
+use Rattle.held_cells.specs.Law.{Computes}
 use Rattle.predicate_core.specs.Making.{Making, IsSoFar, Arrives, ReadsStay, Answers}
 
 -- the edges that do not lead to node k

@@ -1,5 +1,4 @@
 pub mod Making
-pub mod Computing
 pub mod Laws
 pub mod Opening
 pub mod Closing
