@@ -61,5 +61,5 @@ pub kinds_are_joined : KindsAreJoined
 kinds_are_joined p ls g k d loops h below =
     let n = (get_or g k d).node in
     let x = joined_first ls n (leading p ls g) (get_or g k d).kinds
-        (sym (h.known n (h.ordered.nodes k d below)) ∙ found_own ls g k d (nodes_are_ordered ls h.ordered.nested) (fine_of ls g h.ordered.nodes h.ordered.ascending) below) in
+    (sym (h.known n (h.ordered.nodes k d below)) ∙ found_own ls g k d (nodes_are_ordered ls h.ordered.nested) (fine_of ls g h.ordered.nodes h.ordered.ascending) below) in
     (x.0, x.1, x.2, x.3, subst (All HaveAll) x.2 (brought_all ls n (leading p ls g) (leading_all p ls g loops h)))
