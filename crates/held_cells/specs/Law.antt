@@ -59,21 +59,28 @@ pub record IsLaidOut (g : GraphView) (p : ProgramView) : Type 0 where
   pub guards : All (λ s. s.guard ≡ (made_at p.nodes s.node).guard) p.sites
   pub below : All (λ s. IsBelow (made_at p.nodes s.node).end s) p.sites
 
--- The law of cells, for every prefix of the nodes and whatever values stand for reads off the path or behind the prefix; and what the
--- packet leaves and touches.
-pub record IsLaw (g : GraphView) (p : ProgramView) : Type 0 where
+-- The cells compute the runs of the program: for every prefix of the nodes, and whatever values stand for reads off the path or behind the
+-- prefix, they are right as far as it goes; and the cells of the answer are what the packet leaves.
+pub record Computes (g : GraphView) (p : ProgramView) : Type 0 where
   pub formed : AreFormed p.cells
-  pub sited : AreSited g.decls p
   pub laid : IsLaidOut g p
   -- the pointers, and the cells of what is held at each node, the same for every packet
   pub pointers : List PointerView
   pub held : ℕ → Held
   pub right : (packet : PacketIn) (maps : MapState) (v : ℕ → ℕ) (k : ℕ) → IsPacket packet → IsSound maps → maps.decls ≡ g.decls → IsRun packet p.cells v
       → k ≤ length g.nodes → AreAnswered maps p v k → IsRight g p pointers held packet maps v k
-  -- what a node of the path makes does not rest on values off it
-  pub same : (packet : PacketIn) (maps : MapState) (v w : ℕ → ℕ) (k j c : ℕ) → IsPacket packet → IsSound maps → maps.decls ≡ g.decls → IsRun packet p.cells v → IsRun packet p.cells w
-      → k ≤ length g.nodes → AreAnswered maps p v k → AreAnswered maps p w k → j < k → on_path g packet maps j ≡ true
-      → (made_at p.nodes j).first ≤ c → c < (made_at p.nodes j).end → v c ≡ w c
   -- the packet run comes to the end that the cells say, and touches what the operations whose guards are on touch
   pub ends : (packet : PacketIn) (maps : MapState) (v : ℕ → ℕ) → IsPacket packet → IsSound maps → maps.decls ≡ g.decls → IsCellRun packet maps p v
       → machine.Touches g.code packet maps (leaves v packet maps p) (touched v maps p.sites)
+
+-- What a node of the path makes does not rest on values off it.
+pub record RestsOnPath (g : GraphView) (p : ProgramView) : Type 0 where
+  pub same : (packet : PacketIn) (maps : MapState) (v w : ℕ → ℕ) (k j c : ℕ) → IsPacket packet → IsSound maps → maps.decls ≡ g.decls → IsRun packet p.cells v → IsRun packet p.cells w
+      → k ≤ length g.nodes → AreAnswered maps p v k → AreAnswered maps p w k → j < k → on_path g packet maps j ≡ true
+      → (made_at p.nodes j).first ≤ c → c < (made_at p.nodes j).end → v c ≡ w c
+
+-- The law of cells.
+pub record IsLaw (g : GraphView) (p : ProgramView) : Type 0 where
+  pub computes : Computes g p
+  pub sited : AreSited g.decls p
+  pub rests : RestsOnPath g p

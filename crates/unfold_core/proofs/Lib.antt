@@ -17,3 +17,4 @@ pub mod Runs
 pub mod OneGraph
 pub mod LinkLaws
 pub mod OneOutcomeLaws
+pub mod JoinedLaws

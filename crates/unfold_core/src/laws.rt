@@ -2,7 +2,7 @@
 
 ghost use Rattle.unfold_core.specs.Laws.{NodesAreOrdered, StartIsNode, EdgesReachNodes, EdgesGoUp};
 ghost use Rattle.unfold_core.specs.EdgeLaws.{LeavingGoesUp};
-ghost use Rattle.unfold_core.specs.GraphLaws.{HasOneGraph, HasOneRefusal, HasNotBoth, EdgesLeadOn, NodesAreReached};
+ghost use Rattle.unfold_core.specs.GraphLaws.{HasOneGraph, HasOneRefusal, HasNotBoth, EdgesLeadOn, NodesAreReached, KindsAreJoined};
 ghost use Rattle.unfold_core.specs.RunLaws.{RunsAreSound};
 ghost use Rattle.xdp_machine.specs.Program.{XdpProgram};
 ghost use Rattle.unfold_core.specs.Acceptance.{HasOneOutcome};
@@ -55,6 +55,11 @@ pub fn edges_lead_on()
 /// and to each node but the first: so the nodes are exactly those that are reached from the first.
 pub fn nodes_are_reached()
     ensures { NodesAreReached }
+{}
+
+/// What is known at a node is what is known on the edges that lead there, joined.
+pub fn kinds_are_joined()
+    ensures { KindsAreJoined }
 {}
 
 /// Every packet, over all maps of the declarations of a program that unfolds, has a run that follows the graph: a path of present edges

@@ -1,0 +1,99 @@
+-- Where edges lead to a node.
+use Rattle.std.proofs.Common.{◌≡◌, ℕ, ◌<◌, ◌≤◌, ◌==◌, Bool, true, false, List, [], ◌∷◌, ◌++◌, length, get_or, take, refl, sym, ◌∙◌, ap, subst, arith}
+use Rattle.std.specs.Prelude.{All, Contains}
+use Rattle.std.specs.List.{filter}
+use Rattle.std.proofs.lemmas.Bool.Decides.{nat_tests}
+use Rattle.std.proofs.lemmas.List.{take_all}
+use Rattle.std.proofs.lemmas.List.Elements.{All-contains, All-filter, All-weaker, Contains-get_or, filter_passes}
+use Rattle.xdp_maps.specs.declared.decl.MapDecl.{MapDecl}
+use Rattle.xdp_machine.specs.State.{PacketIn}
+use Rattle.kind_core.specs.declared.kind.Kinds.{Kinds}
+use Rattle.cell_core.specs.declared.operator.Operator.TheVariants.{Wire}
+use Rattle.cell_core.specs.Cells.{CellView, IsRun, bits_from, bit}
+use Rattle.operator_cells.specs.Making.{Grows, Makes, operated}
+use Rattle.operator_cells.proofs.MakingLaws.{grown, grown_none}
+use Rattle.held_cells.specs.declared.held.Held.{Held}
+use Rattle.held_cells.specs.declared.way.Way.{Way}
+use Rattle.held_cells.specs.Paths.{Stage, node_at, stands_at}
+use Rattle.held_cells.specs.Held.{PointerView, AreInside}
+use Rattle.held_cells.specs.Steps.{IsGood, IsHere}
+use Rattle.edge_cells.specs.Widening.{AreWider}
+use Rattle.edge_cells.specs.Joining.{Joins, LeadTo, HereIsRight}
+use Rattle.edge_cells.proofs.ExtendingLaws.{inside_later, extends_none}
+use Rattle.predicate_core.specs.Arriving.{IsOwn, ArrivesAt}
+use Rattle.predicate_core.proofs.Later.{contains_filter}
+
+own_number : (n k : ℕ) → (n == k) ≡ true → n ≡ k
+own_number n k h = grind (arith, nat_tests)
+
+same_number : (n k : ℕ) → n ≡ k → (n == k) ≡ true
+same_number n k h = grind (arith, nat_tests)
+
+contains_any : {X : Type 0} (p : X → Bool) (xs : List X) (x : X) → Contains (filter p xs) x → Contains xs x
+contains_any p xs x c = All-contains (Contains xs) (filter p xs) x (All-filter p (Contains xs) xs (λ i d l. Contains-get_or xs i d l)) c
+
+pub lead_filtered : (k : ℕ) (ways : List Way) → LeadTo k ways (filter (λ e. e.to == k) ways)
+lead_filtered k ways = record {
+  to = All-weaker (λ e. (e.to == k) ≡ true) (λ e. e.to ≡ k) (λ e h. own_number e.to k h) (filter (λ e. e.to == k) ways) (filter_passes (λ e. e.to == k) ways);
+  among = λ e c. contains_any (λ e. e.to == k) ways e c;
+  all = λ e c is. contains_filter (λ e. e.to == k) ways e (same_number e.to k is) c;
+}
+
+pub lead_all : (k : ℕ) (ways here : List Way) (n : ℕ) → length ways ≤ n → here ≡ filter (λ e. e.to == k) (take n ways) → LeadTo k ways here
+lead_all k ways here n all is = subst (LeadTo k ways) (sym (is ∙ ap (filter (λ e. e.to == k)) (take_all n ways all))) (lead_filtered k ways)
+
+pub lead_each : (P : Way → Type 0) (k : ℕ) (ways here : List Way) → LeadTo k ways here → All P ways → All P here
+lead_each P k ways here lead all i d l = All-contains P ways (get_or here i d) all (lead.among (get_or here i d) (Contains-get_or here i d l))
+
+pub lead_wider : (kinds : Kinds) (k : ℕ) (ways here : List Way) → LeadTo k ways here → All (λ e. e.to ≡ k → AreWider kinds e.kinds) ways → All (λ e. AreWider kinds e.kinds) here
+lead_wider kinds k ways here lead all i d l = lead_each (λ e. e.to ≡ k → AreWider kinds e.kinds) k ways here lead all i d l (lead.to i d l)
+
+pub lead_some : (k : ℕ) (ways here : List Way) → LeadTo k ways here → (e : Way) × Contains ways e × (e.to ≡ k) → 1 ≤ length here
+lead_some k ways here lead e = let c = lead.all e.0 e.1 e.2 in omega (arith, c.1)
+
+-- ---- a guard of its own
+
+one_bit : (x : ℕ) → x < 2 → bits_from x 0 1 ≡ x
+one_bit x h = omega (arith, h)
+
+pub own_already : (cells : List CellView) (first bit : ℕ) → first ≤ bit → bit < length cells → IsOwn cells cells first bit bit
+own_already cells first bit own there = record { grows = grown_none; own = own; there = there; value = λ packet v run h. refl }
+
+pub own_copied : (old new : List CellView) (first bit c : ℕ) → first ≤ length old → Makes old new c (operated Wire (bit ∷ []) 0 1) → c ≡ length old → IsOwn old new first bit c
+own_copied old new first bit c low made is = record {
+  grows = made.grows;
+  own = omega (arith, low, is);
+  there = made.there;
+  value = λ packet v run h. made.value packet v run ∙ one_bit (v bit) h;
+}
+
+-- ---- all of them
+
+bit_small : (b : Bool) → bit b < 2
+bit_small true = omega arith
+bit_small false = omega arith
+
+pub arrived : HereIsRight → (decls : List MapDecl) (k : ℕ) (kinds : Kinds) (a b c : List CellView) (ps qs : List PointerView) (ways here : List Way) (guard own : ℕ) (h : Held) (first : ℕ)
+    → LeadTo k ways here → Joins decls a b ps qs here kinds guard h → first ≡ length a → IsOwn b c first guard own → ArrivesAt decls k kinds a ps ways c qs own h
+arrived right decls k kinds a b c ps qs ways here guard own h first lead joins from is g t decls_are kinds_are cells_are pointers_are ways_are =
+    record {
+      grows = subst (λ (xs : List CellView). Grows xs c) (sym cells_are) (grown joins.guards.grows is.grows);
+      extends = record { more = joins.extends.more; is = joins.extends.is ∙ ap (λ (xs : List PointerView). xs ++ joins.extends.more) (sym pointers_are) };
+      own = (omega (arith, ap length cells_are, from, is.own), is.there);
+      inside = subst (λ (ds : List MapDecl). AreInside ds (length c) qs h (node_at g.nodes k).kinds) (sym decls_are)
+          (subst (AreInside decls (length c) qs h) (sym kinds_are) (inside_later decls (length b) (length c) qs qs h kinds is.grows.longer (extends_none qs) joins.inside));
+      here = at;
+    }
+  where
+    joined : Joins g.decls a b ps qs here (node_at g.nodes k).kinds guard h
+    joined = subst (λ (ds : List MapDecl). Joins ds a b ps qs here (node_at g.nodes k).kinds guard h) (sym decls_are) (subst (λ (j : Kinds). Joins decls a b ps qs here j guard h) (sym kinds_are) joins)
+
+    at : (packet : PacketIn) (v : ℕ → ℕ) (s : Stage) → IsRun packet c v → IsGood g packet v t.pointers k t.ways t.exits s → IsHere g packet v qs k own h s
+    at packet v s run good =
+        let x = right g packet v ps qs k a b ways here t.exits guard h s joined lead (is.grows.run packet v run)
+        (subst (λ (ws : List Way). IsGood g packet v ps k ws t.exits s) ways_are (subst (λ (xs : List PointerView). IsGood g packet v xs k t.ways t.exits s) pointers_are good)) in
+        record {
+          guard_is = is.value packet v run (omega (arith, x.guard_is, bit_small (stands_at k s))) ∙ x.guard_is;
+          placed = x.placed;
+          known = x.known;
+        }

@@ -1,0 +1,196 @@
+-- The cells of what a packet leaves.
+use Rattle.std.proofs.Common.{◌≡◌, ℕ, ◌+◌, ◌/◌, ◌<◌, ◌≤◌, ◌^◌, ◌⊎◌, inl, inr, true, List, [], ◌∷◌, ◌++◌, length, length-append, get_or, refl, sym, ◌∙◌, ap, subst, arith}
+use Rattle.std.specs.Prelude.{slice_index, slice_set, All}
+use Rattle.std.proofs.Math.ListN.{get_or-append, length-set}
+use Rattle.std.proofs.Math.Seq.{get_or-append_seam}
+use Rattle.std.proofs.lemmas.Bool.{cases_lt}
+use Rattle.std.proofs.lemmas.Grind.{same_number_lists}
+use Rattle.std.proofs.lemmas.List.{get_or-set_same, get_or-set_other, get_or_past}
+use Rattle.std.proofs.lemmas.List.Elements.{All-nil, All-push, All-weaker, All-contains}
+use Rattle.xdp_machine.specs.Arithmetic.{low}
+use Rattle.xdp_machine.specs.State.{PacketIn}
+use Rattle.xdp_machine.specs.Runs.{Leaves}
+use Rattle.cell_core.specs.declared.operator.Operator.TheVariants.{Wire}
+use Rattle.cell_core.specs.declared.program.FrameByte.{FrameByte}
+use Rattle.cell_core.specs.Cells.{CellView, IsRun, bits_from, on}
+use Rattle.cell_core.specs.Sites.{with_bytes}
+use Rattle.operator_cells.specs.declared.joining.Arm.{Arm}
+use Rattle.operator_cells.specs.Joining.{chosen, ChoiceIsRight}
+use Rattle.operator_cells.specs.Making.{Makes, operated}
+use Rattle.operator_cells.proofs.MakingLaws.{grown, grown_none}
+use Rattle.held_cells.specs.declared.way.Exit.{Exit}
+use Rattle.held_cells.specs.Held.{number_of, IsThere}
+use Rattle.kind_core.specs.declared.number.Number.{Number}
+use Rattle.kind_core.specs.declared.number.Number.TheVariants.{Known, Unknown}
+use Rattle.held_cells.specs.Steps.{IsLeft}
+use Rattle.held_cells.specs.Law.{IsPacket}
+use Rattle.predicate_core.specs.declared.closing.Output.{Output}
+use Rattle.predicate_core.specs.declared.closing.Output.TheVariants.{Verdict, Target, Byte}
+use Rattle.predicate_core.specs.Making.{Answers}
+use Rattle.predicate_core.specs.Opening.{HaveBytes}
+use Rattle.predicate_core.specs.Closing.{output_of, EndIsThere, SomeEnds, AreOutputs, Outputs, AreFrameBytes}
+
+-- ---- what one end holds
+
+low_whole : (x : ℕ) → bits_from x 0 32 ≡ low 32 x
+low_whole x = ap (low 32) (let e : x / 2 ^ 0 ≡ x = omega arith in e)
+
+pub verdict_cut : (old mid new : List CellView) (x : Exit) (a c : ℕ) → Makes old mid a (λ packet v. number_of v x.verdict (slice_index x.held.registers 0)) → Makes mid new c (operated Wire (a ∷ []) 0 32)
+    → Makes old new c (λ packet v. output_of v Verdict x)
+verdict_cut old mid new x a c number made = record {
+  grows = grown number.grows made.grows;
+  there = made.there;
+  value = λ packet v run. made.value packet v run ∙ low_whole (v a) ∙ ap (low 32) (number.value packet v (made.grows.run packet v run));
+}
+
+pub held_one : (cells : List CellView) (x : Exit) (o : Output) (c : ℕ) → c < length cells → ((v : ℕ → ℕ) → v c ≡ output_of v o x) → Makes cells cells c (λ packet v. output_of v o x)
+held_one cells x o c there same = record { grows = grown_none; there = there; value = λ packet v run. same v }
+
+pub end_later : (n m : ℕ) (x : Exit) → n ≤ m → EndIsThere n x → EndIsThere m x
+end_later n m x l h = (omega (arith, l, h.0), omega (arith, l, h.1), there x.verdict h.2, λ i b. omega (arith, l, h.3 i b))
+  where
+    there : (y : Number) → IsThere n y (slice_index x.held.registers 0) → IsThere m y (slice_index x.held.registers 0)
+    there (Known a) t = tt
+    there Unknown t = omega (arith, l, t)
+
+-- ---- what all ends hold
+
+pub outputs_none : (cells : List CellView) (exits : List Exit) (o : Output) → AreOutputs cells cells exits o 0 []
+outputs_none cells exits o = record { grows = grown_none; count = refl; there = All-nil _; each = λ packet v i a x l. absurd (omega (arith, l)) }
+
+pub outputs_more : (old mid new : List CellView) (exits : List Exit) (o : Output) (n : ℕ) (arms more : List Arm) (c : ℕ) (x : Exit) → n < length exits → AreOutputs old mid exits o n arms
+    → x.guard < length old → Makes mid new c (λ packet v. output_of v o x) → ((d : Exit) → get_or exits n d ≡ x) → more ≡ arms ++ record { bit = x.guard; cell = c } ∷ [] → AreOutputs old new exits o (n + 1) more
+outputs_more old mid new exits o n arms more c x inside outputs guard made is pushed = record {
+  grows = grown outputs.grows made.grows;
+  count = omega (arith, ap length pushed, length-append arms (arm ∷ []), outputs.count);
+  there = subst (All (λ a. (a.bit < length new) × (a.cell < length new))) (sym pushed)
+      (All-push (λ a. (a.bit < length new) × (a.cell < length new)) arms arm
+      (All-weaker (λ a. (a.bit < length mid) × (a.cell < length mid)) (λ a. (a.bit < length new) × (a.cell < length new)) (λ a l. (omega (arith, l.0, made.grows.longer), omega (arith, l.1, made.grows.longer))) arms outputs.there)
+      (omega (arith, guard, outputs.grows.longer, made.grows.longer), made.there));
+  each = λ packet v i a y l run. by packet v i a y (cases_lt i n) l run;
+}
+  where
+    arm : Arm
+    arm = record { bit = x.guard; cell = c }
+
+    at : (i : ℕ) (a : Arm) → get_or more i a ≡ get_or (arms ++ arm ∷ []) i a
+    at i a = ap (λ (xs : List Arm). get_or xs i a) pushed
+
+    by : (packet : PacketIn) (v : ℕ → ℕ) (i : ℕ) (a : Arm) (y : Exit) → (i < n) ⊎ (n ≤ i) → i < n + 1 → IsRun packet new v
+        → ((get_or more i a).bit ≡ (get_or exits i y).guard) × (v (get_or more i a).cell ≡ output_of v o (get_or exits i y))
+    by packet v i a y (inl l) m run =
+        let e : get_or more i a ≡ get_or arms i a = at i a ∙ get_or-append arms (arm ∷ []) a i (omega (arith, l, outputs.count)) in
+        let p = outputs.each packet v i a y l (made.grows.run packet v run) in
+        (ap (λ (b : Arm). b.bit) e ∙ p.0, ap (λ (b : Arm). v b.cell) e ∙ p.1)
+    by packet v i a y (inr l) m run =
+        let j : length arms ≡ i = omega (arith, l, m, outputs.count) in
+        let k : n ≡ i = omega (arith, l, m) in
+        let e : get_or more i a ≡ arm = at i a ∙ ap (λ (b : ℕ). get_or (arms ++ arm ∷ []) b a) (sym j) ∙ get_or-append_seam arms arm [] a in
+        let f : x ≡ get_or exits i y = sym (is y) ∙ ap (λ (b : ℕ). get_or exits b y) k in
+        (ap (λ (b : Arm). b.bit) e ∙ ap (λ (z : Exit). z.guard) f, ap (λ (b : Arm). v b.cell) e ∙ made.value packet v run ∙ ap (output_of v o) f)
+
+pub outputs_chosen : ChoiceIsRight → (old mid new : List CellView) (exits : List Exit) (o : Output) (arms : List Arm) (c : ℕ) → AreOutputs old mid exits o (length exits) arms → Makes mid new c (λ packet v. chosen v arms)
+    → Outputs old new exits o c
+outputs_chosen choice old mid new exits o arms c outputs made = record {
+  grows = grown outputs.grows made.grows;
+  there = made.there;
+  value = λ packet v n run x all.
+      let k = x.1.0 in
+      let r = made.grows.run packet v run in
+      let d : Arm = record { bit = 0; cell = 0 } in
+      made.value packet v run
+      ∙ choice v arms n k d (omega (arith, x.1.1, outputs.count)) (ap (λ (b : ℕ). on (v b)) ((outputs.each packet v k d x.0 x.1.1 r).0 ∙ ap (λ (y : Exit). y.guard) x.1.2) ∙ x.2)
+      (λ i a l o'. let p = outputs.each packet v i a x.0 (omega (arith, l, outputs.count)) r in
+      p.1 ∙ all i x.0 (omega (arith, l, outputs.count)) (ap (λ (b : ℕ). on (v b)) (sym p.0) ∙ o'));
+}
+
+pub outputs_empty : (old mid new : List CellView) (exits : List Exit) (o : Output) (arms : List Arm) (c : ℕ) (f : PacketIn → (ℕ → ℕ) → ℕ) → length arms ≡ 0 → AreOutputs old mid exits o (length exits) arms → Makes mid new c f
+    → Outputs old new exits o c
+outputs_empty old mid new exits o arms c f none outputs made = record {
+  grows = grown outputs.grows made.grows;
+  there = made.there;
+  value = λ packet v n run x. absurd (omega (arith, x.1.1, outputs.count, none));
+}
+
+-- ---- the frame
+
+more_bytes : (v : ℕ → ℕ) (f : List ℕ) (frame : List FrameByte) (b : FrameByte) → with_bytes v f (frame ++ b ∷ []) ≡ slice_set (with_bytes v f frame) b.at (v b.cell)
+more_bytes v f [] b = refl
+more_bytes v f (a ∷ frame) b = more_bytes v (slice_set f a.at (v a.cell)) frame b
+
+pub frame_none : (cells : List CellView) (exits : List Exit) (window : List ℕ) → AreFrameBytes cells cells exits window 0 []
+frame_none cells exits window = record { grows = grown_none; size = λ packet v. refl; rest = λ packet v i l. refl; each = λ packet v e i l. absurd (omega (arith, l)) }
+
+left_at : (packet : PacketIn) (v : ℕ → ℕ) (exits : List Exit) (e : Leaves) (x : SomeEnds v exits) → All (λ x. on (v x.guard) ≡ true → IsLeft packet v x e) exits → IsLeft packet v x.0 e
+left_at packet v exits e x all = All-contains (λ x. on (v x.guard) ≡ true → IsLeft packet v x e) exits x.0 all x.1 x.2
+
+-- no end has another cell of the next byte
+pub frame_same : (old new : List CellView) (exits : List Exit) (window : List ℕ) (n : ℕ) (frame : List FrameByte) → n < 256 → HaveBytes old 256 window → All (λ x. slice_index x.held.window n ≡ slice_index window n) exits
+    → AreFrameBytes old new exits window n frame → AreFrameBytes old new exits window (n + 1) frame
+frame_same old new exits window n frame below bytes same so_far = record {
+  grows = so_far.grows;
+  size = so_far.size;
+  rest = λ packet v i l. so_far.rest packet v i (omega (arith, l));
+  each = λ packet v e i l is run left some. by packet v e i (cases_lt i n) l is run left some;
+}
+  where
+    by : (packet : PacketIn) (v : ℕ → ℕ) (e : Leaves) (i : ℕ) → (i < n) ⊎ (n ≤ i) → i < n + 1 → IsPacket packet → IsRun packet new v → All (λ x. on (v x.guard) ≡ true → IsLeft packet v x e) exits → SomeEnds v exits
+        → slice_index (with_bytes v packet.frame frame) i ≡ slice_index e.frame i
+    by packet v e i (inl l) m is run left some = so_far.each packet v e i l is run left some
+    by packet v e i (inr l) m is run left some =
+        let k : n ≡ i = omega (arith, l, m) in
+        let one = left_at packet v exits e some left in
+        subst (λ (j : ℕ). slice_index (with_bytes v packet.frame frame) j ≡ slice_index e.frame j) k
+        (so_far.rest packet v n (omega arith) ∙ sym (one.window n below ∙ ap v (All-contains (λ x. slice_index x.held.window n ≡ slice_index window n) exits some.0 same some.1)
+        ∙ bytes.value packet v n below (so_far.grows.run packet v run) is.bytes))
+
+-- one byte more
+pub frame_more : (old mid new : List CellView) (exits : List Exit) (window : List ℕ) (n : ℕ) (frame more : List FrameByte) (c : ℕ) → n < 256 → AreFrameBytes old mid exits window n frame → Outputs mid new exits (Byte n) c
+    → more ≡ frame ++ record { at = n; cell = c } ∷ [] → AreFrameBytes old new exits window (n + 1) more
+frame_more old mid new exits window n frame more c below so_far made pushed = record {
+  grows = grown so_far.grows made.grows;
+  size = λ packet v. ap length (set packet v) ∙ length-set (with_bytes v packet.frame frame) n (v c) ∙ so_far.size packet v;
+  rest = λ packet v i l. ap (λ (f : List ℕ). slice_index f i) (set packet v) ∙ get_or-set_other (with_bytes v packet.frame frame) n i (v c) 0 (λ e. absurd (omega (arith, l, e))) ∙ so_far.rest packet v i (omega (arith, l));
+  each = λ packet v e i l is run left some. by packet v e i (cases_lt i n) l is run left some;
+}
+  where
+    set : (packet : PacketIn) (v : ℕ → ℕ) → with_bytes v packet.frame more ≡ slice_set (with_bytes v packet.frame frame) n (v c)
+    set packet v = ap (with_bytes v packet.frame) pushed ∙ more_bytes v packet.frame frame (record { at = n; cell = c })
+
+    new_byte : (packet : PacketIn) (v : ℕ → ℕ) (e : Leaves) → IsRun packet new v → All (λ x. on (v x.guard) ≡ true → IsLeft packet v x e) exits → SomeEnds v exits
+        → (n < length (with_bytes v packet.frame frame)) ⊎ (length (with_bytes v packet.frame frame) ≤ n) → slice_index (slice_set (with_bytes v packet.frame frame) n (v c)) n ≡ slice_index e.frame n
+    new_byte packet v e run left some (inl l) =
+        get_or-set_same (with_bytes v packet.frame frame) n (v c) 0 l
+        ∙ made.value packet v (slice_index e.frame n) run some (λ i d b o. sym ((left i d b o).window n below))
+    new_byte packet v e run left some (inr l) =
+        get_or_past (slice_set (with_bytes v packet.frame frame) n (v c)) n 0 (omega (arith, l, length-set (with_bytes v packet.frame frame) n (v c)))
+        ∙ sym (get_or_past e.frame n 0 (omega (arith, l, so_far.size packet v, (left_at packet v exits e some left).length_is)))
+
+    by : (packet : PacketIn) (v : ℕ → ℕ) (e : Leaves) (i : ℕ) → (i < n) ⊎ (n ≤ i) → i < n + 1 → IsPacket packet → IsRun packet new v → All (λ x. on (v x.guard) ≡ true → IsLeft packet v x e) exits → SomeEnds v exits
+        → slice_index (with_bytes v packet.frame more) i ≡ slice_index e.frame i
+    by packet v e i (inl l) m is run left some =
+        ap (λ (f : List ℕ). slice_index f i) (set packet v) ∙ get_or-set_other (with_bytes v packet.frame frame) n i (v c) 0 (λ x. absurd (omega (arith, l, x)))
+        ∙ so_far.each packet v e i l is (made.grows.run packet v run) left some
+    by packet v e i (inr l) m is run left some =
+        let k : n ≡ i = omega (arith, l, m) in
+        subst (λ (j : ℕ). slice_index (with_bytes v packet.frame more) j ≡ slice_index e.frame j) k
+        (ap (λ (f : List ℕ). slice_index f n) (set packet v) ∙ new_byte packet v e run left some (cases_lt n (length (with_bytes v packet.frame frame))))
+
+-- ---- the answer
+
+pub answered : (a b c d : List CellView) (exits : List Exit) (window : List ℕ) (verdict target : ℕ) (frame : List FrameByte) → Outputs a b exits Verdict verdict → Outputs b c exits Target target → AreFrameBytes c d exits window 256 frame
+    → Answers a d exits verdict target frame
+answered a b c d exits window verdict target frame first second third = record {
+  grows = grown first.grows (grown second.grows third.grows);
+  leaves = λ packet v e is run left some. (
+    first.value packet v e.verdict (second.grows.run packet v (third.grows.run packet v run)) some (λ i x l o. sym (left i x l o).verdict),
+    second.value packet v e.target (third.grows.run packet v run) some (λ i x l o. sym (left i x l o).target),
+    same_number_lists (with_bytes v packet.frame frame) e.frame (third.size packet v ∙ sym (left_at packet v exits e some left).length_is)
+        (λ i l. at packet v e is run left some i (cases_lt i 256)),
+  );
+}
+  where
+    at : (packet : PacketIn) (v : ℕ → ℕ) (e : Leaves) → IsPacket packet → IsRun packet d v → All (λ x. on (v x.guard) ≡ true → IsLeft packet v x e) exits → SomeEnds v exits → (i : ℕ) → (i < 256) ⊎ (256 ≤ i)
+        → slice_index (with_bytes v packet.frame frame) i ≡ slice_index e.frame i
+    at packet v e is run left some i (inl l) = third.each packet v e i l is run left some
+    at packet v e is run left some i (inr l) = third.rest packet v i l ∙ sym ((left_at packet v exits e some left).rest i l)

@@ -1,0 +1,130 @@
+-- Cells of all nodes, and of the answer, compute the runs of a program.
+use Rattle.std.proofs.Common.{◌≡◌, ℕ, zero, suc, ◌+◌, ◌≤◌, ◌==◌, true, List, [], length, get_or, refl, sym, ◌∙◌, ap, subst, arith}
+use Rattle.std.specs.Prelude.{All}
+use Rattle.std.proofs.lemmas.Bool.Decides.{nat_tests}
+use Rattle.std.proofs.lemmas.List.{append-nil}
+use Rattle.std.proofs.lemmas.List.Elements.{All-filter, filter_passes}
+use Rattle.xdp_maps.specs.State.{MapState, IsSound}
+use Rattle.xdp_machine.specs.State.{PacketIn, start}
+use Rattle.xdp_machine.specs.Runs.{Leaves}
+use Rattle.xdp_machine.specs.Touched as machine
+use Rattle.cell_core.specs.declared.program.FrameByte.{FrameByte}
+use Rattle.cell_core.specs.Cells.{CellView, IsRun, bit, on}
+use Rattle.cell_core.specs.Sites.{SiteView, ProgramView, IsCellRun, after, leaves, touched, with_bytes}
+use Rattle.held_cells.specs.declared.held.Held.{Held}
+use Rattle.held_cells.specs.Paths.{GraphView, Stage, At, Over, Nowhere, before, stands_at, maps_in}
+use Rattle.held_cells.specs.Steps.{IsGood, IsLeft}
+use Rattle.held_cells.specs.Law.{IsPacket, AreAnswered, IsRight, made_at, sites_below, sites_at, Computes}
+use Rattle.predicate_core.specs.Making.{Making, IsSoFar, IsCase, ReadsStay, Answers, held_in}
+use Rattle.predicate_core.specs.Laws.{WholesCompute}
+use Rattle.predicate_core.proofs.SiteLists.{below_all, below_none}
+use Rattle.predicate_core.proofs.Cases.{read_older, case_fewer}
+use Rattle.predicate_core.proofs.Tracing.{Comes, comes_first, comes_more}
+
+module _ (g : GraphView) (hs : List Held) (t : Making) (cells : List CellView) (verdict target : ℕ) (frame : List FrameByte)
+    (so_far : IsSoFar g (length g.nodes) hs t) (answers : Answers t.cells cells t.exits verdict target frame) (stay : ReadsStay t.cells cells t.sites) where
+  abbrev pub p : ProgramView
+  p = record { cells = cells; nodes = t.nodes; sites = t.sites; verdict = verdict; target = target; frame = frame }
+
+  case_of : (packet : PacketIn) (maps : MapState) (v : ℕ → ℕ) (k : ℕ) → IsPacket packet → IsSound maps → maps.decls ≡ g.decls → IsRun packet cells v → AreAnswered maps p v k → IsCase g t packet maps v k
+  case_of packet maps v k is sound decls ran answered = record {
+    is_packet = is;
+    sound = sound;
+    decls = decls;
+    run = answers.grows.run packet v ran;
+    read = read_older maps t.cells cells t.sites t.sites [] v k k stay answers.grows.longer (sym (append-nil t.sites)) (omega arith) (λ c j in_cells in_sites reads low o. answered c j in_cells reads low o);
+  }
+
+  right : (packet : PacketIn) (maps : MapState) (v : ℕ → ℕ) (k : ℕ) → IsPacket packet → IsSound maps → maps.decls ≡ g.decls → IsRun packet cells v
+      → k ≤ length g.nodes → AreAnswered maps p v k → IsRight g p t.pointers (held_in hs) packet maps v k
+  right packet maps v k is sound decls ran l answered = record {
+    guards = λ j b inside. so_far.right.guards packet maps v j inside (case_fewer g t packet maps v j k b case);
+    holds = λ j m b inside at. so_far.right.holds packet maps v j m inside (case_fewer g t packet maps v j k b case) at;
+    sites = λ j m b at. so_far.right.does packet maps v j m (omega (arith, b, l)) (case_fewer g t packet maps v (j + 1) k (omega (arith, b)) case) at;
+    maps_are = so_far.right.maps_are packet maps v k l case;
+  }
+    where
+      case : IsCase g t packet maps v k
+      case = case_of packet maps v k is sound decls ran answered
+
+  -- the run comes by all nodes
+  comes : (packet : PacketIn) (maps : MapState) (v : ℕ → ℕ) (k : ℕ) → k ≤ length g.nodes → IsCase g t packet maps v (length g.nodes)
+      → Comes g.code (start packet maps) (touched v maps (sites_below k t.sites)) (before g packet maps k)
+  comes packet maps v zero l case = subst (λ (ss : List SiteView). Comes g.code (start packet maps) (touched v maps ss) (At 0 (start packet maps))) (sym (below_none t.sites)) (comes_first g.code (start packet maps))
+  comes packet maps v (suc k) l case =
+      let next : k + 1 ≡ suc k = omega arith in
+      subst (λ (ss : List SiteView). Comes g.code (start packet maps) (touched v maps ss) (before g packet maps (suc k)))
+      (sym (ap (λ (j : ℕ). sites_below j t.sites) (sym next) ∙ so_far.laid.split k (omega (arith, l))))
+      (comes_more g v k maps (before g packet maps k) (sites_below k t.sites) (sites_at k t.sites)
+      (so_far.right.maps_are packet maps v k (omega (arith, l)) (case_fewer g t packet maps v k (length g.nodes) (omega (arith, l)) case))
+      guarded
+      (λ m at. so_far.right.does packet maps v k m (omega (arith, l)) (case_fewer g t packet maps v (k + 1) (length g.nodes) (omega (arith, l)) case) at)
+      (start packet maps) (comes packet maps v k (omega (arith, l)) case))
+    where
+      own : (j : ℕ) → (j == k) ≡ true → j ≡ k
+      own j h = grind (arith, nat_tests)
+
+      guarded : All (λ x. v x.guard ≡ bit (stands_at k (before g packet maps k))) (sites_at k t.sites)
+      guarded i d b =
+          ap v (All-filter (λ s. s.node == k) (λ s. s.guard ≡ (made_at t.nodes s.node).guard) t.sites so_far.laid.guards i d b
+          ∙ ap (λ (j : ℕ). (made_at t.nodes j).guard) (own (get_or (sites_at k t.sites) i d).node (filter_passes (λ s. s.node == k) t.sites i d b)))
+          ∙ so_far.right.guards packet maps v k (omega (arith, l)) (case_fewer g t packet maps v k (length g.nodes) (omega (arith, l)) case)
+
+  ends : (packet : PacketIn) (maps : MapState) (v : ℕ → ℕ) → IsPacket packet → IsSound maps → maps.decls ≡ g.decls → IsCellRun packet maps p v
+      → machine.Touches g.code packet maps (leaves v packet maps p) (touched v maps t.sites)
+  ends packet maps v is sound decls cell_run =
+      by (before g packet maps (length g.nodes)) refl (so_far.right.good packet maps v case) (comes packet maps v (length g.nodes) (omega arith) case)
+      (so_far.right.maps_are packet maps v (length g.nodes) (omega arith) case)
+    where
+      ran : IsRun packet cells v
+      ran = record { each = λ k l. (cell_run.each k l).solves }
+
+      case : IsCase g t packet maps v (length g.nodes)
+      case = case_of packet maps v (length g.nodes) is sound decls ran (λ c j l reads low o. (cell_run.each c l).answers j reads o)
+
+      all : sites_below (length g.nodes) t.sites ≡ t.sites
+      all = below_all (length g.nodes) t.sites so_far.laid.low
+
+      by : (s : Stage) → before g packet maps (length g.nodes) ≡ s → IsGood g packet v t.pointers (length g.nodes) t.ways t.exits s
+          → Comes g.code (start packet maps) (touched v maps (sites_below (length g.nodes) t.sites)) s → after v maps (sites_below (length g.nodes) t.sites) ≡ maps_in maps s
+          → machine.Touches g.code packet maps (leaves v packet maps p) (touched v maps t.sites)
+      by (At n m) e good c same = let a = good.ahead n m refl in absurd (omega (arith, a.0, a.1))
+      by Nowhere e good c same = absurd (good.somewhere refl)
+      by (Over e) at good c same =
+          let x = good.ended e refl in
+          let l = answers.leaves packet v e is ran left x in
+          let maps_are : after v maps t.sites ≡ e.maps = ap (after v maps) (sym all) ∙ same in
+          let left_is : leaves v packet maps p ≡ e =
+          ap (λ (n : ℕ). record { verdict = n; target = v target; frame = with_bytes v packet.frame frame; maps = after v maps t.sites }) l.0
+          ∙ ap (λ (n : ℕ). record { verdict = e.verdict; target = n; frame = with_bytes v packet.frame frame; maps = after v maps t.sites }) l.1
+          ∙ ap (λ (f : List ℕ). record { verdict = e.verdict; target = e.target; frame = f; maps = after v maps t.sites }) l.2
+          ∙ ap (λ (ms : MapState). record { verdict = e.verdict; target = e.target; frame = e.frame; maps = ms }) maps_are in
+          subst (λ (y : Leaves). machine.Touches g.code packet maps y (touched v maps t.sites)) (sym left_is)
+          (c.0, c.1, c.2 ∙ ap (touched v maps) all)
+        where
+          same_end : (a b : Leaves) → Over a ≡ Over b → a ≡ b
+          same_end a b h = cc
+
+          left : All (λ x. on (v x.guard) ≡ true → IsLeft packet v x e) t.exits
+          left i d l o = let y = good.ends i d l o in subst (λ (b : Leaves). IsLeft packet v (get_or t.exits i d) b) (sym (same_end e y.0 y.1)) y.2
+
+  pub whole : Computes g p
+  whole = record {
+    formed = answers.grows.formed so_far.formed;
+    laid = record {
+      count = so_far.laid.count;
+      places = so_far.laid.places;
+      inside = λ k l. let i = so_far.laid.inside k (omega (arith, l, so_far.laid.count)) in (i.0, i.1, omega (arith, i.2, answers.grows.longer));
+      ascending = λ k l. so_far.laid.ascending k (omega (arith, l, so_far.laid.count));
+      sites = so_far.laid.sites;
+      guards = so_far.laid.guards;
+      below = so_far.laid.below;
+    };
+    pointers = t.pointers;
+    held = held_in hs;
+    right = right;
+    ends = ends;
+  }
+
+pub wholes_compute : WholesCompute
+wholes_compute g hs t cells verdict target frame so_far answers stay = whole g hs t cells verdict target frame so_far answers stay

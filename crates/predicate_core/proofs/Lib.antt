@@ -1,0 +1,11 @@
+pub mod Later
+pub mod SiteLists
+pub mod Cases
+pub mod NodeLayout
+pub mod Following
+pub mod Tracing
+pub mod Computing
+pub mod Opened
+pub mod Closed
+pub mod Arrived
+pub mod Fed

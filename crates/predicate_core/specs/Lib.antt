@@ -1,0 +1,6 @@
+pub mod Making
+pub mod Laws
+pub mod Opening
+pub mod Closing
+pub mod Arriving
+pub mod Feeding

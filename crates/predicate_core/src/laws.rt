@@ -1,0 +1,29 @@
+//! What holds of cells that are made node by node. Each function's contract is a law; it computes nothing.
+
+ghost use Rattle.predicate_core.specs.Laws.{NodesFollow, WholesCompute};
+ghost use Rattle.predicate_core.specs.Opening.{OpensFollow};
+ghost use Rattle.predicate_core.specs.Feeding.{SoundGraphsFeed};
+
+/// With the edge to the first node alone things are right as far as it.
+pub fn opens_follow()
+    ensures { OpensFollow }
+{
+    kind_core::laws::start_is_described();
+    xdp_machine::laws::starts_in_range();
+}
+
+/// A node more: where things were right as far as it, they are right as far as the next one.
+pub fn nodes_follow()
+    ensures { NodesFollow }
+{}
+
+/// Once all nodes are done, and the cells of the answer are there, the cells compute the runs of the program, for every prefix of its nodes.
+pub fn wholes_compute()
+    ensures { WholesCompute }
+{}
+
+/// In a graph as unfolding gives it an edge leads to each node when its turn comes, and what is known there says no more than what is known on
+/// the edge.
+pub fn sound_graphs_feed()
+    ensures { SoundGraphsFeed }
+{}
