@@ -67,12 +67,7 @@ pub fn found(cells: &mut Vec<Cell>, site: u32, ins: &[u32]) -> Result<u32, Alloc
 }
 
 /// Adds a cell of so many bits of what the operation of a site answers. Its inputs count for rows alone.
-pub fn answer(
-    cells: &mut Vec<Cell>,
-    site: u32,
-    ins: &[u32],
-    width: u32,
-) -> Result<u32, AllocError>
+pub fn answer(cells: &mut Vec<Cell>, site: u32, ins: &[u32], width: u32) -> Result<u32, AllocError>
     requires earlier { All (λ i. i < length (seen cells.old.items)) ins.now }
     requires width { width ≤ 64 }
     ensures adds { IfOk result (λ c. Adds (seen cells.old.items) (seen cells.new.items) c (record { op = Operator.Answer site; ins = ins.now; width = width; from = 0 })) }
