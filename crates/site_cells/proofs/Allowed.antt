@@ -1,8 +1,10 @@
 -- What is known of instructions on maps where they are allowed.
-use Rattle.std.proofs.Common.{◌≡◌, ℕ, ◌<◌, ℤ, pos, ◌+ℤ◌, nat_lt, if◌then◌else◌, Bool, true, false, Result, Ok, Err, IfOk, List, length, refl, sym, ◌∙◌, ap, subst, arith}
+use Rattle.std.proofs.Common.{◌≡◌, ℕ, ◌*◌, ◌<◌, ℤ, pos, ◌+ℤ◌, nat_lt, if◌then◌else◌, Bool, true, false, Result, Ok, Err, IfOk, List, length, refl, sym, ◌∙◌, ap, subst, arith}
 use Rattle.std.proofs.lemmas.Bool.Decides.{nat_tests}
 use Rattle.bpf_isa.specs.declared.operation.Size.{Size}
-use Rattle.bpf_isa.specs.declared.operation.Op.TheVariants.{Call, Load}
+use Rattle.bpf_isa.specs.declared.operation.Op.TheVariants.{Call, Load, LoadSigned}
+use Rattle.bpf_isa.specs.declared.operation.Width.TheVariants.{Bits64}
+use Rattle.kind_core.specs.Numbers.{number_extended}
 use Rattle.bpf_isa.specs.declared.instruction.Insn.{Insn}
 use Rattle.xdp_maps.specs.declared.decl.MapDecl.{MapDecl}
 use Rattle.xdp_machine.specs.Memory.{bytes_in}
@@ -94,6 +96,26 @@ load_becomes decls k i size q o op base allowed node is_ref taken =
     ok : (r : _) → verdict r ≡ passed → (e : _) × (r ≡ Ok e)
     ok (Ok e) h = (e, refl)
     ok (Err w) h = absurd (cc)
+
+-- the same where the sign is extended
+pub signed_becomes : (decls : List MapDecl) (k : Kinds) (i : Insn) (size : Size) (q o : ℕ) → i.op ≡ LoadSigned size → kinds.register k i.src ≡ Entry q o → verdict (effect_of decls k i) ≡ passed
+    → (node : ℕ) (is_ref taken : Bool) → transferred decls k i node is_ref taken ≡ with_register k i.dst (Num Unknown)
+unfolding effect_of access.loaded_signed
+signed_becomes decls k i size q o op base allowed node is_ref taken =
+    let e = ok (effect_of decls k i) allowed in
+    let b = bind_passed (profile.profiled i k) (λ u. effect_as decls k i i.op) e.0 e.1 in
+    let r = bind_passed (access.loaded_signed decls k (kinds.register k i.src) i.offset size) _ e.0 (sym (ap (effect_as decls k i) op) ∙ b.2) in
+    let l = bind_passed (access.loaded decls k (Entry q o) i.offset size) _ r.0 (sym (ap (λ (x : Kind). access.loaded_signed decls k x i.offset size) base) ∙ r.1) in
+    let found : Num Unknown ≡ l.0 = subst (λ (w : Result Kind Why). IfOk w (λ x. Num Unknown ≡ x)) l.1 (entry_kind decls k q o i.offset size) in
+    let same : Ok (Num Unknown) ≡ Ok r.0 = ap (λ (x : Kind). tests.number_in x >>= (λ n. Ok (Num (number_extended Bits64 (8 * bytes_in size) n)))) found ∙ l.2 in
+    ap (changed_if node is_ref taken k) (e.1 ∙ sym r.2) ∙ ap (with_register k i.dst) (sym (ok_same same))
+  where
+    ok : (r : _) → verdict r ≡ passed → (e : _) × (r ≡ Ok e)
+    ok (Ok e) h = (e, refl)
+    ok (Err w) h = absurd (cc)
+
+    ok_same : {a b : Kind} → ◌≡◌ {A = Result Kind Why} (Ok a) (Ok b) → a ≡ b
+    ok_same h = cc
 
 -- ---- stores
 

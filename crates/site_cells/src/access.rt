@@ -21,12 +21,13 @@ use crate::here::Here;
 use crate::lookup::inputs;
 use crate::numbers::number_in;
 use crate::sizes::are_whole;
-use bpf_isa::{Insn, Op, Size};
+use bpf_isa::{Insn, Op, Size, Width};
 use cell_core::cell::{Cell, Cells};
 use cell_core::site::{Act, Site};
 use held_cells::held::{Held, Pointer};
 use kind_core::{Kind, Kinds};
 use operator_cells::cells::{answer, constant};
+use operator_cells::slicing::extend;
 use std::alloc::AllocError;
 use xdp_maps::decl::MapDecl;
 use xdp_state::memory::{aligned, bytes_in};
@@ -122,6 +123,38 @@ pub fn operate_load(
         let pointer = &pointers[held.registers[insn.src as usize] as usize];
         let width = 8 * bytes_in(size) as u32;
         let c = access_answer(cells, sites, here, map, act, pointer, &[], width)?;
+        held.registers[insn.dst as usize] = c;
+    }
+    Ok(())
+}
+
+/// A load that extends the sign.
+pub fn operate_load_signed(
+    cells: &mut Vec<Cell>,
+    pointers: &[Pointer],
+    sites: &mut Vec<Site>,
+    held: &mut Held,
+    kinds: &Kinds,
+    insn: &Insn,
+    decls: &[MapDecl],
+    here: Here,
+    size: Size,
+) -> Result<(), AllocError>
+    requires insn { IsInsn insn.now }
+    requires op { insn.now.op ≡ Op.LoadSigned size }
+    requires base { (q : ℕ) × (o : ℕ) × (kind.register kinds.now insn.now.src ≡ kind_is.Entry q o) }
+    requires values { (q : ℕ) → kind.value_bytes decls.now q ≤ 64 }
+    requires pending { here.pending < length (seen cells.old.items) }
+    requires inside { AreInside decls.now (length (seen cells.old.items)) (pointed pointers.now) held.old kinds.now }
+    ensures { (is_ref taken : Bool) → verdict (effect_of decls.now kinds.now insn.now) ≡ passed → OnOk result (Operates decls.now insn.now here.node here.guard is_ref taken kinds.now held.old held.new (seen cells.old.items) (seen cells.new.items) (pointed pointers.now) (pointed pointers.now) (sited sites.old.items) (sited sites.new.items)) }
+{
+    are_whole(held, kinds);
+    if let Kind::Entry(map, o) = kinds.registers[insn.src as usize] {
+        let act = Act::Load(place(decls, map, o, insn.offset, size), size);
+        let pointer = &pointers[held.registers[insn.src as usize] as usize];
+        let count = 8 * bytes_in(size) as u32;
+        let answer = access_answer(cells, sites, here, map, act, pointer, &[], count)?;
+        let c = extend(cells, Width::Bits64, count, answer)?;
         held.registers[insn.dst as usize] = c;
     }
     Ok(())
