@@ -37,15 +37,16 @@ window_there n window a b whole there =
 part_at : (xs : List ℕ) (a n j : ℕ) → j < n → get_or (slice_range xs a (a + n)) j 0 ≡ get_or xs (a + j) 0
 part_at xs a n j h = let e : a + n - a ≡ n = omega arith in get_or-take (a + n - a) (drop a xs) j 0 (omega (arith, e, h)) ∙ get_or-drop a xs j 0
 
-part_long : (xs : List ℕ) (a n : ℕ) → a + n ≤ length xs → length (slice_range xs a (a + n)) ≡ n
-part_long xs a n h = omega (arith, length-take (a + n - a) (drop a xs), length-drop a xs, h)
+part_long : (xs : List ℕ) (a b : ℕ) → b ≤ length xs → length (slice_range xs a b) ≡ b - a
+part_long xs a b h = omega (arith, length-take (b - a) (drop a xs), length-drop a xs, h)
 
 -- cells of the window have the bytes of the frame
 window_is : (v : ℕ → ℕ) (frame window : List ℕ) (a n : ℕ) → a + n ≤ 256 → length window ≡ 256 → a + n ≤ length frame → ((i : ℕ) → i < 256 → slice_index frame i ≡ v (slice_index window i))
     → map_list v (slice_range window a (a + n)) ≡ slice_range frame a (a + n)
 window_is v frame window a n fits whole there same =
-    let long = part_long window a n (omega (arith, fits, whole)) in
-    ext_get_or 0 (map_list v (slice_range window a (a + n))) (slice_range frame a (a + n)) (length-map (slice_range window a (a + n)) v ∙ long ∙ sym (part_long frame a n there))
+    let long : length (slice_range window a (a + n)) ≡ n = omega (arith, part_long window a (a + n) (omega (arith, fits, whole))) in
+    let long_frame : length (slice_range frame a (a + n)) ≡ n = omega (arith, part_long frame a (a + n) there) in
+    ext_get_or 0 (map_list v (slice_range window a (a + n))) (slice_range frame a (a + n)) (length-map (slice_range window a (a + n)) v ∙ long ∙ sym long_frame)
     (λ j l. let below : j < n = omega (arith, l, length-map (slice_range window a (a + n)) v, long) in
     get_or-map v (slice_range window a (a + n)) j 0 0 (omega (arith, below, long)) ∙ ap v (part_at window a n j below) ∙ sym (same (a + j) (omega (arith, below, fits))) ∙ sym (part_at frame a n j below))
 
@@ -62,7 +63,7 @@ inside_at a n len b e = by (nat_le (a + n) len) e
 pub packet_region : (decls : List MapDecl) (ps : List PointerView) (node : ℕ) (k : Kinds) (h : Held) (old new : List CellView) (at count : ℕ) (part words : List ℕ) → length h.window ≡ 256 → at + count ≤ 256
     → part ≡ slice_range h.window at (at + count) → JoinsWords old new part words → HoldsRegion decls ps node k h old new (Packet at) count words
 packet_region decls ps node k h old new at count part words whole fits named joins =
-    let long : length part ≡ count = ap length named ∙ part_long h.window at count (omega (arith, fits, whole)) in
+    let long : length part ≡ count = omega (arith, ap length named, part_long h.window at (at + count) (omega (arith, fits, whole))) in
     record {
       grows = joins.grows;
       there = joins.there;
