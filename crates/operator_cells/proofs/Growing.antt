@@ -79,6 +79,7 @@ formed-new cells cell formed n = let e = new-cell cells cell in record {
 pub grows_one : (cells : List CellView) (cell : CellView) → IsNext cells cell → Grows cells (cells ++ cell ∷ [])
 grows_one cells cell n = record {
   longer = omega (arith, one-longer cells cell);
+  kept = old-cell cells cell;
   formed = λ formed. record { each = λ k h. by formed k (cases_lt k (length cells)) h };
   run = λ packet v r. record { each = λ k h. subst (λ (c : CellView). Solves_as (is_read c.op) packet v c (v k)) (old-cell cells cell k h) (r.each k (omega (arith, one-longer cells cell, h))) };
 }
@@ -100,6 +101,9 @@ makes_one cells cell n plain = record {
     solved : (packet : PacketIn) (v : ℕ → ℕ) → Solves_as (is_read cell.op) packet v cell (v (length cells)) → v (length cells) ≡ value packet v cell
     solved packet v h = rw plain at h
 
+pub added_grows : (old new : List CellView) (c : ℕ) (cell : CellView) → Adds old new c cell → IsNext old cell → Grows old new
+added_grows old new c cell adds n = subst (λ (cells : List CellView). Grows old cells) (sym adds.is) (grows_one old cell n)
+
 -- a cell that was added
 pub added_makes : (old new : List CellView) (c : ℕ) (cell : CellView) → Adds old new c cell → IsNext old cell → is_read cell.op ≡ false
     → Makes old new c (operated cell.op cell.ins cell.from cell.width)
@@ -109,12 +113,13 @@ added_makes old new c cell adds n plain = subst (λ (j : ℕ). Makes old new j (
 pub grown : (a b c : List CellView) → Grows a b → Grows b c → Grows a c
 grown a b c g h = record {
   longer = omega (arith, g.longer, h.longer);
+  kept = λ k l. h.kept k (omega (arith, l, g.longer)) ∙ g.kept k l;
   formed = λ f. h.formed (g.formed f);
   run = λ packet v r. g.run packet v (h.run packet v r);
 }
 
 pub grown_none : (a : List CellView) → Grows a a
-grown_none a = record { longer = omega arith; formed = λ f. f; run = λ packet v r. r }
+grown_none a = record { longer = omega arith; kept = λ k l. refl; formed = λ f. f; run = λ packet v r. r }
 
 pub seen_more : (cells : List Cell) (x : Cell) → seen (cells ++ x ∷ []) ≡ seen cells ++ cell_of x ∷ []
 unfolding seen

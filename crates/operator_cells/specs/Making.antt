@@ -6,7 +6,7 @@ use Rattle.xdp_machine.specs.State.{PacketIn}
 use Rattle.cell_core.specs.declared.cell.Cell.{Cell}
 use Rattle.cell_core.specs.declared.operator.Operator.{Operator}
 use Rattle.cell_core.specs.declared.operator.Operator.TheVariants as op
-use Rattle.cell_core.specs.Cells.{CellView, IsRun, number, bits_from}
+use Rattle.cell_core.specs.Cells.{CellView, IsRun, cell_at, number, bits_from}
 use Rattle.cell_core.specs.Formed.{AreFormed}
 use Rattle.cell_core.specs.View.{cell_of}
 
@@ -22,6 +22,7 @@ pub record Adds (old new : List CellView) (c : ℕ) (cell : CellView) : Type 0 w
 -- More cells: those that were there stay, and keep to what cells keep to; values of all are values of those.
 pub record Grows (old new : List CellView) : Type 0 where
   pub longer : length old ≤ length new
+  pub kept : (k : ℕ) → k < length old → cell_at new k ≡ cell_at old k
   pub formed : AreFormed old → AreFormed new
   pub run : (packet : PacketIn) (v : ℕ → ℕ) → IsRun packet new v → IsRun packet old v
 

@@ -1,0 +1,190 @@
+-- What is known of instructions on maps where they are allowed.
+use Rattle.std.proofs.Common.{◌≡◌, ℕ, ◌*◌, ◌<◌, ℤ, pos, ◌+ℤ◌, nat_lt, if◌then◌else◌, Bool, true, false, Result, Ok, Err, IfOk, List, length, refl, sym, ◌∙◌, ap, subst, arith}
+use Rattle.std.proofs.lemmas.Bool.Decides.{nat_tests}
+use Rattle.bpf_isa.specs.declared.operation.Size.{Size}
+use Rattle.bpf_isa.specs.declared.operation.Op.TheVariants.{Call, Load, LoadSigned}
+use Rattle.bpf_isa.specs.declared.operation.Width.TheVariants.{Bits64}
+use Rattle.kind_core.specs.Numbers.{number_extended}
+use Rattle.bpf_isa.specs.declared.instruction.Insn.{Insn}
+use Rattle.xdp_maps.specs.declared.decl.MapDecl.{MapDecl}
+use Rattle.xdp_machine.specs.Memory.{bytes_in}
+use Rattle.kind_core.specs.declared.number.Number.{Number}
+use Rattle.kind_core.specs.declared.number.Number.TheVariants.{Unknown}
+use Rattle.kind_core.specs.declared.kind.Kind.{Kind}
+use Rattle.kind_core.specs.declared.kind.Kind.TheVariants.{Num, MapRef, Maybe, Entry}
+use Rattle.kind_core.specs.declared.kind.Kinds.{Kinds}
+use Rattle.kind_core.specs.declared.why.Why.{Why}
+use Rattle.kind_core.specs.declared.why.Why.TheVariants as why
+use Rattle.kind_core.specs.Kinds as kinds
+use Rattle.kind_core.specs.Kinds.{key_bytes, value_bytes, with_register}
+use Rattle.kind_core.specs.Calls as calls
+use Rattle.kind_core.specs.Calls.{declared, fits_argument, called, helper_of}
+use Rattle.kind_core.specs.Access as access
+use Rattle.kind_core.specs.Places as places
+use Rattle.kind_core.specs.Profile as profile
+use Rattle.kind_core.specs.Tests as tests
+use Rattle.kind_core.specs.Tests.{◌>>=◌, passed}
+use Rattle.kind_core.specs.Effects.{effect_of, effect_as, verdict}
+use Rattle.kind_core.specs.Edges.{transferred, changed, changed_if}
+use Rattle.kind_core.proofs.TestLaws.{bind_passed}
+
+is_map : (decls : List MapDecl) (x : Kind) {q : ℕ} → declared decls x ≡ Ok q → (x ≡ MapRef q) × (q < length decls)
+is_map decls (MapRef r) e = by (nat_lt r (length decls)) refl e
+  where
+    by : {q : ℕ} (t : Bool) → nat_lt r (length decls) ≡ t → (if t then Ok r else Err why.Argument) ≡ Ok q → (MapRef r ≡ MapRef q) × (q < length decls)
+    by {q} true t f = let same : r ≡ q = cc in (ap MapRef same, subst (λ (s : ℕ). s < length decls) same (grind (arith, nat_tests)))
+    by {q} false t f = absurd (cc)
+is_map decls x e = absurd (cc)
+
+-- a call on the map in R1, under the key that R2 leads to
+pub map_and_key : {E : Type 0} (decls : List MapDecl) (k : Kinds) (rest : Result E Why) (e : E)
+    → ((declared decls (kinds.register k 1) >>= (λ q. passed)) >>= (λ a. (declared decls (kinds.register k 1) >>= (λ q. calls.region k (key_bytes decls q) (kinds.register k 2))) >>= (λ b. rest))) ≡ Ok e
+    → (q : ℕ) × (kinds.register k 1 ≡ MapRef q) × (q < length decls) × (declared decls (kinds.register k 1) ≡ Ok q) × (calls.region k (key_bytes decls q) (kinds.register k 2) ≡ passed) × (rest ≡ Ok e)
+map_and_key decls k rest e h =
+    let one = bind_passed (declared decls (kinds.register k 1) >>= (λ q. passed)) _ e h in
+    let d = bind_passed (declared decls (kinds.register k 1)) (λ q. passed) one.0 one.1 in
+    let two = bind_passed (declared decls (kinds.register k 1) >>= (λ q. calls.region k (key_bytes decls q) (kinds.register k 2))) (λ b. rest) e one.2 in
+    let r = bind_passed (declared decls (kinds.register k 1)) (λ q. calls.region k (key_bytes decls q) (kinds.register k 2)) two.0 two.1 in
+    let m = is_map decls (kinds.register k 1) r.1 in
+    (r.0, m.0, m.1, r.1, r.2, two.2)
+
+pub allowed_call : (decls : List MapDecl) (k : Kinds) (i : Insn) (id : ℤ) → i.op ≡ Call → i.imm ≡ id → verdict (effect_of decls k i) ≡ passed
+    → (e : _) × (called decls k id (helper_of id) ≡ Ok e) × ((node : ℕ) (is_ref taken : Bool) → transferred decls k i node is_ref taken ≡ changed_if node is_ref taken k (Ok e))
+unfolding effect_of
+allowed_call decls k i id op imm allowed =
+    let e = ok (effect_of decls k i) allowed in
+    let b = bind_passed (profile.profiled i k) (λ u. effect_as decls k i i.op) e.0 e.1 in
+    (e.0, sym (ap (effect_as decls k i) op ∙ ap (λ (z : ℤ). called decls k z (helper_of z)) imm) ∙ b.2, λ node is_ref taken. ap (changed_if node is_ref taken k) e.1)
+  where
+    ok : (r : _) → verdict r ≡ passed → (e : _) × (r ≡ Ok e)
+    ok (Ok e) h = (e, refl)
+    ok (Err w) h = absurd (cc)
+
+pub lookup_allowed : (decls : List MapDecl) (k : Kinds) (i : Insn) → i.op ≡ Call → i.imm ≡ pos 1 → verdict (effect_of decls k i) ≡ passed
+    → (q : ℕ) × (kinds.register k 1 ≡ MapRef q) × (q < length decls) × (calls.region k (key_bytes decls q) (kinds.register k 2) ≡ passed)
+    × ((node : ℕ) (is_ref taken : Bool) → transferred decls k i node is_ref taken ≡ kinds.answering (Maybe q node) k)
+lookup_allowed decls k i op imm allowed =
+    let e = allowed_call decls k i (pos 1) op imm allowed in
+    let f = map_and_key decls k _ e.0 e.1 in
+    let a = bind_passed (declared decls (kinds.register k 1)) _ e.0 f.5 in
+    let same : Ok f.0 ≡ Ok a.0 = sym f.3 ∙ a.1 in
+    let q : f.0 ≡ a.0 = cc in
+    (f.0, f.1, f.2, f.4, λ node is_ref taken. e.2 node is_ref taken ∙ ap (changed_if node is_ref taken k) (sym a.2) ∙ ap (λ (p : ℕ). kinds.answering (Maybe p node) k) (sym q))
+
+-- ---- loads
+
+-- what is found in an entry
+entry_kind : (decls : List MapDecl) (k : Kinds) (q o : ℕ) (z : ℤ) (size : Size) → IfOk (access.loaded decls k (Entry q o) z size) (λ x. Num Unknown ≡ x)
+unfolding access.loaded
+entry_kind decls k q o z size = by (tests.aligned (pos o +ℤ z) (bytes_in size) (value_bytes decls q)) refl
+  where
+    by : (t : Result ℕ Why) → tests.aligned (pos o +ℤ z) (bytes_in size) (value_bytes decls q) ≡ t → IfOk (places.in_value decls q (pos o +ℤ z) size >>= (λ place. access.found k.slots size place)) (λ x. Num Unknown ≡ x)
+    by (Ok a) e = rw e refl
+    by (Err w) e = rw e tt
+
+-- where it is allowed, the destination gets a number
+pub load_becomes : (decls : List MapDecl) (k : Kinds) (i : Insn) (size : Size) (q o : ℕ) → i.op ≡ Load size → kinds.register k i.src ≡ Entry q o → verdict (effect_of decls k i) ≡ passed
+    → (node : ℕ) (is_ref taken : Bool) → transferred decls k i node is_ref taken ≡ with_register k i.dst (Num Unknown)
+unfolding effect_of access.loaded_plain
+load_becomes decls k i size q o op base allowed node is_ref taken =
+    let e = ok (effect_of decls k i) allowed in
+    let b = bind_passed (profile.profiled i k) (λ u. effect_as decls k i i.op) e.0 e.1 in
+    let r = bind_passed (access.loaded_plain decls k (kinds.register k i.src) i.offset size) _ e.0 (sym (ap (effect_as decls k i) op) ∙ b.2) in
+    let l : access.loaded decls k (Entry q o) i.offset size ≡ Ok r.0 = sym (ap (λ (x : Kind). access.loaded_plain decls k x i.offset size) base) ∙ r.1 in
+    ap (changed_if node is_ref taken k) (e.1 ∙ sym r.2) ∙ ap (with_register k i.dst) (sym (subst (λ (w : Result Kind Why). IfOk w (λ x. Num Unknown ≡ x)) l (entry_kind decls k q o i.offset size)))
+  where
+    ok : (r : _) → verdict r ≡ passed → (e : _) × (r ≡ Ok e)
+    ok (Ok e) h = (e, refl)
+    ok (Err w) h = absurd (cc)
+
+-- the same where the sign is extended
+pub signed_becomes : (decls : List MapDecl) (k : Kinds) (i : Insn) (size : Size) (q o : ℕ) → i.op ≡ LoadSigned size → kinds.register k i.src ≡ Entry q o → verdict (effect_of decls k i) ≡ passed
+    → (node : ℕ) (is_ref taken : Bool) → transferred decls k i node is_ref taken ≡ with_register k i.dst (Num Unknown)
+unfolding effect_of access.loaded_signed
+signed_becomes decls k i size q o op base allowed node is_ref taken =
+    let e = ok (effect_of decls k i) allowed in
+    let b = bind_passed (profile.profiled i k) (λ u. effect_as decls k i i.op) e.0 e.1 in
+    let r = bind_passed (access.loaded_signed decls k (kinds.register k i.src) i.offset size) _ e.0 (sym (ap (effect_as decls k i) op) ∙ b.2) in
+    let l = bind_passed (access.loaded decls k (Entry q o) i.offset size) _ r.0 (sym (ap (λ (x : Kind). access.loaded_signed decls k x i.offset size) base) ∙ r.1) in
+    let found : Num Unknown ≡ l.0 = subst (λ (w : Result Kind Why). IfOk w (λ x. Num Unknown ≡ x)) l.1 (entry_kind decls k q o i.offset size) in
+    let same : Ok (Num Unknown) ≡ Ok r.0 = ap (λ (x : Kind). tests.number_in x >>= (λ n. Ok (Num (number_extended Bits64 (8 * bytes_in size) n)))) found ∙ l.2 in
+    ap (changed_if node is_ref taken k) (e.1 ∙ sym r.2) ∙ ap (with_register k i.dst) (sym (ok_same same))
+  where
+    ok : (r : _) → verdict r ≡ passed → (e : _) × (r ≡ Ok e)
+    ok (Ok e) h = (e, refl)
+    ok (Err w) h = absurd (cc)
+
+    ok_same : {a b : Kind} → ◌≡◌ {A = Result Kind Why} (Ok a) (Ok b) → a ≡ b
+    ok_same h = cc
+
+-- ---- stores
+
+entry_store : (decls : List MapDecl) (k : Kinds) (q o : ℕ) (z : ℤ) (size : Size) (x : Kind)
+    → IfOk (access.stored decls k (Entry q o) z size x) (λ e. (n : Number) × (x ≡ Num n) × ((node : ℕ) (is_ref taken : Bool) → changed node is_ref taken k e ≡ k))
+unfolding access.stored
+entry_store decls k q o z size x = by (tests.aligned (pos o +ℤ z) (bytes_in size) (value_bytes decls q)) x refl
+  where
+    by : (t : Result ℕ Why) (y : Kind) → tests.aligned (pos o +ℤ z) (bytes_in size) (value_bytes decls q) ≡ t
+        → IfOk (places.in_value decls q (pos o +ℤ z) size >>= (λ place. access.stored_at k.slots size y place)) (λ e. (n : Number) × (y ≡ Num n) × ((node : ℕ) (is_ref taken : Bool) → changed node is_ref taken k e ≡ k))
+    by (Ok a) (Num n) e = rw e (n, refl, λ node is_ref taken. refl)
+    by (Ok a) y e = rw e tt
+    by (Err w) y e = rw e tt
+
+-- where it is allowed, it is one of a number, and what is known stays
+pub store_allowed : (decls : List MapDecl) (k : Kinds) (i : Insn) (size : Size) (q o : ℕ) (x : Kind) → effect_as decls k i i.op ≡ access.stored decls k (kinds.register k i.dst) i.offset size x → kinds.register k i.dst ≡ Entry q o
+    → verdict (effect_of decls k i) ≡ passed → (n : Number) × (x ≡ Num n) × ((node : ℕ) (is_ref taken : Bool) → transferred decls k i node is_ref taken ≡ k)
+unfolding effect_of
+store_allowed decls k i size q o x is base allowed =
+    let e = ok (effect_of decls k i) allowed in
+    let b = bind_passed (profile.profiled i k) (λ u. effect_as decls k i i.op) e.0 e.1 in
+    let s : access.stored decls k (Entry q o) i.offset size x ≡ Ok e.0 = sym (ap (λ (y : Kind). access.stored decls k y i.offset size x) base) ∙ sym is ∙ b.2 in
+    let f = subst (λ (r : Result _ Why). IfOk r (λ y. (n : Number) × (x ≡ Num n) × ((node : ℕ) (is_ref taken : Bool) → changed node is_ref taken k y ≡ k))) s (entry_store decls k q o i.offset size x) in
+    (f.0, f.1, λ node is_ref taken. ap (changed_if node is_ref taken k) e.1 ∙ f.2 node is_ref taken)
+  where
+    ok : (r : _) → verdict r ≡ passed → (e : _) × (r ≡ Ok e)
+    ok (Ok e) h = (e, refl)
+    ok (Err w) h = absurd (cc)
+
+-- ---- changes
+
+pub delete_allowed : (decls : List MapDecl) (k : Kinds) (i : Insn) → i.op ≡ Call → i.imm ≡ pos 3 → verdict (effect_of decls k i) ≡ passed
+    → (q : ℕ) × (kinds.register k 1 ≡ MapRef q) × (calls.region k (key_bytes decls q) (kinds.register k 2) ≡ passed)
+    × ((node : ℕ) (is_ref taken : Bool) → transferred decls k i node is_ref taken ≡ changed node is_ref taken k (calls.change_of decls q))
+delete_allowed decls k i op imm allowed =
+    let e = allowed_call decls k i (pos 3) op imm allowed in
+    let f = map_and_key decls k _ e.0 e.1 in
+    let a = bind_passed (declared decls (kinds.register k 1)) _ e.0 f.5 in
+    let same : Ok f.0 ≡ Ok a.0 = sym f.3 ∙ a.1 in
+    let q : f.0 ≡ a.0 = cc in
+    (f.0, f.1, f.4, λ node is_ref taken. e.2 node is_ref taken ∙ ap (changed_if node is_ref taken k) (sym a.2) ∙ ap (λ (p : ℕ). changed node is_ref taken k (calls.change_of decls p)) (sym q))
+
+pub update_allowed : (decls : List MapDecl) (k : Kinds) (i : Insn) → i.op ≡ Call → i.imm ≡ pos 2 → verdict (effect_of decls k i) ≡ passed
+    → (q : ℕ) × (kinds.register k 1 ≡ MapRef q) × (calls.region k (key_bytes decls q) (kinds.register k 2) ≡ passed) × (calls.region k (value_bytes decls q) (kinds.register k 3) ≡ passed)
+    × (x : Number) × (kinds.register k 4 ≡ Num x) × ((node : ℕ) (is_ref taken : Bool) → transferred decls k i node is_ref taken ≡ changed node is_ref taken k (calls.change_of decls q))
+update_allowed decls k i op imm allowed =
+    let e = allowed_call decls k i (pos 2) op imm allowed in
+    let f = map_and_key decls k _ e.0 e.1 in
+    let v = bind_passed (declared decls (kinds.register k 1) >>= (λ q. calls.region k (value_bytes decls q) (kinds.register k 3))) _ e.0 f.5 in
+    let w = bind_passed (declared decls (kinds.register k 1)) (λ q. calls.region k (value_bytes decls q) (kinds.register k 3)) v.0 v.1 in
+    let p = bind_passed (calls.plain (kinds.register k 4)) _ e.0 v.2 in
+    let a = bind_passed (declared decls (kinds.register k 1)) _ e.0 p.2 in
+    let number = plain (kinds.register k 4) p.1 in
+    let one : Ok f.0 ≡ Ok w.0 = sym f.3 ∙ w.1 in
+    let two : Ok f.0 ≡ Ok a.0 = sym f.3 ∙ a.1 in
+    let q : f.0 ≡ w.0 = ok_same one in
+    let r : f.0 ≡ a.0 = ok_same two in (
+      f.0,
+      f.1,
+      f.4,
+      ap (λ (j : ℕ). calls.region k (value_bytes decls j) (kinds.register k 3)) q ∙ w.2,
+      number.0,
+      number.1,
+      λ node is_ref taken. e.2 node is_ref taken ∙ ap (changed_if node is_ref taken k) (sym a.2) ∙ ap (λ (j : ℕ). changed node is_ref taken k (calls.change_of decls j)) (sym r),
+    )
+  where
+    ok_same : {a b : ℕ} → ◌≡◌ {A = Result ℕ Why} (Ok a) (Ok b) → a ≡ b
+    ok_same h = cc
+
+    plain : (x : Kind) {u : Unit {0}} → calls.plain x ≡ Ok u → (n : Number) × (x ≡ Num n)
+    plain (Num n) h = (n, refl)
+    plain x h = absurd (cc)

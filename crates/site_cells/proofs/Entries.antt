@@ -1,0 +1,77 @@
+-- Entries that pointers lead to.
+use Rattle.std.proofs.Common.{◌≡◌, ℕ, ◌+◌, ◌*◌, ◌%◌, ◌^◌, ◌<◌, ◌≤◌, ℤ, pos, ◌+ℤ◌, Option, Some, List, length, slice_range, slice_index, refl, sym, ◌∙◌, ap, subst, arith}
+use Rattle.std.specs.Prelude.{All, slice_get, IfSome}
+use Rattle.std.proofs.Math.Nat.{div-one, mod-eq_of_lt}
+use Rattle.std.proofs.lemmas.Option.{slice_get_within}
+use Rattle.byteorder.specs.Numbers.{little_from-lt}
+use Rattle.bpf_isa.specs.declared.operation.Size.{Size}
+use Rattle.bpf_isa.specs.declared.operation.Size.TheVariants.{B, H, W, Dw}
+use Rattle.xdp_maps.specs.declared.decl.MapDecl.{MapDecl}
+use Rattle.xdp_maps.specs.Contents.{IsBytes}
+use Rattle.xdp_maps.specs.State.{MapState, IsSound, decl_at, contents_at}
+use Rattle.xdp_maps.specs.Calls.{lookup_of}
+use Rattle.xdp_maps.specs.Operations.{Operation}
+use Rattle.xdp_machine.specs.Values.{Value, ◌>>=◌}
+use Rattle.xdp_machine.specs.Values as is
+use Rattle.xdp_machine.specs.State.{Machine, PacketIn, register}
+use Rattle.xdp_machine.specs.Memory.{bytes_in, number_at, aligned}
+use Rattle.xdp_machine.specs.Memory as machine
+use Rattle.xdp_machine.specs.Touched.{accesses}
+use Rattle.xdp_machine.proofs.ChangeLaws.{some_inj}
+use Rattle.xdp_machine.proofs.PartLaws.{at_or, bytes_in_slice}
+use Rattle.kind_core.specs.declared.kind.Kind.{Kind}
+use Rattle.kind_core.specs.declared.kind.Kind.TheVariants.{Entry}
+use Rattle.kind_core.specs.declared.kind.Kinds.{Kinds}
+use Rattle.kind_core.specs.Kinds as kinds
+use Rattle.cell_core.specs.Cells.{bits_from}
+use Rattle.held_cells.specs.declared.held.Held.{Held}
+use Rattle.held_cells.specs.Held.{PointerView, IsPointer, Holds, Counts, AreInside, pointer_at, key_of}
+use Rattle.held_cells.specs.Carrying.{IsKnown}
+use Rattle.site_cells.proofs.Slots.{bound}
+
+pub bits_whole : (n w : ℕ) → n < 2 ^ w → bits_from n 0 w ≡ n
+bits_whole n w h = ap (λ (k : ℕ). k % 2 ^ w) (div-one n) ∙ mod-eq_of_lt {n = n} {m = 2 ^ w} h
+
+pub number_fits : (size : Size) (a : ℕ) (bytes : List ℕ) → All (λ b. b < 256) bytes → number_at size a bytes < 2 ^ (8 * bytes_in size)
+number_fits size a bytes all = by size
+  where
+    below : (n i : ℕ) → slice_index (slice_range bytes a (a + n)) i < 256
+    below n i = at_or (λ b. b < 256) (slice_range bytes a (a + n)) i 0 (bytes_in_slice bytes a (a + n) all) (omega arith)
+
+    by : (s : Size) → number_at s a bytes < 2 ^ (8 * bytes_in s)
+    by B = little_from-lt 0 1 (slice_range bytes a (a + 1)) (below 1)
+    by H = little_from-lt 0 2 (slice_range bytes a (a + 2)) (below 2)
+    by W = little_from-lt 0 4 (slice_range bytes a (a + 4)) (below 4)
+    by Dw = little_from-lt 0 8 (slice_range bytes a (a + 8)) (below 8)
+
+pub value_bytes_fit : (maps : MapState) (q : ℕ) (d : MapDecl) (key value : List ℕ) → IsSound maps → slice_get maps.decls q ≡ Some d → lookup_of (contents_at maps q) key ≡ Some value → All (λ b. b < 256) value
+value_bytes_fit maps q d key value sound decl there =
+    (subst (λ (r : Option (List ℕ)). IfSome r (IsBytes (decl_at maps q).value)) there ((sound.over q (slice_get_within maps.decls q d decl)).values key)).bytes_fit
+
+-- a pointer to an entry, as a register holds it
+pub entry_held : (decls : List MapDecl) (packet : PacketIn) (v : ℕ → ℕ) (ps : List PointerView) (node : ℕ) (k : Kinds) (h : Held) (m : Machine) (r q o : ℕ) → IsKnown decls packet v ps node k h m → r ≤ 10
+    → kinds.register k r ≡ Entry q o → register m.registers r ≡ is.Entry q (key_of decls v q (pointer_at ps (slice_index h.registers r))) (pos o)
+entry_held decls packet v ps node k h m r q o known l e =
+    (subst (λ (y : Kind). Holds decls v ps y (slice_index h.registers r) (register m.registers r)) e (known.held.registers r l)).1
+
+-- the declaration of the map, and where the access begins in the value
+pub record Placed (m : Machine) (q o : ℕ) (offset : ℤ) (size : Size) (d : MapDecl) (a : ℕ) : Type 0 where
+  pub decl : slice_get m.maps.decls q ≡ Some d
+  pub at : aligned (pos o +ℤ offset) (bytes_in size) d.value ≡ Some a
+
+pub entry_loaded : (m : Machine) (q o : ℕ) (key : List ℕ) (offset : ℤ) (size : Size) (y : Value) → machine.loaded m (is.Entry q key (pos o)) offset size ≡ Some y
+    → (d : MapDecl) × (a : ℕ) × (value : List ℕ) × Placed m q o offset size d a × (lookup_of (contents_at m.maps q) key ≡ Some value) × (y ≡ is.Number (number_at size a value))
+entry_loaded m q o key offset size y e =
+    let d = bound (slice_get m.maps.decls q) _ y e in
+    let a = bound (aligned (pos o +ℤ offset) (bytes_in size) d.0.value) _ y d.2 in
+    let x = bound (lookup_of (contents_at m.maps q) key) (λ value. Some (is.Number (number_at size a.0 value))) y a.2 in
+    (d.0, a.0, x.0, record { decl = d.1; at = a.1 }, x.1, sym (some_inj _ y x.2))
+
+pub placed_operation : (m : Machine) (q o : ℕ) (key : List ℕ) (offset : ℤ) (size : Size) (d : MapDecl) (a : ℕ) (base : Value) (f : List ℕ → ℕ → Operation) → base ≡ is.Entry q key (pos o) → Placed m q o offset size d a
+    → accesses m.maps base offset size f ≡ Some (q, f key a)
+placed_operation m q o key offset size d a base f is p = rw (is, p.decl, p.at) refl
+
+-- the number of a pointer in a register names one that is there
+pub entry_pointer : (decls : List MapDecl) (n : ℕ) (ps : List PointerView) (k : Kinds) (h : Held) (r q o : ℕ) → AreInside decls n ps h k → r ≤ 10 → kinds.register k r ≡ Entry q o
+    → (slice_index h.registers r < length ps) × IsPointer decls n q (pointer_at ps (slice_index h.registers r))
+entry_pointer decls n ps k h r q o inside l e = subst (λ (x : Kind). Counts decls n ps x (slice_index h.registers r)) e (inside.registers r l)

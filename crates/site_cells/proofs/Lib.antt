@@ -1,0 +1,14 @@
+mod Joining
+mod Slots
+mod Regions
+mod Adding
+mod Answered
+mod Allowed
+mod Calling
+mod Lookups
+mod Assigned
+mod Entries
+mod Loads
+mod Stores
+mod Stale
+mod Changes

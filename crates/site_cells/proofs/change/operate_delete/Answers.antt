@@ -1,0 +1,16 @@
+use Rattle.std.proofs.Common.{◌<◌, refl, sym, subst, arith, length}
+use Rattle.std.specs.Prelude.{All}
+use Rattle.operator_cells.specs.Making.{seen}
+use Rattle.site_cells.proofs.Changes.{delete_made}
+use Rattle.site_cells.proofs.change.operate_delete.Goals as goal
+
+pub change-requires-clause-key : goal.change-requires-clause-key
+change-requires-clause-key c = subst (All (λ i. i < length (seen c.region_words.new.cells.items))) (sym c.deref.ensures) c.in_ok-key.ensures.made.there
+
+pub change-requires-clause-pending : goal.change-requires-clause-pending
+change-requires-clause-pending c = omega (arith, c.requires.pending, c.in_ok-key.ensures.made.grows.longer)
+
+pub returns : goal.returns
+returns c = λ ps is_ref taken allowed inside.
+    delete_made c.args.decls.now c.args.insn.now c.args.here is_ref taken c.args.kinds.now c.args.held.now _ _ _ ps _ _ _ _ _ _ _ _ _ c.requires.op c.requires.helper allowed c.are_whole.ensures.register_cells inside
+    refl c.key_bytes.ensures c.map_in-map.ensures c.deref.ensures refl (c.in_ok-key.ensures.holds c.args.decls.now ps c.args.here.node) c.in_ok-c.ensures

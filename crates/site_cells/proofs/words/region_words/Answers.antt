@@ -1,0 +1,15 @@
+use Rattle.std.proofs.Common.{◌≡◌, sym, subst}
+use Rattle.kind_core.specs.declared.kind.Kind.{Kind}
+use Rattle.kind_core.specs.Tests.{passed}
+use Rattle.kind_core.specs.Calls.{region}
+use Rattle.operator_cells.specs.Making.{seen}
+use Rattle.site_cells.specs.Words.{HoldsRegion}
+use Rattle.site_cells.proofs.words.region_words.Goals as goal
+
+pub returns-in_ok-words-in-Packet-clause-holds : goal.returns-in_ok-words-in-Packet-clause-holds
+returns-in_ok-words-in-Packet-clause-holds c = λ decls ps node allowed.
+    subst (λ (k : Kind). HoldsRegion decls ps node c.args.kinds.now c.args.held.now (seen c.args.cells.now.items) (seen c.packet_words.new.cells.items) k c.args.count c.in_ok-words-in-Packet.words.items) (sym c.in-Packet.is)
+    (c.in_ok-words-in-Packet.ensures.holds decls ps node (subst (λ (k : Kind). region c.args.kinds.now c.args.count k ≡ passed) c.in-Packet.is allowed))
+
+pub returns-in_ok-words-in-Stack-clause-holds : goal.returns-in_ok-words-in-Stack-clause-holds
+returns-in_ok-words-in-Stack-clause-holds c = λ decls ps node allowed. c.in_ok-words-in-Stack.ensures.holds decls ps node _ c.in-Stack.is allowed

@@ -1,0 +1,3 @@
+pub mod Words
+pub mod Sited
+pub mod Siting

@@ -1,0 +1,50 @@
+-- What is added for an operation on a map: a site, the cells that read it, and for a lookup a pointer.
+use Rattle.std.specs.Prelude.{ℕ, ◌≡◌, ◌<◌, List, [], ◌∷◌, ◌++◌, length}
+use Rattle.cell_core.specs.declared.operator.Operator.{Operator}
+use Rattle.cell_core.specs.declared.operator.Operator.TheVariants.{Found, Answer}
+use Rattle.cell_core.specs.declared.site.Act.{Act}
+use Rattle.cell_core.specs.declared.site.Act.TheVariants as act
+use Rattle.cell_core.specs.Cells.{CellView, cell_at}
+use Rattle.cell_core.specs.Sites.{SiteView}
+use Rattle.operator_cells.specs.Making.{Grows}
+use Rattle.held_cells.specs.Held.{PointerView}
+use Rattle.site_cells.specs.declared.here.Here.{Here}
+
+-- Cell c reads a site, behind the cells of its key, its operands and the writes of its map that come before.
+pub record IsReadOf (cells : List CellView) (c : ℕ) (op : Operator) (site : SiteView) (pending width : ℕ) : Type 0 where
+  pub there : c < length cells
+  pub is : cell_at cells c ≡ record { op = op; ins = site.key ++ site.operands ++ pending ∷ []; width = width; from = 0 }
+
+abbrev pub lookup_site : Here → ℕ → List ℕ → SiteView
+lookup_site here map key = record { node = here.node; map = map; guard = here.guard; act = act.Lookup; key = key; operands = [] }
+
+-- A lookup: its site, a cell that tells whether the key is there, and the pointer of both.
+pub record LooksUp (old new : List CellView) (ps qs : List PointerView) (sites sites2 : List SiteView) (here : Here) (map : ℕ) (key : List ℕ) (c : ℕ) : Type 0 where
+  pub grows : Grows old new
+  pub found : ℕ
+  pub reads : IsReadOf new found (Found (length sites)) (lookup_site here map key) here.pending 1
+  pub number_is : c ≡ length ps
+  pub pointers_are : qs ≡ ps ++ (record { found = found; key = key }) ∷ []
+  pub sites_are : sites2 ≡ sites ++ lookup_site here map key ∷ []
+
+-- an access through a pointer: under its key, the cell that tells whether its lookup found it as the last operand
+abbrev pub access_site : Here → ℕ → Act → PointerView → List ℕ → SiteView
+access_site here map a p operands = record { node = here.node; map = map; guard = here.guard; act = a; key = p.key; operands = operands ++ p.found ∷ [] }
+
+-- An access, and a cell of so many bits of what it answers.
+pub record Accesses (old new : List CellView) (sites sites2 : List SiteView) (here : Here) (map : ℕ) (a : Act) (pointer : PointerView) (operands : List ℕ) (c width : ℕ) : Type 0 where
+  pub grows : Grows old new
+  pub reads : IsReadOf new c (Answer (length sites)) (access_site here map a pointer operands) here.pending width
+  pub sites_are : sites2 ≡ sites ++ access_site here map a pointer operands ∷ []
+
+-- a change by a helper
+abbrev pub change_site : Here → ℕ → Act → List ℕ → List ℕ → SiteView
+change_site here map a key operands = record { node = here.node; map = map; guard = here.guard; act = a; key = key; operands = operands }
+
+-- A change: its site, a cell that tells whether the key is there, and one of what the helper answers.
+pub record Changes (old new : List CellView) (sites sites2 : List SiteView) (here : Here) (map : ℕ) (a : Act) (key operands : List ℕ) (c : ℕ) : Type 0 where
+  pub grows : Grows old new
+  pub found : ℕ
+  pub finds : IsReadOf new found (Found (length sites)) (change_site here map a key operands) here.pending 1
+  pub reads : IsReadOf new c (Answer (length sites)) (change_site here map a key operands) here.pending 64
+  pub sites_are : sites2 ≡ sites ++ change_site here map a key operands ∷ []

@@ -1,0 +1,139 @@
+//! Updates and deletes.
+
+ghost use Rattle.std.specs.Prelude.{◌≡◌, ◌<◌, ◌≤◌, ◌++◌, [], ◌∷◌, ℕ, Bool, pos, List, length, All, IfOk, OnOk};
+ghost use Rattle.kind_core.specs.Tests.{passed};
+ghost use Rattle.kind_core.specs.Kinds as kind;
+ghost use Rattle.kind_core.specs.Effects.{effect_of, verdict};
+ghost use Rattle.operator_cells.specs.Making.{seen};
+ghost use Rattle.held_cells.specs.Held.{PointerView, AreInside};
+ghost use Rattle.held_cells.specs.Operating.{Operates};
+ghost use Rattle.site_cells.specs.Sited.{sited};
+ghost use Rattle.site_cells.specs.Siting.{Changes};
+
+use crate::declared::{key_bytes, map_in, value_bytes};
+use crate::here::Here;
+use crate::lookup::inputs;
+use crate::numbers::number_in;
+use crate::sizes::are_whole;
+use crate::words::region_words;
+use bpf_isa::{Insn, Op};
+use cell_core::cell::{Cell, Cells};
+use cell_core::site::{Act, Site};
+use held_cells::held::Held;
+use kind_core::Kinds;
+use operator_cells::cells::{answer, found};
+use std::alloc::{AllocError, Global};
+use xdp_maps::decl::MapDecl;
+
+// A change under a key.
+fn change(
+    cells: &mut Vec<Cell>,
+    sites: &mut Vec<Site>,
+    here: Here,
+    map: u32,
+    act: Act,
+    key: &[u32],
+    operands: &[u32],
+) -> Result<u32, AllocError>
+    requires key { All (λ i. i < length (seen cells.old.items)) key.now }
+    requires operands { All (λ i. i < length (seen cells.old.items)) operands.now }
+    requires pending { here.pending < length (seen cells.old.items) }
+    ensures { IfOk result (λ c. Changes (seen cells.old.items) (seen cells.new.items) (sited sites.old.items) (sited sites.new.items) here map act key.now operands.now c) }
+{
+    let Ok(site) = u32::try_from(sites.len()) else {
+        return Err(AllocError);
+    };
+    let ins = inputs(*cells.allocator(), key, operands, here.pending)?;
+    let _there = found(cells, site, &ins)?;
+    let c = answer(cells, site, &ins, 64)?;
+    sites.push(Site {
+        node: here.node,
+        map,
+        guard: here.guard,
+        act,
+        key: Cells::from_slice(*cells.allocator(), key)?,
+        operands: Cells::from_slice(*cells.allocator(), operands)?,
+    })?;
+    Ok(c)
+}
+
+/// A delete: R0 gets the number that the helper answers.
+pub fn operate_delete(
+    cells: &mut Vec<Cell>,
+    sites: &mut Vec<Site>,
+    held: &mut Held,
+    kinds: &Kinds,
+    insn: &Insn,
+    decls: &[MapDecl],
+    here: Here,
+) -> Result<(), AllocError>
+    requires op { insn.now.op ≡ Op.Call }
+    requires helper { insn.now.imm ≡ pos 3 }
+    requires keys { (q : ℕ) → kind.key_bytes decls.now q ≤ 64 }
+    requires pending { here.pending < length (seen cells.old.items) }
+    requires inside { (ps : List PointerView) × AreInside decls.now (length (seen cells.old.items)) ps held.old kinds.now }
+    ensures { (ps : List PointerView) (is_ref taken : Bool) → verdict (effect_of decls.now kinds.now insn.now) ≡ passed → AreInside decls.now (length (seen cells.old.items)) ps held.old kinds.now → OnOk result (Operates decls.now insn.now here.node here.guard is_ref taken kinds.now held.old held.new (seen cells.old.items) (seen cells.new.items) ps ps (sited sites.old.items) (sited sites.new.items)) }
+{
+    are_whole(held, kinds);
+    let map = map_in(kinds.registers[1]);
+    let key = region_words(
+        cells,
+        held,
+        kinds,
+        kinds.registers[2],
+        key_bytes(decls, map),
+    )?;
+    let c = change(cells, sites, here, map, Act::Delete, &key, &[])?;
+    held.registers[0] = c;
+    Ok(())
+}
+
+// The operands of an update: the flags, and the words of the value.
+fn update_operands(alloc: Global, flags: u32, value: &[u32]) -> Result<Vec<u32>, AllocError>
+    ensures { IfOk result (λ all. all.items ≡ flags ∷ value.now) }
+{
+    let mut all = Vec::from_slice(alloc, &[flags])?;
+    all.extend_from_slice(value)?;
+    Ok(all)
+}
+
+/// An update: R0 gets the number that the helper answers.
+pub fn operate_update(
+    cells: &mut Vec<Cell>,
+    sites: &mut Vec<Site>,
+    held: &mut Held,
+    kinds: &Kinds,
+    insn: &Insn,
+    decls: &[MapDecl],
+    here: Here,
+) -> Result<(), AllocError>
+    requires op { insn.now.op ≡ Op.Call }
+    requires helper { insn.now.imm ≡ pos 2 }
+    requires keys { (q : ℕ) → kind.key_bytes decls.now q ≤ 64 }
+    requires values { (q : ℕ) → kind.value_bytes decls.now q ≤ 64 }
+    requires pending { here.pending < length (seen cells.old.items) }
+    requires inside { (ps : List PointerView) × AreInside decls.now (length (seen cells.old.items)) ps held.old kinds.now }
+    ensures { (ps : List PointerView) (is_ref taken : Bool) → verdict (effect_of decls.now kinds.now insn.now) ≡ passed → AreInside decls.now (length (seen cells.old.items)) ps held.old kinds.now → OnOk result (Operates decls.now insn.now here.node here.guard is_ref taken kinds.now held.old held.new (seen cells.old.items) (seen cells.new.items) ps ps (sited sites.old.items) (sited sites.new.items)) }
+{
+    are_whole(held, kinds);
+    let map = map_in(kinds.registers[1]);
+    let key = region_words(
+        cells,
+        held,
+        kinds,
+        kinds.registers[2],
+        key_bytes(decls, map),
+    )?;
+    let value = region_words(
+        cells,
+        held,
+        kinds,
+        kinds.registers[3],
+        value_bytes(decls, map),
+    )?;
+    let flags = number_in(cells, kinds.registers[4], held.registers[4])?;
+    let operands = update_operands(*cells.allocator(), flags, &value)?;
+    let c = change(cells, sites, here, map, Act::Update, &key, &operands)?;
+    held.registers[0] = c;
+    Ok(())
+}
