@@ -35,7 +35,9 @@ fn give_up(alloc: Global, sim: &Sim, error: DriveError) -> Result<CommandError, 
             Ok(CommandError::XValue(name))
         }
         DriveError::Late {
-            answers, frames, ..
+            answers,
+            frames,
+            ..
         } => Ok(CommandError::Late { answers, frames }),
         DriveError::NoMemory => Err(AllocError),
     }
