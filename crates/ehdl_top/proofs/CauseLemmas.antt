@@ -1,6 +1,7 @@
 -- What is known of a command that has ended, by the status that is reported.
 use Rattle.std.proofs.Common.{◌≡◌, ◌≢◌, ◌⊎◌, IsTrue, [], Option, Some, None, Result, Ok, Err, OnOk, OnErr, IfErr, refl, ◌∙◌, ap, sym, subst, inl, inr}
 use Rattle.shelf_core.specs.Shelf.{SameHeld}
+use Rattle.maps_text.specs.Laws.{HasOneMeaning}
 use Rattle.command_line.specs.Request.{Request, AskCompile, AskRun, AskSim, AskRef}
 use Rattle.ehdl_top.specs.declared.status.Status.{Status}
 use Rattle.ehdl_top.specs.declared.status.Status.TheVariants as status
@@ -160,13 +161,13 @@ module _ (request : Request) (old new : ShelfState) (result : Status) where
   ended_inputs (Whole end r w) told e stop = let h = w.has told in absurd (outcome_stops end h.outputs e h.outcome stop)
   ended_inputs (WholeOut end r w) told e stop = inr (inr r)
 
-  pub ended_driven : Ended request old new result → IsTrue old.tells → (e : CommandError) (outputs : Outputs) → IsOutcome request old.held (Some e) outputs → (result ≡ status_of e) ⊎ IsFault result
-  ended_driven (AtRead r u same) told e outputs o = inr (as_status IsFault status.ReadFault result (sym r) tt)
-  ended_driven (Out r same) told e outputs o = inr (as_status IsFault status.NoMemory result (sym r) tt)
-  ended_driven (NotReady e' r ends first same) told e outputs o = absurd (outcome_stops (Some e) outputs e' o (first told))
-  ended_driven (AtWrite r f) told e outputs o = inr (as_status IsFault status.WriteFault result (sym r) tt)
-  ended_driven (Whole end r w) told e outputs o = let h = w.has told in inl (r ∙ ap ended (ends_one request old.held end (Some e) h.outputs outputs h.outcome o))
-  ended_driven (WholeOut end r w) told e outputs o = inr (as_status IsFault status.NoMemory result (sym r) tt)
+  pub ended_driven : HasOneMeaning → Ended request old new result → IsTrue old.tells → (e : CommandError) (outputs : Outputs) → IsOutcome request old.held (Some e) outputs → (result ≡ status_of e) ⊎ IsFault result
+  ended_driven one (AtRead r u same) told e outputs o = inr (as_status IsFault status.ReadFault result (sym r) tt)
+  ended_driven one (Out r same) told e outputs o = inr (as_status IsFault status.NoMemory result (sym r) tt)
+  ended_driven one (NotReady e' r ends first same) told e outputs o = absurd (outcome_stops (Some e) outputs e' o (first told))
+  ended_driven one (AtWrite r f) told e outputs o = inr (as_status IsFault status.WriteFault result (sym r) tt)
+  ended_driven one (Whole end r w) told e outputs o = let h = w.has told in inl (r ∙ ap ended (ends_one request old.held end (Some e) h.outputs outputs one h.outcome o))
+  ended_driven one (WholeOut end r w) told e outputs o = inr (as_status IsFault status.NoMemory result (sym r) tt)
 
   pub ended_loses : Ended request old new result → IsTrue old.tells → Loses result request old new
   ended_loses (AtRead r u same) told = as_status (λ s. Loses s request old new) status.ReadFault result (sym r) tt

@@ -1,16 +1,12 @@
 -- How a command ends, by the step at which it does.
 use Rattle.std.proofs.Common.{◌≡◌, ℕ, Bool, IsTrue, List, [], ◌∷◌, ◌++◌, Option, Some, None, Result, Ok, Err, IsErrAnd, refl, sym, ap, subst, inl, inr}
 use Rattle.xdp_maps.specs.declared.decl.MapDecl.{MapDecl}
-use Rattle.net_core.specs.Nets.{Netlist}
-use Rattle.net_core.specs.History.{Drive, Ended, Answered, Stopped, OutOfClocks}
-use Rattle.xdp_object.specs.Choice.{Chosen}
-use Rattle.command_line.specs.Request.{Request, AskSim, Names}
+use Rattle.command_line.specs.Request.{Request}
 use Rattle.ehdl_top.specs.declared.error.CommandError.{CommandError}
 use Rattle.ehdl_top.specs.declared.error.CommandError.TheVariants as error
 use Rattle.ehdl_top.specs.Status.{ended, status_of}
 use Rattle.ehdl_top.specs.States.{ShelfState, Changes}
 use Rattle.ehdl_top.specs.Writes.{Write, AreDone, OneFailed}
-use Rattle.ehdl_top.specs.Outcome.{drive_error}
 use Rattle.ehdl_top.specs.Forms.{InputForm, IsReady, IsFaulty, maps_form}
 use Rattle.ehdl_top.specs.Inputs.{Input, input, may_input, AreReady, FirstStop, OneUnread, EndsAtInput}
 use Rattle.ehdl_top.specs.Requests.{inputs_of, outputs_of, EndsItself}
@@ -97,9 +93,3 @@ ends_driven request e old mid new ws can of same makes done = record {
   by = AtEnd (writes_all request (Some e) old mid new ws can same makes done);
   kept = changes_then (outputs_of request) old mid new (changes_within (outputs_of request) old mid same) (done_changes (outputs_of request) ws mid new of done);
 }
-
--- why a drive is given up
-pub drive_ends : (names : Names) (verilog : List ℕ) (chosen : Chosen) (ifindex clocks : ℕ) (design : Netlist) (frames : ℕ) (drive : Drive) (at : Ended) (e : CommandError) → Some e ≡ drive_error design frames drive at → EndsItself (AskSim names verilog chosen ifindex clocks) (ended (Some e))
-drive_ends names verilog chosen ifindex clocks design frames drive Answered e is = absurd cc
-drive_ends names verilog chosen ifindex clocks design frames drive (Stopped w) e is = inr (inl (ap ended is))
-drive_ends names verilog chosen ifindex clocks design frames drive OutOfClocks e is = inr (inr (ap ended is))

@@ -25,7 +25,7 @@ use Rattle.ehdl_top.specs.declared.status.Status.TheVariants as status
 use Rattle.ehdl_top.specs.declared.error.CommandError.{CommandError}
 use Rattle.ehdl_top.specs.declared.error.CommandError.TheVariants as error
 use Rattle.ehdl_top.specs.Status.{status_of}
-use Rattle.ehdl_top.specs.Forms.{ProgramRule, ProgramFaults, TextFaults, MapsFaults, CaptureFaults, IsTaken, IsCaptured, IsCaptureFault, built, accepted, without_maps, program_form, text_form, maps_form, decls_in, held_decls, capture_form}
+use Rattle.ehdl_top.specs.Forms.{ProgramRule, ProgramFaults, ObjectFaults, TextFaults, MapsFaults, CaptureFaults, IsTaken, IsCaptured, IsCaptureFault, built, accepted, program_form, object_form, text_form, maps_form, decls_in, held_decls, capture_form}
 use Rattle.ehdl_top.specs.Requests.{inputs_of}
 use Rattle.ehdl_top.specs.Steps.{IsGivenUp}
 use Rattle.ehdl_top.proofs.InputLemmas.{IsSound, AreSound, IsInputStatus, may_sound}
@@ -81,8 +81,21 @@ built_apart p r takes refuses = takes r refuses
 accepted_apart : IsRule accepted
 accepted_apart p r takes refuses = (has_one_outcome p).never_both r refuses takes
 
-without_apart : IsRule without_maps
-without_apart p r takes refuses = refuses.0 takes
+-- objects alone
+alone_apart : (choice : Chosen) (bytes : List ℕ) (e : CommandError) → (program : XdpProgram) × IsObject choice bytes program → ¬ ObjectFaults choice bytes e
+alone_apart choice bytes (error.Object fault) is u = object_apart choice bytes fault is u
+alone_apart choice bytes e is u = u
+
+alone_status : (choice : Chosen) (bytes : List ℕ) (e : CommandError) → ObjectFaults choice bytes e → status_of e ≡ status.Object
+alone_status choice bytes (error.Object fault) u = refl
+alone_status choice bytes e u = absurd u
+
+object_sound : (choice : Chosen) → IsSound (object_form choice)
+object_sound choice = record {
+  apart = alone_apart choice;
+  one = λ bytes e f a b. alone_status choice bytes e a ∙ sym (alone_status choice bytes f b);
+  ends = λ s e. input_status s status.Object e tt;
+}
 
 -- the declarations of the object that a name holds are those of its program
 pub decls_held : (choice : Chosen) (held : Option (List ℕ)) (bytes : List ℕ) (program : XdpProgram) → held ≡ Some bytes → IsObject choice bytes program → held_decls choice held ≡ program.decls
@@ -160,12 +173,19 @@ pub inputs_sound : (request : Request) (held : Holding) → AreSound (inputs_of 
 inputs_sound (AskCompile object verilog chosen) held = (program_sound chosen built built_apart, tt)
 inputs_sound (AskRun names verilog chosen ifindex) held = (program_sound chosen built built_apart, (capture_sound, tt))
 inputs_sound (AskSim names verilog chosen ifindex clocks) held =
-    (program_sound chosen without_maps without_apart, (text_sound, may_sound names.maps _ _ (maps_sound (held_decls chosen (held names.object))) (capture_sound, tt)))
+    (object_sound chosen, (text_sound, may_sound names.maps _ _ (maps_sound (held_decls chosen (held names.object))) (capture_sound, tt)))
 inputs_sound (AskRef names chosen ifindex) held =
     (program_sound chosen accepted accepted_apart, may_sound names.maps _ _ (maps_sound (held_decls chosen (held names.object))) (capture_sound, tt))
 
 -- ---- what bytes are given up for
-pub object_given_up : (choice : Chosen) (rule : ProgramRule) (bytes : List ℕ) (fault : ObjectError) (e : CommandError) → (fault ≢ object.NoMemory → FirstFault choice bytes fault)
-    → ((fault ≡ object.NoMemory) × (e ≡ error.NoMemory)) ⊎ ((fault ≢ object.NoMemory) × (e ≡ error.Object fault)) → IsGivenUp (program_form choice rule) bytes e
-object_given_up choice rule bytes fault e first (inl is) = inl is.1
-object_given_up choice rule bytes fault e first (inr is) = let P : CommandError → Type 0 = IsGivenUp (program_form choice rule) bytes in subst P (sym is.1) (inr (inl refl, first is.0))
+module _ (choice : Chosen) (bytes : List ℕ) (fault : ObjectError) (e : CommandError) (first : fault ≢ object.NoMemory → FirstFault choice bytes fault) where
+  abbrev IsErrorOf : Type 0
+  IsErrorOf = ((fault ≡ object.NoMemory) × (e ≡ error.NoMemory)) ⊎ ((fault ≢ object.NoMemory) × (e ≡ error.Object fault))
+
+  pub program_given_up : (rule : ProgramRule) → IsErrorOf → IsGivenUp (program_form choice rule) bytes e
+  program_given_up rule (inl is) = inl is.1
+  program_given_up rule (inr is) = let P : CommandError → Type 0 = IsGivenUp (program_form choice rule) bytes in subst P (sym is.1) (inr (inl refl, first is.0))
+
+  pub object_given_up : IsErrorOf → IsGivenUp (object_form choice) bytes e
+  object_given_up (inl is) = inl is.1
+  object_given_up (inr is) = let P : CommandError → Type 0 = IsGivenUp (object_form choice) bytes in subst P (sym is.1) (inr (refl, first is.0))

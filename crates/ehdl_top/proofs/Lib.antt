@@ -6,6 +6,7 @@ pub mod FormLemmas
 pub mod ObjectLemmas
 pub mod CaptureLemmas
 pub mod DriveLemmas
+pub mod SimulationLemmas
 pub mod ResultLemmas
 pub mod RealizedLemmas
 pub mod OutcomeLemmas

@@ -1,26 +1,26 @@
 -- What a command is to leave: its inputs are in their forms, and it comes to one end.
-use Rattle.std.proofs.Common.{◌≡◌, ℕ, ◌≤◌, IsTrue, is_none, List, [], ◌∷◌, suc, length, map, Option, Some, None, refl, sym, ap, subst, ◌∙◌, inl, arith}
+use Rattle.std.proofs.Common.{◌≡◌, ℕ, ◌≤◌, IsTrue, List, [], ◌∷◌, suc, length, map, Option, Some, None, refl, sym, ap, subst, ◌∙◌, inl, arith}
 use Rattle.std.proofs.lemmas.List.{length-map}
 use Rattle.shelf_core.specs.Shelf.{Holding}
 use Rattle.pcap_core.specs.Format.{Packet, Content}
 use Rattle.net_core.specs.Nets.{Netlist}
-use Rattle.net_core.specs.Clock.{first_stored}
-use Rattle.net_core.specs.History.{Arrival, Drive, answers_given}
+use Rattle.net_core.specs.History.{Arrival}
 use Rattle.beat_core.specs.declared.answer.Answer.{Answer}
-use Rattle.port_drive.specs.Reports.{full_drive}
 use Rattle.beat_core.specs.declared.frame.Timed.{Timed}
 use Rattle.beat_core.specs.Laws.{arrival_of}
 use Rattle.pcap_core.specs.Time.{timed_of}
 use Rattle.xdp_maps.specs.declared.decl.MapDecl.{MapDecl}
-use Rattle.xdp_maps.specs.State.{MapState}
+use Rattle.xdp_maps.specs.State.{MapState, opened_state}
 use Rattle.xdp_object.specs.Program.{XdpProgram}
 use Rattle.xdp_machine.proofs.RunLaws.{runs_length}
 use Rattle.ehdl_build.specs.declared.built.Built.{Built}
 use Rattle.ehdl_build.specs.Compiled.{size_of, code_of, packets_in, answer_of, IsSequential}
 use Rattle.xdp_object.specs.Choice.{Chosen}
+use Rattle.xdp_object.specs.Object.{IsObject}
 use Rattle.command_line.specs.Request.{Request, AskCompile, AskRun, AskSim, AskRef, Names}
 use Rattle.maps_text.specs.Text.{IsMapsText}
 use Rattle.maps_text.specs.Writing.{text_of}
+use Rattle.maps_text.specs.Laws.{HasOneMeaning}
 use Rattle.ehdl_top.specs.declared.limits.TheConstants.{OBJECT_LIMIT, VERILOG_LIMIT, MAPS_LIMIT, CAPTURE_LIMIT}
 use Rattle.ehdl_top.specs.declared.error.CommandError.{CommandError}
 use Rattle.ehdl_top.specs.declared.write.Write as code
@@ -28,11 +28,12 @@ use Rattle.ehdl_top.specs.declared.sim.Simulated.{Simulated}
 use Rattle.ehdl_top.specs.declared.packets.Captured.{Captured}
 use Rattle.ehdl_top.specs.Status.{ended}
 use Rattle.ehdl_top.specs.States.{ShelfState, Changes}
-use Rattle.ehdl_top.specs.Forms.{Holds, ProgramRule, IsReady, IsTaken, IsTextOf, StartsFrom, IsCaptured, built, accepted, without_maps, program_form, text_form, maps_form, held_decls, capture_form}
+use Rattle.ehdl_top.specs.Forms.{Holds, ProgramRule, IsReady, IsTaken, IsTextOf, StartsFrom, IsCaptured, built, accepted, program_form, object_form, text_form, maps_form, held_decls, capture_form}
 use Rattle.ehdl_top.specs.Inputs.{input, may_input, AreReady}
 use Rattle.ehdl_top.specs.Writes.{Outputs, names_in, Write, AreDone, OneFailed}
-use Rattle.ehdl_top.specs.Results.{timed_packets, came_by, compile_outputs, result_outputs, run_outputs, sim_outputs, finals_if}
-use Rattle.ehdl_top.specs.Outcome.{IsSimulated, drive_error}
+use Rattle.ehdl_top.specs.Results.{timed_packets, came_by, compile_outputs, result_outputs, run_outputs, sim_outputs}
+use Rattle.ehdl_top.specs.Simulation.{Simulation, simulation, final_text, given_up}
+use Rattle.ehdl_top.specs.Outcome.{IsSimulated}
 use Rattle.ehdl_top.specs.Requests.{inputs_of, outputs_of, IsOutcome, EndsItself}
 use Rattle.ehdl_top.specs.Steps.{IsRead, AreRead, IsBuiltOf, IsCaptureOf, IsRunOf, IsSimOf, IsReferenceOf, AreApart, IsTextApart, FailsWrite, WritesAll, write_of, stamp_of}
 use Rattle.ehdl_top.proofs.StateLemmas.{tells_later}
@@ -53,9 +54,12 @@ may_ready (Some name) decls of_held held first same starts =
     (subst P (sym same) (holds_as MAPS_LIMIT (held name) _ (maps_form decls).Fits (λ bytes is. (first, is)) starts), tt)
 may_ready None decls of_held held first same starts = tt
 
--- the declarations of the object of a program that is taken
+-- the declarations of the object of a program
+object_decls : (choice : Chosen) (program : XdpProgram) (held : Option (List ℕ)) → Holds OBJECT_LIMIT held (λ bytes. IsObject choice bytes program) → held_decls choice held ≡ program.decls
+object_decls choice program held h = decls_held choice held h.bytes program h.there h.is
+
 taken_decls : (choice : Chosen) (rule : ProgramRule) (program : XdpProgram) (held : Option (List ℕ)) → Holds OBJECT_LIMIT held (λ bytes. IsTaken choice rule bytes program) → held_decls choice held ≡ program.decls
-taken_decls choice rule program held h = decls_held choice held h.bytes program h.there h.is.object
+taken_decls choice rule program held h = object_decls choice program held (holds_as OBJECT_LIMIT held _ (λ bytes. IsObject choice bytes program) (λ bytes is. is.object) h)
 
 capture_ready : (held : Holding) (name : List ℕ) (magic : ℕ) (packets : List Packet) → Holds CAPTURE_LIMIT (held name) (λ bytes. IsCaptured bytes magic packets) → AreReady (input name capture_form ∷ []) held
 capture_ready held name magic packets h = (holds_as CAPTURE_LIMIT (held name) _ capture_form.Fits (λ bytes is. (magic, packets, is)) h, tt)
@@ -68,10 +72,10 @@ outcome_ready (AskRun names verilog chosen ifindex) held end outputs o = (
   capture_ready held names.capture o.1.magic o.1.packets o.1.held_capture,
 )
 outcome_ready (AskSim names verilog chosen ifindex clocks) held end outputs o = (
-  holds_as OBJECT_LIMIT (held names.object) _ (program_form chosen without_maps).Fits (λ bytes is. (o.program, is)) o.held_object,
+  holds_as OBJECT_LIMIT (held names.object) _ (object_form chosen).Fits (λ bytes is. (o.program, is)) o.held_object,
   (
     holds_as VERILOG_LIMIT (held verilog) _ text_form.Fits (λ bytes is. (o.design, is.spells)) o.held_text,
-    ready_both _ _ held (may_ready names.maps o.program.decls _ held o.first (taken_decls chosen without_maps o.program (held names.object) o.held_object) o.starts)
+    ready_both _ _ held (may_ready names.maps o.program.decls _ held o.first (object_decls chosen o.program (held names.object) o.held_object) o.starts)
         (capture_ready held names.capture o.magic o.packets o.held_capture),
   ),
 )
@@ -91,22 +95,30 @@ same_design : (held : Option (List ℕ)) (d e : Netlist) → Holds VERILOG_LIMIT
 same_design held d e a b =
     holds_both VERILOG_LIMIT held (λ bytes. IsTextOf bytes d) (λ bytes. IsTextOf bytes e) (λ bytes. e ≡ d) (λ bytes c f. c.only e f.spells) a b
 
-one_end : (names : Names) (verilog : List ℕ) (chosen : Chosen) (ifindex clocks : ℕ) (held : Holding) (end end' : Option CommandError) (outputs outputs' : Outputs)
+same_first : (name : Option (List ℕ)) (decls decls' : List MapDecl) (held : Holding) (first first' : MapState) → HasOneMeaning → decls' ≡ decls → StartsFrom name decls held first → StartsFrom name decls' held first' → first' ≡ first
+same_first (Some name) decls decls' held first first' one same a b =
+    holds_both MAPS_LIMIT (held name) (λ bytes. IsMapsText decls bytes first) (λ bytes. IsMapsText decls bytes first') (λ bytes. first' ≡ first) (λ bytes c d. one decls bytes first' first d c) a
+    (subst (λ (ds : List MapDecl). StartsFrom (Some name) ds held first') same b)
+same_first None decls decls' held first first' one same a b = b ∙ ap opened_state same ∙ sym a
+
+one_end : (names : Names) (verilog : List ℕ) (chosen : Chosen) (ifindex clocks : ℕ) (held : Holding) (end end' : Option CommandError) (outputs outputs' : Outputs) → HasOneMeaning
     → IsSimulated names verilog chosen ifindex clocks held end outputs → IsSimulated names verilog chosen ifindex clocks held end' outputs' → end ≡ end'
-one_end names verilog chosen ifindex clocks held end end' outputs outputs' a b =
+one_end names verilog chosen ifindex clocks held end end' outputs outputs' one a b =
     let design : b.design ≡ a.design = same_design (held verilog) a.design b.design a.held_text b.held_text in
     let capture = same_packets (held names.capture) a.magic b.magic a.packets b.packets a.held_capture b.held_capture in
-    let F : Netlist → ℕ → List Packet → Option CommandError = λ d magic ps.
-    let r : Drive = full_drive d ifindex (first_stored d) (timed_packets magic ps) clocks in drive_error d (length ps) r r.ended in
-    a.end_is ∙ ap (λ r. drive_error a.design (length a.packets) r r.ended) a.is_drive ∙ ap (λ d. F d a.magic a.packets) (sym design)
-    ∙ ap (λ m. F b.design m a.packets) (sym capture.0) ∙ ap (λ ps. F b.design b.magic ps) (sym capture.1)
-    ∙ ap (λ r. drive_error b.design (length b.packets) r r.ended) (sym b.is_drive) ∙ sym b.end_is
+    let decls : b.program.decls ≡ a.program.decls = sym (object_decls chosen b.program (held names.object) b.held_object) ∙ object_decls chosen a.program (held names.object) a.held_object in
+    let first : b.first ≡ a.first = same_first names.maps a.program.decls b.program.decls held a.first b.first one decls a.starts b.starts in
+    let F : Netlist → MapState → ℕ → List Packet → Option CommandError = λ d maps magic ps. given_up (simulation d maps ifindex (timed_packets magic ps) clocks).end in
+    let E : Simulation → Option CommandError = λ g. given_up g.end in
+    a.end_is ∙ ap E a.is_given ∙ ap (λ (d : Netlist). F d a.first a.magic a.packets) (sym design) ∙ ap (λ (maps : MapState). F b.design maps a.magic a.packets) (sym first)
+    ∙ ap (λ m. F b.design b.first m a.packets) (sym capture.0) ∙ ap (λ ps. F b.design b.first b.magic ps) (sym capture.1)
+    ∙ ap E (sym b.is_given) ∙ sym b.end_is
 
-pub ends_one : (request : Request) (held : Holding) (end end' : Option CommandError) (outputs outputs' : Outputs) → IsOutcome request held end outputs → IsOutcome request held end' outputs' → end ≡ end'
-ends_one (AskCompile object verilog chosen) held end end' outputs outputs' a b = a.0 ∙ sym b.0
-ends_one (AskRun names verilog chosen ifindex) held end end' outputs outputs' a b = a.0 ∙ sym b.0
-ends_one (AskSim names verilog chosen ifindex clocks) held end end' outputs outputs' a b = one_end names verilog chosen ifindex clocks held end end' outputs outputs' a b
-ends_one (AskRef names chosen ifindex) held end end' outputs outputs' a b = a.0 ∙ sym b.0
+pub ends_one : (request : Request) (held : Holding) (end end' : Option CommandError) (outputs outputs' : Outputs) → HasOneMeaning → IsOutcome request held end outputs → IsOutcome request held end' outputs' → end ≡ end'
+ends_one (AskCompile object verilog chosen) held end end' outputs outputs' one a b = a.0 ∙ sym b.0
+ends_one (AskRun names verilog chosen ifindex) held end end' outputs outputs' one a b = a.0 ∙ sym b.0
+ends_one (AskSim names verilog chosen ifindex clocks) held end end' outputs outputs' one a b = one_end names verilog chosen ifindex clocks held end end' outputs outputs' one a b
+ends_one (AskRef names chosen ifindex) held end end' outputs outputs' one a b = a.0 ∙ sym b.0
 
 -- ---- from what was read to what is written
 -- these writes make what the command is to leave, and come to this end
@@ -215,10 +227,10 @@ run_makes names verilog chosen ifindex a b object capture pipeline magic packets
 }
 
 pub sim_makes : (names : Names) (verilog : List ℕ) (chosen : Chosen) (ifindex clocks : ℕ) (a b c d : ShelfState) (object text capture : List ℕ) (program : XdpProgram) (design : Netlist) (first : MapState) (magic : ℕ) (packets : List Packet) (simulated : Simulated) → AreApart names → Changes [] a b → Changes [] a c → Changes [] a d
-    → IsRead (program_form chosen without_maps) names.object a object → IsTaken chosen without_maps object program → IsRead text_form verilog b text → IsTextOf text design → AreRead names.maps program.decls c first → IsRead capture_form names.capture d capture → IsCaptured capture magic packets
-    → IsSimOf names design ifindex clocks magic packets simulated → IsTrue a.tells → Makes (AskSim names verilog chosen ifindex clocks) a.held simulated.end (map write_of simulated.writes.items)
+    → IsRead (object_form chosen) names.object a object → IsObject chosen object program → IsRead text_form verilog b text → IsTextOf text design → AreRead names.maps program.decls c first → IsRead capture_form names.capture d capture → IsCaptured capture magic packets
+    → IsSimOf names design first ifindex clocks magic packets simulated → IsTrue a.tells → Makes (AskSim names verilog chosen ifindex clocks) a.held simulated.end (map write_of simulated.writes.items)
 sim_makes names verilog chosen ifindex clocks a b c d object text capture program design first magic packets simulated apart same same' same'' read is read' spells starts read'' captured sim told = record {
-  outputs = sim_outputs names magic packets (answers_given [] sim.drive.trace) (is_none simulated.end);
+  outputs = sim_outputs names magic packets sim.given;
   outcome = record {
     program = program;
     held_object = record { bytes = object; there = read.there told; within = read.within; is = is };
@@ -229,14 +241,14 @@ sim_makes names verilog chosen ifindex clocks a b c d object text capture progra
     magic = magic;
     packets = packets;
     held_capture = was_held CAPTURE_LIMIT names.capture a d capture (λ bytes. IsCaptured bytes magic packets) same'' read''.there read''.within captured told;
-    drive = sim.drive;
-    is_drive = sim.is_drive;
+    given = sim.given;
+    is_given = sim.is_given;
     end_is = sim.end_is;
     outputs_are = refl;
   };
   writes_are = sim.writes_are;
-  built = result_built names magic packets (answers_given [] sim.drive.trace) (finals_if (is_none simulated.end)) apart;
-  of = result_names names magic packets (answers_given [] sim.drive.trace) (finals_if (is_none simulated.end));
+  built = result_built names magic packets sim.given.answers (final_text sim.given.end) apart;
+  of = result_names names magic packets sim.given.answers (final_text sim.given.end);
 }
 
 pub ref_makes : (names : Names) (chosen : Chosen) (ifindex : ℕ) (a b c : ShelfState) (object capture : List ℕ) (program : XdpProgram) (first : MapState) (magic : ℕ) (packets : List Packet) (writes : List code.Write) → AreApart names → Changes [] a b → Changes [] a c
@@ -275,11 +287,16 @@ answers_count program maps last ifindex packets answers is =
     ap length is.answers_are ∙ length-map is.leaves answer_of ∙ runs_length (code_of program) maps (packets_in (came_by ifindex packets)) is.leaves last is.runs
     ∙ packets_count (came_by ifindex packets) ∙ length-map packets (arrival_of ifindex)
 
-pub counted : (program : XdpProgram) (maps last : MapState) (ifindex : ℕ) (timed : List Timed) (answers : List Answer) (captured : Captured) (packets : List Packet) → IsSequential program maps (came_by ifindex timed) answers last → timed ≡ captured.packets.items → IsCaptureOf captured packets → length answers ≤ length captured.stamps.items
-counted program maps last ifindex timed answers captured packets is same of =
-    let e : length answers ≡ length timed = answers_count program maps last ifindex timed answers is in
+-- no more than there are packets
+pub count_within : (n : ℕ) (timed : List Timed) (captured : Captured) (packets : List Packet) → n ≤ length timed → timed ≡ captured.packets.items → IsCaptureOf captured packets → n ≤ length captured.stamps.items
+count_within n timed captured packets few same of =
     let f : length timed ≡ length (timed_packets captured.magic packets) = ap length (same ∙ of.timed) in
     let s : length captured.stamps.items ≡ length (map stamp_of packets) = ap length of.stamps in
     let g : length (timed_packets captured.magic packets) ≡ length packets = length-map packets (timed_of captured.magic) in
     let h : length (map stamp_of packets) ≡ length packets = length-map packets stamp_of in
-    omega (arith, e, f, s, g, h)
+    omega (arith, few, f, s, g, h)
+
+pub counted : (program : XdpProgram) (maps last : MapState) (ifindex : ℕ) (timed : List Timed) (answers : List Answer) (captured : Captured) (packets : List Packet) → IsSequential program maps (came_by ifindex timed) answers last → timed ≡ captured.packets.items → IsCaptureOf captured packets → length answers ≤ length captured.stamps.items
+counted program maps last ifindex timed answers captured packets is same of =
+    let e : length answers ≡ length timed = answers_count program maps last ifindex timed answers is in
+    count_within (length answers) timed captured packets (omega (arith, e)) same of

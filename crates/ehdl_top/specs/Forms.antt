@@ -1,5 +1,5 @@
 -- The forms of inputs: how many bytes one may have, which bytes are in its form, and the first fault of the others.
-use Rattle.std.specs.Prelude.{◌≡◌, ◌≢◌, ◌⊎◌, ℕ, ◌≤◌, List, [], length, Option, Some, None, Result, Ok, Err}
+use Rattle.std.specs.Prelude.{◌≡◌, ◌⊎◌, ℕ, ◌≤◌, List, [], length, Option, Some, None, Result, Ok, Err}
 use Rattle.shelf_core.specs.Shelf.{Holding, IsLonger}
 use Rattle.pcap_core.specs.declared.error.PcapError.{PcapError}
 use Rattle.list_laws.specs.Bytes.{IsBytes}
@@ -18,7 +18,6 @@ use Rattle.xdp_object.specs.Choice.{Chosen}
 use Rattle.xdp_object.specs.Maps.{MapTable}
 use Rattle.xdp_object.specs.Object.{FirstFault, IsObject, function_of, maps_of}
 use Rattle.kind_core.specs.declared.why.Refusal.{Refusal}
-use Rattle.kind_core.specs.declared.why.Why.TheVariants.{Instruction}
 use Rattle.unfold_core.specs.Acceptance.{IsAccepted, IsFirstRefusal}
 use Rattle.ehdl_build.specs.Compiled.{RefusesProgram}
 use Rattle.ehdl_top.specs.declared.limits.TheConstants.{OBJECT_LIMIT, VERILOG_LIMIT, MAPS_LIMIT, CAPTURE_LIMIT}
@@ -92,9 +91,19 @@ built = record { Takes = λ p. (r : Refusal) → ¬ RefusesProgram p r; Refuses 
 abbrev pub accepted : ProgramRule
 accepted = record { Takes = IsAccepted; Refuses = IsFirstRefusal }
 
--- For now a text that is given is simulated for programs without maps alone.
-abbrev pub without_maps : ProgramRule
-without_maps = record { Takes = λ p. p.decls ≡ []; Refuses = λ p r. (p.decls ≢ []) × (r ≡ record { at = 0; why = Instruction }) }
+-- an object alone, whatever its program
+abbrev pub ObjectFaults : Chosen → List ℕ → CommandError → Type 0
+ObjectFaults choice bytes (error.Object fault) = FirstFault choice bytes fault
+ObjectFaults choice bytes e = ⊥
+
+abbrev pub object_form : Chosen → InputForm
+object_form choice = record {
+  limit = OBJECT_LIMIT;
+  too_long = error.Object Long;
+  Fits = λ bytes. (program : XdpProgram) × IsObject choice bytes program;
+  Faults = ObjectFaults choice;
+  Ends = λ s. s ≡ status.Object;
+}
 
 -- ---- Verilog texts
 -- a text spells this design, and no other

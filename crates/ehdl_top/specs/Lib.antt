@@ -4,6 +4,7 @@ pub mod States
 pub mod Forms
 pub mod Inputs
 pub mod Writes
+pub mod Simulation
 pub mod Results
 pub mod Outcome
 pub mod Requests

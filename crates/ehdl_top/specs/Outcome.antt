@@ -1,24 +1,20 @@
 -- What a command leaves, by what its inputs hold.
-use Rattle.std.specs.Prelude.{◌≡◌, ℕ, List, [], length, Option, Some, None, is_none}
+use Rattle.std.specs.Prelude.{◌≡◌, ℕ, List, Option, Some}
 use Rattle.shelf_core.specs.Shelf.{Holding}
 use Rattle.pcap_core.specs.Format.{Packet}
-use Rattle.net_core.specs.declared.tree.Net.TheVariants.{Wire}
 use Rattle.net_core.specs.Nets.{Netlist}
-use Rattle.net_core.specs.Names as net_names
-use Rattle.net_core.specs.Clock.{first_stored}
-use Rattle.net_core.specs.History.{answers_given, Drive, Ended, Answered, Stopped, OutOfClocks}
 use Rattle.beat_core.specs.declared.answer.Answer.{Answer}
-use Rattle.port_drive.specs.Reports.{full_drive}
 use Rattle.xdp_object.specs.Program.{XdpProgram}
 use Rattle.xdp_maps.specs.State.{MapState, opened_state}
 use Rattle.maps_text.specs.Writing.{text_of}
 use Rattle.ehdl_build.specs.Compiled.{PipelineSize, HasSize, IsSequential, Realizes}
 use Rattle.xdp_object.specs.Choice.{Chosen}
+use Rattle.xdp_object.specs.Object.{IsObject}
 use Rattle.command_line.specs.Request.{Names}
 use Rattle.ehdl_top.specs.declared.limits.TheConstants.{OBJECT_LIMIT, VERILOG_LIMIT, CAPTURE_LIMIT}
 use Rattle.ehdl_top.specs.declared.error.CommandError.{CommandError}
-use Rattle.ehdl_top.specs.declared.error.CommandError.TheVariants as error
-use Rattle.ehdl_top.specs.Forms.{Holds, IsTaken, IsTextOf, StartsFrom, IsCaptured, built, accepted, without_maps}
+use Rattle.ehdl_top.specs.Forms.{Holds, IsTaken, IsTextOf, StartsFrom, IsCaptured, built, accepted}
+use Rattle.ehdl_top.specs.Simulation.{Simulation, simulation, given_up}
 use Rattle.ehdl_top.specs.Writes.{Outputs}
 use Rattle.ehdl_top.specs.Results.{timed_packets, came_by, compile_outputs, run_outputs, result_outputs, sim_outputs}
 
@@ -53,17 +49,12 @@ pub record IsRun (names : Names) (verilog : List ℕ) (chosen : Chosen) (ifindex
   pub outputs_are : outputs ≡ run_outputs names verilog text magic packets answers (text_of final)
 
 -- ---- sim
--- why a drive over so many frames was given up, if it was
-abbrev pub drive_error : Netlist → ℕ → Drive → Ended → Option CommandError
-drive_error design frames drive Answered = None
-drive_error design frames drive (Stopped w) = Some (error.XValue (net_names.name_of design (Wire w)))
-drive_error design frames drive OutOfClocks = Some (error.Late (length (answers_given [] drive.trace)) frames)
-
--- The files that a Verilog text and a capture ask for, and whether the drive was given up: the answers are those of the full
--- drive, in at most so many clocks, of the one design that the text spells. Without all answers there are no final maps.
+-- The files that a Verilog text, an object, a capture and, if it is named, a text of maps ask for, and why the simulation was given up,
+-- if it was. The one design that the text spells is loaded with the maps of the object that the text of maps lists, or with maps in which
+-- nothing was written; it is driven by the capture in at most so many clocks, and its maps are dumped.
 pub record IsSimulated (names : Names) (verilog : List ℕ) (chosen : Chosen) (ifindex clocks : ℕ) (held : Holding) (end : Option CommandError) (outputs : Outputs) : Type 0 where
   pub program : XdpProgram
-  pub held_object : Holds OBJECT_LIMIT (held names.object) (λ bytes. IsTaken chosen without_maps bytes program)
+  pub held_object : Holds OBJECT_LIMIT (held names.object) (λ bytes. IsObject chosen bytes program)
   pub design : Netlist
   pub held_text : Holds VERILOG_LIMIT (held verilog) (λ bytes. IsTextOf bytes design)
   pub first : MapState
@@ -71,10 +62,10 @@ pub record IsSimulated (names : Names) (verilog : List ℕ) (chosen : Chosen) (i
   pub magic : ℕ
   pub packets : List Packet
   pub held_capture : Holds CAPTURE_LIMIT (held names.capture) (λ bytes. IsCaptured bytes magic packets)
-  pub drive : Drive
-  pub is_drive : drive ≡ full_drive design ifindex (first_stored design) (timed_packets magic packets) clocks
-  pub end_is : end ≡ drive_error design (length packets) drive drive.ended
-  pub outputs_are : outputs ≡ sim_outputs names magic packets (answers_given [] drive.trace) (is_none end)
+  pub given : Simulation
+  pub is_given : given ≡ simulation design first ifindex (timed_packets magic packets) clocks
+  pub end_is : end ≡ given_up given.end
+  pub outputs_are : outputs ≡ sim_outputs names magic packets given
 
 -- ---- ref
 -- The files that an object, a capture and, if it is named, a text of maps ask for of sequential execution alone: the answers of the

@@ -5,7 +5,7 @@ use Rattle.command_line.specs.Request.{Request, AskCompile, AskRun, AskSim, AskR
 use Rattle.ehdl_top.specs.declared.status.Status.{Status}
 use Rattle.ehdl_top.specs.declared.status.Status.TheVariants as status
 use Rattle.ehdl_top.specs.declared.error.CommandError.{CommandError}
-use Rattle.ehdl_top.specs.Forms.{program_form, built, accepted, without_maps, text_form, maps_form, held_decls, capture_form}
+use Rattle.ehdl_top.specs.Forms.{program_form, built, accepted, object_form, text_form, maps_form, held_decls, capture_form}
 use Rattle.ehdl_top.specs.Inputs.{Input, input, may_input, FirstStop, EndsAtInput}
 use Rattle.ehdl_top.specs.Writes.{Outputs}
 use Rattle.ehdl_top.specs.Outcome.{IsCompiled, IsRun, IsSimulated, IsReference}
@@ -16,7 +16,7 @@ inputs_of (AskCompile object verilog chosen) held = input object (program_form c
 inputs_of (AskRun names verilog chosen ifindex) held =
     input names.object (program_form chosen built) ∷ input names.capture capture_form ∷ []
 inputs_of (AskSim names verilog chosen ifindex clocks) held =
-    input names.object (program_form chosen without_maps) ∷ input verilog text_form
+    input names.object (object_form chosen) ∷ input verilog text_form
     ∷ (may_input names.maps (maps_form (held_decls chosen (held names.object))) ++ input names.capture capture_form ∷ [])
 inputs_of (AskRef names chosen ifindex) held =
     input names.object (program_form chosen accepted)

@@ -1,5 +1,5 @@
 -- The texts of answers: a capture of them, and a verdict line for each.
-use Rattle.std.specs.Prelude.{ℕ, zero, suc, Bool, if◌then◌else◌, Option, Some, None, List, [], ◌∷◌, ◌++◌, length, map, slice_index_or}
+use Rattle.std.specs.Prelude.{ℕ, zero, suc, Option, Some, None, List, [], ◌∷◌, ◌++◌, length, map, slice_index_or}
 use Rattle.pcap_core.specs.declared.order.Order.TheVariants.{Little}
 use Rattle.pcap_core.specs.Format.{Packet, header_bytes, record_bytes}
 use Rattle.pcap_core.specs.Time.{timed_of}
@@ -9,6 +9,7 @@ use Rattle.beat_core.specs.Laws.{arrival_of}
 use Rattle.beat_core.specs.declared.answer.Answer.{Answer}
 use Rattle.command_line.specs.Request.{Names}
 use Rattle.ehdl_top.specs.Lines.{verdict_line_of}
+use Rattle.ehdl_top.specs.Simulation.{Simulation, final_text}
 use Rattle.ehdl_top.specs.Writes.{File, file, Write, Begin, Append, Outputs, file_writes}
 
 -- the texts of 0, 1, .., so many of them, one behind the other
@@ -98,13 +99,6 @@ run_outputs names verilog text magic packets answers final = record {
   writes = file_writes verilog text ++ result_writes names magic packets answers (Some final);
 }
 
--- the text of no maps, which are all that are simulated by a text that is read so far
-abbrev pub no_maps : List ℕ
-no_maps = []
-
--- the final maps only where all answers are there
-abbrev pub finals_if : Bool → Option (List ℕ)
-finals_if whole = if whole then Some no_maps else None
-
-abbrev pub sim_outputs : Names → ℕ → List Packet → List Answer → Bool → Outputs
-sim_outputs names magic packets answers whole = result_outputs names magic packets answers (finals_if whole)
+-- the answers that a simulation gives, and its final maps where it comes to its end
+abbrev pub sim_outputs : Names → ℕ → List Packet → Simulation → Outputs
+sim_outputs names magic packets given = result_outputs names magic packets given.answers (final_text given.end)

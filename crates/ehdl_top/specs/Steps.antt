@@ -1,5 +1,5 @@
 -- What the steps of a command give each other.
-use Rattle.std.specs.Prelude.{◌≡◌, ◌≢◌, ◌⊎◌, ℕ, ◌<◌, ◌≤◌, ◌^◌, IsTrue, List, [], length, map, Option, Some, None, is_none, Result, Ok, Err}
+use Rattle.std.specs.Prelude.{◌≡◌, ◌≢◌, ◌⊎◌, ℕ, ◌<◌, ◌≤◌, ◌^◌, IsTrue, List, [], length, map, Option, Some, None, Result, Ok, Err}
 use Rattle.std.specs.Borrow.{Bor}
 use Rattle.std.specs.List.{AllByRecursion}
 use Rattle.shelf_core.specs.Shelf.{Rose}
@@ -7,10 +7,11 @@ use Rattle.beat_core.specs.Laws.{IsPacket}
 use Rattle.beat_core.specs.declared.frame.Timed.{Timed}
 use Rattle.pcap_core.specs.Format.{Packet}
 use Rattle.net_core.specs.Nets.{Netlist}
-use Rattle.net_core.specs.Clock.{first_stored}
-use Rattle.net_core.specs.History.{Drive, answers_given}
+use Rattle.net_core.specs.Names.{name_of}
+use Rattle.clock_sim.specs.Running.{IsNamed}
 use Rattle.beat_core.specs.declared.answer.Answer.{Answer}
-use Rattle.port_drive.specs.Reports.{full_drive}
+use Rattle.port_drive.specs.declared.report.DriveError.{DriveError}
+use Rattle.port_drive.specs.declared.report.DriveError.TheVariants as drive
 use Rattle.xdp_object.specs.Program.{XdpProgram}
 use Rattle.xdp_object.specs.Choice.{Chosen}
 use Rattle.xdp_maps.specs.declared.decl.MapDecl.{MapDecl}
@@ -30,7 +31,7 @@ use Rattle.ehdl_top.specs.Forms.{InputForm, IsFaulty, IsTaken, built, accepted, 
 use Rattle.ehdl_top.specs.Inputs.{FirstStop, OneUnread, EndsAtInput}
 use Rattle.ehdl_top.specs.Writes.{Write, Begin, Append}
 use Rattle.ehdl_top.specs.Results.{timed_packets, came_by, run_outputs, result_outputs, sim_outputs}
-use Rattle.ehdl_top.specs.Outcome.{drive_error}
+use Rattle.ehdl_top.specs.Simulation.{Simulation, simulation, given_up}
 use Rattle.ehdl_top.specs.Requests.{inputs_of, outputs_of, EndsItself}
 use Rattle.ehdl_top.specs.Ends.{HasWritten, HasBroken}
 use Rattle.ehdl_top.specs.Status.{ended, status_of}
@@ -117,11 +118,22 @@ TextStops bytes error.NoMemory = Unit {0}
 TextStops bytes e = ⊥
 
 -- ---- the drive
--- what the full drive of these packets in at most so many clocks gave: no more answers than there are packets
-pub record IsDriven (design : Netlist) (ifindex : ℕ) (packets : List Timed) (clocks : ℕ) (d : Driven) : Type 0 where
-  pub answers : d.answers ≡ answers_given [] (full_drive design ifindex (first_stored design) packets clocks).trace
-  pub few : length d.answers ≤ length packets
-  pub end : d.end ≡ drive_error design (length packets) (full_drive design ifindex (first_stored design) packets clocks) (full_drive design ifindex (first_stored design) packets clocks).ended
+-- a net at which clocks stopped is one of the design
+abbrev pub StopsInside : Netlist → DriveError → Type 0
+StopsInside design (drive.X x) = IsNamed design x.net
+StopsInside design (drive.Late answers frames clocks) = Unit {0}
+StopsInside design drive.NoMemory = Unit {0}
+
+-- what is given up for it, unless memory ran out
+abbrev pub error_of : Netlist → DriveError → Option CommandError
+error_of design (drive.X x) = Some (error.XValue (name_of design x.net))
+error_of design (drive.Late answers frames clocks) = Some (error.Late answers frames)
+error_of design drive.NoMemory = None
+
+-- what a simulation gave, by its definition
+pub record IsGiven (given : Simulation) (d : Driven) : Type 0 where
+  pub answers : d.answers ≡ given.answers
+  pub end : d.end ≡ given.end
 
 -- ---- sequential execution
 -- a packet that comes by an interface, as the machine takes it
@@ -162,12 +174,12 @@ pub record IsRunOf (names : Names) (verilog text : List ℕ) (program : XdpProgr
   pub runs : IsSequential program (opened_state program.decls) (came_by ifindex (timed_packets magic packets)) answers final
   pub writes_are : map write_of writes ≡ (run_outputs names verilog text magic packets answers (text_of final)).writes
 
--- the writes and the end of a simulation over these packets
-pub record IsSimOf (names : Names) (design : Netlist) (ifindex clocks magic : ℕ) (packets : List Packet) (simulated : Simulated) : Type 0 where
-  pub drive : Drive
-  pub is_drive : drive ≡ full_drive design ifindex (first_stored design) (timed_packets magic packets) clocks
-  pub end_is : simulated.end ≡ drive_error design (length packets) drive drive.ended
-  pub writes_are : map write_of simulated.writes.items ≡ (sim_outputs names magic packets (answers_given [] drive.trace) (is_none simulated.end)).writes
+-- the writes and the end of a simulation over these packets, from these maps on
+pub record IsSimOf (names : Names) (design : Netlist) (first : MapState) (ifindex clocks magic : ℕ) (packets : List Packet) (simulated : Simulated) : Type 0 where
+  pub given : Simulation
+  pub is_given : given ≡ simulation design first ifindex (timed_packets magic packets) clocks
+  pub end_is : simulated.end ≡ given_up given.end
+  pub writes_are : map write_of simulated.writes.items ≡ (sim_outputs names magic packets given).writes
 
 -- the writes of sequential execution alone, from these maps on
 pub record IsReferenceOf (names : Names) (program : XdpProgram) (first : MapState) (ifindex magic : ℕ) (packets : List Packet) (writes : List code.Write) : Type 0 where

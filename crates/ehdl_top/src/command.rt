@@ -20,6 +20,7 @@ use crate::run::run_files;
 use crate::sim::sim_files;
 use crate::status::Status;
 use command_line::{Command, Words, WordsError, read_words};
+use maps_text::has_one_meaning;
 use shelf_core::{Shelf, Sink};
 use std::alloc::Global;
 
@@ -96,10 +97,10 @@ fn report<O: Sink>(alloc: Global, error: &CommandError, out: &mut O) -> Status
 
 /// All that the program does, on the words that it is called with. `compile` compiles an object to a Verilog text. `run` writes
 /// the same text, simulates its bytes clock by clock over a capture, and writes what its ports gave. `sim` simulates a Verilog
-/// text that is there, in at most so many clocks. `ref` runs the object's program over a capture, one instruction after another. Of every way to end but [`Status::Done`] one line is put to the sink.
+/// text that is there, from the maps of a text on, in at most so many clocks of the drive. `ref` runs the object's program over a capture, one instruction after another. Of every way to end but [`Status::Done`] one line is put to the sink.
 pub fn top<S: Shelf, O: Sink>(alloc: Global, words: &Words, shelf: &mut S, out: &mut O) -> Status
     // What is written: a text that realizes the object's program, and what sequential execution on the capture gives; of a text
-    // that is given, what its full drive gives. It is written in the command's order.
+    // that is given, what the load, its full drive and the dump give. It is written in the command's order.
     ensures outcome { AllWritten result → IsTrue (S.tells shelf.old) → (request : Request) → AsksFor words.now request → EndsAs request result (state_of S.Shelf shelf.old) (state_of S.Shelf shelf.new) }
     // Where the inputs are there in their forms and no fault comes, all is written, want of memory aside.
     ensures complete { (request : Request) → AsksFor words.now request → IsTrue (S.tells shelf.old) → AreReady (inputs_of request (S.held shelf.old)) (S.held shelf.old) → ¬ OneRose (names_in (inputs_of request (S.held shelf.old))) (S.read_faults shelf.old) (S.read_faults shelf.new) → ¬ OneRose (outputs_of request) (S.write_faults shelf.old) (S.write_faults shelf.new) → AllWritten result ⊎ (result ≡ Status.NoMemory) }
@@ -110,7 +111,7 @@ pub fn top<S: Shelf, O: Sink>(alloc: Global, words: &Words, shelf: &mut S, out: 
     ensures untouched { result ≡ Status.Usage → shelf.new ≡ shelf.old }
     // exactly where an input is not in its form and those before it are, want of memory aside, and a fault of a read up to it;
     ensures inputs { (request : Request) → AsksFor words.now request → IsTrue (S.tells shelf.old) → (e : CommandError) → FirstStop (inputs_of request (S.held shelf.old)) (S.held shelf.old) e → (result ≡ status_of e) ⊎ ((result ≡ Status.ReadFault) ⊎ (result ≡ Status.NoMemory)) }
-    // exactly where a drive is given up, faults and want of memory aside.
+    // exactly where a simulation is given up, faults and want of memory aside.
     ensures driven { (request : Request) → AsksFor words.now request → IsTrue (S.tells shelf.old) → (e : CommandError) (outputs : Outputs) → IsOutcome request (S.held shelf.old) (Some e) outputs → (result ≡ status_of e) ⊎ IsFault result }
     // A fault of a read: the count of this input rose, and those before it are in their forms. A fault of a write.
     ensures read_fault { result ≡ Status.ReadFault → (request : Request) → AsksFor words.now request → OneUnread (inputs_of request (S.held shelf.old)) (state_of S.Shelf shelf.old) (state_of S.Shelf shelf.new) }
@@ -128,6 +129,8 @@ pub fn top<S: Shelf, O: Sink>(alloc: Global, words: &Words, shelf: &mut S, out: 
     ensures silent { result ≡ Status.Done → out.new ≡ out.old }
     ensures sink { IsLaterSink (sink_of O.Sink out.old) (sink_of O.Sink out.new) }
 {
+    // One text of maps says what a simulation starts from.
+    has_one_meaning();
     match run_words(alloc, words, shelf) {
         Ok(()) => Status::Done,
         Err(error) => report(alloc, &error, out),

@@ -1,61 +1,125 @@
-// A design, driven over frames.
+// A design, simulated: the host loads maps into it, packets are driven through it, and the host reads its maps.
 
-ghost use Rattle.std.specs.Prelude.{◌≡◌, ◌≤◌, ◌<◌, ◌^◌, List, length, map, drop, IfOk};
+ghost use Rattle.std.specs.Prelude.{◌≡◌, ◌≤◌, ◌<◌, ◌^◌, List, Some, All, length, map, drop, IfOk};
 ghost use Rattle.net_core.specs.View.{netlist_of};
 ghost use Rattle.design_rules.specs.Formed.{IsWellFormed};
+ghost use Rattle.xdp_maps.specs.Contents.{IsWithinLimits};
 ghost use Rattle.ehdl_build.specs.Bounds.{clock_bound, most_beats};
-ghost use Rattle.ehdl_top.specs.Steps.{IsDriven};
+ghost use Rattle.ehdl_top.specs.Simulation.{dumped, driven, simulation};
+ghost use Rattle.ehdl_top.specs.Steps.{StopsInside, error_of, IsGiven};
 
 use crate::error::{CommandError, NetName};
 use beat_core::Timed;
 use clock_sim::Sim;
 use net_core::design::Design;
-use port_drive::{Answers, DriveError, drive};
+use port_drive::{Answers, DriveError, drive, dump, load};
 use std::alloc::{AllocError, Global};
+use xdp_maps::decl::MapDecl;
+use xdp_maps::state::Maps;
 
-/// What a drive gave, and why it was given up, if it was.
+/// What a simulation gave: the answers, and the maps in the end, or why it was given up.
 #[derive(Drop)]
 pub(crate) struct Driven {
     pub(crate) answers: Answers,
-    pub(crate) end: Option<CommandError>,
+    pub(crate) end: Result<Maps, CommandError>,
 }
 
-/// Drives a design by packets whose beats are offered, and those of answers taken, at every clock, in at most so many clocks.
-pub(crate) fn drive_design(
+// What a simulation is given up for, with the name of the net where a clock stopped.
+fn give_up(alloc: Global, sim: &Sim, error: DriveError) -> Result<CommandError, AllocError>
+    requires { StopsInside sim.now.netlist error }
+    ensures { IfOk result (λ e. error_of sim.now.netlist error ≡ Some e) }
+{
+    match error {
+        DriveError::X(x) => {
+            let name = NetName::new(alloc, sim.name(x.net))?;
+            Ok(CommandError::XValue(name))
+        }
+        DriveError::Late {
+            answers,
+            frames,
+            ..
+        } => Ok(CommandError::Late { answers, frames }),
+        DriveError::NoMemory => Err(AllocError),
+    }
+}
+
+// The maps that a design shows the host, unless a clock stops.
+fn dump_design(
     alloc: Global,
-    design: Design,
+    sim: &mut Sim,
+    decls: &[MapDecl],
+) -> Result<Result<Maps, CommandError>, AllocError>
+    requires formed { IsWellFormed sim.old.netlist }
+    requires limits { All IsWithinLimits decls.now }
+    requires few { length decls.now ≤ 16 }
+    ensures { IfOk result (λ end. end ≡ dumped sim.old.netlist sim.old.stored decls.now) }
+{
+    match dump(alloc, sim, decls) {
+        Ok(maps) => Ok(Ok(maps)),
+        Err(error) => {
+            let error = give_up(alloc, sim, error)?;
+            Ok(Err(error))
+        }
+    }
+}
+
+// Drives a design by packets whose beats are offered, and those of answers taken, at every clock, in at most so many clocks. Behind the
+// last answer its maps are dumped.
+fn drive_design(
+    alloc: Global,
+    sim: &mut Sim,
+    decls: &[MapDecl],
     packets: &[Timed],
     ifindex: u32,
     clocks: u64,
 ) -> Result<Driven, AllocError>
-    requires { IsWellFormed (netlist_of design) }
-    ensures { IfOk result (IsDriven (netlist_of design) ifindex packets.now clocks) }
+    requires formed { IsWellFormed sim.old.netlist }
+    requires limits { All IsWithinLimits decls.now }
+    requires few { length decls.now ≤ 16 }
+    ensures { IfOk result (IsGiven (driven sim.old.netlist sim.old.stored decls.now ifindex packets.now clocks)) }
 {
-    let mut sim = Sim::open(alloc, design)?;
     let mut answers = Answers::new(alloc);
-    match drive(alloc, &mut sim, packets, ifindex, clocks, &mut answers) {
-        Ok(_drive) => Ok(Driven { answers, end: None }),
-        Err(DriveError::X(x)) => {
-            let name = NetName::new(alloc, sim.name(x.net))?;
+    match drive(alloc, sim, packets, ifindex, clocks, &mut answers) {
+        Ok(_drive) => {
+            let end = dump_design(alloc, sim, decls)?;
+            Ok(Driven { answers, end })
+        }
+        Err(error) => {
+            let error = give_up(alloc, sim, error)?;
             Ok(Driven {
                 answers,
-                end: Some(CommandError::XValue(name)),
+                end: Err(error),
             })
         }
-        Err(
-            DriveError::Late {
-                answers: given,
-                frames: owed,
-                ..
-            },
-        ) => Ok(Driven {
-            answers,
-            end: Some(CommandError::Late {
-                answers: given,
-                frames: owed,
-            }),
-        }),
-        Err(DriveError::NoMemory) => Err(AllocError),
+    }
+}
+
+/// Simulates a design over packets: these maps are loaded, the packets are driven through in at most so many clocks, and the maps are
+/// dumped.
+pub(crate) fn simulate_design(
+    alloc: Global,
+    design: Design,
+    maps: &Maps,
+    packets: &[Timed],
+    ifindex: u32,
+    clocks: u64,
+) -> Result<Driven, AllocError>
+    requires formed { IsWellFormed (netlist_of design) }
+    requires limits { All IsWithinLimits maps.now.decls }
+    requires few { length maps.now.decls ≤ 16 }
+    ensures { IfOk result (IsGiven (simulation (netlist_of design) maps.now ifindex packets.now clocks)) }
+{
+    let decls = maps.decls();
+    let mut sim = Sim::open(alloc, design)?;
+    match load(&mut sim, maps) {
+        Ok(()) => drive_design(alloc, &mut sim, decls, packets, ifindex, clocks),
+        Err(error) => {
+            let error = give_up(alloc, &sim, error)?;
+            Ok(Driven {
+                answers: Answers::new(alloc),
+                end: Err(error),
+            })
+        }
     }
 }
 

@@ -4,23 +4,17 @@ ghost use Rattle.std.specs.Prelude.{◌≡◌, ◌≢◌, ◌⊎◌, ℕ, List, 
 ghost use Rattle.xdp_object.specs.Object.{IsObject};
 ghost use Rattle.xdp_object.specs.Program.{XdpProgram};
 ghost use Rattle.xdp_object.specs.Choice.{chosen_of};
-ghost use Rattle.ehdl_top.specs.Forms.{IsTaken, program_form, built, accepted, without_maps};
+ghost use Rattle.ehdl_top.specs.Forms.{program_form, built, accepted, object_form};
 ghost use Rattle.ehdl_top.specs.Steps.{IsBuiltOf, IsUnfoldedBy, IsGivenUp};
 
 use crate::error::CommandError;
 use crate::form::Form;
 use crate::limits::OBJECT_LIMIT;
 use ehdl_build::{Built, CompileError, compile};
-use kind_core::{BuildError, Refusal, Why};
+use kind_core::BuildError;
 use std::alloc::Global;
 use unfold_core::unfold;
 use xdp_object::{Choice, ObjectError, Program, read_object};
-
-/// The refusal of maps where they are not simulated yet.
-const NOT_YET: Refusal = Refusal {
-    at: 0,
-    why: Why::Instruction,
-};
 
 /// An object of a program that is compiled. What is built of it is what is read.
 #[derive(Clone, Copy)]
@@ -74,7 +68,7 @@ impl Form for AcceptedForm<'_> {
     }
 }
 
-/// An object, which is read for its maps alone. For now it has to have none.
+/// An object, whose program is what is read, whatever it is.
 #[derive(Clone, Copy)]
 pub(crate) struct ObjectForm<'a> {
     pub(crate) choice: Choice<'a>,
@@ -83,9 +77,9 @@ pub(crate) struct ObjectForm<'a> {
 impl Form for ObjectForm<'_> {
     type Value = Program;
 
-    ghost form = { λ f. program_form (chosen_of f.choice) without_maps };
+    ghost form = { λ f. object_form (chosen_of f.choice) };
 
-    ghost Gives = { λ f bytes program. IsTaken (chosen_of f.choice) without_maps bytes program };
+    ghost Gives = { λ f bytes program. IsObject (chosen_of f.choice) bytes program };
 
     fn limit(&self) -> u64 {
         OBJECT_LIMIT
@@ -129,14 +123,13 @@ fn accepted_program(alloc: Global, object: &[u8], choice: Choice) -> Result<Prog
     }
 }
 
-// The program without maps of an object.
+// The program of an object.
 fn read_alone(alloc: Global, object: &[u8], choice: Choice) -> Result<Program, CommandError>
-    ensures program { IfOk result (IsTaken (chosen_of choice.entry) without_maps object.now) }
-    ensures given_up { IfErr result (IsGivenUp (program_form (chosen_of choice.entry) without_maps) object.now) }
+    ensures program { IfOk result (IsObject (chosen_of choice.entry) object.now) }
+    ensures given_up { IfErr result (IsGivenUp (object_form (chosen_of choice.entry)) object.now) }
 {
     match read_object(alloc, object, choice) {
-        Ok(program) if program.decls().is_empty() => Ok(program),
-        Ok(_) => Err(CommandError::Refused(NOT_YET)),
+        Ok(program) => Ok(program),
         Err(error) => Err(error_of(error)),
     }
 }

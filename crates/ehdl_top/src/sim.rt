@@ -1,15 +1,18 @@
 // The command `sim`.
 
-ghost use Rattle.std.specs.Prelude.{List, IfOk};
+ghost use Rattle.std.specs.Prelude.{◌≡◌, ◌≤◌, List, length, map, All, IfOk};
 ghost use Rattle.pcap_core.specs.Format.{Packet};
 ghost use Rattle.net_core.specs.View.{netlist_of};
 ghost use Rattle.design_rules.specs.Formed.{IsWellFormed};
+ghost use Rattle.xdp_maps.specs.Contents.{IsWithinLimits};
 ghost use Rattle.xdp_object.specs.Choice.{chosen_of};
 ghost use Rattle.command_line.specs.Request.{AskSim, names_of};
 ghost use Rattle.ehdl_top.specs.States.{state_of};
-ghost use Rattle.ehdl_top.specs.Steps.{AreApart, EndsIn, IsCaptureOf, IsSimOf};
+ghost use Rattle.ehdl_top.specs.Simulation.{final_text, given_up};
+ghost use Rattle.ehdl_top.specs.Results.{result_writes};
+ghost use Rattle.ehdl_top.specs.Steps.{AreApart, EndsIn, IsCaptureOf, IsSimOf, write_of};
 
-use crate::drive::{Driven, drive_design};
+use crate::drive::{Driven, simulate_design};
 use crate::error::CommandError;
 use crate::form::read_input;
 use crate::maps::read_maps;
@@ -19,9 +22,11 @@ use crate::results::push_results;
 use crate::verilog::TextForm;
 use crate::write::{Write, write_all};
 use command_line::{Choice, Files};
+use maps_text::write_maps_text;
 use net_core::design::Design;
 use shelf_core::Shelf;
 use std::alloc::{AllocError, Global};
+use xdp_maps::state::Maps;
 
 /// What is to be written of a simulation, and why it was given up, if it was.
 #[derive(Drop)]
@@ -30,34 +35,59 @@ pub(crate) struct Simulated<'a> {
     pub(crate) end: Option<CommandError>,
 }
 
-// Simulates a design over a capture in at most so many clocks.
+// What is to be written of a simulation that gave this.
+fn sim_writes<'a>(
+    alloc: Global,
+    files: &Files<'a>,
+    capture: &Captured,
+    driven: Driven,
+) -> Result<Simulated<'a>, AllocError>
+    requires count { length driven.answers ≤ length capture.now.stamps.items }
+    requires few { IfOk driven.end (λ maps. length maps.decls ≤ 16) }
+    ensures end { IfOk result (λ simulated. simulated.end ≡ given_up driven.end) }
+    ensures writes { IfOk result (λ simulated. (packets : List Packet) → IsCaptureOf capture.now packets → map write_of simulated.writes.items ≡ result_writes (names_of files.now) capture.now.magic packets driven.answers (final_text driven.end)) }
+{
+    let Driven { answers, end } = driven;
+    let mut writes = Vec::new(alloc);
+    match end {
+        Ok(shown) => {
+            let text = write_maps_text(alloc, &shown)?;
+            push_results(alloc, &mut writes, files, capture, &answers, Some(&text))?;
+            Ok(Simulated { writes, end: None })
+        }
+        Err(error) => {
+            push_results(alloc, &mut writes, files, capture, &answers, None)?;
+            Ok(Simulated {
+                writes,
+                end: Some(error),
+            })
+        }
+    }
+}
+
+// Simulates a design over a capture in at most so many clocks, from these maps on.
 fn simulate<'a>(
     alloc: Global,
     files: &Files<'a>,
     design: Design,
+    maps: &Maps,
     capture: &Captured,
     ifindex: u32,
     clocks: u32,
 ) -> Result<Simulated<'a>, AllocError>
     requires formed { IsWellFormed (netlist_of design) }
+    requires limits { All IsWithinLimits maps.now.decls }
+    requires few { length maps.now.decls ≤ 16 }
     requires captured { (packets : List Packet) × IsCaptureOf capture.now packets }
-    ensures { IfOk result (λ simulated. (packets : List Packet) → IsCaptureOf capture.now packets → IsSimOf (names_of files.now) (netlist_of design) ifindex clocks capture.now.magic packets simulated) }
+    ensures { IfOk result (λ simulated. (packets : List Packet) → IsCaptureOf capture.now packets → IsSimOf (names_of files.now) (netlist_of design) maps.now ifindex clocks capture.now.magic packets simulated) }
 {
-    let Driven { answers, end } = drive_design(
-        alloc,
-        design,
-        &capture.packets,
-        ifindex,
-        u64::from(clocks),
-    )?;
-    let mut writes = Vec::new(alloc);
-    let finals: Option<&[u8]> = if end.is_none() { Some(&[]) } else { None };
-    push_results(alloc, &mut writes, files, capture, &answers, finals)?;
-    Ok(Simulated { writes, end })
+    let clocks = u64::from(clocks);
+    let driven = simulate_design(alloc, design, maps, &capture.packets, ifindex, clocks)?;
+    sim_writes(alloc, files, capture, driven)
 }
 
-/// Simulates a Verilog text over a capture in at most so many clocks, and writes what its ports gave. Of the object only the
-/// maps count.
+/// Simulates a Verilog text over a capture in at most so many clocks, from the maps of a text if one is named, and writes what its ports
+/// gave and the maps in the end. Of the object only the declarations of its maps count.
 pub(crate) fn sim_files<S: Shelf>(
     alloc: Global,
     shelf: &mut S,
@@ -72,10 +102,11 @@ pub(crate) fn sim_files<S: Shelf>(
 {
     let program = read_input(alloc, shelf, files.object, &ObjectForm { choice })?;
     let design = read_input(alloc, shelf, verilog, &TextForm)?;
-    // There are no maps to load.
-    let _maps = read_maps(alloc, shelf, files.maps, &program)?;
+    let maps = read_maps(alloc, shelf, files.maps, &program)?;
     let capture = read_input(alloc, shelf, files.capture, &CaptureForm)?;
-    let simulated = simulate(alloc, files, design, &capture, ifindex, clocks)?;
+    // A program has few maps.
+    let _decls = program.decls();
+    let simulated = simulate(alloc, files, design, &maps, &capture, ifindex, clocks)?;
     let Simulated { writes, end } = simulated;
     write_all(shelf, &writes)?;
     match end {

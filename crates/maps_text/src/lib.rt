@@ -16,6 +16,6 @@ mod read;
 mod write;
 
 pub use error::MapsError;
-pub use laws::written_is_read;
+pub use laws::{has_one_meaning, written_is_read};
 pub use read::read_maps_text;
 pub use write::write_maps_text;

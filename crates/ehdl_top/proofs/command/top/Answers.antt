@@ -13,7 +13,7 @@ returns-in-Ok-clause-inputs g c = λ request asks told e stop.
 
 pub returns-in-Ok-clause-driven : goal.returns-in-Ok-clause-driven
 returns-in-Ok-clause-driven g c = λ request asks told e outputs outcome.
-    ended_driven request (state_of g.S.Shelf c.args.shelf.now) (state_of g.S.Shelf c.run_words.new.shelf) status.Done (done_ended request (state_of g.S.Shelf c.args.shelf.now) (state_of g.S.Shelf c.run_words.new.shelf) c.run_words.result _ c.in-Ok.is (c.run_words.ensures.ends request asks)) told e outputs outcome
+    ended_driven request (state_of g.S.Shelf c.args.shelf.now) (state_of g.S.Shelf c.run_words.new.shelf) status.Done c.has_one_meaning.ensures (done_ended request (state_of g.S.Shelf c.args.shelf.now) (state_of g.S.Shelf c.run_words.new.shelf) c.run_words.result _ c.in-Ok.is (c.run_words.ensures.ends request asks)) told e outputs outcome
 
 pub returns-in-Err-clause-outcome : goal.returns-in-Err-clause-outcome
 returns-in-Err-clause-outcome g c = λ all told request asks.
@@ -35,7 +35,7 @@ returns-in-Err-clause-inputs g c = λ request asks told e stop.
 
 pub returns-in-Err-clause-driven : goal.returns-in-Err-clause-driven
 returns-in-Err-clause-driven g c = λ request asks told e outputs outcome.
-    ended_driven request (state_of g.S.Shelf c.args.shelf.now) (state_of g.S.Shelf c.run_words.new.shelf) c.report.result
+    ended_driven request (state_of g.S.Shelf c.args.shelf.now) (state_of g.S.Shelf c.run_words.new.shelf) c.report.result c.has_one_meaning.ensures
     (report_ended request (state_of g.S.Shelf c.args.shelf.now) (state_of g.S.Shelf c.run_words.new.shelf) c.run_words.result c.in-Err.error c.report.result
     (sink_of g.O.Sink c.args.out.now) (sink_of g.O.Sink c.report.new.out) c.in-Err.is (c.run_words.ensures.ends request asks) c.report.ensures.why c.report.ensures.fixed) told e outputs outcome
 

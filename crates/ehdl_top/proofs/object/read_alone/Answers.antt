@@ -1,7 +1,6 @@
 use Rattle.xdp_object.specs.Choice.{chosen_of}
-use Rattle.ehdl_top.specs.Forms.{without_maps}
 use Rattle.ehdl_top.proofs.FormLemmas.{object_given_up}
 use Rattle.ehdl_top.proofs.object.read_alone.Goals as goal
 
 pub returns-in-Err-clause-given_up : goal.returns-in-Err-clause-given_up
-returns-in-Err-clause-given_up c = object_given_up (chosen_of c.args.choice) without_maps c.args.object.now c.in-Err.error c.error_of.result c.in-Err.ensures.fault c.error_of.ensures
+returns-in-Err-clause-given_up c = object_given_up (chosen_of c.args.choice) c.args.object.now c.in-Err.error c.error_of.result c.in-Err.ensures.fault c.error_of.ensures

@@ -1,27 +1,37 @@
-use Rattle.std.proofs.Common.{Option, [], ◌∷◌, List, map, length, is_none, inl, refl, sym, subst, ◌∙◌}
+use Rattle.std.proofs.Common.{Option, [], ◌∷◌, List, map, length, inl, refl, sym, ap, subst, ◌∙◌, arith}
 use Rattle.net_core.specs.View.{netlist_of}
-use Rattle.net_core.specs.History.{answers_given}
+use Rattle.xdp_maps.specs.declared.decl.MapDecl.{MapDecl}
 use Rattle.xdp_object.specs.Choice.{chosen_of}
 use Rattle.command_line.specs.Request.{AskSim, names_of}
 use Rattle.ehdl_top.specs.declared.error.CommandError.{CommandError}
 use Rattle.ehdl_top.specs.declared.write.Write as code
 use Rattle.ehdl_top.specs.States.{state_of}
 use Rattle.ehdl_top.specs.Writes.{AreDone, OneFailed}
-use Rattle.ehdl_top.specs.Results.{sim_outputs, finals_if}
-use Rattle.ehdl_top.specs.Forms.{without_maps, program_form, text_form, maps_form, held_decls, capture_form}
+use Rattle.ehdl_top.specs.Status.{ended}
+use Rattle.ehdl_top.specs.Simulation.{Simulation, final_text, given_up}
+use Rattle.ehdl_top.specs.Results.{timed_packets, sim_outputs}
+use Rattle.ehdl_top.specs.Forms.{object_form, text_form, maps_form, held_decls, capture_form}
 use Rattle.ehdl_top.specs.Inputs.{input, may_input}
-use Rattle.ehdl_top.specs.Requests.{outputs_of}
+use Rattle.ehdl_top.specs.Requests.{outputs_of, EndsItself}
 use Rattle.ehdl_top.specs.Steps.{write_of}
 use Rattle.ehdl_top.proofs.StateLemmas.{changes_none, changes_then}
 use Rattle.ehdl_top.proofs.WriteLemmas.{of_as}
 use Rattle.ehdl_top.proofs.ResultLemmas.{result_outputs_of}
 use Rattle.ehdl_top.proofs.OutcomeLemmas.{Makes, may_ready, starts_from, sim_makes}
 use Rattle.ehdl_top.proofs.FormLemmas.{decls_held}
-use Rattle.ehdl_top.proofs.EndLemmas.{was_ready, ends_unread, ends_mapless, ends_unwritten, ends_done, ends_driven, drive_ends}
+use Rattle.ehdl_top.proofs.EndLemmas.{was_ready, ends_unread, ends_mapless, ends_unwritten, ends_done, ends_driven}
+use Rattle.ehdl_top.proofs.RealizedLemmas.{limits_of}
+use Rattle.ehdl_top.proofs.SimulationLemmas.{sim_ends}
 use Rattle.ehdl_top.proofs.sim.sim_files.Goals as goal
 
-pub returns-in_err-_maps : goal.returns-in_err-_maps
-returns-in_err-_maps g c =
+pub simulate-requires-clause-few : goal.simulate-requires-clause-few
+simulate-requires-clause-few g c = omega (arith, ap (λ (ds : List MapDecl). length ds) c.in_ok-maps.ensures.decls, c.decls-decls.ensures.program.maps)
+
+pub simulate-requires-clause-limits : goal.simulate-requires-clause-limits
+simulate-requires-clause-limits g c = limits_of c.in_ok-program.program c.in_ok-maps.maps.decls c.decls-decls.ensures.program c.in_ok-maps.ensures.decls
+
+pub returns-in_err-maps : goal.returns-in_err-maps
+returns-in_err-maps g c =
     let names = names_of c.args.files.now in
     let choice = chosen_of c.args.choice in
     let old = state_of g.S.Shelf c.args.shelf.now in
@@ -30,13 +40,13 @@ returns-in_err-_maps g c =
     let new = state_of g.S.Shelf c.read_maps.new.shelf in
     let object = c.in_ok-program.ensures.read in
     let text = c.in_ok-design.ensures.read in
-    ends_mapless (AskSim names c.args.verilog.now choice c.args.ifindex c.args.clocks) old second new c.in_err-_maps.field-0.0 (changes_then [] old first second c.read_input.ensures.kept c.read_input-2.ensures.kept) c.read_maps.ensures.kept c.from_residual-in_err-_maps.result
-    (input names.object (program_form choice without_maps) ∷ input c.args.verilog.now text_form ∷ []) (input names.capture capture_form ∷ []) names.maps c.in_ok-program.program.decls (held_decls choice (old.held names.object)) c.from_residual-in_err-_maps.ensures.1 refl
+    ends_mapless (AskSim names c.args.verilog.now choice c.args.ifindex c.args.clocks) old second new c.in_err-maps.field-0.0 (changes_then [] old first second c.read_input.ensures.kept c.read_input-2.ensures.kept) c.read_maps.ensures.kept c.from_residual-in_err-maps.result
+    (input names.object (object_form choice) ∷ input c.args.verilog.now text_form ∷ []) (input names.capture capture_form ∷ []) names.maps c.in_ok-program.program.decls (held_decls choice (old.held names.object)) c.from_residual-in_err-maps.ensures.1 refl
     (λ told. (
-      was_ready (program_form choice without_maps) names.object old old object.0 (changes_none old) object.1 told,
+      was_ready (object_form choice) names.object old old object.0 (changes_none old) object.1 told,
       (was_ready text_form c.args.verilog.now old first text.0 c.read_input.ensures.kept text.1 told, tt),
     ))
-    (λ told. decls_held choice (old.held names.object) object.0 c.in_ok-program.program (object.1.there told) object.2.object) c.in_err-_maps.ensures.unread
+    (λ told. decls_held choice (old.held names.object) object.0 c.in_ok-program.program (object.1.there told) object.2) c.in_err-maps.ensures.unread
 
 pub returns-in_err-capture : goal.returns-in_err-capture
 returns-in_err-capture g c =
@@ -52,13 +62,13 @@ returns-in_err-capture g c =
     let both = changes_then [] old first second c.read_input.ensures.kept c.read_input-2.ensures.kept in
     let declared = held_decls choice (old.held names.object) in
     ends_unread (AskSim names c.args.verilog.now choice c.args.ifindex c.args.clocks) old third new c.in_err-capture.field-0.0 (changes_then [] old second third both c.read_maps.ensures.kept) c.read_input-3.ensures.kept c.from_residual-in_err-capture.result
-    (input names.object (program_form choice without_maps) ∷ input c.args.verilog.now text_form ∷ may_input names.maps (maps_form declared)) (input names.capture capture_form) [] c.from_residual-in_err-capture.ensures.1 refl
+    (input names.object (object_form choice) ∷ input c.args.verilog.now text_form ∷ may_input names.maps (maps_form declared)) (input names.capture capture_form) [] c.from_residual-in_err-capture.ensures.1 refl
     (λ told. (
-      was_ready (program_form choice without_maps) names.object old old object.0 (changes_none old) object.1 told,
+      was_ready (object_form choice) names.object old old object.0 (changes_none old) object.1 told,
       (
         was_ready text_form c.args.verilog.now old first text.0 c.read_input.ensures.kept text.1 told,
-        may_ready names.maps c.in_ok-program.program.decls declared old.held c.in_ok-_maps._maps (decls_held choice (old.held names.object) object.0 c.in_ok-program.program (object.1.there told) object.2.object)
-            (starts_from names.maps c.in_ok-program.program.decls old second c.in_ok-_maps._maps both c.in_ok-_maps.ensures.read told),
+        may_ready names.maps c.in_ok-program.program.decls declared old.held c.in_ok-maps.maps (decls_held choice (old.held names.object) object.0 c.in_ok-program.program (object.1.there told) object.2)
+            (starts_from names.maps c.in_ok-program.program.decls old second c.in_ok-maps.maps both c.in_ok-maps.ensures.read told),
       ),
     ))
     c.in_err-capture.ensures.unread
@@ -81,10 +91,10 @@ returns-in_err-write_all g c =
     let both = changes_then [] old first second c.read_input.ensures.kept c.read_input-2.ensures.kept in
     let all = changes_then [] old second third both c.read_maps.ensures.kept in
     let same = changes_then [] old third mid all c.read_input-3.ensures.kept in
-    let of = of_as (outputs_of request) (map write_of simulated.writes.items) (sim_outputs names c.in_ok-capture.capture.magic capture.2.packets (answers_given [] sim.drive.trace) (is_none simulated.end)).writes sim.writes_are
-    (result_outputs_of names c.in_ok-capture.capture.magic capture.2.packets (answers_given [] sim.drive.trace) (finals_if (is_none simulated.end))) in
-    let makes = sim_makes names c.args.verilog.now (chosen_of c.args.choice) c.args.ifindex c.args.clocks old first second third object.0 text.0 capture.0 c.in_ok-program.program (netlist_of c.in_ok-design.design) c.in_ok-_maps._maps c.in_ok-capture.capture.magic capture.2.packets simulated c.requires c.read_input.ensures.kept both all
-    object.1 object.2 text.1 text.2 c.in_ok-_maps.ensures.read capture.1 capture.2.is sim in
+    let of = of_as (outputs_of request) (map write_of simulated.writes.items) (sim_outputs names c.in_ok-capture.capture.magic capture.2.packets sim.given).writes sim.writes_are
+    (result_outputs_of names c.in_ok-capture.capture.magic capture.2.packets sim.given.answers (final_text sim.given.end)) in
+    let makes = sim_makes names c.args.verilog.now (chosen_of c.args.choice) c.args.ifindex c.args.clocks old first second third object.0 text.0 capture.0 c.in_ok-program.program (netlist_of c.in_ok-design.design) c.in_ok-maps.maps c.in_ok-capture.capture.magic capture.2.packets simulated c.requires c.read_input.ensures.kept both all
+    object.1 object.2 text.1 text.2 c.in_ok-maps.ensures.read capture.1 capture.2.is sim in
     let P : List code.Write → Type 0 = λ ws. OneFailed (map write_of ws) mid new in
     ends_unwritten request simulated.end old mid new (map write_of simulated.writes.items) c.from_residual-in_err-write_all.result c.from_residual-in_err-write_all.ensures.1 of same makes (subst P c.deref.ensures.value c.in_err-write_all.ensures.failed)
 
@@ -106,10 +116,10 @@ returns-in-None g c =
     let both = changes_then [] old first second c.read_input.ensures.kept c.read_input-2.ensures.kept in
     let all = changes_then [] old second third both c.read_maps.ensures.kept in
     let same = changes_then [] old third mid all c.read_input-3.ensures.kept in
-    let of = of_as (outputs_of request) (map write_of simulated.writes.items) (sim_outputs names c.in_ok-capture.capture.magic capture.2.packets (answers_given [] sim.drive.trace) (is_none simulated.end)).writes sim.writes_are
-    (result_outputs_of names c.in_ok-capture.capture.magic capture.2.packets (answers_given [] sim.drive.trace) (finals_if (is_none simulated.end))) in
-    let makes = sim_makes names c.args.verilog.now (chosen_of c.args.choice) c.args.ifindex c.args.clocks old first second third object.0 text.0 capture.0 c.in_ok-program.program (netlist_of c.in_ok-design.design) c.in_ok-_maps._maps c.in_ok-capture.capture.magic capture.2.packets simulated c.requires c.read_input.ensures.kept both all
-    object.1 object.2 text.1 text.2 c.in_ok-_maps.ensures.read capture.1 capture.2.is sim in
+    let of = of_as (outputs_of request) (map write_of simulated.writes.items) (sim_outputs names c.in_ok-capture.capture.magic capture.2.packets sim.given).writes sim.writes_are
+    (result_outputs_of names c.in_ok-capture.capture.magic capture.2.packets sim.given.answers (final_text sim.given.end)) in
+    let makes = sim_makes names c.args.verilog.now (chosen_of c.args.choice) c.args.ifindex c.args.clocks old first second third object.0 text.0 capture.0 c.in_ok-program.program (netlist_of c.in_ok-design.design) c.in_ok-maps.maps c.in_ok-capture.capture.magic capture.2.packets simulated c.requires c.read_input.ensures.kept both all
+    object.1 object.2 text.1 text.2 c.in_ok-maps.ensures.read capture.1 capture.2.is sim in
     let P : List code.Write → Type 0 = λ ws. AreDone (map write_of ws) mid new in
     let Q : Option CommandError → Type 0 = λ end. Makes request old.held end (map write_of simulated.writes.items) in
     ends_done request old mid new (map write_of simulated.writes.items) (inl refl) of same (λ told. subst Q c.in-None.is (makes told)) (subst P c.deref.ensures.value c.in_ok-write_all.ensures.done)
@@ -132,12 +142,13 @@ returns g c =
     let both = changes_then [] old first second c.read_input.ensures.kept c.read_input-2.ensures.kept in
     let all = changes_then [] old second third both c.read_maps.ensures.kept in
     let same = changes_then [] old third mid all c.read_input-3.ensures.kept in
-    let of = of_as (outputs_of request) (map write_of simulated.writes.items) (sim_outputs names c.in_ok-capture.capture.magic capture.2.packets (answers_given [] sim.drive.trace) (is_none simulated.end)).writes sim.writes_are
-    (result_outputs_of names c.in_ok-capture.capture.magic capture.2.packets (answers_given [] sim.drive.trace) (finals_if (is_none simulated.end))) in
-    let makes = sim_makes names c.args.verilog.now (chosen_of c.args.choice) c.args.ifindex c.args.clocks old first second third object.0 text.0 capture.0 c.in_ok-program.program (netlist_of c.in_ok-design.design) c.in_ok-_maps._maps c.in_ok-capture.capture.magic capture.2.packets simulated c.requires c.read_input.ensures.kept both all
-    object.1 object.2 text.1 text.2 c.in_ok-_maps.ensures.read capture.1 capture.2.is sim in
+    let of = of_as (outputs_of request) (map write_of simulated.writes.items) (sim_outputs names c.in_ok-capture.capture.magic capture.2.packets sim.given).writes sim.writes_are
+    (result_outputs_of names c.in_ok-capture.capture.magic capture.2.packets sim.given.answers (final_text sim.given.end)) in
+    let makes = sim_makes names c.args.verilog.now (chosen_of c.args.choice) c.args.ifindex c.args.clocks old first second third object.0 text.0 capture.0 c.in_ok-program.program (netlist_of c.in_ok-design.design) c.in_ok-maps.maps c.in_ok-capture.capture.magic capture.2.packets simulated c.requires c.read_input.ensures.kept both all
+    object.1 object.2 text.1 text.2 c.in_ok-maps.ensures.read capture.1 capture.2.is sim in
     let P : List code.Write → Type 0 = λ ws. AreDone (map write_of ws) mid new in
     let Q : Option CommandError → Type 0 = λ end. Makes request old.held end (map write_of simulated.writes.items) in
     ends_driven request c.in-Some.error old mid new (map write_of simulated.writes.items)
-    (drive_ends names c.args.verilog.now (chosen_of c.args.choice) c.args.ifindex c.args.clocks (netlist_of c.in_ok-design.design) (length capture.2.packets) sim.drive sim.drive.ended c.in-Some.error (sym c.in-Some.is ∙ sim.end_is))
+    (subst (λ (end : Option CommandError). EndsItself request (ended end)) (sym (ap (λ (given : Simulation). given_up given.end) sim.is_given) ∙ sym sim.end_is ∙ c.in-Some.is)
+    (sim_ends names c.args.verilog.now (chosen_of c.args.choice) c.args.ifindex c.args.clocks (netlist_of c.in_ok-design.design) c.in_ok-maps.maps c.args.ifindex (timed_packets c.in_ok-capture.capture.magic capture.2.packets)))
     of same (λ told. subst Q c.in-Some.is (makes told)) (subst P c.deref.ensures.value c.in_ok-write_all.ensures.done)
