@@ -4,3 +4,4 @@ pub mod Sites
 pub mod Kept
 pub mod Running
 pub mod Rows
+pub mod NumberLaws

@@ -22,6 +22,7 @@ use Rattle.cell_core.specs.Cells.{bit}
 use Rattle.cell_core.specs.Sites.{ProgramView, site_at, records, spelled, bytes_of, operation_with}
 use Rattle.cell_core.specs.Formed.{AllFit}
 use Rattle.cell_core.specs.Rows.{numbers}
+use Rattle.cell_core.proofs.NumberLaws.{numbers_more}
 use Rattle.cell_core.proofs.SpelledLaws.{spelled_length}
 use Rattle.hazard_core.specs.Tables.{TableState, decl_of, table_at}
 use Rattle.hazard_core.specs.Held.{Pointer, Null, same_pointer, is_null, Held, held_value, pointer_in, guard_on, asked, asked_key, access_pointer, found_cell, is_update, is_delete, writes_as, writes, adds_key, takes_key, slot_pointer, written_as, written_pointer, answer_cell}
@@ -54,10 +55,6 @@ asked_bytes p decls h j fit l =
     (bytes_are d.key (map_list (held_value h) s.key) (let k = (fit j l).key in omega (arith, k, length-map s.key (held_value h))))
 
 -- ---- folds over the earlier operations
-
-pub numbers_more : (from n : ℕ) → numbers from (suc n) ≡ numbers from n ++ (from + n) ∷ []
-numbers_more from zero = ap (λ k. k ∷ []) (omega arith)
-numbers_more from (suc n) = ap (λ l. from ∷ l) (numbers_more (suc from) n ∙ ap (λ k. numbers (suc from) n ++ k ∷ []) (omega arith))
 
 folded : {B : Type 0} (step : B → ℕ → B) (keep : ℕ → Bool) (rec : ℕ → B) → ((i : ℕ) → rec (suc i) ≡ (if keep i then step (rec i) i else rec i)) → (j : ℕ) → fold step (rec 0) (filter keep (numbers 0 j)) ≡ rec j
 folded step keep rec next zero = refl

@@ -17,11 +17,12 @@ use Rattle.cell_core.specs.declared.site.Act.TheVariants as act
 use Rattle.cell_core.specs.Cells.{bit}
 use Rattle.cell_core.specs.Sites.{ProgramView, site_at, records}
 use Rattle.cell_core.specs.Rows.{numbers}
+use Rattle.cell_core.proofs.NumberLaws.{numbers_more}
 use Rattle.hazard_core.specs.Tables.{TableState, decl_of, table_at, used_count}
 use Rattle.hazard_core.specs.Held.{Pointer, Null, is_null, Held, asked, asked_key, access_pointer, pointer_in, found_cell, is_update, is_delete, writes, adds_key, takes_key, slot_pointer, parts, is_pending, pending}
 use Rattle.hazard_core.specs.Overlay.{found_over, key_pointer_as, key_pointer, looks, found_pointer, value_over, value_under, entry_value, update_answer, delete_answer, where_some, answer_as, answer_over}
 use Rattle.hazard_core.specs.Replay.{earlier, SeesEarlier}
-use Rattle.hazard_core.proofs.Finding.{numbers_more, found_idle, value_idle}
+use Rattle.hazard_core.proofs.Finding.{found_idle, value_idle}
 
 -- folds over what passes one test and another, of which each number that passes but one does nothing
 fold_alike : {B : Type 0} (step : B → ℕ → B) (a : B) (k l : ℕ → Bool) (j : ℕ) → ((x : B) (i : ℕ) → i < j → fold step x (filter k (i ∷ [])) ≡ fold step x (filter l (i ∷ []))) → (n : ℕ) → n ≤ j →

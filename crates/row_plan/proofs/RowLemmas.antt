@@ -11,6 +11,7 @@ use Rattle.std.proofs.lemmas.List.Elements.{All-append, All-cons, All-nil, filte
 use Rattle.cell_core.specs.Cells.{CellView, no_cell, cell_at, bit, is_heavy}
 use Rattle.cell_core.specs.Formed.{AreFormed}
 use Rattle.cell_core.specs.Rows.{greatest, numbers, node_row, last_row}
+use Rattle.cell_core.proofs.NumberLaws.{numbers_more}
 use Rattle.row_plan.specs.Plan.{is_live, live_cells}
 
 -- the rows of the first n cells
@@ -92,15 +93,11 @@ greatest_next row n m below =
     let f : suc n ≡ n + 1 = omega arith in
     ap (λ k. greatest row (numbers n k)) e ∙ ap (λ j. max (row n) (greatest row (numbers j (m - (n + 1))))) f
 
-numbers_push : (from n : ℕ) → numbers from (suc n) ≡ numbers from n ++ (from + n) ∷ []
-numbers_push from zero = let e : from ≡ from + 0 = omega arith in ap (λ k. k ∷ []) e
-numbers_push from (suc n) = let e : suc from + n ≡ from + suc n = omega arith in ap (λ ks. from ∷ ks) (numbers_push (suc from) n ∙ ap (λ k. numbers (suc from) n ++ k ∷ []) e)
-
 -- one value more
 pub live_next : (row kept : ℕ → ℕ) (at n : ℕ) → live_cells row kept at (suc n) ≡ live_cells row kept at n ++ filter (is_live row kept at) (n ∷ [])
 live_next row kept at n =
     let e : 0 + n ≡ n = omega arith in
-    ap (filter (is_live row kept at)) (numbers_push 0 n ∙ ap (λ k. numbers 0 n ++ k ∷ []) e) ∙ filter-append (is_live row kept at) (numbers 0 n) (n ∷ [])
+    ap (filter (is_live row kept at)) (numbers_more 0 n ∙ ap (λ k. numbers 0 n ++ k ∷ []) e) ∙ filter-append (is_live row kept at) (numbers 0 n) (n ∷ [])
 
 -- ---- what is in memory
 pub cell_is : (cells : List Cell) (n : ℕ) (c : Cell) → n < length cells → c ≡ get_or cells n c → cell_at (map cell_of cells) n ≡ cell_of c
