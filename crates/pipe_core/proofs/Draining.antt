@@ -12,6 +12,7 @@ use Rattle.beat_core.proofs.WordLaws.{length-low_bytes}
 use Rattle.beat_core.proofs.BeatLaws.{IsOffer-count, IsOffer-eight, IsWhole-beats_of}
 use Rattle.beat_core.proofs.OrderLaws.{offers-frames}
 use Rattle.std.specs.List.{flat_map, AllByRecursion}
+use Rattle.xdp_maps.specs.State.{MapState}
 use Rattle.cell_core.specs.declared.program.FrameByte.{FrameByte}
 use Rattle.cell_core.specs.Cells.{bit}
 use Rattle.cell_core.specs.Sites.{ProgramView, with_bytes}
@@ -27,22 +28,22 @@ use Rattle.pipe_core.proofs.Order.{last_or, moved_inside, moved_length, place_la
 -- ---- what is still to be done
 
 -- the beats of so many bytes as an answer: at least one
-abbrev beats : ℕ → ℕ
+abbrev pub beats : ℕ → ℕ
 beats n = 1 + (n - 1) / 8
 
-abbrev answer_beats : List Answer → ℕ
+abbrev pub answer_beats : List Answer → ℕ
 answer_beats [] = 0
 answer_beats (a ∷ more) = beats (length a.frame) + answer_beats more
 
-abbrev frame_beats : List Arrival → ℕ
+abbrev pub frame_beats : List Arrival → ℕ
 frame_beats [] = 0
 frame_beats (c ∷ cs) = beats (length c.frame) + frame_beats cs
 
-abbrev part_beats : Option Arrival → ℕ
+abbrev pub part_beats : Option Arrival → ℕ
 part_beats None = 0
 part_beats (Some c) = beats (length c.frame)
 
-abbrev lasts : List Beat → ℕ
+abbrev pub lasts : List Beat → ℕ
 lasts [] = 0
 lasts (x ∷ xs) = bit x.last + lasts xs
 
@@ -52,7 +53,7 @@ way [] = 0
 way (None ∷ xs) = way xs
 way (Some x ∷ xs) = suc (length xs)
 
-answer_append : (xs ys : List Answer) → answer_beats (xs ++ ys) ≡ answer_beats xs + answer_beats ys
+pub answer_append : (xs ys : List Answer) → answer_beats (xs ++ ys) ≡ answer_beats xs + answer_beats ys
 answer_append [] ys = omega arith
 answer_append (x ∷ xs) ys = omega (arith, answer_append xs ys)
 
@@ -78,7 +79,7 @@ inside_way [] = omega arith
 inside_way (None ∷ xs) = inside_way xs
 inside_way (Some x ∷ xs) = omega (arith, inside_way xs, way_at_most xs)
 
-bytes_length : (v : ℕ → ℕ) (frame : List ℕ) (bs : List FrameByte) → length (with_bytes v frame bs) ≡ length frame
+pub bytes_length : (v : ℕ → ℕ) (frame : List ℕ) (bs : List FrameByte) → length (with_bytes v frame bs) ≡ length frame
 bytes_length v frame [] = refl
 bytes_length v frame (x ∷ bs) = bytes_length v (slice_set frame x.at (v x.cell)) bs ∙ length-set frame x.at (v x.cell)
 
@@ -181,25 +182,25 @@ advances b s h l = by (nat_lt (inside s.places) (length s.frames)) refl
 
 -- ---- a beat comes
 
-abbrev part_length : Option Arrival → ℕ
+abbrev pub part_length : Option Arrival → ℕ
 part_length None = 0
 part_length (Some c) = length c.frame
 
 -- the frames that come are whole
-abbrev EndsWhole : Bool → List Beat → Type 0
+abbrev pub EndsWhole : Bool → List Beat → Type 0
 EndsWhole begun [] = begun ≡ false
 EndsWhole begun (x ∷ xs) = EndsWhole (not x.last) xs
 
-record Took (w g : State) (before left : List Beat) : Type 0 where
-  beats_stay : frame_beats g.frames + part_beats g.part + length left ≡ frame_beats w.frames + part_beats w.part + length before
-  frames_stay : length g.frames + lasts left ≡ length w.frames + lasts before
-  fewer : length left ≤ length before
-  full : 8 * part_beats g.part ≡ part_length g.part
-  offers : AreOffers (part_beats g.part) left
-  ends : EndsWhole (is_some g.part) left
-  places : g.places ≡ w.places
-  answers : g.answers ≡ w.answers
-  pos_stays : g.pos ≡ w.pos
+pub record Took (w g : State) (before left : List Beat) : Type 0 where
+  pub beats_stay : frame_beats g.frames + part_beats g.part + length left ≡ frame_beats w.frames + part_beats w.part + length before
+  pub frames_stay : length g.frames + lasts left ≡ length w.frames + lasts before
+  pub fewer : length left ≤ length before
+  pub full : 8 * part_beats g.part ≡ part_length g.part
+  pub offers : AreOffers (part_beats g.part) left
+  pub ends : EndsWhole (is_some g.part) left
+  pub places : g.places ≡ w.places
+  pub answers : g.answers ≡ w.answers
+  pub pos_stays : g.pos ≡ w.pos
 
 beats_last : (m n by : ℕ) → n ≡ 8 * m + by → 1 ≤ by → by ≤ 8 → beats n ≡ m + 1
 beats_last m n by e l h = omega arith
@@ -211,10 +212,10 @@ with_length : (part : Option Arrival) (i : Input) (x : Beat) → length (came_wi
 with_length None i x = omega arith
 with_length (Some c) i x = length-append c.frame (bytes_of_beat x)
 
-took_none : (w : State) (left : List Beat) → 8 * part_beats w.part ≡ part_length w.part → AreOffers (part_beats w.part) left → EndsWhole (is_some w.part) left → Took w w left left
+pub took_none : (w : State) (left : List Beat) → 8 * part_beats w.part ≡ part_length w.part → AreOffers (part_beats w.part) left → EndsWhole (is_some w.part) left → Took w w left left
 took_none w left f o n = record { beats_stay = refl; frames_stay = refl; fewer = omega arith; full = f; offers = o; ends = n; places = refl; answers = refl; pos_stays = refl }
 
-took_one : (w : State) (i : Input) (x : Beat) (left : List Beat) → 8 * part_beats w.part ≡ part_length w.part → AreOffers (part_beats w.part) (x ∷ left) → EndsWhole (is_some w.part) (x ∷ left) →
+pub took_one : (w : State) (i : Input) (x : Beat) (left : List Beat) → 8 * part_beats w.part ≡ part_length w.part → AreOffers (part_beats w.part) (x ∷ left) → EndsWhole (is_some w.part) (x ∷ left) →
     Took w (gathered w i (Some x)) (x ∷ left) left
 took_one w i x left f o n = by x.last refl o.2 n (λ e. IsOffer-eight x o.0 e)
   where
@@ -260,11 +261,11 @@ took w i true (x ∷ left) f o n = took_one w i x left f o n
 
 -- ---- a beat goes
 
-abbrev IsAt : ℕ → List Answer → Type 0
+abbrev pub IsAt : ℕ → List Answer → Type 0
 IsAt pos [] = pos ≡ 0
 IsAt pos (a ∷ more) = pos < beats (length a.frame)
 
-at_append : (pos : ℕ) (xs ys : List Answer) → IsAt pos xs → IsAt pos (xs ++ ys)
+pub at_append : (pos : ℕ) (xs ys : List Answer) → IsAt pos xs → IsAt pos (xs ++ ys)
 at_append pos [] [] h = h
 at_append pos [] (a ∷ ys) h = omega (arith, h)
 at_append pos (x ∷ xs) ys h = h
@@ -273,20 +274,20 @@ at_first : (xs : List Answer) → IsAt 0 xs
 at_first [] = refl
 at_first (a ∷ xs) = omega arith
 
-at_within : (pos : ℕ) (xs : List Answer) → IsAt pos xs → pos ≤ answer_beats xs
+pub at_within : (pos : ℕ) (xs : List Answer) → IsAt pos xs → pos ≤ answer_beats xs
 at_within pos [] h = omega (arith, h)
 at_within pos (a ∷ xs) h = omega (arith, h)
 
-record Gave (g c : State) (old : List Answer) : Type 0 where
-  frames : c.frames ≡ g.frames
-  places : c.places ≡ g.places
-  part : c.part ≡ g.part
-  at : IsAt c.pos c.answers
+pub record Gave (g c : State) (old : List Answer) : Type 0 where
+  pub frames : c.frames ≡ g.frames
+  pub places : c.places ≡ g.places
+  pub part : c.part ≡ g.part
+  pub at : IsAt c.pos c.answers
   -- how many beats are still to be given
-  idle : length old ≡ 0 → answer_beats c.answers + g.pos ≡ answer_beats g.answers + c.pos
-  goes : 1 ≤ length old → answer_beats c.answers + g.pos + 1 ≤ answer_beats g.answers + c.pos
+  pub idle : length old ≡ 0 → answer_beats c.answers + g.pos ≡ answer_beats g.answers + c.pos
+  pub goes : 1 ≤ length old → answer_beats c.answers + g.pos + 1 ≤ answer_beats g.answers + c.pos
 
-gave : (g : State) (old new : List Answer) → g.answers ≡ old ++ new → IsAt g.pos g.answers → Gave g (scattered g (beat_at g.pos old)) old
+pub gave : (g : State) (old new : List Answer) → g.answers ≡ old ++ new → IsAt g.pos g.answers → Gave g (scattered g (beat_at g.pos old)) old
 gave g [] new e h = record { frames = refl; places = refl; part = refl; at = h; idle = λ l. refl; goes = λ l. absurd (omega arith) }
 gave g (a ∷ old) new e h = by (nat_le (length (drop (8 * g.pos) a.frame)) 8) refl
   where
@@ -323,16 +324,16 @@ gave g (a ∷ old) new e h = by (nat_le (length (drop (8 * g.pos) a.frame)) 8) r
 -- ---- a clock of the drive
 
 -- n frames in all
-record Driving (n : ℕ) (b : Build) (d : Driven) : Type 0 where
-  order : IsInOrder b d.trace
-  count : length d.trace.came + lasts d.left ≡ n
-  full : 8 * part_beats d.trace.state.part ≡ part_length d.trace.state.part
-  offers : AreOffers (part_beats d.trace.state.part) d.left
-  ends : EndsWhole (is_some d.trace.state.part) d.left
-  at : IsAt d.trace.state.pos d.trace.state.answers
+pub record Driving (n : ℕ) (b : Build) (d : Driven) : Type 0 where
+  pub order : IsInOrder b d.trace
+  pub count : length d.trace.came + lasts d.left ≡ n
+  pub full : 8 * part_beats d.trace.state.part ≡ part_length d.trace.state.part
+  pub offers : AreOffers (part_beats d.trace.state.part) d.left
+  pub ends : EndsWhole (is_some d.trace.state.part) d.left
+  pub at : IsAt d.trace.state.pos d.trace.state.answers
 
 -- beats to be given, beats to be offered, frames to be injected, and the way of the youngest packet once all are
-abbrev to_give : Driven → ℕ
+abbrev pub to_give : Driven → ℕ
 to_give d = answer_beats d.trace.state.answers + frame_beats d.trace.state.frames + part_beats d.trace.state.part + length d.left - d.trace.state.pos
 
 abbrev to_inject : Driven → ℕ
@@ -344,21 +345,21 @@ way_left b d = if nat_lt 0 (to_inject d) then b.plan.last + 1 else way d.trace.s
 abbrev far : Build → Driven → ℕ
 far b d = to_give d + length d.left + to_inject d + way_left b d
 
-no_answers : (xs : List Answer) → length xs ≡ 0 → answer_beats xs ≡ 0
+pub no_answers : (xs : List Answer) → length xs ≡ 0 → answer_beats xs ≡ 0
 no_answers [] h = refl
 no_answers (a ∷ xs) h = absurd (omega arith)
 
-no_frames : (xs : List Arrival) → length xs ≡ 0 → frame_beats xs ≡ 0
+pub no_frames : (xs : List Arrival) → length xs ≡ 0 → frame_beats xs ≡ 0
 no_frames [] h = refl
 no_frames (c ∷ xs) h = absurd (omega arith)
 
-no_part : (part : Option Arrival) (left : List Beat) → length left ≡ 0 → EndsWhole (is_some part) left → part_beats part ≡ 0
+pub no_part : (part : Option Arrival) (left : List Beat) → length left ≡ 0 → EndsWhole (is_some part) left → part_beats part ≡ 0
 no_part None left h e = refl
 no_part (Some c) [] h e = cc
 no_part (Some c) (x ∷ left) h e = absurd (omega arith)
 
 -- a beat goes over inwards, or none is left, or a frame waits
-goes_in : (b : Build) (s : State) (left : List Beat) → b.slots ≡ b.plan.last + 4 → length s.places ≡ suc b.plan.last → length s.answers ≡ 0 →
+pub goes_in : (b : Build) (s : State) (left : List Beat) → b.slots ≡ b.plan.last + 4 → length s.places ≡ suc b.plan.last → length s.answers ≡ 0 →
     (length (if is_ready b s then drop 1 left else left) + 1 ≤ length left) ⊎ ((length left ≡ 0) ⊎ (inside s.places < length s.frames))
 goes_in b s [] slots h none = inr (inl refl)
 goes_in b s (x ∷ left) slots h none = by (is_some s.part) (nat_lt (length s.answers + length s.frames) b.slots) refl
@@ -435,7 +436,7 @@ record Stepped (n : ℕ) (b : Build) (d e : Driven) : Type 0 where
   driving : Driving n b e
   nearer : far b e ≤ far b d - 1
 
-no_lasts : (left : List Beat) → length left ≡ 0 → lasts left ≡ 0
+pub no_lasts : (left : List Beat) → length left ≡ 0 → lasts left ≡ 0
 no_lasts [] h = refl
 no_lasts (x ∷ left) h = absurd (omega arith)
 
@@ -576,19 +577,24 @@ drives n b none slots ifindex (time ∷ times) d v =
     let r = drives n b none slots ifindex times (drive_clock b ifindex time d) s.driving in
     (r.0, omega (arith, r.1, s.nearer))
 
-at_end : (pos : ℕ) (xs : List Answer) → IsAt pos xs → answer_beats xs ≤ pos → length xs ≡ 0
+pub at_end : (pos : ℕ) (xs : List Answer) → IsAt pos xs → answer_beats xs ≤ pos → length xs ≡ 0
 at_end pos [] h l = refl
 at_end pos (a ∷ xs) h l = absurd (omega (arith, h, l))
 
--- where nothing is left to be done, all frames are answered
-all_given : (n : ℕ) (b : Build) (d : Driven) → Driving n b d → far b d ≡ 0 → length d.trace.gave ≡ n
+some_beats : (cs : List Arrival) → length cs ≤ frame_beats cs
+some_beats [] = omega arith
+some_beats (c ∷ cs) = omega (arith, some_beats cs)
+
+-- where no beat is left to be given, all frames are answered
+pub all_given : (n : ℕ) (b : Build) (d : Driven) → Driving n b d → to_give d ≡ 0 → length d.trace.gave ≡ n
 all_given n b d v z =
     let t = d.trace in
     let s = t.state in
-    let way_is : way s.places ≡ 0 = sym (if_none (to_inject d) (b.plan.last + 1) (way s.places) (omega (arith, z))) ∙ omega (arith, z) in
-    let frames : length s.frames ≡ 0 = omega (arith, z, way_is, inside_way s.places) in
+    let within = at_within s.pos s.answers v.at in
+    let frames : length s.frames ≡ 0 = omega (arith, z, within, some_beats s.frames) in
     let answers : length s.answers ≡ 0 = at_end s.pos s.answers v.at (omega (arith, z)) in
-    omega (arith, ap length v.order.answers, length-append t.gave s.answers, answers, answers_length b.program t.left t.came v.order.begun, ap length v.order.frames, length-drop (length t.left) t.came, frames, v.order.begun, v.count, z)
+    let none_left : lasts d.left ≡ 0 = no_lasts d.left (omega (arith, z, within)) in
+    omega (arith, ap length v.order.answers, length-append t.gave s.answers, answers, answers_length b.program t.left t.came v.order.begun, ap length v.order.frames, length-drop (length t.left) t.came, frames, v.order.begun, v.count, none_left)
 
 lasts_whole : (bs rest : List Beat) → IsWhole bs → lasts (bs ++ rest) ≡ 1 + lasts rest
 lasts_whole [] rest h = absurd h
@@ -600,11 +606,11 @@ ends_whole begun [] rest h e = absurd h
 ends_whole begun (x ∷ []) rest h e = subst (λ l. EndsWhole (not l) rest) (sym h.1) e
 ends_whole begun (x ∷ y ∷ bs) rest h e = ends_whole (not x.last) (y ∷ bs) rest h.2 e
 
-lasts_frames : (frames : List (List ℕ)) → AllByRecursion IsFrame frames → lasts (flat_map beats_of frames) ≡ length frames
+pub lasts_frames : (frames : List (List ℕ)) → AllByRecursion IsFrame frames → lasts (flat_map beats_of frames) ≡ length frames
 lasts_frames [] h = refl
 lasts_frames (f ∷ frames) h = omega (arith, lasts_whole (beats_of f) (flat_map beats_of frames) (IsWhole-beats_of f h.0.some), lasts_frames frames h.1)
 
-ends_frames : (frames : List (List ℕ)) → AllByRecursion IsFrame frames → EndsWhole false (flat_map beats_of frames)
+pub ends_frames : (frames : List (List ℕ)) → AllByRecursion IsFrame frames → EndsWhole false (flat_map beats_of frames)
 ends_frames [] h = refl
 ends_frames (f ∷ frames) h = ends_whole false (beats_of f) (flat_map beats_of frames) (IsWhole-beats_of f h.0.some) (ends_frames frames h.1)
 
@@ -615,16 +621,19 @@ way_short b d h = by (nat_lt 0 (to_inject d))
     by true = omega arith
     by false = omega (arith, way_at_most d.trace.state.places, h)
 
+pub begins_driving : (b : Build) (maps : MapState) (frames : List (List ℕ)) → AllByRecursion IsFrame frames → Driving (length frames) b (drive_start b maps frames)
+begins_driving b maps frames whole = record {
+  order = begins b maps;
+  count = omega (arith, lasts_frames frames whole);
+  full = refl;
+  offers = offers-frames frames whole;
+  ends = ends_frames frames whole;
+  at = refl;
+}
+
 pub ends_without_maps : EndsWithoutMaps
 ends_without_maps b none slots maps ifindex frames whole times long =
     let d = drive_start b maps frames in
-    let v : Driving (length frames) b d = record {
-      order = begins b maps;
-      count = omega (arith, lasts_frames frames whole);
-      full = refl;
-      offers = offers-frames frames whole;
-      ends = ends_frames frames whole;
-      at = refl;
-    } in
+    let v = begins_driving b maps frames whole in
     let r = drives (length frames) b none slots ifindex times d v in
     all_given (length frames) b (drive b ifindex times d) r.0 (omega (arith, r.1, long, way_short b d v.order.places, lasts_frames frames whole))

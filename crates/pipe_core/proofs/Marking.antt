@@ -71,7 +71,7 @@ struck_steps b t e to rest seen = record {
 
 -- ---- a packet moves on
 
-no_mark : (n j : ℕ) → get_or (replicate n false) j false ≡ false
+pub no_mark : (n j : ℕ) → get_or (replicate n false) j false ≡ false
 no_mark zero j = refl
 no_mark (suc n) zero = refl
 no_mark (suc n) (suc j) = no_mark n j

@@ -158,7 +158,7 @@ unfolding observed
 all_sequential keeps b maps fit [] silent w o h = h
 all_sequential keeps b maps fit (i ∷ is) silent w o h = all_sequential keeps b maps fit is silent.1 (observed b i w) (keeps_order b i w.trace o) (keeps b maps fit i silent.0 w o h)
 
-watch_runs : (b : Build) (is : List Input) (w : Watched) → (watch b is w).trace ≡ run b is w.trace
+pub watch_runs : (b : Build) (is : List Input) (w : Watched) → (watch b is w).trace ≡ run b is w.trace
 unfolding observed
 watch_runs b [] w = refl
 watch_runs b (i ∷ is) w = watch_runs b is (observed b i w)

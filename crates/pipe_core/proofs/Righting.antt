@@ -61,7 +61,7 @@ no_due test from (suc n) none =
     ap (λ c. c || list_any test (numbers (suc from) n)) (ap test (omega arith) ∙ none 0 (omega arith))
     ∙ no_due test (suc from) n (λ i l. ap test (omega arith) ∙ none (suc i) (omega (arith, l)))
 
-unmarked_not_due : (b : Build) (k : ℕ) (x : Packet) → ((j : ℕ) → j < length b.program.sites → marked_at x j ≡ false) → is_due b k x ≡ false
+pub unmarked_not_due : (b : Build) (k : ℕ) (x : Packet) → ((j : ℕ) → j < length b.program.sites → marked_at x j ≡ false) → is_due b k x ≡ false
 unfolding is_due
 unmarked_not_due b k x none =
     no_due (λ j. marked_at x j && known_on b.plan.row k x.held (site_at b.program.sites j)) 0 (length b.program.sites)

@@ -87,7 +87,7 @@ commit_core b maps w t e h =
 
 -- ---- moving on
 
-last_dropped : (xs : List (Option Packet)) (n m : ℕ) → n < length xs → suc m ≡ length xs → place_at xs m ≡ last_or (get_or xs n None) (drop (suc n) xs)
+pub last_dropped : (xs : List (Option Packet)) (n m : ℕ) → n < length xs → suc m ≡ length xs → place_at xs m ≡ last_or (get_or xs n None) (drop (suc n) xs)
 last_dropped [] n m l e = absurd (omega (arith, l))
 last_dropped (y ∷ ys) zero m l e = let q : m ≡ length ys = omega (arith, e) in ap (place_at (y ∷ ys)) q ∙ place_last y ys
 last_dropped (y ∷ ys) (suc n) zero l e = absurd (omega (arith, l, e))

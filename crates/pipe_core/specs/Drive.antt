@@ -1,12 +1,14 @@
 -- The full drive: in each clock the next beat is offered while one is left, a beat that is shown is taken, and the host is silent.
-use Rattle.std.specs.Prelude.{◌≡◌, ℕ, ◌+◌, ◌*◌, ◌≤◌, if◌then◌else◌, Option, Some, None, List, [], ◌∷◌, length, drop, true}
+use Rattle.std.specs.Prelude.{◌≡◌, ℕ, ◌+◌, ◌*◌, ◌≤◌, if◌then◌else◌, Option, Some, None, List, [], ◌∷◌, ◌++◌, length, drop, true}
 use Rattle.std.specs.List.{flat_map, AllByRecursion}
 use Rattle.beat_core.specs.declared.beat.Beat.{Beat}
 use Rattle.beat_core.specs.Beats.{beats_of}
 use Rattle.beat_core.specs.Laws.{IsFrame}
-use Rattle.xdp_maps.specs.State.{MapState}
-use Rattle.pipe_core.specs.Machine.{Input, Build, is_ready}
-use Rattle.pipe_core.specs.History.{Trace, next, begin}
+use Rattle.xdp_maps.specs.State.{MapState, IsSound}
+use Rattle.cell_core.specs.Rows.{record_count}
+use Rattle.pipe_core.specs.Machine.{State, Input, Build, new_state, is_ready, beat_over, clock}
+use Rattle.pipe_core.specs.History.{Trace, next, run, begin}
+use Rattle.pipe_core.specs.Pipeable.{IsSuited}
 
 -- the beats that are left, and the trace so far
 pub record Driven : Type 0 where
@@ -42,3 +44,33 @@ EndsWithoutMaps =
     (b : Build) → b.program.sites ≡ [] → b.slots ≡ b.plan.last + 4 → (maps : MapState) (ifindex : ℕ) (frames : List (List ℕ)) → AllByRecursion IsFrame frames
     → (times : List ℕ) → 2 * length (flat_map beats_of frames) + length frames + b.plan.last + 1 ≤ length times
     → length (drive b ifindex times (drive_start b maps frames)).trace.gave ≡ length frames
+
+-- With operations on maps a frame may wait for the one before it: each beat counts a clock in and one out, and each frame counts the places, a clock
+-- for each site that may write, and three more.
+abbrev pub clocks_of : Build → List (List ℕ) → ℕ
+clocks_of b frames = 2 * length (flat_map beats_of frames) + length frames * (b.plan.last + record_count b.program.sites + 3)
+
+-- All frames are answered a clock before that.
+abbrev pub EndsInTime : Type 0
+EndsInTime =
+    (b : Build) (maps : MapState) → IsSuited maps.decls b → IsSound maps → b.slots ≡ b.plan.last + 4 → (ifindex : ℕ) (frames : List (List ℕ)) → AllByRecursion IsFrame frames
+    → (times : List ℕ) → clocks_of b frames ≤ length times + 1
+    → length (drive b ifindex times (drive_start b maps frames)).trace.gave ≡ length frames
+
+-- the beats that go over inwards in these clocks
+abbrev pub ahead : Option Beat → List Beat → List Beat
+ahead None left = left
+ahead (Some x) left = x ∷ left
+
+abbrev pub beats_in : Build → List Input → State → List Beat
+beats_in b [] s = []
+beats_in b (i ∷ is) s = ahead (beat_over b s i) (beats_in b is (clock b i s))
+
+-- The drive may begin late, after any clocks with a silent host in which some of the beats went over: then what is left is given within as many
+-- clocks, and once more those of the places.
+abbrev pub EndsLate : Type 0
+EndsLate =
+    (b : Build) (maps : MapState) → IsSuited maps.decls b → IsSound maps → b.slots ≡ b.plan.last + 4 → (is : List Input) → AllByRecursion (λ i. i.host ≡ None) is
+    → (frames : List (List ℕ)) → AllByRecursion IsFrame frames → (left : List Beat) → beats_in b is (new_state b maps) ++ left ≡ flat_map beats_of frames
+    → (ifindex : ℕ) (times : List ℕ) → clocks_of b frames + b.plan.last + 2 ≤ length times + 1
+    → length (drive b ifindex times (record { left = left; trace = run b is (begin b maps) })).trace.gave ≡ length frames

@@ -3,7 +3,7 @@
 ghost use Rattle.pipe_core.specs.History.{KeepsOrder, IsAlwaysInOrder};
 ghost use Rattle.pipe_core.specs.Computed.{KeepsComputed, IsAlwaysComputed};
 ghost use Rattle.pipe_core.specs.Sequential.{RunsWithoutMaps, MapsStay};
-ghost use Rattle.pipe_core.specs.Drive.{EndsWithoutMaps};
+ghost use Rattle.pipe_core.specs.Drive.{EndsWithoutMaps, EndsInTime, EndsLate};
 ghost use Rattle.pipe_core.specs.Sending.{AlwaysSendsBack};
 ghost use Rattle.pipe_core.specs.Agreement.{EnteringAgrees, StrikingAgrees};
 ghost use Rattle.pipe_core.specs.Agreed.{KeepsAgreed, PathsAreMade};
@@ -106,4 +106,13 @@ pub fn runs_in_turn()
     hazard_core::laws::loads_tables();
     hazard_core::laws::tables_stand();
     hazard_core::laws::reads_keep();
+}
+
+/// With operations on maps, and whatever packets are sent back, the full drive of frames ends in time; so does one that begins late.
+pub fn ends_in_time()
+    ensures full { EndsInTime }
+    ensures late { EndsLate }
+{
+    right();
+    hazard_core::laws::loads_tables();
 }
