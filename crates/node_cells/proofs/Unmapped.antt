@@ -7,7 +7,7 @@ use Rattle.bpf_isa.specs.declared.operation.Size.{Size}
 use Rattle.bpf_isa.specs.declared.instruction.Insn.{Insn}
 use Rattle.xdp_maps.specs.State.{MapState}
 use Rattle.xdp_maps.specs.Operations.{Operation}
-use Rattle.xdp_machine.specs.Values.{Value, Unset, Number, Packet, Stack, Context, Map, Entry, number_in, ◌>>=◌}
+use Rattle.xdp_machine.specs.Values.{Value, Number, Packet, Stack, Context, Entry, number_in, ◌>>=◌}
 use Rattle.xdp_machine.specs.State.{Machine, register, with_registers}
 use Rattle.xdp_machine.specs.Memory.{to_frame, to_stack, stored}
 use Rattle.xdp_machine.specs.Helpers.{answering, packet_time, redirect, redirected, called}
