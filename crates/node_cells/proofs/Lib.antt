@@ -7,3 +7,5 @@ pub mod Exits
 pub mod Onward
 pub mod Pushing
 pub mod Filled
+pub mod Unmapped
+pub mod Plain

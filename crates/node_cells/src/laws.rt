@@ -1,5 +1,6 @@
-//! What holds of the kinds that nodes bring. Each function's contract is a law; it computes nothing.
+//! What holds of the kinds that nodes bring, and of instructions that do nothing to a map. Each function's contract is a law; it computes nothing.
 
+ghost use Rattle.node_cells.specs.Carrying.{CarriesOperate};
 ghost use Rattle.node_cells.specs.Filling.{EdgesAreFilled, JumpsAreFilled};
 
 /// Where no slot is unset before an instruction that leads on none is behind it.
@@ -10,4 +11,9 @@ pub fn edges_are_filled()
 /// The same along the edges of a jump.
 pub fn jumps_are_filled()
     ensures { JumpsAreFilled }
+{}
+
+/// The cells of an instruction that does nothing to a map operate with no site.
+pub fn carries_operate()
+    ensures { CarriesOperate }
 {}
