@@ -9,7 +9,7 @@ use Rattle.cell_core.specs.Cells.{bit}
 use Rattle.cell_core.specs.Sites.{site_at}
 use Rattle.hazard_core.specs.Tables.{TableState}
 use Rattle.hazard_core.specs.Held.{Held}
-use Rattle.hazard_core.specs.Marks.{Change, known_off, is_marked}
+use Rattle.hazard_core.specs.Marks.{Change, known_off}
 use Rattle.hazard_core.specs.Rows.{with_row}
 use Rattle.beat_core.specs.Ports.{Arrival}
 use Rattle.pipe_core.specs.Machine.{Packet, Build, packet_of, no_frame, place_at, inside, marked_at, entered, struck, struck_below, is_due, sends, some_send, swept, enters, moved, injected, newcomer}
@@ -145,8 +145,7 @@ module _ (b : Build) (z m m' c c' ca ca' e : ℕ) (t : TableState) (fs : List Ar
       Aged b z m' c' ca' (e + bit (is_some (last_or x ys))) k (moved b t fs k x ys)
   aged_moved k x [] a h = tt
   aged_moved k x (y ∷ ys) a h =
-      let count : e + bit (is_some (last_or y ys)) + inside (moved b t fs (suc k) y ys) ≡ e + inside (y ∷ ys) = omega (arith, moved_inside b t fs (suc k) y ys) in
-      (
+      let count : e + bit (is_some (last_or y ys)) + inside (moved b t fs (suc k) y ys) ≡ e + inside (y ∷ ys) = omega (arith, moved_inside b t fs (suc k) y ys) in (
         subst (λ n. AgeOf b z m' c' ca' n k (enters b t k (came ys) x)) (sym count) (entering b z m' c' ca' (e + inside (y ∷ ys)) t k (came ys) x a),
         aged_moved (suc k) y ys (goes_on (e + inside ys) k y h.0) h.1,
       )

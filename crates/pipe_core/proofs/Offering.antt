@@ -1,5 +1,5 @@
 -- What a clock does to the beats that are still to come and to be given, whatever its turn is.
-use Rattle.std.proofs.Common.{◌≡◌, ℕ, zero, suc, ◌+◌, ◌-◌, ◌*◌, ◌<◌, ◌≤◌, ◌⊎◌, inl, inr, Bool, true, false, List, [], ◌∷◌, ◌++◌, Option, Some, None, length, drop, refl, sym, ap, ◌∙◌, subst, arith, length-append}
+use Rattle.std.proofs.Common.{◌≡◌, ℕ, ◌+◌, ◌*◌, ◌≤◌, inl, inr, Bool, true, false, List, [], ◌∷◌, ◌++◌, Option, Some, None, length, drop, refl, sym, ap, ◌∙◌, subst, arith, length-append}
 use Rattle.std.specs.Prelude.{if◌then◌else◌, is_some}
 use Rattle.std.proofs.lemmas.Bool.{cases_lt}
 use Rattle.beat_core.specs.declared.beat.Beat.{Beat}
@@ -10,9 +10,9 @@ use Rattle.cell_core.specs.Sites.{ProgramView}
 use Rattle.hazard_core.specs.Held.{Held, held_value}
 use Rattle.pipe_core.specs.Machine.{Packet, State, Input, Build, Turn, Commits, Writes, Moves, some_send, swept, turn_of, worked, work, gathered, beat_over, beat_at, taken_beat, scattered, clock}
 use Rattle.pipe_core.specs.History.{Trace, came_in, left_in, next, answers_of, IsInOrder}
-use Rattle.pipe_core.specs.Drive.{Driven, ahead}
+use Rattle.pipe_core.specs.Drive.{ahead}
 use Rattle.pipe_core.proofs.Order.{Worked, work_keeps, beats_keep, keeps_order}
-use Rattle.pipe_core.proofs.Draining.{beats, answer_beats, frame_beats, part_beats, part_length, lasts, EndsWhole, IsAt, to_give, bytes_length, answer_append, at_append, at_within, Gave, gave, Took, took_none, took_one, Driving}
+use Rattle.pipe_core.proofs.Draining.{beats, answer_beats, frame_beats, part_beats, part_length, EndsWhole, IsAt, to_give, bytes_length, answer_append, at_append, at_within, gave, Took, took_none, took_one, Driving}
 
 -- answers have the beats of their frames
 answers_beats : (p : ProgramView) (hs : List Held) (cs : List Arrival) → length hs ≤ length cs → answer_beats (answers_of p hs cs) + frame_beats (drop (length hs) cs) ≡ frame_beats cs

@@ -1,5 +1,5 @@
 -- The full drive ends in time: each clock takes a beat in or out, or commits an operation, or is counted, and of these there are not too many.
-use Rattle.std.proofs.Common.{◌≡◌, ℕ, zero, suc, ◌+◌, ◌-◌, ◌*◌, ◌<◌, ◌≤◌, ◌⊎◌, inl, inr, Bool, true, false, List, [], ◌∷◌, ◌++◌, Option, Some, None, length, drop, refl, sym, ap, ◌∙◌, subst, arith, cond, length-append, length-drop}
+use Rattle.std.proofs.Common.{◌≡◌, ℕ, zero, suc, ◌+◌, ◌*◌, ◌<◌, ◌≤◌, ◌⊎◌, inl, inr, Bool, true, false, List, [], ◌∷◌, ◌++◌, Option, Some, None, length, drop, refl, sym, ap, ◌∙◌, subst, arith, cond, length-append, length-drop}
 use Rattle.std.specs.Prelude.{if◌then◌else◌, is_some}
 use Rattle.std.specs.List.{flat_map, AllByRecursion}
 use Rattle.std.proofs.lemmas.Bool.{and_parts, cases_lt}
@@ -8,7 +8,6 @@ use Rattle.std.proofs.Math.Nat.{mul-le-mul_left}
 use Rattle.beat_core.specs.declared.beat.Beat.{Beat}
 use Rattle.beat_core.specs.Beats.{beats_of}
 use Rattle.beat_core.specs.Laws.{IsFrame}
-use Rattle.xdp_maps.specs.State.{MapState, IsSound}
 use Rattle.xdp_maps.specs.declared.decl.MapDecl.{MapDecl}
 use Rattle.cell_core.specs.Cells.{bit}
 use Rattle.cell_core.specs.Sites.{SiteView, site_at, records}
@@ -19,17 +18,17 @@ use Rattle.hazard_core.specs.Held.{held_value, guard_on, answer_cell, writes_as}
 use Rattle.hazard_core.specs.Commits.{change_by}
 use Rattle.hazard_core.proofs.ActsLaws.{recorded}
 use Rattle.pipe_core.specs.Machine.{Packet, State, Input, Build, Turn, Commits, Writes, Moves, new_state, place_at, inside, some_send, swept, struck_below, moved, newcomer, worked, work, is_ready, beat_over, clock}
-use Rattle.pipe_core.specs.History.{Trace, left_as, left_in, next, run, begin, IsInOrder}
-use Rattle.pipe_core.specs.Drive.{Driven, first_of, driving, drive_clock, drive, drive_start, clocks_of, EndsInTime, ahead, beats_in, EndsLate}
+use Rattle.pipe_core.specs.History.{Trace, left_as, left_in, next, run, begin}
+use Rattle.pipe_core.specs.Drive.{Driven, first_of, driving, drive_clock, drive, drive_start, EndsInTime, ahead, beats_in, EndsLate}
 use Rattle.pipe_core.specs.Pipeable.{IsSuited}
 use Rattle.pipe_core.specs.Watched.{Watched, rest_of, turn_in, observed, watch, watch_start}
-use Rattle.pipe_core.specs.Right.{IsUnmarked, IsRight, KeepsRight}
+use Rattle.pipe_core.specs.Right.{IsRight, KeepsRight}
 use Rattle.pipe_core.proofs.Order.{swept_length, beats_keep}
 use Rattle.pipe_core.proofs.Turning.{TurnIs, turn_is, clock_aside}
 use Rattle.pipe_core.proofs.Righting.{keeps_place, always_right}
 use Rattle.pipe_core.proofs.Overlapping.{watch_runs}
 use Rattle.pipe_core.proofs.Draining.{lasts, no_lasts, no_part, no_frames, no_answers, goes_in, to_give, Driving, all_given, begins_driving}
-use Rattle.pipe_core.proofs.Counting.{begun, past, Aged, Bounds, past_swept, past_struck, past_moved, among, commits_bounds, moves_bounds, within, left_within, none_aged, begins_aged}
+use Rattle.pipe_core.proofs.Counting.{begun, past, Bounds, past_swept, past_struck, past_moved, among, commits_bounds, moves_bounds, within, left_within, none_aged, begins_aged}
 use Rattle.pipe_core.proofs.Offering.{Offered, offered_on}
 
 -- ---- how many operations are committed
