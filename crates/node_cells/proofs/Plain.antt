@@ -128,6 +128,6 @@ carries_operate decls ps i node guard is_ref taken k h next old new sites plain 
   own = All-nil _;
   inside = c.inside;
   holds = λ packet maps v m n refs run read on is known at e.
-    let stays = stays_as decls known.world refs k m n i i.op known.stands.described plain (allowed_as decls k i allowed) e in
-    (c.holds packet v m n refs run known at e, is ∙ sym stays.maps, stays.none);
+      let stays = stays_as decls known.world refs k m n i i.op known.stands.described plain (allowed_as decls k i allowed) e in
+      (c.holds packet v m n refs run known at e, is ∙ sym stays.maps, stays.none);
 }

@@ -1,15 +1,17 @@
 -- Steps of the machine that operate on no map.
 use Rattle.std.proofs.Common.{◌≡◌, ℕ, ℤ, pos, zero, suc, ◌==◌, ◌+ℤ◌, ◌⊎◌, inl, inr, Bool, true, false, if◌then◌else◌, Option, Some, None, List, refl, sym, ◌∙◌, ap, subst}
 use Rattle.std.specs.Int.{w64, cast_unsigned}
+use Rattle.byteorder.specs.Endian.{little_bytes}
 use Rattle.bpf_isa.specs.declared.operation.Op.{Op}
 use Rattle.bpf_isa.specs.declared.operation.Op.TheVariants.{Call}
 use Rattle.bpf_isa.specs.declared.operation.Size.{Size}
 use Rattle.bpf_isa.specs.declared.instruction.Insn.{Insn}
 use Rattle.xdp_maps.specs.State.{MapState}
+use Rattle.xdp_maps.specs.Operations as map
 use Rattle.xdp_maps.specs.Operations.{Operation}
 use Rattle.xdp_machine.specs.Values.{Value, Number, Packet, Stack, Context, Entry, number_in, ◌>>=◌}
 use Rattle.xdp_machine.specs.State.{Machine, register, with_registers}
-use Rattle.xdp_machine.specs.Memory.{to_frame, to_stack, stored}
+use Rattle.xdp_machine.specs.Memory.{bytes_in, to_frame, to_stack, stored}
 use Rattle.xdp_machine.specs.Helpers.{answering, packet_time, redirect, redirected, called}
 use Rattle.xdp_machine.specs.Step.{calls}
 use Rattle.xdp_machine.specs.Touched.{operation_as, accesses, stores, calls_on}
@@ -48,12 +50,12 @@ pub no_access : (maps : MapState) (v : Value) (offset : ℤ) (size : Size) (f : 
 no_access maps (Entry q key o) offset size f b = absurd b
 no_access maps v offset size f b = refl
 
-bound_none : {A B : Type 0} (o : Option A) (f : A → Option B) → ((a : A) → f a ≡ None) → (o >>= f) ≡ None
-bound_none None f all = refl
-bound_none (Some a) f all = all a
+none_accessed : (maps : MapState) (v : Value) (offset : ℤ) (size : Size) (f : ℕ → List ℕ → ℕ → Operation) (o : Option ℕ) → IsBase v → (o >>= λ n. accesses maps v offset size (f n)) ≡ None
+none_accessed maps v offset size f None b = refl
+none_accessed maps v offset size f (Some n) b = no_access maps v offset size (f n) b
 
 pub no_store : (m : Machine) (v : Value) (offset : ℤ) (size : Size) (y : Value) → IsBase v → stores m v offset size y ≡ None
-no_store m v offset size y b = bound_none (number_in y) _ (λ n. no_access m.maps v offset size _ b)
+no_store m v offset size y b = none_accessed m.maps v offset size (λ n key a. map.Store key a (little_bytes (bytes_in size) n)) (number_in y) b
 
 pub store_keeps : (m n : Machine) (v : Value) (offset : ℤ) (size : Size) (y : Value) → IsBase v → stored m v offset size y ≡ Some n → n.maps ≡ m.maps
 store_keeps m n (Packet o) offset size y b e = made_of m n (number_in y >>= to_frame m.frame (o +ℤ offset) size) _ (λ frame d. is_made m n (record m { frame = frame }) refl d) e
