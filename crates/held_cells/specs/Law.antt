@@ -73,14 +73,7 @@ pub record Computes (g : GraphView) (p : ProgramView) : Type 0 where
   pub ends : (packet : PacketIn) (maps : MapState) (v : ℕ → ℕ) → IsPacket packet → IsSound maps → maps.decls ≡ g.decls → IsCellRun packet maps p v
       → machine.Touches g.code packet maps (leaves v packet maps p) (touched v maps p.sites)
 
--- What a node of the path makes does not rest on values off it.
-pub record RestsOnPath (g : GraphView) (p : ProgramView) : Type 0 where
-  pub same : (packet : PacketIn) (maps : MapState) (v w : ℕ → ℕ) (k j c : ℕ) → IsPacket packet → IsSound maps → maps.decls ≡ g.decls → IsRun packet p.cells v → IsRun packet p.cells w
-      → k ≤ length g.nodes → AreAnswered maps p v k → AreAnswered maps p w k → j < k → on_path g packet maps j ≡ true
-      → (made_at p.nodes j).first ≤ c → c < (made_at p.nodes j).end → v c ≡ w c
-
 -- The law of cells.
 pub record IsLaw (g : GraphView) (p : ProgramView) : Type 0 where
   pub computes : Computes g p
   pub sited : AreSited g.decls p
-  pub rests : RestsOnPath g p

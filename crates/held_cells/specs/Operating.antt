@@ -11,21 +11,24 @@ use Rattle.kind_core.specs.Edges.{transferred}
 use Rattle.kind_core.specs.Soundness.{at_reference}
 use Rattle.cell_core.specs.Cells.{CellView, IsRun, on}
 use Rattle.cell_core.specs.Sites.{SiteView, after}
-use Rattle.operator_cells.specs.Making.{Grows}
+use Rattle.cell_core.specs.Formed.{FitsMap, IsBelow}
+use Rattle.operator_cells.specs.Making.{GrowsWith}
 use Rattle.held_cells.specs.declared.held.Held.{Held}
 use Rattle.held_cells.specs.Held.{PointerView, AreHeld, AreInside}
 use Rattle.held_cells.specs.Carrying.{IsKnown}
-use Rattle.held_cells.specs.Steps.{AreRead, DoAs}
+use Rattle.held_cells.specs.Steps.{AreRead, ReadsOwn, DoAs}
 
 -- More cells, pointers and sites, these of a node and its guard; where the node is on the path and the reads answer, what is held afterwards
 -- holds, by the kinds on an edge, what the effect of the instruction leaves of a machine, and the sites do its operation and leave its maps.
 pub record Operates (decls : List MapDecl) (i : Insn) (node guard : ℕ) (is_ref taken : Bool) (k : Kinds) (h next : Held) (old new : List CellView) (ps qs : List PointerView) (sites sites2 : List SiteView) : Type 0 where
-  pub grows : Grows old new
+  pub grows : GrowsWith (ReadsOwn sites sites2) old new
   pub more_pointers : List PointerView
   pub pointers_are : qs ≡ ps ++ more_pointers
   pub more : List SiteView
   pub sites_are : sites2 ≡ sites ++ more
   pub own : All (λ s. (s.node ≡ node) × (s.guard ≡ guard)) more
+  pub fits : All (FitsMap decls) more
+  pub below : All (IsBelow (length new)) more
   pub inside : AreInside decls (length new) qs next (transferred decls k i node is_ref taken)
   pub holds : (packet : PacketIn) (maps : MapState) (v : ℕ → ℕ) (m n : Machine) (refs : List ℕ) → IsRun packet new v → AreRead maps new sites2 v → on (v guard) ≡ true
       → after v maps sites ≡ m.maps → IsKnown decls packet v ps node k h m → at_reference refs m ≡ is_ref → effect refs m i i.op ≡ Some n

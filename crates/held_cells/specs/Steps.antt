@@ -9,7 +9,8 @@ use Rattle.xdp_machine.specs.Touched.{operation_at}
 use Rattle.kind_core.specs.declared.kind.Kinds.{Kinds}
 use Rattle.cell_core.specs.Cells.{CellView, IsRun, cell_at, site_in, bits_from, bit, on}
 use Rattle.cell_core.specs.Sites.{SiteView, site_at, operation_on, after, read_on}
-use Rattle.operator_cells.specs.Making.{Grows}
+use Rattle.cell_core.specs.Formed.{FitsMap, IsBelow}
+use Rattle.operator_cells.specs.Making.{GrowsWith}
 use Rattle.held_cells.specs.declared.held.Held.{Held}
 use Rattle.held_cells.specs.declared.way.Way.{Way}
 use Rattle.held_cells.specs.declared.way.Exit.{Exit}
@@ -63,6 +64,10 @@ abbrev pub AreRead : MapState → List CellView → List SiteView → (ℕ → �
 AreRead maps cells sites v = (c j : ℕ) → c < length cells → j < length sites → site_in (cell_at cells c).op ≡ Some j → on (v (site_at sites j).guard) ≡ true
     → v c ≡ bits_from (read_on v (after v maps (take j sites)) (site_at sites j) (cell_at cells c).op) (cell_at cells c).from (cell_at cells c).width
 
+-- A cell that a node makes reads a site of this node alone, and stands behind the cells that this one and those before it take.
+abbrev pub ReadsOwn : List SiteView → List SiteView → ℕ → ℕ → Type 0
+ReadsOwn sites sites2 c j = (length sites ≤ j) × (j < length sites2) × ((i : ℕ) → length sites ≤ i → i ≤ j → IsBelow c (site_at sites2 i))
+
 -- The sites of a node do the operation of its step: one site, or none where it does none.
 abbrev pub DoAs : (ℕ → ℕ) → MapState → List SiteView → Option (ℕ × Operation) → Type 0
 DoAs v maps [] op = op ≡ None
@@ -72,12 +77,14 @@ DoAs v maps (s ∷ r ∷ more) op = ⊥
 -- What the code of node k does behind its guard: cells, pointers, sites, edges and ends are added; and for all values of the cells and every
 -- run, where things are good before the node they are good behind it, and the operations of the sites leave the maps of the run.
 pub record Steps (g : GraphView) (k guard : ℕ) (held : Held) (cells cells2 : List CellView) (ps ps2 : List PointerView) (sites sites2 : List SiteView) (ways ways2 : List Way) (exits exits2 : List Exit) : Type 0 where
-  pub grows : Grows cells cells2
+  pub grows : GrowsWith (ReadsOwn sites sites2) cells cells2
   pub more_pointers : List PointerView
   pub pointers_are : ps2 ≡ ps ++ more_pointers
   pub more : List SiteView
   pub sites_are : sites2 ≡ sites ++ more
   pub own : All (λ s. (s.node ≡ k) × (s.guard ≡ guard)) more
+  pub fits : All (FitsMap g.decls) more
+  pub below : All (IsBelow (length cells2)) more
   pub made : AreMade g cells2 ps2 ways2 exits2
   pub step : (packet : PacketIn) (maps : MapState) (v : ℕ → ℕ) (s : Stage) → IsRun packet cells2 v → AreRead maps cells2 sites2 v
       → after v maps sites ≡ maps_in maps s → IsHere g packet v ps k guard held s → IsGood g packet v ps k ways exits s

@@ -1,5 +1,5 @@
 -- The edges that leave a node of a graph.
-use Rattle.std.specs.Prelude.{ℕ, pos, ◌≡◌, ◌<◌, ◌==◌, ◌++◌, Bool, true, false, Option, Some, None, List, [], ◌∷◌, length, All}
+use Rattle.std.specs.Prelude.{ℕ, pos, ◌≡◌, ◌<◌, ◌==◌, ◌++◌, if◌then◌else◌, Bool, true, false, is_some, Option, Some, None, List, [], ◌∷◌, length, All, Contains}
 use Rattle.std.specs.List.{list_any}
 use Rattle.bpf_isa.specs.declared.operation.Op.{Op}
 use Rattle.bpf_isa.specs.declared.operation.Op.TheVariants.{Ja, Jump, Exit}
@@ -14,7 +14,7 @@ use Rattle.kind_core.specs.Effects.{effect_of, verdict}
 use Rattle.kind_core.specs.Edges.{decided, transferred}
 use Rattle.kind_core.specs.Soundness.{target}
 use Rattle.held_cells.specs.declared.way.Way.{Way}
-use Rattle.held_cells.specs.Paths.{GraphView, node_at, led}
+use Rattle.held_cells.specs.Paths.{EdgeView, GraphView, node_at, led}
 
 -- an allowed instruction at a node, that of its place, and what is known there
 pub record IsNode (g : GraphView) (k : ℕ) (i : Insn) (kinds : Kinds) : Type 0 where
@@ -46,6 +46,25 @@ ArePresent k i (Some next) (Some jump) = decided k i ≡ None
 ArePresent k i (Some next) None = decided k i ≡ Some false
 ArePresent k i None (Some jump) = decided k i ≡ Some true
 ArePresent k i None None = ⊥
+
+-- Which edges leave an instruction: of a jump with a condition those that are present, of one without its target alone, of an exit none, of
+-- each other the next place alone.
+abbrev pub AreEnds : Kinds → Insn → Op → Option ℕ → Option ℕ → Type 0
+AreEnds k i (Jump w c s) next jump = ArePresent k i next jump
+AreEnds k i (Ja w) next jump = (next ≡ None) × (is_some jump ≡ true)
+AreEnds k i Exit next jump = (next ≡ None) × (jump ≡ None)
+AreEnds k i op next jump = (is_some next ≡ true) × (jump ≡ None)
+
+abbrev pub end_along : Option ℕ → Option ℕ → Bool → Option ℕ
+end_along next jump taken = if taken then jump else next
+
+-- These nodes are the ends of the edges that leave node k, to the next place and of the jump.
+pub record HasEnds (g : GraphView) (k : ℕ) (i : Insn) (next jump : Option ℕ) : Type 0 where
+  pub next_is : IsEnd g k i false next
+  pub jump_is : IsEnd g k i true jump
+  pub present : AreEnds (node_at g.nodes k).kinds i i.op next jump
+  pub each : (taken : Bool) (to : ℕ) → end_along next jump taken ≡ Some to → Contains g.edges (record { from = k; taken = taken; to = to })
+  pub all : (x : EdgeView) → Contains g.edges x → x.from ≡ k → end_along next jump x.taken ≡ Some x.to
 
 -- an instruction that goes on at the next place
 abbrev pub leads_on : Op → Bool

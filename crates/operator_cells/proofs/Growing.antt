@@ -1,5 +1,5 @@
 -- One cell more, and more of them.
-use Rattle.std.proofs.Common.{◌≡◌, ℕ, ◌+◌, ◌<◌, ◌≤◌, ◌⊎◌, inl, inr, true, false, List, [], ◌∷◌, ◌++◌, length, get_or, length-append, refl, sym, ◌∙◌, ap, subst, arith}
+use Rattle.std.proofs.Common.{◌≡◌, ℕ, ◌+◌, ◌<◌, ◌≤◌, ◌⊎◌, inl, inr, true, false, Some, List, [], ◌∷◌, ◌++◌, length, get_or, length-append, refl, sym, ◌∙◌, ap, subst, arith}
 use Rattle.std.specs.Prelude.{slice_index, All}
 use Rattle.std.proofs.Math.ListN.{get_or-append}
 use Rattle.std.proofs.Math.Seq.{get_or-append_seam}
@@ -8,10 +8,11 @@ use Rattle.std.proofs.lemmas.List.{length-map, get_or-map}
 use Rattle.xdp_machine.specs.State.{PacketIn}
 use Rattle.cell_core.specs.declared.cell.Cell.{Cell}
 use Rattle.cell_core.specs.declared.operator.Operator.{Operator}
-use Rattle.cell_core.specs.Cells.{CellView, IsRun, no_cell, cell_at, is_read, value, Solves_as}
+use Rattle.cell_core.specs.Cells.{CellView, IsRun, no_cell, cell_at, is_read, site_in, value, Solves_as}
 use Rattle.cell_core.specs.Formed.{AreFormed, IsFormed, IsSome, takes, divides, IsInRange}
 use Rattle.cell_core.specs.View.{cell_of}
-use Rattle.operator_cells.specs.Making.{seen, Adds, Grows, Makes, operated}
+use Rattle.operator_cells.specs.Making.{seen, Adds, GrowsWith, Grows, Makes, operated}
+use Rattle.operator_cells.proofs.MakingLaws as law
 
 pub old-cell : (cells : List CellView) (cell : CellView) (k : ℕ) → k < length cells → cell_at (cells ++ cell ∷ []) k ≡ cell_at cells k
 old-cell cells cell k h = get_or-append cells (cell ∷ []) no_cell k h
@@ -76,12 +77,15 @@ formed-new cells cell formed n = let e = new-cell cells cell in record {
       (λ t. let d = n.divisor formed t in some-stays cells cell (slice_index cell.ins 1) formed d.0 d.1);
 }
 
-pub grows_one : (cells : List CellView) (cell : CellView) → IsNext cells cell → Grows cells (cells ++ cell ∷ [])
-grows_one cells cell n = record {
+pub grows_one : (R : ℕ → ℕ → Type 0) (cells : List CellView) (cell : CellView) → IsNext cells cell → ((j : ℕ) → site_in cell.op ≡ Some j → R (length cells) j)
+    → GrowsWith R cells (cells ++ cell ∷ [])
+grows_one R cells cell n reads = record {
   longer = omega (arith, one-longer cells cell);
   kept = old-cell cells cell;
   formed = λ formed. record { each = λ k h. by formed k (cases_lt k (length cells)) h };
   run = λ packet v r. record { each = λ k h. subst (λ (c : CellView). Solves_as (is_read c.op) packet v c (v k)) (old-cell cells cell k h) (r.each k (omega (arith, one-longer cells cell, h))) };
+  reads = λ k j low high is. let at : length cells ≡ k = omega (arith, low, high, one-longer cells cell) in
+      subst (λ (i : ℕ). R i j) at (reads j (sym (ap (λ (c : CellView). site_in c.op) (new-cell cells cell)) ∙ ap (λ (i : ℕ). site_in (cell_at (cells ++ cell ∷ []) i).op) at ∙ is));
 }
   where
     by : AreFormed cells → (k : ℕ) → (k < length cells) ⊎ (length cells ≤ k) → k < length (cells ++ cell ∷ []) → IsFormed (cells ++ cell ∷ []) k
@@ -93,16 +97,21 @@ grows_one cells cell n = record {
 pub makes_one : (cells : List CellView) (cell : CellView) → IsNext cells cell → is_read cell.op ≡ false
     → Makes cells (cells ++ cell ∷ []) (length cells) (operated cell.op cell.ins cell.from cell.width)
 makes_one cells cell n plain = record {
-  grows = grows_one cells cell n;
+  grows = grows_one (λ k j. ⊥) cells cell n (unread cell.op plain);
   there = omega (arith, one-longer cells cell);
   value = λ packet v r. solved packet v (subst (λ (c : CellView). Solves_as (is_read c.op) packet v c (v (length cells))) (new-cell cells cell) (r.each (length cells) (omega (arith, one-longer cells cell))));
 }
   where
+    unread : (op : Operator) → is_read op ≡ false → (j : ℕ) → site_in op ≡ Some j → ⊥
+    unread op p j e = absurd (cc)
+
     solved : (packet : PacketIn) (v : ℕ → ℕ) → Solves_as (is_read cell.op) packet v cell (v (length cells)) → v (length cells) ≡ value packet v cell
     solved packet v h = rw plain at h
 
-pub added_grows : (old new : List CellView) (c : ℕ) (cell : CellView) → Adds old new c cell → IsNext old cell → Grows old new
-added_grows old new c cell adds n = subst (λ (cells : List CellView). Grows old cells) (sym adds.is) (grows_one old cell n)
+-- one more cell that reads at most this site
+pub added_grows : (old new : List CellView) (c : ℕ) (cell : CellView) (site : ℕ) → Adds old new c cell → IsNext old cell → site_in cell.op ≡ Some site → GrowsWith (λ k j. j ≡ site) old new
+added_grows old new c cell site adds n is = subst (λ (cells : List CellView). GrowsWith (λ k j. j ≡ site) old cells) (sym adds.is)
+    (grows_one (λ k j. j ≡ site) old cell n (λ j e. cc))
 
 -- a cell that was added
 pub added_makes : (old new : List CellView) (c : ℕ) (cell : CellView) → Adds old new c cell → IsNext old cell → is_read cell.op ≡ false
@@ -111,15 +120,10 @@ added_makes old new c cell adds n plain = subst (λ (j : ℕ). Makes old new j (
     (subst (λ (cells : List CellView). Makes old cells (length old) (operated cell.op cell.ins cell.from cell.width)) (sym adds.is) (makes_one old cell n plain))
 
 pub grown : (a b c : List CellView) → Grows a b → Grows b c → Grows a c
-grown a b c g h = record {
-  longer = omega (arith, g.longer, h.longer);
-  kept = λ k l. h.kept k (omega (arith, l, g.longer)) ∙ g.kept k l;
-  formed = λ f. h.formed (g.formed f);
-  run = λ packet v r. g.run packet v (h.run packet v r);
-}
+grown a b c g h = law.grown g h
 
 pub grown_none : (a : List CellView) → Grows a a
-grown_none a = record { longer = omega arith; kept = λ k l. refl; formed = λ f. f; run = λ packet v r. r }
+grown_none a = law.grown_none
 
 pub seen_more : (cells : List Cell) (x : Cell) → seen (cells ++ x ∷ []) ≡ seen cells ++ cell_of x ∷ []
 unfolding seen

@@ -1,12 +1,12 @@
 -- What code does that adds cells to a list.
-use Rattle.std.specs.Prelude.{ℕ, ◌≡◌, Bool, true, false, ◌<◌, ◌≤◌, List, [], ◌∷◌, ◌++◌, length, map as map_list}
+use Rattle.std.specs.Prelude.{ℕ, ◌≡◌, Bool, true, false, Some, ◌<◌, ◌≤◌, List, [], ◌∷◌, ◌++◌, length, map as map_list}
 use Rattle.bpf_isa.specs.declared.operation.AluCode.{AluCode}
 use Rattle.bpf_isa.specs.declared.operation.AluCode.TheVariants as alu
 use Rattle.xdp_machine.specs.State.{PacketIn}
 use Rattle.cell_core.specs.declared.cell.Cell.{Cell}
 use Rattle.cell_core.specs.declared.operator.Operator.{Operator}
 use Rattle.cell_core.specs.declared.operator.Operator.TheVariants as op
-use Rattle.cell_core.specs.Cells.{CellView, IsRun, cell_at, number, bits_from}
+use Rattle.cell_core.specs.Cells.{CellView, IsRun, cell_at, site_in, number, bits_from}
 use Rattle.cell_core.specs.Formed.{AreFormed}
 use Rattle.cell_core.specs.View.{cell_of}
 
@@ -19,12 +19,18 @@ pub record Adds (old new : List CellView) (c : ℕ) (cell : CellView) : Type 0 w
   pub is : new ≡ old ++ cell ∷ []
   pub at : c ≡ length old
 
--- More cells: those that were there stay, and keep to what cells keep to; values of all are values of those.
-pub record Grows (old new : List CellView) : Type 0 where
+-- More cells: those that were there stay, and keep to what cells keep to; values of all are values of those; of the new ones that read sites
+-- this holds, by their number and the site's.
+pub record GrowsWith (MayRead : ℕ → ℕ → Type 0) (old new : List CellView) : Type 0 where
   pub longer : length old ≤ length new
   pub kept : (k : ℕ) → k < length old → cell_at new k ≡ cell_at old k
   pub formed : AreFormed old → AreFormed new
   pub run : (packet : PacketIn) (v : ℕ → ℕ) → IsRun packet new v → IsRun packet old v
+  pub reads : (k j : ℕ) → length old ≤ k → k < length new → site_in (cell_at new k).op ≡ Some j → MayRead k j
+
+-- The same where no new cell reads a site.
+abbrev pub Grows : List CellView → List CellView → Type 0
+Grows old new = GrowsWith (λ k j. ⊥) old new
 
 -- The same, and a cell among them whose value in every run is this.
 pub record Makes (old new : List CellView) (c : ℕ) (is : PacketIn → (ℕ → ℕ) → ℕ) : Type 0 where

@@ -4,7 +4,7 @@ ghost use Rattle.std.specs.Prelude.{ℕ, ◌≡◌, ◌<◌, ◌≤◌, false, [
 ghost use Rattle.cell_core.specs.Cells.{is_read};
 ghost use Rattle.cell_core.specs.Formed.{takes, divides, IsInRange, IsSome};
 ghost use Rattle.xdp_machine.specs.Arithmetic.{low};
-ghost use Rattle.operator_cells.specs.Making.{seen, Adds, Makes, Grows, operated};
+ghost use Rattle.operator_cells.specs.Making.{seen, Adds, Makes, GrowsWith, operated};
 ghost use Rattle.operator_cells.specs.Dividing.{some, divided, divider};
 
 use cell_core::cell::Cell;
@@ -60,7 +60,7 @@ pub fn operate(
 pub fn found(cells: &mut Vec<Cell>, site: u32, ins: &[u32]) -> Result<u32, AllocError>
     requires { All (λ i. i < length (seen cells.old.items)) ins.now }
     ensures adds { IfOk result (λ c. Adds (seen cells.old.items) (seen cells.new.items) c (record { op = Operator.Found site; ins = ins.now; width = 1; from = 0 })) }
-    ensures grows { IfOk result (λ c. Grows (seen cells.old.items) (seen cells.new.items)) }
+    ensures grows { IfOk result (λ c. GrowsWith (λ k j. j ≡ site) (seen cells.old.items) (seen cells.new.items)) }
 {
     let c = push(cells, Operator::Found(site), ins, 0, 1)?;
     Ok(c)
@@ -71,7 +71,7 @@ pub fn answer(cells: &mut Vec<Cell>, site: u32, ins: &[u32], width: u32) -> Resu
     requires earlier { All (λ i. i < length (seen cells.old.items)) ins.now }
     requires width { width ≤ 64 }
     ensures adds { IfOk result (λ c. Adds (seen cells.old.items) (seen cells.new.items) c (record { op = Operator.Answer site; ins = ins.now; width = width; from = 0 })) }
-    ensures grows { IfOk result (λ c. Grows (seen cells.old.items) (seen cells.new.items)) }
+    ensures grows { IfOk result (λ c. GrowsWith (λ k j. j ≡ site) (seen cells.old.items) (seen cells.new.items)) }
 {
     let c = push(cells, Operator::Answer(site), ins, 0, width)?;
     Ok(c)
