@@ -10,7 +10,6 @@ use Rattle.kind_core.specs.Edges.{transferred}
 use Rattle.held_cells.specs.declared.way.Way.{Way}
 use Rattle.held_cells.specs.Paths.{EdgeView, GraphView, node_at}
 use Rattle.edge_cells.specs.Widening.{AreWider, AreFilled}
-use Rattle.predicate_core.specs.Laws.{past}
 
 -- what is known on an edge, behind the instruction of the node that it leaves
 abbrev pub known_behind : GraphView → EdgeView → Option Insn → Kinds
@@ -44,7 +43,7 @@ pub record Leave (g : GraphView) (k : ℕ) (more : List Way) : Type 0 where
 -- With the edge to the first node all nodes are fed; they stay so as each node's edges are made; and where a node's turn comes an edge leads to it.
 pub record FeedsNodes (g : GraphView) : Type 0 where
   pub start : (e : Way) → e.to ≡ 0 → e.kinds ≡ kinds.start → AreFed g 0 (e ∷ [])
-  pub follow : (k : ℕ) (ways more : List Way) → AreFed g k ways → Leave g k more → AreFed g (k + 1) (past k (ways ++ more))
+  pub follow : (k : ℕ) (ways more : List Way) → AreFed g k ways → Leave g k more → AreFed g (k + 1) (ways ++ more)
   pub here : (k : ℕ) (ways : List Way) → k < length g.nodes → AreFed g k ways → ((e : Way) × Contains ways e × (e.to ≡ k)) × All (λ e. e.to ≡ k → AreWider (node_at g.nodes k).kinds e.kinds) ways
 
 abbrev pub SoundGraphsFeed : Type 0
