@@ -1,5 +1,5 @@
 -- What is known among more cells and pointers.
-use Rattle.std.proofs.Common.{◌≡◌, ℕ, suc, zero, ◌+◌, ◌<◌, ◌≤◌, Bool, true, false, List, [], ◌∷◌, length, get_or, sym, ◌∙◌, ap, subst, arith}
+use Rattle.std.proofs.Common.{◌≡◌, ℕ, suc, zero, Bool, true, false, List, [], ◌∷◌, length, get_or, sym, ◌∙◌, ap, subst, arith}
 use Rattle.std.specs.Prelude.{slice_index, Contains, cond}
 use Rattle.std.specs.List.{filter}
 use Rattle.xdp_maps.specs.declared.decl.MapDecl.{MapDecl}

@@ -1,11 +1,10 @@
 -- Cells that read no site, behind an arrival and behind the code of a node.
-use Rattle.std.proofs.Common.{◌≡◌, ℕ, ◌<◌, ◌≤◌, Some, List, length, take, sym, ◌∙◌, ap, subst, arith}
-use Rattle.std.specs.Prelude.{slice_index, All}
+use Rattle.std.proofs.Common.{◌≡◌, ℕ, ◌≤◌, List, length, take, ◌∙◌, ap, subst, arith}
 use Rattle.std.proofs.lemmas.List.Elements.{All-weaker}
 use Rattle.xdp_maps.specs.State.{MapState}
 use Rattle.kind_core.specs.declared.number.Number.{Number}
 use Rattle.kind_core.specs.declared.number.Number.TheVariants.{Known, Unknown}
-use Rattle.cell_core.specs.Cells.{CellView, cell_at, site_in, bits_from, on}
+use Rattle.cell_core.specs.Cells.{CellView, site_in, bits_from, on}
 use Rattle.cell_core.specs.Sites.{SiteView, site_at, after, read_on}
 use Rattle.cell_core.specs.Formed.{IsBelow}
 use Rattle.operator_cells.specs.Making.{Grows}
@@ -13,7 +12,7 @@ use Rattle.operator_cells.proofs.MakingLaws.{grown, grown_with, reads_none}
 use Rattle.held_cells.specs.declared.way.Way.{Way}
 use Rattle.held_cells.specs.declared.way.Exit.{Exit}
 use Rattle.held_cells.specs.Paths.{GraphView, node_at}
-use Rattle.held_cells.specs.Held.{PointerView, AreInside, IsThere}
+use Rattle.held_cells.specs.Held.{PointerView, IsThere}
 use Rattle.held_cells.specs.Steps.{AreMade, AreRead, ReadsOwn}
 use Rattle.edge_cells.proofs.ExtendingLaws.{extends_none, inside_later}
 use Rattle.predicate_core.specs.Laws.{ArrivalsStay, StepsStay}
