@@ -1,30 +1,28 @@
 -- What is known at a node of a graph is what is known on the edges that lead there, joined.
-use Rattle.std.proofs.Common.{◌≡◌, ℕ, suc, ◌+◌, ◌<◌, ◌⊎◌, inl, inr, Bool, true, false, List, [], ◌∷◌, length, get_or, Some, Ok, refl, sym, ◌∙◌, ap, subst, arith}
+use Rattle.std.proofs.Common.{◌≡◌, ℕ, suc, ◌+◌, ◌<◌, inl, inr, Bool, true, false, List, [], ◌∷◌, length, get_or, refl, sym, ◌∙◌, ap, subst, arith}
 use Rattle.std.specs.Prelude.{All, if◌then◌else◌}
 use Rattle.std.specs.List.{Contains}
 use Rattle.std.proofs.lemmas.List.Elements.{All-nil, All-cons}
 use Rattle.xdp_machine.specs.Program.{XdpProgram}
 use Rattle.kind_core.specs.declared.kind.Kinds.{Kinds}
-use Rattle.kind_core.specs.Kinds as kinds
 use Rattle.unfold_core.specs.declared.nesting.Loop.{Loop}
 use Rattle.unfold_core.specs.declared.edges.Point.{Point}
 use Rattle.unfold_core.specs.declared.links.Edge.{Edge}
 use Rattle.unfold_core.specs.Loops.{AreLoops}
 use Rattle.unfold_core.specs.Nodes.{GraphNode, start}
 use Rattle.unfold_core.specs.Edges.{leaving}
-use Rattle.unfold_core.specs.Graphs.{same, first_point, ends, edges_from, leading, IsGraph}
+use Rattle.unfold_core.specs.Graphs.{same, first_point, ends, leading, IsGraph}
 use Rattle.unfold_core.specs.GraphLaws.{brought}
 use Rattle.unfold_core.specs.Pending.{number_of}
-use Rattle.unfold_core.specs.Unfolding.{links}
 use Rattle.unfold_core.specs.RunLaws.{edge}
-use Rattle.unfold_core.specs.LinkLaws.{known_behind, known_on, Comes, JoinsLinks, LinksAreJoined, StartIsFirst}
+use Rattle.unfold_core.specs.LinkLaws.{known_behind, Comes, JoinsLinks, LinksAreJoined, StartIsFirst}
 use Rattle.unfold_core.proofs.NodeLaws.{nodes_are_ordered, start_is_node}
 use Rattle.unfold_core.proofs.Arriving.{fine_of, same_itself, same_is}
 use Rattle.unfold_core.proofs.Numbering as numbering
 use Rattle.unfold_core.proofs.Reaching.{In, number_own}
 use Rattle.unfold_core.proofs.LinkLaws.{edge_source, end_at}
 use Rattle.unfold_core.proofs.JoinedLaws.{kinds_are_joined}
-use Rattle.unfold_core.proofs.Linked.{edge_along, goes_to, has_ends, end_side, side_link, link_side, from_inside}
+use Rattle.unfold_core.proofs.Linked.{goes_to, has_ends, end_side, side_link, link_side, from_inside}
 
 -- ---- what the ends of a list bring to a node
 

@@ -101,7 +101,7 @@ edge_source p ls j (n ∷ g) d e h = by_part (in_parts e (ends (leaving p ls j n
         let number : (j + 1) + x.0 ≡ j + suc x.0 = omega arith in
         (suc x.0, omega (arith, x.1), subst (λ i. In e (ends (leaving p ls i (get_or g x.0 d)))) number x.2)
 
-pub numbered_in : (ls : List Loop) (g : List Point) (from : ℕ) (taken : Bool) (es : List Point) (e : Point) → In e es → (t : Bool) × Contains (numbered ls g from taken es) (edge from t (number_of ls e.node g))
+numbered_in : (ls : List Loop) (g : List Point) (from : ℕ) (taken : Bool) (es : List Point) (e : Point) → In e es → (t : Bool) × Contains (numbered ls g from taken es) (edge from t (number_of ls e.node g))
 numbered_in ls g from taken [] e h = absurd h
 numbered_in ls g from taken (x ∷ es) e (inl h) = (taken, (0, omega arith, ap (λ y. edge from taken (number_of ls y.node g)) h))
 numbered_in ls g from taken (x ∷ es) e (inr h) =

@@ -1,5 +1,5 @@
 -- The edges of a graph are the present edges of its nodes.
-use Rattle.std.proofs.Common.{◌≡◌, ℕ, ℤ, pos, negsuc, ◌+◌, ◌+ℤ◌, ◌<◌, inl, inr, not, Bool, true, false, List, [], ◌∷◌, ◌++◌, length, get_or, Option, Some, None, Result, Ok, refl, sym, ◌∙◌, ap, subst, arith}
+use Rattle.std.proofs.Common.{◌≡◌, ℕ, ℤ, pos, negsuc, ◌+◌, ◌<◌, inl, inr, not, Bool, true, false, List, [], ◌∷◌, ◌++◌, length, get_or, Option, Some, Result, Ok, refl, sym, ◌∙◌, ap, subst, arith}
 use Rattle.std.specs.Prelude.{All, if◌then◌else◌}
 use Rattle.std.specs.List.{Contains}
 use Rattle.std.proofs.lemmas.List.Elements.{All-nil, All-cons, All-contains, All-contains_itself}
@@ -27,7 +27,7 @@ use Rattle.unfold_core.specs.Graphs.{ends, leading, IsGraph}
 use Rattle.unfold_core.specs.Pending.{number_of}
 use Rattle.unfold_core.specs.Unfolding.{jumps_first, numbered, links}
 use Rattle.unfold_core.specs.RunLaws.{edge}
-use Rattle.unfold_core.specs.LinkLaws.{goes_along, known_behind, known_on, IsLink, HasLinks, NodesHaveLinks}
+use Rattle.unfold_core.specs.LinkLaws.{goes_along, known_behind, IsLink, HasLinks, NodesHaveLinks}
 use Rattle.unfold_core.proofs.NodeLaws.{edges_reach_nodes}
 use Rattle.unfold_core.proofs.EdgesUp.{edge_reaches, present_all, turn_all}
 use Rattle.unfold_core.proofs.Reaching.{In, all_in, pass_at, in_edges, numbered_at, in_links}
@@ -63,19 +63,20 @@ numbered_sides p ls g es k at i e =
         let q = present_some true (next_edge p ls k at i) xs refl f in
         let r = present_some true (jump_edge p ls k at i) ys refl h in
         let two : q.0 ∷ r.0 ∷ [] ≡ es = sym (whole ∙ ap (λ zs. zs ++ ys) q.2 ∙ ap (λ zs. q.0 ∷ zs) r.2) in
-        let P = IsSide p ls g (q.0 ∷ r.0 ∷ []) k at i in
+        let P : Edge → Type 0 = IsSide p ls g (q.0 ∷ r.0 ∷ []) k at i in
         subst (λ zs. All (IsSide p ls g zs k at i) (numbered ls g k false zs)) two
-        (All-cons P _ _ (side (q.0 ∷ r.0 ∷ []) false q.0 (inl refl) n q.1) (All-cons P _ _ (side (q.0 ∷ r.0 ∷ []) true r.0 (inr (inl refl)) j r.1) (All-nil P)))
+        (All-cons P (edge k false (number_of ls q.0.node g)) (edge k true (number_of ls r.0.node g) ∷ []) (side (q.0 ∷ r.0 ∷ []) false q.0 (inl refl) n q.1)
+        (All-cons P (edge k true (number_of ls r.0.node g)) [] (side (q.0 ∷ r.0 ∷ []) true r.0 (inr (inl refl)) j r.1) (All-nil P)))
     by true false n j xs ys f h whole =
         let q = present_some true (next_edge p ls k at i) xs refl f in
         let one : q.0 ∷ [] ≡ es = sym (whole ∙ ap (λ zs. zs ++ ys) q.2 ∙ ap (λ zs. q.0 ∷ zs) (present_none false (jump_edge p ls k at i) ys refl h)) in
-        let P = IsSide p ls g (q.0 ∷ []) k at i in
-        subst (λ zs. All (IsSide p ls g zs k at i) (numbered ls g k false zs)) one (All-cons P _ _ (side (q.0 ∷ []) false q.0 (inl refl) n q.1) (All-nil P))
+        let P : Edge → Type 0 = IsSide p ls g (q.0 ∷ []) k at i in
+        subst (λ zs. All (IsSide p ls g zs k at i) (numbered ls g k false zs)) one (All-cons P (edge k false (number_of ls q.0.node g)) [] (side (q.0 ∷ []) false q.0 (inl refl) n q.1) (All-nil P))
     by false true n j xs ys f h whole =
         let r = present_some true (jump_edge p ls k at i) ys refl h in
         let one : r.0 ∷ [] ≡ es = sym (whole ∙ ap (λ zs. zs ++ ys) (present_none false (next_edge p ls k at i) xs refl f) ∙ r.2) in
-        let P = IsSide p ls g (r.0 ∷ []) k at i in
-        subst (λ zs. All (IsSide p ls g zs k at i) (numbered ls g k true zs)) one (All-cons P _ _ (side (r.0 ∷ []) true r.0 (inl refl) j r.1) (All-nil P))
+        let P : Edge → Type 0 = IsSide p ls g (r.0 ∷ []) k at i in
+        subst (λ zs. All (IsSide p ls g zs k at i) (numbered ls g k true zs)) one (All-cons P (edge k true (number_of ls r.0.node g)) [] (side (r.0 ∷ []) true r.0 (inl refl) j r.1) (All-nil P))
     by false false n j xs ys f h whole =
         let none : [] ≡ es = sym (whole ∙ ap (λ zs. zs ++ ys) (present_none false (next_edge p ls k at i) xs refl f) ∙ present_none false (jump_edge p ls k at i) ys refl h) in
         subst (λ zs. All (IsSide p ls g zs k at i) (numbered ls g k true zs)) none (All-nil (IsSide p ls g [] k at i))
