@@ -1,5 +1,5 @@
 -- One edge more among the ends.
-use Rattle.std.proofs.Common.{◌≡◌, ℕ, ◌+◌, ◌<◌, ◌⊎◌, inl, inr, Bool, true, false, List, [], ◌∷◌, ◌++◌, length, get_or, set, take, Some, refl, sym, ◌∙◌, ap, subst, arith}
+use Rattle.std.proofs.Common.{◌≡◌, ℕ, ◌+◌, ◌<◌, ◌⊎◌, inl, inr, Bool, true, false, List, [], ◌∷◌, ◌++◌, length, get_or, set, take, Option, Some, None, refl, sym, ◌∙◌, ap, subst, arith}
 use Rattle.std.specs.Prelude.{◌≢◌, is_some, replicate, All, Contains}
 use Rattle.std.proofs.lemmas.Bool.{cases_order}
 use Rattle.std.proofs.lemmas.List.{get_or-set_same, get_or-set_other, length-set, length-replicate, get_or-replicate, get_or_default, take_more}
@@ -7,7 +7,20 @@ use Rattle.std.proofs.lemmas.List.Elements.{All-nil, All-cons, All-append, Conta
 use Rattle.unfold_core.specs.declared.links.Edge.{Edge}
 use Rattle.unfold_core.specs.RunLaws.{edge}
 use Rattle.program_graph.specs.declared.edge_ends.NodeEnds.{NodeEnds}
-use Rattle.program_graph.specs.Ends.{along, added, no_ends, AreEndsOf}
+use Rattle.node_cells.specs.Ends.{end_along}
+use Rattle.program_graph.specs.Ends.{added}
+
+-- the end on one side
+abbrev pub along : NodeEnds → Bool → Option ℕ
+along e taken = end_along e.next e.jump taken
+
+abbrev pub no_ends : NodeEnds
+no_ends = record { next = None; jump = None }
+
+-- Each end is that of one of these edges, and there is one for each of them.
+pub record AreEndsOf (edges : List Edge) (ends : List NodeEnds) : Type 0 where
+  pub each : (k : ℕ) (taken : Bool) (to : ℕ) → k < length ends → along (get_or ends k no_ends) taken ≡ Some to → Contains edges (edge k taken to)
+  pub some : All (λ x. is_some (along (get_or ends x.from no_ends) x.taken) ≡ true) edges
 
 -- the side that is added, or another one
 added_each : (e : NodeEnds) (side taken : Bool) (to at : ℕ) → along (added e side to) taken ≡ Some at → ((side ≡ taken) × (to ≡ at)) ⊎ (along e taken ≡ Some at)
@@ -92,8 +105,7 @@ next_edge edges ends at n x d old more are size below is inside was made =
     let lt : x.from < length ends = omega (arith, size, inside) in
     let here : old ≡ get_or ends x.from no_ends = was ∙ get_or_default ends x.from old no_ends lt in
     let whole : take (at + 1) edges ≡ take at edges ++ x ∷ [] = take_more edges at d below ∙ ap (λ y. take at edges ++ y ∷ []) (sym is) in
-    let own : more ≡ added (get_or ends x.from no_ends) x.taken x.to = made ∙ ap (λ e. added e x.taken x.to) here in
-    (
+    let own : more ≡ added (get_or ends x.from no_ends) x.taken x.to = made ∙ ap (λ e. added e x.taken x.to) here in (
       length-set ends x.from more ∙ size,
       subst (λ e. AreEndsOf (take (at + 1) edges) (set ends x.from e)) (sym own) (subst (λ es. AreEndsOf es (set ends x.from (added (get_or ends x.from no_ends) x.taken x.to))) (sym whole) (one_more (take at edges) ends x are lt)),
     )

@@ -1,5 +1,5 @@
 -- The ends of each node are those of its edges.
-use Rattle.std.proofs.Common.{◌≡◌, ℕ, zero, suc, pos, ◌<◌, ◌==◌, ◌&&◌, inl, inr, not, Bool, true, false, List, [], ◌∷◌, length, get_or, Option, Some, None, refl, sym, ◌∙◌, ap, subst, arith}
+use Rattle.std.proofs.Common.{◌≡◌, ℕ, zero, suc, pos, ◌<◌, ◌==◌, ◌&&◌, Bool, true, false, List, [], ◌∷◌, length, get_or, Option, Some, None, refl, sym, ◌∙◌, ap, subst, arith}
 use Rattle.std.specs.Prelude.{is_some, if◌then◌else◌, All, Contains}
 use Rattle.std.proofs.lemmas.Bool.{eqb-true, eq-eqb, and_parts, and_from}
 use Rattle.std.proofs.lemmas.List.{get_or_default}
@@ -24,11 +24,12 @@ use Rattle.unfold_core.specs.Unfolding.{links, IsUnfolded}
 use Rattle.unfold_core.specs.RunLaws.{edge}
 use Rattle.unfold_core.specs.GraphLaws.{EdgesLeadOn}
 use Rattle.unfold_core.specs.LinkLaws.{goes_along, IsLink, HasLinks, NodesHaveLinks}
-use Rattle.held_cells.specs.Paths.{NodeView, EdgeView, GraphView, node_at, led}
+use Rattle.held_cells.specs.Paths.{NodeView, EdgeView, node_at, led}
 use Rattle.node_cells.specs.Ends.{IsEdge, IsEnd, ArePresent, AreEnds, HasEnds}
 use Rattle.program_graph.specs.declared.edge_ends.NodeEnds.{NodeEnds}
 use Rattle.program_graph.specs.Graphs.{edge_view, graph_of}
-use Rattle.program_graph.specs.Ends.{HaveEnds, along, no_ends, AreEndsOf}
+use Rattle.program_graph.specs.Ends.{HaveEnds}
+use Rattle.program_graph.proofs.Adding.{along, no_ends, AreEndsOf}
 use Rattle.program_graph.proofs.Viewing.{point_at, node_is, node_count, node_inside, edge_back, edge_there, edge_here}
 
 -- ---- lists of edges
@@ -46,7 +47,7 @@ led_is nodes k place to (e ∷ es) x all c from at =
         All-head (λ y. y.from ≡ k → (node_at nodes y.to).place ≡ place → y.to ≡ to) e es all (eqb-true e.from k both.0) (eqb-true (node_at nodes e.to).place place both.1)
     by false g later (zero, lt, is) =
         let here : ((e.from == k) && ((node_at nodes e.to).place == place)) ≡ true =
-            and_from (e.from == k) ((node_at nodes e.to).place == place) (eq-eqb e.from k (ap (λ y. y.from) is ∙ from)) (eq-eqb (node_at nodes e.to).place place (ap (λ y. (node_at nodes y.to).place) is ∙ at)) in
+        and_from (e.from == k) ((node_at nodes e.to).place == place) (eq-eqb e.from k (ap (λ y. y.from) is ∙ from)) (eq-eqb (node_at nodes e.to).place place (ap (λ y. (node_at nodes y.to).place) is ∙ at)) in
         absurd (cc (g, here))
     by false g later (suc j, lt, is) = later (j, omega (arith, lt), is)
 

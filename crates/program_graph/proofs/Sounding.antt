@@ -1,6 +1,6 @@
 -- The graph of a program that unfolds is sound.
-use Rattle.std.proofs.Common.{◌≡◌, ℕ, zero, suc, ◌<◌, inl, inr, List, ◌∷◌, length, get_or, Option, Some, None, refl, sym, ◌∙◌, ap, subst, arith}
-use Rattle.std.specs.Prelude.{◌==◌, fold, All, Contains}
+use Rattle.std.proofs.Common.{◌≡◌, ℕ, zero, suc, ◌<◌, inl, inr, ◌∷◌, length, get_or, Option, Some, None, refl, sym, ◌∙◌, ap, subst, arith}
+use Rattle.std.specs.Prelude.{◌==◌, fold, Contains}
 use Rattle.std.specs.List.{list_any}
 use Rattle.std.proofs.lemmas.List.Elements.{All-cons, All-head, All-tail, All-contains, Contains-get_or}
 use Rattle.bpf_isa.specs.declared.instruction.Insn.{Insn}
@@ -109,13 +109,12 @@ module _ (laws : Laws) (p : XdpProgram) (u : Unfolded) (program : IsProgram p) (
   goes_on x c =
       let among = in_links (edge_back x) (edge_here p u x c) in
       let on = leads_on (edge_back x) among in
-      let below : x.from < length u.nodes.items = omega (arith, on.0, on.1) in
-      (
+      let below : x.from < length u.nodes.items = omega (arith, on.0, on.1) in (
         on.0,
         subst (λ n. x.to < n) (sym (node_count p u)) on.1,
         subst (AreWider (node_at (graph_of p u).nodes x.to).kinds) (sym (known_same x below))
-        (subst (λ n. AreWider n.kinds (linked.known_on p u.nodes.items (first_point u.loops.items) (edge_back x))) (sym (node_is p u x.to on.1))
-        (wider x.to (linked.known_on p u.nodes.items (first_point u.loops.items) (edge_back x)) on.1 (inr (edge_back x, among, refl, refl)))),
+            (subst (λ n. AreWider n.kinds (linked.known_on p u.nodes.items (first_point u.loops.items) (edge_back x))) (sym (node_is p u x.to on.1))
+            (wider x.to (linked.known_on p u.nodes.items (first_point u.loops.items) (edge_back x)) on.1 (inr (edge_back x, among, refl, refl)))),
       )
 
   sound : IsSoundGraph (graph_of p u)

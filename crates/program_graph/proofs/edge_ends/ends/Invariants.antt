@@ -1,5 +1,5 @@
 use Rattle.std.proofs.Common.{◌≡◌, length, take}
-use Rattle.program_graph.specs.Ends.{AreEndsOf}
+use Rattle.program_graph.proofs.Adding.{AreEndsOf}
 use Rattle.program_graph.proofs.edge_ends.ends.Given as goal
 
 abbrev pub invariant-loop-edge : goal.invariant-loop-edge
