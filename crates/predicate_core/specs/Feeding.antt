@@ -4,18 +4,14 @@ use Rattle.kind_core.specs.Kinds as kinds
 use Rattle.held_cells.specs.declared.way.Way.{Way}
 use Rattle.held_cells.specs.Paths.{EdgeView, GraphView, node_at}
 use Rattle.edge_cells.specs.Widening.{AreWider}
-use Rattle.program_graph.specs.Sound.{known_on, IsSoundGraph}
+use Rattle.node_cells.specs.Feeding.{Leave}
+use Rattle.program_graph.specs.Sound.{IsSoundGraph}
 use Rattle.predicate_core.specs.Laws.{past}
 
 -- Before node k an edge leads to each node that is to come, or is still to be made.
 pub record AreFed (g : GraphView) (k : ℕ) (ways : List Way) : Type 0 where
   pub wider : All (λ e. k ≤ e.to → AreWider (node_at g.nodes e.to).kinds e.kinds) ways
   pub some : (n : ℕ) → k ≤ n → n < length g.nodes → ((e : Way) × Contains ways e × (e.to ≡ n)) ⊎ ((x : EdgeView) × Contains g.edges x × (x.to ≡ n) × (k ≤ x.from))
-
--- the edges that leave node k
-pub record Leave (g : GraphView) (k : ℕ) (more : List Way) : Type 0 where
-  pub each : All (λ e. (x : EdgeView) × Contains g.edges x × (x.from ≡ k) × (x.to ≡ e.to) × (e.kinds ≡ known_on g x)) more
-  pub all : (x : EdgeView) → Contains g.edges x → x.from ≡ k → (e : Way) × Contains more e × (e.to ≡ x.to)
 
 -- With the edge to the first node all nodes are fed; they stay so as each node's edges are made; and where a node's turn comes an edge leads to it.
 pub record FeedsNodes (g : GraphView) : Type 0 where

@@ -23,7 +23,8 @@ use Rattle.held_cells.specs.Paths.{EdgeView, node_at}
 use Rattle.edge_cells.specs.Widening.{AreWider, AreFilled, AreAlike, JoinsWiden, JoinsAreFilled}
 use Rattle.node_cells.specs.Filling.{EdgesAreFilled, JumpsAreFilled}
 use Rattle.program_graph.specs.Graphs.{node_view, edge_view, graph_of}
-use Rattle.program_graph.specs.Sound.{known_behind, known_on, IsSoundGraph, GraphsAreSound}
+use Rattle.node_cells.specs.Feeding.{known_behind, known_on}
+use Rattle.program_graph.specs.Sound.{IsSoundGraph, GraphsAreSound}
 use Rattle.program_graph.proofs.Viewing.{point_at, node_is, node_count, node_inside, edge_back, edge_there, edge_here}
 use Rattle.program_graph.proofs.References.{refers_load, small_values}
 use Rattle.program_graph.proofs.Filling.{start_filled, side_filled}
