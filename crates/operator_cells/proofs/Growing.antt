@@ -103,6 +103,8 @@ makes_one cells cell n plain = record {
 }
   where
     unread : (op : Operator) → is_read op ≡ false → (j : ℕ) → site_in op ≡ Some j → ⊥
+    unread (Operator.Found s) p j e = absurd (cc)
+    unread (Operator.Answer s) p j e = absurd (cc)
     unread op p j e = absurd (cc)
 
     solved : (packet : PacketIn) (v : ℕ → ℕ) → Solves_as (is_read cell.op) packet v cell (v (length cells)) → v (length cells) ≡ value packet v cell

@@ -4,7 +4,7 @@ ghost use Rattle.std.specs.Prelude.{ℕ, ◌≡◌, ◌<◌, ◌≤◌, false, [
 ghost use Rattle.cell_core.specs.Cells.{is_read};
 ghost use Rattle.cell_core.specs.Formed.{takes, divides, IsInRange, IsSome};
 ghost use Rattle.xdp_machine.specs.Arithmetic.{low};
-ghost use Rattle.operator_cells.specs.Making.{seen, Adds, Makes, GrowsWith, operated};
+ghost use Rattle.operator_cells.specs.Making.{seen, Adds, Makes, GrowsWith, Grows, operated};
 ghost use Rattle.operator_cells.specs.Dividing.{some, divided, divider};
 
 use cell_core::cell::Cell;
@@ -74,6 +74,16 @@ pub fn answer(cells: &mut Vec<Cell>, site: u32, ins: &[u32], width: u32) -> Resu
     ensures grows { IfOk result (λ c. GrowsWith (λ k j. j ≡ site) (seen cells.old.items) (seen cells.new.items)) }
 {
     let c = push(cells, Operator::Answer(site), ins, 0, width)?;
+    Ok(c)
+}
+
+/// Adds a cell that stands for the writes of a map: it has no bits, and the greatest row of its inputs.
+pub fn pending(cells: &mut Vec<Cell>, ins: &[u32]) -> Result<u32, AllocError>
+    requires { All (λ i. i < length (seen cells.old.items)) ins.now }
+    ensures adds { IfOk result (λ c. Adds (seen cells.old.items) (seen cells.new.items) c (record { op = Operator.Pending; ins = ins.now; width = 0; from = 0 })) }
+    ensures grows { IfOk result (λ c. Grows (seen cells.old.items) (seen cells.new.items)) }
+{
+    let c = push(cells, Operator::Pending, ins, 0, 0)?;
     Ok(c)
 }
 

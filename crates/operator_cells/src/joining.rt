@@ -29,8 +29,8 @@ pub fn guard(cells: &mut Vec<Cell>, bits: &[u32]) -> Result<u32, AllocError>
     Ok(c)
 }
 
-// Whether all edges bring one cell.
-fn are_one(arms: &[Arm], cell: u32) -> bool
+/// Whether all edges bring one cell.
+pub fn are_one(arms: &[Arm], cell: u32) -> bool
     ensures { result ≡ true → All (λ a. a.cell ≡ cell) arms.now }
 {
     for arm in arms {
@@ -41,9 +41,8 @@ fn are_one(arms: &[Arm], cell: u32) -> bool
     true
 }
 
-// The bits and the cells.
-
-fn flat(alloc: Global, arms: &[Arm]) -> Result<Cells, AllocError>
+/// The bits and the cells.
+pub fn flat(alloc: Global, arms: &[Arm]) -> Result<Cells, AllocError>
     ensures { IfOk result (λ ins. ins.items ≡ flat arms.now) }
 {
     let mut ins = Cells::new(alloc);

@@ -6,7 +6,6 @@ use Rattle.held_cells.specs.Paths.{EdgeView, GraphView, node_at}
 use Rattle.edge_cells.specs.Widening.{AreWider}
 use Rattle.node_cells.specs.Feeding.{Leave}
 use Rattle.program_graph.specs.Sound.{IsSoundGraph}
-use Rattle.predicate_core.specs.Laws.{past}
 
 -- Before node k an edge leads to each node that is to come, or is still to be made.
 pub record AreFed (g : GraphView) (k : ℕ) (ways : List Way) : Type 0 where
@@ -16,7 +15,7 @@ pub record AreFed (g : GraphView) (k : ℕ) (ways : List Way) : Type 0 where
 -- With the edge to the first node all nodes are fed; they stay so as each node's edges are made; and where a node's turn comes an edge leads to it.
 pub record FeedsNodes (g : GraphView) : Type 0 where
   pub start : (e : Way) → e.to ≡ 0 → e.kinds ≡ kinds.start → AreFed g 0 (e ∷ [])
-  pub follow : (k : ℕ) (ways more : List Way) → AreFed g k ways → Leave g k more → AreFed g (k + 1) (past k (ways ++ more))
+  pub follow : (k : ℕ) (ways more : List Way) → AreFed g k ways → Leave g k more → AreFed g (k + 1) (ways ++ more)
   pub here : (k : ℕ) (ways : List Way) → k < length g.nodes → AreFed g k ways → ((e : Way) × Contains ways e × (e.to ≡ k)) × All (λ e. e.to ≡ k → AreWider (node_at g.nodes k).kinds e.kinds) ways
 
 abbrev pub SoundGraphsFeed : Type 0
