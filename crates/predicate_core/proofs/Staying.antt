@@ -4,7 +4,7 @@ use Rattle.std.proofs.lemmas.List.Elements.{All-weaker}
 use Rattle.xdp_maps.specs.State.{MapState}
 use Rattle.kind_core.specs.declared.number.Number.{Number}
 use Rattle.kind_core.specs.declared.number.Number.TheVariants.{Known, Unknown}
-use Rattle.cell_core.specs.Cells.{CellView, site_in, bits_from, on}
+use Rattle.cell_core.specs.Cells.{CellView, site_in, bits_from}
 use Rattle.cell_core.specs.Sites.{SiteView, site_at, after, read_on}
 use Rattle.cell_core.specs.Formed.{IsBelow}
 use Rattle.operator_cells.specs.Making.{Grows}

@@ -1,10 +1,9 @@
 -- The ends of the edges of all nodes of a graph.
-use Rattle.std.specs.Prelude.{ℕ, ◌≡◌, ◌<◌, Bool, true, false, is_some, Option, Some, None, List, length, slice_index_or, All, Contains}
+use Rattle.std.specs.Prelude.{ℕ, ◌≡◌, ◌<◌, Bool, true, false, Some, List, length, slice_index_or}
 use Rattle.bpf_isa.specs.declared.instruction.Insn.{Insn}
 use Rattle.bpf_isa.specs.Text.{insn_at}
-use Rattle.unfold_core.specs.declared.links.Edge.{Edge}
 use Rattle.held_cells.specs.Paths.{GraphView, node_at}
-use Rattle.node_cells.specs.Ends.{HasEnds, end_along}
+use Rattle.node_cells.specs.Ends.{HasEnds}
 use Rattle.program_graph.specs.declared.edge_ends.NodeEnds.{NodeEnds}
 
 -- the ends of node k, which holds instruction i, are those of its edges
