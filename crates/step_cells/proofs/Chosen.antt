@@ -1,5 +1,5 @@
 -- Which instruction an allowed one is.
-use Rattle.std.proofs.Common.{◌≡◌, ◌≢◌, ℕ, ℤ, pos, ◌+◌, ◌+ℤ◌, Bool, true, false, not, if◌then◌else◌, Option, Some, None, Result, Ok, Err, List, refl, sym, subst}
+use Rattle.std.proofs.Common.{◌≡◌, ◌≢◌, ℕ, ℤ, pos, ◌+◌, ◌+ℤ◌, Bool, true, false, not, if◌then◌else◌, None, Result, Ok, Err, List, refl, sym, subst}
 use Rattle.std.specs.Prelude.{◌||◌, nat_le}
 use Rattle.std.specs.Ordering.{int_eq}
 use Rattle.std.proofs.lemmas.Bool.Decides.{Decides-int_eq}

@@ -1,17 +1,16 @@
 -- The edges that are added at a node are those that leave it.
-use Rattle.std.proofs.Common.{◌≡◌, ℕ, ◌<◌, ◌≤◌, Bool, true, false, Option, Some, None, List, [], ◌∷◌, ◌++◌, length, get_or, take, drop, refl, sym, ◌∙◌, ap, subst, arith}
+use Rattle.std.proofs.Common.{◌≡◌, ℕ, ◌<◌, Bool, true, false, Option, Some, None, List, [], ◌∷◌, length, get_or, take, drop, refl, sym, ◌∙◌, ap, subst, arith}
 use Rattle.std.specs.Prelude.{All, Contains, map as map_list}
 use Rattle.std.proofs.lemmas.List.{length-map, get_or-map, get_or_default, take_at, drop_at, take-append-drop, take-map, drop-map}
 use Rattle.std.proofs.lemmas.List.Elements.{All-nil, All-cons, All-append, Contains-append_left, Contains-append_right}
 use Rattle.bpf_isa.specs.declared.instruction.Insn.{Insn}
-use Rattle.bpf_isa.specs.Text.{insn_at}
 use Rattle.kind_core.specs.declared.kind.Kinds.{Kinds}
 use Rattle.kind_core.specs.Edges.{transferred}
 use Rattle.held_cells.specs.declared.way.Way.{Way}
-use Rattle.held_cells.specs.Paths.{EdgeView, GraphView, node_at}
+use Rattle.held_cells.specs.Paths.{EdgeView, GraphView}
 use Rattle.node_cells.specs.Ends.{IsNode, HasEnds, is_reference, end_along, brought, brought_along, all_brought}
-use Rattle.node_cells.specs.Feeding.{known_behind, known_on, Leave}
-use Rattle.step_cells.specs.Leaving.{Brings, NodesBring}
+use Rattle.node_cells.specs.Feeding.{known_behind, known_on}
+use Rattle.step_cells.specs.Leaving.{NodesBring}
 
 -- what is brought is that of an edge of the graph that leaves node k
 abbrev IsOf : GraphView → ℕ → ℕ × Kinds → Type 0
@@ -59,7 +58,7 @@ nodes_bring g k i kinds next jump ways ways2 is ends h = record {
         (along_each g k i kinds next jump false next is ends refl) (along_each g k i kinds next jump true jump is ends refl)));
     all = λ x c from.
         let e = edge_among (drop (length ways) ways2) (x.to, transferred g.decls kinds i k (is_reference g k) x.taken)
-            (subst (λ (xs : List (ℕ × Kinds)). Contains xs (x.to, transferred g.decls kinds i k (is_reference g k) x.taken)) (sym more_is) (among g k i kinds next jump x.taken x.to (ends.all x c from))) in
+        (subst (λ (xs : List (ℕ × Kinds)). Contains xs (x.to, transferred g.decls kinds i k (is_reference g k) x.taken)) (sym more_is) (among g k i kinds next jump x.taken x.to (ends.all x c from))) in
         (e.0, e.1, ap (λ (b : ℕ × Kinds). b.0) e.2);
   };
 }

@@ -1,5 +1,5 @@
 -- The cells that stand for the writes of a map.
-use Rattle.std.proofs.Common.{◌≡◌, ℕ, ◌+◌, ◌<◌, ◌≤◌, ◌==◌, ◌⊎◌, inl, inr, Bool, true, false, Option, Some, List, [], ◌∷◌, ◌++◌, length, get_or, length-append, refl, sym, ◌∙◌, ap, subst, arith}
+use Rattle.std.proofs.Common.{◌≡◌, ℕ, ◌+◌, ◌<◌, ◌≤◌, ◌==◌, ◌⊎◌, inl, inr, true, false, Option, Some, List, [], ◌∷◌, ◌++◌, length, get_or, length-append, refl, sym, ◌∙◌, ap, subst, arith}
 use Rattle.std.specs.Prelude.{All, Contains}
 use Rattle.std.specs.Option.{option_eq}
 use Rattle.std.proofs.Math.Seq.{get_or-append_seam}
@@ -10,7 +10,6 @@ use Rattle.std.proofs.lemmas.List.{length-map, get_or-map}
 use Rattle.std.proofs.lemmas.List.Elements.{All-nil, All-cons, All-head, All-tail, All-append, All-push, Contains-append_left, Contains-append_right}
 use Rattle.cell_core.specs.declared.cell.Cell.{Cell}
 use Rattle.cell_core.specs.declared.site.Site.{Site}
-use Rattle.cell_core.specs.declared.operator.Operator.TheVariants.{Pending}
 use Rattle.cell_core.specs.Cells.{CellView, no_cell, cell_at, site_in}
 use Rattle.cell_core.specs.Sites.{SiteView, no_site, site_at, records}
 use Rattle.cell_core.specs.View.{cell_of, site_of}
@@ -21,7 +20,7 @@ use Rattle.operator_cells.specs.Making.{seen, Adds, Grows}
 use Rattle.operator_cells.specs.Joining.{flat}
 use Rattle.operator_cells.proofs.MakingLaws.{grown_none}
 use Rattle.site_cells.specs.Sited.{sited}
-use Rattle.step_cells.specs.Waiting.{waiting_for, AreReaders, WaitsFor, WaitsBehind}
+use Rattle.step_cells.specs.Waiting.{waiting_for, AreReaders, WaitsBehind}
 
 pub flat_there : (n : ℕ) (arms : List Arm) → All (λ a. (a.bit < n) × (a.cell < n)) arms → All (λ i. i < n) (flat arms)
 flat_there n [] there = All-nil (λ i. i < n)

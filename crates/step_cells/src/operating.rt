@@ -89,9 +89,25 @@ fn operate_call(
         );
     }
     if insn.imm == 2 {
-        return operate_update(&mut made.cells, &mut made.sites, held, kinds, insn, decls, here);
+        return operate_update(
+            &mut made.cells,
+            &mut made.sites,
+            held,
+            kinds,
+            insn,
+            decls,
+            here,
+        );
     }
-    operate_delete(&mut made.cells, &mut made.sites, held, kinds, insn, decls, here)
+    operate_delete(
+        &mut made.cells,
+        &mut made.sites,
+        held,
+        kinds,
+        insn,
+        decls,
+        here,
+    )
 }
 
 // An access to an entry of a map.

@@ -1,7 +1,6 @@
 use Rattle.std.proofs.Common.{◌∙◌, ℕ, ◌<◌, ◌∷◌, ◌++◌, List, length, sym, ap, subst, arith}
 use Rattle.std.specs.Prelude.{All}
 use Rattle.cell_core.specs.declared.cell.Cell.{Cell}
-use Rattle.cell_core.specs.Sites.{SiteView}
 use Rattle.cell_core.specs.View.{site_of}
 use Rattle.cell_core.specs.Rows.{taken_by}
 use Rattle.cell_core.specs.Formed.{IsBelow}

@@ -1,4 +1,4 @@
-use Rattle.std.proofs.Common.{◌≡◌, ℕ, None, ap, Option, List}
+use Rattle.std.proofs.Common.{ap}
 use Rattle.step_cells.proofs.Nodes.{if_ok, along_node}
 use Rattle.step_cells.proofs.stepping.step_along.Goals as goal
 
