@@ -7,7 +7,9 @@ use Rattle.kind_core.specs.Kinds as kinds
 use Rattle.held_cells.specs.declared.way.Way.{Way}
 use Rattle.held_cells.specs.Paths.{EdgeView, GraphView, node_at}
 use Rattle.edge_cells.specs.Widening.{AreWider}
-use Rattle.predicate_core.specs.Feeding.{known_on, IsSoundGraph, AreFed, Leave, FeedsNodes, SoundGraphsFeed}
+use Rattle.node_cells.specs.Feeding.{known_on, Leave}
+use Rattle.program_graph.specs.Sound.{IsSoundGraph}
+use Rattle.predicate_core.specs.Feeding.{AreFed, FeedsNodes, SoundGraphsFeed}
 
 module _ (g : GraphView) (sound : IsSoundGraph g) where
   leads_on : (x : EdgeView) → Contains g.edges x → (x.from < x.to) × (x.to < length g.nodes) × AreWider (node_at g.nodes x.to).kinds (known_on g x)
