@@ -54,8 +54,8 @@ arrivals_of p nodes edges passed n = map_list (arrival_of p nodes passed) (filte
 
 -- What stands behind a node: its guard is in the greatest row of the edges that lead to it, 0 at the start.
 abbrev pub behind_by : XdpProgram → Point → ℕ → List Arrival → Option Insn → Behind
-behind_by p at n as (Some i) = behind p.decls at.kinds (known_behind p at n false (Some i)) i (n + 1) (edge_row as) (origins_at as (n + 1) at.kinds)
-behind_by p at n as None = no_behind
+behind_by p at n es (Some i) = behind p.decls at.kinds (known_behind p at n false (Some i)) i (n + 1) (edge_row es) (origins_at es (n + 1) at.kinds)
+behind_by p at n es None = no_behind
 
 abbrev pub behind_node : XdpProgram → List Point → List Edge → List Behind → ℕ → Behind
 behind_node p nodes edges passed n = behind_by p (point_at nodes n) n (arrivals_of p nodes edges passed n) (insn_of p (point_at nodes n))

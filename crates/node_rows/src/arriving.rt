@@ -4,24 +4,38 @@
 use crate::joining::Arrival;
 use crate::node::Behind;
 use bpf_isa::Insn;
-use kind_core::transfer;
+use kind_core::{Kinds, transfer};
 use std::alloc::{AllocError, Global};
 use unfold_core::{Edge, Point};
 use xdp_object::Program;
 
-/// Whether the place of a node is that of a reference to a map.
-pub(crate) fn is_reference(program: &Program, place: u32) -> bool {
-    program.refs().contains(&place)
-}
-
 /// The instruction at a node.
-pub(crate) fn insn_at(units: &[Option<Insn>], at: &Point) -> Option<Insn> {
+pub(crate) fn insn_at(units: &[Option<Insn>], at: &Point) -> Option<Insn>
+    requires { All (λ unit. IfSome unit IsInsn) units.now }
+    ensures found { result ≡ slice_index_or units.now at.now.node.place None }
+    ensures legal { IfSome result IsInsn }
+{
     let place = at.node.place() as usize;
     if place < units.len() {
         units[place]
     } else {
         None
     }
+}
+
+/// What is known behind an instruction at a node, on one of its edges.
+pub(crate) fn known_behind(
+    program: &Program,
+    insn: &Insn,
+    at: &Point,
+    node: u32,
+    taken: bool,
+) -> Kinds
+    requires { IsInsn insn.now }
+    ensures { result ≡ known_behind program.now at.now node taken (Some insn.now) }
+{
+    let is_ref = program.refs().contains(&at.node.place());
+    transfer(insn, &at.kinds, program.decls(), node, is_ref, taken)
 }
 
 // What an edge brings.
@@ -31,18 +45,16 @@ fn arrival(
     nodes: &[Point],
     passed: &[Behind],
     edge: &Edge,
-) -> Arrival {
+) -> Arrival
+    requires units { ArePlaces program.now.insns units.now }
+    requires node { edge.now.from < length nodes.now }
+    requires passed { edge.now.from < length passed.now }
+    ensures { result ≡ arrival_of program.now nodes.now passed.now edge.now }
+{
     let at = &nodes[edge.from as usize];
     let behind = passed[edge.from as usize];
     let kinds = match insn_at(units, at) {
-        Some(insn) => transfer(
-            &insn,
-            &at.kinds,
-            program.decls(),
-            edge.from,
-            is_reference(program, at.node.place()),
-            edge.taken,
-        ),
+        Some(insn) => known_behind(program, &insn, at, edge.from, edge.taken),
         None => at.kinds,
     };
     Arrival {
@@ -61,7 +73,12 @@ pub(crate) fn arrivals(
     edges: &[Edge],
     passed: &[Behind],
     node: u32,
-) -> Result<Vec<Arrival>, AllocError> {
+) -> Result<Vec<Arrival>, AllocError>
+    requires units { ArePlaces program.now.insns units.now }
+    requires up { All (λ e. (e.from < e.to) × (e.to < length nodes.now)) edges.now }
+    requires passed { length passed.now ≡ node }
+    ensures { IfOk result (λ es. es.items ≡ arrivals_of program.now nodes.now edges.now passed.now node) }
+{
     let mut arrivals = Vec::new(alloc);
     for edge in edges {
         if edge.to == node {

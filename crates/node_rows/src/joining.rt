@@ -80,11 +80,13 @@ fn meet(arrivals: &[Arrival], maker: u32, place: usize) -> Option<Origin>
     Some(Origin { maker, row })
 }
 
-/// The origins at a node, by the edges that lead to it and by what is known there.
+/// The origins at a node, by the edges that lead to it and by what is known there: a run begins where no edge leads.
 pub(crate) fn join(arrivals: &[Arrival], maker: u32, kinds: &Kinds) -> Origins
-    requires { 0 < length arrivals.now }
     ensures { result.places ≡ origins_at arrivals.now maker kinds.now }
 {
+    if arrivals.is_empty() {
+        return Origins::start();
+    }
     let mut places = [None; 348];
     for place in 0..PLACES {
         if has_data(kinds, place) {

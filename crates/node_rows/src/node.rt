@@ -1,7 +1,7 @@
 // One node.
 
 
-ghost use Rattle.std.specs.Prelude.{◌≡◌, ◌<◌, ◌≤◌, ℕ, length, None, get_or};
+ghost use Rattle.std.specs.Prelude.{◌≡◌, ◌<◌, ◌≤◌, ◌∷◌, [], ℕ, length, None, get_or};
 ghost use Rattle.bpf_isa.specs.Spelling.{IsInsn};
 ghost use Rattle.node_rows.specs.Origins.{span_row, spans_row, every_place};
 ghost use Rattle.node_rows.specs.Passing.{leaving_row, written, noted, pending_row, origins_behind, behind};
@@ -75,16 +75,16 @@ fn write_span(origins: &mut Origins, after: &Kinds, span: Span, origin: Origin)
 fn note(
     origins: &mut Origins,
     before: &Origins,
-    record: Option<Record>,
+    write: Option<Record>,
     maker: u32,
     least: u32,
 )
-    ensures { (place : ℕ) → place < 348 → get_or origins.new.places place None ≡ noted before.now.places record maker least place (get_or origins.old.places place None) }
+    ensures { (place : ℕ) → place < 348 → get_or origins.new.places place None ≡ noted before.now.places write maker least place (get_or origins.old.places place None) }
 {
-    if let Some(record) = record {
-        let own = before.span_row(pending(record.map));
-        let row = least.max(own).max(greatest(before, &record.takes));
-        let place = PENDING + record.map as usize;
+    if let Some(write) = write {
+        let own = before.span_row(pending(write.map));
+        let row = least.max(own).max(greatest(before, &write.takes));
+        let place = PENDING + write.map as usize;
         if place < PLACES {
             origins.places[place] = Some(Origin { maker, row });
         }
@@ -112,13 +112,13 @@ pub(crate) fn pass(
     } else {
         read
     };
+    let origin = Origin { maker, row };
     let mut origins = *before;
-    write(&mut origins, after, &places, Origin { maker, row });
+    write_span(&mut origins, after, places[0], origin);
+    write_span(&mut origins, after, places[1], origin);
     let has_result = places[0].from < places[0].end;
-    if let Some(record) = record_of(decls, kinds, insn) {
-        let least = if has_result { guard.max(row) } else { guard };
-        note(&mut origins, before, &record, maker, least);
-    }
+    let least = if has_result { guard.max(row) } else { guard };
+    note(&mut origins, before, record_of(decls, kinds, insn), maker, least);
     let edge = leaving_row(before, kinds, insn, guard);
     let row = edge
         .max(before.span_row(EVERY))

@@ -25,20 +25,18 @@ pub(crate) struct Origins {
 
 // Whether a kind leaves a value open: a number that is not known, or a pointer to an entry.
 fn is_open(kind: Kind) -> bool
+    ensures { result ≡ is_open kind }
 {
     matches!(kind, Kind::Num(Number::Unknown) | Kind::Maybe(_, _) | Kind::Entry(_, _))
 }
 
 /// Whether there is data in a place.
 pub(crate) fn has_data(kinds: &Kinds, place: usize) -> bool
-{
-    if place < 11
-    ensures { result ≡ is_open kind }
-{
-        is_open(kinds.registers[place])
-    } else if place < BYTES
     ensures { result ≡ has_data kinds.now place }
 {
+    if place < 11 {
+        is_open(kinds.registers[place])
+    } else if place < BYTES {
         is_open(kinds.slots[place - 11])
     } else {
         true
@@ -47,10 +45,9 @@ pub(crate) fn has_data(kinds: &Kinds, place: usize) -> bool
 
 /// The row of an origin, 0 of none.
 pub(crate) fn row_of(origin: Option<Origin>) -> u32
-{
-    match origin
     ensures { result ≡ row_of origin }
 {
+    match origin {
         Some(o) => o.row,
         None => 0,
     }
@@ -59,7 +56,7 @@ pub(crate) fn row_of(origin: Option<Origin>) -> u32
 impl Origins {
     /// The origins at the start.
     pub(crate) fn start() -> Origins
-        ensures { result.places ≡ start_origins }
+        ensures { result.places ≡ map_list origin_at_start places }
     {
         let mut places = [None; 348];
         for place in BYTES..PLACES {

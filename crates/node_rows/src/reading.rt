@@ -4,7 +4,7 @@
 ghost use Rattle.std.specs.Prelude.{◌≡◌, ◌≤◌, ◌∷◌, []};
 ghost use Rattle.bpf_isa.specs.Spelling.{IsInsn};
 ghost use Rattle.kind_core.specs.Access.{compares};
-ghost use Rattle.node_rows.specs.Reading.{key_span, left_of, right_of, call_reads, left_over, reads_as, is_number, is_entry, shifts_openly, is_heavy};
+ghost use Rattle.node_rows.specs.Reading.{key_span, left_of, right_of, call_reads, left_over, reads_as, is_number, is_entry, is_known, shifts_openly, is_heavy};
 ghost use Rattle.node_rows.specs.Spans.{no_place};
 ghost use Rattle.xdp_machine.specs.Atomics.{fetches};
 ghost use Rattle.std.specs.Int.{w64, cast_unsigned};
@@ -137,6 +137,13 @@ fn is_entry(kind: Kind) -> bool
     matches!(kind, Kind::Entry(_, _))
 }
 
+// Whether a kind is a number that is known.
+fn is_known(kind: Kind) -> bool
+    ensures { result ≡ is_known kind }
+{
+    matches!(kind, Kind::Num(Number::Known(_)))
+}
+
 // Whether a shift is by a count that is not known.
 fn shifts_openly(kinds: &Kinds, insn: &Insn, src: Src) -> bool
     requires { insn.now.src ≤ 10 }
@@ -144,10 +151,7 @@ fn shifts_openly(kinds: &Kinds, insn: &Insn, src: Src) -> bool
 {
     match src {
         Src::K => false,
-        Src::X => !matches!(
-            kinds.registers[insn.src as usize],
-            Kind::Num(Number::Known(_))
-        ),
+        Src::X => !is_known(kinds.registers[insn.src as usize]),
     }
 }
 

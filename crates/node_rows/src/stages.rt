@@ -1,7 +1,7 @@
 // The stages of a program.
 
 
-use crate::arriving::{arrivals, insn_at, is_reference};
+use crate::arriving::{arrivals, insn_at, known_behind};
 use crate::joining::{edge_row, join};
 use crate::node::{Behind, pass};
 use crate::origin::Origins;
@@ -31,7 +31,18 @@ fn behind(
     passed: &[Behind],
     node: u32,
     insn: &Insn,
-) -> Result<Behind, AllocError> {
+) -> Result<Behind, AllocError>
+    requires units { ArePlaces program.now.insns units.now }
+    requires up { All (λ e. (e.from < e.to) × (e.to < length unfolded.now.nodes.items)) unfolded.now.edges.items }
+    requires node { node < length unfolded.now.nodes.items }
+    requires few { length unfolded.now.nodes.items ≤ 16384 }
+    requires passed { length passed.now ≡ node }
+    requires low { All (λ b. b.row ≤ 256) passed.now }
+    requires rows { passed.now ≡ rows_of program.now unfolded.now.nodes.items unfolded.now.edges.items node }
+    requires insn { insn_of program.now (point_at unfolded.now.nodes.items node) ≡ Some insn.now }
+    requires legal { IsInsn insn.now }
+    ensures { IfOk result (λ b. b ≡ behind_node program.now unfolded.now.nodes.items unfolded.now.edges.items passed.now node) }
+{
     let at = &unfolded.nodes[node as usize];
     let arrivals = arrivals(
         alloc,
@@ -42,16 +53,9 @@ fn behind(
         passed,
         node,
     )?;
-    let (guard, before) = if arrivals.is_empty() {
-        (0, Origins::start())
-    } else {
-        (
-            edge_row(&arrivals),
-            join(&arrivals, node + 1, &at.kinds),
-        )
-    };
-    let is_ref = is_reference(program, at.node.place());
-    let after = transfer(insn, &at.kinds, program.decls(), node, is_ref, false);
+    let guard = edge_row(&arrivals);
+    let before = join(&arrivals, node + 1, &at.kinds);
+    let after = known_behind(program, insn, at, node, false);
     Ok(pass(
         program.decls(),
         &at.kinds,
@@ -63,39 +67,47 @@ fn behind(
     ))
 }
 
-/// The stages of a program without loops. It is refused where the row of a node exceeds 256, at the place of the first such node.
+/// The stages of a program without loops, and its records. It is refused exactly where the row of a node exceeds 256, at the place of the first
+/// such node.
 pub fn count_stages(
     alloc: Global,
     program: &Program,
     unfolded: &Unfolded,
-) -> Result<Stages, BuildError> {
+) -> Result<Stages, BuildError>
+    requires { IsUnfolded program.now unfolded.now }
+    ensures counted { AreCounted program.now unfolded.now result }
+    ensures exactly { (r : Refusal) → IsTooLate program.now unfolded.now.nodes.items unfolded.now.edges.items r → IsErrOf result (BuildError.Refused r) ⊎ IsErrOf result BuildError.NoMemory }
+{
+    edges_lead_on();
+    nodes_pass();
     let Ok(units) = places(alloc, program) else {
         return Err(BuildError::NoMemory);
     };
     let mut passed = Vec::new(alloc);
-    let mut rows = 0;
-    let mut records = 0;
-    for node in 0..unfolded.nodes.len() as u32 {
-        let at = &unfolded.nodes[node as usize];
-        let Some(insn) = insn_at(&units, at) else {
-            unreachable!();
+    let mut stages = Stages {
+        rows: 0,
+        records: 0,
+    };
+    for node in 0..unfolded.nodes.len() {
+        let at = &unfolded.nodes[node];
+        let insn = match insn_at(&units, at) {
+            Some(insn) => insn,
+            // An instruction begins at each node.
+            None => unreachable!(),
         };
-        let Ok(next) = behind(alloc, program, &units, unfolded, &passed, node, &insn) else {
+        let Ok(next) = behind(alloc, program, &units, unfolded, &passed, node as u32, &insn) else {
             return Err(BuildError::NoMemory);
         };
         if next.row > MOST_STAGES {
-            return Err(BuildError::Refused(Refusal {
-                at: at.node.place(),
-                why: Why::Stages,
-            }));
+            return Err(refused(at.node.place()));
         }
-        rows = rows.max(next.row);
+        stages.rows = stages.rows.max(next.row);
         if record_of(program.decls(), &at.kinds, &insn).is_some() {
-            records += 1;
+            stages.records += 1;
         }
         let Ok(()) = passed.push(next) else {
             return Err(BuildError::NoMemory);
         };
     }
-    Ok(Stages { rows, records })
+    Ok(stages)
 }
