@@ -1,9 +1,9 @@
 -- Where edges meet.
-use Rattle.std.specs.Prelude.{ℕ, ◌==◌, max, ◌&&◌, Bool, true, false, if◌then◌else◌, Option, Some, None, List, [], ◌∷◌, get_or, map as map_list}
+use Rattle.std.specs.Prelude.{ℕ, ◌==◌, max, ◌&&◌, Bool, true, false, if◌then◌else◌, Option, Some, None, List, [], ◌∷◌, get_or}
 use Rattle.kind_core.specs.declared.kind.Kinds.{Kinds}
 use Rattle.node_rows.specs.declared.origin.Origin.{Origin}
 use Rattle.node_rows.specs.declared.joining.Arrival.{Arrival}
-use Rattle.node_rows.specs.Origins.{has_data, row_of, places, origin_at_start}
+use Rattle.node_rows.specs.Origins.{has_data, row_of, by_place, origin_at_start}
 
 -- the origin that an edge brings: none where there is no data on it
 abbrev pub brings : Arrival → ℕ → Option Origin
@@ -44,5 +44,5 @@ origin_at es maker k place = if has_data k place then met es maker place (first_
 
 -- the origins of all places: a run begins where no edge leads
 abbrev pub origins_at : List Arrival → ℕ → Kinds → List (Option Origin)
-origins_at [] maker k = map_list origin_at_start places
-origins_at (a ∷ es) maker k = map_list (origin_at (a ∷ es) maker k) places
+origins_at [] maker k = by_place origin_at_start
+origins_at (a ∷ es) maker k = by_place (origin_at (a ∷ es) maker k)

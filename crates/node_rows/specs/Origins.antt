@@ -1,5 +1,5 @@
 -- What made the values of data places, and in which row.
-use Rattle.std.specs.Prelude.{ℕ, ◌-◌, max, nat_lt, Bool, true, false, if◌then◌else◌, Option, Some, None, List, [], ◌∷◌, get_or}
+use Rattle.std.specs.Prelude.{ℕ, ◌-◌, max, nat_lt, Bool, true, false, if◌then◌else◌, Option, Some, None, List, [], ◌∷◌, get_or, map as map_list}
 use Rattle.kind_core.specs.declared.number.Number.TheVariants.{Unknown}
 use Rattle.kind_core.specs.declared.kind.Kind.{Kind}
 use Rattle.kind_core.specs.declared.kind.Kind.TheVariants.{Unset, Num, Maybe, Entry}
@@ -39,12 +39,13 @@ abbrev pub spans_row : List (Option Origin) → List Span → ℕ
 spans_row os [] = 0
 spans_row os (s ∷ ss) = max (span_row os s) (spans_row os ss)
 
--- all data places, and origins by place
-abbrev pub places : List ℕ
-places = numbers 0 348
+-- the greatest row of all places
+unfoldable pub every_row : List (Option Origin) → ℕ
+every_row os = greatest (row_at os) (numbers 0 348)
 
-abbrev pub every_place : Span
-every_place = record { from = 0; end = 348 }
+-- origins that are given place by place
+unfoldable pub by_place : (ℕ → Option Origin) → List (Option Origin)
+by_place origin = map_list origin (numbers 0 348)
 
 -- at the start all rows are 0
 abbrev pub origin_at_start : ℕ → Option Origin

@@ -1,5 +1,5 @@
 -- What stands behind a node.
-use Rattle.std.specs.Prelude.{ℕ, ◌+◌, ◌==◌, max, nat_le, nat_lt, ◌&&◌, Bool, true, false, if◌then◌else◌, Option, Some, None, List, [], ◌∷◌, get_or, map as map_list}
+use Rattle.std.specs.Prelude.{ℕ, ◌+◌, ◌≤◌, ◌==◌, max, nat_le, nat_lt, ◌&&◌, Bool, false, if◌then◌else◌, Option, Some, None, List, [], ◌∷◌, get_or}
 use Rattle.std.specs.List.{list_any}
 use Rattle.bpf_isa.specs.declared.operation.Op.{Op}
 use Rattle.bpf_isa.specs.declared.operation.Op.TheVariants.{Jump}
@@ -11,9 +11,10 @@ use Rattle.cell_core.specs.Cells.{bit}
 use Rattle.node_rows.specs.declared.origin.Origin.{Origin}
 use Rattle.node_rows.specs.declared.span.Span.{Span}
 use Rattle.node_rows.specs.declared.recording.Record.{Record}
+use Rattle.node_rows.specs.declared.joining.Arrival.{Arrival}
 use Rattle.node_rows.specs.declared.node.Behind.{Behind}
 use Rattle.node_rows.specs.Spans.{one, pending, pending_place}
-use Rattle.node_rows.specs.Origins.{has_data, span_row, spans_row, places, every_place}
+use Rattle.node_rows.specs.Origins.{has_data, row_at, span_row, spans_row, every_row, by_place}
 use Rattle.node_rows.specs.Reading.{right_of, reads_as, is_heavy}
 use Rattle.node_rows.specs.Writing.{writes_as, record_as}
 
@@ -55,12 +56,19 @@ origin_behind decls k after i maker guard os place =
     (written after (writes_as k i i.op) (record { maker = maker; row = result_row decls k after i os }) os place)
 
 abbrev pub origins_behind : List MapDecl → Kinds → Kinds → Insn → ℕ → ℕ → List (Option Origin) → List (Option Origin)
-origins_behind decls k after i maker guard os = map_list (origin_behind decls k after i maker guard os) places
+origins_behind decls k after i maker guard os = by_place (origin_behind decls k after i maker guard os)
 
 -- The row of a node: the greatest of its edges and of all origins at it and behind it. What it does not make itself an earlier node made.
 abbrev pub behind : List MapDecl → Kinds → Kinds → Insn → ℕ → ℕ → List (Option Origin) → Behind
 behind decls k after i maker guard os = record {
   edge = leaving_row os k i guard;
   origins = record { places = origins_behind decls k after i maker guard os };
-  row = max (max (leaving_row os k i guard) (span_row os every_place)) (span_row (origins_behind decls k after i maker guard os) every_place);
+  row = max (max (leaving_row os k i guard) (every_row os)) (every_row (origins_behind decls k after i maker guard os));
 }
+
+-- no row there exceeds the most stages
+abbrev pub IsLow : Behind → Type 0
+IsLow b = (b.edge ≤ 256) × ((i : ℕ) → row_at b.origins.places i ≤ 256)
+
+abbrev pub IsLowArrival : Arrival → Type 0
+IsLowArrival a = (a.row ≤ 256) × ((i : ℕ) → row_at a.origins.places i ≤ 256)

@@ -1,7 +1,6 @@
 -- What an instruction reads for its result, and whether the result takes a stage of its own.
-use Rattle.std.specs.Prelude.{ℕ, ℤ, pos, ◌%◌, ◌==◌, not, Bool, true, false, if◌then◌else◌, List, [], ◌∷◌}
+use Rattle.std.specs.Prelude.{ℤ, pos, not, Bool, true, false, if◌then◌else◌, List, [], ◌∷◌}
 use Rattle.std.specs.Ordering.{int_eq}
-use Rattle.std.specs.Int.{w64, cast_unsigned}
 use Rattle.bpf_isa.specs.declared.operation.AluCode.{AluCode}
 use Rattle.bpf_isa.specs.declared.operation.AluCode.TheVariants.{Add, Sub, Mul, Div, Mod, Mov, Lsh, Rsh, Arsh}
 use Rattle.bpf_isa.specs.declared.operation.Size.{Size}

@@ -1,6 +1,6 @@
 -- The stages of a program: the rows of the nodes of its graph.
-use Rattle.std.specs.Prelude.{ℕ, zero, suc, ◌≡◌, ◌+◌, ◌<◌, ◌≤◌, ◌==◌, ◌⊎◌, max, is_some, Option, Some, None, Result, Ok, Err, List, [], ◌∷◌, ◌++◌, length, count_by, get_or, map as map_list, All}
-use Rattle.std.specs.List.{filter, list_any}
+use Rattle.std.specs.Prelude.{ℕ, zero, suc, ◌≡◌, ◌+◌, ◌<◌, ◌≤◌, ◌==◌, ◌⊎◌, max, is_some, Bool, false, Option, Some, None, Result, Ok, Err, List, [], ◌∷◌, ◌++◌, length, count_by, get_or, map as map_list}
+use Rattle.std.specs.List.{filter}
 use Rattle.bpf_isa.specs.declared.instruction.Insn.{Insn}
 use Rattle.bpf_isa.specs.Text.{insn_at}
 use Rattle.xdp_machine.specs.Program.{XdpProgram}
@@ -11,6 +11,7 @@ use Rattle.kind_core.specs.declared.why.Why.TheVariants.{Stages as TooManyStages
 use Rattle.kind_core.specs.declared.why.BuildError.{BuildError}
 use Rattle.kind_core.specs.declared.why.BuildError.TheVariants.{Refused, NoMemory}
 use Rattle.kind_core.specs.Edges.{transferred}
+use Rattle.cell_core.specs.Cells.{bit}
 use Rattle.unfold_core.specs.declared.edges.Point.{Point}
 use Rattle.unfold_core.specs.declared.links.Edge.{Edge}
 use Rattle.unfold_core.specs.declared.unfolding.Unfolded.{Unfolded}
@@ -72,6 +73,10 @@ row_of_node p nodes edges n = (behind_node p nodes edges (rows_of p nodes edges 
 abbrev pub may_write : XdpProgram → Point → Option Insn → Bool
 may_write p at (Some i) = is_some (record_as p.decls at.kinds i i.op)
 may_write p at None = false
+
+-- with one node more, of this row
+abbrev pub with_node : Stages → ℕ → Bool → Stages
+with_node s row writes = record { rows = max s.rows row; records = s.records + bit writes }
 
 -- A program has as many stages as the greatest row of a node, at most 256, and as many records as nodes that may write a map.
 pub record HasStages (p : XdpProgram) (nodes : List Point) (edges : List Edge) (s : Stages) : Type 0 where

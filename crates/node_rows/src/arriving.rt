@@ -1,5 +1,9 @@
 // What edges bring to a node.
 
+ghost use Rattle.std.specs.Prelude.{◌≡◌, ◌<◌, IfOk, IfSome, All, length, Some, None, slice_index_or};
+ghost use Rattle.bpf_isa.specs.Spelling.{IsInsn};
+ghost use Rattle.unfold_core.specs.Units.{ArePlaces};
+ghost use Rattle.node_rows.specs.Rows.{known_behind, arrival_of, arrivals_of};
 
 use crate::joining::Arrival;
 use crate::node::Behind;

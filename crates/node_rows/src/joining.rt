@@ -1,6 +1,5 @@
 // Where edges meet.
 
-
 ghost use Rattle.std.specs.Prelude.{◌≡◌, ◌<◌, length};
 ghost use Rattle.node_rows.specs.Joining.{brings, edge_row, brought_row, all_bring, met, first_brings, origins_at};
 

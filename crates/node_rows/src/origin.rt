@@ -1,10 +1,9 @@
 // The origins of data places.
 
+ghost use Rattle.std.specs.Prelude.{◌≡◌};
+ghost use Rattle.node_rows.specs.Origins.{is_open, has_data, row_of, row_at, span_row, every_row, by_place, origin_at_start};
 
-ghost use Rattle.std.specs.Prelude.{◌≡◌, ◌<◌, map as map_list};
-ghost use Rattle.node_rows.specs.Origins.{is_open, has_data, row_of, row_at, span_row, places, origin_at_start};
-
-use crate::span::{BYTES, Span};
+use crate::span::{BYTES, EVERY, Span};
 use kind_core::{Kind, Kinds, Number};
 
 /// How many data places there are.
@@ -27,7 +26,10 @@ pub(crate) struct Origins {
 fn is_open(kind: Kind) -> bool
     ensures { result ≡ is_open kind }
 {
-    matches!(kind, Kind::Num(Number::Unknown) | Kind::Maybe(_, _) | Kind::Entry(_, _))
+    matches!(
+        kind,
+        Kind::Num(Number::Unknown) | Kind::Maybe(_, _) | Kind::Entry(_, _)
+    )
 }
 
 /// Whether there is data in a place.
@@ -56,7 +58,7 @@ pub(crate) fn row_of(origin: Option<Origin>) -> u32
 impl Origins {
     /// The origins at the start.
     pub(crate) fn start() -> Origins
-        ensures { result.places ≡ map_list origin_at_start places }
+        ensures { result.places ≡ by_place origin_at_start }
     {
         let mut places = [None; 348];
         for place in BYTES..PLACES {
@@ -85,5 +87,12 @@ impl Origins {
             most = most.max(self.row_at(place));
         }
         most
+    }
+
+    /// The greatest row of all places.
+    pub(crate) fn every_row(&self) -> u32
+        ensures { result ≡ every_row self.now.places }
+    {
+        self.span_row(EVERY)
     }
 }

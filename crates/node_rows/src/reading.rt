@@ -1,6 +1,5 @@
 // What an instruction reads for its result, and whether the result takes a stage of its own.
 
-
 ghost use Rattle.std.specs.Prelude.{◌≡◌, ◌≤◌, ◌∷◌, []};
 ghost use Rattle.bpf_isa.specs.Spelling.{IsInsn};
 ghost use Rattle.kind_core.specs.Access.{compares};

@@ -1,6 +1,5 @@
 // What an instruction may write into a map.
 
-
 ghost use Rattle.std.specs.Prelude.{◌≡◌};
 ghost use Rattle.bpf_isa.specs.Spelling.{IsInsn};
 ghost use Rattle.node_rows.specs.Spans.{map_of};

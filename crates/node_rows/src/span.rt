@@ -1,6 +1,5 @@
 // Data places by their numbers: 11 registers, 64 slots of the stack, 256 bytes of the packet, the target, and what is pending of 16 maps.
 
-
 ghost use Rattle.std.specs.Prelude.{◌≡◌};
 ghost use Rattle.node_rows.specs.Spans.{one, pending, region, map_of, pending_of, key_in, value_in};
 
@@ -37,7 +36,10 @@ pub(crate) fn register(r: u8) -> Span
     ensures { result ≡ one r }
 {
     let from = r as usize;
-    Span { from, end: from + 1 }
+    Span {
+        from,
+        end: from + 1,
+    }
 }
 
 /// What is pending of a map.
@@ -45,7 +47,10 @@ pub(crate) fn pending(map: u32) -> Span
     ensures { result ≡ pending map }
 {
     let from = PENDING + map as usize;
-    Span { from, end: from + 1 }
+    Span {
+        from,
+        end: from + 1,
+    }
 }
 
 /// The slots or the bytes of so many bytes from a pointer on; none of other kinds.

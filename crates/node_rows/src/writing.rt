@@ -1,6 +1,5 @@
 // Where an instruction writes.
 
-
 ghost use Rattle.std.specs.Prelude.{◌≡◌};
 ghost use Rattle.bpf_isa.specs.Spelling.{IsInsn};
 ghost use Rattle.node_rows.specs.Writing.{writes_as};
