@@ -1,0 +1,15 @@
+use Rattle.std.proofs.Common.{◌≤◌, arith}
+use Rattle.node_rows.specs.declared.span.Span.{Span}
+use Rattle.node_rows.specs.Origins.{span_row}
+use Rattle.node_rows.proofs.PlaceLemmas.{span_low}
+use Rattle.node_rows.proofs.node.compared_row.Goals as goal
+use Rattle.node_rows.proofs.node.compared_row.Goals.{in-K, in-X}
+
+pub returns-clause-low : goal.returns-clause-low
+returns-clause-low c = omega (arith, c.max.ensures, c.span_row-a.ensures, low c.register.result, right)
+  where
+    low : (s : Span) → span_row c.args.origins.now.places s ≤ 256
+    low s = span_low c.args.origins.now.places 256 s c.are_all.ensures c.requires
+
+    right : c.match-src.b ≤ 256
+    right = elim c.match-src.branch [ in-K w ↦ omega (arith, w.b-is) | in-X w ↦ omega (arith, w.b-is, w.span_row-b.ensures, low w.register-in-X.result) ]
