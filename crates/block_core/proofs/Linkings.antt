@@ -16,12 +16,11 @@ use Rattle.net_core.specs.View.{tree_of, right_of, wire_of, assign_of}
 use Rattle.block_core.specs.declared.name.Name.{Name}
 use Rattle.block_core.specs.declared.name.Name.TheVariants as name
 use Rattle.block_core.specs.declared.block.Placed.{Placed}
-use Rattle.block_core.specs.declared.starts.Section.TheVariants as section
 use Rattle.block_core.specs.declared.starts.Starts.{Starts}
 use Rattle.block_core.specs.Rename.{rename_statement}
 use Rattle.block_core.specs.Blocks.{BlockTree, OutputTree, Whole, Among, gather, running, start, registers_of, memories_of, wires_of}
 use Rattle.block_core.specs.Link.{resolve, link_wires, link_output, link_statement, all_registers, all_memories, all_wires, all_statements, declare_register, declare_memory, net_names, link}
-use Rattle.block_core.specs.View.{block_of, count_in, resolve_in, linked_statement, Makes}
+use Rattle.block_core.specs.View.{block_of, resolve_in, linked_statement, StartsOf, Makes}
 use Rattle.block_core.specs.Range.{in_range, wires_in_range, assigns_in_range, statement_in_range, totals_in_range, total, design_in_range}
 use Rattle.block_core.proofs.GatheredLaws.{map_gather}
 use Rattle.block_core.proofs.GatheredLaws.{length_map}
@@ -39,12 +38,6 @@ gather_made g h (m ∷ ms) e = λ i. e m (inl refl) i ++ gather_made g h ms (λ 
 map_made : {P A : Type 0} (g : Placed P → A) (h : P → A) (ms : List (Placed P)) → ((m : Placed P) → Among m ms → g m ≡ h m.part) → map g ms ≡ map h (map (λ m. m.part) ms)
 map_made g h [] e = refl
 map_made g h (m ∷ ms) e = λ i. e m (inl refl) i ∷ map_made g h ms (λ n a. e n (inr a)) i
-
--- where each part begins
-pub record StartsOf {P : Type 0} (placed : List (Placed P)) (s : Starts) : Type 0 where
-  pub registers : s.registers.items ≡ running 0 (map (λ m. count_in section.Registers (block_of m.block)) placed)
-  pub memories : s.memories.items ≡ running 0 (map (λ m. count_in section.Memories (block_of m.block)) placed)
-  pub wires : s.wires.items ≡ running 0 (map (λ m. count_in section.Wires (block_of m.block)) placed)
 
 module _ {P : Type 0} (place : P → ℕ) (placed : List (Placed P)) (d : Whole P) (made : Makes place placed d) where
   counts : (count : BlockTree (Name P) → ℕ) → map (λ m. count (block_of m.block)) placed ≡ map (λ p. count (d.block p)) d.parts
@@ -117,7 +110,9 @@ module _ {P : Type 0} (place : P → ℕ) (placed : List (Placed P)) (d : Whole 
     past_assigns h = and_right _ _ (and_right _ _ (and_left _ _ (sym assigns_asked ∙ h)))
 
     pub past_statements : list_all statement_in_range (map (linked_statement place s) placed) ≡ false → design_in_range d outputs ≡ false
-    past_statements h = and_right _ _ (and_right _ _ (and_right _ _ (sym statements_asked ∙ h)))
+    past_statements h =
+        and_right (in_range (total registers_of d) && (in_range (total memories_of d) && in_range (total wires_of d))) _
+        (and_right (wires_in_range (all_wires d d.parts)) _ (and_right (assigns_in_range (map (link_output (resolve d)) outputs)) _ (sym statements_asked ∙ h)))
 
     pub all_in_range : totals_in_range placed ≡ true → wires_in_range (gather (λ m. link_wires (resolve_in place s) (block_of m.block).wires) placed) ≡ true → assigns_in_range (map (link_output (resolve_in place s)) outputs) ≡ true
         → list_all statement_in_range (map (linked_statement place s) placed) ≡ true → design_in_range d outputs ≡ true

@@ -3,7 +3,7 @@
 ghost use Rattle.std.specs.Prelude.{◌≡◌, ◌+◌, IfOk, get_or, map};
 ghost use Rattle.block_core.specs.Blocks.{running};
 ghost use Rattle.block_core.specs.Range.{in_range, net_in_range, placed_total, totals_in_range, Tells};
-ghost use Rattle.block_core.specs.View.{block_of, count_in, resolve_in};
+ghost use Rattle.block_core.specs.View.{block_of, count_in, resolve_in, StartsOf};
 
 use crate::block::{Block, Placed};
 use crate::error::LinkError;
@@ -81,9 +81,7 @@ fn starts_in<P: Part>(
 
 /// Where the nets of each part begin.
 pub(crate) fn all_starts<P: Part>(alloc: Global, parts: &[Placed<P>]) -> Result<Starts, LinkError>
-    ensures registers { IfOk result (λ s. s.registers.items ≡ running 0 (map (λ m. count_in Section.Registers (block_of m.block)) parts.now)) }
-    ensures memories { IfOk result (λ s. s.memories.items ≡ running 0 (map (λ m. count_in Section.Memories (block_of m.block)) parts.now)) }
-    ensures wires { IfOk result (λ s. s.wires.items ≡ running 0 (map (λ m. count_in Section.Wires (block_of m.block)) parts.now)) }
+    ensures starts { IfOk result (λ s. StartsOf parts.now s) }
     ensures range { Tells result (totals_in_range parts.now) }
 {
     Ok(Starts {

@@ -58,7 +58,8 @@ fn add_names(
 /// The design of these parts, each at its place, behind these ports.
 ///
 /// Its registers are named `r_0`, `r_1` and so on, part after part, its memories `m_0` and so on, its wires `w_0` and so
-/// on, and the integer that fills its memories `i_0`. Each part has one always block.
+/// on, and the integer that fills its memories `i_0`. Each part has one always block. There are too many nets exactly where
+/// a number does not fit 32 bits.
 pub fn link<P: Part>(
     alloc: Global,
     ports: Vec<Port>,
