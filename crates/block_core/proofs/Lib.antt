@@ -5,6 +5,7 @@ pub mod Ordered
 pub mod Edges
 pub mod Linked
 pub mod Loops
+pub mod Ranges
 pub mod LinkedTrees
 pub mod Linkings
 pub mod Widths

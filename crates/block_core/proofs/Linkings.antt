@@ -1,28 +1,35 @@
 -- The sections that were made are those of the design.
-use Rattle.std.specs.Prelude.{◌≡◌, ℕ, ◌+◌, ◌-◌, List, [], ◌∷◌, ◌++◌, length, map}
+use Rattle.std.specs.Prelude.{◌≡◌, ℕ, ◌+◌, ◌-◌, ◌&&◌, true, false, List, [], ◌∷◌, ◌++◌, length, map, sum, sum_by}
+use Rattle.std.specs.List.{list_all}
 use Rattle.std.proofs.Common.{refl, sym, ap, ◌∙◌, arith, get_or, inl, inr}
+use Rattle.std.proofs.lemmas.Bool.{and_left, and_right, and_from}
+use Rattle.std.proofs.lemmas.List.Sums.{sum-map}
 use Rattle.net_core.specs.declared.tree.Net.{Net}
 use Rattle.net_core.specs.declared.tree.Net.TheVariants as net
 use Rattle.net_core.specs.declared.design.Assign.{Assign}
 use Rattle.net_core.specs.declared.design.Declared.{Declared}
 use Rattle.net_core.specs.declared.design.Declared.TheVariants as declared
 use Rattle.net_core.specs.declared.design.Port.{Port}
-use Rattle.net_core.specs.Nets.{Tree, StatementTree, WireTree, AssignTree, Netlist}
-use Rattle.net_core.specs.View.{tree_of, assign_of}
+use Rattle.net_core.specs.declared.design.Wire.{Wire}
+use Rattle.net_core.specs.Nets.{Tree, RightTree, StatementTree, WireTree, AssignTree, Netlist}
+use Rattle.net_core.specs.View.{tree_of, right_of, wire_of, assign_of}
 use Rattle.block_core.specs.declared.name.Name.{Name}
 use Rattle.block_core.specs.declared.name.Name.TheVariants as name
 use Rattle.block_core.specs.declared.block.Placed.{Placed}
-use Rattle.block_core.specs.declared.starts.Section.TheVariants as section
 use Rattle.block_core.specs.declared.starts.Starts.{Starts}
 use Rattle.block_core.specs.Rename.{rename_statement}
 use Rattle.block_core.specs.Blocks.{BlockTree, OutputTree, Whole, Among, gather, running, start, registers_of, memories_of, wires_of}
-use Rattle.block_core.specs.Link.{resolve, link_wires, link_output, link_statement, all_registers, all_memories, all_wires, declare_register, declare_memory, net_names, link}
-use Rattle.block_core.specs.View.{block_of, count_in, resolve_in, linked_statement, Makes}
+use Rattle.block_core.specs.Link.{resolve, link_wires, link_output, link_statement, all_registers, all_memories, all_wires, all_statements, declare_register, declare_memory, net_names, link}
+use Rattle.block_core.specs.View.{block_of, resolve_in, linked_statement, StartsOf, Makes}
+use Rattle.block_core.specs.Range.{in_range, wires_in_range, assigns_in_range, statement_in_range, totals_in_range, total, design_in_range}
 use Rattle.block_core.proofs.GatheredLaws.{map_gather}
 use Rattle.block_core.proofs.GatheredLaws.{length_map}
 
 pub assign_same : (a : Assign) (port : ℕ) (v : Tree Net) → a.port ≡ port → tree_of a.value ≡ v → assign_of a ≡ record { port = port; value = v }
 assign_same a port v p e = λ i. record { port = p i; value = e i }
+
+pub wire_same : (w : Wire) (width : ℕ) (r : RightTree Net) → w.width ≡ width → right_of w.right ≡ r → wire_of w ≡ record { width = width; right = r }
+wire_same w width r p e = λ i. record { width = p i; right = e i }
 
 gather_made : {P A : Type 0} (g : Placed P → List A) (h : P → List A) (ms : List (Placed P)) → ((m : Placed P) → Among m ms → g m ≡ h m.part) → gather g ms ≡ gather h (map (λ m. m.part) ms)
 gather_made g h [] e = refl
@@ -32,18 +39,25 @@ map_made : {P A : Type 0} (g : Placed P → A) (h : P → A) (ms : List (Placed 
 map_made g h [] e = refl
 map_made g h (m ∷ ms) e = λ i. e m (inl refl) i ∷ map_made g h ms (λ n a. e n (inr a)) i
 
--- where each part begins
-pub record StartsOf {P : Type 0} (placed : List (Placed P)) (s : Starts) : Type 0 where
-  pub registers : s.registers.items ≡ running 0 (map (λ m. count_in section.Registers (block_of m.block)) placed)
-  pub memories : s.memories.items ≡ running 0 (map (λ m. count_in section.Memories (block_of m.block)) placed)
-  pub wires : s.wires.items ≡ running 0 (map (λ m. count_in section.Wires (block_of m.block)) placed)
+module _ {P : Type 0} (place : P → ℕ) (placed : List (Placed P)) (d : Whole P) (made : Makes place placed d) where
+  counts : (count : BlockTree (Name P) → ℕ) → map (λ m. count (block_of m.block)) placed ≡ map (λ p. count (d.block p)) d.parts
+  counts count = map_made (λ m. count (block_of m.block)) (λ p. count (d.block p)) placed (λ m a. ap count (made.blocks m a)) ∙ ap (map (λ p. count (d.block p))) (sym made.parts)
+
+  total_made : (count : BlockTree (Name P) → ℕ) → sum_by (λ m. count (block_of m.block)) placed ≡ total count d
+  total_made count = sym (sum-map (λ m. count (block_of m.block)) placed) ∙ ap sum (counts count) ∙ sum-map (λ p. count (d.block p)) d.parts
+
+  totals_made : totals_in_range placed ≡ (in_range (total registers_of d) && (in_range (total memories_of d) && in_range (total wires_of d)))
+  totals_made = λ i. in_range (total_made registers_of i) && (in_range (total_made memories_of i) && in_range (total_made wires_of i))
+
+  pub past_totals : (outputs : List (OutputTree (Name P))) → totals_in_range placed ≡ false → design_in_range d outputs ≡ false
+  past_totals outputs h = and_left _ _ (sym totals_made ∙ h)
 
 module _ {P : Type 0} (place : P → ℕ) (placed : List (Placed P)) (d : Whole P) (s : Starts) (made : Makes place placed d) (at : StartsOf placed s) where
   gathered : {A : Type 0} (g : Placed P → List A) (h : P → List A) → ((m : Placed P) → Among m placed → g m ≡ h m.part) → gather g placed ≡ gather h d.parts
   gathered g h e = gather_made g h placed e ∙ ap (gather h) (sym made.parts)
 
   counted : (count : BlockTree (Name P) → ℕ) → running 0 (map (λ m. count (block_of m.block)) placed) ≡ running 0 (map (λ p. count (d.block p)) d.parts)
-  counted count = ap (running 0) (map_made (λ m. count (block_of m.block)) (λ p. count (d.block p)) placed (λ m a. ap count (made.blocks m a)) ∙ ap (map (λ p. count (d.block p))) (sym made.parts))
+  counted count = ap (running 0) (counts place placed d made count)
 
   start_at : (count : BlockTree (Name P) → ℕ) (starts : List ℕ) → starts ≡ running 0 (map (λ m. count (block_of m.block)) placed) → (p : P) → get_or starts (place p) 0 ≡ start count d p
   start_at count starts e p = λ i. get_or ((e ∙ counted count) i) (sym made.places i p) 0
@@ -75,6 +89,37 @@ module _ {P : Type 0} (place : P → ℕ) (placed : List (Placed P)) (d : Whole 
   memories_count : length (gather (λ m. map declare_memory (block_of m.block).memories) placed) ≡ length (all_memories d d.parts)
   memories_count = ap length memories_made ∙ length_map declare_memory (all_memories d d.parts)
 
+  statements_made : map (linked_statement place s) placed ≡ all_statements d d.parts
+  statements_made = map_made (linked_statement place s) (link_statement d) placed statement_made ∙ ap (map (link_statement d)) (sym made.parts)
+
+  -- what was found of each section is what the design says
+  module _ (outputs : List (OutputTree (Name P))) where
+    wires_asked : wires_in_range (gather (λ m. link_wires (resolve_in place s) (block_of m.block).wires) placed) ≡ wires_in_range (all_wires d d.parts)
+    wires_asked = ap wires_in_range wires_made
+
+    assigns_asked : assigns_in_range (map (link_output (resolve_in place s)) outputs) ≡ assigns_in_range (map (link_output (resolve d)) outputs)
+    assigns_asked = ap (λ g. assigns_in_range (map (link_output g) outputs)) resolves
+
+    statements_asked : list_all statement_in_range (map (linked_statement place s) placed) ≡ list_all statement_in_range (all_statements d d.parts)
+    statements_asked = ap (list_all statement_in_range) statements_made
+
+    pub past_wires : wires_in_range (gather (λ m. link_wires (resolve_in place s) (block_of m.block).wires) placed) ≡ false → design_in_range d outputs ≡ false
+    past_wires h = and_right _ _ (and_left _ _ (sym wires_asked ∙ h))
+
+    pub past_assigns : assigns_in_range (map (link_output (resolve_in place s)) outputs) ≡ false → design_in_range d outputs ≡ false
+    past_assigns h = and_right _ _ (and_right _ _ (and_left _ _ (sym assigns_asked ∙ h)))
+
+    pub past_statements : list_all statement_in_range (map (linked_statement place s) placed) ≡ false → design_in_range d outputs ≡ false
+    past_statements h =
+        and_right (in_range (total registers_of d) && (in_range (total memories_of d) && in_range (total wires_of d))) _
+        (and_right (wires_in_range (all_wires d d.parts)) _ (and_right (assigns_in_range (map (link_output (resolve d)) outputs)) _ (sym statements_asked ∙ h)))
+
+    pub all_in_range : totals_in_range placed ≡ true → wires_in_range (gather (λ m. link_wires (resolve_in place s) (block_of m.block).wires) placed) ≡ true → assigns_in_range (map (link_output (resolve_in place s)) outputs) ≡ true
+        → list_all statement_in_range (map (linked_statement place s) placed) ≡ true → design_in_range d outputs ≡ true
+    all_in_range t w a z =
+        and_from _ _ (sym (totals_made place placed d made) ∙ t)
+        (and_from _ _ (sym wires_asked ∙ w) (and_from _ _ (sym assigns_asked ∙ a) (sym statements_asked ∙ z)))
+
   -- a netlist with these sections is the design
   pub link_made : (port_names names : List (List ℕ)) (ports : List Port) (outputs : List (OutputTree (Name P))) (first all : List Declared) (wires : List WireTree) (assigns : List AssignTree) (always : List (StatementTree Net)) (r n w : ℕ)
       → first ≡ declared.Integer ∷ gather (λ m. map declare_register (block_of m.block).registers) placed
@@ -94,7 +139,7 @@ module _ {P : Type 0} (place : P → ℕ) (placed : List (Placed P)) (d : Whole 
       x ∙ ap (λ l. l ++ gather (λ m. map declare_memory (block_of m.block).memories) placed) f ∙ (λ i. declared.Integer ∷ (registers_made i ++ memories_made i)) in
       let is_wires : wires ≡ all_wires d d.parts = y ∙ wires_made in
       let is_assigns : assigns ≡ map (link_output (resolve d)) outputs = z ∙ ap (λ g. map (link_output g) outputs) resolves in
-      let is_always : always ≡ map (link_statement d) d.parts = u ∙ map_made (linked_statement place s) (link_statement d) placed statement_made ∙ ap (map (link_statement d)) (sym made.parts) in
+      let is_always : always ≡ map (link_statement d) d.parts = u ∙ statements_made in
       λ i. record { names = is_names i; ports = ports; declared = is_declared i; wires = is_wires i; assigns = is_assigns i; always = is_always i }
     where
       length_append : {A : Type 0} (xs ys : List A) → length (xs ++ ys) ≡ length xs + length ys

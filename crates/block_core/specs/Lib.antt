@@ -6,3 +6,4 @@ pub mod Order
 pub mod Law
 pub mod Formed
 pub mod View
+pub mod Range

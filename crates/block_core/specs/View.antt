@@ -14,7 +14,7 @@ use Rattle.block_core.specs.declared.block.Placed.{Placed}
 use Rattle.block_core.specs.declared.starts.Section.{Section}
 use Rattle.block_core.specs.declared.starts.Section.TheVariants.{Registers, Memories, Wires}
 use Rattle.block_core.specs.declared.starts.Starts.{Starts}
-use Rattle.block_core.specs.Blocks.{BlockTree, BlockWireTree, OutputTree, registers_of, memories_of, wires_of, Whole, Among}
+use Rattle.block_core.specs.Blocks.{BlockTree, BlockWireTree, OutputTree, registers_of, memories_of, wires_of, running, Whole, Among}
 
 abbrev pub block_wire_of : {N : Type 0} → BlockWire N → BlockWireTree N
 block_wire_of w = record { width = w.width; right = right_of w.right }
@@ -36,6 +36,12 @@ abbrev pub count_in : {N : Type 0} → Section → BlockTree N → ℕ
 count_in Registers b = registers_of b
 count_in Memories b = memories_of b
 count_in Wires b = wires_of b
+
+-- where the nets of each part begin, by its place
+pub record StartsOf {P : Type 0} (placed : List (Placed P)) (s : Starts) : Type 0 where
+  pub registers : s.registers.items ≡ running 0 (map (λ m. count_in Registers (block_of m.block)) placed)
+  pub memories : s.memories.items ≡ running 0 (map (λ m. count_in Memories (block_of m.block)) placed)
+  pub wires : s.wires.items ≡ running 0 (map (λ m. count_in Wires (block_of m.block)) placed)
 
 -- a part's net as one of the design, by where each part begins
 abbrev pub resolve_in : {P : Type 0} → (P → ℕ) → Starts → Name P → Net

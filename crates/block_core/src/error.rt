@@ -9,7 +9,7 @@ use thiserror::Error;
 /// Why parts are no design.
 #[derive(Clone, Copy, PartialEq, Eq, Debug, Error)]
 pub enum LinkError {
-    /// The number of a net would not fit 32 bits.
+    /// There are 2^32 nets of one sort or more, or one that is read or set would have such a number.
     #[error("more than 4,294,967,295 nets of one sort")]
     TooMany,
     /// No memory is left.

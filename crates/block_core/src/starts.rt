@@ -2,7 +2,8 @@
 
 ghost use Rattle.std.specs.Prelude.{◌≡◌, ◌+◌, IfOk, get_or, map};
 ghost use Rattle.block_core.specs.Blocks.{running};
-ghost use Rattle.block_core.specs.View.{block_of, count_in, resolve_in};
+ghost use Rattle.block_core.specs.Range.{in_range, net_in_range, placed_total, totals_in_range, Tells};
+ghost use Rattle.block_core.specs.View.{block_of, count_in, resolve_in, StartsOf};
 
 use crate::block::{Block, Placed};
 use crate::error::LinkError;
@@ -39,7 +40,8 @@ fn count<N: Drop>(section: Section, block: &Block<N>) -> usize
 
 /// The number of a net, so many behind another.
 pub(crate) fn behind(start: u32, count: u32) -> Result<u32, LinkError>
-    ensures { IfOk result (λ n. n ≡ start + count) }
+    ensures number { IfOk result (λ n. n ≡ start + count) }
+    ensures range { Tells result (in_range (start + count)) }
 {
     match start.checked_add(count) {
         Some(n) => Ok(n),
@@ -49,7 +51,8 @@ pub(crate) fn behind(start: u32, count: u32) -> Result<u32, LinkError>
 
 // The number behind so many nets.
 fn past(start: u32, count: usize) -> Result<u32, LinkError>
-    ensures { IfOk result (λ n. n ≡ start + count) }
+    ensures number { IfOk result (λ n. n ≡ start + count) }
+    ensures range { Tells result (in_range (start + count)) }
 {
     match u32::try_from(count) {
         Ok(count) => behind(start, count),
@@ -64,7 +67,8 @@ fn starts_in<P: Part>(
     section: Section,
     parts: &[Placed<P>],
 ) -> Result<Vec<u32>, LinkError>
-    ensures { IfOk result (λ r. r.items ≡ running 0 (map (λ m. count_in section (block_of m.block)) parts.now)) }
+    ensures starts { IfOk result (λ r. r.items ≡ running 0 (map (λ m. count_in section (block_of m.block)) parts.now)) }
+    ensures range { Tells result (in_range (placed_total section parts.now)) }
 {
     let mut starts = Vec::new(alloc);
     let mut at = 0;
@@ -77,9 +81,8 @@ fn starts_in<P: Part>(
 
 /// Where the nets of each part begin.
 pub(crate) fn all_starts<P: Part>(alloc: Global, parts: &[Placed<P>]) -> Result<Starts, LinkError>
-    ensures registers { IfOk result (λ s. s.registers.items ≡ running 0 (map (λ m. count_in Section.Registers (block_of m.block)) parts.now)) }
-    ensures memories { IfOk result (λ s. s.memories.items ≡ running 0 (map (λ m. count_in Section.Memories (block_of m.block)) parts.now)) }
-    ensures wires { IfOk result (λ s. s.wires.items ≡ running 0 (map (λ m. count_in Section.Wires (block_of m.block)) parts.now)) }
+    ensures starts { IfOk result (λ s. StartsOf parts.now s) }
+    ensures range { Tells result (totals_in_range parts.now) }
 {
     Ok(Starts {
         registers: starts_in(alloc, Section::Registers, parts)?,
@@ -102,7 +105,8 @@ pub(crate) fn start<P: Part>(starts: &[u32], part: P) -> u32
 
 /// A part's net as one of the design.
 pub(crate) fn resolve<P: Part>(name: Name<P>, starts: &Starts) -> Result<Net, LinkError>
-    ensures { IfOk result (λ n. n ≡ resolve_in P.place starts.now name) }
+    ensures net { IfOk result (λ n. n ≡ resolve_in P.place starts.now name) }
+    ensures range { Tells result (net_in_range (resolve_in P.place starts.now name)) }
 {
     match name {
         Name::Port(i) => Ok(Net::Port(i)),

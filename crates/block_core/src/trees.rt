@@ -4,6 +4,7 @@ ghost use Rattle.std.specs.Prelude.{◌≡◌, IfOk};
 ghost use Rattle.net_core.specs.View.{tree_of, trees_of, right_of, statement_of, statements_of};
 ghost use Rattle.block_core.specs.Rename.{rename, rename_parts, rename_right, rename_statement, rename_statements};
 ghost use Rattle.block_core.specs.View.{resolve_in};
+ghost use Rattle.block_core.specs.Range.{tree_in_range, trees_in_range, right_in_range, statement_in_range, statements_in_range, Tells};
 
 use crate::error::LinkError;
 use crate::name::{Name, Part};
@@ -19,7 +20,8 @@ pub(crate) fn link_expr<P: Part>(
     e: &Expr<Name<P>>,
     starts: &Starts,
 ) -> Result<Expr<Net>, LinkError>
-    ensures { IfOk result (λ r. tree_of r ≡ rename (resolve_in P.place starts.now) (tree_of e.now)) }
+    ensures linked { IfOk result (λ r. tree_of r ≡ rename (resolve_in P.place starts.now) (tree_of e.now)) }
+    ensures range { Tells result (tree_in_range (rename (resolve_in P.place starts.now) (tree_of e.now))) }
 {
     match e {
         Expr::Const(word) => Ok(Expr::Const(*word)),
@@ -63,7 +65,8 @@ fn link_parts<P: Part>(
     parts: &Parts<Name<P>>,
     starts: &Starts,
 ) -> Result<Parts<Net>, LinkError>
-    ensures { IfOk result (λ r. trees_of r ≡ rename_parts (resolve_in P.place starts.now) (trees_of parts.now)) }
+    ensures linked { IfOk result (λ r. trees_of r ≡ rename_parts (resolve_in P.place starts.now) (trees_of parts.now)) }
+    ensures range { Tells result (trees_in_range (rename_parts (resolve_in P.place starts.now) (trees_of parts.now))) }
 {
     let mut prefix = Vec::new(alloc);
     let mut left = parts;
@@ -86,7 +89,8 @@ pub(crate) fn link_right<P: Part>(
     right: &Right<Name<P>>,
     starts: &Starts,
 ) -> Result<Right<Net>, LinkError>
-    ensures { IfOk result (λ r. right_of r ≡ rename_right (resolve_in P.place starts.now) (right_of right.now)) }
+    ensures linked { IfOk result (λ r. right_of r ≡ rename_right (resolve_in P.place starts.now) (right_of right.now)) }
+    ensures range { Tells result (right_in_range (rename_right (resolve_in P.place starts.now) (right_of right.now))) }
 {
     match right {
         Right::Plain(e) => Ok(Right::Plain(link_expr(alloc, e, starts)?)),
@@ -112,7 +116,8 @@ pub(crate) fn link_stmt<P: Part>(
     registers: u32,
     memories: u32,
 ) -> Result<Stmt<Net>, LinkError>
-    ensures { IfOk result (λ r. statement_of r ≡ rename_statement (resolve_in P.place starts.now) registers memories (statement_of stmt.now)) }
+    ensures linked { IfOk result (λ r. statement_of r ≡ rename_statement (resolve_in P.place starts.now) registers memories (statement_of stmt.now)) }
+    ensures range { Tells result (statement_in_range (rename_statement (resolve_in P.place starts.now) registers memories (statement_of stmt.now))) }
 {
     match stmt {
         Stmt::Block(more) => {
@@ -151,7 +156,8 @@ fn link_stmts<P: Part>(
     registers: u32,
     memories: u32,
 ) -> Result<Stmts<Net>, LinkError>
-    ensures { IfOk result (λ r. statements_of r ≡ rename_statements (resolve_in P.place starts.now) registers memories (statements_of stmts.now)) }
+    ensures linked { IfOk result (λ r. statements_of r ≡ rename_statements (resolve_in P.place starts.now) registers memories (statements_of stmts.now)) }
+    ensures range { Tells result (statements_in_range (rename_statements (resolve_in P.place starts.now) registers memories (statements_of stmts.now))) }
 {
     let mut prefix = Vec::new(alloc);
     let mut left = stmts;

@@ -1,4 +1,4 @@
-use Rattle.std.proofs.Common.{rules, List, map, ap, ◌∙◌, sym, arith}
+use Rattle.std.proofs.Common.{rules, List, map, ap, ◌∙◌, sym, refl, arith}
 use Rattle.net_core.specs.declared.tree.Net.{Net}
 use Rattle.net_core.specs.declared.tree.Expr.{Expr}
 use Rattle.net_core.specs.declared.tree.Expr.TheViews.{sized-More}
@@ -11,35 +11,36 @@ use Rattle.block_core.specs.View.{resolve_in}
 use Rattle.block_core.proofs.LinkedTrees.{memory_word_linked, unary_linked, binary_linked, conditional_linked, parts_step}
 use Rattle.block_core.proofs.trees.+expressions.Goals as goal
 
-pub link_expr-returns-in_ok-memory_word-in-MemoryWord : goal.link_expr-returns-in_ok-memory_word-in-MemoryWord
-link_expr-returns-in_ok-memory_word-in-MemoryWord g t c =
+pub link_expr-returns-in_ok-memory_word-in-MemoryWord-clause-linked : goal.link_expr-returns-in_ok-memory_word-in-MemoryWord-clause-linked
+link_expr-returns-in_ok-memory_word-in-MemoryWord-clause-linked g t c =
     let f = resolve_in g.P.Part.place c.args.starts.now in
-    memory_word_linked f _ _ _ _ _ _ (ap tree_of c.in-MemoryWord.is) c.in_ok-memory-in-MemoryWord.ensures
-    (c.in_ok-index-in-MemoryWord.ensures ∙ ap (λ x. rename f (tree_of x)) c.deref.ensures) c.in_ok-memory_word-in-MemoryWord.ensures
+    memory_word_linked f _ _ _ _ _ _ (ap tree_of c.in-MemoryWord.is) c.in_ok-memory-in-MemoryWord.ensures.net
+    (c.in_ok-index-in-MemoryWord.ensures.linked ∙ ap (λ x. rename f (tree_of x)) c.deref.ensures) c.in_ok-memory_word-in-MemoryWord.ensures
 
-pub link_expr-returns-in_ok-unary-in-Unary : goal.link_expr-returns-in_ok-unary-in-Unary
-link_expr-returns-in_ok-unary-in-Unary g t c =
+pub link_expr-returns-in_ok-unary-in-Unary-clause-linked : goal.link_expr-returns-in_ok-unary-in-Unary-clause-linked
+link_expr-returns-in_ok-unary-in-Unary-clause-linked g t c =
     let f = resolve_in g.P.Part.place c.args.starts.now in
-    unary_linked f _ _ _ _ _ (ap tree_of c.in-Unary.is) (c.in_ok-a-in-Unary.ensures ∙ ap (λ x. rename f (tree_of x)) c.deref-in-Unary.ensures) c.in_ok-unary-in-Unary.ensures
+    unary_linked f _ _ _ _ _ (ap tree_of c.in-Unary.is) (c.in_ok-a-in-Unary.ensures.linked ∙ ap (λ x. rename f (tree_of x)) c.deref-in-Unary.ensures) c.in_ok-unary-in-Unary.ensures
 
-pub link_expr-returns-in_ok-binary-in-Binary : goal.link_expr-returns-in_ok-binary-in-Binary
-link_expr-returns-in_ok-binary-in-Binary g t c =
+pub link_expr-returns-in_ok-binary-in-Binary-clause-linked : goal.link_expr-returns-in_ok-binary-in-Binary-clause-linked
+link_expr-returns-in_ok-binary-in-Binary-clause-linked g t c =
     let f = resolve_in g.P.Part.place c.args.starts.now in
     binary_linked f _ _ _ _ _ _ _ (ap tree_of c.in-Binary.is)
-    (c.in_ok-a-in-Binary.ensures ∙ ap (λ x. rename f (tree_of x)) c.deref-in-Binary.ensures)
-    (c.in_ok-b-in-Binary.ensures ∙ ap (λ x. rename f (tree_of x)) c.deref-in-Binary-2.ensures) c.in_ok-binary-in-Binary.ensures
+    (c.in_ok-a-in-Binary.ensures.linked ∙ ap (λ x. rename f (tree_of x)) c.deref-in-Binary.ensures)
+    (c.in_ok-b-in-Binary.ensures.linked ∙ ap (λ x. rename f (tree_of x)) c.deref-in-Binary-2.ensures) c.in_ok-binary-in-Binary.ensures
 
-pub link_expr-returns-in_ok-chosen-in-Conditional : goal.link_expr-returns-in_ok-chosen-in-Conditional
-link_expr-returns-in_ok-chosen-in-Conditional g t c =
+pub link_expr-returns-in_ok-chosen-in-Conditional-clause-linked : goal.link_expr-returns-in_ok-chosen-in-Conditional-clause-linked
+link_expr-returns-in_ok-chosen-in-Conditional-clause-linked g t c =
     let f = resolve_in g.P.Part.place c.args.starts.now in
     conditional_linked f _ _ _ _ _ _ _ _ (ap tree_of c.in-Conditional.is)
-    (c.in_ok-c-in-Conditional.ensures ∙ ap (λ x. rename f (tree_of x)) c.deref-in-Conditional.ensures)
-    (c.in_ok-a-in-Conditional.ensures ∙ ap (λ x. rename f (tree_of x)) c.deref-in-Conditional-2.ensures)
-    (c.in_ok-b-in-Conditional.ensures ∙ ap (λ x. rename f (tree_of x)) c.deref-in-Conditional-3.ensures) c.in_ok-chosen-in-Conditional.ensures
+    (c.in_ok-c-in-Conditional.ensures.linked ∙ ap (λ x. rename f (tree_of x)) c.deref-in-Conditional.ensures)
+    (c.in_ok-a-in-Conditional.ensures.linked ∙ ap (λ x. rename f (tree_of x)) c.deref-in-Conditional-2.ensures)
+    (c.in_ok-b-in-Conditional.ensures.linked ∙ ap (λ x. rename f (tree_of x)) c.deref-in-Conditional-3.ensures) c.in_ok-chosen-in-Conditional.ensures
 
 pub link_parts-loop-left-init : goal.link_parts-loop-left-init
 link_parts-loop-left-init g t c = record {
   done = ap (λ (xs : List (Expr Net)). parts_before (map tree_of xs) (rename_parts (resolve_in g.P.Part.place c.args.starts.now) (trees_of c.args.parts.now))) c.new-prefix.ensures.items;
+  range = refl;
   depth = omega arith;
 }
 
@@ -56,7 +57,25 @@ link_parts-loop-left-preserved g t c =
     let whole = ap (size-Parts _) c.in-More.is in
     let part = ap (size-Parts _) c.deref-left.ensures in
     record {
-      done = parts_step f c.loop-left.prefix.items _ _ _ (trees_of c.loop-left.left.now) _ _ c.in_ok-push.ensures.items c.in_ok-link_expr.ensures
+      done = parts_step f c.loop-left.prefix.items _ _ _ (trees_of c.loop-left.left.now) _ _ c.in_ok-push.ensures.items c.in_ok-link_expr.ensures.linked
           (ap trees_of c.in-More.is ∙ sym (ap (λ l. TMore (tree_of c.in-More.part) (trees_of l)) c.deref-left.ensures)) c.loop-left.invariant.done;
+      range = rw c.deref-left.ensures (rw c.in_ok-link_expr.ensures.range at (rw c.in-More.is at c.loop-left.invariant.range));
       depth = omega (arith, z, whole, part, c.loop-left.invariant.depth);
     }
+
+-- ---- what was linked is in range
+pub link_expr-returns-in_ok-memory_word-in-MemoryWord-clause-range : goal.link_expr-returns-in_ok-memory_word-in-MemoryWord-clause-range
+link_expr-returns-in_ok-memory_word-in-MemoryWord-clause-range g t c = rw (c.in-MemoryWord.is, c.in_ok-memory-in-MemoryWord.ensures.range, ← c.deref.ensures) c.in_ok-index-in-MemoryWord.ensures.range
+
+pub link_expr-returns-in_ok-unary-in-Unary-clause-range : goal.link_expr-returns-in_ok-unary-in-Unary-clause-range
+link_expr-returns-in_ok-unary-in-Unary-clause-range g t c = rw (c.in-Unary.is, ← c.deref-in-Unary.ensures) c.in_ok-a-in-Unary.ensures.range
+
+pub link_expr-returns-in_ok-binary-in-Binary-clause-range : goal.link_expr-returns-in_ok-binary-in-Binary-clause-range
+link_expr-returns-in_ok-binary-in-Binary-clause-range g t c = rw (c.in-Binary.is, ← c.deref-in-Binary.ensures, ← c.deref-in-Binary-2.ensures, c.in_ok-a-in-Binary.ensures.range) c.in_ok-b-in-Binary.ensures.range
+
+pub link_expr-returns-in_ok-chosen-in-Conditional-clause-range : goal.link_expr-returns-in_ok-chosen-in-Conditional-clause-range
+link_expr-returns-in_ok-chosen-in-Conditional-clause-range g t c =
+    rw (c.in-Conditional.is, ← c.deref-in-Conditional.ensures, ← c.deref-in-Conditional-2.ensures, ← c.deref-in-Conditional-3.ensures, c.in_ok-c-in-Conditional.ensures.range, c.in_ok-a-in-Conditional.ensures.range) c.in_ok-b-in-Conditional.ensures.range
+
+pub link_expr-returns-in_ok-new-in-Concatenation-clause-range : goal.link_expr-returns-in_ok-new-in-Concatenation-clause-range
+link_expr-returns-in_ok-new-in-Concatenation-clause-range g t c = rw (c.in-Concatenation.is, ← c.deref-in-Concatenation.ensures) c.in_ok-parts-in-Concatenation.ensures.range
