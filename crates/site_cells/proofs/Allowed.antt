@@ -1,8 +1,8 @@
 -- What is known of instructions on maps where they are allowed.
-use Rattle.std.proofs.Common.{◌≡◌, ℕ, ◌*◌, ◌<◌, ℤ, pos, ◌+ℤ◌, nat_lt, if◌then◌else◌, Bool, true, false, Result, Ok, Err, IfOk, List, length, refl, sym, ◌∙◌, ap, subst, arith}
+use Rattle.std.proofs.Common.{◌≡◌, ℕ, ◌*◌, ◌<◌, ℤ, pos, ◌+ℤ◌, nat_lt, if◌then◌else◌, Bool, true, false, Option, Some, None, Result, Ok, Err, IfOk, List, length, refl, sym, ◌∙◌, ap, subst, arith}
 use Rattle.std.proofs.lemmas.Bool.Decides.{nat_tests}
 use Rattle.bpf_isa.specs.declared.operation.Size.{Size}
-use Rattle.bpf_isa.specs.declared.operation.Op.TheVariants.{Call, Load, LoadSigned}
+use Rattle.bpf_isa.specs.declared.operation.Op.TheVariants.{Call, Load, LoadSigned, Atomic}
 use Rattle.bpf_isa.specs.declared.operation.Width.TheVariants.{Bits64}
 use Rattle.kind_core.specs.Numbers.{number_extended}
 use Rattle.bpf_isa.specs.declared.instruction.Insn.{Insn}
@@ -19,7 +19,10 @@ use Rattle.kind_core.specs.Kinds as kinds
 use Rattle.kind_core.specs.Kinds.{key_bytes, value_bytes, with_register}
 use Rattle.kind_core.specs.Calls as calls
 use Rattle.kind_core.specs.Calls.{declared, fits_argument, called, helper_of}
+use Rattle.xdp_machine.specs.Atomics.{fetches}
+use Rattle.xdp_machine.proofs.ChangeLaws.{some_inj}
 use Rattle.kind_core.specs.Access as access
+use Rattle.kind_core.specs.Access.{compares}
 use Rattle.kind_core.specs.Places as places
 use Rattle.kind_core.specs.Profile as profile
 use Rattle.kind_core.specs.Tests as tests
@@ -27,6 +30,7 @@ use Rattle.kind_core.specs.Tests.{◌>>=◌, passed}
 use Rattle.kind_core.specs.Effects.{effect_of, effect_as, verdict}
 use Rattle.kind_core.specs.Edges.{transferred, changed, changed_if}
 use Rattle.kind_core.proofs.TestLaws.{bind_passed}
+use Rattle.site_cells.specs.Changing.{code_of, taken_by}
 use Rattle.site_cells.proofs.Entries.{IsInPlace, aligned_too}
 
 is_map : (decls : List MapDecl) (x : Kind) {q : ℕ} → declared decls x ≡ Ok q → (x ≡ MapRef q) × (q < length decls)
@@ -191,3 +195,74 @@ update_allowed decls k i op imm allowed =
     plain : (x : Kind) {u : Unit {0}} → calls.plain x ≡ Ok u → (n : Number) × (x ≡ Num n)
     plain (Num n) h = (n, refl)
     plain x h = absurd (cc)
+
+-- ---- atomic changes
+
+-- an allowed one is of a number, over one where it compares, in its place, and the old number is known of where it goes
+pub record AtomicAllowed (decls : List MapDecl) (k : Kinds) (i : Insn) (size : Size) (q o : ℕ) : Type 0 where
+  pub number : Number
+  pub source : kinds.register k i.src ≡ Num number
+  pub compared : compares i ≡ true → (r : Number) × (kinds.register k 0 ≡ Num r)
+  pub placed : IsInPlace decls q (pos o +ℤ i.offset) size
+  pub taken : (node : ℕ) (is_ref edge : Bool) (r : ℕ) → taken_by i ≡ Some r → transferred decls k i node is_ref edge ≡ with_register k r (Num Unknown)
+  pub not_taken : (node : ℕ) (is_ref edge : Bool) → taken_by i ≡ None → transferred decls k i node is_ref edge ≡ k
+
+numbers_asked : (i : Insn) (y : Kind) (b : Bool) (z : Kind)
+    → IfOk (tests.number_in y >>= (λ n. (if b then (tests.number_in z >>= (λ r. passed)) else passed) >>= (λ u. Ok (access.taking i))))
+    (λ e. ((n : Number) × (y ≡ Num n)) × (b ≡ true → (r : Number) × (z ≡ Num r)) × (e ≡ access.taking i))
+numbers_asked i (Num n) true (Num r) = ((n, refl), λ t. (r, refl), refl)
+numbers_asked i (Num n) true z = tt
+numbers_asked i (Num n) false z = ((n, refl), λ t. absurd (cc), refl)
+numbers_asked i y b z = tt
+
+both : {E : Type 0} (P : E → Type 0) {Q : Type 0} (r : Result E Why) → IfOk r P → Q → IfOk r (λ e. P e × Q)
+both P (Ok e) p q = (p, q)
+both P (Err w) p q = tt
+
+entry_atomic : (decls : List MapDecl) (k : Kinds) (i : Insn) (size : Size) (q o : ℕ)
+    → IfOk (places.accessed decls k.checked (Entry q o) i.offset size >>= (λ place. access.changed_at k i place))
+    (λ e. (((n : Number) × (kinds.register k i.src ≡ Num n)) × (compares i ≡ true → (r : Number) × (kinds.register k 0 ≡ Num r)) × (e ≡ access.taking i)) × IsInPlace decls q (pos o +ℤ i.offset) size)
+entry_atomic decls k i size q o = by (tests.aligned (pos o +ℤ i.offset) (bytes_in size) (value_bytes decls q)) refl
+  where
+    by : (t : Result ℕ Why) → tests.aligned (pos o +ℤ i.offset) (bytes_in size) (value_bytes decls q) ≡ t
+        → IfOk (places.in_value decls q (pos o +ℤ i.offset) size >>= (λ place. access.changed_at k i place))
+        (λ e. (((n : Number) × (kinds.register k i.src ≡ Num n)) × (compares i ≡ true → (r : Number) × (kinds.register k 0 ≡ Num r)) × (e ≡ access.taking i)) × IsInPlace decls q (pos o +ℤ i.offset) size)
+    by (Ok a) e = rw e (both _ _ (numbers_asked i (kinds.register k i.src) (compares i) (kinds.register k 0)) (record { place = a; at = aligned_too (pos o +ℤ i.offset) (bytes_in size) (value_bytes decls q) a e }))
+    by (Err w) e = rw e tt
+
+pub atomic_allowed : (decls : List MapDecl) (k : Kinds) (i : Insn) (size : Size) (q o : ℕ) → i.op ≡ Atomic size → kinds.register k i.dst ≡ Entry q o → verdict (effect_of decls k i) ≡ passed → AtomicAllowed decls k i size q o
+unfolding effect_of
+atomic_allowed decls k i size q o op base allowed =
+    let e = ok (effect_of decls k i) allowed in
+    let b = bind_passed (profile.profiled i k) (λ u. effect_as decls k i i.op) e.0 e.1 in
+    let s = sym (ap (λ (y : Kind). places.accessed decls k.checked y i.offset size >>= (λ place. access.changed_at k i place)) base) ∙ sym (ap (effect_as decls k i) op) ∙ b.2 in
+    let f = subst (λ (r : Result _ Why). IfOk r (λ e. (((n : Number) × (kinds.register k i.src ≡ Num n)) × (compares i ≡ true → (r : Number) × (kinds.register k 0 ≡ Num r)) × (e ≡ access.taking i)) × IsInPlace decls q (pos o +ℤ i.offset) size)) s (entry_atomic decls k i size q o) in
+    let becomes : (node : ℕ) (is_ref edge : Bool) → transferred decls k i node is_ref edge ≡ changed node is_ref edge k (access.taking i) = λ node is_ref edge. ap (changed_if node is_ref edge k) e.1 ∙ ap (changed node is_ref edge k) f.0.2 in
+    record {
+      number = f.0.0.0;
+      source = f.0.0.1;
+      compared = f.0.1;
+      placed = f.1;
+      taken = λ node is_ref edge r to. becomes node is_ref edge ∙ kinds_taken node is_ref edge r to;
+      not_taken = λ node is_ref edge to. becomes node is_ref edge ∙ kinds_kept node is_ref edge to;
+    }
+  where
+    ok : (r : _) → verdict r ≡ passed → (e : _) × (r ≡ Ok e)
+    ok (Ok e) h = (e, refl)
+    ok (Err w) h = absurd (cc)
+
+    kinds_taken : (node : ℕ) (is_ref edge : Bool) (r : ℕ) → taken_by i ≡ Some r → changed node is_ref edge k (access.taking i) ≡ with_register k r (Num Unknown)
+    kinds_taken node is_ref edge r to = by (compares i) (fetches (code_of i)) refl refl to
+      where
+        by : (b f : Bool) → compares i ≡ b → fetches (code_of i) ≡ f → (if b then Some 0 else (if f then Some i.src else None)) ≡ Some r → changed node is_ref edge k (access.taking i) ≡ with_register k r (Num Unknown)
+        by true f eb ef h = rw eb (ap (λ (j : ℕ). with_register k j (Num Unknown)) (some_inj 0 r h))
+        by false true eb ef h = rw (eb, ef) (ap (λ (j : ℕ). with_register k j (Num Unknown)) (some_inj i.src r h))
+        by false false eb ef h = absurd (cc)
+
+    kinds_kept : (node : ℕ) (is_ref edge : Bool) → taken_by i ≡ None → changed node is_ref edge k (access.taking i) ≡ k
+    kinds_kept node is_ref edge to = by (compares i) (fetches (code_of i)) refl refl to
+      where
+        by : (b f : Bool) → compares i ≡ b → fetches (code_of i) ≡ f → (if b then Some 0 else (if f then Some i.src else None)) ≡ None → changed node is_ref edge k (access.taking i) ≡ k
+        by true f eb ef h = absurd (cc)
+        by false true eb ef h = absurd (cc)
+        by false false eb ef h = rw (eb, ef) refl

@@ -2,6 +2,8 @@ mod Joining
 mod Slots
 mod Regions
 mod Adding
+mod Atomics
+mod Changed
 mod OneSite
 mod Answered
 mod Allowed

@@ -1,3 +1,4 @@
 pub mod Words
 pub mod Sited
 pub mod Siting
+pub mod Changing

@@ -32,8 +32,8 @@ use std::alloc::AllocError;
 use xdp_maps::decl::MapDecl;
 use xdp_state::memory::{aligned, bytes_in};
 
-// Where an access begins in a value.
-fn place(decls: &[MapDecl], map: u32, o: u32, offset: i16, size: Size) -> u32
+/// Where an access begins in a value.
+pub(crate) fn place(decls: &[MapDecl], map: u32, o: u32, offset: i16, size: Size) -> u32
     requires { (q : ℕ) → kind.value_bytes decls.now q ≤ 64 }
     ensures { (a : ℕ) → machine.aligned (pos o +ℤ offset) (bytes_in size) (kind.value_bytes decls.now map) ≡ Some a → result ≡ a }
 {
@@ -44,8 +44,8 @@ fn place(decls: &[MapDecl], map: u32, o: u32, offset: i16, size: Size) -> u32
     }
 }
 
-// The site of an access.
-fn push_access(
+/// The site of an access.
+pub(crate) fn push_access(
     sites: &mut Vec<Site>,
     here: Here,
     map: u32,
@@ -68,8 +68,8 @@ fn push_access(
     Ok(())
 }
 
-// What an access answers, of so many bits.
-fn access_answer(
+/// What an access answers, of so many bits.
+pub(crate) fn access_answer(
     cells: &mut Vec<Cell>,
     sites: &mut Vec<Site>,
     here: Here,

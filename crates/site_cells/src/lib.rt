@@ -5,6 +5,7 @@
 #![tactic(auto)]
 
 pub mod access;
+pub mod atomic;
 pub mod change;
 mod declared;
 pub mod here;
