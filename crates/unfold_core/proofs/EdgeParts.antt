@@ -40,17 +40,17 @@ leaving_parts p ls number at es e = by_insn (insn_at p.insns at.node.place) refl
     by_insn None here f = let bad : Err why.Jump ≡ Ok es = f in absurd (cc)
     by_insn (Some i) here f = by_test i here (verdict (effect_of p.decls at.kinds i)) refl f
 
-turn_parts : (a b : Result (List Point) Why) (es : List Point) → in_turn a b ≡ Ok es → (xs : List Point) × (ys : List Point) × (a ≡ Ok xs) × (b ≡ Ok ys) × (es ≡ xs ++ ys)
+pub turn_parts : (a b : Result (List Point) Why) (es : List Point) → in_turn a b ≡ Ok es → (xs : List Point) × (ys : List Point) × (a ≡ Ok xs) × (b ≡ Ok ys) × (es ≡ xs ++ ys)
 turn_parts (Ok xs) (Ok ys) es h = let there : Ok (xs ++ ys) ≡ Ok es = h in let same : xs ++ ys ≡ es = cc in (xs, ys, refl, refl, sym same)
 turn_parts (Ok xs) (Err w) es h = let bad : Err w ≡ Ok es = h in absurd (cc)
 turn_parts (Err w) r es h = let bad : Err w ≡ Ok es = h in absurd (cc)
 
-present_some : (b : Bool) (e : Result Point Why) (xs : List Point) → b ≡ true → if_present b e ≡ Ok xs → (q : Point) × (e ≡ Ok q) × (xs ≡ q ∷ [])
+pub present_some : (b : Bool) (e : Result Point Why) (xs : List Point) → b ≡ true → if_present b e ≡ Ok xs → (q : Point) × (e ≡ Ok q) × (xs ≡ q ∷ [])
 present_some true (Ok q) xs t h = let there : Ok (q ∷ []) ≡ Ok xs = h in let same : q ∷ [] ≡ xs = cc in (q, refl, sym same)
 present_some true (Err w) xs t h = let bad : Err w ≡ Ok xs = h in absurd (cc)
 present_some false e xs t h = let bad : false ≡ true = t in absurd (cc)
 
-present_none : (b : Bool) (e : Result Point Why) (xs : List Point) → b ≡ false → if_present b e ≡ Ok xs → xs ≡ []
+pub present_none : (b : Bool) (e : Result Point Why) (xs : List Point) → b ≡ false → if_present b e ≡ Ok xs → xs ≡ []
 present_none true e xs t h = let bad : true ≡ false = t in absurd (cc)
 present_none false e xs t h = let there : Ok [] ≡ Ok xs = h in let same : [] ≡ xs = cc in sym same
 
@@ -100,7 +100,7 @@ jump_there p ls g es k at i e goes =
 
 -- ---- what an edge leads to
 
-reached_place : (ls : List Loop) (n m : GraphNode) (to : ℕ) → reached ls n to ≡ Some m → m.place ≡ to
+pub reached_place : (ls : List Loop) (n m : GraphNode) (to : ℕ) → reached ls n to ≡ Some m → m.place ≡ to
 reached_place ls n m to e = by_test (list_all fits (next_copies ls n.place to n.copies)) e
   where
     by_test : (b : Bool) → (if b then Some (record { place = to; copies = next_copies ls n.place to n.copies }) else None) ≡ Some m → m.place ≡ to

@@ -24,7 +24,7 @@ use Rattle.unfold_core.specs.Edges.{goes_next, goes_jump, at_copy, edge_to, if_p
 use Rattle.unfold_core.specs.EdgeLaws.{LeadsUp, LeavingGoesUp}
 use Rattle.unfold_core.proofs.NodeLaws.{edges_reach_nodes, edges_go_up}
 
-edge_reaches : (insns : List Insn) (ls : List Loop) (n : GraphNode) (k : Kinds) (o : Option ℕ) (p : Point) → edge_to insns ls n k o ≡ Ok p → (to : ℕ) × (o ≡ Some to) × (reached ls n to ≡ Some p.node)
+pub edge_reaches : (insns : List Insn) (ls : List Loop) (n : GraphNode) (k : Kinds) (o : Option ℕ) (p : Point) → edge_to insns ls n k o ≡ Ok p → (to : ℕ) × (o ≡ Some to) × (reached ls n to ≡ Some p.node)
 edge_reaches insns ls n k None p e = let bad : Err why.Jump ≡ Ok p = e in absurd (cc)
 edge_reaches insns ls n k (Some to) p e = by_begin (begins insns to) e
   where

@@ -18,3 +18,5 @@ pub mod OneGraph
 pub mod LinkLaws
 pub mod OneOutcomeLaws
 pub mod JoinedLaws
+pub mod Linked
+pub mod KnownOn

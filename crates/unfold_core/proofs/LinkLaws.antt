@@ -32,11 +32,17 @@ in_at (e ∷ es) (suc k) d below = inr (in_at es k d (omega arith))
 
 -- ---- each edge leads on
 
-ends_inside : (p : XdpProgram) (ls : List Loop) (g : List Point) (e : Point) → AreLoops p.insns ls → IsGraph p ls g → In e (leading p ls g) → IsNode ls e.node → number_of ls e.node g < length g
-ends_inside p ls g e loops h among s =
+-- the end of an edge is a node of the graph, at its number
+pub end_at : (p : XdpProgram) (ls : List Loop) (g : List Point) (e : Point) → AreLoops p.insns ls → IsGraph p ls g → In e (leading p ls g) → IsNode ls e.node
+    → (number_of ls e.node g < length g) × ((d : Point) → (get_or g (number_of ls e.node g) d).node ≡ e.node)
+end_at p ls g e loops h among s =
     let o = nodes_are_ordered ls loops.nested in
     let has = arriving_has ls e.node (λ k. Unit {0}) (λ k j x. tt) (leading p ls g) e None among (same_itself ls e.node o s) tt in
-    (found_at ls g e.node has.0 o (fine_of ls g h.ordered.nodes h.ordered.ascending) s (h.known e.node s ∙ has.1)).0
+    let there = found_at ls g e.node has.0 o (fine_of ls g h.ordered.nodes h.ordered.ascending) s (h.known e.node s ∙ has.1) in
+    (there.0, λ d. (there.1 d).0)
+
+ends_inside : (p : XdpProgram) (ls : List Loop) (g : List Point) (e : Point) → AreLoops p.insns ls → IsGraph p ls g → In e (leading p ls g) → IsNode ls e.node → number_of ls e.node g < length g
+ends_inside p ls g e loops h among s = (end_at p ls g e loops h among s).0
 
 numbered_all : (P : Edge → Type 0) (ls : List Loop) (g : List Point) (from : ℕ) (taken : Bool) (es : List Point) → All (λ e. (t : Bool) → P (edge from t (number_of ls e.node g))) es → All P (numbered ls g from taken es)
 numbered_all P ls g from taken [] h = All-nil P
@@ -44,7 +50,7 @@ numbered_all P ls g from taken (e ∷ es) h =
     All-cons P (edge from taken (number_of ls e.node g)) (numbered ls g from true es) (All-head (λ x. (t : Bool) → P (edge from t (number_of ls x.node g))) e es h taken)
     (numbered_all P ls g from true es (All-tail (λ x. (t : Bool) → P (edge from t (number_of ls x.node g))) e es h))
 
-links_all : (P : Edge → Type 0) (p : XdpProgram) (ls : List Loop) (g : List Point) (j : ℕ) (ns : List Point) (d : Point) → ((k : ℕ) → k < length ns → All P (numbered_at p ls g (j + k) (get_or ns k d))) → All P (links p ls g j ns)
+pub links_all : (P : Edge → Type 0) (p : XdpProgram) (ls : List Loop) (g : List Point) (j : ℕ) (ns : List Point) (d : Point) → ((k : ℕ) → k < length ns → All P (numbered_at p ls g (j + k) (get_or ns k d))) → All P (links p ls g j ns)
 links_all P p ls g j [] d h = All-nil P
 links_all P p ls g j (n ∷ ns) d h =
     let number : j + 0 ≡ j = omega arith in
@@ -83,7 +89,7 @@ in_parts e [] ys h = inr h
 in_parts e (x ∷ xs) ys (inl h) = inl (inl h)
 in_parts e (x ∷ xs) ys (inr h) = elim (in_parts e xs ys h) [ inl a ↦ inl (inr a) | inr b ↦ inr b ]
 
-edge_source : (p : XdpProgram) (ls : List Loop) (j : ℕ) (g : List Point) (d e : Point) → In e (edges_from p ls j g) → (k : ℕ) × (k < length g) × In e (ends (leaving p ls (j + k) (get_or g k d)))
+pub edge_source : (p : XdpProgram) (ls : List Loop) (j : ℕ) (g : List Point) (d e : Point) → In e (edges_from p ls j g) → (k : ℕ) × (k < length g) × In e (ends (leaving p ls (j + k) (get_or g k d)))
 edge_source p ls j [] d e h = absurd h
 edge_source p ls j (n ∷ g) d e h = by_part (in_parts e (ends (leaving p ls j n)) (edges_from p ls (j + 1) g) h) (edge_source p ls (j + 1) g d e)
   where

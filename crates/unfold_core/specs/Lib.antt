@@ -11,4 +11,5 @@ pub mod Pending
 pub mod Unfolding
 pub mod RunLaws
 pub mod GraphLaws
+pub mod LinkLaws
 pub mod Acceptance

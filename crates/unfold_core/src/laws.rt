@@ -3,6 +3,7 @@
 ghost use Rattle.unfold_core.specs.Laws.{NodesAreOrdered, StartIsNode, EdgesReachNodes, EdgesGoUp};
 ghost use Rattle.unfold_core.specs.EdgeLaws.{LeavingGoesUp};
 ghost use Rattle.unfold_core.specs.GraphLaws.{HasOneGraph, HasOneRefusal, HasNotBoth, EdgesLeadOn, NodesAreReached, KindsAreJoined};
+ghost use Rattle.unfold_core.specs.LinkLaws.{NodesHaveLinks, LinksAreJoined, StartIsFirst};
 ghost use Rattle.unfold_core.specs.RunLaws.{RunsAreSound};
 ghost use Rattle.xdp_machine.specs.Program.{XdpProgram};
 ghost use Rattle.unfold_core.specs.Acceptance.{HasOneOutcome};
@@ -60,6 +61,22 @@ pub fn nodes_are_reached()
 /// What is known at a node is what is known on the edges that lead there, joined.
 pub fn kinds_are_joined()
     ensures { KindsAreJoined }
+{}
+
+/// The edges of a graph are the present edges of its nodes: each leads to where the machine goes on; one of each side leaves a node, and two
+/// to one place lead to one node.
+pub fn nodes_have_links()
+    ensures { NodesHaveLinks }
+{}
+
+/// What is known at a node is the join of what is known on the edges to it, and at the first node of what a run begins with.
+pub fn links_are_joined()
+    ensures { LinksAreJoined }
+{}
+
+/// A graph has a first node, where runs begin.
+pub fn start_is_first()
+    ensures { StartIsFirst }
 {}
 
 /// Every packet, over all maps of the declarations of a program that unfolds, has a run that follows the graph: a path of present edges
