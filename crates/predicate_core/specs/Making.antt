@@ -1,5 +1,5 @@
 -- What has been made of a program once some of its nodes are done, from the first on.
-use Rattle.std.specs.Prelude.{ℕ, ◌≡◌, ◌+◌, ◌<◌, ◌≤◌, true, Some, List, ◌++◌, length, get_or, replicate, take, All, Contains}
+use Rattle.std.specs.Prelude.{ℕ, ◌≡◌, ◌+◌, ◌<◌, ◌≤◌, true, Some, List, [], ◌++◌, length, get_or, replicate, take, All, Contains}
 use Rattle.std.specs.List.{AllPairs}
 use Rattle.xdp_maps.specs.State.{MapState, IsSound}
 use Rattle.xdp_machine.specs.State.{Machine, PacketIn}
@@ -8,8 +8,8 @@ use Rattle.xdp_machine.specs.Touched as machine
 use Rattle.cell_core.specs.declared.program.Node.{Node}
 use Rattle.cell_core.specs.declared.program.FrameByte.{FrameByte}
 use Rattle.cell_core.specs.Cells.{CellView, IsRun, cell_at, site_in, bits_from, bit, on}
-use Rattle.cell_core.specs.Sites.{SiteView, site_at, after, read_on, with_bytes}
-use Rattle.cell_core.specs.Formed.{AreFormed, IsBelow}
+use Rattle.cell_core.specs.Sites.{SiteView, ProgramView, site_at, after, read_on, with_bytes}
+use Rattle.cell_core.specs.Formed.{AreFormed, AreSited, IsBelow}
 use Rattle.operator_cells.specs.Making.{Grows}
 use Rattle.held_cells.specs.declared.held.Held.{Held}
 use Rattle.held_cells.specs.declared.way.Way.{Way}
@@ -28,6 +28,10 @@ pub record Making : Type 0 where
   pub ways : List Way
   pub exits : List Exit
   pub nodes : List Node
+
+-- as a program, whose answer is not there yet
+abbrev pub made_alone : Making → ProgramView
+made_alone t = record { cells = t.cells; nodes = t.nodes; sites = t.sites; verdict = 0; target = 0; frame = [] }
 
 -- what stands for what is held at a node that is not done
 abbrev pub no_held : Held
@@ -79,6 +83,7 @@ pub record IsSoFar (g : GraphView) (k : ℕ) (hs : List Held) (t : Making) : Typ
   pub held_count : length hs ≡ k
   pub inside : (j : ℕ) → j < k → AreInside g.decls (length t.cells) t.pointers (held_in hs j) (node_at g.nodes j).kinds
   pub laid : AreLaid g k t
+  pub sited : AreSited g.decls (made_alone t)
   pub right : AreRight g k hs t
 
 -- Before the step of node k: more cells and pointers, among them its guard and what is held there, right wherever things are good before the node.
@@ -88,10 +93,6 @@ pub record Arrives (g : GraphView) (k : ℕ) (t : Making) (cells : List CellView
   pub own : (length t.cells ≤ guard) × (guard < length cells)
   pub inside : AreInside g.decls (length cells) pointers h (node_at g.nodes k).kinds
   pub here : (packet : PacketIn) (v : ℕ → ℕ) (s : Stage) → IsRun packet cells v → IsGood g packet v t.pointers k t.ways t.exits s → IsHere g packet v pointers k guard h s
-
--- the cells that read these sites stay
-abbrev pub ReadsStay : List CellView → List CellView → List SiteView → Type 0
-ReadsStay old new sites = (c j : ℕ) → c < length old → j < length sites → site_in (cell_at old c).op ≡ Some j → cell_at new c ≡ cell_at old c
 
 -- More cells behind all nodes, and those of the answer: where the ends that are on hold what a packet leaves, so do these.
 pub record Answers (old new : List CellView) (exits : List Exit) (verdict target : ℕ) (frame : List FrameByte) : Type 0 where

@@ -1,6 +1,6 @@
 //! What holds of cells that are made node by node. Each function's contract is a law; it computes nothing.
 
-ghost use Rattle.predicate_core.specs.Laws.{NodesFollow, WholesCompute};
+ghost use Rattle.predicate_core.specs.Laws.{NodesFollow, ArrivalsStay, StepsStay, WholesCompute};
 ghost use Rattle.predicate_core.specs.Opening.{OpensFollow};
 ghost use Rattle.predicate_core.specs.Feeding.{SoundGraphsFeed};
 
@@ -17,7 +17,18 @@ pub fn nodes_follow()
     ensures { NodesFollow }
 {}
 
-/// Once all nodes are done, and the cells of the answer are there, the cells compute the runs of the program, for every prefix of its nodes.
+/// Cells that read no site may be added where edges have been joined.
+pub fn arrivals_stay()
+    ensures { ArrivalsStay }
+{}
+
+/// The same behind the code of a node.
+pub fn steps_stay()
+    ensures { StepsStay }
+{}
+
+/// Once all nodes are done, and the cells of the answer are there, the law of cells holds of them: they compute the runs of the program, for
+/// every prefix of its nodes.
 pub fn wholes_compute()
     ensures { WholesCompute }
 {}

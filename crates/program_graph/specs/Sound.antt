@@ -1,26 +1,14 @@
 -- Graphs in which the cells of nodes can be made one after another.
-use Rattle.std.specs.Prelude.{ℕ, ◌≡◌, ◌<◌, ◌≤◌, ◌==◌, Option, Some, None, length, All, Contains}
-use Rattle.std.specs.List.{list_any}
-use Rattle.bpf_isa.specs.declared.instruction.Insn.{Insn}
-use Rattle.bpf_isa.specs.Text.{insn_at}
+use Rattle.std.specs.Prelude.{ℕ, ◌≡◌, ◌<◌, ◌≤◌, length, All, Contains}
 use Rattle.xdp_machine.specs.Program.{XdpProgram, IsProgram}
-use Rattle.kind_core.specs.declared.kind.Kinds.{Kinds}
 use Rattle.kind_core.specs.Kinds as kinds
 use Rattle.kind_core.specs.Kinds.{value_bytes}
-use Rattle.kind_core.specs.Edges.{transferred}
 use Rattle.unfold_core.specs.declared.unfolding.Unfolded.{Unfolded}
 use Rattle.unfold_core.specs.Unfolding.{IsUnfolded}
 use Rattle.held_cells.specs.Paths.{EdgeView, GraphView, node_at}
 use Rattle.edge_cells.specs.Widening.{AreWider, AreFilled}
+use Rattle.node_cells.specs.Feeding.{known_on}
 use Rattle.program_graph.specs.Graphs.{graph_of}
-
--- what is known on an edge, behind the instruction of the node that it leaves
-abbrev pub known_behind : GraphView → EdgeView → Option Insn → Kinds
-known_behind g x (Some i) = transferred g.decls (node_at g.nodes x.from).kinds i x.from (list_any (λ r. r == (node_at g.nodes x.from).place) g.code.refs) x.taken
-known_behind g x None = (node_at g.nodes x.from).kinds
-
-abbrev pub known_on : GraphView → EdgeView → Kinds
-known_on g x = known_behind g x (insn_at g.code.insns (node_at g.nodes x.from).place)
 
 -- Edges lead on, to each node but the first, where a run begins; what is known at a node is known on each edge to it, and no slot is unset there.
 pub record IsSoundGraph (g : GraphView) : Type 0 where
