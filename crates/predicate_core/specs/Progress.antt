@@ -1,18 +1,18 @@
 -- Programs in memory, node by node.
-use Rattle.std.specs.Prelude.{ℕ, ◌≡◌, ◌<◌, List, [], length, slice_index, get_or, map as map_list, All, Contains}
+use Rattle.std.specs.Prelude.{ℕ, ◌≡◌, ◌<◌, List, [], length, take, slice_index, get_or, map as map_list, All, Contains}
 use Rattle.cell_core.specs.Cells.{CellView}
 use Rattle.cell_core.specs.Sites.{SiteView}
-use Rattle.cell_core.specs.declared.cell.Cells.{Cells}
 use Rattle.operator_cells.specs.Making.{seen, Grows}
 use Rattle.held_cells.specs.declared.held.Held.{Held}
 use Rattle.held_cells.specs.declared.way.Way.{Way}
 use Rattle.held_cells.specs.Paths.{GraphView}
 use Rattle.held_cells.specs.Held.{pointed}
+use Rattle.edge_cells.specs.declared.joining.Here.{Here}
 use Rattle.site_cells.specs.Sited.{sited}
 use Rattle.predicate_core.specs.declared.making.Progress.{Progress}
-use Rattle.predicate_core.specs.declared.making.Numbers.{Numbers}
-use Rattle.predicate_core.specs.Making.{Making, IsSoFar}
+use Rattle.predicate_core.specs.Making.{Making, IsSoFar, Arrives}
 use Rattle.predicate_core.specs.Feeding.{AreFed}
+use Rattle.predicate_core.specs.Opening.{HaveBytes}
 
 -- what has been made, without the places in memory where it lies
 abbrev pub making_of : Progress → Making
@@ -50,4 +50,24 @@ pub record IsReady (g : GraphView) (k : ℕ) (p : Progress) : Type 0 where
   pub held : List Held
   pub so_far : IsSoFar g k held (making_of p)
   pub fed : AreFed g k p.made.ways.items
+  pub bytes : HaveBytes (seen p.made.cells.items) 256 p.window
   pub kept : AreKept (length g.nodes) (length g.decls) (length (seen p.made.cells.items)) (targets p.made.ways.items) (map_list (λ x. x.items) p.entries.items) (map_list (λ x. x.items) p.pending.items)
+
+-- A node whose turn it is: its guard and what is held there, and for each map a cell that is there; only cells and pointers are added.
+pub record Comes (g : GraphView) (k : ℕ) (old new : Progress) (here : Here) (pending : List ℕ) : Type 0 where
+  pub arrives : Arrives g k (making_of old) (seen new.made.cells.items) (pointed new.made.pointers.items) here.guard here.held
+  pub waiting : AreWaiting (length g.decls) (length (seen new.made.cells.items)) pending
+  pub sites : new.made.sites ≡ old.made.sites
+  pub ways : new.made.ways ≡ old.made.ways
+  pub exits : new.made.exits ≡ old.made.exits
+  pub nodes : new.nodes ≡ old.nodes
+  pub entries : new.entries ≡ old.entries
+  pub beside : new.pending ≡ old.pending
+  pub window : new.window ≡ old.window
+
+-- The edges that had nothing beside them lead to their nodes too, and have these cells beside them.
+pub record Entered (tos : List ℕ) (entries entries2 pending pending2 : List (List ℕ)) (row : List ℕ) : Type 0 where
+  pub size : length entries2 ≡ length entries
+  pub entered : (k : ℕ) → k < length entries → AreNumbers k (take (length pending) tos) (get_or entries k []) → AreNumbers k tos (get_or entries2 k [])
+  pub beside : length pending2 ≡ length tos
+  pub waiting : (P : List ℕ → Type 0) → P row → All P pending → All P pending2

@@ -1,5 +1,13 @@
 //! Programs as cells.
 
+ghost use Rattle.std.specs.Prelude.{ℕ, ◌≡◌, ◌<◌, ◌≤◌, true, is_some, Some, None, length, slice_index_or, IfOk, OnOk};
+ghost use Rattle.cell_core.specs.View.{program_of};
+ghost use Rattle.operator_cells.specs.Making.{seen, Grows};
+ghost use Rattle.held_cells.specs.Law.{IsLaw};
+ghost use Rattle.unfold_core.specs.Unfolding.{IsUnfolded};
+ghost use Rattle.program_graph.specs.Graphs.{graph_of};
+ghost use Rattle.predicate_core.specs.Progress.{AreWaiting, IsReady};
+
 use crate::closing::close;
 use crate::making::{Numbers, Progress, make_node};
 use crate::opening::open;
@@ -14,15 +22,21 @@ use unfold_core::{Unfolded, places};
 use xdp_object::Program;
 
 // The instruction that begins at a place.
-fn insn_at(units: &[Option<Insn>], place: u32) -> Insn {
-    match units[place as usize] {
-        Some(insn) => insn,
-        None => unreachable!(),
+fn insn_at(units: &[Option<Insn>], place: u32) -> Insn
+    requires { is_some (slice_index_or units.now place None) ≡ true }
+    ensures { slice_index_or units.now place None ≡ Some result }
+{
+    if let Some(Some(insn)) = units.get(place as usize) {
+        return *insn;
     }
+    unreachable!()
 }
 
 // For each map a cell of no writes.
-fn unwritten(cells: &mut Vec<Cell>, maps: usize) -> Result<Cells, AllocError> {
+fn unwritten(cells: &mut Vec<Cell>, maps: usize) -> Result<Cells, AllocError>
+    ensures grows { IfOk result (λ row. Grows (seen cells.old.items) (seen cells.new.items)) }
+    ensures waiting { IfOk result (λ row. AreWaiting maps (length (seen cells.new.items)) row.items) }
+{
     let mut all = Cells::new(*cells.allocator());
     for _ in 0..maps {
         let c = pending(cells, &[])?;
@@ -31,16 +45,25 @@ fn unwritten(cells: &mut Vec<Cell>, maps: usize) -> Result<Cells, AllocError> {
     Ok(all)
 }
 
-// The edge to the first of so many nodes, and nothing more.
-fn begin(alloc: Global, maps: usize, nodes: usize) -> Result<Progress, AllocError> {
-    let mut cells = Vec::new(alloc);
-    let start = open(&mut cells)?;
-    let none = unwritten(&mut cells, maps)?;
+// Edge 0 leads to the first of so many nodes.
+fn entries(alloc: Global, nodes: usize) -> Result<Vec<Numbers>, AllocError> {
     let mut entries = Vec::new(alloc);
     entries.push(Numbers::from_slice(alloc, &[0])?)?;
     for _ in 1..nodes {
         entries.push(Numbers::new(alloc))?;
     }
+    Ok(entries)
+}
+
+// The edge to the first node, and nothing more.
+fn begin(alloc: Global, program: &Program, unfolded: &Unfolded) -> Result<Progress, AllocError>
+    requires { IsUnfolded program.now unfolded.now }
+    ensures { IfOk result (λ progress. IsReady (graph_of program.now unfolded.now) 0 progress) }
+{
+    let mut cells = Vec::new(alloc);
+    let start = open(&mut cells)?;
+    let none = unwritten(&mut cells, program.decls().len())?;
+    let window = start.held.window;
     let mut ways = Vec::new(alloc);
     ways.push(start)?;
     let mut pending = Vec::new(alloc);
@@ -54,8 +77,9 @@ fn begin(alloc: Global, maps: usize, nodes: usize) -> Result<Progress, AllocErro
             exits: Vec::new(alloc),
         },
         nodes: Vec::new(alloc),
-        entries,
+        entries: entries(alloc, unfolded.nodes.len())?,
         pending,
+        window,
     })
 }
 
@@ -65,37 +89,36 @@ fn make_nodes(
     program: &Program,
     unfolded: &Unfolded,
     progress: &mut Progress,
-) -> Result<(), AllocError> {
+) -> Result<(), AllocError>
+    requires unfolded { IsUnfolded program.now unfolded.now }
+    requires ready { IsReady (graph_of program.now unfolded.now) 0 progress.old }
+    ensures { OnOk result (IsReady (graph_of program.now unfolded.now) (length unfolded.now.nodes.items) progress.new) }
+{
     let units = places(alloc, program)?;
     let ends = ends(alloc, program, unfolded)?;
     for k in 0..unfolded.nodes.len() {
-        let at = &unfolded.nodes[k];
-        let place = at.node.place();
-        let insn = insn_at(&units, place);
-        let is_ref = program.refs().contains(&place);
-        make_node(
-            progress,
-            program.decls(),
-            k as u32,
-            at,
-            &insn,
-            is_ref,
-            ends[k],
-        )?;
+        let insn = insn_at(&units, unfolded.nodes[k].node.place());
+        make_node(progress, program, unfolded, &insn, ends[k], k as u32)?;
     }
     Ok(())
 }
 
-/// The cells of a program that unfolds.
+/// The cells of a program that unfolds: the law of cells holds of them, for its graph.
 pub fn to_cells(
     alloc: Global,
     program: &Program,
     unfolded: &Unfolded,
-) -> Result<CellProgram, AllocError> {
-    let mut progress = begin(alloc, program.decls().len(), unfolded.nodes.len())?;
-    let window = progress.made.ways[0].held.window;
+) -> Result<CellProgram, AllocError>
+    requires { IsUnfolded program.now unfolded.now }
+    ensures { IfOk result (λ cells. IsLaw (graph_of program.now unfolded.now) (program_of cells)) }
+{
+    let mut progress = begin(alloc, program, unfolded)?;
     make_nodes(alloc, program, unfolded, &mut progress)?;
-    let answer = close(&mut progress.made.cells, &progress.made.exits, &window)?;
+    let answer = close(
+        &mut progress.made.cells,
+        &progress.made.exits,
+        &progress.window,
+    )?;
     Ok(CellProgram {
         cells: progress.made.cells,
         nodes: progress.nodes,
