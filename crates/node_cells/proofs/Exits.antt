@@ -1,5 +1,5 @@
 -- Nodes where the run ends.
-use Rattle.std.proofs.Common.{◌≡◌, ℕ, ◌+◌, ◌<◌, Option, Ok, Err, List, [], ◌∷◌, length, refl, sym, ◌∙◌, ap, subst, arith}
+use Rattle.std.proofs.Common.{◌≡◌, ℕ, ◌+◌, ◌<◌, Option, Ok, Err, List, [], ◌∷◌, ◌++◌, length, refl, sym, ◌∙◌, ap, subst, arith}
 use Rattle.std.specs.Prelude.{IfSome, slice_index}
 use Rattle.std.proofs.lemmas.List.{append-nil}
 use Rattle.std.proofs.lemmas.List.Elements.{All-nil, All-cons}
@@ -27,13 +27,13 @@ use Rattle.kind_core.specs.Effects.{effect_of, effect_as, verdict}
 use Rattle.kind_core.specs.Soundness.{StepsAreSound, GoesOn}
 use Rattle.cell_core.specs.Cells.{CellView, on}
 use Rattle.cell_core.specs.Sites.{SiteView, after}
-use Rattle.operator_cells.proofs.MakingLaws.{grown_none}
+use Rattle.operator_cells.proofs.MakingLaws.{grown_none, reads_none}
 use Rattle.held_cells.specs.declared.held.Held.{Held}
 use Rattle.held_cells.specs.declared.way.Exit.{Exit as End}
 use Rattle.held_cells.specs.Paths.{GraphView, Stage, At, Over, Nowhere, node_at, stepped, maps_in}
 use Rattle.held_cells.specs.Held.{PointerView, Counts, AreInside, IsThere}
 use Rattle.held_cells.specs.Carrying.{IsKnown}
-use Rattle.held_cells.specs.Steps.{Closes, IsGood}
+use Rattle.held_cells.specs.Steps.{ReadsOwn, Closes, IsGood}
 use Rattle.edge_cells.specs.Meeting as kind
 use Rattle.edge_cells.specs.Leaving.{EndsAreLeft}
 use Rattle.edge_cells.proofs.ExtendingLaws.{extends_none}
@@ -87,9 +87,11 @@ pub record IsEndOf (x : End) (guard : ℕ) (ks : Kinds) (h : Held) : Type 0 wher
 pub end_added : StepsAreSound → EndsAreLeft → (g : GraphView) (i : Insn) (k guard : ℕ) (ks : Kinds) (h : Held) (cells : List CellView) (ps : List PointerView) (sites : List SiteView) (x : End)
     → i.op ≡ Exit → IsNode g k i ks → IsEndOf x guard ks h → guard < length cells → AreInside g.decls (length cells) ps h ks → IsAdded g i k guard ks h cells cells ps ps sites [] [] (x ∷ [])
 end_added sound left g i k guard ks h cells ps sites x op is has there inside = record {
-  grows = grown_none;
+  grows = reads_none (ReadsOwn sites (sites ++ [])) cells cells grown_none;
   extends = extends_none ps;
   own = All-nil _;
+  fits = All-nil _;
+  below = All-nil _;
   made = record {
     each_way = All-nil _;
     each_exit = All-cons (ExitMade cells) x [] (

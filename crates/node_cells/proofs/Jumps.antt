@@ -26,13 +26,13 @@ use Rattle.kind_core.specs.Soundness.{IsPresent, ConditionsAreSound, target}
 use Rattle.cell_core.specs.Cells.{CellView, IsRun, on, bit}
 use Rattle.cell_core.specs.Sites.{SiteView, after}
 use Rattle.operator_cells.specs.Making.{Grows}
-use Rattle.operator_cells.proofs.MakingLaws.{grown, grown_none}
+use Rattle.operator_cells.proofs.MakingLaws.{grown, grown_none, reads_none}
 use Rattle.held_cells.specs.declared.held.Held.{Held}
 use Rattle.held_cells.specs.declared.way.Way.{Way}
 use Rattle.held_cells.specs.Paths.{GraphView, At, node_at, stepped, maps_in}
 use Rattle.held_cells.specs.Held.{PointerView, AreInside}
 use Rattle.held_cells.specs.Carrying.{IsKnown}
-use Rattle.held_cells.specs.Steps.{IsGood, DoAs}
+use Rattle.held_cells.specs.Steps.{ReadsOwn, IsGood, DoAs}
 use Rattle.edge_cells.specs.Leaving.{IsBranch, TestsJump, JumpsAreTested, EdgesAreInside, EdgesAreKnown, SingleEdgesAreKnown}
 use Rattle.edge_cells.proofs.ExtendingLaws.{extends_none, inside_later}
 use Rattle.node_cells.specs.Ends.{IsNode, IsEdge}
@@ -121,9 +121,11 @@ way_known g packet v i k guard kinds h old new ps condition taken to place m e b
 pub one_added : (g : GraphView) (i : Insn) (k guard : ℕ) (kinds : Kinds) (h : Held) (old new : List CellView) (ps : List PointerView) (sites : List SiteView) (taken : Bool) (to : ℕ) (e : Way)
     → HasOne g i k guard kinds h old new ps taken to e → IsAdded g i k guard kinds h old new ps ps sites [] (e ∷ []) []
 one_added g i k guard kinds h old new ps sites taken to e has = record {
-  grows = has.branch.branches.grows;
+  grows = reads_none (ReadsOwn sites (sites ++ [])) old new has.branch.branches.grows;
   extends = extends_none ps;
   own = All-nil _;
+  fits = All-nil _;
+  below = All-nil _;
   made = record {
     each_way = All-cons (WayMade g new ps) e [] (way_inside g i k guard kinds h old old new new ps None taken to e has.branch grown_none grown_none has.inside) (All-nil (WayMade g new ps));
     each_exit = All-nil _;
@@ -162,9 +164,11 @@ pub record HasBoth (g : GraphView) (i : Insn) (k guard : ℕ) (kinds : Kinds) (h
 pub both_added : Laws → (g : GraphView) (i : Insn) (k guard : ℕ) (kinds : Kinds) (h : Held) (old mid mid2 new : List CellView) (ps : List PointerView) (sites : List SiteView) (w : Width) (code : JumpCode) (s : Src) (c next jump : ℕ) (e f : Way)
     → IsNode g k i kinds → HasBoth g i k guard kinds h old mid mid2 new ps w code s c next jump e f → IsAdded g i k guard kinds h old new ps ps sites [] (e ∷ f ∷ []) []
 both_added laws g i k guard kinds h old mid mid2 new ps sites w code s c next jump e f is has = record {
-  grows = grown has.tests.grows (grown has.along.branches.grows has.aside.branches.grows);
+  grows = reads_none (ReadsOwn sites (sites ++ [])) old new (grown has.tests.grows (grown has.along.branches.grows has.aside.branches.grows));
   extends = extends_none ps;
   own = All-nil _;
+  fits = All-nil _;
+  below = All-nil _;
   made = record {
     each_way = All-cons (WayMade g new ps) e (f ∷ [])
         (way_inside g i k guard kinds h old mid mid2 new ps (Some c) false next e has.along has.tests.grows has.aside.branches.grows (laws.inside g.decls (length old) ps kinds h i k w code s false has.op has.inside))

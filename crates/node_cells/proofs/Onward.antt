@@ -21,13 +21,14 @@ use Rattle.kind_core.proofs.TransferLaws.{IsSized, transferred_sized, is_jump, t
 use Rattle.cell_core.specs.Cells.{CellView}
 use Rattle.cell_core.specs.Cells.{on as on_bit}
 use Rattle.cell_core.specs.Sites.{SiteView, after}
+use Rattle.operator_cells.specs.Making.{GrowsWith}
 use Rattle.held_cells.specs.declared.held.Held.{Held}
 use Rattle.held_cells.specs.declared.way.Way.{Way}
 use Rattle.held_cells.specs.Paths.{GraphView, At, node_at, stepped, maps_in}
 use Rattle.held_cells.specs.Held.{PointerView, AreHeld}
 use Rattle.held_cells.specs.Carrying.{IsKnown}
 use Rattle.held_cells.specs.Operating.{Operates}
-use Rattle.held_cells.specs.Steps.{AreRead}
+use Rattle.held_cells.specs.Steps.{AreRead, ReadsOwn}
 use Rattle.edge_cells.specs.Widening.{AreFilled}
 use Rattle.node_cells.specs.Ends.{IsNode, IsEdge, is_reference, leads_on}
 use Rattle.node_cells.proofs.Branching.{at_place, step_is, stands_there, good_along, BitOff, BitSmall, GoesTo}
@@ -164,9 +165,11 @@ pub on_added : Laws → (g : GraphView) (i : Insn) (k guard : ℕ) (kinds : Kind
     → IsWay g.decls k kinds i is_ref guard next to e → (o : Operates g.decls i k guard is_ref false kinds h next old new ps qs sites sites2)
     → IsAdded g i k guard kinds h old new ps qs sites o.more (e ∷ []) []
 on_added laws g i k guard kinds is_ref h next old new ps qs sites sites2 to e is sized leads ref edge there fills way o = record {
-  grows = o.grows;
+  grows = subst (λ (xs : List SiteView). GrowsWith (ReadsOwn sites xs) old new) o.sites_are o.grows;
   extends = record { more = o.more_pointers; is = o.pointers_are };
   own = o.own;
+  fits = o.fits;
+  below = o.below;
   made = record {
     each_way = All-cons (WayMade g new qs) e [] (rw (way.bit_is, way.held_is, way.kinds_are) (omega (arith, there, o.grows.longer), o.inside)) (All-nil (WayMade g new qs));
     each_exit = All-nil _;

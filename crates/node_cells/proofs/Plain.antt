@@ -28,6 +28,8 @@ use Rattle.kind_core.specs.Access.{loaded, loaded_plain, loaded_signed, stored}
 use Rattle.kind_core.specs.Calls.{helper_of, called}
 use Rattle.kind_core.specs.Profile.{profiled}
 use Rattle.kind_core.specs.Effects.{effect_of, effect_as, verdict, immediate}
+use Rattle.operator_cells.proofs.MakingLaws.{reads_none}
+use Rattle.held_cells.specs.Steps.{ReadsOwn}
 use Rattle.node_cells.specs.Carrying.{is_entry, is_map_helper, touches_map, CarriesOperate}
 use Rattle.node_cells.proofs.Unmapped.{Stays, IsBase, registers_keep, no_access, no_store, store_keeps, call_stays}
 
@@ -120,12 +122,14 @@ allowed_as decls k i e = behind_test decls k i (profiled i k) e
 
 pub carries_operate : CarriesOperate
 carries_operate decls ps i node guard is_ref taken k h next old new sites plain allowed c = record {
-  grows = c.grows;
+  grows = reads_none (ReadsOwn sites sites) old new c.grows;
   more_pointers = [];
   pointers_are = sym (append-nil ps);
   more = [];
   sites_are = sym (append-nil sites);
   own = All-nil _;
+  fits = All-nil _;
+  below = All-nil _;
   inside = c.inside;
   holds = λ packet maps v m n refs run read on is known at e.
       let stays = stays_as decls known.world refs k m n i i.op known.stands.described plain (allowed_as decls k i allowed) e in

@@ -15,14 +15,15 @@ use Rattle.kind_core.specs.declared.number.Number.TheVariants.{Known, Unknown}
 use Rattle.kind_core.specs.declared.kind.Kinds.{Kinds}
 use Rattle.cell_core.specs.Cells.{CellView, IsRun, bit}
 use Rattle.cell_core.specs.Sites.{SiteView, after}
-use Rattle.operator_cells.specs.Making.{Grows}
+use Rattle.cell_core.specs.Formed.{FitsMap, IsBelow}
+use Rattle.operator_cells.specs.Making.{GrowsWith}
 use Rattle.held_cells.specs.declared.held.Held.{Held}
 use Rattle.held_cells.specs.declared.way.Way.{Way}
 use Rattle.held_cells.specs.declared.way.Exit.{Exit}
 use Rattle.held_cells.specs.Paths.{GraphView, Stage, At, node_at, stepped, maps_in}
 use Rattle.held_cells.specs.Held.{PointerView, AreInside, IsThere}
 use Rattle.held_cells.specs.Carrying.{IsKnown}
-use Rattle.held_cells.specs.Steps.{IsGood, IsHere, AreMade, AreRead, DoAs, Steps}
+use Rattle.held_cells.specs.Steps.{IsGood, IsHere, AreMade, AreRead, ReadsOwn, DoAs, Steps}
 use Rattle.edge_cells.specs.Meeting.{Extends}
 use Rattle.edge_cells.proofs.ExtendingLaws.{inside_later}
 use Rattle.node_cells.specs.Ends.{IsNode}
@@ -40,22 +41,24 @@ abbrev pub ExitMade : List CellView → Exit → Type 0
 ExitMade cells x = (x.guard < length cells) × (x.held.target < length cells) × IsThere (length cells) x.verdict (slice_index x.held.registers 0) × ((i : ℕ) → i < 256 → slice_index x.held.window i < length cells)
 
 -- edges and ends stay, and more are made
-made_more : (g : GraphView) (old new : List CellView) (ps qs : List PointerView) (ways more : List Way) (exits more_exits : List Exit) → Grows old new → Extends ps qs
+made_more : (g : GraphView) (old new : List CellView) (ps qs : List PointerView) (ways more : List Way) (exits more_exits : List Exit) → length old ≤ length new → Extends ps qs
     → AreMade g old ps ways exits → AreMade g new qs more more_exits → AreMade g new qs (ways ++ more) (exits ++ more_exits)
-made_more g old new ps qs ways more exits more_exits grows extends made also = record {
+made_more g old new ps qs ways more exits more_exits longer extends made also = record {
   each_way = All-append (WayMade g new qs) ways more
-      (λ i d l. let w = made.each_way i d l in (omega (arith, w.0, grows.longer), inside_later g.decls (length old) (length new) ps qs _ _ grows.longer extends w.1)) also.each_way;
+      (λ i d l. let w = made.each_way i d l in (omega (arith, w.0, longer), inside_later g.decls (length old) (length new) ps qs _ _ longer extends w.1)) also.each_way;
   each_exit = All-append (ExitMade new) exits more_exits
       (λ i d l. let x = made.each_exit i d l in
-      (omega (arith, x.0, grows.longer), omega (arith, x.1, grows.longer), there_later (length old) (length new) _ _ grows.longer x.2, λ j s. omega (arith, x.3 j s, grows.longer))) also.each_exit;
+      (omega (arith, x.0, longer), omega (arith, x.1, longer), there_later (length old) (length new) _ _ longer x.2, λ j s. omega (arith, x.3 j s, longer))) also.each_exit;
 }
 
 -- What a node adds, and what is asked of it: in every run of the cells the edges and ends are off where the guard is, and where the run stands
 -- at the node they do what the step does.
 pub record IsAdded (g : GraphView) (i : Insn) (k guard : ℕ) (kinds : Kinds) (h : Held) (old new : List CellView) (ps qs : List PointerView) (sites more_sites : List SiteView) (more : List Way) (more_exits : List Exit) : Type 0 where
-  pub grows : Grows old new
+  pub grows : GrowsWith (ReadsOwn sites (sites ++ more_sites)) old new
   pub extends : Extends ps qs
   pub own : All (λ r. (r.node ≡ k) × (r.guard ≡ guard)) more_sites
+  pub fits : All (FitsMap g.decls) more_sites
+  pub below : All (IsBelow (length new)) more_sites
   pub made : AreMade g new qs more more_exits
   pub offs : (packet : PacketIn) (v : ℕ → ℕ) → IsRun packet new v → v guard ≡ 0 → AreOff v more more_exits
   pub goes : (packet : PacketIn) (maps : MapState) (v : ℕ → ℕ) (m : Machine) → IsRun packet new v → AreRead maps new (sites ++ more_sites) v → v guard ≡ 1 → after v maps sites ≡ m.maps
@@ -80,7 +83,9 @@ steps_added g i k guard kinds h old new ps qs sites more_sites ways more exits m
   more = more_sites;
   sites_are = refl;
   own = added.own;
-  made = made_more g old new ps qs ways more exits more_exits added.grows added.extends made added.made;
+  fits = added.fits;
+  below = added.below;
+  made = made_more g old new ps qs ways more exits more_exits added.grows.longer added.extends made added.made;
   step = λ packet maps v s run read maps_are here good.
       good_behind g packet maps v ps qs k guard h old sites more_sites ways more exits more_exits s added.extends made added.own maps_are here
       (record {

@@ -1,5 +1,5 @@
 -- The cells that stand for the writes of a map.
-use Rattle.std.specs.Prelude.{ℕ, ◌≡◌, ◌<◌, ◌≤◌, ◌⊎◌, true, false, Some, List, length, All, Contains}
+use Rattle.std.specs.Prelude.{ℕ, ◌≡◌, ◌<◌, ◌≤◌, ◌⊎◌, true, false, Some, List, ◌∷◌, ◌++◌, length, All, Contains}
 use Rattle.cell_core.specs.declared.operator.Operator.TheVariants.{Pending}
 use Rattle.cell_core.specs.Cells.{CellView, cell_at, site_in}
 use Rattle.cell_core.specs.Sites.{SiteView, site_at, records}
@@ -12,18 +12,16 @@ use Rattle.operator_cells.specs.Joining.{flat}
 abbrev pub waiting_for : List ℕ → CellView
 waiting_for ins = record { op = Pending; ins = ins; width = 0; from = 0 }
 
--- These are there: the cell of the writes before a site, what the site takes, and the cells from one on that read it.
-pub record Needs (cells : List CellView) (site : SiteView) (number first before : ℕ) (ins : List ℕ) : Type 0 where
-  pub there : before < length cells → All (λ i. i < length cells) (taken_by site) → All (λ i. i < length cells) ins
-  pub before : Contains ins before
-  pub taken : All (λ i. Contains ins i) (taken_by site)
-  pub read : (k : ℕ) → first ≤ k → k < length cells → site_in (cell_at cells k).op ≡ Some number → Contains ins k
+-- Among these are the cells from one on that read a site.
+pub record AreReaders (cells : List CellView) (number first : ℕ) (all : List ℕ) : Type 0 where
+  pub there : All (λ k. k < length cells) all
+  pub each : (k : ℕ) → first ≤ k → k < length cells → site_in (cell_at cells k).op ≡ Some number → Contains all k
 
 -- A new cell waits for the writes before a site, for what the site takes, and for the cells from one on that read it.
 pub record WaitsFor (old new : List CellView) (site : SiteView) (number first before c : ℕ) : Type 0 where
-  pub ins : List ℕ
-  pub is : cell_at new c ≡ waiting_for ins
-  pub needs : Needs old site number first before ins
+  pub readers : List ℕ
+  pub read : AreReaders old number first readers
+  pub is : cell_at new c ≡ waiting_for (before ∷ taken_by site ++ readers)
 
 -- The cell of the writes of a map behind a node: the one before it, unless the site of this number, if there is one, may write.
 pub record WaitsBehind (old new : List CellView) (sites : List SiteView) (number first before c : ℕ) : Type 0 where

@@ -1,7 +1,6 @@
 //! The writes of a map that come before an operation, as cells of no bits: rows rest on them, and no value does.
 
-ghost use Rattle.std.specs.Prelude.{ℕ, ◌≡◌, ◌<◌, ◌≤◌, ◌++◌, ◌∷◌, length, Some, IfOk};
-ghost use Rattle.cell_core.specs.Cells.{CellView, cell_at, site_in};
+ghost use Rattle.std.specs.Prelude.{ℕ, ◌≡◌, ◌<◌, ◌≤◌, ◌∷◌, length, IfOk};
 ghost use Rattle.cell_core.specs.Sites.{site_at};
 ghost use Rattle.cell_core.specs.View.{site_of};
 ghost use Rattle.cell_core.specs.Rows.{taken_by};
@@ -9,7 +8,7 @@ ghost use Rattle.cell_core.specs.Formed.{IsBelow};
 ghost use Rattle.operator_cells.specs.Making.{seen};
 ghost use Rattle.operator_cells.specs.Joining.{AreThere};
 ghost use Rattle.site_cells.specs.Sited.{sited};
-ghost use Rattle.step_cells.specs.Waiting.{WaitsBehind, Gathers, Needs};
+ghost use Rattle.step_cells.specs.Waiting.{AreReaders, WaitsBehind, Gathers};
 
 use cell_core::cell::Cell;
 use cell_core::site::Site;
@@ -17,29 +16,35 @@ use operator_cells::cells::pending;
 use operator_cells::joining::{Arm, are_one, flat};
 use std::alloc::{AllocError, Global};
 
-// What the writes of a site come after, behind those that come before it: what it takes, and the cells from one on that read it.
-fn needed(
+// The cells from one on that read a site.
+fn readers(
     alloc: Global,
     cells: &[Cell],
-    site: &Site,
     number: u32,
     first: usize,
-    before: u32,
 ) -> Result<Vec<u32>, AllocError>
-    ensures { IfOk result (λ ins. Needs (seen cells.now) (site_of site.now) number first before ins.items) }
+    ensures { IfOk result (λ all. AreReaders (seen cells.now) number first all.items) }
 {
-    let mut ins = Vec::from_slice(alloc, &[before, site.guard])?;
-    ins.extend_from_slice(&site.key)?;
-    ins.extend_from_slice(&site.operands)?;
+    let mut all = Vec::new(alloc);
     for i in first..cells.len() {
         if cells[i].op.site() == Some(number) {
             let Ok(cell) = u32::try_from(i) else {
                 return Err(AllocError);
             };
-            ins.push(cell)?;
+            all.push(cell)?;
         }
     }
-    Ok(ins)
+    Ok(all)
+}
+
+// The cell of the writes that come before a site, and the cells that it takes.
+fn taken(alloc: Global, site: &Site, before: u32) -> Result<Vec<u32>, AllocError>
+    ensures { IfOk result (λ all. all.items ≡ before ∷ taken_by (site_of site.now)) }
+{
+    let mut all = Vec::from_slice(alloc, &[before, site.guard])?;
+    all.extend_from_slice(&site.key)?;
+    all.extend_from_slice(&site.operands)?;
+    Ok(all)
 }
 
 /// The writes of a map behind a node: where the node has added a site that may write, these and those that came before it, else those alone.
@@ -65,7 +70,9 @@ pub fn pending_behind(
     let Ok(number) = u32::try_from(sites_before) else {
         return Err(AllocError);
     };
-    let ins = needed(*cells.allocator(), cells, site, number, first, before)?;
+    let mut ins = taken(*cells.allocator(), site, before)?;
+    let reading = readers(*cells.allocator(), cells, number, first)?;
+    ins.extend_from_slice(&reading)?;
     let c = pending(cells, &ins)?;
     Ok(c)
 }
