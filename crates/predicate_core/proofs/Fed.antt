@@ -8,7 +8,9 @@ use Rattle.held_cells.specs.declared.way.Way.{Way}
 use Rattle.held_cells.specs.Paths.{EdgeView, GraphView, node_at}
 use Rattle.edge_cells.specs.Widening.{AreWider}
 use Rattle.predicate_core.specs.Laws.{past}
-use Rattle.predicate_core.specs.Feeding.{known_on, IsSoundGraph, AreFed, Leave, FeedsNodes, SoundGraphsFeed}
+use Rattle.node_cells.specs.Feeding.{known_on, Leave}
+use Rattle.program_graph.specs.Sound.{IsSoundGraph}
+use Rattle.predicate_core.specs.Feeding.{AreFed, FeedsNodes, SoundGraphsFeed}
 use Rattle.predicate_core.proofs.Later.{contains_filter, another}
 
 module _ (g : GraphView) (sound : IsSoundGraph g) where

@@ -1,5 +1,5 @@
 -- The ends of each node are those of its edges.
-use Rattle.std.proofs.Common.{◌≡◌, ℕ, zero, suc, pos, ◌<◌, ◌==◌, ◌&&◌, inl, inr, not, Bool, true, false, List, [], ◌∷◌, length, get_or, Option, Some, None, refl, sym, ◌∙◌, ap, subst, arith}
+use Rattle.std.proofs.Common.{◌≡◌, ℕ, zero, suc, pos, ◌<◌, ◌==◌, ◌&&◌, Bool, true, false, List, [], ◌∷◌, length, get_or, Option, Some, None, refl, sym, ◌∙◌, ap, subst, arith}
 use Rattle.std.specs.Prelude.{is_some, if◌then◌else◌, All, Contains}
 use Rattle.std.proofs.lemmas.Bool.{eqb-true, eq-eqb, and_parts, and_from}
 use Rattle.std.proofs.lemmas.List.{get_or_default}
@@ -24,11 +24,12 @@ use Rattle.unfold_core.specs.Unfolding.{links, IsUnfolded}
 use Rattle.unfold_core.specs.RunLaws.{edge}
 use Rattle.unfold_core.specs.GraphLaws.{EdgesLeadOn}
 use Rattle.unfold_core.specs.LinkLaws.{goes_along, IsLink, HasLinks, NodesHaveLinks}
-use Rattle.held_cells.specs.Paths.{NodeView, EdgeView, GraphView, node_at, led}
+use Rattle.held_cells.specs.Paths.{NodeView, EdgeView, node_at, led}
 use Rattle.node_cells.specs.Ends.{IsEdge, IsEnd, ArePresent, AreEnds, HasEnds}
-use Rattle.program_graph.specs.declared.ends.Ends.{Ends}
+use Rattle.program_graph.specs.declared.edge_ends.NodeEnds.{NodeEnds}
 use Rattle.program_graph.specs.Graphs.{edge_view, graph_of}
-use Rattle.program_graph.specs.Ends.{HaveEnds, along, no_ends, AreEndsOf}
+use Rattle.program_graph.specs.Ends.{HaveEnds}
+use Rattle.program_graph.proofs.Adding.{along, no_ends, AreEndsOf}
 use Rattle.program_graph.proofs.Viewing.{point_at, node_is, node_count, node_inside, edge_back, edge_there, edge_here}
 
 -- ---- lists of edges
@@ -46,7 +47,7 @@ led_is nodes k place to (e ∷ es) x all c from at =
         All-head (λ y. y.from ≡ k → (node_at nodes y.to).place ≡ place → y.to ≡ to) e es all (eqb-true e.from k both.0) (eqb-true (node_at nodes e.to).place place both.1)
     by false g later (zero, lt, is) =
         let here : ((e.from == k) && ((node_at nodes e.to).place == place)) ≡ true =
-            and_from (e.from == k) ((node_at nodes e.to).place == place) (eq-eqb e.from k (ap (λ y. y.from) is ∙ from)) (eq-eqb (node_at nodes e.to).place place (ap (λ y. (node_at nodes y.to).place) is ∙ at)) in
+        and_from (e.from == k) ((node_at nodes e.to).place == place) (eq-eqb e.from k (ap (λ y. y.from) is ∙ from)) (eq-eqb (node_at nodes e.to).place place (ap (λ y. (node_at nodes y.to).place) is ∙ at)) in
         absurd (cc (g, here))
     by false g later (suc j, lt, is) = later (j, omega (arith, lt), is)
 
@@ -90,7 +91,7 @@ module _ (p : XdpProgram) (u : Unfolded) (laws : Laws) (unfolded : IsUnfolded p 
   pub from_inside : All (λ x. x.from < length u.nodes.items) u.edges.items
   from_inside i d lt = let x = leads_on (get_or u.edges.items i d) (Contains-get_or u.edges.items i d lt) in omega (arith, x.0, x.1)
 
-  module _ (ends : List Ends) (are : AreEndsOf u.edges.items ends) (size : length ends ≡ length u.nodes.items) (k : ℕ) (below : k < length u.nodes.items) (i : Insn)
+  module _ (ends : List NodeEnds) (are : AreEndsOf u.edges.items ends) (size : length ends ≡ length u.nodes.items) (k : ℕ) (below : k < length u.nodes.items) (i : Insn)
       (insn_is : insn_at p.insns (point_at u k).node.place ≡ Some i) where
     has : HasLinks p u.loops.items u.nodes.items k (first_point u.loops.items)
     has = laws.links p u.loops.items u.nodes.items k (first_point u.loops.items) unfolded.loops.loops unfolded.graph below
@@ -104,33 +105,30 @@ module _ (p : XdpProgram) (u : Unfolded) (laws : Laws) (unfolded : IsUnfolded p 
     link : (x : Edge) → Contains u.edges.items x → x.from ≡ k → IsLink p (point_at u k) i x.taken (point_at u x.to)
     link x c from = subst (λ j. IsLink p (point_at u k) j x.taken (point_at u x.to)) insn_same (has.each x (in_links x c) from)
 
+    -- two edges that lead to one place lead to one node
+    one_place : (x : EdgeView) (taken : Bool) (to : ℕ) → Contains (graph_of p u).edges x → Contains u.edges.items (edge k taken to) → x.from ≡ k
+        → (node_at (graph_of p u).nodes x.to).place ≡ (node_at (graph_of p u).nodes to).place → x.to ≡ to
+    one_place x taken to c d from at =
+        let among = edge_here p u x c in
+        has.same (edge_back x) (edge k taken to) (in_links (edge_back x) among) (in_links (edge k taken to) d) from refl
+        (ap (λ n. n.place) (sym (node_is p u x.to (leads_on (edge_back x) among).1)) ∙ at ∙ ap (λ n. n.place) (node_is p u to (leads_on (edge k taken to) d).1))
+
     -- an edge that leaves the node
     is_edge : (taken : Bool) (to : ℕ) → Contains u.edges.items (edge k taken to) → IsEdge (graph_of p u) k i taken to
-    is_edge taken to c = record {
-      target_is = ap (λ n. target n.place i i.op taken) (node_is p u k below) ∙ x.target_is ∙ ap (λ n. pos n.place) (sym there);
-      starts = subst (λ n. begins p.insns n.place ≡ true) (sym there) x.starts;
-      leads = led_is (graph_of p u).nodes k (node_at (graph_of p u).nodes to).place to (graph_of p u).edges (edge_view (edge k taken to)) one (edge_there p u (edge k taken to) c) refl refl;
-      up = on.0;
-      inside = subst (λ n. to < n) (sym (node_count p u)) on.1;
-    }
-      where
-        abbrev x : IsLink p (point_at u k) i taken (point_at u to)
-        x = link (edge k taken to) c refl
+    is_edge taken to c =
+        let x = link (edge k taken to) c refl in
+        let on = leads_on (edge k taken to) c in
+        let there = node_is p u to on.1 in
+        record {
+          target_is = ap (λ n. target n.place i i.op taken) (node_is p u k below) ∙ x.target_is ∙ ap (λ n. pos n.place) (sym there);
+          starts = subst (λ n. begins p.insns n.place ≡ true) (sym there) x.starts;
+          leads = led_is (graph_of p u).nodes k (node_at (graph_of p u).nodes to).place to (graph_of p u).edges (edge_view (edge k taken to))
+              (λ j d lt. one_place (get_or (graph_of p u).edges j d) taken to (Contains-get_or (graph_of p u).edges j d lt) c) (edge_there p u (edge k taken to) c) refl refl;
+          up = on.0;
+          inside = subst (λ n. to < n) (sym (node_count p u)) on.1;
+        }
 
-        abbrev on : (k < to) × (to < length u.nodes.items)
-        on = leads_on (edge k taken to) c
-
-        there : node_at (graph_of p u).nodes to ≡ record { place = (point_at u to).node.place; kinds = (point_at u to).kinds }
-        there = node_is p u to on.1
-
-        one : All (λ y. y.from ≡ k → (node_at (graph_of p u).nodes y.to).place ≡ (node_at (graph_of p u).nodes to).place → y.to ≡ to) (graph_of p u).edges
-        one j d lt from at =
-            let y = get_or (graph_of p u).edges j d in
-            let among = edge_here p u y (Contains-get_or (graph_of p u).edges j d lt) in
-            has.same (edge_back y) (edge k taken to) (in_links (edge_back y) among) (in_links (edge k taken to) c) from refl
-            (ap (λ n. n.place) (sym (node_is p u y.to (leads_on (edge_back y) among).1)) ∙ at ∙ ap (λ n. n.place) there)
-
-    abbrev here : Ends
+    abbrev here : NodeEnds
     here = get_or ends k no_ends
 
     end_edge : (taken : Bool) (to : ℕ) → along here taken ≡ Some to → Contains u.edges.items (edge k taken to)
@@ -176,7 +174,7 @@ module _ (p : XdpProgram) (u : Unfolded) (laws : Laws) (unfolded : IsUnfolded p 
       all = all_of;
     }
 
-  pub have_ends : (ends : List Ends) → AreEndsOf u.edges.items ends → length ends ≡ length u.nodes.items → HaveEnds (graph_of p u) ends
+  pub have_ends : (ends : List NodeEnds) → AreEndsOf u.edges.items ends → length ends ≡ length u.nodes.items → HaveEnds (graph_of p u) ends
   have_ends ends are size = record {
     size = size ∙ sym (node_count p u);
     each = λ k i d lt is.

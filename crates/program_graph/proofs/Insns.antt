@@ -1,12 +1,12 @@
 -- Each node of a graph has an allowed instruction.
-use Rattle.std.proofs.Common.{◌≡◌, ℕ, Some, refl, sym, ◌∙◌, ap}
+use Rattle.std.proofs.Common.{◌≡◌, Some, refl, ◌∙◌, ap}
 use Rattle.bpf_isa.specs.Text.{insn_at}
 use Rattle.kind_core.specs.Effects.{effect_of, verdict}
 use Rattle.unfold_core.specs.Graphs.{first_point}
 use Rattle.unfold_core.specs.LinkLaws.{NodesHaveLinks}
 use Rattle.held_cells.specs.Paths.{node_at}
 use Rattle.program_graph.specs.Graphs.{graph_of}
-use Rattle.program_graph.specs.Nodes.{HasInsn, NodesHaveInsns}
+use Rattle.program_graph.specs.Nodes.{NodesHaveInsns}
 use Rattle.program_graph.proofs.Viewing.{node_is, node_inside}
 use Rattle.program_graph.proofs.References.{refers_load}
 

@@ -13,15 +13,15 @@ use Rattle.kind_core.specs.Kinds.{value_bytes}
 
 pub refers_load : (insns : List Insn) (maps : ℕ) (refs : List ℕ) (place : ℕ) (i : Insn) → All (IsReference insns maps) refs → insn_at insns place ≡ Some i → list_any (λ r. r == place) refs ≡ true → i.op ≡ LoadImm
 refers_load insns maps [] place i all is h = absurd (cc h)
-refers_load insns maps (r ∷ refs) place i all is h = by (r == place) refl h
+refers_load insns maps (r ∷ refs) place i all is h = by (r == place) refl h (refers_load insns maps refs place i (All-tail (IsReference insns maps) r refs all) is)
   where
-    by : (b : Bool) → (r == place) ≡ b → (b || list_any (λ x. x == place) refs) ≡ true → i.op ≡ LoadImm
-    by true e g =
+    by : (b : Bool) → (r == place) ≡ b → (b || list_any (λ x. x == place) refs) ≡ true → (list_any (λ x. x == place) refs ≡ true → i.op ≡ LoadImm) → i.op ≡ LoadImm
+    by true e g later =
         let own = All-head (IsReference insns maps) r refs all in
         let both : Some own.insn ≡ Some i = sym own.begins ∙ ap (insn_at insns) (eqb-true r place e) ∙ is in
         let one : own.insn ≡ i = cc both in
         ap (λ j. j.op) (sym one) ∙ own.load
-    by false e g = refers_load insns maps refs place i (All-tail (IsReference insns maps) r refs all) is g
+    by false e g later = later g
 
 pub small_values : (ds : List MapDecl) → All IsDeclaration ds → (q : ℕ) → value_bytes ds q ≤ 64
 small_values [] h q = omega arith

@@ -1,6 +1,6 @@
 -- The graph of a program that unfolds is sound.
-use Rattle.std.proofs.Common.{◌≡◌, ℕ, zero, suc, ◌<◌, inl, inr, List, ◌∷◌, length, get_or, Option, Some, None, refl, sym, ◌∙◌, ap, subst, arith}
-use Rattle.std.specs.Prelude.{◌==◌, fold, All, Contains}
+use Rattle.std.proofs.Common.{◌≡◌, ℕ, zero, suc, ◌<◌, inl, inr, ◌∷◌, length, get_or, Option, Some, None, refl, sym, ◌∙◌, ap, subst, arith}
+use Rattle.std.specs.Prelude.{◌==◌, fold, Contains}
 use Rattle.std.specs.List.{list_any}
 use Rattle.std.proofs.lemmas.List.Elements.{All-cons, All-head, All-tail, All-contains, Contains-get_or}
 use Rattle.bpf_isa.specs.declared.instruction.Insn.{Insn}
@@ -23,7 +23,8 @@ use Rattle.held_cells.specs.Paths.{EdgeView, node_at}
 use Rattle.edge_cells.specs.Widening.{AreWider, AreFilled, AreAlike, JoinsWiden, JoinsAreFilled}
 use Rattle.node_cells.specs.Filling.{EdgesAreFilled, JumpsAreFilled}
 use Rattle.program_graph.specs.Graphs.{node_view, edge_view, graph_of}
-use Rattle.program_graph.specs.Sound.{known_behind, known_on, IsSoundGraph, GraphsAreSound}
+use Rattle.node_cells.specs.Feeding.{known_behind, known_on}
+use Rattle.program_graph.specs.Sound.{IsSoundGraph, GraphsAreSound}
 use Rattle.program_graph.proofs.Viewing.{point_at, node_is, node_count, node_inside, edge_back, edge_there, edge_here}
 use Rattle.program_graph.proofs.References.{refers_load, small_values}
 use Rattle.program_graph.proofs.Filling.{start_filled, side_filled}
@@ -109,13 +110,12 @@ module _ (laws : Laws) (p : XdpProgram) (u : Unfolded) (program : IsProgram p) (
   goes_on x c =
       let among = in_links (edge_back x) (edge_here p u x c) in
       let on = leads_on (edge_back x) among in
-      let below : x.from < length u.nodes.items = omega (arith, on.0, on.1) in
-      (
+      let below : x.from < length u.nodes.items = omega (arith, on.0, on.1) in (
         on.0,
         subst (λ n. x.to < n) (sym (node_count p u)) on.1,
         subst (AreWider (node_at (graph_of p u).nodes x.to).kinds) (sym (known_same x below))
-        (subst (λ n. AreWider n.kinds (linked.known_on p u.nodes.items (first_point u.loops.items) (edge_back x))) (sym (node_is p u x.to on.1))
-        (wider x.to (linked.known_on p u.nodes.items (first_point u.loops.items) (edge_back x)) on.1 (inr (edge_back x, among, refl, refl)))),
+            (subst (λ n. AreWider n.kinds (linked.known_on p u.nodes.items (first_point u.loops.items) (edge_back x))) (sym (node_is p u x.to on.1))
+            (wider x.to (linked.known_on p u.nodes.items (first_point u.loops.items) (edge_back x)) on.1 (inr (edge_back x, among, refl, refl)))),
       )
 
   sound : IsSoundGraph (graph_of p u)

@@ -1,15 +1,14 @@
 -- The nodes and edges of a graph as those of its unfolded program.
-use Rattle.std.proofs.Common.{◌≡◌, ℕ, ◌<◌, List, length, get_or, refl, sym, ◌∙◌, ap, subst}
-use Rattle.std.specs.Prelude.{map, All, Contains}
+use Rattle.std.proofs.Common.{◌≡◌, ℕ, ◌<◌, length, get_or, sym, ◌∙◌, ap, subst}
+use Rattle.std.specs.Prelude.{Contains}
 use Rattle.std.proofs.lemmas.List.{length-map}
 use Rattle.std.proofs.lemmas.List as lists
 use Rattle.xdp_machine.specs.Program.{XdpProgram}
-use Rattle.unfold_core.specs.declared.nesting.Loop.{Loop}
 use Rattle.unfold_core.specs.declared.edges.Point.{Point}
 use Rattle.unfold_core.specs.declared.links.Edge.{Edge}
 use Rattle.unfold_core.specs.declared.unfolding.Unfolded.{Unfolded}
 use Rattle.unfold_core.specs.Graphs.{first_point}
-use Rattle.held_cells.specs.Paths.{NodeView, EdgeView, no_node, node_at}
+use Rattle.held_cells.specs.Paths.{EdgeView, no_node, node_at}
 use Rattle.program_graph.specs.Graphs.{node_view, edge_view, graph_of}
 
 abbrev pub point_at : Unfolded → ℕ → Point

@@ -1,5 +1,5 @@
 -- The graph of a program as it unfolds, by the numbers of its nodes.
-use Rattle.std.specs.Prelude.{List, map}
+use Rattle.std.specs.Prelude.{map}
 use Rattle.xdp_machine.specs.Program.{XdpProgram, program_code}
 use Rattle.unfold_core.specs.declared.edges.Point.{Point}
 use Rattle.unfold_core.specs.declared.links.Edge.{Edge}

@@ -5,7 +5,7 @@
 //! it. [`ends`] gives the ends of the edges of all nodes.
 #![tactic(auto)]
 
-mod ends;
+mod edge_ends;
 pub mod laws;
 
-pub use ends::{Ends, ends};
+pub use edge_ends::{NodeEnds, ends};

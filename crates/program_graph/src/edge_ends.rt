@@ -11,22 +11,22 @@ use xdp_object::Program;
 
 /// The nodes to which the edges of a node lead, where they are present: that to the next place, and that of a jump.
 #[derive(Copy, Clone, Debug, PartialEq, Eq)]
-pub struct Ends {
+pub struct NodeEnds {
     pub next: Option<u32>,
     pub jump: Option<u32>,
 }
 
 // With one edge more.
-fn with_edge(ends: Ends, edge: &Edge) -> Ends
+fn with_edge(ends: NodeEnds, edge: &Edge) -> NodeEnds
     ensures { result ≡ added ends edge.now.taken edge.now.to }
 {
     if edge.taken {
-        Ends {
+        NodeEnds {
             next: ends.next,
             jump: Some(edge.to),
         }
     } else {
-        Ends {
+        NodeEnds {
             next: Some(edge.to),
             jump: ends.jump,
         }
@@ -38,13 +38,13 @@ pub fn ends(
     alloc: Global,
     program: &Program,
     unfolded: &Unfolded,
-) -> Result<Vec<Ends>, AllocError>
+) -> Result<Vec<NodeEnds>, AllocError>
     requires { IsUnfolded program.now unfolded.now }
     ensures { IfOk result (λ ends. HaveEnds (graph_of program.now unfolded.now) ends.items) }
 {
     unfold_core::laws::nodes_have_links();
     unfold_core::laws::edges_lead_on();
-    let none = Ends {
+    let none = NodeEnds {
         next: None,
         jump: None,
     };
