@@ -9,3 +9,5 @@ pub mod Opened
 pub mod Closed
 pub mod Arrived
 pub mod Fed
+pub mod Numbered
+pub mod Entering

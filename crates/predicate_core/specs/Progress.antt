@@ -1,5 +1,5 @@
 -- Programs in memory, node by node.
-use Rattle.std.specs.Prelude.{ℕ, ◌≡◌, ◌<◌, List, [], length, take, slice_index, get_or, map as map_list, All, Contains}
+use Rattle.std.specs.Prelude.{ℕ, ◌≡◌, ◌-◌, ◌<◌, List, [], ◌++◌, length, replicate, slice_index, get_or, map as map_list, All, Contains}
 use Rattle.cell_core.specs.Cells.{CellView}
 use Rattle.cell_core.specs.Sites.{SiteView}
 use Rattle.operator_cells.specs.Making.{seen, Grows}
@@ -65,9 +65,8 @@ pub record Comes (g : GraphView) (k : ℕ) (old new : Progress) (here : Here) (p
   pub beside : new.pending ≡ old.pending
   pub window : new.window ≡ old.window
 
--- The edges that had nothing beside them lead to their nodes too, and have these cells beside them.
-pub record Entered (tos : List ℕ) (entries entries2 pending pending2 : List (List ℕ)) (row : List ℕ) : Type 0 where
+-- More edges lead to their nodes, and have these cells beside them.
+pub record Entered (tos tos2 : List ℕ) (entries entries2 pending pending2 : List (List ℕ)) (row : List ℕ) : Type 0 where
   pub size : length entries2 ≡ length entries
-  pub entered : (k : ℕ) → k < length entries → AreNumbers k (take (length pending) tos) (get_or entries k []) → AreNumbers k tos (get_or entries2 k [])
-  pub beside : length pending2 ≡ length tos
-  pub waiting : (P : List ℕ → Type 0) → P row → All P pending → All P pending2
+  pub entered : (k : ℕ) → k < length entries → AreNumbers k tos (get_or entries k []) → AreNumbers k tos2 (get_or entries2 k [])
+  pub beside : pending2 ≡ pending ++ replicate (length tos2 - length tos) row

@@ -1,6 +1,6 @@
 //! Programs node by node: what has been made once some of their nodes are done, and one node more.
 
-ghost use Rattle.std.specs.Prelude.{ℕ, ◌≡◌, ◌+◌, ◌<◌, ◌≤◌, List, length, map as map_list, All, IfOk, OnOk};
+ghost use Rattle.std.specs.Prelude.{ℕ, ◌≡◌, ◌+◌, ◌<◌, ◌≤◌, List, length, take, map as map_list, All, IfOk, OnOk};
 ghost use Rattle.cell_core.specs.Cells.{CellView};
 ghost use Rattle.cell_core.specs.Sites.{site_at};
 ghost use Rattle.cell_core.specs.Formed.{IsBelow};
@@ -15,6 +15,7 @@ ghost use Rattle.program_graph.specs.Graphs.{graph_of};
 ghost use Rattle.predicate_core.specs.Progress.{targets, AreNumbers, AreWaiting, Entered, Comes, IsReady};
 
 use crate::arriving::arrive;
+use crate::laws::{arrivals_stay, nodes_follow, sound_graphs_feed, steps_stay};
 use bpf_isa::Insn;
 use cell_core::cell::{Cell, Cells};
 use cell_core::program::Node;
@@ -22,9 +23,11 @@ use cell_core::site::Site;
 use edge_cells::joining::Here;
 use held_cells::way::Way;
 use operator_cells::joining::Arm;
-use program_graph::Ends;
+use program_graph::NodeEnds;
+use program_graph::laws::graphs_are_sound;
 use smallvec::SmallVec;
 use std::alloc::{AllocError, Global};
+use step_cells::laws::nodes_bring;
 use step_cells::made::Made;
 use step_cells::pending::{pending_at, pending_behind};
 use step_cells::stepping::step_node;
@@ -51,7 +54,7 @@ pub struct Progress {
 #[derive(Drop)]
 struct Arrived {
     here: Here,
-    pending: Cells,
+    pending: Vec<u32>,
 }
 
 // These edges.
@@ -99,7 +102,7 @@ fn gather(
     pending: &[Cells],
     numbers: &[u32],
     maps: usize,
-) -> Result<Cells, AllocError>
+) -> Result<Vec<u32>, AllocError>
     requires some { 1 ≤ length numbers.now }
     requires numbers { All (λ i. i < length ways.now) numbers.now }
     requires beside { length pending.now ≡ length ways.now }
@@ -108,7 +111,7 @@ fn gather(
     ensures grows { IfOk result (λ row. Grows (seen cells.old.items) (seen cells.new.items)) }
     ensures waiting { IfOk result (λ row. AreWaiting maps (length (seen cells.new.items)) row.items) }
 {
-    let mut all = Cells::new(*cells.allocator());
+    let mut all = Vec::new(*cells.allocator());
     for map in 0..maps {
         let arms = arms(*cells.allocator(), ways, pending, numbers, map)?;
         let c = pending_at(cells, &arms)?;
@@ -121,7 +124,7 @@ fn gather(
 fn pass(
     cells: &mut Vec<Cell>,
     sites: &[Site],
-    pending: &mut Cells,
+    pending: &mut Vec<u32>,
     sites_before: usize,
     first: usize,
 ) -> Result<(), AllocError>
@@ -145,18 +148,19 @@ fn enter(
     entries: &mut Vec<Numbers>,
     pending: &mut Vec<Cells>,
     ways: &[Way],
-    brought: &Cells,
+    brought: &[u32],
 ) -> Result<(), AllocError>
     requires before { length pending.old.items ≤ length ways.now }
     requires inside { All (λ e. e.to < length entries.old.items) ways.now }
-    ensures { OnOk result (Entered (targets ways.now) (map_list (λ x. x.items) entries.old.items) (map_list (λ x. x.items) entries.new.items) (map_list (λ x. x.items) pending.old.items) (map_list (λ x. x.items) pending.new.items) brought.now.items) }
+    ensures { OnOk result (Entered (take (length pending.old.items) (targets ways.now)) (targets ways.now) (map_list (λ x. x.items) entries.old.items) (map_list (λ x. x.items) entries.new.items) (map_list (λ x. x.items) pending.old.items) (map_list (λ x. x.items) pending.new.items) brought.now) }
 {
     for i in pending.len()..ways.len() {
         let Ok(number) = u32::try_from(i) else {
             return Err(AllocError);
         };
         entries[ways[i].to as usize].push(number)?;
-        pending.push(Cells::from_slice(*brought.allocator(), brought)?)?;
+        let row = Cells::from_slice(*pending.allocator(), brought)?;
+        pending.push(row)?;
     }
     Ok(())
 }
@@ -173,6 +177,9 @@ fn arrive_at(
     requires ready { IsReady (graph_of program.now unfolded.now) node progress.old }
     ensures { IfOk result (λ arrived. Comes (graph_of program.now unfolded.now) node progress.old progress.new arrived.here arrived.pending.items) }
 {
+    graphs_are_sound();
+    sound_graphs_feed();
+    arrivals_stay();
     let decls = program.decls();
     let kinds = &unfolded.nodes[node as usize].kinds;
     let numbers = &progress.entries[node as usize];
@@ -195,7 +202,7 @@ pub fn make_node(
     program: &Program,
     unfolded: &Unfolded,
     insn: &Insn,
-    ends: Ends,
+    ends: NodeEnds,
     node: u32,
 ) -> Result<(), AllocError>
     requires unfolded { IsUnfolded program.now unfolded.now }
@@ -205,6 +212,11 @@ pub fn make_node(
     requires ready { IsReady (graph_of program.now unfolded.now) node progress.old }
     ensures { OnOk result (IsReady (graph_of program.now unfolded.now) (node + 1) progress.new) }
 {
+    graphs_are_sound();
+    sound_graphs_feed();
+    nodes_bring();
+    steps_stay();
+    nodes_follow();
     let first = progress.made.cells.len();
     let sites_before = progress.made.sites.len();
     let arrived = arrive_at(progress, program, unfolded, node)?;

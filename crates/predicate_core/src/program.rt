@@ -9,6 +9,7 @@ ghost use Rattle.program_graph.specs.Graphs.{graph_of};
 ghost use Rattle.predicate_core.specs.Progress.{AreWaiting, IsReady};
 
 use crate::closing::close;
+use crate::laws::{opens_follow, sound_graphs_feed, wholes_compute};
 use crate::making::{Numbers, Progress, make_node};
 use crate::opening::open;
 use bpf_isa::Insn;
@@ -16,6 +17,7 @@ use cell_core::cell::{Cell, Cells};
 use cell_core::program::CellProgram;
 use operator_cells::cells::pending;
 use program_graph::ends;
+use program_graph::laws::{graphs_are_sound, nodes_have_insns};
 use std::alloc::{AllocError, Global};
 use step_cells::made::Made;
 use unfold_core::{Unfolded, places};
@@ -33,12 +35,12 @@ fn insn_at(units: &[Option<Insn>], place: u32) -> Insn
 }
 
 // For each map a cell of no writes.
-fn unwritten(cells: &mut Vec<Cell>, maps: usize) -> Result<Cells, AllocError>
+fn unwritten(cells: &mut Vec<Cell>, maps: usize) -> Result<Vec<u32>, AllocError>
     ensures grows { IfOk result (λ row. Grows (seen cells.old.items) (seen cells.new.items)) }
     ensures waiting { IfOk result (λ row. AreWaiting maps (length (seen cells.new.items)) row.items) }
 {
-    let mut all = Cells::new(*cells.allocator());
-    for _ in 0..maps {
+    let mut all = Vec::new(*cells.allocator());
+    for _map in 0..maps {
         let c = pending(cells, &[])?;
         all.push(c)?;
     }
@@ -60,6 +62,9 @@ fn begin(alloc: Global, program: &Program, unfolded: &Unfolded) -> Result<Progre
     requires { IsUnfolded program.now unfolded.now }
     ensures { IfOk result (λ progress. IsReady (graph_of program.now unfolded.now) 0 progress) }
 {
+    graphs_are_sound();
+    sound_graphs_feed();
+    opens_follow();
     let mut cells = Vec::new(alloc);
     let start = open(&mut cells)?;
     let none = unwritten(&mut cells, program.decls().len())?;
@@ -67,7 +72,7 @@ fn begin(alloc: Global, program: &Program, unfolded: &Unfolded) -> Result<Progre
     let mut ways = Vec::new(alloc);
     ways.push(start)?;
     let mut pending = Vec::new(alloc);
-    pending.push(none)?;
+    pending.push(Cells::from_slice(alloc, &none)?)?;
     Ok(Progress {
         made: Made {
             cells,
@@ -94,6 +99,7 @@ fn make_nodes(
     requires ready { IsReady (graph_of program.now unfolded.now) 0 progress.old }
     ensures { OnOk result (IsReady (graph_of program.now unfolded.now) (length unfolded.now.nodes.items) progress.new) }
 {
+    nodes_have_insns();
     let units = places(alloc, program)?;
     let ends = ends(alloc, program, unfolded)?;
     for k in 0..unfolded.nodes.len() {
@@ -112,6 +118,7 @@ pub fn to_cells(
     requires { IsUnfolded program.now unfolded.now }
     ensures { IfOk result (λ cells. IsLaw (graph_of program.now unfolded.now) (program_of cells)) }
 {
+    wholes_compute();
     let mut progress = begin(alloc, program, unfolded)?;
     make_nodes(alloc, program, unfolded, &mut progress)?;
     let answer = close(
