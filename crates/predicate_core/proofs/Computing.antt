@@ -3,7 +3,7 @@ use Rattle.std.proofs.Common.{◌≡◌, ℕ, zero, suc, ◌+◌, ◌≤◌, ◌
 use Rattle.std.specs.Prelude.{All}
 use Rattle.std.proofs.lemmas.Bool.Decides.{nat_tests}
 use Rattle.std.proofs.lemmas.List.{append-nil}
-use Rattle.std.proofs.lemmas.List.Elements.{All-filter, filter_passes}
+use Rattle.std.proofs.lemmas.List.Elements.{All-nil, All-filter, filter_passes}
 use Rattle.xdp_maps.specs.State.{MapState, IsSound}
 use Rattle.xdp_machine.specs.State.{PacketIn, start}
 use Rattle.xdp_machine.specs.Runs.{Leaves}
@@ -11,18 +11,20 @@ use Rattle.xdp_machine.specs.Touched as machine
 use Rattle.cell_core.specs.declared.program.FrameByte.{FrameByte}
 use Rattle.cell_core.specs.Cells.{CellView, IsRun, bit, on}
 use Rattle.cell_core.specs.Sites.{SiteView, ProgramView, IsCellRun, after, leaves, touched, with_bytes}
+use Rattle.operator_cells.proofs.MakingLaws.{reads_none}
 use Rattle.held_cells.specs.declared.held.Held.{Held}
 use Rattle.held_cells.specs.Paths.{GraphView, Stage, At, Over, Nowhere, before, stands_at, maps_in}
-use Rattle.held_cells.specs.Steps.{IsGood, IsLeft}
-use Rattle.held_cells.specs.Law.{IsPacket, AreAnswered, IsRight, made_at, sites_below, sites_at, Computes}
-use Rattle.predicate_core.specs.Making.{Making, IsSoFar, IsCase, ReadsStay, Answers, held_in}
+use Rattle.held_cells.specs.Steps.{ReadsOwn, IsGood, IsLeft}
+use Rattle.held_cells.specs.Law.{IsPacket, AreAnswered, IsRight, made_at, sites_below, sites_at, Computes, IsLaw}
+use Rattle.predicate_core.specs.Making.{Making, IsSoFar, IsCase, Answers, made_alone, held_in}
 use Rattle.predicate_core.specs.Laws.{WholesCompute}
 use Rattle.predicate_core.proofs.SiteLists.{below_all, below_none}
 use Rattle.predicate_core.proofs.Cases.{read_older, case_fewer}
+use Rattle.predicate_core.proofs.Sited.{below_cells, sited_more}
 use Rattle.predicate_core.proofs.Tracing.{Comes, comes_first, comes_more}
 
 module _ (g : GraphView) (hs : List Held) (t : Making) (cells : List CellView) (verdict target : ℕ) (frame : List FrameByte)
-    (so_far : IsSoFar g (length g.nodes) hs t) (answers : Answers t.cells cells t.exits verdict target frame) (stay : ReadsStay t.cells cells t.sites) where
+    (so_far : IsSoFar g (length g.nodes) hs t) (answers : Answers t.cells cells t.exits verdict target frame) where
   abbrev pub p : ProgramView
   p = record { cells = cells; nodes = t.nodes; sites = t.sites; verdict = verdict; target = target; frame = frame }
 
@@ -32,7 +34,7 @@ module _ (g : GraphView) (hs : List Held) (t : Making) (cells : List CellView) (
     sound = sound;
     decls = decls;
     run = answers.grows.run packet v ran;
-    read = read_older maps t.cells cells t.sites t.sites [] v k k stay answers.grows.longer (sym (append-nil t.sites)) (omega arith) (λ c j in_cells in_sites reads low o. answered c j in_cells reads low o);
+    read = read_older (λ c j. ⊥) maps t.cells cells t.sites t.sites [] v k k answers.grows (sym (append-nil t.sites)) (omega arith) (λ c j in_cells in_sites reads low o. answered c j in_cells reads low o);
   }
 
   right : (packet : PacketIn) (maps : MapState) (v : ℕ → ℕ) (k : ℕ) → IsPacket packet → IsSound maps → maps.decls ≡ g.decls → IsRun packet cells v
@@ -108,7 +110,7 @@ module _ (g : GraphView) (hs : List Held) (t : Making) (cells : List CellView) (
           left : All (λ x. on (v x.guard) ≡ true → IsLeft packet v x e) t.exits
           left i d l o = let y = good.ends i d l o in subst (λ (b : Leaves). IsLeft packet v (get_or t.exits i d) b) (sym (same_end e y.0 y.1)) y.2
 
-  pub whole : Computes g p
+  whole : Computes g p
   whole = record {
     formed = answers.grows.formed so_far.formed;
     laid = record {
@@ -126,5 +128,11 @@ module _ (g : GraphView) (hs : List Held) (t : Making) (cells : List CellView) (
     ends = ends;
   }
 
+  pub law : IsLaw g p
+  law = record {
+    computes = whole;
+    sited = sited_more g.decls (made_alone t) p [] (reads_none (ReadsOwn t.sites t.sites) t.cells cells answers.grows) (sym (append-nil t.sites)) (All-nil _) (below_cells g (length g.nodes) t so_far.laid) so_far.sited;
+  }
+
 pub wholes_compute : WholesCompute
-wholes_compute g hs t cells verdict target frame so_far answers stay = whole g hs t cells verdict target frame so_far answers stay
+wholes_compute g hs t cells verdict target frame so_far answers = law g hs t cells verdict target frame so_far answers

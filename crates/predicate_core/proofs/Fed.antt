@@ -1,17 +1,15 @@
 -- Edges lead to every node that is to come.
-use Rattle.std.proofs.Common.{◌≡◌, ℕ, ◌+◌, ◌<◌, ◌≤◌, ◌==◌, not, ◌⊎◌, inl, inr, List, [], ◌∷◌, ◌++◌, length, get_or, refl, sym, ◌∙◌, ap, subst, arith}
+use Rattle.std.proofs.Common.{◌≡◌, ℕ, ◌+◌, ◌<◌, ◌≤◌, ◌⊎◌, inl, inr, List, [], ◌∷◌, ◌++◌, length, get_or, refl, sym, ◌∙◌, ap, subst, arith}
 use Rattle.std.specs.Prelude.{All, Contains}
 use Rattle.std.proofs.lemmas.Bool.{cases_lt}
-use Rattle.std.proofs.lemmas.List.Elements.{All-nil, All-cons, All-append, All-contains, All-filter, Contains-append_left, Contains-append_right}
+use Rattle.std.proofs.lemmas.List.Elements.{All-nil, All-cons, All-append, All-contains, Contains-append_left, Contains-append_right}
 use Rattle.kind_core.specs.Kinds as kinds
 use Rattle.held_cells.specs.declared.way.Way.{Way}
 use Rattle.held_cells.specs.Paths.{EdgeView, GraphView, node_at}
 use Rattle.edge_cells.specs.Widening.{AreWider}
-use Rattle.predicate_core.specs.Laws.{past}
 use Rattle.node_cells.specs.Feeding.{known_on, Leave}
 use Rattle.program_graph.specs.Sound.{IsSoundGraph}
 use Rattle.predicate_core.specs.Feeding.{AreFed, FeedsNodes, SoundGraphsFeed}
-use Rattle.predicate_core.proofs.Later.{contains_filter, another}
 
 module _ (g : GraphView) (sound : IsSoundGraph g) where
   leads_on : (x : EdgeView) → Contains g.edges x → (x.from < x.to) × (x.to < length g.nodes) × AreWider (node_at g.nodes x.to).kinds (known_on g x)
@@ -28,35 +26,31 @@ module _ (g : GraphView) (sound : IsSoundGraph g) where
       by n h (inl l) = let x = sound.reached n l h in inr (x.0, x.1, x.2, omega arith)
       by n h (inr l) = inl (e, (0, omega arith, refl), first ∙ (let f : 0 ≡ n = omega (arith, l) in f))
 
-  kept : (k : ℕ) (ways : List Way) (n : ℕ) → k + 1 ≤ n → (e : Way) → Contains ways e → e.to ≡ n → Contains (past k ways) e
-  kept k ways n l e c is = contains_filter (λ x. not (x.to == k)) ways e (ap (λ (j : ℕ). not (j == k)) is ∙ another k n l) c
-
   wider_more : (k : ℕ) (more : List Way) → Leave g k more → All (λ e. AreWider (node_at g.nodes e.to).kinds e.kinds) more
   wider_more k more leave i d l =
       let x = leave.each i d l in
       let p = leads_on x.0 x.1 in
       subst (λ (n : ℕ). AreWider (node_at g.nodes n).kinds (get_or more i d).kinds) x.3 (subst (AreWider (node_at g.nodes x.0.to).kinds) (sym x.4) p.2)
 
-  follow : (k : ℕ) (ways more : List Way) → AreFed g k ways → Leave g k more → AreFed g (k + 1) (past k (ways ++ more))
+  follow : (k : ℕ) (ways more : List Way) → AreFed g k ways → Leave g k more → AreFed g (k + 1) (ways ++ more)
   follow k ways more fed leave = record {
-    wider = All-filter (λ e. not (e.to == k)) (λ e. k + 1 ≤ e.to → AreWider (node_at g.nodes e.to).kinds e.kinds) (ways ++ more)
-        (All-append (λ e. k + 1 ≤ e.to → AreWider (node_at g.nodes e.to).kinds e.kinds) ways more
+    wider = All-append (λ e. k + 1 ≤ e.to → AreWider (node_at g.nodes e.to).kinds e.kinds) ways more
         (λ i d l b. fed.wider i d l (omega (arith, b)))
-        (λ i d l b. wider_more k more leave i d l));
-    some = λ n l h. by n l (fed.some n (omega (arith, l)) h);
+        (λ i d l b. wider_more k more leave i d l);
+    some = λ n l h. by n (fed.some n (omega (arith, l)) h);
   }
     where
-      made : (n : ℕ) → k + 1 ≤ n → (x : EdgeView) → Contains g.edges x → x.to ≡ n → (k < x.from) ⊎ (x.from ≤ k) → k ≤ x.from
-          → ((e : Way) × Contains (past k (ways ++ more)) e × (e.to ≡ n)) ⊎ ((y : EdgeView) × Contains g.edges y × (y.to ≡ n) × (k + 1 ≤ y.from))
-      made n l x c is (inl b) low = inr (x, c, is, omega (arith, b))
-      made n l x c is (inr b) low =
+      made : (n : ℕ) → (x : EdgeView) → Contains g.edges x → x.to ≡ n → (k < x.from) ⊎ (x.from ≤ k) → k ≤ x.from
+          → ((e : Way) × Contains (ways ++ more) e × (e.to ≡ n)) ⊎ ((y : EdgeView) × Contains g.edges y × (y.to ≡ n) × (k + 1 ≤ y.from))
+      made n x c is (inl b) low = inr (x, c, is, omega (arith, b))
+      made n x c is (inr b) low =
           let e = leave.all x c (omega (arith, b, low)) in
-          inl (e.0, kept k (ways ++ more) n l e.0 (Contains-append_right ways more e.0 e.1) (e.2 ∙ is), e.2 ∙ is)
+          inl (e.0, Contains-append_right ways more e.0 e.1, e.2 ∙ is)
 
-      by : (n : ℕ) → k + 1 ≤ n → ((e : Way) × Contains ways e × (e.to ≡ n)) ⊎ ((x : EdgeView) × Contains g.edges x × (x.to ≡ n) × (k ≤ x.from))
-          → ((e : Way) × Contains (past k (ways ++ more)) e × (e.to ≡ n)) ⊎ ((y : EdgeView) × Contains g.edges y × (y.to ≡ n) × (k + 1 ≤ y.from))
-      by n l (inl e) = inl (e.0, kept k (ways ++ more) n l e.0 (Contains-append_left ways more e.0 e.1) e.2, e.2)
-      by n l (inr x) = made n l x.0 x.1 x.2 (cases_lt k x.0.from) x.3
+      by : (n : ℕ) → ((e : Way) × Contains ways e × (e.to ≡ n)) ⊎ ((x : EdgeView) × Contains g.edges x × (x.to ≡ n) × (k ≤ x.from))
+          → ((e : Way) × Contains (ways ++ more) e × (e.to ≡ n)) ⊎ ((y : EdgeView) × Contains g.edges y × (y.to ≡ n) × (k + 1 ≤ y.from))
+      by n (inl e) = inl (e.0, Contains-append_left ways more e.0 e.1, e.2)
+      by n (inr x) = made n x.0 x.1 x.2 (cases_lt k x.0.from) x.3
 
   here : (k : ℕ) (ways : List Way) → k < length g.nodes → AreFed g k ways → ((e : Way) × Contains ways e × (e.to ≡ k)) × All (λ e. e.to ≡ k → AreWider (node_at g.nodes k).kinds e.kinds) ways
   here k ways h fed = (by (fed.some k (omega arith) h), λ i d l is. subst (λ (n : ℕ). AreWider (node_at g.nodes n).kinds (get_or ways i d).kinds) is (fed.wider i d l (omega (arith, is))))

@@ -10,33 +10,35 @@ use Rattle.xdp_machine.specs.State.{Machine, PacketIn}
 use Rattle.xdp_machine.specs.Touched as machine
 use Rattle.cell_core.specs.Cells.{CellView, bit}
 use Rattle.cell_core.specs.Sites.{SiteView, after}
-use Rattle.cell_core.specs.Formed.{IsBelow}
-use Rattle.operator_cells.specs.Making.{Grows}
-use Rattle.operator_cells.proofs.MakingLaws.{grown}
+use Rattle.operator_cells.specs.Making.{GrowsWith}
+use Rattle.operator_cells.proofs.MakingLaws.{grown_with, reads_none}
 use Rattle.held_cells.specs.declared.held.Held.{Held}
 use Rattle.held_cells.specs.declared.way.Way.{Way}
 use Rattle.held_cells.specs.declared.way.Exit.{Exit}
 use Rattle.held_cells.specs.Paths.{GraphView, At, node_at, before, on_path, maps_in}
 use Rattle.held_cells.specs.Held.{PointerView, AreInside, AreHeld}
-use Rattle.held_cells.specs.Steps.{Steps, IsGood, IsHere, DoAs}
+use Rattle.held_cells.specs.Steps.{Steps, ReadsOwn, IsGood, IsHere, DoAs}
 use Rattle.held_cells.specs.Law.{made_at, sites_below, sites_at}
 use Rattle.edge_cells.specs.Meeting.{Extends}
 use Rattle.edge_cells.proofs.ExtendingLaws.{extended, inside_later}
-use Rattle.predicate_core.specs.Making.{Making, IsSoFar, IsCase, AreRight, Arrives, ReadsStay, no_held, held_in}
-use Rattle.predicate_core.specs.Laws.{NodesFollow, past, made_next}
-use Rattle.predicate_core.proofs.Later.{held_later, good_later, good_past, made_past}
+use Rattle.predicate_core.specs.Making.{Making, IsSoFar, IsCase, AreRight, Arrives, made_alone, no_held, held_in}
+use Rattle.predicate_core.specs.Laws.{NodesFollow, made_next}
+use Rattle.predicate_core.proofs.Later.{held_later, good_later}
 use Rattle.predicate_core.proofs.SiteLists.{below_all, below_more, at_more, at_new}
 use Rattle.predicate_core.proofs.Cases.{case_older, case_fewer, all_read}
 use Rattle.predicate_core.proofs.NodeLayout.{node_each, low_more, laid_more}
+use Rattle.predicate_core.proofs.Sited.{below_cells, sited_more}
 
 module _ (g : GraphView) (k : ℕ) (hs : List Held) (t : Making) (cells cells2 : List CellView) (ps ps2 : List PointerView) (sites2 : List SiteView) (ways : List Way) (exits : List Exit) (guard : ℕ) (h : Held)
-    (so_far : IsSoFar g k hs t) (arrives : Arrives g k t cells ps guard h) (s : Steps g k guard h cells cells2 ps ps2 t.sites sites2 t.ways ways t.exits exits) (below : All (IsBelow (length cells2)) s.more)
-    (stay : ReadsStay t.cells cells2 t.sites) where
+    (so_far : IsSoFar g k hs t) (arrives : Arrives g k t cells ps guard h) (s : Steps g k guard h cells cells2 ps ps2 t.sites sites2 t.ways ways t.exits exits) where
   abbrev pub u : Making
-  u = record { cells = cells2; pointers = ps2; sites = sites2; ways = past k ways; exits = exits; nodes = t.nodes ++ made_next g k guard t.cells cells2 ∷ [] }
+  u = record { cells = cells2; pointers = ps2; sites = sites2; ways = ways; exits = exits; nodes = t.nodes ++ made_next g k guard t.cells cells2 ∷ [] }
 
-  grows : Grows t.cells cells2
-  grows = grown arrives.grows s.grows
+  abbrev reads : ℕ → ℕ → Type 0
+  reads = ReadsOwn t.sites sites2
+
+  grows : GrowsWith reads t.cells cells2
+  grows = grown_with reads t.cells cells cells2 (reads_none reads t.cells cells arrives.grows) s.grows
 
   more : Extends ps ps2
   more = record { more = s.more_pointers; is = s.pointers_are }
@@ -51,7 +53,7 @@ module _ (g : GraphView) (k : ℕ) (hs : List Held) (t : Making) (cells cells2 :
   low = subst (All (λ x. x.node < k + 1)) (sym s.sites_are) (low_more k t.sites s.more so_far.laid.low at)
 
   older : (packet : PacketIn) (maps : MapState) (v : ℕ → ℕ) (i j : ℕ) → i ≤ j → IsCase g u packet maps v j → IsCase g t packet maps v i
-  older packet maps v i j l case = case_older g t u packet maps v s.more i j stay grows s.sites_are l case
+  older packet maps v i j l case = case_older reads g t u packet maps v s.more i j grows s.sites_are l case
 
   good_before : (packet : PacketIn) (maps : MapState) (v : ℕ → ℕ) → IsCase g u packet maps v k → IsGood g packet v t.pointers k t.ways t.exits (before g packet maps k)
   good_before packet maps v case = so_far.right.good packet maps v (older packet maps v k k (omega arith) case)
@@ -124,22 +126,22 @@ module _ (g : GraphView) (k : ℕ) (hs : List Held) (t : Making) (cells cells2 :
     holds = λ packet maps v j m l. holds_more packet maps v m j l;
     does = λ packet maps v j m l. does_more packet maps v m j (cases_lt j k) l;
     maps_are = λ packet maps v j l. maps_more packet maps v j (cases_lt j (k + 1)) l;
-    good = λ packet maps v case. good_past g packet v ps2 k ways exits (before g packet maps (k + 1))
-        (subst (λ (i : ℕ). IsGood g packet v ps2 (k + 1) ways exits (before g packet maps i)) next_is (stepped packet maps v case).0);
+    good = λ packet maps v case. subst (λ (i : ℕ). IsGood g packet v ps2 (k + 1) ways exits (before g packet maps i)) next_is (stepped packet maps v case).0;
   }
 
   pub next_so_far : IsSoFar g (k + 1) (hs ++ h ∷ []) u
   next_so_far = record {
     formed = grows.formed so_far.formed;
-    made = made_past g cells2 ps2 k ways exits s.made;
+    made = s.made;
     held_count = omega (arith, length-append hs (h ∷ []), so_far.held_count);
     inside = held_each (λ j x. AreInside g.decls (length cells2) ps2 x (node_at g.nodes j).kinds)
         (λ j l. inside_later g.decls (length t.cells) (length cells2) t.pointers ps2 (held_in hs j) (node_at g.nodes j).kinds grows.longer extends (so_far.inside j l))
         (inside_later g.decls (length cells) (length cells2) ps ps2 h (node_at g.nodes k).kinds s.grows.longer more arrives.inside);
-    laid = laid_more g k guard t cells2 ps2 sites2 s.more (past k ways) exits so_far.laid arrives.own.0 (omega (arith, arrives.own.1, s.grows.longer)) grows.longer s.sites_are s.own below;
+    laid = laid_more g k guard t cells2 ps2 sites2 s.more ways exits so_far.laid arrives.own.0 (omega (arith, arrives.own.1, s.grows.longer)) grows.longer s.sites_are s.own s.below;
+    sited = sited_more g.decls (made_alone t) (made_alone u) s.more grows s.sites_are s.fits (below_cells g k t so_far.laid) so_far.sited;
     right = right;
   }
 
 pub nodes_follow : NodesFollow
-nodes_follow g k hs t cells cells2 ps ps2 sites ways exits guard h so_far arrives s below stay =
-    next_so_far g k hs t cells cells2 ps ps2 sites ways exits guard h so_far arrives s below stay
+nodes_follow g k hs t cells cells2 ps ps2 sites ways exits guard h so_far arrives s =
+    next_so_far g k hs t cells cells2 ps ps2 sites ways exits guard h so_far arrives s

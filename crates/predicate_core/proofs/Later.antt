@@ -1,9 +1,7 @@
--- What is known among more cells and pointers, and with fewer edges.
-use Rattle.std.proofs.Common.{◌≡◌, ℕ, suc, zero, ◌+◌, ◌<◌, ◌≤◌, ◌==◌, not, Bool, true, false, List, [], ◌∷◌, length, get_or, sym, ◌∙◌, ap, subst, arith}
+-- What is known among more cells and pointers.
+use Rattle.std.proofs.Common.{◌≡◌, ℕ, suc, zero, Bool, true, false, List, [], ◌∷◌, length, get_or, sym, ◌∙◌, ap, subst, arith}
 use Rattle.std.specs.Prelude.{slice_index, Contains, cond}
 use Rattle.std.specs.List.{filter}
-use Rattle.std.proofs.lemmas.Bool.Decides.{nat_tests}
-use Rattle.std.proofs.lemmas.List.Elements.{All-filter}
 use Rattle.xdp_maps.specs.declared.decl.MapDecl.{MapDecl}
 use Rattle.xdp_machine.specs.Values as is
 use Rattle.xdp_machine.specs.State.{Machine, PacketIn}
@@ -17,10 +15,9 @@ use Rattle.held_cells.specs.declared.way.Exit.{Exit}
 use Rattle.held_cells.specs.Paths.{GraphView, Stage}
 use Rattle.held_cells.specs.Held.{PointerView, AreInside, AreHeld}
 use Rattle.held_cells.specs.Carrying.{IsKnown}
-use Rattle.held_cells.specs.Steps.{Leads, IsGood, AreMade}
+use Rattle.held_cells.specs.Steps.{IsGood, AreMade}
 use Rattle.edge_cells.specs.Meeting.{Extends}
 use Rattle.edge_cells.proofs.ExtendingLaws.{holds_later}
-use Rattle.predicate_core.specs.Laws.{past}
 
 pub held_later : (decls : List MapDecl) (packet : PacketIn) (v : ℕ → ℕ) (n : ℕ) (ps qs : List PointerView) (h : Held) (k : Kinds) (m : Machine)
     → Extends ps qs → AreInside decls n ps h k → AreHeld decls packet v ps h k m → AreHeld decls packet v qs h k m
@@ -61,7 +58,7 @@ good_later g packet v cells ps qs k ways exits s e made good = record {
   somewhere = good.somewhere;
 }
 
--- ---- edges that lead to a node are no longer needed behind it
+-- ---- edges that lead to a node
 
 pub contains_filter : {X : Type 0} (p : X → Bool) (xs : List X) (x : X) → p x ≡ true → Contains xs x → Contains (filter p xs) x
 contains_filter p [] x e c = absurd (omega (arith, c.1))
@@ -71,23 +68,3 @@ contains_filter {X = X} p (y ∷ ys) x e (suc i, l, is) = by (p y) (contains_fil
     by : (t : Bool) → Contains (filter p ys) x → Contains (cond t (y ∷ filter p ys) (filter p ys)) x
     by true c = (suc c.0, omega (arith, c.1), c.2)
     by false c = c
-
-pub another : (k n : ℕ) → k + 1 ≤ n → not (n == k) ≡ true
-another k n h = grind (arith, nat_tests)
-
-pub good_past : (g : GraphView) (packet : PacketIn) (v : ℕ → ℕ) (ps : List PointerView) (k : ℕ) (ways : List Way) (exits : List Exit) (s : Stage)
-    → IsGood g packet v ps (k + 1) ways exits s → IsGood g packet v ps (k + 1) (past k ways) exits s
-good_past g packet v ps k ways exits s good = record {
-  bits = All-filter (λ e. not (e.to == k)) (λ e. v e.bit < 2) ways good.bits;
-  ahead = good.ahead;
-  placed = good.placed;
-  each = All-filter (λ e. not (e.to == k)) (λ e. k + 1 ≤ e.to → Leads g packet v ps s e) ways good.each;
-  some = λ n m at. let x = good.some n m at in
-      (x.0, contains_filter (λ e. not (e.to == k)) ways x.0 (ap (λ (j : ℕ). not (j == k)) x.2 ∙ another k n (good.ahead n m at).0) x.1, x.2, x.3);
-  ends = good.ends;
-  ended = good.ended;
-  somewhere = good.somewhere;
-}
-
-pub made_past : (g : GraphView) (cells : List CellView) (ps : List PointerView) (k : ℕ) (ways : List Way) (exits : List Exit) → AreMade g cells ps ways exits → AreMade g cells ps (past k ways) exits
-made_past g cells ps k ways exits made = record { each_way = All-filter (λ e. not (e.to == k)) (λ e. (e.bit < length cells) × AreInside g.decls (length cells) ps e.held e.kinds) ways made.each_way; each_exit = made.each_exit }

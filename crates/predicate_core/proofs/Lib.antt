@@ -2,6 +2,8 @@ pub mod Later
 pub mod SiteLists
 pub mod Cases
 pub mod NodeLayout
+pub mod Sited
+pub mod Staying
 pub mod Following
 pub mod Tracing
 pub mod Computing

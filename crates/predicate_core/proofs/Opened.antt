@@ -192,6 +192,11 @@ module _ (described : StartIsDescribed) (starts : StartsInRange) (g : GraphView)
       maps_are = λ packet maps v j l case. let f : 0 ≡ j = omega (arith, l) in subst (λ (i : ℕ). maps ≡ maps_in maps (before g packet maps i)) f refl;
       good = good;
     };
+    sited = record {
+      fits = λ j l. absurd (omega (arith, l));
+      known = λ k j l is. absurd (opens.grows.reads k j (omega arith) l is);
+      below = λ k j i l is. absurd (opens.grows.reads k j (omega arith) l is);
+    };
   }
 
 pub opens_follow : StartIsDescribed → StartsInRange → OpensFollow

@@ -8,10 +8,8 @@ use Rattle.cell_core.specs.Sites.{SiteView}
 use Rattle.operator_cells.specs.Making.{seen}
 use Rattle.held_cells.specs.declared.way.Way.{Way}
 use Rattle.held_cells.specs.declared.way.Exit.{Exit}
-use Rattle.held_cells.specs.declared.held.Held.{Held}
 use Rattle.held_cells.specs.Paths.{GraphView}
 use Rattle.held_cells.specs.Held.{PointerView, pointed}
-use Rattle.held_cells.specs.Operating.{Operates}
 use Rattle.held_cells.specs.Steps.{AreMade, Steps}
 use Rattle.edge_cells.specs.declared.joining.Here.{Here}
 use Rattle.site_cells.specs.Sited.{sited}

@@ -76,8 +76,8 @@ fn operate_call(
     ensures ways { OnOk result (made.new.ways ≡ made.old.ways) }
     ensures exits { OnOk result (made.new.exits ≡ made.old.exits) }
 {
-    match insn.imm {
-        1 => operate_lookup(
+    if insn.imm == 1 {
+        return operate_lookup(
             &mut made.cells,
             &mut made.pointers,
             &mut made.sites,
@@ -86,10 +86,28 @@ fn operate_call(
             insn,
             decls,
             here,
-        ),
-        2 => operate_update(&mut made.cells, &mut made.sites, held, kinds, insn, decls, here),
-        _ => operate_delete(&mut made.cells, &mut made.sites, held, kinds, insn, decls, here),
+        );
     }
+    if insn.imm == 2 {
+        return operate_update(
+            &mut made.cells,
+            &mut made.sites,
+            held,
+            kinds,
+            insn,
+            decls,
+            here,
+        );
+    }
+    operate_delete(
+        &mut made.cells,
+        &mut made.sites,
+        held,
+        kinds,
+        insn,
+        decls,
+        here,
+    )
 }
 
 // An access to an entry of a map.

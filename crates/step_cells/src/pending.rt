@@ -17,12 +17,7 @@ use operator_cells::joining::{Arm, are_one, flat};
 use std::alloc::{AllocError, Global};
 
 // The cells from one on that read a site.
-fn readers(
-    alloc: Global,
-    cells: &[Cell],
-    number: u32,
-    first: usize,
-) -> Result<Vec<u32>, AllocError>
+fn readers(alloc: Global, cells: &[Cell], number: u32, first: usize) -> Result<Vec<u32>, AllocError>
     ensures { IfOk result (λ all. AreReaders (seen cells.now) number first all.items) }
 {
     let mut all = Vec::new(alloc);

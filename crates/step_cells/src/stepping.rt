@@ -88,7 +88,9 @@ fn step_along(
         return Ok(());
     };
     let mut held = here.held;
-    operate_at(made, &mut held, decls, node, kinds, here.guard, insn, pending)?;
+    operate_at(
+        made, &mut held, decls, node, kinds, here.guard, insn, pending,
+    )?;
     step_on(
         decls,
         node,

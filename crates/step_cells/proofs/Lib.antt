@@ -1,0 +1,4 @@
+pub mod Chosen
+pub mod Ends
+pub mod Nodes
+pub mod Waiting

@@ -1,0 +1,27 @@
+use Rattle.std.proofs.Common.{◌∙◌, length, sym, ap}
+use Rattle.operator_cells.specs.Making.{seen}
+use Rattle.held_cells.specs.Held.{pointed}
+use Rattle.site_cells.specs.Sited.{sited}
+use Rattle.step_cells.proofs.Nodes.{plain_operates}
+use Rattle.step_cells.proofs.operating.operate_at.Goals as goal
+
+pub returns-then-is_plain-clause-operates : goal.returns-then-is_plain-clause-operates
+returns-then-is_plain-clause-operates c = λ is_ref.
+    plain_operates c.carry_plain.result c.carries_operate.ensures c.args.decls.now (pointed c.args.made.now.pointers.items) (pointed c.deref.result.now) c.args.insn.now c.args.node c.args.guard is_ref c.args.kinds.now c.args.held.now c.carry_plain.new.held
+    (seen c.args.made.now.cells.items) (seen c.carry_plain.new.cells.items) (sited c.args.made.now.sites.items) (ap pointed c.deref.ensures.value) (sym c.is_plain.ensures ∙ c.if-is_plain.true) c.requires.allowed c.requires.inside (c.carry_plain.ensures c.args.decls.now c.args.node is_ref)
+
+pub operate_call-requires-clause-pending : goal.operate_call-requires-clause-pending
+operate_call-requires-clause-pending c = c.pending_of.ensures (length (seen c.args.made.now.cells.items)) c.requires.pending c.requires.guard
+
+pub operate_access-requires : goal.operate_access-requires
+operate_access-requires c = record {
+  insn = c.requires.insn;
+  leads = c.requires.leads;
+  call = c.in_default.not-Call;
+  accesses = sym c.is_plain.ensures ∙ c.if-is_plain.false;
+  guard = c.requires.guard;
+  pending = c.pending_of.ensures (length (seen c.args.made.now.cells.items)) c.requires.pending c.requires.guard;
+  inside = c.requires.inside;
+  allowed = c.requires.allowed;
+  values = c.requires.values;
+}

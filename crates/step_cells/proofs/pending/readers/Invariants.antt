@@ -1,0 +1,9 @@
+use Rattle.std.proofs.Common.{◌≡◌, ℕ, ◌<◌, ◌≤◌, Some, length}
+use Rattle.std.specs.Prelude.{All, Contains}
+use Rattle.cell_core.specs.Cells.{cell_at, site_in}
+use Rattle.operator_cells.specs.Making.{seen}
+use Rattle.step_cells.proofs.pending.readers.Given as goal
+
+abbrev pub invariant-loop-i : goal.invariant-loop-i
+invariant-loop-i l = All (λ k. k < length (seen l.cells)) l.all.items
+    × ((k : ℕ) → l.first ≤ k → k < l.i → site_in (cell_at (seen l.cells) k).op ≡ Some l.number → Contains l.all.items k)

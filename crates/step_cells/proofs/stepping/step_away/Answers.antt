@@ -1,0 +1,11 @@
+use Rattle.std.proofs.Common.{ap, None, Some, refl}
+use Rattle.held_cells.specs.Held.{pointed}
+use Rattle.bpf_isa.specs.declared.operation.Op.TheVariants.{Ja}
+use Rattle.step_cells.proofs.Nodes.{if_ok, jump_brings, away_node}
+use Rattle.step_cells.proofs.stepping.step_away.Goals as goal
+
+pub returns-in-Some-clause-steps : goal.returns-in-Some-clause-steps
+returns-in-Some-clause-steps c = rw c.in-Some.is (if_ok c.step_always.result _ _ (λ done s. away_node _ _ _ c.args.here.now _ _ _ _ _ _ _ _ _ _ _ (ap pointed c.deref.ensures.value) s) c.step_always.ensures.steps)
+
+pub returns-in-Some-clause-brought : goal.returns-in-Some-clause-brought
+returns-in-Some-clause-brought c = rw c.in-Some.is (if_ok c.step_always.result _ _ (λ done h. jump_brings c.args.decls.now c.args.node c.args.kinds.now c.args.insn.now (Ja c.args.width) c.args.is_ref None (Some c.in-Some.to) _ _ c.requires.op refl h) c.step_always.ensures.brought)
