@@ -13,3 +13,4 @@ pub mod Arrived
 pub mod Fed
 pub mod Numbered
 pub mod Entering
+pub mod Progressing

@@ -25,6 +25,13 @@ making_of p = record {
   nodes = p.nodes.items;
 }
 
+-- which edges lead to each node, and which cells stand beside each edge
+abbrev pub entries_of : Progress → List (List ℕ)
+entries_of p = map_list (λ x. x.items) p.entries.items
+
+abbrev pub pending_of : Progress → List (List ℕ)
+pending_of p = map_list (λ x. x.items) p.pending.items
+
 -- the nodes to which edges lead
 abbrev pub targets : List Way → List ℕ
 targets ways = map_list (λ e. e.to) ways
@@ -51,7 +58,7 @@ pub record IsReady (g : GraphView) (k : ℕ) (p : Progress) : Type 0 where
   pub so_far : IsSoFar g k held (making_of p)
   pub fed : AreFed g k p.made.ways.items
   pub bytes : HaveBytes (seen p.made.cells.items) 256 p.window
-  pub kept : AreKept (length g.nodes) (length g.decls) (length (seen p.made.cells.items)) (targets p.made.ways.items) (map_list (λ x. x.items) p.entries.items) (map_list (λ x. x.items) p.pending.items)
+  pub kept : AreKept (length g.nodes) (length g.decls) (length (seen p.made.cells.items)) (targets p.made.ways.items) (entries_of p) (pending_of p)
 
 -- A node whose turn it is: its guard and what is held there, and for each map a cell that is there; only cells and pointers are added.
 pub record Comes (g : GraphView) (k : ℕ) (old new : Progress) (here : Here) (pending : List ℕ) : Type 0 where
