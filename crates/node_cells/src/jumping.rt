@@ -1,12 +1,13 @@
 //! Nodes with jumps.
 
-ghost use Rattle.std.specs.Prelude.{◌≡◌, ◌<◌, ◌++◌, false, true, Some, None, length, map as map_list, IfOk};
+ghost use Rattle.std.specs.Prelude.{◌≡◌, ◌<◌, ◌++◌, false, true, Some, None, List, length, map as map_list, IfOk};
 ghost use Rattle.bpf_isa.specs.Spelling.{IsInsn};
 ghost use Rattle.kind_core.specs.Tests.{passed};
 ghost use Rattle.kind_core.specs.Effects.{effect_of, verdict};
 ghost use Rattle.kind_core.specs.Edges.{decided};
 ghost use Rattle.cell_core.specs.Formed.{AreFormed};
 ghost use Rattle.operator_cells.specs.Making.{seen};
+ghost use Rattle.held_cells.specs.declared.way.Way.{Way};
 ghost use Rattle.held_cells.specs.Held.{pointed, AreInside};
 ghost use Rattle.node_cells.specs.Ends.{ArePresent, brought, brought_along, all_brought};
 ghost use Rattle.node_cells.specs.Stepping.{JumpSteps, EdgeSteps};
@@ -51,6 +52,7 @@ fn step_both(
     requires undecided { decided kinds.now insn.now ≡ None }
     ensures steps { IfOk result (λ done. JumpSteps decls.now node kinds.now here.now insn.now (Some next) (Some jump) (seen cells.old.items) (seen cells.new.items) (pointed pointers.now) ways.old.items ways.new.items) }
     ensures brought { IfOk result (λ done. map_list brought ways.new.items ≡ map_list brought ways.old.items ++ all_brought decls.now node kinds.now insn.now false (Some next) (Some jump)) }
+    ensures kept { IfOk result (λ done. (more : List Way) × (ways.new.items ≡ ways.old.items ++ more)) }
 {
     conditions_are_sound();
     jumps_are_tested();
@@ -90,6 +92,7 @@ fn step_one(
     requires decided { decided kinds.now insn.now ≡ Some taken }
     ensures steps { IfOk result (λ done. EdgeSteps decls.now node kinds.now here.now insn.now taken to (seen cells.old.items) (seen cells.new.items) (pointed pointers.now) ways.old.items ways.new.items) }
     ensures brought { IfOk result (λ done. map_list brought ways.new.items ≡ map_list brought ways.old.items ++ brought_along decls.now node kinds.now insn.now false taken (Some to)) }
+    ensures kept { IfOk result (λ done. (more : List Way) × (ways.new.items ≡ ways.old.items ++ more)) }
 {
     conditions_are_sound();
     jumps_are_tested();
@@ -127,6 +130,7 @@ pub fn step_jump(
     requires present { ArePresent kinds.now insn.now next jump }
     ensures steps { IfOk result (λ done. JumpSteps decls.now node kinds.now here.now insn.now next jump (seen cells.old.items) (seen cells.new.items) (pointed pointers.now) ways.old.items ways.new.items) }
     ensures brought { IfOk result (λ done. map_list brought ways.new.items ≡ map_list brought ways.old.items ++ all_brought decls.now node kinds.now insn.now false next jump) }
+    ensures kept { IfOk result (λ done. (more : List Way) × (ways.new.items ≡ ways.old.items ++ more)) }
 {
     match (next, jump) {
         (Some(next), Some(jump)) => {
@@ -163,6 +167,7 @@ pub fn step_always(
     requires inside { AreInside decls.now (length (seen cells.old.items)) (pointed pointers.now) here.now.held kinds.now }
     ensures steps { IfOk result (λ done. EdgeSteps decls.now node kinds.now here.now insn.now true to (seen cells.old.items) (seen cells.new.items) (pointed pointers.now) ways.old.items ways.new.items) }
     ensures brought { IfOk result (λ done. map_list brought ways.new.items ≡ map_list brought ways.old.items ++ brought_along decls.now node kinds.now insn.now false true (Some to)) }
+    ensures kept { IfOk result (λ done. (more : List Way) × (ways.new.items ≡ ways.old.items ++ more)) }
 {
     conditions_are_sound();
     jumps_are_tested();

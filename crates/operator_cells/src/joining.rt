@@ -29,8 +29,8 @@ pub fn guard(cells: &mut Vec<Cell>, bits: &[u32]) -> Result<u32, AllocError>
     Ok(c)
 }
 
-/// Whether all edges bring one cell.
-pub fn are_one(arms: &[Arm], cell: u32) -> bool
+// Whether all edges bring one cell.
+fn are_one(arms: &[Arm], cell: u32) -> bool
     ensures { result ≡ true → All (λ a. a.cell ≡ cell) arms.now }
 {
     for arm in arms {

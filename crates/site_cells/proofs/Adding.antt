@@ -12,7 +12,7 @@ use Rattle.cell_core.specs.declared.site.Act.{Act}
 use Rattle.cell_core.specs.Cells.{CellView, cell_at, no_cell, site_in, bits_from, on}
 use Rattle.cell_core.specs.Sites.{SiteView, site_at, no_site, applied, after, read_on}
 use Rattle.cell_core.specs.View.{site_of}
-use Rattle.operator_cells.specs.Making.{Adds, Grows}
+use Rattle.operator_cells.specs.Making.{Adds, GrowsWith}
 use Rattle.held_cells.specs.declared.held.Pointer.{Pointer}
 use Rattle.held_cells.specs.Held.{PointerView, pointer_of, pointed, pointer_at, no_pointer}
 use Rattle.held_cells.specs.Steps.{AreRead}
@@ -53,8 +53,8 @@ read_added old new c op ins site pending width adds e = record {
 }
 
 -- a cell that reads stays
-pub read_later : (old new : List CellView) (c : ℕ) (op : Operator) (site : SiteView) (pending width : ℕ) → Grows old new → IsReadOf old c op site pending width → IsReadOf new c op site pending width
-read_later old new c op site pending width grows r = record { there = omega (arith, r.there, grows.longer); is = grows.kept c r.there ∙ r.is }
+pub read_later : (R : ℕ → ℕ → Type 0) (old new : List CellView) (c : ℕ) (op : Operator) (site : SiteView) (pending width : ℕ) → GrowsWith R old new → IsReadOf old c op site pending width → IsReadOf new c op site pending width
+read_later R old new c op site pending width grows r = record { there = omega (arith, r.there, grows.longer); is = grows.kept c r.there ∙ r.is }
 
 -- ---- what it does
 

@@ -27,6 +27,7 @@ use Rattle.kind_core.specs.Tests.{◌>>=◌, passed}
 use Rattle.kind_core.specs.Effects.{effect_of, effect_as, verdict}
 use Rattle.kind_core.specs.Edges.{transferred, changed, changed_if}
 use Rattle.kind_core.proofs.TestLaws.{bind_passed}
+use Rattle.site_cells.proofs.Entries.{IsInPlace, aligned_too}
 
 is_map : (decls : List MapDecl) (x : Kind) {q : ℕ} → declared decls x ≡ Ok q → (x ≡ MapRef q) × (q < length decls)
 is_map decls (MapRef r) e = by (nat_lt r (length decls)) refl e
@@ -74,41 +75,42 @@ lookup_allowed decls k i op imm allowed =
 -- ---- loads
 
 -- what is found in an entry
-entry_kind : (decls : List MapDecl) (k : Kinds) (q o : ℕ) (z : ℤ) (size : Size) → IfOk (access.loaded decls k (Entry q o) z size) (λ x. Num Unknown ≡ x)
+entry_kind : (decls : List MapDecl) (k : Kinds) (q o : ℕ) (z : ℤ) (size : Size) → IfOk (access.loaded decls k (Entry q o) z size) (λ x. (Num Unknown ≡ x) × IsInPlace decls q (pos o +ℤ z) size)
 unfolding access.loaded
 entry_kind decls k q o z size = by (tests.aligned (pos o +ℤ z) (bytes_in size) (value_bytes decls q)) refl
   where
-    by : (t : Result ℕ Why) → tests.aligned (pos o +ℤ z) (bytes_in size) (value_bytes decls q) ≡ t → IfOk (places.in_value decls q (pos o +ℤ z) size >>= (λ place. access.found k.slots size place)) (λ x. Num Unknown ≡ x)
-    by (Ok a) e = rw e refl
+    by : (t : Result ℕ Why) → tests.aligned (pos o +ℤ z) (bytes_in size) (value_bytes decls q) ≡ t → IfOk (places.in_value decls q (pos o +ℤ z) size >>= (λ place. access.found k.slots size place)) (λ x. (Num Unknown ≡ x) × IsInPlace decls q (pos o +ℤ z) size)
+    by (Ok a) e = rw e (refl, record { place = a; at = aligned_too (pos o +ℤ z) (bytes_in size) (value_bytes decls q) a e })
     by (Err w) e = rw e tt
 
--- where it is allowed, the destination gets a number
-pub load_becomes : (decls : List MapDecl) (k : Kinds) (i : Insn) (size : Size) (q o : ℕ) → i.op ≡ Load size → kinds.register k i.src ≡ Entry q o → verdict (effect_of decls k i) ≡ passed
-    → (node : ℕ) (is_ref taken : Bool) → transferred decls k i node is_ref taken ≡ with_register k i.dst (Num Unknown)
+-- where it is allowed it is in its place, and the destination gets a number
+pub load_allowed : (decls : List MapDecl) (k : Kinds) (i : Insn) (size : Size) (q o : ℕ) → i.op ≡ Load size → kinds.register k i.src ≡ Entry q o → verdict (effect_of decls k i) ≡ passed
+    → IsInPlace decls q (pos o +ℤ i.offset) size × ((node : ℕ) (is_ref taken : Bool) → transferred decls k i node is_ref taken ≡ with_register k i.dst (Num Unknown))
 unfolding effect_of access.loaded_plain
-load_becomes decls k i size q o op base allowed node is_ref taken =
+load_allowed decls k i size q o op base allowed =
     let e = ok (effect_of decls k i) allowed in
     let b = bind_passed (profile.profiled i k) (λ u. effect_as decls k i i.op) e.0 e.1 in
     let r = bind_passed (access.loaded_plain decls k (kinds.register k i.src) i.offset size) _ e.0 (sym (ap (effect_as decls k i) op) ∙ b.2) in
     let l : access.loaded decls k (Entry q o) i.offset size ≡ Ok r.0 = sym (ap (λ (x : Kind). access.loaded_plain decls k x i.offset size) base) ∙ r.1 in
-    ap (changed_if node is_ref taken k) (e.1 ∙ sym r.2) ∙ ap (with_register k i.dst) (sym (subst (λ (w : Result Kind Why). IfOk w (λ x. Num Unknown ≡ x)) l (entry_kind decls k q o i.offset size)))
+    let found = subst (λ (w : Result Kind Why). IfOk w (λ x. (Num Unknown ≡ x) × IsInPlace decls q (pos o +ℤ i.offset) size)) l (entry_kind decls k q o i.offset size) in
+    (found.1, λ node is_ref taken. ap (changed_if node is_ref taken k) (e.1 ∙ sym r.2) ∙ ap (with_register k i.dst) (sym found.0))
   where
     ok : (r : _) → verdict r ≡ passed → (e : _) × (r ≡ Ok e)
     ok (Ok e) h = (e, refl)
     ok (Err w) h = absurd (cc)
 
 -- the same where the sign is extended
-pub signed_becomes : (decls : List MapDecl) (k : Kinds) (i : Insn) (size : Size) (q o : ℕ) → i.op ≡ LoadSigned size → kinds.register k i.src ≡ Entry q o → verdict (effect_of decls k i) ≡ passed
-    → (node : ℕ) (is_ref taken : Bool) → transferred decls k i node is_ref taken ≡ with_register k i.dst (Num Unknown)
+pub signed_allowed : (decls : List MapDecl) (k : Kinds) (i : Insn) (size : Size) (q o : ℕ) → i.op ≡ LoadSigned size → kinds.register k i.src ≡ Entry q o → verdict (effect_of decls k i) ≡ passed
+    → IsInPlace decls q (pos o +ℤ i.offset) size × ((node : ℕ) (is_ref taken : Bool) → transferred decls k i node is_ref taken ≡ with_register k i.dst (Num Unknown))
 unfolding effect_of access.loaded_signed
-signed_becomes decls k i size q o op base allowed node is_ref taken =
+signed_allowed decls k i size q o op base allowed =
     let e = ok (effect_of decls k i) allowed in
     let b = bind_passed (profile.profiled i k) (λ u. effect_as decls k i i.op) e.0 e.1 in
     let r = bind_passed (access.loaded_signed decls k (kinds.register k i.src) i.offset size) _ e.0 (sym (ap (effect_as decls k i) op) ∙ b.2) in
     let l = bind_passed (access.loaded decls k (Entry q o) i.offset size) _ r.0 (sym (ap (λ (x : Kind). access.loaded_signed decls k x i.offset size) base) ∙ r.1) in
-    let found : Num Unknown ≡ l.0 = subst (λ (w : Result Kind Why). IfOk w (λ x. Num Unknown ≡ x)) l.1 (entry_kind decls k q o i.offset size) in
-    let same : Ok (Num Unknown) ≡ Ok r.0 = ap (λ (x : Kind). tests.number_in x >>= (λ n. Ok (Num (number_extended Bits64 (8 * bytes_in size) n)))) found ∙ l.2 in
-    ap (changed_if node is_ref taken k) (e.1 ∙ sym r.2) ∙ ap (with_register k i.dst) (sym (ok_same same))
+    let found = subst (λ (w : Result Kind Why). IfOk w (λ x. (Num Unknown ≡ x) × IsInPlace decls q (pos o +ℤ i.offset) size)) l.1 (entry_kind decls k q o i.offset size) in
+    let same : Ok (Num Unknown) ≡ Ok r.0 = ap (λ (x : Kind). tests.number_in x >>= (λ n. Ok (Num (number_extended Bits64 (8 * bytes_in size) n)))) found.0 ∙ l.2 in
+    (found.1, λ node is_ref taken. ap (changed_if node is_ref taken k) (e.1 ∙ sym r.2) ∙ ap (with_register k i.dst) (sym (ok_same same)))
   where
     ok : (r : _) → verdict r ≡ passed → (e : _) × (r ≡ Ok e)
     ok (Ok e) h = (e, refl)
@@ -120,26 +122,26 @@ signed_becomes decls k i size q o op base allowed node is_ref taken =
 -- ---- stores
 
 entry_store : (decls : List MapDecl) (k : Kinds) (q o : ℕ) (z : ℤ) (size : Size) (x : Kind)
-    → IfOk (access.stored decls k (Entry q o) z size x) (λ e. (n : Number) × (x ≡ Num n) × ((node : ℕ) (is_ref taken : Bool) → changed node is_ref taken k e ≡ k))
+    → IfOk (access.stored decls k (Entry q o) z size x) (λ e. (n : Number) × (x ≡ Num n) × IsInPlace decls q (pos o +ℤ z) size × ((node : ℕ) (is_ref taken : Bool) → changed node is_ref taken k e ≡ k))
 unfolding access.stored
 entry_store decls k q o z size x = by (tests.aligned (pos o +ℤ z) (bytes_in size) (value_bytes decls q)) x refl
   where
     by : (t : Result ℕ Why) (y : Kind) → tests.aligned (pos o +ℤ z) (bytes_in size) (value_bytes decls q) ≡ t
-        → IfOk (places.in_value decls q (pos o +ℤ z) size >>= (λ place. access.stored_at k.slots size y place)) (λ e. (n : Number) × (y ≡ Num n) × ((node : ℕ) (is_ref taken : Bool) → changed node is_ref taken k e ≡ k))
-    by (Ok a) (Num n) e = rw e (n, refl, λ node is_ref taken. refl)
+        → IfOk (places.in_value decls q (pos o +ℤ z) size >>= (λ place. access.stored_at k.slots size y place)) (λ e. (n : Number) × (y ≡ Num n) × IsInPlace decls q (pos o +ℤ z) size × ((node : ℕ) (is_ref taken : Bool) → changed node is_ref taken k e ≡ k))
+    by (Ok a) (Num n) e = rw e (n, refl, record { place = a; at = aligned_too (pos o +ℤ z) (bytes_in size) (value_bytes decls q) a e }, λ node is_ref taken. refl)
     by (Ok a) y e = rw e tt
     by (Err w) y e = rw e tt
 
--- where it is allowed, it is one of a number, and what is known stays
+-- where it is allowed it is one of a number, in its place, and what is known stays
 pub store_allowed : (decls : List MapDecl) (k : Kinds) (i : Insn) (size : Size) (q o : ℕ) (x : Kind) → effect_as decls k i i.op ≡ access.stored decls k (kinds.register k i.dst) i.offset size x → kinds.register k i.dst ≡ Entry q o
-    → verdict (effect_of decls k i) ≡ passed → (n : Number) × (x ≡ Num n) × ((node : ℕ) (is_ref taken : Bool) → transferred decls k i node is_ref taken ≡ k)
+    → verdict (effect_of decls k i) ≡ passed → (n : Number) × (x ≡ Num n) × IsInPlace decls q (pos o +ℤ i.offset) size × ((node : ℕ) (is_ref taken : Bool) → transferred decls k i node is_ref taken ≡ k)
 unfolding effect_of
 store_allowed decls k i size q o x is base allowed =
     let e = ok (effect_of decls k i) allowed in
     let b = bind_passed (profile.profiled i k) (λ u. effect_as decls k i i.op) e.0 e.1 in
     let s : access.stored decls k (Entry q o) i.offset size x ≡ Ok e.0 = sym (ap (λ (y : Kind). access.stored decls k y i.offset size x) base) ∙ sym is ∙ b.2 in
-    let f = subst (λ (r : Result _ Why). IfOk r (λ y. (n : Number) × (x ≡ Num n) × ((node : ℕ) (is_ref taken : Bool) → changed node is_ref taken k y ≡ k))) s (entry_store decls k q o i.offset size x) in
-    (f.0, f.1, λ node is_ref taken. ap (changed_if node is_ref taken k) e.1 ∙ f.2 node is_ref taken)
+    let f = subst (λ (r : Result _ Why). IfOk r (λ y. (n : Number) × (x ≡ Num n) × IsInPlace decls q (pos o +ℤ i.offset) size × ((node : ℕ) (is_ref taken : Bool) → changed node is_ref taken k y ≡ k))) s (entry_store decls k q o i.offset size x) in
+    (f.0, f.1, f.2, λ node is_ref taken. ap (changed_if node is_ref taken k) e.1 ∙ f.3 node is_ref taken)
   where
     ok : (r : _) → verdict r ≡ passed → (e : _) × (r ≡ Ok e)
     ok (Ok e) h = (e, refl)
@@ -148,7 +150,7 @@ store_allowed decls k i size q o x is base allowed =
 -- ---- changes
 
 pub delete_allowed : (decls : List MapDecl) (k : Kinds) (i : Insn) → i.op ≡ Call → i.imm ≡ pos 3 → verdict (effect_of decls k i) ≡ passed
-    → (q : ℕ) × (kinds.register k 1 ≡ MapRef q) × (calls.region k (key_bytes decls q) (kinds.register k 2) ≡ passed)
+    → (q : ℕ) × (kinds.register k 1 ≡ MapRef q) × (q < length decls) × (calls.region k (key_bytes decls q) (kinds.register k 2) ≡ passed)
     × ((node : ℕ) (is_ref taken : Bool) → transferred decls k i node is_ref taken ≡ changed node is_ref taken k (calls.change_of decls q))
 delete_allowed decls k i op imm allowed =
     let e = allowed_call decls k i (pos 3) op imm allowed in
@@ -156,10 +158,10 @@ delete_allowed decls k i op imm allowed =
     let a = bind_passed (declared decls (kinds.register k 1)) _ e.0 f.5 in
     let same : Ok f.0 ≡ Ok a.0 = sym f.3 ∙ a.1 in
     let q : f.0 ≡ a.0 = cc in
-    (f.0, f.1, f.4, λ node is_ref taken. e.2 node is_ref taken ∙ ap (changed_if node is_ref taken k) (sym a.2) ∙ ap (λ (p : ℕ). changed node is_ref taken k (calls.change_of decls p)) (sym q))
+    (f.0, f.1, f.2, f.4, λ node is_ref taken. e.2 node is_ref taken ∙ ap (changed_if node is_ref taken k) (sym a.2) ∙ ap (λ (p : ℕ). changed node is_ref taken k (calls.change_of decls p)) (sym q))
 
 pub update_allowed : (decls : List MapDecl) (k : Kinds) (i : Insn) → i.op ≡ Call → i.imm ≡ pos 2 → verdict (effect_of decls k i) ≡ passed
-    → (q : ℕ) × (kinds.register k 1 ≡ MapRef q) × (calls.region k (key_bytes decls q) (kinds.register k 2) ≡ passed) × (calls.region k (value_bytes decls q) (kinds.register k 3) ≡ passed)
+    → (q : ℕ) × (kinds.register k 1 ≡ MapRef q) × (q < length decls) × (calls.region k (key_bytes decls q) (kinds.register k 2) ≡ passed) × (calls.region k (value_bytes decls q) (kinds.register k 3) ≡ passed)
     × (x : Number) × (kinds.register k 4 ≡ Num x) × ((node : ℕ) (is_ref taken : Bool) → transferred decls k i node is_ref taken ≡ changed node is_ref taken k (calls.change_of decls q))
 update_allowed decls k i op imm allowed =
     let e = allowed_call decls k i (pos 2) op imm allowed in
@@ -175,6 +177,7 @@ update_allowed decls k i op imm allowed =
     let r : f.0 ≡ a.0 = ok_same two in (
       f.0,
       f.1,
+      f.2,
       f.4,
       ap (λ (j : ℕ). calls.region k (value_bytes decls j) (kinds.register k 3)) q ∙ w.2,
       number.0,

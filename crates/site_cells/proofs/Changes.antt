@@ -1,5 +1,5 @@
 -- Updates and deletes.
-use Rattle.std.proofs.Common.{◌≡◌, ℕ, ◌^◌, ◌<◌, pos, Bool, true, Some, List, [], ◌∷◌, ◌++◌, length, map as map_list, slice_index, slice_set, refl, sym, ◌∙◌, ap, subst, arith}
+use Rattle.std.proofs.Common.{◌≡◌, ℕ, ◌^◌, ◌<◌, ◌≤◌, pos, Bool, true, Some, List, [], ◌∷◌, ◌++◌, length, map as map_list, slice_index, slice_set, refl, sym, ◌∙◌, ap, subst, arith}
 use Rattle.std.specs.Int.{w64, cast_unsigned}
 use Rattle.std.proofs.lemmas.List.{append-nil}
 use Rattle.std.proofs.lemmas.List.Elements.{All-nil, All-cons}
@@ -35,7 +35,8 @@ use Rattle.cell_core.specs.declared.site.Act.{Act}
 use Rattle.cell_core.specs.declared.site.Act.TheVariants as act
 use Rattle.cell_core.specs.Cells.{CellView, IsRun, bits_from}
 use Rattle.cell_core.specs.Sites.{SiteView, records, operation_on, answer, bytes_of}
-use Rattle.operator_cells.specs.Making.{Grows, Makes}
+use Rattle.cell_core.specs.Formed.{FitsMap, IsBelow}
+use Rattle.operator_cells.specs.Making.{GrowsWith, Grows, Makes}
 use Rattle.operator_cells.proofs.MakingLaws.{grown}
 use Rattle.held_cells.specs.declared.held.Held.{Held}
 use Rattle.held_cells.specs.Held.{PointerView, AreInside, AreHeld, number_of}
@@ -44,8 +45,9 @@ use Rattle.held_cells.specs.Carrying.{IsKnown}
 use Rattle.held_cells.specs.Operating.{Operates}
 use Rattle.site_cells.specs.declared.here.Here.{Here}
 use Rattle.site_cells.specs.Words.{HoldsRegion}
-use Rattle.site_cells.specs.Siting.{Changes, change_site}
+use Rattle.site_cells.specs.Siting.{ReadsNext, Changes, change_site}
 use Rattle.site_cells.proofs.Adding.{read_value}
+use Rattle.site_cells.proofs.OneSite.{adds_site, fits_map}
 use Rattle.site_cells.proofs.Answered.{inside_among, answered_inside, answered_held}
 use Rattle.site_cells.proofs.Stale.{changed_inside, changed_held}
 use Rattle.site_cells.proofs.Allowed.{delete_allowed, update_allowed}
@@ -65,22 +67,24 @@ pub record Helps (i : Insn) (v : ℕ → ℕ) (m n : Machine) (q : ℕ) (site : 
 
 pub change_operates : (decls : List MapDecl) (i : Insn) (here : Here) (is_ref taken : Bool) (k : Kinds) (h : Held) (old mid new : List CellView) (ps : List PointerView) (sites sites2 : List SiteView) (q c : ℕ) (a : Act) (key operands : List ℕ)
     → transferred decls k i here.node is_ref taken ≡ changed here.node is_ref taken k (calls.change_of decls q) → length h.registers ≡ 11 → AreInside decls (length old) ps h k → Grows old mid
-    → Changes mid new sites sites2 here q a key operands c → records a ≡ true
+    → FitsMap decls (change_site here q a key operands) → IsBelow (length mid) (change_site here q a key operands) → Changes mid new sites sites2 here q a key operands c → records a ≡ true
     → ((packet : PacketIn) (v : ℕ → ℕ) (m n : Machine) (refs : List ℕ) → IsRun packet new v → IsKnown decls packet v ps here.node k h m → effect refs m i i.op ≡ Some n → Helps i v m n q (change_site here q a key operands))
     → Operates decls i here.node here.guard is_ref taken k h (record h { registers = slice_set h.registers 0 c }) old new ps ps sites sites2
-change_operates decls i here is_ref taken k h old mid new ps sites sites2 q c a key operands becomes whole inside before made writes helps =
+change_operates decls i here is_ref taken k h old mid new ps sites sites2 q c a key operands becomes whole inside before fits below made writes helps =
     let site : SiteView = change_site here q a key operands in
     let none : ps ≡ ps ++ [] = sym (append-nil ps) in
-    let grows = grown before made.grows in
+    let adds = adds_site decls here old mid new sites sites2 site before made.grows made.sites_are refl refl fits below in
     record {
-      grows = grows;
+      grows = adds.grows;
       more_pointers = [];
       pointers_are = none;
       more = site ∷ [];
       sites_are = made.sites_are;
-      own = All-cons (λ (s : SiteView). (s.node ≡ here.node) × (s.guard ≡ here.guard)) site [] (refl, refl) (All-nil (λ (s : SiteView). (s.node ≡ here.node) × (s.guard ≡ here.guard)));
+      own = adds.own;
+      fits = adds.fits;
+      below = adds.below;
       inside = rw becomes (changed_inside decls (length new) ps (record h { registers = slice_set h.registers 0 c }) q here.node is_ref taken k (answered_inside decls (length new) ps h k (Num Unknown) c whole
-          (subst (λ (xs : List PointerView). AreInside decls (length new) xs h k) (sym none) (inside_among decls (length old) (length new) ps [] h k grows.longer inside)) made.reads.there));
+          (subst (λ (xs : List PointerView). AreInside decls (length new) xs h k) (sym none) (inside_among decls (length old) (length new) ps [] h k adds.grows.longer inside)) made.reads.there));
       holds = λ packet maps v m n refs run read guard after_is known at_ref e.
           let w = helps packet v m n refs run known e in
           let value : v c ≡ w.number = read_value v maps new sites sites2 c (Answer (length sites)) site here.pending 64 read made.reads refl made.sites_are guard
@@ -107,10 +111,10 @@ change_operates decls i here is_ref taken k h old mid new ps sites sites2 q c a 
 
 -- ---- deletes
 
-delete_helps : (decls : List MapDecl) (i : Insn) (here : Here) (k : Kinds) (h : Held) (old mid new : List CellView) (ps : List PointerView) (q : ℕ) (words : List ℕ) → i.op ≡ Call → i.imm ≡ pos 3 → kinds.register k 1 ≡ MapRef q
-    → Grows mid new → HoldsRegion decls ps here.node k h old mid (kinds.register k 2) (key_bytes decls q) words
+delete_helps : (R : ℕ → ℕ → Type 0) (decls : List MapDecl) (i : Insn) (here : Here) (k : Kinds) (h : Held) (old mid new : List CellView) (ps : List PointerView) (q : ℕ) (words : List ℕ) → i.op ≡ Call → i.imm ≡ pos 3 → kinds.register k 1 ≡ MapRef q
+    → GrowsWith R mid new → HoldsRegion decls ps here.node k h old mid (kinds.register k 2) (key_bytes decls q) words
     → (packet : PacketIn) (v : ℕ → ℕ) (m n : Machine) (refs : List ℕ) → IsRun packet new v → IsKnown decls packet v ps here.node k h m → effect refs m i i.op ≡ Some n → Helps i v m n q (change_site here q act.Delete words [])
-delete_helps decls i here k h old mid new ps q words op imm one grows region packet v m n refs run known e =
+delete_helps R decls i here k h old mid new ps q words op imm one grows region packet v m n refs run known e =
     let d1 : register m.registers 1 ≡ is.Map q = subst (λ (x : Kind). Describes known.world m.maps x (register m.registers 1)) one (known.stands.described.registers 1) in
     let l = key_is m q (λ p d key. Some (helpers.answering (is.Number (cast_unsigned w64 (delete_number d (contents_at m.maps p) key))) (record m { maps = with_contents m.maps p (deleted d (contents_at m.maps p) key) }))) n d1
     (helper_called refs m n i 3 op (ap (cast_unsigned w64) imm) e) in
@@ -133,30 +137,32 @@ delete_helps decls i here k h old mid new ps q words op imm one grows region pac
     }
 
 pub delete_made : (decls : List MapDecl) (i : Insn) (here : Here) (is_ref taken : Bool) (k : Kinds) (h : Held) (old mid new : List CellView) (ps : List PointerView) (sites sites2 : List SiteView) (base : Kind) (count map c : ℕ) (key words none : List ℕ)
-    → i.op ≡ Call → i.imm ≡ pos 3 → verdict (effect_of decls k i) ≡ passed → length h.registers ≡ 11 → AreInside decls (length old) ps h k
+    → i.op ≡ Call → i.imm ≡ pos 3 → verdict (effect_of decls k i) ≡ passed → here.guard < length old → length h.registers ≡ 11 → AreInside decls (length old) ps h k
     → base ≡ kinds.register k 2 → count ≡ key_bytes decls map → ((q : ℕ) → kinds.register k 1 ≡ MapRef q → map ≡ q) → key ≡ words → none ≡ []
     → (calls.region k count base ≡ passed → HoldsRegion decls ps here.node k h old mid base count words) → Changes mid new sites sites2 here map act.Delete key none c
     → Operates decls i here.node here.guard is_ref taken k h (record h { registers = slice_set h.registers 0 c }) old new ps ps sites sites2
-delete_made decls i here is_ref taken k h old mid new ps sites sites2 base count map c key words none op imm allowed whole inside base_is count_is map_is key_is none_is region made =
+delete_made decls i here is_ref taken k h old mid new ps sites sites2 base count map c key words none op imm allowed guard_there whole inside base_is count_is map_is key_is none_is region made =
     let f = delete_allowed decls k i op imm allowed in
     let q : map ≡ f.0 = map_is f.0 f.1 in
     let n : count ≡ key_bytes decls f.0 = count_is ∙ ap (key_bytes decls) q in
-    let there = region (ap (calls.region k count) base_is ∙ ap (λ (j : ℕ). calls.region k j (kinds.register k 2)) n ∙ f.2) in
+    let there = region (ap (calls.region k count) base_is ∙ ap (λ (j : ℕ). calls.region k j (kinds.register k 2)) n ∙ f.3) in
     let holds = subst (λ (j : ℕ). HoldsRegion decls ps here.node k h old mid (kinds.register k 2) j words) n (subst (λ (x : Kind). HoldsRegion decls ps here.node k h old mid x count words) base_is there) in
     let changes = subst (λ (xs : List ℕ). Changes mid new sites sites2 here f.0 act.Delete words xs c) none_is (subst (λ (j : ℕ). Changes mid new sites sites2 here j act.Delete words none c) q (subst (λ (ws : List ℕ). Changes mid new sites sites2 here map act.Delete ws none c) key_is made)) in
-    change_operates decls i here is_ref taken k h old mid new ps sites sites2 f.0 c act.Delete words [] (f.3 here.node is_ref taken) whole inside holds.grows changes refl
-    (delete_helps decls i here k h old mid new ps f.0 words op imm f.1 changes.grows holds)
+    change_operates decls i here is_ref taken k h old mid new ps sites sites2 f.0 c act.Delete words [] (f.4 here.node is_ref taken) whole inside holds.grows
+    (fits_map decls (change_site here f.0 act.Delete words []) f.2 holds.enough tt tt)
+    (record { guard = omega (arith, guard_there, holds.grows.longer); key = holds.there; operands = All-nil (λ j. j < length mid) }) changes refl
+    (delete_helps (ReadsNext sites) decls i here k h old mid new ps f.0 words op imm f.1 changes.grows holds)
 
 -- ---- updates
 
 updates_is : (m : Machine) (d : MapDecl) (key value : List ℕ) (flags : ℕ) → helpers.region m.stack m.frame d.value (register m.registers 3) ≡ Some value → is.number_in (register m.registers 4) ≡ Some flags → touched.updates m d key ≡ Some (map.Update key value flags)
 updates_is m d key value flags e f = rw (e, f) refl
 
-update_helps : (decls : List MapDecl) (i : Insn) (here : Here) (k : Kinds) (h : Held) (old mid next last new : List CellView) (ps : List PointerView) (q flags : ℕ) (x : Number) (words values : List ℕ) → i.op ≡ Call → i.imm ≡ pos 2
-    → kinds.register k 1 ≡ MapRef q → kinds.register k 4 ≡ Num x → Grows last new → HoldsRegion decls ps here.node k h old mid (kinds.register k 2) (key_bytes decls q) words
+update_helps : (R : ℕ → ℕ → Type 0) (decls : List MapDecl) (i : Insn) (here : Here) (k : Kinds) (h : Held) (old mid next last new : List CellView) (ps : List PointerView) (q flags : ℕ) (x : Number) (words values : List ℕ) → i.op ≡ Call → i.imm ≡ pos 2
+    → kinds.register k 1 ≡ MapRef q → kinds.register k 4 ≡ Num x → GrowsWith R last new → HoldsRegion decls ps here.node k h old mid (kinds.register k 2) (key_bytes decls q) words
     → HoldsRegion decls ps here.node k h mid next (kinds.register k 3) (value_bytes decls q) values → Makes next last flags (λ packet v. number_of v x (slice_index h.registers 4))
     → (packet : PacketIn) (v : ℕ → ℕ) (m n : Machine) (refs : List ℕ) → IsRun packet new v → IsKnown decls packet v ps here.node k h m → effect refs m i i.op ≡ Some n → Helps i v m n q (change_site here q act.Update words (flags ∷ values))
-update_helps decls i here k h old mid next last new ps q flags x words values op imm one four grows region second made packet v m n refs run known e =
+update_helps R decls i here k h old mid next last new ps q flags x words values op imm one four grows region second made packet v m n refs run known e =
     let d1 : register m.registers 1 ≡ is.Map q = subst (λ (y : Kind). Describes known.world m.maps y (register m.registers 1)) one (known.stands.described.registers 1) in
     let l = key_is m q (λ p d key. helpers.region m.stack m.frame d.value (register m.registers 3) >>= (λ value. is.number_in (register m.registers 4) >>= (λ f.
     Some (helpers.answering (is.Number (cast_unsigned w64 (update_number d (contents_at m.maps p) key f))) (record m { maps = with_contents m.maps p (updated d (contents_at m.maps p) key value f) }))))) n d1
@@ -192,24 +198,32 @@ update_helps decls i here k h old mid next last new ps q flags x words values op
     }
 
 pub update_made : (decls : List MapDecl) (i : Insn) (here : Here) (is_ref taken : Bool) (k : Kinds) (h : Held) (old mid next last new : List CellView) (ps : List PointerView) (sites sites2 : List SiteView) (base second : Kind) (count size map c flags : ℕ) (key words values operands : List ℕ)
-    → i.op ≡ Call → i.imm ≡ pos 2 → verdict (effect_of decls k i) ≡ passed → length h.registers ≡ 11 → AreInside decls (length old) ps h k
+    → i.op ≡ Call → i.imm ≡ pos 2 → verdict (effect_of decls k i) ≡ passed → here.guard < length old → length h.registers ≡ 11 → AreInside decls (length old) ps h k
     → base ≡ kinds.register k 2 → second ≡ kinds.register k 3 → count ≡ key_bytes decls map → size ≡ value_bytes decls map → ((q : ℕ) → kinds.register k 1 ≡ MapRef q → map ≡ q) → key ≡ words → operands ≡ flags ∷ values
     → (calls.region k count base ≡ passed → HoldsRegion decls ps here.node k h old mid base count words) → (calls.region k size second ≡ passed → HoldsRegion decls ps here.node k h mid next second size values)
     → ((x : Number) → kinds.register k 4 ≡ Num x → Makes next last flags (λ packet v. number_of v x (slice_index h.registers 4)))
     → Changes last new sites sites2 here map act.Update key operands c
     → Operates decls i here.node here.guard is_ref taken k h (record h { registers = slice_set h.registers 0 c }) old new ps ps sites sites2
-update_made decls i here is_ref taken k h old mid next last new ps sites sites2 base second count size map c flags key words values operands op imm allowed whole inside base_is second_is count_is size_is map_is key_is operands_are region other makes made =
+update_made decls i here is_ref taken k h old mid next last new ps sites sites2 base second count size map c flags key words values operands op imm allowed guard_there whole inside base_is second_is count_is size_is map_is key_is operands_are region other makes made =
     let f = update_allowed decls k i op imm allowed in
     let q : map ≡ f.0 = map_is f.0 f.1 in
     let n : count ≡ key_bytes decls f.0 = count_is ∙ ap (key_bytes decls) q in
     let s : size ≡ value_bytes decls f.0 = size_is ∙ ap (value_bytes decls) q in
-    let holds = held_region base_is n (region (ap (calls.region k count) base_is ∙ ap (λ (j : ℕ). calls.region k j (kinds.register k 2)) n ∙ f.2)) in
-    let others = held_region second_is s (other (ap (calls.region k size) second_is ∙ ap (λ (j : ℕ). calls.region k j (kinds.register k 3)) s ∙ f.3)) in
-    let flag = makes f.4 f.5 in
+    let holds = held_region base_is n (region (ap (calls.region k count) base_is ∙ ap (λ (j : ℕ). calls.region k j (kinds.register k 2)) n ∙ f.3)) in
+    let others = held_region second_is s (other (ap (calls.region k size) second_is ∙ ap (λ (j : ℕ). calls.region k j (kinds.register k 3)) s ∙ f.4)) in
+    let flag = makes f.5 f.6 in
+    let before = grown holds.grows (grown others.grows flag.grows) in
+    let behind : length mid ≤ length last = omega (arith, others.grows.longer, flag.grows.longer) in
     let changes = subst (λ (xs : List ℕ). Changes last new sites sites2 here f.0 act.Update words xs c) operands_are
     (subst (λ (j : ℕ). Changes last new sites sites2 here j act.Update words operands c) q (subst (λ (ws : List ℕ). Changes last new sites sites2 here map act.Update ws operands c) key_is made)) in
-    change_operates decls i here is_ref taken k h old last new ps sites sites2 f.0 c act.Update words (flags ∷ values) (f.6 here.node is_ref taken) whole inside (grown holds.grows (grown others.grows flag.grows)) changes refl
-    (update_helps decls i here k h old mid next last new ps f.0 flags f.4 words values op imm f.1 f.5 changes.grows holds others flag)
+    change_operates decls i here is_ref taken k h old last new ps sites sites2 f.0 c act.Update words (flags ∷ values) (f.7 here.node is_ref taken) whole inside before
+    (fits_map decls (change_site here f.0 act.Update words (flags ∷ values)) f.2 holds.enough (omega (arith, others.enough)) tt)
+    (record {
+      guard = omega (arith, guard_there, before.longer);
+      key = λ j d l. omega (arith, holds.there j d l, behind);
+      operands = All-cons (λ j. j < length last) flags values flag.there (λ j d l. omega (arith, others.there j d l, flag.grows.longer));
+    }) changes refl
+    (update_helps (ReadsNext sites) decls i here k h old mid next last new ps f.0 flags f.5 words values op imm f.1 f.6 changes.grows holds others flag)
   where
     held_region : {a b : List CellView} {x y : Kind} {c d : ℕ} {ws : List ℕ} → x ≡ y → c ≡ d → HoldsRegion decls ps here.node k h a b x c ws → HoldsRegion decls ps here.node k h a b y d ws
     held_region {a} {b} {x} {y} {c} {d} {ws} e g r = subst (λ (j : ℕ). HoldsRegion decls ps here.node k h a b y j ws) g (subst (λ (z : Kind). HoldsRegion decls ps here.node k h a b z c ws) e r)

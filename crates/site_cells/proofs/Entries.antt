@@ -1,5 +1,5 @@
 -- Entries that pointers lead to.
-use Rattle.std.proofs.Common.{◌≡◌, ℕ, ◌+◌, ◌*◌, ◌%◌, ◌^◌, ◌<◌, ◌≤◌, ℤ, pos, ◌+ℤ◌, Option, Some, List, length, slice_range, slice_index, refl, sym, ◌∙◌, ap, subst, arith}
+use Rattle.std.proofs.Common.{◌≡◌, ℕ, ◌+◌, ◌*◌, ◌%◌, ◌^◌, ◌<◌, ◌≤◌, ◌==◌, nat_le, ℤ, pos, negsuc, ◌+ℤ◌, if◌then◌else◌, Bool, true, false, Option, Some, None, Result, Ok, Err, List, length, slice_range, slice_index, refl, sym, ◌∙◌, ap, subst, arith}
 use Rattle.std.specs.Prelude.{All, slice_get, IfSome}
 use Rattle.std.proofs.Math.Nat.{div-one, mod-eq_of_lt}
 use Rattle.std.proofs.lemmas.Option.{slice_get_within}
@@ -18,16 +18,21 @@ use Rattle.xdp_machine.specs.Memory.{bytes_in, number_at, aligned}
 use Rattle.xdp_machine.specs.Memory as machine
 use Rattle.xdp_machine.specs.Touched.{accesses}
 use Rattle.xdp_machine.proofs.ChangeLaws.{some_inj}
-use Rattle.xdp_machine.proofs.PartLaws.{at_or, bytes_in_slice}
+use Rattle.xdp_machine.proofs.PartLaws.{at_or, bytes_in_slice, aligned-within}
 use Rattle.kind_core.specs.declared.kind.Kind.{Kind}
 use Rattle.kind_core.specs.declared.kind.Kind.TheVariants.{Entry}
 use Rattle.kind_core.specs.declared.kind.Kinds.{Kinds}
+use Rattle.kind_core.specs.declared.why.Why.{Why}
 use Rattle.kind_core.specs.Kinds as kinds
+use Rattle.kind_core.specs.Kinds.{value_bytes}
+use Rattle.kind_core.specs.Tests as tests
+use Rattle.kind_core.proofs.TestLaws.{bind_passed}
 use Rattle.cell_core.specs.Cells.{bits_from}
 use Rattle.held_cells.specs.declared.held.Held.{Held}
 use Rattle.held_cells.specs.Held.{PointerView, IsPointer, Holds, Counts, AreInside, pointer_at, key_of}
 use Rattle.held_cells.specs.Carrying.{IsKnown}
 use Rattle.site_cells.proofs.Slots.{bound}
+use Rattle.site_cells.proofs.OneSite.{is_declared}
 
 pub bits_whole : (n w : ℕ) → n < 2 ^ w → bits_from n 0 w ≡ n
 bits_whole n w h = ap (λ (k : ℕ). k % 2 ^ w) (div-one n) ∙ mod-eq_of_lt {n = n} {m = 2 ^ w} h
@@ -70,6 +75,39 @@ entry_loaded m q o key offset size y e =
 pub placed_operation : (m : Machine) (q o : ℕ) (key : List ℕ) (offset : ℤ) (size : Size) (d : MapDecl) (a : ℕ) (base : Value) (f : List ℕ → ℕ → Operation) → base ≡ is.Entry q key (pos o) → Placed m q o offset size d a
     → accesses m.maps base offset size f ≡ Some (q, f key a)
 placed_operation m q o key offset size d a base f is p = rw (is, p.decl, p.at) refl
+
+-- an access is in its place in the value of an entry
+pub record IsInPlace (decls : List MapDecl) (q : ℕ) (z : ℤ) (size : Size) : Type 0 where
+  pub place : ℕ
+  pub at : aligned z (bytes_in size) (value_bytes decls q) ≡ Some place
+
+-- an access that the tests let through is in its place
+pub aligned_too : (z : ℤ) (n len a : ℕ) → tests.aligned z n len ≡ Ok a → aligned z n len ≡ Some a
+aligned_too z n len a h =
+    let b = bind_passed (tests.within z n len) _ a h in
+    ap (λ (r : Option ℕ). r >>= (λ c. if c % n == 0 then Some c else None)) (by z b.0 b.1) ∙ some_if (b.0 % n == 0) b.0 a _ b.2
+  where
+    some_if : (t : Bool) (x y : ℕ) (w : Why) → ◌≡◌ {A = Result ℕ Why} (if t then Ok x else Err w) (Ok y) → ◌≡◌ {A = Option ℕ} (if t then Some x else None) (Some y)
+    some_if true x y w e = cc
+    some_if false x y w e = absurd (cc)
+
+    by : (z : ℤ) (b : ℕ) → tests.within z n len ≡ Ok b → machine.inside z n len ≡ Some b
+    by (pos c) b e = some_if (nat_le (c + n) len) c b _ e
+    by (negsuc c) b e = absurd (cc)
+
+some_bytes : (size : Size) → 1 ≤ bytes_in size
+some_bytes B = omega arith
+some_bytes H = omega arith
+some_bytes W = omega arith
+some_bytes Dw = omega arith
+
+-- its map is declared, and it stays inside the value
+pub place_fits : (decls : List MapDecl) (q a : ℕ) (z : ℤ) (size : Size) → IsInPlace decls q z size → ((b : ℕ) → aligned z (bytes_in size) (value_bytes decls q) ≡ Some b → a ≡ b)
+    → (q < length decls) × (a + bytes_in size ≤ value_bytes decls q)
+place_fits decls q a z size p at =
+    let within = aligned-within z (bytes_in size) (value_bytes decls q) p.place p.at in
+    let same = at p.place p.at in
+    (is_declared decls q (bytes_in size) (some_bytes size) (omega (arith, within)), omega (arith, same, within))
 
 -- the number of a pointer in a register names one that is there
 pub entry_pointer : (decls : List MapDecl) (n : ℕ) (ps : List PointerView) (k : Kinds) (h : Held) (r q o : ℕ) → AreInside decls n ps h k → r ≤ 10 → kinds.register k r ≡ Entry q o

@@ -2,6 +2,7 @@ mod Joining
 mod Slots
 mod Regions
 mod Adding
+mod OneSite
 mod Answered
 mod Allowed
 mod Calling

@@ -25,11 +25,11 @@ use Rattle.kind_core.specs.Kinds.{key_bytes, value_bytes, with_register}
 use Rattle.kind_core.specs.Edges.{transferred}
 use Rattle.kind_core.specs.Tests.{passed}
 use Rattle.kind_core.specs.Effects.{effect_of, verdict}
-use Rattle.site_cells.proofs.Allowed.{load_becomes, signed_becomes}
+use Rattle.site_cells.proofs.Allowed.{load_allowed, signed_allowed}
 use Rattle.xdp_machine.specs.Arithmetic.{extended}
 use Rattle.xdp_machine.proofs.ChangeLaws.{some_inj}
 use Rattle.operator_cells.specs.Making.{Makes}
-use Rattle.operator_cells.proofs.MakingLaws.{grown, grown_none}
+use Rattle.operator_cells.proofs.MakingLaws.{grown_with, grown_none, reads_none}
 use Rattle.site_cells.proofs.Slots.{bound}
 use Rattle.cell_core.specs.declared.operator.Operator.TheVariants.{Answer}
 use Rattle.cell_core.specs.declared.site.Act.TheVariants as act
@@ -42,10 +42,11 @@ use Rattle.held_cells.specs.Operating.{Operates}
 use Rattle.site_cells.specs.declared.here.Here.{Here}
 use Rattle.site_cells.specs.Siting.{Accesses, access_site}
 use Rattle.site_cells.proofs.Adding.{after_one, read_value, read_later}
+use Rattle.site_cells.proofs.OneSite.{adds_site, fits_map}
 use Rattle.site_cells.proofs.Answered.{inside_among}
 use Rattle.site_cells.proofs.Assigned.{assigned_inside, assigned_held, assigned_is}
 use Rattle.site_cells.proofs.Calling.{decl_is}
-use Rattle.site_cells.proofs.Entries.{bits_whole, number_fits, value_bytes_fit, entry_held, Placed, entry_loaded, placed_operation}
+use Rattle.site_cells.proofs.Entries.{bits_whole, number_fits, value_bytes_fit, entry_held, entry_pointer, IsInPlace, place_fits, Placed, entry_loaded, placed_operation}
 
 -- the key of a pointer is that of its site
 pub key_is_site : (decls : List MapDecl) (v : ℕ → ℕ) (maps : MapState) (q : ℕ) (d : MapDecl) (p : PointerView) → maps.decls ≡ decls → slice_get maps.decls q ≡ Some d
@@ -72,24 +73,30 @@ Loaded i q o size f = (refs : List ℕ) (m n : Machine) (key : List ℕ) → reg
 
 load_operates : (decls : List MapDecl) (i : Insn) (here : Here) (is_ref taken : Bool) (k : Kinds) (h : Held) (old mid new : List CellView) (ps : List PointerView) (sites sites2 : List SiteView) (size : Size) (q o a answer c : ℕ) (f : ℕ → ℕ)
     → Loaded i q o size f → ((m : Machine) → touched.operation_as m i i.op ≡ touched.accesses m.maps (register m.registers i.src) i.offset size (λ key b. map.Load key))
-    → i.src ≤ 10 → i.dst ≤ 10 → kinds.register k i.src ≡ Entry q o → transferred decls k i here.node is_ref taken ≡ with_register k i.dst (Num Unknown)
+    → i.src ≤ 10 → i.dst ≤ 10 → kinds.register k i.src ≡ Entry q o → here.guard < length old → IsInPlace decls q (pos o +ℤ i.offset) size → transferred decls k i here.node is_ref taken ≡ with_register k i.dst (Num Unknown)
     → length k.registers ≡ 11 → length h.registers ≡ 11 → AreInside decls (length old) ps h k
     → ((b : ℕ) → aligned (pos o +ℤ i.offset) (bytes_in size) (value_bytes decls q) ≡ Some b → a ≡ b)
     → Accesses old mid sites sites2 here q (act.Load a size) (pointer_at ps (slice_index h.registers i.src)) [] answer (8 * bytes_in size) → Makes mid new c (λ packet v. f (v answer))
     → Operates decls i here.node here.guard is_ref taken k h (record h { registers = slice_set h.registers i.dst c }) old new ps ps sites sites2
-load_operates decls i here is_ref taken k h old mid new ps sites sites2 size q o a answer c f given operates src dst base becomes ks hs inside at made makes =
+load_operates decls i here is_ref taken k h old mid new ps sites sites2 size q o a answer c f given operates src dst base guard_there placed becomes ks hs inside at made makes =
     let p : PointerView = pointer_at ps (slice_index h.registers i.src) in
     let site : SiteView = access_site here q (act.Load a size) p [] in
     let none : ps ≡ ps ++ [] = sym (append-nil ps) in
     let all : Accesses old new sites sites2 here q (act.Load a size) p [] answer (8 * bytes_in size) =
-    record { grows = grown made.grows makes.grows; reads = read_later _ _ _ _ _ _ _ makes.grows made.reads; sites_are = made.sites_are } in
+    record { grows = grown_with _ _ _ _ made.grows (reads_none _ _ _ makes.grows); reads = read_later _ _ _ _ _ _ _ _ makes.grows made.reads; sites_are = made.sites_are } in
+    let led = (entry_pointer decls (length old) ps k h i.src q o inside src base).1 in
+    let fits = place_fits decls q a (pos o +ℤ i.offset) size placed at in
+    let adds = adds_site decls here old old new sites sites2 site grown_none all.grows made.sites_are refl refl (fits_map decls site fits.0 led.enough tt fits.1)
+    (record { guard = guard_there; key = led.key; operands = All-cons (λ j. j < length old) p.found [] led.found (All-nil (λ j. j < length old)) }) in
     record {
-      grows = all.grows;
+      grows = adds.grows;
       more_pointers = [];
       pointers_are = none;
       more = site ∷ [];
       sites_are = made.sites_are;
-      own = All-cons (λ (s : SiteView). (s.node ≡ here.node) × (s.guard ≡ here.guard)) site [] (refl, refl) (All-nil (λ (s : SiteView). (s.node ≡ here.node) × (s.guard ≡ here.guard)));
+      own = adds.own;
+      fits = adds.fits;
+      below = adds.below;
       inside = rw becomes (assigned_inside decls (length new) ps h k i.dst c (Num Unknown) dst ks hs
           (subst (λ (xs : List PointerView). AreInside decls (length new) xs h k) (sym none) (inside_among decls (length old) (length new) ps [] h k all.grows.longer inside)) makes.there);
       holds = λ packet maps v m n refs run read guard after_is known at_ref e.
@@ -98,19 +105,19 @@ load_operates decls i here is_ref taken k h old mid new ps sites sites2 size q o
           let y = given refs m n key r e in
           let l = entry_loaded m q o key i.offset size y.0 y.1 in
           let d : MapDecl = l.0 in
-          let placed : Placed m q o i.offset size d l.1 = l.3 in
-          let decl = decl_is m.maps.decls q d placed.decl in
+          let found : Placed m q o i.offset size d l.1 = l.3 in
+          let decl = decl_is m.maps.decls q d found.decl in
           let limit : value_bytes decls q ≡ d.value = ap (λ (ds : List MapDecl). value_bytes ds q) (sym known.decls_are) ∙ decl.2 in
-          let same_place : a ≡ l.1 = at l.1 (ap (aligned (pos o +ℤ i.offset) (bytes_in size)) limit ∙ placed.at) in
-          let keys : bytes_of (decl_at m.maps q).key (map_list v p.key) ≡ key = key_is_site decls v m.maps q d p known.decls_are placed.decl in
-          let value = load_answered v maps new sites sites2 here old m q o a answer i.offset size d p key l.2 read all guard after_is keys l.4 (value_bytes_fit m.maps q d key l.2 known.in_range.maps placed.decl l.4) in
+          let same_place : a ≡ l.1 = at l.1 (ap (aligned (pos o +ℤ i.offset) (bytes_in size)) limit ∙ found.at) in
+          let keys : bytes_of (decl_at m.maps q).key (map_list v p.key) ≡ key = key_is_site decls v m.maps q d p known.decls_are found.decl in
+          let value = load_answered v maps new sites sites2 here old m q o a answer i.offset size d p key l.2 read all guard after_is keys l.4 (value_bytes_fit m.maps q d key l.2 known.in_range.maps found.decl l.4) in
           let ms : length m.registers ≡ 11 = sym known.stands.registers ∙ ks in
           let leaves = y.2 (number_at size l.1 l.2) l.5 in
           let holds : is.Number (f (number_at size l.1 l.2)) ≡ is.Number (v c) =
           ap is.Number (ap f (ap (λ (j : ℕ). number_at size j l.2) (sym same_place) ∙ sym value) ∙ sym (makes.value packet v run)) in (
             rw (becomes, leaves) (assigned_held decls packet v ps h k m i.dst c (Num Unknown) (is.Number (f (number_at size l.1 l.2))) dst ks hs ms known.held holds),
             ap (after v maps) made.sites_are ∙ after_one v maps sites site ∙ after_is ∙ sym (ap (λ (x : Machine). x.maps) leaves),
-            operates m ∙ placed_operation m q o key i.offset size d l.1 (register m.registers i.src) (λ x b. map.Load x) r placed ∙ ap (λ (x : List ℕ). Some (q, map.Load x)) (sym keys),
+            operates m ∙ placed_operation m q o key i.offset size d l.1 (register m.registers i.src) (λ x b. map.Load x) r found ∙ ap (λ (x : List ℕ). Some (q, map.Load x)) (sym keys),
           );
     }
 
@@ -132,23 +139,25 @@ signed_loaded i q o size op refs m n key r e =
     )
 
 pub load_made : (decls : List MapDecl) (i : Insn) (here : Here) (is_ref taken : Bool) (k : Kinds) (h : Held) (old new : List CellView) (ps : List PointerView) (sites sites2 : List SiteView) (size : Size) (q o a c width : ℕ) (p : PointerView) (z : ℤ)
-    → i.op ≡ Load size → i.src ≤ 10 → i.dst ≤ 10 → kinds.register k i.src ≡ Entry q o → verdict (effect_of decls k i) ≡ passed → length k.registers ≡ 11 → length h.registers ≡ 11 → AreInside decls (length old) ps h k
+    → i.op ≡ Load size → i.src ≤ 10 → i.dst ≤ 10 → kinds.register k i.src ≡ Entry q o → here.guard < length old → verdict (effect_of decls k i) ≡ passed → length k.registers ≡ 11 → length h.registers ≡ 11 → AreInside decls (length old) ps h k
     → z ≡ i.offset → ((b : ℕ) → aligned (pos o +ℤ z) (bytes_in size) (value_bytes decls q) ≡ Some b → a ≡ b) → p ≡ pointer_at ps (slice_index h.registers i.src) → width ≡ 8 * bytes_in size
     → Accesses old new sites sites2 here q (act.Load a size) p [] c width
     → Operates decls i here.node here.guard is_ref taken k h (record h { registers = slice_set h.registers i.dst c }) old new ps ps sites sites2
-load_made decls i here is_ref taken k h old new ps sites sites2 size q o a c width p z op src dst base allowed ks hs inside offset at p_is width_is made =
-    load_operates decls i here is_ref taken k h old new new ps sites sites2 size q o a c c (λ x. x) (plain_loaded i q o size op) (λ m. ap (touched.operation_as m i) op) src dst base (load_becomes decls k i size q o op base allowed here.node is_ref taken) ks hs inside
+load_made decls i here is_ref taken k h old new ps sites sites2 size q o a c width p z op src dst base guard_there allowed ks hs inside offset at p_is width_is made =
+    let f = load_allowed decls k i size q o op base allowed in
+    load_operates decls i here is_ref taken k h old new new ps sites sites2 size q o a c c (λ x. x) (plain_loaded i q o size op) (λ m. ap (touched.operation_as m i) op) src dst base guard_there f.0 (f.1 here.node is_ref taken) ks hs inside
     (λ b e. at b (ap (λ (y : ℤ). aligned (pos o +ℤ y) (bytes_in size) (value_bytes decls q)) offset ∙ e))
     (subst (λ (x : PointerView). Accesses old new sites sites2 here q (act.Load a size) x [] c (8 * bytes_in size)) p_is (subst (λ (j : ℕ). Accesses old new sites sites2 here q (act.Load a size) p [] c j) width_is made))
     (record { grows = grown_none; there = made.reads.there; value = λ packet v run. refl })
 
 pub signed_made : (decls : List MapDecl) (i : Insn) (here : Here) (is_ref taken : Bool) (k : Kinds) (h : Held) (old mid new : List CellView) (ps : List PointerView) (sites sites2 : List SiteView) (size : Size) (q o a answer c width : ℕ) (p : PointerView) (z : ℤ)
-    → i.op ≡ LoadSigned size → i.src ≤ 10 → i.dst ≤ 10 → kinds.register k i.src ≡ Entry q o → verdict (effect_of decls k i) ≡ passed → length k.registers ≡ 11 → length h.registers ≡ 11 → AreInside decls (length old) ps h k
+    → i.op ≡ LoadSigned size → i.src ≤ 10 → i.dst ≤ 10 → kinds.register k i.src ≡ Entry q o → here.guard < length old → verdict (effect_of decls k i) ≡ passed → length k.registers ≡ 11 → length h.registers ≡ 11 → AreInside decls (length old) ps h k
     → z ≡ i.offset → ((b : ℕ) → aligned (pos o +ℤ z) (bytes_in size) (value_bytes decls q) ≡ Some b → a ≡ b) → p ≡ pointer_at ps (slice_index h.registers i.src) → width ≡ 8 * bytes_in size
     → Accesses old mid sites sites2 here q (act.Load a size) p [] answer width → Makes mid new c (λ packet v. extended 64 width (v answer))
     → Operates decls i here.node here.guard is_ref taken k h (record h { registers = slice_set h.registers i.dst c }) old new ps ps sites sites2
-signed_made decls i here is_ref taken k h old mid new ps sites sites2 size q o a answer c width p z op src dst base allowed ks hs inside offset at p_is width_is made makes =
+signed_made decls i here is_ref taken k h old mid new ps sites sites2 size q o a answer c width p z op src dst base guard_there allowed ks hs inside offset at p_is width_is made makes =
+    let f = signed_allowed decls k i size q o op base allowed in
     load_operates decls i here is_ref taken k h old mid new ps sites sites2 size q o a answer c (extended 64 (8 * bytes_in size)) (signed_loaded i q o size op) (λ m. ap (touched.operation_as m i) op) src dst base
-    (signed_becomes decls k i size q o op base allowed here.node is_ref taken) ks hs inside (λ b e. at b (ap (λ (y : ℤ). aligned (pos o +ℤ y) (bytes_in size) (value_bytes decls q)) offset ∙ e))
+    guard_there f.0 (f.1 here.node is_ref taken) ks hs inside (λ b e. at b (ap (λ (y : ℤ). aligned (pos o +ℤ y) (bytes_in size) (value_bytes decls q)) offset ∙ e))
     (subst (λ (x : PointerView). Accesses old mid sites sites2 here q (act.Load a size) x [] answer (8 * bytes_in size)) p_is (subst (λ (j : ℕ). Accesses old mid sites sites2 here q (act.Load a size) p [] answer j) width_is made))
     (subst (λ (j : ℕ). Makes mid new c (λ packet v. extended 64 j (v answer))) width_is makes)

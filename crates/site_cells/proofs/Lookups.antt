@@ -1,8 +1,8 @@
 -- Lookups.
-use Rattle.std.proofs.Common.{◌≡◌, ℕ, pos, if◌then◌else◌, Bool, true, false, Some, List, [], ◌∷◌, ◌++◌, length, length-append, map as map_list, slice_set, refl, sym, ◌∙◌, ap, subst, arith}
+use Rattle.std.proofs.Common.{◌≡◌, ℕ, pos, if◌then◌else◌, Bool, true, false, Some, List, [], ◌∷◌, ◌++◌, ◌<◌, length, length-append, map as map_list, slice_set, refl, sym, ◌∙◌, ap, subst, arith}
 use Rattle.std.specs.Prelude.{is_some}
 use Rattle.std.specs.Int.{w64, cast_unsigned}
-use Rattle.std.proofs.lemmas.List.Elements.{All-nil, All-cons}
+use Rattle.std.proofs.lemmas.List.Elements.{All-nil}
 use Rattle.kind_core.specs.Edges.{transferred}
 use Rattle.held_cells.specs.Held.{AreHeld}
 use Rattle.bpf_isa.specs.declared.operation.Op.TheVariants.{Call}
@@ -27,7 +27,6 @@ use Rattle.kind_core.specs.Effects.{effect_of, verdict}
 use Rattle.kind_core.specs.Describes.{Describes}
 use Rattle.cell_core.specs.Cells.{CellView, bits_from, bit, on}
 use Rattle.cell_core.specs.Sites.{SiteView, after, bytes_of}
-use Rattle.operator_cells.proofs.MakingLaws.{grown}
 use Rattle.held_cells.specs.declared.held.Held.{Held}
 use Rattle.held_cells.specs.Held.{PointerView, IsPointer, AreInside, pointer_at, entry_or_null}
 use Rattle.held_cells.specs.Operating.{Operates}
@@ -35,6 +34,7 @@ use Rattle.site_cells.specs.declared.here.Here.{Here}
 use Rattle.site_cells.specs.Words.{HoldsRegion}
 use Rattle.site_cells.specs.Siting.{LooksUp, lookup_site}
 use Rattle.site_cells.proofs.Adding.{after_one, read_value, last_pointer}
+use Rattle.site_cells.proofs.OneSite.{adds_site, fits_map}
 use Rattle.site_cells.proofs.Answered.{inside_among, held_among, answered_inside, answered_held}
 use Rattle.site_cells.proofs.Allowed.{lookup_allowed}
 use Rattle.site_cells.proofs.Calling.{helper_called, keyed_operation, lookup_is, decl_is}
@@ -48,24 +48,27 @@ entry_is q key t f words e w = rw (e, w) refl
 
 pub lookup_operates : (decls : List MapDecl) (i : Insn) (here : Here) (is_ref taken : Bool) (k : Kinds) (h : Held) (old mid new : List CellView) (ps qs : List PointerView) (sites sites2 : List SiteView) (q c : ℕ) (words : List ℕ)
     → i.op ≡ Call → i.imm ≡ pos 1 → kinds.register k 1 ≡ MapRef q → ((node : ℕ) (is_ref taken : Bool) → transferred decls k i node is_ref taken ≡ kinds.answering (Maybe q node) k)
-    → length h.registers ≡ 11 → AreInside decls (length old) ps h k
+    → q < length decls → here.guard < length old → length h.registers ≡ 11 → AreInside decls (length old) ps h k
     → HoldsRegion decls ps here.node k h old mid (kinds.register k 2) (key_bytes decls q) words → LooksUp mid new ps qs sites sites2 here q words c
     → Operates decls i here.node here.guard is_ref taken k h (record h { registers = slice_set h.registers 0 c }) old new ps qs sites sites2
-lookup_operates decls i here is_ref taken k h old mid new ps qs sites sites2 q c words op imm one becomes whole inside region looks =
+lookup_operates decls i here is_ref taken k h old mid new ps qs sites sites2 q c words op imm one becomes there guard_there whole inside region looks =
     let p : PointerView = record { found = looks.found; key = words } in
     let site : SiteView = lookup_site here q words in
-    let grows = grown region.grows looks.grows in
+    let adds = adds_site decls here old mid new sites sites2 site region.grows looks.grows looks.sites_are refl refl (fits_map decls site there region.enough tt tt)
+    (record { guard = omega (arith, guard_there, region.grows.longer); key = region.there; operands = All-nil (λ i. i < length mid) }) in
     let at : pointer_at qs c ≡ p = ap (λ (xs : List PointerView). pointer_at xs c) looks.pointers_are ∙ ap (pointer_at (ps ++ p ∷ [])) looks.number_is ∙ last_pointer ps p in
     let is_pointer : IsPointer decls (length new) q p = record { found = looks.reads.there; key = λ j d l. omega (arith, region.there j d l, looks.grows.longer); enough = region.enough } in
     record {
-      grows = grows;
+      grows = adds.grows;
       more_pointers = p ∷ [];
       pointers_are = looks.pointers_are;
       more = site ∷ [];
       sites_are = looks.sites_are;
-      own = All-cons (λ (s : SiteView). (s.node ≡ here.node) × (s.guard ≡ here.guard)) site [] (refl, refl) (All-nil (λ (s : SiteView). (s.node ≡ here.node) × (s.guard ≡ here.guard)));
+      own = adds.own;
+      fits = adds.fits;
+      below = adds.below;
       inside = rw (becomes here.node is_ref taken) (answered_inside decls (length new) qs h k (Maybe q here.node) c whole
-          (subst (λ (xs : List PointerView). AreInside decls (length new) xs h k) (sym looks.pointers_are) (inside_among decls (length old) (length new) ps (p ∷ []) h k grows.longer inside))
+          (subst (λ (xs : List PointerView). AreInside decls (length new) xs h k) (sym looks.pointers_are) (inside_among decls (length old) (length new) ps (p ∷ []) h k adds.grows.longer inside))
           (omega (arith, looks.number_is, ap length looks.pointers_are, length-append ps (p ∷ [])), subst (IsPointer decls (length new) q) (sym at) is_pointer));
       holds = λ packet maps v m n refs run read guard after_is known at_ref e.
           let d1 : register m.registers 1 ≡ is.Map q = subst (λ (x : Kind). Describes known.world m.maps x (register m.registers 1)) one (known.stands.described.registers 1) in
@@ -94,15 +97,15 @@ lookup_operates decls i here is_ref taken k h old mid new ps qs sites sites2 q c
     }
 
 pub lookup_made : (decls : List MapDecl) (i : Insn) (here : Here) (is_ref taken : Bool) (k : Kinds) (h : Held) (old mid new : List CellView) (ps qs : List PointerView) (sites sites2 : List SiteView) (base : Kind) (count map c : ℕ) (key words : List ℕ)
-    → i.op ≡ Call → i.imm ≡ pos 1 → verdict (effect_of decls k i) ≡ passed → length h.registers ≡ 11 → AreInside decls (length old) ps h k
+    → i.op ≡ Call → i.imm ≡ pos 1 → verdict (effect_of decls k i) ≡ passed → here.guard < length old → length h.registers ≡ 11 → AreInside decls (length old) ps h k
     → base ≡ kinds.register k 2 → count ≡ key_bytes decls map → ((q : ℕ) → kinds.register k 1 ≡ MapRef q → map ≡ q) → key ≡ words
     → (calls.region k count base ≡ passed → HoldsRegion decls ps here.node k h old mid base count words) → LooksUp mid new ps qs sites sites2 here map key c
     → Operates decls i here.node here.guard is_ref taken k h (record h { registers = slice_set h.registers 0 c }) old new ps qs sites sites2
-lookup_made decls i here is_ref taken k h old mid new ps qs sites sites2 base count map c key words op imm allowed whole inside base_is count_is map_is key_is region looks =
+lookup_made decls i here is_ref taken k h old mid new ps qs sites sites2 base count map c key words op imm allowed guard_there whole inside base_is count_is map_is key_is region looks =
     let f = lookup_allowed decls k i op imm allowed in
     let q : map ≡ f.0 = map_is f.0 f.1 in
     let n : count ≡ key_bytes decls f.0 = count_is ∙ ap (key_bytes decls) q in
     let there = region (ap (calls.region k count) base_is ∙ ap (λ (j : ℕ). calls.region k j (kinds.register k 2)) n ∙ f.3) in
-    lookup_operates decls i here is_ref taken k h old mid new ps qs sites sites2 f.0 c words op imm f.1 f.4 whole inside
+    lookup_operates decls i here is_ref taken k h old mid new ps qs sites sites2 f.0 c words op imm f.1 f.4 f.2 guard_there whole inside
     (subst (λ (j : ℕ). HoldsRegion decls ps here.node k h old mid (kinds.register k 2) j words) n (subst (λ (x : Kind). HoldsRegion decls ps here.node k h old mid x count words) base_is there))
     (subst (λ (j : ℕ). LooksUp mid new ps qs sites sites2 here j words c) q (subst (λ (ws : List ℕ). LooksUp mid new ps qs sites sites2 here map ws c) key_is looks))

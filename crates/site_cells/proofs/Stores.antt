@@ -1,5 +1,5 @@
 -- Stores into entries.
-use Rattle.std.proofs.Common.{◌≡◌, ℕ, ◌^◌, ◌<◌, ◌≤◌, ℤ, pos, ◌+ℤ◌, if◌then◌else◌, Bool, true, false, Some, None, List, [], ◌∷◌, ◌++◌, length, map as map_list, slice_index, refl, sym, ◌∙◌, ap, subst}
+use Rattle.std.proofs.Common.{◌≡◌, ℕ, ◌^◌, ◌<◌, ◌≤◌, ℤ, pos, ◌+ℤ◌, if◌then◌else◌, Bool, true, false, Some, None, List, [], ◌∷◌, ◌++◌, length, map as map_list, slice_index, refl, sym, ◌∙◌, ap, subst, arith}
 use Rattle.std.specs.Prelude.{slice_get, is_some, ◌&&◌}
 use Rattle.std.proofs.lemmas.List.{append-nil}
 use Rattle.std.proofs.lemmas.List.Elements.{All-nil, All-cons}
@@ -35,6 +35,7 @@ use Rattle.cell_core.specs.declared.site.Act.{Act}
 use Rattle.cell_core.specs.declared.site.Act.TheVariants as act
 use Rattle.cell_core.specs.Cells.{CellView, on, bits_from}
 use Rattle.operator_cells.specs.Making.{Makes}
+use Rattle.operator_cells.proofs.MakingLaws.{grown_none, reads_none}
 use Rattle.site_cells.proofs.Allowed.{store_allowed}
 use Rattle.cell_core.specs.Sites.{SiteView, after, records, operation_on, bytes_of}
 use Rattle.held_cells.specs.declared.held.Held.{Held}
@@ -45,9 +46,10 @@ use Rattle.site_cells.specs.declared.here.Here.{Here}
 use Rattle.site_cells.specs.Siting.{access_site}
 use Rattle.site_cells.proofs.Slots.{bound, register_number}
 use Rattle.site_cells.proofs.Adding.{after_one}
+use Rattle.site_cells.proofs.OneSite.{adds_site, fits_map}
 use Rattle.site_cells.proofs.Answered.{inside_among}
 use Rattle.site_cells.proofs.Calling.{decl_is}
-use Rattle.site_cells.proofs.Entries.{bits_whole, entry_held, Placed, placed_operation}
+use Rattle.site_cells.proofs.Entries.{bits_whole, entry_held, entry_pointer, IsInPlace, place_fits, Placed, placed_operation}
 use Rattle.site_cells.proofs.Loads.{key_is_site}
 
 -- A store of a number that is known, or that a cell holds: its site has a cell of it as the first operand.
@@ -83,21 +85,32 @@ pub store_operates : (decls : List MapDecl) (i : Insn) (here : Here) (is_ref tak
     → ((refs : List ℕ) (m : Machine) → effect refs m i i.op ≡ machine.stored m (register m.registers i.dst) i.offset size (given m))
     → ((m : Machine) → touched.operation_as m i i.op ≡ touched.stores m (register m.registers i.dst) i.offset size (given m))
     → ((packet : PacketIn) (v : ℕ → ℕ) (m : Machine) → IsKnown decls packet v ps here.node k h m → given m ≡ is.Number (number_of v x held))
-    → i.dst ≤ 10 → kinds.register k i.dst ≡ Entry q o → transferred decls k i here.node is_ref taken ≡ k → AreInside decls (length old) ps h k
+    → i.dst ≤ 10 → kinds.register k i.dst ≡ Entry q o → here.guard < length old → IsInPlace decls q (pos o +ℤ i.offset) size → transferred decls k i here.node is_ref taken ≡ k → AreInside decls (length old) ps h k
     → ((b : ℕ) → aligned (pos o +ℤ i.offset) (bytes_in size) (value_bytes decls q) ≡ Some b → a ≡ b)
     → Stores old new sites sites2 here q (act.Store a size) (pointer_at ps (slice_index h.registers i.dst)) x held
     → Operates decls i here.node here.guard is_ref taken k h h old new ps ps sites sites2
-store_operates decls i here is_ref taken k h old new ps sites sites2 size q o a x held given does operates is_number dst base becomes inside at made =
+store_operates decls i here is_ref taken k h old new ps sites sites2 size q o a x held given does operates is_number dst base guard_there placed becomes inside at made =
     let p : PointerView = pointer_at ps (slice_index h.registers i.dst) in
     let site : SiteView = access_site here q (act.Store a size) p (made.source ∷ []) in
     let none : ps ≡ ps ++ [] = sym (append-nil ps) in
+    let led = (entry_pointer decls (length old) ps k h i.dst q o inside dst base).1 in
+    let longer = made.makes.grows.longer in
+    let fits = place_fits decls q a (pos o +ℤ i.offset) size placed at in
+    let adds = adds_site decls here old new new sites sites2 site made.makes.grows (reads_none _ _ _ grown_none) made.sites_are refl refl (fits_map decls site fits.0 led.enough tt fits.1)
+    (record {
+      guard = omega (arith, guard_there, longer);
+      key = λ j d l. omega (arith, led.key j d l, longer);
+      operands = All-cons (λ j. j < length new) made.source (p.found ∷ []) made.makes.there (All-cons (λ j. j < length new) p.found [] (omega (arith, led.found, longer)) (All-nil (λ j. j < length new)));
+    }) in
     record {
-      grows = made.makes.grows;
+      grows = adds.grows;
       more_pointers = [];
       pointers_are = none;
       more = site ∷ [];
       sites_are = made.sites_are;
-      own = All-cons (λ (s : SiteView). (s.node ≡ here.node) × (s.guard ≡ here.guard)) site [] (refl, refl) (All-nil (λ (s : SiteView). (s.node ≡ here.node) × (s.guard ≡ here.guard)));
+      own = adds.own;
+      fits = adds.fits;
+      below = adds.below;
       inside = rw becomes (subst (λ (xs : List PointerView). AreInside decls (length new) xs h k) (sym none) (inside_among decls (length old) (length new) ps [] h k made.makes.grows.longer inside));
       holds = λ packet maps v m n refs run read guard after_is known at_ref e.
           let r = entry_held decls packet v ps here.node k h m i.dst q o known dst base in
@@ -107,10 +120,10 @@ store_operates decls i here is_ref taken k h old new ps sites sites2 size q o a 
           let l = entry_stored m n q o number key i.offset size
           (sym (ap (λ (y : Value). machine.stored m (register m.registers i.dst) i.offset size y) num ∙ ap (λ (y : Value). machine.stored m y i.offset size (is.Number number)) r) ∙ sym (does refs m) ∙ e) in
           let d : MapDecl = l.0 in
-          let placed : Placed m q o i.offset size d l.1 = l.2 in
-          let limit : value_bytes decls q ≡ d.value = ap (λ (ds : List MapDecl). value_bytes ds q) (sym known.decls_are) ∙ (decl_is m.maps.decls q d placed.decl).2 in
-          let same_place : a ≡ l.1 = at l.1 (ap (aligned (pos o +ℤ i.offset) (bytes_in size)) limit ∙ placed.at) in
-          let keys : bytes_of (decl_at m.maps q).key (map_list v p.key) ≡ key = key_is_site decls v m.maps q d p known.decls_are placed.decl in
+          let found : Placed m q o i.offset size d l.1 = l.2 in
+          let limit : value_bytes decls q ≡ d.value = ap (λ (ds : List MapDecl). value_bytes ds q) (sym known.decls_are) ∙ (decl_is m.maps.decls q d found.decl).2 in
+          let same_place : a ≡ l.1 = at l.1 (ap (aligned (pos o +ℤ i.offset) (bytes_in size)) limit ∙ found.at) in
+          let keys : bytes_of (decl_at m.maps q).key (map_list v p.key) ≡ key = key_is_site decls v m.maps q d p known.decls_are found.decl in
           let source : v made.source ≡ number = made.makes.value packet v run in
           let op : operation_on v m.maps site ≡ map.Store key l.1 (little_bytes (bytes_in size) number) =
           ap (λ (bs : List ℕ). map.Store bs a (little_bytes (bytes_in size) (v made.source))) keys
@@ -128,34 +141,34 @@ store_operates decls i here is_ref taken k h old new ps sites sites2 size q o a 
             }),
             written v maps m.maps sites sites2 site (map.Store key l.1 (little_bytes (bytes_in size) number)) made.sites_are after_is refl guard op ∙ sym (ap (λ (y : Machine). y.maps) l.3),
             operates m ∙ ap (touched.stores m (register m.registers i.dst) i.offset size) num
-                ∙ placed_operation m q o key i.offset size d l.1 (register m.registers i.dst) (λ bs b. map.Store bs b (little_bytes (bytes_in size) number)) r placed ∙ ap (λ (y : Operation). Some (q, y)) (sym op),
+                ∙ placed_operation m q o key i.offset size d l.1 (register m.registers i.dst) (λ bs b. map.Store bs b (little_bytes (bytes_in size) number)) r found ∙ ap (λ (y : Operation). Some (q, y)) (sym op),
           );
     }
 
 -- the given number is in a register, or stands in the instruction
 pub store_made : (decls : List MapDecl) (i : Insn) (here : Here) (is_ref taken : Bool) (k : Kinds) (h : Held) (old new : List CellView) (ps : List PointerView) (sites sites2 : List SiteView) (size : Size) (q o a source : ℕ) (p : PointerView) (z : ℤ)
-    → i.op ≡ Store size → i.src ≤ 10 → i.dst ≤ 10 → kinds.register k i.dst ≡ Entry q o → verdict (effect_of decls k i) ≡ passed → AreInside decls (length old) ps h k
+    → i.op ≡ Store size → i.src ≤ 10 → i.dst ≤ 10 → kinds.register k i.dst ≡ Entry q o → here.guard < length old → verdict (effect_of decls k i) ≡ passed → AreInside decls (length old) ps h k
     → z ≡ i.offset → ((b : ℕ) → aligned (pos o +ℤ z) (bytes_in size) (value_bytes decls q) ≡ Some b → a ≡ b) → p ≡ pointer_at ps (slice_index h.registers i.dst)
     → ((n : Number) → kinds.register k i.src ≡ Num n → Makes old new source (λ packet v. number_of v n (slice_index h.registers i.src)))
     → sites2 ≡ sites ++ access_site here q (act.Store a size) p (source ∷ []) ∷ []
     → Operates decls i here.node here.guard is_ref taken k h h old new ps ps sites sites2
-store_made decls i here is_ref taken k h old new ps sites sites2 size q o a source p z op src dst base allowed inside offset at p_is makes sites_are =
+store_made decls i here is_ref taken k h old new ps sites sites2 size q o a source p z op src dst base guard_there allowed inside offset at p_is makes sites_are =
     let f = store_allowed decls k i size q o (kinds.register k i.src) (ap (effect_as decls k i) op) base allowed in
     store_operates decls i here is_ref taken k h old new ps sites sites2 size q o a f.0 (slice_index h.registers i.src) (λ m. register m.registers i.src)
-    (λ refs m. ap (effect refs m i) op) (λ m. ap (touched.operation_as m i) op) (λ packet v m known. register_number decls packet v ps here.node k h m i.src f.0 known src f.1) dst base (f.2 here.node is_ref taken) inside
+    (λ refs m. ap (effect refs m i) op) (λ m. ap (touched.operation_as m i) op) (λ packet v m known. register_number decls packet v ps here.node k h m i.src f.0 known src f.1) dst base guard_there f.2 (f.3 here.node is_ref taken) inside
     (λ b e. at b (ap (λ (y : ℤ). aligned (pos o +ℤ y) (bytes_in size) (value_bytes decls q)) offset ∙ e))
     (record { source = source; makes = makes f.0 f.1; sites_are = sites_are ∙ ap (λ (x : PointerView). sites ++ access_site here q (act.Store a size) x (source ∷ []) ∷ []) p_is })
 
 pub imm_made : (decls : List MapDecl) (i : Insn) (here : Here) (is_ref taken : Bool) (k : Kinds) (h : Held) (old new : List CellView) (ps : List PointerView) (sites sites2 : List SiteView) (size : Size) (q o a source number : ℕ) (p : PointerView) (z : ℤ)
-    → i.op ≡ StoreImm size → i.dst ≤ 10 → kinds.register k i.dst ≡ Entry q o → verdict (effect_of decls k i) ≡ passed → AreInside decls (length old) ps h k
+    → i.op ≡ StoreImm size → i.dst ≤ 10 → kinds.register k i.dst ≡ Entry q o → here.guard < length old → verdict (effect_of decls k i) ≡ passed → AreInside decls (length old) ps h k
     → z ≡ i.offset → ((b : ℕ) → aligned (pos o +ℤ z) (bytes_in size) (value_bytes decls q) ≡ Some b → a ≡ b) → p ≡ pointer_at ps (slice_index h.registers i.dst)
     → number ≡ cast_unsigned w64 i.imm → cast_unsigned w64 i.imm < 2 ^ 64 → Makes old new source (λ packet v. bits_from number 0 64)
     → sites2 ≡ sites ++ access_site here q (act.Store a size) p (source ∷ []) ∷ []
     → Operates decls i here.node here.guard is_ref taken k h h old new ps ps sites sites2
-imm_made decls i here is_ref taken k h old new ps sites sites2 size q o a source number p z op dst base allowed inside offset at p_is number_is fits makes sites_are =
+imm_made decls i here is_ref taken k h old new ps sites sites2 size q o a source number p z op dst base guard_there allowed inside offset at p_is number_is fits makes sites_are =
     let f = store_allowed decls k i size q o (Num (Known (cast_unsigned w64 i.imm))) (ap (effect_as decls k i) op) base allowed in
     store_operates decls i here is_ref taken k h old new ps sites sites2 size q o a (Known (cast_unsigned w64 i.imm)) 0 (λ m. is.Number (cast_unsigned w64 i.imm))
-    (λ refs m. ap (effect refs m i) op) (λ m. ap (touched.operation_as m i) op) (λ packet v m known. refl) dst base (f.2 here.node is_ref taken) inside
+    (λ refs m. ap (effect refs m i) op) (λ m. ap (touched.operation_as m i) op) (λ packet v m known. refl) dst base guard_there f.2 (f.3 here.node is_ref taken) inside
     (λ b e. at b (ap (λ (y : ℤ). aligned (pos o +ℤ y) (bytes_in size) (value_bytes decls q)) offset ∙ e))
     (record {
       source = source;

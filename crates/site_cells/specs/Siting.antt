@@ -6,9 +6,13 @@ use Rattle.cell_core.specs.declared.site.Act.{Act}
 use Rattle.cell_core.specs.declared.site.Act.TheVariants as act
 use Rattle.cell_core.specs.Cells.{CellView, cell_at}
 use Rattle.cell_core.specs.Sites.{SiteView}
-use Rattle.operator_cells.specs.Making.{Grows}
+use Rattle.operator_cells.specs.Making.{GrowsWith}
 use Rattle.held_cells.specs.Held.{PointerView}
 use Rattle.site_cells.specs.declared.here.Here.{Here}
+
+-- a cell reads the next site
+abbrev pub ReadsNext : List SiteView → ℕ → ℕ → Type 0
+ReadsNext sites c j = j ≡ length sites
 
 -- Cell c reads a site, behind the cells of its key, its operands and the writes of its map that come before.
 pub record IsReadOf (cells : List CellView) (c : ℕ) (op : Operator) (site : SiteView) (pending width : ℕ) : Type 0 where
@@ -20,7 +24,7 @@ lookup_site here map key = record { node = here.node; map = map; guard = here.gu
 
 -- A lookup: its site, a cell that tells whether the key is there, and the pointer of both.
 pub record LooksUp (old new : List CellView) (ps qs : List PointerView) (sites sites2 : List SiteView) (here : Here) (map : ℕ) (key : List ℕ) (c : ℕ) : Type 0 where
-  pub grows : Grows old new
+  pub grows : GrowsWith (ReadsNext sites) old new
   pub found : ℕ
   pub reads : IsReadOf new found (Found (length sites)) (lookup_site here map key) here.pending 1
   pub number_is : c ≡ length ps
@@ -33,7 +37,7 @@ access_site here map a p operands = record { node = here.node; map = map; guard 
 
 -- An access, and a cell of so many bits of what it answers.
 pub record Accesses (old new : List CellView) (sites sites2 : List SiteView) (here : Here) (map : ℕ) (a : Act) (pointer : PointerView) (operands : List ℕ) (c width : ℕ) : Type 0 where
-  pub grows : Grows old new
+  pub grows : GrowsWith (ReadsNext sites) old new
   pub reads : IsReadOf new c (Answer (length sites)) (access_site here map a pointer operands) here.pending width
   pub sites_are : sites2 ≡ sites ++ access_site here map a pointer operands ∷ []
 
@@ -43,7 +47,7 @@ change_site here map a key operands = record { node = here.node; map = map; guar
 
 -- A change: its site, a cell that tells whether the key is there, and one of what the helper answers.
 pub record Changes (old new : List CellView) (sites sites2 : List SiteView) (here : Here) (map : ℕ) (a : Act) (key operands : List ℕ) (c : ℕ) : Type 0 where
-  pub grows : Grows old new
+  pub grows : GrowsWith (ReadsNext sites) old new
   pub found : ℕ
   pub finds : IsReadOf new found (Found (length sites)) (change_site here map a key operands) here.pending 1
   pub reads : IsReadOf new c (Answer (length sites)) (change_site here map a key operands) here.pending 64

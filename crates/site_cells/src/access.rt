@@ -114,6 +114,7 @@ pub fn operate_load(
     requires base { (q : ℕ) × (o : ℕ) × (kind.register kinds.now insn.now.src ≡ kind_is.Entry q o) }
     requires values { (q : ℕ) → kind.value_bytes decls.now q ≤ 64 }
     requires pending { here.pending < length (seen cells.old.items) }
+    requires guard { here.guard < length (seen cells.old.items) }
     requires inside { AreInside decls.now (length (seen cells.old.items)) (pointed pointers.now) held.old kinds.now }
     ensures { (is_ref taken : Bool) → verdict (effect_of decls.now kinds.now insn.now) ≡ passed → OnOk result (Operates decls.now insn.now here.node here.guard is_ref taken kinds.now held.old held.new (seen cells.old.items) (seen cells.new.items) (pointed pointers.now) (pointed pointers.now) (sited sites.old.items) (sited sites.new.items)) }
 {
@@ -145,6 +146,7 @@ pub fn operate_load_signed(
     requires base { (q : ℕ) × (o : ℕ) × (kind.register kinds.now insn.now.src ≡ kind_is.Entry q o) }
     requires values { (q : ℕ) → kind.value_bytes decls.now q ≤ 64 }
     requires pending { here.pending < length (seen cells.old.items) }
+    requires guard { here.guard < length (seen cells.old.items) }
     requires inside { AreInside decls.now (length (seen cells.old.items)) (pointed pointers.now) held.old kinds.now }
     ensures { (is_ref taken : Bool) → verdict (effect_of decls.now kinds.now insn.now) ≡ passed → OnOk result (Operates decls.now insn.now here.node here.guard is_ref taken kinds.now held.old held.new (seen cells.old.items) (seen cells.new.items) (pointed pointers.now) (pointed pointers.now) (sited sites.old.items) (sited sites.new.items)) }
 {
@@ -176,6 +178,7 @@ pub fn operate_store(
     requires op { insn.now.op ≡ Op.Store size }
     requires base { (q : ℕ) × (o : ℕ) × (kind.register kinds.now insn.now.dst ≡ kind_is.Entry q o) }
     requires values { (q : ℕ) → kind.value_bytes decls.now q ≤ 64 }
+    requires guard { here.guard < length (seen cells.old.items) }
     requires inside { AreInside decls.now (length (seen cells.old.items)) (pointed pointers.now) held.now kinds.now }
     ensures { (is_ref taken : Bool) → verdict (effect_of decls.now kinds.now insn.now) ≡ passed → OnOk result (Operates decls.now insn.now here.node here.guard is_ref taken kinds.now held.now held.now (seen cells.old.items) (seen cells.new.items) (pointed pointers.now) (pointed pointers.now) (sited sites.old.items) (sited sites.new.items)) }
 {
@@ -206,6 +209,7 @@ pub fn operate_store_imm(
     requires op { insn.now.op ≡ Op.StoreImm size }
     requires base { (q : ℕ) × (o : ℕ) × (kind.register kinds.now insn.now.dst ≡ kind_is.Entry q o) }
     requires values { (q : ℕ) → kind.value_bytes decls.now q ≤ 64 }
+    requires guard { here.guard < length (seen cells.old.items) }
     requires inside { AreInside decls.now (length (seen cells.old.items)) (pointed pointers.now) held.now kinds.now }
     ensures { (is_ref taken : Bool) → verdict (effect_of decls.now kinds.now insn.now) ≡ passed → OnOk result (Operates decls.now insn.now here.node here.guard is_ref taken kinds.now held.now held.now (seen cells.old.items) (seen cells.new.items) (pointed pointers.now) (pointed pointers.now) (sited sites.old.items) (sited sites.new.items)) }
 {

@@ -71,6 +71,7 @@ pub fn operate_delete(
     requires helper { insn.now.imm ≡ pos 3 }
     requires keys { (q : ℕ) → kind.key_bytes decls.now q ≤ 64 }
     requires pending { here.pending < length (seen cells.old.items) }
+    requires guard { here.guard < length (seen cells.old.items) }
     requires inside { (ps : List PointerView) × AreInside decls.now (length (seen cells.old.items)) ps held.old kinds.now }
     ensures { (ps : List PointerView) (is_ref taken : Bool) → verdict (effect_of decls.now kinds.now insn.now) ≡ passed → AreInside decls.now (length (seen cells.old.items)) ps held.old kinds.now → OnOk result (Operates decls.now insn.now here.node here.guard is_ref taken kinds.now held.old held.new (seen cells.old.items) (seen cells.new.items) ps ps (sited sites.old.items) (sited sites.new.items)) }
 {
@@ -112,6 +113,7 @@ pub fn operate_update(
     requires keys { (q : ℕ) → kind.key_bytes decls.now q ≤ 64 }
     requires values { (q : ℕ) → kind.value_bytes decls.now q ≤ 64 }
     requires pending { here.pending < length (seen cells.old.items) }
+    requires guard { here.guard < length (seen cells.old.items) }
     requires inside { (ps : List PointerView) × AreInside decls.now (length (seen cells.old.items)) ps held.old kinds.now }
     ensures { (ps : List PointerView) (is_ref taken : Bool) → verdict (effect_of decls.now kinds.now insn.now) ≡ passed → AreInside decls.now (length (seen cells.old.items)) ps held.old kinds.now → OnOk result (Operates decls.now insn.now here.node here.guard is_ref taken kinds.now held.old held.new (seen cells.old.items) (seen cells.new.items) ps ps (sited sites.old.items) (sited sites.new.items)) }
 {

@@ -90,6 +90,7 @@ pub fn operate_lookup(
     requires helper { insn.now.imm ≡ pos 1 }
     requires keys { (q : ℕ) → kind.key_bytes decls.now q ≤ 64 }
     requires pending { here.pending < length (seen cells.old.items) }
+    requires guard { here.guard < length (seen cells.old.items) }
     requires inside { AreInside decls.now (length (seen cells.old.items)) (pointed pointers.old.items) held.old kinds.now }
     ensures { (is_ref taken : Bool) → verdict (effect_of decls.now kinds.now insn.now) ≡ passed → OnOk result (Operates decls.now insn.now here.node here.guard is_ref taken kinds.now held.old held.new (seen cells.old.items) (seen cells.new.items) (pointed pointers.old.items) (pointed pointers.new.items) (sited sites.old.items) (sited sites.new.items)) }
 {

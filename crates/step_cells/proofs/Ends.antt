@@ -1,7 +1,7 @@
 -- The edges that are added at a node are those that leave it.
-use Rattle.std.proofs.Common.{◌≡◌, ℕ, ◌<◌, Bool, true, false, Option, Some, None, List, [], ◌∷◌, length, get_or, take, drop, refl, sym, ◌∙◌, ap, subst, arith}
+use Rattle.std.proofs.Common.{◌≡◌, ℕ, ◌<◌, Bool, true, false, Option, Some, None, List, [], ◌∷◌, ◌++◌, length, get_or, drop, refl, sym, ◌∙◌, ap, subst, arith}
 use Rattle.std.specs.Prelude.{All, Contains, map as map_list}
-use Rattle.std.proofs.lemmas.List.{length-map, get_or-map, get_or_default, take_at, drop_at, take-append-drop, take-map, drop-map}
+use Rattle.std.proofs.lemmas.List.{length-map, get_or-map, get_or_default, map-append, drop_at}
 use Rattle.std.proofs.lemmas.List.Elements.{All-nil, All-cons, All-append, Contains-append_left, Contains-append_right}
 use Rattle.bpf_isa.specs.declared.instruction.Insn.{Insn}
 use Rattle.kind_core.specs.declared.kind.Kinds.{Kinds}
@@ -47,21 +47,20 @@ edge_among (x ∷ xs) b c =
     (get_or (x ∷ xs) c.0 x, (c.0, l, get_or_default (x ∷ xs) c.0 (get_or (x ∷ xs) c.0 x) x l), sym (get_or-map brought (x ∷ xs) c.0 x b l) ∙ c.2)
 
 pub nodes_bring : NodesBring
-nodes_bring g k i kinds next jump ways ways2 is ends h = record {
-  before = take (length ways) ways2;
-  same = sym (take-map brought (length ways) ways2) ∙ ap (take (length ways)) h ∙ take_at (map_list brought ways) (all_brought g.decls k kinds i (is_reference g k) next jump) (length ways) (length-map ways brought);
-  more = drop (length ways) ways2;
-  ways_are = sym (take-append-drop (length ways) ways2);
-  leave = record {
-    each = each_edge (IsOf g k) (drop (length ways) ways2) (subst (All (IsOf g k)) (sym more_is)
-        (All-append (IsOf g k) (brought_along g.decls k kinds i (is_reference g k) false next) (brought_along g.decls k kinds i (is_reference g k) true jump)
-        (along_each g k i kinds next jump false next is ends refl) (along_each g k i kinds next jump true jump is ends refl)));
-    all = λ x c from.
-        let e = edge_among (drop (length ways) ways2) (x.to, transferred g.decls kinds i k (is_reference g k) x.taken)
-        (subst (λ (xs : List (ℕ × Kinds)). Contains xs (x.to, transferred g.decls kinds i k (is_reference g k) x.taken)) (sym more_is) (among g k i kinds next jump x.taken x.to (ends.all x c from))) in
-        (e.0, e.1, ap (λ (b : ℕ × Kinds). b.0) e.2);
-  };
+nodes_bring g k i kinds next jump ways more ways2 is ends are h = record {
+  each = each_edge (IsOf g k) more (subst (All (IsOf g k)) (sym more_is)
+      (All-append (IsOf g k) (brought_along g.decls k kinds i (is_reference g k) false next) (brought_along g.decls k kinds i (is_reference g k) true jump)
+      (along_each g k i kinds next jump false next is ends refl) (along_each g k i kinds next jump true jump is ends refl)));
+  all = λ x c from.
+      let e = edge_among more (x.to, transferred g.decls kinds i k (is_reference g k) x.taken)
+      (subst (λ (xs : List (ℕ × Kinds)). Contains xs (x.to, transferred g.decls kinds i k (is_reference g k) x.taken)) (sym more_is) (among g k i kinds next jump x.taken x.to (ends.all x c from))) in
+      (e.0, e.1, ap (λ (b : ℕ × Kinds). b.0) e.2);
 }
   where
-    more_is : map_list brought (drop (length ways) ways2) ≡ all_brought g.decls k kinds i (is_reference g k) next jump
-    more_is = sym (drop-map brought (length ways) ways2) ∙ ap (drop (length ways)) h ∙ drop_at (map_list brought ways) (all_brought g.decls k kinds i (is_reference g k) next jump) (length ways) (length-map ways brought)
+    both : map_list brought ways ++ map_list brought more ≡ map_list brought ways ++ all_brought g.decls k kinds i (is_reference g k) next jump
+    both = sym (map-append brought ways more) ∙ ap (map_list brought) (sym are) ∙ h
+
+    more_is : map_list brought more ≡ all_brought g.decls k kinds i (is_reference g k) next jump
+    more_is =
+        sym (drop_at (map_list brought ways) (map_list brought more) (length ways) (length-map ways brought)) ∙ ap (drop (length ways)) both
+        ∙ drop_at (map_list brought ways) (all_brought g.decls k kinds i (is_reference g k) next jump) (length ways) (length-map ways brought)

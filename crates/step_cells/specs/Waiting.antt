@@ -34,4 +34,5 @@ pub record WaitsBehind (old new : List CellView) (sites : List SiteView) (number
 pub record Gathers (old new : List CellView) (arms : List Arm) (c : ℕ) : Type 0 where
   pub grows : Grows old new
   pub there : c < length new
+  pub stays : (d : ℕ) → All (λ a. a.cell ≡ d) arms → c ≡ d
   pub is : All (λ a. a.cell ≡ c) arms ⊎ (cell_at new c ≡ waiting_for (flat arms))

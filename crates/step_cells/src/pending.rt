@@ -1,6 +1,6 @@
 //! The writes of a map that come before an operation, as cells of no bits: rows rest on them, and no value does.
 
-ghost use Rattle.std.specs.Prelude.{ℕ, ◌≡◌, ◌<◌, ◌≤◌, ◌∷◌, length, IfOk};
+ghost use Rattle.std.specs.Prelude.{ℕ, ◌≡◌, ◌<◌, ◌≤◌, ◌∷◌, true, length, All, IfOk};
 ghost use Rattle.cell_core.specs.Sites.{site_at};
 ghost use Rattle.cell_core.specs.View.{site_of};
 ghost use Rattle.cell_core.specs.Rows.{taken_by};
@@ -13,7 +13,7 @@ ghost use Rattle.step_cells.specs.Waiting.{AreReaders, WaitsBehind, Gathers};
 use cell_core::cell::Cell;
 use cell_core::site::Site;
 use operator_cells::cells::pending;
-use operator_cells::joining::{Arm, are_one, flat};
+use operator_cells::joining::{Arm, flat};
 use std::alloc::{AllocError, Global};
 
 // The cells from one on that read a site.
@@ -72,6 +72,19 @@ pub fn pending_behind(
     Ok(c)
 }
 
+// Whether all edges bring one cell.
+fn bring_one(arms: &[Arm], cell: u32) -> bool
+    ensures one { result ≡ true → All (λ a. a.cell ≡ cell) arms.now }
+    ensures only { All (λ a. a.cell ≡ cell) arms.now → result ≡ true }
+{
+    for arm in arms {
+        if arm.cell != cell {
+            return false;
+        }
+    }
+    true
+}
+
 /// The writes of a map where edges meet: where all bring one cell it is that, else one with the bits and the cells of all.
 pub fn pending_at(cells: &mut Vec<Cell>, arms: &[Arm]) -> Result<u32, AllocError>
     requires some { 1 ≤ length arms.now }
@@ -79,7 +92,7 @@ pub fn pending_at(cells: &mut Vec<Cell>, arms: &[Arm]) -> Result<u32, AllocError
     ensures { IfOk result (λ c. Gathers (seen cells.old.items) (seen cells.new.items) arms.now c) }
 {
     let first = arms[0].cell;
-    if are_one(arms, first) {
+    if bring_one(arms, first) {
         return Ok(first);
     }
     let ins = flat(*cells.allocator(), arms)?;

@@ -1,12 +1,13 @@
 //! The code of a node.
 
-ghost use Rattle.std.specs.Prelude.{◌≡◌, ◌<◌, ◌≤◌, ◌++◌, ℕ, true, None, length, map as map_list, is_some, All, IfOk};
+ghost use Rattle.std.specs.Prelude.{◌≡◌, ◌<◌, ◌≤◌, ◌++◌, ℕ, true, None, List, length, map as map_list, is_some, All, IfOk};
 ghost use Rattle.bpf_isa.specs.Spelling.{IsInsn};
 ghost use Rattle.kind_core.specs.Tests.{passed};
 ghost use Rattle.kind_core.specs.Effects.{effect_of, verdict};
 ghost use Rattle.kind_core.specs.Kinds as kind;
 ghost use Rattle.cell_core.specs.Formed.{AreFormed};
 ghost use Rattle.operator_cells.specs.Making.{seen};
+ghost use Rattle.held_cells.specs.declared.way.Way.{Way};
 ghost use Rattle.held_cells.specs.Held.{pointed, AreInside};
 ghost use Rattle.node_cells.specs.Ends.{AreEnds, brought, all_brought, leads_on};
 ghost use Rattle.step_cells.specs.Stepping.{made_of, NodeSteps};
@@ -41,6 +42,7 @@ fn step_away(
     requires present { is_some jump ≡ true }
     ensures steps { IfOk result (λ done. NodeSteps decls.now node kinds.now here.now insn.now is_ref None jump (made_of made.old) (made_of made.new)) }
     ensures brought { IfOk result (λ done. map_list brought made.new.ways.items ≡ map_list brought made.old.ways.items ++ all_brought decls.now node kinds.now insn.now is_ref None jump) }
+    ensures kept { IfOk result (λ done. (more : List Way) × (made.new.ways.items ≡ made.old.ways.items ++ more)) }
 {
     match jump {
         Some(to) => step_always(
@@ -83,6 +85,7 @@ fn step_along(
     requires present { is_some next ≡ true }
     ensures steps { IfOk result (λ done. NodeSteps decls.now node kinds.now here.now insn.now is_ref next None (made_of made.old) (made_of made.new)) }
     ensures brought { IfOk result (λ done. map_list brought made.new.ways.items ≡ map_list brought made.old.ways.items ++ all_brought decls.now node kinds.now insn.now is_ref next None) }
+    ensures kept { IfOk result (λ done. (more : List Way) × (made.new.ways.items ≡ made.old.ways.items ++ more)) }
 {
     let Some(to) = next else {
         return Ok(());
@@ -130,6 +133,7 @@ pub fn step_node(
     requires ends { AreEnds kinds.now insn.now insn.now.op next jump }
     ensures steps { IfOk result (λ done. NodeSteps decls.now node kinds.now here.now insn.now is_ref next jump (made_of made.old) (made_of made.new)) }
     ensures brought { IfOk result (λ done. map_list brought made.new.ways.items ≡ map_list brought made.old.ways.items ++ all_brought decls.now node kinds.now insn.now is_ref next jump) }
+    ensures kept { IfOk result (λ done. (more : List Way) × (made.new.ways.items ≡ made.old.ways.items ++ more)) }
 {
     match insn.op {
         Op::Jump(width, code, src) => step_jump(

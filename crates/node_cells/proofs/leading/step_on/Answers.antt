@@ -6,3 +6,6 @@ pub returns-clause-steps : goal.returns-clause-steps
 returns-clause-steps c =
     on_steps (record { sound = c.steps_are_sound.ensures; later = c.later_describes.ensures; changes = c.steps_change_only.ensures; ranges = c.steps_keep_ranges.ensures }) _ _ _ _ _ _ _ _ _ _ _
     (record { registers = c.are_whole.ensures.registers; slots = c.are_whole.ensures.slots }) (record { leads = refl; bit_is = refl; kinds_are = c.transfer.ensures; held_is = refl }) c.in_ok-push.ensures.items
+
+pub returns-clause-kept : goal.returns-clause-kept
+returns-clause-kept c = (_, c.in_ok-push.ensures.items)

@@ -16,5 +16,5 @@ number_in-requires c = counts_number c.args.decls.now (length (seen c.args.cells
 
 pub returns-in_ok-push_access : goal.returns-in_ok-push_access
 returns-in_ok-push_access c = λ is_ref taken allowed.
-    store_made c.args.decls.now c.args.insn.now c.args.here is_ref taken c.args.kinds.now c.args.held.now _ _ (pointed c.args.pointers.now) _ _ c.args.size _ _ c.place.result c.in_ok-source.source _ _ c.requires.op c.requires.insn.src_register c.requires.insn.dst_register c.in-Entry.is allowed
+    store_made c.args.decls.now c.args.insn.now c.args.here is_ref taken c.args.kinds.now c.args.held.now _ _ (pointed c.args.pointers.now) _ _ c.args.size _ _ c.place.result c.in_ok-source.source _ _ c.requires.op c.requires.insn.src_register c.requires.insn.dst_register c.in-Entry.is c.requires.guard allowed
     c.requires.inside (to_z-of_z {w = w16} (record { sfits = c.requires.insn.offset_range.sfits })) c.place.ensures (pointer_seen c.args.pointers.now _ c.index-pointers-held.result (omega (arith, (entry_pointer c.args.decls.now _ (pointed c.args.pointers.now) c.args.kinds.now c.args.held.now c.args.insn.now.dst _ _ c.requires.inside c.requires.insn.dst_register c.in-Entry.is).0, pointed_count c.args.pointers.now (length c.args.pointers.now) refl)) c.index-pointers-held.is) c.in_ok-source.ensures.number c.in_ok-push_access.ensures

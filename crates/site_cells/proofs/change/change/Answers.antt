@@ -1,7 +1,7 @@
 use Rattle.std.proofs.Common.{◌≡◌, ◌∙◌, ℕ, length, arith, subst}
 use Rattle.cell_core.specs.declared.operator.Operator.TheVariants.{Found, Answer}
-use Rattle.operator_cells.specs.Making.{seen, Adds}
-use Rattle.operator_cells.proofs.MakingLaws.{grown}
+use Rattle.operator_cells.specs.Making.{seen, Adds, GrowsWith}
+use Rattle.operator_cells.proofs.MakingLaws.{grown_with}
 use Rattle.site_cells.specs.Sited.{sited}
 use Rattle.site_cells.proofs.Adding.{read_added, read_later, site_same, site_pushed, next_site, inputs_there}
 use Rattle.site_cells.proofs.change.change.Goals as goal
@@ -15,9 +15,10 @@ pub returns : goal.returns
 returns c =
     let site : c.in-Ok.site ≡ length (sited c.args.sites.now.items) = next_site c.args.sites.now.items c.in-Ok.site (omega (arith, c.in-Ok.ensures, c.len.ensures)) in
     record {
-      grows = grown c.in_ok-_there.ensures.grows c.in_ok-c.ensures.grows;
+      grows = subst (λ (j : ℕ). GrowsWith (λ k s. s ≡ j) (seen c.args.cells.now.items) (seen c.answer.new.cells.items)) site
+          (grown_with _ _ _ _ c.in_ok-_there.ensures.grows c.in_ok-c.ensures.grows);
       found = c.in_ok-_there._there;
-      finds = read_later _ _ _ _ _ _ _ c.in_ok-c.ensures.grows (read_added _ _ _ _ _ _ _ _
+      finds = read_later _ _ _ _ _ _ _ _ c.in_ok-c.ensures.grows (read_added _ _ _ _ _ _ _ _
           (subst (λ (j : ℕ). Adds (seen c.args.cells.now.items) (seen c.found.new.cells.items) c.in_ok-_there._there (record { op = Found j; ins = c.deref.result.now; width = 1; from = 0 })) site c.in_ok-_there.ensures.adds)
           (c.deref.ensures.value ∙ c.in_ok-ins.ensures));
       reads = read_added _ _ _ _ _ _ _ _

@@ -1,6 +1,6 @@
 use Rattle.std.proofs.Common.{◌≡◌, ◌∙◌, ℕ, List, [], ◌∷◌, ◌++◌, ap, subst, arith, length}
 use Rattle.cell_core.specs.declared.operator.Operator.TheVariants.{Found}
-use Rattle.operator_cells.specs.Making.{seen, Adds}
+use Rattle.operator_cells.specs.Making.{seen, Adds, GrowsWith}
 use Rattle.held_cells.specs.Held.{pointed}
 use Rattle.site_cells.specs.Sited.{sited}
 use Rattle.site_cells.proofs.Adding.{read_added, pointed_next, pointed_count, site_same, site_pushed, next_site}
@@ -10,7 +10,7 @@ pub returns : goal.returns
 returns c =
     let site : c.in-Ok.site ≡ length (sited c.args.sites.now.items) = next_site c.args.sites.now.items c.in-Ok.site (omega (arith, c.in-Ok.ensures, c.len.ensures)) in
     record {
-      grows = c.in_ok-there.ensures.grows;
+      grows = subst (λ (j : ℕ). GrowsWith (λ k s. s ≡ j) (seen c.args.cells.now.items) (seen c.found.new.cells.items)) site c.in_ok-there.ensures.grows;
       found = c.in_ok-there.there;
       reads = read_added _ _ _ _ _ _ _ _
           (subst (λ (j : ℕ). Adds (seen c.args.cells.now.items) (seen c.found.new.cells.items) c.in_ok-there.there (record { op = Found j; ins = c.deref.result.now; width = 1; from = 0 })) site c.in_ok-there.ensures.adds)

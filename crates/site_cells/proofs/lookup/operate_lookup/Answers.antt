@@ -12,5 +12,5 @@ look_up-requires-clause-pending c = omega (arith, c.requires.pending, c.in_ok-ke
 
 pub returns : goal.returns
 returns c = λ is_ref taken allowed.
-    lookup_made c.args.decls.now c.args.insn.now c.args.here is_ref taken c.args.kinds.now c.args.held.now _ _ _ _ _ _ _ _ _ _ _ _ _ c.requires.op c.requires.helper allowed c.are_whole.ensures.register_cells c.requires.inside
+    lookup_made c.args.decls.now c.args.insn.now c.args.here is_ref taken c.args.kinds.now c.args.held.now _ _ _ _ _ _ _ _ _ _ _ _ _ c.requires.op c.requires.helper allowed c.requires.guard c.are_whole.ensures.register_cells c.requires.inside
     refl c.key_bytes.ensures c.map_in-map.ensures c.deref.ensures (c.in_ok-key.ensures.holds c.args.decls.now _ c.args.here.node) c.in_ok-c.ensures
