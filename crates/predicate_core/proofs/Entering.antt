@@ -74,7 +74,7 @@ entered_more first tos t e0 e1 p0 p1 row low inside was = record {
 pub entered_step : {X Y : Type 0} (f : X → List ℕ) (h : Y → List ℕ) (ways : List Way) (i : ℕ) (d : Way) (first : List ℕ) (e0 : List (List ℕ)) (es : List X) (x y : X) (p0 : List (List ℕ)) (ps qs : List Y) (b : Y) (row : List ℕ)
     → i < length ways → length first ≤ i → (get_or ways i d).to < length es → x ≡ get_or es (get_or ways i d).to x → f y ≡ f x ++ i ∷ [] → qs ≡ ps ++ b ∷ [] → h b ≡ row
     → Entered first (take i (targets ways)) e0 (map f es) p0 (map h ps) row → Entered first (take (i + 1) (targets ways)) e0 (map f (set es (get_or ways i d).to y)) p0 (map h qs) row
-entered_step f h ways i d first e0 es x y p0 ps qs b row l low inside old new more brings was =
+entered_step {X = X} f h ways i d first e0 es x y p0 ps qs b row l low inside old new more brings was =
     subst (λ (xs : List (List ℕ)). Entered first (take (i + 1) (targets ways)) e0 (map f (set es t y)) p0 xs row) (sym (ap (map h) more ∙ map-append h ps (b ∷ []) ∙ ap (λ (r : List ℕ). map h ps ++ r ∷ []) brings))
     (subst (λ (xs : List (List ℕ)). Entered first (take (i + 1) (targets ways)) e0 xs p0 (map h ps ++ row ∷ []) row) (sym rows)
     (subst (λ (tos : List ℕ). Entered first tos e0 (set (map f es) t (get_or (map f es) t [] ++ i ∷ [])) p0 (map h ps ++ row ∷ []) row) (sym taken)

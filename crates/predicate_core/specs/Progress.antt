@@ -48,6 +48,7 @@ AreWaiting maps n row = (length row ≡ maps) × All (λ c. c < n) row
 -- For each of so many nodes the edges that lead to it, and beside each edge for each map a cell that is there.
 pub record AreKept (nodes maps n : ℕ) (tos : List ℕ) (entries pending : List (List ℕ)) : Type 0 where
   pub size : length entries ≡ nodes
+  pub inside : All (λ t. t < nodes) tos
   pub entered : (k : ℕ) → k < nodes → AreNumbers k tos (get_or entries k [])
   pub beside : length pending ≡ length tos
   pub waiting : All (AreWaiting maps n) pending
