@@ -27,3 +27,7 @@ lead_at n ways numbers k here all at are = record {
   all = λ e c is. let x = are.all c.0 (omega (arith, c.1, count_targets ways)) (target_at ways c.0 e c.1 ∙ ap (λ (y : Way). y.to) c.2 ∙ is) in
       (x.0, omega (arith, x.1, all, at.count), at.each x.0 e (omega (arith, x.1, all)) ∙ ap (λ (j : ℕ). get_or ways j e) (get_or_default numbers x.0 0 c.0 x.1 ∙ x.2) ∙ c.2);
 }
+
+-- what stands for an edge past the last
+abbrev pub no_way : Way
+no_way = record { to = 0; bit = 0; kinds = record { registers = []; slots = []; checked = 0 }; held = record { registers = []; slots = []; window = []; target = 0 } }

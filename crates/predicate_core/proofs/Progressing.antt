@@ -1,6 +1,6 @@
 -- Programs in memory, one node after another.
 use Rattle.std.proofs.Common.{Global, Vec, ◌≡◌, ℕ, zero, suc, ◌+◌, ◌-◌, ◌<◌, ◌≤◌, List, [], ◌∷◌, ◌++◌, length, length-append, get_or, take, replicate, map, sym, ◌∙◌, ap, subst, arith, refl}
-use Rattle.std.specs.Prelude.{slice_index, All, Contains, Option, IfSome}
+use Rattle.std.specs.Prelude.{slice_index, slice_index_or, All, Contains, Option, Some, None, IfSome}
 use Rattle.std.proofs.Math.Seq.{take-append_seam, get_or-append_right}
 use Rattle.std.proofs.lemmas.List.{length-map, length-replicate, get_or-map, map-append}
 use Rattle.std.proofs.lemmas.List.Elements.{All-append, All-contains, All-head, All-map, All-replicate, All-tail, All-weaker}
@@ -8,7 +8,9 @@ use Rattle.smallvec.specs.declared.small_vec.SmallVec.{SmallVec}
 use Rattle.xdp_maps.specs.declared.decl.MapDecl.{MapDecl}
 use Rattle.bpf_isa.specs.declared.instruction.Insn.{Insn}
 use Rattle.bpf_isa.specs.Spelling.{IsInsn}
+use Rattle.bpf_isa.specs.Text.{insn_at}
 use Rattle.bpf_isa.proofs.LaidLaws.{legal_at}
+use Rattle.unfold_core.specs.Units.{ArePlaces}
 use Rattle.xdp_machine.specs.Program.{XdpProgram, IsDeclaration}
 use Rattle.kind_core.specs.Kinds.{key_bytes}
 use Rattle.kind_core.specs.declared.kind.Kinds.{Kinds}
@@ -35,6 +37,7 @@ use Rattle.node_cells.specs.Ends.{IsNode}
 use Rattle.node_cells.specs.Feeding.{known_on, Leave}
 use Rattle.site_cells.specs.Sited.{sited}
 use Rattle.program_graph.specs.Graphs.{node_view, graph_of}
+use Rattle.program_graph.specs.Nodes.{HasInsn}
 use Rattle.program_graph.specs.Sound.{IsSoundGraph}
 use Rattle.predicate_core.specs.declared.making.Progress.{Progress}
 use Rattle.predicate_core.specs.Feeding.{AreFed, FeedsNodes}
@@ -239,3 +242,14 @@ pub node_made : (g : GraphView) (k guard : ℕ) (a b : List CellView) (place fir
 node_made g k guard a b place first end p f e =
     ap (λ (n : ℕ). record { place = n; guard = guard; first = first; end = end }) p ∙ ap (λ (n : ℕ). record { place = (node_at g.nodes k).place; guard = guard; first = n; end = end }) f
     ∙ ap (λ (n : ℕ). record { place = (node_at g.nodes k).place; guard = guard; first = length a; end = n }) e
+
+-- the instruction at a node, by the units of a program
+pub turn_insn : (p : XdpProgram) (u : Unfolded) (k : ℕ) (place : ℕ) (units : List (Option Insn)) (o : Option Insn) → HasInsn (graph_of p u) k → ArePlaces p.insns units → place ≡ (node_at (graph_of p u).nodes k).place → o ≡ slice_index_or units place None
+    → (i : Insn) × (o ≡ Some i) × IsNode (graph_of p u) k i (node_at (graph_of p u).nodes k).kinds
+turn_insn p u k place units o has are at is = (has.insn, is ∙ are.are.same place ∙ ap (insn_at p.insns) at ∙ has.node.insn, has.node)
+
+same_insn : (i j : Insn) (o : Option Insn) → o ≡ Some i → o ≡ Some j → i ≡ j
+same_insn i j o e f = let g : Some i ≡ Some j = sym e ∙ f in cc
+
+pub turn_node : (g : GraphView) (k : ℕ) (kinds : Kinds) (i j : Insn) (o : Option Insn) → o ≡ Some i → IsNode g k i kinds → o ≡ Some j → IsNode g k j kinds
+turn_node g k kinds i j o e node f = subst (λ (x : Insn). IsNode g k x kinds) (same_insn i j o e f) node

@@ -1,5 +1,5 @@
 -- Programs in memory, node by node.
-use Rattle.std.specs.Prelude.{ℕ, ◌≡◌, ◌-◌, ◌<◌, List, [], ◌++◌, length, replicate, slice_index, get_or, map as map_list, All, Contains}
+use Rattle.std.specs.Prelude.{ℕ, ◌≡◌, ◌-◌, ◌<◌, List, [], ◌∷◌, ◌++◌, length, replicate, slice_index, get_or, map as map_list, All, Contains}
 use Rattle.cell_core.specs.Cells.{CellView}
 use Rattle.cell_core.specs.Sites.{SiteView}
 use Rattle.operator_cells.specs.Making.{seen, Grows}
@@ -40,6 +40,11 @@ targets ways = map_list (λ e. e.to) ways
 pub record AreNumbers (n : ℕ) (tos numbers : List ℕ) : Type 0 where
   pub each : All (λ i. (i < length tos) × (slice_index tos i ≡ n)) numbers
   pub all : (i : ℕ) → i < length tos → slice_index tos i ≡ n → Contains numbers i
+
+-- edge 0 leads to the first of so many nodes, and none to the others
+pub record AreFirst (nodes : ℕ) (entries : List (List ℕ)) : Type 0 where
+  pub size : length entries ≡ nodes
+  pub each : (k : ℕ) → k < nodes → AreNumbers k (0 ∷ []) (get_or entries k [])
 
 -- cells, one for each of so many maps, that are there among so many
 abbrev pub AreWaiting : ℕ → ℕ → List ℕ → Type 0

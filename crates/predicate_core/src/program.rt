@@ -1,12 +1,12 @@
 //! Programs as cells.
 
-ghost use Rattle.std.specs.Prelude.{ℕ, ◌≡◌, ◌<◌, ◌≤◌, true, is_some, Some, None, length, slice_index_or, IfOk, OnOk};
+ghost use Rattle.std.specs.Prelude.{ℕ, ◌≡◌, ◌<◌, ◌≤◌, true, is_some, Some, None, length, map as map_list, slice_index_or, IfOk, OnOk};
 ghost use Rattle.cell_core.specs.View.{program_of};
 ghost use Rattle.operator_cells.specs.Making.{seen, Grows};
 ghost use Rattle.held_cells.specs.Law.{IsLaw};
 ghost use Rattle.unfold_core.specs.Unfolding.{IsUnfolded};
 ghost use Rattle.program_graph.specs.Graphs.{graph_of};
-ghost use Rattle.predicate_core.specs.Progress.{AreWaiting, IsReady};
+ghost use Rattle.predicate_core.specs.Progress.{AreFirst, AreWaiting, IsReady};
 
 use crate::closing::close;
 use crate::laws::{opens_follow, sound_graphs_feed, wholes_compute};
@@ -48,11 +48,16 @@ fn unwritten(cells: &mut Vec<Cell>, maps: usize) -> Result<Vec<u32>, AllocError>
 }
 
 // Edge 0 leads to the first of so many nodes.
-fn entries(alloc: Global, nodes: usize) -> Result<Vec<Numbers>, AllocError> {
+fn first_entries(alloc: Global, nodes: usize) -> Result<Vec<Numbers>, AllocError>
+    ensures { IfOk result (λ entries. AreFirst nodes (map_list (λ x. x.items) entries.items)) }
+{
     let mut entries = Vec::new(alloc);
-    entries.push(Numbers::from_slice(alloc, &[0])?)?;
-    for _ in 1..nodes {
-        entries.push(Numbers::new(alloc))?;
+    for node in 0..nodes {
+        let mut numbers = Numbers::new(alloc);
+        if node == 0 {
+            numbers.push(0)?;
+        }
+        entries.push(numbers)?;
     }
     Ok(entries)
 }
@@ -82,7 +87,7 @@ fn begin(alloc: Global, program: &Program, unfolded: &Unfolded) -> Result<Progre
             exits: Vec::new(alloc),
         },
         nodes: Vec::new(alloc),
-        entries: entries(alloc, unfolded.nodes.len())?,
+        entries: first_entries(alloc, unfolded.nodes.len())?,
         pending,
         window,
     })
@@ -100,6 +105,8 @@ fn make_nodes(
     ensures { OnOk result (IsReady (graph_of program.now unfolded.now) (length unfolded.now.nodes.items) progress.new) }
 {
     nodes_have_insns();
+    // A program is one.
+    let _maps = program.decls();
     let units = places(alloc, program)?;
     let ends = ends(alloc, program, unfolded)?;
     for k in 0..unfolded.nodes.len() {
@@ -121,15 +128,17 @@ pub fn to_cells(
     wholes_compute();
     let mut progress = begin(alloc, program, unfolded)?;
     make_nodes(alloc, program, unfolded, &mut progress)?;
-    let answer = close(
-        &mut progress.made.cells,
-        &progress.made.exits,
-        &progress.window,
-    )?;
+    let window = progress.window;
+    let nodes = progress.nodes;
+    let made = progress.made;
+    let mut cells = made.cells;
+    let sites = made.sites;
+    let exits = made.exits;
+    let answer = close(&mut cells, &exits, &window)?;
     Ok(CellProgram {
-        cells: progress.made.cells,
-        nodes: progress.nodes,
-        sites: progress.made.sites,
+        cells,
+        nodes,
+        sites,
         verdict: answer.verdict,
         target: answer.target,
         frame: answer.frame,

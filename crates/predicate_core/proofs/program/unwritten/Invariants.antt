@@ -6,5 +6,5 @@ use Rattle.predicate_core.proofs.program.unwritten.Given as goal
 abbrev pub invariant-loop-map : goal.invariant-loop-map
 invariant-loop-map l = record {
   grows : Grows (seen l.fn.cells.items) (seen l.cells.items);
-  waiting : AreWaiting l.map (length (seen l.cells.items)) l.all.items;
+  waiting : AreWaiting l._map (length (seen l.cells.items)) l.all.items;
 }
