@@ -12,8 +12,9 @@ use Rattle.predicate_core.proofs.program.make_nodes.Goals as goal
 
 pub insn_at-insn-requires : goal.insn_at-insn-requires
 insn_at-insn-requires c =
-    let inside : c.loop-k.k < length (graph_of c.args.program.now c.args.unfolded.now).nodes = omega (arith, c.loop-k-test.true, length-map c.args.unfolded.now.nodes.items node_view) in
-    let is : node_at (graph_of c.args.program.now c.args.unfolded.now).nodes c.loop-k.k ≡ node_view c.index.result.now = node_is c.args.program.now c.args.unfolded.now c.loop-k.k c.index.result.now c.loop-k-test.true c.index.ensures in
+    let low : c.loop-k.k < length c.args.unfolded.now.nodes.items = omega (arith, c.loop-k-test.true, c.len-k-end.ensures) in
+    let inside : c.loop-k.k < length (graph_of c.args.program.now c.args.unfolded.now).nodes = omega (arith, low, length-map c.args.unfolded.now.nodes.items node_view) in
+    let is : node_at (graph_of c.args.program.now c.args.unfolded.now).nodes c.loop-k.k ≡ node_view c.index.result.now = node_is c.args.program.now c.args.unfolded.now c.loop-k.k c.index.result.now low c.index.ensures in
     let has : HasInsn (graph_of c.args.program.now c.args.unfolded.now) c.loop-k.k = c.nodes_have_insns.ensures c.args.program.now c.args.unfolded.now c.loop-k.k c.decls-_maps.ensures.program c.requires.unfolded inside in
     let x = turn_insn c.args.program.now c.args.unfolded.now c.loop-k.k c.place.result c.in_ok-units.units.items (slice_index_or c.deref.result.now c.place.result None) has c.in_ok-units.ensures (c.place.ensures ∙ sym (ap (λ (n : NodeView). n.place) is))
     (ap (λ (us : List (Option Insn)). slice_index_or us c.place.result None) c.deref.ensures.value) in
@@ -21,8 +22,9 @@ insn_at-insn-requires c =
 
 pub make_node-requires-clause-insn : goal.make_node-requires-clause-insn
 make_node-requires-clause-insn c =
-    let inside : c.loop-k.k < length (graph_of c.args.program.now c.args.unfolded.now).nodes = omega (arith, c.loop-k-test.true, length-map c.args.unfolded.now.nodes.items node_view) in
-    let is : node_at (graph_of c.args.program.now c.args.unfolded.now).nodes c.loop-k.k ≡ node_view c.index.result.now = node_is c.args.program.now c.args.unfolded.now c.loop-k.k c.index.result.now c.loop-k-test.true c.index.ensures in
+    let low : c.loop-k.k < length c.args.unfolded.now.nodes.items = omega (arith, c.loop-k-test.true, c.len-k-end.ensures) in
+    let inside : c.loop-k.k < length (graph_of c.args.program.now c.args.unfolded.now).nodes = omega (arith, low, length-map c.args.unfolded.now.nodes.items node_view) in
+    let is : node_at (graph_of c.args.program.now c.args.unfolded.now).nodes c.loop-k.k ≡ node_view c.index.result.now = node_is c.args.program.now c.args.unfolded.now c.loop-k.k c.index.result.now low c.index.ensures in
     let has : HasInsn (graph_of c.args.program.now c.args.unfolded.now) c.loop-k.k = c.nodes_have_insns.ensures c.args.program.now c.args.unfolded.now c.loop-k.k c.decls-_maps.ensures.program c.requires.unfolded inside in
     let x = turn_insn c.args.program.now c.args.unfolded.now c.loop-k.k c.place.result c.in_ok-units.units.items (slice_index_or c.deref.result.now c.place.result None) has c.in_ok-units.ensures (c.place.ensures ∙ sym (ap (λ (n : NodeView). n.place) is))
     (ap (λ (us : List (Option Insn)). slice_index_or us c.place.result None) c.deref.ensures.value) in
@@ -30,8 +32,9 @@ make_node-requires-clause-insn c =
 
 pub make_node-requires-clause-ends : goal.make_node-requires-clause-ends
 make_node-requires-clause-ends c =
-    let inside : c.loop-k.k < length (graph_of c.args.program.now c.args.unfolded.now).nodes = omega (arith, c.loop-k-test.true, length-map c.args.unfolded.now.nodes.items node_view) in
-    let is : node_at (graph_of c.args.program.now c.args.unfolded.now).nodes c.loop-k.k ≡ node_view c.index.result.now = node_is c.args.program.now c.args.unfolded.now c.loop-k.k c.index.result.now c.loop-k-test.true c.index.ensures in
+    let low : c.loop-k.k < length c.args.unfolded.now.nodes.items = omega (arith, c.loop-k-test.true, c.len-k-end.ensures) in
+    let inside : c.loop-k.k < length (graph_of c.args.program.now c.args.unfolded.now).nodes = omega (arith, low, length-map c.args.unfolded.now.nodes.items node_view) in
+    let is : node_at (graph_of c.args.program.now c.args.unfolded.now).nodes c.loop-k.k ≡ node_view c.index.result.now = node_is c.args.program.now c.args.unfolded.now c.loop-k.k c.index.result.now low c.index.ensures in
     let has : HasInsn (graph_of c.args.program.now c.args.unfolded.now) c.loop-k.k = c.nodes_have_insns.ensures c.args.program.now c.args.unfolded.now c.loop-k.k c.decls-_maps.ensures.program c.requires.unfolded inside in
     let x = turn_insn c.args.program.now c.args.unfolded.now c.loop-k.k c.place.result c.in_ok-units.units.items (slice_index_or c.deref.result.now c.place.result None) has c.in_ok-units.ensures (c.place.ensures ∙ sym (ap (λ (n : NodeView). n.place) is))
     (ap (λ (us : List (Option Insn)). slice_index_or us c.place.result None) c.deref.ensures.value) in
