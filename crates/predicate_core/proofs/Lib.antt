@@ -14,3 +14,4 @@ pub mod Fed
 pub mod Numbered
 pub mod Entering
 pub mod Progressing
+pub mod Beginning

@@ -80,7 +80,7 @@ leads_at g k p ws here ns ready l ways_are numbers_are leads =
 waiting_later : (maps n m : ℕ) (rows : List (List ℕ)) → n ≤ m → All (AreWaiting maps n) rows → All (AreWaiting maps m) rows
 waiting_later maps n m rows l = All-weaker (AreWaiting maps n) (AreWaiting maps m) (λ row x. (x.0, All-weaker (λ c. c < n) (λ c. c < m) (λ c h. omega (arith, h, l)) row x.1)) rows
 
-bytes_behind : (R : ℕ → ℕ → Type 0) (a b : List CellView) (n : ℕ) (window : List ℕ) → GrowsWith R a b → HaveBytes a n window → HaveBytes b n window
+pub bytes_behind : (R : ℕ → ℕ → Type 0) (a b : List CellView) (n : ℕ) (window : List ℕ) → GrowsWith R a b → HaveBytes a n window → HaveBytes b n window
 bytes_behind R a b n window g h = record { there = λ i l. omega (arith, h.there i l, g.longer); value = λ packet v i l run short. h.value packet v i l (g.run packet v run) short }
 
 pub kept_more : (nodes maps n m : ℕ) (tos more tos2 : List ℕ) (e0 e1 p0 p1 : List (List ℕ)) (row : List ℕ) → n ≤ m → tos2 ≡ tos ++ more → All (λ t. t < nodes) more → AreKept nodes maps n tos e0 p0

@@ -1,6 +1,6 @@
 //! Programs as cells.
 
-ghost use Rattle.std.specs.Prelude.{ℕ, ◌≡◌, ◌<◌, ◌≤◌, true, is_some, Some, None, length, map as map_list, slice_index_or, IfOk, OnOk};
+ghost use Rattle.std.specs.Prelude.{ℕ, ◌≡◌, ◌<◌, ◌≤◌, true, is_some, Some, None, [], ◌∷◌, length, map as map_list, slice_index_or, IfOk, OnOk};
 ghost use Rattle.cell_core.specs.View.{program_of};
 ghost use Rattle.operator_cells.specs.Making.{seen, Grows};
 ghost use Rattle.held_cells.specs.Law.{IsLaw};
@@ -47,16 +47,24 @@ fn unwritten(cells: &mut Vec<Cell>, maps: usize) -> Result<Vec<u32>, AllocError>
     Ok(all)
 }
 
+// Edge 0 where this is the first node, else none.
+fn first_numbers(alloc: Global, node: usize) -> Result<Numbers, AllocError>
+    ensures first { IfOk result (λ numbers. node ≡ 0 → numbers.items ≡ 0 ∷ []) }
+    ensures other { IfOk result (λ numbers. 0 < node → numbers.items ≡ []) }
+{
+    if node == 0 {
+        return Numbers::from_slice(alloc, &[0]);
+    }
+    Ok(Numbers::new(alloc))
+}
+
 // Edge 0 leads to the first of so many nodes.
 fn first_entries(alloc: Global, nodes: usize) -> Result<Vec<Numbers>, AllocError>
     ensures { IfOk result (λ entries. AreFirst nodes (map_list (λ x. x.items) entries.items)) }
 {
     let mut entries = Vec::new(alloc);
     for node in 0..nodes {
-        let mut numbers = Numbers::new(alloc);
-        if node == 0 {
-            numbers.push(0)?;
-        }
+        let numbers = first_numbers(alloc, node)?;
         entries.push(numbers)?;
     }
     Ok(entries)

@@ -15,7 +15,7 @@ insn_at-insn-requires c =
     let low : c.loop-k.k < length c.args.unfolded.now.nodes.items = omega (arith, c.loop-k-test.true, c.len-k-end.ensures) in
     let inside : c.loop-k.k < length (graph_of c.args.program.now c.args.unfolded.now).nodes = omega (arith, low, length-map c.args.unfolded.now.nodes.items node_view) in
     let is : node_at (graph_of c.args.program.now c.args.unfolded.now).nodes c.loop-k.k ≡ node_view c.index.result.now = node_is c.args.program.now c.args.unfolded.now c.loop-k.k c.index.result.now low c.index.ensures in
-    let has : HasInsn (graph_of c.args.program.now c.args.unfolded.now) c.loop-k.k = c.nodes_have_insns.ensures c.args.program.now c.args.unfolded.now c.loop-k.k c.decls-_maps.ensures.program c.requires.unfolded inside in
+    let has : HasInsn (graph_of c.args.program.now c.args.unfolded.now) c.loop-k.k = c.nodes_have_insns.ensures c.args.program.now c.args.unfolded.now c.loop-k.k c.decls-maps.ensures.program c.requires.unfolded inside in
     let x = turn_insn c.args.program.now c.args.unfolded.now c.loop-k.k c.place.result c.in_ok-units.units.items (slice_index_or c.deref.result.now c.place.result None) has c.in_ok-units.ensures (c.place.ensures ∙ sym (ap (λ (n : NodeView). n.place) is))
     (ap (λ (us : List (Option Insn)). slice_index_or us c.place.result None) c.deref.ensures.value) in
     ap is_some x.1
@@ -25,7 +25,7 @@ make_node-requires-clause-insn c =
     let low : c.loop-k.k < length c.args.unfolded.now.nodes.items = omega (arith, c.loop-k-test.true, c.len-k-end.ensures) in
     let inside : c.loop-k.k < length (graph_of c.args.program.now c.args.unfolded.now).nodes = omega (arith, low, length-map c.args.unfolded.now.nodes.items node_view) in
     let is : node_at (graph_of c.args.program.now c.args.unfolded.now).nodes c.loop-k.k ≡ node_view c.index.result.now = node_is c.args.program.now c.args.unfolded.now c.loop-k.k c.index.result.now low c.index.ensures in
-    let has : HasInsn (graph_of c.args.program.now c.args.unfolded.now) c.loop-k.k = c.nodes_have_insns.ensures c.args.program.now c.args.unfolded.now c.loop-k.k c.decls-_maps.ensures.program c.requires.unfolded inside in
+    let has : HasInsn (graph_of c.args.program.now c.args.unfolded.now) c.loop-k.k = c.nodes_have_insns.ensures c.args.program.now c.args.unfolded.now c.loop-k.k c.decls-maps.ensures.program c.requires.unfolded inside in
     let x = turn_insn c.args.program.now c.args.unfolded.now c.loop-k.k c.place.result c.in_ok-units.units.items (slice_index_or c.deref.result.now c.place.result None) has c.in_ok-units.ensures (c.place.ensures ∙ sym (ap (λ (n : NodeView). n.place) is))
     (ap (λ (us : List (Option Insn)). slice_index_or us c.place.result None) c.deref.ensures.value) in
     turn_node (graph_of c.args.program.now c.args.unfolded.now) c.loop-k.k (node_at (graph_of c.args.program.now c.args.unfolded.now).nodes c.loop-k.k).kinds x.0 c.insn_at-insn.result (slice_index_or c.deref.result.now c.place.result None) x.1 x.2 c.insn_at-insn.ensures
@@ -35,7 +35,7 @@ make_node-requires-clause-ends c =
     let low : c.loop-k.k < length c.args.unfolded.now.nodes.items = omega (arith, c.loop-k-test.true, c.len-k-end.ensures) in
     let inside : c.loop-k.k < length (graph_of c.args.program.now c.args.unfolded.now).nodes = omega (arith, low, length-map c.args.unfolded.now.nodes.items node_view) in
     let is : node_at (graph_of c.args.program.now c.args.unfolded.now).nodes c.loop-k.k ≡ node_view c.index.result.now = node_is c.args.program.now c.args.unfolded.now c.loop-k.k c.index.result.now low c.index.ensures in
-    let has : HasInsn (graph_of c.args.program.now c.args.unfolded.now) c.loop-k.k = c.nodes_have_insns.ensures c.args.program.now c.args.unfolded.now c.loop-k.k c.decls-_maps.ensures.program c.requires.unfolded inside in
+    let has : HasInsn (graph_of c.args.program.now c.args.unfolded.now) c.loop-k.k = c.nodes_have_insns.ensures c.args.program.now c.args.unfolded.now c.loop-k.k c.decls-maps.ensures.program c.requires.unfolded inside in
     let x = turn_insn c.args.program.now c.args.unfolded.now c.loop-k.k c.place.result c.in_ok-units.units.items (slice_index_or c.deref.result.now c.place.result None) has c.in_ok-units.ensures (c.place.ensures ∙ sym (ap (λ (n : NodeView). n.place) is))
     (ap (λ (us : List (Option Insn)). slice_index_or us c.place.result None) c.deref.ensures.value) in
     let node = turn_node (graph_of c.args.program.now c.args.unfolded.now) c.loop-k.k (node_at (graph_of c.args.program.now c.args.unfolded.now).nodes c.loop-k.k).kinds x.0 c.insn_at-insn.result (slice_index_or c.deref.result.now c.place.result None) x.1 x.2 c.insn_at-insn.ensures in
