@@ -21,26 +21,6 @@ use Rattle.edge_cells.specs.Widening.{AreWider}
 use Rattle.edge_cells.specs.Joining.{Joins, LeadTo, HereIsRight}
 use Rattle.edge_cells.proofs.ExtendingLaws.{inside_later, extends_none}
 use Rattle.predicate_core.specs.Arriving.{IsOwn, ArrivesAt}
-use Rattle.predicate_core.proofs.Later.{contains_filter}
-
-own_number : (n k : ℕ) → (n == k) ≡ true → n ≡ k
-own_number n k h = grind (arith, nat_tests)
-
-same_number : (n k : ℕ) → n ≡ k → (n == k) ≡ true
-same_number n k h = grind (arith, nat_tests)
-
-contains_any : {X : Type 0} (p : X → Bool) (xs : List X) (x : X) → Contains (filter p xs) x → Contains xs x
-contains_any p xs x c = All-contains (Contains xs) (filter p xs) x (All-filter p (Contains xs) xs (λ i d l. Contains-get_or xs i d l)) c
-
-pub lead_filtered : (k : ℕ) (ways : List Way) → LeadTo k ways (filter (λ e. e.to == k) ways)
-lead_filtered k ways = record {
-  to = All-weaker (λ e. (e.to == k) ≡ true) (λ e. e.to ≡ k) (λ e h. own_number e.to k h) (filter (λ e. e.to == k) ways) (filter_passes (λ e. e.to == k) ways);
-  among = λ e c. contains_any (λ e. e.to == k) ways e c;
-  all = λ e c is. contains_filter (λ e. e.to == k) ways e (same_number e.to k is) c;
-}
-
-pub lead_all : (k : ℕ) (ways here : List Way) (n : ℕ) → length ways ≤ n → here ≡ filter (λ e. e.to == k) (take n ways) → LeadTo k ways here
-lead_all k ways here n all is = subst (LeadTo k ways) (sym (is ∙ ap (filter (λ e. e.to == k)) (take_all n ways all))) (lead_filtered k ways)
 
 pub lead_each : (P : Way → Type 0) (k : ℕ) (ways here : List Way) → LeadTo k ways here → All P ways → All P here
 lead_each P k ways here lead all i d l = All-contains P ways (get_or here i d) all (lead.among (get_or here i d) (Contains-get_or here i d l))

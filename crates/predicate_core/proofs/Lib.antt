@@ -11,3 +11,7 @@ pub mod Opened
 pub mod Closed
 pub mod Arrived
 pub mod Fed
+pub mod Numbered
+pub mod Entering
+pub mod Progressing
+pub mod Beginning

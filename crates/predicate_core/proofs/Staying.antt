@@ -37,7 +37,7 @@ there_later : (n m : ℕ) (x : Number) (c : ℕ) → n ≤ m → IsThere n x c �
 there_later n m (Known a) c l h = tt
 there_later n m Unknown c l h = omega (arith, l, h)
 
-made_later : (g : GraphView) (a b : List CellView) (ps : List PointerView) (ways : List Way) (exits : List Exit) → length a ≤ length b → AreMade g a ps ways exits → AreMade g b ps ways exits
+pub made_later : (g : GraphView) (a b : List CellView) (ps : List PointerView) (ways : List Way) (exits : List Exit) → length a ≤ length b → AreMade g a ps ways exits → AreMade g b ps ways exits
 made_later g a b ps ways exits longer made = record {
   each_way = λ i d l. let w = made.each_way i d l in (omega (arith, w.0, longer), inside_later g.decls (length a) (length b) ps ps _ _ longer (extends_none ps) w.1);
   each_exit = λ i d l. let x = made.each_exit i d l in

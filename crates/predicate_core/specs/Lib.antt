@@ -4,3 +4,4 @@ pub mod Opening
 pub mod Closing
 pub mod Arriving
 pub mod Feeding
+pub mod Progress

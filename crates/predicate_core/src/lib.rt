@@ -4,4 +4,6 @@
 pub mod arriving;
 pub mod closing;
 pub mod laws;
+pub mod making;
 pub mod opening;
+pub mod program;

@@ -1,0 +1,11 @@
+use Rattle.std.proofs.Common.{ℕ, ◌≡◌, ◌<◌, List, length}
+use Rattle.std.specs.Prelude.{All}
+use Rattle.cell_core.specs.Cells.{CellView}
+use Rattle.operator_cells.specs.Joining.{AreThere}
+use Rattle.predicate_core.proofs.making.arms.Given as goal
+
+abbrev pub invariant-loop-number : goal.invariant-loop-number
+invariant-loop-number l = record {
+  count : length l.arms.items ≡ l.number-index;
+  there : (cells : List CellView) → All (λ e. e.bit < length cells) l.ways → All (λ row. All (λ c. c < length cells) row.items) l.pending → AreThere cells l.arms.items;
+}

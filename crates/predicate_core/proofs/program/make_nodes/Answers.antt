@@ -1,0 +1,42 @@
+use Rattle.std.proofs.Common.{◌≡◌, ◌<◌, Bool, List, length, is_some, sym, ◌∙◌, ap, subst, arith}
+use Rattle.std.specs.Prelude.{Option, Some, None, slice_index_or}
+use Rattle.std.proofs.lemmas.List.{length-map}
+use Rattle.bpf_isa.specs.declared.instruction.Insn.{Insn}
+use Rattle.held_cells.specs.Paths.{NodeView, node_at}
+use Rattle.node_cells.specs.Ends.{HasEnds}
+use Rattle.program_graph.specs.declared.edge_ends.NodeEnds.{NodeEnds}
+use Rattle.program_graph.specs.Graphs.{node_view, graph_of}
+use Rattle.program_graph.specs.Nodes.{HasInsn}
+use Rattle.predicate_core.proofs.Progressing.{node_is, turn_insn, turn_node}
+use Rattle.predicate_core.proofs.program.make_nodes.Goals as goal
+
+pub insn_at-insn-requires : goal.insn_at-insn-requires
+insn_at-insn-requires c =
+    let low : c.loop-k.k < length c.args.unfolded.now.nodes.items = omega (arith, c.loop-k-test.true, c.len-k-end.ensures) in
+    let inside : c.loop-k.k < length (graph_of c.args.program.now c.args.unfolded.now).nodes = omega (arith, low, length-map c.args.unfolded.now.nodes.items node_view) in
+    let is : node_at (graph_of c.args.program.now c.args.unfolded.now).nodes c.loop-k.k ≡ node_view c.index.result.now = node_is c.args.program.now c.args.unfolded.now c.loop-k.k c.index.result.now low c.index.ensures in
+    let has : HasInsn (graph_of c.args.program.now c.args.unfolded.now) c.loop-k.k = c.nodes_have_insns.ensures c.args.program.now c.args.unfolded.now c.loop-k.k c.decls-maps.ensures.program c.requires.unfolded inside in
+    let x = turn_insn c.args.program.now c.args.unfolded.now c.loop-k.k c.place.result c.in_ok-units.units.items (slice_index_or c.deref.result.now c.place.result None) has c.in_ok-units.ensures (c.place.ensures ∙ sym (ap (λ (n : NodeView). n.place) is))
+    (ap (λ (us : List (Option Insn)). slice_index_or us c.place.result None) c.deref.ensures.value) in
+    ap is_some x.1
+
+pub make_node-requires-clause-insn : goal.make_node-requires-clause-insn
+make_node-requires-clause-insn c =
+    let low : c.loop-k.k < length c.args.unfolded.now.nodes.items = omega (arith, c.loop-k-test.true, c.len-k-end.ensures) in
+    let inside : c.loop-k.k < length (graph_of c.args.program.now c.args.unfolded.now).nodes = omega (arith, low, length-map c.args.unfolded.now.nodes.items node_view) in
+    let is : node_at (graph_of c.args.program.now c.args.unfolded.now).nodes c.loop-k.k ≡ node_view c.index.result.now = node_is c.args.program.now c.args.unfolded.now c.loop-k.k c.index.result.now low c.index.ensures in
+    let has : HasInsn (graph_of c.args.program.now c.args.unfolded.now) c.loop-k.k = c.nodes_have_insns.ensures c.args.program.now c.args.unfolded.now c.loop-k.k c.decls-maps.ensures.program c.requires.unfolded inside in
+    let x = turn_insn c.args.program.now c.args.unfolded.now c.loop-k.k c.place.result c.in_ok-units.units.items (slice_index_or c.deref.result.now c.place.result None) has c.in_ok-units.ensures (c.place.ensures ∙ sym (ap (λ (n : NodeView). n.place) is))
+    (ap (λ (us : List (Option Insn)). slice_index_or us c.place.result None) c.deref.ensures.value) in
+    turn_node (graph_of c.args.program.now c.args.unfolded.now) c.loop-k.k (node_at (graph_of c.args.program.now c.args.unfolded.now).nodes c.loop-k.k).kinds x.0 c.insn_at-insn.result (slice_index_or c.deref.result.now c.place.result None) x.1 x.2 c.insn_at-insn.ensures
+
+pub make_node-requires-clause-ends : goal.make_node-requires-clause-ends
+make_node-requires-clause-ends c =
+    let low : c.loop-k.k < length c.args.unfolded.now.nodes.items = omega (arith, c.loop-k-test.true, c.len-k-end.ensures) in
+    let inside : c.loop-k.k < length (graph_of c.args.program.now c.args.unfolded.now).nodes = omega (arith, low, length-map c.args.unfolded.now.nodes.items node_view) in
+    let is : node_at (graph_of c.args.program.now c.args.unfolded.now).nodes c.loop-k.k ≡ node_view c.index.result.now = node_is c.args.program.now c.args.unfolded.now c.loop-k.k c.index.result.now low c.index.ensures in
+    let has : HasInsn (graph_of c.args.program.now c.args.unfolded.now) c.loop-k.k = c.nodes_have_insns.ensures c.args.program.now c.args.unfolded.now c.loop-k.k c.decls-maps.ensures.program c.requires.unfolded inside in
+    let x = turn_insn c.args.program.now c.args.unfolded.now c.loop-k.k c.place.result c.in_ok-units.units.items (slice_index_or c.deref.result.now c.place.result None) has c.in_ok-units.ensures (c.place.ensures ∙ sym (ap (λ (n : NodeView). n.place) is))
+    (ap (λ (us : List (Option Insn)). slice_index_or us c.place.result None) c.deref.ensures.value) in
+    let node = turn_node (graph_of c.args.program.now c.args.unfolded.now) c.loop-k.k (node_at (graph_of c.args.program.now c.args.unfolded.now).nodes c.loop-k.k).kinds x.0 c.insn_at-insn.result (slice_index_or c.deref.result.now c.place.result None) x.1 x.2 c.insn_at-insn.ensures in
+    subst (λ (e : NodeEnds). HasEnds (graph_of c.args.program.now c.args.unfolded.now) c.loop-k.k c.insn_at-insn.result e.next e.jump) (sym c.index-in-loop-k.ensures) (c.in_ok-ends.ensures.each c.loop-k.k c.insn_at-insn.result c.index-in-loop-k.result.now inside node.insn)

@@ -1,0 +1,6 @@
+use Rattle.program_graph.specs.Graphs.{graph_of}
+use Rattle.predicate_core.specs.Progress.{IsReady}
+use Rattle.predicate_core.proofs.program.make_nodes.Given as goal
+
+abbrev pub invariant-loop-k : goal.invariant-loop-k
+invariant-loop-k l = IsReady (graph_of l.program l.unfolded) l.k l.progress

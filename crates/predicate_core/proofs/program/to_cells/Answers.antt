@@ -1,0 +1,15 @@
+use Rattle.std.proofs.Common.{ℕ, List, sym, subst}
+use Rattle.std.proofs.lemmas.List.{length-map}
+use Rattle.operator_cells.specs.Making.{seen}
+use Rattle.held_cells.specs.declared.way.Exit.{Exit}
+use Rattle.site_cells.specs.Sited.{sited}
+use Rattle.program_graph.specs.Graphs.{node_view, graph_of}
+use Rattle.predicate_core.specs.Making.{IsSoFar, Answers}
+use Rattle.predicate_core.specs.Progress.{making_of}
+use Rattle.predicate_core.proofs.program.to_cells.Goals as goal
+
+pub returns : goal.returns
+unfolding seen sited
+returns c = c.wholes_compute.ensures (graph_of c.args.program.now c.args.unfolded.now) c.in_ok-make_nodes.ensures.held (making_of c.make_nodes.new.progress) (seen c.close.new.cells.items) c.in_ok-answer.answer.verdict c.in_ok-answer.answer.target c.in_ok-answer.answer.frame.items
+    (subst (λ (n : ℕ). IsSoFar (graph_of c.args.program.now c.args.unfolded.now) n c.in_ok-make_nodes.ensures.held (making_of c.make_nodes.new.progress)) (sym (length-map c.args.unfolded.now.nodes.items node_view)) c.in_ok-make_nodes.ensures.so_far)
+    (subst (λ (xs : List Exit). Answers (seen c.make_nodes.new.progress.made.cells.items) (seen c.close.new.cells.items) xs c.in_ok-answer.answer.verdict c.in_ok-answer.answer.target c.in_ok-answer.answer.frame.items) c.deref.ensures.value c.in_ok-answer.ensures)

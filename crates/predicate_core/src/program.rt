@@ -1,0 +1,154 @@
+//! Programs as cells.
+
+ghost use Rattle.std.specs.Prelude.{ℕ, ◌≡◌, ◌<◌, ◌≤◌, true, is_some, Some, None, [], ◌∷◌, length, map as map_list, slice_index_or, IfOk, OnOk};
+ghost use Rattle.cell_core.specs.View.{program_of};
+ghost use Rattle.operator_cells.specs.Making.{seen, Grows};
+ghost use Rattle.held_cells.specs.Law.{IsLaw};
+ghost use Rattle.unfold_core.specs.Unfolding.{IsUnfolded};
+ghost use Rattle.program_graph.specs.Graphs.{graph_of};
+ghost use Rattle.predicate_core.specs.Progress.{AreFirst, AreWaiting, IsReady};
+
+use crate::closing::close;
+use crate::laws::{opens_follow, sound_graphs_feed, wholes_compute};
+use crate::making::{Numbers, Progress, make_node};
+use crate::opening::open;
+use bpf_isa::Insn;
+use cell_core::cell::{Cell, Cells};
+use cell_core::program::CellProgram;
+use operator_cells::cells::pending;
+use program_graph::ends;
+use program_graph::laws::{graphs_are_sound, nodes_have_insns};
+use std::alloc::{AllocError, Global};
+use step_cells::made::Made;
+use unfold_core::{Unfolded, places};
+use xdp_object::Program;
+
+// The instruction that begins at a place.
+fn insn_at(units: &[Option<Insn>], place: u32) -> Insn
+    requires { is_some (slice_index_or units.now place None) ≡ true }
+    ensures { slice_index_or units.now place None ≡ Some result }
+{
+    if let Some(Some(insn)) = units.get(place as usize) {
+        return *insn;
+    }
+    unreachable!()
+}
+
+// For each map a cell of no writes.
+fn unwritten(cells: &mut Vec<Cell>, maps: usize) -> Result<Vec<u32>, AllocError>
+    ensures grows { IfOk result (λ row. Grows (seen cells.old.items) (seen cells.new.items)) }
+    ensures waiting { IfOk result (λ row. AreWaiting maps (length (seen cells.new.items)) row.items) }
+{
+    let mut all = Vec::new(*cells.allocator());
+    for _map in 0..maps {
+        let c = pending(cells, &[])?;
+        all.push(c)?;
+    }
+    Ok(all)
+}
+
+// Edge 0 where this is the first node, else none.
+fn first_numbers(alloc: Global, node: usize) -> Result<Numbers, AllocError>
+    ensures first { IfOk result (λ numbers. node ≡ 0 → numbers.items ≡ 0 ∷ []) }
+    ensures other { IfOk result (λ numbers. 0 < node → numbers.items ≡ []) }
+{
+    if node == 0 {
+        return Numbers::from_slice(alloc, &[0]);
+    }
+    Ok(Numbers::new(alloc))
+}
+
+// Edge 0 leads to the first of so many nodes.
+fn first_entries(alloc: Global, nodes: usize) -> Result<Vec<Numbers>, AllocError>
+    ensures { IfOk result (λ entries. AreFirst nodes (map_list (λ x. x.items) entries.items)) }
+{
+    let mut entries = Vec::new(alloc);
+    for node in 0..nodes {
+        let numbers = first_numbers(alloc, node)?;
+        entries.push(numbers)?;
+    }
+    Ok(entries)
+}
+
+// The edge to the first node, and nothing more.
+fn begin(alloc: Global, program: &Program, unfolded: &Unfolded) -> Result<Progress, AllocError>
+    requires { IsUnfolded program.now unfolded.now }
+    ensures { IfOk result (λ progress. IsReady (graph_of program.now unfolded.now) 0 progress) }
+{
+    graphs_are_sound();
+    sound_graphs_feed();
+    opens_follow();
+    let mut cells = Vec::new(alloc);
+    let start = open(&mut cells)?;
+    let none = unwritten(&mut cells, program.decls().len())?;
+    let window = start.held.window;
+    let mut ways = Vec::new(alloc);
+    ways.push(start)?;
+    let mut pending = Vec::new(alloc);
+    pending.push(Cells::from_slice(alloc, &none)?)?;
+    Ok(Progress {
+        made: Made {
+            cells,
+            pointers: Vec::new(alloc),
+            sites: Vec::new(alloc),
+            ways,
+            exits: Vec::new(alloc),
+        },
+        nodes: Vec::new(alloc),
+        entries: first_entries(alloc, unfolded.nodes.len())?,
+        pending,
+        window,
+    })
+}
+
+// All nodes of a program.
+fn make_nodes(
+    alloc: Global,
+    program: &Program,
+    unfolded: &Unfolded,
+    progress: &mut Progress,
+) -> Result<(), AllocError>
+    requires unfolded { IsUnfolded program.now unfolded.now }
+    requires ready { IsReady (graph_of program.now unfolded.now) 0 progress.old }
+    ensures { OnOk result (IsReady (graph_of program.now unfolded.now) (length unfolded.now.nodes.items) progress.new) }
+{
+    nodes_have_insns();
+    // A program is one.
+    let _maps = program.decls();
+    let units = places(alloc, program)?;
+    let ends = ends(alloc, program, unfolded)?;
+    for k in 0..unfolded.nodes.len() {
+        let insn = insn_at(&units, unfolded.nodes[k].node.place());
+        make_node(progress, program, unfolded, &insn, ends[k], k as u32)?;
+    }
+    Ok(())
+}
+
+/// The cells of a program that unfolds: the law of cells holds of them, for its graph.
+pub fn to_cells(
+    alloc: Global,
+    program: &Program,
+    unfolded: &Unfolded,
+) -> Result<CellProgram, AllocError>
+    requires { IsUnfolded program.now unfolded.now }
+    ensures { IfOk result (λ cells. IsLaw (graph_of program.now unfolded.now) (program_of cells)) }
+{
+    wholes_compute();
+    let mut progress = begin(alloc, program, unfolded)?;
+    make_nodes(alloc, program, unfolded, &mut progress)?;
+    let window = progress.window;
+    let nodes = progress.nodes;
+    let made = progress.made;
+    let mut cells = made.cells;
+    let sites = made.sites;
+    let exits = made.exits;
+    let answer = close(&mut cells, &exits, &window)?;
+    Ok(CellProgram {
+        cells,
+        nodes,
+        sites,
+        verdict: answer.verdict,
+        target: answer.target,
+        frame: answer.frame,
+    })
+}
