@@ -1,0 +1,6 @@
+//! Nets of cells: for each operator an expression over the nets of its inputs, of the width of the cell, which has the
+//! operator's value.
+#![tactic(auto)]
+
+pub mod operand;
+mod slice;
