@@ -9,7 +9,7 @@ use Rattle.net_core.specs.Value.{word}
 use Rattle.cell_core.specs.Cells.{bits_from}
 use Rattle.cell_nets.specs.declared.operand.Operand.{Operand}
 use Rattle.cell_nets.specs.declared.operand.Operand.TheVariants.{Net}
-use Rattle.cell_nets.specs.Operands.{HasWidth, number_in}
+use Rattle.cell_nets.specs.Operands.{HasWidth, IsAvailable, number_in}
 use Rattle.cell_nets.specs.Parts.{IsPart, IsSlice}
 use Rattle.cell_nets.proofs.PartLemmas.{slice_of, slice_same, const_slice, read_slice, bits_slice, bit_slice, beside_slice}
 
@@ -74,8 +74,8 @@ last_slice ins n w from width t c most inside more p =
 
 -- the same of an operand that is a net
 pub slice_at :
-    {N : Type 0} (ins : List (Operand N)) (a : Operand N) (n : N) (w d from width : ℕ) (t u : Tree N) → a ≡ Net n w → Contains ins a → d ≤ 2 → u ≡ t
+    {N : Type 0} (ins : List (Operand N)) (a : Operand N) (n : N) (w d from width : ℕ) (t u : Tree N) → a ≡ Net n w → IsAvailable ins a → d ≤ 2 → u ≡ t
     → (Contains ins (Net n w) → IsSlice ins d width (λ v. bits_from (v.net n).value from width) t) → IsSlice ins 2 width (λ v. bits_from (number_in v a) from width) u
 slice_at ins a n w d from width t u e c le same p =
     let P : Operand _ → Type 0 = λ b. IsSlice ins 2 width (λ v. bits_from (number_in v b) from width) u in
-    subst P (sym e) (slice_of ins d 2 width _ t u le same (p (subst (Contains ins) e c)))
+    subst P (sym e) (slice_of ins d 2 width _ t u le same (p (subst (IsAvailable ins) e c)))

@@ -40,6 +40,11 @@ AreFit v ins = (a : Operand _) → Contains ins a → IsFit v a
 abbrev pub AreDeclared : {N : Type 0} → Scope N → List (Operand N) → Type 0
 AreDeclared s ins = (a : Operand _) → Contains ins a → IsDeclared s a
 
+-- a number, or one of the operands
+abbrev pub IsAvailable : {N : Type 0} → List (Operand N) → Operand N → Type 0
+IsAvailable ins (Known n) = Unit {0}
+IsAvailable ins (Net n w) = Contains ins (Net n w)
+
 -- a net of one of the operands
 abbrev pub IsNetOf : {N : Type 0} → List (Operand N) → N → Type 0
 IsNetOf ins n = (w : ℕ) × Contains ins (Net n w)

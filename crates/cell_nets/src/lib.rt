@@ -3,4 +3,5 @@
 #![tactic(auto)]
 
 pub mod operand;
+mod narrow;
 mod slice;

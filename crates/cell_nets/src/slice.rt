@@ -4,7 +4,7 @@ ghost use Rattle.std.specs.Prelude.{ℕ, List, Contains, ◌≡◌, ◌+◌, ◌
 ghost use Rattle.net_core.specs.Nets.{TConcatenation, TMore, TLast};
 ghost use Rattle.net_core.specs.View.{tree_of};
 ghost use Rattle.cell_core.specs.Cells.{bits_from};
-ghost use Rattle.cell_nets.specs.Operands.{IsOperand, number_in};
+ghost use Rattle.cell_nets.specs.Operands.{IsOperand, IsAvailable, IsWide, number_in};
 ghost use Rattle.cell_nets.specs.Parts.{IsPart, IsSlice};
 
 use crate::operand::Operand;
@@ -46,9 +46,8 @@ pub(crate) fn slice<N: Copy>(
 ) -> Result<Expr<N>, AllocError>
     requires operand { IsOperand a }
     requires from { from ≤ 63 }
-    requires some { 0 < width }
-    requires most { width ≤ 64 }
-    ensures { (ins : List (Operand N)) → Contains ins a → IfOk result (λ e. IsSlice ins 2 width (λ v. bits_from (number_in v a) from width) (tree_of e)) }
+    requires width { IsWide width }
+    ensures { (ins : List (Operand N)) → IsAvailable ins a → IfOk result (λ e. IsSlice ins 2 width (λ v. bits_from (number_in v a) from width) (tree_of e)) }
 {
     match a {
         Operand::Known(n) => Ok(constant(width, low(n >> from, width))),

@@ -9,7 +9,7 @@ use Rattle.cell_nets.proofs.slice.slice.Goals as goal
 pub returns-then-from-of : goal.returns-then-from-of
 returns-then-from-of g c = λ ins h.
     slice_at ins c.args.a c.in-Net.net c.in-Net.of 1 c.args.from c.args.width _ _ c.in-Net.is h (omega arith) c.constant-then-from-of.ensures
-    (λ k. past_slice ins c.in-Net.net c.in-Net.of c.args.from c.args.width k c.requires.most c.if-from-of.true)
+    (λ k. past_slice ins c.in-Net.net c.in-Net.of c.args.from c.args.width k c.requires.width.most c.if-from-of.true)
 
 pub returns-then-from-width : goal.returns-then-from-width
 returns-then-from-width g c = λ ins h.
@@ -19,4 +19,4 @@ pub returns-in_ok-whole-in-Net : goal.returns-in_ok-whole-in-Net
 returns-in_ok-whole-in-Net g c = λ ins h.
     slice_at ins c.args.a c.in-Net.net c.in-Net.of 2 c.args.from c.args.width _ _ c.in-Net.is h (omega arith)
     (c.in_ok-whole-in-Net.ensures ∙ ap (λ z. TConcatenation (TMore z (TLast (tree_of c.inside-bits.result)))) c.constant-zeros.ensures)
-    (λ k. last_slice ins c.in-Net.net c.in-Net.of c.args.from c.args.width _ k c.requires.most c.if-from-of.false (omega arith) (c.inside-bits.ensures ins k))
+    (λ k. last_slice ins c.in-Net.net c.in-Net.of c.args.from c.args.width _ k c.requires.width.most c.if-from-of.false (omega arith) (c.inside-bits.ensures ins k))
