@@ -1,3 +1,5 @@
 pub mod PartLemmas
 pub mod SliceLemmas
 pub mod NarrowLemmas
+pub mod ChoiceLemmas
+pub mod TestLemmas

@@ -3,5 +3,7 @@
 #![tactic(auto)]
 
 pub mod operand;
+mod choosing;
+mod comparing;
 mod narrow;
 mod slice;
