@@ -3,3 +3,4 @@ pub mod SliceLemmas
 pub mod NarrowLemmas
 pub mod ChoiceLemmas
 pub mod TestLemmas
+pub mod ShiftLemmas

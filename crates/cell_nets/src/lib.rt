@@ -5,5 +5,7 @@
 pub mod operand;
 mod choosing;
 mod comparing;
+mod listing;
 mod narrow;
+mod shifting;
 mod slice;
