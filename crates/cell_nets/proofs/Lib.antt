@@ -4,3 +4,4 @@ pub mod NarrowLemmas
 pub mod ChoiceLemmas
 pub mod TestLemmas
 pub mod ShiftLemmas
+pub mod ListLemmas

@@ -35,7 +35,7 @@ small_same x m most small =
     let less : x < 2 ^ 64 = omega (arith, pow_mono {i = m} {j = 64} most) in
     (from_zero x m ∙ mod-eq_of_lt {n = x} {m = 2 ^ m} small, mod-eq_of_lt {n = x} {m = 2 ^ 64} less)
 
-bit_low : (b : Bool) (w : ℕ) → 0 < w → bit b ≡ bits_from (bit b) 0 w
+pub bit_low : (b : Bool) (w : ℕ) → 0 < w → bit b ≡ bits_from (bit b) 0 w
 bit_low b w some = let less : bit b < 2 ^ w = omega (arith, pow_mono {i = 1} {j = w} some, bit_small b) in sym (from_zero (bit b) w ∙ mod-eq_of_lt {n = bit b} {m = 2 ^ w} less)
   where
     bit_small : (b : Bool) → bit b < 2

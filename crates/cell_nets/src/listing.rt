@@ -1,11 +1,12 @@
 //! Operators on any number of operands.
 
-ghost use Rattle.std.specs.Prelude.{ℕ, List, [], ◌∷◌, ◌≡◌, ◌≤◌, All, length, IfOk, map as map_list};
+ghost use Rattle.std.specs.Prelude.{ℕ, List, [], ◌∷◌, ◌≡◌, ◌-◌, ◌*◌, ◌/◌, ◌≤◌, All, length, IfOk, map as map_list};
 ghost use Rattle.std.specs.List.{list_any};
 ghost use Rattle.net_core.specs.View.{tree_of};
 ghost use Rattle.xdp_machine.specs.State.{PacketIn};
 ghost use Rattle.cell_core.specs.declared.operator.Operator.TheVariants as operator;
 ghost use Rattle.cell_core.specs.Cells.{bit, on, bits_from, phi};
+ghost use Rattle.cell_nets.specs.Listing.{IsChosen};
 ghost use Rattle.cell_nets.specs.Operands.{IsOperand, IsAvailable, IsWide, number_in};
 ghost use Rattle.cell_nets.specs.Parts.{Computes, worth};
 
@@ -35,4 +36,45 @@ pub(crate) fn any<N: Copy>(
     }
     let e = extend(alloc, found, 1, width)?;
     Ok(e)
+}
+
+// The value of the last pair of operands, or 0 where its second is missing.
+fn last_value<N: Copy>(
+    alloc: Global,
+    args: &[Operand<N>],
+    at: usize,
+    width: u8,
+) -> Result<Expr<N>, AllocError>
+    requires operands { All IsOperand args.now }
+    requires last { at ≡ (length args.now - 1) / 2 * 2 }
+    requires width { IsWide width }
+    ensures { IfOk result (λ e. IsChosen args.now width at (tree_of e)) }
+{
+    if args.len() > at + 1 {
+        let value = slice(alloc, args[at + 1], 0, width)?;
+        return Ok(value);
+    }
+    Ok(constant(width, 0))
+}
+
+/// Of operands in pairs, the second of the first pair whose first is not 0, or else of the last; 0 in place of one that is missing.
+pub(crate) fn phi<N: Copy>(
+    alloc: Global,
+    args: &[Operand<N>],
+    width: u8,
+) -> Result<Expr<N>, AllocError>
+    requires operands { All IsOperand args.now }
+    requires few { length args.now ≤ 40 }
+    requires width { IsWide width }
+    ensures { (ins : List (Operand N)) (packet : PacketIn) → All (IsAvailable ins) args.now → IfOk result (λ e. Computes ins width (worth packet operator.Phi args.now width) (tree_of e)) }
+{
+    let mut at = args.len().saturating_sub(1) / 2 * 2;
+    let mut chosen = last_value(alloc, args, at, width)?;
+    while at >= 2 {
+        at -= 2;
+        let edge = truth(alloc, args[at])?;
+        let value = slice(alloc, args[at + 1], 0, width)?;
+        chosen = conditional(alloc, edge, value, chosen)?;
+    }
+    Ok(chosen)
 }
