@@ -5,3 +5,4 @@ pub mod ChoiceLemmas
 pub mod TestLemmas
 pub mod ShiftLemmas
 pub mod ListLemmas
+pub mod JoinLemmas

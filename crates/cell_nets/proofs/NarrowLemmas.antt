@@ -26,7 +26,7 @@ product_cut : (w x y : ℕ) → w ≤ 64 → (x % 2 ^ w) * (y % 2 ^ w) % 2 ^ w �
 product_cut w x y most =
     sym (low_low _ w most ∙ mul-mod (x % 2 ^ 64) (y % 2 ^ 64) (2 ^ w) ∙ ap (λ k. k * (y % 2 ^ 64 % 2 ^ w) % 2 ^ w) (low_low x w most) ∙ ap (λ k. (x % 2 ^ w) * k % 2 ^ w) (low_low y w most))
 
-add-mod : (a b m : ℕ) → (a + b) % m ≡ (a % m + b % m) % m
+pub add-mod : (a b m : ℕ) → (a + b) % m ≡ (a % m + b % m) % m
 add-mod a b m =
     let e : a + b ≡ a % m + b % m + (a / m + b / m) * m = omega (arith, div-add-mod' a m, div-add-mod' b m) in
     ap (λ k. k % m) e ∙ add-mul-mod_self_right (a % m + b % m) (a / m + b / m) m

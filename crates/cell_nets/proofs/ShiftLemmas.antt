@@ -26,7 +26,7 @@ count_is y = from_zero y 6 ∙ omega arith
 at_once : (x n w : ℕ) → w ≤ 64 → x % 2 ^ w * 2 ^ n % 2 ^ w ≡ x % 2 ^ 64 * 2 ^ n % 2 ^ 64 % 2 ^ w
 at_once x n w most = ap (λ k. k * 2 ^ n % 2 ^ w) (sym (low_low x w most)) ∙ mul-mod_first (x % 2 ^ 64) (2 ^ n) (2 ^ w) ∙ sym (low_low (x % 2 ^ 64 * 2 ^ n) w most)
 
-all_out : (x n w : ℕ) → w ≤ n → x * 2 ^ n % 2 ^ w ≡ 0
+pub all_out : (x n w : ℕ) → w ≤ n → x * 2 ^ n % 2 ^ w ≡ 0
 all_out x n w past =
     let e : n - w + w ≡ n = omega arith in
     ap (λ k. x * k % 2 ^ w) (ap (λ k. 2 ^ k) (sym e) ∙ pow-add 2 (n - w) w) ∙ ap (λ k. k % 2 ^ w) (regroup x (2 ^ (n - w)) (2 ^ w)) ∙ mul-mod_left (x * 2 ^ (n - w)) (2 ^ w)
@@ -78,7 +78,7 @@ high_sign b x some most high =
     le_no_less : (a b : ℕ) → b ≤ a → nat_lt a b ≡ false
     le_no_less a b h = grind (arith, nat_tests)
 
-low_less : (x b w : ℕ) → w ≤ b → x % 2 ^ b % 2 ^ w ≡ x % 2 ^ w
+pub low_less : (x b w : ℕ) → w ≤ b → x % 2 ^ b % 2 ^ w ≡ x % 2 ^ w
 low_less x b w less = let e : b - w + w ≡ b = omega arith in ap (λ k. x % 2 ^ k % 2 ^ w) (sym e) ∙ mod-mod-pow x (b - w) w
 
 multiple : (a w : ℕ) → w ≤ a → 2 ^ a ≡ 2 ^ (a - w) * 2 ^ w

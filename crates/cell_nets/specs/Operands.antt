@@ -19,6 +19,11 @@ abbrev pub IsOperand : {N : Type 0} → Operand N → Type 0
 IsOperand (Known n) = n < 2 ^ 64
 IsOperand (Net n w) = IsWide w
 
+-- an operand of no more bits
+abbrev pub IsNarrow : {N : Type 0} → ℕ → Operand N → Type 0
+IsNarrow bits (Known n) = n < 2 ^ bits
+IsNarrow bits (Net n w) = w ≤ bits
+
 -- a net has the value that its width says, whichever it is
 pub record HasWidth {N : Type 0} (v : Env N) (n : N) (w : ℕ) : Type 0 where
   pub width : (v.net n).width ≡ w

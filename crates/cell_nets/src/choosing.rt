@@ -16,7 +16,7 @@ use net_core::tree::{Expr, UnaryOp};
 use std::alloc::{AllocError, Global};
 
 /// One bit: whether an operand is not 0.
-pub(crate) fn truth<N: Copy>(alloc: Global, a: Operand<N>) -> Result<Expr<N>, AllocError>
+pub fn truth<N: Copy>(alloc: Global, a: Operand<N>) -> Result<Expr<N>, AllocError>
     requires { IsOperand a }
     ensures { (ins : List (Operand N)) → IsAvailable ins a → IfOk result (λ e. IsPart ins 2 1 (λ v. bit (on (number_in v a))) (tree_of e)) }
 {
@@ -33,7 +33,7 @@ pub(crate) fn truth<N: Copy>(alloc: Global, a: Operand<N>) -> Result<Expr<N>, Al
 }
 
 /// The second of three operands where the first is not 0, else the third.
-pub(crate) fn select<N: Copy>(
+pub fn select<N: Copy>(
     alloc: Global,
     c: Operand<N>,
     a: Operand<N>,
@@ -54,7 +54,7 @@ pub(crate) fn select<N: Copy>(
 }
 
 /// An operand, but 1 where it is 0.
-pub(crate) fn non_zero<N: Copy>(
+pub fn non_zero<N: Copy>(
     alloc: Global,
     a: Operand<N>,
     width: u8,
@@ -68,7 +68,7 @@ pub(crate) fn non_zero<N: Copy>(
 }
 
 /// The other value of each bit.
-pub(crate) fn invert<N: Copy>(
+pub fn invert<N: Copy>(
     alloc: Global,
     a: Operand<N>,
     width: u8,

@@ -16,7 +16,7 @@ use net_core::tree::{Expr, Op};
 use std::alloc::{AllocError, Global};
 
 /// How many bits are enough for an operand.
-pub(crate) fn span<N: Copy>(a: Operand<N>) -> u8
+pub fn span<N: Copy>(a: Operand<N>) -> u8
     requires { IsOperand a }
     ensures wide { IsWide result }
     ensures enough { (v : Env N) → IsFit v a → number_in v a < 2 ^ result }
@@ -50,7 +50,7 @@ fn sides<N: Copy>(a: Operand<N>, b: Operand<N>) -> u8
 }
 
 /// An expression with zeros before it.
-pub(crate) fn extend<N: Copy>(
+pub fn extend<N: Copy>(
     alloc: Global,
     e: Expr<N>,
     from: u8,
@@ -70,7 +70,7 @@ pub(crate) fn extend<N: Copy>(
 }
 
 /// Whether a comparison of two operands holds: 1 or 0.
-pub(crate) fn compare<N: Copy>(
+pub fn compare<N: Copy>(
     alloc: Global,
     op: Op,
     a: Operand<N>,

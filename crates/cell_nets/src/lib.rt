@@ -1,11 +1,11 @@
-//! Nets of cells: for each operator an expression over the nets of its inputs, of the width of the cell, which has the
-//! operator's value.
+//! Nets of cells: for each operator an expression over the nets of its inputs, of as many bits as its cell has, that has the
+//! operator's value in them.
 #![tactic(auto)]
 
+pub mod choosing;
+pub mod comparing;
+pub mod listing;
+pub mod narrow;
 pub mod operand;
-mod choosing;
-mod comparing;
-mod listing;
-mod narrow;
-mod shifting;
-mod slice;
+pub mod shifting;
+pub mod slice;

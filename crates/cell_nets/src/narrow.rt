@@ -15,7 +15,7 @@ use net_core::tree::{Expr, Op};
 use std::alloc::{AllocError, Global};
 
 /// An operation between the low bits of two operands.
-pub(crate) fn narrow<N: Copy>(
+pub fn narrow<N: Copy>(
     alloc: Global,
     op: Op,
     a: Operand<N>,

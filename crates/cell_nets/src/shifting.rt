@@ -15,7 +15,7 @@ use net_core::tree::{Expr, Op};
 use std::alloc::{AllocError, Global};
 
 /// An operand shifted to the left by the low six bits of another one.
-pub(crate) fn shift_left<N: Copy>(
+pub fn shift_left<N: Copy>(
     alloc: Global,
     a: Operand<N>,
     b: Operand<N>,
@@ -33,7 +33,7 @@ pub(crate) fn shift_left<N: Copy>(
 }
 
 /// An operand of no more bits shifted to the right by the low six bits of another one.
-pub(crate) fn shift_right<N: Copy>(
+pub fn shift_right<N: Copy>(
     alloc: Global,
     a: Operand<N>,
     b: Operand<N>,
@@ -52,7 +52,7 @@ pub(crate) fn shift_right<N: Copy>(
 }
 
 /// So many low bits of an operand, their sign repeated.
-pub(crate) fn sign_extend<N: Copy>(
+pub fn sign_extend<N: Copy>(
     alloc: Global,
     a: Operand<N>,
     from: u8,

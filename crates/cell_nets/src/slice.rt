@@ -13,7 +13,7 @@ use net_core::tree::{Expr, Parts};
 use std::alloc::{AllocError, Global};
 
 /// One expression above another.
-pub(crate) fn beside<N: Copy>(alloc: Global, a: Expr<N>, b: Expr<N>) -> Result<Expr<N>, AllocError>
+pub fn beside<N: Copy>(alloc: Global, a: Expr<N>, b: Expr<N>) -> Result<Expr<N>, AllocError>
     ensures { IfOk result (λ e. tree_of e ≡ TConcatenation (TMore (tree_of a) (TLast (tree_of b)))) }
 {
     let b = Box::new(alloc, Parts::Last(b))?;
@@ -38,7 +38,7 @@ fn inside<N: Copy>(net: N, of: u8, from: u8, width: u8) -> Expr<N>
 }
 
 /// So many bits of an operand, from one on: zeros past its width.
-pub(crate) fn slice<N: Copy>(
+pub fn slice<N: Copy>(
     alloc: Global,
     a: Operand<N>,
     from: u8,
