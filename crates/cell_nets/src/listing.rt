@@ -105,10 +105,11 @@ pub fn join<N: Copy>(
     requires width { IsWide width }
     ensures { (ins : List (Operand N)) (packet : PacketIn) → All (IsAvailable ins) args.now → IfOk result (λ e. Computes ins width (worth packet (operator.Join bits) args.now width) (tree_of e)) }
 {
-    if args.is_empty() {
+    let count = args.len();
+    if count == 0 {
         return Ok(constant(width, 0));
     }
-    let mut at = args.len() - 1;
+    let mut at = count - 1;
     let mut done = given(at, bits, width);
     let mut e = slice(alloc, args[at], 0, done)?;
     while done < width {
