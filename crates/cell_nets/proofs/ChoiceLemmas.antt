@@ -7,7 +7,6 @@ use Rattle.std.proofs.Math.Pow.{pow_mono}
 use Rattle.net_core.specs.Nets.{Tree, TRead, TUnary}
 use Rattle.net_core.specs.declared.tree.UnaryOp.TheVariants.{ReduceOr}
 use Rattle.net_core.specs.Value.{Env, number_of}
-use Rattle.net_core.proofs.LowBitsLaws.{low_low}
 use Rattle.cell_core.specs.Cells.{bit, on, bits_from}
 use Rattle.cell_nets.specs.declared.operand.Operand.{Operand}
 use Rattle.cell_nets.specs.declared.operand.Operand.TheVariants.{Known, Net}

@@ -136,9 +136,9 @@ joined_next args bits width at done more x t piece whole j under is high most na
       subst P sum
       (part_of ins _ (2 + (length args - 1 - (at - 1))) (more + done) _ _ whole (omega (arith, j.within)) e
       (part_same ins _ (more + done) _ _ _ (λ v f.
-          let J = joined bits (map (number_in v) args) in
-          let mine : J / 2 ^ done % 2 ^ more ≡ number_in v x % 2 ^ more = j.rest ins v h f under more (omega arith) ∙ ap (λ n. joined bits (map (number_in v) (take n args)) % 2 ^ more) (sym back) ∙ piece_is v args bits (at - 1) more x inside is high (omega arith) few in
-          ap (λ n. n * 2 ^ done + bits_from J 0 done) (from_zero (number_in v x) more ∙ sym mine) ∙ ap (λ n. J / 2 ^ done % 2 ^ more * 2 ^ done + n) (from_zero J done) ∙ sym (from_zero J (more + done) ∙ mod-pow-add J more done)) b.part));
+      let J = joined bits (map (number_in v) args) in
+      let mine : J / 2 ^ done % 2 ^ more ≡ number_in v x % 2 ^ more = j.rest ins v h f under more (omega arith) ∙ ap (λ n. joined bits (map (number_in v) (take n args)) % 2 ^ more) (sym back) ∙ piece_is v args bits (at - 1) more x inside is high (omega arith) few in
+      ap (λ n. n * 2 ^ done + bits_from J 0 done) (from_zero (number_in v x) more ∙ sym mine) ∙ ap (λ n. J / 2 ^ done % 2 ^ more * 2 ^ done + n) (from_zero J done) ∙ sym (from_zero J (more + done) ∙ mod-pow-add J more done)) b.part));
   rest = λ ins v h f lower m fits.
       let positive : 0 < at = j.left under in
       let inside : at - 1 < length args = omega (arith, j.within) in

@@ -1,7 +1,7 @@
 -- Operators on any number of operands.
-use Rattle.std.specs.Prelude.{bit_or, if◌then◌else◌, not, ◌==◌}
+use Rattle.std.specs.Prelude.{bit_or, if◌then◌else◌}
 use Rattle.std.specs.List.{list_any}
-use Rattle.std.proofs.Common.{◌≡◌, ℕ, zero, suc, ◌+◌, ◌-◌, ◌*◌, ◌/◌, ◌%◌, ◌^◌, ◌<◌, ◌≤◌, Bool, true, false, ◌||◌, All, List, [], ◌∷◌, length, length-drop, drop, take, get_or, map, refl, sym, ◌∙◌, ap, subst, arith}
+use Rattle.std.proofs.Common.{◌≡◌, ℕ, zero, suc, ◌+◌, ◌-◌, ◌*◌, ◌/◌, ◌^◌, ◌<◌, ◌≤◌, Bool, true, false, ◌||◌, All, List, [], ◌∷◌, length, length-drop, drop, take, get_or, map, refl, sym, ◌∙◌, ap, subst, arith}
 use Rattle.std.proofs.Math.Seq.{drop-cons}
 use Rattle.std.proofs.lemmas.List.Folds.{list_any_more}
 use Rattle.std.proofs.lemmas.List.{length-map, drop_all}
@@ -11,14 +11,12 @@ use Rattle.std.proofs.Math.Nat.{mod-eq_of_lt}
 use Rattle.net_core.specs.Nets.{Tree, TConst, TBinary, TConditional}
 use Rattle.net_core.specs.declared.tree.Op.TheVariants as net
 use Rattle.net_core.specs.Value.{Env, word}
-use Rattle.xdp_machine.specs.State.{PacketIn}
-use Rattle.cell_core.specs.declared.operator.Operator.TheVariants as op
-use Rattle.cell_core.specs.Cells.{bit, on, bits_from, phi, number}
+use Rattle.cell_core.specs.Cells.{bit, on, bits_from, phi}
 use Rattle.cell_nets.specs.declared.operand.Operand.{Operand}
 use Rattle.cell_nets.specs.Listing.{IsChosen}
 use Rattle.cell_nets.specs.Operands.{IsAvailable, number_in}
-use Rattle.cell_nets.specs.Parts.{IsPart, IsSlice, Computes, worth}
-use Rattle.cell_nets.proofs.PartLemmas.{part_same, part_of, part_computes, const_slice, binary_part, conditional_part, same_is}
+use Rattle.cell_nets.specs.Parts.{IsPart, IsSlice}
+use Rattle.cell_nets.proofs.PartLemmas.{part_same, part_of, const_slice, binary_part, conditional_part, same_is}
 use Rattle.cell_nets.proofs.NarrowLemmas.{from_zero}
 use Rattle.cell_nets.proofs.ChoiceLemmas.{choice_is}
 
@@ -76,9 +74,9 @@ chosen_more args width at x y chosen edge value more two e is also p q r = recor
       let c = conditional_part ins 2 2 (3 + (length args - at)) width _ _ _ edge value chosen (q ins (available_at ins args (at - 2) x (omega (arith, p.within)) is h)) (r ins (available_at ins args (at - 2 + 1) y inside also h)).part (p.part ins h) in
       part_of ins _ (3 + (length args - (at - 2))) width _ _ more (omega (arith, p.within)) e
       (part_same ins _ width _ _ _ (λ v f.
-          let step = two_more args (at - 2) x y inside is also ∙ ap (λ k. x ∷ y ∷ drop k args) back in
-          choice_is (on (number_in v x)) (number_in v y) (phi (map (number_in v) (drop at args))) width
-          ∙ ap (λ n. bits_from n 0 width) (sym (ap (λ l. phi (map (number_in v) l)) step ∙ phi_step _ _ (map (number_in v) (drop at args)) (some_left v less)))) c);
+      let step = two_more args (at - 2) x y inside is also ∙ ap (λ k. x ∷ y ∷ drop k args) back in
+      choice_is (on (number_in v x)) (number_in v y) (phi (map (number_in v) (drop at args))) width
+      ∙ ap (λ n. bits_from n 0 width) (sym (ap (λ l. phi (map (number_in v) l)) step ∙ phi_step _ _ (map (number_in v) (drop at args)) (some_left v less)))) c);
 }
   where
     some_left : (v : Env _) → at < length args → 0 < length (map (number_in v) (drop at args))

@@ -1,6 +1,6 @@
 -- Operations on low bits.
 use Rattle.std.specs.Prelude.{bit_and, bit_or, bit_xor}
-use Rattle.std.proofs.Common.{◌≡◌, ℕ, ◌+◌, ◌-◌, ◌*◌, ◌/◌, ◌%◌, ◌^◌, ◌<◌, ◌≤◌, List, [], ◌∷◌, Option, Some, None, refl, sym, ◌∙◌, ap, arith}
+use Rattle.std.proofs.Common.{◌≡◌, ℕ, ◌+◌, ◌-◌, ◌*◌, ◌/◌, ◌%◌, ◌^◌, ◌<◌, ◌≤◌, [], ◌∷◌, Some, sym, ◌∙◌, ap, arith}
 use Rattle.std.proofs.lemmas.Nat.{and_mod, or_mod, xor_mod, mul-mod, div-add-mod', mod_below, pow_pos, div_below, pow-add}
 use Rattle.std.proofs.Math.Nat.{div-one, add-mul-mod_self_right}
 use Rattle.net_core.specs.declared.tree.Op.{Op}

@@ -1,17 +1,17 @@
 -- Expressions over the nets of operands, from their parts.
-use Rattle.std.specs.Prelude.{Contains, ◌==◌, nat_le, if◌then◌else◌}
+use Rattle.std.specs.Prelude.{Contains, ◌==◌, if◌then◌else◌}
 use Rattle.std.proofs.Common.{◌≡◌, ℕ, suc, ◌+◌, ◌-◌, ◌*◌, ◌/◌, ◌%◌, ◌^◌, ◌<◌, ◌≤◌, max, Bool, true, false, ◌&&◌, ◌||◌, List, refl, sym, ◌∙◌, ap, subst, arith}
 use Rattle.std.proofs.lemmas.Bool.{lt-ltb, le-leb, eq-eqb}
 use Rattle.net_core.specs.declared.tree.Op.{Op}
 use Rattle.net_core.specs.declared.tree.UnaryOp.TheVariants.{Not, ReduceOr}
 use Rattle.net_core.specs.Nets.{Tree, TConst, TRead, TBit, TPartSelect, TMemoryWord, TUnary, TBinary, TConditional, TConcatenation, TMore, TLast}
-use Rattle.net_core.specs.Value.{Env, value, word, apply, conditional, number_of}
-use Rattle.net_core.specs.Width.{Scope, width_of, op_width, same_width, test_width, shift_width, part_select_width}
+use Rattle.net_core.specs.Value.{Env, word, apply, number_of}
+use Rattle.net_core.specs.Width.{op_width, same_width, test_width, shift_width, part_select_width}
 use Rattle.net_core.proofs.WidthLaws.{concatenation_is}
 use Rattle.design_rules.specs.FormedSyntax.{is_prefixed, prefixes_apart, depth, tree_spelled}
 use Rattle.cell_nets.specs.declared.operand.Operand.{Operand}
-use Rattle.cell_nets.specs.declared.operand.Operand.TheVariants.{Known, Net}
-use Rattle.cell_nets.specs.Operands.{IsFit, HasWidth, IsDeclared, AreFit, AreDeclared, IsNetOf}
+use Rattle.cell_nets.specs.declared.operand.Operand.TheVariants.{Net}
+use Rattle.cell_nets.specs.Operands.{HasWidth, AreFit}
 use Rattle.cell_nets.specs.Parts.{is_product, has_product, product_below, IsPart, IsSlice, Computes}
 
 -- the same value in other words

@@ -1,7 +1,7 @@
 -- Bits of operands.
 use Rattle.std.specs.Prelude.{Contains}
 use Rattle.std.proofs.Common.{◌≡◌, ℕ, ◌+◌, ◌-◌, ◌*◌, ◌/◌, ◌%◌, ◌^◌, ◌<◌, ◌≤◌, List, refl, sym, ◌∙◌, ap, subst, arith}
-use Rattle.std.proofs.lemmas.Nat.{mod_below, pow_pos}
+use Rattle.std.proofs.lemmas.Nat.{pow_pos}
 use Rattle.std.proofs.Math.Nat.{div-one, mod-eq_of_lt, div-eq_of_lt}
 use Rattle.std.proofs.Math.Pow.{pow_mono, shr_mod}
 use Rattle.net_core.specs.Nets.{Tree, TConst, TRead, TBit, TPartSelect, TConcatenation, TMore, TLast}
@@ -10,7 +10,7 @@ use Rattle.cell_core.specs.Cells.{bits_from}
 use Rattle.cell_nets.specs.declared.operand.Operand.{Operand}
 use Rattle.cell_nets.specs.declared.operand.Operand.TheVariants.{Net}
 use Rattle.cell_nets.specs.Operands.{HasWidth, IsAvailable, number_in}
-use Rattle.cell_nets.specs.Parts.{IsPart, IsSlice}
+use Rattle.cell_nets.specs.Parts.{IsSlice}
 use Rattle.cell_nets.proofs.PartLemmas.{slice_of, slice_same, const_slice, read_slice, bits_slice, bit_slice, beside_slice}
 
 -- all bits of a number

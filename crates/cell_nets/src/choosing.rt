@@ -54,11 +54,7 @@ pub fn select<N: Copy>(
 }
 
 /// An operand, but 1 where it is 0.
-pub fn non_zero<N: Copy>(
-    alloc: Global,
-    a: Operand<N>,
-    width: u8,
-) -> Result<Expr<N>, AllocError>
+pub fn non_zero<N: Copy>(alloc: Global, a: Operand<N>, width: u8) -> Result<Expr<N>, AllocError>
     requires operand { IsOperand a }
     requires width { IsWide width }
     ensures { (ins : List (Operand N)) (packet : PacketIn) → IsAvailable ins a → IfOk result (λ e. Computes ins width (worth packet operator.NonZero (a ∷ []) width) (tree_of e)) }
@@ -68,11 +64,7 @@ pub fn non_zero<N: Copy>(
 }
 
 /// The other value of each bit.
-pub fn invert<N: Copy>(
-    alloc: Global,
-    a: Operand<N>,
-    width: u8,
-) -> Result<Expr<N>, AllocError>
+pub fn invert<N: Copy>(alloc: Global, a: Operand<N>, width: u8) -> Result<Expr<N>, AllocError>
     requires operand { IsOperand a }
     requires width { IsWide width }
     ensures { (ins : List (Operand N)) (packet : PacketIn) → IsAvailable ins a → IfOk result (λ e. Computes ins width (worth packet operator.Not (a ∷ []) width) (tree_of e)) }

@@ -19,11 +19,7 @@ use net_core::tree::{Expr, Op};
 use std::alloc::{AllocError, Global};
 
 /// Whether one of some operands is not 0: 1 or 0.
-pub fn any<N: Copy>(
-    alloc: Global,
-    args: &[Operand<N>],
-    width: u8,
-) -> Result<Expr<N>, AllocError>
+pub fn any<N: Copy>(alloc: Global, args: &[Operand<N>], width: u8) -> Result<Expr<N>, AllocError>
     requires operands { All IsOperand args.now }
     requires few { length args.now ≤ 40 }
     requires width { IsWide width }
@@ -58,11 +54,7 @@ fn last_value<N: Copy>(
 }
 
 /// Of operands in pairs, the second of the first pair whose first is not 0, or else of the last; 0 in place of one that is missing.
-pub fn phi<N: Copy>(
-    alloc: Global,
-    args: &[Operand<N>],
-    width: u8,
-) -> Result<Expr<N>, AllocError>
+pub fn phi<N: Copy>(alloc: Global, args: &[Operand<N>], width: u8) -> Result<Expr<N>, AllocError>
     requires operands { All IsOperand args.now }
     requires few { length args.now ≤ 40 }
     requires width { IsWide width }
@@ -88,7 +80,11 @@ fn given(before: usize, bits: u8, left: u8) -> u8
     ensures others { 0 < before → result ≤ bits }
     ensures rest { result < left → (0 < before) × (result ≡ bits) }
 {
-    if before == 0 || left <= bits { left } else { bits }
+    if before == 0 || left <= bits {
+        left
+    } else {
+        bits
+    }
 }
 
 /// Operands above one another, the first the highest, each so many bits above the next, where none but the first has more.

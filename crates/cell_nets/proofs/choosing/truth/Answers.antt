@@ -1,6 +1,4 @@
-use Rattle.std.proofs.Common.{refl, arith}
-use Rattle.cell_nets.specs.declared.operand.Operand.TheVariants.{Net}
-use Rattle.cell_nets.specs.Operands.{IsOperand}
+use Rattle.std.proofs.Common.{refl}
 use Rattle.cell_nets.proofs.ChoiceLemmas.{bit_truth, word_truth, truth_at, wide_at}
 use Rattle.cell_nets.proofs.choosing.truth.Goals as goal
 

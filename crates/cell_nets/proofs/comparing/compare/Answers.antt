@@ -1,4 +1,4 @@
-use Rattle.std.proofs.Common.{ℕ, arith}
+use Rattle.std.proofs.Common.{arith}
 use Rattle.net_core.specs.Value.{apply, word}
 use Rattle.cell_nets.specs.Operands.{number_in}
 use Rattle.cell_nets.proofs.PartLemmas.{part_same, part_of, part_computes, binary_part}

@@ -1,7 +1,7 @@
 use Rattle.std.specs.List.{list_any}
-use Rattle.std.proofs.Common.{◌+◌, List, length, ap, ◌∙◌, take, arith}
+use Rattle.std.proofs.Common.{◌+◌, List, ap, ◌∙◌, arith}
 use Rattle.std.proofs.lemmas.List.{take_all}
-use Rattle.cell_core.specs.Cells.{bit, on, bits_from}
+use Rattle.cell_core.specs.Cells.{bit, on}
 use Rattle.cell_nets.specs.declared.operand.Operand.{Operand}
 use Rattle.cell_nets.specs.Operands.{number_in}
 use Rattle.cell_nets.proofs.PartLemmas.{part_same, part_of, part_computes, const_slice}

@@ -1,5 +1,5 @@
 use Rattle.std.specs.List.{list_any}
-use Rattle.std.proofs.Common.{ℕ, List, All, take, ◌+◌}
+use Rattle.std.proofs.Common.{List, All, take, ◌+◌}
 use Rattle.net_core.specs.View.{tree_of}
 use Rattle.cell_core.specs.Cells.{bit, on}
 use Rattle.cell_nets.specs.declared.operand.Operand.{Operand}

@@ -1,4 +1,4 @@
-use Rattle.std.proofs.Common.{ℕ, ◌-◌}
+use Rattle.std.proofs.Common.{◌-◌}
 use Rattle.net_core.specs.View.{tree_of}
 use Rattle.cell_nets.proofs.JoinLemmas.{IsJoined}
 use Rattle.cell_nets.proofs.listing.join.Given as goal

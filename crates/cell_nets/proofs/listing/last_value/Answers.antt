@@ -1,4 +1,3 @@
-use Rattle.std.proofs.Common.{arith}
 use Rattle.cell_nets.proofs.ListLemmas.{last_chosen, none_chosen}
 use Rattle.cell_nets.proofs.listing.last_value.Goals as goal
 

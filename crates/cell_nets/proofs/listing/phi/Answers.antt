@@ -1,4 +1,4 @@
-use Rattle.std.proofs.Common.{◌+◌, ◌-◌, ℕ, length, drop, map, ◌≡◌, ap, arith}
+use Rattle.std.proofs.Common.{◌+◌, ◌-◌, length, drop, map, ◌≡◌, ap, arith}
 use Rattle.cell_core.specs.Cells.{bits_from, phi}
 use Rattle.cell_nets.specs.Operands.{number_in}
 use Rattle.cell_nets.proofs.PartLemmas.{part_same, part_computes}

@@ -1,9 +1,4 @@
-use Rattle.std.proofs.Common.{ℕ, ◌≡◌, List, All, drop, length, map, ◌+◌, ◌-◌, ◌≤◌, ◌<◌}
 use Rattle.net_core.specs.View.{tree_of}
-use Rattle.cell_core.specs.Cells.{bits_from, phi}
-use Rattle.cell_nets.specs.declared.operand.Operand.{Operand}
-use Rattle.cell_nets.specs.Operands.{IsAvailable, number_in}
-use Rattle.cell_nets.specs.Parts.{IsPart}
 use Rattle.cell_nets.specs.Listing.{IsChosen}
 use Rattle.cell_nets.proofs.listing.phi.Given as goal
 

@@ -1,6 +1,4 @@
-use Rattle.std.proofs.Common.{ℕ, ◌≡◌, ◌<◌, ◌+◌, ◌-◌, ◌≤◌, arith}
-use Rattle.cell_nets.specs.declared.operand.Operand.TheVariants.{Net}
-use Rattle.cell_nets.specs.Parts.{IsSlice}
+use Rattle.std.proofs.Common.{arith}
 use Rattle.cell_nets.proofs.SliceLemmas.{whole_inside, bit_inside, bits_inside}
 use Rattle.cell_nets.proofs.slice.inside.Goals as goal
 

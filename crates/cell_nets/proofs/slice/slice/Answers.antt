@@ -1,8 +1,6 @@
-use Rattle.std.specs.Prelude.{Contains}
 use Rattle.std.proofs.Common.{refl, ◌∙◌, ap, arith}
 use Rattle.net_core.specs.Nets.{TConcatenation, TMore, TLast}
 use Rattle.net_core.specs.View.{tree_of}
-use Rattle.cell_nets.specs.declared.operand.Operand.TheVariants.{Net}
 use Rattle.cell_nets.proofs.SliceLemmas.{past_slice, last_slice, slice_at}
 use Rattle.cell_nets.proofs.slice.slice.Goals as goal
 
