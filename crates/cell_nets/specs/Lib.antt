@@ -1,0 +1,4 @@
+pub mod Operands
+pub mod Parts
+pub mod Narrow
+pub mod Listing

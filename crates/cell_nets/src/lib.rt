@@ -1,0 +1,11 @@
+//! Nets of cells: for each operator an expression over the nets of its inputs, of as many bits as its cell has, that has the
+//! operator's value in them.
+#![tactic(auto)]
+
+pub mod choosing;
+pub mod comparing;
+pub mod listing;
+pub mod narrow;
+pub mod operand;
+pub mod shifting;
+pub mod slice;
