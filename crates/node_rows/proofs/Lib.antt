@@ -1,2 +1,3 @@
 pub mod PlaceLemmas
 pub mod RowsLemmas
+pub mod OneOutcomeLaws

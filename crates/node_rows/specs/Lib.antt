@@ -5,3 +5,4 @@ pub mod Writing
 pub mod Joining
 pub mod Passing
 pub mod Rows
+pub mod Acceptance

@@ -8,6 +8,7 @@
 
 mod arriving;
 mod joining;
+pub mod laws;
 mod node;
 mod origin;
 mod reading;
