@@ -1,5 +1,5 @@
 -- Division.
-use Rattle.std.proofs.Common.{◌≡◌, ℕ, zero, suc, ◌^◌, ◌<◌, ◌≤◌, Bool, true, false, not, if◌then◌else◌, List, [], ◌∷◌, length, All, refl, sym, ◌∙◌, ap, subst, arith}
+use Rattle.std.proofs.Common.{◌≡◌, ℕ, zero, suc, ◌^◌, ◌<◌, ◌≤◌, Bool, true, false, not, if◌then◌else◌, List, [], ◌∷◌, length, max, All, refl, sym, ◌∙◌, ap, subst, arith}
 use Rattle.std.specs.Prelude.{◌==◌, slice_index}
 use Rattle.std.proofs.lemmas.Bool.{eqb-true}
 use Rattle.std.proofs.lemmas.Nat.{pow_pos}
@@ -10,7 +10,7 @@ use Rattle.xdp_machine.specs.State.{PacketIn}
 use Rattle.xdp_machine.specs.Arithmetic.{bits_in, low, arithmetic}
 use Rattle.xdp_machine.proofs.NumberLaws.{widened}
 use Rattle.cell_core.specs.declared.operator.Operator.TheVariants.{Wire, NonZero}
-use Rattle.cell_core.specs.Cells.{CellView, cell_at, bit, on, number, bits_from, is_read}
+use Rattle.cell_core.specs.Cells.{CellView, cell_at, bit, on, number, bits_from, is_read, is_heavy}
 use Rattle.cell_core.specs.Formed.{IsSome, takes, IsInRange}
 use Rattle.operator_cells.specs.Making.{Adds, Makes, operated}
 use Rattle.operator_cells.specs.Dividing.{some, divided, divider, code_of}
@@ -54,6 +54,10 @@ divider_range : (r : Bool) → IsInRange (divider r)
 divider_range true = tt
 divider_range false = tt
 
+pub divider_light : (r : Bool) → bit (is_heavy (divider r)) ≡ 0
+divider_light true = refl
+divider_light false = refl
+
 divider_plain : (r : Bool) → is_read (divider r) ≡ false
 divider_plain true = refl
 divider_plain false = refl
@@ -85,6 +89,11 @@ divides_some s0 s1 s2 s3 r a b own d c w ha hb least most first second third =
     let own_is : v own ≡ low w (v b) = m1.value packet v (m2.grows.run packet v run) ∙ from_zero (v b) w in
     let d_is : low 64 (v d) ≡ some (low w (v b)) = ap (low 64) (m2.value packet v run ∙ ap (λ (n : ℕ). bits_from (some n) 0 w) own_is) ∙ some_64 w (low w (v b)) least most (low_below w (v b)) in
     from_zero _ w ∙ ap (low w) (divided_as packet r (v a) (v d) ∙ ap (divided r (low 64 (v a))) d_is))
+
+-- and in which row it stands
+pub other_row : (row : ℕ → ℕ) (r : Bool) (a nil other : ℕ) → other ≡ (if r then a else nil) → row other ≤ max (row a) (row nil)
+other_row row true a nil other e = omega (arith, ap row e)
+other_row row false a nil other e = omega (arith, ap row e)
 
 on_bit : (t : Bool) → on (bit t) ≡ t
 on_bit true = refl

@@ -20,7 +20,7 @@ old-cell cells cell k h = get_or-append cells (cell ∷ []) no_cell k h
 pub new-cell : (cells : List CellView) (cell : CellView) → cell_at (cells ++ cell ∷ []) (length cells) ≡ cell
 new-cell cells cell = get_or-append_seam cells cell [] no_cell
 
-one-longer : (cells : List CellView) (cell : CellView) → length (cells ++ cell ∷ []) ≡ length cells + 1
+pub one-longer : (cells : List CellView) (cell : CellView) → length (cells ++ cell ∷ []) ≡ length cells + 1
 one-longer cells cell = length-append cells (cell ∷ [])
 
 -- a cell that may stand behind others

@@ -1,4 +1,5 @@
 pub mod MakingLaws
+pub mod RisingLaws
 pub mod Growing
 pub mod Numbers
 pub mod Conditions

@@ -1,4 +1,5 @@
 pub mod Making
+pub mod Rising
 pub mod Dividing
 pub mod Joining
 pub mod Shifting

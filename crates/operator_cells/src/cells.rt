@@ -1,11 +1,13 @@
 // A cell more.
 
-ghost use Rattle.std.specs.Prelude.{ℕ, ◌≡◌, ◌<◌, ◌≤◌, false, [], ◌∷◌, length, All, IfOk};
-ghost use Rattle.cell_core.specs.Cells.{is_read};
+ghost use Rattle.std.specs.Prelude.{ℕ, ◌≡◌, ◌<◌, ◌≤◌, false, [], ◌∷◌, length, All, IfOk, max, ◌+◌};
+ghost use Rattle.cell_core.specs.Cells.{is_read, bit, is_heavy};
 ghost use Rattle.cell_core.specs.Formed.{takes, divides, IsInRange, IsSome};
 ghost use Rattle.xdp_machine.specs.Arithmetic.{low};
 ghost use Rattle.operator_cells.specs.Making.{seen, Adds, Makes, GrowsWith, Grows, operated};
 ghost use Rattle.operator_cells.specs.Dividing.{some, divided, divider};
+ghost use Rattle.cell_core.specs.Rows.{greatest};
+ghost use Rattle.operator_cells.specs.Rising.{Rises};
 
 use cell_core::cell::Cell;
 use cell_core::operator::Operator;
@@ -50,7 +52,8 @@ pub fn operate(
     requires undivided { divides op ≡ false }
     requires from { from ≤ 63 }
     requires width { width ≤ 64 }
-    ensures { IfOk result (λ c. Makes (seen cells.old.items) (seen cells.new.items) c (operated op ins.now from width)) }
+    ensures makes { IfOk result (λ c. Makes (seen cells.old.items) (seen cells.new.items) c (operated op ins.now from width)) }
+    ensures rises { IfOk result (λ c. Rises (seen cells.old.items) (seen cells.new.items) c (λ row. greatest row ins.now + bit (is_heavy op))) }
 {
     let c = push(cells, op, ins, from, width)?;
     Ok(c)
@@ -61,6 +64,7 @@ pub fn found(cells: &mut Vec<Cell>, site: u32, ins: &[u32]) -> Result<u32, Alloc
     requires { All (λ i. i < length (seen cells.old.items)) ins.now }
     ensures adds { IfOk result (λ c. Adds (seen cells.old.items) (seen cells.new.items) c (record { op = Operator.Found site; ins = ins.now; width = 1; from = 0 })) }
     ensures grows { IfOk result (λ c. GrowsWith (λ k j. j ≡ site) (seen cells.old.items) (seen cells.new.items)) }
+    ensures rises { IfOk result (λ c. Rises (seen cells.old.items) (seen cells.new.items) c (λ row. greatest row ins.now + 1)) }
 {
     let c = push(cells, Operator::Found(site), ins, 0, 1)?;
     Ok(c)
@@ -72,6 +76,7 @@ pub fn answer(cells: &mut Vec<Cell>, site: u32, ins: &[u32], width: u32) -> Resu
     requires width { width ≤ 64 }
     ensures adds { IfOk result (λ c. Adds (seen cells.old.items) (seen cells.new.items) c (record { op = Operator.Answer site; ins = ins.now; width = width; from = 0 })) }
     ensures grows { IfOk result (λ c. GrowsWith (λ k j. j ≡ site) (seen cells.old.items) (seen cells.new.items)) }
+    ensures rises { IfOk result (λ c. Rises (seen cells.old.items) (seen cells.new.items) c (λ row. greatest row ins.now + 1)) }
 {
     let c = push(cells, Operator::Answer(site), ins, 0, width)?;
     Ok(c)
@@ -82,6 +87,7 @@ pub fn pending(cells: &mut Vec<Cell>, ins: &[u32]) -> Result<u32, AllocError>
     requires { All (λ i. i < length (seen cells.old.items)) ins.now }
     ensures adds { IfOk result (λ c. Adds (seen cells.old.items) (seen cells.new.items) c (record { op = Operator.Pending; ins = ins.now; width = 0; from = 0 })) }
     ensures grows { IfOk result (λ c. Grows (seen cells.old.items) (seen cells.new.items)) }
+    ensures rises { IfOk result (λ c. Rises (seen cells.old.items) (seen cells.new.items) c (λ row. greatest row ins.now)) }
 {
     let c = push(cells, Operator::Pending, ins, 0, 0)?;
     Ok(c)
@@ -90,7 +96,8 @@ pub fn pending(cells: &mut Vec<Cell>, ins: &[u32]) -> Result<u32, AllocError>
 /// A number.
 pub fn constant(cells: &mut Vec<Cell>, n: u64, width: u32) -> Result<u32, AllocError>
     requires { width ≤ 64 }
-    ensures { IfOk result (λ c. Makes (seen cells.old.items) (seen cells.new.items) c (operated (Operator.Constant n) [] 0 width)) }
+    ensures makes { IfOk result (λ c. Makes (seen cells.old.items) (seen cells.new.items) c (operated (Operator.Constant n) [] 0 width)) }
+    ensures rises { IfOk result (λ c. Rises (seen cells.old.items) (seen cells.new.items) c (λ row. 0)) }
 {
     operate(cells, Operator::Constant(n), &[], 0, width)
 }
@@ -100,7 +107,8 @@ pub fn slice(cells: &mut Vec<Cell>, a: u32, from: u32, width: u32) -> Result<u32
     requires there { a < length (seen cells.old.items) }
     requires from { from ≤ 63 }
     requires width { width ≤ 64 }
-    ensures { IfOk result (λ c. Makes (seen cells.old.items) (seen cells.new.items) c (operated Operator.Wire (a ∷ []) from width)) }
+    ensures makes { IfOk result (λ c. Makes (seen cells.old.items) (seen cells.new.items) c (operated Operator.Wire (a ∷ []) from width)) }
+    ensures rises { IfOk result (λ c. Rises (seen cells.old.items) (seen cells.new.items) c (λ row. row a)) }
 {
     operate(cells, Operator::Wire, &[a], from, width)
 }
@@ -110,6 +118,7 @@ pub fn copy_bit(cells: &mut Vec<Cell>, a: u32) -> Result<u32, AllocError>
     requires { a < length (seen cells.old.items) }
     ensures makes { IfOk result (λ c. Makes (seen cells.old.items) (seen cells.new.items) c (operated Operator.Wire (a ∷ []) 0 1)) }
     ensures new { IfOk result (λ c. c ≡ length (seen cells.old.items)) }
+    ensures rises { IfOk result (λ c. Rises (seen cells.old.items) (seen cells.new.items) c (λ row. row a)) }
 {
     let c = push(cells, Operator::Wire, &[a], 0, 1)?;
     Ok(c)
@@ -139,7 +148,8 @@ pub fn divide_some(
     requires right { b < length (seen cells.old.items) }
     requires least { 1 ≤ width }
     requires most { width ≤ 64 }
-    ensures { IfOk result (λ c. Makes (seen cells.old.items) (seen cells.new.items) c (λ packet v. low width (divided rest (low 64 (v a)) (some (low width (v b)))))) }
+    ensures makes { IfOk result (λ c. Makes (seen cells.old.items) (seen cells.new.items) c (λ packet v. low width (divided rest (low 64 (v a)) (some (low width (v b)))))) }
+    ensures rises { IfOk result (λ c. Rises (seen cells.old.items) (seen cells.new.items) c (λ row. max (row a) (row b) + 1)) }
 {
     let own = push(cells, Operator::Wire, &[b], 0, width)?;
     let divisor = push(cells, Operator::NonZero, &[own, a], 0, width)?;

@@ -1,11 +1,12 @@
 // Conditions of jumps.
 
-ghost use Rattle.std.specs.Prelude.{◌≡◌, ◌<◌, ◌-◌, ◌^◌, ◌==◌, nat_lt, nat_le, false, length, IfOk};
+ghost use Rattle.std.specs.Prelude.{◌≡◌, ◌<◌, ◌-◌, ◌^◌, ◌==◌, nat_lt, nat_le, false, length, IfOk, max, ◌+◌};
 ghost use Rattle.xdp_machine.specs.Arithmetic.{bits_in, low, holds};
 ghost use Rattle.cell_core.specs.Cells.{bit};
 ghost use Rattle.cell_core.specs.Formed.{AreFormed};
 ghost use Rattle.operator_cells.specs.Making.{seen, Makes};
 ghost use Rattle.operator_cells.specs.Comparing.{turned, is_signed, unsigned};
+ghost use Rattle.operator_cells.specs.Rising.{Rises};
 
 use crate::cells::{constant, operate, slice};
 use crate::working::{bits, cut};
@@ -17,7 +18,8 @@ use std::alloc::AllocError;
 /// The other truth.
 pub fn not(cells: &mut Vec<Cell>, a: u32) -> Result<u32, AllocError>
     requires there { a < length (seen cells.old.items) }
-    ensures { IfOk result (λ c. Makes (seen cells.old.items) (seen cells.new.items) c (λ packet v. low 1 (2 ^ 64 - 1 - v a))) }
+    ensures makes { IfOk result (λ c. Makes (seen cells.old.items) (seen cells.new.items) c (λ packet v. low 1 (2 ^ 64 - 1 - v a))) }
+    ensures rises { IfOk result (λ c. Rises (seen cells.old.items) (seen cells.new.items) c (λ row. row a)) }
 {
     let c = operate(cells, Operator::Not, &[a], 0, 1)?;
     Ok(c)
@@ -27,7 +29,8 @@ pub fn not(cells: &mut Vec<Cell>, a: u32) -> Result<u32, AllocError>
 pub fn equal(cells: &mut Vec<Cell>, a: u32, b: u32) -> Result<u32, AllocError>
     requires left { a < length (seen cells.old.items) }
     requires right { b < length (seen cells.old.items) }
-    ensures { IfOk result (λ c. Makes (seen cells.old.items) (seen cells.new.items) c (λ packet v. bit (low 64 (v a) == low 64 (v b)))) }
+    ensures makes { IfOk result (λ c. Makes (seen cells.old.items) (seen cells.new.items) c (λ packet v. bit (low 64 (v a) == low 64 (v b)))) }
+    ensures rises { IfOk result (λ c. Rises (seen cells.old.items) (seen cells.new.items) c (λ row. max (row a) (row b) + 1)) }
 {
     let c = operate(cells, Operator::Equal, &[a, b], 0, 1)?;
     Ok(c)
@@ -37,7 +40,8 @@ pub fn equal(cells: &mut Vec<Cell>, a: u32, b: u32) -> Result<u32, AllocError>
 fn less(cells: &mut Vec<Cell>, a: u32, b: u32) -> Result<u32, AllocError>
     requires left { a < length (seen cells.old.items) }
     requires right { b < length (seen cells.old.items) }
-    ensures { IfOk result (λ c. Makes (seen cells.old.items) (seen cells.new.items) c (λ packet v. bit (nat_lt (low 64 (v a)) (low 64 (v b))))) }
+    ensures makes { IfOk result (λ c. Makes (seen cells.old.items) (seen cells.new.items) c (λ packet v. bit (nat_lt (low 64 (v a)) (low 64 (v b))))) }
+    ensures rises { IfOk result (λ c. Rises (seen cells.old.items) (seen cells.new.items) c (λ row. max (row a) (row b) + 1)) }
 {
     let c = operate(cells, Operator::Less, &[a, b], 0, 1)?;
     Ok(c)
@@ -47,7 +51,8 @@ fn less(cells: &mut Vec<Cell>, a: u32, b: u32) -> Result<u32, AllocError>
 fn at_most(cells: &mut Vec<Cell>, a: u32, b: u32) -> Result<u32, AllocError>
     requires left { a < length (seen cells.old.items) }
     requires right { b < length (seen cells.old.items) }
-    ensures { IfOk result (λ c. Makes (seen cells.old.items) (seen cells.new.items) c (λ packet v. bit (nat_le (low 64 (v a)) (low 64 (v b))))) }
+    ensures makes { IfOk result (λ c. Makes (seen cells.old.items) (seen cells.new.items) c (λ packet v. bit (nat_le (low 64 (v a)) (low 64 (v b))))) }
+    ensures rises { IfOk result (λ c. Rises (seen cells.old.items) (seen cells.new.items) c (λ row. max (row a) (row b) + 1)) }
 {
     let c = operate(cells, Operator::LessOrEqual, &[a, b], 0, 1)?;
     Ok(c)
@@ -56,7 +61,8 @@ fn at_most(cells: &mut Vec<Cell>, a: u32, b: u32) -> Result<u32, AllocError>
 // A number with the highest of so many bits turned: so the order of signed numbers is that of unsigned ones.
 fn turn(cells: &mut Vec<Cell>, width: Width, a: u32) -> Result<u32, AllocError>
     requires there { a < length (seen cells.old.items) }
-    ensures { IfOk result (λ c. Makes (seen cells.old.items) (seen cells.new.items) c (λ packet v. turned (bits_in width) (v a))) }
+    ensures makes { IfOk result (λ c. Makes (seen cells.old.items) (seen cells.new.items) c (λ packet v. turned (bits_in width) (v a))) }
+    ensures rises { IfOk result (λ c. Rises (seen cells.old.items) (seen cells.new.items) c (λ row. row a)) }
 {
     let top = bits(width) - 1;
     let sign = slice(cells, a, top, 1)?;
@@ -70,7 +76,8 @@ fn turn(cells: &mut Vec<Cell>, width: Width, a: u32) -> Result<u32, AllocError>
 fn have_common(cells: &mut Vec<Cell>, a: u32, b: u32) -> Result<u32, AllocError>
     requires left { a < length (seen cells.old.items) }
     requires right { b < length (seen cells.old.items) }
-    ensures { IfOk result (λ c. Makes (seen cells.old.items) (seen cells.new.items) c (λ packet v. bit (holds JumpCode.Jset 64 (low 64 (v a)) (low 64 (v b))))) }
+    ensures makes { IfOk result (λ c. Makes (seen cells.old.items) (seen cells.new.items) c (λ packet v. bit (holds JumpCode.Jset 64 (low 64 (v a)) (low 64 (v b))))) }
+    ensures rises { IfOk result (λ c. Rises (seen cells.old.items) (seen cells.new.items) c (λ row. max (row a) (row b) + 1)) }
 {
     let both = operate(cells, Operator::And, &[a, b], 0, 64)?;
     let zero = constant(cells, 0, 1)?;
@@ -83,7 +90,8 @@ fn have_common(cells: &mut Vec<Cell>, a: u32, b: u32) -> Result<u32, AllocError>
 fn differ(cells: &mut Vec<Cell>, a: u32, b: u32) -> Result<u32, AllocError>
     requires left { a < length (seen cells.old.items) }
     requires right { b < length (seen cells.old.items) }
-    ensures { IfOk result (λ c. Makes (seen cells.old.items) (seen cells.new.items) c (λ packet v. bit (holds JumpCode.Jne 64 (low 64 (v a)) (low 64 (v b))))) }
+    ensures makes { IfOk result (λ c. Makes (seen cells.old.items) (seen cells.new.items) c (λ packet v. bit (holds JumpCode.Jne 64 (low 64 (v a)) (low 64 (v b))))) }
+    ensures rises { IfOk result (λ c. Rises (seen cells.old.items) (seen cells.new.items) c (λ row. max (row a) (row b) + 1)) }
 {
     let same = equal(cells, a, b)?;
     let c = not(cells, same)?;
@@ -95,7 +103,8 @@ fn compare_plain(cells: &mut Vec<Cell>, code: JumpCode, a: u32, b: u32) -> Resul
     requires plain { is_signed code ≡ false }
     requires left { a < length (seen cells.old.items) }
     requires right { b < length (seen cells.old.items) }
-    ensures { IfOk result (λ c. Makes (seen cells.old.items) (seen cells.new.items) c (λ packet v. bit (holds code 64 (low 64 (v a)) (low 64 (v b))))) }
+    ensures makes { IfOk result (λ c. Makes (seen cells.old.items) (seen cells.new.items) c (λ packet v. bit (holds code 64 (low 64 (v a)) (low 64 (v b))))) }
+    ensures rises { IfOk result (λ c. Rises (seen cells.old.items) (seen cells.new.items) c (λ row. max (row a) (row b) + 1)) }
 {
     match code {
         JumpCode::Jeq => equal(cells, a, b),
@@ -142,7 +151,8 @@ pub fn compare(
     requires formed { AreFormed (seen cells.old.items) }
     requires left { a < length (seen cells.old.items) }
     requires right { b < length (seen cells.old.items) }
-    ensures { IfOk result (λ c. Makes (seen cells.old.items) (seen cells.new.items) c (λ packet v. bit (holds code (bits_in width) (low (bits_in width) (v a)) (low (bits_in width) (v b))))) }
+    ensures makes { IfOk result (λ c. Makes (seen cells.old.items) (seen cells.new.items) c (λ packet v. bit (holds code (bits_in width) (low (bits_in width) (v a)) (low (bits_in width) (v b))))) }
+    ensures rises { IfOk result (λ c. Rises (seen cells.old.items) (seen cells.new.items) c (λ row. max (row a) (row b) + 1)) }
 {
     let x = cut(cells, width, a)?;
     let y = cut(cells, width, b)?;

@@ -1,11 +1,12 @@
 // Division.
 
-ghost use Rattle.std.specs.Prelude.{◌≡◌, ◌<◌, ◌==◌, if◌then◌else◌, false, true, length, IfOk};
+ghost use Rattle.std.specs.Prelude.{◌≡◌, ◌<◌, ◌==◌, if◌then◌else◌, false, true, length, IfOk, max, ◌+◌};
 ghost use Rattle.xdp_machine.specs.Arithmetic.{bits_in, low, arithmetic, negated};
 ghost use Rattle.cell_core.specs.Cells.{on};
 ghost use Rattle.cell_core.specs.Formed.{AreFormed};
 ghost use Rattle.operator_cells.specs.Making.{seen, Makes};
 ghost use Rattle.operator_cells.specs.Dividing.{code_of, sign_of};
+ghost use Rattle.operator_cells.specs.Rising.{Rises};
 
 use crate::cells::{constant, divide_some, operate, slice};
 use crate::comparing::equal;
@@ -34,7 +35,8 @@ fn unless_zero(
     requires left { a < length (seen cells.old.items) }
     requires right { b < length (seen cells.old.items) }
     requires result { n < length (seen cells.old.items) }
-    ensures { IfOk result (λ c. Makes (seen cells.old.items) (seen cells.new.items) c (λ packet v. low (bits_in width) (if low 64 (v b) == 0 then (if rest then v a else 0) else v n))) }
+    ensures makes { IfOk result (λ c. Makes (seen cells.old.items) (seen cells.new.items) c (λ packet v. low (bits_in width) (if low 64 (v b) == 0 then (if rest then v a else 0) else v n))) }
+    ensures rises { IfOk result (λ c. Rises (seen cells.old.items) (seen cells.new.items) c (λ row. max (max (row a) (row n)) (row b + 1))) }
 {
     let zero = constant(cells, 0, 1)?;
     let none = equal(cells, b, zero)?;
@@ -54,7 +56,8 @@ pub fn divide(
     requires formed { AreFormed (seen cells.old.items) }
     requires left { a < length (seen cells.old.items) }
     requires right { b < length (seen cells.old.items) }
-    ensures { IfOk result (λ c. Makes (seen cells.old.items) (seen cells.new.items) c (λ packet v. arithmetic (code_of rest) false (bits_in width) (low (bits_in width) (v a)) (low (bits_in width) (v b)))) }
+    ensures makes { IfOk result (λ c. Makes (seen cells.old.items) (seen cells.new.items) c (λ packet v. arithmetic (code_of rest) false (bits_in width) (low (bits_in width) (v a)) (low (bits_in width) (v b)))) }
+    ensures rises { IfOk result (λ c. Rises (seen cells.old.items) (seen cells.new.items) c (λ row. max (row a) (row b) + 1)) }
 {
     let x = cut(cells, width, a)?;
     let y = cut(cells, width, b)?;
@@ -67,7 +70,8 @@ pub fn divide(
 fn turn_where(cells: &mut Vec<Cell>, width: Width, sign: u32, a: u32) -> Result<u32, AllocError>
     requires sign { sign < length (seen cells.old.items) }
     requires there { a < length (seen cells.old.items) }
-    ensures { IfOk result (λ c. Makes (seen cells.old.items) (seen cells.new.items) c (λ packet v. low (bits_in width) (if on (v sign) then negated (bits_in width) (v a) else v a))) }
+    ensures makes { IfOk result (λ c. Makes (seen cells.old.items) (seen cells.new.items) c (λ packet v. low (bits_in width) (if on (v sign) then negated (bits_in width) (v a) else v a))) }
+    ensures rises { IfOk result (λ c. Rises (seen cells.old.items) (seen cells.new.items) c (λ row. max (row sign) (row a))) }
 {
     let zero = constant(cells, 0, 1)?;
     let other = operate(cells, Operator::Difference, &[zero, a], 0, bits(width))?;
@@ -79,7 +83,8 @@ fn turn_where(cells: &mut Vec<Cell>, width: Width, sign: u32, a: u32) -> Result<
 fn result_sign(cells: &mut Vec<Cell>, rest: bool, left: u32, right: u32) -> Result<u32, AllocError>
     requires left { left < length (seen cells.old.items) }
     requires right { right < length (seen cells.old.items) }
-    ensures { IfOk result (λ c. Makes (seen cells.old.items) (seen cells.new.items) c (λ packet v. sign_of rest (v left) (v right))) }
+    ensures makes { IfOk result (λ c. Makes (seen cells.old.items) (seen cells.new.items) c (λ packet v. sign_of rest (v left) (v right))) }
+    ensures rises { IfOk result (λ c. Rises (seen cells.old.items) (seen cells.new.items) c (λ row. max (row left) (row right))) }
 {
     if rest {
         return Ok(left);
@@ -99,7 +104,8 @@ pub fn divide_signed(
     requires formed { AreFormed (seen cells.old.items) }
     requires left { a < length (seen cells.old.items) }
     requires right { b < length (seen cells.old.items) }
-    ensures { IfOk result (λ c. Makes (seen cells.old.items) (seen cells.new.items) c (λ packet v. arithmetic (code_of rest) true (bits_in width) (low (bits_in width) (v a)) (low (bits_in width) (v b)))) }
+    ensures makes { IfOk result (λ c. Makes (seen cells.old.items) (seen cells.new.items) c (λ packet v. arithmetic (code_of rest) true (bits_in width) (low (bits_in width) (v a)) (low (bits_in width) (v b)))) }
+    ensures rises { IfOk result (λ c. Rises (seen cells.old.items) (seen cells.new.items) c (λ row. max (row a) (row b) + 1)) }
 {
     let x = cut(cells, width, a)?;
     let y = cut(cells, width, b)?;

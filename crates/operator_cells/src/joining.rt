@@ -6,6 +6,8 @@ ghost use Rattle.cell_core.specs.Cells.{bit, on, cell_at};
 ghost use Rattle.cell_core.specs.Formed.{AreFormed};
 ghost use Rattle.operator_cells.specs.Making.{seen, Makes};
 ghost use Rattle.operator_cells.specs.Joining.{chosen, flat, AreThere};
+ghost use Rattle.cell_core.specs.Rows.{greatest};
+ghost use Rattle.operator_cells.specs.Rising.{Rises};
 
 use crate::cells::operate;
 use cell_core::cell::{Cell, Cells};
@@ -23,7 +25,8 @@ pub struct Arm {
 /// The bits of edges as one: 1 where one of them is on the path.
 pub fn guard(cells: &mut Vec<Cell>, bits: &[u32]) -> Result<u32, AllocError>
     requires there { All (λ i. i < length (seen cells.old.items)) bits.now }
-    ensures { IfOk result (λ c. Makes (seen cells.old.items) (seen cells.new.items) c (λ packet v. bit (list_any on (map_list v bits.now)))) }
+    ensures makes { IfOk result (λ c. Makes (seen cells.old.items) (seen cells.new.items) c (λ packet v. bit (list_any on (map_list v bits.now)))) }
+    ensures rises { IfOk result (λ c. Rises (seen cells.old.items) (seen cells.new.items) c (λ row. greatest row bits.now)) }
 {
     let c = operate(cells, Operator::Any, bits, 0, 1)?;
     Ok(c)
@@ -31,7 +34,8 @@ pub fn guard(cells: &mut Vec<Cell>, bits: &[u32]) -> Result<u32, AllocError>
 
 // Whether all edges bring one cell.
 fn are_one(arms: &[Arm], cell: u32) -> bool
-    ensures { result ≡ true → All (λ a. a.cell ≡ cell) arms.now }
+    ensures all { result ≡ true → All (λ a. a.cell ≡ cell) arms.now }
+    ensures only { All (λ a. a.cell ≡ cell) arms.now → result ≡ true }
 {
     for arm in arms {
         if arm.cell != cell {
@@ -81,7 +85,9 @@ pub fn choose(cells: &mut Vec<Cell>, arms: &[Arm]) -> Result<u32, AllocError>
     requires formed { AreFormed (seen cells.old.items) }
     requires some { 1 ≤ length arms.now }
     requires there { AreThere (seen cells.old.items) arms.now }
-    ensures { IfOk result (λ c. Makes (seen cells.old.items) (seen cells.new.items) c (λ packet v. chosen v arms.now)) }
+    ensures makes { IfOk result (λ c. Makes (seen cells.old.items) (seen cells.new.items) c (λ packet v. chosen v arms.now)) }
+    ensures rises { IfOk result (λ c. Rises (seen cells.old.items) (seen cells.new.items) c (λ row. greatest row (flat arms.now))) }
+    ensures same { IfOk result (λ c. (cell : ℕ) → All (λ a. a.cell ≡ cell) arms.now → (c ≡ cell) × (seen cells.new.items ≡ seen cells.old.items)) }
 {
     values_fit();
     let first = arms[0].cell;

@@ -1,9 +1,10 @@
 // The edges that leave a node.
 
-ghost use Rattle.std.specs.Prelude.{◌≡◌, ◌<◌, ◌&&◌, length, IfOk};
+ghost use Rattle.std.specs.Prelude.{◌≡◌, ◌<◌, ◌&&◌, length, IfOk, max};
 ghost use Rattle.kind_core.specs.Edges.{agrees};
 ghost use Rattle.cell_core.specs.Cells.{bit, on};
 ghost use Rattle.operator_cells.specs.Making.{seen, MakesIf};
+ghost use Rattle.operator_cells.specs.Rising.{Rises};
 
 use crate::cells::operate;
 use crate::comparing::not;
@@ -20,7 +21,8 @@ pub fn edge(
 ) -> Result<u32, AllocError>
     requires guard { guard < length (seen cells.old.items) }
     requires condition { condition < length (seen cells.old.items) }
-    ensures { IfOk result (λ c. MakesIf (seen cells.old.items) (seen cells.new.items) c (λ v. (v guard < 2) × (v condition < 2)) (λ packet v. bit (on (v guard) && agrees taken (on (v condition))))) }
+    ensures makes { IfOk result (λ c. MakesIf (seen cells.old.items) (seen cells.new.items) c (λ v. (v guard < 2) × (v condition < 2)) (λ packet v. bit (on (v guard) && agrees taken (on (v condition))))) }
+    ensures rises { IfOk result (λ c. Rises (seen cells.old.items) (seen cells.new.items) c (λ row. max (row guard) (row condition))) }
 {
     if taken {
         let c = operate(cells, Operator::And, &[guard, condition], 0, 1)?;

@@ -1,12 +1,13 @@
 // Shifts.
 
-ghost use Rattle.std.specs.Prelude.{ℕ, ◌≡◌, ◌<◌, ◌-◌, ◌/◌, ◌^◌, ◌*◌, ◌%◌, length, IfOk, Bool};
+ghost use Rattle.std.specs.Prelude.{ℕ, ◌≡◌, ◌<◌, ◌-◌, ◌/◌, ◌^◌, ◌*◌, ◌%◌, length, IfOk, Bool, max, ◌+◌};
 ghost use Rattle.bits_core.specs.Bits.{arsh_of};
 ghost use Rattle.xdp_machine.specs.Arithmetic.{bits_in, low, arithmetic};
 ghost use Rattle.cell_core.specs.Cells.{bits_from};
 ghost use Rattle.cell_core.specs.Formed.{AreFormed};
 ghost use Rattle.operator_cells.specs.Making.{seen, Makes};
 ghost use Rattle.operator_cells.specs.Shifting.{count_bits};
+ghost use Rattle.operator_cells.specs.Rising.{Rises};
 
 use crate::cells::{constant, operate, slice};
 use crate::working::{bits, cut};
@@ -19,7 +20,8 @@ use std::alloc::AllocError;
 pub fn raise(cells: &mut Vec<Cell>, width: Width, a: u32, count: u32) -> Result<u32, AllocError>
     requires there { a < length (seen cells.old.items) }
     requires count { count < bits_in width }
-    ensures { IfOk result (λ c. Makes (seen cells.old.items) (seen cells.new.items) c (λ packet v. low (bits_in width) (low (bits_in width) (v a) * 2 ^ count))) }
+    ensures makes { IfOk result (λ c. Makes (seen cells.old.items) (seen cells.new.items) c (λ packet v. low (bits_in width) (low (bits_in width) (v a) * 2 ^ count))) }
+    ensures rises { IfOk result (λ c. Rises (seen cells.old.items) (seen cells.new.items) c (λ row. row a)) }
 {
     let zero = constant(cells, 0, 1)?;
     let c = operate(cells, Operator::Join(count), &[a, zero], 0, bits(width))?;
@@ -30,7 +32,8 @@ pub fn raise(cells: &mut Vec<Cell>, width: Width, a: u32, count: u32) -> Result<
 pub fn lower(cells: &mut Vec<Cell>, width: Width, a: u32, count: u32) -> Result<u32, AllocError>
     requires there { a < length (seen cells.old.items) }
     requires count { count < bits_in width }
-    ensures { IfOk result (λ c. Makes (seen cells.old.items) (seen cells.new.items) c (λ packet v. low (bits_in width) (v a) / 2 ^ count)) }
+    ensures makes { IfOk result (λ c. Makes (seen cells.old.items) (seen cells.new.items) c (λ packet v. low (bits_in width) (v a) / 2 ^ count)) }
+    ensures rises { IfOk result (λ c. Rises (seen cells.old.items) (seen cells.new.items) c (λ row. row a)) }
 {
     let c = slice(cells, a, count, bits(width) - count)?;
     Ok(c)
@@ -51,7 +54,8 @@ pub fn shift_left(cells: &mut Vec<Cell>, width: Width, a: u32, b: u32) -> Result
     requires formed { AreFormed (seen cells.old.items) }
     requires left { a < length (seen cells.old.items) }
     requires right { b < length (seen cells.old.items) }
-    ensures { (signed : Bool) → IfOk result (λ c. Makes (seen cells.old.items) (seen cells.new.items) c (λ packet v. arithmetic AluCode.Lsh signed (bits_in width) (low (bits_in width) (v a)) (low (bits_in width) (v b)))) }
+    ensures makes { (signed : Bool) → IfOk result (λ c. Makes (seen cells.old.items) (seen cells.new.items) c (λ packet v. arithmetic AluCode.Lsh signed (bits_in width) (low (bits_in width) (v a)) (low (bits_in width) (v b)))) }
+    ensures rises { IfOk result (λ c. Rises (seen cells.old.items) (seen cells.new.items) c (λ row. max (row a) (row b) + 1)) }
 {
     let x = cut(cells, width, a)?;
     let count = slice(cells, b, 0, count_bits(width))?;
@@ -64,7 +68,8 @@ pub fn shift_right(cells: &mut Vec<Cell>, width: Width, a: u32, b: u32) -> Resul
     requires formed { AreFormed (seen cells.old.items) }
     requires left { a < length (seen cells.old.items) }
     requires right { b < length (seen cells.old.items) }
-    ensures { (signed : Bool) → IfOk result (λ c. Makes (seen cells.old.items) (seen cells.new.items) c (λ packet v. arithmetic AluCode.Rsh signed (bits_in width) (low (bits_in width) (v a)) (low (bits_in width) (v b)))) }
+    ensures makes { (signed : Bool) → IfOk result (λ c. Makes (seen cells.old.items) (seen cells.new.items) c (λ packet v. arithmetic AluCode.Rsh signed (bits_in width) (low (bits_in width) (v a)) (low (bits_in width) (v b)))) }
+    ensures rises { IfOk result (λ c. Rises (seen cells.old.items) (seen cells.new.items) c (λ row. max (row a) (row b) + 1)) }
 {
     let x = cut(cells, width, a)?;
     let count = slice(cells, b, 0, count_bits(width))?;
@@ -81,7 +86,8 @@ pub fn lower_signed(
 ) -> Result<u32, AllocError>
     requires there { a < length (seen cells.old.items) }
     requires count { count < bits_in width }
-    ensures { IfOk result (λ c. Makes (seen cells.old.items) (seen cells.new.items) c (λ packet v. arsh_of (low (bits_in width) (v a)) count (bits_in width))) }
+    ensures makes { IfOk result (λ c. Makes (seen cells.old.items) (seen cells.new.items) c (λ packet v. arsh_of (low (bits_in width) (v a)) count (bits_in width))) }
+    ensures rises { IfOk result (λ c. Rises (seen cells.old.items) (seen cells.new.items) c (λ row. row a)) }
 {
     let rest = lower(cells, width, a, count)?;
     let left = bits(width) - count;
@@ -92,7 +98,8 @@ pub fn lower_signed(
 // The bits of a number, each turned.
 fn complement(cells: &mut Vec<Cell>, width: Width, a: u32) -> Result<u32, AllocError>
     requires { a < length (seen cells.old.items) }
-    ensures { IfOk result (λ c. Makes (seen cells.old.items) (seen cells.new.items) c (λ packet v. bits_from (2 ^ 64 - 1 - v a) 0 (bits_in width))) }
+    ensures makes { IfOk result (λ c. Makes (seen cells.old.items) (seen cells.new.items) c (λ packet v. bits_from (2 ^ 64 - 1 - v a) 0 (bits_in width))) }
+    ensures rises { IfOk result (λ c. Rises (seen cells.old.items) (seen cells.new.items) c (λ row. row a)) }
 {
     let c = operate(cells, Operator::Not, &[a], 0, bits(width))?;
     Ok(c)
@@ -102,7 +109,8 @@ fn complement(cells: &mut Vec<Cell>, width: Width, a: u32) -> Result<u32, AllocE
 fn move_down(cells: &mut Vec<Cell>, width: Width, a: u32, count: u32) -> Result<u32, AllocError>
     requires left { a < length (seen cells.old.items) }
     requires right { count < length (seen cells.old.items) }
-    ensures { IfOk result (λ c. Makes (seen cells.old.items) (seen cells.new.items) c (λ packet v. bits_from (low 64 (v a) / 2 ^ (low 64 (v count) % 64)) 0 (bits_in width))) }
+    ensures makes { IfOk result (λ c. Makes (seen cells.old.items) (seen cells.new.items) c (λ packet v. bits_from (low 64 (v a) / 2 ^ (low 64 (v count) % 64)) 0 (bits_in width))) }
+    ensures rises { IfOk result (λ c. Rises (seen cells.old.items) (seen cells.new.items) c (λ row. max (row a) (row count) + 1)) }
 {
     let c = operate(cells, Operator::ShiftRight, &[a, count], 0, bits(width))?;
     Ok(c)
@@ -113,7 +121,8 @@ pub fn shift_signed(cells: &mut Vec<Cell>, width: Width, a: u32, b: u32) -> Resu
     requires formed { AreFormed (seen cells.old.items) }
     requires left { a < length (seen cells.old.items) }
     requires right { b < length (seen cells.old.items) }
-    ensures { (signed : Bool) → IfOk result (λ c. Makes (seen cells.old.items) (seen cells.new.items) c (λ packet v. arithmetic AluCode.Arsh signed (bits_in width) (low (bits_in width) (v a)) (low (bits_in width) (v b)))) }
+    ensures makes { (signed : Bool) → IfOk result (λ c. Makes (seen cells.old.items) (seen cells.new.items) c (λ packet v. arithmetic AluCode.Arsh signed (bits_in width) (low (bits_in width) (v a)) (low (bits_in width) (v b)))) }
+    ensures rises { IfOk result (λ c. Rises (seen cells.old.items) (seen cells.new.items) c (λ row. max (row a) (row b) + 1)) }
 {
     let x = cut(cells, width, a)?;
     let count = slice(cells, b, 0, count_bits(width))?;

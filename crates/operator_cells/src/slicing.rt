@@ -6,6 +6,8 @@ ghost use Rattle.xdp_machine.specs.Arithmetic.{bits_in, low, extended};
 ghost use Rattle.cell_core.specs.Cells.{cell_at};
 ghost use Rattle.cell_core.specs.Formed.{AreFormed};
 ghost use Rattle.operator_cells.specs.Making.{seen, Makes, MakesIf};
+ghost use Rattle.cell_core.specs.Rows.{greatest};
+ghost use Rattle.operator_cells.specs.Rising.{Rises};
 
 use crate::cells::{operate, slice};
 use crate::working::bits;
@@ -29,7 +31,8 @@ fn width_of(cells: &[Cell], a: u32) -> u32
 pub fn copy(cells: &mut Vec<Cell>, a: u32) -> Result<u32, AllocError>
     requires formed { AreFormed (seen cells.old.items) }
     requires there { a < length (seen cells.old.items) }
-    ensures { IfOk result (λ c. Makes (seen cells.old.items) (seen cells.new.items) c (λ packet v. v a)) }
+    ensures makes { IfOk result (λ c. Makes (seen cells.old.items) (seen cells.new.items) c (λ packet v. v a)) }
+    ensures rises { IfOk result (λ c. Rises (seen cells.old.items) (seen cells.new.items) c (λ row. row a)) }
 {
     values_fit();
     let width = width_of(cells, a);
@@ -41,7 +44,8 @@ pub fn copy(cells: &mut Vec<Cell>, a: u32) -> Result<u32, AllocError>
 pub fn extend(cells: &mut Vec<Cell>, width: Width, count: u32, a: u32) -> Result<u32, AllocError>
     requires there { a < length (seen cells.old.items) }
     requires count { count ≤ 64 }
-    ensures { IfOk result (λ c. Makes (seen cells.old.items) (seen cells.new.items) c (λ packet v. extended (bits_in width) count (v a))) }
+    ensures makes { IfOk result (λ c. Makes (seen cells.old.items) (seen cells.new.items) c (λ packet v. extended (bits_in width) count (v a))) }
+    ensures rises { IfOk result (λ c. Rises (seen cells.old.items) (seen cells.new.items) c (λ row. row a)) }
 {
     if count == 0 {
         let c = slice(cells, a, 0, bits(width))?;
@@ -55,7 +59,8 @@ pub fn extend(cells: &mut Vec<Cell>, width: Width, count: u32, a: u32) -> Result
 pub fn join_bytes(cells: &mut Vec<Cell>, bytes: &[u32]) -> Result<u32, AllocError>
     requires there { All (λ i. i < length (seen cells.old.items)) bytes.now }
     requires most { length bytes.now ≤ 8 }
-    ensures { IfOk result (λ c. MakesIf (seen cells.old.items) (seen cells.new.items) c (λ v. All (λ i. v i < 256) bytes.now) (λ packet v. little_number (length bytes.now) (map_list v bytes.now))) }
+    ensures makes { IfOk result (λ c. MakesIf (seen cells.old.items) (seen cells.new.items) c (λ v. All (λ i. v i < 256) bytes.now) (λ packet v. little_number (length bytes.now) (map_list v bytes.now))) }
+    ensures rises { IfOk result (λ c. Rises (seen cells.old.items) (seen cells.new.items) c (λ row. greatest row bytes.now)) }
 {
     let mut ins = Vec::from_slice(*cells.allocator(), bytes)?;
     ins.reverse();

@@ -1,6 +1,6 @@
 // Numbers as bytes: orders of bytes, and bytes that are stored over others.
 
-ghost use Rattle.std.specs.Prelude.{◌≡◌, ◌<◌, ◌≤◌, ◌+◌, ◌⊎◌, length, IfOk};
+ghost use Rattle.std.specs.Prelude.{◌≡◌, ◌<◌, ◌≤◌, ◌+◌, ◌⊎◌, length, IfOk, max};
 ghost use Rattle.byteorder.specs.Endian.{little_number, little_bytes};
 ghost use Rattle.bits_core.specs.Bits.{reversed_of};
 ghost use Rattle.xdp_maps.specs.Calls.{patched};
@@ -8,6 +8,7 @@ ghost use Rattle.xdp_machine.specs.Arithmetic.{low, ordered};
 ghost use Rattle.xdp_machine.specs.Memory.{bytes_in, number_at};
 ghost use Rattle.operator_cells.specs.Making.{seen, Makes};
 ghost use Rattle.operator_cells.specs.Spreading.{MakesBytes};
+ghost use Rattle.operator_cells.specs.Rising.{Rises, RiseAll};
 
 use crate::cells::{operate, slice};
 use crate::slicing::join_bytes;
@@ -21,7 +22,8 @@ use xdp_state::memory::bytes_in;
 pub fn spread(cells: &mut Vec<Cell>, a: u32, count: u32) -> Result<Vec<u32>, AllocError>
     requires there { a < length (seen cells.old.items) }
     requires most { count ≤ 8 }
-    ensures { IfOk result (λ bytes. MakesBytes (seen cells.old.items) (seen cells.new.items) count bytes.items (λ v. little_bytes count (v a))) }
+    ensures makes { IfOk result (λ bytes. MakesBytes (seen cells.old.items) (seen cells.new.items) count bytes.items (λ v. little_bytes count (v a))) }
+    ensures rises { IfOk result (λ bytes. RiseAll (seen cells.old.items) (seen cells.new.items) bytes.items (λ row. row a)) }
 {
     let mut bytes = Vec::new(*cells.allocator());
     for i in 0..count {
@@ -35,7 +37,8 @@ pub fn spread(cells: &mut Vec<Cell>, a: u32, count: u32) -> Result<Vec<u32>, All
 fn reverse(cells: &mut Vec<Cell>, a: u32, count: u32) -> Result<u32, AllocError>
     requires there { a < length (seen cells.old.items) }
     requires most { count ≤ 8 }
-    ensures { IfOk result (λ c. Makes (seen cells.old.items) (seen cells.new.items) c (λ packet v. reversed_of count (v a))) }
+    ensures makes { IfOk result (λ c. Makes (seen cells.old.items) (seen cells.new.items) c (λ packet v. reversed_of count (v a))) }
+    ensures rises { IfOk result (λ c. Rises (seen cells.old.items) (seen cells.new.items) c (λ row. row a)) }
 {
     let bytes = spread(cells, a, count)?;
     let c = operate(cells, Operator::Join(8), &bytes, 0, 8 * count)?;
@@ -46,7 +49,8 @@ fn reverse(cells: &mut Vec<Cell>, a: u32, count: u32) -> Result<u32, AllocError>
 pub fn order(cells: &mut Vec<Cell>, order: Src, bits: u32, a: u32) -> Result<u32, AllocError>
     requires there { a < length (seen cells.old.items) }
     requires bits { (bits ≡ 16) ⊎ ((bits ≡ 32) ⊎ (bits ≡ 64)) }
-    ensures { IfOk result (λ c. Makes (seen cells.old.items) (seen cells.new.items) c (λ packet v. ordered order bits (v a))) }
+    ensures makes { IfOk result (λ c. Makes (seen cells.old.items) (seen cells.new.items) c (λ packet v. ordered order bits (v a))) }
+    ensures rises { IfOk result (λ c. Rises (seen cells.old.items) (seen cells.new.items) c (λ row. row a)) }
 {
     match order {
         Src::K => {
@@ -64,7 +68,8 @@ pub fn order(cells: &mut Vec<Cell>, order: Src, bits: u32, a: u32) -> Result<u32
 pub fn part(cells: &mut Vec<Cell>, size: Size, at: u32, a: u32) -> Result<u32, AllocError>
     requires there { a < length (seen cells.old.items) }
     requires inside { at + bytes_in size ≤ 8 }
-    ensures { IfOk result (λ c. Makes (seen cells.old.items) (seen cells.new.items) c (λ packet v. number_at size at (little_bytes 8 (v a)))) }
+    ensures makes { IfOk result (λ c. Makes (seen cells.old.items) (seen cells.new.items) c (λ packet v. number_at size at (little_bytes 8 (v a)))) }
+    ensures rises { IfOk result (λ c. Rises (seen cells.old.items) (seen cells.new.items) c (λ row. row a)) }
 {
     let c = slice(cells, a, 8 * at, 8 * bytes_in(size) as u32)?;
     Ok(c)
@@ -92,7 +97,8 @@ pub fn patch(
     requires old { old < length (seen cells.old.items) }
     requires number { n < length (seen cells.old.items) }
     requires inside { at + bytes_in size ≤ 8 }
-    ensures { IfOk result (λ c. Makes (seen cells.old.items) (seen cells.new.items) c (λ packet v. little_number 8 (patched (little_bytes 8 (v old)) at (little_bytes (bytes_in size) (v n))))) }
+    ensures makes { IfOk result (λ c. Makes (seen cells.old.items) (seen cells.new.items) c (λ packet v. little_number 8 (patched (little_bytes 8 (v old)) at (little_bytes (bytes_in size) (v n))))) }
+    ensures rises { IfOk result (λ c. Rises (seen cells.old.items) (seen cells.new.items) c (λ row. max (row old) (row n))) }
 {
     let bytes = spread(cells, old, 8)?;
     let part = spread(cells, n, bytes_in(size) as u32)?;

@@ -1,9 +1,11 @@
 // Arithmetic.
 
-ghost use Rattle.std.specs.Prelude.{◌≡◌, ◌<◌, true, length, IfOk, Bool};
+ghost use Rattle.std.specs.Prelude.{◌≡◌, ◌<◌, true, length, IfOk, Bool, max, ◌+◌};
 ghost use Rattle.xdp_machine.specs.Arithmetic.{bits_in, low, arithmetic, negated};
 ghost use Rattle.cell_core.specs.Formed.{AreFormed};
 ghost use Rattle.operator_cells.specs.Making.{seen, Makes, is_one, operator_of};
+ghost use Rattle.cell_core.specs.Cells.{bit, is_heavy};
+ghost use Rattle.operator_cells.specs.Rising.{Rises};
 
 use crate::cells::{constant, operate, slice};
 use bpf_isa::{AluCode, Width};
@@ -40,7 +42,8 @@ fn operator(code: AluCode) -> Operator
 pub fn cut(cells: &mut Vec<Cell>, width: Width, a: u32) -> Result<u32, AllocError>
     requires formed { AreFormed (seen cells.old.items) }
     requires there { a < length (seen cells.old.items) }
-    ensures { IfOk result (λ c. Makes (seen cells.old.items) (seen cells.new.items) c (λ packet v. low (bits_in width) (v a))) }
+    ensures makes { IfOk result (λ c. Makes (seen cells.old.items) (seen cells.new.items) c (λ packet v. low (bits_in width) (v a))) }
+    ensures rises { IfOk result (λ c. Rises (seen cells.old.items) (seen cells.new.items) c (λ row. row a)) }
 {
     values_fit();
     match width {
@@ -64,7 +67,8 @@ pub fn combine(
     requires one { is_one code ≡ true }
     requires left { a < length (seen cells.old.items) }
     requires right { b < length (seen cells.old.items) }
-    ensures { (signed : Bool) → IfOk result (λ c. Makes (seen cells.old.items) (seen cells.new.items) c (λ packet v. arithmetic code signed (bits_in width) (low (bits_in width) (v a)) (low (bits_in width) (v b)))) }
+    ensures makes { (signed : Bool) → IfOk result (λ c. Makes (seen cells.old.items) (seen cells.new.items) c (λ packet v. arithmetic code signed (bits_in width) (low (bits_in width) (v a)) (low (bits_in width) (v b)))) }
+    ensures rises { IfOk result (λ c. Rises (seen cells.old.items) (seen cells.new.items) c (λ row. max (row a) (row b) + bit (is_heavy (operator_of code)))) }
 {
     let x = cut(cells, width, a)?;
     let y = cut(cells, width, b)?;
@@ -76,7 +80,8 @@ pub fn combine(
 pub fn negate(cells: &mut Vec<Cell>, width: Width, a: u32) -> Result<u32, AllocError>
     requires formed { AreFormed (seen cells.old.items) }
     requires there { a < length (seen cells.old.items) }
-    ensures { IfOk result (λ c. Makes (seen cells.old.items) (seen cells.new.items) c (λ packet v. negated (bits_in width) (v a))) }
+    ensures makes { IfOk result (λ c. Makes (seen cells.old.items) (seen cells.new.items) c (λ packet v. negated (bits_in width) (v a))) }
+    ensures rises { IfOk result (λ c. Rises (seen cells.old.items) (seen cells.new.items) c (λ row. row a + 1)) }
 {
     let x = cut(cells, width, a)?;
     let zero = constant(cells, 0, 1)?;

@@ -16,4 +16,4 @@ guard-requires c = record {
 }
 
 pub returns : goal.returns
-returns c = made_guards _ _ _ _ _ (c.deref.ensures.value ∙ c.in_ok-bits.ensures) c.in_ok-c.ensures
+returns c = made_guards _ _ _ _ _ (c.deref.ensures.value ∙ c.in_ok-bits.ensures) c.in_ok-c.ensures.makes

@@ -26,4 +26,4 @@ choose-requires-clause-there c = subst (λ (xs : List Arm). AreThere (seen c.arg
 
 pub returns : goal.returns
 returns c = picks_chosen _ _ _ _ _ _ _ c.requires.some (arms_all _ _ _ _ _ _ c.loop-way.auto.way-index-end c.loop-way-test.false c.loop-way.invariant)
-    (subst (λ (xs : List Arm). Makes (seen c.args.cells.now.items) (seen c.choose.new.cells.items) c.in_ok-c.c (λ packet v. chosen v xs)) c.deref.ensures.value c.in_ok-c.ensures)
+    (subst (λ (xs : List Arm). Makes (seen c.args.cells.now.items) (seen c.choose.new.cells.items) c.in_ok-c.c (λ packet v. chosen v xs)) c.deref.ensures.value c.in_ok-c.ensures.makes)

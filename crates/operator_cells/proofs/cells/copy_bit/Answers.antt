@@ -2,6 +2,7 @@ use Rattle.std.proofs.Common.{◌≡◌, ◌<◌, [], length, refl, false, true,
 use Rattle.std.proofs.lemmas.List.Elements.{All-nil, All-cons}
 use Rattle.operator_cells.specs.Making.{seen}
 use Rattle.operator_cells.proofs.Growing.{added_makes}
+use Rattle.operator_cells.proofs.RisingLaws.{added_rises, rises_by}
 use Rattle.operator_cells.proofs.cells.copy_bit.Goals as goal
 
 pub returns-clause-makes : goal.returns-clause-makes
@@ -16,3 +17,6 @@ returns-clause-makes c = added_makes _ _ _ _ c.in_ok-c.ensures (record {
 
 pub returns-clause-new : goal.returns-clause-new
 returns-clause-new c = c.in_ok-c.ensures.at
+
+pub returns-clause-rises : goal.returns-clause-rises
+returns-clause-rises c = rises_by (added_rises _ _ _ _ c.in_ok-c.ensures) (λ row. omega arith)

@@ -7,4 +7,4 @@ use Rattle.predicate_core.proofs.closing.output_cell.Goals as goal
 
 pub returns : goal.returns
 returns c = outputs_chosen c.choice_is_right.ensures _ _ _ _ _ _ _ c.in_ok-arms.ensures
-    (subst (λ (xs : List Arm). Makes (seen c.outputs.new.cells.items) (seen c.choose.new.cells.items) c.in_ok-c-2.c (λ packet v. chosen v xs)) c.deref.ensures.value c.in_ok-c-2.ensures)
+    (subst (λ (xs : List Arm). Makes (seen c.outputs.new.cells.items) (seen c.choose.new.cells.items) c.in_ok-c-2.c (λ packet v. chosen v xs)) c.deref.ensures.value c.in_ok-c-2.ensures.makes)

@@ -23,4 +23,4 @@ access_answer-requires-clause-found c =
 pub returns-in_ok-c : goal.returns-in_ok-c
 returns-in_ok-c c = λ is_ref taken allowed.
     signed_made c.args.decls.now c.args.insn.now c.args.here is_ref taken c.args.kinds.now c.args.held.now _ _ _ (pointed c.args.pointers.now) _ _ c.args.size _ _ c.place.result c.in_ok-answer.answer c.in_ok-c.c _ _ _ c.requires.op c.requires.insn.src_register c.requires.insn.dst_register c.in-Entry.is c.requires.guard allowed
-    c.are_whole.ensures.registers c.are_whole.ensures.register_cells c.requires.inside (to_z-of_z {w = w16} (record { sfits = c.requires.insn.offset_range.sfits })) c.place.ensures (pointer_seen c.args.pointers.now _ c.index-pointers-held.result (omega (arith, (entry_pointer c.args.decls.now _ (pointed c.args.pointers.now) c.args.kinds.now c.args.held.now c.args.insn.now.src _ _ c.requires.inside c.requires.insn.src_register c.in-Entry.is).0, pointed_count c.args.pointers.now (length c.args.pointers.now) refl)) c.index-pointers-held.is) (ap (λ (n : ℕ). 8 * n) c.bytes_in.ensures.value) c.in_ok-answer.ensures c.in_ok-c.ensures
+    c.are_whole.ensures.registers c.are_whole.ensures.register_cells c.requires.inside (to_z-of_z {w = w16} (record { sfits = c.requires.insn.offset_range.sfits })) c.place.ensures (pointer_seen c.args.pointers.now _ c.index-pointers-held.result (omega (arith, (entry_pointer c.args.decls.now _ (pointed c.args.pointers.now) c.args.kinds.now c.args.held.now c.args.insn.now.src _ _ c.requires.inside c.requires.insn.src_register c.in-Entry.is).0, pointed_count c.args.pointers.now (length c.args.pointers.now) refl)) c.index-pointers-held.is) (ap (λ (n : ℕ). 8 * n) c.bytes_in.ensures.value) c.in_ok-answer.ensures c.in_ok-c.ensures.makes

@@ -10,7 +10,7 @@ pub join_bytes-requires-clause-there : goal.join_bytes-requires-clause-there
 join_bytes-requires-clause-there c = part_there _ _ _ _ _ c.loop-j.invariant.grows.longer c.requires.there
 
 pub loop-j-preserved : goal.loop-j-preserved
-loop-j-preserved c = joined_more _ _ _ _ _ _ _ _ _ _ c.loop-j.invariant (omega (arith, c.loop-j-test.true)) c.min-end.ensures refl c.in_ok-word.ensures c.in_ok-push.ensures.ok
+loop-j-preserved c = joined_more _ _ _ _ _ _ _ _ _ _ c.loop-j.invariant (omega (arith, c.loop-j-test.true)) c.min-end.ensures refl c.in_ok-word.ensures.makes c.in_ok-push.ensures.ok
 
 pub returns : goal.returns
 returns c = joined_all _ _ _ _ c.loop-j.j (omega (arith, c.loop-j-test.false)) c.loop-j.invariant
