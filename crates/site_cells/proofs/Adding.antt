@@ -44,17 +44,17 @@ pointed_count ps n e = e ∙ sym (length-map ps pointer_of)
 
 -- ---- what is added
 
-pub read_added : (old new : List CellView) (c : ℕ) (op : Operator) (ins : List ℕ) (site : SiteView) (pending width : ℕ) → Adds old new c (record { op = op; ins = ins; width = width; from = 0 })
-    → ins ≡ site.key ++ site.operands ++ pending ∷ [] → IsReadOf new c op site pending width
-read_added old new c op ins site pending width adds e = record {
+pub read_added : (old new : List CellView) (c : ℕ) (op : Operator) (ins are : List ℕ) (width : ℕ) → Adds old new c (record { op = op; ins = ins; width = width; from = 0 }) → ins ≡ are
+    → IsReadOf new c op are width
+read_added old new c op ins are width adds e = record {
   there = omega (arith, adds.at, ap length adds.is, length-append old ((record { op = op; ins = ins; width = width; from = 0 }) ∷ []));
   is = ap (λ (cells : List CellView). cell_at cells c) adds.is ∙ ap (cell_at (old ++ (record { op = op; ins = ins; width = width; from = 0 }) ∷ [])) adds.at
       ∙ get_or-append_seam old (record { op = op; ins = ins; width = width; from = 0 }) [] no_cell ∙ ap (λ (is : List ℕ). record { op = op; ins = is; width = width; from = 0 }) e;
 }
 
 -- a cell that reads stays
-pub read_later : (R : ℕ → ℕ → Type 0) (old new : List CellView) (c : ℕ) (op : Operator) (site : SiteView) (pending width : ℕ) → GrowsWith R old new → IsReadOf old c op site pending width → IsReadOf new c op site pending width
-read_later R old new c op site pending width grows r = record { there = omega (arith, r.there, grows.longer); is = grows.kept c r.there ∙ r.is }
+pub read_later : (R : ℕ → ℕ → Type 0) (old new : List CellView) (c : ℕ) (op : Operator) (ins : List ℕ) (width : ℕ) → GrowsWith R old new → IsReadOf old c op ins width → IsReadOf new c op ins width
+read_later R old new c op ins width grows r = record { there = omega (arith, r.there, grows.longer); is = grows.kept c r.there ∙ r.is }
 
 -- ---- what it does
 
@@ -63,10 +63,10 @@ after_one v maps [] s = refl
 after_one v maps (r ∷ sites) s = after_one v (applied v maps r) sites s
 
 -- a read of the last site answers as the maps before its operation do
-pub read_value : (v : ℕ → ℕ) (maps : MapState) (new : List CellView) (sites sites2 : List SiteView) (c : ℕ) (op : Operator) (site : SiteView) (pending width : ℕ) → AreRead maps new sites2 v
-    → IsReadOf new c op site pending width → site_in op ≡ Some (length sites) → sites2 ≡ sites ++ site ∷ [] → on (v site.guard) ≡ true
+pub read_value : (v : ℕ → ℕ) (maps : MapState) (new : List CellView) (sites sites2 : List SiteView) (c : ℕ) (op : Operator) (site : SiteView) (ins : List ℕ) (width : ℕ) → AreRead maps new sites2 v
+    → IsReadOf new c op ins width → site_in op ≡ Some (length sites) → sites2 ≡ sites ++ site ∷ [] → on (v site.guard) ≡ true
     → v c ≡ bits_from (read_on v (after v maps sites) site op) 0 width
-read_value v maps new sites sites2 c op site pending width read is in_op sites_are guard =
+read_value v maps new sites sites2 c op site ins width read is in_op sites_are guard =
     let j : ℕ = length sites in
     let there : j < length sites2 = omega (arith, ap length sites_are, length-append sites (site ∷ [])) in
     let at : site_at sites2 j ≡ site = ap (λ (xs : List SiteView). site_at xs j) sites_are ∙ get_or-append_seam sites site [] no_site in

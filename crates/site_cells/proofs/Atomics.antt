@@ -1,10 +1,7 @@
 -- Atomic changes of entries.
-use Rattle.std.proofs.Common.{◌≡◌, ℕ, ◌+◌, ◌-◌, ◌*◌, ◌%◌, ◌^◌, ◌<◌, ◌≤◌, ◌==◌, ◌⊎◌, inl, inr, ℤ, pos, ◌+ℤ◌, if◌then◌else◌, Bool, true, false, Option, Some, None, Result, Ok, Err, IfOk, List, [], ◌∷◌, ◌++◌, length, map as map_list, slice_index, slice_set, refl, sym, ◌∙◌, ap, subst, arith}
-use Rattle.std.specs.Prelude.{All, slice_get}
-use Rattle.std.specs.Int.{w64, cast_unsigned}
+use Rattle.std.proofs.Common.{◌≡◌, ℕ, ◌-◌, ◌%◌, ◌<◌, ◌==◌, pos, ◌+ℤ◌, if◌then◌else◌, Bool, true, false, Some, None, List, slice_set, refl, sym, ◌∙◌, ap, subst, arith}
+use Rattle.std.specs.Prelude.{slice_get}
 use Rattle.std.proofs.lemmas.Bool.{eqb-true}
-use Rattle.std.proofs.lemmas.List.{append-nil}
-use Rattle.std.proofs.lemmas.List.Elements.{All-nil, All-cons}
 use Rattle.bpf_isa.specs.declared.operation.Size.{Size}
 use Rattle.bpf_isa.specs.declared.operation.Size.TheVariants.{B, H, W, Dw}
 use Rattle.bpf_isa.specs.declared.operation.Op.TheVariants.{Atomic}
@@ -14,36 +11,21 @@ use Rattle.xdp_maps.specs.declared.decl.MapDecl.{MapDecl}
 use Rattle.xdp_maps.specs.declared.change.Change.{Change}
 use Rattle.xdp_maps.specs.declared.change.ChangeKind.{ChangeKind}
 use Rattle.xdp_maps.specs.declared.change.ChangeKind.TheVariants.{Add, Or, And, Xor, Xchg, Cmpxchg}
-use Rattle.xdp_maps.specs.State.{MapState, decl_at, contents_at, with_contents}
+use Rattle.xdp_maps.specs.State.{MapState, contents_at, with_contents}
 use Rattle.xdp_maps.specs.Calls.{change_bytes, number_before, changed}
-use Rattle.xdp_maps.specs.Operations as map
-use Rattle.xdp_maps.specs.Operations.{Operation, operated}
 use Rattle.xdp_machine.specs.Values.{Value, number_in, ◌>>=◌}
 use Rattle.xdp_machine.specs.Values as is
-use Rattle.xdp_machine.specs.State.{Machine, PacketIn, register, put, with_registers}
+use Rattle.xdp_machine.specs.State.{Machine, register, put, with_registers}
 use Rattle.xdp_machine.specs.Memory.{bytes_in, aligned}
 use Rattle.xdp_machine.specs.Atomics.{fetches, kind_of, wide_of, comparand, change_of, taking, changed_entry, changed_at, atomic}
-use Rattle.xdp_machine.specs.Step.{effect}
-use Rattle.xdp_machine.specs.Touched as touched
 use Rattle.xdp_machine.specs.Touched.{answers_old}
 use Rattle.xdp_machine.proofs.ChangeLaws.{some_inj}
-use Rattle.kind_core.specs.declared.number.Number.{Number}
-use Rattle.kind_core.specs.declared.number.Number.TheVariants.{Unknown}
-use Rattle.kind_core.specs.declared.kind.Kind.{Kind}
-use Rattle.kind_core.specs.declared.kind.Kind.TheVariants.{Num, Entry}
-use Rattle.kind_core.specs.declared.kind.Kinds.{Kinds}
-use Rattle.kind_core.specs.Kinds as kinds
-use Rattle.kind_core.specs.Kinds.{value_bytes, with_register}
 use Rattle.kind_core.specs.Access.{compares}
-use Rattle.kind_core.specs.Tests.{passed}
-use Rattle.kind_core.specs.Effects.{effect_of, effect_as, verdict}
-use Rattle.kind_core.specs.Edges.{transferred, changed as changed_kinds, changed_if}
 use Rattle.cell_core.specs.declared.site.Atomic.{Atomic as AtomicChange}
-use Rattle.cell_core.specs.declared.site.Act.TheVariants as act
 use Rattle.cell_core.specs.Sites as site
 use Rattle.site_cells.specs.Changing.{code_of, is_wide, IsAtomic, taken_by}
 use Rattle.site_cells.proofs.Slots.{bound}
-use Rattle.site_cells.proofs.Entries.{IsInPlace, aligned_too, Placed}
+use Rattle.site_cells.proofs.Entries.{Placed}
 
 -- ---- the parts of a change
 pub record Parts (rs : List Value) (i : Insn) (size : Size) (x : Change) : Type 0 where

@@ -1,5 +1,5 @@
 -- The sites of atomic changes.
-use Rattle.std.proofs.Common.{◌≡◌, ℕ, ◌+◌, ◌*◌, ◌^◌, ◌<◌, ◌≤◌, ℤ, pos, ◌+ℤ◌, if◌then◌else◌, Bool, true, false, Option, Some, None, List, [], ◌∷◌, ◌++◌, length, map as map_list, slice_index, slice_set, slice_range, refl, sym, ◌∙◌, ap, subst, arith}
+use Rattle.std.proofs.Common.{◌≡◌, ℕ, ◌+◌, ◌*◌, ◌^◌, ◌<◌, ◌≤◌, pos, ◌+ℤ◌, if◌then◌else◌, Bool, true, false, Option, Some, None, List, [], ◌∷◌, ◌++◌, length, map as map_list, slice_index, slice_set, slice_range, refl, sym, ◌∙◌, ap, subst, arith}
 use Rattle.std.specs.Prelude.{All, slice_get, option_map}
 use Rattle.std.proofs.lemmas.List.{append-nil}
 use Rattle.std.proofs.lemmas.List.Elements.{All-nil, All-cons}
@@ -12,14 +12,14 @@ use Rattle.bpf_isa.specs.Rules.{IsSized}
 use Rattle.xdp_maps.specs.declared.decl.MapDecl.{MapDecl}
 use Rattle.xdp_maps.specs.declared.change.Change.{Change}
 use Rattle.xdp_maps.specs.State.{MapState, IsSound, decl_at, contents_at, with_contents}
-use Rattle.xdp_maps.specs.Calls.{change_bytes, number_at, number_before, changed, lookup_of}
+use Rattle.xdp_maps.specs.Calls.{change_bytes, number_at, changed, lookup_of}
 use Rattle.xdp_maps.specs.Operations as map
 use Rattle.xdp_maps.specs.Operations.{Operation, operated}
 use Rattle.xdp_machine.specs.Values.{Value, number_in, ◌>>=◌}
 use Rattle.xdp_machine.specs.Values as is
 use Rattle.xdp_machine.specs.State.{Machine, PacketIn, register}
 use Rattle.xdp_machine.specs.Memory.{bytes_in, aligned}
-use Rattle.xdp_machine.specs.Atomics.{fetches, wide_of, atomic}
+use Rattle.xdp_machine.specs.Atomics.{fetches, wide_of}
 use Rattle.xdp_machine.specs.Step.{effect}
 use Rattle.xdp_machine.specs.Touched as touched
 use Rattle.xdp_machine.specs.Touched.{answers_old}
@@ -38,7 +38,6 @@ use Rattle.cell_core.specs.declared.site.Act.TheVariants as act
 use Rattle.cell_core.specs.Cells.{CellView, IsRun, bits_from, on}
 use Rattle.cell_core.specs.Sites.{SiteView, after, bytes_of, change_of, operation_on, read_on, number_or, answer as answer_of}
 use Rattle.operator_cells.specs.Making.{GrowsWith}
-use Rattle.operator_cells.proofs.MakingLaws.{grown_none, reads_none}
 use Rattle.held_cells.specs.declared.held.Held.{Held}
 use Rattle.held_cells.specs.Held.{PointerView, AreHeld, AreInside, pointer_at, key_of}
 use Rattle.held_cells.specs.Carrying.{IsKnown}
@@ -46,15 +45,15 @@ use Rattle.held_cells.specs.Steps.{AreRead}
 use Rattle.held_cells.specs.Operating.{Operates}
 use Rattle.site_cells.specs.declared.here.Here.{Here}
 use Rattle.site_cells.specs.Siting.{Accesses, ReadsNext, access_site}
-use Rattle.site_cells.specs.Changing.{code_of, is_wide, IsAtomic, taken_by, HoldsOperands}
+use Rattle.site_cells.specs.Changing.{code_of, IsAtomic, taken_by, HoldsOperands}
 use Rattle.site_cells.proofs.Adding.{read_value}
 use Rattle.site_cells.proofs.OneSite.{adds_site, fits_map}
 use Rattle.site_cells.proofs.Allowed.{AtomicAllowed}
 use Rattle.site_cells.proofs.Answered.{inside_among}
 use Rattle.site_cells.proofs.Assigned.{assigned_inside, assigned_held}
-use Rattle.site_cells.proofs.Atomics.{Parts, Changes, entry_changed, compares_is, wide_bytes, change_is, fetch_is, taken, not_taken}
+use Rattle.site_cells.proofs.Atomics.{Changes, entry_changed, compares_is, wide_bytes, change_is, fetch_is, taken, not_taken}
 use Rattle.site_cells.proofs.Calling.{decl_is}
-use Rattle.site_cells.proofs.Entries.{bits_whole, value_bytes_fit, entry_held, entry_pointer, IsInPlace, place_fits, Placed, placed_operation}
+use Rattle.site_cells.proofs.Entries.{bits_whole, value_bytes_fit, entry_held, entry_pointer, place_fits, placed_operation}
 use Rattle.site_cells.proofs.Loads.{key_is_site}
 use Rattle.site_cells.proofs.Stores.{written}
 
@@ -236,7 +235,7 @@ module _ (decls : List MapDecl) (i : Insn) (here : Here) (k : Kinds) (h : Held) 
       answered : (packet : PacketIn) (maps : MapState) (v : ℕ → ℕ) (m n : Machine) (answer width : ℕ) → AreRead maps new sites2 v → on (v here.guard) ≡ true → after v maps sites ≡ m.maps → IsKnown decls packet v ps here.node k h m
           → (d : Does decls i here h ps size q o a s c at v m n) → width ≡ 8 * bytes_in size → Accesses mid new sites sites2 here q (act.Atomic a at) p (s ∷ c ∷ []) answer width → v answer ≡ d.old
       answered packet maps v m n answer width read guard after_is known d width_is reads =
-          read_value v maps new sites sites2 answer (Answer (length sites)) own here.pending width read reads.reads refl made.sites_are guard
+          read_value v maps new sites sites2 answer (Answer (length sites)) own _ width read reads.reads refl made.sites_are guard
           ∙ ap (λ (st : MapState). bits_from (read_on v st own (Answer (length sites))) 0 width) after_is
           ∙ ap (λ (o : Operation). bits_from (answer_of m.maps q (act.Atomic a at) o) 0 width) (operation v m n d)
           ∙ ap (λ (o : Option ℕ). bits_from (number_or o) 0 width) d.changes.before

@@ -65,12 +65,12 @@ pub record Helps (i : Insn) (v : ℕ → ℕ) (m n : Machine) (q : ℕ) (site : 
   pub answers : answer m.maps q site.act op ≡ number
   pub fits : number < 2 ^ 64
 
-pub change_operates : (decls : List MapDecl) (i : Insn) (here : Here) (is_ref taken : Bool) (k : Kinds) (h : Held) (old mid new : List CellView) (ps : List PointerView) (sites sites2 : List SiteView) (q c : ℕ) (a : Act) (key operands : List ℕ)
+pub change_operates : (decls : List MapDecl) (i : Insn) (here : Here) (is_ref taken : Bool) (k : Kinds) (h : Held) (old mid new : List CellView) (ps : List PointerView) (sites sites2 : List SiteView) (q c : ℕ) (a : Act) (key looked operands : List ℕ)
     → transferred decls k i here.node is_ref taken ≡ changed here.node is_ref taken k (calls.change_of decls q) → length h.registers ≡ 11 → AreInside decls (length old) ps h k → Grows old mid
-    → FitsMap decls (change_site here q a key operands) → IsBelow (length mid) (change_site here q a key operands) → Changes mid new sites sites2 here q a key operands c → records a ≡ true
+    → FitsMap decls (change_site here q a key operands) → IsBelow (length mid) (change_site here q a key operands) → Changes mid new sites sites2 here q a key looked operands c → records a ≡ true
     → ((packet : PacketIn) (v : ℕ → ℕ) (m n : Machine) (refs : List ℕ) → IsRun packet new v → IsKnown decls packet v ps here.node k h m → effect refs m i i.op ≡ Some n → Helps i v m n q (change_site here q a key operands))
     → Operates decls i here.node here.guard is_ref taken k h (record h { registers = slice_set h.registers 0 c }) old new ps ps sites sites2
-change_operates decls i here is_ref taken k h old mid new ps sites sites2 q c a key operands becomes whole inside before fits below made writes helps =
+change_operates decls i here is_ref taken k h old mid new ps sites sites2 q c a key looked operands becomes whole inside before fits below made writes helps =
     let site : SiteView = change_site here q a key operands in
     let none : ps ≡ ps ++ [] = sym (append-nil ps) in
     let adds = adds_site decls here old mid new sites sites2 site before made.grows made.sites_are refl refl fits below in
@@ -87,7 +87,7 @@ change_operates decls i here is_ref taken k h old mid new ps sites sites2 q c a 
           (subst (λ (xs : List PointerView). AreInside decls (length new) xs h k) (sym none) (inside_among decls (length old) (length new) ps [] h k adds.grows.longer inside)) made.reads.there));
       holds = λ packet maps v m n refs run read guard after_is known at_ref e.
           let w = helps packet v m n refs run known e in
-          let value : v c ≡ w.number = read_value v maps new sites sites2 c (Answer (length sites)) site here.pending 64 read made.reads refl made.sites_are guard
+          let value : v c ≡ w.number = read_value v maps new sites sites2 c (Answer (length sites)) site _ 64 read made.reads refl made.sites_are guard
           ∙ ap (λ (s : MapState). bits_from (answer s q a (operation_on v s site)) 0 64) after_is
           ∙ ap (λ (o : Operation). bits_from (answer m.maps q a o) 0 64) w.site_is
           ∙ ap (λ (x : ℕ). bits_from x 0 64) w.answers
@@ -136,19 +136,19 @@ delete_helps R decls i here k h old mid new ps q words op imm one grows region p
       fits = word_of (delete_number (decl_at m.maps q) (contents_at m.maps q) key) (delete_number_fits (decl_at m.maps q).kind (contents_at m.maps q) key);
     }
 
-pub delete_made : (decls : List MapDecl) (i : Insn) (here : Here) (is_ref taken : Bool) (k : Kinds) (h : Held) (old mid new : List CellView) (ps : List PointerView) (sites sites2 : List SiteView) (base : Kind) (count map c : ℕ) (key words none : List ℕ)
+pub delete_made : (decls : List MapDecl) (i : Insn) (here : Here) (is_ref taken : Bool) (k : Kinds) (h : Held) (old mid new : List CellView) (ps : List PointerView) (sites sites2 : List SiteView) (base : Kind) (count map c : ℕ) (key words looked none : List ℕ)
     → i.op ≡ Call → i.imm ≡ pos 3 → verdict (effect_of decls k i) ≡ passed → here.guard < length old → length h.registers ≡ 11 → AreInside decls (length old) ps h k
     → base ≡ kinds.register k 2 → count ≡ key_bytes decls map → ((q : ℕ) → kinds.register k 1 ≡ MapRef q → map ≡ q) → key ≡ words → none ≡ []
-    → (calls.region k count base ≡ passed → HoldsRegion decls ps here.node k h old mid base count words) → Changes mid new sites sites2 here map act.Delete key none c
+    → (calls.region k count base ≡ passed → HoldsRegion decls ps here.node k h old mid base count words) → Changes mid new sites sites2 here map act.Delete key looked none c
     → Operates decls i here.node here.guard is_ref taken k h (record h { registers = slice_set h.registers 0 c }) old new ps ps sites sites2
-delete_made decls i here is_ref taken k h old mid new ps sites sites2 base count map c key words none op imm allowed guard_there whole inside base_is count_is map_is key_is none_is region made =
+delete_made decls i here is_ref taken k h old mid new ps sites sites2 base count map c key words looked none op imm allowed guard_there whole inside base_is count_is map_is key_is none_is region made =
     let f = delete_allowed decls k i op imm allowed in
     let q : map ≡ f.0 = map_is f.0 f.1 in
     let n : count ≡ key_bytes decls f.0 = count_is ∙ ap (key_bytes decls) q in
     let there = region (ap (calls.region k count) base_is ∙ ap (λ (j : ℕ). calls.region k j (kinds.register k 2)) n ∙ f.3) in
     let holds = subst (λ (j : ℕ). HoldsRegion decls ps here.node k h old mid (kinds.register k 2) j words) n (subst (λ (x : Kind). HoldsRegion decls ps here.node k h old mid x count words) base_is there) in
-    let changes = subst (λ (xs : List ℕ). Changes mid new sites sites2 here f.0 act.Delete words xs c) none_is (subst (λ (j : ℕ). Changes mid new sites sites2 here j act.Delete words none c) q (subst (λ (ws : List ℕ). Changes mid new sites sites2 here map act.Delete ws none c) key_is made)) in
-    change_operates decls i here is_ref taken k h old mid new ps sites sites2 f.0 c act.Delete words [] (f.4 here.node is_ref taken) whole inside holds.grows
+    let changes = subst (λ (xs : List ℕ). Changes mid new sites sites2 here f.0 act.Delete words looked xs c) none_is (subst (λ (j : ℕ). Changes mid new sites sites2 here j act.Delete words looked none c) q (subst (λ (ws : List ℕ). Changes mid new sites sites2 here map act.Delete ws looked none c) key_is made)) in
+    change_operates decls i here is_ref taken k h old mid new ps sites sites2 f.0 c act.Delete words looked [] (f.4 here.node is_ref taken) whole inside holds.grows
     (fits_map decls (change_site here f.0 act.Delete words []) f.2 holds.enough tt tt)
     (record { guard = omega (arith, guard_there, holds.grows.longer); key = holds.there; operands = All-nil (λ j. j < length mid) }) changes refl
     (delete_helps (ReadsNext sites) decls i here k h old mid new ps f.0 words op imm f.1 changes.grows holds)
@@ -197,14 +197,14 @@ update_helps R decls i here k h old mid next last new ps q flags x words values 
       fits = word_of (update_number (decl_at m.maps q) (contents_at m.maps q) key f.0) (update_number_fits (decl_at m.maps q).kind (decl_at m.maps q) (contents_at m.maps q) key f.0);
     }
 
-pub update_made : (decls : List MapDecl) (i : Insn) (here : Here) (is_ref taken : Bool) (k : Kinds) (h : Held) (old mid next last new : List CellView) (ps : List PointerView) (sites sites2 : List SiteView) (base second : Kind) (count size map c flags : ℕ) (key words values operands : List ℕ)
+pub update_made : (decls : List MapDecl) (i : Insn) (here : Here) (is_ref taken : Bool) (k : Kinds) (h : Held) (old mid next last new : List CellView) (ps : List PointerView) (sites sites2 : List SiteView) (base second : Kind) (count size map c flags : ℕ) (key words looked values operands : List ℕ)
     → i.op ≡ Call → i.imm ≡ pos 2 → verdict (effect_of decls k i) ≡ passed → here.guard < length old → length h.registers ≡ 11 → AreInside decls (length old) ps h k
     → base ≡ kinds.register k 2 → second ≡ kinds.register k 3 → count ≡ key_bytes decls map → size ≡ value_bytes decls map → ((q : ℕ) → kinds.register k 1 ≡ MapRef q → map ≡ q) → key ≡ words → operands ≡ flags ∷ values
     → (calls.region k count base ≡ passed → HoldsRegion decls ps here.node k h old mid base count words) → (calls.region k size second ≡ passed → HoldsRegion decls ps here.node k h mid next second size values)
     → ((x : Number) → kinds.register k 4 ≡ Num x → Makes next last flags (λ packet v. number_of v x (slice_index h.registers 4)))
-    → Changes last new sites sites2 here map act.Update key operands c
+    → Changes last new sites sites2 here map act.Update key looked operands c
     → Operates decls i here.node here.guard is_ref taken k h (record h { registers = slice_set h.registers 0 c }) old new ps ps sites sites2
-update_made decls i here is_ref taken k h old mid next last new ps sites sites2 base second count size map c flags key words values operands op imm allowed guard_there whole inside base_is second_is count_is size_is map_is key_is operands_are region other makes made =
+update_made decls i here is_ref taken k h old mid next last new ps sites sites2 base second count size map c flags key words looked values operands op imm allowed guard_there whole inside base_is second_is count_is size_is map_is key_is operands_are region other makes made =
     let f = update_allowed decls k i op imm allowed in
     let q : map ≡ f.0 = map_is f.0 f.1 in
     let n : count ≡ key_bytes decls f.0 = count_is ∙ ap (key_bytes decls) q in
@@ -214,9 +214,9 @@ update_made decls i here is_ref taken k h old mid next last new ps sites sites2 
     let flag = makes f.5 f.6 in
     let before = grown holds.grows (grown others.grows flag.grows) in
     let behind : length mid ≤ length last = omega (arith, others.grows.longer, flag.grows.longer) in
-    let changes = subst (λ (xs : List ℕ). Changes last new sites sites2 here f.0 act.Update words xs c) operands_are
-    (subst (λ (j : ℕ). Changes last new sites sites2 here j act.Update words operands c) q (subst (λ (ws : List ℕ). Changes last new sites sites2 here map act.Update ws operands c) key_is made)) in
-    change_operates decls i here is_ref taken k h old last new ps sites sites2 f.0 c act.Update words (flags ∷ values) (f.7 here.node is_ref taken) whole inside before
+    let changes = subst (λ (xs : List ℕ). Changes last new sites sites2 here f.0 act.Update words looked xs c) operands_are
+    (subst (λ (j : ℕ). Changes last new sites sites2 here j act.Update words looked operands c) q (subst (λ (ws : List ℕ). Changes last new sites sites2 here map act.Update ws looked operands c) key_is made)) in
+    change_operates decls i here is_ref taken k h old last new ps sites sites2 f.0 c act.Update words looked (flags ∷ values) (f.7 here.node is_ref taken) whole inside before
     (fits_map decls (change_site here f.0 act.Update words (flags ∷ values)) f.2 holds.enough (omega (arith, others.enough)) tt)
     (record {
       guard = omega (arith, guard_there, before.longer);

@@ -60,7 +60,7 @@ pub load_answered : (v : ℕ → ℕ) (maps : MapState) (new : List CellView) (s
     → AreRead maps new sites2 v → Accesses old new sites sites2 here q (act.Load a size) p [] c (8 * bytes_in size) → on (v here.guard) ≡ true → after v maps sites ≡ m.maps → bytes_of (decl_at m.maps q).key (map_list v p.key) ≡ key
     → lookup_of (contents_at m.maps q) key ≡ Some value → All (λ b. b < 256) value → v c ≡ number_at size a value
 load_answered v maps new sites sites2 here old m q o a c offset size d p key value read made guard after_is key_is there bytes =
-    read_value v maps new sites sites2 c (Answer (length sites)) (access_site here q (act.Load a size) p []) here.pending (8 * bytes_in size) read made.reads refl made.sites_are guard
+    read_value v maps new sites sites2 c (Answer (length sites)) (access_site here q (act.Load a size) p []) _ (8 * bytes_in size) read made.reads refl made.sites_are guard
     ∙ ap (λ (s : MapState). bits_from (loaded a size (lookup_of (contents_at s q) (bytes_of (decl_at s q).key (map_list v p.key)))) 0 (8 * bytes_in size)) after_is
     ∙ ap (λ (k : List ℕ). bits_from (loaded a size (lookup_of (contents_at m.maps q) k)) 0 (8 * bytes_in size)) key_is
     ∙ ap (λ (r : Option (List ℕ)). bits_from (loaded a size r) 0 (8 * bytes_in size)) there
@@ -83,7 +83,7 @@ load_operates decls i here is_ref taken k h old mid new ps sites sites2 size q o
     let site : SiteView = access_site here q (act.Load a size) p [] in
     let none : ps ≡ ps ++ [] = sym (append-nil ps) in
     let all : Accesses old new sites sites2 here q (act.Load a size) p [] answer (8 * bytes_in size) =
-    record { grows = grown_with _ _ _ _ made.grows (reads_none _ _ _ makes.grows); reads = read_later _ _ _ _ _ _ _ _ makes.grows made.reads; sites_are = made.sites_are } in
+    record { grows = grown_with _ _ _ _ made.grows (reads_none _ _ _ makes.grows); reads = read_later _ _ _ _ _ _ _ makes.grows made.reads; sites_are = made.sites_are } in
     let led = (entry_pointer decls (length old) ps k h i.src q o inside src base).1 in
     let fits = place_fits decls q a (pos o +ℤ i.offset) size placed at in
     let adds = adds_site decls here old old new sites sites2 site grown_none all.grows made.sites_are refl refl (fits_map decls site fits.0 led.enough tt fits.1)

@@ -80,7 +80,7 @@ lookup_operates decls i here is_ref taken k h old mid new ps qs sites sites2 q c
           ∙ region.bytes packet v m (register m.registers 2) l.1 (looks.grows.run packet v run) known (known.stands.described.registers 2)
           (ap (λ (j : ℕ). helpers.region m.stack m.frame j (register m.registers 2)) keys ∙ l.2.bytes) in
           let lookup : map.Lookup (bytes_of (decl_at m.maps q).key (map_list v words)) ≡ map.Lookup l.1 = ap (λ (x : MapDecl). map.Lookup (bytes_of x.key (map_list v words))) decl.0 ∙ ap map.Lookup words_are in
-          let value = read_value v maps new sites sites2 looks.found _ site here.pending 1 read looks.reads refl looks.sites_are guard in
+          let value = read_value v maps new sites sites2 looks.found _ site _ 1 read looks.reads refl looks.sites_are guard in
           let found : on (v looks.found) ≡ is_some (lookup_of (contents_at m.maps q) l.1) =
           ap on value
           ∙ ap (λ (s : MapState). on (bits_from (bit (is_some (lookup_of (contents_at s q) (bytes_of (decl_at s q).key (map_list v words))))) 0 1)) after_is

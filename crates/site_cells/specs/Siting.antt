@@ -14,10 +14,10 @@ use Rattle.site_cells.specs.declared.here.Here.{Here}
 abbrev pub ReadsNext : List SiteView → ℕ → ℕ → Type 0
 ReadsNext sites c j = j ≡ length sites
 
--- Cell c reads a site, behind the cells of its key, its operands and the writes of its map that come before.
-pub record IsReadOf (cells : List CellView) (c : ℕ) (op : Operator) (site : SiteView) (pending width : ℕ) : Type 0 where
+-- Cell c reads a site, behind these cells: what it looks at, and the writes of its map that come before.
+pub record IsReadOf (cells : List CellView) (c : ℕ) (op : Operator) (ins : List ℕ) (width : ℕ) : Type 0 where
   pub there : c < length cells
-  pub is : cell_at cells c ≡ record { op = op; ins = site.key ++ site.operands ++ pending ∷ []; width = width; from = 0 }
+  pub is : cell_at cells c ≡ record { op = op; ins = ins; width = width; from = 0 }
 
 abbrev pub lookup_site : Here → ℕ → List ℕ → SiteView
 lookup_site here map key = record { node = here.node; map = map; guard = here.guard; act = act.Lookup; key = key; operands = [] }
@@ -26,7 +26,7 @@ lookup_site here map key = record { node = here.node; map = map; guard = here.gu
 pub record LooksUp (old new : List CellView) (ps qs : List PointerView) (sites sites2 : List SiteView) (here : Here) (map : ℕ) (key : List ℕ) (c : ℕ) : Type 0 where
   pub grows : GrowsWith (ReadsNext sites) old new
   pub found : ℕ
-  pub reads : IsReadOf new found (Found (length sites)) (lookup_site here map key) here.pending 1
+  pub reads : IsReadOf new found (Found (length sites)) (key ++ here.pending ∷ []) 1
   pub number_is : c ≡ length ps
   pub pointers_are : qs ≡ ps ++ (record { found = found; key = key }) ∷ []
   pub sites_are : sites2 ≡ sites ++ lookup_site here map key ∷ []
@@ -38,17 +38,17 @@ access_site here map a p operands = record { node = here.node; map = map; guard 
 -- An access, and a cell of so many bits of what it answers.
 pub record Accesses (old new : List CellView) (sites sites2 : List SiteView) (here : Here) (map : ℕ) (a : Act) (pointer : PointerView) (operands : List ℕ) (c width : ℕ) : Type 0 where
   pub grows : GrowsWith (ReadsNext sites) old new
-  pub reads : IsReadOf new c (Answer (length sites)) (access_site here map a pointer operands) here.pending width
+  pub reads : IsReadOf new c (Answer (length sites)) (pointer.key ++ (operands ++ pointer.found ∷ []) ++ here.pending ∷ []) width
   pub sites_are : sites2 ≡ sites ++ access_site here map a pointer operands ∷ []
 
 -- a change by a helper
 abbrev pub change_site : Here → ℕ → Act → List ℕ → List ℕ → SiteView
 change_site here map a key operands = record { node = here.node; map = map; guard = here.guard; act = a; key = key; operands = operands }
 
--- A change: its site, a cell that tells whether the key is there, and one of what the helper answers.
-pub record Changes (old new : List CellView) (sites sites2 : List SiteView) (here : Here) (map : ℕ) (a : Act) (key operands : List ℕ) (c : ℕ) : Type 0 where
+-- A change: its site, a cell that tells whether the key is there, and one of what the helper answers. Both look at the key and at these operands.
+pub record Changes (old new : List CellView) (sites sites2 : List SiteView) (here : Here) (map : ℕ) (a : Act) (key looked operands : List ℕ) (c : ℕ) : Type 0 where
   pub grows : GrowsWith (ReadsNext sites) old new
   pub found : ℕ
-  pub finds : IsReadOf new found (Found (length sites)) (change_site here map a key operands) here.pending 1
-  pub reads : IsReadOf new c (Answer (length sites)) (change_site here map a key operands) here.pending 64
+  pub finds : IsReadOf new found (Found (length sites)) (key ++ looked ++ here.pending ∷ []) 1
+  pub reads : IsReadOf new c (Answer (length sites)) (key ++ looked ++ here.pending ∷ []) 64
   pub sites_are : sites2 ≡ sites ++ change_site here map a key operands ∷ []

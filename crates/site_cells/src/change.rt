@@ -25,7 +25,7 @@ use operator_cells::cells::{answer, found};
 use std::alloc::{AllocError, Global};
 use xdp_maps::decl::MapDecl;
 
-// A change under a key.
+// A change under a key. Of the operands its reads look at these: a value only has to be there when it is written.
 fn change(
     cells: &mut Vec<Cell>,
     sites: &mut Vec<Site>,
@@ -33,17 +33,18 @@ fn change(
     map: u32,
     act: Act,
     key: &[u32],
+    looked: &[u32],
     operands: &[u32],
 ) -> Result<u32, AllocError>
     requires key { All (λ i. i < length (seen cells.old.items)) key.now }
-    requires operands { All (λ i. i < length (seen cells.old.items)) operands.now }
+    requires looked { All (λ i. i < length (seen cells.old.items)) looked.now }
     requires pending { here.pending < length (seen cells.old.items) }
-    ensures { IfOk result (λ c. Changes (seen cells.old.items) (seen cells.new.items) (sited sites.old.items) (sited sites.new.items) here map act key.now operands.now c) }
+    ensures { IfOk result (λ c. Changes (seen cells.old.items) (seen cells.new.items) (sited sites.old.items) (sited sites.new.items) here map act key.now looked.now operands.now c) }
 {
     let Ok(site) = u32::try_from(sites.len()) else {
         return Err(AllocError);
     };
-    let ins = inputs(*cells.allocator(), key, operands, here.pending)?;
+    let ins = inputs(*cells.allocator(), key, looked, here.pending)?;
     let _there = found(cells, site, &ins)?;
     let c = answer(cells, site, &ins, 64)?;
     sites.push(Site {
@@ -84,7 +85,7 @@ pub fn operate_delete(
         kinds.registers[2],
         key_bytes(decls, map),
     )?;
-    let c = change(cells, sites, here, map, Act::Delete, &key, &[])?;
+    let c = change(cells, sites, here, map, Act::Delete, &key, &[], &[])?;
     held.registers[0] = c;
     Ok(())
 }
@@ -135,7 +136,16 @@ pub fn operate_update(
     )?;
     let flags = number_in(cells, kinds.registers[4], held.registers[4])?;
     let operands = update_operands(*cells.allocator(), flags, &value)?;
-    let c = change(cells, sites, here, map, Act::Update, &key, &operands)?;
+    let c = change(
+        cells,
+        sites,
+        here,
+        map,
+        Act::Update,
+        &key,
+        &[flags],
+        &operands,
+    )?;
     held.registers[0] = c;
     Ok(())
 }

@@ -17,7 +17,7 @@ returns c =
     let site : c.in-Ok.site ≡ length (sited c.args.sites.now.items) = next_site c.args.sites.now.items c.in-Ok.site (omega (arith, c.in-Ok.ensures, c.len.ensures)) in
     record {
       grows = subst (λ (j : ℕ). GrowsWith (λ k s. s ≡ j) (seen c.args.cells.now.items) (seen c.answer.new.cells.items)) site c.in_ok-c.ensures.grows;
-      reads = read_added _ _ _ _ _ _ _ _
+      reads = read_added _ _ _ _ _ _ _
           (subst (λ (j : ℕ). Adds (seen c.args.cells.now.items) (seen c.answer.new.cells.items) c.in_ok-c.c (record { op = Answer j; ins = c.deref-3.result.now; width = c.args.width; from = 0 })) site c.in_ok-c.ensures.adds)
           (c.deref-3.ensures.value ∙ c.in_ok-ins.ensures ∙ ap (λ (xs : List ℕ). xs ++ c.deref-2.result.now ++ c.args.here.pending ∷ []) c.deref.ensures
           ∙ ap (λ (xs : List ℕ). c.args.pointer.now.key.items ++ xs ++ c.args.here.pending ∷ []) (c.deref-2.ensures.value ∙ c.in_ok-push.ensures.items ∙ ap (λ (xs : List ℕ). xs ++ c.args.pointer.now.found ∷ []) c.in_ok-all.ensures.items));

@@ -1,13 +1,12 @@
-use Rattle.std.proofs.Common.{◌≡◌, ◌∙◌, ◌*◌, ◌≤◌, ◌++◌, ◌∷◌, [], ℕ, ℤ, pos, ◌+ℤ◌, List, length, slice_index, arith, refl, sym, ap, subst, to_z-of_z}
+use Rattle.std.proofs.Common.{◌∙◌, ◌*◌, ◌++◌, ◌∷◌, [], ℕ, ℤ, pos, ◌+ℤ◌, length, arith, refl, sym, ap, subst, to_z-of_z}
 use Rattle.std.specs.Int.{w16}
 use Rattle.bpf_isa.specs.Rules.{IsSized}
 use Rattle.kind_core.specs.Kinds.{value_bytes}
 use Rattle.xdp_machine.specs.Memory.{bytes_in, aligned}
-use Rattle.cell_core.specs.Sites.{SiteView}
 use Rattle.cell_core.specs.declared.site.Act.TheVariants as act
 use Rattle.operator_cells.specs.Making.{seen}
 use Rattle.operator_cells.proofs.MakingLaws.{grown_none, reads_none}
-use Rattle.held_cells.specs.Held.{PointerView, IsPointer, pointed, pointer_at}
+use Rattle.held_cells.specs.Held.{PointerView, IsPointer, pointed}
 use Rattle.site_cells.specs.Sited.{sited}
 use Rattle.site_cells.specs.Siting.{Accesses, access_site}
 use Rattle.site_cells.proofs.Adding.{pointed_count, pointer_seen}

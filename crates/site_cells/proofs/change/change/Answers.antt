@@ -8,7 +8,7 @@ use Rattle.site_cells.proofs.change.change.Goals as goal
 
 pub answer-requires-clause-earlier : goal.answer-requires-clause-earlier
 answer-requires-clause-earlier c =
-    inputs_there _ c.args.key.now c.args.operands.now _ c.args.here.pending (λ i d l. omega (arith, c.requires.key i d l, c.in_ok-_there.ensures.grows.longer)) (λ i d l. omega (arith, c.requires.operands i d l, c.in_ok-_there.ensures.grows.longer))
+    inputs_there _ c.args.key.now c.args.looked.now _ c.args.here.pending (λ i d l. omega (arith, c.requires.key i d l, c.in_ok-_there.ensures.grows.longer)) (λ i d l. omega (arith, c.requires.looked i d l, c.in_ok-_there.ensures.grows.longer))
     (omega (arith, c.requires.pending, c.in_ok-_there.ensures.grows.longer)) (c.deref-2.ensures.value ∙ c.in_ok-ins.ensures)
 
 pub returns : goal.returns
@@ -18,10 +18,10 @@ returns c =
       grows = subst (λ (j : ℕ). GrowsWith (λ k s. s ≡ j) (seen c.args.cells.now.items) (seen c.answer.new.cells.items)) site
           (grown_with _ _ _ _ c.in_ok-_there.ensures.grows c.in_ok-c.ensures.grows);
       found = c.in_ok-_there._there;
-      finds = read_later _ _ _ _ _ _ _ _ c.in_ok-c.ensures.grows (read_added _ _ _ _ _ _ _ _
+      finds = read_later _ _ _ _ _ _ _ c.in_ok-c.ensures.grows (read_added _ _ _ _ _ _ _
           (subst (λ (j : ℕ). Adds (seen c.args.cells.now.items) (seen c.found.new.cells.items) c.in_ok-_there._there (record { op = Found j; ins = c.deref.result.now; width = 1; from = 0 })) site c.in_ok-_there.ensures.adds)
           (c.deref.ensures.value ∙ c.in_ok-ins.ensures));
-      reads = read_added _ _ _ _ _ _ _ _
+      reads = read_added _ _ _ _ _ _ _
           (subst (λ (j : ℕ). Adds (seen c.found.new.cells.items) (seen c.answer.new.cells.items) c.in_ok-c.c (record { op = Answer j; ins = c.deref-2.result.now; width = 64; from = 0 })) site c.in_ok-c.ensures.adds)
           (c.deref-2.ensures.value ∙ c.in_ok-ins.ensures);
       sites_are = site_pushed _ _ _ _ c.in_ok-push.ensures.items (site_same _ _ _ _ _ _ _ _ c.in_ok-from_slice.ensures.ok c.in_ok-from_slice-2.ensures.ok);

@@ -12,5 +12,5 @@ change-requires-clause-pending c = omega (arith, c.requires.pending, c.in_ok-key
 
 pub returns : goal.returns
 returns c = λ ps is_ref taken allowed inside.
-    delete_made c.args.decls.now c.args.insn.now c.args.here is_ref taken c.args.kinds.now c.args.held.now _ _ _ ps _ _ _ _ _ _ _ _ _ c.requires.op c.requires.helper allowed c.requires.guard c.are_whole.ensures.register_cells inside
+    delete_made c.args.decls.now c.args.insn.now c.args.here is_ref taken c.args.kinds.now c.args.held.now _ _ _ ps _ _ _ _ _ _ _ _ _ _ c.requires.op c.requires.helper allowed c.requires.guard c.are_whole.ensures.register_cells inside
     refl c.key_bytes.ensures c.map_in-map.ensures c.deref.ensures refl (c.in_ok-key.ensures.holds c.args.decls.now ps c.args.here.node) c.in_ok-c.ensures

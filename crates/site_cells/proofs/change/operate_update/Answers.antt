@@ -9,6 +9,6 @@ region_words-requires-2-clause-inside c =
 
 pub returns : goal.returns
 returns c = λ ps is_ref taken allowed inside.
-    update_made c.args.decls.now c.args.insn.now c.args.here is_ref taken c.args.kinds.now c.args.held.now _ _ _ _ _ ps _ _ _ _ _ _ _ _ _ _ _ _ _ c.requires.op c.requires.helper allowed c.requires.guard c.are_whole.ensures.register_cells inside
+    update_made c.args.decls.now c.args.insn.now c.args.here is_ref taken c.args.kinds.now c.args.held.now _ _ _ _ _ ps _ _ _ _ _ _ _ _ _ _ _ _ _ _ c.requires.op c.requires.helper allowed c.requires.guard c.are_whole.ensures.register_cells inside
     refl refl c.key_bytes.ensures c.value_bytes.ensures c.map_in-map.ensures c.deref-2.ensures (c.deref-3.ensures.value ∙ c.in_ok-operands.ensures ∙ ap (λ (xs : List ℕ). c.in_ok-flags.flags ∷ xs) c.deref.ensures)
     (c.in_ok-key.ensures.holds c.args.decls.now ps c.args.here.node) (c.in_ok-value.ensures.holds c.args.decls.now ps c.args.here.node) c.in_ok-flags.ensures.number c.in_ok-c.ensures
