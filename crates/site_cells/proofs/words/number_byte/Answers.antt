@@ -8,8 +8,8 @@ use Rattle.site_cells.proofs.words.number_byte.Goals as goal
 
 pub returns-in_ok-c-in-Known : goal.returns-in_ok-c-in-Known
 returns-in_ok-c-in-Known c = subst (λ (x : Number). Makes (seen c.args.cells.now.items) (seen c.constant.new.cells.items) c.in_ok-c-in-Known.c (λ packet v. slice_index (little_bytes 8 (number_of v x c.args.held)) c.args.at)) (sym c.in-Known.is)
-    (byte_known _ _ _ _ _ _ c.requires.inside refl c.in_ok-c-in-Known.ensures)
+    (byte_known _ _ _ _ _ _ c.requires.inside refl c.in_ok-c-in-Known.ensures.makes)
 
 pub returns-in_ok-c-in-Unknown : goal.returns-in_ok-c-in-Unknown
 returns-in_ok-c-in-Unknown c = subst (λ (x : Number). Makes (seen c.args.cells.now.items) (seen c.slice.new.cells.items) c.in_ok-c-in-Unknown.c (λ packet v. slice_index (little_bytes 8 (number_of v x c.args.held)) c.args.at)) (sym c.in-Unknown.is)
-    (byte_unknown _ _ _ _ _ c.requires.inside c.in_ok-c-in-Unknown.ensures)
+    (byte_unknown _ _ _ _ _ c.requires.inside c.in_ok-c-in-Unknown.ensures.makes)
