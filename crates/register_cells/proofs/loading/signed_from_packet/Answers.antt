@@ -11,7 +11,7 @@ returns-in_ok-c-in-Some c = λ decls ps node.
     let e = rw (to_z-of_z c.ranges.offset) at c.in-Some.ensures.value in
     signed_gives decls ps node c.args.kinds.now c.args.held.now _ _ _ (Packet c.args.o) c.args.offset c.args.size (λ m. is.Packet (pos c.args.o)) c.in_ok-p-in-Some.p c.in_ok-c-in-Some.c refl
     (packet_gives decls ps node c.args.kinds.now c.args.held.now _ _ c.args.o c.args.offset c.args.size c.in-Some.at c.in_ok-p-in-Some.p _ c.are_whole.ensures.window
-    (sym e) c.in-Some.ensures.within (ap (λ (k : ℕ). slice_range c.args.held.now.window c.in-Some.at (c.in-Some.at + k)) c.bytes_in.ensures.value) c.in_ok-p-in-Some.ensures)
+    (sym e) c.in-Some.ensures.within (ap (λ (k : ℕ). slice_range c.args.held.now.window c.in-Some.at (c.in-Some.at + k)) c.bytes_in.ensures.value) c.in_ok-p-in-Some.ensures.makes)
     (λ n f. subst (Extends _ _ c.args.size c.in_ok-p-in-Some.p c.in_ok-c-in-Some.c) (sym (packet_unknown decls c.args.kinds.now c.args.o c.args.offset c.args.size n f)) (c.in_ok-c-in-Some.ensures Unknown refl))
 
 pub returns-in-None : goal.returns-in-None
