@@ -11,7 +11,7 @@ use Rattle.ehdl_top.specs.Status.{ended, status_of}
 use Rattle.ehdl_top.specs.States.{ShelfState, SinkState, Changes, OneRose}
 use Rattle.ehdl_top.specs.Inputs.{AreReady, FirstStop, OneUnread, EndsAtInput, names_in}
 use Rattle.ehdl_top.specs.Writes.{Outputs}
-use Rattle.ehdl_top.specs.Requests.{inputs_of, outputs_of, IsOutcome, EndsItself, PutsLines, OneUnwritten, IsFault, CanEnd, IsCause}
+use Rattle.ehdl_top.specs.Requests.{inputs_of, IsOutcome, EndsItself, PutsLines, OneUnwritten, IsFault, CanEnd, IsCause}
 use Rattle.ehdl_top.specs.Ends.{EndsAs, Loses, AllWritten, ByInputs, IsEarly, SaysWhy}
 use Rattle.ehdl_top.specs.Steps.{FailsWrite, WritesAll, StopsBy, Unread, OutOfMemory, AtInput, Unwritten, AtEnd, EndsIn, EndsBy, IsFixed}
 use Rattle.ehdl_top.proofs.StateLemmas.{same_held}

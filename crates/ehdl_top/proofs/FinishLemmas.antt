@@ -1,8 +1,8 @@
 -- What is known of a command whose lines, or the line that says why, were put.
-use Rattle.std.proofs.Common.{◌≡◌, ◌≢◌, ◌⊎◌, ℕ, ◌<◌, IsTrue, List, [], Option, Some, None, Result, Ok, Err, IfOk, IfErr, IsErrOf, refl, ◌∙◌, ap, sym, subst, inl, inr, arith}
+use Rattle.std.proofs.Common.{◌≡◌, ◌≢◌, ◌⊎◌, ℕ, IsTrue, List, [], None, Result, Ok, Err, IfOk, IfErr, IsErrOf, refl, ◌∙◌, ap, sym, subst, inl, inr, arith}
 use Rattle.std.specs.declared.vec.Vec.{Vec}
 use Rattle.std.specs.declared.alloc.Global.{Global}
-use Rattle.shelf_core.specs.Shelf.{Rose, Holding, SameHeld}
+use Rattle.shelf_core.specs.Shelf.{SameHeld}
 use Rattle.shelf_core.proofs.PrefixLaws.{rose_within}
 use Rattle.command_line.specs.Request.{Request, AskReport}
 use Rattle.command_line.specs.AsksFor.{AsksFor}
@@ -13,7 +13,7 @@ use Rattle.ehdl_top.specs.declared.error.CommandError.TheVariants as error
 use Rattle.ehdl_top.specs.Status.{status_of}
 use Rattle.ehdl_top.specs.States.{ShelfState, SinkState}
 use Rattle.ehdl_top.specs.Requests.{PutsLines, AreLines, IsCause}
-use Rattle.ehdl_top.specs.Ends.{ByInputs, IsEarly, SaysWhy, AreLinesOf, ArePut, AreCutOff, SaysLast}
+use Rattle.ehdl_top.specs.Ends.{ByInputs, IsEarly, SaysWhy, AreLinesOf, ArePut, SaysLast}
 use Rattle.ehdl_top.specs.Steps.{EndsIn, IsFinished}
 use Rattle.ehdl_top.proofs.CauseLemmas.{Ended, Whole, AtPut, stop_ended, stops_cause, no_inputs, reported, usage_only}
 
