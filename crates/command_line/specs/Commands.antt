@@ -37,8 +37,15 @@ ref_form = record {
   optional = codes "maps" ∷ run_form.optional;
 }
 
+abbrev pub report_form : CommandForm
+report_form = record {
+  name = codes "report";
+  required = codes "object" ∷ [];
+  optional = codes "program" ∷ codes "hash-cap" ∷ [];
+}
+
 abbrev pub commands : List CommandForm
-commands = compile_form ∷ run_form ∷ sim_form ∷ ref_form ∷ []
+commands = compile_form ∷ run_form ∷ sim_form ∷ ref_form ∷ report_form ∷ []
 
 -- the option `--NAME`
 abbrev pub option_rule : Bool → List ℕ → Rule

@@ -1,7 +1,7 @@
 -- What a command with its values asks for.
 use Rattle.std.specs.Prelude.{◌≡◌, ◌≢◌, ◌⊎◌, ℕ, ◌≤◌, List, ◌∷◌, Option, Some, None, codes, decimal, AllPairs}
 use Rattle.xdp_object.specs.Choice.{Chosen}
-use Rattle.command_line.specs.Request.{Names, Request, AskCompile, AskRun, AskSim, AskRef, files_of}
+use Rattle.command_line.specs.Request.{Names, Request, AskCompile, AskRun, AskSim, AskRef, AskReport, files_of}
 
 -- the value of each option that is there, by the option's name
 abbrev pub Values : Type 0
@@ -71,9 +71,15 @@ pub record MeansRef (command : List ℕ) (values : Values) (names : Names) (sele
   pub called : command ≡ codes "ref"
   pub gives_run : GivesRun values names selected ifindex
 
+pub record MeansReport (command : List ℕ) (values : Values) (object : List ℕ) (selected : Chosen) : Type 0 where
+  pub called : command ≡ codes "report"
+  pub gives_object : values (codes "object") ≡ Some object
+  pub gives_selected : GivesChosen values selected
+
 -- A command with these values of its options asks for this. Numbers are in their ranges, and no two files have one name.
 abbrev pub Means : List ℕ → Values → Request → Type 0
 Means command values (AskCompile object verilog selected) = MeansCompile command values object verilog selected
 Means command values (AskRun names verilog selected ifindex) = MeansRun command values names verilog selected ifindex
 Means command values (AskSim names verilog selected ifindex clocks) = MeansSim command values names verilog selected ifindex clocks
 Means command values (AskRef names selected ifindex) = MeansRef command values names selected ifindex
+Means command values (AskReport object selected) = MeansReport command values object selected

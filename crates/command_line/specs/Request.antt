@@ -16,13 +16,14 @@ pub record Names : Type 0 where
   pub maps : Option (List ℕ)
 
 -- to compile an object to a Verilog text; to do this and run the text over a capture; to run a Verilog text that is there for at
--- most so many clocks; to run the object's program over a capture. The text's name stands behind those of the other files, the
--- number behind `Chosen` is that of the interface that packets come in by, the last one the clocks
+-- most so many clocks; to run the object's program over a capture; to say what a pipeline for it has to hold. The text's name stands
+-- behind those of the other files, the number behind `Chosen` is that of the interface that packets come in by, the last one the clocks
 pub data Request : Type 0 where
   AskCompile : List ℕ → List ℕ → Chosen → Request
   AskRun : Names → List ℕ → Chosen → ℕ → Request
   AskSim : Names → List ℕ → Chosen → ℕ → ℕ → Request
   AskRef : Names → Chosen → ℕ → Request
+  AskReport : List ℕ → Chosen → Request
 
 abbrev pub names_of : Files → Names
 names_of files = record {
@@ -39,6 +40,7 @@ request_of (command.Compile object verilog choice) = AskCompile object.now veril
 request_of (command.Run files verilog choice ifindex) = AskRun (names_of files) verilog.now (chosen_of choice) ifindex
 request_of (command.Sim files verilog choice ifindex clocks) = AskSim (names_of files) verilog.now (chosen_of choice) ifindex clocks
 request_of (command.Ref files choice ifindex) = AskRef (names_of files) (chosen_of choice) ifindex
+request_of (command.Report object choice) = AskReport object.now (chosen_of choice)
 
 -- a file that is named or not
 abbrev pub file_in : Option (List ℕ) → List (List ℕ)

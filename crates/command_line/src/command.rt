@@ -48,4 +48,9 @@ pub enum Command<'a> {
         /// The interface that the packets come in by.
         ifindex: u32,
     },
+    /// To say what a pipeline for the object's program has to hold.
+    Report {
+        object: &'a str,
+        choice: Choice<'a>,
+    },
 }

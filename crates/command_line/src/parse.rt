@@ -19,7 +19,7 @@ struct CommandRow {
     optional: &'static [&'static str],
 }
 
-const COMMANDS: [CommandRow; 4] = [
+const COMMANDS: [CommandRow; 5] = [
     CommandRow {
         name: "compile",
         required: &["object", "verilog"],
@@ -43,6 +43,11 @@ const COMMANDS: [CommandRow; 4] = [
         name: "ref",
         required: &["object", "capture", "answer", "verdicts", "final"],
         optional: &["maps", "program", "hash-cap", "ifindex"],
+    },
+    CommandRow {
+        name: "report",
+        required: &["object"],
+        optional: &["program", "hash-cap"],
     },
 ];
 

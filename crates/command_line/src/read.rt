@@ -22,8 +22,9 @@ const CLOCK_LIMIT: u32 = 500_000_000;
 /// - `run --object A --capture C --verilog D --answer E --verdicts F --final G`
 /// - `sim`, as `run`, and `--clocks N`, at most 500,000,000
 /// - `ref`, as `run` without `--verilog`
+/// - `report --object A`
 ///
-/// Each may have `--program NAME` and `--hash-cap N`, 1 to 1,024 and without it 256; all but `compile` may have `--ifindex N`, at most
+/// Each may have `--program NAME` and `--hash-cap N`, 1 to 1,024 and without it 256; `run`, `sim` and `ref` may have `--ifindex N`, at most
 /// 4,294,967,295 and without it 1; `sim` and `ref` may have `--maps B`. A number stands in decimal without a needless zero in front, and no two file names of a command
 /// are equal. All else is [`WordsError::Usage`], a request for help too.
 pub fn read_words<'a>(alloc: Global, words: &'a Words) -> Result<Command<'a>, WordsError>
@@ -72,6 +73,9 @@ fn read_command<'a>(name: &str, matches: &ArgMatches<'a>) -> Option<Command<'a>>
     }
     if name == "ref" {
         return read_ref(name, matches);
+    }
+    if name == "report" {
+        return read_report(name, matches);
     }
     None
 }
@@ -143,4 +147,14 @@ fn read_ref<'a>(name: &str, matches: &ArgMatches<'a>) -> Option<Command<'a>>
         choice,
         ifindex,
     })
+}
+
+fn read_report<'a>(name: &str, matches: &ArgMatches<'a>) -> Option<Command<'a>>
+    requires { name.now ≡ codes "report" }
+    ensures some { IfSome result (λ command. Means name.now (values_from matches.now) (request_of command)) }
+    ensures none { IfNone result ((request : Request) → ¬ Means name.now (values_from matches.now) request) }
+{
+    let object = required(matches, "object")?;
+    let choice = read_choice(matches)?;
+    Some(Command::Report { object, choice })
 }

@@ -1,8 +1,8 @@
 -- What is known of a command that has ended, by the status that is reported.
-use Rattle.std.proofs.Common.{◌≡◌, ◌≢◌, ◌⊎◌, IsTrue, [], Option, Some, None, Result, Ok, Err, OnOk, OnErr, IfErr, refl, ◌∙◌, ap, sym, subst, inl, inr}
-use Rattle.shelf_core.specs.Shelf.{SameHeld}
+use Rattle.std.proofs.Common.{false, ◌≡◌, ◌≢◌, ◌⊎◌, IsTrue, [], Option, Some, None, Result, Ok, Err, OnOk, OnErr, IfErr, refl, ◌∙◌, ap, sym, subst, inl, inr}
+use Rattle.shelf_core.specs.Shelf.{Rose, SameHeld}
 use Rattle.maps_text.specs.Laws.{HasOneMeaning}
-use Rattle.command_line.specs.Request.{Request, AskCompile, AskRun, AskSim, AskRef}
+use Rattle.command_line.specs.Request.{Request, AskCompile, AskRun, AskSim, AskRef, AskReport}
 use Rattle.ehdl_top.specs.declared.status.Status.{Status}
 use Rattle.ehdl_top.specs.declared.status.Status.TheVariants as status
 use Rattle.ehdl_top.specs.declared.error.CommandError.{CommandError}
@@ -11,7 +11,7 @@ use Rattle.ehdl_top.specs.Status.{ended, status_of}
 use Rattle.ehdl_top.specs.States.{ShelfState, SinkState, Changes, OneRose}
 use Rattle.ehdl_top.specs.Inputs.{AreReady, FirstStop, OneUnread, EndsAtInput, names_in}
 use Rattle.ehdl_top.specs.Writes.{Outputs}
-use Rattle.ehdl_top.specs.Requests.{inputs_of, outputs_of, IsOutcome, EndsItself, IsFault, CanEnd, IsCause}
+use Rattle.ehdl_top.specs.Requests.{inputs_of, IsOutcome, EndsItself, PutsLines, OneUnwritten, IsFault, CanEnd, IsCause}
 use Rattle.ehdl_top.specs.Ends.{EndsAs, Loses, AllWritten, ByInputs, IsEarly, SaysWhy}
 use Rattle.ehdl_top.specs.Steps.{FailsWrite, WritesAll, StopsBy, Unread, OutOfMemory, AtInput, Unwritten, AtEnd, EndsIn, EndsBy, IsFixed}
 use Rattle.ehdl_top.proofs.StateLemmas.{same_held}
@@ -20,41 +20,36 @@ use Rattle.ehdl_top.proofs.FormLemmas.{inputs_sound}
 use Rattle.ehdl_top.proofs.OutcomeLemmas.{outcome_ready, ends_one}
 
 -- A command has ended with this status: a read failed; memory ran out, and nothing was written; an input is not in its form; a write
--- failed; all was written; all was written, and memory ran out behind it.
-pub data Ended (request : Request) (old new : ShelfState) (result : Status) : Type 0 where
-  AtRead : result ≡ status.ReadFault → OneUnread (inputs_of request old.held) old new → Changes [] old new → Ended request old new result
-  Out : result ≡ status.NoMemory → Changes [] old new → Ended request old new result
-  NotReady : (e : CommandError) → result ≡ status_of e → EndsAtInput (inputs_of request old.held) (status_of e) → (IsTrue old.tells → FirstStop (inputs_of request old.held) old.held e) → Changes [] old new → Ended request old new result
-  AtWrite : result ≡ status.WriteFault → FailsWrite request old new → Ended request old new result
-  Whole : (end : Option CommandError) → result ≡ ended end → WritesAll request end old new → Ended request old new result
-  WholeOut : (end : Option CommandError) → result ≡ status.NoMemory → WritesAll request end old new → Ended request old new result
+-- failed; all was written; all was written, and memory ran out behind it; all was written, and a put of the command's lines failed.
+pub data Ended (request : Request) (old new : ShelfState) (before after : SinkState) (result : Status) : Type 0 where
+  AtRead : result ≡ status.ReadFault → OneUnread (inputs_of request old.held) old new → Changes [] old new → Ended request old new before after result
+  Out : result ≡ status.NoMemory → Changes [] old new → Ended request old new before after result
+  NotReady : (e : CommandError) → result ≡ status_of e → EndsAtInput (inputs_of request old.held) (status_of e) → (IsTrue old.tells → FirstStop (inputs_of request old.held) old.held e) → Changes [] old new → Ended request old new before after result
+  AtWrite : result ≡ status.WriteFault → FailsWrite request old new → Ended request old new before after result
+  Whole : (end : Option CommandError) → result ≡ ended end → WritesAll request end old new → Ended request old new before after result
+  WholeOut : (end : Option CommandError) → result ≡ status.NoMemory → WritesAll request end old new → Ended request old new before after result
+  AtPut : result ≡ status.WriteFault → PutsLines request → Rose before.faults after.faults → WritesAll request None old new → Ended request old new before after result
 
 -- ---- from the end to the status that is reported
-pub done_ended : (request : Request) (old new : ShelfState) (r : Result (Unit {0}) CommandError) (u : Unit {0}) → r ≡ Ok u → EndsIn request old new r → Ended request old new status.Done
-done_ended request old new r u e ends = let P : Result (Unit {0}) CommandError → Type 0 = EndsBy request old new in let w : WritesAll request None old new = subst P e ends.by in Whole None refl w
-
-pub stops_of : (request : Request) (old new : ShelfState) (r : Result (Unit {0}) CommandError) (e : CommandError) → r ≡ Err e → EndsIn request old new r → StopsBy request old new e
-stops_of request old new r e is ends = let P : Result (Unit {0}) CommandError → Type 0 = EndsBy request old new in subst P is ends.by
+pub stops_of : {T : Type 0} (request : Request) (old new : ShelfState) (r : Result T CommandError) (e : CommandError) → r ≡ Err e → EndsIn request old new r → StopsBy request old new e
+stops_of {T} request old new r e is ends = let P : Result T CommandError → Type 0 = EndsBy request old new in subst P is ends.by
 
 fixed_as : (e f : CommandError) → e ≡ f → IsFixed f → IsFixed e
 fixed_as e f is fixed = let P : CommandError → Type 0 = IsFixed in subst P (sym is) fixed
 
-stop_ended : (request : Request) (old new : ShelfState) (e : CommandError) (result : Status) → StopsBy request old new e → (result ≡ status_of e) ⊎ (result ≡ status.NoMemory) → (IsFixed e → result ≡ status_of e) → Ended request old new result
-stop_ended request old new e result (Unread is u same) reported fixed = AtRead (fixed (fixed_as e error.ReadFault is tt) ∙ ap status_of is) u same
-stop_ended request old new e result (OutOfMemory is same) (inl r) fixed = Out (r ∙ ap status_of is) same
-stop_ended request old new e result (OutOfMemory is same) (inr r) fixed = Out r same
-stop_ended request old new e result (AtInput ends first same) (inl r) fixed = NotReady e r ends first same
-stop_ended request old new e result (AtInput ends first same) (inr r) fixed = Out r same
-stop_ended request old new e result (Unwritten is f) reported fixed = AtWrite (fixed (fixed_as e error.WriteFault is tt) ∙ ap status_of is) f
-stop_ended request old new e result (AtEnd w) (inl r) fixed = Whole (Some e) r w
-stop_ended request old new e result (AtEnd w) (inr r) fixed = WholeOut (Some e) r w
+pub stop_ended : (request : Request) (old new : ShelfState) (before after : SinkState) (e : CommandError) (result : Status) → StopsBy request old new e → (result ≡ status_of e) ⊎ (result ≡ status.NoMemory) → (IsFixed e → result ≡ status_of e) → Ended request old new before after result
+stop_ended request old new before after e result (Unread is u same) reported fixed = AtRead (fixed (fixed_as e error.ReadFault is tt) ∙ ap status_of is) u same
+stop_ended request old new before after e result (OutOfMemory is same) (inl r) fixed = Out (r ∙ ap status_of is) same
+stop_ended request old new before after e result (OutOfMemory is same) (inr r) fixed = Out r same
+stop_ended request old new before after e result (AtInput ends first same) (inl r) fixed = NotReady e r ends first same
+stop_ended request old new before after e result (AtInput ends first same) (inr r) fixed = Out r same
+stop_ended request old new before after e result (Unwritten is f) reported fixed = AtWrite (fixed (fixed_as e error.WriteFault is tt) ∙ ap status_of is) f
+stop_ended request old new before after e result (AtEnd w) (inl r) fixed = Whole (Some e) r w
+stop_ended request old new before after e result (AtEnd w) (inr r) fixed = WholeOut (Some e) r w
 
 pub reported : (e : CommandError) (result : Status) (old new : SinkState) → SaysWhy e result old new ⊎ SaysWhy error.NoMemory result old new → (result ≡ status_of e) ⊎ (result ≡ status.NoMemory)
 reported e result old new (inl w) = inl w.status
 reported e result old new (inr w) = inr w.status
-
-pub report_ended : (request : Request) (old new : ShelfState) (r : Result (Unit {0}) CommandError) (e : CommandError) (result : Status) (before after : SinkState) → r ≡ Err e → EndsIn request old new r → SaysWhy e result before after ⊎ SaysWhy error.NoMemory result before after → (IsFixed e → result ≡ status_of e) → Ended request old new result
-report_ended request old new r e result before after is ends why fixed = stop_ended request old new e result (stops_of request old new r e is ends) (reported e result before after why) fixed
 
 -- ---- kinds of statuses
 as_status : (P : Status → Type 0) (s t : Status) → s ≡ t → P s → P t
@@ -64,6 +59,7 @@ itself_written : (request : Request) (s : Status) → EndsItself request s → A
 itself_written (AskCompile object verilog chosen) s e = as_status AllWritten status.Done s (sym e) tt
 itself_written (AskRun names verilog chosen ifindex) s e = as_status AllWritten status.Done s (sym e) tt
 itself_written (AskRef names chosen ifindex) s e = as_status AllWritten status.Done s (sym e) tt
+itself_written (AskReport object chosen) s e = as_status AllWritten status.Done s (sym e) tt
 itself_written (AskSim names verilog chosen ifindex clocks) s (inl e) = as_status AllWritten status.Done s (sym e) tt
 itself_written (AskSim names verilog chosen ifindex clocks) s (inr (inl e)) = as_status AllWritten status.XValue s (sym e) tt
 itself_written (AskSim names verilog chosen ifindex clocks) s (inr (inr e)) = as_status AllWritten status.Late s (sym e) tt
@@ -93,7 +89,7 @@ loses_written request old new status.Late w = tt
 loses_written request old new s w = absurd w
 
 -- ---- one command that has ended
-module _ (request : Request) (old new : ShelfState) (result : Status) where
+module _ (request : Request) (old new : ShelfState) (before after : SinkState) (result : Status) where
   -- an input that is not in its form is no end of another kind
   at_input : (e : CommandError) → result ≡ status_of e → EndsAtInput (inputs_of request old.held) (status_of e) → IsInputStatus result
   at_input e r ends = as_status IsInputStatus (status_of e) result (sym r) (ends_input (inputs_of request old.held) (status_of e) (inputs_sound request old.held) ends)
@@ -104,78 +100,87 @@ module _ (request : Request) (old new : ShelfState) (result : Status) where
   outcome_stops : (end : Option CommandError) (outputs : Outputs) (e : CommandError) → IsOutcome request old.held end outputs → ¬ FirstStop (inputs_of request old.held) old.held e
   outcome_stops end outputs e o = ready_stops (inputs_of request old.held) old.held e (inputs_sound request old.held) (outcome_ready request old.held end outputs o)
 
-  pub ended_outcome : Ended request old new result → AllWritten result → IsTrue old.tells → EndsAs request result old new
+  pub ended_outcome : Ended request old new before after result → AllWritten result → IsTrue old.tells → EndsAs request result old new
   ended_outcome (AtRead r u same) all told = absurd (as_status AllWritten result status.ReadFault r all)
   ended_outcome (Out r same) all told = absurd (as_status AllWritten result status.NoMemory r all)
   ended_outcome (NotReady e r ends first same) all told = absurd (input_unwritten result (at_input e r ends) all)
   ended_outcome (AtWrite r f) all told = absurd (as_status AllWritten result status.WriteFault r all)
   ended_outcome (Whole end r w) all told = record { end = end; status = r; has = w.has told }
   ended_outcome (WholeOut end r w) all told = absurd (as_status AllWritten result status.NoMemory r all)
+  ended_outcome (AtPut r puts rose w) all told = absurd (as_status AllWritten result status.WriteFault r all)
 
-  pub ended_complete : Ended request old new result → IsTrue old.tells → AreReady (inputs_of request old.held) old.held → ¬ OneRose (names_in (inputs_of request old.held)) old.read_faults new.read_faults → ¬ OneRose (outputs_of request) old.write_faults new.write_faults
+  pub ended_complete : Ended request old new before after result → IsTrue old.tells → AreReady (inputs_of request old.held) old.held → ¬ OneRose (names_in (inputs_of request old.held)) old.read_faults new.read_faults → ¬ OneUnwritten request old new before after
       → AllWritten result ⊎ (result ≡ status.NoMemory)
   ended_complete (AtRead r u same) told ready quiet calm = absurd (quiet (unread_rose (inputs_of request old.held) old new u))
   ended_complete (Out r same) told ready quiet calm = inr r
   ended_complete (NotReady e r ends first same) told ready quiet calm = absurd (ready_stops (inputs_of request old.held) old.held e (inputs_sound request old.held) ready (first told))
-  ended_complete (AtWrite r f) told ready quiet calm = absurd (calm f.rose)
+  ended_complete (AtWrite r f) told ready quiet calm = absurd (calm (inl f.rose))
   ended_complete (Whole end r w) told ready quiet calm = inl (at_end end r w)
   ended_complete (WholeOut end r w) told ready quiet calm = inr r
+  ended_complete (AtPut r puts rose w) told ready quiet calm = absurd (calm (inr (puts, rose)))
 
-  pub ended_usage : Ended request old new result → result ≢ status.Usage
+  pub ended_usage : Ended request old new before after result → result ≢ status.Usage
   ended_usage (AtRead r u same) e = let f : status.ReadFault ≡ status.Usage = sym r ∙ e in absurd cc
   ended_usage (Out r same) e = let f : status.NoMemory ≡ status.Usage = sym r ∙ e in absurd cc
   ended_usage (NotReady e' r ends first same) e = as_status IsInputStatus result status.Usage e (at_input e' r ends)
   ended_usage (AtWrite r f) e = let f' : status.WriteFault ≡ status.Usage = sym r ∙ e in absurd cc
   ended_usage (Whole end r w) e = as_status AllWritten result status.Usage e (at_end end r w)
   ended_usage (WholeOut end r w) e = let f : status.NoMemory ≡ status.Usage = sym r ∙ e in absurd cc
+  ended_usage (AtPut r puts rose w) e = let f : status.WriteFault ≡ status.Usage = sym r ∙ e in absurd cc
 
-  pub ended_read : Ended request old new result → result ≡ status.ReadFault → OneUnread (inputs_of request old.held) old new
+  pub ended_read : Ended request old new before after result → result ≡ status.ReadFault → OneUnread (inputs_of request old.held) old new
   ended_read (AtRead r u same) e = u
   ended_read (Out r same) e = let f : status.NoMemory ≡ status.ReadFault = sym r ∙ e in absurd cc
   ended_read (NotReady e' r ends first same) e = absurd (as_status IsInputStatus result status.ReadFault e (at_input e' r ends))
   ended_read (AtWrite r f) e = let f' : status.WriteFault ≡ status.ReadFault = sym r ∙ e in absurd cc
   ended_read (Whole end r w) e = absurd (as_status AllWritten result status.ReadFault e (at_end end r w))
   ended_read (WholeOut end r w) e = let f : status.NoMemory ≡ status.ReadFault = sym r ∙ e in absurd cc
+  ended_read (AtPut r puts rose w) e = let f : status.WriteFault ≡ status.ReadFault = sym r ∙ e in absurd cc
 
-  pub ended_write : Ended request old new result → result ≡ status.WriteFault → OneRose (outputs_of request) old.write_faults new.write_faults
+  pub ended_write : Ended request old new before after result → result ≡ status.WriteFault → OneUnwritten request old new before after
   ended_write (AtRead r u same) e = let f : status.ReadFault ≡ status.WriteFault = sym r ∙ e in absurd cc
   ended_write (Out r same) e = let f : status.NoMemory ≡ status.WriteFault = sym r ∙ e in absurd cc
   ended_write (NotReady e' r ends first same) e = absurd (as_status IsInputStatus result status.WriteFault e (at_input e' r ends))
-  ended_write (AtWrite r f) e = f.rose
+  ended_write (AtWrite r f) e = inl f.rose
   ended_write (Whole end r w) e = absurd (as_status AllWritten result status.WriteFault e (at_end end r w))
   ended_write (WholeOut end r w) e = let f : status.NoMemory ≡ status.WriteFault = sym r ∙ e in absurd cc
+  ended_write (AtPut r puts rose w) e = inr (puts, rose)
 
-  pub ended_can : Ended request old new result → CanEnd request old.held result
+  pub ended_can : Ended request old new before after result → CanEnd request old.held result
   ended_can (AtRead r u same) = inr (inr (as_status IsFault status.ReadFault result (sym r) tt))
   ended_can (Out r same) = inr (inr (as_status IsFault status.NoMemory result (sym r) tt))
   ended_can (NotReady e' r ends first same) = inl (as_status (EndsAtInput (inputs_of request old.held)) (status_of e') result (sym r) ends)
   ended_can (AtWrite r f) = inr (inr (as_status IsFault status.WriteFault result (sym r) tt))
   ended_can (Whole end r w) = inr (inl (as_status (EndsItself request) (ended end) result (sym r) w.can))
   ended_can (WholeOut end r w) = inr (inr (as_status IsFault status.NoMemory result (sym r) tt))
+  ended_can (AtPut r puts rose w) = inr (inr (as_status IsFault status.WriteFault result (sym r) tt))
 
-  pub ended_inputs : Ended request old new result → IsTrue old.tells → (e : CommandError) → FirstStop (inputs_of request old.held) old.held e → (result ≡ status_of e) ⊎ ((result ≡ status.ReadFault) ⊎ (result ≡ status.NoMemory))
+  pub ended_inputs : Ended request old new before after result → IsTrue old.tells → (e : CommandError) → FirstStop (inputs_of request old.held) old.held e → (result ≡ status_of e) ⊎ ((result ≡ status.ReadFault) ⊎ (result ≡ status.NoMemory))
   ended_inputs (AtRead r u same) told e stop = inr (inl r)
   ended_inputs (Out r same) told e stop = inr (inr r)
   ended_inputs (NotReady e' r ends first same) told e stop = inl (r ∙ one_stop (inputs_of request old.held) old.held e' e (inputs_sound request old.held) (first told) stop)
   ended_inputs (AtWrite r f) told e stop = let b = f.broken told in absurd (outcome_stops b.end b.outputs e b.outcome stop)
   ended_inputs (Whole end r w) told e stop = let h = w.has told in absurd (outcome_stops end h.outputs e h.outcome stop)
   ended_inputs (WholeOut end r w) told e stop = inr (inr r)
+  ended_inputs (AtPut r puts rose w) told e stop = let h = w.has told in absurd (outcome_stops None h.outputs e h.outcome stop)
 
-  pub ended_driven : HasOneMeaning → Ended request old new result → IsTrue old.tells → (e : CommandError) (outputs : Outputs) → IsOutcome request old.held (Some e) outputs → (result ≡ status_of e) ⊎ IsFault result
+  pub ended_driven : HasOneMeaning → Ended request old new before after result → IsTrue old.tells → (e : CommandError) (outputs : Outputs) → IsOutcome request old.held (Some e) outputs → (result ≡ status_of e) ⊎ IsFault result
   ended_driven one (AtRead r u same) told e outputs o = inr (as_status IsFault status.ReadFault result (sym r) tt)
   ended_driven one (Out r same) told e outputs o = inr (as_status IsFault status.NoMemory result (sym r) tt)
   ended_driven one (NotReady e' r ends first same) told e outputs o = absurd (outcome_stops (Some e) outputs e' o (first told))
   ended_driven one (AtWrite r f) told e outputs o = inr (as_status IsFault status.WriteFault result (sym r) tt)
   ended_driven one (Whole end r w) told e outputs o = let h = w.has told in inl (r ∙ ap ended (ends_one request old.held end (Some e) h.outputs outputs one h.outcome o))
   ended_driven one (WholeOut end r w) told e outputs o = inr (as_status IsFault status.NoMemory result (sym r) tt)
+  ended_driven one (AtPut r puts rose w) told e outputs o = inr (as_status IsFault status.WriteFault result (sym r) tt)
 
-  pub ended_loses : Ended request old new result → IsTrue old.tells → Loses result request old new
+  pub ended_loses : Ended request old new before after result → IsTrue old.tells → Loses result request old new
   ended_loses (AtRead r u same) told = as_status (λ s. Loses s request old new) status.ReadFault result (sym r) tt
   ended_loses (Out r same) told = as_status (λ s. Loses s request old new) status.NoMemory result (sym r) (inl same)
   ended_loses (NotReady e r ends first same) told = loses_input request old new result (at_input e r ends)
-  ended_loses (AtWrite r f) told = as_status (λ s. Loses s request old new) status.WriteFault result (sym r) (f.broken told)
+  ended_loses (AtWrite r f) told = as_status (λ s. Loses s request old new) status.WriteFault result (sym r) (inl (f.broken told))
   ended_loses (Whole end r w) told = loses_written request old new result (at_end end r w)
   ended_loses (WholeOut end r w) told = as_status (λ s. Loses s request old new) status.NoMemory result (sym r) (inr (end, w.has told))
+  ended_loses (AtPut r puts rose w) told = as_status (λ s. Loses s request old new) status.WriteFault result (sym r) (inr (puts, w.has told))
 
 -- ---- the line that says why
 by_as : (e f : CommandError) → e ≡ f → ByInputs (status_of e) → ByInputs (status_of f)
@@ -199,26 +204,17 @@ put_line (Err e) a b rose c = inr (rose, b c)
 -- ---- usage
 -- a command that is asked for does not end so
 pub never_usage : (request : Request) (old new : ShelfState) → ¬ StopsBy request old new error.Usage
-never_usage request old new stops = ended_usage request old new status.Usage (stop_ended request old new error.Usage status.Usage stops (inl refl) (λ fixed. refl)) refl
+never_usage request old new stops = ended_usage request old new none none status.Usage (stop_ended request old new none none error.Usage status.Usage stops (inl refl) (λ fixed. refl)) refl
+  where
+    none : SinkState
+    none = record { tells = false; taken = None; faults = 0 }
 
 pub usage_only : (e : CommandError) (result : Status) → (result ≡ status_of e) ⊎ (result ≡ status.NoMemory) → result ≡ status.Usage → e ≡ error.Usage
 usage_only e result (inl r) u = usage_error e (sym r ∙ u)
   where
     usage_error : (e : CommandError) → status_of e ≡ status.Usage → e ≡ error.Usage
     usage_error error.Usage u = refl
-    usage_error (error.Object fault) u = absurd cc
-    usage_error (error.Refused r) u = absurd cc
-    usage_error error.LongVerilog u = absurd cc
-    usage_error (error.Verilog fault) u = absurd cc
-    usage_error error.LongMaps u = absurd cc
-    usage_error (error.Maps fault) u = absurd cc
-    usage_error error.LongCapture u = absurd cc
-    usage_error (error.Capture fault) u = absurd cc
-    usage_error error.ReadFault u = absurd cc
-    usage_error error.WriteFault u = absurd cc
-    usage_error (error.XValue net) u = absurd cc
-    usage_error (error.Late given owed) u = absurd cc
-    usage_error error.NoMemory u = absurd cc
+    usage_error e u = absurd cc
 usage_only e result (inr r) u = let f : status.NoMemory ≡ status.Usage = sym r ∙ u in absurd cc
 
 -- ---- early
@@ -233,6 +229,6 @@ stops_early request old new e (Unwritten is f) early = absurd (early_as e error.
 stops_early request old new e (AtEnd w) early = absurd (written_late (status_of e) (itself_written request (status_of e) w.can) early)
 
 -- before any output was begun all names hold what they held
-pub early_of : (request : Request) (old new : ShelfState) (r : Result (Unit {0}) CommandError) → EndsIn request old new r → IfErr r (λ e. IsEarly (status_of e) → SameHeld old.held new.held)
+pub early_of : {T : Type 0} (request : Request) (old new : ShelfState) (r : Result T CommandError) → EndsIn request old new r → IfErr r (λ e. IsEarly (status_of e) → SameHeld old.held new.held)
 early_of request old new (Ok u) ends = tt
 early_of request old new (Err e) ends = stops_early request old new e ends.by

@@ -1,5 +1,5 @@
 -- How a command ends, by the step at which it does.
-use Rattle.std.proofs.Common.{◌≡◌, ℕ, Bool, IsTrue, List, [], ◌∷◌, ◌++◌, Option, Some, None, Result, Ok, Err, IsErrAnd, refl, sym, ap, subst, inl, inr}
+use Rattle.std.proofs.Common.{◌≡◌, ℕ, Bool, IsTrue, List, [], ◌∷◌, ◌++◌, Option, Some, None, Result, Ok, Err, IsErrAnd, refl, sym, subst, inl, inr}
 use Rattle.xdp_maps.specs.declared.decl.MapDecl.{MapDecl}
 use Rattle.command_line.specs.Request.{Request}
 use Rattle.ehdl_top.specs.declared.error.CommandError.{CommandError}
@@ -10,14 +10,14 @@ use Rattle.ehdl_top.specs.Writes.{Write, AreDone, OneFailed}
 use Rattle.ehdl_top.specs.Forms.{InputForm, IsReady, IsFaulty, maps_form}
 use Rattle.ehdl_top.specs.Inputs.{Input, input, may_input, AreReady, FirstStop, OneUnread, EndsAtInput}
 use Rattle.ehdl_top.specs.Requests.{inputs_of, outputs_of, EndsItself}
-use Rattle.ehdl_top.specs.Steps.{IsRead, IsUnread, AreUnread, StopsBy, Unread, AtInput, OutOfMemory, Unwritten, AtEnd, EndsIn}
+use Rattle.ehdl_top.specs.Steps.{IsRead, IsUnread, AreUnread, StopsBy, Unread, AtInput, OutOfMemory, Unwritten, AtEnd, EndsIn, AreOneEnd}
 use Rattle.ehdl_top.proofs.StateLemmas.{changes_none, changes_then, changes_within, rose_from, tells_later}
 use Rattle.ehdl_top.proofs.InputLemmas.{unread_behind, stop_behind, ends_behind}
 use Rattle.ehdl_top.proofs.WriteLemmas.{AreOf, done_changes, failed_changes}
 use Rattle.ehdl_top.proofs.OutcomeLemmas.{Makes, was_held, writes_all, fails_write}
 
 -- memory ran out before anything was read
-pub out_of_memory : (request : Request) (s : ShelfState) → EndsIn request s s (Err error.NoMemory)
+pub out_of_memory : {T : Type 0} (request : Request) (s : ShelfState) → EndsIn {T = T} request s s (Err error.NoMemory)
 out_of_memory request s = record { by = OutOfMemory refl (changes_none s); kept = changes_within (outputs_of request) s s (changes_none s) }
 
 -- ---- an input that was not read
@@ -40,13 +40,13 @@ module _ (request : Request) (old mid new : ShelfState) (e : CommandError) (kept
       (λ told. subst Q (sym are) (stop_behind before i after old.held e (ready told) (subst R (kept.others i.name tt) (stop.1 (tells_later old mid kept.later told)))))
       (changes_then [] old mid new kept same)
 
-  ends_stopped : (r : Result (Unit {0}) CommandError) → IsErrAnd r (λ f. f ≡ e) → StopsBy request old new e → EndsIn request old new r
+  ends_stopped : {T : Type 0} (r : Result T CommandError) → IsErrAnd r (λ f. f ≡ e) → StopsBy request old new e → EndsIn request old new r
   ends_stopped (Ok u) is stops = absurd is
   ends_stopped (Err f) is stops =
       let P : CommandError → Type 0 = StopsBy request old new in
       record { by = subst P (sym is) stops; kept = changes_within (outputs_of request) old new (changes_then [] old mid new kept same) }
 
-  pub ends_unread : (r : Result (Unit {0}) CommandError) (before : List Input) (i : Input) (after : List Input) → IsErrAnd r (λ f. f ≡ e) → inputs_of request old.held ≡ before ++ i ∷ after → (IsTrue old.tells → AreReady before old.held)
+  pub ends_unread : {T : Type 0} (r : Result T CommandError) (before : List Input) (i : Input) (after : List Input) → IsErrAnd r (λ f. f ≡ e) → inputs_of request old.held ≡ before ++ i ∷ after → (IsTrue old.tells → AreReady before old.held)
       → IsUnread i.form i.name mid new e → EndsIn request old new r
   ends_unread r before i after is are ready unread = ends_stopped r is (stops_unread before i after are ready unread)
 
@@ -80,7 +80,7 @@ ends_unwritten request end old mid new ws (Err e) is of same makes failed = reco
 
 -- all was written
 pub ends_done : (request : Request) (old mid new : ShelfState) (ws : List Write) → EndsItself request (ended None) → AreOf (outputs_of request) ws → Changes [] old mid
-    → (IsTrue old.tells → Makes request old.held None ws) → AreDone ws mid new → EndsIn request old new (Ok tt)
+    → (IsTrue old.tells → Makes request old.held None ws) → AreDone ws mid new → EndsIn {T = Unit {0}} request old new (Ok tt)
 ends_done request old mid new ws can of same makes done = record {
   by = writes_all request None old mid new ws can same makes done;
   kept = changes_then (outputs_of request) old mid new (changes_within (outputs_of request) old mid same) (done_changes (outputs_of request) ws mid new of done);
@@ -88,8 +88,15 @@ ends_done request old mid new ws can of same makes done = record {
 
 -- all was written, and the drive was given up
 pub ends_driven : (request : Request) (e : CommandError) (old mid new : ShelfState) (ws : List Write) → EndsItself request (ended (Some e)) → AreOf (outputs_of request) ws → Changes [] old mid
-    → (IsTrue old.tells → Makes request old.held (Some e) ws) → AreDone ws mid new → EndsIn request old new (Err e)
+    → (IsTrue old.tells → Makes request old.held (Some e) ws) → AreDone ws mid new → EndsIn {T = Unit {0}} request old new (Err e)
 ends_driven request e old mid new ws can of same makes done = record {
   by = AtEnd (writes_all request (Some e) old mid new ws can same makes done);
   kept = changes_then (outputs_of request) old mid new (changes_within (outputs_of request) old mid same) (done_changes (outputs_of request) ws mid new of done);
 }
+
+-- ---- the same end
+pub ends_as : {T U : Type 0} (request : Request) (old new : ShelfState) (r : Result T CommandError) (s : Result U CommandError) → AreOneEnd r s → EndsIn request old new r → EndsIn request old new s
+ends_as request old new (Ok x) (Ok y) same ends = record { by = ends.by; kept = ends.kept }
+ends_as request old new (Err e) (Err f) same ends = let P : CommandError → Type 0 = StopsBy request old new in record { by = subst P same ends.by; kept = ends.kept }
+ends_as request old new (Ok x) (Err f) same ends = absurd same
+ends_as request old new (Err e) (Ok y) same ends = absurd same

@@ -17,9 +17,9 @@ use Rattle.xdp_maps.specs.State.{MapState}
 use Rattle.maps_text.specs.Text.{IsMapsText}
 use Rattle.maps_text.proofs.TextLaws.{never_both}
 use Rattle.kind_core.specs.declared.why.Refusal.{Refusal}
-use Rattle.unfold_core.proofs.OneOutcomeLaws.{has_one_outcome}
+use Rattle.node_rows.proofs.OneOutcomeLaws.{has_one_outcome}
 use Rattle.shelf_core.specs.Shelf.{Holding}
-use Rattle.command_line.specs.Request.{Request, AskCompile, AskRun, AskSim, AskRef}
+use Rattle.command_line.specs.Request.{Request, AskCompile, AskRun, AskSim, AskRef, AskReport}
 use Rattle.ehdl_top.specs.declared.status.Status.{Status}
 use Rattle.ehdl_top.specs.declared.status.Status.TheVariants as status
 use Rattle.ehdl_top.specs.declared.error.CommandError.{CommandError}
@@ -176,6 +176,7 @@ inputs_sound (AskSim names verilog chosen ifindex clocks) held =
     (object_sound chosen, (text_sound, may_sound names.maps _ _ (maps_sound (held_decls chosen (held names.object))) (capture_sound, tt)))
 inputs_sound (AskRef names chosen ifindex) held =
     (program_sound chosen accepted accepted_apart, may_sound names.maps _ _ (maps_sound (held_decls chosen (held names.object))) (capture_sound, tt))
+inputs_sound (AskReport object chosen) held = (program_sound chosen accepted accepted_apart, tt)
 
 -- ---- what bytes are given up for
 module _ (choice : Chosen) (bytes : List ℕ) (fault : ObjectError) (e : CommandError) (first : fault ≢ object.NoMemory → FirstFault choice bytes fault) where

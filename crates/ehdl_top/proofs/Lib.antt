@@ -4,6 +4,7 @@ pub mod WriteLemmas
 pub mod InputLemmas
 pub mod FormLemmas
 pub mod ObjectLemmas
+pub mod ProgramLemmas
 pub mod CaptureLemmas
 pub mod DriveLemmas
 pub mod SimulationLemmas
@@ -12,5 +13,7 @@ pub mod RealizedLemmas
 pub mod OutcomeLemmas
 pub mod EndLemmas
 pub mod CauseLemmas
+pub mod PutLemmas
+pub mod FinishLemmas
 pub mod NameLemmas
 pub mod SequentialLemmas

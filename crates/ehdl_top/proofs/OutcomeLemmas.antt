@@ -17,7 +17,7 @@ use Rattle.ehdl_build.specs.declared.built.Built.{Built}
 use Rattle.ehdl_build.specs.Compiled.{size_of, code_of, packets_in, answer_of, IsSequential}
 use Rattle.xdp_object.specs.Choice.{Chosen}
 use Rattle.xdp_object.specs.Object.{IsObject}
-use Rattle.command_line.specs.Request.{Request, AskCompile, AskRun, AskSim, AskRef, Names}
+use Rattle.command_line.specs.Request.{Request, AskCompile, AskRun, AskSim, AskRef, AskReport, Names}
 use Rattle.maps_text.specs.Text.{IsMapsText}
 use Rattle.maps_text.specs.Writing.{text_of}
 use Rattle.maps_text.specs.Laws.{HasOneMeaning}
@@ -25,18 +25,21 @@ use Rattle.ehdl_top.specs.declared.limits.TheConstants.{OBJECT_LIMIT, VERILOG_LI
 use Rattle.ehdl_top.specs.declared.error.CommandError.{CommandError}
 use Rattle.ehdl_top.specs.declared.write.Write as code
 use Rattle.ehdl_top.specs.declared.sim.Simulated.{Simulated}
+use Rattle.ehdl_top.specs.declared.object.Accepted.{Accepted}
 use Rattle.ehdl_top.specs.declared.packets.Captured.{Captured}
 use Rattle.ehdl_top.specs.Status.{ended}
 use Rattle.ehdl_top.specs.States.{ShelfState, Changes}
 use Rattle.ehdl_top.specs.Forms.{Holds, ProgramRule, IsReady, IsTaken, IsTextOf, StartsFrom, IsCaptured, built, accepted, program_form, object_form, text_form, maps_form, held_decls, capture_form}
 use Rattle.ehdl_top.specs.Inputs.{input, may_input, AreReady}
 use Rattle.ehdl_top.specs.Writes.{Outputs, names_in, Write, AreDone, OneFailed}
-use Rattle.ehdl_top.specs.Results.{timed_packets, came_by, compile_outputs, result_outputs, run_outputs, sim_outputs}
+use Rattle.ehdl_top.specs.Results.{timed_packets, came_by, compile_outputs, result_outputs, run_outputs, sim_outputs, no_outputs}
 use Rattle.ehdl_top.specs.Simulation.{Simulation, simulation, final_text, given_up}
-use Rattle.ehdl_top.specs.Outcome.{IsSimulated}
+use Rattle.ehdl_top.specs.Report.{report_lines}
+use Rattle.ehdl_top.specs.Outcome.{IsSimulated, IsReported}
 use Rattle.ehdl_top.specs.Requests.{inputs_of, outputs_of, IsOutcome, EndsItself}
-use Rattle.ehdl_top.specs.Steps.{IsRead, AreRead, IsBuiltOf, IsCaptureOf, IsRunOf, IsSimOf, IsReferenceOf, AreApart, IsTextApart, FailsWrite, WritesAll, write_of, stamp_of}
+use Rattle.ehdl_top.specs.Steps.{IsRead, AreRead, IsBuiltOf, IsAcceptedBy, IsCaptureOf, IsRunOf, IsSimOf, IsReferenceOf, AreApart, IsTextApart, FailsWrite, WritesAll, write_of, stamp_of}
 use Rattle.ehdl_top.proofs.StateLemmas.{tells_later}
+use Rattle.ehdl_top.proofs.ProgramLemmas.{accepted_of}
 use Rattle.ehdl_top.proofs.InputLemmas.{holds_both, ready_both}
 use Rattle.ehdl_top.proofs.FormLemmas.{one_captured, decls_held}
 use Rattle.ehdl_top.proofs.WriteLemmas.{AreOf, AreBuilt, done_from, failed_from, done_changes, failed_changes, failed_rose, done_whole, failed_prefixes}
@@ -84,6 +87,8 @@ outcome_ready (AskRef names chosen ifindex) held end outputs o = (
   ready_both _ _ held (may_ready names.maps o.1.program.decls _ held o.1.first (taken_decls chosen accepted o.1.program (held names.object) o.1.held_program) o.1.starts)
       (capture_ready held names.capture o.1.magic o.1.packets o.1.held_capture),
 )
+outcome_ready (AskReport object chosen) held end outputs o =
+    (holds_as OBJECT_LIMIT (held object) _ (program_form chosen accepted).Fits (λ bytes is. (o.3.program, record { object = is; takes = o.3.accepted })) o.3.held_object, tt)
 
 -- ---- one end of a simulation
 same_packets : (held : Option (List ℕ)) (m n : ℕ) (ps qs : List Packet) → Holds CAPTURE_LIMIT held (λ bytes. IsCaptured bytes m ps) → Holds CAPTURE_LIMIT held (λ bytes. IsCaptured bytes n qs) → (n ≡ m) × (qs ≡ ps)
@@ -119,6 +124,7 @@ ends_one (AskCompile object verilog chosen) held end end' outputs outputs' one a
 ends_one (AskRun names verilog chosen ifindex) held end end' outputs outputs' one a b = a.0 ∙ sym b.0
 ends_one (AskSim names verilog chosen ifindex clocks) held end end' outputs outputs' one a b = one_end names verilog chosen ifindex clocks held end end' outputs outputs' one a b
 ends_one (AskRef names chosen ifindex) held end end' outputs outputs' one a b = a.0 ∙ sym b.0
+ends_one (AskReport object chosen) held end end' outputs outputs' one a b = a.0 ∙ sym b.0
 
 -- ---- from what was read to what is written
 -- these writes make what the command is to leave, and come to this end
@@ -286,6 +292,19 @@ answers_count : (program : XdpProgram) (maps last : MapState) (ifindex : ℕ) (p
 answers_count program maps last ifindex packets answers is =
     ap length is.answers_are ∙ length-map is.leaves answer_of ∙ runs_length (code_of program) maps (packets_in (came_by ifindex packets)) is.leaves last is.runs
     ∙ packets_count (came_by ifindex packets) ∙ length-map packets (arrival_of ifindex)
+
+-- the lines of a program that was accepted
+pub reported_of : (object : List ℕ) (chosen : Chosen) (old : ShelfState) (bytes : List ℕ) (a : Accepted) (lines : List (List ℕ)) → IsRead (program_form chosen accepted) object old bytes → IsAcceptedBy chosen bytes a
+    → lines ≡ report_lines a.program a.counts.nodes a.counts.stages → IsTrue old.tells → IsReported object chosen old.held lines
+reported_of object chosen old bytes a lines read is are told = record {
+  program = a.program;
+  held_object = record { bytes = bytes; there = read.there told; within = read.within; is = is.taken.object };
+  accepted = accepted_of a.program is.counts.graph a.counts.stages is.counts.unfolded is.counts.has_stages;
+  lines_are = are ∙ ap (λ n. report_lines a.program n a.counts.stages) is.counts.nodes;
+}
+
+pub report_makes : (object : List ℕ) (chosen : Chosen) (held : Holding) (lines : List (List ℕ)) → IsReported object chosen held lines → Makes (AskReport object chosen) held None []
+report_makes object chosen held lines is = record { outputs = no_outputs; outcome = (refl, refl, lines, is); writes_are = refl; built = tt; of = tt }
 
 -- no more than there are packets
 pub count_within : (n : ℕ) (timed : List Timed) (captured : Captured) (packets : List Packet) → n ≤ length timed → timed ≡ captured.packets.items → IsCaptureOf captured packets → n ≤ length captured.stamps.items

@@ -1,15 +1,18 @@
 -- How a command ends.
-use Rattle.std.specs.Prelude.{◌≡◌, ◌⊎◌, ℕ, IsTrue, List, [], Option, Some}
+use Rattle.std.specs.Prelude.{◌≡◌, ◌≢◌, ◌⊎◌, ℕ, IsTrue, List, [], ◌∷◌, Option, Some, None}
+use Rattle.std.specs.List.{concat}
 use Rattle.shelf_core.specs.Shelf.{Rose, appended, LeavesFront}
 use Rattle.command_line.specs.Request.{Request}
+use Rattle.command_line.specs.AsksFor.{AsksFor}
 use Rattle.ehdl_top.specs.States.{ShelfState, SinkState, Changes}
 use Rattle.ehdl_top.specs.Writes.{Outputs, HoldWhole, HoldPrefixes, AreDone, OneFailed, names_in}
-use Rattle.ehdl_top.specs.Requests.{IsOutcome}
+use Rattle.ehdl_top.specs.Requests.{IsOutcome, PutsLines, AreLines}
 use Rattle.ehdl_top.specs.Lines.{line_of}
 use Rattle.ehdl_top.specs.Status.{ended, status_of}
 use Rattle.ehdl_top.specs.declared.status.Status.{Status}
 use Rattle.ehdl_top.specs.declared.status.Status.TheVariants as status
 use Rattle.ehdl_top.specs.declared.error.CommandError.{CommandError}
+use Rattle.ehdl_top.specs.declared.error.CommandError.TheVariants as error
 
 -- ---- what is written
 -- The command wrote all that it was to write, in its order, and came to this end.
@@ -36,9 +39,9 @@ pub record HasBroken (request : Request) (old new : ShelfState) : Type 0 where
   pub others : Changes (names_in outputs.files) old new
   pub in_order : OneFailed outputs.writes old new
 
--- what is lost where a write fails, or memory runs out: then nothing was written, or all
+-- what is lost where a write fails, or a put of the command's lines behind all writes, or memory runs out: then nothing was written, or all
 abbrev pub Loses : Status → Request → ShelfState → ShelfState → Type 0
-Loses status.WriteFault request old new = HasBroken request old new
+Loses status.WriteFault request old new = HasBroken request old new ⊎ (PutsLines request × HasWritten request None old new)
 Loses status.NoMemory request old new = Changes [] old new ⊎ ((end : Option CommandError) × HasWritten request end old new)
 Loses s request old new = Unit {0}
 
@@ -77,3 +80,26 @@ IsPut line old new = (new.taken ≡ Some (appended old.taken line)) ⊎ (Rose ol
 pub record SaysWhy (e : CommandError) (result : Status) (old new : SinkState) : Type 0 where
   pub status : result ≡ status_of e
   pub line : IsTrue old.tells → IsPut (line_of e) old new
+
+-- ---- the lines of a command
+-- the lines that these words ask for
+abbrev pub AreLinesOf : List (List ℕ) → ShelfState → List (List ℕ) → Type 0
+AreLinesOf words old lines = (request : Request) → AsksFor words request → AreLines request old lines
+
+-- Lines were put, one behind the other: the sink has taken them and no more, where it tells.
+abbrev pub ArePut : List (List ℕ) → SinkState → SinkState → Type 0
+ArePut [] old new = new ≡ old
+ArePut (line ∷ lines) old new = IsTrue old.tells → new.taken ≡ Some (appended old.taken (concat (line ∷ lines)))
+
+-- A put of some lines failed: the sink's count has risen, and it has taken a prefix of them.
+pub record AreCutOff (lines : List (List ℕ)) (old new : SinkState) : Type 0 where
+  pub some : lines ≢ []
+  pub rose : Rose old.faults new.faults
+  pub front : IsTrue old.tells → LeavesFront old.taken (concat lines) new.taken
+
+-- The line that says why is the last that was put, and the only one, but where a put of the command's lines failed: it then comes behind
+-- a prefix of them.
+pub record SaysLast (words : List (List ℕ)) (shelf : ShelfState) (e : CommandError) (result : Status) (old new : SinkState) : Type 0 where
+  pub before : SinkState
+  pub behind : (before ≡ old) ⊎ ((e ≡ error.WriteFault) × (lines : List (List ℕ)) × AreLinesOf words shelf lines × AreCutOff lines old before)
+  pub why : SaysWhy e result before new

@@ -18,7 +18,7 @@ use Rattle.xdp_object.specs.Choice.{Chosen}
 use Rattle.xdp_object.specs.Maps.{MapTable}
 use Rattle.xdp_object.specs.Object.{FirstFault, IsObject, function_of, maps_of}
 use Rattle.kind_core.specs.declared.why.Refusal.{Refusal}
-use Rattle.unfold_core.specs.Acceptance.{IsAccepted, IsFirstRefusal}
+use Rattle.node_rows.specs.Acceptance.{IsAccepted, IsFirstRefusal}
 use Rattle.ehdl_build.specs.Compiled.{RefusesProgram}
 use Rattle.ehdl_top.specs.declared.limits.TheConstants.{OBJECT_LIMIT, VERILOG_LIMIT, MAPS_LIMIT, CAPTURE_LIMIT}
 use Rattle.ehdl_top.specs.declared.status.Status.{Status}
@@ -87,7 +87,7 @@ program_form choice rule = record {
 abbrev pub built : ProgramRule
 built = record { Takes = λ p. (r : Refusal) → ¬ RefusesProgram p r; Refuses = RefusesProgram }
 
--- programs that are accepted
+-- programs that are accepted: they unfold, and have few stages
 abbrev pub accepted : ProgramRule
 accepted = record { Takes = IsAccepted; Refuses = IsFirstRefusal }
 

@@ -6,6 +6,7 @@ pub mod Inputs
 pub mod Writes
 pub mod Simulation
 pub mod Results
+pub mod Report
 pub mod Outcome
 pub mod Requests
 pub mod Ends

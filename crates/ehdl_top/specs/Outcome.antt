@@ -1,5 +1,5 @@
 -- What a command leaves, by what its inputs hold.
-use Rattle.std.specs.Prelude.{◌≡◌, ℕ, List, Option, Some}
+use Rattle.std.specs.Prelude.{◌≡◌, ℕ, List, length, Option, Some}
 use Rattle.shelf_core.specs.Shelf.{Holding}
 use Rattle.pcap_core.specs.Format.{Packet}
 use Rattle.net_core.specs.Nets.{Netlist}
@@ -10,6 +10,7 @@ use Rattle.maps_text.specs.Writing.{text_of}
 use Rattle.ehdl_build.specs.Compiled.{PipelineSize, HasSize, IsSequential, Realizes}
 use Rattle.xdp_object.specs.Choice.{Chosen}
 use Rattle.xdp_object.specs.Object.{IsObject}
+use Rattle.node_rows.specs.Acceptance.{IsAccepted}
 use Rattle.command_line.specs.Request.{Names}
 use Rattle.ehdl_top.specs.declared.limits.TheConstants.{OBJECT_LIMIT, VERILOG_LIMIT, CAPTURE_LIMIT}
 use Rattle.ehdl_top.specs.declared.error.CommandError.{CommandError}
@@ -17,6 +18,7 @@ use Rattle.ehdl_top.specs.Forms.{Holds, IsTaken, IsTextOf, StartsFrom, IsCapture
 use Rattle.ehdl_top.specs.Simulation.{Simulation, simulation, given_up}
 use Rattle.ehdl_top.specs.Writes.{Outputs}
 use Rattle.ehdl_top.specs.Results.{timed_packets, came_by, compile_outputs, run_outputs, result_outputs, sim_outputs}
+use Rattle.ehdl_top.specs.Report.{report_lines}
 
 -- ---- compile
 -- The text that an object asks for: it realizes the object's program.
@@ -83,3 +85,11 @@ pub record IsReference (names : Names) (chosen : Chosen) (ifindex : ℕ) (held :
   pub final : MapState
   pub runs : IsSequential program first (came_by ifindex (timed_packets magic packets)) answers final
   pub outputs_are : outputs ≡ result_outputs names magic packets answers (Some (text_of final))
+
+-- ---- report
+-- The lines that an object asks for: what is counted of its program, which is accepted.
+pub record IsReported (object : List ℕ) (chosen : Chosen) (held : Holding) (lines : List (List ℕ)) : Type 0 where
+  pub program : XdpProgram
+  pub held_object : Holds OBJECT_LIMIT (held object) (λ bytes. IsObject chosen bytes program)
+  pub accepted : IsAccepted program
+  pub lines_are : lines ≡ report_lines program (length accepted.unfolds.graph) accepted.stages

@@ -82,6 +82,10 @@ result_writes names magic packets answers finals =
     file_writes names.answer (answer_header magic) ++ Begin names.verdicts ∷ (packet_writes names packets answers (length answers) ++ final_writes names finals)
 
 -- ---- the outputs of the commands
+-- none
+abbrev pub no_outputs : Outputs
+no_outputs = record { files = []; writes = [] }
+
 abbrev pub compile_outputs : List ℕ → List ℕ → Outputs
 compile_outputs verilog text = record { files = file verilog text ∷ []; writes = file_writes verilog text }
 

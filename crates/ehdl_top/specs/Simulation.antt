@@ -1,5 +1,5 @@
 -- A design, simulated: the host loads maps into it, packets are driven through it, and the host reads the maps that it then holds.
-use Rattle.std.specs.Prelude.{◌≡◌, ℕ, List, [], ◌∷◌, length, Option, Some, None, Result, Ok, Err}
+use Rattle.std.specs.Prelude.{ℕ, List, [], ◌∷◌, length, Option, Some, None, Result, Ok, Err}
 use Rattle.beat_core.specs.declared.frame.Timed.{Timed}
 use Rattle.beat_core.specs.declared.answer.Answer.{Answer}
 use Rattle.net_core.specs.declared.tree.Net.TheVariants.{Wire}

@@ -1,6 +1,8 @@
 -- What the steps of a command give each other.
 use Rattle.std.specs.Prelude.{◌≡◌, ◌≢◌, ◌⊎◌, ℕ, ◌<◌, ◌≤◌, ◌^◌, IsTrue, List, [], length, map, Option, Some, None, Result, Ok, Err}
 use Rattle.std.specs.Borrow.{Bor}
+use Rattle.std.specs.declared.vec.Vec.{Vec}
+use Rattle.std.specs.declared.alloc.Global.{Global}
 use Rattle.std.specs.List.{AllByRecursion}
 use Rattle.shelf_core.specs.Shelf.{Rose}
 use Rattle.beat_core.specs.Laws.{IsPacket}
@@ -25,17 +27,25 @@ use Rattle.xdp_machine.specs.State.{Code, PacketIn, start}
 use Rattle.xdp_machine.specs.Runs.{Leaves, Ended, IsRun, run}
 use Rattle.unfold_core.specs.declared.unfolding.Unfolded.{Unfolded}
 use Rattle.unfold_core.specs.Unfolding.{IsUnfolded}
-use Rattle.command_line.specs.Request.{Request, AskCompile, AskRun, AskSim, AskRef, Names}
-use Rattle.ehdl_top.specs.States.{ShelfState, Changes, OneRose}
+use Rattle.kind_core.specs.declared.why.BuildError.{BuildError}
+use Rattle.kind_core.specs.declared.why.BuildError.TheVariants as build
+use Rattle.node_rows.specs.Rows.{HasStages}
+use Rattle.node_rows.specs.Acceptance.{IsFirstRefusal}
+use Rattle.command_line.specs.Request.{Request, AskCompile, AskRun, AskSim, AskRef, AskReport, Names}
+use Rattle.ehdl_top.specs.States.{ShelfState, SinkState, Changes, OneRose, IsLaterSink}
 use Rattle.ehdl_top.specs.Forms.{InputForm, IsFaulty, IsTaken, built, accepted, IsTextFault, maps_form, IsCaptured}
 use Rattle.ehdl_top.specs.Inputs.{FirstStop, OneUnread, EndsAtInput}
 use Rattle.ehdl_top.specs.Writes.{Write, Begin, Append}
 use Rattle.ehdl_top.specs.Results.{timed_packets, came_by, run_outputs, result_outputs, sim_outputs}
 use Rattle.ehdl_top.specs.Simulation.{Simulation, simulation, given_up}
 use Rattle.ehdl_top.specs.Requests.{inputs_of, outputs_of, EndsItself}
-use Rattle.ehdl_top.specs.Ends.{HasWritten, HasBroken}
+use Rattle.ehdl_top.specs.Ends.{HasWritten, HasBroken, SaysWhy, ArePut, AreCutOff}
 use Rattle.ehdl_top.specs.Status.{ended, status_of}
+use Rattle.ehdl_top.specs.declared.object.Accepted.{Accepted}
+use Rattle.ehdl_top.specs.declared.object.Counts.{Counts}
 use Rattle.ehdl_top.specs.declared.packets.Captured.{Captured}
+use Rattle.ehdl_top.specs.declared.status.Status.{Status}
+use Rattle.ehdl_top.specs.declared.status.Status.TheVariants as status
 use Rattle.ehdl_top.specs.declared.packets.Stamp.{Stamp}
 use Rattle.ehdl_top.specs.declared.drive.Driven.{Driven}
 use Rattle.ehdl_top.specs.declared.sim.Simulated.{Simulated}
@@ -151,11 +161,22 @@ pub record LeavesAs (code : Code) (packet : PacketIn) (maps : MapState) (answer 
   pub answer_is : answer ≡ answer_of left
   pub maps_are : after ≡ left.maps
 
--- an object's program that was unfolded
-pub record IsUnfoldedBy (choice : Chosen) (bytes : List ℕ) (program : XdpProgram) : Type 0 where
-  pub taken : IsTaken choice accepted bytes program
+-- what is counted of a program: the nodes of its graph, and its stages
+pub record AreCounts (program : XdpProgram) (counts : Counts) : Type 0 where
   pub graph : Unfolded
   pub unfolded : IsUnfolded program graph
+  pub nodes : counts.nodes ≡ length graph.nodes.items
+  pub has_stages : HasStages program graph.nodes.items graph.edges.items counts.stages
+
+-- why nothing is counted: its first refusal, unless memory ran out
+abbrev pub FailsProgram : XdpProgram → BuildError → Type 0
+FailsProgram program (build.Refused r) = IsFirstRefusal program r
+FailsProgram program build.NoMemory = Unit {0}
+
+-- an object's program that was accepted
+pub record IsAcceptedBy (choice : Chosen) (bytes : List ℕ) (a : Accepted) : Type 0 where
+  pub taken : IsTaken choice accepted bytes a.program
+  pub counts : AreCounts a.program a.counts
 
 -- ---- outputs
 abbrev pub write_of : code.Write → Write
@@ -207,6 +228,7 @@ NamesApart (AskCompile object verilog chosen) = Unit {0}
 NamesApart (AskRun names verilog chosen ifindex) = AreApart names × IsTextApart names verilog
 NamesApart (AskSim names verilog chosen ifindex clocks) = AreApart names
 NamesApart (AskRef names chosen ifindex) = AreApart names
+NamesApart (AskReport object chosen) = Unit {0}
 
 -- a write failed
 pub record FailsWrite (request : Request) (old new : ShelfState) : Type 0 where
@@ -227,14 +249,20 @@ pub data StopsBy (request : Request) (old new : ShelfState) (e : CommandError) :
   Unwritten : e ≡ error.WriteFault → FailsWrite request old new → StopsBy request old new e
   AtEnd : WritesAll request (Some e) old new → StopsBy request old new e
 
-abbrev pub EndsBy : Request → ShelfState → ShelfState → Result (Unit {0}) CommandError → Type 0
+abbrev pub EndsBy : {T : Type 0} → Request → ShelfState → ShelfState → Result T CommandError → Type 0
 EndsBy request old new (Ok u) = WritesAll request None old new
 EndsBy request old new (Err e) = StopsBy request old new e
 
 -- how a command ends: no name but an output has changed
-pub record EndsIn (request : Request) (old new : ShelfState) (result : Result (Unit {0}) CommandError) : Type 0 where
+pub record EndsIn {T : Type 0} (request : Request) (old new : ShelfState) (result : Result T CommandError) : Type 0 where
   pub by : EndsBy request old new result
   pub kept : Changes (outputs_of request) old new
+
+-- both are done, or stop for one reason
+abbrev pub AreOneEnd : {T U : Type 0} → Result T CommandError → Result U CommandError → Type 0
+AreOneEnd (Ok x) (Ok y) = Unit {0}
+AreOneEnd (Err e) (Err f) = e ≡ f
+AreOneEnd r s = ⊥
 
 -- the line of an error takes no memory
 abbrev pub IsFixed : CommandError → Type 0
@@ -246,3 +274,16 @@ IsFixed error.ReadFault = Unit {0}
 IsFixed error.WriteFault = Unit {0}
 IsFixed error.NoMemory = Unit {0}
 IsFixed e = ⊥
+
+-- A put of the lines failed, and the line that says so was put behind them.
+pub record IsCutShort (lines : List (List ℕ)) (result : Status) (old new : SinkState) : Type 0 where
+  pub status : result ≡ status.WriteFault
+  pub mid : SinkState
+  pub cut : AreCutOff lines old mid
+  pub why : SaysWhy error.WriteFault result mid new
+  pub later : IsLaterSink mid new
+
+-- A command that is done has put its lines; one that stops has put the line that says why.
+abbrev pub IsFinished : Result (Vec (List ℕ) Global) CommandError → Status → SinkState → SinkState → Type 0
+IsFinished (Ok lines) result old new = ((result ≡ status.Done) × ArePut lines.items old new) ⊎ IsCutShort lines.items result old new
+IsFinished (Err e) result old new = (SaysWhy e result old new ⊎ SaysWhy error.NoMemory result old new) × (IsFixed e → result ≡ status_of e)

@@ -1,6 +1,6 @@
 // The call that does all that the program does.
 
-ghost use Rattle.std.specs.Prelude.{◌≡◌, ◌≢◌, ◌⊎◌, ◌↔◌, IfErr, IsErrOf, IsTrue};
+ghost use Rattle.std.specs.Prelude.{◌≡◌, ◌≢◌, ◌⊎◌, ◌↔◌, ℕ, List, [], IfOk, IfErr, IsErrOf, IsTrue, OnOk, OnErr};
 ghost use Rattle.shelf_core.specs.Shelf.{SameHeld};
 ghost use Rattle.command_line.specs.Request.{Request, request_of};
 ghost use Rattle.command_line.specs.AsksFor.{AsksFor};
@@ -8,61 +8,87 @@ ghost use Rattle.ehdl_top.specs.States.{state_of, sink_of, Changes, IsLater, IsL
 ghost use Rattle.ehdl_top.specs.Inputs.{AreReady, FirstStop, OneUnread, names_in};
 ghost use Rattle.ehdl_top.specs.Writes.{Outputs};
 ghost use Rattle.ehdl_top.specs.Status.{status_of};
-ghost use Rattle.ehdl_top.specs.Requests.{inputs_of, outputs_of, IsOutcome, IsCause, CanEnd, IsFault};
-ghost use Rattle.ehdl_top.specs.Ends.{AllWritten, ByInputs, EndsAs, IsEarly, Loses, SaysWhy};
-ghost use Rattle.ehdl_top.specs.Steps.{EndsIn, NamesApart, IsFixed};
+ghost use Rattle.ehdl_top.specs.Requests.{inputs_of, outputs_of, IsOutcome, PutsLines, AreLines, OneUnwritten, IsCause, CanEnd, IsFault};
+ghost use Rattle.ehdl_top.specs.Ends.{AllWritten, ByInputs, EndsAs, IsEarly, Loses, SaysWhy, AreLinesOf, ArePut, AreCutOff, SaysLast};
+ghost use Rattle.ehdl_top.specs.Steps.{EndsIn, AreOneEnd, NamesApart, IsFinished, IsFixed};
 ghost use Rattle.ehdl_top.specs.declared.error.CommandError.{CommandError};
 
 use crate::compile::compile_file;
 use crate::error::CommandError;
 use crate::reference::ref_files;
+use crate::report::report_object;
 use crate::run::run_files;
 use crate::sim::sim_files;
 use crate::status::Status;
+use beat_core::Bytes;
 use command_line::{Command, Words, WordsError, read_words};
 use maps_text::has_one_meaning;
-use shelf_core::{Shelf, Sink};
+use shelf_core::{Failed, Shelf, Sink};
 use std::alloc::Global;
 
-// Does what is asked for.
+// The end of a command that puts no lines where all is done.
+fn without_lines(alloc: Global, end: Result<(), CommandError>) -> Result<Vec<Bytes>, CommandError>
+    ensures same { AreOneEnd end result }
+    ensures none { IfOk result (λ lines. lines.items ≡ []) }
+{
+    match end {
+        Ok(()) => Ok(Vec::new(alloc)),
+        Err(error) => Err(error),
+    }
+}
+
+// Does what is asked for, and gives the lines that are to be put where all is done.
 fn run_command<S: Shelf>(
     alloc: Global,
     shelf: &mut S,
     command: &Command,
-) -> Result<(), CommandError>
+) -> Result<Vec<Bytes>, CommandError>
     requires { NamesApart (request_of command.now) }
-    ensures { EndsIn (request_of command.now) (state_of S.Shelf shelf.old) (state_of S.Shelf shelf.new) result }
+    ensures ends { EndsIn (request_of command.now) (state_of S.Shelf shelf.old) (state_of S.Shelf shelf.new) result }
+    ensures lines { IfOk result (λ lines. AreLines (request_of command.now) (state_of S.Shelf shelf.old) lines.items) }
 {
     match command {
         Command::Compile {
             object,
             verilog,
             choice,
-        } => compile_file(alloc, shelf, object, verilog, *choice),
+        } => without_lines(alloc, compile_file(alloc, shelf, object, verilog, *choice)),
         Command::Run {
             files,
             verilog,
             choice,
             ifindex,
-        } => run_files(alloc, shelf, files, verilog, *choice, *ifindex),
+        } => without_lines(
+            alloc,
+            run_files(alloc, shelf, files, verilog, *choice, *ifindex),
+        ),
         Command::Sim {
             files,
             verilog,
             choice,
             ifindex,
             clocks,
-        } => sim_files(alloc, shelf, files, verilog, *choice, *ifindex, *clocks),
+        } => without_lines(
+            alloc,
+            sim_files(alloc, shelf, files, verilog, *choice, *ifindex, *clocks),
+        ),
         Command::Ref {
             files,
             choice,
             ifindex,
-        } => ref_files(alloc, shelf, files, *choice, *ifindex),
+        } => without_lines(alloc, ref_files(alloc, shelf, files, *choice, *ifindex)),
+        Command::Report { object, choice } => report_object(alloc, shelf, object, *choice),
     }
 }
 
-// Does what the words ask for.
-fn run_words<S: Shelf>(alloc: Global, words: &Words, shelf: &mut S) -> Result<(), CommandError>
+// Does what the words ask for, and gives the lines that are to be put where all is done.
+fn run_words<S: Shelf>(
+    alloc: Global,
+    words: &Words,
+    shelf: &mut S,
+) -> Result<Vec<Bytes>, CommandError>
     ensures ends { (request : Request) → AsksFor words.now request → EndsIn request (state_of S.Shelf shelf.old) (state_of S.Shelf shelf.new) result }
+    ensures lines { IfOk result (λ lines. AreLinesOf words.now (state_of S.Shelf shelf.old) lines.items) }
     ensures usage { IsErrOf result CommandError.Usage → (request : Request) → ¬ AsksFor words.now request }
     ensures unread { ((request : Request) → ¬ AsksFor words.now request) → IsErrOf result CommandError.Usage ⊎ IsErrOf result CommandError.NoMemory }
     ensures untouched { IsErrOf result CommandError.Usage → shelf.new ≡ shelf.old }
@@ -76,8 +102,21 @@ fn run_words<S: Shelf>(alloc: Global, words: &Words, shelf: &mut S) -> Result<()
     }
 }
 
+// Puts lines, one behind the other, up to the first put that fails.
+fn put_lines<O: Sink>(lines: &[Bytes], out: &mut O) -> Result<(), Failed>
+    ensures put { OnOk result (ArePut lines.now (sink_of O.Sink out.old) (sink_of O.Sink out.new)) }
+    ensures cut { OnErr result (AreCutOff lines.now (sink_of O.Sink out.old) (sink_of O.Sink out.new)) }
+    ensures none { lines.now ≡ [] → out.new ≡ out.old }
+    ensures later { IsLaterSink (sink_of O.Sink out.old) (sink_of O.Sink out.new) }
+{
+    for line in lines {
+        out.put(line.bytes())?;
+    }
+    Ok(())
+}
+
 // Puts the line that says why a command stops, and gives the status: where there is no memory for the line, this is why.
-fn report<O: Sink>(alloc: Global, error: &CommandError, out: &mut O) -> Status
+fn say_why<O: Sink>(alloc: Global, error: &CommandError, out: &mut O) -> Status
     ensures why { SaysWhy error.now result (sink_of O.Sink out.old) (sink_of O.Sink out.new) ⊎ SaysWhy CommandError.NoMemory result (sink_of O.Sink out.old) (sink_of O.Sink out.new) }
     ensures fixed { IsFixed error.now → result ≡ status_of error.now }
     ensures later { IsLaterSink (sink_of O.Sink out.old) (sink_of O.Sink out.new) }
@@ -95,15 +134,32 @@ fn report<O: Sink>(alloc: Global, error: &CommandError, out: &mut O) -> Status
     }
 }
 
+// Puts the lines of a command that is done, and else the line that says why.
+fn finish<O: Sink>(alloc: Global, end: Result<Vec<Bytes>, CommandError>, out: &mut O) -> Status
+    ensures finished { IsFinished end result (sink_of O.Sink out.old) (sink_of O.Sink out.new) }
+    ensures silent { IfOk end (λ lines. lines.items ≡ [] → out.new ≡ out.old) }
+    ensures later { IsLaterSink (sink_of O.Sink out.old) (sink_of O.Sink out.new) }
+{
+    match end {
+        Ok(lines) => match put_lines(&lines, out) {
+            Ok(()) => Status::Done,
+            Err(Failed) => say_why(alloc, &CommandError::WriteFault, out),
+        },
+        Err(error) => say_why(alloc, &error, out),
+    }
+}
+
 /// All that the program does, on the words that it is called with. `compile` compiles an object to a Verilog text. `run` writes
 /// the same text, simulates its bytes clock by clock over a capture, and writes what its ports gave. `sim` simulates a Verilog
-/// text that is there, from the maps of a text on, in at most so many clocks of the drive. `ref` runs the object's program over a capture, one instruction after another. Of every way to end but [`Status::Done`] one line is put to the sink.
+/// text that is there, from the maps of a text on, in at most so many clocks of the drive. `ref` runs the object's program over a capture,
+/// one instruction after another. `report` puts to the sink, line by line, what is counted of the object's program. Of every way to end but
+/// [`Status::Done`] one line says why, put to the sink.
 pub fn top<S: Shelf, O: Sink>(alloc: Global, words: &Words, shelf: &mut S, out: &mut O) -> Status
     // What is written: a text that realizes the object's program, and what sequential execution on the capture gives; of a text
     // that is given, what the load, its full drive and the dump give. It is written in the command's order.
     ensures outcome { AllWritten result → IsTrue (S.tells shelf.old) → (request : Request) → AsksFor words.now request → EndsAs request result (state_of S.Shelf shelf.old) (state_of S.Shelf shelf.new) }
     // Where the inputs are there in their forms and no fault comes, all is written, want of memory aside.
-    ensures complete { (request : Request) → AsksFor words.now request → IsTrue (S.tells shelf.old) → AreReady (inputs_of request (S.held shelf.old)) (S.held shelf.old) → ¬ OneRose (names_in (inputs_of request (S.held shelf.old))) (S.read_faults shelf.old) (S.read_faults shelf.new) → ¬ OneRose (outputs_of request) (S.write_faults shelf.old) (S.write_faults shelf.new) → AllWritten result ⊎ (result ≡ Status.NoMemory) }
+    ensures complete { (request : Request) → AsksFor words.now request → IsTrue (S.tells shelf.old) → AreReady (inputs_of request (S.held shelf.old)) (S.held shelf.old) → ¬ OneRose (names_in (inputs_of request (S.held shelf.old))) (S.read_faults shelf.old) (S.read_faults shelf.new) → ¬ OneUnwritten request (state_of S.Shelf shelf.old) (state_of S.Shelf shelf.new) (sink_of O.Sink out.old) (sink_of O.Sink out.new) → AllWritten result ⊎ (result ≡ Status.NoMemory) }
 
     // The causes: exactly where the words ask for nothing, want of memory aside, and then nothing is read;
     ensures usage { result ≡ Status.Usage → (request : Request) → ¬ AsksFor words.now request }
@@ -113,9 +169,9 @@ pub fn top<S: Shelf, O: Sink>(alloc: Global, words: &Words, shelf: &mut S, out: 
     ensures inputs { (request : Request) → AsksFor words.now request → IsTrue (S.tells shelf.old) → (e : CommandError) → FirstStop (inputs_of request (S.held shelf.old)) (S.held shelf.old) e → (result ≡ status_of e) ⊎ ((result ≡ Status.ReadFault) ⊎ (result ≡ Status.NoMemory)) }
     // exactly where a simulation is given up, faults and want of memory aside.
     ensures driven { (request : Request) → AsksFor words.now request → IsTrue (S.tells shelf.old) → (e : CommandError) (outputs : Outputs) → IsOutcome request (S.held shelf.old) (Some e) outputs → (result ≡ status_of e) ⊎ IsFault result }
-    // A fault of a read: the count of this input rose, and those before it are in their forms. A fault of a write.
+    // A fault of a read: the count of this input rose, and those before it are in their forms. A fault of a write, or of a put of lines.
     ensures read_fault { result ≡ Status.ReadFault → (request : Request) → AsksFor words.now request → OneUnread (inputs_of request (S.held shelf.old)) (state_of S.Shelf shelf.old) (state_of S.Shelf shelf.new) }
-    ensures write_fault { result ≡ Status.WriteFault → (request : Request) → AsksFor words.now request → OneRose (outputs_of request) (S.write_faults shelf.old) (S.write_faults shelf.new) }
+    ensures write_fault { result ≡ Status.WriteFault → (request : Request) → AsksFor words.now request → OneUnwritten request (state_of S.Shelf shelf.old) (state_of S.Shelf shelf.new) (sink_of O.Sink out.old) (sink_of O.Sink out.new) }
     ensures never { (request : Request) → AsksFor words.now request → CanEnd request (S.held shelf.old) result }
 
     // What is lost: nothing where no output was begun. Where a write fails, those before it were done, and none behind it was begun.
@@ -124,15 +180,15 @@ pub fn top<S: Shelf, O: Sink>(alloc: Global, words: &Words, shelf: &mut S, out: 
     ensures others { (request : Request) → AsksFor words.now request → Changes (outputs_of request) (state_of S.Shelf shelf.old) (state_of S.Shelf shelf.new) }
     ensures later { IsLater (state_of S.Shelf shelf.old) (state_of S.Shelf shelf.new) }
 
-    // The line says why, once, whatever becomes of it: where the inputs are why, it says how. None where all was done.
-    ensures why { result ≢ Status.Done → (e : CommandError) × SaysWhy e result (sink_of O.Sink out.old) (sink_of O.Sink out.new) × (ByInputs result → IsTrue (S.tells shelf.old) → (request : Request) → AsksFor words.now request → IsCause request (S.held shelf.old) e) }
-    ensures silent { result ≡ Status.Done → out.new ≡ out.old }
+    // Where all was done the sink has taken the command's lines and no more, of most commands none.
+    ensures put { result ≡ Status.Done → (lines : List (List ℕ)) × AreLinesOf words.now (state_of S.Shelf shelf.old) lines × ArePut lines (sink_of O.Sink out.old) (sink_of O.Sink out.new) }
+    ensures silent { result ≡ Status.Done → (request : Request) → AsksFor words.now request → ¬ PutsLines request → out.new ≡ out.old }
+    // Else a line says why, once, whatever becomes of it: where the inputs are why, it says how.
+    ensures why { result ≢ Status.Done → (e : CommandError) × SaysLast words.now (state_of S.Shelf shelf.old) e result (sink_of O.Sink out.old) (sink_of O.Sink out.new) × (ByInputs result → IsTrue (S.tells shelf.old) → (request : Request) → AsksFor words.now request → IsCause request (S.held shelf.old) e) }
     ensures sink { IsLaterSink (sink_of O.Sink out.old) (sink_of O.Sink out.new) }
 {
     // One text of maps says what a simulation starts from.
     has_one_meaning();
-    match run_words(alloc, words, shelf) {
-        Ok(()) => Status::Done,
-        Err(error) => report(alloc, &error, out),
-    }
+    let end = run_words(alloc, words, shelf);
+    finish(alloc, end, out)
 }

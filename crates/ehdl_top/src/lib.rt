@@ -14,6 +14,7 @@ mod object;
 mod packets;
 mod pipeline;
 mod reference;
+mod report;
 mod results;
 mod run;
 mod sequential;

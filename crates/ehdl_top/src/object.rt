@@ -5,13 +5,14 @@ ghost use Rattle.xdp_object.specs.Object.{IsObject};
 ghost use Rattle.xdp_object.specs.Program.{XdpProgram};
 ghost use Rattle.xdp_object.specs.Choice.{chosen_of};
 ghost use Rattle.ehdl_top.specs.Forms.{program_form, built, accepted, object_form};
-ghost use Rattle.ehdl_top.specs.Steps.{IsBuiltOf, IsUnfoldedBy, IsGivenUp};
+ghost use Rattle.ehdl_top.specs.Steps.{IsBuiltOf, IsAcceptedBy, AreCounts, FailsProgram, IsGivenUp};
 
 use crate::error::CommandError;
 use crate::form::Form;
 use crate::limits::OBJECT_LIMIT;
 use ehdl_build::{Built, CompileError, compile};
 use kind_core::BuildError;
+use node_rows::{Stages, count_stages};
 use std::alloc::Global;
 use unfold_core::unfold;
 use xdp_object::{Choice, ObjectError, Program, read_object};
@@ -42,6 +43,21 @@ impl Form for ProgramForm<'_> {
     }
 }
 
+/// What is counted of an accepted program.
+#[derive(Clone, Copy)]
+pub(crate) struct Counts {
+    /// The nodes of its graph.
+    pub(crate) nodes: u64,
+    pub(crate) stages: Stages,
+}
+
+/// An accepted program.
+#[derive(Drop)]
+pub(crate) struct Accepted {
+    pub(crate) program: Program,
+    pub(crate) counts: Counts,
+}
+
 /// An object of an accepted program, which is what is read.
 #[derive(Clone, Copy)]
 pub(crate) struct AcceptedForm<'a> {
@@ -49,11 +65,11 @@ pub(crate) struct AcceptedForm<'a> {
 }
 
 impl Form for AcceptedForm<'_> {
-    type Value = Program;
+    type Value = Accepted;
 
     ghost form = { λ f. program_form (chosen_of f.choice) accepted };
 
-    ghost Gives = { λ f bytes program. IsUnfoldedBy (chosen_of f.choice) bytes program };
+    ghost Gives = { λ f bytes accepted. IsAcceptedBy (chosen_of f.choice) bytes accepted };
 
     fn limit(&self) -> u64 {
         OBJECT_LIMIT
@@ -63,7 +79,7 @@ impl Form for AcceptedForm<'_> {
         CommandError::Object(ObjectError::Long)
     }
 
-    fn read(&self, alloc: Global, bytes: &[u8]) -> Result<Program, CommandError> {
+    fn read(&self, alloc: Global, bytes: &[u8]) -> Result<Accepted, CommandError> {
         accepted_program(alloc, bytes, self.choice)
     }
 }
@@ -108,19 +124,32 @@ fn build(alloc: Global, object: &[u8], choice: Choice) -> Result<Built, CommandE
 }
 
 // The accepted program of an object.
-fn accepted_program(alloc: Global, object: &[u8], choice: Choice) -> Result<Program, CommandError>
-    ensures program { IfOk result (IsUnfoldedBy (chosen_of choice.entry) object.now) }
+fn accepted_program(alloc: Global, object: &[u8], choice: Choice) -> Result<Accepted, CommandError>
+    ensures program { IfOk result (IsAcceptedBy (chosen_of choice.entry) object.now) }
     ensures given_up { IfErr result (IsGivenUp (program_form (chosen_of choice.entry) accepted) object.now) }
 {
     let program = match read_object(alloc, object, choice) {
         Ok(program) => program,
         Err(error) => return Err(error_of(error)),
     };
-    match unfold(alloc, &program) {
-        Ok(_graph) => Ok(program),
+    match count(alloc, &program) {
+        Ok(counts) => Ok(Accepted { program, counts }),
         Err(BuildError::Refused(refusal)) => Err(CommandError::Refused(refusal)),
         Err(BuildError::NoMemory) => Err(CommandError::NoMemory),
     }
+}
+
+// The nodes of a program's graph and its stages, or its first refusal.
+fn count(alloc: Global, program: &Program) -> Result<Counts, BuildError>
+    ensures counts { IfOk result (AreCounts program.now) }
+    ensures refuses { IfErr result (FailsProgram program.now) }
+{
+    let graph = unfold(alloc, program)?;
+    let stages = count_stages(alloc, program, &graph)?;
+    Ok(Counts {
+        nodes: graph.nodes.len() as u64,
+        stages,
+    })
 }
 
 // The program of an object.

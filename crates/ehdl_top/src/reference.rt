@@ -59,10 +59,10 @@ pub(crate) fn ref_files<S: Shelf>(
     requires { AreApart (names_of files.now) }
     ensures { EndsIn (AskRef (names_of files.now) (chosen_of choice.entry) ifindex) (state_of S.Shelf shelf.old) (state_of S.Shelf shelf.new) result }
 {
-    let program = read_input(alloc, shelf, files.object, &AcceptedForm { choice })?;
-    let maps = read_maps(alloc, shelf, files.maps, &program)?;
+    let accepted = read_input(alloc, shelf, files.object, &AcceptedForm { choice })?;
+    let maps = read_maps(alloc, shelf, files.maps, &accepted.program)?;
     let capture = read_input(alloc, shelf, files.capture, &CaptureForm)?;
-    let writes = ref_writes(alloc, files, &program, maps, &capture, ifindex)?;
+    let writes = ref_writes(alloc, files, &accepted.program, maps, &capture, ifindex)?;
     write_all(shelf, &writes)?;
     Ok(())
 }

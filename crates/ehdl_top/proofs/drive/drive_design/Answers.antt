@@ -1,4 +1,3 @@
-use Rattle.port_drive.specs.Reports.{full_drive}
 use Rattle.ehdl_top.proofs.SimulationLemmas.{drive_answered, drive_given_up, drive_inside}
 use Rattle.ehdl_top.proofs.drive.drive_design.Goals as goal
 

@@ -1,6 +1,6 @@
 use Rattle.std.proofs.Common.{refl, inr}
 use Rattle.ehdl_top.proofs.CauseLemmas.{put_line}
-use Rattle.ehdl_top.proofs.command.report.Goals as goal
+use Rattle.ehdl_top.proofs.command.say_why.Goals as goal
 
 pub returns-in-Err-clause-why : goal.returns-in-Err-clause-why
 returns-in-Err-clause-why g c = inr (record {

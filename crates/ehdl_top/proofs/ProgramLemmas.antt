@@ -1,0 +1,36 @@
+-- Programs that are accepted, by what is counted of them.
+use Rattle.std.proofs.Common.{◌≡◌, List, Result, Ok, Err, IfErr, IsErrAnd, subst, sym, inl, inr}
+use Rattle.xdp_machine.specs.Program.{XdpProgram}
+use Rattle.kind_core.specs.declared.why.Refusal.{Refusal}
+use Rattle.kind_core.specs.declared.why.BuildError.{BuildError}
+use Rattle.kind_core.specs.declared.why.BuildError.TheVariants.{Refused, NoMemory}
+use Rattle.unfold_core.specs.declared.links.Edge.{Edge}
+use Rattle.unfold_core.specs.declared.unfolding.Unfolded.{Unfolded}
+use Rattle.unfold_core.specs.Unfolding.{IsUnfolded, Unfolds}
+use Rattle.unfold_core.specs.Acceptance as graphs
+use Rattle.node_rows.specs.declared.stages.Stages.{Stages}
+use Rattle.node_rows.specs.Rows.{HasStages, IsTooLate, AreCounted}
+use Rattle.node_rows.specs.Acceptance.{IsAccepted, HasTooManyStages}
+use Rattle.ehdl_top.specs.Steps.{FailsProgram}
+
+abbrev pub unfolds_of : (p : XdpProgram) (u : Unfolded) → IsUnfolded p u → graphs.IsAccepted p
+unfolds_of p u is = record { loops = u.loops.items; graph = u.nodes.items; has_loops = is.loops; is_graph = is.graph }
+
+abbrev pub accepted_of : (p : XdpProgram) (u : Unfolded) (s : Stages) → IsUnfolded p u → HasStages p u.nodes.items u.edges.items s → IsAccepted p
+accepted_of p u s is has = record { unfolds = unfolds_of p u is; stages = s; has_stages = subst (λ (es : List Edge). HasStages p u.nodes.items es s) is.edges has }
+
+pub late_of : (p : XdpProgram) (u : Unfolded) (r : Refusal) → IsUnfolded p u → IsTooLate p u.nodes.items u.edges.items r → HasTooManyStages p r
+late_of p u r is late = record { unfolds = unfolds_of p u is; late = subst (λ (es : List Edge). IsTooLate p u.nodes.items es r) is.edges late }
+
+-- ---- where nothing is counted
+pub unfolding_fails : (p : XdpProgram) (e : BuildError) → Unfolds p (Err e) → FailsProgram p e
+unfolding_fails p (Refused r) u = inl u
+unfolding_fails p NoMemory u = tt
+
+pub counting_fails : (p : XdpProgram) (u : Unfolded) (e : BuildError) → IsUnfolded p u → AreCounted p u (Err e) → FailsProgram p e
+counting_fails p u (Refused r) is late = inr (late_of p u r is late)
+counting_fails p u NoMemory is late = tt
+
+pub fails_with : {T : Type 0} (p : XdpProgram) (e : BuildError) (r : Result T BuildError) → IsErrAnd r (λ f. f ≡ e) → FailsProgram p e → IfErr r (FailsProgram p)
+fails_with p e (Ok x) is fails = tt
+fails_with p e (Err f) is fails = subst (FailsProgram p) (sym is) fails
