@@ -6,3 +6,6 @@ pub mod TestLemmas
 pub mod ShiftLemmas
 pub mod ListLemmas
 pub mod JoinLemmas
+pub mod WireLemmas
+pub mod GiveLemmas
+pub mod DivisionLemmas

@@ -2,3 +2,5 @@ pub mod Operands
 pub mod Parts
 pub mod Narrow
 pub mod Listing
+pub mod Wires
+pub mod Dividing
