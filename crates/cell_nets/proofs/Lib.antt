@@ -9,3 +9,4 @@ pub mod JoinLemmas
 pub mod WireLemmas
 pub mod GiveLemmas
 pub mod DivisionLemmas
+pub mod GatherLemmas

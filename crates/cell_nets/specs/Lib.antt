@@ -4,3 +4,4 @@ pub mod Narrow
 pub mod Listing
 pub mod Wires
 pub mod Dividing
+pub mod Gathering

@@ -5,6 +5,7 @@
 pub mod choosing;
 pub mod comparing;
 pub mod dividing;
+pub mod gathering;
 pub mod listing;
 pub mod narrow;
 pub mod operand;
