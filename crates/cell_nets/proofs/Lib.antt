@@ -6,3 +6,7 @@ pub mod TestLemmas
 pub mod ShiftLemmas
 pub mod ListLemmas
 pub mod JoinLemmas
+pub mod WireLemmas
+pub mod GiveLemmas
+pub mod DivisionLemmas
+pub mod GatherLemmas

@@ -78,3 +78,6 @@ narrow_width Add net.Add w e = same_is w
 narrow_width Sub net.Sub w e = same_is w
 narrow_width Mul net.Mul w e = same_is w
 narrow_width o p w e = cc
+
+pub bits_small : (n from w : ℕ) → bits_from n from w < 2 ^ w
+bits_small n from w = mod_below (n / 2 ^ from) (2 ^ w) (pow_pos w)

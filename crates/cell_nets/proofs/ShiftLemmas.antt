@@ -163,3 +163,7 @@ signs_computes ins packet a b w n sign ones zeros high low whole some less most 
     let P : ℕ → Type 0 = λ m. IsPart ins 4 m (worth packet (SignExtend b) (a ∷ []) w) whole in
     part_computes ins 4 w _ whole (omega arith)
     (subst P sum (part_of ins 4 4 (k + b) _ _ whole (omega arith) e (part_same ins 4 (k + b) _ _ _ (λ v f. more_signs packet b w (number_in v a) some less most) t.part)))
+
+-- low bits of low bits
+pub cut_low : (n m w : ℕ) → w ≤ m → bits_from (bits_from n 0 m) 0 w ≡ bits_from n 0 w
+cut_low n m w less = from_zero (bits_from n 0 m) w ∙ ap (λ k. k % 2 ^ w) (from_zero n m) ∙ low_less n m w less ∙ sym (from_zero n w)

@@ -4,8 +4,11 @@
 
 pub mod choosing;
 pub mod comparing;
+pub mod dividing;
+pub mod gathering;
 pub mod listing;
 pub mod narrow;
 pub mod operand;
 pub mod shifting;
 pub mod slice;
+pub mod wires;

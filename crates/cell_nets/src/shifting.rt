@@ -7,9 +7,14 @@ ghost use Rattle.xdp_machine.specs.State.{PacketIn};
 ghost use Rattle.cell_core.specs.declared.operator.Operator.TheVariants as operator;
 ghost use Rattle.cell_nets.specs.Operands.{IsOperand, IsAvailable, IsFit, IsWide, number_in};
 ghost use Rattle.cell_nets.specs.Parts.{Computes, worth};
+ghost use Rattle.cell_nets.specs.Wires.{wires_of, always, Gives};
 
+use crate::comparing::span;
 use crate::operand::Operand;
 use crate::slice::{beside, slice};
+use crate::wires::{add_wire, cut};
+use block_core::block::BlockWire;
+use block_core::name::Name;
 use net_core::build::{binary, conditional, constant};
 use net_core::tree::{Expr, Op};
 use std::alloc::{AllocError, Global};
@@ -49,6 +54,30 @@ pub fn shift_right<N: Copy>(
     let count = slice(alloc, b, 0, 6)?;
     let e = binary(alloc, Op::ShiftRight, bits, count)?;
     Ok(e)
+}
+
+/// An operand shifted to the right by the low six bits of another one: a wire, or two where it has more bits than are asked for.
+pub fn shift_right_wires<P: Copy>(
+    alloc: Global,
+    wires: &mut Vec<BlockWire<Name<P>>>,
+    part: P,
+    a: Operand<Name<P>>,
+    b: Operand<Name<P>>,
+    width: u8,
+) -> Result<Operand<Name<P>>, AllocError>
+    requires left { IsOperand a }
+    requires right { IsOperand b }
+    requires width { IsWide width }
+    ensures { (packet : PacketIn) → IfOk result (Gives part (wires_of wires.old.items) (wires_of wires.new.items) (a ∷ b ∷ []) always (worth packet operator.ShiftRight (a ∷ b ∷ []) width) width) }
+{
+    let enough = width.max(span(a));
+    let bits = shift_right(alloc, a, b, enough)?;
+    let whole = add_wire(wires, part, enough, bits)?;
+    if enough == width {
+        return Ok(whole);
+    }
+    let out = cut(alloc, wires, part, whole, 0, width)?;
+    Ok(out)
 }
 
 /// So many low bits of an operand, their sign repeated.

@@ -1,0 +1,92 @@
+-- What wires give, step by step.
+use Rattle.std.proofs.Common.{◌≡◌, ℕ, zero, suc, ◌^◌, ◌<◌, ◌≤◌, All, List, [], ◌∷◌, ◌∙◌, subst, arith}
+use Rattle.std.proofs.Math.Pow.{pow_mono}
+use Rattle.net_core.specs.Value.{Env}
+use Rattle.xdp_machine.specs.State.{PacketIn}
+use Rattle.block_core.specs.declared.name.Name.{Name}
+use Rattle.block_core.specs.Blocks.{BlockWireTree}
+use Rattle.cell_core.specs.declared.operator.Operator.{Operator}
+use Rattle.cell_nets.specs.declared.operand.Operand.{Operand}
+use Rattle.cell_nets.specs.declared.operand.Operand.TheVariants.{Known}
+use Rattle.cell_nets.specs.Operands.{number_in, IsFit, IsAvailable}
+use Rattle.cell_nets.specs.Parts.{worth}
+use Rattle.cell_nets.specs.Wires.{behind, Gives, always}
+use Rattle.cell_nets.proofs.ChoiceLemmas.{fit_of}
+
+-- of all operands what is said of each
+pub all_one : {X : Type 0} (Q : X → Type 0) (x : X) → Q x → All Q (x ∷ [])
+all_one Q x h zero d lt = h
+all_one Q x h (suc k) d lt = absurd (omega arith)
+
+pub all_two : {X : Type 0} (Q : X → Type 0) (x y : X) → Q x → Q y → All Q (x ∷ y ∷ [])
+all_two Q x y h l zero d lt = h
+all_two Q x y h l (suc zero) d lt = l
+all_two Q x y h l (suc (suc k)) d lt = absurd (omega arith)
+
+-- the same of more operands, in other words
+pub gives_as :
+    {P : Type 0} (p : P) (old new : List (BlockWireTree (Name P))) (args bs : List (Operand (Name P))) (needs more : Env (Name P) → Type 0) (f g : Env (Name P) → ℕ) (w : ℕ) (o : Operand (Name P)) → Gives p old new args needs f w o
+    → ((ins : List (Operand (Name P))) → All (IsAvailable ins) bs → All (IsAvailable ins) args) → ((v : Env (Name P)) → All (IsFit v) bs → more v → needs v × (f v ≡ g v)) → Gives p old new bs more g w o
+gives_as p old new args bs needs more f g w o x sub same = record {
+  before = x.before;
+  stays = x.stays;
+  operand = x.operand;
+  bits = x.bits;
+  given = λ outside a there.
+      let y = x.given outside a (sub (behind p outside old) there) in
+      record {
+        wires = y.wires;
+        there = y.there;
+        value = λ v f s n. let z = same v (λ k d lt. fit_of (behind p outside old) v _ (there k d lt) (a.fits v f (x.before v s))) n in y.value v f s z.0 ∙ z.1;
+      };
+}
+
+-- a step behind another one
+pub gives_then :
+    {P : Type 0} (p : P) (old mid new : List (BlockWireTree (Name P))) (args bs : List (Operand (Name P))) (needs : Env (Name P) → Type 0) (f h g : Env (Name P) → ℕ) (w u : ℕ) (o r : Operand (Name P)) → Gives p old mid args needs f w o
+    → Gives p mid new bs always h u r → ((ins : List (Operand (Name P))) → All (IsAvailable ins) args → IsAvailable ins o → All (IsAvailable ins) bs)
+    → ((v : Env (Name P)) → All (IsFit v) args → number_in v o ≡ f v → h v ≡ g v) → Gives p old new args needs g u r
+gives_then p old mid new args bs needs f h g w u o r x y sub same = record {
+  before = λ v s. x.before v (y.before v s);
+  stays = λ outside a t. y.stays outside a (x.stays outside a t);
+  operand = y.operand;
+  bits = y.bits;
+  given = λ outside a there.
+      let first = x.given outside a there in
+      let second = y.given outside first.wires (sub (behind p outside mid) (λ k d lt. x.stays outside _ (there k d lt)) first.there) in
+      record {
+        wires = second.wires;
+        there = second.there;
+        value = λ v f s n.
+            let earlier = y.before v s in
+            second.value v f s tt ∙ same v (λ k d lt. fit_of (behind p outside old) v _ (there k d lt) (a.fits v f (x.before v earlier))) (first.value v f earlier n);
+      };
+}
+
+-- a step that takes what the step before gave
+pub gives_next :
+    {P : Type 0} (p : P) (old mid new : List (BlockWireTree (Name P))) (args : List (Operand (Name P))) (needs : Env (Name P) → Type 0) (f h g : Env (Name P) → ℕ) (w u : ℕ) (o r : Operand (Name P)) → Gives p old mid args needs f w o
+    → Gives p mid new (o ∷ []) always h u r → ((v : Env (Name P)) → All (IsFit v) args → number_in v o ≡ f v → h v ≡ g v) → Gives p old new args needs g u r
+gives_next p old mid new args needs f h g w u o r x y same = gives_then p old mid new args (o ∷ []) needs f h g w u o r x y (λ ins all there. all_one (IsAvailable ins) o there) same
+
+-- an operator in as many bits, said otherwise
+pub worth_at :
+    {P : Type 0} (p : P) (old new : List (BlockWireTree (Name P))) (args inputs : List (Operand (Name P))) (o : Operand (Name P)) (packet : PacketIn) (op : Operator) (m k : ℕ) → m ≡ k → Gives p old new args always (worth packet op inputs m) m o
+    → Gives p old new args always (worth packet op inputs k) k o
+worth_at p old new args inputs o packet op m k e x = subst (λ n. Gives p old new args always (worth packet op inputs n) n o) e x
+
+-- a number, and no wire
+pub known_gives :
+    {P : Type 0} (p : P) (ws : List (BlockWireTree (Name P))) (args : List (Operand (Name P))) (needs : Env (Name P) → Type 0) (g : Env (Name P) → ℕ) (w n : ℕ) → n < 2 ^ w → w ≤ 64
+    → ((v : Env (Name P)) → All (IsFit v) args → needs v → n ≡ g v) → Gives p ws ws args needs g w (Known n)
+known_gives p ws args needs g w n small most same = record {
+  before = λ v s. s;
+  stays = λ outside a t. t;
+  operand = omega (arith, small, pow_mono {i = w} {j = 64} most);
+  bits = small;
+  given = λ outside a there. record {
+    wires = a;
+    there = tt;
+    value = λ v f s m. same v (λ k d lt. fit_of (behind p outside ws) v _ (there k d lt) (a.fits v f s)) m;
+  };
+}
