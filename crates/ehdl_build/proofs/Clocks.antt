@@ -188,7 +188,7 @@ module _ (i : Inputs) (p : Place) (e : Env (Name Part)) (s : Sees whole (words_o
   ends_is : e.net (wire_name wire.Done) ≡ bit (ends i p)
   ends_is = (s.wires Sender sender).1.1.1.0 ∙ (λ k. apply And (gives_is k) (at_last k)) ∙ and_bits (gives i p) (is_at_last p)
 
-  word_is : e.net (wire_name wire.Word) ≡ get_or p.cells p.at nothing
+  word_is : e.net (wire_name wire.Stored) ≡ get_or p.cells p.at nothing
   word_is = (s.wires Sender sender).1.1.1.1.0 ∙ s.memory_word Receiver 0 _ receiver (lit< tt) ∙ ap (λ (w : Word). get_or p.cells w.value nothing) sent
 
   shown_word : e.net (wire_name wire.Data) ≡ conditional (bit p.sending) (get_or p.cells p.at nothing) (word 64 0)

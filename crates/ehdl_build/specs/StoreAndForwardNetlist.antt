@@ -55,7 +55,7 @@ wire_name wire.NextSent = name.Wire Sender 0
 wire_name wire.AtLast = name.Wire Sender 1
 wire_name wire.Last = name.Wire Sender 2
 wire_name wire.Done = name.Wire Sender 3
-wire_name wire.Word = name.Wire Sender 4
+wire_name wire.Stored = name.Wire Sender 4
 wire_name wire.Data = name.Wire Sender 5
 wire_name wire.Count = name.Wire Sender 6
 wire_name wire.Bytes = name.Wire Sender 7
@@ -65,7 +65,7 @@ abbrev pub operand_tree : Operand → Tree (Name Part)
 operand_tree (Input port) = TRead (name.Port port)
 operand_tree (Held r) = TRead (register_name r)
 operand_tree (Net w) = TRead (wire_name w)
-operand_tree (Constant w) = TConst w
+operand_tree (Constant width value) = TConst (word width value)
 
 abbrev pub gate_tree : Gate → Tree (Name Part)
 gate_tree (Not a) = TUnary unary.Not (operand_tree a)
@@ -105,7 +105,7 @@ abbrev pub whole : Whole Part
 whole = record { parts = Control ∷ Receiver ∷ Sender ∷ []; place = part_place; block = part_block }
 
 abbrev pub outputs : ℕ → List (OutputTree (Name Part))
-outputs verdict = output_tree (OUT_VERDICT, Constant (word 32 verdict)) ∷ map output_tree OUTPUTS
+outputs verdict = output_tree (OUT_VERDICT, Constant 32 verdict) ∷ map output_tree OUTPUTS
 
 abbrev pub net_names : List (List ℕ)
 net_names = map (λ text. text.now) NET_NAMES

@@ -9,7 +9,7 @@ use crate::nets::{Memory, Part, Register, Wire};
 use block_core::block::{Block, BlockMemory, BlockWire};
 use block_core::build::{memory_word, read, set, store};
 use block_core::name::Name;
-use net_core::build::{binary, block, conditional, statements, unary, when};
+use net_core::build::{binary, block, conditional, constant, statements, unary, when};
 use net_core::tree::{Expr, Op, Right, Stmt, UnaryOp, Word};
 use std::alloc::{AllocError, Global};
 
@@ -20,7 +20,8 @@ pub(crate) enum Operand {
     Input(u32),
     Held(Register),
     Net(Wire),
-    Constant(Word),
+    /// A width and a value.
+    Constant(u8, u64),
 }
 
 /// What a wire is made by.
@@ -50,7 +51,7 @@ pub(crate) fn operand_value(value: Operand) -> Expr<Name<Part>>
         Operand::Input(port) => Expr::Read(Name::Port(port)),
         Operand::Held(register) => read(register),
         Operand::Net(wire) => read(wire),
-        Operand::Constant(word) => Expr::Const(word),
+        Operand::Constant(width, value) => constant(width, value),
     }
 }
 

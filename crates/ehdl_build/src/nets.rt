@@ -95,7 +95,7 @@ pub(crate) enum Wire {
     /// The last beat goes out.
     Done,
     /// The word at its place.
-    Word,
+    Stored,
     /// The word that is shown.
     Data,
     /// How many bytes count of the beat at its place.
@@ -119,7 +119,7 @@ impl Named for Wire {
             Wire::AtLast => Name::Wire(Part::Sender, 1),
             Wire::Last => Name::Wire(Part::Sender, 2),
             Wire::Done => Name::Wire(Part::Sender, 3),
-            Wire::Word => Name::Wire(Part::Sender, 4),
+            Wire::Stored => Name::Wire(Part::Sender, 4),
             Wire::Data => Name::Wire(Part::Sender, 5),
             Wire::Count => Name::Wire(Part::Sender, 6),
             Wire::Bytes => Name::Wire(Part::Sender, 7),

@@ -11,7 +11,12 @@ use crate::gates::Change::{Set, Store};
 use crate::gates::Gate::{Binary, Choice, Not, Read};
 use crate::gates::Operand::{Constant, Held, Input, Net};
 use crate::gates::{Change, Gate, Operand, operand_value, table_block};
-use crate::nets::{Memory, Part, Register, Wire};
+use crate::nets::Memory::Frame;
+use crate::nets::Register::{LastBytes, Received, Sending, Sent};
+use crate::nets::Wire::{
+    AtLast, Bytes, Count, Data, Done, Gives, Last, NextReceived, NextSent, Ready, Stored, Takes,
+};
+use crate::nets::{Part, Wire};
 use block_core::block::{Block, BlockMemory, Output, Placed};
 use block_core::name::Name;
 use block_core::{LinkError, link};
@@ -21,137 +26,90 @@ use net_core::ports::{
     OUT_DATA, OUT_LAST, OUT_READY, OUT_RELOAD, OUT_TARGET, OUT_VALID, OUT_VERDICT, PORT_NAMES,
     PORTS,
 };
-use net_core::tree::{Op, Word};
+use net_core::tree::Op::{Add, And, Equal};
+use net_core::tree::Word;
 use std::alloc::{AllocError, Global};
 
 // How many bits the number of a beat has in the memory, which has room for a frame's beats.
 const PLACE_WIDTH: u8 = 11;
-
-const NO_BIT: Word = Word { width: 1, value: 0 };
 
 const NO_BEATS: Word = Word {
     width: PLACE_WIDTH,
     value: 0,
 };
 
-const ONE_BEAT: Word = Word {
-    width: PLACE_WIDTH,
-    value: 1,
-};
-
-const NO_BYTES: Word = Word { width: 4, value: 0 };
-
-const ALL_BYTES: Word = Word { width: 4, value: 8 };
-
-const NO_HALF: Word = Word {
-    width: 32,
-    value: 0,
-};
-
-const NO_WORD: Word = Word {
-    width: 64,
-    value: 0,
-};
-
-const CONTROL_REGISTERS: [Word; 1] = [NO_BIT];
+// ---- Which way beats go: `Sending`; `Ready`, `Takes`, `Gives`.
+const CONTROL_REGISTERS: [Word; 1] = [Word { width: 1, value: 0 }];
 
 const CONTROL_WIRES: [(u8, Gate); 3] = [
-    (1, Not(Held(Register::Sending))),
-    (1, Binary(Op::And, Net(Wire::Ready), Input(IN_VALID))),
-    (
-        1,
-        Binary(Op::And, Held(Register::Sending), Input(OUT_READY)),
-    ),
+    (1, Not(Held(Sending))),
+    (1, Binary(And, Net(Ready), Input(IN_VALID))),
+    (1, Binary(And, Held(Sending), Input(OUT_READY))),
 ];
 
 const CONTROL_CHANGES: [(Wire, Change); 2] = [
-    (Wire::Takes, Set(Register::Sending, Input(IN_LAST))),
-    (Wire::Done, Set(Register::Sending, Constant(NO_BIT))),
+    (Takes, Set(Sending, Input(IN_LAST))),
+    (Done, Set(Sending, Constant(1, 0))),
 ];
 
-// A beat that comes is stored behind those that are there. Once the last beat has gone out the memory is empty again.
-const RECEIVER_REGISTERS: [Word; 2] = [NO_BEATS, NO_BYTES];
+// ---- A beat that comes is stored behind those that are there: `Received`, `LastBytes`; `Frame`; `NextReceived`.
+const RECEIVER_REGISTERS: [Word; 2] = [NO_BEATS, Word { width: 4, value: 0 }];
 
 const RECEIVER_MEMORIES: [BlockMemory; 1] = [BlockMemory {
     index: PLACE_WIDTH,
-    first: NO_WORD,
+    first: Word {
+        width: 64,
+        value: 0,
+    },
 }];
 
 const RECEIVER_WIRES: [(u8, Gate); 1] = [(
     PLACE_WIDTH,
-    Binary(Op::Add, Held(Register::Received), Constant(ONE_BEAT)),
+    Binary(Add, Held(Received), Constant(PLACE_WIDTH, 1)),
 )];
 
 const RECEIVER_CHANGES: [(Wire, Change); 4] = [
-    (
-        Wire::Takes,
-        Store(Memory::Frame, Held(Register::Received), Input(IN_DATA)),
-    ),
-    (
-        Wire::Takes,
-        Set(Register::Received, Net(Wire::NextReceived)),
-    ),
-    (Wire::Takes, Set(Register::LastBytes, Input(IN_BYTES))),
-    (Wire::Done, Set(Register::Received, Constant(NO_BEATS))),
+    (Takes, Store(Frame, Held(Received), Input(IN_DATA))),
+    (Takes, Set(Received, Net(NextReceived))),
+    (Takes, Set(LastBytes, Input(IN_BYTES))),
+    (Done, Set(Received, Constant(PLACE_WIDTH, 0))),
 ];
 
-// The beats of the memory are shown one after another.
+// ---- The beats of the memory are shown one after another: `Sent`; `NextSent`, `AtLast`, `Last`, `Done`, and of the beat at its
+// place and the one that is shown the word and the bytes that count, `Stored`, `Data`, `Count`, `Bytes`.
 const SENDER_REGISTERS: [Word; 1] = [NO_BEATS];
 
 const SENDER_WIRES: [(u8, Gate); 8] = [
     (
         PLACE_WIDTH,
-        Binary(Op::Add, Held(Register::Sent), Constant(ONE_BEAT)),
+        Binary(Add, Held(Sent), Constant(PLACE_WIDTH, 1)),
     ),
-    (
-        1,
-        Binary(Op::Equal, Net(Wire::NextSent), Held(Register::Received)),
-    ),
-    (
-        1,
-        Binary(Op::And, Held(Register::Sending), Net(Wire::AtLast)),
-    ),
-    (1, Binary(Op::And, Net(Wire::Gives), Net(Wire::AtLast))),
-    (64, Read(Memory::Frame, Held(Register::Sent))),
-    (
-        64,
-        Choice(Held(Register::Sending), Net(Wire::Word), Constant(NO_WORD)),
-    ),
-    (
-        4,
-        Choice(
-            Net(Wire::AtLast),
-            Held(Register::LastBytes),
-            Constant(ALL_BYTES),
-        ),
-    ),
-    (
-        4,
-        Choice(
-            Held(Register::Sending),
-            Net(Wire::Count),
-            Constant(NO_BYTES),
-        ),
-    ),
+    (1, Binary(Equal, Net(NextSent), Held(Received))),
+    (1, Binary(And, Held(Sending), Net(AtLast))),
+    (1, Binary(And, Net(Gives), Net(AtLast))),
+    (64, Read(Frame, Held(Sent))),
+    (64, Choice(Held(Sending), Net(Stored), Constant(64, 0))),
+    (4, Choice(Net(AtLast), Held(LastBytes), Constant(4, 8))),
+    (4, Choice(Held(Sending), Net(Count), Constant(4, 0))),
 ];
 
 const SENDER_CHANGES: [(Wire, Change); 2] = [
-    (Wire::Gives, Set(Register::Sent, Net(Wire::NextSent))),
-    (Wire::Done, Set(Register::Sent, Constant(NO_BEATS))),
+    (Gives, Set(Sent, Net(NextSent))),
+    (Done, Set(Sent, Constant(PLACE_WIDTH, 0))),
 ];
 
 // What the outputs show beside the verdict: the beat, and what is always 0, the target, the reload, and what the host is shown.
 const OUTPUTS: [(u32, Operand); 10] = [
-    (IN_READY, Net(Wire::Ready)),
-    (OUT_VALID, Held(Register::Sending)),
-    (OUT_DATA, Net(Wire::Data)),
-    (OUT_BYTES, Net(Wire::Bytes)),
-    (OUT_LAST, Net(Wire::Last)),
-    (OUT_TARGET, Constant(NO_HALF)),
-    (OUT_RELOAD, Constant(NO_BIT)),
-    (HOST_VALUE, Constant(NO_WORD)),
-    (HOST_READY, Constant(NO_BIT)),
-    (HOST_PASSED, Constant(NO_HALF)),
+    (IN_READY, Net(Ready)),
+    (OUT_VALID, Held(Sending)),
+    (OUT_DATA, Net(Data)),
+    (OUT_BYTES, Net(Bytes)),
+    (OUT_LAST, Net(Last)),
+    (OUT_TARGET, Constant(32, 0)),
+    (OUT_RELOAD, Constant(1, 0)),
+    (HOST_VALUE, Constant(64, 0)),
+    (HOST_READY, Constant(1, 0)),
+    (HOST_PASSED, Constant(32, 0)),
 ];
 
 // The names of its nets behind those of the ports: registers, memories and wires, part after part.
@@ -170,7 +128,7 @@ const NET_NAMES: [&str; 18] = [
     "w_at_last",
     "w_last",
     "w_done",
-    "w_word",
+    "w_stored",
     "w_data",
     "w_count",
     "w_bytes",
@@ -268,11 +226,8 @@ fn all_shown(alloc: Global, rows: &[(u32, Operand)]) -> Result<Vec<Output<Name<P
 fn shows(alloc: Global, verdict: u32) -> Result<Vec<Output<Name<Part>>>, AllocError>
     ensures { IfOk result (λ v. map output_of v.items ≡ outputs verdict) }
 {
-    let word = Word {
-        width: 32,
-        value: u64::from(verdict),
-    };
-    let mut all = vec![in alloc; shown(OUT_VERDICT, Constant(word))]?;
+    let verdict = Constant(32, u64::from(verdict));
+    let mut all = vec![in alloc; shown(OUT_VERDICT, verdict)]?;
     let mut others = all_shown(alloc, &OUTPUTS)?;
     all.append(&mut others)?;
     Ok(all)
