@@ -23,7 +23,7 @@ use Rattle.design_rules.proofs.FormedWidthLaws.{same_some}
 use Rattle.block_core.specs.declared.name.Name.{Name}
 use Rattle.block_core.specs.declared.block.BlockMemory.{BlockMemory}
 use Rattle.block_core.specs.Blocks.{BlockTree, OutputTree, registers_of, memories_of, Whole, Among, start}
-use Rattle.block_core.specs.Link.{resolve, link_output, all_registers, all_memories, all_wires, all_statements, declare_register, declare_memory, link}
+use Rattle.block_core.specs.Link.{resolve, link_output, all_registers, all_memories, all_statements, declare_register, declare_memory, link}
 use Rattle.block_core.specs.Formed.{word_width, block_memory_width, block_registers, block_memories, names_scope, IsFormed}
 use Rattle.block_core.proofs.GatheredLaws.{runs, length_map}
 use Rattle.block_core.proofs.TypedLaws.{linked_is_typed}
