@@ -3,7 +3,7 @@ pub mod Renamed
 pub mod Solved
 pub mod Ordered
 pub mod Edges
-pub mod Linked
+pub mod LinkedLaws
 pub mod Loops
 pub mod Ranges
 pub mod LinkedTrees

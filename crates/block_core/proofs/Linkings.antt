@@ -19,7 +19,7 @@ use Rattle.block_core.specs.declared.block.Placed.{Placed}
 use Rattle.block_core.specs.declared.starts.Starts.{Starts}
 use Rattle.block_core.specs.Rename.{rename_statement}
 use Rattle.block_core.specs.Blocks.{BlockTree, OutputTree, Whole, Among, gather, running, start, registers_of, memories_of, wires_of}
-use Rattle.block_core.specs.Link.{resolve, link_wires, link_output, link_statement, all_registers, all_memories, all_wires, all_statements, declare_register, declare_memory, net_names, link}
+use Rattle.block_core.specs.Link.{resolve, link_wires, link_output, link_statement, all_registers, all_memories, all_wires, all_statements, declare_register, declare_memory, net_names, numbered_names, link}
 use Rattle.block_core.specs.View.{block_of, resolve_in, linked_statement, StartsOf, Makes}
 use Rattle.block_core.specs.Range.{in_range, wires_in_range, assigns_in_range, statement_in_range, totals_in_range, total, design_in_range}
 use Rattle.block_core.proofs.GatheredLaws.{map_gather}
@@ -129,12 +129,12 @@ module _ {P : Type 0} (place : P → ℕ) (placed : List (Placed P)) (d : Whole 
       → always ≡ map (linked_statement place s) placed
       → names ≡ port_names ++ net_names (r - 1) (n - r) w
       → r ≡ length first → n ≡ length all → w ≡ length wires
-      → ◌≡◌ {A = Netlist} (record { names = names; ports = ports; declared = all; wires = wires; assigns = assigns; always = always }) (link d port_names ports outputs)
+      → ◌≡◌ {A = Netlist} (record { names = names; ports = ports; declared = all; wires = wires; assigns = assigns; always = always }) (link d (numbered_names d port_names) ports outputs)
   link_made port_names names ports outputs first all wires assigns always r n w f x y z u is a b c =
       let rs : r - 1 ≡ length (all_registers d d.parts) = (let k = ap length f in omega (arith, a, k)) ∙ registers_count in
       let ms : n - r ≡ length (all_memories d d.parts) = (let k = ap length x ∙ length_append first (gather (λ m. map declare_memory (block_of m.block).memories) placed) in omega (arith, a, b, k)) ∙ memories_count in
       let ws : w ≡ length (all_wires d d.parts) = c ∙ ap length (y ∙ wires_made) in
-      let is_names : names ≡ port_names ++ net_names (length (all_registers d d.parts)) (length (all_memories d d.parts)) (length (all_wires d d.parts)) = is ∙ (λ i. port_names ++ net_names (rs i) (ms i) (ws i)) in
+      let is_names : names ≡ numbered_names d port_names = is ∙ (λ i. port_names ++ net_names (rs i) (ms i) (ws i)) in
       let is_declared : all ≡ declared.Integer ∷ (map declare_register (all_registers d d.parts) ++ map declare_memory (all_memories d d.parts)) =
       x ∙ ap (λ l. l ++ gather (λ m. map declare_memory (block_of m.block).memories) placed) f ∙ (λ i. declared.Integer ∷ (registers_made i ++ memories_made i)) in
       let is_wires : wires ≡ all_wires d d.parts = y ∙ wires_made in

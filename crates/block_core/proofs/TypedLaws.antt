@@ -75,24 +75,24 @@ module _ {M N : Type 0} (f : M → N) (q : M → Type 0) (s : Scope M) (t : Scop
           let p = and_parts (statement_typed s rs ms x) (statements_typed s rs ms more) h in
           and_from _ _ (statement_moved x e.0 p.0) (statements_moved more e.1 p.1)
 
-module _ {P : Type 0} (d : Whole P) (port_names : List (List ℕ)) (ports : List Port) (outputs : List (OutputTree (Name P))) (l : IsPlaced d) where
-  agree_before : (before : List P) (p : P) (at : ℕ) (ws : List ℕ) → Known d before p at ws → Agree (resolve d) (IsBefore d before p at) (names_scope d ports) (scope (link d port_names ports outputs) ws)
+module _ {P : Type 0} (d : Whole P) (names : List (List ℕ)) (ports : List Port) (outputs : List (OutputTree (Name P))) (l : IsPlaced d) where
+  agree_before : (before : List P) (p : P) (at : ℕ) (ws : List ℕ) → Known d before p at ws → Agree (resolve d) (IsBefore d before p at) (names_scope d ports) (scope (link d names ports outputs) ws)
   agree_before before p at ws k = record { net = on_net; memory_word = on_word; index = on_index }
     where
-      on_net : (n : Name P) → IsBefore d before p at n → 0 < (names_scope d ports).net n → (scope (link d port_names ports outputs) ws).net (resolve d n) ≡ (names_scope d ports).net n
+      on_net : (n : Name P) → IsBefore d before p at n → 0 < (names_scope d ports).net n → (scope (link d names ports outputs) ws).net (resolve d n) ≡ (names_scope d ports).net n
       on_net (name.Port i) b h = refl
       on_net (name.Register q i) b h = register_at d l q i b h
       on_net (name.Memory q i) b h = refl
       on_net (name.Wire q i) (inl b) h = let e = b.0 in rw e (k.own i b.1)
       on_net (name.Wire q i) (inr b) h = k.earlier q b.0 i b.1
 
-      on_word : (n : Name P) → IsBefore d before p at n → 0 < (names_scope d ports).memory_word n → (scope (link d port_names ports outputs) ws).memory_word (resolve d n) ≡ (names_scope d ports).memory_word n
+      on_word : (n : Name P) → IsBefore d before p at n → 0 < (names_scope d ports).memory_word n → (scope (link d names ports outputs) ws).memory_word (resolve d n) ≡ (names_scope d ports).memory_word n
       on_word (name.Port i) b h = refl
       on_word (name.Register q i) b h = refl
       on_word (name.Memory q i) b h = ap (λ (x : ℕ × ℕ). x.1) (memory_at d l q i b h)
       on_word (name.Wire q i) b h = refl
 
-      on_index : (n : Name P) → IsBefore d before p at n → 0 < (names_scope d ports).memory_word n → (scope (link d port_names ports outputs) ws).index (resolve d n) ≡ (names_scope d ports).index n
+      on_index : (n : Name P) → IsBefore d before p at n → 0 < (names_scope d ports).memory_word n → (scope (link d names ports outputs) ws).index (resolve d n) ≡ (names_scope d ports).index n
       on_index (name.Port i) b h = refl
       on_index (name.Register q i) b h = refl
       on_index (name.Memory q i) b h = ap (λ (x : ℕ × ℕ). x.0) (memory_at d l q i b h)
@@ -100,11 +100,11 @@ module _ {P : Type 0} (d : Whole P) (port_names : List (List ℕ)) (ports : List
 
   part_typed : (before : List P) (p : P) (at : ℕ) (ws front : List ℕ) (own : List (BlockWireTree (Name P))) (rest : List WireTree)
       → Below d before (start wires_of d p) → Known d before p at ws → block_wires (d.block p) ≡ front ++ map block_wire_width own → length front ≡ at → InOrder d before p at own → block_wires_typed (names_scope d ports) own ≡ true
-      → ((ws : List ℕ) → Known d before p (at + length own) ws → wires_typed (link d port_names ports outputs) ws rest ≡ true) → wires_typed (link d port_names ports outputs) ws (link_wires (resolve d) own ++ rest) ≡ true
+      → ((ws : List ℕ) → Known d before p (at + length own) ws → wires_typed (link d names ports outputs) ws rest ≡ true) → wires_typed (link d names ports outputs) ws (link_wires (resolve d) own ++ rest) ≡ true
   part_typed before p at ws front [] rest b k e c o h go = let z : at + 0 ≡ at = omega arith in go ws (subst (λ n. Known d before p n ws) (sym z) k)
   part_typed before p at ws front (x ∷ own) rest b k e c o h go =
       let s = names_scope d ports in
-      let t = scope (link d port_names ports outputs) ws in
+      let t = scope (link d names ports outputs) ws in
       let y = and_parts (same x.width (right_width s x.right) && nat_le x.width 64) (block_wires_typed s own) h in
       let z = and_parts (same x.width (right_width s x.right)) (nat_le x.width 64) y.0 in
       let w = sides x.width (right_width s x.right) z.0 in
@@ -118,7 +118,7 @@ module _ {P : Type 0} (d : Whole P) (port_names : List (List ℕ)) (ports : List
   parts_typed : (before : List P) (w : ℕ) (ps : List P) (ws : List ℕ)
       → Runs (λ p. wires_of (d.block p)) (start wires_of d) w ps → Below d before w → length ws ≡ w
       → ((q : P) → Among q before → (j : ℕ) → j < wires_of (d.block q) → get_or ws (start wires_of d q + j) 0 ≡ get_or (block_wires (d.block q)) j 0)
-      → AllInOrder d before ps → ((p : P) → Among p ps → IsTypedBlock d ports (d.block p)) → wires_typed (link d port_names ports outputs) ws (all_wires d ps) ≡ true
+      → AllInOrder d before ps → ((p : P) → Among p ps → IsTypedBlock d ports (d.block p)) → wires_typed (link d names ports outputs) ws (all_wires d ps) ≡ true
   parts_typed before w [] ws t b c k o h = refl
   parts_typed before w (p ∷ ps) ws t b c k o h =
       let e = t.0 in
@@ -133,53 +133,53 @@ module _ {P : Type 0} (d : Whole P) (port_names : List (List ℕ)) (ports : List
       all_earlier ws g q (inr a) j y = g.earlier q a j y
 
   -- ---- statements and outputs: all nets have their widths
-  agree_all : Agree (resolve d) (IsThere d) (names_scope d ports) (full_scope (link d port_names ports outputs))
+  agree_all : Agree (resolve d) (IsThere d) (names_scope d ports) (full_scope (link d names ports outputs))
   agree_all = record { net = on_net; memory_word = on_word; index = on_index }
     where
-      on_net : (n : Name P) → IsThere d n → 0 < (names_scope d ports).net n → (full_scope (link d port_names ports outputs)).net (resolve d n) ≡ (names_scope d ports).net n
+      on_net : (n : Name P) → IsThere d n → 0 < (names_scope d ports).net n → (full_scope (link d names ports outputs)).net (resolve d n) ≡ (names_scope d ports).net n
       on_net (name.Port i) b h = refl
       on_net (name.Register q i) b h = register_at d l q i b h
       on_net (name.Memory q i) b h = refl
       on_net (name.Wire q i) b h = wire_at d l q i b h
 
-      on_word : (n : Name P) → IsThere d n → 0 < (names_scope d ports).memory_word n → (full_scope (link d port_names ports outputs)).memory_word (resolve d n) ≡ (names_scope d ports).memory_word n
+      on_word : (n : Name P) → IsThere d n → 0 < (names_scope d ports).memory_word n → (full_scope (link d names ports outputs)).memory_word (resolve d n) ≡ (names_scope d ports).memory_word n
       on_word (name.Port i) b h = refl
       on_word (name.Register q i) b h = refl
       on_word (name.Memory q i) b h = ap (λ (x : ℕ × ℕ). x.1) (memory_at d l q i b h)
       on_word (name.Wire q i) b h = refl
 
-      on_index : (n : Name P) → IsThere d n → 0 < (names_scope d ports).memory_word n → (full_scope (link d port_names ports outputs)).index (resolve d n) ≡ (names_scope d ports).index n
+      on_index : (n : Name P) → IsThere d n → 0 < (names_scope d ports).memory_word n → (full_scope (link d names ports outputs)).index (resolve d n) ≡ (names_scope d ports).index n
       on_index (name.Port i) b h = refl
       on_index (name.Register q i) b h = refl
       on_index (name.Memory q i) b h = ap (λ (x : ℕ × ℕ). x.0) (memory_at d l q i b h)
       on_index (name.Wire q i) b h = refl
 
   statements_typed_in : (ps : List P) → ((p : P) → Among p d.parts → IsTypedBlock d ports (d.block p)) → ((p : P) → Among p d.parts → StatementReads (IsThere d) (d.block p).statement)
-      → ((p : P) → Among p ps → Among p d.parts) → statements_all_typed (link d port_names ports outputs) (all_statements d ps) ≡ true
+      → ((p : P) → Among p ps → Among p d.parts) → statements_all_typed (link d names ports outputs) (all_statements d ps) ≡ true
   statements_typed_in [] h r i = refl
   statements_typed_in (p ∷ ps) h r i =
       let a = i p (inl refl) in
       and_from _ _
-      (statement_moved (resolve d) (IsThere d) (names_scope d ports) (full_scope (link d port_names ports outputs)) agree_all (block_registers (d.block p)) (block_memories (d.block p)) _ _ (start registers_of d p) (start memories_of d p)
+      (statement_moved (resolve d) (IsThere d) (names_scope d ports) (full_scope (link d names ports outputs)) agree_all (block_registers (d.block p)) (block_memories (d.block p)) _ _ (start registers_of d p) (start memories_of d p)
       (record { register = λ j q. register_at d l p j a q; memory = λ j q. memory_at d l p j a q }) (d.block p).statement (r p a) (h p a).statement)
       (statements_typed_in ps h r (λ q x. i q (inr x)))
 
-  outputs_shown : (os : List (OutputTree (Name P))) → OutputsRead (IsThere d) os → outputs_typed (names_scope d ports) ports os ≡ true → assigns_typed (link d port_names ports outputs) (map (link_output (resolve d)) os) ≡ true
+  outputs_shown : (os : List (OutputTree (Name P))) → OutputsRead (IsThere d) os → outputs_typed (names_scope d ports) ports os ≡ true → assigns_typed (link d names ports outputs) (map (link_output (resolve d)) os) ≡ true
   outputs_shown [] r h = refl
   outputs_shown (x ∷ os) r h =
       let s = names_scope d ports in
       let w = output_width (get_or ports x.port (record { output = false; width = 0 })) in
       let p = and_parts (same w (width_of s x.value)) (outputs_typed s ports os) h in
       let o = sides w (width_of s x.value) p.0 in
-      let k = width_renamed (resolve d) (IsThere d) s (full_scope (link d port_names ports outputs)) agree_all x.value r.0 (omega (arith, o.some, o.is)) in
+      let k = width_renamed (resolve d) (IsThere d) s (full_scope (link d names ports outputs)) agree_all x.value r.0 (omega (arith, o.some, o.is)) in
       and_from _ _ (rw k p.0) (outputs_shown os r.1 p.1)
 
 pub linked_is_typed : (P : Type 0) → LinkedIsTyped P
-linked_is_typed P d port_names ports outputs h = record {
+linked_is_typed P d names ports outputs h = record {
   ports = h.has_ports;
   declared = all_declared_typed d (λ p a. (h.blocks p a).registers) (λ p a. (h.blocks p a).memories);
-  wires = parts_typed d port_names ports outputs h.placed [] 0 d.parts [] (runs wires_of d h.placed) (λ q a. absurd a) refl (λ q a. absurd a) h.ordered h.blocks;
-  assigns = outputs_shown d port_names ports outputs h.placed outputs h.shows h.shown;
+  wires = parts_typed d names ports outputs h.placed [] 0 d.parts [] (runs wires_of d h.placed) (λ q a. absurd a) refl (λ q a. absurd a) h.ordered h.blocks;
+  assigns = outputs_shown d names ports outputs h.placed outputs h.shows h.shown;
   outputs = h.assigned;
-  always = statements_typed_in d port_names ports outputs h.placed d.parts h.blocks h.statements (λ p a. a);
+  always = statements_typed_in d names ports outputs h.placed d.parts h.blocks h.statements (λ p a. a);
 }

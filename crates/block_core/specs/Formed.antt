@@ -109,4 +109,4 @@ pub record IsFormed {P : Type 0} (d : Whole P) (ports : List Port) (outputs : Li
 
 -- such a design is well typed
 abbrev pub LinkedIsTyped : (P : Type 0) → Type 0
-LinkedIsTyped P = (d : Whole P) (port_names : List (List ℕ)) (ports : List Port) (outputs : List (OutputTree (Name P))) → IsFormed d ports outputs → IsTyped (link d port_names ports outputs)
+LinkedIsTyped P = (d : Whole P) (names : List (List ℕ)) (ports : List Port) (outputs : List (OutputTree (Name P))) → IsFormed d ports outputs → IsTyped (link d names ports outputs)

@@ -18,12 +18,12 @@ pub record IsLinkable {P : Type 0} (d : Whole P) : Type 0 where
 
 -- each clock of the design is one of its parts
 abbrev pub Linked : (P : Type 0) → Type 0
-Linked P = (d : Whole P) (port_names : List (List ℕ)) (ports : List Port) (outputs : List (OutputTree (Name P))) (ins : List Word) (ss : P → Stored)
-    → IsLinkable d → ((p : P) → Among p d.parts → IsSized (d.block p) (ss p)) → ClockOfParts d (link d port_names ports outputs) outputs ins ss
+Linked P = (d : Whole P) (names : List (List ℕ)) (ports : List Port) (outputs : List (OutputTree (Name P))) (ins : List Word) (ss : P → Stored)
+    → IsLinkable d → ((p : P) → Among p d.parts → IsSized (d.block p) (ss p)) → ClockOfParts d (link d names ports outputs) outputs ins ss
 
 -- a design first stores what its blocks do
 abbrev pub StartsAsParts : (P : Type 0) → Type 0
-StartsAsParts P = (d : Whole P) (port_names : List (List ℕ)) (ports : List Port) (outputs : List (OutputTree (Name P))) → first_stored (link d port_names ports outputs) ≡ stored_of d (λ p. first_of (d.block p))
+StartsAsParts P = (d : Whole P) (names : List (List ℕ)) (ports : List Port) (outputs : List (OutputTree (Name P))) → first_stored (link d names ports outputs) ≡ stored_of d (λ p. first_of (d.block p))
 
 -- A block first stores as many registers and memories as it has, and each clock leaves as many.
 pub record SizesStay (N : Type 0) : Type 0 where

@@ -63,17 +63,17 @@ numbered letter at (suc n) = (letter ++ decimal at) ∷ numbered letter (suc at)
 abbrev pub net_names : ℕ → ℕ → ℕ → List (List ℕ)
 net_names registers memories wires = codes "i_0" ∷ (numbered (codes "r_") 0 registers ++ (numbered (codes "m_") 0 memories ++ numbered (codes "w_") 0 wires))
 
--- The design of the parts, behind ports with these names: its integer, then section by section part after part.
+-- the names of ports, and behind them those of numbered nets
+abbrev pub numbered_names : {P : Type 0} → Whole P → List (List ℕ) → List (List ℕ)
+numbered_names d port_names = port_names ++ net_names (length (all_registers d d.parts)) (length (all_memories d d.parts)) (length (all_wires d d.parts))
+
+-- The design of the parts under these names of ports and nets: its integer, then section by section part after part.
 abbrev pub link : {P : Type 0} → Whole P → List (List ℕ) → List Port → List (OutputTree (Name P)) → Netlist
-link d port_names ports outputs =
-    let registers = all_registers d d.parts in
-    let memories = all_memories d d.parts in
-    let wires = all_wires d d.parts in
-    record {
-      names = port_names ++ net_names (length registers) (length memories) (length wires);
-      ports = ports;
-      declared = all_declared registers memories;
-      wires = wires;
-      assigns = map (link_output (resolve d)) outputs;
-      always = all_statements d d.parts;
-    }
+link d names ports outputs = record {
+  names = names;
+  ports = ports;
+  declared = all_declared (all_registers d d.parts) (all_memories d d.parts);
+  wires = all_wires d d.parts;
+  assigns = map (link_output (resolve d)) outputs;
+  always = all_statements d d.parts;
+}

@@ -4,7 +4,7 @@ ghost use Rattle.std.specs.Prelude.{◌≡◌, ◌++◌, IfOk, OnOk, IsErr, IsEr
 ghost use Rattle.std.specs.Fmt.{decimal};
 ghost use Rattle.net_core.specs.View.{netlist_of};
 ghost use Rattle.block_core.specs.Blocks.{Whole};
-ghost use Rattle.block_core.specs.Link.{numbered, net_names, link};
+ghost use Rattle.block_core.specs.Link.{numbered, net_names, numbered_names, link};
 ghost use Rattle.block_core.specs.Range.{design_in_range};
 ghost use Rattle.block_core.specs.View.{output_of, Makes};
 
@@ -67,7 +67,7 @@ pub fn link<P: Part>(
     parts: &[Placed<P>],
     outputs: &[Output<Name<P>>],
 ) -> Result<Design, LinkError>
-    ensures linked { IfOk result (λ n. (d : Whole P) → Makes P.place parts.now d → netlist_of n ≡ link d (map string_bytes port_names.items) ports.items (map output_of outputs.now)) }
+    ensures linked { IfOk result (λ n. (d : Whole P) → Makes P.place parts.now d → netlist_of n ≡ link d (numbered_names d (map string_bytes port_names.items)) ports.items (map output_of outputs.now)) }
     ensures in_range { (d : Whole P) → Makes P.place parts.now d → IsTrue (design_in_range d (map output_of outputs.now)) → ¬ IsErrOf result LinkError.TooMany }
     ensures past { (d : Whole P) → Makes P.place parts.now d → ¬ IsTrue (design_in_range d (map output_of outputs.now)) → IsErr result }
 {

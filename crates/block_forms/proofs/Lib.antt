@@ -1,6 +1,6 @@
 pub mod Rules
 pub mod Known
 pub mod Spelled
-pub mod Fresh
+pub mod NamesLaws
 pub mod Apart
-pub mod Ruled
+pub mod WellFormedLaws

@@ -12,7 +12,7 @@ use Rattle.ehdl_build.specs.StoreAndForwardNetlist.{store_and_forward}
 use Rattle.ehdl_build.specs.StoreAndForward.{StoreAndForward, step}
 use Rattle.ehdl_build.specs.Realizes.{beats_offered}
 use Rattle.ehdl_build.proofs.Flows.{total, so_far, IsSound, Flows, flows}
-use Rattle.ehdl_build.proofs.Places.{Place, stored, go, after_is}
+use Rattle.ehdl_build.proofs.Clocks.{Place, stored, go, after_is}
 use Rattle.ehdl_build.proofs.Holds.{Holds, steps}
 use Rattle.ehdl_build.proofs.Refined.{so_many, same_cycle}
 use Rattle.ehdl_build.proofs.LoopStep.{EndsWhole, needed, clock, beats_after, Advances, Empty, Goes, next_advance}

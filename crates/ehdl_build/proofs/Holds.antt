@@ -12,9 +12,8 @@ use Rattle.beat_core.proofs.BeatLaws.{IsOffer-eight}
 use Rattle.net_core.specs.declared.tree.Word.{Word}
 use Rattle.net_core.specs.declared.ports.Inputs.{Inputs}
 use Rattle.net_core.specs.Value.{word, nothing}
-use Rattle.ehdl_build.specs.StoreAndForwardNetlist.{place_width}
 use Rattle.ehdl_build.specs.StoreAndForward.{StoreAndForward, Receiving, Sending, sending, input_beat, step, show}
-use Rattle.ehdl_build.proofs.Places.{Place, go, shown_at, next}
+use Rattle.ehdl_build.proofs.Clocks.{Place, place_width, go, shown_at, next}
 
 abbrev pub values : List Word → List ℕ
 values = map (λ w. w.value)

@@ -1,6 +1,7 @@
 pub mod Flows
 pub mod Histories
-pub mod Places
+pub mod Clocks
+pub mod Made
 pub mod Holds
 pub mod Prefixes
 pub mod Refined

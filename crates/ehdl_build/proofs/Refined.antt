@@ -11,7 +11,7 @@ use Rattle.net_core.specs.Ports.{words_of}
 use Rattle.net_core.specs.History.{Cycle, cycle_of, trace, stored_after, NeverStops, beats_in, IsInput}
 use Rattle.ehdl_build.specs.StoreAndForwardNetlist.{store_and_forward}
 use Rattle.ehdl_build.specs.StoreAndForward.{StoreAndForward, Receiving, Sending, sending, step, state_cycle, state_trace, state_after}
-use Rattle.ehdl_build.proofs.Places.{Place, stored, go, after_is, shown_is, never_stops}
+use Rattle.ehdl_build.proofs.Clocks.{Place, stored, go, after_is, shown_is, never_stops}
 use Rattle.ehdl_build.proofs.Holds.{Holds, MayOffer, shows, steps}
 use Rattle.ehdl_build.proofs.Histories.{beats_in-cons}
 use Rattle.ehdl_build.proofs.Prefixes.{AllKept, KeptToLast, IsKept}
@@ -123,7 +123,7 @@ refined v p s (i ∷ is) h k n o =
     let may : MayOffer s i = may_offer v s i (beats_in ms) cut in
     let r : Refined v (go i p) (step s i) is = refined v (go i p) (step s i) is (steps p s i h may) (keeps s i k n.0 may) n.1 (goes_on AreOffers offers_on v s i (beats_in ms) cut) in
     record {
-      never = (never_stops v i (stored p), subst (λ (t : Stored). NeverStops (store_and_forward v) t is) (sym e) r.never);
+      never = (never_stops v i p, subst (λ (t : Stored). NeverStops (store_and_forward v) t is) (sym e) r.never);
       same = ap (λ (t : Cycle). t ∷ trace (store_and_forward v) (after (store_and_forward v) (words_of i) (stored p)) is) m ∙ ap (λ (t : Stored). state_cycle v s i ∷ trace (store_and_forward v) t is) e ∙ ap (λ ms. state_cycle v s i ∷ ms) r.same;
       place = r.place;
       is_stored = ap (λ (t : Stored). stored_after (store_and_forward v) t is) e ∙ r.is_stored;

@@ -1,116 +1,120 @@
--- The design that takes one frame whole into a memory and then gives it back under one verdict.
-use Rattle.std.specs.Prelude.{ℕ, List, [], ◌∷◌, ◌++◌, codes}
-use Rattle.net_core.specs.declared.tree.Op.TheVariants.{Add, And, Equal}
-use Rattle.net_core.specs.declared.tree.UnaryOp.TheVariants.{Not}
-use Rattle.net_core.specs.declared.tree.Net.{Net}
-use Rattle.net_core.specs.declared.tree.Net.TheVariants.{Port, Register, Memory, Wire}
-use Rattle.net_core.specs.declared.design.Declared.{Declared}
-use Rattle.net_core.specs.declared.design.Declared.TheVariants as declared
-use Rattle.net_core.specs.declared.ports.TheConstants.{IN_VALID, IN_DATA, IN_BYTES, IN_LAST, IN_READY, OUT_READY, OUT_VALID, OUT_DATA, OUT_BYTES, OUT_LAST, OUT_VERDICT, OUT_TARGET, OUT_RELOAD, HOST_VALUE, HOST_READY, HOST_PASSED}
-use Rattle.net_core.specs.Nets.{Tree, TConst, TRead, TMemoryWord, TUnary, TBinary, TConditional, RPlain, StatementTree, SBlock, SIf, SIfElse, SSet, SStore, SEnd, SThen, WireTree, AssignTree, Netlist}
+-- The design that takes one frame whole into a memory and then gives it back under one verdict: what the rows of its tables
+-- stand for.
+use Rattle.std.specs.Prelude.{ℕ, List, [], ◌∷◌, ◌++◌, map}
+use Rattle.net_core.specs.declared.tree.Word.{Word}
+use Rattle.net_core.specs.declared.tree.UnaryOp.TheVariants as unary
+use Rattle.net_core.specs.declared.ports.TheConstants.{OUT_VERDICT}
+use Rattle.net_core.specs.Nets.{Tree, TConst, TRead, TMemoryWord, TUnary, TBinary, TConditional, RPlain, StatementTree, SBlock, SIf, SSet, SStore, SEnd, Netlist}
+use Rattle.net_core.specs.Chains.{statements_before}
 use Rattle.net_core.specs.Value.{word}
 use Rattle.net_core.specs.Ports.{port_list, port_names}
 use Rattle.net_core.specs.History.{Arrival}
 use Rattle.beat_core.specs.declared.answer.Answer.{Answer}
+use Rattle.block_core.specs.declared.name.Name.{Name}
+use Rattle.block_core.specs.declared.name.Name.TheVariants as name
+use Rattle.block_core.specs.declared.block.BlockMemory.{BlockMemory}
+use Rattle.block_core.specs.Blocks.{BlockTree, BlockWireTree, OutputTree, Whole, own_number}
+use Rattle.block_core.specs.Link.{link}
+use Rattle.ehdl_build.specs.declared.nets.Part.{Part}
+use Rattle.ehdl_build.specs.declared.nets.Part.TheVariants.{Control, Receiver, Sender}
+use Rattle.ehdl_build.specs.declared.nets.Register.{Register}
+use Rattle.ehdl_build.specs.declared.nets.Register.TheVariants.{Sending, Received, LastBytes, Sent}
+use Rattle.ehdl_build.specs.declared.nets.Memory.{Memory}
+use Rattle.ehdl_build.specs.declared.nets.Memory.TheVariants.{Frame}
+use Rattle.ehdl_build.specs.declared.nets.Wire.{Wire}
+use Rattle.ehdl_build.specs.declared.nets.Wire.TheVariants as wire
+use Rattle.ehdl_build.specs.declared.gates.Operand.{Operand}
+use Rattle.ehdl_build.specs.declared.gates.Operand.TheVariants.{Input, Held, Net, Constant}
+use Rattle.ehdl_build.specs.declared.gates.Gate.{Gate}
+use Rattle.ehdl_build.specs.declared.gates.Gate.TheVariants.{Not, Binary, Choice, Read}
+use Rattle.ehdl_build.specs.declared.gates.Change.{Change}
+use Rattle.ehdl_build.specs.declared.gates.Change.TheVariants.{Set, Store}
+use Rattle.ehdl_build.specs.declared.store_and_forward.TheConstants.{CONTROL_REGISTERS, CONTROL_WIRES, CONTROL_CHANGES, RECEIVER_REGISTERS, RECEIVER_MEMORIES, RECEIVER_WIRES, RECEIVER_CHANGES, SENDER_REGISTERS, SENDER_WIRES, SENDER_CHANGES, OUTPUTS, NET_NAMES}
 
-abbrev pub read_port : ℕ → Tree Net
-read_port k = TRead (Port k)
+-- ---- the nets by their names: where each stands among its like in its part
+abbrev pub part_place : Part → ℕ
+part_place Control = 0
+part_place Receiver = 1
+part_place Sender = 2
 
-abbrev pub read_register : ℕ → Tree Net
-read_register k = TRead (Register k)
+abbrev pub register_name : Register → Name Part
+register_name Sending = name.Register Control 0
+register_name Received = name.Register Receiver 0
+register_name LastBytes = name.Register Receiver 1
+register_name Sent = name.Register Sender 0
 
-abbrev pub read_wire : ℕ → Tree Net
-read_wire k = TRead (Wire k)
+abbrev pub memory_name : Memory → Name Part
+memory_name Frame = name.Memory Receiver 0
 
-abbrev pub constant : ℕ → ℕ → Tree Net
-constant width value = TConst (word width value)
+abbrev pub wire_name : Wire → Name Part
+wire_name wire.Ready = name.Wire Control 0
+wire_name wire.Takes = name.Wire Control 1
+wire_name wire.Gives = name.Wire Control 2
+wire_name wire.NextReceived = name.Wire Receiver 0
+wire_name wire.NextSent = name.Wire Sender 0
+wire_name wire.AtLast = name.Wire Sender 1
+wire_name wire.Last = name.Wire Sender 2
+wire_name wire.Done = name.Wire Sender 3
+wire_name wire.Stored = name.Wire Sender 4
+wire_name wire.Data = name.Wire Sender 5
+wire_name wire.Count = name.Wire Sender 6
+wire_name wire.Bytes = name.Wire Sender 7
 
-abbrev pub wire : ℕ → Tree Net → WireTree
-wire width e = record { width = width; right = RPlain e }
+-- ---- what rows stand for
+abbrev pub operand_tree : Operand → Tree (Name Part)
+operand_tree (Input port) = TRead (name.Port port)
+operand_tree (Held r) = TRead (register_name r)
+operand_tree (Net w) = TRead (wire_name w)
+operand_tree (Constant width value) = TConst (word width value)
 
-abbrev pub assign : ℕ → Tree Net → AssignTree
-assign port e = record { port = port; value = e }
+abbrev pub gate_tree : Gate → Tree (Name Part)
+gate_tree (Not a) = TUnary unary.Not (operand_tree a)
+gate_tree (Binary op a b) = TBinary op (operand_tree a) (operand_tree b)
+gate_tree (Choice c a b) = TConditional (operand_tree c) (operand_tree a) (operand_tree b)
+gate_tree (Read m index) = TMemoryWord (memory_name m) (operand_tree index)
+
+abbrev pub wire_tree : ℕ × Gate → BlockWireTree (Name Part)
+wire_tree row = record { width = row.0; right = RPlain (gate_tree row.1) }
+
+abbrev pub change_statement : Change → StatementTree (Name Part)
+change_statement (Set r a) = SSet (own_number (register_name r)) (operand_tree a)
+change_statement (Store m index a) = SStore (own_number (memory_name m)) (operand_tree index) (operand_tree a)
+
+-- a change where a wire is 1
+abbrev pub guarded_statement : Wire × Change → StatementTree (Name Part)
+guarded_statement row = SIf (TRead (wire_name row.0)) (change_statement row.1)
+
+abbrev pub block_tree : List Word → List BlockMemory → List (ℕ × Gate) → List (Wire × Change) → BlockTree (Name Part)
+block_tree registers memories wires changes = record {
+  registers = registers;
+  memories = memories;
+  wires = map wire_tree wires;
+  statement = SBlock (statements_before (map guarded_statement changes) SEnd);
+}
+
+abbrev pub output_tree : ℕ × Operand → OutputTree (Name Part)
+output_tree row = record { port = row.0; value = operand_tree row.1 }
+
+-- ---- the design
+abbrev pub part_block : Part → BlockTree (Name Part)
+part_block Control = block_tree CONTROL_REGISTERS [] CONTROL_WIRES CONTROL_CHANGES
+part_block Receiver = block_tree RECEIVER_REGISTERS RECEIVER_MEMORIES RECEIVER_WIRES RECEIVER_CHANGES
+part_block Sender = block_tree SENDER_REGISTERS [] SENDER_WIRES SENDER_CHANGES
+
+abbrev pub whole : Whole Part
+whole = record { parts = Control ∷ Receiver ∷ Sender ∷ []; place = part_place; block = part_block }
+
+abbrev pub outputs : ℕ → List (OutputTree (Name Part))
+outputs verdict = output_tree (OUT_VERDICT, Constant 32 verdict) ∷ map output_tree OUTPUTS
+
+abbrev pub net_names : List (List ℕ)
+net_names = map (λ text. text.now) NET_NAMES
 
 abbrev pub store_and_forward_names : List (List ℕ)
-store_and_forward_names =
-    port_names
-    ++ (codes "i_word" ∷ codes "r_giving" ∷ codes "r_count" ∷ codes "r_at" ∷ codes "r_bytes" ∷ codes "m_frame"
-    ∷ codes "w_ready" ∷ codes "w_take" ∷ codes "w_give" ∷ codes "w_next_count" ∷ codes "w_next_at" ∷ codes "w_is_last" ∷ codes "w_last" ∷ codes "w_word" ∷ codes "w_data" ∷ codes "w_some" ∷ codes "w_bytes" ∷ [])
-
--- How many bits the number of a beat has in the memory, which has room for a frame's beats.
-abbrev pub place_width : ℕ
-place_width = 11
-
--- whether a frame is given, how many beats it has so far, the beat that is shown, the bytes of the last beat; the beats
-abbrev pub store_and_forward_declared : List Declared
-store_and_forward_declared =
-    declared.Integer ∷ declared.Register (word 1 0) ∷ declared.Register (word place_width 0) ∷ declared.Register (word place_width 0) ∷ declared.Register (word 4 0)
-    ∷ declared.Memory place_width (word 64 0) 0 ∷ []
-
--- 0: ready to take a beat; 1: a beat is taken; 2: a beat is given
-abbrev pub going_wires : List WireTree
-going_wires =
-    wire 1 (TUnary Not (read_register 0))
-    ∷ wire 1 (TBinary And (read_port IN_VALID) (read_wire 0))
-    ∷ wire 1 (TBinary And (read_register 0) (read_port OUT_READY))
-    ∷ []
-
--- 3, 4: the count and the place that follow; 5, 6: the last beat is at its place, and is shown
-abbrev pub next_wires : List WireTree
-next_wires =
-    wire place_width (TBinary Add (read_register 1) (constant place_width 1))
-    ∷ wire place_width (TBinary Add (read_register 2) (constant place_width 1))
-    ∷ wire 1 (TBinary Equal (read_wire 4) (read_register 1))
-    ∷ wire 1 (TBinary And (read_register 0) (read_wire 5))
-    ∷ []
-
--- 7, 8: the beat at its place, and what is shown of it; 9, 10: how many of its bytes count
-abbrev pub shown_wires : List WireTree
-shown_wires =
-    wire 64 (TMemoryWord (Memory 0) (read_register 2))
-    ∷ wire 64 (TConditional (read_register 0) (read_wire 7) (constant 64 0))
-    ∷ wire 4 (TConditional (read_wire 5) (read_register 3) (constant 4 8))
-    ∷ wire 4 (TConditional (read_register 0) (read_wire 9) (constant 4 0))
-    ∷ []
-
-abbrev pub store_and_forward_wires : List WireTree
-store_and_forward_wires = going_wires ++ next_wires ++ shown_wires
-
--- the beat that is shown
-abbrev pub beat_assigns : List AssignTree
-beat_assigns =
-    assign IN_READY (read_wire 0) ∷ assign OUT_VALID (read_register 0) ∷ assign OUT_DATA (read_wire 8) ∷ assign OUT_BYTES (read_wire 10) ∷ assign OUT_LAST (read_wire 6) ∷ []
-
--- the verdict, and what is always 0: the target, the reload, and what the host is shown
-abbrev pub answer_assigns : ℕ → List AssignTree
-answer_assigns verdict =
-    assign OUT_VERDICT (constant 32 verdict) ∷ assign OUT_TARGET (constant 32 0) ∷ assign OUT_RELOAD (constant 1 0)
-    ∷ assign HOST_VALUE (constant 64 0) ∷ assign HOST_READY (constant 1 0) ∷ assign HOST_PASSED (constant 32 0) ∷ []
-
-abbrev pub store_and_forward_assigns : ℕ → List AssignTree
-store_and_forward_assigns verdict = beat_assigns ++ answer_assigns verdict
-
--- A beat comes in: it is stored behind those that are there, and a last one begins the answer.
-abbrev pub store_and_forward_take : StatementTree Net
-store_and_forward_take = SIf (read_wire 1) (SBlock (SThen (SStore 0 (read_register 1) (read_port IN_DATA)) (SThen (SSet 1 (read_wire 3)) (SThen (SSet 3 (read_port IN_BYTES)) (SThen (SSet 0 (read_port IN_LAST)) SEnd)))))
-
--- the memory is empty again
-abbrev pub store_and_forward_clear : StatementTree Net
-store_and_forward_clear = SBlock (SThen (SSet 0 (constant 1 0)) (SThen (SSet 1 (constant place_width 0)) (SThen (SSet 2 (constant place_width 0)) SEnd)))
-
--- A beat goes out: the last one leaves the memory empty.
-abbrev pub store_and_forward_give : StatementTree Net
-store_and_forward_give = SIf (read_wire 2) (SIfElse (read_wire 5) store_and_forward_clear (SSet 2 (read_wire 4)))
+store_and_forward_names = port_names ++ net_names
 
 abbrev pub store_and_forward : ℕ → Netlist
-store_and_forward verdict = record {
-  names = store_and_forward_names;
-  ports = port_list;
-  declared = store_and_forward_declared;
-  wires = store_and_forward_wires;
-  assigns = store_and_forward_assigns verdict;
-  always = SBlock (SThen store_and_forward_take (SThen store_and_forward_give SEnd)) ∷ [];
-}
+store_and_forward verdict = link whole store_and_forward_names port_list (outputs verdict)
 
 -- the answer to a frame under one verdict
 abbrev pub answer : ℕ → List ℕ → Answer

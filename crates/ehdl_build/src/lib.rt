@@ -2,6 +2,8 @@
 #![tactic(auto)]
 
 mod built;
+mod gates;
+mod nets;
 mod store_and_forward;
 
 pub use built::{Built, CompileError, compile};

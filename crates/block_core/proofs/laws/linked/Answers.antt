@@ -1,4 +1,4 @@
-use Rattle.block_core.proofs.Linked.{linked}
+use Rattle.block_core.proofs.LinkedLaws.{linked}
 use Rattle.block_core.specs.contracts.laws.linked.{P-type}
 use Rattle.block_core.proofs.laws.linked.Goals as goal
 

@@ -1,17 +1,29 @@
-use Rattle.std.proofs.Common.{◌≡◌, ℕ, IfOk, Result, Ok, Err, subst, sym}
-use Rattle.std.specs.declared.alloc.AllocError.{AllocError}
-use Rattle.net_core.specs.declared.design.Design.{Design}
+use Rattle.std.proofs.Common.{◌≡◌, ℕ, List, Err, ap, sym, subst, ◌∙◌, map}
 use Rattle.net_core.specs.Nets.{Netlist}
-use Rattle.net_core.specs.View.{netlist_of}
 use Rattle.design_rules.specs.Formed.{IsWellFormed}
-use Rattle.ehdl_build.specs.StoreAndForwardNetlist.{store_and_forward}
+use Rattle.block_core.specs.declared.block.Placed.{Placed}
+use Rattle.block_core.specs.View.{output_of, Makes}
+use Rattle.ehdl_build.specs.declared.nets.Part.{Part}
+use Rattle.ehdl_build.specs.StoreAndForwardNetlist.{part_place, whole, outputs}
 use Rattle.ehdl_build.proofs.Formed.{formed}
+use Rattle.ehdl_build.proofs.Made.{under_names, in_range}
 use Rattle.ehdl_build.proofs.store_and_forward.design.Goals as goal
 
--- what holds of the netlist holds of a design whose netlist it is
-at_netlist : (P : Netlist → Type 0) (v : ℕ) (r : Result Design AllocError) → P (store_and_forward v) → IfOk r (λ d. netlist_of d ≡ store_and_forward v) → IfOk r (λ d. P (netlist_of d))
-at_netlist P v (Ok d) p h = subst P (sym h) p
-at_netlist P v (Err e) p h = tt
+lent : (ms ns : List (Placed Part)) → ms ≡ ns → Makes part_place ns whole → Makes part_place ms whole
+lent ms ns e h = subst (λ (xs : List (Placed Part)). Makes part_place xs whole) (sym e) h
 
-pub returns-clause-formed : goal.returns-clause-formed
-returns-clause-formed c = at_netlist IsWellFormed c.args.verdict _ (formed c.args.verdict c.ranges.verdict.fits) c.parts.ensures
+pub returns-in-Ok-clause-netlist : goal.returns-in-Ok-clause-netlist
+returns-in-Ok-clause-netlist c =
+    under_names _ _ _ _ _ c.args.verdict (c.in-Ok.ensures.linked whole (lent _ _ c.deref.ensures.value c.in_ok-parts.ensures)) c.in_ok-names-in-Ok.ensures c.in_ok-ports.ensures
+    (ap (map output_of) c.deref-2.ensures.value ∙ c.in_ok-outputs.ensures)
+
+pub returns-in-Ok-clause-formed : goal.returns-in-Ok-clause-formed
+returns-in-Ok-clause-formed c =
+    subst IsWellFormed
+    (sym (under_names _ _ _ _ _ c.args.verdict (c.in-Ok.ensures.linked whole (lent _ _ c.deref.ensures.value c.in_ok-parts.ensures)) c.in_ok-names-in-Ok.ensures c.in_ok-ports.ensures
+    (ap (map output_of) c.deref-2.ensures.value ∙ c.in_ok-outputs.ensures))) (formed c.args.verdict c.ranges.verdict.fits)
+
+pub unreachable-requires : goal.unreachable-requires
+unreachable-requires c =
+    c.in-Err-TooMany.ensures.in_range whole (lent _ _ c.deref.ensures.value c.in_ok-parts.ensures)
+    (in_range _ c.args.verdict (ap (map output_of) c.deref-2.ensures.value ∙ c.in_ok-outputs.ensures)) (ap Err c.in-Err-TooMany.field-0-is)

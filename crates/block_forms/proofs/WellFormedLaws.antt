@@ -23,15 +23,15 @@ use Rattle.design_rules.proofs.FormedWidthLaws.{same_some}
 use Rattle.block_core.specs.declared.name.Name.{Name}
 use Rattle.block_core.specs.declared.block.BlockMemory.{BlockMemory}
 use Rattle.block_core.specs.Blocks.{BlockTree, OutputTree, registers_of, memories_of, Whole, Among, start}
-use Rattle.block_core.specs.Link.{resolve, link_output, all_registers, all_memories, all_wires, all_statements, declare_register, declare_memory, net_names, link}
+use Rattle.block_core.specs.Link.{resolve, link_output, all_registers, all_memories, all_statements, declare_register, declare_memory, link}
 use Rattle.block_core.specs.Formed.{word_width, block_memory_width, block_registers, block_memories, names_scope, IsFormed}
 use Rattle.block_core.proofs.GatheredLaws.{runs, length_map}
 use Rattle.block_core.proofs.TypedLaws.{linked_is_typed}
-use Rattle.block_forms.specs.WellFormed.{output_spelled, is_shown, shown_once, IsSpelled, LinkedIsWellFormed}
+use Rattle.block_forms.specs.WellFormed.{output_spelled, is_shown, shown_once, IsSpelled, AreNames, LinkedIsWellFormed}
 use Rattle.block_forms.proofs.Rules.{four_kept, three_kept, section_none, no_faults}
 use Rattle.block_forms.proofs.Known.{tree_known, right_all_known, statement_known, register_there, memory_there, scope_holds, wires_at}
 use Rattle.block_forms.proofs.Spelled.{same_tree, same_statement, passes_at, tree_passes, all_wires_pass}
-use Rattle.block_forms.proofs.Fresh.{FreshAt, fresh_at, names_fresh, names_count}
+use Rattle.block_forms.proofs.NamesLaws.{FreshAt, fresh_at, fresh_from}
 use Rattle.block_forms.proofs.Apart.{below, free_at}
 
 -- ---- what is declared
@@ -138,25 +138,25 @@ taken zero xs l = refl
 taken (suc k) [] l = absurd (omega arith)
 taken (suc k) (x ∷ xs) l = ap (λ (n : ℕ). suc n) (taken k xs (omega arith))
 
-module _ {P : Type 0} (d : Whole P) (outputs : List (OutputTree (Name P))) (h : IsFormed d port_list outputs) (s : IsSpelled d outputs) where
+module _ {P : Type 0} (d : Whole P) (names : List (List ℕ)) (outputs : List (OutputTree (Name P))) (h : IsFormed d port_list outputs) (s : IsSpelled d outputs) (own : AreNames d names) where
   abbrev whole : Netlist
-  whole = link d port_names port_list outputs
+  whole = link d (port_names ++ names) port_list outputs
 
   typed : IsTyped whole
-  typed = linked_is_typed P d port_names port_list outputs h
+  typed = linked_is_typed P d (port_names ++ names) port_list outputs h
 
-  count : length (net_names (length (all_registers d d.parts)) (length (all_memories d d.parts)) (length (all_wires d d.parts))) ≡ length whole.declared + length whole.wires
+  count : length names ≡ length whole.declared + length whole.wires
   count =
       let rs = all_registers d d.parts in
       let ms = all_memories d d.parts in
-      let a = names_count (length rs) (length ms) (length whole.wires) in
+      let a = own.count in
       let b = length-append (map declare_register rs) (map declare_memory ms) in
       let x = length_map declare_register rs in
       let y = length_map declare_memory ms in
       omega (arith, a, b, x, y)
 
   fresh : (i : ℕ) → i < length whole.declared + length whole.wires → FreshAt whole.names (length port_names + i)
-  fresh i l = let e = count in fresh_at port_names (net_names _ _ _) (names_fresh _ _ _ s.few_registers s.few_memories s.few_wires) i (omega (arith, e, l))
+  fresh i l = let e = count in fresh_at port_names names (fresh_from port_names names own.new) i (omega (arith, e, l))
 
   declared_none : section_fault (declared_rules whole) 0 0 whole.declared ≡ None
   declared_none = section_none (declared_rules whole) 0 0 whole.declared (λ i x l e.
@@ -203,10 +203,10 @@ module _ {P : Type 0} (d : Whole P) (outputs : List (OutputTree (Name P))) (h : 
 
   last_none : first_broken (last_rules whole) ≡ None
   last_none =
-      let names : length whole.names ≡ length whole.ports + length whole.declared + length whole.wires = (let a = count in let b = length-append port_names (net_names (length (all_registers d d.parts)) (length (all_memories d d.parts)) (length (all_wires d d.parts))) in omega (arith, a, b)) in
-      three_kept _ _ _ (eq-eqb _ _ names) refl h.assigned
+      let all : length whole.names ≡ length whole.ports + length whole.declared + length whole.wires = (let a = count in let b = length-append port_names names in omega (arith, a, b)) in
+      three_kept _ _ _ (eq-eqb _ _ all) refl h.assigned
 
 pub linked_is_well_formed : (P : Type 0) → LinkedIsWellFormed P
 unfolding first_fault
-linked_is_well_formed P d outputs h s =
-    no_faults _ _ _ _ _ _ (declared_none d outputs h s) (wires_none d outputs h s) (assigns_none d outputs h s) (always_none d outputs h s) (last_none d outputs h s)
+linked_is_well_formed P d names outputs h s own =
+    no_faults _ _ _ _ _ _ (declared_none d names outputs h s own) (wires_none d names outputs h s own) (assigns_none d names outputs h s own) (always_none d names outputs h s own) (last_none d names outputs h s own)

@@ -59,8 +59,8 @@ goes_parts d v (p ∷ ps) h at = goes_part (resolve d) v at (d.block p).wires (a
 
 -- ---- one clock
 pub linked : (P : Type 0) → Linked P
-linked P d port_names ports outputs ins ss l z =
-    let v : Env Net = env_of (link d port_names ports outputs) ins (stored_of d ss) in
+linked P d names ports outputs ins ss l z =
+    let v : Env Net = env_of (link d names ports outputs) ins (stored_of d ss) in
     record {
       env = seen (resolve d) v;
       sees = record {
@@ -92,7 +92,7 @@ memories_declared [] = refl
 memories_declared (m ∷ ms) = ap (λ l. first_memory m ∷ l) (memories_declared ms)
 
 pub starts_as_parts : (P : Type 0) → StartsAsParts P
-starts_as_parts P d port_names ports outputs =
+starts_as_parts P d names ports outputs =
     let rs = gather (λ p. (d.block p).registers) d.parts in
     let ms = all_memories d d.parts in
     let words : first_words (map declare_register rs ++ map declare_memory ms) ≡ rs = words_declared rs (map declare_memory ms) ∙ ap (λ l. rs ++ l) (no_words ms) ∙ append-nil rs in

@@ -5,7 +5,7 @@ use Rattle.std.specs.Char.{is_ascii_digit}
 use Rattle.std.specs.List.{list_any, list_all}
 use Rattle.std.specs.Cmp.Lexicographic.{pointwise}
 use Rattle.std.specs.Fmt.{decimal}
-use Rattle.std.proofs.Common.{get_or, refl, sym, ap, ◌∙◌, subst, append_assoc, length-append, arith}
+use Rattle.std.proofs.Common.{get_or, not, refl, sym, ap, ◌∙◌, subst, append_assoc, length-append, arith}
 use Rattle.std.proofs.lemmas.Bool.{and_parts, and_from, or_right, false_from_ne_true}
 use Rattle.std.proofs.lemmas.List.{append-nil, get_or_at}
 use Rattle.std.proofs.lemmas.Slice.Eq.{bytes_eq-Decides}
@@ -13,12 +13,28 @@ use Rattle.std.proofs.lemmas.Fmt.{decimal_injective, digits_decimal}
 use Rattle.std.proofs.lemmas.Str.Parse.{numerals_by_value, tells_all_ascii_digits}
 use Rattle.net_core.specs.Ports.{port_names}
 use Rattle.design_rules.specs.FormedSyntax.{is_digit, begins_name, continues_name, is_name}
-use Rattle.block_core.specs.Link.{numbered, net_names}
+use Rattle.block_core.specs.Link.{all_registers, all_memories, all_wires, numbered, net_names}
+use Rattle.block_forms.specs.WellFormed.{all_new, NumbersAreNames}
 
 -- each is a name, and none of those before it
 abbrev pub AllFresh : List (List ℕ) → List (List ℕ) → Type 0
 AllFresh before [] = Unit {0}
 AllFresh before (x ∷ xs) = (is_name x ≡ true) × (list_any (bytes_eq x) before ≡ false) × AllFresh (before ++ x ∷ []) xs
+
+not_true : (b : Bool) → not b ≡ true → b ≡ false
+not_true true h = cc
+not_true false h = refl
+
+pub fresh_from : (before xs : List (List ℕ)) → all_new before xs ≡ true → AllFresh before xs
+fresh_from before [] h = tt
+fresh_from before (x ∷ xs) h =
+    let p = and_parts (is_name x) (not (list_any (bytes_eq x) before) && all_new (before ++ x ∷ []) xs) h in
+    let q = and_parts (not (list_any (bytes_eq x) before)) (all_new (before ++ x ∷ []) xs) p.1 in
+    (p.0, not_true _ q.0, fresh_from (before ++ x ∷ []) xs q.1)
+
+new_from : (before xs : List (List ℕ)) → AllFresh before xs → all_new before xs ≡ true
+new_from before [] h = refl
+new_from before (x ∷ xs) h = and_from _ _ h.0 (and_from _ _ (ap not h.1) (new_from (before ++ x ∷ []) xs h.2))
 
 -- the name at a place is a name, and none of those before it
 abbrev pub FreshAt : List (List ℕ) → ℕ → Type 0
@@ -94,7 +110,7 @@ memories_named k h = ap (λ t. t && true) (decimal_continues k h)
 wires_named : (k : ℕ) → k < 2 ^ 64 → is_name (named 119 k) ≡ true
 wires_named k h = ap (λ t. t && true) (decimal_continues k h)
 
-pub names_fresh : (r m w : ℕ) → r < 2 ^ 64 → m < 2 ^ 64 → w < 2 ^ 64 → AllFresh port_names (net_names r m w)
+names_fresh : (r m w : ℕ) → r < 2 ^ 64 → m < 2 ^ 64 → w < 2 ^ 64 → AllFresh port_names (net_names r m w)
 names_fresh r m w hr hm hw =
     let first = port_names ++ codes "i_0" ∷ [] in
     let rs = numbered (codes "r_") 0 r in
@@ -113,7 +129,7 @@ numbered_count : (letter : List ℕ) (at n : ℕ) → length (numbered letter at
 numbered_count letter at zero = refl
 numbered_count letter at (suc n) = ap (λ (k : ℕ). suc k) (numbered_count letter (suc at) n)
 
-pub names_count : (r m w : ℕ) → length (net_names r m w) ≡ 1 + (r + (m + w))
+names_count : (r m w : ℕ) → length (net_names r m w) ≡ 1 + (r + (m + w))
 names_count r m w =
     let rs = numbered (codes "r_") 0 r in
     let ms = numbered (codes "m_") 0 m in
@@ -124,3 +140,9 @@ names_count r m w =
     let y = numbered_count (codes "m_") 0 m in
     let z = numbered_count (codes "w_") 0 w in
     omega (arith, a, b, x, y, z)
+
+pub numbers_are_names : (P : Type 0) → NumbersAreNames P
+numbers_are_names P d few = record {
+  count = names_count (length (all_registers d d.parts)) (length (all_memories d d.parts)) (length (all_wires d d.parts));
+  new = new_from port_names (net_names (length (all_registers d d.parts)) (length (all_memories d d.parts)) (length (all_wires d d.parts))) (names_fresh (length (all_registers d d.parts)) (length (all_memories d d.parts)) (length (all_wires d d.parts)) few.registers few.memories few.wires);
+}
