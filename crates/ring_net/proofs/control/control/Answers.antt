@@ -1,0 +1,7 @@
+use Rattle.block_core.specs.View.{block_of}
+use Rattle.ring_net.specs.contracts.control.control.{P-type}
+use Rattle.ring_net.proofs.Made.{made}
+use Rattle.ring_net.proofs.control.control.Goals as goal
+
+pub returns : goal.returns
+returns g c = made c.args.shape.now c.args.part c.args.nets.now (block_of c.in_ok-block.block) c.in_ok-block.ensures
