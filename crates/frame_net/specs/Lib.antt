@@ -1,0 +1,4 @@
+pub mod Frames
+pub mod Gather
+pub mod Stores
+pub mod GatherNets

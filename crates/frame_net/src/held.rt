@@ -1,0 +1,10 @@
+//! What is held of frames.
+
+/// What is kept of each frame beside its beats: the interface and the time that came with its first beat, or a word of its
+/// bytes, eight a word.
+#[derive(Clone, Copy, PartialEq, Eq, Debug)]
+pub enum Kept {
+    Ifindex,
+    Time,
+    Word(u8),
+}
