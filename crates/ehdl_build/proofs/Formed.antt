@@ -1,9 +1,8 @@
 -- The store-and-forward design is well formed.
-use Rattle.std.specs.Prelude.{◌≡◌, ℕ, ◌^◌, ◌<◌, nat_lt, true, IsTrue, List, [], ◌∷◌}
+use Rattle.std.specs.Prelude.{◌≡◌, ℕ, ◌^◌, ◌<◌, nat_lt, true, IsTrue}
 use Rattle.std.specs.List.{list_all}
 use Rattle.std.proofs.Common.{refl, arith}
 use Rattle.std.proofs.lemmas.Bool.Decides.{nat_tests}
-use Rattle.net_core.specs.Nets.{Netlist}
 use Rattle.net_core.specs.Ports.{port_list}
 use Rattle.design_rules.specs.Formed.{IsWellFormed}
 use Rattle.design_rules.specs.FormedSyntax.{statement_spelled}

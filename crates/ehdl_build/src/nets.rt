@@ -1,6 +1,5 @@
 //! The parts of the design, and the names of their nets.
 
-ghost use Rattle.std.specs.Prelude.{◌≡◌};
 ghost use Rattle.ehdl_build.specs.StoreAndForwardNetlist.{part_place, register_name, memory_name, wire_name};
 
 use block_core::name::{Name, Named};

@@ -1,10 +1,9 @@
-use Rattle.std.proofs.Common.{◌≡◌, ℕ, List, Err, ap, sym, subst, ◌∙◌, map}
-use Rattle.net_core.specs.Nets.{Netlist}
+use Rattle.std.proofs.Common.{◌≡◌, List, Err, ap, sym, subst, ◌∙◌, map}
 use Rattle.design_rules.specs.Formed.{IsWellFormed}
 use Rattle.block_core.specs.declared.block.Placed.{Placed}
 use Rattle.block_core.specs.View.{output_of, Makes}
 use Rattle.ehdl_build.specs.declared.nets.Part.{Part}
-use Rattle.ehdl_build.specs.StoreAndForwardNetlist.{part_place, whole, outputs}
+use Rattle.ehdl_build.specs.StoreAndForwardNetlist.{part_place, whole}
 use Rattle.ehdl_build.proofs.Formed.{formed}
 use Rattle.ehdl_build.proofs.Made.{under_names, in_range}
 use Rattle.ehdl_build.proofs.store_and_forward.design.Goals as goal
