@@ -1,11 +1,11 @@
 -- A frame of whole words, and one more beat of it.
-use Rattle.std.specs.Prelude.{◌≡◌, ℕ, zero, suc, ◌+◌, ◌-◌, ◌*◌, ◌/◌, ◌<◌, ◌≤◌, min, List, [], ◌∷◌, ◌++◌, length, take, drop}
-use Rattle.std.proofs.Common.{refl, sym, ap, ◌∙◌, arith, length-append}
+use Rattle.std.specs.Prelude.{◌≡◌, ℕ, zero, suc, ◌*◌, ◌<◌, ◌≤◌, min, List, [], ◌∷◌, ◌++◌, length, take, drop}
+use Rattle.std.proofs.Common.{ap, ◌∙◌, arith, length-append}
 use Rattle.std.proofs.lemmas.List.{take_all, drop_all, take-append-le, drop-append-le, length-drop}
 use Rattle.list_laws.specs.Bytes.{IsBytes}
-use Rattle.beat_core.specs.declared.frame.TheConstants.{FRAME_LIMIT, BEAT_LIMIT}
+use Rattle.beat_core.specs.declared.frame.TheConstants.{BEAT_LIMIT}
 use Rattle.beat_core.specs.Words.{word_of}
-use Rattle.beat_core.specs.Beats.{first_beat, beat_count}
+use Rattle.beat_core.specs.Beats.{beat_count}
 use Rattle.beat_core.specs.Laws.{IsFrame}
 use Rattle.frame_net.specs.Frames.{beat_of, last_of}
 

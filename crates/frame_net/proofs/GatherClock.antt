@@ -1,5 +1,5 @@
 -- A clock of the block that gathers frames.
-use Rattle.std.specs.Prelude.{◌≡◌, ◌≢◌, ℕ, zero, suc, ◌+◌, ◌-◌, ◌*◌, ◌/◌, ◌%◌, ◌^◌, ◌<◌, ◌≤◌, ◌==◌, if◌then◌else◌, Bool, true, false, not, min, Option, Some, None, is_some, List, [], ◌∷◌, ◌++◌, length, map, slice_set, bit_and}
+use Rattle.std.specs.Prelude.{◌≡◌, ◌≢◌, ℕ, zero, suc, ◌+◌, ◌*◌, ◌/◌, ◌%◌, ◌^◌, ◌<◌, ◌≤◌, ◌==◌, if◌then◌else◌, Bool, true, false, not, min, Option, Some, None, is_some, List, [], ◌∷◌, ◌++◌, length, map, slice_set}
 use Rattle.std.specs.List.{AllByRecursion}
 use Rattle.std.proofs.Common.{get_or, refl, sym, ap, ◌∙◌, subst, arith, length-append}
 use Rattle.std.proofs.lemmas.List.{length-map}
@@ -16,8 +16,8 @@ use Rattle.beat_core.proofs.WordLaws.{length-low_bytes, IsBytes-low_bytes}
 use Rattle.net_core.specs.declared.tree.Op.TheVariants.{Add, And, Equal}
 use Rattle.net_core.specs.declared.tree.UnaryOp.TheVariants.{Not}
 use Rattle.net_core.specs.declared.tree.Word.{Word}
-use Rattle.net_core.specs.declared.ports.TheConstants.{IN_DATA, IN_BYTES, IN_LAST, IN_IFINDEX, IN_TIME}
-use Rattle.net_core.specs.Nets.{Tree, TRead, TUnary, TBinary, StatementTree, SIf, SSet}
+use Rattle.net_core.specs.declared.ports.TheConstants.{IN_DATA, IN_BYTES, IN_LAST}
+use Rattle.net_core.specs.Nets.{TRead, TUnary, TBinary, StatementTree, SIf, SSet}
 use Rattle.net_core.specs.Value.{word, bit, nothing, Env, value, apply, apply_unary, concatenated, conditional}
 use Rattle.net_core.specs.Clock.{Stored, done, edge}
 use Rattle.net_core.proofs.LowBitsLaws.{concatenated_small}
@@ -26,13 +26,13 @@ use Rattle.block_core.specs.declared.name.Name.TheVariants as name
 use Rattle.block_core.specs.Parts.{Solve}
 use Rattle.frame_net.specs.declared.held.Kept.{Kept}
 use Rattle.frame_net.specs.declared.held.Kept.TheVariants.{Ifindex, Time, Word as FrameWord}
-use Rattle.frame_net.specs.Frames.{beat_of, last_of, word_at, HoldsBeats, HoldsKept, HoldsPart, HoldsFrame, HoldsBegun, IsBegun, Gathers, position_of, index_bits}
+use Rattle.frame_net.specs.Frames.{beat_of, last_of, HoldsBeats, HoldsPart, HoldsFrame, IsBegun, Gathers, position_of, index_bits}
 use Rattle.frame_net.specs.Gather.{SeesBeat, HasTaken}
 use Rattle.frame_net.specs.Stores.{Store, store_statements}
-use Rattle.frame_net.specs.GatherNets.{port, register, net, constant, store, next_position, kept_store, gather_stores, gather_wires, gather_sets, gather_statement}
+use Rattle.frame_net.specs.GatherNets.{port, register, net, constant, next_position, kept_store, gather_stores, gather_wires, gather_sets, gather_statement}
 use Rattle.frame_net.proofs.StoreLemmas.{in_turn, put, taken, taken_is, store_at, registers_stay, lengths_stay, none_stored, IsOff}
 use Rattle.frame_net.proofs.MaskLemmas.{masked_word}
-use Rattle.frame_net.proofs.FrameLemmas.{count_more, last_more, new_bytes, is_frame, IsBytes-append}
+use Rattle.frame_net.proofs.FrameLemmas.{last_more, new_bytes, is_frame, IsBytes-append}
 use Rattle.frame_net.proofs.HeldLemmas.{put_here, put_other, bytes_so_far, SoFar, so_far_is, arrived_frame, Takes, kept_more, kept_same, others_stay, beats_more, beats_same}
 
 -- ---- bits
@@ -60,7 +60,6 @@ next_is false q h = let e : (q + 1) % 2 ^ 11 ≡ suc q = omega arith in ap (word
 -- ---- the nets of a clock
 module _ {P : Type 0} (p : P) (bits : ℕ) (kept : List Kept) (over slot : Name P) (v : Env (Name P)) (s : Stored) (at : ℕ) (o : Offered) (goes : Bool)
     (solved : Solve v p 0 (gather_wires p bits over slot)) (sees : SeesBeat p bits over slot v s goes at o) where
-
   ends_net : v.net (name.Wire p 3) ≡ bit (if goes then o.beat.last else false)
   ends_net = solved.1.1.1.0 ∙ ap (λ x. apply And x (v.net (name.Port IN_LAST))) sees.goes_over ∙ ap (apply And (bit goes)) sees.last ∙ and_bits goes o.beat.last
 
@@ -283,12 +282,14 @@ module _ {P : Type 0} (p : P) (bits : ℕ) (kept : List Kept) (over slot : Name 
       let f = arrived_frame part o in
       let eight : length ys ≡ 8 = bytes_counted ∙ IsOffer-eight o.beat offer e in
       let n : length (arrived part o).frame ≡ 8 * suc q = ap length f ∙ length-append (bytes_so_far part) ys ∙ omega (arith, so_far.whole, eight) in
-      let at_next : length (arrived part o).frame / 8 ≡ suc q = omega (arith, n) in
-      (record {
-        bytes = subst IsBytes (sym f) (IsBytes-append (bytes_so_far part) ys so_far.bytes (IsBytes-low_bytes (min o.beat.bytes 8) o.beat.word));
-        some = omega (arith, at_next);
-        whole = n ∙ ap (λ k. 8 * k) (sym at_next);
-      }, at_next)
+      let at_next : length (arrived part o).frame / 8 ≡ suc q = omega (arith, n) in (
+        record {
+          bytes = subst IsBytes (sym f) (IsBytes-append (bytes_so_far part) ys so_far.bytes (IsBytes-low_bytes (min o.beat.bytes 8) o.beat.word));
+          some = omega (arith, at_next);
+          whole = n ∙ ap (λ k. 8 * k) (sym at_next);
+        },
+        at_next,
+      )
 
   gathers_by : (t : Bool) → last_bit ≡ t → Gathers bits kept (if t then None else Some (arrived part o)) at after
   gathers_by true e = record {

@@ -1,26 +1,26 @@
 -- The block that gathers frames is well typed, in order and spelled.
-use Rattle.std.specs.Prelude.{◌≡◌, ℕ, zero, suc, ◌+◌, ◌^◌, ◌<◌, ◌≤◌, ◌==◌, nat_le, ◌&&◌, Bool, true, List, [], ◌∷◌, ◌++◌, length, map, max}
+use Rattle.std.specs.Prelude.{◌≡◌, ℕ, suc, ◌+◌, ◌^◌, ◌<◌, ◌≤◌, ◌==◌, nat_le, ◌&&◌, Bool, true, List, [], ◌∷◌, length, map, max}
 use Rattle.std.specs.List.{AllByRecursion}
 use Rattle.std.proofs.Common.{get_or, refl, sym, ap, ◌∙◌, subst, arith, inl, inr}
 use Rattle.std.proofs.lemmas.Bool.{le-leb, lt-ltb}
 use Rattle.std.proofs.lemmas.Bool.Decides.{nat_tests}
-use Rattle.std.proofs.lemmas.List.{length-replicate, length-map}
+use Rattle.std.proofs.lemmas.List.{length-replicate}
 use Rattle.net_core.specs.declared.tree.Op.TheVariants.{And}
 use Rattle.net_core.specs.declared.tree.UnaryOp.TheVariants.{Not}
-use Rattle.net_core.specs.declared.ports.TheConstants.{IN_DATA, IN_BYTES, IN_LAST}
-use Rattle.net_core.specs.Nets.{Tree, TRead, TUnary, TBinary, StatementTree, SEnd}
+use Rattle.net_core.specs.declared.ports.TheConstants.{IN_DATA, IN_LAST}
+use Rattle.net_core.specs.Nets.{TRead, TUnary, TBinary, SEnd}
 use Rattle.net_core.specs.Chains.{statements_before}
 use Rattle.net_core.specs.Ports.{port_list}
-use Rattle.net_core.specs.Value.{word, Env}
-use Rattle.net_core.specs.Width.{Scope, width_of, same, statement_typed, statements_typed, concatenation_width, test_width}
+use Rattle.net_core.specs.Value.{word}
+use Rattle.net_core.specs.Width.{Scope, width_of, same, statement_typed, statements_typed, concatenation_width}
 use Rattle.net_core.proofs.WidthLaws.{concatenation_is}
-use Rattle.design_rules.specs.FormedSyntax.{depth, tree_spelled, statement_spelled, statements_depth, all_placed, all_trees_pass}
+use Rattle.design_rules.specs.FormedSyntax.{tree_spelled, statement_spelled, statements_depth, all_placed, all_trees_pass}
 use Rattle.block_core.specs.declared.name.Name.{Name}
 use Rattle.block_core.specs.declared.name.Name.TheVariants as name
-use Rattle.block_core.specs.Blocks.{BlockTree, BlockWireTree, Whole, Among, first_memory}
+use Rattle.block_core.specs.Blocks.{BlockTree, Whole, Among, first_memory}
 use Rattle.block_core.specs.Parts.{Within, AllWithin}
 use Rattle.block_core.specs.Order.{Reads, IsBefore, InOrder}
-use Rattle.block_core.specs.Formed.{names_scope, name_width, block_memory_width, block_registers, block_memories, block_wires, memories_fit, block_wires_typed, IsTypedBlock, StatementReads, StatementsRead, IsThere}
+use Rattle.block_core.specs.Formed.{names_scope, name_width, block_memory_width, block_registers, block_wires, memories_fit, block_wires_typed, IsTypedBlock, StatementReads, StatementsRead, IsThere}
 use Rattle.frame_net.specs.declared.held.Kept.{Kept}
 use Rattle.frame_net.specs.declared.held.Kept.TheVariants.{Ifindex, Time, Word as FrameWord}
 use Rattle.frame_net.specs.Frames.{index_bits}
@@ -65,7 +65,7 @@ stores_typed s rs ms (w ∷ ws) (r ∷ stores) at found n h =
     let t = h.0 in
     and_is _ _
     (and_is _ _ (one_is _ t.condition)
-      (and_is _ _ (ap (λ p. same p.0 (width_of s r.at)) here ∙ same_is _ _ t.some_index t.at) (ap (λ p. same p.1 (width_of s r.value)) here ∙ same_is _ _ t.some_width t.value)))
+    (and_is _ _ (ap (λ p. same p.0 (width_of s r.at)) here ∙ same_is _ _ t.some_index t.at) (ap (λ p. same p.1 (width_of s r.value)) here ∙ same_is _ _ t.some_width t.value)))
     (stores_typed s rs ms ws stores (suc at) (λ k l. let e : suc at + k ≡ at + suc k = omega arith in ap (λ i. get_or ms i (0, 0)) e ∙ found (suc k) (omega arith)) (omega arith) h.1)
 
 -- ---- memories
@@ -143,17 +143,22 @@ module _ {P : Type 0} (p : P) (bits : ℕ) (kept : List Kept) (over slot : Name 
     next_width = rw (own_register 1) refl
 
     stores_fit : AreStoresTyped s (held_widths bits kept) (gather_stores p kept over slot)
-    stores_fit =
-        (record { condition = wide; at = own_wire 5; value = own_wire 2; some_index = omega arith; some_width = omega arith },
-          (record { condition = own_wire 3; at = numbered; value = own_register 1; some_index = some; some_width = omega arith },
-            (record { condition = own_wire 3; at = numbered; value = refl; some_index = some; some_width = omega arith },
-              kept_typed s p over slot bits kept words some wide numbered (own_register 1) (own_wire 2) (own_wire 4) refl refl)))
+    stores_fit = (
+      record { condition = wide; at = own_wire 5; value = own_wire 2; some_index = omega arith; some_width = omega arith },
+      (
+        record { condition = own_wire 3; at = numbered; value = own_register 1; some_index = some; some_width = omega arith },
+        (
+          record { condition = own_wire 3; at = numbered; value = refl; some_index = some; some_width = omega arith },
+          kept_typed s p over slot bits kept words some wide numbered (own_register 1) (own_wire 2) (own_wire 4) refl refl,
+        ),
+      ),
+    )
 
     statement_fits : statement_typed s (1 ∷ 11 ∷ []) (held_widths bits kept) (gather_statement p kept over slot) ≡ true
     statement_fits =
         and_is _ _ (and_is _ _ (one_is _ wide) refl) (and_is _ _ (and_is _ _ (one_is _ wide) (same_is 11 _ (omega arith) next_width))
         (stores_typed s (1 ∷ 11 ∷ []) (held_widths bits kept) (held_widths bits kept) (gather_stores p kept over slot) 0 (λ k l. let z : 0 + k ≡ k = omega arith in ap (λ i. get_or (held_widths bits kept) i (0, 0)) z)
-          (ap (λ n. suc (suc (suc n))) (count_stores p over slot bits kept)) stores_fit))
+        (ap (λ n. suc (suc (suc n))) (count_stores p over slot bits kept)) stores_fit))
 
     pub is_typed : IsTypedBlock d port_list (gather_block p bits kept over slot)
     is_typed = record {
@@ -173,13 +178,22 @@ still_before d before p at (name.Wire q k) (inl h) = let l = h.1 in absurd (omeg
 still_before d before p at (name.Wire q k) (inr h) = inr h
 
 pub in_order : {P : Type 0} (d : Whole P) (before : List P) (p : P) (bits : ℕ) (over slot : Name P) → Among p d.parts → IsBefore d before p 0 over → IsBefore d before p 0 slot → InOrder d before p 0 (gather_wires p bits over slot)
-in_order d before p bits over slot a o q =
-    ((tt, tt),
-      ((inl (refl, omega arith), tt),
-        ((tt, (tt, inl (refl, omega arith))),
-          ((still_before d before p 3 over o, tt),
-            ((still_before d before p 4 over o, a),
-              ((still_before d before p 5 slot q, a), tt))))))
+in_order d before p bits over slot a o q = (
+  (tt, tt),
+  (
+    (inl (refl, omega arith), tt),
+    (
+      (tt, (tt, inl (refl, omega arith))),
+      (
+        (still_before d before p 3 over o, tt),
+        (
+          (still_before d before p 4 over o, a),
+          ((still_before d before p 5 slot q, a), tt),
+        ),
+      ),
+    ),
+  ),
+)
 
 -- ---- what statements read and set
 abbrev pub AllReads : {N : Type 0} → (N → Type 0) → List (Store N) → Type 0
@@ -197,9 +211,13 @@ kept_read d p over slot (Time ∷ kept) a o q = ((a, (q, tt)), kept_read d p ove
 kept_read d p over slot (FrameWord j ∷ kept) a o q = (((o, (a, tt)), (q, a)), kept_read d p over slot kept a o q)
 
 pub statement_reads : {P : Type 0} (d : Whole P) (p : P) (kept : List Kept) (over slot : Name P) → Among p d.parts → IsThere d over → IsThere d slot → StatementReads (IsThere d) (gather_statement p kept over slot)
-statement_reads d p kept over slot a o q =
-    ((o, tt), ((o, (tt, tt, (a, tt))),
-      stores_read (IsThere d) (gather_stores p kept over slot) 0 ((o, (a, a)), ((a, (q, a)), ((a, (q, tt)), kept_read d p over slot kept a o q)))))
+statement_reads d p kept over slot a o q = (
+  (o, tt),
+  (
+    (o, (tt, tt, (a, tt))),
+    stores_read (IsThere d) (gather_stores p kept over slot) 0 ((o, (a, a)), ((a, (q, a)), ((a, (q, tt)), kept_read d p over slot kept a o q))),
+  ),
+)
 
 pub stores_within : {N : Type 0} (r m : ℕ) (rs : List (Store N)) (at : ℕ) → at + length rs ≤ m → AllWithin r m (statements_before (store_statements at rs) SEnd)
 stores_within r m [] at h = tt
@@ -243,4 +261,4 @@ is_spelled p kept over slot =
     let deep : statements_depth (statements_before (store_statements 0 stores) SEnd) ≤ 2 = stores_deep stores 0 in
     let whole : suc (max 2 (max 2 (statements_depth (statements_before (store_statements 0 stores) SEnd)))) ≤ 64 = omega arith in
     and_is _ _ (le-leb _ 64 whole) (and_is _ _ (stores_placed stores 0)
-      (and_is _ _ refl (and_is _ _ refl (stores_pass stores 0 ((refl, (refl, refl)), ((refl, (refl, refl)), ((refl, (refl, refl)), kept_spelled p over slot kept)))))))
+    (and_is _ _ refl (and_is _ _ refl (stores_pass stores 0 ((refl, (refl, refl)), ((refl, (refl, refl)), ((refl, (refl, refl)), kept_spelled p over slot kept)))))))

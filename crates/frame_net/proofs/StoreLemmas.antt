@@ -1,11 +1,11 @@
 -- What statements that store leave in the memories.
-use Rattle.std.specs.Prelude.{◌≡◌, ◌≢◌, ℕ, zero, suc, ◌+◌, ◌<◌, ◌==◌, if◌then◌else◌, Bool, true, false, List, [], ◌∷◌, ◌++◌, length, map, slice_set}
+use Rattle.std.specs.Prelude.{◌≡◌, ◌≢◌, ℕ, zero, suc, ◌+◌, ◌<◌, ◌==◌, if◌then◌else◌, Bool, true, false, List, [], ◌∷◌, length, map, slice_set}
 use Rattle.std.specs.List.{AllByRecursion}
 use Rattle.std.proofs.Common.{get_or, refl, sym, ap, ◌∙◌, subst, arith}
 use Rattle.std.proofs.lemmas.List.{length-set, get_or-set_same, get_or-set_other}
 use Rattle.std.proofs.Math.Seq.{map-set_same}
 use Rattle.net_core.specs.declared.tree.Word.{Word}
-use Rattle.net_core.specs.Nets.{Tree, StatementTree, SEnd}
+use Rattle.net_core.specs.Nets.{StatementTree, SEnd}
 use Rattle.net_core.specs.Chains.{statements_before}
 use Rattle.net_core.specs.Value.{word, bit, Env, value}
 use Rattle.net_core.specs.Clock.{Stored, done, all_done, edge}
@@ -77,7 +77,7 @@ module _ {N : Type 0} (v : Env N) where
       let z : at + 0 ≡ at = omega arith in
       let h' : at < length s.memories = omega arith in
       rw z (subst (λ x. get_or (edge v (store_statements at (q ∷ rs)) s).memories at [] ≡ taken x (get_or s.memories at [])) (sym e)
-        (earlier_stay rs (suc at) at (after_one at q s) (omega arith) ∙ here_if (off q) s at (value v q.at).value (value v q.value) h'))
+      (earlier_stay rs (suc at) at (after_one at q s) (omega arith) ∙ here_if (off q) s at (value v q.at).value (value v q.value) h'))
   store_at (q ∷ rs) at (suc k) r s l e h =
       let z : at + suc k ≡ suc at + k = omega arith in
       let t = after_one at q s in

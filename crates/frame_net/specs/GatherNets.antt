@@ -1,5 +1,5 @@
 -- The nets of the block that gathers frames.
-use Rattle.std.specs.Prelude.{ℕ, ◌+◌, ◌-◌, ◌^◌, List, [], ◌∷◌, map}
+use Rattle.std.specs.Prelude.{ℕ, ◌+◌, List, [], ◌∷◌, map}
 use Rattle.net_core.specs.declared.tree.Op.TheVariants.{Add, Sub, And, ShiftRight, Equal}
 use Rattle.net_core.specs.declared.tree.UnaryOp.TheVariants.{Not}
 use Rattle.net_core.specs.declared.ports.TheConstants.{IN_DATA, IN_BYTES, IN_LAST, IN_IFINDEX, IN_TIME}

@@ -74,7 +74,13 @@ fn kept_statement<P: Part>(
     ensures { IfOk result (λ s. statement_of s ≡ store_statement memory (kept_store part over slot kept)) }
 {
     match kept {
-        Kept::Ifindex => store(alloc, memory, net(part, 4), Expr::Read(slot), port(IN_IFINDEX)),
+        Kept::Ifindex => store(
+            alloc,
+            memory,
+            net(part, 4),
+            Expr::Read(slot),
+            port(IN_IFINDEX),
+        ),
         Kept::Time => store(alloc, memory, net(part, 4), Expr::Read(slot), port(IN_TIME)),
         Kept::Word(j) => {
             let number = constant(POSITION_WIDTH, u64::from(j));
@@ -86,11 +92,7 @@ fn kept_statement<P: Part>(
 }
 
 // The registers that a beat sets.
-fn sets<P: Part>(
-    alloc: Global,
-    part: P,
-    over: Name<P>,
-) -> Result<Vec<Stmt<Name<P>>>, AllocError>
+fn sets<P: Part>(alloc: Global, part: P, over: Name<P>) -> Result<Vec<Stmt<Name<P>>>, AllocError>
     ensures { IfOk result (λ r. map statement_of r.items ≡ gather_sets part over []) }
 {
     let more = unary(alloc, UnaryOp::Not, port(IN_LAST))?;

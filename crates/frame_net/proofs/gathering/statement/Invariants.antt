@@ -1,4 +1,4 @@
-use Rattle.std.proofs.Common.{◌≡◌, ◌+◌, ◌++◌, map, drop, []}
+use Rattle.std.proofs.Common.{◌≡◌, ◌+◌, ◌++◌, map, drop}
 use Rattle.net_core.specs.View.{statement_of}
 use Rattle.frame_net.specs.Stores.{store_statements}
 use Rattle.frame_net.specs.GatherNets.{kept_store, gather_sets, gather_stores}
