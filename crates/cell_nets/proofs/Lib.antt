@@ -10,3 +10,4 @@ pub mod WireLemmas
 pub mod GiveLemmas
 pub mod DivisionLemmas
 pub mod GatherLemmas
+pub mod SumLemmas

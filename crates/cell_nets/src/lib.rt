@@ -11,4 +11,5 @@ pub mod narrow;
 pub mod operand;
 pub mod shifting;
 pub mod slice;
+pub mod summing;
 pub mod wires;
