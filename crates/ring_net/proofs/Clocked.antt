@@ -1,12 +1,12 @@
 -- What a clock stores.
-use Rattle.std.specs.Prelude.{◌≡◌, ℕ, zero, suc, ◌+◌, ◌-◌, ◌%◌, ◌^◌, ◌<◌, ◌≤◌, ◌==◌, cond, Bool, true, false, List, [], ◌∷◌, ◌++◌, length, map, slice_set}
+use Rattle.std.specs.Prelude.{◌≡◌, ℕ, suc, ◌+◌, ◌-◌, ◌%◌, ◌^◌, ◌<◌, ◌==◌, cond, Bool, true, false, List, [], ◌∷◌, ◌++◌, length, map, slice_set}
 use Rattle.std.proofs.Common.{get_or, refl, sym, ap, ◌∙◌, arith, append_assoc, length-append, subst}
 use Rattle.std.proofs.lemmas.List.{set_at}
 use Rattle.std.proofs.Math.Nat.{mod-eq_of_lt}
 use Rattle.net_core.specs.declared.tree.Word.{Word}
 use Rattle.net_core.specs.declared.tree.Op.TheVariants.{Add, Equal}
 use Rattle.net_core.specs.declared.tree.UnaryOp.TheVariants.{Not}
-use Rattle.net_core.specs.Nets.{Tree, TConst, TUnary, TBinary, StatementTrees, SEnd, SThen}
+use Rattle.net_core.specs.Nets.{Tree, TConst, TUnary, TBinary, SEnd, SThen}
 use Rattle.net_core.specs.Chains.{statements_before}
 use Rattle.net_core.specs.Value.{word, bit, number_of, apply, apply_unary, conditional, Env, value}
 use Rattle.net_core.specs.Clock.{Stored, done, all_done}
@@ -22,7 +22,7 @@ use Rattle.ring_net.specs.Names.{register_number, register_name, wire_name}
 use Rattle.ring_net.specs.Ring.{slot, lap}
 use Rattle.ring_net.specs.Control.{State, Signals, ends, injects, exits, passes, gone, counted, moved, step, IsSound}
 use Rattle.ring_net.specs.Block.{code, Sees}
-use Rattle.ring_net.specs.Trees.{register, wire, at_end, counting, advance, pass, moves, control_statements, control_tree}
+use Rattle.ring_net.specs.Trees.{register, wire, at_end, counting, advance, pass, moves, control_tree}
 use Rattle.ring_net.proofs.Values.{next_lap, next_slot}
 use Rattle.ring_net.proofs.Shown.{counters, slot_shown, lap_shown, passed_shown, holds_shown, wire_shown}
 

@@ -1,7 +1,6 @@
 -- Control's block is well typed, can be spelled, and reads what it may.
-use Rattle.std.specs.Prelude.{◌≡◌, ℕ, zero, suc, ◌+◌, ◌-◌, ◌^◌, ◌<◌, ◌≤◌, ◌==◌, nat_lt, nat_le, ◌&&◌, cond, Bool, true, false, List, [], ◌∷◌, ◌++◌, length, map, replicate}
-use Rattle.std.specs.List.{list_all}
-use Rattle.std.proofs.Common.{get_or, refl, sym, ap, ◌∙◌, arith}
+use Rattle.std.specs.Prelude.{◌≡◌, ℕ, zero, suc, ◌+◌, ◌-◌, ◌^◌, ◌<◌, ◌≤◌, ◌==◌, nat_lt, nat_le, ◌&&◌, cond, Bool, true, List, [], ◌∷◌, map, replicate}
+use Rattle.std.proofs.Common.{get_or, refl, ap, ◌∙◌, arith}
 use Rattle.std.proofs.lemmas.Bool.{and_from, lt-ltb, le-leb, eq-eqb}
 use Rattle.std.proofs.lemmas.List.{get_or-replicate, get_or-append-add}
 use Rattle.std.proofs.lemmas.Nat.{pow_pos}
@@ -12,28 +11,26 @@ use Rattle.net_core.specs.declared.tree.Op.TheVariants.{Add, And, Or, Equal, Not
 use Rattle.net_core.specs.declared.tree.UnaryOp.TheVariants.{Not}
 use Rattle.net_core.specs.declared.ports.TheConstants.{IN_VALID, IN_LAST, OUT_READY}
 use Rattle.net_core.specs.Ports.{port_list}
-use Rattle.net_core.specs.Nets.{Tree, TConst, TRead, TUnary, TBinary, RPlain, StatementTree, SBlock, SIf, SSet, StatementTrees, SEnd, SThen}
+use Rattle.net_core.specs.Nets.{Tree, TConst, TUnary, TBinary, StatementTree, SBlock, SIf, SSet, StatementTrees, SEnd}
 use Rattle.net_core.specs.Chains.{statements_before}
 use Rattle.net_core.specs.Value.{word}
-use Rattle.net_core.specs.Width.{Scope, width_of, const_width, test_width, op_width, unary_width, conditional_width, same, word_fits, statement_typed, statements_typed}
+use Rattle.net_core.specs.Width.{Scope, width_of, const_width, test_width, op_width, conditional_width, same, word_fits, statement_typed, statements_typed}
 use Rattle.design_rules.specs.FormedSyntax.{tree_spelled, statement_depth, statements_depth, elses_placed, all_placed, trees_pass, all_trees_pass, statement_spelled}
 use Rattle.block_core.specs.declared.name.Name.{Name}
 use Rattle.block_core.specs.declared.name.Name.TheVariants as name
-use Rattle.block_core.specs.Blocks.{BlockWireTree, Whole}
-use Rattle.block_core.specs.Parts.{Within, AllWithin, Goes}
-use Rattle.block_core.specs.Formed.{word_width, words_fit, block_registers, block_memories, block_wires, block_wires_typed, name_width, names_scope, IsTypedBlock}
-use Rattle.block_forms.specs.WellFormed.{wire_spelled}
+use Rattle.block_core.specs.Blocks.{Whole}
+use Rattle.block_core.specs.Parts.{AllWithin}
+use Rattle.block_core.specs.Formed.{word_width, words_fit, block_registers, block_wires, block_wires_typed, name_width, names_scope, IsTypedBlock}
 use Rattle.ring_net.specs.declared.shape.ControlShape.{ControlShape}
 use Rattle.ring_net.specs.declared.names.Counter.{Counter}
 use Rattle.ring_net.specs.declared.names.Counter.TheVariants.{Given, Answered, Injected, Gathered}
-use Rattle.ring_net.specs.declared.names.Register.{Register}
 use Rattle.ring_net.specs.declared.names.Register.TheVariants.{Lap, Slot, Passed, Holds}
 use Rattle.ring_net.specs.declared.names.Wire.{Wire}
 use Rattle.ring_net.specs.declared.names.Wire.TheVariants.{Ready, Over, Ends, Injects, Exits, Shown, Taken, Gone}
 use Rattle.ring_net.specs.declared.names.ControlNets.{ControlNets}
-use Rattle.ring_net.specs.Names.{register_number, register_name, wire_name, wire_number}
+use Rattle.ring_net.specs.Names.{register_number, wire_number}
 use Rattle.ring_net.specs.Block.{register_widths}
-use Rattle.ring_net.specs.Trees.{register, wire, port, bit_wire, compared, both, at_end, counting, advance, pass, moves, zeros, control_wires, control_statements, control_tree}
+use Rattle.ring_net.specs.Trees.{register, wire, compared, at_end, counting, pass, moves, zeros, control_wires, control_statements, control_tree}
 
 -- ---- widths of what is declared
 width_replicate : (n : ℕ) (w : Word) → map word_width (replicate n w) ≡ replicate n w.width

@@ -1,8 +1,7 @@
 -- The block that is made is control's.
-use Rattle.std.specs.Prelude.{◌≡◌, ℕ, zero, suc, ◌+◌, List, [], ◌∷◌, length, map, replicate, false}
-use Rattle.std.proofs.Common.{refl, sym, ap, ◌∙◌, arith, subst}
-use Rattle.std.proofs.lemmas.List.{length-replicate}
-use Rattle.net_core.specs.Value.{word, bit, number_of}
+use Rattle.std.specs.Prelude.{◌≡◌, ℕ, zero, suc, [], ◌∷◌, length, map, replicate, false}
+use Rattle.std.proofs.Common.{refl, sym, ap, arith, subst}
+use Rattle.net_core.specs.Value.{word, bit}
 use Rattle.block_core.specs.declared.name.Name.{Name}
 use Rattle.block_core.specs.Blocks.{BlockTree}
 use Rattle.ring_net.specs.declared.shape.ControlShape.{ControlShape}

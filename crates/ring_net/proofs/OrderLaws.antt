@@ -1,6 +1,6 @@
 -- Control's wires stand in order, and its statement reads what is there, in every design that has the nets of other parts before it.
-use Rattle.std.specs.Prelude.{◌≡◌, ℕ, suc, ◌+◌, ◌<◌, List, [], ◌∷◌}
-use Rattle.std.proofs.Common.{◌⊎◌, arith, sym, subst, inl, inr}
+use Rattle.std.specs.Prelude.{ℕ, suc, List, [], ◌∷◌}
+use Rattle.std.proofs.Common.{arith, sym, subst, inl, inr}
 use Rattle.net_core.specs.Nets.{Tree, TConst, TRead, TBit, TPartSelect, TMemoryWord, TUnary, TBinary, TConditional, TConcatenation, Trees, TLast, TMore, RightTree, RPlain, RQuotient, RRemainder, StatementTree, SBlock, SIf, SIfElse, SSet, SStore, StatementTrees, SEnd, SThen}
 use Rattle.block_core.specs.declared.name.Name.{Name}
 use Rattle.block_core.specs.declared.name.Name.TheVariants as name

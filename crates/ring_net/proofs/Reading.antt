@@ -1,7 +1,7 @@
 -- Which nets control's block reads.
-use Rattle.std.specs.Prelude.{◌≡◌, ℕ, zero, suc, ◌+◌, ◌<◌, ◌≤◌}
+use Rattle.std.specs.Prelude.{ℕ, zero, suc, ◌+◌, ◌<◌, ◌≤◌}
 use Rattle.std.proofs.Common.{refl, arith, inl, inr}
-use Rattle.net_core.specs.Nets.{Tree, SEnd, StatementTrees}
+use Rattle.net_core.specs.Nets.{Tree, SEnd}
 use Rattle.net_core.specs.Chains.{statements_before}
 use Rattle.block_core.specs.declared.name.Name.{Name}
 use Rattle.block_core.specs.declared.name.Name.TheVariants as name
@@ -10,13 +10,12 @@ use Rattle.block_core.specs.Formed.{StatementReads, StatementsRead}
 use Rattle.ring_net.specs.declared.shape.ControlShape.{ControlShape}
 use Rattle.ring_net.specs.declared.names.Counter.{Counter}
 use Rattle.ring_net.specs.declared.names.Counter.TheVariants.{Given, Answered, Injected, Gathered}
-use Rattle.ring_net.specs.declared.names.Register.TheVariants.{Lap, Slot, Passed, Holds}
-use Rattle.ring_net.specs.declared.names.Wire.{Wire}
-use Rattle.ring_net.specs.declared.names.Wire.TheVariants.{Ready, Over, Ends, Injects, Exits, Shown, Taken, Gone}
+use Rattle.ring_net.specs.declared.names.Register.TheVariants.{Lap, Slot, Holds}
+use Rattle.ring_net.specs.declared.names.Wire.TheVariants.{Injects}
 use Rattle.ring_net.specs.declared.names.ControlNets.{ControlNets}
-use Rattle.ring_net.specs.Names.{register_name, wire_name, register_number, wire_number}
+use Rattle.ring_net.specs.Names.{register_name}
 use Rattle.ring_net.specs.Block.{IsRead, WiresRead}
-use Rattle.ring_net.specs.Trees.{register, wire, counting, advance, moves, control_wires, control_statements}
+use Rattle.ring_net.specs.Trees.{register, wire, counting, moves, control_wires, control_statements}
 
 module _ {P : Type 0} (c : ControlShape) (part : P) (nets : ControlNets P) where
   own_register : (at k : ℕ) → k < 10 + c.stages → IsRead c part nets at (name.Register part k)

@@ -1,11 +1,11 @@
 -- The values of control's nets in a clock.
-use Rattle.std.specs.Prelude.{◌≡◌, ℕ, zero, suc, ◌+◌, ◌<◌, ◌≤◌, nat_lt, Bool, true, false, ◌&&◌, ◌||◌, List, [], ◌∷◌, ◌++◌, length, map, replicate}
-use Rattle.std.proofs.Common.{get_or, refl, sym, ap, ◌∙◌, arith}
+use Rattle.std.specs.Prelude.{◌≡◌, ℕ, zero, suc, ◌+◌, ◌<◌, ◌≤◌, nat_lt, Bool, false, List, [], ◌∷◌, length, map}
+use Rattle.std.proofs.Common.{get_or, refl, ◌∙◌, arith}
 use Rattle.std.proofs.lemmas.List.{length-replicate, get_or-append-add}
 use Rattle.net_core.specs.declared.tree.Word.{Word}
 use Rattle.net_core.specs.declared.tree.Op.{Op}
-use Rattle.net_core.specs.declared.tree.Op.TheVariants.{Add, And, Or, Equal, NotEqual}
-use Rattle.net_core.specs.Value.{word, bit, nothing, number_of, apply, Env, value}
+use Rattle.net_core.specs.declared.tree.Op.TheVariants.{And, Or, Equal, NotEqual}
+use Rattle.net_core.specs.Value.{word, bit, nothing, apply, Env, value}
 use Rattle.block_core.specs.declared.name.Name.{Name}
 use Rattle.block_core.specs.declared.name.Name.TheVariants as name
 use Rattle.block_core.specs.Parts.{Solve}

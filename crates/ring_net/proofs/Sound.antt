@@ -1,11 +1,11 @@
 -- What control counts stays in order.
-use Rattle.std.specs.Prelude.{◌≡◌, ℕ, zero, suc, ◌+◌, ◌-◌, ◌%◌, ◌^◌, ◌<◌, ◌≤◌, nat_lt, Bool, true, false, ◌&&◌, ◌||◌, cond, List, [], ◌∷◌, length, replicate}
-use Rattle.std.proofs.Common.{get_or, not, refl, sym, ap, ◌∙◌, arith, inl, inr}
+use Rattle.std.specs.Prelude.{◌≡◌, ℕ, zero, suc, ◌+◌, ◌<◌, ◌≤◌, nat_lt, Bool, true, false, cond, List, [], ◌∷◌, length, replicate}
+use Rattle.std.proofs.Common.{get_or, not, refl, ap, ◌∙◌, arith, inl, inr}
 use Rattle.std.proofs.lemmas.Bool.{ltb-true, and_parts, and_left, and_right, or_cases, not-true}
 use Rattle.std.proofs.lemmas.List.{length-replicate}
 use Rattle.net_core.specs.Value.{number_of}
 use Rattle.ring_net.specs.declared.shape.ControlShape.{ControlShape}
-use Rattle.ring_net.specs.Control.{State, Signals, ready, over, ends, injects, exits, shown, taken, gone, counted, moved, packets, first_state, step, partial_after, IsSound, StartsSound, StaysSound}
+use Rattle.ring_net.specs.Control.{State, Signals, ready, over, ends, injects, exits, shown, taken, gone, counted, moved, packets, step, partial_after, IsSound, StartsSound, StaysSound}
 use Rattle.ring_net.proofs.Cases.{by_test}
 
 none_inside : (n : ℕ) → packets (replicate n false) ≡ 0

@@ -1,12 +1,12 @@
 -- What the nets of slots and laps tell.
-use Rattle.std.specs.Prelude.{◌≡◌, ◌≢◌, ℕ, suc, ◌+◌, ◌-◌, ◌%◌, ◌^◌, ◌<◌, ◌≤◌, ◌==◌, nat_lt, cond, Bool, true, false, ◌&&◌, ◌||◌}
+use Rattle.std.specs.Prelude.{◌≡◌, ◌≢◌, ℕ, suc, ◌+◌, ◌-◌, ◌^◌, ◌<◌, ◌≤◌, ◌==◌, nat_lt, cond, Bool, true, false, ◌&&◌, ◌||◌}
 use Rattle.std.proofs.Common.{not, refl, sym, ap, ◌∙◌, arith, inl, inr}
-use Rattle.std.proofs.lemmas.Bool.{eqb-true, eqb-false, eq-eqb, ne_eqb, lt-ltb, le-ltb, cases_lt, cases_eq}
+use Rattle.std.proofs.lemmas.Bool.{eqb-true, eqb-false, eq-eqb, ne_eqb, lt-ltb, le-ltb, cases_eq}
 use Rattle.std.proofs.Math.Nat.{mod-eq_of_lt}
 use Rattle.net_core.specs.declared.tree.Word.{Word}
 use Rattle.net_core.specs.declared.tree.Op.TheVariants.{Add, And, Or, Equal, NotEqual}
 use Rattle.net_core.specs.declared.tree.UnaryOp.TheVariants.{Not}
-use Rattle.net_core.specs.Value.{word, bit, number_of, apply, apply_unary, conditional}
+use Rattle.net_core.specs.Value.{word, bit, apply, apply_unary, conditional}
 use Rattle.ring_net.specs.Ring.{slot, lap, IsNear}
 use Rattle.ring_net.proofs.Cases.{by_test}
 use Rattle.ring_net.proofs.RingLaws.{slot_small, same_slot, around}

@@ -1,5 +1,4 @@
 use Rattle.block_core.specs.View.{block_of}
-use Rattle.ring_net.specs.contracts.control.control.{P-type}
 use Rattle.ring_net.proofs.Made.{made}
 use Rattle.ring_net.proofs.control.control.Goals as goal
 
