@@ -92,8 +92,8 @@ fn show_node(alloc: Global, node: &Node) -> Result<String> {
     Ok(text)
 }
 
-// The place and the number of a refusal, and of a helper its own number.
-fn refusal(alloc: Global, error: BuildError) -> Result<String> {
+/// The place and the number of a refusal, and of a helper its own number.
+pub(crate) fn refusal(alloc: Global, error: BuildError) -> Result<String> {
     let BuildError::Refused(refused) = error else {
         return Ok(String::from_str(alloc, "no memory")?);
     };

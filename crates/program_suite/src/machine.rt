@@ -1,19 +1,21 @@
 //! Cases of the sequential machine.
 
 use crate::bytes::Named;
-use crate::graph;
 use crate::maps::Tables;
 use crate::numbers::{front, number, number_32};
+use crate::{cells, graph};
 use anyhow::{Result, ensure};
 use beat_core::{FRAME_LIMIT, Frame, Meta};
 use bpf_isa::decode_all;
 use byteorder::{ByteOrder, LittleEndian};
+use cell_core::program::PacketIn;
 use std::alloc::Global;
 use xdp_maps::decl::MapDecl;
 use xdp_object::Program;
 use xdp_seq::{Ended, SeqError, SeqPlan, run_packet};
 
-/// The program of a case, with a hole or without, its references to maps, and with what frames come: the interface and the time.
+/// The program of a case, with a hole or without, its references to maps, with what frames come: the interface and the time; and packets
+/// that come one after another.
 #[derive(Drop)]
 pub(crate) struct Machine {
     alloc: Global,
@@ -22,6 +24,7 @@ pub(crate) struct Machine {
     refs: Vec<u32>,
     ifindex: u32,
     time: u64,
+    packets: Vec<PacketIn>,
 }
 
 impl Machine {
@@ -34,6 +37,7 @@ impl Machine {
             refs: Vec::new(alloc),
             ifindex: 1,
             time: 0,
+            packets: Vec::new(alloc),
         }
     }
 
@@ -48,6 +52,7 @@ impl Machine {
             "refs" => self.refer(rest)?,
             "interface" => self.ifindex = number_32(rest)?,
             "time" => self.time = number(rest)?,
+            "packet" => self.add_packet(named, rest)?,
             _ => return Ok(false),
         }
         Ok(true)
@@ -70,6 +75,17 @@ impl Machine {
         Ok(())
     }
 
+    // Adds a packet, which comes by the interface.
+    fn add_packet(&mut self, named: &Named, rest: &str) -> Result<()> {
+        let (time, words) = front(rest);
+        self.packets.push(PacketIn {
+            frame: frame_of(self.alloc, &named.bytes(words)?)?,
+            ifindex: self.ifindex,
+            time: number(time)?,
+        })?;
+        Ok(())
+    }
+
     /// What a run leaves, if the verb is one.
     pub(crate) fn answer(
         &self,
@@ -82,6 +98,7 @@ impl Machine {
         let answer = match verb {
             "run" => self.run(tables, &named.bytes(rest)?, &named.bytes(first)?)?,
             "compute" => self.compute(tables, &named.bytes(first)?, rest)?,
+            "cells" => self.cells(tables, &named.bytes(first)?, &named.bytes(rest)?)?,
             "loops" | "walk" | "unfold" | "count" => self.ask(
                 tables.maps.decls(),
                 &named.bytes(first)?,
@@ -138,6 +155,19 @@ impl Machine {
             )?),
             Err(SeqError::Stuck { at }) => Ok(format!(in self.alloc; "stuck at {at}")?),
             Err(SeqError::Spent { at }) => Ok(format!(in self.alloc; "spent at {at}")?),
+        }
+    }
+
+    // What the packets leave, by the cells of the program with these bytes in its hole, and by its runs with those.
+    fn cells(&self, tables: &mut Tables, hole: &[u8], other: &[u8]) -> Result<String> {
+        let celled = self.program(tables.maps.decls(), hole)?;
+        let other = if other.is_empty() { hole } else { other };
+        let run = self.program(tables.maps.decls(), other)?;
+        match (celled, run) {
+            (Some(celled), Some(run)) => {
+                cells::answer(self.alloc, &celled, &run, tables, &self.packets)
+            }
+            _ => Ok(String::from_str(self.alloc, "no program")?),
         }
     }
 

@@ -1,4 +1,4 @@
-//! Cases of words, instructions, objects, maps, the graph of a program and the sequential machine, in files of lines.
+//! Cases of words, instructions, objects, maps, the graph of a program, the sequential machine and programs as cells, in files of lines.
 //!
 //! The program is called with the names of the files, and does their lines in order. An empty line and one that begins with
 //! `# ` is nothing, and ` # ` begins a comment in any other. A line that asks prints itself, ` => ` and its answer, whose
@@ -15,7 +15,7 @@
 //!
 //! Lines that ask nothing:
 //!
-//!     case TITLE                      prints `== TITLE`: no maps, no program, the interface 1 and the time 0, but names stay
+//!     case TITLE                      prints `== TITLE`: no maps, no program, no packets, the interface 1 and the time 0, but names stay
 //!     bytes NAME BYTES                gives bytes a name
 //!     more BYTES                      adds to the bytes that were named last
 //!     object NAME FUNCTION CODE       gives the object of a function a name; CODE is a BYTE-WORD
@@ -27,6 +27,7 @@
 //!     refs PLACE..                    adds places of the program that refer to a map
 //!     interface NUMBER                frames come in by this interface
 //!     time NUMBER                     they come at this time, in nanoseconds
+//!     packet NUMBER BYTES             adds a packet: a frame that comes by the interface, at this time
 //!
 //! Of any bytes:
 //!
@@ -91,16 +92,28 @@
 //!
 //!     run FRAME BYTES                 over the frame of a BYTE-WORD, with these bytes in the hole
 //!     compute CODE NUMBER..           with a BYTE-WORD in the hole, over a frame of numbers of 8 bytes, shown as such
+//!
+//! Of the cells of the program of the case (`predicate_core`, `cell_core`, `row_plan`), beside its graph (`node_rows`) and its runs:
+//!
+//!     cells [CODE [OTHER]]            with a BYTE-WORD in the hole: nodes, stages and records, or the first refusal; what the packets leave one
+//!                                     after another, a line `INDEX VERDICT TARGET LENGTH` each, with the bytes that change behind their places;
+//!                                     and the text of the final maps. With OTHER it is in the hole where the program is run
+//!
+//! Nodes, stages and records are those of the graph, and what packets leave is that of runs. Where cells say something else, that follows
+//! behind `by cells`: each packet's cells are evaluated on the maps that the run before has left, and their operations done in their order.
 #![tactic(auto)]
 
 mod bits;
 mod bytes;
+mod cells;
 mod elf;
 mod graph;
+mod left;
 mod machine;
 mod maps;
 mod numbers;
 mod objects;
+mod sites;
 mod suite;
 mod units;
 

@@ -1,5 +1,7 @@
 //! Cases of maps.
 
+ghost use Rattle.std.specs.Prelude.{◌≡◌, IfOk};
+
 use crate::bytes::Named;
 use crate::numbers::{front, number, number_32, numbers};
 use anyhow::{Context, Result, bail, ensure};
@@ -77,8 +79,8 @@ impl Tables {
         }
     }
 
-    // A word, and the lines of the text of the maps.
-    fn written(&self, word: &str) -> Result<String> {
+    /// A word, and the lines of the text of the maps.
+    pub(crate) fn written(&self, word: &str) -> Result<String> {
         ensure!(self.maps.decls().len() <= 16, "16 maps");
         let text = write_maps_text(self.alloc, &self.maps)?;
         let mut answer = String::from_str(self.alloc, word)?;
@@ -243,6 +245,18 @@ fn opened(alloc: Global, decls: &[MapDecl]) -> Result<Maps> {
     let all = decls.iter().all(|d| d.is_within_limits());
     ensure!(all, "maps within the limits");
     Ok(Maps::new(alloc, decls)?)
+}
+
+/// What maps hold, in maps of these declarations.
+pub(crate) fn over(alloc: Global, maps: &Maps, decls: &[MapDecl]) -> Result<Maps>
+    ensures { IfOk result (λ own. own.decls ≡ decls.now) }
+{
+    ensure!(maps.decls().len() <= 16, "16 maps");
+    let text = write_maps_text(alloc, maps)?;
+    ensure!(decls.len() <= 16, "16 maps");
+    let all = decls.iter().all(|d| d.is_within_limits());
+    ensure!(all, "maps within the limits");
+    Ok(read_maps_text(alloc, decls, &text)?)
 }
 
 // The bytes of a text of maps.
