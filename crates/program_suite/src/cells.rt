@@ -1,8 +1,6 @@
 //! Cases of programs as cells.
 
 ghost use Rattle.unfold_core.specs.Unfolding.{IsUnfolded};
-ghost use Rattle.program_graph.specs.Graphs.{graph_of};
-ghost use Rattle.held_cells.specs.Law.{IsLaw};
 ghost use Rattle.cell_core.specs.Formed.{AreFormed, AreSited};
 ghost use Rattle.cell_core.specs.View.{program_of};
 
@@ -95,8 +93,7 @@ fn by_cells(
     pass_all(alloc, &values, &cells.sites, &mut own)?;
     let mut frame = Vec::from_slice(alloc, packet.frame.bytes())?;
     for byte in &cells.frame {
-        let place = frame.get_mut(byte.at as usize);
-        if let Some(place) = place {
+        if let Some(place) = frame.get_mut(byte.at as usize) {
             *place = u8::try_from(value_in(&values, byte.cell))?;
         }
     }
