@@ -40,38 +40,38 @@ load_map dst = insn LoadImm dst 0 (pos 0) (pos 0)
 abbrev pub call : ℤ → Insn
 call helper = insn Call 0 0 (pos 0) helper
 
--- the first number of each line is its place
+-- each with its place
 unfoldable pub demo_insns : List Insn
 demo_insns =
-    load W 2 1 (pos 4)  -- 0   r2 = *(u32 *)(r1 + 4)
-    ∷ load W 1 1 (pos 0)  -- 1   r1 = *(u32 *)(r1 + 0)
-    ∷ copy 3 1  -- 2   r3 = r1
-    ∷ by_number Add 3 (pos 14)  -- 3   r3 += 14
-    ∷ by_number Mov 0 (pos 1)  -- 4   r0 = 1
-    ∷ insn (Jump Bits64 Jgt X) 3 2 (pos 24) (pos 0)  -- 5   if r3 > r2 goto +24
-    ∷ load W 6 1 (pos 6)  -- 6   r6 = *(u32 *)(r1 + 6)
-    ∷ load B 7 1 (pos 12)  -- 7   r7 = *(u8 *)(r1 + 12)
-    ∷ insn (Store W) 10 6 (neg_ℤ (pos 4)) (pos 0)  -- 8   *(u32 *)(r10 - 4) = r6
-    ∷ insn (StoreImm Dw) 10 0 (neg_ℤ (pos 16)) (pos 1)  -- 9   *(u64 *)(r10 - 16) = 1
-    ∷ load_map 1  -- 10  r1 = flow ll
-    ∷ copy 2 10  -- 12  r2 = r10
-    ∷ by_number Add 2 (neg_ℤ (pos 4))  -- 13  r2 += -4
-    ∷ call (pos 1)  -- 14  call 1, map_lookup_elem
-    ∷ insn (Jump Bits64 Jne K) 0 0 (pos 9) (pos 0)  -- 15  if r0 != 0 goto +9
-    ∷ load_map 1  -- 16  r1 = flow ll
-    ∷ copy 2 10  -- 18  r2 = r10
-    ∷ by_number Add 2 (neg_ℤ (pos 4))  -- 19  r2 += -4
-    ∷ copy 3 10  -- 20  r3 = r10
-    ∷ by_number Add 3 (neg_ℤ (pos 16))  -- 21  r3 += -16
-    ∷ by_number Mov 4 (pos 0)  -- 22  r4 = 0
-    ∷ call (pos 2)  -- 23  call 2, map_update_elem
-    ∷ insn (Ja Bits64) 0 0 (pos 2) (pos 0)  -- 24  goto +2
-    ∷ by_number Mov 1 (pos 1)  -- 25  r1 = 1
-    ∷ insn (Atomic Dw) 0 1 (pos 0) (pos 0)  -- 26  lock *(u64 *)(r0 + 0) += r1
-    ∷ copy 0 7  -- 27  r0 = r7
-    ∷ by_number And 0 (pos 1)  -- 28  r0 &= 1
-    ∷ by_number Add 0 (pos 1)  -- 29  r0 += 1
-    ∷ insn Exit 0 0 (pos 0) (pos 0)  -- 30  exit
+    load W 2 1 (pos 4)  -- 0: r2 = *(u32 *)(r1 + 4)
+    ∷ load W 1 1 (pos 0)  -- 1: r1 = *(u32 *)(r1 + 0)
+    ∷ copy 3 1  -- 2: r3 = r1
+    ∷ by_number Add 3 (pos 14)  -- 3: r3 += 14
+    ∷ by_number Mov 0 (pos 1)  -- 4: r0 = 1
+    ∷ insn (Jump Bits64 Jgt X) 3 2 (pos 24) (pos 0)  -- 5: if r3 > r2 goto +24
+    ∷ load W 6 1 (pos 6)  -- 6: r6 = *(u32 *)(r1 + 6)
+    ∷ load B 7 1 (pos 12)  -- 7: r7 = *(u8 *)(r1 + 12)
+    ∷ insn (Store W) 10 6 (neg_ℤ (pos 4)) (pos 0)  -- 8: *(u32 *)(r10 - 4) = r6
+    ∷ insn (StoreImm Dw) 10 0 (neg_ℤ (pos 16)) (pos 1)  -- 9: *(u64 *)(r10 - 16) = 1
+    ∷ load_map 1  -- 10: r1 = flow ll
+    ∷ copy 2 10  -- 12: r2 = r10
+    ∷ by_number Add 2 (neg_ℤ (pos 4))  -- 13: r2 += -4
+    ∷ call (pos 1)  -- 14: call 1, map_lookup_elem
+    ∷ insn (Jump Bits64 Jne K) 0 0 (pos 9) (pos 0)  -- 15: if r0 != 0 goto +9
+    ∷ load_map 1  -- 16: r1 = flow ll
+    ∷ copy 2 10  -- 18: r2 = r10
+    ∷ by_number Add 2 (neg_ℤ (pos 4))  -- 19: r2 += -4
+    ∷ copy 3 10  -- 20: r3 = r10
+    ∷ by_number Add 3 (neg_ℤ (pos 16))  -- 21: r3 += -16
+    ∷ by_number Mov 4 (pos 0)  -- 22: r4 = 0
+    ∷ call (pos 2)  -- 23: call 2, map_update_elem
+    ∷ insn (Ja Bits64) 0 0 (pos 2) (pos 0)  -- 24: goto +2
+    ∷ by_number Mov 1 (pos 1)  -- 25: r1 = 1
+    ∷ insn (Atomic Dw) 0 1 (pos 0) (pos 0)  -- 26: lock *(u64 *)(r0 + 0) += r1
+    ∷ copy 0 7  -- 27: r0 = r7
+    ∷ by_number And 0 (pos 1)  -- 28: r0 &= 1
+    ∷ by_number Add 0 (pos 1)  -- 29: r0 += 1
+    ∷ insn Exit 0 0 (pos 0) (pos 0)  -- 30: exit
     ∷ []
 
 -- ---- the whole
