@@ -1,0 +1,5 @@
+pub mod Captures
+pub mod Writable
+pub mod Written
+pub mod Reading
+pub mod Texts
