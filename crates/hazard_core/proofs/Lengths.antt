@@ -1,5 +1,5 @@
 -- Keys and values have the lengths that their maps declare.
-use Rattle.std.proofs.Common.{◌≡◌, ◌∙◌, ℕ, zero, suc, ◌+◌, ◌*◌, ◌<◌, ◌≤◌, Bool, true, false, List, [], ◌∷◌, ◌++◌, length, take, drop, refl, sym, ap, subst, arith, map as map_list}
+use Rattle.std.proofs.Common.{◌≡◌, ◌∙◌, ℕ, ◌+◌, ◌*◌, ◌≤◌, Bool, true, false, List, [], ◌∷◌, ◌++◌, length, take, drop, refl, arith, map as map_list}
 use Rattle.std.proofs.lemmas.List.{length-take-le, length-drop, length-append, length-map}
 use Rattle.byteorder.specs.Endian.{little_bytes}
 use Rattle.bpf_isa.specs.declared.operation.Size.{Size}

@@ -1,7 +1,7 @@
 -- Bytes from a place on, also past the end of a value.
-use Rattle.std.proofs.Common.{◌≡◌, ◌∙◌, ℕ, zero, suc, ◌+◌, ◌-◌, ◌*◌, ◌<◌, ◌≤◌, min, List, [], ◌∷◌, ◌++◌, length, take, drop, get_or, replicate, refl, sym, ap, arith, append_assoc, append-nil}
+use Rattle.std.proofs.Common.{◌≡◌, ◌∙◌, ℕ, zero, suc, ◌+◌, ◌-◌, ◌*◌, ◌<◌, ◌≤◌, min, List, ◌++◌, length, take, drop, get_or, replicate, refl, sym, ap, arith, append-nil}
 use Rattle.std.specs.Prelude.{slice_range}
-use Rattle.std.proofs.lemmas.List.{get_or-take, get_or-drop, length-take, length-take-le, length-append, length-replicate, length-drop, take_at, take_min, take_all, drop_all}
+use Rattle.std.proofs.lemmas.List.{get_or-take, get_or-drop, length-take-le, length-append, length-replicate, length-drop, take_at, take_min, drop_all}
 use Rattle.byteorder.specs.Endian.{little_from, little_number}
 use Rattle.xdp_maps.specs.Calls.{patched}
 
@@ -41,7 +41,7 @@ patch_long v bs at head e l =
     let h : head ≤ length v = omega (arith, e) in
     let n = length-take-le head v h in
     let m : length (take head v ++ drop head (replicate (head + length bs) 0)) ≤ head + length bs =
-    omega (arith, length-append (take head v) (drop head (replicate (head + length bs) 0)), n, length-drop head (replicate (head + length bs) 0), length-replicate (head + length bs) 0) in
+    omega (arith, length-append {A = ℕ} (take head v) (drop head (replicate (head + length bs) 0)), n, length-drop {A = ℕ} head (replicate (head + length bs) 0), length-replicate {A = ℕ} (head + length bs) 0) in
     ap (λ (xs : List ℕ). patched xs head bs) (patch_front (replicate (head + length bs) 0) (take head v) head n)
     ∙ patch_end (take head v) (drop head (replicate (head + length bs) 0)) bs head n m
     ∙ ap (λ (k : ℕ). take k v ++ bs) e

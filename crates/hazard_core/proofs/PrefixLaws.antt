@@ -1,7 +1,6 @@
 -- Loops over the numbers below one, of which some pass a test.
-use Rattle.std.proofs.Common.{◌≡◌, ◌∙◌, ℕ, zero, suc, ◌+◌, ◌<◌, ◌≤◌, Bool, true, false, cond, ◌&&◌, ◌||◌, List, [], ◌∷◌, ◌++◌, length, refl, sym, ap, arith, map as map_list}
+use Rattle.std.proofs.Common.{◌≡◌, ◌∙◌, ℕ, zero, suc, ◌+◌, Bool, true, false, cond, ◌&&◌, List, [], ◌∷◌, ◌++◌, refl, ap, arith, map as map_list}
 use Rattle.std.specs.Prelude.{filter, fold, count_by}
-use Rattle.std.specs.List.{list_any}
 use Rattle.std.proofs.lemmas.List.{map-append}
 use Rattle.cell_core.specs.Rows.{numbers}
 
@@ -30,21 +29,12 @@ pub fold_more : {B : Type 0} (f : B → ℕ → B) (z : B) (p : ℕ → Bool) (n
     → fold f z (filter p (numbers 0 (n + 1))) ≡ cond (p n) (f (fold f z (filter p (numbers 0 n))) n) (fold f z (filter p (numbers 0 n)))
 fold_more f z p n = ap (λ (xs : List ℕ). fold f z (filter p xs)) (numbers_more n) ∙ folded f p (numbers 0 n) n z
 
-count_one : (q : ℕ → Bool) (x : ℕ) (b c : Bool) → q x ≡ c → count_by q (cond b (x ∷ []) []) ≡ 0 + cond (b && c) 1 0
-count_one q x true true e = rw e refl
-count_one q x true false e = rw e refl
-count_one q x false c e = refl
-
-count_next : (q : ℕ → Bool) (n : ℕ) (b : Bool) (y : ℕ) (ys zs : List ℕ) → count_by q zs ≡ count_by q ys + n → count_by q (cond b (y ∷ zs) zs) ≡ count_by q (cond b (y ∷ ys) ys) + n
-count_next q n true y ys zs h = omega (arith, h)
-count_next q n false y ys zs h = h
-
-counted : (q p : ℕ → Bool) (xs : List ℕ) (x : ℕ) → count_by q (filter p (xs ++ x ∷ [])) ≡ count_by q (filter p xs) + cond (p x && q x) 1 0
-counted q p [] x = count_one q x (p x) (q x) refl
-counted q p (y ∷ ys) x = count_next q (cond (p x && q x) 1 0) (p y) y (filter p ys) (filter p (ys ++ x ∷ [])) (counted q p ys x)
+counted : (q : ℕ → Bool) (n m : ℕ) (b : Bool) → cond b (m + cond (q n) 1 0) m ≡ m + cond (b && q n) 1 0
+counted q n m true = refl
+counted q n m false = omega arith
 
 pub count_more : (q p : ℕ → Bool) (n : ℕ) → count_by q (filter p (numbers 0 (n + 1))) ≡ count_by q (filter p (numbers 0 n)) + cond (p n && q n) 1 0
-count_more q p n = ap (λ (xs : List ℕ). count_by q (filter p xs)) (numbers_more n) ∙ counted q p (numbers 0 n) n
+count_more q p n = fold_more (λ m x. m + cond (q x) 1 0) 0 p n ∙ counted q n (count_by q (filter p (numbers 0 n))) (p n)
 
 pub map_more : {B : Type 0} (f : ℕ → B) (n : ℕ) → map_list f (numbers 0 (n + 1)) ≡ map_list f (numbers 0 n) ++ f n ∷ []
 map_more f n = ap (map_list f) (numbers_more n) ∙ map-append f (numbers 0 n) (n ∷ [])

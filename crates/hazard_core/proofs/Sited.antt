@@ -1,5 +1,5 @@
 -- The sites and the declarations in memory as they are read.
-use Rattle.std.proofs.Common.{◌≡◌, ◌∙◌, ℕ, ◌<◌, List, length, get_or, refl, sym, ap, subst, arith, map as map_list}
+use Rattle.std.proofs.Common.{◌≡◌, ◌∙◌, ℕ, ◌<◌, List, length, get_or, sym, ap, subst, arith, map as map_list}
 use Rattle.std.proofs.lemmas.List.{get_or-map, length-map}
 use Rattle.xdp_maps.specs.declared.decl.MapDecl.{MapDecl}
 use Rattle.cell_core.specs.Formed.{AllFit, FitsMap}

@@ -121,21 +121,29 @@ fn number_before(value: &[u8], at: usize, change: Change) -> u64
     }
 }
 
-/// Writes bytes over those from a place on; a value that ends before gets longer.
+/// A value that ends before some bytes that are written from a place on.
 #[tactic(auto, using(crate::proofs::Padding::patch_long))]
+fn lengthened(value: &[u8], at: usize, bytes: &[u8]) -> ShortBytes
+    requires room { at + length bytes.now ≤ 64 }
+    requires past { length value.now ≤ at + length bytes.now }
+    ensures { result ≡ patched value.now at bytes.now }
+{
+    let head = at.min(value.len());
+    let mut longer = ShortBytes::zeros(head + bytes.len());
+    longer.write(0, &value[..head]);
+    longer.write(head, bytes);
+    longer
+}
+
+/// Writes bytes over those from a place on; a value that ends before gets longer.
 fn patch(value: &mut ShortBytes, at: usize, bytes: &[u8])
     requires { at + length bytes.now ≤ 64 }
     ensures { value.new ≡ patched value.old at bytes.now }
 {
-    let len = value.as_slice().len();
-    if at + bytes.len() <= len {
+    if at + bytes.len() <= value.as_slice().len() {
         value.write(at, bytes);
     } else {
-        let head = at.min(len);
-        let mut longer = ShortBytes::zeros(head + bytes.len());
-        longer.write(0, &value.as_slice()[..head]);
-        longer.write(head, bytes);
-        *value = longer;
+        *value = lengthened(value.as_slice(), at, bytes);
     }
 }
 

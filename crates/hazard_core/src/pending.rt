@@ -1,6 +1,6 @@
 //! A packet's earlier operations that a read sees.
 
-ghost use Rattle.std.specs.Prelude.{◌≡◌, ◌<◌, ◌≤◌, ◌^◌, ℕ, length, slice_index, nat_lt, [], ◌∷◌, filter, count_by};
+ghost use Rattle.std.specs.Prelude.{◌≡◌, ◌&&◌, ◌<◌, ◌≤◌, ◌^◌, ℕ, length, slice_index, nat_lt, [], ◌∷◌, filter, count_by};
 ghost use Rattle.std.specs.List.{list_all};
 ghost use Rattle.cell_core.specs.Formed.{AllFit};
 ghost use Rattle.cell_core.specs.Rows.{taken_by};
@@ -106,6 +106,42 @@ fn takes_key(program: &CellProgram, tables: &Tables, held: &Held, j: usize) -> b
     writes(program, tables, held, j) && is_delete(site_at(program, j).act)
 }
 
+/// Whether a read of site j in a row sees that the operation of site i adds a key.
+fn sees_added(
+    program: &CellProgram,
+    rows: &[u32],
+    r: u32,
+    tables: &Tables,
+    held: &Held,
+    j: usize,
+    i: usize,
+) -> bool
+    requires i { i < length program.now.sites.items }
+    requires j { j < length program.now.sites.items }
+    requires fits { AllFit tables.now.decls (program_of program.now).sites }
+    ensures { result ≡ (is_pending (program_of program.now) (slice_index rows.now) r j i && adds_key (program_of program.now) tables.now.decls held.now i) }
+{
+    is_pending(program, rows, r, j, i) && adds_key(program, tables, held, i)
+}
+
+/// Whether it sees that it takes one away.
+fn sees_taken(
+    program: &CellProgram,
+    rows: &[u32],
+    r: u32,
+    tables: &Tables,
+    held: &Held,
+    j: usize,
+    i: usize,
+) -> bool
+    requires i { i < length program.now.sites.items }
+    requires j { j < length program.now.sites.items }
+    requires fits { AllFit tables.now.decls (program_of program.now).sites }
+    ensures { result ≡ (is_pending (program_of program.now) (slice_index rows.now) r j i && takes_key (program_of program.now) tables.now.decls held.now i) }
+{
+    is_pending(program, rows, r, j, i) && takes_key(program, tables, held, i)
+}
+
 /// How many keys the operations add that a read of site j in a row sees.
 #[tactic(auto, using(crate::proofs::PrefixLaws::count_more))]
 pub fn keys_added(
@@ -123,7 +159,7 @@ pub fn keys_added(
 {
     let mut count = 0;
     for i in 0..j {
-        if is_pending(program, rows, r, j, i) && adds_key(program, tables, held, i) {
+        if sees_added(program, rows, r, tables, held, j, i) {
             count += 1;
         }
     }
@@ -147,7 +183,7 @@ pub fn keys_taken(
 {
     let mut count = 0;
     for i in 0..j {
-        if is_pending(program, rows, r, j, i) && takes_key(program, tables, held, i) {
+        if sees_taken(program, rows, r, tables, held, j, i) {
             count += 1;
         }
     }

@@ -5,7 +5,7 @@ ghost use Rattle.cell_core.specs.Cells.{number, site_in, cell_at};
 ghost use Rattle.cell_core.specs.Formed.{AllFit, AreFormed, IsInRange};
 ghost use Rattle.cell_core.specs.View.{program_of, cell_of};
 ghost use Rattle.hazard_core.specs.Held.{held_value};
-ghost use Rattle.hazard_core.specs.Rows.{phi_pointer, cell_number, cell_pointer, with_row};
+ghost use Rattle.hazard_core.specs.Rows.{phi_pointer, cell_number, cell_pointer, with_made, with_row};
 
 use crate::held::Held;
 use crate::overlay::{answer_over, found_pointer};
@@ -115,6 +115,45 @@ fn make(
     }
 }
 
+/// A cell of a program whose cells are well formed.
+fn formed_cell(program: &CellProgram, k: usize) -> &Cell
+    requires cell { k < length program.now.cells.items }
+    requires formed { AreFormed (program_of program.now).cells }
+    ensures cell { cell_of result.now ≡ cell_at (program_of program.now).cells k }
+    ensures op { result.now.op ≡ (cell_at (program_of program.now).cells k).op }
+    ensures in_range { IsInRange result.now.op }
+    ensures from { result.now.from ≤ 63 }
+    ensures width { result.now.width ≤ 64 }
+{
+    &program.cells[k]
+}
+
+/// Takes in cell k, if it is of row r.
+#[tactic(auto, using(crate::proofs::Made::made_here, crate::proofs::Made::made_not))]
+fn take_cell(
+    program: &CellProgram,
+    rows: &[u32],
+    r: u32,
+    tables: &Tables,
+    source: &Source,
+    other: &PacketIn,
+    k: usize,
+    held: &mut Held,
+)
+    requires cell { k < length program.now.cells.items }
+    requires formed { AreFormed (program_of program.now).cells }
+    requires sites { (k j : ℕ) → k < length program.now.cells.items → site_in (cell_at (program_of program.now).cells k).op ≡ Some j → j < length program.now.sites.items }
+    requires few { length program.now.sites.items < 2 ^ 32 }
+    requires fits { AllFit tables.now.decls (program_of program.now).sites }
+    ensures { held.new ≡ with_made (program_of program.now) (slice_index rows.now) r tables.now (packet_of source.now) held.old k (cell_at (program_of program.now).cells k) }
+{
+    if row_in(rows, k) == r {
+        let cell = formed_cell(program, k);
+        let (n, pointer) = make(program, rows, r, tables, source, other, held, cell);
+        held.set(k, value::bits_from(n, cell.from, cell.width), pointer);
+    }
+}
+
 /// Takes in row r, on the tables as they are. `other` is any packet.
 #[tactic(auto, using(crate::proofs::Made::made_more, crate::proofs::Made::made_all), unfolding(crate::specs::Rows::with_row))]
 pub fn take_row(
@@ -133,10 +172,6 @@ pub fn take_row(
     ensures { held.new ≡ with_row (program_of program.now) (slice_index rows.now) r tables.now (packet_of source.now) held.old }
 {
     for k in 0..program.cells.len() {
-        if row_in(rows, k) == r {
-            let cell = &program.cells[k];
-            let (n, pointer) = make(program, rows, r, tables, source, other, held, cell);
-            held.set(k, value::bits_from(n, cell.from, cell.width), pointer);
-        }
+        take_cell(program, rows, r, tables, source, other, k, held);
     }
 }

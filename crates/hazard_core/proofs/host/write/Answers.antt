@@ -1,4 +1,4 @@
-use Rattle.std.proofs.Common.{◌≡◌, ◌∙◌, ◌<◌, List, length, get_or, ap, sym, arith}
+use Rattle.std.proofs.Common.{◌∙◌, ◌<◌, List, length, ap, arith}
 use Rattle.std.proofs.lemmas.List.{get_or_read}
 use Rattle.hazard_core.specs.Tables.{Slot, no_slot, slot_at, table_at}
 use Rattle.hazard_core.proofs.host.write.Goals as goal

@@ -1,4 +1,4 @@
-use Rattle.std.proofs.Common.{◌≡◌, ◌∙◌}
+use Rattle.std.proofs.Common.{◌∙◌}
 use Rattle.cell_core.specs.View.{program_of, site_of}
 use Rattle.hazard_core.proofs.Written.{written_array}
 use Rattle.hazard_core.proofs.overlay.written_as.Goals as goal

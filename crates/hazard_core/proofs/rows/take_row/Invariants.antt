@@ -2,7 +2,7 @@ use Rattle.std.proofs.Common.{◌≡◌, drop}
 use Rattle.std.specs.Prelude.{slice_index}
 use Rattle.cell_core.specs.View.{program_of}
 use Rattle.hazard_core.specs.Sourced.{packet_of}
-use Rattle.hazard_core.specs.Rows.{made_from, with_row}
+use Rattle.hazard_core.specs.Rows.{made_from}
 use Rattle.hazard_core.proofs.rows.take_row.Given as goal
 
 abbrev pub invariant-loop-k : goal.invariant-loop-k

@@ -1,4 +1,3 @@
-use Rattle.std.proofs.Common.{◌≡◌}
 use Rattle.cell_core.specs.Cells.{CellView}
 use Rattle.cell_core.specs.View.{cell_of}
 use Rattle.hazard_core.specs.Held.{is_found_of}

@@ -1,4 +1,4 @@
-use Rattle.std.proofs.Common.{◌≡◌, ap, arith, length, get_or}
+use Rattle.std.proofs.Common.{ap}
 use Rattle.cell_core.specs.Sites.{SiteView}
 use Rattle.hazard_core.proofs.Sited.{site_read, site_fits}
 use Rattle.hazard_core.proofs.site.site_at.Goals as goal

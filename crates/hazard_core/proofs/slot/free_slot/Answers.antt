@@ -1,4 +1,4 @@
-use Rattle.std.proofs.Common.{◌≡◌, not}
+use Rattle.std.proofs.Common.{not}
 use Rattle.hazard_core.specs.Tables.{Slot}
 use Rattle.hazard_core.proofs.Positions.{found_or_len}
 use Rattle.hazard_core.proofs.slot.free_slot.Goals as goal

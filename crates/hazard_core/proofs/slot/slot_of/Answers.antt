@@ -1,4 +1,3 @@
-use Rattle.std.proofs.Common.{◌≡◌}
 use Rattle.hazard_core.specs.Tables.{has_key}
 use Rattle.hazard_core.proofs.Positions.{found_or_len}
 use Rattle.hazard_core.proofs.slot.slot_of.Goals as goal
