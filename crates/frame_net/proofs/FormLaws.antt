@@ -3,12 +3,14 @@ use Rattle.std.specs.Prelude.{◌≡◌, ℕ, ◌<◌, ◌≤◌, ◌==◌, nat_
 use Rattle.std.proofs.Common.{get_or, refl, ap, ◌∙◌, arith, inl, inr}
 use Rattle.std.proofs.lemmas.Bool.{le-leb, lt-ltb}
 use Rattle.std.proofs.lemmas.Bool.Decides.{nat_tests}
-use Rattle.net_core.specs.Nets.{TRead}
+use Rattle.net_core.specs.declared.tree.Word.{Word}
+use Rattle.net_core.specs.Nets.{TRead, StatementTree}
 use Rattle.net_core.specs.Ports.{port_list}
 use Rattle.net_core.specs.Width.{width_of, same, memory_word_width}
+use Rattle.block_core.specs.declared.block.BlockMemory.{BlockMemory}
 use Rattle.block_core.specs.declared.name.Name.{Name}
 use Rattle.block_core.specs.declared.name.Name.TheVariants as name
-use Rattle.block_core.specs.Blocks.{Whole}
+use Rattle.block_core.specs.Blocks.{BlockTree, BlockWireTree, Whole}
 use Rattle.block_core.specs.Order.{IsBefore}
 use Rattle.block_core.specs.Formed.{names_scope, name_width, block_memories}
 use Rattle.frame_net.specs.SourcesNets.{held}
@@ -41,3 +43,8 @@ still_before d before p at (name.Register q k) h = h
 still_before d before p at (name.Memory q k) h = h
 still_before d before p at (name.Wire q k) (inl h) = let l = h.1 in absurd (omega arith)
 still_before d before p at (name.Wire q k) (inr h) = inr h
+
+-- a block from its parts
+pub same_block : {N : Type 0} (b : BlockTree N) (registers : List Word) (memories : List BlockMemory) (wires : List (BlockWireTree N)) (statement : StatementTree N) → registers ≡ b.registers → memories ≡ b.memories → wires ≡ b.wires → statement ≡ b.statement
+    → record { registers = registers; memories = memories; wires = wires; statement = statement } ≡ b
+same_block b registers memories wires statement r m w s = λ i. record { registers = r i; memories = m i; wires = w i; statement = s i }

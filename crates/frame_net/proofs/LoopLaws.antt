@@ -1,5 +1,5 @@
 -- One more element in the loops that make a block.
-use Rattle.std.specs.Prelude.{◌≡◌, ℕ, zero, suc, ◌+◌, ◌<◌, ◌≤◌, List, [], ◌∷◌, ◌++◌, length, map}
+use Rattle.std.specs.Prelude.{◌≡◌, ℕ, suc, ◌+◌, ◌<◌, ◌≤◌, List, [], ◌∷◌, ◌++◌, length, map}
 use Rattle.std.proofs.Common.{refl, sym, ap, ◌∙◌, arith, get_or, drop, append_assoc}
 use Rattle.std.proofs.lemmas.List.{drop_more, drop_all, append-nil, map-append}
 

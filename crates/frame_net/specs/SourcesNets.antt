@@ -1,5 +1,5 @@
 -- The nets of the block that gives the sources of a packet.
-use Rattle.std.specs.Prelude.{ℕ, zero, suc, ◌+◌, List, [], ◌∷◌}
+use Rattle.std.specs.Prelude.{ℕ, zero, suc, List, [], ◌∷◌}
 use Rattle.net_core.specs.declared.tree.Op.TheVariants.{Add, Less}
 use Rattle.net_core.specs.Nets.{Tree, TRead, TMemoryWord, TBinary, TConditional, SBlock, SEnd}
 use Rattle.block_core.specs.declared.name.Name.{Name}

@@ -1,8 +1,7 @@
-use Rattle.std.proofs.Common.{refl, ap, sym, subst, ◌∙◌}
-use Rattle.net_core.specs.Nets.{SBlock}
+use Rattle.std.proofs.Common.{sym, subst}
 use Rattle.frame_net.specs.Sources.{IsSources}
 use Rattle.frame_net.specs.SourcesNets.{sources_block}
-use Rattle.frame_net.proofs.GatherWhole.{same_block}
+use Rattle.frame_net.proofs.FormLaws.{same_block}
 use Rattle.frame_net.proofs.SourcesLemmas.{gives_sources}
 use Rattle.frame_net.proofs.packet_sources.sources.Goals as goal
 

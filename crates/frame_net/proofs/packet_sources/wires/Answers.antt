@@ -1,4 +1,4 @@
-use Rattle.std.proofs.Common.{[], ◌∷◌, refl, arith, ap, sym, ◌∙◌, ◌+◌, append-nil, map}
+use Rattle.std.proofs.Common.{[], ◌∷◌, refl, arith, sym, ◌∙◌, ◌+◌, append-nil, map}
 use Rattle.block_core.specs.View.{block_wire_of}
 use Rattle.frame_net.specs.Gather.{kept_width}
 use Rattle.frame_net.specs.GatherNets.{wire}
