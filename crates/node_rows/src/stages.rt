@@ -11,7 +11,7 @@ ghost use Rattle.node_rows.specs.Rows.{point_at, insn_of, behind_node, may_write
 use crate::arriving::{arrivals, insn_at, known_behind};
 use crate::joining::{edge_row, join};
 use crate::node::{Behind, pass};
-use crate::recording::record_of;
+use place_rows::recording::record_of;
 use bpf_isa::Insn;
 use kind_core::{BuildError, Refusal, Why};
 use std::alloc::{AllocError, Global};
