@@ -2,8 +2,8 @@
 
 ghost use Rattle.std.specs.Prelude.{◌≡◌};
 ghost use Rattle.bpf_isa.specs.Spelling.{IsInsn};
-ghost use Rattle.node_rows.specs.Spans.{map_of};
-ghost use Rattle.node_rows.specs.Writing.{through, called_on, record_as};
+ghost use Rattle.place_rows.specs.Spans.{map_of};
+ghost use Rattle.place_rows.specs.Writing.{through, called_on, record_as};
 ghost use Rattle.kind_core.specs.Kinds as kind;
 
 use crate::reading::{compares, key};
@@ -15,9 +15,9 @@ use xdp_maps::decl::MapDecl;
 /// A write of a map, and the places that it takes: of an update the key and the value, of a delete the key, of a store and of an atomic
 /// change the pointer, the source, and what is compared.
 #[derive(Copy, Clone)]
-pub(crate) struct Record {
-    pub(crate) map: u32,
-    pub(crate) takes: [Span; 3],
+pub struct Record {
+    pub map: u32,
+    pub takes: [Span; 3],
 }
 
 // A write through a pointer to an entry.
@@ -57,7 +57,7 @@ fn called(decls: &[MapDecl], kinds: &Kinds, helper: i64) -> Option<Record>
 }
 
 /// The write of a map that an instruction may make.
-pub(crate) fn record_of(decls: &[MapDecl], kinds: &Kinds, insn: &Insn) -> Option<Record>
+pub fn record_of(decls: &[MapDecl], kinds: &Kinds, insn: &Insn) -> Option<Record>
     requires { IsInsn insn.now }
     ensures { result ≡ record_as decls.now kinds.now insn.now insn.now.op }
 {

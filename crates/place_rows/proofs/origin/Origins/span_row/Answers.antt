@@ -1,8 +1,8 @@
 use Rattle.std.proofs.Common.{rules, ◌≡◌, ◌∙◌, ◌-◌, ◌+◌, ℕ, max, sym, ap}
 use Rattle.cell_core.specs.Rows.{greatest, numbers}
-use Rattle.node_rows.specs.Origins.{row_at}
-use Rattle.node_rows.proofs.PlaceLemmas.{greatest_split}
-use Rattle.node_rows.proofs.origin.Origins.span_row.Goals as goal
+use Rattle.place_rows.specs.Origins.{row_at}
+use Rattle.place_rows.proofs.PlaceLaws.{greatest_split}
+use Rattle.place_rows.proofs.origin.Origins.span_row.Goals as goal
 
 pub loop-place-preserved : goal.loop-place-preserved
 loop-place-preserved c =

@@ -1,5 +1,5 @@
 -- What an instruction reads for its result, and whether the result takes a stage of its own.
-use Rattle.std.specs.Prelude.{ℤ, pos, not, Bool, true, false, if◌then◌else◌, List, [], ◌∷◌}
+use Rattle.std.specs.Prelude.{ℕ, ◌+◌, ℤ, pos, not, Bool, true, false, if◌then◌else◌, List, [], ◌∷◌}
 use Rattle.std.specs.Ordering.{int_eq}
 use Rattle.bpf_isa.specs.declared.operation.AluCode.{AluCode}
 use Rattle.bpf_isa.specs.declared.operation.AluCode.TheVariants.{Add, Sub, Mul, Div, Mod, Mov, Lsh, Rsh, Arsh}
@@ -18,8 +18,9 @@ use Rattle.kind_core.specs.declared.kind.Kind.TheVariants.{Num, Stack, Entry}
 use Rattle.kind_core.specs.declared.kind.Kinds.{Kinds}
 use Rattle.kind_core.specs.Kinds.{register}
 use Rattle.kind_core.specs.Access.{compares}
-use Rattle.node_rows.specs.declared.span.Span.{Span}
-use Rattle.node_rows.specs.Spans.{no_place, one, target, region, map_of, pending_of, key_in}
+use Rattle.place_rows.specs.declared.span.Span.{Span}
+use Rattle.cell_core.specs.Cells.{bit}
+use Rattle.place_rows.specs.Spans.{no_place, one, target, region, map_of, pending_of, key_in, spans_row}
 
 -- the key that a call is given
 abbrev pub key_span : List MapDecl → Kinds → Span
@@ -111,3 +112,10 @@ is_heavy k after i (Atomic size) = true
 is_heavy k after i (Load size) = is_entry (register k i.src)
 is_heavy k after i (LoadSigned size) = is_entry (register k i.src)
 is_heavy k after i op = false
+
+-- the row of a result, by the rows of places: the greatest of what is read, and one later where it takes a stage of its own
+abbrev pub result_as : (ℕ → ℕ) → List MapDecl → Kinds → Kinds → Insn → Op → ℕ
+result_as row decls k after i op = spans_row row (reads_as decls k i op) + bit (is_heavy k after i op)
+
+abbrev pub result_row : (ℕ → ℕ) → List MapDecl → Kinds → Kinds → Insn → ℕ
+result_row row decls k after i = result_as row decls k after i i.op

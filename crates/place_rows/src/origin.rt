@@ -1,13 +1,13 @@
 // The origins of data places.
 
 ghost use Rattle.std.specs.Prelude.{◌≡◌};
-ghost use Rattle.node_rows.specs.Origins.{is_open, has_data, row_of, row_at, span_row, every_row, by_place, origin_at_start};
+ghost use Rattle.place_rows.specs.Origins.{is_open, has_data, row_of, row_at, span_row, every_row, by_place, origin_at_start};
 
 use crate::span::{BYTES, EVERY, Span};
 use kind_core::{Kind, Kinds, Number};
 
 /// How many data places there are.
-pub(crate) const PLACES: usize = 348;
+pub const PLACES: usize = 348;
 
 /// What made the value of a data place: the number of a node, from 1 on, or 0 of what is there at the start; and in which row.
 #[derive(Copy, Clone, Debug, PartialEq, Eq)]
@@ -18,8 +18,8 @@ pub struct Origin {
 
 /// The origins of all data places: none where nothing is made, since the kind says by itself what the value is.
 #[derive(Copy, Clone)]
-pub(crate) struct Origins {
-    pub(crate) places: [Option<Origin>; 348],
+pub struct Origins {
+    pub places: [Option<Origin>; 348],
 }
 
 // Whether a kind leaves a value open: a number that is not known, or a pointer to an entry.
@@ -33,7 +33,7 @@ fn is_open(kind: Kind) -> bool
 }
 
 /// Whether there is data in a place.
-pub(crate) fn has_data(kinds: &Kinds, place: usize) -> bool
+pub fn has_data(kinds: &Kinds, place: usize) -> bool
     ensures { result ≡ has_data kinds.now place }
 {
     if place < 11 {
@@ -46,7 +46,7 @@ pub(crate) fn has_data(kinds: &Kinds, place: usize) -> bool
 }
 
 /// The row of an origin, 0 of none.
-pub(crate) fn row_of(origin: Option<Origin>) -> u32
+pub fn row_of(origin: Option<Origin>) -> u32
     ensures { result ≡ row_of origin }
 {
     match origin {
@@ -57,7 +57,7 @@ pub(crate) fn row_of(origin: Option<Origin>) -> u32
 
 impl Origins {
     /// The origins at the start.
-    pub(crate) fn start() -> Origins
+    pub fn start() -> Origins
         ensures { result.places ≡ by_place origin_at_start }
     {
         let mut places = [None; 348];
@@ -68,7 +68,7 @@ impl Origins {
     }
 
     /// The row of a place, 0 past the last.
-    pub(crate) fn row_at(&self, place: usize) -> u32
+    pub fn row_at(&self, place: usize) -> u32
         ensures { result ≡ row_at self.now.places place }
     {
         if place < PLACES {
@@ -79,7 +79,7 @@ impl Origins {
     }
 
     /// The greatest row of some places.
-    pub(crate) fn span_row(&self, span: Span) -> u32
+    pub fn span_row(&self, span: Span) -> u32
         ensures { result ≡ span_row self.now.places span }
     {
         let mut most = 0;
@@ -90,7 +90,7 @@ impl Origins {
     }
 
     /// The greatest row of all places.
-    pub(crate) fn every_row(&self) -> u32
+    pub fn every_row(&self) -> u32
         ensures { result ≡ every_row self.now.places }
     {
         self.span_row(EVERY)

@@ -1,11 +1,12 @@
 -- Data places by their numbers: 11 registers, 64 slots of the stack, 256 bytes of the packet, the target of a redirect, and what is pending of
 -- 16 maps.
-use Rattle.std.specs.Prelude.{ℕ, ℤ, pos, ◌+◌, ◌/◌, ◌+ℤ◌, unsigned_abs, Option, Some, None, List}
+use Rattle.std.specs.Prelude.{ℕ, ℤ, pos, ◌+◌, ◌-◌, ◌/◌, ◌+ℤ◌, max, nat_le, nat_lt, ◌&&◌, Bool, unsigned_abs, Option, Some, None, List, [], ◌∷◌}
 use Rattle.xdp_maps.specs.declared.decl.MapDecl.{MapDecl}
 use Rattle.kind_core.specs.declared.kind.Kind.{Kind}
 use Rattle.kind_core.specs.declared.kind.Kind.TheVariants.{Packet, Stack, MapRef, Entry}
 use Rattle.kind_core.specs.Kinds as kind
-use Rattle.node_rows.specs.declared.span.Span.{Span}
+use Rattle.cell_core.specs.Rows.{greatest, numbers}
+use Rattle.place_rows.specs.declared.span.Span.{Span}
 
 abbrev pub slot : ℕ → ℕ
 slot s = 11 + s
@@ -61,3 +62,17 @@ key_in decls None = 0
 abbrev pub value_in : List MapDecl → Option ℕ → ℕ
 value_in decls (Some q) = kind.value_bytes decls q
 value_in decls None = 0
+
+-- whether a place is among those of a span
+abbrev pub is_in : ℕ → Span → Bool
+is_in place s = nat_le s.from place && nat_lt place s.end
+
+-- ---- rows
+-- the greatest row of some places, by the row of each
+abbrev pub span_row : (ℕ → ℕ) → Span → ℕ
+span_row row s = greatest row (numbers s.from (s.end - s.from))
+
+-- the same of several spans
+abbrev pub spans_row : (ℕ → ℕ) → List Span → ℕ
+spans_row row [] = 0
+spans_row row (s ∷ ss) = max (span_row row s) (spans_row row ss)

@@ -1,5 +1,6 @@
 -- Where an instruction writes its result, and what it may write into a map.
-use Rattle.std.specs.Prelude.{ℕ, ℤ, pos, if◌then◌else◌, Option, Some, None, List, [], ◌∷◌}
+use Rattle.std.specs.Prelude.{ℕ, ◌-◌, max, Bool, ℤ, pos, if◌then◌else◌, Option, Some, None, List, [], ◌∷◌}
+use Rattle.std.specs.List.{list_any}
 use Rattle.std.specs.Ordering.{int_eq}
 use Rattle.std.specs.Int.{w64, cast_unsigned}
 use Rattle.bpf_isa.specs.declared.operation.Op.{Op}
@@ -13,10 +14,12 @@ use Rattle.kind_core.specs.declared.kind.Kind.TheVariants.{Entry}
 use Rattle.kind_core.specs.declared.kind.Kinds.{Kinds}
 use Rattle.kind_core.specs.Kinds.{register}
 use Rattle.kind_core.specs.Access.{compares}
-use Rattle.node_rows.specs.declared.span.Span.{Span}
-use Rattle.node_rows.specs.declared.recording.Record.{Record}
-use Rattle.node_rows.specs.Spans.{no_place, one, target, region, map_of, value_in}
-use Rattle.node_rows.specs.Reading.{key_span, compared_span}
+use Rattle.cell_core.specs.Rows.{numbers}
+use Rattle.place_rows.specs.declared.span.Span.{Span}
+use Rattle.place_rows.specs.declared.recording.Record.{Record}
+use Rattle.place_rows.specs.Spans.{no_place, one, target, region, map_of, value_in, spans_row}
+use Rattle.place_rows.specs.Origins.{has_data}
+use Rattle.place_rows.specs.Reading.{key_span, compared_span, result_row}
 
 -- the old value goes into R0 or the source
 abbrev pub old_value : Insn → Span
@@ -57,3 +60,16 @@ record_as decls k i (Store size) = through (register k i.dst) (one i.dst ∷ one
 record_as decls k i (Atomic size) = through (register k i.dst) (one i.dst ∷ one i.src ∷ compared_span i ∷ [])
 record_as decls k i Call = called_on decls k i.imm (map_of (register k 1))
 record_as decls k i op = None
+
+-- ---- rows
+-- whether there is data in a place of these spans
+abbrev pub is_open_in : Kinds → Span → Bool
+is_open_in k s = list_any (has_data k) (numbers s.from (s.end - s.from))
+
+-- The row of all that an instruction makes, by the rows of places: of its result, where what it writes has data, and of what its write of a map takes.
+abbrev pub taken_row : (ℕ → ℕ) → Option Record → ℕ
+taken_row row (Some r) = spans_row row r.takes
+taken_row row None = 0
+
+abbrev pub made_row : (ℕ → ℕ) → List MapDecl → Kinds → Kinds → Insn → ℕ
+made_row row decls k after i = max (if list_any (is_open_in after) (writes_as k i i.op) then result_row row decls k after i else 0) (taken_row row (record_as decls k i i.op))

@@ -2,7 +2,7 @@
 
 ghost use Rattle.std.specs.Prelude.{◌≡◌};
 ghost use Rattle.bpf_isa.specs.Spelling.{IsInsn};
-ghost use Rattle.node_rows.specs.Writing.{writes_as};
+ghost use Rattle.place_rows.specs.Writing.{writes_as};
 
 use crate::reading::{compares, fetches};
 use crate::span::{NONE, Span, TARGET, region, register};
@@ -11,7 +11,7 @@ use kind_core::Kinds;
 use xdp_state::memory::bytes_in;
 
 /// The places in which an instruction writes its result.
-pub(crate) fn writes(kinds: &Kinds, insn: &Insn) -> [Span; 2]
+pub fn writes(kinds: &Kinds, insn: &Insn) -> [Span; 2]
     requires { IsInsn insn.now }
     ensures { result ≡ writes_as kinds.now insn.now insn.now.op }
 {

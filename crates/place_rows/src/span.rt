@@ -1,38 +1,38 @@
 // Data places by their numbers: 11 registers, 64 slots of the stack, 256 bytes of the packet, the target, and what is pending of 16 maps.
 
 ghost use Rattle.std.specs.Prelude.{◌≡◌};
-ghost use Rattle.node_rows.specs.Spans.{one, pending, region, map_of, pending_of, key_in, value_in};
+ghost use Rattle.place_rows.specs.Spans.{one, pending, region, map_of, pending_of, key_in, value_in};
 
 use kind_core::Kind;
 use xdp_maps::decl::MapDecl;
 
 /// The number of the first slot.
-pub(crate) const SLOTS: usize = 11;
+pub const SLOTS: usize = 11;
 
 /// The number of the packet's first byte.
-pub(crate) const BYTES: usize = 75;
+pub const BYTES: usize = 75;
 
 /// The number of the target.
-pub(crate) const TARGET: usize = 331;
+pub const TARGET: usize = 331;
 
 /// The number of what is pending of map 0.
-pub(crate) const PENDING: usize = 332;
+pub const PENDING: usize = 332;
 
 /// Data places that follow one another, up to the one before `end`.
 #[derive(Copy, Clone, Debug, PartialEq, Eq)]
-pub(crate) struct Span {
-    pub(crate) from: usize,
-    pub(crate) end: usize,
+pub struct Span {
+    pub from: usize,
+    pub end: usize,
 }
 
 /// No place.
-pub(crate) const NONE: Span = Span { from: 0, end: 0 };
+pub const NONE: Span = Span { from: 0, end: 0 };
 
 /// All data places.
-pub(crate) const EVERY: Span = Span { from: 0, end: 348 };
+pub const EVERY: Span = Span { from: 0, end: 348 };
 
 /// A register.
-pub(crate) fn register(r: u8) -> Span
+pub fn register(r: u8) -> Span
     ensures { result ≡ one r }
 {
     let from = r as usize;
@@ -43,7 +43,7 @@ pub(crate) fn register(r: u8) -> Span
 }
 
 /// What is pending of a map.
-pub(crate) fn pending(map: u32) -> Span
+pub fn pending(map: u32) -> Span
     ensures { result ≡ pending map }
 {
     let from = PENDING + map as usize;
@@ -54,7 +54,7 @@ pub(crate) fn pending(map: u32) -> Span
 }
 
 /// The slots or the bytes of so many bytes from a pointer on; none of other kinds.
-pub(crate) fn region(base: Kind, offset: i16, count: u32) -> Span
+pub fn region(base: Kind, offset: i16, count: u32) -> Span
     ensures { result ≡ region base offset count }
 {
     match base {
@@ -77,7 +77,7 @@ pub(crate) fn region(base: Kind, offset: i16, count: u32) -> Span
 }
 
 /// The map that a kind speaks of.
-pub(crate) fn map_of(kind: Kind) -> Option<u32>
+pub fn map_of(kind: Kind) -> Option<u32>
     ensures { result ≡ map_of kind }
 {
     match kind {
@@ -87,7 +87,7 @@ pub(crate) fn map_of(kind: Kind) -> Option<u32>
 }
 
 /// What is pending of the map that a kind speaks of.
-pub(crate) fn pending_of(kind: Kind) -> Span
+pub fn pending_of(kind: Kind) -> Span
     ensures { result ≡ pending_of kind }
 {
     match map_of(kind) {
@@ -97,7 +97,7 @@ pub(crate) fn pending_of(kind: Kind) -> Span
 }
 
 /// The bytes of a map's keys.
-pub(crate) fn key_bytes(decls: &[MapDecl], kind: Kind) -> u32
+pub fn key_bytes(decls: &[MapDecl], kind: Kind) -> u32
     ensures { result ≡ key_in decls.now (map_of kind) }
 {
     match map_of(kind) {
@@ -110,7 +110,7 @@ pub(crate) fn key_bytes(decls: &[MapDecl], kind: Kind) -> u32
 }
 
 /// The bytes of a map's values.
-pub(crate) fn value_bytes(decls: &[MapDecl], kind: Kind) -> u32
+pub fn value_bytes(decls: &[MapDecl], kind: Kind) -> u32
     ensures { result ≡ value_in decls.now (map_of kind) }
 {
     match map_of(kind) {

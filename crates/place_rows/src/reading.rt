@@ -3,8 +3,8 @@
 ghost use Rattle.std.specs.Prelude.{◌≡◌, ◌≤◌, ◌∷◌, []};
 ghost use Rattle.bpf_isa.specs.Spelling.{IsInsn};
 ghost use Rattle.kind_core.specs.Access.{compares};
-ghost use Rattle.node_rows.specs.Reading.{key_span, left_of, right_of, call_reads, left_over, reads_as, is_number, is_entry, is_known, shifts_openly, is_heavy};
-ghost use Rattle.node_rows.specs.Spans.{no_place};
+ghost use Rattle.place_rows.specs.Reading.{key_span, left_of, right_of, call_reads, left_over, reads_as, is_number, is_entry, is_known, shifts_openly, is_heavy};
+ghost use Rattle.place_rows.specs.Spans.{no_place};
 ghost use Rattle.xdp_machine.specs.Atomics.{fetches};
 ghost use Rattle.std.specs.Int.{w64, cast_unsigned};
 
@@ -15,7 +15,7 @@ use xdp_maps::decl::MapDecl;
 use xdp_state::memory::bytes_in;
 
 /// Whether an atomic change compares with R0.
-pub(crate) fn compares(insn: &Insn) -> bool
+pub fn compares(insn: &Insn) -> bool
     ensures { result ≡ compares insn.now }
 {
     let code = insn.imm.cast_unsigned();
@@ -23,14 +23,14 @@ pub(crate) fn compares(insn: &Insn) -> bool
 }
 
 /// Whether an atomic change gives the old number.
-pub(crate) fn fetches(insn: &Insn) -> bool
+pub fn fetches(insn: &Insn) -> bool
     ensures { result ≡ fetches (cast_unsigned w64 insn.now.imm) }
 {
     insn.imm.cast_unsigned() % 2 == 1
 }
 
 /// The key that a call is given.
-pub(crate) fn key(decls: &[MapDecl], kinds: &Kinds) -> Span
+pub fn key(decls: &[MapDecl], kinds: &Kinds) -> Span
     ensures { result ≡ key_span decls.now kinds.now }
 {
     region(kinds.registers[2], 0, key_bytes(decls, kinds.registers[1]))
@@ -85,7 +85,7 @@ fn stored_over(kinds: &Kinds, insn: &Insn, size: Size) -> Span
 }
 
 /// What an instruction reads for its result.
-pub(crate) fn reads(decls: &[MapDecl], kinds: &Kinds, insn: &Insn) -> [Span; 4]
+pub fn reads(decls: &[MapDecl], kinds: &Kinds, insn: &Insn) -> [Span; 4]
     requires { IsInsn insn.now }
     ensures { result ≡ reads_as decls.now kinds.now insn.now insn.now.op }
 {
@@ -156,7 +156,7 @@ fn shifts_openly(kinds: &Kinds, insn: &Insn, src: Src) -> bool
 
 /// Whether a result stands a row behind what is read: of arithmetic that carries, where it is no move of a pointer, of shifts by a count that
 /// is not known, of helpers, of loads from entries, and of old values.
-pub(crate) fn takes_stage(kinds: &Kinds, after: &Kinds, insn: &Insn) -> bool
+pub fn takes_stage(kinds: &Kinds, after: &Kinds, insn: &Insn) -> bool
     requires { IsInsn insn.now }
     ensures { result ≡ is_heavy kinds.now after.now insn.now insn.now.op }
 {

@@ -1,10 +1,10 @@
 use Rattle.std.proofs.Common.{◌∙◌, Bool, if◌then◌else◌, Option, Some, None, refl, sym, ap, arith}
 use Rattle.std.proofs.lemmas.Bool.{lt-ltb}
 use Rattle.std.proofs.lemmas.List.{get_or-replicate}
-use Rattle.node_rows.specs.declared.origin.Origin.{Origin}
-use Rattle.node_rows.specs.Origins.{origin_at_start}
-use Rattle.node_rows.proofs.PlaceLemmas.{all_places}
-use Rattle.node_rows.proofs.origin.Origins.start.Goals as goal
+use Rattle.place_rows.specs.declared.origin.Origin.{Origin}
+use Rattle.place_rows.specs.Origins.{origin_at_start}
+use Rattle.place_rows.proofs.PlaceLaws.{all_places}
+use Rattle.place_rows.proofs.origin.Origins.start.Goals as goal
 
 abbrev early : Bool → Option Origin
 early b = if b then None else Some (record { maker = 0; row = 0 })
