@@ -2,4 +2,5 @@ pub mod Captures
 pub mod Writable
 pub mod Written
 pub mod Reading
+pub mod Sizes
 pub mod Texts

@@ -16,7 +16,7 @@ use Rattle.flow_demo.specs.Packets.{byte_at, demo_content, demo_header, demo_pac
 byte_at-below : (place n : ℕ) → byte_at place n < 256
 byte_at-below place n = grind (arith, nat_tests)
 
-length-frame_from : (s : ℕ) → length (frame_from s) ≡ len_from s
+pub length-frame_from : (s : ℕ) → length (frame_from s) ≡ len_from s
 length-frame_from s = length-map-range_with_len (λ k. byte_at k (draw (next_state s) k)) 0 (len_from s)
 
 frame_from-bytes : (s : ℕ) → IsBytes (frame_from s)
