@@ -23,3 +23,4 @@ pub mod Sited
 pub mod Made
 pub mod Padding
 pub mod Written
+pub mod Filling
