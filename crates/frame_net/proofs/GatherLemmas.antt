@@ -1,7 +1,7 @@
 -- The block that gathers frames is well typed, in order and spelled.
 use Rattle.std.specs.Prelude.{◌≡◌, ℕ, suc, ◌+◌, ◌^◌, ◌<◌, ◌≤◌, true, List, [], ◌∷◌, length, map, max}
 use Rattle.std.specs.List.{AllByRecursion}
-use Rattle.std.proofs.Common.{get_or, refl, sym, ap, ◌∙◌, subst, arith, inl}
+use Rattle.std.proofs.Common.{get_or, refl, sym, ap, subst, arith, inl}
 use Rattle.std.proofs.lemmas.Bool.{le-leb, lt-ltb}
 use Rattle.std.proofs.lemmas.List.{length-replicate}
 use Rattle.net_core.specs.declared.tree.Op.TheVariants.{And}
@@ -11,15 +11,15 @@ use Rattle.net_core.specs.Nets.{TRead, TUnary, TBinary, SEnd}
 use Rattle.net_core.specs.Chains.{statements_before}
 use Rattle.net_core.specs.Ports.{port_list}
 use Rattle.net_core.specs.Value.{word}
-use Rattle.net_core.specs.Width.{Scope, width_of, same, statement_typed, statements_typed, concatenation_width}
+use Rattle.net_core.specs.Width.{Scope, width_of, statement_typed, concatenation_width}
 use Rattle.net_core.proofs.WidthLaws.{concatenation_is}
-use Rattle.design_rules.specs.FormedSyntax.{tree_spelled, statement_spelled, statements_depth, all_placed, all_trees_pass}
+use Rattle.design_rules.specs.FormedSyntax.{statement_spelled, statements_depth}
 use Rattle.block_core.specs.declared.name.Name.{Name}
 use Rattle.block_core.specs.declared.name.Name.TheVariants as name
 use Rattle.block_core.specs.Blocks.{BlockTree, Whole, Among, first_memory}
-use Rattle.block_core.specs.Parts.{Within, AllWithin}
-use Rattle.block_core.specs.Order.{Reads, IsBefore, InOrder}
-use Rattle.block_core.specs.Formed.{names_scope, name_width, block_memory_width, block_registers, block_wires, memories_fit, block_wires_typed, IsTypedBlock, StatementReads, StatementsRead, IsThere}
+use Rattle.block_core.specs.Parts.{Within}
+use Rattle.block_core.specs.Order.{IsBefore, InOrder}
+use Rattle.block_core.specs.Formed.{names_scope, name_width, block_registers, block_wires, memories_fit, block_wires_typed, IsTypedBlock, StatementReads, IsThere}
 use Rattle.frame_net.specs.declared.held.Kept.{Kept}
 use Rattle.frame_net.specs.declared.held.Kept.TheVariants.{Ifindex, Time, Word as FrameWord}
 use Rattle.frame_net.specs.Frames.{index_bits}
