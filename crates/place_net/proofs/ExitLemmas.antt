@@ -1,5 +1,5 @@
 -- The block that keeps answers: it is well typed and spelled, and what a clock leaves in its memories.
-use Rattle.std.specs.Prelude.{◌≡◌, ◌≢◌, ℕ, zero, suc, ◌+◌, ◌*◌, ◌^◌, ◌<◌, ◌≤◌, nat_le, ◌&&◌, true, false, All, Contains, List, [], ◌∷◌, ◌++◌, length, take, map as map_list, replicate, slice_index}
+use Rattle.std.specs.Prelude.{◌≡◌, ◌≢◌, ℕ, zero, suc, ◌+◌, ◌*◌, ◌^◌, ◌<◌, ◌≤◌, true, false, All, Contains, List, [], ◌∷◌, ◌++◌, length, take, map as map_list, replicate}
 use Rattle.std.specs.List.{AllByRecursion, AllZip}
 use Rattle.std.proofs.Common.{get_or, refl, sym, ap, ◌∙◌, subst, arith, inl, inr}
 use Rattle.std.proofs.lemmas.Bool.{le-leb}
@@ -9,10 +9,10 @@ use Rattle.beat_core.specs.declared.answer.Answer.{Answer}
 use Rattle.net_core.specs.declared.tree.Word.{Word}
 use Rattle.net_core.specs.declared.tree.Expr.{Expr}
 use Rattle.net_core.specs.View.{tree_of}
-use Rattle.net_core.specs.Nets.{Tree, TRead, TConst, TConcatenation, SEnd}
+use Rattle.net_core.specs.Nets.{Tree, TConst, TConcatenation, SEnd}
 use Rattle.net_core.specs.Chains.{statements_before}
 use Rattle.net_core.specs.Ports.{port_list}
-use Rattle.net_core.specs.Value.{word, bit, nothing, Env, value, concatenated_parts}
+use Rattle.net_core.specs.Value.{word, bit, nothing, Env, value}
 use Rattle.net_core.specs.Clock.{Stored, done, edge}
 use Rattle.net_core.specs.Width.{Scope, width_of, statement_typed}
 use Rattle.design_rules.specs.FormedSyntax.{depth, prefixes_apart, tree_spelled, statement_spelled, statements_depth}
@@ -20,12 +20,12 @@ use Rattle.block_core.specs.declared.name.Name.{Name}
 use Rattle.block_core.specs.declared.block.BlockMemory.{BlockMemory}
 use Rattle.block_core.specs.Blocks.{BlockTree, Whole, first_memory}
 use Rattle.block_core.specs.Parts.{Within}
-use Rattle.block_core.specs.Order.{Reads, AllRead}
-use Rattle.block_core.specs.Formed.{names_scope, name_width, block_memory_width, memories_fit, IsTypedBlock, StatementReads, IsThere}
+use Rattle.block_core.specs.Order.{Reads}
+use Rattle.block_core.specs.Formed.{names_scope, name_width, memories_fit, IsTypedBlock, IsThere}
 use Rattle.cell_core.specs.Cells.{bits_from}
 use Rattle.cell_nets.specs.declared.operand.Operand.{Operand}
 use Rattle.cell_nets.specs.declared.operand.Operand.TheVariants.{Known, Net}
-use Rattle.cell_nets.specs.Operands.{number_in, AreFit, AreDeclared, IsAvailable, IsNetOf}
+use Rattle.cell_nets.specs.Operands.{number_in, AreDeclared, IsAvailable, IsNetOf}
 use Rattle.cell_nets.specs.Parts.{IsPart}
 use Rattle.frame_net.specs.Frames.{word_at}
 use Rattle.frame_net.specs.Answers.{byte_of, word_widths, answer_widths, HoldsAnswer}
@@ -35,7 +35,7 @@ use Rattle.frame_net.proofs.StoreLaws.{in_turn, put, taken, taken_is, store_at, 
 use Rattle.place_net.specs.declared.outputs.AnswerByte.{AnswerByte}
 use Rattle.place_net.specs.declared.outputs.Outputs.{Outputs}
 use Rattle.place_net.specs.Exit.{byte_number, byte_operand, output_operands, byte_numbers, IsAnswer, KeepsAnswers, SeesExit, HasLeft, IsExit}
-use Rattle.place_net.specs.ExitNets.{IsFound, AreBytes, IsFrameWord, AreValues, exit_store, exit_stores, exit_statement}
+use Rattle.place_net.specs.ExitNets.{IsFound, IsFrameWord, AreValues, exit_store, exit_stores, exit_statement}
 use Rattle.place_net.proofs.ListLemmas.{zip_get}
 use Rattle.place_net.proofs.TreeLemmas.{reads_as}
 

@@ -1,35 +1,32 @@
 -- The block of a place is what it is to be.
-use Rattle.std.specs.Prelude.{◌≡◌, ℕ, zero, suc, ◌+◌, ◌^◌, ◌<◌, ◌≤◌, nat_lt, nat_le, ◌&&◌, true, Option, Some, None, All, Contains, List, [], ◌∷◌, ◌++◌, length, map as map_list, IsTrue}
+use Rattle.std.specs.Prelude.{◌≡◌, ℕ, zero, suc, ◌+◌, ◌^◌, ◌<◌, ◌≤◌, true, Option, Some, None, All, Contains, List, [], ◌∷◌, length, map as map_list}
 use Rattle.std.specs.List.{AllByRecursion, AllZip}
 use Rattle.std.proofs.Common.{get_or, refl, sym, ap, ◌∙◌, subst, arith, inl, inr, ◌⊎◌}
 use Rattle.std.proofs.lemmas.Bool.{le-leb, lt-ltb, cases_lt}
 use Rattle.std.proofs.lemmas.Nat.{pow_pos}
 use Rattle.std.proofs.lemmas.List.{length-map, get_or-map, get_or_past}
 use Rattle.std.proofs.lemmas.List.Elements.{All-head, All-tail, All-contains, Contains-append_cases}
-use Rattle.xdp_machine.specs.State.{PacketIn}
-use Rattle.net_core.specs.declared.tree.Word.{Word}
-use Rattle.net_core.specs.Nets.{Tree, TConst, TRead}
+use Rattle.net_core.specs.Nets.{Tree}
 use Rattle.net_core.specs.Ports.{port_list}
 use Rattle.net_core.specs.Value.{word, nothing, Env, value}
 use Rattle.net_core.specs.Clock.{Stored, done}
-use Rattle.net_core.specs.Width.{Scope, width_of, statement_typed, word_fits}
-use Rattle.design_rules.specs.FormedSyntax.{tree_spelled}
+use Rattle.net_core.specs.Width.{Scope, width_of, statement_typed}
 use Rattle.block_core.specs.declared.name.Name.{Name}
 use Rattle.block_core.specs.declared.name.Name.TheVariants as name
-use Rattle.block_core.specs.Blocks.{BlockTree, BlockWireTree, first_of, Whole, Among}
+use Rattle.block_core.specs.Blocks.{BlockTree, BlockWireTree, Whole, Among}
 use Rattle.block_core.specs.Parts.{Solve}
 use Rattle.block_core.specs.Order.{Reads}
-use Rattle.block_core.specs.Formed.{names_scope, block_wire_width, block_registers, block_wires, word_width, words_fit, IsTypedBlock, IsThere}
+use Rattle.block_core.specs.Formed.{names_scope, block_wire_width, block_wires, word_width, words_fit, IsTypedBlock, IsThere}
 use Rattle.cell_core.specs.declared.cell.Cell.{Cell}
 use Rattle.cell_core.specs.View.{cell_of}
 use Rattle.cell_core.specs.Cells.{CellView, no_cell}
 use Rattle.cell_core.specs.Formed.{AreFormed}
 use Rattle.cell_nets.specs.declared.operand.Operand.{Operand}
 use Rattle.cell_nets.specs.declared.operand.Operand.TheVariants.{Known, Net}
-use Rattle.cell_nets.specs.Operands.{number_in, HasWidth, AreFit, IsDeclared, AreDeclared, IsAvailable, IsNetOf}
+use Rattle.cell_nets.specs.Operands.{HasWidth, AreFit, IsDeclared, AreDeclared, IsAvailable, IsNetOf}
 use Rattle.cell_nets.specs.Wires.{own, behind, HasBits, AreWires}
 use Rattle.row_net.specs.Table.{Stands, IsIn, IsTable, AreThere, Holds}
-use Rattle.row_net.specs.Made.{IsReady, AreValues, IsRow}
+use Rattle.row_net.specs.Made.{IsReady, IsRow}
 use Rattle.place_net.specs.Place.{width_at, widths_of, word_in, words_of, HasSize, HasRegisters, IsPlace}
 use Rattle.place_net.specs.PlaceNets.{tree_for, tree_in, set_statement}
 use Rattle.place_net.proofs.TreeLemmas.{reads_as}

@@ -5,7 +5,7 @@ use Rattle.std.proofs.Common.{get_or, refl, sym, ap, ◌∙◌, arith, append_as
 use Rattle.std.proofs.lemmas.Bool.{le-leb}
 use Rattle.std.proofs.lemmas.List.{take_all, take_more_set, length-set, append-nil}
 use Rattle.net_core.specs.declared.tree.Word.{Word}
-use Rattle.net_core.specs.Nets.{Tree, SSet, SEnd}
+use Rattle.net_core.specs.Nets.{Tree, SEnd}
 use Rattle.net_core.specs.Chains.{statements_before}
 use Rattle.net_core.specs.Value.{Env, value}
 use Rattle.net_core.specs.Clock.{Stored, done, all_done}

@@ -2,20 +2,19 @@
 use Rattle.std.specs.Prelude.{◌≡◌, ◌≢◌, ℕ, zero, suc, ◌+◌, ◌*◌, ◌/◌, ◌%◌, ◌^◌, ◌<◌, ◌≤◌, ◌==◌, ◌&&◌, Bool, true, false, Option, Some, None, All, Contains, List, [], ◌∷◌, ◌++◌, length, take, drop, slice_set, map as map_list}
 use Rattle.std.proofs.Common.{get_or, refl, sym, ap, ◌∙◌, subst, arith, inl, inr, ◌⊎◌, length-append}
 use Rattle.std.proofs.lemmas.Bool.{cases_eq, cases_lt, eqb-true}
-use Rattle.std.proofs.lemmas.Nat.{pow-add, pow_pos}
+use Rattle.std.proofs.lemmas.Nat.{pow-add}
 use Rattle.std.proofs.lemmas.List.{length-set, get_or-set_same, get_or-set_other, get_or_default, get_or_past, get_or-take, get_or-drop, get_or_append_left, get_or-append-add, take_more, get_or-map}
 use Rattle.std.proofs.lemmas.List.Elements.{All-nil, All-cons, All-head, All-append, All-weaker, All-contains, Contains-append_left, Contains-append_right}
 use Rattle.std.proofs.Math.Pow.{pow_mono}
 use Rattle.std.proofs.Math.Nat.{pow-suc, div-one, mod-eq_of_lt, div-eq_of_lt}
 use Rattle.list_laws.specs.Bytes.{IsBytes}
 use Rattle.list_laws.proofs.ByteLaws.{IsBytes-take, IsBytes-drop}
-use Rattle.beat_core.specs.Words.{low_bytes, word_of}
+use Rattle.beat_core.specs.Words.{word_of}
 use Rattle.beat_core.specs.Ports.{Arrival}
 use Rattle.beat_core.proofs.WordLaws.{get_or-low_bytes, low_bytes-word_of, word_of-lt}
 use Rattle.net_core.specs.declared.tree.Word.{Word}
 use Rattle.net_core.specs.Value.{Env}
 use Rattle.block_core.specs.declared.name.Name.{Name}
-use Rattle.block_core.specs.declared.name.Name.TheVariants as name
 use Rattle.block_core.specs.Blocks.{BlockWireTree}
 use Rattle.cell_core.specs.declared.operator.Operator.{Operator}
 use Rattle.cell_core.specs.declared.operator.Operator.TheVariants.{Byte, Length, Ifindex, Time}

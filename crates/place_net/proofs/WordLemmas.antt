@@ -1,14 +1,14 @@
 -- Words of a frame, as eight bytes above one another.
-use Rattle.std.specs.Prelude.{◌≡◌, ℕ, suc, ◌+◌, ◌-◌, ◌*◌, ◌/◌, ◌%◌, ◌^◌, ◌<◌, ◌≤◌, ◌&&◌, Bool, true, max, All, Contains, List, [], ◌∷◌}
-use Rattle.std.proofs.Common.{get_or, refl, sym, ap, ◌∙◌, subst, arith, inl, inr, ◌⊎◌}
+use Rattle.std.specs.Prelude.{◌≡◌, ℕ, suc, ◌+◌, ◌-◌, ◌*◌, ◌/◌, ◌%◌, ◌^◌, ◌<◌, ◌≤◌, All, List}
+use Rattle.std.proofs.Common.{sym, ap, ◌∙◌, subst, arith, inl, inr, ◌⊎◌}
 use Rattle.std.proofs.lemmas.Bool.{cases_lt}
 use Rattle.std.proofs.lemmas.Nat.{mod_below, pow_pos, pow-add, div-mul-add}
 use Rattle.std.proofs.lemmas.List.Elements.{All-contains}
 use Rattle.std.proofs.Math.Nat.{mul_assoc, div-one, mod-eq_of_lt, mul-add-div_right, mul-add-mod_self_right}
 use Rattle.net_core.specs.declared.tree.Word.{Word}
 use Rattle.net_core.specs.Nets.{Tree, Trees, TLast, TMore}
-use Rattle.net_core.specs.Value.{Env, word, value, concatenated_parts}
-use Rattle.net_core.specs.Width.{Scope, parts_width, concatenation_width}
+use Rattle.net_core.specs.Value.{Env, value, concatenated_parts}
+use Rattle.net_core.specs.Width.{parts_width, concatenation_width}
 use Rattle.net_core.proofs.LowBitsLaws.{concatenated_small}
 use Rattle.net_core.proofs.WidthLaws.{concatenation_is}
 use Rattle.frame_net.specs.Answers.{byte_of}
@@ -17,7 +17,6 @@ use Rattle.cell_core.specs.Cells.{bits_from}
 use Rattle.cell_nets.specs.declared.operand.Operand.{Operand}
 use Rattle.cell_nets.specs.declared.operand.Operand.TheVariants.{Known}
 use Rattle.cell_nets.specs.Operands.{number_in, AreFit}
-use Rattle.cell_nets.specs.Parts.{IsPart}
 use Rattle.place_net.specs.declared.outputs.AnswerByte.{AnswerByte}
 use Rattle.place_net.specs.Exit.{byte_operand}
 use Rattle.place_net.specs.ExitNets.{IsFound, IsByte, AreBytes}

@@ -4,8 +4,8 @@ use Rattle.std.specs.List.{AllZip}
 use Rattle.std.proofs.Common.{◌⊎◌}
 use Rattle.net_core.specs.Nets.{Tree, TRead, TConcatenation, Trees, StatementTree, SBlock, SEnd}
 use Rattle.net_core.specs.Chains.{statements_before}
-use Rattle.net_core.specs.Value.{Env, value, concatenated_parts}
-use Rattle.net_core.specs.Width.{Scope, width_of, parts_width}
+use Rattle.net_core.specs.Value.{Env, concatenated_parts}
+use Rattle.net_core.specs.Width.{Scope, parts_width}
 use Rattle.design_rules.specs.FormedSyntax.{parts_depth, parts_apart}
 use Rattle.block_core.specs.Order.{AllRead}
 use Rattle.cell_core.specs.Cells.{bits_from}

@@ -1,5 +1,5 @@
 use Rattle.std.proofs.Common.{◌*◌, ◌/◌, ◌%◌, [], sym, subst}
-use Rattle.cell_core.specs.declared.operator.Operator.TheVariants.{Byte, Length, Ifindex, Time}
+use Rattle.cell_core.specs.declared.operator.Operator.TheVariants.{Byte, Length}
 use Rattle.cell_core.specs.Cells.{number}
 use Rattle.cell_nets.specs.declared.operand.Operand.TheVariants.{Net}
 use Rattle.cell_nets.specs.Wires.{wires_of}

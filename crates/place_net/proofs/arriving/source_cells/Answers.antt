@@ -1,4 +1,4 @@
-use Rattle.std.proofs.Common.{◌<◌, get_or, length, map as map_list, arith}
+use Rattle.std.proofs.Common.{get_or, map as map_list, arith}
 use Rattle.std.proofs.lemmas.List.{length-map}
 use Rattle.cell_core.specs.View.{cell_of}
 use Rattle.cell_nets.specs.Wires.{wires_of}

@@ -1,4 +1,4 @@
-use Rattle.std.proofs.Common.{ap, ◌∙◌, arith, map as map_list}
+use Rattle.std.proofs.Common.{ap, arith, map as map_list}
 use Rattle.std.proofs.lemmas.List.{length-map}
 use Rattle.net_core.specs.View.{tree_of}
 use Rattle.block_core.specs.View.{block_wire_of}
