@@ -12,7 +12,7 @@ use Rattle.cell_nets.specs.Computing.{is_outside}
 use Rattle.row_plan.specs.Plan.{Plan, IsPlan, Taken, Answered, answer_cells}
 use Rattle.row_net.specs.Needed.{AreNeeded, flag}
 use Rattle.row_net.specs.Needed as needs
-use Rattle.row_net.specs.Lists.{varies, is_made, is_carried, made_cells, carried_cells, IsBrought, Same, Outside, Carried, CellsArePlaced}
+use Rattle.row_net.specs.Lists.{varies, is_made, is_carried, made_cells, carried_cells, IsBrought, Same, Outside, Carried, CellsArePlaced, has_place, HavePlaces}
 use Rattle.row_net.specs.Table.{is_constant}
 use Rattle.row_net.proofs.ListLemmas.{kept_in, kept_before, any_of, of_any}
 
@@ -194,6 +194,50 @@ module _ (rise : RowsRise) (p : ProgramView) (plan : Plan) (needed : List Bool) 
       by_kind (inr e) =
           inr (in_carried plan.last k (carried_of plan.last k (varies_of k (are.used k lt (needs.Answered k there)) e) le
           (right_or (nat_lt plan.last (kept k)) (for_answer plan.last k) (both (plan.last == plan.last) (list_any (λ c. c == k) (answer_cells p)) (eq-eqb plan.last plan.last refl) (any_of (answer_cells p) k there)))))
+
+-- ---- which plans have a place for each cell
+differ : (b : Bool) → not b ≡ true → b ≡ true → ⊥
+differ true e f = cc
+differ false e f = cc
+
+module _ (p : ProgramView) (plan : Plan) (needed : List Bool) where
+  abbrev at_row : ℕ → ℕ
+  at_row = slice_index plan.rows
+
+  abbrev outside : ℕ → Bool
+  outside k = is_outside (cell_at p.cells k).op
+
+  abbrev in_places : ℕ → Bool
+  in_places k = nat_le (at_row k) plan.last && (at_row k == 0 || not (outside k))
+
+  -- of a needed cell
+  placed : (k : ℕ) → has_place p plan needed k ≡ true → flag needed k ≡ true → in_places k ≡ true
+  placed k h marked = by_cases (either_of (not (flag needed k)) (in_places k) h)
+    where
+      by_cases : (not (flag needed k) ≡ true) ⊎ (in_places k ≡ true) → in_places k ≡ true
+      by_cases (inl e) = absurd (differ (flag needed k) e marked)
+      by_cases (inr e) = e
+
+  pub all_have : ((k : ℕ) → k < length p.cells → has_place p plan needed k ≡ true) → HavePlaces p plan needed
+  all_have h = record {
+    rows = λ k lt marked. leb-true (at_row k) plan.last (both_of (nat_le (at_row k) plan.last) (at_row k == 0 || not (outside k)) (placed k (h k lt) marked)).0;
+    sources = λ k lt marked from. first k from (either_of (at_row k == 0) (not (outside k)) (both_of (nat_le (at_row k) plan.last) (at_row k == 0 || not (outside k)) (placed k (h k lt) marked)).1);
+  }
+    where
+      first : (k : ℕ) → outside k ≡ true → ((at_row k == 0) ≡ true) ⊎ (not (outside k) ≡ true) → at_row k ≡ 0
+      first k from (inl e) = eqb-true (at_row k) 0 e
+      first k from (inr e) = absurd (differ (outside k) e from)
+
+  pub one_has : HavePlaces p plan needed → (k : ℕ) → k < length p.cells → has_place p plan needed k ≡ true
+  one_has h k lt = by_mark (test (flag needed k))
+    where
+      by_source : flag needed k ≡ true → (outside k ≡ true) ⊎ (outside k ≡ false) → (at_row k == 0 || not (outside k)) ≡ true
+      by_source marked (inl e) = left_or (at_row k == 0) (not (outside k)) (eq-eqb (at_row k) 0 (h.sources k lt marked e))
+      by_source marked (inr e) = right_or (at_row k == 0) (not (outside k)) (of_not (outside k) e)
+
+      by_mark : (flag needed k ≡ true) ⊎ (flag needed k ≡ false) → has_place p plan needed k ≡ true
+      by_mark (inl e) = right_or (not (flag needed k)) (in_places k) (both (nat_le (at_row k) plan.last) (at_row k == 0 || not (outside k)) (le-leb (at_row k) plan.last (h.rows k lt e)) (by_source e (test (outside k))))
+      by_mark (inr e) = left_or (not (flag needed k)) (in_places k) (of_not (flag needed k) e)
 
 pub cells_placed : RowsRise → CellsArePlaced
 cells_placed rise p plan needed formed is are = record {

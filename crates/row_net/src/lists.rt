@@ -1,10 +1,10 @@
 //! What is made and what is carried at each place.
 
-ghost use Rattle.std.specs.Prelude.{ℕ, ◌≡◌, ◌==◌, ◌<◌, ◌^◌, length, IfOk, map as map_list};
+ghost use Rattle.std.specs.Prelude.{ℕ, ◌≡◌, ◌==◌, ◌<◌, ◌^◌, true, length, IfOk, map as map_list};
 ghost use Rattle.std.specs.List.{list_any};
 ghost use Rattle.cell_core.specs.View.{program_of};
 ghost use Rattle.row_plan.specs.Plan.{answer_cells};
-ghost use Rattle.row_net.specs.Lists.{varies, is_made, is_carried, made_cells, carried_cells};
+ghost use Rattle.row_net.specs.Lists.{varies, is_made, is_carried, made_cells, carried_cells, has_place, HavePlaces};
 
 use crate::needed::flag;
 use crate::table::is_constant;
@@ -58,6 +58,30 @@ fn is_carried(program: &CellProgram, plan: &RowPlan, needed: &[bool], row: u32, 
     varies(program, needed, cell)
         && plan.row_of(cell) <= row
         && (row < plan.last_use(cell) || row == plan.rows() && is_answer(program, cell))
+}
+
+// Whether the row of a cell, if it is needed, is not past the last, and is the first if the cell comes from outside.
+fn has_place(program: &CellProgram, plan: &RowPlan, needed: &[bool], cell: u32) -> bool
+    requires { cell < length program.now.cells.items }
+    ensures { result ≡ has_place (program_of program.now) plan.now needed.now cell }
+{
+    !flag(needed, cell)
+        || plan.row_of(cell) <= plan.rows()
+            && (plan.row_of(cell) == 0 || !is_outside(program.cells[cell as usize].op))
+}
+
+/// Whether all needed cells have rows up to the last, and those from outside the first one.
+pub fn have_places(program: &CellProgram, plan: &RowPlan, needed: &[bool]) -> bool
+    requires { length program.now.cells.items < 2 ^ 32 }
+    ensures yes { result ≡ true → HavePlaces (program_of program.now) plan.now needed.now }
+    ensures no { HavePlaces (program_of program.now) plan.now needed.now → result ≡ true }
+{
+    for number in 0..program.cells.len() as u32 {
+        if !has_place(program, plan, needed, number) {
+            return false;
+        }
+    }
+    true
 }
 
 /// The cells that the place of a row makes.
