@@ -1,5 +1,5 @@
 -- A clock of the block that gathers frames.
-use Rattle.std.specs.Prelude.{◌≡◌, ◌≢◌, ℕ, zero, suc, ◌+◌, ◌*◌, ◌/◌, ◌%◌, ◌^◌, ◌<◌, ◌≤◌, ◌==◌, if◌then◌else◌, Bool, true, false, not, min, Option, Some, None, is_some, List, [], ◌∷◌, ◌++◌, length, map, slice_set}
+use Rattle.std.specs.Prelude.{◌≡◌, ◌≢◌, ℕ, zero, suc, ◌+◌, ◌*◌, ◌/◌, ◌^◌, ◌<◌, ◌≤◌, ◌==◌, if◌then◌else◌, Bool, true, false, not, min, Option, Some, None, is_some, List, [], ◌∷◌, ◌++◌, length, map, slice_set}
 use Rattle.std.specs.List.{AllByRecursion}
 use Rattle.std.proofs.Common.{get_or, refl, sym, ap, ◌∙◌, subst, arith, length-append}
 use Rattle.std.proofs.lemmas.List.{length-map}
@@ -31,7 +31,8 @@ use Rattle.frame_net.specs.Gather.{SeesBeat, HasTaken}
 use Rattle.frame_net.specs.Stores.{Store, store_statements}
 use Rattle.frame_net.specs.GatherNets.{port, register, net, constant, next_position, kept_store, gather_stores, gather_wires, gather_sets, gather_statement}
 use Rattle.frame_net.proofs.StoreLemmas.{in_turn, put, taken, taken_is, store_at, registers_stay, lengths_stay, none_stored, IsOff}
-use Rattle.frame_net.proofs.MaskLemmas.{masked_word}
+use Rattle.frame_net.proofs.MaskLaws.{masked_word}
+use Rattle.frame_net.proofs.BitLaws.{on, off, next_is}
 use Rattle.frame_net.proofs.FrameLemmas.{last_more, new_bytes, is_frame, IsBytes-append}
 use Rattle.frame_net.proofs.HeldLemmas.{put_here, put_other, bytes_so_far, SoFar, so_far_is, arrived_frame, Takes, kept_more, kept_same, others_stay, beats_more, beats_same}
 
@@ -45,17 +46,6 @@ and_bits false false = refl
 not_bit : (b : Bool) → apply_unary Not (bit b) ≡ bit (not b)
 not_bit true = refl
 not_bit false = refl
-
--- a condition that is 1, or 0
-on : (w : Word) (s t : Stored) → w ≡ bit true → (if w.value == 0 then s else t) ≡ t
-on w s t e = ap (λ (x : Word). if x.value == 0 then s else t) e
-
-off : (w : Word) (s t : Stored) → w ≡ bit false → (if w.value == 0 then s else t) ≡ s
-off w s t e = ap (λ (x : Word). if x.value == 0 then s else t) e
-
-next_is : (last : Bool) (q : ℕ) → q < BEAT_LIMIT → conditional (bit last) (word 11 0) (apply Add (word 11 q) (word 11 1)) ≡ word 11 (if last then 0 else suc q)
-next_is true q h = refl
-next_is false q h = let e : (q + 1) % 2 ^ 11 ≡ suc q = omega arith in ap (word 11) e
 
 -- ---- the nets of a clock
 module _ {P : Type 0} (p : P) (bits : ℕ) (kept : List Kept) (over slot : Name P) (v : Env (Name P)) (s : Stored) (at : ℕ) (o : Offered) (goes : Bool)

@@ -1,9 +1,8 @@
 -- The block that gathers frames is well typed, in order and spelled.
-use Rattle.std.specs.Prelude.{◌≡◌, ℕ, suc, ◌+◌, ◌^◌, ◌<◌, ◌≤◌, ◌==◌, nat_le, ◌&&◌, Bool, true, List, [], ◌∷◌, length, map, max}
+use Rattle.std.specs.Prelude.{◌≡◌, ℕ, suc, ◌+◌, ◌^◌, ◌<◌, ◌≤◌, true, List, [], ◌∷◌, length, map, max}
 use Rattle.std.specs.List.{AllByRecursion}
-use Rattle.std.proofs.Common.{get_or, refl, sym, ap, ◌∙◌, subst, arith, inl, inr}
+use Rattle.std.proofs.Common.{get_or, refl, sym, ap, ◌∙◌, subst, arith, inl}
 use Rattle.std.proofs.lemmas.Bool.{le-leb, lt-ltb}
-use Rattle.std.proofs.lemmas.Bool.Decides.{nat_tests}
 use Rattle.std.proofs.lemmas.List.{length-replicate}
 use Rattle.net_core.specs.declared.tree.Op.TheVariants.{And}
 use Rattle.net_core.specs.declared.tree.UnaryOp.TheVariants.{Not}
@@ -26,18 +25,8 @@ use Rattle.frame_net.specs.declared.held.Kept.TheVariants.{Ifindex, Time, Word a
 use Rattle.frame_net.specs.Frames.{index_bits}
 use Rattle.frame_net.specs.Gather.{IsKept, held_widths, kept_width, kept_widths}
 use Rattle.frame_net.specs.Stores.{Store, widths_memory, store_statements}
+use Rattle.frame_net.proofs.FormLaws.{and_is, one_is, same_is, wire_is, still_before}
 use Rattle.frame_net.specs.GatherNets.{port, register, net, in_bits, masked, next_position, kept_store, gather_stores, gather_wires, gather_block, gather_statement}
-
--- ---- widths
-pub same_is : (a b : ℕ) → 0 < a → b ≡ a → same a b ≡ true
-same_is a b some e = rw (e, lt-ltb 0 a some) (grind (arith, nat_tests))
-
--- a wire of a width
-pub wire_is : (a b : ℕ) → 0 < a → a ≤ 64 → b ≡ a → (same a b && nat_le a 64) ≡ true
-wire_is a b some most e = rw (same_is a b some e) (le-leb a 64 most)
-
-pub and_is : (a b : Bool) → a ≡ true → b ≡ true → (a && b) ≡ true
-and_is a b e f = rw (e, f) refl
 
 -- ---- stores
 pub record IsStoreTyped {N : Type 0} (s : Scope N) (index width : ℕ) (r : Store N) : Type 0 where
@@ -51,9 +40,6 @@ abbrev pub AreStoresTyped : {N : Type 0} → Scope N → List (ℕ × ℕ) → L
 AreStoresTyped s [] rs = Unit {0}
 AreStoresTyped s (w ∷ ws) [] = Unit {0}
 AreStoresTyped s (w ∷ ws) (r ∷ rs) = IsStoreTyped s w.0 w.1 r × AreStoresTyped s ws rs
-
-one_is : (n : ℕ) → n ≡ 1 → (n == 1) ≡ true
-one_is n e = rw e refl
 
 pub stores_typed : {N : Type 0} (s : Scope N) (rs : List ℕ) (ms ws : List (ℕ × ℕ)) (stores : List (Store N)) (at : ℕ) → ((k : ℕ) → k < length stores → get_or ms (at + k) (0, 0) ≡ get_or ws k (0, 0)) → length stores ≡ length ws
     → AreStoresTyped s ws stores → statements_typed s rs ms (statements_before (store_statements at stores) SEnd) ≡ true
@@ -169,14 +155,6 @@ module _ {P : Type 0} (p : P) (bits : ℕ) (kept : List Kept) (over slot : Name 
     }
 
 -- ---- in order
--- what stands before all of a part's wires stands before each
-pub still_before : {P : Type 0} (d : Whole P) (before : List P) (p : P) (at : ℕ) (n : Name P) → IsBefore d before p 0 n → IsBefore d before p at n
-still_before d before p at (name.Port k) h = h
-still_before d before p at (name.Register q k) h = h
-still_before d before p at (name.Memory q k) h = h
-still_before d before p at (name.Wire q k) (inl h) = let l = h.1 in absurd (omega arith)
-still_before d before p at (name.Wire q k) (inr h) = inr h
-
 pub in_order : {P : Type 0} (d : Whole P) (before : List P) (p : P) (bits : ℕ) (over slot : Name P) → Among p d.parts → IsBefore d before p 0 over → IsBefore d before p 0 slot → InOrder d before p 0 (gather_wires p bits over slot)
 in_order d before p bits over slot a o q = (
   (tt, tt),

@@ -3,10 +3,7 @@ use Rattle.std.specs.Prelude.{◌≡◌, ℕ, ◌≤◌, List}
 use Rattle.std.specs.List.{AllByRecursion}
 use Rattle.std.proofs.Common.{refl, subst, sym}
 use Rattle.block_core.specs.declared.name.Name.{Name}
-use Rattle.net_core.specs.declared.tree.Word.{Word}
-use Rattle.net_core.specs.Nets.{StatementTree}
-use Rattle.block_core.specs.declared.block.BlockMemory.{BlockMemory}
-use Rattle.block_core.specs.Blocks.{BlockTree, BlockWireTree}
+use Rattle.block_core.specs.Blocks.{BlockTree}
 use Rattle.frame_net.specs.declared.held.Kept.{Kept}
 use Rattle.frame_net.specs.Gather.{IsGather, IsKept, held_widths}
 use Rattle.frame_net.specs.GatherNets.{gather_block}
@@ -32,8 +29,3 @@ gathers p bits kept over slot some most words = record {
 
 pub is_gather : {P : Type 0} (p : P) (bits : ℕ) (kept : List Kept) (over slot : Name P) (b : BlockTree (Name P)) → 1 ≤ bits → bits ≤ 5 → AllByRecursion IsKept kept → b ≡ gather_block p bits kept over slot → IsGather p bits kept over slot b
 is_gather p bits kept over slot b some most words e = subst (IsGather p bits kept over slot) (sym e) (gathers p bits kept over slot some most words)
-
--- a block from its parts
-pub same_block : {N : Type 0} (b : BlockTree N) (registers : List Word) (memories : List BlockMemory) (wires : List (BlockWireTree N)) (statement : StatementTree N) → registers ≡ b.registers → memories ≡ b.memories → wires ≡ b.wires → statement ≡ b.statement
-    → record { registers = registers; memories = memories; wires = wires; statement = statement } ≡ b
-same_block b registers memories wires statement r m w s = λ i. record { registers = r i; memories = m i; wires = w i; statement = s i }

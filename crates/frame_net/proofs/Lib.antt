@@ -1,8 +1,12 @@
 mod StoreLemmas
-mod MaskLemmas
+pub mod MaskLaws
+pub mod BitLaws
+pub mod FormLaws
+pub mod LoopLaws
+pub mod ReadLaws
 mod FrameLemmas
 mod HeldLemmas
 mod GatherLemmas
 mod GatherClock
 mod GatherWhole
-mod Loops
+mod SourcesLemmas

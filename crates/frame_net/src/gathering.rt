@@ -156,7 +156,7 @@ fn memory(index: u8, width: u8) -> BlockMemory
 }
 
 // How many bits a word has of what is kept.
-fn kept_width(kept: Kept) -> u8
+pub(crate) fn kept_width(kept: Kept) -> u8
     ensures { result ≡ kept_width kept }
 {
     match kept {
@@ -166,7 +166,7 @@ fn kept_width(kept: Kept) -> u8
 }
 
 // Of the beats, the number of the last and its bytes, and what else is kept.
-#[tactic(auto, using(crate::proofs::Loops::copied, crate::proofs::Loops::copied_end))]
+#[tactic(auto, using(crate::proofs::LoopLaws::copied, crate::proofs::LoopLaws::copied_end))]
 fn memories(alloc: Global, bits: u8, kept: &[Kept]) -> Result<Vec<BlockMemory>, AllocError>
     requires { bits ≤ 5 }
     ensures { IfOk result (λ r. r.items ≡ map widths_memory (held_widths bits kept.now)) }

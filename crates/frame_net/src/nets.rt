@@ -5,35 +5,36 @@ ghost use Rattle.net_core.specs.Nets.{TRead};
 ghost use Rattle.net_core.specs.View.{tree_of};
 ghost use Rattle.block_core.specs.View.{block_wire_of};
 ghost use Rattle.frame_net.specs.GatherNets.{port, register, net, wire, beside, uncounted, in_bits, masked, next_position};
+ghost use Rattle.frame_net.specs.SourcesNets.{held};
 
 use block_core::block::BlockWire;
 use block_core::name::{Name, Part};
-use net_core::build::{binary, conditional, constant};
+use net_core::build::{binary, conditional, constant, memory_word};
 use net_core::tree::{Expr, Op, Parts, Right};
 use std::alloc::{AllocError, Global};
 
 /// How many bits the number of a beat has: a frame has 1,152 beats at most.
-pub(crate) const POSITION_WIDTH: u8 = 11;
+pub const POSITION_WIDTH: u8 = 11;
 
-pub(crate) fn port<P: Part>(k: u32) -> Expr<Name<P>>
+pub fn port<P: Part>(k: u32) -> Expr<Name<P>>
     ensures { tree_of result ≡ port {P = P} k }
 {
     Expr::Read(Name::Port(k))
 }
 
-pub(crate) fn register<P: Part>(part: P, k: u32) -> Expr<Name<P>>
+pub fn register<P: Part>(part: P, k: u32) -> Expr<Name<P>>
     ensures { tree_of result ≡ register part k }
 {
     Expr::Read(Name::Register(part, k))
 }
 
-pub(crate) fn net<P: Part>(part: P, k: u32) -> Expr<Name<P>>
+pub fn net<P: Part>(part: P, k: u32) -> Expr<Name<P>>
     ensures { tree_of result ≡ net part k }
 {
     Expr::Read(Name::Wire(part, k))
 }
 
-pub(crate) fn wire<P: Part>(width: u8, e: Expr<Name<P>>) -> BlockWire<Name<P>>
+pub fn wire<P: Part>(width: u8, e: Expr<Name<P>>) -> BlockWire<Name<P>>
     ensures { block_wire_of result ≡ wire width (tree_of e) }
 {
     BlockWire {
@@ -42,8 +43,20 @@ pub(crate) fn wire<P: Part>(width: u8, e: Expr<Name<P>>) -> BlockWire<Name<P>>
     }
 }
 
+/// The word of a memory of a part at an index.
+pub fn held<P: Part>(
+    alloc: Global,
+    part: P,
+    k: u32,
+    index: Expr<Name<P>>,
+) -> Result<Expr<Name<P>>, AllocError>
+    ensures { IfOk result (λ e. tree_of e ≡ held part k (tree_of index)) }
+{
+    memory_word(alloc, Name::Memory(part, k), index)
+}
+
 /// One expression above another.
-pub(crate) fn beside<P: Part>(
+pub fn beside<P: Part>(
     alloc: Global,
     a: Expr<Name<P>>,
     b: Expr<Name<P>>,
@@ -56,27 +69,21 @@ pub(crate) fn beside<P: Part>(
 }
 
 /// How many of a word's eight bytes do not count, where so many do.
-pub(crate) fn uncounted<P: Part>(
-    alloc: Global,
-    bytes: Expr<Name<P>>,
-) -> Result<Expr<Name<P>>, AllocError>
+pub fn uncounted<P: Part>(alloc: Global, bytes: Expr<Name<P>>) -> Result<Expr<Name<P>>, AllocError>
     ensures { IfOk result (λ e. tree_of e ≡ uncounted (tree_of bytes)) }
 {
     binary(alloc, Op::Sub, constant(4, 8), bytes)
 }
 
 /// So many bytes in bits.
-pub(crate) fn in_bits<P: Part>(
-    alloc: Global,
-    bytes: Expr<Name<P>>,
-) -> Result<Expr<Name<P>>, AllocError>
+pub fn in_bits<P: Part>(alloc: Global, bytes: Expr<Name<P>>) -> Result<Expr<Name<P>>, AllocError>
     ensures { IfOk result (λ e. tree_of e ≡ in_bits (tree_of bytes)) }
 {
     beside(alloc, bytes, constant(3, 0))
 }
 
 /// A word of 64 bits with 0 in place of so many high bits.
-pub(crate) fn masked<P: Part>(
+pub fn masked<P: Part>(
     alloc: Global,
     value: Expr<Name<P>>,
     shift: Expr<Name<P>>,
@@ -89,7 +96,7 @@ pub(crate) fn masked<P: Part>(
 }
 
 /// The position that follows: 0 behind a last beat.
-pub(crate) fn next_position<P: Part>(
+pub fn next_position<P: Part>(
     alloc: Global,
     last: Expr<Name<P>>,
     position: Expr<Name<P>>,

@@ -1,7 +1,8 @@
 use Rattle.std.proofs.Common.{[], ◌∷◌, ◌++◌, ap, ◌∙◌}
 use Rattle.net_core.specs.Value.{word}
 use Rattle.frame_net.specs.GatherNets.{gather_block}
-use Rattle.frame_net.proofs.GatherWhole.{is_gather, same_block}
+use Rattle.frame_net.proofs.FormLaws.{same_block}
+use Rattle.frame_net.proofs.GatherWhole.{is_gather}
 use Rattle.frame_net.proofs.gathering.gather.Goals as goal
 
 pub returns : goal.returns

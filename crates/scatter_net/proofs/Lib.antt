@@ -1,0 +1,5 @@
+mod ByteLemmas
+mod ChosenLemmas
+mod ShownLemmas
+mod FormLemmas
+mod ScatterWhole
