@@ -2,7 +2,7 @@
 use Rattle.std.specs.Prelude.{◌≡◌, ◌≢◌, ℕ, zero, suc, ◌+◌, ◌-◌, ◌^◌, ◌<◌, ◌≤◌, Bool, true, false, All, Contains, Option, Some, None, is_some, List, [], ◌∷◌, ◌++◌, length, drop, map, replicate}
 use Rattle.std.proofs.Common.{get_or, refl, sym, ap, ◌∙◌, subst, arith, inl, inr, length-append, length-drop}
 use Rattle.std.proofs.lemmas.Bool.{cases_lt}
-use Rattle.std.proofs.lemmas.List.{length-map, get_or-map, get_or-drop, get_or_append_left, drop_all}
+use Rattle.std.proofs.lemmas.List.{nil_from_length, length-map, get_or-map, get_or-drop, get_or_append_left, drop_all}
 use Rattle.std.proofs.Math.Pow.{pow_mono}
 use Rattle.std.proofs.Math.Seq.{get_or-append_right}
 use Rattle.std.proofs.lemmas.List.Elements.{All-contains, All-cons, All-map, All-weaker, All-contains_itself, Contains-get_or}
@@ -44,6 +44,7 @@ use Rattle.shell_net.specs.declared.parts.Part.TheVariants.{Control, Gather, Exi
 use Rattle.shell_net.specs.Parts.{told_by, next_slot}
 use Rattle.shell_net.specs.Layout.{Layout, cells_of, last_of, IsBy, IsChanged}
 use Rattle.shell_net.specs.Relation.{counts, signals, HoldsFrames, HoldsAnswered, HoldsAnswers, no_answer}
+use Rattle.shell_net.proofs.Cases.{same_some, none_some}
 use Rattle.shell_net.proofs.Counting.{leaves_inside, exits_is}
 use Rattle.shell_net.proofs.Seeing.{IsSeen, has_exit, shape_of, slot_fits}
 use Rattle.shell_net.proofs.Values.{CellLaws, HasValues, values_of, held_is, computes_at}
@@ -65,7 +66,7 @@ widths_index bits words zero h = refl
 widths_index bits words (suc zero) h = refl
 widths_index bits words (suc (suc i)) h = ap (λ (x : ℕ × ℕ). x.0) (get_or-map (word_widths bits) words i 0 (0, 0) (omega arith))
 
-available : (ins : List (Operand (Name Part))) (a : Operand (Name Part)) → Contains ins a → IsAvailable ins a
+pub available : (ins : List (Operand (Name Part))) (a : Operand (Name Part)) → Contains ins a → IsAvailable ins a
 available ins (Known n) c = tt
 available ins (Net n w) c = c
 
@@ -81,12 +82,6 @@ pub record ExitStep (l : Layout) (s : State) (from : ℕ) (old new : Stored) : T
   pub stays : (k : ℕ) (r : Answer) → from ≤ k → k < from + length s.answers → HoldsAnswer (byte_numbers l.answer) l.words old.memories (slot l.shape.slots k) r → HoldsAnswer (byte_numbers l.answer) l.words new.memories (slot l.shape.slots k) r
   pub left : (x : Packet) → place_at s.places (last_of l) ≡ Some x
       → HoldsAnswer (byte_numbers l.answer) l.words new.memories (slot l.shape.slots (from + length s.answers)) (answer_of l.build.program x.held (get_or s.frames 0 no_frame))
-
-same_some : {X : Type 0} (x y : X) → Some x ≡ Some y → x ≡ y
-same_some x y e = cc
-
-none_some : {X Y : Type 0} (x : X) → None ≡ Some x → Y
-none_some x e = cc
 
 module _ (l : Layout) (d : Whole Part) (i : Inputs) (s : State) (ss : Part → Stored) (v : Env (Name Part)) (h : IsSeen l d i s ss v) (laws : CellLaws) where
   -- the packet that leaves
@@ -189,14 +184,10 @@ module _ (l : Layout) (d : Whole Part) (i : Inputs) (s : State) (ss : Part → S
       let f = length-map (d.block Exit).memories block_memory_width in
       let g = length-map l.words (word_widths l.shape.slot_bits) in
       record {
-        registers = none_left (ss Exit).registers (stored.registers ∙ ap length h.parts.exit.registers);
+        registers = nil_from_length (ss Exit).registers (stored.registers ∙ ap length h.parts.exit.registers);
         memories = same_lengths (ss Exit).memories (2 + length l.words) (2 ^ l.shape.slot_bits) (stored.memories ∙ omega (arith, e, f, g)) (λ n lt.
             (stored.memory n (omega (arith, e, f, g, lt))).count ∙ ap (λ m. 2 ^ m) (ap (λ (ws : List (ℕ × ℕ)). (get_or ws n (0, 0)).0) h.parts.exit.memories ∙ widths_index l.shape.slot_bits l.words n lt));
       }
-    where
-      none_left : (ws : List Word) → length ws ≡ 0 → ws ≡ []
-      none_left [] e = refl
-      none_left (w ∷ ws) e = absurd (omega (arith, e))
 
   module _ (last : Bool) (shows : Shows l.shape Control (signals last s i) (counts given s) v) where
     exits_as : (o : Option Packet) → place_at s.places (last_of l) ≡ o → v.net (told_by wire.Exits) ≡ bit (is_some o)

@@ -33,6 +33,7 @@ use Rattle.shell_net.specs.Machine.{input_of, MayCome, Shows}
 use Rattle.shell_net.specs.Layout.{Layout, last_of, outside, IsLaidOut, AreParts}
 use Rattle.shell_net.specs.Relation.{IsStored, counts, Relates}
 use Rattle.shell_net.specs.Following.{design, Follows, FollowsAll, PipelinesFollow, PipelinesAreFormed}
+use Rattle.shell_net.proofs.Cases.{none_some}
 use Rattle.shell_net.proofs.Values.{CellLaws}
 use Rattle.shell_net.proofs.Seeing.{IsSeen, has_place}
 use Rattle.shell_net.proofs.Placing.{place_fits}
@@ -140,9 +141,6 @@ module _ (laws : Laws) (l : Layout) (d : Whole Part) (names : List (List ℕ)) (
   none_at zero k = refl
   none_at (suc n) zero = refl
   none_at (suc n) (suc k) = none_at n k
-
-  none_some : {X Y : Type 0} (x : X) → None ≡ Some x → Y
-  none_some x e = cc
 
   module _ (maps : MapState) where
     abbrev first : State

@@ -46,7 +46,7 @@ gone_ends None false last h = refl
 gone_ends (Some x) true last h = h x refl
 gone_ends (Some x) false last h = refl
 
-counted_is : (x : Bool) (k : ℕ) → counted x k ≡ k + bit x
+pub counted_is : (x : Bool) (k : ℕ) → counted x k ≡ k + bit x
 counted_is true k = omega arith
 counted_is false k = omega arith
 

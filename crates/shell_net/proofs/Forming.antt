@@ -37,6 +37,7 @@ use Rattle.shell_net.specs.declared.parts.Part.{Part}
 use Rattle.shell_net.specs.declared.parts.Part.TheVariants.{Scatter, Control, Gather, Sources, Exit, Place}
 use Rattle.shell_net.specs.Parts.{part_place, parts_of, told_by, next_slot, has_begun, outputs_of}
 use Rattle.shell_net.specs.Layout.{Layout, cells_of, last_of, outside, IsLaidOut, AreParts}
+use Rattle.shell_net.proofs.Answering.{available}
 use Rattle.shell_net.proofs.Seeing.{has_scatter, has_control, has_gather, has_sources, has_exit, has_place}
 
 -- ---- the parts stand where they say
@@ -111,10 +112,6 @@ kept_are all at (x ∷ kept) h =
 
 from_none : (i : ℕ) → i ≡ 0 + i
 from_none i = omega arith
-
-available : (ins : List (Operand (Name Part))) (a : Operand (Name Part)) → Contains ins a → IsAvailable ins a
-available ins (Known n) c = tt
-available ins (Net n w) c = c
 
 -- what may be read before the first place, and before a later one
 pub from_sources : (kept : List Kept) (n : Name Part) (w : ℕ) → Contains (Net (length_name Sources) 14 ∷ kept_operands Sources 0 kept) (Net n w) → ((n ≡ length_name Sources) × (w ≡ 14)) ⊎ IsKeptOf kept n w

@@ -33,6 +33,7 @@ use Rattle.shell_net.specs.Parts.{told_by, next_slot}
 use Rattle.shell_net.specs.Machine.{beat_in, input_of}
 use Rattle.shell_net.specs.Layout.{Layout, last_of}
 use Rattle.shell_net.specs.Relation.{counts, signals, HoldsFrames}
+use Rattle.shell_net.proofs.Cases.{same_some, none_some}
 use Rattle.shell_net.proofs.Moving.{ends_with, part_after, Clocked, clocked}
 use Rattle.shell_net.proofs.Counting.{IsShape, over_is}
 use Rattle.shell_net.proofs.Seeing.{IsSeen, has_gather, control_shows, slot_fits, shape_of}
@@ -57,12 +58,6 @@ over_beat false v b x e = cc
 over_ready : (r v : Bool) (b x : Beat) → (if r then (if v then Some b else None) else None) ≡ Some x → r ≡ true
 over_ready true v b x e = refl
 over_ready false v b x e = cc
-
-same_some : {X : Type 0} (x y : X) → Some x ≡ Some y → x ≡ y
-same_some x y e = cc
-
-none_some : {X : Type 0} (x : X) → None ≡ Some x → ⊥
-none_some x e = cc
 
 module _ (l : Layout) (d : Whole Part) (i : Inputs) (s : State) (ss : Part → Stored) (v : Env (Name Part)) (h : IsSeen l d i s ss v) (last : Bool) (is_last : v.net (last_name Scatter) ≡ bit last) where
   abbrev given : ℕ
@@ -120,7 +115,7 @@ module _ (l : Layout) (d : Whole Part) (i : Inputs) (s : State) (ss : Part → S
         gathers = subst (λ (t : Stored). Gathers l.shape.slot_bits l.kept (part_after s.part (input_of i) (beat_over l.build s (input_of i))) (slot l.shape.slots gathered_now) t) (sym same)
             (subst (λ o. Gathers l.shape.slot_bits l.kept (part_after s.part (input_of i) o) (slot l.shape.slots gathered_now) (ss Gather)) (sym e) h.related.gather);
         stays = λ k a low high f. subst (λ (t : Stored). HoldsFrame l.kept t.memories (slot l.shape.slots k) a) (sym same) f;
-        came = λ x q. absurd (none_some x (sym e ∙ q));
+        came = λ x q. none_some x (sym e ∙ q);
       }
 
   taken : (x : Beat) → beat_over l.build s (input_of i) ≡ Some x → HasTaken l.shape.slot_bits l.kept s.part (slot l.shape.slots gathered_now) offer (ss Gather) new

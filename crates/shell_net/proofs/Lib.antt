@@ -1,3 +1,4 @@
+pub mod Cases
 pub mod Moving
 pub mod Counting
 pub mod Seeing
@@ -12,4 +13,4 @@ pub mod Forming
 pub mod Fitting
 pub mod Inputs
 pub mod Clocks
-pub mod Linking
+pub mod Naming

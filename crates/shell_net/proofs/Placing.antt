@@ -3,7 +3,7 @@ use Rattle.std.specs.Prelude.{◌≡◌, ◌≢◌, ℕ, zero, suc, ◌+◌, ◌
 use Rattle.std.proofs.Common.{get_or, refl, sym, ap, ◌∙◌, subst, arith, inl, inr}
 use Rattle.std.specs.List.{AllByRecursion}
 use Rattle.std.proofs.lemmas.Bool.{ltb-true}
-use Rattle.std.proofs.lemmas.List.{length-map, get_or-map, length-drop, get_or-drop, get_or_append_left}
+use Rattle.std.proofs.lemmas.List.{nil_from_length, length-map, get_or-map, length-drop, get_or-drop, get_or_append_left}
 use Rattle.std.proofs.lemmas.List.Elements.{All-get_or, All-from_get_or, All-contains, All-from_recursion, recursion_from_All}
 use Rattle.beat_core.specs.Ports.{Arrival}
 use Rattle.net_core.specs.declared.tree.Word.{Word}
@@ -39,6 +39,7 @@ use Rattle.shell_net.specs.Machine.{input_of}
 use Rattle.shell_net.specs.Layout.{Table, Layout, cells_of, last_of, outside, IsBy, IsLaidOut, AreParts}
 use Rattle.shell_net.specs.Parts.{next_slot}
 use Rattle.shell_net.specs.Relation.{counts, HoldsPacket}
+use Rattle.shell_net.proofs.Cases.{same_some, none_some}
 use Rattle.shell_net.proofs.Moving.{Clocked, clocked}
 use Rattle.shell_net.proofs.Counting.{moved_inside}
 use Rattle.shell_net.proofs.Seeing.{IsSeen, has_gather, has_sources, has_place, slot_fits}
@@ -56,12 +57,6 @@ registers_fit v p cells at [] h = tt
 registers_fit v p cells at (k ∷ ks) h =
     let z : at + 0 ≡ at = omega arith in
     (rw z at (h 0 (omega arith)), registers_fit v p cells (suc at) ks (λ i lt. let n : at + suc i ≡ suc at + i = omega arith in rw n at (h (suc i) (omega arith))))
-
-same_some : {X : Type 0} (x y : X) → Some x ≡ Some y → x ≡ y
-same_some x y e = cc
-
-none_some : {X Y : Type 0} (x : X) → None ≡ Some x → Y
-none_some x e = cc
 
 pub stands_within : (table : Table) (k : ℕ) (a : Operand (Name Part)) → Stands table k a → k < length table
 stands_within [] k a e = none_some a e
@@ -114,12 +109,8 @@ module _ (l : Layout) (d : Whole Part) (i : Inputs) (s : State) (ss : Part → S
       record {
         count = stored.registers ∙ count;
         each = λ n lt. let f = register_fits k q n lt in record { width = f.width; small = subst (λ w. (get_or (ss (Place k)).registers n nothing).value < 2 ^ w) f.width f.fits.small };
-        memories = none_left (ss (Place k)).memories (stored.memories ∙ ap length (part_of_place k q).memories);
+        memories = nil_from_length (ss (Place k)).memories (stored.memories ∙ ap length (part_of_place k q).memories);
       }
-    where
-      none_left : (ms : List (List Word)) → length ms ≡ 0 → ms ≡ []
-      none_left [] e = refl
-      none_left (m ∷ ms) e = absurd (omega (arith, e))
 
   -- the registers of a place have their widths
   pub place_fits : (k : ℕ) → k ≤ last_of l → AreFit v (registers_from (Place k) (cells_of l) 0 (l.carried k))

@@ -2,7 +2,7 @@
 use Rattle.std.specs.Prelude.{◌≡◌, ℕ, zero, suc, ◌+◌, ◌*◌, ◌/◌, ◌<◌, ◌≤◌, nat_le, if◌then◌else◌, Bool, true, false, ◌&&◌, Option, Some, None, is_some, List, [], ◌∷◌, ◌++◌, length, drop}
 use Rattle.std.proofs.Common.{get_or, refl, sym, ap, ◌∙◌, subst, arith, length-drop, length-append}
 use Rattle.std.proofs.lemmas.Bool.Decides.{nat_tests}
-use Rattle.std.proofs.lemmas.List.{length-map}
+use Rattle.std.proofs.lemmas.List.{nil_from_length, length-map}
 use Rattle.beat_core.specs.declared.beat.Beat.{Beat}
 use Rattle.beat_core.specs.declared.answer.Answer.{Answer}
 use Rattle.beat_core.specs.declared.frame.TheConstants.{BEAT_LIMIT}
@@ -32,6 +32,7 @@ use Rattle.shell_net.specs.Parts.{told_by, next_slot}
 use Rattle.shell_net.specs.Machine.{input_of}
 use Rattle.shell_net.specs.Layout.{Layout}
 use Rattle.shell_net.specs.Relation.{counts, signals, HoldsAnswered, no_answer, IsAt}
+use Rattle.shell_net.proofs.Cases.{same_some, none_some}
 use Rattle.shell_net.proofs.Moving.{ends_with, pos_after}
 use Rattle.shell_net.proofs.Counting.{taken_is}
 use Rattle.shell_net.proofs.Seeing.{IsSeen, has_scatter, has_gather, has_exit, shape_of, slot_fits}
@@ -68,12 +69,6 @@ same_bit true true e = refl
 same_bit false false e = refl
 same_bit true false e = let z : 1 ≡ 0 = ap (λ (w : Word). w.value) e in absurd (omega (arith, z))
 same_bit false true e = let z : 0 ≡ 1 = ap (λ (w : Word). w.value) e in absurd (omega (arith, z))
-
-same_some : {X : Type 0} (x y : X) → Some x ≡ Some y → x ≡ y
-same_some x y e = cc
-
-none_some : {X Y : Type 0} (x : X) → None ≡ Some x → Y
-none_some x e = cc
 
 position_is : (o : Option Beat) (take last : Bool) (pos : ℕ) → ((x : Beat) → o ≡ Some x → last ≡ x.last) → position_after (is_some o && take) last pos ≡ pos_after (if take then o else None) pos
 position_is None true last pos h = refl
@@ -153,12 +148,8 @@ module _ (l : Layout) (d : Whole Part) (i : Inputs) (s : State) (ss : Part → S
   stored_is : ss Scatter ≡ at_position s.pos
   stored_is =
       let m = (h.related.stored Scatter (has_scatter l d h.parts)).memories ∙ ap length h.parts.scatter.memories in
-      is_stored (ss Scatter) h.related.scatter (none_left (ss Scatter).memories m)
+      is_stored (ss Scatter) h.related.scatter (nil_from_length (ss Scatter).memories m)
     where
-      none_left : (ms : List (List Word)) → length ms ≡ 0 → ms ≡ []
-      none_left [] e = refl
-      none_left (m ∷ ms) e = absurd (omega (arith, e))
-
       is_stored : (t : Stored) → t.registers ≡ word 11 s.pos ∷ [] → t.memories ≡ [] → t ≡ at_position s.pos
       is_stored t e f = λ j. record { registers = e j; memories = f j }
 

@@ -30,17 +30,13 @@ use Rattle.shell_net.specs.Machine.{input_of, Shows, ShowsBeat}
 use Rattle.shell_net.specs.Layout.{Layout, last_of, outside}
 use Rattle.shell_net.specs.Relation.{IsStored, counts, signals, HoldsFrames, HoldsAnswered, HoldsAnswers, no_answer, IsAt, Relates}
 use Rattle.shell_net.proofs.Moving.{none_swept, ends_with, Clocked, clocked}
-use Rattle.shell_net.proofs.Counting.{leaves_inside, ready_is, ends_is, exits_is, shown_is, given_then, given_then_is, answered_then, gathered_then, counts_step, partial_step}
+use Rattle.shell_net.proofs.Counting.{counted_is, leaves_inside, ready_is, ends_is, exits_is, shown_is, given_then, given_then_is, answered_then, gathered_then, counts_step, partial_step}
 use Rattle.shell_net.proofs.Seeing.{IsSeen, shape_of, control_shows, control_clock}
 use Rattle.shell_net.proofs.Gathering.{GatherStep, gather_step, frames_hold, came_holds}
 use Rattle.shell_net.proofs.Values.{CellLaws}
 use Rattle.shell_net.proofs.Placing.{places_length, place_step}
 use Rattle.shell_net.proofs.Answering.{ExitStep, exit_step, new_answer, given_on, more_answers}
 use Rattle.shell_net.proofs.Scattering.{AreSome, position_step, first_shown, last_is, beat_shows, last_shown, scatter_step}
-
-counted_out : (b : Bool) (k : ℕ) → counted b k ≡ k + bit_of b
-counted_out true k = omega arith
-counted_out false k = omega arith
 
 first_is : (rs : List Answer) → get_or rs 0 no_answer ≡ first_answer rs
 first_is [] = refl
@@ -54,9 +50,6 @@ need_not_wait : (calm some : Bool) (done : ℕ) → done ≡ 0 → true ≡ (cal
 need_not_wait true some done e = refl
 need_not_wait false false done e = refl
 need_not_wait false true done e = let f : nat_lt 0 done ≡ false = grind (arith, nat_tests) in rw f refl
-
-none_some : {X Y : Type 0} (x : X) → None ≡ Some x → Y
-none_some x e = cc
 
 module _ (l : Layout) (d : Whole Part) (i : Inputs) (s : State) (ss : Part → Stored) (v : Env (Name Part)) (h : IsSeen l d i s ss v) where
   abbrev given : ℕ
@@ -115,7 +108,7 @@ module _ (l : Layout) (d : Whole Part) (i : Inputs) (s : State) (ss : Part → S
   answered_is : (counts given s).answered + out ≡ (counts then t).answered
   answered_is =
       let e = answered_then l.shape l.build (shape_of l h.laid) given s i last last_right t change (places_length l d i s ss v h) packets in
-      sym (counted_out _ (counts given s).answered ∙ ap (λ b. (counts given s).answered + bit_of b) (exits_is l.shape l.build (shape_of l h.laid) given s i last)) ∙ e
+      sym (counted_is _ (counts given s).answered ∙ ap (λ b. (counts given s).answered + bit_of b) (exits_is l.shape l.build (shape_of l h.laid) given s i last)) ∙ e
 
   frames_then : HoldsFrames l.kept l.shape.slots (next Gather).memories (counts then t).answered t.frames
   frames_then =

@@ -15,6 +15,7 @@ use Rattle.hazard_core.specs.Rows.{cell_number, cell_pointer, with_made, made_fr
 use Rattle.beat_core.specs.Ports.{Arrival}
 use Rattle.pipe_core.specs.Machine.{Packet, Build, place_at, inside, no_frame, packet_of, entered, enters, moved}
 use Rattle.pipe_core.specs.Computed.{Computes, PlacesCompute, IsPlanned}
+use Rattle.shell_net.proofs.Cases.{same_some, none_some}
 
 -- the laws of cells
 pub record CellLaws : Type 0 where
@@ -87,24 +88,15 @@ entered_keeps b t k a x c o = made_keeps b.program b.plan.row k t (packet_of a) 
 -- ---- packets in places
 pub computes_at : (b : Build) (fs : List Arrival) (k : ℕ) (xs : List (Option Packet)) → PlacesCompute b fs k xs → (j : ℕ) (x : Packet) → place_at xs j ≡ Some x
     → Computes b (packet_of (get_or fs (inside (drop (suc j) xs)) no_frame)) (suc (k + j)) x.held
-computes_at b fs k [] h j x e = no_packet e
-  where
-    no_packet : {X : Type 0} → None ≡ Some x → X
-    no_packet e = cc
-computes_at b fs k (None ∷ xs) h zero x e = no_packet e
-  where
-    no_packet : {X : Type 0} → None ≡ Some x → X
-    no_packet e = cc
+computes_at b fs k [] h j x e = none_some x e
+computes_at b fs k (None ∷ xs) h zero x e = none_some x e
 computes_at b fs k (None ∷ xs) h (suc j) x e =
     let n : suc k + j ≡ k + suc j = omega arith in
     subst (λ m. Computes b (packet_of (get_or fs (inside (drop (suc j) xs)) no_frame)) (suc m) x.held) n (computes_at b fs (suc k) xs h j x e)
 computes_at b fs k (Some y ∷ xs) h zero x e =
     let n : k ≡ k + 0 = omega arith in
-    let same : y ≡ x = same_packet e in
+    let same : y ≡ x = same_some y x e in
     subst (λ m. Computes b (packet_of (get_or fs (inside xs) no_frame)) (suc m) x.held) n (subst (λ (z : Packet). Computes b (packet_of (get_or fs (inside xs) no_frame)) (suc k) z.held) same h.0)
-  where
-    same_packet : {u z : Packet} → Some u ≡ Some z → u ≡ z
-    same_packet e = cc
 computes_at b fs k (Some y ∷ xs) h (suc j) x e =
     let n : suc k + j ≡ k + suc j = omega arith in
     subst (λ m. Computes b (packet_of (get_or fs (inside (drop (suc j) xs)) no_frame)) (suc m) x.held) n (computes_at b fs (suc k) xs h.1 j x e)
