@@ -30,7 +30,7 @@ use Rattle.frame_net.specs.Frames.{beat_of, last_of, HoldsBeats, HoldsPart, Hold
 use Rattle.frame_net.specs.Gather.{SeesBeat, HasTaken}
 use Rattle.frame_net.specs.Stores.{Store, store_statements}
 use Rattle.frame_net.specs.GatherNets.{port, register, net, constant, next_position, kept_store, gather_stores, gather_wires, gather_sets, gather_statement}
-use Rattle.frame_net.proofs.StoreLemmas.{in_turn, put, taken, taken_is, store_at, registers_stay, lengths_stay, none_stored, IsOff}
+use Rattle.frame_net.proofs.StoreLaws.{in_turn, put, taken, taken_is, store_at, registers_stay, lengths_stay, none_stored, IsOff}
 use Rattle.frame_net.proofs.MaskLaws.{masked_word}
 use Rattle.frame_net.proofs.BitLaws.{on, off, next_is}
 use Rattle.frame_net.proofs.FrameLemmas.{last_more, new_bytes, is_frame, IsBytes-append}
