@@ -108,9 +108,9 @@ module _ (l : Layout) (d : Whole Part) (i : Inputs) (s : State) (ss : Part → S
         (h.laid.taken (last_of l)).value v run.value_of
         (λ n lt. register_number l d i s ss v h (last_of l) (omega arith) x e n lt ∙ held _ (h.laid.carried (last_of l) n 0 lt))
         (λ c a st.
-          let n = stands_within l.constants c a st in
-          let m = h.laid.constants.fits.count in
-          h.laid.constants.value v (packet_of frame) run.value_of c a st ∙ sym (run.is c (omega (arith, n, m))))
+        let n = stands_within l.constants c a st in
+        let m = h.laid.constants.fits.count in
+        h.laid.constants.value v (packet_of frame) run.value_of c a st ∙ sym (run.is c (omega (arith, n, m))))
 
     -- a number that the answer takes, where its cell is no wider
     answers_number : (c bits : ℕ) (a : Operand (Name Part)) → IsBy l.build (last_of l) c → (cell_at (cells_of l) c).width ≤ bits → Stands (l.table (suc (last_of l))) c a → held_value x.held c ≡ bits_from (number_in v a) 0 bits
@@ -149,8 +149,8 @@ module _ (l : Layout) (d : Whole Part) (i : Inputs) (s : State) (ss : Part → S
       are_bytes = with_bytes_bytes (held_value x.held) frame.frame l.build.program.frame (λ j dflt lt. small_byte _ (Contains-get_or l.build.program.frame j dflt lt)) f.bytes;
       others = λ at no.
           with_bytes_other (held_value x.held) frame.frame l.build.program.frame at (λ j dflt lt same.
-            no (subst (λ ns. Contains ns at) (sym h.laid.changed) (subst (λ n. Contains (map (λ b. b.at) l.build.program.frame) n) (get_or-map (λ b. b.at) l.build.program.frame j dflt 0 lt ∙ same)
-            (Contains-get_or (map (λ b. b.at) l.build.program.frame) j 0 (let n = length-map l.build.program.frame (λ b. b.at) in omega (arith, n, lt))))));
+          no (subst (λ ns. Contains ns at) (sym h.laid.changed) (subst (λ n. Contains (map (λ b. b.at) l.build.program.frame) n) (get_or-map (λ b. b.at) l.build.program.frame j dflt 0 lt ∙ same)
+          (Contains-get_or (map (λ b. b.at) l.build.program.frame) j 0 (let n = length-map l.build.program.frame (λ b. b.at) in omega (arith, n, lt))))));
     }
 
   -- ---- the block in a clock

@@ -120,12 +120,11 @@ module _ (laws : Laws) (l : Layout) (d : Whole Part) (names : List (List ℕ)) (
   unfolding next
   all_clocks [] t ss order computed related = tt
   all_clocks (i ∷ is) t ss order computed related = λ come.
-      let f = one_clock i t ss order computed come related in
-      (
+      let f = one_clock i t ss order computed come related in (
         f.goes,
         f.shown,
         subst (FollowsAll l d names is (clock l.build (input_of i) t.state)) (sym f.after)
-        (all_clocks is (next l.build (input_of i) t) f.next (laws.order l.build (input_of i) t order) (laws.computes l.build laid.planned (input_of i) t order computed) f.related),
+            (all_clocks is (next l.build (input_of i) t) f.next (laws.order l.build (input_of i) t order) (laws.computes l.build laid.planned (input_of i) t order computed) f.related),
       )
 
   -- ---- before the first clock

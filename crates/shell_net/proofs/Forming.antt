@@ -82,8 +82,7 @@ registers_are p cells all at [] h = tt
 registers_are p cells all at (k ∷ ks) h =
     let x = h 0 (omega arith) in
     let z : at + 0 ≡ at = omega arith in
-    let first = rw z at x in
-    (
+    let first = rw z at x in (
       record { index = at; within = first.0; register = refl; width = ap (width_at cells) (sym first.1) },
       registers_are p cells all (suc at) ks (λ i lt. let n : at + suc i ≡ suc at + i = omega arith in rw n at (h (suc i) (omega arith))),
     )
@@ -104,8 +103,7 @@ kept_are all at [] h = tt
 kept_are all at (x ∷ kept) h =
     let y = h 0 (omega arith) in
     let z : at + 0 ≡ at = omega arith in
-    let first = rw z at y in
-    (
+    let first = rw z at y in (
       record { index = at; within = first.0; net = refl; width = sym first.1 },
       kept_are all (suc at) kept (λ i lt. let n : at + suc i ≡ suc at + i = omega arith in rw n at (h (suc i) (omega arith))),
     )
@@ -233,8 +231,7 @@ module _ (l : Layout) (d : Whole Part) (laid : IsLaidOut l) (parts : AreParts l 
       let control = has_control l d parts in
       let gather = has_gather l d parts in
       let scatter_wires = scatter_count in
-      let control_wires = wires_count in
-      (
+      let control_wires = wires_count in (
         parts.scatter.ordered d [] (has_scatter l d parts) gather (has_exit l d parts) control,
         (
           in_order l.shape Control (record { partial = has_begun; last = last_name Scatter }) d control (Scatter ∷ []) gather (inr (inl refl, omega (arith, scatter_wires))) (d.block Control) parts.control,

@@ -29,39 +29,56 @@ bit_below false = omega arith
 
 below : (i : Inputs) → IsInput i → AreBelow port_list (numbers_of i)
 below i f = (
-  omega arith, omega arith,
+  omega arith,
+  omega arith,
   (
-    bit_below i.in_valid, omega arith,
+    bit_below i.in_valid,
+    omega arith,
     (
-      f.in_data, omega arith,
+      f.in_data,
+      omega arith,
       (
-        f.in_bytes, omega arith,
+        f.in_bytes,
+        omega arith,
         (
-          bit_below i.in_last, omega arith,
+          bit_below i.in_last,
+          omega arith,
           (
-            f.in_ifindex, omega arith,
+            f.in_ifindex,
+            omega arith,
             (
-              f.in_time, omega arith,
+              f.in_time,
+              omega arith,
               (
-                omega arith, omega arith,
+                omega arith,
+                omega arith,
                 (
-                  bit_below i.out_ready, omega arith,
+                  bit_below i.out_ready,
+                  omega arith,
                   (
-                    omega arith, omega arith,
+                    omega arith,
+                    omega arith,
                     (
-                      omega arith, omega arith,
+                      omega arith,
+                      omega arith,
                       (
-                        omega arith, omega arith,
+                        omega arith,
+                        omega arith,
                         (
-                          omega arith, omega arith,
+                          omega arith,
+                          omega arith,
                           (
-                            omega arith, omega arith,
+                            omega arith,
+                            omega arith,
                             (
-                              omega arith, omega arith,
+                              omega arith,
+                              omega arith,
                               (
-                                omega arith, omega arith,
+                                omega arith,
+                                omega arith,
                                 (
-                                  bit_below i.host_write, omega arith,
+                                  bit_below i.host_write,
+                                  omega arith,
                                   (f.host_map, omega arith, (f.host_index, omega arith, (f.host_word, omega arith, (f.host_data, omega arith, (omega arith, omega arith, (omega arith, omega arith, (omega arith, omega arith, tt))))))),
                                 ),
                               ),

@@ -64,6 +64,9 @@ well_formed l d laid parts h =
     let few = few_nets d (length l.words) (is_true _ h) in
     linked_is_well_formed Part d _ (outputs_of (length l.words)) (formed l d laid parts) (spelled l d laid parts) (numbers_are_names Part d few)
 
+not_err : (n : Design) → IsErr {T = Design} {E = LinkError} (Ok n) → ⊥
+not_err n e = cc
+
 -- ---- what was linked of these outputs, names and ports
 module _ (r : Result Design LinkError) (parts : List (Placed Part)) (words : ℕ) (names : List (List ℕ)) (ports : List Port) (outputs : List (OutputTree (Name Part))) (a : names ≡ port_names) (b : ports ≡ port_list) (c : outputs ≡ outputs_of words)
     (linked : IfOk r (λ n. (d : Whole Part) → Makes part_place parts d → netlist_of n ≡ link d (numbered_names d names) ports outputs)) where
@@ -87,4 +90,4 @@ module _ (r : Result Design LinkError) (parts : List (Placed Part)) (words : ℕ
       by (Ok n) e past is = λ l d w m laid are.
           let same : netlist_of n ≡ design l d (names_of d) = IfOk-at_ok (λ n. (l : Layout) (d : Whole Part) → length l.words ≡ words → Makes part_place parts d → netlist_of n ≡ design l d (names_of d)) (sym e) is l d w m in
           let o = outputs_are l w in
-          subst IsWellFormed (sym same) (well_formed l d laid are (λ no. subst IsErr (sym e) (past d m (λ t. no (subst (λ os. IsTrue (design_in_range d os)) o t)))))
+          subst IsWellFormed (sym same) (well_formed l d laid are (λ no. not_err n (subst IsErr (sym e) (past d m (λ t. no (subst (λ os. IsTrue (design_in_range d os)) o t))))))

@@ -117,13 +117,13 @@ module _ (l : Layout) (d : Whole Part) (i : Inputs) (s : State) (ss : Part → S
   place_fits k q a c =
       All-contains (IsFit v) (registers_from (Place k) (cells_of l) 0 (l.carried k)) a
       (All-from_recursion (IsFit v) (registers_from (Place k) (cells_of l) 0 (l.carried k)) (registers_fit v (Place k) (cells_of l) 0 (l.carried k) (λ n lt.
-        let f = register_fits k q n lt in
-        let e = register_is k q n lt in
-        let z : n ≡ 0 + n = omega arith in
-        subst (λ m. HasWidth v (name.Register (Place k) m) (width_at (cells_of l) (get_or (l.carried k) n 0))) z (record {
-          width = ap (λ (x : Word). x.width) e ∙ f.width;
-          small = subst (λ (x : Word). x.value < 2 ^ width_at (cells_of l) (get_or (l.carried k) n 0)) (sym e) (subst (λ w. (get_or (ss (Place k)).registers n nothing).value < 2 ^ w) f.width f.fits.small);
-        }))))
+      let f = register_fits k q n lt in
+      let e = register_is k q n lt in
+      let z : n ≡ 0 + n = omega arith in
+      subst (λ m. HasWidth v (name.Register (Place k) m) (width_at (cells_of l) (get_or (l.carried k) n 0))) z (record {
+        width = ap (λ (x : Word). x.width) e ∙ f.width;
+        small = subst (λ (x : Word). x.value < 2 ^ width_at (cells_of l) (get_or (l.carried k) n 0)) (sym e) (subst (λ w. (get_or (ss (Place k)).registers n nothing).value < 2 ^ w) f.width f.fits.small);
+      }))))
       c
 
   -- the number in a register of a place that holds a packet
@@ -246,13 +246,13 @@ module _ (l : Layout) (d : Whole Part) (i : Inputs) (s : State) (ss : Part → S
         let before : j ≤ last_of l = omega (arith, q) in
         (h.laid.taken j).value v (run laws (suc j) q y e).value_of
         (λ n lt.
-          let c = get_or (l.carried j) n 0 in
-          let by = h.laid.carried j n 0 lt in
-          let apart : l.build.plan.row c ≢ suc j = (λ z. let r = by.row in omega (arith, r, z)) in
-          register_number j before en.packet en.was n lt
-          ∙ sym (entered_keeps l.build s.tables (suc j) en.frame en.packet c apart)
-          ∙ ap (λ (z : Packet). held_value z.held c) (sym en.is)
-          ∙ held laws (suc j) q y e c (record { cell = by.cell; row = let r = by.row in omega (arith, r) }))
+        let c = get_or (l.carried j) n 0 in
+        let by = h.laid.carried j n 0 lt in
+        let apart : l.build.plan.row c ≢ suc j = (λ z. let r = by.row in omega (arith, r, z)) in
+        register_number j before en.packet en.was n lt
+        ∙ sym (entered_keeps l.build s.tables (suc j) en.frame en.packet c apart)
+        ∙ ap (λ (z : Packet). held_value z.held c) (sym en.is)
+        ∙ held laws (suc j) q y e c (record { cell = by.cell; row = let r = by.row in omega (arith, r) }))
         (constants_hold laws (suc j) q y e)
 
     pub place_step : (k : ℕ) → k ≤ last_of l → HoldsPacket l k (place_at (clock l.build (input_of i) s).places k) (done v (d.block (Place k)).statement (ss (Place k)))

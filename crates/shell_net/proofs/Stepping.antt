@@ -114,8 +114,8 @@ module _ (l : Layout) (d : Whole Part) (i : Inputs) (s : State) (ss : Part → S
   frames_then =
       let few : out ≤ length s.frames = (let e = leaves_inside s.places (last_of l) in let p = packets in omega (arith, e, p)) in
       let f = frames_hold l.kept l.shape.slots (ss Gather).memories (next Gather).memories (counts given s).answered out s.frames (came_in s (input_of i) (beat_over l.build s (input_of i))) few h.related.frames
-          (λ k a low high. gathers.stays k a (omega (arith, low)) high)
-          (came_holds l.kept l.shape.slots (next Gather).memories (counts given s).gathered s (input_of i) (beat_over l.build s (input_of i)) gathers.came)
+      (λ k a low high. gathers.stays k a (omega (arith, low)) high)
+      (came_holds l.kept l.shape.slots (next Gather).memories (counts given s).gathered s (input_of i) (beat_over l.build s (input_of i)) gathers.came)
       in
       subst (λ n. HoldsFrames l.kept l.shape.slots (next Gather).memories n t.frames) answered_is (subst (HoldsFrames l.kept l.shape.slots (next Gather).memories ((counts given s).answered + out)) (sym change.frames) f)
 

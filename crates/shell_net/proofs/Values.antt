@@ -56,9 +56,9 @@ module _ (b : Build) (laws : CellLaws) (planned : IsPlanned b) (no_reads : (k : 
         let f = planned.formed.each c l in
         let same : AllByRecursion (λ i. held_value h i ≡ w.value_of i) cell.ins =
         recursion_from_All (λ i. held_value h i ≡ w.value_of i) cell.ins (λ j d m.
-            let early = f.earlier j d m in
-            let up = laws.rise b.program.cells b.plan.row planned.rows c l j d m in
-            below n (get_or cell.ins j d) (omega (arith, early)) (omega (arith, early)) (omega (arith, up)))
+        let early = f.earlier j d m in
+        let up = laws.rise b.program.cells b.plan.row planned.rows c l j d m in
+        below n (get_or cell.ins j d) (omega (arith, early)) (omega (arith, early)) (omega (arith, up)))
         in
         k.each c l row (no_reads c l) ∙ ap (λ (xs : List ℕ). bits_from (number packet cell.op xs) cell.from cell.width) (map_alike (held_value h) w.value_of cell.ins same) ∙ sym (w.is c l)
 

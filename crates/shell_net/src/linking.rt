@@ -65,7 +65,9 @@ fn outputs(alloc: Global, words: u32) -> Result<Vec<Output<Name<Part>>>, AllocEr
     let host_value = fixed(HOST_VALUE, 64, 0);
     let host_ready = fixed(HOST_READY, 1, 1);
     let passed = shown(HOST_PASSED, register_name(Part::Control, Register::Passed));
-    let all = vec![in alloc; ready, valid, content, bytes, last, verdict, target, reload, host_value, host_ready, passed]?;
+    let all = vec![in alloc;
+        ready, valid, content, bytes, last, verdict, target, reload, host_value, host_ready, passed,
+    ]?;
     Ok(all)
 }
 
@@ -89,11 +91,7 @@ fn texts(alloc: Global, all: &[&str]) -> Result<Vec<String>, AllocError>
 /// The design that is linked of the parts of a pipeline, each at its place, where so many words of a frame may change. Its nets are
 /// numbered. Where the parts are blocks of their contracts, it is well formed, and [`crate::laws::pipelines_follow`] says what its
 /// clocks do.
-pub fn link_pipeline(
-    alloc: Global,
-    words: u32,
-    parts: &[Placed<Part>],
-) -> Result<Design, LinkError>
+pub fn link_pipeline(alloc: Global, words: u32, parts: &[Placed<Part>]) -> Result<Design, LinkError>
     requires few { words ≤ 255 }
     ensures netlist { IfOk result (λ n. (l : Layout) (d : Whole Part) → length l.words ≡ words → Makes part_place parts.now d → netlist_of n ≡ design l d (names_of d)) }
     ensures formed { IfOk result (λ n. (l : Layout) (d : Whole Part) → length l.words ≡ words → Makes part_place parts.now d → IsLaidOut l → AreParts l d → IsWellFormed (netlist_of n)) }
