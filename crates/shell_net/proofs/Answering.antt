@@ -1,5 +1,5 @@
 -- The exit and the answers that stand in their slots, in a clock.
-use Rattle.std.specs.Prelude.{◌≡◌, ◌≢◌, ℕ, zero, suc, ◌+◌, ◌-◌, ◌^◌, ◌<◌, ◌≤◌, Bool, true, false, All, Contains, Option, Some, None, is_some, List, [], ◌∷◌, ◌++◌, length, drop, map, replicate}
+use Rattle.std.specs.Prelude.{◌≡◌, ℕ, zero, suc, ◌+◌, ◌-◌, ◌^◌, ◌<◌, ◌≤◌, Bool, Contains, Option, Some, None, is_some, List, [], ◌∷◌, ◌++◌, length, drop, map, replicate}
 use Rattle.std.proofs.Common.{get_or, refl, sym, ap, ◌∙◌, subst, arith, inl, inr, length-append, length-drop}
 use Rattle.std.proofs.lemmas.Bool.{cases_lt}
 use Rattle.std.proofs.lemmas.List.{nil_from_length, length-map, get_or-map, get_or-drop, get_or_append_left, drop_all}
@@ -11,15 +11,14 @@ use Rattle.beat_core.specs.Laws.{IsFrame}
 use Rattle.beat_core.specs.Ports.{Arrival}
 use Rattle.net_core.specs.declared.tree.Word.{Word}
 use Rattle.net_core.specs.declared.ports.Inputs.{Inputs}
-use Rattle.net_core.specs.Value.{word, bit, nothing, Env}
+use Rattle.net_core.specs.Value.{bit, Env}
 use Rattle.net_core.specs.Clock.{Stored, done}
-use Rattle.xdp_machine.specs.State.{PacketIn}
 use Rattle.block_core.specs.declared.name.Name.{Name}
 use Rattle.block_core.specs.declared.name.Name.TheVariants as name
 use Rattle.block_core.specs.Blocks.{Whole}
-use Rattle.block_core.specs.Formed.{block_memory_width, block_memories}
+use Rattle.block_core.specs.Formed.{block_memory_width}
 use Rattle.cell_core.specs.declared.program.FrameByte.{FrameByte}
-use Rattle.cell_core.specs.Cells.{CellView, cell_at, bits_from, bit as bit_of}
+use Rattle.cell_core.specs.Cells.{cell_at, bits_from, bit as bit_of}
 use Rattle.cell_core.specs.Sites.{with_bytes}
 use Rattle.cell_nets.specs.declared.operand.Operand.{Operand}
 use Rattle.cell_nets.specs.declared.operand.Operand.TheVariants.{Known, Net}
@@ -32,11 +31,10 @@ use Rattle.ring_net.proofs.RingLaws.{slots_apart}
 use Rattle.frame_net.specs.declared.held.Kept.{Kept}
 use Rattle.frame_net.specs.Frames.{HoldsFrame}
 use Rattle.frame_net.specs.Answers.{answer_widths, word_widths, HoldsAnswer, Changes}
-use Rattle.row_net.specs.Table.{Stands, Holds, AreThere}
+use Rattle.row_net.specs.Table.{Stands, Holds}
 use Rattle.hazard_core.specs.Held.{held_value}
-use Rattle.pipe_core.specs.Machine.{Packet, State, place_at, inside, no_frame, packet_of, answer_of, answers_by}
+use Rattle.pipe_core.specs.Machine.{Packet, State, place_at, inside, no_frame, packet_of, answer_of}
 use Rattle.pipe_core.specs.Computed.{Computes}
-use Rattle.place_net.specs.declared.outputs.AnswerByte.{AnswerByte}
 use Rattle.place_net.specs.Place.{registers_from}
 use Rattle.place_net.specs.Exit.{byte_operand, output_operands, byte_numbers, IsAnswer, KeepsAnswers, SeesExit, HasLeft}
 use Rattle.shell_net.specs.declared.parts.Part.{Part}

@@ -1,44 +1,41 @@
 -- The clocks of a pipeline are those of the machine.
-use Rattle.std.specs.Prelude.{◌≡◌, ℕ, zero, suc, ◌+◌, ◌^◌, ◌<◌, ◌≤◌, false, Option, Some, None, is_some, List, [], ◌∷◌, length, map, replicate, Contains}
+use Rattle.std.specs.Prelude.{◌≡◌, ℕ, zero, suc, ◌+◌, ◌^◌, ◌<◌, false, Option, None, is_some, List, [], ◌∷◌, length, map, replicate}
 use Rattle.std.proofs.Common.{get_or, refl, sym, ap, ◌∙◌, subst, arith, inl, inr}
 use Rattle.std.proofs.lemmas.List.{get_or-map}
 use Rattle.xdp_maps.specs.State.{MapState}
 use Rattle.net_core.specs.declared.tree.Word.{Word}
 use Rattle.net_core.specs.declared.ports.Inputs.{Inputs}
-use Rattle.net_core.specs.Suits.{IsOfWidth}
 use Rattle.net_core.specs.Ports.{port_list, words_of}
-use Rattle.net_core.specs.Value.{word, nothing, Env}
-use Rattle.net_core.specs.Clock.{Stored, done, after, shown, stopping, first_stored}
+use Rattle.net_core.specs.Value.{Env}
+use Rattle.net_core.specs.Clock.{Stored, done, after, shown, first_stored}
 use Rattle.block_core.specs.declared.name.Name.{Name}
-use Rattle.block_core.specs.Blocks.{BlockTree, Whole, Among, first_of}
-use Rattle.block_core.specs.Parts.{IsSized, Goes, ClockOfParts, stored_of}
+use Rattle.block_core.specs.Blocks.{Whole, Among, first_of}
+use Rattle.block_core.specs.Parts.{Goes, ClockOfParts, stored_of}
 use Rattle.block_core.specs.Formed.{name_width, names_scope, IsThere}
 use Rattle.block_core.proofs.LinkedLaws.{linked, starts_as_parts}
-use Rattle.cell_nets.specs.declared.operand.Operand.{Operand}
 use Rattle.cell_nets.specs.declared.operand.Operand.TheVariants.{Known, Net}
-use Rattle.cell_nets.specs.Operands.{HasWidth, AreFit}
-use Rattle.ring_net.specs.declared.shape.ControlShape.{ControlShape}
+use Rattle.cell_nets.specs.Operands.{AreFit}
 use Rattle.ring_net.specs.Control.{first_state, IsSound, StartsSound, StaysSound}
 use Rattle.ring_net.specs.Block.{code}
 use Rattle.frame_net.specs.declared.held.Kept.{Kept}
 use Rattle.frame_net.specs.declared.held.Kept.TheVariants.{Ifindex, Time, Word as FrameWord}
 use Rattle.frame_net.specs.Gather.{kept_width}
-use Rattle.pipe_core.specs.Machine.{Packet, State, Output, Build, place_at, inside, new_state, clock, output}
-use Rattle.pipe_core.specs.History.{Trace, next, run, begin, IsInOrder, KeepsOrder, IsAlwaysInOrder}
+use Rattle.pipe_core.specs.Machine.{Packet, State, Output, place_at, inside, new_state, clock, output}
+use Rattle.pipe_core.specs.History.{Trace, next, begin, IsInOrder, KeepsOrder, IsAlwaysInOrder}
 use Rattle.pipe_core.specs.Computed.{IsComputed, KeepsComputed, IsAlwaysComputed}
 use Rattle.shell_net.specs.declared.parts.Part.{Part}
 use Rattle.shell_net.specs.declared.parts.Part.TheVariants.{Scatter, Control, Gather, Sources, Exit, Place}
 use Rattle.shell_net.specs.Parts.{outputs_of}
 use Rattle.shell_net.specs.Machine.{input_of, MayCome, Shows}
 use Rattle.shell_net.specs.Layout.{Layout, last_of, outside, IsLaidOut, AreParts}
-use Rattle.shell_net.specs.Relation.{IsStored, counts, Relates}
+use Rattle.shell_net.specs.Relation.{counts, Relates}
 use Rattle.shell_net.specs.Following.{design, Follows, FollowsAll, PipelinesFollow, PipelinesAreFormed}
 use Rattle.shell_net.proofs.Cases.{none_some}
 use Rattle.shell_net.proofs.Values.{CellLaws}
-use Rattle.shell_net.proofs.Seeing.{IsSeen, has_place}
+use Rattle.shell_net.proofs.Seeing.{IsSeen}
 use Rattle.shell_net.proofs.Placing.{place_fits}
 use Rattle.shell_net.proofs.Stepping.{related_then, shows_then}
-use Rattle.shell_net.proofs.Forming.{IsKeptOf, from_sources, declared_outside, outside_there, last_place, typed, statements, ordered, linkable, formed, spelled}
+use Rattle.shell_net.proofs.Forming.{from_sources, declared_outside, outside_there, last_place, typed, statements, ordered, linkable, formed, spelled}
 use Rattle.shell_net.proofs.Fitting.{AreOfWidths, all_fit, stored_stays, first_stored as first_fits}
 use Rattle.shell_net.proofs.Inputs.{inputs_fit}
 

@@ -15,7 +15,7 @@ use Rattle.pipe_core.specs.Machine.{Packet, State, Input, Build, place_at, insid
 use Rattle.pipe_core.specs.History.{came_in}
 use Rattle.ring_net.specs.declared.shape.ControlShape.{ControlShape}
 use Rattle.ring_net.specs.Control as ring
-use Rattle.ring_net.specs.Control.{Signals, counted, step}
+use Rattle.ring_net.specs.Control.{counted, step}
 use Rattle.shell_net.specs.Machine.{beat_in, input_of}
 use Rattle.shell_net.specs.Relation.{counts, signals}
 use Rattle.shell_net.proofs.Moving.{ends_with, part_after, Clocked}

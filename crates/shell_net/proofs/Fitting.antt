@@ -1,5 +1,5 @@
 -- In a well typed design of parts what is stored keeps its widths, and each net has a word of its width, whatever these are.
-use Rattle.std.specs.Prelude.{◌≡◌, ◌≢◌, ℕ, zero, suc, ◌+◌, ◌/◌, ◌%◌, ◌^◌, ◌<◌, ◌≤◌, ◌==◌, nat_lt, nat_le, ◌&&◌, if◌then◌else◌, Bool, true, false, IsTrue, List, [], ◌∷◌, ◌++◌, length, map, slice_set}
+use Rattle.std.specs.Prelude.{◌≡◌, ℕ, zero, suc, ◌+◌, ◌/◌, ◌%◌, ◌^◌, ◌<◌, ◌≤◌, ◌==◌, nat_lt, nat_le, ◌&&◌, if◌then◌else◌, Bool, true, false, List, [], ◌∷◌, ◌++◌, length, map, slice_set}
 use Rattle.std.proofs.Common.{get_or, refl, sym, ap, ◌∙◌, subst, arith, inl, inr, append_assoc, length-append, length-set, get_or-set_same, get_or-set_other}
 use Rattle.std.proofs.Math.Nat.{mod-le, div-le_self}
 use Rattle.std.proofs.lemmas.Bool.{eqb-true, ltb-true, leb-true, and_parts, and_from, cases_eq}
@@ -22,7 +22,6 @@ use Rattle.block_core.specs.Blocks.{BlockTree, BlockWireTree, wires_of, first_me
 use Rattle.block_core.specs.Parts.{Solve, Sees}
 use Rattle.block_core.specs.Order.{Reads, AllRead, RightReads, IsBefore, InOrder, AllInOrder}
 use Rattle.block_core.specs.Formed.{word_width, block_memory_width, block_wire_width, block_registers, block_memories, block_wires, name_width, name_memory, names_scope, words_fit, memories_fit, block_wires_typed, StatementReads, StatementsRead, IsThere, IsTypedBlock}
-use Rattle.frame_net.specs.Frames.{word_at}
 use Rattle.shell_net.specs.Relation.{IsMemory, IsStored}
 
 -- ---- the value of a tree has its width where the nets that it reads have theirs

@@ -1,5 +1,5 @@
 -- The design of a pipeline is in order and well typed, part by part.
-use Rattle.std.specs.Prelude.{◌≡◌, ◌≢◌, ℕ, zero, suc, ◌+◌, ◌*◌, ◌<◌, ◌≤◌, ◌==◌, ◌&&◌, true, Contains, IsTrue, List, [], ◌∷◌, length, map, replicate}
+use Rattle.std.specs.Prelude.{◌≡◌, ℕ, zero, suc, ◌+◌, ◌*◌, ◌<◌, ◌≤◌, Contains, IsTrue, List, [], ◌∷◌, length, map, replicate}
 use Rattle.std.proofs.Common.{get_or, refl, sym, ap, ◌∙◌, subst, arith, inl, inr, ◌⊎◌}
 use Rattle.std.specs.List.{AllByRecursion, list_all}
 use Rattle.std.proofs.lemmas.List.{length-map, get_or-map, length-replicate}
@@ -9,17 +9,17 @@ use Rattle.net_core.specs.Ports.{port_list}
 use Rattle.design_rules.specs.FormedSyntax.{statement_spelled}
 use Rattle.block_core.specs.declared.name.Name.{Name}
 use Rattle.block_core.specs.declared.name.Name.TheVariants as name
-use Rattle.block_core.specs.Blocks.{BlockTree, registers_of, memories_of, wires_of, Whole, PlacedFrom, IsPlaced, Among}
+use Rattle.block_core.specs.Blocks.{registers_of, memories_of, wires_of, Whole, PlacedFrom, IsPlaced, Among}
 use Rattle.block_core.specs.Parts.{Within}
 use Rattle.block_core.specs.Order.{IsBefore, InOrder, AllInOrder}
-use Rattle.block_core.specs.Formed.{block_wire_width, name_width, names_scope, block_registers, block_wires, IsTypedBlock, StatementReads, OutputsRead, IsThere, outputs_typed, IsFormed}
+use Rattle.block_core.specs.Formed.{block_wire_width, name_width, names_scope, block_registers, block_wires, IsTypedBlock, StatementReads, IsThere, outputs_typed, IsFormed}
 use Rattle.block_core.specs.Law.{IsLinkable}
 use Rattle.block_forms.specs.WellFormed.{wire_spelled, IsSpelled}
 use Rattle.cell_core.specs.Rows.{numbers}
 use Rattle.cell_core.specs.Cells.{CellView}
 use Rattle.cell_nets.specs.declared.operand.Operand.{Operand}
 use Rattle.cell_nets.specs.declared.operand.Operand.TheVariants.{Known, Net}
-use Rattle.cell_nets.specs.Operands.{IsDeclared, AreDeclared, IsNetOf, IsAvailable}
+use Rattle.cell_nets.specs.Operands.{AreDeclared, IsNetOf, IsAvailable}
 use Rattle.ring_net.specs.declared.names.Counter.{Counter}
 use Rattle.ring_net.specs.declared.names.Counter.TheVariants.{Given, Answered, Injected, Gathered}
 use Rattle.ring_net.specs.declared.names.Wire.{Wire}
@@ -28,7 +28,7 @@ use Rattle.ring_net.proofs.OrderLaws.{in_order, all_there}
 use Rattle.frame_net.specs.declared.held.Kept.{Kept}
 use Rattle.frame_net.specs.Gather.{kept_width}
 use Rattle.frame_net.specs.Sources.{length_name, kept_name}
-use Rattle.scatter_net.specs.Scatter.{last_name, bytes_name, verdict_name, target_name, data_name}
+use Rattle.scatter_net.specs.Scatter.{last_name, data_name}
 use Rattle.row_net.specs.Table.{Stands}
 use Rattle.place_net.specs.Place.{registers_from, width_at}
 use Rattle.place_net.specs.Sources.{kept_operands}

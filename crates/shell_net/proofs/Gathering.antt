@@ -1,8 +1,7 @@
 -- The gatherer and the frames that it holds, in a clock.
-use Rattle.std.specs.Prelude.{◌≡◌, ◌≢◌, ℕ, zero, suc, ◌+◌, ◌-◌, ◌^◌, ◌<◌, ◌≤◌, nat_lt, if◌then◌else◌, Bool, true, false, ◌&&◌, ◌||◌, Option, Some, None, is_some, List, [], ◌∷◌, ◌++◌, length, drop}
+use Rattle.std.specs.Prelude.{◌≡◌, ◌≢◌, ℕ, zero, suc, ◌+◌, ◌-◌, ◌<◌, ◌≤◌, nat_lt, if◌then◌else◌, Bool, true, false, ◌||◌, Option, Some, None, is_some, List, [], ◌∷◌, ◌++◌, length, drop}
 use Rattle.std.proofs.Common.{get_or, refl, sym, ap, ◌∙◌, subst, arith, inl, inr, length-append, length-drop}
 use Rattle.std.proofs.lemmas.Bool.{cases_lt, ltb-true}
-use Rattle.std.proofs.lemmas.Bool.Decides.{nat_tests}
 use Rattle.std.proofs.lemmas.List.{get_or_append_left, get_or-drop}
 use Rattle.std.proofs.Math.Seq.{get_or-append_right}
 use Rattle.beat_core.specs.declared.beat.Beat.{Beat}
@@ -11,12 +10,12 @@ use Rattle.beat_core.specs.Ports.{Arrival, Offered, offered}
 use Rattle.net_core.specs.declared.tree.Word.{Word}
 use Rattle.net_core.specs.declared.ports.Inputs.{Inputs}
 use Rattle.net_core.specs.declared.ports.TheConstants.{IN_DATA, IN_BYTES, IN_LAST, IN_IFINDEX, IN_TIME}
-use Rattle.net_core.specs.Value.{word, bit, nothing, Env}
+use Rattle.net_core.specs.Value.{bit, Env}
 use Rattle.net_core.specs.Clock.{Stored, done}
 use Rattle.block_core.specs.declared.name.Name.{Name}
 use Rattle.block_core.specs.declared.name.Name.TheVariants as name
 use Rattle.block_core.specs.Blocks.{Whole}
-use Rattle.pipe_core.specs.Machine.{State, Input, place_at, is_ready, beat_over, came_with, no_frame, clock}
+use Rattle.pipe_core.specs.Machine.{State, Input, is_ready, beat_over, came_with, no_frame}
 use Rattle.pipe_core.specs.History.{came_in}
 use Rattle.ring_net.specs.Ring.{slot}
 use Rattle.ring_net.specs.Block.{Shows}
@@ -31,11 +30,11 @@ use Rattle.shell_net.specs.declared.parts.Part.{Part}
 use Rattle.shell_net.specs.declared.parts.Part.TheVariants.{Scatter, Control, Gather}
 use Rattle.shell_net.specs.Parts.{told_by, next_slot}
 use Rattle.shell_net.specs.Machine.{beat_in, input_of}
-use Rattle.shell_net.specs.Layout.{Layout, last_of}
+use Rattle.shell_net.specs.Layout.{Layout}
 use Rattle.shell_net.specs.Relation.{counts, signals, HoldsFrames}
 use Rattle.shell_net.proofs.Cases.{same_some, none_some}
-use Rattle.shell_net.proofs.Moving.{ends_with, part_after, Clocked, clocked}
-use Rattle.shell_net.proofs.Counting.{IsShape, over_is}
+use Rattle.shell_net.proofs.Moving.{ends_with, part_after}
+use Rattle.shell_net.proofs.Counting.{over_is}
 use Rattle.shell_net.proofs.Seeing.{IsSeen, has_gather, control_shows, slot_fits, shape_of}
 
 -- What a clock makes of what the gatherer stores: behind it stands what has come of a frame, in this slot, and each frame that stood in a slot of the

@@ -1,11 +1,10 @@
 -- What stands at the ports has their widths.
-use Rattle.std.specs.Prelude.{◌≡◌, ℕ, zero, suc, ◌+◌, ◌^◌, ◌<◌, ◌≤◌, Bool, true, false, List, [], ◌∷◌, length}
-use Rattle.std.proofs.Common.{get_or, refl, sym, arith}
-use Rattle.net_core.specs.declared.tree.Word.{Word}
+use Rattle.std.specs.Prelude.{◌≡◌, ℕ, zero, suc, ◌^◌, ◌<◌, ◌≤◌, Bool, true, false, List, [], ◌∷◌}
+use Rattle.std.proofs.Common.{get_or, refl, arith}
 use Rattle.net_core.specs.declared.design.Port.{Port}
 use Rattle.net_core.specs.declared.ports.Inputs.{Inputs}
 use Rattle.net_core.specs.Suits.{IsOfWidth}
-use Rattle.net_core.specs.Value.{word, nothing, number_of}
+use Rattle.net_core.specs.Value.{nothing, number_of}
 use Rattle.net_core.specs.Width.{port_width}
 use Rattle.net_core.specs.Ports.{port_list, input_width, numbers_of, words_by, words_of}
 use Rattle.net_core.specs.History.{IsInput}

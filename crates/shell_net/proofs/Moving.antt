@@ -1,11 +1,11 @@
 -- What a clock of the machine makes of each part of its state, where no operation is on maps and the host is silent.
-use Rattle.std.specs.Prelude.{◌≡◌, ℕ, suc, ◌+◌, ◌%◌, ◌^◌, ◌<◌, ◌≤◌, nat_le, nat_lt, if◌then◌else◌, Bool, true, false, ◌&&◌, ◌||◌, Option, Some, None, is_some, List, [], ◌∷◌, ◌++◌, length, drop}
-use Rattle.std.proofs.Common.{get_or, not, refl, sym, ap, ◌∙◌, arith}
+use Rattle.std.specs.Prelude.{◌≡◌, ℕ, suc, ◌+◌, ◌%◌, ◌^◌, nat_le, if◌then◌else◌, Bool, true, false, ◌&&◌, ◌||◌, Option, Some, None, is_some, List, [], ◌∷◌, ◌++◌, drop}
+use Rattle.std.proofs.Common.{refl, sym, ap}
 use Rattle.std.proofs.lemmas.List.{append-nil}
 use Rattle.beat_core.specs.declared.beat.Beat.{Beat}
 use Rattle.beat_core.specs.Ports.{Arrival}
 use Rattle.cell_core.specs.Cells.{bit}
-use Rattle.pipe_core.specs.Machine.{Packet, State, Input, Build, Moves, place_at, inside, is_due, sends, some_send, swept, moved, newcomer, answers_by, commits_or_moves, worked, work, came_with, beat_over, gathered, taken_beat, scattered, clock}
+use Rattle.pipe_core.specs.Machine.{Packet, State, Input, Build, Moves, place_at, is_due, some_send, swept, moved, newcomer, answers_by, commits_or_moves, worked, work, came_with, beat_over, gathered, taken_beat, scattered, clock}
 use Rattle.pipe_core.specs.History.{came_in}
 
 -- ---- nothing is sent back, and each clock moves

@@ -1,5 +1,5 @@
 -- A design that could be linked has few enough nets for names of their own.
-use Rattle.std.specs.Prelude.{◌≡◌, ℕ, ◌+◌, ◌^◌, ◌<◌, nat_lt, ◌&&◌, Bool, true, false, IsTrue, Result, Ok, Err, IfOk, IsErr, List, [], ◌∷◌, ◌++◌, length, map}
+use Rattle.std.specs.Prelude.{◌≡◌, ℕ, ◌^◌, ◌&&◌, Bool, true, false, IsTrue, Result, Ok, Err, IfOk, IsErr, List, [], ◌∷◌, length}
 use Rattle.std.specs.List.{sum_by}
 use Rattle.std.proofs.Common.{refl, sym, ap, ◌∙◌, subst, arith, length-append}
 use Rattle.std.proofs.lemmas.Bool.{ltb-true, and_parts}
@@ -8,7 +8,6 @@ use Rattle.std.proofs.lemmas.List.Sums.{sum_by-cons}
 use Rattle.std.proofs.lemmas.Result.{IfOk-weaker, IfOk-at_ok}
 use Rattle.net_core.specs.declared.design.Design.{Design}
 use Rattle.net_core.specs.declared.design.Port.{Port}
-use Rattle.net_core.specs.Nets.{WireTree}
 use Rattle.net_core.specs.View.{netlist_of}
 use Rattle.net_core.specs.Ports.{port_list, port_names}
 use Rattle.design_rules.specs.Formed.{IsWellFormed}
@@ -16,8 +15,8 @@ use Rattle.block_core.specs.declared.name.Name.{Name}
 use Rattle.block_core.specs.declared.block.Placed.{Placed}
 use Rattle.block_core.specs.declared.error.LinkError.{LinkError}
 use Rattle.block_core.specs.View.{Makes}
-use Rattle.block_core.specs.Blocks.{BlockTree, OutputTree, registers_of, memories_of, wires_of, Whole, gather}
-use Rattle.block_core.specs.Link.{resolve, link_wire, link_wires, all_registers, all_memories, all_wires, numbered_names, link}
+use Rattle.block_core.specs.Blocks.{OutputTree, registers_of, memories_of, wires_of, Whole, gather}
+use Rattle.block_core.specs.Link.{resolve, link_wire, link_wires, numbered_names, link}
 use Rattle.block_core.specs.Range.{in_range, total, design_in_range}
 use Rattle.block_forms.specs.WellFormed.{HasFewNets}
 use Rattle.block_forms.proofs.WellFormedLaws.{linked_is_well_formed}

@@ -1,10 +1,10 @@
 -- A place in a clock: its registers take the cells of the packet that enters it.
-use Rattle.std.specs.Prelude.{◌≡◌, ◌≢◌, ℕ, zero, suc, ◌+◌, ◌^◌, ◌<◌, ◌≤◌, nat_lt, not, ◌&&◌, if◌then◌else◌, Bool, true, false, All, Contains, Option, Some, None, is_some, List, [], ◌∷◌, ◌++◌, length, drop, map}
-use Rattle.std.proofs.Common.{get_or, refl, sym, ap, ◌∙◌, subst, arith, inl, inr}
+use Rattle.std.specs.Prelude.{◌≡◌, ◌≢◌, ℕ, zero, suc, ◌+◌, ◌^◌, ◌<◌, ◌≤◌, nat_lt, if◌then◌else◌, Bool, true, false, Option, Some, None, is_some, List, [], ◌∷◌, length, drop}
+use Rattle.std.proofs.Common.{get_or, refl, sym, ap, ◌∙◌, subst, arith}
 use Rattle.std.specs.List.{AllByRecursion}
 use Rattle.std.proofs.lemmas.Bool.{ltb-true}
 use Rattle.std.proofs.lemmas.List.{nil_from_length, length-map, get_or-map, length-drop, get_or-drop, get_or_append_left}
-use Rattle.std.proofs.lemmas.List.Elements.{All-get_or, All-from_get_or, All-contains, All-from_recursion, recursion_from_All}
+use Rattle.std.proofs.lemmas.List.Elements.{All-contains, All-from_recursion, recursion_from_All}
 use Rattle.beat_core.specs.Ports.{Arrival}
 use Rattle.net_core.specs.declared.tree.Word.{Word}
 use Rattle.net_core.specs.declared.ports.Inputs.{Inputs}
@@ -18,8 +18,7 @@ use Rattle.block_core.specs.Blocks.{Whole}
 use Rattle.block_core.specs.Formed.{block_memory_width, block_registers}
 use Rattle.cell_core.specs.Cells.{CellView, cell_at, value, bit}
 use Rattle.cell_nets.specs.declared.operand.Operand.{Operand}
-use Rattle.cell_nets.specs.declared.operand.Operand.TheVariants.{Net}
-use Rattle.cell_nets.specs.Operands.{number_in, HasWidth, IsFit, AreFit}
+use Rattle.cell_nets.specs.Operands.{HasWidth, IsFit, AreFit}
 use Rattle.ring_net.specs.declared.names.Counter.TheVariants.{Injected}
 use Rattle.ring_net.specs.Control.{Signals}
 use Rattle.ring_net.specs.Ring.{slot}
@@ -28,19 +27,19 @@ use Rattle.frame_net.specs.Frames.{HoldsFrame}
 use Rattle.frame_net.specs.Sources.{SeesHeld, ShowsFrame}
 use Rattle.row_net.specs.Table.{Stands, Holds}
 use Rattle.row_net.specs.Made.{AreValues}
-use Rattle.hazard_core.specs.Held.{Held, held_value}
+use Rattle.hazard_core.specs.Held.{held_value}
 use Rattle.pipe_core.specs.Machine.{Packet, State, place_at, inside, no_frame, packet_of, enters, entered, moved, newcomer, injected, clock, beat_over}
 use Rattle.pipe_core.specs.History.{came_in}
 use Rattle.pipe_core.specs.Computed.{Computes}
-use Rattle.place_net.specs.Place.{IsPlace, HasRegisters, HasSize, registers_from, width_at, widths_of, word_in, words_of}
+use Rattle.place_net.specs.Place.{IsPlace, HasRegisters, registers_from, width_at, word_in, words_of}
 use Rattle.shell_net.specs.declared.parts.Part.{Part}
 use Rattle.shell_net.specs.declared.parts.Part.TheVariants.{Control, Gather, Sources, Place}
 use Rattle.shell_net.specs.Machine.{input_of}
-use Rattle.shell_net.specs.Layout.{Table, Layout, cells_of, last_of, outside, IsBy, IsLaidOut, AreParts}
+use Rattle.shell_net.specs.Layout.{Table, Layout, cells_of, last_of, outside, IsBy}
 use Rattle.shell_net.specs.Parts.{next_slot}
 use Rattle.shell_net.specs.Relation.{counts, HoldsPacket}
 use Rattle.shell_net.proofs.Cases.{same_some, none_some}
-use Rattle.shell_net.proofs.Moving.{Clocked, clocked}
+use Rattle.shell_net.proofs.Moving.{clocked}
 use Rattle.shell_net.proofs.Counting.{moved_inside}
 use Rattle.shell_net.proofs.Seeing.{IsSeen, has_gather, has_sources, has_place, slot_fits}
 use Rattle.shell_net.proofs.Values.{CellLaws, HasValues, values_of, held_is, entered_keeps, computes_at, moved_at}

@@ -1,6 +1,6 @@
 -- The part that shows answers, in a clock.
-use Rattle.std.specs.Prelude.{◌≡◌, ℕ, zero, suc, ◌+◌, ◌*◌, ◌/◌, ◌<◌, ◌≤◌, nat_le, if◌then◌else◌, Bool, true, false, ◌&&◌, Option, Some, None, is_some, List, [], ◌∷◌, ◌++◌, length, drop}
-use Rattle.std.proofs.Common.{get_or, refl, sym, ap, ◌∙◌, subst, arith, length-drop, length-append}
+use Rattle.std.specs.Prelude.{◌≡◌, ℕ, suc, ◌+◌, ◌*◌, ◌<◌, nat_le, if◌then◌else◌, Bool, true, false, ◌&&◌, Option, Some, None, is_some, List, [], ◌∷◌, ◌++◌, length, drop}
+use Rattle.std.proofs.Common.{get_or, refl, sym, ap, ◌∙◌, subst, arith, length-drop}
 use Rattle.std.proofs.lemmas.Bool.Decides.{nat_tests}
 use Rattle.std.proofs.lemmas.List.{nil_from_length, length-map}
 use Rattle.beat_core.specs.declared.beat.Beat.{Beat}
@@ -9,7 +9,7 @@ use Rattle.beat_core.specs.declared.frame.TheConstants.{BEAT_LIMIT}
 use Rattle.beat_core.specs.Beats.{beat_count, first_beat}
 use Rattle.net_core.specs.declared.tree.Word.{Word}
 use Rattle.net_core.specs.declared.ports.Inputs.{Inputs}
-use Rattle.net_core.specs.Value.{word, bit, nothing, number_of, Env}
+use Rattle.net_core.specs.Value.{word, bit, nothing, Env}
 use Rattle.net_core.specs.Clock.{Stored, done}
 use Rattle.block_core.specs.declared.name.Name.{Name}
 use Rattle.block_core.specs.declared.name.Name.TheVariants as name
@@ -21,14 +21,12 @@ use Rattle.ring_net.specs.declared.names.Wire.TheVariants as wire
 use Rattle.ring_net.specs.Control.{Signals}
 use Rattle.ring_net.specs.Ring.{slot}
 use Rattle.ring_net.specs.Block.{Shows}
-use Rattle.frame_net.specs.Sources.{SeesHeld}
-use Rattle.frame_net.specs.Answers.{answer_widths}
 use Rattle.scatter_net.specs.Scatter.{last_name, at_position, position_after, SeesAnswer, ShowsBeat}
 use Rattle.pipe_core.specs.Machine.{State, beat_at, shown_beat, taken_beat}
 use Rattle.place_net.specs.Exit.{byte_numbers}
 use Rattle.shell_net.specs.declared.parts.Part.{Part}
 use Rattle.shell_net.specs.declared.parts.Part.TheVariants.{Scatter, Control, Gather, Exit}
-use Rattle.shell_net.specs.Parts.{told_by, next_slot}
+use Rattle.shell_net.specs.Parts.{next_slot}
 use Rattle.shell_net.specs.Machine.{input_of}
 use Rattle.shell_net.specs.Layout.{Layout}
 use Rattle.shell_net.specs.Relation.{counts, signals, HoldsAnswered, no_answer, IsAt}

@@ -1,19 +1,18 @@
 -- What the parts see in a clock of a pipeline that stores what a state of the machine says.
-use Rattle.std.specs.Prelude.{◌≡◌, ℕ, zero, suc, ◌+◌, ◌^◌, ◌<◌, ◌≤◌, nat_lt, Bool, is_some, List, [], ◌∷◌, length, map}
+use Rattle.std.specs.Prelude.{◌≡◌, ℕ, zero, suc, ◌+◌, ◌^◌, ◌<◌, ◌≤◌, Bool, is_some, length, map}
 use Rattle.std.proofs.Common.{get_or, refl, sym, ap, ◌∙◌, subst, arith, inl, inr}
 use Rattle.std.proofs.lemmas.Bool.{cases_eq}
-use Rattle.net_core.specs.declared.tree.Word.{Word}
 use Rattle.net_core.specs.declared.ports.Inputs.{Inputs}
 use Rattle.net_core.specs.declared.ports.TheConstants.{IN_VALID, IN_LAST, OUT_READY}
 use Rattle.net_core.specs.Ports.{words_of}
-use Rattle.net_core.specs.Value.{word, bit, nothing, Env}
+use Rattle.net_core.specs.Value.{bit, nothing, Env}
 use Rattle.net_core.specs.Clock.{Stored, done}
 use Rattle.block_core.specs.declared.name.Name.{Name}
 use Rattle.block_core.specs.declared.name.Name.TheVariants as name
 use Rattle.block_core.specs.Blocks.{Whole, Among, registers_of}
 use Rattle.block_core.specs.Parts.{Sees}
 use Rattle.cell_core.specs.Rows.{numbers}
-use Rattle.pipe_core.specs.Machine.{State, beat_over, shown_beat, clock, place_at, inside}
+use Rattle.pipe_core.specs.Machine.{State, clock}
 use Rattle.pipe_core.specs.Computed.{PlacesCompute}
 use Rattle.ring_net.specs.Block.{stored_words, code, Shows, Sees as SeesControl}
 use Rattle.ring_net.specs.Control.{step}

@@ -1,10 +1,9 @@
 -- A clock of the parts leads from what they store for a state to what they store for the next, and shows what the machine does.
-use Rattle.std.specs.Prelude.{◌≡◌, ℕ, zero, suc, ◌+◌, ◌-◌, ◌<◌, ◌≤◌, nat_lt, Bool, true, false, not, ◌&&◌, ◌||◌, Option, Some, None, is_some, List, [], ◌∷◌, ◌++◌, length, drop}
+use Rattle.std.specs.Prelude.{◌≡◌, ℕ, zero, suc, ◌+◌, ◌-◌, ◌≤◌, nat_lt, Bool, true, false, not, ◌&&◌, ◌||◌, Option, Some, None, is_some, List, [], ◌∷◌, ◌++◌, length}
 use Rattle.std.proofs.Common.{get_or, refl, sym, ap, ◌∙◌, subst, arith}
 use Rattle.std.proofs.lemmas.Bool.Decides.{nat_tests}
 use Rattle.beat_core.specs.declared.beat.Beat.{Beat}
 use Rattle.beat_core.specs.declared.answer.Answer.{Answer}
-use Rattle.beat_core.specs.Ports.{Arrival}
 use Rattle.net_core.specs.declared.tree.Word.{Word}
 use Rattle.net_core.specs.declared.ports.Inputs.{Inputs}
 use Rattle.net_core.specs.Value.{word, bit, Env}
@@ -15,20 +14,20 @@ use Rattle.block_core.specs.Parts.{shown_by}
 use Rattle.cell_core.specs.Cells.{bit as bit_of}
 use Rattle.cell_nets.specs.Operands.{AreFit}
 use Rattle.ring_net.specs.declared.names.Wire.TheVariants as wire
-use Rattle.ring_net.specs.Control.{Signals, counted, step, partial_after, IsSound, StaysSound}
+use Rattle.ring_net.specs.Control.{counted, step, partial_after, IsSound, StaysSound}
 use Rattle.ring_net.specs.Ring.{slot}
 use Rattle.ring_net.specs.Block.{code, Shows as ShowsControl}
-use Rattle.frame_net.specs.Frames.{HoldsFrame, Gathers}
+use Rattle.frame_net.specs.Frames.{Gathers}
 use Rattle.scatter_net.specs.Scatter.{last_name}
-use Rattle.pipe_core.specs.Machine.{Packet, State, Output, place_at, inside, no_frame, swept, answers_by, first_answer, host_ready, is_calm, beat_over, shown_beat, taken_beat, clock, output}
+use Rattle.pipe_core.specs.Machine.{Packet, State, place_at, inside, answers_by, first_answer, host_ready, is_calm, beat_over, shown_beat, taken_beat, clock, output}
 use Rattle.pipe_core.specs.History.{came_in}
 use Rattle.place_net.specs.Exit.{byte_numbers}
 use Rattle.shell_net.specs.declared.parts.Part.{Part}
-use Rattle.shell_net.specs.declared.parts.Part.TheVariants.{Scatter, Control, Gather, Exit, Place}
+use Rattle.shell_net.specs.declared.parts.Part.TheVariants.{Scatter, Control, Gather, Exit}
 use Rattle.shell_net.specs.Parts.{outputs_of}
 use Rattle.shell_net.specs.Machine.{input_of, Shows, ShowsBeat}
 use Rattle.shell_net.specs.Layout.{Layout, last_of, outside}
-use Rattle.shell_net.specs.Relation.{IsStored, counts, signals, HoldsFrames, HoldsAnswered, HoldsAnswers, no_answer, IsAt, Relates}
+use Rattle.shell_net.specs.Relation.{IsStored, counts, signals, HoldsFrames, HoldsAnswers, no_answer, IsAt, Relates}
 use Rattle.shell_net.proofs.Moving.{none_swept, ends_with, Clocked, clocked}
 use Rattle.shell_net.proofs.Counting.{counted_is, leaves_inside, ready_is, ends_is, exits_is, shown_is, given_then, given_then_is, answered_then, gathered_then, counts_step, partial_step}
 use Rattle.shell_net.proofs.Seeing.{IsSeen, shape_of, control_shows, control_clock}

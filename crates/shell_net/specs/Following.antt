@@ -5,12 +5,12 @@ use Rattle.net_core.specs.declared.ports.Inputs.{Inputs}
 use Rattle.net_core.specs.Ports.{port_list, port_names, words_of}
 use Rattle.net_core.specs.Nets.{Netlist}
 use Rattle.net_core.specs.Clock.{Stored, after, shown, stopping, first_stored}
-use Rattle.block_core.specs.Blocks.{Whole, first_of}
+use Rattle.block_core.specs.Blocks.{Whole}
 use Rattle.block_core.specs.Link.{numbered_names, link}
 use Rattle.block_core.specs.Parts.{stored_of}
 use Rattle.block_core.specs.Formed.{IsFormed}
 use Rattle.block_forms.specs.WellFormed.{IsSpelled}
-use Rattle.pipe_core.specs.Machine.{State, Build, new_state, clock, output}
+use Rattle.pipe_core.specs.Machine.{State, new_state, clock, output}
 use Rattle.shell_net.specs.declared.parts.Part.{Part}
 use Rattle.shell_net.specs.Parts.{outputs_of}
 use Rattle.shell_net.specs.Machine.{input_of, MayCome, Shows}

@@ -8,7 +8,6 @@ use Rattle.block_core.specs.Blocks.{BlockWireTree, Whole}
 use Rattle.block_core.specs.Parts.{Solve}
 use Rattle.cell_core.specs.declared.program.FrameByte.{FrameByte}
 use Rattle.cell_core.specs.Cells.{CellView, cell_at, is_read, value}
-use Rattle.cell_core.specs.Sites.{ProgramView}
 use Rattle.cell_nets.specs.declared.operand.Operand.{Operand}
 use Rattle.cell_nets.specs.Operands.{AreFit}
 use Rattle.pipe_core.specs.Machine.{Build}

@@ -8,11 +8,9 @@ use Rattle.block_core.specs.declared.name.Name.TheVariants as name
 use Rattle.block_core.specs.Blocks.{OutputTree}
 use Rattle.cell_core.specs.Rows.{numbers}
 use Rattle.ring_net.specs.declared.names.Counter.{Counter}
-use Rattle.ring_net.specs.declared.names.Counter.TheVariants.{Given, Answered, Injected, Gathered}
 use Rattle.ring_net.specs.declared.names.Register.TheVariants as register
 use Rattle.ring_net.specs.declared.names.Wire.{Wire}
 use Rattle.ring_net.specs.declared.names.Wire.TheVariants as wire
-use Rattle.ring_net.specs.declared.names.ControlNets.{ControlNets}
 use Rattle.ring_net.specs.Names.{register_name, wire_name}
 use Rattle.scatter_net.specs.Scatter.{last_name, bytes_name, verdict_name, target_name, data_name}
 use Rattle.shell_net.specs.declared.parts.Part.{Part}

@@ -1,5 +1,5 @@
 -- What the parts of a pipeline store for a state of the machine.
-use Rattle.std.specs.Prelude.{◌≡◌, ℕ, ◌+◌, ◌^◌, ◌<◌, ◌≤◌, Bool, Option, Some, None, is_some, List, [], ◌∷◌, length, map}
+use Rattle.std.specs.Prelude.{◌≡◌, ℕ, ◌+◌, ◌^◌, ◌<◌, ◌≤◌, Bool, Option, Some, is_some, List, [], ◌∷◌, length, map}
 use Rattle.std.proofs.Common.{get_or}
 use Rattle.beat_core.specs.declared.answer.Answer.{Answer}
 use Rattle.beat_core.specs.Beats.{beat_count}
@@ -9,10 +9,9 @@ use Rattle.net_core.specs.declared.ports.Inputs.{Inputs}
 use Rattle.net_core.specs.Suits.{IsOfWidth}
 use Rattle.net_core.specs.Value.{word, nothing}
 use Rattle.net_core.specs.Clock.{Stored}
-use Rattle.block_core.specs.declared.name.Name.{Name}
 use Rattle.block_core.specs.Blocks.{BlockTree, Whole, Among}
 use Rattle.block_core.specs.Formed.{block_registers, block_memories}
-use Rattle.pipe_core.specs.Machine.{Packet, State, inside, place_at, no_frame, first_answer}
+use Rattle.pipe_core.specs.Machine.{Packet, State, inside, place_at, no_frame}
 use Rattle.hazard_core.specs.Held.{held_value}
 use Rattle.ring_net.specs.Control as ring
 use Rattle.ring_net.specs.Control.{Signals, IsSound}
@@ -24,7 +23,7 @@ use Rattle.frame_net.specs.Answers.{HoldsAnswer, Changes}
 use Rattle.place_net.specs.Place.{words_of}
 use Rattle.place_net.specs.Exit.{byte_numbers}
 use Rattle.shell_net.specs.declared.parts.Part.{Part}
-use Rattle.shell_net.specs.declared.parts.Part.TheVariants.{Scatter, Control, Gather, Sources, Exit, Place}
+use Rattle.shell_net.specs.declared.parts.Part.TheVariants.{Scatter, Control, Gather, Exit, Place}
 use Rattle.shell_net.specs.Layout.{Layout, cells_of, last_of}
 
 -- ---- words of their widths
