@@ -7,7 +7,7 @@ use Rattle.net_core.specs.declared.tree.Word.{Word}
 use Rattle.net_core.specs.declared.ports.Inputs.{Inputs}
 use Rattle.net_core.specs.Ports.{port_list, words_of}
 use Rattle.net_core.specs.Value.{Env}
-use Rattle.net_core.specs.Clock.{Stored, done, after, shown, first_stored}
+use Rattle.net_core.specs.Clock.{Stored, done, first_stored}
 use Rattle.block_core.specs.declared.name.Name.{Name}
 use Rattle.block_core.specs.Blocks.{Whole, Among, first_of}
 use Rattle.block_core.specs.Parts.{Goes, ClockOfParts, stored_of}

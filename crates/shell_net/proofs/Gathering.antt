@@ -13,7 +13,6 @@ use Rattle.net_core.specs.declared.ports.TheConstants.{IN_DATA, IN_BYTES, IN_LAS
 use Rattle.net_core.specs.Value.{bit, Env}
 use Rattle.net_core.specs.Clock.{Stored, done}
 use Rattle.block_core.specs.declared.name.Name.{Name}
-use Rattle.block_core.specs.declared.name.Name.TheVariants as name
 use Rattle.block_core.specs.Blocks.{Whole}
 use Rattle.pipe_core.specs.Machine.{State, Input, is_ready, beat_over, came_with, no_frame}
 use Rattle.pipe_core.specs.History.{came_in}

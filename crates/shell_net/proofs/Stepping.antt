@@ -19,7 +19,7 @@ use Rattle.ring_net.specs.Ring.{slot}
 use Rattle.ring_net.specs.Block.{code, Shows as ShowsControl}
 use Rattle.frame_net.specs.Frames.{Gathers}
 use Rattle.scatter_net.specs.Scatter.{last_name}
-use Rattle.pipe_core.specs.Machine.{Packet, State, place_at, inside, answers_by, first_answer, host_ready, is_calm, beat_over, shown_beat, taken_beat, clock, output}
+use Rattle.pipe_core.specs.Machine.{Packet, State, place_at, inside, answers_by, first_answer, is_calm, beat_over, shown_beat, taken_beat, clock, output}
 use Rattle.pipe_core.specs.History.{came_in}
 use Rattle.place_net.specs.Exit.{byte_numbers}
 use Rattle.shell_net.specs.declared.parts.Part.{Part}
