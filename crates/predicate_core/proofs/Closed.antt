@@ -7,20 +7,22 @@ use Rattle.std.proofs.Math.Seq.{get_or-append_seam}
 use Rattle.std.proofs.Math.Nat.{mod-eq_of_lt}
 use Rattle.std.proofs.lemmas.Bool.{cases_lt}
 use Rattle.std.proofs.lemmas.Grind.{same_number_lists}
-use Rattle.std.proofs.lemmas.List.{get_or-set_same, get_or-set_other, get_or_past}
+use Rattle.std.proofs.lemmas.List.{length-map, get_or-map, get_or-set_same, get_or-set_other, get_or_past}
 use Rattle.std.proofs.lemmas.List.Elements.{All-nil, All-push, All-weaker, All-contains}
 use Rattle.xdp_machine.specs.Arithmetic.{low}
 use Rattle.xdp_machine.specs.State.{PacketIn}
 use Rattle.xdp_machine.specs.Runs.{Leaves}
 use Rattle.xdp_machine.specs.MachineLaws.{LeavesInRange}
-use Rattle.cell_core.specs.declared.operator.Operator.TheVariants.{Wire}
+use Rattle.cell_core.specs.declared.cell.Cell.{Cell}
+use Rattle.cell_core.specs.declared.operator.Operator.TheVariants.{Constant, Wire}
 use Rattle.cell_core.specs.declared.program.FrameByte.{FrameByte}
 use Rattle.cell_core.specs.Cells.{CellView, IsRun, no_cell, cell_at, bits_from, on}
 use Rattle.cell_core.specs.Rows.{greatest}
 use Rattle.cell_core.specs.Sites.{with_bytes}
+use Rattle.cell_core.specs.View.{cell_of}
 use Rattle.operator_cells.specs.declared.joining.Arm.{Arm}
 use Rattle.operator_cells.specs.Joining.{chosen, flat, ChoiceIsRight}
-use Rattle.operator_cells.specs.Making.{Adds, Makes, MakesIf, operated}
+use Rattle.operator_cells.specs.Making.{seen, Adds, Makes, MakesIf, operated}
 use Rattle.operator_cells.specs.Rising.{Rises}
 use Rattle.operator_cells.proofs.MakingLaws.{grown, grown_none}
 use Rattle.held_cells.specs.declared.way.Exit.{Exit}
@@ -43,13 +45,27 @@ use Rattle.predicate_core.proofs.Opened.{byte_below}
 pub low_whole : (x : ℕ) → bits_from x 0 32 ≡ low 32 x
 low_whole x = ap (low 32) (let e : x / 2 ^ 0 ≡ x = omega arith in e)
 
-pub word_cut : (old new : List CellView) (f g : PacketIn → (ℕ → ℕ) → ℕ) (c : ℕ) → Makes old new c (λ packet v. bits_from (f packet v) 0 32) → ((packet : PacketIn) (v : ℕ → ℕ) → f packet v ≡ g packet v)
-    → Makes old new c (λ packet v. low 32 (g packet v))
-word_cut old new f g c made same = record {
-  grows = made.grows;
-  there = made.there;
-  value = λ packet v run. made.value packet v run ∙ low_whole (f packet v) ∙ ap (low 32) (same packet v);
-}
+pub known_word : (old new : List CellView) (n held c : ℕ) → Makes old new c (operated (Constant n) [] 0 32) → Makes old new c (λ packet v. low 32 (number_of v (Known n) held))
+known_word old new n held c made = record { grows = made.grows; there = made.there; value = λ packet v run. made.value packet v run ∙ low_whole n }
+
+pub held_word : (old new : List CellView) (held c : ℕ) → Makes old new c (operated Wire (held ∷ []) 0 32) → Makes old new c (λ packet v. low 32 (number_of v Unknown held))
+held_word old new held c made = record { grows = made.grows; there = made.there; value = λ packet v run. made.value packet v run ∙ low_whole (v held) }
+
+pub known_row : (old new : List CellView) (c : ℕ) → Rises old new c (λ row. 0) → AddsNoRow old new
+known_row old new c rises = no_row_more old new (λ row. 0) rises.grows (λ row n low. omega arith)
+
+pub held_row : (old new : List CellView) (a c : ℕ) → a < length old → Rises old new c (λ row. row a) → AddsNoRow old new
+held_row old new a c there rises = no_row_more old new (λ row. row a) rises.grows (λ row n low. low a there)
+
+pub seen_width : (cells : List Cell) (k : ℕ) (d : Cell) → k < length (seen cells) → (k < length cells) × ((cell_at (seen cells) k).width ≡ (get_or cells k d).width)
+unfolding seen
+seen_width cells k d l =
+    let h : k < length cells = omega (arith, l, length-map cells cell_of) in
+    (h, ap (λ (x : CellView). x.width) (get_or-map cell_of cells k d no_cell h))
+
+-- a number in the cell that has it
+pub narrow_already : (cells : List CellView) (a bits : ℕ) → a < length cells → MakesIf cells cells a (λ v. v a < 2 ^ bits) (λ packet v. v a)
+narrow_already cells a bits there = record { grows = grown_none; there = there; value = λ packet v run fits. refl }
 
 -- a number in fewer bits
 pub narrowed : (old new : List CellView) (a bits c : ℕ) → Makes old new c (operated Wire (a ∷ []) 0 bits) → MakesIf old new c (λ v. v a < 2 ^ bits) (λ packet v. v a)

@@ -1,6 +1,6 @@
 //! What a packet leaves, behind all nodes.
 
-ghost use Rattle.std.specs.Prelude.{ℕ, ◌≡◌, ◌<◌, ◌≤◌, ◌^◌, false, length, slice_index, IfOk, All};
+ghost use Rattle.std.specs.Prelude.{◌≡◌, ◌<◌, ◌≤◌, ◌^◌, false, length, slice_index, IfOk, All};
 ghost use Rattle.xdp_machine.specs.Arithmetic.{low};
 ghost use Rattle.cell_core.specs.Formed.{AreFormed};
 ghost use Rattle.cell_core.specs.Cells.{cell_at};
@@ -117,6 +117,14 @@ fn bits_of(output: Output) -> u32
     }
 }
 
+// The width of a cell.
+fn width_of(cells: &[Cell], cell: u32) -> u32
+    requires { cell < length (seen cells.now) }
+    ensures { result ≡ (cell_at (seen cells.now) cell).width }
+{
+    cells[cell as usize].width
+}
+
 // The same number in a cell of at most so many bits, if it fits: where the cell has more, its low ones.
 fn narrow(cells: &mut Vec<Cell>, cell: u32, bits: u32) -> Result<u32, AllocError>
     requires there { cell < length (seen cells.old.items) }
@@ -125,7 +133,8 @@ fn narrow(cells: &mut Vec<Cell>, cell: u32, bits: u32) -> Result<u32, AllocError
     ensures is { IfOk result (λ c. HasBits (seen cells.new.items) bits c) }
     ensures no_row { IfOk result (λ c. AddsNoRow (seen cells.old.items) (seen cells.new.items)) }
 {
-    if cells[cell as usize].width <= bits {
+    let width = width_of(cells, cell);
+    if width <= bits {
         return Ok(cell);
     }
     let c = slice(cells, cell, 0, bits)?;

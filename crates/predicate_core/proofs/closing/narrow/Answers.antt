@@ -1,0 +1,13 @@
+use Rattle.std.proofs.Common.{arith}
+use Rattle.predicate_core.proofs.LastRow.{no_row_none}
+use Rattle.predicate_core.proofs.Closed.{narrowed, added_bits, held_row, narrow_already}
+use Rattle.predicate_core.proofs.closing.narrow.Goals as goal
+
+pub returns-clause-makes : goal.returns-clause-makes
+returns-clause-makes c = narrowed _ _ c.args.cell c.args.bits _ c.in_ok-c.ensures.makes
+
+pub returns-clause-is : goal.returns-clause-is
+returns-clause-is c = added_bits _ _ _ _ c.in_ok-c.ensures.adds
+
+pub returns-clause-no_row : goal.returns-clause-no_row
+returns-clause-no_row c = held_row _ _ c.args.cell _ c.requires.there c.in_ok-c.ensures.rises
