@@ -63,10 +63,6 @@ seen_width cells k d l =
     let h : k < length cells = omega (arith, l, length-map cells cell_of) in
     (h, ap (λ (x : CellView). x.width) (get_or-map cell_of cells k d no_cell h))
 
--- a number in the cell that has it
-pub narrow_already : (cells : List CellView) (a bits : ℕ) → a < length cells → MakesIf cells cells a (λ v. v a < 2 ^ bits) (λ packet v. v a)
-narrow_already cells a bits there = record { grows = grown_none; there = there; value = λ packet v run fits. refl }
-
 -- a number in fewer bits
 pub narrowed : (old new : List CellView) (a bits c : ℕ) → Makes old new c (operated Wire (a ∷ []) 0 bits) → MakesIf old new c (λ v. v a < 2 ^ bits) (λ packet v. v a)
 narrowed old new a bits c made = record {

@@ -37,11 +37,11 @@ flat_low cells row n (a ∷ arms) low there =
 
 row_among : (row : ℕ → ℕ) (first count k : ℕ) → first ≤ k → k < first + count → row k ≤ greatest row (numbers first count)
 row_among row first zero k l m = absurd (omega (arith, l, m))
-row_among row first (suc count) k l m = by (cases_lt first k)
+row_among row first (suc count) k l m = by (cases_lt first k) (λ h. row_among row (suc first) count k (omega (arith, h)) (omega (arith, m)))
   where
-    by : (first < k) ⊎ (k ≤ first) → row k ≤ greatest row (numbers first (suc count))
-    by (inl h) = let x = row_among row (suc first) count k (omega (arith, h)) (omega (arith, m)) in omega (arith, x)
-    by (inr h) = let e : k ≡ first = omega (arith, l, h) in omega (arith, ap row e)
+    by : (first < k) ⊎ (k ≤ first) → (first < k → row k ≤ greatest row (numbers (suc first) count)) → row k ≤ greatest row (numbers first (suc count))
+    by (inl h) more = let x = more h in omega (arith, x)
+    by (inr h) more = let e : k ≡ first = omega (arith, l, h) in omega (arith, ap row e)
 
 last_more : (row : ℕ → ℕ) (nodes : List Node) (n : Node) → (last_row row nodes ≤ last_row row (nodes ++ n ∷ [])) × (node_row row n ≤ last_row row (nodes ++ n ∷ []))
 last_more row [] n = (omega arith, omega arith)

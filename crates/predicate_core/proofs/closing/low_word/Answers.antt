@@ -1,11 +1,5 @@
-use Rattle.predicate_core.proofs.Closed.{known_word, held_word, known_row, held_row}
+use Rattle.predicate_core.proofs.Closed.{known_row, held_row}
 use Rattle.predicate_core.proofs.closing.low_word.Goals as goal
-
-pub returns-in_ok-c-in-Known-clause-makes : goal.returns-in_ok-c-in-Known-clause-makes
-returns-in_ok-c-in-Known-clause-makes c = rw c.in-Known.is (known_word _ _ _ c.args.held _ c.in_ok-c-in-Known.ensures.makes)
-
-pub returns-in_ok-c-in-Unknown-clause-makes : goal.returns-in_ok-c-in-Unknown-clause-makes
-returns-in_ok-c-in-Unknown-clause-makes c = rw c.in-Unknown.is (held_word _ _ c.args.held _ c.in_ok-c-in-Unknown.ensures.makes)
 
 pub returns-in_ok-c-in-Known-clause-no_row : goal.returns-in_ok-c-in-Known-clause-no_row
 returns-in_ok-c-in-Known-clause-no_row c = known_row _ _ _ c.in_ok-c-in-Known.ensures.rises

@@ -1,10 +1,9 @@
 use Rattle.std.proofs.Common.{arith}
-use Rattle.predicate_core.proofs.LastRow.{no_row_none}
-use Rattle.predicate_core.proofs.Closed.{narrowed, added_bits, held_row, narrow_already}
+use Rattle.predicate_core.proofs.Closed.{added_bits, held_row}
 use Rattle.predicate_core.proofs.closing.narrow.Goals as goal
 
-pub returns-clause-makes : goal.returns-clause-makes
-returns-clause-makes c = narrowed _ _ c.args.cell c.args.bits _ c.in_ok-c.ensures.makes
+pub returns-then-width-bits-clause-is : goal.returns-then-width-bits-clause-is
+returns-then-width-bits-clause-is c = record { there = c.requires.there; width = omega (arith, c.width_of-width.ensures, c.if-width-bits.true) }
 
 pub returns-clause-is : goal.returns-clause-is
 returns-clause-is c = added_bits _ _ _ _ c.in_ok-c.ensures.adds
