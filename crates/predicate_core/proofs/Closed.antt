@@ -1,11 +1,12 @@
 -- The cells of what a packet leaves.
-use Rattle.std.proofs.Common.{◌≡◌, ℕ, ◌+◌, ◌/◌, ◌<◌, ◌≤◌, ◌^◌, ◌⊎◌, inl, inr, true, List, [], ◌∷◌, ◌++◌, length, length-append, get_or, refl, sym, ◌∙◌, ap, subst, arith}
+use Rattle.std.proofs.Common.{◌≡◌, ℕ, ◌+◌, ◌/◌, ◌<◌, ◌≤◌, ◌^◌, ◌==◌, ◌⊎◌, inl, inr, true, List, [], ◌∷◌, ◌++◌, length, length-append, get_or, refl, sym, ◌∙◌, ap, subst, arith}
 use Rattle.std.specs.Prelude.{slice_index, slice_set, All}
 use Rattle.std.specs.List.{AllPairs}
 use Rattle.std.proofs.Math.ListN.{get_or-append, length-set}
 use Rattle.std.proofs.Math.Seq.{get_or-append_seam}
 use Rattle.std.proofs.Math.Nat.{mod-eq_of_lt}
 use Rattle.std.proofs.lemmas.Bool.{cases_lt}
+use Rattle.std.proofs.lemmas.Bool.Decides.{nat_tests}
 use Rattle.std.proofs.lemmas.Grind.{same_number_lists}
 use Rattle.std.proofs.lemmas.List.{length-map, get_or-map, get_or-set_same, get_or-set_other, get_or_past}
 use Rattle.std.proofs.lemmas.List.Elements.{All-nil, All-push, All-weaker, All-contains}
@@ -57,11 +58,13 @@ known_row old new c rises = no_row_more old new (λ row. 0) rises.grows (λ row 
 pub held_row : (old new : List CellView) (a c : ℕ) → a < length old → Rises old new c (λ row. row a) → AddsNoRow old new
 held_row old new a c there rises = no_row_more old new (λ row. row a) rises.grows (λ row n low. low a there)
 
-pub seen_width : (cells : List Cell) (k : ℕ) (d : Cell) → k < length (seen cells) → (k < length cells) × ((cell_at (seen cells) k).width ≡ (get_or cells k d).width)
+pub seen_inside : (cells : List Cell) (k : ℕ) → k < length (seen cells) → k < length cells
 unfolding seen
-seen_width cells k d l =
-    let h : k < length cells = omega (arith, l, length-map cells cell_of) in
-    (h, ap (λ (x : CellView). x.width) (get_or-map cell_of cells k d no_cell h))
+seen_inside cells k l = omega (arith, l, length-map cells cell_of)
+
+pub seen_width : (cells : List Cell) (k : ℕ) (d : Cell) → k < length (seen cells) → (cell_at (seen cells) k).width ≡ (get_or cells k d).width
+unfolding seen
+seen_width cells k d l = ap (λ (x : CellView). x.width) (get_or-map cell_of cells k d no_cell (seen_inside cells k l))
 
 -- a number in fewer bits
 pub narrowed : (old new : List CellView) (a bits c : ℕ) → Makes old new c (operated Wire (a ∷ []) 0 bits) → MakesIf old new c (λ v. v a < 2 ^ bits) (λ packet v. v a)
@@ -139,6 +142,9 @@ outputs_chosen choice old mid new exits o arms c outputs made rises = record {
       (λ i a l o'. let p = outputs.each packet v i a x.0 (omega (arith, l, outputs.count)) r in
       p.1 ∙ all i x.0 (omega (arith, l, outputs.count)) (ap (λ (b : ℕ). on (v b)) (sym p.0) ∙ o'));
 }
+
+pub none_left : (n : ℕ) → (n == 0) ≡ true → n ≡ 0
+none_left n h = grind (arith, nat_tests)
 
 pub outputs_empty : (old mid new : List CellView) (exits : List Exit) (o : Output) (arms : List Arm) (c : ℕ) (f : PacketIn → (ℕ → ℕ) → ℕ) → length arms ≡ 0 → AreOutputs old mid exits o (length exits) arms → Makes mid new c f
     → Rises mid new c (λ row. 0) → Outputs old new exits o c
