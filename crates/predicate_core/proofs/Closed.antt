@@ -1,12 +1,11 @@
 -- The cells of what a packet leaves.
-use Rattle.std.proofs.Common.{◌≡◌, ℕ, ◌+◌, ◌/◌, ◌<◌, ◌≤◌, ◌^◌, ◌==◌, ◌⊎◌, inl, inr, true, List, [], ◌∷◌, ◌++◌, length, length-append, get_or, refl, sym, ◌∙◌, ap, subst, arith}
+use Rattle.std.proofs.Common.{◌≡◌, ℕ, ◌+◌, ◌/◌, ◌<◌, ◌≤◌, ◌^◌, ◌⊎◌, inl, inr, true, List, [], ◌∷◌, ◌++◌, length, length-append, get_or, refl, sym, ◌∙◌, ap, subst, arith}
 use Rattle.std.specs.Prelude.{slice_index, slice_set, All}
 use Rattle.std.specs.List.{AllPairs}
 use Rattle.std.proofs.Math.ListN.{get_or-append, length-set}
 use Rattle.std.proofs.Math.Seq.{get_or-append_seam}
 use Rattle.std.proofs.Math.Nat.{mod-eq_of_lt}
 use Rattle.std.proofs.lemmas.Bool.{cases_lt}
-use Rattle.std.proofs.lemmas.Bool.Decides.{nat_tests}
 use Rattle.std.proofs.lemmas.Grind.{same_number_lists}
 use Rattle.std.proofs.lemmas.List.{length-map, get_or-map, get_or-set_same, get_or-set_other, get_or_past}
 use Rattle.std.proofs.lemmas.List.Elements.{All-nil, All-push, All-weaker, All-contains}
@@ -142,9 +141,6 @@ outputs_chosen choice old mid new exits o arms c outputs made rises = record {
       (λ i a l o'. let p = outputs.each packet v i a x.0 (omega (arith, l, outputs.count)) r in
       p.1 ∙ all i x.0 (omega (arith, l, outputs.count)) (ap (λ (b : ℕ). on (v b)) (sym p.0) ∙ o'));
 }
-
-pub none_left : (n : ℕ) → (n == 0) ≡ true → n ≡ 0
-none_left n h = grind (arith, nat_tests)
 
 pub outputs_empty : (old mid new : List CellView) (exits : List Exit) (o : Output) (arms : List Arm) (c : ℕ) (f : PacketIn → (ℕ → ℕ) → ℕ) → length arms ≡ 0 → AreOutputs old mid exits o (length exits) arms → Makes mid new c f
     → Rises mid new c (λ row. 0) → Outputs old new exits o c
