@@ -22,8 +22,8 @@ use Rattle.xdp_maps.specs.State.{MapState}
 use Rattle.xdp_machine.specs.Touched.{Touched}
 use Rattle.ehdl_build.specs.StoreAndForward.{StoreAndForward, Receiving, Sending, state_trace, state_after}
 use Rattle.ehdl_build.specs.StoreAndForwardNetlist.{store_and_forward, answer, answers_to}
-use Rattle.ehdl_build.specs.Bounds.{clock_bound, most_beats}
-use Rattle.ehdl_build.specs.Realizes.{IsPattern, IsPrefix, BeginNext, IsWhole, Meets, inputs_in, frames_in, all_offers, beats_offered}
+use Rattle.realization.specs.Bounds.{clock_bound, most_beats}
+use Rattle.realization.specs.Realizes.{IsPattern, IsPrefix, BeginNext, IsWhole, Meets, inputs_in, frames_in, all_offers, beats_offered}
 use Rattle.ehdl_build.proofs.Flows.{total, pending, so_far, given_beats}
 use Rattle.ehdl_build.proofs.Histories.{History, history, frames-arrivals, answers_to-frames, answers_given-append, beats-all_offers, frames-packets}
 use Rattle.ehdl_build.proofs.Clocks.{Place, place_width, stored}

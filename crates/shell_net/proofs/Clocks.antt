@@ -29,7 +29,7 @@ use Rattle.shell_net.specs.Parts.{outputs_of}
 use Rattle.shell_net.specs.Machine.{input_of, MayCome, Shows}
 use Rattle.shell_net.specs.Layout.{Layout, last_of, outside, IsLaidOut, AreParts}
 use Rattle.shell_net.specs.Relation.{counts, Relates}
-use Rattle.shell_net.specs.Following.{design, Follows, FollowsAll, PipelinesFollow, PipelinesAreFormed}
+use Rattle.shell_net.specs.Following.{design, Follows, ClocksFollow, BeginRelated, FollowsAll, PipelinesFollow, PipelinesAreFormed}
 use Rattle.shell_net.proofs.Cases.{none_some}
 use Rattle.shell_net.proofs.Values.{CellLaws}
 use Rattle.shell_net.proofs.Seeing.{IsSeen}
@@ -167,6 +167,16 @@ module _ (laws : Laws) (l : Layout) (d : Whole Part) (names : List (List ℕ)) (
     from_first is =
         subst (FollowsAll l d names is first) (sym (starts_as_parts Part d names port_list (outputs_of (length l.words))))
         (all_clocks is (begin l.build maps) (λ p. first_of (d.block p)) (laws.in_order l.build maps []) (laws.computed l.build laid.planned maps []) first_related)
+
+pub clocks_follow : Laws → ClocksFollow
+clocks_follow laws l d names laid parts i t ss order computed come related = one_clock laws l d names laid parts i t ss order computed come related
+
+pub begin_related : Laws → BeginRelated
+begin_related laws l d names maps laid parts = record {
+  first = λ p. first_of (d.block p);
+  stored = starts_as_parts Part d names port_list (outputs_of (length l.words));
+  related = first_related laws l d names laid parts maps;
+}
 
 pub pipelines_follow : Laws → PipelinesFollow
 pipelines_follow laws l d names maps laid parts is = from_first laws l d names laid parts maps is

@@ -18,7 +18,7 @@ use Rattle.net_core.specs.Clock.{Stored}
 use Rattle.net_core.specs.History.{Cycle, trace, stored_after, NeverStops, beats_in, offers_in, Arrival, arrivals, answers_given, open_beats, IsInput, IsSilent, Drive, Answered, drive}
 use Rattle.beat_core.specs.declared.answer.Answer.{Answer}
 use Rattle.host_history.specs.Host.{ShowsMaps}
-use Rattle.ehdl_build.specs.Bounds.{clock_bound, clock_bound_apart, most_beats}
+use Rattle.realization.specs.Bounds.{clock_bound, clock_bound_apart, most_beats}
 
 -- Clocks with the host silent and offers well formed: each beat that goes over has 8 bytes unless it is a last one with 1 to 8,
 -- and a frame has at least one beat and no more than the bound.
