@@ -198,6 +198,6 @@ realized v maps wanted apart fits shown =
       complete_apart = λ packets limit ts k a n.
           whole_of v maps wanted d s [] _ packets fits shown
           (complete_from v place packets limit h (frames-packets packets k) (omega (arith, n, apart_enough (frames_in packets) ts)));
-      late = λ is packets left limit w k e c n.
+      late = λ is packets left limit w k beside e c n.
           whole_of v maps wanted d s is _ packets fits shown (late_from v place is packets left limit h w (frames-packets packets k) e n);
     }

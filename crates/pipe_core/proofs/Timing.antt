@@ -1,14 +1,17 @@
 -- The full drive ends in time: each clock takes a beat in or out, or commits an operation, or is counted, and of these there are not too many.
 use Rattle.std.proofs.Common.{◌≡◌, ℕ, zero, suc, ◌+◌, ◌*◌, ◌<◌, ◌≤◌, ◌⊎◌, inl, inr, Bool, true, false, List, [], ◌∷◌, ◌++◌, Option, Some, None, length, drop, refl, sym, ap, ◌∙◌, subst, arith, cond, length-append, length-drop}
-use Rattle.std.specs.Prelude.{if◌then◌else◌, is_some}
+use Rattle.std.specs.Prelude.{if◌then◌else◌, is_some, map, not}
 use Rattle.std.specs.List.{flat_map, AllByRecursion}
 use Rattle.std.proofs.lemmas.Bool.{and_parts, cases_lt}
 use Rattle.std.proofs.lemmas.List.Sums.{sum_by-cons}
 use Rattle.std.proofs.Math.Nat.{mul-le-mul_left}
 use Rattle.beat_core.specs.declared.beat.Beat.{Beat}
 use Rattle.beat_core.specs.Beats.{beats_of}
+use Rattle.beat_core.specs.Filling.{filled_up}
 use Rattle.beat_core.specs.Laws.{IsFrame}
+use Rattle.beat_core.proofs.FillingLaws.{AreOffers-filled_up}
 use Rattle.xdp_maps.specs.declared.decl.MapDecl.{MapDecl}
+use Rattle.xdp_maps.specs.State.{MapState}
 use Rattle.cell_core.specs.Cells.{bit}
 use Rattle.cell_core.specs.Sites.{SiteView, site_at, records}
 use Rattle.cell_core.specs.Rows.{record_count}
@@ -27,7 +30,7 @@ use Rattle.pipe_core.proofs.Order.{swept_length, beats_keep}
 use Rattle.pipe_core.proofs.Turning.{TurnIs, turn_is, clock_aside}
 use Rattle.pipe_core.proofs.Righting.{keeps_place, always_right}
 use Rattle.pipe_core.proofs.Overlapping.{watch_runs}
-use Rattle.pipe_core.proofs.Draining.{lasts, drives, way_short, no_lasts, no_part, no_frames, no_answers, goes_in, to_give, Driving, all_given, begins_driving}
+use Rattle.pipe_core.proofs.Draining.{EndsWhole, lasts, drives, way_short, no_lasts, no_part, no_frames, no_answers, goes_in, to_give, Driving, all_given, begins_driving}
 use Rattle.pipe_core.proofs.Counting.{begun, past, Bounds, past_swept, past_struck, past_moved, among, commits_bounds, moves_bounds, within, left_within, none_aged, begins_aged}
 use Rattle.pipe_core.proofs.Offering.{Offered, offered_on}
 
@@ -385,14 +388,39 @@ ends_late keeps loads b maps fit sound slots is silent frames whole left over cl
       });
     }) (omega (arith, long)))
 
+-- ---- the bytes that do not count
+ends_unfilled : (begun : Bool) (bs left : List Beat) → EndsWhole begun (map filled_up bs ++ left) → EndsWhole begun (bs ++ left)
+ends_unfilled begun [] left h = h
+ends_unfilled begun (x ∷ bs) left h = ends_unfilled (not x.last) bs left h
+
+lasts_unfilled : (bs left : List Beat) → lasts (map filled_up bs ++ left) ≡ lasts (bs ++ left)
+lasts_unfilled [] left = refl
+lasts_unfilled (x ∷ bs) left = ap (λ n. bit x.last + n) (lasts_unfilled bs left)
+
+length_unfilled : (bs left : List Beat) → length (map filled_up bs ++ left) ≡ length (bs ++ left)
+length_unfilled [] left = refl
+length_unfilled (x ∷ bs) left = ap suc (length_unfilled bs left)
+
+begins_unfilled : (b : Build) (maps : MapState) (frames : List (List ℕ)) → AllByRecursion IsFrame frames → (bs left : List Beat) → map filled_up bs ++ left ≡ flat_map beats_of frames →
+    Driving (length frames) b (record { left = bs ++ left; trace = begin b maps })
+begins_unfilled b maps frames whole bs left e =
+    let v = subst (λ l. Driving (length frames) b (record { left = l; trace = begin b maps })) (sym e) (begins_driving b maps frames whole) in
+    record {
+      order = v.order;
+      count = omega (arith, v.count, lasts_unfilled bs left);
+      full = v.full;
+      offers = AreOffers-filled_up 0 bs left v.offers;
+      ends = ends_unfilled false bs left v.ends;
+      at = v.at;
+    }
+
 pub ends_late_without_maps : EndsLateWithoutMaps
 ends_late_without_maps b none slots maps is frames whole left over clocks long =
     let beats = flat_map beats_of frames in
     let n = length frames in
-    let t = run b is (begin b maps) in
-    let d : Driven = record { left = left; trace = t } in
-    let r = reaches n b is (begin b maps) left (subst (λ l. Driving n b (record { left = l; trace = begin b maps })) (sym over) (begins_driving b maps frames whole)) in
-    let give : to_give (record { left = beats_in b is (new_state b maps) ++ left; trace = begin b maps }) ≡ length beats = omega (arith, ap length over) in
-    let fewer : length left ≤ length beats = omega (arith, ap length over, length-append (beats_in b is (new_state b maps)) left) in
+    let came = beats_in b is (new_state b maps) in
+    let d : Driven = record { left = left; trace = run b is (begin b maps) } in
+    let r = reaches n b is (begin b maps) left (begins_unfilled b maps frames whole came left over) in
+    let many : length (came ++ left) ≡ length beats = sym (length_unfilled came left) ∙ ap length over in
     let e = drives n b none slots clocks d r.0 in
-    all_given n b (drive b clocks d) e.0 (omega (arith, e.1, r.1, give, fewer, long, way_short b d r.0.order.places, frames_in n b d r.0))
+    all_given n b (drive b clocks d) e.0 (omega (arith, e.1, r.1, many, length-append came left, long, way_short b d r.0.order.places, frames_in n b d r.0))

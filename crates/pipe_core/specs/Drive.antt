@@ -1,8 +1,9 @@
 -- The full drive: in each clock the next beat is offered while one is left, a beat that is shown is taken, and the host is silent.
-use Rattle.std.specs.Prelude.{◌≡◌, ℕ, ◌+◌, ◌*◌, ◌≤◌, if◌then◌else◌, Option, Some, None, List, [], ◌∷◌, ◌++◌, length, drop, true}
+use Rattle.std.specs.Prelude.{◌≡◌, ℕ, ◌+◌, ◌*◌, ◌≤◌, if◌then◌else◌, Option, Some, None, List, [], ◌∷◌, ◌++◌, length, drop, map, true}
 use Rattle.std.specs.List.{flat_map, AllByRecursion}
 use Rattle.beat_core.specs.declared.beat.Beat.{Beat}
 use Rattle.beat_core.specs.Beats.{beats_of}
+use Rattle.beat_core.specs.Filling.{filled_up}
 use Rattle.beat_core.specs.Laws.{IsFrame}
 use Rattle.xdp_maps.specs.State.{MapState, IsSound}
 use Rattle.cell_core.specs.Rows.{record_count}
@@ -80,10 +81,11 @@ EndsLate =
     → (clocks : List Beside) → clocks_of b frames + b.plan.last + 2 ≤ length clocks + 1
     → length (drive b clocks (record { left = left; trace = run b is (begin b maps) })).trace.gave ≡ length frames
 
--- Of a program without operations on maps a drive that begins late needs no more clocks than one from the first clock on.
+-- Of a program without operations on maps a drive that begins late needs no more clocks than one from the first clock on. Of the beats that went
+-- over before, the bytes that do not count are not asked.
 abbrev pub EndsLateWithoutMaps : Type 0
 EndsLateWithoutMaps =
     (b : Build) → b.program.sites ≡ [] → b.slots ≡ b.plan.last + 4 → (maps : MapState) (is : List Input) (frames : List (List ℕ)) → AllByRecursion IsFrame frames
-    → (left : List Beat) → beats_in b is (new_state b maps) ++ left ≡ flat_map beats_of frames
+    → (left : List Beat) → map filled_up (beats_in b is (new_state b maps)) ++ left ≡ flat_map beats_of frames
     → (clocks : List Beside) → 2 * length (flat_map beats_of frames) + length frames + b.plan.last + 1 ≤ length clocks
     → length (drive b clocks (record { left = left; trace = run b is (begin b maps) })).trace.gave ≡ length frames

@@ -35,7 +35,14 @@ pub record Follows (l : Layout) (d : Whole Part) (names : List (List ℕ)) (i : 
   pub after : after (design l d names) (words_of i) (stored_of d ss) ≡ stored_of d next
   pub related : Relates l d (clock l.build (input_of i) s) next
 
--- Where the parts store what a state of the machine says, that holds of each clock in which only what may come does.
+-- Where the parts store what a state of the machine says, the outputs show what the machine does, whatever beat is offered.
+abbrev pub ClocksShow : Type 0
+ClocksShow =
+    (l : Layout) (d : Whole Part) (names : List (List ℕ)) → IsLaidOut l → AreParts l d
+    → (i : Inputs) (t : Trace) (ss : Part → Stored) → IsInOrder l.build t → IsComputed l.build t → Relates l d t.state ss
+    → Shows (output l.build (input_of i) t.state) (shown (design l d names) (words_of i) (stored_of d ss))
+
+-- And a clock in which only what may come does follows the machine.
 abbrev pub ClocksFollow : Type 0
 ClocksFollow =
     (l : Layout) (d : Whole Part) (names : List (List ℕ)) → IsLaidOut l → AreParts l d

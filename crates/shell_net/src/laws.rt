@@ -1,11 +1,12 @@
 //! What holds of every design that is linked of blocks of these contracts, for a program without operations on maps. Each
 //! function's contract is a law; it computes nothing.
 
-ghost use Rattle.shell_net.specs.Following.{BeginRelated, ClocksFollow, PipelinesAreFormed, PipelinesFollow};
+ghost use Rattle.shell_net.specs.Following.{BeginRelated, ClocksFollow, ClocksShow, PipelinesAreFormed, PipelinesFollow};
 
-/// A clock of a pipeline whose parts store what a state of the machine says shows what the machine does, and they store then
-/// what its next state says; so they do before the first clock.
+/// A pipeline whose parts store what a state of the machine says shows what the machine does, and where only what may come
+/// does they store behind the clock what its next state says; so they do before the first clock.
 pub fn clocks_follow()
+    ensures shows { ClocksShow }
     ensures clock { ClocksFollow }
     ensures first { BeginRelated }
 {

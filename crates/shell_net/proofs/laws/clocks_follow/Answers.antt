@@ -1,4 +1,4 @@
-use Rattle.shell_net.proofs.Clocks.{Laws, clocks_follow, begin_related}
+use Rattle.shell_net.proofs.Clocks.{Laws, clocks_show, clocks_follow, begin_related}
 use Rattle.shell_net.proofs.laws.clocks_follow.Goals as goal
 
 pub returns : goal.returns
@@ -12,4 +12,4 @@ returns c =
       computes = c.computed.ensures.clock;
       computed = c.computed.ensures.always;
     } in
-    record { clock = clocks_follow laws; first = begin_related laws }
+    record { shows = clocks_show laws; clock = clocks_follow laws; first = begin_related laws }
