@@ -147,12 +147,13 @@ module _ (laws : Laws) (l : Layout) (d : Whole Part) (names : List (List ℕ)) (
       let owed' = owes_now l.build t.state i at sh owed in
       let r = drives limit t' s' g.1 (left_by ready left) (owed_after m (suc owed)) n (left_fits ready left fits) (rest_offers laws l d names laid parts t s h i (beats_offered (left_by ready left)) coming)
           (omega (arith, count, owed', owes)) (ends_then t left limit n ends) in
+      let rest = drive D s' (left_after m left) (owed_after m (suc owed)) limit in
       let q = subst (λ (os : List Offered). DrivesTo t' s' (left_by ready left) n (drive D s' os (owed_after m (suc owed)) limit)) (sym then) r in
       subst (DrivesTo t s left n) (sym (drive_step D s left owed limit g.0)) (record {
         ended = q.ended;
         same = ap (λ ms. m ∷ ms) q.same;
         fits = (fit_inputs left fits, q.fits);
         rest = q.rest;
-        split = ap (λ os. os ++ q.rest) (offers_now l.build t.state i at sh _) ∙ append_assoc _ _ q.rest ∙ ap (λ os. offers_by i (beat_over l.build t.state (input_of i)) ++ os) q.split ∙ over_offers ready left;
+        split = ap (λ os. os ++ q.rest) (offers_now l.build t.state i at sh rest.trace) ∙ append_assoc (offers_by i (beat_over l.build t.state (input_of i))) (offers_in rest.trace) q.rest ∙ ap (λ os. offers_by i (beat_over l.build t.state (input_of i)) ++ os) q.split ∙ over_offers ready left;
         gave = q.gave;
       })

@@ -5,7 +5,7 @@ use Rattle.std.proofs.Common.{refl, sym, ap, ◌∙◌, subst, arith, append_ass
 use Rattle.std.proofs.lemmas.List.{map-append, length-map}
 use Rattle.beat_core.specs.declared.beat.Beat.{Beat}
 use Rattle.beat_core.specs.declared.answer.Answer.{Answer}
-use Rattle.beat_core.specs.Beats.{beats_of}
+use Rattle.beat_core.specs.Beats.{beats_of, IsFilledUp}
 use Rattle.beat_core.specs.Clocks.{AreOffers}
 use Rattle.beat_core.specs.Filling.{filled_up}
 use Rattle.beat_core.specs.Ports.{Arrival, Offered, arrivals_among}
@@ -23,7 +23,7 @@ use Rattle.cell_core.specs.CellLaws.{HaveValues}
 use Rattle.cell_core.specs.Sites.{ProgramView}
 use Rattle.frame_net.specs.Frames.{position_of}
 use Rattle.pipe_core.specs.Machine.{Input, Build, new_state}
-use Rattle.pipe_core.specs.History.{Trace, run, begin}
+use Rattle.pipe_core.specs.History.{Trace, next, run, begin}
 use Rattle.pipe_core.specs.Sequential.{RunsWithoutMaps}
 use Rattle.pipe_core.specs.Drive.{Beside, drive as machine_drive, EndsLateWithoutMaps}
 use Rattle.shell_net.specs.declared.parts.Part.{Part}
@@ -36,7 +36,7 @@ use Rattle.pipeline_runs.specs.Answered.{AreAnswered}
 use Rattle.pipeline_runs.specs.Meeting.{PipelinesMeet}
 use Rattle.pipeline_runs.proofs.Histories.{trace_append, all_append, offers_append, beats_append, beats_of_offers, offered_append, offers_first, arrive_few, same_arrive, packets_arrive, beats_of_all, frames_of_packets}
 use Rattle.pipeline_runs.proofs.Runs.{Laws, Stands, begins, Runs, runs}
-use Rattle.pipeline_runs.proofs.Wanted.{Later, later, as_many, none_later}
+use Rattle.pipeline_runs.proofs.Wanted.{Later, later_on, as_many, none_later}
 use Rattle.pipeline_runs.proofs.Drives.{Fits, Ends, DrivesTo, drive_none, drives}
 use Rattle.pipeline_runs.proofs.Bounds.{bound_enough, apart_enough, all_filled, all_behind, all_fit, all_beside}
 
@@ -52,7 +52,7 @@ as_many_frames packets = length-map (λ a. a.frame) packets
 
 run_append : (b : Build) (xs ys : List Input) (t : Trace) → run b (xs ++ ys) t ≡ run b ys (run b xs t)
 run_append b [] ys t = refl
-run_append b (x ∷ xs) ys t = run_append b xs ys _
+run_append b (x ∷ xs) ys t = run_append b xs ys (next b x t)
 
 module _ (laws : AllLaws) (l : Layout) (d : Whole Part) (names : List (List ℕ)) (laid : IsLaidOut l) (parts : AreParts l d) (slots : l.build.slots ≡ last_of l + 4) (maps : MapState) (sound : IsSound maps) (none : maps.decls ≡ []) where
   abbrev D : Netlist
@@ -71,7 +71,7 @@ module _ (laws : AllLaws) (l : Layout) (d : Whole Part) (names : List (List ℕ)
   from_first is inputs offers = runs laws.pipeline l d names laid parts is (begin l.build maps) first (begins laws.pipeline l d names laid parts maps) inputs offers
 
   later_of : (is : List Inputs) → Runs laws.pipeline l d names laid parts (begin l.build maps) first is → Later l laid maps (ran is)
-  later_of is r = later l laid maps laws.have laws.runs_alone (map input_of is) r.stands.order r.stands.related.position
+  later_of is r = later_on l laid maps laws.have laws.runs_alone (map input_of is) r.stands.order r.stands.related.position
 
   safe : (is : List Inputs) → IsPattern D first is → IsPrefix D first is wanted
   safe is w =
@@ -82,7 +82,7 @@ module _ (laws : AllLaws) (l : Layout) (d : Whole Part) (names : List (List ℕ)
         later = k.later;
         maps = maps;
         prefix = subst (λ cs. wanted cs (answers_given [] (trace D first is) ++ k.later) maps) r.came (subst (λ rs. wanted (ran is).came (rs ++ k.later) maps) r.gave k.answered);
-        next = subst (λ bs. BeginNext bs k.later) (sym r.open) k.next;
+        next = subst (λ bs. BeginNext bs k.later) (sym r.opens) k.next;
       }
 
   -- no more answers are given than packets came
@@ -116,7 +116,7 @@ module _ (laws : AllLaws) (l : Layout) (d : Whole Part) (names : List (List ℕ)
 
     left_fit : AllByRecursion Fits left
     left_fit =
-        all_fit _ left (all_behind _ (map filled_up (beats_in before)) (beats_offered left) (subst (AllByRecursion _) (sym over) (all_filled frames (frames_of_packets packets are)))) left_offer beside
+        all_fit (position_of (ran is).state.part) left (all_behind IsFilledUp (map filled_up (beats_in before)) (beats_offered left) (subst (AllByRecursion IsFilledUp) (sym over) (all_filled frames (frames_of_packets packets are)))) left_offer beside
 
     ends : Ends laws.pipeline l d names laid parts (ran is) left limit (length packets)
     ends clocks enough' =

@@ -23,6 +23,8 @@ use Rattle.pipe_core.specs.History.{Trace, came_in, gave_in, next, run, begin, I
 use Rattle.pipe_core.specs.Computed.{IsComputed, KeepsComputed, IsAlwaysComputed}
 use Rattle.pipe_core.specs.Drive.{ahead, beats_in as machine_beats}
 use Rattle.shell_net.specs.declared.parts.Part.{Part}
+use Rattle.shell_net.specs.declared.parts.Part.TheVariants.{Gather, Exit}
+use Rattle.place_net.specs.Exit.{byte_numbers}
 use Rattle.shell_net.specs.Machine.{input_of, MayCome, Shows}
 use Rattle.shell_net.specs.Layout.{Layout, IsLaidOut, AreParts}
 use Rattle.shell_net.specs.Relation.{HoldsAnswers, Relates}
@@ -43,6 +45,9 @@ pub record Laws : Type 0 where
 first_bytes : (kept : List Kept) (bytes words : List ℕ) (slots : ℕ) (ms es : List (List Word)) (from : ℕ) (answers : List Answer) → HoldsAnswers kept bytes words slots ms es from answers → FirstIsBytes answers
 first_bytes kept bytes words slots ms es from [] h = tt
 first_bytes kept bytes words slots ms es from (a ∷ more) h = (h 0 (omega arith)).changes.are_bytes
+
+first_answer_bytes : (l : Layout) (d : Whole Part) (s : State) (ss : Part → Stored) → Relates l d s ss → FirstIsBytes s.answers
+first_answer_bytes l d s ss h = first_bytes l.kept (byte_numbers l.answer) l.words l.shape.slots (ss Gather).memories (ss Exit).memories h.given s.answers h.answers
 
 -- the parts store what the machine's state says
 pub record Stands (l : Layout) (d : Whole Part) (t : Trace) (s : Stored) : Type 0 where
@@ -84,14 +89,14 @@ module _ (laws : Laws) (l : Layout) (d : Whole Part) (names : List (List ℕ)) (
       )
 
   pub ticks_at : (t : Trace) (s : Stored) → Stands l d t s → (i : Inputs) → Ticks l.build t.state i
-  ticks_at t s h i = ticks l.build t.state i h.related.position (first_bytes _ _ _ _ _ _ _ _ h.related.answers)
+  ticks_at t s h i = ticks l.build t.state i h.related.position (first_answer_bytes l d t.state h.stores h.related)
 
   -- these beats may come while a state of the machine stands
   pub may_come : (t : Trace) (i : Inputs) → IsInput i → (bs : List Beat) → AreOffers (position_of t.state.part) (ahead (beat_over l.build t.state (input_of i)) bs) → MayCome l.build t.state i
   may_come t i fits bs offers = record {
     fits = fits;
-    offer = λ x e. (offer_now _ _ bs offers x e).0;
-    room = λ x e. (offer_now _ _ bs offers x e).1;
+    offer = λ x e. (offer_now (position_of t.state.part) (beat_over l.build t.state (input_of i)) bs offers x e).0;
+    room = λ x e. (offer_now (position_of t.state.part) (beat_over l.build t.state (input_of i)) bs offers x e).1;
   }
 
   -- ---- a clock before others
@@ -101,9 +106,9 @@ module _ (laws : Laws) (l : Layout) (d : Whole Part) (names : List (List ℕ)) (
   came_then t s h i ms =
       let over = beat_over l.build t.state (input_of i) in
       ap (λ xs. t.came ++ xs)
-          (ap (arrivals_among t.state.part) (offers_now l.build t.state i _ (shows_at t s h i) ms) ∙ arrivals_now t.state i over (offers_in ms)
+          (ap (arrivals_among t.state.part) (offers_now l.build t.state i (shown net (words_of i) s) (shows_at t s h i) ms) ∙ arrivals_now t.state i over (offers_in ms)
           ∙ ap (λ p. came_in t.state (input_of i) over ++ arrivals_among p (offers_in ms)) (sym (ticks_at t s h i).part))
-      ∙ sym (append_assoc t.came (came_in t.state (input_of i) over) _)
+      ∙ sym (append_assoc t.came (came_in t.state (input_of i) over) (arrivals_among (clock l.build (input_of i) t.state).part (offers_in ms)))
 
   pub gave_then : (t : Trace) (s : Stored) → Stands l d t s → (i : Inputs) (ms : List Cycle) →
       t.gave ++ answers_given (frame_of (begun t.state)) (cycle i (shown net (words_of i) s) ∷ ms) ≡ (next l.build (input_of i) t).gave ++ answers_given (frame_of (begun (next l.build (input_of i) t).state)) ms
@@ -111,20 +116,20 @@ module _ (laws : Laws) (l : Layout) (d : Whole Part) (names : List (List ℕ)) (
   gave_then t s h i ms =
       let e = taken_beat t.state (input_of i) in
       ap (λ xs. t.gave ++ xs)
-          (ap (answers_among (frame_of (begun t.state))) (gives_now l.build t.state i _ (shows_at t s h i) ms)
+          (ap (answers_among (frame_of (begun t.state))) (gives_now l.build t.state i (shown net (words_of i) s) (shows_at t s h i) ms)
           ∙ answers_now t.state (output l.build (input_of i) t.state) (begun t.state) e (given_out ms) refl refl
-              (whole_then t.state.pos t.state.answers i.out_ready h.related.position (first_bytes _ _ _ _ _ _ _ _ h.related.answers))
+              (whole_then t.state.pos t.state.answers i.out_ready h.related.position (first_answer_bytes l d t.state h.stores h.related))
           ∙ ap (λ bs. gave_in t.state.answers e ++ answers_among (frame_of bs) (given_out ms)) (sym (ticks_at t s h i).begun))
-      ∙ sym (append_assoc t.gave (gave_in t.state.answers e) _)
+      ∙ sym (append_assoc t.gave (gave_in t.state.answers e) (answers_among (frame_of (begun (clock l.build (input_of i) t.state))) (given_out ms)))
 
   pub open_then : (t : Trace) (s : Stored) → Stands l d t s → (i : Inputs) (ms : List Cycle) →
       open_beats (begun t.state) (cycle i (shown net (words_of i) s) ∷ ms) ≡ open_beats (begun (next l.build (input_of i) t).state) ms
   unfolding next
-  open_then t s h i ms = open_now l.build t.state i _ (shows_at t s h i) (begun t.state) ms ∙ ap (λ bs. open_beats bs ms) (sym (ticks_at t s h i).begun)
+  open_then t s h i ms = open_now l.build t.state i (shown net (words_of i) s) (shows_at t s h i) (begun t.state) ms ∙ ap (λ bs. open_beats bs ms) (sym (ticks_at t s h i).begun)
 
   pub beats_then : (t : Trace) (s : Stored) → Stands l d t s → (i : Inputs) (ms : List Cycle) →
       beats_in (cycle i (shown net (words_of i) s) ∷ ms) ≡ ahead (beat_over l.build t.state (input_of i)) (beats_in ms)
-  beats_then t s h i ms = beats_now l.build t.state i _ (shows_at t s h i) ms
+  beats_then t s h i ms = beats_now l.build t.state i (shown net (words_of i) s) (shows_at t s h i) ms
 
   pub rest_offers : (t : Trace) (s : Stored) → Stands l d t s → (i : Inputs) (bs : List Beat) → AreOffers (position_of t.state.part) (ahead (beat_over l.build t.state (input_of i)) bs) →
       AreOffers (position_of (next l.build (input_of i) t).state.part) bs
@@ -137,7 +142,7 @@ module _ (laws : Laws) (l : Layout) (d : Whole Part) (names : List (List ℕ)) (
     pub stands : Stands l d (run l.build (map input_of is) t) (stored_after net s is)
     pub came : (run l.build (map input_of is) t).came ≡ t.came ++ arrivals t.state.part (trace net s is)
     pub gave : (run l.build (map input_of is) t).gave ≡ t.gave ++ answers_given (frame_of (begun t.state)) (trace net s is)
-    pub open : open_beats (begun t.state) (trace net s is) ≡ begun (run l.build (map input_of is) t).state
+    pub opens : open_beats (begun t.state) (trace net s is) ≡ begun (run l.build (map input_of is) t).state
     pub beats : beats_in (trace net s is) ≡ machine_beats l.build (map input_of is) t.state
     -- the beats that may come before and behind these clocks
     pub rest : (bs : List Beat) → AreOffers (position_of t.state.part) (beats_in (trace net s is) ++ bs) → AreOffers (position_of (run l.build (map input_of is) t).state.part) bs
@@ -147,7 +152,7 @@ module _ (laws : Laws) (l : Layout) (d : Whole Part) (names : List (List ℕ)) (
   runs_beats t i is = refl
 
   pub runs : (is : List Inputs) (t : Trace) (s : Stored) → Stands l d t s → AllByRecursion IsInput is → AreOffers (position_of t.state.part) (beats_in (trace net s is)) → Runs t s is
-  runs [] t s h inputs offers = record { never = tt; stands = h; came = sym (append-nil t.came); gave = sym (append-nil t.gave); open = refl; beats = refl; rest = λ bs more. more }
+  runs [] t s h inputs offers = record { never = tt; stands = h; came = sym (append-nil t.came); gave = sym (append-nil t.gave); opens = refl; beats = refl; rest = λ bs more. more }
   runs (i ∷ is) t s h inputs offers =
       let ms = trace net (after net (words_of i) s) is in
       let over = beat_over l.build t.state (input_of i) in
@@ -160,7 +165,7 @@ module _ (laws : Laws) (l : Layout) (d : Whole Part) (names : List (List ℕ)) (
         stands = r.stands;
         came = r.came ∙ sym (came_then t s h i ms);
         gave = r.gave ∙ sym (gave_then t s h i ms);
-        open = open_then t s h i ms ∙ r.open;
+        opens = open_then t s h i ms ∙ r.opens;
         beats = beats ∙ ap (ahead over) (r.beats ∙ runs_beats t i is);
         rest = λ bs more. r.rest bs (rest_offers t s h i (beats_in ms ++ bs) (subst (AreOffers (position_of t.state.part)) (ap (λ xs. xs ++ bs) beats ∙ ahead_append over (beats_in ms) bs) more));
       }

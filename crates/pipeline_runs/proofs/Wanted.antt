@@ -15,13 +15,13 @@ use Rattle.cell_core.specs.CellLaws.{HaveValues}
 use Rattle.cell_core.specs.Sites.{ProgramView, IsCellRun, leaves, after}
 use Rattle.cell_core.specs.Formed.{AreFormed, AreSited}
 use Rattle.hazard_core.specs.Held.{Held, held_value}
-use Rattle.pipe_core.specs.Machine.{State, Input, Build, packet_of, answer_of, first_answer}
+use Rattle.pipe_core.specs.Machine.{State, Input, Build, packet_of, first_answer}
 use Rattle.pipe_core.specs.History.{Trace, run, begin, answers_of, IsInOrder, IsAlwaysInOrder}
 use Rattle.pipe_core.specs.Sequential.{AreCellRuns, RunsWithoutMaps}
 use Rattle.shell_net.specs.Layout.{Layout, cells_of, IsLaidOut}
 use Rattle.shell_net.specs.Relation.{IsAt}
 use Rattle.realization.specs.Realizes.{BeginNext}
-use Rattle.pipeline_runs.specs.Answered.{AreAnswered}
+use Rattle.pipeline_runs.specs.Answered.{answer_of, AreAnswered}
 use Rattle.pipeline_runs.proofs.Clock.{begun}
 
 -- what reads no site is no read
@@ -58,7 +58,7 @@ module _ (l : Layout) (laid : IsLaidOut l) (maps : MapState) where
   all_answered have (c ∷ cs) =
       let r = has_run have (packet_of c) in
       let more = all_answered have cs in
-      (_ ∷ more.0, (record { values = r.0; run = r.1; is = refl }, subst (λ ms. AreAnswered p ms cs more.0 maps) (sym (stays r.0)) more.1))
+      (answer_of (leaves r.0 (packet_of c) maps p) ∷ more.0, (record { values = r.0; run = r.1; is = refl }, subst (λ ms. AreAnswered p ms cs more.0 maps) (sym (stays r.0)) more.1))
 
   -- those of packets that left, and of the others
   answered_on : HaveValues → (hs : List Held) (cs : List Arrival) → AreCellRuns p maps hs cs maps → (rs : List Answer) × AreAnswered p maps cs (answers_of p hs cs ++ rs) maps
@@ -79,8 +79,8 @@ module _ (l : Layout) (laid : IsLaidOut l) (maps : MapState) where
     pub answered : AreAnswered p maps t.came (t.gave ++ later) maps
     pub next : BeginNext (begun t.state) later
 
-  pub later : HaveValues → RunsWithoutMaps → (is : List Input) → (let t = run l.build is (begin l.build maps) in IsInOrder l.build t → IsAt t.state.pos t.state.answers → Later t)
-  later have runs is order at =
+  pub later_on : HaveValues → RunsWithoutMaps → (is : List Input) → (let t = run l.build is (begin l.build maps) in IsInOrder l.build t → IsAt t.state.pos t.state.answers → Later t)
+  later_on have runs is order at =
       let t = run l.build is (begin l.build maps) in
       let r = answered_on have t.left t.came (runs l.build [] laid.planned (sited l laid) laid.sites maps is) in
       record {
