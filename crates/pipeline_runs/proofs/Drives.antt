@@ -32,10 +32,13 @@ pub record Fits (o : Offered) : Type 0 where
   pub bytes : o.beat.bytes < 2 ^ 4
   pub beside : IsBeside o
 
+none : (k : ℕ) → 0 < 2 ^ k → 0 < 2 ^ k
+none k h = h
+
 fit_inputs : (left : List Offered) → AllByRecursion Fits left → IsInput (drive_inputs left)
-fit_inputs [] h = record { in_data = omega arith; in_bytes = omega arith; in_ifindex = omega arith; in_time = omega arith; host_map = omega arith; host_index = omega arith; host_word = omega arith; host_data = omega arith }
+fit_inputs [] h = record { in_data = none 64 (omega arith); in_bytes = none 4 (omega arith); in_ifindex = none 32 (omega arith); in_time = none 64 (omega arith); host_map = none 4 (omega arith); host_index = none 16 (omega arith); host_word = none 4 (omega arith); host_data = none 64 (omega arith) }
 fit_inputs (o ∷ os) h =
-    record { in_data = h.0.word; in_bytes = h.0.bytes; in_ifindex = h.0.beside.ifindex; in_time = h.0.beside.time; host_map = omega arith; host_index = omega arith; host_word = omega arith; host_data = omega arith }
+    record { in_data = h.0.word; in_bytes = h.0.bytes; in_ifindex = h.0.beside.ifindex; in_time = h.0.beside.time; host_map = none 4 (omega arith); host_index = none 16 (omega arith); host_word = none 4 (omega arith); host_data = none 64 (omega arith) }
 
 abbrev beside : List Offered → Beside
 beside [] = record { ifindex = 0; time = 0 }
