@@ -1,5 +1,5 @@
 -- The full drive of a pipeline: it ends, and in its clocks the machine takes and gives.
-use Rattle.std.specs.Prelude.{◌≡◌, ℕ, zero, suc, ◌+◌, ◌^◌, ◌<◌, ◌≤◌, if◌then◌else◌, Bool, true, false, ◌&&◌, is_some, Option, Some, None, List, [], ◌∷◌, ◌++◌, length, map, drop}
+use Rattle.std.specs.Prelude.{◌≡◌, ℕ, zero, suc, ◌+◌, ◌^◌, ◌<◌, ◌≤◌, ◌==◌, if◌then◌else◌, Bool, true, false, ◌&&◌, is_some, Option, Some, None, List, [], ◌∷◌, ◌++◌, length, map, drop}
 use Rattle.std.specs.List.{AllByRecursion}
 use Rattle.std.proofs.Common.{refl, sym, ap, ◌∙◌, subst, arith, append_assoc, length-append}
 use Rattle.beat_core.specs.declared.beat.Beat.{Beat}
@@ -86,7 +86,7 @@ over_beats true (o ∷ os) = refl
 over_beats false (o ∷ os) = refl
 
 -- ---- the drive
-drive_none : (d : Netlist) (s : Stored) (left : List Offered) (limit : ℕ) → drive d s left zero limit ≡ record { trace = []; ended = Answered }
+pub drive_none : (d : Netlist) (s : Stored) (left : List Offered) (limit : ℕ) → drive d s left zero limit ≡ record { trace = []; ended = Answered }
 unfolding drive
 drive_none d s left limit = refl
 
@@ -94,7 +94,13 @@ drive_step : (d : Netlist) (s : Stored) (left : List Offered) (owed limit : ℕ)
     (let i : Inputs = drive_inputs left in let m : Cycle = cycle_of d s i in
     drive d s left (suc owed) (suc limit) ≡ and_then m (drive d (after d (words_of i) s) (left_after m left) (owed_after m (suc owed)) limit))
 unfolding drive
-drive_step d s left owed limit e = rw e refl
+drive_step d s left owed limit e =
+    let i : Inputs = drive_inputs left in
+    let m : Cycle = cycle_of d s i in
+    ap (λ (o : Option ℕ). elim o as (λ q. Drive) [
+      | None ↦ and_then m (drive d (after d (words_of i) s) (left_after m left) (owed_after m (suc owed)) limit)
+      | Some w ↦ record { trace = []; ended = Stopped w }
+    ]) e
 
 module _ (laws : Laws) (l : Layout) (d : Whole Part) (names : List (List ℕ)) (laid : IsLaidOut l) (parts : AreParts l d) where
   abbrev D : Netlist
@@ -143,7 +149,7 @@ module _ (laws : Laws) (l : Layout) (d : Whole Part) (names : List (List ℕ)) (
       let sh = shows_at laws l d names laid parts t s h i in
       let coming = subst (AreOffers (position_of t.state.part)) (sym (over_beats ready left)) offers in
       let g = goes_on laws l d names laid parts t s h i (may_come laws l d names laid parts t i (fit_inputs left fits) (beats_offered (left_by ready left)) coming) in
-      let then : left_after m left ≡ left_by ready left = left_is ready left at (ready_now l.build t.state i at sh) in
+      let left_then : left_after m left ≡ left_by ready left = left_is ready left at (ready_now l.build t.state i at sh) in
       let t' = next l.build (input_of i) t in
       let s' = after D (words_of i) s in
       let count = gave_length t (input_of i) in
@@ -151,7 +157,7 @@ module _ (laws : Laws) (l : Layout) (d : Whole Part) (names : List (List ℕ)) (
       let r = drives limit t' s' g.1 (left_by ready left) (owed_after m (suc owed)) n (left_fits ready left fits) (rest_offers laws l d names laid parts t s h i (beats_offered (left_by ready left)) coming)
           (omega (arith, count, owed', owes)) (ends_then t left limit n ends) in
       let rest = drive D s' (left_after m left) (owed_after m (suc owed)) limit in
-      let q = subst (λ (os : List Offered). DrivesTo t' s' (left_by ready left) n (drive D s' os (owed_after m (suc owed)) limit)) (sym then) r in
+      let q = subst (λ (os : List Offered). DrivesTo t' s' (left_by ready left) n (drive D s' os (owed_after m (suc owed)) limit)) (sym left_then) r in
       subst (DrivesTo t s left n) (sym (drive_step D s left owed limit g.0)) (record {
         ended = q.ended;
         same = ap (λ ms. m ∷ ms) q.same;

@@ -72,15 +72,17 @@ part_after part (o ∷ os) = if o.beat.last then part_after None os else part_af
 -- the frames among more offers are more
 more_arrive : (part : Option Arrival) (os ps : List Offered) → arrivals_among part (os ++ ps) ≡ arrivals_among part os ++ arrivals_among (part_after part os) ps
 more_arrive part [] ps = refl
-more_arrive part (o ∷ os) ps = by o.beat.last
+more_arrive part (o ∷ os) ps = by o.beat.last (more_arrive None os ps) (more_arrive (Some (arrived part o)) os ps)
   where
     a : Arrival
     a = arrived part o
 
-    by : (last : Bool) → (if last then a ∷ arrivals_among None (os ++ ps) else arrivals_among (Some a) (os ++ ps))
+    by : (last : Bool) → arrivals_among None (os ++ ps) ≡ arrivals_among None os ++ arrivals_among (part_after None os) ps
+        → arrivals_among (Some a) (os ++ ps) ≡ arrivals_among (Some a) os ++ arrivals_among (part_after (Some a) os) ps
+        → (if last then a ∷ arrivals_among None (os ++ ps) else arrivals_among (Some a) (os ++ ps))
         ≡ (if last then a ∷ arrivals_among None os else arrivals_among (Some a) os) ++ arrivals_among (if last then part_after None os else part_after (Some a) os) ps
-    by true = ap (λ cs. a ∷ cs) (more_arrive None os ps)
-    by false = more_arrive (Some a) os ps
+    by true none some = ap (λ cs. a ∷ cs) none
+    by false none some = some
 
 -- no more frames have come than are to come
 pub arrive_few : (os ps : List Offered) (packets : List Arrival) → arrivals_among None (os ++ ps) ≡ packets → length (arrivals_among None os) ≤ length packets

@@ -2,7 +2,7 @@
 use Rattle.std.specs.Prelude.{◌≡◌, ℕ, zero, suc, ◌+◌, ◌-◌, ◌*◌, ◌≤◌, None, List, [], ◌∷◌, ◌++◌, length, map}
 use Rattle.std.specs.List.{flat_map, AllByRecursion}
 use Rattle.std.proofs.Common.{refl, sym, ap, ◌∙◌, subst, arith, append_assoc, length-append}
-use Rattle.std.proofs.lemmas.List.{map-append, length-map}
+use Rattle.std.proofs.lemmas.List.{map-append}
 use Rattle.beat_core.specs.declared.beat.Beat.{Beat}
 use Rattle.beat_core.specs.declared.answer.Answer.{Answer}
 use Rattle.beat_core.specs.Beats.{beats_of, IsFilledUp}
@@ -33,7 +33,7 @@ use Rattle.shell_net.specs.Following.{design}
 use Rattle.realization.specs.Bounds.{clock_bound, clock_bound_apart, most_beats, packet_clocks}
 use Rattle.realization.specs.Realizes.{IsPattern, BeginNext, IsPrefix, IsPacket, IsBeside, IsWhole, Meets, frames_in, all_offers, beats_offered, inputs_in}
 use Rattle.pipeline_runs.specs.Answered.{AreAnswered}
-use Rattle.pipeline_runs.specs.Meeting.{PipelinesMeet}
+use Rattle.pipeline_runs.specs.Meeting.{Always, PipelinesMeet}
 use Rattle.pipeline_runs.proofs.Histories.{trace_append, all_append, offers_append, beats_append, beats_of_offers, offered_append, offers_first, arrive_few, same_arrive, packets_arrive, beats_of_all, frames_of_packets}
 use Rattle.pipeline_runs.proofs.Runs.{Laws, Stands, begins, Runs, runs}
 use Rattle.pipeline_runs.proofs.Wanted.{Later, later_on, as_many, none_later}
@@ -48,7 +48,8 @@ pub record AllLaws : Type 0 where
   pub no_maps : NeedNoClocks
 
 as_many_frames : (packets : List Arrival) → length (frames_in packets) ≡ length packets
-as_many_frames packets = length-map (λ a. a.frame) packets
+as_many_frames [] = refl
+as_many_frames (a ∷ rest) = ap suc (as_many_frames rest)
 
 run_append : (b : Build) (xs ys : List Input) (t : Trace) → run b (xs ++ ys) t ≡ run b ys (run b xs t)
 run_append b [] ys t = refl
@@ -87,7 +88,7 @@ module _ (laws : AllLaws) (l : Layout) (d : Whole Part) (names : List (List ℕ)
 
   -- no more answers are given than packets came
   given_few : (is : List Inputs) → Later l laid maps (ran is) → length (ran is).gave ≤ length (ran is).came
-  given_few is k = let e = as_many l.build.program maps (ran is).came ((ran is).gave ++ k.later) maps k.answered in omega (arith, e, length-append (ran is).gave k.later)
+  given_few is k = let e = as_many l.build.program (ran is).came ((ran is).gave ++ k.later) maps maps k.answered in omega (arith, e, length-append (ran is).gave k.later)
 
   -- ---- a drive behind some clocks
   module _ (is : List Inputs) (pattern : IsPattern D first is) (packets : List Arrival) (are : AllByRecursion IsPacket packets) (left : List Offered) (beside : AllByRecursion IsBeside left)
@@ -99,8 +100,8 @@ module _ (laws : AllLaws) (l : Layout) (d : Whole Part) (names : List (List ℕ)
     abbrev before : List Cycle
     before = trace D first is
 
-    abbrev then : Stored
-    then = stored_after D first is
+    abbrev reached : Stored
+    reached = stored_after D first is
 
     many : length frames ≡ length packets
     many = as_many_frames packets
@@ -128,7 +129,7 @@ module _ (laws : AllLaws) (l : Layout) (d : Whole Part) (names : List (List ℕ)
     owed = length packets - length (answers_given [] before)
 
     abbrev driven : Drive
-    driven = drive D then left owed limit
+    driven = drive D reached left owed limit
 
     came_few : length (ran is).came ≤ length packets
     came_few = let e = ap length ran_first.came in omega (arith, e, arrive_few (offers_in before) left packets come)
@@ -136,8 +137,8 @@ module _ (laws : AllLaws) (l : Layout) (d : Whole Part) (names : List (List ℕ)
     owes : owed + length (ran is).gave ≡ length packets
     owes = let e = ap length ran_first.gave in omega (arith, e, given_few is (later_of is ran_first), came_few)
 
-    goes : DrivesTo laws.pipeline l d names laid parts (ran is) then left (length packets) driven
-    goes = drives laws.pipeline l d names laid parts limit (ran is) then ran_first.stands left owed (length packets) left_fit left_offer owes ends
+    goes : DrivesTo laws.pipeline l d names laid parts (ran is) reached left (length packets) driven
+    goes = drives laws.pipeline l d names laid parts limit (ran is) reached ran_first.stands left owed (length packets) left_fit left_offer owes ends
 
     abbrev both : List Inputs
     both = is ++ inputs_in driven.trace
@@ -206,8 +207,8 @@ module _ (laws : AllLaws) (l : Layout) (d : Whole Part) (names : List (List ℕ)
       subst (λ r. IsWhole D first [] r [] wanted) (drive_none D first [] (last_of l + 1) ∙ sym (drive_none D first [] limit)) (full_from [] (last_of l + 1) tt (omega arith))
   complete_from (a ∷ packets) limit are long = full_from (a ∷ packets) limit are (long (omega arith))
 
-  pub meets : (apart : List Arrival → List Touched → Type 0) → Meets D first wanted apart (last_of l) 0
-  meets apart = record {
+  pub meets : Meets D first wanted Always (last_of l) 0
+  meets = record {
     safe = safe;
     complete = λ packets limit are bound.
         complete_from packets limit are (λ some. omega (arith, bound, bound_enough (frames_in packets) (length packets) (last_of l) some (omega (arith, as_many_frames packets))));
@@ -218,4 +219,4 @@ module _ (laws : AllLaws) (l : Layout) (d : Whole Part) (names : List (List ℕ)
   }
 
 pub pipelines_meet : AllLaws → PipelinesMeet
-pipelines_meet laws l d names laid parts slots maps sound none apart = meets laws l d names laid parts slots maps sound none apart
+pipelines_meet laws l d names laid parts slots maps sound none = meets laws l d names laid parts slots maps sound none

@@ -90,16 +90,16 @@ module _ (l : Layout) (laid : IsLaidOut l) (maps : MapState) where
       }
 
 -- there are as many answers as packets
-pub as_many : (p : ProgramView) (maps : MapState) (cs : List Arrival) (rs : List Answer) (last : MapState) → AreAnswered p maps cs rs last → length rs ≡ length cs
-as_many p maps [] [] last h = refl
-as_many p maps [] (r ∷ rs) last h = absurd h
-as_many p maps (c ∷ cs) [] last h = absurd h
-as_many p maps (c ∷ cs) (r ∷ rs) last h = omega (arith, as_many p _ cs rs last h.1)
+pub as_many : (program : ProgramView) (cs : List Arrival) (rs : List Answer) (maps last : MapState) → AreAnswered program maps cs rs last → length rs ≡ length cs
+as_many program [] [] maps last h = refl
+as_many program [] (r ∷ rs) maps last h = absurd h
+as_many program (c ∷ cs) [] maps last h = absurd h
+as_many program (c ∷ cs) (r ∷ rs) maps last h = omega (arith, as_many program cs rs (leaves h.0.values (packet_of c) maps program).maps last h.1)
 
 -- where all packets are answered none is to come
-pub none_later : (p : ProgramView) (maps : MapState) (cs : List Arrival) (gave later : List Answer) (last : MapState) → AreAnswered p maps cs (gave ++ later) last → length gave ≡ length cs → AreAnswered p maps cs gave last
-none_later p maps cs gave later last h e = by later h (omega (arith, as_many p maps cs (gave ++ later) last h, length-append gave later, e))
+pub none_later : (program : ProgramView) (maps : MapState) (cs : List Arrival) (gave rest : List Answer) (last : MapState) → AreAnswered program maps cs (gave ++ rest) last → length gave ≡ length cs → AreAnswered program maps cs gave last
+none_later program maps cs gave rest last h e = by rest h (omega (arith, as_many program cs (gave ++ rest) maps last h, length-append gave rest, e))
   where
-    by : (later : List Answer) → AreAnswered p maps cs (gave ++ later) last → length later ≡ 0 → AreAnswered p maps cs gave last
-    by [] h z = subst (λ rs. AreAnswered p maps cs rs last) (append-nil gave) h
+    by : (rest : List Answer) → AreAnswered program maps cs (gave ++ rest) last → length rest ≡ 0 → AreAnswered program maps cs gave last
+    by [] h z = subst (λ rs. AreAnswered program maps cs rs last) (append-nil gave) h
     by (r ∷ rs) h z = absurd (omega (arith, z))
