@@ -1,10 +1,10 @@
 -- What a clock of the machine makes of the frame that comes and of the answer that is given.
-use Rattle.std.specs.Prelude.{◌≡◌, ℕ, suc, ◌+◌, ◌*◌, ◌<◌, if◌then◌else◌, Bool, true, false, Option, Some, None, List, [], ◌∷◌, ◌++◌, length, drop, take}
-use Rattle.std.proofs.Common.{get_or, refl, sym, ap, ◌∙◌, subst, arith, append-nil, append_assoc}
+use Rattle.std.specs.Prelude.{◌≡◌, ℕ, suc, ◌*◌, if◌then◌else◌, Bool, true, false, Option, Some, None, List, [], ◌∷◌, ◌++◌, drop, take}
+use Rattle.std.proofs.Common.{refl, sym, ap, ◌∙◌, subst, append-nil}
 use Rattle.list_laws.specs.Bytes.{IsBytes}
 use Rattle.beat_core.specs.declared.beat.Beat.{Beat}
 use Rattle.beat_core.specs.declared.answer.Answer.{Answer}
-use Rattle.beat_core.specs.Beats.{first_beat, beat_count, beats_of, frame_of, bytes_of_beat}
+use Rattle.beat_core.specs.Beats.{first_beat, beats_of, frame_of, bytes_of_beat}
 use Rattle.net_core.specs.declared.ports.Inputs.{Inputs}
 use Rattle.pipe_core.specs.Machine.{Packet, State, Input, Build, Turn, Commits, Writes, Moves, swept, some_send, turn_of, worked, work, beat_over, came_with, gathered, beat_at, taken_beat, scattered, first_answer, clock}
 use Rattle.shell_net.specs.Machine.{input_of}

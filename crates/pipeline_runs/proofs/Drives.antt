@@ -1,9 +1,7 @@
 -- The full drive of a pipeline: it ends, and in its clocks the machine takes and gives.
-use Rattle.std.specs.Prelude.{◌≡◌, ℕ, zero, suc, ◌+◌, ◌^◌, ◌<◌, ◌≤◌, ◌==◌, if◌then◌else◌, Bool, true, false, ◌&&◌, is_some, Option, Some, None, List, [], ◌∷◌, ◌++◌, length, map, drop}
+use Rattle.std.specs.Prelude.{◌≡◌, ℕ, zero, suc, ◌+◌, ◌^◌, ◌<◌, ◌≤◌, ◌==◌, if◌then◌else◌, Bool, true, false, ◌&&◌, Option, Some, None, List, [], ◌∷◌, ◌++◌, length, map, drop}
 use Rattle.std.specs.List.{AllByRecursion}
 use Rattle.std.proofs.Common.{refl, sym, ap, ◌∙◌, subst, arith, append_assoc, length-append}
-use Rattle.beat_core.specs.declared.beat.Beat.{Beat}
-use Rattle.beat_core.specs.declared.answer.Answer.{Answer}
 use Rattle.beat_core.specs.Clocks.{AreOffers}
 use Rattle.beat_core.specs.Ports.{Offered}
 use Rattle.net_core.specs.declared.tree.Word.{Word}
@@ -12,14 +10,14 @@ use Rattle.net_core.specs.declared.ports.TheConstants.{IN_READY}
 use Rattle.net_core.specs.Nets.{Netlist}
 use Rattle.net_core.specs.Clock.{Stored, after, shown, stopping}
 use Rattle.net_core.specs.Ports.{words_of}
-use Rattle.net_core.specs.History.{Cycle, cycle_of, trace, goes_in, beats_in, offers_in, goes_out, IsInput, drive_inputs, Drive, Ended, Answered, Stopped, and_then, left_after, owed_after, drive}
+use Rattle.net_core.specs.History.{Cycle, cycle_of, trace, offers_in, IsInput, drive_inputs, Drive, Answered, Stopped, and_then, left_after, owed_after, drive}
 use Rattle.block_core.specs.Blocks.{Whole}
 use Rattle.frame_net.specs.Frames.{position_of}
-use Rattle.pipe_core.specs.Machine.{State, Input, Output, is_ready, beat_over, shown_beat, taken_beat, first_answer, output, clock}
+use Rattle.pipe_core.specs.Machine.{Input, is_ready, beat_over, taken_beat}
 use Rattle.pipe_core.specs.History.{Trace, gave_in, next, run}
 use Rattle.pipe_core.specs.Drive.{Driven, driving, drive_clock, Beside, ahead, drive as machine_drive}
 use Rattle.shell_net.specs.declared.parts.Part.{Part}
-use Rattle.shell_net.specs.Machine.{beat_in, input_of, ShowsBeat, Shows}
+use Rattle.shell_net.specs.Machine.{input_of}
 use Rattle.shell_net.specs.Layout.{Layout, IsLaidOut, AreParts}
 use Rattle.shell_net.specs.Following.{design}
 use Rattle.realization.specs.Realizes.{IsBeside, beats_offered, inputs_in}
@@ -155,7 +153,7 @@ module _ (laws : Laws) (l : Layout) (d : Whole Part) (names : List (List ℕ)) (
       let count = gave_length t (input_of i) in
       let owed' = owes_now l.build t.state i at sh owed in
       let r = drives limit t' s' g.1 (left_by ready left) (owed_after m (suc owed)) n (left_fits ready left fits) (rest_offers laws l d names laid parts t s h i (beats_offered (left_by ready left)) coming)
-          (omega (arith, count, owed', owes)) (ends_then t left limit n ends) in
+      (omega (arith, count, owed', owes)) (ends_then t left limit n ends) in
       let rest = drive D s' (left_after m left) (owed_after m (suc owed)) limit in
       let q = subst (λ (os : List Offered). DrivesTo t' s' (left_by ready left) n (drive D s' os (owed_after m (suc owed)) limit)) (sym left_then) r in
       subst (DrivesTo t s left n) (sym (drive_step D s left owed limit g.0)) (record {

@@ -1,9 +1,8 @@
 -- Lists of clocks one behind the other, and what goes over in them.
-use Rattle.std.specs.Prelude.{◌≡◌, ℕ, zero, suc, ◌+◌, ◌<◌, ◌≤◌, if◌then◌else◌, Bool, true, false, Option, Some, None, List, [], ◌∷◌, ◌++◌, length, map}
+use Rattle.std.specs.Prelude.{◌≡◌, ℕ, ◌≤◌, if◌then◌else◌, Bool, true, false, Option, Some, None, List, [], ◌∷◌, ◌++◌, length, map}
 use Rattle.std.specs.List.{AllByRecursion, flat_map}
-use Rattle.std.proofs.Common.{refl, sym, ap, ◌∙◌, subst, arith, append_assoc, append-nil, length-append}
+use Rattle.std.proofs.Common.{refl, sym, ap, ◌∙◌, arith, append-nil, length-append}
 use Rattle.beat_core.specs.declared.beat.Beat.{Beat}
-use Rattle.beat_core.specs.declared.answer.Answer.{Answer}
 use Rattle.beat_core.specs.Beats.{beats_of, IsWhole}
 use Rattle.beat_core.specs.Clocks.{AreOffers}
 use Rattle.beat_core.specs.Laws.{IsFrame}
@@ -15,7 +14,7 @@ use Rattle.net_core.specs.declared.ports.Inputs.{Inputs}
 use Rattle.net_core.specs.Nets.{Netlist}
 use Rattle.net_core.specs.Clock.{Stored, after}
 use Rattle.net_core.specs.Ports.{words_of}
-use Rattle.net_core.specs.History.{Cycle, cycle_of, trace, stored_after, goes_in, offered_beat, beats_in, offers_in, IsInput}
+use Rattle.net_core.specs.History.{Cycle, cycle_of, trace, stored_after, goes_in, offered_beat, beats_in, offers_in}
 use Rattle.realization.specs.Realizes.{IsPacket, frames_in, offers_from, all_offers, beats_offered}
 
 pub trace_append : (d : Netlist) (s : Stored) (is js : List Inputs) → trace d s (is ++ js) ≡ trace d s is ++ trace d (stored_after d s is) js

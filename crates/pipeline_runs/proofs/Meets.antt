@@ -1,9 +1,8 @@
 -- The design of a pipeline meets what is wanted of one.
-use Rattle.std.specs.Prelude.{◌≡◌, ℕ, zero, suc, ◌+◌, ◌-◌, ◌*◌, ◌≤◌, None, List, [], ◌∷◌, ◌++◌, length, map}
+use Rattle.std.specs.Prelude.{◌≡◌, ℕ, suc, ◌+◌, ◌-◌, ◌*◌, ◌≤◌, None, List, [], ◌∷◌, ◌++◌, length, map}
 use Rattle.std.specs.List.{flat_map, AllByRecursion}
 use Rattle.std.proofs.Common.{refl, sym, ap, ◌∙◌, subst, arith, append_assoc, length-append}
 use Rattle.std.proofs.lemmas.List.{map-append}
-use Rattle.beat_core.specs.declared.beat.Beat.{Beat}
 use Rattle.beat_core.specs.declared.answer.Answer.{Answer}
 use Rattle.beat_core.specs.Beats.{beats_of, IsFilledUp}
 use Rattle.beat_core.specs.Clocks.{AreOffers}
@@ -12,7 +11,6 @@ use Rattle.beat_core.specs.Ports.{Arrival, Offered, arrivals_among}
 use Rattle.beat_core.proofs.FillingLaws.{AreOffers-filled_up}
 use Rattle.beat_core.proofs.OrderLaws.{offers-frames}
 use Rattle.xdp_maps.specs.State.{MapState, IsSound}
-use Rattle.xdp_machine.specs.Touched.{Touched}
 use Rattle.net_core.specs.declared.ports.Inputs.{Inputs}
 use Rattle.net_core.specs.Nets.{Netlist}
 use Rattle.net_core.specs.Clock.{Stored, first_stored}
@@ -20,22 +18,20 @@ use Rattle.net_core.specs.History.{Cycle, trace, stored_after, beats_in, offers_
 use Rattle.block_core.specs.Blocks.{Whole}
 use Rattle.host_history.specs.Laws.{NeedNoClocks}
 use Rattle.cell_core.specs.CellLaws.{HaveValues}
-use Rattle.cell_core.specs.Sites.{ProgramView}
 use Rattle.frame_net.specs.Frames.{position_of}
-use Rattle.pipe_core.specs.Machine.{Input, Build, new_state}
+use Rattle.pipe_core.specs.Machine.{Input, Build}
 use Rattle.pipe_core.specs.History.{Trace, next, run, begin}
 use Rattle.pipe_core.specs.Sequential.{RunsWithoutMaps}
-use Rattle.pipe_core.specs.Drive.{Beside, drive as machine_drive, EndsLateWithoutMaps}
+use Rattle.pipe_core.specs.Drive.{EndsLateWithoutMaps}
 use Rattle.shell_net.specs.declared.parts.Part.{Part}
 use Rattle.shell_net.specs.Machine.{input_of}
 use Rattle.shell_net.specs.Layout.{Layout, last_of, IsLaidOut, AreParts}
 use Rattle.shell_net.specs.Following.{design}
-use Rattle.realization.specs.Bounds.{clock_bound, clock_bound_apart, most_beats, packet_clocks}
 use Rattle.realization.specs.Realizes.{IsPattern, BeginNext, IsPrefix, IsPacket, IsBeside, IsWhole, Meets, frames_in, all_offers, beats_offered, inputs_in}
 use Rattle.pipeline_runs.specs.Answered.{AreAnswered}
 use Rattle.pipeline_runs.specs.Meeting.{Always, PipelinesMeet}
 use Rattle.pipeline_runs.proofs.Histories.{trace_append, all_append, offers_append, beats_append, beats_of_offers, offered_append, offers_first, arrive_few, same_arrive, packets_arrive, beats_of_all, frames_of_packets}
-use Rattle.pipeline_runs.proofs.Runs.{Laws, Stands, begins, Runs, runs}
+use Rattle.pipeline_runs.proofs.Runs.{Laws, begins, Runs, runs}
 use Rattle.pipeline_runs.proofs.Wanted.{Later, later_on, as_many, none_later}
 use Rattle.pipeline_runs.proofs.Drives.{Fits, Ends, DrivesTo, drive_none, drives}
 use Rattle.pipeline_runs.proofs.Bounds.{bound_enough, apart_enough, all_filled, all_behind, all_fit, all_beside}
@@ -122,7 +118,7 @@ module _ (laws : AllLaws) (l : Layout) (d : Whole Part) (names : List (List ℕ)
     ends : Ends laws.pipeline l d names laid parts (ran is) left limit (length packets)
     ends clocks enough' =
         laws.ends l.build laid.sites slots maps (map input_of is) frames (frames_of_packets packets are) (beats_offered left)
-            (ap (λ bs. map filled_up bs ++ beats_offered left) (sym ran_first.beats) ∙ over) clocks (omega (arith, long, enough', many))
+        (ap (λ bs. map filled_up bs ++ beats_offered left) (sym ran_first.beats) ∙ over) clocks (omega (arith, long, enough', many))
         ∙ many
 
     abbrev owed : ℕ
@@ -150,7 +146,7 @@ module _ (laws : AllLaws) (l : Layout) (d : Whole Part) (names : List (List ℕ)
     beats_split =
         ap (λ bs. bs ++ beats_offered goes.rest) (beats_append before driven.trace) ∙ append_assoc (beats_in before) (beats_in driven.trace) (beats_offered goes.rest)
         ∙ ap (λ bs. beats_in before ++ bs)
-            (ap (λ bs. bs ++ beats_offered goes.rest) (sym (beats_of_offers driven.trace)) ∙ sym (offered_append (offers_in driven.trace) goes.rest) ∙ ap beats_offered goes.split)
+        (ap (λ bs. bs ++ beats_offered goes.rest) (sym (beats_of_offers driven.trace)) ∙ sym (offered_append (offers_in driven.trace) goes.rest) ∙ ap beats_offered goes.split)
 
     ran_both : Runs laws.pipeline l d names laid parts (begin l.build maps) first both
     ran_both =
@@ -169,8 +165,8 @@ module _ (laws : AllLaws) (l : Layout) (d : Whole Part) (names : List (List ℕ)
     came_all =
         came_is
         ∙ same_arrive (offers_in before ++ offers_in driven.trace) goes.rest packets
-            (ap (arrivals_among None) (append_assoc (offers_in before) (offers_in driven.trace) goes.rest ∙ ap (λ os. offers_in before ++ os) goes.split) ∙ come)
-            (omega (arith, gave_all, given_few both (later_of both ran_both), ap length came_is))
+        (ap (arrivals_among None) (append_assoc (offers_in before) (offers_in driven.trace) goes.rest ∙ ap (λ os. offers_in before ++ os) goes.split) ∙ come)
+        (omega (arith, gave_all, given_few both (later_of both ran_both), ap length came_is))
 
     whole_of : IsWhole D first is driven packets wanted
     whole_of =

@@ -1,12 +1,12 @@
 -- Clock after clock a pipeline takes and gives what the machine does.
-use Rattle.std.specs.Prelude.{◌≡◌, ℕ, ◌+◌, ◌<◌, Option, Some, None, List, [], ◌∷◌, ◌++◌, length, map}
+use Rattle.std.specs.Prelude.{◌≡◌, ℕ, Option, Some, None, List, [], ◌∷◌, ◌++◌, map}
 use Rattle.std.specs.List.{AllByRecursion}
-use Rattle.std.proofs.Common.{get_or, refl, sym, ap, ◌∙◌, subst, arith, append-nil, append_assoc}
+use Rattle.std.proofs.Common.{refl, sym, ap, ◌∙◌, subst, arith, append-nil, append_assoc}
 use Rattle.beat_core.specs.declared.beat.Beat.{Beat}
 use Rattle.beat_core.specs.declared.answer.Answer.{Answer}
 use Rattle.beat_core.specs.Beats.{frame_of}
 use Rattle.beat_core.specs.Clocks.{AreOffers}
-use Rattle.beat_core.specs.Ports.{Arrival, arrivals_among, answers_among}
+use Rattle.beat_core.specs.Ports.{arrivals_among, answers_among}
 use Rattle.xdp_maps.specs.State.{MapState}
 use Rattle.net_core.specs.declared.tree.Word.{Word}
 use Rattle.net_core.specs.declared.ports.Inputs.{Inputs}
@@ -18,7 +18,7 @@ use Rattle.block_core.specs.Blocks.{Whole}
 use Rattle.block_core.specs.Parts.{stored_of}
 use Rattle.frame_net.specs.declared.held.Kept.{Kept}
 use Rattle.frame_net.specs.Frames.{position_of}
-use Rattle.pipe_core.specs.Machine.{State, Output, beat_over, taken_beat, clock, output}
+use Rattle.pipe_core.specs.Machine.{State, beat_over, taken_beat, clock, output}
 use Rattle.pipe_core.specs.History.{Trace, came_in, gave_in, next, run, begin, IsInOrder, KeepsOrder, IsAlwaysInOrder}
 use Rattle.pipe_core.specs.Computed.{IsComputed, KeepsComputed, IsAlwaysComputed}
 use Rattle.pipe_core.specs.Drive.{ahead, beats_in as machine_beats}
@@ -106,8 +106,8 @@ module _ (laws : Laws) (l : Layout) (d : Whole Part) (names : List (List ℕ)) (
   came_then t s h i ms =
       let over = beat_over l.build t.state (input_of i) in
       ap (λ xs. t.came ++ xs)
-          (ap (arrivals_among t.state.part) (offers_now l.build t.state i (shown net (words_of i) s) (shows_at t s h i) ms) ∙ arrivals_now t.state i over (offers_in ms)
-          ∙ ap (λ p. came_in t.state (input_of i) over ++ arrivals_among p (offers_in ms)) (sym (ticks_at t s h i).part))
+      (ap (arrivals_among t.state.part) (offers_now l.build t.state i (shown net (words_of i) s) (shows_at t s h i) ms) ∙ arrivals_now t.state i over (offers_in ms)
+      ∙ ap (λ p. came_in t.state (input_of i) over ++ arrivals_among p (offers_in ms)) (sym (ticks_at t s h i).part))
       ∙ sym (append_assoc t.came (came_in t.state (input_of i) over) (arrivals_among (clock l.build (input_of i) t.state).part (offers_in ms)))
 
   pub gave_then : (t : Trace) (s : Stored) → Stands l d t s → (i : Inputs) (ms : List Cycle) →
@@ -116,10 +116,10 @@ module _ (laws : Laws) (l : Layout) (d : Whole Part) (names : List (List ℕ)) (
   gave_then t s h i ms =
       let e = taken_beat t.state (input_of i) in
       ap (λ xs. t.gave ++ xs)
-          (ap (answers_among (frame_of (begun t.state))) (gives_now l.build t.state i (shown net (words_of i) s) (shows_at t s h i) ms)
-          ∙ answers_now t.state (output l.build (input_of i) t.state) (begun t.state) e (given_out ms) refl refl
-              (whole_then t.state.pos t.state.answers i.out_ready h.related.position (first_answer_bytes l d t.state h.stores h.related))
-          ∙ ap (λ bs. gave_in t.state.answers e ++ answers_among (frame_of bs) (given_out ms)) (sym (ticks_at t s h i).begun))
+      (ap (answers_among (frame_of (begun t.state))) (gives_now l.build t.state i (shown net (words_of i) s) (shows_at t s h i) ms)
+      ∙ answers_now t.state (output l.build (input_of i) t.state) (begun t.state) e (given_out ms) refl refl
+      (whole_then t.state.pos t.state.answers i.out_ready h.related.position (first_answer_bytes l d t.state h.stores h.related))
+      ∙ ap (λ bs. gave_in t.state.answers e ++ answers_among (frame_of bs) (given_out ms)) (sym (ticks_at t s h i).begun))
       ∙ sym (append_assoc t.gave (gave_in t.state.answers e) (answers_among (frame_of (begun (clock l.build (input_of i) t.state))) (given_out ms)))
 
   pub open_then : (t : Trace) (s : Stored) → Stands l d t s → (i : Inputs) (ms : List Cycle) →

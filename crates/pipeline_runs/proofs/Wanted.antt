@@ -1,8 +1,7 @@
 -- The answers that are given, and those that are to come, are those of cell runs.
-use Rattle.std.specs.Prelude.{◌≡◌, ℕ, ◌+◌, ◌^◌, ◌<◌, ◌≤◌, Bool, true, false, Option, Some, None, List, [], ◌∷◌, ◌++◌, length, take, drop}
+use Rattle.std.specs.Prelude.{◌≡◌, ℕ, Bool, true, false, Some, List, [], ◌∷◌, ◌++◌, length, take, drop}
 use Rattle.std.proofs.Common.{refl, sym, ap, ◌∙◌, subst, arith, length-append, append_assoc, append-nil}
 use Rattle.std.proofs.lemmas.List.{take-append-drop}
-use Rattle.beat_core.specs.declared.beat.Beat.{Beat}
 use Rattle.beat_core.specs.declared.answer.Answer.{Answer}
 use Rattle.beat_core.specs.Beats.{beats_of}
 use Rattle.beat_core.specs.Ports.{Arrival}
@@ -10,13 +9,13 @@ use Rattle.xdp_maps.specs.State.{MapState}
 use Rattle.xdp_machine.specs.State.{PacketIn}
 use Rattle.cell_core.specs.declared.operator.Operator.{Operator}
 use Rattle.cell_core.specs.declared.operator.Operator.TheVariants.{Found, Answer as AnswerOf}
-use Rattle.cell_core.specs.Cells.{CellView, cell_at, is_read, site_in, IsRun}
+use Rattle.cell_core.specs.Cells.{cell_at, is_read, site_in}
 use Rattle.cell_core.specs.CellLaws.{HaveValues}
 use Rattle.cell_core.specs.Sites.{ProgramView, IsCellRun, leaves, after}
-use Rattle.cell_core.specs.Formed.{AreFormed, AreSited}
+use Rattle.cell_core.specs.Formed.{AreSited}
 use Rattle.hazard_core.specs.Held.{Held, held_value}
-use Rattle.pipe_core.specs.Machine.{State, Input, Build, packet_of, first_answer}
-use Rattle.pipe_core.specs.History.{Trace, run, begin, answers_of, IsInOrder, IsAlwaysInOrder}
+use Rattle.pipe_core.specs.Machine.{Input, packet_of, first_answer}
+use Rattle.pipe_core.specs.History.{Trace, run, begin, answers_of, IsInOrder}
 use Rattle.pipe_core.specs.Sequential.{AreCellRuns, RunsWithoutMaps}
 use Rattle.shell_net.specs.Layout.{Layout, cells_of, IsLaidOut}
 use Rattle.shell_net.specs.Relation.{IsAt}
