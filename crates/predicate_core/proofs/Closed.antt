@@ -42,15 +42,6 @@ use Rattle.predicate_core.proofs.Opened.{byte_below}
 
 -- ---- what one end holds
 
-pub low_whole : (x : ℕ) → bits_from x 0 32 ≡ low 32 x
-low_whole x = ap (low 32) (let e : x / 2 ^ 0 ≡ x = omega arith in e)
-
-pub known_word : (old new : List CellView) (n held c : ℕ) → Makes old new c (operated (Constant n) [] 0 32) → Makes old new c (λ packet v. low 32 (number_of v (Known n) held))
-known_word old new n held c made = record { grows = made.grows; there = made.there; value = λ packet v run. made.value packet v run ∙ low_whole n }
-
-pub held_word : (old new : List CellView) (held c : ℕ) → Makes old new c (operated Wire (held ∷ []) 0 32) → Makes old new c (λ packet v. low 32 (number_of v Unknown held))
-held_word old new held c made = record { grows = made.grows; there = made.there; value = λ packet v run. made.value packet v run ∙ low_whole (v held) }
-
 pub known_row : (old new : List CellView) (c : ℕ) → Rises old new c (λ row. 0) → AddsNoRow old new
 known_row old new c rises = no_row_more old new (λ row. 0) rises.grows (λ row n low. omega arith)
 
