@@ -11,3 +11,6 @@ pub mod GiveLemmas
 pub mod DivisionLemmas
 pub mod GatherLemmas
 pub mod SumLemmas
+pub mod PhiLemmas
+pub mod NumberLemmas
+pub mod ComputingLemmas

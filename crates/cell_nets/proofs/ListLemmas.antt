@@ -47,11 +47,11 @@ any_map v [] = refl
 any_map v (a ∷ args) = ap (λ b. on (number_in v a) || b) (any_map v args)
 
 -- ---- the first whose edge is on
-phi_step : (e x : ℕ) (rest : List ℕ) → 0 < length rest → phi (e ∷ x ∷ rest) ≡ (if on e then x else phi rest)
+pub phi_step : (e x : ℕ) (rest : List ℕ) → 0 < length rest → phi (e ∷ x ∷ rest) ≡ (if on e then x else phi rest)
 phi_step e x [] some = absurd (omega arith)
 phi_step e x (d ∷ more) some = refl
 
-two_more : {N : Type 0} (args : List (Operand N)) (at : ℕ) (x y : Operand N) → at + 1 < length args → x ≡ get_or args at x → y ≡ get_or args (at + 1) y → drop at args ≡ x ∷ y ∷ drop (at + 2) args
+pub two_more : {N : Type 0} (args : List (Operand N)) (at : ℕ) (x y : Operand N) → at + 1 < length args → x ≡ get_or args at x → y ≡ get_or args (at + 1) y → drop at args ≡ x ∷ y ∷ drop (at + 2) args
 two_more args at x y inside is also =
     let e : suc at ≡ at + 1 = omega arith in
     let f : suc (at + 1) ≡ at + 2 = omega arith in

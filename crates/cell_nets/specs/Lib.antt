@@ -5,3 +5,4 @@ pub mod Listing
 pub mod Wires
 pub mod Dividing
 pub mod Gathering
+pub mod Computing

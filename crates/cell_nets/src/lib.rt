@@ -9,6 +9,8 @@ pub mod gathering;
 pub mod listing;
 pub mod narrow;
 pub mod operand;
+pub mod operators;
+pub mod phi;
 pub mod shifting;
 pub mod slice;
 pub mod summing;

@@ -35,7 +35,7 @@ pub fn any<N: Copy>(alloc: Global, args: &[Operand<N>], width: u8) -> Result<Exp
 }
 
 // The value of the last pair of operands, or 0 where its second is missing.
-fn last_value<N: Copy>(
+pub(crate) fn last_value<N: Copy>(
     alloc: Global,
     args: &[Operand<N>],
     at: usize,

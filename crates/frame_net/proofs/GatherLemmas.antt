@@ -1,7 +1,7 @@
 -- The block that gathers frames is well typed, in order and spelled.
 use Rattle.std.specs.Prelude.{◌≡◌, ℕ, zero, suc, ◌+◌, ◌-◌, ◌^◌, ◌<◌, ◌≤◌, nat_le, ◌&&◌, if◌then◌else◌, true, List, [], ◌∷◌, ◌++◌, length, map, max}
 use Rattle.std.specs.List.{AllByRecursion}
-use Rattle.std.proofs.Common.{get_or, refl, sym, ap, ◌∙◌, subst, arith, inl}
+use Rattle.std.proofs.Common.{get_or, refl, sym, ap, subst, arith, inl}
 use Rattle.std.proofs.lemmas.Bool.{le-leb, lt-ltb}
 use Rattle.std.proofs.lemmas.List.{length-replicate, length-map}
 use Rattle.std.proofs.lemmas.Nat.{pow_pos}
@@ -12,15 +12,15 @@ use Rattle.net_core.specs.Nets.{TRead, TUnary, TBinary, SEnd}
 use Rattle.net_core.specs.Chains.{statements_before}
 use Rattle.net_core.specs.Ports.{port_list}
 use Rattle.net_core.specs.Value.{word}
-use Rattle.net_core.specs.Width.{Scope, width_of, same, word_fits, part_select_width, statement_typed, statements_typed, concatenation_width}
+use Rattle.net_core.specs.Width.{Scope, width_of, part_select_width, statement_typed, concatenation_width, word_fits}
 use Rattle.net_core.proofs.WidthLaws.{concatenation_is}
-use Rattle.design_rules.specs.FormedSyntax.{tree_spelled, statement_spelled, statements_depth, all_placed, all_trees_pass}
+use Rattle.design_rules.specs.FormedSyntax.{statement_spelled, statements_depth}
 use Rattle.block_core.specs.declared.name.Name.{Name}
 use Rattle.block_core.specs.declared.name.Name.TheVariants as name
 use Rattle.block_core.specs.Blocks.{BlockTree, Whole, Among, first_memory}
-use Rattle.block_core.specs.Parts.{Within, AllWithin}
-use Rattle.block_core.specs.Order.{Reads, IsBefore, InOrder}
-use Rattle.block_core.specs.Formed.{names_scope, name_width, block_memory_width, block_registers, block_wires, memories_fit, block_wires_typed, IsTypedBlock, StatementReads, StatementsRead, IsThere}
+use Rattle.block_core.specs.Parts.{Within}
+use Rattle.block_core.specs.Order.{IsBefore, InOrder}
+use Rattle.block_core.specs.Formed.{names_scope, name_width, block_registers, block_wires, memories_fit, block_wires_typed, IsTypedBlock, StatementReads, IsThere}
 use Rattle.frame_net.specs.declared.held.Kept.{Kept}
 use Rattle.frame_net.specs.declared.held.Kept.TheVariants.{Ifindex, Time, Word as FrameWord}
 use Rattle.frame_net.specs.declared.held.Further.{Further}
@@ -29,36 +29,10 @@ use Rattle.frame_net.specs.Frames.{bank_bits, banks, banks_from, further, furthe
 use Rattle.frame_net.specs.Gather.{IsKept, IsFurther, held_widths, kept_width, further_widths}
 use Rattle.frame_net.specs.Stores.{Store, widths_memory, store_statements}
 use Rattle.frame_net.proofs.BankLaws.{banks_few, in_bank_width, low_width}
+use Rattle.frame_net.proofs.StoreLaws.{IsStoreTyped, AreStoresTyped, stores_typed, widths_are, AllReads, stores_read, stores_within, AllSpelled, stores_deep, stores_placed, stores_pass}
 use Rattle.frame_net.proofs.FormLaws.{and_is, one_is, same_is, wire_is, still_before}
 use Rattle.frame_net.specs.GatherNets.{port, register, net, in_bits, masked, next_position, beat_store, further_store, in_bank, wide, place, gather_stores, gather_wires, gather_block, gather_statement}
 
--- ---- stores
-pub record IsStoreTyped {N : Type 0} (s : Scope N) (index width : ℕ) (r : Store N) : Type 0 where
-  pub condition : width_of s r.condition ≡ 1
-  pub at : width_of s r.at ≡ index
-  pub value : width_of s r.value ≡ width
-  pub some_index : 0 < index
-  pub some_width : 0 < width
-
-abbrev pub AreStoresTyped : {N : Type 0} → Scope N → List (ℕ × ℕ) → List (Store N) → Type 0
-AreStoresTyped s [] rs = Unit {0}
-AreStoresTyped s (w ∷ ws) [] = Unit {0}
-AreStoresTyped s (w ∷ ws) (r ∷ rs) = IsStoreTyped s w.0 w.1 r × AreStoresTyped s ws rs
-
-pub stores_typed : {N : Type 0} (s : Scope N) (rs : List ℕ) (ms ws : List (ℕ × ℕ)) (stores : List (Store N)) (at : ℕ) → ((k : ℕ) → k < length stores → get_or ms (at + k) (0, 0) ≡ get_or ws k (0, 0)) → length stores ≡ length ws
-    → AreStoresTyped s ws stores → statements_typed s rs ms (statements_before (store_statements at stores) SEnd) ≡ true
-stores_typed s rs ms ws [] at found n h = refl
-stores_typed s rs ms [] (r ∷ stores) at found n h = absurd (omega arith)
-stores_typed s rs ms (w ∷ ws) (r ∷ stores) at found n h =
-    let z : at + 0 ≡ at = omega arith in
-    let here : get_or ms at (0, 0) ≡ w = ap (λ k. get_or ms k (0, 0)) (sym z) ∙ found 0 (omega arith) in
-    let t = h.0 in
-    and_is _ _
-    (and_is _ _ (one_is _ t.condition)
-    (and_is _ _ (ap (λ p. same p.0 (width_of s r.at)) here ∙ same_is _ _ t.some_index t.at) (ap (λ p. same p.1 (width_of s r.value)) here ∙ same_is _ _ t.some_width t.value)))
-    (stores_typed s rs ms ws stores (suc at) (λ k l. let e : suc at + k ≡ at + suc k = omega arith in ap (λ i. get_or ms i (0, 0)) e ∙ found (suc k) (omega arith)) (omega arith) h.1)
-
--- ---- memories
 -- ---- memories
 pub further_typed : {P : Type 0} (s : Scope (Name P)) (p : P) (over slot : Name P) (bits : ℕ) (fs : List Further) → AllByRecursion (IsFurther bits) fs → 1 ≤ bits → bits ≤ 9 → s.net over ≡ 1 → s.net slot ≡ bits → s.net (name.Register p 1) ≡ 11 → s.net (name.Wire p 2) ≡ 64
     → s.net (name.Wire p 4) ≡ 1 → s.net (name.Port 5) ≡ 32 → s.net (name.Port 6) ≡ 64 → s.net (name.Wire p 5) ≡ bits + 5 → s.net (name.Wire p 6) ≡ bank_bits bits + 11 → AreStoresTyped s (map (further_widths bits) fs) (map (further_store p bits over slot) fs)
@@ -80,10 +54,6 @@ further_typed s p over slot bits fs k b m o q r d g i t w x = all fs k
 count_stores : {P : Type 0} (p : P) (over slot : Name P) (bits : ℕ) (fs : List Further) → length (map (further_store p bits over slot) fs) ≡ length (map (further_widths bits) fs)
 count_stores p over slot bits [] = refl
 count_stores p over slot bits (x ∷ fs) = ap suc (count_stores p over slot bits fs)
-
-pub widths_are : (ws : List (ℕ × ℕ)) → map block_memory_width (map widths_memory ws) ≡ ws
-widths_are [] = refl
-widths_are (w ∷ ws) = ap (λ l. w ∷ l) (widths_are ws)
 
 further_fit : (bits : ℕ) (fs : List Further) → 1 ≤ bits → bits ≤ 9 → memories_fit (map widths_memory (map (further_widths bits) fs)) ≡ true
 further_fit bits fs some most = all fs
@@ -211,14 +181,6 @@ in_order d before p bits over slot a o q = (
 )
 
 -- ---- what statements read and set
-abbrev pub AllReads : {N : Type 0} → (N → Type 0) → List (Store N) → Type 0
-AllReads q [] = Unit {0}
-AllReads q (r ∷ rs) = (Reads q r.condition × (Reads q r.at × Reads q r.value)) × AllReads q rs
-
-pub stores_read : {N : Type 0} (q : N → Type 0) (rs : List (Store N)) (at : ℕ) → AllReads q rs → StatementsRead q (statements_before (store_statements at rs) SEnd)
-stores_read q [] at h = tt
-stores_read q (r ∷ rs) at h = ((h.0.0, (h.0.1.0, h.0.1.1)), stores_read q rs (suc at) h.1)
-
 further_read : {P : Type 0} (d : Whole P) (p : P) (bits : ℕ) (over slot : Name P) (fs : List Further) → Among p d.parts → IsThere d over → IsThere d slot → AllReads (IsThere d) (map (further_store p bits over slot) fs)
 further_read d p bits over slot [] a o q = tt
 further_read d p bits over slot (Keep Ifindex ∷ fs) a o q = ((a, (q, tt)), further_read d p bits over slot fs a o q)
@@ -235,10 +197,6 @@ statement_reads d p bits fs over slot a o q = (
   ),
 )
 
-pub stores_within : {N : Type 0} (r m : ℕ) (rs : List (Store N)) (at : ℕ) → at + length rs ≤ m → AllWithin r m (statements_before (store_statements at rs) SEnd)
-stores_within r m [] at h = tt
-stores_within r m (x ∷ rs) at h = (omega arith, stores_within r m rs (suc at) (omega arith))
-
 pub is_within : {P : Type 0} (p : P) (bits : ℕ) (kept : List Kept) (over slot : Name P) → Within 2 (length (map widths_memory (held_widths bits kept))) (gather_statement p bits (further bits kept) over slot)
 is_within p bits kept over slot =
     let n : length (map widths_memory (held_widths bits kept)) ≡ length (held_widths bits kept) = length-map (held_widths bits kept) widths_memory in
@@ -246,22 +204,6 @@ is_within p bits kept over slot =
     (omega arith, (omega arith, stores_within 2 (length (map widths_memory (held_widths bits kept))) (gather_stores p bits (further bits kept) over slot) 0 (omega (arith, n, m))))
 
 -- ---- spelled
-abbrev pub AllSpelled : {N : Type 0} → List (Store N) → Type 0
-AllSpelled [] = Unit {0}
-AllSpelled (r ∷ rs) = ((tree_spelled r.condition ≡ true) × ((tree_spelled r.at ≡ true) × (tree_spelled r.value ≡ true))) × AllSpelled rs
-
-pub stores_deep : {N : Type 0} (rs : List (Store N)) (at : ℕ) → statements_depth (statements_before (store_statements at rs) SEnd) ≤ 2
-stores_deep [] at = omega arith
-stores_deep (r ∷ rs) at = let h = stores_deep rs (suc at) in omega arith
-
-pub stores_placed : {N : Type 0} (rs : List (Store N)) (at : ℕ) → all_placed (statements_before (store_statements at rs) SEnd) ≡ true
-stores_placed [] at = refl
-stores_placed (r ∷ rs) at = stores_placed rs (suc at)
-
-pub stores_pass : {N : Type 0} (rs : List (Store N)) (at : ℕ) → AllSpelled rs → all_trees_pass tree_spelled (statements_before (store_statements at rs) SEnd) ≡ true
-stores_pass [] at h = refl
-stores_pass (r ∷ rs) at h = and_is _ _ (and_is _ _ h.0.0 (and_is _ _ h.0.1.0 h.0.1.1)) (stores_pass rs (suc at) h.1)
-
 further_spelled : {P : Type 0} (p : P) (bits : ℕ) (over slot : Name P) (fs : List Further) → AllSpelled (map (further_store p bits over slot) fs)
 further_spelled p bits over slot [] = tt
 further_spelled p bits over slot (Keep Ifindex ∷ fs) = ((refl, (refl, refl)), further_spelled p bits over slot fs)

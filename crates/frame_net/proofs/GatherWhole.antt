@@ -8,7 +8,8 @@ use Rattle.frame_net.specs.declared.held.Kept.{Kept}
 use Rattle.frame_net.specs.Frames.{further}
 use Rattle.frame_net.specs.Gather.{IsGather, IsKept, held_widths}
 use Rattle.frame_net.specs.GatherNets.{gather_block}
-use Rattle.frame_net.proofs.GatherLemmas.{widths_are, first_words, is_typed, in_order, statement_reads, is_within, is_spelled}
+use Rattle.frame_net.proofs.StoreLaws.{widths_are}
+use Rattle.frame_net.proofs.GatherLemmas.{first_words, is_typed, in_order, statement_reads, is_within, is_spelled}
 use Rattle.frame_net.proofs.GatherClock.{stays, has_taken}
 
 gathers : {P : Type 0} (p : P) (bits : ℕ) (kept : List Kept) (over slot : Name P) → 1 ≤ bits → bits ≤ 9 → AllByRecursion IsKept kept → IsGather p bits kept over slot (gather_block p bits kept over slot)

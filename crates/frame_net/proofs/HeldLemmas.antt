@@ -13,7 +13,7 @@ use Rattle.net_core.specs.Value.{word, nothing}
 use Rattle.frame_net.specs.declared.held.Kept.{Kept}
 use Rattle.frame_net.specs.declared.held.Kept.TheVariants.{Ifindex, Time, Word as FrameWord}
 use Rattle.frame_net.specs.Frames.{beat_of, word_at, bank, HoldsBeats, HoldsKept, HoldsBegun, position_of}
-use Rattle.frame_net.proofs.StoreLemmas.{put}
+use Rattle.frame_net.proofs.StoreLaws.{put}
 use Rattle.frame_net.proofs.FrameLemmas.{count_more, earlier_word, new_word}
 
 -- ---- a word of a memory

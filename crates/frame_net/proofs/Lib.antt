@@ -1,4 +1,4 @@
-mod StoreLemmas
+pub mod StoreLaws
 pub mod MaskLaws
 pub mod BankLaws
 pub mod BitLaws

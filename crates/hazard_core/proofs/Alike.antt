@@ -1,6 +1,6 @@
 -- Packets that hold the same of earlier rows.
-use Rattle.std.proofs.Common.{◌≡◌, ℕ, ◌+◌, ◌<◌, ◌≤◌, ◌⊎◌, inl, inr, Bool, true, false, List, [], ◌∷◌, ◌++◌, get_or, length, refl, ap, ◌∙◌, arith, not, cond}
-use Rattle.std.specs.Prelude.{◌==◌, ◌&&◌, if◌then◌else◌, nat_lt, fold, map as map_list, count_by, filter}
+use Rattle.std.proofs.Common.{◌≡◌, ℕ, ◌+◌, ◌<◌, ◌≤◌, ◌⊎◌, inl, inr, Bool, true, false, List, [], ◌∷◌, ◌++◌, get_or, length, take, drop, refl, sym, ap, ◌∙◌, arith, not, cond}
+use Rattle.std.specs.Prelude.{◌==◌, ◌&&◌, if◌then◌else◌, nat_lt, slice_index, fold, map as map_list, count_by, filter}
 use Rattle.std.specs.List.{AllByRecursion, list_all}
 use Rattle.std.specs.Int.{w64, cast_unsigned}
 use Rattle.std.specs.Str.{bytes_eq}
@@ -15,12 +15,12 @@ use Rattle.xdp_machine.specs.Memory.{number_at}
 use Rattle.cell_core.specs.declared.site.Act.{Act}
 use Rattle.cell_core.specs.declared.site.Act.TheVariants as act
 use Rattle.cell_core.specs.Cells.{on, bit}
-use Rattle.cell_core.specs.Sites.{SiteView, ProgramView, site_at, records, operation_with}
+use Rattle.cell_core.specs.Sites.{SiteView, ProgramView, site_at, records, bytes_of, operation_as, operation_with}
 use Rattle.cell_core.specs.Rows.{numbers, taken_by}
 use Rattle.hazard_core.specs.Tables.{TableState, decl_of, table_at, used_count}
 use Rattle.hazard_core.specs.Held.{Pointer, Null, same_pointer, is_null, is_update, is_delete, Held, held_value, pointer_in, found_cell, answer_cell, read_cells, asked, asked_key, access_pointer, pointer_operand, writes_as, writes, adds_key, takes_key, update_pointer, slot_pointer, written_as, written_pointer, parts, is_pending, pending}
 use Rattle.hazard_core.specs.Overlay.{found_as, found_over, key_pointer_as, key_pointer, looks, found_pointer, value_as, value_over, value_under, entry_value, update_answer, delete_answer, where_some, answer_as, answer_over}
-use Rattle.hazard_core.specs.Keeping.{SameCell, AreAlike, LooksBelow, ReadsKeep}
+use Rattle.hazard_core.specs.Keeping.{SameCell, AreAlike, looked_operands, LooksBelow, ReadsKeep}
 
 and_parts : (a b : Bool) → a && b ≡ true → (a ≡ true) × (b ≡ true)
 and_parts true true e = (refl, refl)
@@ -68,6 +68,14 @@ fold_along : {A B : Type 0} (P : A → Type 0) (f g : B → A → B) (a b : B) (
 fold_along P f g a b [] all h e = e
 fold_along P f g a b (x ∷ xs) all h e = fold_along P f g (f a x) (g b x) xs all.1 h (h a x all.0 ∙ ap (λ y. g y x) e)
 
+key_part : (a : Act) (key value : List ℕ) (m n : ℕ) → key_in (operation_as a key value m n) ≡ key
+key_part act.Lookup key value m n = refl
+key_part (act.Load at size) key value m n = refl
+key_part act.Update key value m n = refl
+key_part act.Delete key value m n = refl
+key_part (act.Store at size) key value m n = refl
+key_part (act.Atomic at a) key value m n = refl
+
 module _ (p : ProgramView) (row : ℕ → ℕ) (r : ℕ) (t : TableState) (h g : Held) (alike : AreAlike p row r h g) where
   map_values : (cs : List ℕ) → AllByRecursion (λ c. row c < r) cs → map_list (held_value h) cs ≡ map_list (held_value g) cs
   map_values [] a = refl
@@ -77,13 +85,43 @@ module _ (p : ProgramView) (row : ℕ → ℕ) (r : ℕ) (t : TableState) (h g :
   map_pointers [] a = refl
   map_pointers (c ∷ cs) a = ap (λ x. x ∷ map_list (pointer_in h) cs) (alike c (inl a.0)).pointer ∙ ap (λ xs. pointer_in g c ∷ xs) (map_pointers cs a.1)
 
-  asked_alike : (s : SiteView) → LooksBelow row r s → asked t.decls h s ≡ asked t.decls g s
+  -- all that an operation takes
+  abbrev TakesBelow : SiteView → Type 0
+  TakesBelow s = AllByRecursion (λ c. row c < r) s.key × AllByRecursion (λ c. row c < r) s.operands
+
+  asked_alike : (s : SiteView) → TakesBelow s → asked t.decls h s ≡ asked t.decls g s
   asked_alike s a =
       ap (λ (key : List ℕ). operation_with (decl_of t.decls s.map) s.act key (map_list (held_value h) s.operands)) (map_values s.key a.0)
       ∙ ap (λ (xs : List ℕ). operation_with (decl_of t.decls s.map) s.act (map_list (held_value g) s.key) xs) (map_values s.operands a.1)
 
-  access_alike : (s : SiteView) → LooksBelow row r s → access_pointer h s ≡ access_pointer g s
+  access_alike : (s : SiteView) → TakesBelow s → access_pointer h s ≡ access_pointer g s
   access_alike s a = ap (λ (qs : List Pointer). get_or qs (pointer_operand s.act) Null) (map_pointers s.operands a.1)
+
+  -- what the read of a site looks at
+  key_alike : (s : SiteView) → LooksBelow row r s → asked_key t.decls h s ≡ asked_key t.decls g s
+  key_alike s a = key_part s.act _ _ _ _ ∙ ap (bytes_of (decl_of t.decls s.map).key) (map_values s.key a.0) ∙ sym (key_part s.act _ _ _ _)
+
+  first_value : (xs : List ℕ) → AllByRecursion (λ c. row c < r) (take 1 xs) → slice_index (map_list (held_value h) xs) 0 ≡ slice_index (map_list (held_value g) xs) 0
+  first_value [] a = refl
+  first_value (x ∷ xs) a = (alike x (inl a.0)).value
+
+  first_pointer : (xs : List ℕ) → AllByRecursion (λ c. row c < r) (take 1 xs) → get_or (map_list (pointer_in h) xs) 0 Null ≡ get_or (map_list (pointer_in g) xs) 0 Null
+  first_pointer [] a = refl
+  first_pointer (x ∷ xs) a = (alike x (inl a.0)).pointer
+
+  third_pointer : (xs : List ℕ) → AllByRecursion (λ c. row c < r) (take 1 (drop 2 xs)) → get_or (map_list (pointer_in h) xs) 2 Null ≡ get_or (map_list (pointer_in g) xs) 2 Null
+  third_pointer [] a = refl
+  third_pointer (x ∷ []) a = refl
+  third_pointer (x ∷ y ∷ xs) a = first_pointer xs a
+
+  looks_as : (a : Act) (xs : List ℕ) → AllByRecursion (λ c. row c < r) (looked_operands a xs) → (k l v w : List ℕ) (m n : ℕ)
+      → looks (operation_as a k v (slice_index (map_list (held_value h) xs) 0) m) ≡ looks (operation_as a l w (slice_index (map_list (held_value g) xs) 0) n)
+  looks_as act.Update xs a k l v w m n = ap (λ (flags : ℕ). not (nat_lt 2 flags)) (first_value xs a)
+  looks_as act.Lookup xs a k l v w m n = refl
+  looks_as (act.Load at size) xs a k l v w m n = refl
+  looks_as act.Delete xs a k l v w m n = refl
+  looks_as (act.Store at size) xs a k l v w m n = refl
+  looks_as (act.Atomic at b) xs a k l v w m n = refl
 
   -- an operation of which all parts stand in earlier rows
   abbrev Below : ℕ → Type 0
@@ -92,8 +130,8 @@ module _ (p : ProgramView) (row : ℕ → ℕ) (r : ℕ) (t : TableState) (h g :
   guard_below : (i : ℕ) → Below i → row (site_at p.sites i).guard < r
   guard_below i b = let q = all_append (λ c. nat_lt (row c) r) (taken_by (site_at p.sites i)) (read_cells p.cells i) b in (all_below row r (taken_by (site_at p.sites i)) q.0).0
 
-  looks_below : (i : ℕ) → Below i → LooksBelow row r (site_at p.sites i)
-  looks_below i b =
+  takes_below : (i : ℕ) → Below i → TakesBelow (site_at p.sites i)
+  takes_below i b =
       let s = site_at p.sites i in
       let test : ℕ → Bool = λ c. nat_lt (row c) r in
       let q = all_append test (taken_by s) (read_cells p.cells i) b in
@@ -125,12 +163,12 @@ module _ (p : ProgramView) (row : ℕ → ℕ) (r : ℕ) (t : TableState) (h g :
 
   written_same_as : (a : Act) (k : MapKind) (i : ℕ) → Below i → written_as a k p t h i ≡ written_as a k p t g i
   written_same_as act.Update Hash i b = ap (update_pointer i) (found_same i b).pointer
-  written_same_as act.Update Array i b = let s = site_at p.sites i in ap (λ (op : Operation). slot_pointer (table_at t s.map) (key_in op)) (asked_alike s (looks_below i b))
+  written_same_as act.Update Array i b = let s = site_at p.sites i in ap (λ (op : Operation). slot_pointer (table_at t s.map) (key_in op)) (asked_alike s (takes_below i b))
   written_same_as act.Delete k i b = (found_same i b).pointer
-  written_same_as act.Lookup k i b = access_alike (site_at p.sites i) (looks_below i b)
-  written_same_as (act.Load at size) k i b = access_alike (site_at p.sites i) (looks_below i b)
-  written_same_as (act.Store at size) k i b = access_alike (site_at p.sites i) (looks_below i b)
-  written_same_as (act.Atomic at a) k i b = access_alike (site_at p.sites i) (looks_below i b)
+  written_same_as act.Lookup k i b = access_alike (site_at p.sites i) (takes_below i b)
+  written_same_as (act.Load at size) k i b = access_alike (site_at p.sites i) (takes_below i b)
+  written_same_as (act.Store at size) k i b = access_alike (site_at p.sites i) (takes_below i b)
+  written_same_as (act.Atomic at a) k i b = access_alike (site_at p.sites i) (takes_below i b)
 
   written_same : (i : ℕ) → Below i → written_pointer p t h i ≡ written_pointer p t g i
   written_same i b = written_same_as (site_at p.sites i).act (decl_of t.decls (site_at p.sites i).map).kind i b
@@ -139,7 +177,7 @@ module _ (p : ProgramView) (row : ℕ → ℕ) (r : ℕ) (t : TableState) (h g :
   over_same key found i b =
       let s = site_at p.sites i in
       ap (λ (c : Bool). if c && bytes_eq (asked_key t.decls h s) key then found_as s.act (written_pointer p t h i) found else found) (writes_same i b)
-      ∙ ap (λ (op : Operation). if writes p t.decls g i && bytes_eq (key_in op) key then found_as s.act (written_pointer p t h i) found else found) (asked_alike s (looks_below i b))
+      ∙ ap (λ (op : Operation). if writes p t.decls g i && bytes_eq (key_in op) key then found_as s.act (written_pointer p t h i) found else found) (asked_alike s (takes_below i b))
       ∙ ap (λ (q : Pointer). if writes p t.decls g i && bytes_eq (asked_key t.decls g s) key then found_as s.act q found else found) (written_same i b)
 
   value_same : (under : Pointer) (old : List ℕ) (i : ℕ) → Below i → value_over p t h under old i ≡ value_over p t g under old i
@@ -147,7 +185,7 @@ module _ (p : ProgramView) (row : ℕ → ℕ) (r : ℕ) (t : TableState) (h g :
       let s = site_at p.sites i in
       ap (λ (c : Bool). if c && same_pointer (written_pointer p t h i) under then value_as (asked t.decls h s) old else old) (writes_same i b)
       ∙ ap (λ (q : Pointer). if writes p t.decls g i && same_pointer q under then value_as (asked t.decls h s) old else old) (written_same i b)
-      ∙ ap (λ (op : Operation). if writes p t.decls g i && same_pointer (written_pointer p t g i) under then value_as op old else old) (asked_alike s (looks_below i b))
+      ∙ ap (λ (op : Operation). if writes p t.decls g i && same_pointer (written_pointer p t g i) under then value_as op old else old) (asked_alike s (takes_below i b))
 
   adds_same : (i : ℕ) → Below i → adds_key p t.decls h i ≡ adds_key p t.decls g i
   adds_same i b =
@@ -178,7 +216,7 @@ module _ (p : ProgramView) (row : ℕ → ℕ) (r : ℕ) (t : TableState) (h g :
   key_same before j all looks =
       let s = site_at p.sites j in
       let k = (decl_of t.decls s.map).kind in
-      key_same_as k before s.map (asked_key t.decls h s) all ∙ ap (λ (op : Operation). key_pointer_as k p t g before s.map (key_in op)) (asked_alike s looks)
+      key_same_as k before s.map (asked_key t.decls h s) all ∙ ap (key_pointer_as k p t g before s.map) (key_alike s looks)
 
   entry_same : (before : List ℕ) (m : ℕ) (under : Pointer) → AllByRecursion Below before → entry_value p t h before m under ≡ entry_value p t g before m under
   entry_same before m under all =
@@ -188,10 +226,10 @@ module _ (p : ProgramView) (row : ℕ → ℕ) (r : ℕ) (t : TableState) (h g :
   found_keeps before j all below =
       let s = site_at p.sites j in
       ap (λ (q : Pointer). if looks (asked t.decls h s) then q else Null) (key_same before j all below)
-      ∙ ap (λ (op : Operation). if looks op then key_pointer p t g before j else Null) (asked_alike s below)
+      ∙ ap (λ (c : Bool). if c then key_pointer p t g before j else Null) (looks_as s.act s.operands below.1 _ _ _ _ _ _)
 
   answer_keeps : (before : List ℕ) (j : ℕ) → AllByRecursion Below before → LooksBelow row r (site_at p.sites j) → answer_over p t h before j ≡ answer_over p t g before j
-  answer_keeps before j all below = by s.act (asked t.decls h s) ∙ ap (λ (op : Operation). answer_as s.act op p t g before j) (asked_alike s below)
+  answer_keeps before j all below = by s.act refl below.1
     where
       s : SiteView
       s = site_at p.sites j
@@ -202,8 +240,8 @@ module _ (p : ProgramView) (row : ℕ → ℕ) (r : ℕ) (t : TableState) (h g :
       key : key_pointer p t h before j ≡ key_pointer p t g before j
       key = key_same before j all below
 
-      access : access_pointer h s ≡ access_pointer g s
-      access = access_alike s below
+      own : bytes_of d.key (map_list (held_value h) s.key) ≡ bytes_of d.key (map_list (held_value g) s.key)
+      own = ap (bytes_of d.key) (map_values s.key below.0)
 
       present : bit (not (is_null (key_pointer p t h before j))) ≡ bit (not (is_null (key_pointer p t g before j)))
       present = ap (λ (q : Pointer). bit (not (is_null q))) key
@@ -217,21 +255,32 @@ module _ (p : ProgramView) (row : ℕ → ℕ) (r : ℕ) (t : TableState) (h g :
       used : ℕ
       used = used_count (table_at t s.map)
 
-      by : (a : Act) (op : Operation) → answer_as a op p t h before j ≡ answer_as a op p t g before j
-      by (act.Load at size) op =
-          ap (λ (q : Pointer). where_some q (number_at size at (entry_value p t h before s.map q))) access
-          ∙ ap (λ (bytes : List ℕ). where_some (access_pointer g s) (number_at size at bytes)) (entry_same before s.map (access_pointer g s) all)
-      by (act.Atomic at a) op =
-          ap (λ (q : Pointer). where_some q (changed_at a.wide at (entry_value p t h before s.map q))) access
-          ∙ ap (λ (bytes : List ℕ). where_some (access_pointer g s) (changed_at a.wide at bytes)) (entry_same before s.map (access_pointer g s) all)
-      by act.Update (map.Update k v f) =
+      at_pointer : (n : ℕ) → pointer_operand s.act ≡ n → get_or (map_list (pointer_in h) s.operands) n Null ≡ get_or (map_list (pointer_in g) s.operands) n Null → access_pointer h s ≡ access_pointer g s
+      at_pointer n e same =
+          ap (λ (k : ℕ). get_or (map_list (pointer_in h) s.operands) k Null) e ∙ same ∙ sym (ap (λ (k : ℕ). get_or (map_list (pointer_in g) s.operands) k Null) e)
+
+      under : (f : List ℕ → ℕ) → access_pointer h s ≡ access_pointer g s
+          → where_some (access_pointer h s) (f (entry_value p t h before s.map (access_pointer h s))) ≡ where_some (access_pointer g s) (f (entry_value p t g before s.map (access_pointer g s)))
+      under f access =
+          ap (λ (q : Pointer). where_some q (f (entry_value p t h before s.map q))) access
+          ∙ ap (λ (bytes : List ℕ). where_some (access_pointer g s) (f bytes)) (entry_same before s.map (access_pointer g s) all)
+
+      by : (a : Act) → s.act ≡ a → AllByRecursion (λ c. row c < r) (looked_operands a s.operands)
+          → answer_as a (operation_with d a (map_list (held_value h) s.key) (map_list (held_value h) s.operands)) p t h before j
+          ≡ answer_as a (operation_with d a (map_list (held_value g) s.key) (map_list (held_value g) s.operands)) p t g before j
+      by (act.Load at size) e b = under (number_at size at) (at_pointer 0 (ap pointer_operand e) (first_pointer s.operands b))
+      by (act.Atomic at a) e b = under (changed_at a.wide at) (at_pointer 2 (ap pointer_operand e) (third_pointer s.operands b))
+      by act.Update e b =
+          let f = slice_index (map_list (held_value h) s.operands) 0 in
+          let k = bytes_of d.key (map_list (held_value h) s.key) in
           ap (λ (n : ℕ). cast_unsigned w64 (update_answer d.kind d (used + n) (count_by (takes_key p t.decls h) before) (not (is_null (key_pointer p t h before j))) k f)) adds
           ∙ ap (λ (n : ℕ). cast_unsigned w64 (update_answer d.kind d (used + count_by (adds_key p t.decls g) before) n (not (is_null (key_pointer p t h before j))) k f)) takes
           ∙ ap (λ (q : Pointer). cast_unsigned w64 (update_answer d.kind d (used + count_by (adds_key p t.decls g) before) (count_by (takes_key p t.decls g) before) (not (is_null q)) k f)) key
-      by act.Update op = present
-      by act.Delete op = ap (λ (q : Pointer). cast_unsigned w64 (delete_answer d.kind (not (is_null q)))) key
-      by act.Lookup op = present
-      by (act.Store at size) op = present
+          ∙ ap (λ (x : List ℕ). cast_unsigned w64 (update_answer d.kind d (used + count_by (adds_key p t.decls g) before) (count_by (takes_key p t.decls g) before) (not (is_null (key_pointer p t g before j))) x f)) own
+          ∙ ap (λ (x : ℕ). cast_unsigned w64 (update_answer d.kind d (used + count_by (adds_key p t.decls g) before) (count_by (takes_key p t.decls g) before) (not (is_null (key_pointer p t g before j))) (bytes_of d.key (map_list (held_value g) s.key)) x)) (first_value s.operands b)
+      by act.Delete e b = ap (λ (q : Pointer). cast_unsigned w64 (delete_answer d.kind (not (is_null q)))) key
+      by act.Lookup e b = present
+      by (act.Store at size) e b = present
 
 pub reads_keep : ReadsKeep
 reads_keep p row r j t h g alike below =

@@ -13,3 +13,14 @@ pub mod Seeing
 pub mod Loading
 pub mod Leaving
 pub mod ActsLaws
+pub mod Positions
+pub mod PrefixLaws
+pub mod Shaping
+pub mod Parts
+pub mod Lengths
+pub mod Spelling
+pub mod Sited
+pub mod Made
+pub mod Padding
+pub mod Written
+pub mod Filling

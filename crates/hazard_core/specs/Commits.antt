@@ -1,5 +1,5 @@
 -- What an operation of a packet does to the table of its map, and the host's accesses to words of slots.
-use Rattle.std.specs.Prelude.{ℕ, ◌+◌, ◌-◌, ◌*◌, ◌/◌, ◌==◌, nat_le, nat_lt, Bool, true, false, ◌&&◌, ◌||◌, if◌then◌else◌, Option, List, length, take, drop, slice_index, slice_set}
+use Rattle.std.specs.Prelude.{ℕ, ◌+◌, ◌-◌, ◌*◌, ◌/◌, ◌==◌, nat_le, nat_lt, Bool, true, false, ◌&&◌, ◌||◌, if◌then◌else◌, List, length, take, drop, slice_index, slice_set}
 use Rattle.byteorder.specs.Endian.{little_number, little_bytes}
 use Rattle.xdp_maps.specs.declared.decl.MapDecl.{MapDecl}
 use Rattle.xdp_maps.specs.declared.decl.MapKind.{MapKind}
@@ -14,6 +14,9 @@ use Rattle.hazard_core.specs.Tables.{Slot, TableState, decl_of, table_at, slot_a
 use Rattle.hazard_core.specs.Held.{Pointer, Null, InSlot, Pending, same_pointer, is_update, is_delete, Held, asked, asked_key, written_pointer}
 use Rattle.hazard_core.specs.Overlay.{value_as}
 use Rattle.hazard_core.specs.Marks.{Change}
+pub use Rattle.hazard_core.specs.declared.access.Access.{Access}
+pub use Rattle.hazard_core.specs.declared.access.Word.{Word}
+pub use Rattle.hazard_core.specs.declared.access.Word.TheVariants.{Used, Key, Value, Nothing}
 
 abbrev pub with_slot : TableState → ℕ → ℕ → Slot → TableState
 with_slot t m n s = record t { tables = slice_set t.tables m (slice_set (table_at t m) n s) }
@@ -68,11 +71,6 @@ change_by p t taken h j =
     }
 
 -- ---- the host's accesses: a word of eight bytes, the low one first, of a slot, read or written
-pub record Access : Type 0 where
-  pub map : ℕ
-  pub index : ℕ
-  pub word : ℕ
-  pub write : Option ℕ
 
 abbrev pub word_count : ℕ → ℕ
 word_count n = (n + 7) / 8
@@ -83,13 +81,6 @@ word_at bytes w = little_number 8 (take 8 (drop (8 * w) bytes))
 -- a last word that is not whole takes the low bytes
 abbrev pub with_word : List ℕ → ℕ → ℕ → List ℕ
 with_word bytes w n = patched bytes (8 * w) (take (length bytes - 8 * w) (little_bytes 8 n))
-
--- what a word of a slot is
-pub data Word : Type 0 where
-  Used : Word
-  Key : (w : ℕ) → Word
-  Value : (w : ℕ) → Word
-  Nothing : Word
 
 abbrev pub value_word : MapDecl → ℕ → Word
 value_word d w = if nat_lt w (word_count d.value) then Value w else Nothing

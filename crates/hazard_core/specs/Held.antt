@@ -15,13 +15,10 @@ use Rattle.cell_core.specs.Cells.{CellView, value_in, on}
 use Rattle.cell_core.specs.Sites.{SiteView, ProgramView, site_at, records, operation_with}
 use Rattle.cell_core.specs.Rows.{numbers, taken_by}
 use Rattle.hazard_core.specs.Tables.{Slot, TableState, decl_of, table_at, slot_of}
+pub use Rattle.hazard_core.specs.declared.pointer.Pointer.{Pointer}
+pub use Rattle.hazard_core.specs.declared.pointer.Pointer.TheVariants.{Null, InSlot, Pending}
 
--- a pointer to an entry: none, to a slot, or to the entry that an update of the packet's own is to make, by the number of its site
-pub data Pointer : Type 0 where
-  Null : Pointer
-  InSlot : (n : ℕ) → Pointer
-  Pending : (j : ℕ) → Pointer
-
+-- whether two pointers to entries are the same: none, to a slot, or to the entry that an update of the packet's own is to make
 abbrev pub same_pointer : Pointer → Pointer → Bool
 same_pointer Null Null = true
 same_pointer (InSlot n) (InSlot m) = n == m

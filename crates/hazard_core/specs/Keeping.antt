@@ -1,6 +1,8 @@
 -- What a read finds rests on the cells of earlier rows.
-use Rattle.std.specs.Prelude.{◌≡◌, ℕ, ◌<◌, ◌≤◌, ◌⊎◌, length}
+use Rattle.std.specs.Prelude.{◌≡◌, ℕ, ◌<◌, ◌≤◌, ◌⊎◌, List, [], length, take, drop}
 use Rattle.std.specs.List.{AllByRecursion}
+use Rattle.cell_core.specs.declared.site.Act.{Act}
+use Rattle.cell_core.specs.declared.site.Act.TheVariants as act
 use Rattle.cell_core.specs.Sites.{SiteView, ProgramView, site_at}
 use Rattle.hazard_core.specs.Tables.{TableState}
 use Rattle.hazard_core.specs.Held.{Held, held_value, pointer_in, pending}
@@ -15,9 +17,16 @@ pub record SameCell (h g : Held) (c : ℕ) : Type 0 where
 abbrev pub AreAlike : ProgramView → (ℕ → ℕ) → ℕ → Held → Held → Type 0
 AreAlike p row r h g = (c : ℕ) → (row c < r) ⊎ (length p.cells ≤ c) → SameCell h g c
 
--- What the operation of a site looks for stands in earlier rows. Its guard may stand in a later one.
+-- the operands that the read of an operation looks at: of an update the flags, of an access its pointer
+abbrev pub looked_operands : Act → List ℕ → List ℕ
+looked_operands act.Update xs = take 1 xs
+looked_operands (act.Load at size) xs = take 1 xs
+looked_operands (act.Atomic at a) xs = take 1 (drop 2 xs)
+looked_operands a xs = []
+
+-- What the read of a site looks at stands in earlier rows: these and its key. Its guard may stand in a later one, and what it writes too.
 abbrev pub LooksBelow : (ℕ → ℕ) → ℕ → SiteView → Type 0
-LooksBelow row r s = AllByRecursion (λ c. row c < r) s.key × AllByRecursion (λ c. row c < r) s.operands
+LooksBelow row r s = AllByRecursion (λ c. row c < r) s.key × AllByRecursion (λ c. row c < r) (looked_operands s.act s.operands)
 
 -- A read in row r finds and answers the same in packets that hold the same of the rows below.
 abbrev pub ReadsKeep : Type 0

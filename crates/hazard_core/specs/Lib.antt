@@ -1,7 +1,10 @@
 pub mod Tables
+pub mod Shaped
 pub mod Held
 pub mod Overlay
+pub mod Answering
 pub mod Rows
+pub mod Sourced
 pub mod Marks
 pub mod Commits
 pub mod Changes

@@ -12,13 +12,7 @@ use Rattle.cell_core.specs.declared.site.Act.TheVariants as act
 use Rattle.cell_core.specs.Sites.{SiteView, ProgramView, site_at}
 use Rattle.hazard_core.specs.Tables.{decl_of}
 use Rattle.hazard_core.specs.Held.{Pointer, Null, InSlot, Pending, is_null, Held, pointer_in, found_cell, asked, asked_key, access_pointer, guard_on, read_cells}
-
--- a change: its map, the slot that is written, the key that stands there, and whether the key comes or goes
-pub record Change : Type 0 where
-  pub map : ℕ
-  pub slot : ℕ
-  pub key : List ℕ
-  pub presence : Bool
+pub use Rattle.hazard_core.specs.declared.change.Change.{Change}
 
 -- a read under a key sees whether that comes or goes; an update of a new key also whether another does, since that changes the size
 abbrev pub key_touched : Operation → Bool → List ℕ → Bool

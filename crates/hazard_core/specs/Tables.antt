@@ -9,11 +9,7 @@ use Rattle.xdp_maps.specs.declared.decl.MapKind.TheVariants.{Hash, Array}
 use Rattle.xdp_maps.specs.declared.decl.MapDecl.{MapDecl}
 use Rattle.xdp_maps.specs.Contents.{Contents, index_key}
 use Rattle.xdp_maps.specs.State.{MapState, no_decl}
-
-pub record Slot : Type 0 where
-  pub used : Bool
-  pub key : List ℕ
-  pub value : List ℕ
+pub use Rattle.hazard_core.specs.declared.slot.Slot.{Slot}
 
 -- what stands for a slot past the last
 abbrev pub no_slot : Slot

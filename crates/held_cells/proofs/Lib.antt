@@ -1,1 +1,2 @@
 pub mod PointerLaws
+pub mod RowLaws

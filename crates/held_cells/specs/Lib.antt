@@ -4,3 +4,4 @@ pub mod Paths
 pub mod Steps
 pub mod Operating
 pub mod Law
+pub mod Rows

@@ -14,15 +14,16 @@ use Rattle.kind_core.specs.declared.kind.Kinds.{Kinds}
 use Rattle.cell_core.specs.Cells.{bit}
 use Rattle.unfold_core.specs.declared.edges.Point.{Point}
 use Rattle.unfold_core.specs.declared.links.Edge.{Edge}
-use Rattle.node_rows.specs.declared.origin.Origin.{Origin}
+use Rattle.place_rows.specs.declared.origin.Origin.{Origin}
 use Rattle.node_rows.specs.declared.joining.Arrival.{Arrival}
 use Rattle.node_rows.specs.declared.node.Behind.{Behind}
 use Rattle.node_rows.specs.declared.stages.Stages.{Stages}
-use Rattle.node_rows.specs.Origins.{every_row}
+use Rattle.place_rows.specs.Origins.{every_row}
 use Rattle.node_rows.specs.Joining.{edge_row, origins_at}
 use Rattle.node_rows.specs.Passing.{origin_behind, origins_behind, behind, IsLow, IsLowArrival}
 use Rattle.node_rows.specs.Rows.{no_point, point_at, no_behind, insn_of, known_behind, arrival_of, arrivals_of, behind_node, rows_of, row_of_node, may_write, with_node, HasStages}
-use Rattle.node_rows.proofs.PlaceLemmas.{row_low, joined_low, count_places}
+use Rattle.place_rows.proofs.PlaceLaws.{row_low, count_places}
+use Rattle.node_rows.proofs.PlaceLemmas.{joined_low}
 
 -- ---- low rows
 with-first : (p : XdpProgram) (nodes : List Point) (passed : List Behind) (n : ℕ) (e : Edge) (es : List Edge) → (e.from < e.to) × (e.to < length nodes) → All IsLow passed → length passed ≡ n

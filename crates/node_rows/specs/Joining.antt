@@ -1,9 +1,9 @@
 -- Where edges meet.
 use Rattle.std.specs.Prelude.{ℕ, ◌==◌, max, ◌&&◌, Bool, true, false, if◌then◌else◌, Option, Some, None, List, [], ◌∷◌, get_or}
 use Rattle.kind_core.specs.declared.kind.Kinds.{Kinds}
-use Rattle.node_rows.specs.declared.origin.Origin.{Origin}
+use Rattle.place_rows.specs.declared.origin.Origin.{Origin}
 use Rattle.node_rows.specs.declared.joining.Arrival.{Arrival}
-use Rattle.node_rows.specs.Origins.{has_data, row_of, by_place, origin_at_start}
+use Rattle.place_rows.specs.Origins.{has_data, row_of, by_place, origin_at_start}
 
 -- the origin that an edge brings: none where there is no data on it
 abbrev pub brings : Arrival → ℕ → Option Origin

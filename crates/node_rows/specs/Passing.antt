@@ -1,5 +1,5 @@
 -- What stands behind a node.
-use Rattle.std.specs.Prelude.{ℕ, ◌+◌, ◌≤◌, ◌==◌, max, nat_le, nat_lt, ◌&&◌, Bool, false, if◌then◌else◌, Option, Some, None, List, [], ◌∷◌, get_or}
+use Rattle.std.specs.Prelude.{ℕ, ◌+◌, ◌≤◌, ◌==◌, max, nat_lt, Bool, false, if◌then◌else◌, Option, Some, None, List, [], ◌∷◌, get_or}
 use Rattle.std.specs.List.{list_any}
 use Rattle.bpf_isa.specs.declared.operation.Op.{Op}
 use Rattle.bpf_isa.specs.declared.operation.Op.TheVariants.{Jump}
@@ -8,15 +8,15 @@ use Rattle.xdp_maps.specs.declared.decl.MapDecl.{MapDecl}
 use Rattle.kind_core.specs.declared.kind.Kinds.{Kinds}
 use Rattle.kind_core.specs.Edges.{decided}
 use Rattle.cell_core.specs.Cells.{bit}
-use Rattle.node_rows.specs.declared.origin.Origin.{Origin}
-use Rattle.node_rows.specs.declared.span.Span.{Span}
-use Rattle.node_rows.specs.declared.recording.Record.{Record}
+use Rattle.place_rows.specs.declared.origin.Origin.{Origin}
+use Rattle.place_rows.specs.declared.span.Span.{Span}
+use Rattle.place_rows.specs.declared.recording.Record.{Record}
 use Rattle.node_rows.specs.declared.joining.Arrival.{Arrival}
 use Rattle.node_rows.specs.declared.node.Behind.{Behind}
-use Rattle.node_rows.specs.Spans.{one, pending, pending_place}
-use Rattle.node_rows.specs.Origins.{has_data, row_at, span_row, spans_row, every_row, by_place}
-use Rattle.node_rows.specs.Reading.{right_of, reads_as, is_heavy}
-use Rattle.node_rows.specs.Writing.{writes_as, record_as}
+use Rattle.place_rows.specs.Spans.{one, pending, pending_place, is_in}
+use Rattle.place_rows.specs.Origins.{has_data, row_at, span_row, spans_row, every_row, by_place}
+use Rattle.place_rows.specs.Reading.{right_of, reads_as, is_heavy}
+use Rattle.place_rows.specs.Writing.{writes_as, record_as}
 
 -- the row of a result: the greatest of what is read, and one later where it takes a stage of its own
 abbrev pub result_row : List MapDecl → Kinds → Kinds → Insn → List (Option Origin) → ℕ
@@ -31,9 +31,6 @@ abbrev pub leaving_row : List (Option Origin) → Kinds → Insn → ℕ → ℕ
 leaving_row os k i guard = undecided_row os i i.op guard (decided k i)
 
 -- ---- what is written
-abbrev pub is_in : ℕ → Span → Bool
-is_in place s = nat_le s.from place && nat_lt place s.end
-
 abbrev pub written : Kinds → List Span → Origin → List (Option Origin) → ℕ → Option Origin
 written after spans o os place = if list_any (is_in place) spans then (if has_data after place then Some o else None) else get_or os place None
 

@@ -20,7 +20,7 @@ use Rattle.node_rows.specs.declared.joining.Arrival.{Arrival}
 use Rattle.node_rows.specs.declared.node.Behind.{Behind}
 use Rattle.node_rows.specs.declared.stages.Stages.{Stages}
 use Rattle.node_rows.specs.Joining.{edge_row, origins_at}
-use Rattle.node_rows.specs.Writing.{record_as}
+use Rattle.place_rows.specs.Writing.{record_as}
 use Rattle.node_rows.specs.Passing.{behind}
 
 -- what stands for a node past the last, and for what is behind one

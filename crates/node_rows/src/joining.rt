@@ -3,8 +3,8 @@
 ghost use Rattle.std.specs.Prelude.{◌≡◌, ◌<◌, length};
 ghost use Rattle.node_rows.specs.Joining.{brings, edge_row, brought_row, all_bring, met, first_brings, origins_at};
 
-use crate::origin::{Origin, Origins, PLACES, has_data, row_of};
 use kind_core::Kinds;
+use place_rows::origin::{Origin, Origins, PLACES, has_data, row_of};
 
 /// An edge that leads to a node: its row, what is known on it, and the origins behind the node that it leaves.
 #[derive(Copy, Clone)]

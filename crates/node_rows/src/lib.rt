@@ -10,12 +10,6 @@ mod arriving;
 mod joining;
 pub mod laws;
 mod node;
-mod origin;
-mod reading;
-mod recording;
-mod span;
 mod stages;
-mod writing;
 
-pub use origin::Origin;
 pub use stages::{Stages, count_stages};

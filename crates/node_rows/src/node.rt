@@ -2,18 +2,18 @@
 
 ghost use Rattle.std.specs.Prelude.{◌≡◌, ◌<◌, ◌≤◌, ◌∷◌, [], ℕ, max, if◌then◌else◌, length, None, get_or};
 ghost use Rattle.bpf_isa.specs.Spelling.{IsInsn};
-ghost use Rattle.node_rows.specs.Spans.{one};
-ghost use Rattle.node_rows.specs.Reading.{right_of};
-ghost use Rattle.node_rows.specs.Origins.{span_row, spans_row, every_row};
+ghost use Rattle.place_rows.specs.Spans.{one};
+ghost use Rattle.place_rows.specs.Reading.{right_of};
+ghost use Rattle.place_rows.specs.Origins.{span_row, spans_row, every_row};
 ghost use Rattle.node_rows.specs.Passing.{leaving_row, result_row, is_some_place, written, noted, origins_behind, behind};
 
-use crate::origin::{Origin, Origins, PLACES, has_data};
-use crate::reading::{reads, takes_stage};
-use crate::recording::{Record, record_of};
-use crate::span::{PENDING, Span, pending, register};
-use crate::writing::writes;
 use bpf_isa::{Insn, Op, Src};
 use kind_core::{Kinds, decide};
+use place_rows::origin::{Origin, Origins, PLACES, has_data};
+use place_rows::reading::{reads, takes_stage};
+use place_rows::recording::{Record, record_of};
+use place_rows::span::{PENDING, Span, pending, register};
+use place_rows::writing::writes;
 use xdp_maps::decl::MapDecl;
 
 /// What stands behind a node: the row of its edges, the origins, and the greatest row that the node makes.

@@ -11,9 +11,9 @@ ghost use Rattle.node_rows.specs.Rows.{point_at, insn_of, behind_node, may_write
 use crate::arriving::{arrivals, insn_at, known_behind};
 use crate::joining::{edge_row, join};
 use crate::node::{Behind, pass};
-use crate::recording::record_of;
 use bpf_isa::Insn;
 use kind_core::{BuildError, Refusal, Why};
+use place_rows::recording::record_of;
 use std::alloc::{AllocError, Global};
 use unfold_core::laws::{edges_lead_on, nodes_have_links};
 use unfold_core::{Point, Unfolded, places};

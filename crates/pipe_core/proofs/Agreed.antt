@@ -10,9 +10,11 @@ use Rattle.cell_core.specs.Cells.{CellView, cell_at, no_cell, site_in, bits_from
 use Rattle.cell_core.specs.Sites.{SiteView, site_at}
 use Rattle.cell_core.specs.Rows.{numbers}
 use Rattle.hazard_core.specs.Tables.{TableState}
-use Rattle.hazard_core.specs.Held.{Held, Null, with_cell, guard_on, writes}
+use Rattle.hazard_core.specs.declared.pointer.Pointer.TheVariants.{Null}
+use Rattle.hazard_core.specs.Held.{Held, with_cell, guard_on, writes}
 use Rattle.hazard_core.specs.Rows.{cell_number, cell_pointer, with_made, made_from, with_row}
-use Rattle.hazard_core.specs.Marks.{Change, known_on, known_off}
+use Rattle.hazard_core.specs.declared.change.Change.{Change}
+use Rattle.hazard_core.specs.Marks.{known_on, known_off}
 use Rattle.hazard_core.specs.Changes.{IsRightCommit, CommitsChange}
 use Rattle.hazard_core.specs.Commits.{committed, change_by}
 use Rattle.beat_core.specs.Ports.{Arrival}

@@ -11,7 +11,9 @@ use Rattle.cell_core.specs.Formed.{takes}
 use Rattle.cell_core.specs.Sites.{SiteView, site_at}
 use Rattle.cell_core.specs.Rows.{RowsRise, numbers}
 use Rattle.hazard_core.specs.Tables.{TableState}
-use Rattle.hazard_core.specs.Held.{Held, Pointer, Null, is_null, held_value, pointer_in, with_cell, guard_on}
+use Rattle.hazard_core.specs.declared.pointer.Pointer.{Pointer}
+use Rattle.hazard_core.specs.declared.pointer.Pointer.TheVariants.{Null}
+use Rattle.hazard_core.specs.Held.{Held, is_null, held_value, pointer_in, with_cell, guard_on}
 use Rattle.hazard_core.specs.Rows.{phi_pointer, cell_number, cell_pointer, with_made, made_from, with_row}
 use Rattle.hazard_core.specs.Marks.{known_off}
 use Rattle.hazard_core.specs.Keeping.{SameCell, AreAlike, LooksBelow, ReadsKeep}

@@ -11,7 +11,8 @@ use Rattle.cell_core.specs.Cells.{CellView, cell_at, no_cell, is_read, number, b
 use Rattle.cell_core.specs.Sites.{ProgramView}
 use Rattle.cell_core.specs.Rows.{RowsRise}
 use Rattle.hazard_core.specs.Tables.{TableState}
-use Rattle.hazard_core.specs.Held.{Held, Pointer, held_value, with_cell}
+use Rattle.hazard_core.specs.declared.pointer.Pointer.{Pointer}
+use Rattle.hazard_core.specs.Held.{Held, held_value, with_cell}
 use Rattle.hazard_core.specs.Rows.{cell_number, cell_pointer, with_made, made_from, with_row, nothing_held}
 use Rattle.pipe_core.specs.Machine.{Build}
 use Rattle.pipe_core.specs.Computed.{Computes, IsPlanned}

@@ -9,7 +9,8 @@ use Rattle.cell_core.specs.Cells.{bit}
 use Rattle.cell_core.specs.Sites.{site_at}
 use Rattle.hazard_core.specs.Tables.{TableState}
 use Rattle.hazard_core.specs.Held.{Held}
-use Rattle.hazard_core.specs.Marks.{Change, known_off}
+use Rattle.hazard_core.specs.declared.change.Change.{Change}
+use Rattle.hazard_core.specs.Marks.{known_off}
 use Rattle.hazard_core.specs.Rows.{with_row}
 use Rattle.beat_core.specs.Ports.{Arrival}
 use Rattle.pipe_core.specs.Machine.{Packet, Build, packet_of, no_frame, place_at, inside, marked_at, entered, struck, struck_below, is_due, sends, some_send, swept, enters, moved, injected, newcomer}

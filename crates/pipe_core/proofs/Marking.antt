@@ -11,7 +11,8 @@ use Rattle.cell_core.specs.Sites.{SiteView, site_at}
 use Rattle.hazard_core.specs.Tables.{TableState}
 use Rattle.hazard_core.specs.Held.{Held, held_value, guard_on}
 use Rattle.hazard_core.specs.Rows.{with_row}
-use Rattle.hazard_core.specs.Marks.{Change, touches, known_off, has_read, is_marked}
+use Rattle.hazard_core.specs.declared.change.Change.{Change}
+use Rattle.hazard_core.specs.Marks.{touches, known_off, has_read, is_marked}
 use Rattle.hazard_core.specs.Commits.{committed, change_by, host_written, host_change}
 use Rattle.beat_core.specs.Ports.{Arrival}
 use Rattle.pipe_core.specs.Machine.{Packet, State, Input, Build, Turn, Commits, Writes, Moves, packet_of, place_at, marked_at, injected, entered, struck, some_send, worked, work, gathered, beat_over, taken_beat, clock}

@@ -14,10 +14,11 @@ use Rattle.cell_core.specs.Sites.{ProgramView}
 use Rattle.hazard_core.specs.Tables.{TableState, tables_of, maps_of}
 use Rattle.hazard_core.specs.Tabled.{LoadsTables}
 use Rattle.hazard_core.specs.Standing.{TablesStand}
-use Rattle.hazard_core.specs.Held.{Held, Null}
+use Rattle.hazard_core.specs.declared.pointer.Pointer.TheVariants.{Null}
+use Rattle.hazard_core.specs.Held.{Held}
 use Rattle.hazard_core.specs.Rows.{cell_number, with_row}
 use Rattle.hazard_core.specs.Keeping.{ReadsKeep}
-use Rattle.hazard_core.specs.Marks.{Change}
+use Rattle.hazard_core.specs.declared.change.Change.{Change}
 use Rattle.hazard_core.specs.Commits.{change_by, host_change}
 use Rattle.hazard_core.specs.Replay.{CommitsInTurn, MapsInTurn, ReadsInTurn, SeesEarlier}
 use Rattle.beat_core.specs.Ports.{Arrival}

@@ -12,7 +12,7 @@ use Rattle.cell_core.specs.Rows.{taken_by}
 use Rattle.hazard_core.specs.Tables.{TableState, maps_of}
 use Rattle.hazard_core.specs.Held.{Held, held_value}
 use Rattle.hazard_core.specs.Rows.{with_row}
-use Rattle.hazard_core.specs.Marks.{Change}
+use Rattle.hazard_core.specs.declared.change.Change.{Change}
 use Rattle.beat_core.specs.Ports.{Arrival}
 use Rattle.pipe_core.specs.Machine.{Packet, Build, no_frame, packet_of, inside, sends, some_send, swept, is_due, entered, struck, struck_below, enters, moved}
 use Rattle.pipe_core.specs.Pipeable.{IsPipeable}

@@ -13,7 +13,8 @@ use Rattle.cell_core.specs.Rows.{numbers}
 use Rattle.hazard_core.specs.Tables.{TableState, tables_of}
 use Rattle.hazard_core.specs.Tabled.{AreTables, LoadsTables}
 use Rattle.hazard_core.specs.Held.{Held, is_update, writes}
-use Rattle.hazard_core.specs.Marks.{Change, known_on}
+use Rattle.hazard_core.specs.declared.change.Change.{Change}
+use Rattle.hazard_core.specs.Marks.{known_on}
 use Rattle.hazard_core.specs.Commits.{written_slot, committed, taken_after, change_by}
 use Rattle.hazard_core.specs.Changes.{IsRightCommit}
 use Rattle.hazard_core.specs.Replay.{Replayed, replay_one, replayed, HoldsReads, IsInTurn, CommitsInTurn, SeesEarlier}

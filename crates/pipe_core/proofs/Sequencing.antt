@@ -12,7 +12,7 @@ use Rattle.cell_core.specs.Sites.{ProgramView, IsCellRun, after}
 use Rattle.hazard_core.specs.Tables.{TableState, maps_of}
 use Rattle.hazard_core.specs.Tabled.{AreTables}
 use Rattle.hazard_core.specs.Held.{Held, held_value, writes}
-use Rattle.hazard_core.specs.Marks.{Change}
+use Rattle.hazard_core.specs.declared.change.Change.{Change}
 use Rattle.hazard_core.specs.Commits.{committed, change_by}
 use Rattle.hazard_core.specs.Replay.{Replayed, replayed, CommitsInTurn, MapsInTurn, ReadsInTurn, SeesEarlier}
 use Rattle.beat_core.specs.Ports.{Arrival}

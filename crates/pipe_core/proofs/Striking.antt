@@ -13,7 +13,8 @@ use Rattle.cell_core.specs.Cells.{CellView, cell_at, site_in, bits_from, bit}
 use Rattle.cell_core.specs.Sites.{ProgramView, site_at}
 use Rattle.cell_core.specs.Rows.{numbers}
 use Rattle.hazard_core.specs.Tables.{TableState, decl_of}
-use Rattle.hazard_core.specs.Held.{Held, Pointer, is_null, is_found_of, is_answer_of, found_cell, answer_cell, pointer_in, pending, guard_on}
+use Rattle.hazard_core.specs.declared.pointer.Pointer.{Pointer}
+use Rattle.hazard_core.specs.Held.{Held, is_null, is_found_of, is_answer_of, found_cell, answer_cell, pointer_in, pending, guard_on}
 use Rattle.hazard_core.specs.Overlay.{found_pointer}
 use Rattle.hazard_core.specs.Rows.{cell_number, cell_pointer}
 use Rattle.hazard_core.specs.Marks.{touches, known_off, has_read, is_marked}

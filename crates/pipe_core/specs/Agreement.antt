@@ -7,10 +7,11 @@ use Rattle.cell_core.specs.declared.operator.Operator.TheVariants.{Found, Answer
 use Rattle.cell_core.specs.declared.site.Act.TheVariants as act
 use Rattle.cell_core.specs.Cells.{cell_at, bits_from, site_in}
 use Rattle.cell_core.specs.Sites.{SiteView, site_at}
-use Rattle.hazard_core.specs.Tables.{Slot, TableState, decl_of}
+use Rattle.hazard_core.specs.declared.slot.Slot.{Slot}
+use Rattle.hazard_core.specs.Tables.{TableState, decl_of}
 use Rattle.hazard_core.specs.Held.{Held, held_value, pointer_in, guard_on, found_cell}
 use Rattle.hazard_core.specs.Rows.{cell_number, cell_pointer}
-use Rattle.hazard_core.specs.Marks.{Change}
+use Rattle.hazard_core.specs.declared.change.Change.{Change}
 use Rattle.hazard_core.specs.Changes.{IsChange, with_tables, finds_key, reads}
 use Rattle.hazard_core.specs.Keeping.{LooksBelow}
 use Rattle.beat_core.specs.Ports.{Arrival}

@@ -16,8 +16,10 @@ use Rattle.cell_core.specs.Rows.{numbers}
 use Rattle.hazard_core.specs.Tables.{TableState, table_at, slot_at, tables_of}
 use Rattle.hazard_core.specs.Held.{Held, held_value, Plan, writes}
 use Rattle.hazard_core.specs.Rows.{with_row, nothing_held}
-use Rattle.hazard_core.specs.Marks.{Change, known_on, known_off, is_marked}
-use Rattle.hazard_core.specs.Commits.{committed, taken_after, change_by, Access, word_in, shown_to_host, may_write, host_written, host_change}
+use Rattle.hazard_core.specs.declared.change.Change.{Change}
+use Rattle.hazard_core.specs.Marks.{known_on, known_off, is_marked}
+use Rattle.hazard_core.specs.declared.access.Access.{Access}
+use Rattle.hazard_core.specs.Commits.{committed, taken_after, change_by, word_in, shown_to_host, may_write, host_written, host_change}
 
 -- ---- the state
 

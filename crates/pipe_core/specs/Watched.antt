@@ -5,7 +5,7 @@ use Rattle.cell_core.specs.Sites.{ProgramView}
 use Rattle.hazard_core.specs.Tables.{TableState, tables_of}
 use Rattle.hazard_core.specs.Held.{Held}
 use Rattle.hazard_core.specs.Rows.{nothing_held}
-use Rattle.hazard_core.specs.Marks.{Change}
+use Rattle.hazard_core.specs.declared.change.Change.{Change}
 use Rattle.hazard_core.specs.Commits.{committed, change_by, host_written, host_change}
 use Rattle.pipe_core.specs.Machine.{Packet, State, Input, Build, Turn, Commits, Writes, Moves, place_at, swept, turn_of}
 use Rattle.pipe_core.specs.History.{Trace, next, begin}

@@ -21,6 +21,7 @@
 //!     object NAME FUNCTION CODE       gives the object of a function a name; CODE is a BYTE-WORD
 //!     object NAME FUNCTION CODE MAP TYPE KEY VALUE CAPACITY FLAGS PLACE..
 //!                                     the same with one map, and with references to it at these places of the code
+//!     made NAME CAPTURE SEED PACKETS  gives the object and the capture that are made from a number (`flow_demo`) their names
 //!     map KIND KEY VALUE CAPACITY     adds a map, `hash` or `array`, of keys and values of so many bytes; all maps are empty
 //!     code BYTES                      adds to the program
 //!     hole                            leaves a hole there, the only one
@@ -106,6 +107,7 @@
 mod bits;
 mod bytes;
 mod cells;
+mod demo;
 mod elf;
 mod graph;
 mod left;

@@ -3,7 +3,7 @@
 use crate::bytes::Named;
 use crate::machine::Machine;
 use crate::maps::Tables;
-use crate::{bits, elf, objects, units};
+use crate::{bits, demo, elf, objects, units};
 use anyhow::{Context, Result};
 use std::alloc::Global;
 
@@ -55,6 +55,7 @@ impl Suite {
             "bytes" => self.named.name(rest)?,
             "more" => self.named.more(rest)?,
             "object" => objects::keep(self.alloc, &mut self.named, rest)?,
+            "made" => demo::keep(self.alloc, &mut self.named, rest)?,
             "map" => self.tables.declare(rest)?,
             _ => return self.machine.take(&self.named, verb, rest),
         }

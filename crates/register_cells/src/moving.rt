@@ -70,21 +70,20 @@ fn sum(cells: &mut Vec<Cell>, a: Kind, p: u32, b: Kind, q: u32) -> Result<u32, A
     }
 }
 
-// SUB of 64 bits.
+// SUB of 64 bits: the distance of two places that are known has no cell.
 fn difference(cells: &mut Vec<Cell>, a: Kind, p: u32, b: Kind, q: u32) -> Result<u32, AllocError>
     requires formed { AreFormed (seen cells.old.items) }
     requires left { HasNumber (length (seen cells.old.items)) a p }
     requires right { HasNumber (length (seen cells.old.items)) b q }
     ensures { (decls : List MapDecl) (ps : List PointerView) → Counts decls (length (seen cells.old.items)) ps a p → Counts decls (length (seen cells.old.items)) ps b q → IfOk (kind.difference decls a b) (λ x. IfOk result (λ c. Yields decls ps a p b q (seen cells.old.items) (seen cells.new.items) x c (λ s t. machine.difference s t))) }
 {
-    match b {
-        Kind::Num(y) => match a {
-            Kind::Num(x) => {
-                let c = compute(cells, AluCode::Sub, false, Width::Bits64, x, p, y, q)?;
-                Ok(c)
-            }
-            _ => Ok(p),
-        },
+    match (a, b) {
+        (Kind::Num(x), Kind::Num(y)) => {
+            let c = compute(cells, AluCode::Sub, false, Width::Bits64, x, p, y, q)?;
+            Ok(c)
+        }
+        (_, Kind::Num(_)) => Ok(p),
+        (Kind::Packet(_), Kind::Packet(_)) => Ok(0),
         _ => {
             let c = distance(cells, a, b)?;
             Ok(c)

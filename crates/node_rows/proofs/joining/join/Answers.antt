@@ -1,9 +1,10 @@
 use Rattle.std.proofs.Common.{◌≡◌, ◌∙◌, ℕ, zero, suc, ◌<◌, ◌≤◌, ◌==◌, ◌⊎◌, inl, inr, Bool, false, if◌then◌else◌, Option, None, length, get_or, replicate, refl, sym, ap, arith}
 use Rattle.std.proofs.lemmas.Bool.{cases_lt}
 use Rattle.std.proofs.lemmas.List.{get_or-replicate, get_or_past, get_or-set_other, length-set}
-use Rattle.node_rows.specs.declared.origin.Origin.{Origin}
+use Rattle.place_rows.specs.declared.origin.Origin.{Origin}
 use Rattle.node_rows.specs.Joining.{origin_at, met, first_brings}
-use Rattle.node_rows.proofs.PlaceLemmas.{all_places, where_edges_meet, set_next, kept_next}
+use Rattle.place_rows.proofs.PlaceLaws.{all_places}
+use Rattle.node_rows.proofs.PlaceLemmas.{where_edges_meet, set_next, kept_next}
 use Rattle.node_rows.proofs.joining.join.Goals as goal
 use Rattle.node_rows.proofs.joining.join.Goals.{then-has_data, else-has_data}
 

@@ -1,7 +1,7 @@
 use Rattle.std.proofs.Common.{◌≤◌, arith}
-use Rattle.node_rows.specs.declared.span.Span.{Span}
-use Rattle.node_rows.specs.Origins.{span_row}
-use Rattle.node_rows.proofs.PlaceLemmas.{span_low}
+use Rattle.place_rows.specs.declared.span.Span.{Span}
+use Rattle.place_rows.specs.Origins.{span_row}
+use Rattle.place_rows.proofs.PlaceLaws.{span_low}
 use Rattle.node_rows.proofs.node.compared_row.Goals as goal
 use Rattle.node_rows.proofs.node.compared_row.Goals.{in-K, in-X}
 

@@ -1,5 +1,5 @@
 use Rattle.std.proofs.Common.{◌≡◌, drop, max}
-use Rattle.node_rows.specs.Origins.{spans_row}
+use Rattle.place_rows.specs.Origins.{spans_row}
 use Rattle.node_rows.proofs.node.greatest.Given as goal
 
 abbrev pub invariant-loop-span : goal.invariant-loop-span

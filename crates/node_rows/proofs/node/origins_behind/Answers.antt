@@ -1,6 +1,6 @@
 use Rattle.std.proofs.Common.{◌∙◌, refl, ap}
 use Rattle.node_rows.specs.Passing.{origin_behind, noted}
-use Rattle.node_rows.proofs.PlaceLemmas.{all_places}
+use Rattle.place_rows.proofs.PlaceLaws.{all_places}
 use Rattle.node_rows.proofs.node.origins_behind.Goals as goal
 
 pub returns : goal.returns

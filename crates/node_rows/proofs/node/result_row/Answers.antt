@@ -1,5 +1,5 @@
 use Rattle.std.proofs.Common.{arith}
-use Rattle.node_rows.proofs.PlaceLemmas.{spans_low}
+use Rattle.place_rows.proofs.PlaceLaws.{spans_low}
 use Rattle.node_rows.proofs.node.result_row.Goals as goal
 
 pub overflow_add-result : goal.overflow_add-result

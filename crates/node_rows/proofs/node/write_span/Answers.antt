@@ -1,8 +1,8 @@
 use Rattle.std.proofs.Common.{◌∙◌, Bool, if◌then◌else◌, Some, None, get_or, sym, ap, arith}
 use Rattle.std.proofs.Math.Bool.{or-false}
-use Rattle.node_rows.specs.Origins.{has_data}
-use Rattle.node_rows.specs.Passing.{is_in}
-use Rattle.node_rows.proofs.PlaceLemmas.{until}
+use Rattle.place_rows.specs.Origins.{has_data}
+use Rattle.place_rows.specs.Spans.{is_in}
+use Rattle.place_rows.proofs.PlaceLaws.{until}
 use Rattle.node_rows.proofs.node.write_span.Goals as goal
 
 pub returns : goal.returns

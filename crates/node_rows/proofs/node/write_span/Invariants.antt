@@ -1,5 +1,5 @@
 use Rattle.std.proofs.Common.{◌≡◌, ℕ, ◌<◌, ◌≤◌, ◌⊎◌, nat_le, nat_lt, ◌&&◌, if◌then◌else◌, Some, None, get_or}
-use Rattle.node_rows.specs.Origins.{has_data}
+use Rattle.place_rows.specs.Origins.{has_data}
 use Rattle.node_rows.proofs.node.write_span.Given as goal
 
 abbrev pub invariant-loop-place : goal.invariant-loop-place

@@ -2,8 +2,8 @@ use Rattle.std.proofs.Common.{◌∙◌, ◌+◌, ◌≤◌, Option, List, sym, 
 use Rattle.std.proofs.lemmas.List.{get_or_default}
 use Rattle.unfold_core.specs.declared.edges.Point.{Point}
 use Rattle.unfold_core.specs.declared.links.Edge.{Edge}
-use Rattle.node_rows.specs.declared.origin.Origin.{Origin}
-use Rattle.node_rows.specs.Origins.{every_row}
+use Rattle.place_rows.specs.declared.origin.Origin.{Origin}
+use Rattle.place_rows.specs.Origins.{every_row}
 use Rattle.node_rows.specs.Joining.{edge_row}
 use Rattle.node_rows.specs.Rows.{no_point, arrivals_of}
 use Rattle.node_rows.proofs.RowsLemmas.{before_low, behind_made}

@@ -1,0 +1,17 @@
+//! Objects and captures that are made from a number.
+
+use crate::bytes::Named;
+use crate::numbers::{front, number_32};
+use anyhow::Result;
+use flow_demo::make;
+use std::alloc::Global;
+
+/// Gives an object and a capture that are made from a number their names.
+pub(crate) fn keep(alloc: Global, named: &mut Named, rest: &str) -> Result<()> {
+    let (object, rest) = front(rest);
+    let (capture, rest) = front(rest);
+    let (seed, packets) = front(rest);
+    let made = make(alloc, number_32(seed)?, number_32(packets)?)?;
+    named.keep(object, made.object)?;
+    named.keep(capture, made.capture)
+}

@@ -1,0 +1,5 @@
+pub mod TableLemmas
+pub mod RowLemmas
+pub mod MarkLemmas
+pub mod ListLemmas
+pub mod PlaceLemmas

@@ -1,0 +1,8 @@
+use Rattle.std.proofs.Common.{◌≡◌, ◌<◌, ℕ, None, length, map, get_or}
+use Rattle.cell_core.specs.Cells.{cell_at}
+use Rattle.cell_core.specs.View.{cell_of}
+use Rattle.row_net.specs.Table.{IsConstantOf}
+use Rattle.row_net.proofs.table.constants.Given as goal
+
+abbrev pub invariant-loop-cell : goal.invariant-loop-cell
+invariant-loop-cell g l = record { count : length l.table.items ≡ l.cell-index; each : (k : ℕ) → k < l.cell-index → IsConstantOf (cell_at (map cell_of l.cells) k) (get_or l.table.items k None) }

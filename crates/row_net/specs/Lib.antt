@@ -1,0 +1,4 @@
+pub mod Table
+pub mod Made
+pub mod Needed
+pub mod Lists
