@@ -11,10 +11,10 @@ loop-what-preserved c = one_more (λ _ zs. map Keep zs) (λ _ x. Keep x ∷ []) 
 pub loop-bank-init : goal.loop-bank-init
 loop-bank-init c =
     let e = sym (append-nil c.loop-what.all.items) ∙ at_end (λ _ zs. map Keep zs) c.args.kept.now c.loop-what.what-index 0 c.loop-what.all.items _ c.loop-what-test.false c.loop-what.invariant in
-    λ i. e i ++ banks_from 1 (c.banks.ensures i - 1)
+    λ i. e i ++ banks_from 1 (c.banks-bank-end.ensures i - 1)
 
 pub loop-bank-preserved : goal.loop-bank-preserved
-loop-bank-preserved c = ap (λ l. l ++ banks_from (c.loop-bank.bank + 1) (c.loop-bank.bank-end - (c.loop-bank.bank + 1))) c.in_ok-push-2.ensures.items ∙ banks_more c.loop-bank.bank c.loop-bank.bank-end c.loop-bank.all.items _ c.loop-bank-test.true c.loop-bank.invariant
+loop-bank-preserved c = ap (λ l. l ++ banks_from (c.loop-bank.bank + 1) (c.banks-bank-end.result - (c.loop-bank.bank + 1))) c.in_ok-push-2.ensures.items ∙ banks_more c.loop-bank.bank c.banks-bank-end.result c.loop-bank.all.items _ c.loop-bank-test.true c.loop-bank.invariant
 
 pub returns : goal.returns
-returns c = banks_done c.loop-bank.bank c.loop-bank.bank-end c.loop-bank.all.items _ c.loop-bank-test.false c.loop-bank.invariant
+returns c = banks_done c.loop-bank.bank c.banks-bank-end.result c.loop-bank.all.items _ c.loop-bank-test.false c.loop-bank.invariant
