@@ -1,7 +1,7 @@
 -- The block that gathers frames is well typed, in order and spelled.
 use Rattle.std.specs.Prelude.{◌≡◌, ℕ, zero, suc, ◌+◌, ◌-◌, ◌^◌, ◌<◌, ◌≤◌, nat_le, ◌&&◌, if◌then◌else◌, true, List, [], ◌∷◌, ◌++◌, length, map, max}
 use Rattle.std.specs.List.{AllByRecursion}
-use Rattle.std.proofs.Common.{get_or, refl, sym, ap, subst, arith, inl}
+use Rattle.std.proofs.Common.{get_or, refl, sym, ap, ◌∙◌, subst, arith, inl}
 use Rattle.std.proofs.lemmas.Bool.{le-leb, lt-ltb}
 use Rattle.std.proofs.lemmas.List.{length-replicate, length-map}
 use Rattle.std.proofs.lemmas.Nat.{pow_pos}
@@ -99,7 +99,7 @@ further_is bits kept some most words = all kept words
 
 -- ---- the block is well typed
 module _ {P : Type 0} (p : P) (bits : ℕ) (kept : List Kept) (over slot : Name P) (some : 1 ≤ bits) (most : bits ≤ 9) (words : AllByRecursion IsKept kept) where
-  module _ (d : Whole P) (here : d.block p ≡ gather_block p bits kept over slot) (wide : name_width d port_list over ≡ 1) (numbered : name_width d port_list slot ≡ bits) where
+  module _ (d : Whole P) (here : d.block p ≡ gather_block p bits kept over slot) (one : name_width d port_list over ≡ 1) (numbered : name_width d port_list slot ≡ bits) where
     abbrev s : Scope (Name P)
     s = names_scope d port_list
 
@@ -110,7 +110,10 @@ module _ {P : Type 0} (p : P) (bits : ℕ) (kept : List Kept) (over slot : Name 
     own_wire k = ap (λ (b : BlockTree (Name P)). get_or (block_wires b) k 0) here
 
     wide_width : width_of s (wide slot) ≡ bits + 5
-    wide_width = rw numbered (concatenation_is 5 bits (omega arith) (omega arith) (omega arith)) ∙ omega arith
+    wide_width =
+        let e : concatenation_width 5 bits ≡ 5 + bits = concatenation_is 5 bits (omega arith) (omega arith) (omega arith) in
+        let f : 5 + bits ≡ bits + 5 = omega arith in
+        rw numbered (e ∙ f)
 
     place_width : width_of s (place bits (name.Wire p 5) (register p 1)) ≡ bank_bits bits + 11
     place_width = rw (own_wire 5, own_register 1, low_width bits some) (concatenation_is (bank_bits bits) 11 (omega arith) (omega arith) (omega arith))
@@ -122,10 +125,10 @@ module _ {P : Type 0} (p : P) (bits : ℕ) (kept : List Kept) (over slot : Name 
     masked_width = rw (own_wire 1) refl
 
     ends_width : width_of s (TBinary And (TRead over) (port IN_LAST)) ≡ 1
-    ends_width = rw wide refl
+    ends_width = rw one refl
 
     begins_width : width_of s (TBinary And (TRead over) (TUnary Not (register p 0))) ≡ 1
-    begins_width = rw (wide, own_register 0) refl
+    begins_width = rw (one, own_register 0) refl
 
     wires_typed : block_wires_typed s (gather_wires p bits over slot) ≡ true
     wires_typed =
@@ -137,19 +140,19 @@ module _ {P : Type 0} (p : P) (bits : ℕ) (kept : List Kept) (over slot : Name 
 
     stores_fit : AreStoresTyped s (held_widths bits kept) (gather_stores p bits (further bits kept) over slot)
     stores_fit = (
-      record { condition = rw (wide, in_bank_width s bits (name.Wire p 5) 0 some most (pow_pos bits) (own_wire 5)) refl; at = own_wire 6; value = own_wire 2; some_index = omega arith; some_width = omega arith },
+      record { condition = rw (one, in_bank_width s bits (name.Wire p 5) 0 some most (pow_pos bits) (own_wire 5)) refl; at = own_wire 6; value = own_wire 2; some_index = omega arith; some_width = omega arith },
       (
         record { condition = own_wire 3; at = numbered; value = own_register 1; some_index = some; some_width = omega arith },
         (
           record { condition = own_wire 3; at = numbered; value = refl; some_index = some; some_width = omega arith },
-          further_typed s p over slot bits (further bits kept) (further_is bits kept some most words) some most wide numbered (own_register 1) (own_wire 2) (own_wire 4) refl refl (own_wire 5) (own_wire 6),
+          further_typed s p over slot bits (further bits kept) (further_is bits kept some most words) some most one numbered (own_register 1) (own_wire 2) (own_wire 4) refl refl (own_wire 5) (own_wire 6),
         ),
       ),
     )
 
     statement_fits : statement_typed s (1 ∷ 11 ∷ []) (held_widths bits kept) (gather_statement p bits (further bits kept) over slot) ≡ true
     statement_fits =
-        and_is _ _ (and_is _ _ (one_is _ wide) refl) (and_is _ _ (and_is _ _ (one_is _ wide) (same_is 11 _ (omega arith) next_width))
+        and_is _ _ (and_is _ _ (one_is _ one) refl) (and_is _ _ (and_is _ _ (one_is _ one) (same_is 11 _ (omega arith) next_width))
         (stores_typed s (1 ∷ 11 ∷ []) (held_widths bits kept) (held_widths bits kept) (gather_stores p bits (further bits kept) over slot) 0 (λ k l. let z : 0 + k ≡ k = omega arith in ap (λ i. get_or (held_widths bits kept) i (0, 0)) z)
         (ap (λ n. suc (suc (suc n))) (count_stores p over slot bits (further bits kept))) stores_fit))
 

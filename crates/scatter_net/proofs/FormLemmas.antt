@@ -107,7 +107,10 @@ module _ {P : Type 0} (p gather exit : P) (bits : ℕ) (kept : List Kept) (words
     answer_from j l = let e : 2 + (0 + j) ≡ suc (suc j) = omega arith in ap (λ k. get_or (answer_widths bits words) k (0, 0)) e ∙ answer_words words j l
 
     wide_width : width_of s (wide slot) ≡ bits + 5
-    wide_width = rw numbered (concatenation_is 5 bits (omega arith) (omega arith) (omega arith)) ∙ omega arith
+    wide_width =
+        let e : concatenation_width 5 bits ≡ 5 + bits = concatenation_is 5 bits (omega arith) (omega arith) (omega arith) in
+        let f : 5 + bits ≡ bits + 5 = omega arith in
+        rw numbered (e ∙ f)
 
     beat_is_64 : width_of s (beat_from p gather bits kept 0 (banks bits - 1)) ≡ 64
     beat_is_64 = let n : 1 ≤ banks bits = pow_pos (bits - 5) in beat_width p gather bits kept some most d has (own_wire 0) own_register 0 (banks bits - 1) (omega arith) (banks_few bits)
