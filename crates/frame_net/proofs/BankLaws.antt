@@ -121,6 +121,7 @@ in_bank_width s bits w b some most few e =
 pub low_width : (bits : ℕ) → 1 ≤ bits → part_select_width (bits + 5) (bank_bits bits - 1) 0 ≡ bank_bits bits
 low_width bits some =
     let x : 2 ≤ bits + 5 = omega arith in
+    let y : 0 ≤ bank_bits bits - 1 = omega arith in
     let z : bank_bits bits - 1 < bits + 5 = omega arith in
     let n : bank_bits bits - 1 + 1 - 0 ≡ bank_bits bits = omega arith in
-    rw (le-leb 2 (bits + 5) x, lt-ltb (bank_bits bits - 1) (bits + 5) z) n
+    rw (le-leb 2 (bits + 5) x, le-leb 0 (bank_bits bits - 1) y, lt-ltb (bank_bits bits - 1) (bits + 5) z) n

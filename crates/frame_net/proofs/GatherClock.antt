@@ -231,7 +231,7 @@ module _ {P : Type 0} (p : P) (bits : ℕ) (some : 1 ≤ bits) (kept : List Kept
   bank_in b l = omega (arith, count_further bits kept)
 
   at_bank : (b : ℕ) → suc b < banks bits → get_or fs (length kept + b) (Bank (suc b)) ≡ Bank (suc b)
-  at_bank b l = item_bank kept 1 (banks bits - 1) b (Bank (suc b)) (omega arith)
+  at_bank b l = let z : 1 + b ≡ suc b = omega arith in item_bank kept 1 (banks bits - 1) b (Bank (suc b)) (omega arith) ∙ ap Bank z
 
   bank_size : (b : ℕ) → b < banks bits → length (old (bank kept b)) ≡ 2 ^ (bank_bits bits + 11)
   bank_size zero l = size_at 0
