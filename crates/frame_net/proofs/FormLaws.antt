@@ -4,7 +4,7 @@ use Rattle.std.proofs.Common.{get_or, refl, ap, ◌∙◌, arith, inl, inr}
 use Rattle.std.proofs.lemmas.Bool.{le-leb, lt-ltb}
 use Rattle.std.proofs.lemmas.Bool.Decides.{nat_tests}
 use Rattle.net_core.specs.declared.tree.Word.{Word}
-use Rattle.net_core.specs.Nets.{TRead, StatementTree}
+use Rattle.net_core.specs.Nets.{Tree, StatementTree}
 use Rattle.net_core.specs.Ports.{port_list}
 use Rattle.net_core.specs.Width.{width_of, same, memory_word_width}
 use Rattle.block_core.specs.declared.block.BlockMemory.{BlockMemory}
@@ -29,10 +29,10 @@ pub wire_is : (a b : ℕ) → 0 < a → a ≤ 64 → b ≡ a → (same a b && na
 wire_is a b some most e = rw (same_is a b some e) (le-leb a 64 most)
 
 -- a word of a memory of another part
-pub held_width : {P : Type 0} (d : Whole P) (m : P) (slot : Name P) (ws : List (ℕ × ℕ)) (k bits w : ℕ) → block_memories (d.block m) ≡ ws → get_or ws k (0, 0) ≡ (bits, w) → name_width d port_list slot ≡ bits → 0 < bits
-    → width_of (names_scope d port_list) (held m k (TRead slot)) ≡ w
-held_width d m slot ws k bits w h at numbered some =
-    ap (λ (x : ℕ × ℕ). memory_word_width (name_width d port_list slot) x.0 x.1) (ap (λ l. get_or l k (0, 0)) h ∙ at)
+pub held_width : {P : Type 0} (d : Whole P) (m : P) (index : Tree (Name P)) (ws : List (ℕ × ℕ)) (k bits w : ℕ) → block_memories (d.block m) ≡ ws → get_or ws k (0, 0) ≡ (bits, w) → width_of (names_scope d port_list) index ≡ bits → 0 < bits
+    → width_of (names_scope d port_list) (held m k index) ≡ w
+held_width d m index ws k bits w h at numbered some =
+    ap (λ (x : ℕ × ℕ). memory_word_width (width_of (names_scope d port_list) index) x.0 x.1) (ap (λ l. get_or l k (0, 0)) h ∙ at)
     ∙ ap (λ n. memory_word_width n bits w) numbered
     ∙ ap (λ t. if t then w else 0) (same_is bits bits some refl)
 

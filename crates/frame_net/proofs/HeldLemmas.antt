@@ -1,5 +1,5 @@
 -- One more beat in the memories that hold frames.
-use Rattle.std.specs.Prelude.{◌≡◌, ◌≢◌, ℕ, suc, ◌+◌, ◌*◌, ◌/◌, ◌^◌, ◌<◌, ◌≤◌, ◌==◌, Bool, true, false, not, Option, Some, None, is_some, List, [], ◌++◌, length}
+use Rattle.std.specs.Prelude.{◌≡◌, ◌≢◌, ℕ, suc, ◌+◌, ◌*◌, ◌/◌, ◌%◌, ◌^◌, ◌<◌, ◌≤◌, ◌==◌, Bool, true, false, not, Option, Some, None, is_some, List, [], ◌++◌, length}
 use Rattle.std.proofs.Common.{get_or, refl, sym, ap, ◌∙◌, subst, arith}
 use Rattle.std.proofs.lemmas.Bool.{eqb-true}
 use Rattle.std.proofs.lemmas.Bool.Decides.{nat_tests}
@@ -12,7 +12,7 @@ use Rattle.net_core.specs.declared.tree.Word.{Word}
 use Rattle.net_core.specs.Value.{word, nothing}
 use Rattle.frame_net.specs.declared.held.Kept.{Kept}
 use Rattle.frame_net.specs.declared.held.Kept.TheVariants.{Ifindex, Time, Word as FrameWord}
-use Rattle.frame_net.specs.Frames.{beat_of, word_at, HoldsBeats, HoldsKept, HoldsBegun, position_of}
+use Rattle.frame_net.specs.Frames.{beat_of, word_at, bank, HoldsBeats, HoldsKept, HoldsBegun, position_of}
 use Rattle.frame_net.proofs.StoreLaws.{put}
 use Rattle.frame_net.proofs.FrameLemmas.{count_more, earlier_word, new_word}
 
@@ -39,7 +39,7 @@ HeldSoFar x m at (Some a) = HoldsKept x m at a
 pub record SoFar (kept : List Kept) (ms : List (List Word)) (at : ℕ) (part : Option Arrival) : Type 0 where
   pub bytes : IsBytes (bytes_so_far part)
   pub whole : length (bytes_so_far part) ≡ 8 * position_of part
-  pub beats : (b : ℕ) → b < position_of part → word_at (get_or ms 0 []) (at * 2 ^ 11 + b) ≡ word 64 (beat_of (bytes_so_far part) b).word
+  pub beats : (b : ℕ) → b < position_of part → word_at (get_or ms (bank kept (at / 32)) []) (at % 32 * 2 ^ 11 + b) ≡ word 64 (beat_of (bytes_so_far part) b).word
   pub rest : (k : ℕ) → k < length kept → HeldSoFar (get_or kept k Ifindex) (get_or ms (3 + k) []) at part
 
 pub so_far_is : (kept : List Kept) (ms : List (List Word)) (at : ℕ) (part : Option Arrival) → HoldsBegun kept ms at part → SoFar kept ms at part

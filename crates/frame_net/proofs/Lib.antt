@@ -1,5 +1,6 @@
 pub mod StoreLaws
 pub mod MaskLaws
+pub mod BankLaws
 pub mod BitLaws
 pub mod FormLaws
 pub mod LoopLaws

@@ -29,7 +29,7 @@ use Rattle.frame_net.specs.GatherNets.{net}
 use Rattle.frame_net.specs.Sources.{kept_word, SeesHeld, ShowsFrame, IsSources}
 use Rattle.frame_net.specs.SourcesNets.{held, frame_length, kept_tree, kept_wires, sources_wires, sources_block}
 use Rattle.frame_net.proofs.FormLaws.{and_is, wire_is, held_width, still_before}
-use Rattle.frame_net.proofs.ReadLaws.{held_here, count_held}
+use Rattle.frame_net.proofs.ReadLaws.{held_here, count_held, held_kept}
 
 -- ---- what the wires show
 -- the number of the last beat and its bytes give the length
@@ -93,7 +93,7 @@ module _ {P : Type 0} (p gather : P) (bits : ℕ) (kept : List Kept) (slot : Nam
     s = names_scope d port_list
 
     width_at : (k w : ℕ) → get_or (held_widths bits kept) k (0, 0) ≡ (bits, w) → width_of s (held gather k (TRead slot)) ≡ w
-    width_at k w e = held_width d gather slot (held_widths bits kept) k bits w has e numbered some
+    width_at k w e = held_width d gather (TRead slot) (held_widths bits kept) k bits w has e numbered some
 
     own_wire : (k : ℕ) → s.net (name.Wire p k) ≡ get_or (block_wires (sources_block p gather kept slot)) k 0
     own_wire k = ap (λ (b : BlockTree (Name P)). get_or (block_wires b) k 0) here
@@ -116,14 +116,6 @@ module _ {P : Type 0} (p gather : P) (bits : ℕ) (kept : List Kept) (slot : Nam
         and_is _ _ (kept_wire x _ (one_width x k h.0 (ap (λ i. get_or (held_widths bits kept) i (0, 0)) (sym z) ∙ e 0 (omega arith))))
         (kept_typed xs (suc k) h.1 (λ j l. let n : suc k + j ≡ k + suc j = omega arith in ap (λ i. get_or (held_widths bits kept) i (0, 0)) n ∙ e (suc j) (omega arith)))
 
-    held_at : (xs : List Kept) (j : ℕ) → j < length xs → get_or (map (kept_widths bits) xs) j (0, 0) ≡ kept_widths bits (get_or xs j Ifindex)
-    held_at [] j l = absurd (omega arith)
-    held_at (x ∷ xs) zero l = refl
-    held_at (x ∷ xs) (suc j) l = held_at xs j (omega arith)
-
-    held_from : (j : ℕ) → j < length kept → get_or (held_widths bits kept) (3 + j) (0, 0) ≡ kept_widths bits (get_or kept j Ifindex)
-    held_from j l = let e : 3 + j ≡ suc (suc (suc j)) = omega arith in ap (λ i. get_or (held_widths bits kept) i (0, 0)) e ∙ held_at kept j l
-
     length_width : width_of s (frame_length (net p 0) (net p 1)) ≡ 14
     length_width = rw (own_wire 0, own_wire 1) refl
 
@@ -132,7 +124,7 @@ module _ {P : Type 0} (p gather : P) (bits : ℕ) (kept : List Kept) (slot : Nam
       registers = refl;
       memories = refl;
       wires = and_is _ _ (wire_is 11 _ (omega arith) (omega arith) (width_at 1 11 refl)) (and_is _ _ (wire_is 4 _ (omega arith) (omega arith) (width_at 2 4 refl))
-          (and_is _ _ (wire_is 14 _ (omega arith) (omega arith) length_width) (kept_typed kept 3 words held_from)));
+          (and_is _ _ (wire_is 14 _ (omega arith) (omega arith) length_width) (kept_typed kept 3 words (held_kept bits kept))));
       statement = refl;
     }
 

@@ -1,6 +1,6 @@
 -- Frames that are held in memories, by slot: their beats one after another, the number of the last beat and how many bytes it has, and
 -- what else is kept of them.
-use Rattle.std.specs.Prelude.{◌≡◌, ℕ, ◌+◌, ◌-◌, ◌*◌, ◌/◌, ◌^◌, ◌<◌, Option, Some, None, is_some, List, [], ◌∷◌, length, drop, map}
+use Rattle.std.specs.Prelude.{◌≡◌, ℕ, zero, suc, ◌+◌, ◌-◌, ◌*◌, ◌/◌, ◌%◌, ◌^◌, ◌<◌, min, Option, Some, None, is_some, List, [], ◌∷◌, ◌++◌, length, drop, map}
 use Rattle.std.proofs.Common.{get_or}
 use Rattle.list_laws.specs.Bytes.{IsBytes}
 use Rattle.beat_core.specs.declared.beat.Beat.{Beat}
@@ -12,6 +12,8 @@ use Rattle.net_core.specs.Value.{word, bit, nothing}
 use Rattle.net_core.specs.Clock.{Stored}
 use Rattle.frame_net.specs.declared.held.Kept.{Kept}
 use Rattle.frame_net.specs.declared.held.Kept.TheVariants.{Ifindex, Time, Word as FrameWord}
+use Rattle.frame_net.specs.declared.held.Further.{Further}
+use Rattle.frame_net.specs.declared.held.Further.TheVariants.{Kept as Keep, Bank}
 
 -- beat b of a frame
 abbrev pub beat_of : List ℕ → ℕ → Beat
@@ -34,9 +36,30 @@ HoldsKept Ifindex m slot a = word_at m slot ≡ word 32 a.ifindex
 HoldsKept Time m slot a = word_at m slot ≡ word 64 a.time
 HoldsKept (FrameWord j) m slot a = j < beat_count (length a.frame) → word_at m slot ≡ word 64 (beat_of a.frame j).word
 
+-- ---- memories of beats: one for each 32 slots, the first in front of the others and the further ones behind all
+-- how many bits of a slot's number tell the slots of one memory apart
+abbrev pub bank_bits : ℕ → ℕ
+bank_bits bits = min bits 5
+
+abbrev pub banks : ℕ → ℕ
+banks bits = 2 ^ (bits - 5)
+
+-- the number of such a memory
+abbrev pub bank : List Kept → ℕ → ℕ
+bank kept zero = 0
+bank kept (suc b) = 3 + (length kept + b)
+
+abbrev pub banks_from : ℕ → ℕ → List Further
+banks_from b zero = []
+banks_from b (suc n) = Bank b ∷ banks_from (suc b) n
+
+-- the memories behind the first three
+abbrev pub further : ℕ → List Kept → List Further
+further bits kept = map Keep kept ++ banks_from 1 (banks bits - 1)
+
 -- the memories hold what has come of a frame
 pub record HoldsPart (kept : List Kept) (ms : List (List Word)) (slot : ℕ) (a : Arrival) : Type 0 where
-  pub beats : HoldsBeats (get_or ms 0 []) slot a.frame
+  pub beats : HoldsBeats (get_or ms (bank kept (slot / 32)) []) (slot % 32) a.frame
   pub rest : (k : ℕ) → k < length kept → HoldsKept (get_or kept k Ifindex) (get_or ms (3 + k) []) slot a
 
 -- the memories hold a whole frame
@@ -63,8 +86,12 @@ HoldsBegun kept ms slot None = Unit {0}
 HoldsBegun kept ms slot (Some a) = IsBegun a × HoldsPart kept ms slot a
 
 -- how many bits the index of each memory has, where a slot's number has so many
+abbrev pub further_bits : ℕ → Further → ℕ
+further_bits bits (Keep x) = bits
+further_bits bits (Bank b) = bank_bits bits + 11
+
 abbrev pub index_bits : ℕ → List Kept → List ℕ
-index_bits bits kept = (bits + 11) ∷ bits ∷ bits ∷ map (λ _. bits) kept
+index_bits bits kept = (bank_bits bits + 11) ∷ bits ∷ bits ∷ map (further_bits bits) (further bits kept)
 
 -- The part that gathers frames has its registers and memories, and in the slot what has come of a frame.
 pub record Gathers (bits : ℕ) (kept : List Kept) (part : Option Arrival) (slot : ℕ) (s : Stored) : Type 0 where

@@ -18,7 +18,9 @@ use Rattle.block_core.specs.Order.{IsBefore, InOrder}
 use Rattle.block_core.specs.Formed.{name_width, block_registers, block_memories, block_wires, IsTypedBlock, StatementReads, IsThere}
 use Rattle.frame_net.specs.declared.held.Kept.{Kept}
 use Rattle.frame_net.specs.declared.held.Kept.TheVariants.{Ifindex, Time, Word as FrameWord}
-use Rattle.frame_net.specs.Frames.{HoldsFrame, Gathers, position_of}
+use Rattle.frame_net.specs.declared.held.Further.{Further}
+use Rattle.frame_net.specs.declared.held.Further.TheVariants.{Kept as Keep, Bank}
+use Rattle.frame_net.specs.Frames.{bank_bits, further, HoldsFrame, Gathers, position_of}
 
 -- how many bits a word has of what is kept
 abbrev pub kept_width : Kept → ℕ
@@ -36,9 +38,20 @@ IsKept Ifindex = Unit {0}
 IsKept Time = Unit {0}
 IsKept (FrameWord j) = j < 2 ^ 11
 
+abbrev pub further_widths : ℕ → Further → ℕ × ℕ
+further_widths bits (Keep x) = kept_widths bits x
+further_widths bits (Bank b) = (bank_bits bits + 11, 64)
+
+abbrev pub IsFurther : ℕ → Further → Type 0
+IsFurther bits (Keep x) = IsKept x
+IsFurther bits (Bank b) = b < 2 ^ bits
+
 -- of each memory the widths of its index and of its words
+abbrev pub memory_widths : ℕ → List Further → List (ℕ × ℕ)
+memory_widths bits fs = (bank_bits bits + 11, 64) ∷ (bits, 11) ∷ (bits, 4) ∷ map (further_widths bits) fs
+
 abbrev pub held_widths : ℕ → List Kept → List (ℕ × ℕ)
-held_widths bits kept = (bits + 11, 64) ∷ (bits, 11) ∷ (bits, 4) ∷ map (kept_widths bits) kept
+held_widths bits kept = memory_widths bits (further bits kept)
 
 -- what the block sees in a clock: its registers, whether a beat goes over, the slot of the frame that comes, and this beat
 pub record SeesBeat {P : Type 0} (part : P) (bits : ℕ) (over slot : Name P) (v : Env (Name P)) (s : Stored) (goes : Bool) (at : ℕ) (o : Offered) : Type 0 where
@@ -62,7 +75,7 @@ pub record HasTaken (bits : ℕ) (kept : List Kept) (part : Option Arrival) (at 
 pub record IsGather {P : Type 0} (part : P) (bits : ℕ) (kept : List Kept) (over slot : Name P) (b : BlockTree (Name P)) : Type 0 where
   pub registers : block_registers b ≡ 1 ∷ 11 ∷ []
   pub memories : block_memories b ≡ held_widths bits kept
-  pub wires : block_wires b ≡ 4 ∷ 7 ∷ 64 ∷ 1 ∷ 1 ∷ (bits + 11) ∷ []
+  pub wires : block_wires b ≡ 4 ∷ 7 ∷ 64 ∷ 1 ∷ 1 ∷ (bits + 5) ∷ (bank_bits bits + 11) ∷ []
   pub typed : (d : Whole P) → d.block part ≡ b → name_width d port_list over ≡ 1 → name_width d port_list slot ≡ bits → IsTypedBlock d port_list b
   pub ordered : (d : Whole P) (before : List P) → Among part d.parts → IsBefore d before part 0 over → IsBefore d before part 0 slot → InOrder d before part 0 b.wires
   pub reads : (d : Whole P) → Among part d.parts → IsThere d over → IsThere d slot → StatementReads (IsThere d) b.statement

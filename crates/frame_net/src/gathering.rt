@@ -6,13 +6,15 @@ ghost use Rattle.net_core.specs.Nets.{TRead, SIf, SSet, SStore};
 ghost use Rattle.net_core.specs.View.{tree_of, statement_of};
 ghost use Rattle.net_core.specs.Value.{word};
 ghost use Rattle.block_core.specs.View.{block_of, block_wire_of};
-ghost use Rattle.frame_net.specs.Gather.{IsGather, IsKept, held_widths, kept_width};
+ghost use Rattle.frame_net.specs.Gather.{IsGather, IsKept, further_widths, memory_widths, kept_width};
 ghost use Rattle.frame_net.specs.Stores.{widths_memory, store_statement, store_statements};
-ghost use Rattle.frame_net.specs.GatherNets.{kept_store, gather_wires, gather_stores, gather_sets, gather_statement};
+ghost use Rattle.frame_net.specs.Frames.{further};
+ghost use Rattle.frame_net.specs.GatherNets.{beat_store, kept_store, further_store, gather_wires, gather_stores, gather_sets, gather_statement};
 
-use crate::held::Kept;
+use crate::held::{Further, Kept};
 use crate::nets::{
-    POSITION_WIDTH, beside, in_bits, masked, net, next_position, port, register, uncounted, wire,
+    POSITION_WIDTH, bank_bits, banks, in_bank, in_bits, masked, net, next_position, place, port,
+    register, uncounted, wide, wire,
 };
 use block_core::block::{Block, BlockMemory, BlockWire};
 use block_core::name::{Name, Part};
@@ -29,7 +31,8 @@ fn wires<P: Part>(
     over: Name<P>,
     slot: Name<P>,
 ) -> Result<Vec<BlockWire<Name<P>>>, AllocError>
-    requires { bits ≤ 5 }
+    requires some { 1 ≤ bits }
+    requires most { bits ≤ 9 }
     ensures { IfOk result (λ r. map block_wire_of r.items ≡ gather_wires part bits over slot) }
 {
     let left = uncounted(alloc, port(IN_BYTES))?;
@@ -38,14 +41,16 @@ fn wires<P: Part>(
     let ends = binary(alloc, Op::And, Expr::Read(over), port(IN_LAST))?;
     let none = unary(alloc, UnaryOp::Not, register(part, 0))?;
     let begins = binary(alloc, Op::And, Expr::Read(over), none)?;
-    let place = beside(alloc, Expr::Read(slot), register(part, 1))?;
+    let wide = wide(alloc, slot)?;
+    let place = place(alloc, bits, Name::Wire(part, 5), register(part, 1))?;
     let mut all = Vec::new(alloc);
     all.push(wire(4, left))?;
     all.push(wire(7, shift))?;
     all.push(wire(64, word))?;
     all.push(wire(1, ends))?;
     all.push(wire(1, begins))?;
-    all.push(wire(bits + POSITION_WIDTH, place))?;
+    all.push(wire(bits + 5, wide))?;
+    all.push(wire(bank_bits(bits) + POSITION_WIDTH, place))?;
     Ok(all)
 }
 
@@ -60,6 +65,23 @@ fn store<P: Part>(
     ensures { IfOk result (λ s. statement_of s ≡ SIf (tree_of condition) (SStore memory (tree_of at) (tree_of value))) }
 {
     when(alloc, condition, Stmt::Store(memory, at, value))
+}
+
+// A beat is stored where its slot is one of the memory's.
+fn beat_statement<P: Part>(
+    alloc: Global,
+    part: P,
+    bits: u8,
+    over: Name<P>,
+    bank: u8,
+    memory: u32,
+) -> Result<Stmt<Name<P>>, AllocError>
+    requires { bits ≤ 9 }
+    ensures { IfOk result (λ s. statement_of s ≡ store_statement memory (beat_store part bits over bank)) }
+{
+    let here = in_bank(alloc, bits, Name::Wire(part, 5), bank)?;
+    let comes = binary(alloc, Op::And, Expr::Read(over), here)?;
+    store(alloc, memory, comes, net(part, 6), net(part, 2))
 }
 
 // What comes with the first beat is kept with it, and a word with the beat that has it.
@@ -91,6 +113,24 @@ fn kept_statement<P: Part>(
     }
 }
 
+fn further_statement<P: Part>(
+    alloc: Global,
+    part: P,
+    bits: u8,
+    over: Name<P>,
+    slot: Name<P>,
+    further: Further,
+    memory: u32,
+) -> Result<Stmt<Name<P>>, AllocError>
+    requires { bits ≤ 9 }
+    ensures { IfOk result (λ s. statement_of s ≡ store_statement memory (further_store part bits over slot further)) }
+{
+    match further {
+        Further::Kept(kept) => kept_statement(alloc, part, over, slot, kept, memory),
+        Further::Bank(bank) => beat_statement(alloc, part, bits, over, bank, memory),
+    }
+}
+
 // The registers that a beat sets.
 fn sets<P: Part>(alloc: Global, part: P, over: Name<P>) -> Result<Vec<Stmt<Name<P>>>, AllocError>
     ensures { IfOk result (λ r. map statement_of r.items ≡ gather_sets part over []) }
@@ -107,12 +147,14 @@ fn sets<P: Part>(alloc: Global, part: P, over: Name<P>) -> Result<Vec<Stmt<Name<
 fn beat_stores<P: Part>(
     alloc: Global,
     part: P,
+    bits: u8,
     over: Name<P>,
     slot: Name<P>,
 ) -> Result<Vec<Stmt<Name<P>>>, AllocError>
-    ensures { IfOk result (λ r. map statement_of r.items ≡ store_statements 0 (gather_stores part [] over slot)) }
+    requires { bits ≤ 9 }
+    ensures { IfOk result (λ r. map statement_of r.items ≡ store_statements 0 (gather_stores part bits [] over slot)) }
 {
-    let beat = store(alloc, 0, Expr::Read(over), net(part, 5), net(part, 2))?;
+    let beat = beat_statement(alloc, part, bits, over, 0, 0)?;
     let last = store(alloc, 1, net(part, 3), Expr::Read(slot), register(part, 1))?;
     let bytes = store(alloc, 2, net(part, 3), Expr::Read(slot), port(IN_BYTES))?;
     let mut all = Vec::new(alloc);
@@ -126,19 +168,21 @@ fn beat_stores<P: Part>(
 fn statement<P: Part>(
     alloc: Global,
     part: P,
-    kept: &[Kept],
+    bits: u8,
+    further: &[Further],
     over: Name<P>,
     slot: Name<P>,
 ) -> Result<Stmt<Name<P>>, AllocError>
-    requires { length kept.now ≤ 255 }
-    ensures { IfOk result (λ s. statement_of s ≡ gather_statement part kept.now over slot) }
+    requires most { bits ≤ 9 }
+    requires few { length further.now ≤ 510 }
+    ensures { IfOk result (λ s. statement_of s ≡ gather_statement part bits further.now over slot) }
 {
     let mut all = sets(alloc, part, over)?;
-    let mut stores = beat_stores(alloc, part, over, slot)?;
+    let mut stores = beat_stores(alloc, part, bits, over, slot)?;
     all.append(&mut stores)?;
     let mut memory = 3;
-    for what in kept {
-        all.push(kept_statement(alloc, part, over, slot, *what, memory)?)?;
+    for what in further {
+        all.push(further_statement(alloc, part, bits, over, slot, *what, memory)?)?;
         memory += 1;
     }
     let whole = block(alloc, statements(alloc, all)?)?;
@@ -165,28 +209,53 @@ pub(crate) fn kept_width(kept: Kept) -> u8
     }
 }
 
-// Of the beats, the number of the last and its bytes, and what else is kept.
-#[tactic(auto, using(crate::proofs::LoopLaws::copied, crate::proofs::LoopLaws::copied_end))]
-fn memories(alloc: Global, bits: u8, kept: &[Kept]) -> Result<Vec<BlockMemory>, AllocError>
-    requires { bits ≤ 5 }
-    ensures { IfOk result (λ r. r.items ≡ map widths_memory (held_widths bits kept.now)) }
+// The memories behind the first three: what else is kept, and the beats of further slots.
+fn further(alloc: Global, bits: u8, kept: &[Kept]) -> Result<Vec<Further>, AllocError>
+    requires { bits ≤ 9 }
+    ensures { IfOk result (λ r. r.items ≡ further bits kept.now) }
 {
     let mut all = Vec::new(alloc);
-    all.push(memory(bits + POSITION_WIDTH, 64))?;
-    all.push(memory(bits, POSITION_WIDTH))?;
-    all.push(memory(bits, 4))?;
     for what in kept {
-        all.push(memory(bits, kept_width(*what)))?;
+        all.push(Further::Kept(*what))?;
+    }
+    for bank in 1..banks(bits) {
+        all.push(Further::Bank(bank))?;
     }
     Ok(all)
 }
 
-/// The block that gathers frames from the beats that come, under slots whose numbers have so many bits: 5 at most, so that
-/// the beats of all slots stand in one memory.
+fn further_memory(bits: u8, further: Further) -> BlockMemory
+    requires { bits ≤ 9 }
+    ensures { result ≡ widths_memory (further_widths bits further) }
+{
+    match further {
+        Further::Kept(kept) => memory(bits, kept_width(kept)),
+        Further::Bank(_) => memory(bank_bits(bits) + POSITION_WIDTH, 64),
+    }
+}
+
+// Of the beats, the number of the last and its bytes, and what else is kept.
+#[tactic(auto, using(crate::proofs::LoopLaws::copied, crate::proofs::LoopLaws::copied_end))]
+fn memories(alloc: Global, bits: u8, further: &[Further]) -> Result<Vec<BlockMemory>, AllocError>
+    requires { bits ≤ 9 }
+    ensures { IfOk result (λ r. r.items ≡ map widths_memory (memory_widths bits further.now)) }
+{
+    let mut all = Vec::new(alloc);
+    all.push(memory(bank_bits(bits) + POSITION_WIDTH, 64))?;
+    all.push(memory(bits, POSITION_WIDTH))?;
+    all.push(memory(bits, 4))?;
+    for what in further {
+        all.push(further_memory(bits, *what))?;
+    }
+    Ok(all)
+}
+
+/// The block that gathers frames from the beats that come, under slots whose numbers have so many bits.
 ///
 /// It reads of other parts whether a beat goes over, and the slot of the frame that comes, which stays until the frame is
 /// whole. Its memories hold, by slot: 0 the beats, 64 bits each, with 0 in the bytes that do not count; 1 the number of the
-/// last beat; 2 how many bytes that has; and from 3 on what else is kept, in the order of the list.
+/// last beat; 2 how many bytes that has; from 3 on what else is kept, in the order of the list; and behind that the beats of
+/// the slots from 32 on, each memory those of 32 slots.
 pub fn gather<P: Part>(
     alloc: Global,
     part: P,
@@ -196,7 +265,7 @@ pub fn gather<P: Part>(
     slot: Name<P>,
 ) -> Result<Block<Name<P>>, AllocError>
     requires some { 1 ≤ bits }
-    requires most { bits ≤ 5 }
+    requires most { bits ≤ 9 }
     requires few { length kept.now ≤ 255 }
     requires words { AllByRecursion IsKept kept.now }
     ensures { IfOk result (λ b. IsGather part bits kept.now over slot (block_of b)) }
@@ -209,9 +278,10 @@ pub fn gather<P: Part>(
     let mut registers = Vec::new(alloc);
     registers.push(one)?;
     registers.push(first)?;
-    let memories = memories(alloc, bits, kept)?;
+    let further = further(alloc, bits, kept)?;
+    let memories = memories(alloc, bits, &further)?;
     let wires = wires(alloc, part, bits, over, slot)?;
-    let statement = statement(alloc, part, kept, over, slot)?;
+    let statement = statement(alloc, part, bits, &further, over, slot)?;
     Ok(Block {
         registers,
         memories,

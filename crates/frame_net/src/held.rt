@@ -8,3 +8,10 @@ pub enum Kept {
     Time,
     Word(u8),
 }
+
+/// The memories behind the first three: what else is kept, or the beats of 32 further slots.
+#[derive(Clone, Copy, PartialEq, Eq, Debug)]
+pub enum Further {
+    Kept(Kept),
+    Bank(u8),
+}

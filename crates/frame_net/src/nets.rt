@@ -1,12 +1,14 @@
 //! Expressions and wires that the blocks share.
 
-ghost use Rattle.std.specs.Prelude.{◌≡◌, IfOk};
+ghost use Rattle.std.specs.Prelude.{◌≡◌, ◌≤◌, IfOk, length};
 ghost use Rattle.net_core.specs.Nets.{TRead};
 ghost use Rattle.net_core.specs.View.{tree_of};
 ghost use Rattle.block_core.specs.View.{block_wire_of};
-ghost use Rattle.frame_net.specs.GatherNets.{port, register, net, wire, beside, uncounted, in_bits, masked, next_position};
+ghost use Rattle.frame_net.specs.GatherNets.{port, register, net, wire, beside, uncounted, in_bits, masked, next_position, wide, place, in_bank};
+ghost use Rattle.frame_net.specs.Frames.{bank_bits, banks, bank};
 ghost use Rattle.frame_net.specs.SourcesNets.{held};
 
+use crate::held::Kept;
 use block_core::block::BlockWire;
 use block_core::name::{Name, Part};
 use net_core::build::{binary, conditional, constant, memory_word};
@@ -66,6 +68,67 @@ pub fn beside<P: Part>(
     let b = Box::new(alloc, Parts::Last(b))?;
     let parts = Box::new(alloc, Parts::More(a, b))?;
     Ok(Expr::Concatenation(parts))
+}
+
+/// How many bits of a slot's number tell the slots of one memory of beats apart.
+pub fn bank_bits(bits: u8) -> u8
+    ensures { result ≡ bank_bits bits }
+{
+    bits.min(5)
+}
+
+/// How many memories of beats there are.
+pub fn banks(bits: u8) -> u8
+    requires { bits ≤ 9 }
+    ensures { result ≡ banks bits }
+{
+    1 << bits.saturating_sub(5)
+}
+
+/// The number of a memory of beats among those of the gatherer.
+pub fn bank(kept: &[Kept], b: u8) -> u32
+    requires { length kept.now ≤ 255 }
+    ensures { result ≡ bank kept.now b }
+{
+    if b == 0 {
+        return 0;
+    }
+    3 + kept.len() as u32 + u32::from(b - 1)
+}
+
+/// The number of a slot behind five zeros.
+pub fn wide<P: Part>(alloc: Global, slot: Name<P>) -> Result<Expr<Name<P>>, AllocError>
+    ensures { IfOk result (λ e. tree_of e ≡ wide slot) }
+{
+    beside(alloc, constant(5, 0), Expr::Read(slot))
+}
+
+/// Where a beat stands in its memory: its number behind that of its slot.
+pub fn place<P: Part>(
+    alloc: Global,
+    bits: u8,
+    wide: Name<P>,
+    position: Expr<Name<P>>,
+) -> Result<Expr<Name<P>>, AllocError>
+    requires { 1 ≤ bits }
+    ensures { IfOk result (λ e. tree_of e ≡ place bits wide (tree_of position)) }
+{
+    let low = Expr::PartSelect(wide, bank_bits(bits) - 1, 0);
+    beside(alloc, low, position)
+}
+
+/// Whether a slot is one of a memory of beats.
+pub fn in_bank<P: Part>(
+    alloc: Global,
+    bits: u8,
+    wide: Name<P>,
+    bank: u8,
+) -> Result<Expr<Name<P>>, AllocError>
+    requires { bits ≤ 9 }
+    ensures { IfOk result (λ e. tree_of e ≡ in_bank bits wide bank) }
+{
+    let high = Expr::PartSelect(wide, bits + 4, 5);
+    binary(alloc, Op::Equal, high, constant(bits, u64::from(bank)))
 }
 
 /// How many of a word's eight bytes do not count, where so many do.

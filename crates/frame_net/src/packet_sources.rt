@@ -122,7 +122,6 @@ pub fn sources<P: Part>(
     slot: Name<P>,
 ) -> Result<Block<Name<P>>, AllocError>
     requires some { 1 ≤ bits }
-    requires most { bits ≤ 5 }
     requires few { length kept.now ≤ 255 }
     requires words { AllByRecursion IsKept kept.now }
     ensures { IfOk result (λ b. IsSources part gather bits kept.now slot (block_of b)) }

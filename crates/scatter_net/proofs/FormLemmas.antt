@@ -2,6 +2,7 @@
 use Rattle.std.specs.Prelude.{◌≡◌, ℕ, zero, suc, ◌+◌, ◌*◌, ◌^◌, ◌<◌, ◌≤◌, if◌then◌else◌, Bool, true, false, List, [], ◌∷◌, length, map, replicate}
 use Rattle.std.specs.List.{list_all}
 use Rattle.std.proofs.Common.{get_or, refl, sym, ap, ◌∙◌, subst, arith, inl}
+use Rattle.std.proofs.lemmas.Nat.{pow_pos}
 use Rattle.std.proofs.lemmas.Bool.{lt-ltb}
 use Rattle.net_core.specs.Nets.{TRead, TBinary, TConditional}
 use Rattle.net_core.specs.declared.tree.Op.TheVariants.{Equal}
@@ -17,12 +18,15 @@ use Rattle.block_core.specs.Parts.{Goes}
 use Rattle.block_core.specs.Order.{Reads, IsBefore, InOrder}
 use Rattle.block_core.specs.Formed.{names_scope, name_width, block_memories, block_registers, block_wires, block_wires_typed, IsTypedBlock}
 use Rattle.frame_net.specs.declared.held.Kept.{Kept}
+use Rattle.frame_net.specs.Frames.{banks}
+use Rattle.frame_net.proofs.BankLaws.{banks_few}
 use Rattle.frame_net.specs.Gather.{held_widths}
-use Rattle.frame_net.specs.GatherNets.{register, net, constant, uncounted, in_bits, masked, next_position}
+use Rattle.frame_net.specs.GatherNets.{wide, register, net, constant, uncounted, in_bits, masked, next_position}
 use Rattle.frame_net.specs.SourcesNets.{held}
 use Rattle.frame_net.specs.Answers.{word_widths, answer_widths}
 use Rattle.frame_net.proofs.FormLaws.{and_is, one_is, same_is, wire_is, held_width, still_before}
-use Rattle.scatter_net.specs.ScatterNets.{may_change, byte_name, merged, choice, word_wires, scatter_wires, scatter_block}
+use Rattle.scatter_net.proofs.BeatLemmas.{beat_width, beat_reads}
+use Rattle.scatter_net.specs.ScatterNets.{beat_from, may_change, byte_name, merged, choice, word_wires, scatter_wires, scatter_block}
 
 module _ {P : Type 0} (p gather exit : P) (bits : ℕ) (kept : List Kept) (words bytes : List ℕ) (taken slot : Name P) where
   -- the widths of its wires
@@ -30,27 +34,27 @@ module _ {P : Type 0} (p gather exit : P) (bits : ℕ) (kept : List Kept) (words
   word_widths_are [] i = refl
   word_widths_are (w ∷ ws) i = let e : 1 + 3 * suc (length ws) ≡ suc (suc (suc (1 + 3 * length ws))) = omega arith in ap (λ l. 64 ∷ 64 ∷ 64 ∷ l) (word_widths_are ws (suc i)) ∙ ap (λ n. replicate n 64) (sym e)
 
-  pub widths_are : block_wires (scatter_block p gather exit bits words bytes taken slot) ≡ (bits + 11) ∷ 11 ∷ 4 ∷ 1 ∷ 4 ∷ 32 ∷ 32 ∷ 4 ∷ 7 ∷ replicate (2 + 3 * length words) 64
+  pub widths_are : block_wires (scatter_block p gather exit bits kept words bytes taken slot) ≡ (bits + 5) ∷ 11 ∷ 4 ∷ 1 ∷ 4 ∷ 32 ∷ 32 ∷ 4 ∷ 7 ∷ replicate (2 + 3 * length words) 64
   widths_are =
       let e : 2 + 3 * length words ≡ suc (1 + 3 * length words) = omega arith in
-      ap (λ l. (bits + 11) ∷ 11 ∷ 4 ∷ 1 ∷ 4 ∷ 32 ∷ 32 ∷ 4 ∷ 7 ∷ l) (ap (λ l. 64 ∷ l) (word_widths_are words 0) ∙ ap (λ n. replicate n 64) (sym e))
+      ap (λ l. (bits + 5) ∷ 11 ∷ 4 ∷ 1 ∷ 4 ∷ 32 ∷ 32 ∷ 4 ∷ 7 ∷ l) (ap (λ l. 64 ∷ l) (word_widths_are words 0) ∙ ap (λ n. replicate n 64) (sym e))
 
   -- ---- well typed
-  module _ (some : 1 ≤ bits) (most : bits ≤ 5) (small : (j : ℕ) → j < length words → get_or words j 0 < 2 ^ 11) (d : Whole P) (here : d.block p ≡ scatter_block p gather exit bits words bytes taken slot) (one : name_width d port_list taken ≡ 1) (numbered : name_width d port_list slot ≡ bits)
+  module _ (some : 1 ≤ bits) (most : bits ≤ 9) (small : (j : ℕ) → j < length words → get_or words j 0 < 2 ^ 11) (d : Whole P) (here : d.block p ≡ scatter_block p gather exit bits kept words bytes taken slot) (one : name_width d port_list taken ≡ 1) (numbered : name_width d port_list slot ≡ bits)
       (has : block_memories (d.block gather) ≡ held_widths bits kept) (answers : block_memories (d.block exit) ≡ answer_widths bits words) where
     abbrev s : Scope (Name P)
     s = names_scope d port_list
 
     held_at : (k w : ℕ) → get_or (held_widths bits kept) k (0, 0) ≡ (bits, w) → width_of s (held gather k (TRead slot)) ≡ w
-    held_at k w e = held_width d gather slot (held_widths bits kept) k bits w has e numbered some
+    held_at k w e = held_width d gather (TRead slot) (held_widths bits kept) k bits w has e numbered some
 
     answer_at : (k w : ℕ) → get_or (answer_widths bits words) k (0, 0) ≡ (bits, w) → width_of s (held exit k (TRead slot)) ≡ w
-    answer_at k w e = held_width d exit slot (answer_widths bits words) k bits w answers e numbered some
+    answer_at k w e = held_width d exit (TRead slot) (answer_widths bits words) k bits w answers e numbered some
 
     own_register : s.net (name.Register p 0) ≡ 11
     own_register = ap (λ (b : BlockTree (Name P)). get_or (block_registers b) 0 0) here
 
-    own_wire : (k : ℕ) → s.net (name.Wire p k) ≡ get_or ((bits + 11) ∷ 11 ∷ 4 ∷ 1 ∷ 4 ∷ 32 ∷ 32 ∷ 4 ∷ 7 ∷ replicate (2 + 3 * length words) 64) k 0
+    own_wire : (k : ℕ) → s.net (name.Wire p k) ≡ get_or ((bits + 5) ∷ 11 ∷ 4 ∷ 1 ∷ 4 ∷ 32 ∷ 32 ∷ 4 ∷ 7 ∷ replicate (2 + 3 * length words) 64) k 0
     own_wire k = ap (λ (b : BlockTree (Name P)). get_or (block_wires b) k 0) here ∙ ap (λ l. get_or l k 0) widths_are
 
     all_same : (x n j : ℕ) → j < n → get_or (replicate n x) j 0 ≡ x
@@ -102,11 +106,14 @@ module _ {P : Type 0} (p gather exit : P) (bits : ℕ) (kept : List Kept) (words
     answer_from : (j : ℕ) → j < length words → get_or (answer_widths bits words) (2 + (0 + j)) (0, 0) ≡ (bits, 64)
     answer_from j l = let e : 2 + (0 + j) ≡ suc (suc j) = omega arith in ap (λ k. get_or (answer_widths bits words) k (0, 0)) e ∙ answer_words words j l
 
-    place_width : concatenation_width (s.net slot) (s.net (name.Register p 0)) ≡ bits + 11
-    place_width = rw (numbered, own_register) (concatenation_is bits 11 (omega arith) (omega arith) (omega arith))
+    wide_width : width_of s (wide slot) ≡ bits + 5
+    wide_width =
+        let e : concatenation_width 5 bits ≡ 5 + bits = concatenation_is 5 bits (omega arith) (omega arith) (omega arith) in
+        let f : 5 + bits ≡ bits + 5 = omega arith in
+        rw numbered (e ∙ f)
 
-    index_width : width_of s (held gather 0 (net p 0)) ≡ 64
-    index_width = held_width d gather (name.Wire p 0) (held_widths bits kept) 0 (bits + 11) 64 has refl (own_wire 0) (omega arith)
+    beat_is_64 : width_of s (beat_from p gather bits kept 0 (banks bits - 1)) ≡ 64
+    beat_is_64 = let n : 1 ≤ banks bits = pow_pos (bits - 5) in beat_width p gather bits kept some most d has (own_wire 0) own_register 0 (banks bits - 1) (omega arith) (banks_few bits)
 
     last_width : width_of s (TBinary Equal (register p 0) (net p 1)) ≡ 1
     last_width = rw (own_register, own_wire 1) refl
@@ -123,14 +130,14 @@ module _ {P : Type 0} (p gather exit : P) (bits : ℕ) (kept : List Kept) (words
     next_width : width_of s (next_position (net p 3) (register p 0)) ≡ 11
     next_width = rw (own_wire 3, own_register) refl
 
-    pub is_typed : IsTypedBlock d port_list (scatter_block p gather exit bits words bytes taken slot)
+    pub is_typed : IsTypedBlock d port_list (scatter_block p gather exit bits kept words bytes taken slot)
     is_typed = record {
       registers = refl;
       memories = refl;
-      wires = and_is _ _ (wire_is (bits + 11) _ (omega arith) (omega arith) place_width) (and_is _ _ (wire_is 11 _ (omega arith) (omega arith) (held_at 1 11 refl)) (and_is _ _ (wire_is 4 _ (omega arith) (omega arith) (held_at 2 4 refl))
+      wires = and_is _ _ (wire_is (bits + 5) _ (omega arith) (omega arith) wide_width) (and_is _ _ (wire_is 11 _ (omega arith) (omega arith) (held_at 1 11 refl)) (and_is _ _ (wire_is 4 _ (omega arith) (omega arith) (held_at 2 4 refl))
           (and_is _ _ (wire_is 1 _ (omega arith) (omega arith) last_width) (and_is _ _ (wire_is 4 _ (omega arith) (omega arith) count_width) (and_is _ _ (wire_is 32 _ (omega arith) (omega arith) (answer_at 0 32 refl))
           (and_is _ _ (wire_is 32 _ (omega arith) (omega arith) (answer_at 1 32 refl)) (and_is _ _ (wire_is 4 _ (omega arith) (omega arith) left_width) (and_is _ _ (wire_is 7 _ (omega arith) (omega arith) shift_width)
-          (and_is _ _ (wire_is 64 _ (omega arith) (omega arith) index_width) (words_typed words 0 (omega arith) (λ j l. (small j l, answer_from j l))))))))))));
+          (and_is _ _ (wire_is 64 _ (omega arith) (omega arith) beat_is_64) (words_typed words 0 (omega arith) (λ j l. (small j l, answer_from j l))))))))))));
       statement = and_is _ _ (one_is _ one) (same_is 11 _ (omega arith) next_width);
     }
 
@@ -160,9 +167,9 @@ module _ {P : Type 0} (p gather exit : P) (bits : ℕ) (kept : List Kept) (words
           ),
         )
 
-    pub in_order : InOrder d before p 0 (scatter_wires p gather exit bits words bytes slot)
+    pub in_order : InOrder d before p 0 (scatter_wires p gather exit bits kept words bytes slot)
     in_order = (
-      (at_slot 0, own),
+      (tt, at_slot 0),
       (
         (g, at_slot 1),
         (
@@ -171,7 +178,7 @@ module _ {P : Type 0} (p gather exit : P) (bits : ℕ) (kept : List Kept) (words
             (own, inl (refl, omega arith)),
             (
               (inl (refl, omega arith), inl (refl, omega arith), tt),
-              ((x, at_slot 5), ((x, at_slot 6), ((tt, inl (refl, omega arith)), ((inl (refl, omega arith), tt), ((g, inl (refl, omega arith)), words_in_order words 0))))),
+              ((x, at_slot 5), ((x, at_slot 6), ((tt, inl (refl, omega arith)), ((inl (refl, omega arith), tt), (beat_reads p gather bits kept (IsBefore d before p 9) (λ k. g) (inl (refl, omega arith)) own 0 (banks bits - 1), words_in_order words 0))))),
             ),
           ),
         ),

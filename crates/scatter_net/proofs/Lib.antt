@@ -1,4 +1,5 @@
 mod ByteLemmas
+mod BeatLemmas
 mod ChosenLemmas
 mod ShownLemmas
 mod FormLemmas

@@ -6,11 +6,15 @@ use Rattle.block_core.specs.declared.name.Name.TheVariants as name
 use Rattle.frame_net.specs.declared.held.Kept.{Kept}
 use Rattle.scatter_net.specs.Scatter.{IsScatter}
 use Rattle.scatter_net.specs.ScatterNets.{scatter_block}
+use Rattle.frame_net.specs.Frames.{banks}
+use Rattle.frame_net.proofs.BankLaws.{few_banks}
+use Rattle.frame_net.proofs.FormLaws.{and_is}
+use Rattle.scatter_net.proofs.BeatLemmas.{beat_spelled}
 use Rattle.scatter_net.proofs.FormLemmas.{widths_are, is_typed, in_order, words_spelled, words_go}
 use Rattle.scatter_net.proofs.ShownLemmas.{shows_beat, moves}
 
-pub scatters : {P : Type 0} (p gather exit : P) (bits : ℕ) (kept : List Kept) (words bytes : List ℕ) (taken slot : Name P) → 1 ≤ bits → bits ≤ 5 → ((j : ℕ) → j < length words → get_or words j 0 < 2 ^ 11) → ((b : ℕ) → Contains bytes b → Contains words (b / 8))
-    → IsScatter p gather exit bits kept words bytes taken slot (scatter_block p gather exit bits words bytes taken slot)
+pub scatters : {P : Type 0} (p gather exit : P) (bits : ℕ) (kept : List Kept) (words bytes : List ℕ) (taken slot : Name P) → 1 ≤ bits → bits ≤ 9 → ((j : ℕ) → j < length words → get_or words j 0 < 2 ^ 11) → ((b : ℕ) → Contains bytes b → Contains words (b / 8))
+    → IsScatter p gather exit bits kept words bytes taken slot (scatter_block p gather exit bits kept words bytes taken slot)
 scatters p gather exit bits kept words bytes taken slot some most small covered = record {
   registers = refl;
   memories = refl;
@@ -19,11 +23,11 @@ scatters p gather exit bits kept words bytes taken slot some most small covered 
   ordered = λ d before own g x q. in_order p gather exit bits kept words bytes taken slot d before own g x q;
   reads = λ d own t. (t, (own, tt, (own, tt)));
   within = omega arith;
-  wires_spelled = words_spelled p gather exit bits kept words bytes taken slot words 0;
+  wires_spelled = and_is _ _ (beat_spelled p gather bits kept some 0 (banks bits - 1) (let n = few_banks bits most in omega arith)) (words_spelled p gather exit bits kept words bytes taken slot words 0);
   spelled = refl;
   goes = λ v. (refl, (refl, (refl, (refl, (refl, (refl, (refl, (refl, (refl, (refl, words_go p gather exit bits kept words bytes taken slot v words 0))))))))));
   first = refl;
   has_last = λ v solved. ((v.net (name.Register p 0)).value == (v.net (name.Wire p 1)).value, solved.1.1.1.0);
-  shows = λ v ms es pos at a r solved sees holds answer changes few. shows_beat p gather exit bits kept words bytes slot covered v ms es pos at a r solved sees holds answer changes few;
+  shows = λ v ms es pos at a r solved sees holds answer changes few. shows_beat p gather exit bits some kept words bytes slot covered v ms es pos at a r solved sees holds answer changes few;
   clock = λ v pos goes last few position t l. moves p taken v pos goes last few position t l;
 }

@@ -17,13 +17,15 @@ use Rattle.block_core.specs.declared.name.Name.{Name}
 use Rattle.block_core.specs.declared.name.Name.TheVariants as name
 use Rattle.block_core.specs.Parts.{Solve}
 use Rattle.frame_net.specs.declared.held.Kept.{Kept}
-use Rattle.frame_net.specs.Frames.{beat_of, last_of, word_at, HoldsFrame}
+use Rattle.frame_net.specs.Frames.{banks, beat_of, last_of, word_at, HoldsFrame}
 use Rattle.frame_net.specs.SourcesNets.{held}
 use Rattle.frame_net.specs.Answers.{byte_of, word_widths, answer_widths, HoldsAnswer, Changes}
+use Rattle.frame_net.proofs.BankLaws.{bank_within}
 use Rattle.frame_net.proofs.BitLaws.{on, off, next_is}
 use Rattle.frame_net.proofs.ReadLaws.{held_word, held_here, count_held}
 use Rattle.scatter_net.specs.Scatter.{last_name, at_position, position_after, SeesAnswer, ShowsBeat}
 use Rattle.scatter_net.specs.ScatterNets.{scatter_wires, scatter_statement}
+use Rattle.scatter_net.proofs.BeatLemmas.{beat_is}
 use Rattle.scatter_net.proofs.ChosenLemmas.{IsAnswered, raw_right, chosen}
 
 -- ---- which beat is the last, and how many bytes it has
@@ -54,8 +56,8 @@ count_answers : (bits : ℕ) (words : List ℕ) → length (answer_widths bits w
 count_answers bits words = let n = length-map words (word_widths bits) in omega (arith, n)
 
 -- ---- a clock in which a beat is shown
-module _ {P : Type 0} (p gather exit : P) (bits : ℕ) (kept : List Kept) (words bytes : List ℕ) (slot : Name P) (covered : (b : ℕ) → Contains bytes b → Contains words (b / 8)) (v : Env (Name P)) (ms es : List (List Word)) (pos at : ℕ) (a : Arrival) (r : Answer)
-    (solved : Solve v p 0 (scatter_wires p gather exit bits words bytes slot)) (sees : SeesAnswer p gather exit bits kept words slot v ms es pos at) (holds : HoldsFrame kept ms at a) (answer : HoldsAnswer bytes words es at r)
+module _ {P : Type 0} (p gather exit : P) (bits : ℕ) (some : 1 ≤ bits) (kept : List Kept) (words bytes : List ℕ) (slot : Name P) (covered : (b : ℕ) → Contains bytes b → Contains words (b / 8)) (v : Env (Name P)) (ms es : List (List Word)) (pos at : ℕ) (a : Arrival) (r : Answer)
+    (solved : Solve v p 0 (scatter_wires p gather exit bits kept words bytes slot)) (sees : SeesAnswer p gather exit bits kept words slot v ms es pos at) (holds : HoldsFrame kept ms at a) (answer : HoldsAnswer bytes words es at r)
     (changes : Changes bytes a.frame r) (few : pos < beat_count (length r.frame)) where
   here : (k : ℕ) → k < 3 → value v (held gather k (TRead slot)) ≡ word_at (get_or ms k []) at
   here k l = held_here gather bits kept slot v ms at sees.held k (omega (arith, count_held bits kept))
@@ -81,11 +83,10 @@ module _ {P : Type 0} (p gather exit : P) (bits : ℕ) (kept : List Kept) (words
 
   raw_net : v.net (name.Wire p 9) ≡ word 64 (beat_of a.frame pos).word
   raw_net =
-      let place : v.net (name.Wire p 0) ≡ word (bits + 11) (at * 2 ^ 11 + pos) = solved.0 ∙ ap (λ x. concatenated x (v.net (name.Register p 0))) sees.held.in_slot ∙ ap (concatenated (word bits at)) sees.position in
-      solved.1.1.1.1.1.1.1.1.1.0
-      ∙ ap (λ (x : Word). v.memory_word (name.Memory gather 0) x.value) place
-      ∙ sees.held.memory 0 (at * 2 ^ 11 + pos) (omega (arith, count_held bits kept))
-      ∙ holds.part.beats pos within
+      let e : 0 * 2 ^ bits + at ≡ at = omega arith in
+      let wide_net : v.net (name.Wire p 0) ≡ word (5 + bits) at = solved.0 ∙ ap (concatenated (word 5 0)) sees.held.in_slot ∙ ap (word (5 + bits)) e in
+      let l : at / 32 < banks bits = bank_within bits at sees.held.within in
+      solved.1.1.1.1.1.1.1.1.1.0 ∙ beat_is p gather bits kept some slot v ms at pos sees.held wide_net sees.position 0 (banks bits - 1) (omega arith) (omega arith) ∙ holds.part.beats pos within
 
   -- no byte of a beat may change whose word is none of these
   as_it_came : ¬ (Contains words pos) → (k : ℕ) → k < 8 → ¬ (Contains bytes (8 * pos + k))

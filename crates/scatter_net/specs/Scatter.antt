@@ -68,7 +68,7 @@ pub record ShowsBeat {P : Type 0} (part : P) (words : List ℕ) (v : Env (Name P
 pub record IsScatter {P : Type 0} (part gather exit : P) (bits : ℕ) (kept : List Kept) (words bytes : List ℕ) (taken slot : Name P) (b : BlockTree (Name P)) : Type 0 where
   pub registers : block_registers b ≡ 11 ∷ []
   pub memories : b.memories ≡ []
-  pub wires : block_wires b ≡ (bits + 11) ∷ 11 ∷ 4 ∷ 1 ∷ 4 ∷ 32 ∷ 32 ∷ 4 ∷ 7 ∷ replicate (2 + 3 * length words) 64
+  pub wires : block_wires b ≡ (bits + 5) ∷ 11 ∷ 4 ∷ 1 ∷ 4 ∷ 32 ∷ 32 ∷ 4 ∷ 7 ∷ replicate (2 + 3 * length words) 64
   pub typed :
       (d : Whole P) → d.block part ≡ b → name_width d port_list taken ≡ 1 → name_width d port_list slot ≡ bits → block_memories (d.block gather) ≡ held_widths bits kept → block_memories (d.block exit) ≡ answer_widths bits words
       → IsTypedBlock d port_list b

@@ -1,5 +1,5 @@
 -- The nets of the block that shows answers as beats.
-use Rattle.std.specs.Prelude.{ℕ, zero, suc, ◌+◌, ◌*◌, ◌==◌, if◌then◌else◌, Bool, List, [], ◌∷◌, ◌++◌}
+use Rattle.std.specs.Prelude.{ℕ, zero, suc, ◌+◌, ◌-◌, ◌*◌, ◌==◌, if◌then◌else◌, Bool, List, [], ◌∷◌, ◌++◌}
 use Rattle.std.specs.List.{list_any}
 use Rattle.net_core.specs.declared.tree.Op.TheVariants.{Equal}
 use Rattle.net_core.specs.Nets.{Tree, TRead, TPartSelect, TBinary, TConditional, TConcatenation, Trees, TLast, TMore, StatementTree, SIf, SSet}
@@ -7,7 +7,9 @@ use Rattle.net_core.specs.Value.{word}
 use Rattle.block_core.specs.declared.name.Name.{Name}
 use Rattle.block_core.specs.declared.name.Name.TheVariants as name
 use Rattle.block_core.specs.Blocks.{BlockTree, BlockWireTree}
-use Rattle.frame_net.specs.GatherNets.{register, net, constant, wire, beside, uncounted, in_bits, masked, next_position}
+use Rattle.frame_net.specs.declared.held.Kept.{Kept}
+use Rattle.frame_net.specs.Frames.{banks, bank}
+use Rattle.frame_net.specs.GatherNets.{wide, place, in_bank, register, net, constant, wire, uncounted, in_bits, masked, next_position}
 use Rattle.frame_net.specs.SourcesNets.{held}
 
 -- whether a byte may change
@@ -47,10 +49,18 @@ abbrev pub word_wires : {P : Type 0} → P → P → Name P → List ℕ → ℕ
 word_wires p exit slot bytes i [] = wire 64 (masked (net p (9 + 3 * i)) (net p 8)) ∷ []
 word_wires p exit slot bytes i (w ∷ ws) = one_word p exit slot bytes i w ++ word_wires p exit slot bytes (suc i) ws
 
--- 0: where the beat stands; 1, 2: the number of the frame's last beat, and its bytes; 3, 4: whether the beat is the last, and its bytes; 5, 6: verdict and target
+-- ---- the beat as it came, in the memories from one on
+abbrev pub at_bank : {P : Type 0} → P → P → ℕ → List Kept → ℕ → Tree (Name P)
+at_bank p gather bits kept b = held gather (bank kept b) (place bits (name.Wire p 0) (register p 0))
+
+abbrev pub beat_from : {P : Type 0} → P → P → ℕ → List Kept → ℕ → ℕ → Tree (Name P)
+beat_from p gather bits kept b zero = at_bank p gather bits kept b
+beat_from p gather bits kept b (suc n) = TConditional (in_bank bits (name.Wire p 0) b) (at_bank p gather bits kept b) (beat_from p gather bits kept (suc b) n)
+
+-- 0: the slot; 1, 2: the number of the frame's last beat, and its bytes; 3, 4: whether the beat is the last, and its bytes; 5, 6: verdict and target
 abbrev pub shown_wires : {P : Type 0} → P → P → P → ℕ → Name P → List (BlockWireTree (Name P))
 shown_wires p gather exit bits slot =
-    wire (bits + 11) (beside (TRead slot) (register p 0))
+    wire (bits + 5) (wide slot)
     ∷ wire 11 (held gather 1 (TRead slot))
     ∷ wire 4 (held gather 2 (TRead slot))
     ∷ wire 1 (TBinary Equal (register p 0) (net p 1))
@@ -60,19 +70,19 @@ shown_wires p gather exit bits slot =
     ∷ []
 
 -- 7, 8: how many bytes do not count, and how many bits those are; 9: the beat as it came
-abbrev pub raw_wires : {P : Type 0} → P → P → List (BlockWireTree (Name P))
-raw_wires p gather = wire 4 (uncounted (net p 4)) ∷ wire 7 (in_bits (net p 7)) ∷ wire 64 (held gather 0 (net p 0)) ∷ []
+abbrev pub raw_wires : {P : Type 0} → P → P → ℕ → List Kept → List (BlockWireTree (Name P))
+raw_wires p gather bits kept = wire 4 (uncounted (net p 4)) ∷ wire 7 (in_bits (net p 7)) ∷ wire 64 (beat_from p gather bits kept 0 (banks bits - 1)) ∷ []
 
-abbrev pub scatter_wires : {P : Type 0} → P → P → P → ℕ → List ℕ → List ℕ → Name P → List (BlockWireTree (Name P))
-scatter_wires p gather exit bits words bytes slot = shown_wires p gather exit bits slot ++ (raw_wires p gather ++ word_wires p exit slot bytes 0 words)
+abbrev pub scatter_wires : {P : Type 0} → P → P → P → ℕ → List Kept → List ℕ → List ℕ → Name P → List (BlockWireTree (Name P))
+scatter_wires p gather exit bits kept words bytes slot = shown_wires p gather exit bits slot ++ (raw_wires p gather bits kept ++ word_wires p exit slot bytes 0 words)
 
 abbrev pub scatter_statement : {P : Type 0} → P → Name P → StatementTree (Name P)
 scatter_statement p taken = SIf (TRead taken) (SSet 0 (next_position (net p 3) (register p 0)))
 
-abbrev pub scatter_block : {P : Type 0} → P → P → P → ℕ → List ℕ → List ℕ → Name P → Name P → BlockTree (Name P)
-scatter_block p gather exit bits words bytes taken slot = record {
+abbrev pub scatter_block : {P : Type 0} → P → P → P → ℕ → List Kept → List ℕ → List ℕ → Name P → Name P → BlockTree (Name P)
+scatter_block p gather exit bits kept words bytes taken slot = record {
   registers = word 11 0 ∷ [];
   memories = [];
-  wires = scatter_wires p gather exit bits words bytes slot;
+  wires = scatter_wires p gather exit bits kept words bytes slot;
   statement = scatter_statement p taken;
 }

@@ -1,16 +1,18 @@
 //! The block that shows answers as beats.
 
-ghost use Rattle.std.specs.Prelude.{◌≡◌, ℕ, ◌+◌, ◌*◌, ◌/◌, ◌≤◌, ◌<◌, ◌++◌, IfOk, OnOk, length, map, Bool, Contains};
+ghost use Rattle.std.specs.Prelude.{◌≡◌, ℕ, ◌+◌, ◌-◌, ◌*◌, ◌/◌, ◌≤◌, ◌<◌, ◌++◌, IfOk, OnOk, length, map, Bool, Contains};
 ghost use Rattle.net_core.specs.View.{tree_of, trees_of, statement_of};
 ghost use Rattle.block_core.specs.View.{block_of, block_wire_of};
 ghost use Rattle.scatter_net.specs.Scatter.{IsScatter};
-ghost use Rattle.scatter_net.specs.ScatterNets.{may_change, byte, merged, choice, one_word, shown_wires, raw_wires, scatter_wires};
+ghost use Rattle.scatter_net.specs.ScatterNets.{may_change, byte, merged, choice, one_word, at_bank, beat_from, shown_wires, raw_wires, scatter_wires};
+ghost use Rattle.frame_net.specs.Frames.{banks};
 
 use block_core::block::{Block, BlockWire};
 use block_core::name::{Name, Part};
 use frame_net::Kept;
 use frame_net::nets::{
-    POSITION_WIDTH, beside, held, in_bits, masked, net, next_position, register, uncounted, wire,
+    POSITION_WIDTH, bank, banks, held, in_bank, in_bits, masked, net, next_position, place,
+    register, uncounted, wide, wire,
 };
 use net_core::build::{binary, conditional, constant, when};
 use net_core::tree::{Expr, Op, Parts, Stmt, Word};
@@ -109,10 +111,10 @@ fn shown<P: Part>(
     bits: u8,
     slot: Name<P>,
 ) -> Result<Vec<BlockWire<Name<P>>>, AllocError>
-    requires { bits ≤ 5 }
+    requires { bits ≤ 9 }
     ensures { IfOk result (λ r. map block_wire_of r.items ≡ shown_wires part gather exit bits slot) }
 {
-    let place = beside(alloc, Expr::Read(slot), register(part, 0))?;
+    let wide = wide(alloc, slot)?;
     let last = held(alloc, gather, 1, Expr::Read(slot))?;
     let rest = held(alloc, gather, 2, Expr::Read(slot))?;
     let is_last = binary(alloc, Op::Equal, register(part, 0), net(part, 1))?;
@@ -120,7 +122,7 @@ fn shown<P: Part>(
     let verdict = held(alloc, exit, 0, Expr::Read(slot))?;
     let target = held(alloc, exit, 1, Expr::Read(slot))?;
     let mut all = Vec::new(alloc);
-    all.push(wire(bits + POSITION_WIDTH, place))?;
+    all.push(wire(bits + 5, wide))?;
     all.push(wire(POSITION_WIDTH, last))?;
     all.push(wire(4, rest))?;
     all.push(wire(1, is_last))?;
@@ -130,18 +132,64 @@ fn shown<P: Part>(
     Ok(all)
 }
 
+// The beat as it came, in a memory of beats.
+fn at_bank<P: Part>(
+    alloc: Global,
+    part: P,
+    gather: P,
+    bits: u8,
+    kept: &[Kept],
+    b: u8,
+) -> Result<Expr<Name<P>>, AllocError>
+    requires some { 1 ≤ bits }
+    requires few { length kept.now ≤ 255 }
+    ensures { IfOk result (λ e. tree_of e ≡ at_bank part gather bits kept.now b) }
+{
+    let index = place(alloc, bits, Name::Wire(part, 0), register(part, 0))?;
+    held(alloc, gather, bank(kept, b), index)
+}
+
+// The beat as it came, in the memory of its slot.
+fn beat<P: Part>(
+    alloc: Global,
+    part: P,
+    gather: P,
+    bits: u8,
+    kept: &[Kept],
+) -> Result<Expr<Name<P>>, AllocError>
+    requires some { 1 ≤ bits }
+    requires most { bits ≤ 9 }
+    requires few { length kept.now ≤ 255 }
+    ensures { IfOk result (λ e. tree_of e ≡ beat_from part gather bits kept.now 0 (banks bits - 1)) }
+{
+    let last = banks(bits) - 1;
+    let mut tree = at_bank(alloc, part, gather, bits, kept, last)?;
+    for k in 0..last {
+        let b = last - 1 - k;
+        let here = in_bank(alloc, bits, Name::Wire(part, 0), b)?;
+        let there = at_bank(alloc, part, gather, bits, kept, b)?;
+        tree = conditional(alloc, here, there, tree)?;
+    }
+    Ok(tree)
+}
+
 // How many bytes do not count, in bytes and in bits, and the beat as it came.
 fn add_beat<P: Part>(
     alloc: Global,
     all: &mut Vec<BlockWire<Name<P>>>,
     part: P,
     gather: P,
+    bits: u8,
+    kept: &[Kept],
 ) -> Result<(), AllocError>
-    ensures { OnOk result (map block_wire_of all.new.items ≡ map block_wire_of all.old.items ++ raw_wires part gather) }
+    requires some { 1 ≤ bits }
+    requires most { bits ≤ 9 }
+    requires few { length kept.now ≤ 255 }
+    ensures { OnOk result (map block_wire_of all.new.items ≡ map block_wire_of all.old.items ++ raw_wires part gather bits kept.now) }
 {
     let left = uncounted(alloc, net(part, 4))?;
     let shift = in_bits(alloc, net(part, 7))?;
-    let beat = held(alloc, gather, 0, net(part, 0))?;
+    let beat = beat(alloc, part, gather, bits, kept)?;
     all.push(wire(4, left))?;
     all.push(wire(7, shift))?;
     all.push(wire(64, beat))?;
@@ -155,16 +203,19 @@ fn wires<P: Part>(
     gather: P,
     exit: P,
     bits: u8,
+    kept: &[Kept],
     words: &[u8],
     bytes: &[u8],
     slot: Name<P>,
 ) -> Result<Vec<BlockWire<Name<P>>>, AllocError>
-    requires most { bits ≤ 5 }
+    requires some { 1 ≤ bits }
+    requires most { bits ≤ 9 }
+    requires few_kept { length kept.now ≤ 255 }
     requires few { length words.now ≤ 255 }
-    ensures { IfOk result (λ r. map block_wire_of r.items ≡ scatter_wires part gather exit bits words.now bytes.now slot) }
+    ensures { IfOk result (λ r. map block_wire_of r.items ≡ scatter_wires part gather exit bits kept.now words.now bytes.now slot) }
 {
     let mut all = shown(alloc, part, gather, exit, bits, slot)?;
-    add_beat(alloc, &mut all, part, gather)?;
+    add_beat(alloc, &mut all, part, gather, bits, kept)?;
     let mut i = 0;
     for word in words {
         add_word(alloc, &mut all, part, exit, slot, bytes, i, *word)?;
@@ -193,12 +244,13 @@ pub fn scatter<P: Part>(
     slot: Name<P>,
 ) -> Result<Block<Name<P>>, AllocError>
     requires some { 1 ≤ bits }
-    requires most { bits ≤ 5 }
+    requires most { bits ≤ 9 }
+    requires few_kept { length kept.now ≤ 255 }
     requires few { length words.now ≤ 255 }
     requires covered { (b : ℕ) → Contains bytes.now b → Contains words.now (b / 8) }
     ensures { IfOk result (λ b. IsScatter part gather exit bits kept.now words.now bytes.now taken slot (block_of b)) }
 {
-    let wires = wires(alloc, part, gather, exit, bits, words, bytes, slot)?;
+    let wires = wires(alloc, part, gather, exit, bits, kept, words, bytes, slot)?;
     let next = next_position(alloc, net(part, 3), register(part, 0))?;
     let statement = when(alloc, Expr::Read(taken), Stmt::Set(0, next))?;
     let first = Word {
