@@ -1,0 +1,16 @@
+pub mod Cases
+pub mod Moving
+pub mod Counting
+pub mod Seeing
+pub mod Gathering
+pub mod Values
+pub mod Placing
+pub mod Changing
+pub mod Answering
+pub mod Scattering
+pub mod Stepping
+pub mod Forming
+pub mod Fitting
+pub mod Inputs
+pub mod Clocks
+pub mod Naming
