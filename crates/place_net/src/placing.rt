@@ -1,7 +1,10 @@
 //! A place of the pipeline.
 
 ghost use Rattle.std.specs.Prelude.{ℕ, ◌≡◌, ◌<◌, ◌≤◌, ◌⊎◌, List, All, Contains, Option, IfOk, length, map as map_list};
+ghost use Rattle.net_core.specs.Value.{Env};
 ghost use Rattle.net_core.specs.View.{tree_of, statement_of};
+ghost use Rattle.block_core.specs.declared.name.Name.{Name};
+ghost use Rattle.block_core.specs.Parts.{Solve};
 ghost use Rattle.block_core.specs.View.{block_of};
 ghost use Rattle.cell_core.specs.Formed.{AreFormed};
 ghost use Rattle.cell_core.specs.View.{cell_of};
@@ -94,7 +97,7 @@ fn statement<N: Copy>(alloc: Global, values: Vec<Expr<N>>) -> Result<Stmt<N>, Al
 /// that the next place or the exit takes, which takes what stands for its cell in every clock.
 ///
 /// The table says what stands for cells before the place: for those that are the same for all packets, those that come from outside, and
-/// those that the place before carries.
+/// those that the place before carries. The wires that it has stay the first ones.
 pub fn place<P: Part>(
     alloc: Global,
     part: P,
@@ -109,7 +112,8 @@ pub fn place<P: Part>(
     requires ready { IsReady (map_list cell_of cells.now) table.items made.now }
     requires carried { All (λ k. IsIn table.items k ⊎ Contains made.now k) carried.now }
     requires some { All (λ k. 0 < width_at (map_list cell_of cells.now) k) carried.now }
-    ensures { (outside : List (Operand (Name P))) → AreWires part outside (wires_of wires.items) → AreThere (behind part outside (wires_of wires.items)) table.items → IfOk result (λ b. IsPlace part (map_list cell_of cells.now) made.now carried.now outside table.items (block_of b)) }
+    ensures block { (outside : List (Operand (Name P))) → AreWires part outside (wires_of wires.items) → AreThere (behind part outside (wires_of wires.items)) table.items → IfOk result (λ b. IsPlace part (map_list cell_of cells.now) made.now carried.now outside table.items (block_of b)) }
+    ensures begun { IfOk result (λ b. (v : Env (Name P)) → Solve v part 0 (block_of b).wires → Solve v part 0 (wires_of wires.items)) }
 {
     let mut wires = wires;
     let mut table = table;

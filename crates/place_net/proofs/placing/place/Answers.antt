@@ -14,8 +14,8 @@ registers-requires-clause-within g c = carried_within c.args.cells.now c.args.ta
 pub values-requires-clause-within : goal.values-requires-clause-within
 values-requires-clause-within g c = carried_within c.args.cells.now c.args.table.items c.args.made.now c.args.carried.now c.requires.table c.requires.ready c.requires.carried
 
-pub returns : goal.returns
-returns g c = λ outside w t.
+pub returns-clause-block : goal.returns-clause-block
+returns-clause-block g c = λ outside w t.
     let cells = map_list cell_of c.args.cells.now in
     let before = c.args.table.items in
     let after = c.row_nets.new.table.items in
@@ -24,3 +24,6 @@ returns g c = λ outside w t.
     (held_all before after c.args.made.now c.args.carried.now row.grows (λ k m. All-contains (IsIn after) c.args.made.now k row.all_in m) c.requires.carried) c.requires.some
     (same_block _ _ _ _ _ c.in_ok-registers.ensures c.new.ensures.items refl
     (c.in_ok-statement.ensures ∙ ap set_statement c.in_ok-values.ensures ∙ ap (λ l. set_statement (map_list (tree_in cells l) c.args.carried.now)) c.deref.ensures.value))
+
+pub returns-clause-begun : goal.returns-clause-begun
+returns-clause-begun g c = λ v h. c.in_ok-row_nets.ensures.earlier v h
