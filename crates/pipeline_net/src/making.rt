@@ -11,7 +11,7 @@ ghost use Rattle.scatter_net.specs.Scatter.{IsScatter};
 ghost use Rattle.place_net.specs.Exit.{byte_numbers, output_operands};
 ghost use Rattle.ring_net.specs.declared.names.Counter.TheVariants.{Given};
 ghost use Rattle.ring_net.specs.declared.names.Wire.TheVariants as wire;
-ghost use Rattle.shell_net.specs.declared.parts.Part.TheVariants as part;
+ghost use Rattle.shell_net.specs.declared.parts.Part.TheVariants as shell;
 ghost use Rattle.shell_net.specs.Parts.{told_by, next_slot};
 ghost use Rattle.pipeline_net.specs.declared.error.PipelineError.TheVariants as error;
 ghost use Rattle.pipeline_net.specs.Pipeline.{IsForPipeline, IsPipeline, slots_of, most_slots};
@@ -78,7 +78,7 @@ fn scatter_block(
     requires most { bits ≤ 5 }
     requires few { length words.now ≤ 255 }
     requires covered { (b : ℕ) → Contains (byte_numbers answer.now) b → Contains words.now (b / 8) }
-    ensures { IfOk result (λ b. IsScatter part.Scatter part.Gather part.Exit bits kept.now words.now (byte_numbers answer.now) (told_by wire.Taken) (next_slot Given) (block_of b)) }
+    ensures { IfOk result (λ b. IsScatter shell.Scatter shell.Gather shell.Exit bits kept.now words.now (byte_numbers answer.now) (told_by wire.Taken) (next_slot Given) (block_of b)) }
 {
     let bytes = byte_numbers(alloc, answer)?;
     let block = scatter(
