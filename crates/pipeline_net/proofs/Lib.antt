@@ -1,0 +1,5 @@
+mod Listing
+mod Tables
+mod Blocks
+mod Whole
+mod Keeps
