@@ -3,3 +3,5 @@ mod Tables
 mod Blocks
 mod Whole
 mod Keeps
+mod Answering
+mod Planning

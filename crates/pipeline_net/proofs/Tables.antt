@@ -26,7 +26,7 @@ use Rattle.pipeline_net.specs.Draft.{IsDraft, is_source, source_list}
 use Rattle.pipeline_net.specs.Places.{Table, carried_at}
 use Rattle.pipeline_net.proofs.Listing.{in_filter, kept_there, kept_below}
 
-both_of : (a b : Bool) → (a && b) ≡ true → (a ≡ true) × (b ≡ true)
+pub both_of : (a b : Bool) → (a && b) ≡ true → (a ≡ true) × (b ≡ true)
 both_of true b e = (refl, e)
 both_of false b e = cc
 
