@@ -1,7 +1,6 @@
 //! The blocks of the places.
 
-ghost use Rattle.std.specs.Prelude.{ℕ, suc, ◌≡◌, ◌<◌, ◌≤◌, ◌+◌, ◌++◌, List, All, Option, OnOk, IfOk, length, map as map_list};
-ghost use Rattle.std.specs.declared.option.Option.{Option};
+ghost use Rattle.std.specs.Prelude.{ℕ, suc, ◌≡◌, ◌<◌, ◌≤◌, ◌+◌, ◌++◌, IfOk, length, map as map_list};
 ghost use Rattle.cell_core.specs.View.{cell_of, program_of};
 ghost use Rattle.block_core.specs.declared.block.Placed.{Placed};
 ghost use Rattle.block_core.specs.View.{block_of};
