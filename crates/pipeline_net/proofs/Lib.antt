@@ -5,3 +5,4 @@ mod Whole
 mod Keeps
 mod Answering
 mod Planning
+mod Same

@@ -1,0 +1,38 @@
+-- The same of equal lists.
+use Rattle.std.proofs.Common.{◌≡◌, ℕ, Option, List, subst}
+use Rattle.net_core.specs.Value.{Env}
+use Rattle.block_core.specs.declared.name.Name.{Name}
+use Rattle.block_core.specs.Blocks.{BlockTree, BlockWireTree}
+use Rattle.block_core.specs.Parts.{Solve}
+use Rattle.cell_core.specs.Cells.{CellView}
+use Rattle.cell_nets.specs.declared.operand.Operand.{Operand}
+use Rattle.cell_nets.specs.Wires.{behind, AreWires}
+use Rattle.frame_net.specs.declared.held.Kept.{Kept}
+use Rattle.row_net.specs.Table.{AreThere}
+use Rattle.place_net.specs.Place.{IsPlace, IsTaken}
+use Rattle.place_net.specs.Sources.{IsSourced}
+use Rattle.shell_net.specs.declared.parts.Part.{Part}
+use Rattle.shell_net.specs.declared.parts.Part.TheVariants.{Sources}
+use Rattle.pipeline_net.specs.Places.{Table}
+
+pub taken_as : (part : Part) (cs ds : List CellView) (xs ys : List ℕ) (old before after : Table) → cs ≡ ds → xs ≡ ys → old ≡ before → IsTaken part cs xs old after → IsTaken part ds ys before after
+taken_as part cs ds xs ys old before after e f g h = subst (λ x. IsTaken part x ys before after) e (subst (λ x. IsTaken part cs x before after) f (subst (λ x. IsTaken part cs xs x after) g h))
+
+abbrev pub MakesPlace : Part → List CellView → List ℕ → List ℕ → List (BlockWireTree (Name Part)) → Table → BlockTree (Name Part) → Type 0
+MakesPlace part cells made carried ws table b = (outside : List (Operand (Name Part))) → AreWires part outside ws → AreThere (behind part outside ws) table → IsPlace part cells made carried outside table b
+
+pub place_as :
+    (part : Part) (cs ds : List CellView) (ms ns xs ys : List ℕ) (old ws : List (BlockWireTree (Name Part))) (table : Table) (b : BlockTree (Name Part)) → cs ≡ ds → ms ≡ ns → xs ≡ ys → old ≡ ws
+    → MakesPlace part cs ms xs old table b → MakesPlace part ds ns ys ws table b
+place_as part cs ds ms ns xs ys old ws table b e f g h k =
+    subst (λ x. MakesPlace part x ns ys ws table b) e (subst (λ x. MakesPlace part cs x ys ws table b) f (subst (λ x. MakesPlace part cs ms x ws table b) g (subst (λ x. MakesPlace part cs ms xs x table b) h k)))
+
+pub sourced_as :
+    (part : Part) (ks ls : List Kept) (cs ds : List CellView) (xs ys : List ℕ) (start old ws : List (BlockWireTree (Name Part))) (from before after : Table) → ks ≡ ls → cs ≡ ds → xs ≡ ys → start ≡ old → from ≡ before
+    → IsSourced part Sources ks cs xs start ws from after → IsSourced part Sources ls ds ys old ws before after
+sourced_as part ks ls cs ds xs ys start old ws from before after e f g h k s =
+    subst (λ x. IsSourced part Sources x ds ys old ws before after) e
+    (subst (λ x. IsSourced part Sources ks x ys old ws before after) f
+    (subst (λ x. IsSourced part Sources ks cs x old ws before after) g
+    (subst (λ x. IsSourced part Sources ks cs xs x ws before after) h
+    (subst (λ x. IsSourced part Sources ks cs xs start ws x after) k s))))
