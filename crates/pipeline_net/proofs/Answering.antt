@@ -50,3 +50,10 @@ words_cover frame small b h =
     let least : c.0.at / 8 < 32 = omega arith in
     let there = kept_there (has_byte frame) 32 (c.0.at / 8) least (any_of (map (λ x. x.at / 8) frame) (c.0.at / 8) (mapped_in (λ x. x.at / 8) frame c.0 c.1)) in
     subst (λ n. Contains (changed_words frame) (n / 8)) c.2 there
+
+pub covers : (frame : List FrameByte) (words numbers : List ℕ) → ((x : FrameByte) → Contains frame x → x.at < 256) → words ≡ changed_words frame → numbers ≡ map (λ x. x.at) frame → (b : ℕ) → Contains numbers b → Contains words (b / 8)
+covers frame words numbers small e f b h = subst (λ l. Contains l (b / 8)) (sym e) (words_cover frame small b (subst (λ l. Contains l b) f h))
+
+-- ---- a word of which a byte is found
+pub any_word : (frame : List FrameByte) (word i : ℕ) (x : FrameByte) → i < length frame → x ≡ get_or frame i x → x.at / 8 ≡ word → has_byte frame word ≡ true
+any_word frame word i x lt is e = any_of (map (λ y. y.at / 8) frame) word (subst (Contains (map (λ y. y.at / 8) frame)) e (mapped_in (λ y. y.at / 8) frame x (i, lt, sym is)))

@@ -20,7 +20,8 @@ fn operand(table: &[Option<Operand<Name<Part>>>], cell: u32) -> Operand<Name<Par
     requires { IsIn table.now cell }
     ensures { Stands table.now cell result }
 {
-    table[cell as usize].unwrap()
+    let operand = table[cell as usize];
+    operand.unwrap()
 }
 
 // What stands for the bytes that may change.
@@ -46,7 +47,7 @@ fn bytes(
 }
 
 /// What stands in a table for the answer of a program.
-pub(crate) fn outputs(
+pub(crate) fn answer_outputs(
     alloc: Global,
     program: &CellProgram,
     table: &[Option<Operand<Name<Part>>>],

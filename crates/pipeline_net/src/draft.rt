@@ -46,6 +46,18 @@ fn kept_for(op: Operator) -> Option<Kept>
     }
 }
 
+// Whether an operator takes something that is kept.
+fn takes(op: Operator, what: Kept) -> bool
+    requires { IsInWindow op }
+    ensures yes { result ≡ true → kept_for op ≡ Some what }
+    ensures all { kept_for op ≡ Some what → result ≡ true }
+{
+    match kept_for(op) {
+        Some(kept) => kept == what,
+        None => false,
+    }
+}
+
 // Whether one of these cells takes something that is kept.
 fn is_taken(cells: &[Cell], listed: &[u32], what: Kept) -> bool
     requires window { (k : ℕ) → k < length cells.now → IsInWindow (cell_at (map_list cell_of cells.now) k).op }
@@ -54,7 +66,7 @@ fn is_taken(cells: &[Cell], listed: &[u32], what: Kept) -> bool
     ensures all { IsTakenBy (map_list cell_of cells.now) listed.now what → result ≡ true }
 {
     for number in listed {
-        if kept_for(cells[*number as usize].op) == Some(what) {
+        if takes(cells[*number as usize].op, what) {
             return true;
         }
     }
@@ -133,7 +145,7 @@ fn source_list(
 }
 
 /// The draft of a program.
-pub(crate) fn draft(alloc: Global, program: &CellProgram) -> Result<Draft, AllocError>
+pub(crate) fn draft_of(alloc: Global, program: &CellProgram) -> Result<Draft, AllocError>
     requires formed { AreFormed (program_of program.now).cells }
     requires few { length program.now.cells.items < 2 ^ 32 }
     requires window { (k : ℕ) → k < length program.now.cells.items → IsInWindow (cell_at (program_of program.now).cells k).op }

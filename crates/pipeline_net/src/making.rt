@@ -19,8 +19,8 @@ ghost use Rattle.pipeline_net.specs.Draft.{IsDraft, changed_words};
 ghost use Rattle.pipeline_net.specs.Places.{IsAnswerOf};
 ghost use Rattle.pipeline_net.specs.Fronts.{read_by_control, AreFronts, AreAllParts};
 
-use crate::answer::{changed_words, outputs};
-use crate::draft::{Draft, draft};
+use crate::answer::{answer_outputs, changed_words};
+use crate::draft::{Draft, draft_of};
 use crate::error::PipelineError;
 use crate::places::{places, table_behind};
 use block_core::block::{Block, Placed};
@@ -162,7 +162,7 @@ fn answer(
     ensures operands { IfOk result (λ o. All IsOperand (output_operands o)) }
 {
     let table = table_behind(alloc, program, plan, draft, plan.rows())?;
-    let outputs = outputs(alloc, program, &table)?;
+    let outputs = answer_outputs(alloc, program, &table)?;
     Ok(outputs)
 }
 
@@ -219,7 +219,7 @@ pub fn pipeline(
         return Err(PipelineError::TooManySlots);
     }
     let shape = shape(plan);
-    let draft = draft(alloc, program)?;
+    let draft = draft_of(alloc, program)?;
     let words = changed_words(alloc, &program.frame)?;
     let parts = parts(alloc, program, plan, &shape, &draft, &words)?;
     let design = link_pipeline(alloc, words.len() as u32, &parts)?;

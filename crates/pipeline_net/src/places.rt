@@ -56,7 +56,6 @@ fn first_place(
     ensures { IfOk result (λ b. IsPlaceOf (program_of program.now) plan.now draft.now 0 (block_of b)) }
 {
     let part = Part::Place(0);
-    let cells = &program.cells;
     let mut table = Vec::from_slice(alloc, &draft.constants)?;
     let mut wires = Vec::new(alloc);
     source_cells(
@@ -65,13 +64,21 @@ fn first_place(
         part,
         Part::Sources,
         &draft.kept,
-        cells,
+        &program.cells,
         &draft.sources,
         &mut table,
     )?;
     let made = made(alloc, program, plan, &draft.needed, 0)?;
     let carried = carried(alloc, program, plan, &draft.needed, 0)?;
-    let block = place(alloc, part, wires, cells, &made, table, &carried)?;
+    let block = place(
+        alloc,
+        part,
+        wires,
+        &program.cells,
+        &made,
+        table,
+        &carried,
+    )?;
     Ok(block)
 }
 
