@@ -1,15 +1,15 @@
 -- The same of equal lists.
-use Rattle.std.proofs.Common.{◌≡◌, ℕ, Option, List, subst}
-use Rattle.net_core.specs.Value.{Env}
+use Rattle.std.specs.Prelude.{Contains}
+use Rattle.std.proofs.Common.{◌≡◌, ◌⊎◌, ℕ, ◌<◌, All, List, subst, sym}
 use Rattle.block_core.specs.declared.name.Name.{Name}
 use Rattle.block_core.specs.Blocks.{BlockTree, BlockWireTree}
-use Rattle.block_core.specs.Parts.{Solve}
 use Rattle.cell_core.specs.Cells.{CellView}
 use Rattle.cell_nets.specs.declared.operand.Operand.{Operand}
 use Rattle.cell_nets.specs.Wires.{behind, AreWires}
 use Rattle.frame_net.specs.declared.held.Kept.{Kept}
-use Rattle.row_net.specs.Table.{AreThere}
-use Rattle.place_net.specs.Place.{IsPlace, IsTaken}
+use Rattle.row_net.specs.Table.{IsIn, IsTable, AreThere}
+use Rattle.row_net.specs.Made.{IsReady}
+use Rattle.place_net.specs.Place.{width_at, IsPlace, IsTaken}
 use Rattle.place_net.specs.Sources.{IsSourced}
 use Rattle.shell_net.specs.declared.parts.Part.{Part}
 use Rattle.shell_net.specs.declared.parts.Part.TheVariants.{Sources}
@@ -36,3 +36,18 @@ sourced_as part ks ls cs ds xs ys start old ws from before after e f g h k s =
     (subst (λ x. IsSourced part Sources ks cs x old ws before after) g
     (subst (λ x. IsSourced part Sources ks cs xs x ws before after) h
     (subst (λ x. IsSourced part Sources ks cs xs start ws x after) k s))))
+
+pub table_as : (cs ds : List CellView) (old before : Table) → cs ≡ ds → old ≡ before → IsTable ds before → IsTable cs old
+table_as cs ds old before e f h = subst (λ x. IsTable x old) (sym e) (subst (IsTable ds) (sym f) h)
+
+pub within_as : (xs ys : List ℕ) (m n : ℕ) → xs ≡ ys → m ≡ n → All (λ k. k < n) ys → All (λ k. k < m) xs
+within_as xs ys m n e f h = subst (λ x. All (λ k. k < m) x) (sym e) (subst (λ x. All (λ k. k < x) ys) (sym f) h)
+
+pub wide_as : (cs ds : List CellView) (xs ys : List ℕ) → cs ≡ ds → xs ≡ ys → All (λ k. 0 < width_at ds k) ys → All (λ k. 0 < width_at cs k) xs
+wide_as cs ds xs ys e f h = subst (λ x. All (λ k. 0 < width_at x k) xs) (sym e) (subst (All (λ k. 0 < width_at ds k)) (sym f) h)
+
+pub ready_as : (cs ds : List CellView) (table : Table) (xs ys : List ℕ) → cs ≡ ds → xs ≡ ys → IsReady ds table ys → IsReady cs table xs
+ready_as cs ds table xs ys e f h = subst (λ x. IsReady x table xs) (sym e) (subst (IsReady ds table) (sym f) h)
+
+pub in_as : (table : Table) (ms ns xs ys : List ℕ) → ms ≡ ns → xs ≡ ys → All (λ k. IsIn table k ⊎ Contains ns k) ys → All (λ k. IsIn table k ⊎ Contains ms k) xs
+in_as table ms ns xs ys e f h = subst (λ x. All (λ k. IsIn table k ⊎ Contains x k) xs) (sym e) (subst (All (λ k. IsIn table k ⊎ Contains ns k)) (sym f) h)
