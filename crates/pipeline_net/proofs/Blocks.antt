@@ -19,6 +19,7 @@ use Rattle.shell_net.specs.declared.parts.Part.TheVariants.{Sources, Place}
 use Rattle.pipeline_net.specs.declared.draft.Draft.{Draft}
 use Rattle.pipeline_net.specs.Draft.{IsDraft}
 use Rattle.pipeline_net.specs.Places.{Table, made_at, carried_at, outside_of, IsPlaceOf}
+use Rattle.pipeline_net.proofs.Same.{MakesPlace}
 use Rattle.pipeline_net.proofs.Tables.{no_wires, behind_none, all_available, carried_up, IsTableOf}
 
 module _ (p : ProgramView) (plan : Plan) (d : Draft) (is : IsDraft p d) where
@@ -68,3 +69,11 @@ module _ (p : ProgramView) (plan : Plan) (d : Draft) (is : IsDraft p d) where
       before = taken;
       block = block registers (no_wires (Place (suc j)) registers) (subst (λ l. AreThere l table) (sym (behind_none (Place (suc j)) registers)) there);
     }
+
+    -- its number as a sum
+    module _ (n : ℕ) (is_next : n ≡ suc j) where
+      pub table_at : IsTableOf p plan d n table
+      table_at = subst (λ m. IsTableOf p plan d m table) (sym is_next) later_table
+
+      pub later_at : (b : BlockTree (Name Part)) → MakesPlace (Place n) p.cells (made_at p plan d n) (carried_at p plan d n) [] table b → IsPlaceOf p plan d (suc j) b
+      later_at b block = later_of b (subst (λ m. MakesPlace (Place m) p.cells (made_at p plan d m) (carried_at p plan d m) [] table b) is_next block)

@@ -1,8 +1,8 @@
 mod Listing
 mod Tables
-mod Blocks
+mod Same
 mod Whole
 mod Keeps
 mod Answering
 mod Planning
-mod Same
+mod Blocks

@@ -10,7 +10,7 @@ use Rattle.frame_net.specs.declared.held.Kept.{Kept}
 use Rattle.row_net.specs.Table.{IsIn, IsTable, AreThere}
 use Rattle.row_net.specs.Made.{IsReady}
 use Rattle.place_net.specs.Place.{width_at, IsPlace, IsTaken}
-use Rattle.place_net.specs.Sources.{IsSourced}
+use Rattle.place_net.specs.Sources.{IsSource, IsSourced}
 use Rattle.shell_net.specs.declared.parts.Part.{Part}
 use Rattle.shell_net.specs.declared.parts.Part.TheVariants.{Sources}
 use Rattle.pipeline_net.specs.Places.{Table}
@@ -51,3 +51,6 @@ ready_as cs ds table xs ys e f h = subst (λ x. IsReady x table xs) (sym e) (sub
 
 pub in_as : (table : Table) (ms ns xs ys : List ℕ) → ms ≡ ns → xs ≡ ys → All (λ k. IsIn table k ⊎ Contains ns k) ys → All (λ k. IsIn table k ⊎ Contains ms k) xs
 in_as table ms ns xs ys e f h = subst (λ x. All (λ k. IsIn table k ⊎ Contains x k) xs) (sym e) (subst (All (λ k. IsIn table k ⊎ Contains ns k)) (sym f) h)
+
+pub sources_as : (ks ls : List Kept) (cs ds : List CellView) (xs ys : List ℕ) → ks ≡ ls → cs ≡ ds → xs ≡ ys → All (IsSource ls ds) ys → All (IsSource ks cs) xs
+sources_as ks ls cs ds xs ys e f g h = subst (λ x. All (IsSource x cs) xs) (sym e) (subst (λ x. All (IsSource ls x) xs) (sym f) (subst (All (IsSource ls ds)) (sym g) h))

@@ -20,6 +20,7 @@ use block_core::name::Name;
 use cell_core::program::CellProgram;
 use cell_nets::operand::Operand;
 use place_net::{place, source_cells, take_registers};
+use row_net::laws::cells_are_placed;
 use row_net::lists::{carried, made};
 use row_plan::RowPlan;
 use shell_net::parts::Part;
@@ -55,6 +56,7 @@ fn first_place(
     requires draft { IsDraft (program_of program.now) draft.now }
     ensures { IfOk result (λ b. IsPlaceOf (program_of program.now) plan.now draft.now 0 (block_of b)) }
 {
+    cells_are_placed();
     let part = Part::Place(0);
     let mut table = Vec::from_slice(alloc, &draft.constants)?;
     let mut wires = Vec::new(alloc);
@@ -95,6 +97,7 @@ fn later_place(
     requires within { before < plan.now.last }
     ensures { IfOk result (λ b. IsPlaceOf (program_of program.now) plan.now draft.now (suc before) (block_of b)) }
 {
+    cells_are_placed();
     let row = before + 1;
     let table = table_behind(alloc, program, plan, draft, before)?;
     let made = made(alloc, program, plan, &draft.needed, row)?;
