@@ -32,7 +32,7 @@ any_of [] k (i, lt, e) = absurd (omega (arith, lt))
 any_of (x ∷ xs) k (zero, lt, e) = ap (λ b. b || list_any (λ n. n == k) xs) (eq-eqb x k e)
 any_of (x ∷ xs) k (suc i, lt, e) = ap (λ b. (x == k) || b) (any_of xs k (i, omega (arith, lt), e)) ∙ or_true (x == k)
 
-mapped_in : {X Y : Type 0} (f : X → Y) (xs : List X) (x : X) → Contains xs x → Contains (map f xs) (f x)
+pub mapped_in : {X Y : Type 0} (f : X → Y) (xs : List X) (x : X) → Contains xs x → Contains (map f xs) (f x)
 mapped_in f [] x (i, lt, e) = absurd (omega (arith, lt))
 mapped_in f (y ∷ ys) x (zero, lt, e) = (0, omega arith, ap f e)
 mapped_in f (y ∷ ys) x (suc i, lt, e) = let c = mapped_in f ys x (i, omega (arith, lt), e) in (suc c.0, omega (arith, c.1), c.2)

@@ -6,3 +6,4 @@ mod Keeps
 mod Answering
 mod Planning
 mod Blocks
+mod Reached

@@ -1,5 +1,6 @@
 -- The same of equal lists.
 use Rattle.std.specs.Prelude.{Contains}
+use Rattle.std.specs.List.{AllByRecursion}
 use Rattle.std.proofs.Common.{◌≡◌, ◌⊎◌, ℕ, ◌<◌, All, List, subst, sym}
 use Rattle.block_core.specs.declared.name.Name.{Name}
 use Rattle.block_core.specs.Blocks.{BlockTree, BlockWireTree}
@@ -7,6 +8,7 @@ use Rattle.cell_core.specs.Cells.{CellView}
 use Rattle.cell_nets.specs.declared.operand.Operand.{Operand}
 use Rattle.cell_nets.specs.Wires.{behind, AreWires}
 use Rattle.frame_net.specs.declared.held.Kept.{Kept}
+use Rattle.frame_net.specs.Gather.{IsKept}
 use Rattle.row_net.specs.Table.{IsIn, IsTable, AreThere}
 use Rattle.row_net.specs.Made.{IsReady}
 use Rattle.place_net.specs.Place.{width_at, IsPlace, IsTaken}
@@ -54,3 +56,6 @@ in_as table ms ns xs ys e f h = subst (λ x. All (λ k. IsIn table k ⊎ Contain
 
 pub sources_as : (ks ls : List Kept) (cs ds : List CellView) (xs ys : List ℕ) → ks ≡ ls → cs ≡ ds → xs ≡ ys → All (IsSource ls ds) ys → All (IsSource ks cs) xs
 sources_as ks ls cs ds xs ys e f g h = subst (λ x. All (IsSource x cs) xs) (sym e) (subst (λ x. All (IsSource ls x) xs) (sym f) (subst (All (IsSource ls ds)) (sym g) h))
+
+pub kept_as : (ks ls : List Kept) → ks ≡ ls → AllByRecursion IsKept ls → AllByRecursion IsKept ks
+kept_as ks ls e h = subst (AllByRecursion IsKept) (sym e) h

@@ -32,6 +32,7 @@ use place_net::{Outputs, exit};
 use ring_net::control::control;
 use ring_net::names::{ControlNets, Counter, Register, Wire, register_name, wire_name};
 use ring_net::shape::ControlShape;
+use row_net::laws::cells_are_placed;
 use row_plan::RowPlan;
 use scatter_net::{last_name, scatter};
 use shell_net::linking::link_pipeline;
@@ -132,12 +133,12 @@ fn fronts(
     let gather = gather(alloc, Part::Gather, bits, kept, over, gathered)?;
     let sources = sources(alloc, Part::Sources, Part::Gather, bits, kept, injected)?;
     let exit = exit(alloc, bits, words, told(Wire::Exits), answered, answer)?;
-    let mut all = Vec::new(alloc);
-    all.push(placed(Part::Scatter, scatter))?;
-    all.push(placed(Part::Control, control))?;
-    all.push(placed(Part::Gather, gather))?;
-    all.push(placed(Part::Sources, sources))?;
-    all.push(placed(Part::Exit, exit))?;
+    let scatter = placed(Part::Scatter, scatter);
+    let control = placed(Part::Control, control);
+    let gather = placed(Part::Gather, gather);
+    let sources = placed(Part::Sources, sources);
+    let exit = placed(Part::Exit, exit);
+    let all = vec![in alloc; scatter, control, gather, sources, exit]?;
     Ok(all)
 }
 
@@ -161,7 +162,9 @@ fn answer(
     ensures stands { IfOk result (IsAnswerOf (program_of program.now) plan.now draft.now) }
     ensures operands { IfOk result (λ o. All IsOperand (output_operands o)) }
 {
-    let table = table_behind(alloc, program, plan, draft, plan.rows())?;
+    cells_are_placed();
+    let last = plan.rows();
+    let table = table_behind(alloc, program, plan, draft, last)?;
     let outputs = answer_outputs(alloc, program, &table)?;
     Ok(outputs)
 }

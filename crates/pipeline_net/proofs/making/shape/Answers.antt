@@ -1,0 +1,5 @@
+use Rattle.std.proofs.Common.{arith}
+use Rattle.pipeline_net.proofs.making.shape.Goals as goal
+
+pub returns-clause-narrow : goal.returns-clause-narrow
+returns-clause-narrow c = c.new.ensures.least 5 (omega arith) (omega (arith, c.requires.few, c.rows.ensures))
