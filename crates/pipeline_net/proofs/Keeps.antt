@@ -153,3 +153,10 @@ module _ (cells : List CellView) (listed : List ℕ) where
       taken = taken;
       only = λ x c. (only x (more.some x c)).1;
     }
+
+  -- ---- one, or none
+  pub untaken : (what : Kept) (b : Bool) (old : List Kept) → (IsTakenBy cells listed what → b ≡ true) → b ≡ false → KeepsMore cells listed (λ x. x ≡ what) 1 old old
+  untaken what b old all e = keeps_none (λ x. x ≡ what) 1 old (λ x s t. differ b e (all (subst (IsTakenBy cells listed) s t)))
+    where
+      differ : (t : Bool) → t ≡ false → t ≡ true → ⊥
+      differ t f g = cc

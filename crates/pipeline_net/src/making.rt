@@ -133,21 +133,28 @@ fn fronts(
     let gather = gather(alloc, Part::Gather, bits, kept, over, gathered)?;
     let sources = sources(alloc, Part::Sources, Part::Gather, bits, kept, injected)?;
     let exit = exit(alloc, bits, words, told(Wire::Exits), answered, answer)?;
-    let scatter = placed(Part::Scatter, scatter);
-    let control = placed(Part::Control, control);
-    let gather = placed(Part::Gather, gather);
-    let sources = placed(Part::Sources, sources);
-    let exit = placed(Part::Exit, exit);
+    let scatter = Placed {
+        part: Part::Scatter,
+        block: scatter,
+    };
+    let control = Placed {
+        part: Part::Control,
+        block: control,
+    };
+    let gather = Placed {
+        part: Part::Gather,
+        block: gather,
+    };
+    let sources = Placed {
+        part: Part::Sources,
+        block: sources,
+    };
+    let exit = Placed {
+        part: Part::Exit,
+        block: exit,
+    };
     let all = vec![in alloc; scatter, control, gather, sources, exit]?;
     Ok(all)
-}
-
-// A part with its block.
-fn placed(part: Part, block: Block<Name<Part>>) -> Placed<Part>
-    ensures part { result.part ≡ part }
-    ensures block { result.block ≡ block }
-{
-    Placed { part, block }
 }
 
 // What stands for the answer behind the last place.
