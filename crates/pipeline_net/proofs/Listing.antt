@@ -1,7 +1,8 @@
 -- Numbers that pass a test, in their order.
-use Rattle.std.specs.Prelude.{Contains}
+use Rattle.std.specs.Prelude.{Contains, ◌==◌}
 use Rattle.std.specs.List.{filter}
 use Rattle.std.proofs.Common.{◌≡◌, ◌∙◌, ◌⊎◌, inl, inr, ℕ, zero, suc, ◌+◌, ◌<◌, ◌≤◌, Bool, true, false, cond, All, List, [], ◌∷◌, ◌++◌, length, append-nil, refl, sym, ap, subst, arith}
+use Rattle.std.proofs.lemmas.Bool.{eqb-true, eqb-false}
 use Rattle.std.proofs.lemmas.List.Elements.{filter-append, All-nil, All-cons, All-filter}
 use Rattle.cell_core.specs.Rows.{numbers}
 use Rattle.cell_core.proofs.NumberLaws.{numbers_more}
@@ -9,14 +10,11 @@ use Rattle.cell_core.proofs.NumberLaws.{numbers_more}
 -- ---- numbers
 pub in_numbers : (n from k : ℕ) → from ≤ k → k < from + n → Contains (numbers from n) k
 in_numbers zero from k low high = absurd (omega arith)
-in_numbers (suc n) from k low high = by_case (first from k low)
+in_numbers (suc n) from k low high = by_test (from == k) refl
   where
-    first : (a b : ℕ) → a ≤ b → (a ≡ b) ⊎ (suc a ≤ b)
-    first a b h = grind arith
-
-    by_case : (from ≡ k) ⊎ (suc from ≤ k) → Contains (numbers from (suc n)) k
-    by_case (inl e) = (0, omega arith, e)
-    by_case (inr l) = let c = in_numbers n (suc from) k l (omega arith) in (suc c.0, omega (arith, c.1), c.2)
+    by_test : (t : Bool) → (from == k) ≡ t → Contains (numbers from (suc n)) k
+    by_test true s = (0, omega arith, eqb-true from k s)
+    by_test false s = let c = in_numbers n (suc from) k (omega (arith, eqb-false from k s)) (omega arith) in (suc c.0, omega (arith, c.1), c.2)
 
 pub numbers_below : (most n from : ℕ) → from + n ≤ most → All (λ k. k < most) (numbers from n)
 numbers_below most zero from h = All-nil (λ k. k < most)

@@ -58,7 +58,7 @@ module _ (p : ProgramView) (plan : Plan) (d : Draft) (shape : ControlShape) (wor
   place_at : (k : ℕ) → k < suc plan.last → IsPlaceOf p plan d k (block_in places k)
   place_at k lt =
       let within : k < length places = omega (arith, all.count) in
-      subst (IsPlaceOf p plan d k) (sym (get_or-map (λ m. block_of m.block) places k some_part no_block within)) (all.are_places k some_part within).block
+      subst (IsPlaceOf p plan d k) (sym (get_or-map (λ (m : Placed Part). block_of m.block) places k some_part no_block within)) (all.are_places k some_part within).block
 
   -- ---- the tables: those of the places, behind the last one that of the answer, and then constants alone
   table_by : (k : ℕ) → (k < suc plan.last) ⊎ (suc plan.last ≤ k) → Table
@@ -196,15 +196,15 @@ module _ (p : ProgramView) (plan : Plan) (d : Draft) (shape : ControlShape) (wor
   }
 
   -- ---- the parts in memory are those
-  listed : (at n : ℕ) (xs : List (Placed Part)) → length xs ≡ n → ((k : ℕ) (m : Placed Part) → k < length xs → (get_or xs k m).part ≡ Place (at + k)) → map (λ m. m.part) xs ≡ map Place (numbers at n)
+  listed : (at n : ℕ) (xs : List (Placed Part)) → length xs ≡ n → ((k : ℕ) (m : Placed Part) → k < length xs → (get_or xs k m).part ≡ Place (at + k)) → map (λ (m : Placed Part). m.part) xs ≡ map Place (numbers at n)
   listed at zero [] e h = refl
   listed at zero (x ∷ xs) e h = absurd (omega (arith, e))
   listed at (suc n) [] e h = absurd (omega (arith, e))
   listed at (suc n) (x ∷ xs) e h =
       let first : at + 0 ≡ at = omega arith in
-      let rest : map (λ m. m.part) xs ≡ map Place (numbers (suc at) n) =
+      let rest : map (λ (m : Placed Part). m.part) xs ≡ map Place (numbers (suc at) n) =
           listed (suc at) n xs (omega (arith, e)) (λ k m lt. h (suc k) m (omega (arith, lt)) ∙ ap Place (omega arith)) in
-      ap (λ q. q ∷ map (λ m. m.part) xs) (h 0 x (omega arith) ∙ ap Place first) ∙ ap (λ l. Place at ∷ l) rest
+      ap (λ q. q ∷ map (λ (m : Placed Part). m.part) xs) (h 0 x (omega arith) ∙ ap Place first) ∙ ap (λ l. Place at ∷ l) rest
 
   among_at : {X : Type 0} (xs : List X) (x : X) → Among x xs → (k : ℕ) × (k < length xs) × ((e : X) → get_or xs k e ≡ x)
   among_at [] x h = absurd h
@@ -215,11 +215,11 @@ module _ (p : ProgramView) (plan : Plan) (d : Draft) (shape : ControlShape) (wor
   of_place m h =
       let c = among_at places m h in
       let here : get_or places c.0 m ≡ m = c.2 m in
-      let part : m.part ≡ Place c.0 = ap (λ x. x.part) (sym here) ∙ (all.are_places c.0 m c.1).part in
-      ap (λ x. block_of x.block) (sym here) ∙ sym (get_or-map (λ x. block_of x.block) places c.0 m no_block c.1) ∙ ap block_at (sym part)
+      let part : m.part ≡ Place c.0 = ap (λ (x : Placed Part). x.part) (sym here) ∙ (all.are_places c.0 m c.1).part in
+      ap (λ (x : Placed Part). block_of x.block) (sym here) ∙ sym (get_or-map (λ (x : Placed Part). block_of x.block) places c.0 m no_block c.1) ∙ ap block_at (sym part)
 
   of_front : (m n : Placed Part) (part : Part) → m ≡ n → n.part ≡ part → block_of n.block ≡ block_at part → block_of m.block ≡ block_at m.part
-  of_front m n part e q b = ap (λ x. block_of x.block) e ∙ b ∙ ap block_at (sym q) ∙ ap (λ x. block_at x.part) (sym e)
+  of_front m n part e q b = ap (λ (x : Placed Part). block_of x.block) e ∙ b ∙ ap block_at (sym q) ∙ ap (λ (x : Placed Part). block_at x.part) (sym e)
 
   of_any : (m : Placed Part) → Among m (fronts.scatter ∷ fronts.control ∷ fronts.gather ∷ fronts.sources ∷ fronts.exit ∷ places) → block_of m.block ≡ block_at m.part
   of_any m (inl e) = of_front m fronts.scatter Scatter e fronts.scatter_part refl
@@ -235,12 +235,18 @@ module _ (p : ProgramView) (plan : Plan) (d : Draft) (shape : ControlShape) (wor
   ms_are : ms ≡ in_order
   ms_are = all.are ∙ ap (λ l. l ++ places) fronts.are
 
-  order_parts : map (λ m. m.part) in_order ≡ parts_of (suc plan.last)
-  order_parts = rw (fronts.scatter_part, fronts.control_part, fronts.gather_part, fronts.sources_part, fronts.exit_part) (ap (λ l. Scatter ∷ Control ∷ Gather ∷ Sources ∷ Exit ∷ l) (listed 0 (suc plan.last) places all.count (λ k m lt. (all.are_places k m lt).part)))
+  cons : {x y : Part} {xs ys : List Part} → x ≡ y → xs ≡ ys → x ∷ xs ≡ y ∷ ys
+  cons {x} {y} {xs} {ys} e f = ap (λ (z : Part). z ∷ xs) e ∙ ap (λ (l : List Part). y ∷ l) f
+
+  order_parts : map (λ (m : Placed Part). m.part) in_order ≡ parts_of (suc plan.last)
+  order_parts =
+      cons fronts.scatter_part
+      (cons fronts.control_part
+      (cons fronts.gather_part (cons fronts.sources_part (cons fronts.exit_part (listed 0 (suc plan.last) places all.count (λ k m lt. (all.are_places k m lt).part))))))
 
   pub makes : Makes part_place ms whole
   makes = record {
     places = refl;
-    parts = sym (ap (map (λ m. m.part)) ms_are ∙ order_parts);
+    parts = sym (ap (map (λ (m : Placed Part). m.part)) ms_are ∙ order_parts);
     blocks = λ m h. of_any m (subst (Among m) ms_are h);
   }
