@@ -1,8 +1,11 @@
 -- The blocks of places.
-use Rattle.std.specs.Prelude.{Contains}
-use Rattle.std.proofs.Common.{◌≡◌, ◌∙◌, ◌⊎◌, inl, inr, ℕ, zero, suc, ◌+◌, ◌<◌, ◌≤◌, All, Option, List, [], ◌∷◌, ◌++◌, length, refl, sym, ap, subst, arith}
+use Rattle.std.specs.Prelude.{Contains, ◌==◌}
+use Rattle.std.proofs.Common.{◌≡◌, ◌∙◌, ◌⊎◌, inl, inr, ℕ, zero, suc, ◌+◌, ◌<◌, ◌≤◌, Bool, true, false, All, Option, List, [], ◌∷◌, ◌++◌, length, get_or, refl, sym, ap, subst, arith}
+use Rattle.std.proofs.lemmas.Bool.{eqb-true, eqb-false}
+use Rattle.std.proofs.lemmas.List.{length_push, get_or_push, get_or_append_left}
 use Rattle.net_core.specs.Value.{Env}
 use Rattle.block_core.specs.declared.name.Name.{Name}
+use Rattle.block_core.specs.declared.block.Placed.{Placed}
 use Rattle.block_core.specs.Blocks.{BlockTree, BlockWireTree}
 use Rattle.block_core.specs.Parts.{Solve}
 use Rattle.cell_core.specs.Sites.{ProgramView}
@@ -18,7 +21,7 @@ use Rattle.shell_net.specs.declared.parts.Part.{Part}
 use Rattle.shell_net.specs.declared.parts.Part.TheVariants.{Sources, Place}
 use Rattle.pipeline_net.specs.declared.draft.Draft.{Draft}
 use Rattle.pipeline_net.specs.Draft.{IsDraft}
-use Rattle.pipeline_net.specs.Places.{Table, made_at, carried_at, outside_of, IsPlaceOf}
+use Rattle.pipeline_net.specs.Places.{Table, made_at, carried_at, outside_of, IsPlaceOf, IsPlaceAt, ArePlaces}
 use Rattle.pipeline_net.proofs.Same.{MakesPlace}
 use Rattle.pipeline_net.proofs.Tables.{no_wires, behind_none, all_available, carried_up, IsTableOf}
 
@@ -77,3 +80,16 @@ module _ (p : ProgramView) (plan : Plan) (d : Draft) (is : IsDraft p d) where
 
       pub later_at : (b : BlockTree (Name Part)) → MakesPlace (Place n) p.cells (made_at p plan d n) (carried_at p plan d n) [] table b → IsPlaceOf p plan d (suc j) b
       later_at b block = later_of b (subst (λ m. MakesPlace (Place m) p.cells (made_at p plan d m) (carried_at p plan d m) [] table b) is_next block)
+
+  -- ---- one place more
+  module _ (ms : List (Placed Part)) (m : Placed Part) (n : ℕ) (count : length ms ≡ n) (all : ArePlaces p plan d ms) (one : IsPlaceAt p plan d n m) where
+    place_by : (k : ℕ) (x : Placed Part) → k < length (ms ++ m ∷ []) → (t : Bool) → (k == n) ≡ t → IsPlaceAt p plan d k (get_or (ms ++ m ∷ []) k x)
+    place_by k x lt true e =
+        let s = eqb-true k n e in
+        subst (IsPlaceAt p plan d k) (sym (get_or_push ms m x k (count ∙ sym s))) (subst (λ j. IsPlaceAt p plan d j m) (sym s) one)
+    place_by k x lt false e =
+        let below : k < length ms = omega (arith, lt, length_push ms m, count, eqb-false k n e) in
+        subst (IsPlaceAt p plan d k) (sym (get_or_append_left ms (m ∷ []) x k below)) (all k x below)
+
+    pub places_more : ArePlaces p plan d (ms ++ m ∷ [])
+    places_more k x lt = place_by k x lt (k == n) refl

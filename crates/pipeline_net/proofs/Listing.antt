@@ -10,11 +10,11 @@ use Rattle.cell_core.proofs.NumberLaws.{numbers_more}
 -- ---- numbers
 pub in_numbers : (n from k : ℕ) → from ≤ k → k < from + n → Contains (numbers from n) k
 in_numbers zero from k low high = absurd (omega arith)
-in_numbers (suc n) from k low high = by_test (from == k) refl
+in_numbers (suc n) from k low high = by_test (λ later. in_numbers n (suc from) k later (omega arith)) (from == k) refl
   where
-    by_test : (t : Bool) → (from == k) ≡ t → Contains (numbers from (suc n)) k
-    by_test true s = (0, omega arith, eqb-true from k s)
-    by_test false s = let c = in_numbers n (suc from) k (omega (arith, eqb-false from k s)) (omega arith) in (suc c.0, omega (arith, c.1), c.2)
+    by_test : (suc from ≤ k → Contains (numbers (suc from) n) k) → (t : Bool) → (from == k) ≡ t → Contains (numbers from (suc n)) k
+    by_test rest true s = (0, omega arith, eqb-true from k s)
+    by_test rest false s = let c = rest (omega (arith, eqb-false from k s)) in (suc c.0, omega (arith, c.1), c.2)
 
 pub numbers_below : (most n from : ℕ) → from + n ≤ most → All (λ k. k < most) (numbers from n)
 numbers_below most zero from h = All-nil (λ k. k < most)

@@ -1,6 +1,6 @@
 -- What a program and its draft say for the parts.
 use Rattle.std.specs.Prelude.{Contains, max, ◌/◌, ◌^◌}
-use Rattle.std.proofs.Common.{◌≡◌, ◌∙◌, ℕ, zero, suc, ◌+◌, ◌<◌, ◌≤◌, Bool, true, false, cond, Some, All, List, [], ◌∷◌, length, get_or, refl, sym, ap, subst, arith, slice_index}
+use Rattle.std.proofs.Common.{◌≡◌, ◌∙◌, ℕ, zero, suc, ◌+◌, ◌<◌, ◌≤◌, Bool, true, false, cond, Some, All, List, [], ◌∷◌, length, map, get_or, refl, sym, ap, subst, arith, slice_index}
 use Rattle.std.proofs.lemmas.List.Elements.{Contains-get_or, All-cons, All-weaker, All-map, All-nil, filter_passes}
 use Rattle.block_core.specs.declared.name.Name.{Name}
 use Rattle.cell_core.specs.declared.operator.Operator.{Operator}
@@ -94,6 +94,6 @@ module _ (p : ProgramView) (plan : Plan) (d : Draft) (ready : IsForPipeline p pl
 -- ---- what stands for the answer are operands
 pub all_operands : (p : ProgramView) (table : Table) (o : Outputs (Name Part)) → IsTable p.cells table → AreOutputs p table o → All IsOperand (output_operands o)
 all_operands p table o ok h =
-    All-cons IsOperand o.verdict _ (ok.operand p.verdict o.verdict h.verdict)
-    (All-cons IsOperand o.target _ (ok.operand p.target o.target h.target)
+    All-cons IsOperand o.verdict (o.target ∷ map byte_operand o.bytes.items) (ok.operand p.verdict o.verdict h.verdict)
+    (All-cons IsOperand o.target (map byte_operand o.bytes.items) (ok.operand p.target o.target h.target)
     (All-map IsOperand byte_operand o.bytes.items (All-weaker (IsByteIn table p.frame) (λ x. IsOperand (byte_operand x)) (λ x b. ok.operand b.byte.cell x.operand b.stands) o.bytes.items h.bytes)))

@@ -1,4 +1,3 @@
-
 use Rattle.std.proofs.Common.{◌≡◌, ◌∙◌, [], refl, ap, sym, arith, length, map}
 use Rattle.std.proofs.lemmas.List.{length-map}
 use Rattle.block_core.specs.View.{block_of}
@@ -15,7 +14,7 @@ use Rattle.pipeline_net.proofs.places.first_place.Goals as goal
 
 pub source_cells-requires-clause-table : goal.source_cells-requires-clause-table
 source_cells-requires-clause-table c =
-    table_as (map cell_of c.deref-3.result.now) (program_of c.args.program.now).cells c.in_ok-table.table.items c.args.draft.now.constants.items (ap (map cell_of) c.deref-3.ensures.value) (c.in_ok-table.ensures.ok ∙ c.deref.ensures.value)
+    table_as (map cell_of c.deref-3.result.now) (program_of c.args.program.now).cells c.in_ok-table.table.items c.args.draft.now.constants.items (ap (map cell_of) c.deref-3.ensures.value) (c.in_ok-table.ensures.items ∙ c.deref.ensures.value)
     c.requires.draft.constants.fits
 
 pub source_cells-requires-clause-few : goal.source_cells-requires-clause-few
@@ -40,7 +39,7 @@ place-requires-clause-table c =
     let cells = ap (map cell_of) c.deref-7.ensures.value in
     let sourced =
         sourced_as (Place 0) c.deref-2.result.now d.kept.items (map cell_of c.deref-3.result.now) p.cells c.deref-4.result.now d.sources.items _ [] ws c.in_ok-table.table.items d.constants.items table c.deref-2.ensures.value (ap (map cell_of) c.deref-3.ensures.value)
-        c.deref-4.ensures.value (ap wires_of c.new-wires.ensures.items) (c.in_ok-table.ensures.ok ∙ c.deref.ensures.value) c.in_ok-source_cells.ensures in
+        c.deref-4.ensures.value (ap wires_of c.new-wires.ensures.items) (c.in_ok-table.ensures.items ∙ c.deref.ensures.value) c.in_ok-source_cells.ensures in
     let placed = c.cells_are_placed.ensures p plan d.needed.items c.requires.program.formed c.requires.program.planned c.requires.draft.needed in
     table_as (map cell_of c.deref-7.result.now) p.cells table table cells refl sourced.table
 
@@ -56,7 +55,7 @@ place-requires-clause-ready c =
     let cells = ap (map cell_of) c.deref-7.ensures.value in
     let sourced =
         sourced_as (Place 0) c.deref-2.result.now d.kept.items (map cell_of c.deref-3.result.now) p.cells c.deref-4.result.now d.sources.items _ [] ws c.in_ok-table.table.items d.constants.items table c.deref-2.ensures.value (ap (map cell_of) c.deref-3.ensures.value)
-        c.deref-4.ensures.value (ap wires_of c.new-wires.ensures.items) (c.in_ok-table.ensures.ok ∙ c.deref.ensures.value) c.in_ok-source_cells.ensures in
+        c.deref-4.ensures.value (ap wires_of c.new-wires.ensures.items) (c.in_ok-table.ensures.items ∙ c.deref.ensures.value) c.in_ok-source_cells.ensures in
     let placed = c.cells_are_placed.ensures p plan d.needed.items c.requires.program.formed c.requires.program.planned c.requires.draft.needed in
     ready_as (map cell_of c.deref-7.result.now) p.cells table c.deref-8.result.now (made_at p plan d 0) cells made (is_ready p plan d c.requires.program c.requires.draft 0 table (first_table p plan d c.requires.draft ws table sourced) placed)
 
@@ -72,7 +71,7 @@ place-requires-clause-carried c =
     let cells = ap (map cell_of) c.deref-7.ensures.value in
     let sourced =
         sourced_as (Place 0) c.deref-2.result.now d.kept.items (map cell_of c.deref-3.result.now) p.cells c.deref-4.result.now d.sources.items _ [] ws c.in_ok-table.table.items d.constants.items table c.deref-2.ensures.value (ap (map cell_of) c.deref-3.ensures.value)
-        c.deref-4.ensures.value (ap wires_of c.new-wires.ensures.items) (c.in_ok-table.ensures.ok ∙ c.deref.ensures.value) c.in_ok-source_cells.ensures in
+        c.deref-4.ensures.value (ap wires_of c.new-wires.ensures.items) (c.in_ok-table.ensures.items ∙ c.deref.ensures.value) c.in_ok-source_cells.ensures in
     let placed = c.cells_are_placed.ensures p plan d.needed.items c.requires.program.formed c.requires.program.planned c.requires.draft.needed in
     in_as table c.deref-8.result.now (made_at p plan d 0) c.deref-9.result.now (carried_cells p plan d.needed.items 0) made carried (carried_in p plan d c.requires.program c.requires.draft 0 table (first_table p plan d c.requires.draft ws table sourced) placed (omega arith))
 
@@ -88,7 +87,7 @@ place-requires-clause-some c =
     let cells = ap (map cell_of) c.deref-7.ensures.value in
     let sourced =
         sourced_as (Place 0) c.deref-2.result.now d.kept.items (map cell_of c.deref-3.result.now) p.cells c.deref-4.result.now d.sources.items _ [] ws c.in_ok-table.table.items d.constants.items table c.deref-2.ensures.value (ap (map cell_of) c.deref-3.ensures.value)
-        c.deref-4.ensures.value (ap wires_of c.new-wires.ensures.items) (c.in_ok-table.ensures.ok ∙ c.deref.ensures.value) c.in_ok-source_cells.ensures in
+        c.deref-4.ensures.value (ap wires_of c.new-wires.ensures.items) (c.in_ok-table.ensures.items ∙ c.deref.ensures.value) c.in_ok-source_cells.ensures in
     let placed = c.cells_are_placed.ensures p plan d.needed.items c.requires.program.formed c.requires.program.planned c.requires.draft.needed in
     wide_as (map cell_of c.deref-7.result.now) p.cells c.deref-9.result.now (carried_cells p plan d.needed.items 0) cells carried (carried_wide p plan d c.requires.program c.requires.draft 0)
 
@@ -104,7 +103,7 @@ returns c =
     let cells = ap (map cell_of) c.deref-7.ensures.value in
     let sourced =
         sourced_as (Place 0) c.deref-2.result.now d.kept.items (map cell_of c.deref-3.result.now) p.cells c.deref-4.result.now d.sources.items _ [] ws c.in_ok-table.table.items d.constants.items table c.deref-2.ensures.value (ap (map cell_of) c.deref-3.ensures.value)
-        c.deref-4.ensures.value (ap wires_of c.new-wires.ensures.items) (c.in_ok-table.ensures.ok ∙ c.deref.ensures.value) c.in_ok-source_cells.ensures in
+        c.deref-4.ensures.value (ap wires_of c.new-wires.ensures.items) (c.in_ok-table.ensures.items ∙ c.deref.ensures.value) c.in_ok-source_cells.ensures in
     let placed = c.cells_are_placed.ensures p plan d.needed.items c.requires.program.formed c.requires.program.planned c.requires.draft.needed in
     let b = block_of c.in_ok-block.block in
     first_of p plan d c.requires.draft ws table sourced b

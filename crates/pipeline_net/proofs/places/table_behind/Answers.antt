@@ -10,7 +10,7 @@ use Rattle.pipeline_net.proofs.places.table_behind.Goals as goal
 
 pub take_registers-requires-clause-table : goal.take_registers-requires-clause-table
 take_registers-requires-clause-table c =
-    table_as (map cell_of c.deref-3.result.now) (program_of c.args.program.now).cells c.in_ok-table.table.items c.args.draft.now.constants.items (ap (map cell_of) c.deref-3.ensures.value) (c.in_ok-table.ensures.ok ∙ c.deref.ensures.value)
+    table_as (map cell_of c.deref-3.result.now) (program_of c.args.program.now).cells c.in_ok-table.table.items c.args.draft.now.constants.items (ap (map cell_of) c.deref-3.ensures.value) (c.in_ok-table.ensures.items ∙ c.deref.ensures.value)
     c.requires.draft.constants.fits
 
 pub take_registers-requires-clause-within : goal.take_registers-requires-clause-within
@@ -34,4 +34,4 @@ returns c =
     let d = c.args.draft.now in
     let row = c.args.row in
     taken_as (Place row) (map cell_of c.deref-3.result.now) p.cells c.deref-4.result.now (carried_at p c.args.plan.now d row) c.in_ok-table.table.items d.constants.items c.take_registers.new.table.items (ap (map cell_of) c.deref-3.ensures.value)
-    (c.deref-4.ensures.value ∙ c.in_ok-carried.ensures ∙ ap (λ n. carried_cells p c.args.plan.now n row) c.deref-2.ensures.value ∙ sym (carried_up p c.args.plan.now d row c.requires.within)) (c.in_ok-table.ensures.ok ∙ c.deref.ensures.value) c.in_ok-take_registers.ensures
+    (c.deref-4.ensures.value ∙ c.in_ok-carried.ensures ∙ ap (λ n. carried_cells p c.args.plan.now n row) c.deref-2.ensures.value ∙ sym (carried_up p c.args.plan.now d row c.requires.within)) (c.in_ok-table.ensures.items ∙ c.deref.ensures.value) c.in_ok-take_registers.ensures
