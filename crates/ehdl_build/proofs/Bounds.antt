@@ -10,7 +10,7 @@ use Rattle.net_core.specs.declared.ports.Inputs.{Inputs}
 use Rattle.net_core.specs.History.{beats_in}
 use Rattle.ehdl_build.specs.StoreAndForward.{StoreAndForward, Receiving, Sending, step, state_cycle, state_trace, state_after}
 use Rattle.xdp_machine.specs.Touched.{Touched}
-use Rattle.ehdl_build.specs.Bounds.{most_beats, clock_bound, clock_bound_apart, packet_clocks}
+use Rattle.realization.specs.Bounds.{most_beats, clock_bound, clock_bound_apart, packet_clocks}
 use Rattle.ehdl_build.proofs.Histories.{beats_in-cons}
 use Rattle.ehdl_build.proofs.Refined.{so_many, GoesOn, goes_on}
 use Rattle.ehdl_build.proofs.LoopStep.{EndsWhole, needed, needed-sending}

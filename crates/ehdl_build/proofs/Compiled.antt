@@ -26,7 +26,7 @@ use Rattle.host_history.specs.Laws.{NoMapsNoClocks}
 use Rattle.host_history.proofs.HostLaws.{need_no_clocks}
 use Rattle.verilog_grammar.specs.Spelling.{Spells}
 use Rattle.ehdl_build.specs.StoreAndForwardNetlist.{store_and_forward, answer, answers_to}
-use Rattle.ehdl_build.specs.Realizes.{Meets}
+use Rattle.realization.specs.Realizes.{Meets}
 use Rattle.ehdl_build.specs.declared.built.CompileError.{CompileError}
 use Rattle.ehdl_build.specs.declared.built.CompileError.TheVariants.{NoMemory, Object, Refused}
 use Rattle.kind_core.specs.declared.why.Refusal.{Refusal}

@@ -10,7 +10,7 @@ use Rattle.net_core.specs.Ports.{words_of}
 use Rattle.net_core.specs.History.{Cycle, answers_given, Drive, Answered, and_then, drive, drive_inputs, left_after, owed_after}
 use Rattle.ehdl_build.specs.StoreAndForwardNetlist.{store_and_forward}
 use Rattle.ehdl_build.specs.StoreAndForward.{StoreAndForward, step}
-use Rattle.ehdl_build.specs.Realizes.{beats_offered}
+use Rattle.realization.specs.Realizes.{beats_offered}
 use Rattle.ehdl_build.proofs.Flows.{total, so_far, IsSound, Flows, flows}
 use Rattle.ehdl_build.proofs.Clocks.{Place, stored, go, after_is}
 use Rattle.ehdl_build.proofs.Holds.{Holds, steps}

@@ -11,7 +11,7 @@ use Rattle.beat_core.specs.Ports.{Offered, offered, Arrival, arrived, arrivals_a
 use Rattle.net_core.specs.History.{Cycle, answers_given, given_out, beats_in, open_beats, goes_in, offered_beat, offers_in, goes_out, shown_beat, arrivals}
 use Rattle.ehdl_build.specs.StoreAndForwardNetlist.{answer, answers_to}
 use Rattle.ehdl_build.specs.StoreAndForward.{StoreAndForward, step, state_cycle, state_trace, state_after}
-use Rattle.ehdl_build.specs.Realizes.{IsPacket, frames_in, all_offers, beats_offered}
+use Rattle.realization.specs.Realizes.{IsPacket, frames_in, all_offers, beats_offered}
 use Rattle.ehdl_build.proofs.Flows.{so_far, total, IsSound, given_beats, Flows, flows, frame_of-append}
 
 by_test : {A : Type 0} (t : Bool) (x : A) (xs : List A) → (if t then x ∷ xs else xs) ≡ (if t then x ∷ [] else []) ++ xs

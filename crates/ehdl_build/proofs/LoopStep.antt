@@ -5,7 +5,7 @@ use Rattle.beat_core.specs.declared.beat.Beat.{Beat}
 use Rattle.beat_core.specs.Clocks.{AreOffers}
 use Rattle.beat_core.specs.Ports.{Offered}
 use Rattle.net_core.specs.History.{Cycle, beats_in, drive_inputs, left_after}
-use Rattle.ehdl_build.specs.Realizes.{beats_offered}
+use Rattle.realization.specs.Realizes.{beats_offered}
 use Rattle.ehdl_build.specs.StoreAndForward.{StoreAndForward, Receiving, Sending, sending, step, state_cycle}
 use Rattle.ehdl_build.proofs.Holds.{MayOffer}
 use Rattle.ehdl_build.proofs.Refined.{so_many, so_many-sending}

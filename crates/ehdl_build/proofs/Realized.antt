@@ -22,8 +22,8 @@ use Rattle.xdp_maps.specs.State.{MapState}
 use Rattle.xdp_machine.specs.Touched.{Touched}
 use Rattle.ehdl_build.specs.StoreAndForward.{StoreAndForward, Receiving, Sending, state_trace, state_after}
 use Rattle.ehdl_build.specs.StoreAndForwardNetlist.{store_and_forward, answer, answers_to}
-use Rattle.ehdl_build.specs.Bounds.{clock_bound, most_beats}
-use Rattle.ehdl_build.specs.Realizes.{IsPattern, IsPrefix, BeginNext, IsWhole, Meets, inputs_in, frames_in, all_offers, beats_offered}
+use Rattle.realization.specs.Bounds.{clock_bound, most_beats}
+use Rattle.realization.specs.Realizes.{IsPattern, IsPrefix, BeginNext, IsWhole, Meets, inputs_in, frames_in, all_offers, beats_offered}
 use Rattle.ehdl_build.proofs.Flows.{total, pending, so_far, given_beats}
 use Rattle.ehdl_build.proofs.Histories.{History, history, frames-arrivals, answers_to-frames, answers_given-append, beats-all_offers, frames-packets}
 use Rattle.ehdl_build.proofs.Clocks.{Place, place_width, stored}
@@ -198,6 +198,6 @@ realized v maps wanted apart fits shown =
       complete_apart = λ packets limit ts k a n.
           whole_of v maps wanted d s [] _ packets fits shown
           (complete_from v place packets limit h (frames-packets packets k) (omega (arith, n, apart_enough (frames_in packets) ts)));
-      late = λ is packets left limit w k e c n.
+      late = λ is packets left limit w k beside e c n.
           whole_of v maps wanted d s is _ packets fits shown (late_from v place is packets left limit h w (frames-packets packets k) e n);
     }

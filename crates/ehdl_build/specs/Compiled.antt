@@ -23,9 +23,9 @@ use Rattle.kind_core.specs.declared.why.Why.TheVariants.{Instruction}
 use Rattle.kind_core.specs.declared.why.BuildError.{BuildError}
 use Rattle.kind_core.specs.declared.why.BuildError.TheVariants as build
 use Rattle.unfold_core.specs.Acceptance.{IsAccepted, IsFirstRefusal}
-use Rattle.ehdl_build.specs.Bounds.{AreApart}
+use Rattle.realization.specs.Bounds.{AreApart}
 use Rattle.ehdl_build.specs.Products.{products_apart}
-use Rattle.ehdl_build.specs.Realizes.{Meets}
+use Rattle.realization.specs.Realizes.{Meets}
 
 -- what is run of a program
 abbrev pub code_of : XdpProgram → Code

@@ -27,8 +27,8 @@ use Rattle.xdp_machine.specs.MachineLaws.{KeepsSizes}
 use Rattle.xdp_machine.proofs.RunLaws.{runs_keep_sizes}
 use Rattle.host_history.specs.Host.{load, ShowsMaps}
 use Rattle.ehdl_build.specs.declared.built.Built.{Built}
-use Rattle.ehdl_build.specs.Bounds.{clock_bound, most_beats}
-use Rattle.ehdl_build.specs.Realizes.{Meets, IsWhole, IsPacket, frames_in, all_offers}
+use Rattle.realization.specs.Bounds.{clock_bound, most_beats}
+use Rattle.realization.specs.Realizes.{Meets, IsWhole, IsPacket, frames_in, all_offers}
 use Rattle.ehdl_build.specs.Compiled.{AreMapsOf, PipelineSize, IsSequential, DoNotConflict, code_of, packets_in, size_of}
 use Rattle.ehdl_top.specs.Results.{came_by}
 use Rattle.ehdl_top.specs.Steps.{IsLegal, IsRealized}

@@ -20,7 +20,7 @@ use Rattle.hazard_core.specs.Tables.{TableState}
 use Rattle.beat_core.specs.Ports.{Arrival}
 use Rattle.pipe_core.specs.Machine.{Packet, State, Input, Build, Moves, inside, some_send, is_due, moved, injected, place_at, answers_by, commits_or_moves, worked, work, came_with, gathered, is_ready, beat_over, beat_at, taken_beat, scattered, clock}
 use Rattle.pipe_core.specs.History.{came_in, next, IsInOrder}
-use Rattle.pipe_core.specs.Drive.{Driven, first_of, driving, drive_clock, drive, drive_start, EndsWithoutMaps}
+use Rattle.pipe_core.specs.Drive.{Driven, first_of, driving, drive_clock, Beside, drive, drive_start, EndsWithoutMaps}
 use Rattle.pipe_core.proofs.Carrying.{swept_none}
 use Rattle.std.proofs.lemmas.Bool.{cases_lt}
 use Rattle.pipe_core.proofs.Order.{last_or, moved_inside, moved_length, place_last, some_last, keeps_order, beats_keep, answers_length, begins}
@@ -336,13 +336,13 @@ pub record Driving (n : ℕ) (b : Build) (d : Driven) : Type 0 where
 abbrev pub to_give : Driven → ℕ
 to_give d = answer_beats d.trace.state.answers + frame_beats d.trace.state.frames + part_beats d.trace.state.part + length d.left - d.trace.state.pos
 
-abbrev to_inject : Driven → ℕ
+abbrev pub to_inject : Driven → ℕ
 to_inject d = lasts d.left + (length d.trace.state.frames - inside d.trace.state.places)
 
-abbrev way_left : Build → Driven → ℕ
+abbrev pub way_left : Build → Driven → ℕ
 way_left b d = if nat_lt 0 (to_inject d) then b.plan.last + 1 else way d.trace.state.places
 
-abbrev far : Build → Driven → ℕ
+abbrev pub far : Build → Driven → ℕ
 far b d = to_give d + length d.left + to_inject d + way_left b d
 
 pub no_answers : (xs : List Answer) → length xs ≡ 0 → answer_beats xs ≡ 0
@@ -569,12 +569,12 @@ steps n b none slots ifindex time d v = record {
 
 -- ---- the whole drive
 
-drives : (n : ℕ) (b : Build) → b.program.sites ≡ [] → b.slots ≡ b.plan.last + 4 → (ifindex : ℕ) (times : List ℕ) (d : Driven) → Driving n b d →
-    Driving n b (drive b ifindex times d) × (far b (drive b ifindex times d) ≤ far b d - length times)
-drives n b none slots ifindex [] d v = (v, omega arith)
-drives n b none slots ifindex (time ∷ times) d v =
-    let s = steps n b none slots ifindex time d v in
-    let r = drives n b none slots ifindex times (drive_clock b ifindex time d) s.driving in
+pub drives : (n : ℕ) (b : Build) → b.program.sites ≡ [] → b.slots ≡ b.plan.last + 4 → (clocks : List Beside) (d : Driven) → Driving n b d →
+    Driving n b (drive b clocks d) × (far b (drive b clocks d) ≤ far b d - length clocks)
+drives n b none slots [] d v = (v, omega arith)
+drives n b none slots (x ∷ xs) d v =
+    let s = steps n b none slots x.ifindex x.time d v in
+    let r = drives n b none slots xs (drive_clock b x.ifindex x.time d) s.driving in
     (r.0, omega (arith, r.1, s.nearer))
 
 pub at_end : (pos : ℕ) (xs : List Answer) → IsAt pos xs → answer_beats xs ≤ pos → length xs ≡ 0
@@ -614,7 +614,7 @@ pub ends_frames : (frames : List (List ℕ)) → AllByRecursion IsFrame frames �
 ends_frames [] h = refl
 ends_frames (f ∷ frames) h = ends_whole false (beats_of f) (flat_map beats_of frames) (IsWhole-beats_of f h.0.some) (ends_frames frames h.1)
 
-way_short : (b : Build) (d : Driven) → length d.trace.state.places ≡ suc b.plan.last → way_left b d ≤ b.plan.last + 1
+pub way_short : (b : Build) (d : Driven) → length d.trace.state.places ≡ suc b.plan.last → way_left b d ≤ b.plan.last + 1
 way_short b d h = by (nat_lt 0 (to_inject d))
   where
     by : (c : Bool) → (if c then b.plan.last + 1 else way d.trace.state.places) ≤ b.plan.last + 1
@@ -632,8 +632,8 @@ begins_driving b maps frames whole = record {
 }
 
 pub ends_without_maps : EndsWithoutMaps
-ends_without_maps b none slots maps ifindex frames whole times long =
+ends_without_maps b none slots maps frames whole clocks long =
     let d = drive_start b maps frames in
     let v = begins_driving b maps frames whole in
-    let r = drives (length frames) b none slots ifindex times d v in
-    all_given (length frames) b (drive b ifindex times d) r.0 (omega (arith, r.1, long, way_short b d v.order.places, lasts_frames frames whole))
+    let r = drives (length frames) b none slots clocks d v in
+    all_given (length frames) b (drive b clocks d) r.0 (omega (arith, r.1, long, way_short b d v.order.places, lasts_frames frames whole))

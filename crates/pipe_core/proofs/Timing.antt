@@ -1,14 +1,17 @@
 -- The full drive ends in time: each clock takes a beat in or out, or commits an operation, or is counted, and of these there are not too many.
 use Rattle.std.proofs.Common.{◌≡◌, ℕ, zero, suc, ◌+◌, ◌*◌, ◌<◌, ◌≤◌, ◌⊎◌, inl, inr, Bool, true, false, List, [], ◌∷◌, ◌++◌, Option, Some, None, length, drop, refl, sym, ap, ◌∙◌, subst, arith, cond, length-append, length-drop}
-use Rattle.std.specs.Prelude.{if◌then◌else◌, is_some}
+use Rattle.std.specs.Prelude.{if◌then◌else◌, is_some, map, not}
 use Rattle.std.specs.List.{flat_map, AllByRecursion}
 use Rattle.std.proofs.lemmas.Bool.{and_parts, cases_lt}
 use Rattle.std.proofs.lemmas.List.Sums.{sum_by-cons}
 use Rattle.std.proofs.Math.Nat.{mul-le-mul_left}
 use Rattle.beat_core.specs.declared.beat.Beat.{Beat}
 use Rattle.beat_core.specs.Beats.{beats_of}
+use Rattle.beat_core.specs.Filling.{filled_up}
 use Rattle.beat_core.specs.Laws.{IsFrame}
+use Rattle.beat_core.proofs.FillingLaws.{AreOffers-filled_up}
 use Rattle.xdp_maps.specs.declared.decl.MapDecl.{MapDecl}
+use Rattle.xdp_maps.specs.State.{MapState}
 use Rattle.cell_core.specs.Cells.{bit}
 use Rattle.cell_core.specs.Sites.{SiteView, site_at, records}
 use Rattle.cell_core.specs.Rows.{record_count}
@@ -19,7 +22,7 @@ use Rattle.hazard_core.specs.Commits.{change_by}
 use Rattle.hazard_core.proofs.ActsLaws.{recorded}
 use Rattle.pipe_core.specs.Machine.{Packet, State, Input, Build, Turn, Commits, Writes, Moves, new_state, place_at, inside, some_send, swept, struck_below, moved, newcomer, worked, work, is_ready, beat_over, clock}
 use Rattle.pipe_core.specs.History.{Trace, left_as, left_in, next, run, begin}
-use Rattle.pipe_core.specs.Drive.{Driven, first_of, driving, drive_clock, drive, drive_start, EndsInTime, ahead, beats_in, EndsLate}
+use Rattle.pipe_core.specs.Drive.{Driven, first_of, driving, drive_clock, Beside, drive, drive_start, EndsInTime, ahead, beats_in, EndsLate, EndsLateWithoutMaps}
 use Rattle.pipe_core.specs.Pipeable.{IsSuited}
 use Rattle.pipe_core.specs.Watched.{Watched, rest_of, turn_in, observed, watch, watch_start}
 use Rattle.pipe_core.specs.Right.{IsRight, KeepsRight}
@@ -27,7 +30,7 @@ use Rattle.pipe_core.proofs.Order.{swept_length, beats_keep}
 use Rattle.pipe_core.proofs.Turning.{TurnIs, turn_is, clock_aside}
 use Rattle.pipe_core.proofs.Righting.{keeps_place, always_right}
 use Rattle.pipe_core.proofs.Overlapping.{watch_runs}
-use Rattle.pipe_core.proofs.Draining.{lasts, no_lasts, no_part, no_frames, no_answers, goes_in, to_give, Driving, all_given, begins_driving}
+use Rattle.pipe_core.proofs.Draining.{EndsWhole, lasts, drives, way_short, no_lasts, no_part, no_frames, no_answers, goes_in, to_give, Driving, all_given, begins_driving}
 use Rattle.pipe_core.proofs.Counting.{begun, past, Bounds, past_swept, past_struck, past_moved, among, commits_bounds, moves_bounds, within, left_within, none_aged, begins_aged}
 use Rattle.pipe_core.proofs.Offering.{Offered, offered_on}
 
@@ -181,11 +184,11 @@ has_room b z n counted d v more amid none why h = elim (cases_lt (e + inside s.p
 abbrev left_after : Build → State → List Beat → List Beat
 left_after b s left = if is_ready b s then drop 1 left else left
 
-module _ (keeps : KeepsRight) (b : Build) (decls : List MapDecl) (fit : IsSuited decls b) (slots : b.slots ≡ b.plan.last + 4) (z n start ifindex : ℕ) where
-  accounts : (elapsed time : ℕ) (left : List Beat) (w : Watched) → Lasts b decls z n start elapsed left w → Offered n b (driving ifindex time left) w.trace (left_after b w.trace.state left) → 1 ≤ to_give (record { left = left; trace = w.trace }) →
+module _ (keeps : KeepsRight) (b : Build) (decls : List MapDecl) (fit : IsSuited decls b) (slots : b.slots ≡ b.plan.last + 4) (z n start : ℕ) where
+  accounts : (elapsed ifindex time : ℕ) (left : List Beat) (w : Watched) → Lasts b decls z n start elapsed left w → Offered n b (driving ifindex time left) w.trace (left_after b w.trace.state left) → 1 ≤ to_give (record { left = left; trace = w.trace }) →
       Account b z n start elapsed left w → Account b z n start (elapsed + 1) (left_after b w.trace.state left) (observed b (driving ifindex time left) w)
   unfolding observed next work
-  accounts elapsed time left w v o more a = elim (cases_lt 0 (length s.answers)) [
+  accounts elapsed ifindex time left w v o more a = elim (cases_lt 0 (length s.answers)) [
     | inl some ↦ spend 0 (omega arith) (λ l m. refl) (omega (arith, a.bounded)) (omega (arith, goes (omega (arith, some)), fewer))
     | inr none ↦ elim (goes_in b s left slots v.driving.order.places (omega (arith, none))) [
       | inl beat ↦ spend 0 (omega arith) (λ l m. refl) (omega (arith, a.bounded)) (omega (arith, beat, no_more))
@@ -250,9 +253,9 @@ module _ (keeps : KeepsRight) (b : Build) (decls : List MapDecl) (fit : IsSuited
             bounded = u.bounded;
           }
 
-  lasts_on : (elapsed time : ℕ) (left : List Beat) (w : Watched) → Lasts b decls z n start elapsed left w → Lasts b decls z n start (elapsed + 1) (left_after b w.trace.state left) (observed b (driving ifindex time left) w)
+  lasts_on : (elapsed ifindex time : ℕ) (left : List Beat) (w : Watched) → Lasts b decls z n start elapsed left w → Lasts b decls z n start (elapsed + 1) (left_after b w.trace.state left) (observed b (driving ifindex time left) w)
   unfolding observed
-  lasts_on elapsed time left w v = record {
+  lasts_on elapsed ifindex time left w v = record {
     driving = o.driving;
     right = keeps b decls fit i refl w v.driving.order v.right;
     account = by (cases_lt 0 (to_give d)) v.account;
@@ -281,7 +284,7 @@ module _ (keeps : KeepsRight) (b : Build) (decls : List MapDecl) (fit : IsSuited
 
       by : (0 < to_give d) ⊎ (to_give d ≤ 0) → Account b z n start elapsed left w ⊎ (to_give d ≡ 0) →
           Account b z n start (elapsed + 1) after (observed b i w) ⊎ (to_give (record { left = after; trace = next b i w.trace }) ≡ 0)
-      by (inl l) (inl a) = inl (accounts elapsed time left w v o (omega (arith, l)) a)
+      by (inl l) (inl a) = inl (accounts elapsed ifindex time left w v o (omega (arith, l)) a)
       by (inl l) (inr a) = absurd (omega (arith, l, a))
       by (inr l) a = inr (omega (arith, no_more, l))
 
@@ -304,17 +307,17 @@ module _ (keeps : KeepsRight) (b : Build) (decls : List MapDecl) (fit : IsSuited
       by (inl a) = omega (arith, a.clocks, a.bounded, a.of_sites, passed, long)
       by (inr a) = a
 
-  drives_on : (times : List ℕ) (elapsed : ℕ) (left : List Beat) (w : Watched) → Lasts b decls z n start elapsed left w → start + n * record_count b.program.sites + (z + n) * (b.plan.last + 2) + n ≤ elapsed + length times + 1 →
-      length (drive b ifindex times (record { left = left; trace = w.trace })).trace.gave ≡ n
+  drives_on : (clocks : List Beside) (elapsed : ℕ) (left : List Beat) (w : Watched) → Lasts b decls z n start elapsed left w → start + n * record_count b.program.sites + (z + n) * (b.plan.last + 2) + n ≤ elapsed + length clocks + 1 →
+      length (drive b clocks (record { left = left; trace = w.trace })).trace.gave ≡ n
   unfolding drive_clock observed
   drives_on [] elapsed left w v long = ends elapsed left w v (omega (arith, long))
-  drives_on (time ∷ times) elapsed left w v long = drives_on times (elapsed + 1) (left_after b w.trace.state left) (observed b (driving ifindex time left) w) (lasts_on elapsed time left w v) (omega (arith, long))
+  drives_on (x ∷ xs) elapsed left w v long = drives_on xs (elapsed + 1) (left_after b w.trace.state left) (observed b (driving x.ifindex x.time left) w) (lasts_on elapsed x.ifindex x.time left w v) (omega (arith, long))
 
 -- ---- from the first clock on
 
 pub ends_in_time : KeepsRight → LoadsTables → EndsInTime
-ends_in_time keeps loads b maps fit sound slots ifindex frames whole times long =
-    drives_on keeps b maps.decls fit slots 0 (length frames) (2 * length beats) ifindex times 0 beats (watch_start b maps) (record {
+ends_in_time keeps loads b maps fit sound slots frames whole clocks long =
+    drives_on keeps b maps.decls fit slots 0 (length frames) (2 * length beats) clocks 0 beats (watch_start b maps) (record {
       driving = begins_driving b maps frames whole;
       right = always_right keeps loads b maps fit sound [] tt;
       account = by frames whole refl;
@@ -359,7 +362,7 @@ reaches n b (i ∷ is) t left v =
     (r.0, omega (arith, r.1, o.no_more, whole))
 
 pub ends_late : KeepsRight → LoadsTables → EndsLate
-ends_late keeps loads b maps fit sound slots is silent frames whole left over ifindex times long =
+ends_late keeps loads b maps fit sound slots is silent frames whole left over clocks long =
     let beats = flat_map beats_of frames in
     let n = length frames in
     let w = watch b is (watch_start b maps) in
@@ -368,8 +371,8 @@ ends_late keeps loads b maps fit sound slots is silent frames whole left over if
     let give : to_give (record { left = beats_in b is (new_state b maps) ++ left; trace = begin b maps }) ≡ length beats = omega (arith, ap length over) in
     let fewer : length left ≤ length beats = omega (arith, ap length over, length-append (beats_in b is (new_state b maps)) left) in
     let now : to_give (record { left = left; trace = w.trace }) ≤ length beats = subst (λ (t : Trace). to_give (record { left = left; trace = t }) ≤ length beats) runs (omega (arith, r.1, give)) in
-    subst (λ (t : Trace). length (drive b ifindex times (record { left = left; trace = t })).trace.gave ≡ n) (sym runs)
-    (drives_on keeps b maps.decls fit slots 1 n (2 * length beats) ifindex times 0 left w (record {
+    subst (λ (t : Trace). length (drive b clocks (record { left = left; trace = t })).trace.gave ≡ n) (sym runs)
+    (drives_on keeps b maps.decls fit slots 1 n (2 * length beats) clocks 0 left w (record {
       driving = subst (λ (t : Trace). Driving n b (record { left = left; trace = t })) runs r.0;
       right = always_right keeps loads b maps fit sound is silent;
       account = inl (record {
@@ -384,3 +387,40 @@ ends_late keeps loads b maps fit sound slots is silent frames whole left over if
         bounded = omega arith;
       });
     }) (omega (arith, long)))
+
+-- ---- the bytes that do not count
+ends_unfilled : (begun : Bool) (bs left : List Beat) → EndsWhole begun (map filled_up bs ++ left) → EndsWhole begun (bs ++ left)
+ends_unfilled begun [] left h = h
+ends_unfilled begun (x ∷ bs) left h = ends_unfilled (not x.last) bs left h
+
+lasts_unfilled : (bs left : List Beat) → lasts (map filled_up bs ++ left) ≡ lasts (bs ++ left)
+lasts_unfilled [] left = refl
+lasts_unfilled (x ∷ bs) left = ap (λ n. bit x.last + n) (lasts_unfilled bs left)
+
+length_unfilled : (bs left : List Beat) → length (map filled_up bs ++ left) ≡ length (bs ++ left)
+length_unfilled [] left = refl
+length_unfilled (x ∷ bs) left = ap suc (length_unfilled bs left)
+
+begins_unfilled : (b : Build) (maps : MapState) (frames : List (List ℕ)) → AllByRecursion IsFrame frames → (bs left : List Beat) → map filled_up bs ++ left ≡ flat_map beats_of frames →
+    Driving (length frames) b (record { left = bs ++ left; trace = begin b maps })
+begins_unfilled b maps frames whole bs left e =
+    let v = subst (λ l. Driving (length frames) b (record { left = l; trace = begin b maps })) (sym e) (begins_driving b maps frames whole) in
+    record {
+      order = v.order;
+      count = omega (arith, v.count, lasts_unfilled bs left);
+      full = v.full;
+      offers = AreOffers-filled_up 0 bs left v.offers;
+      ends = ends_unfilled false bs left v.ends;
+      at = v.at;
+    }
+
+pub ends_late_without_maps : EndsLateWithoutMaps
+ends_late_without_maps b none slots maps is frames whole left over clocks long =
+    let beats = flat_map beats_of frames in
+    let n = length frames in
+    let came = beats_in b is (new_state b maps) in
+    let d : Driven = record { left = left; trace = run b is (begin b maps) } in
+    let r = reaches n b is (begin b maps) left (begins_unfilled b maps frames whole came left over) in
+    let many : length (came ++ left) ≡ length beats = sym (length_unfilled came left) ∙ ap length over in
+    let e = drives n b none slots clocks d r.0 in
+    all_given n b (drive b clocks d) e.0 (omega (arith, e.1, r.1, many, length-append came left, long, way_short b d r.0.order.places, frames_in n b d r.0))

@@ -1,8 +1,9 @@
 -- The full drive: in each clock the next beat is offered while one is left, a beat that is shown is taken, and the host is silent.
-use Rattle.std.specs.Prelude.{◌≡◌, ℕ, ◌+◌, ◌*◌, ◌≤◌, if◌then◌else◌, Option, Some, None, List, [], ◌∷◌, ◌++◌, length, drop, true}
+use Rattle.std.specs.Prelude.{◌≡◌, ℕ, ◌+◌, ◌*◌, ◌≤◌, if◌then◌else◌, Option, Some, None, List, [], ◌∷◌, ◌++◌, length, drop, map, true}
 use Rattle.std.specs.List.{flat_map, AllByRecursion}
 use Rattle.beat_core.specs.declared.beat.Beat.{Beat}
 use Rattle.beat_core.specs.Beats.{beats_of}
+use Rattle.beat_core.specs.Filling.{filled_up}
 use Rattle.beat_core.specs.Laws.{IsFrame}
 use Rattle.xdp_maps.specs.State.{MapState, IsSound}
 use Rattle.cell_core.specs.Rows.{record_count}
@@ -29,10 +30,15 @@ drive_clock b ifindex time d = record {
   trace = next b (driving ifindex time d.left) d.trace;
 }
 
--- a clock at each of these times
-abbrev pub drive : Build → ℕ → List ℕ → Driven → Driven
-drive b ifindex [] d = d
-drive b ifindex (time ∷ times) d = drive b ifindex times (drive_clock b ifindex time d)
+-- the interface number and the time that stand beside the beat of a clock
+pub record Beside : Type 0 where
+  pub ifindex : ℕ
+  pub time : ℕ
+
+-- a clock beside each of these
+abbrev pub drive : Build → List Beside → Driven → Driven
+drive b [] d = d
+drive b (x ∷ xs) d = drive b xs (drive_clock b x.ifindex x.time d)
 
 abbrev pub drive_start : Build → MapState → List (List ℕ) → Driven
 drive_start b maps frames = record { left = flat_map beats_of frames; trace = begin b maps }
@@ -41,9 +47,9 @@ drive_start b maps frames = record { left = flat_map beats_of frames; trace = be
 -- one more, and the places count once.
 abbrev pub EndsWithoutMaps : Type 0
 EndsWithoutMaps =
-    (b : Build) → b.program.sites ≡ [] → b.slots ≡ b.plan.last + 4 → (maps : MapState) (ifindex : ℕ) (frames : List (List ℕ)) → AllByRecursion IsFrame frames
-    → (times : List ℕ) → 2 * length (flat_map beats_of frames) + length frames + b.plan.last + 1 ≤ length times
-    → length (drive b ifindex times (drive_start b maps frames)).trace.gave ≡ length frames
+    (b : Build) → b.program.sites ≡ [] → b.slots ≡ b.plan.last + 4 → (maps : MapState) (frames : List (List ℕ)) → AllByRecursion IsFrame frames
+    → (clocks : List Beside) → 2 * length (flat_map beats_of frames) + length frames + b.plan.last + 1 ≤ length clocks
+    → length (drive b clocks (drive_start b maps frames)).trace.gave ≡ length frames
 
 -- With operations on maps a frame may wait for the one before it: each beat counts a clock in and one out, and each frame counts the places, a clock
 -- for each site that may write, and three more.
@@ -53,9 +59,9 @@ clocks_of b frames = 2 * length (flat_map beats_of frames) + length frames * (b.
 -- All frames are answered a clock before that.
 abbrev pub EndsInTime : Type 0
 EndsInTime =
-    (b : Build) (maps : MapState) → IsSuited maps.decls b → IsSound maps → b.slots ≡ b.plan.last + 4 → (ifindex : ℕ) (frames : List (List ℕ)) → AllByRecursion IsFrame frames
-    → (times : List ℕ) → clocks_of b frames ≤ length times + 1
-    → length (drive b ifindex times (drive_start b maps frames)).trace.gave ≡ length frames
+    (b : Build) (maps : MapState) → IsSuited maps.decls b → IsSound maps → b.slots ≡ b.plan.last + 4 → (frames : List (List ℕ)) → AllByRecursion IsFrame frames
+    → (clocks : List Beside) → clocks_of b frames ≤ length clocks + 1
+    → length (drive b clocks (drive_start b maps frames)).trace.gave ≡ length frames
 
 -- the beats that go over inwards in these clocks
 abbrev pub ahead : Option Beat → List Beat → List Beat
@@ -72,5 +78,14 @@ abbrev pub EndsLate : Type 0
 EndsLate =
     (b : Build) (maps : MapState) → IsSuited maps.decls b → IsSound maps → b.slots ≡ b.plan.last + 4 → (is : List Input) → AllByRecursion (λ i. i.host ≡ None) is
     → (frames : List (List ℕ)) → AllByRecursion IsFrame frames → (left : List Beat) → beats_in b is (new_state b maps) ++ left ≡ flat_map beats_of frames
-    → (ifindex : ℕ) (times : List ℕ) → clocks_of b frames + b.plan.last + 2 ≤ length times + 1
-    → length (drive b ifindex times (record { left = left; trace = run b is (begin b maps) })).trace.gave ≡ length frames
+    → (clocks : List Beside) → clocks_of b frames + b.plan.last + 2 ≤ length clocks + 1
+    → length (drive b clocks (record { left = left; trace = run b is (begin b maps) })).trace.gave ≡ length frames
+
+-- Of a program without operations on maps a drive that begins late needs no more clocks than one from the first clock on. Of the beats that went
+-- over before, the bytes that do not count are not asked.
+abbrev pub EndsLateWithoutMaps : Type 0
+EndsLateWithoutMaps =
+    (b : Build) → b.program.sites ≡ [] → b.slots ≡ b.plan.last + 4 → (maps : MapState) (is : List Input) (frames : List (List ℕ)) → AllByRecursion IsFrame frames
+    → (left : List Beat) → map filled_up (beats_in b is (new_state b maps)) ++ left ≡ flat_map beats_of frames
+    → (clocks : List Beside) → 2 * length (flat_map beats_of frames) + length frames + b.plan.last + 1 ≤ length clocks
+    → length (drive b clocks (record { left = left; trace = run b is (begin b maps) })).trace.gave ≡ length frames

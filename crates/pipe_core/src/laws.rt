@@ -3,7 +3,7 @@
 ghost use Rattle.pipe_core.specs.History.{KeepsOrder, IsAlwaysInOrder};
 ghost use Rattle.pipe_core.specs.Computed.{KeepsComputed, IsAlwaysComputed};
 ghost use Rattle.pipe_core.specs.Sequential.{RunsWithoutMaps, MapsStay};
-ghost use Rattle.pipe_core.specs.Drive.{EndsWithoutMaps, EndsInTime, EndsLate};
+ghost use Rattle.pipe_core.specs.Drive.{EndsWithoutMaps, EndsLateWithoutMaps, EndsInTime, EndsLate};
 ghost use Rattle.pipe_core.specs.Sending.{AlwaysSendsBack};
 ghost use Rattle.pipe_core.specs.Agreement.{EnteringAgrees, StrikingAgrees};
 ghost use Rattle.pipe_core.specs.Agreed.{KeepsAgreed, PathsAreMade};
@@ -40,9 +40,10 @@ pub fn maps_stay()
 }
 
 /// Without operations on maps the full drive of frames ends: each beat counts a clock in and one out, each frame one, and the
-/// places count once.
+/// places count once. One that begins late needs no more clocks.
 pub fn ends_without_maps()
-    ensures { EndsWithoutMaps }
+    ensures full { EndsWithoutMaps }
+    ensures late { EndsLateWithoutMaps }
 {}
 
 /// What a packet holds of the maps stays what it would find now, but for reads that are marked or off the path: where it takes in

@@ -7,7 +7,7 @@ use Rattle.net_core.specs.declared.tree.Word.{Word}
 use Rattle.net_core.specs.declared.ports.Inputs.{Inputs}
 use Rattle.net_core.specs.Ports.{port_list, words_of}
 use Rattle.net_core.specs.Value.{Env}
-use Rattle.net_core.specs.Clock.{Stored, done, after, shown, first_stored}
+use Rattle.net_core.specs.Clock.{Stored, done, shown, first_stored}
 use Rattle.block_core.specs.declared.name.Name.{Name}
 use Rattle.block_core.specs.Blocks.{Whole, Among, first_of}
 use Rattle.block_core.specs.Parts.{Goes, ClockOfParts, stored_of}
@@ -29,7 +29,7 @@ use Rattle.shell_net.specs.Parts.{outputs_of}
 use Rattle.shell_net.specs.Machine.{input_of, MayCome, Shows}
 use Rattle.shell_net.specs.Layout.{Layout, last_of, outside, IsLaidOut, AreParts}
 use Rattle.shell_net.specs.Relation.{counts, Relates}
-use Rattle.shell_net.specs.Following.{design, Follows, FollowsAll, PipelinesFollow, PipelinesAreFormed}
+use Rattle.shell_net.specs.Following.{design, Follows, ClocksShow, ClocksFollow, BeginRelated, FollowsAll, PipelinesFollow, PipelinesAreFormed}
 use Rattle.shell_net.proofs.Cases.{none_some}
 use Rattle.shell_net.proofs.Values.{CellLaws}
 use Rattle.shell_net.proofs.Seeing.{IsSeen}
@@ -70,6 +70,28 @@ module _ (laws : Laws) (l : Layout) (d : Whole Part) (names : List (List ℕ)) (
       let f = fit.net n (outside_there l d laid parts 0 (omega arith) n (w, c)) (subst (λ k. 0 < k) (sym e) some) in
       record { width = f.width ∙ e; small = subst (λ k. (v.net n).value < 2 ^ k) (f.width ∙ e) f.fits.small }
 
+  -- what is shown, whatever beat is offered
+  one_shown : (i : Inputs) (t : Trace) (ss : Part → Stored) → IsInOrder l.build t → IsComputed l.build t → Relates l d t.state ss →
+      Shows (output l.build (input_of i) t.state) (shown (design l d names) (words_of i) (stored_of d ss))
+  unfolding next
+  one_shown i t ss order computed related =
+      let k : ClockOfParts d (design l d names) (outputs_of (length l.words)) (words_of i) ss =
+      linked Part d names port_list (outputs_of (length l.words)) (words_of i) ss (linkable l d laid parts) (λ p a. record { registers = (related.stored p a).registers; memories = (related.stored p a).memories }) in
+      let computed_then = laws.computes l.build laid.planned (input_of i) t order computed in
+      let h : IsSeen l d i t.state ss k.env = record { laid = laid; parts = parts; related = related; sees = k.sees; computed = computed.places; computed_then = computed_then.places } in
+      shown_as (output l.build (input_of i) t.state) _ _ k.shown (shows_then l d i t.state ss k.env h)
+    where
+      shown_as : (o : Output) (f g : ℕ → Word) → ((port : ℕ) → f port ≡ g port) → Shows o g → Shows o f
+      shown_as o f g e h = record {
+        ready = e _ ∙ h.ready;
+        valid = e _ ∙ h.valid;
+        beat = λ x q. let y = h.beat x q in record { content = e _ ∙ y.content; bytes = e _ ∙ y.bytes; last = e _ ∙ y.last; verdict = e _ ∙ y.verdict; target = e _ ∙ y.target };
+        reload = e _ ∙ h.reload;
+        host_value = e _ ∙ h.host_value;
+        host_ready = e _ ∙ h.host_ready;
+        passed = e _ ∙ h.passed;
+      }
+
   -- one clock
   one_clock : (i : Inputs) (t : Trace) (ss : Part → Stored) → IsInOrder l.build t → IsComputed l.build t → MayCome l.build t.state i → Relates l d t.state ss → Follows l d names i t.state ss
   unfolding next
@@ -81,13 +103,13 @@ module _ (laws : Laws) (l : Layout) (d : Whole Part) (names : List (List ℕ)) (
       let stored = stored_stays d port_list (words_of i) ss v k.sees related.stored (inputs_fit i come.fits) (typed l d laid parts) (ordered l d laid parts) (statements l d laid parts) in
       let first = sources_fit v fit in
       let computed_then = laws.computes l.build laid.planned (input_of i) t order computed in
-      let h : IsSeen l d i t.state ss v = record { laid = laid; parts = parts; come = come; related = related; sees = k.sees; computed = computed.places; computed_then = computed_then.places } in
+      let h : IsSeen l d i t.state ss v = record { laid = laid; parts = parts; related = related; sees = k.sees; computed = computed.places; computed_then = computed_then.places } in
       record {
         goes = k.goes (all_go i t.state ss v h first);
-        shown = shown_as (output l.build (input_of i) t.state) _ _ k.shown (shows_then l d i t.state ss v h);
+        shown = one_shown i t ss order computed related;
         next = λ p. done v (d.block p).statement (ss p);
         after = k.after;
-        related = related_then l d i t.state ss v h laws.cells laws.stays first stored;
+        related = related_then l d i t.state ss v h come laws.cells laws.stays first stored;
       }
     where
       all_go : (i : Inputs) (s : State) (ss : Part → Stored) (v : Env (Name Part)) → IsSeen l d i s ss v → AreFit v (outside l 0) → (p : Part) → Among p d.parts → Goes v (d.block p).wires
@@ -100,17 +122,6 @@ module _ (laws : Laws) (l : Layout) (d : Whole Part) (names : List (List ℕ)) (
       all_go i s ss v h first (Place (suc j)) a =
           let q = last_place l d laid parts (suc j) a in
           (parts.places (suc j) q).goes v (place_fits l d i s ss v h j (omega (arith, q))) (h.sees.wires (Place (suc j)) a)
-
-      shown_as : (o : Output) (f g : ℕ → Word) → ((port : ℕ) → f port ≡ g port) → Shows o g → Shows o f
-      shown_as o f g e h = record {
-        ready = e _ ∙ h.ready;
-        valid = e _ ∙ h.valid;
-        beat = λ x q. let y = h.beat x q in record { content = e _ ∙ y.content; bytes = e _ ∙ y.bytes; last = e _ ∙ y.last; verdict = e _ ∙ y.verdict; target = e _ ∙ y.target };
-        reload = e _ ∙ h.reload;
-        host_value = e _ ∙ h.host_value;
-        host_ready = e _ ∙ h.host_ready;
-        passed = e _ ∙ h.passed;
-      }
 
   -- clock after clock
   all_clocks : (is : List Inputs) (t : Trace) (ss : Part → Stored) → IsInOrder l.build t → IsComputed l.build t → Relates l d t.state ss → FollowsAll l d names is t.state (stored_of d ss)
@@ -167,6 +178,19 @@ module _ (laws : Laws) (l : Layout) (d : Whole Part) (names : List (List ℕ)) (
     from_first is =
         subst (FollowsAll l d names is first) (sym (starts_as_parts Part d names port_list (outputs_of (length l.words))))
         (all_clocks is (begin l.build maps) (λ p. first_of (d.block p)) (laws.in_order l.build maps []) (laws.computed l.build laid.planned maps []) first_related)
+
+pub clocks_show : Laws → ClocksShow
+clocks_show laws l d names laid parts i t ss order computed related = one_shown laws l d names laid parts i t ss order computed related
+
+pub clocks_follow : Laws → ClocksFollow
+clocks_follow laws l d names laid parts i t ss order computed come related = one_clock laws l d names laid parts i t ss order computed come related
+
+pub begin_related : Laws → BeginRelated
+begin_related laws l d names maps laid parts = record {
+  first = λ p. first_of (d.block p);
+  stored = starts_as_parts Part d names port_list (outputs_of (length l.words));
+  related = first_related laws l d names laid parts maps;
+}
 
 pub pipelines_follow : Laws → PipelinesFollow
 pipelines_follow laws l d names maps laid parts is = from_first laws l d names laid parts maps is

@@ -13,7 +13,6 @@ use Rattle.net_core.specs.declared.ports.TheConstants.{IN_DATA, IN_BYTES, IN_LAS
 use Rattle.net_core.specs.Value.{bit, Env}
 use Rattle.net_core.specs.Clock.{Stored, done}
 use Rattle.block_core.specs.declared.name.Name.{Name}
-use Rattle.block_core.specs.declared.name.Name.TheVariants as name
 use Rattle.block_core.specs.Blocks.{Whole}
 use Rattle.pipe_core.specs.Machine.{State, Input, is_ready, beat_over, came_with, no_frame}
 use Rattle.pipe_core.specs.History.{came_in}
@@ -29,7 +28,7 @@ use Rattle.scatter_net.specs.Scatter.{last_name}
 use Rattle.shell_net.specs.declared.parts.Part.{Part}
 use Rattle.shell_net.specs.declared.parts.Part.TheVariants.{Scatter, Control, Gather}
 use Rattle.shell_net.specs.Parts.{told_by, next_slot}
-use Rattle.shell_net.specs.Machine.{beat_in, input_of}
+use Rattle.shell_net.specs.Machine.{beat_in, input_of, MayCome}
 use Rattle.shell_net.specs.Layout.{Layout}
 use Rattle.shell_net.specs.Relation.{counts, signals, HoldsFrames}
 use Rattle.shell_net.proofs.Cases.{same_some, none_some}
@@ -58,7 +57,7 @@ over_ready : (r v : Bool) (b x : Beat) → (if r then (if v then Some b else Non
 over_ready true v b x e = refl
 over_ready false v b x e = cc
 
-module _ (l : Layout) (d : Whole Part) (i : Inputs) (s : State) (ss : Part → Stored) (v : Env (Name Part)) (h : IsSeen l d i s ss v) (last : Bool) (is_last : v.net (last_name Scatter) ≡ bit last) where
+module _ (l : Layout) (d : Whole Part) (i : Inputs) (s : State) (ss : Part → Stored) (v : Env (Name Part)) (h : IsSeen l d i s ss v) (come : MayCome l.build s i) (last : Bool) (is_last : v.net (last_name Scatter) ≡ bit last) where
   abbrev given : ℕ
   given = h.related.given
 
@@ -121,7 +120,7 @@ module _ (l : Layout) (d : Whole Part) (i : Inputs) (s : State) (ss : Part → S
   taken x e =
       let b = over_beat (is_ready l.build s) i.in_valid (beat_in i) x e in
       h.parts.gather.takes v (ss Gather) (slot l.shape.slots gathered_now) offer s.part (h.sees.wires Gather (has_gather l d h.parts)) (sees_beat true (ap is_some e))
-      (subst IsOffer (sym b) (h.come.offer x e)) (h.come.room x e) h.related.gather
+      (subst IsOffer (sym b) (come.offer x e)) (come.room x e) h.related.gather
 
   -- what has come of the frame behind a beat
   over_part : (at : ℕ) (x : Beat) (goes : Bool) → x.last ≡ goes → (goes ≡ false → at ≡ gathered_now)

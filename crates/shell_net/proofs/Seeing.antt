@@ -22,7 +22,7 @@ use Rattle.scatter_net.specs.Scatter.{last_name}
 use Rattle.shell_net.specs.declared.parts.Part.{Part}
 use Rattle.shell_net.specs.declared.parts.Part.TheVariants.{Scatter, Control, Gather, Sources, Exit, Place}
 use Rattle.shell_net.specs.Parts.{parts_of, has_begun}
-use Rattle.shell_net.specs.Machine.{input_of, MayCome}
+use Rattle.shell_net.specs.Machine.{input_of}
 use Rattle.shell_net.specs.Layout.{Layout, last_of, IsLaidOut, AreParts}
 use Rattle.shell_net.specs.Relation.{counts, signals, Relates}
 use Rattle.shell_net.proofs.Counting.{IsShape}
@@ -31,7 +31,6 @@ use Rattle.shell_net.proofs.Counting.{IsShape}
 pub record IsSeen (l : Layout) (d : Whole Part) (i : Inputs) (s : State) (ss : Part → Stored) (v : Env (Name Part)) : Type 0 where
   pub laid : IsLaidOut l
   pub parts : AreParts l d
-  pub come : MayCome l.build s i
   pub related : Relates l d s ss
   pub sees : Sees d (words_of i) ss v
   pub computed : PlacesCompute l.build s.frames 0 s.places

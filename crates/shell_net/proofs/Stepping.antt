@@ -19,13 +19,13 @@ use Rattle.ring_net.specs.Ring.{slot}
 use Rattle.ring_net.specs.Block.{code, Shows as ShowsControl}
 use Rattle.frame_net.specs.Frames.{Gathers}
 use Rattle.scatter_net.specs.Scatter.{last_name}
-use Rattle.pipe_core.specs.Machine.{Packet, State, place_at, inside, answers_by, first_answer, host_ready, is_calm, beat_over, shown_beat, taken_beat, clock, output}
+use Rattle.pipe_core.specs.Machine.{Packet, State, place_at, inside, answers_by, first_answer, is_calm, beat_over, shown_beat, taken_beat, clock, output}
 use Rattle.pipe_core.specs.History.{came_in}
 use Rattle.place_net.specs.Exit.{byte_numbers}
 use Rattle.shell_net.specs.declared.parts.Part.{Part}
 use Rattle.shell_net.specs.declared.parts.Part.TheVariants.{Scatter, Control, Gather, Exit}
 use Rattle.shell_net.specs.Parts.{outputs_of}
-use Rattle.shell_net.specs.Machine.{input_of, Shows, ShowsBeat}
+use Rattle.shell_net.specs.Machine.{input_of, MayCome, Shows, ShowsBeat}
 use Rattle.shell_net.specs.Layout.{Layout, last_of, outside}
 use Rattle.shell_net.specs.Relation.{IsStored, counts, signals, HoldsFrames, HoldsAnswers, no_answer, IsAt, Relates}
 use Rattle.shell_net.proofs.Moving.{none_swept, ends_with, Clocked, clocked}
@@ -98,94 +98,95 @@ module _ (l : Layout) (d : Whole Part) (i : Inputs) (s : State) (ss : Part → S
       sym (gathered_then l.shape l.build (shape_of l h.laid) given s i last last_right t change (places_length l d i s ss v h) packets)
       ∙ ap (λ b. counted b (counts given s).gathered) (ends_is l.shape l.build (shape_of l h.laid) given s i last ∙ e)
 
-  gathers : GatherStep l s i given (counts given s).gathered (counts then t).gathered (ss Gather) (next Gather)
-  gathers = gather_step l d i s ss v h last is_last (counts then t).gathered gathered_is
+  module _ (come : MayCome l.build s i) where
+    gathers : GatherStep l s i given (counts given s).gathered (counts then t).gathered (ss Gather) (next Gather)
+    gathers = gather_step l d i s ss v h come last is_last (counts then t).gathered gathered_is
 
-  abbrev out : ℕ
-  out = bit_of (is_some (place_at s.places (last_of l)))
+    abbrev out : ℕ
+    out = bit_of (is_some (place_at s.places (last_of l)))
 
-  answered_is : (counts given s).answered + out ≡ (counts then t).answered
-  answered_is =
-      let e = answered_then l.shape l.build (shape_of l h.laid) given s i last last_right t change (places_length l d i s ss v h) packets in
-      sym (counted_is _ (counts given s).answered ∙ ap (λ b. (counts given s).answered + bit_of b) (exits_is l.shape l.build (shape_of l h.laid) given s i last)) ∙ e
+    answered_is : (counts given s).answered + out ≡ (counts then t).answered
+    answered_is =
+        let e = answered_then l.shape l.build (shape_of l h.laid) given s i last last_right t change (places_length l d i s ss v h) packets in
+        sym (counted_is _ (counts given s).answered ∙ ap (λ b. (counts given s).answered + bit_of b) (exits_is l.shape l.build (shape_of l h.laid) given s i last)) ∙ e
 
-  frames_then : HoldsFrames l.kept l.shape.slots (next Gather).memories (counts then t).answered t.frames
-  frames_then =
-      let few : out ≤ length s.frames = (let e = leaves_inside s.places (last_of l) in let p = packets in omega (arith, e, p)) in
-      let f = frames_hold l.kept l.shape.slots (ss Gather).memories (next Gather).memories (counts given s).answered out s.frames (came_in s (input_of i) (beat_over l.build s (input_of i))) few h.related.frames
-      (λ k a low high. gathers.stays k a (omega (arith, low)) high)
-      (came_holds l.kept l.shape.slots (next Gather).memories (counts given s).gathered s (input_of i) (beat_over l.build s (input_of i)) gathers.came)
-      in
-      subst (λ n. HoldsFrames l.kept l.shape.slots (next Gather).memories n t.frames) answered_is (subst (HoldsFrames l.kept l.shape.slots (next Gather).memories ((counts given s).answered + out)) (sym change.frames) f)
+    frames_then : HoldsFrames l.kept l.shape.slots (next Gather).memories (counts then t).answered t.frames
+    frames_then =
+        let few : out ≤ length s.frames = (let e = leaves_inside s.places (last_of l) in let p = packets in omega (arith, e, p)) in
+        let f = frames_hold l.kept l.shape.slots (ss Gather).memories (next Gather).memories (counts given s).answered out s.frames (came_in s (input_of i) (beat_over l.build s (input_of i))) few h.related.frames
+        (λ k a low high. gathers.stays k a (omega (arith, low)) high)
+        (came_holds l.kept l.shape.slots (next Gather).memories (counts given s).gathered s (input_of i) (beat_over l.build s (input_of i)) gathers.came)
+        in
+        subst (λ n. HoldsFrames l.kept l.shape.slots (next Gather).memories n t.frames) answered_is (subst (HoldsFrames l.kept l.shape.slots (next Gather).memories ((counts given s).answered + out)) (sym change.frames) f)
 
-  -- ---- answers
-  module _ (laws : CellLaws) where
-    exits : ExitStep l s given (ss Exit) (next Exit)
-    exits = exit_step l d i s ss v h laws last shows
+    -- ---- answers
+    module _ (laws : CellLaws) where
+      exits : ExitStep l s given (ss Exit) (next Exit)
+      exits = exit_step l d i s ss v h laws last shows
 
-    abbrev more : List Answer
-    more = answers_by l.build.program s.frames (place_at s.places (last_of l))
+      abbrev more : List Answer
+      more = answers_by l.build.program s.frames (place_at s.places (last_of l))
 
-    old_hold : HoldsAnswers l.kept (byte_numbers l.answer) l.words l.shape.slots (next Gather).memories (next Exit).memories given s.answers
-    old_hold j lt =
-        let a = h.related.answers j lt in
-        record {
-          frame = a.frame;
-          held = gathers.stays (given + j) a.frame (omega arith) (omega (arith, lt)) a.held;
-          answer = exits.stays (given + j) (get_or s.answers j no_answer) (omega arith) (omega (arith, lt)) a.answer;
-          changes = a.changes;
-        }
+      old_hold : HoldsAnswers l.kept (byte_numbers l.answer) l.words l.shape.slots (next Gather).memories (next Exit).memories given s.answers
+      old_hold j lt =
+          let a = h.related.answers j lt in
+          record {
+            frame = a.frame;
+            held = gathers.stays (given + j) a.frame (omega arith) (omega (arith, lt)) a.held;
+            answer = exits.stays (given + j) (get_or s.answers j no_answer) (omega arith) (omega (arith, lt)) a.answer;
+            changes = a.changes;
+          }
 
-    new_hold : HoldsAnswers l.kept (byte_numbers l.answer) l.words l.shape.slots (next Gather).memories (next Exit).memories (given + length s.answers) more
-    new_hold = by (place_at s.places (last_of l)) refl
-      where
-        by : (o : Option Packet) → place_at s.places (last_of l) ≡ o → HoldsAnswers l.kept (byte_numbers l.answer) l.words l.shape.slots (next Gather).memories (next Exit).memories (given + length s.answers) (answers_by l.build.program s.frames o)
-        by None e j lt = absurd (omega arith)
-        by (Some x) e zero lt =
-            let z : given + length s.answers + 0 ≡ given + length s.answers = omega arith in
-            let some = leaves_inside s.places (last_of l) in
-            let one : out ≡ 1 = ap (λ o. bit_of (is_some o)) e in
-            let p = packets in
-            rw z (new_answer l d i s ss v h laws l.kept (next Gather).memories given exits (λ a f. gathers.stays (given + length s.answers) a (omega arith) (omega (arith, some, one, p)) f) h.related.frames x e p)
-        by (Some x) e (suc j) lt = absurd (omega arith)
+      new_hold : HoldsAnswers l.kept (byte_numbers l.answer) l.words l.shape.slots (next Gather).memories (next Exit).memories (given + length s.answers) more
+      new_hold = by (place_at s.places (last_of l)) refl
+        where
+          by : (o : Option Packet) → place_at s.places (last_of l) ≡ o → HoldsAnswers l.kept (byte_numbers l.answer) l.words l.shape.slots (next Gather).memories (next Exit).memories (given + length s.answers) (answers_by l.build.program s.frames o)
+          by None e j lt = absurd (omega arith)
+          by (Some x) e zero lt =
+              let z : given + length s.answers + 0 ≡ given + length s.answers = omega arith in
+              let some = leaves_inside s.places (last_of l) in
+              let one : out ≡ 1 = ap (λ o. bit_of (is_some o)) e in
+              let p = packets in
+              rw z (new_answer l d i s ss v h laws l.kept (next Gather).memories given exits (λ a f. gathers.stays (given + length s.answers) a (omega arith) (omega (arith, some, one, p)) f) h.related.frames x e p)
+          by (Some x) e (suc j) lt = absurd (omega arith)
 
-    all_hold : HoldsAnswers l.kept (byte_numbers l.answer) l.words l.shape.slots (next Gather).memories (next Exit).memories given (s.answers ++ more)
-    all_hold = more_answers l.kept (byte_numbers l.answer) l.words l.shape.slots (next Gather).memories (next Exit).memories given s.answers more old_hold new_hold
+      all_hold : HoldsAnswers l.kept (byte_numbers l.answer) l.words l.shape.slots (next Gather).memories (next Exit).memories given (s.answers ++ more)
+      all_hold = more_answers l.kept (byte_numbers l.answer) l.words l.shape.slots (next Gather).memories (next Exit).memories given s.answers more old_hold new_hold
 
-    abbrev gone : ℕ
-    gone = bit_of (ends_with (taken_beat s (input_of i)))
+      abbrev gone : ℕ
+      gone = bit_of (ends_with (taken_beat s (input_of i)))
 
-    answers_hold : HoldsAnswers l.kept (byte_numbers l.answer) l.words l.shape.slots (next Gather).memories (next Exit).memories then t.answers
-    answers_hold =
-        let e = given_then_is l.shape l.build (shape_of l h.laid) given s i last last_right t change (places_length l d i s ss v h) packets in
-        subst (λ n. HoldsAnswers l.kept (byte_numbers l.answer) l.words l.shape.slots (next Gather).memories (next Exit).memories n t.answers) (sym e)
-        (subst (HoldsAnswers l.kept (byte_numbers l.answer) l.words l.shape.slots (next Gather).memories (next Exit).memories (given + gone)) (sym change.answers)
-        (given_on l.kept (byte_numbers l.answer) l.words l.shape.slots (next Gather).memories (next Exit).memories given gone (s.answers ++ more) all_hold))
+      answers_hold : HoldsAnswers l.kept (byte_numbers l.answer) l.words l.shape.slots (next Gather).memories (next Exit).memories then t.answers
+      answers_hold =
+          let e = given_then_is l.shape l.build (shape_of l h.laid) given s i last last_right t change (places_length l d i s ss v h) packets in
+          subst (λ n. HoldsAnswers l.kept (byte_numbers l.answer) l.words l.shape.slots (next Gather).memories (next Exit).memories n t.answers) (sym e)
+          (subst (HoldsAnswers l.kept (byte_numbers l.answer) l.words l.shape.slots (next Gather).memories (next Exit).memories (given + gone)) (sym change.answers)
+          (given_on l.kept (byte_numbers l.answer) l.words l.shape.slots (next Gather).memories (next Exit).memories given gone (s.answers ++ more) all_hold))
 
-    some_bytes : AreSome (s.answers ++ more)
-    some_bytes j lt = let a = all_hold j lt in let f = a.held.frame.some in let c = a.changes.count in omega (arith, f, c)
+      some_bytes : AreSome (s.answers ++ more)
+      some_bytes j lt = let a = all_hold j lt in let f = a.held.frame.some in let c = a.changes.count in omega (arith, f, c)
 
-    position_then : IsAt t.pos t.answers
-    position_then =
-        subst (λ n. IsAt n t.answers) (sym change.pos) (subst (IsAt _) (sym change.answers) (position_step s.pos s.answers more i.out_ready h.related.position some_bytes))
+      position_then : IsAt t.pos t.answers
+      position_then =
+          subst (λ n. IsAt n t.answers) (sym change.pos) (subst (IsAt _) (sym change.answers) (position_step s.pos s.answers more i.out_ready h.related.position some_bytes))
 
-    scatter_then : (next Scatter).registers ≡ word 11 t.pos ∷ []
-    scatter_then = ap (λ (x : Stored). x.registers) (scatter_step l d i s ss v h last is_last shows) ∙ ap (λ n. word 11 n ∷ []) (sym change.pos)
+      scatter_then : (next Scatter).registers ≡ word 11 t.pos ∷ []
+      scatter_then = ap (λ (x : Stored). x.registers) (scatter_step l d i s ss v h last is_last shows) ∙ ap (λ n. word 11 n ∷ []) (sym change.pos)
 
-    pub related_then : StaysSound → AreFit v (outside l 0) → ((p : Part) → Among p d.parts → IsStored (d.block p) (next p)) → Relates l d t next
-    related_then stays fit stored = record {
-      given = then;
-      stored = stored;
-      sound = sound_then stays;
-      control = control_then;
-      gather = subst (λ o. Gathers l.shape.slot_bits l.kept o (slot l.shape.slots (counts then t).gathered) (next Gather)) (sym change.part) gathers.gathers;
-      frames = frames_then;
-      answers = answers_hold;
-      scatter = scatter_then;
-      position = position_then;
-      place = place_step l d i s ss v h laws (signals last s i) shows fit;
-      done = change.done;
-    }
+      pub related_then : StaysSound → AreFit v (outside l 0) → ((p : Part) → Among p d.parts → IsStored (d.block p) (next p)) → Relates l d t next
+      related_then stays fit stored = record {
+        given = then;
+        stored = stored;
+        sound = sound_then stays;
+        control = control_then;
+        gather = subst (λ o. Gathers l.shape.slot_bits l.kept o (slot l.shape.slots (counts then t).gathered) (next Gather)) (sym change.part) gathers.gathers;
+        frames = frames_then;
+        answers = answers_hold;
+        scatter = scatter_then;
+        position = position_then;
+        place = place_step l d i s ss v h laws (signals last s i) shows fit;
+        done = change.done;
+      }
 
   -- ---- what is shown
   abbrev at : ℕ → Word

@@ -11,6 +11,8 @@ use Rattle.block_core.specs.Parts.{stored_of}
 use Rattle.block_core.specs.Formed.{IsFormed}
 use Rattle.block_forms.specs.WellFormed.{IsSpelled}
 use Rattle.pipe_core.specs.Machine.{State, new_state, clock, output}
+use Rattle.pipe_core.specs.History.{Trace, IsInOrder}
+use Rattle.pipe_core.specs.Computed.{IsComputed}
 use Rattle.shell_net.specs.declared.parts.Part.{Part}
 use Rattle.shell_net.specs.Parts.{outputs_of}
 use Rattle.shell_net.specs.Machine.{input_of, MayCome, Shows}
@@ -32,6 +34,29 @@ pub record Follows (l : Layout) (d : Whole Part) (names : List (List ℕ)) (i : 
   pub next : Part → Stored
   pub after : after (design l d names) (words_of i) (stored_of d ss) ≡ stored_of d next
   pub related : Relates l d (clock l.build (input_of i) s) next
+
+-- Where the parts store what a state of the machine says, the outputs show what the machine does, whatever beat is offered.
+abbrev pub ClocksShow : Type 0
+ClocksShow =
+    (l : Layout) (d : Whole Part) (names : List (List ℕ)) → IsLaidOut l → AreParts l d
+    → (i : Inputs) (t : Trace) (ss : Part → Stored) → IsInOrder l.build t → IsComputed l.build t → Relates l d t.state ss
+    → Shows (output l.build (input_of i) t.state) (shown (design l d names) (words_of i) (stored_of d ss))
+
+-- And a clock in which only what may come does follows the machine.
+abbrev pub ClocksFollow : Type 0
+ClocksFollow =
+    (l : Layout) (d : Whole Part) (names : List (List ℕ)) → IsLaidOut l → AreParts l d
+    → (i : Inputs) (t : Trace) (ss : Part → Stored) → IsInOrder l.build t → IsComputed l.build t → MayCome l.build t.state i → Relates l d t.state ss
+    → Follows l d names i t.state ss
+
+-- The declared values of the design are what its parts store before the first clock, and that is what the machine's first state says.
+pub record BeginsRelated (l : Layout) (d : Whole Part) (names : List (List ℕ)) (maps : MapState) : Type 0 where
+  pub first : Part → Stored
+  pub stored : first_stored (design l d names) ≡ stored_of d first
+  pub related : Relates l d (new_state l.build maps) first
+
+abbrev pub BeginRelated : Type 0
+BeginRelated = (l : Layout) (d : Whole Part) (names : List (List ℕ)) (maps : MapState) → IsLaidOut l → AreParts l d → BeginsRelated l d names maps
 
 -- the same clock after clock, while only what may come does
 abbrev pub FollowsAll : Layout → Whole Part → List (List ℕ) → List Inputs → State → Stored → Type 0

@@ -18,7 +18,7 @@ use Rattle.net_core.specs.Clock.{Stored}
 use Rattle.net_core.specs.History.{Cycle, trace, stored_after, NeverStops, beats_in, offers_in, Arrival, arrivals, answers_given, open_beats, IsInput, IsSilent, Drive, Answered, drive}
 use Rattle.beat_core.specs.declared.answer.Answer.{Answer}
 use Rattle.host_history.specs.Host.{ShowsMaps}
-use Rattle.ehdl_build.specs.Bounds.{clock_bound, clock_bound_apart, most_beats}
+use Rattle.realization.specs.Bounds.{clock_bound, clock_bound_apart, most_beats}
 
 -- Clocks with the host silent and offers well formed: each beat that goes over has 8 bytes unless it is a last one with 1 to 8,
 -- and a frame has at least one beat and no more than the bound.
@@ -71,6 +71,11 @@ pub record IsWhole (d : Netlist) (s : Stored) (is : List Inputs) (r : Drive) (pa
   pub all : wanted packets (answers_given [] (trace d s is ++ r.trace)) maps
   pub shown : ShowsMaps d (stored_after d (stored_after d s is) (inputs_in r.trace)) maps
 
+-- what stands beside an offered beat fits its ports
+pub record IsBeside (o : Offered) : Type 0 where
+  pub ifindex : o.ifindex < 2 ^ 32
+  pub time : o.time < 2 ^ 64
+
 -- A design that holds these values answers as is wanted, with so many stages and record sites. Packets are apart where their runs,
 -- which touch this, do not conflict.
 pub record Meets (d : Netlist) (s : Stored) (wanted : List Arrival → List Answer → MapState → Type 0) (apart : List Arrival → List Touched → Type 0) (stages records : ℕ) : Type 0 where
@@ -85,8 +90,8 @@ pub record Meets (d : Netlist) (s : Stored) (wanted : List Arrival → List Answ
       apart packets ts → clock_bound_apart stages (frames_in packets) ts ≤ limit →
       IsWhole d s [] (drive d s (all_offers packets) (length packets) limit) packets wanted
   -- The same from every state that a pattern leads to, by which some of these packets' beats went over. Bytes that do not count are
-  -- not asked, nor what stood beside a beat that is no first one.
-  pub late : (is : List Inputs) (packets : List Arrival) (left : List Offered) (limit : ℕ) → IsPattern d s is → AllByRecursion IsPacket packets →
+  -- not asked, nor which numbers stand beside a beat that is no first one.
+  pub late : (is : List Inputs) (packets : List Arrival) (left : List Offered) (limit : ℕ) → IsPattern d s is → AllByRecursion IsPacket packets → AllByRecursion IsBeside left →
       map_list filled_up (beats_in (trace d s is)) ++ beats_offered left ≡ flat_map beats_of (frames_in packets) →
       arrivals_among None (offers_in (trace d s is) ++ left) ≡ packets →
       clock_bound (length packets + 1) stages (most_beats (frames_in packets)) records ≤ limit →
