@@ -1,5 +1,5 @@
 -- What cells and sites keep to, whatever their values are.
-use Rattle.std.specs.Prelude.{ℕ, ◌≡◌, ◌+◌, ◌*◌, ◌<◌, ◌≤◌, Bool, true, false, Some, List, length, slice_index, All}
+use Rattle.std.specs.Prelude.{ℕ, ◌≡◌, ◌+◌, ◌*◌, ◌<◌, ◌≤◌, Bool, true, false, Some, List, [], length, slice_index, All}
 use Rattle.std.proofs.Common.{get_or}
 use Rattle.xdp_maps.specs.declared.decl.MapDecl.{MapDecl}
 use Rattle.xdp_maps.specs.Calls.{change_bytes}
@@ -33,8 +33,17 @@ takes (Answer site) = 0
 takes Pending = 0
 takes op = 2
 
--- the numbers of an operator are in their ranges
+-- what comes with a packet takes no cells, not even for its row
+abbrev pub AreInputs : Operator → List ℕ → Type 0
+AreInputs (Byte i) ins = ins ≡ []
+AreInputs Length ins = ins ≡ []
+AreInputs Ifindex ins = ins ≡ []
+AreInputs Time ins = ins ≡ []
+AreInputs op ins = Unit {0}
+
+-- the numbers of an operator are in their ranges; of a frame only the first 256 bytes are operators
 abbrev pub IsInRange : Operator → Type 0
+IsInRange (Byte i) = i < 256
 IsInRange (Join bits) = bits ≤ 63
 IsInRange (SignExtend bits) = (1 ≤ bits) × (bits ≤ 64)
 IsInRange op = Unit {0}
@@ -56,6 +65,7 @@ pub record IsSome (cells : List CellView) (d : ℕ) : Type 0 where
 pub record IsFormed (cells : List CellView) (k : ℕ) : Type 0 where
   pub earlier : All (λ i. i < k) (cell_at cells k).ins
   pub enough : takes (cell_at cells k).op ≤ length (cell_at cells k).ins
+  pub inputs : AreInputs (cell_at cells k).op (cell_at cells k).ins
   pub in_range : IsInRange (cell_at cells k).op
   pub width : (cell_at cells k).width ≤ 64
   pub from : (cell_at cells k).from ≤ 63

@@ -9,7 +9,7 @@ use Rattle.xdp_machine.specs.State.{PacketIn}
 use Rattle.cell_core.specs.declared.cell.Cell.{Cell}
 use Rattle.cell_core.specs.declared.operator.Operator.{Operator}
 use Rattle.cell_core.specs.Cells.{CellView, IsRun, no_cell, cell_at, is_read, site_in, value, Solves_as}
-use Rattle.cell_core.specs.Formed.{AreFormed, IsFormed, IsSome, takes, divides, IsInRange}
+use Rattle.cell_core.specs.Formed.{AreFormed, IsFormed, IsSome, takes, divides, AreInputs, IsInRange}
 use Rattle.cell_core.specs.View.{cell_of}
 use Rattle.operator_cells.specs.Making.{seen, Adds, GrowsWith, Grows, Makes, operated}
 use Rattle.operator_cells.proofs.MakingLaws as law
@@ -27,6 +27,7 @@ one-longer cells cell = length-append cells (cell ∷ [])
 pub record IsNext (cells : List CellView) (cell : CellView) : Type 0 where
   pub earlier : All (λ i. i < length cells) cell.ins
   pub enough : takes cell.op ≤ length cell.ins
+  pub inputs : AreInputs cell.op cell.ins
   pub in_range : IsInRange cell.op
   pub width : cell.width ≤ 64
   pub from : cell.from ≤ 63
@@ -51,6 +52,7 @@ formed-old : (cells : List CellView) (cell : CellView) (k : ℕ) → AreFormed c
 formed-old cells cell k formed h = let e = old-cell cells cell k h in let f = formed.each k h in record {
   earlier = subst (λ (c : CellView). All (λ i. i < k) c.ins) (sym e) f.earlier;
   enough = subst (λ (c : CellView). takes c.op ≤ length c.ins) (sym e) f.enough;
+  inputs = subst (λ (c : CellView). AreInputs c.op c.ins) (sym e) f.inputs;
   in_range = subst (λ (c : CellView). IsInRange c.op) (sym e) f.in_range;
   width = subst (λ (c : CellView). c.width ≤ 64) (sym e) f.width;
   from = subst (λ (c : CellView). c.from ≤ 63) (sym e) f.from;
@@ -70,6 +72,7 @@ formed-new : (cells : List CellView) (cell : CellView) → AreFormed cells → I
 formed-new cells cell formed n = let e = new-cell cells cell in record {
   earlier = subst (λ (c : CellView). All (λ i. i < length cells) c.ins) (sym e) n.earlier;
   enough = subst (λ (c : CellView). takes c.op ≤ length c.ins) (sym e) n.enough;
+  inputs = subst (λ (c : CellView). AreInputs c.op c.ins) (sym e) n.inputs;
   in_range = subst (λ (c : CellView). IsInRange c.op) (sym e) n.in_range;
   width = subst (λ (c : CellView). c.width ≤ 64) (sym e) n.width;
   from = subst (λ (c : CellView). c.from ≤ 63) (sym e) n.from;

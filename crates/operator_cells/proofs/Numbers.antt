@@ -13,7 +13,7 @@ use Rattle.xdp_machine.proofs.NumberLaws.{widened}
 use Rattle.cell_core.specs.declared.operator.Operator.TheVariants as op
 use Rattle.cell_core.specs.Cells.{CellView, IsRun, cell_at, number, bits_from, is_read}
 use Rattle.cell_core.specs.CellLaws.{ValuesFit}
-use Rattle.cell_core.specs.Formed.{AreFormed, takes, divides, IsInRange}
+use Rattle.cell_core.specs.Formed.{AreFormed, takes, divides, AreInputs, IsInRange}
 use Rattle.operator_cells.specs.Making.{operator_of, is_one}
 
 pub from_zero : (n w : ℕ) → bits_from n 0 w ≡ low w n
@@ -94,6 +94,14 @@ operator_undivided alu.Mul = refl
 operator_undivided alu.Or = refl
 operator_undivided alu.Xor = refl
 operator_undivided c = refl
+
+pub operator_inputs : (c : AluCode) (ins : List ℕ) → AreInputs (operator_of c) ins
+operator_inputs alu.Add ins = tt
+operator_inputs alu.Sub ins = tt
+operator_inputs alu.Mul ins = tt
+operator_inputs alu.Or ins = tt
+operator_inputs alu.Xor ins = tt
+operator_inputs c ins = tt
 
 pub operator_in_range : (c : AluCode) → IsInRange (operator_of c)
 operator_in_range alu.Add = tt

@@ -2,7 +2,7 @@
 
 ghost use Rattle.std.specs.Prelude.{ℕ, ◌≡◌, ◌<◌, ◌≤◌, false, [], ◌∷◌, length, All, IfOk, max, ◌+◌};
 ghost use Rattle.cell_core.specs.Cells.{is_read, bit, is_heavy};
-ghost use Rattle.cell_core.specs.Formed.{takes, divides, IsInRange, IsSome};
+ghost use Rattle.cell_core.specs.Formed.{takes, divides, AreInputs, IsInRange, IsSome};
 ghost use Rattle.xdp_machine.specs.Arithmetic.{low};
 ghost use Rattle.operator_cells.specs.Making.{seen, Adds, Makes, GrowsWith, Grows, operated};
 ghost use Rattle.operator_cells.specs.Dividing.{some, divided, divider};
@@ -47,11 +47,13 @@ pub fn operate(
 ) -> Result<u32, AllocError>
     requires earlier { All (λ i. i < length (seen cells.old.items)) ins.now }
     requires enough { takes op ≤ length ins.now }
+    requires inputs { AreInputs op ins.now }
     requires in_range { IsInRange op }
     requires plain { is_read op ≡ false }
     requires undivided { divides op ≡ false }
     requires from { from ≤ 63 }
     requires width { width ≤ 64 }
+    ensures adds { IfOk result (λ c. Adds (seen cells.old.items) (seen cells.new.items) c (record { op = op; ins = ins.now; width = width; from = from })) }
     ensures makes { IfOk result (λ c. Makes (seen cells.old.items) (seen cells.new.items) c (operated op ins.now from width)) }
     ensures rises { IfOk result (λ c. Rises (seen cells.old.items) (seen cells.new.items) c (λ row. greatest row ins.now + bit (is_heavy op))) }
 {
@@ -107,6 +109,7 @@ pub fn slice(cells: &mut Vec<Cell>, a: u32, from: u32, width: u32) -> Result<u32
     requires there { a < length (seen cells.old.items) }
     requires from { from ≤ 63 }
     requires width { width ≤ 64 }
+    ensures adds { IfOk result (λ c. Adds (seen cells.old.items) (seen cells.new.items) c (record { op = Operator.Wire; ins = a ∷ []; width = width; from = from })) }
     ensures makes { IfOk result (λ c. Makes (seen cells.old.items) (seen cells.new.items) c (operated Operator.Wire (a ∷ []) from width)) }
     ensures rises { IfOk result (λ c. Rises (seen cells.old.items) (seen cells.new.items) c (λ row. row a)) }
 {

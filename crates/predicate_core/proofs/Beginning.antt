@@ -18,15 +18,18 @@ use Rattle.held_cells.specs.Held.{PointerView, pointed}
 use Rattle.site_cells.specs.Sited.{sited}
 use Rattle.program_graph.specs.Sound.{IsSoundGraph}
 use Rattle.predicate_core.specs.declared.making.Progress.{Progress}
+use Rattle.predicate_core.specs.Buildable.{AddsNoRow}
 use Rattle.predicate_core.specs.Making.{IsSoFar}
 use Rattle.predicate_core.specs.Opening.{HaveBytes, Opens, OpensFollow}
 use Rattle.predicate_core.specs.Feeding.{AreFed, FeedsNodes}
 use Rattle.predicate_core.specs.Progress.{entries_of, pending_of, targets, AreNumbers, AreFirst, AreWaiting, AreKept, IsReady}
+use Rattle.predicate_core.proofs.LastRow.{no_row_then}
 use Rattle.predicate_core.proofs.Progressing.{bytes_behind}
 
-pub opens_later : (a b c : List CellView) (e : Way) → Opens a b e → Grows b c → Opens a c e
-opens_later a b c e opens g = record {
+pub opens_later : (a b c : List CellView) (e : Way) → Opens a b e → Grows b c → AddsNoRow b c → Opens a c e
+opens_later a b c e opens g no_row = record {
   grows = grown opens.grows g;
+  no_row = no_row_then a b c g opens.no_row no_row;
   to_first = opens.to_first;
   kinds_are = opens.kinds_are;
   bit_there = omega (arith, opens.bit_there, g.longer);

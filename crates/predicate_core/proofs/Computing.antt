@@ -1,5 +1,5 @@
 -- Cells of all nodes, and of the answer, compute the runs of a program.
-use Rattle.std.proofs.Common.{◌≡◌, ℕ, zero, suc, ◌+◌, ◌≤◌, ◌==◌, true, List, [], length, get_or, refl, sym, ◌∙◌, ap, subst, arith}
+use Rattle.std.proofs.Common.{◌≡◌, ℕ, zero, suc, ◌+◌, ◌≤◌, ◌<◌, ◌==◌, true, false, Some, List, [], length, get_or, refl, sym, ◌∙◌, ap, subst, arith}
 use Rattle.std.specs.Prelude.{All}
 use Rattle.std.proofs.lemmas.Bool.Decides.{nat_tests}
 use Rattle.std.proofs.lemmas.List.{append-nil}
@@ -7,15 +7,22 @@ use Rattle.std.proofs.lemmas.List.Elements.{All-nil, All-filter, filter_passes}
 use Rattle.xdp_maps.specs.State.{MapState, IsSound}
 use Rattle.xdp_machine.specs.State.{PacketIn, start}
 use Rattle.xdp_machine.specs.Runs.{Leaves}
+use Rattle.xdp_machine.specs.MachineLaws.{StartsInRange, RunsLeaveInRange, LeavesInRange}
 use Rattle.xdp_machine.specs.Touched as machine
 use Rattle.cell_core.specs.declared.program.FrameByte.{FrameByte}
-use Rattle.cell_core.specs.Cells.{CellView, IsRun, bit, on}
+use Rattle.bpf_isa.specs.Spelling.{IsInsn}
+use Rattle.cell_core.specs.declared.operator.Operator.{Operator}
+use Rattle.cell_core.specs.declared.operator.Operator.TheVariants.{Found, Answer}
+use Rattle.cell_core.specs.Cells.{CellView, IsRun, cell_at, is_read, site_in, bit, on}
+use Rattle.cell_core.specs.Rows.{last_row}
 use Rattle.cell_core.specs.Sites.{SiteView, ProgramView, IsCellRun, after, leaves, touched, with_bytes}
 use Rattle.operator_cells.proofs.MakingLaws.{reads_none}
+use Rattle.operator_cells.proofs.RisingLaws.{rows_before}
 use Rattle.held_cells.specs.declared.held.Held.{Held}
 use Rattle.held_cells.specs.Paths.{GraphView, Stage, At, Over, Nowhere, before, stands_at, maps_in}
 use Rattle.held_cells.specs.Steps.{ReadsOwn, IsGood, IsLeft}
 use Rattle.held_cells.specs.Law.{IsPacket, AreAnswered, IsRight, made_at, sites_below, sites_at, Computes, IsLaw}
+use Rattle.predicate_core.specs.Buildable.{IsBuildable}
 use Rattle.predicate_core.specs.Making.{Making, IsSoFar, IsCase, Answers, made_alone, held_in}
 use Rattle.predicate_core.specs.Laws.{WholesCompute}
 use Rattle.predicate_core.proofs.SiteLists.{below_all, below_none}
@@ -23,8 +30,8 @@ use Rattle.predicate_core.proofs.Cases.{read_older, case_fewer}
 use Rattle.predicate_core.proofs.Sited.{below_cells, sited_more}
 use Rattle.predicate_core.proofs.Tracing.{Comes, comes_first, comes_more}
 
-module _ (g : GraphView) (hs : List Held) (t : Making) (cells : List CellView) (verdict target : ℕ) (frame : List FrameByte)
-    (so_far : IsSoFar g (length g.nodes) hs t) (answers : Answers t.cells cells t.exits verdict target frame) where
+module _ (starts : StartsInRange) (leave : RunsLeaveInRange) (g : GraphView) (hs : List Held) (t : Making) (cells : List CellView) (verdict target : ℕ) (frame : List FrameByte)
+    (legal : All IsInsn g.code.insns) (so_far : IsSoFar g (length g.nodes) hs t) (answers : Answers t.cells cells t.exits verdict target frame) where
   abbrev pub p : ProgramView
   p = record { cells = cells; nodes = t.nodes; sites = t.sites; verdict = verdict; target = target; frame = frame }
 
@@ -94,7 +101,7 @@ module _ (g : GraphView) (hs : List Held) (t : Making) (cells : List CellView) (
       by Nowhere e good c same = absurd (good.somewhere refl)
       by (Over e) at good c same =
           let x = good.ended e refl in
-          let l = answers.leaves packet v e is ran left x in
+          let l = answers.leaves packet v e is (leave g.code packet maps e legal (starts packet maps is.bytes (omega (arith, is.short)) is.ifindex is.time sound) (c.0, c.1)) ran left x in
           let maps_are : after v maps t.sites ≡ e.maps = ap (after v maps) (sym all) ∙ same in
           let left_is : leaves v packet maps p ≡ e =
           ap (λ (n : ℕ). record { verdict = n; target = v target; frame = with_bytes v packet.frame frame; maps = after v maps t.sites }) l.0
@@ -134,5 +141,24 @@ module _ (g : GraphView) (hs : List Held) (t : Making) (cells : List CellView) (
     sited = sited_more g.decls (made_alone t) p [] (reads_none (ReadsOwn t.sites t.sites) t.cells cells answers.grows) (sym (append-nil t.sites)) (All-nil _) (below_cells g (length g.nodes) t so_far.laid) so_far.sited;
   }
 
-pub wholes_compute : WholesCompute
-wholes_compute g hs t cells verdict target frame so_far answers = law g hs t cells verdict target frame so_far answers
+  no_reads : t.sites ≡ [] → (k : ℕ) → k < length cells → is_read (cell_at cells k).op ≡ false
+  no_reads none k l = by (cell_at cells k).op (λ j reads. let b = law.sited.known k j l reads in omega (arith, b, ap length none))
+    where
+      by : (op : Operator) → ((j : ℕ) → site_in op ≡ Some j → ⊥) → is_read op ≡ false
+      by (Found j) h = absurd (h j refl)
+      by (Answer j) h = absurd (h j refl)
+      by op h = refl
+
+  pub buildable : IsBuildable p
+  buildable = record {
+    verdict = answers.verdict_is;
+    target = answers.target_is;
+    bytes = answers.bytes;
+    ascending = answers.ascending;
+    rows = λ row rows. answers.no_row row (last_row row t.nodes) rows (so_far.rows row (rows_before (λ k j. ⊥) t.cells cells answers.grows row rows));
+    no_reads = no_reads;
+  }
+
+pub wholes_compute : StartsInRange → RunsLeaveInRange → WholesCompute
+wholes_compute starts leave g hs t cells verdict target frame legal so_far answers =
+    (law starts leave g hs t cells verdict target frame legal so_far answers, buildable starts leave g hs t cells verdict target frame legal so_far answers)

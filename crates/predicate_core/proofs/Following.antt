@@ -1,5 +1,5 @@
 -- From one node to the next.
-use Rattle.std.proofs.Common.{◌≡◌, ℕ, suc, ◌+◌, ◌<◌, ◌≤◌, ◌⊎◌, inl, inr, List, [], ◌∷◌, ◌++◌, length, length-append, sym, ◌∙◌, ap, subst, arith}
+use Rattle.std.proofs.Common.{◌≡◌, ℕ, suc, ◌+◌, ◌<◌, ◌≤◌, ◌⊎◌, inl, inr, List, [], ◌∷◌, ◌++◌, length, length-append, refl, sym, ◌∙◌, ap, subst, arith}
 use Rattle.std.specs.Prelude.{All}
 use Rattle.std.proofs.Math.ListN.{get_or-append}
 use Rattle.std.proofs.Math.Seq.{get_or-append_seam}
@@ -23,6 +23,7 @@ use Rattle.edge_cells.specs.Meeting.{Extends}
 use Rattle.edge_cells.proofs.ExtendingLaws.{extended, inside_later}
 use Rattle.predicate_core.specs.Making.{Making, IsSoFar, IsCase, AreRight, Arrives, made_alone, no_held, held_in}
 use Rattle.predicate_core.specs.Laws.{NodesFollow, made_next}
+use Rattle.predicate_core.proofs.LastRow.{rows_more}
 use Rattle.predicate_core.proofs.Later.{held_later, good_later}
 use Rattle.predicate_core.proofs.SiteLists.{below_all, below_more, at_more, at_new}
 use Rattle.predicate_core.proofs.Cases.{case_older, case_fewer, all_read}
@@ -138,6 +139,7 @@ module _ (g : GraphView) (k : ℕ) (hs : List Held) (t : Making) (cells cells2 :
         (λ j l. inside_later g.decls (length t.cells) (length cells2) t.pointers ps2 (held_in hs j) (node_at g.nodes j).kinds grows.longer extends (so_far.inside j l))
         (inside_later g.decls (length cells) (length cells2) ps ps2 h (node_at g.nodes k).kinds s.grows.longer more arrives.inside);
     laid = laid_more g k guard t cells2 ps2 sites2 s.more ways exits so_far.laid arrives.own.0 (omega (arith, arrives.own.1, s.grows.longer)) grows.longer s.sites_are s.own s.below;
+    rows = rows_more reads t.cells cells2 t.nodes (made_next g k guard t.cells cells2) refl refl grows so_far.rows;
     sited = sited_more g.decls (made_alone t) (made_alone u) s.more grows s.sites_are s.fits (below_cells g k t so_far.laid) so_far.sited;
     right = right;
   }

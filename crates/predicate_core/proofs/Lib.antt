@@ -1,3 +1,4 @@
+pub mod LastRow
 pub mod Later
 pub mod SiteLists
 pub mod Cases

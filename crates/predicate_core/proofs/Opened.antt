@@ -20,6 +20,7 @@ use Rattle.kind_core.specs.Describes.{StartIsDescribed}
 use Rattle.cell_core.specs.declared.operator.Operator.TheVariants.{Constant, Byte}
 use Rattle.cell_core.specs.Cells.{CellView, IsRun, bits_from, bit, on}
 use Rattle.operator_cells.specs.Making.{Grows, Makes, operated}
+use Rattle.operator_cells.specs.Rising.{Rises}
 use Rattle.operator_cells.proofs.MakingLaws.{grown, grown_none}
 use Rattle.held_cells.specs.declared.held.Held.{Held}
 use Rattle.held_cells.specs.declared.way.Way.{Way}
@@ -28,12 +29,14 @@ use Rattle.held_cells.specs.Held.{PointerView, Holds, Counts, AreInside}
 use Rattle.held_cells.specs.Carrying.{IsKnown}
 use Rattle.held_cells.specs.Steps.{Leads, IsGood}
 use Rattle.held_cells.specs.Law.{IsPacket}
+use Rattle.predicate_core.specs.Buildable.{AddsNoRow}
 use Rattle.predicate_core.specs.Making.{Making, IsSoFar, IsCase}
 use Rattle.predicate_core.specs.Opening.{HaveBytes, AreBytes, Opens, OpensFollow}
+use Rattle.predicate_core.proofs.LastRow.{no_row_none, no_row_then, no_row_more}
 
 -- ---- bytes
 
-byte_below : (xs : List ℕ) (i : ℕ) → All (λ b. b < 256) xs → slice_index xs i < 256
+pub byte_below : (xs : List ℕ) (i : ℕ) → All (λ b. b < 256) xs → slice_index xs i < 256
 byte_below xs i h = by (cases_lt i (length xs))
   where
     by : (i < length xs) ⊎ (length xs ≤ i) → slice_index xs i < 256
@@ -44,11 +47,16 @@ eight : (x : ℕ) → x < 256 → bits_from x 0 8 ≡ x
 eight x h = omega (arith, h)
 
 pub bytes_none : (cells : List CellView) (window : List ℕ) → AreBytes cells cells 0 window
-bytes_none cells window = record { grows = grown_none; bytes = record { there = λ i l. absurd (omega (arith, l)); value = λ packet v i l. absurd (omega (arith, l)) } }
+bytes_none cells window = record { grows = grown_none; no_row = no_row_none cells; bytes = record { there = λ i l. absurd (omega (arith, l)); value = λ packet v i l. absurd (omega (arith, l)) } }
 
-pub bytes_more : (old mid new : List CellView) (n : ℕ) (window : List ℕ) (c : ℕ) → n < length window → AreBytes old mid n window → Makes mid new c (operated (Byte n) [] 0 8) → AreBytes old new (n + 1) (slice_set window n c)
-bytes_more old mid new n window c inside bytes made = record {
+first_row : (a b : List CellView) (c : ℕ) → Rises a b c (λ row. 0) → AddsNoRow a b
+first_row a b c rises = no_row_more a b (λ row. 0) rises.grows (λ row n low. omega arith)
+
+pub bytes_more : (old mid new : List CellView) (n : ℕ) (window : List ℕ) (c : ℕ) → n < length window → AreBytes old mid n window → Makes mid new c (operated (Byte n) [] 0 8) → Rises mid new c (λ row. 0)
+    → AreBytes old new (n + 1) (slice_set window n c)
+bytes_more old mid new n window c inside bytes made rises = record {
   grows = grown bytes.grows made.grows;
+  no_row = no_row_then old mid new made.grows bytes.no_row (first_row mid new c rises);
   bytes = record { there = λ i l. there i l (cases_lt i n); value = λ packet v i l. value packet v i l (cases_lt i n) };
 }
   where
@@ -73,10 +81,11 @@ bytes_later a b n window g h = record { there = λ i l. omega (arith, h.there i 
 
 -- ---- the edge to the first node
 
-pub opened : (a b c d : List CellView) (bit target : ℕ) (k : Kinds) (held : Held) → k ≡ kinds.start → Makes a b bit (operated (Constant 1) [] 0 1) → AreBytes b c 256 held.window → Makes c d target (operated (Constant 0) [] 0 32) → held.target ≡ target
-    → Opens a d (record { to = 0; bit = bit; kinds = k; held = held })
-opened a b c d bit target k held first one bytes zeros is = record {
+pub opened : (a b c d : List CellView) (bit target : ℕ) (k : Kinds) (held : Held) → k ≡ kinds.start → Makes a b bit (operated (Constant 1) [] 0 1) → Rises a b bit (λ row. 0) → AreBytes b c 256 held.window → Makes c d target (operated (Constant 0) [] 0 32) → Rises c d target (λ row. 0)
+    → held.target ≡ target → Opens a d (record { to = 0; bit = bit; kinds = k; held = held })
+opened a b c d bit target k held first one one_row bytes zeros zeros_row is = record {
   grows = grown one.grows (grown bytes.grows zeros.grows);
+  no_row = no_row_then a c d zeros.grows (no_row_then a b c bytes.grows (first_row a b bit one_row) bytes.no_row) (first_row c d target zeros_row);
   to_first = refl;
   kinds_are = first;
   bit_there = omega (arith, one.there, bytes.grows.longer, zeros.grows.longer);
@@ -185,6 +194,7 @@ module _ (described : StartIsDescribed) (starts : StartsInRange) (g : GraphView)
       guards = All-nil _;
       below = All-nil _;
     };
+    rows = λ row rows c l. opens.no_row row 0 rows (λ k m. absurd (omega (arith, m))) c l;
     right = record {
       guards = λ packet maps v j l. absurd (omega (arith, l));
       holds = λ packet maps v j m l. absurd (omega (arith, l));

@@ -1,5 +1,6 @@
 -- From one node to the next, and what follows for all of them.
-use Rattle.std.specs.Prelude.{ℕ, ◌+◌, List, [], ◌∷◌, ◌++◌, length}
+use Rattle.std.specs.Prelude.{ℕ, ◌+◌, List, [], ◌∷◌, ◌++◌, length, All}
+use Rattle.bpf_isa.specs.Spelling.{IsInsn}
 use Rattle.cell_core.specs.declared.program.Node.{Node}
 use Rattle.cell_core.specs.declared.program.FrameByte.{FrameByte}
 use Rattle.cell_core.specs.Cells.{CellView}
@@ -12,6 +13,7 @@ use Rattle.held_cells.specs.Paths.{GraphView, node_at}
 use Rattle.held_cells.specs.Held.{PointerView}
 use Rattle.held_cells.specs.Steps.{Steps}
 use Rattle.held_cells.specs.Law.{IsLaw}
+use Rattle.predicate_core.specs.Buildable.{IsBuildable}
 use Rattle.predicate_core.specs.Making.{Making, IsSoFar, Arrives, Answers}
 
 -- the node that has been made behind others
@@ -38,9 +40,10 @@ StepsStay =
     (g : GraphView) (k guard : ℕ) (h : Held) (cells cells2 cells3 : List CellView) (ps ps2 : List PointerView) (sites sites2 : List SiteView) (ways ways2 : List Way) (exits exits2 : List Exit)
     → Steps g k guard h cells cells2 ps ps2 sites sites2 ways ways2 exits exits2 → Grows cells2 cells3 → Steps g k guard h cells cells3 ps ps2 sites sites2 ways ways2 exits exits2
 
--- Once all nodes are done, and the cells of the answer are there, the law of cells holds of them.
+-- Once all nodes are done, and the cells of the answer are there, the law of cells holds of them, and they can be built.
 abbrev pub WholesCompute : Type 0
 WholesCompute =
     (g : GraphView) (hs : List Held) (t : Making) (cells : List CellView) (verdict target : ℕ) (frame : List FrameByte)
-    → IsSoFar g (length g.nodes) hs t → Answers t.cells cells t.exits verdict target frame
+    → All IsInsn g.code.insns → IsSoFar g (length g.nodes) hs t → Answers t.cells cells t.exits verdict target frame
     → IsLaw g (record { cells = cells; nodes = t.nodes; sites = t.sites; verdict = verdict; target = target; frame = frame })
+    × IsBuildable (record { cells = cells; nodes = t.nodes; sites = t.sites; verdict = verdict; target = target; frame = frame })

@@ -1,3 +1,4 @@
+pub mod Buildable
 pub mod Making
 pub mod Laws
 pub mod Opening

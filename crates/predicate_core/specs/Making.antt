@@ -4,12 +4,14 @@ use Rattle.std.specs.List.{AllPairs}
 use Rattle.xdp_maps.specs.State.{MapState, IsSound}
 use Rattle.xdp_machine.specs.State.{Machine, PacketIn}
 use Rattle.xdp_machine.specs.Runs.{Leaves}
+use Rattle.xdp_machine.specs.MachineLaws.{LeavesInRange}
 use Rattle.xdp_machine.specs.Touched as machine
 use Rattle.cell_core.specs.declared.program.Node.{Node}
 use Rattle.cell_core.specs.declared.program.FrameByte.{FrameByte}
 use Rattle.cell_core.specs.Cells.{CellView, IsRun, cell_at, site_in, bits_from, bit, on}
 use Rattle.cell_core.specs.Sites.{SiteView, ProgramView, site_at, after, read_on, with_bytes}
 use Rattle.cell_core.specs.Formed.{AreFormed, AreSited, IsBelow}
+use Rattle.cell_core.specs.Rows.{AreRows, last_row}
 use Rattle.operator_cells.specs.Making.{Grows}
 use Rattle.held_cells.specs.declared.held.Held.{Held}
 use Rattle.held_cells.specs.declared.way.Way.{Way}
@@ -19,6 +21,7 @@ use Rattle.held_cells.specs.Held.{PointerView, AreInside, AreHeld}
 use Rattle.held_cells.specs.Steps.{IsGood, IsHere, AreMade, IsLeft, DoAs}
 use Rattle.held_cells.specs.Law.{IsPacket, made_at, sites_below, sites_at}
 use Rattle.edge_cells.specs.Meeting.{Extends}
+use Rattle.predicate_core.specs.Buildable.{HasBits, AddsNoRow}
 
 -- cells, pointers and sites of the nodes that are done, and these nodes; the edges that lead from them to others, and their ends
 pub record Making : Type 0 where
@@ -83,6 +86,7 @@ pub record IsSoFar (g : GraphView) (k : ℕ) (hs : List Held) (t : Making) : Typ
   pub held_count : length hs ≡ k
   pub inside : (j : ℕ) → j < k → AreInside g.decls (length t.cells) t.pointers (held_in hs j) (node_at g.nodes j).kinds
   pub laid : AreLaid g k t
+  pub rows : (row : ℕ → ℕ) → AreRows t.cells row → (c : ℕ) → c < length t.cells → row c ≤ last_row row t.nodes
   pub sited : AreSited g.decls (made_alone t)
   pub right : AreRight g k hs t
 
@@ -97,6 +101,11 @@ pub record Arrives (g : GraphView) (k : ℕ) (t : Making) (cells : List CellView
 -- More cells behind all nodes, and those of the answer: where the ends that are on hold what a packet leaves, so do these.
 pub record Answers (old new : List CellView) (exits : List Exit) (verdict target : ℕ) (frame : List FrameByte) : Type 0 where
   pub grows : Grows old new
-  pub leaves : (packet : PacketIn) (v : ℕ → ℕ) (e : Leaves) → IsPacket packet → IsRun packet new v → All (λ x. on (v x.guard) ≡ true → IsLeft packet v x e) exits
+  pub no_row : AddsNoRow old new
+  pub verdict_is : HasBits new 32 verdict
+  pub target_is : HasBits new 32 target
+  pub bytes : All (λ b. (b.at < 256) × HasBits new 8 b.cell) frame
+  pub ascending : AllPairs (λ a b. a.at < b.at) frame
+  pub leaves : (packet : PacketIn) (v : ℕ → ℕ) (e : Leaves) → IsPacket packet → LeavesInRange e → IsRun packet new v → All (λ x. on (v x.guard) ≡ true → IsLeft packet v x e) exits
       → (x : Exit) × Contains exits x × (on (v x.guard) ≡ true)
       → (v verdict ≡ e.verdict) × (v target ≡ e.target) × (with_bytes v packet.frame frame ≡ e.frame)

@@ -7,6 +7,7 @@ use Rattle.cell_core.specs.Cells.{CellView, IsRun}
 use Rattle.operator_cells.specs.Making.{Grows}
 use Rattle.held_cells.specs.declared.way.Way.{Way}
 use Rattle.held_cells.specs.Paths.{GraphView, node_at}
+use Rattle.predicate_core.specs.Buildable.{AddsNoRow}
 use Rattle.predicate_core.specs.Making.{IsSoFar}
 
 -- these cells are the first n of the first 256 bytes of the packet
@@ -16,11 +17,13 @@ pub record HaveBytes (cells : List CellView) (n : ℕ) (window : List ℕ) : Typ
 
 pub record AreBytes (old new : List CellView) (n : ℕ) (window : List ℕ) : Type 0 where
   pub grows : Grows old new
+  pub no_row : AddsNoRow old new
   pub bytes : HaveBytes new n window
 
 -- The edge to the first node, which is on: registers and slots hold nothing but what their kinds say, and no redirect has been.
 pub record Opens (old new : List CellView) (e : Way) : Type 0 where
   pub grows : Grows old new
+  pub no_row : AddsNoRow old new
   pub to_first : e.to ≡ 0
   pub kinds_are : e.kinds ≡ kinds.start
   pub bit_there : e.bit < length new

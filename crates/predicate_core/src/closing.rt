@@ -1,16 +1,20 @@
 //! What a packet leaves, behind all nodes.
 
-ghost use Rattle.std.specs.Prelude.{◌≡◌, ◌<◌, false, length, slice_index, IfOk, All};
+ghost use Rattle.std.specs.Prelude.{◌≡◌, ◌<◌, ◌≤◌, ◌^◌, false, length, slice_index, IfOk, All};
+ghost use Rattle.xdp_machine.specs.Arithmetic.{low};
 ghost use Rattle.cell_core.specs.Formed.{AreFormed};
-ghost use Rattle.operator_cells.specs.Making.{seen, Makes};
+ghost use Rattle.cell_core.specs.Cells.{cell_at};
+ghost use Rattle.operator_cells.specs.Making.{seen, Makes, MakesIf};
+ghost use Rattle.held_cells.specs.Held.{number_of, IsThere};
+ghost use Rattle.predicate_core.specs.Buildable.{HasBits, AddsNoRow};
 ghost use Rattle.predicate_core.specs.Making.{Answers};
 ghost use Rattle.predicate_core.specs.Opening.{HaveBytes};
-ghost use Rattle.predicate_core.specs.Closing.{output_of, IsOutput, EndIsThere, AreOutputs, Outputs, AreFrameBytes};
+ghost use Rattle.predicate_core.specs.Closing.{output_of, bits_of, IsOutput, EndIsThere, AreOutputs, Outputs, OutputsWithin, AreFrameBytes};
 
 use cell_core::cell::Cell;
 use cell_core::program::FrameByte;
-use held_cells::operand::number_cell;
 use held_cells::way::Exit;
+use kind_core::Number;
 use operator_cells::cells::{constant, slice};
 use operator_cells::joining::{Arm, choose};
 use operator_cells::laws::choice_is_right;
@@ -34,16 +38,34 @@ pub struct Answer {
     pub frame: Vec<FrameByte>,
 }
 
+// The low 32 bits of a number.
+fn low_word(cells: &mut Vec<Cell>, number: Number, held: u32) -> Result<u32, AllocError>
+    requires { IsThere (length (seen cells.old.items)) number held }
+    ensures makes { IfOk result (λ c. Makes (seen cells.old.items) (seen cells.new.items) c (λ packet v. low 32 (number_of v number held))) }
+    ensures no_row { IfOk result (λ c. AddsNoRow (seen cells.old.items) (seen cells.new.items)) }
+{
+    match number {
+        Number::Known(n) => {
+            let c = constant(cells, n, 32)?;
+            Ok(c)
+        }
+        Number::Unknown => {
+            let c = slice(cells, held, 0, 32)?;
+            Ok(c)
+        }
+    }
+}
+
 // What an end holds of a part of the answer.
 fn held_of(cells: &mut Vec<Cell>, exit: &Exit, output: Output) -> Result<u32, AllocError>
     requires output { IsOutput output }
     requires there { EndIsThere (length (seen cells.old.items)) exit.now }
-    ensures { IfOk result (λ c. Makes (seen cells.old.items) (seen cells.new.items) c (λ packet v. output_of v output exit.now)) }
+    ensures makes { IfOk result (λ c. Makes (seen cells.old.items) (seen cells.new.items) c (λ packet v. output_of v output exit.now)) }
+    ensures no_row { IfOk result (λ c. AddsNoRow (seen cells.old.items) (seen cells.new.items)) }
 {
     match output {
         Output::Verdict => {
-            let number = number_cell(cells, exit.verdict, exit.held.registers[0])?;
-            let c = slice(cells, number, 0, 32)?;
+            let c = low_word(cells, exit.verdict, exit.held.registers[0])?;
             Ok(c)
         }
         Output::Target => Ok(exit.held.target),
@@ -68,8 +90,8 @@ fn outputs(cells: &mut Vec<Cell>, exits: &[Exit], output: Output) -> Result<Vec<
     Ok(arms)
 }
 
-// A part of the answer.
-fn output_cell(cells: &mut Vec<Cell>, exits: &[Exit], output: Output) -> Result<u32, AllocError>
+// A part of the answer, in a cell of any width.
+fn whole_output(cells: &mut Vec<Cell>, exits: &[Exit], output: Output) -> Result<u32, AllocError>
     requires formed { AreFormed (seen cells.old.items) }
     requires output { IsOutput output }
     requires there { All (EndIsThere (length (seen cells.old.items))) exits.now }
@@ -82,6 +104,52 @@ fn output_cell(cells: &mut Vec<Cell>, exits: &[Exit], output: Output) -> Result<
         return Ok(c);
     }
     let c = choose(cells, &arms)?;
+    Ok(c)
+}
+
+// How many bits a part of the answer has at most.
+fn bits_of(output: Output) -> u32
+    ensures { result ≡ bits_of output }
+{
+    match output {
+        Output::Verdict | Output::Target => 32,
+        Output::Byte(_) => 8,
+    }
+}
+
+// The width of a cell.
+fn width_of(cells: &[Cell], cell: u32) -> u32
+    requires { cell < length (seen cells.now) }
+    ensures { result ≡ (cell_at (seen cells.now) cell).width }
+{
+    cells[cell as usize].width
+}
+
+// The same number in a cell of at most so many bits, if it fits: where the cell has more, its low ones.
+fn narrow(cells: &mut Vec<Cell>, cell: u32, bits: u32) -> Result<u32, AllocError>
+    requires there { cell < length (seen cells.old.items) }
+    requires bits { bits ≤ 64 }
+    ensures makes { IfOk result (λ c. MakesIf (seen cells.old.items) (seen cells.new.items) c (λ v. v cell < 2 ^ bits) (λ packet v. v cell)) }
+    ensures is { IfOk result (λ c. HasBits (seen cells.new.items) bits c) }
+    ensures no_row { IfOk result (λ c. AddsNoRow (seen cells.old.items) (seen cells.new.items)) }
+{
+    let width = width_of(cells, cell);
+    if width <= bits {
+        return Ok(cell);
+    }
+    let c = slice(cells, cell, 0, bits)?;
+    Ok(c)
+}
+
+// A part of the answer.
+fn output_cell(cells: &mut Vec<Cell>, exits: &[Exit], output: Output) -> Result<u32, AllocError>
+    requires formed { AreFormed (seen cells.old.items) }
+    requires output { IsOutput output }
+    requires there { All (EndIsThere (length (seen cells.old.items))) exits.now }
+    ensures { IfOk result (λ c. OutputsWithin (seen cells.old.items) (seen cells.new.items) exits.now output c) }
+{
+    let whole = whole_output(cells, exits, output)?;
+    let c = narrow(cells, whole, bits_of(output))?;
     Ok(c)
 }
 

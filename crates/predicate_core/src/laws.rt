@@ -28,10 +28,13 @@ pub fn steps_stay()
 {}
 
 /// Once all nodes are done, and the cells of the answer are there, the law of cells holds of them: they compute the runs of the program, for
-/// every prefix of its nodes.
+/// every prefix of its nodes. And they can be built.
 pub fn wholes_compute()
     ensures { WholesCompute }
-{}
+{
+    xdp_machine::laws::starts_in_range();
+    xdp_machine::laws::runs_leave_in_range();
+}
 
 /// In a graph as unfolding gives it an edge leads to each node when its turn comes, and what is known there says no more than what is known on
 /// the edge.

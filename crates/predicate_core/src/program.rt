@@ -6,6 +6,7 @@ ghost use Rattle.operator_cells.specs.Making.{seen, Grows};
 ghost use Rattle.held_cells.specs.Law.{IsLaw};
 ghost use Rattle.unfold_core.specs.Unfolding.{IsUnfolded};
 ghost use Rattle.program_graph.specs.Graphs.{graph_of};
+ghost use Rattle.predicate_core.specs.Buildable.{AddsNoRow, IsBuildable};
 ghost use Rattle.predicate_core.specs.Progress.{AreFirst, AreWaiting, IsReady};
 
 use crate::closing::close;
@@ -37,6 +38,7 @@ fn insn_at(units: &[Option<Insn>], place: u32) -> Insn
 // For each map a cell of no writes.
 fn unwritten(cells: &mut Vec<Cell>, maps: usize) -> Result<Vec<u32>, AllocError>
     ensures grows { IfOk result (λ row. Grows (seen cells.old.items) (seen cells.new.items)) }
+    ensures no_row { IfOk result (λ row. AddsNoRow (seen cells.old.items) (seen cells.new.items)) }
     ensures waiting { IfOk result (λ row. AreWaiting maps (length (seen cells.new.items)) row.items) }
 {
     let mut all = Vec::new(*cells.allocator());
@@ -124,16 +126,20 @@ fn make_nodes(
     Ok(())
 }
 
-/// The cells of a program that unfolds: the law of cells holds of them, for its graph.
+/// The cells of a program that unfolds: the law of cells holds of them, for its graph, and they can be built: the answer's have its widths, and
+/// none stands in a later row than the last of a node.
 pub fn to_cells(
     alloc: Global,
     program: &Program,
     unfolded: &Unfolded,
 ) -> Result<CellProgram, AllocError>
     requires { IsUnfolded program.now unfolded.now }
-    ensures { IfOk result (λ cells. IsLaw (graph_of program.now unfolded.now) (program_of cells)) }
+    ensures law { IfOk result (λ cells. IsLaw (graph_of program.now unfolded.now) (program_of cells)) }
+    ensures buildable { IfOk result (λ cells. IsBuildable (program_of cells)) }
 {
     wholes_compute();
+    // A program is one.
+    let _maps = program.decls();
     let mut progress = begin(alloc, program, unfolded)?;
     make_nodes(alloc, program, unfolded, &mut progress)?;
     let window = progress.window;

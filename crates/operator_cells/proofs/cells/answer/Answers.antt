@@ -7,6 +7,7 @@ pub returns-clause-grows : goal.returns-clause-grows
 returns-clause-grows c = added_grows _ _ _ _ c.args.site c.in_ok-c.ensures (record {
   earlier = c.requires.earlier;
   enough = omega arith;
+  inputs = tt;
   in_range = tt;
   width = c.requires.width;
   from = omega arith;

@@ -7,6 +7,7 @@ pub returns-clause-grows : goal.returns-clause-grows
 returns-clause-grows c = (added_makes _ _ _ _ c.in_ok-c.ensures (record {
   earlier = c.requires;
   enough = omega arith;
+  inputs = tt;
   in_range = tt;
   width = omega arith;
   from = omega arith;

@@ -1,10 +1,5 @@
-use Rattle.std.proofs.Common.{List, subst}
-use Rattle.operator_cells.specs.declared.joining.Arm.{Arm}
-use Rattle.operator_cells.specs.Making.{seen, Makes}
-use Rattle.operator_cells.specs.Joining.{chosen}
-use Rattle.predicate_core.proofs.Closed.{outputs_chosen}
+use Rattle.predicate_core.proofs.Closed.{outputs_within}
 use Rattle.predicate_core.proofs.closing.output_cell.Goals as goal
 
 pub returns : goal.returns
-returns c = outputs_chosen c.choice_is_right.ensures _ _ _ _ _ _ _ c.in_ok-arms.ensures
-    (subst (λ (xs : List Arm). Makes (seen c.outputs.new.cells.items) (seen c.choose.new.cells.items) c.in_ok-c-2.c (λ packet v. chosen v xs)) c.deref.ensures.value c.in_ok-c-2.ensures.makes)
+returns c = outputs_within _ _ _ _ _ _ _ _ c.bits_of.ensures c.in_ok-whole.ensures c.in_ok-c.ensures.makes c.in_ok-c.ensures.is c.in_ok-c.ensures.no_row

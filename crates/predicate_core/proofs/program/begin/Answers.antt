@@ -16,7 +16,7 @@ pub returns : goal.returns
 returns c =
     let sound : IsSoundGraph (graph_of c.args.program.now c.args.unfolded.now) = c.graphs_are_sound.ensures c.args.program.now c.args.unfolded.now c.decls.ensures.program c.requires in
     let opens : Opens [] (seen c.unwritten.new.cells.items) c.in_ok-start.start = opens_later [] (seen c.open.new.cells.items) (seen c.unwritten.new.cells.items) c.in_ok-start.start
-    (subst (λ (xs : List CellView). Opens xs (seen c.open.new.cells.items) c.in_ok-start.start) (ap seen c.new-cells.ensures.items ∙ seen_none) c.in_ok-start.ensures) c.in_ok-none.ensures.grows in
+    (subst (λ (xs : List CellView). Opens xs (seen c.open.new.cells.items) c.in_ok-start.start) (ap seen c.new-cells.ensures.items ∙ seen_none) c.in_ok-start.ensures) c.in_ok-none.ensures.grows c.in_ok-none.ensures.no_row in
     ready_first c.opens_follow.ensures (graph_of c.args.program.now c.args.unfolded.now) c.in_ok-start.start
     (record { made = record { cells = c.unwritten.new.cells; pointers = c.new.result; sites = c.new-2.result; ways = c.push.new.self; exits = c.new-3.result }; nodes = c.new-4.result; entries = c.in_ok-first_entries.field-0; pending = c.push-2.new.self; window = c.in_ok-start.start.held.window })
     c.in_ok-none.none.items sound (c.sound_graphs_feed.ensures (graph_of c.args.program.now c.args.unfolded.now) sound) opens (ap pointed c.new.ensures.items ∙ pointed_none) (ap sited c.new-2.ensures.items ∙ sited_none)
