@@ -5,7 +5,7 @@ use Rattle.std.proofs.lemmas.Bool.{eqb-true, eqb-false}
 use Rattle.std.proofs.lemmas.List.{length_push}
 use Rattle.std.proofs.lemmas.List.Elements.{Contains-append_left, Contains-push, Contains-push_cases, Contains-get_or, All-contains, recursion_from_All}
 use Rattle.cell_core.specs.declared.operator.Operator.{Operator}
-use Rattle.cell_core.specs.declared.operator.Operator.TheVariants.{Constant, Byte, Length, Ifindex, Time, Wire, Later, Join, SignExtend, Not, And, Or, Xor, Any, Select, Phi, Difference, Quotient, Remainder, Add, Sub, Mul, ShiftLeft, ShiftRight, Equal, Less, LessOrEqual, NonZero, Found, Answer, Pending}
+use Rattle.cell_core.specs.declared.operator.Operator.TheVariants.{Byte}
 use Rattle.cell_core.specs.Cells.{CellView, cell_at}
 use Rattle.frame_net.specs.declared.held.Kept.{Kept}
 use Rattle.frame_net.specs.declared.held.Kept.TheVariants.{Word}
@@ -90,36 +90,7 @@ module _ (cells : List CellView) (listed : List ℕ) where
   -- ---- all of it
   word_small : (op : Operator) (j : ℕ) → IsInWindow op → kept_for op ≡ Some (Word j) → j < 32
   word_small (Byte i) j w e = let s : i / 8 ≡ j = cc in omega (arith, s, w)
-  word_small Length j w e = cc
-  word_small Ifindex j w e = cc
-  word_small Time j w e = cc
-  word_small (Constant n) j w e = cc
-  word_small Wire j w e = cc
-  word_small Later j w e = cc
-  word_small (Join bits) j w e = cc
-  word_small (SignExtend bits) j w e = cc
-  word_small Not j w e = cc
-  word_small And j w e = cc
-  word_small Or j w e = cc
-  word_small Xor j w e = cc
-  word_small Any j w e = cc
-  word_small Select j w e = cc
-  word_small Phi j w e = cc
-  word_small Difference j w e = cc
-  word_small Quotient j w e = cc
-  word_small Remainder j w e = cc
-  word_small Add j w e = cc
-  word_small Sub j w e = cc
-  word_small Mul j w e = cc
-  word_small ShiftLeft j w e = cc
-  word_small ShiftRight j w e = cc
-  word_small Equal j w e = cc
-  word_small Less j w e = cc
-  word_small LessOrEqual j w e = cc
-  word_small NonZero j w e = cc
-  word_small (Found site) j w e = cc
-  word_small (Answer site) j w e = cc
-  word_small Pending j w e = cc
+  word_small op j w e = cc
 
   abbrev pub AnyKept : Kept → Type 0
   AnyKept x = (Words 32 x ⊎ (x ≡ kept.Ifindex)) ⊎ (x ≡ kept.Time)
