@@ -20,6 +20,9 @@ stands_inside [] k a s = cc
 stands_inside (x ∷ table) zero a s = omega arith
 stands_inside (x ∷ table) (suc k) a s = omega (arith, stands_inside table k a s)
 
+pub mapped_in : {X Y : Type 0} (f : X → Y) (xs : List X) (x : X) → Contains xs x → Contains (map f xs) (f x)
+mapped_in f xs x (i, lt, e) = (i, omega (arith, lt, length-map xs f), get_or-map f xs i x (f x) lt ∙ ap f e)
+
 -- ---- a word of which a byte may change
 pub any_word : (frame : List FrameByte) (word i : ℕ) (d : FrameByte) → i < length frame → (get_or frame i d).at / 8 ≡ word → has_byte frame word ≡ true
 any_word frame word i d lt e =
