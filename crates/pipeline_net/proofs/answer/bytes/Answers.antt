@@ -11,5 +11,7 @@ loop-byte-preserved c =
     let i = c.loop-byte.byte-index in
     let before = c.loop-byte.invariant in
     let items = sym c.in_ok-push.ensures.items in
-    (subst (All (IsByteIn table frame)) items (bytes_more table frame i _ c.loop-byte.all.items _ (omega arith) refl c.operand-operand.ensures before.0),
-     subst (λ l. map byte_number l ≡ map (λ y. y.at) (take (i + 1) frame)) items (byte_numbers_more frame i _ c.loop-byte.all.items _ (omega arith) refl before.1))
+    record {
+      inside = subst (All (IsByteIn table frame)) items (bytes_more table frame i _ c.loop-byte.all.items _ (omega arith) refl c.operand-operand.ensures before.inside);
+      numbers = subst (λ l. map byte_number l ≡ map (λ y. y.at) (take (i + 1) frame)) items (byte_numbers_more frame i _ c.loop-byte.all.items _ (omega arith) refl before.numbers);
+    }
