@@ -24,7 +24,7 @@ use Rattle.kind_core.specs.declared.why.BuildError.{BuildError}
 use Rattle.kind_core.specs.declared.why.BuildError.TheVariants as build
 use Rattle.unfold_core.specs.Acceptance.{IsAccepted, IsFirstRefusal}
 use Rattle.realization.specs.Bounds.{AreApart}
-use Rattle.ehdl_build.specs.Products.{products_apart}
+use Rattle.product_rules.specs.Products.{products_apart}
 use Rattle.realization.specs.Realizes.{Meets}
 
 -- what is run of a program
