@@ -1,1 +1,4 @@
-pub mod Compiled
+pub mod Buildable
+pub mod Sequential
+pub mod Realized
+pub mod Outcomes

@@ -21,12 +21,12 @@ use Rattle.pipeline_net.specs.Pipeline.{IsPipeline}
 use Rattle.pipeline_runs.specs.Answered.{AreAnswered}
 use Rattle.pipeline_runs.specs.Meeting.{Always, PipelinesMeet}
 use Rattle.realization.specs.Realizes.{IsPacket, Meets}
-use Rattle.realization.specs.Laws.{MeetsMore}
+use Rattle.realization.proofs.MeetsLaws.{meets_more}
 use Rattle.ehdl_build.specs.Compiled.{PipelineSize, IsSequential, DoNotConflict, AreMapsOf, Realizes}
 use Rattle.ehdl_build.specs.Steps.{IsPipelineOf}
 use Rattle.ehdl_build.proofs.Sequential.{in_sequence}
 
-module _ (meet : PipelinesMeet) (more : MeetsMore) (p : XdpProgram) (z : PipelineSize) (n : Netlist) (program : IsProgram p) (none : p.decls ≡ []) (is : IsPipelineOf p z.stages n) where
+module _ (meet : PipelinesMeet) (p : XdpProgram) (z : PipelineSize) (n : Netlist) (program : IsProgram p) (none : p.decls ≡ []) (is : IsPipelineOf p z.stages n) where
   no_maps : (maps : MapState) → AreMapsOf p maps → NoMapsNoClocks maps
   no_maps maps are = need_no_clocks maps are.sound (are.declared ∙ none)
 
@@ -47,7 +47,7 @@ module _ (meet : PipelinesMeet) (more : MeetsMore) (p : XdpProgram) (z : Pipelin
       let slots : made.layout.build.slots ≡ is.plan.last + 4 = ap (λ (b : Build). b.slots) made.build in
       let last : last_of made.layout ≡ is.plan.last = ap (λ (b : Build). b.plan.last) made.build in
       subst (λ (m : Netlist). Meets m (first_stored m) (IsSequential p maps) (DoNotConflict p maps z.stages) z.stages z.records) (sym made.is)
-      (more d (first_stored d) (AreAnswered made.layout.build.program maps) (IsSequential p maps) Always (DoNotConflict p maps z.stages) (last_of made.layout) z.stages 0 z.records
+      (meets_more d (first_stored d) (AreAnswered made.layout.build.program maps) (IsSequential p maps) Always (DoNotConflict p maps z.stages) (last_of made.layout) z.stages 0 z.records
       (wanted maps are) (λ packets ts apart. tt) (omega (arith, last, is.planned.within)) (omega arith)
       (meet made.layout made.whole (names_of made.whole) made.laid_out made.parts (omega (arith, slots, last)) maps are.sound (are.declared ∙ none)))
 

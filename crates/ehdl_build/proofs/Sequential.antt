@@ -2,6 +2,7 @@
 use Rattle.std.specs.Prelude.{◌≡◌, ℕ, ◌<◌, ◌×◌, All, List, [], ◌∷◌, length, slice_index_or}
 use Rattle.std.specs.List.{AllByRecursion}
 use Rattle.std.proofs.Common.{get_or, refl, sym, ap, ap₂, subst, ◌∙◌, arith}
+use Rattle.std.proofs.lemmas.List.{get_or_default}
 use Rattle.beat_core.specs.declared.answer.Answer.{Answer}
 use Rattle.beat_core.specs.Ports.{Arrival}
 use Rattle.list_laws.specs.Bytes.{IsBytes}
@@ -23,7 +24,7 @@ use Rattle.pipeline_runs.specs.Answered.{IsAnswered, AreAnswered}
 use Rattle.ehdl_build.specs.Compiled.{code_of, packets_in, answer_of, IsSequential}
 
 all_bytes : (xs : List ℕ) → IsBytes xs → All (λ b. b < 256) xs
-all_bytes xs h k d lt = ?
+all_bytes xs h k d lt = omega (arith, h k, get_or_default xs k d 0 lt)
 
 is_packet : (a : Arrival) → IsPacket a → cell.IsPacket (packet_of a)
 is_packet a h = record { some = h.frame.some; short = h.frame.room; bytes = all_bytes a.frame h.frame.bytes; ifindex = h.ifindex; time = h.time }

@@ -1,2 +1,2 @@
-pub mod Packets
-pub mod More
+pub mod PacketLaws
+pub mod MeetsLaws

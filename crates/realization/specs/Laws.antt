@@ -16,7 +16,7 @@ PatternsBringPackets = (d : Netlist) (s : Stored) (is : List Inputs) → IsPatte
 
 -- What a design meets it meets, too, where no more is wanted of packets, fewer of them count as apart, and more stages and record sites
 -- are counted.
-abbrev pub MeetsMore : Type 0
+abbrev pub MeetsMore : Type 1
 MeetsMore =
     (d : Netlist) (s : Stored) (wanted wider : List Arrival → List Answer → MapState → Type 0) (apart closer : List Arrival → List Touched → Type 0)
     (stages more_stages records more_records : ℕ)

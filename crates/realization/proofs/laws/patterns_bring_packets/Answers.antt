@@ -1,4 +1,4 @@
-use Rattle.realization.proofs.Packets.{patterns_bring_packets}
+use Rattle.realization.proofs.PacketLaws.{patterns_bring_packets}
 use Rattle.realization.proofs.laws.patterns_bring_packets.Goals as goal
 
 pub returns : goal.returns

@@ -1,12 +1,12 @@
 -- The frames that well-formed beats make, under numbers that fit their ports, are packets.
-use Rattle.std.specs.Prelude.{◌≡◌, ℕ, zero, suc, ◌*◌, ◌^◌, ◌<◌, ◌≤◌, min, if◌then◌else◌, Bool, true, false, Option, Some, None, List, [], ◌∷◌, ◌++◌, length}
+use Rattle.std.specs.Prelude.{◌≡◌, ℕ, zero, suc, ◌*◌, ◌^◌, ◌<◌, min, if◌then◌else◌, Bool, true, false, Option, Some, None, List, [], ◌∷◌, ◌++◌, length}
 use Rattle.std.specs.List.{AllByRecursion}
 use Rattle.std.proofs.Common.{refl, arith, length-append}
 use Rattle.beat_core.specs.declared.beat.Beat.{Beat}
-use Rattle.beat_core.specs.declared.frame.TheConstants.{FRAME_LIMIT, BEAT_LIMIT}
+use Rattle.beat_core.specs.declared.frame.TheConstants.{BEAT_LIMIT}
 use Rattle.beat_core.specs.Beats.{bytes_of_beat, IsOffer}
 use Rattle.beat_core.specs.Clocks.{AreOffers}
-use Rattle.beat_core.specs.Ports.{Offered, offered, Arrival, arrived, arrivals_among}
+use Rattle.beat_core.specs.Ports.{offered, Arrival, arrived, arrivals_among}
 use Rattle.beat_core.proofs.BeatLaws.{IsOffer-count, IsOffer-eight}
 use Rattle.beat_core.proofs.WordLaws.{length-low_bytes, IsBytes-low_bytes}
 use Rattle.list_laws.specs.Bytes.{IsBytes}
@@ -15,7 +15,7 @@ use Rattle.net_core.specs.Nets.{Netlist}
 use Rattle.net_core.specs.Clock.{Stored, after}
 use Rattle.net_core.specs.Ports.{words_of}
 use Rattle.net_core.specs.History.{Cycle, cycle_of, trace, goes_in, offered_beat, beats_in, offers_in, IsInput}
-use Rattle.realization.specs.Realizes.{IsPacket, IsPattern}
+use Rattle.realization.specs.Realizes.{IsPacket}
 use Rattle.realization.specs.Laws.{PatternsBringPackets}
 
 bytes_append : (xs ys : List ℕ) → IsBytes xs → IsBytes ys → IsBytes (xs ++ ys)
