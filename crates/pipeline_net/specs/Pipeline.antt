@@ -22,9 +22,12 @@ use Rattle.shell_net.specs.Following.{design, names_of}
 abbrev pub slots_of : Plan → ℕ
 slots_of plan = plan.last + 4
 
--- the most that there may be room for
+-- the most bits that the number of a slot has, and the most slots
+abbrev pub most_bits : ℕ
+most_bits = 5
+
 abbrev pub most_slots : ℕ
-most_slots = 32
+most_slots = 2 ^ most_bits
 
 -- ---- programs
 

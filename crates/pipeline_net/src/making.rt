@@ -14,7 +14,7 @@ ghost use Rattle.ring_net.specs.declared.names.Wire.TheVariants as wire;
 ghost use Rattle.shell_net.specs.declared.parts.Part.TheVariants as shell;
 ghost use Rattle.shell_net.specs.Parts.{told_by, next_slot};
 ghost use Rattle.pipeline_net.specs.declared.error.PipelineError.TheVariants as error;
-ghost use Rattle.pipeline_net.specs.Pipeline.{IsForPipeline, IsPipeline, slots_of, most_slots};
+ghost use Rattle.pipeline_net.specs.Pipeline.{IsForPipeline, IsPipeline, slots_of, most_bits, most_slots};
 ghost use Rattle.pipeline_net.specs.Draft.{IsDraft, changed_words};
 ghost use Rattle.pipeline_net.specs.Places.{IsAnswerOf};
 ghost use Rattle.pipeline_net.specs.Fronts.{read_by_control, AreFronts, AreAllParts};
@@ -76,7 +76,7 @@ fn scatter_block(
     answer: &Outputs<Name<Part>>,
 ) -> Result<Block<Name<Part>>, AllocError>
     requires some { 1 ≤ bits }
-    requires most { bits ≤ 5 }
+    requires most { bits ≤ most_bits }
     requires few { length words.now ≤ 255 }
     requires covered { (b : ℕ) → Contains (byte_numbers answer.now) b → Contains words.now (b / 8) }
     ensures { IfOk result (λ b. IsScatter shell.Scatter shell.Gather shell.Exit bits kept.now words.now (byte_numbers answer.now) (told_by wire.Taken) (next_slot Given) (block_of b)) }
@@ -115,7 +115,7 @@ fn fronts(
     words: &[u8],
     answer: &Outputs<Name<Part>>,
 ) -> Result<Vec<Placed<Part>>, AllocError>
-    requires narrow { shape.now.slot_bits ≤ 5 }
+    requires narrow { shape.now.slot_bits ≤ most_bits }
     requires kept { length kept.now ≤ 255 }
     requires beats { AllByRecursion IsKept kept.now }
     requires few { length words.now ≤ 255 }
@@ -187,7 +187,7 @@ fn parts(
 ) -> Result<Vec<Placed<Part>>, AllocError>
     requires program { IsForPipeline (program_of program.now) plan.now }
     requires draft { IsDraft (program_of program.now) draft.now }
-    requires narrow { shape.now.slot_bits ≤ 5 }
+    requires narrow { shape.now.slot_bits ≤ most_bits }
     requires words { words.now ≡ changed_words program.now.frame.items }
     requires few { length words.now ≤ 32 }
     ensures { IfOk result (λ r. AreAllParts (program_of program.now) plan.now draft.now shape.now words.now r.items) }
@@ -206,7 +206,7 @@ fn shape(plan: &RowPlan) -> ControlShape
     ensures slots { result.slots ≡ slots_of plan.now }
     ensures stages { result.stages ≡ plan.now.last }
     ensures commit { result.commit ≡ plan.now.commit }
-    ensures narrow { result.slot_bits ≤ 5 }
+    ensures narrow { result.slot_bits ≤ most_bits }
 {
     ControlShape::new(plan.rows() + 4, plan.rows(), plan.commit_row())
 }
