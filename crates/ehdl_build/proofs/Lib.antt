@@ -1,4 +1,5 @@
 pub mod Buildable
+pub mod Beyond
 pub mod Sequential
 pub mod Realized
 pub mod Outcomes

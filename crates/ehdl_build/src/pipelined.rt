@@ -33,11 +33,15 @@ fn planned(alloc: Global, cells: &CellProgram, stages: u32) -> Result<RowPlan, C
     ensures plan { IfOk result (IsPlanWithin stages (program_of cells.now)) }
     ensures beyond { IfErr result (FailsBecause (GoBeyond stages (program_of cells.now))) }
 {
-    match plan(alloc, cells) {
-        Ok(plan) if plan.rows() <= stages => Ok(plan),
-        Ok(_) | Err(BuildError::Refused(_)) => Err(CompileError::NoPipeline),
-        Err(BuildError::NoMemory) => Err(CompileError::NoMemory),
+    let plan = match plan(alloc, cells) {
+        Ok(plan) => plan,
+        Err(BuildError::Refused(_)) => return Err(CompileError::NoPipeline),
+        Err(BuildError::NoMemory) => return Err(CompileError::NoMemory),
+    };
+    if plan.rows() > stages {
+        return Err(CompileError::NoPipeline);
     }
+    Ok(plan)
 }
 
 // The pipeline of planned cells, with products apart.
@@ -50,8 +54,9 @@ fn linked(alloc: Global, cells: &CellProgram, plan: &RowPlan) -> Result<Design, 
     let design = match pipeline(alloc, cells, plan) {
         Ok(design) => design,
         Err(PipelineError::TooManySlots) => return Err(CompileError::NoPipeline),
-        // As many nets are want of memory, too.
-        Err(PipelineError::TooMany | PipelineError::NoMemory) => return Err(CompileError::NoMemory),
+        // 2^32 nets are want of memory, too.
+        Err(PipelineError::TooMany) => return Err(CompileError::NoMemory),
+        Err(PipelineError::NoMemory) => return Err(CompileError::NoMemory),
     };
     if are_products_apart(alloc, &design)? {
         Ok(design)
