@@ -3,3 +3,4 @@ pub mod Beyond
 pub mod Sequential
 pub mod Realized
 pub mod Outcomes
+pub mod Lacking
