@@ -1,14 +1,4 @@
-pub mod Flows
-pub mod Histories
-pub mod Clocks
-pub mod Made
-pub mod Holds
-pub mod Prefixes
-pub mod Refined
-pub mod LoopStep
-pub mod Drives
-pub mod Bounds
+pub mod Buildable
+pub mod Sequential
 pub mod Realized
-pub mod Texts
-pub mod Formed
-pub mod Compiled
+pub mod Outcomes

@@ -1,3 +1,3 @@
-pub mod StoreAndForward
-pub mod StoreAndForwardNetlist
+pub mod Pipelines
 pub mod Compiled
+pub mod Steps
