@@ -1,5 +1,5 @@
 -- What holds of the bytes that an error is answered for, and that no other error was to come.
-use Rattle.std.specs.Prelude.{◌≡◌, ◌≢◌, ◌⊎◌, ◌×◌, Err, IsErrOf, ℕ, List, []}
+use Rattle.std.specs.Prelude.{◌≡◌, ◌≢◌, ◌⊎◌, ◌×◌, Result, Ok, Err, IfErr, IsErrAnd, IsErrOf, ℕ, List, []}
 use Rattle.std.proofs.Common.{refl, sym, ap, subst, inl, inr, ◌∙◌}
 use Rattle.xdp_machine.specs.Program.{XdpProgram}
 use Rattle.xdp_object.specs.declared.error.ObjectError.{ObjectError}
@@ -24,6 +24,11 @@ use Rattle.ehdl_build.specs.declared.built.CompileError.TheVariants.{Object, Ref
 use Rattle.ehdl_build.specs.Pipelines.{IsNotBuilt, HasNoPipeline}
 use Rattle.ehdl_build.specs.Compiled.{RefusesProgram, IsRefused, FailsFor, compile_error}
 use Rattle.ehdl_build.specs.Steps.{IsCounted, FailsCounting, FailsBecause}
+
+-- what holds of an error holds of the same error
+pub err_with : {T E : Type 0} (P : E → Type 0) (e : E) (r : Result T E) → IsErrAnd r (λ f. f ≡ e) → P e → IfErr r P
+err_with P e (Ok x) is h = tt
+err_with P e (Err f) is h = subst P (sym is) h
 
 -- ---- what is counted
 pub accepted_of : (p : XdpProgram) (c : Counted) → IsCounted p c → IsAccepted p
