@@ -1,5 +1,5 @@
 -- Accepted programs of which no pipeline is built, for now.
-use Rattle.std.specs.Prelude.{◌≡◌, ◌≢◌, ◌⊎◌, ℕ, ◌<◌, false, []}
+use Rattle.std.specs.Prelude.{◌≡◌, ◌≢◌, ◌⊎◌, ℕ, ◌-◌, ◌<◌, false, []}
 use Rattle.xdp_machine.specs.Program.{XdpProgram}
 use Rattle.net_core.specs.Nets.{Netlist}
 use Rattle.product_rules.specs.Products.{products_apart}
@@ -14,7 +14,7 @@ use Rattle.held_cells.specs.Law.{IsLaw}
 use Rattle.program_graph.specs.Graphs.{graph_of}
 use Rattle.predicate_core.specs.Buildable.{IsBuildable}
 use Rattle.row_plan.specs.Plan.{Plan, IsPlan}
-use Rattle.pipeline_net.specs.Pipeline.{IsPipeline}
+use Rattle.pipeline_net.specs.Pipeline.{IsPipeline, most_slots}
 
 -- A program with maps is refused at its first place.
 pub record IsNotBuilt (p : XdpProgram) (r : Refusal) : Type 0 where
@@ -50,4 +50,4 @@ pub record HasNoPipeline (p : XdpProgram) : Type 0 where
   pub no_maps : p.decls ≡ []
   pub cells : ProgramView
   pub are_cells : AreCellsOf p cells
-  pub why : GoBeyond accepted.stages.rows cells ⊎ (GoBeyond 28 cells ⊎ HasNestedProducts cells)
+  pub why : GoBeyond accepted.stages.rows cells ⊎ (GoBeyond (most_slots - 4) cells ⊎ HasNestedProducts cells)
