@@ -1,5 +1,5 @@
 -- Why a program without maps has no pipeline, by what is lacking of its cells.
-use Rattle.std.specs.Prelude.{◌≡◌, ◌⊎◌, ◌×◌, ◌-◌, []}
+use Rattle.std.specs.Prelude.{◌≡◌, ◌⊎◌, ◌-◌, []}
 use Rattle.std.proofs.Common.{refl, inl, inr}
 use Rattle.xdp_machine.specs.Program.{XdpProgram}
 use Rattle.program_graph.specs.Graphs.{graph_of}

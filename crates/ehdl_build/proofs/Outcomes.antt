@@ -1,5 +1,5 @@
 -- What holds of the bytes that an error is answered for, and that no other error was to come.
-use Rattle.std.specs.Prelude.{◌≡◌, ◌≢◌, ◌⊎◌, ◌×◌, Result, Ok, Err, IfErr, IsErrAnd, IsErrOf, ℕ, List, []}
+use Rattle.std.specs.Prelude.{◌≡◌, ◌≢◌, ◌⊎◌, Result, Ok, Err, IfErr, IsErrAnd, IsErrOf, ℕ, List, []}
 use Rattle.std.proofs.Common.{refl, sym, ap, subst, inl, inr, ◌∙◌}
 use Rattle.xdp_machine.specs.Program.{XdpProgram}
 use Rattle.xdp_object.specs.declared.error.ObjectError.{ObjectError}

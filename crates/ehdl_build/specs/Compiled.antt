@@ -2,8 +2,7 @@
 use Rattle.std.specs.Prelude.{◌≡◌, ◌⊎◌, ℕ, ◌+◌, IsTrue, List, [], ◌∷◌, length, map as map_list}
 use Rattle.xdp_object.specs.Choice.{Chosen}
 use Rattle.xdp_object.specs.Object.{FirstFault, IsObject}
-use Rattle.xdp_object.specs.Program.{XdpProgram}
-use Rattle.xdp_machine.specs.Program.{IsProgram}
+use Rattle.xdp_machine.specs.Program.{XdpProgram, IsProgram}
 use Rattle.xdp_maps.specs.State.{MapState, IsSound}
 use Rattle.xdp_machine.specs.State.{Code, PacketIn}
 use Rattle.xdp_machine.specs.Runs.{Leaves, AreRuns}
