@@ -1,10 +1,8 @@
 -- The bytes of a text realize a program, and a text that an object was compiled to.
-use Rattle.std.specs.Prelude.{◌≡◌, ◌≢◌, ◌⊎◌, ℕ, ℤ, ◌+◌, IsTrue, List, [], ◌∷◌, length, map as map_list}
+use Rattle.std.specs.Prelude.{◌≡◌, ◌⊎◌, ℕ, ◌+◌, IsTrue, List, [], ◌∷◌, length, map as map_list}
 use Rattle.xdp_object.specs.Choice.{Chosen}
 use Rattle.xdp_object.specs.Object.{FirstFault, IsObject}
-use Rattle.xdp_object.specs.Program.{XdpProgram}
-use Rattle.xdp_machine.specs.Program.{IsProgram}
-use Rattle.xdp_object.specs.TwoUnits.{two_units}
+use Rattle.xdp_machine.specs.Program.{XdpProgram, IsProgram}
 use Rattle.xdp_maps.specs.State.{MapState, IsSound}
 use Rattle.xdp_machine.specs.State.{Code, PacketIn}
 use Rattle.xdp_machine.specs.Runs.{Leaves, AreRuns}
@@ -17,15 +15,15 @@ use Rattle.host_history.specs.Host.{load}
 use Rattle.verilog_grammar.specs.Spelling.{Spells}
 use Rattle.ehdl_build.specs.declared.built.Built.{Built}
 use Rattle.ehdl_build.specs.declared.built.CompileError.{CompileError}
-use Rattle.ehdl_build.specs.declared.built.CompileError.TheVariants.{Object, Refused, NoMemory}
+use Rattle.ehdl_build.specs.declared.built.CompileError.TheVariants.{Object, Refused, NoPipeline, NoMemory}
 use Rattle.kind_core.specs.declared.why.Refusal.{Refusal}
-use Rattle.kind_core.specs.declared.why.Why.TheVariants.{Instruction}
 use Rattle.kind_core.specs.declared.why.BuildError.{BuildError}
 use Rattle.kind_core.specs.declared.why.BuildError.TheVariants as build
-use Rattle.unfold_core.specs.Acceptance.{IsAccepted, IsFirstRefusal}
+use Rattle.node_rows.specs.Acceptance.{IsAccepted, IsFirstRefusal}
 use Rattle.realization.specs.Bounds.{AreApart}
-use Rattle.ehdl_build.specs.Products.{products_apart}
+use Rattle.product_rules.specs.Products.{products_apart}
 use Rattle.realization.specs.Realizes.{Meets}
+use Rattle.ehdl_build.specs.Pipelines.{IsNotBuilt, HasNoPipeline}
 
 -- what is run of a program
 abbrev pub code_of : XdpProgram → Code
@@ -56,15 +54,12 @@ pub record PipelineSize : Type 0 where
   pub records : ℕ
   pub nodes : ℕ
 
--- The size of an accepted program's pipeline, with as many nodes as its graph has. For now only the program `r0 = k`, `exit` has one: all
--- nodes in stage 0, and no record site.
+-- The size of an accepted program's pipeline: its stages and record sites as they are counted on its graph, and the nodes of this graph.
 pub record HasSize (p : XdpProgram) (z : PipelineSize) : Type 0 where
-  pub number : ℤ
-  pub is : p.insns ≡ two_units number
   pub accepted : IsAccepted p
-  pub stages : z.stages ≡ 0
-  pub records : z.records ≡ 0
-  pub nodes : z.nodes ≡ length accepted.graph
+  pub stages : z.stages ≡ accepted.stages.rows
+  pub records : z.records ≡ accepted.stages.records
+  pub nodes : z.nodes ≡ length accepted.unfolds.graph
 
 -- maps over a program's declarations
 pub record AreMapsOf (p : XdpProgram) (maps : MapState) : Type 0 where
@@ -85,22 +80,15 @@ pub record Realizes (text : List ℕ) (p : XdpProgram) (z : PipelineSize) : Type
 abbrev pub size_of : Built → PipelineSize
 size_of b = record { stages = b.rows; records = b.records; nodes = b.nodes }
 
--- Under a choice the bytes are an object of an accepted program, whose parts make up one. What was built are its declarations and the size of its pipeline, and a
--- text that realizes it.
+-- Under a choice the bytes are an object of a program, whose parts make up one. What was built are its declarations and the size of its
+-- pipeline, by which it is accepted, and a text that realizes it.
 pub record Compiles (choice : Chosen) (bytes : List ℕ) (built : Built) : Type 0 where
   pub program : XdpProgram
   pub object : IsObject choice bytes program
   pub is_program : IsProgram program
-  pub accepted : IsAccepted program
   pub decls : built.decls.items ≡ program.decls
   pub has_size : HasSize program (size_of built)
   pub realizes : Realizes built.text.items program (size_of built)
-
--- For now an accepted program is built only where it is `r0 = k`, `exit`. Others are refused at their first place.
-pub record IsNotBuilt (p : XdpProgram) (r : Refusal) : Type 0 where
-  pub accepted : IsAccepted p
-  pub other : (k : ℤ) → p.insns ≢ two_units k
-  pub refusal : r ≡ record { at = 0; why = Instruction }
 
 -- A program is refused: it is not accepted, and this is its first refusal, or it is not built.
 abbrev pub RefusesProgram : XdpProgram → Refusal → Type 0
@@ -112,10 +100,17 @@ pub record IsRefused (choice : Chosen) (bytes : List ℕ) (r : Refusal) : Type 0
   pub object : IsObject choice bytes program
   pub refusal : RefusesProgram program r
 
+-- under a choice the bytes are an object, and its program has no pipeline
+pub record IsUnbuilt (choice : Chosen) (bytes : List ℕ) : Type 0 where
+  pub program : XdpProgram
+  pub object : IsObject choice bytes program
+  pub none : HasNoPipeline program
+
 -- what holds of the bytes that an error is answered for; of want of memory nothing is said
 abbrev pub FailsFor : Chosen → List ℕ → CompileError → Type 0
 FailsFor choice bytes (Object e) = FirstFault choice bytes e
 FailsFor choice bytes (Refused r) = IsRefused choice bytes r
+FailsFor choice bytes NoPipeline = IsUnbuilt choice bytes
 FailsFor choice bytes NoMemory = Unit {0}
 
 -- the error of compiling, by that of a program

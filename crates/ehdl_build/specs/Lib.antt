@@ -1,4 +1,3 @@
-pub mod StoreAndForward
-pub mod StoreAndForwardNetlist
-pub mod Products
+pub mod Pipelines
 pub mod Compiled
+pub mod Steps

@@ -1,20 +1,18 @@
 //! From the bytes of an object to the bytes of a Verilog text.
 
-ghost use Rattle.std.specs.Prelude.{◌≡◌, ◌≢◌, ◌⊎◌, ◌%◌, ◌^◌, ℕ, IfErr, IfOk, IsErrOf};
-ghost use Rattle.std.specs.Int.{w64, cast_unsigned};
+ghost use Rattle.std.specs.Prelude.{◌≡◌, ◌≢◌, ◌⊎◌, IfErr, IfOk, IsErrOf};
 ghost use Rattle.xdp_object.specs.declared.error.ObjectError.{ObjectError};
 ghost use Rattle.xdp_object.specs.Choice.{chosen_of};
-ghost use Rattle.xdp_object.specs.Object.{FirstFault, IsObject};
+ghost use Rattle.xdp_object.specs.Object.{FirstFault};
 ghost use Rattle.kind_core.specs.declared.why.Refusal.{Refusal};
 ghost use Rattle.ehdl_build.specs.Compiled.{Compiles, FailsFor, IsRefused, compile_error};
 
-use crate::store_and_forward;
+use crate::counted::count;
+use crate::pipelined::realize;
 use kind_core::{BuildError, Refusal, Why};
 use std::alloc::{AllocError, Global};
-use unfold_core::unfold;
-use verilog_write::write_text;
 use xdp_maps::decl::MapDecl;
-use xdp_object::{Choice, ObjectError, Program, read_object, two_units};
+use xdp_object::{Choice, ObjectError, read_object};
 
 /// The refusal of an accepted program that is not built yet.
 const NOT_BUILT: Refusal = Refusal {
@@ -46,6 +44,9 @@ pub enum CompileError {
     /// The program is refused: the first refusal.
     #[error("{0}")]
     Refused(Refusal),
+    /// The program is accepted, and no pipeline of its stages was made of it.
+    #[error("no pipeline")]
+    NoPipeline,
     #[error("out of memory")]
     NoMemory,
 }
@@ -59,13 +60,6 @@ impl From<AllocError> for CompileError {
     fn from(_: AllocError) -> CompileError {
         CompileError::NoMemory
     }
-}
-
-// The low 32 bits of a number.
-fn low_word(number: i64) -> u32
-    ensures { result ≡ cast_unsigned w64 number % 2 ^ 32 }
-{
-    (number.cast_unsigned() % (1 << 32)) as u32
 }
 
 // The same error, with want of memory apart.
@@ -100,16 +94,17 @@ fn copies(alloc: Global, decls: &[MapDecl]) -> Result<Vec<MapDecl>, AllocError>
     Ok(copies)
 }
 
-/// Compiles an object. The text realizes the program: it spells a design that,
+/// Compiles an object. The text realizes the program: it spells a pipeline in which packets overlap, and which,
 /// clock by clock and under every pattern of offered and taken beats, answers frames as sequential execution of the program
 /// does, in the stated clocks of a pipeline of the size that is answered beside it.
 ///
-/// A program that is not accepted has its own first refusal. For now each accepted one but `r0 = k`, `exit` is refused at its first place.
+/// A program that is not accepted has its own first refusal. For now one with maps is refused at its first place. Of others there may be
+/// no pipeline of their stages: that this never comes is not said.
 pub fn compile(alloc: Global, bytes: &[u8], choice: Choice<'_>) -> Result<Built, CompileError>
     ensures ok { IfOk result (λ built. Compiles (chosen_of choice.entry) bytes.now built) }
     ensures error { IfErr result (FailsFor (chosen_of choice.entry) bytes.now) }
 
-    // Want of memory aside, each error comes wherever it is said to.
+    // Want of memory aside, each error but want of a pipeline comes wherever it is said to.
     ensures object { (e : ObjectError) → FirstFault (chosen_of choice.entry) bytes.now e
         → IsErrOf result (CompileError.Object e) ⊎ IsErrOf result CompileError.NoMemory }
     ensures refused { (r : Refusal) → IsRefused (chosen_of choice.entry) bytes.now r
@@ -119,21 +114,20 @@ pub fn compile(alloc: Global, bytes: &[u8], choice: Choice<'_>) -> Result<Built,
         Ok(program) => program,
         Err(error) => return Err(error_of(error)),
     };
-    let graph = match unfold(alloc, &program) {
-        Ok(graph) => graph,
+    let counted = match count(alloc, &program) {
+        Ok(counted) => counted,
         Err(error) => return Err(refusal_of(error)),
     };
-    let Some(number) = two_units(&program) else {
+    if !program.decls().is_empty() {
         return Err(CompileError::Refused(NOT_BUILT));
-    };
-    let design = store_and_forward::design(alloc, low_word(number))?;
-    let text = write_text(alloc, &design)?;
+    }
+    let text = realize(alloc, &program, &counted)?;
     let decls = copies(alloc, program.decls())?;
     Ok(Built {
         text,
         decls,
-        rows: 0,
-        records: 0,
-        nodes: graph.nodes.len() as u16,
+        rows: counted.stages.rows as u16,
+        records: counted.stages.records as u16,
+        nodes: counted.graph.nodes.len() as u16,
     })
 }

@@ -2,8 +2,7 @@
 #![tactic(auto)]
 
 mod built;
-mod gates;
-mod nets;
-mod store_and_forward;
+mod counted;
+mod pipelined;
 
 pub use built::{Built, CompileError, compile};

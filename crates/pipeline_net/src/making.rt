@@ -3,6 +3,7 @@
 ghost use Rattle.std.specs.Prelude.{ℕ, suc, ◌≡◌, ◌+◌, ◌<◌, ◌≤◌, ◌/◌, All, Contains, IfOk, IsErrOf, length};
 ghost use Rattle.std.specs.List.{AllByRecursion};
 ghost use Rattle.net_core.specs.View.{netlist_of};
+ghost use Rattle.design_rules.specs.Formed.{IsWellFormed};
 ghost use Rattle.block_core.specs.View.{block_of};
 ghost use Rattle.cell_core.specs.View.{program_of};
 ghost use Rattle.cell_nets.specs.Operands.{IsOperand};
@@ -222,6 +223,7 @@ pub fn pipeline(
 ) -> Result<Design, PipelineError>
     requires { IsForPipeline (program_of program.now) plan.now }
     ensures design { IfOk result (λ n. IsPipeline (program_of program.now) plan.now (netlist_of n)) }
+    ensures formed { IfOk result (λ n. IsWellFormed (netlist_of n)) }
     ensures slots { most_slots < slots_of plan.now → IsErrOf result error.TooManySlots }
     ensures only { IsErrOf result error.TooManySlots → most_slots < slots_of plan.now }
 {

@@ -8,4 +8,4 @@ returns-in-Ok-clause-text c = built_of (chosen_of c.args.choice) c.args.object.n
 
 pub returns-in-Err-Object-clause-given_up : goal.returns-in-Err-Object-clause-given_up
 returns-in-Err-Object-clause-given_up c =
-    inr (inl refl, fails_object (chosen_of c.args.choice) c.args.object.now c.in-Err-Object.field-0 c.in-Err-Object.fault c.in-Err-Object.field-0-is c.in-Err-Object.ensures.error)
+    inr (inl refl, inl (fails_object (chosen_of c.args.choice) c.args.object.now c.in-Err-Object.field-0 c.in-Err-Object.fault c.in-Err-Object.field-0-is c.in-Err-Object.ensures.error))

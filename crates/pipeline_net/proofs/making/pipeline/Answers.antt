@@ -34,3 +34,19 @@ returns-clause-design c =
       parts = are_parts p plan d shape words ms c.requires is all;
       is = c.in_ok-design.ensures.netlist l w (omega (arith, c.len.ensures)) (subst (λ m. Makes part_place m w) (sym c.deref-3.ensures.value) (makes p plan d shape words ms c.requires is all));
     }
+
+pub returns-clause-formed : goal.returns-clause-formed
+returns-clause-formed c =
+    let p = program_of c.args.program.now in
+    let plan = c.args.plan.now in
+    let d = c.in_ok-draft.draft in
+    let is = c.in_ok-draft.ensures in
+    let shape = c.shape-shape.result in
+    let words = c.in_ok-words.words.items in
+    let ms = c.in_ok-parts.parts.items in
+    let all = subst (λ w. AreAllParts p plan d shape w ms) c.deref-2.ensures.value c.in_ok-parts.ensures in
+    let l = layout p plan d shape words ms c.requires is all in
+    let w = whole p plan d shape words ms c.requires is all in
+    c.in_ok-design.ensures.formed l w (omega (arith, c.len.ensures)) (subst (λ m. Makes part_place m w) (sym c.deref-3.ensures.value) (makes p plan d shape words ms c.requires is all))
+    (laid_out p plan d shape words ms c.requires is all c.shape-shape.ensures.slots c.shape-shape.ensures.stages c.shape-shape.ensures.commit (are_sources p plan d c.requires is))
+    (are_parts p plan d shape words ms c.requires is all)

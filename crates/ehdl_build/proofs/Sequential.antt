@@ -1,0 +1,59 @@
+-- What the cells of a program answer is what sequential execution answers.
+use Rattle.std.specs.Prelude.{◌≡◌, ℕ, ◌<◌, All, List, [], ◌∷◌, length, slice_index_or}
+use Rattle.std.specs.List.{AllByRecursion}
+use Rattle.std.proofs.Common.{get_or, refl, sym, ap, ap₂, subst, ◌∙◌, arith}
+use Rattle.std.proofs.lemmas.List.{get_or_default}
+use Rattle.beat_core.specs.declared.answer.Answer.{Answer}
+use Rattle.beat_core.specs.Ports.{Arrival}
+use Rattle.list_laws.specs.Bytes.{IsBytes}
+use Rattle.xdp_maps.specs.State.{MapState, IsSound}
+use Rattle.xdp_machine.specs.Program.{XdpProgram, IsProgram}
+use Rattle.xdp_machine.specs.State.{start}
+use Rattle.xdp_machine.specs.Runs.{Leaves, Progress, Ended, IsRun, run}
+use Rattle.xdp_machine.specs.MachineLaws.{LeavesInRange, maps_so_far}
+use Rattle.xdp_machine.proofs.RangeLaws.{starts_in_range, runs_leave_in_range}
+use Rattle.xdp_machine.proofs.RunLaws.{runs_keep_sizes}
+use Rattle.unfold_core.specs.declared.unfolding.Unfolded.{Unfolded}
+use Rattle.program_graph.specs.Graphs.{graph_of}
+use Rattle.cell_core.specs.Sites.{ProgramView, leaves}
+use Rattle.held_cells.specs.Law as cell
+use Rattle.held_cells.specs.Law.{IsLaw}
+use Rattle.pipe_core.specs.Machine.{packet_of}
+use Rattle.realization.specs.Realizes.{IsPacket}
+use Rattle.pipeline_runs.specs.Answered.{IsAnswered, AreAnswered}
+use Rattle.ehdl_build.specs.Compiled.{code_of, packets_in, answer_of, IsSequential}
+
+all_bytes : (xs : List ℕ) → IsBytes xs → All (λ b. b < 256) xs
+all_bytes xs h k d lt = omega (arith, h k, get_or_default xs k d 0 lt)
+
+is_packet : (a : Arrival) → IsPacket a → cell.IsPacket (packet_of a)
+is_packet a h = record { some = h.frame.some; short = h.frame.room; bytes = all_bytes a.frame h.frame.bytes; ifindex = h.ifindex; time = h.time }
+
+module _ (p : XdpProgram) (u : Unfolded) (cells : ProgramView) (program : IsProgram p) (law : IsLaw (graph_of p u) cells) where
+  -- the run of one packet, and the maps that it leaves
+  pub record OneRun (maps : MapState) (a : Arrival) (e : Leaves) : Type 0 where
+    pub is : IsRun (code_of p) (packet_of a) maps e
+    pub sound : IsSound e.maps
+    pub declared : e.maps.decls ≡ p.decls
+
+  one_run : (maps : MapState) (a : Arrival) (r : Answer) → IsSound maps → maps.decls ≡ p.decls → IsPacket a → (h : IsAnswered cells maps a r) → OneRun maps a (leaves h.values (packet_of a) maps cells)
+  one_run maps a r sound declared packet h =
+      let came = is_packet a packet in
+      let e = leaves h.values (packet_of a) maps cells in
+      let t = law.computes.ends (packet_of a) maps h.values came sound declared h.run in
+      let range : LeavesInRange e = runs_leave_in_range (code_of p) (packet_of a) maps e program.legal (starts_in_range (packet_of a) maps came.bytes (omega (arith, came.short)) came.ifindex came.time sound) (t.0, t.1) in
+      record {
+        is = (t.0, t.1);
+        sound = range.maps;
+        declared = ap (λ (x : Progress). (maps_so_far x).decls) (sym t.1) ∙ (runs_keep_sizes (code_of p) t.0 (start (packet_of a) maps) refl).decls ∙ declared;
+      }
+
+  pub in_sequence : (maps : MapState) (packets : List Arrival) (answers : List Answer) (last : MapState) → IsSound maps → maps.decls ≡ p.decls → AllByRecursion IsPacket packets → AreAnswered cells maps packets answers last → IsSequential p maps packets answers last
+  in_sequence maps [] [] last sound declared are h = record { leaves = []; runs = h; answers_are = refl }
+  in_sequence maps [] (r ∷ rs) last sound declared are h = absurd h
+  in_sequence maps (a ∷ rest) [] last sound declared are h = absurd h
+  in_sequence maps (a ∷ rest) (r ∷ rs) last sound declared are h =
+      let one = one_run maps a r sound declared are.0 h.0 in
+      let e = leaves h.0.values (packet_of a) maps cells in
+      let more = in_sequence e.maps rest rs last one.sound one.declared are.1 h.1 in
+      record { leaves = e ∷ more.leaves; runs = (one.is, more.runs); answers_are = ap₂ (λ x xs. x ∷ xs) h.0.is more.answers_are }

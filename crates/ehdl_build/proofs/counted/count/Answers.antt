@@ -1,0 +1,15 @@
+use Rattle.ehdl_build.specs.Steps.{FailsCounting}
+use Rattle.ehdl_build.proofs.Outcomes.{unfolding_fails, counting_fails, err_with}
+use Rattle.ehdl_build.proofs.counted.count.Goals as goal
+
+pub returns-in_err-graph-clause-fails : goal.returns-in_err-graph-clause-fails
+returns-in_err-graph-clause-fails c =
+    err_with (FailsCounting c.args.program.now) c.in_err-graph.field-0.0 c.from_residual.result c.from_residual.ensures.1 (unfolding_fails c.args.program.now _ c.in_err-graph.ensures.unfolds)
+
+pub returns-in_err-stages-clause-fails : goal.returns-in_err-stages-clause-fails
+returns-in_err-stages-clause-fails c =
+    err_with (FailsCounting c.args.program.now) c.in_err-stages.field-0.0 c.from_residual-in_err-stages.result c.from_residual-in_err-stages.ensures.1
+    (counting_fails c.args.program.now c.in_ok-graph.graph _ c.in_ok-graph.ensures.unfolds c.in_err-stages.ensures.counted)
+
+pub returns-clause-counted : goal.returns-clause-counted
+returns-clause-counted c = record { unfolded = c.in_ok-graph.ensures.unfolds; stages = c.in_ok-stages.ensures.counted }

@@ -1,0 +1,53 @@
+-- Accepted programs of which no pipeline is built, for now.
+use Rattle.std.specs.Prelude.{◌≡◌, ◌≢◌, ◌⊎◌, ℕ, ◌-◌, ◌<◌, false, []}
+use Rattle.xdp_machine.specs.Program.{XdpProgram}
+use Rattle.net_core.specs.Nets.{Netlist}
+use Rattle.product_rules.specs.Products.{products_apart}
+use Rattle.kind_core.specs.declared.why.Refusal.{Refusal}
+use Rattle.kind_core.specs.declared.why.Why.TheVariants.{Instruction}
+use Rattle.unfold_core.specs.declared.unfolding.Unfolded.{Unfolded}
+use Rattle.unfold_core.specs.Unfolding.{IsUnfolded}
+use Rattle.node_rows.specs.Acceptance.{IsAccepted}
+use Rattle.cell_core.specs.Sites.{ProgramView}
+use Rattle.cell_core.specs.Rows.{AreRows, last_row}
+use Rattle.held_cells.specs.Law.{IsLaw}
+use Rattle.program_graph.specs.Graphs.{graph_of}
+use Rattle.predicate_core.specs.Buildable.{IsBuildable}
+use Rattle.row_plan.specs.Plan.{Plan, IsPlan}
+use Rattle.pipeline_net.specs.Pipeline.{IsPipeline, most_slots}
+
+-- A program with maps is refused at its first place.
+pub record IsNotBuilt (p : XdpProgram) (r : Refusal) : Type 0 where
+  pub accepted : IsAccepted p
+  pub maps : p.decls ≢ []
+  pub refusal : r ≡ record { at = 0; why = Instruction }
+
+-- cells that compute the runs of a program, and can be built
+pub record AreCellsOf (p : XdpProgram) (cells : ProgramView) : Type 0 where
+  pub graph : Unfolded
+  pub unfolded : IsUnfolded p graph
+  pub law : IsLaw (graph_of p graph) cells
+  pub buildable : IsBuildable cells
+
+-- cells of nodes stand in later rows than this one
+pub record GoBeyond (stages : ℕ) (cells : ProgramView) : Type 0 where
+  pub row : ℕ → ℕ
+  pub are_rows : AreRows cells.cells row
+  pub beyond : stages < last_row row cells.nodes
+
+-- in a pipeline of these cells a product stands inside an operand of another
+pub record HasNestedProducts (cells : ProgramView) : Type 0 where
+  pub plan : Plan
+  pub design : Netlist
+  pub planned : IsPlan cells plan
+  pub pipeline : IsPipeline cells plan design
+  pub nested : products_apart design ≡ false
+
+-- A program without maps has no pipeline where its cells take more rows than it has stages, or than there are places, or where products are
+-- nested. Of no program is this known.
+pub record HasNoPipeline (p : XdpProgram) : Type 0 where
+  pub accepted : IsAccepted p
+  pub no_maps : p.decls ≡ []
+  pub cells : ProgramView
+  pub are_cells : AreCellsOf p cells
+  pub why : GoBeyond accepted.stages.rows cells ⊎ (GoBeyond (most_slots - 4) cells ⊎ HasNestedProducts cells)
