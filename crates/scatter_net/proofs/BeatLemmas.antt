@@ -65,7 +65,8 @@ module _ {P : Type 0} (p gather : P) (bits : ℕ) (kept : List Kept) (some : 1 �
     beat_width b zero l h = bank_width b (omega arith)
     beat_width b (suc n) l h = rw (in_bank_width s bits (name.Wire p 0) b some most (omega arith) wide_width, bank_width b (omega arith), beat_width (suc b) n (omega arith) h) refl
 
-  -- ---- it can be spelled, and what it reads
+-- ---- it can be spelled, and what it reads
+module _ {P : Type 0} (p gather : P) (bits : ℕ) (kept : List Kept) where
   beat_depth : (b n : ℕ) → depth (beat_from p gather bits kept b n) ≤ n + 3
   beat_depth b zero = omega arith
   beat_depth b (suc n) = let h = beat_depth (suc b) n in omega arith
