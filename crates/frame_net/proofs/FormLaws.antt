@@ -12,7 +12,7 @@ use Rattle.block_core.specs.declared.name.Name.{Name}
 use Rattle.block_core.specs.declared.name.Name.TheVariants as name
 use Rattle.block_core.specs.Blocks.{BlockTree, BlockWireTree, Whole}
 use Rattle.block_core.specs.Order.{IsBefore}
-use Rattle.block_core.specs.Formed.{names_scope, name_width, block_memories}
+use Rattle.block_core.specs.Formed.{names_scope, block_memories}
 use Rattle.frame_net.specs.SourcesNets.{held}
 
 pub and_is : (a b : Bool) → a ≡ true → b ≡ true → (a && b) ≡ true

@@ -33,7 +33,7 @@ use Rattle.frame_net.specs.declared.held.Further.TheVariants.{Kept as Keep, Bank
 use Rattle.frame_net.specs.Frames.{bank_bits, banks, bank, banks_from, further, further_bits, beat_of, last_of, HoldsBeats, HoldsPart, HoldsFrame, IsBegun, Gathers, position_of, index_bits}
 use Rattle.frame_net.specs.Gather.{SeesBeat, HasTaken}
 use Rattle.frame_net.specs.Stores.{Store, store_statements}
-use Rattle.frame_net.specs.GatherNets.{port, register, net, constant, next_position, in_bank, beat_store, kept_store, further_store, gather_stores, gather_wires, gather_sets, gather_statement}
+use Rattle.frame_net.specs.GatherNets.{port, register, net, constant, next_position, in_bank, kept_store, further_store, gather_stores, gather_wires, gather_sets, gather_statement}
 use Rattle.frame_net.proofs.StoreLaws.{in_turn, put, taken, taken_is, store_at, registers_stay, lengths_stay, none_stored, IsOff}
 use Rattle.frame_net.proofs.MaskLaws.{masked_word}
 use Rattle.frame_net.proofs.BankLaws.{map_at, item_kept, item_bank, count_further, bank_within, low_small, low_slot, high_slot}

@@ -1,5 +1,5 @@
 -- The block that gathers frames is well typed, in order and spelled.
-use Rattle.std.specs.Prelude.{◌≡◌, ℕ, zero, suc, ◌+◌, ◌-◌, ◌^◌, ◌<◌, ◌≤◌, nat_le, ◌&&◌, if◌then◌else◌, true, List, [], ◌∷◌, ◌++◌, length, map, max}
+use Rattle.std.specs.Prelude.{◌≡◌, ℕ, zero, suc, ◌+◌, ◌-◌, ◌^◌, ◌<◌, ◌≤◌, nat_le, ◌&&◌, true, List, [], ◌∷◌, ◌++◌, length, map, max}
 use Rattle.std.specs.List.{AllByRecursion}
 use Rattle.std.proofs.Common.{get_or, refl, sym, ap, ◌∙◌, subst, arith, inl}
 use Rattle.std.proofs.lemmas.Bool.{le-leb, lt-ltb}
@@ -12,7 +12,7 @@ use Rattle.net_core.specs.Nets.{TRead, TUnary, TBinary, SEnd}
 use Rattle.net_core.specs.Chains.{statements_before}
 use Rattle.net_core.specs.Ports.{port_list}
 use Rattle.net_core.specs.Value.{word}
-use Rattle.net_core.specs.Width.{Scope, width_of, part_select_width, statement_typed, concatenation_width, word_fits}
+use Rattle.net_core.specs.Width.{Scope, width_of, statement_typed, concatenation_width, word_fits}
 use Rattle.net_core.proofs.WidthLaws.{concatenation_is}
 use Rattle.design_rules.specs.FormedSyntax.{statement_spelled, statements_depth}
 use Rattle.block_core.specs.declared.name.Name.{Name}
@@ -31,7 +31,7 @@ use Rattle.frame_net.specs.Stores.{Store, widths_memory, store_statements}
 use Rattle.frame_net.proofs.BankLaws.{banks_few, in_bank_width, low_width}
 use Rattle.frame_net.proofs.StoreLaws.{IsStoreTyped, AreStoresTyped, stores_typed, widths_are, AllReads, stores_read, stores_within, AllSpelled, stores_deep, stores_placed, stores_pass}
 use Rattle.frame_net.proofs.FormLaws.{and_is, one_is, same_is, wire_is, still_before}
-use Rattle.frame_net.specs.GatherNets.{port, register, net, in_bits, masked, next_position, beat_store, further_store, in_bank, wide, place, gather_stores, gather_wires, gather_block, gather_statement}
+use Rattle.frame_net.specs.GatherNets.{port, register, net, in_bits, masked, next_position, beat_store, further_store, wide, place, gather_stores, gather_wires, gather_block, gather_statement}
 
 -- ---- memories
 pub further_typed : {P : Type 0} (s : Scope (Name P)) (p : P) (over slot : Name P) (bits : ℕ) (fs : List Further) → AllByRecursion (IsFurther bits) fs → 1 ≤ bits → bits ≤ 9 → s.net over ≡ 1 → s.net slot ≡ bits → s.net (name.Register p 1) ≡ 11 → s.net (name.Wire p 2) ≡ 64

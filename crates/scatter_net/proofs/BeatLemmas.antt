@@ -5,7 +5,6 @@ use Rattle.std.proofs.lemmas.Bool.{le-leb}
 use Rattle.std.proofs.lemmas.Bool.Decides.{nat_tests}
 use Rattle.net_core.specs.declared.tree.Op.TheVariants.{Equal}
 use Rattle.net_core.specs.declared.tree.Word.{Word}
-use Rattle.net_core.specs.Nets.{Tree, TConditional}
 use Rattle.net_core.specs.Value.{word, bit, Env, value, apply, concatenated, conditional, part_select}
 use Rattle.net_core.specs.Width.{Scope, width_of}
 use Rattle.net_core.specs.Ports.{port_list}
@@ -66,7 +65,8 @@ module _ {P : Type 0} (p gather : P) (bits : ℕ) (kept : List Kept) (some : 1 �
     beat_width b zero l h = bank_width b (omega arith)
     beat_width b (suc n) l h = rw (in_bank_width s bits (name.Wire p 0) b some most (omega arith) wide_width, bank_width b (omega arith), beat_width (suc b) n (omega arith) h) refl
 
-  -- ---- it can be spelled, and what it reads
+-- ---- it can be spelled, and what it reads
+module _ {P : Type 0} (p gather : P) (bits : ℕ) (kept : List Kept) where
   beat_depth : (b n : ℕ) → depth (beat_from p gather bits kept b n) ≤ n + 3
   beat_depth b zero = omega arith
   beat_depth b (suc n) = let h = beat_depth (suc b) n in omega arith
@@ -81,23 +81,3 @@ module _ {P : Type 0} (p gather : P) (bits : ℕ) (kept : List Kept) (some : 1 �
   pub beat_reads : (q : Name P → Type 0) → ((k : ℕ) → q (name.Memory gather k)) → q (name.Wire p 0) → q (name.Register p 0) → (b n : ℕ) → Reads q (beat_from p gather bits kept b n)
   beat_reads q m w r b zero = (m (bank kept b), (w, r))
   beat_reads q m w r b (suc n) = ((w, tt), (m (bank kept b), (w, r)), beat_reads q m w r (suc b) n)
-
-  -- ---- one memory more in the loop that makes the choice
-  pub beat_first : (last : ℕ) (tree : Tree (Name P)) → tree ≡ at_bank p gather bits kept last → tree ≡ beat_from p gather bits kept (last - 0) 0
-  beat_first last tree e = let z : last ≡ last - 0 = omega arith in e ∙ ap (at_bank p gather bits kept) z
-
-  pub beat_more : (last k b : ℕ) (here there tree new : Tree (Name P)) → k < last → b ≡ last - 1 - k → here ≡ in_bank bits (name.Wire p 0) b → there ≡ at_bank p gather bits kept b → new ≡ TConditional here there tree
-      → tree ≡ beat_from p gather bits kept (last - k) k → new ≡ beat_from p gather bits kept (last - (k + 1)) (k + 1)
-  beat_more last k b here there tree new l n h t e w =
-      let first : b ≡ last - (k + 1) = omega arith in
-      let rest : last - k ≡ suc b = omega arith in
-      let count : suc k ≡ k + 1 = omega arith in
-      e
-      ∙ ap (λ x. TConditional x there tree) h
-      ∙ ap (λ x. TConditional (in_bank bits (name.Wire p 0) b) x tree) t
-      ∙ ap (TConditional (in_bank bits (name.Wire p 0) b) (at_bank p gather bits kept b)) (w ∙ ap (λ i. beat_from p gather bits kept i k) rest)
-      ∙ ap (λ i. beat_from p gather bits kept i (suc k)) first
-      ∙ ap (beat_from p gather bits kept (last - (k + 1))) count
-
-  pub beat_done : (last k n : ℕ) (tree : Tree (Name P)) → last ≡ n → k ≡ last → tree ≡ beat_from p gather bits kept (last - k) k → tree ≡ beat_from p gather bits kept 0 n
-  beat_done last k n tree e h w = let z : last - k ≡ 0 = omega arith in w ∙ ap (λ i. beat_from p gather bits kept i k) z ∙ ap (beat_from p gather bits kept 0) (h ∙ e)

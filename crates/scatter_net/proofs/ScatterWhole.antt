@@ -1,5 +1,5 @@
 -- The block of answers is what it is to be.
-use Rattle.std.specs.Prelude.{ℕ, ◌/◌, ◌^◌, ◌<◌, ◌≤◌, ◌==◌, List, length, Contains}
+use Rattle.std.specs.Prelude.{ℕ, ◌-◌, ◌/◌, ◌^◌, ◌<◌, ◌≤◌, ◌==◌, List, length, Contains}
 use Rattle.std.proofs.Common.{get_or, refl, arith}
 use Rattle.block_core.specs.declared.name.Name.{Name}
 use Rattle.block_core.specs.declared.name.Name.TheVariants as name
@@ -23,7 +23,7 @@ scatters p gather exit bits kept words bytes taken slot some most small covered 
   ordered = λ d before own g x q. in_order p gather exit bits kept words bytes taken slot d before own g x q;
   reads = λ d own t. (t, (own, tt, (own, tt)));
   within = omega arith;
-  wires_spelled = and_is _ _ (beat_spelled p gather bits kept some 0 (banks bits - 1) (let n = few_banks bits most in omega arith)) (words_spelled p gather exit bits kept words bytes taken slot words 0);
+  wires_spelled = and_is _ _ (beat_spelled p gather bits kept 0 (banks bits - 1) (let n = few_banks bits most in omega arith)) (words_spelled p gather exit bits kept words bytes taken slot words 0);
   spelled = refl;
   goes = λ v. (refl, (refl, (refl, (refl, (refl, (refl, (refl, (refl, (refl, (refl, words_go p gather exit bits kept words bytes taken slot v words 0))))))))));
   first = refl;
