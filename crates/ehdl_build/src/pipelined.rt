@@ -58,7 +58,8 @@ fn linked(alloc: Global, cells: &CellProgram, plan: &RowPlan) -> Result<Design, 
         Err(PipelineError::TooMany) => return Err(CompileError::NoMemory),
         Err(PipelineError::NoMemory) => return Err(CompileError::NoMemory),
     };
-    if are_products_apart(alloc, &design)? {
+    let apart = are_products_apart(alloc, &design)?;
+    if apart {
         Ok(design)
     } else {
         Err(CompileError::NoPipeline)
