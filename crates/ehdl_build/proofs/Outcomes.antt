@@ -132,8 +132,8 @@ some_maps xs [] empty e same off none = absurd cc
 some_maps xs (y ∷ ys) empty e same off none = absurd cc
 
 pub no_maps : (xs ys : List MapDecl) (empty : Bool) → empty ≡ (length ys == 0) → ys ≡ xs → empty ≡ true → xs ≡ []
-no_maps xs [] empty e same yes = sym same
-no_maps xs (y ∷ ys) empty e same yes = absurd (none e yes)
+no_maps xs [] empty e same is = sym same
+no_maps xs (y ∷ ys) empty e same is = absurd (none e is)
   where
     none : empty ≡ (length (y ∷ ys) == 0) → empty ≡ true → ⊥
-    none e yes = absurd cc
+    none e is = absurd cc

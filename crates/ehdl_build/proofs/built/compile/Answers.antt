@@ -29,7 +29,7 @@ returns-in-Err-count-clause-refused c = λ r refused.
 pub returns-then-not-is_empty-clause-error : goal.returns-then-not-is_empty-clause-error
 returns-then-not-is_empty-clause-error c =
     let p = c.in-Ok.program in
-    let some : p.decls ≢ [] = some_maps p.decls c.decls.result.now c.is_empty.result c.is_empty.ensures c.decls.ensures.decls ? in
+    let some : p.decls ≢ [] = some_maps p.decls c.decls.result.now c.is_empty.result c.is_empty.ensures c.decls.ensures.decls c.if-not-is_empty.true in
     record { program = p; object = c.in-Ok.ensures.program; refusal = inr (record { accepted = accepted_of p c.in-Ok-count.counted c.in-Ok-count.ensures.counted; maps = some; refusal = refl }) }
 
 pub returns-then-not-is_empty-clause-object : goal.returns-then-not-is_empty-clause-object
@@ -41,7 +41,7 @@ returns-then-not-is_empty-clause-refused c = λ r refused.
     inl (ap (λ x. Err (Refused x)) (sym (not_built (chosen_of c.args.choice) c.args.bytes.now p c.in-Ok.ensures.program r (accepted_of p c.in-Ok-count.counted c.in-Ok-count.ensures.counted) refused)))
 
 pub realize-requires-clause-no_maps : goal.realize-requires-clause-no_maps
-realize-requires-clause-no_maps c = no_maps c.in-Ok.program.decls c.decls.result.now c.is_empty.result c.is_empty.ensures c.decls.ensures.decls ?
+realize-requires-clause-no_maps c = no_maps c.in-Ok.program.decls c.decls.result.now c.is_empty.result c.is_empty.ensures c.decls.ensures.decls c.if-not-is_empty.false
 
 pub returns-in_err-text-clause-error : goal.returns-in_err-text-clause-error
 returns-in_err-text-clause-error c =
@@ -54,7 +54,7 @@ returns-in_err-text-clause-object c = λ e fault. absurd (never_both (chosen_of 
 pub returns-in_err-text-clause-refused : goal.returns-in_err-text-clause-refused
 returns-in_err-text-clause-refused c = λ r refused.
     let p = c.in-Ok.program in
-    absurd (no_refusal (chosen_of c.args.choice) c.args.bytes.now p c.in-Ok.ensures.program r (accepted_of p c.in-Ok-count.counted c.in-Ok-count.ensures.counted) (no_maps p.decls c.decls.result.now c.is_empty.result c.is_empty.ensures c.decls.ensures.decls ?) refused)
+    absurd (no_refusal (chosen_of c.args.choice) c.args.bytes.now p c.in-Ok.ensures.program r (accepted_of p c.in-Ok-count.counted c.in-Ok-count.ensures.counted) (no_maps p.decls c.decls.result.now c.is_empty.result c.is_empty.ensures c.decls.ensures.decls c.if-not-is_empty.false) refused)
 
 pub returns-clause-ok : goal.returns-clause-ok
 returns-clause-ok c =
@@ -76,4 +76,4 @@ returns-clause-object c = λ e fault. absurd (never_both (chosen_of c.args.choic
 pub returns-clause-refused : goal.returns-clause-refused
 returns-clause-refused c = λ r refused.
     let p = c.in-Ok.program in
-    absurd (no_refusal (chosen_of c.args.choice) c.args.bytes.now p c.in-Ok.ensures.program r (accepted_of p c.in-Ok-count.counted c.in-Ok-count.ensures.counted) (no_maps p.decls c.decls.result.now c.is_empty.result c.is_empty.ensures c.decls.ensures.decls ?) refused)
+    absurd (no_refusal (chosen_of c.args.choice) c.args.bytes.now p c.in-Ok.ensures.program r (accepted_of p c.in-Ok-count.counted c.in-Ok-count.ensures.counted) (no_maps p.decls c.decls.result.now c.is_empty.result c.is_empty.ensures c.decls.ensures.decls c.if-not-is_empty.false) refused)

@@ -1,7 +1,8 @@
 use Rattle.std.proofs.Common.{◌⊎◌, ◌-◌, refl, inl, inr, arith}
+use Rattle.std.proofs.lemmas.List.{length-map}
 use Rattle.net_core.specs.declared.design.Design.{Design}
 use Rattle.net_core.specs.View.{netlist_of}
-use Rattle.cell_core.specs.View.{program_of}
+use Rattle.cell_core.specs.View.{cell_of, program_of}
 use Rattle.program_graph.specs.Graphs.{graph_of}
 use Rattle.pipeline_net.specs.Pipeline.{most_slots}
 use Rattle.ehdl_build.specs.Pipelines.{GoBeyond, HasNestedProducts, HasNoPipeline}
@@ -24,7 +25,8 @@ linked-requires c =
     let g = graph_of c.args.program.now c.args.counted.now.graph in
     let cells = program_of c.in_ok-cells.cells in
     let law = c.in_ok-cells.ensures.law in
-    for_pipeline g cells c.in_ok-plan.plan law c.in_ok-cells.ensures.buildable c.in_ok-plan.ensures.plan.is (no_sites g cells law.sited c.requires.no_maps) ?
+    for_pipeline g cells c.in_ok-plan.plan law c.in_ok-cells.ensures.buildable c.in_ok-plan.ensures.plan.is (no_sites g cells law.sited c.requires.no_maps)
+    (omega (arith, length-map c.in_ok-cells.cells.cells.items cell_of, c.len.ensures, c.if-len.false))
 
 pub returns-clause-pipeline : goal.returns-clause-pipeline
 returns-clause-pipeline c =
