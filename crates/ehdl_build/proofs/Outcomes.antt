@@ -1,6 +1,7 @@
 -- What holds of the bytes that an error is answered for, and that no other error was to come.
 use Rattle.std.specs.Prelude.{◌≡◌, ◌≢◌, ◌⊎◌, ◌==◌, Bool, true, false, Result, Ok, Err, IfOk, IfErr, IsErrAnd, IsErrOf, ℕ, List, [], ◌∷◌, length}
-use Rattle.std.proofs.Common.{refl, sym, ap, subst, inl, inr, ◌∙◌}
+use Rattle.std.proofs.Common.{refl, sym, ap, subst, inl, inr, ◌∙◌, arith}
+use Rattle.std.proofs.lemmas.Bool.{eqb-true}
 use Rattle.xdp_maps.specs.declared.decl.MapDecl.{MapDecl}
 use Rattle.xdp_machine.specs.Program.{XdpProgram}
 use Rattle.xdp_object.specs.declared.error.ObjectError.{ObjectError}
@@ -132,8 +133,8 @@ some_maps xs [] empty e same off none = absurd cc
 some_maps xs (y ∷ ys) empty e same off none = absurd cc
 
 pub no_maps : (xs ys : List MapDecl) (empty : Bool) → empty ≡ (length ys == 0) → ys ≡ xs → empty ≡ true → xs ≡ []
-no_maps xs [] empty e same is = sym same
-no_maps xs (y ∷ ys) empty e same is = absurd (none e is)
+no_maps xs ys empty e same is = sym same ∙ none ys (eqb-true (length ys) 0 (sym e ∙ is))
   where
-    none : empty ≡ (length (y ∷ ys) == 0) → empty ≡ true → ⊥
-    none e is = absurd cc
+    none : (ys : List MapDecl) → length ys ≡ 0 → ys ≡ []
+    none [] h = refl
+    none (y ∷ ys) h = absurd (omega (arith, h))
