@@ -1,11 +1,11 @@
 -- What is kept of frames becomes more.
 use Rattle.std.specs.Prelude.{Contains, ◌==◌, ◌/◌}
-use Rattle.std.proofs.Common.{◌≡◌, ◌∙◌, ◌⊎◌, inl, inr, ℕ, zero, suc, ◌+◌, ◌<◌, ◌≤◌, Bool, true, false, Some, All, List, [], ◌∷◌, ◌++◌, length, get_or, refl, sym, ap, subst, arith}
+use Rattle.std.proofs.Common.{◌≡◌, ◌∙◌, ◌⊎◌, inl, inr, ℕ, ◌+◌, ◌<◌, ◌≤◌, Bool, true, false, Some, All, List, [], ◌∷◌, ◌++◌, length, get_or, refl, sym, ap, subst, arith}
 use Rattle.std.proofs.lemmas.Bool.{eqb-true, eqb-false}
 use Rattle.std.proofs.lemmas.List.{length_push}
 use Rattle.std.proofs.lemmas.List.Elements.{Contains-append_left, Contains-push, Contains-push_cases, Contains-get_or, All-contains, recursion_from_All}
 use Rattle.cell_core.specs.declared.operator.Operator.{Operator}
-use Rattle.cell_core.specs.declared.operator.Operator.TheVariants.{Constant, Byte, Length, Ifindex, Time, Wire, Later, Join, SignExtend, Not, And, Or, Xor, Any, Select, Phi, Difference, Quotient, Remainder, Add, Sub, Mul, ShiftLeft, ShiftRight, Equal, Less, LessOrEqual, NonZero, Found, Answer, Pending}
+use Rattle.cell_core.specs.declared.operator.Operator.TheVariants.{Byte}
 use Rattle.cell_core.specs.Cells.{CellView, cell_at}
 use Rattle.frame_net.specs.declared.held.Kept.{Kept}
 use Rattle.frame_net.specs.declared.held.Kept.TheVariants.{Word}
@@ -17,7 +17,7 @@ use Rattle.pipeline_net.specs.Keeping.{KeepsMore}
 
 module _ (cells : List CellView) (listed : List ℕ) where
   pub keeps_none : (A : Kept → Type 0) (most : ℕ) (old : List Kept) → ((x : Kept) → A x → ¬ IsTakenBy cells listed x) → KeepsMore cells listed A most old old
-  keeps_none A most old no = record { count = omega arith; stays = λ x c. c; met = λ x s t. absurd (no x s t); some = λ x c. inl c }
+  keeps_none A most old never = record { count = omega arith; stays = λ x c. c; met = λ x s t. absurd (never x s t); some = λ x c. inl c }
 
   pub keeps_one : (what : Kept) (old : List Kept) → IsTakenBy cells listed what → KeepsMore cells listed (λ x. x ≡ what) 1 old (old ++ what ∷ [])
   keeps_one what old t = record {
@@ -64,11 +64,11 @@ module _ (cells : List CellView) (listed : List ℕ) where
       by_case x (inr h) = inr (to x h.0, h.1)
 
   -- ---- word after word
-  abbrev Words : ℕ → Kept → Type 0
+  abbrev pub Words : ℕ → Kept → Type 0
   Words n x = (j : ℕ) × (j < n) × (x ≡ Word j)
 
   pub no_words : (old : List Kept) → KeepsMore cells listed (Words 0) 0 old old
-  no_words old = keeps_none (Words 0) 0 old (λ x s t. none s.0 s.1.0)
+  no_words old = keeps_none (Words 0) 0 old (λ x s t. none s.0 s.1)
     where
       none : (j : ℕ) → j < 0 → ⊥
       none j l = omega arith
@@ -90,41 +90,12 @@ module _ (cells : List CellView) (listed : List ℕ) where
   -- ---- all of it
   word_small : (op : Operator) (j : ℕ) → IsInWindow op → kept_for op ≡ Some (Word j) → j < 32
   word_small (Byte i) j w e = let s : i / 8 ≡ j = cc in omega (arith, s, w)
-  word_small Length j w e = cc
-  word_small Ifindex j w e = cc
-  word_small Time j w e = cc
-  word_small (Constant n) j w e = cc
-  word_small Wire j w e = cc
-  word_small Later j w e = cc
-  word_small (Join bits) j w e = cc
-  word_small (SignExtend bits) j w e = cc
-  word_small Not j w e = cc
-  word_small And j w e = cc
-  word_small Or j w e = cc
-  word_small Xor j w e = cc
-  word_small Any j w e = cc
-  word_small Select j w e = cc
-  word_small Phi j w e = cc
-  word_small Difference j w e = cc
-  word_small Quotient j w e = cc
-  word_small Remainder j w e = cc
-  word_small Add j w e = cc
-  word_small Sub j w e = cc
-  word_small Mul j w e = cc
-  word_small ShiftLeft j w e = cc
-  word_small ShiftRight j w e = cc
-  word_small Equal j w e = cc
-  word_small Less j w e = cc
-  word_small LessOrEqual j w e = cc
-  word_small NonZero j w e = cc
-  word_small (Found site) j w e = cc
-  word_small (Answer site) j w e = cc
-  word_small Pending j w e = cc
+  word_small op j w e = cc
 
-  abbrev AnyKept : Kept → Type 0
+  abbrev pub AnyKept : Kept → Type 0
   AnyKept x = (Words 32 x ⊎ (x ≡ kept.Ifindex)) ⊎ (x ≡ kept.Time)
 
-  all_more : (words more all : List Kept) → KeepsMore cells listed (Words 32) 32 [] words → KeepsMore cells listed (λ x. x ≡ kept.Ifindex) 1 words more → KeepsMore cells listed (λ x. x ≡ kept.Time) 1 more all → KeepsMore cells listed AnyKept 34 [] all
+  pub all_more : (words more all : List Kept) → KeepsMore cells listed (Words 32) 32 [] words → KeepsMore cells listed (λ x. x ≡ kept.Ifindex) 1 words more → KeepsMore cells listed (λ x. x ≡ kept.Time) 1 more all → KeepsMore cells listed AnyKept 34 [] all
   all_more words more all f g h =
       keeps_both (λ x. Words 32 x ⊎ (x ≡ kept.Ifindex)) (λ x. x ≡ kept.Time) 33 1 [] more all (keeps_both (Words 32) (λ x. x ≡ kept.Ifindex) 32 1 [] words more f g) h
 

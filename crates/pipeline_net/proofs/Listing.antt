@@ -1,9 +1,10 @@
 -- Numbers that pass a test, in their order.
 use Rattle.std.specs.Prelude.{Contains, ◌==◌}
 use Rattle.std.specs.List.{filter}
-use Rattle.std.proofs.Common.{◌≡◌, ◌∙◌, ◌⊎◌, inl, inr, ℕ, zero, suc, ◌+◌, ◌<◌, ◌≤◌, Bool, true, false, cond, All, List, [], ◌∷◌, ◌++◌, length, append-nil, refl, sym, ap, subst, arith}
+use Rattle.std.proofs.Common.{◌≡◌, ◌∙◌, ◌⊎◌, inl, inr, ℕ, zero, suc, ◌+◌, ◌<◌, ◌≤◌, Bool, true, false, cond, All, List, [], ◌∷◌, ◌++◌, length, append-nil, refl, sym, ap, arith}
 use Rattle.std.proofs.lemmas.Bool.{eqb-true, eqb-false}
 use Rattle.std.proofs.lemmas.List.Elements.{filter-append, All-nil, All-cons, All-filter}
+use Rattle.std.proofs.lemmas.List.Sums.{length-filter, count_by-le-length}
 use Rattle.cell_core.specs.Rows.{numbers}
 use Rattle.cell_core.proofs.NumberLaws.{numbers_more}
 
@@ -19,6 +20,10 @@ in_numbers (suc n) from k low high = by_test (λ later. in_numbers n (suc from) 
 pub numbers_below : (most n from : ℕ) → from + n ≤ most → All (λ k. k < most) (numbers from n)
 numbers_below most zero from h = All-nil (λ k. k < most)
 numbers_below most (suc n) from h = All-cons (λ k. k < most) from (numbers (suc from) n) (omega arith) (numbers_below most n (suc from) (omega arith))
+
+numbers_long : (from n : ℕ) → length (numbers from n) ≡ n
+numbers_long from zero = refl
+numbers_long from (suc n) = omega (arith, numbers_long (suc from) n)
 
 -- ---- filters
 differ : (t : Bool) → t ≡ false → t ≡ true → ⊥
@@ -58,3 +63,6 @@ module _ (q : ℕ → Bool) where
 
   pub kept_below : (n : ℕ) → All (λ k. k < n) (kept n)
   kept_below n = All-filter q (λ k. k < n) (numbers 0 n) (numbers_below n n 0 (omega arith))
+
+  pub kept_few : (n : ℕ) (cells : List ℕ) → cells ≡ kept n → length cells ≤ n
+  kept_few n cells is = omega (arith, ap length is, length-filter q (numbers 0 n), count_by-le-length q (numbers 0 n), numbers_long 0 n)

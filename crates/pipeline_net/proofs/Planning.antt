@@ -4,7 +4,7 @@ use Rattle.std.proofs.Common.{◌≡◌, ◌∙◌, ℕ, zero, suc, ◌+◌, ◌
 use Rattle.std.proofs.lemmas.List.Elements.{Contains-get_or, All-cons, All-weaker, All-map, All-nil, filter_passes}
 use Rattle.block_core.specs.declared.name.Name.{Name}
 use Rattle.cell_core.specs.declared.operator.Operator.{Operator}
-use Rattle.cell_core.specs.declared.operator.Operator.TheVariants.{Constant, Byte, Length, Ifindex, Time, Wire, Later, Join, SignExtend, Not, And, Or, Xor, Any, Select, Phi, Difference, Quotient, Remainder, Add, Sub, Mul, ShiftLeft, ShiftRight, Equal, Less, LessOrEqual, NonZero, Found, Answer, Pending}
+use Rattle.cell_core.specs.declared.operator.Operator.TheVariants.{Byte, Length, Ifindex, Time}
 use Rattle.cell_core.specs.Cells.{CellView, cell_at, is_read}
 use Rattle.cell_core.specs.Rows.{numbers}
 use Rattle.cell_core.specs.Sites.{ProgramView}
@@ -44,33 +44,7 @@ shown_of list (Byte i) o r w h = (omega (arith, w), h (kept.Word (i / 8)) refl)
 shown_of list Length o r w h = tt
 shown_of list Ifindex o r w h = h kept.Ifindex refl
 shown_of list Time o r w h = h kept.Time refl
-shown_of list (Constant n) o r w h = cc
-shown_of list Wire o r w h = cc
-shown_of list Later o r w h = cc
-shown_of list (Join bits) o r w h = cc
-shown_of list (SignExtend bits) o r w h = cc
-shown_of list Not o r w h = cc
-shown_of list And o r w h = cc
-shown_of list Or o r w h = cc
-shown_of list Xor o r w h = cc
-shown_of list Any o r w h = cc
-shown_of list Select o r w h = cc
-shown_of list Phi o r w h = cc
-shown_of list Difference o r w h = cc
-shown_of list Quotient o r w h = cc
-shown_of list Remainder o r w h = cc
-shown_of list Add o r w h = cc
-shown_of list Sub o r w h = cc
-shown_of list Mul o r w h = cc
-shown_of list ShiftLeft o r w h = cc
-shown_of list ShiftRight o r w h = cc
-shown_of list Equal o r w h = cc
-shown_of list Less o r w h = cc
-shown_of list LessOrEqual o r w h = cc
-shown_of list NonZero o r w h = cc
-shown_of list (Found site) o r w h = cc
-shown_of list (Answer site) o r w h = cc
-shown_of list Pending o r w h = cc
+shown_of list op o r w h = cc
 
 module _ (p : ProgramView) (plan : Plan) (d : Draft) (ready : IsForPipeline p plan) (is : IsDraft p d) where
   source_passes : All (λ k. is_source p d.needed.items k ≡ true) d.sources.items

@@ -32,13 +32,13 @@ use Rattle.pipeline_net.specs.Fronts.{AreFronts, AreAllParts}
 use Rattle.pipeline_net.proofs.Tables.{nothing_taken, made_within, made_passes, made_row, carried_within, carried_passes, carried_row}
 
 -- ---- the blocks of places, by their numbers
-no_block : BlockTree (Name Part)
+pub no_block : BlockTree (Name Part)
 no_block = record { registers = []; memories = []; wires = []; statement = SBlock SEnd }
 
-abbrev block_in : List (Placed Part) → ℕ → BlockTree (Name Part)
+abbrev pub block_in : List (Placed Part) → ℕ → BlockTree (Name Part)
 block_in ms k = get_or (map (λ m. block_of m.block) ms) k no_block
 
-below_or : (k n : ℕ) → (k < n) ⊎ (n ≤ k)
+pub below_or : (k n : ℕ) → (k < n) ⊎ (n ≤ k)
 below_or zero zero = inr (omega arith)
 below_or zero (suc n) = inl (omega arith)
 below_or (suc k) zero = inr (omega arith)
@@ -49,23 +49,23 @@ below_or (suc k) (suc n) = next (below_or k n)
     next (inr h) = inr (omega arith)
 
 module _ (p : ProgramView) (plan : Plan) (d : Draft) (shape : ControlShape) (words : List ℕ) (ms : List (Placed Part)) (ready : IsForPipeline p plan) (is : IsDraft p d) (all : AreAllParts p plan d shape words ms) where
-  abbrev places : List (Placed Part)
+  abbrev pub places : List (Placed Part)
   places = all.places
 
   abbrev some_part : Placed Part
   some_part = all.are_fronts.scatter
 
-  place_at : (k : ℕ) → k < suc plan.last → IsPlaceOf p plan d k (block_in places k)
+  pub place_at : (k : ℕ) → k < suc plan.last → IsPlaceOf p plan d k (block_in places k)
   place_at k lt =
       let within : k < length places = omega (arith, all.count) in
       subst (IsPlaceOf p plan d k) (sym (get_or-map (λ (m : Placed Part). block_of m.block) places k some_part no_block within)) (all.are_places k some_part within).block
 
   -- ---- the tables: those of the places, behind the last one that of the answer, and then constants alone
-  table_by : (k : ℕ) → (k < suc plan.last) ⊎ (suc plan.last ≤ k) → Table
+  abbrev pub table_by : (k : ℕ) → (k < suc plan.last) ⊎ (suc plan.last ≤ k) → Table
   table_by k (inl h) = (place_at k h).table
   table_by k (inr h) = cond (k == suc plan.last) all.is_answer.table d.constants.items
 
-  pub layout : Layout
+  abbrev pub layout : Layout
   layout = record {
     build = build_of p plan (slots_of plan);
     shape = shape;
@@ -153,10 +153,10 @@ module _ (p : ProgramView) (plan : Plan) (d : Draft) (shape : ControlShape) (wor
   }
 
   -- ---- the parts
-  abbrev fronts : AreFronts shape d.kept.items words all.answer all.fronts
+  abbrev pub fronts : AreFronts shape d.kept.items words all.answer all.fronts
   fronts = all.are_fronts
 
-  block_at : Part → BlockTree (Name Part)
+  abbrev pub block_at : Part → BlockTree (Name Part)
   block_at Scatter = block_of fronts.scatter.block
   block_at Control = block_of fronts.control.block
   block_at Gather = block_of fronts.gather.block
@@ -164,7 +164,7 @@ module _ (p : ProgramView) (plan : Plan) (d : Draft) (shape : ControlShape) (wor
   block_at Exit = block_of fronts.exit.block
   block_at (Place k) = block_in places k
 
-  pub whole : Whole Part
+  abbrev pub whole : Whole Part
   whole = record { place = part_place; parts = parts_of (suc plan.last); block = block_at }
 
   abbrev PlaceIn : ℕ → Table → Type 0
@@ -242,7 +242,7 @@ module _ (p : ProgramView) (plan : Plan) (d : Draft) (shape : ControlShape) (wor
   order_parts =
       cons fronts.scatter_part
       (cons fronts.control_part
-      (cons fronts.gather_part (cons fronts.sources_part (cons fronts.exit_part (listed 0 (suc plan.last) places all.count (λ k m lt. (all.are_places k m lt).part))))))
+      (cons fronts.gather_part (cons fronts.sources_part (cons fronts.exit_part (listed 0 (suc plan.last) places all.count (λ k m lt. (all.are_places k m lt).part ∙ ap Place (omega arith)))))))
 
   pub makes : Makes part_place ms whole
   makes = record {

@@ -74,12 +74,7 @@ fn is_taken(cells: &[Cell], listed: &[u32], what: Kept) -> bool
 }
 
 // Adds something to what is kept, where one of these cells takes it.
-fn keep(
-    kept: &mut Vec<Kept>,
-    cells: &[Cell],
-    listed: &[u32],
-    what: Kept,
-) -> Result<(), AllocError>
+fn keep(kept: &mut Vec<Kept>, cells: &[Cell], listed: &[u32], what: Kept) -> Result<(), AllocError>
     requires window { (k : ℕ) → k < length cells.now → IsInWindow (cell_at (map_list cell_of cells.now) k).op }
     requires within { All (λ k. k < length cells.now) listed.now }
     ensures { OnOk result (KeepsMore (map_list cell_of cells.now) listed.now (λ x. x ≡ what) 1 kept.old.items kept.new.items) }
