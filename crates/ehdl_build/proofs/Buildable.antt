@@ -32,13 +32,13 @@ in_window op h = tt
 
 -- what comes with a packet stands in the first row
 outside_first : (op : Operator) (ins : List ℕ) (row : ℕ → ℕ) → AreInputs op ins → is_read op ≡ false → is_outside op ≡ true → greatest row ins + bit (is_heavy op) ≡ 0
-outside_first (Byte i) ins row h no is = ap (λ xs. greatest row xs + 0) h
-outside_first Length ins row h no is = ap (λ xs. greatest row xs + 0) h
-outside_first Ifindex ins row h no is = ap (λ xs. greatest row xs + 0) h
-outside_first Time ins row h no is = ap (λ xs. greatest row xs + 0) h
-outside_first (Found j) ins row h no is = absurd cc
-outside_first (Answer j) ins row h no is = absurd cc
-outside_first op ins row h no is = absurd cc
+outside_first (Byte i) ins row h unread is = ap (λ xs. greatest row xs + 0) h
+outside_first Length ins row h unread is = ap (λ xs. greatest row xs + 0) h
+outside_first Ifindex ins row h unread is = ap (λ xs. greatest row xs + 0) h
+outside_first Time ins row h unread is = ap (λ xs. greatest row xs + 0) h
+outside_first (Found j) ins row h unread is = absurd cc
+outside_first (Answer j) ins row h unread is = absurd cc
+outside_first op ins row h unread is = absurd cc
 
 module _ (g : GraphView) (cells : ProgramView) (plan : Plan) (law : IsLaw g cells) (buildable : IsBuildable cells) (planned : IsPlan cells plan) (none : cells.sites ≡ []) where
   row_within : (k : ℕ) → k < length cells.cells → slice_index plan.rows k ≤ plan.last

@@ -1,6 +1,8 @@
 -- What holds of the bytes that an error is answered for, and that no other error was to come.
-use Rattle.std.specs.Prelude.{◌≡◌, ◌≢◌, ◌⊎◌, Result, Ok, Err, IfErr, IsErrAnd, IsErrOf, ℕ, List, []}
-use Rattle.std.proofs.Common.{refl, sym, ap, subst, inl, inr, ◌∙◌}
+use Rattle.std.specs.Prelude.{◌≡◌, ◌≢◌, ◌⊎◌, ◌==◌, Bool, true, false, Result, Ok, Err, IfOk, IfErr, IsErrAnd, IsErrOf, ℕ, List, [], ◌∷◌, length}
+use Rattle.std.proofs.Common.{refl, sym, ap, subst, inl, inr, ◌∙◌, arith}
+use Rattle.std.proofs.lemmas.Bool.{eqb-true}
+use Rattle.xdp_maps.specs.declared.decl.MapDecl.{MapDecl}
 use Rattle.xdp_machine.specs.Program.{XdpProgram}
 use Rattle.xdp_object.specs.declared.error.ObjectError.{ObjectError}
 use Rattle.xdp_object.specs.declared.error.ObjectError.TheVariants.{NoMemory as ObjectMemory}
@@ -14,7 +16,7 @@ use Rattle.kind_core.specs.declared.why.BuildError.TheVariants as build
 use Rattle.unfold_core.specs.declared.links.Edge.{Edge}
 use Rattle.unfold_core.specs.declared.unfolding.Unfolded.{Unfolded}
 use Rattle.unfold_core.specs.Unfolding.{IsUnfolded, Unfolds}
-use Rattle.unfold_core.proofs.OneOutcomeLaws as graphs
+use Rattle.unfold_core.specs.Acceptance as graphs
 use Rattle.node_rows.specs.Rows.{HasStages, IsTooLate, AreCounted}
 use Rattle.node_rows.specs.Acceptance.{IsAccepted, IsFirstRefusal}
 use Rattle.node_rows.proofs.OneOutcomeLaws.{has_one_outcome}
@@ -30,10 +32,22 @@ pub err_with : {T E : Type 0} (P : E → Type 0) (e : E) (r : Result T E) → Is
 err_with P e (Ok x) is h = tt
 err_with P e (Err f) is h = subst P (sym is) h
 
+-- and what follows of it
+pub ok_more : {T E : Type 0} (P Q : T → Type 0) (r : Result T E) → ((x : T) → P x → Q x) → IfOk r P → IfOk r Q
+ok_more P Q (Ok x) f h = f x h
+ok_more P Q (Err e) f h = tt
+
+pub err_more : {T E : Type 0} (P Q : E → Type 0) (r : Result T E) → ((e : E) → P e → Q e) → IfErr r P → IfErr r Q
+err_more P Q (Ok x) f h = tt
+err_more P Q (Err e) f h = f e h
+
 -- ---- what is counted
-pub accepted_of : (p : XdpProgram) (c : Counted) → IsCounted p c → IsAccepted p
+abbrev pub unfolds_of : (p : XdpProgram) (u : Unfolded) → IsUnfolded p u → graphs.IsAccepted p
+unfolds_of p u is = record { loops = u.loops.items; graph = u.nodes.items; has_loops = is.loops; is_graph = is.graph }
+
+abbrev pub accepted_of : (p : XdpProgram) (c : Counted) → IsCounted p c → IsAccepted p
 accepted_of p c is = record {
-  unfolds = graphs.accepted_of p c.graph is.unfolded;
+  unfolds = unfolds_of p c.graph is.unfolded;
   stages = c.stages;
   has_stages = subst (λ (es : List Edge). HasStages p c.graph.nodes.items es c.stages) is.unfolded.edges is.stages;
 }
@@ -44,7 +58,7 @@ unfolding_fails p build.NoMemory u = tt
 
 pub counting_fails : (p : XdpProgram) (u : Unfolded) (e : BuildError) → IsUnfolded p u → AreCounted p u (Err e) → FailsCounting p e
 counting_fails p u (build.Refused r) is late =
-    inr (record { unfolds = graphs.accepted_of p u is; late = subst (λ (es : List Edge). IsTooLate p u.nodes.items es r) is.edges late })
+    inr (record { unfolds = unfolds_of p u is; late = subst (λ (es : List Edge). IsTooLate p u.nodes.items es r) is.edges late })
 counting_fails p u build.NoMemory is late = tt
 
 -- ---- errors of the object
@@ -112,3 +126,15 @@ module _ (choice : Chosen) (bytes : List ℕ) where
     pub failed_pipeline : (r : CompileError) → FailsBecause (HasNoPipeline p) r → FailsFor choice bytes r
     failed_pipeline r (inl e) = subst (λ (x : CompileError). FailsFor choice bytes x) (sym e) tt
     failed_pipeline r (inr (e, why)) = subst (λ (x : CompileError). FailsFor choice bytes x) (sym e) (record { program = p; object = object; none = why })
+
+-- ---- the declarations of a program
+pub some_maps : (xs ys : List MapDecl) (empty : Bool) → empty ≡ (length ys == 0) → ys ≡ xs → empty ≡ false → xs ≢ []
+some_maps xs [] empty e same off none = absurd cc
+some_maps xs (y ∷ ys) empty e same off none = absurd cc
+
+pub no_maps : (xs ys : List MapDecl) (empty : Bool) → empty ≡ (length ys == 0) → ys ≡ xs → empty ≡ true → xs ≡ []
+no_maps xs ys empty e same is = sym same ∙ none ys (eqb-true (length ys) 0 (sym e ∙ is))
+  where
+    none : (ys : List MapDecl) → length ys ≡ 0 → ys ≡ []
+    none [] h = refl
+    none (y ∷ ys) h = absurd (omega (arith, h))

@@ -18,7 +18,7 @@ use cell_core::program::CellProgram;
 use kind_core::BuildError;
 use net_core::design::Design;
 use pipeline_net::{PipelineError, pipeline};
-use predicate_core::to_cells;
+use predicate_core::program::to_cells;
 use product_rules::are_products_apart;
 use row_plan::{RowPlan, plan};
 use std::alloc::Global;
@@ -58,7 +58,8 @@ fn linked(alloc: Global, cells: &CellProgram, plan: &RowPlan) -> Result<Design, 
         Err(PipelineError::TooMany) => return Err(CompileError::NoMemory),
         Err(PipelineError::NoMemory) => return Err(CompileError::NoMemory),
     };
-    if are_products_apart(alloc, &design)? {
+    let apart = are_products_apart(alloc, &design)?;
+    if apart {
         Ok(design)
     } else {
         Err(CompileError::NoPipeline)
