@@ -14,9 +14,9 @@ use Rattle.xdp_machine.specs.State.{PacketIn}
 use Rattle.xdp_machine.specs.Runs.{Leaves}
 use Rattle.xdp_machine.specs.MachineLaws.{LeavesInRange}
 use Rattle.cell_core.specs.declared.cell.Cell.{Cell}
-use Rattle.cell_core.specs.declared.operator.Operator.TheVariants.{Constant, Wire}
+use Rattle.cell_core.specs.declared.operator.Operator.TheVariants.{Wire}
 use Rattle.cell_core.specs.declared.program.FrameByte.{FrameByte}
-use Rattle.cell_core.specs.Cells.{CellView, IsRun, no_cell, cell_at, bits_from, on}
+use Rattle.cell_core.specs.Cells.{CellView, IsRun, no_cell, cell_at, on}
 use Rattle.cell_core.specs.Rows.{greatest}
 use Rattle.cell_core.specs.Sites.{with_bytes}
 use Rattle.cell_core.specs.View.{cell_of}
@@ -26,7 +26,7 @@ use Rattle.operator_cells.specs.Making.{seen, Adds, Makes, MakesIf, operated}
 use Rattle.operator_cells.specs.Rising.{Rises}
 use Rattle.operator_cells.proofs.MakingLaws.{grown, grown_none}
 use Rattle.held_cells.specs.declared.way.Exit.{Exit}
-use Rattle.held_cells.specs.Held.{number_of, IsThere}
+use Rattle.held_cells.specs.Held.{IsThere}
 use Rattle.kind_core.specs.declared.number.Number.{Number}
 use Rattle.kind_core.specs.declared.number.Number.TheVariants.{Known, Unknown}
 use Rattle.held_cells.specs.Steps.{IsLeft}

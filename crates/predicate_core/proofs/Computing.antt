@@ -7,7 +7,7 @@ use Rattle.std.proofs.lemmas.List.Elements.{All-nil, All-filter, filter_passes}
 use Rattle.xdp_maps.specs.State.{MapState, IsSound}
 use Rattle.xdp_machine.specs.State.{PacketIn, start}
 use Rattle.xdp_machine.specs.Runs.{Leaves}
-use Rattle.xdp_machine.specs.MachineLaws.{StartsInRange, RunsLeaveInRange, LeavesInRange}
+use Rattle.xdp_machine.specs.MachineLaws.{StartsInRange, RunsLeaveInRange}
 use Rattle.xdp_machine.specs.Touched as machine
 use Rattle.cell_core.specs.declared.program.FrameByte.{FrameByte}
 use Rattle.bpf_isa.specs.Spelling.{IsInsn}

@@ -1,6 +1,6 @@
 -- Edges by their numbers.
-use Rattle.std.proofs.Common.{◌≡◌, ℕ, suc, ◌+◌, ◌-◌, ◌<◌, ◌≤◌, ◌==◌, ◌⊎◌, inl, inr, List, [], ◌∷◌, ◌++◌, length, length-append, get_or, take, replicate, map, sym, ◌∙◌, ap, subst, arith, refl}
-use Rattle.std.specs.Prelude.{slice_index, All, Contains}
+use Rattle.std.proofs.Common.{◌≡◌, ℕ, ◌<◌, List, [], length, get_or, sym, ◌∙◌, ap, arith}
+use Rattle.std.specs.Prelude.{slice_index}
 use Rattle.std.proofs.lemmas.List.{length-map, get_or-map, get_or_default}
 use Rattle.held_cells.specs.declared.way.Way.{Way}
 use Rattle.edge_cells.specs.Joining.{LeadTo}

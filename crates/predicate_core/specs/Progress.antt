@@ -1,8 +1,6 @@
 -- Programs in memory, node by node.
 use Rattle.std.specs.Prelude.{ℕ, ◌≡◌, ◌-◌, ◌<◌, List, [], ◌∷◌, ◌++◌, length, replicate, slice_index, get_or, map as map_list, All, Contains}
-use Rattle.cell_core.specs.Cells.{CellView}
-use Rattle.cell_core.specs.Sites.{SiteView}
-use Rattle.operator_cells.specs.Making.{seen, Grows}
+use Rattle.operator_cells.specs.Making.{seen}
 use Rattle.held_cells.specs.declared.held.Held.{Held}
 use Rattle.held_cells.specs.declared.way.Way.{Way}
 use Rattle.held_cells.specs.Paths.{GraphView}

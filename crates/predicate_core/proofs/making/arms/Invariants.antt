@@ -1,4 +1,4 @@
-use Rattle.std.proofs.Common.{ℕ, ◌≡◌, ◌<◌, List, length}
+use Rattle.std.proofs.Common.{◌≡◌, ◌<◌, List, length}
 use Rattle.std.specs.Prelude.{All}
 use Rattle.cell_core.specs.Cells.{CellView}
 use Rattle.operator_cells.specs.Joining.{AreThere}

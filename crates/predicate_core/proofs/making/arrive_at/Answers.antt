@@ -1,6 +1,5 @@
-use Rattle.std.proofs.Common.{◌≡◌, ℕ, ◌<◌, ◌≤◌, List, [], length, get_or, sym, ◌∙◌, ap, subst, arith, refl}
+use Rattle.std.proofs.Common.{◌≡◌, ℕ, ◌<◌, [], length, get_or, sym, ap, subst, arith, refl}
 use Rattle.std.proofs.lemmas.List.{length-map}
-use Rattle.kind_core.specs.declared.kind.Kinds.{Kinds}
 use Rattle.operator_cells.specs.Making.{seen}
 use Rattle.held_cells.specs.Paths.{NodeView, node_at}
 use Rattle.held_cells.specs.Held.{pointed}

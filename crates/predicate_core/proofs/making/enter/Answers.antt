@@ -1,4 +1,4 @@
-use Rattle.std.proofs.Common.{◌≡◌, ℕ, ◌+◌, ◌≤◌, List, [], ◌∷◌, ◌++◌, length, length-append, take, map, sym, ◌∙◌, ap, subst, arith, refl}
+use Rattle.std.proofs.Common.{ℕ, List, [], ◌∷◌, ◌++◌, length, length-append, take, map, ◌∙◌, ap, subst, arith, refl}
 use Rattle.std.proofs.Math.ListN.{length-set}
 use Rattle.std.proofs.lemmas.List.{length-take-le, take_all}
 use Rattle.predicate_core.specs.Progress.{targets, Entered}

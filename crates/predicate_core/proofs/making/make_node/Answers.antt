@@ -1,13 +1,10 @@
-use Rattle.std.proofs.Common.{◌≡◌, ℕ, ◌+◌, ◌<◌, ◌≤◌, ◌==◌, Bool, List, [], ◌∷◌, ◌++◌, length, get_or, take, map, sym, ◌∙◌, ap, subst, arith, refl}
-use Rattle.std.specs.Prelude.{All}
+use Rattle.std.proofs.Common.{◌≡◌, ℕ, ◌<◌, ◌≤◌, ◌==◌, Bool, List, [], ◌∷◌, ◌++◌, length, take, map, sym, ◌∙◌, ap, subst, arith, refl}
 use Rattle.std.specs.List.{list_any}
 use Rattle.std.proofs.lemmas.List.{length-map}
 use Rattle.xdp_maps.specs.declared.decl.MapDecl.{MapDecl}
-use Rattle.kind_core.specs.declared.kind.Kinds.{Kinds}
 use Rattle.kind_core.specs.Kinds.{key_bytes}
 use Rattle.cell_core.specs.Formed.{FitsMap, IsBelow}
 use Rattle.cell_core.specs.declared.program.Node.{Node}
-use Rattle.cell_core.specs.Sites.{SiteView}
 use Rattle.held_cells.specs.declared.way.Way.{Way}
 use Rattle.operator_cells.specs.Making.{seen}
 use Rattle.held_cells.specs.Paths.{NodeView, node_at}
@@ -19,7 +16,7 @@ use Rattle.site_cells.specs.Sited.{sited}
 use Rattle.program_graph.specs.Graphs.{node_view, graph_of}
 use Rattle.program_graph.specs.Sound.{IsSoundGraph}
 use Rattle.predicate_core.specs.Feeding.{FeedsNodes}
-use Rattle.predicate_core.specs.Progress.{making_of, entries_of, pending_of, targets, AreWaiting, Entered}
+use Rattle.predicate_core.specs.Progress.{entries_of, pending_of, targets, Entered}
 use Rattle.predicate_core.proofs.Progressing.{node_is, made_there, site_more, sited_count, small_keys, insn_legal, targets_inside, leave_inside, seen_count, node_made, ready_next}
 use Rattle.predicate_core.proofs.making.make_node.Goals as goal
 

@@ -1,6 +1,5 @@
-use Rattle.std.proofs.Common.{◌≡◌, ◌<◌, get_or, length, ap, arith}
-use Rattle.cell_core.specs.Sites.{SiteView, site_at}
-use Rattle.site_cells.specs.Sited.{sited}
+use Rattle.std.proofs.Common.{get_or, ap, arith}
+use Rattle.cell_core.specs.Sites.{SiteView}
 use Rattle.predicate_core.proofs.Progressing.{sited_length, sited_at}
 use Rattle.predicate_core.proofs.making.pass.Goals as goal
 

@@ -1,4 +1,4 @@
-use Rattle.std.proofs.Common.{◌≡◌, ℕ, ◌<◌, [], ◌∷◌, ◌++◌, length, List, map, sym, ◌∙◌, ap, subst, arith, refl}
+use Rattle.std.proofs.Common.{ℕ, [], ◌∷◌, ◌++◌, length, List, map, ◌∙◌, ap, subst, arith, refl}
 use Rattle.std.proofs.lemmas.List.{length-map}
 use Rattle.cell_core.specs.Cells.{CellView}
 use Rattle.operator_cells.specs.Making.{seen}
