@@ -18,7 +18,7 @@ use cell_core::program::CellProgram;
 use kind_core::BuildError;
 use net_core::design::Design;
 use pipeline_net::{PipelineError, pipeline};
-use predicate_core::to_cells;
+use predicate_core::program::to_cells;
 use product_rules::are_products_apart;
 use row_plan::{RowPlan, plan};
 use std::alloc::Global;
