@@ -1,4 +1,4 @@
-use Rattle.std.proofs.Common.{◌⊎◌, ◌-◌, refl, inl, inr, arith}
+use Rattle.std.proofs.Common.{◌⊎◌, ◌-◌, inl, inr, arith}
 use Rattle.std.proofs.lemmas.List.{length-map}
 use Rattle.net_core.specs.declared.design.Design.{Design}
 use Rattle.net_core.specs.View.{netlist_of}
