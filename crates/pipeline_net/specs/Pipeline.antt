@@ -24,7 +24,7 @@ slots_of plan = plan.last + 4
 
 -- the most bits that the number of a slot has, and the most slots
 abbrev pub most_bits : ℕ
-most_bits = 5
+most_bits = 9
 
 abbrev pub most_slots : ℕ
 most_slots = 2 ^ most_bits

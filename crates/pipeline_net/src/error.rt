@@ -12,7 +12,7 @@ use thiserror::Error;
 #[derive(Clone, Copy, PartialEq, Eq, Debug, Error)]
 pub enum PipelineError {
     /// With a place for each row the pipeline would have room for more frames than a slot has numbers.
-    #[error("more than 28 stages")]
+    #[error("more than 508 stages")]
     TooManySlots,
     /// There are 2^32 nets of one sort or more.
     #[error("more than 4,294,967,295 nets of one sort")]
