@@ -8,8 +8,8 @@ use Rattle.pipeline_net.proofs.Planning.{commits_first, are_sources}
 use Rattle.pipeline_net.proofs.Whole.{layout, whole, laid_out, are_parts, makes}
 use Rattle.pipeline_net.proofs.making.pipeline.Goals as goal
 
-pub shape-requires-clause-commit : goal.shape-requires-clause-commit
-shape-requires-clause-commit c = omega (arith, commits_first (program_of c.args.program.now) c.args.plan.now c.requires)
+pub shape-shape-requires-clause-commit : goal.shape-shape-requires-clause-commit
+shape-shape-requires-clause-commit c = omega (arith, commits_first (program_of c.args.program.now) c.args.plan.now c.requires)
 
 pub parts-requires-clause-words : goal.parts-requires-clause-words
 parts-requires-clause-words c = c.deref-2.ensures.value ∙ c.in_ok-words.ensures.words ∙ ap changed_words c.deref.ensures.value
