@@ -1,0 +1,9 @@
+mod Listing
+mod Tables
+mod Same
+mod Whole
+mod Keeps
+mod Answering
+mod Planning
+mod Blocks
+mod Reached
