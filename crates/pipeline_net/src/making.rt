@@ -78,6 +78,7 @@ fn scatter_block(
 ) -> Result<Block<Name<Part>>, AllocError>
     requires some { 1 ≤ bits }
     requires most { bits ≤ most_bits }
+    requires few_kept { length kept.now ≤ 255 }
     requires few { length words.now ≤ 255 }
     requires covered { (b : ℕ) → Contains (byte_numbers answer.now) b → Contains words.now (b / 8) }
     ensures { IfOk result (λ b. IsScatter shell.Scatter shell.Gather shell.Exit bits kept.now words.now (byte_numbers answer.now) (told_by wire.Taken) (next_slot Given) (block_of b)) }
