@@ -1,12 +1,11 @@
 -- Why a program without maps has no pipeline, by what is lacking of its cells.
-use Rattle.std.specs.Prelude.{◌≡◌, ◌⊎◌, ◌-◌, []}
+use Rattle.std.specs.Prelude.{◌≡◌, ◌⊎◌, []}
 use Rattle.std.proofs.Common.{refl, inl, inr}
 use Rattle.xdp_machine.specs.Program.{XdpProgram}
 use Rattle.program_graph.specs.Graphs.{graph_of}
 use Rattle.cell_core.specs.Sites.{ProgramView}
 use Rattle.held_cells.specs.Law.{IsLaw}
 use Rattle.predicate_core.specs.Buildable.{IsBuildable}
-use Rattle.pipeline_net.specs.Pipeline.{most_slots}
 use Rattle.ehdl_build.specs.declared.counted.Counted.{Counted}
 use Rattle.ehdl_build.specs.declared.built.CompileError.{CompileError}
 use Rattle.ehdl_build.specs.Pipelines.{AreCellsOf, GoBeyond, HasNestedProducts, HasNoPipeline}
@@ -21,5 +20,5 @@ module _ (p : XdpProgram) (c : Counted) (is : IsCounted p c) (cells : ProgramVie
   pub cells_of : AreCellsOf p cells
   cells_of = record { graph = c.graph; unfolded = is.unfolded; law = law; buildable = buildable }
 
-  pub lacking : p.decls ≡ [] → GoBeyond c.stages.rows cells ⊎ (GoBeyond (most_slots - 4) cells ⊎ HasNestedProducts cells) → HasNoPipeline p
+  pub lacking : p.decls ≡ [] → GoBeyond c.stages.rows cells ⊎ HasNestedProducts cells → HasNoPipeline p
   lacking none why = record { accepted = accepted_of p c is; no_maps = none; cells = cells; are_cells = cells_of; why = why }

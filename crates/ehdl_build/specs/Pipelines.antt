@@ -1,5 +1,5 @@
 -- Accepted programs of which no pipeline is built, for now.
-use Rattle.std.specs.Prelude.{◌≡◌, ◌≢◌, ◌⊎◌, ℕ, ◌-◌, ◌<◌, false, []}
+use Rattle.std.specs.Prelude.{◌≡◌, ◌≢◌, ◌⊎◌, ℕ, ◌<◌, false, []}
 use Rattle.xdp_machine.specs.Program.{XdpProgram}
 use Rattle.net_core.specs.Nets.{Netlist}
 use Rattle.product_rules.specs.Products.{products_apart}
@@ -14,7 +14,7 @@ use Rattle.held_cells.specs.Law.{IsLaw}
 use Rattle.program_graph.specs.Graphs.{graph_of}
 use Rattle.predicate_core.specs.Buildable.{IsBuildable}
 use Rattle.row_plan.specs.Plan.{Plan, IsPlan}
-use Rattle.pipeline_net.specs.Pipeline.{IsPipeline, most_slots}
+use Rattle.pipeline_net.specs.Pipeline.{IsPipeline}
 
 -- A program with maps is refused at its first place.
 pub record IsNotBuilt (p : XdpProgram) (r : Refusal) : Type 0 where
@@ -43,11 +43,11 @@ pub record HasNestedProducts (cells : ProgramView) : Type 0 where
   pub pipeline : IsPipeline cells plan design
   pub nested : products_apart design ≡ false
 
--- A program without maps has no pipeline where its cells take more rows than it has stages, or than there are places, or where products are
--- nested. Of no program is this known.
+-- A program without maps has no pipeline where its cells take more rows than it has stages, or where products are nested in it. Of no program
+-- is this known.
 pub record HasNoPipeline (p : XdpProgram) : Type 0 where
   pub accepted : IsAccepted p
   pub no_maps : p.decls ≡ []
   pub cells : ProgramView
   pub are_cells : AreCellsOf p cells
-  pub why : GoBeyond accepted.stages.rows cells ⊎ (GoBeyond (most_slots - 4) cells ⊎ HasNestedProducts cells)
+  pub why : GoBeyond accepted.stages.rows cells ⊎ HasNestedProducts cells

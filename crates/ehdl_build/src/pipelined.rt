@@ -1,12 +1,12 @@
 // The pipeline of a program without maps.
 
-ghost use Rattle.std.specs.Prelude.{◌≡◌, ◌-◌, ◌<◌, ◌≤◌, ◌^◌, ◌⊎◌, [], length, IfErr, IfOk};
+ghost use Rattle.std.specs.Prelude.{◌≡◌, ◌<◌, ◌≤◌, ◌^◌, [], length, IfErr, IfOk};
 ghost use Rattle.xdp_machine.specs.Program.{IsProgram};
 ghost use Rattle.net_core.specs.View.{netlist_of};
 ghost use Rattle.design_rules.specs.Formed.{IsWellFormed};
 ghost use Rattle.cell_core.specs.View.{program_of};
 ghost use Rattle.cell_core.specs.Formed.{AreFormed};
-ghost use Rattle.pipeline_net.specs.Pipeline.{IsForPipeline, most_slots};
+ghost use Rattle.pipeline_net.specs.Pipeline.{IsForPipeline};
 ghost use Rattle.row_plan.specs.Plan.{IsPlan};
 ghost use Rattle.ehdl_build.specs.Pipelines.{AreCellsOf, GoBeyond, HasNestedProducts, HasNoPipeline};
 ghost use Rattle.ehdl_build.specs.Compiled.{Realizes};
@@ -49,11 +49,12 @@ fn linked(alloc: Global, cells: &CellProgram, plan: &RowPlan) -> Result<Design, 
     requires { IsForPipeline (program_of cells.now) plan.now }
     ensures pipeline { IfOk result (λ d. IsSoundPipeline (program_of cells.now) plan.now (netlist_of d)) }
     ensures formed { IfOk result (λ d. IsWellFormed (netlist_of d)) }
-    ensures none { IfErr result (FailsBecause (GoBeyond (most_slots - 4) (program_of cells.now) ⊎ HasNestedProducts (program_of cells.now))) }
+    ensures none { IfErr result (FailsBecause (HasNestedProducts (program_of cells.now))) }
 {
     let design = match pipeline(alloc, cells, plan) {
         Ok(design) => design,
-        Err(PipelineError::TooManySlots) => return Err(CompileError::NoPipeline),
+        // A plan has 256 rows at most, for which there is room.
+        Err(PipelineError::TooManySlots) => unreachable!(),
         // 2^32 nets are want of memory, too.
         Err(PipelineError::TooMany) => return Err(CompileError::NoMemory),
         Err(PipelineError::NoMemory) => return Err(CompileError::NoMemory),

@@ -1,10 +1,9 @@
-use Rattle.std.proofs.Common.{◌⊎◌, ◌-◌, inl, inr, arith}
+use Rattle.std.proofs.Common.{inl, inr, arith}
 use Rattle.std.proofs.lemmas.List.{length-map}
 use Rattle.net_core.specs.declared.design.Design.{Design}
 use Rattle.net_core.specs.View.{netlist_of}
 use Rattle.cell_core.specs.View.{cell_of, program_of}
 use Rattle.program_graph.specs.Graphs.{graph_of}
-use Rattle.pipeline_net.specs.Pipeline.{most_slots}
 use Rattle.ehdl_build.specs.Pipelines.{GoBeyond, HasNestedProducts, HasNoPipeline}
 use Rattle.ehdl_build.specs.Steps.{IsSoundPipeline, IsPipelineOf, FailsBecause}
 use Rattle.ehdl_build.proofs.Buildable.{no_sites, for_pipeline}
@@ -50,7 +49,7 @@ pub returns-clause-none : goal.returns-clause-none
 returns-clause-none c =
     let p = c.args.program.now in
     let cells = program_of c.in_ok-cells.cells in
-    err_more (FailsBecause (GoBeyond (most_slots - 4) cells ⊎ HasNestedProducts cells)) (FailsBecause (HasNoPipeline p)) c.linked.result
-    (λ e. fails_more (GoBeyond (most_slots - 4) cells ⊎ HasNestedProducts cells) (HasNoPipeline p) e
+    err_more (FailsBecause (HasNestedProducts cells)) (FailsBecause (HasNoPipeline p)) c.linked.result
+    (λ e. fails_more (HasNestedProducts cells) (HasNoPipeline p) e
     (λ why. lacking p c.args.counted.now c.requires.counted cells c.in_ok-cells.ensures.law c.in_ok-cells.ensures.buildable c.requires.no_maps (inr why)))
     c.linked.ensures.none
