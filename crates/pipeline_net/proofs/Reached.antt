@@ -22,7 +22,7 @@ pub in_window : (p : ProgramView) (plan : Plan) → IsForPipeline p plan → All
 in_window p plan ready i e lt = ready.changed (get_or p.frame i e) (Contains-get_or p.frame i e lt)
 
 module _ (p : ProgramView) (plan : Plan) (d : Draft) (ready : IsForPipeline p plan) (is : IsDraft p d) (placed : ArePlaced p plan d.needed.items) (table : Table)
-  (taken : IsTaken (Place plan.last) p.cells (carried_at p plan d plan.last) d.constants.items table) where
+    (taken : IsTaken (Place plan.last) p.cells (carried_at p plan d plan.last) d.constants.items table) where
   carried : All (IsIn table) (carried_cells p plan d.needed.items plan.last)
   carried = subst (All (IsIn table)) (carried_up p plan d plan.last (omega arith)) taken.taken
 

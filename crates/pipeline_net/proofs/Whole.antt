@@ -203,7 +203,7 @@ module _ (p : ProgramView) (plan : Plan) (d : Draft) (shape : ControlShape) (wor
   listed at (suc n) (x ∷ xs) e h =
       let first : at + 0 ≡ at = omega arith in
       let rest : map (λ (m : Placed Part). m.part) xs ≡ map Place (numbers (suc at) n) =
-          listed (suc at) n xs (omega (arith, e)) (λ k m lt. h (suc k) m (omega (arith, lt)) ∙ ap Place (omega arith)) in
+      listed (suc at) n xs (omega (arith, e)) (λ k m lt. h (suc k) m (omega (arith, lt)) ∙ ap Place (omega arith)) in
       ap (λ q. q ∷ map (λ (m : Placed Part). m.part) xs) (h 0 x (omega arith) ∙ ap Place first) ∙ ap (λ l. Place at ∷ l) rest
 
   among_at : {X : Type 0} (xs : List X) (x : X) → Among x xs → (k : ℕ) × (k < length xs) × ((e : X) → get_or xs k e ≡ x)

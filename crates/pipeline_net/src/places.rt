@@ -72,15 +72,7 @@ fn first_place(
     )?;
     let made = made(alloc, program, plan, &draft.needed, 0)?;
     let carried = carried(alloc, program, plan, &draft.needed, 0)?;
-    let block = place(
-        alloc,
-        part,
-        wires,
-        &program.cells,
-        &made,
-        table,
-        &carried,
-    )?;
+    let block = place(alloc, part, wires, &program.cells, &made, table, &carried)?;
     Ok(block)
 }
 

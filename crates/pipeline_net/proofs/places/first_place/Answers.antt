@@ -38,8 +38,8 @@ place-requires-clause-table c =
     let carried : c.deref-9.result.now ≡ carried_cells p plan d.needed.items 0 = c.deref-9.ensures.value ∙ c.in_ok-carried.ensures ∙ ap (λ n. carried_cells p plan n 0) c.deref-6.ensures.value in
     let cells = ap (map cell_of) c.deref-7.ensures.value in
     let sourced =
-        sourced_as (Place 0) c.deref-2.result.now d.kept.items (map cell_of c.deref-3.result.now) p.cells c.deref-4.result.now d.sources.items _ [] ws c.in_ok-table.table.items d.constants.items table c.deref-2.ensures.value (ap (map cell_of) c.deref-3.ensures.value)
-        c.deref-4.ensures.value (ap wires_of c.new-wires.ensures.items) (c.in_ok-table.ensures.items ∙ c.deref.ensures.value) c.in_ok-source_cells.ensures in
+    sourced_as (Place 0) c.deref-2.result.now d.kept.items (map cell_of c.deref-3.result.now) p.cells c.deref-4.result.now d.sources.items _ [] ws c.in_ok-table.table.items d.constants.items table c.deref-2.ensures.value (ap (map cell_of) c.deref-3.ensures.value)
+    c.deref-4.ensures.value (ap wires_of c.new-wires.ensures.items) (c.in_ok-table.ensures.items ∙ c.deref.ensures.value) c.in_ok-source_cells.ensures in
     let placed = c.cells_are_placed.ensures p plan d.needed.items c.requires.program.formed c.requires.program.planned c.requires.draft.needed in
     table_as (map cell_of c.deref-7.result.now) p.cells table table cells refl sourced.table
 
@@ -54,8 +54,8 @@ place-requires-clause-ready c =
     let carried : c.deref-9.result.now ≡ carried_cells p plan d.needed.items 0 = c.deref-9.ensures.value ∙ c.in_ok-carried.ensures ∙ ap (λ n. carried_cells p plan n 0) c.deref-6.ensures.value in
     let cells = ap (map cell_of) c.deref-7.ensures.value in
     let sourced =
-        sourced_as (Place 0) c.deref-2.result.now d.kept.items (map cell_of c.deref-3.result.now) p.cells c.deref-4.result.now d.sources.items _ [] ws c.in_ok-table.table.items d.constants.items table c.deref-2.ensures.value (ap (map cell_of) c.deref-3.ensures.value)
-        c.deref-4.ensures.value (ap wires_of c.new-wires.ensures.items) (c.in_ok-table.ensures.items ∙ c.deref.ensures.value) c.in_ok-source_cells.ensures in
+    sourced_as (Place 0) c.deref-2.result.now d.kept.items (map cell_of c.deref-3.result.now) p.cells c.deref-4.result.now d.sources.items _ [] ws c.in_ok-table.table.items d.constants.items table c.deref-2.ensures.value (ap (map cell_of) c.deref-3.ensures.value)
+    c.deref-4.ensures.value (ap wires_of c.new-wires.ensures.items) (c.in_ok-table.ensures.items ∙ c.deref.ensures.value) c.in_ok-source_cells.ensures in
     let placed = c.cells_are_placed.ensures p plan d.needed.items c.requires.program.formed c.requires.program.planned c.requires.draft.needed in
     ready_as (map cell_of c.deref-7.result.now) p.cells table c.deref-8.result.now (made_at p plan d 0) cells made (is_ready p plan d c.requires.program c.requires.draft 0 table (first_table p plan d c.requires.draft ws table sourced) placed)
 
@@ -70,8 +70,8 @@ place-requires-clause-carried c =
     let carried : c.deref-9.result.now ≡ carried_cells p plan d.needed.items 0 = c.deref-9.ensures.value ∙ c.in_ok-carried.ensures ∙ ap (λ n. carried_cells p plan n 0) c.deref-6.ensures.value in
     let cells = ap (map cell_of) c.deref-7.ensures.value in
     let sourced =
-        sourced_as (Place 0) c.deref-2.result.now d.kept.items (map cell_of c.deref-3.result.now) p.cells c.deref-4.result.now d.sources.items _ [] ws c.in_ok-table.table.items d.constants.items table c.deref-2.ensures.value (ap (map cell_of) c.deref-3.ensures.value)
-        c.deref-4.ensures.value (ap wires_of c.new-wires.ensures.items) (c.in_ok-table.ensures.items ∙ c.deref.ensures.value) c.in_ok-source_cells.ensures in
+    sourced_as (Place 0) c.deref-2.result.now d.kept.items (map cell_of c.deref-3.result.now) p.cells c.deref-4.result.now d.sources.items _ [] ws c.in_ok-table.table.items d.constants.items table c.deref-2.ensures.value (ap (map cell_of) c.deref-3.ensures.value)
+    c.deref-4.ensures.value (ap wires_of c.new-wires.ensures.items) (c.in_ok-table.ensures.items ∙ c.deref.ensures.value) c.in_ok-source_cells.ensures in
     let placed = c.cells_are_placed.ensures p plan d.needed.items c.requires.program.formed c.requires.program.planned c.requires.draft.needed in
     in_as table c.deref-8.result.now (made_at p plan d 0) c.deref-9.result.now (carried_cells p plan d.needed.items 0) made carried (carried_in p plan d c.requires.program c.requires.draft 0 table (first_table p plan d c.requires.draft ws table sourced) placed (omega arith))
 
@@ -86,8 +86,8 @@ place-requires-clause-some c =
     let carried : c.deref-9.result.now ≡ carried_cells p plan d.needed.items 0 = c.deref-9.ensures.value ∙ c.in_ok-carried.ensures ∙ ap (λ n. carried_cells p plan n 0) c.deref-6.ensures.value in
     let cells = ap (map cell_of) c.deref-7.ensures.value in
     let sourced =
-        sourced_as (Place 0) c.deref-2.result.now d.kept.items (map cell_of c.deref-3.result.now) p.cells c.deref-4.result.now d.sources.items _ [] ws c.in_ok-table.table.items d.constants.items table c.deref-2.ensures.value (ap (map cell_of) c.deref-3.ensures.value)
-        c.deref-4.ensures.value (ap wires_of c.new-wires.ensures.items) (c.in_ok-table.ensures.items ∙ c.deref.ensures.value) c.in_ok-source_cells.ensures in
+    sourced_as (Place 0) c.deref-2.result.now d.kept.items (map cell_of c.deref-3.result.now) p.cells c.deref-4.result.now d.sources.items _ [] ws c.in_ok-table.table.items d.constants.items table c.deref-2.ensures.value (ap (map cell_of) c.deref-3.ensures.value)
+    c.deref-4.ensures.value (ap wires_of c.new-wires.ensures.items) (c.in_ok-table.ensures.items ∙ c.deref.ensures.value) c.in_ok-source_cells.ensures in
     let placed = c.cells_are_placed.ensures p plan d.needed.items c.requires.program.formed c.requires.program.planned c.requires.draft.needed in
     wide_as (map cell_of c.deref-7.result.now) p.cells c.deref-9.result.now (carried_cells p plan d.needed.items 0) cells carried (carried_wide p plan d c.requires.program c.requires.draft 0)
 
@@ -102,8 +102,8 @@ returns c =
     let carried : c.deref-9.result.now ≡ carried_cells p plan d.needed.items 0 = c.deref-9.ensures.value ∙ c.in_ok-carried.ensures ∙ ap (λ n. carried_cells p plan n 0) c.deref-6.ensures.value in
     let cells = ap (map cell_of) c.deref-7.ensures.value in
     let sourced =
-        sourced_as (Place 0) c.deref-2.result.now d.kept.items (map cell_of c.deref-3.result.now) p.cells c.deref-4.result.now d.sources.items _ [] ws c.in_ok-table.table.items d.constants.items table c.deref-2.ensures.value (ap (map cell_of) c.deref-3.ensures.value)
-        c.deref-4.ensures.value (ap wires_of c.new-wires.ensures.items) (c.in_ok-table.ensures.items ∙ c.deref.ensures.value) c.in_ok-source_cells.ensures in
+    sourced_as (Place 0) c.deref-2.result.now d.kept.items (map cell_of c.deref-3.result.now) p.cells c.deref-4.result.now d.sources.items _ [] ws c.in_ok-table.table.items d.constants.items table c.deref-2.ensures.value (ap (map cell_of) c.deref-3.ensures.value)
+    c.deref-4.ensures.value (ap wires_of c.new-wires.ensures.items) (c.in_ok-table.ensures.items ∙ c.deref.ensures.value) c.in_ok-source_cells.ensures in
     let placed = c.cells_are_placed.ensures p plan d.needed.items c.requires.program.formed c.requires.program.planned c.requires.draft.needed in
     let b = block_of c.in_ok-block.block in
     first_of p plan d c.requires.draft ws table sourced b
