@@ -1,6 +1,6 @@
 -- One step of the search for the places of what is declared of a sort.
-use Rattle.std.specs.Prelude.{◌≡◌, ℕ, zero, suc, ◌+◌, ◌-◌, ◌<◌, ◌≤◌, ◌≢◌, ◌⊎◌, Bool, true, false, List, [], ◌∷◌, ◌++◌, length, drop}
-use Rattle.std.proofs.Common.{get_or, refl, sym, ap, ◌∙◌, inl, inr, arith}
+use Rattle.std.specs.Prelude.{◌≡◌, ℕ, suc, ◌+◌, ◌-◌, ◌<◌, ◌≤◌, ◌⊎◌, Bool, true, false, List, [], ◌∷◌, ◌++◌, length, drop}
+use Rattle.std.proofs.Common.{get_or, sym, ap, ◌∙◌, inl, inr, arith}
 use Rattle.std.proofs.Math.ListN.{get_or-append}
 use Rattle.std.proofs.Math.Seq.{get_or-append_seam}
 use Rattle.std.proofs.lemmas.Bool.{cases_lt}
@@ -27,7 +27,7 @@ found_over p xs i x places l e h found = record {
   listed = found.listed;
   past = λ k m.
       let f : place_of p (drop i xs) (k - length places) ≡ suc (place_of p (drop (i + 1) xs) (k - length places)) =
-          ap (λ ys. place_of p ys (k - length places)) (left_from xs i x l e) ∙ place_other p x (drop (i + 1) xs) (k - length places) h in
+      ap (λ ys. place_of p ys (k - length places)) (left_from xs i x l e) ∙ place_other p x (drop (i + 1) xs) (k - length places) h in
       omega (arith, f, found.past k m);
 }
 
@@ -38,8 +38,8 @@ found_here p xs i x places l e h found = record {
   past = λ k m.
       let number : k - length places ≡ suc (k - length (places ++ i ∷ [])) = omega (arith, longer, m) in
       let f : place_of p (drop i xs) (k - length places) ≡ suc (place_of p (drop (i + 1) xs) (k - length (places ++ i ∷ []))) =
-          ap (place_of p (drop i xs)) number ∙ ap (λ ys. place_of p ys (suc (k - length (places ++ i ∷ [])))) (left_from xs i x l e)
-          ∙ place_past p x (drop (i + 1) xs) (k - length (places ++ i ∷ [])) h in
+      ap (place_of p (drop i xs)) number ∙ ap (λ ys. place_of p ys (suc (k - length (places ++ i ∷ [])))) (left_from xs i x l e)
+      ∙ place_past p x (drop (i + 1) xs) (k - length (places ++ i ∷ [])) h in
       omega (arith, f, longer, found.past k (omega (arith, longer, m)));
 }
   where

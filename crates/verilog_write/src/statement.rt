@@ -81,11 +81,7 @@ fn push_store(
 
 /// Adds a statement to a closed text.
 #[cycle(statement)]
-pub fn push_statement(
-    text: &mut Vec<u8>,
-    names: &Names,
-    stmt: &Stmt<Net>,
-) -> Result<(), AllocError>
+pub fn push_statement(text: &mut Vec<u8>, names: &Names, stmt: &Stmt<Net>) -> Result<(), AllocError>
     requires { IsStatementWritable (netlist_of names.now.design.now) (statement_of stmt.now) }
     ensures { OnOk result (AddsWord text.old.items text.new.items (statement_tree_lexemes (name_of (netlist_of names.now.design.now)) (register_name (netlist_of names.now.design.now)) (memory_name (netlist_of names.now.design.now)) (statement_of stmt.now))) }
 {
