@@ -4,7 +4,7 @@ use Rattle.std.proofs.lemmas.Result.{on_ok_weaker}
 use Rattle.verilog_lex.specs.Lexeme.{Lexeme}
 use Rattle.verilog_lex.specs.Spelling.{IsClosed, IsOpen}
 use Rattle.verilog_lex.proofs.SpellingLaws.{IsOpen-closed}
-use Rattle.verilog_write.specs.Adds.{AddsWord, AddsMark, AddsLine}
+use Rattle.verilog_write.specs.Adds.{AddsWord, AddsLine}
 
 pub line_more : {a b c : List ℕ} {ls ms : List Lexeme} → AddsLine a b ls → AddsLine b c ms → AddsLine a c (ls ++ ms)
 line_more {a} {b} {c} {ls} {ms} h k = record {

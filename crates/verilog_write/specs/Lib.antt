@@ -1,3 +1,4 @@
 pub mod Adds
+pub mod Places
 pub mod Sorts
 pub mod Writable

@@ -11,7 +11,7 @@ ghost use Rattle.verilog_lex.specs.declared.token.Symbol.TheVariants as symbol;
 ghost use Rattle.verilog_write.specs.Adds.{AddsLine};
 
 use crate::item::{push_always, push_assign, push_declaration, push_port_line, push_wire};
-use crate::names::name_at;
+use crate::names::{Names, name_at};
 use net_core::design::Design;
 use std::alloc::{AllocError, Global};
 use verilog_lex::{Keyword, Symbol, push_keyword, push_line, push_name, push_space, push_symbol};
@@ -30,59 +30,63 @@ fn push_ports(text: &mut Vec<u8>, design: &Design) -> Result<(), AllocError>
 }
 
 /// Adds what is declared.
-fn push_declared(text: &mut Vec<u8>, design: &Design) -> Result<(), AllocError>
-    requires { IsWellFormed (netlist_of design.now) }
-    ensures { OnOk result (AddsLine text.old.items text.new.items (all_declared (netlist_of design.now) (length design.now.ports.items) design.now.declared.items)) }
+fn push_declared(text: &mut Vec<u8>, names: &Names) -> Result<(), AllocError>
+    requires { IsWellFormed (netlist_of names.now.design.now) }
+    ensures { OnOk result (AddsLine text.old.items text.new.items (all_declared (netlist_of names.now.design.now) (length names.now.design.now.ports.items) names.now.design.now.declared.items)) }
 {
+    let design = names.design;
     let ports = design.ports.as_slice();
     let declared = design.declared.as_slice();
     for k in 0..declared.len() {
         let name = name_at(&design.names, ports.len() + k);
-        push_declaration(text, design, name, &declared[k])?;
+        push_declaration(text, names, name, &declared[k])?;
         push_line(text)?;
     }
     Ok(())
 }
 
 /// Adds the wires.
-fn push_wires(text: &mut Vec<u8>, design: &Design) -> Result<(), AllocError>
-    requires { IsWellFormed (netlist_of design.now) }
-    ensures { OnOk result (AddsLine text.old.items text.new.items (all_wires (netlist_of design.now) (length design.now.ports.items + length design.now.declared.items) (netlist_of design.now).wires)) }
+fn push_wires(text: &mut Vec<u8>, names: &Names) -> Result<(), AllocError>
+    requires { IsWellFormed (netlist_of names.now.design.now) }
+    ensures { OnOk result (AddsLine text.old.items text.new.items (all_wires (netlist_of names.now.design.now) (length names.now.design.now.ports.items + length names.now.design.now.declared.items) (netlist_of names.now.design.now).wires)) }
 {
+    let design = names.design;
     let ports = design.ports.as_slice();
     let declared = design.declared.as_slice();
     let wires = design.wires.as_slice();
     for k in 0..wires.len() {
         let name = name_at(&design.names, ports.len() + declared.len() + k);
-        push_wire(text, design, name, &wires[k])?;
+        push_wire(text, names, name, &wires[k])?;
         push_line(text)?;
     }
     Ok(())
 }
 
 /// Adds what the outputs show.
-fn push_assigns(text: &mut Vec<u8>, design: &Design) -> Result<(), AllocError>
-    requires { IsWellFormed (netlist_of design.now) }
-    ensures { OnOk result (AddsLine text.old.items text.new.items (all_assigns (netlist_of design.now) (netlist_of design.now).assigns)) }
+fn push_assigns(text: &mut Vec<u8>, names: &Names) -> Result<(), AllocError>
+    requires { IsWellFormed (netlist_of names.now.design.now) }
+    ensures { OnOk result (AddsLine text.old.items text.new.items (all_assigns (netlist_of names.now.design.now) (netlist_of names.now.design.now).assigns)) }
 {
+    let design = names.design;
     let assigns = design.assigns.as_slice();
     for k in 0..assigns.len() {
         let assign = &assigns[k];
         let name = name_at(&design.names, assign.port as usize);
-        push_assign(text, design, name, &assign.value)?;
+        push_assign(text, names, name, &assign.value)?;
         push_line(text)?;
     }
     Ok(())
 }
 
 /// Adds the always blocks.
-fn push_blocks(text: &mut Vec<u8>, design: &Design) -> Result<(), AllocError>
-    requires { IsWellFormed (netlist_of design.now) }
-    ensures { OnOk result (AddsLine text.old.items text.new.items (all_always (netlist_of design.now) (netlist_of design.now).always)) }
+fn push_blocks(text: &mut Vec<u8>, names: &Names) -> Result<(), AllocError>
+    requires { IsWellFormed (netlist_of names.now.design.now) }
+    ensures { OnOk result (AddsLine text.old.items text.new.items (all_always (netlist_of names.now.design.now) (netlist_of names.now.design.now).always)) }
 {
+    let design = names.design;
     let always = design.always.as_slice();
     for k in 0..always.len() {
-        push_always(text, design, &always[k])?;
+        push_always(text, names, &always[k])?;
         push_line(text)?;
     }
     Ok(())
@@ -105,14 +109,14 @@ fn push_head(text: &mut Vec<u8>, design: &Design) -> Result<(), AllocError>
 }
 
 /// Adds the items.
-fn push_items(text: &mut Vec<u8>, design: &Design) -> Result<(), AllocError>
-    requires { IsWellFormed (netlist_of design.now) }
-    ensures { OnOk result (AddsLine text.old.items text.new.items (items_lexemes (netlist_of design.now))) }
+fn push_items(text: &mut Vec<u8>, names: &Names) -> Result<(), AllocError>
+    requires { IsWellFormed (netlist_of names.now.design.now) }
+    ensures { OnOk result (AddsLine text.old.items text.new.items (items_lexemes (netlist_of names.now.design.now))) }
 {
-    push_declared(text, design)?;
-    push_wires(text, design)?;
-    push_assigns(text, design)?;
-    push_blocks(text, design)
+    push_declared(text, names)?;
+    push_wires(text, names)?;
+    push_assigns(text, names)?;
+    push_blocks(text, names)
 }
 
 /// The text of a design that is well formed, which it spells.
@@ -120,9 +124,10 @@ pub fn write_text(alloc: Global, design: &Design) -> Result<Vec<u8>, AllocError>
     requires { IsWellFormed (netlist_of design.now) }
     ensures { IfOk result (λ text. Spells text.items (netlist_of design.now)) }
 {
+    let names = Names::new(alloc, design)?;
     let mut text = Vec::new(alloc);
     push_head(&mut text, design)?;
-    push_items(&mut text, design)?;
+    push_items(&mut text, &names)?;
     push_keyword(&mut text, Keyword::Endmodule)?;
     push_line(&mut text)?;
     Ok(text)

@@ -11,9 +11,8 @@ ghost use Rattle.verilog_lex.specs.declared.token.Symbol.TheVariants as symbol;
 ghost use Rattle.verilog_write.specs.Adds.{AddsWord, AddsLine};
 ghost use Rattle.verilog_write.specs.Writable.{IsNamed, IsWritable, AreWritable, IsRightWritable};
 
-use crate::names::net_name;
+use crate::names::{Names, net_name};
 use crate::spaced::{push_apart, push_operator, push_span};
-use net_core::design::Design;
 use net_core::tree::{Expr, Net, Op, Parts, Right, UnaryOp, Word};
 use std::alloc::AllocError;
 use verilog_lex::{Symbol, push_name, push_number, push_sized, push_symbol};
@@ -50,19 +49,19 @@ pub fn push_word(text: &mut Vec<u8>, word: Word) -> Result<(), AllocError>
 }
 
 /// Adds the name of a net.
-pub fn push_net(text: &mut Vec<u8>, design: &Design, net: Net) -> Result<(), AllocError>
-    requires { IsNamed (netlist_of design.now) net }
-    ensures { OnOk result (AddsWord text.old.items text.new.items (LName (name_of (netlist_of design.now) net) ∷ [])) }
+pub fn push_net(text: &mut Vec<u8>, names: &Names, net: Net) -> Result<(), AllocError>
+    requires { IsNamed (netlist_of names.now.design.now) net }
+    ensures { OnOk result (AddsWord text.old.items text.new.items (LName (name_of (netlist_of names.now.design.now) net) ∷ [])) }
 {
-    push_name(text, net_name(design, net))
+    push_name(text, net_name(names, net))
 }
 
 /// Adds one bit of a net.
-fn push_bit(text: &mut Vec<u8>, design: &Design, net: Net, bit: u8) -> Result<(), AllocError>
-    requires { IsNamed (netlist_of design.now) net }
-    ensures { OnOk result (AddsWord text.old.items text.new.items (LName (name_of (netlist_of design.now) net) ∷ LSymbol symbol.OpenBracket ∷ LNumber bit ∷ LSymbol symbol.CloseBracket ∷ [])) }
+fn push_bit(text: &mut Vec<u8>, names: &Names, net: Net, bit: u8) -> Result<(), AllocError>
+    requires { IsNamed (netlist_of names.now.design.now) net }
+    ensures { OnOk result (AddsWord text.old.items text.new.items (LName (name_of (netlist_of names.now.design.now) net) ∷ LSymbol symbol.OpenBracket ∷ LNumber bit ∷ LSymbol symbol.CloseBracket ∷ [])) }
 {
-    push_net(text, design, net)?;
+    push_net(text, names, net)?;
     push_symbol(text, Symbol::OpenBracket)?;
     push_number(text, bit as u32)?;
     push_symbol(text, Symbol::CloseBracket)
@@ -71,15 +70,15 @@ fn push_bit(text: &mut Vec<u8>, design: &Design, net: Net, bit: u8) -> Result<()
 /// Adds the bits of a net from a high one down to a low one.
 fn push_part_select(
     text: &mut Vec<u8>,
-    design: &Design,
+    names: &Names,
     net: Net,
     high: u8,
     low: u8,
 ) -> Result<(), AllocError>
-    requires { IsNamed (netlist_of design.now) net }
-    ensures { OnOk result (AddsWord text.old.items text.new.items (LName (name_of (netlist_of design.now) net) ∷ LSymbol symbol.OpenBracket ∷ LNumber high ∷ LSymbol symbol.Colon ∷ LNumber low ∷ LSymbol symbol.CloseBracket ∷ [])) }
+    requires { IsNamed (netlist_of names.now.design.now) net }
+    ensures { OnOk result (AddsWord text.old.items text.new.items (LName (name_of (netlist_of names.now.design.now) net) ∷ LSymbol symbol.OpenBracket ∷ LNumber high ∷ LSymbol symbol.Colon ∷ LNumber low ∷ LSymbol symbol.CloseBracket ∷ [])) }
 {
-    push_net(text, design, net)?;
+    push_net(text, names, net)?;
     push_span(text, high as u32, low as u32)
 }
 
@@ -98,44 +97,44 @@ fn push_unary(text: &mut Vec<u8>, unary_op: UnaryOp) -> Result<(), AllocError>
 
 /// Adds an expression to a closed text.
 #[cycle(expression)]
-pub fn push_expression(text: &mut Vec<u8>, design: &Design, e: &Expr<Net>) -> Result<(), AllocError>
-    requires { IsWritable (netlist_of design.now) (tree_of e.now) }
-    ensures { OnOk result (AddsWord text.old.items text.new.items (tree_lexemes (name_of (netlist_of design.now)) (tree_of e.now))) }
+pub fn push_expression(text: &mut Vec<u8>, names: &Names, e: &Expr<Net>) -> Result<(), AllocError>
+    requires { IsWritable (netlist_of names.now.design.now) (tree_of e.now) }
+    ensures { OnOk result (AddsWord text.old.items text.new.items (tree_lexemes (name_of (netlist_of names.now.design.now)) (tree_of e.now))) }
 {
     match e {
         Expr::Const(word) => push_word(text, *word),
-        Expr::Read(net) => push_net(text, design, *net),
-        Expr::Bit(net, bit) => push_bit(text, design, *net, *bit),
-        Expr::PartSelect(net, high, low) => push_part_select(text, design, *net, *high, *low),
+        Expr::Read(net) => push_net(text, names, *net),
+        Expr::Bit(net, bit) => push_bit(text, names, *net, *bit),
+        Expr::PartSelect(net, high, low) => push_part_select(text, names, *net, *high, *low),
         Expr::MemoryWord(memory, index) => {
-            push_net(text, design, *memory)?;
+            push_net(text, names, *memory)?;
             push_symbol(text, Symbol::OpenBracket)?;
-            push_expression(text, design, index)?;
+            push_expression(text, names, index)?;
             push_symbol(text, Symbol::CloseBracket)
         }
         Expr::Unary(unary_op, a) => {
             push_unary(text, *unary_op)?;
-            push_expression(text, design, a)
+            push_expression(text, names, a)
         }
         Expr::Binary(op, a, b) => {
             push_symbol(text, Symbol::OpenParenthesis)?;
-            push_expression(text, design, a)?;
+            push_expression(text, names, a)?;
             push_operator(text, op_symbol(*op))?;
-            push_expression(text, design, b)?;
+            push_expression(text, names, b)?;
             push_symbol(text, Symbol::CloseParenthesis)
         }
         Expr::Conditional(c, a, b) => {
             push_symbol(text, Symbol::OpenParenthesis)?;
-            push_expression(text, design, c)?;
+            push_expression(text, names, c)?;
             push_operator(text, Symbol::Question)?;
-            push_expression(text, design, a)?;
+            push_expression(text, names, a)?;
             push_operator(text, Symbol::Colon)?;
-            push_expression(text, design, b)?;
+            push_expression(text, names, b)?;
             push_symbol(text, Symbol::CloseParenthesis)
         }
         Expr::Concatenation(parts) => {
             push_symbol(text, Symbol::OpenBrace)?;
-            push_parts(text, design, parts)?;
+            push_parts(text, names, parts)?;
             push_symbol(text, Symbol::CloseBrace)
         }
     }
@@ -143,16 +142,16 @@ pub fn push_expression(text: &mut Vec<u8>, design: &Design, e: &Expr<Net>) -> Re
 
 /// Adds the parts of a concatenation.
 #[cycle(expression)]
-fn push_parts(text: &mut Vec<u8>, design: &Design, parts: &Parts<Net>) -> Result<(), AllocError>
-    requires { AreWritable (netlist_of design.now) (trees_of parts.now) }
-    ensures { OnOk result (AddsWord text.old.items text.new.items (parts_lexemes (name_of (netlist_of design.now)) (trees_of parts.now))) }
+fn push_parts(text: &mut Vec<u8>, names: &Names, parts: &Parts<Net>) -> Result<(), AllocError>
+    requires { AreWritable (netlist_of names.now.design.now) (trees_of parts.now) }
+    ensures { OnOk result (AddsWord text.old.items text.new.items (parts_lexemes (name_of (netlist_of names.now.design.now)) (trees_of parts.now))) }
 {
     let mut left = parts;
     loop {
         match left {
-            Parts::Last(a) => return push_expression(text, design, a),
+            Parts::Last(a) => return push_expression(text, names, a),
             Parts::More(a, more) => {
-                push_expression(text, design, a)?;
+                push_expression(text, names, a)?;
                 push_symbol(text, Symbol::Comma)?;
                 push_apart(text)?;
                 left = more;
@@ -164,28 +163,28 @@ fn push_parts(text: &mut Vec<u8>, design: &Design, parts: &Parts<Net>) -> Result
 /// Adds two nets with an operator between.
 fn push_divided(
     text: &mut Vec<u8>,
-    design: &Design,
+    names: &Names,
     a: Net,
     operator: Symbol,
     b: Net,
 ) -> Result<(), AllocError>
-    requires left { IsNamed (netlist_of design.now) a }
-    requires right { IsNamed (netlist_of design.now) b }
-    ensures { OnOk result (AddsWord text.old.items text.new.items (LName (name_of (netlist_of design.now) a) ∷ LSymbol operator ∷ LName (name_of (netlist_of design.now) b) ∷ [])) }
+    requires left { IsNamed (netlist_of names.now.design.now) a }
+    requires right { IsNamed (netlist_of names.now.design.now) b }
+    ensures { OnOk result (AddsWord text.old.items text.new.items (LName (name_of (netlist_of names.now.design.now) a) ∷ LSymbol operator ∷ LName (name_of (netlist_of names.now.design.now) b) ∷ [])) }
 {
-    push_net(text, design, a)?;
+    push_net(text, names, a)?;
     push_operator(text, operator)?;
-    push_net(text, design, b)
+    push_net(text, names, b)
 }
 
 /// Adds the right side of a wire.
-pub fn push_right(text: &mut Vec<u8>, design: &Design, right: &Right<Net>) -> Result<(), AllocError>
-    requires { IsRightWritable (netlist_of design.now) (right_of right.now) }
-    ensures { OnOk result (AddsWord text.old.items text.new.items (right_lexemes (name_of (netlist_of design.now)) (right_of right.now))) }
+pub fn push_right(text: &mut Vec<u8>, names: &Names, right: &Right<Net>) -> Result<(), AllocError>
+    requires { IsRightWritable (netlist_of names.now.design.now) (right_of right.now) }
+    ensures { OnOk result (AddsWord text.old.items text.new.items (right_lexemes (name_of (netlist_of names.now.design.now)) (right_of right.now))) }
 {
     match right {
-        Right::Plain(e) => push_expression(text, design, e),
-        Right::Quotient(a, b) => push_divided(text, design, *a, Symbol::Slash, *b),
-        Right::Remainder(a, b) => push_divided(text, design, *a, Symbol::Percent, *b),
+        Right::Plain(e) => push_expression(text, names, e),
+        Right::Quotient(a, b) => push_divided(text, names, *a, Symbol::Slash, *b),
+        Right::Remainder(a, b) => push_divided(text, names, *a, Symbol::Percent, *b),
     }
 }

@@ -15,10 +15,10 @@ ghost use Rattle.verilog_write.specs.Writable.{IsWritable, IsRightWritable, IsSt
 
 use crate::expression::{push_expression, push_right, push_word};
 use crate::fill::push_fill;
-use crate::names::integer_name;
+use crate::names::{Names, integer_name};
 use crate::spaced::{push_operator, push_range, push_span};
 use crate::statement::push_statement;
-use net_core::design::{Declared, Design, Port, Wire};
+use net_core::design::{Declared, Port, Wire};
 use net_core::tree::{Expr, Net, Stmt, Word};
 use std::alloc::AllocError;
 use verilog_lex::{Keyword, Symbol, push_keyword, push_line, push_name, push_space, push_symbol};
@@ -130,13 +130,13 @@ fn push_memory(
 /// Adds what is declared.
 pub fn push_declaration(
     text: &mut Vec<u8>,
-    design: &Design,
+    names: &Names,
     name: &[u8],
     item: &Declared,
 ) -> Result<(), AllocError>
     requires name { IsName name.now }
-    requires item { IsDeclarationWritable (netlist_of design.now) item.now }
-    ensures { OnOk result (AddsWord text.old.items text.new.items (grammar.declared_lexemes (grammar.integer_name (netlist_of design.now)) name.now item.now)) }
+    requires item { IsDeclarationWritable (netlist_of names.now.design.now) item.now }
+    ensures { OnOk result (AddsWord text.old.items text.new.items (grammar.declared_lexemes (grammar.integer_name (netlist_of names.now.design.now)) name.now item.now)) }
 {
     match item {
         Declared::Integer => push_integer(text, name),
@@ -145,46 +145,46 @@ pub fn push_declaration(
             index,
             first,
             integer,
-        } => { push_memory(text, name, integer_name(design, *integer), *index, *first) }
+        } => { push_memory(text, name, integer_name(names, *integer), *index, *first) }
     }
 }
 
 /// Adds a wire.
 pub fn push_wire(
     text: &mut Vec<u8>,
-    design: &Design,
+    names: &Names,
     name: &[u8],
     wire: &Wire,
 ) -> Result<(), AllocError>
     requires name { IsName name.now }
     requires width { 0 < wire.now.width }
-    requires right { IsRightWritable (netlist_of design.now) (right_of wire.now.right) }
-    ensures { OnOk result (AddsWord text.old.items text.new.items (grammar.wire_lexemes (name_of (netlist_of design.now)) name.now wire.now.width (right_of wire.now.right))) }
+    requires right { IsRightWritable (netlist_of names.now.design.now) (right_of wire.now.right) }
+    ensures { OnOk result (AddsWord text.old.items text.new.items (grammar.wire_lexemes (name_of (netlist_of names.now.design.now)) name.now wire.now.width (right_of wire.now.right))) }
 {
     push_keyword(text, Keyword::Wire)?;
     push_range(text, wire.width)?;
     push_name(text, name)?;
     push_operator(text, Symbol::Assign)?;
-    push_right(text, design, &wire.right)?;
+    push_right(text, names, &wire.right)?;
     push_symbol(text, Symbol::Semicolon)
 }
 
 /// Adds what an output shows.
 pub fn push_assign(
     text: &mut Vec<u8>,
-    design: &Design,
+    names: &Names,
     port: &[u8],
     value: &Expr<Net>,
 ) -> Result<(), AllocError>
     requires name { IsName port.now }
-    requires value { IsWritable (netlist_of design.now) (tree_of value.now) }
-    ensures { OnOk result (AddsWord text.old.items text.new.items (grammar.assign_lexemes (name_of (netlist_of design.now)) port.now (tree_of value.now))) }
+    requires value { IsWritable (netlist_of names.now.design.now) (tree_of value.now) }
+    ensures { OnOk result (AddsWord text.old.items text.new.items (grammar.assign_lexemes (name_of (netlist_of names.now.design.now)) port.now (tree_of value.now))) }
 {
     push_keyword(text, Keyword::Assign)?;
     push_space(text)?;
     push_name(text, port)?;
     push_operator(text, Symbol::Assign)?;
-    push_expression(text, design, value)?;
+    push_expression(text, names, value)?;
     push_symbol(text, Symbol::Semicolon)
 }
 
@@ -202,12 +202,12 @@ fn push_edge(text: &mut Vec<u8>) -> Result<(), AllocError>
 }
 
 /// Adds an always block.
-pub fn push_always(text: &mut Vec<u8>, design: &Design, stmt: &Stmt<Net>) -> Result<(), AllocError>
-    requires { IsStatementWritable (netlist_of design.now) (statement_of stmt.now) }
-    ensures { OnOk result (AddsWord text.old.items text.new.items (grammar.always_lexemes (statement_tree_lexemes (name_of (netlist_of design.now)) (register_name (netlist_of design.now)) (memory_name (netlist_of design.now)) (statement_of stmt.now)))) }
+pub fn push_always(text: &mut Vec<u8>, names: &Names, stmt: &Stmt<Net>) -> Result<(), AllocError>
+    requires { IsStatementWritable (netlist_of names.now.design.now) (statement_of stmt.now) }
+    ensures { OnOk result (AddsWord text.old.items text.new.items (grammar.always_lexemes (statement_tree_lexemes (name_of (netlist_of names.now.design.now)) (register_name (netlist_of names.now.design.now)) (memory_name (netlist_of names.now.design.now)) (statement_of stmt.now)))) }
 {
     push_keyword(text, Keyword::Always)?;
     push_space(text)?;
     push_edge(text)?;
-    push_statement(text, design, stmt)
+    push_statement(text, names, stmt)
 }

@@ -4,9 +4,9 @@
 //! `:`, `=` and `<=`, and before a prefix `|`: they keep apart what a lexer may join, as the digits of a constant and a
 //! `?`, or two `|`.
 //!
-//! The name of a register, a memory or an integer is looked for among what is declared. So a text takes time in proportion
-//! to what is read and set, times what is declared. Writing recurs no deeper than trees nest, which is 64 at most in a
-//! well-formed design, but goes along the parts of a concatenation and the statements of a block.
+//! The places of registers, memories and integers among what is declared are found once, before the first name is
+//! written. So a text takes time in proportion to its length. Writing recurs no deeper than trees nest, which is 64 at
+//! most in a well-formed design, but goes along the parts of a concatenation and the statements of a block.
 #![tactic(auto)]
 
 mod design;

@@ -6,4 +6,4 @@ use Rattle.verilog_write.proofs.Sections.{section, assign_at}
 use Rattle.verilog_write.proofs.design.push_assigns.Given as goal
 
 abbrev pub invariant-loop-k : goal.invariant-loop-k
-invariant-loop-k l = (l.assigns ≡ l.design.assigns.items) × AddsLine l.initial.text.items l.text.items (section (assign_at (netlist_of l.design)) 0 (take l.k l.design.assigns.items))
+invariant-loop-k l = (l.assigns ≡ l.names.design.now.assigns.items) × AddsLine l.initial.text.items l.text.items (section (assign_at (netlist_of l.names.design.now)) 0 (take l.k l.names.design.now.assigns.items))

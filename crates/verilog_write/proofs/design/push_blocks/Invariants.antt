@@ -6,4 +6,4 @@ use Rattle.verilog_write.proofs.Sections.{section, always_at}
 use Rattle.verilog_write.proofs.design.push_blocks.Given as goal
 
 abbrev pub invariant-loop-k : goal.invariant-loop-k
-invariant-loop-k l = (l.always ≡ l.design.always.items) × AddsLine l.initial.text.items l.text.items (section (always_at (netlist_of l.design)) 0 (take l.k l.design.always.items))
+invariant-loop-k l = (l.always ≡ l.names.design.now.always.items) × AddsLine l.initial.text.items l.text.items (section (always_at (netlist_of l.names.design.now)) 0 (take l.k l.names.design.now.always.items))

@@ -6,4 +6,4 @@ use Rattle.verilog_write.proofs.Sections.{section, declared_at}
 use Rattle.verilog_write.proofs.design.push_declared.Given as goal
 
 abbrev pub invariant-loop-k : goal.invariant-loop-k
-invariant-loop-k l = (l.declared ≡ l.design.declared.items) × AddsLine l.initial.text.items l.text.items (section (declared_at (netlist_of l.design)) (length l.design.ports.items) (take l.k l.design.declared.items)) × (l.ports ≡ l.design.ports.items)
+invariant-loop-k l = (l.declared ≡ l.names.design.now.declared.items) × AddsLine l.initial.text.items l.text.items (section (declared_at (netlist_of l.names.design.now)) (length l.names.design.now.ports.items) (take l.k l.names.design.now.declared.items)) × (l.ports ≡ l.names.design.now.ports.items)

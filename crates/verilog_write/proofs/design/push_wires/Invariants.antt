@@ -6,4 +6,4 @@ use Rattle.verilog_write.proofs.Sections.{section, wire_at}
 use Rattle.verilog_write.proofs.design.push_wires.Given as goal
 
 abbrev pub invariant-loop-k : goal.invariant-loop-k
-invariant-loop-k l = (l.wires ≡ l.design.wires.items) × AddsLine l.initial.text.items l.text.items (section (wire_at (netlist_of l.design)) (length l.design.ports.items + length l.design.declared.items) (take l.k l.design.wires.items)) × (l.ports ≡ l.design.ports.items) × (l.declared ≡ l.design.declared.items)
+invariant-loop-k l = (l.wires ≡ l.names.design.now.wires.items) × AddsLine l.initial.text.items l.text.items (section (wire_at (netlist_of l.names.design.now)) (length l.names.design.now.ports.items + length l.names.design.now.declared.items) (take l.k l.names.design.now.wires.items)) × (l.ports ≡ l.names.design.now.ports.items) × (l.declared ≡ l.names.design.now.declared.items)

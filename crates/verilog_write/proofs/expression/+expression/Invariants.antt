@@ -11,7 +11,7 @@ use Rattle.verilog_write.proofs.expression.+expression.Given as goal
 
 abbrev pub invariant-push_parts-loop-left : goal.invariant-push_parts-loop-left
 invariant-push_parts-loop-left l = record {
-  rest : (new : List ℕ) → AddsWord l.text.items new (parts_lexemes (name_of (netlist_of l.design)) (trees_of l.left)) → AddsWord l.fn.text.items new (parts_lexemes (name_of (netlist_of l.design)) (trees_of l.fn.parts));
-  writable : AreWritable (netlist_of l.design) (trees_of l.left);
+  rest : (new : List ℕ) → AddsWord l.text.items new (parts_lexemes (name_of (netlist_of l.names.design.now)) (trees_of l.left)) → AddsWord l.fn.text.items new (parts_lexemes (name_of (netlist_of l.names.design.now)) (trees_of l.fn.parts));
+  writable : AreWritable (netlist_of l.names.design.now) (trees_of l.left);
   depth : size-Parts Net l.left ≤ size-Parts Net l.fn.parts;
 }

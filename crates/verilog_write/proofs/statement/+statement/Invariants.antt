@@ -11,8 +11,8 @@ use Rattle.verilog_write.proofs.statement.+statement.Given as goal
 
 abbrev pub invariant-push_statements-loop-left : goal.invariant-push_statements-loop-left
 invariant-push_statements-loop-left l = record {
-  rest : (new : List ℕ) → AddsLine l.text.items new (statement_trees_lexemes (name_of (netlist_of l.design)) (register_name (netlist_of l.design)) (memory_name (netlist_of l.design)) (statements_of l.left))
-      → AddsLine l.fn.text.items new (statement_trees_lexemes (name_of (netlist_of l.design)) (register_name (netlist_of l.design)) (memory_name (netlist_of l.design)) (statements_of l.fn.more));
-  writable : AreStatementsWritable (netlist_of l.design) (statements_of l.left);
+  rest : (new : List ℕ) → AddsLine l.text.items new (statement_trees_lexemes (name_of (netlist_of l.names.design.now)) (register_name (netlist_of l.names.design.now)) (memory_name (netlist_of l.names.design.now)) (statements_of l.left))
+      → AddsLine l.fn.text.items new (statement_trees_lexemes (name_of (netlist_of l.names.design.now)) (register_name (netlist_of l.names.design.now)) (memory_name (netlist_of l.names.design.now)) (statements_of l.fn.more));
+  writable : AreStatementsWritable (netlist_of l.names.design.now) (statements_of l.left);
   depth : size-Stmts Net l.left ≤ size-Stmts Net l.fn.more;
 }
