@@ -1,4 +1,4 @@
-use Rattle.std.proofs.Common.{None, [], List, map, refl, subst}
+use Rattle.std.proofs.Common.{None, [], ◌∷◌, List, map, refl, subst}
 use Rattle.xdp_object.specs.Choice.{chosen_of}
 use Rattle.maps_text.specs.Writing.{text_of}
 use Rattle.command_line.specs.Request.{AskRun, names_of}
@@ -6,14 +6,28 @@ use Rattle.ehdl_top.specs.declared.write.Write as code
 use Rattle.ehdl_top.specs.States.{state_of}
 use Rattle.ehdl_top.specs.Writes.{AreDone, OneFailed}
 use Rattle.ehdl_top.specs.Results.{run_outputs}
+use Rattle.ehdl_top.specs.Forms.{built, program_form, capture_form}
+use Rattle.ehdl_top.specs.Inputs.{input}
 use Rattle.ehdl_top.specs.Requests.{outputs_of}
 use Rattle.ehdl_top.specs.Steps.{write_of}
-use Rattle.ehdl_top.proofs.StateLemmas.{changes_then}
+use Rattle.ehdl_top.proofs.StateLemmas.{changes_none, changes_then}
 use Rattle.ehdl_top.proofs.WriteLemmas.{of_as}
 use Rattle.ehdl_top.proofs.ResultLemmas.{run_of}
 use Rattle.ehdl_top.proofs.OutcomeLemmas.{run_makes}
-use Rattle.ehdl_top.proofs.EndLemmas.{ends_unwritten, ends_done}
+use Rattle.ehdl_top.proofs.EndLemmas.{was_ready, ends_unread, ends_unwritten, ends_done}
 use Rattle.ehdl_top.proofs.run.run_files.Goals as goal
+
+pub returns-in_err-capture : goal.returns-in_err-capture
+returns-in_err-capture g c =
+    let names = names_of c.args.files.now in
+    let choice = chosen_of c.args.choice in
+    let old = state_of g.S.Shelf c.args.shelf.now in
+    let read = state_of g.S.Shelf c.read_input.new.shelf in
+    let new = state_of g.S.Shelf c.read_input-2.new.shelf in
+    let object = c.in_ok-built.ensures.read in
+    ends_unread (AskRun names c.args.verilog.now choice c.args.ifindex) old read new c.in_err-capture.field-0.0 c.read_input.ensures.kept c.read_input-2.ensures.kept c.from_residual-in_err-capture.result
+    (input names.object (program_form choice built) ∷ []) (input names.capture capture_form) [] c.from_residual-in_err-capture.ensures.1 refl
+    (λ told. (was_ready (program_form choice built) names.object old old object.0 (changes_none old) object.1 told, tt)) c.in_err-capture.ensures.unread
 
 pub returns-in_err-write_all : goal.returns-in_err-write_all
 returns-in_err-write_all g c =

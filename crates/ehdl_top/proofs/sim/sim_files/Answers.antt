@@ -1,4 +1,4 @@
-use Rattle.std.proofs.Common.{Option, [], ◌∷◌, List, map, length, inl, refl, sym, ap, subst, ◌∙◌, arith}
+use Rattle.std.proofs.Common.{Option, [], ◌∷◌, ◌++◌, List, map, length, inl, refl, sym, ap, subst, ◌∙◌, arith}
 use Rattle.net_core.specs.View.{netlist_of}
 use Rattle.xdp_maps.specs.declared.decl.MapDecl.{MapDecl}
 use Rattle.xdp_object.specs.Choice.{chosen_of}
@@ -29,6 +29,18 @@ simulate-requires-clause-few g c = omega (arith, ap (λ (ds : List MapDecl). len
 
 pub simulate-requires-clause-limits : goal.simulate-requires-clause-limits
 simulate-requires-clause-limits g c = limits_of c.in_ok-program.program c.in_ok-maps.maps.decls c.decls-decls.ensures.program c.in_ok-maps.ensures.decls
+
+pub returns-in_err-design : goal.returns-in_err-design
+returns-in_err-design g c =
+    let names = names_of c.args.files.now in
+    let choice = chosen_of c.args.choice in
+    let old = state_of g.S.Shelf c.args.shelf.now in
+    let first = state_of g.S.Shelf c.read_input.new.shelf in
+    let new = state_of g.S.Shelf c.read_input-2.new.shelf in
+    let object = c.in_ok-program.ensures.read in
+    ends_unread (AskSim names c.args.verilog.now choice c.args.ifindex c.args.clocks) old first new c.in_err-design.field-0.0 c.read_input.ensures.kept c.read_input-2.ensures.kept c.from_residual-in_err-design.result
+    (input names.object (object_form choice) ∷ []) (input c.args.verilog.now text_form) (may_input names.maps (maps_form (held_decls choice (old.held names.object))) ++ input names.capture capture_form ∷ []) c.from_residual-in_err-design.ensures.1 refl
+    (λ told. (was_ready (object_form choice) names.object old old object.0 (changes_none old) object.1 told, tt)) c.in_err-design.ensures.unread
 
 pub returns-in_err-maps : goal.returns-in_err-maps
 returns-in_err-maps g c =
