@@ -1,5 +1,5 @@
 -- What cells and sites keep to, whatever their values are.
-use Rattle.std.specs.Prelude.{ℕ, ◌≡◌, ◌+◌, ◌*◌, ◌<◌, ◌≤◌, Bool, true, false, Some, List, [], length, slice_index, All}
+use Rattle.std.specs.Prelude.{ℕ, ◌≡◌, ◌+◌, ◌*◌, ◌<◌, ◌≤◌, Bool, true, false, Some, List, [], length, slice_index, All, Contains}
 use Rattle.std.proofs.Common.{get_or}
 use Rattle.xdp_maps.specs.declared.decl.MapDecl.{MapDecl}
 use Rattle.xdp_maps.specs.Calls.{change_bytes}
@@ -61,7 +61,8 @@ pub record IsSome (cells : List CellView) (d : ℕ) : Type 0 where
   pub wide : 1 ≤ (cell_at cells d).width
   pub fits : (cell_at cells (slice_index (cell_at cells d).ins 0)).width ≤ (cell_at cells d).width
 
--- Cell k takes earlier cells alone, as many as its operator needs; what divides is never 0.
+-- Cell k takes earlier cells alone, as many as its operator needs; what divides is never 0, and waits for what it divides, which so stands in an
+-- earlier row.
 pub record IsFormed (cells : List CellView) (k : ℕ) : Type 0 where
   pub earlier : All (λ i. i < k) (cell_at cells k).ins
   pub enough : takes (cell_at cells k).op ≤ length (cell_at cells k).ins
@@ -70,6 +71,7 @@ pub record IsFormed (cells : List CellView) (k : ℕ) : Type 0 where
   pub width : (cell_at cells k).width ≤ 64
   pub from : (cell_at cells k).from ≤ 63
   pub divisor : divides (cell_at cells k).op ≡ true → IsSome cells (slice_index (cell_at cells k).ins 1)
+  pub later : divides (cell_at cells k).op ≡ true → Contains (cell_at cells (slice_index (cell_at cells k).ins 1)).ins (slice_index (cell_at cells k).ins 0)
 
 pub record AreFormed (cells : List CellView) : Type 0 where
   pub each : (k : ℕ) → k < length cells → IsFormed cells k

@@ -1,6 +1,6 @@
 -- Quotients and remainders.
 use Rattle.std.specs.Prelude.{◌==◌, ◌≢◌, not, if◌then◌else◌}
-use Rattle.std.proofs.Common.{◌≡◌, ℕ, zero, suc, ◌/◌, ◌%◌, ◌^◌, ◌<◌, Bool, true, false, List, [], ◌∷◌, ◌++◌, length, refl, sym, ◌∙◌, ap, subst, arith}
+use Rattle.std.proofs.Common.{◌≡◌, ℕ, zero, suc, ◌/◌, ◌%◌, ◌^◌, ◌<◌, Bool, true, false, List, [], ◌∷◌, ◌++◌, length, refl, sym, ◌∙◌, ap, subst, arith, inl}
 use Rattle.std.proofs.lemmas.Bool.{eq-eqb, eqb-true}
 use Rattle.std.proofs.lemmas.Nat.{mod_below}
 use Rattle.std.proofs.Math.Nat.{mod-eq_of_lt, div-le_self}
@@ -148,7 +148,7 @@ divided_gives {P} p old one two three remainder a b top bottom right n d q packe
               width = λ v f s. ap (λ k. k.width) (right_value_is v remainder n d) ∙ (n_fit v f s).width;
               small = λ v f s. subst (λ k. k < 2 ^ 64) (sym (ap (λ k. k.value) (right_value_is v remainder n d))) (small v f s);
               goes = λ v f s. stops_is v remainder n d (d_some v f s);
-              reads = divided_reads (IsNetOf (behind p outside two)) remainder n d (64, n_there) (64, y.there);
+              reads = divided_reads (IsNetOf (behind p outside two)) remainder n d (64, inl n_there) (64, inl y.there);
               spelled = divided_spelled remainder n d;
             });
             there = last_there p two (divided_wire remainder n d) outside;

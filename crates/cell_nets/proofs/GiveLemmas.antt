@@ -1,17 +1,19 @@
 -- What wires give, step by step.
-use Rattle.std.proofs.Common.{◌≡◌, ℕ, zero, suc, ◌^◌, ◌<◌, ◌≤◌, All, List, [], ◌∷◌, ◌∙◌, subst, arith}
+use Rattle.std.proofs.Common.{◌≡◌, ℕ, zero, suc, ◌+◌, ◌^◌, ◌<◌, ◌≤◌, All, List, [], ◌∷◌, refl, inl, sym, ◌∙◌, ap, subst, arith}
 use Rattle.std.proofs.Math.Pow.{pow_mono}
 use Rattle.net_core.specs.Value.{Env}
 use Rattle.xdp_machine.specs.State.{PacketIn}
 use Rattle.block_core.specs.declared.name.Name.{Name}
 use Rattle.block_core.specs.Blocks.{BlockWireTree}
 use Rattle.cell_core.specs.declared.operator.Operator.{Operator}
+use Rattle.cell_core.specs.Cells.{bits_from}
 use Rattle.cell_nets.specs.declared.operand.Operand.{Operand}
-use Rattle.cell_nets.specs.declared.operand.Operand.TheVariants.{Known}
-use Rattle.cell_nets.specs.Operands.{number_in, IsFit, IsAvailable}
+use Rattle.cell_nets.specs.declared.operand.Operand.TheVariants.{Known, Net, Part}
+use Rattle.cell_nets.specs.Operands.{number_in, IsWide, IsWithin, HasWidth, IsFit, IsAvailable}
 use Rattle.cell_nets.specs.Parts.{worth}
 use Rattle.cell_nets.specs.Wires.{behind, Gives, always}
 use Rattle.cell_nets.proofs.ChoiceLemmas.{fit_of}
+use Rattle.cell_nets.proofs.SliceLemmas.{whole_bits, bits_of_bits}
 
 -- of all operands what is said of each
 pub all_one : {X : Type 0} (Q : X → Type 0) (x : X) → Q x → All Q (x ∷ [])
@@ -89,4 +91,42 @@ known_gives p ws args needs g w n small most same = record {
     there = tt;
     value = λ v f s m. same v (λ k d lt. fit_of (behind p outside ws) v _ (there k d lt) (a.fits v f s)) m;
   };
+}
+
+-- all bits of a net, and no wire
+pub whole_gives :
+    {P : Type 0} (p : P) (ws : List (BlockWireTree (Name P))) (n : Name P) (of from w : ℕ) → IsWide w → from ≡ 0 → of ≡ w → Gives p ws ws (Net n of ∷ []) always (λ v. bits_from (v.net n).value from w) w (Net n of)
+whole_gives p ws n of from w wide zero_is same = record {
+  before = λ v s. s;
+  stays = λ outside a t. t;
+  operand = subst IsWide (sym same) wide;
+  bits = same;
+  given = λ outside a there. record {
+    wires = a;
+    there = there 0 (Net n of) (omega arith);
+    value = λ v f s m.
+        let fit : HasWidth v n of = a.fits v f s (Net n of) (there 0 (Net n of) (omega arith)) in
+        whole_bits (v.net n).value of fit.small ∙ ap (λ k. bits_from (v.net n).value 0 k) same ∙ ap (λ k. bits_from (v.net n).value k w) (sym zero_is);
+  };
+}
+
+-- some bits of a net, or of bits of one, and no wire
+pub some_give : {P : Type 0} (p : P) (ws : List (BlockWireTree (Name P))) (n : Name P) (of from w : ℕ) → IsWithin of from w → Gives p ws ws (Net n of ∷ []) always (λ v. bits_from (v.net n).value from w) w (Part n of from w)
+some_give p ws n of from w is = record {
+  before = λ v s. s;
+  stays = λ outside a t. t;
+  operand = is;
+  bits = refl;
+  given = λ outside a there. record { wires = a; there = inl (there 0 (Net n of) (omega arith)); value = λ v f s m. refl };
+}
+
+pub fewer_give :
+    {P : Type 0} (p : P) (ws : List (BlockWireTree (Name P))) (n : Name P) (of at bits from w : ℕ) → IsWithin of at bits → 0 < w → from + w ≤ bits
+    → Gives p ws ws (Part n of at bits ∷ []) always (λ v. bits_from (bits_from (v.net n).value at bits) from w) w (Part n of (at + from) w)
+fewer_give p ws n of at bits from w is some inside = record {
+  before = λ v s. s;
+  stays = λ outside a t. t;
+  operand = let below = is.inside in record { some = some; inside = omega arith; most = is.most };
+  bits = refl;
+  given = λ outside a there. record { wires = a; there = there 0 (Part n of at bits) (omega arith); value = λ v f s m. sym (bits_of_bits (v.net n).value at bits from w inside) };
 }

@@ -11,13 +11,13 @@ use Rattle.cell_core.specs.Cells.{bits_from, joined}
 use Rattle.net_core.specs.Nets.{Tree, TConcatenation, TMore, TLast}
 use Rattle.net_core.specs.Value.{Env}
 use Rattle.cell_nets.specs.declared.operand.Operand.{Operand}
-use Rattle.cell_nets.specs.declared.operand.Operand.TheVariants.{Known, Net}
+use Rattle.cell_nets.specs.declared.operand.Operand.TheVariants.{Known, Net, Part}
 use Rattle.cell_nets.specs.Operands.{number_in, IsAvailable, IsNarrow, IsFit, AreFit}
 use Rattle.cell_nets.specs.Parts.{IsPart, IsSlice}
 use Rattle.cell_nets.proofs.PartLemmas.{part_same, part_of, beside_slice}
 use Rattle.cell_nets.proofs.ChoiceLemmas.{fit_of}
 use Rattle.cell_nets.proofs.ListLemmas.{available_at}
-use Rattle.cell_nets.proofs.NarrowLemmas.{from_zero, add-mod}
+use Rattle.cell_nets.proofs.NarrowLemmas.{from_zero, add-mod, bits_small}
 use Rattle.cell_nets.proofs.ShiftLemmas.{all_out, low_less}
 
 -- one more number below others
@@ -77,6 +77,7 @@ narrow_at (a ∷ args) bits (suc k) x h some inside is = subst (IsNarrow bits) (
 narrow_fit : {N : Type 0} (v : Env N) (bits : ℕ) (x : Operand N) → IsNarrow bits x → IsFit v x → number_in v x < 2 ^ bits
 narrow_fit v bits (Known n) h f = h
 narrow_fit v bits (Net n w) h f = omega (arith, pow_mono {i = w} {j = bits} h, f.small)
+narrow_fit v bits (Part n of from w) h f = omega (arith, pow_mono {i = w} {j = bits} h, bits_small (v.net n).value from w)
 
 -- what is above the last of the operands so far
 rest_is :

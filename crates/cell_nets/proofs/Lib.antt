@@ -1,5 +1,6 @@
 pub mod PartLemmas
 pub mod SliceLemmas
+pub mod PartLaws
 pub mod NarrowLemmas
 pub mod ChoiceLemmas
 pub mod TestLemmas

@@ -1,18 +1,19 @@
 -- Expressions over the nets of operands, from their parts.
 use Rattle.std.specs.Prelude.{Contains, ◌==◌, if◌then◌else◌}
-use Rattle.std.proofs.Common.{◌≡◌, ℕ, suc, ◌+◌, ◌-◌, ◌*◌, ◌/◌, ◌%◌, ◌^◌, ◌<◌, ◌≤◌, max, Bool, true, false, ◌&&◌, ◌||◌, List, refl, sym, ◌∙◌, ap, subst, arith}
+use Rattle.std.proofs.Common.{◌≡◌, ℕ, zero, suc, ◌+◌, ◌-◌, ◌*◌, ◌/◌, ◌%◌, ◌^◌, ◌<◌, ◌≤◌, max, Bool, true, false, ◌&&◌, ◌||◌, List, [], ◌∷◌, refl, sym, ◌∙◌, ap, subst, arith, inl, inr}
 use Rattle.std.proofs.lemmas.Bool.{lt-ltb, le-leb, eq-eqb}
 use Rattle.net_core.specs.declared.tree.Op.{Op}
 use Rattle.net_core.specs.declared.tree.UnaryOp.TheVariants.{Not, ReduceOr}
 use Rattle.net_core.specs.Nets.{Tree, TConst, TRead, TBit, TPartSelect, TMemoryWord, TUnary, TBinary, TConditional, TConcatenation, TMore, TLast}
 use Rattle.net_core.specs.Value.{Env, word, apply, number_of}
-use Rattle.net_core.specs.Width.{op_width, same_width, test_width, shift_width, part_select_width}
+use Rattle.net_core.specs.Width.{Scope, op_width, same_width, test_width, shift_width, part_select_width}
 use Rattle.net_core.proofs.WidthLaws.{concatenation_is}
 use Rattle.design_rules.specs.FormedSyntax.{is_prefixed, prefixes_apart, depth, tree_spelled}
 use Rattle.cell_nets.specs.declared.operand.Operand.{Operand}
-use Rattle.cell_nets.specs.declared.operand.Operand.TheVariants.{Net}
-use Rattle.cell_nets.specs.Operands.{HasWidth, AreFit}
+use Rattle.cell_nets.specs.declared.operand.Operand.TheVariants.{Net, Part}
+use Rattle.cell_nets.specs.Operands.{HasWidth, IsFit, AreFit, IsDeclared, AreDeclared, HasNet, IsNetOf}
 use Rattle.cell_nets.specs.Parts.{is_product, has_product, product_below, IsPart, IsSlice, Computes}
+use Rattle.cell_nets.proofs.WireLemmas.{reads_as}
 
 -- the same value in other words
 pub part_same : {N : Type 0} (ins : List (Operand N)) (d w : ℕ) (f g : Env N → ℕ) (t : Tree N) → ((v : Env N) → AreFit v ins → f v ≡ g v) → IsPart ins d w f t → IsPart ins d w g t
@@ -43,13 +44,50 @@ read_slice ins n w c = record {
   part = record {
     typed = λ s h. h (Net n w) c;
     value = λ v h. let fit : HasWidth v n w = h (Net n w) c in ap (λ k. word k (v.net n).value) fit.width;
-    reads = (w, c);
+    reads = (w, inl c);
     depth = omega arith;
     apart = refl;
     no_product = refl;
   };
   bare = refl;
 }
+
+-- ---- an expression over one net, where operands have this
+pub fit_net : {N : Type 0} (ins : List (Operand N)) (v : Env N) (n : N) (of : ℕ) → HasNet ins n of → AreFit v ins → HasWidth v n of
+fit_net ins v n of (inl c) f = f (Net n of) c
+fit_net ins v n of (inr (from, w, c)) f = f (Part n of from w) c
+
+declared_net : {N : Type 0} (ins : List (Operand N)) (s : Scope N) (n : N) (of : ℕ) → HasNet ins n of → AreDeclared s ins → s.net n ≡ of
+declared_net ins s n of (inl c) d = d (Net n of) c
+declared_net ins s n of (inr (from, w, c)) d = d (Part n of from w) c
+
+module _ {N : Type 0} (ins : List (Operand N)) (n : N) (of : ℕ) (has : HasNet ins n of) where
+  alone_fit : (v : Env N) → AreFit v ins → AreFit v (Net n of ∷ [])
+  alone_fit v f a (zero, lt, e) = subst (IsFit v) e (fit_net ins v n of has f)
+  alone_fit v f a (suc k, lt, e) = absurd (omega arith)
+
+  alone_declared : (s : Scope N) → AreDeclared s ins → AreDeclared s (Net n of ∷ [])
+  alone_declared s d a (zero, lt, e) = subst (IsDeclared s) e (declared_net ins s n of has d)
+  alone_declared s d a (suc k, lt, e) = absurd (omega arith)
+
+  alone_net : (m : N) → IsNetOf (Net n of ∷ []) m → IsNetOf ins m
+  alone_net m (w, inl (zero, lt, e)) = let same : n ≡ m = cc in (of, subst (λ x. HasNet ins x of) same has)
+  alone_net m (w, inl (suc k, lt, e)) = absurd (omega arith)
+  alone_net m (w, inr (from, u, (zero, lt, e))) = cc
+  alone_net m (w, inr (from, u, (suc k, lt, e))) = absurd (omega arith)
+
+  pub slice_over : (d w : ℕ) (f : Env N → ℕ) (t : Tree N) → IsSlice (Net n of ∷ []) d w f t → IsSlice ins d w f t
+  slice_over d w f t p = record {
+    part = record {
+      typed = λ s h. p.part.typed s (alone_declared s h);
+      value = λ v h. p.part.value v (alone_fit v h);
+      reads = reads_as (IsNetOf (Net n of ∷ [])) (IsNetOf ins) alone_net t p.part.reads;
+      depth = p.part.depth;
+      apart = p.part.apart;
+      no_product = p.part.no_product;
+    };
+    bare = p.bare;
+  }
 
 select_width : (w hi lo : ℕ) → 2 ≤ w → lo ≤ hi → hi < w → part_select_width w hi lo ≡ hi + 1 - lo
 select_width w hi lo two order within = rw (le-leb 2 w two, le-leb lo hi order, lt-ltb hi w within) refl
@@ -60,7 +98,7 @@ bits_slice ins n w hi lo c two order within = record {
   part = record {
     typed = λ s h. ap (λ k. part_select_width k hi lo) (h (Net n w) c) ∙ select_width w hi lo two order within;
     value = λ v h. refl;
-    reads = (w, c);
+    reads = (w, inl c);
     depth = omega arith;
     apart = refl;
     no_product = refl;
@@ -73,7 +111,7 @@ bit_slice ins n w at c two within = record {
   part = record {
     typed = λ s h. ap (λ k. part_select_width k at at) (h (Net n w) c) ∙ select_width w at at two (omega arith) within;
     value = λ v h. refl;
-    reads = (w, c);
+    reads = (w, inl c);
     depth = omega arith;
     apart = refl;
     no_product = refl;

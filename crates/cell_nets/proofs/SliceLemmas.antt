@@ -1,15 +1,15 @@
 -- Bits of operands.
 use Rattle.std.specs.Prelude.{Contains}
-use Rattle.std.proofs.Common.{◌≡◌, ℕ, ◌+◌, ◌-◌, ◌*◌, ◌/◌, ◌%◌, ◌^◌, ◌<◌, ◌≤◌, List, refl, sym, ◌∙◌, ap, subst, arith}
+use Rattle.std.proofs.Common.{◌≡◌, ℕ, ◌+◌, ◌-◌, ◌*◌, ◌/◌, ◌%◌, ◌^◌, ◌<◌, ◌≤◌, List, refl, sym, ◌∙◌, ap, subst, arith, inl, shr-shr}
 use Rattle.std.proofs.lemmas.Nat.{pow_pos}
 use Rattle.std.proofs.Math.Nat.{div-one, mod-eq_of_lt, div-eq_of_lt}
-use Rattle.std.proofs.Math.Pow.{pow_mono, shr_mod}
+use Rattle.std.proofs.Math.Pow.{pow_mono, shr_mod, field, mod-mod-pow}
 use Rattle.net_core.specs.Nets.{Tree, TConst, TRead, TBit, TPartSelect, TConcatenation, TMore, TLast}
-use Rattle.net_core.specs.Value.{word}
+use Rattle.net_core.specs.Value.{Env, word}
 use Rattle.cell_core.specs.Cells.{bits_from}
 use Rattle.cell_nets.specs.declared.operand.Operand.{Operand}
-use Rattle.cell_nets.specs.declared.operand.Operand.TheVariants.{Net}
-use Rattle.cell_nets.specs.Operands.{HasWidth, IsAvailable, number_in}
+use Rattle.cell_nets.specs.declared.operand.Operand.TheVariants.{Net, Part}
+use Rattle.cell_nets.specs.Operands.{HasWidth, HasNet, IsAvailable, number_in}
 use Rattle.cell_nets.specs.Parts.{IsSlice}
 use Rattle.cell_nets.proofs.PartLemmas.{slice_of, slice_same, const_slice, read_slice, bits_slice, bit_slice, beside_slice}
 
@@ -34,6 +34,15 @@ last_bits n w from width small inside more =
     let e : bits_from n from (w - from) ≡ bits_from n from width = rest_bits n w from (w - from) small (omega arith) ∙ sym (rest_bits n w from width small (omega arith)) in
     omega (arith, e)
 
+-- bits of bits
+pub bits_of_bits : (n at bits from width : ℕ) → from + width ≤ bits → bits_from (bits_from n at bits) from width ≡ bits_from n (at + from) width
+bits_of_bits n at bits from width inside =
+    let y : ℕ = n / 2 ^ at in
+    let e : bits - from + from ≡ bits = omega arith in
+    let f : bits - from - width + width ≡ bits - from = omega arith in
+    ap (λ k. y % 2 ^ k / 2 ^ from % 2 ^ width) (sym e) ∙ ap (λ k. k % 2 ^ width) (field y (bits - from) from) ∙ ap (λ k. y / 2 ^ from % 2 ^ k % 2 ^ width) (sym f)
+    ∙ mod-mod-pow (y / 2 ^ from) (bits - from - width) width ∙ ap (λ k. k % 2 ^ width) (shr-shr n at from)
+
 -- ---- of a net
 pub whole_inside :
     {N : Type 0} (ins : List (Operand N)) (n : N) (w from width : ℕ) → Contains ins (Net n w) → width ≡ w → from ≡ 0 → IsSlice ins 1 width (λ v. bits_from (v.net n).value from width) (TRead n)
@@ -56,26 +65,31 @@ bits_inside ins n w from width c two some inside =
     let f : from + width - 1 + 1 - from ≡ width = omega arith in
     subst P f (bits_slice ins n w (from + width - 1) from c two (omega arith) (omega arith))
 
--- ---- of an operand
-pub past_slice :
-    {N : Type 0} (ins : List (Operand N)) (n : N) (w from width : ℕ) → Contains ins (Net n w) → width ≤ 64 → w ≤ from → IsSlice ins 1 width (λ v. bits_from (v.net n).value from width) (TConst (word width 0))
-past_slice ins n w from width c most past =
-    slice_same ins 1 width _ _ _ (λ v f. let fit : HasWidth v n w = f (Net n w) c in past_bits _ w from width fit.small past) (const_slice ins width 0 most (pow_pos width))
+-- ---- of a number of so many bits, from one on
+pub past_slice : {N : Type 0} (ins : List (Operand N)) (f : Env N → ℕ) (bits from width : ℕ) → ((v : Env N) → f v < 2 ^ bits) → width ≤ 64 → bits ≤ from → IsSlice ins 2 width (λ v. bits_from (f v) from width) (TConst (word width 0))
+past_slice ins f bits from width small most past =
+    slice_of ins 1 2 width _ _ _ (omega arith) refl (slice_same ins 1 width _ _ _ (λ v fit. past_bits (f v) bits from width (small v) past) (const_slice ins width 0 most (pow_pos width)))
 
 pub last_slice :
-    {N : Type 0} (ins : List (Operand N)) (n : N) (w from width : ℕ) (t : Tree N) → Contains ins (Net n w) → width ≤ 64 → from < w → w - from < width → IsSlice ins 1 (w - from) (λ v. bits_from (v.net n).value from (w - from)) t
-    → IsSlice ins 2 width (λ v. bits_from (v.net n).value from width) (TConcatenation (TMore (TConst (word (width - (w - from)) 0)) (TLast t)))
-last_slice ins n w from width t c most inside more p =
-    let z = const_slice ins (width - (w - from)) 0 (omega arith) (pow_pos (width - (w - from))) in
-    let b = beside_slice ins 1 1 (width - (w - from)) (w - from) _ _ _ _ (omega arith) (omega arith) (omega arith) z.part p.part in
-    let P : ℕ → Type 0 = λ k. IsSlice ins 2 k (λ v. bits_from (v.net n).value from width) (TConcatenation (TMore (TConst (word (width - (w - from)) 0)) (TLast t))) in
-    let e : width - (w - from) + (w - from) ≡ width = omega arith in
-    subst P e (slice_same ins 2 _ _ _ _ (λ v f. let fit : HasWidth v n w = f (Net n w) c in last_bits _ w from width fit.small (omega arith) (omega arith)) b)
+    {N : Type 0} (ins : List (Operand N)) (f : Env N → ℕ) (bits from width : ℕ) (t : Tree N) → ((v : Env N) → f v < 2 ^ bits) → width ≤ 64 → from < bits → bits - from < width → IsSlice ins 1 (bits - from) (λ v. bits_from (f v) from (bits - from)) t
+    → IsSlice ins 2 width (λ v. bits_from (f v) from width) (TConcatenation (TMore (TConst (word (width - (bits - from)) 0)) (TLast t)))
+last_slice ins f bits from width t small most inside more p =
+    let z = const_slice ins (width - (bits - from)) 0 (omega arith) (pow_pos (width - (bits - from))) in
+    let b = beside_slice ins 1 1 (width - (bits - from)) (bits - from) _ _ _ _ (omega arith) (omega arith) (omega arith) z.part p.part in
+    let P : ℕ → Type 0 = λ k. IsSlice ins 2 k (λ v. bits_from (f v) from width) (TConcatenation (TMore (TConst (word (width - (bits - from)) 0)) (TLast t))) in
+    let e : width - (bits - from) + (bits - from) ≡ width = omega arith in
+    subst P e (slice_same ins 2 _ _ _ _ (λ v fit. last_bits (f v) bits from width (small v) (omega arith) (omega arith)) b)
 
--- the same of an operand that is a net
-pub slice_at :
-    {N : Type 0} (ins : List (Operand N)) (a : Operand N) (n : N) (w d from width : ℕ) (t u : Tree N) → a ≡ Net n w → IsAvailable ins a → d ≤ 2 → u ≡ t
-    → (Contains ins (Net n w) → IsSlice ins d width (λ v. bits_from (v.net n).value from width) t) → IsSlice ins 2 width (λ v. bits_from (number_in v a) from width) u
-slice_at ins a n w d from width t u e c le same p =
-    let P : Operand _ → Type 0 = λ b. IsSlice ins 2 width (λ v. bits_from (number_in v b) from width) u in
-    subst P (sym e) (slice_of ins d 2 width _ t u le same (p (subst (IsAvailable ins) e c)))
+-- ---- of an operand that is a net, or bits of one
+pub net_at :
+    {N : Type 0} (ins : List (Operand N)) (a : Operand N) (n : N) (of from width : ℕ) (t : Tree N) → a ≡ Net n of → IsAvailable ins a → (HasNet ins n of → IsSlice ins 2 width (λ v. bits_from (bits_from (v.net n).value 0 of) from width) t)
+    → IsSlice ins 2 width (λ v. bits_from (number_in v a) from width) t
+net_at {N = N} ins a n of from width t e c p =
+    let there : Contains ins (Net n of) = subst (IsAvailable ins) e c in
+    subst (λ b. IsSlice ins 2 width (λ v. bits_from (number_in v b) from width) t) (sym e)
+    (slice_same ins 2 width _ _ t (λ v f. let fit : HasWidth v n of = f (Net n of) there in ap (λ k. bits_from k from width) (sym (whole_bits (v.net n).value of fit.small))) (p (inl there)))
+
+pub part_at :
+    {N : Type 0} (ins : List (Operand N)) (a : Operand N) (n : N) (of at bits from width : ℕ) (t : Tree N) → a ≡ Part n of at bits → IsAvailable ins a → (HasNet ins n of → IsSlice ins 2 width (λ v. bits_from (bits_from (v.net n).value at bits) from width) t)
+    → IsSlice ins 2 width (λ v. bits_from (number_in v a) from width) t
+part_at ins a n of at bits from width t e c p = subst (λ b. IsSlice ins 2 width (λ v. bits_from (number_in v b) from width) t) (sym e) (p (subst (IsAvailable ins) e c))

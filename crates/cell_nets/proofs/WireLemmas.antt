@@ -15,7 +15,7 @@ use Rattle.block_core.specs.Formed.{block_wires_typed}
 use Rattle.block_core.specs.Order.{Reads, AllRead, RightReads, IsBefore, InOrder}
 use Rattle.block_core.specs.Parts.{Solve, Goes}
 use Rattle.cell_nets.specs.declared.operand.Operand.{Operand}
-use Rattle.cell_nets.specs.declared.operand.Operand.TheVariants.{Known, Net}
+use Rattle.cell_nets.specs.declared.operand.Operand.TheVariants.{Known, Net, Part}
 use Rattle.cell_nets.specs.Operands.{IsWide, IsFit, AreFit, AreDeclared, IsAvailable, IsNetOf}
 use Rattle.cell_nets.specs.Parts.{Computes}
 use Rattle.cell_nets.specs.Wires.{own, behind, is_spelled, AreWires, Gives, always}
@@ -42,6 +42,11 @@ module _ {P : Type 0} (p : P) where
   own_net at (x ∷ ws) n u zero h e = (at, omega arith, cc)
   own_net at (x ∷ ws) n u (suc k) h e = let r = own_net (suc at) ws n u k (omega arith) e in (r.0, omega (arith, r.1), r.2)
 
+  own_whole : (at : ℕ) (ws : List (BlockWireTree (Name P))) (n : Name P) (of from w k : ℕ) → k < length (own p at ws) → get_or (own p at ws) k (Part n of from w) ≡ Part n of from w → ⊥
+  own_whole at [] n of from w k h e = omega arith
+  own_whole at (x ∷ ws) n of from w zero h e = cc
+  own_whole at (x ∷ ws) n of from w (suc k) h e = own_whole (suc at) ws n of from w k (omega arith) e
+
   later : (d : Whole P) (before : List P) (at : ℕ) (n : Name P) → IsBefore d before p 0 n → IsBefore d before p at n
   later d before at (name.Port i) h = h
   later d before at (name.Register q i) h = h
@@ -53,10 +58,15 @@ module _ {P : Type 0} (p : P) where
   behind_before :
       (d : Whole P) (before : List P) (outside : List (Operand (Name P))) (ws : List (BlockWireTree (Name P))) → ((n : Name P) → IsNetOf outside n → IsBefore d before p 0 n)
       → (n : Name P) → IsNetOf (behind p outside ws) n → IsBefore d before p (length ws) n
-  behind_before d before outside ws h n (u, c) = by_cases (Contains-append_cases outside (own p 0 ws) (Net n u) c)
+  behind_before d before outside ws h n (u, inr (from, w, c)) = by_cases (Contains-append_cases outside (own p 0 ws) (Part n u from w) c)
+    where
+      by_cases : Contains outside (Part n u from w) ⊎ Contains (own p 0 ws) (Part n u from w) → IsBefore d before p (length ws) n
+      by_cases (inl a) = later d before (length ws) n (h n (u, inr (from, w, a)))
+      by_cases (inr b) = absurd (own_whole 0 ws n u from w b.0 b.1 b.2)
+  behind_before d before outside ws h n (u, inl c) = by_cases (Contains-append_cases outside (own p 0 ws) (Net n u) c)
     where
       by_cases : Contains outside (Net n u) ⊎ Contains (own p 0 ws) (Net n u) → IsBefore d before p (length ws) n
-      by_cases (inl a) = later d before (length ws) n (h n (u, a))
+      by_cases (inl a) = later d before (length ws) n (h n (u, inl a))
       by_cases (inr b) = let r = own_net 0 ws n u b.0 b.1 b.2 in subst (IsBefore d before p (length ws)) (sym r.2) (inl (refl, omega (arith, r.1)))
 
 both_of : (a b : Bool) → (a && b) ≡ true → (a ≡ true) × (b ≡ true)
@@ -136,9 +146,14 @@ wires_more {P} p outside ws w a r = record {
     width_holds s e = rw e (both _ _ (both _ _ (lt-ltb 0 w.width r.wide.some) (eq-eqb w.width w.width refl)) (le-leb w.width 64 r.wide.most))
 
 -- ---- what it gives
+contains_more : {P : Type 0} (p : P) (ws : List (BlockWireTree (Name P))) (w : BlockWireTree (Name P)) (outside : List (Operand (Name P))) (a : Operand (Name P)) → Contains (behind p outside ws) a → Contains (behind p outside (ws ++ w ∷ [])) a
+contains_more p ws w outside a h = subst (λ l. Contains l a) (sym (behind_more p outside ws w)) (Contains-append_left (behind p outside ws) (Net (name.Wire p (length ws)) w.width ∷ []) a h)
+
 pub stays_more : {P : Type 0} (p : P) (ws : List (BlockWireTree (Name P))) (w : BlockWireTree (Name P)) (outside : List (Operand (Name P))) (a : Operand (Name P)) → IsAvailable (behind p outside ws) a → IsAvailable (behind p outside (ws ++ w ∷ [])) a
 stays_more p ws w outside (Known n) h = tt
-stays_more p ws w outside (Net n u) h = subst (λ l. Contains l (Net n u)) (sym (behind_more p outside ws w)) (Contains-append_left (behind p outside ws) (Net (name.Wire p (length ws)) w.width ∷ []) (Net n u) h)
+stays_more p ws w outside (Net n u) h = contains_more p ws w outside (Net n u) h
+stays_more p ws w outside (Part n of from u) (inl h) = inl (contains_more p ws w outside (Net n of) h)
+stays_more p ws w outside (Part n of from u) (inr (at, k, h)) = inr (at, k, contains_more p ws w outside (Part n of at k) h)
 
 pub last_there : {P : Type 0} (p : P) (ws : List (BlockWireTree (Name P))) (w : BlockWireTree (Name P)) (outside : List (Operand (Name P))) → Contains (behind p outside (ws ++ w ∷ [])) (Net (name.Wire p (length ws)) w.width)
 last_there p ws w outside = subst (λ l. Contains l (Net (name.Wire p (length ws)) w.width)) (sym (behind_more p outside ws w)) (Contains-push (behind p outside ws) (Net (name.Wire p (length ws)) w.width))

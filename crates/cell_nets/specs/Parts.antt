@@ -1,5 +1,5 @@
 -- What an expression over the nets of operands is to be: of one width, with a value, and such that a text can spell it.
-use Rattle.std.specs.Prelude.{◌≡◌, ℕ, ◌≤◌, Bool, true, false, ◌||◌, List, map as map_list}
+use Rattle.std.specs.Prelude.{◌≡◌, ℕ, ◌+◌, ◌-◌, ◌≤◌, ◌==◌, Bool, true, false, ◌||◌, if◌then◌else◌, List, map as map_list}
 use Rattle.net_core.specs.declared.tree.Op.{Op}
 use Rattle.net_core.specs.declared.tree.Op.TheVariants.{Add, Sub, Mul, And, Or, Xor, ShiftLeft, ShiftRight, Equal, NotEqual, Less, LessEqual, Greater, GreaterEqual}
 use Rattle.net_core.specs.Nets.{Tree, TConst, TRead, TBit, TPartSelect, TMemoryWord, TUnary, TBinary, TConditional, TConcatenation, Trees, TLast, TMore}
@@ -85,3 +85,7 @@ pub record Computes {N : Type 0} (ins : List (Operand N)) (width : ℕ) (f : Env
 -- the value of an operator on operands, in so many bits
 abbrev pub worth : {N : Type 0} → PacketIn → Operator → List (Operand N) → ℕ → Env N → ℕ
 worth packet op args width v = bits_from (number packet op (map_list (number_in v) args)) 0 width
+
+-- bits of a net of `of` bits
+abbrev pub part_tree : {N : Type 0} → N → ℕ → ℕ → ℕ → Tree N
+part_tree n of from width = if width == of then TRead n else if width == 1 then TBit n from else TPartSelect n (from + width - 1) from

@@ -13,7 +13,7 @@ use Rattle.block_core.specs.Order.{IsBefore, InOrder}
 use Rattle.block_core.specs.Parts.{Solve, Goes}
 use Rattle.block_core.specs.View.{block_wire_of}
 use Rattle.cell_nets.specs.declared.operand.Operand.{Operand}
-use Rattle.cell_nets.specs.declared.operand.Operand.TheVariants.{Known, Net}
+use Rattle.cell_nets.specs.declared.operand.Operand.TheVariants.{Known, Net, Part}
 use Rattle.cell_nets.specs.Operands.{number_in, IsOperand, AreFit, AreDeclared, IsAvailable, IsNetOf}
 
 -- wires in memory
@@ -45,6 +45,7 @@ pub record AreWires {P : Type 0} (p : P) (outside : List (Operand (Name P))) (ws
 abbrev pub HasBits : {N : Type 0} → ℕ → Operand N → Type 0
 HasBits w (Known n) = n < 2 ^ w
 HasBits w (Net n u) = u ≡ w
+HasBits w (Part n of from u) = u ≡ w
 
 -- Behind these wires an operand is there, of this value where a condition holds.
 pub record IsGiven {P : Type 0} (p : P) (outside : List (Operand (Name P))) (ws : List (BlockWireTree (Name P))) (needs : Env (Name P) → Type 0) (f : Env (Name P) → ℕ) (out : Operand (Name P)) : Type 0 where

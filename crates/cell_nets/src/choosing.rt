@@ -1,19 +1,32 @@
 //! Bits and choices.
 
-ghost use Rattle.std.specs.Prelude.{ℕ, List, [], ◌∷◌, IfOk};
+ghost use Rattle.std.specs.Prelude.{ℕ, List, [], ◌∷◌, ◌^◌, ◌<◌, IfOk};
+ghost use Rattle.net_core.specs.Value.{Env};
 ghost use Rattle.net_core.specs.View.{tree_of};
 ghost use Rattle.xdp_machine.specs.State.{PacketIn};
 ghost use Rattle.cell_core.specs.declared.operator.Operator.{Operator};
 ghost use Rattle.cell_core.specs.declared.operator.Operator.TheVariants as operator;
 ghost use Rattle.cell_core.specs.Cells.{bit, on};
-ghost use Rattle.cell_nets.specs.Operands.{IsOperand, IsAvailable, IsWide, number_in};
-ghost use Rattle.cell_nets.specs.Parts.{IsPart, Computes, worth};
+ghost use Rattle.cell_nets.specs.Operands.{IsOperand, IsAvailable, IsWide, AreFit, number_in};
+ghost use Rattle.cell_nets.specs.Parts.{IsPart, IsSlice, Computes, worth};
 
 use crate::operand::Operand;
-use crate::slice::slice;
+use crate::slice::{inside, slice};
 use net_core::build::{conditional, constant, unary};
 use net_core::tree::{Expr, UnaryOp};
 use std::alloc::{AllocError, Global};
+
+// One bit: whether bits are not all 0.
+fn any_bit<N: Copy>(alloc: Global, bits: Expr<N>, width: u8) -> Result<Expr<N>, AllocError>
+    requires { IsWide width }
+    ensures { (ins : List (Operand N)) (f : Env N → ℕ) → ((v : Env N) → AreFit v ins → f v < 2 ^ width) → IsSlice ins 1 width f (tree_of bits) → IfOk result (λ e. IsPart ins 2 1 (λ v. bit (on (f v))) (tree_of e)) }
+{
+    if width == 1 {
+        return Ok(bits);
+    }
+    let any = unary(alloc, UnaryOp::ReduceOr, bits)?;
+    Ok(any)
+}
 
 /// One bit: whether an operand is not 0.
 pub fn truth<N: Copy>(alloc: Global, a: Operand<N>) -> Result<Expr<N>, AllocError>
@@ -23,11 +36,12 @@ pub fn truth<N: Copy>(alloc: Global, a: Operand<N>) -> Result<Expr<N>, AllocErro
     match a {
         Operand::Known(n) => Ok(constant(1, if n == 0 { 0 } else { 1 })),
         Operand::Net(net, width) => {
-            if width == 1 {
-                return Ok(Expr::Read(net));
-            }
-            let any = unary(alloc, UnaryOp::ReduceOr, Expr::Read(net))?;
-            Ok(any)
+            let e = any_bit(alloc, Expr::Read(net), width)?;
+            Ok(e)
+        }
+        Operand::Part(net, of, from, width) => {
+            let e = any_bit(alloc, inside(net, of, from, width), width)?;
+            Ok(e)
         }
     }
 }

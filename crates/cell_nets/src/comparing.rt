@@ -23,6 +23,7 @@ pub fn span<N: Copy>(a: Operand<N>) -> u8
 {
     match a {
         Operand::Net(_, width) => width,
+        Operand::Part(_, _, _, width) => width,
         Operand::Known(n) => {
             if n < 2 {
                 1

@@ -176,6 +176,7 @@ fn is_narrow<N: Copy>(a: Operand<N>, bits: u8) -> bool
     match a {
         Operand::Known(n) => n < 1 << bits,
         Operand::Net(_, width) => width <= bits,
+        Operand::Part(_, _, _, width) => width <= bits,
     }
 }
 

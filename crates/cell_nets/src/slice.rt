@@ -4,8 +4,8 @@ ghost use Rattle.std.specs.Prelude.{ℕ, List, Contains, ◌≡◌, ◌+◌, ◌
 ghost use Rattle.net_core.specs.Nets.{TConcatenation, TMore, TLast};
 ghost use Rattle.net_core.specs.View.{tree_of};
 ghost use Rattle.cell_core.specs.Cells.{bits_from};
-ghost use Rattle.cell_nets.specs.Operands.{IsOperand, IsAvailable, IsWide, number_in};
-ghost use Rattle.cell_nets.specs.Parts.{IsPart, IsSlice};
+ghost use Rattle.cell_nets.specs.Operands.{IsOperand, IsAvailable, IsWide, IsWithin, HasNet, number_in};
+ghost use Rattle.cell_nets.specs.Parts.{IsSlice, part_tree};
 
 use crate::operand::Operand;
 use net_core::build::constant;
@@ -22,11 +22,9 @@ pub fn beside<N: Copy>(alloc: Global, a: Expr<N>, b: Expr<N>) -> Result<Expr<N>,
 }
 
 /// Bits of a net of `of` bits.
-fn inside<N: Copy>(net: N, of: u8, from: u8, width: u8) -> Expr<N>
-    requires some { 0 < width }
-    requires within { from + width ≤ of }
-    requires most { of ≤ 64 }
-    ensures { (ins : List (Operand N)) → Contains ins (Operand.Net net of) → IsSlice ins 1 width (λ v. bits_from (number_in v (Operand.Net net of)) from width) (tree_of result) }
+pub fn inside<N: Copy>(net: N, of: u8, from: u8, width: u8) -> Expr<N>
+    requires { IsWithin of from width }
+    ensures { tree_of result ≡ part_tree net of from width }
 {
     if width == of {
         Expr::Read(net)
@@ -35,6 +33,33 @@ fn inside<N: Copy>(net: N, of: u8, from: u8, width: u8) -> Expr<N>
     } else {
         Expr::PartSelect(net, from + width - 1, from)
     }
+}
+
+// So many bits, from one on, of those that a net of `of` bits has from `at` on: zeros past these.
+fn section<N: Copy>(
+    alloc: Global,
+    net: N,
+    of: u8,
+    at: u8,
+    bits: u8,
+    from: u8,
+    width: u8,
+) -> Result<Expr<N>, AllocError>
+    requires part { IsWithin of at bits }
+    requires from { from ≤ 63 }
+    requires width { IsWide width }
+    ensures { (ins : List (Operand N)) → HasNet ins net of → IfOk result (λ e. IsSlice ins 2 width (λ v. bits_from (bits_from (v.net net).value at bits) from width) (tree_of e)) }
+{
+    if from >= bits {
+        return Ok(constant(width, 0));
+    }
+    if from + width <= bits {
+        return Ok(inside(net, of, at + from, width));
+    }
+    let zeros = constant(width - (bits - from), 0);
+    let there = inside(net, of, at + from, bits - from);
+    let whole = beside(alloc, zeros, there)?;
+    Ok(whole)
 }
 
 /// So many bits of an operand, from one on: zeros past its width.
@@ -52,16 +77,12 @@ pub fn slice<N: Copy>(
     match a {
         Operand::Known(n) => Ok(constant(width, low(n >> from, width))),
         Operand::Net(net, of) => {
-            if from >= of {
-                return Ok(constant(width, 0));
-            }
-            if from + width <= of {
-                return Ok(inside(net, of, from, width));
-            }
-            let zeros = constant(width - (of - from), 0);
-            let bits = inside(net, of, from, of - from);
-            let whole = beside(alloc, zeros, bits)?;
-            Ok(whole)
+            let e = section(alloc, net, of, 0, of, from, width)?;
+            Ok(e)
+        }
+        Operand::Part(net, of, at, bits) => {
+            let e = section(alloc, net, of, at, bits, from, width)?;
+            Ok(e)
         }
     }
 }

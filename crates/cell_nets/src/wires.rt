@@ -1,8 +1,9 @@
 //! Wires of a part, one behind another.
 
-ghost use Rattle.std.specs.Prelude.{ℕ, List, [], ◌∷◌, ◌++◌, ◌≡◌, ◌^◌, ◌<◌, ◌≤◌, All, length, IfOk, OnOk};
+ghost use Rattle.std.specs.Prelude.{ℕ, List, [], ◌∷◌, ◌++◌, Some, ◌≡◌, ◌^◌, ◌<◌, ◌≤◌, All, length, IfOk, OnOk};
 ghost use Rattle.net_core.specs.Value.{Env};
 ghost use Rattle.net_core.specs.View.{tree_of, right_of};
+ghost use Rattle.block_core.specs.Blocks.{BlockWireTree};
 ghost use Rattle.block_core.specs.declared.name.Name.{Name};
 ghost use Rattle.cell_core.specs.Cells.{bits_from};
 ghost use Rattle.cell_nets.specs.Operands.{IsOperand, IsAvailable, IsWide, number_in};
@@ -13,6 +14,7 @@ use crate::operand::Operand;
 use crate::slice::slice;
 use block_core::block::BlockWire;
 use block_core::name::Name;
+use cell_core::value::bits_from;
 use net_core::tree::{Expr, Right};
 use std::alloc::{AllocError, Global};
 
@@ -48,7 +50,37 @@ pub fn add_wire<P: Copy>(
     Ok(Operand::Net(name, width))
 }
 
-/// A wire of some bits of an operand, from one on.
+// What stands for some bits of an operand, from one on, without a wire: a number for those of a number, a net itself for all of its bits, and a
+// part of one for some.
+fn at_hand<P: Copy>(a: Operand<Name<P>>, from: u8, width: u8) -> Option<Operand<Name<P>>>
+    requires operand { IsOperand a }
+    requires from { from ≤ 63 }
+    requires width { IsWide width }
+    ensures { (p : P) (ws : List (BlockWireTree (Name P))) (out : Operand (Name P)) → result ≡ Some out → Gives p ws ws (a ∷ []) always (λ v. bits_from (number_in v a) from width) width out }
+{
+    let end = from + width;
+    match a {
+        Operand::Known(n) => Some(Operand::Known(bits_from(n, u32::from(from), u32::from(width)))),
+        Operand::Net(net, of) => {
+            if from == 0 && of == width {
+                Some(Operand::Net(net, of))
+            } else if end <= of {
+                Some(Operand::Part(net, of, from, width))
+            } else {
+                None
+            }
+        }
+        Operand::Part(net, of, at, bits) => {
+            if end <= bits {
+                Some(Operand::Part(net, of, at + from, width))
+            } else {
+                None
+            }
+        }
+    }
+}
+
+/// Some bits of an operand, from one on: a wire where they are not at hand.
 pub fn cut<P: Copy>(
     alloc: Global,
     wires: &mut Vec<BlockWire<Name<P>>>,
@@ -62,6 +94,9 @@ pub fn cut<P: Copy>(
     requires width { IsWide width }
     ensures { IfOk result (Gives part (wires_of wires.old.items) (wires_of wires.new.items) (a ∷ []) always (λ v. bits_from (number_in v a) from width) width) }
 {
+    if let Some(out) = at_hand(a, from, width) {
+        return Ok(out);
+    }
     let e = slice(alloc, a, from, width)?;
     let out = add_wire(wires, part, width, e)?;
     Ok(out)

@@ -1,5 +1,5 @@
 -- Of what edges bring, that of the first that is on.
-use Rattle.std.proofs.Common.{◌≡◌, ℕ, suc, ◌+◌, ◌<◌, ◌≤◌, ◌⊎◌, inl, inr, Bool, true, false, if◌then◌else◌, List, [], ◌∷◌, ◌++◌, length, get_or, length-append, All, refl, sym, ◌∙◌, ap, subst, arith}
+use Rattle.std.proofs.Common.{◌≡◌, ℕ, suc, ◌+◌, ◌<◌, ◌≤◌, ◌⊎◌, inl, inr, Bool, true, false, if◌then◌else◌, List, [], ◌∷◌, ◌++◌, length, get_or, length-append, All, sym, ◌∙◌, ap, subst, arith}
 use Rattle.std.proofs.Math.ListN.{get_or-append}
 use Rattle.std.proofs.Math.Seq.{get_or-append_seam}
 use Rattle.std.proofs.lemmas.Bool.{cases_lt}
@@ -30,8 +30,8 @@ pub record AreArms (old new : List CellView) (arms : List Arm) (here : List Way)
   pub count : length arms ≡ n
   pub each : (i : ℕ) (a : Arm) (e : Way) → i < n → IsArm new (get_or arms i a) (get_or here i e) brings
 
-pub no_arms : (old : List CellView) (here : List Way) (brings : (ℕ → ℕ) → Way → ℕ) → AreArms old old [] here brings 0
-no_arms old here brings = record { grows = grown_none; count = refl; each = λ i a e h. absurd (omega arith) }
+pub no_arms : (old : List CellView) (arms : List Arm) (here : List Way) (brings : (ℕ → ℕ) → Way → ℕ) → arms ≡ [] → AreArms old old arms here brings 0
+no_arms old arms here brings is = record { grows = grown_none; count = ap length is; each = λ i a e h. absurd (omega arith) }
 
 arm_later : (b d : List CellView) (a : Arm) (e : Way) (brings : (ℕ → ℕ) → Way → ℕ) → Grows b d → IsArm b a e brings → IsArm d a e brings
 arm_later b d a e brings g h = record { bit = h.bit; there = omega (arith, h.there, g.longer); value = λ packet v r. h.value packet v (g.run packet v r) }

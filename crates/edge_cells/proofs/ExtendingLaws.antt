@@ -1,6 +1,7 @@
 -- More pointers.
-use Rattle.std.proofs.Common.{◌≡◌, ℕ, pos, true, ◌<◌, ◌≤◌, List, [], ◌++◌, length, length-append, append_assoc, sym, ◌∙◌, ap, subst, arith}
+use Rattle.std.proofs.Common.{◌≡◌, ℕ, pos, true, ◌<◌, ◌≤◌, List, [], ◌∷◌, ◌++◌, length, length-append, append_assoc, sym, ◌∙◌, ap, subst, arith}
 use Rattle.std.proofs.Math.ListN.{get_or-append}
+use Rattle.std.proofs.Math.Seq.{get_or-append_seam}
 use Rattle.std.proofs.lemmas.List.{append-nil}
 use Rattle.xdp_maps.specs.declared.decl.MapDecl.{MapDecl}
 use Rattle.xdp_machine.specs.Values.{Value}
@@ -27,6 +28,10 @@ extended {ps = ps} a b = record { more = a.more ++ b.more; is = b.is ∙ ap (λ 
 
 pub same_pointer : (ps qs : List PointerView) (c : ℕ) → Extends ps qs → c < length ps → pointer_at qs c ≡ pointer_at ps c
 same_pointer ps qs c e h = ap (λ (xs : List PointerView). pointer_at xs c) e.is ∙ get_or-append ps e.more no_pointer c h
+
+-- the last of them
+pub pointer_new : (ps qs : List PointerView) (p : PointerView) (c : ℕ) → c ≡ length ps → qs ≡ ps ++ p ∷ [] → pointer_at qs c ≡ p
+pointer_new ps qs p c at is = ap (λ (xs : List PointerView). pointer_at xs c) is ∙ ap (λ (n : ℕ). pointer_at (ps ++ p ∷ []) n) at ∙ get_or-append_seam ps p [] no_pointer
 
 longer : (ps qs : List PointerView) → Extends ps qs → length ps ≤ length qs
 longer ps qs e = omega (arith, ap length e.is, length-append ps e.more)

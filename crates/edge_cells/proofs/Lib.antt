@@ -14,3 +14,8 @@ pub mod JumpKindLaws
 pub mod EdgeLaws
 pub mod Operands
 pub mod Undecided
+pub mod TestRows
+pub mod ChoiceRows
+pub mod PartRows
+pub mod JoinRows
+pub mod EdgeRowLaws

@@ -1,7 +1,6 @@
 -- What meets at a part.
-use Rattle.std.proofs.Common.{◌≡◌, ℕ, pos, zero, suc, ◌*◌, ◌<◌, ◌≤◌, true, false, if◌then◌else◌, List, [], ◌∷◌, ◌++◌, length, length-append, get_or, map as map_list, refl, sym, ◌∙◌, ap, subst, arith}
+use Rattle.std.proofs.Common.{◌≡◌, ℕ, pos, zero, suc, ◌*◌, ◌<◌, ◌≤◌, true, false, if◌then◌else◌, List, [], ◌∷◌, length, length-append, get_or, map as map_list, refl, sym, ◌∙◌, ap, subst, arith}
 use Rattle.std.specs.Prelude.{All, Some, None}
-use Rattle.std.proofs.Math.Seq.{get_or-append_seam}
 use Rattle.std.proofs.lemmas.List.{length-map, get_or-map, get_or_default}
 use Rattle.std.proofs.lemmas.Grind.{div_ceil_times}
 use Rattle.xdp_maps.specs.declared.decl.MapDecl.{MapDecl}
@@ -16,14 +15,14 @@ use Rattle.kind_core.specs.declared.kind.Kinds.{Kinds}
 use Rattle.kind_core.specs.Kinds.{key_bytes}
 use Rattle.cell_core.specs.Cells.{CellView, IsRun, on}
 use Rattle.held_cells.specs.declared.way.Way.{Way}
-use Rattle.held_cells.specs.Held.{PointerView, no_pointer, pointer_at, key_of, Holds, Counts, IsPointer, number_of, IsThere}
+use Rattle.held_cells.specs.Held.{PointerView, pointer_at, key_of, Holds, Counts, IsPointer, number_of, IsThere}
 use Rattle.edge_cells.specs.declared.part.Part.{Part}
 use Rattle.edge_cells.specs.declared.part.Part.TheVariants.{Register, Slot, Byte, Target}
 use Rattle.edge_cells.specs.Widening.{Widens, AreWider}
 use Rattle.edge_cells.specs.Meeting.{IsPart, held_at, kind_at, number_in, number_brought, BringNumbers, cell_in, BringCells, Picks, PicksPointer, words_of, is_known, is_unknown, map_of, IsSaid, AreWays, MeetsMore, first_on}
 use Rattle.operator_cells.proofs.MakingLaws.{grown_none}
 use Rattle.edge_cells.proofs.Words.{bytes_same}
-use Rattle.edge_cells.proofs.ExtendingLaws.{extends_none, extended, same_pointer, part_counts}
+use Rattle.edge_cells.proofs.ExtendingLaws.{extends_none, extended, same_pointer, pointer_new, part_counts}
 use Rattle.edge_cells.proofs.Arriving.{first_below}
 
 pub part_wider : (k j : Kinds) (part : Part) → AreWider k j → Widens (kind_at part k) (kind_at part j)
@@ -208,7 +207,7 @@ met_pointer decls old new ps qs here k part q c a e p = record {
 }
   where
     own : pointer_at qs c ≡ p.pointer
-    own = ap (λ (xs : List PointerView). pointer_at xs c) p.is ∙ ap (λ (n : ℕ). pointer_at (ps ++ p.pointer ∷ []) n) p.at ∙ get_or-append_seam ps p.pointer [] no_pointer
+    own = pointer_new ps qs p.pointer c p.at p.is
 
     inside : c < length qs
     inside = omega (arith, p.at, ap length p.is, length-append ps (p.pointer ∷ []))

@@ -13,12 +13,9 @@ use Rattle.held_cells.specs.Held.{PointerView}
 use Rattle.edge_cells.specs.declared.part.Part.{Part}
 use Rattle.edge_cells.specs.declared.part.Part.TheVariants.{Register, Slot, Byte, Target}
 use Rattle.edge_cells.specs.Meeting.{kind_at, Extends, Meets, MeetsMore, MeetRow}
-use Rattle.operator_cells.proofs.MakingLaws.{grown, grown_none}
-use Rattle.edge_cells.proofs.ExtendingLaws.{extends_none, extended, meets_later}
+use Rattle.operator_cells.proofs.MakingLaws.{grown}
+use Rattle.edge_cells.proofs.ExtendingLaws.{extended, meets_later}
 use Rattle.edge_cells.proofs.Assembled.{AreMet}
-
-pub row_none : (decls : List MapDecl) (cells : List CellView) (ps : List PointerView) (here : List Way) (k : Kinds) (part : ℕ → Part) (held : List ℕ) → MeetRow decls cells cells ps ps here k part 0 held
-row_none decls cells ps here k part held = record { grows = grown_none; extends = extends_none ps; each = λ i l. absurd (omega arith) }
 
 pub row_more : (decls : List MapDecl) (old mid new : List CellView) (ps qs rs : List PointerView) (here : List Way) (k : Kinds) (part : ℕ → Part) (n c : ℕ) (held : List ℕ) → n < length held
     → MeetRow decls old mid ps qs here k part n held → MeetsMore decls mid new qs rs here (part n) (kind_at (part n) k) c → MeetRow decls old new ps rs here k part (n + 1) (set held n c)

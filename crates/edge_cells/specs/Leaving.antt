@@ -54,6 +54,11 @@ abbrev pub IsBit : (ℕ → ℕ) → Option ℕ → Type 0
 IsBit v None = Unit {0}
 IsBit v (Some c) = v c < 2
 
+-- the row of a condition, 0 where there is none
+abbrev pub condition_row : (ℕ → ℕ) → Option ℕ → ℕ
+condition_row row None = 0
+condition_row row (Some c) = row c
+
 -- More cells, and one that is on where the guard is and the jump goes along the edge.
 pub record Branches (old new : List CellView) (guard : ℕ) (condition : Option ℕ) (taken : Bool) (c : ℕ) : Type 0 where
   pub grows : Grows old new

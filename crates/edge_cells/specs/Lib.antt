@@ -3,3 +3,4 @@ pub mod Meeting
 pub mod Joining
 pub mod Testing
 pub mod Leaving
+pub mod Rows

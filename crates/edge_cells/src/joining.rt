@@ -3,10 +3,13 @@
 ghost use Rattle.std.specs.Prelude.{◌≡◌, ◌<◌, ◌≤◌, length, IfOk, All, map as map_list};
 ghost use Rattle.cell_core.specs.Formed.{AreFormed};
 ghost use Rattle.operator_cells.specs.Making.{seen};
+ghost use Rattle.operator_cells.specs.Rising.{Rises};
 ghost use Rattle.held_cells.specs.Held.{pointed};
+ghost use Rattle.held_cells.specs.Rows.{bits_row, JoinsTo};
 ghost use Rattle.edge_cells.specs.Widening.{AreWider, AreFilled};
 ghost use Rattle.edge_cells.specs.Meeting.{AreWays, MeetRow};
 ghost use Rattle.edge_cells.specs.Joining.{Guards, Joins};
+ghost use Rattle.edge_cells.specs.Rows.{MeetRowTo};
 
 use crate::meeting::meet;
 use crate::part::Part;
@@ -36,7 +39,8 @@ fn bits_of(alloc: Global, ways: &[Way]) -> Result<Vec<u32>, AllocError>
 fn meet_bits(cells: &mut Vec<Cell>, ways: &[Way]) -> Result<u32, AllocError>
     requires some { 1 ≤ length ways.now }
     requires there { All (λ e. e.bit < length (seen cells.old.items)) ways.now }
-    ensures { IfOk result (λ c. Guards (seen cells.old.items) (seen cells.new.items) ways.now c) }
+    ensures guards { IfOk result (λ c. Guards (seen cells.old.items) (seen cells.new.items) ways.now c) }
+    ensures rises { IfOk result (λ c. Rises (seen cells.old.items) (seen cells.new.items) c (λ row. bits_row row ways.now)) }
 {
     if ways.len() == 1 {
         return Ok(ways[0].bit);
@@ -58,7 +62,8 @@ fn meet_registers(
     requires some { 1 ≤ length ways.now }
     requires there { AreWays decls.now (seen cells.old.items) (pointed pointers.old.items) ways.now }
     requires wider { All (λ e. AreWider kinds.now e.kinds) ways.now }
-    ensures { IfOk result (λ held. MeetRow decls.now (seen cells.old.items) (seen cells.new.items) (pointed pointers.old.items) (pointed pointers.new.items) ways.now kinds.now Part.Register 11 held) }
+    ensures meets { IfOk result (λ held. MeetRow decls.now (seen cells.old.items) (seen cells.new.items) (pointed pointers.old.items) (pointed pointers.new.items) ways.now kinds.now Part.Register 11 held) }
+    ensures rises { IfOk result (λ held. MeetRowTo (seen cells.old.items) (seen cells.new.items) (pointed pointers.old.items) (pointed pointers.new.items) ways.now kinds.now Part.Register 11 held) }
 {
     let mut held = [0; 11];
     for i in 0..11 {
@@ -80,7 +85,8 @@ fn meet_slots(
     requires some { 1 ≤ length ways.now }
     requires there { AreWays decls.now (seen cells.old.items) (pointed pointers.old.items) ways.now }
     requires wider { All (λ e. AreWider kinds.now e.kinds) ways.now }
-    ensures { IfOk result (λ held. MeetRow decls.now (seen cells.old.items) (seen cells.new.items) (pointed pointers.old.items) (pointed pointers.new.items) ways.now kinds.now Part.Slot 64 held) }
+    ensures meets { IfOk result (λ held. MeetRow decls.now (seen cells.old.items) (seen cells.new.items) (pointed pointers.old.items) (pointed pointers.new.items) ways.now kinds.now Part.Slot 64 held) }
+    ensures rises { IfOk result (λ held. MeetRowTo (seen cells.old.items) (seen cells.new.items) (pointed pointers.old.items) (pointed pointers.new.items) ways.now kinds.now Part.Slot 64 held) }
 {
     let mut held = [0; 64];
     for i in 0..64 {
@@ -102,7 +108,8 @@ fn meet_window(
     requires some { 1 ≤ length ways.now }
     requires there { AreWays decls.now (seen cells.old.items) (pointed pointers.old.items) ways.now }
     requires wider { All (λ e. AreWider kinds.now e.kinds) ways.now }
-    ensures { IfOk result (λ held. MeetRow decls.now (seen cells.old.items) (seen cells.new.items) (pointed pointers.old.items) (pointed pointers.new.items) ways.now kinds.now Part.Byte 256 held) }
+    ensures meets { IfOk result (λ held. MeetRow decls.now (seen cells.old.items) (seen cells.new.items) (pointed pointers.old.items) (pointed pointers.new.items) ways.now kinds.now Part.Byte 256 held) }
+    ensures rises { IfOk result (λ held. MeetRowTo (seen cells.old.items) (seen cells.new.items) (pointed pointers.old.items) (pointed pointers.new.items) ways.now kinds.now Part.Byte 256 held) }
 {
     let mut held = [0; 256];
     for i in 0..256 {
@@ -125,7 +132,8 @@ pub fn join(
     requires there { AreWays decls.now (seen cells.old.items) (pointed pointers.old.items) ways.now }
     requires wider { All (λ e. AreWider kinds.now e.kinds) ways.now }
     requires filled { AreFilled kinds.now }
-    ensures { IfOk result (λ here. Joins decls.now (seen cells.old.items) (seen cells.new.items) (pointed pointers.old.items) (pointed pointers.new.items) ways.now kinds.now here.guard here.held) }
+    ensures joins { IfOk result (λ here. Joins decls.now (seen cells.old.items) (seen cells.new.items) (pointed pointers.old.items) (pointed pointers.new.items) ways.now kinds.now here.guard here.held) }
+    ensures rows { IfOk result (λ here. JoinsTo (seen cells.old.items) (seen cells.new.items) (pointed pointers.old.items) (pointed pointers.new.items) ways.now kinds.now here.guard here.held) }
 {
     let guard = meet_bits(cells, ways)?;
     let registers = meet_registers(cells, pointers, decls, ways, kinds)?;

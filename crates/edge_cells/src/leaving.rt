@@ -1,15 +1,19 @@
 //! The edges that leave a node along a jump, and ends.
 
-ghost use Rattle.std.specs.Prelude.{◌≡◌, ◌<◌, ◌≤◌, true, length, slice_index, IfOk};
+ghost use Rattle.std.specs.Prelude.{◌≡◌, ◌+◌, ◌<◌, ◌≤◌, max, true, length, slice_index, IfOk};
 ghost use Rattle.bpf_isa.specs.Spelling.{IsInsn};
 ghost use Rattle.kind_core.specs.Kinds.{register};
 ghost use Rattle.kind_core.specs.Effects.{operand};
 ghost use Rattle.cell_core.specs.Formed.{AreFormed};
 ghost use Rattle.operator_cells.specs.Making.{seen};
+ghost use Rattle.operator_cells.specs.Rising.{Rises};
+ghost use Rattle.place_rows.specs.Spans.{one, span_row};
+ghost use Rattle.place_rows.specs.Reading.{right_of};
 ghost use Rattle.held_cells.specs.Held.{pointed};
+ghost use Rattle.held_cells.specs.Rows.{held_row};
 ghost use Rattle.edge_cells.specs.Meeting.{number_in};
 ghost use Rattle.edge_cells.specs.Testing.{is_open, IsReady};
-ghost use Rattle.edge_cells.specs.Leaving.{operand_held, TestsJump, IsThere, Branches, IsBranch};
+ghost use Rattle.edge_cells.specs.Leaving.{operand_held, TestsJump, IsThere, Branches, IsBranch, condition_row};
 
 use crate::joining::Here;
 use crate::part::number_in;
@@ -62,7 +66,8 @@ pub fn jump_condition(
     requires left { IsReady (length (seen cells.old.items)) (pointed pointers.now) (register kinds.now insn.now.dst) (slice_index held.now.registers insn.now.dst) }
     requires right { IsReady (length (seen cells.old.items)) (pointed pointers.now) (operand kinds.now insn.now src) (operand_held held.now insn.now src) }
     requires undecided { is_open width code (register kinds.now insn.now.dst) (operand kinds.now insn.now src) ≡ true }
-    ensures { IfOk result (λ c. TestsJump (pointed pointers.now) kinds.now held.now insn.now width code src (seen cells.old.items) (seen cells.new.items) c) }
+    ensures tests { IfOk result (λ c. TestsJump (pointed pointers.now) kinds.now held.now insn.now width code src (seen cells.old.items) (seen cells.new.items) c) }
+    ensures rises { IfOk result (λ c. Rises (seen cells.old.items) (seen cells.new.items) c (λ row. 1 + max (span_row (held_row row (pointed pointers.now) held.now kinds.now) (one insn.now.dst)) (span_row (held_row row (pointed pointers.now) held.now kinds.now) (right_of insn.now src)))) }
 {
     let a = kinds.registers[insn.dst as usize];
     let p = held.registers[insn.dst as usize];
@@ -81,7 +86,8 @@ fn branch(
 ) -> Result<u32, AllocError>
     requires guard { guard < length (seen cells.old.items) }
     requires condition { IsThere (length (seen cells.old.items)) condition }
-    ensures { IfOk result (λ c. Branches (seen cells.old.items) (seen cells.new.items) guard condition taken c) }
+    ensures branches { IfOk result (λ c. Branches (seen cells.old.items) (seen cells.new.items) guard condition taken c) }
+    ensures rises { IfOk result (λ c. Rises (seen cells.old.items) (seen cells.new.items) c (λ row. max (row guard) (condition_row row condition))) }
 {
     match condition {
         Some(c) => {
@@ -108,7 +114,8 @@ pub fn leave_edge(
     requires legal { IsInsn insn.now }
     requires guard { here.now.guard < length (seen cells.old.items) }
     requires condition { IsThere (length (seen cells.old.items)) condition }
-    ensures { IfOk result (λ e. IsBranch decls.now (seen cells.old.items) (seen cells.new.items) node kinds.now here.now.held here.now.guard insn.now condition taken to e) }
+    ensures branch { IfOk result (λ e. IsBranch decls.now (seen cells.old.items) (seen cells.new.items) node kinds.now here.now.held here.now.guard insn.now condition taken to e) }
+    ensures rises { IfOk result (λ e. Rises (seen cells.old.items) (seen cells.new.items) e.bit (λ row. max (row here.now.guard) (condition_row row condition))) }
 {
     let bit = branch(cells, here.guard, condition, taken)?;
     Ok(Way {

@@ -4,9 +4,12 @@ ghost use Rattle.std.specs.Prelude.{ℕ, suc, ◌≡◌, ◌<◌, ◌≤◌, tru
 ghost use Rattle.kind_core.specs.Kinds.{key_bytes};
 ghost use Rattle.cell_core.specs.Formed.{AreFormed};
 ghost use Rattle.operator_cells.specs.Making.{seen};
-ghost use Rattle.held_cells.specs.Held.{pointed, pointer_of};
+ghost use Rattle.operator_cells.specs.Rising.{Rises, RiseAll};
+ghost use Rattle.held_cells.specs.Held.{pointed, pointer_of, pointer_at};
+ghost use Rattle.held_cells.specs.Rows.{cells_of_pointer};
 ghost use Rattle.edge_cells.specs.Widening.{AreWider};
 ghost use Rattle.edge_cells.specs.Meeting.{IsPart, held_at, kind_at, Picks, number_brought, BringNumbers, cell_in, cell_brought, BringCells, PickWords, PicksPointer, words_of, is_known, is_unknown, map_of, AreWays, MeetsMore};
+ghost use Rattle.edge_cells.specs.Rows.{choice_row, number_row_brought, pointer_row_brought, MeetsTo};
 
 use crate::part::{Part, held_at, kind_at, number_in};
 use cell_core::cell::{Cell, Cells};
@@ -24,7 +27,8 @@ fn meet_numbers(cells: &mut Vec<Cell>, ways: &[Way], part: Part) -> Result<u32, 
     requires some { 1 ≤ length ways.now }
     requires part { IsPart part }
     requires there { BringNumbers (length (seen cells.old.items)) ways.now part }
-    ensures { IfOk result (λ c. Picks (seen cells.old.items) (seen cells.new.items) ways.now (number_brought part) c) }
+    ensures picks { IfOk result (λ c. Picks (seen cells.old.items) (seen cells.new.items) ways.now (number_brought part) c) }
+    ensures rises { IfOk result (λ c. Rises (seen cells.old.items) (seen cells.new.items) c (λ row. choice_row row (number_row_brought part) ways.now)) }
 {
     let mut arms = Vec::new(*cells.allocator());
     for way in ways {
@@ -59,7 +63,8 @@ fn meet_cell(
     requires some { 1 ≤ length ways.now }
     requires part { IsPart part }
     requires there { BringCells (length (seen cells.old.items)) (pointed pointers.now) ways.now part j }
-    ensures { IfOk result (λ c. Picks (seen cells.old.items) (seen cells.new.items) ways.now (cell_brought (pointed pointers.now) part j) c) }
+    ensures picks { IfOk result (λ c. Picks (seen cells.old.items) (seen cells.new.items) ways.now (cell_brought (pointed pointers.now) part j) c) }
+    ensures rises { IfOk result (λ c. Rises (seen cells.old.items) (seen cells.new.items) c (λ row. choice_row row (pointer_row_brought (pointed pointers.now) part) ways.now)) }
 {
     let mut arms = Vec::new(*cells.allocator());
     for way in ways {
@@ -85,7 +90,8 @@ fn meet_key(
     requires some { 1 ≤ length ways.now }
     requires part { IsPart part }
     requires there { (j : ℕ) → j < words → BringCells (length (seen cells.old.items)) (pointed pointers.now) ways.now part (suc j) }
-    ensures { IfOk result (λ key. PickWords (seen cells.old.items) (seen cells.new.items) (pointed pointers.now) ways.now part words key.items) }
+    ensures picks { IfOk result (λ key. PickWords (seen cells.old.items) (seen cells.new.items) (pointed pointers.now) ways.now part words key.items) }
+    ensures rises { IfOk result (λ key. RiseAll (seen cells.old.items) (seen cells.new.items) key.items (λ row. choice_row row (pointer_row_brought (pointed pointers.now) part) ways.now)) }
 {
     let mut key = Cells::new(*cells.allocator());
     for j in 0..words {
@@ -107,7 +113,8 @@ fn meet_pointers(
     requires some { 1 ≤ length ways.now }
     requires part { IsPart part }
     requires there { (j : ℕ) → j ≤ words → BringCells (length (seen cells.old.items)) (pointed pointers.old.items) ways.now part j }
-    ensures { IfOk result (λ c. PicksPointer (seen cells.old.items) (seen cells.new.items) (pointed pointers.old.items) (pointed pointers.new.items) ways.now part words c) }
+    ensures picks { IfOk result (λ c. PicksPointer (seen cells.old.items) (seen cells.new.items) (pointed pointers.old.items) (pointed pointers.new.items) ways.now part words c) }
+    ensures rises { IfOk result (λ c. RiseAll (seen cells.old.items) (seen cells.new.items) (cells_of_pointer (pointer_at (pointed pointers.new.items) c)) (λ row. choice_row row (pointer_row_brought (pointed pointers.old.items) part) ways.now)) }
 {
     let Ok(at) = u32::try_from(pointers.len()) else {
         return Err(AllocError);
@@ -155,7 +162,8 @@ fn is_unknown(kind: Kind) -> bool
 // Whether all edges bring one cell, or one pointer.
 fn agree(ways: &[Way], part: Part, cell: u32) -> bool
     requires { IsPart part }
-    ensures { result ≡ true → All (λ e. (is_known (kind_at part e.kinds) ≡ false) × (held_at part e.held ≡ cell)) ways.now }
+    ensures all { result ≡ true → All (λ e. (is_known (kind_at part e.kinds) ≡ false) × (held_at part e.held ≡ cell)) ways.now }
+    ensures only { All (λ e. (is_known (kind_at part e.kinds) ≡ false) × (held_at part e.held ≡ cell)) ways.now → result ≡ true }
 {
     for way in ways {
         if is_known(kind_at(part, &way.kinds)) {
@@ -183,7 +191,8 @@ pub fn meet(
     requires part { IsPart part }
     requires there { AreWays decls.now (seen cells.old.items) (pointed pointers.old.items) ways.now }
     requires wider { All (λ e. AreWider kinds.now e.kinds) ways.now }
-    ensures { IfOk result (λ c. MeetsMore decls.now (seen cells.old.items) (seen cells.new.items) (pointed pointers.old.items) (pointed pointers.new.items) ways.now part (kind_at part kinds.now) c) }
+    ensures meets { IfOk result (λ c. MeetsMore decls.now (seen cells.old.items) (seen cells.new.items) (pointed pointers.old.items) (pointed pointers.new.items) ways.now part (kind_at part kinds.now) c) }
+    ensures rises { IfOk result (λ c. MeetsTo (seen cells.old.items) (seen cells.new.items) (pointed pointers.old.items) (pointed pointers.new.items) ways.now kinds.now part c) }
 {
     let first = held_at(part, &ways[0].held);
     if agree(ways, part, first) {

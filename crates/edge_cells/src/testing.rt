@@ -1,11 +1,13 @@
 //! The conditions of jumps.
 
-ghost use Rattle.std.specs.Prelude.{◌≡◌, ◌<◌, true, length, IfOk};
+ghost use Rattle.std.specs.Prelude.{◌≡◌, ◌<◌, ◌+◌, max, true, length, IfOk};
 ghost use Rattle.xdp_machine.specs.Arithmetic.{low, bits_in, holds};
 ghost use Rattle.cell_core.specs.Cells.{bit, on};
 ghost use Rattle.cell_core.specs.Formed.{AreFormed};
 ghost use Rattle.operator_cells.specs.Making.{seen, Makes};
+ghost use Rattle.operator_cells.specs.Rising.{Rises};
 ghost use Rattle.held_cells.specs.Held.{pointed, number_of, IsThere};
+ghost use Rattle.held_cells.specs.Rows.{number_row, value_row};
 ghost use Rattle.edge_cells.specs.Testing.{is_open, is_equal, null_holds, place_of, found_of, HasPointer, IsReady, is_number, Tests};
 
 use crate::part::number_in;
@@ -33,7 +35,8 @@ fn compare_numbers(
     requires formed { AreFormed (seen cells.old.items) }
     requires left { IsThere (length (seen cells.old.items)) x p }
     requires right { IsThere (length (seen cells.old.items)) y q }
-    ensures { IfOk result (λ c. Makes (seen cells.old.items) (seen cells.new.items) c (λ packet v. bit (holds code (bits_in width) (low (bits_in width) (number_of v x p)) (low (bits_in width) (number_of v y q))))) }
+    ensures makes { IfOk result (λ c. Makes (seen cells.old.items) (seen cells.new.items) c (λ packet v. bit (holds code (bits_in width) (low (bits_in width) (number_of v x p)) (low (bits_in width) (number_of v y q))))) }
+    ensures rises { IfOk result (λ c. Rises (seen cells.old.items) (seen cells.new.items) c (λ row. 1 + max (number_row row x p) (number_row row y q))) }
 {
     let a = number_cell(cells, x, p)?;
     let b = number_cell(cells, y, q)?;
@@ -43,7 +46,8 @@ fn compare_numbers(
 
 // Where a pointer into the packet leads, or its end.
 fn place(cells: &mut Vec<Cell>, kind: Kind) -> Result<u32, AllocError>
-    ensures { IfOk result (λ c. Makes (seen cells.old.items) (seen cells.new.items) c (λ packet v. low 64 (place_of packet kind))) }
+    ensures makes { IfOk result (λ c. Makes (seen cells.old.items) (seen cells.new.items) c (λ packet v. low 64 (place_of packet kind))) }
+    ensures rises { IfOk result (λ c. Rises (seen cells.old.items) (seen cells.new.items) c (λ row. 0)) }
 {
     match kind {
         Kind::Packet(o) => {
@@ -65,7 +69,8 @@ fn compare_places(
     b: Kind,
 ) -> Result<u32, AllocError>
     requires { AreFormed (seen cells.old.items) }
-    ensures { IfOk result (λ c. Makes (seen cells.old.items) (seen cells.new.items) c (λ packet v. bit (holds code 64 (low 64 (low 64 (place_of packet a))) (low 64 (low 64 (place_of packet b)))))) }
+    ensures makes { IfOk result (λ c. Makes (seen cells.old.items) (seen cells.new.items) c (λ packet v. bit (holds code 64 (low 64 (low 64 (place_of packet a))) (low 64 (low 64 (place_of packet b)))))) }
+    ensures rises { IfOk result (λ c. Rises (seen cells.old.items) (seen cells.new.items) c (λ row. 1)) }
 {
     let p = place(cells, a)?;
     let q = place(cells, b)?;
@@ -84,7 +89,8 @@ fn is_equal(code: JumpCode) -> bool
 fn compare_null(cells: &mut Vec<Cell>, code: JumpCode, found: u32) -> Result<u32, AllocError>
     requires formed { AreFormed (seen cells.old.items) }
     requires there { found < length (seen cells.old.items) }
-    ensures { IfOk result (λ c. Makes (seen cells.old.items) (seen cells.new.items) c (λ packet v. bit (null_holds code (on (v found))))) }
+    ensures makes { IfOk result (λ c. Makes (seen cells.old.items) (seen cells.new.items) c (λ packet v. bit (null_holds code (on (v found))))) }
+    ensures rises { IfOk result (λ c. Rises (seen cells.old.items) (seen cells.new.items) c (λ row. 1 + row found)) }
 {
     values_fit();
     let zero = constant(cells, 0, 1)?;
@@ -129,7 +135,8 @@ pub fn condition(
     requires left { IsReady (length (seen cells.old.items)) (pointed pointers.now) a p }
     requires right { IsReady (length (seen cells.old.items)) (pointed pointers.now) b q }
     requires open { is_open width code a b ≡ true }
-    ensures { IfOk result (λ c. Tests (pointed pointers.now) width code a p b q (seen cells.old.items) (seen cells.new.items) c) }
+    ensures tests { IfOk result (λ c. Tests (pointed pointers.now) width code a p b q (seen cells.old.items) (seen cells.new.items) c) }
+    ensures rises { IfOk result (λ c. Rises (seen cells.old.items) (seen cells.new.items) c (λ row. 1 + max (value_row row (pointed pointers.now) a p) (value_row row (pointed pointers.now) b q))) }
 {
     if let Some(found) = found_of(pointers, a, p) {
         let c = compare_null(cells, code, found)?;

@@ -1,6 +1,6 @@
 -- The cells of a program's law, which can be built and do nothing on maps, have a pipeline by their plan.
-use Rattle.std.specs.Prelude.{◌≡◌, ◌≢◌, ℕ, suc, ◌+◌, ◌^◌, ◌<◌, ◌≤◌, Bool, true, false, All, List, [], ◌∷◌, length, slice_index, Contains}
-use Rattle.std.proofs.Common.{get_or, refl, sym, ap, subst, ◌∙◌, arith}
+use Rattle.std.specs.Prelude.{◌≡◌, ℕ, ◌+◌, ◌^◌, ◌<◌, ◌≤◌, true, false, List, [], ◌∷◌, length, slice_index, Contains}
+use Rattle.std.proofs.Common.{refl, ap, subst, ◌∙◌, arith}
 use Rattle.cell_core.specs.declared.program.FrameByte.{FrameByte}
 use Rattle.cell_core.specs.declared.operator.Operator.{Operator}
 use Rattle.cell_core.specs.declared.operator.Operator.TheVariants.{Byte, Length, Ifindex, Time, Found, Answer}
@@ -13,7 +13,6 @@ use Rattle.held_cells.specs.Paths.{GraphView}
 use Rattle.held_cells.specs.Law.{IsLaw}
 use Rattle.predicate_core.specs.Buildable.{HasBits, IsBuildable}
 use Rattle.row_plan.specs.Plan.{Plan, IsPlan}
-use Rattle.row_net.specs.Needed.{IsUsed}
 use Rattle.shell_net.specs.Layout.{HasAnswer, IsBy}
 use Rattle.pipeline_net.specs.Pipeline.{IsForPipeline, IsInWindow, build_of, slots_of}
 

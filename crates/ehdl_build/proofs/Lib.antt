@@ -1,5 +1,5 @@
 pub mod Buildable
-pub mod Beyond
+pub mod Within
 pub mod Sequential
 pub mod Realized
 pub mod Outcomes

@@ -22,8 +22,8 @@ use Rattle.node_rows.specs.Acceptance.{IsAccepted, IsFirstRefusal}
 use Rattle.node_rows.proofs.OneOutcomeLaws.{has_one_outcome}
 use Rattle.ehdl_build.specs.declared.counted.Counted.{Counted}
 use Rattle.ehdl_build.specs.declared.built.CompileError.{CompileError}
-use Rattle.ehdl_build.specs.declared.built.CompileError.TheVariants.{Object, Refused, NoPipeline, NoMemory}
-use Rattle.ehdl_build.specs.Pipelines.{IsNotBuilt, HasNoPipeline}
+use Rattle.ehdl_build.specs.declared.built.CompileError.TheVariants.{Object, Refused, NoMemory}
+use Rattle.ehdl_build.specs.Pipelines.{HasNoPipeline}
 use Rattle.ehdl_build.specs.Compiled.{RefusesProgram, IsRefused, FailsFor, compile_error}
 use Rattle.ehdl_build.specs.Steps.{IsCounted, FailsCounting, FailsBecause}
 

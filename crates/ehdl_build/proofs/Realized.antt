@@ -1,7 +1,7 @@
 -- What a pipeline of a program without maps realizes.
-use Rattle.std.specs.Prelude.{◌≡◌, ℕ, ◌+◌, ◌≤◌, List, []}
+use Rattle.std.specs.Prelude.{◌≡◌, ℕ, ◌+◌, List, []}
 use Rattle.std.specs.List.{AllByRecursion}
-use Rattle.std.proofs.Common.{refl, sym, ap, subst, ◌∙◌, arith}
+use Rattle.std.proofs.Common.{sym, ap, subst, ◌∙◌, arith}
 use Rattle.beat_core.specs.declared.answer.Answer.{Answer}
 use Rattle.beat_core.specs.Ports.{Arrival}
 use Rattle.xdp_maps.specs.State.{MapState}
@@ -9,7 +9,6 @@ use Rattle.xdp_machine.specs.Program.{XdpProgram, IsProgram}
 use Rattle.net_core.specs.Nets.{Netlist}
 use Rattle.net_core.specs.Clock.{Stored, first_stored}
 use Rattle.net_core.specs.History.{NeverStops, stored_after}
-use Rattle.host_history.specs.Host.{load}
 use Rattle.host_history.specs.Laws.{NoMapsNoClocks}
 use Rattle.host_history.proofs.HostLaws.{need_no_clocks}
 use Rattle.verilog_grammar.specs.Spelling.{Spells}

@@ -1,7 +1,7 @@
 -- What the cells of a program answer is what sequential execution answers.
-use Rattle.std.specs.Prelude.{◌≡◌, ℕ, ◌<◌, All, List, [], ◌∷◌, length, slice_index_or}
+use Rattle.std.specs.Prelude.{◌≡◌, ℕ, ◌<◌, All, List, [], ◌∷◌}
 use Rattle.std.specs.List.{AllByRecursion}
-use Rattle.std.proofs.Common.{get_or, refl, sym, ap, ap₂, subst, ◌∙◌, arith}
+use Rattle.std.proofs.Common.{refl, sym, ap, ap₂, ◌∙◌, arith}
 use Rattle.std.proofs.lemmas.List.{get_or_default}
 use Rattle.beat_core.specs.declared.answer.Answer.{Answer}
 use Rattle.beat_core.specs.Ports.{Arrival}
@@ -9,7 +9,7 @@ use Rattle.list_laws.specs.Bytes.{IsBytes}
 use Rattle.xdp_maps.specs.State.{MapState, IsSound}
 use Rattle.xdp_machine.specs.Program.{XdpProgram, IsProgram}
 use Rattle.xdp_machine.specs.State.{start}
-use Rattle.xdp_machine.specs.Runs.{Leaves, Progress, Ended, IsRun, run}
+use Rattle.xdp_machine.specs.Runs.{Leaves, Progress, IsRun}
 use Rattle.xdp_machine.specs.MachineLaws.{LeavesInRange, maps_so_far}
 use Rattle.xdp_machine.proofs.RangeLaws.{starts_in_range, runs_leave_in_range}
 use Rattle.xdp_machine.proofs.RunLaws.{runs_keep_sizes}
@@ -21,7 +21,7 @@ use Rattle.held_cells.specs.Law.{IsLaw}
 use Rattle.pipe_core.specs.Machine.{packet_of}
 use Rattle.realization.specs.Realizes.{IsPacket}
 use Rattle.pipeline_runs.specs.Answered.{IsAnswered, AreAnswered}
-use Rattle.ehdl_build.specs.Compiled.{code_of, packets_in, answer_of, IsSequential}
+use Rattle.ehdl_build.specs.Compiled.{code_of, IsSequential}
 
 all_bytes : (xs : List ℕ) → IsBytes xs → All (λ b. b < 256) xs
 all_bytes xs h k d lt = omega (arith, h k, get_or_default xs k d 0 lt)

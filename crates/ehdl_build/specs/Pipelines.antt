@@ -1,5 +1,5 @@
 -- Accepted programs of which no pipeline is built, for now.
-use Rattle.std.specs.Prelude.{◌≡◌, ◌≢◌, ◌⊎◌, ℕ, ◌<◌, false, []}
+use Rattle.std.specs.Prelude.{◌≡◌, ◌≢◌, ℕ, ◌≤◌, false, []}
 use Rattle.xdp_machine.specs.Program.{XdpProgram}
 use Rattle.net_core.specs.Nets.{Netlist}
 use Rattle.product_rules.specs.Products.{products_apart}
@@ -29,11 +29,9 @@ pub record AreCellsOf (p : XdpProgram) (cells : ProgramView) : Type 0 where
   pub law : IsLaw (graph_of p graph) cells
   pub buildable : IsBuildable cells
 
--- cells of nodes stand in later rows than this one
-pub record GoBeyond (stages : ℕ) (cells : ProgramView) : Type 0 where
-  pub row : ℕ → ℕ
-  pub are_rows : AreRows cells.cells row
-  pub beyond : stages < last_row row cells.nodes
+-- no node makes a cell in a later row than this one
+abbrev pub StandWithin : ℕ → ProgramView → Type 0
+StandWithin stages cells = (row : ℕ → ℕ) → AreRows cells.cells row → last_row row cells.nodes ≤ stages
 
 -- in a pipeline of these cells a product stands inside an operand of another
 pub record HasNestedProducts (cells : ProgramView) : Type 0 where
@@ -43,11 +41,10 @@ pub record HasNestedProducts (cells : ProgramView) : Type 0 where
   pub pipeline : IsPipeline cells plan design
   pub nested : products_apart design ≡ false
 
--- A program without maps has no pipeline where its cells take more rows than it has stages, or where products are nested in it. Of no program
--- is this known.
+-- A program without maps has no pipeline where products are nested in it. Of no program is this known.
 pub record HasNoPipeline (p : XdpProgram) : Type 0 where
   pub accepted : IsAccepted p
   pub no_maps : p.decls ≡ []
   pub cells : ProgramView
   pub are_cells : AreCellsOf p cells
-  pub why : GoBeyond accepted.stages.rows cells ⊎ HasNestedProducts cells
+  pub nested : HasNestedProducts cells

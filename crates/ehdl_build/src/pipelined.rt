@@ -8,7 +8,7 @@ ghost use Rattle.cell_core.specs.View.{program_of};
 ghost use Rattle.cell_core.specs.Formed.{AreFormed};
 ghost use Rattle.pipeline_net.specs.Pipeline.{IsForPipeline};
 ghost use Rattle.row_plan.specs.Plan.{IsPlan};
-ghost use Rattle.ehdl_build.specs.Pipelines.{AreCellsOf, GoBeyond, HasNestedProducts, HasNoPipeline};
+ghost use Rattle.ehdl_build.specs.Pipelines.{AreCellsOf, StandWithin, HasNestedProducts, HasNoPipeline};
 ghost use Rattle.ehdl_build.specs.Compiled.{Realizes};
 ghost use Rattle.ehdl_build.specs.Steps.{IsCounted, IsPlanWithin, IsSoundPipeline, IsPipelineOf, FailsBecause, counted_size};
 
@@ -30,18 +30,16 @@ fn planned(alloc: Global, cells: &CellProgram, stages: u32) -> Result<RowPlan, C
     requires formed { AreFormed (program_of cells.now).cells }
     requires few { length cells.now.cells.items < 2 ^ 32 }
     requires stages { stages ≤ 256 }
+    requires within { StandWithin stages (program_of cells.now) }
     ensures plan { IfOk result (IsPlanWithin stages (program_of cells.now)) }
-    ensures beyond { IfErr result (FailsBecause (GoBeyond stages (program_of cells.now))) }
+    ensures memory { IfErr result (λ e. e ≡ CompileError.NoMemory) }
 {
-    let plan = match plan(alloc, cells) {
-        Ok(plan) => plan,
-        Err(BuildError::Refused(_)) => return Err(CompileError::NoPipeline),
-        Err(BuildError::NoMemory) => return Err(CompileError::NoMemory),
-    };
-    if plan.rows() > stages {
-        return Err(CompileError::NoPipeline);
+    match plan(alloc, cells) {
+        Ok(plan) => Ok(plan),
+        // No node makes a cell in a later row than the last stage.
+        Err(BuildError::Refused(_)) => unreachable!(),
+        Err(BuildError::NoMemory) => Err(CompileError::NoMemory),
     }
-    Ok(plan)
 }
 
 // The pipeline of planned cells, with products apart.

@@ -1,2 +1,3 @@
+pub mod MonotoneLaws
 pub mod PointerLaws
 pub mod RowLaws

@@ -9,3 +9,4 @@ pub mod Pushing
 pub mod Filled
 pub mod Unmapped
 pub mod Plain
+pub mod Leaving

@@ -6,9 +6,10 @@ ghost use Rattle.kind_core.specs.Tests.{passed};
 ghost use Rattle.kind_core.specs.Effects.{effect_of, verdict};
 ghost use Rattle.kind_core.specs.Edges.{decided};
 ghost use Rattle.cell_core.specs.Formed.{AreFormed};
-ghost use Rattle.operator_cells.specs.Making.{seen};
+ghost use Rattle.operator_cells.specs.Making.{seen, Grows};
 ghost use Rattle.held_cells.specs.declared.way.Way.{Way};
 ghost use Rattle.held_cells.specs.Held.{pointed, AreInside};
+ghost use Rattle.held_cells.specs.Rows.{held_row, leaving_row, LeaveTo};
 ghost use Rattle.node_cells.specs.Ends.{ArePresent, brought, brought_along, all_brought};
 ghost use Rattle.node_cells.specs.Stepping.{JumpSteps, EdgeSteps};
 
@@ -52,6 +53,8 @@ fn step_both(
     requires undecided { decided kinds.now insn.now ≡ None }
     ensures steps { IfOk result (λ done. JumpSteps decls.now node kinds.now here.now insn.now (Some next) (Some jump) (seen cells.old.items) (seen cells.new.items) (pointed pointers.now) ways.old.items ways.new.items) }
     ensures brought { IfOk result (λ done. map_list brought ways.new.items ≡ map_list brought ways.old.items ++ all_brought decls.now node kinds.now insn.now false (Some next) (Some jump)) }
+    ensures rows { IfOk result (λ done. LeaveTo (seen cells.old.items) (seen cells.new.items) ways.old.items ways.new.items here.now.held (λ row. leaving_row (held_row row (pointed pointers.now) here.now.held kinds.now) kinds.now insn.now (row here.now.guard))) }
+    ensures grows { IfOk result (λ done. Grows (seen cells.old.items) (seen cells.new.items)) }
     ensures kept { IfOk result (λ done. (more : List Way) × (ways.new.items ≡ ways.old.items ++ more)) }
 {
     conditions_are_sound();
@@ -92,6 +95,8 @@ fn step_one(
     requires decided { decided kinds.now insn.now ≡ Some taken }
     ensures steps { IfOk result (λ done. EdgeSteps decls.now node kinds.now here.now insn.now taken to (seen cells.old.items) (seen cells.new.items) (pointed pointers.now) ways.old.items ways.new.items) }
     ensures brought { IfOk result (λ done. map_list brought ways.new.items ≡ map_list brought ways.old.items ++ brought_along decls.now node kinds.now insn.now false taken (Some to)) }
+    ensures rows { IfOk result (λ done. LeaveTo (seen cells.old.items) (seen cells.new.items) ways.old.items ways.new.items here.now.held (λ row. leaving_row (held_row row (pointed pointers.now) here.now.held kinds.now) kinds.now insn.now (row here.now.guard))) }
+    ensures grows { IfOk result (λ done. Grows (seen cells.old.items) (seen cells.new.items)) }
     ensures kept { IfOk result (λ done. (more : List Way) × (ways.new.items ≡ ways.old.items ++ more)) }
 {
     conditions_are_sound();
@@ -130,6 +135,8 @@ pub fn step_jump(
     requires present { ArePresent kinds.now insn.now next jump }
     ensures steps { IfOk result (λ done. JumpSteps decls.now node kinds.now here.now insn.now next jump (seen cells.old.items) (seen cells.new.items) (pointed pointers.now) ways.old.items ways.new.items) }
     ensures brought { IfOk result (λ done. map_list brought ways.new.items ≡ map_list brought ways.old.items ++ all_brought decls.now node kinds.now insn.now false next jump) }
+    ensures rows { IfOk result (λ done. LeaveTo (seen cells.old.items) (seen cells.new.items) ways.old.items ways.new.items here.now.held (λ row. leaving_row (held_row row (pointed pointers.now) here.now.held kinds.now) kinds.now insn.now (row here.now.guard))) }
+    ensures grows { IfOk result (λ done. Grows (seen cells.old.items) (seen cells.new.items)) }
     ensures kept { IfOk result (λ done. (more : List Way) × (ways.new.items ≡ ways.old.items ++ more)) }
 {
     match (next, jump) {
@@ -167,6 +174,8 @@ pub fn step_always(
     requires inside { AreInside decls.now (length (seen cells.old.items)) (pointed pointers.now) here.now.held kinds.now }
     ensures steps { IfOk result (λ done. EdgeSteps decls.now node kinds.now here.now insn.now true to (seen cells.old.items) (seen cells.new.items) (pointed pointers.now) ways.old.items ways.new.items) }
     ensures brought { IfOk result (λ done. map_list brought ways.new.items ≡ map_list brought ways.old.items ++ brought_along decls.now node kinds.now insn.now false true (Some to)) }
+    ensures rows { IfOk result (λ done. LeaveTo (seen cells.old.items) (seen cells.new.items) ways.old.items ways.new.items here.now.held (λ row. row here.now.guard)) }
+    ensures grows { IfOk result (λ done. Grows (seen cells.old.items) (seen cells.new.items)) }
     ensures kept { IfOk result (λ done. (more : List Way) × (ways.new.items ≡ ways.old.items ++ more)) }
 {
     conditions_are_sound();

@@ -1,8 +1,10 @@
 //! Nodes whose instructions lead on along one edge.
 
-ghost use Rattle.std.specs.Prelude.{◌≡◌, ◌++◌, false, Some, List, length, map as map_list, IfOk};
+ghost use Rattle.std.specs.Prelude.{ℕ, ◌≡◌, ◌++◌, false, Some, List, length, map as map_list, IfOk};
 ghost use Rattle.bpf_isa.specs.Spelling.{IsInsn};
+ghost use Rattle.cell_core.specs.Cells.{CellView};
 ghost use Rattle.held_cells.specs.declared.way.Way.{Way};
+ghost use Rattle.held_cells.specs.Rows.{LeaveTo};
 ghost use Rattle.node_cells.specs.Ends.{brought, brought_along};
 ghost use Rattle.node_cells.specs.Stepping.{StepsOn};
 
@@ -40,6 +42,7 @@ pub fn step_on(
     requires { IsInsn insn.now }
     ensures steps { IfOk result (λ done. StepsOn decls.now node kinds.now insn.now is_ref guard held.now to ways.old.items ways.new.items) }
     ensures brought { IfOk result (λ done. map_list brought ways.new.items ≡ map_list brought ways.old.items ++ brought_along decls.now node kinds.now insn.now is_ref false (Some to)) }
+    ensures rows { (cells : List CellView) → IfOk result (λ done. LeaveTo cells cells ways.old.items ways.new.items held.now (λ row. row guard)) }
     ensures kept { IfOk result (λ done. (more : List Way) × (ways.new.items ≡ ways.old.items ++ more)) }
 {
     steps_are_sound();

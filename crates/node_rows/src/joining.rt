@@ -8,10 +8,10 @@ use place_rows::origin::{Origin, Origins, PLACES, has_data, row_of};
 
 /// An edge that leads to a node: its row, what is known on it, and the origins behind the node that it leaves.
 #[derive(Copy, Clone)]
-pub(crate) struct Arrival {
-    pub(crate) row: u32,
-    pub(crate) kinds: Kinds,
-    pub(crate) origins: Origins,
+pub struct Arrival {
+    pub row: u32,
+    pub kinds: Kinds,
+    pub origins: Origins,
 }
 
 impl Arrival {

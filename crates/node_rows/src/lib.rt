@@ -7,9 +7,9 @@
 #![tactic(auto)]
 
 mod arriving;
-mod joining;
+pub mod joining;
 pub mod laws;
-mod node;
+pub mod node;
 mod stages;
 
 pub use stages::{Stages, count_stages};

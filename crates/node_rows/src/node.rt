@@ -18,10 +18,10 @@ use xdp_maps::decl::MapDecl;
 
 /// What stands behind a node: the row of its edges, the origins, and the greatest row that the node makes.
 #[derive(Copy, Clone)]
-pub(crate) struct Behind {
-    pub(crate) edge: u32,
-    pub(crate) origins: Origins,
-    pub(crate) row: u32,
+pub struct Behind {
+    pub edge: u32,
+    pub origins: Origins,
+    pub row: u32,
 }
 
 // Origins are those of all places.

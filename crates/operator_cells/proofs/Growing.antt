@@ -1,6 +1,6 @@
 -- One cell more, and more of them.
 use Rattle.std.proofs.Common.{◌≡◌, ℕ, ◌+◌, ◌<◌, ◌≤◌, ◌⊎◌, inl, inr, true, false, Some, List, [], ◌∷◌, ◌++◌, length, get_or, length-append, refl, sym, ◌∙◌, ap, subst, arith}
-use Rattle.std.specs.Prelude.{slice_index, All}
+use Rattle.std.specs.Prelude.{slice_index, All, Contains}
 use Rattle.std.proofs.Math.ListN.{get_or-append}
 use Rattle.std.proofs.Math.Seq.{get_or-append_seam}
 use Rattle.std.proofs.lemmas.Bool.{cases_lt}
@@ -32,6 +32,7 @@ pub record IsNext (cells : List CellView) (cell : CellView) : Type 0 where
   pub width : cell.width ≤ 64
   pub from : cell.from ≤ 63
   pub divisor : AreFormed cells → divides cell.op ≡ true → (slice_index cell.ins 1 < length cells) × IsSome cells (slice_index cell.ins 1)
+  pub later : divides cell.op ≡ true → Contains (cell_at cells (slice_index cell.ins 1)).ins (slice_index cell.ins 0)
 
 some-stays : (cells : List CellView) (cell : CellView) (d : ℕ) → AreFormed cells → d < length cells → IsSome cells d → IsSome (cells ++ cell ∷ []) d
 some-stays cells cell d formed h some = let e = old-cell cells cell d h in record {
@@ -58,6 +59,8 @@ formed-old cells cell k formed h = let e = old-cell cells cell k h in let f = fo
   from = subst (λ (c : CellView). c.from ≤ 63) (sym e) f.from;
   divisor = subst (λ (c : CellView). divides c.op ≡ true → IsSome (cells ++ cell ∷ []) (slice_index c.ins 1)) (sym e)
       (λ t. some-stays cells cell (slice_index (cell_at cells k).ins 1) formed (below t) (f.divisor t));
+  later = subst (λ (c : CellView). divides c.op ≡ true → Contains (cell_at (cells ++ cell ∷ []) (slice_index c.ins 1)).ins (slice_index c.ins 0)) (sym e)
+      (λ t. subst (λ (d : CellView). Contains d.ins (slice_index (cell_at cells k).ins 0)) (sym (old-cell cells cell (slice_index (cell_at cells k).ins 1) (below t))) (f.later t));
 }
   where
     two : (op : Operator) → divides op ≡ true → 2 ≤ takes op
@@ -78,6 +81,8 @@ formed-new cells cell formed n = let e = new-cell cells cell in record {
   from = subst (λ (c : CellView). c.from ≤ 63) (sym e) n.from;
   divisor = subst (λ (c : CellView). divides c.op ≡ true → IsSome (cells ++ cell ∷ []) (slice_index c.ins 1)) (sym e)
       (λ t. let d = n.divisor formed t in some-stays cells cell (slice_index cell.ins 1) formed d.0 d.1);
+  later = subst (λ (c : CellView). divides c.op ≡ true → Contains (cell_at (cells ++ cell ∷ []) (slice_index c.ins 1)).ins (slice_index c.ins 0)) (sym e)
+      (λ t. subst (λ (d : CellView). Contains d.ins (slice_index cell.ins 0)) (sym (old-cell cells cell (slice_index cell.ins 1) (n.divisor formed t).0)) (n.later t));
 }
 
 pub grows_one : (R : ℕ → ℕ → Type 0) (cells : List CellView) (cell : CellView) → IsNext cells cell → ((j : ℕ) → site_in cell.op ≡ Some j → R (length cells) j)

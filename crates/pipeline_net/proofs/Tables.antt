@@ -9,7 +9,7 @@ use Rattle.cell_core.specs.Cells.{CellView, cell_at}
 use Rattle.cell_core.specs.Sites.{ProgramView}
 use Rattle.cell_core.specs.Rows.{numbers}
 use Rattle.cell_nets.specs.declared.operand.Operand.{Operand}
-use Rattle.cell_nets.specs.declared.operand.Operand.TheVariants.{Known, Net}
+use Rattle.cell_nets.specs.declared.operand.Operand.TheVariants.{Known, Net, Part as Bits}
 use Rattle.cell_nets.specs.Computing.{is_outside}
 use Rattle.cell_nets.specs.Operands.{AreFit, IsAvailable}
 use Rattle.cell_nets.specs.Wires.{behind, own, AreWires}
@@ -64,6 +64,7 @@ behind_none p outside = append-nil outside
 available_of : {N : Type 0} (ins : List (Operand N)) (a : Operand N) → Contains ins a → IsAvailable ins a
 available_of ins (Known n) c = tt
 available_of ins (Net n w) c = c
+available_of ins (Bits n of from w) c = inr (from, w, c)
 
 pub all_available : {N : Type 0} (ins : List (Operand N)) → All (IsAvailable ins) ins
 all_available ins = All-weaker (Contains ins) (IsAvailable ins) (available_of ins) ins (All-contains_itself ins)

@@ -24,7 +24,7 @@ use Rattle.block_core.specs.Order.{Reads}
 use Rattle.block_core.specs.Formed.{names_scope, name_width, memories_fit, IsTypedBlock, IsThere}
 use Rattle.cell_core.specs.Cells.{bits_from}
 use Rattle.cell_nets.specs.declared.operand.Operand.{Operand}
-use Rattle.cell_nets.specs.declared.operand.Operand.TheVariants.{Known, Net}
+use Rattle.cell_nets.specs.declared.operand.Operand.TheVariants.{Known, Net, Part}
 use Rattle.cell_nets.specs.Operands.{number_in, AreDeclared, IsAvailable, IsNetOf}
 use Rattle.cell_nets.specs.Parts.{IsPart}
 use Rattle.frame_net.specs.Frames.{word_at}
@@ -264,6 +264,7 @@ bytes_all Q o h k d l =
 listed_available : {N : Type 0} (ins : List (Operand N)) (a : Operand N) → Contains ins a → IsAvailable ins a
 listed_available ins (Known n) c = tt
 listed_available ins (Net n w) c = c
+listed_available ins (Part n of from w) c = inr (from, w, c)
 
 pub all_available : {N : Type 0} (ins : List (Operand N)) → All (IsAvailable ins) ins
 all_available ins k d l = listed_available ins (get_or ins k d) (Contains-get_or ins k d l)

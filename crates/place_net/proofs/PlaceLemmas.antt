@@ -1,16 +1,18 @@
 -- The block of a place is what it is to be.
-use Rattle.std.specs.Prelude.{◌≡◌, ℕ, zero, suc, ◌+◌, ◌^◌, ◌<◌, ◌≤◌, true, Option, Some, None, All, Contains, List, [], ◌∷◌, length, map as map_list}
+use Rattle.std.specs.Prelude.{◌≡◌, ℕ, zero, suc, ◌+◌, ◌^◌, ◌<◌, ◌≤◌, true, Option, Some, None, All, Contains, List, [], ◌∷◌, length, map as map_list, nat_le}
 use Rattle.std.specs.List.{AllByRecursion, AllZip}
 use Rattle.std.proofs.Common.{get_or, refl, sym, ap, ◌∙◌, subst, arith, inl, inr, ◌⊎◌}
 use Rattle.std.proofs.lemmas.Bool.{le-leb, lt-ltb, cases_lt}
 use Rattle.std.proofs.lemmas.Nat.{pow_pos}
 use Rattle.std.proofs.lemmas.List.{length-map, get_or-map, get_or_past}
 use Rattle.std.proofs.lemmas.List.Elements.{All-head, All-tail, All-contains, Contains-append_cases}
+use Rattle.net_core.specs.declared.tree.Word.{Word}
 use Rattle.net_core.specs.Nets.{Tree}
 use Rattle.net_core.specs.Ports.{port_list}
 use Rattle.net_core.specs.Value.{word, nothing, Env, value}
 use Rattle.net_core.specs.Clock.{Stored, done}
 use Rattle.net_core.specs.Width.{Scope, width_of, statement_typed}
+use Rattle.design_rules.specs.FormedSyntax.{depth, prefixes_apart}
 use Rattle.block_core.specs.declared.name.Name.{Name}
 use Rattle.block_core.specs.declared.name.Name.TheVariants as name
 use Rattle.block_core.specs.Blocks.{BlockTree, BlockWireTree, Whole, Among}
@@ -19,12 +21,15 @@ use Rattle.block_core.specs.Order.{Reads}
 use Rattle.block_core.specs.Formed.{names_scope, block_wire_width, block_wires, word_width, words_fit, IsTypedBlock, IsThere}
 use Rattle.cell_core.specs.declared.cell.Cell.{Cell}
 use Rattle.cell_core.specs.View.{cell_of}
-use Rattle.cell_core.specs.Cells.{CellView, no_cell}
+use Rattle.cell_core.specs.Cells.{CellView, no_cell, bits_from}
 use Rattle.cell_core.specs.Formed.{AreFormed}
 use Rattle.cell_nets.specs.declared.operand.Operand.{Operand}
-use Rattle.cell_nets.specs.declared.operand.Operand.TheVariants.{Known, Net}
-use Rattle.cell_nets.specs.Operands.{HasWidth, AreFit, IsDeclared, AreDeclared, IsAvailable, IsNetOf}
+use Rattle.cell_nets.specs.declared.operand.Operand.TheVariants.{Known, Net, Part}
+use Rattle.cell_nets.specs.Operands.{number_in, IsOperand, HasWidth, AreFit, IsDeclared, AreDeclared, HasNet, IsAvailable, IsNetOf}
+use Rattle.cell_nets.specs.Parts.{part_tree}
 use Rattle.cell_nets.specs.Wires.{own, behind, HasBits, AreWires}
+use Rattle.cell_nets.proofs.PartLaws.{part_slice, part_small}
+use Rattle.frame_net.proofs.FormLaws.{and_is}
 use Rattle.row_net.specs.Table.{Stands, IsIn, IsTable, AreThere, Holds}
 use Rattle.row_net.specs.Made.{IsReady, IsRow}
 use Rattle.place_net.specs.Place.{width_at, widths_of, word_in, words_of, HasSize, HasRegisters, IsPlace}
@@ -52,13 +57,20 @@ behind_declared {P = P} p d b outside here declared a c = by_case (Contains-appe
 abbrev NetIsThere : {P : Type 0} → Whole P → Operand (Name P) → Type 0
 NetIsThere d (Known n) = Unit {0}
 NetIsThere d (Net n w) = IsThere d n
+NetIsThere d (Part n of from w) = IsThere d n
 
 pub behind_there : {P : Type 0} (p : P) (d : Whole P) (ws : List (BlockWireTree (Name P))) (outside : List (Operand (Name P))) → Among p d.parts → ((n : Name P) → IsNetOf outside n → IsThere d n) → (n : Name P) → IsNetOf (behind p outside ws) n → IsThere d n
-behind_there {P = P} p d ws outside among there n (w, c) = by_case (Contains-append_cases outside (own p 0 ws) (Net n w) c)
+behind_there {P = P} p d ws outside among there n (w, c) = by_kind c
   where
-    by_case : Contains outside (Net n w) ⊎ Contains (own p 0 ws) (Net n w) → IsThere d n
-    by_case (inl x) = there n (w, x)
-    by_case (inr x) = own_all p (NetIsThere d) ws 0 (λ i l. among) (Net n w) x
+    by_case : (a : Operand (Name P)) → (Contains outside a → IsThere d n) → (NetIsThere d a → IsThere d n) → Contains (behind p outside ws) a → IsThere d n
+    by_case a from_outside same c = elim (Contains-append_cases outside (own p 0 ws) a c) [
+      | inl x ↦ from_outside x
+      | inr x ↦ same (own_all p (NetIsThere d) ws 0 (λ i l. among) a x)
+    ]
+
+    by_kind : HasNet (behind p outside ws) n w → IsThere d n
+    by_kind (inl x) = by_case (Net n w) (λ y. there n (w, inl y)) (λ h. h) x
+    by_kind (inr (from, u, x)) = by_case (Part n w from u) (λ y. there n (w, inr (from, u, y))) (λ h. h) x
 
 -- ---- what stands for a cell, as an expression
 pub record IsRead {N : Type 0} (cells : List CellView) (table : List (Option (Operand N))) (ins : List (Operand N)) (k : ℕ) (t : Tree N) : Type 0 where
@@ -71,8 +83,8 @@ pub record IsRead {N : Type 0} (cells : List CellView) (table : List (Option (Op
   pub value : (v : Env N) (val : ℕ → ℕ) → AreFit v ins → Holds v table val → value v t ≡ word_in cells val k
 
 module _ {N : Type 0} (cells : List CellView) (table : List (Option (Operand N))) (ins : List (Operand N)) (k : ℕ) (some : 0 < width_at cells k) (most : width_at cells k ≤ 64) where
-  read_of : (a : Operand N) → Stands table k a → HasBits (width_at cells k) a → IsAvailable ins a → IsRead cells table ins k (tree_for (Some a) (width_at cells k))
-  read_of (Known n) here small there = record {
+  read_of : (a : Operand N) → Stands table k a → IsOperand a → HasBits (width_at cells k) a → IsAvailable ins a → IsRead cells table ins k (tree_for (Some a) (width_at cells k))
+  read_of (Known n) here fits small there = record {
     some = some;
     most = most;
     typed = λ s d. rw (le-leb (width_at cells k) 64 most, lt-ltb n (2 ^ width_at cells k) small) refl;
@@ -81,15 +93,30 @@ module _ {N : Type 0} (cells : List CellView) (table : List (Option (Operand N))
     fits = λ v f. record { width = refl; small = small };
     value = λ v val f h. ap (word (width_at cells k)) (h k (Known n) here);
   }
-  read_of (Net n w) here e there = record {
+  read_of (Net n w) here wide e there = record {
     some = some;
     most = most;
     typed = λ s d. d (Net n w) there ∙ e;
-    reads = (w, there);
+    reads = (w, inl there);
     spelled = refl;
     fits = λ v f. let x : HasWidth v n w = f (Net n w) there in record { width = x.width ∙ e; small = subst (λ j. (v.net n).value < 2 ^ j) e x.small };
     value = λ v val f h. let x : HasWidth v n w = f (Net n w) there in ap (λ j. word j (v.net n).value) (x.width ∙ e) ∙ ap (word (width_at cells k)) (h k (Net n w) here);
   }
+  read_of (Part n of from w) here within e there =
+      let t : Tree N = part_tree n of from w in
+      let p = part_slice n of from w within ins there in
+      record {
+        some = some;
+        most = most;
+        typed = λ s d. p.part.typed s d ∙ e;
+        reads = p.part.reads;
+        spelled = let d = p.part.depth in and_is (nat_le (depth t) 64) (prefixes_apart t) (le-leb (depth t) 64 (omega arith)) p.part.apart;
+        fits = λ v f. record {
+          width = ap (λ (x : Word). x.width) (p.part.value v f) ∙ e;
+          small = subst (λ (x : Word). x.value < 2 ^ width_at cells k) (sym (p.part.value v f)) (subst (λ j. bits_from (v.net n).value from w < 2 ^ j) e (part_small (v.net n).value from w));
+        };
+        value = λ v val f h. p.part.value v f ∙ ap (λ j. word j (bits_from (v.net n).value from w)) e ∙ ap (word (width_at cells k)) (h k (Part n of from w) here);
+      }
 
 pub in_within : {N : Type 0} (table : List (Option (Operand N))) (k : ℕ) → IsIn table k → k < length table
 in_within {N = N} table k (a, e) = by_case (cases_lt k (length table))
@@ -102,7 +129,7 @@ module _ {N : Type 0} (cells : List CellView) (table : List (Option (Operand N))
   pub read_in : (k : ℕ) → IsIn table k → 0 < width_at cells k → IsRead cells table ins k (tree_in cells table k)
   read_in k (a, e) some =
       let l : k < length cells = omega (arith, in_within table k (a, e), is.count) in
-      subst (λ o. IsRead cells table ins k (tree_for o (width_at cells k))) (sym e) (read_of cells table ins k some (formed.each k l).width a e (is.bits k a e) (there k a e))
+      subst (λ o. IsRead cells table ins k (tree_for o (width_at cells k))) (sym e) (read_of cells table ins k some (formed.each k l).width a e (is.operand k a e) (is.bits k a e) (there k a e))
 
   abbrev pub IsReadIn : ℕ → Type 0
   IsReadIn k = IsRead cells table ins k (tree_in cells table k)

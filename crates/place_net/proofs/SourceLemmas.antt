@@ -32,7 +32,7 @@ use Rattle.frame_net.specs.Frames.{beat_of}
 use Rattle.frame_net.specs.Sources.{length_name, kept_name, kept_word}
 use Rattle.row_net.specs.Table.{Stands, IsIn, IsTable}
 use Rattle.place_net.specs.Sources.{packet_in, IsShown, IsSource, IsShownIn, IsSourced, kept_operands, source_operands}
-use Rattle.place_net.specs.SourceNets.{IsKeptNet, is_whole}
+use Rattle.place_net.specs.SourceNets.{IsKeptNet}
 
 -- ---- bytes of a frame
 byte_power : (r : ℕ) → 2 ^ (8 * r) ≡ 256 ^ r
@@ -70,37 +70,6 @@ net_gives p ws args needs f n w wide c same = record {
   bits = refl;
   given = λ outside a there. record { wires = a; there = All-contains (IsAvailable (behind p outside ws)) args (Net n w) there c; value = λ v fit s h. same v h };
 }
-
-both_true : (a b : Bool) → (a && b) ≡ true → (a ≡ true) × (b ≡ true)
-both_true true true h = (refl, refl)
-both_true true false h = cc
-both_true false b h = cc
-
--- all bits of a net
-all_bits : {P : Type 0} (p : P) (ws : List (BlockWireTree (Name P))) (n : Name P) (w : ℕ) → IsWide w → Gives p ws ws (Net n w ∷ []) always (λ v. bits_from (v.net n).value 0 w) w (Net n w)
-all_bits p ws n w wide = record {
-  before = λ v s. s;
-  stays = λ outside a t. t;
-  operand = wide;
-  bits = refl;
-  given = λ outside a there. record {
-    wires = a;
-    there = there 0 (Net n w) (omega arith);
-    value = λ v fit s h.
-        let x : HasWidth v n w = a.fits v fit s (Net n w) (there 0 (Net n w) (omega arith)) in
-        sym (ap (λ m. m % 2 ^ w) (div-one (v.net n).value) ∙ mod-eq_of_lt {n = (v.net n).value} {m = 2 ^ w} x.small);
-  };
-}
-
-pub whole_bits :
-    {P : Type 0} (p : P) (ws : List (BlockWireTree (Name P))) (a : Operand (Name P)) (from width : ℕ) → IsOperand a → is_whole a from width ≡ true → Gives p ws ws (a ∷ []) always (λ v. bits_from (number_in v a) from width) width a
-whole_bits p ws (Known n) from width some h = cc
-whole_bits p ws (Net n w) from width some h =
-    let e = both_true (from == 0) (w == width) h in
-    let zero_is : 0 ≡ from = sym (eqb-true from 0 e.0) in
-    let same : w ≡ width = eqb-true w width e.1 in
-    subst (λ k. Gives p ws ws (Net n w ∷ []) always (λ v. bits_from (v.net n).value k width) width (Net n w)) zero_is
-    (subst (λ k. Gives p ws ws (Net n w ∷ []) always (λ v. bits_from (v.net n).value 0 k) k (Net n w)) same (all_bits p ws n w some))
 
 pub gives_bits :
     {P : Type 0} (p : P) (old mid new : List (BlockWireTree (Name P))) (args : List (Operand (Name P))) (needs : Env (Name P) → Type 0) (f g : Env (Name P) → ℕ) (w u from : ℕ) (o r : Operand (Name P)) → Gives p old mid args needs f w o

@@ -6,7 +6,8 @@ use Rattle.net_core.specs.Chains.{statements_before}
 use Rattle.net_core.specs.Value.{word}
 use Rattle.cell_core.specs.Cells.{CellView}
 use Rattle.cell_nets.specs.declared.operand.Operand.{Operand}
-use Rattle.cell_nets.specs.declared.operand.Operand.TheVariants.{Known, Net}
+use Rattle.cell_nets.specs.declared.operand.Operand.TheVariants.{Known, Net, Part}
+use Rattle.cell_nets.specs.Parts.{part_tree}
 use Rattle.place_net.specs.Place.{width_at}
 
 -- what stands for a cell of so many bits, or 0 where nothing does
@@ -14,6 +15,7 @@ abbrev pub tree_for : {N : Type 0} → Option (Operand N) → ℕ → Tree N
 tree_for None width = TConst (word width 0)
 tree_for (Some (Known n)) width = TConst (word width n)
 tree_for (Some (Net n w)) width = TRead n
+tree_for (Some (Part n of from w)) width = part_tree n of from w
 
 abbrev pub tree_in : {N : Type 0} → List CellView → List (Option (Operand N)) → ℕ → Tree N
 tree_in cells table k = tree_for (get_or table k None) (width_at cells k)

@@ -1,5 +1,5 @@
 -- The nets of cells that come with a packet.
-use Rattle.std.specs.Prelude.{◌≡◌, ℕ, ◌<◌, ◌==◌, ◌&&◌, Bool, false, List, [], length}
+use Rattle.std.specs.Prelude.{◌≡◌, ℕ, ◌<◌, List, [], length}
 use Rattle.std.proofs.Common.{get_or}
 use Rattle.beat_core.specs.Ports.{Arrival}
 use Rattle.block_core.specs.declared.name.Name.{Name}
@@ -8,7 +8,7 @@ use Rattle.cell_core.specs.declared.operator.Operator.{Operator}
 use Rattle.cell_core.specs.declared.operator.Operator.TheVariants.{Byte, Length, Ifindex}
 use Rattle.cell_core.specs.Cells.{number}
 use Rattle.cell_nets.specs.declared.operand.Operand.{Operand}
-use Rattle.cell_nets.specs.declared.operand.Operand.TheVariants.{Known, Net}
+use Rattle.cell_nets.specs.declared.operand.Operand.TheVariants.{Net}
 use Rattle.cell_nets.specs.Wires.{Gives}
 use Rattle.frame_net.specs.declared.held.Kept.{Kept}
 use Rattle.frame_net.specs.Gather.{kept_width}
@@ -28,11 +28,6 @@ number_width (Byte i) = 8
 number_width Length = 14
 number_width Ifindex = 32
 number_width op = 64
-
--- these are all bits of a net
-abbrev pub is_whole : {N : Type 0} → Operand N → ℕ → ℕ → Bool
-is_whole (Known n) from width = false
-is_whole (Net n w) from width = from == 0 && w == width
 
 -- Wires become more, and behind them an operand has the number of an operator, for any frame that is shown.
 abbrev pub GivesNumber : {P : Type 0} → P → P → List Kept → Operator → List (BlockWireTree (Name P)) → List (BlockWireTree (Name P)) → Operand (Name P) → Type 0

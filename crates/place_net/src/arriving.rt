@@ -10,7 +10,7 @@ ghost use Rattle.cell_nets.specs.Wires.{wires_of, always, Gives};
 ghost use Rattle.frame_net.specs.Gather.{kept_width};
 ghost use Rattle.row_net.specs.Table.{IsTable};
 ghost use Rattle.place_net.specs.Sources.{IsShown, IsSource, IsSourced, IsShownIn, source_operands, packet_in};
-ghost use Rattle.place_net.specs.SourceNets.{IsKeptNet, GivesNumber, is_whole};
+ghost use Rattle.place_net.specs.SourceNets.{IsKeptNet, GivesNumber};
 
 use block_core::block::BlockWire;
 use block_core::name::{Name, Part};
@@ -73,37 +73,6 @@ fn number<P: Part>(
     }
 }
 
-// Whether these are all bits of a net.
-fn is_whole<N: Copy>(a: Operand<N>, from: u8, width: u8) -> bool
-    ensures { result ≡ is_whole a from width }
-{
-    match a {
-        Operand::Known(_) => false,
-        Operand::Net(_, of) => from == 0 && of == width,
-    }
-}
-
-// So many bits of an operand, from one on: itself where these are all that it has.
-fn bits<P: Part>(
-    alloc: Global,
-    wires: &mut Vec<BlockWire<Name<P>>>,
-    part: P,
-    a: Operand<Name<P>>,
-    from: u8,
-    width: u8,
-) -> Result<Operand<Name<P>>, AllocError>
-    requires operand { IsOperand a }
-    requires from { from ≤ 63 }
-    requires width { IsWide width }
-    ensures { IfOk result (Gives part (wires_of wires.old.items) (wires_of wires.new.items) (a ∷ []) always (λ v. bits_from (number_in v a) from width) width) }
-{
-    if is_whole(a, from, width) {
-        return Ok(a);
-    }
-    let out = cut(alloc, wires, part, a, from, width)?;
-    Ok(out)
-}
-
 // One cell that comes with a packet.
 fn one_source<P: Part>(
     alloc: Global,
@@ -120,7 +89,7 @@ fn one_source<P: Part>(
     ensures { (a : Arrival) → IfOk result (Gives part (wires_of wires.old.items) (wires_of wires.new.items) (source_operands sources kept.now) (λ v. IsShownIn sources kept.now v a) (λ v. bits_from (number (packet_in a) cell.now.op []) cell.now.from cell.now.width) cell.now.width) }
 {
     let number = number(alloc, wires, part, sources, kept, cell.op)?;
-    let out = bits(
+    let out = cut(
         alloc,
         wires,
         part,

@@ -1,6 +1,6 @@
 //! A place of the pipeline.
 
-ghost use Rattle.std.specs.Prelude.{ℕ, ◌≡◌, ◌<◌, ◌≤◌, ◌⊎◌, List, All, Contains, Option, IfOk, length, map as map_list};
+ghost use Rattle.std.specs.Prelude.{ℕ, ◌≡◌, ◌<◌, ◌≤◌, ◌⊎◌, List, All, Contains, Option, Some, IfOk, length, map as map_list};
 ghost use Rattle.net_core.specs.Value.{Env};
 ghost use Rattle.net_core.specs.View.{tree_of, statement_of};
 ghost use Rattle.block_core.specs.declared.name.Name.{Name};
@@ -9,8 +9,9 @@ ghost use Rattle.block_core.specs.View.{block_of};
 ghost use Rattle.cell_core.specs.Formed.{AreFormed};
 ghost use Rattle.cell_core.specs.View.{cell_of};
 ghost use Rattle.cell_nets.specs.declared.operand.Operand.{Operand};
+ghost use Rattle.cell_nets.specs.Operands.{IsOperand};
 ghost use Rattle.cell_nets.specs.Wires.{behind, wires_of, AreWires};
-ghost use Rattle.row_net.specs.Table.{IsIn, IsTable, AreThere};
+ghost use Rattle.row_net.specs.Table.{Stands, IsIn, IsTable, AreThere};
 ghost use Rattle.row_net.specs.Made.{IsReady};
 ghost use Rattle.place_net.specs.Place.{width_at, words_of, IsPlace, IsTaken};
 ghost use Rattle.place_net.specs.PlaceNets.{tree_for, tree_in, set_statement};
@@ -19,6 +20,7 @@ use block_core::block::{Block, BlockWire};
 use block_core::name::{Name, Part};
 use cell_core::cell::Cell;
 use cell_nets::operand::Operand;
+use cell_nets::slice::inside;
 use net_core::build::{block, constant, then};
 use net_core::tree::{Expr, Stmt, Stmts, Word};
 use row_net::row::row_nets;
@@ -47,13 +49,25 @@ fn registers(alloc: Global, cells: &[Cell], carried: &[u32]) -> Result<Vec<Word>
     Ok(all)
 }
 
-// What stands for a cell of so many bits, as an expression: 0 where nothing does.
+// What stands for a cell of so many bits, as an expression.
+fn standing<N: Copy>(a: Operand<N>, width: u8) -> Expr<N>
+    requires { IsOperand a }
+    ensures { tree_of result ≡ tree_for (Some a) width }
+{
+    match a {
+        Operand::Known(n) => constant(width, n),
+        Operand::Net(net, _) => Expr::Read(net),
+        Operand::Part(net, of, from, bits) => inside(net, of, from, bits),
+    }
+}
+
+// The same, and 0 where nothing does.
 fn value<N: Copy>(operand: Option<Operand<N>>, width: u8) -> Expr<N>
+    requires { (a : Operand N) → operand ≡ Some a → IsOperand a }
     ensures { tree_of result ≡ tree_for operand width }
 {
     match operand {
-        Some(Operand::Known(n)) => constant(width, n),
-        Some(Operand::Net(net, _)) => Expr::Read(net),
+        Some(a) => standing(a, width),
         None => constant(width, 0),
     }
 }
@@ -68,6 +82,7 @@ fn values<N: Copy>(
     requires formed { AreFormed (map_list cell_of cells.now) }
     requires within { All (λ k. k < length cells.now) carried.now }
     requires count { length table.now ≡ length cells.now }
+    requires operands { (k : ℕ) (a : Operand N) → Stands table.now k a → IsOperand a }
     ensures { IfOk result (λ r. map_list tree_of r.items ≡ map_list (tree_in (map_list cell_of cells.now) table.now) carried.now) }
 {
     let mut all = Vec::new(alloc);

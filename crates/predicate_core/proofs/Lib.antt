@@ -16,3 +16,14 @@ pub mod Numbered
 pub mod Entering
 pub mod Progressing
 pub mod Beginning
+pub mod Bringing
+pub mod Arrivals
+pub mod PlaceFits
+pub mod Fits
+pub mod OwnGuard
+pub mod FirstFits
+pub mod Gathered
+pub mod Spans
+pub mod Behind
+pub mod NodeRows
+pub mod NodeFits

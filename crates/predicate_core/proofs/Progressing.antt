@@ -216,6 +216,26 @@ pub sited_count : (old new : Vec Site Global) (n : ℕ) → n ≡ length old.ite
 unfolding sited
 sited_count old new n is same = is ∙ sym (ap (λ (v : Vec Site Global). length v.items) same) ∙ sym (length-map new.items site_of)
 
+-- beside the edges that a node adds stand these cells
+pub pending_more : (g : GraphView) (k : ℕ) (p mid q : Progress) (more : List Way) (here : Here) (row row2 : List ℕ) → IsReady g k p → Comes g k p mid here row → q.made.ways.items ≡ mid.made.ways.items ++ more
+    → Entered (take (length mid.pending.items) (targets q.made.ways.items)) (targets q.made.ways.items) (entries_of mid) (entries_of q) (pending_of mid) (pending_of q) row2
+    → pending_of q ≡ pending_of p ++ replicate (length more) row2
+pending_more g k p mid q more here row row2 ready comes is entered =
+    entered.beside ∙ ap (λ (ps : Vec (SmallVec ℕ 4 Global) Global). map (λ x. x.items) ps.items ++ replicate (length (targets q.made.ways.items) - length (take (length mid.pending.items) (targets q.made.ways.items))) row2) comes.beside
+    ∙ ap (λ (j : ℕ). pending_of p ++ replicate j row2) count
+  where
+    split : targets q.made.ways.items ≡ targets p.made.ways.items ++ targets more
+    split = ap targets (is ∙ ap (λ (ws : Vec Way Global). ws.items ++ more) comes.ways) ∙ map-append (λ (e : Way). e.to) p.made.ways.items more
+
+    far : length mid.pending.items ≡ length (targets p.made.ways.items)
+    far = ap (λ (ps : Vec (SmallVec ℕ 4 Global) Global). length ps.items) comes.beside ∙ sym (length-map p.pending.items (λ x. x.items)) ∙ ready.kept.beside
+
+    before : take (length mid.pending.items) (targets q.made.ways.items) ≡ targets p.made.ways.items
+    before = ap (λ (xs : List ℕ). take (length mid.pending.items) xs) split ∙ ap (λ (j : ℕ). take j (targets p.made.ways.items ++ targets more)) far ∙ take-append_seam (targets p.made.ways.items) (targets more)
+
+    count : length (targets q.made.ways.items) - length (take (length mid.pending.items) (targets q.made.ways.items)) ≡ length more
+    count = let a = ap length before in let b = ap length split in let m = length-map more (λ (e : Way). e.to) in omega (arith, a, b, m, length-append (targets p.made.ways.items) (targets more))
+
 pub targets_inside : (g : GraphView) (k : ℕ) (p mid : Progress) (here : Here) (row : List ℕ) (more ways : List Way) → IsReady g k p → Comes g k p mid here row → All (λ e. e.to < length g.nodes) more → ways ≡ mid.made.ways.items ++ more
     → All (λ e. e.to < length mid.entries.items) ways
 targets_inside g k p mid here row more ways ready comes high is = subst (All (λ e. e.to < length mid.entries.items)) (sym is) (All-append (λ e. e.to < length mid.entries.items) mid.made.ways.items more

@@ -6,3 +6,7 @@ pub mod Closing
 pub mod Arriving
 pub mod Feeding
 pub mod Progress
+pub mod Rows
+pub mod Gathering
+pub mod Stages
+pub mod Fitting

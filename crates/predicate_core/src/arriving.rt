@@ -3,8 +3,10 @@
 ghost use Rattle.std.specs.Prelude.{ℕ, ◌<◌, ◌≤◌, List, length, IfOk, All};
 ghost use Rattle.cell_core.specs.Formed.{AreFormed};
 ghost use Rattle.operator_cells.specs.Making.{seen};
+ghost use Rattle.operator_cells.specs.Rising.{Rises};
 ghost use Rattle.held_cells.specs.declared.way.Way.{Way};
 ghost use Rattle.held_cells.specs.Held.{pointed};
+ghost use Rattle.held_cells.specs.Rows.{JoinsTo};
 ghost use Rattle.edge_cells.specs.Widening.{AreWider, AreFilled};
 ghost use Rattle.edge_cells.specs.Meeting.{AreWays};
 ghost use Rattle.edge_cells.specs.Joining.{LeadTo};
@@ -24,7 +26,8 @@ use xdp_maps::decl::MapDecl;
 fn own(cells: &mut Vec<Cell>, first: usize, bit: u32) -> Result<u32, AllocError>
     requires first { first ≤ length (seen cells.old.items) }
     requires bit { bit < length (seen cells.old.items) }
-    ensures { IfOk result (λ c. IsOwn (seen cells.old.items) (seen cells.new.items) first bit c) }
+    ensures own { IfOk result (λ c. IsOwn (seen cells.old.items) (seen cells.new.items) first bit c) }
+    ensures rises { IfOk result (λ c. Rises (seen cells.old.items) (seen cells.new.items) c (λ row. row bit)) }
 {
     if first <= bit as usize {
         return Ok(bit);
@@ -46,7 +49,8 @@ pub fn arrive(
     requires there { AreWays decls.now (seen cells.old.items) (pointed pointers.old.items) meeting.now }
     requires wider { All (λ e. AreWider kinds.now e.kinds) meeting.now }
     requires filled { AreFilled kinds.now }
-    ensures { (node : ℕ) (ways : List Way) → LeadTo node ways meeting.now → IfOk result (λ here. ArrivesAt decls.now node kinds.now (seen cells.old.items) (pointed pointers.old.items) ways (seen cells.new.items) (pointed pointers.new.items) here.guard here.held) }
+    ensures arrives { (node : ℕ) (ways : List Way) → LeadTo node ways meeting.now → IfOk result (λ here. ArrivesAt decls.now node kinds.now (seen cells.old.items) (pointed pointers.old.items) ways (seen cells.new.items) (pointed pointers.new.items) here.guard here.held) }
+    ensures rows { IfOk result (λ here. JoinsTo (seen cells.old.items) (seen cells.new.items) (pointed pointers.old.items) (pointed pointers.new.items) meeting.now kinds.now here.guard here.held) }
 {
     here_is_right();
     let first = cells.len();

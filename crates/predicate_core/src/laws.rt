@@ -3,6 +3,7 @@
 ghost use Rattle.predicate_core.specs.Laws.{NodesFollow, ArrivalsStay, StepsStay, WholesCompute};
 ghost use Rattle.predicate_core.specs.Opening.{OpensFollow};
 ghost use Rattle.predicate_core.specs.Feeding.{SoundGraphsFeed};
+ghost use Rattle.predicate_core.specs.Fitting.{ArrivalsFit, NodesFit};
 
 /// With the edge to the first node alone things are right as far as it.
 pub fn opens_follow()
@@ -25,6 +26,19 @@ pub fn arrivals_stay()
 /// The same behind the code of a node.
 pub fn steps_stay()
     ensures { StepsStay }
+{}
+
+/// Where edges meet at a node what is held fits the rows of its origins.
+pub fn arrivals_fit()
+    ensures { ArrivalsFit }
+{
+    program_graph::laws::graphs_are_sound();
+    sound_graphs_feed();
+}
+
+/// A node more: its cells fit its row, and its edges bring what stands behind it.
+pub fn nodes_fit()
+    ensures { NodesFit }
 {}
 
 /// Once all nodes are done, and the cells of the answer are there, the law of cells holds of them: they compute the runs of the program, for

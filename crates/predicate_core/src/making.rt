@@ -7,15 +7,21 @@ ghost use Rattle.cell_core.specs.Formed.{IsBelow};
 ghost use Rattle.operator_cells.specs.Making.{seen, Grows};
 ghost use Rattle.operator_cells.specs.Joining.{AreThere};
 ghost use Rattle.held_cells.specs.Paths.{node_at};
+ghost use Rattle.held_cells.specs.Held.{pointed};
+ghost use Rattle.held_cells.specs.declared.way.Way.{Way};
 ghost use Rattle.edge_cells.specs.Joining.{LeadTo};
 ghost use Rattle.node_cells.specs.Ends.{IsNode, HasEnds};
 ghost use Rattle.site_cells.specs.Sited.{sited};
 ghost use Rattle.unfold_core.specs.Unfolding.{IsUnfolded};
 ghost use Rattle.program_graph.specs.Graphs.{graph_of};
+ghost use Rattle.predicate_core.specs.Gathering.{arms_of, GathersTo, PassesTo};
+ghost use Rattle.predicate_core.specs.Stages.{FitSoFar, ComesWithin};
 ghost use Rattle.predicate_core.specs.Progress.{targets, AreNumbers, AreWaiting, Entered, Comes, IsReady};
 
 use crate::arriving::arrive;
-use crate::laws::{arrivals_stay, nodes_follow, sound_graphs_feed, steps_stay};
+use crate::laws::{
+    arrivals_fit, arrivals_stay, nodes_fit, nodes_follow, sound_graphs_feed, steps_stay,
+};
 use bpf_isa::Insn;
 use cell_core::cell::{Cell, Cells};
 use cell_core::program::Node;
@@ -81,6 +87,7 @@ fn arms(
     requires beside { length pending.now ≡ length ways.now }
     requires map { All (λ row. map < length row.items) pending.now }
     ensures count { IfOk result (λ arms. length arms.items ≡ length numbers.now) }
+    ensures brought { IfOk result (λ arms. (d : Way) → arms.items ≡ arms_of ways.now (map_list (λ x. x.items) pending.now) numbers.now map d) }
     ensures there { IfOk result (λ arms. (cells : List CellView) → All (λ e. e.bit < length cells) ways.now → All (λ row. All (λ c. c < length cells) row.items) pending.now → AreThere cells arms.items) }
 {
     let mut arms = Vec::new(alloc);
@@ -110,6 +117,7 @@ fn gather(
     requires waiting { All (λ row. AreWaiting maps (length (seen cells.old.items)) row.items) pending.now }
     ensures grows { IfOk result (λ row. Grows (seen cells.old.items) (seen cells.new.items)) }
     ensures waiting { IfOk result (λ row. AreWaiting maps (length (seen cells.new.items)) row.items) }
+    ensures rows { IfOk result (λ row. GathersTo (seen cells.old.items) (seen cells.new.items) ways.now (map_list (λ x. x.items) pending.now) numbers.now maps row.items) }
 {
     let mut all = Vec::new(*cells.allocator());
     for map in 0..maps {
@@ -134,6 +142,7 @@ fn pass(
     ensures grows { OnOk result (Grows (seen cells.old.items) (seen cells.new.items)) }
     ensures count { OnOk result (length pending.new.items ≡ length pending.old.items) }
     ensures there { OnOk result (All (λ c. c < length (seen cells.new.items)) pending.new.items) }
+    ensures rows { OnOk result (PassesTo (seen cells.old.items) (seen cells.new.items) (sited sites.now) sites_before first pending.old.items pending.new.items) }
 {
     if sites_before < sites.len() {
         let map = sites[sites_before].map as usize;
@@ -175,8 +184,10 @@ fn arrive_at(
     requires unfolded { IsUnfolded program.now unfolded.now }
     requires node { node < length unfolded.now.nodes.items }
     requires ready { IsReady (graph_of program.now unfolded.now) node progress.old }
-    ensures { IfOk result (λ arrived. Comes (graph_of program.now unfolded.now) node progress.old progress.new arrived.here arrived.pending.items) }
+    ensures comes { IfOk result (λ arrived. Comes (graph_of program.now unfolded.now) node progress.old progress.new arrived.here arrived.pending.items) }
+    ensures rows { IfOk result (λ arrived. (fit : FitSoFar program.now unfolded.now node progress.old) → ComesWithin program.now unfolded.now fit.named node (seen progress.old.made.cells.items) (seen progress.new.made.cells.items) (pointed progress.new.made.pointers.items) arrived.here.guard arrived.here.held arrived.pending.items) }
 {
+    arrivals_fit();
     graphs_are_sound();
     sound_graphs_feed();
     arrivals_stay();
@@ -210,8 +221,10 @@ pub fn make_node(
     requires insn { IsNode (graph_of program.now unfolded.now) node insn.now (node_at (graph_of program.now unfolded.now).nodes node).kinds }
     requires ends { HasEnds (graph_of program.now unfolded.now) node insn.now ends.next ends.jump }
     requires ready { IsReady (graph_of program.now unfolded.now) node progress.old }
-    ensures { OnOk result (IsReady (graph_of program.now unfolded.now) (node + 1) progress.new) }
+    ensures ready { OnOk result (IsReady (graph_of program.now unfolded.now) (node + 1) progress.new) }
+    ensures rows { OnOk result (FitSoFar program.now unfolded.now node progress.old → FitSoFar program.now unfolded.now (node + 1) progress.new) }
 {
+    nodes_fit();
     graphs_are_sound();
     sound_graphs_feed();
     nodes_bring();

@@ -8,6 +8,8 @@ ghost use Rattle.unfold_core.specs.Unfolding.{IsUnfolded};
 ghost use Rattle.program_graph.specs.Graphs.{graph_of};
 ghost use Rattle.predicate_core.specs.Buildable.{AddsNoRow, IsBuildable};
 ghost use Rattle.predicate_core.specs.Progress.{AreFirst, AreWaiting, IsReady};
+ghost use Rattle.predicate_core.specs.Rows.{FitStages};
+ghost use Rattle.predicate_core.specs.Stages.{FitSoFar};
 
 use crate::closing::close;
 use crate::laws::{opens_follow, sound_graphs_feed, wholes_compute};
@@ -75,7 +77,8 @@ fn first_entries(alloc: Global, nodes: usize) -> Result<Vec<Numbers>, AllocError
 // The edge to the first node, and nothing more.
 fn begin(alloc: Global, program: &Program, unfolded: &Unfolded) -> Result<Progress, AllocError>
     requires { IsUnfolded program.now unfolded.now }
-    ensures { IfOk result (λ progress. IsReady (graph_of program.now unfolded.now) 0 progress) }
+    ensures ready { IfOk result (λ progress. IsReady (graph_of program.now unfolded.now) 0 progress) }
+    ensures rows { IfOk result (λ progress. FitSoFar program.now unfolded.now 0 progress) }
 {
     graphs_are_sound();
     sound_graphs_feed();
@@ -112,7 +115,9 @@ fn make_nodes(
 ) -> Result<(), AllocError>
     requires unfolded { IsUnfolded program.now unfolded.now }
     requires ready { IsReady (graph_of program.now unfolded.now) 0 progress.old }
-    ensures { OnOk result (IsReady (graph_of program.now unfolded.now) (length unfolded.now.nodes.items) progress.new) }
+    requires fits { FitSoFar program.now unfolded.now 0 progress.old }
+    ensures ready { OnOk result (IsReady (graph_of program.now unfolded.now) (length unfolded.now.nodes.items) progress.new) }
+    ensures rows { OnOk result (FitSoFar program.now unfolded.now (length unfolded.now.nodes.items) progress.new) }
 {
     nodes_have_insns();
     // A program is one.
@@ -136,6 +141,7 @@ pub fn to_cells(
     requires { IsUnfolded program.now unfolded.now }
     ensures law { IfOk result (λ cells. IsLaw (graph_of program.now unfolded.now) (program_of cells)) }
     ensures buildable { IfOk result (λ cells. IsBuildable (program_of cells)) }
+    ensures stages { IfOk result (λ cells. FitStages program.now unfolded.now (program_of cells)) }
 {
     wholes_compute();
     // A program is one.

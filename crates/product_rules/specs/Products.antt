@@ -31,78 +31,78 @@ made_by_product ws (Register k) = false
 made_by_product ws (Memory k) = false
 made_by_product ws (Wire k) = get_or ws k false
 
--- a product stands in the tree
+-- a product stands in the tree, where these nets are made by one
 abbrev mutual
-  pub has_product : List Bool → Tree Net → Bool
-  has_product ws (TConst w) = false
-  has_product ws (TRead n) = made_by_product ws n
-  has_product ws (TBit n i) = made_by_product ws n
-  has_product ws (TPartSelect n hi lo) = made_by_product ws n
-  has_product ws (TMemoryWord m i) = has_product ws i
-  has_product ws (TUnary p a) = has_product ws a
-  has_product ws (TBinary op a b) = is_product op || (has_product ws a || has_product ws b)
-  has_product ws (TConditional c a b) = has_product ws c || (has_product ws a || has_product ws b)
-  has_product ws (TConcatenation ps) = parts_product ws ps
+  pub has_product : {N : Type 0} → (N → Bool) → Tree N → Bool
+  has_product made (TConst w) = false
+  has_product made (TRead n) = made n
+  has_product made (TBit n i) = made n
+  has_product made (TPartSelect n hi lo) = made n
+  has_product made (TMemoryWord m i) = has_product made i
+  has_product made (TUnary p a) = has_product made a
+  has_product made (TBinary op a b) = is_product op || (has_product made a || has_product made b)
+  has_product made (TConditional c a b) = has_product made c || (has_product made a || has_product made b)
+  has_product made (TConcatenation ps) = parts_product made ps
 
-  pub parts_product : List Bool → Trees Net → Bool
-  parts_product ws (TLast a) = has_product ws a
-  parts_product ws (TMore a ps) = has_product ws a || parts_product ws ps
+  pub parts_product : {N : Type 0} → (N → Bool) → Trees N → Bool
+  parts_product made (TLast a) = has_product made a
+  parts_product made (TMore a ps) = has_product made a || parts_product made ps
 
 -- no product stands inside an operand of another
 abbrev mutual
-  pub is_flat : List Bool → Tree Net → Bool
-  is_flat ws (TConst w) = true
-  is_flat ws (TRead n) = true
-  is_flat ws (TBit n i) = true
-  is_flat ws (TPartSelect n hi lo) = true
-  is_flat ws (TMemoryWord m i) = is_flat ws i
-  is_flat ws (TUnary p a) = is_flat ws a
-  is_flat ws (TBinary op a b) = (if is_product op then not (has_product ws a || has_product ws b) else true) && (is_flat ws a && is_flat ws b)
-  is_flat ws (TConditional c a b) = is_flat ws c && (is_flat ws a && is_flat ws b)
-  is_flat ws (TConcatenation ps) = parts_flat ws ps
+  pub is_flat : {N : Type 0} → (N → Bool) → Tree N → Bool
+  is_flat made (TConst w) = true
+  is_flat made (TRead n) = true
+  is_flat made (TBit n i) = true
+  is_flat made (TPartSelect n hi lo) = true
+  is_flat made (TMemoryWord m i) = is_flat made i
+  is_flat made (TUnary p a) = is_flat made a
+  is_flat made (TBinary op a b) = (if is_product op then not (has_product made a || has_product made b) else true) && (is_flat made a && is_flat made b)
+  is_flat made (TConditional c a b) = is_flat made c && (is_flat made a && is_flat made b)
+  is_flat made (TConcatenation ps) = parts_flat made ps
 
-  pub parts_flat : List Bool → Trees Net → Bool
-  parts_flat ws (TLast a) = is_flat ws a
-  parts_flat ws (TMore a ps) = is_flat ws a && parts_flat ws ps
+  pub parts_flat : {N : Type 0} → (N → Bool) → Trees N → Bool
+  parts_flat made (TLast a) = is_flat made a
+  parts_flat made (TMore a ps) = is_flat made a && parts_flat made ps
 
-abbrev pub right_product : List Bool → RightTree Net → Bool
-right_product ws (RPlain e) = has_product ws e
-right_product ws (RQuotient a b) = true
-right_product ws (RRemainder a b) = true
+abbrev pub right_product : {N : Type 0} → (N → Bool) → RightTree N → Bool
+right_product made (RPlain e) = has_product made e
+right_product made (RQuotient a b) = true
+right_product made (RRemainder a b) = true
 
-abbrev pub right_flat : List Bool → RightTree Net → Bool
-right_flat ws (RPlain e) = is_flat ws e
-right_flat ws (RQuotient a b) = not (made_by_product ws a || made_by_product ws b)
-right_flat ws (RRemainder a b) = not (made_by_product ws a || made_by_product ws b)
+abbrev pub right_flat : {N : Type 0} → (N → Bool) → RightTree N → Bool
+right_flat made (RPlain e) = is_flat made e
+right_flat made (RQuotient a b) = not (made a || made b)
+right_flat made (RRemainder a b) = not (made a || made b)
 
 -- of each wire, whether a product stands in it
 abbrev pub wire_products : List Bool → List WireTree → List Bool
 wire_products ws [] = ws
-wire_products ws (w ∷ rest) = wire_products (ws ++ right_product ws w.right ∷ []) rest
+wire_products ws (w ∷ rest) = wire_products (ws ++ right_product (made_by_product ws) w.right ∷ []) rest
 
 abbrev pub wires_flat : List Bool → List WireTree → Bool
 wires_flat ws [] = true
-wires_flat ws (w ∷ rest) = right_flat ws w.right && wires_flat (ws ++ right_product ws w.right ∷ []) rest
+wires_flat ws (w ∷ rest) = right_flat (made_by_product ws) w.right && wires_flat (ws ++ right_product (made_by_product ws) w.right ∷ []) rest
 
 abbrev mutual
-  pub statement_flat : List Bool → StatementTree Net → Bool
-  statement_flat ws (SBlock more) = statements_flat ws more
-  statement_flat ws (SIf c a) = is_flat ws c && statement_flat ws a
-  statement_flat ws (SIfElse c a b) = is_flat ws c && (statement_flat ws a && statement_flat ws b)
-  statement_flat ws (SSet r e) = is_flat ws e
-  statement_flat ws (SStore m i e) = is_flat ws i && is_flat ws e
+  pub statement_flat : {N : Type 0} → (N → Bool) → StatementTree N → Bool
+  statement_flat made (SBlock more) = statements_flat made more
+  statement_flat made (SIf c a) = is_flat made c && statement_flat made a
+  statement_flat made (SIfElse c a b) = is_flat made c && (statement_flat made a && statement_flat made b)
+  statement_flat made (SSet r e) = is_flat made e
+  statement_flat made (SStore m i e) = is_flat made i && is_flat made e
 
-  pub statements_flat : List Bool → StatementTrees Net → Bool
-  statements_flat ws SEnd = true
-  statements_flat ws (SThen a more) = statement_flat ws a && statements_flat ws more
+  pub statements_flat : {N : Type 0} → (N → Bool) → StatementTrees N → Bool
+  statements_flat made SEnd = true
+  statements_flat made (SThen a more) = statement_flat made a && statements_flat made more
 
 abbrev pub assigns_flat : List Bool → List AssignTree → Bool
 assigns_flat ws [] = true
-assigns_flat ws (a ∷ rest) = is_flat ws a.value && assigns_flat ws rest
+assigns_flat ws (a ∷ rest) = is_flat (made_by_product ws) a.value && assigns_flat ws rest
 
 abbrev pub always_flat : List Bool → List (StatementTree Net) → Bool
 always_flat ws [] = true
-always_flat ws (a ∷ rest) = statement_flat ws a && always_flat ws rest
+always_flat ws (a ∷ rest) = statement_flat (made_by_product ws) a && always_flat ws rest
 
 -- the bound on products, of a whole design
 abbrev pub products_apart : Netlist → Bool

@@ -9,7 +9,7 @@ use net_core::tree::{Expr, Net, Stmt, Stmts};
 
 /// Whether no product of an expression stands inside an operand of another.
 pub fn is_flat(marks: &[bool], e: &Expr<Net>) -> bool
-    ensures { result ≡ products.is_flat marks.now (tree_of e.now) }
+    ensures { result ≡ products.is_flat (products.made_by_product marks.now) (tree_of e.now) }
 {
     in_tree(marks, e).apart
 }
@@ -17,7 +17,7 @@ pub fn is_flat(marks: &[bool], e: &Expr<Net>) -> bool
 /// Whether that is so of each expression of a statement.
 #[cycle(statement)]
 pub fn statement_flat(marks: &[bool], stmt: &Stmt<Net>) -> bool
-    ensures { result ≡ products.statement_flat marks.now (statement_of stmt.now) }
+    ensures { result ≡ products.statement_flat (products.made_by_product marks.now) (statement_of stmt.now) }
 {
     match stmt {
         Stmt::Block(more) => statements_flat(marks, more),
@@ -32,7 +32,7 @@ pub fn statement_flat(marks: &[bool], stmt: &Stmt<Net>) -> bool
 
 #[cycle(statement)]
 fn statements_flat(marks: &[bool], stmts: &Stmts<Net>) -> bool
-    ensures { result ≡ products.statements_flat marks.now (statements_of stmts.now) }
+    ensures { result ≡ products.statements_flat (products.made_by_product marks.now) (statements_of stmts.now) }
 {
     let mut left = stmts;
     while let Stmts::Then(a, more) = left {

@@ -34,8 +34,8 @@ fn in_net(marks: &[bool], net: Net) -> Found
 /// What is found in an expression.
 #[cycle(tree)]
 pub fn in_tree(marks: &[bool], e: &Expr<Net>) -> Found
-    ensures product { result.product ≡ products.has_product marks.now (tree_of e.now) }
-    ensures apart { result.apart ≡ products.is_flat marks.now (tree_of e.now) }
+    ensures product { result.product ≡ products.has_product (products.made_by_product marks.now) (tree_of e.now) }
+    ensures apart { result.apart ≡ products.is_flat (products.made_by_product marks.now) (tree_of e.now) }
 {
     match e {
         Expr::Const(_) => NO_PRODUCT,
@@ -62,8 +62,8 @@ pub fn in_tree(marks: &[bool], e: &Expr<Net>) -> Found
 /// What is found in the parts of a concatenation.
 #[cycle(tree)]
 fn in_parts(marks: &[bool], parts: &Parts<Net>) -> Found
-    ensures product { result.product ≡ products.parts_product marks.now (trees_of parts.now) }
-    ensures apart { result.apart ≡ products.parts_flat marks.now (trees_of parts.now) }
+    ensures product { result.product ≡ products.parts_product (products.made_by_product marks.now) (trees_of parts.now) }
+    ensures apart { result.apart ≡ products.parts_flat (products.made_by_product marks.now) (trees_of parts.now) }
 {
     let mut found = NO_PRODUCT;
     let mut left = parts;
@@ -80,8 +80,8 @@ fn in_parts(marks: &[bool], parts: &Parts<Net>) -> Found
 
 /// What is found in the right side of a wire. A quotient and a remainder are products too.
 pub fn in_right(marks: &[bool], right: &Right<Net>) -> Found
-    ensures product { result.product ≡ products.right_product marks.now (right_of right.now) }
-    ensures apart { result.apart ≡ products.right_flat marks.now (right_of right.now) }
+    ensures product { result.product ≡ products.right_product (products.made_by_product marks.now) (right_of right.now) }
+    ensures apart { result.apart ≡ products.right_flat (products.made_by_product marks.now) (right_of right.now) }
 {
     match right {
         Right::Plain(e) => in_tree(marks, e),

@@ -1,10 +1,16 @@
 pub mod Growing
+pub mod ValueLaws
 pub mod Finding
 pub mod Yielding
+pub mod MovingRows
 pub mod Known
 pub mod Carrying
+pub mod RegisterRows
 pub mod Loads
 pub mod Answering
+pub mod HelperRows
 pub mod Stored
 pub mod Stores
 pub mod Signed
+pub mod LoadRows
+pub mod StoreRows

@@ -46,10 +46,10 @@ little_same i (suc n) xs ys h =
     let rest = little_same (suc i) n xs ys (λ j l m. h j (omega (arith, l)) (omega (arith, m))) in
     rw (first, rest) refl
 
-range_at : (xs : List ℕ) (a n j : ℕ) → j < n → slice_index (slice_range xs a (a + n)) j ≡ slice_index xs (a + j)
+pub range_at : (xs : List ℕ) (a n j : ℕ) → j < n → slice_index (slice_range xs a (a + n)) j ≡ slice_index xs (a + j)
 range_at xs a n j h = let e : a + n - a ≡ n = omega arith in get_or-take (a + n - a) (drop a xs) j 0 (omega (arith, e, h)) ∙ get_or-drop a xs j 0
 
-range_length : (xs : List ℕ) (a n : ℕ) → a + n ≤ length xs → length (slice_range xs a (a + n)) ≡ n
+pub range_length : (xs : List ℕ) (a n : ℕ) → a + n ≤ length xs → length (slice_range xs a (a + n)) ≡ n
 range_length xs a n h = grind (arith, length-take, length-drop)
 
 -- bytes in cells
@@ -118,7 +118,7 @@ inside_is (pos b) n len a e = by (nat_le (b + n) len) refl
 inside_is (negsuc b) n len a e = cc
 
 -- a number of the packet is not known
-in_packet_all : (P : Kind → Type 0) (slots : List Kind) (size : Size) (checked a : ℕ) → P (Num Unknown) → IfOk (places.in_packet checked (pos a) (bytes_in size) >>= (λ place. kind.found slots size place)) P
+pub in_packet_all : (P : Kind → Type 0) (slots : List Kind) (size : Size) (checked a : ℕ) → P (Num Unknown) → IfOk (places.in_packet checked (pos a) (bytes_in size) >>= (λ place. kind.found slots size place)) P
 in_packet_all P slots size checked a h = by (nat_le (a + bytes_in size) 256) refl (nat_le (a + bytes_in size) checked) refl
   where
     by : (s : Bool) → nat_le (a + bytes_in size) 256 ≡ s → (t : Bool) → nat_le (a + bytes_in size) checked ≡ t → IfOk (places.in_packet checked (pos a) (bytes_in size) >>= (λ place. kind.found slots size place)) P

@@ -62,7 +62,7 @@ extended_gives decls ps node k h old mid new offset size b Unknown p c gives fou
       sym w ∙ ap is.Number (sym g);
 }
 
-number_there : (x : Kind) (n : Number) → tests.number_in x ≡ Ok n → x ≡ Num n
+pub number_there : (x : Kind) (n : Number) → tests.number_in x ≡ Ok n → x ≡ Num n
 number_there (Num m) n e = cc
 number_there x n e = absurd (cc)
 

@@ -45,13 +45,13 @@ number_is i j t e f = let g : is.Number i ≡ is.Number j = sym e ∙ f in cc
 
 -- ---- bytes that are stored over others
 
-patched_low : (xs ys : List ℕ) (a i : ℕ) → i < a → a ≤ length xs → slice_index (patched xs a ys) i ≡ slice_index xs i
+pub patched_low : (xs ys : List ℕ) (a i : ℕ) → i < a → a ≤ length xs → slice_index (patched xs a ys) i ≡ slice_index xs i
 patched_low xs ys a i low fits =
     let front = length-take-le a xs fits in
     get_or_append_left (take a xs ++ ys) (drop (a + length ys) xs) 0 i (omega (arith, low, front, length-append (take a xs) ys))
     ∙ get_or_append_left (take a xs) ys 0 i (omega (arith, low, front)) ∙ get_or-take a xs i 0 low
 
-patched_in : (xs ys : List ℕ) (a i : ℕ) → a ≤ i → i < a + length ys → a ≤ length xs → slice_index (patched xs a ys) i ≡ slice_index ys (i - a)
+pub patched_in : (xs ys : List ℕ) (a i : ℕ) → a ≤ i → i < a + length ys → a ≤ length xs → slice_index (patched xs a ys) i ≡ slice_index ys (i - a)
 patched_in xs ys a i low high fits =
     let front = length-take-le a xs fits in
     get_or_append_left (take a xs ++ ys) (drop (a + length ys) xs) 0 i (omega (arith, high, front, length-append (take a xs) ys))

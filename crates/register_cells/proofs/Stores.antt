@@ -163,7 +163,7 @@ stack_fills decls ps node is_ref k h old new o offset size b q t a c x ks hs wit
       rw y.2 (slot_held decls packet v ps h k m (a / 8) c x y.0 slot ks hs known.stands.stack known.held one);
 }
 
-slot_stored : (Q : Kinds → Type 0) (node : ℕ) (is_ref : Bool) (k : Kinds) (size : Size) (b : Kind) (z : ℤ) (a : ℕ) → z +ℤ pos 512 ≡ pos a → nat_le (a + bytes_in size) 512 ≡ true → (a % bytes_in size == 0) ≡ true
+pub slot_stored : (Q : Kinds → Type 0) (node : ℕ) (is_ref : Bool) (k : Kinds) (size : Size) (b : Kind) (z : ℤ) (a : ℕ) → z +ℤ pos 512 ≡ pos a → nat_le (a + bytes_in size) 512 ≡ true → (a % bytes_in size == 0) ≡ true
     → IfOk (access.to_slot size (a % 8) (get_or k.slots (a / 8) Unset) b) (λ x. Q (with_slot k (a / 8) x))
     → IfOk (places.in_stack z size >>= (λ place. access.stored_at k.slots size b place)) (λ e. Q (changed node is_ref false k e))
 slot_stored Q node is_ref k size b z a e f g h =
@@ -186,7 +186,7 @@ stack_refused decls k o offset size b P e = not_in_stack (o +ℤ offset) size (�
 
 -- ---- a store into the packet
 
-number_stored : (Q : Kinds → Type 0) (node : ℕ) (is_ref : Bool) (k : Kinds) (size : Size) (n : Number) (a : ℕ) → Q k
+pub number_stored : (Q : Kinds → Type 0) (node : ℕ) (is_ref : Bool) (k : Kinds) (size : Size) (n : Number) (a : ℕ) → Q k
     → IfOk (places.in_packet k.checked (pos a) (bytes_in size) >>= (λ place. access.stored_at k.slots size (Num n) place)) (λ e. Q (changed node is_ref false k e))
 number_stored Q node is_ref k size n a h = by (nat_le (a + bytes_in size) 256) refl (nat_le (a + bytes_in size) k.checked) refl
   where
@@ -215,7 +215,7 @@ packet_stores decls ps node is_ref k h old new o offset size i q t a cs whole e 
           rw s.3 (window_held decls packet v ps h k m a cs (little_bytes (bytes_in size) s.0) (omega (arith, fits, made.count)) whole bytes (omega (arith, s.2, made.count)) known.held);
     }))
 
-all_ok : {A : Type 0} (r : Result A Why) (P : A → Type 0) → ((a : A) → P a) → IfOk r P
+pub all_ok : {A : Type 0} (r : Result A Why) (P : A → Type 0) → ((a : A) → P a) → IfOk r P
 all_ok (Ok a) P f = f a
 all_ok (Err e) P f = tt
 

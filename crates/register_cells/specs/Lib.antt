@@ -3,3 +3,5 @@ pub mod Shifting
 pub mod Giving
 pub mod Storing
 pub mod Plain
+pub mod Rows
+pub mod Combining

@@ -1,15 +1,21 @@
 //! Operations on numbers, of which some are known.
 
-ghost use Rattle.std.specs.Prelude.{◌≡◌, ◌<◌, true, length, IfOk, ◌≤◌, ◌+◌, ◌⊎◌};
+ghost use Rattle.std.specs.Prelude.{◌≡◌, ◌<◌, true, length, IfOk, List, max, ◌≤◌, ◌+◌, ◌⊎◌};
 ghost use Rattle.xdp_machine.specs.Arithmetic.{bits_in, low, arithmetic, negated, extended, ordered};
 ghost use Rattle.xdp_machine.specs.Memory.{bytes_in, number_at};
 ghost use Rattle.byteorder.specs.Endian.{little_bytes};
 ghost use Rattle.kind_core.specs.Numbers.{number_arithmetic, number_negated, number_extended, number_part, number_ordered};
 ghost use Rattle.cell_core.specs.Formed.{AreFormed};
 ghost use Rattle.operator_cells.specs.Making.{seen, Makes};
-ghost use Rattle.held_cells.specs.Held.{number_of, IsThere};
+ghost use Rattle.kind_core.specs.declared.number.Number.TheVariants.{Unknown};
+ghost use Rattle.kind_core.specs.declared.kind.Kind.TheVariants.{Num};
+ghost use Rattle.operator_cells.specs.Rising.{Rises};
+ghost use Rattle.held_cells.specs.Held.{PointerView, number_of, IsThere};
+ghost use Rattle.held_cells.specs.Rows.{number_row};
 ghost use Rattle.register_cells.specs.Reading.{Finds};
 ghost use Rattle.register_cells.specs.Shifting.{is_shift};
+ghost use Rattle.register_cells.specs.Combining.{worked_row};
+ghost use Rattle.register_cells.specs.Rows.{ValueTo};
 ghost use Rattle.operator_cells.specs.Dividing.{code_of};
 
 use bpf_isa::{AluCode, Size, Src, Width};
@@ -35,7 +41,8 @@ fn divide_as(
     requires formed { AreFormed (seen cells.old.items) }
     requires left { a < length (seen cells.old.items) }
     requires right { b < length (seen cells.old.items) }
-    ensures { IfOk result (λ c. Makes (seen cells.old.items) (seen cells.new.items) c (λ packet v. arithmetic (code_of rest) signed (bits_in width) (low (bits_in width) (v a)) (low (bits_in width) (v b)))) }
+    ensures makes { IfOk result (λ c. Makes (seen cells.old.items) (seen cells.new.items) c (λ packet v. arithmetic (code_of rest) signed (bits_in width) (low (bits_in width) (v a)) (low (bits_in width) (v b)))) }
+    ensures rises { IfOk result (λ c. Rises (seen cells.old.items) (seen cells.new.items) c (λ row. max (row a) (row b) + 1)) }
 {
     if signed {
         divide_signed(cells, rest, width, a, b)
@@ -56,7 +63,8 @@ fn calculate(
     requires formed { AreFormed (seen cells.old.items) }
     requires left { a < length (seen cells.old.items) }
     requires right { b < length (seen cells.old.items) }
-    ensures { IfOk result (λ c. Makes (seen cells.old.items) (seen cells.new.items) c (λ packet v. arithmetic code signed (bits_in width) (low (bits_in width) (v a)) (low (bits_in width) (v b)))) }
+    ensures makes { IfOk result (λ c. Makes (seen cells.old.items) (seen cells.new.items) c (λ packet v. arithmetic code signed (bits_in width) (low (bits_in width) (v a)) (low (bits_in width) (v b)))) }
+    ensures rises { IfOk result (λ c. Rises (seen cells.old.items) (seen cells.new.items) c (λ row. worked_row code (Num Unknown) (Num Unknown) (row a) (row b))) }
 {
     match code {
         AluCode::Mov => cut(cells, width, b),
@@ -87,7 +95,8 @@ fn shift(
 ) -> Result<u32, AllocError>
     requires shift { is_shift code ≡ true }
     requires there { a < length (seen cells.old.items) }
-    ensures { IfOk result (λ c. Makes (seen cells.old.items) (seen cells.new.items) c (λ packet v. arithmetic code signed (bits_in width) (low (bits_in width) (v a)) (low (bits_in width) n))) }
+    ensures makes { IfOk result (λ c. Makes (seen cells.old.items) (seen cells.new.items) c (λ packet v. arithmetic code signed (bits_in width) (low (bits_in width) (v a)) (low (bits_in width) n))) }
+    ensures rises { IfOk result (λ c. Rises (seen cells.old.items) (seen cells.new.items) c (λ row. row a)) }
 {
     let count = (n % u64::from(bits(width))) as u32;
     match code {
@@ -111,7 +120,8 @@ pub fn compute(
     requires formed { AreFormed (seen cells.old.items) }
     requires left { IsThere (length (seen cells.old.items)) x a }
     requires right { IsThere (length (seen cells.old.items)) y b }
-    ensures { IfOk result (λ c. Finds (seen cells.old.items) (seen cells.new.items) (number_arithmetic code signed width x y) c (λ packet v. arithmetic code signed (bits_in width) (low (bits_in width) (number_of v x a)) (low (bits_in width) (number_of v y b)))) }
+    ensures finds { IfOk result (λ c. Finds (seen cells.old.items) (seen cells.new.items) (number_arithmetic code signed width x y) c (λ packet v. arithmetic code signed (bits_in width) (low (bits_in width) (number_of v x a)) (low (bits_in width) (number_of v y b)))) }
+    ensures rows { (ps : List PointerView) → IfOk result (λ c. ValueTo (seen cells.old.items) (seen cells.new.items) ps (Num (number_arithmetic code signed width x y)) c (λ row. worked_row code (Num y) (Num (number_arithmetic code signed width x y)) (number_row row x a) (number_row row y b))) }
 {
     match (x, y) {
         (Number::Known(_), Number::Known(_)) => Ok(0),
@@ -132,7 +142,8 @@ pub fn compute(
 pub fn negated(cells: &mut Vec<Cell>, width: Width, x: Number, a: u32) -> Result<u32, AllocError>
     requires formed { AreFormed (seen cells.old.items) }
     requires there { IsThere (length (seen cells.old.items)) x a }
-    ensures { IfOk result (λ c. Finds (seen cells.old.items) (seen cells.new.items) (number_negated width x) c (λ packet v. negated (bits_in width) (number_of v x a))) }
+    ensures finds { IfOk result (λ c. Finds (seen cells.old.items) (seen cells.new.items) (number_negated width x) c (λ packet v. negated (bits_in width) (number_of v x a))) }
+    ensures rows { (ps : List PointerView) → IfOk result (λ c. ValueTo (seen cells.old.items) (seen cells.new.items) ps (Num (number_negated width x)) c (λ row. number_row row x a + 1)) }
 {
     match x {
         Number::Known(_) => Ok(0),
@@ -154,7 +165,8 @@ pub fn extended(
     requires formed { AreFormed (seen cells.old.items) }
     requires there { IsThere (length (seen cells.old.items)) x a }
     requires count { count ≤ 64 }
-    ensures { IfOk result (λ c. Finds (seen cells.old.items) (seen cells.new.items) (number_extended width count x) c (λ packet v. extended (bits_in width) count (number_of v x a))) }
+    ensures finds { IfOk result (λ c. Finds (seen cells.old.items) (seen cells.new.items) (number_extended width count x) c (λ packet v. extended (bits_in width) count (number_of v x a))) }
+    ensures rows { (ps : List PointerView) → IfOk result (λ c. ValueTo (seen cells.old.items) (seen cells.new.items) ps (Num (number_extended width count x)) c (λ row. number_row row x a)) }
 {
     match x {
         Number::Known(_) => Ok(0),
@@ -175,7 +187,8 @@ pub fn parted(
 ) -> Result<u32, AllocError>
     requires there { IsThere (length (seen cells.old.items)) x a }
     requires inside { at + bytes_in size ≤ 8 }
-    ensures { IfOk result (λ c. Finds (seen cells.old.items) (seen cells.new.items) (number_part size at x) c (λ packet v. number_at size at (little_bytes 8 (number_of v x a)))) }
+    ensures finds { IfOk result (λ c. Finds (seen cells.old.items) (seen cells.new.items) (number_part size at x) c (λ packet v. number_at size at (little_bytes 8 (number_of v x a)))) }
+    ensures rows { (ps : List PointerView) → IfOk result (λ c. ValueTo (seen cells.old.items) (seen cells.new.items) ps (Num (number_part size at x)) c (λ row. number_row row x a)) }
 {
     match x {
         Number::Known(_) => Ok(0),
@@ -196,7 +209,8 @@ pub fn ordered(
 ) -> Result<u32, AllocError>
     requires there { IsThere (length (seen cells.old.items)) x a }
     requires bits { (bits ≡ 16) ⊎ ((bits ≡ 32) ⊎ (bits ≡ 64)) }
-    ensures { IfOk result (λ c. Finds (seen cells.old.items) (seen cells.new.items) (number_ordered end bits x) c (λ packet v. ordered end bits (number_of v x a))) }
+    ensures finds { IfOk result (λ c. Finds (seen cells.old.items) (seen cells.new.items) (number_ordered end bits x) c (λ packet v. ordered end bits (number_of v x a))) }
+    ensures rows { (ps : List PointerView) → IfOk result (λ c. ValueTo (seen cells.old.items) (seen cells.new.items) ps (Num (number_ordered end bits x)) c (λ row. number_row row x a)) }
 {
     match x {
         Number::Known(_) => Ok(0),

@@ -1,19 +1,22 @@
 //! The helpers that ask no map.
 
-ghost use Rattle.std.specs.Prelude.{◌≡◌, ◌<◌, ◌==◌, true, false, pos, ℕ, Bool, List, length, if◌then◌else◌, IfOk, OnOk};
+ghost use Rattle.std.specs.Prelude.{◌≡◌, ◌<◌, ◌+◌, ◌==◌, max, true, false, pos, ℕ, Bool, List, length, if◌then◌else◌, IfOk, OnOk};
 ghost use Rattle.bpf_isa.specs.Spelling.{IsInsn};
 ghost use Rattle.xdp_maps.specs.declared.decl.MapDecl.{MapDecl};
 ghost use Rattle.xdp_machine.specs.Arithmetic.{low};
 ghost use Rattle.kind_core.specs.Effects.{effect_of, verdict};
+ghost use Rattle.kind_core.specs.Edges.{transferred};
 ghost use Rattle.kind_core.specs.Tests.{passed};
 ghost use Rattle.cell_core.specs.Cells.{bit, on};
 ghost use Rattle.cell_core.specs.Formed.{AreFormed};
 ghost use Rattle.operator_cells.specs.Making.{seen, Makes, Grows};
+ghost use Rattle.operator_cells.specs.Rising.{Rises};
 ghost use Rattle.kind_core.specs.declared.kind.Kind.TheVariants as kind_is;
 ghost use Rattle.kind_core.specs.declared.number.Number.{Number};
 ghost use Rattle.register_cells.specs.Reading.{HasNumber};
 ghost use Rattle.held_cells.specs.Held.{PointerView, AreInside, number_of, IsThere};
 ghost use Rattle.held_cells.specs.Carrying.{Carries};
+ghost use Rattle.held_cells.specs.Rows.{value_row, held_row, CarriesTo};
 
 use crate::sizes::are_whole;
 use bpf_isa::{Insn, Op};
@@ -27,7 +30,8 @@ use std::alloc::AllocError;
 
 // When the packet was captured; helpers answer a row later.
 fn time(cells: &mut Vec<Cell>) -> Result<u32, AllocError>
-    ensures { IfOk result (λ c. Makes (seen cells.old.items) (seen cells.new.items) c (λ packet v. low 64 packet.time)) }
+    ensures makes { IfOk result (λ c. Makes (seen cells.old.items) (seen cells.new.items) c (λ packet v. low 64 packet.time)) }
+    ensures rises { IfOk result (λ c. Rises (seen cells.old.items) (seen cells.new.items) c (λ row. 1)) }
 {
     let now = operate(cells, Operator::Time, &[], 0, 64)?;
     let c = operate(cells, Operator::Later, &[now], 0, 64)?;
@@ -43,7 +47,8 @@ pub fn carry_time(
 ) -> Result<(), AllocError>
     requires op { insn.now.op ≡ Op.Call }
     requires helper { insn.now.imm ≡ pos 5 }
-    ensures { (decls : List MapDecl) (ps : List PointerView) (node : ℕ) (is_ref : Bool) → verdict (effect_of decls kinds.now insn.now) ≡ passed → AreInside decls (length (seen cells.old.items)) ps held.old kinds.now → OnOk result (Carries decls ps insn.now node is_ref false kinds.now held.old held.new (seen cells.old.items) (seen cells.new.items)) }
+    ensures carries { (decls : List MapDecl) (ps : List PointerView) (node : ℕ) (is_ref : Bool) → verdict (effect_of decls kinds.now insn.now) ≡ passed → AreInside decls (length (seen cells.old.items)) ps held.old kinds.now → OnOk result (Carries decls ps insn.now node is_ref false kinds.now held.old held.new (seen cells.old.items) (seen cells.new.items)) }
+    ensures rows { (decls : List MapDecl) (ps : List PointerView) (node : ℕ) (is_ref : Bool) → verdict (effect_of decls kinds.now insn.now) ≡ passed → OnOk result (CarriesTo decls (λ row. held_row row ps held.old kinds.now) ps insn.now kinds.now held.old (transferred decls kinds.now insn.now node is_ref false) held.new (seen cells.old.items) (seen cells.new.items)) }
 {
     are_whole(held, kinds);
     let c = time(cells)?;
@@ -56,7 +61,8 @@ fn is_zero(cells: &mut Vec<Cell>, n: u32, interface: u32, target: u32) -> Result
     requires number { n < length (seen cells.old.items) }
     requires interface { interface < length (seen cells.old.items) }
     requires target { target < length (seen cells.old.items) }
-    ensures { IfOk result (λ c. Makes (seen cells.old.items) (seen cells.new.items) c (λ packet v. bit (low 64 (v n) == 0))) }
+    ensures makes { IfOk result (λ c. Makes (seen cells.old.items) (seen cells.new.items) c (λ packet v. bit (low 64 (v n) == 0))) }
+    ensures rises { IfOk result (λ c. Rises (seen cells.old.items) (seen cells.new.items) c (λ row. max (row n) (max (row interface) (row target)) + 1)) }
 {
     let zero = constant(cells, 0, 1)?;
     let c = operate(cells, Operator::Equal, &[n, zero, interface, target], 0, 1)?;
@@ -66,7 +72,8 @@ fn is_zero(cells: &mut Vec<Cell>, n: u32, interface: u32, target: u32) -> Result
 // XDP_REDIRECT where a bit is 1, else XDP_ABORTED.
 fn answer(cells: &mut Vec<Cell>, sent: u32) -> Result<u32, AllocError>
     requires { sent < length (seen cells.old.items) }
-    ensures { IfOk result (λ c. Makes (seen cells.old.items) (seen cells.new.items) c (λ packet v. if on (v sent) then 4 else 0)) }
+    ensures makes { IfOk result (λ c. Makes (seen cells.old.items) (seen cells.new.items) c (λ packet v. if on (v sent) then 4 else 0)) }
+    ensures rises { IfOk result (λ c. Rises (seen cells.old.items) (seen cells.new.items) c (λ row. row sent)) }
 {
     let redirect = constant(cells, 4, 3)?;
     let aborted = constant(cells, 0, 1)?;
@@ -79,7 +86,8 @@ fn target(cells: &mut Vec<Cell>, sent: u32, interface: u32, old: u32) -> Result<
     requires sent { sent < length (seen cells.old.items) }
     requires interface { interface < length (seen cells.old.items) }
     requires old { old < length (seen cells.old.items) }
-    ensures { IfOk result (λ c. Makes (seen cells.old.items) (seen cells.new.items) c (λ packet v. low 32 (if on (v sent) then v interface else v old))) }
+    ensures makes { IfOk result (λ c. Makes (seen cells.old.items) (seen cells.new.items) c (λ packet v. low 32 (if on (v sent) then v interface else v old))) }
+    ensures rises { IfOk result (λ c. Rises (seen cells.old.items) (seen cells.new.items) c (λ row. max (row sent) (max (row interface) (row old)))) }
 {
     let c = operate(cells, Operator::Select, &[sent, interface, old], 0, 32)?;
     Ok(c)
@@ -90,6 +98,7 @@ fn number_in(cells: &mut Vec<Cell>, kind: Kind, held: u32) -> Result<u32, AllocE
     requires { HasNumber (length (seen cells.old.items)) kind held }
     ensures made { IfOk result (λ c. Grows (seen cells.old.items) (seen cells.new.items) × (c < length (seen cells.new.items))) }
     ensures number { (n : Number) → kind ≡ kind_is.Num n → IfOk result (λ c. Makes (seen cells.old.items) (seen cells.new.items) c (λ packet v. number_of v n held)) }
+    ensures rises { (ps : List PointerView) → IfOk result (λ c. Rises (seen cells.old.items) (seen cells.new.items) c (λ row. value_row row ps kind held)) }
 {
     match kind {
         Kind::Num(n) => {
@@ -114,7 +123,8 @@ pub fn carry_redirect(
     requires helper { insn.now.imm ≡ pos 23 }
     requires formed { AreFormed (seen cells.old.items) }
     requires inside { (decls : List MapDecl) × (ps : List PointerView) × AreInside decls (length (seen cells.old.items)) ps held.old kinds.now }
-    ensures { (decls : List MapDecl) (ps : List PointerView) (node : ℕ) (is_ref : Bool) → verdict (effect_of decls kinds.now insn.now) ≡ passed → AreInside decls (length (seen cells.old.items)) ps held.old kinds.now → OnOk result (Carries decls ps insn.now node is_ref false kinds.now held.old held.new (seen cells.old.items) (seen cells.new.items)) }
+    ensures carries { (decls : List MapDecl) (ps : List PointerView) (node : ℕ) (is_ref : Bool) → verdict (effect_of decls kinds.now insn.now) ≡ passed → AreInside decls (length (seen cells.old.items)) ps held.old kinds.now → OnOk result (Carries decls ps insn.now node is_ref false kinds.now held.old held.new (seen cells.old.items) (seen cells.new.items)) }
+    ensures rows { (decls : List MapDecl) (ps : List PointerView) (node : ℕ) (is_ref : Bool) → verdict (effect_of decls kinds.now insn.now) ≡ passed → OnOk result (CarriesTo decls (λ row. held_row row ps held.old kinds.now) ps insn.now kinds.now held.old (transferred decls kinds.now insn.now node is_ref false) held.new (seen cells.old.items) (seen cells.new.items)) }
 {
     are_whole(held, kinds);
     let interface = number_in(cells, kinds.registers[1], held.registers[1])?;

@@ -1,6 +1,6 @@
 //! Loads from the packet, the stack and the context.
 
-ghost use Rattle.std.specs.Prelude.{◌≡◌, ◌≢◌, ◌<◌, ◌≤◌, ◌+◌, ◌*◌, ◌/◌, ◌%◌, ℕ, ℤ, pos, Some, List, length, slice_index, get_or, IfOk, IfSome, FitsSigned, ◌+ℤ◌};
+ghost use Rattle.std.specs.Prelude.{◌≡◌, ◌≢◌, ◌≤◌, ◌+◌, ◌*◌, ◌/◌, ◌%◌, ℕ, ℤ, pos, Some, List, length, IfOk, IfSome, FitsSigned, ◌+ℤ◌};
 ghost use Rattle.std.specs.Int.{w16};
 ghost use Rattle.xdp_maps.specs.declared.decl.MapDecl.{MapDecl};
 ghost use Rattle.xdp_machine.specs.Memory.{bytes_in};
@@ -14,11 +14,15 @@ ghost use Rattle.kind_core.specs.Kinds.{register};
 ghost use Rattle.kind_core.specs.declared.kind.Kinds.{Kinds};
 ghost use Rattle.held_cells.specs.declared.held.Held.{Held};
 ghost use Rattle.cell_core.specs.Formed.{AreFormed};
-ghost use Rattle.operator_cells.specs.Making.{seen, MakesIf};
+ghost use Rattle.operator_cells.specs.Making.{seen};
 ghost use Rattle.held_cells.specs.Held.{PointerView, AreInside, Counts, number_of};
 ghost use Rattle.held_cells.specs.Carrying.{Gives};
 ghost use Rattle.register_cells.specs.Reading.{HasNumber, Yields, Finds};
 ghost use Rattle.register_cells.specs.Giving.{given};
+ghost use Rattle.register_cells.specs.Rows.{ValueTo};
+ghost use Rattle.held_cells.specs.Rows.{number_row, value_row, held_row};
+ghost use Rattle.place_rows.specs.Spans.{region, span_row};
+ghost use Rattle.place_rows.specs.Reading.{result_as};
 
 use crate::computing::parted;
 use crate::sizes::are_whole;
@@ -36,7 +40,8 @@ use xdp_state::memory::{aligned, bytes_in, inside};
 pub(crate) fn whole(cells: &mut Vec<Cell>, kind: Kind, p: u32) -> Result<u32, AllocError>
     requires formed { AreFormed (seen cells.old.items) }
     requires there { HasNumber (length (seen cells.old.items)) kind p }
-    ensures { (decls : List MapDecl) (ps : List PointerView) → Counts decls (length (seen cells.old.items)) ps kind p → IfOk result (λ c. Yields decls ps kind p kind p (seen cells.old.items) (seen cells.new.items) kind c (λ s t. Some t)) }
+    ensures yields { (decls : List MapDecl) (ps : List PointerView) → Counts decls (length (seen cells.old.items)) ps kind p → IfOk result (λ c. Yields decls ps kind p kind p (seen cells.old.items) (seen cells.new.items) kind c (λ s t. Some t)) }
+    ensures rows { (ps : List PointerView) → IfOk result (λ c. ValueTo (seen cells.old.items) (seen cells.new.items) ps kind c (λ row. value_row row ps kind p)) }
 {
     match kind {
         Kind::Num(Number::Unknown) => {
@@ -58,7 +63,8 @@ fn from_slot(
     requires formed { AreFormed (seen cells.old.items) }
     requires there { HasNumber (length (seen cells.old.items)) kind p }
     requires slot { at + bytes_in size ≤ 8 }
-    ensures { (decls : List MapDecl) (ps : List PointerView) → Counts decls (length (seen cells.old.items)) ps kind p → IfOk (access.from_slot size at kind) (λ x. IfOk result (λ c. Yields decls ps kind p kind p (seen cells.old.items) (seen cells.new.items) x c (λ s t. machine.from_slot size at t))) }
+    ensures yields { (decls : List MapDecl) (ps : List PointerView) → Counts decls (length (seen cells.old.items)) ps kind p → IfOk (access.from_slot size at kind) (λ x. IfOk result (λ c. Yields decls ps kind p kind p (seen cells.old.items) (seen cells.new.items) x c (λ s t. machine.from_slot size at t))) }
+    ensures rows { (ps : List PointerView) → IfOk (access.from_slot size at kind) (λ x. IfOk result (λ c. ValueTo (seen cells.old.items) (seen cells.new.items) ps x c (λ row. value_row row ps kind p))) }
 {
     match size {
         Size::Dw => {
@@ -116,7 +122,8 @@ fn from_stack(
 ) -> Result<u32, AllocError>
     requires formed { AreFormed (seen cells.old.items) }
     requires inside { (decls : List MapDecl) × (ps : List PointerView) × AreInside decls (length (seen cells.old.items)) ps held.now kinds.now }
-    ensures { (decls : List MapDecl) (ps : List PointerView) (node : ℕ) (o : ℤ) → base ≡ kind_is.Stack o → AreInside decls (length (seen cells.old.items)) ps held.now kinds.now → IfOk (access.loaded decls kinds.now (kind_is.Stack o) offset size) (λ x. IfOk result (λ c. Gives decls ps node kinds.now held.now (seen cells.old.items) (seen cells.new.items) x c (λ m. machine.loaded m (is.Stack o) offset size))) }
+    ensures gives { (decls : List MapDecl) (ps : List PointerView) (node : ℕ) (o : ℤ) → base ≡ kind_is.Stack o → AreInside decls (length (seen cells.old.items)) ps held.now kinds.now → IfOk (access.loaded decls kinds.now (kind_is.Stack o) offset size) (λ x. IfOk result (λ c. Gives decls ps node kinds.now held.now (seen cells.old.items) (seen cells.new.items) x c (λ m. machine.loaded m (is.Stack o) offset size))) }
+    ensures rows { (decls : List MapDecl) (ps : List PointerView) (o : ℤ) → base ≡ kind_is.Stack o → IfOk (access.loaded decls kinds.now (kind_is.Stack o) offset size) (λ x. IfOk result (λ c. ValueTo (seen cells.old.items) (seen cells.new.items) ps x c (λ row. span_row (held_row row ps held.now kinds.now) (region (kind_is.Stack o) offset (bytes_in size))))) }
 {
     match slot_at(base, offset, size) {
         Some(at) => {
@@ -144,7 +151,8 @@ fn from_packet(
     size: Size,
 ) -> Result<u32, AllocError>
     requires inside { (decls : List MapDecl) × (ps : List PointerView) × AreInside decls (length (seen cells.old.items)) ps held.now kinds.now }
-    ensures { (decls : List MapDecl) (ps : List PointerView) (node : ℕ) → IfOk (access.loaded decls kinds.now (kind_is.Packet o) offset size) (λ x. IfOk result (λ c. Gives decls ps node kinds.now held.now (seen cells.old.items) (seen cells.new.items) x c (λ m. machine.loaded m (is.Packet (pos o)) offset size))) }
+    ensures gives { (decls : List MapDecl) (ps : List PointerView) (node : ℕ) → IfOk (access.loaded decls kinds.now (kind_is.Packet o) offset size) (λ x. IfOk result (λ c. Gives decls ps node kinds.now held.now (seen cells.old.items) (seen cells.new.items) x c (λ m. machine.loaded m (is.Packet (pos o)) offset size))) }
+    ensures rows { (decls : List MapDecl) (ps : List PointerView) → IfOk (access.loaded decls kinds.now (kind_is.Packet o) offset size) (λ x. IfOk result (λ c. ValueTo (seen cells.old.items) (seen cells.new.items) ps x c (λ row. span_row (held_row row ps held.now kinds.now) (region (kind_is.Packet o) offset (bytes_in size))))) }
 {
     are_whole(held, kinds);
     match packet_at(o, offset, size) {
@@ -158,7 +166,8 @@ fn from_packet(
 
 // A field of the context.
 fn from_context(cells: &mut Vec<Cell>, offset: i16, size: Size) -> Result<u32, AllocError>
-    ensures { (decls : List MapDecl) (ps : List PointerView) (node : ℕ) (k : Kinds) (h : Held) → IfOk (access.from_context offset size) (λ x. IfOk result (λ c. Gives decls ps node k h (seen cells.old.items) (seen cells.new.items) x c (λ m. machine.loaded_plain m is.Context offset size))) }
+    ensures gives { (decls : List MapDecl) (ps : List PointerView) (node : ℕ) (k : Kinds) (h : Held) → IfOk (access.from_context offset size) (λ x. IfOk result (λ c. Gives decls ps node k h (seen cells.old.items) (seen cells.new.items) x c (λ m. machine.loaded_plain m is.Context offset size))) }
+    ensures rows { (ps : List PointerView) → IfOk (access.from_context offset size) (λ x. IfOk result (λ c. ValueTo (seen cells.old.items) (seen cells.new.items) ps x c (λ row. 0))) }
 {
     if offset == 12 {
         let c = operate(cells, Operator::Ifindex, &[], 0, 32)?;
@@ -181,7 +190,8 @@ pub fn loaded_plain(
     requires formed { AreFormed (seen cells.old.items) }
     requires inside { (decls : List MapDecl) × (ps : List PointerView) × AreInside decls (length (seen cells.old.items)) ps held.now kinds.now }
     requires plain { (q o : ℕ) → register kinds.now insn.now.src ≢ kind_is.Entry q o }
-    ensures { (decls : List MapDecl) (ps : List PointerView) (refs : List ℕ) (node : ℕ) → AreInside decls (length (seen cells.old.items)) ps held.now kinds.now → IfOk (access.loaded_plain decls kinds.now (register kinds.now insn.now.src) insn.now.offset size) (λ x. IfOk result (λ c. Gives decls ps node kinds.now held.now (seen cells.old.items) (seen cells.new.items) x c (λ m. given refs m insn.now (Op.Load size)))) }
+    ensures gives { (decls : List MapDecl) (ps : List PointerView) (refs : List ℕ) (node : ℕ) → AreInside decls (length (seen cells.old.items)) ps held.now kinds.now → IfOk (access.loaded_plain decls kinds.now (register kinds.now insn.now.src) insn.now.offset size) (λ x. IfOk result (λ c. Gives decls ps node kinds.now held.now (seen cells.old.items) (seen cells.new.items) x c (λ m. given refs m insn.now (Op.Load size)))) }
+    ensures rows { (decls : List MapDecl) (ps : List PointerView) (after : Kinds) → IfOk (access.loaded_plain decls kinds.now (register kinds.now insn.now.src) insn.now.offset size) (λ x. IfOk result (λ c. ValueTo (seen cells.old.items) (seen cells.new.items) ps x c (λ row. result_as (held_row row ps held.now kinds.now) decls kinds.now after insn.now (Op.Load size)))) }
 {
     let base = kinds.registers[insn.src as usize];
     match base {
@@ -204,7 +214,8 @@ pub fn loaded_plain(
 // A number that was loaded, with its sign extended to 64 bits.
 fn signed(cells: &mut Vec<Cell>, size: Size, kind: Kind, p: u32) -> Result<u32, AllocError>
     requires { HasNumber (length (seen cells.old.items)) kind p }
-    ensures { (n : Number) → kind ≡ kind_is.Num n → IfOk result (λ c. Finds (seen cells.old.items) (seen cells.new.items) (number_extended Width.Bits64 (8 * bytes_in size) n) c (λ packet v. extended 64 (8 * bytes_in size) (number_of v n p))) }
+    ensures finds { (n : Number) → kind ≡ kind_is.Num n → IfOk result (λ c. Finds (seen cells.old.items) (seen cells.new.items) (number_extended Width.Bits64 (8 * bytes_in size) n) c (λ packet v. extended 64 (8 * bytes_in size) (number_of v n p))) }
+    ensures rows { (ps : List PointerView) (n : Number) → kind ≡ kind_is.Num n → IfOk result (λ c. ValueTo (seen cells.old.items) (seen cells.new.items) ps (kind_is.Num (number_extended Width.Bits64 (8 * bytes_in size) n)) c (λ row. number_row row n p)) }
 {
     match kind {
         Kind::Num(Number::Unknown) => {
@@ -226,7 +237,8 @@ fn signed_from_stack(
 ) -> Result<u32, AllocError>
     requires formed { AreFormed (seen cells.old.items) }
     requires inside { (decls : List MapDecl) × (ps : List PointerView) × AreInside decls (length (seen cells.old.items)) ps held.now kinds.now }
-    ensures { (decls : List MapDecl) (ps : List PointerView) (node : ℕ) (o : ℤ) → base ≡ kind_is.Stack o → AreInside decls (length (seen cells.old.items)) ps held.now kinds.now → IfOk (access.loaded_signed decls kinds.now (kind_is.Stack o) offset size) (λ x. IfOk result (λ c. Gives decls ps node kinds.now held.now (seen cells.old.items) (seen cells.new.items) x c (λ m. machine.loaded_signed m (is.Stack o) offset size))) }
+    ensures gives { (decls : List MapDecl) (ps : List PointerView) (node : ℕ) (o : ℤ) → base ≡ kind_is.Stack o → AreInside decls (length (seen cells.old.items)) ps held.now kinds.now → IfOk (access.loaded_signed decls kinds.now (kind_is.Stack o) offset size) (λ x. IfOk result (λ c. Gives decls ps node kinds.now held.now (seen cells.old.items) (seen cells.new.items) x c (λ m. machine.loaded_signed m (is.Stack o) offset size))) }
+    ensures rows { (decls : List MapDecl) (ps : List PointerView) (o : ℤ) → base ≡ kind_is.Stack o → IfOk (access.loaded_signed decls kinds.now (kind_is.Stack o) offset size) (λ x. IfOk result (λ c. ValueTo (seen cells.old.items) (seen cells.new.items) ps x c (λ row. span_row (held_row row ps held.now kinds.now) (region (kind_is.Stack o) offset (bytes_in size))))) }
 {
     match slot_at(base, offset, size) {
         Some(at) => {
@@ -249,7 +261,8 @@ fn signed_from_packet(
     size: Size,
 ) -> Result<u32, AllocError>
     requires inside { (decls : List MapDecl) × (ps : List PointerView) × AreInside decls (length (seen cells.old.items)) ps held.now kinds.now }
-    ensures { (decls : List MapDecl) (ps : List PointerView) (node : ℕ) → IfOk (access.loaded_signed decls kinds.now (kind_is.Packet o) offset size) (λ x. IfOk result (λ c. Gives decls ps node kinds.now held.now (seen cells.old.items) (seen cells.new.items) x c (λ m. machine.loaded_signed m (is.Packet (pos o)) offset size))) }
+    ensures gives { (decls : List MapDecl) (ps : List PointerView) (node : ℕ) → IfOk (access.loaded_signed decls kinds.now (kind_is.Packet o) offset size) (λ x. IfOk result (λ c. Gives decls ps node kinds.now held.now (seen cells.old.items) (seen cells.new.items) x c (λ m. machine.loaded_signed m (is.Packet (pos o)) offset size))) }
+    ensures rows { (decls : List MapDecl) (ps : List PointerView) → IfOk (access.loaded_signed decls kinds.now (kind_is.Packet o) offset size) (λ x. IfOk result (λ c. ValueTo (seen cells.old.items) (seen cells.new.items) ps x c (λ row. span_row (held_row row ps held.now kinds.now) (region (kind_is.Packet o) offset (bytes_in size))))) }
 {
     are_whole(held, kinds);
     match packet_at(o, offset, size) {
@@ -275,7 +288,8 @@ pub fn loaded_signed(
     requires formed { AreFormed (seen cells.old.items) }
     requires inside { (decls : List MapDecl) × (ps : List PointerView) × AreInside decls (length (seen cells.old.items)) ps held.now kinds.now }
     requires plain { (q o : ℕ) → register kinds.now insn.now.src ≢ kind_is.Entry q o }
-    ensures { (decls : List MapDecl) (ps : List PointerView) (refs : List ℕ) (node : ℕ) → AreInside decls (length (seen cells.old.items)) ps held.now kinds.now → IfOk (access.loaded_signed decls kinds.now (register kinds.now insn.now.src) insn.now.offset size) (λ x. IfOk result (λ c. Gives decls ps node kinds.now held.now (seen cells.old.items) (seen cells.new.items) x c (λ m. given refs m insn.now (Op.LoadSigned size)))) }
+    ensures gives { (decls : List MapDecl) (ps : List PointerView) (refs : List ℕ) (node : ℕ) → AreInside decls (length (seen cells.old.items)) ps held.now kinds.now → IfOk (access.loaded_signed decls kinds.now (register kinds.now insn.now.src) insn.now.offset size) (λ x. IfOk result (λ c. Gives decls ps node kinds.now held.now (seen cells.old.items) (seen cells.new.items) x c (λ m. given refs m insn.now (Op.LoadSigned size)))) }
+    ensures rows { (decls : List MapDecl) (ps : List PointerView) (after : Kinds) → IfOk (access.loaded_signed decls kinds.now (register kinds.now insn.now.src) insn.now.offset size) (λ x. IfOk result (λ c. ValueTo (seen cells.old.items) (seen cells.new.items) ps x c (λ row. result_as (held_row row ps held.now kinds.now) decls kinds.now after insn.now (Op.LoadSigned size)))) }
 {
     let base = kinds.registers[insn.src as usize];
     match base {

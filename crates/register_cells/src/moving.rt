@@ -9,9 +9,14 @@ ghost use Rattle.xdp_machine.specs.Values.{Value};
 ghost use Rattle.kind_core.specs.Pointers as kind;
 ghost use Rattle.kind_core.specs.Kinds as kinds;
 ghost use Rattle.cell_core.specs.Formed.{AreFormed};
+ghost use Rattle.bpf_isa.specs.declared.operation.AluCode.TheVariants as alu;
 ghost use Rattle.operator_cells.specs.Making.{seen, Makes};
+ghost use Rattle.operator_cells.specs.Rising.{Rises};
 ghost use Rattle.held_cells.specs.Held.{PointerView, Counts};
+ghost use Rattle.held_cells.specs.Rows.{value_row};
 ghost use Rattle.register_cells.specs.Reading.{HasNumber, Yields, place_of};
+ghost use Rattle.register_cells.specs.Combining.{worked_row, combined_row};
+ghost use Rattle.register_cells.specs.Rows.{ValueTo};
 ghost use Rattle.kind_core.specs.declared.kind.Kind.{Kind};
 
 use crate::computing::{compute, extended};
@@ -26,7 +31,8 @@ use std::alloc::AllocError;
 
 // Where a pointer into the packet leads, or its end.
 fn place(cells: &mut Vec<Cell>, kind: Kind) -> Result<u32, AllocError>
-    ensures { IfOk result (λ c. Makes (seen cells.old.items) (seen cells.new.items) c (λ packet v. low 64 (place_of packet kind))) }
+    ensures makes { IfOk result (λ c. Makes (seen cells.old.items) (seen cells.new.items) c (λ packet v. low 64 (place_of packet kind))) }
+    ensures rises { IfOk result (λ c. Rises (seen cells.old.items) (seen cells.new.items) c (λ row. 0)) }
 {
     match kind {
         Kind::Packet(o) => {
@@ -43,7 +49,8 @@ fn place(cells: &mut Vec<Cell>, kind: Kind) -> Result<u32, AllocError>
 // The distance of two places in the packet.
 fn distance(cells: &mut Vec<Cell>, a: Kind, b: Kind) -> Result<u32, AllocError>
     requires formed { AreFormed (seen cells.old.items) }
-    ensures { IfOk result (λ c. Makes (seen cells.old.items) (seen cells.new.items) c (λ packet v. low 64 (low 64 (place_of packet a) + (2 ^ 64 - low 64 (place_of packet b))))) }
+    ensures makes { IfOk result (λ c. Makes (seen cells.old.items) (seen cells.new.items) c (λ packet v. low 64 (low 64 (place_of packet a) + (2 ^ 64 - low 64 (place_of packet b))))) }
+    ensures rises { IfOk result (λ c. Rises (seen cells.old.items) (seen cells.new.items) c (λ row. 1)) }
 {
     let to = place(cells, a)?;
     let from = place(cells, b)?;
@@ -56,7 +63,8 @@ fn sum(cells: &mut Vec<Cell>, a: Kind, p: u32, b: Kind, q: u32) -> Result<u32, A
     requires formed { AreFormed (seen cells.old.items) }
     requires left { HasNumber (length (seen cells.old.items)) a p }
     requires right { HasNumber (length (seen cells.old.items)) b q }
-    ensures { (decls : List MapDecl) (ps : List PointerView) → Counts decls (length (seen cells.old.items)) ps a p → Counts decls (length (seen cells.old.items)) ps b q → IfOk (kind.sum decls a b) (λ x. IfOk result (λ c. Yields decls ps a p b q (seen cells.old.items) (seen cells.new.items) x c (λ s t. machine.sum s t))) }
+    ensures yields { (decls : List MapDecl) (ps : List PointerView) → Counts decls (length (seen cells.old.items)) ps a p → Counts decls (length (seen cells.old.items)) ps b q → IfOk (kind.sum decls a b) (λ x. IfOk result (λ c. Yields decls ps a p b q (seen cells.old.items) (seen cells.new.items) x c (λ s t. machine.sum s t))) }
+    ensures rows { (decls : List MapDecl) (ps : List PointerView) → IfOk (kind.sum decls a b) (λ x. IfOk result (λ c. ValueTo (seen cells.old.items) (seen cells.new.items) ps x c (λ row. worked_row alu.Add b x (value_row row ps a p) (value_row row ps b q)))) }
 {
     match a {
         Kind::Num(x) => match b {
@@ -75,7 +83,8 @@ fn difference(cells: &mut Vec<Cell>, a: Kind, p: u32, b: Kind, q: u32) -> Result
     requires formed { AreFormed (seen cells.old.items) }
     requires left { HasNumber (length (seen cells.old.items)) a p }
     requires right { HasNumber (length (seen cells.old.items)) b q }
-    ensures { (decls : List MapDecl) (ps : List PointerView) → Counts decls (length (seen cells.old.items)) ps a p → Counts decls (length (seen cells.old.items)) ps b q → IfOk (kind.difference decls a b) (λ x. IfOk result (λ c. Yields decls ps a p b q (seen cells.old.items) (seen cells.new.items) x c (λ s t. machine.difference s t))) }
+    ensures yields { (decls : List MapDecl) (ps : List PointerView) → Counts decls (length (seen cells.old.items)) ps a p → Counts decls (length (seen cells.old.items)) ps b q → IfOk (kind.difference decls a b) (λ x. IfOk result (λ c. Yields decls ps a p b q (seen cells.old.items) (seen cells.new.items) x c (λ s t. machine.difference s t))) }
+    ensures rows { (decls : List MapDecl) (ps : List PointerView) → IfOk (kind.difference decls a b) (λ x. IfOk result (λ c. ValueTo (seen cells.old.items) (seen cells.new.items) ps x c (λ row. worked_row alu.Sub b x (value_row row ps a p) (value_row row ps b q)))) }
 {
     match (a, b) {
         (Kind::Num(x), Kind::Num(y)) => {
@@ -102,7 +111,8 @@ fn copied(
     requires formed { AreFormed (seen cells.old.items) }
     requires there { HasNumber (length (seen cells.old.items)) b q }
     requires count { count ≤ 32 }
-    ensures { (decls : List MapDecl) (ps : List PointerView) (a : Kind) (p : ℕ) → Counts decls (length (seen cells.old.items)) ps b q → IfOk (kind.copied width count b) (λ x. IfOk result (λ c. Yields decls ps a p b q (seen cells.old.items) (seen cells.new.items) x c (λ s t. machine.copied width count t))) }
+    ensures yields { (decls : List MapDecl) (ps : List PointerView) (a : Kind) (p : ℕ) → Counts decls (length (seen cells.old.items)) ps b q → IfOk (kind.copied width count b) (λ x. IfOk result (λ c. Yields decls ps a p b q (seen cells.old.items) (seen cells.new.items) x c (λ s t. machine.copied width count t))) }
+    ensures rows { (ps : List PointerView) → IfOk (kind.copied width count b) (λ x. IfOk result (λ c. ValueTo (seen cells.old.items) (seen cells.new.items) ps x c (λ row. value_row row ps b q))) }
 {
     match b {
         Kind::Num(Number::Unknown) if width == Width::Bits64 && count == 0 => {
@@ -131,7 +141,8 @@ fn computed(
     requires formed { AreFormed (seen cells.old.items) }
     requires left { HasNumber (length (seen cells.old.items)) a p }
     requires right { HasNumber (length (seen cells.old.items)) b q }
-    ensures { (decls : List MapDecl) (ps : List PointerView) → IfOk (kind.computed width code signed a b) (λ x. IfOk result (λ c. Yields decls ps a p b q (seen cells.old.items) (seen cells.new.items) x c (λ s t. machine.computed width code signed s t))) }
+    ensures yields { (decls : List MapDecl) (ps : List PointerView) → IfOk (kind.computed width code signed a b) (λ x. IfOk result (λ c. Yields decls ps a p b q (seen cells.old.items) (seen cells.new.items) x c (λ s t. machine.computed width code signed s t))) }
+    ensures rows { (ps : List PointerView) → IfOk (kind.computed width code signed a b) (λ x. IfOk result (λ c. ValueTo (seen cells.old.items) (seen cells.new.items) ps x c (λ row. worked_row code b x (value_row row ps a p) (value_row row ps b q)))) }
 {
     match a {
         Kind::Num(x) => match b {
@@ -167,7 +178,8 @@ pub fn combined(
     requires left { HasNumber (length (seen cells.old.items)) a p }
     requires right { HasNumber (length (seen cells.old.items)) b q }
     requires offset { unsigned_abs offset ≤ 32 }
-    ensures { (decls : List MapDecl) (ps : List PointerView) → Counts decls (length (seen cells.old.items)) ps a p → Counts decls (length (seen cells.old.items)) ps b q → IfOk (kind.combined decls width code offset a b) (λ x. IfOk result (λ c. Yields decls ps a p b q (seen cells.old.items) (seen cells.new.items) x c (λ s t. machine.combined width code offset s t))) }
+    ensures yields { (decls : List MapDecl) (ps : List PointerView) → Counts decls (length (seen cells.old.items)) ps a p → Counts decls (length (seen cells.old.items)) ps b q → IfOk (kind.combined decls width code offset a b) (λ x. IfOk result (λ c. Yields decls ps a p b q (seen cells.old.items) (seen cells.new.items) x c (λ s t. machine.combined width code offset s t))) }
+    ensures rows { (decls : List MapDecl) (ps : List PointerView) → IfOk (kind.combined decls width code offset a b) (λ x. IfOk result (λ c. ValueTo (seen cells.old.items) (seen cells.new.items) ps x c (λ row. combined_row code b x (value_row row ps a p) (value_row row ps b q)))) }
 {
     let signed = is_signed(offset);
     match code {

@@ -4,12 +4,14 @@ ghost use Rattle.std.specs.Prelude.{◌≡◌, true, false, ℕ, Bool, List, len
 ghost use Rattle.bpf_isa.specs.Spelling.{IsInsn};
 ghost use Rattle.xdp_maps.specs.declared.decl.MapDecl.{MapDecl};
 ghost use Rattle.kind_core.specs.Effects.{effect_of, verdict};
+ghost use Rattle.kind_core.specs.Edges.{transferred};
 ghost use Rattle.kind_core.specs.Soundness.{is_store};
 ghost use Rattle.kind_core.specs.Tests.{passed};
 ghost use Rattle.cell_core.specs.Formed.{AreFormed};
 ghost use Rattle.operator_cells.specs.Making.{seen};
 ghost use Rattle.held_cells.specs.Held.{pointed, AreInside};
 ghost use Rattle.held_cells.specs.Carrying.{Carries};
+ghost use Rattle.held_cells.specs.Rows.{held_row, CarriesTo};
 ghost use Rattle.register_cells.specs.Plain as spec;
 
 use crate::helpers::{carry_redirect, carry_time};
@@ -61,7 +63,8 @@ pub fn carry_plain(
     requires plain { spec.is_plain kinds.now insn.now ≡ true }
     requires formed { AreFormed (seen cells.old.items) }
     requires inside { (decls : List MapDecl) × AreInside decls (length (seen cells.old.items)) (pointed pointers.now) held.old kinds.now }
-    ensures { (decls : List MapDecl) (node : ℕ) (is_ref : Bool) → verdict (effect_of decls kinds.now insn.now) ≡ passed → AreInside decls (length (seen cells.old.items)) (pointed pointers.now) held.old kinds.now → OnOk result (Carries decls (pointed pointers.now) insn.now node is_ref false kinds.now held.old held.new (seen cells.old.items) (seen cells.new.items)) }
+    ensures carries { (decls : List MapDecl) (node : ℕ) (is_ref : Bool) → verdict (effect_of decls kinds.now insn.now) ≡ passed → AreInside decls (length (seen cells.old.items)) (pointed pointers.now) held.old kinds.now → OnOk result (Carries decls (pointed pointers.now) insn.now node is_ref false kinds.now held.old held.new (seen cells.old.items) (seen cells.new.items)) }
+    ensures rows { (decls : List MapDecl) (node : ℕ) (is_ref : Bool) → verdict (effect_of decls kinds.now insn.now) ≡ passed → OnOk result (CarriesTo decls (λ row. held_row row (pointed pointers.now) held.old kinds.now) (pointed pointers.now) insn.now kinds.now held.old (transferred decls kinds.now insn.now node is_ref false) held.new (seen cells.old.items) (seen cells.new.items)) }
 {
     if is_store(insn) {
         return carry_store(cells, pointers, held, kinds, insn);

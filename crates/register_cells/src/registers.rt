@@ -1,11 +1,12 @@
 //! Instructions that write their destination.
 
-ghost use Rattle.std.specs.Prelude.{◌≡◌, ◌≢◌, ◌<◌, ◌≤◌, ◌⊎◌, true, false, ℕ, Bool, List, length, slice_index, IfOk, OnOk, unsigned_abs};
+ghost use Rattle.std.specs.Prelude.{◌≡◌, ◌≢◌, ◌<◌, ◌≤◌, ◌⊎◌, ◌+◌, true, false, ℕ, Bool, List, length, slice_index, IfOk, OnOk, unsigned_abs};
 ghost use Rattle.bpf_isa.specs.Spelling.{IsInsn};
 ghost use Rattle.xdp_machine.specs.Arithmetic.{bits_in, negated, ordered};
 ghost use Rattle.xdp_maps.specs.declared.decl.MapDecl.{MapDecl};
 ghost use Rattle.xdp_machine.specs.State.{register};
 ghost use Rattle.kind_core.specs.Effects.{operand, renumbered, alu, effect_of, verdict};
+ghost use Rattle.kind_core.specs.Edges.{transferred};
 ghost use Rattle.kind_core.specs.Numbers.{number_negated, number_ordered};
 ghost use Rattle.kind_core.specs.Kinds as kind;
 ghost use Rattle.kind_core.specs.declared.kind.Kind.TheVariants as kind_is;
@@ -15,6 +16,9 @@ ghost use Rattle.cell_core.specs.Formed.{AreFormed};
 ghost use Rattle.operator_cells.specs.Making.{seen};
 ghost use Rattle.held_cells.specs.Held.{PointerView, AreInside};
 ghost use Rattle.held_cells.specs.Carrying.{Gives, Carries};
+ghost use Rattle.held_cells.specs.Rows.{held_row, CarriesTo};
+ghost use Rattle.place_rows.specs.Reading.{result_as, result_row};
+ghost use Rattle.register_cells.specs.Rows.{ValueTo};
 ghost use Rattle.register_cells.specs.Giving.{given, given_kind, given_number};
 ghost use Rattle.bpf_isa.specs.Rules.{Allows};
 ghost use Rattle.bpf_isa.specs.declared.fields.Rule.TheVariants.{SwapBits};
@@ -54,7 +58,8 @@ fn combine(
     requires op { insn.now.op ≡ Op.Alu width code src }
     requires formed { AreFormed (seen cells.old.items) }
     requires inside { (decls : List MapDecl) × (ps : List PointerView) × AreInside decls (length (seen cells.old.items)) ps held.now kinds.now }
-    ensures { (decls : List MapDecl) (ps : List PointerView) (refs : List ℕ) (node : ℕ) → AreInside decls (length (seen cells.old.items)) ps held.now kinds.now → IfOk (alu decls kinds.now insn.now (Op.Alu width code src)) (λ x. IfOk result (λ c. Gives decls ps node kinds.now held.now (seen cells.old.items) (seen cells.new.items) x c (λ m. given refs m insn.now (Op.Alu width code src)))) }
+    ensures gives { (decls : List MapDecl) (ps : List PointerView) (refs : List ℕ) (node : ℕ) → AreInside decls (length (seen cells.old.items)) ps held.now kinds.now → IfOk (alu decls kinds.now insn.now (Op.Alu width code src)) (λ x. IfOk result (λ c. Gives decls ps node kinds.now held.now (seen cells.old.items) (seen cells.new.items) x c (λ m. given refs m insn.now (Op.Alu width code src)))) }
+    ensures rows { (decls : List MapDecl) (ps : List PointerView) (after : Kinds) → IfOk (alu decls kinds.now insn.now (Op.Alu width code src)) (λ x. kind.register after insn.now.dst ≡ x → IfOk result (λ c. ValueTo (seen cells.old.items) (seen cells.new.items) ps x c (λ row. result_as (held_row row ps held.now kinds.now) decls kinds.now after insn.now (Op.Alu width code src)))) }
 {
     let a = kinds.registers[insn.dst as usize];
     let b = operand(kinds, insn, src);
@@ -75,7 +80,8 @@ fn negate(
     requires dst { insn.now.dst ≤ 10 }
     requires formed { AreFormed (seen cells.old.items) }
     requires inside { (decls : List MapDecl) × (ps : List PointerView) × AreInside decls (length (seen cells.old.items)) ps held.now kinds.now }
-    ensures { (decls : List MapDecl) (ps : List PointerView) (node : ℕ) → IfOk (renumbered kinds.now insn.now (number_negated width)) (λ x. IfOk result (λ c. Gives decls ps node kinds.now held.now (seen cells.old.items) (seen cells.new.items) x c (λ m. given_number m insn.now (negated (bits_in width))))) }
+    ensures gives { (decls : List MapDecl) (ps : List PointerView) (node : ℕ) → IfOk (renumbered kinds.now insn.now (number_negated width)) (λ x. IfOk result (λ c. Gives decls ps node kinds.now held.now (seen cells.old.items) (seen cells.new.items) x c (λ m. given_number m insn.now (negated (bits_in width))))) }
+    ensures rows { (ps : List PointerView) → IfOk (renumbered kinds.now insn.now (number_negated width)) (λ x. IfOk result (λ c. ValueTo (seen cells.old.items) (seen cells.new.items) ps x c (λ row. held_row row ps held.now kinds.now insn.now.dst + 1))) }
 {
     match kinds.registers[insn.dst as usize] {
         Kind::Num(x) => {
@@ -98,7 +104,8 @@ fn order(
     requires bits { Allows SwapBits insn.now.imm }
     requires formed { AreFormed (seen cells.old.items) }
     requires inside { (decls : List MapDecl) × (ps : List PointerView) × AreInside decls (length (seen cells.old.items)) ps held.now kinds.now }
-    ensures { (decls : List MapDecl) (ps : List PointerView) (node : ℕ) → IfOk (renumbered kinds.now insn.now (number_ordered end (unsigned_abs insn.now.imm))) (λ x. IfOk result (λ c. Gives decls ps node kinds.now held.now (seen cells.old.items) (seen cells.new.items) x c (λ m. given_number m insn.now (ordered end (unsigned_abs insn.now.imm))))) }
+    ensures gives { (decls : List MapDecl) (ps : List PointerView) (node : ℕ) → IfOk (renumbered kinds.now insn.now (number_ordered end (unsigned_abs insn.now.imm))) (λ x. IfOk result (λ c. Gives decls ps node kinds.now held.now (seen cells.old.items) (seen cells.new.items) x c (λ m. given_number m insn.now (ordered end (unsigned_abs insn.now.imm))))) }
+    ensures rows { (ps : List PointerView) → IfOk (renumbered kinds.now insn.now (number_ordered end (unsigned_abs insn.now.imm))) (λ x. IfOk result (λ c. ValueTo (seen cells.old.items) (seen cells.new.items) ps x c (λ row. held_row row ps held.now kinds.now insn.now.dst))) }
 {
     match kinds.registers[insn.dst as usize] {
         Kind::Num(x) => {
@@ -121,7 +128,8 @@ fn give(cells: &mut Vec<Cell>, held: &Held, kinds: &Kinds, insn: &Insn) -> Resul
     requires formed { AreFormed (seen cells.old.items) }
     requires inside { (decls : List MapDecl) × (ps : List PointerView) × AreInside decls (length (seen cells.old.items)) ps held.now kinds.now }
     requires plain { (size : Size) → (insn.now.op ≢ Op.Load size) × (insn.now.op ≢ Op.LoadSigned size) }
-    ensures { (decls : List MapDecl) (ps : List PointerView) (refs : List ℕ) (node : ℕ) (is_ref : Bool) → AreInside decls (length (seen cells.old.items)) ps held.now kinds.now → IfOk (given_kind is_ref decls kinds.now insn.now insn.now.op) (λ x. IfOk result (λ c. Gives decls ps node kinds.now held.now (seen cells.old.items) (seen cells.new.items) x c (λ m. given refs m insn.now insn.now.op))) }
+    ensures gives { (decls : List MapDecl) (ps : List PointerView) (refs : List ℕ) (node : ℕ) (is_ref : Bool) → AreInside decls (length (seen cells.old.items)) ps held.now kinds.now → IfOk (given_kind is_ref decls kinds.now insn.now insn.now.op) (λ x. IfOk result (λ c. Gives decls ps node kinds.now held.now (seen cells.old.items) (seen cells.new.items) x c (λ m. given refs m insn.now insn.now.op))) }
+    ensures rows { (decls : List MapDecl) (ps : List PointerView) (is_ref : Bool) (after : Kinds) → IfOk (given_kind is_ref decls kinds.now insn.now insn.now.op) (λ x. kind.register after insn.now.dst ≡ x → IfOk result (λ c. ValueTo (seen cells.old.items) (seen cells.new.items) ps x c (λ row. result_row (held_row row ps held.now kinds.now) decls kinds.now after insn.now))) }
 {
     match insn.op {
         Op::Alu(width, code, src) => {
@@ -156,7 +164,8 @@ pub fn carry_computed(
     requires formed { AreFormed (seen cells.old.items) }
     requires inside { (decls : List MapDecl) × (ps : List PointerView) × AreInside decls (length (seen cells.old.items)) ps held.old kinds.now }
     requires plain { (size : Size) → (insn.now.op ≢ Op.Load size) × (insn.now.op ≢ Op.LoadSigned size) }
-    ensures { (decls : List MapDecl) (ps : List PointerView) (node : ℕ) (is_ref : Bool) → verdict (effect_of decls kinds.now insn.now) ≡ passed → AreInside decls (length (seen cells.old.items)) ps held.old kinds.now → OnOk result (Carries decls ps insn.now node is_ref false kinds.now held.old held.new (seen cells.old.items) (seen cells.new.items)) }
+    ensures carries { (decls : List MapDecl) (ps : List PointerView) (node : ℕ) (is_ref : Bool) → verdict (effect_of decls kinds.now insn.now) ≡ passed → AreInside decls (length (seen cells.old.items)) ps held.old kinds.now → OnOk result (Carries decls ps insn.now node is_ref false kinds.now held.old held.new (seen cells.old.items) (seen cells.new.items)) }
+    ensures rows { (decls : List MapDecl) (ps : List PointerView) (node : ℕ) (is_ref : Bool) → verdict (effect_of decls kinds.now insn.now) ≡ passed → OnOk result (CarriesTo decls (λ row. held_row row ps held.old kinds.now) ps insn.now kinds.now held.old (transferred decls kinds.now insn.now node is_ref false) held.new (seen cells.old.items) (seen cells.new.items)) }
 {
     are_whole(held, kinds);
     let c = give(cells, held, kinds, insn)?;
@@ -177,7 +186,8 @@ pub fn carry_load(
     requires formed { AreFormed (seen cells.old.items) }
     requires inside { (decls : List MapDecl) × (ps : List PointerView) × AreInside decls (length (seen cells.old.items)) ps held.old kinds.now }
     requires plain { (q o : ℕ) → kind.register kinds.now insn.now.src ≢ kind_is.Entry q o }
-    ensures { (decls : List MapDecl) (ps : List PointerView) (node : ℕ) (is_ref : Bool) → verdict (effect_of decls kinds.now insn.now) ≡ passed → AreInside decls (length (seen cells.old.items)) ps held.old kinds.now → OnOk result (Carries decls ps insn.now node is_ref false kinds.now held.old held.new (seen cells.old.items) (seen cells.new.items)) }
+    ensures carries { (decls : List MapDecl) (ps : List PointerView) (node : ℕ) (is_ref : Bool) → verdict (effect_of decls kinds.now insn.now) ≡ passed → AreInside decls (length (seen cells.old.items)) ps held.old kinds.now → OnOk result (Carries decls ps insn.now node is_ref false kinds.now held.old held.new (seen cells.old.items) (seen cells.new.items)) }
+    ensures rows { (decls : List MapDecl) (ps : List PointerView) (node : ℕ) (is_ref : Bool) → verdict (effect_of decls kinds.now insn.now) ≡ passed → OnOk result (CarriesTo decls (λ row. held_row row ps held.old kinds.now) ps insn.now kinds.now held.old (transferred decls kinds.now insn.now node is_ref false) held.new (seen cells.old.items) (seen cells.new.items)) }
 {
     are_whole(held, kinds);
     let c = loaded_plain(cells, held, kinds, insn, size)?;
@@ -198,7 +208,8 @@ pub fn carry_signed(
     requires formed { AreFormed (seen cells.old.items) }
     requires inside { (decls : List MapDecl) × (ps : List PointerView) × AreInside decls (length (seen cells.old.items)) ps held.old kinds.now }
     requires plain { (q o : ℕ) → kind.register kinds.now insn.now.src ≢ kind_is.Entry q o }
-    ensures { (decls : List MapDecl) (ps : List PointerView) (node : ℕ) (is_ref : Bool) → verdict (effect_of decls kinds.now insn.now) ≡ passed → AreInside decls (length (seen cells.old.items)) ps held.old kinds.now → OnOk result (Carries decls ps insn.now node is_ref false kinds.now held.old held.new (seen cells.old.items) (seen cells.new.items)) }
+    ensures carries { (decls : List MapDecl) (ps : List PointerView) (node : ℕ) (is_ref : Bool) → verdict (effect_of decls kinds.now insn.now) ≡ passed → AreInside decls (length (seen cells.old.items)) ps held.old kinds.now → OnOk result (Carries decls ps insn.now node is_ref false kinds.now held.old held.new (seen cells.old.items) (seen cells.new.items)) }
+    ensures rows { (decls : List MapDecl) (ps : List PointerView) (node : ℕ) (is_ref : Bool) → verdict (effect_of decls kinds.now insn.now) ≡ passed → OnOk result (CarriesTo decls (λ row. held_row row ps held.old kinds.now) ps insn.now kinds.now held.old (transferred decls kinds.now insn.now node is_ref false) held.new (seen cells.old.items) (seen cells.new.items)) }
 {
     are_whole(held, kinds);
     let c = loaded_signed(cells, held, kinds, insn, size)?;
@@ -218,7 +229,8 @@ pub fn carry_register(
     requires formed { AreFormed (seen cells.old.items) }
     requires inside { (decls : List MapDecl) × (ps : List PointerView) × AreInside decls (length (seen cells.old.items)) ps held.old kinds.now }
     requires plain { (size : Size) (q o : ℕ) → (insn.now.op ≡ Op.Load size) ⊎ (insn.now.op ≡ Op.LoadSigned size) → kind.register kinds.now insn.now.src ≢ kind_is.Entry q o }
-    ensures { (decls : List MapDecl) (ps : List PointerView) (node : ℕ) (is_ref : Bool) → verdict (effect_of decls kinds.now insn.now) ≡ passed → AreInside decls (length (seen cells.old.items)) ps held.old kinds.now → OnOk result (Carries decls ps insn.now node is_ref false kinds.now held.old held.new (seen cells.old.items) (seen cells.new.items)) }
+    ensures carries { (decls : List MapDecl) (ps : List PointerView) (node : ℕ) (is_ref : Bool) → verdict (effect_of decls kinds.now insn.now) ≡ passed → AreInside decls (length (seen cells.old.items)) ps held.old kinds.now → OnOk result (Carries decls ps insn.now node is_ref false kinds.now held.old held.new (seen cells.old.items) (seen cells.new.items)) }
+    ensures rows { (decls : List MapDecl) (ps : List PointerView) (node : ℕ) (is_ref : Bool) → verdict (effect_of decls kinds.now insn.now) ≡ passed → OnOk result (CarriesTo decls (λ row. held_row row ps held.old kinds.now) ps insn.now kinds.now held.old (transferred decls kinds.now insn.now node is_ref false) held.new (seen cells.old.items) (seen cells.new.items)) }
 {
     match insn.op {
         Op::Load(size) => carry_load(cells, held, kinds, insn, size),

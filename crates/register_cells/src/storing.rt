@@ -1,7 +1,6 @@
 //! Stores into the stack and the packet.
 
-ghost use Rattle.std.specs.Prelude.{◌≡◌, ◌≢◌, ◌<◌, ◌≤◌, ◌+◌, true, false, ℕ, ℤ, Bool, pos, Ok, List, length, IfOk, OnOk, FitsSigned};
-ghost use Rattle.std.specs.Int.{w16};
+ghost use Rattle.std.specs.Prelude.{◌≡◌, ◌≢◌, ◌<◌, ◌≤◌, ◌+◌, true, false, ℕ, ℤ, Bool, pos, Ok, List, length, IfOk, OnOk, max, slice_index};
 ghost use Rattle.byteorder.specs.Endian.{little_number, little_bytes};
 ghost use Rattle.bpf_isa.specs.Spelling.{IsInsn};
 ghost use Rattle.xdp_maps.specs.declared.decl.MapDecl.{MapDecl};
@@ -17,7 +16,7 @@ ghost use Rattle.kind_core.specs.Numbers.{number_patched};
 ghost use Rattle.kind_core.specs.Access as access;
 ghost use Rattle.kind_core.specs.Kinds as kind;
 ghost use Rattle.kind_core.specs.Effects.{operand, effect_of, verdict};
-ghost use Rattle.kind_core.specs.Edges.{changed};
+ghost use Rattle.kind_core.specs.Edges.{changed, transferred};
 ghost use Rattle.kind_core.specs.Soundness.{is_store};
 ghost use Rattle.kind_core.specs.Tests.{passed};
 ghost use Rattle.cell_core.specs.Formed.{AreFormed};
@@ -27,6 +26,9 @@ ghost use Rattle.held_cells.specs.Held.{PointerView, pointed, pointer_at, AreIns
 ghost use Rattle.held_cells.specs.Carrying.{Carries};
 ghost use Rattle.register_cells.specs.Reading.{HasNumber, Finds};
 ghost use Rattle.register_cells.specs.Storing.{points, left_of, IsSource, Fills, Leaves};
+ghost use Rattle.operator_cells.specs.Rising.{Rises, RiseAll};
+ghost use Rattle.held_cells.specs.Rows.{number_row, value_row, held_row, CarriesTo};
+ghost use Rattle.register_cells.specs.Rows.{ValueTo, StoresTo, left_row};
 
 use crate::loading::{packet_at, slot_at, whole};
 use crate::registers::operand;
@@ -65,7 +67,8 @@ fn nothing(
     p: u32,
 ) -> Result<u32, AllocError>
     requires { (decls : List MapDecl) × Counts decls (length (seen cells.old.items)) (pointed pointers.now) kind p }
-    ensures { IfOk result (λ c. Makes (seen cells.old.items) (seen cells.new.items) c (λ packet v. 0)) }
+    ensures makes { IfOk result (λ c. Makes (seen cells.old.items) (seen cells.new.items) c (λ packet v. 0)) }
+    ensures rises { IfOk result (λ c. Rises (seen cells.old.items) (seen cells.new.items) c (λ row. value_row row (pointed pointers.now) kind p)) }
 {
     if points(kind) {
         let lookup = found(pointers, p);
@@ -79,7 +82,8 @@ fn nothing(
 // What a part of a slot is stored into.
 fn left(cells: &mut Vec<Cell>, pointers: &[Pointer], kind: Kind, p: u32) -> Result<u32, AllocError>
     requires { (decls : List MapDecl) × Counts decls (length (seen cells.old.items)) (pointed pointers.now) kind p }
-    ensures { IfOk result (λ c. Makes (seen cells.old.items) (seen cells.new.items) c (λ packet v. left_of v kind p)) }
+    ensures makes { IfOk result (λ c. Makes (seen cells.old.items) (seen cells.new.items) c (λ packet v. left_of v kind p)) }
+    ensures rises { IfOk result (λ c. Rises (seen cells.old.items) (seen cells.new.items) c (λ row. value_row row (pointed pointers.now) kind p)) }
 {
     match kind {
         Kind::Num(n) => {
@@ -118,7 +122,8 @@ fn part_stored(
     requires slot { (decls : List MapDecl) × Counts decls (length (seen cells.old.items)) (pointed pointers.now) a p }
     requires source { IsThere (length (seen cells.old.items)) n q }
     requires inside { at + bytes_in size ≤ 8 }
-    ensures { (m : Number) → access.underlying a ≡ Ok m → IfOk result (λ c. Finds (seen cells.old.items) (seen cells.new.items) (number_patched size at m n) c (λ packet v. little_number 8 (patched (little_bytes 8 (left_of v a p)) at (little_bytes (bytes_in size) (number_of v n q))))) }
+    ensures finds { (m : Number) → access.underlying a ≡ Ok m → IfOk result (λ c. Finds (seen cells.old.items) (seen cells.new.items) (number_patched size at m n) c (λ packet v. little_number 8 (patched (little_bytes 8 (left_of v a p)) at (little_bytes (bytes_in size) (number_of v n q))))) }
+    ensures rows { (m : Number) → access.underlying a ≡ Ok m → IfOk result (λ c. ValueTo (seen cells.old.items) (seen cells.new.items) (pointed pointers.now) (kind_is.Num (number_patched size at m n)) c (λ row. max (value_row row (pointed pointers.now) a p) (number_row row n q))) }
 {
     match (underlying(a), n) {
         (Number::Known(_), Number::Known(_)) => Ok(0),
@@ -146,7 +151,8 @@ fn to_slot(
     requires slot { (decls : List MapDecl) × Counts decls (length (seen cells.old.items)) (pointed pointers.now) a p }
     requires source { HasNumber (length (seen cells.old.items)) b q }
     requires inside { at + bytes_in size ≤ 8 }
-    ensures { (decls : List MapDecl) → Counts decls (length (seen cells.old.items)) (pointed pointers.now) b q → IfOk (access.to_slot size at a b) (λ x. IfOk result (λ c. Fills decls (pointed pointers.now) size at a p b q (seen cells.old.items) (seen cells.new.items) x c)) }
+    ensures fills { (decls : List MapDecl) → Counts decls (length (seen cells.old.items)) (pointed pointers.now) b q → IfOk (access.to_slot size at a b) (λ x. IfOk result (λ c. Fills decls (pointed pointers.now) size at a p b q (seen cells.old.items) (seen cells.new.items) x c)) }
+    ensures rows { IfOk (access.to_slot size at a b) (λ x. IfOk result (λ c. ValueTo (seen cells.old.items) (seen cells.new.items) (pointed pointers.now) x c (λ row. max (left_row row (pointed pointers.now) size a p) (value_row row (pointed pointers.now) b q)))) }
 {
     match size {
         Size::Dw => {
@@ -178,7 +184,8 @@ fn to_stack(
     requires formed { AreFormed (seen cells.old.items) }
     requires inside { (decls : List MapDecl) × AreInside decls (length (seen cells.old.items)) (pointed pointers.now) held.old kinds.now }
     requires source { HasNumber (length (seen cells.old.items)) b q }
-    ensures { (decls : List MapDecl) (node : ℕ) (is_ref : Bool) (o : ℤ) (t : Machine → Value) → base ≡ kind_is.Stack o → AreInside decls (length (seen cells.old.items)) (pointed pointers.now) held.old kinds.now → Counts decls (length (seen cells.old.items)) (pointed pointers.now) b q → IsSource decls (pointed pointers.now) node kinds.now held.old b q t → IfOk (access.stored decls kinds.now (kind_is.Stack o) offset size b) (λ e. OnOk result (Leaves decls (pointed pointers.now) node kinds.now held.old held.new (seen cells.old.items) (seen cells.new.items) (changed node is_ref false kinds.now e) (λ m. machine.stored m (is.Stack o) offset size (t m)))) }
+    ensures leaves { (decls : List MapDecl) (node : ℕ) (is_ref : Bool) (o : ℤ) (t : Machine → Value) → base ≡ kind_is.Stack o → AreInside decls (length (seen cells.old.items)) (pointed pointers.now) held.old kinds.now → Counts decls (length (seen cells.old.items)) (pointed pointers.now) b q → IsSource decls (pointed pointers.now) node kinds.now held.old b q t → IfOk (access.stored decls kinds.now (kind_is.Stack o) offset size b) (λ e. OnOk result (Leaves decls (pointed pointers.now) node kinds.now held.old held.new (seen cells.old.items) (seen cells.new.items) (changed node is_ref false kinds.now e) (λ m. machine.stored m (is.Stack o) offset size (t m)))) }
+    ensures rows { (decls : List MapDecl) (node : ℕ) (is_ref : Bool) (o : ℤ) → base ≡ kind_is.Stack o → IfOk (access.stored decls kinds.now (kind_is.Stack o) offset size b) (λ e. OnOk result (StoresTo (pointed pointers.now) kinds.now held.old (changed node is_ref false kinds.now e) held.new (kind_is.Stack o) offset size b q (seen cells.old.items) (seen cells.new.items))) }
 {
     are_whole(held, kinds);
     match slot_at(base, offset, size) {
@@ -220,7 +227,8 @@ fn to_window(
 ) -> Result<(), AllocError>
     requires inside { at + bytes_in size ≤ 256 }
     requires source { IsThere (length (seen cells.old.items)) n q }
-    ensures { OnOk result ((bytes : List ℕ) × (held.new ≡ record held.old { window = patched held.old.window at bytes }) × MakesBytes (seen cells.old.items) (seen cells.new.items) (bytes_in size) bytes (λ v. little_bytes (bytes_in size) (number_of v n q))) }
+    ensures makes { OnOk result ((bytes : List ℕ) × (held.new ≡ record held.old { window = patched held.old.window at bytes }) × MakesBytes (seen cells.old.items) (seen cells.new.items) (bytes_in size) bytes (λ v. little_bytes (bytes_in size) (number_of v n q))) }
+    ensures rises { OnOk result ((bytes : List ℕ) × (held.new ≡ record held.old { window = patched held.old.window at bytes }) × (length bytes ≡ bytes_in size) × RiseAll (seen cells.old.items) (seen cells.new.items) bytes (λ row. number_row row n q)) }
 {
     let c = number_cell(cells, n, q)?;
     let bytes = spread(cells, c, bytes_in(size) as u32)?;
@@ -240,7 +248,8 @@ fn to_packet(
     q: u32,
 ) -> Result<(), AllocError>
     requires source { HasNumber (length (seen cells.old.items)) b q }
-    ensures { (decls : List MapDecl) (ps : List PointerView) (node : ℕ) (is_ref : Bool) (t : Machine → Value) → AreInside decls (length (seen cells.old.items)) ps held.old kinds.now → IsSource decls ps node kinds.now held.old b q t → IfOk (access.stored decls kinds.now (kind_is.Packet o) offset size b) (λ e. OnOk result (Leaves decls ps node kinds.now held.old held.new (seen cells.old.items) (seen cells.new.items) (changed node is_ref false kinds.now e) (λ m. machine.stored m (is.Packet (pos o)) offset size (t m)))) }
+    ensures leaves { (decls : List MapDecl) (ps : List PointerView) (node : ℕ) (is_ref : Bool) (t : Machine → Value) → AreInside decls (length (seen cells.old.items)) ps held.old kinds.now → IsSource decls ps node kinds.now held.old b q t → IfOk (access.stored decls kinds.now (kind_is.Packet o) offset size b) (λ e. OnOk result (Leaves decls ps node kinds.now held.old held.new (seen cells.old.items) (seen cells.new.items) (changed node is_ref false kinds.now e) (λ m. machine.stored m (is.Packet (pos o)) offset size (t m)))) }
+    ensures rows { (decls : List MapDecl) (ps : List PointerView) (node : ℕ) (is_ref : Bool) → IfOk (access.stored decls kinds.now (kind_is.Packet o) offset size b) (λ e. OnOk result (StoresTo ps kinds.now held.old (changed node is_ref false kinds.now e) held.new (kind_is.Packet o) offset size b q (seen cells.old.items) (seen cells.new.items))) }
 {
     are_whole(held, kinds);
     match packet_at(o, offset, size) {
@@ -266,7 +275,8 @@ fn store(
     requires formed { AreFormed (seen cells.old.items) }
     requires inside { (decls : List MapDecl) × AreInside decls (length (seen cells.old.items)) (pointed pointers.now) held.old kinds.now }
     requires plain { (q o : ℕ) → kind.register kinds.now insn.now.dst ≢ kind_is.Entry q o }
-    ensures { (decls : List MapDecl) (node : ℕ) (is_ref : Bool) → AreInside decls (length (seen cells.old.items)) (pointed pointers.now) held.old kinds.now → IfOk (access.stored decls kinds.now (kind.register kinds.now insn.now.dst) insn.now.offset size (operand kinds.now insn.now src)) (λ e. OnOk result (Leaves decls (pointed pointers.now) node kinds.now held.old held.new (seen cells.old.items) (seen cells.new.items) (changed node is_ref false kinds.now e) (λ m. machine.stored m (register m.registers insn.now.dst) insn.now.offset size (step.operand m.registers insn.now src)))) }
+    ensures leaves { (decls : List MapDecl) (node : ℕ) (is_ref : Bool) → AreInside decls (length (seen cells.old.items)) (pointed pointers.now) held.old kinds.now → IfOk (access.stored decls kinds.now (kind.register kinds.now insn.now.dst) insn.now.offset size (operand kinds.now insn.now src)) (λ e. OnOk result (Leaves decls (pointed pointers.now) node kinds.now held.old held.new (seen cells.old.items) (seen cells.new.items) (changed node is_ref false kinds.now e) (λ m. machine.stored m (register m.registers insn.now.dst) insn.now.offset size (step.operand m.registers insn.now src)))) }
+    ensures rows { (decls : List MapDecl) (node : ℕ) (is_ref : Bool) → IfOk (access.stored decls kinds.now (kind.register kinds.now insn.now.dst) insn.now.offset size (operand kinds.now insn.now src)) (λ e. OnOk result (StoresTo (pointed pointers.now) kinds.now held.old (changed node is_ref false kinds.now e) held.new (kind.register kinds.now insn.now.dst) insn.now.offset size (operand kinds.now insn.now src) (slice_index held.old.registers insn.now.src) (seen cells.old.items) (seen cells.new.items))) }
 {
     let base = kinds.registers[insn.dst as usize];
     let b = operand(kinds, insn, src);
@@ -291,7 +301,8 @@ pub fn carry_store(
     requires formed { AreFormed (seen cells.old.items) }
     requires inside { (decls : List MapDecl) × AreInside decls (length (seen cells.old.items)) (pointed pointers.now) held.old kinds.now }
     requires plain { (q o : ℕ) → kind.register kinds.now insn.now.dst ≢ kind_is.Entry q o }
-    ensures { (decls : List MapDecl) (node : ℕ) (is_ref : Bool) → verdict (effect_of decls kinds.now insn.now) ≡ passed → AreInside decls (length (seen cells.old.items)) (pointed pointers.now) held.old kinds.now → OnOk result (Carries decls (pointed pointers.now) insn.now node is_ref false kinds.now held.old held.new (seen cells.old.items) (seen cells.new.items)) }
+    ensures carries { (decls : List MapDecl) (node : ℕ) (is_ref : Bool) → verdict (effect_of decls kinds.now insn.now) ≡ passed → AreInside decls (length (seen cells.old.items)) (pointed pointers.now) held.old kinds.now → OnOk result (Carries decls (pointed pointers.now) insn.now node is_ref false kinds.now held.old held.new (seen cells.old.items) (seen cells.new.items)) }
+    ensures rows { (decls : List MapDecl) (node : ℕ) (is_ref : Bool) → verdict (effect_of decls kinds.now insn.now) ≡ passed → OnOk result (CarriesTo decls (λ row. held_row row (pointed pointers.now) held.old kinds.now) (pointed pointers.now) insn.now kinds.now held.old (transferred decls kinds.now insn.now node is_ref false) held.new (seen cells.old.items) (seen cells.new.items)) }
 {
     match insn.op {
         Op::StoreImm(size) => store(cells, pointers, held, kinds, insn, size, Src::K),

@@ -20,7 +20,7 @@ use Rattle.cell_core.specs.declared.program.FrameByte.{FrameByte}
 use Rattle.cell_core.specs.Cells.{cell_at, bits_from, bit as bit_of}
 use Rattle.cell_core.specs.Sites.{with_bytes}
 use Rattle.cell_nets.specs.declared.operand.Operand.{Operand}
-use Rattle.cell_nets.specs.declared.operand.Operand.TheVariants.{Known, Net}
+use Rattle.cell_nets.specs.declared.operand.Operand.TheVariants.{Known, Net, Part as Bits}
 use Rattle.cell_nets.specs.Operands.{number_in, IsFit, AreFit, IsAvailable}
 use Rattle.ring_net.specs.declared.names.Counter.TheVariants.{Answered}
 use Rattle.ring_net.specs.declared.names.Wire.TheVariants as wire
@@ -66,10 +66,13 @@ widths_index bits words (suc (suc i)) h = ap (λ (x : ℕ × ℕ). x.0) (get_or-
 pub available : (ins : List (Operand (Name Part))) (a : Operand (Name Part)) → Contains ins a → IsAvailable ins a
 available ins (Known n) c = tt
 available ins (Net n w) c = c
+available ins (Bits n of from w) c = inr (from, w, c)
 
 fits_there : (v : Env (Name Part)) (ins : List (Operand (Name Part))) (a : Operand (Name Part)) → AreFit v ins → IsAvailable ins a → IsFit v a
 fits_there v ins (Known n) fit h = tt
 fits_there v ins (Net n w) fit h = fit (Net n w) h
+fits_there v ins (Bits n of from w) fit (inl h) = fit (Net n of) h
+fits_there v ins (Bits n of from w) fit (inr (at, u, h)) = fit (Bits n of at u) h
 
 less_power : (n a b : ℕ) → n < 2 ^ a → a ≤ b → n < 2 ^ b
 less_power n a b h l = let m : 2 ^ a ≤ 2 ^ b = pow_mono l in omega (arith, h, m)

@@ -13,8 +13,8 @@ use Rattle.block_core.specs.Blocks.{Whole, Among, first_of}
 use Rattle.block_core.specs.Parts.{Goes, ClockOfParts, stored_of}
 use Rattle.block_core.specs.Formed.{name_width, names_scope, IsThere}
 use Rattle.block_core.proofs.LinkedLaws.{linked, starts_as_parts}
-use Rattle.cell_nets.specs.declared.operand.Operand.TheVariants.{Known, Net}
-use Rattle.cell_nets.specs.Operands.{AreFit}
+use Rattle.cell_nets.specs.declared.operand.Operand.TheVariants.{Known, Net, Part as Bits}
+use Rattle.cell_nets.specs.Operands.{HasWidth, AreFit, HasNet}
 use Rattle.ring_net.specs.Control.{first_state, IsSound, StartsSound, StaysSound}
 use Rattle.ring_net.specs.Block.{code}
 use Rattle.frame_net.specs.declared.held.Kept.{Kept}
@@ -35,7 +35,7 @@ use Rattle.shell_net.proofs.Values.{CellLaws}
 use Rattle.shell_net.proofs.Seeing.{IsSeen}
 use Rattle.shell_net.proofs.Placing.{place_fits}
 use Rattle.shell_net.proofs.Stepping.{related_then, shows_then}
-use Rattle.shell_net.proofs.Forming.{from_sources, declared_outside, outside_there, last_place, typed, statements, ordered, linkable, formed, spelled}
+use Rattle.shell_net.proofs.Forming.{from_sources, source_declared, declared_outside, outside_there, last_place, typed, statements, ordered, linkable, formed, spelled}
 use Rattle.shell_net.proofs.Fitting.{AreOfWidths, all_fit, stored_stays, first_stored as first_fits}
 use Rattle.shell_net.proofs.Inputs.{inputs_fit}
 
@@ -59,16 +59,20 @@ kept_some (FrameWord j) = omega arith
 
 module _ (laws : Laws) (l : Layout) (d : Whole Part) (names : List (List ℕ)) (laid : IsLaidOut l) (parts : AreParts l d) where
   -- the nets that show a frame have their widths, where all nets have
-  sources_fit : (v : Env (Name Part)) → AreOfWidths (names_scope d port_list) (IsThere d) v → AreFit v (outside l 0)
-  sources_fit v fit (Known n) c = tt
-  sources_fit v fit (Net n w) c =
-      let e : name_width d port_list n ≡ w = declared_outside l d laid parts 0 (omega arith) (Net n w) c in
+  source_fits : (v : Env (Name Part)) → AreOfWidths (names_scope d port_list) (IsThere d) v → (n : Name Part) (w : ℕ) → HasNet (outside l 0) n w → HasWidth v n w
+  source_fits v fit n w c =
+      let e : name_width d port_list n ≡ w = source_declared l d laid parts n w c in
       let some : 0 < w = elim (from_sources l.kept n w c) [
         | inl x ↦ (let y = x.1 in omega (arith, y))
         | inr r ↦ (let y = r.width ∙ get_or-map kept_width l.kept r.index Ifindex 0 r.within in let z = kept_some (get_or l.kept r.index Ifindex) in omega (arith, y, z))
       ] in
       let f = fit.net n (outside_there l d laid parts 0 (omega arith) n (w, c)) (subst (λ k. 0 < k) (sym e) some) in
       record { width = f.width ∙ e; small = subst (λ k. (v.net n).value < 2 ^ k) (f.width ∙ e) f.fits.small }
+
+  sources_fit : (v : Env (Name Part)) → AreOfWidths (names_scope d port_list) (IsThere d) v → AreFit v (outside l 0)
+  sources_fit v fit (Known n) c = tt
+  sources_fit v fit (Net n w) c = source_fits v fit n w (inl c)
+  sources_fit v fit (Bits n of from w) c = source_fits v fit n of (inr (from, w, c))
 
   -- what is shown, whatever beat is offered
   one_shown : (i : Inputs) (t : Trace) (ss : Part → Stored) → IsInOrder l.build t → IsComputed l.build t → Relates l d t.state ss →

@@ -18,8 +18,8 @@ use Rattle.block_forms.specs.WellFormed.{wire_spelled, IsSpelled}
 use Rattle.cell_core.specs.Rows.{numbers}
 use Rattle.cell_core.specs.Cells.{CellView}
 use Rattle.cell_nets.specs.declared.operand.Operand.{Operand}
-use Rattle.cell_nets.specs.declared.operand.Operand.TheVariants.{Known, Net}
-use Rattle.cell_nets.specs.Operands.{AreDeclared, IsNetOf, IsAvailable}
+use Rattle.cell_nets.specs.declared.operand.Operand.TheVariants.{Known, Net, Part as Bits}
+use Rattle.cell_nets.specs.Operands.{AreDeclared, HasNet, IsNetOf, IsAvailable}
 use Rattle.ring_net.specs.declared.names.Counter.{Counter}
 use Rattle.ring_net.specs.declared.names.Counter.TheVariants.{Given, Answered, Injected, Gathered}
 use Rattle.ring_net.specs.declared.names.Wire.{Wire}
@@ -75,6 +75,7 @@ pub record IsRegisterOf (p : Part) (cells : List CellView) (ks : List ℕ) (n : 
 abbrev FromRegisters : Part → List CellView → List ℕ → Operand (Name Part) → Type 0
 FromRegisters p cells ks (Known n) = Unit {0}
 FromRegisters p cells ks (Net n w) = IsRegisterOf p cells ks n w
+FromRegisters p cells ks (Bits n of from w) = ⊥
 
 -- (of a list of which these are behind others)
 registers_are : (p : Part) (cells : List CellView) (all : List ℕ) (at : ℕ) (ks : List ℕ) → ((i : ℕ) → i < length ks → (at + i < length all) × (get_or all (at + i) 0 ≡ get_or ks i 0)) → AllByRecursion (FromRegisters p cells all) (registers_from p cells at ks)
@@ -97,6 +98,7 @@ pub record IsKeptOf (kept : List Kept) (n : Name Part) (w : ℕ) : Type 0 where
 abbrev FromKept : List Kept → Operand (Name Part) → Type 0
 FromKept kept (Known n) = Unit {0}
 FromKept kept (Net n w) = IsKeptOf kept n w
+FromKept kept (Bits n of from w) = ⊥
 
 kept_are : (all : List Kept) (at : ℕ) (kept : List Kept) → ((i : ℕ) → i < length kept → (at + i < length all) × (get_or (map kept_width all) (at + i) 0 ≡ get_or (map kept_width kept) i 0)) → AllByRecursion (FromKept all) (kept_operands Sources at kept)
 kept_are all at [] h = tt
@@ -112,18 +114,28 @@ from_none : (i : ℕ) → i ≡ 0 + i
 from_none i = omega arith
 
 -- what may be read before the first place, and before a later one
-pub from_sources : (kept : List Kept) (n : Name Part) (w : ℕ) → Contains (Net (length_name Sources) 14 ∷ kept_operands Sources 0 kept) (Net n w) → ((n ≡ length_name Sources) × (w ≡ 14)) ⊎ IsKeptOf kept n w
-from_sources kept n w (zero, lt, e) = inl (same_net e)
+from_kept : (kept : List Kept) (a : Operand (Name Part)) → Contains (kept_operands Sources 0 kept) a → FromKept kept a
+from_kept kept a c =
+    All-contains (FromKept kept) (kept_operands Sources 0 kept) a
+    (All-from_recursion (FromKept kept) (kept_operands Sources 0 kept) (kept_are kept 0 kept (λ i m. (subst (λ j. j < length kept) (from_none i) m, ap (λ j. get_or (map kept_width kept) j 0) (sym (from_none i)))))) c
+
+pub from_sources : (kept : List Kept) (n : Name Part) (w : ℕ) → HasNet (Net (length_name Sources) 14 ∷ kept_operands Sources 0 kept) n w → ((n ≡ length_name Sources) × (w ≡ 14)) ⊎ IsKeptOf kept n w
+from_sources kept n w (inl (zero, lt, e)) = inl (same_net e)
   where
     same_net : {u : ℕ} → Net (length_name Sources) 14 ≡ Net n u → (n ≡ length_name Sources) × (u ≡ 14)
     same_net e = (cc, cc)
-from_sources kept n w (suc k, lt, e) =
-    inr (All-contains (FromKept kept) (kept_operands Sources 0 kept) (Net n w)
-    (All-from_recursion (FromKept kept) (kept_operands Sources 0 kept) (kept_are kept 0 kept (λ i m. (subst (λ j. j < length kept) (from_none i) m, ap (λ j. get_or (map kept_width kept) j 0) (sym (from_none i))))))
-    (k, omega (arith, lt), e))
+from_sources kept n w (inl (suc k, lt, e)) = inr (from_kept kept (Net n w) (k, omega (arith, lt), e))
+from_sources kept n w (inr (from, u, (zero, lt, e))) = cc
+from_sources kept n w (inr (from, u, (suc k, lt, e))) = absurd (from_kept kept (Bits n w from u) (k, omega (arith, lt), e))
 
-from_place : (j : ℕ) (cells : List CellView) (ks : List ℕ) (n : Name Part) (w : ℕ) → Contains (registers_from (Place j) cells 0 ks) (Net n w) → IsRegisterOf (Place j) cells ks n w
-from_place j cells ks n w c = All-contains (FromRegisters (Place j) cells ks) (registers_from (Place j) cells 0 ks) (Net n w) (All-from_recursion (FromRegisters (Place j) cells ks) (registers_from (Place j) cells 0 ks) (registers_are (Place j) cells ks 0 ks (λ i m. (subst (λ k. k < length ks) (from_none i) m, ap (λ k. get_or ks k 0) (sym (from_none i)))))) c
+from_registers : (j : ℕ) (cells : List CellView) (ks : List ℕ) (a : Operand (Name Part)) → Contains (registers_from (Place j) cells 0 ks) a → FromRegisters (Place j) cells ks a
+from_registers j cells ks a c =
+    All-contains (FromRegisters (Place j) cells ks) (registers_from (Place j) cells 0 ks) a
+    (All-from_recursion (FromRegisters (Place j) cells ks) (registers_from (Place j) cells 0 ks) (registers_are (Place j) cells ks 0 ks (λ i m. (subst (λ k. k < length ks) (from_none i) m, ap (λ k. get_or ks k 0) (sym (from_none i)))))) c
+
+from_place : (j : ℕ) (cells : List CellView) (ks : List ℕ) (n : Name Part) (w : ℕ) → HasNet (registers_from (Place j) cells 0 ks) n w → IsRegisterOf (Place j) cells ks n w
+from_place j cells ks n w (inl c) = from_registers j cells ks (Net n w) c
+from_place j cells ks n w (inr (from, u, c)) = absurd (from_registers j cells ks (Bits n w from u) c)
 
 module _ (l : Layout) (d : Whole Part) (laid : IsLaidOut l) (parts : AreParts l d) where
   pub last_place : (k : ℕ) → Among (Place k) d.parts → k ≤ last_of l
@@ -154,18 +166,26 @@ module _ (l : Layout) (d : Whole Part) (laid : IsLaidOut l) (parts : AreParts l 
   place_width : (j : ℕ) → j ≤ last_of l → (k : ℕ) → k < length (l.carried j) → name_width d port_list (name.Register (Place j) k) ≡ width_at (cells_of l) (get_or (l.carried j) k 0)
   place_width j q k lt = ap (λ ws. get_or ws k 0) (parts.places j q).registers ∙ get_or-map (width_at (cells_of l)) (l.carried j) k 0 0 lt
 
-  declared_place : (j : ℕ) → j ≤ last_of l → AreDeclared (names_scope d port_list) (registers_from (Place j) (cells_of l) 0 (l.carried j))
-  declared_place j q (Known n) c = tt
-  declared_place j q (Net n w) c =
+  register_declared : (j : ℕ) → j ≤ last_of l → (n : Name Part) (w : ℕ) → HasNet (registers_from (Place j) (cells_of l) 0 (l.carried j)) n w → name_width d port_list n ≡ w
+  register_declared j q n w c =
       let r = from_place j (cells_of l) (l.carried j) n w c in
       ap (name_width d port_list) r.register ∙ place_width j q r.index r.within ∙ sym r.width
 
-  pub declared_outside : (k : ℕ) → k ≤ last_of l → AreDeclared (names_scope d port_list) (outside l k)
-  declared_outside zero q (Known n) c = tt
-  declared_outside zero q (Net n w) c = elim (from_sources l.kept n w c) [
+  declared_place : (j : ℕ) → j ≤ last_of l → AreDeclared (names_scope d port_list) (registers_from (Place j) (cells_of l) 0 (l.carried j))
+  declared_place j q (Known n) c = tt
+  declared_place j q (Net n w) c = register_declared j q n w (inl c)
+  declared_place j q (Bits n of from w) c = register_declared j q n of (inr (from, w, c))
+
+  pub source_declared : (n : Name Part) (w : ℕ) → HasNet (outside l 0) n w → name_width d port_list n ≡ w
+  source_declared n w c = elim (from_sources l.kept n w c) [
     | inl e ↦ ap (name_width d port_list) e.0 ∙ ap (λ ws. get_or ws 2 0) parts.sources.wires ∙ sym e.1
     | inr r ↦ ap (name_width d port_list) r.net ∙ sources_width r.index r.within ∙ sym r.width
   ]
+
+  pub declared_outside : (k : ℕ) → k ≤ last_of l → AreDeclared (names_scope d port_list) (outside l k)
+  declared_outside zero q (Known n) c = tt
+  declared_outside zero q (Net n w) c = source_declared n w (inl c)
+  declared_outside zero q (Bits n of from w) c = source_declared n of (inr (from, w, c))
   declared_outside (suc j) q a c = declared_place j (omega (arith, q)) a c
 
   -- ---- what the exit reads
@@ -180,9 +200,14 @@ module _ (l : Layout) (d : Whole Part) (laid : IsLaidOut l) (parts : AreParts l 
       (All-map (IsAvailable ins) byte_operand l.answer.bytes.items (λ n dflt lt. let g = laid.bytes n dflt lt in there g.byte.cell _ g.stands))))
       c
 
+  output_net : (n : Name Part) (w : ℕ) → HasNet (output_operands l.answer) n w → HasNet (registers_from (Place (last_of l)) (cells_of l) 0 (l.carried (last_of l))) n w
+  output_net n w (inl c) = inl (output_from (Net n w) c)
+  output_net n w (inr (from, u, c)) = output_from (Bits n w from u) c
+
   declared_output : AreDeclared (names_scope d port_list) (output_operands l.answer)
   declared_output (Known n) c = tt
-  declared_output (Net n w) c = declared_place (last_of l) (omega arith) (Net n w) (output_from (Net n w) c)
+  declared_output (Net n w) c = register_declared (last_of l) (omega arith) n w (output_net n w (inl c))
+  declared_output (Bits n of from w) c = register_declared (last_of l) (omega arith) n of (output_net n of (inr (from, w, c)))
 
   -- ---- each block is well typed
   pub typed : (p : Part) → Among p d.parts → IsTypedBlock d port_list (d.block p)
@@ -251,7 +276,7 @@ module _ (l : Layout) (d : Whole Part) (laid : IsLaidOut l) (parts : AreParts l 
   -- ---- what statements read
   output_there : (n : Name Part) → IsNetOf (output_operands l.answer) n → IsThere d n
   output_there n x =
-      let r = from_place (last_of l) (cells_of l) (l.carried (last_of l)) n x.0 (output_from (Net n x.0) x.1) in
+      let r = from_place (last_of l) (cells_of l) (l.carried (last_of l)) n x.0 (output_net n x.0 x.1) in
       subst (IsThere d) (sym r.register) (has_place l d parts (last_of l) (omega arith))
 
   pub outside_there : (k : ℕ) → k ≤ last_of l → (n : Name Part) → IsNetOf (outside l k) n → IsThere d n

@@ -15,3 +15,11 @@ mod Loads
 mod Stores
 mod Stale
 mod Changes
+mod WordRows
+mod Leaving
+mod Recording
+mod LookupRows
+mod AccessRows
+mod EntryRows
+mod AtomicRows
+mod ChangeRows

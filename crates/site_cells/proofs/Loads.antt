@@ -28,7 +28,7 @@ use Rattle.kind_core.specs.Effects.{effect_of, verdict}
 use Rattle.site_cells.proofs.Allowed.{load_allowed, signed_allowed}
 use Rattle.xdp_machine.specs.Arithmetic.{extended}
 use Rattle.xdp_machine.proofs.ChangeLaws.{some_inj}
-use Rattle.operator_cells.specs.Making.{Makes}
+use Rattle.operator_cells.specs.Making.{GrowsWith, Makes}
 use Rattle.operator_cells.proofs.MakingLaws.{grown_with, grown_none, reads_none}
 use Rattle.site_cells.proofs.Slots.{bound}
 use Rattle.cell_core.specs.declared.operator.Operator.TheVariants.{Answer}
@@ -40,7 +40,7 @@ use Rattle.held_cells.specs.Held.{PointerView, AreInside, pointer_at, key_of}
 use Rattle.held_cells.specs.Steps.{AreRead}
 use Rattle.held_cells.specs.Operating.{Operates}
 use Rattle.site_cells.specs.declared.here.Here.{Here}
-use Rattle.site_cells.specs.Siting.{Accesses, access_site}
+use Rattle.site_cells.specs.Siting.{ReadsNext, IsReadOf, Accesses, access_site}
 use Rattle.site_cells.proofs.Adding.{after_one, read_value, read_later}
 use Rattle.site_cells.proofs.OneSite.{adds_site, fits_map}
 use Rattle.site_cells.proofs.Answered.{inside_among}
@@ -56,11 +56,11 @@ key_is_site decls v maps q d p same decl =
     ap (λ (x : MapDecl). bytes_of x.key (map_list v p.key)) e.0 ∙ ap (λ (n : ℕ). bytes_of n (map_list v p.key)) (sym e.1) ∙ ap (λ (ds : List MapDecl). bytes_of (key_bytes ds q) (map_list v p.key)) same
 
 -- what a load finds is what its cell holds
-pub load_answered : (v : ℕ → ℕ) (maps : MapState) (new : List CellView) (sites sites2 : List SiteView) (here : Here) (old : List CellView) (m : Machine) (q o a c : ℕ) (offset : ℤ) (size : Size) (d : MapDecl) (p : PointerView) (key value : List ℕ)
-    → AreRead maps new sites2 v → Accesses old new sites sites2 here q (act.Load a size) p [] c (8 * bytes_in size) → on (v here.guard) ≡ true → after v maps sites ≡ m.maps → bytes_of (decl_at m.maps q).key (map_list v p.key) ≡ key
+pub load_answered : (v : ℕ → ℕ) (maps : MapState) (new : List CellView) (sites sites2 : List SiteView) (here : Here) (m : Machine) (q o a c : ℕ) (offset : ℤ) (size : Size) (d : MapDecl) (p : PointerView) (key value : List ℕ)
+    → AreRead maps new sites2 v → IsReadOf new c (Answer (length sites)) (p.key ++ (p.found ∷ []) ++ here.pending ∷ []) (8 * bytes_in size) → sites2 ≡ sites ++ access_site here q (act.Load a size) p [] ∷ [] → on (v here.guard) ≡ true → after v maps sites ≡ m.maps → bytes_of (decl_at m.maps q).key (map_list v p.key) ≡ key
     → lookup_of (contents_at m.maps q) key ≡ Some value → All (λ b. b < 256) value → v c ≡ number_at size a value
-load_answered v maps new sites sites2 here old m q o a c offset size d p key value read made guard after_is key_is there bytes =
-    read_value v maps new sites sites2 c (Answer (length sites)) (access_site here q (act.Load a size) p []) _ (8 * bytes_in size) read made.reads refl made.sites_are guard
+load_answered v maps new sites sites2 here m q o a c offset size d p key value read reads sites_are guard after_is key_is there bytes =
+    read_value v maps new sites sites2 c (Answer (length sites)) (access_site here q (act.Load a size) p []) _ (8 * bytes_in size) read reads refl sites_are guard
     ∙ ap (λ (s : MapState). bits_from (loaded a size (lookup_of (contents_at s q) (bytes_of (decl_at s q).key (map_list v p.key)))) 0 (8 * bytes_in size)) after_is
     ∙ ap (λ (k : List ℕ). bits_from (loaded a size (lookup_of (contents_at m.maps q) k)) 0 (8 * bytes_in size)) key_is
     ∙ ap (λ (r : Option (List ℕ)). bits_from (loaded a size r) 0 (8 * bytes_in size)) there
@@ -82,11 +82,11 @@ load_operates decls i here is_ref taken k h old mid new ps sites sites2 size q o
     let p : PointerView = pointer_at ps (slice_index h.registers i.src) in
     let site : SiteView = access_site here q (act.Load a size) p [] in
     let none : ps ≡ ps ++ [] = sym (append-nil ps) in
-    let all : Accesses old new sites sites2 here q (act.Load a size) p [] answer (8 * bytes_in size) =
-    record { grows = grown_with _ _ _ _ made.grows (reads_none _ _ _ makes.grows); reads = read_later _ _ _ _ _ _ _ makes.grows made.reads; sites_are = made.sites_are } in
+    let grows : GrowsWith (ReadsNext sites) old new = grown_with _ _ _ _ made.grows (reads_none _ _ _ makes.grows) in
+    let reads = read_later _ _ _ _ _ _ _ makes.grows made.reads in
     let led = (entry_pointer decls (length old) ps k h i.src q o inside src base).1 in
     let fits = place_fits decls q a (pos o +ℤ i.offset) size placed at in
-    let adds = adds_site decls here old old new sites sites2 site grown_none all.grows made.sites_are refl refl (fits_map decls site fits.0 led.enough tt fits.1)
+    let adds = adds_site decls here old old new sites sites2 site grown_none grows made.sites_are refl refl (fits_map decls site fits.0 led.enough tt fits.1)
     (record { guard = guard_there; key = led.key; operands = All-cons (λ j. j < length old) p.found [] led.found (All-nil (λ j. j < length old)) }) in
     record {
       grows = adds.grows;
@@ -98,7 +98,7 @@ load_operates decls i here is_ref taken k h old mid new ps sites sites2 size q o
       fits = adds.fits;
       below = adds.below;
       inside = rw becomes (assigned_inside decls (length new) ps h k i.dst c (Num Unknown) dst ks hs
-          (subst (λ (xs : List PointerView). AreInside decls (length new) xs h k) (sym none) (inside_among decls (length old) (length new) ps [] h k all.grows.longer inside)) makes.there);
+          (subst (λ (xs : List PointerView). AreInside decls (length new) xs h k) (sym none) (inside_among decls (length old) (length new) ps [] h k grows.longer inside)) makes.there);
       holds = λ packet maps v m n refs run read guard after_is known at_ref e.
           let r = entry_held decls packet v ps here.node k h m i.src q o known src base in
           let key : List ℕ = key_of decls v q p in
@@ -110,7 +110,7 @@ load_operates decls i here is_ref taken k h old mid new ps sites sites2 size q o
           let limit : value_bytes decls q ≡ d.value = ap (λ (ds : List MapDecl). value_bytes ds q) (sym known.decls_are) ∙ decl.2 in
           let same_place : a ≡ l.1 = at l.1 (ap (aligned (pos o +ℤ i.offset) (bytes_in size)) limit ∙ found.at) in
           let keys : bytes_of (decl_at m.maps q).key (map_list v p.key) ≡ key = key_is_site decls v m.maps q d p known.decls_are found.decl in
-          let value = load_answered v maps new sites sites2 here old m q o a answer i.offset size d p key l.2 read all guard after_is keys l.4 (value_bytes_fit m.maps q d key l.2 known.in_range.maps found.decl l.4) in
+          let value = load_answered v maps new sites sites2 here m q o a answer i.offset size d p key l.2 read reads made.sites_are guard after_is keys l.4 (value_bytes_fit m.maps q d key l.2 known.in_range.maps found.decl l.4) in
           let ms : length m.registers ≡ 11 = sym known.stands.registers ∙ ks in
           let leaves = y.2 (number_at size l.1 l.2) l.5 in
           let holds : is.Number (f (number_at size l.1 l.2)) ≡ is.Number (v c) =

@@ -34,10 +34,10 @@ window_there n window a b whole there =
     All-take (λ c. c < n) (b - a) (drop a window) (All-drop (λ c. c < n) a window
     (λ i d l. subst (λ (c : ℕ). c < n) (sym (get_or_default window i d 0 l)) (there i (omega (arith, l, whole)))))
 
-part_at : (xs : List ℕ) (a n j : ℕ) → j < n → get_or (slice_range xs a (a + n)) j 0 ≡ get_or xs (a + j) 0
+pub part_at : (xs : List ℕ) (a n j : ℕ) → j < n → get_or (slice_range xs a (a + n)) j 0 ≡ get_or xs (a + j) 0
 part_at xs a n j h = let e : a + n - a ≡ n = omega arith in get_or-take (a + n - a) (drop a xs) j 0 (omega (arith, e, h)) ∙ get_or-drop a xs j 0
 
-part_long : (xs : List ℕ) (a b : ℕ) → b ≤ length xs → length (slice_range xs a b) ≡ b - a
+pub part_long : (xs : List ℕ) (a b : ℕ) → b ≤ length xs → length (slice_range xs a b) ≡ b - a
 part_long xs a b h = omega (arith, length-take (b - a) (drop a xs), length-drop a xs, h)
 
 -- cells of the window have the bytes of the frame

@@ -14,12 +14,12 @@ use Rattle.kind_core.specs.Edges.{changed}
 use Rattle.held_cells.specs.declared.held.Held.{Held}
 use Rattle.held_cells.specs.Held.{PointerView, Holds, Counts, AreHeld, AreInside}
 
-abbrev stale : ℕ → Kind → Kind
+abbrev pub stale : ℕ → Kind → Kind
 stale q (Maybe p n) = if p == q then Stale else Maybe p n
 stale q (Entry p o) = if p == q then Stale else Entry p o
 stale q x = x
 
-abbrev stale_all : ℕ → Kinds → Kinds
+abbrev pub stale_all : ℕ → Kinds → Kinds
 stale_all q k = record k { registers = map_list (stale q) k.registers; slots = map_list (stale q) k.slots }
 
 pointwise : {f g : Kind → Kind} → ((x : Kind) → f x ≡ g x) → (xs : List Kind) → map_list f xs ≡ map_list g xs
@@ -55,14 +55,14 @@ hash_becomes : (decls : List MapDecl) (q node : ℕ) (is_ref taken : Bool) (k : 
 hash_becomes decls q node is_ref taken k e =
     rw e (stale_kinds _ q (answering (Num Unknown) k) refl (λ n. refl) (λ o. refl) refl (λ o. refl) refl (λ p. refl) (λ p n. refl) (λ p o. refl) refl refl)
 
-becomes : (decls : List MapDecl) (q node : ℕ) (is_ref taken : Bool) (k : Kinds) → changed node is_ref taken k (calls.change_of decls q) ≡ (if is_hash decls q then stale_all q (answering (Num Unknown) k) else answering (Num Unknown) k)
+pub becomes : (decls : List MapDecl) (q node : ℕ) (is_ref taken : Bool) (k : Kinds) → changed node is_ref taken k (calls.change_of decls q) ≡ (if is_hash decls q then stale_all q (answering (Num Unknown) k) else answering (Num Unknown) k)
 becomes decls q node is_ref taken k = by (is_hash decls q) refl
   where
     by : (t : Bool) → is_hash decls q ≡ t → changed node is_ref taken k (calls.change_of decls q) ≡ (if t then stale_all q (answering (Num Unknown) k) else answering (Num Unknown) k)
     by true e = hash_becomes decls q node is_ref taken k e
     by false e = rw e refl
 
-stale_at : (q : ℕ) (xs : List Kind) (r : ℕ) → get_or (map_list (stale q) xs) r Unset ≡ stale q (get_or xs r Unset)
+pub stale_at : (q : ℕ) (xs : List Kind) (r : ℕ) → get_or (map_list (stale q) xs) r Unset ≡ stale q (get_or xs r Unset)
 stale_at q [] r = refl
 stale_at q (x ∷ xs) zero = refl
 stale_at q (x ∷ xs) (suc r) = stale_at q xs r

@@ -1,12 +1,14 @@
 -- What is added for an operation on a map: a site, the cells that read it, and for a lookup a pointer.
-use Rattle.std.specs.Prelude.{ℕ, ◌≡◌, ◌<◌, List, [], ◌∷◌, ◌++◌, length}
+use Rattle.std.specs.Prelude.{ℕ, ◌≡◌, ◌+◌, ◌<◌, List, [], ◌∷◌, ◌++◌, length}
 use Rattle.cell_core.specs.declared.operator.Operator.{Operator}
 use Rattle.cell_core.specs.declared.operator.Operator.TheVariants.{Found, Answer}
 use Rattle.cell_core.specs.declared.site.Act.{Act}
 use Rattle.cell_core.specs.declared.site.Act.TheVariants as act
 use Rattle.cell_core.specs.Cells.{CellView, cell_at}
 use Rattle.cell_core.specs.Sites.{SiteView}
+use Rattle.cell_core.specs.Rows.{greatest}
 use Rattle.operator_cells.specs.Making.{GrowsWith}
+use Rattle.operator_cells.specs.Rising.{Rises}
 use Rattle.held_cells.specs.Held.{PointerView}
 use Rattle.site_cells.specs.declared.here.Here.{Here}
 
@@ -27,6 +29,7 @@ pub record LooksUp (old new : List CellView) (ps qs : List PointerView) (sites s
   pub grows : GrowsWith (ReadsNext sites) old new
   pub found : ℕ
   pub reads : IsReadOf new found (Found (length sites)) (key ++ here.pending ∷ []) 1
+  pub rises : Rises old new found (λ row. greatest row (key ++ here.pending ∷ []) + 1)
   pub number_is : c ≡ length ps
   pub pointers_are : qs ≡ ps ++ (record { found = found; key = key }) ∷ []
   pub sites_are : sites2 ≡ sites ++ lookup_site here map key ∷ []
@@ -39,6 +42,7 @@ access_site here map a p operands = record { node = here.node; map = map; guard 
 pub record Accesses (old new : List CellView) (sites sites2 : List SiteView) (here : Here) (map : ℕ) (a : Act) (pointer : PointerView) (operands : List ℕ) (c width : ℕ) : Type 0 where
   pub grows : GrowsWith (ReadsNext sites) old new
   pub reads : IsReadOf new c (Answer (length sites)) (pointer.key ++ (operands ++ pointer.found ∷ []) ++ here.pending ∷ []) width
+  pub rises : Rises old new c (λ row. greatest row (pointer.key ++ (operands ++ pointer.found ∷ []) ++ here.pending ∷ []) + 1)
   pub sites_are : sites2 ≡ sites ++ access_site here map a pointer operands ∷ []
 
 -- a change by a helper
@@ -51,4 +55,5 @@ pub record Changes (old new : List CellView) (sites sites2 : List SiteView) (her
   pub found : ℕ
   pub finds : IsReadOf new found (Found (length sites)) (key ++ looked ++ here.pending ∷ []) 1
   pub reads : IsReadOf new c (Answer (length sites)) (key ++ looked ++ here.pending ∷ []) 64
+  pub rises : Rises old new c (λ row. greatest row (key ++ looked ++ here.pending ∷ []) + 1)
   pub sites_are : sites2 ≡ sites ++ change_site here map a key operands ∷ []

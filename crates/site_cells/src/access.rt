@@ -1,6 +1,6 @@
 //! Accesses through a pointer to an entry.
 
-ghost use Rattle.std.specs.Prelude.{◌≡◌, ◌<◌, ◌≤◌, ◌++◌, [], ◌∷◌, ℕ, ℤ, pos, ◌+◌, ◌+ℤ◌, Bool, List, length, All, IfOk, IfSome, OnOk};
+ghost use Rattle.std.specs.Prelude.{◌≡◌, ◌<◌, ◌≤◌, ◌++◌, [], ◌∷◌, ℕ, ℤ, pos, ◌+◌, ◌+ℤ◌, Bool, List, length, All, IfOk, IfSome, OnOk, false};
 ghost use Rattle.xdp_maps.specs.declared.decl.MapDecl.{MapDecl};
 ghost use Rattle.xdp_machine.specs.Memory.{bytes_in};
 ghost use Rattle.xdp_machine.specs.Memory as machine;
@@ -9,10 +9,12 @@ ghost use Rattle.kind_core.specs.Tests.{passed};
 ghost use Rattle.kind_core.specs.Kinds as kind;
 ghost use Rattle.kind_core.specs.declared.kind.Kind.TheVariants as kind_is;
 ghost use Rattle.kind_core.specs.Effects.{effect_of, verdict};
+ghost use Rattle.kind_core.specs.Edges.{transferred};
 ghost use Rattle.cell_core.specs.Formed.{AreFormed};
 ghost use Rattle.operator_cells.specs.Making.{seen};
 ghost use Rattle.held_cells.specs.Held.{pointed, pointer_of, AreInside};
 ghost use Rattle.held_cells.specs.Operating.{Operates};
+ghost use Rattle.held_cells.specs.Rows.{OperatesTo};
 ghost use Rattle.site_cells.specs.Sited.{sited};
 ghost use Rattle.site_cells.specs.Siting.{Accesses, access_site};
 
@@ -116,7 +118,8 @@ pub fn operate_load(
     requires pending { here.pending < length (seen cells.old.items) }
     requires guard { here.guard < length (seen cells.old.items) }
     requires inside { AreInside decls.now (length (seen cells.old.items)) (pointed pointers.now) held.old kinds.now }
-    ensures { (is_ref taken : Bool) → verdict (effect_of decls.now kinds.now insn.now) ≡ passed → OnOk result (Operates decls.now insn.now here.node here.guard is_ref taken kinds.now held.old held.new (seen cells.old.items) (seen cells.new.items) (pointed pointers.now) (pointed pointers.now) (sited sites.old.items) (sited sites.new.items)) }
+    ensures operates { (is_ref taken : Bool) → verdict (effect_of decls.now kinds.now insn.now) ≡ passed → OnOk result (Operates decls.now insn.now here.node here.guard is_ref taken kinds.now held.old held.new (seen cells.old.items) (seen cells.new.items) (pointed pointers.now) (pointed pointers.now) (sited sites.old.items) (sited sites.new.items)) }
+    ensures rows { (is_ref : Bool) → verdict (effect_of decls.now kinds.now insn.now) ≡ passed → OnOk result (OperatesTo decls.now insn.now here.pending kinds.now held.old (transferred decls.now kinds.now insn.now here.node is_ref false) held.new (seen cells.old.items) (seen cells.new.items) (pointed pointers.now) (pointed pointers.now) (sited sites.old.items) (sited sites.new.items)) }
 {
     are_whole(held, kinds);
     if let Kind::Entry(map, o) = kinds.registers[insn.src as usize] {
@@ -148,7 +151,8 @@ pub fn operate_load_signed(
     requires pending { here.pending < length (seen cells.old.items) }
     requires guard { here.guard < length (seen cells.old.items) }
     requires inside { AreInside decls.now (length (seen cells.old.items)) (pointed pointers.now) held.old kinds.now }
-    ensures { (is_ref taken : Bool) → verdict (effect_of decls.now kinds.now insn.now) ≡ passed → OnOk result (Operates decls.now insn.now here.node here.guard is_ref taken kinds.now held.old held.new (seen cells.old.items) (seen cells.new.items) (pointed pointers.now) (pointed pointers.now) (sited sites.old.items) (sited sites.new.items)) }
+    ensures operates { (is_ref taken : Bool) → verdict (effect_of decls.now kinds.now insn.now) ≡ passed → OnOk result (Operates decls.now insn.now here.node here.guard is_ref taken kinds.now held.old held.new (seen cells.old.items) (seen cells.new.items) (pointed pointers.now) (pointed pointers.now) (sited sites.old.items) (sited sites.new.items)) }
+    ensures rows { (is_ref : Bool) → verdict (effect_of decls.now kinds.now insn.now) ≡ passed → OnOk result (OperatesTo decls.now insn.now here.pending kinds.now held.old (transferred decls.now kinds.now insn.now here.node is_ref false) held.new (seen cells.old.items) (seen cells.new.items) (pointed pointers.now) (pointed pointers.now) (sited sites.old.items) (sited sites.new.items)) }
 {
     are_whole(held, kinds);
     if let Kind::Entry(map, o) = kinds.registers[insn.src as usize] {
@@ -180,7 +184,8 @@ pub fn operate_store(
     requires values { (q : ℕ) → kind.value_bytes decls.now q ≤ 64 }
     requires guard { here.guard < length (seen cells.old.items) }
     requires inside { AreInside decls.now (length (seen cells.old.items)) (pointed pointers.now) held.now kinds.now }
-    ensures { (is_ref taken : Bool) → verdict (effect_of decls.now kinds.now insn.now) ≡ passed → OnOk result (Operates decls.now insn.now here.node here.guard is_ref taken kinds.now held.now held.now (seen cells.old.items) (seen cells.new.items) (pointed pointers.now) (pointed pointers.now) (sited sites.old.items) (sited sites.new.items)) }
+    ensures operates { (is_ref taken : Bool) → verdict (effect_of decls.now kinds.now insn.now) ≡ passed → OnOk result (Operates decls.now insn.now here.node here.guard is_ref taken kinds.now held.now held.now (seen cells.old.items) (seen cells.new.items) (pointed pointers.now) (pointed pointers.now) (sited sites.old.items) (sited sites.new.items)) }
+    ensures rows { (is_ref : Bool) → verdict (effect_of decls.now kinds.now insn.now) ≡ passed → OnOk result (OperatesTo decls.now insn.now here.pending kinds.now held.now (transferred decls.now kinds.now insn.now here.node is_ref false) held.now (seen cells.old.items) (seen cells.new.items) (pointed pointers.now) (pointed pointers.now) (sited sites.old.items) (sited sites.new.items)) }
 {
     are_whole(held, kinds);
     if let Kind::Entry(map, o) = kinds.registers[insn.dst as usize] {
@@ -211,7 +216,8 @@ pub fn operate_store_imm(
     requires values { (q : ℕ) → kind.value_bytes decls.now q ≤ 64 }
     requires guard { here.guard < length (seen cells.old.items) }
     requires inside { AreInside decls.now (length (seen cells.old.items)) (pointed pointers.now) held.now kinds.now }
-    ensures { (is_ref taken : Bool) → verdict (effect_of decls.now kinds.now insn.now) ≡ passed → OnOk result (Operates decls.now insn.now here.node here.guard is_ref taken kinds.now held.now held.now (seen cells.old.items) (seen cells.new.items) (pointed pointers.now) (pointed pointers.now) (sited sites.old.items) (sited sites.new.items)) }
+    ensures operates { (is_ref taken : Bool) → verdict (effect_of decls.now kinds.now insn.now) ≡ passed → OnOk result (Operates decls.now insn.now here.node here.guard is_ref taken kinds.now held.now held.now (seen cells.old.items) (seen cells.new.items) (pointed pointers.now) (pointed pointers.now) (sited sites.old.items) (sited sites.new.items)) }
+    ensures rows { (is_ref : Bool) → verdict (effect_of decls.now kinds.now insn.now) ≡ passed → OnOk result (OperatesTo decls.now insn.now here.pending kinds.now held.now (transferred decls.now kinds.now insn.now here.node is_ref false) held.now (seen cells.old.items) (seen cells.new.items) (pointed pointers.now) (pointed pointers.now) (sited sites.old.items) (sited sites.new.items)) }
 {
     are_whole(held, kinds);
     if let Kind::Entry(map, o) = kinds.registers[insn.dst as usize] {

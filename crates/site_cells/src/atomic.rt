@@ -1,6 +1,6 @@
 //! Atomic changes of numbers in entries.
 
-ghost use Rattle.std.specs.Prelude.{◌≡◌, ◌<◌, ◌≤◌, ℕ, Bool, List, length, slice_index, OnOk, IfOk};
+ghost use Rattle.std.specs.Prelude.{◌≡◌, ◌<◌, ◌≤◌, [], ◌∷◌, ℕ, Bool, List, length, slice_index, OnOk, IfOk, false};
 ghost use Rattle.std.specs.Int.{w64, cast_unsigned};
 ghost use Rattle.bpf_isa.specs.Spelling.{IsInsn};
 ghost use Rattle.xdp_machine.specs.Atomics.{fetches};
@@ -9,9 +9,14 @@ ghost use Rattle.kind_core.specs.Kinds as kind;
 ghost use Rattle.kind_core.specs.declared.kind.Kind.TheVariants as kind_is;
 ghost use Rattle.kind_core.specs.Access.{compares};
 ghost use Rattle.kind_core.specs.Effects.{effect_of, verdict};
+ghost use Rattle.kind_core.specs.Edges.{transferred};
 ghost use Rattle.operator_cells.specs.Making.{seen};
-ghost use Rattle.held_cells.specs.Held.{pointed, AreInside};
+ghost use Rattle.operator_cells.specs.Rising.{RiseAll};
+ghost use Rattle.place_rows.specs.Spans.{one, spans_row};
+ghost use Rattle.place_rows.specs.Reading.{compared_span};
+ghost use Rattle.held_cells.specs.Held.{PointerView, pointed, AreInside};
 ghost use Rattle.held_cells.specs.Operating.{Operates};
+ghost use Rattle.held_cells.specs.Rows.{held_row, OperatesTo};
 ghost use Rattle.site_cells.specs.Sited.{sited};
 ghost use Rattle.site_cells.specs.Changing.{IsKind, IsAtomic, taken_by, HoldsOperands};
 ghost use Rattle.site_cells.specs.Words.{HasNumber};
@@ -107,7 +112,8 @@ fn operands_of(
     requires src { insn.now.src ≤ 10 }
     requires source { HasNumber (length (seen cells.old.items)) (kind.register kinds.now insn.now.src) (slice_index held.now.registers insn.now.src) }
     requires compared { HasNumber (length (seen cells.old.items)) (kind.register kinds.now 0) (slice_index held.now.registers 0) }
-    ensures { IfOk result (λ o. HoldsOperands kinds.now held.now insn.now (seen cells.old.items) (seen cells.new.items) o.source o.compared) }
+    ensures holds { IfOk result (λ o. HoldsOperands kinds.now held.now insn.now (seen cells.old.items) (seen cells.new.items) o.source o.compared) }
+    ensures rises { (ps : List PointerView) → IfOk result (λ o. RiseAll (seen cells.old.items) (seen cells.new.items) (o.source ∷ o.compared ∷ []) (λ row. spans_row (held_row row ps held.now kinds.now) (one insn.now.src ∷ compared_span insn.now ∷ []))) }
 {
     let from = kinds.registers[insn.src as usize];
     let source = number_in(cells, from, held.registers[insn.src as usize])?;
@@ -138,7 +144,8 @@ pub fn operate_atomic(
     requires pending { here.pending < length (seen cells.old.items) }
     requires guard { here.guard < length (seen cells.old.items) }
     requires inside { AreInside decls.now (length (seen cells.old.items)) (pointed pointers.now) held.old kinds.now }
-    ensures { (is_ref taken : Bool) → verdict (effect_of decls.now kinds.now insn.now) ≡ passed → OnOk result (Operates decls.now insn.now here.node here.guard is_ref taken kinds.now held.old held.new (seen cells.old.items) (seen cells.new.items) (pointed pointers.now) (pointed pointers.now) (sited sites.old.items) (sited sites.new.items)) }
+    ensures operates { (is_ref taken : Bool) → verdict (effect_of decls.now kinds.now insn.now) ≡ passed → OnOk result (Operates decls.now insn.now here.node here.guard is_ref taken kinds.now held.old held.new (seen cells.old.items) (seen cells.new.items) (pointed pointers.now) (pointed pointers.now) (sited sites.old.items) (sited sites.new.items)) }
+    ensures rows { (is_ref : Bool) → verdict (effect_of decls.now kinds.now insn.now) ≡ passed → OnOk result (OperatesTo decls.now insn.now here.pending kinds.now held.old (transferred decls.now kinds.now insn.now here.node is_ref false) held.new (seen cells.old.items) (seen cells.new.items) (pointed pointers.now) (pointed pointers.now) (sited sites.old.items) (sited sites.new.items)) }
 {
     are_whole(held, kinds);
     if let Kind::Entry(map, o) = kinds.registers[insn.dst as usize] {

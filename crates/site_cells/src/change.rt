@@ -1,12 +1,14 @@
 //! Updates and deletes.
 
-ghost use Rattle.std.specs.Prelude.{◌≡◌, ◌<◌, ◌≤◌, ◌++◌, [], ◌∷◌, ℕ, Bool, pos, List, length, All, IfOk, OnOk};
+ghost use Rattle.std.specs.Prelude.{◌≡◌, ◌<◌, ◌≤◌, ◌++◌, [], ◌∷◌, ℕ, Bool, pos, List, length, All, IfOk, OnOk, false};
 ghost use Rattle.kind_core.specs.Tests.{passed};
 ghost use Rattle.kind_core.specs.Kinds as kind;
 ghost use Rattle.kind_core.specs.Effects.{effect_of, verdict};
+ghost use Rattle.kind_core.specs.Edges.{transferred};
 ghost use Rattle.operator_cells.specs.Making.{seen};
 ghost use Rattle.held_cells.specs.Held.{PointerView, AreInside};
 ghost use Rattle.held_cells.specs.Operating.{Operates};
+ghost use Rattle.held_cells.specs.Rows.{OperatesTo};
 ghost use Rattle.site_cells.specs.Sited.{sited};
 ghost use Rattle.site_cells.specs.Siting.{Changes};
 
@@ -74,7 +76,8 @@ pub fn operate_delete(
     requires pending { here.pending < length (seen cells.old.items) }
     requires guard { here.guard < length (seen cells.old.items) }
     requires inside { (ps : List PointerView) × AreInside decls.now (length (seen cells.old.items)) ps held.old kinds.now }
-    ensures { (ps : List PointerView) (is_ref taken : Bool) → verdict (effect_of decls.now kinds.now insn.now) ≡ passed → AreInside decls.now (length (seen cells.old.items)) ps held.old kinds.now → OnOk result (Operates decls.now insn.now here.node here.guard is_ref taken kinds.now held.old held.new (seen cells.old.items) (seen cells.new.items) ps ps (sited sites.old.items) (sited sites.new.items)) }
+    ensures operates { (ps : List PointerView) (is_ref taken : Bool) → verdict (effect_of decls.now kinds.now insn.now) ≡ passed → AreInside decls.now (length (seen cells.old.items)) ps held.old kinds.now → OnOk result (Operates decls.now insn.now here.node here.guard is_ref taken kinds.now held.old held.new (seen cells.old.items) (seen cells.new.items) ps ps (sited sites.old.items) (sited sites.new.items)) }
+    ensures rows { (ps : List PointerView) (is_ref : Bool) → verdict (effect_of decls.now kinds.now insn.now) ≡ passed → AreInside decls.now (length (seen cells.old.items)) ps held.old kinds.now → OnOk result (OperatesTo decls.now insn.now here.pending kinds.now held.old (transferred decls.now kinds.now insn.now here.node is_ref false) held.new (seen cells.old.items) (seen cells.new.items) ps ps (sited sites.old.items) (sited sites.new.items)) }
 {
     are_whole(held, kinds);
     let map = map_in(kinds.registers[1]);
@@ -116,7 +119,8 @@ pub fn operate_update(
     requires pending { here.pending < length (seen cells.old.items) }
     requires guard { here.guard < length (seen cells.old.items) }
     requires inside { (ps : List PointerView) × AreInside decls.now (length (seen cells.old.items)) ps held.old kinds.now }
-    ensures { (ps : List PointerView) (is_ref taken : Bool) → verdict (effect_of decls.now kinds.now insn.now) ≡ passed → AreInside decls.now (length (seen cells.old.items)) ps held.old kinds.now → OnOk result (Operates decls.now insn.now here.node here.guard is_ref taken kinds.now held.old held.new (seen cells.old.items) (seen cells.new.items) ps ps (sited sites.old.items) (sited sites.new.items)) }
+    ensures operates { (ps : List PointerView) (is_ref taken : Bool) → verdict (effect_of decls.now kinds.now insn.now) ≡ passed → AreInside decls.now (length (seen cells.old.items)) ps held.old kinds.now → OnOk result (Operates decls.now insn.now here.node here.guard is_ref taken kinds.now held.old held.new (seen cells.old.items) (seen cells.new.items) ps ps (sited sites.old.items) (sited sites.new.items)) }
+    ensures rows { (ps : List PointerView) (is_ref : Bool) → verdict (effect_of decls.now kinds.now insn.now) ≡ passed → AreInside decls.now (length (seen cells.old.items)) ps held.old kinds.now → OnOk result (OperatesTo decls.now insn.now here.pending kinds.now held.old (transferred decls.now kinds.now insn.now here.node is_ref false) held.new (seen cells.old.items) (seen cells.new.items) ps ps (sited sites.old.items) (sited sites.new.items)) }
 {
     are_whole(held, kinds);
     let map = map_in(kinds.registers[1]);

@@ -1,10 +1,12 @@
 // Numbers as operands of sites.
 
-ghost use Rattle.std.specs.Prelude.{◌≡◌, ◌<◌, length, IfOk};
+ghost use Rattle.std.specs.Prelude.{◌≡◌, ◌<◌, List, length, IfOk};
 ghost use Rattle.kind_core.specs.declared.number.Number.{Number};
 ghost use Rattle.kind_core.specs.declared.kind.Kind.TheVariants as kind_is;
 ghost use Rattle.operator_cells.specs.Making.{seen, Grows, Makes};
-ghost use Rattle.held_cells.specs.Held.{number_of};
+ghost use Rattle.operator_cells.specs.Rising.{Rises};
+ghost use Rattle.held_cells.specs.Held.{PointerView, number_of};
+ghost use Rattle.held_cells.specs.Rows.{value_row};
 ghost use Rattle.site_cells.specs.Words.{HasNumber};
 
 use cell_core::cell::Cell;
@@ -18,6 +20,7 @@ pub(crate) fn number_in(cells: &mut Vec<Cell>, kind: Kind, held: u32) -> Result<
     requires { HasNumber (length (seen cells.old.items)) kind held }
     ensures made { IfOk result (λ c. Grows (seen cells.old.items) (seen cells.new.items) × (c < length (seen cells.new.items))) }
     ensures number { (n : Number) → kind ≡ kind_is.Num n → IfOk result (λ c. Makes (seen cells.old.items) (seen cells.new.items) c (λ packet v. number_of v n held)) }
+    ensures rises { (ps : List PointerView) → IfOk result (λ c. Rises (seen cells.old.items) (seen cells.new.items) c (λ row. value_row row ps kind held)) }
 {
     match kind {
         Kind::Num(n) => {

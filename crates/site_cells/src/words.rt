@@ -7,8 +7,13 @@ ghost use Rattle.kind_core.specs.declared.kind.Kind.TheVariants as kind_is;
 ghost use Rattle.kind_core.specs.Tests.{passed};
 ghost use Rattle.kind_core.specs.Calls.{region};
 ghost use Rattle.byteorder.specs.Endian.{little_bytes};
+ghost use Rattle.cell_core.specs.Rows.{greatest};
 ghost use Rattle.operator_cells.specs.Making.{seen, Makes};
+ghost use Rattle.operator_cells.specs.Rising.{Rises, RiseAll};
 ghost use Rattle.held_cells.specs.Held.{PointerView, AreInside, IsThere, number_of};
+ghost use Rattle.held_cells.specs.Rows.{number_row, value_row, held_row};
+ghost use Rattle.place_rows.specs.Spans.{slots_of, span_row};
+ghost use Rattle.place_rows.specs.Spans as places;
 ghost use Rattle.site_cells.specs.Words.{JoinsWords, HasNumber, HoldsByte, HoldsBytes, HoldsRegion, MakesWords};
 
 use crate::sizes::are_whole;
@@ -24,7 +29,8 @@ use xdp_state::memory::inside;
 fn join_words(cells: &mut Vec<Cell>, bytes: &[u32]) -> Result<Cells, AllocError>
     requires there { All (λ i. i < length (seen cells.old.items)) bytes.now }
     requires most { length bytes.now ≤ 64 }
-    ensures { IfOk result (λ words. JoinsWords (seen cells.old.items) (seen cells.new.items) bytes.now words.items) }
+    ensures joins { IfOk result (λ words. JoinsWords (seen cells.old.items) (seen cells.new.items) bytes.now words.items) }
+    ensures rises { IfOk result (λ words. RiseAll (seen cells.old.items) (seen cells.new.items) words.items (λ row. greatest row bytes.now)) }
 {
     let mut words = Cells::new(*cells.allocator());
     let count = (bytes.len() + 7) / 8;
@@ -40,7 +46,8 @@ fn join_words(cells: &mut Vec<Cell>, bytes: &[u32]) -> Result<Cells, AllocError>
 fn number_byte(cells: &mut Vec<Cell>, number: Number, held: u32, at: u32) -> Result<u32, AllocError>
     requires there { IsThere (length (seen cells.old.items)) number held }
     requires inside { at < 8 }
-    ensures { IfOk result (λ c. Makes (seen cells.old.items) (seen cells.new.items) c (λ packet v. slice_index (little_bytes 8 (number_of v number held)) at)) }
+    ensures makes { IfOk result (λ c. Makes (seen cells.old.items) (seen cells.new.items) c (λ packet v. slice_index (little_bytes 8 (number_of v number held)) at)) }
+    ensures rises { IfOk result (λ c. Rises (seen cells.old.items) (seen cells.new.items) c (λ row. number_row row number held)) }
 {
     match number {
         Number::Known(n) => {
@@ -58,7 +65,8 @@ fn number_byte(cells: &mut Vec<Cell>, number: Number, held: u32, at: u32) -> Res
 fn slot_byte(cells: &mut Vec<Cell>, kind: Kind, held: u32, at: u32) -> Result<u32, AllocError>
     requires there { HasNumber (length (seen cells.old.items)) kind held }
     requires inside { at < 8 }
-    ensures { IfOk result (λ c. HoldsByte (seen cells.old.items) (seen cells.new.items) kind held at c) }
+    ensures holds { IfOk result (λ c. HoldsByte (seen cells.old.items) (seen cells.new.items) kind held at c) }
+    ensures rises { (ps : List PointerView) → IfOk result (λ c. Rises (seen cells.old.items) (seen cells.new.items) c (λ row. value_row row ps kind held)) }
 {
     match kind {
         Kind::Num(number) => {
@@ -82,7 +90,8 @@ fn stack_bytes(
 ) -> Result<Vec<u32>, AllocError>
     requires inside { (decls : List MapDecl) × (ps : List PointerView) × AreInside decls (length (seen cells.old.items)) ps held.now kinds.now }
     requires within { at + count ≤ 512 }
-    ensures { (decls : List MapDecl) (ps : List PointerView) (node : ℕ) → IfOk result (λ bytes. HoldsBytes decls ps node kinds.now held.now (seen cells.old.items) (seen cells.new.items) at count bytes.items) }
+    ensures holds { (decls : List MapDecl) (ps : List PointerView) (node : ℕ) → IfOk result (λ bytes. HoldsBytes decls ps node kinds.now held.now (seen cells.old.items) (seen cells.new.items) at count bytes.items) }
+    ensures rises { (ps : List PointerView) → IfOk result (λ bytes. RiseAll (seen cells.old.items) (seen cells.new.items) bytes.items (λ row. span_row (held_row row ps held.now kinds.now) (slots_of at count))) }
 {
     are_whole(held, kinds);
     let mut bytes = Vec::new(*cells.allocator());
@@ -111,6 +120,7 @@ fn packet_words(
     requires most { count ≤ 64 }
     ensures made { IfOk result (λ words. MakesWords (seen cells.old.items) (seen cells.new.items) words.items) }
     ensures holds { (decls : List MapDecl) (ps : List PointerView) (node : ℕ) → region kinds.now count (kind_is.Packet at) ≡ passed → IfOk result (λ words. HoldsRegion decls ps node kinds.now held.now (seen cells.old.items) (seen cells.new.items) (kind_is.Packet at) count words.items) }
+    ensures rises { (ps : List PointerView) → IfOk result (λ words. RiseAll (seen cells.old.items) (seen cells.new.items) words.items (λ row. span_row (held_row row ps held.now kinds.now) (places.region (kind_is.Packet at) (pos 0) count))) }
 {
     are_whole(held, kinds);
     let from = at as usize;
@@ -136,6 +146,7 @@ fn stack_start(base: Kind, count: usize) -> Option<usize>
     requires { count ≤ 64 }
     ensures value { (o : ℤ) → base ≡ kind_is.Stack o → result ≡ machine.inside (o +ℤ pos 512) count 512 }
     ensures within { IfSome result (λ a. a + count ≤ 512) }
+    ensures span { IfSome result (λ a. slots_of a count ≡ places.region base (pos 0) count) }
 {
     match base {
         Kind::Stack(o) => stack_place(o, count),
@@ -155,6 +166,7 @@ fn stack_words(
     requires most { count ≤ 64 }
     ensures made { IfOk result (λ words. MakesWords (seen cells.old.items) (seen cells.new.items) words.items) }
     ensures holds { (decls : List MapDecl) (ps : List PointerView) (node : ℕ) (o : ℤ) → base ≡ kind_is.Stack o → region kinds.now count base ≡ passed → IfOk result (λ words. HoldsRegion decls ps node kinds.now held.now (seen cells.old.items) (seen cells.new.items) base count words.items) }
+    ensures rises { (ps : List PointerView) → IfOk result (λ words. RiseAll (seen cells.old.items) (seen cells.new.items) words.items (λ row. span_row (held_row row ps held.now kinds.now) (places.region base (pos 0) count))) }
 {
     are_whole(held, kinds);
     match stack_start(base, count as usize) {
@@ -179,6 +191,7 @@ pub fn region_words(
     requires most { count ≤ 64 }
     ensures made { IfOk result (λ words. MakesWords (seen cells.old.items) (seen cells.new.items) words.items) }
     ensures holds { (decls : List MapDecl) (ps : List PointerView) (node : ℕ) → region kinds.now count base ≡ passed → IfOk result (λ words. HoldsRegion decls ps node kinds.now held.now (seen cells.old.items) (seen cells.new.items) base count words.items) }
+    ensures rises { (ps : List PointerView) → IfOk result (λ words. RiseAll (seen cells.old.items) (seen cells.new.items) words.items (λ row. span_row (held_row row ps held.now kinds.now) (places.region base (pos 0) count))) }
 {
     match base {
         Kind::Packet(at) => {

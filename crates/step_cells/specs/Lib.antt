@@ -1,3 +1,4 @@
 pub mod Leaving
+pub mod Rows
 pub mod Stepping
 pub mod Waiting

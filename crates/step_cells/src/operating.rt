@@ -1,14 +1,18 @@
 // The cells, pointers and sites of an instruction that leads on.
 
-ghost use Rattle.std.specs.Prelude.{ℕ, Bool, ◌≡◌, ◌<◌, ◌≤◌, pos, false, true, length, All, OnOk};
+ghost use Rattle.std.specs.Prelude.{ℕ, Bool, ◌≡◌, ◌<◌, ◌≤◌, pos, false, true, Some, length, slice_index, All, OnOk};
 ghost use Rattle.bpf_isa.specs.Spelling.{IsInsn};
 ghost use Rattle.kind_core.specs.Tests.{passed};
 ghost use Rattle.kind_core.specs.Effects.{effect_of, verdict};
 ghost use Rattle.kind_core.specs.Kinds as kind;
+ghost use Rattle.kind_core.specs.Edges.{transferred};
 ghost use Rattle.cell_core.specs.Formed.{AreFormed};
 ghost use Rattle.operator_cells.specs.Making.{seen};
 ghost use Rattle.held_cells.specs.Held.{pointed, AreInside};
 ghost use Rattle.held_cells.specs.Operating.{Operates};
+ghost use Rattle.held_cells.specs.Rows.{map_used, OperatesTo};
+ghost use Rattle.place_rows.specs.Spans.{map_of};
+ghost use Rattle.step_cells.specs.Rows.{InstructionRows};
 ghost use Rattle.site_cells.specs.Sited.{sited};
 ghost use Rattle.register_cells.specs.Plain as spec;
 ghost use Rattle.node_cells.specs.Carrying.{touches_map};
@@ -30,15 +34,22 @@ use site_cells::lookup::operate_lookup;
 use std::alloc::AllocError;
 use xdp_maps::decl::MapDecl;
 
-// The map of an instruction: that of an entry which it accesses, or R1's at a call.
-fn map_of(kinds: &Kinds, insn: &Insn) -> u32
+// The kind that tells the map of an instruction: of the pointer of an access, or R1's at a call.
+fn kind_used(kinds: &Kinds, insn: &Insn) -> Kind
     requires { IsInsn insn.now }
+    ensures { map_used kinds.now insn.now insn.now.op ≡ map_of result }
 {
-    let kind = match insn.op {
+    match insn.op {
         Op::Load(_) | Op::LoadSigned(_) => kinds.registers[insn.src as usize],
         Op::Call => kinds.registers[1],
         _ => kinds.registers[insn.dst as usize],
-    };
+    }
+}
+
+// The map that a kind speaks of, 0 where it speaks of none.
+fn map_in(kind: Kind) -> u32
+    ensures { (q : ℕ) → map_of kind ≡ Some q → result ≡ q }
+{
     match kind {
         Kind::Entry(map, _) | Kind::MapRef(map) => map,
         _ => 0,
@@ -47,7 +58,8 @@ fn map_of(kinds: &Kinds, insn: &Insn) -> u32
 
 // The cell of the writes of a map before a node. A map that is not declared has none: it is the guard.
 fn pending_of(pending: &[u32], map: u32, guard: u32) -> u32
-    ensures { (n : ℕ) → All (λ c. c < n) pending.now → guard < n → result < n }
+    ensures there { (n : ℕ) → All (λ c. c < n) pending.now → guard < n → result < n }
+    ensures own { map < length pending.now → result ≡ slice_index pending.now map }
 {
     match pending.get(map as usize) {
         Some(cell) => *cell,
@@ -73,6 +85,7 @@ fn operate_call(
     requires keys { (q : ℕ) → kind.key_bytes decls.now q ≤ 64 }
     requires values { (q : ℕ) → kind.value_bytes decls.now q ≤ 64 }
     ensures operates { (is_ref : Bool) → OnOk result (Operates decls.now insn.now here.node here.guard is_ref false kinds.now held.old held.new (seen made.old.cells.items) (seen made.new.cells.items) (pointed made.old.pointers.items) (pointed made.new.pointers.items) (sited made.old.sites.items) (sited made.new.sites.items)) }
+    ensures rows { (is_ref : Bool) → OnOk result (OperatesTo decls.now insn.now here.pending kinds.now held.old (transferred decls.now kinds.now insn.now here.node is_ref false) held.new (seen made.old.cells.items) (seen made.new.cells.items) (pointed made.old.pointers.items) (pointed made.new.pointers.items) (sited made.old.sites.items) (sited made.new.sites.items)) }
     ensures ways { OnOk result (made.new.ways ≡ made.old.ways) }
     ensures exits { OnOk result (made.new.exits ≡ made.old.exits) }
 {
@@ -129,6 +142,7 @@ fn operate_access(
     requires allowed { verdict (effect_of decls.now kinds.now insn.now) ≡ passed }
     requires values { (q : ℕ) → kind.value_bytes decls.now q ≤ 64 }
     ensures operates { (is_ref : Bool) → OnOk result (Operates decls.now insn.now here.node here.guard is_ref false kinds.now held.old held.new (seen made.old.cells.items) (seen made.new.cells.items) (pointed made.old.pointers.items) (pointed made.new.pointers.items) (sited made.old.sites.items) (sited made.new.sites.items)) }
+    ensures rows { (is_ref : Bool) → OnOk result (OperatesTo decls.now insn.now here.pending kinds.now held.old (transferred decls.now kinds.now insn.now here.node is_ref false) held.new (seen made.old.cells.items) (seen made.new.cells.items) (pointed made.old.pointers.items) (pointed made.new.pointers.items) (sited made.old.sites.items) (sited made.new.sites.items)) }
     ensures ways { OnOk result (made.new.ways ≡ made.old.ways) }
     ensures exits { OnOk result (made.new.exits ≡ made.old.exits) }
 {
@@ -176,6 +190,7 @@ pub(crate) fn operate_at(
     requires keys { (q : ℕ) → kind.key_bytes decls.now q ≤ 64 }
     requires values { (q : ℕ) → kind.value_bytes decls.now q ≤ 64 }
     ensures operates { (is_ref : Bool) → OnOk result (Operates decls.now insn.now node guard is_ref false kinds.now held.old held.new (seen made.old.cells.items) (seen made.new.cells.items) (pointed made.old.pointers.items) (pointed made.new.pointers.items) (sited made.old.sites.items) (sited made.new.sites.items)) }
+    ensures rows { (is_ref : Bool) → OnOk result (InstructionRows decls.now kinds.now held.old insn.now (transferred decls.now kinds.now insn.now node is_ref false) held.new pending.now (seen made.old.cells.items) (seen made.new.cells.items) (pointed made.old.pointers.items) (pointed made.new.pointers.items) (sited made.old.sites.items) (sited made.new.sites.items)) }
     ensures ways { OnOk result (made.new.ways ≡ made.old.ways) }
     ensures exits { OnOk result (made.new.exits ≡ made.old.exits) }
 {
@@ -186,7 +201,7 @@ pub(crate) fn operate_at(
     let here = Here {
         node,
         guard,
-        pending: pending_of(pending, map_of(kinds, insn), guard),
+        pending: pending_of(pending, map_in(kind_used(kinds, insn)), guard),
     };
     match insn.op {
         Op::Call => operate_call(made, held, decls, kinds, insn, here),

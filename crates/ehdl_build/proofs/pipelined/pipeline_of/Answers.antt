@@ -1,23 +1,21 @@
-use Rattle.std.proofs.Common.{inl, inr, arith}
+use Rattle.std.proofs.Common.{inl, arith}
 use Rattle.std.proofs.lemmas.List.{length-map}
 use Rattle.net_core.specs.declared.design.Design.{Design}
 use Rattle.net_core.specs.View.{netlist_of}
 use Rattle.cell_core.specs.View.{cell_of, program_of}
 use Rattle.program_graph.specs.Graphs.{graph_of}
-use Rattle.ehdl_build.specs.Pipelines.{GoBeyond, HasNestedProducts, HasNoPipeline}
+use Rattle.ehdl_build.specs.Pipelines.{HasNestedProducts, HasNoPipeline}
 use Rattle.ehdl_build.specs.Steps.{IsSoundPipeline, IsPipelineOf, FailsBecause}
 use Rattle.ehdl_build.proofs.Buildable.{no_sites, for_pipeline}
 use Rattle.ehdl_build.proofs.Lacking.{fails_more, cells_of, lacking}
 use Rattle.ehdl_build.proofs.Outcomes.{err_with, ok_more, err_more}
 use Rattle.ehdl_build.proofs.pipelined.pipeline_of.Goals as goal
 
+pub planned-requires-clause-within : goal.planned-requires-clause-within
+planned-requires-clause-within c = c.in_ok-cells.ensures.stages c.args.counted.now.stages c.requires.counted.stages
+
 pub returns-in_err-plan-clause-none : goal.returns-in_err-plan-clause-none
-returns-in_err-plan-clause-none c =
-    let p = c.args.program.now in
-    let cells = program_of c.in_ok-cells.cells in
-    err_with (FailsBecause (HasNoPipeline p)) c.in_err-plan.field-0.0 c.from_residual-in_err-plan.result c.from_residual-in_err-plan.ensures.1
-    (fails_more (GoBeyond c.args.counted.now.stages.rows cells) (HasNoPipeline p) c.in_err-plan.field-0.0
-    (λ why. lacking p c.args.counted.now c.requires.counted cells c.in_ok-cells.ensures.law c.in_ok-cells.ensures.buildable c.requires.no_maps (inl why)) c.in_err-plan.ensures.beyond)
+returns-in_err-plan-clause-none c = err_with (FailsBecause (HasNoPipeline c.args.program.now)) c.in_err-plan.field-0.0 c.from_residual-in_err-plan.result c.from_residual-in_err-plan.ensures.1 (inl c.in_err-plan.ensures.memory)
 
 pub linked-requires : goal.linked-requires
 linked-requires c =
@@ -51,5 +49,5 @@ returns-clause-none c =
     let cells = program_of c.in_ok-cells.cells in
     err_more (FailsBecause (HasNestedProducts cells)) (FailsBecause (HasNoPipeline p)) c.linked.result
     (λ e. fails_more (HasNestedProducts cells) (HasNoPipeline p) e
-    (λ why. lacking p c.args.counted.now c.requires.counted cells c.in_ok-cells.ensures.law c.in_ok-cells.ensures.buildable c.requires.no_maps (inr why)))
+    (λ why. lacking p c.args.counted.now c.requires.counted cells c.in_ok-cells.ensures.law c.in_ok-cells.ensures.buildable c.requires.no_maps why))
     c.linked.ensures.none

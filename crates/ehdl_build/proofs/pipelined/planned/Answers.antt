@@ -1,9 +1,12 @@
-use Rattle.std.proofs.Common.{◌≡◌, refl, inr}
+use Rattle.std.proofs.Common.{◌≡◌}
 use Rattle.kind_core.specs.declared.why.BuildError.TheVariants.{NoMemory}
 use Rattle.cell_core.specs.View.{program_of}
-use Rattle.ehdl_build.proofs.Beyond.{refused_beyond}
+use Rattle.ehdl_build.proofs.Within.{plan_within, never_refused}
 use Rattle.ehdl_build.proofs.pipelined.planned.Goals as goal
 
-pub returns-in-Err-Refused-clause-beyond : goal.returns-in-Err-Refused-clause-beyond
-returns-in-Err-Refused-clause-beyond c =
-    inr (refl, refused_beyond c.args.stages (program_of c.args.cells.now) c.in-Err-Refused.field-0 c.requires.stages (λ (same : c.in-Err-Refused.field-0 ≡ NoMemory). cc) c.in-Err-Refused.ensures.refused)
+pub unreachable-requires : goal.unreachable-requires
+unreachable-requires c =
+    never_refused c.args.stages (program_of c.args.cells.now) c.in-Err-Refused.field-0 c.requires.stages c.requires.within (λ (same : c.in-Err-Refused.field-0 ≡ NoMemory). cc) c.in-Err-Refused.ensures.refused
+
+pub returns-in-Ok-clause-plan : goal.returns-in-Ok-clause-plan
+returns-in-Ok-clause-plan c = plan_within c.args.stages (program_of c.args.cells.now) c.in-Ok.plan c.requires.within c.in-Ok.ensures.plan

@@ -1,4 +1,6 @@
-use Rattle.std.proofs.Common.{refl}
+use Rattle.std.proofs.Common.{arith, refl}
+use Rattle.operator_cells.proofs.RisingLaws.{rises_none}
+use Rattle.node_cells.proofs.Leaving.{one_leaves}
 use Rattle.node_cells.proofs.Pushing.{on_steps}
 use Rattle.node_cells.proofs.leading.step_on.Goals as goal
 
@@ -9,3 +11,6 @@ returns-clause-steps c =
 
 pub returns-clause-kept : goal.returns-clause-kept
 returns-clause-kept c = (_, c.in_ok-push.ensures.items)
+
+pub returns-clause-rows : goal.returns-clause-rows
+returns-clause-rows c = λ cells. one_leaves _ (rises_none {a = cells} c.args.guard (λ row. row c.args.guard) (λ row. omega arith)) refl c.in_ok-push.ensures.items (λ row. omega arith)

@@ -14,6 +14,7 @@ returns-clause-makes c = added_makes _ _ _ _ c.in_ok-c.ensures (record {
   width = omega arith;
   from = omega arith;
   divisor = λ formed d. let e : false ≡ true = d in absurd cc;
+  later = λ d. let e : false ≡ true = d in absurd cc;
 }) refl
 
 pub returns-clause-new : goal.returns-clause-new

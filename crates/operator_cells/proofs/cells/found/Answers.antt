@@ -12,6 +12,7 @@ returns-clause-grows c = added_grows _ _ _ _ c.args.site c.in_ok-c.ensures (reco
   width = omega arith;
   from = omega arith;
   divisor = λ formed d. absurd (cc);
+  later = λ d. absurd (cc);
 }) refl
 
 pub returns-clause-rises : goal.returns-clause-rises

@@ -12,6 +12,7 @@ returns-clause-makes c = added_makes _ _ _ _ c.in_ok-c.ensures (record {
   width = c.requires.width;
   from = c.requires.from;
   divisor = λ formed d. let e : true ≡ false = sym d ∙ c.requires.undivided in absurd cc;
+  later = λ d. let e : true ≡ false = sym d ∙ c.requires.undivided in absurd cc;
 }) c.requires.plain
 
 pub returns-clause-rises : goal.returns-clause-rises

@@ -12,6 +12,7 @@ returns-clause-grows c = (added_makes _ _ _ _ c.in_ok-c.ensures (record {
   width = omega arith;
   from = omega arith;
   divisor = λ formed d. absurd (cc);
+  later = λ d. absurd (cc);
 }) refl).grows
 
 pub returns-clause-rises : goal.returns-clause-rises

@@ -6,13 +6,13 @@ use Rattle.place_net.specs.SourceNets.{number_width}
 use Rattle.place_net.proofs.SourceLemmas.{gives_bits}
 use Rattle.place_net.proofs.arriving.one_source.Goals as goal
 
-pub bits-requires-clause-operand : goal.bits-requires-clause-operand
-bits-requires-clause-operand g c = (c.in_ok-number.ensures (record { ifindex = 0; time = 0; frame = [] })).operand
+pub cut-requires-clause-operand : goal.cut-requires-clause-operand
+cut-requires-clause-operand g c = (c.in_ok-number.ensures (record { ifindex = 0; time = 0; frame = [] })).operand
 
 pub returns : goal.returns
 returns g c = λ a.
     let s = c.args.sources in
     let list = c.args.kept.now in
     let cell = c.args.cell.now in
-    gives_bits c.args.part (wires_of c.args.wires.now.items) (wires_of c.number.new.wires.items) (wires_of c.bits.new.wires.items) (source_operands s list) (λ v. IsShownIn s list v a) (λ v. number (packet_in a) cell.op [])
+    gives_bits c.args.part (wires_of c.args.wires.now.items) (wires_of c.number.new.wires.items) (wires_of c.cut.new.wires.items) (source_operands s list) (λ v. IsShownIn s list v a) (λ v. number (packet_in a) cell.op [])
     (λ v. bits_from (number (packet_in a) cell.op []) cell.from cell.width) (number_width cell.op) cell.width cell.from c.in_ok-number.number c.in_ok-out.out (c.in_ok-number.ensures a) c.in_ok-out.ensures (λ v h. refl)

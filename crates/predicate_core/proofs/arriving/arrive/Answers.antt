@@ -3,12 +3,16 @@ use Rattle.std.proofs.lemmas.List.{length-map}
 use Rattle.cell_core.specs.View.{cell_of}
 use Rattle.operator_cells.specs.Making.{seen}
 use Rattle.predicate_core.proofs.Arrived.{arrived}
+use Rattle.predicate_core.proofs.OwnGuard.{joined_own}
 use Rattle.predicate_core.proofs.arriving.arrive.Goals as goal
 
 pub own-requires-clause-first : goal.own-requires-clause-first
 unfolding seen
-own-requires-clause-first c = omega (arith, c.len-first.ensures, length-map c.args.cells.now.items cell_of, c.in_ok-here.ensures.guards.grows.longer)
+own-requires-clause-first c = omega (arith, c.len-first.ensures, length-map c.args.cells.now.items cell_of, c.in_ok-here.ensures.joins.guards.grows.longer)
 
-pub returns : goal.returns
+pub returns-clause-arrives : goal.returns-clause-arrives
 unfolding seen
-returns c node ways lead = arrived c.here_is_right.ensures _ node _ _ _ _ _ _ ways _ _ _ _ _ lead c.in_ok-here.ensures (omega (arith, c.len-first.ensures, length-map c.args.cells.now.items cell_of)) c.in_ok-guard.ensures
+returns-clause-arrives c node ways lead = arrived c.here_is_right.ensures _ node _ _ _ _ _ _ ways _ _ _ _ _ lead c.in_ok-here.ensures.joins (omega (arith, c.len-first.ensures, length-map c.args.cells.now.items cell_of)) c.in_ok-guard.ensures.own
+
+pub returns-clause-rows : goal.returns-clause-rows
+returns-clause-rows c = joined_own c.in_ok-here.ensures.rows c.in_ok-guard.ensures.rises

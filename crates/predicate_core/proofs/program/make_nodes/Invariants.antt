@@ -1,6 +1,10 @@
 use Rattle.program_graph.specs.Graphs.{graph_of}
 use Rattle.predicate_core.specs.Progress.{IsReady}
+use Rattle.predicate_core.specs.Stages.{FitSoFar}
 use Rattle.predicate_core.proofs.program.make_nodes.Given as goal
 
 abbrev pub invariant-loop-k : goal.invariant-loop-k
-invariant-loop-k l = IsReady (graph_of l.program l.unfolded) l.k l.progress
+invariant-loop-k l = record {
+  ready : IsReady (graph_of l.program l.unfolded) l.k l.progress;
+  rows : FitSoFar l.program l.unfolded l.k l.progress;
+}

@@ -6,18 +6,24 @@ use Rattle.site_cells.specs.Sited.{sited}
 use Rattle.program_graph.specs.Graphs.{node_view, graph_of}
 use Rattle.predicate_core.specs.Making.{IsSoFar, Answers}
 use Rattle.predicate_core.specs.Progress.{making_of}
+use Rattle.predicate_core.proofs.FirstFits.{all_fit}
 use Rattle.predicate_core.proofs.program.to_cells.Goals as goal
 
 pub returns-clause-law : goal.returns-clause-law
 unfolding seen sited
-returns-clause-law c = (c.wholes_compute.ensures (graph_of c.args.program.now c.args.unfolded.now) c.in_ok-make_nodes.ensures.held (making_of c.make_nodes.new.progress) (seen c.close.new.cells.items) c.in_ok-answer.answer.verdict c.in_ok-answer.answer.target c.in_ok-answer.answer.frame.items
+returns-clause-law c = (c.wholes_compute.ensures (graph_of c.args.program.now c.args.unfolded.now) c.in_ok-make_nodes.ensures.ready.held (making_of c.make_nodes.new.progress) (seen c.close.new.cells.items) c.in_ok-answer.answer.verdict c.in_ok-answer.answer.target c.in_ok-answer.answer.frame.items
     c.decls-maps.ensures.program.legal
-    (subst (λ (n : ℕ). IsSoFar (graph_of c.args.program.now c.args.unfolded.now) n c.in_ok-make_nodes.ensures.held (making_of c.make_nodes.new.progress)) (sym (length-map c.args.unfolded.now.nodes.items node_view)) c.in_ok-make_nodes.ensures.so_far)
+    (subst (λ (n : ℕ). IsSoFar (graph_of c.args.program.now c.args.unfolded.now) n c.in_ok-make_nodes.ensures.ready.held (making_of c.make_nodes.new.progress)) (sym (length-map c.args.unfolded.now.nodes.items node_view)) c.in_ok-make_nodes.ensures.ready.so_far)
     (subst (λ (xs : List Exit). Answers (seen c.make_nodes.new.progress.made.cells.items) (seen c.close.new.cells.items) xs c.in_ok-answer.answer.verdict c.in_ok-answer.answer.target c.in_ok-answer.answer.frame.items) c.deref.ensures.value c.in_ok-answer.ensures)).0
 
 pub returns-clause-buildable : goal.returns-clause-buildable
 unfolding seen sited
-returns-clause-buildable c = (c.wholes_compute.ensures (graph_of c.args.program.now c.args.unfolded.now) c.in_ok-make_nodes.ensures.held (making_of c.make_nodes.new.progress) (seen c.close.new.cells.items) c.in_ok-answer.answer.verdict c.in_ok-answer.answer.target c.in_ok-answer.answer.frame.items
+returns-clause-buildable c = (c.wholes_compute.ensures (graph_of c.args.program.now c.args.unfolded.now) c.in_ok-make_nodes.ensures.ready.held (making_of c.make_nodes.new.progress) (seen c.close.new.cells.items) c.in_ok-answer.answer.verdict c.in_ok-answer.answer.target c.in_ok-answer.answer.frame.items
     c.decls-maps.ensures.program.legal
-    (subst (λ (n : ℕ). IsSoFar (graph_of c.args.program.now c.args.unfolded.now) n c.in_ok-make_nodes.ensures.held (making_of c.make_nodes.new.progress)) (sym (length-map c.args.unfolded.now.nodes.items node_view)) c.in_ok-make_nodes.ensures.so_far)
+    (subst (λ (n : ℕ). IsSoFar (graph_of c.args.program.now c.args.unfolded.now) n c.in_ok-make_nodes.ensures.ready.held (making_of c.make_nodes.new.progress)) (sym (length-map c.args.unfolded.now.nodes.items node_view)) c.in_ok-make_nodes.ensures.ready.so_far)
     (subst (λ (xs : List Exit). Answers (seen c.make_nodes.new.progress.made.cells.items) (seen c.close.new.cells.items) xs c.in_ok-answer.answer.verdict c.in_ok-answer.answer.target c.in_ok-answer.answer.frame.items) c.deref.ensures.value c.in_ok-answer.ensures)).1
+
+pub returns-clause-stages : goal.returns-clause-stages
+unfolding seen sited
+returns-clause-stages c s stages row rows = all_fit (λ k j. ⊥) c.args.program.now c.args.unfolded.now c.make_nodes.new.progress (seen c.close.new.cells.items) s row c.in_ok-make_nodes.ensures.rows c.in_ok-make_nodes.ensures.ready.so_far.laid.count
+    (subst (λ (xs : List Exit). Answers (seen c.make_nodes.new.progress.made.cells.items) (seen c.close.new.cells.items) xs c.in_ok-answer.answer.verdict c.in_ok-answer.answer.target c.in_ok-answer.answer.frame.items) c.deref.ensures.value c.in_ok-answer.ensures).grows stages rows

@@ -2,11 +2,11 @@ use Rattle.std.proofs.Common.{◌≡◌, ◌≤◌}
 use Rattle.net_core.specs.declared.tree.Net.{Net}
 use Rattle.net_core.specs.declared.tree.Stmts.{size-Stmts}
 use Rattle.net_core.specs.View.{statements_of}
-use Rattle.product_rules.specs.Products.{statements_flat}
+use Rattle.product_rules.specs.Products.{made_by_product, statements_flat}
 use Rattle.product_rules.proofs.statements.+statement.Given as goal
 
 abbrev pub invariant-statements_flat-loop-left : goal.invariant-statements_flat-loop-left
 invariant-statements_flat-loop-left l = record {
-  same : statements_flat l.marks (statements_of l.left) ≡ statements_flat l.marks (statements_of l.fn.stmts);
+  same : statements_flat (made_by_product l.marks) (statements_of l.left) ≡ statements_flat (made_by_product l.marks) (statements_of l.fn.stmts);
   depth : size-Stmts Net l.left ≤ size-Stmts Net l.fn.stmts;
 }

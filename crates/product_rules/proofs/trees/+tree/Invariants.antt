@@ -2,12 +2,12 @@ use Rattle.std.proofs.Common.{◌≡◌, ◌≤◌, ◌&&◌, ◌||◌}
 use Rattle.net_core.specs.declared.tree.Net.{Net}
 use Rattle.net_core.specs.declared.tree.Parts.{size-Parts}
 use Rattle.net_core.specs.View.{trees_of}
-use Rattle.product_rules.specs.Products.{parts_product, parts_flat}
+use Rattle.product_rules.specs.Products.{made_by_product, parts_product, parts_flat}
 use Rattle.product_rules.proofs.trees.+tree.Given as goal
 
 abbrev pub invariant-in_parts-loop-left : goal.invariant-in_parts-loop-left
 invariant-in_parts-loop-left l = record {
-  product : (l.found.product || parts_product l.marks (trees_of l.left)) ≡ parts_product l.marks (trees_of l.fn.parts);
-  apart : (l.found.apart && parts_flat l.marks (trees_of l.left)) ≡ parts_flat l.marks (trees_of l.fn.parts);
+  product : (l.found.product || parts_product (made_by_product l.marks) (trees_of l.left)) ≡ parts_product (made_by_product l.marks) (trees_of l.fn.parts);
+  apart : (l.found.apart && parts_flat (made_by_product l.marks) (trees_of l.left)) ≡ parts_flat (made_by_product l.marks) (trees_of l.fn.parts);
   depth : size-Parts Net l.left ≤ size-Parts Net l.fn.parts;
 }

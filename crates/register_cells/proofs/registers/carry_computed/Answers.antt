@@ -1,7 +1,13 @@
 use Rattle.register_cells.proofs.Carrying.{carried_by}
+use Rattle.register_cells.proofs.RegisterRows.{carried_to}
 use Rattle.register_cells.proofs.registers.carry_computed.Goals as goal
 
-pub returns : goal.returns
-returns c = λ decls ps node is_ref allowed inside.
+pub returns-clause-carries : goal.returns-clause-carries
+returns-clause-carries c = λ decls ps node is_ref allowed inside.
     carried_by decls ps c.args.insn.now node is_ref c.args.kinds.now c.args.held.now _ _ c.in_ok-c.c c.requires.writes c.requires.insn.dst_register c.are_whole.ensures.registers c.are_whole.ensures.register_cells inside allowed
-    (λ refs. c.in_ok-c.ensures decls ps refs node is_ref inside)
+    (λ refs. c.in_ok-c.ensures.gives decls ps refs node is_ref inside)
+
+pub returns-clause-rows : goal.returns-clause-rows
+returns-clause-rows c = λ decls ps node is_ref allowed.
+    carried_to _ _ decls ps c.args.insn.now node is_ref c.args.kinds.now c.args.held.now c.in_ok-c.c c.requires.writes c.requires.insn.dst_register c.are_whole.ensures.registers c.are_whole.ensures.register_cells allowed
+    (λ after. c.in_ok-c.ensures.rows decls ps is_ref after)

@@ -13,6 +13,7 @@ use Rattle.site_cells.proofs.Adding.{pointed_count, pointer_seen}
 use Rattle.site_cells.proofs.Allowed.{atomic_allowed}
 use Rattle.site_cells.proofs.Changed.{leaves_held, taken_small, takes_old}
 use Rattle.site_cells.proofs.Entries.{entry_pointer}
+use Rattle.site_cells.proofs.AtomicRows.{silent_rows, taken_rows}
 use Rattle.site_cells.proofs.atomic.operate_atomic.Goals as goal
 
 pub bounds-pointers-held : goal.bounds-pointers-held
@@ -21,15 +22,15 @@ bounds-pointers-held c = omega (arith, (entry_pointer c.args.decls.now _ (pointe
 pub access_answer-requires-clause-key : goal.access_answer-requires-clause-key
 access_answer-requires-clause-key c =
     let p = subst (λ (p : PointerView). IsPointer c.args.decls.now (length (seen c.args.cells.now.items)) c.in-Entry.map p) (sym (pointer_seen c.args.pointers.now _ c.index-pointers-held.result (omega (arith, (entry_pointer c.args.decls.now _ (pointed c.args.pointers.now) c.args.kinds.now c.args.held.now c.args.insn.now.dst _ _ c.requires.inside c.requires.insn.dst_register c.in-Entry.is).0, pointed_count c.args.pointers.now (length c.args.pointers.now) refl)) c.index-pointers-held.is)) (entry_pointer c.args.decls.now _ (pointed c.args.pointers.now) c.args.kinds.now c.args.held.now c.args.insn.now.dst _ _ c.requires.inside c.requires.insn.dst_register c.in-Entry.is).1 in
-    λ j d l. omega (arith, p.key j d l, c.in_ok-own.ensures.grows.longer)
+    λ j d l. omega (arith, p.key j d l, c.in_ok-own.ensures.holds.grows.longer)
 
 pub access_answer-requires-clause-found : goal.access_answer-requires-clause-found
 access_answer-requires-clause-found c =
     let p = subst (λ (p : PointerView). IsPointer c.args.decls.now (length (seen c.args.cells.now.items)) c.in-Entry.map p) (sym (pointer_seen c.args.pointers.now _ c.index-pointers-held.result (omega (arith, (entry_pointer c.args.decls.now _ (pointed c.args.pointers.now) c.args.kinds.now c.args.held.now c.args.insn.now.dst _ _ c.requires.inside c.requires.insn.dst_register c.in-Entry.is).0, pointed_count c.args.pointers.now (length c.args.pointers.now) refl)) c.index-pointers-held.is)) (entry_pointer c.args.decls.now _ (pointed c.args.pointers.now) c.args.kinds.now c.args.held.now c.args.insn.now.dst _ _ c.requires.inside c.requires.insn.dst_register c.in-Entry.is).1 in
-    omega (arith, p.found, c.in_ok-own.ensures.grows.longer)
+    omega (arith, p.found, c.in_ok-own.ensures.holds.grows.longer)
 
-pub returns-in_ok-push_access-in-None : goal.returns-in_ok-push_access-in-None
-returns-in_ok-push_access-in-None c = λ is_ref edge allowed.
+pub returns-in_ok-push_access-in-None-clause-operates : goal.returns-in_ok-push_access-in-None-clause-operates
+returns-in_ok-push_access-in-None-clause-operates c = λ is_ref edge allowed.
     let offset = to_z-of_z {w = w16} (record { sfits = c.requires.insn.offset_range.sfits }) in
     leaves_held c.args.decls.now c.args.insn.now c.args.here c.args.kinds.now c.args.held.now _ _ _ (pointed c.args.pointers.now) _ _ c.args.size c.in-Entry.map c.in-Entry.o c.place-at.result _ _ c.atomic_of.result
     (record {
@@ -42,13 +43,13 @@ returns-in_ok-push_access-in-None c = λ is_ref edge allowed.
       inside = c.requires.inside;
       place = λ b e. c.place-at.ensures b (ap (λ (z : ℤ). aligned (pos c.in-Entry.o +ℤ z) (bytes_in c.args.size) (value_bytes c.args.decls.now c.in-Entry.map)) offset ∙ e);
       change = c.atomic_of.ensures;
-      operands = c.in_ok-own.ensures;
+      operands = c.in_ok-own.ensures.holds;
       grows = reads_none _ _ _ grown_none;
       sites_are = c.in_ok-push_access-in-None.ensures ∙ ap (λ (x : PointerView). sited c.args.sites.now.items ++ access_site c.args.here c.in-Entry.map (act.Atomic c.place-at.result c.atomic_of.result) x (c.in_ok-own.own.source ∷ c.in_ok-own.own.compared ∷ []) ∷ []) (pointer_seen c.args.pointers.now _ c.index-pointers-held.result (omega (arith, (entry_pointer c.args.decls.now _ (pointed c.args.pointers.now) c.args.kinds.now c.args.held.now c.args.insn.now.dst _ _ c.requires.inside c.requires.insn.dst_register c.in-Entry.is).0, pointed_count c.args.pointers.now (length c.args.pointers.now) refl)) c.index-pointers-held.is);
     }) is_ref edge (sym c.taken_by.ensures ∙ c.in-None.is) (omega arith)
 
-pub returns-in_ok-c-in-Some : goal.returns-in_ok-c-in-Some
-returns-in_ok-c-in-Some c = λ is_ref edge allowed.
+pub returns-in_ok-c-in-Some-clause-operates : goal.returns-in_ok-c-in-Some-clause-operates
+returns-in_ok-c-in-Some-clause-operates c = λ is_ref edge allowed.
     let offset = to_z-of_z {w = w16} (record { sfits = c.requires.insn.offset_range.sfits }) in
     let reads = subst (λ (x : PointerView). Accesses (seen c.operands_of.new.cells.items) (seen c.access_answer.new.cells.items) (sited c.args.sites.now.items) (sited c.access_answer.new.sites.items) c.args.here c.in-Entry.map (act.Atomic c.place-at.result c.atomic_of.result) x (c.in_ok-own.own.source ∷ c.in_ok-own.own.compared ∷ []) c.in_ok-c-in-Some.c (8 * c.bytes_in.result)) (pointer_seen c.args.pointers.now _ c.index-pointers-held.result (omega (arith, (entry_pointer c.args.decls.now _ (pointed c.args.pointers.now) c.args.kinds.now c.args.held.now c.args.insn.now.dst _ _ c.requires.inside c.requires.insn.dst_register c.in-Entry.is).0, pointed_count c.args.pointers.now (length c.args.pointers.now) refl)) c.index-pointers-held.is) c.in_ok-c-in-Some.ensures in
     takes_old c.args.decls.now c.args.insn.now c.args.here c.args.kinds.now c.args.held.now _ _ _ (pointed c.args.pointers.now) _ _ c.args.size c.in-Entry.map c.in-Entry.o c.place-at.result _ _ c.atomic_of.result
@@ -62,7 +63,18 @@ returns-in_ok-c-in-Some c = λ is_ref edge allowed.
       inside = c.requires.inside;
       place = λ b e. c.place-at.ensures b (ap (λ (z : ℤ). aligned (pos c.in-Entry.o +ℤ z) (bytes_in c.args.size) (value_bytes c.args.decls.now c.in-Entry.map)) offset ∙ e);
       change = c.atomic_of.ensures;
-      operands = c.in_ok-own.ensures;
+      operands = c.in_ok-own.ensures.holds;
       grows = reads.grows;
       sites_are = reads.sites_are;
     }) is_ref edge _ c.in_ok-c-in-Some.c _ (taken_small c.args.insn.now _ c.requires.insn.src_register (sym c.taken_by.ensures ∙ c.in-Some.is)) (sym c.taken_by.ensures ∙ c.in-Some.is) c.are_whole.ensures.registers c.are_whole.ensures.register_cells (ap (λ (n : ℕ). 8 * n) c.bytes_in.ensures.value) reads
+
+pub returns-in_ok-push_access-in-None-clause-rows : goal.returns-in_ok-push_access-in-None-clause-rows
+returns-in_ok-push_access-in-None-clause-rows c = λ is_ref allowed.
+    silent_rows c.args.decls.now c.args.insn.now c.args.here is_ref c.args.kinds.now c.args.held.now _ _ (seen c.operands_of.new.cells.items) (pointed c.args.pointers.now) _ _ c.args.size c.in-Entry.map c.in-Entry.o c.place-at.result _ _ c.atomic_of.result _ c.requires.op c.requires.insn.dst_register c.in-Entry.is
+    (atomic_allowed c.args.decls.now c.args.kinds.now c.args.insn.now c.args.size c.in-Entry.map c.in-Entry.o c.requires.op c.in-Entry.is allowed) (pointer_seen c.args.pointers.now _ c.index-pointers-held.result (omega (arith, (entry_pointer c.args.decls.now _ (pointed c.args.pointers.now) c.args.kinds.now c.args.held.now c.args.insn.now.dst _ _ c.requires.inside c.requires.insn.dst_register c.in-Entry.is).0, pointed_count c.args.pointers.now (length c.args.pointers.now) refl)) c.index-pointers-held.is) c.in_ok-own.ensures.holds (c.in_ok-own.ensures.rises (pointed c.args.pointers.now)) (sym c.taken_by.ensures ∙ c.in-None.is) c.in_ok-push_access-in-None.ensures
+
+pub returns-in_ok-c-in-Some-clause-rows : goal.returns-in_ok-c-in-Some-clause-rows
+returns-in_ok-c-in-Some-clause-rows c = λ is_ref allowed.
+    taken_rows c.args.decls.now c.args.insn.now c.args.here is_ref c.args.kinds.now c.args.held.now _ _ _ (pointed c.args.pointers.now) _ _ c.args.size c.in-Entry.map c.in-Entry.o c.place-at.result _ _ c.atomic_of.result _ c.requires.op c.requires.insn.dst_register c.in-Entry.is
+    (atomic_allowed c.args.decls.now c.args.kinds.now c.args.insn.now c.args.size c.in-Entry.map c.in-Entry.o c.requires.op c.in-Entry.is allowed) (pointer_seen c.args.pointers.now _ c.index-pointers-held.result (omega (arith, (entry_pointer c.args.decls.now _ (pointed c.args.pointers.now) c.args.kinds.now c.args.held.now c.args.insn.now.dst _ _ c.requires.inside c.requires.insn.dst_register c.in-Entry.is).0, pointed_count c.args.pointers.now (length c.args.pointers.now) refl)) c.index-pointers-held.is) c.in_ok-own.ensures.holds (c.in_ok-own.ensures.rises (pointed c.args.pointers.now)) _ c.in_ok-c-in-Some.c _ (taken_small c.args.insn.now _ c.requires.insn.src_register (sym c.taken_by.ensures ∙ c.in-Some.is)) (sym c.taken_by.ensures ∙ c.in-Some.is)
+    c.are_whole.ensures.registers c.are_whole.ensures.register_cells c.in_ok-c-in-Some.ensures

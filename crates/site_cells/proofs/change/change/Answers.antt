@@ -1,7 +1,10 @@
-use Rattle.std.proofs.Common.{◌≡◌, ◌∙◌, ℕ, length, arith, subst}
+use Rattle.std.proofs.Common.{◌≡◌, ◌∙◌, ◌+◌, ◌++◌, ◌∷◌, [], ℕ, List, length, arith, subst}
 use Rattle.cell_core.specs.declared.operator.Operator.TheVariants.{Found, Answer}
 use Rattle.operator_cells.specs.Making.{seen, Adds, GrowsWith}
 use Rattle.operator_cells.proofs.MakingLaws.{grown_with}
+use Rattle.cell_core.specs.Rows.{greatest}
+use Rattle.operator_cells.specs.Rising.{Rises}
+use Rattle.operator_cells.proofs.RisingLaws.{stand_none, stand_more, rises_then}
 use Rattle.site_cells.specs.Sited.{sited}
 use Rattle.site_cells.proofs.Adding.{read_added, read_later, site_same, site_pushed, next_site, inputs_there}
 use Rattle.site_cells.proofs.change.change.Goals as goal
@@ -14,7 +17,11 @@ answer-requires-clause-earlier c =
 pub returns : goal.returns
 returns c =
     let site : c.in-Ok.site ≡ length (sited c.args.sites.now.items) = next_site c.args.sites.now.items c.in-Ok.site (omega (arith, c.in-Ok.ensures, c.len.ensures)) in
+    let ins : List ℕ = c.args.key.now ++ c.args.looked.now ++ c.args.here.pending ∷ [] in
+    let finds = subst (λ (xs : List ℕ). Rises (seen c.args.cells.now.items) (seen c.found.new.cells.items) c.in_ok-_there._there (λ row. greatest row xs + 1)) (c.deref.ensures.value ∙ c.in_ok-ins.ensures) c.in_ok-_there.ensures.rises in
+    let answers = subst (λ (xs : List ℕ). Rises (seen c.found.new.cells.items) (seen c.answer.new.cells.items) c.in_ok-c.c (λ row. greatest row xs + 1)) (c.deref-2.ensures.value ∙ c.in_ok-ins.ensures) c.in_ok-c.ensures.rises in
     record {
+      rises = rises_then (stand_more {last = λ row. greatest row ins + 1} stand_none finds (λ row p. omega arith)) answers (λ row p. omega arith);
       grows = subst (λ (j : ℕ). GrowsWith (λ k s. s ≡ j) (seen c.args.cells.now.items) (seen c.answer.new.cells.items)) site
           (grown_with _ _ _ _ c.in_ok-_there.ensures.grows c.in_ok-c.ensures.grows);
       found = c.in_ok-_there._there;

@@ -1,14 +1,21 @@
 use Rattle.std.proofs.Common.{◌∙◌, ◌++◌, ◌∷◌, [], refl, ap, List, ℕ}
 use Rattle.site_cells.proofs.Answered.{inside_among}
 use Rattle.site_cells.proofs.Changes.{update_made}
+use Rattle.site_cells.proofs.ChangeRows.{update_rows}
 use Rattle.site_cells.proofs.change.operate_update.Goals as goal
 
 pub region_words-requires-2-clause-inside : goal.region_words-requires-2-clause-inside
 region_words-requires-2-clause-inside c =
     (c.args.decls.now, c.requires.inside.0 ++ [], inside_among c.args.decls.now _ _ c.requires.inside.0 [] c.args.held.now c.args.kinds.now c.in_ok-key.ensures.made.grows.longer c.requires.inside.1)
 
-pub returns : goal.returns
-returns c = λ ps is_ref taken allowed inside.
+pub returns-clause-operates : goal.returns-clause-operates
+returns-clause-operates c = λ ps is_ref taken allowed inside.
     update_made c.args.decls.now c.args.insn.now c.args.here is_ref taken c.args.kinds.now c.args.held.now _ _ _ _ _ ps _ _ _ _ _ _ _ _ _ _ _ _ _ _ c.requires.op c.requires.helper allowed c.requires.guard c.are_whole.ensures.register_cells inside
     refl refl c.key_bytes.ensures c.value_bytes.ensures c.map_in-map.ensures c.deref-2.ensures (c.deref-3.ensures.value ∙ c.in_ok-operands.ensures ∙ ap (λ (xs : List ℕ). c.in_ok-flags.flags ∷ xs) c.deref.ensures)
     (c.in_ok-key.ensures.holds c.args.decls.now ps c.args.here.node) (c.in_ok-value.ensures.holds c.args.decls.now ps c.args.here.node) c.in_ok-flags.ensures.number c.in_ok-c.ensures
+
+pub returns-clause-rows : goal.returns-clause-rows
+returns-clause-rows c = λ ps is_ref allowed inside.
+    update_rows c.args.decls.now c.args.insn.now c.args.here is_ref c.args.kinds.now c.args.held.now _ _ _ _ _ ps _ _ _ _ _ _ _ _ _ _ _ _ _ _ c.requires.op c.requires.helper allowed c.are_whole.ensures.register_cells inside
+    refl refl c.key_bytes.ensures c.value_bytes.ensures c.map_in-map.ensures c.deref-2.ensures refl (c.deref-3.ensures.value ∙ c.in_ok-operands.ensures ∙ ap (λ (xs : List ℕ). c.in_ok-flags.flags ∷ xs) c.deref.ensures)
+    (c.in_ok-key.ensures.rises ps) (c.in_ok-value.ensures.rises ps) (c.in_ok-flags.ensures.rises ps) c.in_ok-c.ensures

@@ -1,15 +1,23 @@
-use Rattle.std.proofs.Common.{sym, subst, refl, slice_index}
+use Rattle.std.proofs.Common.{arith, sym, subst, refl, slice_index}
 use Rattle.byteorder.specs.Endian.{little_bytes}
 use Rattle.kind_core.specs.declared.number.Number.{Number}
 use Rattle.operator_cells.specs.Making.{seen, Makes}
 use Rattle.held_cells.specs.Held.{number_of}
+use Rattle.operator_cells.proofs.RisingLaws.{rises_by}
 use Rattle.site_cells.proofs.Slots.{byte_unknown, byte_known}
+use Rattle.site_cells.proofs.WordRows.{unknown_row}
 use Rattle.site_cells.proofs.words.number_byte.Goals as goal
 
-pub returns-in_ok-c-in-Known : goal.returns-in_ok-c-in-Known
-returns-in_ok-c-in-Known c = subst (λ (x : Number). Makes (seen c.args.cells.now.items) (seen c.constant.new.cells.items) c.in_ok-c-in-Known.c (λ packet v. slice_index (little_bytes 8 (number_of v x c.args.held)) c.args.at)) (sym c.in-Known.is)
+pub returns-in_ok-c-in-Known-clause-makes : goal.returns-in_ok-c-in-Known-clause-makes
+returns-in_ok-c-in-Known-clause-makes c = subst (λ (x : Number). Makes (seen c.args.cells.now.items) (seen c.constant.new.cells.items) c.in_ok-c-in-Known.c (λ packet v. slice_index (little_bytes 8 (number_of v x c.args.held)) c.args.at)) (sym c.in-Known.is)
     (byte_known _ _ _ _ _ _ c.requires.inside refl c.in_ok-c-in-Known.ensures.makes)
 
-pub returns-in_ok-c-in-Unknown : goal.returns-in_ok-c-in-Unknown
-returns-in_ok-c-in-Unknown c = subst (λ (x : Number). Makes (seen c.args.cells.now.items) (seen c.slice.new.cells.items) c.in_ok-c-in-Unknown.c (λ packet v. slice_index (little_bytes 8 (number_of v x c.args.held)) c.args.at)) (sym c.in-Unknown.is)
+pub returns-in_ok-c-in-Unknown-clause-makes : goal.returns-in_ok-c-in-Unknown-clause-makes
+returns-in_ok-c-in-Unknown-clause-makes c = subst (λ (x : Number). Makes (seen c.args.cells.now.items) (seen c.slice.new.cells.items) c.in_ok-c-in-Unknown.c (λ packet v. slice_index (little_bytes 8 (number_of v x c.args.held)) c.args.at)) (sym c.in-Unknown.is)
     (byte_unknown _ _ _ _ _ c.requires.inside c.in_ok-c-in-Unknown.ensures.makes)
+
+pub returns-in_ok-c-in-Known-clause-rises : goal.returns-in_ok-c-in-Known-clause-rises
+returns-in_ok-c-in-Known-clause-rises c = rises_by c.in_ok-c-in-Known.ensures.rises (λ row. omega arith)
+
+pub returns-in_ok-c-in-Unknown-clause-rises : goal.returns-in_ok-c-in-Unknown-clause-rises
+returns-in_ok-c-in-Unknown-clause-rises c = rises_by c.in_ok-c-in-Unknown.ensures.rises (λ row. unknown_row row _ _ c.in-Unknown.is)

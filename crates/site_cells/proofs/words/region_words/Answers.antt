@@ -1,8 +1,12 @@
-use Rattle.std.proofs.Common.{◌≡◌, sym, subst}
+use Rattle.std.proofs.Common.{◌≡◌, pos, arith, sym, ap, subst}
 use Rattle.kind_core.specs.declared.kind.Kind.{Kind}
 use Rattle.kind_core.specs.Tests.{passed}
 use Rattle.kind_core.specs.Calls.{region}
 use Rattle.operator_cells.specs.Making.{seen}
+use Rattle.place_rows.specs.Spans.{span_row}
+use Rattle.place_rows.specs.Spans as places
+use Rattle.held_cells.specs.Rows.{held_row}
+use Rattle.held_cells.proofs.RowLaws.{rise_by}
 use Rattle.site_cells.specs.Words.{HoldsRegion}
 use Rattle.site_cells.proofs.words.region_words.Goals as goal
 
@@ -13,3 +17,7 @@ returns-in_ok-words-in-Packet-clause-holds c = λ decls ps node allowed.
 
 pub returns-in_ok-words-in-Stack-clause-holds : goal.returns-in_ok-words-in-Stack-clause-holds
 returns-in_ok-words-in-Stack-clause-holds c = λ decls ps node allowed. c.in_ok-words-in-Stack.ensures.holds decls ps node _ c.in-Stack.is allowed
+
+pub returns-in_ok-words-in-Packet-clause-rises : goal.returns-in_ok-words-in-Packet-clause-rises
+returns-in_ok-words-in-Packet-clause-rises c = λ ps.
+    rise_by (c.in_ok-words-in-Packet.ensures.rises ps) (λ row. omega (arith, ap (λ (k : Kind). span_row (held_row row ps c.args.held.now c.args.kinds.now) (places.region k (pos 0) c.args.count)) c.in-Packet.is))

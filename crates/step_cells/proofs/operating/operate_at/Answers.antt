@@ -3,15 +3,16 @@ use Rattle.operator_cells.specs.Making.{seen}
 use Rattle.held_cells.specs.Held.{pointed}
 use Rattle.site_cells.specs.Sited.{sited}
 use Rattle.step_cells.proofs.Nodes.{plain_operates}
+use Rattle.step_cells.proofs.Behind.{plain_rows, operated_rows}
 use Rattle.step_cells.proofs.operating.operate_at.Goals as goal
 
 pub returns-then-is_plain-clause-operates : goal.returns-then-is_plain-clause-operates
 returns-then-is_plain-clause-operates c = λ is_ref.
     plain_operates c.carry_plain.result c.carries_operate.ensures c.args.decls.now (pointed c.args.made.now.pointers.items) (pointed c.deref.result.now) c.args.insn.now c.args.node c.args.guard is_ref c.args.kinds.now c.args.held.now c.carry_plain.new.held
-    (seen c.args.made.now.cells.items) (seen c.carry_plain.new.cells.items) (sited c.args.made.now.sites.items) (ap pointed c.deref.ensures.value) (sym c.is_plain.ensures ∙ c.if-is_plain.true) c.requires.allowed c.requires.inside (c.carry_plain.ensures c.args.decls.now c.args.node is_ref)
+    (seen c.args.made.now.cells.items) (seen c.carry_plain.new.cells.items) (sited c.args.made.now.sites.items) (ap pointed c.deref.ensures.value) (sym c.is_plain.ensures ∙ c.if-is_plain.true) c.requires.allowed c.requires.inside (c.carry_plain.ensures.carries c.args.decls.now c.args.node is_ref)
 
 pub operate_call-requires-clause-pending : goal.operate_call-requires-clause-pending
-operate_call-requires-clause-pending c = c.pending_of.ensures (length (seen c.args.made.now.cells.items)) c.requires.pending c.requires.guard
+operate_call-requires-clause-pending c = c.pending_of.ensures.there (length (seen c.args.made.now.cells.items)) c.requires.pending c.requires.guard
 
 pub operate_access-requires : goal.operate_access-requires
 operate_access-requires c = record {
@@ -20,8 +21,22 @@ operate_access-requires c = record {
   call = c.in_default.not-Call;
   accesses = sym c.is_plain.ensures ∙ c.if-is_plain.false;
   guard = c.requires.guard;
-  pending = c.pending_of.ensures (length (seen c.args.made.now.cells.items)) c.requires.pending c.requires.guard;
+  pending = c.pending_of.ensures.there (length (seen c.args.made.now.cells.items)) c.requires.pending c.requires.guard;
   inside = c.requires.inside;
   allowed = c.requires.allowed;
   values = c.requires.values;
 }
+
+pub returns-then-is_plain-clause-rows : goal.returns-then-is_plain-clause-rows
+returns-then-is_plain-clause-rows c = λ is_ref.
+    plain_rows c.carry_plain.result c.args.decls.now (pointed c.args.made.now.pointers.items) (pointed c.deref.result.now) c.args.insn.now c.args.node is_ref c.args.kinds.now c.args.held.now c.carry_plain.new.held c.args.pending.now
+    (seen c.args.made.now.cells.items) (seen c.carry_plain.new.cells.items) (sited c.args.made.now.sites.items) (ap pointed c.deref.ensures.value) c.requires.allowed c.requires.inside
+    (c.carry_plain.ensures.carries c.args.decls.now c.args.node is_ref) (c.carry_plain.ensures.rows c.args.decls.now c.args.node is_ref)
+
+pub returns-in-Call-clause-rows : goal.returns-in-Call-clause-rows
+returns-in-Call-clause-rows c = λ is_ref.
+    operated_rows c.operate_call.result _ _ _ _ _ _ c.args.pending.now c.map_in.result c.pending_of.result _ _ _ _ _ _ (c.operate_call.ensures.rows is_ref) (λ q u. c.map_in.ensures q (sym c.kind_used.ensures ∙ u)) c.pending_of.ensures.own
+
+pub returns-in_default-clause-rows : goal.returns-in_default-clause-rows
+returns-in_default-clause-rows c = λ is_ref.
+    operated_rows c.operate_access.result _ _ _ _ _ _ c.args.pending.now c.map_in.result c.pending_of.result _ _ _ _ _ _ (c.operate_access.ensures.rows is_ref) (λ q u. c.map_in.ensures q (sym c.kind_used.ensures ∙ u)) c.pending_of.ensures.own

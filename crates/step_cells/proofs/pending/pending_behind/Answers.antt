@@ -35,4 +35,4 @@ returns c =
     (subst (λ (n : ℕ). AreReaders (seen c.args.cells.now.items) n c.args.first c.in_ok-reading.reading.items) c.in-Ok.ensures.1 read)
     (c.deref-3.ensures.value ∙ c.in_ok-extend_from_slice.ensures.items ∙ ap (λ (xs : List ℕ). xs ++ c.deref-2.result.now) c.in_ok-ins.ensures
     ∙ ap (λ (xs : List ℕ). c.args.before ∷ taken_by (site_of c.index-sites-sites_before.result) ++ xs) c.deref-2.ensures.value)
-    c.in_ok-c.ensures.adds c.in_ok-c.ensures.grows
+    c.in_ok-c.ensures.adds c.in_ok-c.ensures.grows c.in_ok-c.ensures.rises

@@ -6,7 +6,7 @@ use Rattle.step_cells.proofs.pending.readers.Goals.{then-eq+in-Ok+in_ok-push, el
 
 pub loop-i-preserved : goal.loop-i-preserved
 loop-i-preserved c = elim c.if-eq.branch [
-  | then-eq+in-Ok+in_ok-push w ↦ one_more c.args.cells.now c.args.number c.args.first c.loop-i.i w.in-Ok.cell _ _ c.loop-i-test.true (omega (arith, w.in-Ok.ensures)) (ap (λ v. v.items) w.all-is ∙ w.in_ok-push.ensures.items) c.loop-i.invariant
+  | then-eq+in-Ok+in_ok-push w ↦ one_more c.args.cells.now c.args.number c.args.first c.loop-i.i w.in-Ok.cell c.index-cells-i.result _ _ c.loop-i-test.true (omega (arith, w.in-Ok.ensures)) (ap (λ (o : Option ℕ). option_eq (λ a b. a == b) o (Some c.args.number)) (sym c.site.ensures) ∙ sym c.eq.ensures ∙ w.if-eq.true) (ap (λ v. v.items) w.all-is ∙ w.in_ok-push.ensures.items) c.loop-i.invariant
   | else-eq w ↦ none_more c.args.cells.now c.args.number c.args.first c.loop-i.i c.index-cells-i.result _ _ c.loop-i-test.true (ap (λ (o : Option ℕ). option_eq (λ a b. a == b) o (Some c.args.number)) (sym c.site.ensures) ∙ sym c.eq.ensures ∙ w.if-eq.false) (ap (λ v. v.items) w.all-is) c.loop-i.invariant
 ]
 

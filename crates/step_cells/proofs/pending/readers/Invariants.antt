@@ -5,5 +5,6 @@ use Rattle.operator_cells.specs.Making.{seen}
 use Rattle.step_cells.proofs.pending.readers.Given as goal
 
 abbrev pub invariant-loop-i : goal.invariant-loop-i
-invariant-loop-i l = All (λ k. k < length (seen l.cells)) l.all.items
+invariant-loop-i l = (l.first ≤ l.i) × All (λ k. k < length (seen l.cells)) l.all.items
     × ((k : ℕ) → l.first ≤ k → k < l.i → site_in (cell_at (seen l.cells) k).op ≡ Some l.number → Contains l.all.items k)
+    × All (λ k. (l.first ≤ k) × (site_in (cell_at (seen l.cells) k).op ≡ Some l.number)) l.all.items

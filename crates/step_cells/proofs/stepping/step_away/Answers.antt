@@ -2,6 +2,7 @@ use Rattle.std.proofs.Common.{ap, None, Some, refl}
 use Rattle.held_cells.specs.Held.{pointed}
 use Rattle.bpf_isa.specs.declared.operation.Op.TheVariants.{Ja}
 use Rattle.step_cells.proofs.Nodes.{if_ok, jump_brings, away_node}
+use Rattle.step_cells.proofs.Standing.{away_rows}
 use Rattle.step_cells.proofs.stepping.step_away.Goals as goal
 
 pub returns-in-Some-clause-steps : goal.returns-in-Some-clause-steps
@@ -9,3 +10,7 @@ returns-in-Some-clause-steps c = rw c.in-Some.is (if_ok c.step_always.result _ _
 
 pub returns-in-Some-clause-brought : goal.returns-in-Some-clause-brought
 returns-in-Some-clause-brought c = rw c.in-Some.is (if_ok c.step_always.result _ _ (λ done h. jump_brings c.args.decls.now c.args.node c.args.kinds.now c.args.insn.now (Ja c.args.width) c.args.is_ref None (Some c.in-Some.to) _ _ c.requires.op refl h) c.step_always.ensures.brought)
+
+pub returns-in-Some-clause-rows : goal.returns-in-Some-clause-rows
+returns-in-Some-clause-rows c = λ pending.
+    away_rows c.step_always.result _ _ _ c.args.here.now _ _ pending _ _ _ _ _ _ _ _ _ _ (ap pointed c.deref.ensures.value) c.requires.op c.step_always.ensures.grows c.step_always.ensures.rows c.step_always.ensures.brought

@@ -1,0 +1,39 @@
+-- The rows of what is held along the edges of a jump.
+use Rattle.std.proofs.Common.{◌≡◌, ℕ, ◌-◌, ◌≤◌, nat_lt, Bool, true, false, List, refl, ap, arith}
+use Rattle.bpf_isa.specs.declared.operation.Width.{Width}
+use Rattle.bpf_isa.specs.declared.operation.JumpCode.{JumpCode}
+use Rattle.bpf_isa.specs.declared.operation.Src.{Src}
+use Rattle.bpf_isa.specs.declared.operation.Op.TheVariants.{Ja, Jump}
+use Rattle.bpf_isa.specs.declared.instruction.Insn.{Insn}
+use Rattle.xdp_maps.specs.declared.decl.MapDecl.{MapDecl}
+use Rattle.kind_core.specs.declared.kind.Kind.{Kind}
+use Rattle.kind_core.specs.declared.kind.Kinds.{Kinds}
+use Rattle.kind_core.specs.Edges.{transferred}
+use Rattle.held_cells.specs.declared.held.Held.{Held}
+use Rattle.held_cells.specs.Held.{PointerView}
+use Rattle.held_cells.specs.Rows.{value_row, held_row}
+use Rattle.edge_cells.proofs.JumpKindLaws.{Along, same, null, entry, IsEdge, edge_of, single_edge}
+
+-- what a lookup answered has the same cells as an entry, and none as null
+value_along : (row : ℕ → ℕ) (ps : List PointerView) (a b : Kind) (c : ℕ) → Along a b → value_row row ps b c ≤ value_row row ps a c
+value_along row ps a b c (same k) = omega arith
+value_along row ps a b c (null q n) = omega arith
+value_along row ps a b c (entry q n) = omega arith
+
+held_along : (row : ℕ → ℕ) (ps : List PointerView) (h : Held) (k j : Kinds) (place : ℕ) → IsEdge k j → held_row row ps h j place ≤ held_row row ps h k place
+held_along row ps h k j place e = by (nat_lt place 11) refl (nat_lt place 75) refl
+  where
+    by : (a : Bool) → nat_lt place 11 ≡ a → (b : Bool) → nat_lt place 75 ≡ b → held_row row ps h j place ≤ held_row row ps h k place
+    by true f b g = rw f (value_along row ps _ _ _ (e.registers place))
+    by false f true g = rw (f, g) (value_along row ps _ _ _ (e.slots (place - 11)))
+    by false f false g = rw (f, g) (omega arith)
+
+-- Along an edge of a conditional jump nothing that is held stands later.
+pub jump_held_row : (decls : List MapDecl) (row : ℕ → ℕ) (ps : List PointerView) (h : Held) (k : Kinds) (i : Insn) (node : ℕ) (w : Width) (c : JumpCode) (s : Src) (taken : Bool) (place : ℕ) → i.op ≡ Jump w c s
+    → held_row row ps h (transferred decls k i node false taken) place ≤ held_row row ps h k place
+jump_held_row decls row ps h k i node w c s taken place is = held_along row ps h k (transferred decls k i node false taken) place (edge_of decls k i node w c s taken is)
+
+-- Along the edge of a jump without a condition all stands where it stood.
+pub single_held_row : (decls : List MapDecl) (row : ℕ → ℕ) (ps : List PointerView) (h : Held) (k : Kinds) (i : Insn) (node : ℕ) (w : Width) (taken : Bool) (place : ℕ) → i.op ≡ Ja w
+    → held_row row ps h (transferred decls k i node false taken) place ≡ held_row row ps h k place
+single_held_row decls row ps h k i node w taken place is = ap (λ (j : Kinds). held_row row ps h j place) (single_edge decls k i node w taken is)

@@ -1,0 +1,132 @@
+-- With the edge with which a run begins alone all rows are 0; and what follows once all nodes are done.
+use Rattle.std.proofs.Common.{◌≡◌, ◌∙◌, ℕ, zero, suc, ◌+◌, ◌-◌, ◌<◌, ◌≤◌, ◌⊎◌, inl, inr, nat_lt, Bool, true, false, if◌then◌else◌, Some, None, List, [], ◌∷◌, length, get_or, refl, sym, ap, arith, subst}
+use Rattle.std.specs.Prelude.{slice_index}
+use Rattle.std.proofs.lemmas.Bool.{cases_lt, lt-ltb, le-ltb, ltb-false}
+use Rattle.std.proofs.lemmas.List.{get_or-replicate}
+use Rattle.xdp_machine.specs.Program.{XdpProgram}
+use Rattle.kind_core.specs.declared.number.Number.TheVariants.{Known}
+use Rattle.kind_core.specs.declared.kind.Kind.TheVariants.{Unset, Num}
+use Rattle.kind_core.specs.declared.kind.Kinds.{Kinds}
+use Rattle.kind_core.specs.Kinds as kinds
+use Rattle.kind_core.specs.Kinds.{first_registers}
+use Rattle.unfold_core.specs.declared.unfolding.Unfolded.{Unfolded}
+use Rattle.cell_core.specs.declared.program.Node.{Node}
+use Rattle.cell_core.specs.Cells.{CellView}
+use Rattle.cell_core.specs.Rows.{AreRows, node_row, last_row}
+use Rattle.operator_cells.specs.Making.{seen, GrowsWith}
+use Rattle.operator_cells.proofs.RisingLaws.{rows_before}
+use Rattle.place_rows.specs.declared.origin.Origin.{Origin}
+use Rattle.place_rows.specs.Spans.{pending_place}
+use Rattle.place_rows.specs.Origins.{is_open, origin_at_start}
+use Rattle.place_rows.proofs.PlaceLaws.{place_at}
+use Rattle.node_rows.specs.declared.stages.Stages.{Stages}
+use Rattle.node_rows.specs.Rows.{HasStages}
+use Rattle.held_cells.specs.declared.way.Way.{Way}
+use Rattle.held_cells.specs.Held.{PointerView, pointed}
+use Rattle.held_cells.specs.Law.{made_at}
+use Rattle.held_cells.specs.Rows.{kind_at, number_at, held_row}
+use Rattle.held_cells.proofs.RowLaws.{byte_row, target_row}
+use Rattle.predicate_core.specs.declared.making.Progress.{Progress}
+use Rattle.predicate_core.specs.Opening.{Opens}
+use Rattle.predicate_core.specs.Progress.{pending_of, AreWaiting}
+use Rattle.predicate_core.specs.Stages.{behind_start, Brings, FitSoFar}
+use Rattle.predicate_core.proofs.Arrivals.{closed}
+
+-- ---- nothing is known by cells at the start
+register_closed : (r : ℕ) → is_open (get_or first_registers r Unset) ≡ false
+register_closed zero = refl
+register_closed (suc zero) = refl
+register_closed (suc (suc zero)) = refl
+register_closed (suc (suc (suc zero))) = refl
+register_closed (suc (suc (suc (suc zero)))) = refl
+register_closed (suc (suc (suc (suc (suc zero))))) = refl
+register_closed (suc (suc (suc (suc (suc (suc zero)))))) = refl
+register_closed (suc (suc (suc (suc (suc (suc (suc zero))))))) = refl
+register_closed (suc (suc (suc (suc (suc (suc (suc (suc zero)))))))) = refl
+register_closed (suc (suc (suc (suc (suc (suc (suc (suc (suc zero))))))))) = refl
+register_closed (suc (suc (suc (suc (suc (suc (suc (suc (suc (suc zero)))))))))) = refl
+register_closed (suc (suc (suc (suc (suc (suc (suc (suc (suc (suc (suc r))))))))))) = refl
+
+start_closed : (place : ℕ) → place < 75 → is_open (kind_at kinds.start place) ≡ false
+start_closed place l = by (nat_lt place 11) refl
+  where
+    by : (b : Bool) → nat_lt place 11 ≡ b → is_open (kind_at kinds.start place) ≡ false
+    by true e = rw e (register_closed place)
+    by false e = rw (e, lt-ltb place 75 l, get_or-replicate 64 (place - 11) (Num (Known 0)) Unset (omega (arith, l, ltb-false place 11 e))) refl
+
+start_maker : (place : ℕ) (o : Origin) → origin_at_start place ≡ Some o → o.maker ≡ 0
+start_maker place o e = by (nat_lt place 75) e
+  where
+    by : (b : Bool) → (if b then None else Some (record { maker = 0; row = 0 })) ≡ Some o → o.maker ≡ 0
+    by true g = cc
+    by false g = cc
+
+name_at : Way → List ℕ → ℕ → ℕ → ℕ
+name_at e waiting maker place = if nat_lt place 332 then number_at e.held place else slice_index waiting (place - 332)
+
+module _ (p : XdpProgram) (u : Unfolded) (cells : List CellView) (ps : List PointerView) (e : Way) (waiting : List ℕ) (maps : ℕ) (few : maps ≤ 16) (opens : Opens [] cells e) (waits : AreWaiting maps (length cells) waiting) where
+  low : (row : ℕ → ℕ) → AreRows cells row → (c : ℕ) → c < length cells → row c ≤ 0
+  low row rows c l = opens.no_row row 0 rows (λ k m. absurd (omega (arith, m))) c l
+
+  held_low : (row : ℕ → ℕ) → AreRows cells row → (place : ℕ) → place < 332 → held_row row ps e.held e.kinds place ≤ 0
+  held_low row rows place l = by (cases_lt place 75) (cases_lt place 331)
+    where
+      by : (place < 75) ⊎ (75 ≤ place) → (place < 331) ⊎ (331 ≤ place) → held_row row ps e.held e.kinds place ≤ 0
+      by (inl m) any = omega (arith, closed row ps (kind_at e.kinds place) (number_at e.held place) (ap (λ (k : Kinds). is_open (kind_at k place)) opens.kinds_are ∙ start_closed place m))
+      by (inr m) (inl n) =
+          let at : 75 + (place - 75) ≡ place = omega (arith, m) in
+          let i : place - 75 < 256 = omega (arith, m, n) in
+          let same = ap (held_row row ps e.held e.kinds) at in
+          let is = byte_row row ps e.held e.kinds (place - 75) i in
+          let x = low row rows (slice_index e.held.window (place - 75)) (opens.bytes.there (place - 75) i) in omega (arith, same, is, x)
+      by (inr m) (inr n) =
+          let at : 331 ≡ place = omega (arith, n, l) in
+          let same = ap (held_row row ps e.held e.kinds) at in
+          let x = low row rows e.held.target opens.target_there in omega (arith, same, target_row row ps e.held e.kinds, x)
+
+  brings_first : Brings p u (name_at e waiting) 0 cells ps e waiting
+  unfolding name_at
+  brings_first = record {
+    behind = behind_start;
+    stands = inl (opens.to_first, refl);
+    names = record {
+      held = λ place o l h. (let z = start_maker place o (sym (place_at origin_at_start place (omega (arith, l))) ∙ h) in omega (arith, z), rw (lt-ltb place 332 l) refl);
+      pending = λ q o l h. (
+        let z = start_maker (pending_place q) o (sym (place_at origin_at_start (pending_place q) (omega (arith, l, waits.0, few))) ∙ h) in omega (arith, z),
+        let same : 332 + q - 332 ≡ q = omega arith in rw (le-ltb (332 + q) 332 (omega arith), same) refl,
+      );
+    };
+    within = λ row rows. record {
+      bit = low row rows e.bit opens.bit_there;
+      held = λ place l. let x = held_low row rows place l in omega (arith, x);
+      pending = λ q l. let x = low row rows (slice_index waiting q) (waits.1 q 0 l) in omega (arith, x);
+    };
+  }
+
+pub fits_first : (p : XdpProgram) (u : Unfolded) (t : Progress) (e : Way) (waiting : List ℕ) (maps : ℕ) → maps ≤ 16 → Opens [] (seen t.made.cells.items) e → AreWaiting maps (length (seen t.made.cells.items)) waiting
+    → t.made.ways.items ≡ e ∷ [] → pending_of t ≡ waiting ∷ [] → FitSoFar p u 0 t
+fits_first p u t e waiting maps few opens waits ways_are pending_are = record {
+  named = name_at e waiting;
+  nodes = λ row rows j l. absurd (omega (arith, l));
+  ways = λ i d l. let first : 0 ≡ i = (let n = ap length ways_are in omega (arith, l, n)) in
+      subst (λ (j : ℕ). Brings p u (name_at e waiting) 0 (seen t.made.cells.items) (pointed t.made.pointers.items) (get_or t.made.ways.items j d) (get_or (pending_of t) j [])) first
+      (subst (λ (w : Way). Brings p u (name_at e waiting) 0 (seen t.made.cells.items) (pointed t.made.pointers.items) w (get_or (pending_of t) 0 [])) (sym (ap (λ (ws : List Way). get_or ws 0 d) ways_are))
+      (subst (λ (r : List ℕ). Brings p u (name_at e waiting) 0 (seen t.made.cells.items) (pointed t.made.pointers.items) e r) (sym (ap (λ (rs : List (List ℕ)). get_or rs 0 []) pending_are))
+      (brings_first p u (seen t.made.cells.items) (pointed t.made.pointers.items) e waiting maps few opens waits)));
+}
+
+-- ---- all nodes
+last_within : (row : ℕ → ℕ) (n : ℕ) (nodes : List Node) → ((j : ℕ) → j < length nodes → node_row row (made_at nodes j) ≤ n) → last_row row nodes ≤ n
+last_within row n [] h = omega arith
+last_within row n (x ∷ nodes) h =
+    let a : node_row row x ≤ n = h 0 (omega arith) in
+    let b : last_row row nodes ≤ n = last_within row n nodes (λ j l. h (suc j) (omega (arith, l))) in
+    omega (arith, a, b)
+
+pub all_fit : (R : ℕ → ℕ → Type 0) (p : XdpProgram) (u : Unfolded) (t : Progress) (cells : List CellView) (s : Stages) (row : ℕ → ℕ) → FitSoFar p u (length u.nodes.items) t → length t.nodes.items ≡ length u.nodes.items → GrowsWith R (seen t.made.cells.items) cells
+    → HasStages p u.nodes.items u.edges.items s → AreRows cells row → last_row row t.nodes.items ≤ s.rows
+all_fit R p u t cells s row fit count grows stages rows = last_within row s.rows t.nodes.items (λ j l.
+    let m : j < length u.nodes.items = omega (arith, l, count) in
+    let a = fit.nodes row (rows_before R (seen t.made.cells.items) cells grows row rows) j m in
+    let b = stages.within j m in
+    omega (arith, a, b))

@@ -1,0 +1,5 @@
+pub mod Renamed
+pub mod ApartLaws
+pub mod FreeLaws
+pub mod AloneLaws
+pub mod CleanLaws

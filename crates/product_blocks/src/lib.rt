@@ -1,0 +1,4 @@
+//! Products in designs that are made of blocks: block by block, none stands inside an operand of another.
+#![tactic(auto)]
+
+pub mod laws;

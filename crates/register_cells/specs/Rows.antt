@@ -1,0 +1,43 @@
+-- In which rows stands what new cells make.
+use Rattle.std.specs.Prelude.{ℕ, ℤ, ◌≤◌, max, if◌then◌else◌, List, [], ◌∷◌}
+use Rattle.std.specs.List.{list_any}
+use Rattle.bpf_isa.specs.declared.operation.Size.{Size}
+use Rattle.bpf_isa.specs.declared.operation.Size.TheVariants.{Dw}
+use Rattle.xdp_machine.specs.Memory.{bytes_in}
+use Rattle.kind_core.specs.declared.kind.Kind.{Kind}
+use Rattle.kind_core.specs.declared.kind.Kinds.{Kinds}
+use Rattle.cell_core.specs.Cells.{CellView}
+use Rattle.cell_core.specs.Rows.{AreRows}
+use Rattle.operator_cells.specs.Rising.{GrowsTo}
+use Rattle.place_rows.specs.declared.span.Span.{Span}
+use Rattle.place_rows.specs.Spans.{no_place, region, span_row}
+use Rattle.place_rows.specs.Origins.{open_row}
+use Rattle.place_rows.specs.Reading.{in_slot}
+use Rattle.place_rows.specs.Writing.{is_open_in}
+use Rattle.held_cells.specs.declared.held.Held.{Held}
+use Rattle.held_cells.specs.Held.{PointerView}
+use Rattle.held_cells.specs.Rows.{value_row, held_row, LeavesTo}
+
+-- More cells, none in a later row than the result, and all in row 0 where the kind has no data; and what number c holds, by this kind, stands in no
+-- later row than the result.
+pub record ValueTo (old new : List CellView) (ps : List PointerView) (x : Kind) (c : ℕ) (result : (ℕ → ℕ) → ℕ) : Type 0 where
+  pub grows : GrowsTo old new (λ row. open_row x (result row))
+  pub value : (row : ℕ → ℕ) → AreRows new row → value_row row ps x c ≤ result row
+
+-- The row of what a store leaves: of what it stores, and of the slot of which it leaves a part.
+abbrev pub left_row : (ℕ → ℕ) → List PointerView → Size → Kind → ℕ → ℕ
+left_row row ps Dw a p = 0
+left_row row ps size a p = value_row row ps a p
+
+abbrev pub stored_row : (ℕ → ℕ) → List PointerView → Held → Kinds → Kind → ℤ → Size → Kind → ℕ → ℕ
+stored_row row ps h k base offset size b q = max (value_row row ps b q) (span_row (held_row row ps h k) (in_slot base offset size))
+
+-- the places that it writes
+abbrev pub stored_in : Kind → ℤ → Size → List Span
+stored_in base offset size = region base offset (bytes_in size) ∷ no_place ∷ []
+
+-- More cells, and what is held behind a store through a pointer.
+abbrev pub StoresTo : List PointerView → Kinds → Held → Kinds → Held → Kind → ℤ → Size → Kind → ℕ → List CellView → List CellView → Type 0
+StoresTo ps k h after next base offset size b q old new =
+    LeavesTo (λ row. held_row row ps h k) ps h after next old new (stored_in base offset size)
+    (λ row. if list_any (is_open_in after) (stored_in base offset size) then stored_row row ps h k base offset size b q else 0) (λ row. stored_row row ps h k base offset size b q)

@@ -1,0 +1,107 @@
+-- In which rows stand the cells of lookups.
+use Rattle.std.proofs.Common.{◌≡◌, ◌≢◌, ◌∙◌, ℕ, zero, suc, ◌+◌, ◌<◌, ◌≤◌, ℤ, pos, if◌then◌else◌, Bool, true, false, Some, List, [], ◌∷◌, ◌++◌, length, drop, get_or, slice_set, refl, sym, ap, subst, arith}
+use Rattle.std.specs.List.{list_any}
+use Rattle.std.specs.Ordering.{int_eq}
+use Rattle.std.proofs.lemmas.List.{get_or-drop}
+use Rattle.bpf_isa.specs.declared.operation.Op.TheVariants.{Call}
+use Rattle.bpf_isa.specs.declared.instruction.Insn.{Insn}
+use Rattle.xdp_maps.specs.declared.decl.MapDecl.{MapDecl}
+use Rattle.xdp_machine.proofs.ChangeLaws.{some_inj}
+use Rattle.kind_core.specs.declared.kind.Kind.{Kind}
+use Rattle.kind_core.specs.declared.kind.Kind.TheVariants.{Unset, MapRef, Maybe}
+use Rattle.kind_core.specs.declared.kind.Kinds.{Kinds}
+use Rattle.kind_core.specs.Kinds.{register, answering, key_bytes}
+use Rattle.kind_core.specs.Tests.{passed}
+use Rattle.kind_core.specs.Effects.{effect_of, verdict}
+use Rattle.kind_core.specs.Edges.{transferred}
+use Rattle.cell_core.specs.Cells.{CellView}
+use Rattle.cell_core.specs.Sites.{SiteView}
+use Rattle.cell_core.specs.Rows.{AreRows, greatest}
+use Rattle.operator_cells.specs.Making.{Grows}
+use Rattle.operator_cells.specs.Rising.{RiseAll}
+use Rattle.operator_cells.proofs.MakingLaws.{grown_with, reads_none}
+use Rattle.operator_cells.proofs.RisingLaws.{greatest_append, stand_none, stand_all, rises_then}
+use Rattle.place_rows.specs.declared.span.Span.{Span}
+use Rattle.place_rows.specs.Spans.{no_place, one, target, region, map_of, pending_of, key_in, span_row, spans_row}
+use Rattle.place_rows.specs.Reading.{key_span, call_reads, result_as, result_row}
+use Rattle.place_rows.specs.Writing.{writes_as, record_as, is_open_in, made_row}
+use Rattle.held_cells.specs.declared.held.Held.{Held}
+use Rattle.held_cells.specs.Held.{PointerView, AreInside, pointer_at}
+use Rattle.held_cells.specs.Rows.{cells_of_pointer, value_row, held_row, map_used, row_before, LeavesTo, OperatesTo}
+use Rattle.held_cells.proofs.RowLaws.{grows_by}
+use Rattle.site_cells.specs.declared.here.Here.{Here}
+use Rattle.site_cells.specs.Siting.{LooksUp, ReadsNext, lookup_site}
+use Rattle.site_cells.proofs.Adding.{last_pointer}
+use Rattle.site_cells.proofs.Allowed.{lookup_allowed}
+use Rattle.site_cells.proofs.Leaving.{span_before, pending_before, Sheds, IsLess, Among, among_more, answer_leaves}
+use Rattle.site_cells.proofs.Recording.{made_result, open_register, no_write}
+
+-- ---- a call on the map in R1
+pub call_used : (k : Kinds) (i : Insn) (q : ℕ) → i.op ≡ Call → register k 1 ≡ MapRef q → map_used k i i.op ≡ Some q
+call_used k i q op one = ap (map_used k i) op ∙ ap map_of one
+
+pub call_writes : (k : Kinds) (i : Insn) (z : ℤ) → i.op ≡ Call → i.imm ≡ z → int_eq z (pos 23) ≡ false → writes_as k i i.op ≡ one 0 ∷ no_place ∷ []
+call_writes k i z op imm other = ap (writes_as k i) op ∙ ap (λ (y : ℤ). one 0 ∷ (if int_eq y (pos 23) then target else no_place) ∷ []) imm ∙ ap (λ t. one 0 ∷ (if t then target else no_place) ∷ []) other
+
+pub call_result : (before : ℕ → ℕ) (decls : List MapDecl) (k after : Kinds) (i : Insn) (z : ℤ) → i.op ≡ Call → i.imm ≡ z → result_row before decls k after i ≡ spans_row before (call_reads decls k z) + 1
+call_result before decls k after i z op imm = ap (result_as before decls k after i) op ∙ ap (λ (y : ℤ). spans_row before (call_reads decls k y) + 1) imm
+
+-- the key that the code reads is that of the call
+pub key_is_span : (decls : List MapDecl) (k : Kinds) (base : Kind) (count map q : ℕ) → base ≡ register k 2 → count ≡ key_bytes decls map → map ≡ q → register k 1 ≡ MapRef q → region base (pos 0) count ≡ key_span decls k
+key_is_span decls k base count map q base_is count_is map_is one =
+    ap (λ (x : Kind). region x (pos 0) count) base_is
+    ∙ ap (region (register k 2) (pos 0)) (count_is ∙ ap (key_bytes decls) map_is ∙ sym (ap (λ (x : Kind). key_in decls (map_of x)) one))
+
+-- what a helper leaves of kinds
+pub answering_sheds : (k : Kinds) (x : Kind) → Sheds k (answering x k) x
+answering_sheds k x = record { answer = refl; registers = by; slots = λ s l row ps c. omega arith }
+  where
+    by : (r : ℕ) → r < 11 → r ≢ 0 → IsLess (register k r) (register (answering x k) r)
+    by zero l other = absurd (other refl)
+    by (suc zero) l other = λ row ps c. omega arith
+    by (suc (suc zero)) l other = λ row ps c. omega arith
+    by (suc (suc (suc zero))) l other = λ row ps c. omega arith
+    by (suc (suc (suc (suc zero)))) l other = λ row ps c. omega arith
+    by (suc (suc (suc (suc (suc zero))))) l other = λ row ps c. omega arith
+    by (suc (suc (suc (suc (suc (suc r)))))) l other =
+        let e : 6 + r ≡ suc (suc (suc (suc (suc (suc r))))) = omega arith in
+        let same : get_or (drop 6 k.registers) r Unset ≡ register k (suc (suc (suc (suc (suc (suc r)))))) = get_or-drop 6 k.registers r Unset ∙ ap (λ (j : ℕ). get_or k.registers j Unset) e in
+        subst (IsLess (register k (suc (suc (suc (suc (suc (suc r)))))))) (sym same) (λ row ps c. omega arith)
+
+pub lookup_rows : (decls : List MapDecl) (i : Insn) (here : Here) (is_ref : Bool) (k : Kinds) (h : Held) (old mid new : List CellView) (ps qs : List PointerView) (sites sites2 : List SiteView) (base : Kind) (count map c : ℕ) (key words : List ℕ)
+    → i.op ≡ Call → i.imm ≡ pos 1 → verdict (effect_of decls k i) ≡ passed → length h.registers ≡ 11 → AreInside decls (length old) ps h k
+    → base ≡ register k 2 → count ≡ key_bytes decls map → ((q : ℕ) → register k 1 ≡ MapRef q → map ≡ q) → key ≡ words
+    → Grows old mid → RiseAll old mid words (λ row. span_row (held_row row ps h k) (region base (pos 0) count)) → LooksUp mid new ps qs sites sites2 here map key c
+    → OperatesTo decls i here.pending k h (transferred decls k i here.node is_ref false) (record h { registers = slice_set h.registers 0 c }) old new ps qs sites sites2
+lookup_rows decls i here is_ref k h old mid new ps qs sites sites2 base count map c key words op imm allowed whole inside base_is count_is map_is key_is before rises looks =
+    let f = lookup_allowed decls k i op imm allowed in
+    let used : map_used k i i.op ≡ Some f.0 = call_used k i f.0 op f.1 in
+    let after : Kinds = transferred decls k i here.node is_ref false in
+    let becomes : after ≡ answering (Maybe f.0 here.node) k = f.4 here.node is_ref false in
+    let b : (ℕ → ℕ) → ℕ → ℕ = λ row. row_before row ps h k (map_used k i i.op) here.pending in
+    let last : (ℕ → ℕ) → ℕ = λ row. result_row (b row) decls k after i in
+    let result : (row : ℕ → ℕ) → last row ≡ spans_row (b row) (call_reads decls k (pos 1)) + 1 = λ row. call_result (b row) decls k after i (pos 1) op imm in
+    let span_is = key_is_span decls k base count map f.0 base_is count_is (map_is f.0 f.1) f.1 in
+    let low : (row : ℕ → ℕ) → span_row (held_row row ps h k) (region base (pos 0) count) ≤ span_row (b row) (key_span decls k) = λ row.
+    subst (λ (s : Span). span_row (held_row row ps h k) (region base (pos 0) count) ≤ span_row (b row) s) span_is (span_before row ps h k (map_used k i i.op) here.pending (region base (pos 0) count)) in
+    let waits : (row : ℕ → ℕ) → row here.pending ≤ span_row (b row) (pending_of (register k 1)) = λ row. pending_before row ps h k (map_used k i i.op) (map_of (register k 1)) f.0 here.pending used (ap map_of f.1) in
+    let s = stand_all {last = last} (stand_none {last = last}) rises (λ row p. omega (arith, result row, low row)) in
+    let all = rises_then s looks.rises (λ row p. omega (arith, result row, low row, waits row, p.1, greatest_append row key (here.pending ∷ []), ap (greatest row) key_is)) in
+    let known = λ (row : ℕ → ℕ) (rows : AreRows new row). s.known row (looks.rises.grows.rows row rows) in
+    let spans = call_writes k i (pos 1) op imm refl in
+    let sheds : Sheds k after (Maybe f.0 here.node) = subst (λ (x : Kinds). Sheds k x (Maybe f.0 here.node)) (sym becomes) (answering_sheds k (Maybe f.0 here.node)) in
+    let among : Among decls (length old) ps qs = subst (λ (xs : List PointerView). Among decls (length old) ps xs) (sym looks.pointers_are) (among_more decls (length old) ps ((record { found = looks.found; key = key }) ∷ [])) in
+    let at : pointer_at qs c ≡ record { found = looks.found; key = key } = ap (λ (xs : List PointerView). pointer_at xs c) looks.pointers_are
+    ∙ ap (pointer_at (ps ++ (record { found = looks.found; key = key }) ∷ [])) looks.number_is ∙ last_pointer ps (record { found = looks.found; key = key }) in
+    let opened : list_any (is_open_in after) (writes_as k i i.op) ≡ true = ap (list_any (is_open_in after)) spans ∙ open_register after (Maybe f.0 here.node) 0 (omega arith) sheds.answer refl in
+    let made : (row : ℕ → ℕ) → last row ≤ made_row (b row) decls k after i = λ row. made_result (b row) decls k after i opened in
+    let own : (row : ℕ → ℕ) → AreRows new row → value_row row qs (Maybe f.0 here.node) c ≤ last row = λ row rows.
+    subst (λ (p : PointerView). greatest row (cells_of_pointer p) ≤ last row) (sym at)
+    (let w = known row rows in omega (arith, all.result row rows, result row, low row, w.1, ap (greatest row) key_is)) in
+    record {
+      carries = subst (λ (ws : List Span). LeavesTo b qs h after (record h { registers = slice_set h.registers 0 c }) old new ws (λ row. made_row (b row) decls k after i) last) (sym spans)
+          (answer_leaves decls (length old) ps qs h k after (Maybe f.0 here.node) c sheds inside among (map_used k i i.op) here.pending old new (λ row. made_row (b row) decls k after i) last whole (grows_by all.grows made) own);
+      writes = λ row rows. no_write (record_as decls k i i.op) old new sites sites2 (lookup_site here map key) row _ looks.sites_are refl
+          (grown_with (ReadsNext sites) old mid new (reads_none (ReadsNext sites) old mid before) looks.grows).reads;
+      declared = λ q e. subst (λ (n : ℕ). n < length decls) (some_inj f.0 q (sym used ∙ e)) f.2;
+    }
