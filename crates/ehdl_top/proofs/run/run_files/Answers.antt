@@ -17,6 +17,15 @@ use Rattle.ehdl_top.proofs.OutcomeLemmas.{run_makes}
 use Rattle.ehdl_top.proofs.EndLemmas.{was_ready, ends_unread, ends_unwritten, ends_done}
 use Rattle.ehdl_top.proofs.run.run_files.Goals as goal
 
+pub returns-in_err-built : goal.returns-in_err-built
+returns-in_err-built g c =
+    let names = names_of c.args.files.now in
+    let choice = chosen_of c.args.choice in
+    let old = state_of g.S.Shelf c.args.shelf.now in
+    let new = state_of g.S.Shelf c.read_input.new.shelf in
+    ends_unread (AskRun names c.args.verilog.now choice c.args.ifindex) old old new c.in_err-built.field-0.0 (changes_none old) c.read_input.ensures.kept c.from_residual.result
+    [] (input names.object (program_form choice built)) (input names.capture capture_form ∷ []) c.from_residual.ensures.1 refl (λ told. tt) c.in_err-built.ensures.unread
+
 pub returns-in_err-capture : goal.returns-in_err-capture
 returns-in_err-capture g c =
     let names = names_of c.args.files.now in
