@@ -10,7 +10,7 @@ use Rattle.net_core.specs.Value.{Env, number_of}
 use Rattle.cell_core.specs.Cells.{bit, on, bits_from}
 use Rattle.cell_nets.specs.declared.operand.Operand.{Operand}
 use Rattle.cell_nets.specs.declared.operand.Operand.TheVariants.{Known, Net, Part}
-use Rattle.cell_nets.specs.Operands.{number_in, IsOperand, IsWide, IsWithin, IsFit, AreFit, IsAvailable}
+use Rattle.cell_nets.specs.Operands.{number_in, IsOperand, IsWithin, IsFit, AreFit, IsAvailable}
 use Rattle.cell_nets.specs.Parts.{IsPart, IsSlice}
 use Rattle.cell_nets.proofs.PartLemmas.{fit_net, part_same, part_of, any_part}
 use Rattle.cell_nets.proofs.NarrowLemmas.{from_zero, bits_small}

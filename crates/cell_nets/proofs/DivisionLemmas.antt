@@ -8,6 +8,7 @@ use Rattle.net_core.specs.Nets.{Tree, RightTree, RPlain}
 use Rattle.net_core.specs.Value.{Env, word, right_value, stops}
 use Rattle.net_core.specs.Width.{Scope, right_width}
 use Rattle.design_rules.specs.FormedSyntax.{right_spelled}
+use Rattle.product_rules.specs.Products.{right_flat}
 use Rattle.bits_core.specs.Bits.{div_u_of, mod_u_of}
 use Rattle.xdp_machine.specs.State.{PacketIn}
 use Rattle.block_core.specs.declared.name.Name.{Name}
@@ -22,12 +23,13 @@ use Rattle.cell_nets.specs.declared.operand.Operand.TheVariants.{Net}
 use Rattle.cell_nets.specs.Dividing.{divided, division}
 use Rattle.cell_nets.specs.Operands.{number_in, IsOperand, IsWide, AreFit, IsAvailable, IsNetOf}
 use Rattle.cell_nets.specs.Parts.{Computes, worth}
-use Rattle.cell_nets.specs.Wires.{behind, Gives, always}
+use Rattle.cell_nets.specs.Wires.{behind, GivesBy, Gives, always}
 use Rattle.cell_nets.proofs.PartLemmas.{same_is}
 use Rattle.cell_nets.proofs.NarrowLemmas.{from_zero, bits_small}
 use Rattle.cell_nets.proofs.SliceLemmas.{whole_bits}
 use Rattle.cell_nets.proofs.ChoiceLemmas.{fit_of, number_small}
 use Rattle.cell_nets.proofs.WireLemmas.{wires_more, stays_more, last_there, last_is, wire_gives}
+use Rattle.cell_nets.proofs.ApartLemmas.{stay_as, stay_wire, stay_then}
 use Rattle.cell_nets.proofs.GiveLemmas.{all_one}
 
 -- ---- a divisor
@@ -103,6 +105,10 @@ quotient_is packet v true n d x y e f less h small =
 quotient_is packet v false n d x y e f less h small =
     whole_bits _ 64 small ∙ ap (λ k. bits_from k 0 64) (ap (λ k. k / (v.net d).value) e ∙ ap (λ k. x % 2 ^ 64 / k) f ∙ sym (ap (λ k. div_u_of (x % 2 ^ 64) k) (mod-eq_of_lt {n = y} {m = 2 ^ 64} less) ∙ div_some (x % 2 ^ 64) y h))
 
+divided_flat : {N : Type 0} (made : N → Bool) (remainder : Bool) (n d : N) → made n ≡ false → made d ≡ false → right_flat made (divided remainder n d) ≡ true
+divided_flat made true n d h k = rw (h, k) refl
+divided_flat made false n d h k = rw (h, k) refl
+
 abbrev divided_wire : {N : Type 0} → Bool → N → N → BlockWireTree N
 divided_wire remainder n d = record { width = 64; right = divided remainder n d }
 
@@ -111,10 +117,10 @@ pub divided_gives :
     {P : Type 0} (p : P) (old one two three : List (BlockWireTree (Name P))) (remainder : Bool) (a b : Operand (Name P)) (top bottom : Tree (Name P)) (right : RightTree (Name P)) (n d q : Name P) (packet : PacketIn) → one ≡ old ++ record { width = 64; right = RPlain top } ∷ [] → n ≡ name.Wire p (length old)
     → two ≡ one ++ record { width = 64; right = RPlain bottom } ∷ [] → d ≡ name.Wire p (length one) → right ≡ divided remainder n d → three ≡ two ++ record { width = 64; right = right } ∷ [] → q ≡ name.Wire p (length two) → IsOperand b
     → ((ins : List (Operand (Name P))) → IsAvailable ins a → Computes ins 64 (λ v. bits_from (number_in v a) 0 64) top) → ((ins : List (Operand (Name P))) → IsAvailable ins b → Computes ins 64 (worth packet NonZero (b ∷ []) 64) bottom)
-    → Gives p old three (a ∷ b ∷ []) (λ v. number_in v b ≢ 0) (worth packet (division remainder) (a ∷ b ∷ []) 64) 64 (Net q 64)
+    → GivesBy true p old three (a ∷ b ∷ []) (λ v. number_in v b ≢ 0) (worth packet (division remainder) (a ∷ b ∷ []) 64) 64 (Net q 64)
 divided_gives {P} p old one two three remainder a b top bottom right n d q packet is1 is2 is3 is4 is is5 is6 word_b ct cb =
-    subst (λ l. Gives p old l (a ∷ b ∷ []) (λ v. number_in v b ≢ 0) (worth packet (division remainder) (a ∷ b ∷ []) 64) 64 (Net q 64)) (sym (is5 ∙ ap (λ r. two ++ record { width = 64; right = r } ∷ []) is))
-    (subst (λ m. Gives p old (two ++ (divided_wire remainder n d) ∷ []) (a ∷ b ∷ []) (λ v. number_in v b ≢ 0) (worth packet (division remainder) (a ∷ b ∷ []) 64) 64 (Net m 64)) (sym is6) whole)
+    subst (λ l. GivesBy true p old l (a ∷ b ∷ []) (λ v. number_in v b ≢ 0) (worth packet (division remainder) (a ∷ b ∷ []) 64) 64 (Net q 64)) (sym (is5 ∙ ap (λ r. two ++ record { width = 64; right = r } ∷ []) is))
+    (subst (λ m. GivesBy true p old (two ++ (divided_wire remainder n d) ∷ []) (a ∷ b ∷ []) (λ v. number_in v b ≢ 0) (worth packet (division remainder) (a ∷ b ∷ []) 64) 64 (Net m 64)) (sym is6) whole)
   where
     wide : IsWide 64
     wide = record { some = omega arith; most = omega arith }
@@ -125,7 +131,7 @@ divided_gives {P} p old one two three remainder a b top bottom right n d q packe
     second : Gives p one two (b ∷ []) always (worth packet NonZero (b ∷ []) 64) 64 (Net d 64)
     second = wire_gives p one two (b ∷ []) _ 64 bottom d is3 is4 wide (λ v. bits_small (number packet NonZero (number_in v b ∷ [])) 0 64) (λ ins h. cb ins (h 0 b (omega arith)))
 
-    whole : Gives p old (two ++ (divided_wire remainder n d) ∷ []) (a ∷ b ∷ []) (λ v. number_in v b ≢ 0) (worth packet (division remainder) (a ∷ b ∷ []) 64) 64 (Net (name.Wire p (length two)) 64)
+    whole : GivesBy true p old (two ++ (divided_wire remainder n d) ∷ []) (a ∷ b ∷ []) (λ v. number_in v b ≢ 0) (worth packet (division remainder) (a ∷ b ∷ []) 64) 64 (Net (name.Wire p (length two)) 64)
     whole = record {
       before = λ v s. first.before v (second.before v (last_is p v two (divided_wire remainder n d) s).0);
       stays = λ outside c t. stays_more p two (divided_wire remainder n d) outside c (second.stays outside c (first.stays outside c t));
@@ -157,4 +163,12 @@ divided_gives {P} p old one two three remainder a b top bottom right n d q packe
                 ap (λ k. k.value) l.1 ∙ ap (λ k. k.value) (right_value_is v remainder n d)
                 ∙ quotient_is packet v remainder n d (number_in v a) (number_in v b) (x.value v f (second.before v l.0) tt ∙ from_zero (number_in v a) 64) (y.value v f l.0 tt ∙ divisor_is packet (number_in v b) (b_fit v f l.0) m) (b_fit v f l.0) m (small v f l.0);
           };
+      apart = stay_then p old two (two ++ divided_wire remainder n d ∷ []) (a ∷ b ∷ []) both both (Net (name.Wire p (length two)) 64 ∷ []) (λ ins h k. k)
+          (stay_then p old one two (a ∷ b ∷ []) (Net n 64 ∷ b ∷ []) (Net n 64 ∷ b ∷ []) both (λ ins h k. k)
+          (stay_as p old one (a ∷ []) (Net n 64 ∷ []) (a ∷ b ∷ []) (b ∷ []) (λ ins h. all_one (IsAvailable ins) a (h 0 a (omega arith))) (λ ins h. all_one (IsAvailable ins) b (h 1 a (omega arith))) first.apart)
+          (stay_as p one two (b ∷ []) (Net d 64 ∷ []) (Net n 64 ∷ b ∷ []) (Net n 64 ∷ []) (λ ins h. all_one (IsAvailable ins) b (h 1 a (omega arith))) (λ ins h. all_one (IsAvailable ins) (Net n 64) (h 0 a (omega arith))) second.apart))
+          (stay_wire p two both (divided_wire remainder n d) 64 (λ made h. divided_flat made remainder n d (h 1 a (omega arith)) (h 0 a (omega arith))) (λ e. cc) (λ e. cc));
     }
+      where
+        both : List (Operand (Name P))
+        both = Net d 64 ∷ Net n 64 ∷ []

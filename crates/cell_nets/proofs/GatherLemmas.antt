@@ -20,6 +20,7 @@ use Rattle.cell_nets.specs.Wires.{behind, Gives, always}
 use Rattle.cell_nets.proofs.NarrowLemmas.{bits_small}
 use Rattle.cell_nets.proofs.TestLemmas.{bit_low}
 use Rattle.cell_nets.proofs.ListLemmas.{any_map}
+use Rattle.cell_nets.proofs.ApartLemmas.{stay_none, stay_as, stay_then}
 use Rattle.cell_nets.proofs.GiveLemmas.{all_one}
 
 apart : {X : Type 0} (Q : X → Type 0) (xs : List X) (x : X) → All Q (xs ++ x ∷ []) → All Q xs × Q x
@@ -28,7 +29,7 @@ apart Q (y ∷ xs) x h = let r = apart Q xs x (All-tail Q y (xs ++ x ∷ []) h) 
 
 -- as they are
 pub gathered_same : {P : Type 0} (p : P) (ws : List (BlockWireTree (Name P))) (args : List (Operand (Name P))) → All IsOperand args → IsGathered p ws ws args args
-gathered_same p ws args h = record { operands = h; before = λ v s. s; stays = λ o a t. t; wires = λ o a t. a; there = λ o a t. t; value = λ o v a t f s. refl }
+gathered_same p ws args h = record { operands = h; before = λ v s. s; stays = λ o a t. t; wires = λ o a t. a; there = λ o a t. t; apart = stay_none p ws args args (λ ins t. t); value = λ o v a t f s. refl }
 
 -- one for all of them
 pub gathered_one : {P : Type 0} (p : P) (old new : List (BlockWireTree (Name P))) (args : List (Operand (Name P))) (packet : PacketIn) (found : Operand (Name P)) → Gives p old new args always (worth packet Any args 1) 1 found → IsGathered p old new args (found ∷ [])
@@ -38,6 +39,7 @@ gathered_one p old new args packet found x = record {
   stays = x.stays;
   wires = λ o a t. (x.given o a t).wires;
   there = λ o a t. all_one (IsAvailable (behind p o new)) found (x.given o a t).there;
+  apart = x.apart;
   value = λ o v a t f s.
       let b = list_any (λ a. on (number_in v a)) args in
       ap (λ k. on k || false) ((x.given o a t).value v f s tt ∙ sym (bit_low (list_any on (map (number_in v) args)) 1 (omega arith)) ∙ ap bit (sym (any_map v args))) ∙ on_bit b;
@@ -74,6 +76,7 @@ gathered_then p old mid new args left last x y = record {
   stays = λ o a t. y.stays o a (x.stays o a t);
   wires = λ o a t. y.wires o (x.wires o a t) (x.there o a t);
   there = λ o a t. y.there o (x.wires o a t) (x.there o a t);
+  apart = stay_then p old mid new args left left last (λ ins h k. k) x.apart y.apart;
   value = λ o v a t f s. y.value o v (x.wires o a t) (x.there o a t) f s ∙ x.value o v a t f (y.before v s);
 }
 
@@ -90,6 +93,7 @@ gathered_more {P} p old new args left i x inside is words g = subst (λ l. IsGat
       stays = g.stays;
       wires = λ o a t. g.wires o a (apart (IsAvailable (behind p o old)) (take i args) x t).0;
       there = λ o a t. let r = apart (IsAvailable (behind p o old)) (take i args) x t in All-push (IsAvailable (behind p o new)) left x (g.there o a r.0) (g.stays o x r.1);
+      apart = stay_as p old new (take i args) left (take i args ++ x ∷ []) (x ∷ []) (λ ins t. (apart (IsAvailable ins) (take i args) x t).0) (λ ins t. all_one (IsAvailable ins) x (apart (IsAvailable ins) (take i args) x t).1) g.apart;
       value = λ o v a t f s.
           let r = apart (IsAvailable (behind p o old)) (take i args) x t in
           let q = λ (a : Operand (Name P)). on (number_in v a) in
@@ -112,6 +116,7 @@ gathered_gives p old mid new args left packet w out x y = record {
         there = z.there;
         value = λ v f s n. z.value v f s tt ∙ ap (λ b. bits_from (bit b) 0 w) (sym (any_map v left) ∙ x.value o v a t f (y.before v s) ∙ any_map v args);
       };
+  apart = stay_then p old mid new args left left (out ∷ []) (λ ins h k. k) x.apart y.apart;
 }
 
 pub no_packet : PacketIn

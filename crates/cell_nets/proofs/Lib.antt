@@ -7,6 +7,7 @@ pub mod TestLemmas
 pub mod ShiftLemmas
 pub mod ListLemmas
 pub mod JoinLemmas
+pub mod ApartLemmas
 pub mod WireLemmas
 pub mod GiveLemmas
 pub mod DivisionLemmas

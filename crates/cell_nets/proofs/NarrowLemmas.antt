@@ -1,6 +1,6 @@
 -- Operations on low bits.
 use Rattle.std.specs.Prelude.{bit_and, bit_or, bit_xor}
-use Rattle.std.proofs.Common.{◌≡◌, ℕ, ◌+◌, ◌-◌, ◌*◌, ◌/◌, ◌%◌, ◌^◌, ◌<◌, ◌≤◌, [], ◌∷◌, Some, sym, ◌∙◌, ap, arith}
+use Rattle.std.proofs.Common.{◌≡◌, ℕ, ◌+◌, ◌-◌, ◌*◌, ◌/◌, ◌%◌, ◌^◌, ◌<◌, ◌≤◌, [], ◌∷◌, Some, refl, sym, ◌∙◌, ap, arith}
 use Rattle.std.proofs.lemmas.Nat.{and_mod, or_mod, xor_mod, mul-mod, div-add-mod', mod_below, pow_pos, div_below, pow-add}
 use Rattle.std.proofs.Math.Nat.{div-one, add-mul-mod_self_right}
 use Rattle.net_core.specs.declared.tree.Op.{Op}
@@ -12,6 +12,8 @@ use Rattle.xdp_machine.specs.State.{PacketIn}
 use Rattle.cell_core.specs.declared.operator.Operator.{Operator}
 use Rattle.cell_core.specs.declared.operator.Operator.TheVariants.{And, Or, Xor, Difference, Add, Sub, Mul}
 use Rattle.cell_core.specs.Cells.{number, bits_from}
+use Rattle.product_rules.specs.Products.{is_product}
+use Rattle.cell_nets.specs.Computing.{makes_product}
 use Rattle.cell_nets.specs.Narrow.{narrow_op}
 use Rattle.cell_nets.proofs.PartLemmas.{same_is}
 
@@ -78,6 +80,16 @@ narrow_width Add net.Add w e = same_is w
 narrow_width Sub net.Sub w e = same_is w
 narrow_width Mul net.Mul w e = same_is w
 narrow_width o p w e = cc
+
+pub narrow_product : (o : Operator) (p : Op) → narrow_op o ≡ Some p → is_product p ≡ makes_product o
+narrow_product And net.And e = refl
+narrow_product Or net.Or e = refl
+narrow_product Xor net.Xor e = refl
+narrow_product Difference net.Sub e = refl
+narrow_product Add net.Add e = refl
+narrow_product Sub net.Sub e = refl
+narrow_product Mul net.Mul e = refl
+narrow_product o p e = cc
 
 pub bits_small : (n from w : ℕ) → bits_from n from w < 2 ^ w
 bits_small n from w = mod_below (n / 2 ^ from) (2 ^ w) (pow_pos w)

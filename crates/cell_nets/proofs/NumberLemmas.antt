@@ -12,6 +12,7 @@ use Rattle.xdp_machine.specs.State.{PacketIn}
 use Rattle.cell_core.specs.declared.operator.Operator.{Operator}
 use Rattle.cell_core.specs.declared.operator.Operator.TheVariants.{Join, SignExtend, Not, And, Or, Xor, Any, Select, Phi, Difference, Quotient, Remainder, Add, Sub, Mul, ShiftLeft, ShiftRight, Equal, Less, LessOrEqual, NonZero}
 use Rattle.cell_core.specs.Cells.{bit, on, number, phi}
+use Rattle.cell_core.specs.Formed.{divides}
 use Rattle.cell_nets.specs.Computing.{is_operation, takes_all}
 
 -- the number is that of the first three inputs
@@ -85,7 +86,7 @@ phi_small (e ∷ x ∷ d ∷ more) h =
     let rest = All-tail Small e (x ∷ d ∷ more) h in
     choice_small (on e) x (phi (d ∷ more)) (All-head Small x (d ∷ more) rest) (phi_small (d ∷ more) (All-tail Small x (d ∷ more) rest))
 
-pub operation_small : (packet : PacketIn) (op : Operator) (xs : List ℕ) → is_operation op ≡ true → All (λ n. n < 2 ^ 64) xs → number packet op xs < 2 ^ 64
+pub operation_small : (packet : PacketIn) (op : Operator) (xs : List ℕ) → is_operation op ≡ true → (divides op ≡ false → All (λ n. n < 2 ^ 64) xs) → number packet op xs < 2 ^ 64
 operation_small packet (Join bits) xs o h = joined_small bits 0 xs (omega arith)
 operation_small packet (SignExtend bits) xs o h = signed_small (signed_of bits (low bits (slice_index xs 0)))
 operation_small packet Not xs o h = omega arith
@@ -93,8 +94,8 @@ operation_small packet And xs o h = bitwise_small bit_and and_mod (slice_index x
 operation_small packet Or xs o h = bitwise_small bit_or or_mod (slice_index xs 0) (slice_index xs 1)
 operation_small packet Xor xs o h = bitwise_small bit_xor xor_mod (slice_index xs 0) (slice_index xs 1)
 operation_small packet Any xs o h = bit_small (list_any on xs)
-operation_small packet Select xs o h = choice_small (on (slice_index xs 0)) (slice_index xs 1) (slice_index xs 2) (input_small xs 1 h) (input_small xs 2 h)
-operation_small packet Phi xs o h = phi_small xs h
+operation_small packet Select xs o h = choice_small (on (slice_index xs 0)) (slice_index xs 1) (slice_index xs 2) (input_small xs 1 (h refl)) (input_small xs 2 (h refl))
+operation_small packet Phi xs o h = phi_small xs (h refl)
 operation_small packet Difference xs o h = low_small _
 operation_small packet Quotient xs o h = div_small (slice_index xs 0 % 2 ^ 64) (slice_index xs 1 % 2 ^ 64) (low_small (slice_index xs 0))
 operation_small packet Remainder xs o h = mod_small (slice_index xs 0 % 2 ^ 64) (slice_index xs 1 % 2 ^ 64) (low_small (slice_index xs 0))
@@ -106,5 +107,5 @@ operation_small packet ShiftRight xs o h = omega (arith, div-le_self (slice_inde
 operation_small packet Equal xs o h = bit_small (slice_index xs 0 % 2 ^ 64 == slice_index xs 1 % 2 ^ 64)
 operation_small packet Less xs o h = bit_small (nat_lt (slice_index xs 0 % 2 ^ 64) (slice_index xs 1 % 2 ^ 64))
 operation_small packet LessOrEqual xs o h = bit_small (nat_le (slice_index xs 0 % 2 ^ 64) (slice_index xs 1 % 2 ^ 64))
-operation_small packet NonZero xs o h = choice_small (on (slice_index xs 0)) (slice_index xs 0) 1 (input_small xs 0 h) (omega arith)
+operation_small packet NonZero xs o h = choice_small (on (slice_index xs 0)) (slice_index xs 0) 1 (input_small xs 0 (h refl)) (omega arith)
 operation_small packet op xs o h = cc

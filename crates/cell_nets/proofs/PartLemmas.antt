@@ -4,15 +4,18 @@ use Rattle.std.proofs.Common.{◌≡◌, ℕ, zero, suc, ◌+◌, ◌-◌, ◌*�
 use Rattle.std.proofs.lemmas.Bool.{lt-ltb, le-leb, eq-eqb}
 use Rattle.net_core.specs.declared.tree.Op.{Op}
 use Rattle.net_core.specs.declared.tree.UnaryOp.TheVariants.{Not, ReduceOr}
-use Rattle.net_core.specs.Nets.{Tree, TConst, TRead, TBit, TPartSelect, TMemoryWord, TUnary, TBinary, TConditional, TConcatenation, TMore, TLast}
+use Rattle.net_core.specs.Nets.{Tree, TConst, TRead, TBit, TPartSelect, TUnary, TBinary, TConditional, TConcatenation, TMore, TLast}
 use Rattle.net_core.specs.Value.{Env, word, apply, number_of}
 use Rattle.net_core.specs.Width.{Scope, op_width, same_width, test_width, shift_width, part_select_width}
 use Rattle.net_core.proofs.WidthLaws.{concatenation_is}
 use Rattle.design_rules.specs.FormedSyntax.{is_prefixed, prefixes_apart, depth, tree_spelled}
+use Rattle.product_rules.specs.Products.{is_product}
+use Rattle.product_blocks.proofs.FreeLaws.{flat_without}
+use Rattle.product_blocks.proofs.CleanLaws.{flat_over}
 use Rattle.cell_nets.specs.declared.operand.Operand.{Operand}
 use Rattle.cell_nets.specs.declared.operand.Operand.TheVariants.{Net, Part}
 use Rattle.cell_nets.specs.Operands.{HasWidth, IsFit, AreFit, IsDeclared, AreDeclared, HasNet, IsNetOf}
-use Rattle.cell_nets.specs.Parts.{is_product, has_product, product_below, IsPart, IsSlice, Computes}
+use Rattle.cell_nets.specs.Parts.{IsPart, IsSlice, ComputesBy, Computes}
 use Rattle.cell_nets.proofs.WireLemmas.{reads_as}
 
 -- the same value in other words
@@ -198,39 +201,25 @@ any_part ins d w f a some p = record {
 spelled : {N : Type 0} (t : Tree N) → depth t ≤ 64 → prefixes_apart t ≡ true → tree_spelled t ≡ true
 spelled t le apart = both _ _ (le-leb (depth t) 64 le) apart
 
-orless : (p q : Bool) → (p || q) ≡ false → q ≡ false
-orless true q e = cc
-orless false q e = e
-
-no_product_below : {N : Type 0} (t : Tree N) → has_product t ≡ false → product_below t ≡ false
-no_product_below (TConst w) e = e
-no_product_below (TRead n) e = e
-no_product_below (TBit n i) e = e
-no_product_below (TPartSelect n hi lo) e = e
-no_product_below (TMemoryWord m i) e = e
-no_product_below (TUnary p a) e = e
-no_product_below (TBinary op a b) e = orless (is_product op) (has_product a || has_product b) e
-no_product_below (TConditional c a b) e = e
-no_product_below (TConcatenation ps) e = e
-
 pub part_computes : {N : Type 0} (ins : List (Operand N)) (d w : ℕ) (f : Env N → ℕ) (t : Tree N) → d ≤ 64 → IsPart ins d w f t → Computes ins w f t
-part_computes ins d w f t le p = record { typed = p.typed; value = p.value; reads = p.reads; spelled = spelled t (omega (arith, p.depth)) p.apart; flat = no_product_below t p.no_product }
+part_computes ins d w f t le p = record { typed = p.typed; value = p.value; reads = p.reads; spelled = spelled t (omega (arith, p.depth)) p.apart; flat = λ made c. flat_without made t p.no_product; no_product = λ e. p.no_product }
 
 -- an operation between two, which may be a product
 pub binary_computes :
     {N : Type 0} (ins : List (Operand N)) (d e m n w : ℕ) (f g h : Env N → ℕ) (op : Op) (a b : Tree N) → d ≤ 63 → e ≤ 63 → op_width op m n ≡ w → ((v : Env N) → AreFit v ins → apply op (word m (f v)) (word n (g v)) ≡ word w (h v))
-    → IsPart ins d m f a → IsPart ins e n g b → Computes ins w h (TBinary op a b)
+    → IsPart ins d m f a → IsPart ins e n g b → ComputesBy (is_product op) ins w h (TBinary op a b)
 binary_computes ins d e m n w f g h op a b le ge width is p q = record {
   typed = λ s k. rw (p.typed s k, q.typed s k) width;
   value = λ v k. rw (p.value v k, q.value v k) (is v k);
   reads = (p.reads, q.reads);
   spelled = spelled (TBinary op a b) (omega (arith, p.depth, q.depth)) (both _ _ p.apart q.apart);
-  flat = neither _ _ p.no_product q.no_product;
+  flat = λ made c. flat_over made (IsNetOf ins) c op a b p.reads q.reads p.no_product q.no_product;
+  no_product = λ e. neither _ _ e (neither _ _ p.no_product q.no_product);
 }
 
 -- the same tree in other words
-pub computes_as : {N : Type 0} (ins : List (Operand N)) (w : ℕ) (f : Env N → ℕ) (t u : Tree N) → u ≡ t → Computes ins w f t → Computes ins w f u
-computes_as ins w f t u same p = let P : Tree _ → Type 0 = λ x. Computes ins w f x in subst P (sym same) p
+pub computes_as : {N : Type 0} {b : Bool} (ins : List (Operand N)) (w : ℕ) (f : Env N → ℕ) (t u : Tree N) → u ≡ t → ComputesBy b ins w f t → ComputesBy b ins w f u
+computes_as {b = b} ins w f t u same p = let P : Tree _ → Type 0 = λ x. ComputesBy b ins w f x in subst P (sym same) p
 
 -- widths of operations on two sides of one width
 pub same_is : (w : ℕ) → same_width w w ≡ w

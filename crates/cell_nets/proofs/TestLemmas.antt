@@ -13,7 +13,8 @@ use Rattle.cell_core.specs.declared.operator.Operator.{Operator}
 use Rattle.cell_core.specs.declared.operator.Operator.TheVariants.{Equal, Less, LessOrEqual}
 use Rattle.cell_core.specs.Cells.{number, bit, bits_from}
 use Rattle.cell_nets.specs.Narrow.{test_op}
-use Rattle.cell_nets.specs.Parts.{is_product}
+use Rattle.product_rules.specs.Products.{is_product}
+use Rattle.cell_nets.specs.Computing.{makes_product}
 use Rattle.cell_nets.proofs.PartLemmas.{test_is}
 use Rattle.cell_nets.proofs.NarrowLemmas.{from_zero}
 
@@ -55,3 +56,9 @@ test_plain Equal net.Equal e = refl
 test_plain Less net.Less e = refl
 test_plain LessOrEqual net.LessEqual e = refl
 test_plain o p e = cc
+
+pub test_product : (o : Operator) (p : Op) → test_op o ≡ Some p → makes_product o ≡ false
+test_product Equal net.Equal e = refl
+test_product Less net.Less e = refl
+test_product LessOrEqual net.LessEqual e = refl
+test_product o p e = cc

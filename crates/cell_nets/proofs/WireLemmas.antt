@@ -14,11 +14,14 @@ use Rattle.block_core.specs.Blocks.{BlockWireTree, Whole}
 use Rattle.block_core.specs.Formed.{block_wires_typed}
 use Rattle.block_core.specs.Order.{Reads, AllRead, RightReads, IsBefore, InOrder}
 use Rattle.block_core.specs.Parts.{Solve, Goes}
+use Rattle.product_blocks.proofs.FreeLaws.{flat_without}
+use Rattle.product_blocks.proofs.CleanLaws.{none_in}
 use Rattle.cell_nets.specs.declared.operand.Operand.{Operand}
 use Rattle.cell_nets.specs.declared.operand.Operand.TheVariants.{Known, Net, Part}
 use Rattle.cell_nets.specs.Operands.{IsWide, IsFit, AreFit, AreDeclared, IsAvailable, IsNetOf}
-use Rattle.cell_nets.specs.Parts.{Computes}
-use Rattle.cell_nets.specs.Wires.{own, behind, is_spelled, AreWires, Gives, always}
+use Rattle.cell_nets.specs.Parts.{ComputesBy}
+use Rattle.cell_nets.specs.Wires.{own, behind, is_spelled, AreWires, GivesBy, always}
+use Rattle.cell_nets.proofs.ApartLemmas.{all_self, net_clean, stay_wire}
 
 -- ---- one wire more
 module _ {P : Type 0} (p : P) where
@@ -166,11 +169,11 @@ plain_wire w t = record { width = w; right = RPlain t }
 
 -- a wire with an expression
 pub wire_gives :
-    {P : Type 0} (p : P) (old new : List (BlockWireTree (Name P))) (args : List (Operand (Name P))) (f : Env (Name P) → ℕ) (w : ℕ) (t : Tree (Name P)) (n : Name P) → new ≡ old ++ record { width = w; right = RPlain t } ∷ [] → n ≡ name.Wire p (length old)
-    → IsWide w → ((v : Env (Name P)) → f v < 2 ^ w) → ((ins : List (Operand (Name P))) → All (IsAvailable ins) args → Computes ins w f t) → Gives p old new args always f w (Net n w)
-wire_gives {P} p old new args f w t n is called wide small comp = subst (λ l. Gives p old l args always f w (Net n w)) (sym is) (subst (λ m. Gives p old (old ++ plain_wire w t ∷ []) args always f w (Net m w)) (sym called) whole)
+    {P : Type 0} {b : Bool} (p : P) (old new : List (BlockWireTree (Name P))) (args : List (Operand (Name P))) (f : Env (Name P) → ℕ) (w : ℕ) (t : Tree (Name P)) (n : Name P) → new ≡ old ++ record { width = w; right = RPlain t } ∷ [] → n ≡ name.Wire p (length old)
+    → IsWide w → ((v : Env (Name P)) → f v < 2 ^ w) → ((ins : List (Operand (Name P))) → All (IsAvailable ins) args → ComputesBy b ins w f t) → GivesBy b p old new args always f w (Net n w)
+wire_gives {P} {b} p old new args f w t n is called wide small comp = subst (λ l. GivesBy b p old l args always f w (Net n w)) (sym is) (subst (λ m. GivesBy b p old (old ++ plain_wire w t ∷ []) args always f w (Net m w)) (sym called) whole)
   where
-    whole : Gives p old (old ++ plain_wire w t ∷ []) args always f w (Net (name.Wire p (length old)) w)
+    whole : GivesBy b p old (old ++ plain_wire w t ∷ []) args always f w (Net (name.Wire p (length old)) w)
     whole = record {
       before = λ v h. (last_is p v old (plain_wire w t) h).0;
       stays = stays_more p old (plain_wire w t);
@@ -191,4 +194,8 @@ wire_gives {P} p old new args f w t n is called wide small comp = subst (λ l. G
             there = last_there p old (plain_wire w t) outside;
             value = λ v g h u. let s = last_is p v old (plain_wire w t) h in ap (λ k. k.value) s.1 ∙ ap (λ k. k.value) (c.value v (a.fits v g s.0));
           };
+      apart = stay_wire p old args (plain_wire w t) w (λ made c. mine.flat made (net_clean made args c)) (λ e made c. none_in made (IsNetOf args) (net_clean made args c) t mine.reads (mine.no_product e)) (λ e made. flat_without made t (mine.no_product e));
     }
+      where
+        mine : ComputesBy b args w f t
+        mine = comp args (all_self args)

@@ -1,9 +1,9 @@
 -- Which operators are computed, and how.
-use Rattle.std.specs.Prelude.{◌≡◌, ◌≢◌, Bool, true, false, not, Some, None, List, slice_index, map as map_list}
+use Rattle.std.specs.Prelude.{◌≡◌, ◌≢◌, Bool, true, false, not, if◌then◌else◌, Some, None, List, take, slice_index, map as map_list}
 use Rattle.net_core.specs.declared.tree.Op.{Op}
 use Rattle.net_core.specs.Value.{Env}
 use Rattle.cell_core.specs.declared.operator.Operator.{Operator}
-use Rattle.cell_core.specs.declared.operator.Operator.TheVariants.{Constant, Byte, Length, Ifindex, Time, Wire, Later, Join, Any, Phi, Quotient, Remainder, ShiftRight, Found, Answer, Pending}
+use Rattle.cell_core.specs.declared.operator.Operator.TheVariants.{Constant, Byte, Length, Ifindex, Time, Wire, Later, Join, Any, Phi, Quotient, Remainder, Mul, ShiftRight, Found, Answer, Pending}
 use Rattle.cell_core.specs.Formed.{divides}
 use Rattle.cell_nets.specs.declared.operand.Operand.{Operand}
 use Rattle.cell_nets.specs.Narrow.{narrow_op, test_op}
@@ -44,6 +44,15 @@ is_wired ShiftRight = true
 is_wired Quotient = true
 is_wired Remainder = true
 is_wired op = takes_all op
+
+-- it is a product, a quotient or a remainder
+abbrev pub makes_product : Operator → Bool
+makes_product Mul = true
+makes_product op = divides op
+
+-- what it takes of a list: of a quotient or a remainder two, of others all
+abbrev pub taken : {X : Type 0} → Operator → List X → List X
+taken op xs = if divides op then take 2 xs else xs
 
 -- an operation or a comparison of two operands
 abbrev pub IsPair : Operator → Type 0

@@ -2,6 +2,7 @@ pub mod Operands
 pub mod Parts
 pub mod Narrow
 pub mod Listing
+pub mod Apart
 pub mod Wires
 pub mod Dividing
 pub mod Gathering

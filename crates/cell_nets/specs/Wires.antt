@@ -1,5 +1,5 @@
 -- Wires of a part that stand one behind another, and what they give.
-use Rattle.std.specs.Prelude.{◌≡◌, ℕ, suc, ◌^◌, ◌<◌, Bool, true, All, List, [], ◌∷◌, ◌++◌, map as map_list}
+use Rattle.std.specs.Prelude.{◌≡◌, ℕ, suc, ◌^◌, ◌<◌, Bool, true, false, All, List, [], ◌∷◌, ◌++◌, map as map_list}
 use Rattle.std.specs.List.{list_all}
 use Rattle.net_core.specs.Value.{Env}
 use Rattle.net_core.specs.Width.{Scope}
@@ -14,6 +14,7 @@ use Rattle.block_core.specs.Parts.{Solve, Goes}
 use Rattle.block_core.specs.View.{block_wire_of}
 use Rattle.cell_nets.specs.declared.operand.Operand.{Operand}
 use Rattle.cell_nets.specs.declared.operand.Operand.TheVariants.{Known, Net, Part}
+use Rattle.cell_nets.specs.Apart.{StayApart}
 use Rattle.cell_nets.specs.Operands.{number_in, IsOperand, AreFit, AreDeclared, IsAvailable, IsNetOf}
 
 -- wires in memory
@@ -53,13 +54,18 @@ pub record IsGiven {P : Type 0} (p : P) (outside : List (Operand (Name P))) (ws 
   pub there : IsAvailable (behind p outside ws) out
   pub value : (v : Env (Name P)) → AreFit v outside → Solve v p 0 ws → needs v → number_in v out ≡ f v
 
--- Wires become more: whatever comes from outside, behind them stands an operand of so many bits, of this value.
-pub record Gives {P : Type 0} (p : P) (old new : List (BlockWireTree (Name P))) (args : List (Operand (Name P))) (needs : Env (Name P) → Type 0) (f : Env (Name P) → ℕ) (width : ℕ) (out : Operand (Name P)) : Type 0 where
+-- Wires become more: whatever comes from outside, behind them stands an operand of so many bits, of this value, and products among them stay apart.
+pub record GivesBy {P : Type 0} (product : Bool) (p : P) (old new : List (BlockWireTree (Name P))) (args : List (Operand (Name P))) (needs : Env (Name P) → Type 0) (f : Env (Name P) → ℕ) (width : ℕ) (out : Operand (Name P)) : Type 0 where
   pub before : (v : Env (Name P)) → Solve v p 0 new → Solve v p 0 old
   pub stays : (outside : List (Operand (Name P))) (a : Operand (Name P)) → IsAvailable (behind p outside old) a → IsAvailable (behind p outside new) a
   pub operand : IsOperand out
   pub bits : HasBits width out
   pub given : (outside : List (Operand (Name P))) → AreWires p outside old → All (IsAvailable (behind p outside old)) args → IsGiven p outside new needs f out
+  pub apart : StayApart product p old new args (out ∷ [])
+
+-- none of them is a product
+abbrev pub Gives : {P : Type 0} → P → List (BlockWireTree (Name P)) → List (BlockWireTree (Name P)) → List (Operand (Name P)) → (Env (Name P) → Type 0) → (Env (Name P) → ℕ) → ℕ → Operand (Name P) → Type 0
+Gives p old new args needs f width out = GivesBy false p old new args needs f width out
 
 -- no condition
 abbrev pub always : {N : Type 0} → Env N → Type 0

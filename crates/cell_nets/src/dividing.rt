@@ -1,12 +1,12 @@
 //! Quotients and remainders, whose divisor is never 0.
 
-ghost use Rattle.std.specs.Prelude.{ℕ, [], ◌∷◌, ◌≡◌, ◌≢◌, ◌<◌, ◌≤◌, IfOk};
+ghost use Rattle.std.specs.Prelude.{ℕ, [], ◌∷◌, ◌≡◌, ◌≢◌, ◌<◌, ◌≤◌, true, IfOk};
 ghost use Rattle.net_core.specs.View.{right_of};
 ghost use Rattle.xdp_machine.specs.State.{PacketIn};
 ghost use Rattle.cell_nets.specs.Dividing.{divided, division};
 ghost use Rattle.cell_nets.specs.Operands.{IsOperand, IsWide, number_in};
 ghost use Rattle.cell_nets.specs.Parts.{worth};
-ghost use Rattle.cell_nets.specs.Wires.{wires_of, Gives};
+ghost use Rattle.cell_nets.specs.Wires.{wires_of, GivesBy};
 
 use crate::choosing::non_zero;
 use crate::operand::Operand;
@@ -42,7 +42,7 @@ pub fn divide<P: Copy>(
     requires left { IsOperand a }
     requires right { IsOperand b }
     requires width { IsWide width }
-    ensures { (packet : PacketIn) → IfOk result (Gives part (wires_of wires.old.items) (wires_of wires.new.items) (a ∷ b ∷ []) (λ v. number_in v b ≢ 0) (worth packet (division remainder) (a ∷ b ∷ []) width) width) }
+    ensures { (packet : PacketIn) → IfOk result (GivesBy true part (wires_of wires.old.items) (wires_of wires.new.items) (a ∷ b ∷ []) (λ v. number_in v b ≢ 0) (worth packet (division remainder) (a ∷ b ∷ []) width) width) }
 {
     let top = slice(alloc, a, 0, 64)?;
     let bottom = non_zero(alloc, b, 64)?;

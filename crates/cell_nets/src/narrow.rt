@@ -4,9 +4,10 @@ ghost use Rattle.std.specs.Prelude.{ℕ, List, [], ◌∷◌, Some, ◌≡◌, I
 ghost use Rattle.net_core.specs.View.{tree_of};
 ghost use Rattle.xdp_machine.specs.State.{PacketIn};
 ghost use Rattle.cell_core.specs.declared.operator.Operator.{Operator};
+ghost use Rattle.cell_nets.specs.Computing.{makes_product};
 ghost use Rattle.cell_nets.specs.Narrow.{narrow_op};
 ghost use Rattle.cell_nets.specs.Operands.{IsOperand, IsAvailable, IsWide};
-ghost use Rattle.cell_nets.specs.Parts.{Computes, worth};
+ghost use Rattle.cell_nets.specs.Parts.{ComputesBy, worth};
 
 use crate::operand::Operand;
 use crate::slice::slice;
@@ -25,7 +26,7 @@ pub fn narrow<N: Copy>(
     requires left { IsOperand a }
     requires right { IsOperand b }
     requires width { IsWide width }
-    ensures { (ins : List (Operand N)) (packet : PacketIn) (o : Operator) → narrow_op o ≡ Some op → IsAvailable ins a → IsAvailable ins b → IfOk result (λ e. Computes ins width (worth packet o (a ∷ b ∷ []) width) (tree_of e)) }
+    ensures { (ins : List (Operand N)) (packet : PacketIn) (o : Operator) → narrow_op o ≡ Some op → IsAvailable ins a → IsAvailable ins b → IfOk result (λ e. ComputesBy (makes_product o) ins width (worth packet o (a ∷ b ∷ []) width) (tree_of e)) }
 {
     let left = slice(alloc, a, 0, width)?;
     let right = slice(alloc, b, 0, width)?;

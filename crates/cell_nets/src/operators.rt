@@ -1,17 +1,17 @@
 //! Wires for any operator that is computed.
 
-ghost use Rattle.std.specs.Prelude.{ℕ, List, [], ◌∷◌, Some, ◌≡◌, ◌≤◌, true, false, All, drop, slice_index, IfOk, map as map_list};
+ghost use Rattle.std.specs.Prelude.{ℕ, List, [], ◌∷◌, Some, ◌≡◌, ◌<◌, ◌≤◌, true, false, All, take, drop, slice_index, IfOk, map as map_list};
 ghost use Rattle.net_core.specs.Value.{Env};
 ghost use Rattle.net_core.specs.View.{tree_of};
 ghost use Rattle.xdp_machine.specs.State.{PacketIn};
 ghost use Rattle.cell_core.specs.declared.operator.Operator.TheVariants as operator;
 ghost use Rattle.cell_core.specs.Cells.{number, bits_from};
 ghost use Rattle.cell_core.specs.Formed.{IsInRange};
-ghost use Rattle.cell_nets.specs.Computing.{is_outside, is_operation, takes_all, is_wired, IsPair, HasDivisor};
+ghost use Rattle.cell_nets.specs.Computing.{is_outside, is_operation, takes_all, is_wired, makes_product, taken, IsPair, HasDivisor};
 ghost use Rattle.cell_nets.specs.Narrow.{narrow_op, test_op};
 ghost use Rattle.cell_nets.specs.Operands.{IsOperand, IsAvailable, IsNarrow, IsWide, number_in};
-ghost use Rattle.cell_nets.specs.Parts.{Computes, worth};
-ghost use Rattle.cell_nets.specs.Wires.{wires_of, always, Gives};
+ghost use Rattle.cell_nets.specs.Parts.{ComputesBy, worth};
+ghost use Rattle.cell_nets.specs.Wires.{wires_of, always, GivesBy, Gives};
 
 use crate::choosing::{invert, non_zero, select};
 use crate::comparing::compare;
@@ -67,7 +67,7 @@ fn is_wired(op: Operator) -> bool
 fn input<N: Copy>(args: &[Operand<N>], at: usize) -> Operand<N>
     requires { All IsOperand args.now }
     ensures operand { IsOperand result }
-    ensures available { (ins : List (Operand N)) → All (IsAvailable ins) args.now → IsAvailable ins result }
+    ensures available { (ins : List (Operand N)) (n : ℕ) → at < n → All (IsAvailable ins) (take n args.now) → IsAvailable ins result }
     ensures number { (v : Env N) → number_in v result ≡ slice_index (map_list (number_in v) args.now) at }
 {
     if at < args.len() {
@@ -115,7 +115,7 @@ fn pair<N: Copy>(
     requires left { IsOperand a }
     requires right { IsOperand b }
     requires width { IsWide width }
-    ensures { (ins : List (Operand N)) (packet : PacketIn) → IsAvailable ins a → IsAvailable ins b → IfOk result (λ e. Computes ins width (worth packet op (a ∷ b ∷ []) width) (tree_of e)) }
+    ensures { (ins : List (Operand N)) (packet : PacketIn) → IsAvailable ins a → IsAvailable ins b → IfOk result (λ e. ComputesBy (makes_product op) ins width (worth packet op (a ∷ b ∷ []) width) (tree_of e)) }
 {
     if let Some(test) = test_op(op) {
         let e = compare(alloc, test, a, b, width)?;
@@ -137,7 +137,7 @@ fn expression<N: Copy>(
     requires in_range { IsInRange op }
     requires operands { All IsOperand args.now }
     requires width { IsWide width }
-    ensures { (ins : List (Operand N)) (packet : PacketIn) → All (IsAvailable ins) args.now → IfOk result (λ e. Computes ins width (worth packet op args.now width) (tree_of e)) }
+    ensures { (ins : List (Operand N)) (packet : PacketIn) → All (IsAvailable ins) args.now → IfOk result (λ e. ComputesBy (makes_product op) ins width (worth packet op args.now width) (tree_of e)) }
 {
     let (a, b) = (input(args, 0), input(args, 1));
     match op {
@@ -260,7 +260,7 @@ fn pair_wires<P: Copy>(
     requires two { takes_all op ≡ false }
     requires operands { All IsOperand args.now }
     requires width { IsWide width }
-    ensures { (packet : PacketIn) → IfOk result (Gives part (wires_of wires.old.items) (wires_of wires.new.items) args.now (HasDivisor op args.now) (worth packet op args.now width) width) }
+    ensures { (packet : PacketIn) → IfOk result (GivesBy (makes_product op) part (wires_of wires.old.items) (wires_of wires.new.items) (taken op args.now) (HasDivisor op args.now) (worth packet op args.now width) width) }
 {
     let (a, b) = (input(args, 0), input(args, 1));
     match op {
@@ -292,7 +292,7 @@ fn operation_wires<P: Copy>(
     requires in_range { IsInRange op }
     requires operands { All IsOperand args.now }
     requires width { IsWide width }
-    ensures { (packet : PacketIn) → IfOk result (Gives part (wires_of wires.old.items) (wires_of wires.new.items) args.now (HasDivisor op args.now) (worth packet op args.now width) width) }
+    ensures { (packet : PacketIn) → IfOk result (GivesBy (makes_product op) part (wires_of wires.old.items) (wires_of wires.new.items) (taken op args.now) (HasDivisor op args.now) (worth packet op args.now width) width) }
 {
     if takes_all(op) {
         let out = list_wires(alloc, wires, part, op, args, width)?;
@@ -322,7 +322,7 @@ fn part_wires<P: Copy>(
     requires operands { All IsOperand args.now }
     requires width { IsWide width }
     requires from { from ≤ 63 }
-    ensures { (packet : PacketIn) → IfOk result (Gives part (wires_of wires.old.items) (wires_of wires.new.items) args.now (HasDivisor op args.now) (λ v. bits_from (number packet op (map_list (number_in v) args.now)) from width) width) }
+    ensures { (packet : PacketIn) → IfOk result (GivesBy (makes_product op) part (wires_of wires.old.items) (wires_of wires.new.items) (taken op args.now) (HasDivisor op args.now) (λ v. bits_from (number packet op (map_list (number_in v) args.now)) from width) width) }
 {
     if from == 0 {
         let out = operation_wires(alloc, wires, part, op, args, width)?;
@@ -349,7 +349,7 @@ pub fn cell_wires<P: Copy>(
     requires operands { All IsOperand args.now }
     requires width { width ≤ 64 }
     requires from { from ≤ 63 }
-    ensures { (packet : PacketIn) → IfOk result (Gives part (wires_of wires.old.items) (wires_of wires.new.items) args.now (HasDivisor op args.now) (λ v. bits_from (number packet op (map_list (number_in v) args.now)) from width) width) }
+    ensures { (packet : PacketIn) → IfOk result (GivesBy (makes_product op) part (wires_of wires.old.items) (wires_of wires.new.items) (taken op args.now) (HasDivisor op args.now) (λ v. bits_from (number packet op (map_list (number_in v) args.now)) from width) width) }
 {
     if width == 0 {
         return Ok(Operand::Known(0));

@@ -1,14 +1,14 @@
 //! Wires of a part, one behind another.
 
-ghost use Rattle.std.specs.Prelude.{ℕ, List, [], ◌∷◌, ◌++◌, Some, ◌≡◌, ◌^◌, ◌<◌, ◌≤◌, All, length, IfOk, OnOk};
+ghost use Rattle.std.specs.Prelude.{ℕ, Bool, List, [], ◌∷◌, ◌++◌, Some, ◌≡◌, ◌^◌, ◌<◌, ◌≤◌, All, length, IfOk, OnOk};
 ghost use Rattle.net_core.specs.Value.{Env};
 ghost use Rattle.net_core.specs.View.{tree_of, right_of};
 ghost use Rattle.block_core.specs.Blocks.{BlockWireTree};
 ghost use Rattle.block_core.specs.declared.name.Name.{Name};
 ghost use Rattle.cell_core.specs.Cells.{bits_from};
 ghost use Rattle.cell_nets.specs.Operands.{IsOperand, IsAvailable, IsWide, number_in};
-ghost use Rattle.cell_nets.specs.Parts.{Computes};
-ghost use Rattle.cell_nets.specs.Wires.{wires_of, always, Gives};
+ghost use Rattle.cell_nets.specs.Parts.{ComputesBy};
+ghost use Rattle.cell_nets.specs.Wires.{wires_of, always, GivesBy, Gives};
 
 use crate::operand::Operand;
 use crate::slice::slice;
@@ -44,7 +44,7 @@ pub fn add_wire<P: Copy>(
 ) -> Result<Operand<Name<P>>, AllocError>
     requires { IsWide width }
     ensures operand { IfOk result IsOperand }
-    ensures gives { (args : List (Operand (Name P))) (f : Env (Name P) → ℕ) → ((v : Env (Name P)) → f v < 2 ^ width) → ((ins : List (Operand (Name P))) → All (IsAvailable ins) args → Computes ins width f (tree_of e)) → IfOk result (Gives part (wires_of wires.old.items) (wires_of wires.new.items) args always f width) }
+    ensures gives { (product : Bool) (args : List (Operand (Name P))) (f : Env (Name P) → ℕ) → ((v : Env (Name P)) → f v < 2 ^ width) → ((ins : List (Operand (Name P))) → All (IsAvailable ins) args → ComputesBy product ins width f (tree_of e)) → IfOk result (GivesBy product part (wires_of wires.old.items) (wires_of wires.new.items) args always f width) }
 {
     let name = push(wires, part, width, Right::Plain(e))?;
     Ok(Operand::Net(name, width))

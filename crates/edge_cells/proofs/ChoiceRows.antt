@@ -9,19 +9,17 @@ use Rattle.cell_core.specs.Rows.{AreRows, greatest}
 use Rattle.operator_cells.specs.declared.joining.Arm.{Arm}
 use Rattle.operator_cells.specs.Joining.{flat}
 use Rattle.operator_cells.specs.Rising.{GrowsTo, Rises, RiseAll}
-use Rattle.operator_cells.proofs.RisingLaws.{Stand, stand_none, stand_more, stand_all, rises_none, rises_then}
+use Rattle.operator_cells.proofs.RisingLaws.{Stand, stand_none, stand_more, stand_all, rises_then}
 use Rattle.kind_core.specs.declared.number.Number.{Number}
 use Rattle.kind_core.specs.declared.kind.Kinds.{Kinds}
 use Rattle.held_cells.specs.declared.held.Held.{Held}
-use Rattle.held_cells.specs.declared.held.Pointer.{Pointer}
 use Rattle.held_cells.specs.declared.way.Way.{Way}
-use Rattle.held_cells.specs.Held.{PointerView, pointer_of, pointed, pointer_at}
+use Rattle.held_cells.specs.Held.{PointerView}
 use Rattle.held_cells.specs.Rows.{cells_of_pointer, number_row, held_row, bits_row, brought_row, chosen_row}
 use Rattle.edge_cells.specs.declared.part.Part.{Part}
-use Rattle.edge_cells.specs.Meeting.{held_at, kind_at, number_in, cell_in, BringCells}
-use Rattle.edge_cells.specs.Rows.{choice_row, pointer_row_brought}
+use Rattle.edge_cells.specs.Meeting.{held_at, kind_at, number_in, cell_in}
+use Rattle.edge_cells.specs.Rows.{choice_row}
 use Rattle.edge_cells.proofs.Choices.{AreArms}
-use Rattle.edge_cells.proofs.Pointed.{cell_same}
 
 -- ---- new cells
 
@@ -132,19 +130,8 @@ choice_rises {old} {mid} {new} {arms} {here} {value} {brings} {n} l m are to r =
 
 -- ---- what one edge brings
 
--- a cell that was there
-pub arms_to_kept : {old mid : List CellView} {arms more : List Arm} {here : List Way} {brings : (ℕ → ℕ) → Way → ℕ} {n : ℕ} (a : Arm) (e : Way) → ArmsTo old mid arms here brings n
-    → ((row : ℕ → ℕ) → row a.cell ≤ brings row (get_or here n e)) → more ≡ arms ++ a ∷ [] → length arms ≡ n → n < length here → ArmsTo old mid more here brings (n + 1)
-arms_to_kept {here = here} {brings = brings} {n = n} a e sofar low is count range =
-    arms_to_more {f = λ row. brings row (get_or here n e)} a e sofar (rises_none a.cell (λ row. brings row (get_or here n e)) low) (λ row. omega arith) is count range
-
 pub number_low : (row : ℕ → ℕ) (part : Part) (k : Kinds) (h : Held) (a : Number) (c : ℕ) → a ≡ number_in (kind_at part k) → c ≡ held_at part h → number_row row a c ≤ number_row row (number_in (kind_at part k)) (held_at part h)
 number_low row part k h a c f g = same_le (ap (λ (n : Number). number_row row n c) f ∙ ap (number_row row (number_in (kind_at part k))) g)
   where
     same_le : {x y : ℕ} → x ≡ y → x ≤ y
     same_le h = omega (arith, h)
-
-pub cell_low : (n : ℕ) (ps : List Pointer) (here : List Way) (part : Part) (j i h x : ℕ) (d : Way) (p : Pointer) (row : ℕ → ℕ) → BringCells n (pointed ps) here part j → i < length here
-    → h ≡ held_at part (get_or here i d).held → p ≡ get_or ps h p → x ≡ cell_in (pointer_of p) j → row x ≤ pointer_row_brought (pointed ps) part row (get_or here i d)
-cell_low n ps here part j i h x d p row there range is at e =
-    omega (arith, ap row (cell_same n ps here part j i h x d p there range is at e), cell_row row (pointer_at (pointed ps) (held_at part (get_or here i d).held)) j (there i d range).2)

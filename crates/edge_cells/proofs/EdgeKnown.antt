@@ -47,7 +47,7 @@ read : (w : World) (maps : MapState) (decls : List MapDecl) (packet : PacketIn) 
 read w maps decls packet v ps (Num (Known n)) c x f r d h = d
 read w maps decls packet v ps (Num Unknown) c x f r d h = h
 read w maps decls packet v ps (Packet o) c x f r d h = (d, place-short decls o x d r)
-read w maps decls packet v ps End c x f r d h = d ∙ ap (λ (n : ℕ). is.Packet (pos n)) f
+read w maps decls packet v ps End c x f r d h = let e : x ≡ is.Packet (pos (length packet.frame)) = d ∙ ap (λ (n : ℕ). is.Packet (pos n)) f in (e, place-short decls (length packet.frame) x e r)
 read w maps decls packet v ps (Maybe q n) c x f r d h = h
 read w maps decls packet v ps (Entry q o) c x f r d h = h
 read w maps decls packet v ps k c x f r d h = tt
@@ -66,7 +66,7 @@ operand-read decls packet v ps node k h m i X l known = register_read decls pack
 
 pub jumps_are_tested : JumpsAreTested
 jumps_are_tested decls packet v ps node k h m i w c s old new condition taken tests run known dst src cmp =
-    tests.value decls packet v (machine.register m.registers i.dst) (step.operand m.registers i s) taken run (omega (arith, known.held.length_is, known.in_range.frame_short))
+    tests.value decls packet v (machine.register m.registers i.dst) (step.operand m.registers i s) taken run
     (register_read decls packet v ps node k h m i.dst dst known) (operand-read decls packet v ps node k h m i s src known) cmp
 
 -- ---- ends

@@ -30,21 +30,21 @@ use Rattle.held_cells.specs.Carrying.{IsKnown}
 use Rattle.edge_cells.specs.Leaving.{EdgesAreKnown, EdgesAreInside, SingleEdgesAreKnown}
 use Rattle.edge_cells.proofs.JumpKindLaws.{Along, same, null, entry, IsEdge, edge_of, edge-any, single_edge}
 
-counts-along : (decls : List MapDecl) (n : ℕ) (ps : List PointerView) (a b : Kind) (c : ℕ) → Along a b → Counts decls n ps a c → Counts decls n ps b c
+counts-along : {P : ℕ → Type 0} (decls : List MapDecl) (n : ℕ) (ps : List PointerView) (a b : Kind) (c : ℕ) → Along P a b → Counts decls n ps a c → Counts decls n ps b c
 counts-along decls n ps a b c (same k) h = h
 counts-along decls n ps a b c (null q m) h = tt
-counts-along decls n ps a b c (entry q m) h = h
+counts-along decls n ps a b c (entry q m p) h = h
 
-pub set-along : (a b : Kind) → Along a b → a ≢ Unset → b ≢ Unset
+pub set-along : {P : ℕ → Type 0} (a b : Kind) → Along P a b → a ≢ Unset → b ≢ Unset
 set-along a b (same k) h = h
 set-along a b (null q m) h = λ e. absurd (cc)
-set-along a b (entry q m) h = λ e. absurd (cc)
+set-along a b (entry q m p) h = λ e. absurd (cc)
 
 -- an answer that is an entry was found
-holds-along : (w : World) (maps : MapState) (decls : List MapDecl) (v : ℕ → ℕ) (ps : List PointerView) (a b : Kind) (c : ℕ) (x : Value) → Along a b → Describes w maps b x → Holds decls v ps a c x → Holds decls v ps b c x
+holds-along : {P : ℕ → Type 0} (w : World) (maps : MapState) (decls : List MapDecl) (v : ℕ → ℕ) (ps : List PointerView) (a b : Kind) (c : ℕ) (x : Value) → Along P a b → Describes w maps b x → Holds decls v ps a c x → Holds decls v ps b c x
 holds-along w maps decls v ps a b c x (same k) d h = h
 holds-along w maps decls v ps a b c x (null q m) d h = tt
-holds-along w maps decls v ps a b c x (entry q m) d h = by (on (v (pointer_at ps c).found)) refl h
+holds-along w maps decls v ps a b c x (entry q m p) d h = by (on (v (pointer_at ps c).found)) refl h
   where
     by : (t : Bool) → on (v (pointer_at ps c).found) ≡ t → x ≡ (if t then is.Entry q (key_of decls v q (pointer_at ps c)) (pos 0) else is.Number 0)
         → (on (v (pointer_at ps c).found) ≡ true) × (x ≡ is.Entry q (key_of decls v q (pointer_at ps c)) (pos 0))
@@ -53,7 +53,7 @@ holds-along w maps decls v ps a b c x (entry q m) d h = by (on (v (pointer_at ps
 
 pub edges_are_inside : EdgesAreInside
 edges_are_inside decls n ps k h i node w c s taken is inside =
-    let e : IsEdge k (transferred decls k i node false taken) = edge_of decls k i node w c s taken is in
+    let e = edge_of decls k i node w c s taken is in
     record {
       registers = λ r l. counts-along decls n ps _ _ (slice_index h.registers r) (e.registers r) (inside.registers r l);
       slots = λ r l. counts-along decls n ps _ _ (slice_index h.slots r) (e.slots r) (inside.slots r l);
@@ -68,8 +68,8 @@ placed-range m place r = record { registers = r.registers; stack = r.stack; fram
 abbrev at_node : World → ℕ → World
 at_node w node = record { frame = w.frame; node = node; gave = w.gave }
 
-known-along : (decls : List MapDecl) (packet : PacketIn) (v : ℕ → ℕ) (ps : List PointerView) (node to place : ℕ) (k j : Kinds) (h : Held) (m : Machine) → (known : IsKnown decls packet v ps node k h m)
-    → node ≤ to → DescribesMachine (at_node known.world node) j m → IsEdge k j → IsKnown decls packet v ps to j h (record m { place = place })
+known-along : {P : ℕ → Type 0} (decls : List MapDecl) (packet : PacketIn) (v : ℕ → ℕ) (ps : List PointerView) (node to place : ℕ) (k j : Kinds) (h : Held) (m : Machine) → (known : IsKnown decls packet v ps node k h m)
+    → node ≤ to → DescribesMachine (at_node known.world node) j m → IsEdge P k j → IsKnown decls packet v ps to j h (record m { place = place })
 known-along decls packet v ps node to place k j h m known l d e = record {
   world = at_node known.world node;
   node_is = l;
@@ -128,4 +128,4 @@ pub single_edges_are_known : LaterDescribes → SingleEdgesAreKnown
 single_edges_are_known later decls packet v ps node to place k h m i w taken known l is =
     subst (λ (j : Kinds). IsKnown decls packet v ps to j h (record m { place = place })) (sym (single_edge decls k i node w taken is))
     (known-along decls packet v ps node to place k k h m known l
-    (later known.world (at_node known.world node) k m (record { frame = refl; node = known.node_is; gave = λ n p. refl }) known.stands.described) (edge-any k k refl refl))
+    (later known.world (at_node known.world node) k m (record { frame = refl; node = known.node_is; gave = λ n p. refl }) known.stands.described) (edge-any {P = λ n. ⊥} k k refl refl))

@@ -1,5 +1,5 @@
 -- The rows of what is held along the edges of a jump.
-use Rattle.std.proofs.Common.{◌≡◌, ℕ, ◌-◌, ◌≤◌, nat_lt, Bool, true, false, List, refl, ap, arith}
+use Rattle.std.proofs.Common.{◌≡◌, ℕ, ◌≤◌, Bool, false, List, ap, arith}
 use Rattle.bpf_isa.specs.declared.operation.Width.{Width}
 use Rattle.bpf_isa.specs.declared.operation.JumpCode.{JumpCode}
 use Rattle.bpf_isa.specs.declared.operation.Src.{Src}
@@ -11,22 +11,17 @@ use Rattle.kind_core.specs.declared.kind.Kinds.{Kinds}
 use Rattle.kind_core.specs.Edges.{transferred}
 use Rattle.held_cells.specs.declared.held.Held.{Held}
 use Rattle.held_cells.specs.Held.{PointerView}
-use Rattle.held_cells.specs.Rows.{value_row, held_row}
-use Rattle.edge_cells.proofs.JumpKindLaws.{Along, same, null, entry, IsEdge, edge_of, single_edge}
+use Rattle.held_cells.specs.Rows.{value_row, number_at, held_row}
+use Rattle.edge_cells.proofs.JumpKindLaws.{Along, same, null, entry, IsEdge, along_at, edge_of, single_edge}
 
 -- what a lookup answered has the same cells as an entry, and none as null
-value_along : (row : ℕ → ℕ) (ps : List PointerView) (a b : Kind) (c : ℕ) → Along a b → value_row row ps b c ≤ value_row row ps a c
+value_along : {P : ℕ → Type 0} (row : ℕ → ℕ) (ps : List PointerView) (a b : Kind) (c : ℕ) → Along P a b → value_row row ps b c ≤ value_row row ps a c
 value_along row ps a b c (same k) = omega arith
 value_along row ps a b c (null q n) = omega arith
-value_along row ps a b c (entry q n) = omega arith
+value_along row ps a b c (entry q n p) = omega arith
 
-held_along : (row : ℕ → ℕ) (ps : List PointerView) (h : Held) (k j : Kinds) (place : ℕ) → IsEdge k j → held_row row ps h j place ≤ held_row row ps h k place
-held_along row ps h k j place e = by (nat_lt place 11) refl (nat_lt place 75) refl
-  where
-    by : (a : Bool) → nat_lt place 11 ≡ a → (b : Bool) → nat_lt place 75 ≡ b → held_row row ps h j place ≤ held_row row ps h k place
-    by true f b g = rw f (value_along row ps _ _ _ (e.registers place))
-    by false f true g = rw (f, g) (value_along row ps _ _ _ (e.slots (place - 11)))
-    by false f false g = rw (f, g) (omega arith)
+held_along : {P : ℕ → Type 0} (row : ℕ → ℕ) (ps : List PointerView) (h : Held) (k j : Kinds) (place : ℕ) → IsEdge P k j → held_row row ps h j place ≤ held_row row ps h k place
+held_along row ps h k j place e = value_along row ps _ _ (number_at h place) (along_at k j place e)
 
 -- Along an edge of a conditional jump nothing that is held stands later.
 pub jump_held_row : (decls : List MapDecl) (row : ℕ → ℕ) (ps : List PointerView) (h : Held) (k : Kinds) (i : Insn) (node : ℕ) (w : Width) (c : JumpCode) (s : Src) (taken : Bool) (place : ℕ) → i.op ≡ Jump w c s

@@ -37,7 +37,7 @@ place_inside (Byte i) l = omega (arith, l)
 place_inside Target l = omega arith
 
 -- every place is that of a part
-part_at : (place : ℕ) → place < 332 → (part : Part) × IsPart part × (data_place part ≡ place)
+pub part_at : (place : ℕ) → place < 332 → (part : Part) × IsPart part × (data_place part ≡ place)
 part_at place l = by (cases_lt place 11) (cases_lt place 75) (cases_lt place 331)
   where
     by : (place < 11) ⊎ (11 ≤ place) → (place < 75) ⊎ (75 ≤ place) → (place < 331) ⊎ (331 ≤ place) → (part : Part) × IsPart part × (data_place part ≡ place)

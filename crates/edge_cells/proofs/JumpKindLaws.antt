@@ -1,6 +1,7 @@
 -- The kinds along the edges of a jump.
-use Rattle.std.proofs.Common.{◌≡◌, ℕ, pos, zero, suc, ◌==◌, Bool, true, false, if◌then◌else◌, List, [], ◌∷◌, length, get_or, refl, ◌∙◌, sym, ap, subst}
-use Rattle.std.specs.Prelude.{Ok, Err}
+use Rattle.std.proofs.Common.{◌≡◌, ℕ, pos, zero, suc, ◌-◌, ◌==◌, nat_lt, ◌⊎◌, inl, inr, Bool, true, false, if◌then◌else◌, List, [], ◌∷◌, length, get_or, refl, ◌∙◌, sym, ap, subst}
+use Rattle.std.specs.Prelude.{Option, Some, None, Ok, Err}
+use Rattle.std.proofs.lemmas.Bool.{eqb-true}
 use Rattle.bpf_isa.specs.declared.operation.Width.{Width}
 use Rattle.bpf_isa.specs.declared.operation.Width.TheVariants.{Bits64}
 use Rattle.bpf_isa.specs.declared.operation.JumpCode.{JumpCode}
@@ -20,34 +21,52 @@ use Rattle.kind_core.specs.Tests.{◌>>=◌, Test}
 use Rattle.kind_core.specs.Kinds.{register}
 use Rattle.kind_core.specs.Profile.{profiled}
 use Rattle.kind_core.specs.Effects.{effect_of, effect_as, operand}
-use Rattle.kind_core.specs.Edges.{changed_if, transferred}
+use Rattle.kind_core.specs.Edges.{decided, decided_as, changed_if, transferred}
+use Rattle.held_cells.specs.Rows.{kind_at}
+use Rattle.edge_cells.specs.Testing.{is_equality, null_holds}
 
--- what an edge makes of a kind: what a lookup answered is null, or an entry
-pub data Along : Kind → Kind → Type 0 where
-  same : (k : Kind) → Along k k
-  null : (q n : ℕ) → Along (Maybe q n) (Num (Known 0))
-  entry : (q n : ℕ) → Along (Maybe q n) (Entry q 0)
+-- What an edge makes of a kind: what a lookup answered is null, or an entry if its node is one of these.
+pub data Along (Enter : ℕ → Type 0) : Kind → Kind → Type 0 where
+  same : (k : Kind) → Along Enter k k
+  null : (q n : ℕ) → Along Enter (Maybe q n) (Num (Known 0))
+  entry : (q n : ℕ) → Enter n → Along Enter (Maybe q n) (Entry q 0)
 
-pub record IsEdge (k j : Kinds) : Type 0 where
-  pub registers : (r : ℕ) → Along (get_or k.registers r Unset) (get_or j.registers r Unset)
-  pub slots : (s : ℕ) → Along (get_or k.slots s Unset) (get_or j.slots s Unset)
+pub record IsEdge (Enter : ℕ → Type 0) (k j : Kinds) : Type 0 where
+  pub registers : (r : ℕ) → Along Enter (get_or k.registers r Unset) (get_or j.registers r Unset)
+  pub slots : (s : ℕ) → Along Enter (get_or k.slots s Unset) (get_or j.slots s Unset)
   pub register_count : length j.registers ≡ length k.registers
   pub slot_count : length j.slots ≡ length k.slots
 
--- the kinds along an edge of a condition on these two
-abbrev two : Kind → Kind → Kinds
+pub along_at : {Enter : ℕ → Type 0} (k j : Kinds) (place : ℕ) → IsEdge Enter k j → Along Enter (kind_at k place) (kind_at j place)
+along_at {Enter} k j place e = by (nat_lt place 11) refl (nat_lt place 75) refl
+  where
+    by : (a : Bool) → nat_lt place 11 ≡ a → (b : Bool) → nat_lt place 75 ≡ b → Along Enter (kind_at k place) (kind_at j place)
+    by true f b g = rw f (e.registers place)
+    by false f true g = rw (f, g) (e.slots (place - 11))
+    by false f false g = rw (f, g) (same _)
+
+-- on this edge of a test against null what the lookup of node n answered is an entry
+pub record Enters (taken : Bool) (w : Width) (c : JumpCode) (a b : Kind) (n : ℕ) : Type 0 where
+  pub map : ℕ
+  pub wide : w ≡ Bits64
+  pub equality : is_equality c ≡ true
+  pub goes : null_holds c true ≡ taken
+  pub sides : ((a ≡ Maybe map n) × (b ≡ Num (Known 0))) ⊎ ((a ≡ Num (Known 0)) × (b ≡ Maybe map n))
+
+-- a jump on these two, and the kinds along an edge of it
+abbrev pub two : Kind → Kind → Kinds
 two a b = record { registers = a ∷ b ∷ []; slots = []; checked = 0 }
 
-abbrev on_two : Insn
+abbrev pub on_two : Insn
 on_two = record { op = Exit; dst = 0; src = 1; offset = pos 0; imm = pos 0 }
 
 abbrev along : ℕ → Bool → Kinds → Width → JumpCode → Kind → Kind → Kinds
 along node taken k w c a b = changed_if node false taken k (effect_as [] (two a b) on_two (Jump w c X))
 
-pub edge-any : (k j : Kinds) → j.registers ≡ k.registers → j.slots ≡ k.slots → IsEdge k j
-edge-any k j e f = record {
-  registers = λ r. subst (λ (xs : List Kind). Along (get_or k.registers r Unset) (get_or xs r Unset)) (sym e) (same (get_or k.registers r Unset));
-  slots = λ s. subst (λ (xs : List Kind). Along (get_or k.slots s Unset) (get_or xs s Unset)) (sym f) (same (get_or k.slots s Unset));
+pub edge-any : {P : ℕ → Type 0} (k j : Kinds) → j.registers ≡ k.registers → j.slots ≡ k.slots → IsEdge P k j
+edge-any {P} k j e f = record {
+  registers = λ r. subst (λ (xs : List Kind). Along P (get_or k.registers r Unset) (get_or xs r Unset)) (sym e) (same (get_or k.registers r Unset));
+  slots = λ s. subst (λ (xs : List Kind). Along P (get_or k.slots s Unset) (get_or xs s Unset)) (sym f) (same (get_or k.slots s Unset));
   register_count = ap length e;
   slot_count = ap length f;
 }
@@ -62,31 +81,31 @@ nulled n ks = (along 0 true (only ks) Bits64 Jeq (Maybe 0 n) (Num (Known zero)))
 abbrev entered : ℕ → List Kind → List Kind
 entered n ks = (along 0 false (only ks) Bits64 Jeq (Maybe 0 n) (Num (Known zero))).registers
 
-null-if : (t : Bool) (q m : ℕ) → Along (Maybe q m) (if t then Num (Known 0) else Maybe q m)
+null-if : {P : ℕ → Type 0} (t : Bool) (q m : ℕ) → Along P (Maybe q m) (if t then Num (Known 0) else Maybe q m)
 null-if true q m = null q m
 null-if false q m = same (Maybe q m)
 
-entry-if : (t : Bool) (q m : ℕ) → Along (Maybe q m) (if t then Entry q 0 else Maybe q m)
-entry-if true q m = entry q m
-entry-if false q m = same (Maybe q m)
+entry-if : {P : ℕ → Type 0} (t : Bool) (q m n : ℕ) → (m == n) ≡ t → P n → Along P (Maybe q m) (if t then Entry q 0 else Maybe q m)
+entry-if {P} true q m n e p = entry q m (subst P (sym (eqb-true m n e)) p)
+entry-if false q m n e p = same (Maybe q m)
 
-null-one : (n : ℕ) (x : Kind) → Along x (get_or (nulled n (x ∷ [])) 0 Unset)
+null-one : {P : ℕ → Type 0} (n : ℕ) (x : Kind) → Along P x (get_or (nulled n (x ∷ [])) 0 Unset)
 null-one n (Maybe q m) = null-if (m == n) q m
 null-one n x = same x
 
-entry-one : (n : ℕ) (x : Kind) → Along x (get_or (entered n (x ∷ [])) 0 Unset)
-entry-one n (Maybe q m) = entry-if (m == n) q m
-entry-one n x = same x
+entry-one : {P : ℕ → Type 0} (n : ℕ) (x : Kind) → P n → Along P x (get_or (entered n (x ∷ [])) 0 Unset)
+entry-one n (Maybe q m) p = entry-if (m == n) q m n refl p
+entry-one n x p = same x
 
-at_nulled : (n : ℕ) (ks : List Kind) (i : ℕ) → Along (get_or ks i Unset) (get_or (nulled n ks) i Unset)
+at_nulled : {P : ℕ → Type 0} (n : ℕ) (ks : List Kind) (i : ℕ) → Along P (get_or ks i Unset) (get_or (nulled n ks) i Unset)
 at_nulled n [] i = same Unset
 at_nulled n (x ∷ ks) zero = null-one n x
 at_nulled n (x ∷ ks) (suc i) = at_nulled n ks i
 
-at_entered : (n : ℕ) (ks : List Kind) (i : ℕ) → Along (get_or ks i Unset) (get_or (entered n ks) i Unset)
-at_entered n [] i = same Unset
-at_entered n (x ∷ ks) zero = entry-one n x
-at_entered n (x ∷ ks) (suc i) = at_entered n ks i
+at_entered : {P : ℕ → Type 0} (n : ℕ) (ks : List Kind) (i : ℕ) → P n → Along P (get_or ks i Unset) (get_or (entered n ks) i Unset)
+at_entered n [] i p = same Unset
+at_entered n (x ∷ ks) zero p = entry-one n x p
+at_entered n (x ∷ ks) (suc i) p = at_entered n ks i p
 
 nulled_length : (n : ℕ) (ks : List Kind) → length (nulled n ks) ≡ length ks
 nulled_length n [] = refl
@@ -96,66 +115,66 @@ entered_length : (n : ℕ) (ks : List Kind) → length (entered n ks) ≡ length
 entered_length n [] = refl
 entered_length n (x ∷ ks) = ap suc (entered_length n ks)
 
-null-edge : (k : Kinds) (n : ℕ) → IsEdge k (along 0 true k Bits64 Jeq (Maybe 0 n) (Num (Known zero)))
+null-edge : {P : ℕ → Type 0} (k : Kinds) (n : ℕ) → IsEdge P k (along 0 true k Bits64 Jeq (Maybe 0 n) (Num (Known zero)))
 null-edge k n = record { registers = at_nulled n k.registers; slots = at_nulled n k.slots; register_count = nulled_length n k.registers; slot_count = nulled_length n k.slots }
 
-entry-edge : (k : Kinds) (n : ℕ) → IsEdge k (along 0 false k Bits64 Jeq (Maybe 0 n) (Num (Known zero)))
-entry-edge k n = record { registers = at_entered n k.registers; slots = at_entered n k.slots; register_count = entered_length n k.registers; slot_count = entered_length n k.slots }
+entry-edge : {P : ℕ → Type 0} (k : Kinds) (n : ℕ) → P n → IsEdge P k (along 0 false k Bits64 Jeq (Maybe 0 n) (Num (Known zero)))
+entry-edge k n p = record { registers = λ i. at_entered n k.registers i p; slots = λ i. at_entered n k.slots i p; register_count = entered_length n k.registers; slot_count = entered_length n k.slots }
 
 -- ---- the conditions
 
-edge-numbers : (node : ℕ) (taken : Bool) (k : Kinds) (w : Width) (c : JumpCode) (x y : Number) → IsEdge k (along node taken k w c (Num x) (Num y))
+edge-numbers : (node : ℕ) (taken : Bool) (k : Kinds) (w : Width) (c : JumpCode) (x y : Number) → IsEdge (Enters taken w c (Num x) (Num y)) k (along node taken k w c (Num x) (Num y))
 edge-numbers node taken k w c (Known x) (Known y) = edge-any k _ refl refl
 edge-numbers node taken k w c (Known x) Unknown = edge-any k _ refl refl
 edge-numbers node taken k w c Unknown (Known y) = edge-any k _ refl refl
 edge-numbers node taken k w c Unknown Unknown = edge-any k _ refl refl
 
 -- what a lookup answered against a number, on either side
-edge-null : (node : ℕ) (taken : Bool) (k : Kinds) (c : JumpCode) (q n : ℕ) (y : Number) → IsEdge k (along node taken k Bits64 c (Maybe q n) (Num y))
+edge-null : (node : ℕ) (taken : Bool) (k : Kinds) (c : JumpCode) (q n : ℕ) (y : Number) → IsEdge (Enters taken Bits64 c (Maybe q n) (Num y)) k (along node taken k Bits64 c (Maybe q n) (Num y))
 edge-null node true k Jeq q n (Known zero) = null-edge k n
-edge-null node false k Jeq q n (Known zero) = entry-edge k n
-edge-null node true k Jne q n (Known zero) = entry-edge k n
+edge-null node false k Jeq q n (Known zero) = entry-edge k n (record { map = q; wide = refl; equality = refl; goes = refl; sides = inl (refl, refl) })
+edge-null node true k Jne q n (Known zero) = entry-edge k n (record { map = q; wide = refl; equality = refl; goes = refl; sides = inl (refl, refl) })
 edge-null node false k Jne q n (Known zero) = null-edge k n
 edge-null node taken k c q n (Known (suc a)) = edge-any k _ refl refl
 edge-null node taken k c q n Unknown = edge-any k _ refl refl
 edge-null node taken k c q n y = edge-any k _ refl refl
 
-edge-null-right : (node : ℕ) (taken : Bool) (k : Kinds) (c : JumpCode) (q n : ℕ) (y : Number) → IsEdge k (along node taken k Bits64 c (Num y) (Maybe q n))
+edge-null-right : (node : ℕ) (taken : Bool) (k : Kinds) (c : JumpCode) (q n : ℕ) (y : Number) → IsEdge (Enters taken Bits64 c (Num y) (Maybe q n)) k (along node taken k Bits64 c (Num y) (Maybe q n))
 edge-null-right node true k Jeq q n (Known zero) = null-edge k n
-edge-null-right node false k Jeq q n (Known zero) = entry-edge k n
-edge-null-right node true k Jne q n (Known zero) = entry-edge k n
+edge-null-right node false k Jeq q n (Known zero) = entry-edge k n (record { map = q; wide = refl; equality = refl; goes = refl; sides = inr (refl, refl) })
+edge-null-right node true k Jne q n (Known zero) = entry-edge k n (record { map = q; wide = refl; equality = refl; goes = refl; sides = inr (refl, refl) })
 edge-null-right node false k Jne q n (Known zero) = null-edge k n
 edge-null-right node taken k c q n (Known (suc a)) = edge-any k _ refl refl
 edge-null-right node taken k c q n Unknown = edge-any k _ refl refl
 edge-null-right node taken k c q n y = edge-any k _ refl refl
 
 -- a place in the packet against its end
-edge-place : (node : ℕ) (taken : Bool) (k : Kinds) (c : JumpCode) (o : ℕ) → IsEdge k (along node taken k Bits64 c (Packet o) End)
+edge-place : (node : ℕ) (taken : Bool) (k : Kinds) (c : JumpCode) (o : ℕ) → IsEdge (Enters taken Bits64 c (Packet o) End) k (along node taken k Bits64 c (Packet o) End)
 edge-place node true k Jgt o = edge-any k _ refl refl
 edge-place node false k Jgt o = edge-any k _ refl refl
 edge-place node taken k c o = edge-any k _ refl refl
 
-edge-end : (node : ℕ) (taken : Bool) (k : Kinds) (c : JumpCode) (o : ℕ) → IsEdge k (along node taken k Bits64 c End (Packet o))
+edge-end : (node : ℕ) (taken : Bool) (k : Kinds) (c : JumpCode) (o : ℕ) → IsEdge (Enters taken Bits64 c End (Packet o)) k (along node taken k Bits64 c End (Packet o))
 edge-end node true k Jgt o = edge-any k _ refl refl
 edge-end node false k Jgt o = edge-any k _ refl refl
 edge-end node taken k c o = edge-any k _ refl refl
 
 -- any kind against a number
-edge-left : (node : ℕ) (taken : Bool) (k : Kinds) (c : JumpCode) (a : Kind) (y : Number) → IsEdge k (along node taken k Bits64 c a (Num y))
+edge-left : (node : ℕ) (taken : Bool) (k : Kinds) (c : JumpCode) (a : Kind) (y : Number) → IsEdge (Enters taken Bits64 c a (Num y)) k (along node taken k Bits64 c a (Num y))
 edge-left node taken k c (Num x) y = edge-numbers node taken k Bits64 c x y
 edge-left node taken k c (Maybe q n) y = edge-null node taken k c q n y
 edge-left node taken k Jeq a (Known zero) = edge-any k _ refl refl
 edge-left node taken k c a (Known (suc n)) = edge-any k _ refl refl
 edge-left node taken k c a y = edge-any k _ refl refl
 
-edge-right : (node : ℕ) (taken : Bool) (k : Kinds) (c : JumpCode) (x : Number) (b : Kind) → IsEdge k (along node taken k Bits64 c (Num x) b)
+edge-right : (node : ℕ) (taken : Bool) (k : Kinds) (c : JumpCode) (x : Number) (b : Kind) → IsEdge (Enters taken Bits64 c (Num x) b) k (along node taken k Bits64 c (Num x) b)
 edge-right node taken k c x (Num y) = edge-numbers node taken k Bits64 c x y
 edge-right node taken k c x (Maybe q n) = edge-null-right node taken k c q n x
 edge-right node taken k Jeq (Known zero) b = edge-any k _ refl refl
 edge-right node taken k c (Known (suc n)) b = edge-any k _ refl refl
 edge-right node taken k c x b = edge-any k _ refl refl
 
-edge-on : (node : ℕ) (taken : Bool) (k : Kinds) (w : Width) (c : JumpCode) (a b : Kind) → IsEdge k (along node taken k w c a b)
+edge-on : (node : ℕ) (taken : Bool) (k : Kinds) (w : Width) (c : JumpCode) (a b : Kind) → IsEdge (Enters taken w c a b) k (along node taken k w c a b)
 edge-on node taken k w c (Num x) (Num y) = edge-numbers node taken k w c x y
 edge-on node taken k Bits64 c a (Num y) = edge-left node taken k c a y
 edge-on node taken k Bits64 c (Num x) b = edge-right node taken k c x b
@@ -164,14 +183,38 @@ edge-on node taken k Bits64 c End (Packet o) = edge-end node taken k c o
 edge-on node taken k w c a b = edge-any k _ refl refl
 
 edge-if : (decls : List MapDecl) (k : Kinds) (i : Insn) (node : ℕ) (w : Width) (c : JumpCode) (s : Src) (taken : Bool) (t : Test)
-    → IsEdge k (changed_if node false taken k (t >>= λ _. effect_as decls k i (Jump w c s)))
+    → IsEdge (Enters taken w c (register k i.dst) (operand k i s)) k (changed_if node false taken k (t >>= λ _. effect_as decls k i (Jump w c s)))
 edge-if decls k i node w c s taken (Ok u) = edge-on node taken k w c (register k i.dst) (operand k i s)
 edge-if decls k i node w c s taken (Err y) = edge-any k k refl refl
 
-pub edge_of : (decls : List MapDecl) (k : Kinds) (i : Insn) (node : ℕ) (w : Width) (c : JumpCode) (s : Src) (taken : Bool) → i.op ≡ Jump w c s → IsEdge k (transferred decls k i node false taken)
+pub edge_of : (decls : List MapDecl) (k : Kinds) (i : Insn) (node : ℕ) (w : Width) (c : JumpCode) (s : Src) (taken : Bool) → i.op ≡ Jump w c s
+    → IsEdge (Enters taken w c (register k i.dst) (operand k i s)) k (transferred decls k i node false taken)
 unfolding effect_of
 edge_of decls k i node w c s taken is =
-    subst (λ (op : Op). IsEdge k (changed_if node false taken k (profiled i k >>= λ _. effect_as decls k i op))) (sym is) (edge-if decls k i node w c s taken (profiled i k))
+    subst (λ (op : Op). IsEdge (Enters taken w c (register k i.dst) (operand k i s)) k (changed_if node false taken k (profiled i k >>= λ _. effect_as decls k i op))) (sym is) (edge-if decls k i node w c s taken (profiled i k))
+
+-- a test against null is undecided, so no answer is an entry on an edge of a decided jump
+null_undecided : (c : JumpCode) (q n : ℕ) → is_equality c ≡ true
+    → (decided_as (two (Maybe q n) (Num (Known 0))) on_two (Jump Bits64 c X) ≡ None) × (decided_as (two (Num (Known 0)) (Maybe q n)) on_two (Jump Bits64 c X) ≡ None)
+null_undecided Jeq q n e = (refl, refl)
+null_undecided Jne q n e = (refl, refl)
+null_undecided c q n e = absurd (cc)
+
+pub none_enters : (k : Kinds) (i : Insn) (w : Width) (c : JumpCode) (s : Src) (t taken : Bool) (n : ℕ) → i.op ≡ Jump w c s → decided k i ≡ Some t → Enters taken w c (register k i.dst) (operand k i s) n → ⊥
+none_enters k i w c s t taken n op is enters = by enters.sides
+  where
+    decided-on : Width → Kind → Kind → Option Bool
+    decided-on x a b = decided_as (two a b) on_two (Jump x c X)
+
+    also : decided-on Bits64 (register k i.dst) (operand k i s) ≡ Some t
+    also = ap (λ (x : Width). decided-on x (register k i.dst) (operand k i s)) (sym enters.wide) ∙ ap (decided_as k i) (sym op) ∙ is
+
+    none : {a b : Kind} → register k i.dst ≡ a → operand k i s ≡ b → decided-on Bits64 a b ≡ None → ⊥
+    none {a} {b} e f g = let bad : Some t ≡ None = sym also ∙ ap (λ (x : Kind). decided-on Bits64 x (operand k i s)) e ∙ ap (decided-on Bits64 a) f ∙ g in absurd (cc bad)
+
+    by : ((register k i.dst ≡ Maybe enters.map n) × (operand k i s ≡ Num (Known 0))) ⊎ ((register k i.dst ≡ Num (Known 0)) × (operand k i s ≡ Maybe enters.map n)) → ⊥
+    by (inl l) = none l.0 l.1 (null_undecided c enters.map n enters.equality).0
+    by (inr r) = none r.0 r.1 (null_undecided c enters.map n enters.equality).1
 
 -- a jump without a condition leaves all kinds
 single-if : (decls : List MapDecl) (k : Kinds) (i : Insn) (node : ℕ) (w : Width) (taken : Bool) (t : Test) → changed_if node false taken k (t >>= λ _. effect_as decls k i (Ja w)) ≡ k

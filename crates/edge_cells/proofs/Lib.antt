@@ -16,6 +16,8 @@ pub mod Operands
 pub mod Undecided
 pub mod TestRows
 pub mod ChoiceRows
+pub mod PointerArms
 pub mod PartRows
 pub mod JoinRows
+pub mod PointersMet
 pub mod EdgeRowLaws

@@ -66,7 +66,7 @@ counted : (decls : List MapDecl) (cells : List CellView) (ps : List PointerView)
     → (i : ℕ) (d : Way) → i < length here → Counts decls (length cells) ps (kind_at part (get_or here i d).kinds) (held_at part (get_or here i d).held)
 counted decls cells ps here k part a i d l = part_counts decls (length cells) ps (get_or here i d).held (get_or here i d).kinds part a.is_part (a.ways i d l).1
 
-widened : (decls : List MapDecl) (cells : List CellView) (ps : List PointerView) (here : List Way) (k : Kinds) (part : Part) → AreAt decls cells ps here k part
+pub widened : (decls : List MapDecl) (cells : List CellView) (ps : List PointerView) (here : List Way) (k : Kinds) (part : Part) → AreAt decls cells ps here k part
     → (i : ℕ) (d : Way) → i < length here → Widens (kind_at part k) (kind_at part (get_or here i d).kinds)
 widened decls cells ps here k part a i d l = part_wider k (get_or here i d).kinds part (a.wider i d l)
 
@@ -143,10 +143,10 @@ pointer-counts decls n ps (Maybe r j) q c e h = let same : q ≡ r = cc in subst
 pointer-counts decls n ps (Entry r o) q c e h = let same : q ≡ r = cc in subst (λ (m : ℕ). (c < length ps) × IsPointer decls n m (pointer_at ps c)) same h
 pointer-counts decls n ps a q c e h = absurd (cc)
 
-same-kind : (a b : Kind) (q : ℕ) → map_of a ≡ Some q → Widens a b → b ≡ a
-same-kind (Maybe r j) b q e w = sym w
-same-kind (Entry r o) b q e w = sym w
-same-kind a b q e w = absurd (cc)
+pub same_kind : (a b : Kind) (q : ℕ) → map_of a ≡ Some q → Widens a b → b ≡ a
+same_kind (Maybe r j) b q e w = sym w
+same_kind (Entry r o) b q e w = sym w
+same_kind a b q e w = absurd (cc)
 
 -- pointers with the same values hold the same
 holds-alike : (decls : List MapDecl) (v : ℕ → ℕ) (qs : List PointerView) (a : Kind) (q c d : ℕ) (x : Value) → map_of a ≡ Some q → v (pointer_at qs d).found ≡ v (pointer_at qs c).found
@@ -162,7 +162,7 @@ brought : (decls : List MapDecl) (cells : List CellView) (ps : List PointerView)
     → (i : ℕ) (d : Way) → i < length here → (held_at part (get_or here i d).held < length ps) × IsPointer decls (length cells) q (pointer_at ps (held_at part (get_or here i d).held))
 brought decls cells ps here k part q a e i d l =
     counts-pointer decls (length cells) ps (kind_at part k) q (held_at part (get_or here i d).held) e
-    (subst (λ (b : Kind). Counts decls (length cells) ps b (held_at part (get_or here i d).held)) (same-kind (kind_at part k) (kind_at part (get_or here i d).kinds) q e (widened decls cells ps here k part a i d l))
+    (subst (λ (b : Kind). Counts decls (length cells) ps b (held_at part (get_or here i d).held)) (same_kind (kind_at part k) (kind_at part (get_or here i d).kinds) q e (widened decls cells ps here k part a i d l))
     (counted decls cells ps here k part a i d l))
 
 -- so many words are enough, and none of them is spared
@@ -183,6 +183,22 @@ cells_brought decls cells ps here k part q a e j h i d l =
     let within : j ≤ length (pointer_at ps (held_at part (get_or here i d).held)).key = omega (arith, h, least (key_bytes decls q) (length (pointer_at ps (held_at part (get_or here i d).held)).key) b.1.enough) in
     ((a.ways i d l).0, b.0, within, cell-there decls (length cells) q (pointer_at ps (held_at part (get_or here i d).held)) j b.1 within)
 
+-- the key is that of the pointer that the first edge that is on holds
+pub keys_same : (decls : List MapDecl) (old new : List CellView) (ps qs : List PointerView) (here : List Way) (k : Kinds) (part : Part) (q n c : ℕ) → n ≡ words_of (key_bytes decls q) → AreAt decls old ps here k part
+    → map_of (kind_at part k) ≡ Some q → (p : PicksPointer old new ps qs here part n c) → (packet : PacketIn) (v : ℕ → ℕ) (d : Way) → IsRun packet new v
+    → key_of decls v q (pointer_at ps (held_at part (get_or here (first_on v here) d).held)) ≡ key_of decls v q p.pointer
+keys_same decls old new ps qs here k part q n c words a e p packet v d run =
+    let i : ℕ = first_on v here in
+    let l : i < length here = first_below v here a.some in
+    let old-key : List ℕ = (pointer_at ps (held_at part (get_or here i d).held)).key in
+    let b = brought decls old ps here k part q a e i d l in
+    bytes_same (key_bytes decls q) (map_list v p.pointer.key) (map_list v old-key)
+    (omega (arith, length-map p.pointer.key v, p.key.count, words, enough (key_bytes decls q)))
+    (omega (arith, length-map p.pointer.key v, length-map old-key v, p.key.count, words, least (key_bytes decls q) (length old-key) b.1.enough))
+    (λ j h. let inside : j < length p.pointer.key = omega (arith, length-map p.pointer.key v, h) in
+    let within : j < length old-key = omega (arith, inside, p.key.count, words, least (key_bytes decls q) (length old-key) b.1.enough) in
+    get_or-map v p.pointer.key j 0 0 inside ∙ (p.key.words j (omega (arith, inside, p.key.count))).value packet v d run ∙ sym (get_or-map v old-key j 0 0 within))
+
 pub met_pointer : (decls : List MapDecl) (old new : List CellView) (ps qs : List PointerView) (here : List Way) (k : Kinds) (part : Part) (q c : ℕ) → AreAt decls old ps here k part
     → map_of (kind_at part k) ≡ Some q → PicksPointer old new ps qs here part (words_of (key_bytes decls q)) c → MeetsMore decls old new ps qs here part (kind_at part k) c
 met_pointer decls old new ps qs here k part q c a e p = record {
@@ -195,10 +211,10 @@ met_pointer decls old new ps qs here k part q c a e p = record {
         let l : i < length here = first_below v here a.some in
         let cell : ℕ = held_at part (get_or here i d).held in
         let b = brought decls old ps here k part q a e i d l in
-        let same = same-kind (kind_at part k) (kind_at part (get_or here i d).kinds) q e (widened decls old ps here k part a i d l) in
+        let same = same_kind (kind_at part k) (kind_at part (get_or here i d).kinds) q e (widened decls old ps here k part a i d l) in
         let mine : pointer_at rs c ≡ p.pointer = same_pointer qs rs c more inside ∙ own in
         let other : pointer_at rs cell ≡ pointer_at ps cell = same_pointer ps rs cell (extended (record { more = p.pointer ∷ []; is = p.is }) more) b.0 in
-        let keys : key_of decls v q p.pointer ≡ key_of decls v q (pointer_at ps cell) = sym (key-same packet v d run) in
+        let keys : key_of decls v q p.pointer ≡ key_of decls v q (pointer_at ps cell) = sym (keys_same decls old new ps qs here k part q (words_of (key_bytes decls q)) c refl a e p packet v d run) in
         holds-alike decls v rs (kind_at part k) q cell c x e
         (ap (λ (y : PointerView). v y.found) mine ∙ p.found.value packet v d run ∙ ap (λ (y : PointerView). v y.found) (sym other))
         (ap (key_of decls v q) mine ∙ keys ∙ ap (key_of decls v q) (sym other))
@@ -218,20 +234,6 @@ met_pointer decls old new ps qs here k part q c a e p = record {
       key = λ j d l. subst (λ (n : ℕ). n < length new) (get_or_default p.pointer.key j 0 d l) (p.key.words j (omega (arith, p.key.count, l))).there;
       enough = omega (arith, p.key.count, enough (key_bytes decls q));
     }
-
-    key-same : (packet : PacketIn) (v : ℕ → ℕ) (d : Way) → IsRun packet new v
-        → key_of decls v q (pointer_at ps (held_at part (get_or here (first_on v here) d).held)) ≡ key_of decls v q p.pointer
-    key-same packet v d run =
-        let i : ℕ = first_on v here in
-        let l : i < length here = first_below v here a.some in
-        let old-key : List ℕ = (pointer_at ps (held_at part (get_or here i d).held)).key in
-        let b = brought decls old ps here k part q a e i d l in
-        bytes_same (key_bytes decls q) (map_list v p.pointer.key) (map_list v old-key)
-        (omega (arith, length-map p.pointer.key v, p.key.count, enough (key_bytes decls q)))
-        (omega (arith, length-map p.pointer.key v, length-map old-key v, p.key.count, least (key_bytes decls q) (length old-key) b.1.enough))
-        (λ j h. let n : j < length p.pointer.key = omega (arith, length-map p.pointer.key v, h) in
-        let m : j < length old-key = omega (arith, n, p.key.count, least (key_bytes decls q) (length old-key) b.1.enough) in
-        get_or-map v p.pointer.key j 0 0 n ∙ (p.key.words j (omega (arith, n, p.key.count))).value packet v d run ∙ sym (get_or-map v old-key j 0 0 m))
 
 -- ---- kinds without data
 

@@ -44,10 +44,6 @@ pub cell_same : (n : ℕ) (ps : List Pointer) (here : List Way) (part : Part) (j
 cell_same n ps here part j i h x d p there range is at e =
     e ∙ ap (λ (y : PointerView). cell_in y j) (sym (ap (pointer_at (pointed ps)) (sym is) ∙ pointed_at ps h p (cell_index n ps here part j i h d there range is) ∙ ap pointer_of (sym at)))
 
-pub cell_inside : (n : ℕ) (ps : List Pointer) (here : List Way) (part : Part) (j i h x : ℕ) (d : Way) (p : Pointer) → BringCells n (pointed ps) here part j → i < length here
-    → h ≡ held_at part (get_or here i d).held → p ≡ get_or ps h p → x ≡ cell_in (pointer_of p) j → x < n
-cell_inside n ps here part j i h x d p there range is at e = subst (λ (c : ℕ). c < n) (sym (cell_same n ps here part j i h x d p there range is at e)) (there i d range).3
-
 pub bring_later : (n m : ℕ) (ps : List PointerView) (here : List Way) (part : Part) (j : ℕ) → n ≤ m → BringCells n ps here part j → BringCells m ps here part j
 bring_later n m ps here part j h there i d l = let t = there i d l in (omega (arith, t.0, h), t.1, t.2, omega (arith, t.3, h))
 

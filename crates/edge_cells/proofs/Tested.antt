@@ -57,7 +57,7 @@ left_null ps Bits64 code r n p (Num (Known zero)) q old new c needed made = reco
   grows = made.grows;
   there = made.there;
   is_bit = λ packet v run. subst (λ (x : ℕ). x < 2) (sym (made.value packet v run)) (bit_small _);
-  value = λ decls packet v s t taken run short left right h.
+  value = λ decls packet v s t taken run left right h.
       made.value packet v run ∙ ap bit (null_same code (on (v (pointer_at ps p).found)) r (key_of decls v r (pointer_at ps p)) taken needed
       (ap (λ (x : Value). compared Bits64 code x (is.Number 0)) (sym left) ∙ ap (compared Bits64 code s) (sym right) ∙ h));
 }
@@ -69,7 +69,7 @@ right_null ps Bits64 code (Num (Known zero)) p r n q old new c needed made = rec
   grows = made.grows;
   there = made.there;
   is_bit = λ packet v run. subst (λ (x : ℕ). x < 2) (sym (made.value packet v run)) (bit_small _);
-  value = λ decls packet v s t taken run short left right h.
+  value = λ decls packet v s t taken run left right h.
       made.value packet v run ∙ ap bit (null_same_right code (on (v (pointer_at ps q).found)) r (key_of decls v r (pointer_at ps q)) taken needed
       (ap (compared Bits64 code (is.Number 0)) (sym right) ∙ ap (λ (x : Value). compared Bits64 code x t) (sym left) ∙ h));
 }
@@ -144,7 +144,7 @@ tests_numbers ps w code x p y q old new c made = record {
   grows = made.grows;
   there = made.there;
   is_bit = λ packet v run. subst (λ (n : ℕ). n < 2) (sym (made.value packet v run)) (bit_small _);
-  value = λ decls packet v s t taken run short left right h.
+  value = λ decls packet v s t taken run left right h.
       let same : Some (holds code (bits_in w) (low (bits_in w) (number_of v x p)) (low (bits_in w) (number_of v y q))) ≡ Some taken =
       ap (λ (z : Value). compared w code z (is.Number (number_of v y q))) (sym left) ∙ ap (compared w code s) (sym right) ∙ h in
       let truth : holds code (bits_in w) (low (bits_in w) (number_of v x p)) (low (bits_in w) (number_of v y q)) ≡ taken = cc same in
@@ -176,9 +176,9 @@ tests_end ps Bits64 code o p End q old new c none needed made = record {
   grows = made.grows;
   there = made.there;
   is_bit = λ packet v run. subst (λ (n : ℕ). n < 2) (sym (made.value packet v run)) (bit_small _);
-  value = λ decls packet v s t taken run short left right h.
-      made.value packet v run ∙ places_value code o (length packet.frame) taken needed left.1 short
-      (ap (λ (z : Value). compared Bits64 code z (is.Packet (pos (length packet.frame)))) (sym left.0) ∙ ap (compared Bits64 code s) (sym right) ∙ h);
+  value = λ decls packet v s t taken run left right h.
+      made.value packet v run ∙ places_value code o (length packet.frame) taken needed left.1 right.1
+      (ap (λ (z : Value). compared Bits64 code z (is.Packet (pos (length packet.frame)))) (sym left.0) ∙ ap (compared Bits64 code s) (sym right.0) ∙ h);
 }
 tests_end ps w code o p b q old new c none needed made = absurd (cc)
 
@@ -188,9 +188,9 @@ tests_from_end ps Bits64 code p (Packet o) q old new c none needed made = record
   grows = made.grows;
   there = made.there;
   is_bit = λ packet v run. subst (λ (n : ℕ). n < 2) (sym (made.value packet v run)) (bit_small _);
-  value = λ decls packet v s t taken run short left right h.
-      made.value packet v run ∙ places_value code (length packet.frame) o taken needed short right.1
-      (ap (λ (z : Value). compared Bits64 code z (is.Packet (pos o))) (sym left) ∙ ap (compared Bits64 code s) (sym right.0) ∙ h);
+  value = λ decls packet v s t taken run left right h.
+      made.value packet v run ∙ places_value code (length packet.frame) o taken needed left.1 right.1
+      (ap (λ (z : Value). compared Bits64 code z (is.Packet (pos o))) (sym left.0) ∙ ap (compared Bits64 code s) (sym right.0) ∙ h);
 }
 tests_from_end ps w code p b q old new c none needed made = absurd (cc)
 

@@ -1,5 +1,5 @@
 -- Which conditions of allowed jumps are undecided.
-use Rattle.std.proofs.Common.{◌≡◌, ℕ, pos, zero, suc, true, List, [], ◌∷◌, refl, sym, ◌∙◌, ap, subst}
+use Rattle.std.proofs.Common.{◌≡◌, ℕ, zero, suc, true, List, [], refl, sym, ◌∙◌, ap, subst}
 use Rattle.std.specs.Prelude.{Bool, Ok, Err, Some, None}
 use Rattle.bpf_isa.specs.declared.operation.Width.{Width}
 use Rattle.bpf_isa.specs.declared.operation.Width.TheVariants.{Bits64}
@@ -8,7 +8,7 @@ use Rattle.bpf_isa.specs.declared.operation.JumpCode.TheVariants.{Jeq, Jne, Jgt,
 use Rattle.bpf_isa.specs.declared.operation.Src.{Src}
 use Rattle.bpf_isa.specs.declared.operation.Src.TheVariants.{X}
 use Rattle.bpf_isa.specs.declared.operation.Op.{Op}
-use Rattle.bpf_isa.specs.declared.operation.Op.TheVariants.{Jump, Exit}
+use Rattle.bpf_isa.specs.declared.operation.Op.TheVariants.{Jump}
 use Rattle.bpf_isa.specs.declared.instruction.Insn.{Insn}
 use Rattle.xdp_maps.specs.declared.decl.MapDecl.{MapDecl}
 use Rattle.kind_core.specs.declared.number.Number.{Number}
@@ -24,6 +24,7 @@ use Rattle.kind_core.specs.Effects.{effect_of, effect_as, verdict, operand}
 use Rattle.kind_core.specs.Edges.{decided_as}
 use Rattle.edge_cells.specs.Testing.{is_open}
 use Rattle.edge_cells.specs.Leaving.{UndecidedAreOpen}
+use Rattle.edge_cells.proofs.JumpKindLaws.{two, on_two}
 
 -- a jump that is refused is not allowed, and one that is decided not undecided
 refused : {A : Type 0} {y : Why} → verdict (Err y) ≡ passed → A
@@ -31,13 +32,6 @@ refused h = absurd (cc h)
 
 settled : {A : Type 0} {b : Bool} → Some b ≡ None → A
 settled h = absurd (cc h)
-
--- a jump on these two
-abbrev two : Kind → Kind → Kinds
-two a b = record { registers = a ∷ b ∷ []; slots = []; checked = 0 }
-
-abbrev on_two : Insn
-on_two = record { op = Exit; dst = 0; src = 1; offset = pos 0; imm = pos 0 }
 
 abbrev IsOpen : Width → JumpCode → Kind → Kind → Type 0
 IsOpen w c a b = verdict (effect_as [] (two a b) on_two (Jump w c X)) ≡ passed → decided_as (two a b) on_two (Jump w c X) ≡ None → is_open w c a b ≡ true

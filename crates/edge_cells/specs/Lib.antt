@@ -4,3 +4,4 @@ pub mod Joining
 pub mod Testing
 pub mod Leaving
 pub mod Rows
+pub mod Pointing

@@ -75,7 +75,7 @@ IsReady n ps k c = Unit {0}
 abbrev pub IsRead : List MapDecl → PacketIn → (ℕ → ℕ) → List PointerView → Kind → ℕ → Value → Type 0
 IsRead decls packet v ps (Num n) c x = x ≡ is.Number (number_of v n c)
 IsRead decls packet v ps (Packet o) c x = (x ≡ is.Packet (pos o)) × (o < 2 ^ 63)
-IsRead decls packet v ps End c x = x ≡ is.Packet (pos (length packet.frame))
+IsRead decls packet v ps End c x = (x ≡ is.Packet (pos (length packet.frame))) × (length packet.frame < 2 ^ 63)
 IsRead decls packet v ps (Maybe q n) c x = Holds decls v ps (Maybe q n) c x
 IsRead decls packet v ps (Entry q o) c x = Holds decls v ps (Entry q o) c x
 IsRead decls packet v ps k c x = Unit {0}
@@ -85,5 +85,5 @@ pub record Tests (ps : List PointerView) (w : Width) (code : JumpCode) (a : Kind
   pub grows : Grows old new
   pub there : c < length new
   pub is_bit : (packet : PacketIn) (v : ℕ → ℕ) → IsRun packet new v → v c < 2
-  pub value : (decls : List MapDecl) (packet : PacketIn) (v : ℕ → ℕ) (s t : Value) (taken : Bool) → IsRun packet new v → length packet.frame < 2 ^ 63
+  pub value : (decls : List MapDecl) (packet : PacketIn) (v : ℕ → ℕ) (s t : Value) (taken : Bool) → IsRun packet new v
       → IsRead decls packet v ps a p s → IsRead decls packet v ps b q t → compared w code s t ≡ Some taken → v c ≡ bit taken

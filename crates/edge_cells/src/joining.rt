@@ -10,6 +10,7 @@ ghost use Rattle.edge_cells.specs.Widening.{AreWider, AreFilled};
 ghost use Rattle.edge_cells.specs.Meeting.{AreWays, MeetRow};
 ghost use Rattle.edge_cells.specs.Joining.{Guards, Joins};
 ghost use Rattle.edge_cells.specs.Rows.{MeetRowTo};
+ghost use Rattle.edge_cells.specs.Pointing.{MeetRowPoints, JoinPoints};
 
 use crate::meeting::meet;
 use crate::part::Part;
@@ -64,6 +65,7 @@ fn meet_registers(
     requires wider { All (λ e. AreWider kinds.now e.kinds) ways.now }
     ensures meets { IfOk result (λ held. MeetRow decls.now (seen cells.old.items) (seen cells.new.items) (pointed pointers.old.items) (pointed pointers.new.items) ways.now kinds.now Part.Register 11 held) }
     ensures rises { IfOk result (λ held. MeetRowTo (seen cells.old.items) (seen cells.new.items) (pointed pointers.old.items) (pointed pointers.new.items) ways.now kinds.now Part.Register 11 held) }
+    ensures points { IfOk result (λ held. MeetRowPoints decls.now (seen cells.new.items) (pointed pointers.old.items) (pointed pointers.new.items) ways.now kinds.now Part.Register 11 held) }
 {
     let mut held = [0; 11];
     for i in 0..11 {
@@ -87,6 +89,7 @@ fn meet_slots(
     requires wider { All (λ e. AreWider kinds.now e.kinds) ways.now }
     ensures meets { IfOk result (λ held. MeetRow decls.now (seen cells.old.items) (seen cells.new.items) (pointed pointers.old.items) (pointed pointers.new.items) ways.now kinds.now Part.Slot 64 held) }
     ensures rises { IfOk result (λ held. MeetRowTo (seen cells.old.items) (seen cells.new.items) (pointed pointers.old.items) (pointed pointers.new.items) ways.now kinds.now Part.Slot 64 held) }
+    ensures points { IfOk result (λ held. MeetRowPoints decls.now (seen cells.new.items) (pointed pointers.old.items) (pointed pointers.new.items) ways.now kinds.now Part.Slot 64 held) }
 {
     let mut held = [0; 64];
     for i in 0..64 {
@@ -134,6 +137,7 @@ pub fn join(
     requires filled { AreFilled kinds.now }
     ensures joins { IfOk result (λ here. Joins decls.now (seen cells.old.items) (seen cells.new.items) (pointed pointers.old.items) (pointed pointers.new.items) ways.now kinds.now here.guard here.held) }
     ensures rows { IfOk result (λ here. JoinsTo (seen cells.old.items) (seen cells.new.items) (pointed pointers.old.items) (pointed pointers.new.items) ways.now kinds.now here.guard here.held) }
+    ensures points { IfOk result (λ here. JoinPoints decls.now (seen cells.new.items) (pointed pointers.old.items) (pointed pointers.new.items) ways.now kinds.now here.held) }
 {
     let guard = meet_bits(cells, ways)?;
     let registers = meet_registers(cells, pointers, decls, ways, kinds)?;

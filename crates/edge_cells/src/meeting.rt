@@ -10,6 +10,7 @@ ghost use Rattle.held_cells.specs.Rows.{cells_of_pointer};
 ghost use Rattle.edge_cells.specs.Widening.{AreWider};
 ghost use Rattle.edge_cells.specs.Meeting.{IsPart, held_at, kind_at, Picks, number_brought, BringNumbers, cell_in, cell_brought, BringCells, PickWords, PicksPointer, words_of, is_known, is_unknown, map_of, AreWays, MeetsMore};
 ghost use Rattle.edge_cells.specs.Rows.{choice_row, number_row_brought, pointer_row_brought, MeetsTo};
+ghost use Rattle.edge_cells.specs.Pointing.{Follows, MeetsPointer};
 
 use crate::part::{Part, held_at, kind_at, number_in};
 use cell_core::cell::{Cell, Cells};
@@ -65,6 +66,7 @@ fn meet_cell(
     requires there { BringCells (length (seen cells.old.items)) (pointed pointers.now) ways.now part j }
     ensures picks { IfOk result (λ c. Picks (seen cells.old.items) (seen cells.new.items) ways.now (cell_brought (pointed pointers.now) part j) c) }
     ensures rises { IfOk result (λ c. Rises (seen cells.old.items) (seen cells.new.items) c (λ row. choice_row row (pointer_row_brought (pointed pointers.now) part) ways.now)) }
+    ensures follows { IfOk result (λ c. Follows (seen cells.new.items) ways.now (cell_brought (pointed pointers.now) part j) c) }
 {
     let mut arms = Vec::new(*cells.allocator());
     for way in ways {
@@ -115,6 +117,7 @@ fn meet_pointers(
     requires there { (j : ℕ) → j ≤ words → BringCells (length (seen cells.old.items)) (pointed pointers.old.items) ways.now part j }
     ensures picks { IfOk result (λ c. PicksPointer (seen cells.old.items) (seen cells.new.items) (pointed pointers.old.items) (pointed pointers.new.items) ways.now part words c) }
     ensures rises { IfOk result (λ c. RiseAll (seen cells.old.items) (seen cells.new.items) (cells_of_pointer (pointer_at (pointed pointers.new.items) c)) (λ row. choice_row row (pointer_row_brought (pointed pointers.old.items) part) ways.now)) }
+    ensures follows { IfOk result (λ c. Follows (seen cells.new.items) ways.now (cell_brought (pointed pointers.old.items) part 0) (pointer_at (pointed pointers.new.items) c).found) }
 {
     let Ok(at) = u32::try_from(pointers.len()) else {
         return Err(AllocError);
@@ -193,6 +196,7 @@ pub fn meet(
     requires wider { All (λ e. AreWider kinds.now e.kinds) ways.now }
     ensures meets { IfOk result (λ c. MeetsMore decls.now (seen cells.old.items) (seen cells.new.items) (pointed pointers.old.items) (pointed pointers.new.items) ways.now part (kind_at part kinds.now) c) }
     ensures rises { IfOk result (λ c. MeetsTo (seen cells.old.items) (seen cells.new.items) (pointed pointers.old.items) (pointed pointers.new.items) ways.now kinds.now part c) }
+    ensures points { IfOk result (λ c. MeetsPointer decls.now (seen cells.new.items) (pointed pointers.old.items) (pointed pointers.new.items) ways.now part (kind_at part kinds.now) c) }
 {
     let first = held_at(part, &ways[0].held);
     if agree(ways, part, first) {

@@ -14,7 +14,16 @@ use Rattle.held_cells.specs.Law.{IsLaw}
 use Rattle.predicate_core.specs.Buildable.{HasBits, IsBuildable}
 use Rattle.row_plan.specs.Plan.{Plan, IsPlan}
 use Rattle.shell_net.specs.Layout.{HasAnswer, IsBy}
+use Rattle.program_graph.specs.Graphs.{graph_of}
+use Rattle.xdp_machine.specs.Program.{XdpProgram}
+use Rattle.ehdl_build.specs.declared.counted.Counted.{Counted}
+use Rattle.ehdl_build.specs.Pipelines.{AreCellsOf}
+use Rattle.ehdl_build.specs.Steps.{IsCounted}
 use Rattle.pipeline_net.specs.Pipeline.{IsForPipeline, IsInWindow, build_of, slots_of}
+
+-- the cells of a counted program
+pub cells_of : (p : XdpProgram) (c : Counted) → IsCounted p c → (cells : ProgramView) → IsLaw (graph_of p c.graph) cells → IsBuildable cells → AreCellsOf p cells
+cells_of p c is cells law buildable = record { graph = c.graph; unfolded = is.unfolded; law = law; buildable = buildable }
 
 -- without maps there are no sites
 pub no_sites : (g : GraphView) (cells : ProgramView) → AreSited g.decls cells → g.decls ≡ [] → cells.sites ≡ []

@@ -3,4 +3,3 @@ pub mod Within
 pub mod Sequential
 pub mod Realized
 pub mod Outcomes
-pub mod Lacking

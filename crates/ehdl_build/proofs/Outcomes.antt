@@ -23,9 +23,8 @@ use Rattle.node_rows.proofs.OneOutcomeLaws.{has_one_outcome}
 use Rattle.ehdl_build.specs.declared.counted.Counted.{Counted}
 use Rattle.ehdl_build.specs.declared.built.CompileError.{CompileError}
 use Rattle.ehdl_build.specs.declared.built.CompileError.TheVariants.{Object, Refused, NoMemory}
-use Rattle.ehdl_build.specs.Pipelines.{HasNoPipeline}
 use Rattle.ehdl_build.specs.Compiled.{RefusesProgram, IsRefused, FailsFor, compile_error}
-use Rattle.ehdl_build.specs.Steps.{IsCounted, FailsCounting, FailsBecause}
+use Rattle.ehdl_build.specs.Steps.{IsCounted, FailsCounting}
 
 -- what holds of an error holds of the same error
 pub err_with : {T E : Type 0} (P : E → Type 0) (e : E) (r : Result T E) → IsErrAnd r (λ f. f ≡ e) → P e → IfErr r P
@@ -36,10 +35,6 @@ err_with P e (Err f) is h = subst P (sym is) h
 pub ok_more : {T E : Type 0} (P Q : T → Type 0) (r : Result T E) → ((x : T) → P x → Q x) → IfOk r P → IfOk r Q
 ok_more P Q (Ok x) f h = f x h
 ok_more P Q (Err e) f h = tt
-
-pub err_more : {T E : Type 0} (P Q : E → Type 0) (r : Result T E) → ((e : E) → P e → Q e) → IfErr r P → IfErr r Q
-err_more P Q (Ok x) f h = tt
-err_more P Q (Err e) f h = f e h
 
 -- ---- what is counted
 abbrev pub unfolds_of : (p : XdpProgram) (u : Unfolded) → IsUnfolded p u → graphs.IsAccepted p
@@ -122,10 +117,6 @@ module _ (choice : Chosen) (bytes : List ℕ) where
       | inl own ↦ (has_one_outcome p).never_both r own accepted
       | inr left ↦ left.maps none
     ]
-
-    pub failed_pipeline : (r : CompileError) → FailsBecause (HasNoPipeline p) r → FailsFor choice bytes r
-    failed_pipeline r (inl e) = subst (λ (x : CompileError). FailsFor choice bytes x) (sym e) tt
-    failed_pipeline r (inr (e, why)) = subst (λ (x : CompileError). FailsFor choice bytes x) (sym e) (record { program = p; object = object; none = why })
 
 -- ---- the declarations of a program
 pub some_maps : (xs ys : List MapDecl) (empty : Bool) → empty ≡ (length ys == 0) → ys ≡ xs → empty ≡ false → xs ≢ []

@@ -15,7 +15,7 @@ use Rattle.host_history.specs.Host.{load}
 use Rattle.verilog_grammar.specs.Spelling.{Spells}
 use Rattle.ehdl_build.specs.declared.built.Built.{Built}
 use Rattle.ehdl_build.specs.declared.built.CompileError.{CompileError}
-use Rattle.ehdl_build.specs.declared.built.CompileError.TheVariants.{Object, Refused, NoPipeline, NoMemory}
+use Rattle.ehdl_build.specs.declared.built.CompileError.TheVariants.{Object, Refused, NoMemory}
 use Rattle.kind_core.specs.declared.why.Refusal.{Refusal}
 use Rattle.kind_core.specs.declared.why.BuildError.{BuildError}
 use Rattle.kind_core.specs.declared.why.BuildError.TheVariants as build
@@ -23,7 +23,7 @@ use Rattle.node_rows.specs.Acceptance.{IsAccepted, IsFirstRefusal}
 use Rattle.realization.specs.Bounds.{AreApart}
 use Rattle.product_rules.specs.Products.{products_apart}
 use Rattle.realization.specs.Realizes.{Meets}
-use Rattle.ehdl_build.specs.Pipelines.{IsNotBuilt, HasNoPipeline}
+use Rattle.ehdl_build.specs.Pipelines.{IsNotBuilt}
 
 -- what is run of a program
 abbrev pub code_of : XdpProgram → Code
@@ -100,17 +100,10 @@ pub record IsRefused (choice : Chosen) (bytes : List ℕ) (r : Refusal) : Type 0
   pub object : IsObject choice bytes program
   pub refusal : RefusesProgram program r
 
--- under a choice the bytes are an object, and its program has no pipeline
-pub record IsUnbuilt (choice : Chosen) (bytes : List ℕ) : Type 0 where
-  pub program : XdpProgram
-  pub object : IsObject choice bytes program
-  pub none : HasNoPipeline program
-
 -- what holds of the bytes that an error is answered for; of want of memory nothing is said
 abbrev pub FailsFor : Chosen → List ℕ → CompileError → Type 0
 FailsFor choice bytes (Object e) = FirstFault choice bytes e
 FailsFor choice bytes (Refused r) = IsRefused choice bytes r
-FailsFor choice bytes NoPipeline = IsUnbuilt choice bytes
 FailsFor choice bytes NoMemory = Unit {0}
 
 -- the error of compiling, by that of a program

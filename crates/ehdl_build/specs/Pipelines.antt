@@ -1,8 +1,6 @@
 -- Accepted programs of which no pipeline is built, for now.
-use Rattle.std.specs.Prelude.{◌≡◌, ◌≢◌, ℕ, ◌≤◌, false, []}
+use Rattle.std.specs.Prelude.{◌≡◌, ◌≢◌, ℕ, ◌≤◌, []}
 use Rattle.xdp_machine.specs.Program.{XdpProgram}
-use Rattle.net_core.specs.Nets.{Netlist}
-use Rattle.product_rules.specs.Products.{products_apart}
 use Rattle.kind_core.specs.declared.why.Refusal.{Refusal}
 use Rattle.kind_core.specs.declared.why.Why.TheVariants.{Instruction}
 use Rattle.unfold_core.specs.declared.unfolding.Unfolded.{Unfolded}
@@ -13,8 +11,6 @@ use Rattle.cell_core.specs.Rows.{AreRows, last_row}
 use Rattle.held_cells.specs.Law.{IsLaw}
 use Rattle.program_graph.specs.Graphs.{graph_of}
 use Rattle.predicate_core.specs.Buildable.{IsBuildable}
-use Rattle.row_plan.specs.Plan.{Plan, IsPlan}
-use Rattle.pipeline_net.specs.Pipeline.{IsPipeline}
 
 -- A program with maps is refused at its first place.
 pub record IsNotBuilt (p : XdpProgram) (r : Refusal) : Type 0 where
@@ -32,19 +28,3 @@ pub record AreCellsOf (p : XdpProgram) (cells : ProgramView) : Type 0 where
 -- no node makes a cell in a later row than this one
 abbrev pub StandWithin : ℕ → ProgramView → Type 0
 StandWithin stages cells = (row : ℕ → ℕ) → AreRows cells.cells row → last_row row cells.nodes ≤ stages
-
--- in a pipeline of these cells a product stands inside an operand of another
-pub record HasNestedProducts (cells : ProgramView) : Type 0 where
-  pub plan : Plan
-  pub design : Netlist
-  pub planned : IsPlan cells plan
-  pub pipeline : IsPipeline cells plan design
-  pub nested : products_apart design ≡ false
-
--- A program without maps has no pipeline where products are nested in it. Of no program is this known.
-pub record HasNoPipeline (p : XdpProgram) : Type 0 where
-  pub accepted : IsAccepted p
-  pub no_maps : p.decls ≡ []
-  pub cells : ProgramView
-  pub are_cells : AreCellsOf p cells
-  pub nested : HasNestedProducts cells

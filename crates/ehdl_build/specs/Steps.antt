@@ -1,5 +1,5 @@
 -- What the steps of compiling give each other.
-use Rattle.std.specs.Prelude.{◌≡◌, ◌≤◌, ◌⊎◌, ℕ, IsTrue, [], length}
+use Rattle.std.specs.Prelude.{◌≡◌, ◌≤◌, ℕ, IsTrue, [], length}
 use Rattle.xdp_machine.specs.Program.{XdpProgram}
 use Rattle.net_core.specs.Nets.{Netlist}
 use Rattle.product_rules.specs.Products.{products_apart}
@@ -12,8 +12,6 @@ use Rattle.cell_core.specs.Sites.{ProgramView}
 use Rattle.row_plan.specs.Plan.{Plan, IsPlan}
 use Rattle.pipeline_net.specs.Pipeline.{IsPipeline}
 use Rattle.ehdl_build.specs.declared.counted.Counted.{Counted}
-use Rattle.ehdl_build.specs.declared.built.CompileError.{CompileError}
-use Rattle.ehdl_build.specs.declared.built.CompileError.TheVariants.{NoPipeline, NoMemory}
 use Rattle.ehdl_build.specs.Pipelines.{AreCellsOf}
 use Rattle.ehdl_build.specs.Compiled.{PipelineSize}
 
@@ -48,7 +46,3 @@ pub record IsPipelineOf (p : XdpProgram) (stages : ℕ) (n : Netlist) : Type 0 w
   pub plan : Plan
   pub planned : IsPlanWithin stages cells plan
   pub pipeline : IsSoundPipeline cells plan n
-
--- There is no pipeline for this reason, or memory ran out.
-abbrev pub FailsBecause : Type 0 → CompileError → Type 0
-FailsBecause Why e = (e ≡ NoMemory) ⊎ ((e ≡ NoPipeline) × Why)

@@ -44,9 +44,6 @@ pub enum CompileError {
     /// The program is refused: the first refusal.
     #[error("{0}")]
     Refused(Refusal),
-    /// The program is accepted, and no pipeline of its stages was made of it.
-    #[error("no pipeline")]
-    NoPipeline,
     #[error("out of memory")]
     NoMemory,
 }
@@ -98,13 +95,12 @@ fn copies(alloc: Global, decls: &[MapDecl]) -> Result<Vec<MapDecl>, AllocError>
 /// clock by clock and under every pattern of offered and taken beats, answers frames as sequential execution of the program
 /// does, in the stated clocks of a pipeline of the size that is answered beside it.
 ///
-/// A program that is not accepted has its own first refusal. For now one with maps is refused at its first place. Of others there may be
-/// no pipeline of their stages: that this never comes is not said.
+/// A program that is not accepted has its own first refusal. For now one with maps is refused at its first place.
 pub fn compile(alloc: Global, bytes: &[u8], choice: Choice<'_>) -> Result<Built, CompileError>
     ensures ok { IfOk result (λ built. Compiles (chosen_of choice.entry) bytes.now built) }
     ensures error { IfErr result (FailsFor (chosen_of choice.entry) bytes.now) }
 
-    // Want of memory aside, each error but want of a pipeline comes wherever it is said to.
+    // Want of memory aside, each error comes wherever it is said to.
     ensures object { (e : ObjectError) → FirstFault (chosen_of choice.entry) bytes.now e
         → IsErrOf result (CompileError.Object e) ⊎ IsErrOf result CompileError.NoMemory }
     ensures refused { (r : Refusal) → IsRefused (chosen_of choice.entry) bytes.now r

@@ -9,23 +9,23 @@ use Rattle.ehdl_top.specs.declared.error.CommandError.{CommandError}
 use Rattle.ehdl_top.specs.declared.error.CommandError.TheVariants as error
 use Rattle.ehdl_top.specs.Status.{ended, status_of}
 use Rattle.ehdl_top.specs.States.{ShelfState, SinkState, Changes, OneRose}
-use Rattle.ehdl_top.specs.Inputs.{input, AreReady, FirstStop, FirstLack, OneUnread, EndsAtInput, names_in}
+use Rattle.ehdl_top.specs.Inputs.{input, AreReady, FirstStop, OneUnread, EndsAtInput, names_in}
 use Rattle.ehdl_top.specs.Writes.{Outputs}
 use Rattle.ehdl_top.specs.Forms.{maps_form, held_decls, capture_form}
-use Rattle.ehdl_top.specs.Requests.{inputs_of, IsOutcome, EndsItself, PutsLines, OneUnwritten, IsFault, CanEnd, IsCause, EndsLacking}
+use Rattle.ehdl_top.specs.Requests.{inputs_of, IsOutcome, EndsItself, PutsLines, OneUnwritten, IsFault, CanEnd, IsCause}
 use Rattle.ehdl_top.specs.Ends.{EndsAs, Loses, AllWritten, ByInputs, IsEarly, SaysWhy}
 use Rattle.ehdl_top.specs.Steps.{FailsWrite, WritesAll, StopsBy, Unread, OutOfMemory, AtInput, Unwritten, AtEnd, EndsIn, EndsBy, IsFixed}
 use Rattle.ehdl_top.proofs.StateLemmas.{same_held}
-use Rattle.ehdl_top.proofs.InputLemmas.{IsInputStatus, ready_stops, one_stop, may_lack, ends_input, unread_rose}
+use Rattle.ehdl_top.proofs.InputLemmas.{IsInputStatus, ready_stops, one_stop, ends_input, unread_rose}
 use Rattle.ehdl_top.proofs.FormLemmas.{inputs_sound}
 use Rattle.ehdl_top.proofs.OutcomeLemmas.{outcome_ready, ends_one}
 
--- A command has ended with this status: a read failed; memory ran out, and nothing was written; an input is not in its form, or what is to be made of it is lacking; a write
+-- A command has ended with this status: a read failed; memory ran out, and nothing was written; an input is not in its form; a write
 -- failed; all was written; all was written, and memory ran out behind it; all was written, and a put of the command's lines failed.
 pub data Ended (request : Request) (old new : ShelfState) (before after : SinkState) (result : Status) : Type 0 where
   AtRead : result ≡ status.ReadFault → OneUnread (inputs_of request old.held) old new → Changes [] old new → Ended request old new before after result
   Out : result ≡ status.NoMemory → Changes [] old new → Ended request old new before after result
-  NotReady : (e : CommandError) → result ≡ status_of e → EndsAtInput (inputs_of request old.held) (status_of e) → (IsTrue old.tells → FirstStop (inputs_of request old.held) old.held e ⊎ FirstLack (inputs_of request old.held) old.held e) → Changes [] old new → Ended request old new before after result
+  NotReady : (e : CommandError) → result ≡ status_of e → EndsAtInput (inputs_of request old.held) (status_of e) → (IsTrue old.tells → FirstStop (inputs_of request old.held) old.held e) → Changes [] old new → Ended request old new before after result
   AtWrite : result ≡ status.WriteFault → FailsWrite request old new → Ended request old new before after result
   Whole : (end : Option CommandError) → result ≡ ended end → WritesAll request end old new → Ended request old new before after result
   WholeOut : (end : Option CommandError) → result ≡ status.NoMemory → WritesAll request end old new → Ended request old new before after result
@@ -89,21 +89,6 @@ loses_written request old new status.XValue w = tt
 loses_written request old new status.Late w = tt
 loses_written request old new s w = absurd w
 
--- no pipeline is lacking where a drive is given up: none is made
-capture_lacks : (held : Holding) (name : List ℕ) (e : CommandError) → ¬ FirstLack (input name capture_form ∷ []) held e
-capture_lacks held name e (inl lack) = lack.is
-capture_lacks held name e (inr more) = more.1
-
-driven_lacks : (request : Request) (held : Holding) (e f : CommandError) (outputs : Outputs) → IsOutcome request held (Some e) outputs → ¬ FirstLack (inputs_of request held) held f
-driven_lacks (AskCompile object verilog chosen) held e f outputs o lack = let is : Some e ≡ None = o.0 in absurd cc
-driven_lacks (AskRun names verilog chosen ifindex) held e f outputs o lack = let is : Some e ≡ None = o.0 in absurd cc
-driven_lacks (AskSim names verilog chosen ifindex clocks) held e f outputs o (inl lack) = lack.is
-driven_lacks (AskSim names verilog chosen ifindex clocks) held e f outputs o (inr (ready, inl lack)) = lack.is
-driven_lacks (AskSim names verilog chosen ifindex clocks) held e f outputs o (inr (ready, inr (ready', more))) =
-    may_lack names.maps (maps_form (held_decls chosen (held names.object))) (input names.capture capture_form ∷ []) held f (λ bytes g is. is) (λ lack. capture_lacks held names.capture f lack) more
-driven_lacks (AskRef names chosen ifindex) held e f outputs o lack = let is : Some e ≡ None = o.0 in absurd cc
-driven_lacks (AskReport object chosen) held e f outputs o lack = let is : Some e ≡ None = o.0 in absurd cc
-
 -- ---- one command that has ended
 module _ (request : Request) (old new : ShelfState) (before after : SinkState) (result : Status) where
   -- an input that is not in its form is no end of another kind
@@ -126,14 +111,14 @@ module _ (request : Request) (old new : ShelfState) (before after : SinkState) (
   ended_outcome (AtPut r puts rose w) all told = absurd (as_status AllWritten result status.WriteFault r all)
 
   pub ended_complete : Ended request old new before after result → IsTrue old.tells → AreReady (inputs_of request old.held) old.held → ¬ OneRose (names_in (inputs_of request old.held)) old.read_faults new.read_faults → ¬ OneUnwritten request old new before after
-      → AllWritten result ⊎ ((result ≡ status.NoMemory) ⊎ EndsLacking request old.held result)
+      → AllWritten result ⊎ (result ≡ status.NoMemory)
   ended_complete (AtRead r u same) told ready quiet calm = absurd (quiet (unread_rose (inputs_of request old.held) old new u))
-  ended_complete (Out r same) told ready quiet calm = inr (inl r)
+  ended_complete (Out r same) told ready quiet calm = inr r
   ended_complete (NotReady e r ends first same) told ready quiet calm =
-      elim (first told) [ inl stop ↦ absurd (ready_stops (inputs_of request old.held) old.held e (inputs_sound request old.held) ready stop) | inr lack ↦ inr (inr (e, r, lack)) ]
+      absurd (ready_stops (inputs_of request old.held) old.held e (inputs_sound request old.held) ready (first told))
   ended_complete (AtWrite r f) told ready quiet calm = absurd (calm (inl f.rose))
   ended_complete (Whole end r w) told ready quiet calm = inl (at_end end r w)
-  ended_complete (WholeOut end r w) told ready quiet calm = inr (inl r)
+  ended_complete (WholeOut end r w) told ready quiet calm = inr r
   ended_complete (AtPut r puts rose w) told ready quiet calm = absurd (calm (inr (puts, rose)))
 
   pub ended_usage : Ended request old new before after result → result ≢ status.Usage
@@ -172,21 +157,20 @@ module _ (request : Request) (old new : ShelfState) (before after : SinkState) (
   ended_can (WholeOut end r w) = inr (inr (as_status IsFault status.NoMemory result (sym r) tt))
   ended_can (AtPut r puts rose w) = inr (inr (as_status IsFault status.WriteFault result (sym r) tt))
 
-  pub ended_inputs : Ended request old new before after result → IsTrue old.tells → (e : CommandError) → FirstStop (inputs_of request old.held) old.held e → (result ≡ status_of e) ⊎ ((result ≡ status.ReadFault) ⊎ ((result ≡ status.NoMemory) ⊎ EndsLacking request old.held result))
+  pub ended_inputs : Ended request old new before after result → IsTrue old.tells → (e : CommandError) → FirstStop (inputs_of request old.held) old.held e → (result ≡ status_of e) ⊎ ((result ≡ status.ReadFault) ⊎ (result ≡ status.NoMemory))
   ended_inputs (AtRead r u same) told e stop = inr (inl r)
-  ended_inputs (Out r same) told e stop = inr (inr (inl r))
+  ended_inputs (Out r same) told e stop = inr (inr r)
   ended_inputs (NotReady e' r ends first same) told e stop =
-      elim (first told) [ inl other ↦ inl (r ∙ one_stop (inputs_of request old.held) old.held e' e (inputs_sound request old.held) other stop) | inr lack ↦ inr (inr (inr (e', r, lack))) ]
+      inl (r ∙ one_stop (inputs_of request old.held) old.held e' e (inputs_sound request old.held) (first told) stop)
   ended_inputs (AtWrite r f) told e stop = let b = f.broken told in absurd (outcome_stops b.end b.outputs e b.outcome stop)
   ended_inputs (Whole end r w) told e stop = let h = w.has told in absurd (outcome_stops end h.outputs e h.outcome stop)
-  ended_inputs (WholeOut end r w) told e stop = inr (inr (inl r))
+  ended_inputs (WholeOut end r w) told e stop = inr (inr r)
   ended_inputs (AtPut r puts rose w) told e stop = let h = w.has told in absurd (outcome_stops None h.outputs e h.outcome stop)
 
   pub ended_driven : HasOneMeaning → Ended request old new before after result → IsTrue old.tells → (e : CommandError) (outputs : Outputs) → IsOutcome request old.held (Some e) outputs → (result ≡ status_of e) ⊎ IsFault result
   ended_driven one (AtRead r u same) told e outputs o = inr (as_status IsFault status.ReadFault result (sym r) tt)
   ended_driven one (Out r same) told e outputs o = inr (as_status IsFault status.NoMemory result (sym r) tt)
-  ended_driven one (NotReady e' r ends first same) told e outputs o =
-      absurd (elim (first told) [ inl stop ↦ outcome_stops (Some e) outputs e' o stop | inr lack ↦ driven_lacks request old.held e e' outputs o lack ])
+  ended_driven one (NotReady e' r ends first same) told e outputs o = absurd (outcome_stops (Some e) outputs e' o (first told))
   ended_driven one (AtWrite r f) told e outputs o = inr (as_status IsFault status.WriteFault result (sym r) tt)
   ended_driven one (Whole end r w) told e outputs o = let h = w.has told in inl (r ∙ ap ended (ends_one request old.held end (Some e) h.outputs outputs one h.outcome o))
   ended_driven one (WholeOut end r w) told e outputs o = inr (as_status IsFault status.NoMemory result (sym r) tt)
@@ -208,9 +192,9 @@ by_as e f is by = let P : CommandError → Type 0 = λ x. ByInputs (status_of x)
 pub stops_cause : (request : Request) (old new : ShelfState) (e : CommandError) → StopsBy request old new e → ByInputs (status_of e) → IsTrue old.tells → IsCause request old.held e
 stops_cause request old new e (Unread is u same) by told = absurd (by_as e error.ReadFault is by)
 stops_cause request old new e (OutOfMemory is same) by told = absurd (by_as e error.NoMemory is by)
-stops_cause request old new e (AtInput ends first same) by told = elim (first told) [ inl stop ↦ inl stop | inr lack ↦ inr (inl lack) ]
+stops_cause request old new e (AtInput ends first same) by told = inl (first told)
 stops_cause request old new e (Unwritten is f) by told = absurd (by_as e error.WriteFault is by)
-stops_cause request old new e (AtEnd w) by told = let h = w.has told in inr (inr (h.outputs, h.outcome))
+stops_cause request old new e (AtEnd w) by told = let h = w.has told in inr (h.outputs, h.outcome)
 
 pub no_inputs : (result : Status) → result ≡ status.NoMemory → ¬ ByInputs result
 no_inputs result r by = as_status ByInputs result status.NoMemory r by

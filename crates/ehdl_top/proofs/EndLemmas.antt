@@ -8,12 +8,12 @@ use Rattle.ehdl_top.specs.declared.error.CommandError.TheVariants as error
 use Rattle.ehdl_top.specs.Status.{ended, status_of}
 use Rattle.ehdl_top.specs.States.{ShelfState, Changes}
 use Rattle.ehdl_top.specs.Writes.{Write, AreDone, OneFailed}
-use Rattle.ehdl_top.specs.Forms.{InputForm, IsReady, IsFaulty, IsLacking, maps_form}
-use Rattle.ehdl_top.specs.Inputs.{Input, input, may_input, AreReady, FirstStop, FirstLack, OneUnread, EndsAtInput}
+use Rattle.ehdl_top.specs.Forms.{InputForm, IsReady, IsFaulty, maps_form}
+use Rattle.ehdl_top.specs.Inputs.{Input, input, may_input, AreReady, FirstStop, OneUnread, EndsAtInput}
 use Rattle.ehdl_top.specs.Requests.{inputs_of, outputs_of, EndsItself}
 use Rattle.ehdl_top.specs.Steps.{IsRead, IsUnread, AreUnread, StopsBy, Unread, AtInput, OutOfMemory, Unwritten, AtEnd, EndsIn, AreOneEnd}
 use Rattle.ehdl_top.proofs.StateLemmas.{changes_none, changes_then, changes_within, rose_from, tells_later}
-use Rattle.ehdl_top.proofs.InputLemmas.{unread_behind, stop_behind, lack_behind, ends_behind}
+use Rattle.ehdl_top.proofs.InputLemmas.{unread_behind, stop_behind, ends_behind}
 use Rattle.ehdl_top.proofs.WriteLemmas.{AreOf, done_changes, failed_changes}
 use Rattle.ehdl_top.proofs.OutcomeLemmas.{Makes, was_held, writes_all, fails_write}
 
@@ -26,12 +26,6 @@ out_of_memory request s = record { by = OutOfMemory refl (changes_none s); kept 
 pub was_ready : (form : InputForm) (name : List ℕ) (a b : ShelfState) (bytes : List ℕ) → Changes [] a b → IsRead form name b bytes → IsTrue a.tells → IsReady form (a.held name)
 was_ready form name a b bytes same read told = was_held form.limit name a b bytes form.Fits same read.there read.within read.fits told
 
--- an input stops a command, as it is held
-stop_or_lack : (before : List Input) (i : Input) (after : List Input) (held : Holding) (e : CommandError) → AreReady before held → IsFaulty i.form (held i.name) e ⊎ IsLacking i.form (held i.name) e
-    → FirstStop (before ++ i ∷ after) held e ⊎ FirstLack (before ++ i ∷ after) held e
-stop_or_lack before i after held e ready (inl fault) = inl (stop_behind before i after held e ready fault)
-stop_or_lack before i after held e ready (inr lack) = inr (lack_behind before i after held e ready lack)
-
 module _ (request : Request) (old mid new : ShelfState) (e : CommandError) (kept : Changes [] old mid) (same : Changes [] mid new) where
   stops_unread : (before : List Input) (i : Input) (after : List Input) → inputs_of request old.held ≡ before ++ i ∷ after → (IsTrue old.tells → AreReady before old.held) → IsUnread i.form i.name mid new e → StopsBy request old new e
   stops_unread before i after are ready (inl fault) =
@@ -41,10 +35,10 @@ module _ (request : Request) (old mid new : ShelfState) (e : CommandError) (kept
   stops_unread before i after are ready (inr (inl memory)) = OutOfMemory memory (changes_then [] old mid new kept same)
   stops_unread before i after are ready (inr (inr stop)) =
       let P : List Input → Type 0 = λ is. EndsAtInput is (status_of e) in
-      let Q : List Input → Type 0 = λ is. FirstStop is old.held e ⊎ FirstLack is old.held e in
-      let R : Option (List ℕ) → Type 0 = λ held. IsFaulty i.form held e ⊎ IsLacking i.form held e in
+      let Q : List Input → Type 0 = λ is. FirstStop is old.held e in
+      let R : Option (List ℕ) → Type 0 = λ held. IsFaulty i.form held e in
       AtInput (subst P (sym are) (ends_behind before i after (status_of e) stop.0))
-      (λ told. subst Q (sym are) (stop_or_lack before i after old.held e (ready told) (subst R (kept.others i.name tt) (stop.1 (tells_later old mid kept.later told)))))
+      (λ told. subst Q (sym are) (stop_behind before i after old.held e (ready told) (subst R (kept.others i.name tt) (stop.1 (tells_later old mid kept.later told)))))
       (changes_then [] old mid new kept same)
 
   ends_stopped : {T : Type 0} (r : Result T CommandError) → IsErrAnd r (λ f. f ≡ e) → StopsBy request old new e → EndsIn request old new r
@@ -62,7 +56,7 @@ module _ (request : Request) (old mid new : ShelfState) (e : CommandError) (kept
   unread_as name decls of_held declared (inl fault) = inl fault
   unread_as name decls of_held declared (inr (inl memory)) = inr (inl memory)
   unread_as name decls of_held declared (inr (inr stop)) =
-      let P : List MapDecl → Type 0 = λ ds. IsFaulty (maps_form ds) (mid.held name) e ⊎ IsLacking (maps_form ds) (mid.held name) e in
+      let P : List MapDecl → Type 0 = λ ds. IsFaulty (maps_form ds) (mid.held name) e in
       let Q : Bool → Type 0 = λ t. IsTrue t in
       inr (inr (stop.0, λ told. subst P (sym (declared (subst Q kept.later.tells told))) (stop.1 told)))
 

@@ -185,8 +185,8 @@ module _ (choice : Chosen) (bytes : List ℕ) (fault : ObjectError) (e : Command
 
   pub program_given_up : (rule : ProgramRule) → IsErrorOf → IsGivenUp (program_form choice rule) bytes e
   program_given_up rule (inl is) = inl is.1
-  program_given_up rule (inr is) = let P : CommandError → Type 0 = IsGivenUp (program_form choice rule) bytes in subst P (sym is.1) (inr (inl refl, inl (first is.0)))
+  program_given_up rule (inr is) = let P : CommandError → Type 0 = IsGivenUp (program_form choice rule) bytes in subst P (sym is.1) (inr (inl refl, first is.0))
 
   pub object_given_up : IsErrorOf → IsGivenUp (object_form choice) bytes e
   object_given_up (inl is) = inl is.1
-  object_given_up (inr is) = let P : CommandError → Type 0 = IsGivenUp (object_form choice) bytes in subst P (sym is.1) (inr (refl, inl (first is.0)))
+  object_given_up (inr is) = let P : CommandError → Type 0 = IsGivenUp (object_form choice) bytes in subst P (sym is.1) (inr (refl, first is.0))

@@ -2,8 +2,8 @@
 use Rattle.std.proofs.Common.{◌≡◌, ℕ, ◌<◌, ◌≤◌, IsTrue, List, [], ◌∷◌, ◌++◌, length, Option, Some, None, sym, ◌∙◌, ap, subst, inl, inr, arith}
 use Rattle.shelf_core.specs.Shelf.{Holding, IsLonger, Rose}
 use Rattle.ehdl_top.specs.States.{ShelfState, OneRose}
-use Rattle.ehdl_top.specs.Forms.{InputForm, Holds, IsReady, IsFaulty, IsLacking}
-use Rattle.ehdl_top.specs.Inputs.{Input, may_input, names_in, AreReady, FirstStop, FirstLack, OneUnread, EndsAtInput}
+use Rattle.ehdl_top.specs.Forms.{InputForm, Holds, IsReady, IsFaulty}
+use Rattle.ehdl_top.specs.Inputs.{Input, may_input, names_in, AreReady, FirstStop, OneUnread, EndsAtInput}
 use Rattle.ehdl_top.specs.Status.{status_of}
 use Rattle.ehdl_top.specs.declared.status.Status.{Status}
 use Rattle.ehdl_top.specs.declared.status.Status.TheVariants as status
@@ -61,12 +61,6 @@ one_stop (i ∷ rest) held e f sound (inl a) (inr b) = absurd (ready_faulty i.fo
 one_stop (i ∷ rest) held e f sound (inr a) (inl b) = absurd (ready_faulty i.form (held i.name) f sound.0 a.0 b)
 one_stop (i ∷ rest) held e f sound (inr a) (inr b) = one_stop rest held e f sound.1 a.1 b.1
 
--- nothing is lacking of an input that is named or not, nor of those behind it
-pub may_lack : (name : Option (List ℕ)) (form : InputForm) (after : List Input) (held : Holding) (e : CommandError) → ((bytes : List ℕ) (f : CommandError) → ¬ form.Lacks bytes f) → ¬ FirstLack after held e → ¬ FirstLack (may_input name form ++ after) held e
-may_lack (Some name) form after held e none more (inl lack) = none lack.bytes e lack.is
-may_lack (Some name) form after held e none more (inr behind) = more behind.1
-may_lack None form after held e none more lack = more lack
-
 pub ends_input : (inputs : List Input) (s : Status) → AreSound inputs → EndsAtInput inputs s → IsInputStatus s
 ends_input [] s sound ends = absurd ends
 ends_input (i ∷ rest) s sound (inl ends) = sound.0.ends s ends
@@ -94,10 +88,6 @@ unread_behind (j ∷ before) i after old new ready rose = inr (λ told. (ready t
 pub stop_behind : (before : List Input) (i : Input) (after : List Input) (held : Holding) (e : CommandError) → AreReady before held → IsFaulty i.form (held i.name) e → FirstStop (before ++ i ∷ after) held e
 stop_behind [] i after held e ready fault = inl fault
 stop_behind (j ∷ before) i after held e ready fault = inr (ready.0, stop_behind before i after held e ready.1 fault)
-
-pub lack_behind : (before : List Input) (i : Input) (after : List Input) (held : Holding) (e : CommandError) → AreReady before held → IsLacking i.form (held i.name) e → FirstLack (before ++ i ∷ after) held e
-lack_behind [] i after held e ready lack = inl lack
-lack_behind (j ∷ before) i after held e ready lack = inr (ready.0, lack_behind before i after held e ready.1 lack)
 
 pub ends_behind : (before : List Input) (i : Input) (after : List Input) (s : Status) → i.form.Ends s → EndsAtInput (before ++ i ∷ after) s
 ends_behind [] i after s ends = inl ends

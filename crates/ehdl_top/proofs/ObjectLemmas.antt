@@ -6,9 +6,9 @@ use Rattle.xdp_object.specs.Object.{FirstFault}
 use Rattle.kind_core.specs.declared.why.Refusal.{Refusal}
 use Rattle.ehdl_build.specs.declared.built.Built.{Built}
 use Rattle.ehdl_build.specs.declared.built.CompileError.{CompileError}
-use Rattle.ehdl_build.specs.declared.built.CompileError.TheVariants.{Object, Refused, NoPipeline, NoMemory}
-use Rattle.ehdl_build.specs.Compiled.{Compiles, FailsFor, IsRefused, IsUnbuilt}
-use Rattle.ehdl_top.specs.Forms.{IsWithoutPipeline, built}
+use Rattle.ehdl_build.specs.declared.built.CompileError.TheVariants.{Object, Refused, NoMemory}
+use Rattle.ehdl_build.specs.Compiled.{Compiles, FailsFor, IsRefused}
+use Rattle.ehdl_top.specs.Forms.{built}
 use Rattle.ehdl_top.specs.Steps.{IsBuiltOf}
 
 -- what was compiled was not refused
@@ -26,9 +26,3 @@ built_of choice bytes r b e c refuses = record {
 
 pub fails_object : (choice : Chosen) (bytes : List ℕ) (failed : CompileError) (fault : ObjectError) → failed ≡ Object fault → FailsFor choice bytes failed → FirstFault choice bytes fault
 fails_object choice bytes failed fault same fails = let P : CompileError → Type 0 = FailsFor choice bytes in subst P same fails
-
-pub fails_pipeline : (choice : Chosen) (bytes : List ℕ) (failed : CompileError) → failed ≡ NoPipeline → FailsFor choice bytes failed → IsWithoutPipeline choice built bytes
-fails_pipeline choice bytes failed same fails =
-    let P : CompileError → Type 0 = FailsFor choice bytes in
-    let none : IsUnbuilt choice bytes = subst P same fails in
-    record { program = none.program; object = none.object; lacks = none.none }

@@ -19,7 +19,6 @@ use Rattle.xdp_object.specs.Maps.{MapTable}
 use Rattle.xdp_object.specs.Object.{FirstFault, IsObject, function_of, maps_of}
 use Rattle.kind_core.specs.declared.why.Refusal.{Refusal}
 use Rattle.node_rows.specs.Acceptance.{IsAccepted, IsFirstRefusal}
-use Rattle.ehdl_build.specs.Pipelines.{HasNoPipeline}
 use Rattle.ehdl_build.specs.Compiled.{RefusesProgram}
 use Rattle.ehdl_top.specs.declared.limits.TheConstants.{OBJECT_LIMIT, VERILOG_LIMIT, MAPS_LIMIT, CAPTURE_LIMIT}
 use Rattle.ehdl_top.specs.declared.status.Status.{Status}
@@ -28,13 +27,12 @@ use Rattle.ehdl_top.specs.declared.error.CommandError.{CommandError}
 use Rattle.ehdl_top.specs.declared.error.CommandError.TheVariants as error
 
 -- A form of input. Bytes beyond its limit are too many; others are in the form, or have a first fault, for which a command is
--- given up. Of bytes in the form what is to be made of them may be lacking, for which it is given up, too. How a command may then end is said.
+-- given up. How a command may then end is said.
 pub record InputForm : Type 1 where
   pub limit : ℕ
   pub too_long : CommandError
   pub Fits : List ℕ → Type 0
   pub Faults : List ℕ → CommandError → Type 0
-  pub Lacks : List ℕ → CommandError → Type 0
   pub Ends : Status → Type 0
 
 -- ---- what a name holds
@@ -53,20 +51,11 @@ IsReady form held = Holds form.limit held form.Fits
 abbrev pub IsFaulty : InputForm → Option (List ℕ) → CommandError → Type 0
 IsFaulty form held e = (IsLonger form.limit held × (e ≡ form.too_long)) ⊎ Holds form.limit held (λ bytes. form.Faults bytes e)
 
--- of such bytes what is to be made of them is lacking
-abbrev pub IsLacking : InputForm → Option (List ℕ) → CommandError → Type 0
-IsLacking form held e = Holds form.limit held (λ bytes. form.Lacks bytes e)
-
--- nothing is lacking
-abbrev pub LacksNothing : List ℕ → CommandError → Type 0
-LacksNothing bytes e = ⊥
-
 -- ---- objects
--- Which programs a command takes, how it refuses the others, and of which a pipeline that it needs is lacking.
+-- Which programs a command takes, and how it refuses the others.
 pub record ProgramRule : Type 1 where
   pub Takes : XdpProgram → Type 0
   pub Refuses : XdpProgram → Refusal → Type 0
-  pub Lacks : XdpProgram → Type 0
 
 -- bytes are an object of a program that is taken
 pub record IsTaken (choice : Chosen) (rule : ProgramRule) (bytes : List ℕ) (program : XdpProgram) : Type 0 where
@@ -79,20 +68,10 @@ pub record IsRefusedBy (choice : Chosen) (rule : ProgramRule) (bytes : List ℕ)
   pub object : IsObject choice bytes program
   pub refuses : rule.Refuses program r
 
--- they are an object of a program whose pipeline is lacking
-pub record IsWithoutPipeline (choice : Chosen) (rule : ProgramRule) (bytes : List ℕ) : Type 0 where
-  pub program : XdpProgram
-  pub object : IsObject choice bytes program
-  pub lacks : rule.Lacks program
-
 abbrev pub ProgramFaults : Chosen → ProgramRule → List ℕ → CommandError → Type 0
 ProgramFaults choice rule bytes (error.Object fault) = FirstFault choice bytes fault
 ProgramFaults choice rule bytes (error.Refused r) = IsRefusedBy choice rule bytes r
 ProgramFaults choice rule bytes e = ⊥
-
-abbrev pub ProgramLacks : Chosen → ProgramRule → List ℕ → CommandError → Type 0
-ProgramLacks choice rule bytes error.NoPipeline = IsWithoutPipeline choice rule bytes
-ProgramLacks choice rule bytes e = ⊥
 
 -- an object of a program that is taken
 abbrev pub program_form : Chosen → ProgramRule → InputForm
@@ -101,17 +80,16 @@ program_form choice rule = record {
   too_long = error.Object Long;
   Fits = λ bytes. (program : XdpProgram) × IsTaken choice rule bytes program;
   Faults = ProgramFaults choice rule;
-  Lacks = ProgramLacks choice rule;
   Ends = λ s. (s ≡ status.Object) ⊎ (s ≡ status.Refused);
 }
 
 -- programs that are compiled: they are not refused
 abbrev pub built : ProgramRule
-built = record { Takes = λ p. (r : Refusal) → ¬ RefusesProgram p r; Refuses = RefusesProgram; Lacks = HasNoPipeline }
+built = record { Takes = λ p. (r : Refusal) → ¬ RefusesProgram p r; Refuses = RefusesProgram }
 
--- programs that are accepted: they unfold, and have few stages; no pipeline is made of them
+-- programs that are accepted: they unfold, and have few stages
 abbrev pub accepted : ProgramRule
-accepted = record { Takes = IsAccepted; Refuses = IsFirstRefusal; Lacks = λ p. ⊥ }
+accepted = record { Takes = IsAccepted; Refuses = IsFirstRefusal }
 
 -- an object alone, whatever its program
 abbrev pub ObjectFaults : Chosen → List ℕ → CommandError → Type 0
@@ -124,7 +102,6 @@ object_form choice = record {
   too_long = error.Object Long;
   Fits = λ bytes. (program : XdpProgram) × IsObject choice bytes program;
   Faults = ObjectFaults choice;
-  Lacks = LacksNothing;
   Ends = λ s. s ≡ status.Object;
 }
 
@@ -149,7 +126,6 @@ text_form = record {
   too_long = error.LongVerilog;
   Fits = λ bytes. (design : Netlist) × Spells bytes design;
   Faults = TextFaults;
-  Lacks = LacksNothing;
   Ends = λ s. s ≡ status.Input;
 }
 
@@ -165,7 +141,6 @@ maps_form decls = record {
   too_long = error.LongMaps;
   Fits = λ bytes. (maps : MapState) × IsMapsText decls bytes maps;
   Faults = MapsFaults decls;
-  Lacks = LacksNothing;
   Ends = λ s. s ≡ status.Input;
 }
 
@@ -203,6 +178,5 @@ capture_form = record {
   too_long = error.LongCapture;
   Fits = λ bytes. (magic : ℕ) × (packets : List Packet) × IsCaptured bytes magic packets;
   Faults = CaptureFaults;
-  Lacks = LacksNothing;
   Ends = λ s. s ≡ status.Input;
 }

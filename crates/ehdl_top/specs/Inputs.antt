@@ -2,7 +2,7 @@
 use Rattle.std.specs.Prelude.{◌⊎◌, ℕ, IsTrue, List, [], ◌∷◌, Option, Some, None}
 use Rattle.shelf_core.specs.Shelf.{Holding, Rose}
 use Rattle.ehdl_top.specs.States.{ShelfState}
-use Rattle.ehdl_top.specs.Forms.{InputForm, IsReady, IsFaulty, IsLacking}
+use Rattle.ehdl_top.specs.Forms.{InputForm, IsReady, IsFaulty}
 use Rattle.ehdl_top.specs.declared.status.Status.{Status}
 use Rattle.ehdl_top.specs.declared.error.CommandError.{CommandError}
 
@@ -32,11 +32,6 @@ AreReady (i ∷ rest) held = IsReady i.form (held i.name) × AreReady rest held
 abbrev pub FirstStop : List Input → Holding → CommandError → Type 0
 FirstStop [] held e = ⊥
 FirstStop (i ∷ rest) held e = IsFaulty i.form (held i.name) e ⊎ (IsReady i.form (held i.name) × FirstStop rest held e)
-
--- What is to be made of one of them is lacking, and those before it are in their forms.
-abbrev pub FirstLack : List Input → Holding → CommandError → Type 0
-FirstLack [] held e = ⊥
-FirstLack (i ∷ rest) held e = IsLacking i.form (held i.name) e ⊎ (IsReady i.form (held i.name) × FirstLack rest held e)
 
 -- A read of one of them failed: its count has risen. Those before it are in their forms, where the shelf tells.
 abbrev pub OneUnread : List Input → ShelfState → ShelfState → Type 0

@@ -62,7 +62,6 @@ abbrev pub line_of : CommandError → List ℕ
 line_of error.Usage = codes "usage\n"
 line_of (error.Object fault) = codes "object " ++ object.code_of fault ++ codes "\n"
 line_of (error.Refused r) = codes "refused " ++ refusal_code r ++ codes "\n"
-line_of error.NoPipeline = codes "refused 0 1\n"
 line_of error.LongVerilog = codes "input verilog long\n"
 line_of (error.Verilog fault) = codes "input verilog " ++ verilog_code fault ++ codes "\n"
 line_of error.LongMaps = codes "input maps long\n"

@@ -9,7 +9,7 @@ use Rattle.ehdl_top.specs.declared.error.CommandError.{CommandError}
 use Rattle.ehdl_top.specs.Status.{status_of}
 use Rattle.ehdl_top.specs.States.{ShelfState, SinkState, OneRose}
 use Rattle.ehdl_top.specs.Forms.{program_form, built, accepted, object_form, text_form, maps_form, held_decls, capture_form}
-use Rattle.ehdl_top.specs.Inputs.{Input, input, may_input, FirstStop, FirstLack, EndsAtInput}
+use Rattle.ehdl_top.specs.Inputs.{Input, input, may_input, FirstStop, EndsAtInput}
 use Rattle.ehdl_top.specs.Writes.{Outputs}
 use Rattle.ehdl_top.specs.Results.{no_outputs}
 use Rattle.ehdl_top.specs.Outcome.{IsCompiled, IsRun, IsSimulated, IsReference, IsReported}
@@ -76,11 +76,6 @@ IsFault s = ⊥
 abbrev pub CanEnd : Request → Holding → Status → Type 0
 CanEnd request held s = EndsAtInput (inputs_of request held) s ⊎ (EndsItself request s ⊎ IsFault s)
 
--- how a command ends of whose program a pipeline is lacking
-abbrev pub EndsLacking : Request → Holding → Status → Type 0
-EndsLacking request held s = (e : CommandError) × (s ≡ status_of e) × FirstLack (inputs_of request held) held e
-
--- what the inputs give a command up for: a fault of them, a pipeline that is lacking, or a drive that is given up
+-- what the inputs give a command up for: a fault of them, or a drive that is given up
 abbrev pub IsCause : Request → Holding → CommandError → Type 0
-IsCause request held e =
-    FirstStop (inputs_of request held) held e ⊎ (FirstLack (inputs_of request held) held e ⊎ ((outputs : Outputs) × IsOutcome request held (Some e) outputs))
+IsCause request held e = FirstStop (inputs_of request held) held e ⊎ ((outputs : Outputs) × IsOutcome request held (Some e) outputs)

@@ -22,7 +22,6 @@ abbrev pub status_of : CommandError → Status
 status_of error.Usage = status.Usage
 status_of (error.Object fault) = status.Object
 status_of (error.Refused r) = status.Refused
-status_of error.NoPipeline = status.Refused
 status_of error.LongVerilog = status.Input
 status_of (error.Verilog fault) = status.Input
 status_of error.LongMaps = status.Input

@@ -33,8 +33,8 @@ use Rattle.node_rows.specs.Rows.{HasStages}
 use Rattle.node_rows.specs.Acceptance.{IsFirstRefusal}
 use Rattle.command_line.specs.Request.{Request, AskCompile, AskRun, AskSim, AskRef, AskReport, Names}
 use Rattle.ehdl_top.specs.States.{ShelfState, SinkState, Changes, OneRose, IsLaterSink}
-use Rattle.ehdl_top.specs.Forms.{InputForm, IsFaulty, IsLacking, IsTaken, built, accepted, IsTextFault, maps_form, IsCaptured}
-use Rattle.ehdl_top.specs.Inputs.{FirstStop, FirstLack, OneUnread, EndsAtInput}
+use Rattle.ehdl_top.specs.Forms.{InputForm, IsFaulty, IsTaken, built, accepted, IsTextFault, maps_form, IsCaptured}
+use Rattle.ehdl_top.specs.Inputs.{FirstStop, OneUnread, EndsAtInput}
 use Rattle.ehdl_top.specs.Writes.{Write, Begin, Append}
 use Rattle.ehdl_top.specs.Results.{timed_packets, came_by, run_outputs, result_outputs, sim_outputs}
 use Rattle.ehdl_top.specs.Simulation.{Simulation, simulation, given_up}
@@ -62,15 +62,15 @@ bytes_of (Fixed bytes) = bytes.now
 bytes_of (Text bytes) = bytes.items
 
 -- ---- inputs
--- what bytes of an input are given up for: want of memory, their first fault, or what is lacking of them
+-- what bytes of an input are given up for: want of memory, or their first fault
 abbrev pub IsGivenUp : InputForm → List ℕ → CommandError → Type 0
-IsGivenUp form bytes e = (e ≡ error.NoMemory) ⊎ (form.Ends (status_of e) × (form.Faults bytes e ⊎ form.Lacks bytes e))
+IsGivenUp form bytes e = (e ≡ error.NoMemory) ⊎ (form.Ends (status_of e) × form.Faults bytes e)
 
 -- why an input was not read: a fault, want of memory, or what the name holds
 abbrev pub IsUnread : InputForm → List ℕ → ShelfState → ShelfState → CommandError → Type 0
 IsUnread form name old new e =
     ((e ≡ error.ReadFault) × Rose (old.read_faults name) (new.read_faults name))
-    ⊎ ((e ≡ error.NoMemory) ⊎ (form.Ends (status_of e) × (IsTrue old.tells → IsFaulty form (old.held name) e ⊎ IsLacking form (old.held name) e)))
+    ⊎ ((e ≡ error.NoMemory) ⊎ (form.Ends (status_of e) × (IsTrue old.tells → IsFaulty form (old.held name) e)))
 
 -- an input was read: the bytes that the name holds, where that is told, are in the form
 pub record IsRead (form : InputForm) (name : List ℕ) (old : ShelfState) (bytes : List ℕ) : Type 0 where
@@ -240,12 +240,12 @@ pub record WritesAll (request : Request) (end : Option CommandError) (old new : 
   pub can : EndsItself request (ended end)
   pub has : IsTrue old.tells → HasWritten request end old new
 
--- Why a command was given up: a read failed, memory ran out, or an input is not in its form, or what is to be made of it is lacking, and
--- nothing was written; a write failed; or all was written, and the drive was given up.
+-- Why a command was given up: a read failed, memory ran out, or an input is not in its form, and nothing was written; a write failed; or all was
+-- written, and the drive was given up.
 pub data StopsBy (request : Request) (old new : ShelfState) (e : CommandError) : Type 0 where
   Unread : e ≡ error.ReadFault → OneUnread (inputs_of request old.held) old new → Changes [] old new → StopsBy request old new e
   OutOfMemory : e ≡ error.NoMemory → Changes [] old new → StopsBy request old new e
-  AtInput : EndsAtInput (inputs_of request old.held) (status_of e) → (IsTrue old.tells → FirstStop (inputs_of request old.held) old.held e ⊎ FirstLack (inputs_of request old.held) old.held e) → Changes [] old new → StopsBy request old new e
+  AtInput : EndsAtInput (inputs_of request old.held) (status_of e) → (IsTrue old.tells → FirstStop (inputs_of request old.held) old.held e) → Changes [] old new → StopsBy request old new e
   Unwritten : e ≡ error.WriteFault → FailsWrite request old new → StopsBy request old new e
   AtEnd : WritesAll request (Some e) old new → StopsBy request old new e
 
@@ -270,7 +270,6 @@ IsFixed error.Usage = Unit {0}
 IsFixed error.LongVerilog = Unit {0}
 IsFixed error.LongMaps = Unit {0}
 IsFixed error.LongCapture = Unit {0}
-IsFixed error.NoPipeline = Unit {0}
 IsFixed error.ReadFault = Unit {0}
 IsFixed error.WriteFault = Unit {0}
 IsFixed error.NoMemory = Unit {0}

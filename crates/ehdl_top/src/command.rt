@@ -8,7 +8,7 @@ ghost use Rattle.ehdl_top.specs.States.{state_of, sink_of, Changes, IsLater, IsL
 ghost use Rattle.ehdl_top.specs.Inputs.{AreReady, FirstStop, OneUnread, names_in};
 ghost use Rattle.ehdl_top.specs.Writes.{Outputs};
 ghost use Rattle.ehdl_top.specs.Status.{status_of};
-ghost use Rattle.ehdl_top.specs.Requests.{inputs_of, outputs_of, IsOutcome, PutsLines, AreLines, OneUnwritten, IsCause, CanEnd, IsFault, EndsLacking};
+ghost use Rattle.ehdl_top.specs.Requests.{inputs_of, outputs_of, IsOutcome, PutsLines, AreLines, OneUnwritten, IsCause, CanEnd, IsFault};
 ghost use Rattle.ehdl_top.specs.Ends.{AllWritten, ByInputs, EndsAs, IsEarly, Loses, SaysWhy, AreLinesOf, ArePut, AreCutOff, SaysLast};
 ghost use Rattle.ehdl_top.specs.Steps.{EndsIn, AreOneEnd, NamesApart, IsFinished, IsFixed};
 ghost use Rattle.ehdl_top.specs.declared.error.CommandError.{CommandError};
@@ -158,15 +158,15 @@ pub fn top<S: Shelf, O: Sink>(alloc: Global, words: &Words, shelf: &mut S, out: 
     // What is written: a text that realizes the object's program, and what sequential execution on the capture gives; of a text
     // that is given, what the load, its full drive and the dump give. It is written in the command's order.
     ensures outcome { AllWritten result → IsTrue (S.tells shelf.old) → (request : Request) → AsksFor words.now request → EndsAs request result (state_of S.Shelf shelf.old) (state_of S.Shelf shelf.new) }
-    // Where the inputs are there in their forms and no fault comes, all is written, want of memory and of a pipeline aside.
-    ensures complete { (request : Request) → AsksFor words.now request → IsTrue (S.tells shelf.old) → AreReady (inputs_of request (S.held shelf.old)) (S.held shelf.old) → ¬ OneRose (names_in (inputs_of request (S.held shelf.old))) (S.read_faults shelf.old) (S.read_faults shelf.new) → ¬ OneUnwritten request (state_of S.Shelf shelf.old) (state_of S.Shelf shelf.new) (sink_of O.Sink out.old) (sink_of O.Sink out.new) → AllWritten result ⊎ ((result ≡ Status.NoMemory) ⊎ EndsLacking request (S.held shelf.old) result) }
+    // Where the inputs are there in their forms and no fault comes, all is written, want of memory aside.
+    ensures complete { (request : Request) → AsksFor words.now request → IsTrue (S.tells shelf.old) → AreReady (inputs_of request (S.held shelf.old)) (S.held shelf.old) → ¬ OneRose (names_in (inputs_of request (S.held shelf.old))) (S.read_faults shelf.old) (S.read_faults shelf.new) → ¬ OneUnwritten request (state_of S.Shelf shelf.old) (state_of S.Shelf shelf.new) (sink_of O.Sink out.old) (sink_of O.Sink out.new) → AllWritten result ⊎ (result ≡ Status.NoMemory) }
 
     // The causes: exactly where the words ask for nothing, want of memory aside, and then nothing is read;
     ensures usage { result ≡ Status.Usage → (request : Request) → ¬ AsksFor words.now request }
     ensures unread { ((request : Request) → ¬ AsksFor words.now request) → (result ≡ Status.Usage) ⊎ (result ≡ Status.NoMemory) }
     ensures untouched { result ≡ Status.Usage → shelf.new ≡ shelf.old }
-    // exactly where an input is not in its form and those before it are, want of memory and of a pipeline aside, and a fault of a read up to it;
-    ensures inputs { (request : Request) → AsksFor words.now request → IsTrue (S.tells shelf.old) → (e : CommandError) → FirstStop (inputs_of request (S.held shelf.old)) (S.held shelf.old) e → (result ≡ status_of e) ⊎ ((result ≡ Status.ReadFault) ⊎ ((result ≡ Status.NoMemory) ⊎ EndsLacking request (S.held shelf.old) result)) }
+    // exactly where an input is not in its form and those before it are, want of memory aside, and a fault of a read up to it;
+    ensures inputs { (request : Request) → AsksFor words.now request → IsTrue (S.tells shelf.old) → (e : CommandError) → FirstStop (inputs_of request (S.held shelf.old)) (S.held shelf.old) e → (result ≡ status_of e) ⊎ ((result ≡ Status.ReadFault) ⊎ (result ≡ Status.NoMemory)) }
     // exactly where a simulation is given up, faults and want of memory aside.
     ensures driven { (request : Request) → AsksFor words.now request → IsTrue (S.tells shelf.old) → (e : CommandError) (outputs : Outputs) → IsOutcome request (S.held shelf.old) (Some e) outputs → (result ≡ status_of e) ⊎ IsFault result }
     // A fault of a read: the count of this input rose, and those before it are in their forms. A fault of a write, or of a put of lines.

@@ -72,8 +72,6 @@ pub(crate) enum CommandError {
     Object(ObjectError),
     /// The object's program is refused.
     Refused(Refusal),
-    /// The object's program is not refused, and no pipeline is made of it.
-    NoPipeline,
     /// The Verilog text is longer than its limit.
     LongVerilog,
     /// The Verilog text is not in the subset.
@@ -128,7 +126,7 @@ impl CommandError {
         match self {
             CommandError::Usage => Status::Usage,
             CommandError::Object(_) => Status::Object,
-            CommandError::Refused(_) | CommandError::NoPipeline => Status::Refused,
+            CommandError::Refused(_) => Status::Refused,
             CommandError::LongVerilog | CommandError::Verilog(_) => Status::Input,
             CommandError::LongMaps | CommandError::Maps(_) => Status::Input,
             CommandError::LongCapture | CommandError::Capture(_) => Status::Input,
@@ -147,7 +145,6 @@ impl CommandError {
     {
         let text = match self {
             CommandError::Usage => return Ok(Line::Fixed(b"usage\n")),
-            CommandError::NoPipeline => return Ok(Line::Fixed(b"refused 0 1\n")),
             CommandError::LongVerilog => return Ok(Line::Fixed(b"input verilog long\n")),
             CommandError::LongMaps => return Ok(Line::Fixed(b"input maps long\n")),
             CommandError::LongCapture => return Ok(Line::Fixed(b"input capture long\n")),

@@ -119,7 +119,6 @@ fn build(alloc: Global, object: &[u8], choice: Choice) -> Result<Built, CommandE
         Ok(built) => Ok(built),
         Err(CompileError::Object(fault)) => Err(CommandError::Object(fault)),
         Err(CompileError::Refused(refusal)) => Err(CommandError::Refused(refusal)),
-        Err(CompileError::NoPipeline) => Err(CommandError::NoPipeline),
         Err(CompileError::NoMemory) => Err(CommandError::NoMemory),
     }
 }

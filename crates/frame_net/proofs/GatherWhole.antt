@@ -11,6 +11,7 @@ use Rattle.frame_net.specs.GatherNets.{gather_block}
 use Rattle.frame_net.proofs.StoreLaws.{widths_are}
 use Rattle.frame_net.proofs.GatherLemmas.{first_words, is_typed, in_order, statement_reads, is_within, is_spelled}
 use Rattle.frame_net.proofs.GatherClock.{stays, has_taken}
+use Rattle.frame_net.proofs.FreeLaws.{gather_free}
 
 gathers : {P : Type 0} (p : P) (bits : ℕ) (kept : List Kept) (over slot : Name P) → 1 ≤ bits → bits ≤ 9 → AllByRecursion IsKept kept → IsGather p bits kept over slot (gather_block p bits kept over slot)
 gathers p bits kept over slot some most words = record {
@@ -27,6 +28,7 @@ gathers p bits kept over slot some most words = record {
   first = λ at. record { registers = refl; memories = first_words bits kept; begun = tt };
   stays = λ v s at o solved sees. stays p bits some kept over slot v s at o solved sees;
   takes = λ v s at o part solved sees offer few g. has_taken p bits some kept over slot v s at o part solved sees offer few g;
+  free = gather_free p bits kept over slot;
 }
 
 pub is_gather : {P : Type 0} (p : P) (bits : ℕ) (kept : List Kept) (over slot : Name P) (b : BlockTree (Name P)) → 1 ≤ bits → bits ≤ 9 → AllByRecursion IsKept kept → b ≡ gather_block p bits kept over slot → IsGather p bits kept over slot b

@@ -5,6 +5,7 @@ pub mod BitLaws
 pub mod FormLaws
 pub mod LoopLaws
 pub mod ReadLaws
+pub mod FreeLaws
 mod FrameLemmas
 mod HeldLemmas
 mod GatherLemmas

@@ -30,6 +30,7 @@ use Rattle.frame_net.specs.Sources.{kept_word, SeesHeld, ShowsFrame, IsSources}
 use Rattle.frame_net.specs.SourcesNets.{held, frame_length, kept_tree, kept_wires, sources_wires, sources_block}
 use Rattle.frame_net.proofs.FormLaws.{and_is, wire_is, held_width, still_before}
 use Rattle.frame_net.proofs.ReadLaws.{held_here, count_held, held_kept}
+use Rattle.frame_net.proofs.FreeLaws.{sources_free}
 
 -- ---- what the wires show
 -- the number of the last beat and its bytes give the length
@@ -171,4 +172,5 @@ module _ {P : Type 0} (p gather : P) (bits : ℕ) (kept : List Kept) (slot : Nam
     goes = λ v. (refl, (refl, (refl, kept_goes v kept 3)));
     shows = λ v ms at a solved sees holds. shows_frame v ms at a solved sees holds;
     stays = λ v s. refl;
+    free = sources_free p gather kept slot;
   }

@@ -10,6 +10,7 @@ use Rattle.net_core.specs.declared.ports.TheConstants.{IN_DATA, IN_BYTES, IN_LAS
 use Rattle.net_core.specs.Value.{word, bit, nothing, Env}
 use Rattle.net_core.specs.Clock.{Stored, done}
 use Rattle.design_rules.specs.FormedSyntax.{right_spelled, statement_spelled}
+use Rattle.product_blocks.specs.Alone.{IsFree}
 use Rattle.block_core.specs.declared.name.Name.{Name}
 use Rattle.block_core.specs.declared.name.Name.TheVariants as name
 use Rattle.block_core.specs.Blocks.{BlockTree, first_of, registers_of, memories_of, Whole, Among}
@@ -87,3 +88,4 @@ pub record IsGather {P : Type 0} (part : P) (bits : ℕ) (kept : List Kept) (ove
   pub stays : (v : Env (Name P)) (s : Stored) (at : ℕ) (o : Offered) → Solve v part 0 b.wires → SeesBeat part bits over slot v s false at o → done v b.statement s ≡ s
   pub takes : (v : Env (Name P)) (s : Stored) (at : ℕ) (o : Offered) (so_far : Option Arrival) → Solve v part 0 b.wires → SeesBeat part bits over slot v s true at o
       → IsOffer o.beat → position_of so_far < BEAT_LIMIT → Gathers bits kept so_far at s → HasTaken bits kept so_far at o s (done v b.statement s)
+  pub free : IsFree b

@@ -8,6 +8,7 @@ use Rattle.net_core.specs.Ports.{port_list}
 use Rattle.net_core.specs.Value.{word, Env}
 use Rattle.net_core.specs.Clock.{Stored, done}
 use Rattle.design_rules.specs.FormedSyntax.{right_spelled, statement_spelled}
+use Rattle.product_blocks.specs.Alone.{IsFree}
 use Rattle.block_core.specs.declared.name.Name.{Name}
 use Rattle.block_core.specs.declared.name.Name.TheVariants as name
 use Rattle.block_core.specs.Blocks.{BlockTree, Whole, Among}
@@ -57,3 +58,4 @@ pub record IsSources {P : Type 0} (part gather : P) (bits : ℕ) (kept : List Ke
   pub goes : (v : Env (Name P)) → Goes v b.wires
   pub shows : (v : Env (Name P)) (ms : List (List Word)) (at : ℕ) (a : Arrival) → Solve v part 0 b.wires → SeesHeld gather bits kept slot v ms at → HoldsFrame kept ms at a → ShowsFrame part kept v a
   pub stays : (v : Env (Name P)) (s : Stored) → done v b.statement s ≡ s
+  pub free : IsFree b

@@ -13,6 +13,7 @@ use Rattle.held_cells.specs.Paths.{GraphView, At, node_at, before, on_path, maps
 use Rattle.held_cells.specs.declared.held.Held.{Held}
 use Rattle.held_cells.specs.Held.{PointerView, AreHeld}
 use Rattle.held_cells.specs.Steps.{DoAs}
+use Rattle.held_cells.specs.Pointing.{AccessesLookUp}
 
 abbrev pub no_made : Node
 no_made = record { place = 0; guard = 0; first = 0; end = 0 }
@@ -77,3 +78,4 @@ pub record Computes (g : GraphView) (p : ProgramView) : Type 0 where
 pub record IsLaw (g : GraphView) (p : ProgramView) : Type 0 where
   pub computes : Computes g p
   pub sited : AreSited g.decls p
+  pub accesses : AccessesLookUp g.decls p

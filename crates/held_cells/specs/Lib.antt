@@ -5,3 +5,4 @@ pub mod Steps
 pub mod Operating
 pub mod Law
 pub mod Rows
+pub mod Pointing

@@ -10,3 +10,4 @@ pub mod Filled
 pub mod Unmapped
 pub mod Plain
 pub mod Leaving
+pub mod Holding

@@ -10,6 +10,7 @@ ghost use Rattle.operator_cells.specs.Making.{seen, Grows};
 ghost use Rattle.held_cells.specs.declared.way.Way.{Way};
 ghost use Rattle.held_cells.specs.Held.{pointed, AreInside};
 ghost use Rattle.held_cells.specs.Rows.{held_row, leaving_row, LeaveTo};
+ghost use Rattle.held_cells.specs.Pointing.{LeavePoints};
 ghost use Rattle.node_cells.specs.Ends.{ArePresent, brought, brought_along, all_brought};
 ghost use Rattle.node_cells.specs.Stepping.{JumpSteps, EdgeSteps};
 
@@ -54,6 +55,7 @@ fn step_both(
     ensures steps { IfOk result (λ done. JumpSteps decls.now node kinds.now here.now insn.now (Some next) (Some jump) (seen cells.old.items) (seen cells.new.items) (pointed pointers.now) ways.old.items ways.new.items) }
     ensures brought { IfOk result (λ done. map_list brought ways.new.items ≡ map_list brought ways.old.items ++ all_brought decls.now node kinds.now insn.now false (Some next) (Some jump)) }
     ensures rows { IfOk result (λ done. LeaveTo (seen cells.old.items) (seen cells.new.items) ways.old.items ways.new.items here.now.held (λ row. leaving_row (held_row row (pointed pointers.now) here.now.held kinds.now) kinds.now insn.now (row here.now.guard))) }
+    ensures points { IfOk result (λ done. LeavePoints (seen cells.new.items) (pointed pointers.now) kinds.now here.now.held here.now.guard ways.old.items ways.new.items) }
     ensures grows { IfOk result (λ done. Grows (seen cells.old.items) (seen cells.new.items)) }
     ensures kept { IfOk result (λ done. (more : List Way) × (ways.new.items ≡ ways.old.items ++ more)) }
 {
@@ -96,6 +98,7 @@ fn step_one(
     ensures steps { IfOk result (λ done. EdgeSteps decls.now node kinds.now here.now insn.now taken to (seen cells.old.items) (seen cells.new.items) (pointed pointers.now) ways.old.items ways.new.items) }
     ensures brought { IfOk result (λ done. map_list brought ways.new.items ≡ map_list brought ways.old.items ++ brought_along decls.now node kinds.now insn.now false taken (Some to)) }
     ensures rows { IfOk result (λ done. LeaveTo (seen cells.old.items) (seen cells.new.items) ways.old.items ways.new.items here.now.held (λ row. leaving_row (held_row row (pointed pointers.now) here.now.held kinds.now) kinds.now insn.now (row here.now.guard))) }
+    ensures points { IfOk result (λ done. LeavePoints (seen cells.new.items) (pointed pointers.now) kinds.now here.now.held here.now.guard ways.old.items ways.new.items) }
     ensures grows { IfOk result (λ done. Grows (seen cells.old.items) (seen cells.new.items)) }
     ensures kept { IfOk result (λ done. (more : List Way) × (ways.new.items ≡ ways.old.items ++ more)) }
 {
@@ -136,6 +139,7 @@ pub fn step_jump(
     ensures steps { IfOk result (λ done. JumpSteps decls.now node kinds.now here.now insn.now next jump (seen cells.old.items) (seen cells.new.items) (pointed pointers.now) ways.old.items ways.new.items) }
     ensures brought { IfOk result (λ done. map_list brought ways.new.items ≡ map_list brought ways.old.items ++ all_brought decls.now node kinds.now insn.now false next jump) }
     ensures rows { IfOk result (λ done. LeaveTo (seen cells.old.items) (seen cells.new.items) ways.old.items ways.new.items here.now.held (λ row. leaving_row (held_row row (pointed pointers.now) here.now.held kinds.now) kinds.now insn.now (row here.now.guard))) }
+    ensures points { IfOk result (λ done. LeavePoints (seen cells.new.items) (pointed pointers.now) kinds.now here.now.held here.now.guard ways.old.items ways.new.items) }
     ensures grows { IfOk result (λ done. Grows (seen cells.old.items) (seen cells.new.items)) }
     ensures kept { IfOk result (λ done. (more : List Way) × (ways.new.items ≡ ways.old.items ++ more)) }
 {
@@ -175,6 +179,7 @@ pub fn step_always(
     ensures steps { IfOk result (λ done. EdgeSteps decls.now node kinds.now here.now insn.now true to (seen cells.old.items) (seen cells.new.items) (pointed pointers.now) ways.old.items ways.new.items) }
     ensures brought { IfOk result (λ done. map_list brought ways.new.items ≡ map_list brought ways.old.items ++ brought_along decls.now node kinds.now insn.now false true (Some to)) }
     ensures rows { IfOk result (λ done. LeaveTo (seen cells.old.items) (seen cells.new.items) ways.old.items ways.new.items here.now.held (λ row. row here.now.guard)) }
+    ensures points { IfOk result (λ done. LeavePoints (seen cells.new.items) (pointed pointers.now) kinds.now here.now.held here.now.guard ways.old.items ways.new.items) }
     ensures grows { IfOk result (λ done. Grows (seen cells.old.items) (seen cells.new.items)) }
     ensures kept { IfOk result (λ done. (more : List Way) × (ways.new.items ≡ ways.old.items ++ more)) }
 {

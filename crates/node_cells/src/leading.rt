@@ -1,7 +1,8 @@
 //! Nodes whose instructions lead on along one edge.
 
-ghost use Rattle.std.specs.Prelude.{ℕ, ◌≡◌, ◌++◌, false, Some, List, length, map as map_list, IfOk};
+ghost use Rattle.std.specs.Prelude.{ℕ, ◌≡◌, ◌++◌, false, Some, List, length, map as map_list, IfOk, All};
 ghost use Rattle.bpf_isa.specs.Spelling.{IsInsn};
+ghost use Rattle.kind_core.specs.Edges.{transferred};
 ghost use Rattle.cell_core.specs.Cells.{CellView};
 ghost use Rattle.held_cells.specs.declared.way.Way.{Way};
 ghost use Rattle.held_cells.specs.Rows.{LeaveTo};
@@ -43,6 +44,7 @@ pub fn step_on(
     ensures steps { IfOk result (λ done. StepsOn decls.now node kinds.now insn.now is_ref guard held.now to ways.old.items ways.new.items) }
     ensures brought { IfOk result (λ done. map_list brought ways.new.items ≡ map_list brought ways.old.items ++ brought_along decls.now node kinds.now insn.now is_ref false (Some to)) }
     ensures rows { (cells : List CellView) → IfOk result (λ done. LeaveTo cells cells ways.old.items ways.new.items held.now (λ row. row guard)) }
+    ensures points { IfOk result (λ done. (more : List Way) × (ways.new.items ≡ ways.old.items ++ more) × All (λ e. (e.to ≡ to) × (e.bit ≡ guard) × (e.kinds ≡ transferred decls.now kinds.now insn.now node is_ref false) × (e.held ≡ held.now)) more) }
     ensures kept { IfOk result (λ done. (more : List Way) × (ways.new.items ≡ ways.old.items ++ more)) }
 {
     steps_are_sound();

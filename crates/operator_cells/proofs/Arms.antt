@@ -11,7 +11,8 @@ use Rattle.cell_core.specs.Cells.{CellView, IsRun, cell_at, on, phi, bits_from}
 use Rattle.cell_core.specs.CellLaws.{ValuesFit}
 use Rattle.cell_core.specs.Rows.{greatest}
 use Rattle.operator_cells.specs.declared.joining.Arm.{Arm}
-use Rattle.operator_cells.specs.Joining.{chosen, flat, AreThere, ChoiceIsRight}
+use Rattle.operator_cells.specs.Joining.{chosen, followed, flat, AreThere, ChoiceIsRight}
+use Rattle.operator_cells.specs.Following.{picked}
 use Rattle.operator_cells.proofs.Numbers.{from_zero, low_same}
 
 flat_behind : (xs : List Arm) (a : Arm) → flat (xs ++ a ∷ []) ≡ flat xs ++ a.bit ∷ a.cell ∷ []
@@ -27,25 +28,31 @@ phi_flat v [] = refl
 phi_flat v (a ∷ []) = refl
 phi_flat v (a ∷ b ∷ more) = ap (λ (n : ℕ). if on (v a.bit) then v a.cell else n) (phi_flat v (b ∷ more))
 
+-- and so it picks of the numbers that go with cells
+pub picked_flat : (v u : ℕ → ℕ) (arms : List Arm) → picked v u (flat arms) ≡ followed v u arms
+picked_flat v u [] = refl
+picked_flat v u (a ∷ []) = refl
+picked_flat v u (a ∷ b ∷ more) = ap (λ (n : ℕ). if on (v a.bit) then u a.cell else n) (picked_flat v u (b ∷ more))
+
 -- what is chosen is one of what is brought
-chosen-one : (P : ℕ → Type 0) (v : ℕ → ℕ) (arms : List Arm) → 1 ≤ length arms → All (λ a. P (v a.cell)) arms → P (chosen v arms)
-chosen-one P v [] h all = absurd (omega arith)
-chosen-one P v (a ∷ []) h all = all 0 a (omega arith)
-chosen-one P v (a ∷ b ∷ more) h all = by (on (v a.bit)) (chosen-one P v (b ∷ more) (omega arith) (λ i d l. all (suc i) d (omega arith)))
+chosen-one : (P : ℕ → Type 0) (v u : ℕ → ℕ) (arms : List Arm) → 1 ≤ length arms → All (λ a. P (u a.cell)) arms → P (followed v u arms)
+chosen-one P v u [] h all = absurd (omega arith)
+chosen-one P v u (a ∷ []) h all = all 0 a (omega arith)
+chosen-one P v u (a ∷ b ∷ more) h all = by (on (v a.bit)) (chosen-one P v u (b ∷ more) (omega arith) (λ i d l. all (suc i) d (omega arith)))
   where
-    by : (t : Bool) → P (chosen v (b ∷ more)) → P (if t then v a.cell else chosen v (b ∷ more))
+    by : (t : Bool) → P (followed v u (b ∷ more)) → P (if t then u a.cell else followed v u (b ∷ more))
     by true rest = all 0 a (omega arith)
     by false rest = rest
 
 -- where all edges bring one cell it is that
-pub chosen_same : (v : ℕ → ℕ) (arms : List Arm) (c : ℕ) → 1 ≤ length arms → All (λ a. a.cell ≡ c) arms → v c ≡ chosen v arms
-chosen_same v arms c h all = chosen-one (λ n. v c ≡ n) v arms h (λ i d l. ap v (sym (all i d l)))
+pub followed_same : (v u : ℕ → ℕ) (arms : List Arm) (c : ℕ) → 1 ≤ length arms → All (λ a. a.cell ≡ c) arms → u c ≡ followed v u arms
+followed_same v u arms c h all = chosen-one (λ n. u c ≡ n) v u arms h (λ i d l. ap u (sym (all i d l)))
 
 -- of cells that are not wider nothing is cut off
 pub chosen_fits : (packet : PacketIn) (cells : List CellView) (v : ℕ → ℕ) (arms : List Arm) (w : ℕ) → ValuesFit → IsRun packet cells v → 1 ≤ length arms
     → AreThere cells arms → All (λ a. (cell_at cells a.cell).width ≤ w) arms → bits_from (phi (map_list v (flat arms))) 0 w ≡ chosen v arms
 chosen_fits packet cells v arms w fit run some there wide =
-    from_zero _ w ∙ ap (λ (n : ℕ). n % 2 ^ w) (phi_flat v arms) ∙ low_same w (chosen v arms) (chosen-one (λ n. n < 2 ^ w) v arms some below)
+    from_zero _ w ∙ ap (λ (n : ℕ). n % 2 ^ w) (phi_flat v arms) ∙ low_same w (chosen v arms) (chosen-one (λ n. n < 2 ^ w) v v arms some below)
   where
     below : All (λ a. v a.cell < 2 ^ w) arms
     below i d l = omega (arith, fit packet cells v run (get_or arms i d).cell (there i d l).1, pow-le-pow_right {n = 2} (omega arith) {i = (cell_at cells (get_or arms i d).cell).width} {j = w} (wide i d l))

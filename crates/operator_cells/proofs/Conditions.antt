@@ -1,5 +1,5 @@
 -- Conditions of jumps.
-use Rattle.std.proofs.Common.{◌≡◌, ℕ, ◌-◌, ◌^◌, ◌<◌, Bool, true, false, not, [], ◌∷◌, nat_lt, nat_le, int_lt, int_le, refl, ◌∙◌, ap, arith}
+use Rattle.std.proofs.Common.{◌≡◌, ℕ, ◌-◌, ◌^◌, ◌<◌, Bool, true, false, [], ◌∷◌, nat_lt, nat_le, int_lt, int_le, refl, ◌∙◌, ap, arith}
 use Rattle.std.specs.Prelude.{◌==◌, bit_and}
 use Rattle.std.proofs.lemmas.Bool.Decides.{nat_tests}
 use Rattle.std.proofs.lemmas.Int.{ints}

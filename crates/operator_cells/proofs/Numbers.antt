@@ -1,8 +1,8 @@
 -- What operators on 64 bits are on w.
-use Rattle.std.proofs.Common.{◌≡◌, ℕ, ◌+◌, ◌-◌, ◌*◌, ◌%◌, ◌^◌, ◌<◌, ◌≤◌, Bool, true, false, List, [], ◌∷◌, length, refl, ◌∙◌, ap, arith}
+use Rattle.std.proofs.Common.{◌≡◌, ℕ, ◌+◌, ◌-◌, ◌*◌, ◌%◌, ◌^◌, ◌<◌, ◌≤◌, Bool, true, false, List, [], ◌∷◌, refl, ◌∙◌, ap, arith}
 use Rattle.std.specs.Int.Bits.{and_lt}
 use Rattle.std.proofs.lemmas.Nat.{mod_below, pow_pos, or_lt, xor_lt}
-use Rattle.std.proofs.Math.Nat.{div-one, mod-eq_of_lt, pow-le-pow_right}
+use Rattle.std.proofs.Math.Nat.{div-one, mod-eq_of_lt}
 use Rattle.bpf_isa.specs.declared.operation.Width.{Width}
 use Rattle.bpf_isa.specs.declared.operation.Width.TheVariants.{Bits32, Bits64}
 use Rattle.bpf_isa.specs.declared.operation.AluCode.{AluCode}
@@ -11,9 +11,8 @@ use Rattle.xdp_machine.specs.Arithmetic.{bits_in, low, arithmetic, negated}
 use Rattle.xdp_machine.specs.State.{PacketIn}
 use Rattle.xdp_machine.proofs.NumberLaws.{widened}
 use Rattle.cell_core.specs.declared.operator.Operator.TheVariants as op
-use Rattle.cell_core.specs.Cells.{CellView, IsRun, cell_at, number, bits_from, is_read}
-use Rattle.cell_core.specs.CellLaws.{ValuesFit}
-use Rattle.cell_core.specs.Formed.{AreFormed, takes, divides, AreInputs, IsInRange}
+use Rattle.cell_core.specs.Cells.{number, bits_from, is_read}
+use Rattle.cell_core.specs.Formed.{takes, divides, AreInputs, IsInRange}
 use Rattle.operator_cells.specs.Making.{operator_of, is_one}
 
 pub from_zero : (n w : ℕ) → bits_from n 0 w ≡ low w n

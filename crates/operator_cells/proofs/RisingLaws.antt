@@ -1,11 +1,10 @@
 -- Rows of new cells, one step after another.
-use Rattle.std.proofs.Common.{◌≡◌, ℕ, ◌+◌, ◌<◌, ◌≤◌, ◌⊎◌, inl, inr, List, [], ◌∷◌, ◌++◌, length, reverse, max, refl, sym, ◌∙◌, ap, subst, arith, take, drop}
-use Rattle.std.specs.Prelude.{All}
+use Rattle.std.proofs.Common.{◌≡◌, ℕ, ◌+◌, ◌<◌, ◌≤◌, ◌⊎◌, inl, inr, List, [], ◌∷◌, ◌++◌, length, reverse, max, refl, sym, ap, subst, arith, take, drop}
 use Rattle.std.proofs.lemmas.Bool.{cases_lt}
 use Rattle.std.proofs.lemmas.Grind.{reverse_onto}
 use Rattle.std.proofs.lemmas.List.{take-append-drop}
 use Rattle.xdp_maps.specs.Calls.{patched}
-use Rattle.cell_core.specs.Cells.{CellView, cell_at, is_heavy, bit}
+use Rattle.cell_core.specs.Cells.{CellView, is_heavy, bit}
 use Rattle.cell_core.specs.Rows.{AreRows, greatest}
 use Rattle.operator_cells.specs.Making.{GrowsWith, Adds}
 use Rattle.operator_cells.specs.Rising.{GrowsTo, Rises, RiseAll}

@@ -1,18 +1,16 @@
 -- The bytes of numbers.
-use Rattle.std.proofs.Common.{◌≡◌, ℕ, zero, suc, ◌+◌, ◌-◌, ◌*◌, ◌/◌, ◌%◌, ◌^◌, ◌<◌, ◌≤◌, List, [], ◌∷◌, ◌++◌, length, take, drop, slice_range, reverse, fold, All, get_or, length-append, map as map_list, refl, sym, ◌∙◌, ap, subst, arith}
+use Rattle.std.proofs.Common.{◌≡◌, ℕ, zero, suc, ◌+◌, ◌-◌, ◌*◌, ◌/◌, ◌%◌, ◌^◌, ◌<◌, ◌≤◌, List, [], ◌∷◌, ◌++◌, length, take, drop, fold, All, get_or, length-append, map as map_list, refl, sym, ◌∙◌, ap, subst, arith}
 use Rattle.std.specs.Int.{byte_at, bytes_low_first}
-use Rattle.std.proofs.lemmas.Nat.{mod_below, mod-mul-add, pow_pos, pow-add}
+use Rattle.std.proofs.lemmas.Nat.{mod_below, mod-mul-add, pow_pos}
 use Rattle.std.proofs.Math.Nat.{div-add-mod', mul_assoc, div-one, pow-suc, pow-le-pow_right, div-div-eq-div-mul, mul-le-mul_right}
 use Rattle.std.proofs.lemmas.List.{length-take, length-drop, map-append, take-map, drop-map, length-map}
 use Rattle.std.proofs.lemmas.List.Elements.{All-append, All-take, All-drop}
-use Rattle.byteorder.specs.Endian.{little_number, little_bytes, little_from}
+use Rattle.byteorder.specs.Endian.{little_number, little_bytes}
 use Rattle.byteorder.specs.Numbers.{little_from-take, little_from-bytes}
 use Rattle.bits_core.specs.Bits.{reversed_of}
-use Rattle.bpf_isa.specs.declared.operation.Src.{Src}
 use Rattle.bpf_isa.specs.declared.operation.Src.TheVariants as src
 use Rattle.bpf_isa.specs.declared.operation.Size.{Size}
 use Rattle.xdp_maps.specs.Calls.{patched}
-use Rattle.bpf_isa.specs.declared.operation.Size.TheVariants.{B, H, W, Dw}
 use Rattle.xdp_machine.specs.Arithmetic.{low, ordered}
 use Rattle.xdp_machine.specs.Memory.{bytes_in, number_at}
 use Rattle.cell_core.specs.Cells.{joined, bits_from}

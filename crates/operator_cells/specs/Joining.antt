@@ -4,11 +4,15 @@ use Rattle.std.proofs.Common.{get_or}
 use Rattle.cell_core.specs.Cells.{CellView, on}
 use Rattle.operator_cells.specs.declared.joining.Arm.{Arm}
 
--- what the first edge that is on brings, or else the last one
+-- the number that goes with what the first edge that is on brings, or else the last one
+abbrev pub followed : (ℕ → ℕ) → (ℕ → ℕ) → List Arm → ℕ
+followed v u [] = 0
+followed v u (a ∷ []) = u a.cell
+followed v u (a ∷ b ∷ more) = if on (v a.bit) then u a.cell else followed v u (b ∷ more)
+
+-- and its value
 abbrev pub chosen : (ℕ → ℕ) → List Arm → ℕ
-chosen v [] = 0
-chosen v (a ∷ []) = v a.cell
-chosen v (a ∷ b ∷ more) = if on (v a.bit) then v a.cell else chosen v (b ∷ more)
+chosen v arms = followed v v arms
 
 -- bits and cells, one after the other
 abbrev pub flat : List Arm → List ℕ

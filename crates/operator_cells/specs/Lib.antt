@@ -5,3 +5,4 @@ pub mod Joining
 pub mod Shifting
 pub mod Spreading
 pub mod Comparing
+pub mod Following

@@ -5,7 +5,8 @@ ghost use Rattle.std.specs.List.{list_any};
 ghost use Rattle.cell_core.specs.Cells.{bit, on, cell_at};
 ghost use Rattle.cell_core.specs.Formed.{AreFormed};
 ghost use Rattle.operator_cells.specs.Making.{seen, Makes};
-ghost use Rattle.operator_cells.specs.Joining.{chosen, flat, AreThere};
+ghost use Rattle.operator_cells.specs.Joining.{chosen, followed, flat, AreThere};
+ghost use Rattle.operator_cells.specs.Following.{IsFollowed};
 ghost use Rattle.cell_core.specs.Rows.{greatest};
 ghost use Rattle.operator_cells.specs.Rising.{Rises};
 
@@ -88,6 +89,7 @@ pub fn choose(cells: &mut Vec<Cell>, arms: &[Arm]) -> Result<u32, AllocError>
     ensures makes { IfOk result (λ c. Makes (seen cells.old.items) (seen cells.new.items) c (λ packet v. chosen v arms.now)) }
     ensures rises { IfOk result (λ c. Rises (seen cells.old.items) (seen cells.new.items) c (λ row. greatest row (flat arms.now))) }
     ensures same { IfOk result (λ c. (cell : ℕ) → All (λ a. a.cell ≡ cell) arms.now → (c ≡ cell) × (seen cells.new.items ≡ seen cells.old.items)) }
+    ensures follows { IfOk result (λ c. (v u : ℕ → ℕ) → IsFollowed (seen cells.new.items) v u → u c ≡ followed v u arms.now) }
 {
     values_fit();
     let first = arms[0].cell;

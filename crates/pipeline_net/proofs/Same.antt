@@ -1,7 +1,8 @@
 -- The same of equal lists.
 use Rattle.std.specs.Prelude.{Contains}
 use Rattle.std.specs.List.{AllByRecursion}
-use Rattle.std.proofs.Common.{◌≡◌, ◌⊎◌, ℕ, ◌<◌, All, List, subst, sym}
+use Rattle.std.proofs.Common.{◌≡◌, ◌⊎◌, ℕ, ◌<◌, Bool, All, List, subst, sym}
+use Rattle.product_blocks.specs.Alone.{IsApartAlone}
 use Rattle.block_core.specs.declared.name.Name.{Name}
 use Rattle.block_core.specs.Blocks.{BlockTree, BlockWireTree}
 use Rattle.cell_core.specs.Cells.{CellView}
@@ -11,6 +12,7 @@ use Rattle.frame_net.specs.declared.held.Kept.{Kept}
 use Rattle.frame_net.specs.Gather.{IsKept}
 use Rattle.row_net.specs.Table.{IsIn, IsTable, AreThere}
 use Rattle.row_net.specs.Made.{IsReady}
+use Rattle.row_net.specs.Apart.{TakeClean, KeepApart}
 use Rattle.place_net.specs.Place.{width_at, IsPlace, IsTaken}
 use Rattle.place_net.specs.Sources.{IsSource, IsSourced}
 use Rattle.shell_net.specs.declared.parts.Part.{Part}
@@ -28,6 +30,12 @@ pub place_as :
     → MakesPlace part cs ms xs old table b → MakesPlace part ds ns ys ws table b
 place_as part cs ds ms ns xs ys old ws table b e f g h k =
     subst (λ x. MakesPlace part x ns ys ws table b) e (subst (λ x. MakesPlace part cs x ys ws table b) f (subst (λ x. MakesPlace part cs ms x ws table b) g (subst (λ x. MakesPlace part cs ms xs x table b) h k)))
+
+abbrev pub KeepsApart : Part → List CellView → List ℕ → List (BlockWireTree (Name Part)) → Table → BlockTree (Name Part) → Type 0
+KeepsApart part cells made ws table b = (clean : ℕ → Bool) (marks : List Bool) → TakeClean clean cells made → KeepApart part clean marks ws table → IsApartAlone part b
+
+pub apart_as : (part : Part) (cs ds : List CellView) (ms ns : List ℕ) (old ws : List (BlockWireTree (Name Part))) (table : Table) (b : BlockTree (Name Part)) → cs ≡ ds → ms ≡ ns → old ≡ ws → KeepsApart part cs ms old table b → KeepsApart part ds ns ws table b
+apart_as part cs ds ms ns old ws table b e f g k = subst (λ x. KeepsApart part x ns ws table b) e (subst (λ x. KeepsApart part cs x ws table b) f (subst (λ x. KeepsApart part cs ms x table b) g k))
 
 pub sourced_as :
     (part : Part) (ks ls : List Kept) (cs ds : List CellView) (xs ys : List ℕ) (start old ws : List (BlockWireTree (Name Part))) (from before after : Table) → ks ≡ ls → cs ≡ ds → xs ≡ ys → start ≡ old → from ≡ before

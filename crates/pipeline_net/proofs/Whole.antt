@@ -5,6 +5,7 @@ use Rattle.std.proofs.lemmas.Bool.{eq-eqb, eqb-true, eqb-false, leb-true}
 use Rattle.std.proofs.lemmas.List.{map-append, get_or-map, get_or_default, length-map}
 use Rattle.std.proofs.lemmas.List.Elements.{All-nil, All-weaker}
 use Rattle.net_core.specs.Nets.{StatementTree, SBlock, SEnd}
+use Rattle.product_blocks.specs.Alone.{IsApartAlone}
 use Rattle.block_core.specs.declared.name.Name.{Name}
 use Rattle.block_core.specs.declared.block.Placed.{Placed}
 use Rattle.block_core.specs.Blocks.{BlockTree, Whole, Among}
@@ -178,6 +179,9 @@ module _ (p : ProgramView) (plan : Plan) (d : Draft) (shape : ControlShape) (wor
   placed_by zero le = place_by zero le (below_or zero (suc plan.last))
   placed_by (suc j) le = place_by (suc j) le (below_or (suc j) (suc plan.last))
 
+  apart_by : (k : ℕ) → k ≤ plan.last → IsApartAlone (Place k) (block_in places k)
+  apart_by k le = (place_at k (omega arith)).apart
+
   enters_by : (s : (0 < suc plan.last) ⊎ (suc plan.last ≤ 0)) → Enters p d (table_by 0 s) (block_in places 0).wires
   enters_by (inl h) = (place_at 0 h).before
   enters_by (inr h) = absurd (omega arith)
@@ -192,6 +196,7 @@ module _ (p : ProgramView) (plan : Plan) (d : Draft) (shape : ControlShape) (wor
     scatter = fronts.scatter_block;
     exit = fronts.exit_block;
     places = placed_by;
+    apart = apart_by;
     enters = enters_by (below_or 0 (suc plan.last));
   }
 

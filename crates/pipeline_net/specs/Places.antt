@@ -3,6 +3,7 @@ use Rattle.std.specs.Prelude.{◌≡◌, ℕ, zero, suc, ◌<◌, ◌≤◌, nat
 use Rattle.std.proofs.Common.{get_or}
 use Rattle.beat_core.specs.Ports.{Arrival}
 use Rattle.net_core.specs.Value.{Env}
+use Rattle.product_blocks.specs.Alone.{IsApartAlone}
 use Rattle.block_core.specs.declared.name.Name.{Name}
 use Rattle.block_core.specs.declared.block.Placed.{Placed}
 use Rattle.block_core.specs.Blocks.{BlockTree, BlockWireTree}
@@ -53,6 +54,7 @@ pub record IsPlaceOf (p : ProgramView) (plan : Plan) (d : Draft) (k : ℕ) (b : 
   pub table : Table
   pub before : IsBefore p plan d k table b.wires
   pub block : IsPlace (Place k) p.cells (made_at p plan d k) (carried_at p plan d k) (outside_of p plan d k) table b
+  pub apart : IsApartAlone (Place k) b
 
 -- the blocks of places, from the first one on
 pub record IsPlaceAt (p : ProgramView) (plan : Plan) (d : Draft) (k : ℕ) (m : Placed Part) : Type 0 where

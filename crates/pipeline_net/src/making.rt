@@ -1,8 +1,9 @@
 //! The design of a program.
 
-ghost use Rattle.std.specs.Prelude.{ℕ, suc, ◌≡◌, ◌+◌, ◌<◌, ◌≤◌, ◌/◌, All, Contains, IfOk, IsErrOf, length};
+ghost use Rattle.std.specs.Prelude.{ℕ, suc, ◌≡◌, ◌+◌, ◌<◌, ◌≤◌, ◌/◌, All, Contains, IfOk, IsErrOf, IsTrue, length};
 ghost use Rattle.std.specs.List.{AllByRecursion};
 ghost use Rattle.net_core.specs.View.{netlist_of};
+ghost use Rattle.product_rules.specs.Products.{products_apart};
 ghost use Rattle.design_rules.specs.Formed.{IsWellFormed};
 ghost use Rattle.block_core.specs.View.{block_of};
 ghost use Rattle.cell_core.specs.View.{program_of};
@@ -215,8 +216,8 @@ fn shape(plan: &RowPlan) -> ControlShape
 
 /// The design of a program that does nothing on maps: a pipeline with a place for each row of its plan, in which packets overlap.
 ///
-/// What it does says [`shell_net::laws::pipelines_follow`], and [`shell_net::laws::pipelines_are_formed`] that it is well formed. There
-/// is room for as many frames as places and three more; a program of more than 508 stages is refused, since a slot then has no number of 9 bits.
+/// What it does says [`shell_net::laws::pipelines_follow`], and [`shell_net::laws::pipelines_are_formed`] that it is well formed. No product
+/// stands inside an operand of another in one clock. There is room for as many frames as places and three more; a program of more than 508 stages is refused, since a slot then has no number of 9 bits.
 pub fn pipeline(
     alloc: Global,
     program: &CellProgram,
@@ -225,6 +226,7 @@ pub fn pipeline(
     requires { IsForPipeline (program_of program.now) plan.now }
     ensures design { IfOk result (λ n. IsPipeline (program_of program.now) plan.now (netlist_of n)) }
     ensures formed { IfOk result (λ n. IsWellFormed (netlist_of n)) }
+    ensures apart { IfOk result (λ n. IsTrue (products_apart (netlist_of n))) }
     ensures slots { most_slots < slots_of plan.now → IsErrOf result error.TooManySlots }
     ensures only { IsErrOf result error.TooManySlots → most_slots < slots_of plan.now }
 {

@@ -1,6 +1,6 @@
 -- The block that keeps answers: it is well typed and spelled, and what a clock leaves in its memories.
-use Rattle.std.specs.Prelude.{◌≡◌, ◌≢◌, ℕ, zero, suc, ◌+◌, ◌*◌, ◌^◌, ◌<◌, ◌≤◌, true, false, All, Contains, List, [], ◌∷◌, ◌++◌, length, take, map as map_list, replicate}
-use Rattle.std.specs.List.{AllByRecursion, AllZip}
+use Rattle.std.specs.Prelude.{◌≡◌, ◌≢◌, ℕ, zero, suc, ◌+◌, ◌*◌, ◌^◌, ◌<◌, ◌≤◌, Bool, true, false, All, Contains, List, [], ◌∷◌, ◌++◌, length, take, map as map_list, replicate}
+use Rattle.std.specs.List.{AllByRecursion, AllZip, list_all}
 use Rattle.std.proofs.Common.{get_or, refl, sym, ap, ◌∙◌, subst, arith, inl, inr}
 use Rattle.std.proofs.lemmas.Bool.{le-leb}
 use Rattle.std.proofs.lemmas.List.{length-replicate, length-map, get_or-map, get_or_default, get_or-replicate, get_or-set_same, get_or-set_other, map_more, map-append}
@@ -16,6 +16,8 @@ use Rattle.net_core.specs.Value.{word, bit, nothing, Env, value}
 use Rattle.net_core.specs.Clock.{Stored, done, edge}
 use Rattle.net_core.specs.Width.{Scope, width_of, statement_typed}
 use Rattle.design_rules.specs.FormedSyntax.{depth, prefixes_apart, tree_spelled, statement_spelled, statements_depth}
+use Rattle.product_rules.specs.Products.{has_product, statement_flat}
+use Rattle.product_blocks.proofs.FreeLaws.{flat_without}
 use Rattle.block_core.specs.declared.name.Name.{Name}
 use Rattle.block_core.specs.declared.block.BlockMemory.{BlockMemory}
 use Rattle.block_core.specs.Blocks.{BlockTree, Whole, first_memory}
@@ -31,6 +33,7 @@ use Rattle.frame_net.specs.Frames.{word_at}
 use Rattle.frame_net.specs.Answers.{byte_of, word_widths, answer_widths, HoldsAnswer}
 use Rattle.frame_net.specs.Stores.{Store, widths_memory, store_statements}
 use Rattle.frame_net.proofs.FormLaws.{and_is}
+use Rattle.frame_net.proofs.FreeLaws.{store_flat, stores_flat}
 use Rattle.frame_net.proofs.StoreLaws.{in_turn, put, taken, taken_is, store_at, registers_stay, lengths_stay, none_stored, IsOff, widths_are, AreStoresTyped, stores_typed, AllReads, stores_read, stores_within, AllSpelled, stores_deep, stores_placed, stores_pass}
 use Rattle.place_net.specs.declared.outputs.AnswerByte.{AnswerByte}
 use Rattle.place_net.specs.declared.outputs.Outputs.{Outputs}
@@ -44,6 +47,7 @@ pub record IsValue {N : Type 0} (ins : List (Operand N)) (width : ℕ) (t : Tree
   pub typed : (s : Scope N) → AreDeclared s ins → width_of s t ≡ width
   pub reads : Reads (IsNetOf ins) t
   pub spelled : tree_spelled t ≡ true
+  pub no_product : has_product (λ n. false) t ≡ false
 
 abbrev pub AreOfWidths : {N : Type 0} → List (Operand N) → List (ℕ × ℕ) → List (Tree N) → Type 0
 AreOfWidths ins [] [] = Unit {0}
@@ -55,12 +59,12 @@ spelled_is : {N : Type 0} (t : Tree N) (d : ℕ) → depth t ≤ d → d ≤ 64 
 spelled_is t d h most a = let le : depth t ≤ 64 = omega arith in and_is _ _ (le-leb (depth t) 64 le) a
 
 part_value : {N : Type 0} (ins : List (Operand N)) (width : ℕ) (f : Env N → ℕ) (t : Tree N) → IsPart ins 2 width f t → IsValue ins width t
-part_value ins width f t p = record { typed = p.typed; reads = p.reads; spelled = spelled_is t 2 p.depth (omega arith) p.apart }
+part_value ins width f t p = record { typed = p.typed; reads = p.reads; spelled = spelled_is t 2 p.depth (omega arith) p.apart; no_product = p.no_product }
 
 word_value : {N : Type 0} (ins : List (Operand N)) (bytes : List (AnswerByte N)) (number : ℕ) (t : Tree N) → IsFrameWord ins bytes number t → IsValue ins 64 t
 word_value ins bytes number t w =
     subst (IsValue ins 64) (sym w.is)
-    (record { typed = w.pieces.typed; reads = w.pieces.reads; spelled = let d = w.pieces.depth in spelled_is (TConcatenation w.parts) 3 (omega arith) (omega arith) w.pieces.apart })
+    (record { typed = w.pieces.typed; reads = w.pieces.reads; spelled = let d = w.pieces.depth in spelled_is (TConcatenation w.parts) 3 (omega arith) (omega arith) w.pieces.apart; no_product = w.pieces.no_product })
 
 words_values : {N : Type 0} (ins : List (Operand N)) (bytes : List (AnswerByte N)) (bits : ℕ) (words : List ℕ) (ts : List (Tree N)) → 1 ≤ bits → AllZip (IsFrameWord ins bytes) words ts → AreOfWidths ins (map_list (word_widths bits) words) ts
 words_values ins bytes bits [] [] some h = tt
@@ -100,6 +104,14 @@ module _ {P : Type 0} (ins : List (Operand (Name P))) (exits slot : Name P) wher
   spelled_stores ws [] h = tt
   spelled_stores [] (t ∷ ts) h = absurd h
   spelled_stores (w ∷ ws) (t ∷ ts) h = ((refl, (refl, h.0.1.1.spelled)), spelled_stores ws ts h.1)
+
+  flat_stores : (made : Name P → Bool) (ws : List (ℕ × ℕ)) (ts : List (Tree (Name P))) → AreOfWidths ins ws ts → list_all (store_flat made) (exit_stores exits slot ts) ≡ true
+  flat_stores made ws [] h = refl
+  flat_stores made [] (t ∷ ts) h = absurd h
+  flat_stores made (w ∷ ws) (t ∷ ts) h = and_is _ _ (flat_without made t h.0.1.1.no_product) (flat_stores made ws ts h.1)
+
+  pub is_free : (made : Name P → Bool) (ws : List (ℕ × ℕ)) (ts : List (Tree (Name P))) → AreOfWidths ins ws ts → statement_flat made (exit_statement exits slot ts) ≡ true
+  is_free made ws ts h = stores_flat made (exit_stores exits slot ts) 0 (flat_stores made ws ts h)
 
   off_stores : (v : Env (Name P)) (ts : List (Tree (Name P))) → v.net exits ≡ bit false → AllByRecursion (IsOff v) (exit_stores exits slot ts)
   off_stores v [] e = tt
@@ -325,6 +337,7 @@ module _ {P : Type 0} (bits : ℕ) (words : List ℕ) (exits slot : Name P) (o :
     first = record { registers = refl; memories = first_is bits words };
     stays = λ v s e. stays (output_operands o) exits slot v values s e;
     takes = λ v s at sees keeps. has_left bits words exits slot o values some h v s at sees keeps;
+    free = record { wires = λ made. refl; statement = λ made. is_free (output_operands o) exits slot made (answer_widths bits words) values of_widths };
   }
 
 pub is_exit : {P : Type 0} (bits : ℕ) (words : List ℕ) (exits slot : Name P) (o : Outputs (Name P)) (values : List (Tree (Name P))) (b : BlockTree (Name P)) → 1 ≤ bits → bits ≤ 16 → AreValues o words values

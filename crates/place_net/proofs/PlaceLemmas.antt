@@ -1,18 +1,19 @@
 -- The block of a place is what it is to be.
-use Rattle.std.specs.Prelude.{◌≡◌, ℕ, zero, suc, ◌+◌, ◌^◌, ◌<◌, ◌≤◌, true, Option, Some, None, All, Contains, List, [], ◌∷◌, length, map as map_list, nat_le}
-use Rattle.std.specs.List.{AllByRecursion, AllZip}
+use Rattle.std.specs.Prelude.{◌≡◌, ℕ, zero, suc, ◌+◌, ◌-◌, ◌^◌, ◌<◌, ◌≤◌, ◌==◌, Bool, true, false, if◌then◌else◌, Option, Some, None, All, Contains, List, [], ◌∷◌, length, map as map_list, nat_le}
+use Rattle.std.specs.List.{AllByRecursion, AllZip, list_all}
 use Rattle.std.proofs.Common.{get_or, refl, sym, ap, ◌∙◌, subst, arith, inl, inr, ◌⊎◌}
 use Rattle.std.proofs.lemmas.Bool.{le-leb, lt-ltb, cases_lt}
 use Rattle.std.proofs.lemmas.Nat.{pow_pos}
 use Rattle.std.proofs.lemmas.List.{length-map, get_or-map, get_or_past}
 use Rattle.std.proofs.lemmas.List.Elements.{All-head, All-tail, All-contains, Contains-append_cases}
 use Rattle.net_core.specs.declared.tree.Word.{Word}
-use Rattle.net_core.specs.Nets.{Tree}
+use Rattle.net_core.specs.Nets.{Tree, TRead, TBit, TPartSelect}
 use Rattle.net_core.specs.Ports.{port_list}
 use Rattle.net_core.specs.Value.{word, nothing, Env, value}
 use Rattle.net_core.specs.Clock.{Stored, done}
 use Rattle.net_core.specs.Width.{Scope, width_of, statement_typed}
 use Rattle.design_rules.specs.FormedSyntax.{depth, prefixes_apart}
+use Rattle.product_rules.specs.Products.{is_flat, statement_flat}
 use Rattle.block_core.specs.declared.name.Name.{Name}
 use Rattle.block_core.specs.declared.name.Name.TheVariants as name
 use Rattle.block_core.specs.Blocks.{BlockTree, BlockWireTree, Whole, Among}
@@ -35,7 +36,7 @@ use Rattle.row_net.specs.Made.{IsReady, IsRow}
 use Rattle.place_net.specs.Place.{width_at, widths_of, word_in, words_of, HasSize, HasRegisters, IsPlace}
 use Rattle.place_net.specs.PlaceNets.{tree_for, tree_in, set_statement}
 use Rattle.place_net.proofs.TreeLemmas.{reads_as}
-use Rattle.place_net.proofs.SetLemmas.{OfWidth, sets_typed, sets_read, sets_within, IsSpelled, sets_spelled, registers_are, memories_stay}
+use Rattle.place_net.proofs.SetLemmas.{OfWidth, sets_typed, sets_read, sets_within, IsSpelled, sets_spelled, sets_flat, registers_are, memories_stay}
 
 -- ---- wires of the place
 -- what holds of each wire, holds of each that is among them
@@ -276,3 +277,25 @@ carried_within {N = N} cells table made carried is ready h k d l = by_case (h k 
     by_case : IsIn table (get_or carried k d) ⊎ Contains made (get_or carried k d) → get_or carried k d < length cells
     by_case (inl x) = omega (arith, in_within table (get_or carried k d) x, is.count, length-map cells cell_of)
     by_case (inr x) = omega (arith, All-contains (λ j. j < length (map_list cell_of cells)) made (get_or carried k d) ready.within x, length-map cells cell_of)
+
+-- ---- what registers take has no product
+part_flat : {N : Type 0} (made : N → Bool) (n : N) (of from w : ℕ) → is_flat made (part_tree n of from w) ≡ true
+part_flat made n of from w = by_tests (w == of) (w == 1)
+  where
+    by_tests : (s t : Bool) → is_flat made (if s then TRead n else if t then TBit n from else TPartSelect n (from + w - 1) from) ≡ true
+    by_tests true t = refl
+    by_tests false true = refl
+    by_tests false false = refl
+
+tree_flat : {N : Type 0} (made : N → Bool) (o : Option (Operand N)) (w : ℕ) → is_flat made (tree_for o w) ≡ true
+tree_flat made None w = refl
+tree_flat made (Some (Known n)) w = refl
+tree_flat made (Some (Net n u)) w = refl
+tree_flat made (Some (Part n of from u)) w = part_flat made n of from u
+
+trees_flat : {N : Type 0} (made : N → Bool) (cells : List CellView) (table : List (Option (Operand N))) (ks : List ℕ) → list_all (is_flat made) (map_list (tree_in cells table) ks) ≡ true
+trees_flat made cells table [] = refl
+trees_flat made cells table (k ∷ ks) = and_is _ _ (tree_flat made (get_or table k None) (width_at cells k)) (trees_flat made cells table ks)
+
+pub set_flat : {N : Type 0} (made : N → Bool) (cells : List CellView) (table : List (Option (Operand N))) (ks : List ℕ) → statement_flat made (set_statement (map_list (tree_in cells table) ks)) ≡ true
+set_flat made cells table ks = sets_flat made (map_list (tree_in cells table) ks) 0 (trees_flat made cells table ks)

@@ -1,8 +1,8 @@
 -- Statements that set registers.
-use Rattle.std.specs.Prelude.{◌≡◌, ℕ, suc, ◌+◌, ◌<◌, ◌≤◌, true, List, [], ◌∷◌, ◌++◌, length, map as map_list, take, slice_set}
-use Rattle.std.specs.List.{AllByRecursion, AllZip}
+use Rattle.std.specs.Prelude.{◌≡◌, ℕ, suc, ◌+◌, ◌<◌, ◌≤◌, Bool, true, List, [], ◌∷◌, ◌++◌, length, map as map_list, take, slice_set}
+use Rattle.std.specs.List.{AllByRecursion, AllZip, list_all}
 use Rattle.std.proofs.Common.{get_or, refl, sym, ap, ◌∙◌, arith, append_assoc}
-use Rattle.std.proofs.lemmas.Bool.{le-leb}
+use Rattle.std.proofs.lemmas.Bool.{and_parts, le-leb}
 use Rattle.std.proofs.lemmas.List.{take_all, take_more_set, length-set, append-nil}
 use Rattle.net_core.specs.declared.tree.Word.{Word}
 use Rattle.net_core.specs.Nets.{Tree, SEnd}
@@ -11,6 +11,7 @@ use Rattle.net_core.specs.Value.{Env, value}
 use Rattle.net_core.specs.Clock.{Stored, done, all_done}
 use Rattle.net_core.specs.Width.{Scope, width_of, same, statements_typed}
 use Rattle.design_rules.specs.FormedSyntax.{tree_spelled, statement_spelled, statements_depth, all_placed, all_trees_pass}
+use Rattle.product_rules.specs.Products.{is_flat, statements_flat}
 use Rattle.block_core.specs.Parts.{AllWithin}
 use Rattle.block_core.specs.Order.{Reads}
 use Rattle.block_core.specs.Formed.{StatementsRead}
@@ -62,6 +63,11 @@ sets_spelled ts h =
     let deep : statements_depth (statements_before (sets_from 0 ts) SEnd) ≤ 1 = sets_deep ts 0 in
     let whole : suc (statements_depth (statements_before (sets_from 0 ts) SEnd)) ≤ 64 = omega arith in
     and_is _ _ (le-leb _ 64 whole) (and_is _ _ (sets_placed ts 0) (sets_pass ts 0 h))
+
+-- ---- no product
+pub sets_flat : {N : Type 0} (made : N → Bool) (ts : List (Tree N)) (at : ℕ) → list_all (is_flat made) ts ≡ true → statements_flat made (statements_before (sets_from at ts) SEnd) ≡ true
+sets_flat made [] at h = refl
+sets_flat made (t ∷ ts) at h = let p = and_parts (is_flat made t) (list_all (is_flat made) ts) h in and_is _ _ p.0 (sets_flat made ts (suc at) p.1)
 
 -- ---- what they leave
 module _ {N : Type 0} (v : Env N) where

@@ -1,10 +1,12 @@
 -- Cells that come with a packet, one after another, in wires and in a table.
 use Rattle.std.specs.Prelude.{◌≡◌, ◌≢◌, ℕ, zero, suc, ◌+◌, ◌*◌, ◌/◌, ◌%◌, ◌^◌, ◌<◌, ◌≤◌, ◌==◌, ◌&&◌, Bool, true, false, Option, Some, None, All, Contains, List, [], ◌∷◌, ◌++◌, length, take, drop, slice_set, map as map_list}
 use Rattle.std.proofs.Common.{get_or, refl, sym, ap, ◌∙◌, subst, arith, inl, inr, ◌⊎◌, length-append}
-use Rattle.std.proofs.lemmas.Bool.{cases_eq, cases_lt, eqb-true}
+use Rattle.std.specs.List.{list_all}
+use Rattle.std.proofs.lemmas.Bool.{and_from, cases_eq, cases_lt, eqb-true}
 use Rattle.std.proofs.lemmas.Nat.{pow-add}
 use Rattle.std.proofs.lemmas.List.{length-set, get_or-set_same, get_or-set_other, get_or_default, get_or_past, get_or-take, get_or-drop, get_or_append_left, get_or-append-add, take_more, get_or-map}
 use Rattle.std.proofs.lemmas.List.Elements.{All-nil, All-cons, All-head, All-append, All-weaker, All-contains, Contains-append_left, Contains-append_right}
+use Rattle.std.proofs.lemmas.List.Folds.{list_all-append}
 use Rattle.std.proofs.Math.Pow.{pow_mono}
 use Rattle.std.proofs.Math.Nat.{pow-suc, div-one, mod-eq_of_lt, div-eq_of_lt}
 use Rattle.list_laws.specs.Bytes.{IsBytes}
@@ -14,6 +16,7 @@ use Rattle.beat_core.specs.Ports.{Arrival}
 use Rattle.beat_core.proofs.WordLaws.{get_or-low_bytes, low_bytes-word_of, word_of-lt}
 use Rattle.net_core.specs.declared.tree.Word.{Word}
 use Rattle.net_core.specs.Value.{Env}
+use Rattle.product_blocks.specs.Alone.{wire_flat}
 use Rattle.block_core.specs.declared.name.Name.{Name}
 use Rattle.block_core.specs.Blocks.{BlockWireTree}
 use Rattle.cell_core.specs.declared.operator.Operator.{Operator}
@@ -25,6 +28,8 @@ use Rattle.cell_nets.specs.declared.operand.Operand.{Operand}
 use Rattle.cell_nets.specs.declared.operand.Operand.TheVariants.{Known, Net}
 use Rattle.cell_nets.specs.Operands.{number_in, IsWide, IsOperand, HasWidth, IsAvailable}
 use Rattle.cell_nets.specs.Wires.{behind, HasBits, Gives, always}
+use Rattle.cell_nets.proofs.ApartLemmas.{stay_none, stay_next}
+use Rattle.cell_nets.proofs.GiveLemmas.{all_one}
 use Rattle.frame_net.specs.declared.held.Kept.{Kept}
 use Rattle.frame_net.specs.declared.held.Kept.TheVariants as kept
 use Rattle.frame_net.specs.Gather.{kept_width}
@@ -69,6 +74,7 @@ net_gives p ws args needs f n w wide c same = record {
   operand = wide;
   bits = refl;
   given = λ outside a there. record { wires = a; there = All-contains (IsAvailable (behind p outside ws)) args (Net n w) there c; value = λ v fit s h. same v h };
+  apart = stay_none p ws args (Net n w ∷ []) (λ ins h. all_one (IsAvailable ins) (Net n w) (All-contains (IsAvailable ins) args (Net n w) h c));
 }
 
 pub gives_bits :
@@ -83,6 +89,7 @@ gives_bits p old mid new args needs f g w u from o r x y same = record {
       let first = x.given outside a there in
       let second = y.given outside first.wires (All-cons (IsAvailable (behind p outside mid)) o [] first.there (All-nil (IsAvailable (behind p outside mid)))) in
       record { wires = second.wires; there = second.there; value = λ v fit s h. second.value v fit s tt ∙ ap (λ k. bits_from k from u) (first.value v fit (y.before v s) h) ∙ same v h };
+  apart = stay_next p old mid new args (o ∷ []) (o ∷ []) (r ∷ []) (λ ins h k. k) x.apart y.apart;
 }
 
 -- ---- nets of what is kept
@@ -176,6 +183,9 @@ module _ {P : Type 0} (p sources : P) (list : List Kept) (cells : List CellView)
         ∙ ap (λ n. bits_from n (cell_at cells k).from (cell_at cells k).width) (number_same list a (cell_at cells k).op _ source.shown)
         ∙ sym (All-head (λ j. val j ≡ value (packet_in a) val (cell_at cells j)) k [] made))
         b;
+    free = λ flat made.
+        let s = (gives none).apart in
+        subst (λ ws. list_all (wire_flat made) ws ≡ true) (sym s.added) (list_all-append (wire_flat made) old s.more ∙ and_from _ _ (flat made) (s.free refl made));
   }
 
 -- the same of a cell in memory
@@ -200,6 +210,7 @@ none_sourced p sources list cells ws before table = record {
   wires = λ outside w src. w;
   there = λ outside w src b. b;
   value = λ outside v a val w src fit solved shown made b. b;
+  free = λ flat. flat;
 }
 
 all_left : {X : Type 0} (Q : X → Type 0) (xs ys : List X) → All Q (xs ++ ys) → All Q xs
@@ -226,6 +237,7 @@ module _ {P : Type 0} (p sources : P) (list : List Kept) (cells : List CellView)
     value = λ outside v a val w src fit solved shown made b.
         y.value outside v a val (x.wires outside w src) (moved outside src) fit solved shown (all_right (λ j. val j ≡ value (packet_in a) val (cell_at cells j)) ks (k ∷ []) made)
         (x.value outside v a val w src fit (y.earlier v solved) shown (all_left (λ j. val j ≡ value (packet_in a) val (cell_at cells j)) ks (k ∷ []) made) b);
+    free = λ flat. y.free (x.free flat);
   }
 
 pub sourced_next :

@@ -62,6 +62,7 @@ module _ {N : Type 0} (ins : List (Operand N)) (bytes : List (AnswerByte N)) (nu
     reads = b.part.reads;
     depth = b.part.depth;
     apart = b.part.apart;
+    no_product = b.part.no_product;
   }
     where
       first_byte : (n : ℕ) → byte_of (bits_from n 0 8) 0 ≡ bits_from n 0 8
@@ -100,4 +101,5 @@ module _ {N : Type 0} (ins : List (Operand N)) (bytes : List (AnswerByte N)) (nu
           reads = (b.part.reads, h.reads);
           depth = let d = b.part.depth in let q = h.depth in omega arith;
           apart = and_is _ _ b.part.apart h.apart;
+          no_product = rw b.part.no_product h.no_product;
         }

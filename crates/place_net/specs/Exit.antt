@@ -5,6 +5,7 @@ use Rattle.net_core.specs.Ports.{port_list}
 use Rattle.net_core.specs.Value.{word, bit, Env}
 use Rattle.net_core.specs.Clock.{Stored, done}
 use Rattle.design_rules.specs.FormedSyntax.{statement_spelled}
+use Rattle.product_blocks.specs.Alone.{IsFree}
 use Rattle.block_core.specs.declared.name.Name.{Name}
 use Rattle.block_core.specs.Blocks.{BlockTree, first_of, registers_of, memories_of, Whole}
 use Rattle.block_core.specs.Parts.{Within}
@@ -66,3 +67,4 @@ pub record IsExit {P : Type 0} (bits : ℕ) (words : List ℕ) (exits slot : Nam
   pub first : KeepsAnswers bits words (first_of b)
   pub stays : (v : Env (Name P)) (s : Stored) → v.net exits ≡ bit false → done v b.statement s ≡ s
   pub takes : (v : Env (Name P)) (s : Stored) (at : ℕ) → SeesExit bits exits slot o v at → KeepsAnswers bits words s → HasLeft bits words o v at s (done v b.statement s)
+  pub free : IsFree b

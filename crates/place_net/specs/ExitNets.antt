@@ -1,5 +1,5 @@
 -- The nets of the block that keeps answers.
-use Rattle.std.specs.Prelude.{◌≡◌, ℕ, ◌+◌, ◌*◌, ◌^◌, ◌<◌, ◌≤◌, true, List, [], ◌∷◌, map as map_list, Contains}
+use Rattle.std.specs.Prelude.{◌≡◌, ℕ, ◌+◌, ◌*◌, ◌^◌, ◌<◌, ◌≤◌, true, false, List, [], ◌∷◌, map as map_list, Contains}
 use Rattle.std.specs.List.{AllZip}
 use Rattle.std.proofs.Common.{◌⊎◌}
 use Rattle.net_core.specs.Nets.{Tree, TRead, TConcatenation, Trees, StatementTree, SBlock, SEnd}
@@ -7,6 +7,7 @@ use Rattle.net_core.specs.Chains.{statements_before}
 use Rattle.net_core.specs.Value.{Env, concatenated_parts}
 use Rattle.net_core.specs.Width.{Scope, parts_width}
 use Rattle.design_rules.specs.FormedSyntax.{parts_depth, parts_apart}
+use Rattle.product_rules.specs.Products.{parts_product}
 use Rattle.block_core.specs.Order.{AllRead}
 use Rattle.cell_core.specs.Cells.{bits_from}
 use Rattle.cell_nets.specs.declared.operand.Operand.{Operand}
@@ -45,6 +46,7 @@ pub record AreBytes {N : Type 0} (ins : List (Operand N)) (bytes : List (AnswerB
   pub reads : AllRead (IsNetOf ins) ps
   pub depth : parts_depth ps ≤ 2
   pub apart : parts_apart ps ≡ true
+  pub no_product : parts_product (λ n. false) ps ≡ false
 
 -- an expression for a word of the frame
 pub record IsFrameWord {N : Type 0} (ins : List (Operand N)) (bytes : List (AnswerByte N)) (number : ℕ) (t : Tree N) : Type 0 where

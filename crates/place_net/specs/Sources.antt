@@ -1,10 +1,12 @@
 -- Cells that come from outside with a packet, from the nets that show its frame.
-use Rattle.std.specs.Prelude.{◌≡◌, ℕ, suc, ◌/◌, ◌^◌, ◌<◌, Option, None, All, Contains, List, [], ◌∷◌, length}
+use Rattle.std.specs.Prelude.{◌≡◌, ℕ, suc, ◌/◌, ◌^◌, ◌<◌, Bool, true, Option, None, All, Contains, List, [], ◌∷◌, length}
+use Rattle.std.specs.List.{list_all}
 use Rattle.std.proofs.Common.{get_or}
 use Rattle.list_laws.specs.Bytes.{IsBytes}
 use Rattle.beat_core.specs.Ports.{Arrival}
 use Rattle.xdp_machine.specs.State.{PacketIn}
 use Rattle.net_core.specs.Value.{Env}
+use Rattle.product_blocks.specs.Alone.{wire_flat}
 use Rattle.block_core.specs.declared.name.Name.{Name}
 use Rattle.block_core.specs.Blocks.{BlockWireTree}
 use Rattle.block_core.specs.Parts.{Solve}
@@ -54,7 +56,7 @@ pub record IsShownIn {P : Type 0} (sources : P) (list : List Kept) (v : Env (Nam
   pub shows : ShowsFrame sources list v a
 
 -- Wires and a table become more. The table gets the cells that come with a packet, and nothing else changes in it. Behind the wires stands
--- all that is in the table, and where a frame is shown it has the values of these cells for its packet.
+-- all that is in the table, and where a frame is shown it has the values of these cells for its packet. No product is among the further wires.
 pub record IsSourced {P : Type 0} (p sources : P) (list : List Kept) (cells : List CellView) (listed : List ℕ) (old new : List (BlockWireTree (Name P))) (before after : List (Option (Operand (Name P)))) : Type 0 where
   pub table : IsTable cells after
   pub given : All (IsIn after) listed
@@ -68,3 +70,4 @@ pub record IsSourced {P : Type 0} (p sources : P) (list : List Kept) (cells : Li
   pub value :
       (outside : List (Operand (Name P))) (v : Env (Name P)) (a : Arrival) (val : ℕ → ℕ) → AreWires p outside old → All (IsAvailable (behind p outside old)) (source_operands sources list) → AreFit v outside → Solve v p 0 new
       → IsShownIn sources list v a → All (λ k. val k ≡ value (packet_in a) val (cell_at cells k)) listed → Holds v before val → Holds v after val
+  pub free : ((made : Name P → Bool) → list_all (wire_flat made) old ≡ true) → (made : Name P → Bool) → list_all (wire_flat made) new ≡ true

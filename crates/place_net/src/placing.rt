@@ -1,8 +1,9 @@
 //! A place of the pipeline.
 
-ghost use Rattle.std.specs.Prelude.{ℕ, ◌≡◌, ◌<◌, ◌≤◌, ◌⊎◌, List, All, Contains, Option, Some, IfOk, length, map as map_list};
+ghost use Rattle.std.specs.Prelude.{ℕ, Bool, ◌≡◌, ◌<◌, ◌≤◌, ◌⊎◌, List, All, Contains, Option, Some, IfOk, length, map as map_list};
 ghost use Rattle.net_core.specs.Value.{Env};
 ghost use Rattle.net_core.specs.View.{tree_of, statement_of};
+ghost use Rattle.product_blocks.specs.Alone.{IsApartAlone};
 ghost use Rattle.block_core.specs.declared.name.Name.{Name};
 ghost use Rattle.block_core.specs.Parts.{Solve};
 ghost use Rattle.block_core.specs.View.{block_of};
@@ -13,6 +14,7 @@ ghost use Rattle.cell_nets.specs.Operands.{IsOperand};
 ghost use Rattle.cell_nets.specs.Wires.{behind, wires_of, AreWires};
 ghost use Rattle.row_net.specs.Table.{Stands, IsIn, IsTable, AreThere};
 ghost use Rattle.row_net.specs.Made.{IsReady};
+ghost use Rattle.row_net.specs.Apart.{TakeClean, KeepApart};
 ghost use Rattle.place_net.specs.Place.{width_at, words_of, IsPlace, IsTaken};
 ghost use Rattle.place_net.specs.PlaceNets.{tree_for, tree_in, set_statement};
 
@@ -112,7 +114,8 @@ fn statement<N: Copy>(alloc: Global, values: Vec<Expr<N>>) -> Result<Stmt<N>, Al
 /// that the next place or the exit takes, which takes what stands for its cell in every clock.
 ///
 /// The table says what stands for cells before the place: for those that are the same for all packets, those that come from outside, and
-/// those that the place before carries. The wires that it has stay the first ones.
+/// those that the place before carries. The wires that it has stay the first ones. Where these and the made cells have their products apart, so
+/// has the block.
 pub fn place<P: Part>(
     alloc: Global,
     part: P,
@@ -129,6 +132,7 @@ pub fn place<P: Part>(
     requires some { All (λ k. 0 < width_at (map_list cell_of cells.now) k) carried.now }
     ensures block { (outside : List (Operand (Name P))) → AreWires part outside (wires_of wires.items) → AreThere (behind part outside (wires_of wires.items)) table.items → IfOk result (λ b. IsPlace part (map_list cell_of cells.now) made.now carried.now outside table.items (block_of b)) }
     ensures begun { IfOk result (λ b. (v : Env (Name P)) → Solve v part 0 (block_of b).wires → Solve v part 0 (wires_of wires.items)) }
+    ensures apart { (clean : ℕ → Bool) (marks : List Bool) → TakeClean clean (map_list cell_of cells.now) made.now → KeepApart part clean marks (wires_of wires.items) table.items → IfOk result (λ b. IsApartAlone part (block_of b)) }
 {
     let mut wires = wires;
     let mut table = table;

@@ -46,7 +46,7 @@ own_copied old new first bit c low made is = record {
 
 -- ---- all of them
 
-bit_small : (b : Bool) → bit b < 2
+pub bit_small : (b : Bool) → bit b < 2
 bit_small true = omega arith
 bit_small false = omega arith
 

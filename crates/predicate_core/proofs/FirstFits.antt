@@ -47,7 +47,7 @@ register_closed (suc (suc (suc (suc (suc (suc (suc (suc (suc zero))))))))) = ref
 register_closed (suc (suc (suc (suc (suc (suc (suc (suc (suc (suc zero)))))))))) = refl
 register_closed (suc (suc (suc (suc (suc (suc (suc (suc (suc (suc (suc r))))))))))) = refl
 
-start_closed : (place : ℕ) → place < 75 → is_open (kind_at kinds.start place) ≡ false
+pub start_closed : (place : ℕ) → place < 75 → is_open (kind_at kinds.start place) ≡ false
 start_closed place l = by (nat_lt place 11) refl
   where
     by : (b : Bool) → nat_lt place 11 ≡ b → is_open (kind_at kinds.start place) ≡ false

@@ -27,3 +27,7 @@ pub mod Spans
 pub mod Behind
 pub mod NodeRows
 pub mod NodeFits
+pub mod Pointers
+pub mod FirstPoints
+pub mod NodePoints
+pub mod ArrivePoints

@@ -1,6 +1,7 @@
 -- From one node to the next, and what follows for all of them.
-use Rattle.std.specs.Prelude.{ℕ, ◌+◌, List, [], ◌∷◌, ◌++◌, length, All}
+use Rattle.std.specs.Prelude.{ℕ, ◌≡◌, ◌+◌, List, [], ◌∷◌, ◌++◌, length, All}
 use Rattle.bpf_isa.specs.Spelling.{IsInsn}
+use Rattle.xdp_maps.specs.declared.decl.MapDecl.{MapDecl}
 use Rattle.cell_core.specs.declared.program.Node.{Node}
 use Rattle.cell_core.specs.declared.program.FrameByte.{FrameByte}
 use Rattle.cell_core.specs.Cells.{CellView}
@@ -13,8 +14,14 @@ use Rattle.held_cells.specs.Paths.{GraphView, node_at}
 use Rattle.held_cells.specs.Held.{PointerView}
 use Rattle.held_cells.specs.Steps.{Steps}
 use Rattle.held_cells.specs.Law.{IsLaw}
+use Rattle.held_cells.specs.Pointing.{AccessesLookUp}
+use Rattle.edge_cells.specs.declared.joining.Here.{Here}
+use Rattle.step_cells.specs.Stepping.{MadeView}
+use Rattle.step_cells.specs.Pointing.{NodePoints}
 use Rattle.predicate_core.specs.Buildable.{IsBuildable}
-use Rattle.predicate_core.specs.Making.{Making, IsSoFar, Arrives, Answers}
+use Rattle.predicate_core.specs.Making.{Making, IsSoFar, Arrives, Answers, made_alone}
+use Rattle.predicate_core.specs.Opening.{Opens}
+use Rattle.predicate_core.specs.Pointing.{PointSoFar, ArrivePoints}
 
 -- the node that has been made behind others
 abbrev pub made_next : GraphView → ℕ → ℕ → List CellView → List CellView → Node
@@ -27,6 +34,20 @@ NodesFollow =
     → IsSoFar g k hs t → Arrives g k t cells ps guard h → Steps g k guard h cells cells2 ps ps2 t.sites sites t.ways ways t.exits exits
     → IsSoFar g (k + 1) (hs ++ h ∷ [])
     (record { cells = cells2; pointers = ps2; sites = sites; ways = ways; exits = exits; nodes = t.nodes ++ made_next g k guard t.cells cells2 ∷ [] })
+
+-- With the edge to the first node alone no pointer is held.
+abbrev pub OpensPoint : Type 0
+OpensPoint = (decls : List MapDecl) (t : MadeView) (e : Way) → t.ways ≡ e ∷ [] → t.sites ≡ [] → Opens [] t.cells e → PointSoFar decls 0 t
+
+-- A node more, and more cells behind it: where pointers came from lookups as far as it, they do as far as the next one.
+abbrev pub NodesPoint : Type 0
+NodesPoint =
+    (g : GraphView) (k : ℕ) (hs : List Held) (t : Making) (old new : MadeView) (here : Here) (cells : List CellView)
+    → IsSoFar g k hs t → Arrives g k t old.cells old.pointers here.guard here.held → old.sites ≡ t.sites → old.ways ≡ t.ways
+    → Steps g k here.guard here.held old.cells new.cells old.pointers new.pointers old.sites new.sites old.ways new.ways old.exits new.exits
+    → ArrivePoints g.decls k (node_at g.nodes k).kinds old.cells t.pointers old.pointers t.ways here.guard here.held
+    → NodePoints g.decls (node_at g.nodes k).kinds here old new → Grows new.cells cells
+    → PointSoFar g.decls k (record { cells = t.cells; pointers = t.pointers; sites = t.sites; ways = t.ways; exits = t.exits }) → PointSoFar g.decls (k + 1) (record new { cells = cells })
 
 -- Cells that read no site may be added where edges have been joined.
 abbrev pub ArrivalsStay : Type 0
@@ -44,6 +65,6 @@ StepsStay =
 abbrev pub WholesCompute : Type 0
 WholesCompute =
     (g : GraphView) (hs : List Held) (t : Making) (cells : List CellView) (verdict target : ℕ) (frame : List FrameByte)
-    → All IsInsn g.code.insns → IsSoFar g (length g.nodes) hs t → Answers t.cells cells t.exits verdict target frame
+    → All IsInsn g.code.insns → IsSoFar g (length g.nodes) hs t → AccessesLookUp g.decls (made_alone t) → Answers t.cells cells t.exits verdict target frame
     → IsLaw g (record { cells = cells; nodes = t.nodes; sites = t.sites; verdict = verdict; target = target; frame = frame })
     × IsBuildable (record { cells = cells; nodes = t.nodes; sites = t.sites; verdict = verdict; target = target; frame = frame })

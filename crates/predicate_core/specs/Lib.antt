@@ -5,6 +5,7 @@ pub mod Opening
 pub mod Closing
 pub mod Arriving
 pub mod Feeding
+pub mod Pointing
 pub mod Progress
 pub mod Rows
 pub mod Gathering

@@ -11,6 +11,7 @@ ghost use Rattle.edge_cells.specs.Widening.{AreWider, AreFilled};
 ghost use Rattle.edge_cells.specs.Meeting.{AreWays};
 ghost use Rattle.edge_cells.specs.Joining.{LeadTo};
 ghost use Rattle.predicate_core.specs.Arriving.{IsOwn, ArrivesAt};
+ghost use Rattle.predicate_core.specs.Pointing.{ArrivePoints};
 
 use cell_core::cell::Cell;
 use edge_cells::joining::{Here, join};
@@ -51,6 +52,7 @@ pub fn arrive(
     requires filled { AreFilled kinds.now }
     ensures arrives { (node : ℕ) (ways : List Way) → LeadTo node ways meeting.now → IfOk result (λ here. ArrivesAt decls.now node kinds.now (seen cells.old.items) (pointed pointers.old.items) ways (seen cells.new.items) (pointed pointers.new.items) here.guard here.held) }
     ensures rows { IfOk result (λ here. JoinsTo (seen cells.old.items) (seen cells.new.items) (pointed pointers.old.items) (pointed pointers.new.items) meeting.now kinds.now here.guard here.held) }
+    ensures points { (node : ℕ) (ways : List Way) → LeadTo node ways meeting.now → IfOk result (λ here. ArrivePoints decls.now node kinds.now (seen cells.new.items) (pointed pointers.old.items) (pointed pointers.new.items) ways here.guard here.held) }
 {
     here_is_right();
     let first = cells.len();

@@ -1,6 +1,6 @@
 //! What holds of cells that are made node by node. Each function's contract is a law; it computes nothing.
 
-ghost use Rattle.predicate_core.specs.Laws.{NodesFollow, ArrivalsStay, StepsStay, WholesCompute};
+ghost use Rattle.predicate_core.specs.Laws.{NodesFollow, NodesPoint, OpensPoint, ArrivalsStay, StepsStay, WholesCompute};
 ghost use Rattle.predicate_core.specs.Opening.{OpensFollow};
 ghost use Rattle.predicate_core.specs.Feeding.{SoundGraphsFeed};
 ghost use Rattle.predicate_core.specs.Fitting.{ArrivalsFit, NodesFit};
@@ -16,6 +16,16 @@ pub fn opens_follow()
 /// A node more: where things were right as far as it, they are right as far as the next one.
 pub fn nodes_follow()
     ensures { NodesFollow }
+{}
+
+/// With the edge to the first node alone no pointer is held.
+pub fn opens_point()
+    ensures { OpensPoint }
+{}
+
+/// A node more: where pointers came from lookups as far as it, they do as far as the next one, and so do its accesses.
+pub fn nodes_point()
+    ensures { NodesPoint }
 {}
 
 /// Cells that read no site may be added where edges have been joined.

@@ -12,15 +12,18 @@ ghost use Rattle.held_cells.specs.declared.way.Way.{Way};
 ghost use Rattle.edge_cells.specs.Joining.{LeadTo};
 ghost use Rattle.node_cells.specs.Ends.{IsNode, HasEnds};
 ghost use Rattle.site_cells.specs.Sited.{sited};
+ghost use Rattle.step_cells.specs.Stepping.{made_of};
 ghost use Rattle.unfold_core.specs.Unfolding.{IsUnfolded};
 ghost use Rattle.program_graph.specs.Graphs.{graph_of};
 ghost use Rattle.predicate_core.specs.Gathering.{arms_of, GathersTo, PassesTo};
 ghost use Rattle.predicate_core.specs.Stages.{FitSoFar, ComesWithin};
+ghost use Rattle.predicate_core.specs.Pointing.{PointSoFar, ArrivePoints};
 ghost use Rattle.predicate_core.specs.Progress.{targets, AreNumbers, AreWaiting, Entered, Comes, IsReady};
 
 use crate::arriving::arrive;
 use crate::laws::{
-    arrivals_fit, arrivals_stay, nodes_fit, nodes_follow, sound_graphs_feed, steps_stay,
+    arrivals_fit, arrivals_stay, nodes_fit, nodes_follow, nodes_point, sound_graphs_feed,
+    steps_stay,
 };
 use bpf_isa::Insn;
 use cell_core::cell::{Cell, Cells};
@@ -186,6 +189,7 @@ fn arrive_at(
     requires ready { IsReady (graph_of program.now unfolded.now) node progress.old }
     ensures comes { IfOk result (λ arrived. Comes (graph_of program.now unfolded.now) node progress.old progress.new arrived.here arrived.pending.items) }
     ensures rows { IfOk result (λ arrived. (fit : FitSoFar program.now unfolded.now node progress.old) → ComesWithin program.now unfolded.now fit.named node (seen progress.old.made.cells.items) (seen progress.new.made.cells.items) (pointed progress.new.made.pointers.items) arrived.here.guard arrived.here.held arrived.pending.items) }
+    ensures points { IfOk result (λ arrived. ArrivePoints program.now.decls node (node_at (graph_of program.now unfolded.now).nodes node).kinds (seen progress.new.made.cells.items) (pointed progress.old.made.pointers.items) (pointed progress.new.made.pointers.items) progress.old.made.ways.items arrived.here.guard arrived.here.held) }
 {
     arrivals_fit();
     graphs_are_sound();
@@ -223,8 +227,10 @@ pub fn make_node(
     requires ready { IsReady (graph_of program.now unfolded.now) node progress.old }
     ensures ready { OnOk result (IsReady (graph_of program.now unfolded.now) (node + 1) progress.new) }
     ensures rows { OnOk result (FitSoFar program.now unfolded.now node progress.old → FitSoFar program.now unfolded.now (node + 1) progress.new) }
+    ensures points { OnOk result (PointSoFar program.now.decls node (made_of progress.old.made) → PointSoFar program.now.decls (node + 1) (made_of progress.new.made)) }
 {
     nodes_fit();
+    nodes_point();
     graphs_are_sound();
     sound_graphs_feed();
     nodes_bring();

@@ -5,14 +5,16 @@ ghost use Rattle.cell_core.specs.View.{program_of};
 ghost use Rattle.operator_cells.specs.Making.{seen, Grows};
 ghost use Rattle.held_cells.specs.Law.{IsLaw};
 ghost use Rattle.unfold_core.specs.Unfolding.{IsUnfolded};
+ghost use Rattle.step_cells.specs.Stepping.{made_of};
 ghost use Rattle.program_graph.specs.Graphs.{graph_of};
 ghost use Rattle.predicate_core.specs.Buildable.{AddsNoRow, IsBuildable};
+ghost use Rattle.predicate_core.specs.Pointing.{PointSoFar};
 ghost use Rattle.predicate_core.specs.Progress.{AreFirst, AreWaiting, IsReady};
 ghost use Rattle.predicate_core.specs.Rows.{FitStages};
 ghost use Rattle.predicate_core.specs.Stages.{FitSoFar};
 
 use crate::closing::close;
-use crate::laws::{opens_follow, sound_graphs_feed, wholes_compute};
+use crate::laws::{opens_follow, opens_point, sound_graphs_feed, wholes_compute};
 use crate::making::{Numbers, Progress, make_node};
 use crate::opening::open;
 use bpf_isa::Insn;
@@ -79,10 +81,12 @@ fn begin(alloc: Global, program: &Program, unfolded: &Unfolded) -> Result<Progre
     requires { IsUnfolded program.now unfolded.now }
     ensures ready { IfOk result (λ progress. IsReady (graph_of program.now unfolded.now) 0 progress) }
     ensures rows { IfOk result (λ progress. FitSoFar program.now unfolded.now 0 progress) }
+    ensures points { IfOk result (λ progress. PointSoFar program.now.decls 0 (made_of progress.made)) }
 {
     graphs_are_sound();
     sound_graphs_feed();
     opens_follow();
+    opens_point();
     let mut cells = Vec::new(alloc);
     let start = open(&mut cells)?;
     let none = unwritten(&mut cells, program.decls().len())?;
@@ -116,8 +120,10 @@ fn make_nodes(
     requires unfolded { IsUnfolded program.now unfolded.now }
     requires ready { IsReady (graph_of program.now unfolded.now) 0 progress.old }
     requires fits { FitSoFar program.now unfolded.now 0 progress.old }
+    requires points { PointSoFar program.now.decls 0 (made_of progress.old.made) }
     ensures ready { OnOk result (IsReady (graph_of program.now unfolded.now) (length unfolded.now.nodes.items) progress.new) }
     ensures rows { OnOk result (FitSoFar program.now unfolded.now (length unfolded.now.nodes.items) progress.new) }
+    ensures points { OnOk result (PointSoFar program.now.decls (length unfolded.now.nodes.items) (made_of progress.new.made)) }
 {
     nodes_have_insns();
     // A program is one.

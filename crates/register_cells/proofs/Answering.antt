@@ -38,7 +38,7 @@ use Rattle.kind_core.proofs.TestLaws.{bind_passed}
 use Rattle.register_cells.proofs.Carrying.{inside_more, passed_ok}
 
 -- the answer is in the first of three lists, the next five have nothing, and the others stay
-answered_each : (P : Kind → ℕ → Value → Type 0) (ks : List Kind) (hs : List ℕ) (xs : List Value) (n c : ℕ) (k : Kind) (y : Value) → 0 < length hs → P k c y → ((h : ℕ) (x : Value) → P Unset h x)
+pub answered_each : (P : Kind → ℕ → Value → Type 0) (ks : List Kind) (hs : List ℕ) (xs : List Value) (n c : ℕ) (k : Kind) (y : Value) → 0 < length hs → P k c y → ((h : ℕ) (x : Value) → P Unset h x)
     → ((r : ℕ) → r < n → P (get_or ks r Unset) (slice_index hs r) (get_or xs r is.Unset))
     → (r : ℕ) → r < n → P (get_or (k ∷ Unset ∷ Unset ∷ Unset ∷ Unset ∷ Unset ∷ drop 6 ks) r Unset) (slice_index (set_list hs 0 c) r) (get_or (y ∷ is.Unset ∷ is.Unset ∷ is.Unset ∷ is.Unset ∷ is.Unset ∷ drop 6 xs) r is.Unset)
 answered_each P ks hs xs n c k y some one none all zero l = rw (get_or-set_same hs 0 c 0 some) one

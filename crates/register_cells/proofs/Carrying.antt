@@ -45,7 +45,7 @@ inside_more decls n m ps h k l i = record {
 }
 
 -- what holds of each place of lists holds of each where one place of all is set
-set_two : {A : Type 0} (P : A → ℕ → Type 0) (ks : List A) (hs : List ℕ) (d : A) (i n : ℕ) (k : A) (h : ℕ) → i < length ks → i < length hs
+pub set_two : {A : Type 0} (P : A → ℕ → Type 0) (ks : List A) (hs : List ℕ) (d : A) (i n : ℕ) (k : A) (h : ℕ) → i < length ks → i < length hs
     → P k h → ((r : ℕ) → r < n → P (get_or ks r d) (slice_index hs r)) → (r : ℕ) → r < n → P (get_or (set_list ks i k) r d) (slice_index (set_list hs i h) r)
 set_two P ks hs d i n k h a b one all r l = by (r == i) refl
   where

@@ -134,14 +134,21 @@ pub gives_constant : (decls : List MapDecl) (ps : List PointerView) (node : ℕ)
 gives_constant decls ps node true k h old z c made = record { grows = grown_none; counts = tt; holds = λ packet v m y run known e. tt }
 gives_constant decls ps node false k h old z c made = record { grows = grown_none; counts = tt; holds = λ packet v m y run known e. tt }
 
+-- of what is given by no cells a constant alone is a value
+pub only_constant : (decls : List MapDecl) (is_ref : Bool) (k : Kinds) (i : Insn) (P : Op → Kind → Type 0) (op : Op)
+    → ((w : Width) (code : AluCode) (s : Src) → op ≢ Alu w code s) → ((w : Width) → op ≢ Neg w) → ((s : Src) → op ≢ ops.End s) → op ≢ Swap → ((size : Size) → (op ≢ Load size) × (op ≢ LoadSigned size))
+    → P LoadImm (edges.constant is_ref i.imm) → IfOk (given_kind is_ref decls k i op) (P op)
+only_constant decls is_ref k i P (Alu w code s) a b d e f h = absurd (a w code s refl)
+only_constant decls is_ref k i P (Neg w) a b d e f h = absurd (b w refl)
+only_constant decls is_ref k i P (ops.End s) a b d e f h = absurd (d s refl)
+only_constant decls is_ref k i P Swap a b d e f h = absurd (e refl)
+only_constant decls is_ref k i P (Load size) a b d e f h = absurd ((f size).0 refl)
+only_constant decls is_ref k i P (LoadSigned size) a b d e f h = absurd ((f size).1 refl)
+only_constant decls is_ref k i P LoadImm a b d e f h = h
+only_constant decls is_ref k i P op a b d e f h = tt
+
 pub gives_nothing : (decls : List MapDecl) (ps : List PointerView) (refs : List ℕ) (node : ℕ) (is_ref : Bool) (k : Kinds) (h : Held) (i : Insn) (old : List CellView) (c : ℕ) (op : Op)
     → ((w : Width) (code : AluCode) (s : Src) → op ≢ Alu w code s) → ((w : Width) → op ≢ Neg w) → ((s : Src) → op ≢ ops.End s) → op ≢ Swap → ((size : Size) → (op ≢ Load size) × (op ≢ LoadSigned size))
     → IfOk (given_kind is_ref decls k i op) (λ x. Gives decls ps node k h old old x c (λ m. given refs m i op))
-gives_nothing decls ps refs node is_ref k h i old c (Alu w code s) a b d e f = absurd (a w code s refl)
-gives_nothing decls ps refs node is_ref k h i old c (Neg w) a b d e f = absurd (b w refl)
-gives_nothing decls ps refs node is_ref k h i old c (ops.End s) a b d e f = absurd (d s refl)
-gives_nothing decls ps refs node is_ref k h i old c Swap a b d e f = absurd (e refl)
-gives_nothing decls ps refs node is_ref k h i old c (Load size) a b d e f = absurd ((f size).0 refl)
-gives_nothing decls ps refs node is_ref k h i old c (LoadSigned size) a b d e f = absurd ((f size).1 refl)
-gives_nothing decls ps refs node is_ref k h i old c LoadImm a b d e f = gives_constant decls ps node is_ref k h old i.imm c (λ m. given refs m i LoadImm)
-gives_nothing decls ps refs node is_ref k h i old c op a b d e f = tt
+gives_nothing decls ps refs node is_ref k h i old c op a b d e f =
+    only_constant decls is_ref k i (λ o x. Gives decls ps node k h old old x c (λ m. given refs m i o)) op a b d e f (gives_constant decls ps node is_ref k h old i.imm c (λ m. given refs m i LoadImm))

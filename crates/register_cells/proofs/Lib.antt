@@ -14,3 +14,4 @@ pub mod Stores
 pub mod Signed
 pub mod LoadRows
 pub mod StoreRows
+pub mod PointingLaws

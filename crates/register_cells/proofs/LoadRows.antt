@@ -21,7 +21,7 @@ use Rattle.kind_core.specs.Tests.{◌>>=◌}
 use Rattle.kind_core.specs.Tests as tests
 use Rattle.kind_core.specs.Places as places
 use Rattle.kind_core.specs.Access as kind
-use Rattle.kind_core.proofs.TestLaws.{bind_ok, bind_passed}
+use Rattle.kind_core.proofs.TestLaws.{bind_ok, bind_all, bind_passed}
 use Rattle.cell_core.specs.Cells.{CellView, bit}
 use Rattle.cell_core.specs.Rows.{greatest}
 use Rattle.operator_cells.specs.Rising.{Rises, RiseAll}
@@ -118,14 +118,17 @@ stack_is : (decls : List MapDecl) (k : Kinds) (o offset : ℤ) (size : Size) (at
 unfolding kind.loaded
 stack_is decls k o offset size at e = let z = aligned_is (o +ℤ offset +ℤ pos 512) (bytes_in size) 512 at e in rw (z.0, z.1, z.2) refl
 
+pub stack_loaded : (decls : List MapDecl) (k : Kinds) (o offset : ℤ) (size : Size) (at : ℕ) (P : Kind → Type 0) → machine.in_stack (o +ℤ offset) (bytes_in size) ≡ Some at
+    → IfOk (kind.from_slot size (at % 8) (get_or k.slots (at / 8) Unset)) P → IfOk (kind.loaded decls k (Stack o) offset size) P
+stack_loaded decls k o offset size at P e found =
+    let kd : Kind = get_or k.slots (at / 8) Unset in
+    subst (λ r. IfOk r P) (sym (stack_is decls k o offset size at e)) (bind_all (tests.readable kd) (λ u. kind.from_slot size (at % 8) kd) P (λ u. found))
+
 pub stack_to : (decls : List MapDecl) (ps : List PointerView) (k : Kinds) (h : Held) (old new : List CellView) (o offset : ℤ) (size : Size) (at c : ℕ) → at < 512 → machine.in_stack (o +ℤ offset) (bytes_in size) ≡ Some at
     → IfOk (kind.from_slot size (at % 8) (get_or k.slots (at / 8) Unset)) (λ x. ValueTo old new ps x c (λ row. value_row row ps (get_or k.slots (at / 8) Unset) (slice_index h.slots (at / 8))))
     → IfOk (kind.loaded decls k (Stack o) offset size) (λ x. ValueTo old new ps x c (λ row. span_row (held_row row ps h k) (region (Stack o) offset (bytes_in size))))
 stack_to decls ps k h old new o offset size at c within e found =
-    let P : Kind → Type 0 = λ x. ValueTo old new ps x c (λ row. span_row (held_row row ps h k) (region (Stack o) offset (bytes_in size))) in
-    let kd : Kind = get_or k.slots (at / 8) Unset in
-    subst (λ r. IfOk r P) (sym (stack_is decls k o offset size at e))
-    (bind_ok (tests.readable kd) (λ u. kind.from_slot size (at % 8) kd) P (λ u q. ok_map (kind.from_slot size (at % 8) kd) _ P (λ x v. value_by v (slot_above ps h k o offset size at within e)) found))
+    stack_loaded decls k o offset size at _ e (ok_map (kind.from_slot size (at % 8) (get_or k.slots (at / 8) Unset)) _ _ (λ x v. value_by v (slot_above ps h k o offset size at within e)) found)
 
 pub packet_to : (decls : List MapDecl) (ps : List PointerView) (k : Kinds) (h : Held) (old new : List CellView) (o : ℕ) (offset : ℤ) (size : Size) (at c : ℕ) (bs : List ℕ)
     → length h.window ≡ 256 → inside (pos o +ℤ offset) (bytes_in size) 256 ≡ Some at → at + bytes_in size ≤ 256 → bs ≡ slice_range h.window at (at + bytes_in size) → Rises old new c (λ row. greatest row bs)
@@ -153,11 +156,11 @@ read_to f ps k h i old new base size c last {z} e at above found =
     (subst (λ (b : Kind). IfOk (f b i.offset) (λ x. ValueTo old new ps x c (λ row. span_row (held_row row ps h k) (region b i.offset (bytes_in size))))) (sym e)
     (subst (λ (y : ℤ). IfOk (f base y) (λ x. ValueTo old new ps x c (λ row. span_row (held_row row ps h k) (region base y (bytes_in size))))) at found))
 
-plain_loaded : (decls : List MapDecl) (k : Kinds) (base : Kind) (z : ℤ) (size : Size) (P : Kind → Type 0) → kind.is_context base ≡ false → IfOk (kind.loaded decls k base z size) P → IfOk (kind.loaded_plain decls k base z size) P
+pub plain_loaded : (decls : List MapDecl) (k : Kinds) (base : Kind) (z : ℤ) (size : Size) (P : Kind → Type 0) → kind.is_context base ≡ false → IfOk (kind.loaded decls k base z size) P → IfOk (kind.loaded_plain decls k base z size) P
 unfolding kind.loaded_plain
 plain_loaded decls k base z size P e h = rw e h
 
-context_loaded : (decls : List MapDecl) (k : Kinds) (z : ℤ) (size : Size) (P : Kind → Type 0) → IfOk (kind.from_context z size) P → IfOk (kind.loaded_plain decls k Ctx z size) P
+pub context_loaded : (decls : List MapDecl) (k : Kinds) (z : ℤ) (size : Size) (P : Kind → Type 0) → IfOk (kind.from_context z size) P → IfOk (kind.loaded_plain decls k Ctx z size) P
 unfolding kind.loaded_plain
 context_loaded decls k z size P h = h
 

@@ -39,6 +39,7 @@ use Rattle.register_cells.specs.Combining.{is_late, combined_row}
 use Rattle.register_cells.specs.Rows.{ValueTo}
 use Rattle.register_cells.proofs.Carrying.{kind_is}
 use Rattle.register_cells.proofs.Growing.{ok_map}
+use Rattle.register_cells.proofs.Known.{only_constant}
 use Rattle.register_cells.proofs.ValueLaws.{same_most, zero_most, value_by, value_none, ok_at}
 
 -- ---- what is read
@@ -128,14 +129,9 @@ constant_row row ps false z c n = zero_most
 pub give_nothing : (old : List CellView) (ps : List PointerView) (h : Held) (k : Kinds) (decls : List MapDecl) (is_ref : Bool) (after : Kinds) (i : Insn) (c : ℕ) (op : Op)
     → ((w : Width) (code : AluCode) (s : Src) → op ≢ Alu w code s) → ((w : Width) → op ≢ Neg w) → ((s : Src) → op ≢ End s) → op ≢ Swap → ((size : Size) → (op ≢ Load size) × (op ≢ LoadSigned size))
     → GivesAs old old ps h k decls is_ref after i c op
-give_nothing old ps h k decls is_ref after i c (Alu w code s) a b d e f = absurd (a w code s refl)
-give_nothing old ps h k decls is_ref after i c (Neg w) a b d e f = absurd (b w refl)
-give_nothing old ps h k decls is_ref after i c (End s) a b d e f = absurd (d s refl)
-give_nothing old ps h k decls is_ref after i c Swap a b d e f = absurd (e refl)
-give_nothing old ps h k decls is_ref after i c (Load size) a b d e f = absurd ((f size).0 refl)
-give_nothing old ps h k decls is_ref after i c (LoadSigned size) a b d e f = absurd ((f size).1 refl)
-give_nothing old ps h k decls is_ref after i c LoadImm a b d e f = λ is. value_none ps (edges.constant is_ref i.imm) c _ (λ row. constant_row row ps is_ref i.imm c _)
-give_nothing old ps h k decls is_ref after i c op a b d e f = tt
+give_nothing old ps h k decls is_ref after i c op a b d e f =
+    only_constant decls is_ref k i (λ o x. register after i.dst ≡ x → ValueTo old old ps x c (λ row. result_as (held_row row ps h k) decls k after i o)) op a b d e f
+    (λ is. value_none ps (edges.constant is_ref i.imm) c _ (λ row. constant_row row ps is_ref i.imm c _))
 
 -- ---- a destination that is given a value
 writes_are : (k : Kinds) (i : Insn) (op : Op) → writes_destination op ≡ true → writes_as k i op ≡ one i.dst ∷ no_place ∷ []

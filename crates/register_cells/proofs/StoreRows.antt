@@ -2,6 +2,7 @@
 use Rattle.std.proofs.Common.{◌≡◌, ◌≢◌, ◌∙◌, ℕ, zero, suc, ◌+◌, ◌-◌, ◌/◌, ◌%◌, ◌<◌, ◌≤◌, ◌⊎◌, inl, inr, nat_lt, ℤ, pos, ◌+ℤ◌, unsigned_abs, ◌||◌, Bool, true, false, if◌then◌else◌, Some, Result, Ok, Err, IfOk, OnOk, List, [], ◌∷◌, length, get_or, slice_index, slice_set, max, refl, sym, ap, subst, arith}
 use Rattle.std.specs.List.{list_any}
 use Rattle.std.proofs.lemmas.Bool.{cases_lt, le-ltb, lt-ltb, ltb-false}
+use Rattle.std.proofs.lemmas.Result.{on_ok_weaker}
 use Rattle.std.proofs.lemmas.List.{get_or-set_same, get_or-set_other}
 use Rattle.bpf_isa.specs.declared.operation.Size.{Size}
 use Rattle.bpf_isa.specs.declared.operation.Size.TheVariants.{B, H, W, Dw}
@@ -26,9 +27,8 @@ use Rattle.kind_core.specs.Places as places
 use Rattle.kind_core.specs.Access.{underlying}
 use Rattle.kind_core.specs.Access as access
 use Rattle.kind_core.specs.Effects.{operand, effect_of, effect_as, verdict}
-use Rattle.kind_core.specs.Edges.{changed, changed_if, transferred}
-use Rattle.kind_core.specs.Profile as profile
-use Rattle.kind_core.proofs.TestLaws.{bind_ok, bind_passed}
+use Rattle.kind_core.specs.Edges.{changed, transferred}
+use Rattle.kind_core.proofs.TestLaws.{bind_ok}
 use Rattle.cell_core.specs.Cells.{CellView}
 use Rattle.cell_core.specs.Rows.{greatest, numbers}
 use Rattle.operator_cells.specs.Rising.{Rises, RiseAll}
@@ -46,10 +46,9 @@ use Rattle.held_cells.proofs.RowLaws.{grows_by, register_row, byte_row, slot_cha
 use Rattle.register_cells.specs.Rows.{ValueTo, left_row, stored_row, StoresTo}
 use Rattle.register_cells.proofs.ValueLaws.{same_most, trans_most, value_by, value_risen}
 use Rattle.register_cells.proofs.Growing.{ok_map}
-use Rattle.register_cells.proofs.Carrying.{passed_ok}
 use Rattle.register_cells.proofs.Loads.{aligned_is, inside_is, some_bytes}
 use Rattle.register_cells.proofs.Stored.{patched_low, patched_in, patched_past}
-use Rattle.register_cells.proofs.Stores.{slot_stored, number_stored, all_ok}
+use Rattle.register_cells.proofs.Stores.{slot_stored, store_passed, number_stored, all_ok}
 use Rattle.register_cells.proofs.LoadRows.{le_by, slot_in, slot_above}
 
 -- ---- a slot that is stored into
@@ -175,10 +174,8 @@ pub stack_stores_to : (ps : List PointerView) (decls : List MapDecl) (node : ℕ
     → length k.slots ≡ 64 → length h.slots ≡ 64 → at < 512 → at % 8 + bytes_in size ≤ 8 → machine.in_stack (o +ℤ offset) (bytes_in size) ≡ Some at
     → IfOk (access.to_slot size (at % 8) (get_or k.slots (at / 8) Unset) b) (λ x. ValueTo old new ps x c (λ row. max (left_row row ps size (get_or k.slots (at / 8) Unset) (slice_index h.slots (at / 8))) (value_row row ps b q)))
     → IfOk (access.stored decls k (Stack o) offset size b) (λ e. StoresTo ps k h (changed node is_ref false k e) (record h { slots = slice_set h.slots (at / 8) c }) (Stack o) offset size b q old new)
-unfolding access.stored
 stack_stores_to ps decls node is_ref k h old new o offset size b q at c ks hs within fits e fills =
-    let z = aligned_is (o +ℤ offset +ℤ pos 512) (bytes_in size) 512 at e in
-    slot_stored (λ after. StoresTo ps k h after (record h { slots = slice_set h.slots (at / 8) c }) (Stack o) offset size b q old new) node is_ref k size b (o +ℤ offset) at z.0 z.1 z.2
+    slot_stored (λ after. StoresTo ps k h after (record h { slots = slice_set h.slots (at / 8) c }) (Stack o) offset size b q old new) decls node is_ref k o offset size b at e
     (ok_map (access.to_slot size (at % 8) (get_or k.slots (at / 8) Unset) b) _ _ (λ x v. slot_stores ps k h old new o offset size b q at c x ks hs within fits e v) fills)
 
 -- ---- a store into the packet
@@ -259,7 +256,7 @@ packet_stores_to (Ok u) decls ps node is_ref k h next old new o offset size b i 
     rw (is_number, stored.1)
     (subst (λ (z : ℤ). IfOk (places.in_packet k.checked z (bytes_in size) >>= (λ place. access.stored_at k.slots size (Num i) place))
     (λ f. StoresTo ps k h (changed node is_ref false k f) (record h { window = patched h.window at stored.0 }) (Packet o) offset size (Num i) q old new)) (sym (inside_is (pos o +ℤ offset) (bytes_in size) 256 at e))
-    (number_stored (λ after. StoresTo ps k h after (record h { window = patched h.window at stored.0 }) (Packet o) offset size (Num i) q old new) node is_ref k size i at
+    (number_stored (λ after. StoresTo ps k h after (record h { window = patched h.window at stored.0 }) (Packet o) offset size (Num i) q old new) node is_ref k size (Num i) at
     (packet_stores ps k h old new o offset size i q at stored.0 whole e fits stored.2 stored.3)))
 
 -- ---- stores
@@ -327,15 +324,6 @@ pub store_carried_to : {R E : Type 0} (r : Result R E) (decls : List MapDecl) (p
     → IfOk (access.stored decls k (register k i.dst) i.offset size (operand k i s))
     (λ e. OnOk r (StoresTo ps k h (changed node is_ref false k e) next (register k i.dst) i.offset size (operand k i s) (slice_index h.registers i.src) old new))
     → OnOk r (CarriesTo decls (λ row. held_row row ps h k) ps i k h (transferred decls k i node is_ref false) next old new)
-unfolding effect_of
 store_carried_to r decls ps node is_ref k h next i old new size s allowed kind_is carries stores =
-    let e = passed_ok (effect_of decls k i) allowed in
-    let b = bind_passed (profile.profiled i k) (λ u. effect_as decls k i i.op) e.0 e.1 in
-    by r e.0 (ap (changed_if node is_ref false k) e.1)
-    (subst (λ q. IfOk q (λ f. OnOk r (StoresTo ps k h (changed node is_ref false k f) next (register k i.dst) i.offset size (operand k i s) (slice_index h.registers i.src) old new))) (sym kind_is ∙ b.2) stores)
-  where
-    by : {R E : Type 0} (r : Result R E) (f : _) → transferred decls k i node is_ref false ≡ changed node is_ref false k f
-        → OnOk r (StoresTo ps k h (changed node is_ref false k f) next (register k i.dst) i.offset size (operand k i s) (slice_index h.registers i.src) old new)
-        → OnOk r (CarriesTo decls (λ row. held_row row ps h k) ps i k h (transferred decls k i node is_ref false) next old new)
-    by (Err w) f same l = tt
-    by (Ok u) f same l = subst (λ (t : Kinds). CarriesTo decls (λ row. held_row row ps h k) ps i k h t next old new) (sym same) (carries (changed node is_ref false k f) l)
+    on_ok_weaker r (carries (transferred decls k i node is_ref false))
+    (store_passed (λ after. OnOk r (StoresTo ps k h after next (register k i.dst) i.offset size (operand k i s) (slice_index h.registers i.src) old new)) decls node is_ref k i size s allowed kind_is stores)

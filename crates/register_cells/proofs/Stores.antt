@@ -1,5 +1,6 @@
 -- Stores.
-use Rattle.std.proofs.Common.{◌≡◌, ◌≢◌, ℕ, ◌+◌, ◌/◌, ◌%◌, ◌==◌, ◌<◌, ◌≤◌, inl, inr, ℤ, pos, ◌+ℤ◌, nat_le, Bool, true, false, Option, Some, None, Result, Ok, Err, IfOk, OnOk, List, length, get_or, slice_index, slice_set, refl, sym, ◌∙◌, ap, subst, arith}
+use Rattle.std.proofs.Common.{◌≡◌, ◌≢◌, ℕ, ◌+◌, ◌/◌, ◌%◌, ◌<◌, ◌≤◌, inl, inr, ℤ, pos, ◌+ℤ◌, nat_le, Bool, true, false, Option, Some, None, Result, Ok, Err, IfOk, OnOk, List, length, get_or, slice_index, slice_set, refl, sym, ◌∙◌, ap, subst, arith}
+use Rattle.std.proofs.lemmas.Result.{on_ok_weaker}
 use Rattle.byteorder.specs.Endian.{little_number, little_bytes}
 use Rattle.bpf_isa.specs.declared.operation.Size.{Size}
 use Rattle.bpf_isa.specs.declared.operation.Src.{Src}
@@ -27,7 +28,7 @@ use Rattle.kind_core.specs.Kinds as kinds
 use Rattle.kind_core.specs.Profile as profile
 use Rattle.kind_core.specs.Effects.{operand, effect_as, effect_of, verdict}
 use Rattle.kind_core.specs.Edges.{changed, changed_if, transferred}
-use Rattle.kind_core.specs.Tests.{◌>>=◌, passed}
+use Rattle.kind_core.specs.Tests.{◌>>=◌, passed, number_in}
 use Rattle.kind_core.specs.Access.{underlying}
 use Rattle.kind_core.specs.Access as access
 use Rattle.kind_core.specs.Describes.{World, Describes}
@@ -39,7 +40,7 @@ use Rattle.register_cells.specs.Reading.{IsRead, Yields, Finds}
 use Rattle.register_cells.specs.Giving.{numbered}
 use Rattle.register_cells.specs.Storing.{points, left_of, IsSource, Fills, Leaves}
 use Rattle.operator_cells.specs.Spreading.{MakesBytes}
-use Rattle.kind_core.proofs.TestLaws.{bind_ok, bind_passed}
+use Rattle.kind_core.proofs.TestLaws.{bind_ok, bind_all, bind_passed}
 use Rattle.register_cells.proofs.Known.{slot_read, frame_short}
 use Rattle.register_cells.proofs.Carrying.{slot_inside, slot_held, passed_ok}
 use Rattle.register_cells.proofs.Growing.{ok_map}
@@ -163,20 +164,19 @@ stack_fills decls ps node is_ref k h old new o offset size b q t a c x ks hs wit
       rw y.2 (slot_held decls packet v ps h k m (a / 8) c x y.0 slot ks hs known.stands.stack known.held one);
 }
 
-pub slot_stored : (Q : Kinds → Type 0) (node : ℕ) (is_ref : Bool) (k : Kinds) (size : Size) (b : Kind) (z : ℤ) (a : ℕ) → z +ℤ pos 512 ≡ pos a → nat_le (a + bytes_in size) 512 ≡ true → (a % bytes_in size == 0) ≡ true
-    → IfOk (access.to_slot size (a % 8) (get_or k.slots (a / 8) Unset) b) (λ x. Q (with_slot k (a / 8) x))
-    → IfOk (places.in_stack z size >>= (λ place. access.stored_at k.slots size b place)) (λ e. Q (changed node is_ref false k e))
-slot_stored Q node is_ref k size b z a e f g h =
-    rw (e, f, g) (bind_ok (access.to_slot size (a % 8) (get_or k.slots (a / 8) Unset) b) _ _ (λ x i. subst (λ r. IfOk r (λ y. Q (with_slot k (a / 8) y))) i h))
+pub slot_stored : (Q : Kinds → Type 0) (decls : List MapDecl) (node : ℕ) (is_ref : Bool) (k : Kinds) (o offset : ℤ) (size : Size) (b : Kind) (a : ℕ) → machine.in_stack (o +ℤ offset) (bytes_in size) ≡ Some a
+    → IfOk (access.to_slot size (a % 8) (get_or k.slots (a / 8) Unset) b) (λ x. Q (with_slot k (a / 8) x)) → IfOk (access.stored decls k (Stack o) offset size b) (λ e. Q (changed node is_ref false k e))
+unfolding access.stored
+slot_stored Q decls node is_ref k o offset size b a place h =
+    let z = aligned_is (o +ℤ offset +ℤ pos 512) (bytes_in size) 512 a place in
+    rw (z.0, z.1, z.2) (bind_ok (access.to_slot size (a % 8) (get_or k.slots (a / 8) Unset) b) _ _ (λ x i. subst (λ r. IfOk r (λ y. Q (with_slot k (a / 8) y))) i h))
 
 pub stack_stores : (decls : List MapDecl) (ps : List PointerView) (node : ℕ) (is_ref : Bool) (k : Kinds) (h : Held) (old new : List CellView) (o offset : ℤ) (size : Size) (b : Kind) (q : ℕ) (t : Machine → Value) (a c : ℕ)
     → length k.slots ≡ 64 → length h.slots ≡ 64 → a < 512 → machine.in_stack (o +ℤ offset) (bytes_in size) ≡ Some a → AreInside decls (length old) ps h k → IsSource decls ps node k h b q t
     → IfOk (access.to_slot size (a % 8) (get_or k.slots (a / 8) Unset) b) (λ x. Fills decls ps size (a % 8) (get_or k.slots (a / 8) Unset) (slice_index h.slots (a / 8)) b q old new x c)
     → IfOk (access.stored decls k (Stack o) offset size b) (λ e. Leaves decls ps node k h (record h { slots = slice_set h.slots (a / 8) c }) old new (changed node is_ref false k e) (λ m. machine.stored m (is.Stack o) offset size (t m)))
-unfolding access.stored
 stack_stores decls ps node is_ref k h old new o offset size b q t a c ks hs within place there source fills =
-    let z = aligned_is (o +ℤ offset +ℤ pos 512) (bytes_in size) 512 a place in
-    slot_stored (λ after. Leaves decls ps node k h (record h { slots = slice_set h.slots (a / 8) c }) old new after (λ m. machine.stored m (is.Stack o) offset size (t m))) node is_ref k size b (o +ℤ offset) a z.0 z.1 z.2
+    slot_stored (λ after. Leaves decls ps node k h (record h { slots = slice_set h.slots (a / 8) c }) old new after (λ m. machine.stored m (is.Stack o) offset size (t m))) decls node is_ref k o offset size b a place
     (ok_map (access.to_slot size (a % 8) (get_or k.slots (a / 8) Unset) b) _ _ (λ x f. stack_fills decls ps node is_ref k h old new o offset size b q t a c x ks hs within place there source f) fills)
 
 pub stack_refused : (decls : List MapDecl) (k : Kinds) (o offset : ℤ) (size : Size) (b : Kind) (P : _ → Type 0) → machine.in_stack (o +ℤ offset) (bytes_in size) ≡ None
@@ -186,13 +186,13 @@ stack_refused decls k o offset size b P e = not_in_stack (o +ℤ offset) size (�
 
 -- ---- a store into the packet
 
-pub number_stored : (Q : Kinds → Type 0) (node : ℕ) (is_ref : Bool) (k : Kinds) (size : Size) (n : Number) (a : ℕ) → Q k
-    → IfOk (places.in_packet k.checked (pos a) (bytes_in size) >>= (λ place. access.stored_at k.slots size (Num n) place)) (λ e. Q (changed node is_ref false k e))
-number_stored Q node is_ref k size n a h = by (nat_le (a + bytes_in size) 256) refl (nat_le (a + bytes_in size) k.checked) refl
+pub number_stored : (Q : Kinds → Type 0) (node : ℕ) (is_ref : Bool) (k : Kinds) (size : Size) (x : Kind) (a : ℕ) → Q k
+    → IfOk (places.in_packet k.checked (pos a) (bytes_in size) >>= (λ place. access.stored_at k.slots size x place)) (λ e. Q (changed node is_ref false k e))
+number_stored Q node is_ref k size x a h = by (nat_le (a + bytes_in size) 256) refl (nat_le (a + bytes_in size) k.checked) refl
   where
     by : (s : Bool) → nat_le (a + bytes_in size) 256 ≡ s → (t : Bool) → nat_le (a + bytes_in size) k.checked ≡ t
-        → IfOk (places.in_packet k.checked (pos a) (bytes_in size) >>= (λ place. access.stored_at k.slots size (Num n) place)) (λ e. Q (changed node is_ref false k e))
-    by true e true g = rw (e, g) h
+        → IfOk (places.in_packet k.checked (pos a) (bytes_in size) >>= (λ place. access.stored_at k.slots size x place)) (λ e. Q (changed node is_ref false k e))
+    by true e true g = rw (e, g) (bind_all (number_in x) _ _ (λ n. h))
     by true e false g = rw (e, g) tt
     by false e t g = rw e tt
 
@@ -205,7 +205,7 @@ packet_stores decls ps node is_ref k h old new o offset size i q t a cs whole e 
     let z = inside_is (pos o +ℤ offset) (bytes_in size) 256 a e in
     subst (λ (y : ℤ). IfOk (places.in_packet k.checked y (bytes_in size) >>= (λ place. access.stored_at k.slots size (Num i) place))
     (λ f. Leaves decls ps node k h (record h { window = patched h.window a cs }) old new (changed node is_ref false k f) (λ m. machine.stored m (is.Packet (pos o)) offset size (t m)))) (sym z)
-    (number_stored (λ after. Leaves decls ps node k h (record h { window = patched h.window a cs }) old new after (λ m. machine.stored m (is.Packet (pos o)) offset size (t m))) node is_ref k size i a (record {
+    (number_stored (λ after. Leaves decls ps node k h (record h { window = patched h.window a cs }) old new after (λ m. machine.stored m (is.Packet (pos o)) offset size (t m))) node is_ref k size (Num i) a (record {
       grows = made.grows;
       inside = window_inside decls (length old) (length new) ps h k a cs made.grows.longer (omega (arith, fits, made.count)) whole made.there there;
       holds = λ packet v m n run known f.
@@ -265,14 +265,10 @@ store_as r decls ps node is_ref k h next i old new base b size x y t {z} e at sa
     let P : _ → Type 0 = λ e. OnOk r (Leaves decls ps node k h next old new (changed node is_ref false k e) (λ m. machine.stored m (register m.registers i.dst) i.offset size (t m))) in
     subst (λ (a : Kind). IfOk (access.stored decls k a i.offset size x) P) (sym e)
     (ok_map (access.stored decls k base i.offset size x) _ P
-    (λ f g. on_ok r _ _ (leaves_as decls ps node k h next old new (changed node is_ref false k f) (λ m. machine.stored m b i.offset size (t m)) (λ m. machine.stored m (register m.registers i.dst) i.offset size (t m))
+    (λ f g. on_ok_weaker r (leaves_as decls ps node k h next old new (changed node is_ref false k f) (λ m. machine.stored m b i.offset size (t m)) (λ m. machine.stored m (register m.registers i.dst) i.offset size (t m))
     (λ packet v m known. sym (ap (λ (a : Value). machine.stored m a i.offset size (t m)) (read packet v m known)))) g)
     (subst (λ (y : ℤ). IfOk (access.stored decls k base y size x) (λ e. OnOk r (Leaves decls ps node k h next old new (changed node is_ref false k e) (λ m. machine.stored m b y size (t m))))) at
     (subst (λ (w : Kind). IfOk (access.stored decls k base z size w) (λ e. OnOk r (Leaves decls ps node k h next old new (changed node is_ref false k e) (λ m. machine.stored m b z size (t m))))) same leaves)))
-  where
-    on_ok : {R E : Type 0} (r : Result R E) (P Q : Type 0) → (P → Q) → OnOk r P → OnOk r Q
-    on_ok (Ok a) P Q f h = f h
-    on_ok (Err e) P Q f h = tt
 
 -- nothing is stored through anything else
 pub store_refused : (decls : List MapDecl) (k : Kinds) (b : Kind) (offset : ℤ) (size : Size) (x : Kind) (P : _ → Type 0) → ((o : ℕ) → b ≢ Packet o) → ((o : ℤ) → b ≢ Stack o) → ((q o : ℕ) → b ≢ Entry q o)
@@ -283,25 +279,26 @@ store_refused decls k (Stack o) offset size x P f g h = absurd (g o refl)
 store_refused decls k (Entry q o) offset size x P f g h = absurd (h q o refl)
 store_refused decls k b offset size x P f g h = tt
 
--- an allowed store carries what it leaves
+-- what an allowed store leaves
+pub store_passed : (P : Kinds → Type 0) (decls : List MapDecl) (node : ℕ) (is_ref : Bool) (k : Kinds) (i : Insn) (size : Size) (s : Src)
+    → verdict (effect_of decls k i) ≡ passed → effect_as decls k i i.op ≡ access.stored decls k (kinds.register k i.dst) i.offset size (operand k i s)
+    → IfOk (access.stored decls k (kinds.register k i.dst) i.offset size (operand k i s)) (λ e. P (changed node is_ref false k e)) → P (transferred decls k i node is_ref false)
+unfolding effect_of
+store_passed P decls node is_ref k i size s allowed kind_is leaves =
+    let e = passed_ok (effect_of decls k i) allowed in
+    let b = bind_passed (profile.profiled i k) (λ u. effect_as decls k i i.op) e.0 e.1 in
+    subst P (sym (ap (changed_if node is_ref false k) e.1)) (subst (λ q. IfOk q (λ f. P (changed node is_ref false k f))) (sym kind_is ∙ b.2) leaves)
+
+-- it carries this
 pub store_carried : {R E : Type 0} (r : Result R E) (decls : List MapDecl) (ps : List PointerView) (node : ℕ) (is_ref : Bool) (k : Kinds) (h next : Held) (i : Insn) (old new : List CellView) (size : Size) (s : Src)
     → verdict (effect_of decls k i) ≡ passed → effect_as decls k i i.op ≡ access.stored decls k (kinds.register k i.dst) i.offset size (operand k i s)
     → ((refs : List ℕ) (m : Machine) → step.effect refs m i i.op ≡ machine.stored m (register m.registers i.dst) i.offset size (step.operand m.registers i s))
     → IfOk (access.stored decls k (kinds.register k i.dst) i.offset size (operand k i s)) (λ e. OnOk r (Leaves decls ps node k h next old new (changed node is_ref false k e) (λ m. machine.stored m (register m.registers i.dst) i.offset size (step.operand m.registers i s))))
     → OnOk r (Carries decls ps i node is_ref false k h next old new)
-unfolding effect_of
 store_carried r decls ps node is_ref k h next i old new size s allowed kind_is machine_is leaves =
-    let e = passed_ok (effect_of decls k i) allowed in
-    let b = bind_passed (profile.profiled i k) (λ u. effect_as decls k i i.op) e.0 e.1 in
-    by r e.0 (ap (changed_if node is_ref false k) e.1)
-    (subst (λ q. IfOk q (λ f. OnOk r (Leaves decls ps node k h next old new (changed node is_ref false k f) (λ m. machine.stored m (register m.registers i.dst) i.offset size (step.operand m.registers i s))))) (sym kind_is ∙ b.2) leaves)
-  where
-    by : {R E : Type 0} (r : Result R E) (f : _) → transferred decls k i node is_ref false ≡ changed node is_ref false k f
-        → OnOk r (Leaves decls ps node k h next old new (changed node is_ref false k f) (λ m. machine.stored m (register m.registers i.dst) i.offset size (step.operand m.registers i s)))
-        → OnOk r (Carries decls ps i node is_ref false k h next old new)
-    by (Err w) f same l = tt
-    by (Ok u) f same l = record {
+    let stores : Machine → Option Machine = λ m. machine.stored m (register m.registers i.dst) i.offset size (step.operand m.registers i s) in
+    on_ok_weaker r (λ (l : Leaves decls ps node k h next old new (transferred decls k i node is_ref false) stores). record {
       grows = l.grows;
-      inside = rw same l.inside;
-      holds = λ packet v m n refs run known at e. rw same (l.holds packet v m n run known (sym (machine_is refs m) ∙ e));
-    }
+      inside = l.inside;
+      holds = λ packet v m n refs run known at e. l.holds packet v m n run known (sym (machine_is refs m) ∙ e);
+    }) (store_passed (λ after. OnOk r (Leaves decls ps node k h next old new after stores)) decls node is_ref k i size s allowed kind_is leaves)

@@ -5,3 +5,4 @@ pub mod Storing
 pub mod Plain
 pub mod Rows
 pub mod Combining
+pub mod Pointing

@@ -20,6 +20,7 @@ ghost use Rattle.held_cells.specs.Carrying.{Gives};
 ghost use Rattle.register_cells.specs.Reading.{HasNumber, Yields, Finds};
 ghost use Rattle.register_cells.specs.Giving.{given};
 ghost use Rattle.register_cells.specs.Rows.{ValueTo};
+ghost use Rattle.register_cells.specs.Pointing.{MovesPointer, MovesHeld};
 ghost use Rattle.held_cells.specs.Rows.{number_row, value_row, held_row};
 ghost use Rattle.place_rows.specs.Spans.{region, span_row};
 ghost use Rattle.place_rows.specs.Reading.{result_as};
@@ -42,6 +43,7 @@ pub(crate) fn whole(cells: &mut Vec<Cell>, kind: Kind, p: u32) -> Result<u32, Al
     requires there { HasNumber (length (seen cells.old.items)) kind p }
     ensures yields { (decls : List MapDecl) (ps : List PointerView) → Counts decls (length (seen cells.old.items)) ps kind p → IfOk result (λ c. Yields decls ps kind p kind p (seen cells.old.items) (seen cells.new.items) kind c (λ s t. Some t)) }
     ensures rows { (ps : List PointerView) → IfOk result (λ c. ValueTo (seen cells.old.items) (seen cells.new.items) ps kind c (λ row. value_row row ps kind p)) }
+    ensures points { IfOk result (λ c. MovesPointer kind p kind c) }
 {
     match kind {
         Kind::Num(Number::Unknown) => {
@@ -65,6 +67,7 @@ fn from_slot(
     requires slot { at + bytes_in size ≤ 8 }
     ensures yields { (decls : List MapDecl) (ps : List PointerView) → Counts decls (length (seen cells.old.items)) ps kind p → IfOk (access.from_slot size at kind) (λ x. IfOk result (λ c. Yields decls ps kind p kind p (seen cells.old.items) (seen cells.new.items) x c (λ s t. machine.from_slot size at t))) }
     ensures rows { (ps : List PointerView) → IfOk (access.from_slot size at kind) (λ x. IfOk result (λ c. ValueTo (seen cells.old.items) (seen cells.new.items) ps x c (λ row. value_row row ps kind p))) }
+    ensures points { IfOk (access.from_slot size at kind) (λ x. IfOk result (λ c. MovesPointer kind p x c)) }
 {
     match size {
         Size::Dw => {
@@ -124,6 +127,7 @@ fn from_stack(
     requires inside { (decls : List MapDecl) × (ps : List PointerView) × AreInside decls (length (seen cells.old.items)) ps held.now kinds.now }
     ensures gives { (decls : List MapDecl) (ps : List PointerView) (node : ℕ) (o : ℤ) → base ≡ kind_is.Stack o → AreInside decls (length (seen cells.old.items)) ps held.now kinds.now → IfOk (access.loaded decls kinds.now (kind_is.Stack o) offset size) (λ x. IfOk result (λ c. Gives decls ps node kinds.now held.now (seen cells.old.items) (seen cells.new.items) x c (λ m. machine.loaded m (is.Stack o) offset size))) }
     ensures rows { (decls : List MapDecl) (ps : List PointerView) (o : ℤ) → base ≡ kind_is.Stack o → IfOk (access.loaded decls kinds.now (kind_is.Stack o) offset size) (λ x. IfOk result (λ c. ValueTo (seen cells.old.items) (seen cells.new.items) ps x c (λ row. span_row (held_row row ps held.now kinds.now) (region (kind_is.Stack o) offset (bytes_in size))))) }
+    ensures points { (decls : List MapDecl) (o : ℤ) → base ≡ kind_is.Stack o → IfOk (access.loaded decls kinds.now (kind_is.Stack o) offset size) (λ x. IfOk result (λ c. MovesHeld kinds.now held.now x c)) }
 {
     match slot_at(base, offset, size) {
         Some(at) => {
@@ -192,6 +196,7 @@ pub fn loaded_plain(
     requires plain { (q o : ℕ) → register kinds.now insn.now.src ≢ kind_is.Entry q o }
     ensures gives { (decls : List MapDecl) (ps : List PointerView) (refs : List ℕ) (node : ℕ) → AreInside decls (length (seen cells.old.items)) ps held.now kinds.now → IfOk (access.loaded_plain decls kinds.now (register kinds.now insn.now.src) insn.now.offset size) (λ x. IfOk result (λ c. Gives decls ps node kinds.now held.now (seen cells.old.items) (seen cells.new.items) x c (λ m. given refs m insn.now (Op.Load size)))) }
     ensures rows { (decls : List MapDecl) (ps : List PointerView) (after : Kinds) → IfOk (access.loaded_plain decls kinds.now (register kinds.now insn.now.src) insn.now.offset size) (λ x. IfOk result (λ c. ValueTo (seen cells.old.items) (seen cells.new.items) ps x c (λ row. result_as (held_row row ps held.now kinds.now) decls kinds.now after insn.now (Op.Load size)))) }
+    ensures points { (decls : List MapDecl) → IfOk (access.loaded_plain decls kinds.now (register kinds.now insn.now.src) insn.now.offset size) (λ x. IfOk result (λ c. MovesHeld kinds.now held.now x c)) }
 {
     let base = kinds.registers[insn.src as usize];
     match base {

@@ -17,6 +17,7 @@ ghost use Rattle.held_cells.specs.Rows.{value_row};
 ghost use Rattle.register_cells.specs.Reading.{HasNumber, Yields, place_of};
 ghost use Rattle.register_cells.specs.Combining.{worked_row, combined_row};
 ghost use Rattle.register_cells.specs.Rows.{ValueTo};
+ghost use Rattle.register_cells.specs.Pointing.{MovesPointer, MovesEither};
 ghost use Rattle.kind_core.specs.declared.kind.Kind.{Kind};
 
 use crate::computing::{compute, extended};
@@ -65,6 +66,7 @@ fn sum(cells: &mut Vec<Cell>, a: Kind, p: u32, b: Kind, q: u32) -> Result<u32, A
     requires right { HasNumber (length (seen cells.old.items)) b q }
     ensures yields { (decls : List MapDecl) (ps : List PointerView) → Counts decls (length (seen cells.old.items)) ps a p → Counts decls (length (seen cells.old.items)) ps b q → IfOk (kind.sum decls a b) (λ x. IfOk result (λ c. Yields decls ps a p b q (seen cells.old.items) (seen cells.new.items) x c (λ s t. machine.sum s t))) }
     ensures rows { (decls : List MapDecl) (ps : List PointerView) → IfOk (kind.sum decls a b) (λ x. IfOk result (λ c. ValueTo (seen cells.old.items) (seen cells.new.items) ps x c (λ row. worked_row alu.Add b x (value_row row ps a p) (value_row row ps b q)))) }
+    ensures points { (decls : List MapDecl) → IfOk (kind.sum decls a b) (λ x. IfOk result (λ c. MovesEither a p b q x c)) }
 {
     match a {
         Kind::Num(x) => match b {
@@ -85,6 +87,7 @@ fn difference(cells: &mut Vec<Cell>, a: Kind, p: u32, b: Kind, q: u32) -> Result
     requires right { HasNumber (length (seen cells.old.items)) b q }
     ensures yields { (decls : List MapDecl) (ps : List PointerView) → Counts decls (length (seen cells.old.items)) ps a p → Counts decls (length (seen cells.old.items)) ps b q → IfOk (kind.difference decls a b) (λ x. IfOk result (λ c. Yields decls ps a p b q (seen cells.old.items) (seen cells.new.items) x c (λ s t. machine.difference s t))) }
     ensures rows { (decls : List MapDecl) (ps : List PointerView) → IfOk (kind.difference decls a b) (λ x. IfOk result (λ c. ValueTo (seen cells.old.items) (seen cells.new.items) ps x c (λ row. worked_row alu.Sub b x (value_row row ps a p) (value_row row ps b q)))) }
+    ensures points { (decls : List MapDecl) → IfOk (kind.difference decls a b) (λ x. IfOk result (λ c. MovesPointer a p x c)) }
 {
     match (a, b) {
         (Kind::Num(x), Kind::Num(y)) => {
@@ -113,6 +116,7 @@ fn copied(
     requires count { count ≤ 32 }
     ensures yields { (decls : List MapDecl) (ps : List PointerView) (a : Kind) (p : ℕ) → Counts decls (length (seen cells.old.items)) ps b q → IfOk (kind.copied width count b) (λ x. IfOk result (λ c. Yields decls ps a p b q (seen cells.old.items) (seen cells.new.items) x c (λ s t. machine.copied width count t))) }
     ensures rows { (ps : List PointerView) → IfOk (kind.copied width count b) (λ x. IfOk result (λ c. ValueTo (seen cells.old.items) (seen cells.new.items) ps x c (λ row. value_row row ps b q))) }
+    ensures points { IfOk (kind.copied width count b) (λ x. IfOk result (λ c. MovesPointer b q x c)) }
 {
     match b {
         Kind::Num(Number::Unknown) if width == Width::Bits64 && count == 0 => {
@@ -180,6 +184,7 @@ pub fn combined(
     requires offset { unsigned_abs offset ≤ 32 }
     ensures yields { (decls : List MapDecl) (ps : List PointerView) → Counts decls (length (seen cells.old.items)) ps a p → Counts decls (length (seen cells.old.items)) ps b q → IfOk (kind.combined decls width code offset a b) (λ x. IfOk result (λ c. Yields decls ps a p b q (seen cells.old.items) (seen cells.new.items) x c (λ s t. machine.combined width code offset s t))) }
     ensures rows { (decls : List MapDecl) (ps : List PointerView) → IfOk (kind.combined decls width code offset a b) (λ x. IfOk result (λ c. ValueTo (seen cells.old.items) (seen cells.new.items) ps x c (λ row. combined_row code b x (value_row row ps a p) (value_row row ps b q)))) }
+    ensures points { (decls : List MapDecl) → IfOk (kind.combined decls width code offset a b) (λ x. IfOk result (λ c. MovesEither a p b q x c)) }
 {
     let signed = is_signed(offset);
     match code {

@@ -12,6 +12,7 @@ ghost use Rattle.operator_cells.specs.Making.{seen};
 ghost use Rattle.held_cells.specs.Held.{pointed, AreInside};
 ghost use Rattle.held_cells.specs.Carrying.{Carries};
 ghost use Rattle.held_cells.specs.Rows.{held_row, CarriesTo};
+ghost use Rattle.held_cells.specs.Pointing.{KeepPointers};
 ghost use Rattle.register_cells.specs.Plain as spec;
 
 use crate::helpers::{carry_redirect, carry_time};
@@ -65,6 +66,7 @@ pub fn carry_plain(
     requires inside { (decls : List MapDecl) × AreInside decls (length (seen cells.old.items)) (pointed pointers.now) held.old kinds.now }
     ensures carries { (decls : List MapDecl) (node : ℕ) (is_ref : Bool) → verdict (effect_of decls kinds.now insn.now) ≡ passed → AreInside decls (length (seen cells.old.items)) (pointed pointers.now) held.old kinds.now → OnOk result (Carries decls (pointed pointers.now) insn.now node is_ref false kinds.now held.old held.new (seen cells.old.items) (seen cells.new.items)) }
     ensures rows { (decls : List MapDecl) (node : ℕ) (is_ref : Bool) → verdict (effect_of decls kinds.now insn.now) ≡ passed → OnOk result (CarriesTo decls (λ row. held_row row (pointed pointers.now) held.old kinds.now) (pointed pointers.now) insn.now kinds.now held.old (transferred decls kinds.now insn.now node is_ref false) held.new (seen cells.old.items) (seen cells.new.items)) }
+    ensures points { (decls : List MapDecl) (node : ℕ) (is_ref : Bool) → verdict (effect_of decls kinds.now insn.now) ≡ passed → OnOk result (KeepPointers kinds.now held.old (transferred decls kinds.now insn.now node is_ref false) held.new) }
 {
     if is_store(insn) {
         return carry_store(cells, pointers, held, kinds, insn);

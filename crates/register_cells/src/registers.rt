@@ -17,8 +17,10 @@ ghost use Rattle.operator_cells.specs.Making.{seen};
 ghost use Rattle.held_cells.specs.Held.{PointerView, AreInside};
 ghost use Rattle.held_cells.specs.Carrying.{Gives, Carries};
 ghost use Rattle.held_cells.specs.Rows.{held_row, CarriesTo};
+ghost use Rattle.held_cells.specs.Pointing.{KeepPointers};
 ghost use Rattle.place_rows.specs.Reading.{result_as, result_row};
 ghost use Rattle.register_cells.specs.Rows.{ValueTo};
+ghost use Rattle.register_cells.specs.Pointing.{MovesHeld};
 ghost use Rattle.register_cells.specs.Giving.{given, given_kind, given_number};
 ghost use Rattle.bpf_isa.specs.Rules.{Allows};
 ghost use Rattle.bpf_isa.specs.declared.fields.Rule.TheVariants.{SwapBits};
@@ -60,6 +62,7 @@ fn combine(
     requires inside { (decls : List MapDecl) × (ps : List PointerView) × AreInside decls (length (seen cells.old.items)) ps held.now kinds.now }
     ensures gives { (decls : List MapDecl) (ps : List PointerView) (refs : List ℕ) (node : ℕ) → AreInside decls (length (seen cells.old.items)) ps held.now kinds.now → IfOk (alu decls kinds.now insn.now (Op.Alu width code src)) (λ x. IfOk result (λ c. Gives decls ps node kinds.now held.now (seen cells.old.items) (seen cells.new.items) x c (λ m. given refs m insn.now (Op.Alu width code src)))) }
     ensures rows { (decls : List MapDecl) (ps : List PointerView) (after : Kinds) → IfOk (alu decls kinds.now insn.now (Op.Alu width code src)) (λ x. kind.register after insn.now.dst ≡ x → IfOk result (λ c. ValueTo (seen cells.old.items) (seen cells.new.items) ps x c (λ row. result_as (held_row row ps held.now kinds.now) decls kinds.now after insn.now (Op.Alu width code src)))) }
+    ensures points { (decls : List MapDecl) → IfOk (alu decls kinds.now insn.now (Op.Alu width code src)) (λ x. IfOk result (λ c. MovesHeld kinds.now held.now x c)) }
 {
     let a = kinds.registers[insn.dst as usize];
     let b = operand(kinds, insn, src);
@@ -130,6 +133,7 @@ fn give(cells: &mut Vec<Cell>, held: &Held, kinds: &Kinds, insn: &Insn) -> Resul
     requires plain { (size : Size) → (insn.now.op ≢ Op.Load size) × (insn.now.op ≢ Op.LoadSigned size) }
     ensures gives { (decls : List MapDecl) (ps : List PointerView) (refs : List ℕ) (node : ℕ) (is_ref : Bool) → AreInside decls (length (seen cells.old.items)) ps held.now kinds.now → IfOk (given_kind is_ref decls kinds.now insn.now insn.now.op) (λ x. IfOk result (λ c. Gives decls ps node kinds.now held.now (seen cells.old.items) (seen cells.new.items) x c (λ m. given refs m insn.now insn.now.op))) }
     ensures rows { (decls : List MapDecl) (ps : List PointerView) (is_ref : Bool) (after : Kinds) → IfOk (given_kind is_ref decls kinds.now insn.now insn.now.op) (λ x. kind.register after insn.now.dst ≡ x → IfOk result (λ c. ValueTo (seen cells.old.items) (seen cells.new.items) ps x c (λ row. result_row (held_row row ps held.now kinds.now) decls kinds.now after insn.now))) }
+    ensures points { (decls : List MapDecl) (is_ref : Bool) → IfOk (given_kind is_ref decls kinds.now insn.now insn.now.op) (λ x. IfOk result (λ c. MovesHeld kinds.now held.now x c)) }
 {
     match insn.op {
         Op::Alu(width, code, src) => {
@@ -166,6 +170,7 @@ pub fn carry_computed(
     requires plain { (size : Size) → (insn.now.op ≢ Op.Load size) × (insn.now.op ≢ Op.LoadSigned size) }
     ensures carries { (decls : List MapDecl) (ps : List PointerView) (node : ℕ) (is_ref : Bool) → verdict (effect_of decls kinds.now insn.now) ≡ passed → AreInside decls (length (seen cells.old.items)) ps held.old kinds.now → OnOk result (Carries decls ps insn.now node is_ref false kinds.now held.old held.new (seen cells.old.items) (seen cells.new.items)) }
     ensures rows { (decls : List MapDecl) (ps : List PointerView) (node : ℕ) (is_ref : Bool) → verdict (effect_of decls kinds.now insn.now) ≡ passed → OnOk result (CarriesTo decls (λ row. held_row row ps held.old kinds.now) ps insn.now kinds.now held.old (transferred decls kinds.now insn.now node is_ref false) held.new (seen cells.old.items) (seen cells.new.items)) }
+    ensures points { (decls : List MapDecl) (node : ℕ) (is_ref : Bool) → verdict (effect_of decls kinds.now insn.now) ≡ passed → OnOk result (KeepPointers kinds.now held.old (transferred decls kinds.now insn.now node is_ref false) held.new) }
 {
     are_whole(held, kinds);
     let c = give(cells, held, kinds, insn)?;
@@ -188,6 +193,7 @@ pub fn carry_load(
     requires plain { (q o : ℕ) → kind.register kinds.now insn.now.src ≢ kind_is.Entry q o }
     ensures carries { (decls : List MapDecl) (ps : List PointerView) (node : ℕ) (is_ref : Bool) → verdict (effect_of decls kinds.now insn.now) ≡ passed → AreInside decls (length (seen cells.old.items)) ps held.old kinds.now → OnOk result (Carries decls ps insn.now node is_ref false kinds.now held.old held.new (seen cells.old.items) (seen cells.new.items)) }
     ensures rows { (decls : List MapDecl) (ps : List PointerView) (node : ℕ) (is_ref : Bool) → verdict (effect_of decls kinds.now insn.now) ≡ passed → OnOk result (CarriesTo decls (λ row. held_row row ps held.old kinds.now) ps insn.now kinds.now held.old (transferred decls kinds.now insn.now node is_ref false) held.new (seen cells.old.items) (seen cells.new.items)) }
+    ensures points { (decls : List MapDecl) (node : ℕ) (is_ref : Bool) → verdict (effect_of decls kinds.now insn.now) ≡ passed → OnOk result (KeepPointers kinds.now held.old (transferred decls kinds.now insn.now node is_ref false) held.new) }
 {
     are_whole(held, kinds);
     let c = loaded_plain(cells, held, kinds, insn, size)?;
@@ -210,6 +216,7 @@ pub fn carry_signed(
     requires plain { (q o : ℕ) → kind.register kinds.now insn.now.src ≢ kind_is.Entry q o }
     ensures carries { (decls : List MapDecl) (ps : List PointerView) (node : ℕ) (is_ref : Bool) → verdict (effect_of decls kinds.now insn.now) ≡ passed → AreInside decls (length (seen cells.old.items)) ps held.old kinds.now → OnOk result (Carries decls ps insn.now node is_ref false kinds.now held.old held.new (seen cells.old.items) (seen cells.new.items)) }
     ensures rows { (decls : List MapDecl) (ps : List PointerView) (node : ℕ) (is_ref : Bool) → verdict (effect_of decls kinds.now insn.now) ≡ passed → OnOk result (CarriesTo decls (λ row. held_row row ps held.old kinds.now) ps insn.now kinds.now held.old (transferred decls kinds.now insn.now node is_ref false) held.new (seen cells.old.items) (seen cells.new.items)) }
+    ensures points { (decls : List MapDecl) (node : ℕ) (is_ref : Bool) → verdict (effect_of decls kinds.now insn.now) ≡ passed → OnOk result (KeepPointers kinds.now held.old (transferred decls kinds.now insn.now node is_ref false) held.new) }
 {
     are_whole(held, kinds);
     let c = loaded_signed(cells, held, kinds, insn, size)?;
@@ -231,6 +238,7 @@ pub fn carry_register(
     requires plain { (size : Size) (q o : ℕ) → (insn.now.op ≡ Op.Load size) ⊎ (insn.now.op ≡ Op.LoadSigned size) → kind.register kinds.now insn.now.src ≢ kind_is.Entry q o }
     ensures carries { (decls : List MapDecl) (ps : List PointerView) (node : ℕ) (is_ref : Bool) → verdict (effect_of decls kinds.now insn.now) ≡ passed → AreInside decls (length (seen cells.old.items)) ps held.old kinds.now → OnOk result (Carries decls ps insn.now node is_ref false kinds.now held.old held.new (seen cells.old.items) (seen cells.new.items)) }
     ensures rows { (decls : List MapDecl) (ps : List PointerView) (node : ℕ) (is_ref : Bool) → verdict (effect_of decls kinds.now insn.now) ≡ passed → OnOk result (CarriesTo decls (λ row. held_row row ps held.old kinds.now) ps insn.now kinds.now held.old (transferred decls kinds.now insn.now node is_ref false) held.new (seen cells.old.items) (seen cells.new.items)) }
+    ensures points { (decls : List MapDecl) (node : ℕ) (is_ref : Bool) → verdict (effect_of decls kinds.now insn.now) ≡ passed → OnOk result (KeepPointers kinds.now held.old (transferred decls kinds.now insn.now node is_ref false) held.new) }
 {
     match insn.op {
         Op::Load(size) => carry_load(cells, held, kinds, insn, size),

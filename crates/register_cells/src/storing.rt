@@ -12,6 +12,7 @@ ghost use Rattle.xdp_machine.specs.Memory.{bytes_in};
 ghost use Rattle.xdp_machine.specs.Memory as machine;
 ghost use Rattle.xdp_machine.specs.Step as step;
 ghost use Rattle.kind_core.specs.declared.kind.Kind.TheVariants as kind_is;
+ghost use Rattle.kind_core.specs.declared.kind.Kinds.{Kinds};
 ghost use Rattle.kind_core.specs.Numbers.{number_patched};
 ghost use Rattle.kind_core.specs.Access as access;
 ghost use Rattle.kind_core.specs.Kinds as kind;
@@ -28,7 +29,9 @@ ghost use Rattle.register_cells.specs.Reading.{HasNumber, Finds};
 ghost use Rattle.register_cells.specs.Storing.{points, left_of, IsSource, Fills, Leaves};
 ghost use Rattle.operator_cells.specs.Rising.{Rises, RiseAll};
 ghost use Rattle.held_cells.specs.Rows.{number_row, value_row, held_row, CarriesTo};
+ghost use Rattle.held_cells.specs.Pointing.{KeepPointers};
 ghost use Rattle.register_cells.specs.Rows.{ValueTo, StoresTo, left_row};
+ghost use Rattle.register_cells.specs.Pointing.{MovesPointer, MovesHeld};
 
 use crate::loading::{packet_at, slot_at, whole};
 use crate::registers::operand;
@@ -153,6 +156,7 @@ fn to_slot(
     requires inside { at + bytes_in size ≤ 8 }
     ensures fills { (decls : List MapDecl) → Counts decls (length (seen cells.old.items)) (pointed pointers.now) b q → IfOk (access.to_slot size at a b) (λ x. IfOk result (λ c. Fills decls (pointed pointers.now) size at a p b q (seen cells.old.items) (seen cells.new.items) x c)) }
     ensures rows { IfOk (access.to_slot size at a b) (λ x. IfOk result (λ c. ValueTo (seen cells.old.items) (seen cells.new.items) (pointed pointers.now) x c (λ row. max (left_row row (pointed pointers.now) size a p) (value_row row (pointed pointers.now) b q)))) }
+    ensures points { IfOk (access.to_slot size at a b) (λ x. IfOk result (λ c. MovesPointer b q x c)) }
 {
     match size {
         Size::Dw => {
@@ -186,6 +190,7 @@ fn to_stack(
     requires source { HasNumber (length (seen cells.old.items)) b q }
     ensures leaves { (decls : List MapDecl) (node : ℕ) (is_ref : Bool) (o : ℤ) (t : Machine → Value) → base ≡ kind_is.Stack o → AreInside decls (length (seen cells.old.items)) (pointed pointers.now) held.old kinds.now → Counts decls (length (seen cells.old.items)) (pointed pointers.now) b q → IsSource decls (pointed pointers.now) node kinds.now held.old b q t → IfOk (access.stored decls kinds.now (kind_is.Stack o) offset size b) (λ e. OnOk result (Leaves decls (pointed pointers.now) node kinds.now held.old held.new (seen cells.old.items) (seen cells.new.items) (changed node is_ref false kinds.now e) (λ m. machine.stored m (is.Stack o) offset size (t m)))) }
     ensures rows { (decls : List MapDecl) (node : ℕ) (is_ref : Bool) (o : ℤ) → base ≡ kind_is.Stack o → IfOk (access.stored decls kinds.now (kind_is.Stack o) offset size b) (λ e. OnOk result (StoresTo (pointed pointers.now) kinds.now held.old (changed node is_ref false kinds.now e) held.new (kind_is.Stack o) offset size b q (seen cells.old.items) (seen cells.new.items))) }
+    ensures points { (decls : List MapDecl) (node : ℕ) (is_ref : Bool) (o : ℤ) → base ≡ kind_is.Stack o → MovesHeld kinds.now held.old b q → IfOk (access.stored decls kinds.now (kind_is.Stack o) offset size b) (λ e. OnOk result (KeepPointers kinds.now held.old (changed node is_ref false kinds.now e) held.new)) }
 {
     are_whole(held, kinds);
     match slot_at(base, offset, size) {
@@ -229,6 +234,7 @@ fn to_window(
     requires source { IsThere (length (seen cells.old.items)) n q }
     ensures makes { OnOk result ((bytes : List ℕ) × (held.new ≡ record held.old { window = patched held.old.window at bytes }) × MakesBytes (seen cells.old.items) (seen cells.new.items) (bytes_in size) bytes (λ v. little_bytes (bytes_in size) (number_of v n q))) }
     ensures rises { OnOk result ((bytes : List ℕ) × (held.new ≡ record held.old { window = patched held.old.window at bytes }) × (length bytes ≡ bytes_in size) × RiseAll (seen cells.old.items) (seen cells.new.items) bytes (λ row. number_row row n q)) }
+    ensures points { (k : Kinds) → OnOk result (KeepPointers k held.old k held.new) }
 {
     let c = number_cell(cells, n, q)?;
     let bytes = spread(cells, c, bytes_in(size) as u32)?;
@@ -250,6 +256,7 @@ fn to_packet(
     requires source { HasNumber (length (seen cells.old.items)) b q }
     ensures leaves { (decls : List MapDecl) (ps : List PointerView) (node : ℕ) (is_ref : Bool) (t : Machine → Value) → AreInside decls (length (seen cells.old.items)) ps held.old kinds.now → IsSource decls ps node kinds.now held.old b q t → IfOk (access.stored decls kinds.now (kind_is.Packet o) offset size b) (λ e. OnOk result (Leaves decls ps node kinds.now held.old held.new (seen cells.old.items) (seen cells.new.items) (changed node is_ref false kinds.now e) (λ m. machine.stored m (is.Packet (pos o)) offset size (t m)))) }
     ensures rows { (decls : List MapDecl) (ps : List PointerView) (node : ℕ) (is_ref : Bool) → IfOk (access.stored decls kinds.now (kind_is.Packet o) offset size b) (λ e. OnOk result (StoresTo ps kinds.now held.old (changed node is_ref false kinds.now e) held.new (kind_is.Packet o) offset size b q (seen cells.old.items) (seen cells.new.items))) }
+    ensures points { (k : Kinds) → OnOk result (KeepPointers k held.old k held.new) }
 {
     are_whole(held, kinds);
     match packet_at(o, offset, size) {
@@ -277,6 +284,7 @@ fn store(
     requires plain { (q o : ℕ) → kind.register kinds.now insn.now.dst ≢ kind_is.Entry q o }
     ensures leaves { (decls : List MapDecl) (node : ℕ) (is_ref : Bool) → AreInside decls (length (seen cells.old.items)) (pointed pointers.now) held.old kinds.now → IfOk (access.stored decls kinds.now (kind.register kinds.now insn.now.dst) insn.now.offset size (operand kinds.now insn.now src)) (λ e. OnOk result (Leaves decls (pointed pointers.now) node kinds.now held.old held.new (seen cells.old.items) (seen cells.new.items) (changed node is_ref false kinds.now e) (λ m. machine.stored m (register m.registers insn.now.dst) insn.now.offset size (step.operand m.registers insn.now src)))) }
     ensures rows { (decls : List MapDecl) (node : ℕ) (is_ref : Bool) → IfOk (access.stored decls kinds.now (kind.register kinds.now insn.now.dst) insn.now.offset size (operand kinds.now insn.now src)) (λ e. OnOk result (StoresTo (pointed pointers.now) kinds.now held.old (changed node is_ref false kinds.now e) held.new (kind.register kinds.now insn.now.dst) insn.now.offset size (operand kinds.now insn.now src) (slice_index held.old.registers insn.now.src) (seen cells.old.items) (seen cells.new.items))) }
+    ensures points { (decls : List MapDecl) (node : ℕ) (is_ref : Bool) → IfOk (access.stored decls kinds.now (kind.register kinds.now insn.now.dst) insn.now.offset size (operand kinds.now insn.now src)) (λ e. OnOk result (KeepPointers kinds.now held.old (changed node is_ref false kinds.now e) held.new)) }
 {
     let base = kinds.registers[insn.dst as usize];
     let b = operand(kinds, insn, src);
@@ -303,6 +311,7 @@ pub fn carry_store(
     requires plain { (q o : ℕ) → kind.register kinds.now insn.now.dst ≢ kind_is.Entry q o }
     ensures carries { (decls : List MapDecl) (node : ℕ) (is_ref : Bool) → verdict (effect_of decls kinds.now insn.now) ≡ passed → AreInside decls (length (seen cells.old.items)) (pointed pointers.now) held.old kinds.now → OnOk result (Carries decls (pointed pointers.now) insn.now node is_ref false kinds.now held.old held.new (seen cells.old.items) (seen cells.new.items)) }
     ensures rows { (decls : List MapDecl) (node : ℕ) (is_ref : Bool) → verdict (effect_of decls kinds.now insn.now) ≡ passed → OnOk result (CarriesTo decls (λ row. held_row row (pointed pointers.now) held.old kinds.now) (pointed pointers.now) insn.now kinds.now held.old (transferred decls kinds.now insn.now node is_ref false) held.new (seen cells.old.items) (seen cells.new.items)) }
+    ensures points { (decls : List MapDecl) (node : ℕ) (is_ref : Bool) → verdict (effect_of decls kinds.now insn.now) ≡ passed → OnOk result (KeepPointers kinds.now held.old (transferred decls kinds.now insn.now node is_ref false) held.new) }
 {
     match insn.op {
         Op::StoreImm(size) => store(cells, pointers, held, kinds, insn, size, Src::K),

@@ -6,6 +6,7 @@ pub mod Shown
 pub mod Clocked
 pub mod Formed
 pub mod Reading
+pub mod Free
 pub mod Made
 pub mod Loops
 pub mod OrderLaws

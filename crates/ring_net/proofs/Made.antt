@@ -14,6 +14,7 @@ use Rattle.ring_net.proofs.Shown.{zeros_length, all_shown}
 use Rattle.ring_net.proofs.Clocked.{clocked}
 use Rattle.ring_net.proofs.Formed.{registers_are, typed, statement_is_spelled, moves_within}
 use Rattle.ring_net.proofs.Reading.{wires_read, statement_reads}
+use Rattle.ring_net.proofs.Free.{is_free}
 
 bits_of : (n : ℕ) → map bit (replicate n false) ≡ replicate n (word 1 0)
 bits_of zero = refl
@@ -48,6 +49,7 @@ module _ {P : Type 0} (c : ControlShape) (part : P) (nets : ControlNets P) where
         typed = λ d e p l. typed c part nets d e p l;
         wires_spelled = refl;
         statement_spelled = statement_is_spelled part c;
+        free = is_free c part nets;
       }
 
   pub made : (b : BlockTree (Name P)) → b ≡ control_tree c part nets → IsControl c part nets b

@@ -15,6 +15,7 @@ use Rattle.block_core.specs.Parts.{Solve, Goes, Within}
 use Rattle.block_core.specs.Order.{RightReads}
 use Rattle.block_core.specs.Formed.{block_registers, block_wires, name_width, IsTypedBlock, StatementReads}
 use Rattle.block_forms.specs.WellFormed.{wire_spelled}
+use Rattle.product_blocks.specs.Alone.{IsFree}
 use Rattle.ring_net.specs.declared.shape.ControlShape.{ControlShape}
 use Rattle.ring_net.specs.declared.names.Counter.{Counter}
 use Rattle.ring_net.specs.declared.names.Register.TheVariants.{Slot, Passed, Holds}
@@ -93,3 +94,4 @@ pub record IsControl {P : Type 0} (c : ControlShape) (part : P) (nets : ControlN
   pub typed : (d : Whole P) → d.block part ≡ b → name_width d port_list nets.partial ≡ 1 → name_width d port_list nets.last ≡ 1 → IsTypedBlock d port_list b
   pub wires_spelled : IsTrue (list_all wire_spelled b.wires)
   pub statement_spelled : IsTrue (statement_spelled b.statement)
+  pub free : IsFree b

@@ -66,7 +66,14 @@ or_true : (b : Bool) → (b || true) ≡ true
 or_true true = refl
 or_true false = refl
 
-either_of : (a b : Bool) → (a || b) ≡ true → (a ≡ true) ⊎ (b ≡ true)
+pub left_or : (a b : Bool) → a ≡ true → (a || b) ≡ true
+left_or a b e = rw e refl
+
+pub right_or : (a b : Bool) → b ≡ true → (a || b) ≡ true
+right_or true b e = refl
+right_or false b e = e
+
+pub either_of : (a b : Bool) → (a || b) ≡ true → (a ≡ true) ⊎ (b ≡ true)
 either_of true b e = inl refl
 either_of false b e = inr e
 

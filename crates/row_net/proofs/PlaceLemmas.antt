@@ -14,7 +14,8 @@ use Rattle.row_net.specs.Needed.{AreNeeded, flag}
 use Rattle.row_net.specs.Needed as needs
 use Rattle.row_net.specs.Lists.{varies, is_made, is_carried, made_cells, carried_cells, IsBrought, Same, Outside, Carried, CellsArePlaced, has_place, HavePlaces}
 use Rattle.row_net.specs.Table.{is_constant}
-use Rattle.row_net.proofs.ListLemmas.{kept_in, kept_before, any_of, of_any}
+use Rattle.row_net.proofs.ListLemmas.{left_or, right_or, either_of, kept_in, kept_before, any_of, of_any}
+use Rattle.row_net.proofs.EarlyLemmas.{early_takes}
 
 both_of : (a b : Bool) → (a && b) ≡ true → (a ≡ true) × (b ≡ true)
 both_of true b e = (refl, e)
@@ -22,17 +23,6 @@ both_of false b e = cc
 
 both : (a b : Bool) → a ≡ true → b ≡ true → (a && b) ≡ true
 both a b e f = rw (e, f) refl
-
-left_or : (a b : Bool) → a ≡ true → (a || b) ≡ true
-left_or a b e = rw e refl
-
-right_or : (a b : Bool) → b ≡ true → (a || b) ≡ true
-right_or true b e = refl
-right_or false b e = e
-
-either_of : (a b : Bool) → (a || b) ≡ true → (a ≡ true) ⊎ (b ≡ true)
-either_of true b e = inl refl
-either_of false b e = inr e
 
 not_of : (b : Bool) → not b ≡ true → b ≡ false
 not_of true e = cc
@@ -242,6 +232,8 @@ module _ (p : ProgramView) (plan : Plan) (needed : List Bool) where
 pub cells_placed : RowsRise → CellsArePlaced
 cells_placed rise p plan needed formed is are = record {
   inputs = λ at n lt m d within. input rise p plan needed formed is are at n lt m d within;
+  apart = λ at. early_takes p plan formed is.rows at (made_cells p plan needed at) (λ n d lt. let h = filter_passes (is_made p plan needed at) (numbers 0 (length p.cells)) n d lt in
+      (inside rise p plan needed formed is are _ (flag_of rise p plan needed formed is are _ (made_varies rise p plan needed formed is are at _ h)), made_row rise p plan needed formed is are at _ h));
   carried = λ at le m d within. carry rise p plan needed formed is are at _ (filter_passes (is_carried p plan needed at) (numbers 0 (length p.cells)) m d within);
   answer = answer rise p plan needed formed is are;
 }

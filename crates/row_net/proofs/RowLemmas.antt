@@ -1,5 +1,5 @@
 -- Wires of cells, one after another.
-use Rattle.std.specs.Prelude.{◌==◌, ◌≢◌, Option, Contains}
+use Rattle.std.specs.Prelude.{◌==◌, ◌≢◌, ◌||◌, Option, Contains}
 use Rattle.std.proofs.Common.{◌≡◌, ◌⊎◌, inl, inr, ℕ, zero, suc, ◌+◌, ◌<◌, Bool, true, false, Some, None, All, List, [], ◌∷◌, ◌++◌, length, take, get_or, set, map, refl, sym, ◌∙◌, ap, ap₂, subst, arith, slice_index}
 use Rattle.std.proofs.lemmas.Bool.{eqb-true, eqb-false}
 use Rattle.std.proofs.lemmas.List.{get_or-set_same, get_or-set_other, length-set, get_or-map}
@@ -9,16 +9,15 @@ use Rattle.net_core.specs.Value.{Env}
 use Rattle.xdp_machine.specs.State.{PacketIn}
 use Rattle.block_core.specs.declared.name.Name.{Name}
 use Rattle.block_core.specs.Blocks.{BlockWireTree}
-use Rattle.cell_core.specs.declared.operator.Operator.{Operator}
-use Rattle.cell_core.specs.declared.operator.Operator.TheVariants.{Quotient, Remainder}
 use Rattle.cell_core.specs.Cells.{CellView, cell_at, number, value, bits_from}
-use Rattle.cell_core.specs.Formed.{IsFormed, divides, takes}
+use Rattle.cell_core.specs.Formed.{IsFormed, divides}
 use Rattle.cell_nets.specs.declared.operand.Operand.{Operand}
-use Rattle.cell_nets.specs.Computing.{HasDivisor}
+use Rattle.cell_nets.specs.Computing.{makes_product, taken, HasDivisor}
 use Rattle.cell_nets.specs.Operands.{number_in, IsOperand, IsAvailable}
-use Rattle.cell_nets.specs.Wires.{behind, HasBits, Gives}
+use Rattle.cell_nets.specs.Wires.{behind, HasBits, GivesBy}
 use Rattle.row_net.specs.Table.{Stands, IsIn, IsTable, AreThere, Holds, AreOperands}
 use Rattle.row_net.specs.Made.{IsReady, AreValues, IsRow}
+use Rattle.row_net.proofs.ApartLemmas.{divides_two, taken_all, cell_apart}
 
 -- ---- a table with one entry changed
 module _ {N : Type 0} (table : List (Option (Operand N))) (k : ℕ) (a : Operand N) (inside : k < length table) where
@@ -66,24 +65,19 @@ values_are v val table (i ∷ ins) (a ∷ args) o h =
 pub args_all : {N : Type 0} (Q : Operand N → Type 0) (table : List (Option (Operand N))) (ins : List ℕ) (args : List (Operand N)) → AreOperands table ins args → ((k : ℕ) (a : Operand N) → Stands table k a → Q a) → All Q args
 args_all Q table ins args o h = λ n d lt. h (slice_index ins n) (get_or args n d) (o.each n d (omega (arith, lt, o.count)))
 
-divides_two : (op : Operator) → divides op ≡ true → takes op ≡ 2
-divides_two Quotient h = refl
-divides_two Remainder h = refl
-divides_two op h = cc
-
 -- ---- one cell
 pub cell_row :
     {P : Type 0} (p : P) (cells : List CellView) (k : ℕ) (old new : List (BlockWireTree (Name P))) (table after : List (Option (Operand (Name P)))) (args : List (Operand (Name P))) (out : Operand (Name P)) (none : PacketIn) → k < length cells → IsFormed cells k
     → IsTable cells table → AreOperands table (cell_at cells k).ins args → after ≡ set table k (Some out)
-    → ((packet : PacketIn) → Gives p old new args (HasDivisor (cell_at cells k).op args) (λ v. bits_from (number packet (cell_at cells k).op (map (number_in v) args)) (cell_at cells k).from (cell_at cells k).width) (cell_at cells k).width out)
+    → ((packet : PacketIn) → GivesBy (makes_product (cell_at cells k).op) p old new (taken (cell_at cells k).op args) (HasDivisor (cell_at cells k).op args) (λ v. bits_from (number packet (cell_at cells k).op (map (number_in v) args)) (cell_at cells k).from (cell_at cells k).width) (cell_at cells k).width out)
     → IsRow p cells (k ∷ []) old new table after
 cell_row {P} p cells k old new table after args out none within formed t o is gives = subst (IsRow p cells (k ∷ []) old new table) (sym is) row
   where
     inside : k < length table
     inside = omega (arith, within, t.count)
 
-    args_there : (outside : List (Operand (Name P))) → AreThere (behind p outside old) table → All (IsAvailable (behind p outside old)) args
-    args_there outside h = args_all (IsAvailable (behind p outside old)) table (cell_at cells k).ins args o h
+    args_there : (outside : List (Operand (Name P))) → AreThere (behind p outside old) table → All (IsAvailable (behind p outside old)) (taken (cell_at cells k).op args)
+    args_there outside h = taken_all (IsAvailable (behind p outside old)) (cell_at cells k).op args (args_all (IsAvailable (behind p outside old)) table (cell_at cells k).ins args o h)
 
     split : (Q : ℕ → Operand (Name P) → Type 0) → Q k out → ((j : ℕ) (b : Operand (Name P)) → Stands table j b → Q j b) → (j : ℕ) (b : Operand (Name P)) → Stands (set table k (Some out)) j b → Q j b
     split Q here rest j b s = by_cases (new_or_old table k out inside j b s)
@@ -117,6 +111,7 @@ cell_row {P} p cells k old new table after args out none within formed t o is gi
           let same : map (number_in v) args ≡ map val (cell_at cells k).ins = values_are v val table (cell_at cells k).ins args o holds in
           split (λ j b. number_in v b ≡ val j)
           (y.value v fit solved (some_divisor v packet val vals same) ∙ ap (λ l. bits_from (number packet (cell_at cells k).op l) (cell_at cells k).from (cell_at cells k).width) same ∙ sym (vals.each 0 0 (omega arith))) holds;
+      apart = λ clean marks t keep. cell_apart p cells k old new table (set table k (Some out)) args out clean marks o (gives none).apart (new_or_old table k out inside) t keep;
     }
       where
         one_made : All (IsIn (set table k (Some out))) (k ∷ [])
@@ -142,6 +137,7 @@ no_row p cells ws table t = record {
   wires = λ outside a h. a;
   there = λ outside a h. h;
   value = λ outside v packet val a h fit solved vals holds. holds;
+  apart = λ clean marks t keep. (marks, keep);
 }
 
 pub row_then :
@@ -161,6 +157,13 @@ row_then p cells xs ys old mid new a b c x y = record {
       let left : AreValues packet cells xs val = record { each = (both_all Is xs ys vals.each).0; divisors = (both_all Divides xs ys vals.divisors).0 } in
       let right : AreValues packet cells ys val = record { each = (both_all Is xs ys vals.each).1; divisors = (both_all Divides xs ys vals.divisors).1 } in
       y.value outside v packet val (x.wires outside aw h) (x.there outside aw h) fit solved right (x.value outside v packet val aw h fit (y.earlier v solved) left holds);
+  apart = λ clean marks t keep.
+      let Takes : ℕ → Type 0 = λ k. (clean k || makes_product (cell_at cells k).op) ≡ true → All (λ i. clean i ≡ true) (taken (cell_at cells k).op (cell_at cells k).ins) in
+      let Other : ℕ → Type 0 = λ k. clean k ≡ true → makes_product (cell_at cells k).op ≡ false in
+      let taking = both_all Takes xs ys t.inputs in
+      let other = both_all Other xs ys t.others in
+      let first = x.apart clean marks (record { inputs = taking.0; others = other.0 }) keep in
+      y.apart clean first.0 (record { inputs = taking.1; others = other.1 }) first.1;
 }
 
 -- one more of the cells that are to be made

@@ -1,4 +1,5 @@
 pub mod Table
+pub mod Apart
 pub mod Made
 pub mod Needed
 pub mod Lists

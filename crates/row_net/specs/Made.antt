@@ -1,5 +1,5 @@
 -- Wires for the cells of a row, in a table where they are read.
-use Rattle.std.specs.Prelude.{◌≡◌, ◌≢◌, ℕ, ◌<◌, true, false, Option, None, List, length, take, slice_index, All, Contains}
+use Rattle.std.specs.Prelude.{◌≡◌, ◌≢◌, ℕ, ◌<◌, Bool, true, false, Option, None, List, length, take, slice_index, All, Contains}
 use Rattle.std.proofs.Common.{get_or, ◌⊎◌}
 use Rattle.net_core.specs.Value.{Env}
 use Rattle.block_core.specs.declared.name.Name.{Name}
@@ -13,6 +13,7 @@ use Rattle.cell_nets.specs.Computing.{is_outside}
 use Rattle.cell_nets.specs.Operands.{AreFit, IsAvailable}
 use Rattle.cell_nets.specs.Wires.{behind, AreWires}
 use Rattle.row_net.specs.Table.{IsIn, IsTable, AreThere, Holds}
+use Rattle.row_net.specs.Apart.{TakeClean, KeepApart}
 
 -- The cells can be made in this order: each is computed, and what it takes is in the table or made before it.
 pub record IsReady {N : Type 0} (cells : List CellView) (table : List (Option (Operand N))) (made : List ℕ) : Type 0 where
@@ -26,7 +27,8 @@ pub record AreValues (packet : PacketIn) (cells : List CellView) (made : List �
   pub divisors : All (λ k. divides (cell_at cells k).op ≡ true → val (slice_index (cell_at cells k).ins 1) ≢ 0) made
 
 -- Wires and a table become more. The table gets the cells that are made, and nothing else changes in it. Whatever comes from outside, behind
--- the wires stands all that is in the table, and it has the values of the cells where that was so before and the made cells have values.
+-- the wires stands all that is in the table, and it has the values of the cells where that was so before and the made cells have values. Products
+-- stay apart, where they did and take clean cells alone.
 pub record IsRow {P : Type 0} (p : P) (cells : List CellView) (made : List ℕ) (old new : List (BlockWireTree (Name P))) (before after : List (Option (Operand (Name P)))) : Type 0 where
   pub table : IsTable cells after
   pub all_in : All (IsIn after) made
@@ -39,3 +41,4 @@ pub record IsRow {P : Type 0} (p : P) (cells : List CellView) (made : List ℕ) 
   pub value :
       (outside : List (Operand (Name P))) (v : Env (Name P)) (packet : PacketIn) (val : ℕ → ℕ) → AreWires p outside old → AreThere (behind p outside old) before → AreFit v outside → Solve v p 0 new → AreValues packet cells made val
       → Holds v before val → Holds v after val
+  pub apart : (clean : ℕ → Bool) (marks : List Bool) → TakeClean clean cells made → KeepApart p clean marks old before → (next : List Bool) × KeepApart p clean next new after

@@ -3,4 +3,5 @@ mod BeatLemmas
 mod ChosenLemmas
 mod ShownLemmas
 mod FormLemmas
+mod FreeLemmas
 mod ScatterWhole

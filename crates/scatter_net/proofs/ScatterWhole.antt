@@ -12,6 +12,7 @@ use Rattle.frame_net.proofs.FormLaws.{and_is}
 use Rattle.scatter_net.proofs.BeatLemmas.{beat_spelled}
 use Rattle.scatter_net.proofs.FormLemmas.{widths_are, is_typed, in_order, words_spelled, words_go}
 use Rattle.scatter_net.proofs.ShownLemmas.{shows_beat, moves}
+use Rattle.scatter_net.proofs.FreeLemmas.{is_free}
 
 pub scatters : {P : Type 0} (p gather exit : P) (bits : ℕ) (kept : List Kept) (words bytes : List ℕ) (taken slot : Name P) → 1 ≤ bits → bits ≤ 9 → ((j : ℕ) → j < length words → get_or words j 0 < 2 ^ 11) → ((b : ℕ) → Contains bytes b → Contains words (b / 8))
     → IsScatter p gather exit bits kept words bytes taken slot (scatter_block p gather exit bits kept words bytes taken slot)
@@ -30,4 +31,5 @@ scatters p gather exit bits kept words bytes taken slot some most small covered 
   has_last = λ v solved. ((v.net (name.Register p 0)).value == (v.net (name.Wire p 1)).value, solved.1.1.1.0);
   shows = λ v ms es pos at a r solved sees holds answer changes few. shows_beat p gather exit bits some kept words bytes slot covered v ms es pos at a r solved sees holds answer changes few;
   clock = λ v pos goes last few position t l. moves p taken v pos goes last few position t l;
+  free = is_free p gather exit bits kept words bytes taken slot;
 }

@@ -11,6 +11,7 @@ use Rattle.net_core.specs.Ports.{port_list}
 use Rattle.net_core.specs.Value.{word, bit, Env}
 use Rattle.net_core.specs.Clock.{Stored, done}
 use Rattle.design_rules.specs.FormedSyntax.{right_spelled, statement_spelled}
+use Rattle.product_blocks.specs.Alone.{IsFree}
 use Rattle.block_core.specs.declared.name.Name.{Name}
 use Rattle.block_core.specs.declared.name.Name.TheVariants as name
 use Rattle.block_core.specs.Blocks.{BlockTree, first_of, Whole, Among}
@@ -86,3 +87,4 @@ pub record IsScatter {P : Type 0} (part gather exit : P) (bits : ℕ) (kept : Li
   pub clock :
       (v : Env (Name P)) (pos : ℕ) (goes last : Bool) → pos < BEAT_LIMIT → v.net (name.Register part 0) ≡ word 11 pos → v.net taken ≡ bit goes → v.net (last_name part) ≡ bit last
       → done v b.statement (at_position pos) ≡ at_position (position_after goes last pos)
+  pub free : IsFree b

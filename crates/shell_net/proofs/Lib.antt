@@ -10,6 +10,7 @@ pub mod Answering
 pub mod Scattering
 pub mod Stepping
 pub mod Forming
+pub mod Apart
 pub mod Fitting
 pub mod Inputs
 pub mod Clocks

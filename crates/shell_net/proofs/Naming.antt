@@ -10,6 +10,7 @@ use Rattle.net_core.specs.declared.design.Design.{Design}
 use Rattle.net_core.specs.declared.design.Port.{Port}
 use Rattle.net_core.specs.View.{netlist_of}
 use Rattle.net_core.specs.Ports.{port_list, port_names}
+use Rattle.product_rules.specs.Products.{products_apart}
 use Rattle.design_rules.specs.Formed.{IsWellFormed}
 use Rattle.block_core.specs.declared.name.Name.{Name}
 use Rattle.block_core.specs.declared.block.Placed.{Placed}
@@ -26,6 +27,7 @@ use Rattle.shell_net.specs.Parts.{part_place, outputs_of}
 use Rattle.shell_net.specs.Layout.{Layout, IsLaidOut, AreParts}
 use Rattle.shell_net.specs.Following.{design, names_of}
 use Rattle.shell_net.proofs.Forming.{formed, spelled}
+use Rattle.shell_net.proofs.Apart.{apart}
 
 -- the nets of all parts, counted
 counted : {P A : Type 0} (g : P → List A) (count : P → ℕ) (ps : List P) → ((p : P) → length (g p) ≡ count p) → length (gather g ps) ≡ sum_by count ps
@@ -77,6 +79,9 @@ module _ (r : Result Design LinkError) (parts : List (Placed Part)) (words : ℕ
 
   pub linked_design : IfOk r (λ n. (l : Layout) (d : Whole Part) → length l.words ≡ words → Makes part_place parts d → netlist_of n ≡ design l d (names_of d))
   linked_design = IfOk-weaker r _ _ is_design linked
+
+  pub linked_apart : IfOk r (λ n. (l : Layout) (d : Whole Part) → length l.words ≡ words → Makes part_place parts d → IsLaidOut l → AreParts l d → IsTrue (products_apart (netlist_of n)))
+  linked_apart = IfOk-weaker r _ _ (λ n is l d w m laid are. ap products_apart (is l d w m) ∙ apart l d laid are (names_of d)) linked_design
 
   pub linked_well : ((d : Whole Part) → Makes part_place parts d → (IsTrue (design_in_range d outputs) → ⊥) → IsErr r)
       → IfOk r (λ n. (l : Layout) (d : Whole Part) → length l.words ≡ words → Makes part_place parts d → IsLaidOut l → AreParts l d → IsWellFormed (netlist_of n))

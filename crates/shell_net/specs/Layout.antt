@@ -10,6 +10,7 @@ use Rattle.cell_core.specs.declared.program.FrameByte.{FrameByte}
 use Rattle.cell_core.specs.Cells.{CellView, cell_at, is_read, value}
 use Rattle.cell_nets.specs.declared.operand.Operand.{Operand}
 use Rattle.cell_nets.specs.Operands.{AreFit}
+use Rattle.product_blocks.specs.Alone.{IsApartAlone}
 use Rattle.pipe_core.specs.Machine.{Build}
 use Rattle.pipe_core.specs.Computed.{IsPlanned}
 use Rattle.ring_net.specs.declared.shape.ControlShape.{ControlShape}
@@ -119,4 +120,5 @@ pub record AreParts (l : Layout) (d : Whole Part) : Type 0 where
   pub scatter : IsScatter Scatter Gather Exit l.shape.slot_bits l.kept l.words (byte_numbers l.answer) (told_by wire.Taken) (next_slot Given) (d.block Scatter)
   pub exit : IsExit l.shape.slot_bits l.words (told_by wire.Exits) (next_slot Answered) l.answer (d.block Exit)
   pub places : (k : ℕ) → k ≤ last_of l → IsPlace (Place k) (cells_of l) (l.made k) (l.carried k) (outside l k) (l.table k) (d.block (Place k))
+  pub apart : (k : ℕ) → k ≤ last_of l → IsApartAlone (Place k) (d.block (Place k))
   pub enters : ReadsSources l (d.block (Place 0)).wires

@@ -1,10 +1,11 @@
 //! The design that is linked of the parts of a pipeline.
 
-ghost use Rattle.std.specs.Prelude.{◌≡◌, ◌≤◌, IfOk, List, length, map, take, string_bytes};
+ghost use Rattle.std.specs.Prelude.{◌≡◌, ◌≤◌, IfOk, IsTrue, List, length, map, take, string_bytes};
 ghost use Rattle.net_core.specs.Nets.{TRead, TConst};
 ghost use Rattle.net_core.specs.Ports.{port_list, port_names};
 ghost use Rattle.net_core.specs.Value.{word};
 ghost use Rattle.net_core.specs.View.{netlist_of};
+ghost use Rattle.product_rules.specs.Products.{products_apart};
 ghost use Rattle.design_rules.specs.Formed.{IsWellFormed};
 ghost use Rattle.block_core.specs.Blocks.{Whole};
 ghost use Rattle.block_core.specs.View.{output_of, Makes};
@@ -89,12 +90,13 @@ fn texts(alloc: Global, all: &[&str]) -> Result<Vec<String>, AllocError>
 }
 
 /// The design that is linked of the parts of a pipeline, each at its place, where so many words of a frame may change. Its nets are
-/// numbered. Where the parts are blocks of their contracts, it is well formed, and [`crate::laws::pipelines_follow`] says what its
-/// clocks do.
+/// numbered. Where the parts are blocks of their contracts, it is well formed, no product stands inside an operand of another in one
+/// clock, and [`crate::laws::pipelines_follow`] says what its clocks do.
 pub fn link_pipeline(alloc: Global, words: u32, parts: &[Placed<Part>]) -> Result<Design, LinkError>
     requires few { words ≤ 255 }
     ensures netlist { IfOk result (λ n. (l : Layout) (d : Whole Part) → length l.words ≡ words → Makes part_place parts.now d → netlist_of n ≡ design l d (names_of d)) }
     ensures formed { IfOk result (λ n. (l : Layout) (d : Whole Part) → length l.words ≡ words → Makes part_place parts.now d → IsLaidOut l → AreParts l d → IsWellFormed (netlist_of n)) }
+    ensures apart { IfOk result (λ n. (l : Layout) (d : Whole Part) → length l.words ≡ words → Makes part_place parts.now d → IsLaidOut l → AreParts l d → IsTrue (products_apart (netlist_of n))) }
 {
     let outputs = outputs(alloc, words)?;
     let names = texts(alloc, &PORT_NAMES)?;

@@ -26,7 +26,8 @@ use Rattle.held_cells.specs.Rows.{cells_of_pointer, value_row, map_used, row_bef
 use Rattle.held_cells.proofs.RowLaws.{grows_by, put_register}
 use Rattle.site_cells.specs.declared.here.Here.{Here}
 use Rattle.site_cells.specs.Siting.{access_site}
-use Rattle.site_cells.proofs.Leaving.{trans_le, register_before, register_leaves, nothing_leaves}
+use Rattle.site_cells.proofs.Shedding.{written_sheds}
+use Rattle.site_cells.proofs.Leaving.{trans_le, register_before, nothing_leaves, shed_leaves}
 use Rattle.site_cells.proofs.Recording.{made_taken, made_result, written_taken, open_register, one_write}
 
 -- ---- what is read
@@ -64,7 +65,7 @@ module _ (decls : List MapDecl) (i : Insn) (here : Here) (k : Kinds) (h : Held) 
       let made : (ℕ → ℕ) → ℕ = λ row. made_row (before row) decls k after i in
       let result : (ℕ → ℕ) → ℕ = λ row. result_row (before row) decls k after i in
       let own : (row : ℕ → ℕ) → AreRows new row → value_row row ps (Num Unknown) answer ≤ result row = λ row rows. omega (arith, rises.result row rows) in
-      let leaves = register_leaves ps h k (map_used k i i.op) here.pending old new made result (Num Unknown) r answer small ks hs (grows_by rises.grows (λ row. made_result (before row) decls k after i opened)) own in
+      let leaves = shed_leaves ps ps h k (with_register k r (Num Unknown)) r answer (Num Unknown) (map_used k i i.op) here.pending old new made result (written_sheds k r (Num Unknown) small ks) small hs (λ row place. omega arith) (grows_by rises.grows (λ row. made_result (before row) decls k after i opened)) own in
       record {
         carries = subst (λ (ws : List Span). LeavesTo before ps h after (put_register h r answer) old new ws made result) (sym writes)
             (subst (λ (x : Kinds). LeavesTo before ps h x (put_register h r answer) old new (one r ∷ no_place ∷ []) made result) (sym becomes) leaves);

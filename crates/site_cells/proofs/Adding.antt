@@ -1,5 +1,5 @@
 -- One site more, and what its cells read.
-use Rattle.std.proofs.Common.{◌≡◌, ℕ, ◌<◌, true, Some, List, [], ◌∷◌, ◌++◌, length, length-append, take, get_or, refl, sym, ◌∙◌, ap, subst, arith}
+use Rattle.std.proofs.Common.{◌≡◌, ℕ, ◌<◌, ◌≤◌, true, Some, List, [], ◌∷◌, ◌++◌, length, length-append, take, get_or, refl, sym, ◌∙◌, ap, subst, arith}
 use Rattle.std.proofs.Math.ListN.{get_or-append}
 use Rattle.std.proofs.Math.Seq.{get_or-append_seam}
 use Rattle.std.specs.Prelude.{All}
@@ -51,6 +51,9 @@ read_added old new c op ins are width adds e = record {
   is = ap (λ (cells : List CellView). cell_at cells c) adds.is ∙ ap (cell_at (old ++ (record { op = op; ins = ins; width = width; from = 0 }) ∷ [])) adds.at
       ∙ get_or-append_seam old (record { op = op; ins = ins; width = width; from = 0 }) [] no_cell ∙ ap (λ (is : List ℕ). record { op = op; ins = is; width = width; from = 0 }) e;
 }
+
+pub added_alone : (old new : List CellView) (c : ℕ) (cell : CellView) → Adds old new c cell → (d : ℕ) → length old ≤ d → d < length new → d ≡ c
+added_alone old new c cell adds d low high = omega (arith, low, high, adds.at, ap length adds.is, length-append old (cell ∷ []))
 
 -- a cell that reads stays
 pub read_later : (R : ℕ → ℕ → Type 0) (old new : List CellView) (c : ℕ) (op : Operator) (ins : List ℕ) (width : ℕ) → GrowsWith R old new → IsReadOf old c op ins width → IsReadOf new c op ins width

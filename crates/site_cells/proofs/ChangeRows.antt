@@ -1,5 +1,5 @@
 -- In which rows stand the cells of updates and deletes.
-use Rattle.std.proofs.Common.{◌≡◌, ◌∙◌, ℕ, ◌+◌, ◌<◌, ◌≤◌, ℤ, pos, ◌==◌, if◌then◌else◌, max, Bool, true, false, Some, List, [], ◌∷◌, ◌++◌, length, get_or, slice_index, slice_set, refl, sym, ap, subst, arith}
+use Rattle.std.proofs.Common.{◌≡◌, ◌∙◌, ℕ, ◌+◌, ◌<◌, ◌≤◌, ℤ, pos, max, Bool, true, false, Some, List, [], ◌∷◌, ◌++◌, length, slice_index, slice_set, refl, sym, ap, subst, arith}
 use Rattle.std.specs.List.{list_any}
 use Rattle.std.specs.Ordering.{int_eq}
 use Rattle.bpf_isa.specs.declared.operation.Op.TheVariants.{Call}
@@ -8,9 +8,9 @@ use Rattle.xdp_maps.specs.declared.decl.MapDecl.{MapDecl}
 use Rattle.xdp_machine.proofs.ChangeLaws.{some_inj}
 use Rattle.kind_core.specs.declared.number.Number.TheVariants.{Unknown}
 use Rattle.kind_core.specs.declared.kind.Kind.{Kind}
-use Rattle.kind_core.specs.declared.kind.Kind.TheVariants.{Unset, Num, MapRef, Maybe, Entry, Stale}
+use Rattle.kind_core.specs.declared.kind.Kind.TheVariants.{Num, MapRef}
 use Rattle.kind_core.specs.declared.kind.Kinds.{Kinds}
-use Rattle.kind_core.specs.Kinds.{register, answering, is_hash, key_bytes, value_bytes}
+use Rattle.kind_core.specs.Kinds.{register, key_bytes, value_bytes}
 use Rattle.kind_core.specs.Calls as calls
 use Rattle.kind_core.specs.Tests.{passed}
 use Rattle.kind_core.specs.Effects.{effect_of, verdict}
@@ -27,49 +27,16 @@ use Rattle.place_rows.specs.Spans.{no_place, one, region, map_of, pending_of, va
 use Rattle.place_rows.specs.Reading.{key_span, call_reads, result_row}
 use Rattle.place_rows.specs.Writing.{writes_as, record_as, called_on, is_open_in, taken_row, made_row}
 use Rattle.held_cells.specs.declared.held.Held.{Held}
-use Rattle.held_cells.specs.Held.{PointerView, AreInside}
+use Rattle.held_cells.specs.Held.{PointerView}
 use Rattle.held_cells.specs.Rows.{value_row, held_row, map_used, row_before, is_some_place, written_row, LeavesTo, OperatesTo}
 use Rattle.held_cells.proofs.RowLaws.{grows_by, put_register}
 use Rattle.site_cells.specs.declared.here.Here.{Here}
 use Rattle.site_cells.specs.Siting.{Changes, change_site}
 use Rattle.site_cells.proofs.Allowed.{delete_allowed, update_allowed}
-use Rattle.site_cells.proofs.Stale.{stale, stale_all, stale_at, becomes}
-use Rattle.site_cells.proofs.Leaving.{trans_le, span_before, register_before, pending_before, Sheds, IsLess, among_same, answer_leaves}
-use Rattle.site_cells.proofs.LookupRows.{call_used, call_writes, call_result, key_is_span, answering_sheds}
+use Rattle.site_cells.proofs.Shedding.{Sheds, changed_sheds}
+use Rattle.site_cells.proofs.Leaving.{trans_le, span_before, register_before, pending_before, shed_leaves}
+use Rattle.site_cells.proofs.LookupRows.{call_used, call_writes, call_result, key_is_span}
 use Rattle.site_cells.proofs.Recording.{made_taken, made_result, written_taken, written_result, open_register, some_place, one_write}
-
--- ---- what a change leaves of kinds
-less_stale : (q : ℕ) (x : Kind) → IsLess x (stale q x)
-less_stale q (Maybe p n) row ps c = by (p == q)
-  where
-    by : (t : Bool) → value_row row ps (if t then Stale else Maybe p n) c ≤ value_row row ps (Maybe p n) c
-    by true = omega arith
-    by false = omega arith
-less_stale q (Entry p o) row ps c = by (p == q)
-  where
-    by : (t : Bool) → value_row row ps (if t then Stale else Entry p o) c ≤ value_row row ps (Entry p o) c
-    by true = omega arith
-    by false = omega arith
-less_stale q x row ps c = omega arith
-
-stale_sheds : (q : ℕ) (k after : Kinds) → Sheds k after (Num Unknown) → Sheds k (stale_all q after) (Num Unknown)
-stale_sheds q k after sheds = record {
-  answer = stale_at q after.registers 0 ∙ ap (stale q) sheds.answer;
-  registers = λ r l other row ps c. subst (λ (x : Kind). value_row row ps x c ≤ value_row row ps (register k r) c) (sym (stale_at q after.registers r))
-      (trans_le (less_stale q (register after r) row ps c) (sheds.registers r l other row ps c));
-  slots = λ s l row ps c. subst (λ (x : Kind). value_row row ps x c ≤ value_row row ps (get_or k.slots s Unset) c) (sym (stale_at q after.slots s))
-      (trans_le (less_stale q (get_or after.slots s Unset) row ps c) (sheds.slots s l row ps c));
-}
-
-pub changed_sheds : (decls : List MapDecl) (q node : ℕ) (is_ref taken : Bool) (k : Kinds) → Sheds k (changed node is_ref taken k (calls.change_of decls q)) (Num Unknown)
-changed_sheds decls q node is_ref taken k = subst (λ (x : Kinds). Sheds k x (Num Unknown)) (sym (becomes decls q node is_ref taken k)) (by (is_hash decls q))
-  where
-    all : Sheds k (answering (Num Unknown) k) (Num Unknown)
-    all = answering_sheds k (Num Unknown)
-
-    by : (t : Bool) → Sheds k (if t then stale_all q (answering (Num Unknown) k) else answering (Num Unknown) k) (Num Unknown)
-    by true = stale_sheds q k (answering (Num Unknown) k) all
-    by false = all
 
 -- ---- a change
 module _ (decls : List MapDecl) (i : Insn) (here : Here) (is_ref : Bool) (k : Kinds) (h : Held) (ps : List PointerView) (q : ℕ) (z : ℤ) (op : i.op ≡ Call) (imm : i.imm ≡ z) (plain : int_eq z (pos 23) ≡ false) (map : register k 1 ≡ MapRef q)
@@ -106,11 +73,11 @@ module _ (decls : List MapDecl) (i : Insn) (here : Here) (is_ref : Bool) (k : Ki
       (span_before row ps h k (map_used k i i.op) here.pending (region base (pos 0) count))
 
   pub change_rows : (old new : List CellView) (sites sites2 : List SiteView) (a : Act) (key operands : List ℕ) (c : ℕ) (takes : List Span) → record_as decls k i i.op ≡ Some (record { map = q; takes = takes }) → length h.registers ≡ 11
-      → AreInside decls (length old) ps h k → GrowsTo old new (λ row. max (last row) (taken row)) → ((row : ℕ → ℕ) → AreRows new row → row c ≤ last row)
+      → GrowsTo old new (λ row. max (last row) (taken row)) → ((row : ℕ → ℕ) → AreRows new row → row c ≤ last row)
       → ((row : ℕ → ℕ) → AreRows new row → greatest row (key ++ operands) ≤ max (last row) (taken row)) → sites2 ≡ sites ++ change_site here q a key operands ∷ []
       → OperatesTo decls i here.pending k h after (put_register h 0 c) old new ps ps sites sites2
-  change_rows old new sites sites2 a key operands c takes write whole inside grows own taken_low sites_are =
-      let sheds : Sheds k after (Num Unknown) = subst (λ (x : Kinds). Sheds k x (Num Unknown)) (sym is) (changed_sheds decls q here.node is_ref false k) in
+  change_rows old new sites sites2 a key operands c takes write whole grows own taken_low sites_are =
+      let sheds : Sheds k after 0 (Num Unknown) = subst (λ (x : Kinds). Sheds k x 0 (Num Unknown)) (sym is) (changed_sheds decls q here.node is_ref false k) in
       let opened : list_any (is_open_in after) (writes_as k i i.op) ≡ true = ap (list_any (is_open_in after)) writes ∙ open_register after (Num Unknown) 0 (omega arith) sheds.answer refl in
       let some : is_some_place (writes_as k i i.op) ≡ true = ap is_some_place writes ∙ some_place 0 in
       let made : (ℕ → ℕ) → ℕ = λ row. made_row (before row) decls k after i in
@@ -119,7 +86,7 @@ module _ (decls : List MapDecl) (i : Insn) (here : Here) (is_ref : Bool) (k : Ki
       let written : (row : ℕ → ℕ) → max (last row) (taken row) ≤ all row = λ row. let a = written_result (before row) decls k after i some in let b = written_taken (before row) decls k after i in omega (arith, a, b) in
       record {
         carries = subst (λ (ws : List Span). LeavesTo before ps h after (put_register h 0 c) old new ws made last) (sym writes)
-            (answer_leaves decls (length old) ps ps h k after (Num Unknown) c sheds inside (among_same decls (length old) ps) (map_used k i i.op) here.pending old new made last whole (grows_by grows makes) (λ row rows. let r = own row rows in omega (arith, r)));
+            (shed_leaves ps ps h k after 0 c (Num Unknown) (map_used k i i.op) here.pending old new made last sheds (omega arith) whole (λ row place. omega arith) (grows_by grows makes) (λ row rows. let r = own row rows in omega (arith, r)));
         writes = λ row rows. one_write (record_as decls k i i.op) old new sites sites2 (change_site here q a key operands) row (all row) sites_are (record { map = q; takes = takes }) write refl (trans_le (taken_low row rows) (written row))
             (λ cell j behind before_end e. trans_le (grows.each row rows cell behind before_end) (written row));
         declared = λ p e. subst (λ (n : ℕ). n < length decls) (some_inj q p (sym used ∙ e)) there;
@@ -127,11 +94,11 @@ module _ (decls : List MapDecl) (i : Insn) (here : Here) (is_ref : Bool) (k : Ki
 
 -- ---- deletes
 pub delete_rows : (decls : List MapDecl) (i : Insn) (here : Here) (is_ref : Bool) (k : Kinds) (h : Held) (old mid new : List CellView) (ps : List PointerView) (sites sites2 : List SiteView) (base : Kind) (count map c : ℕ) (key words looked none : List ℕ)
-    → i.op ≡ Call → i.imm ≡ pos 3 → verdict (effect_of decls k i) ≡ passed → length h.registers ≡ 11 → AreInside decls (length old) ps h k
+    → i.op ≡ Call → i.imm ≡ pos 3 → verdict (effect_of decls k i) ≡ passed → length h.registers ≡ 11
     → base ≡ register k 2 → count ≡ key_bytes decls map → ((q : ℕ) → register k 1 ≡ MapRef q → map ≡ q) → key ≡ words → looked ≡ [] → none ≡ []
     → RiseAll old mid words (λ row. span_row (held_row row ps h k) (region base (pos 0) count)) → Changes mid new sites sites2 here map act.Delete key looked none c
     → OperatesTo decls i here.pending k h (transferred decls k i here.node is_ref false) (record h { registers = slice_set h.registers 0 c }) old new ps ps sites sites2
-delete_rows decls i here is_ref k h old mid new ps sites sites2 base count map c key words looked none op imm allowed whole inside base_is count_is map_is key_is looked_is none_is rises made =
+delete_rows decls i here is_ref k h old mid new ps sites sites2 base count map c key words looked none op imm allowed whole base_is count_is map_is key_is looked_is none_is rises made =
     let f = delete_allowed decls k i op imm allowed in
     let is = f.4 here.node is_ref false in
     let before : (ℕ → ℕ) → ℕ → ℕ = λ row. row_before row ps h k (map_used k i i.op) here.pending in
@@ -147,7 +114,7 @@ delete_rows decls i here is_ref k h old mid new ps sites sites2 base count map c
     let l = low row in let r = result row in let w = wait row in
     omega (arith, g, l, r, w, ap (greatest row) key_is, ap (greatest row) looked_is, greatest_append row (key ++ looked) (here.pending ∷ []), greatest_append row key looked) in
     let all = rises_then first made.rises (λ row p. let r = reading row p.1 in omega (arith, r)) in
-    change_rows decls i here is_ref k h ps f.0 (pos 3) op imm refl f.1 f.2 is old new sites sites2 act.Delete key none c (key_span decls k ∷ no_place ∷ no_place ∷ []) (record_is decls i here is_ref k h ps f.0 (pos 3) op imm refl f.1 f.2 is) whole inside all.grows
+    change_rows decls i here is_ref k h ps f.0 (pos 3) op imm refl f.1 f.2 is old new sites sites2 act.Delete key none c (key_span decls k ∷ no_place ∷ no_place ∷ []) (record_is decls i here is_ref k h ps f.0 (pos 3) op imm refl f.1 f.2 is) whole all.grows
     (λ row rows. trans_le (made.rises.result row rows) (reading row (first.known row (made.rises.grows.rows row rows)).1))
     (λ row rows. let g = (first.known row (made.rises.grows.rows row rows)).1 in let l = low row in let r = result row in
     omega (arith, g, l, r, ap (greatest row) key_is, ap (greatest row) none_is, greatest_append row key none))
@@ -155,12 +122,12 @@ delete_rows decls i here is_ref k h old mid new ps sites sites2 base count map c
 
 -- ---- updates
 pub update_rows : (decls : List MapDecl) (i : Insn) (here : Here) (is_ref : Bool) (k : Kinds) (h : Held) (old mid next end new : List CellView) (ps : List PointerView) (sites sites2 : List SiteView) (base second : Kind) (count size map c flags : ℕ) (key words looked values operands : List ℕ)
-    → i.op ≡ Call → i.imm ≡ pos 2 → verdict (effect_of decls k i) ≡ passed → length h.registers ≡ 11 → AreInside decls (length old) ps h k
+    → i.op ≡ Call → i.imm ≡ pos 2 → verdict (effect_of decls k i) ≡ passed → length h.registers ≡ 11
     → base ≡ register k 2 → second ≡ register k 3 → count ≡ key_bytes decls map → size ≡ value_bytes decls map → ((q : ℕ) → register k 1 ≡ MapRef q → map ≡ q) → key ≡ words → looked ≡ flags ∷ [] → operands ≡ flags ∷ values
     → RiseAll old mid words (λ row. span_row (held_row row ps h k) (region base (pos 0) count)) → RiseAll mid next values (λ row. span_row (held_row row ps h k) (region second (pos 0) size))
     → Rises next end flags (λ row. value_row row ps (register k 4) (slice_index h.registers 4)) → Changes end new sites sites2 here map act.Update key looked operands c
     → OperatesTo decls i here.pending k h (transferred decls k i here.node is_ref false) (record h { registers = slice_set h.registers 0 c }) old new ps ps sites sites2
-update_rows decls i here is_ref k h old mid next end new ps sites sites2 base second count size map c flags key words looked values operands op imm allowed whole inside base_is second_is count_is size_is map_is key_is looked_is operands_are rises others flag made =
+update_rows decls i here is_ref k h old mid next end new ps sites sites2 base second count size map c flags key words looked values operands op imm allowed whole base_is second_is count_is size_is map_is key_is looked_is operands_are rises others flag made =
     let f = update_allowed decls k i op imm allowed in
     let is = f.7 here.node is_ref false in
     let before : (ℕ → ℕ) → ℕ → ℕ = λ row. row_before row ps h k (map_used k i i.op) here.pending in
@@ -190,7 +157,7 @@ update_rows decls i here is_ref k h old mid next end new ps sites sites2 base se
     omega (arith, g, e, l, v, w, result row, ap (greatest row) key_is, ap (greatest row) looked_is, greatest_append row (key ++ looked) (here.pending ∷ []), greatest_append row key looked) in
     let all = rises_then three made.rises (λ row p. let r = reading row p.0.0.1 p.1 in omega (arith, r)) in
     let known = λ (row : ℕ → ℕ) (rows : AreRows new row). three.known row (made.rises.grows.rows row rows) in
-    change_rows decls i here is_ref k h ps f.0 (pos 2) op imm refl f.1 f.2 is old new sites sites2 act.Update key operands c takes write whole inside all.grows
+    change_rows decls i here is_ref k h ps f.0 (pos 2) op imm refl f.1 f.2 is old new sites sites2 act.Update key operands c takes write whole all.grows
     (λ row rows. let p = known row rows in trans_le (made.rises.result row rows) (reading row p.0.0.1 p.1))
     (λ row rows. let p = known row rows in let l = key_under row in let v = value_low row in let e = flag_low row in
     omega (arith, p.0.0.1, p.0.1, p.1, l, v, e, ap (greatest row) key_is, ap (greatest row) operands_are, greatest_append row key operands))

@@ -1,5 +1,5 @@
 -- Entries that pointers lead to.
-use Rattle.std.proofs.Common.{◌≡◌, ℕ, ◌+◌, ◌*◌, ◌%◌, ◌^◌, ◌<◌, ◌≤◌, ◌==◌, nat_le, ℤ, pos, negsuc, ◌+ℤ◌, if◌then◌else◌, Bool, true, false, Option, Some, None, Result, Ok, Err, List, length, slice_range, slice_index, refl, sym, ◌∙◌, ap, subst, arith}
+use Rattle.std.proofs.Common.{◌≡◌, ℕ, ◌+◌, ◌*◌, ◌%◌, ◌^◌, ◌<◌, ◌≤◌, ◌==◌, nat_le, ℤ, pos, negsuc, ◌+ℤ◌, if◌then◌else◌, Bool, true, false, Option, Some, None, Result, Ok, Err, List, length, get_or, slice_range, slice_index, refl, sym, ◌∙◌, ap, subst, arith}
 use Rattle.std.specs.Prelude.{All, slice_get, IfSome}
 use Rattle.std.proofs.Math.Nat.{div-one, mod-eq_of_lt}
 use Rattle.std.proofs.lemmas.Option.{slice_get_within}
@@ -29,8 +29,10 @@ use Rattle.kind_core.specs.Tests as tests
 use Rattle.kind_core.proofs.TestLaws.{bind_passed}
 use Rattle.cell_core.specs.Cells.{bits_from}
 use Rattle.held_cells.specs.declared.held.Held.{Held}
-use Rattle.held_cells.specs.Held.{PointerView, IsPointer, Holds, Counts, AreInside, pointer_at, key_of}
+use Rattle.held_cells.specs.declared.held.Pointer.{Pointer}
+use Rattle.held_cells.specs.Held.{PointerView, pointer_of, pointed, IsPointer, Holds, Counts, AreInside, pointer_at, key_of}
 use Rattle.held_cells.specs.Carrying.{IsKnown}
+use Rattle.site_cells.proofs.Adding.{pointed_count, pointer_seen}
 use Rattle.site_cells.proofs.Slots.{bound}
 use Rattle.site_cells.proofs.OneSite.{is_declared}
 
@@ -113,3 +115,14 @@ place_fits decls q a z size p at =
 pub entry_pointer : (decls : List MapDecl) (n : ℕ) (ps : List PointerView) (k : Kinds) (h : Held) (r q o : ℕ) → AreInside decls n ps h k → r ≤ 10 → kinds.register k r ≡ Entry q o
     → (slice_index h.registers r < length ps) × IsPointer decls n q (pointer_at ps (slice_index h.registers r))
 entry_pointer decls n ps k h r q o inside l e = subst (λ (x : Kind). Counts decls n ps x (slice_index h.registers r)) e (inside.registers r l)
+
+-- the same in memory
+module _ (ps : List Pointer) {decls : List MapDecl} {n : ℕ} {k : Kinds} {h : Held} {r q o : ℕ} (inside : AreInside decls n (pointed ps) h k) (small : r ≤ 10) (base : kinds.register k r ≡ Entry q o) where
+  pub entry_index : slice_index h.registers r < length ps
+  entry_index = omega (arith, (entry_pointer decls n (pointed ps) k h r q o inside small base).0, pointed_count ps (length ps) refl)
+
+  pub entry_seen : {p : Pointer} → p ≡ get_or ps (slice_index h.registers r) p → pointer_of p ≡ pointer_at (pointed ps) (slice_index h.registers r)
+  entry_seen {p} is = pointer_seen ps (slice_index h.registers r) p entry_index is
+
+  pub entry_there : {p : Pointer} → p ≡ get_or ps (slice_index h.registers r) p → IsPointer decls n q (pointer_of p)
+  entry_there {p} is = subst (IsPointer decls n q) (sym (entry_seen is)) (entry_pointer decls n (pointed ps) k h r q o inside small base).1

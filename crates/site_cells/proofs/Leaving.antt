@@ -1,14 +1,13 @@
 -- In which rows stands what is held behind an operation on a map.
 use Rattle.std.proofs.Common.{◌≡◌, ◌≢◌, ℕ, ◌+◌, ◌-◌, ◌<◌, ◌≤◌, ◌⊎◌, inl, inr, ◌==◌, nat_lt, ◌||◌, if◌then◌else◌, Bool, true, false, Option, Some, List, [], ◌∷◌, ◌++◌, length, get_or, slice_index, refl, sym, subst, arith}
 use Rattle.std.specs.List.{list_any}
-use Rattle.std.proofs.lemmas.Bool.{cases_lt, lt-ltb, le-ltb}
-use Rattle.std.proofs.lemmas.List.{get_or-set_same, get_or-set_other}
+use Rattle.std.proofs.lemmas.Bool.{cases_lt, ltb-true, ltb-false, lt-ltb, le-ltb}
 use Rattle.xdp_maps.specs.declared.decl.MapDecl.{MapDecl}
 use Rattle.kind_core.specs.declared.number.Number.TheVariants.{Unknown}
 use Rattle.kind_core.specs.declared.kind.Kind.{Kind}
-use Rattle.kind_core.specs.declared.kind.Kind.TheVariants.{Unset, Num, Maybe, Entry}
+use Rattle.kind_core.specs.declared.kind.Kind.TheVariants.{Unset, Num, Maybe, Entry, Stale}
 use Rattle.kind_core.specs.declared.kind.Kinds.{Kinds}
-use Rattle.kind_core.specs.Kinds.{register, with_register}
+use Rattle.kind_core.specs.Kinds.{register}
 use Rattle.cell_core.specs.Cells.{CellView}
 use Rattle.cell_core.specs.Rows.{AreRows, greatest}
 use Rattle.operator_cells.specs.Rising.{GrowsTo}
@@ -17,9 +16,10 @@ use Rattle.place_rows.specs.Spans.{no_place, one, pending, pending_in, is_in, sp
 use Rattle.place_rows.proofs.SpanLaws.{in_none, in_one, is_inside, span_above, span_within}
 use Rattle.held_cells.specs.declared.held.Held.{Held}
 use Rattle.held_cells.specs.Held.{PointerView, Counts, AreInside}
-use Rattle.held_cells.specs.Rows.{number_at, cells_of_pointer, value_row, held_row, row_before, LeavesTo}
-use Rattle.held_cells.proofs.RowLaws.{register_row, slot_row, put_register, register_changed, register_kept}
+use Rattle.held_cells.specs.Rows.{kind_at, number_at, cells_of_pointer, value_row, held_row, row_before, LeavesTo}
+use Rattle.held_cells.proofs.RowLaws.{register_row, put_register}
 use Rattle.site_cells.proofs.Adding.{old_pointer}
+use Rattle.site_cells.proofs.Shedding.{IsBare, IsLess, Sheds, answer_kind, shed_kind, number_put, number_kept}
 
 pub trans_le : {a b c : ℕ} → a ≤ b → b ≤ c → a ≤ c
 trans_le p q = omega (arith, p, q)
@@ -77,13 +77,6 @@ not_first place r is = by (is_in place (one r)) refl is
     by true e g = absurd (cc)
     by false e g = λ same. let t : is_in place (one r) ≡ true = is_inside place (one r) (omega (arith, same)) (omega (arith, same)) in absurd (cc)
 
-number_kept : (h : Held) (r c place : ℕ) → place ≢ r → number_at (put_register h r c) place ≡ number_at h place
-number_kept h r c place other = by (nat_lt place 11) refl
-  where
-    by : (b : Bool) → nat_lt place 11 ≡ b → number_at (put_register h r c) place ≡ number_at h place
-    by true e = rw (e, get_or-set_other h.registers r place c 0 other) refl
-    by false e = rw e refl
-
 -- ---- nothing is written
 pub nothing_leaves : (ps : List PointerView) (h : Held) (k : Kinds) (q : Option ℕ) (c : ℕ) (old new : List CellView) (spans : List Span) (made result : (ℕ → ℕ) → ℕ) → ((place : ℕ) → list_any (is_in place) spans ≡ false) → GrowsTo old new made
     → LeavesTo (λ row. row_before row ps h k q c) ps h k h old new spans made result
@@ -97,82 +90,50 @@ nothing_leaves ps h k q c old new spans made result none grows = record {
 pub in_nothing : (place : ℕ) → list_any (is_in place) (no_place ∷ no_place ∷ []) ≡ false
 in_nothing place = rw (in_none place) refl
 
--- ---- one register gets a value
-pub register_leaves : (ps : List PointerView) (h : Held) (k : Kinds) (q : Option ℕ) (c : ℕ) (old new : List CellView) (made result : (ℕ → ℕ) → ℕ) (x : Kind) (r answer : ℕ) → r ≤ 10 → length k.registers ≡ 11 → length h.registers ≡ 11
-    → GrowsTo old new made → ((row : ℕ → ℕ) → AreRows new row → value_row row ps x answer ≤ result row)
-    → LeavesTo (λ row. row_before row ps h k q c) ps h (with_register k r x) (put_register h r answer) old new (one r ∷ no_place ∷ []) made result
-register_leaves ps h k q c old new made result x r answer small ks hs grows own = record {
-  grows = grows;
-  written = λ row rows place is. subst (λ (p : ℕ). held_row row ps (put_register h r answer) (with_register k r x) p ≤ result row) (sym (in_first place r is))
-      (subst (λ (n : ℕ). n ≤ result row) (sym (register_changed row ps h k x r answer (omega (arith, small)) ks hs)) (own row rows));
-  kept = λ row rows place is. subst (λ (n : ℕ). n ≤ row_before row ps h k q c place) (sym (register_kept row ps h k x r answer place (not_first place r is))) (held_before row ps h k q c place);
-  same = λ place l is. number_kept h r answer place (not_first place r is);
-}
-
--- ---- an answer of a helper is in R0, and other registers and slots hold what they held, or less
-abbrev pub IsLess : Kind → Kind → Type 0
-IsLess a b = (row : ℕ → ℕ) (ps : List PointerView) (c : ℕ) → value_row row ps b c ≤ value_row row ps a c
-
-pub record Sheds (k after : Kinds) (x : Kind) : Type 0 where
-  pub answer : register after 0 ≡ x
-  pub registers : (r : ℕ) → r < 11 → r ≢ 0 → IsLess (register k r) (register after r)
-  pub slots : (s : ℕ) → s < 64 → IsLess (get_or k.slots s Unset) (get_or after.slots s Unset)
-
--- pointers that were there stand among more
-abbrev pub Among : List MapDecl → ℕ → List PointerView → List PointerView → Type 0
-Among decls n ps qs = (row : ℕ → ℕ) (x : Kind) (c : ℕ) → Counts decls n ps x c → value_row row qs x c ≤ value_row row ps x c
-
-pub among_same : (decls : List MapDecl) (n : ℕ) (ps : List PointerView) → Among decls n ps ps
-among_same decls n ps row x c h = omega arith
-
-pub among_more : (decls : List MapDecl) (n : ℕ) (ps more : List PointerView) → Among decls n ps (ps ++ more)
+-- ---- more pointers
+among_more : (decls : List MapDecl) (n : ℕ) (ps more : List PointerView) (row : ℕ → ℕ) (x : Kind) (c : ℕ) → Counts decls n ps x c → value_row row (ps ++ more) x c ≤ value_row row ps x c
 among_more decls n ps more row (Maybe q j) c h = subst (λ (p : PointerView). greatest row (cells_of_pointer p) ≤ value_row row ps (Maybe q j) c) (sym (old_pointer ps more c h.0)) (omega arith)
 among_more decls n ps more row (Entry q o) c h = subst (λ (p : PointerView). greatest row (cells_of_pointer p) ≤ value_row row ps (Entry q o) c) (sym (old_pointer ps more c h.0)) (omega arith)
 among_more decls n ps more row (Num x) c h = omega arith
 among_more decls n ps more row x c h = omega arith
 
-module _ (decls : List MapDecl) (n : ℕ) (ps qs : List PointerView) (h : Held) (k after : Kinds) (x : Kind) (answer : ℕ) (sheds : Sheds k after x) (inside : AreInside decls n ps h k) (among : Among decls n ps qs) where
-  abbrev next : Held
-  next = put_register h 0 answer
+-- what is held stands in no later row among more
+pub rows_among : (decls : List MapDecl) (n : ℕ) (ps more : List PointerView) (h : Held) (k : Kinds) → AreInside decls n ps h k → (row : ℕ → ℕ) (place : ℕ) → held_row row (ps ++ more) h k place ≤ held_row row ps h k place
+rows_among decls n ps more h k inside row place = by (nat_lt place 11) refl (nat_lt place 75) refl
+  where
+    rest : (b : Bool) (c : ℕ) → value_row row (ps ++ more) (if b then Num Unknown else Unset) c ≤ value_row row ps (if b then Num Unknown else Unset) c
+    rest true c = omega arith
+    rest false c = omega arith
 
-  shed_register : (row : ℕ → ℕ) (r : ℕ) → r < 11 → r ≢ 0 → held_row row qs next after r ≤ held_row row ps h k r
-  shed_register row r l other =
-      subst (λ (a : ℕ). a ≤ held_row row ps h k r) (sym (register_row row qs next after r l))
-      (subst (λ (b : ℕ). value_row row qs (register after r) (slice_index next.registers r) ≤ b) (sym (register_row row ps h k r l))
-      (subst (λ (c : ℕ). value_row row qs (register after r) c ≤ value_row row ps (register k r) (slice_index h.registers r)) (sym (get_or-set_other h.registers 0 r answer 0 other))
-      (trans_le (sheds.registers r l other row qs (slice_index h.registers r)) (among row (register k r) (slice_index h.registers r) (inside.registers r (omega (arith, l)))))))
+    by : (a : Bool) → nat_lt place 11 ≡ a → (b : Bool) → nat_lt place 75 ≡ b → held_row row (ps ++ more) h k place ≤ held_row row ps h k place
+    by true e b f = rw e (among_more decls n ps more row (register k place) _ (inside.registers place (omega (arith, ltb-true place 11 e))))
+    by false e true f = rw (e, f) (among_more decls n ps more row (get_or k.slots (place - 11) Unset) _ (inside.slots (place - 11) (omega (arith, ltb-false place 11 e, ltb-true place 75 f))))
+    by false e false f = rw (e, f) (rest (nat_lt place 332) (if nat_lt place 331 then slice_index h.window (place - 75) else h.target))
 
-  shed_slot : (row : ℕ → ℕ) (s : ℕ) → s < 64 → held_row row qs next after (11 + s) ≤ held_row row ps h k (11 + s)
-  shed_slot row s l =
-      subst (λ (a : ℕ). a ≤ held_row row ps h k (11 + s)) (sym (slot_row row qs next after s l))
-      (subst (λ (b : ℕ). value_row row qs (get_or after.slots s Unset) (slice_index h.slots s) ≤ b) (sym (slot_row row ps h k s l))
-      (trans_le (sheds.slots s l row qs (slice_index h.slots s)) (among row (get_or k.slots s Unset) (slice_index h.slots s) (inside.slots s l))))
+-- ---- one register gets a value, and others keep what they have, or have no data any more
+less_row : (row : ℕ → ℕ) (ps : List PointerView) (a b : Kind) (c : ℕ) → IsLess a b → value_row row ps b c ≤ value_row row ps a c
+less_row row ps a b c (inl e) = subst (λ (y : Kind). value_row row ps y c ≤ value_row row ps a c) (sym e) (omega arith)
+less_row row ps a b c (inr bare) = by b bare
+  where
+    by : (y : Kind) → IsBare y → value_row row ps y c ≤ value_row row ps a c
+    by Unset t = omega arith
+    by Stale t = omega arith
+    by y t = absurd t
 
-  shed_other : (row : ℕ → ℕ) (place : ℕ) → 75 ≤ place → held_row row qs next after place ≡ held_row row ps h k place
-  shed_other row place l = rw (le-ltb place 11 (omega (arith, l)), le-ltb place 75 l) (by (nat_lt place 332))
-    where
-      by : (b : Bool) → value_row row qs (if b then Num Unknown else Unset) (if nat_lt place 331 then slice_index h.window (place - 75) else h.target) ≡ value_row row ps (if b then Num Unknown else Unset) (if nat_lt place 331 then slice_index h.window (place - 75) else h.target)
-      by true = refl
-      by false = refl
-
-  shed : (row : ℕ → ℕ) (place : ℕ) → place ≢ 0 → held_row row qs next after place ≤ held_row row ps h k place
-  shed row place other = by (cases_lt place 11) (cases_lt place 75)
-    where
-      by : (place < 11) ⊎ (11 ≤ place) → (place < 75) ⊎ (75 ≤ place) → held_row row qs next after place ≤ held_row row ps h k place
-      by (inl l) t = shed_register row place l other
-      by (inr l) (inl t) =
-          let at : 11 + (place - 11) ≡ place = omega (arith, l) in
-          subst (λ (p : ℕ). held_row row qs next after p ≤ held_row row ps h k p) at (shed_slot row (place - 11) (omega (arith, l, t)))
-      by (inr l) (inr t) = subst (λ (m : ℕ). m ≤ held_row row ps h k place) (sym (shed_other row place t)) (omega arith)
-
-  pub answer_leaves : (q : Option ℕ) (c : ℕ) (old new : List CellView) (made result : (ℕ → ℕ) → ℕ) → length h.registers ≡ 11 → GrowsTo old new made → ((row : ℕ → ℕ) → AreRows new row → value_row row qs x answer ≤ result row)
-      → LeavesTo (λ row. row_before row ps h k q c) qs h after next old new (one 0 ∷ no_place ∷ []) made result
-  answer_leaves q c old new made result hs grows own = record {
-    grows = grows;
-    written = λ row rows place is. subst (λ (p : ℕ). held_row row qs next after p ≤ result row) (sym (in_first place 0 is))
-        (subst (λ (m : ℕ). m ≤ result row) (sym (register_row row qs next after 0 (omega arith)))
-        (subst (λ (y : Kind). value_row row qs y (slice_index next.registers 0) ≤ result row) (sym sheds.answer)
-        (subst (λ (m : ℕ). value_row row qs x m ≤ result row) (sym (get_or-set_same h.registers 0 answer 0 (omega (arith, hs)))) (own row rows))));
-    kept = λ row rows place is. trans_le (shed row place (not_first place 0 is)) (held_before row ps h k q c place);
-    same = λ place l is. number_kept h 0 answer place (not_first place 0 is);
-  }
+pub shed_leaves : (ps qs : List PointerView) (h : Held) (k after : Kinds) (r answer : ℕ) (x : Kind) (q : Option ℕ) (c : ℕ) (old new : List CellView) (made result : (ℕ → ℕ) → ℕ) → Sheds k after r x → r ≤ 10 → length h.registers ≡ 11
+    → ((row : ℕ → ℕ) (place : ℕ) → held_row row qs h k place ≤ held_row row ps h k place) → GrowsTo old new made → ((row : ℕ → ℕ) → AreRows new row → value_row row qs x answer ≤ result row)
+    → LeavesTo (λ row. row_before row ps h k q c) qs h after (put_register h r answer) old new (one r ∷ no_place ∷ []) made result
+shed_leaves ps qs h k after r answer x q c old new made result sheds small whole among grows own =
+    let next : Held = put_register h r answer in
+    record {
+      grows = grows;
+      written = λ row rows place is. subst (λ (p : ℕ). held_row row qs next after p ≤ result row) (sym (in_first place r is))
+          (subst (λ (y : Kind). value_row row qs y (number_at next r) ≤ result row) (sym (answer_kind k after r x sheds small))
+          (subst (λ (m : ℕ). value_row row qs x m ≤ result row) (sym (number_put h r answer small whole)) (own row rows)));
+      kept = λ row rows place is. let other = not_first place r is in
+          trans_le
+          (subst (λ (m : ℕ). value_row row qs (kind_at after place) m ≤ held_row row qs h k place) (sym (number_kept h r answer place other))
+          (less_row row qs (kind_at k place) (kind_at after place) (number_at h place) (shed_kind k after r x sheds place other)))
+          (trans_le (among row place) (held_before row ps h k q c place));
+      same = λ place l is. number_kept h r answer place (not_first place r is);
+    }

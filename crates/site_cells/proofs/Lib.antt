@@ -15,6 +15,8 @@ mod Loads
 mod Stores
 mod Stale
 mod Changes
+mod Shedding
+mod Points
 mod WordRows
 mod Leaving
 mod Recording

@@ -1,14 +1,13 @@
 -- In which rows stand the cells of lookups.
-use Rattle.std.proofs.Common.{◌≡◌, ◌≢◌, ◌∙◌, ℕ, zero, suc, ◌+◌, ◌<◌, ◌≤◌, ℤ, pos, if◌then◌else◌, Bool, true, false, Some, List, [], ◌∷◌, ◌++◌, length, drop, get_or, slice_set, refl, sym, ap, subst, arith}
+use Rattle.std.proofs.Common.{◌≡◌, ◌∙◌, ℕ, ◌+◌, ◌<◌, ◌≤◌, ℤ, pos, if◌then◌else◌, Bool, true, false, Some, List, [], ◌∷◌, ◌++◌, length, slice_set, refl, sym, ap, subst, arith}
 use Rattle.std.specs.List.{list_any}
 use Rattle.std.specs.Ordering.{int_eq}
-use Rattle.std.proofs.lemmas.List.{get_or-drop}
 use Rattle.bpf_isa.specs.declared.operation.Op.TheVariants.{Call}
 use Rattle.bpf_isa.specs.declared.instruction.Insn.{Insn}
 use Rattle.xdp_maps.specs.declared.decl.MapDecl.{MapDecl}
 use Rattle.xdp_machine.proofs.ChangeLaws.{some_inj}
 use Rattle.kind_core.specs.declared.kind.Kind.{Kind}
-use Rattle.kind_core.specs.declared.kind.Kind.TheVariants.{Unset, MapRef, Maybe}
+use Rattle.kind_core.specs.declared.kind.Kind.TheVariants.{MapRef, Maybe}
 use Rattle.kind_core.specs.declared.kind.Kinds.{Kinds}
 use Rattle.kind_core.specs.Kinds.{register, answering, key_bytes}
 use Rattle.kind_core.specs.Tests.{passed}
@@ -33,7 +32,8 @@ use Rattle.site_cells.specs.declared.here.Here.{Here}
 use Rattle.site_cells.specs.Siting.{LooksUp, ReadsNext, lookup_site}
 use Rattle.site_cells.proofs.Adding.{last_pointer}
 use Rattle.site_cells.proofs.Allowed.{lookup_allowed}
-use Rattle.site_cells.proofs.Leaving.{span_before, pending_before, Sheds, IsLess, Among, among_more, answer_leaves}
+use Rattle.site_cells.proofs.Shedding.{Sheds, answering_sheds}
+use Rattle.site_cells.proofs.Leaving.{span_before, pending_before, rows_among, shed_leaves}
 use Rattle.site_cells.proofs.Recording.{made_result, open_register, no_write}
 
 -- ---- a call on the map in R1
@@ -51,22 +51,6 @@ pub key_is_span : (decls : List MapDecl) (k : Kinds) (base : Kind) (count map q 
 key_is_span decls k base count map q base_is count_is map_is one =
     ap (λ (x : Kind). region x (pos 0) count) base_is
     ∙ ap (region (register k 2) (pos 0)) (count_is ∙ ap (key_bytes decls) map_is ∙ sym (ap (λ (x : Kind). key_in decls (map_of x)) one))
-
--- what a helper leaves of kinds
-pub answering_sheds : (k : Kinds) (x : Kind) → Sheds k (answering x k) x
-answering_sheds k x = record { answer = refl; registers = by; slots = λ s l row ps c. omega arith }
-  where
-    by : (r : ℕ) → r < 11 → r ≢ 0 → IsLess (register k r) (register (answering x k) r)
-    by zero l other = absurd (other refl)
-    by (suc zero) l other = λ row ps c. omega arith
-    by (suc (suc zero)) l other = λ row ps c. omega arith
-    by (suc (suc (suc zero))) l other = λ row ps c. omega arith
-    by (suc (suc (suc (suc zero)))) l other = λ row ps c. omega arith
-    by (suc (suc (suc (suc (suc zero))))) l other = λ row ps c. omega arith
-    by (suc (suc (suc (suc (suc (suc r)))))) l other =
-        let e : 6 + r ≡ suc (suc (suc (suc (suc (suc r))))) = omega arith in
-        let same : get_or (drop 6 k.registers) r Unset ≡ register k (suc (suc (suc (suc (suc (suc r)))))) = get_or-drop 6 k.registers r Unset ∙ ap (λ (j : ℕ). get_or k.registers j Unset) e in
-        subst (IsLess (register k (suc (suc (suc (suc (suc (suc r)))))))) (sym same) (λ row ps c. omega arith)
 
 pub lookup_rows : (decls : List MapDecl) (i : Insn) (here : Here) (is_ref : Bool) (k : Kinds) (h : Held) (old mid new : List CellView) (ps qs : List PointerView) (sites sites2 : List SiteView) (base : Kind) (count map c : ℕ) (key words : List ℕ)
     → i.op ≡ Call → i.imm ≡ pos 1 → verdict (effect_of decls k i) ≡ passed → length h.registers ≡ 11 → AreInside decls (length old) ps h k
@@ -89,8 +73,8 @@ lookup_rows decls i here is_ref k h old mid new ps qs sites sites2 base count ma
     let all = rises_then s looks.rises (λ row p. omega (arith, result row, low row, waits row, p.1, greatest_append row key (here.pending ∷ []), ap (greatest row) key_is)) in
     let known = λ (row : ℕ → ℕ) (rows : AreRows new row). s.known row (looks.rises.grows.rows row rows) in
     let spans = call_writes k i (pos 1) op imm refl in
-    let sheds : Sheds k after (Maybe f.0 here.node) = subst (λ (x : Kinds). Sheds k x (Maybe f.0 here.node)) (sym becomes) (answering_sheds k (Maybe f.0 here.node)) in
-    let among : Among decls (length old) ps qs = subst (λ (xs : List PointerView). Among decls (length old) ps xs) (sym looks.pointers_are) (among_more decls (length old) ps ((record { found = looks.found; key = key }) ∷ [])) in
+    let sheds : Sheds k after 0 (Maybe f.0 here.node) = subst (λ (x : Kinds). Sheds k x 0 (Maybe f.0 here.node)) (sym becomes) (answering_sheds k (Maybe f.0 here.node)) in
+    let among = λ (row : ℕ → ℕ) (place : ℕ). subst (λ (xs : List PointerView). held_row row xs h k place ≤ held_row row ps h k place) (sym looks.pointers_are) (rows_among decls (length old) ps ((record { found = looks.found; key = key }) ∷ []) h k inside row place) in
     let at : pointer_at qs c ≡ record { found = looks.found; key = key } = ap (λ (xs : List PointerView). pointer_at xs c) looks.pointers_are
     ∙ ap (pointer_at (ps ++ (record { found = looks.found; key = key }) ∷ [])) looks.number_is ∙ last_pointer ps (record { found = looks.found; key = key }) in
     let opened : list_any (is_open_in after) (writes_as k i i.op) ≡ true = ap (list_any (is_open_in after)) spans ∙ open_register after (Maybe f.0 here.node) 0 (omega arith) sheds.answer refl in
@@ -100,7 +84,7 @@ lookup_rows decls i here is_ref k h old mid new ps qs sites sites2 base count ma
     (let w = known row rows in omega (arith, all.result row rows, result row, low row, w.1, ap (greatest row) key_is)) in
     record {
       carries = subst (λ (ws : List Span). LeavesTo b qs h after (record h { registers = slice_set h.registers 0 c }) old new ws (λ row. made_row (b row) decls k after i) last) (sym spans)
-          (answer_leaves decls (length old) ps qs h k after (Maybe f.0 here.node) c sheds inside among (map_used k i i.op) here.pending old new (λ row. made_row (b row) decls k after i) last whole (grows_by all.grows made) own);
+          (shed_leaves ps qs h k after 0 c (Maybe f.0 here.node) (map_used k i i.op) here.pending old new (λ row. made_row (b row) decls k after i) last sheds (omega arith) whole among (grows_by all.grows made) own);
       writes = λ row rows. no_write (record_as decls k i i.op) old new sites sites2 (lookup_site here map key) row _ looks.sites_are refl
           (grown_with (ReadsNext sites) old mid new (reads_none (ReadsNext sites) old mid before) looks.grows).reads;
       declared = λ q e. subst (λ (n : ℕ). n < length decls) (some_inj f.0 q (sym used ∙ e)) f.2;

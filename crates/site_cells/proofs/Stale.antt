@@ -51,7 +51,7 @@ stale_kinds : (f : Kind → Kind) (q : ℕ) (k : Kinds) → f Unset ≡ Unset �
 stale_kinds f q k a b c d e g h i j l m =
     both k _ _ _ _ (pointwise {f = f} {g = stale q} (stale_is f q a b c d e g h i j l m) k.registers) (pointwise {f = f} {g = stale q} (stale_is f q a b c d e g h i j l m) k.slots)
 
-hash_becomes : (decls : List MapDecl) (q node : ℕ) (is_ref taken : Bool) (k : Kinds) → is_hash decls q ≡ true → changed node is_ref taken k (calls.change_of decls q) ≡ stale_all q (answering (Num Unknown) k)
+pub hash_becomes : (decls : List MapDecl) (q node : ℕ) (is_ref taken : Bool) (k : Kinds) → is_hash decls q ≡ true → changed node is_ref taken k (calls.change_of decls q) ≡ stale_all q (answering (Num Unknown) k)
 hash_becomes decls q node is_ref taken k e =
     rw e (stale_kinds _ q (answering (Num Unknown) k) refl (λ n. refl) (λ o. refl) refl (λ o. refl) refl (λ p. refl) (λ p n. refl) (λ p o. refl) refl refl)
 

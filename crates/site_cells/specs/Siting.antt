@@ -1,5 +1,5 @@
 -- What is added for an operation on a map: a site, the cells that read it, and for a lookup a pointer.
-use Rattle.std.specs.Prelude.{ℕ, ◌≡◌, ◌+◌, ◌<◌, List, [], ◌∷◌, ◌++◌, length}
+use Rattle.std.specs.Prelude.{ℕ, ◌≡◌, ◌+◌, ◌<◌, ◌≤◌, List, [], ◌∷◌, ◌++◌, length}
 use Rattle.cell_core.specs.declared.operator.Operator.{Operator}
 use Rattle.cell_core.specs.declared.operator.Operator.TheVariants.{Found, Answer}
 use Rattle.cell_core.specs.declared.site.Act.{Act}
@@ -29,6 +29,8 @@ pub record LooksUp (old new : List CellView) (ps qs : List PointerView) (sites s
   pub grows : GrowsWith (ReadsNext sites) old new
   pub found : ℕ
   pub reads : IsReadOf new found (Found (length sites)) (key ++ here.pending ∷ []) 1
+  -- the only new cell
+  pub only : (d : ℕ) → length old ≤ d → d < length new → d ≡ found
   pub rises : Rises old new found (λ row. greatest row (key ++ here.pending ∷ []) + 1)
   pub number_is : c ≡ length ps
   pub pointers_are : qs ≡ ps ++ (record { found = found; key = key }) ∷ []

@@ -9,6 +9,7 @@ ghost use Rattle.operator_cells.specs.Making.{seen};
 ghost use Rattle.held_cells.specs.Held.{PointerView, AreInside};
 ghost use Rattle.held_cells.specs.Operating.{Operates};
 ghost use Rattle.held_cells.specs.Rows.{OperatesTo};
+ghost use Rattle.held_cells.specs.Pointing.{OperationPoints};
 ghost use Rattle.site_cells.specs.Sited.{sited};
 ghost use Rattle.site_cells.specs.Siting.{Changes};
 
@@ -78,6 +79,7 @@ pub fn operate_delete(
     requires inside { (ps : List PointerView) × AreInside decls.now (length (seen cells.old.items)) ps held.old kinds.now }
     ensures operates { (ps : List PointerView) (is_ref taken : Bool) → verdict (effect_of decls.now kinds.now insn.now) ≡ passed → AreInside decls.now (length (seen cells.old.items)) ps held.old kinds.now → OnOk result (Operates decls.now insn.now here.node here.guard is_ref taken kinds.now held.old held.new (seen cells.old.items) (seen cells.new.items) ps ps (sited sites.old.items) (sited sites.new.items)) }
     ensures rows { (ps : List PointerView) (is_ref : Bool) → verdict (effect_of decls.now kinds.now insn.now) ≡ passed → AreInside decls.now (length (seen cells.old.items)) ps held.old kinds.now → OnOk result (OperatesTo decls.now insn.now here.pending kinds.now held.old (transferred decls.now kinds.now insn.now here.node is_ref false) held.new (seen cells.old.items) (seen cells.new.items) ps ps (sited sites.old.items) (sited sites.new.items)) }
+    ensures points { (ps : List PointerView) (is_ref : Bool) → verdict (effect_of decls.now kinds.now insn.now) ≡ passed → OnOk result (OperationPoints decls.now kinds.now held.old (transferred decls.now kinds.now insn.now here.node is_ref false) held.new (seen cells.old.items) (seen cells.new.items) ps ps (sited sites.old.items) (sited sites.new.items)) }
 {
     are_whole(held, kinds);
     let map = map_in(kinds.registers[1]);
@@ -121,6 +123,7 @@ pub fn operate_update(
     requires inside { (ps : List PointerView) × AreInside decls.now (length (seen cells.old.items)) ps held.old kinds.now }
     ensures operates { (ps : List PointerView) (is_ref taken : Bool) → verdict (effect_of decls.now kinds.now insn.now) ≡ passed → AreInside decls.now (length (seen cells.old.items)) ps held.old kinds.now → OnOk result (Operates decls.now insn.now here.node here.guard is_ref taken kinds.now held.old held.new (seen cells.old.items) (seen cells.new.items) ps ps (sited sites.old.items) (sited sites.new.items)) }
     ensures rows { (ps : List PointerView) (is_ref : Bool) → verdict (effect_of decls.now kinds.now insn.now) ≡ passed → AreInside decls.now (length (seen cells.old.items)) ps held.old kinds.now → OnOk result (OperatesTo decls.now insn.now here.pending kinds.now held.old (transferred decls.now kinds.now insn.now here.node is_ref false) held.new (seen cells.old.items) (seen cells.new.items) ps ps (sited sites.old.items) (sited sites.new.items)) }
+    ensures points { (ps : List PointerView) (is_ref : Bool) → verdict (effect_of decls.now kinds.now insn.now) ≡ passed → OnOk result (OperationPoints decls.now kinds.now held.old (transferred decls.now kinds.now insn.now here.node is_ref false) held.new (seen cells.old.items) (seen cells.new.items) ps ps (sited sites.old.items) (sited sites.new.items)) }
 {
     are_whole(held, kinds);
     let map = map_in(kinds.registers[1]);

@@ -4,3 +4,4 @@ pub mod Ends
 pub mod Nodes
 pub mod Standing
 pub mod Waiting
+pub mod Points

@@ -1,4 +1,4 @@
-use Rattle.std.proofs.Common.{◌+◌, [], ◌∷◌, ◌++◌, ap, length, length-append, take, arith}
+use Rattle.std.proofs.Common.{false, ◌+◌, [], ◌∷◌, ◌++◌, ap, length, length-append, take, arith}
 use Rattle.net_core.specs.View.{tree_of}
 use Rattle.cell_core.specs.declared.operator.Operator.TheVariants.{Any}
 use Rattle.cell_nets.specs.Parts.{worth}
@@ -33,4 +33,4 @@ returns g c = λ packet.
     let left = c.loop-a.left.items in
     let w = c.args.width in
     gathered_gives c.args.part old mid new args left packet w c.in_ok-out.out (gathered_all c.args.part old mid args left c.loop-a.a-index (omega arith) c.loop-a.invariant.gathered)
-    (c.in_ok-out.ensures.gives left (worth packet Any left w) (any_small packet left w) (λ ins h. any_of c.deref.result.now left w (tree_of c.in_ok-bits.bits) c.deref.ensures.value c.in_ok-bits.ensures ins packet h))
+    (c.in_ok-out.ensures.gives false left (worth packet Any left w) (any_small packet left w) (λ ins h. any_of c.deref.result.now left w (tree_of c.in_ok-bits.bits) c.deref.ensures.value c.in_ok-bits.ensures ins packet h))

@@ -1,9 +1,14 @@
-use Rattle.std.proofs.Common.{◌≡◌, sym, ◌∙◌, ap, Some, None}
+use Rattle.std.proofs.Common.{◌≡◌, [], ◌∷◌, subst, sym, ◌∙◌, ap, Some, None}
+use Rattle.net_core.specs.View.{tree_of}
 use Rattle.cell_nets.specs.Narrow.{test_op}
+use Rattle.cell_nets.specs.Parts.{ComputesBy, worth}
+use Rattle.cell_nets.proofs.TestLemmas.{test_product}
 use Rattle.cell_nets.proofs.operators.pair.Goals as goal
 
 pub returns-in-Some : goal.returns-in-Some
-returns-in-Some g c = λ ins packet h k. c.in_ok-e.ensures ins packet c.args.op (sym c.test_op.ensures ∙ c.in-Some.is) h k
+returns-in-Some g c = λ ins packet h k.
+    let is = sym c.test_op.ensures ∙ c.in-Some.is in
+    subst (λ b. ComputesBy b ins c.args.width (worth packet c.args.op (c.args.a ∷ c.args.b ∷ []) c.args.width) (tree_of c.in_ok-e.e)) (sym (test_product c.args.op c.in-Some.test is)) (c.in_ok-e.ensures ins packet c.args.op is h k)
 
 pub returns : goal.returns
 returns g c = λ ins packet h k.

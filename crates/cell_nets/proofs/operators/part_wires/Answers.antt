@@ -1,8 +1,8 @@
 use Rattle.std.proofs.Common.{map, sym, subst}
 use Rattle.cell_core.specs.Cells.{number, bits_from}
-use Rattle.cell_nets.specs.Computing.{HasDivisor}
+use Rattle.cell_nets.specs.Computing.{makes_product, taken, HasDivisor}
 use Rattle.cell_nets.specs.Operands.{number_in}
-use Rattle.cell_nets.specs.Wires.{wires_of, Gives}
+use Rattle.cell_nets.specs.Wires.{wires_of, GivesBy}
 use Rattle.cell_nets.proofs.GatherLemmas.{no_packet}
 use Rattle.cell_nets.proofs.ComputingLemmas.{part_gives}
 use Rattle.cell_nets.proofs.operators.part_wires.Goals as goal
@@ -13,7 +13,7 @@ cut-requires-clause-operand g c = (c.in_ok-whole.ensures no_packet).operand
 pub returns-then-from-eq0 : goal.returns-then-from-eq0
 returns-then-from-eq0 g c = λ packet.
     let args = c.args.args.now in
-    subst (λ k. Gives c.args.part (wires_of c.args.wires.now.items) (wires_of c.operation_wires.new.wires.items) args (HasDivisor c.args.op args) (λ v. bits_from (number packet c.args.op (map (number_in v) args)) k c.args.width) c.args.width c.in_ok-out.out) (sym c.if-from-eq0.true)
+    subst (λ k. GivesBy (makes_product c.args.op) c.args.part (wires_of c.args.wires.now.items) (wires_of c.operation_wires.new.wires.items) (taken c.args.op args) (HasDivisor c.args.op args) (λ v. bits_from (number packet c.args.op (map (number_in v) args)) k c.args.width) c.args.width c.in_ok-out.out) (sym c.if-from-eq0.true)
     (c.in_ok-out.ensures packet)
 
 pub returns : goal.returns

@@ -1,4 +1,4 @@
-use Rattle.std.proofs.Common.{◌*◌, ◌/◌, [], ◌∷◌, drop, map, arith}
+use Rattle.std.proofs.Common.{false, ◌*◌, ◌/◌, [], ◌∷◌, drop, map, arith}
 use Rattle.net_core.specs.View.{tree_of}
 use Rattle.cell_core.specs.declared.operator.Operator.TheVariants.{Select, Phi}
 use Rattle.cell_core.specs.Cells.{number, phi}
@@ -17,7 +17,7 @@ loop-at-init g c =
     record {
       within = omega (arith, c.saturating_sub.ensures, c.if-args-le40.false);
       even = omega arith;
-      gives = c.in_ok-chosen.ensures.gives args (chosen args c.args.width at) (λ v. bits_small (phi (map (number_in v) (drop at args))) 0 c.args.width)
+      gives = c.in_ok-chosen.ensures.gives false args (chosen args c.args.width at) (λ v. bits_small (phi (map (number_in v) (drop at args))) 0 c.args.width)
           (last_computes args c.args.width at (tree_of c.in_ok-last.last) (omega (arith, c.saturating_sub.ensures)) c.in_ok-last.ensures);
     }
 
@@ -33,13 +33,13 @@ loop-at-preserved g c =
       even = omega (arith, c.loop-at.invariant.even, c.loop-at-test.true);
       gives = pair_chosen c.args.part (wires_of c.args.wires.now.items) (wires_of c.loop-at.wires.items) (wires_of c.add_wire-in-loop-at.new.wires.items) args no_packet w c.loop-at.at x y rest c.in_ok-chosen-2.chosen c.loop-at-test.true c.loop-at.invariant.within
           c.index-args-at.is c.index-args-at-in-loop-at.is c.loop-at.invariant.gives
-          (c.in_ok-chosen-2.ensures.gives (x ∷ y ∷ rest ∷ []) (worth no_packet Select (x ∷ y ∷ rest ∷ []) w) (λ v. bits_small (number no_packet Select (number_in v x ∷ number_in v y ∷ number_in v rest ∷ [])) 0 w)
+          (c.in_ok-chosen-2.ensures.gives false (x ∷ y ∷ rest ∷ []) (worth no_packet Select (x ∷ y ∷ rest ∷ []) w) (λ v. bits_small (number no_packet Select (number_in v x ∷ number_in v y ∷ number_in v rest ∷ [])) 0 w)
           (λ ins h. c.in_ok-e-2.ensures ins no_packet (h 0 x (omega arith)) (h 1 x (omega arith)) (h 2 x (omega arith))));
     }
 
 pub returns-then-args-le40 : goal.returns-then-args-le40
 returns-then-args-le40 g c = λ packet.
-    c.in_ok-out.ensures.gives c.args.args.now (worth packet Phi c.args.args.now c.args.width) (λ v. bits_small (phi (map (number_in v) c.args.args.now)) 0 c.args.width) (λ ins h. c.in_ok-e.ensures ins packet h)
+    c.in_ok-out.ensures.gives false c.args.args.now (worth packet Phi c.args.args.now c.args.width) (λ v. bits_small (phi (map (number_in v) c.args.args.now)) 0 c.args.width) (λ ins h. c.in_ok-e.ensures ins packet h)
 
 pub returns : goal.returns
 returns g c = λ packet. all_chosen c.args.part (wires_of c.args.wires.now.items) (wires_of c.loop-at.wires.items) c.args.args.now packet c.args.width c.loop-at.at c.loop-at.chosen (omega (arith, c.loop-at.invariant.even, c.loop-at-test.false)) c.loop-at.invariant.gives

@@ -1,4 +1,4 @@
-use Rattle.std.proofs.Common.{◌≡◌, ◌+◌, ◌-◌, ◌∙◌, refl, sym, ap, subst, arith}
+use Rattle.std.proofs.Common.{◌+◌, ◌-◌, ◌∙◌, sym, ap, arith}
 use Rattle.net_core.specs.Nets.{TConcatenation, TMore, TLast}
 use Rattle.net_core.specs.View.{tree_of}
 use Rattle.cell_core.specs.Cells.{bits_from}

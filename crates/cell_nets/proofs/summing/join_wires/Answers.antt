@@ -1,4 +1,4 @@
-use Rattle.std.proofs.Common.{[], ◌∷◌, arith}
+use Rattle.std.proofs.Common.{false, [], ◌∷◌, arith}
 use Rattle.cell_core.specs.declared.operator.Operator.TheVariants.{ShiftLeft, Add}
 use Rattle.cell_core.specs.Cells.{number}
 use Rattle.cell_nets.specs.declared.operand.Operand.TheVariants.{Known}
@@ -22,8 +22,8 @@ loop-a-preserved g c =
     let b = c.args.bits in
     more_sum c.args.part (wires_of c.args.wires.now.items) (wires_of c.loop-a.wires.items) (wires_of c.add_wire.new.wires.items) (wires_of c.add_wire-in-loop-a.new.wires.items) c.args.args.now no_packet b c.loop-a.a-index x high moved _ c.requires.bits (omega arith) c.a-item.is
     c.loop-a.invariant
-    (c.in_ok-moved.ensures.gives (high ∷ []) (worth no_packet ShiftLeft (high ∷ Known b ∷ []) 64) (λ v. bits_small (number no_packet ShiftLeft (number_in v high ∷ b ∷ [])) 0 64) (λ ins h. c.in_ok-shifted.ensures ins no_packet (h 0 high (omega arith)) tt))
-    (c.in_ok-higher.ensures.gives (moved ∷ x ∷ []) (worth no_packet Add (moved ∷ x ∷ []) 64) (λ v. bits_small (number no_packet Add (number_in v moved ∷ number_in v x ∷ [])) 0 64) (λ ins h. c.in_ok-sum.ensures ins no_packet Add refl (h 0 moved (omega arith)) (h 1 x (omega arith))))
+    (c.in_ok-moved.ensures.gives false (high ∷ []) (worth no_packet ShiftLeft (high ∷ Known b ∷ []) 64) (λ v. bits_small (number no_packet ShiftLeft (number_in v high ∷ b ∷ [])) 0 64) (λ ins h. c.in_ok-shifted.ensures ins no_packet (h 0 high (omega arith)) tt))
+    (c.in_ok-higher.ensures.gives false (moved ∷ x ∷ []) (worth no_packet Add (moved ∷ x ∷ []) 64) (λ v. bits_small (number no_packet Add (number_in v moved ∷ number_in v x ∷ [])) 0 64) (λ ins h. c.in_ok-sum.ensures ins no_packet Add refl (h 0 moved (omega arith)) (h 1 x (omega arith))))
 
 pub returns : goal.returns
 returns g c = λ packet.

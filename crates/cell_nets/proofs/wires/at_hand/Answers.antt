@@ -1,10 +1,10 @@
-use Rattle.std.proofs.Common.{◌≡◌, ◌+◌, [], ◌∷◌, sym, subst, arith}
-use Rattle.block_core.specs.declared.name.Name.{Name}
+use Rattle.std.proofs.Common.{◌≡◌, ◌+◌, ◌^◌, ◌<◌, [], ◌∷◌, sym, ◌∙◌, ap, subst, arith}
 use Rattle.cell_core.specs.Cells.{bits_from}
-use Rattle.cell_nets.specs.declared.operand.Operand.TheVariants.{Net, Part}
+use Rattle.cell_nets.specs.declared.operand.Operand.TheVariants.{Known, Net, Part}
 use Rattle.cell_nets.specs.Operands.{number_in, IsOperand, IsWithin}
 use Rattle.cell_nets.specs.Wires.{always, Gives}
-use Rattle.cell_nets.proofs.GiveLemmas.{whole_gives, some_give, fewer_give}
+use Rattle.cell_nets.proofs.NarrowLemmas.{bits_small}
+use Rattle.cell_nets.proofs.GiveLemmas.{known_gives, whole_gives, some_give, fewer_give}
 use Rattle.cell_nets.proofs.wires.at_hand.Goals as goal
 
 pub returns-then-of-width : goal.returns-then-of-width
@@ -38,3 +38,14 @@ returns-then-end-bits g c = λ p ws out e.
     subst (λ o. Gives p ws ws (c.args.a ∷ []) always (λ v. bits_from (number_in v c.args.a) c.args.from w) w o) there
     (subst (λ a. Gives p ws ws (a ∷ []) always (λ v. bits_from (number_in v a) c.args.from w) w (Part n of (at + c.args.from) w)) (sym c.in-Part.is)
     (fewer_give p ws n of at bits c.args.from w (subst IsOperand c.in-Part.is c.requires.operand) c.requires.width.some (omega arith)))
+
+pub returns-in-Known : goal.returns-in-Known
+returns-in-Known g c = λ p ws out e.
+    let from = c.args.from in
+    let w = c.args.width in
+    let n = c.in-Known.n in
+    let k = c.bits_from.result in
+    let is : k ≡ bits_from n from w = cc in
+    let there : Known k ≡ out = cc in
+    subst (λ o. Gives p ws ws (c.args.a ∷ []) always (λ v. bits_from (number_in v c.args.a) from w) w o) there
+    (known_gives p ws (c.args.a ∷ []) always _ w k (subst (λ j. j < 2 ^ w) (sym is) (bits_small n from w)) c.requires.width.most (λ v f m. is ∙ ap (λ a. bits_from (number_in v a) from w) (sym c.in-Known.is)))

@@ -4,8 +4,10 @@ use Rattle.held_cells.specs.Held.{pointed}
 use Rattle.edge_cells.specs.declared.part.Part.TheVariants.{Register}
 use Rattle.edge_cells.specs.Meeting.{MeetRow}
 use Rattle.edge_cells.specs.Rows.{MeetRowTo}
+use Rattle.edge_cells.specs.Pointing.{MeetRowPoints}
 use Rattle.edge_cells.proofs.joining.meet_registers.Given as goal
 
 abbrev pub invariant-loop-i : goal.invariant-loop-i
 invariant-loop-i l = (length l.held ≡ 11) × MeetRow l.decls (seen l.fn.cells.items) (seen l.cells.items) (pointed l.fn.pointers.items) (pointed l.pointers.items) l.ways l.kinds Register l.i l.held
     × MeetRowTo (seen l.fn.cells.items) (seen l.cells.items) (pointed l.fn.pointers.items) (pointed l.pointers.items) l.ways l.kinds Register l.i l.held
+    × MeetRowPoints l.decls (seen l.cells.items) (pointed l.fn.pointers.items) (pointed l.pointers.items) l.ways l.kinds Register l.i l.held

@@ -6,7 +6,8 @@ use Rattle.held_cells.specs.Rows.{cells_of_pointer}
 use Rattle.operator_cells.specs.Rising.{Rises, RiseAll}
 use Rattle.edge_cells.specs.Meeting.{BringCells, Picks, PickWords, cell_brought}
 use Rattle.edge_cells.specs.Rows.{choice_row, pointer_row_brought}
-use Rattle.edge_cells.proofs.Growth.{picks_before}
+use Rattle.edge_cells.specs.Pointing.{Follows}
+use Rattle.edge_cells.proofs.Growth.{picks_before, follows_before}
 use Rattle.edge_cells.proofs.ExtendingLaws.{pointer_new}
 use Rattle.edge_cells.proofs.ChoiceRows.{rise_cons}
 use Rattle.edge_cells.proofs.Pointed.{bring_later, pointed_length, pointed_more, words_after}
@@ -36,3 +37,9 @@ returns-clause-rises c = subst (λ (p : PointerView). RiseAll (seen c.args.cells
     (rise_cons
     (subst (λ (ps : List Pointer). Rises (seen c.args.cells.now.items) (seen c.meet_cell.new.cells.items) c.in_ok-found.found (λ row. choice_row row (pointer_row_brought (pointed ps) c.args.part) c.args.ways.now)) c.deref.ensures.value c.in_ok-found.ensures.rises)
     (subst (λ (ps : List Pointer). RiseAll (seen c.meet_cell.new.cells.items) (seen c.meet_key.new.cells.items) c.in_ok-key.key.items (λ row. choice_row row (pointer_row_brought (pointed ps) c.args.part) c.args.ways.now)) c.deref-2.ensures.value c.in_ok-key.ensures.rises))
+
+pub returns-clause-follows : goal.returns-clause-follows
+returns-clause-follows c = subst (λ (p : PointerView). Follows (seen c.meet_key.new.cells.items) c.args.ways.now (cell_brought (pointed c.args.pointers.now.items) c.args.part 0) p.found)
+    (sym (pointer_new _ _ (record { found = c.in_ok-found.found; key = c.in_ok-key.key.items }) _ (omega (arith, c.in-Ok.ensures.1, c.len.ensures, pointed_length c.args.pointers.now.items, c.args.pointers.now.ok.0))
+    (ap pointed c.in_ok-push.ensures.items ∙ pointed_more c.args.pointers.now.items _)))
+    (follows_before (subst (λ (ps : List Pointer). Follows (seen c.meet_cell.new.cells.items) c.args.ways.now (cell_brought (pointed ps) c.args.part 0) c.in_ok-found.found) c.deref.ensures.value c.in_ok-found.ensures.follows) c.in_ok-key.ensures.picks.grows)

@@ -3,7 +3,7 @@ use Rattle.xdp_object.specs.Choice.{chosen_of}
 use Rattle.xdp_object.proofs.OutcomeLaws.{never_both}
 use Rattle.ehdl_build.specs.declared.built.CompileError.TheVariants.{Refused}
 use Rattle.ehdl_build.specs.Compiled.{FailsFor, Realizes}
-use Rattle.ehdl_build.proofs.Outcomes.{accepted_of, err_with, failed, failed_pipeline, failed_program, never_refused, no_refusal, no_maps, not_built, only_fault, only_refusal, some_maps}
+use Rattle.ehdl_build.proofs.Outcomes.{accepted_of, failed, failed_program, never_refused, no_refusal, no_maps, not_built, only_fault, only_refusal, some_maps}
 use Rattle.ehdl_build.proofs.built.compile.Goals as goal
 
 pub returns-in-Err-clause-error : goal.returns-in-Err-clause-error
@@ -43,11 +43,6 @@ returns-then-not-is_empty-clause-refused c = λ r refused.
 pub realize-requires-clause-no_maps : goal.realize-requires-clause-no_maps
 realize-requires-clause-no_maps c = no_maps c.in-Ok.program.decls c.decls.result.now c.is_empty.result c.is_empty.ensures c.decls.ensures.decls c.if-not-is_empty.false
 
-pub returns-in_err-text-clause-error : goal.returns-in_err-text-clause-error
-returns-in_err-text-clause-error c =
-    err_with (FailsFor (chosen_of c.args.choice) c.args.bytes.now) c.in_err-text.field-0.0 c.from_residual.result c.from_residual.ensures.1
-    (failed_pipeline (chosen_of c.args.choice) c.args.bytes.now c.in-Ok.program c.in-Ok.ensures.program c.in_err-text.field-0.0 c.in_err-text.ensures.none)
-
 pub returns-in_err-text-clause-object : goal.returns-in_err-text-clause-object
 returns-in_err-text-clause-object c = λ e fault. absurd (never_both (chosen_of c.args.choice) c.args.bytes.now c.in-Ok.program e c.in-Ok.ensures.program fault)
 
@@ -67,7 +62,7 @@ returns-clause-ok c =
       is_program = c.decls.ensures.program;
       decls = c.in_ok-decls.ensures ∙ c.decls-2.ensures.decls;
       has_size = record { accepted = accepted_of p counted c.in-Ok-count.ensures.counted; stages = refl; records = refl; nodes = count };
-      realizes = subst (λ n. Realizes c.in_ok-text.text.items p (record { stages = counted.stages.rows; records = counted.stages.records; nodes = n })) (sym count) c.in_ok-text.ensures.text;
+      realizes = subst (λ n. Realizes c.in_ok-text.text.items p (record { stages = counted.stages.rows; records = counted.stages.records; nodes = n })) (sym count) c.in_ok-text.ensures;
     }
 
 pub returns-clause-object : goal.returns-clause-object

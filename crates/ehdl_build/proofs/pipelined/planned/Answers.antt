@@ -8,5 +8,5 @@ pub unreachable-requires : goal.unreachable-requires
 unreachable-requires c =
     never_refused c.args.stages (program_of c.args.cells.now) c.in-Err-Refused.field-0 c.requires.stages c.requires.within (λ (same : c.in-Err-Refused.field-0 ≡ NoMemory). cc) c.in-Err-Refused.ensures.refused
 
-pub returns-in-Ok-clause-plan : goal.returns-in-Ok-clause-plan
-returns-in-Ok-clause-plan c = plan_within c.args.stages (program_of c.args.cells.now) c.in-Ok.plan c.requires.within c.in-Ok.ensures.plan
+pub returns-in-Ok : goal.returns-in-Ok
+returns-in-Ok c = plan_within c.args.stages (program_of c.args.cells.now) c.in-Ok.plan c.requires.within c.in-Ok.ensures.plan

@@ -1,6 +1,6 @@
 use Rattle.std.proofs.Common.{refl, inl, inr}
 use Rattle.xdp_object.specs.Choice.{chosen_of}
-use Rattle.ehdl_top.proofs.ObjectLemmas.{built_of, fails_object, fails_pipeline}
+use Rattle.ehdl_top.proofs.ObjectLemmas.{built_of, fails_object}
 use Rattle.ehdl_top.proofs.object.build.Goals as goal
 
 pub returns-in-Ok-clause-text : goal.returns-in-Ok-clause-text
@@ -8,8 +8,4 @@ returns-in-Ok-clause-text c = built_of (chosen_of c.args.choice) c.args.object.n
 
 pub returns-in-Err-Object-clause-given_up : goal.returns-in-Err-Object-clause-given_up
 returns-in-Err-Object-clause-given_up c =
-    inr (inl refl, inl (fails_object (chosen_of c.args.choice) c.args.object.now c.in-Err-Object.field-0 c.in-Err-Object.fault c.in-Err-Object.field-0-is c.in-Err-Object.ensures.error))
-
-pub returns-in-Err-NoPipeline-clause-given_up : goal.returns-in-Err-NoPipeline-clause-given_up
-returns-in-Err-NoPipeline-clause-given_up c =
-    inr (inr refl, inr (fails_pipeline (chosen_of c.args.choice) c.args.object.now c.in-Err-NoPipeline.field-0 c.in-Err-NoPipeline.field-0-is c.in-Err-NoPipeline.ensures.error))
+    inr (inl refl, fails_object (chosen_of c.args.choice) c.args.object.now c.in-Err-Object.field-0 c.in-Err-Object.fault c.in-Err-Object.field-0-is c.in-Err-Object.ensures.error)

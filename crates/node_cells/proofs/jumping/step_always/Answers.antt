@@ -1,6 +1,7 @@
 use Rattle.std.proofs.Common.{arith}
 use Rattle.node_cells.proofs.Leaving.{one_leaves}
 use Rattle.node_cells.proofs.Pushing.{always_steps}
+use Rattle.node_cells.proofs.Holding.{always_points}
 use Rattle.node_cells.proofs.jumping.step_always.Goals as goal
 
 pub returns-clause-steps : goal.returns-clause-steps
@@ -15,3 +16,6 @@ returns-clause-rows c = one_leaves c.in_ok-edge.edge c.in_ok-edge.ensures.rises 
 
 pub returns-clause-grows : goal.returns-clause-grows
 returns-clause-grows c = c.in_ok-edge.ensures.branch.branches.grows
+
+pub returns-clause-points : goal.returns-clause-points
+returns-clause-points c = always_points _ _ c.requires.op c.in_ok-edge.ensures.branch c.in_ok-push.ensures.items

@@ -4,6 +4,7 @@ use Rattle.held_cells.specs.Rows.{held_row}
 use Rattle.node_cells.proofs.Leaving.{two_leave, undecided_leaving}
 use Rattle.operator_cells.proofs.MakingLaws.{grown}
 use Rattle.node_cells.proofs.Pushing.{two_pushed, both_steps}
+use Rattle.node_cells.proofs.Holding.{both_points}
 use Rattle.node_cells.proofs.jumping.step_both.Goals as goal
 
 pub returns-clause-steps : goal.returns-clause-steps
@@ -21,3 +22,7 @@ returns-clause-rows c =
 
 pub returns-clause-grows : goal.returns-clause-grows
 returns-clause-grows c = grown c.in_ok-c.ensures.tests.grows (grown c.in_ok-along.ensures.branch.branches.grows c.in_ok-aside.ensures.branch.branches.grows)
+
+pub returns-clause-points : goal.returns-clause-points
+returns-clause-points c = both_points _ _ c.requires.op c.requires.insn.dst_register c.requires.insn.src_register c.in_ok-c.ensures.tests c.in_ok-along.ensures.branch c.in_ok-aside.ensures.branch
+    (two_pushed _ _ _ _ _ c.in_ok-push.ensures.items c.in_ok-push-2.ensures.items)

@@ -3,6 +3,7 @@ use Rattle.held_cells.specs.Held.{pointed}
 use Rattle.held_cells.specs.Rows.{held_row}
 use Rattle.node_cells.proofs.Leaving.{one_leaves, decided_leaving}
 use Rattle.node_cells.proofs.Pushing.{decided_steps}
+use Rattle.node_cells.proofs.Holding.{decided_points}
 use Rattle.node_cells.proofs.jumping.step_one.Goals as goal
 
 pub returns-clause-steps : goal.returns-clause-steps
@@ -19,3 +20,6 @@ returns-clause-rows c =
 
 pub returns-clause-grows : goal.returns-clause-grows
 returns-clause-grows c = c.in_ok-edge.ensures.branch.branches.grows
+
+pub returns-clause-points : goal.returns-clause-points
+returns-clause-points c = decided_points _ _ c.requires.op c.requires.decided c.in_ok-edge.ensures.branch c.in_ok-push.ensures.items

@@ -1,4 +1,7 @@
-use Rattle.std.proofs.Common.{arith, refl}
+use Rattle.std.proofs.Common.{◌≡◌, false, [], arith, refl}
+use Rattle.std.proofs.lemmas.List.Elements.{All-nil, All-cons}
+use Rattle.kind_core.specs.Edges.{transferred}
+use Rattle.held_cells.specs.declared.way.Way.{Way}
 use Rattle.operator_cells.proofs.RisingLaws.{rises_none}
 use Rattle.node_cells.proofs.Leaving.{one_leaves}
 use Rattle.node_cells.proofs.Pushing.{on_steps}
@@ -14,3 +17,8 @@ returns-clause-kept c = (_, c.in_ok-push.ensures.items)
 
 pub returns-clause-rows : goal.returns-clause-rows
 returns-clause-rows c = λ cells. one_leaves _ (rises_none {a = cells} c.args.guard (λ row. row c.args.guard) (λ row. omega arith)) refl c.in_ok-push.ensures.items (λ row. omega arith)
+
+pub returns-clause-points : goal.returns-clause-points
+returns-clause-points c =
+    let P = λ (e : Way). (e.to ≡ c.args.to) × (e.bit ≡ c.args.guard) × (e.kinds ≡ transferred c.args.decls.now c.args.kinds.now c.args.insn.now c.args.node c.args.is_ref false) × (e.held ≡ c.args.held.now) in
+    (_, c.in_ok-push.ensures.items, All-cons P _ [] (refl, refl, c.transfer.ensures, refl) (All-nil P))

@@ -1,4 +1,4 @@
-use Rattle.std.proofs.Common.{◌≡◌, sym, ◌∙◌, false, true, arith}
+use Rattle.std.proofs.Common.{◌≡◌, sym, ◌∙◌, false, true}
 use Rattle.operator_cells.proofs.Growing.{added_makes}
 use Rattle.operator_cells.proofs.RisingLaws.{added_rises}
 use Rattle.operator_cells.proofs.cells.operate.Goals as goal

@@ -1,4 +1,4 @@
-use Rattle.std.proofs.Common.{◌≡◌, ℕ, ◌-◌, ◌^◌, [], ◌∷◌, ◌∙◌, ap, arith}
+use Rattle.std.proofs.Common.{ℕ, ◌-◌, ◌^◌, [], ◌∷◌, ◌∙◌, ap, arith}
 use Rattle.xdp_machine.specs.Arithmetic.{bits_in, low}
 use Rattle.cell_core.specs.Cells.{joined, bits_from}
 use Rattle.operator_cells.proofs.Growing.{grown, makes_after}

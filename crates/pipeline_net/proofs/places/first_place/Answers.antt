@@ -9,7 +9,7 @@ use Rattle.pipeline_net.specs.Places.{made_at, carried_at}
 use Rattle.pipeline_net.proofs.Planning.{are_sources}
 use Rattle.pipeline_net.proofs.Tables.{carried_up, carried_within, carried_wide, is_ready, carried_in}
 use Rattle.pipeline_net.proofs.Blocks.{first_table, first_of}
-use Rattle.pipeline_net.proofs.Same.{table_as, wide_as, ready_as, in_as, sourced_as, place_as, sources_as}
+use Rattle.pipeline_net.proofs.Same.{table_as, wide_as, ready_as, in_as, sourced_as, place_as, apart_as, sources_as}
 use Rattle.pipeline_net.proofs.places.first_place.Goals as goal
 
 pub source_cells-requires-clause-table : goal.source_cells-requires-clause-table
@@ -108,3 +108,4 @@ returns c =
     let b = block_of c.in_ok-block.block in
     first_of p plan d c.requires.draft ws table sourced b
     (place_as (Place 0) (map cell_of c.deref-7.result.now) p.cells c.deref-8.result.now (made_at p plan d 0) c.deref-9.result.now (carried_at p plan d 0) ws ws table b cells made (carried ∙ sym (carried_up p plan d 0 (omega arith))) refl c.in_ok-block.ensures.block) c.in_ok-block.ensures.begun
+    (apart_as (Place 0) (map cell_of c.deref-7.result.now) p.cells c.deref-8.result.now (made_at p plan d 0) ws ws table b cells made refl c.in_ok-block.ensures.apart) (placed.apart 0)

@@ -7,7 +7,7 @@ use Rattle.shell_net.specs.declared.parts.Part.TheVariants.{Place}
 use Rattle.pipeline_net.specs.Places.{made_at, carried_at}
 use Rattle.pipeline_net.proofs.Tables.{carried_up, carried_wide, is_ready, carried_in}
 use Rattle.pipeline_net.proofs.Blocks.{table_at, later_at}
-use Rattle.pipeline_net.proofs.Same.{table_as, wide_as, ready_as, in_as, place_as}
+use Rattle.pipeline_net.proofs.Same.{table_as, wide_as, ready_as, in_as, place_as, apart_as}
 use Rattle.pipeline_net.proofs.places.later_place.Goals as goal
 
 pub place-requires-clause-table : goal.place-requires-clause-table
@@ -97,3 +97,4 @@ returns c =
     later_at p plan d c.requires.draft j (omega (arith, c.requires.within)) table taken row next b
     (place_as (Place row) (map cell_of c.deref-3.result.now) p.cells c.deref-4.result.now (made_at p plan d row) c.deref-5.result.now (carried_at p plan d row) _ [] table b cells made (carried ∙ sym (carried_up p plan d row (omega (arith, c.requires.within)))) (ap wires_of c.new-wires.ensures.items)
     c.in_ok-block.ensures.block)
+    (apart_as (Place row) (map cell_of c.deref-3.result.now) p.cells c.deref-4.result.now (made_at p plan d row) _ [] table b cells made (ap wires_of c.new-wires.ensures.items) c.in_ok-block.ensures.apart) (placed.apart (suc j))

@@ -1,10 +1,12 @@
-use Rattle.std.proofs.Common.{refl, ap, ◌∙◌, map as map_list}
+use Rattle.std.proofs.Common.{◌≡◌, true, refl, sym, ap, ◌∙◌, subst, map as map_list}
 use Rattle.std.proofs.lemmas.List.Elements.{All-contains}
+use Rattle.product_rules.specs.Products.{statement_flat}
 use Rattle.cell_core.specs.View.{cell_of}
 use Rattle.cell_nets.specs.Wires.{wires_of}
 use Rattle.row_net.specs.Table.{IsIn}
+use Rattle.row_net.proofs.ApartLemmas.{alone}
 use Rattle.place_net.specs.PlaceNets.{tree_in, set_statement}
-use Rattle.place_net.proofs.PlaceLemmas.{carried_within, held_all, is_place}
+use Rattle.place_net.proofs.PlaceLemmas.{carried_within, held_all, is_place, set_flat}
 use Rattle.frame_net.proofs.FormLaws.{same_block}
 use Rattle.place_net.proofs.placing.place.Goals as goal
 
@@ -27,3 +29,11 @@ returns-clause-block g c = λ outside w t.
 
 pub returns-clause-begun : goal.returns-clause-begun
 returns-clause-begun g c = λ v h. c.in_ok-row_nets.ensures.earlier v h
+
+pub returns-clause-apart : goal.returns-clause-apart
+returns-clause-apart g c = λ clean marks take keep.
+    let cells = map_list cell_of c.args.cells.now in
+    let after = c.row_nets.new.table.items in
+    let row = c.in_ok-row_nets.ensures.apart clean marks take keep in
+    let sets = c.in_ok-statement.ensures ∙ ap set_statement c.in_ok-values.ensures ∙ ap (λ l. set_statement (map_list (tree_in cells l) c.args.carried.now)) c.deref.ensures.value in
+    alone c.args.part clean row.0 after _ row.1 (λ made. subst (λ s. statement_flat made s ≡ true) (sym sets) (set_flat made cells after c.args.carried.now))

@@ -4,6 +4,7 @@ use Rattle.cell_core.specs.View.{cell_of}
 use Rattle.operator_cells.specs.Making.{seen}
 use Rattle.predicate_core.proofs.Arrived.{arrived}
 use Rattle.predicate_core.proofs.OwnGuard.{joined_own}
+use Rattle.predicate_core.proofs.ArrivePoints.{arrive_points}
 use Rattle.predicate_core.proofs.arriving.arrive.Goals as goal
 
 pub own-requires-clause-first : goal.own-requires-clause-first
@@ -16,3 +17,6 @@ returns-clause-arrives c node ways lead = arrived c.here_is_right.ensures _ node
 
 pub returns-clause-rows : goal.returns-clause-rows
 returns-clause-rows c = joined_own c.in_ok-here.ensures.rows c.in_ok-guard.ensures.rises
+
+pub returns-clause-points : goal.returns-clause-points
+returns-clause-points c node ways lead = arrive_points _ node _ _ _ _ _ _ ways _ _ _ _ _ lead c.in_ok-here.ensures.joins.guards c.in_ok-guard.ensures.own c.in_ok-here.ensures.points

@@ -1,6 +1,7 @@
 use Rattle.std.proofs.Common.{Global, ◌≡◌, ◌∙◌, ℕ, ◌<◌, List, [], length, get_or, map, sym, ap, subst, arith, refl}
 use Rattle.std.proofs.lemmas.List.{length-map, get_or_default}
 use Rattle.smallvec.specs.declared.small_vec.SmallVec.{SmallVec}
+use Rattle.xdp_maps.specs.declared.decl.MapDecl.{MapDecl}
 use Rattle.kind_core.specs.declared.kind.Kinds.{Kinds}
 use Rattle.unfold_core.specs.declared.edges.Point.{Point}
 use Rattle.node_rows.specs.Rows.{no_point}
@@ -16,8 +17,10 @@ use Rattle.edge_cells.specs.Widening.{AreFilled}
 use Rattle.program_graph.specs.Graphs.{node_view, graph_of}
 use Rattle.predicate_core.specs.Making.{Arrives}
 use Rattle.predicate_core.specs.Feeding.{FeedsNodes}
+use Rattle.predicate_core.specs.Pointing.{ArrivePoints}
 use Rattle.predicate_core.specs.Progress.{making_of, entries_of, pending_of, AreWaiting}
 use Rattle.predicate_core.proofs.Progressing.{node_is, numbers_of, turn_some, turn_inside, leads_at, meeting_some, meeting_there, meeting_wider, ways_later, waiting_at}
+use Rattle.predicate_core.proofs.ArrivePoints.{arrive_later}
 use Rattle.predicate_core.proofs.making.arrive_at.Goals as goal
 
 pub leading-requires : goal.leading-requires
@@ -126,3 +129,14 @@ returns-clause-rows c fit =
     (subst (λ (ns : List ℕ). GathersTo (seen c.arrive.new.cells.items) (seen c.gather.new.cells.items) c.deref-4.result.now (map (λ x. x.items) c.deref-5.result.now) ns (length c.args.program.now.decls) c.in_ok-pending.pending.items) numbers6
     (subst (λ (n : ℕ). GathersTo (seen c.arrive.new.cells.items) (seen c.gather.new.cells.items) c.deref-4.result.now (map (λ x. x.items) c.deref-5.result.now) c.deref-6.result.now n c.in_ok-pending.pending.items) (ap length c.decls-decls.ensures.decls) c.in_ok-pending.ensures.rows))))
     (c.in_ok-pending.ensures.waiting.0 ∙ ap length c.decls-decls.ensures.decls) fit
+
+pub returns-clause-points : goal.returns-clause-points
+returns-clause-points c =
+    let inside : c.args.node < length (graph_of c.args.program.now c.args.unfolded.now).nodes = omega (arith, c.requires.node, length-map c.args.unfolded.now.nodes.items node_view) in
+    let numbers : c.deref-2.result.now ≡ get_or (entries_of c.args.progress.now) c.args.node [] = numbers_of (graph_of c.args.program.now c.args.unfolded.now) c.args.node c.args.progress.now c.index-numbers.result.now c.deref-2.result.now c.requires.ready inside c.deref-2.ensures c.index-numbers.ensures in
+    let lead : LeadTo c.args.node c.args.progress.now.made.ways.items c.in_ok-meeting.meeting.items = leads_at (graph_of c.args.program.now c.args.unfolded.now) c.args.node c.args.progress.now c.deref.result.now c.in_ok-meeting.meeting.items c.deref-2.result.now c.requires.ready inside c.deref.ensures.value numbers c.in_ok-meeting.ensures in
+    let kinds : (node_at (graph_of c.args.program.now c.args.unfolded.now).nodes c.args.node).kinds ≡ c.index.result.now.kinds = ap (λ (n : NodeView). n.kinds) (node_is c.args.program.now c.args.unfolded.now c.args.node c.index.result.now c.requires.node c.index.ensures) in
+    subst (λ (ds : List MapDecl). ArrivePoints ds c.args.node (node_at (graph_of c.args.program.now c.args.unfolded.now).nodes c.args.node).kinds (seen c.gather.new.cells.items) (pointed c.args.progress.now.made.pointers.items) (pointed c.arrive.new.pointers.items) c.args.progress.now.made.ways.items c.in_ok-here.here.guard c.in_ok-here.here.held) c.decls-decls.ensures.decls
+    (subst (λ (ks : Kinds). ArrivePoints c.decls-decls.result.now c.args.node ks (seen c.gather.new.cells.items) (pointed c.args.progress.now.made.pointers.items) (pointed c.arrive.new.pointers.items) c.args.progress.now.made.ways.items c.in_ok-here.here.guard c.in_ok-here.here.held) (sym kinds)
+    (arrive_later c.decls-decls.result.now c.args.node c.index.result.now.kinds (seen c.arrive.new.cells.items) (seen c.gather.new.cells.items) (pointed c.args.progress.now.made.pointers.items) (pointed c.arrive.new.pointers.items) c.args.progress.now.made.ways.items c.in_ok-here.here.guard c.in_ok-here.here.held c.in_ok-pending.ensures.grows
+    (c.in_ok-here.ensures.points c.args.node c.args.progress.now.made.ways.items (subst (LeadTo c.args.node c.args.progress.now.made.ways.items) (sym c.deref-3.ensures.value) lead))))

@@ -19,10 +19,11 @@ use Rattle.node_cells.specs.Feeding.{Leave}
 use Rattle.site_cells.specs.Sited.{sited}
 use Rattle.step_cells.specs.Stepping.{made_of}
 use Rattle.step_cells.specs.Rows.{NodeRows}
+use Rattle.step_cells.specs.Pointing.{NodePoints}
 use Rattle.program_graph.specs.Graphs.{node_view, graph_of}
 use Rattle.program_graph.specs.Sound.{IsSoundGraph}
 use Rattle.predicate_core.specs.Feeding.{FeedsNodes}
-use Rattle.predicate_core.specs.Progress.{entries_of, pending_of, targets, Entered}
+use Rattle.predicate_core.specs.Progress.{making_of, entries_of, pending_of, targets, Entered}
 use Rattle.predicate_core.proofs.Progressing.{node_is, made_there, site_more, sited_count, small_keys, insn_legal, targets_inside, leave_inside, seen_count, node_made, ready_next, pending_more}
 use Rattle.predicate_core.specs.Laws.{made_next}
 use Rattle.predicate_core.specs.Gathering.{PassesTo}
@@ -161,3 +162,18 @@ returns-clause-rows c fit =
     (subst (λ (ws : List Way). Entered (take (length c.arrive_at.new.progress.pending.items) (targets ws)) (targets ws) (entries_of c.arrive_at.new.progress) (map (λ x. x.items) c.enter.new.entries.items) (pending_of c.arrive_at.new.progress) (map (λ x. x.items) c.enter.new.pending.items) c.deref-4.result.now) c.deref-3.ensures.value c.in_ok-enter.ensures)))
     (((c.in_ok-push.ensures.items ∙ ap (λ (n : Node). c.arrive_at.new.progress.nodes.items ++ n ∷ []) (node_made (graph_of c.args.program.now c.args.unfolded.now) c.args.node c.in_ok-arrived.arrived.here.guard (seen c.args.progress.now.made.cells.items) (seen c.pass.new.cells.items) _ _ _
     (c.place-place.ensures ∙ sym (ap (λ (n : NodeView). n.place) is)) (omega (arith, c.in-Ok.ensures, c.len-first.ensures, seen_count c.args.progress.now.made.cells.items)) (omega (arith, c.in-Ok-try_from.ensures, c.len.ensures, seen_count c.pass.new.cells.items))))) ∙ ap (λ (ns : Vec Node Global). ns.items ++ made_next (graph_of c.args.program.now c.args.unfolded.now) c.args.node c.in_ok-arrived.arrived.here.guard (seen c.args.progress.now.made.cells.items) (seen c.pass.new.cells.items) ∷ []) c.in_ok-arrived.ensures.comes.nodes)
+
+pub returns-clause-points : goal.returns-clause-points
+returns-clause-points c points =
+    let is : node_at (graph_of c.args.program.now c.args.unfolded.now).nodes c.args.node ≡ node_view c.index-at.result.now = node_is c.args.program.now c.args.unfolded.now c.args.node c.index-at.result.now c.requires.node c.index-at.ensures in
+    let kinds : (node_at (graph_of c.args.program.now c.args.unfolded.now).nodes c.args.node).kinds ≡ c.index-at.result.now.kinds = ap (λ (n : NodeView). n.kinds) is in
+    let refers : c.contains.result ≡ is_reference (graph_of c.args.program.now c.args.unfolded.now) c.args.node = c.contains.ensures.value ∙ ap (λ (rs : List ℕ). list_any (λ r. r == c.place-place.result) rs) c.refs.ensures.refs
+    ∙ ap (λ (n : ℕ). list_any (λ r. r == n) c.args.program.now.refs) (c.place-place.ensures ∙ sym (ap (λ (n : NodeView). n.place) is)) in
+    let steps : Steps (graph_of c.args.program.now c.args.unfolded.now) c.args.node c.in_ok-arrived.arrived.here.guard c.in_ok-arrived.arrived.here.held (seen c.arrive_at.new.progress.made.cells.items) (seen c.step_node.new.made.cells.items) (pointed c.arrive_at.new.progress.made.pointers.items) (pointed c.step_node.new.made.pointers.items)
+    (sited c.arrive_at.new.progress.made.sites.items) (sited c.step_node.new.made.sites.items) c.arrive_at.new.progress.made.ways.items c.step_node.new.made.ways.items c.arrive_at.new.progress.made.exits.items c.step_node.new.made.exits.items =
+    c.in_ok-step_node.ensures.steps (graph_of c.args.program.now c.args.unfolded.now) (sym c.decls.ensures.decls) (subst (IsNode (graph_of c.args.program.now c.args.unfolded.now) c.args.node c.args.insn.now) kinds c.requires.insn) c.requires.ends refers (made_there (graph_of c.args.program.now c.args.unfolded.now) c.args.node c.args.progress.now c.arrive_at.new.progress c.in_ok-arrived.arrived.here c.in_ok-arrived.arrived.pending.items c.requires.ready c.in_ok-arrived.ensures.comes) in
+    c.nodes_point.ensures (graph_of c.args.program.now c.args.unfolded.now) c.args.node c.requires.ready.held (making_of c.args.progress.now) (made_of c.arrive_at.new.progress.made) (made_of c.step_node.new.made) c.in_ok-arrived.arrived.here (seen c.pass.new.cells.items)
+    c.requires.ready.so_far c.in_ok-arrived.ensures.comes.arrives (ap (λ (ss : Vec Site Global). sited ss.items) c.in_ok-arrived.ensures.comes.sites) (ap (λ (ws : Vec Way Global). ws.items) c.in_ok-arrived.ensures.comes.ways) steps c.in_ok-arrived.ensures.points
+    (subst (λ (ks : Kinds). NodePoints c.args.program.now.decls ks c.in_ok-arrived.arrived.here (made_of c.arrive_at.new.progress.made) (made_of c.step_node.new.made)) (sym kinds)
+    (subst (λ (ds : List MapDecl). NodePoints ds c.index-at.result.now.kinds c.in_ok-arrived.arrived.here (made_of c.arrive_at.new.progress.made) (made_of c.step_node.new.made)) c.decls.ensures.decls c.in_ok-step_node.ensures.points))
+    c.in_ok-pass.ensures.grows points

@@ -36,3 +36,10 @@ returns-clause-rows c =
     (subst (λ (n : ℕ). AreWaiting n (length (seen c.unwritten.new.cells.items)) c.in_ok-none.none.items) (ap length c.decls.ensures.decls) c.in_ok-none.ensures.waiting)
     (c.in_ok-push.ensures.items ∙ ap (λ (ws : List Way). ws ++ c.in_ok-start.start ∷ []) c.new-ways.ensures.items)
     (ap (map (λ x. x.items)) (c.in_ok-push-2.ensures.items ∙ ap (λ xs. xs ++ c.in_ok-from_slice.field-0 ∷ []) c.new-pending.ensures.items) ∙ ap (λ (r : List ℕ). r ∷ []) (c.in_ok-from_slice.ensures.ok ∙ c.deref.ensures.value))
+
+pub returns-clause-points : goal.returns-clause-points
+returns-clause-points c =
+    let opens : Opens [] (seen c.unwritten.new.cells.items) c.in_ok-start.start = opens_later [] (seen c.open.new.cells.items) (seen c.unwritten.new.cells.items) c.in_ok-start.start
+    (subst (λ (xs : List CellView). Opens xs (seen c.open.new.cells.items) c.in_ok-start.start) (ap seen c.new-cells.ensures.items ∙ seen_none) c.in_ok-start.ensures) c.in_ok-none.ensures.grows c.in_ok-none.ensures.no_row in
+    c.opens_point.ensures c.args.program.now.decls (record { cells = seen c.unwritten.new.cells.items; pointers = pointed c.new.result.items; sites = sited c.new-2.result.items; ways = c.push.new.self.items; exits = c.new-3.result.items }) c.in_ok-start.start
+    (c.in_ok-push.ensures.items ∙ ap (λ (ws : List Way). ws ++ c.in_ok-start.start ∷ []) c.new-ways.ensures.items) (ap sited c.new-2.ensures.items ∙ sited_none) opens

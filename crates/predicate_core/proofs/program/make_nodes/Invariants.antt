@@ -1,4 +1,6 @@
 use Rattle.program_graph.specs.Graphs.{graph_of}
+use Rattle.step_cells.specs.Stepping.{made_of}
+use Rattle.predicate_core.specs.Pointing.{PointSoFar}
 use Rattle.predicate_core.specs.Progress.{IsReady}
 use Rattle.predicate_core.specs.Stages.{FitSoFar}
 use Rattle.predicate_core.proofs.program.make_nodes.Given as goal
@@ -7,4 +9,5 @@ abbrev pub invariant-loop-k : goal.invariant-loop-k
 invariant-loop-k l = record {
   ready : IsReady (graph_of l.program l.unfolded) l.k l.progress;
   rows : FitSoFar l.program l.unfolded l.k l.progress;
+  points : PointSoFar l.program.decls l.k (made_of l.progress.made);
 }

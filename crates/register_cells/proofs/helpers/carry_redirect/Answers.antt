@@ -2,6 +2,7 @@ use Rattle.std.proofs.Common.{arith}
 use Rattle.operator_cells.proofs.MakingLaws.{grown}
 use Rattle.register_cells.proofs.Answering.{answer_carried, redirect_answers, redirect_is, redirected_is, number_read}
 use Rattle.register_cells.proofs.HelperRows.{redirect_to}
+use Rattle.register_cells.proofs.PointingLaws.{answer_keeps}
 use Rattle.register_cells.proofs.helpers.carry_redirect.Goals as goal
 
 pub returns-clause-carries : goal.returns-clause-carries
@@ -31,3 +32,7 @@ returns-clause-rows c = λ decls ps node is_ref allowed.
     let w = redirect_answers decls c.args.kinds.now c.args.insn.now node is_ref c.requires.op c.requires.helper allowed in
     redirect_to decls ps c.args.insn.now c.args.kinds.now _ c.args.held.now _ _ c.requires.op c.requires.helper w.0 (omega (arith, c.are_whole.ensures.register_cells))
     (c.in_ok-interface.ensures.rises ps) (c.in_ok-flags.ensures.rises ps) c.in_ok-sent.ensures.rises c.in_ok-c.ensures.rises c.in_ok-t.ensures.rises
+
+pub returns-clause-points : goal.returns-clause-points
+returns-clause-points c = λ decls node is_ref allowed.
+    rw (redirect_answers decls c.args.kinds.now c.args.insn.now node is_ref c.requires.op c.requires.helper allowed).0 (answer_keeps c.args.kinds.now c.args.held.now c.in_ok-c.c c.in_ok-t.t c.are_whole.ensures.register_cells)

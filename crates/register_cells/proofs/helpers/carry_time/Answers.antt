@@ -1,6 +1,7 @@
 use Rattle.std.proofs.Common.{arith}
 use Rattle.register_cells.proofs.Answering.{answer_carried, time_answers, time_is, time_low}
 use Rattle.register_cells.proofs.HelperRows.{time_to}
+use Rattle.register_cells.proofs.PointingLaws.{answer_keeps}
 use Rattle.register_cells.proofs.helpers.carry_time.Goals as goal
 
 pub returns-clause-carries : goal.returns-clause-carries
@@ -15,3 +16,7 @@ pub returns-clause-rows : goal.returns-clause-rows
 returns-clause-rows c = λ decls ps node is_ref allowed.
     time_to decls ps c.args.insn.now c.args.kinds.now _ c.args.held.now c.in_ok-c.c c.requires.op c.requires.helper (time_answers decls c.args.kinds.now c.args.insn.now node is_ref c.requires.op c.requires.helper allowed)
     (omega (arith, c.are_whole.ensures.register_cells)) c.in_ok-c.ensures.rises
+
+pub returns-clause-points : goal.returns-clause-points
+returns-clause-points c = λ decls node is_ref allowed.
+    rw (time_answers decls c.args.kinds.now c.args.insn.now node is_ref c.requires.op c.requires.helper allowed) (answer_keeps c.args.kinds.now c.args.held.now c.in_ok-c.c c.args.held.now.target c.are_whole.ensures.register_cells)

@@ -1,6 +1,7 @@
 use Rattle.std.proofs.Common.{◌<◌, ◌/◌, sym, arith, to_z-of_z}
 use Rattle.register_cells.proofs.Loads.{stack_gives, stack_none, some_bytes}
 use Rattle.register_cells.proofs.LoadRows.{stack_to}
+use Rattle.register_cells.proofs.PointingLaws.{found_held}
 use Rattle.register_cells.proofs.loading.from_stack.Goals as goal
 
 pub returns-in_ok-c-in-Some-clause-gives : goal.returns-in_ok-c-in-Some-clause-gives
@@ -22,3 +23,11 @@ returns-in_ok-c-in-Some-clause-rows c = λ decls ps o base.
 
 pub returns-in-None-clause-rows : goal.returns-in-None-clause-rows
 returns-in-None-clause-rows c = λ decls ps o base. let e = rw (to_z-of_z c.ranges.offset) at (c.in-None.ensures.value o base) in stack_none decls c.args.kinds.now o c.args.offset c.args.size _ (sym e)
+
+pub returns-in_ok-c-in-Some-clause-points : goal.returns-in_ok-c-in-Some-clause-points
+returns-in_ok-c-in-Some-clause-points c = λ decls o base.
+    let e = rw (to_z-of_z c.ranges.offset) at (c.in-Some.ensures.value o base) in
+    found_held decls c.args.kinds.now c.args.held.now c.in_ok-c-in-Some.c o c.args.offset c.args.size c.in-Some.at (omega (arith, c.in-Some.ensures.within, some_bytes c.args.size)) (sym e) c.in_ok-c-in-Some.ensures.points
+
+pub returns-in-None-clause-points : goal.returns-in-None-clause-points
+returns-in-None-clause-points c = λ decls o base. let e = rw (to_z-of_z c.ranges.offset) at (c.in-None.ensures.value o base) in stack_none decls c.args.kinds.now o c.args.offset c.args.size _ (sym e)

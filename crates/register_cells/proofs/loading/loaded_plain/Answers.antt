@@ -3,6 +3,7 @@ use Rattle.kind_core.specs.declared.kind.Kind.TheVariants.{Packet, Stack}
 use Rattle.std.specs.Int.{w16}
 use Rattle.register_cells.proofs.Loads.{load_packet, load_stack, load_context, load_other}
 use Rattle.register_cells.proofs.LoadRows.{load_to, load_context_to}
+use Rattle.register_cells.proofs.PointingLaws.{packet_held, load_held, context_held}
 use Rattle.register_cells.proofs.loading.loaded_plain.Goals as goal
 
 pub returns-in_ok-c-in-Packet-clause-gives : goal.returns-in_ok-c-in-Packet-clause-gives
@@ -34,3 +35,17 @@ returns-in_ok-c-in-Ctx-clause-rows c = λ decls ps after.
 
 pub returns-in_default-clause-rows : goal.returns-in_default-clause-rows
 returns-in_default-clause-rows c = λ decls ps after. load_other decls c.args.kinds.now _ c.args.insn.now.offset c.args.size _ c.in_default.not-Ctx c.in_default.not-Packet c.in_default.not-Stack c.requires.plain
+
+pub returns-in_ok-c-in-Ctx-clause-points : goal.returns-in_ok-c-in-Ctx-clause-points
+returns-in_ok-c-in-Ctx-clause-points c = λ decls. context_held decls c.args.kinds.now c.args.held.now c.in_ok-c-in-Ctx.c c.args.insn.now c.args.size c.in-Ctx.is
+
+pub returns-in_ok-c-in-Packet-clause-points : goal.returns-in_ok-c-in-Packet-clause-points
+returns-in_ok-c-in-Packet-clause-points c = λ decls.
+    load_held decls c.args.kinds.now c.args.held.now c.in_ok-c-in-Packet.c c.args.insn.now c.args.size c.in-Packet.is refl refl (packet_held decls c.args.kinds.now c.args.held.now c.in_ok-c-in-Packet.c c.in-Packet.o c.args.insn.now.offset c.args.size)
+
+pub returns-in_ok-c-in-Stack-clause-points : goal.returns-in_ok-c-in-Stack-clause-points
+returns-in_ok-c-in-Stack-clause-points c = λ decls.
+    load_held decls c.args.kinds.now c.args.held.now c.in_ok-c-in-Stack.c c.args.insn.now c.args.size c.in-Stack.is (to_z-of_z {w = w16} (record { sfits = c.requires.offset.sfits })) refl (c.in_ok-c-in-Stack.ensures.points decls _ c.in-Stack.is)
+
+pub returns-in_default-clause-points : goal.returns-in_default-clause-points
+returns-in_default-clause-points c = λ decls. load_other decls c.args.kinds.now _ c.args.insn.now.offset c.args.size _ c.in_default.not-Ctx c.in_default.not-Packet c.in_default.not-Stack c.requires.plain

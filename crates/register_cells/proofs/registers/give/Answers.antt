@@ -1,6 +1,8 @@
 use Rattle.bpf_isa.specs.declared.operation.Op.TheVariants as op
-use Rattle.register_cells.proofs.Known.{give_as, gives_nothing}
+use Rattle.register_cells.proofs.Known.{give_as, only_constant, gives_nothing}
 use Rattle.register_cells.proofs.RegisterRows.{give_to, give_later, give_end, give_swap, give_nothing}
+use Rattle.register_cells.specs.Pointing.{MovesHeld}
+use Rattle.register_cells.proofs.PointingLaws.{constant_held}
 use Rattle.register_cells.proofs.registers.give.Goals as goal
 
 pub returns-in_ok-c-in-Alu-clause-gives : goal.returns-in_ok-c-in-Alu-clause-gives
@@ -37,3 +39,8 @@ returns-in_ok-c-in-Swap-clause-rows c = λ decls ps is_ref after. give_to _ _ ps
 
 pub returns-in_default-clause-rows : goal.returns-in_default-clause-rows
 returns-in_default-clause-rows c = λ decls ps is_ref after. give_nothing _ ps c.args.held.now c.args.kinds.now decls is_ref after c.args.insn.now _ c.args.insn.now.op c.in_default.not-Alu c.in_default.not-Neg c.in_default.not-End c.in_default.not-Swap c.requires.plain
+
+pub returns-in_default-clause-points : goal.returns-in_default-clause-points
+returns-in_default-clause-points c = λ decls is_ref.
+    only_constant decls is_ref c.args.kinds.now c.args.insn.now (λ op x. MovesHeld c.args.kinds.now c.args.held.now x 0) c.args.insn.now.op c.in_default.not-Alu c.in_default.not-Neg c.in_default.not-End c.in_default.not-Swap c.requires.plain
+    (constant_held c.args.kinds.now c.args.held.now is_ref c.args.insn.now.imm 0)

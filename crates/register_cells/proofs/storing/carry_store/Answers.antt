@@ -1,8 +1,9 @@
-use Rattle.std.proofs.Common.{ap}
+use Rattle.std.proofs.Common.{OnOk, ap}
 use Rattle.bpf_isa.specs.declared.operation.Src.TheVariants.{K, X}
 use Rattle.xdp_machine.specs.Step as step
 use Rattle.kind_core.specs.Effects.{effect_as}
-use Rattle.register_cells.proofs.Stores.{store_carried}
+use Rattle.held_cells.specs.Pointing.{KeepPointers}
+use Rattle.register_cells.proofs.Stores.{store_passed, store_carried}
 use Rattle.register_cells.proofs.StoreRows.{store_carried_to, imm_carries, src_carries}
 use Rattle.register_cells.proofs.storing.carry_store.Goals as goal
 
@@ -27,3 +28,13 @@ returns-in-Store-clause-rows c = λ decls node is_ref allowed.
     store_carried_to c.store-in-Store.result decls _ node is_ref c.args.kinds.now c.args.held.now c.store-in-Store.new.held c.args.insn.now _ _ c.in-Store.size X allowed
     (ap (effect_as decls c.args.kinds.now c.args.insn.now) c.in-Store.is)
     (λ after. src_carries decls _ c.args.insn.now c.args.kinds.now c.args.held.now after c.store-in-Store.new.held _ _ c.in-Store.size c.requires.insn.src_register c.in-Store.is) (c.store-in-Store.ensures.rows decls node is_ref)
+
+pub returns-in-StoreImm-clause-points : goal.returns-in-StoreImm-clause-points
+returns-in-StoreImm-clause-points c = λ decls node is_ref allowed.
+    store_passed (λ after. OnOk c.store.result (KeepPointers c.args.kinds.now c.args.held.now after c.store.new.held)) decls node is_ref c.args.kinds.now c.args.insn.now c.in-StoreImm.size K allowed
+    (ap (effect_as decls c.args.kinds.now c.args.insn.now) c.in-StoreImm.is) (c.store.ensures.points decls node is_ref)
+
+pub returns-in-Store-clause-points : goal.returns-in-Store-clause-points
+returns-in-Store-clause-points c = λ decls node is_ref allowed.
+    store_passed (λ after. OnOk c.store-in-Store.result (KeepPointers c.args.kinds.now c.args.held.now after c.store-in-Store.new.held)) decls node is_ref c.args.kinds.now c.args.insn.now c.in-Store.size X allowed
+    (ap (effect_as decls c.args.kinds.now c.args.insn.now) c.in-Store.is) (c.store-in-Store.ensures.points decls node is_ref)

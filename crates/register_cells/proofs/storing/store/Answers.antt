@@ -1,4 +1,5 @@
-use Rattle.std.proofs.Common.{to_z-of_z, pos}
+use Rattle.std.proofs.Common.{OnOk, refl, to_z-of_z, pos}
+use Rattle.held_cells.specs.Pointing.{KeepPointers}
 use Rattle.std.specs.Int.{w16}
 use Rattle.xdp_machine.specs.Values as is
 use Rattle.xdp_machine.specs.Step as step
@@ -8,6 +9,7 @@ use Rattle.register_cells.proofs.Known.{imm_fits, operand_counts, operand_read}
 use Rattle.register_cells.proofs.Loads.{register_is}
 use Rattle.register_cells.proofs.Stores.{store_as, store_refused}
 use Rattle.register_cells.proofs.StoreRows.{store_to}
+use Rattle.register_cells.proofs.PointingLaws.{operand_held, packet_kept, stored_as}
 use Rattle.register_cells.proofs.storing.store.Goals as goal
 
 pub returns-in-Packet-clause-leaves : goal.returns-in-Packet-clause-leaves
@@ -49,4 +51,18 @@ returns-in-Stack-clause-rows c = λ decls node is_ref.
 
 pub returns-in_default-clause-rows : goal.returns-in_default-clause-rows
 returns-in_default-clause-rows c = λ decls node is_ref.
+    store_refused decls c.args.kinds.now _ c.args.insn.now.offset c.args.size (operand c.args.kinds.now c.args.insn.now c.args.src) _ c.in_default.not-Packet c.in_default.not-Stack c.requires.plain
+
+pub returns-in-Packet-clause-points : goal.returns-in-Packet-clause-points
+returns-in-Packet-clause-points c = λ decls node is_ref.
+    stored_as decls c.args.kinds.now c.args.size _ c.in-Packet.is refl refl
+    (packet_kept (λ after. OnOk c.to_packet.result (KeepPointers c.args.kinds.now c.args.held.now after c.to_packet.new.held)) decls node is_ref c.args.kinds.now _ c.args.insn.now.offset c.args.size _ (c.to_packet.ensures.points c.args.kinds.now))
+
+pub returns-in-Stack-clause-points : goal.returns-in-Stack-clause-points
+returns-in-Stack-clause-points c = λ decls node is_ref.
+    stored_as decls c.args.kinds.now c.args.size _ c.in-Stack.is (to_z-of_z {w = w16} (record { sfits = c.requires.insn.offset_range.sfits })) c.operand-b.ensures
+    (c.to_stack.ensures.points decls node is_ref _ c.in-Stack.is (rw c.operand-b.ensures (operand_held c.args.kinds.now c.args.held.now c.args.insn.now c.args.src c.requires.insn.src_register)))
+
+pub returns-in_default-clause-points : goal.returns-in_default-clause-points
+returns-in_default-clause-points c = λ decls node is_ref.
     store_refused decls c.args.kinds.now _ c.args.insn.now.offset c.args.size (operand c.args.kinds.now c.args.insn.now c.args.src) _ c.in_default.not-Packet c.in_default.not-Stack c.requires.plain

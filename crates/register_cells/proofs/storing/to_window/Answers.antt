@@ -4,6 +4,7 @@ use Rattle.operator_cells.proofs.RisingLaws.{stand_none, stand_more}
 use Rattle.held_cells.specs.declared.held.Held.{Held}
 use Rattle.held_cells.proofs.RowLaws.{rise_last}
 use Rattle.register_cells.proofs.ValueLaws.{same_most}
+use Rattle.register_cells.proofs.PointingLaws.{window_keeps}
 use Rattle.register_cells.proofs.storing.to_window.Goals as goal
 
 pub returns-clause-rises : goal.returns-clause-rises
@@ -15,3 +16,6 @@ returns-clause-rises c =
       made.count,
       rise_last (stand_more stand_none c.in_ok-c.ensures.rises (λ row h. same_most)) c.in_ok-bytes.ensures.rises (λ row h. h.1),
     )
+
+pub returns-clause-points : goal.returns-clause-points
+returns-clause-points c = λ k. window_keeps k c.args.held.now _

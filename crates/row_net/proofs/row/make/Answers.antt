@@ -3,9 +3,9 @@ use Rattle.std.proofs.lemmas.List.{length-map}
 use Rattle.cell_core.specs.Cells.{CellView, cell_at, number, bits_from}
 use Rattle.cell_core.specs.Formed.{IsInRange}
 use Rattle.cell_core.specs.View.{cell_of}
-use Rattle.cell_nets.specs.Computing.{is_outside, HasDivisor}
+use Rattle.cell_nets.specs.Computing.{is_outside, makes_product, taken, HasDivisor}
 use Rattle.cell_nets.specs.Operands.{number_in, IsOperand}
-use Rattle.cell_nets.specs.Wires.{wires_of, Gives}
+use Rattle.cell_nets.specs.Wires.{wires_of, GivesBy}
 use Rattle.row_net.specs.Table.{IsIn, AreOperands}
 use Rattle.row_net.proofs.TableLemmas.{cell_is}
 use Rattle.row_net.proofs.RowLemmas.{args_all, cell_row, no_packet}
@@ -58,6 +58,6 @@ returns g c =
     subst (λ l. AreOperands table l args) (c.deref-2.ensures ∙ sym (ap (λ (v : CellView). v.ins) here)) (subst (λ t. AreOperands t c.deref-2.result.now args) c.deref.ensures.value c.in_ok-args.ensures) in
     cell_row c.args.part cells k old new table _ args out no_packet inside (c.requires.formed.each k inside) c.requires.table o refl
     (λ packet.
-    subst (λ (v : CellView). Gives c.args.part old new args (HasDivisor v.op args) (λ e. bits_from (number packet v.op (map (number_in e) args)) v.from v.width) v.width out) (sym here)
-    (subst (λ l. Gives c.args.part old new l (HasDivisor c.index-cells-number.result.op l) (λ e. bits_from (number packet c.index-cells-number.result.op (map (number_in e) l)) c.index-cells-number.result.from c.index-cells-number.result.width) c.index-cells-number.result.width out)
+    subst (λ (v : CellView). GivesBy (makes_product v.op) c.args.part old new (taken v.op args) (HasDivisor v.op args) (λ e. bits_from (number packet v.op (map (number_in e) args)) v.from v.width) v.width out) (sym here)
+    (subst (λ l. GivesBy (makes_product c.index-cells-number.result.op) c.args.part old new (taken c.index-cells-number.result.op l) (HasDivisor c.index-cells-number.result.op l) (λ e. bits_from (number packet c.index-cells-number.result.op (map (number_in e) l)) c.index-cells-number.result.from c.index-cells-number.result.width) c.index-cells-number.result.width out)
     c.deref-3.ensures.value (c.in_ok-out.ensures packet)))

@@ -6,7 +6,7 @@ use Rattle.cell_core.specs.Rows.{greatest}
 use Rattle.operator_cells.specs.Rising.{Rises}
 use Rattle.held_cells.specs.Held.{pointed}
 use Rattle.site_cells.specs.Sited.{sited}
-use Rattle.site_cells.proofs.Adding.{read_added, pointed_next, pointed_count, site_same, site_pushed, next_site}
+use Rattle.site_cells.proofs.Adding.{read_added, added_alone, pointed_next, pointed_count, site_same, site_pushed, next_site}
 use Rattle.site_cells.proofs.lookup.look_up.Goals as goal
 
 pub returns : goal.returns
@@ -18,6 +18,7 @@ returns c =
       reads = read_added _ _ _ _ _ _ _
           (subst (λ (j : ℕ). Adds (seen c.args.cells.now.items) (seen c.found.new.cells.items) c.in_ok-there.there (record { op = Found j; ins = c.deref.result.now; width = 1; from = 0 })) site c.in_ok-there.ensures.adds)
           (c.deref.ensures.value ∙ c.in_ok-ins.ensures ∙ ap (λ (xs : List ℕ). xs ++ c.args.here.pending ∷ []) (append-nil c.args.key.now));
+      only = added_alone _ _ _ _ c.in_ok-there.ensures.adds;
       rises = subst (λ (xs : List ℕ). Rises (seen c.args.cells.now.items) (seen c.found.new.cells.items) c.in_ok-there.there (λ row. greatest row xs + 1))
           (c.deref.ensures.value ∙ c.in_ok-ins.ensures ∙ ap (λ (xs : List ℕ). xs ++ c.args.here.pending ∷ []) (append-nil c.args.key.now)) c.in_ok-there.ensures.rises;
       number_is = pointed_count c.args.pointers.now.items _ (omega (arith, c.in-Ok-try_from.ensures, c.len-2.ensures));

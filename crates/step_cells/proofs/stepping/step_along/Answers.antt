@@ -2,6 +2,7 @@ use Rattle.std.proofs.Common.{ap}
 use Rattle.operator_cells.specs.Making.{seen}
 use Rattle.step_cells.proofs.Nodes.{if_ok, along_node}
 use Rattle.step_cells.proofs.Standing.{along_rows}
+use Rattle.step_cells.proofs.Points.{along_points}
 use Rattle.step_cells.proofs.stepping.step_along.Goals as goal
 
 pub returns-clause-steps : goal.returns-clause-steps
@@ -12,3 +13,6 @@ returns-clause-steps c = rw c.in-Some.is (if_ok c.step_on.result _ _
 pub returns-clause-rows : goal.returns-clause-rows
 returns-clause-rows c = along_rows c.step_on.result _ _ _ c.args.here.now _ _ _ _ _ _ _ _ _ _ _ _ _ _ _ _ (ap (λ v. v.items) c.in_ok-operate_at.ensures.ways) (c.in_ok-operate_at.ensures.rows c.args.is_ref)
     (c.step_on.ensures.rows (seen c.operate_at.new.made.cells.items)) c.step_on.ensures.brought
+
+pub returns-clause-points : goal.returns-clause-points
+returns-clause-points c = along_points c.step_on.result _ _ _ c.args.here.now _ _ _ _ _ (ap (λ v. v.items) c.in_ok-operate_at.ensures.ways) (c.in_ok-operate_at.ensures.points c.args.is_ref) c.step_on.ensures.points

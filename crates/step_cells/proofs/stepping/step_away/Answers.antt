@@ -3,6 +3,7 @@ use Rattle.held_cells.specs.Held.{pointed}
 use Rattle.bpf_isa.specs.declared.operation.Op.TheVariants.{Ja}
 use Rattle.step_cells.proofs.Nodes.{if_ok, jump_brings, away_node}
 use Rattle.step_cells.proofs.Standing.{away_rows}
+use Rattle.step_cells.proofs.Points.{jump_points}
 use Rattle.step_cells.proofs.stepping.step_away.Goals as goal
 
 pub returns-in-Some-clause-steps : goal.returns-in-Some-clause-steps
@@ -14,3 +15,6 @@ returns-in-Some-clause-brought c = rw c.in-Some.is (if_ok c.step_always.result _
 pub returns-in-Some-clause-rows : goal.returns-in-Some-clause-rows
 returns-in-Some-clause-rows c = λ pending.
     away_rows c.step_always.result _ _ _ c.args.here.now _ _ pending _ _ _ _ _ _ _ _ _ _ (ap pointed c.deref.ensures.value) c.requires.op c.step_always.ensures.grows c.step_always.ensures.rows c.step_always.ensures.brought
+
+pub returns-in-Some-clause-points : goal.returns-in-Some-clause-points
+returns-in-Some-clause-points c = jump_points c.step_always.result _ _ c.args.here.now _ _ _ _ _ _ _ _ (ap pointed c.deref.ensures.value) c.step_always.ensures.points

@@ -2,6 +2,7 @@ use Rattle.std.proofs.Common.{ap, refl}
 use Rattle.held_cells.specs.Held.{pointed}
 use Rattle.step_cells.proofs.Nodes.{if_ok, jump_brings, jump_node}
 use Rattle.step_cells.proofs.Standing.{jump_rows, exit_rows}
+use Rattle.step_cells.proofs.Points.{jump_points, exit_points}
 use Rattle.step_cells.proofs.stepping.step_node.Goals as goal
 
 pub returns-in-Jump-clause-steps : goal.returns-in-Jump-clause-steps
@@ -19,3 +20,9 @@ returns-in-Ja-clause-rows c = c.step_away.ensures.rows c.args.pending.now
 
 pub returns-in-Exit-clause-rows : goal.returns-in-Exit-clause-rows
 returns-in-Exit-clause-rows c = exit_rows c.step_exit.result _ _ _ c.args.here.now _ _ _ _ _ _ _ _ _ c.in-Exit.is
+
+pub returns-in-Jump-clause-points : goal.returns-in-Jump-clause-points
+returns-in-Jump-clause-points c = jump_points c.step_jump.result _ _ c.args.here.now _ _ _ _ _ _ _ _ (ap pointed c.deref.ensures.value) c.step_jump.ensures.points
+
+pub returns-in-Exit-clause-points : goal.returns-in-Exit-clause-points
+returns-in-Exit-clause-points c = if_ok c.step_exit.result _ _ (λ done x. exit_points _ _ c.args.here.now _ _ _ _ _ _) c.step_exit.ensures

@@ -1,0 +1,5 @@
+pub mod Words
+pub mod WordTrees
+pub mod Hosts
+pub mod Array
+pub mod ArrayNets

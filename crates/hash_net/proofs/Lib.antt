@@ -1,0 +1,5 @@
+mod StoreLists
+mod CountLaws
+mod HashForms
+mod HashClock
+mod HashWhole

@@ -1,0 +1,2 @@
+pub mod HashNets
+pub mod Hash

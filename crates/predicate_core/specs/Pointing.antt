@@ -1,0 +1,41 @@
+-- The pointers that are held while a program is made node by node.
+use Rattle.std.specs.Prelude.{ℕ, ◌≡◌, ◌<◌, ◌≤◌, true, List, length, All, Contains}
+use Rattle.std.specs.List.{AllPairs}
+use Rattle.xdp_maps.specs.declared.decl.MapDecl.{MapDecl}
+use Rattle.xdp_machine.specs.State.{PacketIn}
+use Rattle.kind_core.specs.declared.kind.Kinds.{Kinds}
+use Rattle.cell_core.specs.Cells.{CellView, IsRun, on}
+use Rattle.cell_core.specs.Sites.{site_at}
+use Rattle.operator_cells.specs.Following.{IsFollowed}
+use Rattle.held_cells.specs.declared.held.Held.{Held}
+use Rattle.held_cells.specs.declared.way.Way.{Way}
+use Rattle.held_cells.specs.Held.{PointerView}
+use Rattle.held_cells.specs.Pointing.{Pointing, HoldsPointer, IsSamePointer, AreLookedUp, is_access, IsLookupAccess}
+use Rattle.step_cells.specs.Stepping.{MadeView}
+
+-- For these values of cells, before node k: bits of edges are bits; those that are on and lead to this node or a later one lead to one, and
+-- each pointer that they hold is that of a lookup; so is that of each access on the path.
+pub record PointWith (decls : List MapDecl) (k : ℕ) (t : MadeView) (v u : ℕ → ℕ) : Type 0 where
+  pub bits : All (λ e. v e.bit < 2) t.ways
+  pub one : (e f : Way) → Contains t.ways e → Contains t.ways f → k ≤ e.to → k ≤ f.to → on (v e.bit) ≡ true → on (v f.bit) ≡ true → e.to ≡ f.to
+  pub held : All (λ e. k ≤ e.to → on (v e.bit) ≡ true → AreLookedUp decls t.cells t.sites v u t.pointers e.kinds e.held) t.ways
+  pub accesses : (j : ℕ) → j < length t.sites → is_access (site_at t.sites j).act ≡ true → on (v (site_at t.sites j).guard) ≡ true → IsLookupAccess decls t.cells t.sites v u j
+
+-- So it is for any values of the cells so far; and a node has one site at most.
+pub record PointSoFar (decls : List MapDecl) (k : ℕ) (t : MadeView) : Type 0 where
+  pub ascending : AllPairs (λ s r. s.node < r.node) t.sites
+  pub each : (packet : PacketIn) (v u : ℕ → ℕ) → IsRun packet t.cells v → IsFollowed t.cells v u → PointWith decls k t v u
+
+-- For these values of cells an edge that leads to node k is on, and holds each pointer that is held there.
+pub record ComesAlong (decls : List MapDecl) (k : ℕ) (kinds : Kinds) (h : Held) (ps qs : List PointerView) (ways : List Way) (v u : ℕ → ℕ) : Type 0 where
+  pub edge : Way
+  pub among : Contains ways edge
+  pub to : edge.to ≡ k
+  pub is_on : on (v edge.bit) ≡ true
+  pub holds : (y : Pointing) → HoldsPointer kinds h y → (x : Pointing) × HoldsPointer edge.kinds edge.held x × IsSamePointer decls v u ps qs x y
+
+-- Before the step of node k: for any values of the cells its guard is a bit, and where it is on such an edge is.
+abbrev pub ArrivePoints : List MapDecl → ℕ → Kinds → List CellView → List PointerView → List PointerView → List Way → ℕ → Held → Type 0
+ArrivePoints decls k kinds cells ps qs ways guard h =
+    (packet : PacketIn) (v u : ℕ → ℕ) → IsRun packet cells v → IsFollowed cells v u → All (λ e. v e.bit < 2) ways
+    → (v guard < 2) × (on (v guard) ≡ true → ComesAlong decls k kinds h ps qs ways v u)

@@ -1,0 +1,28 @@
+-- The pointers that are held on the edges that leave a node.
+use Rattle.std.specs.Prelude.{ℕ, ◌≡◌, ◌++◌, ◌⊎◌, List, All}
+use Rattle.xdp_maps.specs.declared.decl.MapDecl.{MapDecl}
+use Rattle.kind_core.specs.declared.kind.Kinds.{Kinds}
+use Rattle.held_cells.specs.declared.held.Held.{Held}
+use Rattle.held_cells.specs.declared.way.Way.{Way}
+use Rattle.held_cells.specs.Pointing.{InstructionPoints, LeavePoints}
+use Rattle.edge_cells.specs.declared.joining.Here.{Here}
+use Rattle.step_cells.specs.Stepping.{MadeView}
+
+-- An instruction that leads on: its edges are on where the guard is, and hold what it leaves.
+pub record AlongPoints (decls : List MapDecl) (k : Kinds) (here : Here) (old new : MadeView) : Type 0 where
+  pub after : Kinds
+  pub next : Held
+  pub points : InstructionPoints decls k here.held after next old.cells new.cells old.pointers new.pointers old.sites new.sites
+  pub to : ℕ
+  pub more : List Way
+  pub ways_are : new.ways ≡ old.ways ++ more
+  pub edges : All (λ e. (e.to ≡ to) × (e.bit ≡ here.guard) × (e.kinds ≡ after) × (e.held ≡ next)) more
+
+-- A jump or an end: no site and no pointer is added.
+pub record JumpPoints (k : Kinds) (here : Here) (old new : MadeView) : Type 0 where
+  pub pointers_are : new.pointers ≡ old.pointers
+  pub sites_are : new.sites ≡ old.sites
+  pub leaves : LeavePoints new.cells old.pointers k here.held here.guard old.ways new.ways
+
+abbrev pub NodePoints : List MapDecl → Kinds → Here → MadeView → MadeView → Type 0
+NodePoints decls k here old new = AlongPoints decls k here old new ⊎ JumpPoints k here old new
