@@ -43,10 +43,10 @@ use Rattle.array_net.specs.Hosts.{SeesHost, SeesMemories, named_word, written_ta
 use Rattle.array_net.specs.Array.{StoresArray, IsZeroed, with_value, AsksArray, IsArray}
 use Rattle.array_net.specs.ArrayNets.{names_slot, has_word, chosen_index, array_wires, array_statement, array_block}
 use Rattle.array_net.proofs.WordLaws.{word_there, word_zero, length_stays}
-use Rattle.array_net.proofs.WordStores.{select_is, choice_is, low_part, and_bits, shut, count_stores, store_of, words_typed, words_there, words_spelled, stores_flat, words_flat, words_off, words_unnamed, IsTaken, operation_takes, host_takes, words_after, asked_at}
-use Rattle.array_net.proofs.WordMemories.{memory_at, count_memories, memories_are_fit, first_sizes, first_at}
+use Rattle.array_net.proofs.WordStoreLaws.{select_is, choice_is, low_part, and_bits, shut, count_stores, store_of, words_typed, words_there, words_spelled, stores_flat, words_flat, words_off, words_unnamed, IsTaken, operation_takes, host_takes, words_after, asked_at}
+use Rattle.array_net.proofs.WordMemoryLaws.{memory_at, count_memories, memories_are_fit, first_sizes, first_at}
 use Rattle.array_net.proofs.HostLaws.{slot_named}
-use Rattle.array_net.proofs.WordReads.{shown_value, read_width, read_reads, read_depth, read_apart, read_flat, read_other, read_here}
+use Rattle.array_net.proofs.WordReadLaws.{shown_value, read_width, read_reads, read_depth, read_apart, read_flat, read_other, read_here}
 
 module _ {P : Type 0} (p : P) (map : ℕ) (d : MapDecl) (bits : ℕ) (nets : MapNets (Name P)) (words : List (WordNets (Name P))) (few : map < 16) (kind : d.kind ≡ Array) (limits : IsWithinLimits d)
     (some : 1 ≤ bits) (most : bits ≤ 16) (room : d.cap ≤ 2 ^ bits) (count : length words ≡ word_count d.value) where

@@ -1,6 +1,6 @@
 pub mod WordLaws
-pub mod WordStores
-pub mod WordMemories
-pub mod WordReads
+pub mod WordStoreLaws
+pub mod WordMemoryLaws
+pub mod WordReadLaws
 pub mod HostLaws
 mod ArrayLemmas

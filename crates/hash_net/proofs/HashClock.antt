@@ -38,8 +38,8 @@ use Rattle.array_net.specs.WordTrees.{host_index, words_read, word_store, word_s
 use Rattle.array_net.specs.ArrayNets.{names_slot}
 use Rattle.array_net.specs.Hosts.{SeesHost, named_word, written_table}
 use Rattle.array_net.proofs.WordLaws.{word_there, length_stays}
-use Rattle.array_net.proofs.WordStores.{low_part, and_bits, or_bits, shut, put_at, store_of, words_off, words_unnamed, IsTaken, operation_takes, host_takes, other_takes, words_after, asked_at}
-use Rattle.array_net.proofs.WordReads.{read_other, read_here}
+use Rattle.array_net.proofs.WordStoreLaws.{low_part, and_bits, or_bits, shut, put_at, store_of, words_off, words_unnamed, IsTaken, operation_takes, host_takes, other_takes, words_after, asked_at}
+use Rattle.array_net.proofs.WordReadLaws.{read_other, read_here}
 use Rattle.array_net.proofs.HostLaws.{slot_named}
 use Rattle.hash_net.specs.declared.block.HashNets.{HashNets}
 use Rattle.hash_net.specs.HashNets.{value_first, has_word, key_nets, value_read, hash_wires, used_store, count_after, hash_stores, hash_statement}

@@ -35,9 +35,9 @@ use Rattle.array_net.specs.declared.words.WordNets.{WordNets}
 use Rattle.array_net.specs.Words.{word_width, AreThere}
 use Rattle.array_net.specs.WordTrees.{host_index, words_read, memories_from, word_memories, word_stores}
 use Rattle.array_net.specs.ArrayNets.{names_slot, chosen_index}
-use Rattle.array_net.proofs.WordStores.{select_is, choice_is, count_stores, words_typed, words_there, words_spelled, AllFlat, stores_flat, words_flat}
-use Rattle.array_net.proofs.WordMemories.{memory_at, count_memories, fit_memories}
-use Rattle.array_net.proofs.WordReads.{read_width, read_reads, read_depth, read_apart, read_flat}
+use Rattle.array_net.proofs.WordStoreLaws.{select_is, choice_is, count_stores, words_typed, words_there, words_spelled, AllFlat, stores_flat, words_flat}
+use Rattle.array_net.proofs.WordMemoryLaws.{memory_at, count_memories, fit_memories}
+use Rattle.array_net.proofs.WordReadLaws.{read_width, read_reads, read_depth, read_apart, read_flat}
 use Rattle.hash_net.specs.declared.block.HashNets.{HashNets}
 use Rattle.hash_net.specs.HashNets.{value_first, hash_memories, key_nets, calm_gate, value_gate, used_sets, used_bit, value_read, hash_wires, count_after, hash_stores, hash_statement, hash_block}
 use Rattle.hash_net.specs.Hash.{HaveHashWidths, AreNets}

@@ -22,8 +22,8 @@ use Rattle.array_net.specs.declared.words.WordNets.{WordNets}
 use Rattle.array_net.specs.Words.{word_width}
 use Rattle.array_net.specs.WordTrees.{word_memories}
 use Rattle.array_net.proofs.WordLaws.{word_zero}
-use Rattle.array_net.proofs.WordMemories.{count_memories, first_sizes, first_at}
-use Rattle.array_net.proofs.WordReads.{shown_value}
+use Rattle.array_net.proofs.WordMemoryLaws.{count_memories, first_sizes, first_at}
+use Rattle.array_net.proofs.WordReadLaws.{shown_value}
 use Rattle.hash_net.specs.declared.block.HashNets.{HashNets}
 use Rattle.hash_net.specs.HashNets.{value_first, hash_memories, hash_block}
 use Rattle.hash_net.specs.Hash.{StoresHash, IsHash}

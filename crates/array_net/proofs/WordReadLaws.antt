@@ -26,7 +26,7 @@ use Rattle.array_net.specs.Words.{word_width, HoldsWords}
 use Rattle.array_net.specs.WordTrees.{host_index, is_word, filled, word_shown, words_read}
 use Rattle.array_net.specs.Hosts.{SeesMemories}
 use Rattle.array_net.proofs.WordLaws.{width_some, width_most}
-use Rattle.array_net.proofs.WordStores.{select_is, choice_is, low_part}
+use Rattle.array_net.proofs.WordStoreLaws.{select_is, choice_is, low_part}
 
 -- ---- a number with zeros above it
 module _ {N : Type 0} (w : ℕ) (some : 0 < w) (most : w ≤ 64) (t : Tree N) where
