@@ -1,3 +1,4 @@
+pub mod Acts
 pub mod Cells
 pub mod Sites
 pub mod Formed

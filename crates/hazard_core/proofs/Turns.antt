@@ -8,7 +8,8 @@ use Rattle.cell_core.specs.Formed.{AllFit}
 use Rattle.hazard_core.specs.Tables.{Slot, TableState, decl_of, table_at, slot_at}
 use Rattle.hazard_core.specs.Held.{Pointer, Null, InSlot, Pending, is_null, is_update, is_delete, Held, asked, asked_key, pointer_in, found_cell, writes, adds_key, takes_key, slot_pointer}
 use Rattle.hazard_core.specs.Overlay.{found_over, value_over, value_under}
-use Rattle.hazard_core.specs.Commits.{with_slot, makes_entry, slot_as, committed, taken_after}
+use Rattle.std.proofs.lemmas.List.{get_or-set_same}
+use Rattle.hazard_core.specs.Commits.{with_slot, makes_entry, slot_as, written_slot, committed, taken_after}
 use Rattle.hazard_core.specs.Changes.{with_tables, IsRightCommit}
 use Rattle.hazard_core.specs.Tabled.{AreTables}
 use Rattle.hazard_core.specs.Replay.{Replayed, replay_one, replayed, HoldsReads, IsInTurn, CommitsInTurn}
@@ -123,6 +124,14 @@ module _ (laws : IndexLaws) (p : ProgramView) (t : TableState) (h : Held) (base 
         decls = ap (λ (v : TableState). v.decls) f.is;
         tables = are_tables j r f;
         right = λ below on. subst (λ v. IsRightCommit p v r.taken h j) (sym f.is) (commit laws p t h base fit reads j f.ts r.taken below f.follows on).right;
+        lands = λ below on stays.
+            let c = commit laws p t h base fit reads j f.ts r.taken below f.follows on in
+            let m = map_of p t h j in
+            let slots = slice_set (get_or f.ts m []) c.n c.s in
+            let inside = c.right.map in
+            let here : table_at (committed p (with_tables t f.ts) r.taken h j) m ≡ slots = ap (λ v. table_at v m) (committed_is j f.ts r.taken c) ∙ get_or-set_same f.ts m slots [] inside in
+            subst (λ v. slot_pointer (table_at (committed p v r.taken h j) m) (asked_key t.decls h (site_at p.sites j)) ≡ InSlot (written_slot p v r.taken h j)) (sym f.is)
+            (ap (λ xs. slot_pointer xs (asked_key t.decls h (site_at p.sites j))) here ∙ c.lands stays ∙ sym (ap InSlot c.slot));
       }
 
 pub commits_in_turn : IndexLaws → CommitsInTurn

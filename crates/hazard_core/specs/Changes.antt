@@ -2,8 +2,8 @@
 use Rattle.std.specs.Prelude.{◌≡◌, ◌≢◌, ℕ, Bool, true, false, ◌⊎◌, List, [], length, ◌<◌}
 use Rattle.std.proofs.Common.{get_or}
 use Rattle.xdp_maps.specs.declared.decl.MapKind.TheVariants.{Hash, Array}
-use Rattle.cell_core.specs.declared.site.Act.{Act}
 use Rattle.cell_core.specs.declared.site.Act.TheVariants as act
+pub use Rattle.cell_core.specs.Acts.{finds_key, reads}
 use Rattle.cell_core.specs.Sites.{ProgramView, site_at}
 use Rattle.hazard_core.specs.Tables.{Slot, TableState, decl_of, table_at, slot_at, used_count}
 use Rattle.hazard_core.specs.Held.{Held, pointer_in, found_cell, slot_pointer, asked_key, is_delete, writes}
@@ -21,18 +21,6 @@ pub record IsChange (t : TableState) (e : Change) (ts : List (List Slot)) : Type
   pub keys : (key : List ℕ) → (key ≢ e.key) ⊎ (e.presence ≡ false) → slot_pointer (get_or ts e.map []) key ≡ slot_pointer (table_at t e.map) key
   pub size : e.presence ≡ false → used_count (get_or ts e.map []) ≡ used_count (table_at t e.map)
   pub arrays : (decl_of t.decls e.map).kind ≡ Array → e.presence ≡ false
-
--- whether an operation looks for its key, and whether it reads
-abbrev pub finds_key : Act → Bool
-finds_key act.Lookup = true
-finds_key act.Update = true
-finds_key act.Delete = true
-finds_key a = false
-
-abbrev pub reads : Act → Bool
-reads (act.Load at size) = true
-reads (act.Atomic at a) = a.fetch
-reads a = finds_key a
 
 -- An untouched read of site j: the entry under its key stays, and so does its answer, whatever the packet holds else and whatever
 -- operations of its own it sees.

@@ -11,6 +11,7 @@ use Rattle.cell_core.specs.declared.operator.Operator.{Operator}
 use Rattle.cell_core.specs.declared.operator.Operator.TheVariants.{Found, Answer}
 use Rattle.cell_core.specs.declared.site.Act.{Act}
 use Rattle.cell_core.specs.declared.site.Act.TheVariants as act
+pub use Rattle.cell_core.specs.Acts.{pointer_operand}
 use Rattle.cell_core.specs.Cells.{CellView, value_in, on}
 use Rattle.cell_core.specs.Sites.{SiteView, ProgramView, site_at, records, operation_with}
 use Rattle.cell_core.specs.Rows.{numbers, taken_by}
@@ -80,13 +81,7 @@ asked decls h s = operation_with (decl_of decls s.map) s.act (map_list (held_val
 abbrev pub asked_key : List MapDecl → Held → SiteView → List ℕ
 asked_key decls h s = key_in (asked decls h s)
 
--- Of an access to an entry the pointer is the last operand: a load has no other, a store has the number before it, an atomic change the
--- source and what is compared. Of the pointer's cell the value says whether it is not null.
-abbrev pub pointer_operand : Act → ℕ
-pointer_operand (act.Store at size) = 1
-pointer_operand (act.Atomic at a) = 2
-pointer_operand a = 0
-
+-- Of the cell of a pointer the value says whether it is not null.
 abbrev pub access_pointer : Held → SiteView → Pointer
 access_pointer h s = get_or (map_list (pointer_in h) s.operands) (pointer_operand s.act) Null
 

@@ -2,19 +2,18 @@
 use Rattle.std.specs.Prelude.{◌≡◌, ℕ, zero, suc, ◌<◌, ◌≤◌, ◌==◌, nat_lt, Bool, true, false, not, ◌&&◌, ◌||◌, if◌then◌else◌, List, length, take}
 use Rattle.std.specs.List.{filter, list_all}
 use Rattle.xdp_maps.specs.declared.decl.MapDecl.{MapDecl}
-use Rattle.xdp_maps.specs.declared.decl.MapKind.{MapKind}
 use Rattle.xdp_maps.specs.declared.decl.MapKind.TheVariants.{Hash}
-use Rattle.cell_core.specs.declared.site.Act.{Act}
 use Rattle.cell_core.specs.declared.site.Act.TheVariants as act
 use Rattle.cell_core.specs.declared.operator.Operator.TheVariants.{Found, Answer}
+pub use Rattle.cell_core.specs.Acts.{is_access, asks, says_done}
 use Rattle.cell_core.specs.Cells.{bit, on}
 use Rattle.cell_core.specs.Sites.{ProgramView, site_at, records, after, read_on}
 use Rattle.cell_core.specs.Formed.{AllFit}
 use Rattle.cell_core.specs.Rows.{numbers}
-use Rattle.hazard_core.specs.Tables.{TableState, decl_of, maps_of}
-use Rattle.hazard_core.specs.Held.{Held, held_value, pointer_in, is_null, guard_on, asked_key, access_pointer, found_cell, answer_cell, is_update, is_delete, writes, parts, pending}
+use Rattle.hazard_core.specs.Tables.{TableState, decl_of, table_at, maps_of}
+use Rattle.hazard_core.specs.Held.{InSlot, slot_pointer, Held, held_value, pointer_in, is_null, guard_on, asked_key, access_pointer, found_cell, answer_cell, is_update, is_delete, writes, parts, pending}
 use Rattle.hazard_core.specs.Overlay.{found_pointer, answer_over}
-use Rattle.hazard_core.specs.Commits.{committed, taken_after}
+use Rattle.hazard_core.specs.Commits.{written_slot, committed, taken_after}
 use Rattle.hazard_core.specs.Changes.{IsRightCommit, finds_key, reads}
 use Rattle.hazard_core.specs.Tabled.{AreTables}
 
@@ -40,12 +39,6 @@ earlier p j = filter (λ i. ((site_at p.sites i).map == (site_at p.sites j).map)
 
 -- ---- what a packet holds that is on its path
 
-abbrev pub is_access : Act → Bool
-is_access (act.Load at size) = true
-is_access (act.Store at size) = true
-is_access (act.Atomic at a) = true
-is_access a = false
-
 -- An access goes through the pointer that a lookup of its key before it found. Between the two no operation of the packet brings a key of
 -- that map or takes one away.
 pub record IsAccess (p : ProgramView) (decls : List MapDecl) (h : Held) (j : ℕ) : Type 0 where
@@ -59,18 +52,6 @@ pub record IsAccess (p : ProgramView) (decls : List MapDecl) (h : Held) (j : ℕ
   pub some : on (held_value h (found_cell p.cells lookup)) ≡ true
   pub between : (i : ℕ) → lookup < i → i < j → (site_at p.sites i).map ≡ (site_at p.sites j).map → (decl_of decls (site_at p.sites j).map).kind ≡ Hash → writes p decls h i ≡ true
       → is_update (site_at p.sites i).act || is_delete (site_at p.sites i).act ≡ false
-
--- which sites the packet asks whether their key is there, and which say whether they were done
-abbrev pub asks : Act → MapKind → Bool
-asks act.Lookup kind = true
-asks act.Update Hash = true
-asks act.Delete Hash = true
-asks a kind = false
-
-abbrev pub says_done : Act → MapKind → Bool
-says_done act.Update kind = true
-says_done act.Delete Hash = true
-says_done a kind = false
 
 -- Where guards are on, the packet holds what it finds on these tables over its own earlier operations.
 pub record HoldsReads (p : ProgramView) (t : TableState) (h : Held) : Type 0 where
@@ -89,6 +70,10 @@ pub record IsInTurn (p : ProgramView) (t : TableState) (taken : List ℕ) (h : H
   pub tables : AreTables (replayed p h (record { tables = t; taken = taken }) j).tables
   pub right : j < length p.sites → writes p t.decls h j ≡ true
       → IsRightCommit p (replayed p h (record { tables = t; taken = taken }) j).tables (replayed p h (record { tables = t; taken = taken }) j).taken h j
+  -- but for a delete the slot that was written has the operation's key
+  pub lands : j < length p.sites → writes p t.decls h j ≡ true → is_delete (site_at p.sites j).act ≡ false
+      → (let r = replayed p h (record { tables = t; taken = taken }) j in
+      slot_pointer (table_at (committed p r.tables r.taken h j) (site_at p.sites j).map) (asked_key t.decls h (site_at p.sites j)) ≡ InSlot (written_slot p r.tables r.taken h j))
 
 -- The operations of such a packet, committed one after another, each write a slot of their own key, and leave tables.
 abbrev pub CommitsInTurn : Type 0

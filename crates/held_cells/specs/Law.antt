@@ -14,6 +14,7 @@ use Rattle.held_cells.specs.declared.held.Held.{Held}
 use Rattle.held_cells.specs.Held.{PointerView, AreHeld}
 use Rattle.held_cells.specs.Steps.{DoAs}
 use Rattle.held_cells.specs.Pointing.{AccessesLookUp}
+use Rattle.held_cells.specs.Reading.{ReadsAreMade, ReadsWait}
 
 abbrev pub no_made : Node
 no_made = record { place = 0; guard = 0; first = 0; end = 0 }
@@ -79,3 +80,5 @@ pub record IsLaw (g : GraphView) (p : ProgramView) : Type 0 where
   pub computes : Computes g p
   pub sited : AreSited g.decls p
   pub accesses : AccessesLookUp g.decls p
+  pub reads : ReadsAreMade g.decls p
+  pub waits : ReadsWait p

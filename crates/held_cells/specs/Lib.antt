@@ -5,4 +5,5 @@ pub mod Steps
 pub mod Operating
 pub mod Law
 pub mod Rows
+pub mod Reading
 pub mod Pointing

@@ -1,5 +1,6 @@
 -- From which lookups the pointers come that are held.
-use Rattle.std.specs.Prelude.{ℕ, ◌≡◌, ◌≢◌, ◌<◌, ◌++◌, ◌⊎◌, Bool, true, false, Option, Some, None, List, [], ◌∷◌, length, map as map_list, Contains, All}
+use Rattle.std.specs.Prelude.{ℕ, ◌≡◌, ◌≢◌, ◌<◌, ◌++◌, ◌⊎◌, Bool, true, false, Option, Some, None, List, [], ◌∷◌, length, slice_index, map as map_list, Contains, All}
+use Rattle.bpf_isa.specs.declared.instruction.Insn.{Insn}
 use Rattle.xdp_maps.specs.declared.decl.MapDecl.{MapDecl}
 use Rattle.xdp_machine.specs.State.{PacketIn}
 use Rattle.kind_core.specs.declared.kind.Kind.{Kind}
@@ -9,13 +10,15 @@ use Rattle.kind_core.specs.Kinds.{key_bytes, is_hash}
 use Rattle.cell_core.specs.declared.site.Act.{Act}
 use Rattle.cell_core.specs.declared.site.Act.TheVariants as act
 use Rattle.cell_core.specs.declared.operator.Operator.TheVariants.{Found}
+pub use Rattle.cell_core.specs.Acts.{is_access}
 use Rattle.cell_core.specs.Cells.{CellView, IsRun, cell_at, on}
 use Rattle.cell_core.specs.Sites.{SiteView, ProgramView, site_at, bytes_of}
 use Rattle.operator_cells.specs.Following.{IsFollowed}
 use Rattle.held_cells.specs.declared.held.Held.{Held}
 use Rattle.held_cells.specs.declared.way.Way.{Way}
 use Rattle.held_cells.specs.Held.{PointerView, pointer_at, key_of}
-use Rattle.held_cells.specs.Rows.{kind_at, number_at}
+use Rattle.held_cells.specs.Rows.{kind_at, number_at, map_used}
+use Rattle.held_cells.specs.Reading.{OperationReads}
 
 -- ---- the pointers that are held
 
@@ -95,20 +98,25 @@ PointsAs act.Update decls k h after next old new ps qs j s = ChangePoints decls 
 PointsAs act.Delete decls k h after next old new ps qs j s = ChangePoints decls k h after next ps qs s
 PointsAs a decls k h after next old new ps qs j s = AccessPoints k h after next ps qs s
 
--- The site of an operation, and the pointers that are held behind it.
-pub record OperationPoints (decls : List MapDecl) (k : Kinds) (h : Held) (after : Kinds) (next : Held) (old new : List CellView) (ps qs : List PointerView) (sites sites2 : List SiteView) : Type 0 where
+-- The site of an operation, before which this cell stood for what is pending of its map; the cells that read it, and the pointers that are held
+-- behind it.
+pub record OperationPoints (decls : List MapDecl) (i : Insn) (pending : ℕ) (k : Kinds) (h : Held) (after : Kinds) (next : Held) (old new : List CellView) (ps qs : List PointerView) (sites sites2 : List SiteView) : Type 0 where
   pub site : SiteView
   pub sites_are : sites2 ≡ sites ++ site ∷ []
+  pub reads : OperationReads decls (map_used k i i.op) pending old new (length sites) site
   pub points : PointsAs site.act decls k h after next old new ps qs (length sites) site
 
--- The same of any instruction: one that operates on no map adds no site and no pointer.
+-- The same of any instruction, before which these cells stood for what is pending of maps: one that operates on no map adds no site and no
+-- pointer.
 pub record PlainPoints (k : Kinds) (h : Held) (after : Kinds) (next : Held) (ps qs : List PointerView) (sites sites2 : List SiteView) : Type 0 where
   pub pointers_are : qs ≡ ps
   pub sites_are : sites2 ≡ sites
   pub kept : KeepPointers k h after next
 
-abbrev pub InstructionPoints : List MapDecl → Kinds → Held → Kinds → Held → List CellView → List CellView → List PointerView → List PointerView → List SiteView → List SiteView → Type 0
-InstructionPoints decls k h after next old new ps qs sites sites2 = PlainPoints k h after next ps qs sites sites2 ⊎ OperationPoints decls k h after next old new ps qs sites sites2
+abbrev pub InstructionPoints : List MapDecl → Insn → List ℕ → Kinds → Held → Kinds → Held → List CellView → List CellView → List PointerView → List PointerView → List SiteView → List SiteView → Type 0
+InstructionPoints decls i pending k h after next old new ps qs sites sites2 =
+    PlainPoints k h after next ps qs sites sites2
+    ⊎ ((c : ℕ) × ((q : ℕ) → map_used k i i.op ≡ Some q → q < length pending → c ≡ slice_index pending q) × OperationPoints decls i c k h after next old new ps qs sites sites2)
 
 -- ---- where edges meet and leave
 
@@ -167,12 +175,6 @@ pub record IsLookedUp (decls : List MapDecl) (cells : List CellView) (sites : Li
 -- so of each that is held
 abbrev pub AreLookedUp : List MapDecl → List CellView → List SiteView → (ℕ → ℕ) → (ℕ → ℕ) → List PointerView → Kinds → Held → Type 0
 AreLookedUp decls cells sites v u ps k h = (x : Pointing) → HoldsPointer k h x → IsLookedUp decls cells sites v u ps x
-
-abbrev pub is_access : Act → Bool
-is_access (act.Load at size) = true
-is_access (act.Store at size) = true
-is_access (act.Atomic at a) = true
-is_access a = false
 
 -- An access through the pointer of an earlier lookup on the path that found the key: it has its key and what goes with its found cell, and no
 -- operation on the path between the two brings a key of that map or takes one away, if that is a hash.

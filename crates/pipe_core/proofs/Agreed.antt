@@ -20,7 +20,7 @@ use Rattle.hazard_core.specs.Commits.{committed, change_by}
 use Rattle.beat_core.specs.Ports.{Arrival}
 use Rattle.pipe_core.specs.Machine.{Packet, State, Build, Turn, Commits, Writes, Moves, packet_of, marked_at, injected, with_kept_marks, entered, struck, is_due, sends, some_send, worked, work}
 use Rattle.pipe_core.specs.History.{next}
-use Rattle.pipe_core.specs.Agreement.{Agrees, excused_as, off_below, EnteringAgrees, StrikingAgrees}
+use Rattle.pipe_core.specs.Agreement.{UpdatesFind, Agrees, excused_as, off_below, EnteringAgrees, StrikingAgrees}
 use Rattle.pipe_core.specs.Pipeable.{IsPipeable}
 use Rattle.pipe_core.specs.Placed.{Placed}
 use Rattle.pipe_core.specs.Watched.{Watched, views_below, views_on, views_after, rest_of, turn_in, observed}
@@ -167,16 +167,16 @@ moved_clean b fit t w rest = record {
 -- ---- agreement
 
 nothing_agrees : (b : Build) (t : TableState) (c : Arrival) → Agrees b t (packet_of c) 0 (injected b.program)
-nothing_agrees b t c = record { values = length-replicate (length b.program.cells) 0; pointers = length-replicate (length b.program.cells) Null; each = λ i l low free. absurd (omega (arith, low)) }
+nothing_agrees b t c = record { values = length-replicate (length b.program.cells) 0; pointers = length-replicate (length b.program.cells) Null; fit = λ i l low read. absurd (omega (arith, low)); each = λ i l low free. absurd (omega (arith, low)) }
 
-struck_agrees : StrikingAgrees → CommitsChange → (b : Build) → IsPipeable b → (w : Watched) (rest : List (Option Packet)) (j : ℕ) (y : Packet) → IsAgreed b w → writes b.program w.trace.state.tables.decls y.held j ≡ true → IsRightCommit b.program w.trace.state.tables w.trace.state.taken y.held j →
+struck_agrees : StrikingAgrees → CommitsChange → (b : Build) → IsPipeable b → (w : Watched) (rest : List (Option Packet)) (j : ℕ) (y : Packet) → UpdatesFind w.trace.state.tables.decls b → IsAgreed b w → writes b.program w.trace.state.tables.decls y.held j ≡ true → IsRightCommit b.program w.trace.state.tables w.trace.state.taken y.held j →
     StruckSteps b w.trace.state.tables (change_by b.program w.trace.state.tables w.trace.state.taken y.held j) b.plan.commit (Settled b rest (Known b w))
     (λ k c x. Agrees b (views_below b.plan.commit (committed b.program w.trace.state.tables w.trace.state.taken y.held j) w.views k) (packet_of c) (suc k) x)
 unfolding committed
-struck_agrees striking changes b fit w rest j y h on right = record {
+struck_agrees striking changes b fit w rest j y updates h on right = record {
   hit = λ k c x l m.
       subst (λ (d : Bool). Agrees b (if d then u else w.views k) (packet_of c) (suc k) (struck b t k e x)) (sym l)
-      (striking b fit.reads t u.tables e (packet_of c) k x (changes b.program t w.trace.state.taken y.held j on right)
+      (striking b fit.reads t u.tables e (packet_of c) k x updates (changes b.program t w.trace.state.taken y.held j on right)
       (subst (λ (v : TableState). Agrees b v (packet_of c) (suc k) x) (h.current k (below k l)) m.holds.agrees));
   missed = λ k c x l m. subst (λ (d : Bool). Agrees b (if d then u else w.views k) (packet_of c) (suc k) x) (sym l) m.holds.agrees;
 }
@@ -219,11 +219,11 @@ turn_clean b fit w rest (Commits j x) right = struck_clean b w.trace.state.table
 turn_clean b fit w rest (Writes a n) right = absurd right
 turn_clean b fit w rest Moves right = moved_clean b fit w.trace.state.tables w rest
 
-turn_agrees : EnteringAgrees → StrikingAgrees → CommitsChange → (b : Build) → IsPipeable b → (w : Watched) (rest : List (Option Packet)) (u : Turn) → IsAgreed b w → TurnIs b w.trace.state rest u → IsRightTurn b w.trace.state u →
+turn_agrees : EnteringAgrees → StrikingAgrees → CommitsChange → (b : Build) → IsPipeable b → (w : Watched) (rest : List (Option Packet)) (u : Turn) → UpdatesFind w.trace.state.tables.decls b → IsAgreed b w → TurnIs b w.trace.state rest u → IsRightTurn b w.trace.state u →
     TurnSteps b w.trace.state (Settled b rest (Known b w)) (λ k c x. Agrees b (views_after b w.trace.state u w.views k) (packet_of c) (suc k) x) u
-turn_agrees entering striking changes b fit w rest (Commits j x) h is right = struck_agrees striking changes b fit w rest j x h is.writes_there right
-turn_agrees entering striking changes b fit w rest (Writes a n) h is right = absurd right
-turn_agrees entering striking changes b fit w rest Moves h is right = moved_agrees entering b fit w rest h
+turn_agrees entering striking changes b fit w rest (Commits j x) updates h is right = struck_agrees striking changes b fit w rest j x updates h is.writes_there right
+turn_agrees entering striking changes b fit w rest (Writes a n) updates h is right = absurd right
+turn_agrees entering striking changes b fit w rest Moves updates h is right = moved_agrees entering b fit w rest h
 
 record ViewsKeep (b : Build) (s v : State) (views : ℕ → TableState) : Type 0 where
   current : (k : ℕ) → k < b.plan.commit → views k ≡ v.tables
@@ -246,7 +246,7 @@ views_keep b s back rest Moves views right = record {
 
 pub keeps_agreed : EnteringAgrees → StrikingAgrees → CommitsChange → KeepsAgreed
 unfolding observed next work
-keeps_agreed entering striking changes b fit i silent w o right h =
+keeps_agreed entering striking changes b fit i silent w updates o right h =
     let s = w.trace.state in
     let u = turn_in b i s in
     let rest = rest_of b s in
@@ -256,7 +256,7 @@ keeps_agreed entering striking changes b fit i silent w o right h =
     record {
       marked = keeps_marked b i w o h.marked;
       clean = next_placed b i w.trace (Known b w) (λ k c x. IsClean b k x) o known (turn_clean b fit w rest u right);
-      agree = next_placed b i w.trace (Known b w) (λ k c x. Agrees b (views_after b s u w.views k) (packet_of c) (suc k) x) o known (turn_agrees entering striking changes b fit w rest u h (turn_is b i silent s rest) right);
+      agree = next_placed b i w.trace (Known b w) (λ k c x. Agrees b (views_after b s u w.views k) (packet_of c) (suc k) x) o known (turn_agrees entering striking changes b fit w rest u updates h (turn_is b i silent s rest) right);
       current = λ k l. v.current k l ∙ sym aside.tables;
       begun = λ e. v.begun (sym aside.done ∙ e) ∙ sym aside.tables;
     }

@@ -1,8 +1,10 @@
 -- What packets hold of reads.
 use Rattle.std.proofs.Common.{◌≡◌, ◌≢◌, ℕ, zero, suc, ◌+◌, ◌<◌, ◌≤◌, ◌⊎◌, inl, inr, Bool, true, false, List, [], ◌∷◌, Option, Some, None, length, get_or, drop, refl, sym, ap, ◌∙◌, subst, arith, not, length-set, get_or-set_other, get_or-set_same}
-use Rattle.std.specs.Prelude.{if◌then◌else◌, nat_lt, nat_le, ◌==◌, ◌&&◌, ◌||◌, map as map_list, All}
+use Rattle.std.specs.Prelude.{if◌then◌else◌, nat_lt, nat_le, ◌==◌, ◌^◌, ◌/◌, ◌&&◌, ◌||◌, map as map_list, All}
 use Rattle.std.proofs.lemmas.Bool.Decides.{nat_tests, Decides-eqb}
 use Rattle.std.proofs.lemmas.Bool.{cases_lt, or_parts}
+use Rattle.std.proofs.lemmas.Nat.{pow_pos}
+use Rattle.std.proofs.Math.Nat.{mod-lt}
 use Rattle.xdp_machine.specs.State.{PacketIn}
 use Rattle.cell_core.specs.declared.operator.Operator.{Operator}
 use Rattle.cell_core.specs.declared.operator.Operator.TheVariants.{Found, Answer, Wire, Phi}
@@ -18,7 +20,7 @@ use Rattle.hazard_core.specs.Rows.{phi_pointer, cell_number, cell_pointer, with_
 use Rattle.hazard_core.specs.Marks.{known_off}
 use Rattle.hazard_core.specs.Keeping.{SameCell, AreAlike, LooksBelow, ReadsKeep}
 use Rattle.pipe_core.specs.Machine.{Build, packet_of, marked_at, with_kept_marks, entered}
-use Rattle.pipe_core.specs.Agreement.{ReadsArePlanned, IsMade, excused_as, off_below, EnteringAgrees}
+use Rattle.pipe_core.specs.Agreement.{ReadsArePlanned, ReadsFit, IsMade, excused_as, off_below, EnteringAgrees}
 use Rattle.pipe_core.proofs.Computing.{map_alike, drop_next}
 
 -- ---- a cell is made the same from the same inputs
@@ -32,11 +34,11 @@ phi_same h g (e ∷ x ∷ d ∷ more) a =
     ∙ ap (λ (q : Pointer). if on (held_value g e) then q else phi_pointer h (d ∷ more)) (a 1 x (omega arith)).pointer
     ∙ ap (λ (q : Pointer). if on (held_value g e) then pointer_in g x else q) (phi_same h g (d ∷ more) (λ i y l. a (suc (suc i)) y (omega arith)))
 
-record MadeSame (b : Build) (r : ℕ) (t : TableState) (packet : PacketIn) (h g : Held) (c : CellView) (op : Operator) : Type 0 where
-  number : cell_number b.program b.plan.row r t packet h c op ≡ cell_number b.program b.plan.row r t packet g c op
-  pointer : cell_pointer b.program b.plan.row r t h c op ≡ cell_pointer b.program b.plan.row r t g c op
+pub record MadeSame (b : Build) (r : ℕ) (t : TableState) (packet : PacketIn) (h g : Held) (c : CellView) (op : Operator) : Type 0 where
+  pub number : cell_number b.program b.plan.row r t packet h c op ≡ cell_number b.program b.plan.row r t packet g c op
+  pub pointer : cell_pointer b.program b.plan.row r t h c op ≡ cell_pointer b.program b.plan.row r t g c op
 
-made_same : (keep : ReadsKeep) (b : Build) (r : ℕ) (t : TableState) (packet : PacketIn) (h g : Held) (c : CellView) (op : Operator) → AreAlike b.program b.plan.row r h g →
+pub made_same : (keep : ReadsKeep) (b : Build) (r : ℕ) (t : TableState) (packet : PacketIn) (h g : Held) (c : CellView) (op : Operator) → AreAlike b.program b.plan.row r h g →
     All (λ i. SameCell h g i) c.ins → takes op ≤ length c.ins → ((j : ℕ) → site_in op ≡ Some j → LooksBelow b.plan.row r (site_at b.program.sites j)) → MadeSame b r t packet h g c op
 made_same keep b r t packet h g c (Found j) alike ins enough below =
     let k = keep b.program b.plan.row r j t h g alike (below j refl) in
@@ -67,7 +69,7 @@ stays_made keep b plan t packet h g c l alike ins same m =
     }
 
 -- setting another cell
-set_same : (h : Held) (k x : ℕ) (p : Pointer) (c : ℕ) → c ≢ k → SameCell h (with_cell h k x p) c
+pub set_same : (h : Held) (k x : ℕ) (p : Pointer) (c : ℕ) → c ≢ k → SameCell h (with_cell h k x p) c
 set_same h k x p c other = record { value = sym (get_or-set_other h.values k c x 0 other); pointer = sym (get_or-set_other h.pointers k c p Null other) }
 
 record AllMade (b : Build) (t : TableState) (packet : PacketIn) (r k : ℕ) (h : Held) : Type 0 where
@@ -75,7 +77,7 @@ record AllMade (b : Build) (t : TableState) (packet : PacketIn) (r k : ℕ) (h :
   pointers : length h.pointers ≡ length b.program.cells
   each : (c : ℕ) → c < length b.program.cells → (b.plan.row c ≡ r) × (c < k) → IsMade b t packet h c
 
-same_trans : (h g f : Held) (c : ℕ) → SameCell h g c → SameCell g f c → SameCell h f c
+pub same_trans : (h g f : Held) (c : ℕ) → SameCell h g c → SameCell g f c → SameCell h f c
 same_trans h g f c a b = record { value = a.value ∙ b.value; pointer = a.pointer ∙ b.pointer }
 
 made_step : (keep : ReadsKeep) (b : Build) → ReadsArePlanned b → (t : TableState) (packet : PacketIn) (r k x : ℕ) (p : Pointer) (h : Held) → k < length b.program.cells → b.plan.row k ≡ r →
@@ -187,6 +189,18 @@ rowed keep b plan t packet r h v q =
     other c (inl lower) = inl (λ e. omega (arith, e, lower))
     other c (inr past) = inr past
 
+-- what is made in a row fits, and so does what is kept
+row_fits : (b : Build) (t : TableState) (packet : PacketIn) (r : ℕ) (h g : Held) → Rowed b t packet r h g → ReadsFit b r h → ReadsFit b (suc r) g
+row_fits b t packet r h g w fits c l low read =
+    let d = cell_at b.program.cells c in
+    elim (cases_lt (b.plan.row c) r) [
+      | inl before ↦ subst (λ n. n < 2 ^ d.width) (w.same c (inl before)).value (fits c l before read)
+      | inr after ↦
+          let m = w.made c l (omega (arith, low, after)) in
+          let n = cell_number b.program b.plan.row (b.plan.row c) t packet g d d.op in
+          subst (λ x. x < 2 ^ d.width) (sym m.value) (mod-lt (n / 2 ^ d.from) (pow_pos d.width))
+    ]
+
 numbered : (f : ℕ → Bool) (from n j : ℕ) → j < n → get_or (map_list f (numbers from n)) j false ≡ f (from + j)
 numbered f from zero j l = absurd (omega arith)
 numbered f from (suc n) zero l = ap f (omega arith)
@@ -239,6 +253,7 @@ entering keep rise b plan t came k x a =
     record {
       values = w.values;
       pointers = w.pointers;
+      fit = row_fits b t packet k x.held (with_row b.program b.plan.row k t packet x.held) w a.fit;
       each = λ c l lower free. elim (cases_lt (b.plan.row c) k) [
         | inl before ↦
             stays_made keep b plan t packet x.held (with_row b.program b.plan.row k t packet x.held) c l (alike w.same c before)

@@ -23,7 +23,7 @@ map_alike v w (x ∷ xs) h =
     ap (λ y. y ∷ map_list v xs) (h 0 x (omega arith)) ∙ ap (λ ys. w x ∷ ys) (map_alike v w xs (λ k d l. h (suc k) d (omega arith)))
 
 -- what is no read takes its inputs alone
-plain : (p : ProgramView) (row : ℕ → ℕ) (r : ℕ) (t : TableState) (packet : PacketIn) (h : Held) (c : CellView) (op : Operator) → is_read op ≡ false →
+pub plain : (p : ProgramView) (row : ℕ → ℕ) (r : ℕ) (t : TableState) (packet : PacketIn) (h : Held) (c : CellView) (op : Operator) → is_read op ≡ false →
     cell_number p row r t packet h c op ≡ number packet op (map_list (held_value h) c.ins)
 plain p row r t packet h c (Found j) e = cc
 plain p row r t packet h c (Answer j) e = cc

@@ -1,4 +1,4 @@
--- A program without operations on maps: each clock of the full drive brings the end nearer.
+-- Where nothing is sent back, each clock of the full drive that commits no operation brings the end nearer.
 use Rattle.std.proofs.Common.{◌≡◌, ℕ, zero, suc, ◌+◌, ◌-◌, ◌*◌, ◌/◌, ◌<◌, ◌≤◌, ◌⊎◌, inl, inr, Bool, true, false, List, [], ◌∷◌, ◌++◌, Option, Some, None, length, get_or, drop, refl, sym, ap, ◌∙◌, subst, arith, not, length-append, length-drop}
 use Rattle.std.specs.Prelude.{if◌then◌else◌, nat_lt, nat_le, ◌&&◌, ◌||◌, is_some, min, slice_set}
 use Rattle.std.proofs.lemmas.Bool.Decides.{nat_tests}
@@ -18,12 +18,18 @@ use Rattle.cell_core.specs.Cells.{bit}
 use Rattle.cell_core.specs.Sites.{ProgramView, with_bytes}
 use Rattle.hazard_core.specs.Tables.{TableState}
 use Rattle.beat_core.specs.Ports.{Arrival}
-use Rattle.pipe_core.specs.Machine.{Packet, State, Input, Build, Moves, inside, some_send, is_due, moved, injected, place_at, answers_by, commits_or_moves, worked, work, came_with, gathered, is_ready, beat_over, beat_at, taken_beat, scattered, clock}
+use Rattle.hazard_core.specs.declared.change.Change.{Change}
+use Rattle.hazard_core.specs.Commits.{change_by}
+use Rattle.std.specs.Option.{option_map}
+use Rattle.pipe_core.specs.Machine.{Packet, State, Input, Build, Turn, Commits, Writes, Moves, inside, some_send, swept, is_due, struck, struck_below, moved, injected, place_at, answers_by, commits_or_moves, turn_of, worked, work, came_with, gathered, is_ready, beat_over, beat_at, taken_beat, scattered, clock}
 use Rattle.pipe_core.specs.History.{came_in, next, IsInOrder}
 use Rattle.pipe_core.specs.Drive.{Driven, first_of, driving, drive_clock, Beside, drive, drive_start, EndsWithoutMaps}
+use Rattle.pipe_core.specs.Forward.{GoesForward, commit_count, commits_in, EndsForward}
+use Rattle.pipe_core.specs.Watched.{turn_in}
 use Rattle.pipe_core.proofs.Carrying.{swept_none}
+use Rattle.pipe_core.proofs.Turning.{TurnIs, turn_is}
 use Rattle.std.proofs.lemmas.Bool.{cases_lt}
-use Rattle.pipe_core.proofs.Order.{last_or, moved_inside, moved_length, place_last, some_last, keeps_order, beats_keep, answers_length, begins}
+use Rattle.pipe_core.proofs.Order.{struck_inside, struck_length, last_or, moved_inside, moved_length, place_last, some_last, keeps_order, beats_keep, answers_length, begins}
 
 -- ---- what is still to be done
 
@@ -79,6 +85,16 @@ inside_way [] = omega arith
 inside_way (None ∷ xs) = inside_way xs
 inside_way (Some x ∷ xs) = omega (arith, inside_way xs, way_at_most xs)
 
+way_struck : (to : ℕ) (b : Build) (t : TableState) (e : Change) (k : ℕ) (xs : List (Option Packet)) → way (struck_below to b t e k xs) ≡ way xs
+way_struck to b t e k [] = refl
+way_struck to b t e k (x ∷ xs) = by (nat_lt k to) x (way_struck to b t e (suc k) xs)
+  where
+    by : (c : Bool) (x : Option Packet) → way (struck_below to b t e (suc k) xs) ≡ way xs → way ((if c then option_map (struck b t k e) x else x) ∷ struck_below to b t e (suc k) xs) ≡ way (x ∷ xs)
+    by true None more = more
+    by true (Some x) more = ap suc (struck_length to b t e (suc k) xs)
+    by false None more = more
+    by false (Some x) more = ap suc (struck_length to b t e (suc k) xs)
+
 pub bytes_length : (v : ℕ → ℕ) (frame : List ℕ) (bs : List FrameByte) → length (with_bytes v frame bs) ≡ length frame
 bytes_length v frame [] = refl
 bytes_length v frame (x ∷ bs) = bytes_length v (slice_set frame x.at (v x.cell)) bs ∙ length-set frame x.at (v x.cell)
@@ -110,27 +126,34 @@ no_choice : (b : Build) → b.program.sites ≡ [] → (s : State) (x : Option P
 no_choice b none s None = refl
 no_choice b none s (Some x) = rw none refl
 
-pub work_is : (b : Build) → b.program.sites ≡ [] → (i : Input) → i.host ≡ None → (s : State) → work b i s ≡ worked b s false s.places Moves
+work_ahead : (b : Build) (i : Input) (s : State) → some_send b 0 s.places ≡ false → work b i s ≡ worked b s false s.places (turn_of b i s s.places)
 unfolding work
-work_is b none i silent s = rw (no_sends b none 0 s.places, swept_none b 0 s.places (no_sends b none 0 s.places), silent, no_choice b none s (place_at s.places b.plan.commit)) refl
+work_ahead b i s ahead = rw (ahead, swept_none b 0 s.places ahead) refl
+
+pub work_is : (b : Build) → b.program.sites ≡ [] → (i : Input) → i.host ≡ None → (s : State) → work b i s ≡ worked b s false s.places Moves
+work_is b none i silent s = work_ahead b i s (no_sends b none 0 s.places) ∙ rw (silent, no_choice b none s (place_at s.places b.plan.commit)) refl
+
+no_commits : (b : Build) → b.program.sites ≡ [] → (i : Input) → i.host ≡ None → (s : State) → commit_count (turn_in b i s) ≡ 0
+no_commits b none i silent s = rw (silent, no_choice b none s (place_at (swept b 0 s.places) b.plan.commit)) refl
 
 -- ---- the work of a clock
 
-record Advances (b : Build) (s w : State) : Type 0 where
+record Advances (b : Build) (stalls : ℕ) (s w : State) : Type 0 where
   out : ℕ
   new : ℕ
   more : List Answer
   frames : length w.frames + out ≡ length s.frames
   places : inside w.places + out ≡ inside s.places + new
   beats_stay : answer_beats w.answers + frame_beats w.frames ≡ answer_beats s.answers + frame_beats s.frames
-  waits : inside s.places < length s.frames → (new ≡ 1) × (way w.places ≡ b.plan.last + 1)
-  none_waits : length s.frames ≤ inside s.places → (new ≡ 0) × (way w.places ≡ way s.places - 1)
+  waits : stalls ≡ 0 → inside s.places < length s.frames → (new ≡ 1) × (way w.places ≡ b.plan.last + 1)
+  none_waits : stalls ≡ 0 → length s.frames ≤ inside s.places → (new ≡ 0) × (way w.places ≡ way s.places - 1)
+  stalled : 1 ≤ stalls → (new ≡ 0) × (way w.places ≡ way s.places)
   answers : w.answers ≡ s.answers ++ more
   part : w.part ≡ s.part
   pos_stays : w.pos ≡ s.pos
 
-advances : (b : Build) (s : State) → length s.places ≡ suc b.plan.last → inside s.places ≤ length s.frames → Advances b s (worked b s false s.places Moves)
-advances b s h l = by (nat_lt (inside s.places) (length s.frames)) refl
+advances_moving : (b : Build) (s : State) → length s.places ≡ suc b.plan.last → inside s.places ≤ length s.frames → Advances b 0 s (worked b s false s.places Moves)
+advances_moving b s h l = by (nat_lt (inside s.places) (length s.frames)) refl
   where
     x : Option Packet
     x = place_at s.places b.plan.last
@@ -143,7 +166,7 @@ advances b s h l = by (nat_lt (inside s.places) (length s.frames)) refl
     count [] h = absurd (omega (arith, h))
     count (y ∷ ys) h = omega (arith, some_last y ys, ap (λ z. bit (is_some z)) (at_last (y ∷ ys) h None))
 
-    by : (c : Bool) → nat_lt (inside s.places) (length s.frames) ≡ c → Advances b s (record s {
+    by : (c : Bool) → nat_lt (inside s.places) (length s.frames) ≡ c → Advances b 0 s (record s {
       answers = s.answers ++ answers_by b.program s.frames x;
       frames = drop (bit (is_some x)) s.frames;
       places = moved b s.tables s.frames 0 (if c then Some (injected b.program) else None) s.places;
@@ -161,8 +184,9 @@ advances b s h l = by (nat_lt (inside s.places) (length s.frames)) refl
           frames = omega (arith, length-drop (bit (is_some x)) s.frames, some);
           places = omega (arith, moved_inside b s.tables s.frames 0 new s.places, same, one c);
           beats_stay = omega (arith, answer_append s.answers (answers_by b.program s.frames x), answered_beats b.program s.frames x some);
-          waits = λ l. waiting c e l;
-          none_waits = λ l. idle c e l;
+          waits = λ moves l. waiting c e l;
+          none_waits = λ moves l. idle c e l;
+          stalled = λ l. absurd (omega arith);
           answers = refl;
           part = refl;
           pos_stays = refl;
@@ -179,6 +203,30 @@ advances b s h l = by (nat_lt (inside s.places) (length s.frames)) refl
         idle : (c : Bool) → nat_lt (inside s.places) (length s.frames) ≡ c → length s.frames ≤ inside s.places → (bit c ≡ 0) × (way (moved b s.tables s.frames 0 (if c then Some (injected b.program) else None) s.places) ≡ way s.places - 1)
         idle true e l = let m : inside s.places < length s.frames = grind (arith, nat_tests) in absurd (omega arith)
         idle false e l = (refl, way_moved b s.tables s.frames 0 None s.places)
+
+advances : (b : Build) (s : State) → length s.places ≡ suc b.plan.last → inside s.places ≤ length s.frames → (u : Turn) → TurnIs b s s.places u → Advances b (commit_count u) s (worked b s false s.places u)
+advances b s h l (Commits j x) is =
+    let e : Change = change_by b.program s.tables s.taken x.held j in
+    record {
+      out = 0;
+      new = 0;
+      more = [];
+      frames = omega arith;
+      places = omega (arith, struck_inside b.plan.commit b s.tables e 0 s.places);
+      beats_stay = refl;
+      waits = λ moves l. absurd (omega arith);
+      none_waits = λ moves l. absurd (omega arith);
+      stalled = λ l. (refl, way_struck b.plan.commit b s.tables e 0 s.places);
+      answers = none_more s.answers;
+      part = refl;
+      pos_stays = refl;
+    }
+  where
+    none_more : (xs : List Answer) → xs ≡ xs ++ []
+    none_more [] = refl
+    none_more (x ∷ xs) = ap (λ ys. x ∷ ys) (none_more xs)
+advances b s h l (Writes a n) is = absurd is
+advances b s h l Moves is = advances_moving b s h l
 
 -- ---- a beat comes
 
@@ -415,6 +463,14 @@ nearer S G pos L I E W G' pos' L' I' E' W' new a e0 e1 e2 e3 p p' l i w n idle g
         ends q (inl z) = omega (arith, idle none, q.0, q.1, q.2 z, e1 q.1, e3 (omega (arith, q.1)), n (omega (arith, q.1)))
         ends q (inr z) = omega (arith, idle none, q.0, q.1, e1 q.1, e3 (omega (arith, q.1)), n (omega (arith, q.1)))
 
+-- in a clock that commits an operation nothing goes back
+no_farther : (S G pos L I E W G' pos' L' E' W' : ℕ) → (0 < I → E ≡ S + 1) → (I ≡ 0 → E ≡ W) → (0 < I → E' ≡ S + 1) → (I ≡ 0 → E' ≡ W') →
+    pos ≤ G → pos' ≤ G' → L' ≤ L → W' ≡ W → G' + pos ≤ G + pos' → (G' - pos') + L' + I + E' ≤ (G - pos) + L + I + E
+no_farther S G pos L I E W G' pos' L' E' W' e0 e1 e2 e3 p p' l w g = elim (cases_lt 0 I) [
+  | inl some ↦ omega (arith, e0 (omega arith), e2 (omega arith))
+  | inr none ↦ omega (arith, e1 (omega arith), e3 (omega arith))
+]
+
 if_some : (i s w : ℕ) → 0 < i → (if nat_lt 0 i then s else w) ≡ s
 if_some i s w h = by (nat_lt 0 i) refl
   where
@@ -432,17 +488,20 @@ if_none i s w h = by (nat_lt 0 i) refl
 one_of : (m n : ℕ) → (m < n) ⊎ (n ≤ m)
 one_of m n = cases_lt m n
 
-record Stepped (n : ℕ) (b : Build) (d e : Driven) : Type 0 where
+-- a clock of the drive, which may commit an operation
+record Stepped (n : ℕ) (b : Build) (stalls : ℕ) (d e : Driven) : Type 0 where
   driving : Driving n b e
-  nearer : far b e ≤ far b d - 1
+  no_farther : far b e ≤ far b d
+  nearer : stalls ≡ 0 → far b e ≤ far b d - 1
 
 pub no_lasts : (left : List Beat) → length left ≡ 0 → lasts left ≡ 0
 no_lasts [] h = refl
 no_lasts (x ∷ left) h = absurd (omega arith)
 
-steps : (n : ℕ) (b : Build) → b.program.sites ≡ [] → b.slots ≡ b.plan.last + 4 → (ifindex time : ℕ) (d : Driven) → Driving n b d → Stepped n b d (drive_clock b ifindex time d)
+steps : (n : ℕ) (b : Build) → b.slots ≡ b.plan.last + 4 → (ifindex time : ℕ) (d : Driven) → some_send b 0 d.trace.state.places ≡ false → Driving n b d →
+    Stepped n b (commit_count (turn_in b (driving ifindex time d.left) d.trace.state)) d (drive_clock b ifindex time d)
 unfolding drive_clock next clock
-steps n b none slots ifindex time d v = record {
+steps n b slots ifindex time d ahead v = record {
   driving = record {
     order = order;
     count = omega (arith, v.count, length-append d.trace.came (came_in s i (beat_over b s i)), ap length (beats_keep b i d.trace v.order).frames, length-append w.frames (came_in s i (beat_over b s i)), ap length gv.frames, tk.frames_stay);
@@ -451,13 +510,11 @@ steps n b none slots ifindex time d v = record {
     ends = subst (λ x. EndsWhole (is_some x) left) (sym gv.part) tk.ends;
     at = gv.at;
   };
-  nearer = nearer S G s.pos L I E W G' c.pos L' I' E' W' ad.new (length s.answers)
-      (λ h. if_some I (S + 1) W h) (λ h. if_none I (S + 1) W h) (λ h. if_some I' (S + 1) W' h) (λ h. if_none I' (S + 1) W' h)
-      (omega (arith, at_within s.pos s.answers v.at)) (omega (arith, at_within c.pos c.answers gv.at)) tk.fewer injects
-      (omega (arith, way_at_most c.places, order.places)) stays
-      (λ h. omega (arith, gv.idle h, stay, ap frame_beats gv.frames, ap part_beats gv.part, pos))
-      (λ h. omega (arith, gv.goes h, stay, ap frame_beats gv.frames, ap part_beats gv.part, pos))
-      why;
+  no_farther = elim (cases_lt 0 stalls) [
+    | inl stalling ↦ stands stalling
+    | inr moving ↦ omega (arith, comes_nearer (omega (arith, moving)))
+  ];
+  nearer = comes_nearer;
 }
   where
     S : ℕ
@@ -472,8 +529,12 @@ steps n b none slots ifindex time d v = record {
     w : State
     w = work b i s
 
-    ad : Advances b s w
-    ad = subst (Advances b s) (sym (work_is b none i refl s)) (advances b s v.order.places v.order.packets)
+    stalls : ℕ
+    stalls = commit_count (turn_in b i s)
+
+    ad : Advances b stalls s w
+    ad = subst (λ rest. Advances b (commit_count (turn_of b i s rest)) s w) (sym (swept_none b 0 s.places ahead))
+        (subst (Advances b (commit_count (turn_of b i s s.places)) s) (sym (work_ahead b i s ahead)) (advances b s v.order.places v.order.packets (turn_of b i s s.places) (turn_is b i refl s s.places)))
 
     left : List Beat
     left = if is_ready b s then drop 1 d.left else d.left
@@ -533,29 +594,45 @@ steps n b none slots ifindex time d v = record {
     places : c.places ≡ w.places
     places = gv.places ∙ tk.places
 
-    new_is : (ad.new ≡ 0) × (length s.frames ≤ inside s.places) ⊎ (ad.new ≡ 1) × (inside s.places < length s.frames)
-    new_is = elim (one_of (inside s.places) (length s.frames)) [
-      | inl l ↦ inr ((ad.waits l).0, l)
-      | inr l ↦ inl ((ad.none_waits l).0, l)
+    new_is : stalls ≡ 0 → (ad.new ≡ 0) × (length s.frames ≤ inside s.places) ⊎ (ad.new ≡ 1) × (inside s.places < length s.frames)
+    new_is moving = elim (one_of (inside s.places) (length s.frames)) [
+      | inl l ↦ inr ((ad.waits moving l).0, l)
+      | inr l ↦ inl ((ad.none_waits moving l).0, l)
     ]
 
-    injects : I' + ad.new ≡ I
-    injects = elim new_is [
+    injects : stalls ≡ 0 → I' + ad.new ≡ I
+    injects moving = elim (new_is moving) [
       | inl q ↦ omega (arith, q.0, q.1, ap length gv.frames, tk.frames_stay, ad.frames, ad.places, ap inside places, v.order.packets, order.packets)
       | inr q ↦ omega (arith, q.0, q.1, ap length gv.frames, tk.frames_stay, ad.frames, ad.places, ap inside places, v.order.packets, order.packets)
     ]
 
-    stays : ad.new ≡ 0 → W' ≡ W - 1
-    stays z = elim new_is [
-      | inl q ↦ ap way places ∙ (ad.none_waits q.1).1
+    stays : stalls ≡ 0 → ad.new ≡ 0 → W' ≡ W - 1
+    stays moving z = elim (new_is moving) [
+      | inl q ↦ ap way places ∙ (ad.none_waits moving q.1).1
       | inr q ↦ absurd (omega (arith, z, q.0))
     ]
 
-    why : length s.answers ≡ 0 → (L' + 1 ≤ L) ⊎ ((ad.new ≡ 1) ⊎ ((L ≡ 0) × (I ≡ 0) × (W ≡ 0 → G ≡ 0)))
-    why z = elim (goes_in b s d.left slots v.order.places z) [
+    no_more : G' + s.pos ≤ G + c.pos
+    no_more = elim (cases_lt 0 (length s.answers)) [
+      | inl some ↦ omega (arith, gv.goes (omega (arith, some)), stay, ap frame_beats gv.frames, ap part_beats gv.part, pos)
+      | inr none ↦ omega (arith, gv.idle (omega (arith, none)), stay, ap frame_beats gv.frames, ap part_beats gv.part, pos)
+    ]
+
+    -- frames are injected in clocks that move alone
+    stands : 0 < stalls → far b (drive_clock b ifindex time d) ≤ far b d
+    stands stalling =
+        let q = ad.stalled (omega (arith, stalling)) in
+        let same : I' ≡ I = omega (arith, q.0, ap length gv.frames, tk.frames_stay, ad.frames, ad.places, ap inside places, v.order.packets, order.packets) in
+        let e : E' ≡ (if nat_lt 0 I then S + 1 else W') = ap (λ n. if nat_lt 0 n then S + 1 else W') same in
+        let g = no_farther S G s.pos L I E W G' c.pos L' E' W' (λ h. if_some I (S + 1) W h) (λ h. if_none I (S + 1) W h) (λ h. e ∙ if_some I (S + 1) W' h) (λ h. e ∙ if_none I (S + 1) W' h)
+        (omega (arith, at_within s.pos s.answers v.at)) (omega (arith, at_within c.pos c.answers gv.at)) tk.fewer (ap way places ∙ q.1) no_more in
+        omega (arith, g, same)
+
+    why : stalls ≡ 0 → length s.answers ≡ 0 → (L' + 1 ≤ L) ⊎ ((ad.new ≡ 1) ⊎ ((L ≡ 0) × (I ≡ 0) × (W ≡ 0 → G ≡ 0)))
+    why moving z = elim (goes_in b s d.left slots v.order.places z) [
       | inl beat ↦ inl beat
       | inr more ↦ elim more [
-        | inl empty ↦ elim new_is [
+        | inl empty ↦ elim (new_is moving) [
           | inl q ↦ inr (inr (
             empty,
             omega (arith, no_lasts d.left empty, q.1),
@@ -563,19 +640,66 @@ steps n b none slots ifindex time d v = record {
           ))
           | inr q ↦ inr (inl q.0)
         ]
-        | inr waits ↦ inr (inl (ad.waits waits).0)
+        | inr waits ↦ inr (inl (ad.waits moving waits).0)
       ]
     ]
 
+    comes_nearer : stalls ≡ 0 → far b (drive_clock b ifindex time d) ≤ far b d - 1
+    comes_nearer moving = nearer S G s.pos L I E W G' c.pos L' I' E' W' ad.new (length s.answers)
+        (λ h. if_some I (S + 1) W h) (λ h. if_none I (S + 1) W h) (λ h. if_some I' (S + 1) W' h) (λ h. if_none I' (S + 1) W' h)
+        (omega (arith, at_within s.pos s.answers v.at)) (omega (arith, at_within c.pos c.answers gv.at)) tk.fewer (injects moving)
+        (omega (arith, way_at_most c.places, order.places)) (stays moving)
+        (λ h. omega (arith, gv.idle h, stay, ap frame_beats gv.frames, ap part_beats gv.part, pos))
+        (λ h. omega (arith, gv.goes h, stay, ap frame_beats gv.frames, ap part_beats gv.part, pos))
+        (why moving)
+
 -- ---- the whole drive
+
+record Drove (n : ℕ) (b : Build) (commits clocks : ℕ) (d e : Driven) : Type 0 where
+  driving : Driving n b e
+  no_farther : far b e ≤ far b d
+  nearer : (far b e ≡ 0) ⊎ (far b e + clocks ≤ far b d + commits)
+
+one_more : (n : ℕ) (b : Build) (x : Beside) (xs : List Beside) (d : Driven) → Stepped n b (commit_count (turn_in b (driving x.ifindex x.time d.left) d.trace.state)) d (drive_clock b x.ifindex x.time d) →
+    (let e = drive_clock b x.ifindex x.time d in Drove n b (commits_in b xs e) (length xs) e (drive b xs e)) → Drove n b (commits_in b (x ∷ xs) d) (length (x ∷ xs)) d (drive b (x ∷ xs) d)
+one_more n b x xs d s r = record {
+  driving = r.driving;
+  no_farther = omega (arith, r.no_farther, s.no_farther);
+  nearer = elim (cases_lt 0 (far b d)) [
+    | inl some ↦ elim r.nearer [
+      | inl ended ↦ inl ended
+      | inr more ↦ inr (elim (cases_lt 0 (commit_count (turn_in b (driving x.ifindex x.time d.left) d.trace.state))) [
+        | inl stalling ↦ omega (arith, more, stalling, s.no_farther)
+        | inr moving ↦ omega (arith, more, some, s.nearer (omega (arith, moving)))
+      ])
+    ]
+    | inr none ↦ inl (omega (arith, none, s.no_farther, r.no_farther))
+  ];
+}
+
+forward : (n : ℕ) (b : Build) → b.slots ≡ b.plan.last + 4 → (clocks : List Beside) (d : Driven) → GoesForward b clocks d → Driving n b d → Drove n b (commits_in b clocks d) (length clocks) d (drive b clocks d)
+forward n b slots [] d ahead v = record { driving = v; no_farther = omega arith; nearer = inr (omega arith) }
+forward n b slots (x ∷ xs) d ahead v =
+    one_more n b x xs d (steps n b slots x.ifindex x.time d ahead.0 v) (forward n b slots xs (drive_clock b x.ifindex x.time d) ahead.1 (steps n b slots x.ifindex x.time d ahead.0 v).driving)
+
+-- without operations on maps nothing is sent back or committed
+without_maps : (b : Build) → b.program.sites ≡ [] → (clocks : List Beside) (d : Driven) → GoesForward b clocks d × (commits_in b clocks d ≡ 0)
+without_maps b none [] d = (tt, refl)
+without_maps b none (x ∷ xs) d =
+    let r = without_maps b none xs (drive_clock b x.ifindex x.time d) in
+    ((no_sends b none 0 d.trace.state.places, r.0), omega (arith, r.1, no_commits b none (driving x.ifindex x.time d.left) refl d.trace.state))
 
 pub drives : (n : ℕ) (b : Build) → b.program.sites ≡ [] → b.slots ≡ b.plan.last + 4 → (clocks : List Beside) (d : Driven) → Driving n b d →
     Driving n b (drive b clocks d) × (far b (drive b clocks d) ≤ far b d - length clocks)
-drives n b none slots [] d v = (v, omega arith)
-drives n b none slots (x ∷ xs) d v =
-    let s = steps n b none slots x.ifindex x.time d v in
-    let r = drives n b none slots xs (drive_clock b x.ifindex x.time d) s.driving in
-    (r.0, omega (arith, r.1, s.nearer))
+drives n b none slots clocks d v =
+    let q = without_maps b none clocks d in
+    let r = forward n b slots clocks d q.0 v in (
+      r.driving,
+      elim r.nearer [
+        | inl ended ↦ omega (arith, ended)
+        | inr near ↦ omega (arith, near, q.1)
+      ],
+    )
 
 pub at_end : (pos : ℕ) (xs : List Answer) → IsAt pos xs → answer_beats xs ≤ pos → length xs ≡ 0
 at_end pos [] h l = refl
@@ -637,3 +761,13 @@ ends_without_maps b none slots maps frames whole clocks long =
     let v = begins_driving b maps frames whole in
     let r = drives (length frames) b none slots clocks d v in
     all_given (length frames) b (drive b clocks d) r.0 (omega (arith, r.1, long, way_short b d v.order.places, lasts_frames frames whole))
+
+pub ends_forward : EndsForward
+ends_forward b slots maps frames whole clocks ahead long =
+    let d = drive_start b maps frames in
+    let v = begins_driving b maps frames whole in
+    let r = forward (length frames) b slots clocks d ahead v in
+    all_given (length frames) b (drive b clocks d) r.driving (elim r.nearer [
+      | inl ended ↦ omega (arith, ended)
+      | inr near ↦ omega (arith, near, long, way_short b d v.order.places, lasts_frames frames whole)
+    ])

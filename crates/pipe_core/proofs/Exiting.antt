@@ -13,28 +13,28 @@ use Rattle.hazard_core.specs.Rows.{cell_number}
 use Rattle.hazard_core.specs.Replay.{ReadsRight, ReadsInTurn, SeesEarlier}
 use Rattle.pipe_core.specs.Machine.{Packet, Build}
 use Rattle.pipe_core.specs.Computed.{Computes}
-use Rattle.pipe_core.specs.Pipeable.{IsOwn, IsSuited}
+use Rattle.pipe_core.specs.Pipeable.{IsOwn, FitsReads, IsSuited}
 use Rattle.pipe_core.specs.Agreed.{IsPathMade}
-use Rattle.pipe_core.specs.InTurn.{ReadsFit}
+use Rattle.pipe_core.specs.Agreement.{ReadsFit}
 use Rattle.pipe_core.proofs.Holding.{both_seen, holds_reads}
 
-module _ (seen : SeesEarlier) (right : ReadsInTurn) (b : Build) (t : TableState) (other : PacketIn) (x : Packet) (fit : IsSuited t.decls b) (tables : AreTables t) (own : IsOwn b t other x.held) (path : IsPathMade b t other x) where
+module _ (seen : SeesEarlier) (right : ReadsInTurn) (b : Build) (t : TableState) (other : PacketIn) (x : Packet) (fit : IsSuited t.decls b) (tables : AreTables t) (own : IsOwn b t other x.held) (reads : FitsReads b x.held) (path : IsPathMade b t other x) where
   reads_at : (j : ℕ) → j < length b.program.sites → guard_on x.held (site_at b.program.sites j) ≡ true → ReadsRight b.program t x.held j
-  reads_at j l g = right b.program t x.held tables fit.fits (holds_reads seen b t other x fit own path) j l g
+  reads_at j l g = right b.program t x.held tables fit.fits (holds_reads seen b t other x fit own reads path) j l g
 
   number_is : (c j : ℕ) → c < length b.program.cells → guard_on x.held (site_at b.program.sites j) ≡ true → (op : Operator) → (cell_at b.program.cells c).op ≡ op → site_in op ≡ Some j →
       cell_number b.program b.plan.row (b.plan.row c) t other x.held (cell_at b.program.cells c) op ≡ read_on (held_value x.held) (after (held_value x.held) (maps_of t) (take j b.program.sites)) (site_at b.program.sites j) op
   number_is c j l g (Found i) is e =
       let same : i ≡ j = cc in
       let s : site_in (cell_at b.program.cells c).op ≡ Some j = ap site_in is ∙ e in
-      let q = both_seen seen b t other x fit own path c j l s g in
+      let q = both_seen seen b t other x fit own reads path c j l s g in
       let r = reads_at j (fit.rows.reads.sites c j l s) g in
       subst (λ k. cell_number b.program b.plan.row (b.plan.row c) t other x.held (cell_at b.program.cells c) (Found k) ≡ read_on (held_value x.held) (after (held_value x.held) (maps_of t) (take j b.program.sites)) (site_at b.program.sites j) (Found k)) (sym same)
       (ap (λ u. bit (not (is_null u))) q.0 ∙ r.found (fit.rows.reads.finds c j l (is ∙ ap Found same)))
   number_is c j l g (Answer i) is e =
       let same : i ≡ j = cc in
       let s : site_in (cell_at b.program.cells c).op ≡ Some j = ap site_in is ∙ e in
-      let q = both_seen seen b t other x fit own path c j l s g in
+      let q = both_seen seen b t other x fit own reads path c j l s g in
       let r = reads_at j (fit.rows.reads.sites c j l s) g in
       subst (λ k. cell_number b.program b.plan.row (b.plan.row c) t other x.held (cell_at b.program.cells c) (Answer k) ≡ read_on (held_value x.held) (after (held_value x.held) (maps_of t) (take j b.program.sites)) (site_at b.program.sites j) (Answer k)) (sym same)
       (q.1 ∙ r.answer (fit.rows.reads.answers c j l (is ∙ ap Answer same)))

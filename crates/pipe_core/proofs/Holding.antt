@@ -25,7 +25,7 @@ use Rattle.hazard_core.specs.Replay.{earlier, HoldsReads, says_done, SeesEarlier
 use Rattle.hazard_core.proofs.ActsLaws.{recorded}
 use Rattle.pipe_core.specs.Machine.{Packet, Build}
 use Rattle.pipe_core.specs.Agreement.{Agrees, excused_as}
-use Rattle.pipe_core.specs.Pipeable.{IsOwn, IsSuited}
+use Rattle.pipe_core.specs.Pipeable.{FitsReads, IsOwn, IsSuited}
 use Rattle.pipe_core.specs.Agreed.{IsPathMade}
 use Rattle.pipe_core.proofs.Striking.{found_is, answer_is}
 
@@ -42,19 +42,19 @@ told_as from width e kept some = by (bits_from (cast_unsigned w64 e) from width 
     by true e = cc
     by false e = refl
 
-told_none : (from width : ℕ) → (bits_from (cast_unsigned w64 (number_of None)) from width == 0) ≡ (cast_unsigned w64 (number_of None) == 0)
+pub told_none : (from width : ℕ) → (bits_from (cast_unsigned w64 (number_of None)) from width == 0) ≡ (cast_unsigned w64 (number_of None) == 0)
 told_none from width = ap (λ n. n == 0) (no_bits from width)
 
-abbrev Told : ℕ → ℕ → ℕ → Type 0
+abbrev pub Told : ℕ → ℕ → ℕ → Type 0
 Told from width n = (bits_from n from width == 0) ≡ (n == 0)
 
-record ErrorsTold (from width : ℕ) : Type 0 where
-  inval : Told from width (cast_unsigned w64 EINVAL)
-  exist : Told from width (cast_unsigned w64 EEXIST)
-  absent : Told from width (cast_unsigned w64 ENOENT)
-  big : Told from width (cast_unsigned w64 E2BIG)
+pub record ErrorsTold (from width : ℕ) : Type 0 where
+  pub inval : Told from width (cast_unsigned w64 EINVAL)
+  pub exist : Told from width (cast_unsigned w64 EEXIST)
+  pub absent : Told from width (cast_unsigned w64 ENOENT)
+  pub big : Told from width (cast_unsigned w64 E2BIG)
 
-errors_told : (from width : ℕ) → list_all (λ e. not (bits_from (cast_unsigned w64 e) from width == 0)) (EINVAL ∷ EEXIST ∷ ENOENT ∷ E2BIG ∷ []) ≡ true → ErrorsTold from width
+pub errors_told : (from width : ℕ) → list_all (λ e. not (bits_from (cast_unsigned w64 e) from width == 0)) (EINVAL ∷ EEXIST ∷ ENOENT ∷ E2BIG ∷ []) ≡ true → ErrorsTold from width
 errors_told from width all =
     let keeps : ℤ → Bool = λ e. not (bits_from (cast_unsigned w64 e) from width == 0) in
     let a = and_parts (keeps EINVAL) (list_all keeps (EEXIST ∷ ENOENT ∷ E2BIG ∷ [])) all in
@@ -68,14 +68,14 @@ errors_told from width all =
       big = told_as from width E2BIG d.0 refl;
     }
 
-told_hash : (from width : ℕ) → ErrorsTold from width → (a b c d : Bool) → Told from width (cast_unsigned w64 (number_of (if a then Some EINVAL else if b then Some EEXIST else if c then Some ENOENT else if d then Some E2BIG else None)))
+pub told_hash : (from width : ℕ) → ErrorsTold from width → (a b c d : Bool) → Told from width (cast_unsigned w64 (number_of (if a then Some EINVAL else if b then Some EEXIST else if c then Some ENOENT else if d then Some E2BIG else None)))
 told_hash from width t true b c d = t.inval
 told_hash from width t false true c d = t.exist
 told_hash from width t false false true d = t.absent
 told_hash from width t false false false true = t.big
 told_hash from width t false false false false = told_none from width
 
-told_array : (from width : ℕ) → ErrorsTold from width → (a b c : Bool) → Told from width (cast_unsigned w64 (number_of (if a then Some EINVAL else if b then Some E2BIG else if c then Some EEXIST else None)))
+pub told_array : (from width : ℕ) → ErrorsTold from width → (a b c : Bool) → Told from width (cast_unsigned w64 (number_of (if a then Some EINVAL else if b then Some E2BIG else if c then Some EEXIST else None)))
 told_array from width t true b c = t.inval
 told_array from width t false true c = t.big
 told_array from width t false false true = t.exist
@@ -124,7 +124,7 @@ told_answer from width told p t h before j says = by (site_at p.sites j).act ref
 pub own_cells : (b : Build) (t : TableState) (packet : PacketIn) (x : Packet) → Agrees b t packet (suc b.plan.commit) x → IsOwn b t packet x.held
 own_cells b t packet x a c l low none = a.each c l (omega (arith, low)) (ap (λ o. excused_as b (suc b.plan.commit) x o) none)
 
-module _ (seen : SeesEarlier) (b : Build) (t : TableState) (packet : PacketIn) (x : Packet) (fit : IsSuited t.decls b) (own : IsOwn b t packet x.held) (path : IsPathMade b t packet x) where
+module _ (seen : SeesEarlier) (b : Build) (t : TableState) (packet : PacketIn) (x : Packet) (fit : IsSuited t.decls b) (own : IsOwn b t packet x.held) (fits : FitsReads b x.held) (path : IsPathMade b t packet x) where
   abbrev p : ProgramView
   p = b.program
 
@@ -137,7 +137,7 @@ module _ (seen : SeesEarlier) (b : Build) (t : TableState) (packet : PacketIn) (
   both_seen c j l e guard = seen p b.plan.row (b.plan.row c) j t h (λ i before same w.
       let s = site_at p.sites i in
       let q = and_parts (guard_on h s) (writes_as s.act (decl_of t.decls s.map).kind (held_value h (answer_cell p.cells i))) w in
-      fit.sees t packet h refl own c j i l e before same (recorded s.act (decl_of t.decls s.map).kind (held_value h (answer_cell p.cells i)) q.1) q.0 guard)
+      fit.sees t packet h refl own fits c j i l e before same (recorded s.act (decl_of t.decls s.map).kind (held_value h (answer_cell p.cells i)) q.1) q.0 guard)
 
   found_op : (j : ℕ) → found_cell b.program.cells j < length b.program.cells → (cell_at b.program.cells (found_cell b.program.cells j)).op ≡ Found j
   found_op j l = found_is j (cell_at p.cells (found_cell p.cells j)).op (passes_at_first (λ d. is_found_of j d.op) p.cells no_cell l)
@@ -175,5 +175,5 @@ module _ (seen : SeesEarlier) (b : Build) (t : TableState) (packet : PacketIn) (
         (path c j tell.in_range s guard).value ∙ ap (λ q. bits_from (cell_number p b.plan.row (b.plan.row c) t packet h d q) d.from d.width) o
         ∙ ap (λ n. bits_from n d.from d.width) (both_seen c j tell.in_range s guard).1 in
         ap (λ n. n == 0) value ∙ told_answer d.from d.width (errors_told d.from d.width tell.errors) p t h (earlier p j) j says;
-    accesses = λ j l guard a. fit.accesses t packet h refl own j l guard a;
+    accesses = λ j l guard a. fit.accesses t packet h refl own fits j l guard a;
   }

@@ -101,7 +101,7 @@ some_last (Some x) [] = omega arith
 some_last None (y ∷ ys) = some_last y ys
 some_last (Some x) (y ∷ ys) = let h = some_last y ys in omega (arith, h)
 
-moves : (b : Build) (s : State) (back : Bool) (rest : List (Option Packet)) → length rest ≡ suc b.plan.last → inside rest ≤ length s.frames →
+pub moves : (b : Build) (s : State) (back : Bool) (rest : List (Option Packet)) → length rest ≡ suc b.plan.last → inside rest ≤ length s.frames →
     Worked b s (worked b s back rest Moves) (left_as Moves (place_at rest b.plan.last))
 moves b s back [] h l = absurd (omega (arith, h))
 moves b s back (x ∷ xs) h l = by (place_at (x ∷ xs) b.plan.last) here

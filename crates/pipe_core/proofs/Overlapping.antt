@@ -1,90 +1,27 @@
 -- Over every list of clocks packets are cell runs one after another.
-use Rattle.std.proofs.Common.{◌≡◌, ℕ, zero, suc, ◌<◌, inl, inr, List, [], ◌∷◌, ◌++◌, Option, Some, None, length, drop, refl, sym, ap, ◌∙◌, subst, arith}
-use Rattle.std.specs.Prelude.{◌^◌, ◌/◌, replicate}
+use Rattle.std.proofs.Common.{◌≡◌, ℕ, zero, suc, inl, inr, List, [], ◌∷◌, ◌++◌, Option, Some, None, drop, refl, sym, ap, ◌∙◌, subst, arith}
+use Rattle.std.specs.Prelude.{replicate}
 use Rattle.std.specs.List.{AllByRecursion}
 use Rattle.std.proofs.lemmas.Bool.{cases_lt}
-use Rattle.std.proofs.lemmas.List.{length-replicate}
-use Rattle.std.proofs.lemmas.Nat.{pow_pos}
-use Rattle.std.proofs.Math.Nat.{mod-lt}
 use Rattle.xdp_maps.specs.State.{MapState, IsSound}
-use Rattle.xdp_machine.specs.State.{PacketIn}
-use Rattle.cell_core.specs.Cells.{cell_at}
 use Rattle.cell_core.specs.Rows.{RowsRise}
 use Rattle.cell_core.specs.Sites.{ProgramView}
 use Rattle.hazard_core.specs.Tables.{TableState, tables_of, maps_of}
 use Rattle.hazard_core.specs.Tabled.{LoadsTables}
 use Rattle.hazard_core.specs.Standing.{TablesStand}
-use Rattle.hazard_core.specs.declared.pointer.Pointer.TheVariants.{Null}
-use Rattle.hazard_core.specs.Held.{Held}
-use Rattle.hazard_core.specs.Rows.{cell_number, with_row}
-use Rattle.hazard_core.specs.Keeping.{ReadsKeep}
-use Rattle.hazard_core.specs.declared.change.Change.{Change}
-use Rattle.hazard_core.specs.Commits.{change_by, host_change}
 use Rattle.hazard_core.specs.Replay.{CommitsInTurn, MapsInTurn, ReadsInTurn, SeesEarlier}
-use Rattle.beat_core.specs.Ports.{Arrival}
-use Rattle.pipe_core.specs.Machine.{Packet, Input, Build, Turn, Commits, Writes, Moves, packet_of, place_at, inside, injected, entered, struck, some_send, work, clock, beat_over}
+use Rattle.pipe_core.specs.Machine.{Packet, Input, Build, place_at, inside, some_send, work, clock, beat_over}
 use Rattle.pipe_core.specs.History.{Trace, came_in, left_in, next, run, IsInOrder}
 use Rattle.pipe_core.specs.Computed.{IsAlwaysComputed}
 use Rattle.pipe_core.specs.Sequential.{AreCellRuns}
-use Rattle.pipe_core.specs.Placed.{Placed}
-use Rattle.pipe_core.specs.Agreement.{ReadsArePlanned}
 use Rattle.pipe_core.specs.Pipeable.{IsSuited}
 use Rattle.pipe_core.specs.Watched.{Watched, views_after, rest_of, turn_in, observed, watch, watch_start}
 use Rattle.pipe_core.specs.Right.{KeepsRight, IsAlwaysRight}
-use Rattle.pipe_core.specs.InTurn.{left_maps, passed_maps, AreChained, ReadsFit, IsSequential, KeepsSequential, RunsInTurn, FinalMaps}
+use Rattle.pipe_core.specs.InTurn.{left_maps, passed_maps, AreChained, IsSequential, KeepsSequential, RunsInTurn, FinalMaps}
 use Rattle.pipe_core.proofs.Order.{beats_keep, keeps_order, begins}
 use Rattle.pipe_core.proofs.Carrying.{work_carries, keeps_computed, computed}
-use Rattle.pipe_core.proofs.Agreeing.{rowed}
-use Rattle.pipe_core.proofs.Marking.{begins_placed}
-use Rattle.pipe_core.proofs.Agreed.{Known, all_known, both_placed}
-use Rattle.pipe_core.proofs.Placing.{Settled, StruckSteps, TurnSteps, next_placed}
 use Rattle.pipe_core.proofs.Turning.{turn_is}
 use Rattle.pipe_core.proofs.Sequencing.{left_append, runs_append, runs_more, Core, turn_core}
-
--- ---- reads fit their cells
-
-Fitting : Build → Watched → ℕ → Arrival → Packet → Type 0
-Fitting b w k c x = Known b w k c x × ReadsFit b (suc k) x.held
-
-row_fits : ReadsKeep → (b : Build) → ReadsArePlanned b → (t : TableState) (packet : PacketIn) (r : ℕ) (h : Held) → length h.values ≡ length b.program.cells → length h.pointers ≡ length b.program.cells → ReadsFit b r h →
-    ReadsFit b (suc r) (with_row b.program b.plan.row r t packet h)
-row_fits keep b plan t packet r h v q fits c l low read =
-    let w = rowed keep b plan t packet r h v q in
-    let g = with_row b.program b.plan.row r t packet h in
-    let d = cell_at b.program.cells c in
-    elim (cases_lt (b.plan.row c) r) [
-      | inl before ↦ subst (λ n. n < 2 ^ d.width) (w.same c (inl before)).value (fits c l before read)
-      | inr after ↦
-          let m = w.made c l (omega (arith, low, after)) in
-          let n = cell_number b.program b.plan.row (b.plan.row c) t packet g d d.op in
-          subst (λ x. x < 2 ^ d.width) (sym m.value) (mod-lt (n / 2 ^ d.from) (pow_pos d.width))
-    ]
-
-entered_fits : ReadsKeep → (b : Build) → ReadsArePlanned b → (t : TableState) (k : ℕ) (c : Arrival) (x : Packet) → length x.held.values ≡ length b.program.cells → length x.held.pointers ≡ length b.program.cells → ReadsFit b k x.held → ReadsFit b (suc k) (entered b t k c x).held
-unfolding entered
-entered_fits keep b plan t k c x v q fits = row_fits keep b plan t (packet_of c) k x.held v q fits
-
-struck_fits : (b : Build) (t : TableState) (k : ℕ) (e : Change) (r : ℕ) (x : Packet) → ReadsFit b r x.held → ReadsFit b r (struck b t k e x).held
-unfolding struck
-struck_fits b t k e r x fits = fits
-
-strike_steps : (b : Build) (w : Watched) (rest : List (Option Packet)) (t : TableState) (e : Change) (to : ℕ) → StruckSteps b t e to (Settled b rest (Fitting b w)) (λ k c x. ReadsFit b (suc k) x.held)
-unfolding Fitting
-strike_steps b w rest t e to = record { hit = λ k c x l m. struck_fits b t k e (suc k) x m.holds.1; missed = λ k c x l m. m.holds.1 }
-
-fit_steps : ReadsKeep → (b : Build) → ReadsArePlanned b → (w : Watched) (rest : List (Option Packet)) (u : Turn) → TurnSteps b w.trace.state (Settled b rest (Fitting b w)) (λ k c x. ReadsFit b (suc k) x.held) u
-unfolding Fitting
-fit_steps keep b plan w rest (Commits j x) = strike_steps b w rest w.trace.state.tables (change_by b.program w.trace.state.tables w.trace.state.taken x.held j) b.plan.commit
-fit_steps keep b plan w rest (Writes a n) = strike_steps b w rest w.trace.state.tables (host_change w.trace.state.tables a) (suc b.plan.commit)
-fit_steps keep b plan w rest Moves = record {
-  first = λ c. entered_fits keep b plan w.trace.state.tables 0 c (injected b.program) (length-replicate (length b.program.cells) 0) (length-replicate (length b.program.cells) Null) (λ i l low read. absurd (omega (arith, low)));
-  further = λ k c x m. entered_fits keep b plan w.trace.state.tables (suc k) c x m.holds.0.agrees.values m.holds.0.agrees.pointers m.holds.1;
-}
-
-all_fit : (b : Build) (maps : MapState) (w : Watched) → IsSequential b maps w → Placed (Fitting b w) w.trace.state.frames 0 w.trace.state.places
-unfolding Fitting
-all_fit b maps w h =
-    both_placed (Known b w) (λ k c x. ReadsFit b (suc k) x.held) (λ k c x. Known b w k c x × ReadsFit b (suc k) x.held) (λ k c x p q. (p, q)) w.trace.state.frames 0 w.trace.state.places (all_known b w h.right.agreed) h.fit
 
 -- ---- a clock
 
@@ -96,9 +33,9 @@ core_now seen in_turn maps_turn reads_turn rise b maps fit i silent w o h =
     turn_core seen in_turn maps_turn reads_turn b maps fit w h o (some_send b 0 s.places) (turn_in b i s) (turn_is b i silent s (rest_of b s))
     (work_carries b rise fit.rows.reads.planned i s o.places o.packets h.computed.places).left
 
-pub keeps_sequential : SeesEarlier → CommitsInTurn → MapsInTurn → ReadsInTurn → RowsRise → ReadsKeep → KeepsRight → KeepsSequential
+pub keeps_sequential : SeesEarlier → CommitsInTurn → MapsInTurn → ReadsInTurn → RowsRise → KeepsRight → KeepsSequential
 unfolding observed next
-keeps_sequential seen in_turn maps_turn reads_turn rise keep right b maps fit i silent w o h =
+keeps_sequential seen in_turn maps_turn reads_turn rise right b maps fit i silent w o h =
     let p = b.program in
     let s = w.trace.state in
     let t = w.trace in
@@ -119,7 +56,6 @@ keeps_sequential seen in_turn maps_turn reads_turn rise keep right b maps fit i 
       chained = subst (λ m. AreChained p m views (suc b.plan.commit) (drop (suc b.plan.commit) (clock b i s).places)) (sym all)
           (subst (λ xs. AreChained p (left_maps p (left_maps p maps t.left) gone) views (suc b.plan.commit) (drop (suc b.plan.commit) xs)) (sym beats.places) core.chained);
       now = core.now ∙ ap (λ xs. passed_maps p (left_maps p (left_maps p maps t.left) gone) (drop (suc b.plan.commit) xs)) (sym beats.places) ∙ ap (λ m. passed_maps p m (drop (suc b.plan.commit) (clock b i s).places)) (sym all);
-      fit = next_placed b i t (Fitting b w) (λ k c x. ReadsFit b (suc k) x.held) o (all_fit b maps w h) (fit_steps keep b fit.rows.reads w (rest_of b s) (turn_in b i s));
     }
 
 -- ---- all clocks
@@ -142,7 +78,7 @@ no_passed p maps n zero = by n
 no_passed p maps zero (suc m) = no_passed p maps zero m
 no_passed p maps (suc n) (suc m) = no_passed p maps n m
 
-begins_sequential : IsAlwaysRight → IsAlwaysComputed → LoadsTables → TablesStand → (b : Build) (maps : MapState) → IsSuited maps.decls b → IsSound maps → IsSequential b maps (watch_start b maps)
+pub begins_sequential : IsAlwaysRight → IsAlwaysComputed → LoadsTables → TablesStand → (b : Build) (maps : MapState) → IsSuited maps.decls b → IsSound maps → IsSequential b maps (watch_start b maps)
 begins_sequential right computed loads stand b maps fit sound = record {
   right = right b maps fit sound [] tt;
   computed = computed b fit.rows.reads.planned maps [];
@@ -151,7 +87,6 @@ begins_sequential right computed loads stand b maps fit sound = record {
   view_tables = λ k l. loads maps sound;
   chained = no_chain b.program maps (λ k. tables_of maps) (suc b.plan.commit) (suc b.plan.commit) (suc b.plan.last);
   now = stand maps sound ∙ sym (no_passed b.program maps (suc b.plan.commit) (suc b.plan.last));
-  fit = begins_placed b maps (λ k c x. ReadsFit b (suc k) x.held);
 }
 
 all_sequential : KeepsSequential → (b : Build) (maps : MapState) → IsSuited maps.decls b → (is : List Input) → AllByRecursion (λ i. i.host ≡ None) is → (w : Watched) → IsInOrder b w.trace → IsSequential b maps w → IsSequential b maps (watch b is w)
@@ -165,7 +100,7 @@ watch_runs b [] w = refl
 watch_runs b (i ∷ is) w = watch_runs b is (observed b i w)
 
 module _ (keeps : KeepsSequential) (right : IsAlwaysRight) (computed : IsAlwaysComputed) (loads : LoadsTables) (stand : TablesStand) where
-  sequential : (b : Build) (maps : MapState) → IsSuited maps.decls b → IsSound maps → (is : List Input) → AllByRecursion (λ i. i.host ≡ None) is → IsSequential b maps (watch b is (watch_start b maps))
+  pub sequential : (b : Build) (maps : MapState) → IsSuited maps.decls b → IsSound maps → (is : List Input) → AllByRecursion (λ i. i.host ≡ None) is → IsSequential b maps (watch b is (watch_start b maps))
   sequential b maps fit sound is silent = all_sequential keeps b maps fit is silent (watch_start b maps) (begins b maps) (begins_sequential right computed loads stand b maps fit sound)
 
   pub runs_in_turn : RunsInTurn

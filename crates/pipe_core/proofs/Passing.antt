@@ -23,11 +23,11 @@ use Rattle.pipe_core.proofs.Carrying.{swept_none}
 
 -- ---- sites that take the same do the same
 
-map_same : (v w : ℕ → ℕ) (cs : List ℕ) → AllByRecursion (λ c. v c ≡ w c) cs → map_list v cs ≡ map_list w cs
+pub map_same : (v w : ℕ → ℕ) (cs : List ℕ) → AllByRecursion (λ c. v c ≡ w c) cs → map_list v cs ≡ map_list w cs
 map_same v w [] a = refl
 map_same v w (c ∷ cs) a = ap (λ x. x ∷ map_list v cs) a.0 ∙ ap (λ l. w c ∷ l) (map_same v w cs a.1)
 
-front : (P : ℕ → Type 0) (xs ys : List ℕ) → AllByRecursion P (xs ++ ys) → AllByRecursion P xs × AllByRecursion P ys
+pub front : (P : ℕ → Type 0) (xs ys : List ℕ) → AllByRecursion P (xs ++ ys) → AllByRecursion P xs × AllByRecursion P ys
 front P [] ys a = (tt, a)
 front P (x ∷ xs) ys a = let q = front P xs ys a.1 in ((a.0, q.0), q.1)
 
@@ -35,14 +35,14 @@ front P (x ∷ xs) ys a = let q = front P xs ys a.1 in ((a.0, q.0), q.1)
 abbrev pub SameSites : (ℕ → ℕ) → (ℕ → ℕ) → List SiteView → Type 0
 SameSites v w ss = (j : ℕ) → j < length ss → AllByRecursion (λ c. v c ≡ w c) ((site_at ss j).guard ∷ (site_at ss j).key ++ (site_at ss j).operands)
 
-applied_same : (v w : ℕ → ℕ) (maps : MapState) (s : SiteView) → AllByRecursion (λ c. v c ≡ w c) (s.guard ∷ s.key ++ s.operands) → applied v maps s ≡ applied w maps s
+pub applied_same : (v w : ℕ → ℕ) (maps : MapState) (s : SiteView) → AllByRecursion (λ c. v c ≡ w c) (s.guard ∷ s.key ++ s.operands) → applied v maps s ≡ applied w maps s
 applied_same v w maps s a =
     let q = front (λ c. v c ≡ w c) s.key s.operands a.1 in
     ap (λ n. if records s.act && on n then operated maps s.map (operation_on v maps s) else maps) a.0
     ∙ ap (λ (k : List ℕ). if records s.act && on (w s.guard) then operated maps s.map (operation_with (decl_at maps s.map) s.act k (map_list v s.operands)) else maps) (map_same v w s.key q.0)
     ∙ ap (λ (o : List ℕ). if records s.act && on (w s.guard) then operated maps s.map (operation_with (decl_at maps s.map) s.act (map_list w s.key) o) else maps) (map_same v w s.operands q.1)
 
-after_same : (v w : ℕ → ℕ) (maps : MapState) (ss : List SiteView) → SameSites v w ss → after v maps ss ≡ after w maps ss
+pub after_same : (v w : ℕ → ℕ) (maps : MapState) (ss : List SiteView) → SameSites v w ss → after v maps ss ≡ after w maps ss
 after_same v w maps [] same = refl
 after_same v w maps (s ∷ ss) same = ap (λ m. after v m ss) (applied_same v w maps s (same 0 (omega arith))) ∙ after_same v w (applied w maps s) ss (λ j l. same (suc j) (omega (arith, l)))
 
@@ -50,13 +50,15 @@ each_same : (b : Build) (h g : Held) (cs : List ℕ) → ((c : ℕ) → b.plan.r
 each_same b h g [] same a = tt
 each_same b h g (c ∷ cs) same a = (same c a.0, each_same b h g cs same a.1)
 
--- a packet that enters a place past the commit place leaves the same
+-- a packet that enters a place past the commit place holds the same of what its sites take, and leaves the same
+pub entered_sites : (b : Build) → IsPipeable b → (t : TableState) (k : ℕ) (c : Arrival) (x : Packet) → b.plan.commit < k → SameSites (held_value x.held) (held_value (entered b t k c x).held) b.program.sites
+unfolding entered with_row
+entered_sites b fit t k c x past j l =
+    each_same b x.held (with_row b.program b.plan.row k t (packet_of c) x.held) (taken_by (site_at b.program.sites j)) (λ i low. (keeps_other b k t (packet_of c) 0 b.program.cells x.held (omega arith) i (inl (λ e. omega (arith, e, low, past)))).value) (fit.site_rows j l)
+
 entered_after : (b : Build) → IsPipeable b → (t : TableState) (k : ℕ) (c : Arrival) (x : Packet) (maps : MapState) → b.plan.commit < k →
     after (held_value (entered b t k c x).held) maps b.program.sites ≡ after (held_value x.held) maps b.program.sites
-unfolding entered with_row
-entered_after b fit t k c x maps past =
-    let g = with_row b.program b.plan.row k t (packet_of c) x.held in
-    sym (after_same (held_value x.held) (held_value g) maps b.program.sites (λ j l. each_same b x.held g (taken_by (site_at b.program.sites j)) (λ i low. (keeps_other b k t (packet_of c) 0 b.program.cells x.held (omega arith) i (inl (λ e. omega (arith, e, low, past)))).value) (fit.site_rows j l)))
+entered_after b fit t k c x maps past = sym (after_same (held_value x.held) (held_value (entered b t k c x).held) maps b.program.sites (entered_sites b fit t k c x past))
 
 -- ---- moving on
 

@@ -7,10 +7,13 @@ use Rattle.std.proofs.lemmas.Bool.Decides.{nat_tests}
 use Rattle.std.proofs.lemmas.List.{length-replicate}
 use Rattle.xdp_maps.specs.declared.decl.MapDecl.{MapDecl}
 use Rattle.xdp_maps.specs.State.{MapState, IsSound}
+use Rattle.cell_core.specs.declared.site.Act.{Act}
+use Rattle.cell_core.specs.declared.site.Act.TheVariants as act
+use Rattle.cell_core.specs.Acts.{asks}
 use Rattle.cell_core.specs.Sites.{site_at}
 use Rattle.cell_core.specs.Formed.{AllFit}
 use Rattle.cell_core.specs.Rows.{numbers}
-use Rattle.hazard_core.specs.Tables.{TableState, tables_of}
+use Rattle.hazard_core.specs.Tables.{TableState, decl_of, tables_of}
 use Rattle.hazard_core.specs.Tabled.{AreTables, LoadsTables}
 use Rattle.hazard_core.specs.Held.{Held, is_update, writes}
 use Rattle.hazard_core.specs.declared.change.Change.{Change}
@@ -21,7 +24,7 @@ use Rattle.hazard_core.specs.Replay.{Replayed, replay_one, replayed, HoldsReads,
 use Rattle.beat_core.specs.Ports.{Arrival}
 use Rattle.pipe_core.specs.Machine.{Packet, State, Input, Build, Turn, Commits, Writes, Moves, packet_of, place_at, marked_at, struck, struck_below, is_due, sends, swept, some_send, worked, work, clock}
 use Rattle.pipe_core.specs.History.{next, begin, IsInOrder}
-use Rattle.pipe_core.specs.Agreement.{Agrees}
+use Rattle.pipe_core.specs.Agreement.{UpdatesFind, Agrees}
 use Rattle.pipe_core.specs.Pipeable.{IsPipeable, IsSuited}
 use Rattle.pipe_core.specs.Watched.{Watched, views_below, views_on, views_after, rest_of, turn_in, observed, watch, watch_start}
 use Rattle.pipe_core.specs.Marked.{MarksAre}
@@ -47,7 +50,7 @@ stayed b k (y ∷ xs) zero x e = by (some_send b k (y ∷ xs)) e
     by false e = e
 stayed b k (y ∷ xs) (suc n) x e = stayed b (suc k) xs n x e
 
-unstruck : (to : ℕ) (b : Build) (t : TableState) (e : Change) (k : ℕ) (xs : List (Option Packet)) (n : ℕ) → to ≤ k + n → place_at (struck_below to b t e k xs) n ≡ place_at xs n
+pub unstruck : (to : ℕ) (b : Build) (t : TableState) (e : Change) (k : ℕ) (xs : List (Option Packet)) (n : ℕ) → to ≤ k + n → place_at (struck_below to b t e k xs) n ≡ place_at xs n
 unstruck to b t e k [] n l = refl
 unstruck to b t e k (x ∷ xs) zero l = by (nat_lt k to) refl
   where
@@ -118,7 +121,7 @@ reads_there seen b decls fit w same h x here =
     let q = sits b fit.rows w h x here in
     let t = w.views b.plan.commit in
     let packet = packet_of q.came in
-    holds_reads seen b t packet x (subst (λ ds. IsSuited ds b) (sym same) fit) (own_cells b t packet x q.agrees) (path_made b fit.rows t packet b.plan.commit x (omega arith) q.unmarked_there q.agrees)
+    holds_reads seen b t packet x (subst (λ ds. IsSuited ds b) (sym same) fit) (own_cells b t packet x q.agrees) q.agrees.fit (path_made b fit.rows t packet b.plan.commit x (omega arith) q.unmarked_there q.agrees)
 
 -- ---- a commit
 
@@ -134,12 +137,18 @@ skips b h r decls done (suc n) same idle =
     ∙ ap (λ (c : Bool). if c then record { tables = committed b.program q.tables q.taken h (done + n); taken = taken_after b.program q.tables q.taken h (done + n) } else q) off
     ∙ skips b h r decls done n (λ j l. same j (omega (arith, l))) (λ i a l. idle i a (omega (arith, l)))
 
-record Turned (b : Build) (decls : List MapDecl) (w : Watched) (j : ℕ) (x : Packet) : Type 0 where
+pub record Turned (b : Build) (decls : List MapDecl) (w : Watched) (j : ℕ) (x : Packet) : Type 0 where
+  pub first : List ℕ
+  pub first_long : length first ≡ length b.program.sites
+  pub midst : record { tables = w.trace.state.tables; taken = w.trace.state.taken } ≡ replayed b.program x.held (record { tables = w.views b.plan.commit; taken = first }) j
   right : IsRightCommit b.program w.trace.state.tables w.trace.state.taken x.held j
   at : IsRightAt b decls (w.views b.plan.commit) (committed b.program w.trace.state.tables w.trace.state.taken x.held j) (taken_after b.program w.trace.state.tables w.trace.state.taken x.held j) (suc j) (Some x)
 
-turned : CommitsInTurn → SeesEarlier → (b : Build) (decls : List MapDecl) → IsSuited decls b → (w : Watched) → IsRight b decls w → (j : ℕ) (x : Packet) → IsChosen b w.trace.state (rest_of b w.trace.state) j x → Turned b decls w j x
+pub turned : CommitsInTurn → SeesEarlier → (b : Build) (decls : List MapDecl) → IsSuited decls b → (w : Watched) → IsRight b decls w → (j : ℕ) (x : Packet) → IsChosen b w.trace.state (rest_of b w.trace.state) j x → Turned b decls w j x
 turned in_turn seen b decls fit w h j x is = record {
+  first = rp.first;
+  first_long = rp.long;
+  midst = here_now;
   right = subst (λ (q : Replayed). IsRightCommit b.program q.tables q.taken x.held j) (sym here_now) ((turn j (omega (arith, is.in_range))).right is.in_range on_view);
   at = record {
     decls_are = ap (λ (q : Replayed). q.tables.decls) after_is ∙ next_turn.decls ∙ h.at.view_decls;
@@ -255,6 +264,11 @@ along b decls view v c aside places h =
     (subst (λ d. IsRightAt b decls view v.tables v.taken d (place_at c.places b.plan.commit)) (sym aside.done)
     (subst (λ xs. IsRightAt b decls view v.tables v.taken v.done (place_at xs b.plan.commit)) (sym places) h)))
 
+updates_find : (decls : List MapDecl) (b : Build) → IsSuited decls b → UpdatesFind decls b
+updates_find decls b fit j l update hash =
+    let s = site_at b.program.sites j in
+    fit.found j l (ap (λ (a : Act). asks a (decl_of decls s.map).kind) update ∙ ap (asks act.Update) hash)
+
 pub keeps_right : KeepsAgreed → CommitsInTurn → SeesEarlier → KeepsRight
 unfolding observed next work
 keeps_right agree in_turn seen b decls fit i silent w o h =
@@ -262,7 +276,7 @@ keeps_right agree in_turn seen b decls fit i silent w o h =
     let is = turn_is b i silent s (rest_of b s) in
     let right = turn_right in_turn seen b decls fit w h (turn_in b i s) is in
     record {
-      agreed = agree b fit.rows i silent w o right h.agreed;
+      agreed = agree b fit.rows i silent w (subst (λ ds. UpdatesFind ds b) (sym h.at.decls_are) (updates_find decls b fit)) o right h.agreed;
       at = along b decls (views_after b s (turn_in b i s) w.views b.plan.commit) (work b i s) (clock b i s) (clock_aside b i s) (beats_keep b i w.trace o).places
           (turn_at in_turn seen b decls fit w h (some_send b 0 s.places) (turn_in b i s) is);
     }

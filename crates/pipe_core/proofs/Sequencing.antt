@@ -23,7 +23,7 @@ use Rattle.pipe_core.specs.Sequential.{AreCellRuns}
 use Rattle.pipe_core.specs.Agreement.{excused_as}
 use Rattle.pipe_core.specs.Pipeable.{IsSuited}
 use Rattle.pipe_core.specs.Watched.{Watched, views_below, views_on, views_after, rest_of}
-use Rattle.pipe_core.specs.InTurn.{left_maps, passed_maps, AreChained, ReadsFit, IsSequential}
+use Rattle.pipe_core.specs.InTurn.{left_maps, passed_maps, AreChained, IsSequential}
 use Rattle.pipe_core.proofs.Order.{last_or, place_last, swept_length}
 use Rattle.pipe_core.proofs.Agreed.{Known, all_known, unmarked, path_made}
 use Rattle.pipe_core.proofs.Placing.{Settled, settled, placed_at}
@@ -171,8 +171,6 @@ module _ (seen : SeesEarlier) (in_turn : CommitsInTurn) (maps_turn : MapsInTurn)
       let c = fit.rows.commit in
       let q = placed_at (Settled b rest (Known b w)) s.frames 0 b.plan.last rest z (settled b s (Known b w) (all_known b w h.right.agreed)) e in
       let m : Settled b rest (Known b w) b.plan.last q.0 z = subst (λ n. Settled b rest (Known b w) n q.0 z) (omega arith) q.1 in
-      let r = placed_at (λ k c x. ReadsFit b (suc k) x.held) s.frames 0 b.plan.last s.places z h.fit (stayed b 0 s.places b.plan.last z e) in
-      let fits : ReadsFit b (suc b.plan.last) z.held = subst (λ n. ReadsFit b (suc n) z.held) (omega arith) r.1 in
       let t = w.views b.plan.last in
       let other = packet_of q.0 in
       let last_is : place_at rest b.plan.last ≡ last_or at_commit past = last_dropped rest b.plan.commit b.plan.last (omega (arith, c, rest_length)) (sym rest_length) in
@@ -181,7 +179,7 @@ module _ (seen : SeesEarlier) (in_turn : CommitsInTurn) (maps_turn : MapsInTurn)
       let path = path_made b fit.rows t other b.plan.last z c (unmarked b fit.rows w rest b.plan.last q.0 z c m) m.holds.agrees in
       subst (λ v. IsCellRun packet v b.program (held_value z.held)) maps_are
       (cell_run seen reads_turn b t other z (subst (λ ds. IsSuited ds b) (sym (h.view_decls b.plan.last c)) fit) (h.view_tables b.plan.last c)
-      (λ i l low none. m.holds.agrees.each i l (omega (arith, low, c)) (ap (λ (a : Option ℕ). excused_as b (suc b.plan.last) z a) none)) path packet k fits)
+      (λ i l low none. m.holds.agrees.each i l (omega (arith, low, c)) (ap (λ (a : Option ℕ). excused_as b (suc b.plan.last) z a) none)) (λ i l low read. m.holds.agrees.fit i l (omega (arith, low, c)) read) path packet k m.holds.agrees.fit)
 
   exit_runs : (x : Option Packet) → place_at (rest_of b w.trace.state) b.plan.last ≡ x → (fs : List Arrival) → LeftCompute b (left_as Moves x) fs → AreCellRuns b.program base (left_as Moves x) fs (left_maps b.program base (left_as Moves x))
   exit_runs None e fs k = refl

@@ -166,9 +166,10 @@ untouched false off touch e f g = cc
 
 pub striking : Unmoved → StrikingAgrees
 unfolding struck
-striking unmoved b plan t ts e packet k x change a = record {
+striking unmoved b plan t ts e packet k x updates change a = record {
   values = a.values;
   pointers = a.pointers;
+  fit = a.fit;
   each = λ c l lower free. by c l lower (site_in (cell_at b.program.cells c).op) refl free;
 }
   where
@@ -210,7 +211,7 @@ striking unmoved b plan t ts e packet k x change a = record {
             pointer_in h (found_cell p.cells j) ≡ found_pointer p t h (pending p row (row c) j) j
         found_now c l lower j is free update hash =
             let d = found_cell p.cells j in
-            let m = plan.found t.decls c j l is update hash in
+            let m = updates j (plan.sites c j l is) update hash in
             let o : (cell_at p.cells d).op ≡ Found j = found_there j m in
             let s : site_in (cell_at p.cells d).op ≡ Some j = ap site_in o in
             let r : row d ≡ row c = plan.together d c j m l s is in

@@ -137,7 +137,7 @@ record Lasts (b : Build) (decls : List MapDecl) (z n start elapsed : ℕ) (left 
   right : IsRight b decls w
   account : Account b z n start elapsed left w ⊎ (to_give (record { left = left; trace = w.trace }) ≡ 0)
 
-ahead_is : (r : Bool) (left : List Beat) → left ≡ ahead (if r then first_of left else None) (if r then drop 1 left else left)
+pub ahead_is : (r : Bool) (left : List Beat) → left ≡ ahead (if r then first_of left else None) (if r then drop 1 left else left)
 ahead_is false left = refl
 ahead_is true [] = refl
 ahead_is true (x ∷ left) = refl
@@ -181,7 +181,7 @@ has_room b z n counted d v more amid none why h = elim (cases_lt (e + inside s.p
     frames = frames_in n b d v
 
 -- the beats that are left after a clock
-abbrev left_after : Build → State → List Beat → List Beat
+abbrev pub left_after : Build → State → List Beat → List Beat
 left_after b s left = if is_ready b s then drop 1 left else left
 
 module _ (keeps : KeepsRight) (b : Build) (decls : List MapDecl) (fit : IsSuited decls b) (slots : b.slots ≡ b.plan.last + 4) (z n start : ℕ) where

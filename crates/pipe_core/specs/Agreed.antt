@@ -8,7 +8,7 @@ use Rattle.hazard_core.specs.Changes.{IsRightCommit}
 use Rattle.xdp_machine.specs.State.{PacketIn}
 use Rattle.pipe_core.specs.Machine.{Packet, State, Input, Build, Turn, Commits, Writes, Moves, packet_of, marked_at}
 use Rattle.pipe_core.specs.History.{IsInOrder}
-use Rattle.pipe_core.specs.Agreement.{IsMade, Agrees}
+use Rattle.pipe_core.specs.Agreement.{UpdatesFind, IsMade, Agrees}
 use Rattle.pipe_core.specs.Pipeable.{IsPipeable}
 use Rattle.pipe_core.specs.Placed.{Placed}
 use Rattle.pipe_core.specs.Watched.{Watched, rest_of, turn_in, observed}
@@ -36,8 +36,8 @@ IsRightTurn b s Moves = Unit {0}
 -- A clock in which the host is silent keeps this, if what it commits is right.
 abbrev pub KeepsAgreed : Type 0
 KeepsAgreed =
-    (b : Build) → IsPipeable b → (i : Input) → i.host ≡ None → (w : Watched) → IsInOrder b w.trace → IsRightTurn b w.trace.state (turn_in b i w.trace.state)
-    → IsAgreed b w → IsAgreed b (observed b i w)
+    (b : Build) → IsPipeable b → (i : Input) → i.host ≡ None → (w : Watched) → UpdatesFind w.trace.state.tables.decls b → IsInOrder b w.trace
+    → IsRightTurn b w.trace.state (turn_in b i w.trace.state) → IsAgreed b w → IsAgreed b (observed b i w)
 
 -- every read of a site whose guard is on is as it would be made on these tables
 abbrev pub IsPathMade : Build → TableState → PacketIn → Packet → Type 0

@@ -1,8 +1,7 @@
 -- Packets overlap, and what they answer and leave is that of one after another.
-use Rattle.std.specs.Prelude.{◌≡◌, ℕ, suc, ◌<◌, ◌≤◌, ◌^◌, true, Option, Some, None, List, [], ◌∷◌, length, drop}
+use Rattle.std.specs.Prelude.{◌≡◌, ℕ, suc, ◌≤◌, Option, Some, None, List, [], ◌∷◌, drop}
 use Rattle.std.specs.List.{AllByRecursion}
 use Rattle.xdp_maps.specs.State.{MapState, IsSound}
-use Rattle.cell_core.specs.Cells.{cell_at, is_read}
 use Rattle.cell_core.specs.Sites.{ProgramView, after}
 use Rattle.hazard_core.specs.Tables.{TableState, maps_of}
 use Rattle.hazard_core.specs.Tabled.{AreTables}
@@ -11,7 +10,6 @@ use Rattle.pipe_core.specs.Machine.{Packet, Input, Build, inside}
 use Rattle.pipe_core.specs.History.{run, begin, IsInOrder}
 use Rattle.pipe_core.specs.Computed.{IsComputed}
 use Rattle.pipe_core.specs.Sequential.{AreCellRuns}
-use Rattle.pipe_core.specs.Placed.{Placed}
 use Rattle.pipe_core.specs.Watched.{Watched, observed}
 use Rattle.pipe_core.specs.Pipeable.{IsSuited}
 use Rattle.pipe_core.specs.Right.{IsRight}
@@ -33,10 +31,6 @@ AreChained p maps views k [] = Unit {0}
 AreChained p maps views k (None ∷ xs) = AreChained p maps views (suc k) xs
 AreChained p maps views k (Some x ∷ xs) = (maps_of (views k) ≡ passed_maps p maps xs) × AreChained p maps views (suc k) xs
 
--- reads of the rows below r fit their cells
-abbrev pub ReadsFit : Build → ℕ → Held → Type 0
-ReadsFit b r h = (c : ℕ) → c < length b.program.cells → b.plan.row c < r → is_read (cell_at b.program.cells c).op ≡ true → held_value h c < 2 ^ (cell_at b.program.cells c).width
-
 -- The packets that left are cell runs one after another, and each later one reads the maps that those before it leave.
 pub record IsSequential (b : Build) (maps : MapState) (w : Watched) : Type 0 where
   pub right : IsRight b maps.decls w
@@ -46,7 +40,6 @@ pub record IsSequential (b : Build) (maps : MapState) (w : Watched) : Type 0 whe
   pub view_tables : (k : ℕ) → b.plan.commit ≤ k → AreTables (w.views k)
   pub chained : AreChained b.program (left_maps b.program maps w.trace.left) w.views (suc b.plan.commit) (drop (suc b.plan.commit) w.trace.state.places)
   pub now : maps_of (w.views b.plan.commit) ≡ passed_maps b.program (left_maps b.program maps w.trace.left) (drop (suc b.plan.commit) w.trace.state.places)
-  pub fit : Placed (λ k c x. ReadsFit b (suc k) x.held) w.trace.state.frames 0 w.trace.state.places
 
 -- A clock keeps this, while the host is silent.
 abbrev pub KeepsSequential : Type 0

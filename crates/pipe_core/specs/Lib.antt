@@ -12,3 +12,16 @@ pub mod Pipeable
 pub mod Agreed
 pub mod Right
 pub mod InTurn
+pub mod Forward
+pub mod Apart
+pub mod Prefix
+pub mod Planned
+pub mod BuildView
+pub mod PlacesView
+pub mod Stocked
+pub mod Points
+pub mod Queued
+pub mod StateView
+pub mod Piped
+pub mod Meeting
+pub mod Blamed

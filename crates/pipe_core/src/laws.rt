@@ -4,11 +4,16 @@ ghost use Rattle.pipe_core.specs.History.{KeepsOrder, IsAlwaysInOrder};
 ghost use Rattle.pipe_core.specs.Computed.{KeepsComputed, IsAlwaysComputed};
 ghost use Rattle.pipe_core.specs.Sequential.{RunsWithoutMaps, MapsStay};
 ghost use Rattle.pipe_core.specs.Drive.{EndsWithoutMaps, EndsLateWithoutMaps, EndsInTime, EndsLate};
+ghost use Rattle.pipe_core.specs.Forward.{EndsForward};
+ghost use Rattle.pipe_core.specs.Apart.{RunsElsewhere, RunsComplete, InTurnToo, CommitsAreWrites, EndsUnsent};
+ghost use Rattle.pipe_core.specs.Meeting.{TouchesWhatIsRead, ChangesAreWritten};
+ghost use Rattle.pipe_core.specs.Blamed.{KeepsBlamed, BeginsBlamed, ReadsNothingWritten};
 ghost use Rattle.pipe_core.specs.Sending.{AlwaysSendsBack};
 ghost use Rattle.pipe_core.specs.Agreement.{EnteringAgrees, StrikingAgrees};
 ghost use Rattle.pipe_core.specs.Agreed.{KeepsAgreed, PathsAreMade};
 ghost use Rattle.pipe_core.specs.Right.{TurnsAreRight, KeepsRight, IsAlwaysRight};
 ghost use Rattle.pipe_core.specs.InTurn.{KeepsSequential, RunsInTurn, FinalMaps};
+ghost use Rattle.pipe_core.specs.Prefix.{SequentialRunsAhead, IsAlwaysAhead, WholeWhereUnmarked, CommittersHoldRuns, GuardsRunAhead};
 ghost use Rattle.pipe_core.specs.Marked.{KeepsMarked, AreAlwaysMarked};
 
 /// The pipe holds frames and answers in the order in which the frames came, and each answer is that of its own packet.
@@ -45,6 +50,19 @@ pub fn ends_without_maps()
     ensures full { EndsWithoutMaps }
     ensures late { EndsLateWithoutMaps }
 {}
+
+/// A full drive in which no packet is ever sent back ends so too, with one clock more for each operation that is committed.
+pub fn ends_forward()
+    ensures { EndsForward }
+{}
+
+/// A cell run rests on what it reads of the maps, and on its reads off the path, which may be anything.
+pub fn runs_rest()
+    ensures elsewhere { RunsElsewhere }
+    ensures complete { RunsComplete }
+{
+    cell_core::laws::values_keep();
+}
 
 /// What a packet holds of the maps stays what it would find now, but for reads that are marked or off the path: where it takes in
 /// a row, and where the tables change.
@@ -106,7 +124,27 @@ pub fn runs_in_turn()
     hazard_core::laws::sees_earlier();
     hazard_core::laws::loads_tables();
     hazard_core::laws::tables_stand();
+}
+
+/// Over every list of clocks with a silent host what a packet holds is right up to its first marked read: there is a run of it, on the maps as they
+/// are and from the commit place on as they were before its own operations, with which it agrees in each cell that it holds up to the first read of
+/// a marked site on the run's path. Where there is none it agrees in all, as it does from the commit place on. Up to that read its guards too are
+/// the run's.
+pub fn ahead()
+    ensures now { SequentialRunsAhead }
+    ensures always { IsAlwaysAhead }
+    ensures whole { WholeWhereUnmarked }
+    ensures commits { CommittersHoldRuns }
+    ensures guards { GuardsRunAhead }
+{
+    cell_core::laws::rows_rise();
+    right();
+    runs_in_turn();
     hazard_core::laws::reads_keep();
+    hazard_core::laws::sees_earlier();
+    hazard_core::laws::maps_in_turn();
+    hazard_core::laws::loads_tables();
+    hazard_core::laws::tables_stand();
 }
 
 /// With operations on maps, and whatever packets are sent back, the full drive of frames ends in time; so does one that begins late.
@@ -116,4 +154,57 @@ pub fn ends_in_time()
 {
     right();
     hazard_core::laws::loads_tables();
+}
+
+/// In a full drive no more operations are committed than the runs of its frames write, so where nothing is sent back it ends so too.
+pub fn commits()
+    ensures writes { CommitsAreWrites }
+    ensures unsent { EndsUnsent }
+{
+    runs_in_turn();
+    right();
+    computed();
+    ends_in_time();
+    ends_forward();
+    hazard_core::laws::loads_tables();
+    hazard_core::laws::tables_stand();
+}
+
+/// Where no runs of frames conflict, a packet's run on maps in the midst of its forerunners' operations is its run in turn too.
+pub fn in_turn_too()
+    ensures { InTurnToo }
+{
+    runs_rest();
+    cell_core::laws::values_keep();
+}
+
+/// A change touches a read on the path only where what it changes and what is read meet; and what a commit changes its operation writes.
+pub fn meeting()
+    ensures touches { TouchesWhatIsRead }
+    ensures written { ChangesAreWritten }
+{
+    hazard_core::laws::in_turn();
+    hazard_core::laws::maps_in_turn();
+}
+
+/// While nothing is sent back each change that a packet has seen was made by a packet shortly before it, which wrote what the change changed.
+pub fn blamed()
+    ensures clock { KeepsBlamed }
+    ensures begins { BeginsBlamed }
+{
+    meeting();
+    hazard_core::laws::in_turn();
+    hazard_core::laws::sees_earlier();
+}
+
+/// Where no runs of the frames conflict, packets inside read nothing that packets shortly before them have written.
+pub fn unread()
+    ensures { ReadsNothingWritten }
+{
+    ahead();
+    runs_rest();
+    in_turn_too();
+    hazard_core::laws::sees_earlier();
+    hazard_core::laws::maps_in_turn();
+    cell_core::laws::values_keep();
 }

@@ -22,7 +22,8 @@ pub mod PlaceFits
 pub mod Fits
 pub mod OwnGuard
 pub mod FirstFits
-pub mod Gathered
+pub mod LaterReads
+mod Gathered
 pub mod Spans
 pub mod Behind
 pub mod NodeRows
@@ -30,4 +31,6 @@ pub mod NodeFits
 pub mod Pointers
 pub mod FirstPoints
 pub mod NodePoints
+pub mod FirstReads
+pub mod NodeReads
 pub mod ArrivePoints

@@ -7,6 +7,7 @@ use Rattle.std.proofs.Math.Seq.{get_or-append_seam, get_or-append_right}
 use Rattle.std.proofs.lemmas.Bool.{cases_lt, false≢true}
 use Rattle.std.proofs.lemmas.List.{append-nil, append_cancel_left}
 use Rattle.std.proofs.lemmas.List.Elements.{All-nil, All-cons, All-head, All-append, All-contains, All-weaker, Contains-get_or, Contains-append_cases}
+use Rattle.bpf_isa.specs.declared.instruction.Insn.{Insn}
 use Rattle.xdp_maps.specs.declared.decl.MapDecl.{MapDecl}
 use Rattle.xdp_machine.specs.State.{PacketIn}
 use Rattle.kind_core.specs.declared.kind.Kinds.{Kinds}
@@ -91,27 +92,27 @@ entry_found decls cells ss v u ps x n none o l = record {
 -- ---- what a node adds
 
 -- For these values of cells: the edges that are added are on only where the guard is, and hold pointers of lookups; so does each access.
-record Adds (decls : List MapDecl) (t : List Way) (before : List SiteView) (new : MadeView) (guard : ℕ) (v u : ℕ → ℕ) : Type 0 where
-  more : List Way
-  ways_are : new.ways ≡ t ++ more
-  bits : All (λ e. v e.bit < 2) more
-  guarded : All (λ e. on (v e.bit) ≡ true → on (v guard) ≡ true) more
-  one : (e f : Way) → Contains more e → Contains more f → on (v e.bit) ≡ true → on (v f.bit) ≡ true → e.to ≡ f.to
-  held : All (λ e. on (v e.bit) ≡ true → AreLookedUp decls new.cells new.sites v u new.pointers e.kinds e.held) more
-  accesses : (j : ℕ) → length before ≤ j → j < length new.sites → is_access (site_at new.sites j).act ≡ true → on (v (site_at new.sites j).guard) ≡ true → IsLookupAccess decls new.cells new.sites v u j
+pub record Adds (decls : List MapDecl) (t : List Way) (before : List SiteView) (new : MadeView) (guard : ℕ) (v u : ℕ → ℕ) : Type 0 where
+  pub more : List Way
+  pub ways_are : new.ways ≡ t ++ more
+  pub bits : All (λ e. v e.bit < 2) more
+  pub guarded : All (λ e. on (v e.bit) ≡ true → on (v guard) ≡ true) more
+  pub one : (e f : Way) → Contains more e → Contains more f → on (v e.bit) ≡ true → on (v f.bit) ≡ true → e.to ≡ f.to
+  pub held : All (λ e. on (v e.bit) ≡ true → AreLookedUp decls new.cells new.sites v u new.pointers e.kinds e.held) more
+  pub accesses : (j : ℕ) → length before ≤ j → j < length new.sites → is_access (site_at new.sites j).act ≡ true → on (v (site_at new.sites j).guard) ≡ true → IsLookupAccess decls new.cells new.sites v u j
 
-module _ (g : GraphView) (k : ℕ) (hs : List Held) (t : Making) (cells : List CellView) (ps : List PointerView) (new : MadeView) (here : Here) (exits : List Exit)
+module _ (g : GraphView) (k : ℕ) (hs : List Held) (t : Making) (cells : List CellView) (ps : List PointerView) (new : MadeView) (here : Here) (exits : List Exit) (insn : Insn) (pending : List ℕ)
     (so_far : IsSoFar g k hs t) (arrives : Arrives g k t cells ps here.guard here.held)
     (s : Steps g k here.guard here.held cells new.cells ps new.pointers t.sites new.sites t.ways new.ways exits new.exits)
     (comes : ArrivePoints g.decls k (node_at g.nodes k).kinds cells t.pointers ps t.ways here.guard here.held)
     (before : PointSoFar g.decls k (record { cells = t.cells; pointers = t.pointers; sites = t.sites; ways = t.ways; exits = t.exits })) where
-  abbrev kinds : Kinds
+  abbrev pub kinds : Kinds
   kinds = (node_at g.nodes k).kinds
 
-  abbrev reads : ℕ → ℕ → Type 0
+  abbrev pub reads : ℕ → ℕ → Type 0
   reads = ReadsOwn t.sites new.sites
 
-  abbrev old : MadeView
+  abbrev pub old : MadeView
   old = record { cells = cells; pointers = ps; sites = t.sites; ways = t.ways; exits = exits }
 
   extends : Extends ps new.pointers
@@ -149,11 +150,11 @@ module _ (g : GraphView) (k : ℕ) (hs : List Held) (t : Making) (cells : List C
     now : PointWith g.decls k (record { cells = t.cells; pointers = t.pointers; sites = t.sites; ways = t.ways; exits = t.exits }) v u
     now = before.each packet v u (grows.run packet v run) (followed_before grows follows)
 
-    come : (v here.guard < 2) × (on (v here.guard) ≡ true → ComesAlong g.decls k kinds here.held t.pointers ps t.ways v u)
+    pub come : (v here.guard < 2) × (on (v here.guard) ≡ true → ComesAlong g.decls k kinds here.held t.pointers ps t.ways v u)
     come = comes packet v u (s.grows.run packet v run) (followed_before s.grows follows) now.bits
 
     -- where the node is on the path no edge passes it by
-    passes : (e : Way) → Contains t.ways e → k + 1 ≤ e.to → on (v e.bit) ≡ true → on (v here.guard) ≡ true → ⊥
+    pub passes : (e : Way) → Contains t.ways e → k + 1 ≤ e.to → on (v e.bit) ≡ true → on (v here.guard) ≡ true → ⊥
     passes e c l o path =
         let a = come.1 path in
         let same = now.one a.edge e a.among c (omega (arith, a.to)) (omega (arith, l)) a.is_on o in
@@ -269,11 +270,11 @@ module _ (g : GraphView) (k : ℕ) (hs : List Held) (t : Making) (cells : List C
         by_act (act.Store at size) e p = access (ap changes_keys e) p
         by_act (act.Atomic at a) e p = access (ap changes_keys e) p
 
-      instruction : InstructionPoints g.decls kinds here.held after next cells new.cells ps new.pointers t.sites new.sites → Behind
+      instruction : InstructionPoints g.decls insn pending kinds here.held after next cells new.cells ps new.pointers t.sites new.sites → Behind
       instruction (inl p) = plain p
-      instruction (inr p) = by_act p.site p.sites_are p.site.act refl p.points
+      instruction (inr p) = by_act p.2.site p.2.sites_are p.2.site.act refl p.2.points
 
-    along : AlongPoints g.decls kinds here old new → Adds g.decls t.ways t.sites new here.guard v u
+    along : AlongPoints g.decls insn pending kinds here old new → Adds g.decls t.ways t.sites new here.guard v u
     along a = record {
       more = a.more;
       ways_are = a.ways_are;
@@ -308,7 +309,7 @@ module _ (g : GraphView) (k : ℕ) (hs : List Held) (t : Making) (cells : List C
         by path x (inr h) = behind x (none_new (Keeps x) a.sites_are) (there (record { map = x.map; node = Some h.0; pointer = x.pointer }) h.1)
             (entry_found g.decls cells t.sites v u ps x h.0 h.2 h.3 (looked path (record { map = x.map; node = Some h.0; pointer = x.pointer }) h.1))
 
-    adds : NodePoints g.decls kinds here old new → Adds g.decls t.ways t.sites new here.guard v u
+    pub adds : NodePoints g.decls insn pending kinds here old new → Adds g.decls t.ways t.sites new here.guard v u
     adds (inl a) = along a
     adds (inr a) = jump a
 
@@ -336,18 +337,18 @@ module _ (g : GraphView) (k : ℕ) (hs : List Held) (t : Making) (cells : List C
         by j l is o (inr b) = a.accesses j b l is o
 
   -- at most one site is added
-  few : NodePoints g.decls kinds here old new → length s.more ≤ 1
+  pub few : NodePoints g.decls insn pending kinds here old new → length s.more ≤ 1
   few p = let n = ap length s.sites_are in by p (omega (arith, n, length-append t.sites s.more))
     where
-      by : NodePoints g.decls kinds here old new → length new.sites ≡ length t.sites + length s.more → length s.more ≤ 1
+      by : NodePoints g.decls insn pending kinds here old new → length new.sites ≡ length t.sites + length s.more → length s.more ≤ 1
       by (inl a) n = one a.points
         where
-          one : InstructionPoints g.decls kinds here.held a.after a.next cells new.cells ps new.pointers t.sites new.sites → length s.more ≤ 1
+          one : InstructionPoints g.decls insn pending kinds here.held a.after a.next cells new.cells ps new.pointers t.sites new.sites → length s.more ≤ 1
           one (inl p) = let m = ap length p.sites_are in omega (arith, n, m)
-          one (inr p) = let m = ap length p.sites_are in omega (arith, n, m, length-append t.sites (p.site ∷ []))
+          one (inr p) = let m = ap length p.2.sites_are in omega (arith, n, m, length-append t.sites (p.2.site ∷ []))
       by (inr a) n = let m = ap length a.sites_are in omega (arith, n, m)
 
-  pub next_points : NodePoints g.decls kinds here old new → PointSoFar g.decls (k + 1) new
+  pub next_points : NodePoints g.decls insn pending kinds here old new → PointSoFar g.decls (k + 1) new
   next_points p = record {
     ascending = subst (AllPairs (λ x r. x.node < r.node)) (sym s.sites_are)
         (ascending_more k t.sites s.more (few p) so_far.laid.low (All-weaker (λ x. (x.node ≡ k) × (x.guard ≡ here.guard)) (λ x. x.node ≡ k) (λ x o. o.0) s.more s.own) before.ascending);
@@ -375,10 +376,10 @@ points_later decls k t cells grows p = record {
 }
 
 pub nodes_point : NodesPoint
-nodes_point g k hs t old new here cells so_far arrives sites_are ways_are s comes p grows before =
-    points_later g.decls (k + 1) new cells grows (next_points g k hs t old.cells old.pointers new here old.exits so_far arrives
+nodes_point g k hs t old new here i pending cells so_far arrives sites_are ways_are s comes p grows before =
+    points_later g.decls (k + 1) new cells grows (next_points g k hs t old.cells old.pointers new here old.exits i pending so_far arrives
     (subst (λ (m : MadeView). Steps g k here.guard here.held m.cells new.cells m.pointers new.pointers m.sites new.sites m.ways new.ways m.exits new.exits) same s) comes before
-    (subst (λ (m : MadeView). NodePoints g.decls (node_at g.nodes k).kinds here m new) same p))
+    (subst (λ (m : MadeView). NodePoints g.decls i pending (node_at g.nodes k).kinds here m new) same p))
   where
     same : old ≡ record { cells = old.cells; pointers = old.pointers; sites = t.sites; ways = t.ways; exits = old.exits }
     same = ap (λ (ss : List SiteView). record old { sites = ss }) sites_are ∙ ap (λ (ws : List Way). record { cells = old.cells; pointers = old.pointers; sites = t.sites; ways = ws; exits = old.exits }) ways_are

@@ -4,6 +4,7 @@ use Rattle.cell_core.specs.Cells.{CellView}
 use Rattle.cell_core.specs.Sites.{SiteView, site_at, records}
 use Rattle.cell_core.specs.Rows.{AreRows, greatest}
 use Rattle.held_cells.specs.declared.way.Way.{Way}
+use Rattle.held_cells.specs.Reading.{AreRanks}
 use Rattle.step_cells.specs.Waiting.{WaitsFor}
 use Rattle.operator_cells.specs.declared.joining.Arm.{Arm}
 use Rattle.operator_cells.specs.Joining.{flat}
@@ -15,12 +16,13 @@ arm_of ways pending q i d = record { bit = (get_or ways i d).bit; cell = slice_i
 abbrev pub arms_of : List Way → List (List ℕ) → List ℕ → ℕ → Way → List Arm
 arms_of ways pending numbers q d = map_list (λ i. arm_of ways pending q i d) numbers
 
--- For each of so many maps a cell: that which all edges of these numbers bring, or one in the greatest row of their bits and of what they bring. Where
--- no map needs a later row than this, no new cell stands in a later one.
+-- For each of so many maps a cell: that which all edges of these numbers bring, or one in the greatest row of their bits and of what they bring, which
+-- is no lower than any that they bring. Where no map needs a later row than this, no new cell stands in a later one.
 pub record GathersTo (old new : List CellView) (ways : List Way) (pending : List (List ℕ)) (numbers : List ℕ) (maps : ℕ) (all : List ℕ) : Type 0 where
   pub rows : (row : ℕ → ℕ) → AreRows new row → AreRows old row
   pub stays : (q : ℕ) (e : Way) (d : ℕ) → q < maps → All (λ a. a.cell ≡ d) (arms_of ways pending numbers q e) → slice_index all q ≡ d
   pub result : (row : ℕ → ℕ) (q : ℕ) (e : Way) → AreRows new row → q < maps → row (slice_index all q) ≤ greatest row (flat (arms_of ways pending numbers q e))
+  pub above : (rank : ℕ → ℕ) (q : ℕ) (e : Way) → AreRanks new rank → q < maps → All (λ a. rank a.cell ≤ rank (slice_index all q)) (arms_of ways pending numbers q e)
   pub cells : (row : ℕ → ℕ) (last : ℕ) (e : Way) → AreRows new row
       → ((q : ℕ) → q < maps → ((d : ℕ) × All (λ a. a.cell ≡ d) (arms_of ways pending numbers q e)) ⊎ (greatest row (flat (arms_of ways pending numbers q e)) ≤ last))
       → (c : ℕ) → length old ≤ c → c < length new → row c ≤ last

@@ -1,5 +1,6 @@
 -- From one node to the next, and what follows for all of them.
-use Rattle.std.specs.Prelude.{ℕ, ◌≡◌, ◌+◌, List, [], ◌∷◌, ◌++◌, length, All}
+use Rattle.std.specs.Prelude.{ℕ, ◌≡◌, ◌+◌, ◌-◌, List, [], ◌∷◌, ◌++◌, length, replicate, All}
+use Rattle.bpf_isa.specs.declared.instruction.Insn.{Insn}
 use Rattle.bpf_isa.specs.Spelling.{IsInsn}
 use Rattle.xdp_maps.specs.declared.decl.MapDecl.{MapDecl}
 use Rattle.cell_core.specs.declared.program.Node.{Node}
@@ -15,6 +16,7 @@ use Rattle.held_cells.specs.Held.{PointerView}
 use Rattle.held_cells.specs.Steps.{Steps}
 use Rattle.held_cells.specs.Law.{IsLaw}
 use Rattle.held_cells.specs.Pointing.{AccessesLookUp}
+use Rattle.held_cells.specs.Reading.{ReadsAreMade, ReadsWait}
 use Rattle.edge_cells.specs.declared.joining.Here.{Here}
 use Rattle.step_cells.specs.Stepping.{MadeView}
 use Rattle.step_cells.specs.Pointing.{NodePoints}
@@ -22,6 +24,8 @@ use Rattle.predicate_core.specs.Buildable.{IsBuildable}
 use Rattle.predicate_core.specs.Making.{Making, IsSoFar, Arrives, Answers, made_alone}
 use Rattle.predicate_core.specs.Opening.{Opens}
 use Rattle.predicate_core.specs.Pointing.{PointSoFar, ArrivePoints}
+use Rattle.predicate_core.specs.Gathering.{PassesTo}
+use Rattle.predicate_core.specs.Reading.{ReadSoFar, PendingMeets}
 
 -- the node that has been made behind others
 abbrev pub made_next : GraphView → ℕ → ℕ → List CellView → List CellView → Node
@@ -42,12 +46,31 @@ OpensPoint = (decls : List MapDecl) (t : MadeView) (e : Way) → t.ways ≡ e �
 -- A node more, and more cells behind it: where pointers came from lookups as far as it, they do as far as the next one.
 abbrev pub NodesPoint : Type 0
 NodesPoint =
-    (g : GraphView) (k : ℕ) (hs : List Held) (t : Making) (old new : MadeView) (here : Here) (cells : List CellView)
+    (g : GraphView) (k : ℕ) (hs : List Held) (t : Making) (old new : MadeView) (here : Here) (i : Insn) (pending : List ℕ) (cells : List CellView)
     → IsSoFar g k hs t → Arrives g k t old.cells old.pointers here.guard here.held → old.sites ≡ t.sites → old.ways ≡ t.ways
     → Steps g k here.guard here.held old.cells new.cells old.pointers new.pointers old.sites new.sites old.ways new.ways old.exits new.exits
     → ArrivePoints g.decls k (node_at g.nodes k).kinds old.cells t.pointers old.pointers t.ways here.guard here.held
-    → NodePoints g.decls (node_at g.nodes k).kinds here old new → Grows new.cells cells
+    → NodePoints g.decls i pending (node_at g.nodes k).kinds here old new → Grows new.cells cells
     → PointSoFar g.decls k (record { cells = t.cells; pointers = t.pointers; sites = t.sites; ways = t.ways; exits = t.exits }) → PointSoFar g.decls (k + 1) (record new { cells = cells })
+
+-- With the edge to the first node alone there is nothing to read.
+abbrev pub OpensRead : Type 0
+OpensRead = (decls : List MapDecl) (t : MadeView) (e : Way) (beside : List (List ℕ)) → t.ways ≡ e ∷ [] → t.sites ≡ [] → Grows [] t.cells → ReadSoFar decls 0 t beside
+
+-- A node more, and behind its code the cells of what is pending: where reads waited for the writes before them as far as it, they do as far as the next
+-- one.
+abbrev pub NodesRead : Type 0
+NodesRead =
+    (g : GraphView) (k : ℕ) (hs : List Held) (t : Making) (old new : MadeView) (here : Here) (i : Insn) (pending pending2 : List ℕ) (cells : List CellView) (beside : List (List ℕ))
+    → IsSoFar g k hs t → Arrives g k t old.cells old.pointers here.guard here.held → old.sites ≡ t.sites → old.ways ≡ t.ways
+    → Steps g k here.guard here.held old.cells new.cells old.pointers new.pointers old.sites new.sites old.ways new.ways old.exits new.exits
+    → ArrivePoints g.decls k (node_at g.nodes k).kinds old.cells t.pointers old.pointers t.ways here.guard here.held
+    → NodePoints g.decls i pending (node_at g.nodes k).kinds here old new → Grows new.cells cells
+    → length pending ≡ length g.decls → length beside ≡ length t.ways → PendingMeets k old.cells t.ways beside pending
+    → PassesTo new.cells cells new.sites (length t.sites) (length t.cells) pending pending2
+    → PointSoFar g.decls k (record { cells = t.cells; pointers = t.pointers; sites = t.sites; ways = t.ways; exits = t.exits })
+    → ReadSoFar g.decls k (record { cells = t.cells; pointers = t.pointers; sites = t.sites; ways = t.ways; exits = t.exits }) beside
+    → ReadSoFar g.decls (k + 1) (record new { cells = cells }) (beside ++ replicate (length new.ways - length t.ways) pending2)
 
 -- Cells that read no site may be added where edges have been joined.
 abbrev pub ArrivalsStay : Type 0
@@ -65,6 +88,7 @@ StepsStay =
 abbrev pub WholesCompute : Type 0
 WholesCompute =
     (g : GraphView) (hs : List Held) (t : Making) (cells : List CellView) (verdict target : ℕ) (frame : List FrameByte)
-    → All IsInsn g.code.insns → IsSoFar g (length g.nodes) hs t → AccessesLookUp g.decls (made_alone t) → Answers t.cells cells t.exits verdict target frame
+    → All IsInsn g.code.insns → IsSoFar g (length g.nodes) hs t → AccessesLookUp g.decls (made_alone t) → ReadsAreMade g.decls (made_alone t) → ReadsWait (made_alone t)
+    → Answers t.cells cells t.exits verdict target frame
     → IsLaw g (record { cells = cells; nodes = t.nodes; sites = t.sites; verdict = verdict; target = target; frame = frame })
     × IsBuildable (record { cells = cells; nodes = t.nodes; sites = t.sites; verdict = verdict; target = target; frame = frame })

@@ -6,6 +6,7 @@ pub mod Closing
 pub mod Arriving
 pub mod Feeding
 pub mod Pointing
+pub mod Reading
 pub mod Progress
 pub mod Rows
 pub mod Gathering

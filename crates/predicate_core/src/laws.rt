@@ -1,6 +1,6 @@
 //! What holds of cells that are made node by node. Each function's contract is a law; it computes nothing.
 
-ghost use Rattle.predicate_core.specs.Laws.{NodesFollow, NodesPoint, OpensPoint, ArrivalsStay, StepsStay, WholesCompute};
+ghost use Rattle.predicate_core.specs.Laws.{NodesFollow, NodesPoint, OpensPoint, NodesRead, OpensRead, ArrivalsStay, StepsStay, WholesCompute};
 ghost use Rattle.predicate_core.specs.Opening.{OpensFollow};
 ghost use Rattle.predicate_core.specs.Feeding.{SoundGraphsFeed};
 ghost use Rattle.predicate_core.specs.Fitting.{ArrivalsFit, NodesFit};
@@ -26,6 +26,16 @@ pub fn opens_point()
 /// A node more: where pointers came from lookups as far as it, they do as far as the next one, and so do its accesses.
 pub fn nodes_point()
     ensures { NodesPoint }
+{}
+
+/// With the edge to the first node alone there is nothing to read.
+pub fn opens_read()
+    ensures { OpensRead }
+{}
+
+/// A node more: where reads are made, and wait for the writes before them, as far as it, they do as far as the next one.
+pub fn nodes_read()
+    ensures { NodesRead }
 {}
 
 /// Cells that read no site may be added where edges have been joined.

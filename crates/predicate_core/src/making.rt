@@ -18,12 +18,13 @@ ghost use Rattle.program_graph.specs.Graphs.{graph_of};
 ghost use Rattle.predicate_core.specs.Gathering.{arms_of, GathersTo, PassesTo};
 ghost use Rattle.predicate_core.specs.Stages.{FitSoFar, ComesWithin};
 ghost use Rattle.predicate_core.specs.Pointing.{PointSoFar, ArrivePoints};
-ghost use Rattle.predicate_core.specs.Progress.{targets, AreNumbers, AreWaiting, Entered, Comes, IsReady};
+ghost use Rattle.predicate_core.specs.Reading.{ReadSoFar, PendingMeets};
+ghost use Rattle.predicate_core.specs.Progress.{targets, pending_of, AreNumbers, AreWaiting, Entered, Comes, IsReady};
 
 use crate::arriving::arrive;
 use crate::laws::{
-    arrivals_fit, arrivals_stay, nodes_fit, nodes_follow, nodes_point, sound_graphs_feed,
-    steps_stay,
+    arrivals_fit, arrivals_stay, nodes_fit, nodes_follow, nodes_point, nodes_read,
+    sound_graphs_feed, steps_stay,
 };
 use bpf_isa::Insn;
 use cell_core::cell::{Cell, Cells};
@@ -189,6 +190,7 @@ fn arrive_at(
     requires ready { IsReady (graph_of program.now unfolded.now) node progress.old }
     ensures comes { IfOk result (λ arrived. Comes (graph_of program.now unfolded.now) node progress.old progress.new arrived.here arrived.pending.items) }
     ensures rows { IfOk result (λ arrived. (fit : FitSoFar program.now unfolded.now node progress.old) → ComesWithin program.now unfolded.now fit.named node (seen progress.old.made.cells.items) (seen progress.new.made.cells.items) (pointed progress.new.made.pointers.items) arrived.here.guard arrived.here.held arrived.pending.items) }
+    ensures meets { IfOk result (λ arrived. PendingMeets node (seen progress.new.made.cells.items) progress.old.made.ways.items (pending_of progress.old) arrived.pending.items) }
     ensures points { IfOk result (λ arrived. ArrivePoints program.now.decls node (node_at (graph_of program.now unfolded.now).nodes node).kinds (seen progress.new.made.cells.items) (pointed progress.old.made.pointers.items) (pointed progress.new.made.pointers.items) progress.old.made.ways.items arrived.here.guard arrived.here.held) }
 {
     arrivals_fit();
@@ -228,9 +230,11 @@ pub fn make_node(
     ensures ready { OnOk result (IsReady (graph_of program.now unfolded.now) (node + 1) progress.new) }
     ensures rows { OnOk result (FitSoFar program.now unfolded.now node progress.old → FitSoFar program.now unfolded.now (node + 1) progress.new) }
     ensures points { OnOk result (PointSoFar program.now.decls node (made_of progress.old.made) → PointSoFar program.now.decls (node + 1) (made_of progress.new.made)) }
+    ensures reads { OnOk result (PointSoFar program.now.decls node (made_of progress.old.made) → ReadSoFar program.now.decls node (made_of progress.old.made) (pending_of progress.old) → ReadSoFar program.now.decls (node + 1) (made_of progress.new.made) (pending_of progress.new)) }
 {
     nodes_fit();
     nodes_point();
+    nodes_read();
     graphs_are_sound();
     sound_graphs_feed();
     nodes_bring();

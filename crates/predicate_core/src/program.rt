@@ -9,12 +9,13 @@ ghost use Rattle.step_cells.specs.Stepping.{made_of};
 ghost use Rattle.program_graph.specs.Graphs.{graph_of};
 ghost use Rattle.predicate_core.specs.Buildable.{AddsNoRow, IsBuildable};
 ghost use Rattle.predicate_core.specs.Pointing.{PointSoFar};
-ghost use Rattle.predicate_core.specs.Progress.{AreFirst, AreWaiting, IsReady};
+ghost use Rattle.predicate_core.specs.Reading.{ReadSoFar};
+ghost use Rattle.predicate_core.specs.Progress.{pending_of, AreFirst, AreWaiting, IsReady};
 ghost use Rattle.predicate_core.specs.Rows.{FitStages};
 ghost use Rattle.predicate_core.specs.Stages.{FitSoFar};
 
 use crate::closing::close;
-use crate::laws::{opens_follow, opens_point, sound_graphs_feed, wholes_compute};
+use crate::laws::{opens_follow, opens_point, opens_read, sound_graphs_feed, wholes_compute};
 use crate::making::{Numbers, Progress, make_node};
 use crate::opening::open;
 use bpf_isa::Insn;
@@ -82,11 +83,13 @@ fn begin(alloc: Global, program: &Program, unfolded: &Unfolded) -> Result<Progre
     ensures ready { IfOk result (λ progress. IsReady (graph_of program.now unfolded.now) 0 progress) }
     ensures rows { IfOk result (λ progress. FitSoFar program.now unfolded.now 0 progress) }
     ensures points { IfOk result (λ progress. PointSoFar program.now.decls 0 (made_of progress.made)) }
+    ensures reads { IfOk result (λ progress. ReadSoFar program.now.decls 0 (made_of progress.made) (pending_of progress)) }
 {
     graphs_are_sound();
     sound_graphs_feed();
     opens_follow();
     opens_point();
+    opens_read();
     let mut cells = Vec::new(alloc);
     let start = open(&mut cells)?;
     let none = unwritten(&mut cells, program.decls().len())?;
@@ -121,9 +124,11 @@ fn make_nodes(
     requires ready { IsReady (graph_of program.now unfolded.now) 0 progress.old }
     requires fits { FitSoFar program.now unfolded.now 0 progress.old }
     requires points { PointSoFar program.now.decls 0 (made_of progress.old.made) }
+    requires reads { ReadSoFar program.now.decls 0 (made_of progress.old.made) (pending_of progress.old) }
     ensures ready { OnOk result (IsReady (graph_of program.now unfolded.now) (length unfolded.now.nodes.items) progress.new) }
     ensures rows { OnOk result (FitSoFar program.now unfolded.now (length unfolded.now.nodes.items) progress.new) }
     ensures points { OnOk result (PointSoFar program.now.decls (length unfolded.now.nodes.items) (made_of progress.new.made)) }
+    ensures reads { OnOk result (ReadSoFar program.now.decls (length unfolded.now.nodes.items) (made_of progress.new.made) (pending_of progress.new)) }
 {
     nodes_have_insns();
     // A program is one.

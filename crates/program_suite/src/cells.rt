@@ -48,7 +48,12 @@ pub(crate) fn answer(
 }
 
 // The nodes, stages and records of a program by its graph, or its refusal; and what they are by its cells, where that differs.
-fn stages(alloc: Global, program: &Program, graph: &Unfolded, cells: &CellProgram) -> Result<String>
+pub(crate) fn stages(
+    alloc: Global,
+    program: &Program,
+    graph: &Unfolded,
+    cells: &CellProgram,
+) -> Result<String>
     requires unfolded { IsUnfolded program.now graph.now }
     requires formed { AreFormed (program_of cells.now).cells }
 {
@@ -103,7 +108,12 @@ fn by_cells(
 }
 
 // What a packet leaves by the run of a program.
-fn by_run(alloc: Global, plan: &mut SeqPlan, packet: &PacketIn, maps: &mut Maps) -> Result<Left> {
+pub(crate) fn by_run(
+    alloc: Global,
+    plan: &mut SeqPlan,
+    packet: &PacketIn,
+    maps: &mut Maps,
+) -> Result<Left> {
     let before = packet.frame.bytes();
     let mut frame = Frame::of(alloc, before)?;
     let meta = Meta {

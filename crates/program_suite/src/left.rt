@@ -23,12 +23,15 @@ impl Left {
         maps: &Maps,
     ) -> Result<Left> {
         ensure!(maps.decls().len() <= 16, "16 maps");
-        let length = frame.len();
-        let changes = changed(alloc, before, frame)?;
         Ok(Left {
-            line: format!(in alloc; "{verdict} {target} {length}{changes}")?,
+            line: line_of(alloc, before, verdict, target, frame)?,
             maps: write_maps_text(alloc, maps)?,
         })
+    }
+
+    /// The line of it.
+    pub(crate) fn line(&self) -> &str {
+        self.line.as_str()
     }
 
     /// The line of it, and where another way leaves something else what that is.
@@ -42,6 +45,19 @@ impl Left {
         }
         Ok(text)
     }
+}
+
+/// The line of what is left of a frame that was this before.
+pub(crate) fn line_of(
+    alloc: Global,
+    before: &[u8],
+    verdict: u64,
+    target: u64,
+    frame: &[u8],
+) -> Result<String> {
+    let length = frame.len();
+    let changes = changed(alloc, before, frame)?;
+    Ok(format!(in alloc; "{verdict} {target} {length}{changes}")?)
 }
 
 // The bytes that are others than before: their digits, each run of them behind its place.

@@ -3,7 +3,7 @@
 use crate::bytes::Named;
 use crate::maps::Tables;
 use crate::numbers::{front, number, number_32};
-use crate::{cells, graph};
+use crate::{cells, graph, pipes};
 use anyhow::{Result, ensure};
 use beat_core::{FRAME_LIMIT, Frame, Meta};
 use bpf_isa::decode_all;
@@ -99,6 +99,7 @@ impl Machine {
             "run" => self.run(tables, &named.bytes(rest)?, &named.bytes(first)?)?,
             "compute" => self.compute(tables, &named.bytes(first)?, rest)?,
             "cells" => self.cells(tables, &named.bytes(first)?, &named.bytes(rest)?)?,
+            "pipe" => self.pipe(tables, first, &named.bytes(rest)?)?,
             "loops" | "walk" | "unfold" | "count" => self.ask(
                 tables.maps.decls(),
                 &named.bytes(first)?,
@@ -168,6 +169,19 @@ impl Machine {
                 cells::answer(self.alloc, &celled, &run, tables, &self.packets)
             }
             _ => Ok(String::from_str(self.alloc, "no program")?),
+        }
+    }
+
+    // What the packets leave, by the runs of the program with these bytes in its hole, and by a pipe that may take so many clocks.
+    fn pipe(&self, tables: &mut Tables, most: &str, hole: &[u8]) -> Result<String> {
+        let most = if most.is_empty() || most == "-" {
+            None
+        } else {
+            Some(number(most)?)
+        };
+        match self.program(tables.maps.decls(), hole)? {
+            Some(program) => pipes::answer(self.alloc, &program, tables, &self.packets, most),
+            None => Ok(String::from_str(self.alloc, "no program")?),
         }
     }
 

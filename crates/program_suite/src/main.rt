@@ -102,6 +102,14 @@
 //!
 //! Nodes, stages and records are those of the graph, and what packets leave is that of runs. Where cells say something else, that follows
 //! behind `by cells`: each packet's cells are evaluated on the maps that the run before has left, and their operations done in their order.
+//!
+//! Of a pipe of these cells (`pipe_core`):
+//!
+//!     pipe [NUMBER|- [CODE]]          nodes, stages and records, what packets leave, and the text of the final maps, all by the runs of the
+//!                                     program; then for each of three ways to drive a pipe whether it gives the same: a beat is offered and
+//!                                     taken in every clock, offered in every third, or taken in every second. In the first way it is to be
+//!                                     done in so many clocks, and then it says whether packets were sent back; with `-` in as many as the
+//!                                     bound of the pipe says
 #![tactic(auto)]
 
 mod bits;
@@ -115,6 +123,7 @@ mod machine;
 mod maps;
 mod numbers;
 mod objects;
+mod pipes;
 mod sites;
 mod suite;
 mod units;

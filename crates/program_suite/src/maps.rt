@@ -241,7 +241,7 @@ fn decl_of(number: usize, rest: &str) -> Result<MapDecl> {
 }
 
 // Maps of these declarations, which are within the limits.
-fn opened(alloc: Global, decls: &[MapDecl]) -> Result<Maps> {
+pub(crate) fn opened(alloc: Global, decls: &[MapDecl]) -> Result<Maps> {
     let all = decls.iter().all(|d| d.is_within_limits());
     ensure!(all, "maps within the limits");
     Ok(Maps::new(alloc, decls)?)

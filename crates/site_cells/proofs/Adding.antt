@@ -1,8 +1,9 @@
 -- One site more, and what its cells read.
-use Rattle.std.proofs.Common.{◌≡◌, ℕ, ◌<◌, ◌≤◌, true, Some, List, [], ◌∷◌, ◌++◌, length, length-append, take, get_or, refl, sym, ◌∙◌, ap, subst, arith}
+use Rattle.std.proofs.Common.{◌≡◌, ℕ, ◌<◌, ◌≤◌, ◌⊎◌, inl, inr, true, Some, List, [], ◌∷◌, ◌++◌, length, length-append, take, get_or, refl, sym, ◌∙◌, ap, subst, arith}
 use Rattle.std.proofs.Math.ListN.{get_or-append}
 use Rattle.std.proofs.Math.Seq.{get_or-append_seam}
 use Rattle.std.specs.Prelude.{All}
+use Rattle.std.proofs.lemmas.Bool.{cases_lt}
 use Rattle.std.proofs.lemmas.List.{take_all, take-append-le, length-map, get_or-map}
 use Rattle.std.proofs.lemmas.List.Elements.{All-append, All-push}
 use Rattle.xdp_maps.specs.State.{MapState}
@@ -54,6 +55,13 @@ read_added old new c op ins are width adds e = record {
 
 pub added_alone : (old new : List CellView) (c : ℕ) (cell : CellView) → Adds old new c cell → (d : ℕ) → length old ≤ d → d < length new → d ≡ c
 added_alone old new c cell adds d low high = omega (arith, low, high, adds.at, ap length adds.is, length-append old (cell ∷ []))
+
+pub added_both : (old mid new : List CellView) (c e : ℕ) (x y : CellView) → Adds old mid c x → Adds mid new e y → (d : ℕ) → length old ≤ d → d < length new → (d ≡ c) ⊎ (d ≡ e)
+added_both old mid new c e x y first second d low high = by (cases_lt d (length mid))
+  where
+    by : (d < length mid) ⊎ (length mid ≤ d) → (d ≡ c) ⊎ (d ≡ e)
+    by (inl l) = inl (added_alone old mid c x first d low l)
+    by (inr m) = inr (added_alone mid new e y second d m high)
 
 -- a cell that reads stays
 pub read_later : (R : ℕ → ℕ → Type 0) (old new : List CellView) (c : ℕ) (op : Operator) (ins : List ℕ) (width : ℕ) → GrowsWith R old new → IsReadOf old c op ins width → IsReadOf new c op ins width

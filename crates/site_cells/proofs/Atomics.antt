@@ -123,6 +123,24 @@ change_is i size rs at x s c is parts source one none =
 pub fetch_is : (i : Insn) (size : Size) (rs : List Value) (at : AtomicChange) (x : Change) → IsAtomic i size at → Parts rs i size x → at.fetch ≡ answers_old x.kind (code_of i)
 fetch_is i size rs at x is parts = is.fetch ∙ ap (λ (k : ChangeKind). answers_old k (code_of i)) (is.kind x.kind parts.kind)
 
+-- one whose old number goes somewhere answers it
+cmpxchg_is : (t : ℕ) → (t == 240) ≡ true
+    → (if t == 0 then Some Add else (if t == 64 then Some Or else (if t == 80 then Some And else (if t == 160 then Some Xor else (if t == 224 then Some Xchg else (if t == 240 then Some Cmpxchg else None)))))) ≡ Some Cmpxchg
+cmpxchg_is t e = subst (λ (n : ℕ). (if n == 0 then Some Add else (if n == 64 then Some Or else (if n == 80 then Some And else (if n == 160 then Some Xor else (if n == 224 then Some Xchg else (if n == 240 then Some Cmpxchg else None)))))) ≡ Some Cmpxchg)
+    (sym (eqb-true t 240 e)) refl
+
+fetched : (kind : ChangeKind) (code : ℕ) → fetches code ≡ true → answers_old kind code ≡ true
+fetched Cmpxchg code e = refl
+fetched kind code e = e
+
+pub taken_answers : (i : Insn) (size : Size) (at : AtomicChange) (r : ℕ) → IsAtomic i size at → taken_by i ≡ Some r → at.fetch ≡ true
+taken_answers i size at r is to = is.fetch ∙ by (compares i) (fetches (code_of i)) refl refl to
+  where
+    by : (b f : Bool) → compares i ≡ b → fetches (code_of i) ≡ f → (if b then Some 0 else (if f then Some i.src else None)) ≡ Some r → answers_old at.kind (code_of i) ≡ true
+    by b true e h x = fetched at.kind (code_of i) h
+    by true false e h x = ap (λ (k : ChangeKind). answers_old k (code_of i)) (is.kind Cmpxchg (cmpxchg_is (code_of i - code_of i % 2) e))
+    by false false e h x = absurd (cc)
+
 -- ---- where the old number goes
 put_is : (m : Machine) (r : ℕ) (y : Value) (n : Machine) → with_registers m (put m.registers r y) ≡ Some n → n ≡ record m { registers = slice_set m.registers r y }
 put_is m r y n e = by (r == 10) e

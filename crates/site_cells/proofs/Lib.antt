@@ -16,6 +16,7 @@ mod Stores
 mod Stale
 mod Changes
 mod Shedding
+mod SiteReads
 mod Points
 mod WordRows
 mod Leaving

@@ -1,11 +1,14 @@
 -- Which pointers are held behind an operation on a map.
 use Rattle.std.proofs.Common.{◌≡◌, ◌≢◌, ◌∙◌, ℕ, ◌-◌, ◌<◌, ◌≤◌, ◌⊎◌, inl, inr, ◌==◌, nat_lt, if◌then◌else◌, Bool, true, false, Some, None, List, [], ◌∷◌, ◌++◌, length, slice_index, refl, sym, ap, subst, arith}
 use Rattle.std.proofs.lemmas.Bool.{cases_lt, cases_eq, eqb-false, lt-ltb}
+use Rattle.bpf_isa.specs.declared.operation.Op.{Op}
+use Rattle.bpf_isa.specs.declared.operation.Op.TheVariants.{Call}
+use Rattle.bpf_isa.specs.declared.instruction.Insn.{Insn}
 use Rattle.xdp_maps.specs.declared.decl.MapDecl.{MapDecl}
 use Rattle.xdp_machine.proofs.ChangeLaws.{some_inj}
 use Rattle.kind_core.specs.declared.number.Number.TheVariants.{Unknown}
 use Rattle.kind_core.specs.declared.kind.Kind.{Kind}
-use Rattle.kind_core.specs.declared.kind.Kind.TheVariants.{Unset, Num, Maybe, Entry, Stale}
+use Rattle.kind_core.specs.declared.kind.Kind.TheVariants.{Unset, Num, MapRef, Maybe, Entry, Stale}
 use Rattle.kind_core.specs.declared.kind.Kinds.{Kinds}
 use Rattle.kind_core.specs.Kinds.{register, with_register, answering}
 use Rattle.kind_core.specs.Calls as calls
@@ -18,11 +21,14 @@ use Rattle.cell_core.specs.Sites.{SiteView}
 use Rattle.operator_cells.specs.Making.{Grows}
 use Rattle.held_cells.specs.declared.held.Held.{Held}
 use Rattle.held_cells.specs.Held.{PointerView, pointer_at}
-use Rattle.held_cells.specs.Rows.{kind_at, number_at}
+use Rattle.held_cells.specs.Rows.{kind_at, number_at, map_used}
 use Rattle.held_cells.specs.Pointing.{Pointing, pointing_as, HoldsPointer, KeepPointers, changes_keys, IsThrough, ChangePoints, AccessPoints, PointsAs, OperationPoints}
+use Rattle.held_cells.specs.Reading.{OperationReads}
 use Rattle.held_cells.proofs.RowLaws.{put_register}
+use Rattle.place_rows.specs.Spans.{map_of}
 use Rattle.site_cells.specs.declared.here.Here.{Here}
-use Rattle.site_cells.specs.Siting.{LooksUp, lookup_site, access_site, change_site}
+use Rattle.site_cells.specs.Siting.{LooksUp, Changes, lookup_site, access_site, change_site}
+use Rattle.site_cells.proofs.SiteReads.{change_reads, lookup_reads}
 use Rattle.site_cells.proofs.Stale.{stale, stale_all, stale_at, hash_becomes}
 use Rattle.site_cells.proofs.Shedding.{IsBare, IsLess, Sheds, answer_kind, shed_kind, number_put, number_kept, written_sheds, answering_sheds, changed_sheds}
 
@@ -60,6 +66,14 @@ keep_points k after h r c sheds small whole y held = by (shed_points k after h r
     by (inl e) = absurd (cc)
     by (inr before) = before
 
+-- the map of a call is that of R1
+pub call_used : (k : Kinds) (i : Insn) (q : ℕ) → i.op ≡ Call → register k 1 ≡ MapRef q → map_used k i i.op ≡ Some q
+call_used k i q op base = ap (λ (o : Op). map_used k i o) op ∙ ap map_of base
+
+-- and of an access that of a register
+pub entry_used : (k : Kinds) (i : Insn) (o : Op) (r q n : ℕ) → i.op ≡ o → map_used k i o ≡ map_of (register k r) → register k r ≡ Entry q n → map_used k i i.op ≡ Some q
+entry_used k i o r q n op at base = ap (λ (x : Op). map_used k i x) op ∙ at ∙ ap map_of base
+
 -- ---- accesses
 pub read_keeps : (k after : Kinds) (h : Held) (r c : ℕ) → after ≡ with_register k r (Num Unknown) → r ≤ 10 → length k.registers ≡ 11 → length h.registers ≡ 11 → KeepPointers k h after (put_register h r c)
 read_keeps k after h r c becomes small ks hs = subst (λ (x : Kinds). KeepPointers k h x (put_register h r c)) (sym becomes) (keep_points k (with_register k r (Num Unknown)) h r c (written_sheds k r (Num Unknown) small ks) small hs)
@@ -68,12 +82,13 @@ pub nothing_keeps : (k after : Kinds) (h : Held) → after ≡ k → KeepPointer
 nothing_keeps k after h becomes = subst (λ (x : Kinds). KeepPointers k h x h) (sym becomes) (λ y held. held)
 
 -- one through the pointer to an entry in a register
-pub access_points : (decls : List MapDecl) (here : Here) (k after : Kinds) (h next : Held) (old new : List CellView) (ps : List PointerView) (sites sites2 : List SiteView) (q o r : ℕ) (a : Act) (p : PointerView) (operands : List ℕ)
+pub access_points : (decls : List MapDecl) (i : Insn) (here : Here) (k after : Kinds) (h next : Held) (old new : List CellView) (ps : List PointerView) (sites sites2 : List SiteView) (q o r : ℕ) (a : Act) (p : PointerView) (operands : List ℕ)
     → r ≤ 10 → register k r ≡ Entry q o → p ≡ pointer_at ps (slice_index h.registers r) → IsThrough a (operands ++ p.found ∷ []) p.found → KeepPointers k h after next → sites2 ≡ sites ++ access_site here q a p operands ∷ []
-    → OperationPoints decls k h after next old new ps ps sites sites2
-access_points decls here k after h next old new ps sites sites2 q o r a p operands small base p_is through kept sites_are = record {
+    → OperationReads decls (map_used k i i.op) here.pending old new (length sites) (access_site here q a p operands) → OperationPoints decls i here.pending k h after next old new ps ps sites sites2
+access_points decls i here k after h next old new ps sites sites2 q o r a p operands small base p_is through kept sites_are reads = record {
   site = access_site here q a p operands;
   sites_are = sites_are;
+  reads = reads;
   points = by a through (record {
     pointers_are = refl;
     kept = kept;
@@ -118,12 +133,13 @@ other_map q (Entry p o) c y = by (p == q) refl
     by false e at = λ is. eqb-false p q e (ap (λ (z : Pointing). z.map) (some_inj _ y at) ∙ is)
 other_map q a c y = λ at. absurd (cc)
 
-pub change_points : (decls : List MapDecl) (here : Here) (is_ref : Bool) (k after : Kinds) (h : Held) (old new : List CellView) (ps : List PointerView) (sites sites2 : List SiteView) (q map c : ℕ) (a : Act) (key operands : List ℕ)
-    → changes_keys a ≡ true → after ≡ changed here.node is_ref false k (calls.change_of decls q) → map ≡ q → length h.registers ≡ 11 → sites2 ≡ sites ++ change_site here map a key operands ∷ []
-    → OperationPoints decls k h after (put_register h 0 c) old new ps ps sites sites2
-change_points decls here is_ref k after h old new ps sites sites2 q map c a key operands changes becomes map_is whole sites_are = record {
+pub change_points : (decls : List MapDecl) (i : Insn) (here : Here) (is_ref : Bool) (k after : Kinds) (h : Held) (old mid new : List CellView) (ps : List PointerView) (sites sites2 : List SiteView) (q map c : ℕ) (a : Act) (key looked operands : List ℕ)
+    → changes_keys a ≡ true → after ≡ changed here.node is_ref false k (calls.change_of decls q) → map ≡ q → length h.registers ≡ 11 → map_used k i i.op ≡ Some q → Grows old mid → Changes mid new sites sites2 here map a key looked operands c
+    → OperationPoints decls i here.pending k h after (put_register h 0 c) old new ps ps sites sites2
+change_points decls i here is_ref k after h old mid new ps sites sites2 q map c a key looked operands changes becomes map_is whole used grows change = record {
   site = change_site here q a key operands;
-  sites_are = sites_are ∙ ap (λ (n : ℕ). sites ++ change_site here n a key operands ∷ []) map_is;
+  sites_are = change.sites_are ∙ ap (λ (n : ℕ). sites ++ change_site here n a key operands ∷ []) map_is;
+  reads = change_reads decls (map_used k i i.op) here old mid new sites sites2 q a key looked operands c grows (subst (λ (n : ℕ). Changes mid new sites sites2 here n a key looked operands c) map_is change) used changes;
   points = by a changes (record {
     pointers_are = refl;
     kept = keep_points k after h 0 c (subst (λ (x : Kinds). Sheds k x 0 (Num Unknown)) (sym becomes) (changed_sheds decls q here.node is_ref false k)) (omega arith) whole;
@@ -140,12 +156,13 @@ change_points decls here is_ref k after h old new ps sites sites2 q map c a key 
     by b e points = absurd (cc)
 
 -- ---- lookups
-pub lookup_points : (decls : List MapDecl) (here : Here) (k after : Kinds) (h : Held) (old mid new : List CellView) (ps qs : List PointerView) (sites sites2 : List SiteView) (q map c : ℕ) (key : List ℕ)
-    → after ≡ answering (Maybe q here.node) k → map ≡ q → length h.registers ≡ 11 → Grows old mid → LooksUp mid new ps qs sites sites2 here map key c
-    → OperationPoints decls k h after (put_register h 0 c) old new ps qs sites sites2
-lookup_points decls here k after h old mid new ps qs sites sites2 q map c key becomes map_is whole grows looks = record {
+pub lookup_points : (decls : List MapDecl) (i : Insn) (here : Here) (k after : Kinds) (h : Held) (old mid new : List CellView) (ps qs : List PointerView) (sites sites2 : List SiteView) (q map c : ℕ) (key : List ℕ)
+    → after ≡ answering (Maybe q here.node) k → map ≡ q → length h.registers ≡ 11 → map_used k i i.op ≡ Some q → Grows old mid → LooksUp mid new ps qs sites sites2 here map key c
+    → OperationPoints decls i here.pending k h after (put_register h 0 c) old new ps qs sites sites2
+lookup_points decls i here k after h old mid new ps qs sites sites2 q map c key becomes map_is whole used grows looks = record {
   site = lookup_site here map key;
   sites_are = looks.sites_are;
+  reads = lookup_reads decls (map_used k i i.op) here old mid new ps qs sites sites2 map key c grows looks (used ∙ ap Some (sym map_is));
   points = record {
     found = looks.found;
     is_found = λ none. record {

@@ -1,5 +1,5 @@
 -- What is added for an operation on a map: a site, the cells that read it, and for a lookup a pointer.
-use Rattle.std.specs.Prelude.{ℕ, ◌≡◌, ◌+◌, ◌<◌, ◌≤◌, List, [], ◌∷◌, ◌++◌, length}
+use Rattle.std.specs.Prelude.{ℕ, ◌≡◌, ◌+◌, ◌<◌, ◌≤◌, ◌⊎◌, List, [], ◌∷◌, ◌++◌, length}
 use Rattle.cell_core.specs.declared.operator.Operator.{Operator}
 use Rattle.cell_core.specs.declared.operator.Operator.TheVariants.{Found, Answer}
 use Rattle.cell_core.specs.declared.site.Act.{Act}
@@ -44,6 +44,8 @@ access_site here map a p operands = record { node = here.node; map = map; guard 
 pub record Accesses (old new : List CellView) (sites sites2 : List SiteView) (here : Here) (map : ℕ) (a : Act) (pointer : PointerView) (operands : List ℕ) (c width : ℕ) : Type 0 where
   pub grows : GrowsWith (ReadsNext sites) old new
   pub reads : IsReadOf new c (Answer (length sites)) (pointer.key ++ (operands ++ pointer.found ∷ []) ++ here.pending ∷ []) width
+  -- the only new cell
+  pub only : (d : ℕ) → length old ≤ d → d < length new → d ≡ c
   pub rises : Rises old new c (λ row. greatest row (pointer.key ++ (operands ++ pointer.found ∷ []) ++ here.pending ∷ []) + 1)
   pub sites_are : sites2 ≡ sites ++ access_site here map a pointer operands ∷ []
 
@@ -57,5 +59,7 @@ pub record Changes (old new : List CellView) (sites sites2 : List SiteView) (her
   pub found : ℕ
   pub finds : IsReadOf new found (Found (length sites)) (key ++ looked ++ here.pending ∷ []) 1
   pub reads : IsReadOf new c (Answer (length sites)) (key ++ looked ++ here.pending ∷ []) 64
+  -- the only new cells
+  pub only : (d : ℕ) → length old ≤ d → d < length new → (d ≡ found) ⊎ (d ≡ c)
   pub rises : Rises old new c (λ row. greatest row (key ++ looked ++ here.pending ∷ []) + 1)
   pub sites_are : sites2 ≡ sites ++ change_site here map a key operands ∷ []

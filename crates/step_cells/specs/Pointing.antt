@@ -1,5 +1,6 @@
--- The pointers that are held on the edges that leave a node.
+-- The pointers that are held on the edges that leave a node, and which cells read its site.
 use Rattle.std.specs.Prelude.{ℕ, ◌≡◌, ◌++◌, ◌⊎◌, List, All}
+use Rattle.bpf_isa.specs.declared.instruction.Insn.{Insn}
 use Rattle.xdp_maps.specs.declared.decl.MapDecl.{MapDecl}
 use Rattle.kind_core.specs.declared.kind.Kinds.{Kinds}
 use Rattle.held_cells.specs.declared.held.Held.{Held}
@@ -8,11 +9,12 @@ use Rattle.held_cells.specs.Pointing.{InstructionPoints, LeavePoints}
 use Rattle.edge_cells.specs.declared.joining.Here.{Here}
 use Rattle.step_cells.specs.Stepping.{MadeView}
 
--- An instruction that leads on: its edges are on where the guard is, and hold what it leaves.
-pub record AlongPoints (decls : List MapDecl) (k : Kinds) (here : Here) (old new : MadeView) : Type 0 where
+-- An instruction that leads on, before which these cells stood for what is pending of maps: its edges are on where the guard is, and hold what it
+-- leaves.
+pub record AlongPoints (decls : List MapDecl) (i : Insn) (pending : List ℕ) (k : Kinds) (here : Here) (old new : MadeView) : Type 0 where
   pub after : Kinds
   pub next : Held
-  pub points : InstructionPoints decls k here.held after next old.cells new.cells old.pointers new.pointers old.sites new.sites
+  pub points : InstructionPoints decls i pending k here.held after next old.cells new.cells old.pointers new.pointers old.sites new.sites
   pub to : ℕ
   pub more : List Way
   pub ways_are : new.ways ≡ old.ways ++ more
@@ -24,5 +26,5 @@ pub record JumpPoints (k : Kinds) (here : Here) (old new : MadeView) : Type 0 wh
   pub sites_are : new.sites ≡ old.sites
   pub leaves : LeavePoints new.cells old.pointers k here.held here.guard old.ways new.ways
 
-abbrev pub NodePoints : List MapDecl → Kinds → Here → MadeView → MadeView → Type 0
-NodePoints decls k here old new = AlongPoints decls k here old new ⊎ JumpPoints k here old new
+abbrev pub NodePoints : List MapDecl → Insn → List ℕ → Kinds → Here → MadeView → MadeView → Type 0
+NodePoints decls i pending k here old new = AlongPoints decls i pending k here old new ⊎ JumpPoints k here old new

@@ -87,7 +87,7 @@ fn operate_call(
     requires values { (q : ℕ) → kind.value_bytes decls.now q ≤ 64 }
     ensures operates { (is_ref : Bool) → OnOk result (Operates decls.now insn.now here.node here.guard is_ref false kinds.now held.old held.new (seen made.old.cells.items) (seen made.new.cells.items) (pointed made.old.pointers.items) (pointed made.new.pointers.items) (sited made.old.sites.items) (sited made.new.sites.items)) }
     ensures rows { (is_ref : Bool) → OnOk result (OperatesTo decls.now insn.now here.pending kinds.now held.old (transferred decls.now kinds.now insn.now here.node is_ref false) held.new (seen made.old.cells.items) (seen made.new.cells.items) (pointed made.old.pointers.items) (pointed made.new.pointers.items) (sited made.old.sites.items) (sited made.new.sites.items)) }
-    ensures points { (is_ref : Bool) → OnOk result (OperationPoints decls.now kinds.now held.old (transferred decls.now kinds.now insn.now here.node is_ref false) held.new (seen made.old.cells.items) (seen made.new.cells.items) (pointed made.old.pointers.items) (pointed made.new.pointers.items) (sited made.old.sites.items) (sited made.new.sites.items)) }
+    ensures points { (is_ref : Bool) → OnOk result (OperationPoints decls.now insn.now here.pending kinds.now held.old (transferred decls.now kinds.now insn.now here.node is_ref false) held.new (seen made.old.cells.items) (seen made.new.cells.items) (pointed made.old.pointers.items) (pointed made.new.pointers.items) (sited made.old.sites.items) (sited made.new.sites.items)) }
     ensures ways { OnOk result (made.new.ways ≡ made.old.ways) }
     ensures exits { OnOk result (made.new.exits ≡ made.old.exits) }
 {
@@ -145,7 +145,7 @@ fn operate_access(
     requires values { (q : ℕ) → kind.value_bytes decls.now q ≤ 64 }
     ensures operates { (is_ref : Bool) → OnOk result (Operates decls.now insn.now here.node here.guard is_ref false kinds.now held.old held.new (seen made.old.cells.items) (seen made.new.cells.items) (pointed made.old.pointers.items) (pointed made.new.pointers.items) (sited made.old.sites.items) (sited made.new.sites.items)) }
     ensures rows { (is_ref : Bool) → OnOk result (OperatesTo decls.now insn.now here.pending kinds.now held.old (transferred decls.now kinds.now insn.now here.node is_ref false) held.new (seen made.old.cells.items) (seen made.new.cells.items) (pointed made.old.pointers.items) (pointed made.new.pointers.items) (sited made.old.sites.items) (sited made.new.sites.items)) }
-    ensures points { (is_ref : Bool) → OnOk result (OperationPoints decls.now kinds.now held.old (transferred decls.now kinds.now insn.now here.node is_ref false) held.new (seen made.old.cells.items) (seen made.new.cells.items) (pointed made.old.pointers.items) (pointed made.new.pointers.items) (sited made.old.sites.items) (sited made.new.sites.items)) }
+    ensures points { (is_ref : Bool) → OnOk result (OperationPoints decls.now insn.now here.pending kinds.now held.old (transferred decls.now kinds.now insn.now here.node is_ref false) held.new (seen made.old.cells.items) (seen made.new.cells.items) (pointed made.old.pointers.items) (pointed made.new.pointers.items) (sited made.old.sites.items) (sited made.new.sites.items)) }
     ensures ways { OnOk result (made.new.ways ≡ made.old.ways) }
     ensures exits { OnOk result (made.new.exits ≡ made.old.exits) }
 {
@@ -194,7 +194,7 @@ pub(crate) fn operate_at(
     requires values { (q : ℕ) → kind.value_bytes decls.now q ≤ 64 }
     ensures operates { (is_ref : Bool) → OnOk result (Operates decls.now insn.now node guard is_ref false kinds.now held.old held.new (seen made.old.cells.items) (seen made.new.cells.items) (pointed made.old.pointers.items) (pointed made.new.pointers.items) (sited made.old.sites.items) (sited made.new.sites.items)) }
     ensures rows { (is_ref : Bool) → OnOk result (InstructionRows decls.now kinds.now held.old insn.now (transferred decls.now kinds.now insn.now node is_ref false) held.new pending.now (seen made.old.cells.items) (seen made.new.cells.items) (pointed made.old.pointers.items) (pointed made.new.pointers.items) (sited made.old.sites.items) (sited made.new.sites.items)) }
-    ensures points { (is_ref : Bool) → OnOk result (InstructionPoints decls.now kinds.now held.old (transferred decls.now kinds.now insn.now node is_ref false) held.new (seen made.old.cells.items) (seen made.new.cells.items) (pointed made.old.pointers.items) (pointed made.new.pointers.items) (sited made.old.sites.items) (sited made.new.sites.items)) }
+    ensures points { (is_ref : Bool) → OnOk result (InstructionPoints decls.now insn.now pending.now kinds.now held.old (transferred decls.now kinds.now insn.now node is_ref false) held.new (seen made.old.cells.items) (seen made.new.cells.items) (pointed made.old.pointers.items) (pointed made.new.pointers.items) (sited made.old.sites.items) (sited made.new.sites.items)) }
     ensures ways { OnOk result (made.new.ways ≡ made.old.ways) }
     ensures exits { OnOk result (made.new.exits ≡ made.old.exits) }
 {

@@ -45,7 +45,7 @@ fn step_away(
     ensures steps { IfOk result (λ done. NodeSteps decls.now node kinds.now here.now insn.now is_ref None jump (made_of made.old) (made_of made.new)) }
     ensures brought { IfOk result (λ done. map_list brought made.new.ways.items ≡ map_list brought made.old.ways.items ++ all_brought decls.now node kinds.now insn.now is_ref None jump) }
     ensures rows { (pending : List ℕ) → IfOk result (λ done. NodeRows decls.now node kinds.now here.now insn.now is_ref pending (made_of made.old) (made_of made.new)) }
-    ensures points { IfOk result (λ done. NodePoints decls.now kinds.now here.now (made_of made.old) (made_of made.new)) }
+    ensures points { (pending : List ℕ) → IfOk result (λ done. NodePoints decls.now insn.now pending kinds.now here.now (made_of made.old) (made_of made.new)) }
     ensures kept { IfOk result (λ done. (more : List Way) × (made.new.ways.items ≡ made.old.ways.items ++ more)) }
 {
     match jump {
@@ -90,7 +90,7 @@ fn step_along(
     ensures steps { IfOk result (λ done. NodeSteps decls.now node kinds.now here.now insn.now is_ref next None (made_of made.old) (made_of made.new)) }
     ensures brought { IfOk result (λ done. map_list brought made.new.ways.items ≡ map_list brought made.old.ways.items ++ all_brought decls.now node kinds.now insn.now is_ref next None) }
     ensures rows { IfOk result (λ done. NodeRows decls.now node kinds.now here.now insn.now is_ref pending.now (made_of made.old) (made_of made.new)) }
-    ensures points { IfOk result (λ done. NodePoints decls.now kinds.now here.now (made_of made.old) (made_of made.new)) }
+    ensures points { IfOk result (λ done. NodePoints decls.now insn.now pending.now kinds.now here.now (made_of made.old) (made_of made.new)) }
     ensures kept { IfOk result (λ done. (more : List Way) × (made.new.ways.items ≡ made.old.ways.items ++ more)) }
 {
     let Some(to) = next else {
@@ -140,7 +140,7 @@ pub fn step_node(
     ensures steps { IfOk result (λ done. NodeSteps decls.now node kinds.now here.now insn.now is_ref next jump (made_of made.old) (made_of made.new)) }
     ensures brought { IfOk result (λ done. map_list brought made.new.ways.items ≡ map_list brought made.old.ways.items ++ all_brought decls.now node kinds.now insn.now is_ref next jump) }
     ensures rows { IfOk result (λ done. NodeRows decls.now node kinds.now here.now insn.now is_ref pending.now (made_of made.old) (made_of made.new)) }
-    ensures points { IfOk result (λ done. NodePoints decls.now kinds.now here.now (made_of made.old) (made_of made.new)) }
+    ensures points { IfOk result (λ done. NodePoints decls.now insn.now pending.now kinds.now here.now (made_of made.old) (made_of made.new)) }
     ensures kept { IfOk result (λ done. (more : List Way) × (made.new.ways.items ≡ made.old.ways.items ++ more)) }
 {
     match insn.op {

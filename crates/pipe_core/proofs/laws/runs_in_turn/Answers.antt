@@ -5,7 +5,7 @@ use Rattle.pipe_core.proofs.laws.runs_in_turn.Goals as goal
 
 pub returns : goal.returns
 returns c =
-    let keeps : KeepsSequential = keeps_sequential c.sees_earlier.ensures c.in_turn.ensures c.maps_in_turn.ensures.maps c.maps_in_turn.ensures.reads c.rows_rise.ensures c.reads_keep.ensures c.right.ensures.clock in
+    let keeps : KeepsSequential = keeps_sequential c.sees_earlier.ensures c.in_turn.ensures c.maps_in_turn.ensures.maps c.maps_in_turn.ensures.reads c.rows_rise.ensures c.right.ensures.clock in
     record {
       clock = keeps;
       runs = runs_in_turn keeps c.right.ensures.always (computed c.rows_rise.ensures) c.loads_tables.ensures c.tables_stand.ensures;

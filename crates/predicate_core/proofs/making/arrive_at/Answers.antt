@@ -21,6 +21,7 @@ use Rattle.predicate_core.specs.Pointing.{ArrivePoints}
 use Rattle.predicate_core.specs.Progress.{making_of, entries_of, pending_of, AreWaiting}
 use Rattle.predicate_core.proofs.Progressing.{node_is, numbers_of, turn_some, turn_inside, leads_at, meeting_some, meeting_there, meeting_wider, ways_later, waiting_at}
 use Rattle.predicate_core.proofs.ArrivePoints.{arrive_later}
+use Rattle.predicate_core.proofs.Gathered.{pending_meets}
 use Rattle.predicate_core.proofs.making.arrive_at.Goals as goal
 
 pub leading-requires : goal.leading-requires
@@ -129,6 +130,17 @@ returns-clause-rows c fit =
     (subst (λ (ns : List ℕ). GathersTo (seen c.arrive.new.cells.items) (seen c.gather.new.cells.items) c.deref-4.result.now (map (λ x. x.items) c.deref-5.result.now) ns (length c.args.program.now.decls) c.in_ok-pending.pending.items) numbers6
     (subst (λ (n : ℕ). GathersTo (seen c.arrive.new.cells.items) (seen c.gather.new.cells.items) c.deref-4.result.now (map (λ x. x.items) c.deref-5.result.now) c.deref-6.result.now n c.in_ok-pending.pending.items) (ap length c.decls-decls.ensures.decls) c.in_ok-pending.ensures.rows))))
     (c.in_ok-pending.ensures.waiting.0 ∙ ap length c.decls-decls.ensures.decls) fit
+
+pub returns-clause-meets : goal.returns-clause-meets
+returns-clause-meets c =
+    let inside : c.args.node < length (graph_of c.args.program.now c.args.unfolded.now).nodes = omega (arith, c.requires.node, length-map c.args.unfolded.now.nodes.items node_view) in
+    let numbers6 : c.deref-6.result.now ≡ get_or (entries_of c.args.progress.now) c.args.node [] = numbers_of (graph_of c.args.program.now c.args.unfolded.now) c.args.node c.args.progress.now c.index-numbers.result.now c.deref-6.result.now c.requires.ready inside c.deref-6.ensures c.index-numbers.ensures in
+    pending_meets c.args.node (seen c.arrive.new.cells.items) (seen c.gather.new.cells.items) c.args.progress.now.made.ways.items (pending_of c.args.progress.now) (get_or (entries_of c.args.progress.now) c.args.node []) (length c.args.program.now.decls) c.in_ok-pending.pending.items
+    (subst (λ (ws : List Way). GathersTo (seen c.arrive.new.cells.items) (seen c.gather.new.cells.items) ws (pending_of c.args.progress.now) (get_or (entries_of c.args.progress.now) c.args.node []) (length c.args.program.now.decls) c.in_ok-pending.pending.items) c.deref-4.ensures.value
+    (subst (λ (rs : List (SmallVec ℕ 4 Global)). GathersTo (seen c.arrive.new.cells.items) (seen c.gather.new.cells.items) c.deref-4.result.now (map (λ x. x.items) rs) (get_or (entries_of c.args.progress.now) c.args.node []) (length c.args.program.now.decls) c.in_ok-pending.pending.items) c.deref-5.ensures.value
+    (subst (λ (ns : List ℕ). GathersTo (seen c.arrive.new.cells.items) (seen c.gather.new.cells.items) c.deref-4.result.now (map (λ x. x.items) c.deref-5.result.now) ns (length c.args.program.now.decls) c.in_ok-pending.pending.items) numbers6
+    (subst (λ (n : ℕ). GathersTo (seen c.arrive.new.cells.items) (seen c.gather.new.cells.items) c.deref-4.result.now (map (λ x. x.items) c.deref-5.result.now) c.deref-6.result.now n c.in_ok-pending.pending.items) (ap length c.decls-decls.ensures.decls) c.in_ok-pending.ensures.rows))))
+    (c.in_ok-pending.ensures.waiting.0 ∙ ap length c.decls-decls.ensures.decls) (c.requires.ready.kept.entered c.args.node inside)
 
 pub returns-clause-points : goal.returns-clause-points
 returns-clause-points c =

@@ -1,4 +1,4 @@
-use Rattle.std.proofs.Common.{Global, Vec, ◌≡◌, ℕ, ◌<◌, ◌≤◌, ◌==◌, Bool, List, [], ◌∷◌, ◌++◌, length, take, map, sym, ◌∙◌, ap, subst, arith, refl}
+use Rattle.std.proofs.Common.{Global, Vec, ◌≡◌, ℕ, ◌<◌, ◌≤◌, ◌==◌, Bool, List, [], ◌∷◌, ◌++◌, ◌+◌, ◌-◌, length, length-append, replicate, take, map, sym, ◌∙◌, ap, subst, arith, refl}
 use Rattle.std.specs.List.{list_any}
 use Rattle.std.proofs.lemmas.List.{length-map, get_or_default}
 use Rattle.xdp_maps.specs.declared.decl.MapDecl.{MapDecl}
@@ -28,6 +28,7 @@ use Rattle.predicate_core.proofs.Progressing.{node_is, made_there, site_more, si
 use Rattle.predicate_core.specs.Laws.{made_next}
 use Rattle.predicate_core.specs.Gathering.{PassesTo}
 use Rattle.predicate_core.specs.Stages.{kinds_of}
+use Rattle.predicate_core.specs.Reading.{ReadSoFar}
 use Rattle.predicate_core.proofs.making.make_node.Goals as goal
 
 pub step_node-requires-clause-insn : goal.step_node-requires-clause-insn
@@ -172,8 +173,39 @@ returns-clause-points c points =
     let steps : Steps (graph_of c.args.program.now c.args.unfolded.now) c.args.node c.in_ok-arrived.arrived.here.guard c.in_ok-arrived.arrived.here.held (seen c.arrive_at.new.progress.made.cells.items) (seen c.step_node.new.made.cells.items) (pointed c.arrive_at.new.progress.made.pointers.items) (pointed c.step_node.new.made.pointers.items)
     (sited c.arrive_at.new.progress.made.sites.items) (sited c.step_node.new.made.sites.items) c.arrive_at.new.progress.made.ways.items c.step_node.new.made.ways.items c.arrive_at.new.progress.made.exits.items c.step_node.new.made.exits.items =
     c.in_ok-step_node.ensures.steps (graph_of c.args.program.now c.args.unfolded.now) (sym c.decls.ensures.decls) (subst (IsNode (graph_of c.args.program.now c.args.unfolded.now) c.args.node c.args.insn.now) kinds c.requires.insn) c.requires.ends refers (made_there (graph_of c.args.program.now c.args.unfolded.now) c.args.node c.args.progress.now c.arrive_at.new.progress c.in_ok-arrived.arrived.here c.in_ok-arrived.arrived.pending.items c.requires.ready c.in_ok-arrived.ensures.comes) in
-    c.nodes_point.ensures (graph_of c.args.program.now c.args.unfolded.now) c.args.node c.requires.ready.held (making_of c.args.progress.now) (made_of c.arrive_at.new.progress.made) (made_of c.step_node.new.made) c.in_ok-arrived.arrived.here (seen c.pass.new.cells.items)
+    c.nodes_point.ensures (graph_of c.args.program.now c.args.unfolded.now) c.args.node c.requires.ready.held (making_of c.args.progress.now) (made_of c.arrive_at.new.progress.made) (made_of c.step_node.new.made) c.in_ok-arrived.arrived.here c.args.insn.now c.deref.result.now (seen c.pass.new.cells.items)
     c.requires.ready.so_far c.in_ok-arrived.ensures.comes.arrives (ap (λ (ss : Vec Site Global). sited ss.items) c.in_ok-arrived.ensures.comes.sites) (ap (λ (ws : Vec Way Global). ws.items) c.in_ok-arrived.ensures.comes.ways) steps c.in_ok-arrived.ensures.points
-    (subst (λ (ks : Kinds). NodePoints c.args.program.now.decls ks c.in_ok-arrived.arrived.here (made_of c.arrive_at.new.progress.made) (made_of c.step_node.new.made)) (sym kinds)
-    (subst (λ (ds : List MapDecl). NodePoints ds c.index-at.result.now.kinds c.in_ok-arrived.arrived.here (made_of c.arrive_at.new.progress.made) (made_of c.step_node.new.made)) c.decls.ensures.decls c.in_ok-step_node.ensures.points))
+    (subst (λ (ks : Kinds). NodePoints c.args.program.now.decls c.args.insn.now c.deref.result.now ks c.in_ok-arrived.arrived.here (made_of c.arrive_at.new.progress.made) (made_of c.step_node.new.made)) (sym kinds)
+    (subst (λ (ds : List MapDecl). NodePoints ds c.args.insn.now c.deref.result.now c.index-at.result.now.kinds c.in_ok-arrived.arrived.here (made_of c.arrive_at.new.progress.made) (made_of c.step_node.new.made)) c.decls.ensures.decls c.in_ok-step_node.ensures.points))
     c.in_ok-pass.ensures.grows points
+
+pub returns-clause-reads : goal.returns-clause-reads
+returns-clause-reads c so_far before =
+    let is : node_at (graph_of c.args.program.now c.args.unfolded.now).nodes c.args.node ≡ node_view c.index-at.result.now = node_is c.args.program.now c.args.unfolded.now c.args.node c.index-at.result.now c.requires.node c.index-at.ensures in
+    let kinds : (node_at (graph_of c.args.program.now c.args.unfolded.now).nodes c.args.node).kinds ≡ c.index-at.result.now.kinds = ap (λ (n : NodeView). n.kinds) is in
+    let refers : c.contains.result ≡ is_reference (graph_of c.args.program.now c.args.unfolded.now) c.args.node = c.contains.ensures.value ∙ ap (λ (rs : List ℕ). list_any (λ r. r == c.place-place.result) rs) c.refs.ensures.refs
+    ∙ ap (λ (n : ℕ). list_any (λ r. r == n) c.args.program.now.refs) (c.place-place.ensures ∙ sym (ap (λ (n : NodeView). n.place) is)) in
+    let steps : Steps (graph_of c.args.program.now c.args.unfolded.now) c.args.node c.in_ok-arrived.arrived.here.guard c.in_ok-arrived.arrived.here.held (seen c.arrive_at.new.progress.made.cells.items) (seen c.step_node.new.made.cells.items) (pointed c.arrive_at.new.progress.made.pointers.items) (pointed c.step_node.new.made.pointers.items)
+    (sited c.arrive_at.new.progress.made.sites.items) (sited c.step_node.new.made.sites.items) c.arrive_at.new.progress.made.ways.items c.step_node.new.made.ways.items c.arrive_at.new.progress.made.exits.items c.step_node.new.made.exits.items =
+    c.in_ok-step_node.ensures.steps (graph_of c.args.program.now c.args.unfolded.now) (sym c.decls.ensures.decls) (subst (IsNode (graph_of c.args.program.now c.args.unfolded.now) c.args.node c.args.insn.now) kinds c.requires.insn) c.requires.ends refers (made_there (graph_of c.args.program.now c.args.unfolded.now) c.args.node c.args.progress.now c.arrive_at.new.progress c.in_ok-arrived.arrived.here c.in_ok-arrived.arrived.pending.items c.requires.ready c.in_ok-arrived.ensures.comes) in
+    let sites_at : c.len-sites_before.result ≡ length (sited c.args.progress.now.made.sites.items) = sited_count c.args.progress.now.made.sites c.args.progress.now.made.sites c.len-sites_before.result (omega (arith, c.len-sites_before.ensures)) refl in
+    let first_at : c.len-first.result ≡ length (seen c.args.progress.now.made.cells.items) = omega (arith, c.len-first.ensures, seen_count c.args.progress.now.made.cells.items) in
+    let passes : PassesTo (seen c.step_node.new.made.cells.items) (seen c.pass.new.cells.items) (sited c.step_node.new.made.sites.items) (length (sited c.args.progress.now.made.sites.items)) (length (seen c.args.progress.now.made.cells.items)) c.in_ok-arrived.arrived.pending.items c.pass.new.pending.items =
+    subst (λ (n : ℕ). PassesTo (seen c.step_node.new.made.cells.items) (seen c.pass.new.cells.items) (sited c.step_node.new.made.sites.items) (length (sited c.args.progress.now.made.sites.items)) n c.in_ok-arrived.arrived.pending.items c.pass.new.pending.items) first_at
+    (subst (λ (n : ℕ). PassesTo (seen c.step_node.new.made.cells.items) (seen c.pass.new.cells.items) (sited c.step_node.new.made.sites.items) n c.len-first.result c.in_ok-arrived.arrived.pending.items c.pass.new.pending.items) sites_at
+    (subst (λ (ss : List Site). PassesTo (seen c.step_node.new.made.cells.items) (seen c.pass.new.cells.items) (sited ss) c.len-sites_before.result c.len-first.result c.in_ok-arrived.arrived.pending.items c.pass.new.pending.items) c.deref-2.ensures.value c.in_ok-pass.ensures.rows)) in
+    let kept = pending_more (graph_of c.args.program.now c.args.unfolded.now) c.args.node c.args.progress.now c.arrive_at.new.progress
+    (record { made = record { cells = c.pass.new.cells; pointers = c.step_node.new.made.pointers; sites = c.step_node.new.made.sites; ways = c.step_node.new.made.ways; exits = c.step_node.new.made.exits }; nodes = c.push.new.self; entries = c.enter.new.entries; pending = c.enter.new.pending; window = c.arrive_at.new.progress.window })
+    c.in_ok-step_node.ensures.kept.0 c.in_ok-arrived.arrived.here c.in_ok-arrived.arrived.pending.items c.pass.new.pending.items c.requires.ready c.in_ok-arrived.ensures.comes c.in_ok-step_node.ensures.kept.1
+    (subst (λ (row : List ℕ). Entered (take (length c.arrive_at.new.progress.pending.items) (targets c.step_node.new.made.ways.items)) (targets c.step_node.new.made.ways.items) (entries_of c.arrive_at.new.progress) (map (λ x. x.items) c.enter.new.entries.items) (pending_of c.arrive_at.new.progress) (map (λ x. x.items) c.enter.new.pending.items) row) c.deref-4.ensures.value
+    (subst (λ (ws : List Way). Entered (take (length c.arrive_at.new.progress.pending.items) (targets ws)) (targets ws) (entries_of c.arrive_at.new.progress) (map (λ x. x.items) c.enter.new.entries.items) (pending_of c.arrive_at.new.progress) (map (λ x. x.items) c.enter.new.pending.items) c.deref-4.result.now) c.deref-3.ensures.value c.in_ok-enter.ensures)) in
+    let ways : c.arrive_at.new.progress.made.ways.items ≡ c.args.progress.now.made.ways.items = ap (λ (ws : Vec Way Global). ws.items) c.in_ok-arrived.ensures.comes.ways in
+    let more : length c.in_ok-step_node.ensures.kept.0 ≡ length c.step_node.new.made.ways.items - length c.args.progress.now.made.ways.items =
+    omega (arith, ap length c.in_ok-step_node.ensures.kept.1, length-append c.arrive_at.new.progress.made.ways.items c.in_ok-step_node.ensures.kept.0, ap length ways) in
+    subst (ReadSoFar c.args.program.now.decls (c.args.node + 1) (record (made_of c.step_node.new.made) { cells = seen c.pass.new.cells.items })) (sym (kept ∙ ap (λ (n : ℕ). pending_of c.args.progress.now ++ replicate n c.pass.new.pending.items) more))
+    (c.nodes_read.ensures (graph_of c.args.program.now c.args.unfolded.now) c.args.node c.requires.ready.held (making_of c.args.progress.now) (made_of c.arrive_at.new.progress.made) (made_of c.step_node.new.made) c.in_ok-arrived.arrived.here c.args.insn.now c.in_ok-arrived.arrived.pending.items c.pass.new.pending.items
+    (seen c.pass.new.cells.items) (pending_of c.args.progress.now) c.requires.ready.so_far c.in_ok-arrived.ensures.comes.arrives (ap (λ (ss : Vec Site Global). sited ss.items) c.in_ok-arrived.ensures.comes.sites) ways steps c.in_ok-arrived.ensures.points
+    (subst (λ (w : List ℕ). NodePoints c.args.program.now.decls c.args.insn.now w (node_at (graph_of c.args.program.now c.args.unfolded.now).nodes c.args.node).kinds c.in_ok-arrived.arrived.here (made_of c.arrive_at.new.progress.made) (made_of c.step_node.new.made)) c.deref.ensures.value
+    (subst (λ (ks : Kinds). NodePoints c.args.program.now.decls c.args.insn.now c.deref.result.now ks c.in_ok-arrived.arrived.here (made_of c.arrive_at.new.progress.made) (made_of c.step_node.new.made)) (sym kinds)
+    (subst (λ (ds : List MapDecl). NodePoints ds c.args.insn.now c.deref.result.now c.index-at.result.now.kinds c.in_ok-arrived.arrived.here (made_of c.arrive_at.new.progress.made) (made_of c.step_node.new.made)) c.decls.ensures.decls c.in_ok-step_node.ensures.points)))
+    c.in_ok-pass.ensures.grows c.in_ok-arrived.ensures.comes.waiting.0 (c.requires.ready.kept.beside ∙ length-map c.args.progress.now.made.ways.items (λ (e : Way). e.to)) c.in_ok-arrived.ensures.meets passes so_far before)

@@ -43,3 +43,10 @@ returns-clause-points c =
     (subst (λ (xs : List CellView). Opens xs (seen c.open.new.cells.items) c.in_ok-start.start) (ap seen c.new-cells.ensures.items ∙ seen_none) c.in_ok-start.ensures) c.in_ok-none.ensures.grows c.in_ok-none.ensures.no_row in
     c.opens_point.ensures c.args.program.now.decls (record { cells = seen c.unwritten.new.cells.items; pointers = pointed c.new.result.items; sites = sited c.new-2.result.items; ways = c.push.new.self.items; exits = c.new-3.result.items }) c.in_ok-start.start
     (c.in_ok-push.ensures.items ∙ ap (λ (ws : List Way). ws ++ c.in_ok-start.start ∷ []) c.new-ways.ensures.items) (ap sited c.new-2.ensures.items ∙ sited_none) opens
+
+pub returns-clause-reads : goal.returns-clause-reads
+returns-clause-reads c =
+    let opens : Opens [] (seen c.unwritten.new.cells.items) c.in_ok-start.start = opens_later [] (seen c.open.new.cells.items) (seen c.unwritten.new.cells.items) c.in_ok-start.start
+    (subst (λ (xs : List CellView). Opens xs (seen c.open.new.cells.items) c.in_ok-start.start) (ap seen c.new-cells.ensures.items ∙ seen_none) c.in_ok-start.ensures) c.in_ok-none.ensures.grows c.in_ok-none.ensures.no_row in
+    c.opens_read.ensures c.args.program.now.decls (record { cells = seen c.unwritten.new.cells.items; pointers = pointed c.new.result.items; sites = sited c.new-2.result.items; ways = c.push.new.self.items; exits = c.new-3.result.items }) c.in_ok-start.start _
+    (c.in_ok-push.ensures.items ∙ ap (λ (ws : List Way). ws ++ c.in_ok-start.start ∷ []) c.new-ways.ensures.items) (ap sited c.new-2.ensures.items ∙ sited_none) opens.grows

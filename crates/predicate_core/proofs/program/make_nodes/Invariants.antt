@@ -1,7 +1,8 @@
 use Rattle.program_graph.specs.Graphs.{graph_of}
 use Rattle.step_cells.specs.Stepping.{made_of}
 use Rattle.predicate_core.specs.Pointing.{PointSoFar}
-use Rattle.predicate_core.specs.Progress.{IsReady}
+use Rattle.predicate_core.specs.Progress.{pending_of, IsReady}
+use Rattle.predicate_core.specs.Reading.{ReadSoFar}
 use Rattle.predicate_core.specs.Stages.{FitSoFar}
 use Rattle.predicate_core.proofs.program.make_nodes.Given as goal
 
@@ -10,4 +11,5 @@ invariant-loop-k l = record {
   ready : IsReady (graph_of l.program l.unfolded) l.k l.progress;
   rows : FitSoFar l.program l.unfolded l.k l.progress;
   points : PointSoFar l.program.decls l.k (made_of l.progress.made);
+  reads : ReadSoFar l.program.decls l.k (made_of l.progress.made) (pending_of l.progress);
 }

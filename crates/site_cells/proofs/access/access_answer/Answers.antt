@@ -5,7 +5,7 @@ use Rattle.operator_cells.specs.Making.{seen, Adds, GrowsWith}
 use Rattle.cell_core.specs.Rows.{greatest}
 use Rattle.operator_cells.specs.Rising.{Rises}
 use Rattle.site_cells.specs.Sited.{sited}
-use Rattle.site_cells.proofs.Adding.{read_added, next_site, inputs_there}
+use Rattle.site_cells.proofs.Adding.{read_added, added_alone, next_site, inputs_there}
 use Rattle.site_cells.proofs.access.access_answer.Goals as goal
 
 pub answer-requires-clause-earlier : goal.answer-requires-clause-earlier
@@ -24,6 +24,7 @@ returns c =
       grows = subst (λ (j : ℕ). GrowsWith (λ k s. s ≡ j) (seen c.args.cells.now.items) (seen c.answer.new.cells.items)) site c.in_ok-c.ensures.grows;
       reads = read_added _ _ _ _ _ _ _
           (subst (λ (j : ℕ). Adds (seen c.args.cells.now.items) (seen c.answer.new.cells.items) c.in_ok-c.c (record { op = Answer j; ins = c.deref-3.result.now; width = c.args.width; from = 0 })) site c.in_ok-c.ensures.adds) ins;
+      only = added_alone _ _ _ _ c.in_ok-c.ensures.adds;
       rises = subst (λ (xs : List ℕ). Rises (seen c.args.cells.now.items) (seen c.answer.new.cells.items) c.in_ok-c.c (λ row. greatest row xs + 1)) ins c.in_ok-c.ensures.rises;
       sites_are = c.in_ok-push_access.ensures;
     }

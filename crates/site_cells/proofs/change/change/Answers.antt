@@ -6,7 +6,7 @@ use Rattle.cell_core.specs.Rows.{greatest}
 use Rattle.operator_cells.specs.Rising.{Rises}
 use Rattle.operator_cells.proofs.RisingLaws.{stand_none, stand_more, rises_then}
 use Rattle.site_cells.specs.Sited.{sited}
-use Rattle.site_cells.proofs.Adding.{read_added, read_later, site_same, site_pushed, next_site, inputs_there}
+use Rattle.site_cells.proofs.Adding.{read_added, added_both, read_later, site_same, site_pushed, next_site, inputs_there}
 use Rattle.site_cells.proofs.change.change.Goals as goal
 
 pub answer-requires-clause-earlier : goal.answer-requires-clause-earlier
@@ -31,5 +31,6 @@ returns c =
       reads = read_added _ _ _ _ _ _ _
           (subst (λ (j : ℕ). Adds (seen c.found.new.cells.items) (seen c.answer.new.cells.items) c.in_ok-c.c (record { op = Answer j; ins = c.deref-2.result.now; width = 64; from = 0 })) site c.in_ok-c.ensures.adds)
           (c.deref-2.ensures.value ∙ c.in_ok-ins.ensures);
+      only = added_both _ _ _ _ _ _ _ c.in_ok-_there.ensures.adds c.in_ok-c.ensures.adds;
       sites_are = site_pushed _ _ _ _ c.in_ok-push.ensures.items (site_same _ _ _ _ _ _ _ _ c.in_ok-from_slice.ensures.ok c.in_ok-from_slice-2.ensures.ok);
     }

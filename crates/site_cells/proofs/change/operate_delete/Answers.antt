@@ -4,7 +4,7 @@ use Rattle.operator_cells.specs.Making.{seen}
 use Rattle.site_cells.proofs.Allowed.{delete_allowed}
 use Rattle.site_cells.proofs.Changes.{delete_made}
 use Rattle.site_cells.proofs.ChangeRows.{delete_rows}
-use Rattle.site_cells.proofs.Points.{change_points}
+use Rattle.site_cells.proofs.Points.{call_used, change_points}
 use Rattle.site_cells.proofs.change.operate_delete.Goals as goal
 
 pub change-requires-clause-key : goal.change-requires-clause-key
@@ -26,4 +26,5 @@ returns-clause-rows c = λ ps is_ref allowed inside.
 pub returns-clause-points : goal.returns-clause-points
 returns-clause-points c = λ ps is_ref allowed.
     let f = delete_allowed c.args.decls.now c.args.kinds.now c.args.insn.now c.requires.op c.requires.helper allowed in
-    change_points c.args.decls.now c.args.here is_ref c.args.kinds.now _ c.args.held.now _ _ ps _ _ f.0 _ _ _ _ _ refl (f.4 c.args.here.node is_ref false) (c.map_in-map.ensures f.0 f.1) c.are_whole.ensures.register_cells c.in_ok-c.ensures.sites_are
+    change_points c.args.decls.now c.args.insn.now c.args.here is_ref c.args.kinds.now _ c.args.held.now _ _ _ ps _ _ f.0 _ _ _ _ _ _ refl (f.4 c.args.here.node is_ref false) (c.map_in-map.ensures f.0 f.1) c.are_whole.ensures.register_cells
+    (call_used c.args.kinds.now c.args.insn.now f.0 c.requires.op f.1) c.in_ok-key.ensures.made.grows c.in_ok-c.ensures

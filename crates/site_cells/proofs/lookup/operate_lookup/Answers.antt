@@ -4,7 +4,7 @@ use Rattle.operator_cells.specs.Making.{seen}
 use Rattle.held_cells.specs.Held.{pointed}
 use Rattle.site_cells.proofs.Allowed.{lookup_allowed}
 use Rattle.site_cells.proofs.Lookups.{lookup_made}
-use Rattle.site_cells.proofs.Points.{lookup_points}
+use Rattle.site_cells.proofs.Points.{call_used, lookup_points}
 use Rattle.site_cells.proofs.LookupRows.{lookup_rows}
 use Rattle.site_cells.proofs.lookup.operate_lookup.Goals as goal
 
@@ -27,4 +27,4 @@ returns-clause-rows c = λ is_ref allowed.
 pub returns-clause-points : goal.returns-clause-points
 returns-clause-points c = λ is_ref allowed.
     let f = lookup_allowed c.args.decls.now c.args.kinds.now c.args.insn.now c.requires.op c.requires.helper allowed in
-    lookup_points c.args.decls.now c.args.here c.args.kinds.now _ c.args.held.now _ _ _ _ _ _ _ f.0 _ _ _ (f.4 c.args.here.node is_ref false) (c.map_in-map.ensures f.0 f.1) c.are_whole.ensures.register_cells c.in_ok-key.ensures.made.grows c.in_ok-c.ensures
+    lookup_points c.args.decls.now c.args.insn.now c.args.here c.args.kinds.now _ c.args.held.now _ _ _ _ _ _ _ f.0 _ _ _ (f.4 c.args.here.node is_ref false) (c.map_in-map.ensures f.0 f.1) c.are_whole.ensures.register_cells (call_used c.args.kinds.now c.args.insn.now f.0 c.requires.op f.1) c.in_ok-key.ensures.made.grows c.in_ok-c.ensures

@@ -43,10 +43,10 @@ returns-in_default-clause-rows c = λ is_ref.
     operated_rows c.operate_access.result _ _ _ _ _ _ c.args.pending.now c.map_in.result c.pending_of.result _ _ _ _ _ _ (c.operate_access.ensures.rows is_ref) (λ q u. c.map_in.ensures q (sym c.kind_used.ensures ∙ u)) c.pending_of.ensures.own
 
 pub returns-then-is_plain-clause-points : goal.returns-then-is_plain-clause-points
-returns-then-is_plain-clause-points c is_ref = plain_points c.carry_plain.result _ _ _ _ _ _ _ _ _ (c.carry_plain.ensures.points c.args.decls.now c.args.node is_ref c.requires.allowed)
+returns-then-is_plain-clause-points c is_ref = plain_points c.carry_plain.result _ _ c.args.pending.now _ _ _ _ _ _ _ _ (c.carry_plain.ensures.points c.args.decls.now c.args.node is_ref c.requires.allowed)
 
 pub returns-in-Call-clause-points : goal.returns-in-Call-clause-points
-returns-in-Call-clause-points c is_ref = operated_points c.operate_call.result _ _ _ _ _ _ _ _ _ _ _ (c.operate_call.ensures.points is_ref)
+returns-in-Call-clause-points c is_ref = operated_points c.operate_call.result _ _ c.args.pending.now c.map_in.result c.pending_of.result _ _ _ _ _ _ _ _ _ _ (c.operate_call.ensures.points is_ref) (λ q u. c.map_in.ensures q (sym c.kind_used.ensures ∙ u)) c.pending_of.ensures.own
 
 pub returns-in_default-clause-points : goal.returns-in_default-clause-points
-returns-in_default-clause-points c is_ref = operated_points c.operate_access.result _ _ _ _ _ _ _ _ _ _ _ (c.operate_access.ensures.points is_ref)
+returns-in_default-clause-points c is_ref = operated_points c.operate_access.result _ _ c.args.pending.now c.map_in.result c.pending_of.result _ _ _ _ _ _ _ _ _ _ (c.operate_access.ensures.points is_ref) (λ q u. c.map_in.ensures q (sym c.kind_used.ensures ∙ u)) c.pending_of.ensures.own

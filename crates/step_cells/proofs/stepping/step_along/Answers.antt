@@ -15,4 +15,4 @@ returns-clause-rows c = along_rows c.step_on.result _ _ _ c.args.here.now _ _ _ 
     (c.step_on.ensures.rows (seen c.operate_at.new.made.cells.items)) c.step_on.ensures.brought
 
 pub returns-clause-points : goal.returns-clause-points
-returns-clause-points c = along_points c.step_on.result _ _ _ c.args.here.now _ _ _ _ _ (ap (λ v. v.items) c.in_ok-operate_at.ensures.ways) (c.in_ok-operate_at.ensures.points c.args.is_ref) c.step_on.ensures.points
+returns-clause-points c = along_points c.step_on.result _ _ c.args.pending.now _ _ c.args.here.now _ _ _ _ _ (ap (λ v. v.items) c.in_ok-operate_at.ensures.ways) (c.in_ok-operate_at.ensures.points c.args.is_ref) c.step_on.ensures.points

@@ -17,4 +17,4 @@ returns-in-Some-clause-rows c = λ pending.
     away_rows c.step_always.result _ _ _ c.args.here.now _ _ pending _ _ _ _ _ _ _ _ _ _ (ap pointed c.deref.ensures.value) c.requires.op c.step_always.ensures.grows c.step_always.ensures.rows c.step_always.ensures.brought
 
 pub returns-in-Some-clause-points : goal.returns-in-Some-clause-points
-returns-in-Some-clause-points c = jump_points c.step_always.result _ _ c.args.here.now _ _ _ _ _ _ _ _ (ap pointed c.deref.ensures.value) c.step_always.ensures.points
+returns-in-Some-clause-points c = λ pending. jump_points c.step_always.result _ _ pending _ c.args.here.now _ _ _ _ _ _ _ _ (ap pointed c.deref.ensures.value) c.step_always.ensures.points

@@ -22,7 +22,10 @@ pub returns-in-Exit-clause-rows : goal.returns-in-Exit-clause-rows
 returns-in-Exit-clause-rows c = exit_rows c.step_exit.result _ _ _ c.args.here.now _ _ _ _ _ _ _ _ _ c.in-Exit.is
 
 pub returns-in-Jump-clause-points : goal.returns-in-Jump-clause-points
-returns-in-Jump-clause-points c = jump_points c.step_jump.result _ _ c.args.here.now _ _ _ _ _ _ _ _ (ap pointed c.deref.ensures.value) c.step_jump.ensures.points
+returns-in-Jump-clause-points c = jump_points c.step_jump.result _ _ c.args.pending.now _ c.args.here.now _ _ _ _ _ _ _ _ (ap pointed c.deref.ensures.value) c.step_jump.ensures.points
+
+pub returns-in-Ja-clause-points : goal.returns-in-Ja-clause-points
+returns-in-Ja-clause-points c = c.step_away.ensures.points c.args.pending.now
 
 pub returns-in-Exit-clause-points : goal.returns-in-Exit-clause-points
-returns-in-Exit-clause-points c = if_ok c.step_exit.result _ _ (λ done x. exit_points _ _ c.args.here.now _ _ _ _ _ _) c.step_exit.ensures
+returns-in-Exit-clause-points c = if_ok c.step_exit.result _ _ (λ done x. exit_points _ _ c.args.pending.now _ c.args.here.now _ _ _ _ _ _) c.step_exit.ensures

@@ -1,0 +1,214 @@
+-- What several operations make of a word, one behind another.
+use Rattle.std.specs.Prelude.{min, slice_index}
+use Rattle.std.proofs.Common.{◌≡◌, ◌⊎◌, inl, inr, ◌∙◌, ℕ, zero, suc, ◌+◌, ◌-◌, ◌*◌, ◌^◌, ◌<◌, ◌≤◌, All, List, [], ◌∷◌, ◌++◌, length, map, get_or, refl, sym, ap, subst, arith}
+use Rattle.std.proofs.lemmas.Bool.{cases_lt}
+use Rattle.std.proofs.lemmas.List.{get_or_push, get_or_append_left, get_or_default, get_or_past, length-map}
+use Rattle.net_core.specs.Value.{Env}
+use Rattle.block_core.specs.declared.name.Name.{Name}
+use Rattle.block_core.specs.Blocks.{BlockWireTree}
+use Rattle.xdp_maps.specs.declared.decl.MapDecl.{MapDecl}
+use Rattle.xdp_maps.specs.Contents.{IsBytes}
+use Rattle.cell_core.specs.Formed.{HasWords, IsInside}
+use Rattle.cell_core.specs.Sites.{ProgramView, SiteView, site_at, no_site, operation_with}
+use Rattle.hazard_core.specs.Held.{Held, held_value, asked}
+use Rattle.hazard_core.specs.Overlay.{value_as}
+use Rattle.hazard_core.specs.Tables.{TableState, decl_of}
+use Rattle.hazard_core.specs.Commits.{word_at}
+use Rattle.array_net.specs.Words.{word_width}
+use Rattle.cell_nets.specs.declared.operand.Operand.{Operand}
+use Rattle.cell_nets.specs.Operands.{number_in, IsAvailable}
+use Rattle.cell_nets.specs.Wires.{Gives}
+use Rattle.cell_nets.proofs.ApartLemmas.{stay_none, stay_next}
+use Rattle.site_operands.specs.Sites.{operands_of, ShowsAsked}
+use Rattle.value_net.proofs.EntryLemmas.{value_bytes}
+use Rattle.value_net.proofs.ByteLemmas.{word_is, small_in}
+use Rattle.byteorder.proofs.Bytes.{pow256}
+use Rattle.byteorder.specs.Numbers.{little_from-lt}
+use Rattle.byteorder.specs.Endian.{little_from}
+use Rattle.commit_net.specs.declared.choosing.CommitNets.{CommitNets}
+use Rattle.commit_net.specs.Choosing.{read_of, all_read, chosen_of, IsOnly, ShowsCommit}
+use Rattle.commit_net.specs.Words.{IsFitting}
+use Rattle.commit_net.proofs.ChainLemmas.{Stands, starts, next}
+use Rattle.commit_net.proofs.ChooseLemmas.{read_each, each_chosen}
+
+module _ {P : Type 0} {p : P} where
+  -- an operand whose value is known where a condition holds
+  pub gives_if :
+      {old new : List (BlockWireTree (Name P))} {args : List (Operand (Name P))} {needs more : Env (Name P) → Type 0} {f g : Env (Name P) → ℕ} {w : ℕ} {o : Operand (Name P)} (C : Type 0) → Gives p old new args needs f w o → (C → Gives p old new args more g w o)
+      → Gives p old new args (λ v. C × more v) g w o
+  gives_if C x y = record {
+    before = x.before;
+    stays = x.stays;
+    operand = x.operand;
+    bits = x.bits;
+    given = λ outside a t. record { wires = (x.given outside a t).wires; there = (x.given outside a t).there; value = λ v f s n. ((y n.0).given outside a t).value v f s n.1 };
+    apart = x.apart;
+  }
+
+  -- and one more, which is known only there
+  pub next_if :
+      {old mid new : List (BlockWireTree (Name P))} {args outs bs : List (Operand (Name P))} {needs knows more : Env (Name P) → Type 0} {g : Env (Name P) → ℕ} {u : ℕ} {o : Operand (Name P)} → Stands p old mid args needs outs knows → Gives p mid new bs more g u o
+      → ((ins : List (Operand (Name P))) → All (IsAvailable ins) outs → All (IsAvailable ins) bs) → Stands p old new args needs (o ∷ outs) (λ v. knows v × (more v → number_in v o ≡ g v))
+  next_if {old} {mid} {new} {args} {outs} {bs} {needs} {knows} {more} {g} {u} {o} x y sub = record {
+    before = z.before;
+    stays = z.stays;
+    wires = z.wires;
+    there = z.there;
+    known = λ outside v a h f s n.
+        let k = x.known outside v a h f (y.before v s) n in
+        (k, λ m. (y.given outside (x.wires outside a h) (sub _ (x.there outside a h))).value v f s m);
+    apart = z.apart;
+  }
+    where
+      itself : Gives p mid new bs (λ v. Unit {0}) (λ v. number_in v o) u o
+      itself = record {
+        before = y.before;
+        stays = y.stays;
+        operand = y.operand;
+        bits = y.bits;
+        given = λ outside a t. record { wires = (y.given outside a t).wires; there = (y.given outside a t).there; value = λ v f s n. refl };
+        apart = y.apart;
+      }
+
+      z : Stands p old new args needs (o ∷ outs) (λ v. knows v × (number_in v o ≡ number_in v o))
+      z = next x itself sub (λ v f k. tt)
+
+  pub stands_as :
+      {old new : List (BlockWireTree (Name P))} {args outs : List (Operand (Name P))} {needs knows : Env (Name P) → Type 0} (lasts : List (Operand (Name P))) (more : Env (Name P) → Type 0) → Stands p old new args needs outs knows
+      → ((ins : List (Operand (Name P))) → All (IsAvailable ins) outs → All (IsAvailable ins) lasts) → ((v : Env (Name P)) → knows v → more v) → Stands p old new args needs lasts more
+  stands_as {old} {new} {args} {outs} lasts more x sub enough = record {
+    before = x.before;
+    stays = x.stays;
+    wires = x.wires;
+    there = λ outside a h. sub _ (x.there outside a h);
+    known = λ outside v a h f s n. enough v (x.known outside v a h f s n);
+    apart = stay_next p old new new args outs outs lasts (λ ins h k. k) x.apart (stay_none p new outs lasts sub);
+  }
+
+-- ---- lists of operands
+module _ {N : Type 0} (Q : Operand N → Type 0) where
+  pub last_first : (xs ys : List (Operand N)) (x : Operand N) → All Q (x ∷ xs ++ ys) → All Q ((xs ++ x ∷ []) ++ ys)
+  last_first [] ys x h k d lt = h k d lt
+  last_first (y ∷ xs) ys x h zero d lt = h 1 d (omega arith)
+  last_first (y ∷ xs) ys x h (suc k) d lt = last_first xs ys x skip k d (omega (arith, lt))
+    where
+      skip : All Q (x ∷ xs ++ ys)
+      skip zero e l = h 0 e (omega arith)
+      skip (suc n) e l = h (suc (suc n)) e (omega (arith, l))
+
+  pub push_all : (xs : List (Operand N)) (x : Operand N) → All Q xs → Q x → All Q (xs ++ x ∷ [])
+  push_all [] x h q zero d lt = q
+  push_all [] x h q (suc k) d lt = absurd (omega (arith, lt))
+  push_all (y ∷ xs) x h q zero d lt = h 0 d (omega arith)
+  push_all (y ∷ xs) x h q (suc k) d lt = push_all xs x (λ n e l. h (suc n) e (omega (arith, l))) q k d (omega (arith, lt))
+
+  after : (xs ys : List (Operand N)) → All Q (xs ++ ys) → All Q ys
+  after [] ys h = h
+  after (x ∷ xs) ys h = after xs ys (λ n e l. h (suc n) e (omega (arith, l)))
+
+  before : (xs ys : List (Operand N)) → All Q (xs ++ ys) → All Q xs
+  before [] ys h k d lt = absurd (omega (arith, lt))
+  before (x ∷ xs) ys h zero d lt = h 0 d (omega arith)
+  before (x ∷ xs) ys h (suc k) d lt = before xs ys (λ n e l. h (suc n) e (omega (arith, l))) k d (omega (arith, lt))
+
+  tail : (x : Operand N) (xs : List (Operand N)) → All Q (x ∷ xs) → All Q xs
+  tail x xs h n d lt = h (suc n) d (omega (arith, lt))
+
+  -- the words of one operation, behind the word that it finds
+  pub words_there : (outs : List (Operand N)) (a : Operand N) (ns : List (CommitNets N)) (i : ℕ) (n : CommitNets N) → i < length ns → n ≡ get_or ns i n → All Q (outs ++ a ∷ all_read ns) → All Q (a ∷ n.nets.now.operands.items)
+  words_there outs a ns i n l is h = front (after outs (a ∷ all_read ns) h)
+    where
+      front : All Q (a ∷ all_read ns) → All Q (a ∷ n.nets.now.operands.items)
+      front k zero d lt = k 0 d (omega arith)
+      front k (suc m) d lt =
+          let each : All Q (read_of n) = subst (λ x. All Q (read_of x)) (sym is) (read_each Q ns (tail a (all_read ns) k) i n l) in
+          after n.nets.now.key.items n.nets.now.operands.items (λ c e q. each (suc (suc (suc c))) e (omega (arith, q))) m d (omega (arith, lt))
+
+-- ---- the words, so far
+module _ {P : Type 0} (part : P) (d : MapDecl) (ns : List (CommitNets (Name P))) (w : ℕ) (a : Operand (Name P)) (p : ProgramView) (t : TableState) (taken : List ℕ) (h : Held) (j k : ℕ) (dn : CommitNets (Name P)) (value : List ℕ) where
+  abbrev pub Needs : Env (Name P) → Type 0
+  Needs v = IsOnly v ns k × ShowsCommit v p t taken h j (get_or ns k dn) × (number_in v a ≡ word_at value w)
+
+  abbrev pub new_word : ℕ
+  new_word = word_at (value_as (asked t.decls h (site_at p.sites j)) value) w
+
+  abbrev pub Far : List (BlockWireTree (Name P)) → List (BlockWireTree (Name P)) → List (Operand (Name P)) → ℕ → Type 0
+  Far old new outs i = Stands part old new (a ∷ all_read ns) Needs (outs ++ a ∷ all_read ns) (λ v. Needs v × (k < i → (e : Operand (Name P)) → number_in v (get_or outs k e) ≡ new_word))
+
+  pub far_none : (ws : List (BlockWireTree (Name P))) → Far ws ws [] 0
+  far_none ws = stands_as (a ∷ all_read ns) (λ v. Needs v × (k < 0 → (e : Operand (Name P)) → number_in v (get_or [] k e) ≡ new_word)) (starts part ws (a ∷ all_read ns) Needs) (λ ins s. s) (λ v n. (n, λ lt. absurd (omega (arith, lt))))
+
+  module _ (old mid new : List (BlockWireTree (Name P))) (outs : List (Operand (Name P))) (i : ℕ) (n : CommitNets (Name P)) (word : Operand (Name P)) (x : Far old mid outs i) (count : length outs ≡ i) (l : i < length ns) (is : n ≡ get_or ns i n) where
+    pub far_more :
+        {needs : Env (Name P) → Type 0} {f : Env (Name P) → ℕ} → Gives part mid new (a ∷ n.nets.now.operands.items) needs f 64 word
+        → (k ≡ i → Gives part mid new (a ∷ n.nets.now.operands.items) (λ v. (number_in v a ≡ word_at value w) × ShowsAsked v p h j (operands_of n.nets.now)) (λ v. new_word) 64 word) → Far old new (outs ++ word ∷ []) (i + 1)
+    far_more any real =
+        stands_as ((outs ++ word ∷ []) ++ a ∷ all_read ns) (λ v. Needs v × (k < i + 1 → (e : Operand (Name P)) → number_in v (get_or (outs ++ word ∷ []) k e) ≡ new_word)) (next_if x (gives_if (k ≡ i) any real) (λ ins s. words_there (IsAvailable ins) outs a ns i n l is s))
+        (λ ins s. last_first (IsAvailable ins) outs (a ∷ all_read ns) word s) (λ v s. (s.0.0, λ lt e. by_order v s lt e (cases_lt k i)))
+      where
+        same : k ≡ i → get_or ns k dn ≡ n
+        same e = ap (λ m. get_or ns m dn) e ∙ get_or_default ns i dn n l ∙ sym is
+
+        by_order :
+            (v : Env (Name P)) → (Needs v × (k < i → (e : Operand (Name P)) → number_in v (get_or outs k e) ≡ new_word)) × ((k ≡ i) × ((number_in v a ≡ word_at value w) × ShowsAsked v p h j (operands_of n.nets.now)) → number_in v word ≡ new_word) → k < i + 1 → (e : Operand (Name P))
+            → (k < i) ⊎ (i ≤ k) → number_in v (get_or (outs ++ word ∷ []) k e) ≡ new_word
+        by_order v s lt e (inl less) = ap (number_in v) (get_or_append_left outs (word ∷ []) e k (omega (arith, less, count))) ∙ s.0.1 less e
+        by_order v s lt e (inr over) =
+            let q : k ≡ i = omega (arith, over, lt) in
+            ap (number_in v) (get_or_push outs word e k (omega (arith, count, q))) ∙ s.1 (q, (s.0.0.2, subst (λ (m : CommitNets (Name P)). ShowsAsked v p h j (operands_of m.nets.now)) (same q) s.0.0.1.asked))
+
+-- ---- a program that has an operation like one
+abbrev pub like_site : {N : Type 0} → CommitNets N → SiteView
+like_site n = record no_site { act = n.act }
+
+abbrev pub like_program : {N : Type 0} → CommitNets N → ProgramView
+like_program n = record { cells = []; nodes = []; sites = like_site n ∷ []; verdict = 0; target = 0; frame = [] }
+
+abbrev pub nothing_held : Held
+nothing_held = record { values = []; pointers = [] }
+
+-- ---- a word of so many bytes
+beyond : (n i m : ℕ) (xs : List ℕ) → m ≤ n → length xs ≤ i + m → little_from i n xs ≡ little_from i m xs
+beyond zero i zero xs l h = refl
+beyond zero i (suc m) xs l h = absurd (omega arith)
+beyond (suc n) i zero xs l h =
+    let past : slice_index xs i ≡ 0 = get_or_past xs i 0 (omega arith) in
+    ap (λ x. x + 256 * little_from (suc i) n xs) past ∙ ap (λ x. 0 + 256 * x) (beyond n (suc i) zero xs (omega arith) (omega arith))
+beyond (suc n) i (suc m) xs l h = ap (λ x. slice_index xs i + 256 * x) (beyond n (suc i) m xs (omega arith) (omega arith))
+
+pub word_small : (n w : ℕ) (xs : List ℕ) → IsBytes n xs → word_at xs w < 2 ^ word_width n w
+word_small n w xs b = subst (λ x. x < 2 ^ word_width n w) (sym (word_is xs w ∙ short (cases_lt (n - 8 * w) 8))) (subst (λ x. little_from (8 * w) m xs < x) (pow256 m) (little_from-lt (8 * w) m xs (small_in n xs b)))
+  where
+    m : ℕ
+    m = min 8 (n - 8 * w)
+
+    short : (n - 8 * w < 8) ⊎ (8 ≤ n - 8 * w) → little_from (8 * w) 8 xs ≡ little_from (8 * w) m xs
+    short (inl l) = beyond 8 (8 * w) m xs (omega arith) (omega (arith, b.len))
+    short (inr l) = let g : 8 ≡ m = omega arith in ap (λ k. little_from (8 * w) k xs) g
+
+-- the word that an operation leaves has so many bytes
+pub left_small :
+    {N : Type 0} (n : CommitNets N) (p : ProgramView) (decls : List MapDecl) (h : Held) (j : ℕ) (d : MapDecl) (value : List ℕ) (w : ℕ) → IsFitting d n → (site_at p.sites j).act ≡ n.act → length n.nets.now.operands.items ≡ length (site_at p.sites j).operands → decl_of decls (site_at p.sites j).map ≡ d
+    → IsBytes d.value value → word_at (value_as (asked decls h (site_at p.sites j)) value) w < 2 ^ word_width d.value w
+left_small n p decls h j d value w fit doing count declared b =
+    let s = site_at p.sites j in
+    let xs = map (held_value h) s.operands in
+    let long : length n.nets.now.operands.items ≡ length xs = count ∙ sym (length-map s.operands (held_value h)) in
+    let words : HasWords d.value s.act (length xs) = subst (λ a. HasWords d.value a (length xs)) (sym doing) (subst (HasWords d.value n.act) long fit.words) in
+    let is = value_bytes d s.act (map (held_value h) s.key) xs value b words (subst (IsInside d.value) (sym doing) fit.inside) in
+    word_small d.value w (value_as (asked decls h s) value) (subst (λ x. IsBytes d.value (value_as (operation_with x s.act (map (held_value h) s.key) xs) value)) (sym declared) is)
+
+-- ---- one of several
+pub item_at : {X : Type 0} (Q : X → Type 0) (xs : List X) (i : ℕ) (x : X) → i < length xs → x ≡ get_or xs i x → All Q xs → Q x
+item_at Q xs i x l is h = subst Q (sym is) (h i x l)
+
+pub operands_last : {N : Type 0} (Q : Operand N → Type 0) (n : CommitNets N) → All Q (read_of n) → All Q n.nets.now.operands.items
+operands_last Q n h = after Q n.nets.now.key.items n.nets.now.operands.items (λ c e q. h (suc (suc (suc c))) e (omega (arith, q)))
+
+pub words_choose : {N : Type 0} (Q : Operand N → Type 0) (outs : List (Operand N)) (a : Operand N) (ns : List (CommitNets N)) → All Q (outs ++ a ∷ all_read ns) → All Q (chosen_of ns ++ outs)
+words_choose Q outs a ns h = join (chosen_of ns) outs (each_chosen Q ns (read_each Q ns (tail Q a (all_read ns) (after Q outs (a ∷ all_read ns) h)))) (before Q outs (a ∷ all_read ns) h)
+  where
+    join : (xs ys : List (Operand _)) → All Q xs → All Q ys → All Q (xs ++ ys)
+    join [] ys k m n d lt = m n d lt
+    join (x ∷ xs) ys k m zero d lt = k 0 d (omega arith)
+    join (x ∷ xs) ys k m (suc n) d lt = join xs ys (λ i e l. k (suc i) e (omega (arith, l))) m n d (omega (arith, lt))

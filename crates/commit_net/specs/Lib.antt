@@ -1,0 +1,4 @@
+pub mod Targets
+pub mod Fetching
+pub mod Choosing
+pub mod Words

@@ -1,0 +1,62 @@
+-- Which cells read the sites of a program, and what these reads wait for.
+use Rattle.std.specs.Prelude.{ℕ, ◌≡◌, ◌≢◌, ◌<◌, ◌≤◌, ◌⊎◌, true, Option, Some, List, length, get_or, Contains}
+use Rattle.xdp_maps.specs.declared.decl.MapDecl.{MapDecl}
+use Rattle.xdp_maps.specs.State.{no_decl}
+use Rattle.xdp_machine.specs.State.{PacketIn}
+use Rattle.cell_core.specs.declared.operator.Operator.TheVariants.{Found, Answer}
+use Rattle.cell_core.specs.Acts.{finds_key, reads, asks, says_done}
+use Rattle.cell_core.specs.Cells.{CellView, IsRun, cell_at, site_in, is_heavy, on}
+use Rattle.cell_core.specs.Sites.{SiteView, ProgramView, site_at, records}
+use Rattle.cell_core.specs.Rows.{AreRows, greatest, taken_by}
+
+-- ---- the cells that read a site
+
+-- The cells among these that read site number j.
+pub record SiteIsRead (decls : List MapDecl) (cells : List CellView) (j : ℕ) (s : SiteView) : Type 0 where
+  -- if the packet asks whether its key is there, one says so
+  pub found : asks s.act (get_or decls s.map no_decl).kind ≡ true → (c : ℕ) × (c < length cells) × ((cell_at cells c).op ≡ Found j)
+  -- if it may fail, one has all 64 bits of what it answered
+  pub tells : says_done s.act (get_or decls s.map no_decl).kind ≡ true → (c : ℕ) × (c < length cells) × ((cell_at cells c).op ≡ Answer j) × ((cell_at cells c).width ≡ 64) × ((cell_at cells c).from ≡ 0)
+  -- no two read the same
+  pub one : (c d : ℕ) → c < length cells → d < length cells → site_in (cell_at cells c).op ≡ Some j → (cell_at cells d).op ≡ (cell_at cells c).op → c ≡ d
+  -- only of what looks for a key one says whether it is there, and only what reads answers
+  pub finds : (c : ℕ) → c < length cells → (cell_at cells c).op ≡ Found j → finds_key s.act ≡ true
+  pub answers : (c : ℕ) → c < length cells → (cell_at cells c).op ≡ Answer j → reads s.act ≡ true
+
+-- The reads of the sites of a program on its maps: so of each site, and they stand in the order of their sites.
+pub record ReadsAreMade (decls : List MapDecl) (p : ProgramView) : Type 0 where
+  pub each : (j : ℕ) → j < length p.sites → SiteIsRead decls p.cells j (site_at p.sites j)
+  pub ordered : (c d i j : ℕ) → c < length p.cells → d < length p.cells → site_in (cell_at p.cells d).op ≡ Some i → site_in (cell_at p.cells c).op ≡ Some j → i < j → d < c
+
+-- What an operation adds to read its site, that of this number and map, which no cell did before; each of its reads takes the cell that stood
+-- for what is pending of the map.
+pub record OperationReads (decls : List MapDecl) (map : Option ℕ) (pending : ℕ) (old new : List CellView) (j : ℕ) (s : SiteView) : Type 0 where
+  pub map_is : map ≡ Some s.map
+  pub read : ((d : ℕ) → d < length old → site_in (cell_at old d).op ≢ Some j) → SiteIsRead decls new j s
+  pub pends : (c : ℕ) → length old ≤ c → c < length new → site_in (cell_at new c).op ≡ Some j → Contains (cell_at new c).ins pending
+
+-- ---- what reads wait for
+
+-- ranks of cells: none is below that of an input
+pub record AreRanks (cells : List CellView) (rank : ℕ → ℕ) : Type 0 where
+  pub each : (k : ℕ) → k < length cells → greatest rank (cell_at cells k).ins ≤ rank k
+
+-- Cell c waits for cell x, which is one of its inputs, or one of theirs, and so on: in all ranks it is no higher than the highest input of c.
+abbrev pub IsBehind : List CellView → ℕ → ℕ → Type 0
+IsBehind cells c x = (rank : ℕ → ℕ) → AreRanks cells rank → rank x ≤ greatest rank (cell_at cells c).ins
+
+-- a cell that site number i takes, or that reads it
+abbrev pub BelongsTo : List CellView → ℕ → SiteView → ℕ → Type 0
+BelongsTo cells i s x = Contains (taken_by s) x ⊎ ((x < length cells) × (site_in (cell_at cells x).op ≡ Some i))
+
+-- Of two sites of one map on one path, whatever values stand for reads: where the earlier may write, each read of the later waits for all that the
+-- earlier takes, and for its reads.
+pub record ReadsWait (p : ProgramView) : Type 0 where
+  pub waits : (packet : PacketIn) (v : ℕ → ℕ) → IsRun packet p.cells v → (c i j : ℕ) → c < length p.cells → site_in (cell_at p.cells c).op ≡ Some j → i < j
+      → (site_at p.sites i).map ≡ (site_at p.sites j).map → records (site_at p.sites i).act ≡ true → on (v (site_at p.sites i).guard) ≡ true → on (v (site_at p.sites j).guard) ≡ true
+      → (x : ℕ) → BelongsTo p.cells i (site_at p.sites i) x → IsBehind p.cells c x
+
+-- No cell stands in an earlier row than one for which it waits, and in a later one if it is heavy, as reads are.
+abbrev pub RowsStandBehind : Type 0
+RowsStandBehind =
+    (cells : List CellView) (row : ℕ → ℕ) (c x : ℕ) → AreRows cells row → c < length cells → IsBehind cells c x → (row x ≤ row c) × (is_heavy (cell_at cells c).op ≡ true → row x < row c)

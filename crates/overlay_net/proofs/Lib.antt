@@ -1,0 +1,6 @@
+pub mod ChainLaws
+pub mod StepLemmas
+pub mod KeyLemmas
+pub mod WriteLemmas
+pub mod FindLemmas
+pub mod AnswerLemmas

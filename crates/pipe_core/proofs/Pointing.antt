@@ -1,0 +1,21 @@
+-- A clock keeps the points.
+use Rattle.std.proofs.Common.{ap}
+use Rattle.pipe_core.specs.Machine.{clock}
+use Rattle.pipe_core.specs.History.{next, KeepsOrder}
+use Rattle.pipe_core.specs.Computed.{KeepsComputed}
+use Rattle.pipe_core.specs.Marked.{KeepsMarked}
+use Rattle.pipe_core.specs.Right.{KeepsRight}
+use Rattle.pipe_core.specs.InTurn.{KeepsSequential}
+use Rattle.pipe_core.specs.Watched.{observed}
+use Rattle.pipe_core.specs.Points.{ClocksKeepPoints}
+
+pub keeps_points : KeepsOrder → KeepsComputed → KeepsMarked → KeepsRight → KeepsSequential → ClocksKeepPoints
+unfolding observed next
+keeps_points order computed marked right sequential b i s = record {
+  state = λ w at. ap (clock b i) at;
+  order = λ w at ordered. order b i w.trace ordered;
+  computed = λ planned w at ordered. computed b planned i w.trace ordered;
+  marked = λ w at ordered. marked b i w ordered;
+  right = λ decls suited silent w at ordered. right b decls suited i silent w ordered;
+  sequential = λ maps suited silent w at ordered. sequential b maps suited i silent w ordered;
+}

@@ -1,0 +1,8 @@
+use Rattle.std.proofs.Common.{◌≡◌, suc, length, None, replicate, map as map_list}
+use Rattle.cell_core.specs.View.{program_of}
+use Rattle.pipe_core.specs.Stocked.{in_place, AreStocked}
+use Rattle.pipe_core.proofs.places.empty_places.Given as goal
+
+abbrev pub invariant-loop-k : goal.invariant-loop-k
+invariant-loop-k l =
+    (map_list in_place l.places.items ≡ replicate (suc l.k) None) × AreStocked (program_of l.planned.program.now) l.places.items × (length l.places.items ≡ suc l.k)

@@ -1,0 +1,14 @@
+use Rattle.std.proofs.Common.{◌≡◌, length, map as map_list}
+use Rattle.cell_core.specs.View.{program_of}
+use Rattle.pipe_core.specs.Planned.{build_of}
+use Rattle.pipe_core.specs.Stocked.{in_place, AreStocked}
+use Rattle.pipe_core.proofs.Moving.{struck_on}
+use Rattle.pipe_core.proofs.places.strike_places.Given as goal
+
+abbrev pub invariant-loop-k : goal.invariant-loop-k
+invariant-loop-k l =
+    record {
+      count : length l.places.items ≡ length l.fn.places.items;
+      places : struck_on l.to (build_of l.planned) l.tables l.change l.k (map_list in_place l.places.items) ≡ struck_on l.to (build_of l.planned) l.tables l.change 0 (map_list in_place l.fn.places.items);
+      of : AreStocked (program_of l.planned.program.now) l.places.items;
+    }

@@ -1,0 +1,16 @@
+//! What holds of all clocks so far holds with one more.
+
+ghost use Rattle.pipe_core.specs.Points.{ClocksKeepPoints};
+
+use crate::laws;
+
+/// Each clock keeps the points: order, cells, marks, what packets hold of the maps, and runs one after another.
+pub fn points()
+    ensures { ClocksKeepPoints }
+{
+    laws::in_order();
+    laws::computed();
+    laws::marks();
+    laws::right();
+    laws::runs_in_turn();
+}

@@ -1,0 +1,39 @@
+-- Programs by their plans are suited for the pipe.
+use Rattle.std.proofs.Common.{◌≤◌}
+use Rattle.cell_core.specs.Sites.{site_at}
+use Rattle.cell_core.specs.Rows.{RowsRise, taken_by}
+use Rattle.cell_core.specs.CellLaws.{HaveValues}
+use Rattle.xdp_machine.specs.State.{PacketIn}
+use Rattle.held_cells.specs.Reading.{RowsStandBehind}
+use Rattle.hazard_core.specs.Tables.{TableState}
+use Rattle.hazard_core.specs.Held.{Held}
+use Rattle.pipe_core.specs.Machine.{Build}
+use Rattle.pipe_core.specs.Pipeable.{IsOwn, FitsReads}
+use Rattle.program_plan.specs.Suited.{ProgramsAreSuited, build_of}
+use Rattle.program_plan.proofs.Lists.{all_by}
+use Rattle.program_plan.proofs.Planning.{read_early, taken_early, commit_within}
+use Rattle.program_plan.proofs.Reading.{found_at, tells_at, reads_planned}
+use Rattle.program_plan.proofs.Completing.{IsCompleted, completed}
+use Rattle.program_plan.proofs.Pathing.{seen, accessed}
+
+pub suited : HaveValues → RowsRise → RowsStandBehind → ProgramsAreSuited
+suited have rise stand g p plan slots law is has took =
+    let b : Build = build_of p plan slots in
+    let early = read_early p plan is in
+    let whole : (t : TableState) (packet : PacketIn) (h : Held) → IsOwn b t packet h → FitsReads b h → IsCompleted b packet h =
+    completed have rise b law.computes.formed is.rows early in
+    record {
+      rows = record {
+        reads = reads_planned g.decls p law.reads plan slots law.computes.formed law.sited is has took;
+        read_rows = early;
+        site_rows = λ j l. all_by (λ c. b.plan.row c ≤ plan.commit) (taken_by (site_at p.sites j)) (taken_early p plan is j l);
+        commit = commit_within p plan is has;
+      };
+      fits = law.sited.fits;
+      sited = law.sited;
+      ordered = law.reads.ordered;
+      found = found_at g.decls p law.reads;
+      tells = tells_at g.decls p law.reads;
+      sees = λ t packet h same own fits. seen g p plan slots law is packet h (whole t packet h own fits) stand;
+      accesses = λ t packet h same own fits. accessed g p plan slots law is packet h (whole t packet h own fits);
+    }
