@@ -6,7 +6,7 @@ use Rattle.net_core.specs.Value.{Env}
 use Rattle.cell_core.specs.Cells.{bit, on, bits_from, phi}
 use Rattle.cell_core.specs.declared.site.Act.{Act}
 use Rattle.cell_core.specs.declared.site.Act.TheVariants as act
-use Rattle.cell_core.specs.Sites.{SiteView, bytes_of, operation_with}
+use Rattle.cell_core.specs.Sites.{ProgramView, SiteView, bytes_of, operation_with}
 use Rattle.xdp_maps.specs.declared.decl.MapDecl.{MapDecl}
 use Rattle.xdp_maps.specs.Operations.{key_in}
 use Rattle.hazard_core.specs.Tables.{decl_of}
@@ -29,7 +29,7 @@ use Rattle.cell_nets.specs.Operands.{number_in}
 use Rattle.commit_net.specs.declared.choosing.CommitNets.{CommitNets}
 use Rattle.commit_net.specs.declared.choosing.Asked.{Asked}
 use Rattle.commit_net.specs.declared.choosing.Asked.TheVariants.{Slot, Insert, Delete, Key, Change}
-use Rattle.commit_net.specs.Choosing.{asked_of, changes_word, chosen_of, paired, read_of, all_read, IsOnly}
+use Rattle.commit_net.specs.Choosing.{asked_of, changes_word, chosen_of, paired, picked, read_of, all_read, IsOnly, IsChosen}
 use Rattle.commit_net.proofs.TargetLemmas.{same_test, not_equal}
 
 -- ---- pairs
@@ -72,6 +72,15 @@ only_chosen v ns k h i e l = go ns i l (λ d m. h i d m)
     go [] n l f = absurd (omega (arith, l))
     go (m ∷ ms) zero l f = f m (omega arith)
     go (m ∷ ms) (suc n) l f = go ms n (omega (arith, l)) (λ d q. f d (omega (arith, q)))
+
+-- what is picked is that of the one that commits
+pub picked_only : {N : Type 0} (v : Env N) (ns : List (CommitNets N)) (ys : List (Operand N)) (k : ℕ) (d : Operand N) → length ys ≡ length ns → IsOnly v ns k → k < length ns → picked ns ys v ≡ number_in v (get_or ys k d)
+picked_only v ns ys k d count only l = phi_only v (chosen_of ns) ys k d (omega (arith, count, length-map ns (λ n. n.chosen))) (only_chosen v ns k only) (omega (arith, count, l))
+
+pub asked_picked : {N : Type 0} (v : Env N) (p : ProgramView) (j : ℕ) (ns : List (CommitNets N)) (what : Asked) (c : IsChosen v p j ns) → picked ns (map (asked_of what) ns) v ≡ number_in v (asked_of what c.nets)
+asked_picked v p j ns what c =
+    let f = asked_of what in
+    picked_only v ns (map f ns) c.place (f c.nets) (length-map ns f) c.only c.within ∙ ap (number_in v) (get_or-map f ns c.place c.nets (f c.nets) c.within) ∙ ap (λ n. number_in v (f n)) c.is
 
 module _ {N : Type 0} (Q : Operand N → Type 0) where
   front : (xs ys : List (Operand N)) → All Q (xs ++ ys) → All Q xs
@@ -147,6 +156,10 @@ key_word v h n w width key cells l words wide shown =
     let count : length xs ≡ length key = ap length (sym shown) ∙ length-map key (number_in v) in
     let one : number_in v (get_or key w (Known 0)) ≡ slice_index xs w = sym (get_or-map (number_in v) key w (Known 0) 0 (omega (arith, l, words))) ∙ ap (λ ys. slice_index ys w) shown in
     from_zero (number_in v (get_or key w (Known 0))) width ∙ ap (λ x. x % 2 ^ width) one ∙ ap (λ k. slice_index xs w % 2 ^ k) wide ∙ sym (word_of_words n xs w (min 8 (n - 8 * w)) (word_there n w l) (omega (arith, l, words, count)) refl)
+
+-- as many words as the cells of its site
+pub key_long : {N : Type 0} (v : Env N) (h : Held) (n : ℕ) (key : List (Operand N)) (cells : List ℕ) → n ≤ length cells → map (number_in v) key ≡ map (held_value h) cells → n ≤ length key
+key_long v h n key cells l shown = omega (arith, l, ap length shown, length-map key (number_in v), length-map cells (held_value h))
 
 pub asked_key_is : (decls : List MapDecl) (h : Held) (s : SiteView) (d : MapDecl) → decl_of decls s.map ≡ d → bytes_of d.key (map (held_value h) s.key) ≡ asked_key decls h s
 asked_key_is decls h s d e = ap (λ (x : MapDecl). bytes_of x.key (map (held_value h) s.key)) (sym e) ∙ by_act s.act

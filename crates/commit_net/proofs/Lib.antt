@@ -1,6 +1,11 @@
-pub mod ChainLemmas
-pub mod StepLemmas
 pub mod TargetLemmas
 pub mod FetchLemmas
 pub mod ChooseLemmas
 pub mod WordLemmas
+pub mod WiringLemmas
+pub mod SlotLemmas
+pub mod GatherLemmas
+pub mod WholeLemmas
+pub mod TakingLemmas
+pub mod LawLemmas
+pub mod StoringLemmas

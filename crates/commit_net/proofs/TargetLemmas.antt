@@ -18,7 +18,7 @@ use Rattle.cell_nets.specs.Operands.{number_in}
 use Rattle.site_operands.specs.Pointers.{pointer_number}
 use Rattle.commit_net.specs.declared.target.TakenSlot.{TakenSlot}
 use Rattle.commit_net.specs.Targets.{slots_of, IsAmong}
-use Rattle.commit_net.proofs.StepLemmas.{small_bits}
+use Rattle.step_nets.proofs.StepLaws.{small_bits}
 
 -- ---- numbers of pointers
 pub same_test : (a b c d : ℕ) → (a ≡ b → c ≡ d) → (c ≡ d → a ≡ b) → (a == b) ≡ (c == d)

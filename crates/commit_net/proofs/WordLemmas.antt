@@ -26,9 +26,10 @@ use Rattle.byteorder.proofs.Bytes.{pow256}
 use Rattle.byteorder.specs.Numbers.{little_from-lt}
 use Rattle.byteorder.specs.Endian.{little_from}
 use Rattle.commit_net.specs.declared.choosing.CommitNets.{CommitNets}
-use Rattle.commit_net.specs.Choosing.{read_of, all_read, chosen_of, IsOnly, ShowsCommit}
+use Rattle.commit_net.specs.Choosing.{read_of, all_read, chosen_of, IsChosen, Commits}
 use Rattle.commit_net.specs.Words.{IsFitting}
-use Rattle.commit_net.proofs.ChainLemmas.{Stands, starts, next}
+use Rattle.step_nets.specs.Standing.{Stands}
+use Rattle.step_nets.proofs.ChainLaws.{starts, next}
 use Rattle.commit_net.proofs.ChooseLemmas.{read_each, each_chosen}
 
 module _ {P : Type 0} {p : P} where
@@ -102,11 +103,11 @@ module _ {N : Type 0} (Q : Operand N → Type 0) where
   push_all (y ∷ xs) x h q zero d lt = h 0 d (omega arith)
   push_all (y ∷ xs) x h q (suc k) d lt = push_all xs x (λ n e l. h (suc n) e (omega (arith, l))) q k d (omega (arith, lt))
 
-  after : (xs ys : List (Operand N)) → All Q (xs ++ ys) → All Q ys
+  pub after : (xs ys : List (Operand N)) → All Q (xs ++ ys) → All Q ys
   after [] ys h = h
   after (x ∷ xs) ys h = after xs ys (λ n e l. h (suc n) e (omega (arith, l)))
 
-  before : (xs ys : List (Operand N)) → All Q (xs ++ ys) → All Q xs
+  pub before : (xs ys : List (Operand N)) → All Q (xs ++ ys) → All Q xs
   before [] ys h k d lt = absurd (omega (arith, lt))
   before (x ∷ xs) ys h zero d lt = h 0 d (omega arith)
   before (x ∷ xs) ys h (suc k) d lt = before xs ys (λ n e l. h (suc n) e (omega (arith, l))) k d (omega (arith, lt))
@@ -125,37 +126,44 @@ module _ {N : Type 0} (Q : Operand N → Type 0) where
           after n.nets.now.key.items n.nets.now.operands.items (λ c e q. each (suc (suc (suc c))) e (omega (arith, q))) m d (omega (arith, lt))
 
 -- ---- the words, so far
-module _ {P : Type 0} (part : P) (d : MapDecl) (ns : List (CommitNets (Name P))) (w : ℕ) (a : Operand (Name P)) (p : ProgramView) (t : TableState) (taken : List ℕ) (h : Held) (j k : ℕ) (dn : CommitNets (Name P)) (value : List ℕ) where
+module _ {P : Type 0} (part : P) (d : MapDecl) (ns : List (CommitNets (Name P))) (w : ℕ) (a : Operand (Name P)) (p : ProgramView) (t : TableState) (taken : List ℕ) (h : Held) (j : ℕ) (value : List ℕ) where
   abbrev pub Needs : Env (Name P) → Type 0
-  Needs v = IsOnly v ns k × ShowsCommit v p t taken h j (get_or ns k dn) × (number_in v a ≡ word_at value w)
+  Needs v = Commits v p t taken h j ns × (decl_of t.decls (site_at p.sites j).map ≡ d) × IsBytes d.value value × (number_in v a ≡ word_at value w)
 
   abbrev pub new_word : ℕ
   new_word = word_at (value_as (asked t.decls h (site_at p.sites j)) value) w
 
+  -- an operation is like that of the site, on this value
+  abbrev pub IsLike : CommitNets (Name P) → Type 0
+  IsLike n = ((site_at p.sites j).act ≡ n.act) × (decl_of t.decls (site_at p.sites j).map ≡ d) × IsBytes d.value value
+
+  abbrev pub Shows : Env (Name P) → CommitNets (Name P) → Type 0
+  Shows v n = (number_in v a ≡ word_at value w) × ShowsAsked v p h j (operands_of n.nets.now)
+
+  -- what one of the first ones makes of the word, where it is like that and shows its operands
+  abbrev pub AreMade : Env (Name P) → List (Operand (Name P)) → ℕ → Type 0
+  AreMade v outs i = (k : ℕ) (n : CommitNets (Name P)) (e : Operand (Name P)) → k < i → get_or ns k n ≡ n → IsLike n → Shows v n → number_in v (get_or outs k e) ≡ new_word
+
   abbrev pub Far : List (BlockWireTree (Name P)) → List (BlockWireTree (Name P)) → List (Operand (Name P)) → ℕ → Type 0
-  Far old new outs i = Stands part old new (a ∷ all_read ns) Needs (outs ++ a ∷ all_read ns) (λ v. Needs v × (k < i → (e : Operand (Name P)) → number_in v (get_or outs k e) ≡ new_word))
+  Far old new outs i = Stands part old new (a ∷ all_read ns) Needs (outs ++ a ∷ all_read ns) (λ v. Needs v × AreMade v outs i)
 
   pub far_none : (ws : List (BlockWireTree (Name P))) → Far ws ws [] 0
-  far_none ws = stands_as (a ∷ all_read ns) (λ v. Needs v × (k < 0 → (e : Operand (Name P)) → number_in v (get_or [] k e) ≡ new_word)) (starts part ws (a ∷ all_read ns) Needs) (λ ins s. s) (λ v n. (n, λ lt. absurd (omega (arith, lt))))
+  far_none ws = stands_as (a ∷ all_read ns) (λ v. Needs v × AreMade v [] 0) (starts part ws (a ∷ all_read ns) Needs) (λ ins s. s) (λ v n. (n, λ k m e lt. absurd (omega (arith, lt))))
 
   module _ (old mid new : List (BlockWireTree (Name P))) (outs : List (Operand (Name P))) (i : ℕ) (n : CommitNets (Name P)) (word : Operand (Name P)) (x : Far old mid outs i) (count : length outs ≡ i) (l : i < length ns) (is : n ≡ get_or ns i n) where
-    pub far_more :
-        {needs : Env (Name P) → Type 0} {f : Env (Name P) → ℕ} → Gives part mid new (a ∷ n.nets.now.operands.items) needs f 64 word
-        → (k ≡ i → Gives part mid new (a ∷ n.nets.now.operands.items) (λ v. (number_in v a ≡ word_at value w) × ShowsAsked v p h j (operands_of n.nets.now)) (λ v. new_word) 64 word) → Far old new (outs ++ word ∷ []) (i + 1)
+    pub far_more : {needs : Env (Name P) → Type 0} {f : Env (Name P) → ℕ} → Gives part mid new (a ∷ n.nets.now.operands.items) needs f 64 word → (IsLike n → Gives part mid new (a ∷ n.nets.now.operands.items) (λ v. Shows v n) (λ v. new_word) 64 word) → Far old new (outs ++ word ∷ []) (i + 1)
     far_more any real =
-        stands_as ((outs ++ word ∷ []) ++ a ∷ all_read ns) (λ v. Needs v × (k < i + 1 → (e : Operand (Name P)) → number_in v (get_or (outs ++ word ∷ []) k e) ≡ new_word)) (next_if x (gives_if (k ≡ i) any real) (λ ins s. words_there (IsAvailable ins) outs a ns i n l is s))
-        (λ ins s. last_first (IsAvailable ins) outs (a ∷ all_read ns) word s) (λ v s. (s.0.0, λ lt e. by_order v s lt e (cases_lt k i)))
+        stands_as ((outs ++ word ∷ []) ++ a ∷ all_read ns) (λ v. Needs v × AreMade v (outs ++ word ∷ []) (i + 1)) (next_if x (gives_if (IsLike n) any real) (λ ins s. words_there (IsAvailable ins) outs a ns i n l is s))
+        (λ ins s. last_first (IsAvailable ins) outs (a ∷ all_read ns) word s) (λ v s. (s.0.0, λ k m e lt at like shows. by_order v s k m e lt at like shows (cases_lt k i)))
       where
-        same : k ≡ i → get_or ns k dn ≡ n
-        same e = ap (λ m. get_or ns m dn) e ∙ get_or_default ns i dn n l ∙ sym is
-
         by_order :
-            (v : Env (Name P)) → (Needs v × (k < i → (e : Operand (Name P)) → number_in v (get_or outs k e) ≡ new_word)) × ((k ≡ i) × ((number_in v a ≡ word_at value w) × ShowsAsked v p h j (operands_of n.nets.now)) → number_in v word ≡ new_word) → k < i + 1 → (e : Operand (Name P))
-            → (k < i) ⊎ (i ≤ k) → number_in v (get_or (outs ++ word ∷ []) k e) ≡ new_word
-        by_order v s lt e (inl less) = ap (number_in v) (get_or_append_left outs (word ∷ []) e k (omega (arith, less, count))) ∙ s.0.1 less e
-        by_order v s lt e (inr over) =
+            (v : Env (Name P)) → (Needs v × AreMade v outs i) × (IsLike n × Shows v n → number_in v word ≡ new_word) → (k : ℕ) (m : CommitNets (Name P)) (e : Operand (Name P)) → k < i + 1 → get_or ns k m ≡ m → IsLike m → Shows v m → (k < i) ⊎ (i ≤ k)
+            → number_in v (get_or (outs ++ word ∷ []) k e) ≡ new_word
+        by_order v s k m e lt at like shows (inl less) = ap (number_in v) (get_or_append_left outs (word ∷ []) e k (omega (arith, less, count))) ∙ s.0.1 k m e less at like shows
+        by_order v s k m e lt at like shows (inr over) =
             let q : k ≡ i = omega (arith, over, lt) in
-            ap (number_in v) (get_or_push outs word e k (omega (arith, count, q))) ∙ s.1 (q, (s.0.0.2, subst (λ (m : CommitNets (Name P)). ShowsAsked v p h j (operands_of m.nets.now)) (same q) s.0.0.1.asked))
+            let same : m ≡ n = sym at ∙ ap (λ y. get_or ns y m) q ∙ get_or_default ns i m n l ∙ sym is in
+            ap (number_in v) (get_or_push outs word e k (omega (arith, count, q))) ∙ s.1 (subst IsLike same like, subst (Shows v) same shows)
 
 -- ---- a program that has an operation like one
 abbrev pub like_site : {N : Type 0} → CommitNets N → SiteView
@@ -197,6 +205,16 @@ left_small n p decls h j d value w fit doing count declared b =
     let words : HasWords d.value s.act (length xs) = subst (λ a. HasWords d.value a (length xs)) (sym doing) (subst (HasWords d.value n.act) long fit.words) in
     let is = value_bytes d s.act (map (held_value h) s.key) xs value b words (subst (IsInside d.value) (sym doing) fit.inside) in
     word_small d.value w (value_as (asked decls h s) value) (subst (λ x. IsBytes d.value (value_as (operation_with x s.act (map (held_value h) s.key) xs) value)) (sym declared) is)
+
+-- and so has that of the one that commits
+pub chosen_small :
+    {N : Type 0} (v : Env N) (ns : List (CommitNets N)) (p : ProgramView) (decls : List MapDecl) (h : Held) (j : ℕ) (d : MapDecl) (value : List ℕ) (w : ℕ) → All (IsFitting d) ns → (x : IsChosen v p j ns) → ShowsAsked v p h j (operands_of x.nets.nets.now) → decl_of decls (site_at p.sites j).map ≡ d
+    → IsBytes d.value value → word_at (value_as (asked decls h (site_at p.sites j)) value) w < 2 ^ word_width d.value w
+chosen_small v ns p decls h j d value w fitting x shown declared b =
+    let xs = x.nets.nets.now.operands.items in
+    let cells = (site_at p.sites j).operands in
+    let count : length xs ≡ length cells = omega (arith, ap length shown.operands, length-map xs (number_in v), length-map cells (held_value h)) in
+    left_small x.nets p decls h j d value w (subst (IsFitting d) x.is (fitting x.place x.nets x.within)) x.act count declared b
 
 -- ---- one of several
 pub item_at : {X : Type 0} (Q : X → Type 0) (xs : List X) (i : ℕ) (x : X) → i < length xs → x ≡ get_or xs i x → All Q xs → Q x

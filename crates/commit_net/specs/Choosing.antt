@@ -4,8 +4,8 @@ use Rattle.std.proofs.Common.{get_or}
 use Rattle.net_core.specs.Value.{Env}
 use Rattle.cell_core.specs.declared.site.Act.{Act}
 use Rattle.cell_core.specs.declared.site.Act.TheVariants as act
-use Rattle.cell_core.specs.Cells.{bit}
-use Rattle.cell_core.specs.Sites.{ProgramView}
+use Rattle.cell_core.specs.Cells.{bit, phi}
+use Rattle.cell_core.specs.Sites.{ProgramView, site_at}
 use Rattle.hazard_core.specs.Tables.{TableState}
 use Rattle.hazard_core.specs.Held.{Held, is_delete}
 use Rattle.hazard_core.specs.Commits.{written_slot, makes_entry}
@@ -42,6 +42,10 @@ paired [] ys = []
 paired (x ∷ xs) [] = []
 paired (x ∷ xs) (y ∷ ys) = x ∷ y ∷ paired xs ys
 
+-- of operands of several operations that of the one that commits
+abbrev pub picked : {N : Type 0} → List (CommitNets N) → List (Operand N) → Env N → ℕ
+picked ns values v = phi (map_list (number_in v) (paired (chosen_of ns) values))
+
 -- ---- the operands of them
 abbrev pub read_of : {N : Type 0} → CommitNets N → List (Operand N)
 read_of n = n.chosen ∷ n.target ∷ n.makes ∷ n.nets.now.key.items ++ n.nets.now.operands.items
@@ -62,3 +66,17 @@ pub record ShowsCommit {N : Type 0} (v : Env N) (p : ProgramView) (t : TableStat
   pub asked : ShowsAsked v p h j (operands_of n.nets.now)
   pub target : number_in v n.target ≡ written_slot p t taken h j
   pub makes : number_in v n.makes ≡ bit (makes_entry p t h j)
+
+-- One of them commits, and no other one: by what it does the operation at site j.
+pub record IsChosen {N : Type 0} (v : Env N) (p : ProgramView) (j : ℕ) (ns : List (CommitNets N)) : Type 0 where
+  pub place : ℕ
+  pub nets : CommitNets N
+  pub within : place < length ns
+  pub is : get_or ns place nets ≡ nets
+  pub only : IsOnly v ns place
+  pub act : (site_at p.sites j).act ≡ nets.act
+
+-- and its operands stand for it
+pub record Commits {N : Type 0} (v : Env N) (p : ProgramView) (t : TableState) (taken : List ℕ) (h : Held) (j : ℕ) (ns : List (CommitNets N)) : Type 0 where
+  pub chosen : IsChosen v p j ns
+  pub shows : ShowsCommit v p t taken h j chosen.nets

@@ -45,3 +45,7 @@ pub record IsFetch {P : Type 0} (part of : P) (bits first bytes from count : ℕ
   pub stays : (v : Env (Name P)) (s : Stored) → done v b.statement s ≡ s
   pub shows : (v : Env (Name P)) (s : Stored) (cap : ℕ) (strings : ℕ → List ℕ) (n i : ℕ) → Solve v part 0 b.wires → SeesMemories of v s → HoldsWords cap bytes s.memories first strings → first + word_count bytes ≤ length s.memories
       → (v.net slot).value ≡ n → n < cap → i < count → v.net (name.Wire part i) ≡ word 64 (byte_word (strings n) (from + i))
+
+-- ---- the nets of these words
+abbrev pub fetched_words : {P : Type 0} → P → ℕ → List (Name P)
+fetched_words part count = map_list (λ i. name.Wire part i) (range_with_len 0 count)

@@ -15,7 +15,7 @@ ghost use Rattle.hazard_core.specs.Commits.{word_at, word_count, written_slot, m
 ghost use Rattle.array_net.specs.Words.{word_width};
 ghost use Rattle.cell_nets.specs.Operands.{IsOperand, IsWide, number_in};
 ghost use Rattle.cell_nets.specs.Wires.{wires_of, always, Gives};
-ghost use Rattle.commit_net.specs.Choosing.{asked_of, changes_word, chosen_of, paired, all_read, HasOperands, IsOnly, ShowsCommit};
+ghost use Rattle.commit_net.specs.Choosing.{asked_of, changes_word, chosen_of, paired, picked, all_read, HasOperands, IsChosen, Commits};
 
 use array_net::words::word_width;
 use block_core::block::BlockWire;
@@ -185,8 +185,7 @@ pub(crate) fn select<P: Copy>(
     requires chosen { All IsOperand (chosen_of sites.now) }
     requires values { All IsOperand values.now }
     requires width { IsWide width }
-    ensures { (k : ℕ) (d : Operand (Name P)) → k < length values.now → IfOk result (λ n. Gives part (wires_of wires.old.items) (wires_of wires.new.items) (chosen_of sites.now ++ values.now) (λ v. IsOnly v sites.now k)
-        (λ v. bits_from (number_in v (get_or values.now k d)) 0 width) width (Operand.Net n width)) }
+    ensures { IfOk result (λ n. Gives part (wires_of wires.old.items) (wires_of wires.new.items) (chosen_of sites.now ++ values.now) always (λ v. bits_from (picked sites.now values.now v) 0 width) width (Operand.Net n width)) }
 {
     let all = pairs(alloc, sites, values)?;
     let out = phi_wires(alloc, wires, part, &all, width)?;
@@ -205,8 +204,7 @@ fn asked_net<P: Copy>(
 ) -> Result<Name<P>, AllocError>
     requires operands { All HasOperands sites.now }
     requires width { IsWide width }
-    ensures { (k : ℕ) (d : CommitNets (Name P)) → k < length sites.now → IfOk result (λ n. Gives part (wires_of wires.old.items) (wires_of wires.new.items) (all_read sites.now) (λ v. IsOnly v sites.now k)
-        (λ v. bits_from (number_in v (asked_of what (get_or sites.now k d))) 0 width) width (Operand.Net n width)) }
+    ensures { IfOk result (λ n. Gives part (wires_of wires.old.items) (wires_of wires.new.items) (all_read sites.now) always (λ v. bits_from (picked sites.now (map_list (asked_of what) sites.now) v) 0 width) width (Operand.Net n width)) }
 {
     let values = all_asked(alloc, sites, what)?;
     let n = select(alloc, wires, part, sites, &values, width)?;
@@ -223,8 +221,8 @@ pub fn slot_net<P: Copy>(
 ) -> Result<Name<P>, AllocError>
     requires operands { All HasOperands sites.now }
     requires bits { IsWide bits }
-    ensures { (p : ProgramView) (t : TableState) (taken : List ℕ) (h : Held) (j k : ℕ) (d : CommitNets (Name P)) → k < length sites.now → IfOk result (λ n. Gives part (wires_of wires.old.items) (wires_of wires.new.items) (all_read sites.now)
-        (λ v. IsOnly v sites.now k × ShowsCommit v p t taken h j (get_or sites.now k d) × (written_slot p t taken h j < 2 ^ bits)) (λ v. written_slot p t taken h j) bits (Operand.Net n bits)) }
+    ensures { (p : ProgramView) (t : TableState) (taken : List ℕ) (h : Held) (j : ℕ) → IfOk result (λ n. Gives part (wires_of wires.old.items) (wires_of wires.new.items) (all_read sites.now)
+        (λ v. Commits v p t taken h j sites.now × (written_slot p t taken h j < 2 ^ bits)) (λ v. written_slot p t taken h j) bits (Operand.Net n bits)) }
 {
     let n = asked_net(alloc, wires, part, sites, Asked::Slot, bits)?;
     Ok(n)
@@ -238,8 +236,8 @@ pub fn insert_net<P: Copy>(
     sites: &[CommitNets<'_, Name<P>>],
 ) -> Result<Name<P>, AllocError>
     requires { All HasOperands sites.now }
-    ensures { (p : ProgramView) (t : TableState) (taken : List ℕ) (h : Held) (j k : ℕ) (d : CommitNets (Name P)) → k < length sites.now → IfOk result (λ n. Gives part (wires_of wires.old.items) (wires_of wires.new.items) (all_read sites.now)
-        (λ v. IsOnly v sites.now k × ShowsCommit v p t taken h j (get_or sites.now k d)) (λ v. bit (makes_entry p t h j)) 1 (Operand.Net n 1)) }
+    ensures { (p : ProgramView) (t : TableState) (taken : List ℕ) (h : Held) (j : ℕ) → IfOk result (λ n. Gives part (wires_of wires.old.items) (wires_of wires.new.items) (all_read sites.now)
+        (λ v. Commits v p t taken h j sites.now) (λ v. bit (makes_entry p t h j)) 1 (Operand.Net n 1)) }
 {
     let n = asked_net(alloc, wires, part, sites, Asked::Insert, 1)?;
     Ok(n)
@@ -253,8 +251,8 @@ pub fn delete_net<P: Copy>(
     sites: &[CommitNets<'_, Name<P>>],
 ) -> Result<Name<P>, AllocError>
     requires { All HasOperands sites.now }
-    ensures { (p : ProgramView) (j k : ℕ) (d : CommitNets (Name P)) → k < length sites.now → (site_at p.sites j).act ≡ (get_or sites.now k d).act → IfOk result (λ n. Gives part (wires_of wires.old.items) (wires_of wires.new.items) (all_read sites.now)
-        (λ v. IsOnly v sites.now k) (λ v. bit (is_delete (site_at p.sites j).act)) 1 (Operand.Net n 1)) }
+    ensures { (p : ProgramView) (j : ℕ) → IfOk result (λ n. Gives part (wires_of wires.old.items) (wires_of wires.new.items) (all_read sites.now)
+        (λ v. IsChosen v p j sites.now) (λ v. bit (is_delete (site_at p.sites j).act)) 1 (Operand.Net n 1)) }
 {
     let n = asked_net(alloc, wires, part, sites, Asked::Delete, 1)?;
     Ok(n)
@@ -272,8 +270,8 @@ pub fn key_net<P: Copy>(
     requires operands { All HasOperands sites.now }
     requires most { decl.now.key ≤ 64 }
     requires there { w < word_count decl.now.key }
-    ensures { (p : ProgramView) (t : TableState) (taken : List ℕ) (h : Held) (j k : ℕ) (d : CommitNets (Name P)) → k < length sites.now → decl_of t.decls (site_at p.sites j).map ≡ decl.now → word_count decl.now.key ≤ length (get_or sites.now k d).nets.now.key.items
-        → IfOk result (λ n. Gives part (wires_of wires.old.items) (wires_of wires.new.items) (all_read sites.now) (λ v. IsOnly v sites.now k × ShowsCommit v p t taken h j (get_or sites.now k d))
+    ensures { (p : ProgramView) (t : TableState) (taken : List ℕ) (h : Held) (j : ℕ) → IfOk result (λ n. Gives part (wires_of wires.old.items) (wires_of wires.new.items) (all_read sites.now)
+        (λ v. Commits v p t taken h j sites.now × (decl_of t.decls (site_at p.sites j).map ≡ decl.now) × (word_count decl.now.key ≤ length (site_at p.sites j).key))
         (λ v. word_at (asked_key t.decls h (site_at p.sites j)) w) (word_width decl.now.key w) (Operand.Net n (word_width decl.now.key w))) }
 {
     let width = word_width(decl.key, w);
@@ -290,8 +288,8 @@ pub fn change_net<P: Copy>(
     w: u32,
 ) -> Result<Name<P>, AllocError>
     requires { All HasOperands sites.now }
-    ensures gives { (p : ProgramView) (j k : ℕ) (d : CommitNets (Name P)) → k < length sites.now → (site_at p.sites j).act ≡ (get_or sites.now k d).act → IfOk result (λ n. Gives part (wires_of wires.old.items) (wires_of wires.new.items) (all_read sites.now)
-        (λ v. IsOnly v sites.now k) (λ v. bit (changes_word (site_at p.sites j).act w)) 1 (Operand.Net n 1)) }
+    ensures gives { (p : ProgramView) (j : ℕ) → IfOk result (λ n. Gives part (wires_of wires.old.items) (wires_of wires.new.items) (all_read sites.now)
+        (λ v. IsChosen v p j sites.now) (λ v. bit (changes_word (site_at p.sites j).act w)) 1 (Operand.Net n 1)) }
     ensures stays { (p : ProgramView) (decls : List MapDecl) (h : Held) (j : ℕ) (value : List ℕ) → let s = site_at p.sites j in
         changes_word s.act w ≡ false → IsAligned s.act → IsInside (decl_of decls s.map).value s.act → IsBytes (decl_of decls s.map).value value → word_at (value_as (asked decls h s) value) w ≡ word_at value w }
 {

@@ -4,7 +4,7 @@ ghost use Rattle.std.specs.Prelude.{◌≡◌, ◌+◌, ◌≤◌, ◌<◌, IfOk
 ghost use Rattle.std.specs.List.{range_with_len};
 ghost use Rattle.block_core.specs.View.{block_of, block_wire_of};
 ghost use Rattle.hazard_core.specs.Commits.{word_count};
-ghost use Rattle.commit_net.specs.Fetching.{fetched_wire, IsFetch};
+ghost use Rattle.commit_net.specs.Fetching.{fetched_wire, fetched_words, IsFetch};
 
 use array_net::words::word_shown;
 use block_core::block::{Block, BlockWire};
@@ -80,4 +80,19 @@ pub fn fetch<P: Part>(
         wires,
         statement,
     })
+}
+
+/// The nets of so many words, of a part that reads words of a slot.
+pub fn fetched_words<P: Part>(
+    alloc: Global,
+    part: P,
+    count: u32,
+) -> Result<Vec<Name<P>>, AllocError>
+    ensures { IfOk result (λ r. r.items ≡ fetched_words part count) }
+{
+    let mut words = Vec::new(alloc);
+    for i in 0..count {
+        words.push(Name::Wire(part, i))?;
+    }
+    Ok(words)
 }

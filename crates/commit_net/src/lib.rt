@@ -4,6 +4,8 @@
 
 pub mod choosing;
 pub mod fetch;
-pub mod steps;
+pub mod laws;
+pub mod taken;
 pub mod target;
+pub mod whole;
 pub mod words;

@@ -10,13 +10,13 @@ ghost use Rattle.cell_nets.specs.Operands.{IsOperand, IsWide, number_in};
 ghost use Rattle.cell_nets.specs.Wires.{wires_of, always, HasBits, Gives};
 ghost use Rattle.commit_net.specs.Targets.{slots_of, ShowsWritten, ShowsTarget};
 
-use crate::steps::{choose, equal};
 use block_core::block::BlockWire;
 use block_core::name::Name;
 use cell_core::site::Act;
 use cell_nets::operand::Operand;
 use cell_nets::wires::cut;
 use std::alloc::{AllocError, Global};
+use step_nets::{choose, equal};
 
 /// The slot that an update of the packet's own took, by the number of its site.
 #[derive(Copy, Clone)]

@@ -1,6 +1,6 @@
 //! Words of the value that the operation leaves that commits.
 
-ghost use Rattle.std.specs.Prelude.{ℕ, List, ◌∷◌, ◌≡◌, ◌<◌, ◌≤◌, All, length, get_or, IfOk};
+ghost use Rattle.std.specs.Prelude.{ℕ, List, ◌∷◌, ◌≡◌, ◌<◌, ◌≤◌, All, IfOk};
 ghost use Rattle.xdp_maps.specs.Contents.{IsBytes};
 ghost use Rattle.cell_core.specs.Sites.{ProgramView, site_at};
 ghost use Rattle.hazard_core.specs.Held.{Held, asked};
@@ -10,7 +10,7 @@ ghost use Rattle.hazard_core.specs.Commits.{word_at, word_count};
 ghost use Rattle.array_net.specs.Words.{word_width};
 ghost use Rattle.cell_nets.specs.Operands.{IsOperand, number_in};
 ghost use Rattle.cell_nets.specs.Wires.{wires_of, HasBits, Gives};
-ghost use Rattle.commit_net.specs.Choosing.{all_read, HasOperands, IsOnly, ShowsCommit};
+ghost use Rattle.commit_net.specs.Choosing.{all_read, HasOperands, Commits};
 ghost use Rattle.commit_net.specs.Words.{IsFitting};
 
 use crate::choosing::{CommitNets, select};
@@ -38,9 +38,8 @@ pub fn word_net<P: Copy>(
     requires word { HasBits 64 old }
     requires few { decl.now.value ≤ 64 }
     requires there { w < word_count decl.now.value }
-    ensures { (p : ProgramView) (t : TableState) (taken : List ℕ) (h : Held) (j k : ℕ) (d : CommitNets (Name P)) (value : List ℕ) → k < length sites.now → (site_at p.sites j).act ≡ (get_or sites.now k d).act → decl_of t.decls (site_at p.sites j).map ≡ decl.now
-        → length (get_or sites.now k d).nets.now.operands.items ≡ length (site_at p.sites j).operands → IsBytes decl.now.value value
-        → IfOk result (λ n. Gives part (wires_of wires.old.items) (wires_of wires.new.items) (old ∷ all_read sites.now) (λ v. IsOnly v sites.now k × ShowsCommit v p t taken h j (get_or sites.now k d) × (number_in v old ≡ word_at value w))
+    ensures { (p : ProgramView) (t : TableState) (taken : List ℕ) (h : Held) (j : ℕ) (value : List ℕ) → IfOk result (λ n. Gives part (wires_of wires.old.items) (wires_of wires.new.items) (old ∷ all_read sites.now)
+        (λ v. Commits v p t taken h j sites.now × (decl_of t.decls (site_at p.sites j).map ≡ decl.now) × IsBytes decl.now.value value × (number_in v old ≡ word_at value w))
         (λ v. word_at (value_as (asked t.decls h (site_at p.sites j)) value) w) (word_width decl.now.value w) (Operand.Net n (word_width decl.now.value w))) }
 {
     let mut all = Vec::new(alloc);

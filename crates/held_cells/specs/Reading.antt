@@ -1,10 +1,10 @@
 -- Which cells read the sites of a program, and what these reads wait for.
-use Rattle.std.specs.Prelude.{ℕ, ◌≡◌, ◌≢◌, ◌<◌, ◌≤◌, ◌⊎◌, true, Option, Some, List, length, get_or, Contains}
+use Rattle.std.specs.Prelude.{ℕ, ◌≡◌, ◌≢◌, ◌<◌, ◌≤◌, ◌⊎◌, ◌++◌, true, Option, Some, List, length, get_or, take, drop, Contains}
 use Rattle.xdp_maps.specs.declared.decl.MapDecl.{MapDecl}
 use Rattle.xdp_maps.specs.State.{no_decl}
 use Rattle.xdp_machine.specs.State.{PacketIn}
 use Rattle.cell_core.specs.declared.operator.Operator.TheVariants.{Found, Answer}
-use Rattle.cell_core.specs.Acts.{finds_key, reads, asks, says_done}
+use Rattle.cell_core.specs.Acts.{finds_key, reads, asks, says_done, pointer_operand}
 use Rattle.cell_core.specs.Cells.{CellView, IsRun, cell_at, site_in, is_heavy, on}
 use Rattle.cell_core.specs.Sites.{SiteView, ProgramView, site_at, records}
 use Rattle.cell_core.specs.Rows.{AreRows, greatest, taken_by}
@@ -22,6 +22,9 @@ pub record SiteIsRead (decls : List MapDecl) (cells : List CellView) (j : ℕ) (
   -- only of what looks for a key one says whether it is there, and only what reads answers
   pub finds : (c : ℕ) → c < length cells → (cell_at cells c).op ≡ Found j → finds_key s.act ≡ true
   pub answers : (c : ℕ) → c < length cells → (cell_at cells c).op ≡ Answer j → reads s.act ≡ true
+  -- each takes the site's key, and of an update the flags, of an access the pointer; all take the same
+  pub takes : (c x : ℕ) → c < length cells → site_in (cell_at cells c).op ≡ Some j → Contains (s.key ++ take 1 (drop (pointer_operand s.act) s.operands)) x → Contains (cell_at cells c).ins x
+  pub alike : (c d : ℕ) → c < length cells → d < length cells → site_in (cell_at cells c).op ≡ Some j → site_in (cell_at cells d).op ≡ Some j → (cell_at cells c).ins ≡ (cell_at cells d).ins
 
 -- The reads of the sites of a program on its maps: so of each site, and they stand in the order of their sites.
 pub record ReadsAreMade (decls : List MapDecl) (p : ProgramView) : Type 0 where

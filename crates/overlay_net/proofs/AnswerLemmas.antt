@@ -23,13 +23,13 @@ use Rattle.xdp_maps.specs.Contents.{index_of}
 use Rattle.cell_nets.specs.declared.operand.Operand.{Operand}
 use Rattle.cell_nets.specs.Operands.{number_in, IsAvailable}
 use Rattle.cell_nets.specs.Wires.{always, Gives}
-use Rattle.overlay_net.specs.declared.pending.Pending.{Pending}
+use Rattle.site_operands.specs.declared.Pending.{Pending}
 use Rattle.overlay_net.specs.Reading.{IsSite}
 use Rattle.overlay_net.specs.Seen.{read_of, all_read, IsOf, ShowsPending, AreOf, ShowPending}
-use Rattle.overlay_net.proofs.ChainLaws.{starts, next, last}
+use Rattle.step_nets.proofs.ChainLaws.{starts, next, last}
 use Rattle.overlay_net.proofs.FindLemmas.{read_at, tail_of}
 use Rattle.overlay_net.proofs.KeyLemmas.{front_bytes}
-use Rattle.overlay_net.proofs.StepLemmas.{on_bit, small_bits, all_each}
+use Rattle.step_nets.proofs.StepLaws.{on_bit, small_bits, all_each}
 
 -- ---- pairs, one behind another
 pub two_pairs : {X : Type 0} (l m n : List X) (a b c d : X) → l ≡ [] → m ≡ l ++ a ∷ b ∷ [] → n ≡ m ++ c ∷ d ∷ [] → n ≡ a ∷ b ∷ c ∷ d ∷ []

@@ -24,11 +24,11 @@ use Rattle.cell_nets.specs.Operands.{number_in, IsAvailable}
 use Rattle.cell_nets.specs.Wires.{always, Gives}
 use Rattle.site_operands.specs.Pointers.{pointer_number}
 use Rattle.site_operands.specs.Sites.{SiteOperands, operands_of, all_of, ShowsAsked}
-use Rattle.overlay_net.specs.declared.pending.Pending.{Pending}
+use Rattle.site_operands.specs.declared.Pending.{Pending}
 use Rattle.overlay_net.specs.Reading.{ShowsSlot}
 use Rattle.overlay_net.specs.Seen.{read_of, all_read, IsOf, ShowsPending, AreOf, ShowPending}
-use Rattle.overlay_net.proofs.ChainLaws.{starts, next, last}
-use Rattle.overlay_net.proofs.StepLemmas.{on_bit}
+use Rattle.step_nets.proofs.ChainLaws.{starts, next, last}
+use Rattle.step_nets.proofs.StepLaws.{on_bit}
 
 -- ---- of several operands some
 module _ {X : Type 0} (Q : X → Type 0) where

@@ -1,5 +1,3 @@
-pub mod ChainLaws
-pub mod StepLemmas
 pub mod KeyLemmas
 pub mod WriteLemmas
 pub mod FindLemmas

@@ -19,7 +19,7 @@ use Rattle.cell_nets.specs.Operands.{number_in}
 use Rattle.site_operands.specs.Pointers.{pointer_number}
 use Rattle.site_operands.specs.Sites.{SiteOperands, ShowsSite}
 use Rattle.overlay_net.specs.Reading.{IsSite}
-use Rattle.overlay_net.proofs.StepLemmas.{on_bit}
+use Rattle.step_nets.proofs.StepLaws.{on_bit}
 
 not_not : (b : Bool) → not (not b) ≡ b
 not_not true = refl

@@ -10,7 +10,7 @@ use Rattle.cell_nets.specs.declared.operand.Operand.{Operand}
 use Rattle.cell_nets.specs.Operands.{number_in, IsOperand, IsNarrow}
 use Rattle.site_operands.specs.Pointers.{pointer_number}
 use Rattle.site_operands.specs.Sites.{operands_of, all_of, ShowsSite}
-use Rattle.overlay_net.specs.declared.pending.Pending.{Pending}
+use Rattle.site_operands.specs.declared.Pending.{Pending}
 
 -- what it reads
 abbrev pub read_of : {N : Type 0} → Pending N → List (Operand N)

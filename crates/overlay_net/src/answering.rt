@@ -19,8 +19,6 @@ ghost use Rattle.overlay_net.specs.Reading.{IsSite, ShowsKey};
 ghost use Rattle.overlay_net.specs.Seen.{read_of, all_read, HasOperands, IsOf, ShowsPending, AreOf, ShowPending};
 
 use crate::finding::operand_at;
-use crate::pending::Pending;
-use crate::steps::{at_most, below, both, equal, sum};
 use crate::writing::{adds_key, takes_key};
 use block_core::block::BlockWire;
 use block_core::name::Name;
@@ -29,8 +27,9 @@ use cell_core::value::bits_from;
 use cell_nets::operand::Operand;
 use cell_nets::operators::cell_wires;
 use cell_nets::wires::cut;
-use site_operands::SiteNets;
+use site_operands::{Pending, SiteNets};
 use std::alloc::{AllocError, Global};
+use step_nets::{at_most, below, both, equal, sum};
 use xdp_maps::decl::{MapDecl, MapKind};
 use xdp_maps::errno::{E2BIG, EEXIST, EINVAL, ENOENT};
 

@@ -17,15 +17,14 @@ ghost use Rattle.overlay_net.specs.Reading.{IsSite, ShowsSlot, ShowsKey};
 ghost use Rattle.overlay_net.specs.Seen.{read_of, all_read, IsSeen, IsOf, ShowsPending, AreOf, ShowPending};
 
 use crate::keys::same_key;
-use crate::pending::Pending;
-use crate::steps::{below, both, choose};
 use block_core::block::BlockWire;
 use block_core::name::Name;
 use cell_core::site::Act;
 use cell_nets::operand::Operand;
 use cell_nets::wires::cut;
-use site_operands::SiteNets;
+use site_operands::{Pending, SiteNets};
 use std::alloc::{AllocError, Global};
+use step_nets::{below, both, choose};
 use xdp_maps::decl::{MapDecl, MapKind};
 
 /// A pointer in place of another one where an operation wrote under a key.

@@ -7,12 +7,12 @@ ghost use Rattle.cell_core.specs.Sites.{bytes_of};
 ghost use Rattle.cell_nets.specs.Operands.{IsOperand, IsWide, number_in};
 ghost use Rattle.cell_nets.specs.Wires.{wires_of, always, Gives};
 
-use crate::steps::{both, equal};
 use block_core::block::BlockWire;
 use block_core::name::Name;
 use cell_nets::operand::Operand;
 use cell_nets::wires::cut;
 use std::alloc::{AllocError, Global};
+use step_nets::{both, equal};
 
 /// Whether so many low bits of two operands are the same.
 fn same_word<P: Copy>(

@@ -5,6 +5,4 @@
 pub mod answering;
 pub mod finding;
 pub mod keys;
-pub mod pending;
-mod steps;
 pub mod writing;

@@ -14,7 +14,6 @@ ghost use Rattle.site_operands.specs.Pointers.{pointer_number};
 ghost use Rattle.site_operands.specs.Sites.{operands_of, all_of, ShowsSite};
 ghost use Rattle.overlay_net.specs.Reading.{IsSite, ShowsSlot};
 
-use crate::steps::{choose, truth, without};
 use block_core::block::BlockWire;
 use block_core::name::Name;
 use cell_core::site::Act;
@@ -22,6 +21,7 @@ use cell_nets::operand::Operand;
 use cell_nets::wires::cut;
 use site_operands::SiteNets;
 use std::alloc::{AllocError, Global};
+use step_nets::{choose, truth, without};
 use xdp_maps::decl::{MapDecl, MapKind};
 
 /// Whether the operation at a site writes: 1 or 0, by its guard and by what it answered.

@@ -141,7 +141,7 @@ past_moved b fit t fs maps k (Some x) (y ∷ ys) past =
 wrote_grows : (b : Build) (ts us : List Touched) (num : ℕ) (r : Resource) → Grows ts us → Wrote b ts num r → Wrote b us num r
 wrote_grows b ts us num r g (i, l, m, has) = (i, l, m, g i r has)
 
-all_map : {A : Type 0} (P Q : A → Type 0) → ((a : A) → P a → Q a) → (xs : List A) → AllByRecursion P xs → AllByRecursion Q xs
+pub all_map : {A : Type 0} (P Q : A → Type 0) → ((a : A) → P a → Q a) → (xs : List A) → AllByRecursion P xs → AllByRecursion Q xs
 all_map P Q f [] h = tt
 all_map P Q f (x ∷ xs) h = (f x h.0, all_map P Q f xs h.1)
 

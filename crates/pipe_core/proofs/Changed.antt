@@ -242,7 +242,7 @@ module _ (in_turn : CommitsInTurn) (right : ReadsInTurn) (p : ProgramView) (t : 
           none (InSlot m) at f = cc
           none (Pending i) at f =
               let o = src.own i (sym found ∙ at) in
-              let low = o.1 in
+              let low = o.before in
               let same : i ≡ j = (Decides-eqb i j).0 f in
               absurd (omega (arith, low, same))
 

@@ -42,7 +42,7 @@ spelled_bytes (x ∷ words) = All-append (λ b. b < 256) (bytes_low_first 0 8 x)
 bytes_are : (n : ℕ) (words : List ℕ) → n ≤ 8 * length words → IsBytes n (bytes_of n words)
 bytes_are n words l = record { len = length-take-le n (spelled words) (omega (arith, l, spelled_length words)); bytes_fit = All-take (λ b. b < 256) n (spelled words) (spelled_bytes words) }
 
-key_is : (d : MapDecl) (a : Act) (words xs : List ℕ) → key_in (operation_with d a words xs) ≡ bytes_of d.key words
+pub key_is : (d : MapDecl) (a : Act) (words xs : List ℕ) → key_in (operation_with d a words xs) ≡ bytes_of d.key words
 key_is d act.Lookup words xs = refl
 key_is d act.Update words xs = refl
 key_is d act.Delete words xs = refl

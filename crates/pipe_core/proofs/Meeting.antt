@@ -55,10 +55,18 @@ numbers_pass f from (suc n) = by (f from) refl (widened (filter f (numbers (suc 
 -- ---- where a pointer comes from
 
 module _ (p : ProgramView) (t : TableState) (h : Held) (reads : HoldsReads p t h) where
+  -- an update of the packet's own that wrote under a key of a map
+  pub record Own (bound m : ℕ) (under : List ℕ) (i : ℕ) : Type 0 where
+    pub key : asked_key t.decls h (site_at p.sites i) ≡ under
+    pub before : i < bound
+    pub guard : guard_on h (site_at p.sites i) ≡ true
+    pub updates : (site_at p.sites i).act ≡ act.Update
+    pub map : (site_at p.sites i).map ≡ m
+
   -- under this key: a slot that has it, or an update of the packet's own with it
   pub record Source (before m : ℕ) (key : List ℕ) (q : Pointer) : Type 0 where
     pub slot : (n : ℕ) → q ≡ InSlot n → slot_pointer (table_at t m) key ≡ InSlot n
-    pub own : (i : ℕ) → q ≡ Pending i → (asked_key t.decls h (site_at p.sites i) ≡ key) × (i < before)
+    pub own : (i : ℕ) → q ≡ Pending i → Own before m key i
 
   no_own : (slots : List Slot) (key : List ℕ) (i : ℕ) → slot_pointer slots key ≡ Pending i → ⊥
   no_own slots key i = by (nat_lt (slot_of slots key) (length slots))
@@ -79,8 +87,8 @@ module _ (p : ProgramView) (t : TableState) (h : Held) (reads : HoldsReads p t h
       none : (i : ℕ) → Null ≡ Pending i → ⊥
       none i e = cc
 
-  of_own : (before m : ℕ) (key : List ℕ) (i : ℕ) → asked_key t.decls h (site_at p.sites i) ≡ key → i < before → Source before m key (Pending i)
-  of_own before m key i same l = record { slot = λ n e. absurd (no n e); own = λ k e. subst (λ (x : ℕ). (asked_key t.decls h (site_at p.sites x) ≡ key) × (x < before)) (one k e) (same, l) }
+  of_own : (before m : ℕ) (key : List ℕ) (i : ℕ) → Own before m key i → Source before m key (Pending i)
+  of_own before m key i own = record { slot = λ n e. absurd (no n e); own = λ k e. subst (λ (x : ℕ). Own before m key x) (one k e) own }
     where
       no : (n : ℕ) → Pending i ≡ InSlot n → ⊥
       no n e = cc
@@ -89,7 +97,10 @@ module _ (p : ProgramView) (t : TableState) (h : Held) (reads : HoldsReads p t h
       one k e = cc
 
   later : (n before m : ℕ) (key : List ℕ) (q : Pointer) → n ≤ before → Source n m key q → Source before m key q
-  later n before m key q l s = record { slot = s.slot; own = λ i e. let o = s.own i e in (o.0, let z = o.1 in omega (arith, z, l)) }
+  later n before m key q l s = record {
+    slot = s.slot;
+    own = λ i e. let o = s.own i e in record { key = o.key; before = let z = o.before in omega (arith, z, l); guard = o.guard; updates = o.updates; map = o.map };
+  }
 
   abbrev pub Sourced : ℕ → Type 0
   Sourced j = Source j (site_at p.sites j).map (asked_key t.decls h (site_at p.sites j)) (found_pointer p t h (earlier p j) j)
@@ -110,7 +121,7 @@ module _ (p : ProgramView) (t : TableState) (h : Held) (reads : HoldsReads p t h
           subst (Source bound m key) (sym there ∙ e) (later i bound m key (found_pointer p t h (earlier p i) i) (omega (arith, low)) (subst (λ n. Source i n key (found_pointer p t h (earlier p i) i)) same (subst (λ n. Source i x.map n (found_pointer p t h (earlier p i) i)) k (before guard is))))
 
       updates : asked_key t.decls h (site_at p.sites i) ≡ key → guard_on h (site_at p.sites i) ≡ true → (site_at p.sites i).act ≡ act.Update → (q : Pointer) → pointer_in h (found_cell p.cells i) ≡ q → Source bound m key (update_pointer i q)
-      updates k guard is Null e = of_own bound m key i k low
+      updates k guard is Null e = of_own bound m key i (record { key = k; before = low; guard = guard; updates = is; map = same })
       updates k guard is (InSlot n) e = sourced k guard is (InSlot n) e
       updates k guard is (Pending n) e = sourced k guard is (Pending n) e
 
@@ -326,7 +337,7 @@ module _ (right : ReadsInTurn) (p : ProgramView) (t : TableState) (h : Held) (ta
       let below = ac.before in
       let found = reads.found ac.lookup (omega (arith, below, l)) ac.guard (ap (λ (a : Act). asks a (decl_of t.decls (site_at p.sites ac.lookup).map).kind) ac.looks_up) in
       let src = sourced_below p t h reads (suc ac.lookup) ac.lookup (omega arith) (omega (arith, below, l)) in
-      let own : asked_key t.decls h (site_at p.sites i) ≡ asked_key t.decls h (site_at p.sites ac.lookup) = (src.own i (sym found ∙ sym ac.pointer ∙ at)).0 in
+      let own : asked_key t.decls h (site_at p.sites i) ≡ asked_key t.decls h (site_at p.sites ac.lookup) = (src.own i (sym found ∙ sym ac.pointer ∙ at)).key in
       let changed : key ≡ e.key = sym (own ∙ ac.key ∙ k) ∙ (bytes_eq-Decides (asked_key t.decls h (site_at p.sites i)) e.key).0 touched in
       inr (inl (subst (λ (x : List ℕ). Contains rs (Content e.map x)) changed (subst (λ m. Contains rs (Content m key)) same has)))
 

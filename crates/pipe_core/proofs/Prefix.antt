@@ -42,13 +42,13 @@ unsited op e = refl
 
 module _ (seen : SeesEarlier) (right : ReadsInTurn) (keep : ReadsKeep) (rise : RowsRise) (b : Build) (t : TableState) (fit : IsSuited t.decls b) (tables : AreTables t) (packet : PacketIn) (r : ℕ) (x : Packet) (a : Agrees b t packet r x) where
   -- what the packet holds, completed
-  abbrev g : Held
+  abbrev pub g : Held
   g = completed b t packet r x.held (length b.program.cells)
 
-  whole : IsCompleted b t packet r x.held g
+  pub whole : IsCompleted b t packet r x.held g
   whole = is_completed keep rise t.decls b fit t packet r x.held a.values a.pointers
 
-  fits : (c : ℕ) → c < length b.program.cells → is_read (cell_at b.program.cells c).op ≡ true → held_value g c < 2 ^ (cell_at b.program.cells c).width
+  pub fits : (c : ℕ) → c < length b.program.cells → is_read (cell_at b.program.cells c).op ≡ true → held_value g c < 2 ^ (cell_at b.program.cells c).width
   fits c l read = by (is_off b g (site_in d.op)) refl
     where
       d : CellView
@@ -64,7 +64,7 @@ module _ (seen : SeesEarlier) (right : ReadsInTurn) (keep : ReadsKeep) (rise : R
           subst (λ y. y < 2 ^ d.width) (sym (whole.made c l e).value) (mod-lt (n / 2 ^ d.from) (pow_pos d.width))
 
   -- it is a run on the maps as they are
-  runs : IsCellRun packet (maps_of t) b.program (held_value g)
+  pub runs : IsCellRun packet (maps_of t) b.program (held_value g)
   runs = cell_run seen right b t packet (record { held = g; marks = [] }) fit tables (λ c l low none. whole.made c l (ap (is_off b g) none)) (λ c l low read. fits c l read)
       (λ c j l e on_path. whole.made c l (ap (is_off b g) e ∙ ap not on_path)) packet
       (record {
@@ -119,7 +119,7 @@ module _ (seen : SeesEarlier) (right : ReadsInTurn) (keep : ReadsKeep) (rise : R
       by None e = both_made c l low (ap (excused_as b r x) e) (ap (is_off b g) e) before
       by (Some j) e = read j e (guard_on g (site_at b.program.sites j)) refl
 
-  same_below : (n c : ℕ) → c < n → c < length b.program.cells → b.plan.row c < r → IsUnmarkedBefore b (held_value g) x (suc c) →
+  pub same_below : (n c : ℕ) → c < n → c < length b.program.cells → b.plan.row c < r → IsUnmarkedBefore b (held_value g) x (suc c) →
       SameCell x.held g c
   same_below zero c m l low free = absurd (omega (arith, m))
   same_below (suc n) c m l low free =

@@ -26,13 +26,13 @@ use Rattle.pipe_core.proofs.Agreeing.{MadeSame, made_same}
 use Rattle.pipe_core.proofs.Striking.{found_is, answer_is}
 
 -- the rows of the cells before c; what stands behind is moved up to row r, where a read of that row does not look
-abbrev rows_before : (ℕ → ℕ) → ℕ → ℕ → ℕ → ℕ
+abbrev pub rows_before : (ℕ → ℕ) → ℕ → ℕ → ℕ → ℕ
 rows_before row r c d = if nat_lt d c then row d else r
 
 same_row : (row : ℕ → ℕ) (r c d : ℕ) → d < c → rows_before row r c d ≡ row d
 same_row row r c d l = ap (λ (b : Bool). if b then row d else r) (lt-ltb d c l)
 
-lower : (row : ℕ → ℕ) (r c d : ℕ) → rows_before row r c d < r → (d < c) × (row d < r)
+pub lower : (row : ℕ → ℕ) (r c d : ℕ) → rows_before row r c d < r → (d < c) × (row d < r)
 lower row r c d l = by (nat_lt d c) refl l
   where
     by : (b : Bool) → nat_lt d c ≡ b → (if b then row d else r) < r → (d < c) × (row d < r)
@@ -108,14 +108,14 @@ module _ (decls : List MapDecl) (b : Build) (fit : IsSuited decls b) (c j : ℕ)
       let before = λ (d : ℕ). d < c in
       All-append before (taken_by s) (read_cells b.program.cells i) (All-cons before s.guard (s.key ++ s.operands) w.guard (All-append before s.key s.operands w.key w.operands)) (reads_before i m)
 
-  pending_before : (r : ℕ) → pending b.program (rows_before b.plan.row r c) r j ≡ pending b.program b.plan.row r j
+  pub pending_before : (r : ℕ) → pending b.program (rows_before b.plan.row r c) r j ≡ pending b.program b.plan.row r j
   pending_before r = filter_below (is_pending b.program (rows_before b.plan.row r c) r j) (is_pending b.program b.plan.row r j) 0 j (λ i m.
       let n : i < j = omega (arith, m) in
       ap (λ (q : Bool). ((site_at b.program.sites i).map == (site_at b.program.sites j).map) && records (site_at b.program.sites i).act && q)
       (all_agree (λ d. nat_lt (rows_before b.plan.row r c d) r) (λ d. nat_lt (b.plan.row d) r) (parts b.program i)
       (λ k d o. ap (λ q. nat_lt q r) (same_row b.plan.row r c (get_or (parts b.program i) k d) (parts_before i n k d o)))))
 
-  looks_before : (r : ℕ) → LooksBelow b.plan.row r (site_at b.program.sites j) → LooksBelow (rows_before b.plan.row r c) r (site_at b.program.sites j)
+  pub looks_before : (r : ℕ) → LooksBelow b.plan.row r (site_at b.program.sites j) → LooksBelow (rows_before b.plan.row r c) r (site_at b.program.sites j)
   looks_before r below =
       let s = site_at b.program.sites j in
       let w = fit.sited.below c j j l e (omega arith) in

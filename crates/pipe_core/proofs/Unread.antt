@@ -81,7 +81,7 @@ placed_drop P fs k (suc n) (None ∷ xs) h = let e : suc k + n ≡ k + suc n = o
 placed_drop P fs k (suc n) (Some x ∷ xs) h = let e : suc k + n ≡ k + suc n = omega arith in subst (λ m. Placed P fs m (drop n xs)) e (placed_drop P fs (suc k) n xs h.1)
 
 -- the packet of one place, with its own frame
-placed_there : (P : ℕ → Arrival → Packet → Type 0) (fs : List Arrival) (k n : ℕ) (xs : List (Option Packet)) (x : Packet) → Placed P fs k xs → place_at xs n ≡ Some x → P (k + n) (get_or fs (inside (drop (suc n) xs)) no_frame) x
+pub placed_there : (P : ℕ → Arrival → Packet → Type 0) (fs : List Arrival) (k n : ℕ) (xs : List (Option Packet)) (x : Packet) → Placed P fs k xs → place_at xs n ≡ Some x → P (k + n) (get_or fs (inside (drop (suc n) xs)) no_frame) x
 placed_there P fs k n [] x h e = cc
 placed_there P fs k zero (None ∷ xs) x h e = cc
 placed_there P fs k zero (Some y ∷ xs) x h e =

@@ -25,3 +25,5 @@ pub mod StateView
 pub mod Piped
 pub mod Meeting
 pub mod Blamed
+pub mod Found
+pub mod Unconflicting

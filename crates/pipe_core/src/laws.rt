@@ -8,6 +8,8 @@ ghost use Rattle.pipe_core.specs.Forward.{EndsForward};
 ghost use Rattle.pipe_core.specs.Apart.{RunsElsewhere, RunsComplete, InTurnToo, CommitsAreWrites, EndsUnsent};
 ghost use Rattle.pipe_core.specs.Meeting.{TouchesWhatIsRead, ChangesAreWritten};
 ghost use Rattle.pipe_core.specs.Blamed.{KeepsBlamed, BeginsBlamed, ReadsNothingWritten};
+ghost use Rattle.pipe_core.specs.Found.{KeepsFound, BeginsFound};
+ghost use Rattle.pipe_core.specs.Unconflicting.{NothingIsDue, StaysForward, EndsWithoutConflicts};
 ghost use Rattle.pipe_core.specs.Sending.{AlwaysSendsBack};
 ghost use Rattle.pipe_core.specs.Agreement.{EnteringAgrees, StrikingAgrees};
 ghost use Rattle.pipe_core.specs.Agreed.{KeepsAgreed, PathsAreMade};
@@ -207,4 +209,42 @@ pub fn unread()
     hazard_core::laws::sees_earlier();
     hazard_core::laws::maps_in_turn();
     cell_core::laws::values_keep();
+}
+
+/// What an update found that a packet holds stays what it finds now, but where the packet has seen its key come or go.
+pub fn found()
+    ensures clock { KeepsFound }
+    ensures begins { BeginsFound }
+{
+    right();
+    hazard_core::laws::changes();
+    hazard_core::laws::reads_keep();
+}
+
+/// Where no runs of the frames conflict, and nothing was sent back so far, no packet is due: nothing is sent back.
+pub fn nothing_due()
+    ensures { NothingIsDue }
+{
+    meeting();
+    unread();
+    cell_core::laws::rows_rise();
+    hazard_core::laws::reads_keep();
+    hazard_core::laws::sees_earlier();
+    hazard_core::laws::maps_in_turn();
+}
+
+/// Where no runs of its frames conflict, nothing is sent back in a full drive, so it ends in as many clocks as one that goes forward.
+pub fn ends_without_conflicts()
+    ensures forward { StaysForward }
+    ensures ends { EndsWithoutConflicts }
+{
+    runs_in_turn();
+    right();
+    computed();
+    blamed();
+    found();
+    nothing_due();
+    commits();
+    hazard_core::laws::loads_tables();
+    hazard_core::laws::tables_stand();
 }

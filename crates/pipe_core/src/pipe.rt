@@ -6,7 +6,8 @@ ghost use Rattle.std.specs.Option.{option_and_then};
 ghost use Rattle.cell_core.specs.Cells.{bit};
 ghost use Rattle.cell_core.specs.Formed.{AllFit};
 ghost use Rattle.cell_core.specs.View.{program_of};
-ghost use Rattle.hazard_core.specs.Tables.{tables_of};
+ghost use Rattle.hazard_core.specs.Tabled.{AreTables};
+ghost use Rattle.hazard_core.specs.Tables.{maps_of};
 ghost use Rattle.pipe_core.specs.Machine.{Packet, Commits, Writes, Moves, new_state, inside, place_at, swept, some_send, chosen, is_calm, is_ready, commits_or_moves, host_ready, host_writes, host_value, turn_as, worked, work, gathered, scattered, beat_over, shown_beat, taken_beat, clock, output};
 ghost use Rattle.pipe_core.specs.Planned.{IsUsable};
 ghost use Rattle.pipe_core.specs.BuildView.{BuildView, build_in};
@@ -27,6 +28,7 @@ use hazard_core::tables::Tables;
 use row_plan::RowPlan;
 use std::alloc::{AllocError, Global};
 use std::marker::Model;
+use table_maps::maps_of;
 use xdp_maps::state::Maps;
 
 /// A pipe: a program with its plan, the tables of its maps, the frames inside, and the packets in their places. Contracts see a `Piped`.
@@ -187,6 +189,15 @@ impl<'a> Pipe<'a> {
         ensures { result.now ≡ self.now.state.tables }
     {
         &self.tables
+    }
+
+    /// The maps that the tables stand for, as a copy. The tables are those of maps over all clocks while the host is silent.
+    pub fn maps(&self, alloc: Global) -> Result<Maps, AllocError>
+        requires { length self.now.state.tables.decls < 2 ^ 32 }
+        ensures decls { IfOk result (λ maps. maps.decls ≡ self.now.state.tables.decls) }
+        ensures maps { IfOk result (λ maps. AreTables self.now.state.tables → maps ≡ maps_of self.now.state.tables) }
+    {
+        maps_of(alloc, &self.tables)
     }
 
     /// Whether a beat that is offered fits the frame that comes.

@@ -4,7 +4,8 @@ ghost use Rattle.pipe_core.specs.Points.{ClocksKeepPoints};
 
 use crate::laws;
 
-/// Each clock keeps the points: order, cells, marks, what packets hold of the maps, and runs one after another.
+/// Each clock keeps the points: order, cells, marks, what packets hold of the maps, runs one after another, whose changes packets have seen, and what
+/// updates found.
 pub fn points()
     ensures { ClocksKeepPoints }
 {
@@ -13,4 +14,7 @@ pub fn points()
     laws::marks();
     laws::right();
     laws::runs_in_turn();
+    laws::ahead();
+    laws::blamed();
+    laws::found();
 }

@@ -1,5 +1,5 @@
 -- With the edge to the first node alone there is nothing to read.
-use Rattle.std.proofs.Common.{◌<◌, [], length, ap, arith}
+use Rattle.std.proofs.Common.{length, ap, arith}
 use Rattle.predicate_core.specs.Laws.{OpensRead}
 
 pub opens_read : OpensRead

@@ -1,6 +1,6 @@
 -- Reads among more cells and sites, where new cells read new sites alone.
-use Rattle.std.proofs.Common.{◌≡◌, ℕ, ◌<◌, ◌≤◌, ◌⊎◌, inl, inr, zero, suc, true, Some, List, [], ◌∷◌, ◌++◌, length, length-append, get_or, refl, sym, ◌∙◌, ap, subst, arith}
-use Rattle.std.specs.Prelude.{slice_index, Contains}
+use Rattle.std.proofs.Common.{◌≡◌, ℕ, ◌<◌, ◌≤◌, ◌⊎◌, inl, inr, zero, suc, true, Some, List, [], ◌∷◌, ◌++◌, length, get_or, sym, ◌∙◌, ap, subst, arith}
+use Rattle.std.specs.Prelude.{Contains}
 use Rattle.std.proofs.Math.ListN.{get_or-append}
 use Rattle.std.proofs.lemmas.Bool.{cases_lt}
 use Rattle.std.proofs.lemmas.List.{append-nil}
@@ -52,6 +52,11 @@ module _ (R : ℕ → ℕ → Type 0) (p q : ProgramView) (more : List SiteView)
         r.one c d a b (kept_in c j a reads) (ap (λ (x : CellView). x.op) (sym (grows.kept d b)) ∙ same ∙ ap (λ (x : CellView). x.op) (grows.kept c a));
     finds = λ c l o. let a = older c j low l (ap site_in o) in r.finds c a (ap (λ (x : CellView). x.op) (sym (grows.kept c a)) ∙ o);
     answers = λ c l o. let a = older c j low l (ap site_in o) in r.answers c a (ap (λ (x : CellView). x.op) (sym (grows.kept c a)) ∙ o);
+    takes = λ c x l reads h. let a = older c j low l reads in subst (λ (y : CellView). Contains y.ins x) (sym (grows.kept c a)) (r.takes c x a (kept_in c j a reads) h);
+    alike = λ c d l m first second.
+        let a = older c j low l first in
+        let b = older d j low m second in
+        ap (λ (y : CellView). y.ins) (grows.kept c a) ∙ r.alike c d a b (kept_in c j a first) (kept_in d j b second) ∙ ap (λ (y : CellView). y.ins) (sym (grows.kept d b));
   }
 
   pub belongs_before : (i x : ℕ) → i < length p.sites → BelongsTo q.cells i (site_at q.sites i) x → BelongsTo p.cells i (site_at p.sites i) x

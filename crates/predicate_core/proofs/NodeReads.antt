@@ -1,19 +1,17 @@
 -- From one node to the next the reads of sites are made, and wait for the writes before them.
-use Rattle.std.proofs.Common.{◌≡◌, ◌≢◌, ◌∙◌, ℕ, ◌+◌, ◌-◌, ◌<◌, ◌≤◌, ◌⊎◌, inl, inr, true, false, Bool, if◌then◌else◌, Some, List, [], ◌∷◌, ◌++◌, length, length-append, get_or, replicate, map as map_list, refl, sym, ap, subst, arith}
-use Rattle.std.specs.Prelude.{slice_index, slice_set, All, Contains}
+use Rattle.std.proofs.Common.{◌≡◌, ◌≢◌, ◌∙◌, ℕ, ◌+◌, ◌-◌, ◌<◌, ◌≤◌, ◌⊎◌, inl, inr, true, false, Bool, if◌then◌else◌, Some, List, [], ◌∷◌, ◌++◌, length, length-append, get_or, replicate, refl, sym, ap, subst, arith}
+use Rattle.std.specs.Prelude.{slice_index, Contains}
 use Rattle.std.proofs.Math.ListN.{get_or-append}
 use Rattle.std.proofs.Math.Seq.{get_or-append_seam, get_or-append_right}
-use Rattle.std.proofs.lemmas.Bool.{cases_lt, cases_eq, false≢true}
-use Rattle.std.proofs.lemmas.List.{append-nil, append_cancel_left, get_or_past, get_or-replicate, get_or-set_same, get_or-set_other}
+use Rattle.std.proofs.lemmas.Bool.{cases_lt, cases_eq}
+use Rattle.std.proofs.lemmas.List.{append-nil, get_or_past, get_or-replicate, get_or-set_same, get_or-set_other}
 use Rattle.std.proofs.lemmas.List.Elements.{Contains-append_left, Contains-append_right, Contains-get_or}
 use Rattle.bpf_isa.specs.declared.instruction.Insn.{Insn}
-use Rattle.xdp_maps.specs.declared.decl.MapDecl.{MapDecl}
 use Rattle.xdp_machine.specs.State.{PacketIn}
-use Rattle.kind_core.specs.declared.kind.Kinds.{Kinds}
 use Rattle.cell_core.specs.declared.operator.Operator.{Operator}
 use Rattle.cell_core.specs.declared.operator.Operator.TheVariants.{Wire, Phi}
 use Rattle.cell_core.specs.Cells.{CellView, IsRun, no_cell, cell_at, site_in, on}
-use Rattle.cell_core.specs.Sites.{SiteView, ProgramView, no_site, site_at, records}
+use Rattle.cell_core.specs.Sites.{SiteView, no_site, site_at, records}
 use Rattle.cell_core.specs.Rows.{greatest, taken_by}
 use Rattle.operator_cells.specs.Making.{Grows, GrowsWith}
 use Rattle.operator_cells.specs.Following.{picked, Goes, IsFollowed}
@@ -26,18 +24,18 @@ use Rattle.held_cells.specs.Held.{PointerView}
 use Rattle.held_cells.specs.Rows.{map_used}
 use Rattle.held_cells.specs.Steps.{Steps, ReadsOwn}
 use Rattle.held_cells.specs.Pointing.{InstructionPoints}
-use Rattle.held_cells.specs.Reading.{SiteIsRead, OperationReads, AreRanks, IsBehind, BelongsTo, ReadsAreMade, ReadsWait}
+use Rattle.held_cells.specs.Reading.{SiteIsRead, OperationReads, AreRanks, IsBehind, BelongsTo}
 use Rattle.edge_cells.specs.declared.joining.Here.{Here}
 use Rattle.step_cells.specs.Stepping.{MadeView}
 use Rattle.step_cells.specs.Pointing.{NodePoints}
-use Rattle.step_cells.specs.Waiting.{waiting_for, WaitsFor}
+use Rattle.step_cells.specs.Waiting.{WaitsFor}
 use Rattle.predicate_core.specs.Making.{Making, IsSoFar, Arrives}
 use Rattle.predicate_core.specs.Laws.{NodesRead}
 use Rattle.predicate_core.specs.Gathering.{PassesTo}
 use Rattle.predicate_core.specs.Pointing.{PointSoFar, ComesAlong, ArrivePoints}
 use Rattle.predicate_core.specs.Reading.{reading_of, ArePending, ReadSoFar, PendingMeets}
 use Rattle.predicate_core.proofs.NodePoints as points
-use Rattle.predicate_core.proofs.LaterReads.{most, ranks_before, site_kept, older, read_more, belongs_before, waits_more}
+use Rattle.predicate_core.proofs.LaterReads.{most, ranks_before, site_kept, read_more, belongs_before, waits_more}
 
 -- with any values of cells zeros may go
 picked_zero : (v : ℕ → ℕ) (ins : List ℕ) → 0 ≡ picked v (λ k. 0) ins

@@ -6,8 +6,8 @@ use Rattle.std.proofs.lemmas.List.{get_or_past}
 use Rattle.cell_core.specs.Cells.{CellView, cell_at, is_read, site_in}
 use Rattle.cell_core.specs.Sites.{SiteView, ProgramView, site_at}
 use Rattle.cell_core.specs.Rows.{greatest, taken_by}
+use Rattle.predicate_core.specs.Buildable.{IsBuildable}
 use Rattle.row_plan.specs.Plan.{Plan, IsPlan, read_row, site_row}
-use Rattle.program_plan.specs.Suited.{AllHaveRows}
 use Rattle.program_plan.proofs.Lists.{greatest_above, greatest_within, greatest_append}
 use Rattle.program_plan.proofs.Operators.{read_of_site}
 
@@ -74,10 +74,11 @@ module _ (p : ProgramView) (plan : Plan) (is : IsPlan p plan) where
       let both = greatest_append row s.key s.operands in
       record { guard = omega (arith, above); key = omega (arith, above, both); operands = omega (arith, above, both) }
 
-  module _ (has : AllHaveRows p plan) where
+  -- the cells of the answer stand behind all nodes, but in no later row
+  module _ (buildable : IsBuildable p) where
     pub row_within : (k : ℕ) → row k ≤ plan.last
     row_within k = elim (cases_lt k (length p.cells)) [
-      | inl below ↦ has k below
+      | inl below ↦ let low = buildable.rows row is.rows k below in omega (arith, low, is.last)
       | inr past ↦ let e = get_or_past plan.rows k 0 (omega (arith, past, is.row_count)) in omega (arith, e)
     ]
 

@@ -17,10 +17,11 @@ use Rattle.cell_core.specs.Rows.{greatest}
 use Rattle.held_cells.specs.Reading.{SiteIsRead, ReadsAreMade}
 use Rattle.hazard_core.specs.Tables.{decl_of}
 use Rattle.hazard_core.specs.Held.{is_found_of, is_answer_of, found_cell, answer_cell, read_cells}
+use Rattle.predicate_core.specs.Buildable.{IsBuildable}
 use Rattle.row_plan.specs.Plan.{Plan, IsPlan}
 use Rattle.pipe_core.specs.Agreement.{ReadsArePlanned}
 use Rattle.pipe_core.specs.Pipeable.{TellsDone}
-use Rattle.program_plan.specs.Suited.{build_of, AllHaveRows, ReadsTake}
+use Rattle.program_plan.specs.Suited.{build_of}
 use Rattle.program_plan.proofs.Lists.{all_by, all_split, all_passed, greatest_above}
 use Rattle.program_plan.proofs.Planning.{row_within}
 use Rattle.program_plan.proofs.Operators.{heavy_of_site, found_is, answer_is, is_found, is_answer, looked}
@@ -83,7 +84,7 @@ module _ (decls : List MapDecl) (p : ProgramView) (reads : ReadsAreMade decls p)
       let same : c ≡ answer_cell p.cells j = s.one c (answer_cell p.cells j) a.1 there (ap site_in a.2) (answer_reads p.cells j there ∙ sym a.2) in
       subst (TellsDone p.cells) same (record { in_range = a.1; errors = errors_tell (cell_at p.cells c).from (cell_at p.cells c).width a.4 a.3 })
 
-  module _ (plan : Plan) (slots : ℕ) (formed : AreFormed p.cells) (sited : AreSited decls p) (is : IsPlan p plan) (has : AllHaveRows p plan) (took : ReadsTake p) where
+  module _ (plan : Plan) (slots : ℕ) (formed : AreFormed p.cells) (sited : AreSited decls p) (is : IsPlan p plan) (buildable : IsBuildable p) where
     abbrev row : ℕ → ℕ
     row = slice_index plan.rows
 
@@ -101,13 +102,13 @@ module _ (decls : List MapDecl) (p : ProgramView) (reads : ReadsAreMade decls p)
         let xs : List ℕ = s.key ++ take 1 (drop (pointer_operand s.act) s.operands) in
         let ins : List ℕ = (cell_at p.cells c).ins in
         let x : ℕ = get_or xs k d in
-        let there = took.takes c j x l e (All-contains_itself xs k d lt) in
+        let there = (read_of c j l e).takes c x l e (All-contains_itself xs k d lt) in
         let up = All-contains (λ i. row i ≤ greatest row ins) ins x (greatest_above row ins) there in
         omega (arith, up, row_is c j l e)
 
     pub reads_planned : ReadsArePlanned (build_of p plan slots)
     reads_planned = record {
-      planned = record { formed = formed; rows = is.rows; last = λ c l. omega (arith, row_within p plan is has c) };
+      planned = record { formed = formed; rows = is.rows; last = λ c l. omega (arith, row_within p plan is buildable c) };
       sites = sited.known;
       below = λ c j l e.
           let s = site_at p.sites j in
@@ -116,7 +117,7 @@ module _ (decls : List MapDecl) (p : ProgramView) (reads : ReadsAreMade decls p)
           let q = all_split P s.key looks (all_by P (s.key ++ looks) (takes_below c j l e)) in
           (q.0, looked P s.act s.operands q.1);
       together = λ c d j lc ld ec ed.
-          row_is c j lc ec ∙ ap (λ ins. suc (greatest row ins)) (took.alike c d j lc ld ec ed) ∙ sym (row_is d j ld ed);
+          row_is c j lc ec ∙ ap (λ ins. suc (greatest row ins)) ((read_of c j lc ec).alike c d lc ld ec ed) ∙ sym (row_is d j ld ed);
       finds = λ c j l e. (read_of c j l (ap site_in e)).finds c l e;
       answers = λ c j l e. (read_of c j l (ap site_in e)).answers c l e;
     }

@@ -17,17 +17,17 @@ use Rattle.program_plan.proofs.Completing.{IsCompleted, completed}
 use Rattle.program_plan.proofs.Pathing.{seen, accessed}
 
 pub suited : HaveValues → RowsRise → RowsStandBehind → ProgramsAreSuited
-suited have rise stand g p plan slots law is has took =
+suited have rise stand g p plan slots law buildable is =
     let b : Build = build_of p plan slots in
     let early = read_early p plan is in
     let whole : (t : TableState) (packet : PacketIn) (h : Held) → IsOwn b t packet h → FitsReads b h → IsCompleted b packet h =
     completed have rise b law.computes.formed is.rows early in
     record {
       rows = record {
-        reads = reads_planned g.decls p law.reads plan slots law.computes.formed law.sited is has took;
+        reads = reads_planned g.decls p law.reads plan slots law.computes.formed law.sited is buildable;
         read_rows = early;
         site_rows = λ j l. all_by (λ c. b.plan.row c ≤ plan.commit) (taken_by (site_at p.sites j)) (taken_early p plan is j l);
-        commit = commit_within p plan is has;
+        commit = commit_within p plan is buildable;
       };
       fits = law.sited.fits;
       sited = law.sited;

@@ -2,7 +2,7 @@
 
 ghost use Rattle.program_plan.specs.Suited.{ProgramsAreSuited};
 
-/// Programs whose cells keep the law of cells are suited for the pipe by their plans, with as many slots as one likes.
+/// Programs whose cells keep the law of cells and can be built, as those of `to_cells` do, are suited for the pipe by their plans, with as many slots as one likes.
 pub fn suited()
     ensures { ProgramsAreSuited }
 {

@@ -1,8 +1,8 @@
 //! Cases of words of bits.
 
-use crate::numbers::numbers;
 use anyhow::{Context, Result, bail, ensure};
 use std::alloc::Global;
+use suite_cases::numbers::numbers;
 
 /// What a function of `bits_core` gives, if the verb is one.
 pub(crate) fn answer(alloc: Global, verb: &str, rest: &str) -> Result<Option<String>> {

@@ -1,10 +1,10 @@
 //! Objects and captures that are made from a number.
 
-use crate::bytes::Named;
-use crate::numbers::{front, number_32};
 use anyhow::Result;
 use flow_demo::make;
 use std::alloc::Global;
+use suite_cases::bytes::Named;
+use suite_cases::numbers::{front, number_32};
 
 /// Gives an object and a capture that are made from a number their names.
 pub(crate) fn keep(alloc: Global, named: &mut Named, rest: &str) -> Result<()> {

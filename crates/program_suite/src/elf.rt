@@ -1,11 +1,11 @@
 //! Cases of ELF files.
 
-use crate::bytes::Named;
-use crate::numbers::{front, number_32};
 use anyhow::{Result, ensure};
 use elf_view::ElfView;
 use std::alloc::Global;
 use std::str;
+use suite_cases::bytes::Named;
+use suite_cases::numbers::{front, number_32};
 
 /// What is asked of ELF files, if the verb is one of theirs.
 pub(crate) fn answer(

@@ -1,16 +1,30 @@
 //! Cases of the loops and the nodes of a program.
 
 use anyhow::Result;
-use kind_core::{BuildError, Kinds, Why};
+use kind_core::Kinds;
 use std::alloc::Global;
+use suite_cases::case::Case;
+use suite_cases::refusal::refusal;
 use unfold_core::{Edge, Loop, Node, Point, Unfolded, leave, loops, places, unfold};
 use xdp_object::Program;
 
 /// The most nodes of a walk.
 const MOST_NODES: u32 = 100;
 
-/// What is asked of a program.
-pub(crate) fn answer(alloc: Global, program: &Program, verb: &str) -> Result<String> {
+/// What is asked of the graph of the program of a case, with a byte-word in its hole, if the verb asks it.
+pub(crate) fn answer(case: &Case, verb: &str, rest: &str) -> Result<Option<String>> {
+    if !matches!(verb, "loops" | "walk" | "unfold" | "count") {
+        return Ok(None);
+    }
+    let answer = match case.program(&case.named.bytes(rest)?)? {
+        Some(program) => of_program(case.alloc, &program, verb)?,
+        None => String::from_str(case.alloc, "no program")?,
+    };
+    Ok(Some(answer))
+}
+
+// What is asked of a program.
+fn of_program(alloc: Global, program: &Program, verb: &str) -> Result<String> {
     if verb == "unfold" || verb == "count" {
         return match unfold(alloc, program) {
             Ok(graph) if verb == "count" => count(alloc, &graph),
@@ -90,16 +104,4 @@ fn show_node(alloc: Global, node: &Node) -> Result<String> {
         text.push_str(format!(in alloc; ".{copy}")?.as_str())?;
     }
     Ok(text)
-}
-
-/// The place and the number of a refusal, and of a helper its own number.
-pub(crate) fn refusal(alloc: Global, error: BuildError) -> Result<String> {
-    let BuildError::Refused(refused) = error else {
-        return Ok(String::from_str(alloc, "no memory")?);
-    };
-    let number = refused.why.number();
-    match refused.why {
-        Why::Helper(id) => Ok(format!(in alloc; "refused {} {number} {id}", refused.at)?),
-        _ => Ok(format!(in alloc; "refused {} {number}", refused.at)?),
-    }
 }

@@ -1,12 +1,12 @@
 //! Cases of objects and their programs.
 
-use crate::bytes::Named;
-use crate::numbers::{front, number, number_32};
 use crate::units::show_all;
 use anyhow::{Context, Result, bail, ensure};
 use elf_view::{ElfError, MapRecord, object_of};
 use std::alloc::Global;
 use std::str;
+use suite_cases::bytes::Named;
+use suite_cases::numbers::{front, number, number_32};
 use xdp_maps::decl::MapDecl;
 use xdp_object::{Choice, ObjectError, Program, read_object, two_units};
 

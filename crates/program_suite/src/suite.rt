@@ -1,88 +1,82 @@
 //! The lines of the cases, one at a time.
 
-use crate::bytes::Named;
-use crate::machine::Machine;
-use crate::maps::Tables;
-use crate::{bits, demo, elf, objects, units};
-use anyhow::{Context, Result};
+use crate::{bits, calls, demo, elf, graph, objects, runs, units};
+use anyhow::Result;
 use std::alloc::Global;
+use suite_cases::case::Case;
+use suite_cases::lines::Lines;
+use suite_cases::numbers::number;
 
-/// Bytes by name, and the maps and the program of the case.
+/// A case, and when its frames come.
 #[derive(Drop)]
 pub(crate) struct Suite {
-    alloc: Global,
-    named: Named,
-    tables: Tables,
-    machine: Machine,
+    case: Case,
+    time: u64,
 }
 
 impl Suite {
     /// Nothing yet.
     pub(crate) fn new(alloc: Global) -> Result<Suite> {
         Ok(Suite {
-            alloc,
-            named: Named::new(alloc),
-            tables: Tables::new(alloc)?,
-            machine: Machine::new(alloc),
+            case: Case::new(alloc)?,
+            time: 0,
         })
     }
 
-    /// Does what a line says.
-    pub(crate) fn take(&mut self, rt: &impl Print, line: &str) -> Result<()> {
-        let (words, _comment) = line.split_once(" # ").unwrap_or((line, ""));
-        let (verb, rest) = words.split_once(' ').unwrap_or((words, ""));
-        if verb == "case" {
-            self.begin()?;
-            println!(rt; "== {rest}")?;
-        } else if !self.make(verb, rest)? {
-            let answer = self.answer(verb, rest)?.context("no such verb")?;
-            println!(rt; "{line} => {answer}")?;
+    // What is asked of bytes, if the verb asks it.
+    fn answer_of_bytes(&self, verb: &str, rest: &str) -> Result<Option<String>> {
+        let (alloc, named) = (self.case.alloc, &self.case.named);
+        if verb == "differ" {
+            return Ok(Some(named.differ(rest)?));
         }
-        Ok(())
+        if let Some(answer) = bits::answer(alloc, verb, rest)? {
+            return Ok(Some(answer));
+        }
+        if let Some(answer) = units::answer(alloc, named, verb, rest)? {
+            return Ok(Some(answer));
+        }
+        if let Some(answer) = elf::answer(alloc, named, verb, rest)? {
+            return Ok(Some(answer));
+        }
+        objects::answer(alloc, named, verb, rest)
     }
 
-    // Begins a case.
+    // What is asked of the maps of the case, if the verb asks it.
+    fn answer_of_maps(&mut self, verb: &str, rest: &str) -> Result<Option<String>> {
+        if let Some(answer) = self.case.tables.answer(verb, rest)? {
+            return Ok(Some(answer));
+        }
+        let maps = &mut self.case.tables.maps;
+        calls::answer(self.case.alloc, &self.case.named, maps, verb, rest)
+    }
+}
+
+impl Lines for Suite {
     fn begin(&mut self) -> Result<()> {
-        self.tables = Tables::new(self.alloc)?;
-        self.machine = Machine::new(self.alloc);
-        Ok(())
+        self.time = 0;
+        self.case.begin()
     }
 
-    // Does what a line says that asks nothing, and whether it is such a line.
     fn make(&mut self, verb: &str, rest: &str) -> Result<bool> {
         match verb {
-            "" | "#" => {}
-            "bytes" => self.named.name(rest)?,
-            "more" => self.named.more(rest)?,
-            "object" => objects::keep(self.alloc, &mut self.named, rest)?,
-            "made" => demo::keep(self.alloc, &mut self.named, rest)?,
-            "map" => self.tables.declare(rest)?,
-            _ => return self.machine.take(&self.named, verb, rest),
+            "object" => objects::keep(self.case.alloc, &mut self.case.named, rest)?,
+            "made" => demo::keep(self.case.alloc, &mut self.case.named, rest)?,
+            "time" => self.time = number(rest)?,
+            _ => return self.case.take(verb, rest),
         }
         Ok(true)
     }
 
-    // What a line that asks is answered.
     fn answer(&mut self, verb: &str, rest: &str) -> Result<Option<String>> {
-        if verb == "differ" {
-            return Ok(Some(self.named.differ(rest)?));
-        }
-        if let Some(answer) = bits::answer(self.alloc, verb, rest)? {
+        if let Some(answer) = self.answer_of_bytes(verb, rest)? {
             return Ok(Some(answer));
         }
-        if let Some(answer) = units::answer(self.alloc, &self.named, verb, rest)? {
+        if let Some(answer) = self.answer_of_maps(verb, rest)? {
             return Ok(Some(answer));
         }
-        if let Some(answer) = elf::answer(self.alloc, &self.named, verb, rest)? {
+        if let Some(answer) = graph::answer(&self.case, verb, rest)? {
             return Ok(Some(answer));
         }
-        if let Some(answer) = objects::answer(self.alloc, &self.named, verb, rest)? {
-            return Ok(Some(answer));
-        }
-        if let Some(answer) = self.tables.answer(&self.named, verb, rest)? {
-            return Ok(Some(answer));
-        }
-        self.machine
-            .answer(&self.named, &mut self.tables, verb, rest)
+        runs::answer(&mut self.case, self.time, verb, rest)
     }
 }

@@ -35,10 +35,10 @@ counted_registers c k t a s = cond t (record {
 
 module _ {P : Type 0} (c : ControlShape) (part : P) (v : Env (Name P)) where
   module _ (k : Counter) (a : ℕ) (l : v.net (register_name part (Lap k)) ≡ bit (lap c.slots a)) (s : v.net (register_name part (Slot k)) ≡ word c.slot_bits (slot c.slots a)) where
-    lap_value : value v (at_end c part (Slot k) (TUnary Not (register part (Lap k))) (register part (Lap k))) ≡ bit (lap c.slots (suc a))
+    pub lap_value : value v (at_end c part (Slot k) (TUnary Not (register part (Lap k))) (register part (Lap k))) ≡ bit (lap c.slots (suc a))
     lap_value = (λ j. conditional (apply Equal (s j) (word c.slot_bits (c.slots - 1))) (apply_unary Not (l j)) (l j)) ∙ next_lap c.slots c.slot_bits a c.some
 
-    slot_value : value v (at_end c part (Slot k) (TConst (word c.slot_bits 0)) (TBinary Add (register part (Slot k)) (TConst (word c.slot_bits 1)))) ≡ word c.slot_bits (slot c.slots (suc a))
+    pub slot_value : value v (at_end c part (Slot k) (TConst (word c.slot_bits 0)) (TBinary Add (register part (Slot k)) (TConst (word c.slot_bits 1)))) ≡ word c.slot_bits (slot c.slots (suc a))
     slot_value = (λ j. conditional (apply Equal (s j) (word c.slot_bits (c.slots - 1))) (word c.slot_bits 0) (apply Add (s j) (word c.slot_bits 1))) ∙ next_slot c.slots c.slot_bits a c.some c.fits
 
     advanced : (w : Wire) (t : Bool) (r : Stored) → v.net (wire_name part w) ≡ bit t → done v (advance c part w k) r ≡ counted_registers c k t a r

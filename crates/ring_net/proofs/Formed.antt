@@ -33,7 +33,7 @@ use Rattle.ring_net.specs.Block.{register_widths}
 use Rattle.ring_net.specs.Trees.{register, wire, compared, at_end, counting, pass, moves, zeros, control_wires, control_statements, control_tree}
 
 -- ---- widths of what is declared
-width_replicate : (n : ℕ) (w : Word) → map word_width (replicate n w) ≡ replicate n w.width
+pub width_replicate : (n : ℕ) (w : Word) → map word_width (replicate n w) ≡ replicate n w.width
 width_replicate zero w = refl
 width_replicate (suc n) w = ap (λ ws. w.width ∷ ws) (width_replicate n w)
 
@@ -72,10 +72,10 @@ wire_width Taken = refl
 wire_width Gone = refl
 
 -- ---- first values fit
-zero_fits : (w : ℕ) → 0 < w → w ≤ 64 → word_fits (word w 0) ≡ true
+pub zero_fits : (w : ℕ) → 0 < w → w ≤ 64 → word_fits (word w 0) ≡ true
 zero_fits w h l = let p : 0 < 2 ^ w = pow_pos w in and_from (nat_lt 0 w) (nat_le w 64 && nat_lt 0 (2 ^ w)) (lt-ltb 0 w h) (and_from (nat_le w 64) (nat_lt 0 (2 ^ w)) (le-leb w 64 l) (lt-ltb 0 (2 ^ w) p))
 
-bits_fit : (n : ℕ) → words_fit (replicate n (word 1 0)) ≡ true
+pub bits_fit : (n : ℕ) → words_fit (replicate n (word 1 0)) ≡ true
 bits_fit zero = refl
 bits_fit (suc n) = bits_fit n
 
@@ -85,22 +85,22 @@ zeros_fit c =
     (λ j. slot j && (slot j && (slot j && (slot j && words_fit (replicate (suc c.stages) (word 1 0)))))) ∙ bits_fit (suc c.stages)
 
 -- ---- widths of expressions
-same_self : (m : ℕ) → 0 < m → same m m ≡ true
+pub same_self : (m : ℕ) → 0 < m → same m m ≡ true
 same_self m h = and_from (nat_lt 0 m) (m == m) (lt-ltb 0 m h) (eq-eqb m m refl)
 
-test_self : (m : ℕ) → 0 < m → test_width m m ≡ 1
+pub test_self : (m : ℕ) → 0 < m → test_width m m ≡ 1
 test_self m h = ap (λ b. cond b 1 0) (same_self m h)
 
-choice_self : (m : ℕ) → conditional_width 1 m m ≡ m
+pub choice_self : (m : ℕ) → conditional_width 1 m m ≡ m
 choice_self m = ap (λ b. cond b m 0) (eq-eqb m m refl)
 
-sum_self : (m : ℕ) → op_width Add m m ≡ m
+pub sum_self : (m : ℕ) → op_width Add m m ≡ m
 sum_self m = ap (λ b. cond b m 0) (eq-eqb m m refl)
 
-const_fits : (m n : ℕ) → m ≤ 64 → n < 2 ^ m → const_width (word m n) ≡ m
+pub const_fits : (m n : ℕ) → m ≤ 64 → n < 2 ^ m → const_width (word m n) ≡ m
 const_fits m n l h = ap (λ b. cond b m 0) (and_from (nat_le m 64) (nat_lt n (2 ^ m)) (le-leb m 64 l) (lt-ltb n (2 ^ m) h))
 
-one_small : (m : ℕ) → 0 < m → 1 < 2 ^ m
+pub one_small : (m : ℕ) → 0 < m → 1 < 2 ^ m
 one_small m h = pow-lt {i = 0} {j = m} h
 
 module _ {P : Type 0} (c : ControlShape) (part : P) (s : Scope (Name P)) (r : (k : ℕ) → s.net (name.Register part k) ≡ get_or (register_widths c) k 0) (t : (k : ℕ) → s.net (name.Wire part k) ≡ get_or bits k 0) where

@@ -68,7 +68,7 @@ module _ (n w a b : ℕ) (h : IsNear n a b) where
 
 -- ---- the next frame's slot and lap
 -- a choice by one bit
-chosen : (b : Bool) (x y : Word) → conditional (bit b) x y ≡ cond b x y
+pub chosen : (b : Bool) (x y : Word) → conditional (bit b) x y ≡ cond b x y
 chosen true x y = refl
 chosen false x y = refl
 
@@ -78,7 +78,7 @@ at_last n s h = elim (cases_eq (s + 1) n) [
   | inr o ↦ let o' : s + 1 ≢ n = o in ne_eqb s (n - 1) (λ e. o (omega arith)) ∙ sym (ne_eqb (s + 1) n o)
 ]
 
-not_bit : (b : Bool) → apply_unary Not (bit b) ≡ bit (not b)
+pub not_bit : (b : Bool) → apply_unary Not (bit b) ≡ bit (not b)
 not_bit true = refl
 not_bit false = refl
 

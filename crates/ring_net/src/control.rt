@@ -164,8 +164,8 @@ fn add_wire<P: Copy>(all: &mut Vec<BlockWire<Name<P>>>, e: Expr<Name<P>>) -> Res
     Ok(())
 }
 
-// The slots of two counters differ, or their laps compare so.
-fn compared<P: Copy>(
+/// The slots of two counters differ, or their laps compare so.
+pub fn compared<P: Copy>(
     alloc: Global,
     part: P,
     op: Op,
@@ -265,6 +265,19 @@ fn advance<P: Copy>(
 ) -> Result<Stmt<Name<P>>, AllocError>
     ensures { IfOk result (λ s. statement_of s ≡ trees.advance shape.now part when_one counter) }
 {
+    let counted = counting(alloc, part, shape, counter)?;
+    when(alloc, read_wire(part, when_one), counted)
+}
+
+/// One frame on.
+pub fn counting<P: Copy>(
+    alloc: Global,
+    part: P,
+    shape: &ControlShape,
+    counter: Counter,
+) -> Result<Stmt<Name<P>>, AllocError>
+    ensures { IfOk result (λ s. statement_of s ≡ trees.counting shape.now part counter) }
+{
     let lap = Register::Lap(counter);
     let slot = Register::Slot(counter);
     let turned = unary(alloc, UnaryOp::Not, read_register(part, lap))?;
@@ -278,7 +291,7 @@ fn advance<P: Copy>(
         Stmts::End,
     )?;
     let sets = then(alloc, Stmt::Set(register_number(lap), next_lap), rest)?;
-    when(alloc, read_wire(part, when_one), build::block(alloc, sets)?)
+    build::block(alloc, sets)
 }
 
 // A value where a slot is the last one, and another elsewhere.

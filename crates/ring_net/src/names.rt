@@ -74,7 +74,7 @@ pub(crate) fn counter_number(counter: Counter) -> u32
 }
 
 /// The number of a register among those of control.
-pub(crate) fn register_number(register: Register) -> u32
+pub fn register_number(register: Register) -> u32
     requires { names.register_number register < 2 ^ 32 }
     ensures { result ≡ names.register_number register }
 {

@@ -1,5 +1,5 @@
 -- Which pointers are held behind an operation on a map.
-use Rattle.std.proofs.Common.{◌≡◌, ◌≢◌, ◌∙◌, ℕ, ◌-◌, ◌<◌, ◌≤◌, ◌⊎◌, inl, inr, ◌==◌, nat_lt, if◌then◌else◌, Bool, true, false, Some, None, List, [], ◌∷◌, ◌++◌, length, slice_index, refl, sym, ap, subst, arith}
+use Rattle.std.proofs.Common.{◌≡◌, ◌≢◌, ◌∙◌, ℕ, ◌-◌, ◌<◌, ◌≤◌, ◌⊎◌, inl, inr, ◌==◌, nat_lt, if◌then◌else◌, Bool, true, false, Some, None, List, [], ◌∷◌, ◌++◌, length, take, drop, slice_index, refl, sym, ap, subst, arith}
 use Rattle.std.proofs.lemmas.Bool.{cases_lt, cases_eq, eqb-false, lt-ltb}
 use Rattle.bpf_isa.specs.declared.operation.Op.{Op}
 use Rattle.bpf_isa.specs.declared.operation.Op.TheVariants.{Call}
@@ -16,6 +16,7 @@ use Rattle.kind_core.specs.Edges.{changed}
 use Rattle.cell_core.specs.declared.site.Act.{Act}
 use Rattle.cell_core.specs.declared.site.Act.TheVariants as act
 use Rattle.cell_core.specs.declared.operator.Operator.TheVariants.{Found}
+use Rattle.cell_core.specs.Acts.{pointer_operand}
 use Rattle.cell_core.specs.Cells.{CellView, cell_at, site_in}
 use Rattle.cell_core.specs.Sites.{SiteView}
 use Rattle.operator_cells.specs.Making.{Grows}
@@ -135,11 +136,11 @@ other_map q a c y = λ at. absurd (cc)
 
 pub change_points : (decls : List MapDecl) (i : Insn) (here : Here) (is_ref : Bool) (k after : Kinds) (h : Held) (old mid new : List CellView) (ps : List PointerView) (sites sites2 : List SiteView) (q map c : ℕ) (a : Act) (key looked operands : List ℕ)
     → changes_keys a ≡ true → after ≡ changed here.node is_ref false k (calls.change_of decls q) → map ≡ q → length h.registers ≡ 11 → map_used k i i.op ≡ Some q → Grows old mid → Changes mid new sites sites2 here map a key looked operands c
-    → OperationPoints decls i here.pending k h after (put_register h 0 c) old new ps ps sites sites2
-change_points decls i here is_ref k after h old mid new ps sites sites2 q map c a key looked operands changes becomes map_is whole used grows change = record {
+    → looked ≡ take 1 (drop (pointer_operand a) operands) → OperationPoints decls i here.pending k h after (put_register h 0 c) old new ps ps sites sites2
+change_points decls i here is_ref k after h old mid new ps sites sites2 q map c a key looked operands changes becomes map_is whole used grows change looked_is = record {
   site = change_site here q a key operands;
   sites_are = change.sites_are ∙ ap (λ (n : ℕ). sites ++ change_site here n a key operands ∷ []) map_is;
-  reads = change_reads decls (map_used k i i.op) here old mid new sites sites2 q a key looked operands c grows (subst (λ (n : ℕ). Changes mid new sites sites2 here n a key looked operands c) map_is change) used changes;
+  reads = change_reads decls (map_used k i i.op) here old mid new sites sites2 q a key looked operands c grows (subst (λ (n : ℕ). Changes mid new sites sites2 here n a key looked operands c) map_is change) used changes looked_is;
   points = by a changes (record {
     pointers_are = refl;
     kept = keep_points k after h 0 c (subst (λ (x : Kinds). Sheds k x 0 (Num Unknown)) (sym becomes) (changed_sheds decls q here.node is_ref false k)) (omega arith) whole;

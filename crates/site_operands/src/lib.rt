@@ -2,6 +2,7 @@
 //! entries as numbers.
 #![tactic(auto)]
 
+use cell_core::site::Act;
 use cell_nets::operand::Operand;
 
 /// What stands for the cells of a site: its guard, the words of its key, its operands, the cell that says whether its key is there, by the
@@ -15,4 +16,14 @@ pub struct SiteNets<N> {
     pub found: Operand<N>,
     pub answer: Operand<N>,
     pub pointer: Operand<N>,
+}
+
+/// What stands for an earlier operation of the packet that may write a map: what it does, the cells of its site, one bit that says whether it
+/// writes, and the number of the pointer to the entry that it writes.
+#[derive(Copy, Clone)]
+pub struct Pending<'a, N> {
+    pub act: Act,
+    pub nets: &'a SiteNets<N>,
+    pub writes: Operand<N>,
+    pub written: Operand<N>,
 }

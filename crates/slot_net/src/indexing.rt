@@ -10,7 +10,7 @@ ghost use Rattle.xdp_maps.specs.declared.decl.MapKind.TheVariants.{Array};
 ghost use Rattle.site_operands.specs.Pointers.{pointer_number};
 ghost use Rattle.cell_nets.specs.Operands.{IsOperand, IsAvailable, IsWide, number_in};
 ghost use Rattle.cell_nets.specs.Parts.{IsPart};
-ghost use Rattle.cell_nets.specs.Wires.{wires_of, Gives};
+ghost use Rattle.cell_nets.specs.Wires.{wires_of, HasBits, Gives};
 ghost use Rattle.slot_net.specs.Choosing.{indexed_pointer};
 ghost use Rattle.slot_net.specs.Slots.{HoldsKey};
 
@@ -62,7 +62,9 @@ pub fn index_pointer<P: Copy>(
     requires room { 4 * decl.now.cap + 1 < 2 ^ bits }
     requires some { 3 ≤ bits }
     requires most { bits ≤ 34 }
-    ensures { (table : List Slot) (bytes : List ℕ) → IsTable decl.now table → IfOk result (Gives part (wires_of wires.old.items) (wires_of wires.new.items) key.now (λ v. HoldsKey v decl.now key.now bytes) (λ v. pointer_number (slot_pointer table bytes)) bits) }
+    ensures operand { IfOk result IsOperand }
+    ensures bits { IfOk result (HasBits bits) }
+    ensures gives { (table : List Slot) (bytes : List ℕ) → IsTable decl.now table → IfOk result (Gives part (wires_of wires.old.items) (wires_of wires.new.items) key.now (λ v. HoldsKey v decl.now key.now bytes) (λ v. pointer_number (slot_pointer table bytes)) bits) }
 {
     let e = pointer(alloc, decl.cap, key[0], bits)?;
     let out = add_wire(wires, part, bits, e)?;

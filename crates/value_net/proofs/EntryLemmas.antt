@@ -37,7 +37,7 @@ use Rattle.cell_nets.specs.Wires.{Gives}
 use Rattle.site_operands.specs.Pointers.{pointer_number}
 use Rattle.value_net.specs.Words.{answers_number, access_start, access_bytes}
 use Rattle.value_net.specs.Pendings.{taken_of, all_taken, ShowsPending, ShowPendings, IsFitting, IsOf, AreOf, HasValue, ShowsEntry}
-use Rattle.value_net.specs.declared.pending.PendingNets.{PendingNets}
+use Rattle.site_operands.specs.declared.Pending.{Pending as PendingNets}
 use Rattle.value_net.proofs.BitLemmas.{all_bits}
 use Rattle.value_net.proofs.ByteLemmas.{word_zero, bytes_zero}
 use Rattle.value_net.proofs.Holding.{two_are, hold_none, hold_more, hold_gives, step_gives}

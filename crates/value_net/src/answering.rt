@@ -17,12 +17,12 @@ ghost use Rattle.value_net.specs.Words.{IsAligned, answers_number, access_start,
 use crate::changing::{bytes_of, change_bytes, first_bit};
 use crate::entry::entry_word;
 use crate::operating::choose;
-use crate::pending::PendingNets;
 use block_core::block::BlockWire;
 use block_core::name::Name;
 use cell_core::site::Act;
 use cell_nets::operand::Operand;
 use cell_nets::wires::cut;
+use site_operands::Pending;
 use std::alloc::{AllocError, Global};
 use xdp_maps::decl::MapDecl;
 
@@ -85,7 +85,7 @@ pub fn access_answer<P: Copy>(
     part: P,
     act: Act,
     decl: &MapDecl,
-    pendings: &[PendingNets<'_, Name<P>>],
+    pendings: &[Pending<'_, Name<P>>],
     under: Operand<Name<P>>,
     first: Operand<Name<P>>,
     from: u8,

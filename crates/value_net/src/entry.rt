@@ -15,12 +15,12 @@ ghost use Rattle.value_net.specs.Pendings.{taken_of, all_taken, IsFitting, IsOf,
 
 use crate::following::word_after;
 use crate::operating::{choose, pair};
-use crate::pending::PendingNets;
 use block_core::block::BlockWire;
 use block_core::name::Name;
 use cell_core::operator::Operator;
 use cell_nets::operand::Operand;
 use cell_nets::wires::cut;
+use site_operands::Pending;
 use std::alloc::{AllocError, Global};
 use xdp_maps::decl::MapDecl;
 
@@ -30,7 +30,7 @@ fn word_over<P: Copy>(
     wires: &mut Vec<BlockWire<Name<P>>>,
     part: P,
     decl: &MapDecl,
-    pending: &PendingNets<'_, Name<P>>,
+    pending: &Pending<'_, Name<P>>,
     under: Operand<Name<P>>,
     w: u32,
     old: Operand<Name<P>>,
@@ -88,7 +88,7 @@ pub fn entry_word<P: Copy>(
     wires: &mut Vec<BlockWire<Name<P>>>,
     part: P,
     decl: &MapDecl,
-    pendings: &[PendingNets<'_, Name<P>>],
+    pendings: &[Pending<'_, Name<P>>],
     under: Operand<Name<P>>,
     first: Operand<Name<P>>,
     w: u32,

@@ -7,5 +7,4 @@ pub mod changing;
 pub mod entry;
 pub mod following;
 pub mod operating;
-pub mod pending;
 pub mod placing;

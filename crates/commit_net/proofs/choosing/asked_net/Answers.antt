@@ -1,10 +1,10 @@
-use Rattle.std.proofs.Common.{◌≡◌, ◌∙◌, ◌++◌, All, length, map, get_or, sym, ap, subst, arith}
-use Rattle.std.proofs.lemmas.List.{length-map, get_or-map}
+use Rattle.std.proofs.Common.{◌≡◌, ◌∙◌, ◌++◌, All, length, map, sym, ap, subst, arith}
+use Rattle.std.proofs.lemmas.List.{length-map}
 use Rattle.cell_core.specs.Cells.{bits_from}
-use Rattle.cell_nets.specs.Operands.{number_in, IsOperand, IsAvailable}
-use Rattle.cell_nets.specs.Wires.{wires_of}
-use Rattle.commit_net.specs.Choosing.{asked_of, chosen_of, all_read, IsOnly}
-use Rattle.commit_net.proofs.ChainLemmas.{starts, last}
+use Rattle.cell_nets.specs.Operands.{IsOperand, IsAvailable}
+use Rattle.cell_nets.specs.Wires.{wires_of, always}
+use Rattle.commit_net.specs.Choosing.{asked_of, chosen_of, picked, all_read}
+use Rattle.step_nets.proofs.ChainLaws.{starts, last}
 use Rattle.commit_net.proofs.ChooseLemmas.{each_chosen, each_asked, asks_there}
 use Rattle.commit_net.proofs.choosing.asked_net.Goals as goal
 
@@ -20,11 +20,10 @@ select-requires g c =
     }
 
 pub returns : goal.returns
-returns g c = λ k d lt.
+returns g c =
     let ns = c.args.sites.now in
     let f = asked_of c.args.what in
     let w = c.args.width in
     let e : c.deref.result.now ≡ map f ns = c.deref.ensures.value ∙ c.in_ok-values.ensures in
-    last (starts c.args.part (wires_of c.args.wires.now.items) (all_read ns) (λ v. IsOnly v ns k)) (c.in_ok-n.ensures k (f d) (omega (arith, lt, ap length e, length-map ns f)))
-    (λ ins h. subst (λ l. All (IsAvailable ins) (chosen_of ns ++ l)) (sym e) (asks_there (IsAvailable ins) (λ n l. tt) c.args.what ns h)) (λ v g h. h) (λ v. bits_from (number_in v (f (get_or ns k d))) 0 w)
-    (λ v g h. ap (λ l. bits_from (number_in v (get_or l k (f d))) 0 w) e ∙ ap (λ x. bits_from (number_in v x) 0 w) (get_or-map f ns k d (f d) lt))
+    last (starts c.args.part (wires_of c.args.wires.now.items) (all_read ns) always) c.in_ok-n.ensures (λ ins h. subst (λ l. All (IsAvailable ins) (chosen_of ns ++ l)) (sym e) (asks_there (IsAvailable ins) (λ n l. tt) c.args.what ns h)) (λ v g h. h) (λ v. bits_from (picked ns (map f ns) v) 0 w)
+    (λ v g h. ap (λ l. bits_from (picked ns l v) 0 w) e)

@@ -1,19 +1,21 @@
-use Rattle.std.proofs.Common.{◌∙◌, get_or, map, sym, ap}
-use Rattle.cell_core.specs.Cells.{bit}
+use Rattle.std.proofs.Common.{◌∙◌, map, sym, ap}
+use Rattle.cell_core.specs.Cells.{bit, bits_from}
 use Rattle.cell_core.specs.Sites.{site_at}
 use Rattle.cell_nets.specs.Wires.{wires_of}
 use Rattle.hazard_core.specs.Tables.{decl_of}
 use Rattle.hazard_core.specs.Held.{held_value}
-use Rattle.commit_net.specs.Choosing.{changes_word, all_read, IsOnly}
-use Rattle.commit_net.proofs.ChainLemmas.{starts, last}
-use Rattle.commit_net.proofs.ChooseLemmas.{known_bit, word_stays}
+use Rattle.commit_net.specs.Choosing.{changes_word, all_read, IsChosen}
+use Rattle.commit_net.specs.declared.choosing.Asked.TheVariants.{Change}
+use Rattle.step_nets.proofs.ChainLaws.{starts, last}
+use Rattle.commit_net.proofs.ChooseLemmas.{asked_picked, known_bit, word_stays}
 use Rattle.commit_net.proofs.choosing.change_net.Goals as goal
 
 pub returns-clause-gives : goal.returns-clause-gives
-returns-clause-gives g c = λ p j k d lt doing.
+returns-clause-gives g c = λ p j.
     let ns = c.args.sites.now in
-    last (starts c.args.part (wires_of c.args.wires.now.items) (all_read ns) (λ v. IsOnly v ns k)) (c.in_ok-n.ensures k d lt) (λ ins a. a) (λ v f s. s) (λ v. bit (changes_word (site_at p.sites j).act c.args.w))
-    (λ v f s. known_bit v (changes_word (get_or ns k d).act c.args.w) ∙ ap (λ a. bit (changes_word a c.args.w)) (sym doing))
+    let w = c.args.w in
+    last (starts c.args.part (wires_of c.args.wires.now.items) (all_read ns) (λ v. IsChosen v p j ns)) c.in_ok-n.ensures (λ ins a. a) (λ v f s. tt) (λ v. bit (changes_word (site_at p.sites j).act w))
+    (λ v f s. ap (λ x. bits_from x 0 1) (asked_picked v p j ns (Change w) s) ∙ known_bit v (changes_word s.nets.act w) ∙ ap (λ a. bit (changes_word a w)) (sym s.act))
 
 pub returns-clause-stays : goal.returns-clause-stays
 returns-clause-stays g c = λ p decls h j value same aligned inside b.

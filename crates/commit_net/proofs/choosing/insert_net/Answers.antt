@@ -1,14 +1,16 @@
-use Rattle.std.proofs.Common.{◌∙◌, get_or, ap}
+use Rattle.std.proofs.Common.{◌∙◌, ap}
 use Rattle.cell_core.specs.Cells.{bit, bits_from}
 use Rattle.cell_nets.specs.Wires.{wires_of}
 use Rattle.hazard_core.specs.Commits.{makes_entry}
-use Rattle.commit_net.specs.Choosing.{all_read, IsOnly, ShowsCommit}
-use Rattle.commit_net.proofs.ChainLemmas.{starts, last}
-use Rattle.commit_net.proofs.StepLemmas.{bit_bits}
+use Rattle.commit_net.specs.Choosing.{all_read, Commits}
+use Rattle.commit_net.specs.declared.choosing.Asked.TheVariants.{Insert}
+use Rattle.step_nets.proofs.ChainLaws.{starts, last}
+use Rattle.step_nets.proofs.StepLaws.{bit_bits}
+use Rattle.commit_net.proofs.ChooseLemmas.{asked_picked}
 use Rattle.commit_net.proofs.choosing.insert_net.Goals as goal
 
 pub returns : goal.returns
-returns g c = λ p t taken h j k d lt.
+returns g c = λ p t taken h j.
     let ns = c.args.sites.now in
-    last (starts c.args.part (wires_of c.args.wires.now.items) (all_read ns) (λ v. IsOnly v ns k × ShowsCommit v p t taken h j (get_or ns k d))) (c.in_ok-n.ensures k d lt) (λ ins a. a) (λ v f s. s.0) (λ v. bit (makes_entry p t h j))
-    (λ v f s. ap (λ x. bits_from x 0 1) s.1.makes ∙ bit_bits (makes_entry p t h j))
+    last (starts c.args.part (wires_of c.args.wires.now.items) (all_read ns) (λ v. Commits v p t taken h j ns)) c.in_ok-n.ensures (λ ins a. a) (λ v f s. tt) (λ v. bit (makes_entry p t h j))
+    (λ v f s. ap (λ x. bits_from x 0 1) (asked_picked v p j ns Insert s.chosen ∙ s.shows.makes) ∙ bit_bits (makes_entry p t h j))

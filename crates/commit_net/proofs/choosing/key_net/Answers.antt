@@ -1,24 +1,31 @@
-use Rattle.std.proofs.Common.{◌≡◌, ◌∙◌, get_or, ap, subst}
+use Rattle.std.proofs.Common.{◌≡◌, ◌∙◌, ◌≤◌, length, ap, subst}
+use Rattle.cell_core.specs.Cells.{bits_from}
 use Rattle.cell_core.specs.Sites.{site_at}
 use Rattle.cell_nets.specs.declared.operand.Operand.TheVariants.{Net}
 use Rattle.cell_nets.specs.Wires.{wires_of, Gives}
-use Rattle.hazard_core.specs.Commits.{word_at}
+use Rattle.hazard_core.specs.Tables.{decl_of}
+use Rattle.hazard_core.specs.Commits.{word_at, word_count}
 use Rattle.hazard_core.specs.Held.{asked_key}
 use Rattle.array_net.specs.Words.{word_width}
-use Rattle.commit_net.specs.Choosing.{all_read, IsOnly, ShowsCommit}
-use Rattle.commit_net.proofs.ChainLemmas.{starts, last}
-use Rattle.commit_net.proofs.ChooseLemmas.{key_word, asked_key_is}
+use Rattle.commit_net.specs.Choosing.{all_read, Commits}
+use Rattle.commit_net.specs.declared.choosing.Asked.TheVariants.{Key}
+use Rattle.step_nets.proofs.ChainLaws.{starts, last}
+use Rattle.commit_net.proofs.ChooseLemmas.{asked_picked, key_word, key_long, asked_key_is}
 use Rattle.commit_net.proofs.choosing.key_net.Goals as goal
 
 pub returns : goal.returns
-returns g c = λ p t taken h j k d lt declared words.
+returns g c = λ p t taken h j.
     let ns = c.args.sites.now in
-    let n = get_or ns k d in
-    let bytes = c.args.decl.now.key in
+    let d = c.args.decl.now in
+    let bytes = d.key in
     let w = c.args.w in
     let width = c.word_width-width.result in
     let e : width ≡ word_width bytes w = c.word_width-width.ensures.width in
     let s = site_at p.sites j in
-    subst (λ u. Gives c.args.part (wires_of c.args.wires.now.items) (wires_of c.asked_net.new.wires.items) (all_read ns) (λ v. IsOnly v ns k × ShowsCommit v p t taken h j n) (λ v. word_at (asked_key t.decls h s) w) u (Net c.in_ok-n.n u)) e
-    (last (starts c.args.part (wires_of c.args.wires.now.items) (all_read ns) (λ v. IsOnly v ns k × ShowsCommit v p t taken h j n)) (c.in_ok-n.ensures k d lt) (λ ins a. a) (λ v f s. s.0) (λ v. word_at (asked_key t.decls h s) w)
-    (λ v f x. key_word v h bytes w width n.nets.now.key.items s.key c.requires.there words e x.1.asked.key ∙ ap (λ l. word_at l w) (asked_key_is t.decls h s c.args.decl.now declared)))
+    let key = word_at (asked_key t.decls h s) w in
+    subst (λ u. Gives c.args.part (wires_of c.args.wires.now.items) (wires_of c.asked_net.new.wires.items) (all_read ns) (λ v. Commits v p t taken h j ns × (decl_of t.decls s.map ≡ d) × (word_count bytes ≤ length s.key)) (λ v. key) u (Net c.in_ok-n.n u)) e
+    (last (starts c.args.part (wires_of c.args.wires.now.items) (all_read ns) (λ v. Commits v p t taken h j ns × (decl_of t.decls s.map ≡ d) × (word_count bytes ≤ length s.key))) c.in_ok-n.ensures (λ ins a. a) (λ v f x. tt) (λ v. key)
+    (λ v f x.
+    let keys = x.0.chosen.nets.nets.now.key.items in
+    let shown = x.0.shows.asked.key in
+    ap (λ y. bits_from y 0 width) (asked_picked v p j ns (Key w) x.0.chosen) ∙ key_word v h bytes w width keys s.key c.requires.there (key_long v h (word_count bytes) keys s.key x.2 shown) e shown ∙ ap (λ l. word_at l w) (asked_key_is t.decls h s d x.1)))

@@ -1,13 +1,12 @@
-use Rattle.std.proofs.Common.{◌≡◌, ◌∙◌, ◌∷◌, [], ◌++◌, All, map, get_or, sym, ap, subst, arith}
-use Rattle.std.proofs.lemmas.List.{length-map}
+use Rattle.std.proofs.Common.{◌≡◌, ◌∙◌, ◌∷◌, [], ◌++◌, All, map, sym, ap, subst, arith}
 use Rattle.cell_core.specs.Cells.{bits_from, phi}
 use Rattle.cell_nets.specs.Operands.{number_in, IsOperand, IsAvailable}
-use Rattle.cell_nets.specs.Wires.{wires_of}
+use Rattle.cell_nets.specs.Wires.{wires_of, always}
 use Rattle.cell_nets.proofs.ShiftLemmas.{cut_low}
-use Rattle.commit_net.specs.Choosing.{chosen_of, paired, IsOnly}
-use Rattle.commit_net.proofs.ChainLemmas.{starts, next, last}
-use Rattle.commit_net.proofs.StepLemmas.{no_packet, all_each}
-use Rattle.commit_net.proofs.ChooseLemmas.{all_paired, pairs_there, phi_only, only_chosen}
+use Rattle.commit_net.specs.Choosing.{chosen_of, paired, picked}
+use Rattle.step_nets.proofs.ChainLaws.{starts, next, last}
+use Rattle.step_nets.proofs.StepLaws.{no_packet, all_each}
+use Rattle.commit_net.proofs.ChooseLemmas.{all_paired, pairs_there}
 use Rattle.commit_net.proofs.choosing.select.Goals as goal
 
 pub phi_wires-requires-clause-operands : goal.phi_wires-requires-clause-operands
@@ -20,7 +19,7 @@ pub named-requires-clause-operand : goal.named-requires-clause-operand
 named-requires-clause-operand g c = (c.in_ok-out.ensures no_packet).operand
 
 pub returns : goal.returns
-returns g c = λ k d lt.
+returns g c =
     let ns = c.args.sites.now in
     let cs = chosen_of ns in
     let ys = c.args.values.now in
@@ -28,9 +27,6 @@ returns g c = λ k d lt.
     let out = c.in_ok-out.out in
     let e : c.deref.result.now ≡ paired cs ys = c.deref.ensures.value ∙ c.in_ok-all.ensures in
     last
-    (next (starts c.args.part (wires_of c.args.wires.now.items) (cs ++ ys) (λ v. IsOnly v ns k)) (c.in_ok-out.ensures no_packet) (λ ins h. subst (All (IsAvailable ins)) (sym e) (pairs_there (IsAvailable ins) cs ys h)) (λ v f h. tt))
-    c.in_ok-n.ensures (λ ins h. all_each (IsAvailable ins) (out ∷ []) (h 0 out (omega arith), tt)) (λ v f h. tt) (λ v. bits_from (number_in v (get_or ys k d)) 0 w)
-    (λ v f h.
-    ap (λ x. bits_from x 0 w) h.1 ∙ cut_low (phi (map (number_in v) c.deref.result.now)) w w (omega arith)
-    ∙ ap (λ l. bits_from (phi (map (number_in v) l)) 0 w) e
-    ∙ ap (λ x. bits_from x 0 w) (phi_only v cs ys k d (omega (arith, c.requires.count, length-map ns (λ n. n.chosen))) (only_chosen v ns k h.0) lt))
+    (next (starts c.args.part (wires_of c.args.wires.now.items) (cs ++ ys) always) (c.in_ok-out.ensures no_packet) (λ ins h. subst (All (IsAvailable ins)) (sym e) (pairs_there (IsAvailable ins) cs ys h)) (λ v f h. tt)) c.in_ok-n.ensures
+    (λ ins h. all_each (IsAvailable ins) (out ∷ []) (h 0 out (omega arith), tt)) (λ v f h. tt) (λ v. bits_from (picked ns ys v) 0 w)
+    (λ v f h. ap (λ x. bits_from x 0 w) h.1 ∙ cut_low (phi (map (number_in v) c.deref.result.now)) w w (omega arith) ∙ ap (λ l. bits_from (phi (map (number_in v) l)) 0 w) e)

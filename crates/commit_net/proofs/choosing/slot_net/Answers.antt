@@ -1,15 +1,17 @@
-use Rattle.std.proofs.Common.{◌∙◌, ◌^◌, ◌<◌, get_or, ap}
+use Rattle.std.proofs.Common.{◌∙◌, ◌^◌, ◌<◌, ap}
 use Rattle.cell_core.specs.Cells.{bits_from}
 use Rattle.cell_nets.specs.Wires.{wires_of}
 use Rattle.hazard_core.specs.Commits.{written_slot}
-use Rattle.commit_net.specs.Choosing.{all_read, IsOnly, ShowsCommit}
-use Rattle.commit_net.proofs.ChainLemmas.{starts, last}
-use Rattle.commit_net.proofs.StepLemmas.{small_bits}
+use Rattle.commit_net.specs.Choosing.{all_read, Commits}
+use Rattle.commit_net.specs.declared.choosing.Asked.TheVariants.{Slot}
+use Rattle.step_nets.proofs.ChainLaws.{starts, last}
+use Rattle.step_nets.proofs.StepLaws.{small_bits}
+use Rattle.commit_net.proofs.ChooseLemmas.{asked_picked}
 use Rattle.commit_net.proofs.choosing.slot_net.Goals as goal
 
 pub returns : goal.returns
-returns g c = λ p t taken h j k d lt.
+returns g c = λ p t taken h j.
     let ns = c.args.sites.now in
     let w = c.args.bits in
-    last (starts c.args.part (wires_of c.args.wires.now.items) (all_read ns) (λ v. IsOnly v ns k × ShowsCommit v p t taken h j (get_or ns k d) × (written_slot p t taken h j < 2 ^ w))) (c.in_ok-n.ensures k d lt) (λ ins a. a) (λ v f s. s.0) (λ v. written_slot p t taken h j)
-    (λ v f s. ap (λ x. bits_from x 0 w) s.1.target ∙ small_bits (written_slot p t taken h j) w s.2)
+    let n = written_slot p t taken h j in
+    last (starts c.args.part (wires_of c.args.wires.now.items) (all_read ns) (λ v. Commits v p t taken h j ns × (n < 2 ^ w))) c.in_ok-n.ensures (λ ins a. a) (λ v f s. tt) (λ v. n) (λ v f s. ap (λ x. bits_from x 0 w) (asked_picked v p j ns Slot s.0.chosen ∙ s.0.shows.target) ∙ small_bits n w s.1)

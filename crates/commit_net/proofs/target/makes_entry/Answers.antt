@@ -7,8 +7,8 @@ use Rattle.cell_nets.specs.declared.operand.Operand.TheVariants.{Known}
 use Rattle.cell_nets.specs.Operands.{number_in, IsAvailable}
 use Rattle.cell_nets.specs.Wires.{wires_of}
 use Rattle.commit_net.specs.Targets.{ShowsWritten}
-use Rattle.commit_net.proofs.ChainLemmas.{starts, last, ends}
-use Rattle.commit_net.proofs.StepLemmas.{all_each}
+use Rattle.step_nets.proofs.ChainLaws.{starts, last, ends}
+use Rattle.step_nets.proofs.StepLaws.{all_each}
 use Rattle.commit_net.proofs.TargetLemmas.{pending_test, no_update}
 use Rattle.commit_net.proofs.target.makes_entry.Goals as goal
 

@@ -10,8 +10,8 @@ use Rattle.hazard_core.specs.Commits.{written_slot}
 use Rattle.cell_nets.specs.Operands.{number_in, IsOperand, IsAvailable}
 use Rattle.cell_nets.specs.Wires.{wires_of, always}
 use Rattle.commit_net.specs.Targets.{slots_of, ShowsTarget}
-use Rattle.commit_net.proofs.ChainLemmas.{starts, next, last}
-use Rattle.commit_net.proofs.StepLemmas.{all_each}
+use Rattle.step_nets.proofs.ChainLaws.{starts, next, last}
+use Rattle.step_nets.proofs.StepLaws.{all_each}
 use Rattle.commit_net.proofs.TargetLemmas.{over, slot_there, target_is}
 use Rattle.commit_net.proofs.target.target.Goals as goal
 

@@ -4,8 +4,8 @@ use Rattle.cell_core.specs.Cells.{on, bits_from}
 use Rattle.cell_nets.specs.declared.operand.Operand.TheVariants.{Known}
 use Rattle.cell_nets.specs.Operands.{number_in, IsAvailable}
 use Rattle.cell_nets.specs.Wires.{wires_of, always}
-use Rattle.commit_net.proofs.ChainLemmas.{starts, next, last}
-use Rattle.commit_net.proofs.StepLemmas.{all_each, on_bit}
+use Rattle.step_nets.proofs.ChainLaws.{starts, next, last}
+use Rattle.step_nets.proofs.StepLaws.{all_each, on_bit}
 use Rattle.commit_net.proofs.target.where_pending.Goals as goal
 
 pub returns : goal.returns

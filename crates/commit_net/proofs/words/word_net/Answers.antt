@@ -1,5 +1,5 @@
-use Rattle.std.proofs.Common.{◌≡◌, ◌∙◌, ◌+◌, ◌^◌, ◌<◌, ◌∷◌, [], ◌++◌, All, length, get_or, refl, sym, ap, subst, arith}
-use Rattle.std.proofs.lemmas.List.{length_push, get_or_default}
+use Rattle.std.proofs.Common.{◌≡◌, ◌∙◌, ◌+◌, ◌^◌, ◌<◌, ◌∷◌, [], ◌++◌, All, length, refl, sym, ap, subst, arith}
+use Rattle.std.proofs.lemmas.List.{length_push}
 use Rattle.std.proofs.lemmas.List.Elements.{All-nil}
 use Rattle.cell_core.specs.Sites.{site_at}
 use Rattle.cell_core.specs.Cells.{bits_from}
@@ -8,25 +8,24 @@ use Rattle.hazard_core.specs.Overlay.{value_as}
 use Rattle.hazard_core.specs.Commits.{word_at}
 use Rattle.array_net.specs.Words.{word_width}
 use Rattle.cell_nets.specs.declared.operand.Operand.TheVariants.{Net}
-use Rattle.cell_nets.specs.Operands.{number_in, IsOperand, IsAvailable}
+use Rattle.cell_nets.specs.Operands.{IsOperand, IsAvailable}
 use Rattle.cell_nets.specs.Wires.{wires_of, Gives}
 use Rattle.value_net.proofs.ByteLemmas.{bytes_zero}
-use Rattle.commit_net.specs.Choosing.{chosen_of, all_read, HasOperands}
+use Rattle.commit_net.specs.Choosing.{chosen_of, picked, all_read, HasOperands}
 use Rattle.commit_net.specs.Words.{IsFitting}
-use Rattle.commit_net.proofs.ChainLemmas.{last}
-use Rattle.commit_net.proofs.StepLemmas.{small_bits}
-use Rattle.commit_net.proofs.ChooseLemmas.{each_chosen}
-use Rattle.commit_net.specs.declared.choosing.CommitNets.{CommitNets}
-use Rattle.commit_net.proofs.WordLemmas.{Needs, Far, far_none, far_more, push_all, item_at, operands_last, like_program, nothing_held, left_small, words_choose}
+use Rattle.step_nets.proofs.ChainLaws.{last}
+use Rattle.step_nets.proofs.StepLaws.{small_bits}
+use Rattle.commit_net.proofs.ChooseLemmas.{each_chosen, picked_only}
+use Rattle.commit_net.proofs.WordLemmas.{Needs, Far, far_none, far_more, push_all, item_at, operands_last, like_program, nothing_held, chosen_small, words_choose}
 use Rattle.commit_net.proofs.words.word_net.Goals as goal
 
 pub loop-site-init : goal.loop-site-init
 loop-site-init g c = record {
   count = ap length c.new-all.ensures.items;
   operands = subst (All IsOperand) (sym c.new-all.ensures.items) (All-nil IsOperand);
-  stands = λ p t taken h j k d value lt doing declared b.
-      subst (λ l. Far c.args.part c.args.decl.now c.args.sites.now c.args.w c.args.old p t taken h j k d value (wires_of c.args.wires.now.items) (wires_of c.args.wires.now.items) l 0) (sym c.new-all.ensures.items)
-      (far_none c.args.part c.args.decl.now c.args.sites.now c.args.w c.args.old p t taken h j k d value (wires_of c.args.wires.now.items));
+  stands = λ p t taken h j value.
+      subst (λ l. Far c.args.part c.args.decl.now c.args.sites.now c.args.w c.args.old p t taken h j value (wires_of c.args.wires.now.items) (wires_of c.args.wires.now.items) l 0) (sym c.new-all.ensures.items)
+      (far_none c.args.part c.args.decl.now c.args.sites.now c.args.w c.args.old p t taken h j value (wires_of c.args.wires.now.items));
 }
 
 pub word_after-requires : goal.word_after-requires
@@ -56,12 +55,11 @@ loop-site-preserved g c =
     record {
       count = ap length e ∙ length_push l.all.items word ∙ omega (arith, l.invariant.count);
       operands = subst (All IsOperand) (sym e) (push_all IsOperand l.all.items word l.invariant.operands x.operand);
-      stands = λ p t taken h j k d value lt doing declared b.
+      stands = λ p t taken h j value.
           let ns = c.args.sites.now in
-          subst (λ outs. Far c.args.part c.args.decl.now ns c.args.w c.args.old p t taken h j k d value (wires_of c.args.wires.now.items) (wires_of c.word_after.new.wires.items) outs (i + 1)) (sym e)
-          (far_more c.args.part c.args.decl.now ns c.args.w c.args.old p t taken h j k d value (wires_of c.args.wires.now.items) _ _ l.all.items i n word (l.invariant.stands p t taken h j k d value lt doing declared b) l.invariant.count (omega arith) c.site-item.is
-          (x.gives (like_program n) (c.args.decl.now ∷ []) nothing_held 0 _ refl refl (bytes_zero c.args.decl.now.value))
-          (λ q. x.gives p t.decls h j value (doing ∙ ap (λ (m : CommitNets _). m.act) (ap (λ m. get_or ns m d) q ∙ get_or_default ns i d n (omega arith) ∙ sym c.site-item.is)) declared b));
+          subst (λ outs. Far c.args.part c.args.decl.now ns c.args.w c.args.old p t taken h j value (wires_of c.args.wires.now.items) (wires_of c.word_after.new.wires.items) outs (i + 1)) (sym e)
+          (far_more c.args.part c.args.decl.now ns c.args.w c.args.old p t taken h j value (wires_of c.args.wires.now.items) _ _ l.all.items i n word (l.invariant.stands p t taken h j value) l.invariant.count (omega arith) c.site-item.is
+          (x.gives (like_program n) (c.args.decl.now ∷ []) nothing_held 0 _ refl refl (bytes_zero c.args.decl.now.value)) (λ q. x.gives p t.decls h j value q.0 q.1 q.2));
     }
 
 pub select-requires : goal.select-requires
@@ -76,7 +74,7 @@ select-requires g c =
     }
 
 pub returns : goal.returns
-returns g c = λ p t taken h j k d value lt doing declared count b.
+returns g c = λ p t taken h j value.
     let l = c.loop-site in
     let ns = c.args.sites.now in
     let decl = c.args.decl.now in
@@ -86,8 +84,11 @@ returns g c = λ p t taken h j k d value lt doing declared count b.
     let e : width ≡ word_width decl.value w = c.word_width-width.ensures.width in
     let items : c.deref.result.now ≡ l.all.items = c.deref.ensures.value in
     let new = word_at (value_as (asked t.decls h (site_at p.sites j)) value) w in
-    let small : new < 2 ^ word_width decl.value w = left_small (get_or ns k d) p t.decls h j decl value w (c.requires.fitting k d lt) doing count declared b in
-    subst (λ u. Gives c.args.part (wires_of c.args.wires.now.items) (wires_of c.select.new.wires.items) (a ∷ all_read ns) (Needs c.args.part decl ns w a p t taken h j k d value) (λ v. new) u (Net c.in_ok-n.n u)) e
-    (last (l.invariant.stands p t taken h j k d value lt doing declared b) (c.in_ok-n.ensures k a (omega (arith, ap length items, l.invariant.count, lt))) (λ ins s. subst (λ ys. All (IsAvailable ins) (chosen_of ns ++ ys)) (sym items) (words_choose (IsAvailable ins) l.all.items a ns s)) (λ v f s. s.0.0) (λ v. new)
+    subst (λ u. Gives c.args.part (wires_of c.args.wires.now.items) (wires_of c.select.new.wires.items) (a ∷ all_read ns) (Needs c.args.part decl ns w a p t taken h j value) (λ v. new) u (Net c.in_ok-n.n u)) e
+    (last (l.invariant.stands p t taken h j value) c.in_ok-n.ensures (λ ins s. subst (λ ys. All (IsAvailable ins) (chosen_of ns ++ ys)) (sym items) (words_choose (IsAvailable ins) l.all.items a ns s)) (λ v f s. tt) (λ v. new)
     (λ v f s.
-    ap (λ ys. bits_from (number_in v (get_or ys k a)) 0 width) items ∙ ap (λ x. bits_from x 0 width) (s.1 (omega (arith, lt)) a) ∙ small_bits new width (subst (λ u. new < 2 ^ u) (sym e) small)))
+    let x = s.0.0.chosen in
+    let small : new < 2 ^ word_width decl.value w = chosen_small v ns p t.decls h j decl value w c.requires.fitting x s.0.0.shows.asked s.0.1 s.0.2 in
+    ap (λ ys. bits_from (picked ns ys v) 0 width) items
+    ∙ ap (λ y. bits_from y 0 width) (picked_only v ns l.all.items x.place a (l.invariant.count ∙ omega arith) x.only x.within ∙ s.1 x.place x.nets a (omega (arith, x.within)) x.is (x.act, s.0.1, s.0.2) (s.0.3, s.0.0.shows.asked))
+    ∙ small_bits new width (subst (λ u. new < 2 ^ u) (sym e) small)))

@@ -7,9 +7,9 @@ use Rattle.cell_nets.specs.declared.operand.Operand.TheVariants.{Known}
 use Rattle.cell_nets.specs.Operands.{number_in, IsOperand, IsAvailable}
 use Rattle.cell_nets.specs.Wires.{wires_of, always}
 use Rattle.overlay_net.proofs.AnswerLemmas.{array_errors, array_phi, four_pairs, pairs_given}
-use Rattle.overlay_net.proofs.ChainLaws.{starts, next, last}
+use Rattle.step_nets.proofs.ChainLaws.{starts, next, last}
 use Rattle.overlay_net.proofs.FindLemmas.{tail_of}
-use Rattle.overlay_net.proofs.StepLemmas.{all_each, error_small}
+use Rattle.step_nets.proofs.StepLaws.{all_each, error_small}
 use Rattle.overlay_net.proofs.answering.array_answer.Goals as goal
 
 pub first_number-requires-clause-pairs : goal.first_number-requires-clause-pairs

@@ -5,8 +5,8 @@ use Rattle.cell_nets.specs.declared.operand.Operand.TheVariants.{Known}
 use Rattle.cell_nets.specs.Operands.{number_in, IsOperand, IsAvailable}
 use Rattle.cell_nets.specs.Wires.{wires_of, always}
 use Rattle.overlay_net.proofs.AnswerLemmas.{two_pairs, pairs_given}
-use Rattle.overlay_net.proofs.ChainLaws.{starts, last}
-use Rattle.overlay_net.proofs.StepLemmas.{all_each}
+use Rattle.step_nets.proofs.ChainLaws.{starts, last}
+use Rattle.step_nets.proofs.StepLaws.{all_each}
 use Rattle.overlay_net.proofs.answering.by_presence.Goals as goal
 
 pub first_number-requires-clause-pairs : goal.first_number-requires-clause-pairs

@@ -9,7 +9,7 @@ use Rattle.cell_nets.specs.declared.operand.Operand.TheVariants.{Known}
 use Rattle.cell_nets.specs.Operands.{number_in}
 use Rattle.cell_nets.specs.Wires.{wires_of}
 use Rattle.overlay_net.proofs.AnswerLemmas.{delete_is, delete_choice}
-use Rattle.overlay_net.proofs.ChainLaws.{starts, last, ends}
+use Rattle.step_nets.proofs.ChainLaws.{starts, last, ends}
 use Rattle.overlay_net.proofs.WriteLemmas.{found_on}
 use Rattle.overlay_net.proofs.answering.delete_answer.Goals as goal
 

@@ -2,8 +2,8 @@ use Rattle.std.proofs.Common.{refl, map as map_list}
 use Rattle.cell_core.specs.Cells.{bits_from, phi}
 use Rattle.cell_nets.specs.Operands.{number_in}
 use Rattle.cell_nets.specs.Wires.{wires_of, always}
-use Rattle.overlay_net.proofs.ChainLaws.{starts, last}
-use Rattle.overlay_net.proofs.StepLemmas.{no_packet}
+use Rattle.step_nets.proofs.ChainLaws.{starts, last}
+use Rattle.step_nets.proofs.StepLaws.{no_packet}
 use Rattle.overlay_net.proofs.answering.first_number.Goals as goal
 
 pub cell_wires-requires : goal.cell_wires-requires

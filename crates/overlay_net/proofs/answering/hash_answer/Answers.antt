@@ -7,8 +7,8 @@ use Rattle.cell_nets.specs.declared.operand.Operand.TheVariants.{Known}
 use Rattle.cell_nets.specs.Operands.{number_in, IsOperand, IsAvailable}
 use Rattle.cell_nets.specs.Wires.{wires_of}
 use Rattle.overlay_net.proofs.AnswerLemmas.{hash_errors, hash_phi, six_pairs, pairs_given}
-use Rattle.overlay_net.proofs.ChainLaws.{starts, next, last}
-use Rattle.overlay_net.proofs.StepLemmas.{all_each, on_bit, error_small}
+use Rattle.step_nets.proofs.ChainLaws.{starts, next, last}
+use Rattle.step_nets.proofs.StepLaws.{all_each, on_bit, error_small}
 use Rattle.overlay_net.proofs.answering.hash_answer.Goals as goal
 
 pub first_number-requires-clause-pairs : goal.first_number-requires-clause-pairs

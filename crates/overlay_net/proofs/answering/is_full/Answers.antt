@@ -8,9 +8,9 @@ use Rattle.cell_nets.specs.Operands.{number_in, IsAvailable}
 use Rattle.cell_nets.specs.Wires.{wires_of}
 use Rattle.overlay_net.specs.Seen.{all_read}
 use Rattle.overlay_net.proofs.AnswerLemmas.{count_all}
-use Rattle.overlay_net.proofs.ChainLaws.{starts, next, last}
+use Rattle.step_nets.proofs.ChainLaws.{starts, next, last}
 use Rattle.overlay_net.proofs.FindLemmas.{first_of, tail_of}
-use Rattle.overlay_net.proofs.StepLemmas.{all_each, narrow_small}
+use Rattle.step_nets.proofs.StepLaws.{all_each, narrow_small}
 use Rattle.overlay_net.proofs.answering.is_full.Goals as goal
 
 pub returns : goal.returns

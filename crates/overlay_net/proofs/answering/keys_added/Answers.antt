@@ -8,9 +8,9 @@ use Rattle.site_operands.specs.Sites.{operands_of, all_of, ShowsSite}
 use Rattle.cell_nets.specs.Wires.{wires_of}
 use Rattle.overlay_net.specs.Seen.{all_read, HasOperands}
 use Rattle.overlay_net.proofs.AnswerLemmas.{count_more, plus_none}
-use Rattle.overlay_net.proofs.ChainLaws.{starts, last}
+use Rattle.step_nets.proofs.ChainLaws.{starts, last}
 use Rattle.overlay_net.proofs.FindLemmas.{first_of, tail_of}
-use Rattle.overlay_net.proofs.StepLemmas.{all_each, avail_at, gives_same}
+use Rattle.step_nets.proofs.StepLaws.{all_each, avail_at, gives_same}
 use Rattle.overlay_net.proofs.answering.keys_added.Goals as goal
 
 pub loop-seen-init : goal.loop-seen-init

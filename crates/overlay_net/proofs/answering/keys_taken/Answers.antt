@@ -7,8 +7,8 @@ use Rattle.cell_nets.specs.Operands.{number_in, IsAvailable}
 use Rattle.cell_nets.specs.Wires.{wires_of}
 use Rattle.overlay_net.specs.Seen.{all_read, HasOperands}
 use Rattle.overlay_net.proofs.AnswerLemmas.{count_more, plus_none}
-use Rattle.overlay_net.proofs.ChainLaws.{starts, last}
-use Rattle.overlay_net.proofs.StepLemmas.{all_each, avail_at, gives_same}
+use Rattle.step_nets.proofs.ChainLaws.{starts, last}
+use Rattle.step_nets.proofs.StepLaws.{all_each, avail_at, gives_same}
 use Rattle.overlay_net.proofs.answering.keys_taken.Goals as goal
 
 pub loop-seen-init : goal.loop-seen-init

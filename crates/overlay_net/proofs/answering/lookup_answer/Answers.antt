@@ -3,7 +3,7 @@ use Rattle.cell_core.specs.Cells.{bit, on, bits_from}
 use Rattle.hazard_core.specs.Overlay.{key_pointer, answer_over}
 use Rattle.cell_nets.specs.Wires.{wires_of}
 use Rattle.overlay_net.proofs.AnswerLemmas.{lookup_is}
-use Rattle.overlay_net.proofs.ChainLaws.{starts, last}
+use Rattle.step_nets.proofs.ChainLaws.{starts, last}
 use Rattle.overlay_net.proofs.WriteLemmas.{found_on}
 use Rattle.overlay_net.proofs.answering.lookup_answer.Goals as goal
 

@@ -13,9 +13,9 @@ use Rattle.cell_nets.specs.Wires.{wires_of}
 use Rattle.site_operands.specs.Sites.{operands_of, all_of}
 use Rattle.overlay_net.specs.Seen.{all_read}
 use Rattle.overlay_net.proofs.AnswerLemmas.{update_is, index_first}
-use Rattle.overlay_net.proofs.ChainLaws.{starts, next, last}
+use Rattle.step_nets.proofs.ChainLaws.{starts, next, last}
 use Rattle.overlay_net.proofs.FindLemmas.{first_of, tail_of, left_of, right_of, keys_of, others_of}
-use Rattle.overlay_net.proofs.StepLemmas.{all_each}
+use Rattle.step_nets.proofs.StepLaws.{all_each}
 use Rattle.overlay_net.proofs.WriteLemmas.{found_on}
 use Rattle.overlay_net.proofs.answering.update_answer.Goals as goal
 

@@ -4,7 +4,7 @@ use Rattle.site_operands.specs.Pointers.{pointer_number}
 use Rattle.hazard_core.specs.Held.{written_pointer}
 use Rattle.hazard_core.specs.Overlay.{found_as}
 use Rattle.overlay_net.specs.Seen.{read_of}
-use Rattle.overlay_net.proofs.ChainLaws.{starts, ends}
+use Rattle.step_nets.proofs.ChainLaws.{starts, ends}
 use Rattle.overlay_net.proofs.FindLemmas.{over_given, over_none}
 use Rattle.overlay_net.proofs.WriteLemmas.{others_stay}
 use Rattle.overlay_net.proofs.finding.found_over.Goals as goal

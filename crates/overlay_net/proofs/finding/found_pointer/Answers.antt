@@ -9,9 +9,9 @@ use Rattle.cell_nets.specs.Operands.{number_in, IsOperand, IsAvailable}
 use Rattle.cell_nets.specs.Wires.{wires_of}
 use Rattle.site_operands.specs.Pointers.{pointer_number}
 use Rattle.site_operands.specs.Sites.{operands_of, all_of}
-use Rattle.overlay_net.proofs.ChainLaws.{starts, next, last}
+use Rattle.step_nets.proofs.ChainLaws.{starts, next, last}
 use Rattle.overlay_net.proofs.FindLemmas.{tail_of, others_of, update_found, other_found}
-use Rattle.overlay_net.proofs.StepLemmas.{all_each, on_bit, small_bits, narrow_small, choice_small, cut_given}
+use Rattle.step_nets.proofs.StepLaws.{all_each, on_bit, small_bits, narrow_small, choice_small, cut_given}
 use Rattle.overlay_net.proofs.finding.found_pointer.Goals as goal
 
 pub returns-in_ok-out-in-Update : goal.returns-in_ok-out-in-Update

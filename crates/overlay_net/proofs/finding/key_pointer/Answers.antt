@@ -11,7 +11,7 @@ use Rattle.site_operands.specs.Pointers.{pointer_number}
 use Rattle.site_operands.specs.Sites.{operands_of, all_of}
 use Rattle.overlay_net.specs.Seen.{all_read, IsSeen}
 use Rattle.overlay_net.proofs.FindLemmas.{keys_of, over_key, over_more, hash_key, array_key}
-use Rattle.overlay_net.proofs.StepLemmas.{cut_given, avail_at, gives_same}
+use Rattle.step_nets.proofs.StepLaws.{cut_given, avail_at, gives_same}
 use Rattle.overlay_net.proofs.finding.key_pointer.Goals as goal
 
 pub loop-seen-init : goal.loop-seen-init

@@ -7,9 +7,9 @@ use Rattle.cell_core.specs.Sites.{bytes_of}
 use Rattle.cell_nets.specs.Operands.{number_in, IsOperand, IsAvailable}
 use Rattle.cell_nets.specs.Wires.{wires_of, always}
 use Rattle.overlay_net.specs.Seen.{read_of}
-use Rattle.overlay_net.proofs.ChainLaws.{starts, next, last}
+use Rattle.step_nets.proofs.ChainLaws.{starts, next, last}
 use Rattle.overlay_net.proofs.FindLemmas.{left_of, right_of, tail_of, keys_read, key_given}
-use Rattle.overlay_net.proofs.StepLemmas.{all_each, on_bit, small_bits, narrow_small, choice_small}
+use Rattle.step_nets.proofs.StepLaws.{all_each, on_bit, small_bits, narrow_small, choice_small}
 use Rattle.overlay_net.proofs.finding.moved.Goals as goal
 
 pub same_key-requires-clause-left : goal.same_key-requires-clause-left

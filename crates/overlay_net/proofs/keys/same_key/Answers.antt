@@ -4,10 +4,10 @@ use Rattle.cell_core.specs.Cells.{bit, on}
 use Rattle.cell_core.specs.Sites.{bytes_of}
 use Rattle.cell_nets.specs.Operands.{number_in, IsAvailable}
 use Rattle.cell_nets.specs.Wires.{wires_of, always}
-use Rattle.overlay_net.proofs.ChainLaws.{starts, next, last, ends}
+use Rattle.step_nets.proofs.ChainLaws.{starts, next, last, ends}
 use Rattle.overlay_net.proofs.FindLemmas.{left_of, right_of, tail_of}
 use Rattle.overlay_net.proofs.KeyLemmas.{key_step}
-use Rattle.overlay_net.proofs.StepLemmas.{all_each, on_bit, avail_at, gives_same}
+use Rattle.step_nets.proofs.StepLaws.{all_each, on_bit, avail_at, gives_same}
 use Rattle.overlay_net.proofs.keys.same_key.Goals as goal
 
 pub loop-at-init : goal.loop-at-init

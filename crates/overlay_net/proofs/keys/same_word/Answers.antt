@@ -2,8 +2,8 @@ use Rattle.std.proofs.Common.{◌∙◌, ◌==◌, [], ◌∷◌, ap, arith}
 use Rattle.cell_core.specs.Cells.{bit, bits_from}
 use Rattle.cell_nets.specs.Operands.{number_in, IsAvailable}
 use Rattle.cell_nets.specs.Wires.{wires_of, always}
-use Rattle.overlay_net.proofs.ChainLaws.{starts, next, last}
-use Rattle.overlay_net.proofs.StepLemmas.{all_each}
+use Rattle.step_nets.proofs.ChainLaws.{starts, next, last}
+use Rattle.step_nets.proofs.StepLaws.{all_each}
 use Rattle.overlay_net.proofs.keys.same_word.Goals as goal
 
 pub returns : goal.returns

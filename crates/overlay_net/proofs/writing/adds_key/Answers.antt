@@ -4,8 +4,8 @@ use Rattle.hazard_core.specs.Held.{adds_key}
 use Rattle.cell_nets.specs.Operands.{number_in, IsAvailable}
 use Rattle.cell_nets.specs.Wires.{wires_of}
 use Rattle.site_operands.specs.Sites.{operands_of, all_of}
-use Rattle.overlay_net.proofs.ChainLaws.{starts, last, ends}
-use Rattle.overlay_net.proofs.StepLemmas.{all_each}
+use Rattle.step_nets.proofs.ChainLaws.{starts, last, ends}
+use Rattle.step_nets.proofs.StepLaws.{all_each}
 use Rattle.overlay_net.proofs.WriteLemmas.{update_adds, other_adds}
 use Rattle.overlay_net.proofs.writing.adds_key.Goals as goal
 

@@ -3,7 +3,7 @@ use Rattle.cell_core.specs.Cells.{bit}
 use Rattle.hazard_core.specs.Held.{takes_key}
 use Rattle.cell_nets.specs.Operands.{number_in}
 use Rattle.cell_nets.specs.Wires.{wires_of}
-use Rattle.overlay_net.proofs.ChainLaws.{starts, last, ends}
+use Rattle.step_nets.proofs.ChainLaws.{starts, last, ends}
 use Rattle.overlay_net.proofs.WriteLemmas.{delete_takes, other_takes}
 use Rattle.overlay_net.proofs.writing.takes_key.Goals as goal
 

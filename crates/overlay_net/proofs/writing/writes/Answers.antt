@@ -6,8 +6,8 @@ use Rattle.hazard_core.specs.Held.{writes, writes_as}
 use Rattle.cell_nets.specs.Operands.{number_in, IsAvailable}
 use Rattle.cell_nets.specs.Wires.{wires_of}
 use Rattle.site_operands.specs.Sites.{operands_of, all_of}
-use Rattle.overlay_net.proofs.ChainLaws.{starts, last, ends}
-use Rattle.overlay_net.proofs.StepLemmas.{all_each}
+use Rattle.step_nets.proofs.ChainLaws.{starts, last, ends}
+use Rattle.step_nets.proofs.StepLaws.{all_each}
 use Rattle.overlay_net.proofs.WriteLemmas.{is_zero, and_none, and_all, shown_writes, others_write}
 use Rattle.overlay_net.proofs.writing.writes.Goals as goal
 

@@ -8,8 +8,8 @@ use Rattle.cell_nets.specs.Operands.{number_in, IsAvailable}
 use Rattle.cell_nets.specs.Wires.{wires_of}
 use Rattle.site_operands.specs.Pointers.{pointer_number}
 use Rattle.site_operands.specs.Sites.{operands_of, all_of}
-use Rattle.overlay_net.proofs.ChainLaws.{starts, last}
-use Rattle.overlay_net.proofs.StepLemmas.{all_each, small_bits, narrow_small, choice_small, cut_given}
+use Rattle.step_nets.proofs.ChainLaws.{starts, last}
+use Rattle.step_nets.proofs.StepLaws.{all_each, small_bits, narrow_small, choice_small, cut_given}
 use Rattle.overlay_net.proofs.WriteLemmas.{written_is, others_through, update_written}
 use Rattle.overlay_net.proofs.writing.written_pointer.Goals as goal
 

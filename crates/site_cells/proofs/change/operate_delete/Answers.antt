@@ -27,4 +27,4 @@ pub returns-clause-points : goal.returns-clause-points
 returns-clause-points c = λ ps is_ref allowed.
     let f = delete_allowed c.args.decls.now c.args.kinds.now c.args.insn.now c.requires.op c.requires.helper allowed in
     change_points c.args.decls.now c.args.insn.now c.args.here is_ref c.args.kinds.now _ c.args.held.now _ _ _ ps _ _ f.0 _ _ _ _ _ _ refl (f.4 c.args.here.node is_ref false) (c.map_in-map.ensures f.0 f.1) c.are_whole.ensures.register_cells
-    (call_used c.args.kinds.now c.args.insn.now f.0 c.requires.op f.1) c.in_ok-key.ensures.made.grows c.in_ok-c.ensures
+    (call_used c.args.kinds.now c.args.insn.now f.0 c.requires.op f.1) c.in_ok-key.ensures.made.grows c.in_ok-c.ensures refl

@@ -1,4 +1,4 @@
-use Rattle.std.proofs.Common.{◌∙◌, ◌++◌, ◌∷◌, [], false, refl, ap, List, ℕ}
+use Rattle.std.proofs.Common.{◌∙◌, ◌++◌, ◌∷◌, [], false, refl, sym, ap, take, List, ℕ}
 use Rattle.operator_cells.proofs.MakingLaws.{grown}
 use Rattle.site_cells.proofs.Answered.{inside_among}
 use Rattle.site_cells.proofs.Allowed.{update_allowed}
@@ -28,3 +28,4 @@ returns-clause-points c = λ ps is_ref allowed.
     let f = update_allowed c.args.decls.now c.args.kinds.now c.args.insn.now c.requires.op c.requires.helper allowed in
     change_points c.args.decls.now c.args.insn.now c.args.here is_ref c.args.kinds.now _ c.args.held.now _ _ _ ps _ _ f.0 _ _ _ _ _ _ refl (f.7 c.args.here.node is_ref false) (c.map_in-map.ensures f.0 f.1) c.are_whole.ensures.register_cells
     (call_used c.args.kinds.now c.args.insn.now f.0 c.requires.op f.1) (grown c.in_ok-key.ensures.made.grows (grown c.in_ok-value.ensures.made.grows c.in_ok-flags.ensures.made.0)) c.in_ok-c.ensures
+    (sym (ap (λ (xs : List ℕ). take 1 xs) (c.deref-3.ensures.value ∙ c.in_ok-operands.ensures)))

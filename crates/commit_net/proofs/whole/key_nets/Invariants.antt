@@ -1,0 +1,13 @@
+use Rattle.std.proofs.Common.{◌≡◌, ℕ, List, length}
+use Rattle.cell_core.specs.Sites.{ProgramView}
+use Rattle.hazard_core.specs.Held.{Held}
+use Rattle.hazard_core.specs.Tables.{TableState}
+use Rattle.cell_nets.specs.Wires.{wires_of}
+use Rattle.commit_net.proofs.GatherLemmas.{Keys}
+use Rattle.commit_net.proofs.whole.key_nets.Given as goal
+
+abbrev pub invariant-loop-w : goal.invariant-loop-w
+invariant-loop-w g l = record {
+  count : length l.keys.items ≡ l.w;
+  stands : (p : ProgramView) (t : TableState) (taken : List ℕ) (h : Held) (j : ℕ) → Keys l.part l.decl l.sites p t taken h j (wires_of l.fn.wires.items) (wires_of l.wires.items) l.keys.items;
+}

@@ -1,0 +1,14 @@
+use Rattle.std.proofs.Common.{◌≡◌, ℕ, List, length}
+use Rattle.cell_core.specs.Sites.{ProgramView}
+use Rattle.hazard_core.specs.Held.{Held}
+use Rattle.hazard_core.specs.Tables.{TableState}
+use Rattle.cell_nets.specs.Wires.{wires_of}
+use Rattle.commit_net.proofs.GatherLemmas.{Values}
+use Rattle.commit_net.proofs.whole.value_nets.Given as goal
+
+abbrev pub invariant-loop-w : goal.invariant-loop-w
+invariant-loop-w g l = record {
+  count : length l.values.items ≡ l.w;
+  stands :
+      (p : ProgramView) (t : TableState) (taken : List ℕ) (h : Held) (j : ℕ) (value : List ℕ) → Values l.part l.decl l.sites l.words p t taken h j value (wires_of l.fn.wires.items) (wires_of l.wires.items) l.values.items;
+}

@@ -1,0 +1,71 @@
+-- Parts of wires alone, and the operands that stand for the nets that they give.
+use Rattle.std.specs.Prelude.{◌≡◌, ℕ, suc, ◌<◌, Bool, List, [], ◌∷◌, ◌++◌, length, map as map_list, IsTrue}
+use Rattle.std.specs.List.{list_all}
+use Rattle.std.proofs.Common.{get_or}
+use Rattle.net_core.specs.Nets.{SBlock, SEnd}
+use Rattle.net_core.specs.Ports.{port_list}
+use Rattle.net_core.specs.Value.{Env}
+use Rattle.net_core.specs.Clock.{Stored, done}
+use Rattle.design_rules.specs.FormedSyntax.{right_spelled, statement_spelled}
+use Rattle.product_blocks.specs.Alone.{IsFree}
+use Rattle.block_core.specs.declared.name.Name.{Name}
+use Rattle.block_core.specs.Blocks.{BlockTree, BlockWireTree, Whole}
+use Rattle.block_core.specs.Parts.{Solve, Goes, Within}
+use Rattle.block_core.specs.Order.{IsBefore, InOrder}
+use Rattle.block_core.specs.Formed.{names_scope, IsTypedBlock, StatementReads, IsThere}
+use Rattle.cell_core.specs.Cells.{bit}
+use Rattle.hazard_core.specs.Commits.{word_at}
+use Rattle.array_net.specs.declared.words.WordNets.{WordNets}
+use Rattle.array_net.specs.Words.{word_width}
+use Rattle.cell_nets.specs.declared.operand.Operand.{Operand}
+use Rattle.cell_nets.specs.declared.operand.Operand.TheVariants.{Net}
+use Rattle.cell_nets.specs.Operands.{AreFit, AreDeclared, IsNetOf}
+use Rattle.commit_net.specs.declared.choosing.CommitNets.{CommitNets}
+use Rattle.commit_net.specs.Choosing.{all_read}
+
+abbrev pub wires_block : {N : Type 0} → List (BlockWireTree N) → BlockTree N
+wires_block ws = record { registers = []; memories = []; wires = ws; statement = SBlock SEnd }
+
+-- The block has wires alone, over what comes from outside: it is well typed, in order and spelled where that is declared and stands before it.
+pub record IsWiring {P : Type 0} (part : P) (outside : List (Operand (Name P))) (b : BlockTree (Name P)) : Type 0 where
+  pub registers : b.registers ≡ []
+  pub memories : b.memories ≡ []
+  pub typed : (w : Whole P) → w.block part ≡ b → AreDeclared (names_scope w port_list) outside → IsTypedBlock w port_list b
+  pub ordered : (w : Whole P) (before : List P) → ((n : Name P) → IsNetOf outside n → IsBefore w before part 0 n) → InOrder w before part 0 b.wires
+  pub reads : (w : Whole P) → StatementReads (IsThere w) b.statement
+  pub within : Within 0 0 b.statement
+  pub wires_spelled : IsTrue (list_all (λ w. right_spelled w.right) b.wires)
+  pub spelled : IsTrue (statement_spelled b.statement)
+  pub free : IsFree b
+  pub goes : (v : Env (Name P)) → AreFit v outside → Solve v part 0 b.wires → Goes v b.wires
+  pub stays : (v : Env (Name P)) (s : Stored) → done v b.statement s ≡ s
+
+-- ---- what comes from outside: what stands for the operations, and nets of 64 bits that show words
+abbrev pub word_operand : {N : Type 0} → N → Operand N
+word_operand n = Net n 64
+
+abbrev pub outside_of : {N : Type 0} → List (CommitNets N) → List N → List (Operand N)
+outside_of ns words = map_list word_operand words ++ all_read ns
+
+-- they show the words of a value
+abbrev pub ShowsValue : {N : Type 0} → Env N → List N → List ℕ → Type 0
+ShowsValue {N} v words value = (w : ℕ) (n : N) → w < length words → (v.net (get_or words w n)).value ≡ word_at value w
+
+-- ---- what is given: nets for the words of a byte string, from one on, as operands
+abbrev pub key_operands : {N : Type 0} → ℕ → ℕ → List N → List (Operand N)
+key_operands bytes j [] = []
+key_operands bytes j (n ∷ keys) = Net n (word_width bytes j) ∷ key_operands bytes (suc j) keys
+
+abbrev pub value_operands : {N : Type 0} → ℕ → ℕ → List (WordNets N) → List (Operand N)
+value_operands bytes j [] = []
+value_operands bytes j (n ∷ values) = Net n.sets 1 ∷ Net n.word (word_width bytes j) ∷ value_operands bytes (suc j) values
+
+-- they show these words
+abbrev pub ShowWords : {N : Type 0} → Env N → ℕ → List N → List ℕ → Type 0
+ShowWords v j [] bytes = Unit {0}
+ShowWords v j (n ∷ keys) bytes = ((v.net n).value ≡ word_at bytes j) × ShowWords v (suc j) keys bytes
+
+-- and whether each is set
+abbrev pub ShowChanges : {N : Type 0} → Env N → (ℕ → Bool) → ℕ → List (WordNets N) → List ℕ → Type 0
+ShowChanges v changes j [] bytes = Unit {0}
+ShowChanges v changes j (n ∷ values) bytes = (((v.net n.sets).value ≡ bit (changes j)) × ((v.net n.word).value ≡ word_at bytes j)) × ShowChanges v changes (suc j) values bytes

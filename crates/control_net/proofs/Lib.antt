@@ -1,0 +1,10 @@
+pub mod Lists
+pub mod Sweeping
+pub mod Sound
+pub mod Told
+pub mod Returning
+pub mod Shown
+pub mod Clocked
+pub mod Widths
+pub mod Formed
+pub mod Made

@@ -1,0 +1,6 @@
+pub mod Names
+pub mod Control
+pub mod Places
+pub mod Trees
+pub mod Returns
+pub mod Block

@@ -1,0 +1,6 @@
+pub mod FormLemmas
+pub mod HostLemmas
+pub mod FormedLemmas
+pub mod HashLemmas
+pub mod ArrayLemmas
+pub mod SeenLemmas

@@ -1,0 +1,81 @@
+-- Where no runs of its frames conflict, nothing is sent back in a full drive.
+use Rattle.std.proofs.Common.{◌≡◌, ◌+◌, List, [], ◌∷◌, ◌++◌, sym, ◌∙◌, subst, append_assoc, refl}
+use Rattle.std.specs.List.{flat_map}
+use Rattle.std.proofs.lemmas.List.{append-nil}
+use Rattle.beat_core.specs.declared.beat.Beat.{Beat}
+use Rattle.beat_core.specs.Beats.{beats_of}
+use Rattle.beat_core.specs.Ports.{Arrival}
+use Rattle.xdp_maps.specs.State.{MapState, IsSound}
+use Rattle.xdp_machine.specs.Touched.{Touched}
+use Rattle.hazard_core.specs.Tabled.{LoadsTables}
+use Rattle.hazard_core.specs.Standing.{TablesStand}
+use Rattle.pipe_core.specs.Machine.{Build, beat_over}
+use Rattle.pipe_core.specs.History.{came_in, next, IsInOrder}
+use Rattle.pipe_core.specs.Computed.{IsAlwaysComputed}
+use Rattle.pipe_core.specs.Pipeable.{IsSuited}
+use Rattle.pipe_core.specs.Right.{IsAlwaysRight}
+use Rattle.pipe_core.specs.InTurn.{IsSequential, KeepsSequential}
+use Rattle.pipe_core.specs.Watched.{Watched, observed, watch_start}
+use Rattle.pipe_core.specs.Blamed.{AreBlamed, KeepsBlamed, BeginsBlamed}
+use Rattle.pipe_core.specs.Found.{AreFound, KeepsFound, BeginsFound}
+use Rattle.pipe_core.specs.Apart.{AllRun, AreApart, EndsUnsent}
+use Rattle.pipe_core.specs.Unconflicting.{NothingIsDue, StaysForward, EndsWithoutConflicts}
+use Rattle.pipe_core.specs.Drive.{Driven, driving, drive_clock, Beside, drive}
+use Rattle.pipe_core.specs.Forward.{GoesForward}
+use Rattle.pipe_core.proofs.Order.{keeps_order, begins}
+use Rattle.pipe_core.proofs.Overlapping.{begins_sequential}
+use Rattle.pipe_core.proofs.Timing.{left_after}
+
+-- clocks add frames to those that came
+record Later (b : Build) (clocks : List Beside) (d : Driven) : Type 0 where
+  more : List Arrival
+  came : (drive b clocks d).trace.came ≡ d.trace.came ++ more
+
+later : (b : Build) (clocks : List Beside) (d : Driven) → Later b clocks d
+unfolding drive_clock next
+later b [] d = record { more = []; came = sym (append-nil d.trace.came) }
+later b (x ∷ xs) d =
+    let i = driving x.ifindex x.time d.left in
+    let now = came_in d.trace.state i (beat_over b d.trace.state i) in
+    let l = later b xs (drive_clock b x.ifindex x.time d) in
+    record { more = now ++ l.more; came = l.came ∙ append_assoc d.trace.came now l.more }
+
+-- what holds while nothing was sent back
+record Undisturbed (b : Build) (maps : MapState) (w : Watched) : Type 0 where
+  order : IsInOrder b w.trace
+  sequential : IsSequential b maps w
+  blamed : AreBlamed b maps w
+  found : AreFound b w
+
+module _ (due : NothingIsDue) (keeps : KeepsSequential) (blames : KeepsBlamed) (finds : KeepsFound) (b : Build) (maps : MapState) (fit : IsSuited maps.decls b) (sound : IsSound maps) where
+  stays : (clocks more : List Beside) (left : List Beat) (w : Watched) → Undisturbed b maps w
+      → ((ts : List Touched) → AllRun b.program maps (drive b (clocks ++ more) (record { left = left; trace = w.trace })).trace.came ts → AreApart (b.plan.last + 3) ts)
+      → GoesForward b clocks (record { left = left; trace = w.trace })
+  unfolding drive_clock observed
+  stays [] more left w u apart = tt
+  stays (x ∷ xs) more left w u apart =
+      let i = driving x.ifindex x.time left in
+      let l = later b ((x ∷ xs) ++ more) (record { left = left; trace = w.trace }) in
+      let unsent = due b maps fit sound w u.order u.sequential u.sequential.right.agreed.marked u.blamed u.found l.more (λ ts runs. apart ts (subst (λ cs. AllRun b.program maps cs ts) (sym l.came) runs)) in
+      let next : Undisturbed b maps (observed b i w) = record {
+        order = keeps_order b i w.trace u.order;
+        sequential = keeps b maps fit i refl w u.order u.sequential;
+        blamed = blames b maps fit i refl w u.order u.sequential unsent u.blamed;
+        found = finds b maps fit i refl w u.order u.sequential u.found;
+      } in
+      (unsent, stays xs more (left_after b w.trace.state left) (observed b i w) next apart)
+
+module _ (due : NothingIsDue) (keeps : KeepsSequential) (right : IsAlwaysRight) (computed : IsAlwaysComputed) (loads : LoadsTables) (stand : TablesStand) (blames : KeepsBlamed) (begins_blamed : BeginsBlamed) (finds : KeepsFound) (begins_found : BeginsFound) where
+  pub stays_forward : StaysForward
+  stays_forward b maps fit sound frames clocks more apart =
+      let start : Undisturbed b maps (watch_start b maps) = record {
+        order = begins b maps;
+        sequential = begins_sequential right computed loads stand b maps fit sound;
+        blamed = begins_blamed b maps;
+        found = begins_found b maps;
+      } in
+      stays due keeps blames finds b maps fit sound clocks more (flat_map beats_of frames) (watch_start b maps) start apart
+
+  pub ends_without_conflicts : EndsUnsent → EndsWithoutConflicts
+  ends_without_conflicts ends b maps fit sound slots frames whole clocks more long apart q bound enough =
+      ends b maps fit sound slots frames whole clocks more long (stays_forward b maps fit sound frames clocks more apart) q bound enough

@@ -1,0 +1,120 @@
+//! Drives of a pipe.
+
+ghost use Rattle.std.specs.Prelude.{◌≡◌, ◌<◌, ◌^◌, length};
+ghost use Rattle.cell_core.specs.Formed.{AllFit, AreFormed, AreSited};
+ghost use Rattle.cell_core.specs.View.{program_of};
+ghost use Rattle.pipe_core.specs.Planned.{IsUsable};
+ghost use Rattle.predicate_core.specs.Buildable.{IsBuildable};
+ghost use Rattle.row_plan.specs.Plan.{IsPlan};
+
+use crate::ways::{Offer, Way, offers_of};
+use anyhow::{Context, Result, ensure};
+use cell_core::program::{CellProgram, PacketIn};
+use pipe_core::pipe::Pipe;
+use pipe_core::ports::{In, Out};
+use row_plan::RowPlan;
+use std::alloc::Global;
+use std::mem;
+use xdp_maps::state::Maps;
+
+/// The most clocks of a drive.
+const CLOCKS: u64 = 1_000_000;
+
+/// What a pipe gave: its answers, a verdict, a target and a frame each, and what has come of the next; in how many clocks, how many packets it sent
+/// back, and the maps in the end.
+#[derive(Drop)]
+pub(crate) struct Given {
+    alloc: Global,
+    pub(crate) answers: Vec<(u32, u32, Vec<u8>)>,
+    frame: Vec<u8>,
+    pub(crate) clocks: u64,
+    pub(crate) back: u64,
+    pub(crate) maps: Option<Maps>,
+}
+
+impl Given {
+    // Nothing yet.
+    fn new(alloc: Global) -> Given {
+        Given {
+            alloc,
+            answers: Vec::new(alloc),
+            frame: Vec::new(alloc),
+            clocks: 0,
+            back: 0,
+            maps: None,
+        }
+    }
+
+    // What a clock gave.
+    fn take(&mut self, input: &In, out: &Out) -> Result<()> {
+        self.clocks = self.clocks.saturating_add(1);
+        self.back = self.back.saturating_add(out.reloaded as u64);
+        let Some(beat) = out.beat else {
+            return Ok(());
+        };
+        if input.take {
+            let count = (beat.bytes as usize).min(8);
+            self.frame
+                .extend_from_slice(&beat.word.to_le_bytes()[..count])?;
+        }
+        if input.take && beat.last {
+            let frame = mem::replace(&mut self.frame, Vec::new(self.alloc));
+            self.answers.push((out.verdict, out.target, frame))?;
+        }
+        Ok(())
+    }
+}
+
+// A pipe can be built of cells that can be built.
+fn is_usable(cells: &CellProgram, plan: &RowPlan, maps: &Maps)
+    requires buildable { IsBuildable (program_of cells.now) }
+    requires formed { AreFormed (program_of cells.now).cells }
+    requires sited { AreSited maps.now.decls (program_of cells.now) }
+    requires plan { IsPlan (program_of cells.now) plan.now }
+    requires few { length cells.now.sites.items < 2 ^ 32 }
+    ensures usable { IsUsable (program_of cells.now) }
+    ensures fits { AllFit maps.now.decls (program_of cells.now).sites }
+    ensures rows { length plan.now.rows ≡ length cells.now.cells.items }
+{}
+
+/// Drives a pipe with packets until it has given all answers.
+pub(crate) fn drive(
+    alloc: Global,
+    cells: &CellProgram,
+    plan: &RowPlan,
+    maps: &Maps,
+    packets: &[PacketIn],
+    way: Way,
+) -> Result<Given>
+    requires buildable { IsBuildable (program_of cells.now) }
+    requires formed { AreFormed (program_of cells.now).cells }
+    requires sited { AreSited maps.now.decls (program_of cells.now) }
+    requires plan { IsPlan (program_of cells.now) plan.now }
+{
+    ensure!(maps.decls().len() < 1 << 32, "too many maps");
+    ensure!(cells.cells.len() < 1 << 32, "too many cells");
+    ensure!(cells.sites.len() < 1 << 32, "too many sites");
+    ensure!(plan.rows() <= 256, "too many rows");
+    is_usable(cells, plan, maps);
+    let mut pipe = Pipe::new(alloc, cells, plan, maps, plan.rows() + 4)?;
+    ensure!(pipe.is_calm(), "a frame in a new pipe");
+    pipe.load(alloc, maps)?;
+    let offers = offers_of(alloc, packets)?;
+    let mut given = Given::new(alloc);
+    let mut left: &[Offer] = &offers;
+    for clock in 0..CLOCKS {
+        if given.answers.len() == packets.len() {
+            break;
+        }
+        let input = way.input(clock, left);
+        ensure!(pipe.has_room(input.beat), "a frame too long");
+        let out = pipe.clock(input);
+        given.take(&input, &out)?;
+        if input.beat.is_some() && out.ready {
+            left = left.get(1..).context("a beat that was offered")?;
+        }
+    }
+    ensure!(pipe.tables().decls().len() < 1 << 32, "too many maps");
+    given.maps = Some(pipe.maps(alloc)?);
+    Ok(given)
+}

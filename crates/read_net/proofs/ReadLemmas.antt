@@ -1,0 +1,73 @@
+-- The cells of a read, by what its site finds.
+use Rattle.std.specs.Prelude.{not}
+use Rattle.std.proofs.Common.{◌≡◌, ◌∙◌, ℕ, zero, suc, ◌+◌, ◌*◌, ◌<◌, ◌==◌, Bool, true, false, All, List, [], ◌∷◌, ◌++◌, refl, sym, ap, subst, arith}
+use Rattle.std.proofs.lemmas.Bool.{eqb-true, and_parts}
+use Rattle.std.proofs.lemmas.List.Elements.{filter_passes}
+use Rattle.net_core.specs.Value.{Env}
+use Rattle.xdp_machine.specs.State.{PacketIn}
+use Rattle.block_core.specs.declared.name.Name.{Name}
+use Rattle.block_core.specs.Blocks.{BlockWireTree}
+use Rattle.cell_core.specs.Cells.{CellView, bit, on, bits_from}
+use Rattle.cell_core.specs.Rows.{numbers}
+use Rattle.cell_core.specs.Sites.{ProgramView, site_at}
+use Rattle.hazard_core.specs.Tables.{TableState}
+use Rattle.hazard_core.specs.declared.pointer.Pointer.{Pointer}
+use Rattle.hazard_core.specs.declared.pointer.Pointer.TheVariants.{Null, InSlot, Pending}
+use Rattle.hazard_core.specs.Held.{Held, is_null, is_pending, pending}
+use Rattle.hazard_core.specs.Overlay.{found_pointer, answer_over}
+use Rattle.cell_nets.specs.declared.operand.Operand.{Operand}
+use Rattle.cell_nets.specs.Operands.{number_in, IsAvailable}
+use Rattle.cell_nets.specs.Wires.{always, Gives}
+use Rattle.site_operands.specs.Pointers.{pointer_number}
+use Rattle.overlay_net.specs.Seen.{all_read}
+use Rattle.step_nets.specs.Standing.{Stands}
+use Rattle.step_nets.proofs.ChainLaws.{next, ends}
+use Rattle.read_net.specs.declared.finding.FoundNets.{FoundNets}
+use Rattle.read_net.specs.declared.sites.OwnSite.{OwnSite}
+use Rattle.read_net.specs.declared.sites.MapNets.{MapNets}
+use Rattle.read_net.specs.Reads.{taken, Shows, IsFound, Finds, IsReadOf, Reads}
+use Rattle.read_net.specs.Sites.{sites_of, IsOwn}
+use Rattle.read_net.proofs.StandLemmas.{one_of}
+
+-- ---- pointers that are not null
+some_on : (n : ℕ) → 0 < n → on n ≡ true
+some_on n h = by (n == 0) refl
+  where
+    by : (b : Bool) → (n == 0) ≡ b → not b ≡ true
+    by true e = absurd (let z : n ≡ 0 = eqb-true n 0 e in omega (arith, h, z))
+    by false e = refl
+
+found_on : (q : Pointer) → on (pointer_number q) ≡ not (is_null q)
+found_on Null = refl
+found_on (InSlot n) = some_on (4 * n + 1) (omega arith)
+found_on (Pending j) = some_on (4 * j + 2) (omega arith)
+
+-- ---- the operations that a read sees are on its map
+module _ {N : Type 0} (p : ProgramView) (t : TableState) (row : ℕ → ℕ) (r : ℕ) (m : MapNets N) (s : OwnSite N) (ss : List (OwnSite N)) (is : IsReadOf p t row r m s ss) where
+  on_map : (i : ℕ) → is_pending p row r s.site i ≡ true → (site_at p.sites i).map ≡ (site_at p.sites s.site).map
+  on_map i e = eqb-true (site_at p.sites i).map (site_at p.sites s.site).map (and_parts _ _ (and_parts _ _ e).0).0
+
+  pub own_of : All (IsOwn p (site_at p.sites s.site).map) ss
+  own_of = λ k d lt. record { act = is.acts k d lt; map = maps ss (subst (All (λ i. (site_at p.sites i).map ≡ (site_at p.sites s.site).map)) (sym is.sites) (λ n e l. on_map _ (filter_passes (is_pending p row r s.site) (numbers 0 s.site) n e l))) k d lt }
+    where
+      maps : (os : List (OwnSite N)) → All (λ i. (site_at p.sites i).map ≡ (site_at p.sites s.site).map) (sites_of os) → All (λ o. (site_at p.sites o.site).map ≡ (site_at p.sites s.site).map) os
+      maps [] h k d lt = absurd (omega (arith, lt))
+      maps (o ∷ os) h zero d lt = h 0 0 (omega arith)
+      maps (o ∷ os) h (suc k) d lt = maps os (λ n e l. h (suc n) e (omega (arith, l))) k d (omega (arith, lt))
+
+-- ---- what stands for its cells
+module _ {P : Type 0} (part : P) (old mid : List (BlockWireTree (Name P))) (m : MapNets (Name P)) (s : OwnSite (Name P)) (ss : List (OwnSite (Name P))) (p : ProgramView) (t : TableState) (h : Held) (row : ℕ → ℕ) (r : ℕ) (packet : PacketIn) (c : CellView) (is : IsReadOf p t row r m s ss)
+    (f : FoundNets (Name P)) (found : IsFound m ss f) (x : Stands part old mid (taken m s ss) (λ v. Shows v p t h m s ss) (f.key ∷ f.found ∷ all_read f.pending.items ++ taken m s ss) (λ v. Finds v p t h m s ss f)) where
+  pub reads_found :
+      (low new : List (BlockWireTree (Name P))) (bs : List (Operand (Name P))) (more : Env (Name P) → Type 0) (from width : ℕ) (there answer : Operand (Name P)) → Gives part mid low (f.found ∷ []) always (λ v. bit (on (number_in v f.found))) 1 there
+      → Gives part low new bs more (λ v. bits_from (answer_over p t h (sites_of ss) s.site) from width) width answer → ((ins : List (Operand (Name P))) → All (IsAvailable ins) (f.key ∷ f.found ∷ all_read f.pending.items ++ taken m s ss) → All (IsAvailable ins) bs)
+      → ((v : Env (Name P)) → Finds v p t h m s ss f → more v) → Reads part old new m s ss from width p t h row r packet c (record { found = f.found; there = there; answer = answer })
+  reads_found low new bs more from width there answer y z sub enough =
+      let all = next (next x y (λ ins a. one_of (IsAvailable ins) f.found (a 1 f.found (omega arith))) (λ v fit k. tt)) z (λ ins a. sub ins (λ n d lt. a (suc n) d (omega (arith, lt)))) (λ v fit k. enough v k.0) in
+      record {
+        found = ends all (λ v. pointer_number (found_pointer p t h (pending p row r s.site) s.site)) m.bits f.found (λ ins a. a 3 f.found (omega arith)) found.found found.found_bits (λ v fit k. k.0.0.found ∙ ap (λ l. pointer_number (found_pointer p t h l s.site)) is.sites);
+        there =
+            ends all (λ v. bit (not (is_null (found_pointer p t h (pending p row r s.site) s.site)))) 1 there (λ ins a. a 1 there (omega arith)) y.operand y.bits
+            (λ v fit k. k.0.1 ∙ ap (λ n. bit (on n)) (k.0.0.found ∙ ap (λ l. pointer_number (found_pointer p t h l s.site)) is.sites) ∙ ap bit (found_on (found_pointer p t h (pending p row r s.site) s.site)));
+        answer = ends all (λ v. bits_from (answer_over p t h (pending p row r s.site) s.site) from width) width answer (λ ins a. a 0 answer (omega arith)) z.operand z.bits (λ v fit k. k.1 ∙ ap (λ l. bits_from (answer_over p t h l s.site) from width) is.sites);
+      }

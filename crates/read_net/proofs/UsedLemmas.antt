@@ -1,0 +1,33 @@
+-- How many slots of an array are used.
+use Rattle.std.specs.Prelude.{if◌then◌else◌, filter}
+use Rattle.std.proofs.Common.{◌≡◌, ◌∙◌, ℕ, suc, ◌<◌, ◌≤◌, true, List, [], ◌∷◌, length, refl, sym, ap, subst, arith}
+use Rattle.std.proofs.lemmas.Bool.{and_parts}
+use Rattle.std.proofs.lemmas.List.Sums.{length-filter}
+use Rattle.std.specs.Str.{bytes_eq}
+use Rattle.xdp_maps.specs.Contents.{IsWithinLimits, limits_as, index_key}
+use Rattle.xdp_maps.specs.declared.decl.MapDecl.{MapDecl}
+use Rattle.xdp_maps.specs.declared.decl.MapKind.{MapKind}
+use Rattle.xdp_maps.specs.declared.decl.MapKind.TheVariants.{Hash, Array}
+use Rattle.hazard_core.specs.declared.slot.Slot.{Slot}
+use Rattle.hazard_core.specs.Tables.{slot_at, has_key, used_count}
+use Rattle.hazard_core.specs.Tabled.{IsTable, IsFilledTable}
+
+kept : (slots : List Slot) (keys : ℕ → List ℕ) → ((n : ℕ) → n < length slots → has_key (keys n) (slot_at slots n) ≡ true) → length (filter (λ (s : Slot). s.used) slots) ≡ length slots
+kept [] keys h = refl
+kept (s ∷ slots) keys h =
+    let used : s.used ≡ true = (and_parts s.used (bytes_eq s.key (keys 0)) (h 0 (omega arith))).0 in
+    let others = filter (λ (o : Slot). o.used) slots in
+    ap (λ b. length (if b then s ∷ others else others)) used ∙ ap suc (kept slots (λ n. keys (suc n)) (λ n lt. h (suc n) (omega (arith, lt))))
+
+pub array_used : (d : MapDecl) (slots : List Slot) → d.kind ≡ Array → IsTable d slots → used_count slots ≡ d.cap
+array_used d slots e is = sym (length-filter (λ (s : Slot). s.used) slots) ∙ kept slots index_key (subst (λ k. IsFilledTable k slots) e is.filled) ∙ is.count
+
+few_slots : (k : MapKind) (d : MapDecl) → limits_as k d → d.cap ≤ 65536
+few_slots Hash d l = omega (arith, l)
+few_slots Array d l = l.1
+
+pub cap_few : (d : MapDecl) → IsWithinLimits d → d.cap ≤ 65536
+cap_few d l = few_slots d.kind d l.by_kind
+
+pub index_key_bytes : (d : MapDecl) → IsWithinLimits d → d.kind ≡ Array → d.key ≡ 4
+index_key_bytes d l e = (subst (λ k. limits_as k d) e l.by_kind).0

@@ -1,0 +1,113 @@
+-- Marks and guards, as bits.
+use Rattle.std.specs.Prelude.{not, Option, Some, None}
+use Rattle.std.specs.List.{list_any}
+use Rattle.std.proofs.Common.{◌≡◌, ◌∙◌, ℕ, zero, suc, ◌+◌, ◌<◌, Bool, true, false, ◌&&◌, ◌||◌, All, List, [], ◌∷◌, length, take, get_or, refl, sym, ap, ap₂, subst, arith}
+use Rattle.std.proofs.lemmas.List.Folds.{list_any_more}
+use Rattle.net_core.specs.Value.{Env}
+use Rattle.block_core.specs.Blocks.{BlockWireTree}
+use Rattle.block_core.specs.declared.name.Name.{Name}
+use Rattle.cell_core.specs.Cells.{bit, on}
+use Rattle.cell_core.specs.Sites.{ProgramView, site_at}
+use Rattle.hazard_core.specs.Held.{Held, guard_on}
+use Rattle.hazard_core.specs.Marks.{known_on, known_off}
+use Rattle.cell_nets.specs.declared.operand.Operand.{Operand}
+use Rattle.cell_nets.specs.Operands.{number_in, IsAvailable}
+use Rattle.cell_nets.specs.Wires.{always, Gives}
+use Rattle.step_nets.proofs.ChainLaws.{starts, next, last}
+use Rattle.step_nets.proofs.StepLaws.{all_each, on_bit}
+use Rattle.touch_net.specs.declared.marks.MarkNets.{MarkNets}
+use Rattle.touch_net.specs.Marking.{guard_operands, mark_operands, due_by, shown_due, IsKnownGuard, ShowsGuard, AreKnown, ShowMarks}
+use Rattle.touch_net.proofs.StepLemmas.{and_turned}
+use Rattle.touch_net.proofs.ListLemmas.{left_of, right_of, first_of, behind}
+
+not_not : (b : Bool) → b ≡ not (not b)
+not_not true = refl
+not_not false = refl
+
+and_true : (b : Bool) → b ≡ (b && true)
+and_true true = refl
+and_true false = refl
+
+and_false : (b : Bool) → false ≡ (b && false)
+and_false true = refl
+and_false false = refl
+
+or_false : (b : Bool) → b ≡ (b || false)
+or_false true = refl
+or_false false = refl
+
+-- a read that was done and whose guard is not known as 0
+pub marked_as : (comes touched off read : Bool) → read ≡ true → ((comes && touched) && not off) ≡ (comes && (read && not off && touched))
+marked_as false touched off read e = refl
+marked_as true touched off read e = and_turned touched (not off) ∙ ap (λ b. b && not off && touched) (sym e)
+
+-- ---- a mark that stays
+module _ {P : Type 0} (q : P) (old new : List (BlockWireTree (Name P))) (marked out : Operand (Name P)) where
+  abbrev pub Keeps : Option (Operand (Name P)) → Type 0
+  Keeps guard =
+      (p : ProgramView) (row : ℕ → ℕ) (r : ℕ) (h : Held) (j : ℕ) (was : Bool) → IsKnownGuard p row r j guard
+      → Gives q old new (marked ∷ guard_operands guard) (λ v. (number_in v marked ≡ bit was) × ShowsGuard v p h j guard) (λ v. bit (was && not (known_off row r h (site_at p.sites j)))) 1 out
+
+  pub keeps_some : (guard : Option (Operand (Name P))) (g : Operand (Name P)) → guard ≡ Some g → Gives q old new (marked ∷ g ∷ []) always (λ v. bit (on (number_in v marked) && on (number_in v g))) 1 out → Keeps guard
+  keeps_some guard g is x = subst Keeps (sym is)
+      (λ p row r h j was known. last (starts q old (marked ∷ g ∷ []) _) x (λ ins a. a) (λ v f k. tt) (λ v. bit (was && not (known_off row r h (site_at p.sites j))))
+      (λ v f k.
+      let s = site_at p.sites j in
+      ap (λ b. bit (b && on (number_in v g))) (ap on k.0 ∙ on_bit was)
+      ∙ ap (λ n. bit (was && on n)) k.1
+      ∙ ap (λ b. bit (was && b)) (not_not (guard_on h s))
+      ∙ ap (λ b. bit (was && not (b && not (guard_on h s)))) (sym known)))
+
+  pub keeps_none : (guard : Option (Operand (Name P))) → guard ≡ None → Gives q old new (marked ∷ []) always (λ v. bit (on (number_in v marked))) 1 out → Keeps guard
+  keeps_none guard is x = subst Keeps (sym is)
+      (λ p row r h j was known. last (starts q old (marked ∷ []) _) x (λ ins a. a) (λ v f k. tt) (λ v. bit (was && not (known_off row r h (site_at p.sites j))))
+      (λ v f k. ap bit (ap on k.0 ∙ on_bit was ∙ and_true was) ∙ ap (λ b. bit (was && not (b && not (guard_on h (site_at p.sites j))))) (sym known)))
+
+-- ---- a mark that is due
+module _ {P : Type 0} (q : P) (old new : List (BlockWireTree (Name P))) (due marked out : Operand (Name P)) where
+  abbrev pub Sends : Option (Operand (Name P)) → Type 0
+  Sends guard = Gives q old new (due ∷ marked ∷ guard_operands guard) always (λ v. bit (on (number_in v due) || due_by v marked guard)) 1 out
+
+  pub sends_some : (guard : Option (Operand (Name P))) (g sent : Operand (Name P)) (mid : List (BlockWireTree (Name P))) → guard ≡ Some g → Gives q old mid (marked ∷ g ∷ []) always (λ v. bit (on (number_in v marked) && on (number_in v g))) 1 sent
+      → Gives q mid new (due ∷ sent ∷ []) always (λ v. bit (on (number_in v due) || on (number_in v sent))) 1 out → Sends guard
+  sends_some guard g sent mid is x y = subst Sends (sym is)
+      (last (next (starts q old (due ∷ marked ∷ g ∷ []) always) x (λ ins a. all_each (IsAvailable ins) (marked ∷ g ∷ []) (a 1 marked (omega arith), (a 2 g (omega arith), tt))) (λ v f k. tt)) y
+      (λ ins a. all_each (IsAvailable ins) (due ∷ sent ∷ []) (a 1 due (omega arith), (a 0 sent (omega arith), tt))) (λ v f k. tt) (λ v. bit (on (number_in v due) || (on (number_in v marked) && on (number_in v g))))
+      (λ v f k. ap (λ b. bit (on (number_in v due) || b)) (ap on k.1 ∙ on_bit (on (number_in v marked) && on (number_in v g)))))
+
+  pub sends_none : (guard : Option (Operand (Name P))) → guard ≡ None → Gives q old new (due ∷ []) always (λ v. bit (on (number_in v due))) 1 out → Sends guard
+  sends_none guard is x = subst Sends (sym is)
+      (last (starts q old (due ∷ marked ∷ []) always) x (λ ins a. all_each (IsAvailable ins) (due ∷ []) (a 0 due (omega arith), tt)) (λ v f k. tt) (λ v. bit (on (number_in v due) || false)) (λ v f k. ap bit (or_false (on (number_in v due)))))
+
+pub mark_at : {N : Type 0} (Q : Operand N → Type 0) (ms : List (MarkNets N)) (k : ℕ) (m : MarkNets N) → k < length ms → m ≡ get_or ms k m → All Q (mark_operands ms) → All Q (m.marked ∷ guard_operands m.guard)
+mark_at Q [] k m lt is h = absurd (omega arith)
+mark_at Q (x ∷ ms) zero m lt is h = subst (λ (y : MarkNets _). All Q (y.marked ∷ guard_operands y.guard)) (sym is) (left_of Q (x.marked ∷ guard_operands x.guard) (mark_operands ms) h)
+mark_at Q (x ∷ ms) (suc k) m lt is h = mark_at Q ms k m (omega arith) is (right_of Q (x.marked ∷ guard_operands x.guard) (mark_operands ms) h)
+
+-- one mark more
+pub mark_more :
+    {P : Type 0} (q : P) (old mid new : List (BlockWireTree (Name P))) (ms : List (MarkNets (Name P))) (i : ℕ) (m : MarkNets (Name P)) (due out : Operand (Name P)) → i < length ms → m ≡ get_or ms i m
+    → Gives q old mid (mark_operands ms) always (λ v. bit (list_any (shown_due v) (take i ms))) 1 due → Gives q mid new (due ∷ m.marked ∷ guard_operands m.guard) always (λ v. bit (on (number_in v due) || shown_due v m)) 1 out
+    → Gives q old new (mark_operands ms) always (λ v. bit (list_any (shown_due v) (take (i + 1) ms))) 1 out
+mark_more q old mid new ms i m due out lt is x y =
+    last (next (starts q old (mark_operands ms) always) x (λ ins h. h) (λ v f k. tt)) y
+    (λ ins h. first_of (IsAvailable ins) due (m.marked ∷ guard_operands m.guard) (h 0 due (omega arith)) (mark_at (IsAvailable ins) ms i m lt is (behind (IsAvailable ins) due (mark_operands ms) h))) (λ v f k. tt)
+    (λ v. bit (list_any (shown_due v) (take (i + 1) ms)))
+    (λ v f k.
+    let before = list_any (shown_due v) (take i ms) in
+    ap (λ b. bit (b || shown_due v m)) (ap on k.1 ∙ on_bit before) ∙ ap (λ x. bit (before || shown_due v x)) is ∙ ap bit (sym (list_any_more (shown_due v) ms i m lt)))
+
+module _ {N : Type 0} (v : Env N) (p : ProgramView) (row : ℕ → ℕ) (r : ℕ) (h : Held) (marked : ℕ → Bool) where
+  one : (j : ℕ) (a : Operand N) (guard : Option (Operand N)) → IsKnownGuard p row r j guard → number_in v a ≡ bit (marked j) → ShowsGuard v p h j guard → due_by v a guard ≡ (marked j && known_on row r h (site_at p.sites j))
+  one j a None known e k = and_false (marked j) ∙ ap (λ b. marked j && (b && guard_on h (site_at p.sites j))) (sym known)
+  one j a (Some g) known e k =
+      ap (λ b. b && on (number_in v g)) (ap on e ∙ on_bit (marked j)) ∙ ap (λ n. marked j && on n) k ∙ ap (λ b. marked j && (b && guard_on h (site_at p.sites j))) (sym known)
+
+  pub due_is : (js : List ℕ) (ms : List (MarkNets N)) → AreKnown p row r js ms → ShowMarks v p h marked js ms → list_any (shown_due v) ms ≡ list_any (λ j. marked j && known_on row r h (site_at p.sites j)) js
+  due_is [] [] known k = refl
+  due_is [] (m ∷ ms) known k = absurd (omega (arith, known.count))
+  due_is (j ∷ js) [] known k = absurd (omega (arith, known.count))
+  due_is (j ∷ js) (m ∷ ms) known k =
+      let first = k.each 0 m (omega arith) in
+      ap₂ ◌||◌ (one j m.marked m.guard (known.each 0 m (omega arith)) first.mark first.guard)
+      (due_is js ms (record { count = omega (arith, known.count); each = λ n d lt. known.each (suc n) d (omega (arith, lt)) }) (record { each = λ n d lt. k.each (suc n) d (omega (arith, lt)) }))

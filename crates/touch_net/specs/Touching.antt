@@ -1,0 +1,62 @@
+-- When operands stand for a change of a map, and for the keys of a packet's own updates.
+use Rattle.std.specs.Prelude.{◌≡◌, ℕ, ◌*◌, ◌<◌, ◌≤◌, Bool, true, false, All, List, [], ◌∷◌, ◌++◌, length, map as map_list}
+use Rattle.std.proofs.Common.{get_or}
+use Rattle.net_core.specs.Value.{Env}
+use Rattle.cell_core.specs.declared.site.Act.{Act}
+use Rattle.cell_core.specs.declared.site.Act.TheVariants as act
+use Rattle.cell_core.specs.Cells.{bit}
+use Rattle.cell_core.specs.Sites.{ProgramView, site_at, bytes_of}
+use Rattle.hazard_core.specs.Held.{Held, held_value}
+use Rattle.hazard_core.specs.declared.pointer.Pointer.{Pointer}
+use Rattle.hazard_core.specs.declared.pointer.Pointer.TheVariants.{Pending}
+use Rattle.hazard_core.specs.declared.change.Change.{Change}
+use Rattle.cell_nets.specs.declared.operand.Operand.{Operand}
+use Rattle.cell_nets.specs.Operands.{number_in, IsOperand}
+use Rattle.touch_net.specs.declared.change.ChangeNets.{ChangeNets}
+use Rattle.touch_net.specs.declared.change.OwnKey.{OwnKey}
+
+-- whether an operation reads the entry that its pointer is to
+abbrev pub reads_entry : Act → Bool
+reads_entry (act.Load at size) = true
+reads_entry (act.Atomic at a) = a.fetch
+reads_entry a = false
+
+-- ---- a change
+abbrev pub change_operands : {N : Type 0} → ChangeNets N → List (Operand N)
+change_operands c = c.slot ∷ c.presence ∷ c.key.now
+
+-- Its operands are some, with words enough for a key of so many bytes.
+pub record IsChangeNets {N : Type 0} (bytes : ℕ) (c : ChangeNets N) : Type 0 where
+  pub operands : All IsOperand (change_operands c)
+  pub key : bytes ≤ 8 * length c.key.now
+
+-- they stand for it
+pub record ShowsChange {N : Type 0} (v : Env N) (bytes : ℕ) (e : Change) (c : ChangeNets N) : Type 0 where
+  pub slot : number_in v c.slot ≡ e.slot
+  pub key : bytes_of bytes (map_list (number_in v) c.key.now) ≡ e.key
+  pub presence : number_in v c.presence ≡ bit e.presence
+
+-- ---- the packet's own updates
+abbrev pub own_operands : {N : Type 0} → List (OwnKey N) → List (Operand N)
+own_operands [] = []
+own_operands (o ∷ os) = o.key.now ++ own_operands os
+
+pub record IsOwnKey {N : Type 0} (bytes : ℕ) (o : OwnKey N) : Type 0 where
+  pub operands : All IsOperand o.key.now
+  pub key : bytes ≤ 8 * length o.key.now
+
+-- they are operations on a map
+abbrev pub AreOn : {N : Type 0} → ProgramView → ℕ → List (OwnKey N) → Type 0
+AreOn p m owns = All (λ o. (site_at p.sites o.site).map ≡ m) owns
+
+-- the words stand for those of their keys
+abbrev pub ShowsOwn : {N : Type 0} → Env N → ProgramView → Held → List (OwnKey N) → Type 0
+ShowsOwn v p h owns = All (λ o. map_list (number_in v) o.key.now ≡ map_list (held_value h) (site_at p.sites o.site).key) owns
+
+-- an update is among them
+abbrev pub IsAmong : {N : Type 0} → List (OwnKey N) → ℕ → Type 0
+IsAmong owns i = (k : ℕ) × (k < length owns) × ((d : OwnKey _) → (get_or owns k d).site ≡ i)
+
+-- a pointer to an entry that an update is to make is to that of one of them
+abbrev pub IsMade : {N : Type 0} → Pointer → List (OwnKey N) → Type 0
+IsMade q owns = (i : ℕ) → q ≡ Pending i → IsAmong owns i

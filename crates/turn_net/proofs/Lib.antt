@@ -1,0 +1,9 @@
+pub mod StandLemmas
+pub mod ChooseLemmas
+pub mod SetLemmas
+pub mod KeepLemmas
+pub mod DecideLemmas
+pub mod AloneLemmas
+pub mod NetLemmas
+pub mod FormLemmas
+pub mod ClockLemmas

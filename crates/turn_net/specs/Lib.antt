@@ -1,0 +1,5 @@
+pub mod Turns
+pub mod Nets
+pub mod Steps
+pub mod Sets
+pub mod Turn
