@@ -26,11 +26,13 @@ use Rattle.commit_net.specs.declared.choosing.CommitNets.{CommitNets}
 use Rattle.commit_net.specs.Choosing.{changes_word, all_read, IsChosen, Commits}
 use Rattle.commit_net.specs.Words.{IsFitting}
 use Rattle.step_nets.specs.Standing.{Stands}
-use Rattle.commit_net.specs.Wiring.{wires_block, word_operand, outside_of, ShowsValue, key_operands, value_operands, ShowWords, ShowChanges}
+use Rattle.commit_net.specs.Wiring.{word_operand, outside_of, ShowsValue, key_operands, value_operands, ShowWords, ShowChanges}
 use Rattle.commit_net.specs.Wholes.{slot_before, slot_after, IsSlotPart, IsHashCommit, IsArrayCommit}
 use Rattle.step_nets.proofs.ChainLaws.{starts, next}
+use Rattle.operand_blocks.specs.Wiring.{wires_block}
+use Rattle.operand_blocks.proofs.WiringLaws.{is_wiring, all_there, all_known, declared_there, word_is, before_later, there_in}
 use Rattle.commit_net.proofs.WordLemmas.{nothing_held, stands_as, after, before}
-use Rattle.commit_net.proofs.WiringLemmas.{is_wiring, all_there, all_known, declared_there, word_is, before_later, there_in, keys_wide, values_wide, keys_there, values_there, keys_ask, values_ask}
+use Rattle.commit_net.proofs.WiringLemmas.{keys_wide, values_wide, keys_there, values_there, keys_ask, values_ask}
 use Rattle.commit_net.proofs.SlotLemmas.{used_new, key_new, key_old, value_new, within, key_words, new_shaped, word_left}
 use Rattle.commit_net.proofs.GatherLemmas.{joined, tail, pair, KeyNeeds, ValueNeeds, new_value}
 

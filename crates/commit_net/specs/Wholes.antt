@@ -25,9 +25,10 @@ use Rattle.hash_net.specs.declared.block.HashNets.{HashNets}
 use Rattle.hash_net.specs.HashNets.{key_nets}
 use Rattle.hash_net.specs.Hash.{HaveHashWidths, AreNets, AsksHash}
 use Rattle.cell_nets.specs.Operands.{AreFit, AreDeclared, IsNetOf}
+use Rattle.operand_blocks.specs.Wiring.{IsWiring}
 use Rattle.commit_net.specs.declared.choosing.CommitNets.{CommitNets}
 use Rattle.commit_net.specs.Choosing.{all_read, Commits}
-use Rattle.commit_net.specs.Wiring.{outside_of, ShowsValue, IsWiring}
+use Rattle.commit_net.specs.Wiring.{outside_of, ShowsValue}
 
 -- ---- the slot that the operation at site j writes: the table, what stands in it before, and what after
 abbrev pub table_of : ProgramView → TableState → ℕ → List Slot

@@ -1,44 +1,15 @@
--- Parts of wires alone, and the operands that stand for the nets that they give.
-use Rattle.std.specs.Prelude.{◌≡◌, ℕ, suc, ◌<◌, Bool, List, [], ◌∷◌, ◌++◌, length, map as map_list, IsTrue}
-use Rattle.std.specs.List.{list_all}
+-- What parts of wires alone take from outside, and the operands that stand for the nets that they give.
+use Rattle.std.specs.Prelude.{◌≡◌, ℕ, suc, ◌<◌, Bool, List, [], ◌∷◌, ◌++◌, length, map as map_list}
 use Rattle.std.proofs.Common.{get_or}
-use Rattle.net_core.specs.Nets.{SBlock, SEnd}
-use Rattle.net_core.specs.Ports.{port_list}
 use Rattle.net_core.specs.Value.{Env}
-use Rattle.net_core.specs.Clock.{Stored, done}
-use Rattle.design_rules.specs.FormedSyntax.{right_spelled, statement_spelled}
-use Rattle.product_blocks.specs.Alone.{IsFree}
-use Rattle.block_core.specs.declared.name.Name.{Name}
-use Rattle.block_core.specs.Blocks.{BlockTree, BlockWireTree, Whole}
-use Rattle.block_core.specs.Parts.{Solve, Goes, Within}
-use Rattle.block_core.specs.Order.{IsBefore, InOrder}
-use Rattle.block_core.specs.Formed.{names_scope, IsTypedBlock, StatementReads, IsThere}
 use Rattle.cell_core.specs.Cells.{bit}
 use Rattle.hazard_core.specs.Commits.{word_at}
 use Rattle.array_net.specs.declared.words.WordNets.{WordNets}
 use Rattle.array_net.specs.Words.{word_width}
 use Rattle.cell_nets.specs.declared.operand.Operand.{Operand}
 use Rattle.cell_nets.specs.declared.operand.Operand.TheVariants.{Net}
-use Rattle.cell_nets.specs.Operands.{AreFit, AreDeclared, IsNetOf}
 use Rattle.commit_net.specs.declared.choosing.CommitNets.{CommitNets}
 use Rattle.commit_net.specs.Choosing.{all_read}
-
-abbrev pub wires_block : {N : Type 0} → List (BlockWireTree N) → BlockTree N
-wires_block ws = record { registers = []; memories = []; wires = ws; statement = SBlock SEnd }
-
--- The block has wires alone, over what comes from outside: it is well typed, in order and spelled where that is declared and stands before it.
-pub record IsWiring {P : Type 0} (part : P) (outside : List (Operand (Name P))) (b : BlockTree (Name P)) : Type 0 where
-  pub registers : b.registers ≡ []
-  pub memories : b.memories ≡ []
-  pub typed : (w : Whole P) → w.block part ≡ b → AreDeclared (names_scope w port_list) outside → IsTypedBlock w port_list b
-  pub ordered : (w : Whole P) (before : List P) → ((n : Name P) → IsNetOf outside n → IsBefore w before part 0 n) → InOrder w before part 0 b.wires
-  pub reads : (w : Whole P) → StatementReads (IsThere w) b.statement
-  pub within : Within 0 0 b.statement
-  pub wires_spelled : IsTrue (list_all (λ w. right_spelled w.right) b.wires)
-  pub spelled : IsTrue (statement_spelled b.statement)
-  pub free : IsFree b
-  pub goes : (v : Env (Name P)) → AreFit v outside → Solve v part 0 b.wires → Goes v b.wires
-  pub stays : (v : Env (Name P)) (s : Stored) → done v b.statement s ≡ s
 
 -- ---- what comes from outside: what stands for the operations, and nets of 64 bits that show words
 abbrev pub word_operand : {N : Type 0} → N → Operand N

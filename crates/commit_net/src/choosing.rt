@@ -1,7 +1,6 @@
 //! Nets of what is asked of the block of a map: what the operation asks that commits.
 
 ghost use Rattle.std.specs.Prelude.{ℕ, List, [], ◌∷◌, ◌++◌, ◌≡◌, ◌<◌, ◌≤◌, ◌^◌, false, All, length, get_or, map as map_list, IfOk, OnOk};
-ghost use Rattle.net_core.specs.View.{right_of};
 ghost use Rattle.xdp_maps.specs.declared.decl.MapDecl.{MapDecl};
 ghost use Rattle.xdp_maps.specs.Contents.{IsBytes};
 ghost use Rattle.cell_core.specs.Formed.{IsInside};
@@ -23,8 +22,7 @@ use block_core::name::Name;
 use cell_core::site::Act;
 use cell_nets::operand::Operand;
 use cell_nets::phi::phi_wires;
-use cell_nets::slice::slice;
-use net_core::tree::{Expr, Right};
+use operand_blocks::wiring::named;
 use site_operands::SiteNets;
 use std::alloc::{AllocError, Global};
 use xdp_maps::decl::MapDecl;
@@ -133,43 +131,6 @@ fn pairs<N: Copy>(
         all.push(values[i])?;
     }
     Ok(all)
-}
-
-// Adds a wire behind others, and says what it is called. Of 2^32 wires a part has no room for more, as where memory is out.
-fn push<P: Copy>(
-    wires: &mut Vec<BlockWire<Name<P>>>,
-    part: P,
-    width: u8,
-    e: Expr<Name<P>>,
-) -> Result<Name<P>, AllocError>
-    ensures wires { OnOk result (wires_of wires.new.items ≡ wires_of wires.old.items ++ record { width = width; right = right_of (Right.Plain e) } ∷ []) }
-    ensures name { IfOk result (λ n. n ≡ Name.Wire part (length (wires_of wires.old.items))) }
-{
-    let Ok(number) = u32::try_from(wires.len()) else {
-        return Err(AllocError);
-    };
-    wires.push(BlockWire {
-        width,
-        right: Right::Plain(e),
-    })?;
-    Ok(Name::Wire(part, number))
-}
-
-/// The low bits of an operand as a net.
-fn named<P: Copy>(
-    alloc: Global,
-    wires: &mut Vec<BlockWire<Name<P>>>,
-    part: P,
-    a: Operand<Name<P>>,
-    width: u8,
-) -> Result<Name<P>, AllocError>
-    requires operand { IsOperand a }
-    requires width { IsWide width }
-    ensures { IfOk result (λ n. Gives part (wires_of wires.old.items) (wires_of wires.new.items) (a ∷ []) always (λ v. bits_from (number_in v a) 0 width) width (Operand.Net n width)) }
-{
-    let e = slice(alloc, a, 0, width)?;
-    let n = push(wires, part, width, e)?;
-    Ok(n)
 }
 
 /// Of several operands that of the operation that commits, in so many bits, as a net.

@@ -13,7 +13,7 @@ ghost use Rattle.cell_nets.specs.Wires.{wires_of};
 ghost use Rattle.commit_net.specs.Choosing.{all_read, changes_word, HasOperands, Commits};
 ghost use Rattle.commit_net.specs.Words.{IsFitting};
 ghost use Rattle.step_nets.specs.Standing.{Stands};
-ghost use Rattle.commit_net.specs.Wiring.{wires_block, outside_of, ShowsValue, key_operands, value_operands, ShowWords, ShowChanges};
+ghost use Rattle.commit_net.specs.Wiring.{outside_of, ShowsValue, key_operands, value_operands, ShowWords, ShowChanges};
 ghost use Rattle.commit_net.specs.Wholes.{IsSlotPart, IsHashCommit, IsArrayCommit};
 
 use crate::choosing::{CommitNets, change_net, delete_net, insert_net, key_net, slot_net};
@@ -24,8 +24,7 @@ use block_core::block::{Block, BlockWire};
 use block_core::name::{Name, Part};
 use cell_nets::operand::Operand;
 use hash_net::HashNets;
-use net_core::build::block;
-use net_core::tree::Stmts;
+use operand_blocks::wiring::wiring;
 use std::alloc::{AllocError, Global};
 use xdp_maps::decl::MapDecl;
 
@@ -50,22 +49,6 @@ pub struct HashCommit<N: Drop> {
 pub struct ArrayCommit<N: Drop> {
     pub block: Block<N>,
     pub values: Vec<WordNets<N>>,
-}
-
-// A block that has these wires alone.
-fn wiring<P: Part>(
-    alloc: Global,
-    wires: Vec<BlockWire<Name<P>>>,
-) -> Result<Block<Name<P>>, AllocError>
-    ensures { IfOk result (λ b. block_of b ≡ wires_block (wires_of wires.items)) }
-{
-    let statement = block(alloc, Stmts::End)?;
-    Ok(Block {
-        registers: Vec::new(alloc),
-        memories: Vec::new(alloc),
-        wires,
-        statement,
-    })
 }
 
 // The words of the key of the operation that commits.

@@ -13,7 +13,7 @@ use Rattle.held_cells.specs.Paths.{GraphView, At, node_at, before, on_path, maps
 use Rattle.held_cells.specs.declared.held.Held.{Held}
 use Rattle.held_cells.specs.Held.{PointerView, AreHeld}
 use Rattle.held_cells.specs.Steps.{DoAs}
-use Rattle.held_cells.specs.Pointing.{AccessesLookUp}
+use Rattle.held_cells.specs.Pointing.{AccessesLookUp, AccessesStay}
 use Rattle.held_cells.specs.Reading.{ReadsAreMade, ReadsWait}
 
 abbrev pub no_made : Node
@@ -80,5 +80,6 @@ pub record IsLaw (g : GraphView) (p : ProgramView) : Type 0 where
   pub computes : Computes g p
   pub sited : AreSited g.decls p
   pub accesses : AccessesLookUp g.decls p
+  pub stays : AccessesStay p
   pub reads : ReadsAreMade g.decls p
   pub waits : ReadsWait p

@@ -5,5 +5,6 @@ pub mod Steps
 pub mod Operating
 pub mod Law
 pub mod Rows
+pub mod Aligned
 pub mod Reading
 pub mod Pointing

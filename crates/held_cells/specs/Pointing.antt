@@ -141,6 +141,10 @@ WasHeld v ps k h x =
     HoldsPointer k h x
     ⊎ ((n : ℕ) × HoldsPointer k h (record { map = x.map; node = Some n; pointer = x.pointer }) × (x.node ≡ None) × (on (v (pointer_at ps x.pointer).found) ≡ true))
 
+-- On an edge, on or not, a pointer was held at the node that it leaves, by this kind or as the answer of a lookup.
+abbrev pub CameAlong : Kinds → Held → Pointing → Type 0
+CameAlong k h x = (node : Option ℕ) × HoldsPointer k h (record { map = x.map; node = node; pointer = x.pointer })
+
 -- The edges that leave a jump, for any values of cells: they have bits, are on only where the guard is, and two that are on lead to one node;
 -- what is held on one that is on was held at the node.
 pub record EdgesPoint (v : ℕ → ℕ) (ps : List PointerView) (k : Kinds) (h : Held) (guard : ℕ) (more : List Way) : Type 0 where
@@ -148,6 +152,7 @@ pub record EdgesPoint (v : ℕ → ℕ) (ps : List PointerView) (k : Kinds) (h :
   pub guarded : All (λ e. on (v e.bit) ≡ true → on (v guard) ≡ true) more
   pub one : (e f : Way) → Contains more e → Contains more f → on (v e.bit) ≡ true → on (v f.bit) ≡ true → e.to ≡ f.to
   pub held : AnswerAlike v ps k h → All (λ e. on (v e.bit) ≡ true → (x : Pointing) → HoldsPointer e.kinds e.held x → WasHeld v ps k h x) more
+  pub along : All (λ e. (x : Pointing) → HoldsPointer e.kinds e.held x → CameAlong k h x) more
 
 abbrev pub LeavePoints : List CellView → List PointerView → Kinds → Held → ℕ → List Way → List Way → Type 0
 LeavePoints new ps k h guard ways ways2 =
@@ -200,3 +205,24 @@ abbrev pub AccessesLookUp : List MapDecl → ProgramView → Type 0
 AccessesLookUp decls p =
     (packet : PacketIn) (v u : ℕ → ℕ) → IsRun packet p.cells v → IsFollowed p.cells v u → (j : ℕ) → j < length p.sites → is_access (site_at p.sites j).act ≡ true
     → on (v (site_at p.sites j).guard) ≡ true → IsLookupAccess decls p.cells p.sites v u j
+
+-- ---- into which maps pointers lead
+
+-- These numbers are equal to n at each cell that tells whether the key of a site of map m is there.
+abbrev pub FoundsAre : List CellView → List SiteView → (ℕ → ℕ) → ℕ → ℕ → Type 0
+FoundsAre cells sites u m n = (c j : ℕ) → c < length cells → (cell_at cells c).op ≡ Found j → (site_at sites j).map ≡ m → u c ≡ n
+
+-- and at the found cell of each pointer into this map that is held
+abbrev pub HeldAre : (ℕ → ℕ) → ℕ → ℕ → List PointerView → Kinds → Held → Type 0
+HeldAre u m n ps k h = (x : Pointing) → HoldsPointer k h x → x.map ≡ m → u (pointer_at ps x.pointer).found ≡ n
+
+-- and at the pointer of an access
+abbrev pub PointerIs : List SiteView → (ℕ → ℕ) → ℕ → ℕ → Type 0
+PointerIs sites u n j = (c : ℕ) × IsThrough (site_at sites j).act (site_at sites j).operands c × (u c ≡ n)
+
+-- An access goes through a pointer into its own map, on the path or not, whatever values stand for reads: a number that goes with all found cells
+-- of the map goes with the pointer too.
+abbrev pub AccessesStay : ProgramView → Type 0
+AccessesStay p =
+    (packet : PacketIn) (v u : ℕ → ℕ) → IsRun packet p.cells v → IsFollowed p.cells v u → (m n : ℕ) → FoundsAre p.cells p.sites u m n
+    → (j : ℕ) → j < length p.sites → is_access (site_at p.sites j).act ≡ true → (site_at p.sites j).map ≡ m → PointerIs p.sites u n j

@@ -1,15 +1,26 @@
 -- Which cells read the sites of a program, and what these reads wait for.
-use Rattle.std.specs.Prelude.{ℕ, ◌≡◌, ◌≢◌, ◌<◌, ◌≤◌, ◌⊎◌, ◌++◌, true, Option, Some, List, length, get_or, take, drop, Contains}
+use Rattle.std.specs.Prelude.{ℕ, ◌≡◌, ◌≢◌, ◌*◌, ◌<◌, ◌≤◌, ◌⊎◌, ◌++◌, true, Option, Some, List, length, get_or, take, drop, Contains}
 use Rattle.xdp_maps.specs.declared.decl.MapDecl.{MapDecl}
+use Rattle.xdp_maps.specs.Calls.{change_bytes}
 use Rattle.xdp_maps.specs.State.{no_decl}
+use Rattle.xdp_machine.specs.Memory.{bytes_in}
 use Rattle.xdp_machine.specs.State.{PacketIn}
 use Rattle.cell_core.specs.declared.operator.Operator.TheVariants.{Found, Answer}
+use Rattle.cell_core.specs.declared.site.Act.{Act}
+use Rattle.cell_core.specs.declared.site.Act.TheVariants as act
 use Rattle.cell_core.specs.Acts.{finds_key, reads, asks, says_done, pointer_operand}
 use Rattle.cell_core.specs.Cells.{CellView, IsRun, cell_at, site_in, is_heavy, on}
 use Rattle.cell_core.specs.Sites.{SiteView, ProgramView, site_at, records}
 use Rattle.cell_core.specs.Rows.{AreRows, greatest, taken_by}
+use Rattle.held_cells.specs.Aligned.{IsAligned}
 
 -- ---- the cells that read a site
+
+-- how many bits of what an operation answers a cell has: of a number in an entry its own, of what a helper answers 64
+abbrev pub answer_bits : Act → ℕ
+answer_bits (act.Load at size) = 8 * bytes_in size
+answer_bits (act.Atomic at a) = 8 * change_bytes a.wide
+answer_bits a = 64
 
 -- The cells among these that read site number j.
 pub record SiteIsRead (decls : List MapDecl) (cells : List CellView) (j : ℕ) (s : SiteView) : Type 0 where
@@ -25,6 +36,11 @@ pub record SiteIsRead (decls : List MapDecl) (cells : List CellView) (j : ℕ) (
   -- each takes the site's key, and of an update the flags, of an access the pointer; all take the same
   pub takes : (c x : ℕ) → c < length cells → site_in (cell_at cells c).op ≡ Some j → Contains (s.key ++ take 1 (drop (pointer_operand s.act) s.operands)) x → Contains (cell_at cells c).ins x
   pub alike : (c d : ℕ) → c < length cells → d < length cells → site_in (cell_at cells c).op ≡ Some j → site_in (cell_at cells d).op ≡ Some j → (cell_at cells c).ins ≡ (cell_at cells d).ins
+  -- one that says whether the key is there has one bit, one that answers those of the answer, both the low ones
+  pub found_bits : (c : ℕ) → c < length cells → (cell_at cells c).op ≡ Found j → ((cell_at cells c).width ≡ 1) × ((cell_at cells c).from ≡ 0)
+  pub answered_bits : (c : ℕ) → c < length cells → (cell_at cells c).op ≡ Answer j → ((cell_at cells c).width ≡ answer_bits s.act) × ((cell_at cells c).from ≡ 0)
+  -- and of an access these are the bits of a number at a multiple of its bytes
+  pub aligned : IsAligned s.act
 
 -- The reads of the sites of a program on its maps: so of each site, and they stand in the order of their sites.
 pub record ReadsAreMade (decls : List MapDecl) (p : ProgramView) : Type 0 where

@@ -1,11 +1,11 @@
 -- The parts of an array.
-use Rattle.std.proofs.Common.{◌≡◌, ◌∙◌, ℕ, ◌+◌, ◌<◌, List, get_or, refl, sym, ap, subst, arith}
+use Rattle.std.proofs.Common.{◌≡◌, ◌∙◌, ℕ, ◌+◌, ◌<◌, List, get_or, sym, ap, subst, arith}
 use Rattle.net_core.specs.Ports.{port_list}
-use Rattle.net_core.specs.Value.{word, bit, value, Env}
+use Rattle.net_core.specs.Value.{word, bit, value}
 use Rattle.net_core.specs.Clock.{Stored, done}
 use Rattle.block_core.specs.declared.name.Name.{Name}
 use Rattle.block_core.specs.Blocks.{BlockTree, first_of}
-use Rattle.block_core.specs.Formed.{name_width, block_memories, block_wires}
+use Rattle.block_core.specs.Formed.{name_width, block_wires, block_memories}
 use Rattle.xdp_maps.specs.declared.decl.MapDecl.{MapDecl}
 use Rattle.xdp_maps.specs.declared.decl.MapKind.{MapKind}
 use Rattle.xdp_maps.specs.declared.decl.MapKind.TheVariants.{Hash, Array}
@@ -28,14 +28,15 @@ use Rattle.map_block.specs.declared.parts.ControlNets.{ControlNets}
 use Rattle.map_block.specs.Forms.{IsSuited}
 use Rattle.map_block.specs.Parts.{MapTrees, with_slot_net}
 use Rattle.map_block.specs.Stored.{StoresAs, StoresMap, IsFirst_as, first_value_as, host_may_as, host_word_as}
-use Rattle.map_block.specs.Block.{AreFormed, DoesMap, IsMapBlock}
+use Rattle.map_block.specs.Block.{IsOwnPart, AreFormed, DoesMap, IsMapBlock}
 use Rattle.map_block.proofs.FormedLemmas.{are_formed}
 use Rattle.map_block.proofs.HostLemmas.{may_is, table_is, shown_is}
+use Rattle.map_block.proofs.MayLemmas.{array_may}
 
 value_memory : (bits : ℕ) (d : MapDecl) (k : ℕ) → k < word_count d.value → get_or (word_memories bits d.value) (0 + k) (0, 0) ≡ (bits, word_width d.value k)
 value_memory bits d k l = let y : 0 + k ≡ k = omega arith in ap (λ i. get_or (word_memories bits d.value) i (0, 0)) y ∙ memory_at bits d.value 0 (word_count d.value) k l ∙ ap (λ i. (bits, word_width d.value i)) y
 
-module _ {P : Type 0} (f : MapForm) (ps : MapParts P) (c : ControlNets (Name P)) (ns : List (CommitNets (Name P))) (bs : MapTrees (Name P)) (slot : Name P) (values : List (WordNets (Name P))) where
+module _ {P : Type 0} (f : MapForm) (ps : MapParts P) (c : ControlNets (Name P)) (ns : List (CommitNets (Name P))) (bs : MapTrees (Name P)) (values : List (WordNets (Name P))) where
   abbrev d : MapDecl
   d = f.decl
 
@@ -46,18 +47,26 @@ module _ {P : Type 0} (f : MapForm) (ps : MapParts P) (c : ControlNets (Name P))
   count = word_count f.decl.value
 
   abbrev nets : MapNets (Name P)
-  nets = with_slot_net c slot
+  nets = with_slot_net c bs.slot
 
-  module _ (kind : d.kind ≡ Array) (suited : IsSuited f) (find : IsSlotPart ps.finder f.bits ns slot bs.finds) (fetch : IsFetch ps.fetcher own f.bits 0 d.value 0 count slot bs.fetches) (ask : IsArrayCommit ps.asker d ns (fetched_words ps.fetcher count) values bs.asks)
+  module _ (kind : d.kind ≡ Array) (suited : IsSuited f) (find : IsSlotPart ps.finder f.bits ns bs.slot bs.finds) (fetch : IsFetch ps.fetcher own f.bits 0 d.value 0 count bs.slot bs.fetches) (ask : IsArrayCommit ps.asker d ns (fetched_words ps.fetcher count) values bs.asks)
       (block : IsArray own f.number d f.bits nets values bs.stores) (stores_law : ArrayStores P) where
+    stored : IsOwnPart f bs.stores
+    stored = record {
+      values = λ j l. subst (λ k. get_or (block_memories bs.stores) (first_value_as k d + j) (0, 0) ≡ (f.bits, word_width d.value j)) (sym kind) (ap (λ ms. get_or ms (0 + j) (0, 0)) block.memories ∙ value_memory f.bits d j l);
+      counter = λ hash. let both : Hash ≡ Array = sym hash ∙ kind in cc;
+      table = λ hash. let both : Hash ≡ Array = sym hash ∙ kind in cc;
+    }
+
     formed : AreFormed f ps c ns bs
     formed =
-        are_formed f ps c ns bs slot 0 find fetch ask.wiring (λ j l. ap (λ ms. get_or ms (0 + j) (0, 0)) block.memories ∙ value_memory f.bits d j l)
+        are_formed f ps c ns bs 0 find fetch ask.wiring (λ j l. ap (λ ms. get_or ms (0 + j) (0, 0)) block.memories ∙ value_memory f.bits d j l)
         (λ w here asked declared one wide. block.typed w here one.0 wide one.1 (ask.widths w asked declared))
         (λ w before own_there asked among given control at. block.ordered w before own_there control.0 at control.1)
         (λ w own_there asker_there given control at. block.reads w own_there control.0 (ask.there w asker_there given))
         (record { within = block.within; wires_spelled = block.wires_spelled; spelled = block.spelled; free = block.free }) block.goes
         (λ w here. subst (λ k. name_width w port_list (host_word_as k own) ≡ 64) (sym kind) (ap (λ (b : BlockTree (Name P)). get_or (block_wires b) 3 0) here ∙ ap (λ l. get_or l 3 0) block.wires))
+        (array_may f ps c bs kind suited) stored
 
     to_map : (slots : List Slot) (s : Stored) → StoresArray d f.bits slots s → StoresMap d f.bits slots s
     to_map slots s h = subst (λ k. StoresAs k d f.bits slots s) (sym kind) h
@@ -67,12 +76,12 @@ module _ {P : Type 0} (f : MapForm) (ps : MapParts P) (c : ControlNets (Name P))
 
     does : DoesMap f ps c ns bs
     does = record {
-      slot = slot;
       first = λ slots e. to_map slots (first_of bs.stores) (block.first slots (subst (λ k. IsFirst_as k d slots) kind e));
       stays = λ v s solve none silent. block.stays v s solve.3 none silent;
       commits = λ v s p t taken h j solve sees stores on is.
           to_map _ (done v bs.stores.statement s)
           (stores_law ps.finder ps.fetcher ps.asker own f.number d f.bits ns nets values bs.finds bs.fetches bs.asks bs.stores kind suited.room find fetch ask block v s p t taken h j solve.0 solve.1 solve.2 solve.3 sees.memories (of_map _ s stores) on is);
+      finds = λ v p t taken h j fit solve on small. find.shows v p t taken h j fit solve.0 on small;
       written = λ v s t a number calm solve sees m stores host none on is_calm.
           let slots = table_at t f.number in
           let array = of_map slots s stores in

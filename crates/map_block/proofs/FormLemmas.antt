@@ -2,7 +2,6 @@
 use Rattle.std.proofs.Common.{◌≡◌, ℕ, ◌^◌, ◌<◌, ◌≤◌, sym, subst}
 use Rattle.xdp_maps.specs.declared.decl.MapDecl.{MapDecl}
 use Rattle.xdp_maps.specs.Contents.{IsWithinLimits}
-use Rattle.map_block.specs.declared.form.MapForm.{MapForm}
 use Rattle.map_block.specs.Forms.{IsSuited}
 
 pub suited :

@@ -1,6 +1,6 @@
 -- The parts of a map stand as they are said to be.
-use Rattle.std.specs.Prelude.{Contains, replicate}
-use Rattle.std.proofs.Common.{◌≡◌, ◌⊎◌, inl, inr, ◌∙◌, ℕ, ◌+◌, ◌<◌, All, List, [], ◌∷◌, length, map as map_list, get_or, refl, sym, ap, subst, arith}
+use Rattle.std.specs.Prelude.{Contains}
+use Rattle.std.proofs.Common.{◌≡◌, ◌⊎◌, inl, inr, ◌∙◌, ℕ, ◌+◌, ◌<◌, All, List, ◌∷◌, length, map as map_list, get_or, refl, sym, ap, subst, arith}
 use Rattle.std.proofs.lemmas.List.{get_or-map, length-map, length-replicate, get_or-replicate}
 use Rattle.std.proofs.lemmas.List.Elements.{All-contains, Contains-append_cases, Contains-append_right}
 use Rattle.std.proofs.lemmas.List.FromFn.{get_or-map-range_with_len, length-map-range_with_len}
@@ -8,7 +8,7 @@ use Rattle.net_core.specs.Ports.{port_list}
 use Rattle.net_core.specs.Value.{Env}
 use Rattle.block_core.specs.declared.name.Name.{Name}
 use Rattle.block_core.specs.declared.name.Name.TheVariants as name
-use Rattle.block_core.specs.Blocks.{BlockTree, registers_of, memories_of, wires_of, Whole, Among}
+use Rattle.block_core.specs.Blocks.{BlockTree, memories_of, wires_of, Whole, Among}
 use Rattle.block_core.specs.Parts.{Goes, Within}
 use Rattle.block_core.specs.Order.{IsBefore, InOrder}
 use Rattle.block_core.specs.Formed.{names_scope, name_width, block_wire_width, block_memories, block_wires, IsTypedBlock, StatementReads, IsThere}
@@ -20,14 +20,15 @@ use Rattle.cell_nets.specs.Operands.{AreFit, IsDeclared, AreDeclared, IsNetOf}
 use Rattle.commit_net.specs.declared.choosing.CommitNets.{CommitNets}
 use Rattle.commit_net.specs.Choosing.{all_read}
 use Rattle.commit_net.specs.Fetching.{IsFetch, fetched_words}
-use Rattle.commit_net.specs.Wiring.{IsWiring, word_operand, outside_of}
+use Rattle.operand_blocks.specs.Wiring.{IsWiring}
+use Rattle.commit_net.specs.Wiring.{word_operand, outside_of}
 use Rattle.commit_net.specs.Wholes.{IsSlotPart}
 use Rattle.map_block.specs.declared.form.MapForm.{MapForm}
 use Rattle.map_block.specs.declared.parts.MapParts.{MapParts}
 use Rattle.map_block.specs.declared.parts.ControlNets.{ControlNets}
 use Rattle.map_block.specs.Parts.{MapTrees, AreParts, IsText, IsIdle, OfControl, HaveOneBit}
-use Rattle.map_block.specs.Stored.{host_word}
-use Rattle.map_block.specs.Block.{AreFormed}
+use Rattle.map_block.specs.Stored.{host_may, host_word}
+use Rattle.map_block.specs.Block.{IsOwnPart, IsMayTree, AreFormed}
 
 -- what stands before a part stands before a later one
 later_too : {P : Type 0} (w : Whole P) (before : List P) (p q x : P) (n : Name P) → IsBefore w before p 0 n → IsBefore w (x ∷ before) q 0 n
@@ -58,8 +59,8 @@ OfNet q (Known n) = Unit {0}
 OfNet q (Net n w) = q n
 OfNet q (Part n of from w) = q n
 
-module _ {P : Type 0} (f : MapForm) (ps : MapParts P) (c : ControlNets (Name P)) (ns : List (CommitNets (Name P))) (bs : MapTrees (Name P)) (slot : Name P) (first : ℕ) (find : IsSlotPart ps.finder f.bits ns slot bs.finds)
-    (fetch : IsFetch ps.fetcher ps.own f.bits first f.decl.value 0 (word_count f.decl.value) slot bs.fetches) (asking : IsWiring ps.asker (outside_of ns (fetched_words ps.fetcher (word_count f.decl.value))) bs.asks) where
+module _ {P : Type 0} (f : MapForm) (ps : MapParts P) (c : ControlNets (Name P)) (ns : List (CommitNets (Name P))) (bs : MapTrees (Name P)) (first : ℕ) (find : IsSlotPart ps.finder f.bits ns bs.slot bs.finds)
+    (fetch : IsFetch ps.fetcher ps.own f.bits first f.decl.value 0 (word_count f.decl.value) bs.slot bs.fetches) (asking : IsWiring ps.asker (outside_of ns (fetched_words ps.fetcher (word_count f.decl.value))) bs.asks) where
   abbrev count : ℕ
   count = word_count f.decl.value
 
@@ -120,11 +121,11 @@ module _ {P : Type 0} (f : MapForm) (ps : MapParts P) (c : ControlNets (Name P))
 
   -- ---- with the part of the map's memories
   module _ (memories : (j : ℕ) → j < count → get_or (block_memories bs.stores) (first + j) (0, 0) ≡ (f.bits, word_width f.decl.value j))
-      (typed : (w : Whole P) → w.block ps.own ≡ bs.stores → w.block ps.asker ≡ bs.asks → AreDeclared (names_scope w port_list) outside → HaveOneBit w c → name_width w port_list slot ≡ f.bits → IsTypedBlock w port_list bs.stores)
+      (typed : (w : Whole P) → w.block ps.own ≡ bs.stores → w.block ps.asker ≡ bs.asks → AreDeclared (names_scope w port_list) outside → HaveOneBit w c → name_width w port_list bs.slot ≡ f.bits → IsTypedBlock w port_list bs.stores)
       (ordered :
-      (w : Whole P) (before : List P) → Among ps.own w.parts → w.block ps.asker ≡ bs.asks → Among ps.asker before → ((n : Name P) → IsNetOf outside n → IsBefore w before ps.own 0 n) → OfControl (IsBefore w before ps.own 0) c → IsBefore w before ps.own 0 slot → InOrder w before ps.own 0 bs.stores.wires)
-      (reads : (w : Whole P) → Among ps.own w.parts → Among ps.asker w.parts → ((n : Name P) → IsNetOf outside n → IsThere w n) → OfControl (IsThere w) c → IsThere w slot → StatementReads (IsThere w) bs.stores.statement) (text : IsText bs.stores)
-      (goes : (v : Env (Name P)) → Goes v bs.stores.wires) (shown : (w : Whole P) → w.block ps.own ≡ bs.stores → name_width w port_list (host_word f ps.own) ≡ 64) where
+      (w : Whole P) (before : List P) → Among ps.own w.parts → w.block ps.asker ≡ bs.asks → Among ps.asker before → ((n : Name P) → IsNetOf outside n → IsBefore w before ps.own 0 n) → OfControl (IsBefore w before ps.own 0) c → IsBefore w before ps.own 0 bs.slot → InOrder w before ps.own 0 bs.stores.wires)
+      (reads : (w : Whole P) → Among ps.own w.parts → Among ps.asker w.parts → ((n : Name P) → IsNetOf outside n → IsThere w n) → OfControl (IsThere w) c → IsThere w bs.slot → StatementReads (IsThere w) bs.stores.statement) (text : IsText bs.stores)
+      (goes : (v : Env (Name P)) → Goes v bs.stores.wires) (shown : (w : Whole P) → w.block ps.own ≡ bs.stores → name_width w port_list (host_word f ps.own) ≡ 64) (may : IsMayTree ps c bs (host_may f ps.own c.calm)) (stored : IsOwnPart f bs.stores) where
     abbrev finder : P
     finder = ps.finder
 
@@ -156,7 +157,7 @@ module _ {P : Type 0} (f : MapForm) (ps : MapParts P) (c : ControlNets (Name P))
           let fetched_two : (q : P) (i : ℕ) → i < count → IsBefore w two q 0 (name.Wire fetcher i) = λ q i l. inr (inl refl, fetched_there w is i l) in
           let to_three : (n : Name P) → IsNetOf outside n → IsBefore w three own 0 n = λ n h. later_too w two asker own asker n (of_outside (IsBefore w two asker 0) (fetched_two asker) (to_two asker) n h) in
           let slot_one = find.before w one fetcher is.blocks.0 (inl refl) (to_one fetcher) in
-          let slot_three = later_too w two asker own asker slot (later_too w one fetcher asker fetcher slot slot_one) in
+          let slot_three = later_too w two asker own asker bs.slot (later_too w one fetcher asker fetcher bs.slot slot_one) in
           let control_three = control_too w two asker own asker c (control_too w one fetcher asker fetcher c (control_too w before finder fetcher finder c control)) in (
             subst (λ (b : BlockTree (Name P)). InOrder w before finder 0 b.wires) (sym is.blocks.0) (find.wiring.ordered w before given),
             (
@@ -172,5 +173,12 @@ module _ {P : Type 0} (f : MapForm) (ps : MapParts P) (c : ControlNets (Name P))
           (find.wiring.reads w, fetch.reads w, asking.reads w, reads w is.among.3 is.among.2 all control (find.there w is.among.0 given));
       texts = (wiring_text finder (all_read ns) bs.finds find.wiring, fetch_text, wiring_text asker outside bs.asks asking, text);
       goes = λ v fit solve. (find.wiring.goes v (fit_read v fit) solve.0, fetch.goes v, asking.goes v fit solve.2, goes v);
+      declared = all_declared;
+      there = λ w is given. of_outside (IsThere w) (λ i l. is.among.1) given;
+      own = stored;
       shown = λ w is. shown w is.blocks.3;
+      may = may;
+      slot_width = λ w is declared. find.width w is.blocks.0 declared;
+      slot_before = λ w earlier later is stands given. find.before w earlier later is.blocks.0 stands given;
+      slot_there = λ w is given. find.there w is.among.0 given;
     }

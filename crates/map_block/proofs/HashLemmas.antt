@@ -1,19 +1,18 @@
 -- The parts of a hash.
-use Rattle.std.proofs.Common.{◌≡◌, ◌∙◌, ℕ, suc, ◌+◌, ◌<◌, List, [], ◌∷◌, ◌++◌, length, get_or, refl, sym, ap, subst, arith}
+use Rattle.std.proofs.Common.{◌≡◌, ◌∙◌, ℕ, suc, ◌+◌, ◌<◌, List, length, get_or, sym, ap, subst, arith}
 use Rattle.std.proofs.lemmas.List.{get_or-append-add}
-use Rattle.net_core.specs.declared.tree.Word.{Word}
 use Rattle.net_core.specs.Ports.{port_list}
 use Rattle.net_core.specs.Value.{word, bit, value, nothing, Env}
 use Rattle.net_core.specs.Clock.{Stored, done}
 use Rattle.block_core.specs.declared.name.Name.{Name}
 use Rattle.block_core.specs.Blocks.{BlockTree, first_of}
-use Rattle.block_core.specs.Formed.{name_width, block_memories, block_wires}
+use Rattle.block_core.specs.Formed.{name_width, block_wires, block_memories}
 use Rattle.xdp_maps.specs.declared.decl.MapDecl.{MapDecl}
 use Rattle.xdp_maps.specs.declared.decl.MapKind.{MapKind}
 use Rattle.xdp_maps.specs.declared.decl.MapKind.TheVariants.{Hash}
 use Rattle.hazard_core.specs.declared.slot.Slot.{Slot}
 use Rattle.hazard_core.specs.Tables.{table_at}
-use Rattle.hazard_core.specs.Commits.{word_count, word_at as byte_word}
+use Rattle.hazard_core.specs.Commits.{word_count}
 use Rattle.array_net.specs.declared.words.WordNets.{WordNets}
 use Rattle.array_net.specs.declared.block.MapNets.{MapNets}
 use Rattle.array_net.specs.Words.{word_width}
@@ -31,10 +30,11 @@ use Rattle.map_block.specs.declared.parts.MapParts.{MapParts}
 use Rattle.map_block.specs.declared.parts.ControlNets.{ControlNets}
 use Rattle.map_block.specs.Forms.{IsSuited}
 use Rattle.map_block.specs.Parts.{MapTrees, with_slot_net}
-use Rattle.map_block.specs.Stored.{StoresAs, StoresMap, IsFirst_as, SeesStored, first_value_as, host_may_as, host_word_as, may_here, shown_here}
-use Rattle.map_block.specs.Block.{AreFormed, DoesMap, IsMapBlock}
+use Rattle.map_block.specs.Stored.{StoresAs, StoresMap, IsFirst_as, SeesStored, first_value_as, host_may_as, host_word_as}
+use Rattle.map_block.specs.Block.{IsOwnPart, AreFormed, DoesMap, IsMapBlock}
 use Rattle.map_block.proofs.FormedLemmas.{are_formed}
 use Rattle.map_block.proofs.HostLemmas.{may_is, table_is, shown_is}
+use Rattle.map_block.proofs.MayLemmas.{hash_may}
 
 value_memory : (bits : ℕ) (d : MapDecl) (k : ℕ) → k < word_count d.value → get_or (hash_memories bits d) (value_first d + k) (0, 0) ≡ (bits, word_width d.value k)
 value_memory bits d k l =
@@ -50,7 +50,7 @@ value_memory bits d k l =
 pub as_given : {N : Type 0} (nets : HashNets N) (m : MapNets N) (calm : N) → nets.map ≡ m → nets.calm ≡ calm → nets ≡ record { map = m; calm = calm; inserts = nets.inserts; deletes = nets.deletes }
 as_given nets m calm e g = λ i. record { map = e i; calm = g i; inserts = nets.inserts; deletes = nets.deletes }
 
-module _ {P : Type 0} (f : MapForm) (ps : MapParts P) (c : ControlNets (Name P)) (ns : List (CommitNets (Name P))) (bs : MapTrees (Name P)) (slot inserts deletes : Name P) (keys : List (Name P)) (values : List (WordNets (Name P))) where
+module _ {P : Type 0} (f : MapForm) (ps : MapParts P) (c : ControlNets (Name P)) (ns : List (CommitNets (Name P))) (bs : MapTrees (Name P)) (inserts deletes : Name P) (keys : List (Name P)) (values : List (WordNets (Name P))) where
   abbrev d : MapDecl
   d = f.decl
 
@@ -61,18 +61,26 @@ module _ {P : Type 0} (f : MapForm) (ps : MapParts P) (c : ControlNets (Name P))
   count = word_count f.decl.value
 
   abbrev pub nets : HashNets (Name P)
-  nets = record { map = with_slot_net c slot; calm = c.calm; inserts = inserts; deletes = deletes }
+  nets = record { map = with_slot_net c bs.slot; calm = c.calm; inserts = inserts; deletes = deletes }
 
-  module _ (kind : d.kind ≡ Hash) (suited : IsSuited f) (find : IsSlotPart ps.finder f.bits ns slot bs.finds) (fetch : IsFetch ps.fetcher own f.bits (value_first d) d.value 0 count slot bs.fetches) (ask : IsHashCommit ps.asker d f.bits ns (fetched_words ps.fetcher count) nets keys values bs.asks)
+  module _ (kind : d.kind ≡ Hash) (suited : IsSuited f) (find : IsSlotPart ps.finder f.bits ns bs.slot bs.finds) (fetch : IsFetch ps.fetcher own f.bits (value_first d) d.value 0 count bs.slot bs.fetches) (ask : IsHashCommit ps.asker d f.bits ns (fetched_words ps.fetcher count) nets keys values bs.asks)
       (block : IsHash own f.number d f.bits nets keys values bs.stores) (stores_law : HashStores P) where
+    stored : IsOwnPart f bs.stores
+    stored = record {
+      values = λ j l. subst (λ k. get_or (block_memories bs.stores) (first_value_as k d + j) (0, 0) ≡ (f.bits, word_width d.value j)) (sym kind) (ap (λ ms. get_or ms (value_first d + j) (0, 0)) block.memories ∙ value_memory f.bits d j l);
+      counter = λ same. block.registers;
+      table = λ same. block.memories;
+    }
+
     formed : AreFormed f ps c ns bs
     formed =
-        are_formed f ps c ns bs slot (value_first d) find fetch ask.wiring (λ j l. ap (λ ms. get_or ms (value_first d + j) (0, 0)) block.memories ∙ value_memory f.bits d j l)
+        are_formed f ps c ns bs (value_first d) find fetch ask.wiring (λ j l. ap (λ ms. get_or ms (value_first d + j) (0, 0)) block.memories ∙ value_memory f.bits d j l)
         (λ w here asked declared one wide. block.typed w here (ask.widths w asked declared one.0 wide one.1 one.2))
         (λ w before own_there asked among given control at. block.ordered w before own_there (ask.before w before own asked among given control.0 at control.1 control.2))
         (λ w own_there asker_there given control at. let x = ask.there w asker_there given in block.reads w own_there (control.0, at, control.1, control.2, x.0.0, x.0.1) x.1 x.2)
         (record { within = block.within; wires_spelled = block.wires_spelled; spelled = block.spelled; free = block.free }) block.goes
         (λ w here. subst (λ k. name_width w port_list (host_word_as k own) ≡ 64) (sym kind) (ap (λ (b : BlockTree (Name P)). get_or (block_wires b) 7 0) here ∙ ap (λ l. get_or l 7 0) block.wires))
+        (hash_may f ps c bs kind suited block.memories) stored
 
     to_map : (slots : List Slot) (s : Stored) → StoresHash d f.bits slots s → StoresMap d f.bits slots s
     to_map slots s h = subst (λ k. StoresAs k d f.bits slots s) (sym kind) h
@@ -85,13 +93,13 @@ module _ {P : Type 0} (f : MapForm) (ps : MapParts P) (c : ControlNets (Name P))
 
     does : DoesMap f ps c ns bs
     does = record {
-      slot = slot;
       first = λ slots e. let is : slots ≡ _ = subst (λ k. IsFirst_as k d slots) kind e in to_map slots (first_of bs.stores) (subst (λ l. StoresHash d f.bits l (first_of bs.stores)) (sym is) block.first);
       stays = λ v s solve none silent. block.stays v s solve.3 none silent;
       commits = λ v s p t taken h j solve sees stores on is.
           let hash = of_map _ s stores in
           to_map _ (done v bs.stores.statement s)
           (stores_law ps.finder ps.fetcher ps.asker own f.number d f.bits ns nets keys values bs.finds bs.fetches bs.asks bs.stores suited.room find fetch ask block v s p t taken h j solve.0 solve.1 solve.2 solve.3 (sees_own v s _ sees hash) hash is);
+      finds = λ v p t taken h j fit solve on small. find.shows v p t taken h j fit solve.0 on small;
       written = λ v s t a number calm solve sees m stores host none on is_calm.
           let slots = table_at t f.number in
           let hash = of_map slots s stores in

@@ -1,5 +1,5 @@
 -- The parts of a map and their blocks.
-use Rattle.std.specs.Prelude.{◌≡◌, ℕ, List, [], ◌∷◌, IsTrue}
+use Rattle.std.specs.Prelude.{◌≡◌, List, [], ◌∷◌, IsTrue}
 use Rattle.std.specs.List.{list_all}
 use Rattle.net_core.specs.Ports.{port_list}
 use Rattle.net_core.specs.Value.{Env}
@@ -9,23 +9,23 @@ use Rattle.product_blocks.specs.Alone.{IsFree}
 use Rattle.block_core.specs.declared.name.Name.{Name}
 use Rattle.block_core.specs.Blocks.{BlockTree, registers_of, memories_of, Whole, Among}
 use Rattle.block_core.specs.Parts.{Solve, Within}
-use Rattle.block_core.specs.Order.{IsBefore}
-use Rattle.block_core.specs.Formed.{name_width, IsThere}
+use Rattle.block_core.specs.Formed.{name_width}
 use Rattle.block_core.specs.View.{block_of}
 use Rattle.array_net.specs.declared.block.MapNets.{MapNets}
 use Rattle.map_block.specs.declared.parts.MapParts.{MapParts}
 use Rattle.map_block.specs.declared.parts.MapBlocks.{MapBlocks}
 use Rattle.map_block.specs.declared.parts.ControlNets.{ControlNets}
 
--- the blocks, as trees
+-- the blocks, as trees, and the net of the slot that the operation writes that commits
 pub record MapTrees (N : Type 0) : Type 0 where
   pub finds : BlockTree N
   pub fetches : BlockTree N
   pub asks : BlockTree N
   pub stores : BlockTree N
+  pub slot : N
 
 abbrev pub trees_of : {N : Type 0} → MapBlocks N → MapTrees N
-trees_of b = record { finds = block_of b.finds; fetches = block_of b.fetches; asks = block_of b.asks; stores = block_of b.stores }
+trees_of b = record { finds = block_of b.finds; fetches = block_of b.fetches; asks = block_of b.asks; stores = block_of b.stores; slot = b.slot }
 
 -- ---- all parts in their order
 abbrev pub in_order : {P : Type 0} → MapParts P → List P

@@ -90,6 +90,7 @@ fn blocks<P: Part>(
         fetches: found.fetches,
         asks: asked.block,
         stores,
+        slot: found.slot,
     })
 }
 

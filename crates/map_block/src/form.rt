@@ -30,7 +30,7 @@ fn slot_bits(cap: u32) -> u8
 }
 
 /// The form of a map that is declared, with the least bits that are enough.
-pub(crate) fn form_of(number: u8, decl: &MapDecl) -> MapForm
+pub fn form_of(number: u8, decl: &MapDecl) -> MapForm
     requires number { number < 16 }
     requires limits { IsWithinLimits decl.now }
     ensures number { result.number ≡ number }

@@ -100,6 +100,7 @@ fn blocks<P: Part>(
         fetches: found.fetches,
         asks: asked.block,
         stores,
+        slot: found.slot,
     })
 }
 

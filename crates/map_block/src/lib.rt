@@ -10,6 +10,6 @@ pub mod laws;
 mod parts;
 
 pub use array::ArrayBlock;
-pub use form::MapForm;
+pub use form::{MapForm, form_of};
 pub use hash::HashBlock;
 pub use parts::{ControlNets, MapBlock, MapBlocks, MapParts};

@@ -48,13 +48,14 @@ pub(crate) fn map_nets<N: Copy>(control: ControlNets<N>, slot: N) -> MapNets<N>
     }
 }
 
-/// The blocks of these parts.
+/// The blocks of these parts, and the net of the slot that the operation writes that commits.
 #[derive(Drop)]
 pub struct MapBlocks<N: Drop> {
     pub finds: Block<N>,
     pub fetches: Block<N>,
     pub asks: Block<N>,
     pub stores: Block<N>,
+    pub slot: N,
 }
 
 /// A map whose parts can be built. One clock of them is the operation that commits, else the write of the host that goes through, and nothing where

@@ -27,7 +27,7 @@ use Rattle.held_cells.specs.declared.held.Held.{Held}
 use Rattle.held_cells.specs.declared.way.Way.{Way}
 use Rattle.held_cells.specs.Held.{PointerView, pointer_at, key_of, entry_or_null}
 use Rattle.held_cells.specs.Rows.{kind_at, number_at}
-use Rattle.held_cells.specs.Pointing.{Pointing, pointing_as, pointing_at, HoldsPointer, AnswerAlike, WasHeld, EdgesPoint, LeavePoints}
+use Rattle.held_cells.specs.Pointing.{Pointing, pointing_as, pointing_at, HoldsPointer, AnswerAlike, WasHeld, CameAlong, EdgesPoint, LeavePoints}
 use Rattle.edge_cells.specs.Testing.{is_equality, null_holds, Tests}
 use Rattle.edge_cells.specs.Leaving.{operand_held, goes, IsBit, IsBranch, TestsJump}
 use Rattle.edge_cells.proofs.JumpKindLaws.{Along, same, null, entry, IsEdge, Enters, along_at, none_enters, edge_of, single_edge}
@@ -53,6 +53,13 @@ was_held {Enter} v ps k j h e found x holds = by (along_held (kind_at k holds.0)
     by : (pointing_at k h holds.0 ≡ Some x) ⊎ ((n : ℕ) × Enter n × (pointing_at k h holds.0 ≡ Some (record { map = x.map; node = Some n; pointer = x.pointer })) × (x.node ≡ None)) → WasHeld v ps k h x
     by (inl is) = inl (holds.0, is)
     by (inr was) = inr (was.0, (holds.0, was.2), was.3, found was.0 was.1 (record { map = x.map; node = Some was.0; pointer = x.pointer }) (holds.0, was.2) refl)
+
+came_along : {Enter : ℕ → Type 0} (k j : Kinds) (h : Held) → IsEdge Enter k j → (x : Pointing) → HoldsPointer j h x → CameAlong k h x
+came_along {Enter} k j h e x holds = by (along_held (kind_at k holds.0) (kind_at j holds.0) (number_at h holds.0) x (along_at k j holds.0 e) holds.1)
+  where
+    by : (pointing_at k h holds.0 ≡ Some x) ⊎ ((n : ℕ) × Enter n × (pointing_at k h holds.0 ≡ Some (record { map = x.map; node = Some n; pointer = x.pointer })) × (x.node ≡ None)) → CameAlong k h x
+    by (inl is) = (x.node, (holds.0, is))
+    by (inr was) = (Some was.0, (holds.0, was.2))
 
 -- ---- the test against null
 
@@ -117,6 +124,7 @@ record PointsTo (v : ℕ → ℕ) (ps : List PointerView) (k : Kinds) (h : Held)
   guarded : on (v e.bit) ≡ true → on (v guard) ≡ true
   leads : on (v e.bit) ≡ true → e.to ≡ to
   held : AnswerAlike v ps k h → on (v e.bit) ≡ true → (x : Pointing) → HoldsPointer e.kinds e.held x → WasHeld v ps k h x
+  along : (x : Pointing) → HoldsPointer e.kinds e.held x → CameAlong k h x
 
 edges_point : {v : ℕ → ℕ} {ps : List PointerView} {k : Kinds} {h : Held} {guard to : ℕ} {more : List Way} → All (PointsTo v ps k h guard to) more → EdgesPoint v ps k h guard more
 edges_point {v} {ps} {k} {h} {guard} {to} {more} all = record {
@@ -124,6 +132,7 @@ edges_point {v} {ps} {k} {h} {guard} {to} {more} all = record {
   guarded = λ i d l. (all i d l).guarded;
   one = λ e f among also is_on is_too. (All-contains (PointsTo v ps k h guard to) more e all among).leads is_on ∙ sym ((All-contains (PointsTo v ps k h guard to) more f all also).leads is_too);
   held = λ alike i d l is_on. (all i d l).held alike is_on;
+  along = λ i d l. (all i d l).along;
 }
 
 bit_of : {n : ℕ} (a b : Bool) → n ≡ bit (a && b) → (n < 2) × (on n ≡ true → (a ≡ true) × (b ≡ true))
@@ -134,25 +143,30 @@ bit_of false b e = (omega (arith, e), λ is_on. let off : on _ ≡ false = ap on
 branch_points : {decls : List MapDecl} {old new : List CellView} {node : ℕ} {k : Kinds} {h : Held} {guard : ℕ} {i : Insn} {condition : Option ℕ} {taken : Bool} {to : ℕ} {e : Way}
     (ps : List PointerView) (packet : PacketIn) (v : ℕ → ℕ) (there : ℕ)
     → IsBranch decls old new node k h guard i condition taken to e → IsRun packet new v → v guard < 2 → IsBit v condition → (goes v condition taken ≡ true → to ≡ there)
-    → (AnswerAlike v ps k h → goes v condition taken ≡ true → (x : Pointing) → HoldsPointer (transferred decls k i node false taken) h x → WasHeld v ps k h x) → PointsTo v ps k h guard there e
-branch_points {decls} {node = node} {k = k} {h = h} {guard = guard} {i = i} {condition = condition} {taken = taken} {e = e} ps packet v there branch run small is_bit leads held =
+    → (AnswerAlike v ps k h → goes v condition taken ≡ true → (x : Pointing) → HoldsPointer (transferred decls k i node false taken) h x → WasHeld v ps k h x)
+    → ((x : Pointing) → HoldsPointer (transferred decls k i node false taken) h x → CameAlong k h x) → PointsTo v ps k h guard there e
+branch_points {decls} {node = node} {k = k} {h = h} {guard = guard} {i = i} {condition = condition} {taken = taken} {e = e} ps packet v there branch run small is_bit leads held along =
     let b = bit_of (on (v guard)) (goes v condition taken) (branch.branches.value packet v run small is_bit) in
     record {
       bits = b.0;
       guarded = λ is_on. (b.1 is_on).0;
       leads = λ is_on. branch.leads ∙ leads (b.1 is_on).1;
-      held = λ alike is_on x holds. held alike (b.1 is_on).1 x (subst (λ (j : Kinds). HoldsPointer j h x) branch.kinds_are (subst (λ (g : Held). HoldsPointer e.kinds g x) branch.held_is holds));
+      held = λ alike is_on x holds. held alike (b.1 is_on).1 x (edge x holds);
+      along = λ x holds. along x (edge x holds);
     }
+  where
+    edge : (x : Pointing) → HoldsPointer e.kinds e.held x → HoldsPointer (transferred decls k i node false taken) h x
+    edge x holds = subst (λ (j : Kinds). HoldsPointer j h x) branch.kinds_are (subst (λ (g : Held). HoldsPointer e.kinds g x) branch.held_is holds)
 
 -- one edge, on which all was held
 one_points : {decls : List MapDecl} {old new : List CellView} {node : ℕ} {k : Kinds} {h : Held} {guard : ℕ} {i : Insn} {taken : Bool} {to : ℕ} {ways2 : List Way} {e : Way} (ps : List PointerView) (ways : List Way)
     → IsBranch decls old new node k h guard i None taken to e → ways2 ≡ ways ++ e ∷ [] → ((v : ℕ → ℕ) (x : Pointing) → HoldsPointer (transferred decls k i node false taken) h x → WasHeld v ps k h x)
-    → LeavePoints new ps k h guard ways ways2
-one_points {k = k} {h = h} {guard = guard} {to = to} {e = e} ps ways branch pushed held = (
+    → ((x : Pointing) → HoldsPointer (transferred decls k i node false taken) h x → CameAlong k h x) → LeavePoints new ps k h guard ways ways2
+one_points {k = k} {h = h} {guard = guard} {to = to} {e = e} ps ways branch pushed held along = (
   e ∷ [],
   pushed,
   λ packet v run small. edges_point
-      (All-cons (PointsTo v ps k h guard to) e [] (branch_points ps packet v to branch run small tt (λ on. refl) (λ alike on. held v)) (All-nil (PointsTo v ps k h guard to))),
+      (All-cons (PointsTo v ps k h guard to) e [] (branch_points ps packet v to branch run small tt (λ on. refl) (λ alike on. held v) along) (All-nil (PointsTo v ps k h guard to))),
 )
 
 pub decided_points : {decls : List MapDecl} {old new : List CellView} {node : ℕ} {k : Kinds} {h : Held} {guard : ℕ} {i : Insn} {w : Width} {c : JumpCode} {s : Src} {taken : Bool} {to : ℕ}
@@ -160,11 +174,15 @@ pub decided_points : {decls : List MapDecl} {old new : List CellView} {node : �
     → i.op ≡ Jump w c s → decided k i ≡ Some taken → IsBranch decls old new node k h guard i None taken to e → ways2 ≡ ways ++ e ∷ [] → LeavePoints new ps k h guard ways ways2
 decided_points {decls} {node = node} {k = k} {h = h} {i = i} {w = w} {c = c} {s = s} {taken = taken} ps ways op is branch pushed =
     one_points ps ways branch pushed (λ v. was_held v ps k (transferred decls k i node false taken) h (edge_of decls k i node w c s taken op) (λ n enters. absurd (none_enters k i w c s taken taken n op is enters)))
+    (came_along k (transferred decls k i node false taken) h (edge_of decls k i node w c s taken op))
 
 pub always_points : {decls : List MapDecl} {old new : List CellView} {node : ℕ} {k : Kinds} {h : Held} {guard : ℕ} {i : Insn} {w : Width} {to : ℕ} {ways2 : List Way} {e : Way} (ps : List PointerView) (ways : List Way)
     → i.op ≡ Ja w → IsBranch decls old new node k h guard i None true to e → ways2 ≡ ways ++ e ∷ [] → LeavePoints new ps k h guard ways ways2
 always_points {decls} {node = node} {k = k} {h = h} {i = i} {w = w} ps ways op branch pushed =
-    one_points ps ways branch pushed (λ v x holds. inl (subst (λ (j : Kinds). HoldsPointer j h x) (single_edge decls k i node w true op) holds))
+    one_points ps ways branch pushed (λ v x holds. inl (held x holds)) (λ x holds. (x.node, held x holds))
+  where
+    held : (x : Pointing) → HoldsPointer (transferred decls k i node false true) h x → HoldsPointer k h x
+    held x holds = subst (λ (j : Kinds). HoldsPointer j h x) (single_edge decls k i node w true op) holds
 
 -- two edges, by a condition
 pub both_points : {decls : List MapDecl} {old mid mid2 new : List CellView} {node : ℕ} {k : Kinds} {h : Held} {guard : ℕ} {i : Insn} {w : Width} {code : JumpCode} {s : Src} {next jump c : ℕ}
@@ -178,6 +196,9 @@ both_points {decls} {mid = mid} {new = new} {node = node} {k = k} {h = h} {guard
     held packet v taken run alike goes_on = was_held v ps k (transferred decls k i node false taken) h (edge_of decls k i node w code s taken op)
         (answers_found ps k h i w code s _ mid c packet v taken dst src tests run goes_on alike)
 
+    came : (taken : Bool) (x : Pointing) → HoldsPointer (transferred decls k i node false taken) h x → CameAlong k h x
+    came taken = came_along k (transferred decls k i node false taken) h (edge_of decls k i node w code s taken op)
+
     lead : (t taken : Bool) → agrees taken t ≡ true → (if taken then jump else next) ≡ (if t then jump else next)
     lead true true h = refl
     lead false false h = refl
@@ -190,5 +211,5 @@ both_points {decls} {mid = mid} {new = new} {node = node} {k = k} {h = h} {guard
         let start = along.branches.grows.run packet v before in
         let is_bit = tests.is_bit packet v start in
         let P : Way → Type 0 = PointsTo v ps k h guard (if on (v c) then jump else next) in
-        All-cons P e (f ∷ []) (branch_points ps packet v _ along before small is_bit (lead (on (v c)) false) (held packet v false start))
-        (All-cons P f [] (branch_points ps packet v _ aside run small is_bit (lead (on (v c)) true) (held packet v true start)) (All-nil P))
+        All-cons P e (f ∷ []) (branch_points ps packet v _ along before small is_bit (lead (on (v c)) false) (held packet v false start) (came false))
+        (All-cons P f [] (branch_points ps packet v _ aside run small is_bit (lead (on (v c)) true) (held packet v true start) (came true)) (All-nil P))

@@ -1,5 +1,5 @@
 -- Where edges lead to a node that is on the path, one that is on holds what is held there.
-use Rattle.std.proofs.Common.{◌≡◌, ℕ, suc, ◌<◌, Bool, true, false, if◌then◌else◌, ◌||◌, List, [], ◌∷◌, length, get_or, refl, sym, ◌∙◌, ap, arith}
+use Rattle.std.proofs.Common.{◌≡◌, ℕ, suc, ◌<◌, ◌≤◌, Bool, true, false, if◌then◌else◌, ◌||◌, List, [], ◌∷◌, length, get_or, refl, sym, ◌∙◌, ap, arith}
 use Rattle.std.proofs.lemmas.List.Elements.{Contains-get_or}
 use Rattle.xdp_maps.specs.declared.decl.MapDecl.{MapDecl}
 use Rattle.kind_core.specs.declared.kind.Kinds.{Kinds}
@@ -8,12 +8,13 @@ use Rattle.operator_cells.specs.Making.{Grows}
 use Rattle.held_cells.specs.declared.held.Held.{Held}
 use Rattle.held_cells.specs.declared.way.Way.{Way}
 use Rattle.held_cells.specs.Held.{PointerView}
+use Rattle.held_cells.specs.Pointing.{Pointing, HoldsPointer}
 use Rattle.edge_cells.specs.Meeting.{first_on}
 use Rattle.edge_cells.specs.Joining.{any_on, Guards, LeadTo}
 use Rattle.edge_cells.specs.Pointing.{JoinPoints}
 use Rattle.edge_cells.proofs.Growth.{followed_before}
 use Rattle.predicate_core.specs.Arriving.{IsOwn}
-use Rattle.predicate_core.specs.Pointing.{ComesAlong, ArrivePoints}
+use Rattle.predicate_core.specs.Pointing.{ComesAlong, WasBrought, ArrivePoints}
 use Rattle.predicate_core.proofs.Arrived.{lead_each, bit_small}
 
 abbrev IsOn : (ℕ → ℕ) → List Way → Way → ℕ → Type 0
@@ -33,13 +34,22 @@ first_is_on v (a ∷ b ∷ more) d h = by (on (v a.bit)) refl h (first_is_on v (
     by true e all rest = (omega arith, e)
     by false e all rest = let r = rest all in (omega (arith, r.0), r.1)
 
+first_below : (v : ℕ → ℕ) (here : List Way) → 1 ≤ length here → first_on v here < length here
+first_below v [] h = absurd (omega arith)
+first_below v (a ∷ []) h = omega arith
+first_below v (a ∷ b ∷ more) h = by (on (v a.bit)) (first_below v (b ∷ more) (omega arith))
+  where
+    by : (t : Bool) → first_on v (b ∷ more) < length (b ∷ more) → (if t then 0 else suc (first_on v (b ∷ more))) < length (a ∷ b ∷ more)
+    by true rest = omega arith
+    by false rest = omega (arith, rest)
+
 bit_on : (b : Bool) → on (bit b) ≡ true → b ≡ true
 bit_on true e = refl
 bit_on false e = e
 
 pub arrive_points : (decls : List MapDecl) (k : ℕ) (kinds : Kinds) (a b c : List CellView) (ps qs : List PointerView) (ways here : List Way) (guard own : ℕ) (h : Held) (first : ℕ)
-    → LeadTo k ways here → Guards a b here guard → IsOwn b c first guard own → JoinPoints decls b ps qs here kinds h → ArrivePoints decls k kinds c ps qs ways own h
-arrive_points decls k kinds a b c ps qs ways here guard own h first lead guards is joins packet v u run follows bits = (omega (arith, own_is, bit_small (any_on v here)), along)
+    → 1 ≤ length here → LeadTo k ways here → Guards a b here guard → IsOwn b c first guard own → JoinPoints decls b ps qs here kinds h → ArrivePoints decls k kinds c ps qs ways own h
+arrive_points decls k kinds a b c ps qs ways here guard own h first some lead guards is joins packet v u run follows bits = (omega (arith, own_is, bit_small (any_on v here)), along, brought)
   where
     run_here : IsRun packet b v
     run_here = is.grows.run packet v run
@@ -62,6 +72,19 @@ arrive_points decls k kinds a b c ps qs ways here guard own h first lead guards 
           to = lead.to i d first_on_is.0;
           is_on = first_on_is.1;
           holds = joins packet v u d run_here (followed_before is.grows follows);
+        }
+
+    brought : (y : Pointing) → HoldsPointer kinds h y → WasBrought ps qs ways u y
+    brought y held =
+        let i = first_on v here in
+        let x = joins packet v u d run_here (followed_before is.grows follows) y held in
+        record {
+          edge = get_or here i d;
+          among = lead.among (get_or here i d) (Contains-get_or here i d (first_below v here some));
+          was = x.0;
+          holds = x.1;
+          map = x.2.map;
+          goes = x.2.goes;
         }
 
 -- more cells, which read no site

@@ -22,7 +22,7 @@ use Rattle.held_cells.specs.declared.held.Held.{Held}
 use Rattle.held_cells.specs.Paths.{GraphView, Stage, At, Over, Nowhere, before, stands_at, maps_in}
 use Rattle.held_cells.specs.Steps.{ReadsOwn, IsGood, IsLeft}
 use Rattle.held_cells.specs.Law.{IsPacket, AreAnswered, IsRight, made_at, sites_below, sites_at, Computes, IsLaw}
-use Rattle.held_cells.specs.Pointing.{AccessesLookUp}
+use Rattle.held_cells.specs.Pointing.{AccessesLookUp, AccessesStay}
 use Rattle.held_cells.specs.Reading.{ReadsAreMade, ReadsWait}
 use Rattle.edge_cells.proofs.Growth.{followed_before}
 use Rattle.predicate_core.specs.Buildable.{IsBuildable}
@@ -36,7 +36,7 @@ use Rattle.predicate_core.proofs.LaterReads.{made_later, waits_later}
 use Rattle.predicate_core.proofs.Tracing.{Comes, comes_first, comes_more}
 
 module _ (starts : StartsInRange) (leave : RunsLeaveInRange) (g : GraphView) (hs : List Held) (t : Making) (cells : List CellView) (verdict target : ℕ) (frame : List FrameByte)
-    (legal : All IsInsn g.code.insns) (so_far : IsSoFar g (length g.nodes) hs t) (accesses : AccessesLookUp g.decls (made_alone t)) (made : ReadsAreMade g.decls (made_alone t)) (waits : ReadsWait (made_alone t))
+    (legal : All IsInsn g.code.insns) (so_far : IsSoFar g (length g.nodes) hs t) (accesses : AccessesLookUp g.decls (made_alone t)) (stays : AccessesStay (made_alone t)) (made : ReadsAreMade g.decls (made_alone t)) (waits : ReadsWait (made_alone t))
     (answers : Answers t.cells cells t.exits verdict target frame) where
   abbrev pub p : ProgramView
   p = record { cells = cells; nodes = t.nodes; sites = t.sites; verdict = verdict; target = target; frame = frame }
@@ -147,6 +147,9 @@ module _ (starts : StartsInRange) (leave : RunsLeaveInRange) (g : GraphView) (hs
     sited = sited_more g.decls (made_alone t) p [] (reads_none (ReadsOwn t.sites t.sites) t.cells cells answers.grows) (sym (append-nil t.sites)) (All-nil _) (below_cells g (length g.nodes) t so_far.laid) so_far.sited;
     accesses = λ packet v u run follows j l is o. access_more (λ c i. ⊥) t.cells cells t.sites t.sites [] answers.grows (λ c i none. absurd none) (sym (append-nil t.sites)) g.decls v u j l
         (accesses packet v u (answers.grows.run packet v run) (followed_before answers.grows follows) j l is o);
+    stays = λ packet v u run follows m n founds.
+        stays packet v u (answers.grows.run packet v run) (followed_before answers.grows follows) m n
+        (λ c j l is. founds c j (omega (arith, l, answers.grows.longer)) (ap (λ (x : CellView). x.op) (answers.grows.kept c l) ∙ is));
     reads = made_later (made_alone t) p answers.grows refl g.decls made;
     waits = waits_later (made_alone t) p answers.grows refl so_far.sited.known waits;
   }
@@ -170,5 +173,5 @@ module _ (starts : StartsInRange) (leave : RunsLeaveInRange) (g : GraphView) (hs
   }
 
 pub wholes_compute : StartsInRange → RunsLeaveInRange → WholesCompute
-wholes_compute starts leave g hs t cells verdict target frame legal so_far accesses made waits answers =
-    (law starts leave g hs t cells verdict target frame legal so_far accesses made waits answers, buildable starts leave g hs t cells verdict target frame legal so_far accesses made waits answers)
+wholes_compute starts leave g hs t cells verdict target frame legal so_far accesses stays made waits answers =
+    (law starts leave g hs t cells verdict target frame legal so_far accesses stays made waits answers, buildable starts leave g hs t cells verdict target frame legal so_far accesses stays made waits answers)

@@ -11,7 +11,7 @@ use Rattle.place_rows.specs.Origins.{is_open}
 use Rattle.held_cells.specs.declared.held.Held.{Held}
 use Rattle.held_cells.specs.declared.way.Way.{Way}
 use Rattle.held_cells.specs.Rows.{kind_at, number_at}
-use Rattle.held_cells.specs.Pointing.{Pointing, pointing_as, HoldsPointer, AreLookedUp}
+use Rattle.held_cells.specs.Pointing.{Pointing, pointing_as, HoldsPointer, AreLookedUp, HeldAre}
 use Rattle.predicate_core.specs.Laws.{OpensPoint}
 use Rattle.predicate_core.proofs.FirstFits.{start_closed}
 use Rattle.predicate_core.proofs.Pointers.{low_place}
@@ -35,6 +35,10 @@ opens_point decls t e ways_are none opens = record {
     one = λ x y a b l m o p. All-contains to_one t.ways x (all to_one refl) a ∙ sym (All-contains to_one t.ways y (all to_one refl) b);
     held = all (λ w. 0 ≤ w.to → on (v w.bit) ≡ true → AreLookedUp decls t.cells t.sites v u t.pointers w.kinds w.held) (λ l o x holds. absurd (holds_none e.kinds e.held x opens.kinds_are holds));
     accesses = λ j l. absurd (let n = ap length none in omega (arith, l, n));
+    into = λ m n founds. record {
+      held = all (λ w. HeldAre u m n t.pointers w.kinds w.held) (λ x holds. absurd (holds_none e.kinds e.held x opens.kinds_are holds));
+      accesses = λ j l. absurd (let n = ap length none in omega (arith, l, n));
+    };
   };
 }
   where

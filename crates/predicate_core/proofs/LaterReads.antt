@@ -57,6 +57,17 @@ module _ (R : ℕ → ℕ → Type 0) (p q : ProgramView) (more : List SiteView)
         let a = older c j low l first in
         let b = older d j low m second in
         ap (λ (y : CellView). y.ins) (grows.kept c a) ∙ r.alike c d a b (kept_in c j a first) (kept_in d j b second) ∙ ap (λ (y : CellView). y.ins) (sym (grows.kept d b));
+    found_bits = λ c l o.
+        let a = older c j low l (ap site_in o) in
+        let k = grows.kept c a in
+        let h = r.found_bits c a (ap (λ (x : CellView). x.op) (sym k) ∙ o) in
+        (ap (λ (x : CellView). x.width) k ∙ h.0, ap (λ (x : CellView). x.from) k ∙ h.1);
+    answered_bits = λ c l o.
+        let a = older c j low l (ap site_in o) in
+        let k = grows.kept c a in
+        let h = r.answered_bits c a (ap (λ (x : CellView). x.op) (sym k) ∙ o) in
+        (ap (λ (x : CellView). x.width) k ∙ h.0, ap (λ (x : CellView). x.from) k ∙ h.1);
+    aligned = r.aligned;
   }
 
   pub belongs_before : (i x : ℕ) → i < length p.sites → BelongsTo q.cells i (site_at q.sites i) x → BelongsTo p.cells i (site_at p.sites i) x

@@ -26,16 +26,16 @@ use Rattle.held_cells.specs.declared.way.Exit.{Exit}
 use Rattle.held_cells.specs.Paths.{GraphView, node_at}
 use Rattle.held_cells.specs.Held.{PointerView, pointer_at}
 use Rattle.held_cells.specs.Steps.{Steps, ReadsOwn}
-use Rattle.held_cells.specs.Pointing.{Pointing, HoldsPointer, changes_keys, GoesThrough, LookupPoints, ChangePoints, AccessPoints, PointsAs, PlainPoints, InstructionPoints, AnswerAlike, WasHeld, EdgesPoint, IsSamePointer, IsLookedUp, AreLookedUp, is_access, IsLookupAccess}
+use Rattle.held_cells.specs.Pointing.{Pointing, HoldsPointer, changes_keys, GoesThrough, IsFoundOf, LookupPoints, ChangePoints, AccessPoints, PointsAs, PlainPoints, InstructionPoints, AnswerAlike, WasHeld, EdgesPoint, IsSamePointer, IsLookedUp, AreLookedUp, is_access, IsLookupAccess, IsThrough, FoundsAre, HeldAre, PointerIs}
 use Rattle.edge_cells.specs.declared.joining.Here.{Here}
 use Rattle.edge_cells.specs.Meeting.{Extends}
 use Rattle.edge_cells.proofs.Growth.{followed_before}
-use Rattle.edge_cells.proofs.ExtendingLaws.{extended, pointer_new}
+use Rattle.edge_cells.proofs.ExtendingLaws.{extended, same_pointer, pointer_new}
 use Rattle.step_cells.specs.Stepping.{MadeView}
 use Rattle.step_cells.specs.Pointing.{AlongPoints, JumpPoints, NodePoints}
 use Rattle.predicate_core.specs.Making.{Making, IsSoFar, Arrives}
 use Rattle.predicate_core.specs.Laws.{NodesPoint}
-use Rattle.predicate_core.specs.Pointing.{PointWith, PointSoFar, ComesAlong, ArrivePoints}
+use Rattle.predicate_core.specs.Pointing.{PointInto, PointWith, PointSoFar, ComesAlong, WasBrought, ArrivePoints}
 use Rattle.predicate_core.proofs.Pointers.{inside_pointer, same_later, looked_more, access_more, access_at}
 
 -- ---- sites in strictly ascending nodes
@@ -100,6 +100,8 @@ pub record Adds (decls : List MapDecl) (t : List Way) (before : List SiteView) (
   pub one : (e f : Way) → Contains more e → Contains more f → on (v e.bit) ≡ true → on (v f.bit) ≡ true → e.to ≡ f.to
   pub held : All (λ e. on (v e.bit) ≡ true → AreLookedUp decls new.cells new.sites v u new.pointers e.kinds e.held) more
   pub accesses : (j : ℕ) → length before ≤ j → j < length new.sites → is_access (site_at new.sites j).act ≡ true → on (v (site_at new.sites j).guard) ≡ true → IsLookupAccess decls new.cells new.sites v u j
+  pub into : (m n : ℕ) → FoundsAre new.cells new.sites u m n → All (λ e. HeldAre u m n new.pointers e.kinds e.held) more
+  pub through : (m n : ℕ) → FoundsAre new.cells new.sites u m n → (j : ℕ) → length before ≤ j → j < length new.sites → is_access (site_at new.sites j).act ≡ true → (site_at new.sites j).map ≡ m → PointerIs new.sites u n j
 
 module _ (g : GraphView) (k : ℕ) (hs : List Held) (t : Making) (cells : List CellView) (ps : List PointerView) (new : MadeView) (here : Here) (exits : List Exit) (insn : Insn) (pending : List ℕ)
     (so_far : IsSoFar g k hs t) (arrives : Arrives g k t cells ps here.guard here.held)
@@ -138,6 +140,9 @@ module _ (g : GraphView) (k : ℕ) (hs : List Held) (t : Making) (cells : List C
       let at : length t.sites ≡ j = (let n = ap length is in omega (arith, low, high, n, length-append t.sites (r ∷ []))) in
       ap (λ (i : ℕ). site_at new.sites i) (sym at) ∙ ap (λ (ss : List SiteView). site_at ss (length t.sites)) is ∙ get_or-append_seam t.sites r [] no_site
 
+  no_through : (r : SiteView) → new.sites ≡ t.sites ++ r ∷ [] → (j : ℕ) → length t.sites ≤ j → j < length new.sites → is_access r.act ≡ false → is_access (site_at new.sites j).act ≡ true → ⊥
+  no_through r is j low high none accesses = false≢true (sym none ∙ ap (λ (x : SiteView). is_access x.act) (sym (last_site r j is low high)) ∙ accesses)
+
   -- no cell before the node's code reads its site
   none_before : (d : ℕ) → d < length cells → (cell_at cells d).op ≢ Found (length t.sites)
   none_before d l is = by (cases_lt d (length t.cells))
@@ -150,7 +155,7 @@ module _ (g : GraphView) (k : ℕ) (hs : List Held) (t : Making) (cells : List C
     now : PointWith g.decls k (record { cells = t.cells; pointers = t.pointers; sites = t.sites; ways = t.ways; exits = t.exits }) v u
     now = before.each packet v u (grows.run packet v run) (followed_before grows follows)
 
-    pub come : (v here.guard < 2) × (on (v here.guard) ≡ true → ComesAlong g.decls k kinds here.held t.pointers ps t.ways v u)
+    pub come : (v here.guard < 2) × (on (v here.guard) ≡ true → ComesAlong g.decls k kinds here.held t.pointers ps t.ways v u) × ((y : Pointing) → HoldsPointer kinds here.held y → WasBrought t.pointers ps t.ways u y)
     come = comes packet v u (s.grows.run packet v run) (followed_before s.grows follows) now.bits
 
     -- where the node is on the path no edge passes it by
@@ -186,6 +191,86 @@ module _ (g : GraphView) (k : ℕ) (hs : List Held) (t : Making) (cells : List C
 
     still : on (v here.guard) ≡ true → (x : Pointing) → All (Keeps x) s.more → HoldsPointer kinds here.held x → IsLookedUp g.decls new.cells new.sites v u new.pointers x
     still path x keep holds = behind x keep (there x holds) (looked path x holds)
+
+    -- ---- into which maps pointers lead, on the path or not
+
+    module _ (m n : ℕ) (founds : FoundsAre new.cells new.sites u m n) where
+      founds_before : FoundsAre t.cells t.sites u m n
+      founds_before c j l is into =
+          let low : j < length t.sites = so_far.sited.known c j l (ap site_in is) in
+          founds c j (omega (arith, l, grows.longer)) (ap (λ (x : CellView). x.op) (grows.kept c l) ∙ is)
+          (ap (λ (ss : List SiteView). (site_at ss j).map) s.sites_are ∙ ap (λ (x : SiteView). x.map) (get_or-append t.sites s.more no_site j low) ∙ into)
+
+      pub into_before : PointInto (record { cells = t.cells; pointers = t.pointers; sites = t.sites; ways = t.ways; exits = t.exits }) u m n
+      into_before = now.into m n founds_before
+
+      pub into_here : HeldAre u m n ps kinds here.held
+      into_here y holds into =
+          let f = come.2 y holds in
+          f.goes ∙ All-contains (λ e. HeldAre u m n t.pointers e.kinds e.held) t.ways f.edge into_before.held f.among f.was f.holds (sym f.map ∙ into)
+
+      pub into_still : HeldAre u m n new.pointers kinds here.held
+      into_still y holds into = ap (λ (q : PointerView). u q.found) (same_pointer ps new.pointers y.pointer extends (there y holds)) ∙ into_here y holds into
+
+      pub into_passing : All (λ e. HeldAre u m n new.pointers e.kinds e.held) t.ways
+      into_passing i d l x holds into =
+          let e = get_or t.ways i d in
+          ap (λ (q : PointerView). u q.found)
+          (same_pointer t.pointers new.pointers x.pointer (extended arrives.extends extends) (inside_pointer g.decls (length t.cells) t.pointers e.kinds e.held x (so_far.made.each_way i d l).1 holds))
+          ∙ into_before.held i d l x holds into
+
+      module _ (after : Kinds) (next : Held) where
+        new_into : (r : SiteView) → new.sites ≡ t.sites ++ r ∷ [] → LookupPoints kinds here.held after next cells new.cells ps new.pointers (length t.sites) r → HeldAre u m n new.pointers after next
+        new_into r is p y holds into = by (p.held y holds)
+          where
+            f : IsFoundOf new.cells (length t.sites) p.found
+            f = p.is_found none_before
+
+            at : site_at new.sites (length t.sites) ≡ r
+            at = last_site r (length t.sites) is (omega arith) (let c = ap length is in omega (arith, c, length-append t.sites (r ∷ [])))
+
+            by : (y ≡ record { map = r.map; node = Some r.node; pointer = length ps }) ⊎ HoldsPointer kinds here.held y → u (pointer_at new.pointers y.pointer).found ≡ n
+            by (inr h) = into_still y h into
+            by (inl e) =
+                ap (λ (x : Pointing). u (pointer_at new.pointers x.pointer).found) e
+                ∙ ap (λ (q : PointerView). u q.found) (pointer_new ps new.pointers (record { found = p.found; key = r.key }) (length ps) refl p.pointers_are)
+                ∙ founds p.found (length t.sites) f.there f.is (ap (λ (x : SiteView). x.map) at ∙ sym (ap (λ (x : Pointing). x.map) e) ∙ into)
+
+        acts_into : (r : SiteView) → new.sites ≡ t.sites ++ r ∷ [] → (a : Act) → PointsAs a g.decls kinds here.held after next cells new.cells ps new.pointers (length t.sites) r → HeldAre u m n new.pointers after next
+        acts_into r is act.Lookup p = new_into r is p
+        acts_into r is act.Update p = λ y holds. into_still y (p.kept y holds)
+        acts_into r is act.Delete p = λ y holds. into_still y (p.kept y holds)
+        acts_into r is (act.Load at size) p = λ y holds. into_still y (p.kept y holds)
+        acts_into r is (act.Store at size) p = λ y holds. into_still y (p.kept y holds)
+        acts_into r is (act.Atomic at a) p = λ y holds. into_still y (p.kept y holds)
+
+        pub into_behind : InstructionPoints g.decls insn pending kinds here.held after next cells new.cells ps new.pointers t.sites new.sites → HeldAre u m n new.pointers after next
+        into_behind (inl p) = λ y holds. into_still y (p.kept y holds)
+        into_behind (inr p) = acts_into p.2.site p.2.sites_are p.2.site.act p.2.points
+
+        -- the pointer of a new access
+        goes_into : (r : SiteView) → new.sites ≡ t.sites ++ r ∷ [] → GoesThrough kinds here.held ps r → (j : ℕ) → length t.sites ≤ j → j < length new.sites → (site_at new.sites j).map ≡ m → PointerIs new.sites u n j
+        goes_into r is goes j low high into =
+            let at = last_site r j is low high in
+            let c : ℕ = (pointer_at ps goes.pointer).found in (
+              c,
+              subst (λ (x : SiteView). IsThrough x.act x.operands c) (sym at) goes.through,
+              into_here (record { map = r.map; node = None; pointer = goes.pointer }) goes.holds (sym (ap (λ (x : SiteView). x.map) at) ∙ into),
+            )
+
+        acts_through : (r : SiteView) → new.sites ≡ t.sites ++ r ∷ [] → (a : Act) → r.act ≡ a → PointsAs a g.decls kinds here.held after next cells new.cells ps new.pointers (length t.sites) r
+            → (j : ℕ) → length t.sites ≤ j → j < length new.sites → is_access (site_at new.sites j).act ≡ true → (site_at new.sites j).map ≡ m → PointerIs new.sites u n j
+        acts_through r is (act.Load at size) e p = λ j low high accesses. goes_into r is p.through j low high
+        acts_through r is (act.Store at size) e p = λ j low high accesses. goes_into r is p.through j low high
+        acts_through r is (act.Atomic at a) e p = λ j low high accesses. goes_into r is p.through j low high
+        acts_through r is act.Lookup e p = λ j low high accesses. absurd (no_through r is j low high (ap is_access e) accesses)
+        acts_through r is act.Update e p = λ j low high accesses. absurd (no_through r is j low high (ap is_access e) accesses)
+        acts_through r is act.Delete e p = λ j low high accesses. absurd (no_through r is j low high (ap is_access e) accesses)
+
+        pub into_access : InstructionPoints g.decls insn pending kinds here.held after next cells new.cells ps new.pointers t.sites new.sites
+            → (j : ℕ) → length t.sites ≤ j → j < length new.sites → is_access (site_at new.sites j).act ≡ true → (site_at new.sites j).map ≡ m → PointerIs new.sites u n j
+        into_access (inl p) = λ j low high. absurd (let c = ap length p.sites_are in omega (arith, low, high, c))
+        into_access (inr p) = acts_through p.2.site p.2.sites_are p.2.site.act refl p.2.points
 
     -- ---- an instruction that leads on
 
@@ -286,6 +371,10 @@ module _ (g : GraphView) (k : ℕ) (hs : List Held) (t : Making) (cells : List C
           subst (λ (h : Held). AreLookedUp g.decls new.cells new.sites v u new.pointers (get_or a.more i d).kinds h) (sym e.3)
           (subst (λ (ks : Kinds). AreLookedUp g.decls new.cells new.sites v u new.pointers ks a.next) (sym e.2) ((instruction a.after a.next a.points).0 (ap (λ (b : ℕ). on (v b)) (sym e.1) ∙ o)));
       accesses = (instruction a.after a.next a.points).1;
+      into = λ m n founds i d l.
+          let e = a.edges i d l in
+          subst (λ (h : Held). HeldAre u m n new.pointers (get_or a.more i d).kinds h) (sym e.3) (subst (λ (ks : Kinds). HeldAre u m n new.pointers ks a.next) (sym e.2) (into_behind m n founds a.after a.next a.points));
+      through = λ m n founds. into_access m n founds a.after a.next a.points;
     }
 
     jump : JumpPoints kinds here old new → Adds g.decls t.ways t.sites new here.guard v u
@@ -299,6 +388,8 @@ module _ (g : GraphView) (k : ℕ) (hs : List Held) (t : Making) (cells : List C
           let path = edges.guarded i d l o in
           by path x (edges.held (answers_alike g.decls cells t.sites v u ps kinds here.held before.ascending (looked path)) i d l o x holds);
       accesses = λ j low high. absurd (let n = ap length a.sites_are in omega (arith, low, high, n));
+      into = λ m n founds i d l x holds. let was = edges.along i d l x holds in into_still m n founds (record { map = x.map; node = was.0; pointer = x.pointer }) was.1;
+      through = λ m n founds j low high. absurd (let c = ap length a.sites_are in omega (arith, low, high, c));
     }
       where
         edges : EdgesPoint v ps kinds here.held here.guard a.leaves.0
@@ -319,8 +410,20 @@ module _ (g : GraphView) (k : ℕ) (hs : List Held) (t : Making) (cells : List C
       one = λ e f c d l m o p. one e f (Contains-append_cases t.ways a.more e (subst (λ (ws : List Way). Contains ws e) a.ways_are c)) (Contains-append_cases t.ways a.more f (subst (λ (ws : List Way). Contains ws f) a.ways_are d)) l m o p;
       held = subst (All Held_with) (sym a.ways_are) (All-append Held_with t.ways a.more passing (λ i d l low o. a.held i d l o));
       accesses = λ j l is o. by j l is o (cases_lt j (length t.sites));
+      into = λ m n founds. record {
+        held = subst (All (λ e. HeldAre u m n new.pointers e.kinds e.held)) (sym a.ways_are)
+            (All-append (λ e. HeldAre u m n new.pointers e.kinds e.held) t.ways a.more (into_passing m n founds) (a.into m n founds));
+        accesses = λ j l is into. into_each m n founds j l is into (cases_lt j (length t.sites));
+      };
     }
       where
+        into_each : (m n : ℕ) → FoundsAre new.cells new.sites u m n → (j : ℕ) → j < length new.sites → is_access (site_at new.sites j).act ≡ true → (site_at new.sites j).map ≡ m → (j < length t.sites) ⊎ (length t.sites ≤ j) → PointerIs new.sites u n j
+        into_each m n founds j l is into (inr b) = a.through m n founds j b l is into
+        into_each m n founds j l is into (inl b) =
+            let at : site_at new.sites j ≡ site_at t.sites j = ap (λ (ss : List SiteView). site_at ss j) s.sites_are ∙ get_or-append t.sites s.more no_site j b in
+            let x = (into_before m n founds).accesses j b (ap (λ (r : SiteView). is_access r.act) (sym at) ∙ is) (ap (λ (r : SiteView). r.map) (sym at) ∙ into) in
+            (x.0, subst (λ (r : SiteView). IsThrough r.act r.operands x.0) (sym at) x.1, x.2)
+
         Held_with : Way → Type 0
         Held_with e = k + 1 ≤ e.to → on (v e.bit) ≡ true → AreLookedUp g.decls new.cells new.sites v u new.pointers e.kinds e.held
 
@@ -372,6 +475,9 @@ points_later decls k t cells grows p = record {
             looked_more (λ c j. ⊥) t.cells cells t.sites t.sites [] grows (λ c j none. absurd none) (sym (append-nil t.sites)) decls v u t.pointers t.pointers x x (λ j e m. absurd (omega (arith, m))) (same_one decls v u t.pointers x)
             (now.held i d l low o x holds);
         accesses = λ j l a o. access_more (λ c i. ⊥) t.cells cells t.sites t.sites [] grows (λ c i none. absurd none) (sym (append-nil t.sites)) decls v u j l (now.accesses j l a o);
+        into = λ m n founds.
+            let i = now.into m n (λ c j l is. founds c j (omega (arith, l, grows.longer)) (ap (λ (x : CellView). x.op) (grows.kept c l) ∙ is)) in
+            record { held = i.held; accesses = i.accesses };
       };
 }
 

@@ -15,7 +15,7 @@ use Rattle.held_cells.specs.Paths.{GraphView, node_at}
 use Rattle.held_cells.specs.Held.{PointerView}
 use Rattle.held_cells.specs.Steps.{Steps}
 use Rattle.held_cells.specs.Law.{IsLaw}
-use Rattle.held_cells.specs.Pointing.{AccessesLookUp}
+use Rattle.held_cells.specs.Pointing.{AccessesLookUp, AccessesStay}
 use Rattle.held_cells.specs.Reading.{ReadsAreMade, ReadsWait}
 use Rattle.edge_cells.specs.declared.joining.Here.{Here}
 use Rattle.step_cells.specs.Stepping.{MadeView}
@@ -88,7 +88,7 @@ StepsStay =
 abbrev pub WholesCompute : Type 0
 WholesCompute =
     (g : GraphView) (hs : List Held) (t : Making) (cells : List CellView) (verdict target : ℕ) (frame : List FrameByte)
-    → All IsInsn g.code.insns → IsSoFar g (length g.nodes) hs t → AccessesLookUp g.decls (made_alone t) → ReadsAreMade g.decls (made_alone t) → ReadsWait (made_alone t)
+    → All IsInsn g.code.insns → IsSoFar g (length g.nodes) hs t → AccessesLookUp g.decls (made_alone t) → AccessesStay (made_alone t) → ReadsAreMade g.decls (made_alone t) → ReadsWait (made_alone t)
     → Answers t.cells cells t.exits verdict target frame
     → IsLaw g (record { cells = cells; nodes = t.nodes; sites = t.sites; verdict = verdict; target = target; frame = frame })
     × IsBuildable (record { cells = cells; nodes = t.nodes; sites = t.sites; verdict = verdict; target = target; frame = frame })

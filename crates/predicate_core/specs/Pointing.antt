@@ -9,9 +9,14 @@ use Rattle.cell_core.specs.Sites.{site_at}
 use Rattle.operator_cells.specs.Following.{IsFollowed}
 use Rattle.held_cells.specs.declared.held.Held.{Held}
 use Rattle.held_cells.specs.declared.way.Way.{Way}
-use Rattle.held_cells.specs.Held.{PointerView}
-use Rattle.held_cells.specs.Pointing.{Pointing, HoldsPointer, IsSamePointer, AreLookedUp, is_access, IsLookupAccess}
+use Rattle.held_cells.specs.Held.{PointerView, pointer_at}
+use Rattle.held_cells.specs.Pointing.{Pointing, HoldsPointer, IsSamePointer, AreLookedUp, is_access, IsLookupAccess, FoundsAre, HeldAre, PointerIs}
 use Rattle.step_cells.specs.Stepping.{MadeView}
+
+-- With these numbers pointers into map m, those that are held and those of accesses, have number n.
+pub record PointInto (t : MadeView) (u : ℕ → ℕ) (m n : ℕ) : Type 0 where
+  pub held : All (λ e. HeldAre u m n t.pointers e.kinds e.held) t.ways
+  pub accesses : (j : ℕ) → j < length t.sites → is_access (site_at t.sites j).act ≡ true → (site_at t.sites j).map ≡ m → PointerIs t.sites u n j
 
 -- For these values of cells, before node k: bits of edges are bits; those that are on and lead to this node or a later one lead to one, and
 -- each pointer that they hold is that of a lookup; so is that of each access on the path.
@@ -20,6 +25,8 @@ pub record PointWith (decls : List MapDecl) (k : ℕ) (t : MadeView) (v u : ℕ 
   pub one : (e f : Way) → Contains t.ways e → Contains t.ways f → k ≤ e.to → k ≤ f.to → on (v e.bit) ≡ true → on (v f.bit) ≡ true → e.to ≡ f.to
   pub held : All (λ e. k ≤ e.to → on (v e.bit) ≡ true → AreLookedUp decls t.cells t.sites v u t.pointers e.kinds e.held) t.ways
   pub accesses : (j : ℕ) → j < length t.sites → is_access (site_at t.sites j).act ≡ true → on (v (site_at t.sites j).guard) ≡ true → IsLookupAccess decls t.cells t.sites v u j
+  -- on the path or not
+  pub into : (m n : ℕ) → FoundsAre t.cells t.sites u m n → PointInto t u m n
 
 -- So it is for any values of the cells so far; and a node has one site at most.
 pub record PointSoFar (decls : List MapDecl) (k : ℕ) (t : MadeView) : Type 0 where
@@ -34,8 +41,18 @@ pub record ComesAlong (decls : List MapDecl) (k : ℕ) (kinds : Kinds) (h : Held
   pub is_on : on (v edge.bit) ≡ true
   pub holds : (y : Pointing) → HoldsPointer kinds h y → (x : Pointing) × HoldsPointer edge.kinds edge.held x × IsSamePointer decls v u ps qs x y
 
--- Before the step of node k: for any values of the cells its guard is a bit, and where it is on such an edge is.
+-- A pointer at a node was held on an edge, on or not: it leads into the same map, and the same number goes with its found cell.
+pub record WasBrought (ps qs : List PointerView) (ways : List Way) (u : ℕ → ℕ) (y : Pointing) : Type 0 where
+  pub edge : Way
+  pub among : Contains ways edge
+  pub was : Pointing
+  pub holds : HoldsPointer edge.kinds edge.held was
+  pub map : y.map ≡ was.map
+  pub goes : u (pointer_at qs y.pointer).found ≡ u (pointer_at ps was.pointer).found
+
+-- Before the step of node k: for any values of the cells its guard is a bit, and where it is on such an edge is; on or not, edges bring what is
+-- held there.
 abbrev pub ArrivePoints : List MapDecl → ℕ → Kinds → List CellView → List PointerView → List PointerView → List Way → ℕ → Held → Type 0
 ArrivePoints decls k kinds cells ps qs ways guard h =
     (packet : PacketIn) (v u : ℕ → ℕ) → IsRun packet cells v → IsFollowed cells v u → All (λ e. v e.bit < 2) ways
-    → (v guard < 2) × (on (v guard) ≡ true → ComesAlong decls k kinds h ps qs ways v u)
+    → (v guard < 2) × (on (v guard) ≡ true → ComesAlong decls k kinds h ps qs ways v u) × ((y : Pointing) → HoldsPointer kinds h y → WasBrought ps qs ways u y)

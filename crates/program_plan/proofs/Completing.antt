@@ -1,7 +1,8 @@
--- What a packet holds up to the commit place, completed to a run of all cells with numbers for its pointers.
-use Rattle.std.proofs.Common.{◌≡◌, ℕ, zero, suc, ◌+◌, ◌<◌, ◌≤◌, Bool, true, false, Some, None, List, [], ◌∷◌, length, get_or, refl, sym, ap, ◌∙◌, arith}
-use Rattle.std.specs.Prelude.{All, slice_index, ◌==◌, if◌then◌else◌}
-use Rattle.std.proofs.lemmas.Bool.{eqb-true, eqb-false}
+-- What a packet holds of the rows below one, completed to a run of all cells with numbers for its pointers.
+use Rattle.std.proofs.Common.{◌≡◌, ℕ, zero, suc, ◌+◌, ◌<◌, ◌≤◌, Bool, true, false, None, List, [], ◌∷◌, length, get_or, refl, sym, ap, ◌∙◌, arith}
+use Rattle.std.specs.Prelude.{All, slice_index, nat_lt, ◌==◌, ◌^◌, if◌then◌else◌}
+use Rattle.std.proofs.lemmas.Bool.{eqb-true, eqb-false, lt-ltb, le-ltb, ltb-true}
+use Rattle.std.proofs.lemmas.Nat.{pow_pos}
 use Rattle.xdp_machine.specs.State.{PacketIn}
 use Rattle.cell_core.specs.declared.operator.Operator.{Operator}
 use Rattle.cell_core.specs.declared.operator.Operator.TheVariants.{Wire, Phi}
@@ -17,9 +18,9 @@ use Rattle.hazard_core.specs.declared.pointer.Pointer.TheVariants.{Null, InSlot,
 use Rattle.hazard_core.specs.Held.{Held, held_value, pointer_in}
 use Rattle.hazard_core.specs.Rows.{phi_pointer, cell_pointer}
 use Rattle.pipe_core.specs.Machine.{Build}
-use Rattle.pipe_core.specs.Pipeable.{IsOwn, FitsReads}
+use Rattle.pipe_core.specs.Agreement.{IsMade, ReadsFit}
 use Rattle.program_plan.proofs.Lists.{map_all}
-use Rattle.program_plan.proofs.Operators.{site_of_read, none_of_plain, number_of_plain, value_of_plain}
+use Rattle.program_plan.proofs.Operators.{none_of_plain, number_of_plain, value_of_plain}
 
 -- ---- numbers of pointers
 
@@ -28,6 +29,10 @@ abbrev pub pointer_code : Pointer → ℕ
 pointer_code Null = 0
 pointer_code (InSlot n) = suc (n + n)
 pointer_code (Pending j) = suc (suc (j + j))
+
+-- none has 0
+pub record IsCode (code : Pointer → ℕ) : Type 0 where
+  pub none : code Null ≡ 0
 
 pub pointers_same : (x y : Pointer) → pointer_code x ≡ pointer_code y → x ≡ y
 pointers_same Null Null e = refl
@@ -88,69 +93,98 @@ goes_is v u ins op given n e = tt
 -- ---- those of the pointers that a packet holds
 
 -- a value and a number are those of a cell that is held
-record IsHeld (v u : ℕ → ℕ) (h : Held) (c : ℕ) : Type 0 where
+record IsHeld (code : Pointer → ℕ) (v u : ℕ → ℕ) (h : Held) (c : ℕ) : Type 0 where
   value : v c ≡ held_value h c
-  goes : u c ≡ pointer_code (pointer_in h c)
+  goes : u c ≡ code (pointer_in h c)
 
-picked_held : (v u : ℕ → ℕ) (h : Held) (xs : List ℕ) → All (IsHeld v u h) xs → picked v u xs ≡ pointer_code (phi_pointer h xs)
-picked_held v u h [] held = refl
-picked_held v u h (e ∷ []) held = refl
-picked_held v u h (e ∷ x ∷ []) held = (held 1 0 (omega arith)).goes
-picked_held v u h (e ∷ x ∷ d ∷ more) held =
-    ap (λ n. if on n then u x else picked v u (d ∷ more)) (held 0 0 (omega arith)).value
-    ∙ by (picked_held v u h (d ∷ more) (λ k z l. held (suc (suc k)) z (omega (arith, l)))) (on (held_value h e))
-  where
-    by : picked v u (d ∷ more) ≡ pointer_code (phi_pointer h (d ∷ more)) → (b : Bool) → (if b then u x else picked v u (d ∷ more)) ≡ pointer_code (if b then pointer_in h x else phi_pointer h (d ∷ more))
-    by rest true = (held 1 0 (omega arith)).goes
-    by rest false = rest
+module _ (code : Pointer → ℕ) (is_code : IsCode code) (v u : ℕ → ℕ) (h : Held) where
+  picked_held : (xs : List ℕ) → All (IsHeld code v u h) xs → picked v u xs ≡ code (phi_pointer h xs)
+  picked_held [] held = sym is_code.none
+  picked_held (e ∷ []) held = sym is_code.none
+  picked_held (e ∷ x ∷ []) held = (held 1 0 (omega arith)).goes
+  picked_held (e ∷ x ∷ d ∷ more) held =
+      ap (λ n. if on n then u x else picked v u (d ∷ more)) (held 0 0 (omega arith)).value
+      ∙ by (picked_held (d ∷ more) (λ k z l. held (suc (suc k)) z (omega (arith, l)))) (on (held_value h e))
+    where
+      by : picked v u (d ∷ more) ≡ code (phi_pointer h (d ∷ more)) → (b : Bool) → (if b then u x else picked v u (d ∷ more)) ≡ code (if b then pointer_in h x else phi_pointer h (d ∷ more))
+      by rest true = (held 1 0 (omega arith)).goes
+      by rest false = rest
 
-gone_held : (v u : ℕ → ℕ) (p : ProgramView) (row : ℕ → ℕ) (r : ℕ) (t : TableState) (h : Held) (c : CellView) (op : Operator) (q : Pointer) → takes op ≤ length c.ins → All (IsHeld v u h) c.ins
-    → (site_in op ≡ None → q ≡ cell_pointer p row r t h c op) → gone v u c.ins op (pointer_code q) ≡ pointer_code q
-gone_held v u p row r t h c Wire q enough held is = (held 0 0 (omega (arith, enough))).goes ∙ ap pointer_code (sym (is refl))
-gone_held v u p row r t h c Phi q enough held is = picked_held v u h c.ins held ∙ ap pointer_code (sym (is refl))
-gone_held v u p row r t h c op q enough held is = refl
+  gone_held : (p : ProgramView) (row : ℕ → ℕ) (r : ℕ) (t : TableState) (c : CellView) (op : Operator) (q : Pointer) → takes op ≤ length c.ins → All (IsHeld code v u h) c.ins
+      → (site_in op ≡ None → q ≡ cell_pointer p row r t h c op) → gone v u c.ins op (code q) ≡ code q
+  gone_held p row r t c Wire q enough held is = (held 0 0 (omega (arith, enough))).goes ∙ ap code (sym (is refl))
+  gone_held p row r t c Phi q enough held is = picked_held c.ins held ∙ ap code (sym (is refl))
+  gone_held p row r t c op q enough held is = refl
+
+-- what is given of reads goes with them
+gone_read : (v u : ℕ → ℕ) (ins : List ℕ) (op : Operator) (given : ℕ) → is_read op ≡ true → gone v u ins op given ≡ given
+gone_read v u ins Wire given e = absurd (cc)
+gone_read v u ins Phi given e = absurd (cc)
+gone_read v u ins op given e = refl
 
 -- ---- the completed run
 
-pub record IsCompleted (b : Build) (packet : PacketIn) (h : Held) : Type 0 where
+-- where it is below
+abbrev below : ℕ → ℕ → ℕ → ℕ
+below r row n = if nat_lt row r then n else 0
+
+below_is : (r row n : ℕ) → row < r → below r row n ≡ n
+below_is r row n l = ap (λ (b : Bool). if b then n else 0) (lt-ltb row r l)
+
+not_below : (r row n : ℕ) → r ≤ row → below r row n ≡ 0
+not_below r row n l = ap (λ (b : Bool). if b then n else 0) (le-ltb row r l)
+
+pub record IsCompleted (code : Pointer → ℕ) (b : Build) (packet : PacketIn) (h : Held) (r : ℕ) : Type 0 where
   pub v : ℕ → ℕ
   pub u : ℕ → ℕ
   pub run : IsRun packet b.program.cells v
   pub followed : IsFollowed b.program.cells v u
-  pub value : (c : ℕ) → c < length b.program.cells → b.plan.row c ≤ b.plan.commit → v c ≡ held_value h c
-  pub goes : (c : ℕ) → c < length b.program.cells → b.plan.row c ≤ b.plan.commit → u c ≡ pointer_code (pointer_in h c)
+  pub value : (c : ℕ) → c < length b.program.cells → b.plan.row c < r → v c ≡ held_value h c
+  pub goes : (c : ℕ) → c < length b.program.cells → b.plan.row c < r → u c ≡ code (pointer_in h c)
+  -- later reads have no pointers
+  pub later : (c : ℕ) → c < length b.program.cells → is_read (cell_at b.program.cells c).op ≡ true → r ≤ b.plan.row c → u c ≡ 0
 
-module _ (have : HaveValues) (rise : RowsRise) (b : Build) (formed : AreFormed b.program.cells) (rows : AreRows b.program.cells b.plan.row)
-    (early : (c j : ℕ) → c < length b.program.cells → site_in (cell_at b.program.cells c).op ≡ Some j → b.plan.row c ≤ b.plan.commit)
-    (t : TableState) (packet : PacketIn) (h : Held) (own : IsOwn b t packet h) (fits : FitsReads b h) where
+module _ (have : HaveValues) (rise : RowsRise) (code : Pointer → ℕ) (is_code : IsCode code) (b : Build) (r : ℕ) (formed : AreFormed b.program.cells) (rows : AreRows b.program.cells b.plan.row)
+    (t : TableState) (packet : PacketIn) (h : Held)
+    (own : (c : ℕ) → c < length b.program.cells → b.plan.row c < r → site_in (cell_at b.program.cells c).op ≡ None → IsMade b t packet h c) (fits : ReadsFit b r h) where
   abbrev cells : List CellView
   cells = b.program.cells
 
   abbrev ins_at : ℕ → List ℕ
   ins_at k = (cell_at cells k).ins
 
-  values : (v : ℕ → ℕ) × IsRun packet cells v × SameReads cells v (held_value h)
-  values = have packet cells (held_value h) formed (λ k l e. let s = site_of_read (cell_at cells k).op e in let r = early k s.0 l s.1 in fits k l (omega (arith, r)) e)
+  abbrev value_given : ℕ → ℕ
+  value_given k = below r (b.plan.row k) (held_value h k)
+
+  abbrev given : ℕ → ℕ
+  given k = below r (b.plan.row k) (code (pointer_in h k))
+
+  fit : (k : ℕ) → k < length cells → is_read (cell_at cells k).op ≡ true → (t : Bool) → nat_lt (b.plan.row k) r ≡ t → (if t then held_value h k else 0) < 2 ^ (cell_at cells k).width
+  fit k l e true f = fits k l (ltb-true (b.plan.row k) r f) e
+  fit k l e false f = pow_pos (cell_at cells k).width
+
+  values : (v : ℕ → ℕ) × IsRun packet cells v × SameReads cells v value_given
+  values = have packet cells value_given formed (λ k l e. fit k l e (nat_lt (b.plan.row k) r) refl)
 
   abbrev v : ℕ → ℕ
   v = values.0
 
   abbrev u : ℕ → ℕ
-  u k = built v cells (λ i. pointer_code (pointer_in h i)) (length cells) k
+  u k = built v cells given (length cells) k
 
-  -- the inputs of a cell up to the commit place stand before it, and up to the commit place too
+  -- the inputs of a cell of these rows stand before it, and in these rows too
   record IsEarly (n i : ℕ) : Type 0 where
     before : i < n
     there : i < length cells
-    row : b.plan.row i ≤ b.plan.commit
+    row : b.plan.row i < r
 
-  inputs : (k : ℕ) → k < length cells → b.plan.row k ≤ b.plan.commit → All (IsEarly k) (ins_at k)
+  inputs : (k : ℕ) → k < length cells → b.plan.row k < r → All (IsEarly k) (ins_at k)
   inputs k l low m d lm =
       let before = (formed.each k l).earlier m d lm in
       let up = rise cells b.plan.row rows k l m d lm in
       record { before = before; there = omega (arith, before, l); row = omega (arith, up, low) }
 
-  value_below : (n k : ℕ) → k < n → k < length cells → b.plan.row k ≤ b.plan.commit → v k ≡ held_value h k
+  value_below : (n k : ℕ) → k < n → k < length cells → b.plan.row k < r → v k ≡ held_value h k
   value_below zero k lt l low = absurd (omega (arith, lt))
   value_below (suc n) k lt l low =
       by (λ m d lm. let e = inputs k l low m d lm in let before = e.before in value_below n (get_or (ins_at k) m d) (omega (arith, before, lt)) e.there e.row) (is_read (cell_at cells k).op) refl
@@ -159,25 +193,25 @@ module _ (have : HaveValues) (rise : RowsRise) (b : Build) (formed : AreFormed b
       c = cell_at cells k
 
       by : All (λ i. v i ≡ held_value h i) (ins_at k) → (r : Bool) → is_read (cell_at cells k).op ≡ r → v k ≡ held_value h k
-      by same true e = values.2 k l e
+      by same true e = values.2 k l e ∙ below_is r (b.plan.row k) (held_value h k) low
       by same false e =
           let none = none_of_plain c.op e in
           value_of_plain (is_read c.op) packet v c (v k) e (values.1.each k l)
           ∙ ap (λ xs. bits_from (number packet c.op xs) c.from c.width) (map_all v (held_value h) c.ins same)
           ∙ ap (λ n. bits_from n c.from c.width) (sym (number_of_plain b.program b.plan.row (b.plan.row k) t packet h c c.op none)) ∙ sym (own k l low none).value
 
-  u_is : (k : ℕ) → k < length cells → u k ≡ gone_at v cells (λ i. pointer_code (pointer_in h i)) u k
+  u_is : (k : ℕ) → k < length cells → u k ≡ gone_at v cells given u k
   u_is k l =
-      let given : ℕ → ℕ = λ i. pointer_code (pointer_in h i) in
       built_stays v cells given (length cells) k l
       ∙ gone_same v (built v cells given k) u (ins_at k) (cell_at cells k).op (given k) (formed.each k l).enough
       (λ m d lm. let e = (formed.each k l).earlier m d lm in built_stays v cells given k (get_or (ins_at k) m d) e ∙ sym (built_stays v cells given (length cells) (get_or (ins_at k) m d) (omega (arith, e, l))))
 
-  goes_below : (n k : ℕ) → k < n → k < length cells → b.plan.row k ≤ b.plan.commit → u k ≡ pointer_code (pointer_in h k)
+  goes_below : (n k : ℕ) → k < n → k < length cells → b.plan.row k < r → u k ≡ code (pointer_in h k)
   goes_below zero k lt l low = absurd (omega (arith, lt))
   goes_below (suc n) k lt l low =
       u_is k l
-      ∙ gone_held v u b.program b.plan.row (b.plan.row k) t h (cell_at cells k) (cell_at cells k).op (pointer_in h k) (formed.each k l).enough
+      ∙ ap (gone v u (ins_at k) (cell_at cells k).op) (below_is r (b.plan.row k) (code (pointer_in h k)) low)
+      ∙ gone_held code is_code v u h b.program b.plan.row (b.plan.row k) t (cell_at cells k) (cell_at cells k).op (pointer_in h k) (formed.each k l).enough
       (λ m d lm.
       let e = inputs k l low m d lm in
       let before = e.before in
@@ -185,12 +219,13 @@ module _ (have : HaveValues) (rise : RowsRise) (b : Build) (formed : AreFormed b
       record { value = value_below n i (omega (arith, before, lt)) e.there e.row; goes = goes_below n i (omega (arith, before, lt)) e.there e.row })
       (λ none. (own k l low none).pointer)
 
-  pub completed : IsCompleted b packet h
+  pub completed : IsCompleted code b packet h r
   completed = record {
     v = v;
     u = u;
     run = values.1;
-    followed = record { each = λ k l. goes_is v u (ins_at k) (cell_at cells k).op (pointer_code (pointer_in h k)) (u k) (u_is k l) };
+    followed = record { each = λ k l. goes_is v u (ins_at k) (cell_at cells k).op (given k) (u k) (u_is k l) };
     value = λ c l low. value_below (suc c) c (omega arith) l low;
     goes = λ c l low. goes_below (suc c) c (omega arith) l low;
+    later = λ c l e high. u_is c l ∙ gone_read v u (ins_at c) (cell_at cells c).op (given c) e ∙ not_below r (b.plan.row c) (code (pointer_in h c)) high;
   }

@@ -5,3 +5,5 @@ pub mod Reading
 pub mod Completing
 pub mod Pathing
 pub mod Suiting
+pub mod ReadCells
+pub mod Leading

@@ -1,5 +1,5 @@
 -- What a packet holds of the operations on its path, by the law of the completed run.
-use Rattle.std.proofs.Common.{◌≡◌, ℕ, ◌<◌, ◌≤◌, Bool, true, false, Some, List, length, get_or, refl, sym, ap, ◌∙◌, arith, inl, inr, map as map_list}
+use Rattle.std.proofs.Common.{◌≡◌, ℕ, suc, ◌<◌, ◌≤◌, Bool, true, false, Some, List, length, get_or, refl, sym, ap, ◌∙◌, arith, inl, inr, map as map_list}
 use Rattle.std.specs.Prelude.{All, Contains, ◌⊎◌, slice_index, nat_lt, ◌&&◌}
 use Rattle.std.specs.List.{list_all}
 use Rattle.std.proofs.lemmas.Bool.{cases_lt, lt-ltb}
@@ -30,7 +30,7 @@ use Rattle.program_plan.proofs.Lists.{greatest_above, map_all}
 use Rattle.program_plan.proofs.Operators.{heavy_of_site, changes, key_is, goes_by}
 use Rattle.program_plan.proofs.Planning.{site_early, read_early}
 use Rattle.program_plan.proofs.Reading.{IsRead, found_there, found_reads, reads_are}
-use Rattle.program_plan.proofs.Completing.{IsCompleted, pointers_same}
+use Rattle.program_plan.proofs.Completing.{IsCompleted, pointer_code, pointers_same}
 
 -- ---- maps and cells by their numbers
 
@@ -52,7 +52,7 @@ belongs cells i s x (inl taken) = inl taken
 belongs cells i s x (inr read) = let r = All-contains (IsRead cells i) (read_cells cells i) x (reads_are cells i) read in inr (r.there, r.site)
 
 -- Sites take cells that there are.
-below_there : (g : GraphView) (p : ProgramView) → IsLaidOut g p → (j : ℕ) → j < length p.sites → (n : ℕ) × (n ≤ length p.cells) × IsBelow n (site_at p.sites j)
+pub below_there : (g : GraphView) (p : ProgramView) → IsLaidOut g p → (j : ℕ) → j < length p.sites → (n : ℕ) × (n ≤ length p.cells) × IsBelow n (site_at p.sites j)
 below_there g p laid j l =
     let s = site_at p.sites j in (
       (made_at p.nodes s.node).end,
@@ -63,7 +63,7 @@ below_there g p laid j l =
       laid.below j no_site l,
     )
 
-module _ (g : GraphView) (p : ProgramView) (plan : Plan) (slots : ℕ) (law : IsLaw g p) (is : IsPlan p plan) (packet : PacketIn) (h : Held) (made : IsCompleted (build_of p plan slots) packet h) where
+module _ (g : GraphView) (p : ProgramView) (plan : Plan) (slots : ℕ) (law : IsLaw g p) (is : IsPlan p plan) (packet : PacketIn) (h : Held) (made : IsCompleted pointer_code (build_of p plan slots) packet h (suc plan.commit)) where
   abbrev row : ℕ → ℕ
   row = slice_index plan.rows
 
@@ -71,7 +71,7 @@ module _ (g : GraphView) (p : ProgramView) (plan : Plan) (slots : ℕ) (law : Is
   record SameSite (s : SiteView) : Type 0 where
     guard : on (made.v s.guard) ≡ guard_on h s
     key : map_list made.v s.key ≡ map_list (held_value h) s.key
-    operands : All (λ c. (c < length p.cells) × (row c ≤ plan.commit)) s.operands
+    operands : All (λ c. (c < length p.cells) × (row c < suc plan.commit)) s.operands
 
   same_site : (j : ℕ) → j < length p.sites → SameSite (site_at p.sites j)
   same_site j l =
@@ -82,8 +82,9 @@ module _ (g : GraphView) (p : ProgramView) (plan : Plan) (slots : ℕ) (law : Is
       let below = q.2 in
       let low = early.key in
       let high = early.operands in
+      let first = early.guard in
       record {
-        guard = ap on (made.value s.guard (omega (arith, below.guard, few)) early.guard);
+        guard = ap on (made.value s.guard (omega (arith, below.guard, few)) (omega (arith, first)));
         key = map_all made.v (held_value h) s.key (λ k d lt.
             let there = below.key k d lt in
             let up = greatest_above row s.key k d lt in
@@ -127,9 +128,9 @@ module _ (g : GraphView) (p : ProgramView) (plan : Plan) (slots : ℕ) (law : Is
       let ll : a.lookup < length p.sites = omega (arith, before, l) in
       let map_there = (law.sited.fits j l).map in
       let found = only_found p.cells a.lookup a.cell a.is_found in
-      let found_early = read_early p plan is a.cell a.lookup a.is_found.there (ap site_in a.is_found.is) in
+      let found_early : row a.cell < suc plan.commit = (let e = read_early p plan is a.cell a.lookup a.is_found.there (ap site_in a.is_found.is) in omega (arith, e)) in
       let through = goes_by h s.act s.operands a.operand a.through in
-      let operand = All-contains (λ c. (c < length p.cells) × (row c ≤ plan.commit)) s.operands a.operand here.operands through.there in
+      let operand = All-contains (λ c. (c < length p.cells) × (row c < suc plan.commit)) s.operands a.operand here.operands through.there in
       record {
         lookup = a.lookup;
         before = a.before;

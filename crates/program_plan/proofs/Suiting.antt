@@ -1,5 +1,5 @@
 -- Programs by their plans are suited for the pipe.
-use Rattle.std.proofs.Common.{◌≤◌}
+use Rattle.std.proofs.Common.{suc, ◌≤◌, refl, arith}
 use Rattle.cell_core.specs.Sites.{site_at}
 use Rattle.cell_core.specs.Rows.{RowsRise, taken_by}
 use Rattle.cell_core.specs.CellLaws.{HaveValues}
@@ -13,15 +13,15 @@ use Rattle.program_plan.specs.Suited.{ProgramsAreSuited, build_of}
 use Rattle.program_plan.proofs.Lists.{all_by}
 use Rattle.program_plan.proofs.Planning.{read_early, taken_early, commit_within}
 use Rattle.program_plan.proofs.Reading.{found_at, tells_at, reads_planned}
-use Rattle.program_plan.proofs.Completing.{IsCompleted, completed}
+use Rattle.program_plan.proofs.Completing.{IsCompleted, pointer_code, completed}
 use Rattle.program_plan.proofs.Pathing.{seen, accessed}
 
 pub suited : HaveValues → RowsRise → RowsStandBehind → ProgramsAreSuited
 suited have rise stand g p plan slots law buildable is =
     let b : Build = build_of p plan slots in
     let early = read_early p plan is in
-    let whole : (t : TableState) (packet : PacketIn) (h : Held) → IsOwn b t packet h → FitsReads b h → IsCompleted b packet h =
-    completed have rise b law.computes.formed is.rows early in
+    let whole : (t : TableState) (packet : PacketIn) (h : Held) → IsOwn b t packet h → FitsReads b h → IsCompleted pointer_code b packet h (suc plan.commit) =
+    λ t packet h own fits. completed have rise pointer_code (record { none = refl }) b (suc plan.commit) law.computes.formed is.rows t packet h (λ c l low. own c l (omega (arith, low))) fits in
     record {
       rows = record {
         reads = reads_planned g.decls p law.reads plan slots law.computes.formed law.sited is buildable;

@@ -1,6 +1,8 @@
 //! What the cells and the plan of a program give to the pipe. Each function's contract is a law; it computes nothing.
 
 ghost use Rattle.program_plan.specs.Suited.{ProgramsAreSuited};
+ghost use Rattle.program_plan.specs.ReadCells.{ReadCellsAreFirst, AccessesAreAligned};
+ghost use Rattle.program_plan.specs.Leading.{ReadsLead, SitesLead, RecordsLead};
 
 /// Programs whose cells keep the law of cells and can be built, as those of `to_cells` do, are suited for the pipe by their plans, with as many slots as one likes.
 pub fn suited()
@@ -9,4 +11,22 @@ pub fn suited()
     cell_core::laws::have_values();
     cell_core::laws::rows_rise();
     held_cells::laws::rows_stand_behind();
+}
+
+/// Of a program that keeps the law of cells each site has at most one cell that says whether its key is there, a bit, and at most one that
+/// has the bits of what it answers; accesses begin at multiples of their bytes.
+pub fn reads_first()
+    ensures cells { ReadCellsAreFirst }
+    ensures aligned { AccessesAreAligned }
+{}
+
+/// Of such a program each access goes through a pointer into its own map, whatever the packet holds of its reads, on the path or not.
+pub fn accesses_lead()
+    ensures reads { ReadsLead }
+    ensures sites { SitesLead }
+    ensures records { RecordsLead }
+{
+    cell_core::laws::have_values();
+    cell_core::laws::rows_rise();
+    table_laws::laws::founds_lead();
 }

@@ -1,5 +1,5 @@
 -- Atomic changes of entries.
-use Rattle.std.proofs.Common.{◌≡◌, ℕ, ◌-◌, ◌%◌, ◌<◌, ◌==◌, pos, ◌+ℤ◌, if◌then◌else◌, Bool, true, false, Some, None, List, slice_set, refl, sym, ◌∙◌, ap, subst, arith}
+use Rattle.std.proofs.Common.{◌≡◌, ℕ, ◌-◌, ◌%◌, ◌<◌, ◌==◌, ℤ, pos, ◌+ℤ◌, if◌then◌else◌, Bool, true, false, Some, None, List, slice_set, refl, sym, ◌∙◌, ap, subst, arith}
 use Rattle.std.specs.Prelude.{slice_get}
 use Rattle.std.proofs.lemmas.Bool.{eqb-true}
 use Rattle.bpf_isa.specs.declared.operation.Size.{Size}
@@ -21,11 +21,12 @@ use Rattle.xdp_machine.specs.Atomics.{fetches, kind_of, wide_of, comparand, chan
 use Rattle.xdp_machine.specs.Touched.{answers_old}
 use Rattle.xdp_machine.proofs.ChangeLaws.{some_inj}
 use Rattle.kind_core.specs.Access.{compares}
+use Rattle.kind_core.specs.Kinds.{value_bytes}
 use Rattle.cell_core.specs.declared.site.Atomic.{Atomic as AtomicChange}
 use Rattle.cell_core.specs.Sites as site
 use Rattle.site_cells.specs.Changing.{code_of, is_wide, IsAtomic, taken_by}
 use Rattle.site_cells.proofs.Slots.{bound}
-use Rattle.site_cells.proofs.Entries.{Placed}
+use Rattle.site_cells.proofs.Entries.{Placed, IsInPlace, place_aligned}
 
 -- ---- the parts of a change
 pub record Parts (rs : List Value) (i : Insn) (size : Size) (x : Change) : Type 0 where
@@ -113,6 +114,14 @@ wide_bytes W h = refl
 wide_bytes Dw h = refl
 wide_bytes B h = absurd h
 wide_bytes H h = absurd h
+
+-- the bytes of a change are those of its access, at a multiple of which it begins
+pub atomic_bytes : (i : Insn) (size : Size) (at : AtomicChange) → IsSized (Atomic size) → IsAtomic i size at → bytes_in size ≡ change_bytes at.wide
+atomic_bytes i size at sized is = sym (ap change_bytes is.wide ∙ wide_bytes size sized)
+
+pub atomic_aligned : (decls : List MapDecl) (i : Insn) (q o a : ℕ) (y z : ℤ) (size : Size) (at : AtomicChange) → IsSized (Atomic size) → IsAtomic i size at → IsInPlace decls q (pos o +ℤ z) size → y ≡ z
+    → ((b : ℕ) → aligned (pos o +ℤ y) (bytes_in size) (value_bytes decls q) ≡ Some b → a ≡ b) → a % change_bytes at.wide ≡ 0
+atomic_aligned decls i q o a y z size at sized is p offset place = subst (λ (n : ℕ). a % n ≡ 0) (atomic_bytes i size at sized is) (place_aligned decls q o a y z size p offset place)
 
 -- the change of a site, by the values of its source and of what is compared
 pub change_is : (i : Insn) (size : Size) (rs : List Value) (at : AtomicChange) (x : Change) (s c : ℕ) → IsAtomic i size at → Parts rs i size x → number_in (register rs i.src) ≡ Some s

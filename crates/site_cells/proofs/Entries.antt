@@ -2,6 +2,7 @@
 use Rattle.std.proofs.Common.{◌≡◌, ℕ, ◌+◌, ◌*◌, ◌%◌, ◌^◌, ◌<◌, ◌≤◌, ◌==◌, nat_le, ℤ, pos, negsuc, ◌+ℤ◌, if◌then◌else◌, Bool, true, false, Option, Some, None, Result, Ok, Err, List, length, get_or, slice_range, slice_index, refl, sym, ◌∙◌, ap, subst, arith}
 use Rattle.std.specs.Prelude.{All, slice_get, IfSome}
 use Rattle.std.proofs.Math.Nat.{div-one, mod-eq_of_lt}
+use Rattle.std.proofs.lemmas.Bool.{eqb-true}
 use Rattle.std.proofs.lemmas.Option.{slice_get_within}
 use Rattle.byteorder.specs.Numbers.{little_from-lt}
 use Rattle.bpf_isa.specs.declared.operation.Size.{Size}
@@ -110,6 +111,17 @@ place_fits decls q a z size p at =
     let within = aligned-within z (bytes_in size) (value_bytes decls q) p.place p.at in
     let same = at p.place p.at in
     (is_declared decls q (bytes_in size) (some_bytes size) (omega (arith, within)), omega (arith, same, within))
+
+-- where it begins, by an offset as it stands in memory, is a multiple of its bytes
+pub place_aligned : (decls : List MapDecl) (q o a : ℕ) (y z : ℤ) (size : Size) → IsInPlace decls q (pos o +ℤ z) size → y ≡ z → ((b : ℕ) → aligned (pos o +ℤ y) (bytes_in size) (value_bytes decls q) ≡ Some b → a ≡ b) → a % bytes_in size ≡ 0
+place_aligned decls q o a y z size p offset at =
+    let e = at p.place (ap (λ (x : ℤ). aligned (pos o +ℤ x) (bytes_in size) (value_bytes decls q)) offset ∙ p.at) in
+    let b = bound (machine.inside (pos o +ℤ z) (bytes_in size) (value_bytes decls q)) _ p.place p.at in
+    subst (λ (n : ℕ). n % bytes_in size ≡ 0) (sym e) (by b.0 (b.0 % bytes_in size == 0) refl b.2)
+  where
+    by : (x : ℕ) (t : Bool) → (x % bytes_in size == 0) ≡ t → (if t then Some x else None) ≡ Some p.place → p.place % bytes_in size ≡ 0
+    by x true e f = subst (λ (n : ℕ). n % bytes_in size ≡ 0) (some_inj x p.place f) (eqb-true (x % bytes_in size) 0 e)
+    by x false e f = absurd (cc)
 
 -- the number of a pointer in a register names one that is there
 pub entry_pointer : (decls : List MapDecl) (n : ℕ) (ps : List PointerView) (k : Kinds) (h : Held) (r q o : ℕ) → AreInside decls n ps h k → r ≤ 10 → kinds.register k r ≡ Entry q o

@@ -16,7 +16,8 @@ use Rattle.cell_core.specs.Sites.{SiteView}
 use Rattle.operator_cells.specs.Making.{Grows, GrowsWith}
 use Rattle.held_cells.specs.Held.{PointerView}
 use Rattle.held_cells.specs.Pointing.{changes_keys}
-use Rattle.held_cells.specs.Reading.{OperationReads}
+use Rattle.held_cells.specs.Aligned.{IsAligned}
+use Rattle.held_cells.specs.Reading.{answer_bits, OperationReads}
 use Rattle.site_cells.specs.declared.here.Here.{Here}
 use Rattle.site_cells.specs.Siting.{ReadsNext, LooksUp, Accesses, Changes, lookup_site, access_site, change_site}
 
@@ -25,14 +26,16 @@ clash i j e = cc
 
 -- a cell says whether the key of a site is there, or what it answered
 abbrev ReadsAs : List CellView → ℕ → SiteView → ℕ → ℕ → ℕ → Type 0
-ReadsAs cells j s f a c = ((c ≡ f) × ((cell_at cells c).op ≡ Found j) × (finds_key s.act ≡ true)) ⊎ ((c ≡ a) × ((cell_at cells c).op ≡ Answer j) × (reads s.act ≡ true))
+ReadsAs cells j s f a c =
+    ((c ≡ f) × ((cell_at cells c).op ≡ Found j) × (finds_key s.act ≡ true) × ((cell_at cells c).width ≡ 1) × ((cell_at cells c).from ≡ 0))
+    ⊎ ((c ≡ a) × ((cell_at cells c).op ≡ Answer j) × (reads s.act ≡ true) × ((cell_at cells c).width ≡ answer_bits s.act) × ((cell_at cells c).from ≡ 0))
 
 -- the key of a site, and of its operands the one that a read looks at
 abbrev looked_by : SiteView → List ℕ
 looked_by s = s.key ++ take 1 (drop (pointer_operand s.act) s.operands)
 
 -- One new cell at most says whether the key of a new site is there, and one at most what it answered; both take the same cells.
-module _ (decls : List MapDecl) (map : Option ℕ) (pending : ℕ) (old new : List CellView) (j : ℕ) (s : SiteView) (f a : ℕ) (taken : List ℕ) (kept : (k : ℕ) → k < length old → cell_at new k ≡ cell_at old k) (map_is : map ≡ Some s.map)
+module _ (decls : List MapDecl) (map : Option ℕ) (pending : ℕ) (old new : List CellView) (j : ℕ) (s : SiteView) (f a : ℕ) (taken : List ℕ) (kept : (k : ℕ) → k < length old → cell_at new k ≡ cell_at old k) (map_is : map ≡ Some s.map) (aligned : IsAligned s.act)
     (found : asks s.act (get_or decls s.map no_decl).kind ≡ true → (f < length new) × ((cell_at new f).op ≡ Found j))
     (tells : says_done s.act (get_or decls s.map no_decl).kind ≡ true → (a < length new) × ((cell_at new a).op ≡ Answer j) × ((cell_at new a).width ≡ 64) × ((cell_at new a).from ≡ 0))
     (looks : (x : ℕ) → Contains (looked_by s) x → Contains taken x)
@@ -54,6 +57,14 @@ module _ (decls : List MapDecl) (map : Option ℕ) (pending : ℕ) (old new : Li
   answers c (inr x) is = x.2
   answers c (inl x) is = absurd (clash j j (sym x.1 ∙ is))
 
+  found_bits : (c : ℕ) → ReadsAs new j s f a c → (cell_at new c).op ≡ Found j → ((cell_at new c).width ≡ 1) × ((cell_at new c).from ≡ 0)
+  found_bits c (inl x) is = (x.3, x.4)
+  found_bits c (inr x) is = absurd (clash j j (sym is ∙ x.1))
+
+  answered_bits : (c : ℕ) → ReadsAs new j s f a c → (cell_at new c).op ≡ Answer j → ((cell_at new c).width ≡ answer_bits s.act) × ((cell_at new c).from ≡ 0)
+  answered_bits c (inr x) is = (x.3, x.4)
+  answered_bits c (inl x) is = absurd (clash j j (sym x.1 ∙ is))
+
   pub operation_reads : OperationReads decls map pending old new j s
   operation_reads = record {
     map_is = map_is;
@@ -67,6 +78,9 @@ module _ (decls : List MapDecl) (map : Option ℕ) (pending : ℕ) (old new : Li
           answers = λ c l is. answers c (at c l (ap site_in is)).0 is;
           takes = λ c x l is h. subst (λ (xs : List ℕ). Contains xs x) (sym (at c l is).1) (Contains-append_left taken (pending ∷ []) x (looks x h));
           alike = λ c d l m first second. (at c l first).1 ∙ sym (at d m second).1;
+          found_bits = λ c l is. found_bits c (at c l (ap site_in is)).0 is;
+          answered_bits = λ c l is. answered_bits c (at c l (ap site_in is)).0 is;
+          aligned = aligned;
         };
     pends = λ c low high is. subst (λ (xs : List ℕ). Contains xs pending) (sym (sorts c low high is).1) (Contains-push taken pending);
   }
@@ -96,15 +110,15 @@ module _ (R : ℕ → ℕ → Type 0) (old mid full new : List CellView) (first 
       by (inr l) = absurd (last.reads c j l high is)
 
 -- an operation that is not read
-none_reads : (decls : List MapDecl) (map : Option ℕ) (pending : ℕ) (old new : List CellView) (j : ℕ) (s : SiteView) → Grows old new → map ≡ Some s.map → ((k : MapKind) → asks s.act k ≡ false) → ((k : MapKind) → says_done s.act k ≡ false)
+none_reads : (decls : List MapDecl) (map : Option ℕ) (pending : ℕ) (old new : List CellView) (j : ℕ) (s : SiteView) → Grows old new → map ≡ Some s.map → IsAligned s.act → ((k : MapKind) → asks s.act k ≡ false) → ((k : MapKind) → says_done s.act k ≡ false)
     → OperationReads decls map pending old new j s
-none_reads decls map pending old new j s grows map_is no_ask no_say =
-    operation_reads decls map pending old new j s 0 0 (looked_by s) grows.kept map_is (λ e. absurd (false≢true (sym (no_ask _) ∙ e))) (λ e. absurd (false≢true (sym (no_say _) ∙ e))) (λ x h. h) (λ c low high is. absurd (grows.reads c j low high is))
+none_reads decls map pending old new j s grows map_is aligned no_ask no_say =
+    operation_reads decls map pending old new j s 0 0 (looked_by s) grows.kept map_is aligned (λ e. absurd (false≢true (sym (no_ask _) ∙ e))) (λ e. absurd (false≢true (sym (no_say _) ∙ e))) (λ x h. h) (λ c low high is. absurd (grows.reads c j low high is))
 
 -- as an access that does not answer
-pub silent_reads : (decls : List MapDecl) (map : Option ℕ) (here : Here) (old new : List CellView) (sites : List SiteView) (q : ℕ) (a : Act) (p : PointerView) (operands : List ℕ) → Grows old new → map ≡ Some q
+pub silent_reads : (decls : List MapDecl) (map : Option ℕ) (here : Here) (old new : List CellView) (sites : List SiteView) (q : ℕ) (a : Act) (p : PointerView) (operands : List ℕ) → Grows old new → map ≡ Some q → IsAligned a
     → ((k : MapKind) → asks a k ≡ false) → ((k : MapKind) → says_done a k ≡ false) → OperationReads decls map here.pending old new (length sites) (access_site here q a p operands)
-silent_reads decls map here old new sites q a p operands grows map_is no_ask no_say = none_reads decls map here.pending old new (length sites) (access_site here q a p operands) grows map_is no_ask no_say
+silent_reads decls map here old new sites q a p operands grows map_is aligned no_ask no_say = none_reads decls map here.pending old new (length sites) (access_site here q a p operands) grows map_is aligned no_ask no_say
 
 -- an operand that is looked at is one
 an_operand : (n : ℕ) (xs : List ℕ) (x : ℕ) → Contains (take 1 (drop n xs)) x → Contains xs x
@@ -114,10 +128,10 @@ an_operand n xs x h =
 
 -- an access that answers, whose read takes all operands
 pub access_reads : (decls : List MapDecl) (map : Option ℕ) (here : Here) (old mid full new : List CellView) (sites sites2 : List SiteView) (q : ℕ) (a : Act) (p : PointerView) (operands : List ℕ) (c width : ℕ)
-    → Grows old mid → Accesses mid full sites sites2 here q a p operands c width → Grows full new → map ≡ Some q → reads a ≡ true → ((k : MapKind) → asks a k ≡ false) → ((k : MapKind) → says_done a k ≡ false)
+    → Grows old mid → Accesses mid full sites sites2 here q a p operands c width → Grows full new → map ≡ Some q → IsAligned a → width ≡ answer_bits a → reads a ≡ true → ((k : MapKind) → asks a k ≡ false) → ((k : MapKind) → says_done a k ≡ false)
     → OperationReads decls map here.pending old new (length sites) (access_site here q a p operands)
-access_reads decls map here old mid full new sites sites2 q a p operands c width first x last map_is answers no_ask no_say =
-    operation_reads decls map here.pending old new (length sites) (access_site here q a p operands) c c (p.key ++ (operands ++ p.found ∷ [])) (kept (ReadsNext sites) old mid full new first x.grows last) map_is
+access_reads decls map here old mid full new sites sites2 q a p operands c width first x last map_is aligned wide answers no_ask no_say =
+    operation_reads decls map here.pending old new (length sites) (access_site here q a p operands) c c (p.key ++ (operands ++ p.found ∷ [])) (kept (ReadsNext sites) old mid full new first x.grows last) map_is aligned
     (λ e. absurd (false≢true (sym (no_ask _) ∙ e))) (λ e. absurd (false≢true (sym (no_say _) ∙ e))) looks
     (λ d low high is. let o = only (ReadsNext sites) old mid full new first x.grows last (length sites) d low high is in by d (x.only d o.0 o.1))
   where
@@ -131,14 +145,14 @@ access_reads decls map here old mid full new sites sites2 q a p operands c width
     ]
 
     by : (d : ℕ) → d ≡ c → ReadsAs new (length sites) (access_site here q a p operands) c c d × ((cell_at new d).ins ≡ p.key ++ (operands ++ p.found ∷ []) ++ here.pending ∷ [])
-    by d same = let e = ap (cell_at new) same ∙ at in (inr (same, ap (λ (y : CellView). y.op) e, answers), ap (λ (y : CellView). y.ins) e)
+    by d same = let e = ap (cell_at new) same ∙ at in (inr (same, ap (λ (y : CellView). y.op) e, answers, ap (λ (y : CellView). y.width) e ∙ wide, ap (λ (y : CellView). y.from) e), ap (λ (y : CellView). y.ins) e)
 
 -- a change, whose reads look at the first operand, if there is one
 pub change_reads : (decls : List MapDecl) (map : Option ℕ) (here : Here) (old mid new : List CellView) (sites sites2 : List SiteView) (q : ℕ) (a : Act) (key looked operands : List ℕ) (c : ℕ)
     → Grows old mid → Changes mid new sites sites2 here q a key looked operands c → map ≡ Some q → changes_keys a ≡ true → looked ≡ take 1 (drop (pointer_operand a) operands)
     → OperationReads decls map here.pending old new (length sites) (change_site here q a key operands)
 change_reads decls map here old mid new sites sites2 q a key looked operands c first x map_is changes looked_is =
-    operation_reads decls map here.pending old new (length sites) (change_site here q a key operands) x.found c (key ++ looked) (λ k l. x.grows.kept k (omega (arith, l, first.longer)) ∙ first.kept k l) map_is
+    operation_reads decls map here.pending old new (length sites) (change_site here q a key operands) x.found c (key ++ looked) (λ k l. x.grows.kept k (omega (arith, l, first.longer)) ∙ first.kept k l) map_is (whole a changes).0
     (λ e. (x.finds.there, ap (λ (y : CellView). y.op) x.finds.is)) (λ e. (x.reads.there, ap (λ (y : CellView). y.op) x.reads.is, ap (λ (y : CellView). y.width) x.reads.is, ap (λ (y : CellView). y.from) x.reads.is))
     (λ y h. subst (λ (xs : List ℕ). Contains (key ++ xs) y) (sym looked_is) h) (λ d low high is. by d (new_one d low high is (cases_lt d (length mid))))
   where
@@ -151,15 +165,20 @@ change_reads decls map here old mid new sites sites2 q a key looked operands c f
     both act.Delete e = (e, e)
     both b e = absurd (false≢true e)
 
+    whole : (b : Act) → changes_keys b ≡ true → IsAligned b × (64 ≡ answer_bits b)
+    whole act.Update e = (refl, refl)
+    whole act.Delete e = (refl, refl)
+    whole b e = absurd (false≢true e)
+
     by : (d : ℕ) → (d ≡ x.found) ⊎ (d ≡ c) → ReadsAs new (length sites) (change_site here q a key operands) x.found c d × ((cell_at new d).ins ≡ key ++ looked ++ here.pending ∷ [])
-    by d (inl same) = let e = ap (cell_at new) same ∙ x.finds.is in (inl (same, ap (λ (y : CellView). y.op) e, (both a changes).0), ap (λ (y : CellView). y.ins) e)
-    by d (inr same) = let e = ap (cell_at new) same ∙ x.reads.is in (inr (same, ap (λ (y : CellView). y.op) e, (both a changes).1), ap (λ (y : CellView). y.ins) e)
+    by d (inl same) = let e = ap (cell_at new) same ∙ x.finds.is in (inl (same, ap (λ (y : CellView). y.op) e, (both a changes).0, ap (λ (y : CellView). y.width) e, ap (λ (y : CellView). y.from) e), ap (λ (y : CellView). y.ins) e)
+    by d (inr same) = let e = ap (cell_at new) same ∙ x.reads.is in (inr (same, ap (λ (y : CellView). y.op) e, (both a changes).1, ap (λ (y : CellView). y.width) e ∙ (whole a changes).1, ap (λ (y : CellView). y.from) e), ap (λ (y : CellView). y.ins) e)
 
 -- a lookup
 pub lookup_reads : (decls : List MapDecl) (map : Option ℕ) (here : Here) (old mid new : List CellView) (ps qs : List PointerView) (sites sites2 : List SiteView) (q : ℕ) (key : List ℕ) (c : ℕ)
     → Grows old mid → LooksUp mid new ps qs sites sites2 here q key c → map ≡ Some q → OperationReads decls map here.pending old new (length sites) (lookup_site here q key)
 lookup_reads decls map here old mid new ps qs sites sites2 q key c first x map_is =
-    operation_reads decls map here.pending old new (length sites) (lookup_site here q key) x.found x.found key (λ k l. x.grows.kept k (omega (arith, l, first.longer)) ∙ first.kept k l) map_is
+    operation_reads decls map here.pending old new (length sites) (lookup_site here q key) x.found x.found key (λ k l. x.grows.kept k (omega (arith, l, first.longer)) ∙ first.kept k l) map_is refl
     (λ e. (x.reads.there, ap (λ (y : CellView). y.op) x.reads.is)) (λ e. absurd (false≢true e)) (λ y h. subst (λ (xs : List ℕ). Contains xs y) (append-nil key) h) (λ d low high is. by d (new_one d low high is (cases_lt d (length mid))))
   where
     new_one : (d : ℕ) → length old ≤ d → d < length new → site_in (cell_at new d).op ≡ Some (length sites) → (d < length mid) ⊎ (length mid ≤ d) → d ≡ x.found
@@ -167,4 +186,4 @@ lookup_reads decls map here old mid new ps qs sites sites2 q key c first x map_i
     new_one d low high is (inr m) = x.only d m high
 
     by : (d : ℕ) → d ≡ x.found → ReadsAs new (length sites) (lookup_site here q key) x.found x.found d × ((cell_at new d).ins ≡ key ++ here.pending ∷ [])
-    by d same = let e = ap (cell_at new) same ∙ x.reads.is in (inl (same, ap (λ (y : CellView). y.op) e, refl), ap (λ (y : CellView). y.ins) e)
+    by d same = let e = ap (cell_at new) same ∙ x.reads.is in (inl (same, ap (λ (y : CellView). y.op) e, refl, ap (λ (y : CellView). y.width) e, ap (λ (y : CellView). y.from) e), ap (λ (y : CellView). y.ins) e)

@@ -60,6 +60,7 @@ exit_points decls i pending k here cells ps sites ways exits exits2 = inr (recor
       guarded = λ i d b. absurd (omega (arith, b));
       one = λ e f c. absurd (omega (arith, c.1));
       held = λ alike i d b. absurd (omega (arith, b));
+      along = λ i d b. absurd (omega (arith, b));
     },
   );
 })

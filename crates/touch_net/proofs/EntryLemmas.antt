@@ -1,11 +1,13 @@
 -- Whether a change touches the entry under a pointer, by the number of this.
 use Rattle.std.specs.Prelude.{if◌then◌else◌, fold}
 use Rattle.std.specs.Str.{bytes_eq}
-use Rattle.std.proofs.Common.{◌≡◌, ◌∙◌, ℕ, zero, suc, ◌+◌, ◌*◌, ◌/◌, ◌==◌, ◌^◌, ◌<◌, ◌≤◌, Bool, true, false, ◌&&◌, All, List, [], ◌∷◌, ◌++◌, length, take, get_or, refl, sym, ap, arith, map as map_list}
+use Rattle.std.proofs.Common.{◌≡◌, ◌≢◌, ◌∙◌, ℕ, zero, suc, ◌+◌, ◌*◌, ◌/◌, ◌==◌, ◌^◌, ◌<◌, ◌≤◌, Bool, true, false, ◌&&◌, All, List, [], ◌∷◌, ◌++◌, length, take, get_or, refl, sym, ap, arith, map as map_list}
 use Rattle.std.proofs.lemmas.Bool.{eqb-true, eqb-false}
 use Rattle.std.proofs.lemmas.List.Elements.{All-append}
 use Rattle.std.proofs.lemmas.List.Sums.{fold_more}
+use Rattle.std.proofs.lemmas.List.{length-take-le, length-map}
 use Rattle.std.proofs.lemmas.Nat.{pow-add}
+use Rattle.std.proofs.lemmas.Slice.Eq.{bytes_eq-Decides}
 use Rattle.std.proofs.Math.Pow.{pow_mono}
 use Rattle.net_core.specs.Value.{Env}
 use Rattle.block_core.specs.Blocks.{BlockWireTree}
@@ -16,7 +18,8 @@ use Rattle.xdp_machine.specs.Arithmetic.{low}
 use Rattle.cell_core.specs.declared.site.Act.{Act}
 use Rattle.cell_core.specs.declared.site.Act.TheVariants as act
 use Rattle.cell_core.specs.Cells.{bit, on, bits_from}
-use Rattle.cell_core.specs.Sites.{ProgramView, site_at, bytes_of, operation_with}
+use Rattle.cell_core.specs.Sites.{ProgramView, site_at, spelled, bytes_of, operation_with}
+use Rattle.cell_core.proofs.SpelledLaws.{spelled_length}
 use Rattle.hazard_core.specs.declared.change.Change.{Change}
 use Rattle.hazard_core.specs.declared.pointer.Pointer.{Pointer}
 use Rattle.hazard_core.specs.declared.pointer.Pointer.TheVariants.{Null, InSlot, Pending}
@@ -31,7 +34,7 @@ use Rattle.step_nets.proofs.ChainLaws.{starts, next, last}
 use Rattle.step_nets.proofs.StepLaws.{small_bits, bit_small}
 use Rattle.touch_net.specs.declared.change.ChangeNets.{ChangeNets}
 use Rattle.touch_net.specs.declared.change.OwnKey.{OwnKey}
-use Rattle.touch_net.specs.Touching.{change_operands, own_operands, AreOn, ShowsOwn, IsMade}
+use Rattle.touch_net.specs.Touching.{change_operands, own_operands, key_bytes, HaveKeys, ShowsOwn, IsMade}
 use Rattle.touch_net.proofs.ListLemmas.{left_of, right_of, first_of, behind, own_at}
 
 -- what a pointer has above its low two bits
@@ -103,30 +106,62 @@ module _ {N : Type 0} (v : Env N) (bytes : ℕ) (key : List (Operand N)) (n m : 
       stays os (over v bytes key n x o) (behind Fits o os h) (choice_as m small (n == 4 * o.site + 2) (same o) x (λ t. h 0 o (omega arith) (is o)) (λ f. absurd (eqb-false n (4 * o.site + 2) f (is o))))
   found (o ∷ os) x (suc k) lt is h = found os (over v bytes key n x o) k (omega (arith, lt)) is (behind Fits o os h)
 
-module _ {N : Type 0} (v : Env N) (p : ProgramView) (decls : List MapDecl) (h : Held) (e : Change) (bytes m : ℕ) (key : List (Operand N)) (owns : List (OwnKey N)) (shown : bytes_of bytes (map_list (number_in v) key) ≡ e.key) (decl : (decl_of decls m).key ≡ bytes)
-    (are : AreOn p m owns) (own : ShowsOwn v p h owns) where
-  asks : (o : OwnKey N) → (site_at p.sites o.site).map ≡ m → map_list (number_in v) o.key.now ≡ map_list (held_value h) (site_at p.sites o.site).key → bytes_of bytes (map_list (number_in v) o.key.now) ≡ asked_key decls h (site_at p.sites o.site)
-  asks o is k =
-      ap (bytes_of bytes) k
-      ∙ ap (λ n. bytes_of n (map_list (held_value h) (site_at p.sites o.site).key)) (sym (ap (λ q. (decl_of decls q).key) is ∙ decl))
-      ∙ sym (key_is (decl_of decls (site_at p.sites o.site).map) (site_at p.sites o.site).act (map_list (held_value h) (site_at p.sites o.site).key) (map_list (held_value h) (site_at p.sites o.site).operands))
+-- ---- keys of other lengths
+other_length : (a b : List ℕ) → length a ≢ length b → bytes_eq a b ≡ false
+other_length a b ne = by (bytes_eq a b) refl
+  where
+    by : (c : Bool) → bytes_eq a b ≡ c → bytes_eq a b ≡ false
+    by true e = absurd (ne (ap length ((bytes_eq-Decides a b).0 e)))
+    by false e = e
+
+bytes_long : (n : ℕ) (ws : List ℕ) → n ≤ 8 * length ws → length (bytes_of n ws) ≡ n
+bytes_long n ws h = length-take-le n (spelled ws) (omega (arith, h, spelled_length ws))
+
+module _ {N : Type 0} (v : Env N) (p : ProgramView) (decls : List MapDecl) (h : Held) (e : Change) (bytes : ℕ) (key : List (Operand N)) (owns : List (OwnKey N)) (enough : bytes ≤ 8 * length key) (shown : bytes_of bytes (map_list (number_in v) key) ≡ e.key)
+    (are : HaveKeys p decls bytes owns) (own : ShowsOwn v p h owns) where
+  asked_is : (i : ℕ) → bytes_of (key_bytes p decls i) (map_list (held_value h) (site_at p.sites i).key) ≡ asked_key decls h (site_at p.sites i)
+  asked_is i = sym (key_is (decl_of decls (site_at p.sites i).map) (site_at p.sites i).act (map_list (held_value h) (site_at p.sites i).key) (map_list (held_value h) (site_at p.sites i).operands))
+
+  asks : (o : OwnKey N) → key_bytes p decls o.site ≡ bytes → map_list (number_in v) o.key.now ≡ map_list (held_value h) (site_at p.sites o.site).key → bytes_of bytes (map_list (number_in v) o.key.now) ≡ asked_key decls h (site_at p.sites o.site)
+  asks o is k = ap (bytes_of bytes) k ∙ ap (λ n. bytes_of n (map_list (held_value h) (site_at p.sites o.site).key)) (sym is) ∙ asked_is o.site
 
   -- the key of each update to whose entry a pointer is
-  made_key : (i : ℕ) (o : OwnKey N) → (site_at p.sites o.site).map ≡ m → map_list (number_in v) o.key.now ≡ map_list (held_value h) (site_at p.sites o.site).key → o.site ≡ i
+  made_key : (i : ℕ) (o : OwnKey N) → key_bytes p decls o.site ≡ bytes → map_list (number_in v) o.key.now ≡ map_list (held_value h) (site_at p.sites o.site).key → o.site ≡ i
       → bit (bytes_eq (bytes_of bytes (map_list (number_in v) o.key.now)) (bytes_of bytes (map_list (number_in v) key))) ≡ bit (bytes_eq (asked_key decls h (site_at p.sites i)) e.key)
   made_key i o is k at =
       ap (λ l. bit (bytes_eq l (bytes_of bytes (map_list (number_in v) key)))) (asks o is k)
       ∙ ap (λ l. bit (bytes_eq (asked_key decls h (site_at p.sites o.site)) l)) shown
       ∙ ap (λ x. bit (bytes_eq (asked_key decls h (site_at p.sites x)) e.key)) at
 
-  pub by_pointer : (slot : ℕ) → slot ≡ e.slot → (q : Pointer) → IsMade q owns → fold (over v bytes key (pointer_number q)) (bit (in_slot (pointer_number q) slot)) owns ≡ bit (entry_touched p decls h e q)
+  -- a key of another length is not that of the change
+  apart : (i : ℕ) → key_bytes p decls i ≤ 8 * length (site_at p.sites i).key → key_bytes p decls i ≢ bytes → bytes_eq (asked_key decls h (site_at p.sites i)) e.key ≡ false
+  apart i words ne =
+      let ks = map_list (held_value h) (site_at p.sites i).key in
+      let ws = map_list (number_in v) key in
+      let asked : length (asked_key decls h (site_at p.sites i)) ≡ key_bytes p decls i = ap length (sym (asked_is i)) ∙ bytes_long (key_bytes p decls i) ks (omega (arith, words, length-map (site_at p.sites i).key (held_value h))) in
+      let changed : length e.key ≡ bytes = ap length (sym shown) ∙ bytes_long bytes ws (omega (arith, enough, length-map key (number_in v))) in
+      other_length (asked_key decls h (site_at p.sites i)) e.key (λ same. ne (sym asked ∙ same ∙ changed))
+
+  pub by_pointer : (slot : ℕ) → slot ≡ e.slot → (q : Pointer) → IsMade p decls bytes q owns → fold (over v bytes key (pointer_number q)) (bit (in_slot (pointer_number q) slot)) owns ≡ bit (entry_touched p decls h e q)
   by_pointer slot is Null made = stays v bytes key 0 0 (omega arith) owns 0 (λ k d lt f. absurd (omega (arith, f))) refl
   by_pointer slot is (InSlot k) made =
       let odd : bits_from (4 * k + 1) 0 1 ≡ 1 = omega arith in
       let index : (4 * k + 1) / 4 ≡ k = omega arith in
       stays v bytes key (4 * k + 1) (bit (k == e.slot)) (bit_small (k == e.slot)) owns (bit (in_slot (4 * k + 1) slot)) (λ i d lt f. absurd (omega (arith, f)))
       (ap (λ b. bit (on b && ((4 * k + 1) / 4 == slot))) odd ∙ ap (λ b. bit (b == slot)) index ∙ ap (λ b. bit (k == b)) is)
-  by_pointer slot is (Pending i) made =
-      let a = made i refl in
-      found v bytes key (4 * i + 2) (bit (bytes_eq (asked_key decls h (site_at p.sites i)) e.key)) (bit_small (bytes_eq (asked_key decls h (site_at p.sites i)) e.key)) owns (bit (in_slot (4 * i + 2) slot)) a.0 a.1 (λ d. ap (λ x. 4 * x + 2) (sym (a.2 d)))
-      (λ n d lt f. made_key i (get_or owns n d) (are n d lt) (own n d lt) (omega (arith, f)))
+  by_pointer slot is (Pending i) made = by (key_bytes p decls i == bytes) refl
+    where
+      asked : Bool
+      asked = bytes_eq (asked_key decls h (site_at p.sites i)) e.key
+
+      by : (b : Bool) → (key_bytes p decls i == bytes) ≡ b → fold (over v bytes key (4 * i + 2)) (bit (in_slot (4 * i + 2) slot)) owns ≡ bit asked
+      by true same =
+          let a = made.among i refl (eqb-true (key_bytes p decls i) bytes same) in
+          found v bytes key (4 * i + 2) (bit asked) (bit_small asked) owns (bit (in_slot (4 * i + 2) slot)) a.0 a.1 (λ d. ap (λ x. 4 * x + 2) (sym (a.2 d)))
+          (λ n d lt f. made_key i (get_or owns n d) (are n d lt) (own n d lt) (omega (arith, f)))
+      by false other =
+          let ne = eqb-false (key_bytes p decls i) bytes other in
+          let even : bits_from (4 * i + 2) 0 1 ≡ 0 = omega arith in
+          stays v bytes key (4 * i + 2) 0 (omega arith) owns (bit (in_slot (4 * i + 2) slot))
+          (λ n d lt f. let at : (get_or owns n d).site ≡ i = omega (arith, f) in absurd (ne (sym (ap (key_bytes p decls) at) ∙ are n d lt))) (ap (λ b. bit (on b && ((4 * i + 2) / 4 == slot))) even)
+          ∙ ap bit (sym (apart i (made.words i refl) ne))

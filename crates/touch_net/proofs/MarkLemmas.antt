@@ -7,26 +7,17 @@ use Rattle.net_core.specs.Value.{Env}
 use Rattle.block_core.specs.Blocks.{BlockWireTree}
 use Rattle.block_core.specs.declared.name.Name.{Name}
 use Rattle.cell_core.specs.Cells.{bit, on}
-use Rattle.cell_core.specs.Sites.{ProgramView, site_at}
+use Rattle.cell_core.specs.Sites.{SiteView, ProgramView, site_at}
 use Rattle.hazard_core.specs.Held.{Held, guard_on}
-use Rattle.hazard_core.specs.Marks.{known_on, known_off}
+use Rattle.hazard_core.specs.Marks.{is_known, known_on}
 use Rattle.cell_nets.specs.declared.operand.Operand.{Operand}
 use Rattle.cell_nets.specs.Operands.{number_in, IsAvailable}
 use Rattle.cell_nets.specs.Wires.{always, Gives}
 use Rattle.step_nets.proofs.ChainLaws.{starts, next, last}
 use Rattle.step_nets.proofs.StepLaws.{all_each, on_bit}
 use Rattle.touch_net.specs.declared.marks.MarkNets.{MarkNets}
-use Rattle.touch_net.specs.Marking.{guard_operands, mark_operands, due_by, shown_due, IsKnownGuard, ShowsGuard, AreKnown, ShowMarks}
-use Rattle.touch_net.proofs.StepLemmas.{and_turned}
+use Rattle.touch_net.specs.Marking.{guard_operands, mark_operands, due_by, shown_due, IsKnownGuard, ShowsGuard, AreKnown, ShowsMark, ShowMarks}
 use Rattle.touch_net.proofs.ListLemmas.{left_of, right_of, first_of, behind}
-
-not_not : (b : Bool) → b ≡ not (not b)
-not_not true = refl
-not_not false = refl
-
-and_true : (b : Bool) → b ≡ (b && true)
-and_true true = refl
-and_true false = refl
 
 and_false : (b : Bool) → false ≡ (b && false)
 and_false true = refl
@@ -35,33 +26,6 @@ and_false false = refl
 or_false : (b : Bool) → b ≡ (b || false)
 or_false true = refl
 or_false false = refl
-
--- a read that was done and whose guard is not known as 0
-pub marked_as : (comes touched off read : Bool) → read ≡ true → ((comes && touched) && not off) ≡ (comes && (read && not off && touched))
-marked_as false touched off read e = refl
-marked_as true touched off read e = and_turned touched (not off) ∙ ap (λ b. b && not off && touched) (sym e)
-
--- ---- a mark that stays
-module _ {P : Type 0} (q : P) (old new : List (BlockWireTree (Name P))) (marked out : Operand (Name P)) where
-  abbrev pub Keeps : Option (Operand (Name P)) → Type 0
-  Keeps guard =
-      (p : ProgramView) (row : ℕ → ℕ) (r : ℕ) (h : Held) (j : ℕ) (was : Bool) → IsKnownGuard p row r j guard
-      → Gives q old new (marked ∷ guard_operands guard) (λ v. (number_in v marked ≡ bit was) × ShowsGuard v p h j guard) (λ v. bit (was && not (known_off row r h (site_at p.sites j)))) 1 out
-
-  pub keeps_some : (guard : Option (Operand (Name P))) (g : Operand (Name P)) → guard ≡ Some g → Gives q old new (marked ∷ g ∷ []) always (λ v. bit (on (number_in v marked) && on (number_in v g))) 1 out → Keeps guard
-  keeps_some guard g is x = subst Keeps (sym is)
-      (λ p row r h j was known. last (starts q old (marked ∷ g ∷ []) _) x (λ ins a. a) (λ v f k. tt) (λ v. bit (was && not (known_off row r h (site_at p.sites j))))
-      (λ v f k.
-      let s = site_at p.sites j in
-      ap (λ b. bit (b && on (number_in v g))) (ap on k.0 ∙ on_bit was)
-      ∙ ap (λ n. bit (was && on n)) k.1
-      ∙ ap (λ b. bit (was && b)) (not_not (guard_on h s))
-      ∙ ap (λ b. bit (was && not (b && not (guard_on h s)))) (sym known)))
-
-  pub keeps_none : (guard : Option (Operand (Name P))) → guard ≡ None → Gives q old new (marked ∷ []) always (λ v. bit (on (number_in v marked))) 1 out → Keeps guard
-  keeps_none guard is x = subst Keeps (sym is)
-      (λ p row r h j was known. last (starts q old (marked ∷ []) _) x (λ ins a. a) (λ v f k. tt) (λ v. bit (was && not (known_off row r h (site_at p.sites j))))
-      (λ v f k. ap bit (ap on k.0 ∙ on_bit was ∙ and_true was) ∙ ap (λ b. bit (was && not (b && not (guard_on h (site_at p.sites j))))) (sym known)))
 
 -- ---- a mark that is due
 module _ {P : Type 0} (q : P) (old new : List (BlockWireTree (Name P))) (due marked out : Operand (Name P)) where
@@ -98,16 +62,28 @@ mark_more q old mid new ms i m due out lt is x y =
     ap (λ b. bit (b || shown_due v m)) (ap on k.1 ∙ on_bit before) ∙ ap (λ x. bit (before || shown_due v x)) is ∙ ap bit (sym (list_any_more (shown_due v) ms i m lt)))
 
 module _ {N : Type 0} (v : Env N) (p : ProgramView) (row : ℕ → ℕ) (r : ℕ) (h : Held) (marked : ℕ → Bool) where
-  one : (j : ℕ) (a : Operand N) (guard : Option (Operand N)) → IsKnownGuard p row r j guard → number_in v a ≡ bit (marked j) → ShowsGuard v p h j guard → due_by v a guard ≡ (marked j && known_on row r h (site_at p.sites j))
-  one j a None known e k = and_false (marked j) ∙ ap (λ b. marked j && (b && guard_on h (site_at p.sites j))) (sym known)
-  one j a (Some g) known e k =
-      ap (λ b. b && on (number_in v g)) (ap on e ∙ on_bit (marked j)) ∙ ap (λ n. marked j && on n) k ∙ ap (λ b. marked j && (b && guard_on h (site_at p.sites j))) (sym known)
+  -- where the guard is known as 0 nothing is due
+  guarded : (known on_path was now : Bool) → ((known && not on_path) ≡ false → now ≡ was) → true ≡ known → (now && on_path) ≡ (was && (known && on_path))
+  guarded true true was now same k = ap (λ b. b && true) (same refl)
+  guarded true false was now same k = sym (and_false now) ∙ and_false was
+  guarded false on_path was now same k = cc
 
-  pub due_is : (js : List ℕ) (ms : List (MarkNets N)) → AreKnown p row r js ms → ShowMarks v p h marked js ms → list_any (shown_due v) ms ≡ list_any (λ j. marked j && known_on row r h (site_at p.sites j)) js
+  one : (j : ℕ) (m : MarkNets N) → IsKnownGuard p row r j m.guard → ShowsMark v p row r h marked j m → shown_due v m ≡ (marked j && known_on row r h (site_at p.sites j))
+  one j m known shows = by m.guard known shows.guard
+    where
+      s : SiteView
+      s = site_at p.sites j
+
+      by : (guard : Option (Operand N)) → IsKnownGuard p row r j guard → ShowsGuard v p h j guard → due_by v m.marked guard ≡ (marked j && known_on row r h s)
+      by None known k = and_false (marked j) ∙ ap (λ b. marked j && (b && guard_on h s)) (sym known)
+      by (Some g) known k =
+          ap (λ n. on (number_in v m.marked) && on n) k
+          ∙ guarded (is_known row r s) (guard_on h s) (marked j) (on (number_in v m.marked)) (λ off. ap on (shows.mark off) ∙ on_bit (marked j)) (sym known)
+
+  pub due_is : (js : List ℕ) (ms : List (MarkNets N)) → AreKnown p row r js ms → ShowMarks v p row r h marked js ms → list_any (shown_due v) ms ≡ list_any (λ j. marked j && known_on row r h (site_at p.sites j)) js
   due_is [] [] known k = refl
   due_is [] (m ∷ ms) known k = absurd (omega (arith, known.count))
   due_is (j ∷ js) [] known k = absurd (omega (arith, known.count))
   due_is (j ∷ js) (m ∷ ms) known k =
-      let first = k.each 0 m (omega arith) in
-      ap₂ ◌||◌ (one j m.marked m.guard (known.each 0 m (omega arith)) first.mark first.guard)
+      ap₂ ◌||◌ (one j m (known.each 0 m (omega arith)) (k.each 0 m (omega arith)))
       (due_is js ms (record { count = omega (arith, known.count); each = λ n d lt. known.each (suc n) d (omega (arith, lt)) }) (record { each = λ n d lt. k.each (suc n) d (omega (arith, lt)) }))

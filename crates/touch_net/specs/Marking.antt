@@ -5,7 +5,7 @@ use Rattle.net_core.specs.Value.{Env}
 use Rattle.cell_core.specs.Cells.{bit, on}
 use Rattle.cell_core.specs.Sites.{ProgramView, site_at}
 use Rattle.hazard_core.specs.Held.{Held, held_value}
-use Rattle.hazard_core.specs.Marks.{is_known}
+use Rattle.hazard_core.specs.Marks.{is_known, known_off}
 use Rattle.cell_nets.specs.declared.operand.Operand.{Operand}
 use Rattle.cell_nets.specs.Operands.{number_in, IsOperand}
 use Rattle.touch_net.specs.declared.marks.MarkNets.{MarkNets}
@@ -44,9 +44,10 @@ pub record AreKnown {N : Type 0} (p : ProgramView) (row : ℕ → ℕ) (r : ℕ)
   pub count : length ms ≡ length js
   pub each : (n : ℕ) (d : MarkNets N) → n < length js → IsKnownGuard p row r (get_or js n 0) (get_or ms n d).guard
 
-pub record ShowsMark {N : Type 0} (v : Env N) (p : ProgramView) (h : Held) (marked : ℕ → Bool) (j : ℕ) (m : MarkNets N) : Type 0 where
-  pub mark : number_in v m.marked ≡ bit (marked j)
+-- they stand for the mark, where the guard is not known as 0, and for the guard
+pub record ShowsMark {N : Type 0} (v : Env N) (p : ProgramView) (row : ℕ → ℕ) (r : ℕ) (h : Held) (marked : ℕ → Bool) (j : ℕ) (m : MarkNets N) : Type 0 where
+  pub mark : known_off row r h (site_at p.sites j) ≡ false → number_in v m.marked ≡ bit (marked j)
   pub guard : ShowsGuard v p h j m.guard
 
-pub record ShowMarks {N : Type 0} (v : Env N) (p : ProgramView) (h : Held) (marked : ℕ → Bool) (js : List ℕ) (ms : List (MarkNets N)) : Type 0 where
-  pub each : (n : ℕ) (d : MarkNets N) → n < length js → ShowsMark v p h marked (get_or js n 0) (get_or ms n d)
+pub record ShowMarks {N : Type 0} (v : Env N) (p : ProgramView) (row : ℕ → ℕ) (r : ℕ) (h : Held) (marked : ℕ → Bool) (js : List ℕ) (ms : List (MarkNets N)) : Type 0 where
+  pub each : (n : ℕ) (d : MarkNets N) → n < length js → ShowsMark v p row r h marked (get_or js n 0) (get_or ms n d)

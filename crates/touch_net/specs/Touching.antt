@@ -6,6 +6,8 @@ use Rattle.cell_core.specs.declared.site.Act.{Act}
 use Rattle.cell_core.specs.declared.site.Act.TheVariants as act
 use Rattle.cell_core.specs.Cells.{bit}
 use Rattle.cell_core.specs.Sites.{ProgramView, site_at, bytes_of}
+use Rattle.xdp_maps.specs.declared.decl.MapDecl.{MapDecl}
+use Rattle.hazard_core.specs.Tables.{decl_of}
 use Rattle.hazard_core.specs.Held.{Held, held_value}
 use Rattle.hazard_core.specs.declared.pointer.Pointer.{Pointer}
 use Rattle.hazard_core.specs.declared.pointer.Pointer.TheVariants.{Pending}
@@ -45,9 +47,13 @@ pub record IsOwnKey {N : Type 0} (bytes : ℕ) (o : OwnKey N) : Type 0 where
   pub operands : All IsOperand o.key.now
   pub key : bytes ≤ 8 * length o.key.now
 
--- they are operations on a map
-abbrev pub AreOn : {N : Type 0} → ProgramView → ℕ → List (OwnKey N) → Type 0
-AreOn p m owns = All (λ o. (site_at p.sites o.site).map ≡ m) owns
+-- how many bytes the keys of the map of a site have
+abbrev pub key_bytes : ProgramView → List MapDecl → ℕ → ℕ
+key_bytes p decls j = (decl_of decls (site_at p.sites j).map).key
+
+-- they are operations on maps whose keys have so many bytes
+abbrev pub HaveKeys : {N : Type 0} → ProgramView → List MapDecl → ℕ → List (OwnKey N) → Type 0
+HaveKeys p decls bytes owns = All (λ o. key_bytes p decls o.site ≡ bytes) owns
 
 -- the words stand for those of their keys
 abbrev pub ShowsOwn : {N : Type 0} → Env N → ProgramView → Held → List (OwnKey N) → Type 0
@@ -57,6 +63,7 @@ ShowsOwn v p h owns = All (λ o. map_list (number_in v) o.key.now ≡ map_list (
 abbrev pub IsAmong : {N : Type 0} → List (OwnKey N) → ℕ → Type 0
 IsAmong owns i = (k : ℕ) × (k < length owns) × ((d : OwnKey _) → (get_or owns k d).site ≡ i)
 
--- a pointer to an entry that an update is to make is to that of one of them
-abbrev pub IsMade : {N : Type 0} → Pointer → List (OwnKey N) → Type 0
-IsMade q owns = (i : ℕ) → q ≡ Pending i → IsAmong owns i
+-- A pointer to an entry that an update is to make is to that of one of them, where its key has so many bytes: the key of another length is that of no change.
+pub record IsMade {N : Type 0} (p : ProgramView) (decls : List MapDecl) (bytes : ℕ) (q : Pointer) (owns : List (OwnKey N)) : Type 0 where
+  pub among : (i : ℕ) → q ≡ Pending i → key_bytes p decls i ≡ bytes → IsAmong owns i
+  pub words : (i : ℕ) → q ≡ Pending i → key_bytes p decls i ≤ 8 * length (site_at p.sites i).key

@@ -9,11 +9,10 @@ ghost use Rattle.hazard_core.specs.declared.pointer.Pointer.{Pointer};
 ghost use Rattle.hazard_core.specs.Held.{Held};
 ghost use Rattle.hazard_core.specs.declared.change.Change.{Change};
 ghost use Rattle.hazard_core.specs.Marks.{entry_touched};
-ghost use Rattle.hazard_core.specs.Tables.{decl_of};
 ghost use Rattle.cell_nets.specs.Operands.{IsOperand, number_in};
 ghost use Rattle.cell_nets.specs.Wires.{wires_of, always, HasBits, Gives};
 ghost use Rattle.site_operands.specs.Pointers.{pointer_number};
-ghost use Rattle.touch_net.specs.Touching.{change_operands, own_operands, IsChangeNets, IsOwnKey, AreOn, ShowsChange, ShowsOwn, IsMade};
+ghost use Rattle.touch_net.specs.Touching.{change_operands, own_operands, IsChangeNets, IsOwnKey, HaveKeys, ShowsChange, ShowsOwn, IsMade};
 
 use crate::change::{ChangeNets, OwnKey};
 use block_core::block::BlockWire;
@@ -86,8 +85,8 @@ pub(crate) fn entry_touched<P: Copy>(
     requires change { IsChangeNets bytes change.now }
     ensures operand { IfOk result IsOperand }
     ensures bits { IfOk result (HasBits 1) }
-    ensures given { (p : ProgramView) (decls : List MapDecl) (h : Held) (e : Change) (q : Pointer) (m : ℕ) → (decl_of decls m).key ≡ bytes → AreOn p m owns.now → IfOk result (Gives part (wires_of wires.old.items) (wires_of wires.new.items) (pointer ∷ change_operands change.now ++ own_operands owns.now)
-        (λ v. (number_in v pointer ≡ pointer_number q) × ShowsChange v bytes e change.now × ShowsOwn v p h owns.now × IsMade q owns.now) (λ v. bit (entry_touched p decls h e q)) 1) }
+    ensures given { (p : ProgramView) (decls : List MapDecl) (h : Held) (e : Change) (q : Pointer) → HaveKeys p decls bytes owns.now → IfOk result (Gives part (wires_of wires.old.items) (wires_of wires.new.items) (pointer ∷ change_operands change.now ++ own_operands owns.now)
+        (λ v. (number_in v pointer ≡ pointer_number q) × ShowsChange v bytes e change.now × ShowsOwn v p h owns.now × IsMade p decls bytes q owns.now) (λ v. bit (entry_touched p decls h e q)) 1) }
 {
     let mut touched = in_slot(alloc, wires, part, pointer, change.slot)?;
     for own in owns {

@@ -1,9 +1,9 @@
-//! Whether a change of a map touches what a packet read at a site, and the marks that it leaves, in nets.
+//! Whether a change of a map touches what a packet read at a site, and whether one of the marks that such changes leave is due, in nets.
 #![tactic(auto)]
 
 pub mod change;
 mod entry;
 mod key;
 pub mod marks;
-mod steps;
+pub mod steps;
 pub mod touch;

@@ -12,7 +12,7 @@ use std::alloc::{AllocError, Global};
 use step_nets::{choose, truth};
 
 /// Whether one of two operands is not 0.
-pub(crate) fn either<P: Copy>(
+pub fn either<P: Copy>(
     alloc: Global,
     wires: &mut Vec<BlockWire<Name<P>>>,
     part: P,

@@ -12,7 +12,7 @@ ghost use Rattle.cell_nets.specs.Operands.{IsOperand};
 ghost use Rattle.cell_nets.specs.Wires.{wires_of, HasBits, Gives};
 ghost use Rattle.site_operands.specs.Sites.{operands_of, all_of, ShowsSite};
 ghost use Rattle.overlay_net.specs.Reading.{IsSite};
-ghost use Rattle.touch_net.specs.Touching.{change_operands, own_operands, IsChangeNets, IsOwnKey, AreOn, ShowsChange, ShowsOwn, IsMade, reads_entry};
+ghost use Rattle.touch_net.specs.Touching.{change_operands, own_operands, IsChangeNets, IsOwnKey, HaveKeys, ShowsChange, ShowsOwn, IsMade, reads_entry};
 
 use crate::change::{ChangeNets, OwnKey};
 use crate::entry::entry_touched;
@@ -60,9 +60,9 @@ pub fn touches<P: Copy>(
     requires change { IsChangeNets decl.now.key change.now }
     ensures operand { IfOk result IsOperand }
     ensures bits { IfOk result (HasBits 1) }
-    ensures given { (p : ProgramView) (decls : List MapDecl) (h : Held) (j : ℕ) (e : Change) → IsSite p decls j act decl.now → (site_at p.sites j).map ≡ e.map → AreOn p e.map owns.now → IfOk result (Gives part (wires_of wires.old.items) (wires_of wires.new.items)
+    ensures given { (p : ProgramView) (decls : List MapDecl) (h : Held) (j : ℕ) (e : Change) → IsSite p decls j act decl.now → (site_at p.sites j).map ≡ e.map → HaveKeys p decls decl.now.key owns.now → IfOk result (Gives part (wires_of wires.old.items) (wires_of wires.new.items)
         (all_of (operands_of nets.now) ++ (change_operands change.now ++ own_operands owns.now))
-        (λ v. ShowsSite v p h j (operands_of nets.now) × ShowsChange v decl.now.key e change.now × ShowsOwn v p h owns.now × (reads_entry act ≡ true → IsMade (access_pointer h (site_at p.sites j)) owns.now)) (λ v. bit (touches p decls h j e)) 1) }
+        (λ v. ShowsSite v p h j (operands_of nets.now) × ShowsChange v decl.now.key e change.now × ShowsOwn v p h owns.now × (reads_entry act ≡ true → IsMade p decls decl.now.key (access_pointer h (site_at p.sites j)) owns.now)) (λ v. bit (touches p decls h j e)) 1) }
 {
     if reads_entry(act) {
         let out = entry_touched(alloc, wires, part, decl.key, nets.pointer, owns, change)?;

@@ -1,6 +1,6 @@
 -- What the registers of the part hold after a clock.
 use Rattle.std.specs.Prelude.{◌==◌, if◌then◌else◌, cond, slice_index, slice_set}
-use Rattle.std.proofs.Common.{◌≡◌, ℕ, zero, suc, ◌+◌, ◌^◌, ◌<◌, Bool, true, false, Option, Some, None, All, List, [], ◌∷◌, length, get_or, refl, sym, ◌∙◌, ap, subst, arith, replicate, map as map_list}
+use Rattle.std.proofs.Common.{◌≡◌, ℕ, zero, suc, ◌+◌, ◌^◌, ◌<◌, Bool, true, false, Option, Some, None, All, List, [], ◌∷◌, length, get_or, refl, sym, ◌∙◌, ap, subst, arith, map as map_list}
 use Rattle.std.proofs.lemmas.Bool.{eqb-true, eqb-false}
 use Rattle.std.proofs.lemmas.List.{get_or-map, length-map}
 use Rattle.std.proofs.lemmas.List.Elements.{All-nil, All-cons, All-head, All-tail}
@@ -17,13 +17,12 @@ use Rattle.hazard_core.specs.Commits.{written_slot}
 use Rattle.cell_nets.specs.declared.operand.Operand.{Operand}
 use Rattle.cell_nets.specs.Operands.{number_in}
 use Rattle.step_nets.proofs.StepLaws.{small_bits}
+use Rattle.operand_blocks.specs.Registers.{taken_word, zero_word}
 use Rattle.turn_net.specs.declared.nets.RecordNets.{RecordNets}
 use Rattle.turn_net.specs.Turns.{is_at, taken_by}
 use Rattle.turn_net.specs.Nets.{keeps_slot, keeps, kept}
-use Rattle.turn_net.specs.Steps.{slot_at, slots_after}
-use Rattle.turn_net.specs.Sets.{slot_value}
+use Rattle.turn_net.specs.Steps.{slot_at, slots_after, slot_value}
 use Rattle.turn_net.specs.Turn.{slot_word, IsSmall, ShowsTarget}
-use Rattle.turn_net.proofs.SetLemmas.{words_in}
 
 -- ---- of each kept record
 pub kept_keep : {N : Type 0} (rs : List (RecordNets N)) → All (λ r. keeps r ≡ true) (kept rs)
@@ -93,7 +92,7 @@ module _ {P : Type 0} (v : Env (Name P)) (p : ProgramView) (t : TableState) (tak
       λ i. first i ∷ rest i
 
 -- ---- as words
-pub slot_words : {N : Type 0} (v : Env N) (bits : ℕ) (slots : List (Operand N)) → All (λ a. number_in v a < 2 ^ bits) slots → words_in v (map_list (slot_value bits) slots) ≡ map_list (word bits) (map_list (number_in v) slots)
+pub slot_words : {N : Type 0} (v : Env N) (bits : ℕ) (slots : List (Operand N)) → All (λ a. number_in v a < 2 ^ bits) slots → map_list (taken_word v) (map_list (slot_value bits) slots) ≡ map_list (word bits) (map_list (number_in v) slots)
 slot_words v bits [] h = refl
 slot_words v bits (a ∷ slots) h =
     let first = small_bits (number_in v a) bits (All-head (λ a. number_in v a < 2 ^ bits) a slots h) in
@@ -112,11 +111,11 @@ slots_fit v bits taken slots rs h e k d l =
     subst (λ n. n < 2 ^ bits) (sym here) (h k d.target (omega arith))
 
 -- ---- first values
-pub first_words : {N : Type 0} (bits n : ℕ) (taken : List ℕ) (rs : List (RecordNets N)) → n ≡ length rs → All (λ r. slice_index taken r.number ≡ 0) rs → replicate n (word bits 0) ≡ map_list (slot_word bits taken) rs
-first_words bits zero taken [] e h = refl
-first_words bits zero taken (r ∷ rs) e h = absurd (omega arith)
-first_words bits (suc n) taken [] e h = absurd (omega arith)
-first_words bits (suc n) taken (r ∷ rs) e h =
+pub first_words : {N : Type 0} (bits : ℕ) (taken : List ℕ) (slots : List (Operand N)) (rs : List (RecordNets N)) → length slots ≡ length rs → All (λ r. slice_index taken r.number ≡ 0) rs → map_list zero_word (map_list (slot_value bits) slots) ≡ map_list (slot_word bits taken) rs
+first_words bits taken [] [] e h = refl
+first_words bits taken [] (r ∷ rs) e h = absurd (omega arith)
+first_words bits taken (a ∷ slots) [] e h = absurd (omega arith)
+first_words bits taken (a ∷ slots) (r ∷ rs) e h =
     let first = sym (All-head (λ r. slice_index taken r.number ≡ 0) r rs h) in
-    let rest = first_words bits n taken rs (omega arith) (All-tail (λ r. slice_index taken r.number ≡ 0) r rs h) in
+    let rest = first_words bits taken slots rs (omega arith) (All-tail (λ r. slice_index taken r.number ≡ 0) r rs h) in
     λ i. word bits (first i) ∷ rest i

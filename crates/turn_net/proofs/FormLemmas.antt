@@ -1,23 +1,22 @@
 -- The block is what it is to be.
 use Rattle.std.specs.Prelude.{Contains, slice_index}
 use Rattle.std.specs.List.{list_all}
-use Rattle.std.proofs.Common.{◌≡◌, inl, inr, ℕ, zero, suc, ◌+◌, ◌^◌, ◌<◌, Bool, true, false, ◌&&◌, ◌||◌, not, Option, is_some, All, List, [], ◌∷◌, ◌++◌, length, get_or, refl, sym, ◌∙◌, ap, subst, arith, replicate, map as map_list}
+use Rattle.std.proofs.Common.{◌≡◌, ℕ, zero, suc, ◌+◌, ◌^◌, ◌<◌, Bool, true, false, ◌&&◌, ◌||◌, not, Option, is_some, All, List, [], ◌∷◌, ◌++◌, length, get_or, refl, sym, ◌∙◌, ap, subst, arith, map as map_list}
 use Rattle.std.proofs.lemmas.Nat.{pow_pos}
-use Rattle.std.proofs.lemmas.Bool.{le-leb, lt-ltb, and_parts}
-use Rattle.std.proofs.lemmas.List.{length-map, length-replicate, get_or-map}
-use Rattle.std.proofs.lemmas.List.Elements.{All-cons, All-head, All-tail, All-contains, All-weaker, All-filter, Contains-append_cases}
+use Rattle.std.proofs.lemmas.Bool.{and_parts}
+use Rattle.std.proofs.lemmas.List.{length-map, get_or-map}
+use Rattle.std.proofs.lemmas.List.Elements.{All-map, All-cons, All-weaker, All-filter}
 use Rattle.net_core.specs.declared.tree.Word.{Word}
-use Rattle.net_core.specs.Nets.{StatementTree}
 use Rattle.net_core.specs.Ports.{port_list}
 use Rattle.net_core.specs.Value.{word, nothing, bit as bit_word, number_of, Env}
 use Rattle.net_core.specs.Clock.{Stored, done as stored_after}
-use Rattle.net_core.specs.Width.{Scope}
 use Rattle.product_blocks.specs.Alone.{wire_flat}
 use Rattle.block_core.specs.declared.name.Name.{Name}
 use Rattle.block_core.specs.declared.name.Name.TheVariants as name
-use Rattle.block_core.specs.Blocks.{BlockTree, BlockWireTree, Whole}
+use Rattle.block_core.specs.Blocks.{BlockTree, BlockWireTree, first_of, Whole}
+use Rattle.block_core.specs.Parts.{Solve}
 use Rattle.block_core.specs.Order.{IsBefore}
-use Rattle.block_core.specs.Formed.{names_scope, word_width, block_registers, block_wires, words_fit, IsTypedBlock, IsThere}
+use Rattle.block_core.specs.Formed.{names_scope, block_registers, IsThere}
 use Rattle.xdp_maps.specs.declared.decl.MapDecl.{MapDecl}
 use Rattle.cell_core.specs.Cells.{bit, on}
 use Rattle.cell_core.specs.Sites.{ProgramView, site_at}
@@ -25,47 +24,44 @@ use Rattle.hazard_core.specs.Tables.{TableState}
 use Rattle.hazard_core.specs.Held.{Held, writes}
 use Rattle.cell_nets.specs.declared.operand.Operand.{Operand}
 use Rattle.cell_nets.specs.declared.operand.Operand.TheVariants.{Net}
-use Rattle.cell_nets.specs.Operands.{number_in, IsWide, HasWidth, IsFit, AreFit, IsDeclared, AreDeclared, IsAvailable, IsNetOf}
-use Rattle.cell_nets.specs.Wires.{own, behind, AreWires}
+use Rattle.cell_nets.specs.Operands.{number_in, IsOperand, IsWide, HasWidth, IsFit, AreFit, IsDeclared, AreDeclared, IsAvailable, IsNetOf}
+use Rattle.cell_nets.specs.Wires.{behind, AreWires}
 use Rattle.cell_nets.proofs.ChoiceLemmas.{fit_of}
 use Rattle.step_nets.proofs.StepLaws.{small_bits, narrow_small, narrow_bits}
+use Rattle.operand_blocks.specs.declared.registers.Taken.{Taken}
+use Rattle.operand_blocks.specs.Registers.{operand_in, width_in, taken_word, IsRegistered}
+use Rattle.operand_blocks.proofs.WiringLaws.{no_wires, all_outside, behind_nets}
 use Rattle.turn_net.specs.declared.nets.RecordNets.{RecordNets}
 use Rattle.turn_net.specs.declared.nets.TurnNets.{TurnNets}
 use Rattle.turn_net.specs.declared.nets.TurnShape.{TurnShape}
 use Rattle.turn_net.specs.Turns.{Signals, first_open, may_commit, committing, done_after, taken_by}
 use Rattle.turn_net.specs.Nets.{sites_of, kept, keeps, all_read, signals, outside, signals_in, slot_operands, own_operands, AreRecords, ShowsRecords}
-use Rattle.turn_net.specs.Steps.{ShowsChosen, slots_after, IsDecided, HasDecided, Decides}
-use Rattle.turn_net.specs.Sets.{AreSets, slot_value, taken_values, set_block}
+use Rattle.turn_net.specs.Steps.{ShowsChosen, slots_after, IsDecided, HasDecided, Decides, slot_value, taken_values}
 use Rattle.turn_net.specs.Turn.{slot_word, IsSmall, StoresTurn, SeesTurn, site_in, ShowsTurn, ShowsTarget, IsTurn}
 use Rattle.turn_net.proofs.StandLemmas.{left_of, right_of}
-use Rattle.turn_net.proofs.SetLemmas.{width_in, words_in, AreThere, AreSome, sets_typed, sets_read, sets_within, sets_spelled, sets_flat, sets_leave}
-use Rattle.turn_net.proofs.NetLemmas.{no_wires, all_there, own_all, slots_all, beside_all, NetIs, nets_of, net_is}
+use Rattle.turn_net.proofs.NetLemmas.{slots_all, beside_all, NetIs, nets_of, net_is}
 use Rattle.turn_net.proofs.ClockLemmas.{kept_keep, all_slots, slot_words, words_of_slots, slots_fit, first_words}
 
--- ---- lists
-set_there : {N : Type 0} (ins : List (Operand N)) (bits : ℕ) (slots : List (Operand N)) → All (IsAvailable ins) slots → AreThere ins (map_list (slot_value bits) slots)
-set_there ins bits [] h = tt
-set_there ins bits (a ∷ slots) h = (All-head (IsAvailable ins) a slots h, set_there ins bits slots (All-tail (IsAvailable ins) a slots h))
+-- ---- what the registers take
+slots_taken : {N : Type 0} (bits : ℕ) (slots : List (Operand N)) → map_list operand_in (map_list (slot_value bits) slots) ≡ slots
+slots_taken bits [] = refl
+slots_taken bits (a ∷ slots) = ap (λ l. a ∷ l) (slots_taken bits slots)
 
-set_some : {N : Type 0} (bits : ℕ) (slots : List (Operand N)) → 0 < bits → AreSome (map_list (slot_value bits) slots)
-set_some bits [] h = tt
-set_some bits (a ∷ slots) h = (h, set_some bits slots h)
+register_widths : {N X : Type 0} (bits : ℕ) (slots : List (Operand N)) (xs : List X) → length slots ≡ length xs → map_list width_in (map_list (slot_value bits) slots) ≡ map_list (λ x. bits) xs
+register_widths bits [] [] e = refl
+register_widths bits [] (x ∷ xs) e = absurd (omega arith)
+register_widths bits (a ∷ slots) [] e = absurd (omega arith)
+register_widths bits (a ∷ slots) (x ∷ xs) e = ap (λ l. bits ∷ l) (register_widths bits slots xs (omega arith))
 
-value_widths : {N : Type 0} (bits n : ℕ) (slots : List (Operand N)) → n ≡ length slots → map_list word_width (replicate n (word bits 0)) ≡ map_list width_in (map_list (slot_value bits) slots)
-value_widths bits zero [] e = refl
-value_widths bits zero (a ∷ slots) e = absurd (omega arith)
-value_widths bits (suc n) [] e = absurd (omega arith)
-value_widths bits (suc n) (a ∷ slots) e = ap (λ l. bits ∷ l) (value_widths bits n slots (omega arith))
+pub count_taken : {N : Type 0} (shape : TurnShape) (last : Operand N) (slots : List (Operand N)) → length (taken_values shape last slots) ≡ suc (length slots)
+count_taken shape last slots = ap suc (length-map slots (slot_value shape.slot_bits))
 
-register_widths : {X : Type 0} (bits n : ℕ) (xs : List X) → n ≡ length xs → map_list word_width (replicate n (word bits 0)) ≡ map_list (λ x. bits) xs
-register_widths bits zero [] e = refl
-register_widths bits zero (x ∷ xs) e = absurd (omega arith)
-register_widths bits (suc n) [] e = absurd (omega arith)
-register_widths bits (suc n) (x ∷ xs) e = ap (λ l. bits ∷ l) (register_widths bits n xs (omega arith))
+pub are_operands : {N : Type 0} (shape : TurnShape) (last : Operand N) (slots : List (Operand N)) → IsOperand last → All IsOperand slots → All (λ t. IsOperand (operand_in t)) (taken_values shape last slots)
+are_operands shape last slots h k =
+    All-cons (λ t. IsOperand (operand_in t)) (slot_value shape.bits last) (map_list (slot_value shape.slot_bits) slots) h (All-map (λ t. IsOperand (operand_in t)) (slot_value shape.slot_bits) slots k)
 
-words_are_fit : (bits n : ℕ) → IsWide bits → words_fit (replicate n (word bits 0)) ≡ true
-words_are_fit bits zero w = refl
-words_are_fit bits (suc n) w = rw (lt-ltb 0 bits w.some, le-leb bits 64 w.most, lt-ltb 0 (2 ^ bits) (pow_pos bits)) (words_are_fit bits n w)
+pub are_wide : {N : Type 0} (shape : TurnShape) (last : Operand N) (slots : List (Operand N)) → IsWide shape.bits → IsWide shape.slot_bits → All (λ t. IsWide (width_in t)) (taken_values shape last slots)
+are_wide shape last slots h k = All-cons (λ t. IsWide (width_in t)) (slot_value shape.bits last) (map_list (slot_value shape.slot_bits) slots) h (All-map (λ t. IsWide (width_in t)) (slot_value shape.slot_bits) slots (λ i d l. k))
 
 bit_net : (w : Word) (b : Bool) → w.width ≡ 1 → w.value ≡ bit b → w ≡ bit_word b
 bit_net w true e f = λ i. word (e i) (f i)
@@ -83,12 +79,14 @@ word_fits_net : {N : Type 0} (v : Env N) (n : N) (bits x : ℕ) → v.net n ≡ 
 word_fits_net v n bits x e l = record { width = ap (λ (w : Word). w.width) e; small = let f = ap (λ (w : Word). w.value) e in omega (arith, f, l) }
 
 -- ---- the block
-module _
-    {P : Type 0} (p : ProgramView) (decls : List MapDecl) (part : P) (shape : TurnShape) (nets : TurnNets P) (rs : List (RecordNets (Name P))) (ws : List (BlockWireTree (Name P))) (chosen : List (Operand (Name P))) (commits stays : Name P) (last : Operand (Name P)) (slots : List (Operand (Name P))) (n : ℕ)
-    (ss : List (StatementTree (Name P))) (wide : IsWide shape.bits) (slot_wide : IsWide shape.slot_bits) (are : AreRecords p decls rs) (d : HasDecided shape rs chosen last slots) (leads : Decides p decls part shape nets rs [] ws chosen commits stays last slots) (many : n ≡ length slots) (sets : AreSets 0 (taken_values shape last slots) ss) where
-  abbrev b : BlockTree (Name P)
-  b = record { registers = word shape.bits 0 ∷ replicate n (word shape.slot_bits 0); memories = []; wires = ws; statement = set_block ss }
+-- it has these wires, and registers that take these, wherever the operands are there
+abbrev pub IsMade : {P : Type 0} → List (Taken (Name P)) → List (BlockWireTree (Name P)) → BlockTree (Name P) → Type 0
+IsMade {P} all ws b = (part : P) (outside : List (Operand (Name P))) → AreWires part outside ws → All (IsAvailable (behind part outside ws)) (map_list operand_in all) → IsRegistered part outside all ws b
 
+module _
+    {P : Type 0} (p : ProgramView) (decls : List MapDecl) (part : P) (shape : TurnShape) (nets : TurnNets P) (rs : List (RecordNets (Name P))) (ws : List (BlockWireTree (Name P))) (chosen : List (Operand (Name P))) (commits stays : Name P) (last : Operand (Name P)) (slots : List (Operand (Name P)))
+    (b : BlockTree (Name P)) (are : AreRecords p decls rs) (d : HasDecided shape rs chosen last slots) (leads : Decides p decls part shape nets rs [] ws chosen commits stays last slots)
+    (made : IsMade (taken_values shape last slots) ws b) where
   abbrev owns : List (Operand (Name P))
   owns = own_operands part shape rs
 
@@ -101,23 +99,17 @@ module _
   abbrev outs : List (Operand (Name P))
   outs = Net commits 1 ∷ Net stays 1 ∷ chosen
 
-  wires : AreWires part inputs ws
-  wires = leads.wires inputs (no_wires part inputs) (all_there part inputs)
-
   there : All (IsAvailable ins) (outs ++ last ∷ slots)
-  there = leads.there inputs (no_wires part inputs) (all_there part inputs)
+  there = leads.there inputs (no_wires part inputs) (all_outside part inputs)
 
-  ends : All (IsAvailable ins) (last ∷ slots)
-  ends = right_of (IsAvailable ins) outs (last ∷ slots) there
+  wires : AreWires part inputs ws
+  wires = leads.wires inputs (no_wires part inputs) (all_outside part inputs)
 
-  values : AreThere ins (taken_values shape last slots)
-  values = (All-head (IsAvailable ins) last slots ends, set_there ins shape.slot_bits slots (All-tail (IsAvailable ins) last slots ends))
-
-  counted : n ≡ length (kept rs)
-  counted = many ∙ d.slots_count
+  registered : IsRegistered part inputs (taken_values shape last slots) ws b
+  registered = made part inputs wires (subst (λ l. All (IsAvailable ins) (last ∷ l)) (sym (slots_taken shape.slot_bits slots)) (right_of (IsAvailable ins) outs (last ∷ slots) there))
 
   widths : block_registers b ≡ shape.bits ∷ map_list (λ r. shape.slot_bits) (kept rs)
-  widths = ap (λ l. shape.bits ∷ l) (register_widths shape.slot_bits n (kept rs) counted)
+  widths = registered.registers ∙ ap (λ l. shape.bits ∷ l) (register_widths shape.slot_bits slots (kept rs) d.slots_count)
 
   -- ---- where it stands
   own_registers : (Q : Operand (Name P) → Type 0) → Q (Net (name.Register part 0) shape.bits) → ((i : ℕ) → i < length (kept rs) → Q (Net (name.Register part (1 + i)) shape.slot_bits)) → All Q owns
@@ -126,7 +118,7 @@ module _
   declared_inputs : (w : Whole P) → w.block part ≡ b → AreDeclared (names_scope w port_list) (outside nets rs) → AreDeclared (names_scope w port_list) inputs
   declared_inputs w here given =
       beside_all (IsDeclared (names_scope w port_list)) owns (outside nets rs)
-      (own_registers (IsDeclared (names_scope w port_list)) (ap (λ (c : BlockTree (Name P)). get_or (block_registers c) 0 0) here)
+      (own_registers (IsDeclared (names_scope w port_list)) (ap (λ (c : BlockTree (Name P)). get_or (block_registers c) 0 0) here ∙ ap (λ ns. get_or ns 0 0) widths)
       (λ i l. let z : 1 + i ≡ suc i = omega arith in ap (λ j. get_or (block_registers (w.block part)) j 0) z ∙ ap (λ (c : BlockTree (Name P)). get_or (block_registers c) (suc i) 0) here ∙ ap (λ ns. get_or ns (suc i) 0) widths ∙ constant (kept rs) i l))
       given
     where
@@ -135,47 +127,16 @@ module _
       constant (x ∷ xs) zero l = refl
       constant (x ∷ xs) (suc i) l = constant xs i (omega arith)
 
-  declared_all : (w : Whole P) → w.block part ≡ b → AreDeclared (names_scope w port_list) (outside nets rs) → AreDeclared (names_scope w port_list) ins
-  declared_all w here given a c = elim (Contains-append_cases inputs (own part 0 ws) a c) [
-    | inl x ↦ declared_inputs w here given a x
-    | inr x ↦ All-contains (IsDeclared (names_scope w port_list)) (own part 0 ws) a mine x
-  ]
-    where
-      mine : All (IsDeclared (names_scope w port_list)) (own part 0 ws)
-      mine = own_all part (IsDeclared (names_scope w port_list)) ws 0 (λ i l. ap (λ (c : BlockTree (Name P)). get_or (block_wires c) (0 + i) 0) here ∙ (let z : 0 + i ≡ i = omega arith in ap (λ k. get_or (block_wires b) k 0) z))
-
-  is_typed : (w : Whole P) → w.block part ≡ b → AreDeclared (names_scope w port_list) (outside nets rs) → IsTypedBlock w port_list b
-  is_typed w here given =
-      let s : Scope (Name P) = names_scope w port_list in
-      let all : AreDeclared s ins = declared_all w here given in
-      record {
-        registers = rw (lt-ltb 0 shape.bits wide.some, le-leb shape.bits 64 wide.most, lt-ltb 0 (2 ^ shape.bits) (pow_pos shape.bits)) (words_are_fit shape.slot_bits n slot_wide);
-        memories = refl;
-        wires = wires.typed s all;
-        statement =
-            sets_typed s ins all (block_registers b) [] (taken_values shape last slots) ss 0
-            (λ k l. let z : 0 + k ≡ k = omega arith in ap (λ i. get_or (block_registers b) i 0) z ∙ ap (λ ns. get_or (shape.bits ∷ ns) k 0) (value_widths shape.slot_bits n slots many)) values (wide.some, set_some shape.slot_bits slots slot_wide.some) sets;
-      }
-
   input_nets : (q : Name P → Type 0) → ((i : ℕ) → q (name.Register part i)) → ((m : Name P) → IsNetOf (outside nets rs) m → q m) → (a : Operand (Name P)) → Contains inputs a → NetIs q a
   input_nets q mine h = beside_all (NetIs q) owns (outside nets rs) (own_registers (NetIs q) (mine 0) (λ i l. mine (1 + i))) (net_is q (outside nets rs) h)
-
-  all_nets : (q : Name P → Type 0) → ((i : ℕ) → q (name.Register part i)) → ((i : ℕ) → q (name.Wire part i)) → ((m : Name P) → IsNetOf (outside nets rs) m → q m) → (m : Name P) → IsNetOf ins m → q m
-  all_nets q mine wire h = nets_of q ins (λ a c. elim (Contains-append_cases inputs own_wires a c) [
-    | inl x ↦ input_nets q mine h a x
-    | inr x ↦ All-contains (NetIs q) own_wires a (own_all part (NetIs q) ws 0 (λ i l. wire (0 + i))) x
-  ])
-    where
-      own_wires : List (Operand (Name P))
-      own_wires = own part 0 ws
 
   flat : (made : Name P → Bool) → list_all (wire_flat made) ws ≡ true
   flat made = subst (λ l. list_all (wire_flat made) l ≡ true) (sym leads.apart.added) (leads.apart.free refl made)
 
-  starts : (taken : List ℕ) → All (λ r. slice_index taken r.number ≡ 0) (kept rs) → StoresTurn shape rs 0 taken (record { registers = b.registers; memories = [] })
+  starts : (taken : List ℕ) → All (λ r. slice_index taken r.number ≡ 0) (kept rs) → StoresTurn shape rs 0 taken (first_of b)
   starts taken none = record {
-    registers = ap (λ l. word shape.bits 0 ∷ l) (first_words shape.slot_bits n taken (kept rs) counted none);
-    memories = refl;
+    registers = ap (λ (s : Stored). s.registers) registered.first ∙ ap (λ l. word shape.bits 0 ∷ l) (first_words shape.slot_bits taken slots (kept rs) d.slots_count none);
+    memories = ap (λ (s : Stored). s.memories) registered.first;
     done_small = pow_pos shape.bits;
     slots_small = All-weaker (λ r. slice_index taken r.number ≡ 0) (IsSmall shape.slot_bits taken) (λ r e. let l = pow_pos shape.slot_bits in omega (arith, e, l)) (kept rs) none;
   }
@@ -210,14 +171,17 @@ module _
     fits : AreFit v inputs
     fits = beside_all (IsFit v) owns (outside nets rs) (own_registers (IsFit v) (word_fits_net v (name.Register part 0) shape.bits now register_0 stored.done_small) small_at) seen
 
+    solved : Solve v part 0 ws
+    solved = subst (Solve v part 0) registered.wires sees.wires
+
     all_fit : AreFit v ins
-    all_fit = wires.fits v fits sees.wires
+    all_fit = wires.fits v fits solved
 
     out_fit : All (IsFit v) (outs ++ last ∷ slots)
     out_fit k e l = fit_of ins v _ (there k e l) all_fit
 
     decided : IsDecided p decls part nets rs chosen commits stays last slots v
-    decided = leads.known inputs v (no_wires part inputs) (all_there part inputs) fits sees.wires tt
+    decided = leads.known inputs v (no_wires part inputs) (all_outside part inputs) fits solved tt
 
     signs : signals_in nets v ≡ i
     signs =
@@ -270,16 +234,16 @@ module _
             decided.slots ∙ ap (λ x. slots_after v part x 1 (kept rs)) site
             ∙ all_slots v p t taken h part at 1 (kept rs) (kept_keep rs) acts (All-filter keeps (λ r. r.number < length taken) rs inside) targets (λ k r l. ap (λ (w : Word). w.value) (register_at k r l))
 
-        left : ((stored_after v (set_block ss) s).registers ≡ words_in v (taken_values shape last slots)) × ((stored_after v (set_block ss) s).memories ≡ s.memories)
-        left = sets_leave v ins all_fit (taken_values shape last slots) ss s values sets (omega (arith, long, length-map slots (slot_value shape.slot_bits), d.slots_count))
+        left : stored_after v b.statement s ≡ record { registers = map_list (taken_word v) (taken_values shape last slots); memories = [] }
+        left = registered.takes v s fits sees.wires (omega (arith, long, length-map slots (slot_value shape.slot_bits), d.slots_count)) stored.memories
 
-        stores : StoresTurn shape rs (done_after i now at) (taken_by p t taken h at) (stored_after v (set_block ss) s)
+        stores : StoresTurn shape rs (done_after i now at) (taken_by p t taken h at) (stored_after v b.statement s)
         stores = record {
           registers =
-              left.0
+              ap (λ (s : Stored). s.registers) left
               ∙ (λ k. word shape.bits ((small_bits (number_in v last) shape.bits done_small ∙ done_is) k)
               ∷ (slot_words v shape.slot_bits slots slots_small ∙ ap (map_list (word shape.slot_bits)) slots_are ∙ words_of_slots shape.slot_bits (taken_by p t taken h at) (kept rs)) k);
-          memories = left.1 ∙ stored.memories;
+          memories = ap (λ (s : Stored). s.memories) left;
           done_small = subst (λ x. x < 2 ^ shape.bits) done_is done_small;
           slots_small = slots_fit v shape.slot_bits (taken_by p t taken h at) slots (kept rs) slots_small slots_are;
         }
@@ -287,20 +251,20 @@ module _
   pub is_turn : IsTurn p decls part shape nets rs b chosen commits stays
   is_turn = record {
     registers = widths;
-    memories = refl;
+    memories = registered.memories;
     count = d.chosen.count;
     operands = d.chosen.operands;
     bits = d.chosen.bits;
-    there = left_of (IsAvailable ins) outs (last ∷ slots) there;
-    typed = is_typed;
-    ordered = λ w before among h. wires.ordered w before (nets_of (IsBefore w before part 0) inputs (input_nets (IsBefore w before part 0) (λ i. among) h));
-    reads = λ w among h. sets_read ins (IsThere w) (all_nets (IsThere w) (λ i. among) (λ i. among) h) (taken_values shape last slots) ss 0 values sets;
-    within = sets_within _ 0 (taken_values shape last slots) ss 0 (omega (arith, length-map slots (slot_value shape.slot_bits), length-replicate n (word shape.slot_bits 0))) sets;
-    wires_spelled = wires.spelled;
-    spelled = sets_spelled ins (taken_values shape last slots) ss values sets;
-    free = record { wires = flat; statement = λ made. sets_flat made ins (taken_values shape last slots) ss 0 values sets };
+    there = subst (λ l. All (IsAvailable (behind part inputs l)) outs) (sym registered.wires) (left_of (IsAvailable ins) outs (last ∷ slots) there);
+    typed = λ w here given. registered.typed w here (declared_inputs w here given);
+    ordered = λ w before among h. registered.ordered w before (nets_of (IsBefore w before part 0) inputs (input_nets (IsBefore w before part 0) (λ i. among) h));
+    reads = λ w among h. registered.reads w (behind_nets part inputs ws (IsThere w) (nets_of (IsThere w) inputs (input_nets (IsThere w) (λ i. among) h)) (λ i l. among));
+    within = registered.within;
+    wires_spelled = registered.wires_spelled;
+    spelled = registered.spelled;
+    free = record { wires = λ made. subst (λ l. list_all (wire_flat made) l ≡ true) (sym registered.wires) (flat made); statement = registered.flat };
     first = starts;
-    goes = λ i now taken s v stored sees. wires.goes v (fits i now taken s v stored sees) sees.wires;
+    goes = λ i now taken s v stored sees. registered.goes v (fits i now taken s v stored sees) sees.wires;
     shows = λ i now taken h s v stored sees shows. shown i now taken s v stored sees h shows;
     clock = λ t i now taken h s v stored sees shows declared inside targets. stores i now taken s v stored sees h shows t declared inside targets;
   }

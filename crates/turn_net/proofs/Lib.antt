@@ -1,6 +1,5 @@
 pub mod StandLemmas
 pub mod ChooseLemmas
-pub mod SetLemmas
 pub mod KeepLemmas
 pub mod DecideLemmas
 pub mod AloneLemmas

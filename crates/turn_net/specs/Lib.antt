@@ -1,5 +1,4 @@
 pub mod Turns
 pub mod Nets
 pub mod Steps
-pub mod Sets
 pub mod Turn

@@ -14,6 +14,7 @@ use Rattle.cell_nets.specs.declared.operand.Operand.TheVariants.{Net}
 use Rattle.cell_nets.specs.Operands.{number_in, IsOperand}
 use Rattle.cell_nets.specs.Wires.{HasBits, always}
 use Rattle.step_nets.proofs.ChainLaws.{Stands}
+use Rattle.operand_blocks.specs.declared.registers.Taken.{Taken}
 use Rattle.turn_net.specs.declared.nets.RecordNets.{RecordNets}
 use Rattle.turn_net.specs.declared.nets.TurnNets.{TurnNets}
 use Rattle.turn_net.specs.declared.choosing.Step.{Step}
@@ -100,3 +101,10 @@ pub record HasDecided {N : Type 0} (shape : TurnShape) (rs : List (RecordNets N)
 abbrev pub Decides : {P : Type 0} → ProgramView → List MapDecl → P → TurnShape → TurnNets P → List (RecordNets (Name P)) → List (BlockWireTree (Name P)) → List (BlockWireTree (Name P)) → List (Operand (Name P)) → Name P → Name P → Operand (Name P) → List (Operand (Name P)) → Type 0
 Decides p decls part shape nets rs old new chosen commits stays done slots =
     Leads part old new (own_operands part shape rs ++ outside nets rs) ((Net commits 1 ∷ Net stays 1 ∷ chosen) ++ done ∷ slots) (IsDecided p decls part nets rs chosen commits stays done slots)
+
+-- what the registers take, with their bits
+abbrev pub slot_value : {N : Type 0} → ℕ → Operand N → Taken N
+slot_value bits a = record { operand = a; width = bits }
+
+abbrev pub taken_values : {N : Type 0} → TurnShape → Operand N → List (Operand N) → List (Taken N)
+taken_values shape done slots = slot_value shape.bits done ∷ map_list (slot_value shape.slot_bits) slots

@@ -1,28 +1,24 @@
 //! The block.
 
-ghost use Rattle.std.specs.Prelude.{List, [], ◌∷◌, ◌++◌, ◌≡◌, ◌^◌, ◌<◌, ◌&&◌, ◌||◌, not, All, length, replicate, IfOk, OnOk, map as map_list};
-ghost use Rattle.net_core.specs.Value.{word};
-ghost use Rattle.net_core.specs.View.{right_of, statement_of};
+ghost use Rattle.std.specs.Prelude.{List, [], ◌∷◌, ◌≡◌, ◌^◌, ◌<◌, ◌&&◌, ◌||◌, not, All, length, IfOk};
 ghost use Rattle.block_core.specs.View.{block_of};
 ghost use Rattle.xdp_maps.specs.declared.decl.MapDecl.{MapDecl};
-ghost use Rattle.cell_core.specs.Cells.{bit, on, bits_from};
+ghost use Rattle.cell_core.specs.Cells.{bit, on};
 ghost use Rattle.cell_core.specs.Sites.{ProgramView};
 ghost use Rattle.cell_nets.specs.Operands.{IsOperand, IsWide, number_in};
-ghost use Rattle.cell_nets.specs.Wires.{wires_of, always, Gives};
+ghost use Rattle.cell_nets.specs.Wires.{wires_of};
 ghost use Rattle.turn_net.specs.Nets.{HasOperands, IsNumbered, IsKept, AreRecords};
-ghost use Rattle.turn_net.specs.Steps.{Leads, HasDecided, Decides};
-ghost use Rattle.turn_net.specs.Sets.{AreSets, taken_values};
+ghost use Rattle.turn_net.specs.Steps.{Leads, HasDecided, Decides, taken_values};
 ghost use Rattle.turn_net.specs.Turn.{IsTurn};
 
 use crate::choosing::{choose_each, start};
 use crate::keeping::slots;
 use crate::nets::{RecordNets, Turn, TurnNets, TurnShape};
-use block_core::block::{Block, BlockWire};
+use block_core::block::BlockWire;
 use block_core::name::{Name, Part};
 use cell_nets::operand::Operand;
-use cell_nets::slice::slice;
-use net_core::build::{block, statements};
-use net_core::tree::{Expr, Right, Stmt, Word};
+use operand_blocks::registers::{Taken, registered};
+use operand_blocks::wiring::named;
 use std::alloc::{AllocError, Global};
 use step_nets::{choose, without};
 
@@ -43,41 +39,6 @@ struct Told<N> {
     stays: N,
 }
 
-// Adds a wire behind others, and says what it is called. Of 2^32 wires a part has no room for more, as where memory is out.
-fn push<P: Copy>(
-    wires: &mut Vec<BlockWire<Name<P>>>,
-    part: P,
-    width: u8,
-    e: Expr<Name<P>>,
-) -> Result<Name<P>, AllocError>
-    ensures wires { OnOk result (wires_of wires.new.items ≡ wires_of wires.old.items ++ record { width = width; right = right_of (Right.Plain e) } ∷ []) }
-    ensures name { IfOk result (λ n. n ≡ Name.Wire part (length (wires_of wires.old.items))) }
-{
-    let Ok(number) = u32::try_from(wires.len()) else {
-        return Err(AllocError);
-    };
-    wires.push(BlockWire {
-        width,
-        right: Right::Plain(e),
-    })?;
-    Ok(Name::Wire(part, number))
-}
-
-/// The low bit of an operand as a net.
-fn named<P: Copy>(
-    alloc: Global,
-    wires: &mut Vec<BlockWire<Name<P>>>,
-    part: P,
-    a: Operand<Name<P>>,
-) -> Result<Name<P>, AllocError>
-    requires { IsOperand a }
-    ensures { IfOk result (λ n. Gives part (wires_of wires.old.items) (wires_of wires.new.items) (a ∷ []) always (λ v. bits_from (number_in v a) 0 1) 1 (Operand.Net n 1)) }
-{
-    let e = slice(alloc, a, 0, 1)?;
-    let n = push(wires, part, 1, e)?;
-    Ok(n)
-}
-
 // One commits where one might before the first and none may behind the last. The packets stay where one does or the host writes.
 fn tell<P: Copy>(
     alloc: Global,
@@ -92,10 +53,10 @@ fn tell<P: Copy>(
     ensures { IfOk result (λ n. Leads part (wires_of wires.old.items) (wires_of wires.new.items) (Operand.Net host 1 ∷ first ∷ last ∷ []) (Operand.Net n.commits 1 ∷ Operand.Net n.stays 1 ∷ []) (λ v. ((v.net n.commits).value ≡ bit (on (number_in v first) && not (on (number_in v last)))) × ((v.net n.stays).value ≡ bit ((on (number_in v first) && not (on (number_in v last))) || on (v.net host).value)))) }
 {
     let one = without(alloc, wires, part, first, last)?;
-    let commits = named(alloc, wires, part, one)?;
+    let commits = named(alloc, wires, part, one, 1)?;
     let other = Operand::Net(host, 1);
     let both = choose(alloc, wires, part, one, Operand::Known(1), other, 1)?;
-    let stays = named(alloc, wires, part, both)?;
+    let stays = named(alloc, wires, part, both, 1)?;
     Ok(Told { commits, stays })
 }
 
@@ -133,44 +94,25 @@ fn decide<P: Copy>(
     })
 }
 
-// The registers, which are 0 at first.
-fn registers(alloc: Global, shape: &TurnShape, slots: usize) -> Result<Vec<Word>, AllocError>
-    ensures { IfOk result (λ r. r.items ≡ word shape.now.bits 0 ∷ replicate slots (word shape.now.slot_bits 0)) }
-{
-    let done = Word {
-        width: shape.bits,
-        value: 0,
-    };
-    let slot = Word {
-        width: shape.slot_bits,
-        value: 0,
-    };
-    let mut all = vec![in alloc; done]?;
-    let mut more = vec![in alloc; slot; slots]?;
-    all.append(&mut more)?;
-    Ok(all)
-}
-
-// Each register takes its operand in every clock.
-fn sets<N: Copy>(
+// What the registers take: how far the packet is, and behind it the slots that updates took.
+fn taken<N: Copy>(
     alloc: Global,
     shape: &TurnShape,
     done: Operand<N>,
     slots: &[Operand<N>],
-) -> Result<Vec<Stmt<N>>, AllocError>
-    requires bits { IsWide shape.now.bits }
-    requires slot_bits { IsWide shape.now.slot_bits }
-    requires few { length slots.now < 2 ^ 31 }
-    requires done { IsOperand done }
-    requires slots { All IsOperand slots.now }
-    ensures { IfOk result (λ r. AreSets 0 (taken_values shape.now done slots.now) (map_list statement_of r.items)) }
+) -> Result<Vec<Taken<N>>, AllocError>
+    ensures { IfOk result (λ r. r.items ≡ taken_values shape.now done slots.now) }
 {
-    let first = slice(alloc, done, 0, shape.bits)?;
     let mut all = Vec::new(alloc);
-    all.push(Stmt::Set(0, first))?;
-    for k in 0..slots.len() {
-        let e = slice(alloc, slots[k], 0, shape.slot_bits)?;
-        all.push(Stmt::Set(1 + k as u32, e))?;
+    all.push(Taken {
+        operand: done,
+        width: shape.bits,
+    })?;
+    for slot in slots {
+        all.push(Taken {
+            operand: *slot,
+            width: shape.slot_bits,
+        })?;
     }
     Ok(all)
 }
@@ -198,17 +140,10 @@ pub fn turn<P: Part>(
 {
     let mut wires = Vec::new(alloc);
     let made = decide(alloc, &mut wires, part, shape, nets, records)?;
-    let slots = made.slots;
-    let registers = registers(alloc, shape, slots.len())?;
-    let listed = statements(alloc, sets(alloc, shape, made.done, &slots)?)?;
-    let statement = block(alloc, listed)?;
+    let takes = taken(alloc, shape, made.done, &made.slots)?;
+    let block = registered(alloc, wires, &takes)?;
     Ok(Turn {
-        block: Block {
-            registers,
-            memories: Vec::new(alloc),
-            wires,
-            statement,
-        },
+        block,
         chosen: made.chosen,
         commits: made.commits,
         stays: made.stays,

@@ -12,8 +12,8 @@ returns g c =
     let ps = a.parts in
     let found = c.in_ok-found.found in
     let values = c.in_ok-asked.asked.values.items in
-    let bs : MapTrees _ = record { finds = block_of found.finds; fetches = block_of found.fetches; asks = block_of c.in_ok-asked.asked.block; stores = block_of c.in_ok-stores.stores } in
+    let bs : MapTrees _ = record { finds = block_of found.finds; fetches = block_of found.fetches; asks = block_of c.in_ok-asked.asked.block; stores = block_of c.in_ok-stores.stores; slot = found.slot } in
     let ask = subst (λ l. IsArrayCommit ps.asker f.decl a.sites.now l values bs.asks) (c.deref.ensures.value ∙ c.in_ok-found.ensures.words) c.in_ok-asked.ensures in
     let block_nets = subst (λ m. IsArray ps.own f.number f.decl f.bits m c.deref-2.result.now bs.stores) c.map_nets-nets.ensures c.in_ok-stores.ensures in
     let block = subst (λ l. IsArray ps.own f.number f.decl f.bits (with_slot_net a.control found.slot) l bs.stores) c.deref-2.ensures.value block_nets in
-    c.arrays.ensures f ps a.control a.sites.now bs found.slot values c.requires.kind c.requires.suited c.in_ok-found.ensures.finds c.in_ok-found.ensures.fetches ask block
+    c.arrays.ensures f ps a.control a.sites.now bs values c.requires.kind c.requires.suited c.in_ok-found.ensures.finds c.in_ok-found.ensures.fetches ask block

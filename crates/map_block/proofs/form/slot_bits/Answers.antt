@@ -1,6 +1,5 @@
 use Rattle.std.proofs.Common.{inl, inr, ℕ, ◌+◌, ◌^◌, ◌<◌, ◌≤◌, pow_mono, arith}
 use Rattle.std.proofs.lemmas.Bool.{cases_lt}
-use Rattle.map_block.proofs.form.slot_bits.Goals as goal
 
 -- where these are too few, and others are enough, the others are more
 more : (size bits b : ℕ) → 2 ^ bits < size → size ≤ 2 ^ b → bits + 1 ≤ b

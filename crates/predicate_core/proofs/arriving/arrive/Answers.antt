@@ -19,4 +19,4 @@ pub returns-clause-rows : goal.returns-clause-rows
 returns-clause-rows c = joined_own c.in_ok-here.ensures.rows c.in_ok-guard.ensures.rises
 
 pub returns-clause-points : goal.returns-clause-points
-returns-clause-points c node ways lead = arrive_points _ node _ _ _ _ _ _ ways _ _ _ _ _ lead c.in_ok-here.ensures.joins.guards c.in_ok-guard.ensures.own c.in_ok-here.ensures.points
+returns-clause-points c node ways lead = arrive_points _ node _ _ _ _ _ _ ways _ _ _ _ _ c.requires.some lead c.in_ok-here.ensures.joins.guards c.in_ok-guard.ensures.own c.in_ok-here.ensures.points

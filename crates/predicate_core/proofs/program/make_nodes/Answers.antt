@@ -8,6 +8,7 @@ use Rattle.program_graph.specs.declared.edge_ends.NodeEnds.{NodeEnds}
 use Rattle.program_graph.specs.Graphs.{node_view, graph_of}
 use Rattle.program_graph.specs.Nodes.{HasInsn}
 use Rattle.step_cells.specs.Stepping.{made_of}
+use Rattle.predicate_core.specs.Pointing.{PointSoFar}
 use Rattle.predicate_core.specs.Progress.{pending_of}
 use Rattle.predicate_core.specs.Reading.{ReadSoFar}
 use Rattle.predicate_core.proofs.Progressing.{node_is, turn_insn, turn_node}
@@ -43,6 +44,11 @@ make_node-requires-clause-ends c =
     (ap (λ (us : List (Option Insn)). slice_index_or us c.place.result None) c.deref.ensures.value) in
     let node = turn_node (graph_of c.args.program.now c.args.unfolded.now) c.loop-k.k (node_at (graph_of c.args.program.now c.args.unfolded.now).nodes c.loop-k.k).kinds x.0 c.insn_at-insn.result (slice_index_or c.deref.result.now c.place.result None) x.1 x.2 c.insn_at-insn.ensures in
     subst (λ (e : NodeEnds). HasEnds (graph_of c.args.program.now c.args.unfolded.now) c.loop-k.k c.insn_at-insn.result e.next e.jump) (sym c.index-in-loop-k.ensures) (c.in_ok-ends.ensures.each c.loop-k.k c.insn_at-insn.result c.index-in-loop-k.result.now inside node.insn)
+
+pub returns-clause-points : goal.returns-clause-points
+returns-clause-points c =
+    let end : c.loop-k.k ≡ length c.args.unfolded.now.nodes.items = omega (arith, c.loop-k-test.false, c.loop-k.auto.k-end, c.len-k-end.ensures) in
+    subst (λ (n : ℕ). PointSoFar c.args.program.now.decls n (made_of c.loop-k.progress.made)) end c.loop-k.invariant.points
 
 pub returns-clause-reads : goal.returns-clause-reads
 returns-clause-reads c =

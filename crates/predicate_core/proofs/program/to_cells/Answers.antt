@@ -14,6 +14,7 @@ unfolding seen sited
 returns-clause-law c = (c.wholes_compute.ensures (graph_of c.args.program.now c.args.unfolded.now) c.in_ok-make_nodes.ensures.ready.held (making_of c.make_nodes.new.progress) (seen c.close.new.cells.items) c.in_ok-answer.answer.verdict c.in_ok-answer.answer.target c.in_ok-answer.answer.frame.items
     c.decls-maps.ensures.program.legal
     (subst (λ (n : ℕ). IsSoFar (graph_of c.args.program.now c.args.unfolded.now) n c.in_ok-make_nodes.ensures.ready.held (making_of c.make_nodes.new.progress)) (sym (length-map c.args.unfolded.now.nodes.items node_view)) c.in_ok-make_nodes.ensures.ready.so_far) (λ packet v u run follows. (c.in_ok-make_nodes.ensures.points.each packet v u run follows).accesses)
+    (λ packet v u run follows m n founds. ((c.in_ok-make_nodes.ensures.points.each packet v u run follows).into m n founds).accesses)
     (record { each = c.in_ok-make_nodes.ensures.reads.made.each; ordered = c.in_ok-make_nodes.ensures.reads.made.ordered }) (record { waits = c.in_ok-make_nodes.ensures.reads.waits.waits })
     (subst (λ (xs : List Exit). Answers (seen c.make_nodes.new.progress.made.cells.items) (seen c.close.new.cells.items) xs c.in_ok-answer.answer.verdict c.in_ok-answer.answer.target c.in_ok-answer.answer.frame.items) c.deref.ensures.value c.in_ok-answer.ensures)).0
 
@@ -22,6 +23,7 @@ unfolding seen sited
 returns-clause-buildable c = (c.wholes_compute.ensures (graph_of c.args.program.now c.args.unfolded.now) c.in_ok-make_nodes.ensures.ready.held (making_of c.make_nodes.new.progress) (seen c.close.new.cells.items) c.in_ok-answer.answer.verdict c.in_ok-answer.answer.target c.in_ok-answer.answer.frame.items
     c.decls-maps.ensures.program.legal
     (subst (λ (n : ℕ). IsSoFar (graph_of c.args.program.now c.args.unfolded.now) n c.in_ok-make_nodes.ensures.ready.held (making_of c.make_nodes.new.progress)) (sym (length-map c.args.unfolded.now.nodes.items node_view)) c.in_ok-make_nodes.ensures.ready.so_far) (λ packet v u run follows. (c.in_ok-make_nodes.ensures.points.each packet v u run follows).accesses)
+    (λ packet v u run follows m n founds. ((c.in_ok-make_nodes.ensures.points.each packet v u run follows).into m n founds).accesses)
     (record { each = c.in_ok-make_nodes.ensures.reads.made.each; ordered = c.in_ok-make_nodes.ensures.reads.made.ordered }) (record { waits = c.in_ok-make_nodes.ensures.reads.waits.waits })
     (subst (λ (xs : List Exit). Answers (seen c.make_nodes.new.progress.made.cells.items) (seen c.close.new.cells.items) xs c.in_ok-answer.answer.verdict c.in_ok-answer.answer.target c.in_ok-answer.answer.frame.items) c.deref.ensures.value c.in_ok-answer.ensures)).1
 

@@ -5,7 +5,7 @@ use Rattle.kind_core.specs.declared.kind.Kind.TheVariants.{Num}
 use Rattle.kind_core.specs.Effects.{effect_as}
 use Rattle.cell_core.specs.declared.site.Act.TheVariants as act
 use Rattle.held_cells.specs.Held.{pointed}
-use Rattle.site_cells.proofs.Entries.{entry_index, entry_seen}
+use Rattle.site_cells.proofs.Entries.{entry_index, entry_seen, place_aligned}
 use Rattle.xdp_machine.proofs.NumberLaws.{word_of, imm_fits}
 use Rattle.site_cells.proofs.Stores.{imm_made}
 use Rattle.site_cells.proofs.Allowed.{store_allowed}
@@ -32,4 +32,5 @@ returns-in_ok-push_access-clause-points c = λ is_ref allowed.
     let f = store_allowed c.args.decls.now c.args.kinds.now c.args.insn.now c.args.size _ _ (Num (Known (cast_unsigned w64 c.args.insn.now.imm))) (ap (effect_as c.args.decls.now c.args.kinds.now c.args.insn.now) c.requires.op) c.in-Entry.is allowed in
     access_points c.args.decls.now c.args.insn.now c.args.here c.args.kinds.now _ c.args.held.now _ _ _ (pointed c.args.pointers.now) _ _ _ _ _ (act.Store c.place.result c.args.size) _ (c.in_ok-source.source ∷ []) c.requires.insn.dst_register c.in-Entry.is
     (entry_seen c.args.pointers.now c.requires.inside c.requires.insn.dst_register c.in-Entry.is c.index-pointers-held.is) (c.in_ok-source.source, refl) (nothing_keeps c.args.kinds.now _ c.args.held.now (f.3 c.args.here.node is_ref false)) c.in_ok-push_access.ensures
-    (silent_reads c.args.decls.now _ c.args.here _ _ _ _ (act.Store c.place.result c.args.size) _ (c.in_ok-source.source ∷ []) c.in_ok-source.ensures.makes.grows (entry_used c.args.kinds.now c.args.insn.now _ c.args.insn.now.dst _ _ c.requires.op refl c.in-Entry.is) (λ k. refl) (λ k. refl))
+    (silent_reads c.args.decls.now _ c.args.here _ _ _ _ (act.Store c.place.result c.args.size) _ (c.in_ok-source.source ∷ []) c.in_ok-source.ensures.makes.grows (entry_used c.args.kinds.now c.args.insn.now _ c.args.insn.now.dst _ _ c.requires.op refl c.in-Entry.is)
+    (place_aligned c.args.decls.now c.in-Entry.map c.in-Entry.o c.place.result _ c.args.insn.now.offset c.args.size f.2 (to_z-of_z {w = w16} (record { sfits = c.requires.insn.offset_range.sfits })) c.place.ensures) (λ k. refl) (λ k. refl))

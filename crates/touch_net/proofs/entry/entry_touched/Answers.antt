@@ -31,7 +31,7 @@ loop-own-preserved g c =
     own_more c.args.part _ _ _ c.args.bytes c.args.pointer c.args.change.now c.args.owns.now c.loop-own.own-index c.own-item.result c.loop-own.touched c.in_ok-touched-2.touched (omega arith) c.own-item.is c.loop-own.invariant c.in_ok-touched-2.ensures
 
 pub returns-clause-given : goal.returns-clause-given
-returns-clause-given g c = λ p decls h e q m is are.
+returns-clause-given g c = λ p decls h e q are.
     let n = c.args.pointer in
     let d = c.args.change.now in
     let owns = c.args.owns.now in
@@ -40,4 +40,4 @@ returns-clause-given g c = λ p decls h e q m is are.
     let start = bit (in_slot (number_in v n) (number_in v d.slot)) in
     ap (fold (over v c.args.bytes d.key.now (number_in v n)) start) (take_all c.loop-own.own-index owns (omega arith))
     ∙ ap (λ x. fold (over v c.args.bytes d.key.now x) (bit (in_slot x (number_in v d.slot))) owns) k.0
-    ∙ by_pointer v p decls h e c.args.bytes m d.key.now owns k.1.key is are k.2 (number_in v d.slot) k.1.slot q k.3)
+    ∙ by_pointer v p decls h e c.args.bytes d.key.now owns c.requires.change.key k.1.key are k.2 (number_in v d.slot) k.1.slot q k.3)

@@ -24,6 +24,12 @@ pub loop-mark-preserved : goal.loop-mark-preserved
 loop-mark-preserved g c =
     mark_more c.args.part _ _ _ c.args.marks.now c.loop-mark.mark-index c.mark-item.result c.loop-mark.due c.in_ok-due.due (omega arith) c.mark-item.is c.loop-mark.invariant c.in_ok-due.ensures
 
+pub returns-clause-shown : goal.returns-clause-shown
+returns-clause-shown g c =
+    let ms = c.args.marks.now in
+    last (starts c.args.part (wires_of c.args.wires.now.items) (mark_operands ms) always) c.loop-mark.invariant (λ ins h. h) (λ v f k. tt) (λ v. bit (list_any (shown_due v) ms))
+    (λ v f k. ap (λ l. bit (list_any (shown_due v) l)) (take_all c.loop-mark.mark-index ms (omega arith)))
+
 pub returns-clause-given : goal.returns-clause-given
 returns-clause-given g c = λ p row r h js marked known.
     let ms = c.args.marks.now in

@@ -1,10 +1,8 @@
-use Rattle.std.proofs.Common.{◌∙◌, ◌++◌, sym, ap, arith}
-use Rattle.xdp_maps.specs.declared.decl.MapDecl.{MapDecl}
+use Rattle.std.proofs.Common.{◌∙◌, ◌++◌, sym, arith}
 use Rattle.cell_core.specs.Cells.{bit}
 use Rattle.cell_core.specs.Sites.{site_at}
 use Rattle.hazard_core.specs.Held.{access_pointer}
 use Rattle.hazard_core.specs.Marks.{touches}
-use Rattle.hazard_core.specs.Tables.{decl_of}
 use Rattle.cell_nets.specs.Operands.{IsAvailable}
 use Rattle.cell_nets.specs.Wires.{wires_of}
 use Rattle.site_operands.specs.Sites.{operands_of, all_of}
@@ -24,7 +22,7 @@ returns-then-reads_entry-clause-given g c = λ p decls h j e is same are.
     let d = c.args.decl.now in
     let reads = sym c.reads_entry.ensures ∙ c.if-reads_entry.true in
     last (starts c.args.part (wires_of c.args.wires.now.items) (all_of s ++ more) _)
-    (c.in_ok-out.ensures.given p decls h e (access_pointer h (site_at p.sites j)) e.map (ap (λ m. (decl_of decls m).key) (sym same) ∙ ap (λ (x : MapDecl). x.key) is.decl) are)
+    (c.in_ok-out.ensures.given p decls h e (access_pointer h (site_at p.sites j)) are)
     (λ ins all. first_of (IsAvailable ins) s.pointer more (left_of (IsAvailable ins) (all_of s) more all 3 s.pointer (omega arith)) (right_of (IsAvailable ins) (all_of s) more all))
     (λ v f k. (k.0.asked.pointer, k.1, k.2, k.3 reads)) (λ v. bit (touches p decls h j e)) (λ v f k. entry_touches p decls h j e c.args.act d is same reads)
 

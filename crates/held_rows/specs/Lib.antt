@@ -1,0 +1,3 @@
+pub mod Pointing
+pub mod Fits
+pub mod Made

@@ -1,0 +1,5 @@
+pub mod TreeLemmas
+pub mod BitLemmas
+pub mod HostLemmas
+pub mod ValueLemmas
+pub mod MachineLemmas

@@ -1,0 +1,6 @@
+pub mod Reading
+pub mod Listing
+pub mod Forming
+pub mod Owning
+pub mod Taking
+pub mod Laying

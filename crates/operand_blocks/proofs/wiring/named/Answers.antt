@@ -1,0 +1,14 @@
+use Rattle.std.proofs.Common.{◌∷◌, [], arith}
+use Rattle.net_core.specs.View.{tree_of}
+use Rattle.cell_core.specs.Cells.{bits_from}
+use Rattle.cell_nets.specs.Operands.{number_in}
+use Rattle.cell_nets.proofs.PartLemmas.{part_computes}
+use Rattle.cell_nets.proofs.NarrowLemmas.{bits_small}
+use Rattle.cell_nets.proofs.WireLemmas.{wire_gives}
+use Rattle.operand_blocks.proofs.wiring.named.Goals as goal
+
+pub returns : goal.returns
+returns g c =
+    let a = c.args.a in
+    let w = c.args.width in
+    wire_gives c.args.part _ _ (a ∷ []) (λ v. bits_from (number_in v a) 0 w) w (tree_of c.in_ok-e.e) _ c.in_ok-n.ensures.wires c.in_ok-n.ensures.name c.requires.width (λ v. bits_small (number_in v a) 0 w) (λ ins h. part_computes ins 2 w (λ v. bits_from (number_in v a) 0 w) _ (omega arith) (c.in_ok-e.ensures ins (h 0 a (omega arith))).part)

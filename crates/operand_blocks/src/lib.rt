@@ -1,0 +1,5 @@
+//! Blocks over operands: of wires alone ([`wiring`]), and with registers that take operands in every clock ([`registers`]).
+#![tactic(auto)]
+
+pub mod registers;
+pub mod wiring;

@@ -1,0 +1,48 @@
+-- A design that follows the machine where clocks are right does so in every clock.
+use Rattle.std.specs.Prelude.{◌≡◌, ◌≤◌, false, None, List, [], ◌∷◌, ◌++◌, length}
+use Rattle.std.specs.List.{AllByRecursion}
+use Rattle.xdp_maps.specs.State.{MapState, IsSound, opened_state}
+use Rattle.net_core.specs.declared.ports.Inputs.{Inputs}
+use Rattle.net_core.specs.Nets.{Netlist}
+use Rattle.net_core.specs.Ports.{words_of}
+use Rattle.net_core.specs.Clock.{Stored, after, shown, stopping}
+use Rattle.net_core.specs.History.{NeverStops, stored_after}
+use Rattle.host_history.specs.Host.{load}
+use Rattle.pipe_core.specs.Machine.{Build, output}
+use Rattle.pipe_core.specs.History.{Trace, next, begin}
+use Rattle.pipe_core.specs.Pipeable.{IsSuited}
+use Rattle.host_runs.specs.Inputs.{input_of}
+use Rattle.pipe_net.specs.Machine.{MayCome, Shows}
+use Rattle.pipe_net.specs.Layout.{Layout}
+use Rattle.pipe_answers.specs.Going.{IsRightClock}
+use Rattle.pipe_answers.specs.Coming.{AllMayCome}
+
+-- The design shows clock after clock what the machine does, while only what may come does and what commits is right,
+abbrev pub FollowsRight : Layout → Netlist → List Inputs → Trace → Stored → Type 0
+FollowsRight l d [] t st = Unit {0}
+FollowsRight l d (i ∷ is) t st =
+    MayCome l.build t.state i → IsRightClock l i t.state
+    → (stopping d (words_of i) st ≡ None)
+    × Shows (output l.build (input_of i) t.state) (shown d (words_of i) st)
+    × FollowsRight l d is (next l.build (input_of i) t) (after d (words_of i) st)
+
+-- or in each of these clocks.
+abbrev pub FollowsAlways : Build → Netlist → List Inputs → Trace → Stored → Type 0
+FollowsAlways b d [] t st = Unit {0}
+FollowsAlways b d (i ∷ is) t st =
+    (stopping d (words_of i) st ≡ None)
+    × Shows (output b (input_of i) t.state) (shown d (words_of i) st)
+    × FollowsAlways b d is (next b (input_of i) t) (after d (words_of i) st)
+
+-- Through a load, and behind it from the machine over the maps that are loaded on; no divisor is 0 in any of these clocks.
+pub record FollowsLoaded (l : Layout) (d : Netlist) (maps : MapState) (is : List Inputs) (st : Stored) : Type 0 where
+  pub loads : FollowsAlways l.build d (load maps) (begin l.build (opened_state maps.decls)) st
+  pub runs : FollowsAlways l.build d is (begin l.build maps) (stored_after d st (load maps))
+  pub never : NeverStops d st (load maps ++ is)
+
+-- the law
+abbrev pub DesignsFollow : Type 0
+DesignsFollow =
+    (l : Layout) → IsSuited l.decls l.build → (maps : MapState) → maps.decls ≡ l.decls → IsSound maps → length maps.decls ≤ 16
+    → (is : List Inputs) → AllByRecursion (λ i. i.host_write ≡ false) is → AllMayCome l.build is (begin l.build maps)
+    → (d : Netlist) (st : Stored) → FollowsRight l d (load maps ++ is) (begin l.build (opened_state maps.decls)) st → FollowsLoaded l d maps is st

@@ -1,0 +1,13 @@
+pub mod Fitting
+pub mod Inputs
+pub mod Some
+pub mod Fits
+pub mod Linking
+pub mod Reloading
+pub mod Clock
+pub mod Going
+pub mod Showing
+pub mod Clocks
+pub mod Turns
+pub mod Standing
+pub mod RightClocks

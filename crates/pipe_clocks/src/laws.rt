@@ -1,0 +1,50 @@
+//! What holds of every design that is linked of the parts of a pipeline. Each function's contract is a law; it computes nothing.
+
+ghost use Rattle.pipe_clocks.specs.Following.{ClocksShow, ClocksFollow, BeginRelated};
+ghost use Rattle.pipe_clocks.specs.Standing.{ClocksGoOn, PipelinesStart, PipelinesFollow};
+ghost use Rattle.pipe_clocks.specs.Right.{ReadsAreRight, EmptyIsRight};
+
+/// A pipeline whose parts store what a state of the machine says shows what the machine does, and where only what may come
+/// does they store behind the clock what its next state says; so they do before the first clock.
+pub fn clocks_follow()
+    ensures shows { ClocksShow }
+    ensures clock { ClocksFollow }
+    ensures first { BeginRelated }
+{
+    pipe_forms::laws::all_are_declared();
+    pipe_forms::laws::pipelines_are_formed();
+    pipe_frames::laws::places_return();
+    pipe_frames::laws::frames_follow();
+    pipe_marks::laws::dues_are_shown();
+    pipe_marks::laws::marks_follow();
+    pipe_turns::laws::host_is_shown();
+    pipe_turns::laws::turn_is_shown();
+    pipe_turns::laws::turn_follows();
+    pipe_places::laws::packets_are_shown();
+    pipe_places::laws::packets_follow();
+    pipe_maps::laws::tables_follow();
+    pipe_maps::laws::changes_are_shown();
+    pipe_maps::laws::host_is_served();
+}
+
+/// Behind a clock of a pipeline, in which only what may come does and what commits is right, what such a clock rests on stands again; so it does before the
+/// first clock. So over every list of clocks a pipeline shows what the machine of the pipe does, and no divisor in it is 0.
+pub fn clocks_go_on()
+    ensures clock { ClocksGoOn }
+    ensures first { PipelinesStart }
+    ensures runs { PipelinesFollow }
+{
+    clocks_follow();
+    pipe_places::laws::entries_follow();
+    pipe_maps::laws::keys_stay();
+    pipe_core::laws::in_order();
+    pipe_core::laws::computed();
+}
+
+/// What commits is right where the machine is right and the host writes nothing, and in a clock without a packet inside, whatever the host does.
+pub fn clocks_are_right()
+    ensures reads { ReadsAreRight }
+    ensures empty { EmptyIsRight }
+{
+    pipe_core::laws::right();
+}

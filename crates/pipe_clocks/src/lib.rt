@@ -1,0 +1,4 @@
+//! A whole pipeline: a clock of its design is a clock of the machine of the pipe.
+#![tactic(auto)]
+
+pub mod laws;

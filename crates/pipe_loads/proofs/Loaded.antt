@@ -1,0 +1,40 @@
+-- Designs of pipelines follow the machine through a load and behind it.
+use Rattle.std.specs.Prelude.{◌≡◌, ℕ, ◌<◌, List, [], ◌∷◌, ◌++◌, length}
+use Rattle.std.proofs.Common.{sym, subst}
+use Rattle.xdp_maps.specs.declared.decl.MapDecl.{MapDecl}
+use Rattle.xdp_maps.specs.State.{MapState, IsSound, opened_state}
+use Rattle.net_core.specs.declared.ports.Inputs.{Inputs}
+use Rattle.net_core.specs.Ports.{words_of}
+use Rattle.net_core.specs.Clock.{Stored, after, first_stored}
+use Rattle.block_core.specs.Blocks.{Whole}
+use Rattle.host_history.specs.Host.{load}
+use Rattle.hazard_core.specs.Tables.{decl_of, table_at, tables_of}
+use Rattle.map_block.specs.Stored.{IsFirst}
+use Rattle.pipe_core.specs.History.{Trace, next}
+use Rattle.host_runs.specs.Inputs.{input_of}
+use Rattle.pipe_net.specs.declared.parts.Part.{Part}
+use Rattle.pipe_net.specs.Layout.{Layout}
+use Rattle.pipe_maps.specs.Tables.{OpenedAreFirst}
+use Rattle.pipe_forms.specs.Parts.{design}
+use Rattle.pipe_clocks.specs.Standing.{AreFirst, FollowsAll, PipelinesFollow}
+use Rattle.pipe_answers.specs.Coming.{OpenedAreSound}
+use Rattle.pipe_answers.specs.Following.{FollowsRight, DesignsFollow}
+use Rattle.pipe_loads.specs.Loaded.{PipelinesFollowLoaded}
+
+rightly : (l : Layout) (d : Whole Part) (names : List (List ℕ)) (is : List Inputs) (t : Trace) (st : Stored) → FollowsAll l d names is t st → FollowsRight l (design l d names) is t st
+rightly l d names [] t st h = tt
+rightly l d names (i ∷ is) t st h = λ come right.
+    let now = h come (record { tables = right.tables; commits = right.turn.commits }) in
+    (now.0, now.1, rightly l d names is (next l.build (input_of i) t) (after (design l d names) (words_of i) st) now.2)
+
+first_maps : OpenedAreFirst → OpenedAreSound → (l : Layout) (maps : MapState) → maps.decls ≡ l.decls → IsSound maps → AreFirst l (opened_state maps.decls)
+first_maps first opened l maps are sound = record {
+  decls = are;
+  sound = opened maps sound;
+  first = λ m lt. subst (λ (ds : List MapDecl). IsFirst (decl_of ds m) (table_at (tables_of (opened_state maps.decls)) m)) are (first maps.decls m (subst (λ (ds : List MapDecl). m < length ds) (sym are) lt));
+}
+
+pub loads_follow : PipelinesFollow → OpenedAreFirst → OpenedAreSound → DesignsFollow → PipelinesFollowLoaded
+loads_follow pipelines first opened designs l d names into pipe goes suited maps are sound few is quiet come =
+    designs l suited maps are sound few is quiet come (design l d names) (first_stored (design l d names))
+    (rightly l d names (load maps ++ is) _ _ (pipelines l d names into (opened_state maps.decls) pipe goes (first_maps first opened l maps are sound) (load maps ++ is)))

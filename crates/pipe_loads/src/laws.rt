@@ -1,0 +1,14 @@
+//! What holds of every design that is linked of the parts of a pipeline. The function's contract is a law; it computes nothing.
+
+ghost use Rattle.pipe_loads.specs.Loaded.{PipelinesFollowLoaded};
+
+/// Whatever blocks of these contracts are linked: through a load, and behind it in every clock in which the host only reads, the design shows what the machine of the
+/// pipe does, and no divisor in it is 0.
+pub fn loads_follow()
+    ensures { PipelinesFollowLoaded }
+{
+    pipe_clocks::laws::clocks_go_on();
+    pipe_maps::laws::tables_follow();
+    pipe_answers::laws::loads_may_come();
+    pipe_answers::laws::designs_follow();
+}

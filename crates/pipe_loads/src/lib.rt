@@ -1,0 +1,4 @@
+//! Designs of pipelines through a load and behind it. There is no code but for the law.
+#![tactic(auto)]
+
+pub mod laws;

@@ -1,0 +1,13 @@
+mod ListLemmas
+mod AmongLemmas
+mod TurnLemmas
+mod OperationLemmas
+mod ClockLemmas
+mod SeenLemmas
+mod StandLemmas
+mod TableLemmas
+mod BeginLemmas
+mod HostLemmas
+mod ChangeLemmas
+mod KeyLemmas
+mod OpenLemmas

@@ -1,0 +1,10 @@
+pub mod Parts
+pub mod Places
+pub mod Standing
+pub mod Showing
+pub mod Values
+pub mod Reading
+pub mod Entering
+pub mod Following
+pub mod Pointers
+pub mod Entries

@@ -1,0 +1,15 @@
+mod SiteLemmas
+mod OwnLemmas
+mod PutLemmas
+mod RowLemmas
+mod StepLemmas
+mod StageLemmas
+mod GivenLemmas
+mod CellLemmas
+mod EarlierLemmas
+mod TableLemmas
+pub mod ListLaws
+pub mod NetLaws
+pub mod ValueLaws
+pub mod RowLaws
+pub mod ApartLaws

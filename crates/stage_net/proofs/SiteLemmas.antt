@@ -1,0 +1,120 @@
+-- What a site reads, by what its operation does.
+use Rattle.std.specs.Prelude.{◌/◌, Result, Ok, Err, IfOk}
+use Rattle.std.proofs.Common.{◌≡◌, ◌∙◌, ℕ, Bool, true, false, All, List, [], ◌∷◌, ◌++◌, length, length-append, refl, sym, ap, subst, arith}
+use Rattle.std.proofs.lemmas.Nat.{pow_pos}
+use Rattle.std.proofs.lemmas.List.{length-map}
+use Rattle.std.proofs.lemmas.List.Elements.{All-cons, All-nil, All-tail}
+use Rattle.xdp_machine.specs.State.{PacketIn}
+use Rattle.product_blocks.specs.Apart.{is_marked, AreMarked}
+use Rattle.product_blocks.proofs.FreeLaws.{all_marked}
+use Rattle.product_blocks.proofs.CleanLaws.{marked_behind}
+use Rattle.block_core.specs.declared.name.Name.{Name}
+use Rattle.block_core.specs.Blocks.{BlockWireTree}
+use Rattle.cell_core.specs.declared.site.Act.{Act}
+use Rattle.cell_core.specs.declared.site.Act.TheVariants as act
+use Rattle.cell_core.specs.Acts.{finds_key, reads}
+use Rattle.cell_core.specs.Cells.{no_cell, bits_from}
+use Rattle.cell_core.specs.Sites.{ProgramView, site_at}
+use Rattle.hazard_core.specs.Tables.{TableState}
+use Rattle.hazard_core.specs.Held.{Held, access_pointer, pending}
+use Rattle.hazard_core.specs.Overlay.{answer_over}
+use Rattle.cell_nets.specs.declared.operand.Operand.{Operand}
+use Rattle.cell_nets.specs.declared.operand.Operand.TheVariants.{Known}
+use Rattle.cell_nets.specs.Operands.{IsOperand, IsAvailable}
+use Rattle.cell_nets.specs.Apart.{Agrees, StayApart}
+use Rattle.cell_nets.specs.Wires.{behind, HasBits, Gives}
+use Rattle.cell_nets.proofs.ApartLemmas.{agrees_split, free_marked}
+use Rattle.row_net.specs.Apart.{KeepApart}
+use Rattle.value_net.specs.Words.{answers_number, access_start}
+use Rattle.read_net.specs.declared.sites.OwnSite.{OwnSite}
+use Rattle.read_net.specs.declared.sites.MapNets.{MapNets}
+use Rattle.read_net.specs.declared.sites.ReadNets.{ReadNets}
+use Rattle.read_net.specs.Reads.{taken, Shows, AreCells, Reads}
+use Rattle.read_net.specs.Accesses.{ShowsWord}
+use Rattle.stage_net.specs.Reads.{SiteReads}
+
+-- ---- wires without products
+keeps_apart :
+    {P : Type 0} (p : P) (old new : List (BlockWireTree (Name P))) (args outs : List (Operand (Name P))) → StayApart false p old new args outs → (clean : ℕ → Bool) (marks : List Bool) (table : List _) → KeepApart p clean marks old table
+    → (next : List Bool) × KeepApart p clean next new table
+keeps_apart {P} p old new args outs stay clean marks table keep = (
+  marks ++ all_marked stay.more,
+  record {
+    count = omega (arith, length-append marks (all_marked stay.more), keep.count, length-map stay.more (λ (w : BlockWireTree (Name P)). true), ap (λ (l : List (BlockWireTree (Name P))). length l) stay.added, length-append old stay.more);
+    wires = λ all g.
+        subst (AreMarked (is_marked all) (marks ++ all_marked stay.more)) (sym stay.added)
+        (marked_behind (is_marked all) marks (all_marked stay.more) old stay.more (keep.wires all (front all g)) (free_marked stay.more (stay.free refl) (is_marked all)));
+    stands = λ all g k a c s. keep.stands all (front all g) k a c s;
+  },
+)
+  where
+    front : (all : P → List Bool) → Agrees p 0 (marks ++ all_marked stay.more) (is_marked all) → Agrees p 0 marks (is_marked all)
+    front all g = (agrees_split p 0 (length old) marks (all_marked stay.more) (is_marked all) (omega (arith, keep.count)) g).0
+
+pub no_packet : PacketIn
+no_packet = record { frame = []; ifindex = 0; time = 0 }
+
+-- of what is there two facts give a third
+pub ok_both : {A E : Type 0} (Q R S : A → Type 0) (x : Result A E) → IfOk x Q → IfOk x R → ((a : A) → Q a → R a → S a) → IfOk x S
+ok_both Q R S (Ok a) q r both = both a q r
+ok_both Q R S (Err e) q r both = tt
+
+three : {X : Type 0} (Q : X → Type 0) (a b c : X) → Q a → Q b → Q c → All Q (a ∷ b ∷ c ∷ [])
+three Q a b c x y z = All-cons Q a (b ∷ c ∷ []) x (All-cons Q b (c ∷ []) y (All-cons Q c [] z (All-nil Q)))
+
+-- ---- what does not read, or does not look for a key
+pub plain_access : (a : Act) → answers_number a ≡ true → finds_key a ≡ true → ⊥
+plain_access act.Lookup e f = cc
+plain_access act.Update e f = cc
+plain_access act.Delete e f = cc
+plain_access (act.Load at size) e f = cc
+plain_access (act.Store at size) e f = cc
+plain_access (act.Atomic at a) e f = cc
+
+pub plain_store : (a : Act) (at : ℕ) (size : _) → a ≡ act.Store at size → (finds_key a ≡ true → ⊥) × (reads a ≡ true → ⊥)
+plain_store a at size e = (λ f. let g = sym (ap finds_key e) ∙ f in cc, λ f. let g = sym (ap reads e) ∙ f in cc)
+
+module _ {P : Type 0} (part : P) (old new : List (BlockWireTree (Name P))) (m : MapNets (Name P)) (s : OwnSite (Name P)) (ss : List (OwnSite (Name P))) (word : Operand (Name P)) (from width : ℕ) (p : ProgramView) (t : TableState) (h : Held) (row : ℕ → ℕ) (r : ℕ) where
+  -- no pointer, and an answer
+  plain_cells : (answer : Operand (Name P)) → IsOperand answer → HasBits width answer → AreCells m.bits width (record { found = Known 0; there = Known 0; answer = answer })
+  plain_cells answer operand bits = record { found = omega arith; found_bits = pow_pos m.bits; there = omega arith; there_bits = omega arith; answer = operand; answer_bits = bits }
+
+  -- what looks for a key
+  pub key_reads : (packet : PacketIn) (o : ReadNets (Name P)) → AreCells m.bits width o → Reads part old new m s ss from width p t h row r packet no_cell o → SiteReads part old new m s ss word from width p t h row r o
+  key_reads packet o cells x = record {
+    cells = cells;
+    adds = record { before = x.found.before; stays = x.found.stays; apart = keeps_apart part old new (taken m s ss) (o.found ∷ []) x.found.apart };
+    wires = λ outside a h. (x.found.given outside a (All-tail (IsAvailable (behind part outside old)) word (taken m s ss) h)).wires;
+    there = λ outside a h.
+        let rest = All-tail (IsAvailable (behind part outside old)) word (taken m s ss) h in
+        three (IsAvailable (behind part outside new)) o.found o.there o.answer (x.found.given outside a rest).there (x.there.given outside a rest).there (x.answer.given outside a rest).there;
+    found = λ e outside v a h f solved shows.
+        let rest = All-tail (IsAvailable (behind part outside old)) word (taken m s ss) h in
+        ((x.found.given outside a rest).value v f solved shows, (x.there.given outside a rest).value v f solved shows);
+    answer = λ e outside v a h f solved shows under. (x.answer.given outside a (All-tail (IsAvailable (behind part outside old)) word (taken m s ss) h)).value v f solved shows;
+  }
+
+  -- an access that answers
+  pub access_reads :
+      (answer : Operand (Name P)) → answers_number s.act ≡ true
+      → Gives part old new (word ∷ taken m s ss) (λ v. Shows v p t h m s ss × ShowsWord v t (site_at p.sites s.site).map (access_start s.act / 8) (access_pointer h (site_at p.sites s.site)) word) (λ v. bits_from (answer_over p t h (pending p row r s.site) s.site) from width) width answer
+      → SiteReads part old new m s ss word from width p t h row r (record { found = Known 0; there = Known 0; answer = answer })
+  access_reads answer is x = record {
+    cells = plain_cells answer x.operand x.bits;
+    adds = record { before = x.before; stays = x.stays; apart = keeps_apart part old new (word ∷ taken m s ss) (answer ∷ []) x.apart };
+    wires = λ outside a h. (x.given outside a h).wires;
+    there = λ outside a h. three (IsAvailable (behind part outside new)) (Known 0) (Known 0) answer tt tt (x.given outside a h).there;
+    found = λ e. absurd (plain_access s.act is e);
+    answer = λ e outside v a h f solved shows under. (x.given outside a h).value v f solved (shows, under is);
+  }
+
+  -- a store
+  pub store_reads : old ≡ new → (finds_key s.act ≡ true → ⊥) × (reads s.act ≡ true → ⊥) → SiteReads part old new m s ss word from width p t h row r (record { found = Known 0; there = Known 0; answer = Known 0 })
+  store_reads same none = subst (λ ws. SiteReads part old ws m s ss word from width p t h row r (record { found = Known 0; there = Known 0; answer = Known 0 })) same (record {
+    cells = plain_cells (Known 0) (omega arith) (pow_pos width);
+    adds = record { before = λ v solved. solved; stays = λ outside a h. h; apart = λ clean marks table keep. (marks, keep) };
+    wires = λ outside a h. a;
+    there = λ outside a h. three (IsAvailable (behind part outside old)) (Known 0) (Known 0) (Known 0) tt tt tt;
+    found = λ e. absurd (none.0 e);
+    answer = λ e. absurd (none.1 e);
+  })

@@ -1,0 +1,108 @@
+-- The place behind the reads of its row.
+use Rattle.std.specs.Prelude.{Option, Contains, take}
+use Rattle.std.proofs.Common.{◌≡◌, ◌∙◌, ◌⊎◌, inl, inr, ℕ, Bool, true, false, Some, All, List, length, get_or, slice_index, refl, ap, arith}
+use Rattle.net_core.specs.Value.{Env}
+use Rattle.xdp_machine.specs.State.{PacketIn}
+use Rattle.block_core.specs.declared.name.Name.{Name}
+use Rattle.block_core.specs.Blocks.{BlockTree, BlockWireTree}
+use Rattle.block_core.specs.Parts.{Solve}
+use Rattle.cell_core.specs.declared.operator.Operator.{Operator}
+use Rattle.cell_core.specs.declared.operator.Operator.TheVariants.{Wire, Phi, Found, Answer}
+use Rattle.cell_core.specs.Cells.{cell_at, is_read, site_in}
+use Rattle.cell_core.specs.Sites.{ProgramView}
+use Rattle.hazard_core.specs.Tables.{TableState}
+use Rattle.hazard_core.specs.Held.{Held, held_value, pointer_in}
+use Rattle.cell_nets.specs.declared.operand.Operand.{Operand}
+use Rattle.cell_nets.specs.Wires.{behind}
+use Rattle.row_net.specs.Table.{IsIn}
+use Rattle.row_net.specs.Made.{IsReady}
+use Rattle.site_place.specs.Holding.{PointersAreHeld}
+use Rattle.site_place.specs.Pointing.{PointersAre, is_edge, HoldsOf, Takes, ArePointed}
+use Rattle.site_place.specs.PointerNets.{BothThere}
+use Rattle.site_place.specs.SitePlace.{IsSitePlace}
+use Rattle.held_rows.specs.Made.{IsRowMade}
+use Rattle.stage_net.specs.declared.row.StageNets.{StageNets}
+use Rattle.stage_net.specs.Nets.{decls_of, NetsAreThere}
+use Rattle.stage_net.specs.Staged.{IsStaged}
+use Rattle.stage_net.specs.Rows.{IsHad, IsPointerHad, AreRead}
+use Rattle.stage_net.specs.Stage.{CanMake, CanPoint, IsStage}
+
+-- ---- what a pointer takes, said of more
+of_as : (e f p q : ℕ → Type 0) → ((i : ℕ) → e i → f i) → ((i : ℕ) → p i → q i) → (b : Bool) (i : ℕ) → HoldsOf e p b i → HoldsOf f q b i
+of_as e f p q edges pointers true i h = edges i h
+of_as e f p q edges pointers false i h = pointers i h
+
+takes_as : (e f p q : ℕ → Type 0) → ((i : ℕ) → e i → f i) → ((i : ℕ) → p i → q i) → (op : Operator) (ins : List ℕ) → Takes e p op ins → Takes f q op ins
+takes_as e f p q edges pointers Wire ins h = pointers (slice_index ins 0) h
+takes_as e f p q edges pointers Phi ins h = λ n l. of_as e f p q edges pointers (is_edge n) (slice_index ins n) (h n l)
+takes_as e f p q edges pointers op ins h = tt
+
+-- the site that a read is of
+read_site : (op : Operator) → is_read op ≡ true → (j : ℕ) × (site_in op ≡ Some j)
+read_site (Found j) e = (j, refl)
+read_site (Answer j) e = (j, refl)
+read_site op e = cc
+
+either : {A B C : Type 0} → (A → B) → A ⊎ C → B ⊎ C
+either f (inl a) = inl (f a)
+either f (inr c) = inr c
+
+module _ {P : Type 0} (part : P) (p : ProgramView) (row : ℕ → ℕ) (r : ℕ) (nets : StageNets (Name P)) (staged : IsStaged p row (decls_of nets.maps.now) nets.bits) (old ws : List (BlockWireTree (Name P))) (before after pointers those : List (Option (Operand (Name P))))
+    (x : AreRead part p row r nets 0 (length p.sites) old ws before after pointers those) where
+  abbrev Has : ℕ → Type 0
+  Has k = IsHad p row r before k
+
+  abbrev HasPointer : ℕ → Type 0
+  HasPointer k = IsPointerHad p row r pointers k
+
+  pub has : (k : ℕ) → Has k → IsIn after k
+  has k (inl h) = x.grows k h
+  has k (inr h) = let s = read_site (cell_at p.cells k).op h.2 in x.read k s.0 h.0 h.1 s.1 (omega arith) (staged.reads k s.0 h.0 s.1).site
+
+  pub has_pointer : (k : ℕ) → HasPointer k → IsIn those k
+  has_pointer k (inl h) = x.grows_pointers k h
+  has_pointer k (inr h) = x.found k h.0 h.1 h.2 h.3 (omega arith) (staged.reads k h.0 h.1 (ap site_in h.3)).site
+
+  pub all_have : (made held : List ℕ) → All (λ k. Has k ⊎ Contains made k) held → All (λ k. IsIn after k ⊎ Contains made k) held
+  all_have made held h k d lt = either (has (get_or held k d)) (h k d lt)
+
+  pub all_have_pointers : (made held : List ℕ) → All (λ k. HasPointer k ⊎ Contains made k) held → All (λ k. IsIn those k ⊎ Contains made k) held
+  all_have_pointers made held h k d lt = either (has_pointer (get_or held k d)) (h k d lt)
+
+  pub is_ready : (made : List ℕ) → CanMake p.cells Has made → IsReady p.cells after made
+  is_ready made c = record { within = c.within; computed = c.computed; inputs = λ n lt k d l. either (has _) (c.inputs n lt k d l) }
+
+  pub are_pointed : (made made_pointers : List ℕ) → CanPoint p.cells Has HasPointer made made_pointers → ArePointed p.cells after those made made_pointers
+  are_pointed made made_pointers c = record {
+    within = c.within;
+    inputs = λ n lt.
+        takes_as (λ i. Has i ⊎ Contains made i) (λ i. IsIn after i ⊎ Contains made i) (λ i. HasPointer i ⊎ Contains (take n made_pointers) i) (λ i. IsIn those i ⊎ Contains (take n made_pointers) i) (λ i. either (has i)) (λ i. either (has_pointer i))
+        (cell_at p.cells (slice_index made_pointers n)).op (cell_at p.cells (slice_index made_pointers n)).ins (c.inputs n lt);
+  }
+
+  module _ (law : PointersAreHeld) (made held made_pointers held_pointers : List ℕ) (can : CanPoint p.cells Has HasPointer made made_pointers) (of_row : All (λ k. row k ≡ r) made_pointers) where
+    pointers_are : (t : TableState) (packet : PacketIn) (h : Held) → IsRowMade p row r t packet h → PointersAre p.cells made_pointers (held_value h) (pointer_in h)
+    pointers_are t packet h is n d lt =
+        let cell = cell_at p.cells (get_or made_pointers n d) in
+        (is.each (get_or made_pointers n d) (can.within n d lt) (of_row n d lt)).pointer ∙ law p row r t h cell cell.op (can.computed n d lt)
+
+    pub is_stage :
+        (outside : List (Operand (Name P))) (advance : Name P) (b : BlockTree (Name P)) → NetsAreThere (behind part outside old) nets → BothThere part outside old before pointers → ((v : Env (Name P)) → Solve v part 0 b.wires → Solve v part 0 ws)
+        → IsSitePlace part p.cells made held made_pointers held_pointers nets.bits outside after those advance b → IsStage part p row r nets made held made_pointers held_pointers outside before pointers advance b
+    is_stage outside advance b hand both begun y = record {
+      registers = y.registers;
+      memories = y.memories;
+      typed = y.typed;
+      ordered = y.ordered;
+      reads = y.reads;
+      within = y.within;
+      wires_spelled = y.wires_spelled;
+      spelled = y.spelled;
+      goes = y.goes;
+      first = y.first;
+      fits = y.fits;
+      next = λ v s t packet held h on widths fit solved shows is values cells points.
+          let z = x.value outside v t packet held h hand both fit (begun v solved) shows is cells points in
+          y.next v s packet (held_value h) (pointer_in h) on widths fit solved values (pointers_are t packet h is) z.0 z.1;
+      stays = y.stays;
+    }

@@ -1,0 +1,107 @@
+-- What the sites that are read in a row give.
+use Rattle.std.specs.Prelude.{◌≡◌, ℕ, ◌<◌, ◌≤◌, ◌∷◌, ◌/◌, not, Bool, true, false, Option, Some, All, List, [], length}
+use Rattle.std.proofs.Common.{get_or, ◌⊎◌}
+use Rattle.net_core.specs.Value.{Env}
+use Rattle.xdp_machine.specs.State.{PacketIn}
+use Rattle.block_core.specs.declared.name.Name.{Name}
+use Rattle.block_core.specs.Blocks.{BlockWireTree}
+use Rattle.block_core.specs.Parts.{Solve}
+use Rattle.cell_core.specs.declared.operator.Operator.TheVariants.{Found}
+use Rattle.cell_core.specs.Acts.{finds_key, reads}
+use Rattle.cell_core.specs.Cells.{bit, bits_from, cell_at, is_read, site_in}
+use Rattle.cell_core.specs.Sites.{ProgramView, site_at}
+use Rattle.hazard_core.specs.Tables.{TableState}
+use Rattle.hazard_core.specs.Tabled.{AreTables}
+use Rattle.hazard_core.specs.Held.{Held, held_value, pointer_in, access_pointer, pending, is_null}
+use Rattle.hazard_core.specs.Keeping.{AreAlike}
+use Rattle.hazard_core.specs.Overlay.{found_pointer, answer_over}
+use Rattle.cell_nets.specs.declared.operand.Operand.{Operand}
+use Rattle.cell_nets.specs.Operands.{number_in, AreFit, IsAvailable}
+use Rattle.cell_nets.specs.Wires.{behind, AreWires}
+use Rattle.site_operands.specs.declared.SiteNets.{SiteNets}
+use Rattle.site_operands.specs.Pointers.{pointer_number}
+use Rattle.site_operands.specs.Sites.{operands_of, ShowsSite}
+use Rattle.row_net.specs.Table.{IsIn, IsTable, Holds}
+use Rattle.row_net.specs.Apart.{KeepApart}
+use Rattle.site_place.specs.Pointing.{IsPointers, HoldsPointers}
+use Rattle.site_place.specs.PointerNets.{AddWires, BothThere}
+use Rattle.value_net.specs.Pendings.{HasValue}
+use Rattle.value_net.specs.Words.{answers_number, access_start}
+use Rattle.read_net.specs.declared.sites.MapNets.{MapNets}
+use Rattle.read_net.specs.declared.sites.ReadNets.{ReadNets}
+use Rattle.read_net.specs.Reads.{AreCells}
+use Rattle.read_net.specs.Sites.{ShowsTable}
+use Rattle.read_net.specs.Accesses.{ShowsWord}
+use Rattle.held_rows.specs.Made.{IsRowMade}
+use Rattle.stage_net.specs.declared.row.StageNets.{StageNets}
+use Rattle.stage_net.specs.Nets.{decls_of, NetsAreThere}
+
+-- ---- the cells of a row that read maps
+abbrev pub IsReadHere : ProgramView → (ℕ → ℕ) → ℕ → ℕ → Type 0
+IsReadHere p row r c = (c < length p.cells) × (row c ≡ r) × (is_read (cell_at p.cells c).op ≡ true)
+
+abbrev pub IsFoundHere : ProgramView → (ℕ → ℕ) → ℕ → ℕ → Type 0
+IsFoundHere p row r c = (j : ℕ) × (c < length p.cells) × (row c ≡ r) × ((cell_at p.cells c).op ≡ Found j)
+
+-- a cell that a table has or that the row reads, and so of pointers
+abbrev pub IsHad : {N : Type 0} → ProgramView → (ℕ → ℕ) → ℕ → List (Option (Operand N)) → ℕ → Type 0
+IsHad p row r table c = IsIn table c ⊎ IsReadHere p row r c
+
+abbrev pub IsPointerHad : {N : Type 0} → ProgramView → (ℕ → ℕ) → ℕ → List (Option (Operand N)) → ℕ → Type 0
+IsPointerHad p row r pointers c = IsIn pointers c ⊎ IsFoundHere p row r c
+
+-- ---- what the nets stand for, of a packet that holds the rows before
+-- the tables, which have the maps' declarations, and their slots
+pub record ShowsMaps {N : Type 0} (v : Env N) (nets : StageNets N) (t : TableState) : Type 0 where
+  pub tables : AreTables t
+  pub decls : t.decls ≡ decls_of nets.maps.now
+  pub maps : (m : ℕ) (d : MapNets N) → m < length nets.maps.now → ShowsTable v t m (get_or nets.maps.now m d)
+
+-- the word under the pointer of a site, where that is to a slot
+pub record ShowsEntry {N : Type 0} (v : Env N) (p : ProgramView) (t : TableState) (before : Held) (j : ℕ) (word : Operand N) : Type 0 where
+  pub value : HasValue t (site_at p.sites j).map (access_pointer before (site_at p.sites j))
+  pub under : ShowsWord v t (site_at p.sites j).map (access_start (site_at p.sites j).act / 8) (access_pointer before (site_at p.sites j)) word
+
+-- all that the read of a site takes: the cells of all sites, the slots, and under the pointer of an access the word
+pub record ShowsReads {N : Type 0} (v : Env N) (p : ProgramView) (nets : StageNets N) (t : TableState) (before : Held) (j : ℕ) : Type 0 where
+  pub maps : ShowsMaps v nets t
+  pub sites : (i : ℕ) (d : SiteNets N) → i < length p.sites → ShowsSite v p before i (operands_of (get_or nets.sites.now i d))
+  pub entry : (d : Operand N) → answers_number (site_at p.sites j).act ≡ true → ShowsEntry v p t before j (get_or nets.words.now j d)
+
+-- ---- the read of a site in a row
+pub record IsSiteRead {P : Type 0} (part : P) (p : ProgramView) (row : ℕ → ℕ) (r : ℕ) (nets : StageNets (Name P)) (j from width : ℕ) (old new : List (BlockWireTree (Name P))) (o : ReadNets (Name P)) : Type 0 where
+  pub cells : AreCells nets.bits width o
+  pub adds : AddWires part old new
+  pub wires : (outside : List (Operand (Name P))) → AreWires part outside old → NetsAreThere (behind part outside old) nets → AreWires part outside new
+  pub there : (outside : List (Operand (Name P))) → AreWires part outside old → NetsAreThere (behind part outside old) nets → All (IsAvailable (behind part outside new)) (o.found ∷ o.there ∷ o.answer ∷ [])
+  pub found :
+      finds_key (site_at p.sites j).act ≡ true → (outside : List (Operand (Name P))) (v : Env (Name P)) (t : TableState) (before : Held) → AreWires part outside old → NetsAreThere (behind part outside old) nets → AreFit v outside → Solve v part 0 new → ShowsReads v p nets t before j
+      → (number_in v o.found ≡ pointer_number (found_pointer p t before (pending p row r j) j)) × (number_in v o.there ≡ bit (not (is_null (found_pointer p t before (pending p row r j) j))))
+  pub answer :
+      reads (site_at p.sites j).act ≡ true → (outside : List (Operand (Name P))) (v : Env (Name P)) (t : TableState) (before : Held) → AreWires part outside old → NetsAreThere (behind part outside old) nets → AreFit v outside → Solve v part 0 new → ShowsReads v p nets t before j
+      → number_in v o.answer ≡ bits_from (answer_over p t before (pending p row r j) j) from width
+
+-- ---- the cells of a packet behind the row
+-- It held the same of the earlier rows before it, and by that the nets stand for what the reads of the row take.
+pub record ShowsRow {N : Type 0} (v : Env N) (p : ProgramView) (row : ℕ → ℕ) (r : ℕ) (nets : StageNets N) (t : TableState) (before h : Held) : Type 0 where
+  pub alike : AreAlike p row r before h
+  pub reads : (c j : ℕ) → c < length p.cells → row c ≡ r → site_in (cell_at p.cells c).op ≡ Some j → ShowsReads v p nets t before j
+
+-- Wires and the tables of cells and of pointers become more: they get the cells that read the sites from one number up to another in the row, and nothing that was
+-- there goes. Whatever comes from outside, behind the wires stands all that is in them, and it has the numbers of what the packet holds behind the row, where that was
+-- so before. Products stay apart.
+pub record AreRead {P : Type 0} (part : P) (p : ProgramView) (row : ℕ → ℕ) (r : ℕ) (nets : StageNets (Name P)) (low high : ℕ) (old new : List (BlockWireTree (Name P))) (before after pointers those : List (Option (Operand (Name P)))) : Type 0 where
+  pub cells_are : IsTable p.cells after
+  pub pointers_are : IsPointers p.cells nets.bits those
+  pub found : (c j : ℕ) → c < length p.cells → row c ≡ r → (cell_at p.cells c).op ≡ Found j → low ≤ j → j < high → IsIn those c
+  pub read : (c j : ℕ) → c < length p.cells → row c ≡ r → site_in (cell_at p.cells c).op ≡ Some j → low ≤ j → j < high → IsIn after c
+  pub grows : (k : ℕ) → IsIn before k → IsIn after k
+  pub grows_pointers : (k : ℕ) → IsIn pointers k → IsIn those k
+  pub earlier : (v : Env (Name P)) → Solve v part 0 new → Solve v part 0 old
+  pub stays : (outside : List (Operand (Name P))) (a : Operand (Name P)) → IsAvailable (behind part outside old) a → IsAvailable (behind part outside new) a
+  pub there : (outside : List (Operand (Name P))) → NetsAreThere (behind part outside old) nets → BothThere part outside old before pointers → BothThere part outside new after those
+  pub value :
+      (outside : List (Operand (Name P))) (v : Env (Name P)) (t : TableState) (packet : PacketIn) (held h : Held) → NetsAreThere (behind part outside old) nets → BothThere part outside old before pointers → AreFit v outside → Solve v part 0 new → ShowsRow v p row r nets t held h → IsRowMade p row r t packet h
+      → Holds v before (held_value h) → HoldsPointers v pointers (pointer_in h) → Holds v after (held_value h) × HoldsPointers v those (pointer_in h)
+  pub apart :
+      (clean : ℕ → Bool) (marks : List Bool) → ((c : ℕ) → IsReadHere p row r c → clean c ≡ false) → KeepApart part clean marks old before → (next : List Bool) × KeepApart part clean next new after

@@ -1,0 +1,175 @@
+//! The reads of a row, site by site.
+
+ghost use Rattle.std.specs.Prelude.{◌≡◌, ◌<◌, ◌≤◌, ◌+◌, ◌==◌, ◌&&◌, ◌||◌, nat_lt, Some, length, slice_index, slice_set, IfOk};
+ghost use Rattle.std.proofs.Common.{get_or};
+ghost use Rattle.cell_core.specs.Cells.{cell_at};
+ghost use Rattle.cell_core.specs.Formed.{AreFormed};
+ghost use Rattle.cell_core.specs.View.{program_of};
+ghost use Rattle.cell_nets.specs.Wires.{wires_of};
+ghost use Rattle.hazard_core.specs.Keeping.{ReadsKeep};
+ghost use Rattle.row_net.specs.Table.{IsTable};
+ghost use Rattle.site_place.specs.Pointing.{IsPointers};
+ghost use Rattle.stage_net.specs.Nets.{decls_of, AreNets};
+ghost use Rattle.stage_net.specs.Staged.{HaveTables, IsStaged};
+ghost use Rattle.stage_net.specs.Rows.{IsSiteRead, AreRead};
+
+use crate::earlier::{earlier, own_site};
+use crate::reading::site_reads;
+use crate::row::{ProgramRow, StageNets};
+use block_core::block::BlockWire;
+use block_core::name::Name;
+use cell_core::program::CellProgram;
+use cell_nets::operand::Operand;
+use hazard_core::laws::{loads_tables, reads_keep};
+use hazard_core::pending::row_in;
+use hazard_core::site::{answer_cell, found_cell, site_at};
+use read_net::sites::{MapNets, ReadNets};
+use std::alloc::{AllocError, Global};
+use xdp_maps::laws::keeps_over;
+
+// Whether a cell that there is stands in the row.
+fn stands_in(at: &ProgramRow<'_>, cell: usize) -> bool
+    ensures { result ≡ (nat_lt cell (length (program_of at.now.program.now).cells) && (slice_index at.now.rows.now cell == at.now.row)) }
+{
+    cell < at.program.cells.len() && row_in(at.rows, cell) == at.row
+}
+
+// Whether the row has a cell that reads a site, of these two.
+fn is_read(at: &ProgramRow<'_>, found: usize, answer: usize) -> bool
+    ensures { result ≡ ((nat_lt found (length (program_of at.now.program.now).cells) && (slice_index at.now.rows.now found == at.now.row)) || (nat_lt answer (length (program_of at.now.program.now).cells) && (slice_index at.now.rows.now answer == at.now.row))) }
+{
+    stands_in(at, found) || stands_in(at, answer)
+}
+
+// From which bit on a cell has the number of its operator; 0 past the last cell.
+fn first_bit(program: &CellProgram, cell: usize) -> u8
+    requires { AreFormed (program_of program.now).cells }
+    ensures most { result ≤ 63 }
+    ensures is { result ≡ (cell_at (program_of program.now).cells cell).from }
+{
+    if cell < program.cells.len() {
+        program.cells[cell].from as u8
+    } else {
+        0
+    }
+}
+
+// How many bits it has; none past the last cell.
+fn width(program: &CellProgram, cell: usize) -> u8
+    requires { AreFormed (program_of program.now).cells }
+    ensures most { result ≤ 64 }
+    ensures is { result ≡ (cell_at (program_of program.now).cells cell).width }
+{
+    if cell < program.cells.len() {
+        program.cells[cell].width as u8
+    } else {
+        0
+    }
+}
+
+// What stands for a map.
+fn map_at<'a, N>(maps: &'a [MapNets<'a, N>], m: u32) -> &'a MapNets<'a, N>
+    requires { m < length maps.now }
+    ensures { result.now ≡ get_or maps.now m result.now }
+{
+    &maps[m as usize]
+}
+
+// The word that stands for a site.
+fn word_at<N: Copy>(words: &[Operand<N>], j: u32) -> Operand<N>
+    requires { j < length words.now }
+    ensures { result ≡ get_or words.now j result }
+{
+    words[j as usize]
+}
+
+// What stands for a cell from now on, if there is such a cell.
+fn put<N: Copy>(table: &mut Vec<Option<Operand<N>>>, cell: usize, operand: Operand<N>)
+    ensures { table.new.items ≡ slice_set table.old.items cell (Some operand) }
+{
+    if cell < table.len() {
+        table[cell] = Some(operand);
+    }
+}
+
+// What a site reads in the row, and the bits of its answer that a cell takes.
+fn reads_of<P: Copy>(
+    alloc: Global,
+    wires: &mut Vec<BlockWire<Name<P>>>,
+    part: P,
+    at: &ProgramRow<'_>,
+    nets: &StageNets<'_, Name<P>>,
+    j: u32,
+    answer: usize,
+) -> Result<ReadNets<Name<P>>, AllocError>
+    requires staged { IsStaged (program_of at.now.program.now) (slice_index at.now.rows.now) (decls_of nets.now.maps.now) nets.now.bits }
+    requires nets { AreNets (program_of at.now.program.now) nets.now }
+    requires tables { HaveTables (decls_of nets.now.maps.now) }
+    requires site { j < length at.now.program.now.sites.items }
+    ensures { IfOk result (IsSiteRead part (program_of at.now.program.now) (slice_index at.now.rows.now) at.now.row nets.now j (cell_at (program_of at.now.program.now).cells answer).from (cell_at (program_of at.now.program.now).cells answer).width (wires_of wires.old.items) (wires_of wires.new.items)) }
+{
+    let map = map_at(nets.maps, site_at(at.program, j as usize).map);
+    let site = own_site(at.program, nets.sites, j);
+    let earlier = earlier(alloc, at, nets.sites, j)?;
+    let from = first_bit(at.program, answer);
+    let width = width(at.program, answer);
+    let word = word_at(nets.words, j);
+    site_reads(alloc, wires, part, map, &site, &earlier, word, from, width)
+}
+
+// Puts into the tables what a site reads, if it is read in the row.
+fn read_site<P: Copy>(
+    alloc: Global,
+    wires: &mut Vec<BlockWire<Name<P>>>,
+    part: P,
+    at: &ProgramRow<'_>,
+    nets: &StageNets<'_, Name<P>>,
+    j: u32,
+    table: &mut Vec<Option<Operand<Name<P>>>>,
+    pointers: &mut Vec<Option<Operand<Name<P>>>>,
+) -> Result<(), AllocError>
+    requires staged { IsStaged (program_of at.now.program.now) (slice_index at.now.rows.now) (decls_of nets.now.maps.now) nets.now.bits }
+    requires nets { AreNets (program_of at.now.program.now) nets.now }
+    requires tables { HaveTables (decls_of nets.now.maps.now) }
+    requires keep { ReadsKeep }
+    requires site { j < length at.now.program.now.sites.items }
+    requires table { IsTable (program_of at.now.program.now).cells table.old.items }
+    requires pointers { IsPointers (program_of at.now.program.now).cells nets.now.bits pointers.old.items }
+    ensures { IfOk result (λ done. AreRead part (program_of at.now.program.now) (slice_index at.now.rows.now) at.now.row nets.now j (j + 1) (wires_of wires.old.items) (wires_of wires.new.items) table.old.items table.new.items pointers.old.items pointers.new.items) }
+{
+    let found = found_cell(at.program, j as usize);
+    let answer = answer_cell(at.program, j as usize);
+    if is_read(at, found, answer) {
+        let read = reads_of(alloc, wires, part, at, nets, j, answer)?;
+        put(table, found, read.there);
+        put(table, answer, read.answer);
+        put(pointers, found, read.found);
+    }
+    Ok(())
+}
+
+/// Makes the wires of all sites that are read in a row, each once, and says in the tables what stands for the cells of the reads and for the pointers that
+/// they find.
+pub fn reads<P: Copy>(
+    alloc: Global,
+    wires: &mut Vec<BlockWire<Name<P>>>,
+    part: P,
+    at: &ProgramRow<'_>,
+    nets: &StageNets<'_, Name<P>>,
+    table: &mut Vec<Option<Operand<Name<P>>>>,
+    pointers: &mut Vec<Option<Operand<Name<P>>>>,
+) -> Result<(), AllocError>
+    requires staged { IsStaged (program_of at.now.program.now) (slice_index at.now.rows.now) (decls_of nets.now.maps.now) nets.now.bits }
+    requires nets { AreNets (program_of at.now.program.now) nets.now }
+    requires table { IsTable (program_of at.now.program.now).cells table.old.items }
+    requires pointers { IsPointers (program_of at.now.program.now).cells nets.now.bits pointers.old.items }
+    ensures { IfOk result (λ done. AreRead part (program_of at.now.program.now) (slice_index at.now.rows.now) at.now.row nets.now 0 (length (program_of at.now.program.now).sites) (wires_of wires.old.items) (wires_of wires.new.items) table.old.items table.new.items pointers.old.items pointers.new.items) }
+{
+    reads_keep();
+    loads_tables();
+    keeps_over();
+    for j in 0..at.program.sites.len() as u32 {
+        read_site(alloc, wires, part, at, nets, j, table, pointers)?;
+    }
+    Ok(())
+}

@@ -1,0 +1,4 @@
+pub mod Putting
+pub mod Keeping
+pub mod Loading
+pub mod Leading

@@ -1,0 +1,7 @@
+pub mod StandLemmas
+pub mod FreeLemmas
+pub mod TableLemmas
+pub mod TargetLemmas
+pub mod CommitLemmas
+pub mod TargetLaws
+pub mod CommitLaws
