@@ -20,21 +20,21 @@ abbrev pub run_form : CommandForm
 run_form = record {
   name = codes "run";
   required = codes "object" ∷ codes "capture" ∷ codes "verilog" ∷ codes "answer" ∷ codes "verdicts" ∷ codes "final" ∷ [];
-  optional = codes "program" ∷ codes "hash-cap" ∷ codes "ifindex" ∷ [];
+  optional = codes "maps" ∷ codes "program" ∷ codes "hash-cap" ∷ codes "ifindex" ∷ [];
 }
 
 abbrev pub sim_form : CommandForm
 sim_form = record {
   name = codes "sim";
   required = codes "clocks" ∷ run_form.required;
-  optional = codes "maps" ∷ run_form.optional;
+  optional = run_form.optional;
 }
 
 abbrev pub ref_form : CommandForm
 ref_form = record {
   name = codes "ref";
   required = codes "object" ∷ codes "capture" ∷ codes "answer" ∷ codes "verdicts" ∷ codes "final" ∷ [];
-  optional = codes "maps" ∷ run_form.optional;
+  optional = run_form.optional;
 }
 
 abbrev pub report_form : CommandForm
@@ -44,8 +44,15 @@ report_form = record {
   optional = codes "program" ∷ codes "hash-cap" ∷ [];
 }
 
+abbrev pub demo_form : CommandForm
+demo_form = record {
+  name = codes "demo";
+  required = codes "seed" ∷ codes "packets" ∷ [];
+  optional = [];
+}
+
 abbrev pub commands : List CommandForm
-commands = compile_form ∷ run_form ∷ sim_form ∷ ref_form ∷ report_form ∷ []
+commands = compile_form ∷ run_form ∷ sim_form ∷ ref_form ∷ report_form ∷ demo_form ∷ []
 
 -- the option `--NAME`
 abbrev pub option_rule : Bool → List ℕ → Rule

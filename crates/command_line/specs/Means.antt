@@ -1,7 +1,7 @@
 -- What a command with its values asks for.
 use Rattle.std.specs.Prelude.{◌≡◌, ◌≢◌, ◌⊎◌, ℕ, ◌≤◌, List, ◌∷◌, Option, Some, None, codes, decimal, AllPairs}
 use Rattle.xdp_object.specs.Choice.{Chosen}
-use Rattle.command_line.specs.Request.{Names, Request, AskCompile, AskRun, AskSim, AskRef, AskReport, files_of}
+use Rattle.command_line.specs.Request.{Names, Request, AskCompile, AskRun, AskSim, AskRef, AskReport, AskDemo, files_of}
 
 -- the value of each option that is there, by the option's name
 abbrev pub Values : Type 0
@@ -76,6 +76,11 @@ pub record MeansReport (command : List ℕ) (values : Values) (object : List ℕ
   pub gives_object : values (codes "object") ≡ Some object
   pub gives_selected : GivesChosen values selected
 
+pub record MeansDemo (command : List ℕ) (values : Values) (seed packets : ℕ) : Type 0 where
+  pub called : command ≡ codes "demo"
+  pub gives_seed : GivesNumber values (codes "seed") 0 4294967295 seed
+  pub gives_packets : GivesNumber values (codes "packets") 0 100000 packets
+
 -- A command with these values of its options asks for this. Numbers are in their ranges, and no two files have one name.
 abbrev pub Means : List ℕ → Values → Request → Type 0
 Means command values (AskCompile object verilog selected) = MeansCompile command values object verilog selected
@@ -83,3 +88,4 @@ Means command values (AskRun names verilog selected ifindex) = MeansRun command 
 Means command values (AskSim names verilog selected ifindex clocks) = MeansSim command values names verilog selected ifindex clocks
 Means command values (AskRef names selected ifindex) = MeansRef command values names selected ifindex
 Means command values (AskReport object selected) = MeansReport command values object selected
+Means command values (AskDemo seed packets) = MeansDemo command values seed packets

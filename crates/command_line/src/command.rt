@@ -53,4 +53,10 @@ pub enum Command<'a> {
         object: &'a str,
         choice: Choice<'a>,
     },
+    /// To run a program that is at hand over packets that are drawn from a seed.
+    Demo {
+        seed: u32,
+        /// How many packets, at most 100,000.
+        packets: u32,
+    },
 }

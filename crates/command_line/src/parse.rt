@@ -19,7 +19,7 @@ struct CommandRow {
     optional: &'static [&'static str],
 }
 
-const COMMANDS: [CommandRow; 5] = [
+const COMMANDS: [CommandRow; 6] = [
     CommandRow {
         name: "compile",
         required: &["object", "verilog"],
@@ -30,7 +30,7 @@ const COMMANDS: [CommandRow; 5] = [
         required: &[
             "object", "capture", "verilog", "answer", "verdicts", "final",
         ],
-        optional: &["program", "hash-cap", "ifindex"],
+        optional: &["maps", "program", "hash-cap", "ifindex"],
     },
     CommandRow {
         name: "sim",
@@ -48,6 +48,11 @@ const COMMANDS: [CommandRow; 5] = [
         name: "report",
         required: &["object"],
         optional: &["program", "hash-cap"],
+    },
+    CommandRow {
+        name: "demo",
+        required: &["seed", "packets"],
+        optional: &[],
     },
 ];
 

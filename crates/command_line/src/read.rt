@@ -16,6 +16,8 @@ use std::alloc::Global;
 
 const CLOCK_LIMIT: u32 = 500_000_000;
 
+const PACKET_LIMIT: u32 = 100_000;
+
 /// What the words ask for: they are the program's name, a command, and its options with their values, as `clap` takes them.
 ///
 /// - `compile --object A --verilog B`
@@ -23,9 +25,10 @@ const CLOCK_LIMIT: u32 = 500_000_000;
 /// - `sim`, as `run`, and `--clocks N`, at most 500,000,000
 /// - `ref`, as `run` without `--verilog`
 /// - `report --object A`
+/// - `demo --seed N --packets N`, at most 4,294,967,295 and at most 100,000
 ///
-/// Each may have `--program NAME` and `--hash-cap N`, 1 to 1,024 and without it 256; `run`, `sim` and `ref` may have `--ifindex N`, at most
-/// 4,294,967,295 and without it 1; `sim` and `ref` may have `--maps B`. A number stands in decimal without a needless zero in front, and no two file names of a command
+/// Each but `demo` may have `--program NAME` and `--hash-cap N`, 1 to 1,024 and without it 256; `run`, `sim` and `ref` may have `--maps B`, and
+/// `--ifindex N`, at most 4,294,967,295 and without it 1. A number stands in decimal without a needless zero in front, and no two file names of a command
 /// are equal. All else is [`WordsError::Usage`], a request for help too.
 pub fn read_words<'a>(alloc: Global, words: &'a Words) -> Result<Command<'a>, WordsError>
     ensures ok { IfOk result (λ command. AsksFor words.now (request_of command)) }
@@ -76,6 +79,9 @@ fn read_command<'a>(name: &str, matches: &ArgMatches<'a>) -> Option<Command<'a>>
     }
     if name == "report" {
         return read_report(name, matches);
+    }
+    if name == "demo" {
+        return read_demo(name, matches);
     }
     None
 }
@@ -157,4 +163,14 @@ fn read_report<'a>(name: &str, matches: &ArgMatches<'a>) -> Option<Command<'a>>
     let object = required(matches, "object")?;
     let choice = read_choice(matches)?;
     Some(Command::Report { object, choice })
+}
+
+fn read_demo<'a>(name: &str, matches: &ArgMatches<'a>) -> Option<Command<'a>>
+    requires { name.now ≡ codes "demo" }
+    ensures some { IfSome result (λ command. Means name.now (values_from matches.now) (request_of command)) }
+    ensures none { IfNone result ((request : Request) → ¬ Means name.now (values_from matches.now) request) }
+{
+    let seed = required_number(matches, "seed", 0, u32::MAX)?;
+    let packets = required_number(matches, "packets", 0, PACKET_LIMIT)?;
+    Some(Command::Demo { seed, packets })
 }

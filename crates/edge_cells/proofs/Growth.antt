@@ -1,5 +1,5 @@
 -- More cells.
-use Rattle.std.proofs.Common.{ℕ, List, subst, arith}
+use Rattle.std.proofs.Common.{ℕ, List, subst, ap, ◌∙◌, arith}
 use Rattle.xdp_machine.specs.State.{PacketIn}
 use Rattle.cell_core.specs.Cells.{CellView}
 use Rattle.operator_cells.specs.Making.{GrowsWith, Grows, Makes}
@@ -14,6 +14,17 @@ makes_after g m = record { grows = grown g m.grows; there = m.there; value = m.v
 
 pub makes_before : {a b d : List CellView} {c : ℕ} {f : PacketIn → (ℕ → ℕ) → ℕ} → Makes a b c f → Grows b d → Makes a d c f
 makes_before m g = record { grows = grown m.grows g; there = omega (arith, m.there, g.longer); value = λ packet v r. m.value packet v (g.run packet v r) }
+
+-- what is made of the cells of two numbers
+pub makes_of_two : {a b d e : List CellView} {x y c : ℕ} {f g : PacketIn → (ℕ → ℕ) → ℕ} (h : ℕ → ℕ → ℕ) → Makes a b x f → Makes b d y g → Makes d e c (λ packet v. h (v x) (v y))
+    → Makes a e c (λ packet v. h (f packet v) (g packet v))
+makes_of_two {y = y} {f = f} h first second last = record {
+  grows = grown first.grows (grown second.grows last.grows);
+  there = last.there;
+  value = λ packet v r.
+      let before = last.grows.run packet v r in
+      last.value packet v r ∙ ap (λ (n : ℕ). h n (v y)) (first.value packet v (second.grows.run packet v before)) ∙ ap (h (f packet v)) (second.value packet v before);
+}
 
 pub picks_after : {a b d : List CellView} {here : List Way} {brings : (ℕ → ℕ) → Way → ℕ} {c : ℕ} → Grows a b → Picks b d here brings c → Picks a d here brings c
 picks_after g p = record { grows = grown g p.grows; there = p.there; value = p.value }

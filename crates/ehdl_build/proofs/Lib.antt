@@ -1,5 +1,6 @@
-pub mod Buildable
+pub mod Prepared
 pub mod Within
 pub mod Sequential
+pub mod Apart
 pub mod Realized
 pub mod Outcomes

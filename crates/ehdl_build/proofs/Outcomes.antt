@@ -1,8 +1,6 @@
 -- What holds of the bytes that an error is answered for, and that no other error was to come.
-use Rattle.std.specs.Prelude.{◌≡◌, ◌≢◌, ◌⊎◌, ◌==◌, Bool, true, false, Result, Ok, Err, IfOk, IfErr, IsErrAnd, IsErrOf, ℕ, List, [], ◌∷◌, length}
-use Rattle.std.proofs.Common.{refl, sym, ap, subst, inl, inr, ◌∙◌, arith}
-use Rattle.std.proofs.lemmas.Bool.{eqb-true}
-use Rattle.xdp_maps.specs.declared.decl.MapDecl.{MapDecl}
+use Rattle.std.specs.Prelude.{◌≡◌, ◌≢◌, ◌⊎◌, Result, Ok, Err, IfOk, IfErr, IsErrAnd, IsErrOf, ℕ, List}
+use Rattle.std.proofs.Common.{sym, ap, subst, inl, inr, ◌∙◌}
 use Rattle.xdp_machine.specs.Program.{XdpProgram}
 use Rattle.xdp_object.specs.declared.error.ObjectError.{ObjectError}
 use Rattle.xdp_object.specs.declared.error.ObjectError.TheVariants.{NoMemory as ObjectMemory}
@@ -10,7 +8,6 @@ use Rattle.xdp_object.specs.Choice.{Chosen}
 use Rattle.xdp_object.specs.Object.{FirstFault, IsObject}
 use Rattle.xdp_object.proofs.OutcomeLaws.{one_outcome, never_both}
 use Rattle.kind_core.specs.declared.why.Refusal.{Refusal}
-use Rattle.kind_core.specs.declared.why.Why.TheVariants.{Instruction}
 use Rattle.kind_core.specs.declared.why.BuildError.{BuildError}
 use Rattle.kind_core.specs.declared.why.BuildError.TheVariants as build
 use Rattle.unfold_core.specs.declared.links.Edge.{Edge}
@@ -23,7 +20,7 @@ use Rattle.node_rows.proofs.OneOutcomeLaws.{has_one_outcome}
 use Rattle.ehdl_build.specs.declared.counted.Counted.{Counted}
 use Rattle.ehdl_build.specs.declared.built.CompileError.{CompileError}
 use Rattle.ehdl_build.specs.declared.built.CompileError.TheVariants.{Object, Refused, NoMemory}
-use Rattle.ehdl_build.specs.Compiled.{RefusesProgram, IsRefused, FailsFor, compile_error}
+use Rattle.ehdl_build.specs.Compiled.{IsRefused, FailsFor, compile_error}
 use Rattle.ehdl_build.specs.Steps.{IsCounted, FailsCounting}
 
 -- what holds of an error holds of the same error
@@ -82,50 +79,24 @@ module _ (choice : Chosen) (bytes : List ℕ) where
   -- ---- errors of the program
   module _ (p : XdpProgram) (object : IsObject choice bytes p) where
     -- the refusal of an object is that of its program
-    refusal_in : (r : Refusal) → IsRefused choice bytes r → RefusesProgram p r
-    refusal_in r h = subst (λ (q : XdpProgram). RefusesProgram q r) ((one_outcome choice bytes).program h.program p h.object object) h.refusal
+    refusal_in : (r : Refusal) → IsRefused choice bytes r → IsFirstRefusal p r
+    refusal_in r h = subst (λ (q : XdpProgram). IsFirstRefusal q r) ((one_outcome choice bytes).program h.program p h.object object) h.refusal
 
     pub failed_program : (error : BuildError) (r : CompileError) → FailsCounting p error → r ≡ compile_error error → FailsFor choice bytes r
     failed_program error r is e = subst (λ (x : CompileError). FailsFor choice bytes x) (sym e) (by_error error is)
       where
         by_error : (error : BuildError) → FailsCounting p error → FailsFor choice bytes (compile_error error)
-        by_error (build.Refused q) is = record { program = p; object = object; refusal = inl is }
+        by_error (build.Refused q) is = record { program = p; object = object; refusal = is }
         by_error build.NoMemory is = tt
 
     pub only_refusal : {T : Type 0} (error : BuildError) (r : CompileError) (q : Refusal) → FailsCounting p error → r ≡ compile_error error → IsRefused choice bytes q
         → IsErrOf {T = T} (Err r) (Refused q) ⊎ IsErrOf {T = T} (Err r) NoMemory
     only_refusal {T} error r q is e h = by_error error is e
       where
-        by_refusal : (own : Refusal) → IsFirstRefusal p own → RefusesProgram p q → own ≡ q
-        by_refusal own is (inl other) = (has_one_outcome p).refusal own q is other
-        by_refusal own is (inr left) = absurd ((has_one_outcome p).never_both own is left.accepted)
-
         by_error : (error : BuildError) → FailsCounting p error → r ≡ compile_error error → IsErrOf {T = T} (Err r) (Refused q) ⊎ IsErrOf {T = T} (Err r) NoMemory
-        by_error (build.Refused own) is e = inl (ap Err (e ∙ ap Refused (by_refusal own is (refusal_in q h))))
+        by_error (build.Refused own) is e = inl (ap Err (e ∙ ap Refused ((has_one_outcome p).refusal own q is (refusal_in q h))))
         by_error build.NoMemory is e = inr (ap Err e)
 
-    -- an accepted program with maps is refused at its first place
-    pub not_built : (r : Refusal) → IsAccepted p → IsRefused choice bytes r → r ≡ record { at = 0; why = Instruction }
-    not_built r accepted h = elim (refusal_in r h) [
-      | inl own ↦ absurd ((has_one_outcome p).never_both r own accepted)
-      | inr left ↦ left.refusal
-    ]
-
-    -- one without maps is not refused
-    pub no_refusal : (r : Refusal) → IsAccepted p → p.decls ≡ [] → ¬ IsRefused choice bytes r
-    no_refusal r accepted none h = elim (refusal_in r h) [
-      | inl own ↦ (has_one_outcome p).never_both r own accepted
-      | inr left ↦ left.maps none
-    ]
-
--- ---- the declarations of a program
-pub some_maps : (xs ys : List MapDecl) (empty : Bool) → empty ≡ (length ys == 0) → ys ≡ xs → empty ≡ false → xs ≢ []
-some_maps xs [] empty e same off none = absurd cc
-some_maps xs (y ∷ ys) empty e same off none = absurd cc
-
-pub no_maps : (xs ys : List MapDecl) (empty : Bool) → empty ≡ (length ys == 0) → ys ≡ xs → empty ≡ true → xs ≡ []
-no_maps xs ys empty e same is = sym same ∙ none ys (eqb-true (length ys) 0 (sym e ∙ is))
-  where
-    none : (ys : List MapDecl) → length ys ≡ 0 → ys ≡ []
-    none [] h = refl
-    none (y ∷ ys) h = absurd (omega (arith, h))
+    -- an accepted program is not refused
+    pub no_refusal : (r : Refusal) → IsAccepted p → ¬ IsRefused choice bytes r
+    no_refusal r accepted h = (has_one_outcome p).never_both r (refusal_in r h) accepted

@@ -1,62 +1,86 @@
--- What a pipeline of a program without maps realizes.
-use Rattle.std.specs.Prelude.{◌≡◌, ℕ, ◌+◌, List, []}
+-- What a pipeline of a program realizes.
+use Rattle.std.specs.Prelude.{◌≡◌, ℕ, ◌+◌, ◌≤◌, List, length}
 use Rattle.std.specs.List.{AllByRecursion}
-use Rattle.std.proofs.Common.{sym, ap, subst, ◌∙◌, arith}
+use Rattle.std.proofs.Common.{refl, sym, ap, subst, ◌∙◌, arith}
 use Rattle.beat_core.specs.declared.answer.Answer.{Answer}
 use Rattle.beat_core.specs.Ports.{Arrival}
+use Rattle.xdp_maps.specs.declared.decl.MapDecl.{MapDecl}
 use Rattle.xdp_maps.specs.State.{MapState}
 use Rattle.xdp_machine.specs.Program.{XdpProgram, IsProgram}
+use Rattle.xdp_machine.specs.Touched.{Touched}
 use Rattle.net_core.specs.Nets.{Netlist}
-use Rattle.net_core.specs.Clock.{Stored, first_stored}
+use Rattle.net_core.specs.Clock.{first_stored}
 use Rattle.net_core.specs.History.{NeverStops, stored_after}
-use Rattle.host_history.specs.Laws.{NoMapsNoClocks}
-use Rattle.host_history.proofs.HostLaws.{need_no_clocks}
+use Rattle.host_history.specs.Host.{load}
 use Rattle.verilog_grammar.specs.Spelling.{Spells}
+use Rattle.cell_core.specs.Rows.{record_count}
 use Rattle.cell_core.specs.Sites.{ProgramView}
+use Rattle.program_graph.specs.Graphs.{graph_of}
 use Rattle.pipe_core.specs.Machine.{Build}
-use Rattle.shell_net.specs.Layout.{last_of}
-use Rattle.shell_net.specs.Following.{design, names_of}
-use Rattle.pipeline_net.specs.Pipeline.{IsPipeline}
-use Rattle.pipeline_runs.specs.Answered.{AreAnswered}
-use Rattle.pipeline_runs.specs.Meeting.{Always, PipelinesMeet}
+use Rattle.pipe_core.specs.Pipeable.{IsSuited}
+use Rattle.program_plan.specs.Suited.{ProgramsAreSuited}
+use Rattle.pipe_draft.specs.Program.{build_of}
+use Rattle.pipe_places.specs.Entries.{AccessesLead}
+use Rattle.pipe_net.specs.Layout.{last_of}
+use Rattle.pipe_forms.specs.Parts.{design, names_of}
+use Rattle.pipe_design.specs.Pipeline.{IsPipelineOf as IsDesignOf}
+use Rattle.pipe_ports.specs.Answered.{AreAnswered}
+use Rattle.pipe_runs.specs.Apart as cells
+use Rattle.pipe_runs.specs.Meeting.{MeetsLoaded, PipelinesMeet}
 use Rattle.realization.specs.Realizes.{IsPacket, Meets}
 use Rattle.realization.proofs.MeetsLaws.{meets_more}
 use Rattle.ehdl_build.specs.Compiled.{PipelineSize, IsSequential, DoNotConflict, AreMapsOf, Realizes}
 use Rattle.ehdl_build.specs.Steps.{IsPipelineOf}
 use Rattle.ehdl_build.proofs.Sequential.{in_sequence}
+use Rattle.ehdl_build.proofs.Apart.{runs_touch, apart_by_less}
 
-module _ (meet : PipelinesMeet) (p : XdpProgram) (z : PipelineSize) (n : Netlist) (program : IsProgram p) (none : p.decls ≡ []) (is : IsPipelineOf p z.stages n) where
-  no_maps : (maps : MapState) → AreMapsOf p maps → NoMapsNoClocks maps
-  no_maps maps are = need_no_clocks maps are.sound (are.declared ∙ none)
-
-  made : IsPipeline is.cells is.plan n
+module _ (meet : PipelinesMeet) (suits : ProgramsAreSuited) (p : XdpProgram) (z : PipelineSize) (n : Netlist) (program : IsProgram p) (is : IsPipelineOf p z n) where
+  made : IsDesignOf is.cells is.plan p.decls n
   made = is.pipeline.is
 
-  -- the cells of packets are their sequential runs
-  wanted : (maps : MapState) → AreMapsOf p maps → (packets : List Arrival) (answers : List Answer) (last : MapState) → AllByRecursion IsPacket packets
-      → AreAnswered made.layout.build.program maps packets answers last → IsSequential p maps packets answers last
-  wanted maps are packets answers last come h =
-      let cells : made.layout.build.program ≡ is.cells = ap (λ (b : Build). b.program) made.build in
-      in_sequence p is.are_cells.graph is.cells program is.are_cells.law maps packets answers last are.sound are.declared come
-      (subst (λ (q : ProgramView). AreAnswered q maps packets answers last) cells h)
+  build : made.layout.build ≡ build_of is.cells is.plan
+  build = made.made.build
 
-  meets_first : (maps : MapState) → AreMapsOf p maps → Meets n (first_stored n) (IsSequential p maps) (DoNotConflict p maps z.stages) z.stages z.records
-  meets_first maps are =
-      let d : Netlist = design made.layout made.whole (names_of made.whole) in
-      let slots : made.layout.build.slots ≡ is.plan.last + 4 = ap (λ (b : Build). b.slots) made.build in
-      let last : last_of made.layout ≡ is.plan.last = ap (λ (b : Build). b.plan.last) made.build in
-      subst (λ (m : Netlist). Meets m (first_stored m) (IsSequential p maps) (DoNotConflict p maps z.stages) z.stages z.records) (sym made.is)
-      (meets_more d (first_stored d) (AreAnswered made.layout.build.program maps) (IsSequential p maps) Always (DoNotConflict p maps z.stages) (last_of made.layout) z.stages 0 z.records
-      (wanted maps are) (λ packets ts apart. tt) (omega (arith, last, is.planned.within)) (omega arith)
-      (meet made.layout made.whole (names_of made.whole) made.laid_out made.parts (omega (arith, slots, last)) maps are.sound (are.declared ∙ none)))
+  last : last_of made.layout ≡ is.plan.last
+  last = ap (λ (b : Build). b.plan.last) build
+
+  suited : IsSuited made.layout.decls made.layout.build
+  suited = subst (λ (b : Build). IsSuited made.layout.decls b) (sym build)
+      (subst (λ (ds : List MapDecl). IsSuited ds (build_of is.cells is.plan)) (sym made.made.decls_are)
+      (suits (graph_of p is.are_cells.graph) is.cells is.plan (is.plan.last + 4) is.are_cells.law is.are_cells.buildable is.planned.is))
+
+  -- the cells of packets are their sequential runs
+  wanted : (maps : MapState) → AreMapsOf p maps → (packets : List Arrival) (answers : List Answer) (left : MapState) → AllByRecursion IsPacket packets
+      → AreAnswered made.layout.build.program maps packets answers left → IsSequential p maps packets answers left
+  wanted maps are packets answers left come h =
+      let same : made.layout.build.program ≡ is.cells = ap (λ (b : Build). b.program) build in
+      in_sequence p is.are_cells.graph is.cells program is.are_cells.law maps packets answers left are.sound are.declared come
+      (subst (λ (q : ProgramView). AreAnswered q maps packets answers left) same h)
+
+  -- and touch what these touch
+  apart : (maps : MapState) → AreMapsOf p maps → (packets : List Arrival) (ts : List Touched) → DoNotConflict p maps z.stages packets ts → cells.DoNotConflict made.layout.build maps packets ts
+  apart maps are packets ts h = subst (λ (b : Build). cells.DoNotConflict b maps packets ts) (sym build) (record {
+    touch = λ come us run. runs_touch p is.are_cells.graph is.cells program is.are_cells.law maps packets ts us are.sound are.declared come h.touch run;
+    apart = apart_by_less (is.plan.last + 3) (z.stages + 3) ts (omega (arith, is.planned.within)) h.apart;
+  })
+
+  loaded : (maps : MapState) → AreMapsOf p maps → MeetsLoaded made.layout maps n
+  loaded maps are = subst (MeetsLoaded made.layout maps) (sym made.is)
+      (meet made.layout made.whole (names_of made.whole) made.made.pipeline (subst AccessesLead (sym build) is.prepared.leads) suited
+      (ap (λ (b : Build). b.slots) build ∙ ap (λ k. k + 4) (sym last)) maps (are.declared ∙ sym made.made.decls_are) are.sound (let few = ap length are.declared in omega (arith, few, program.maps)))
+
+  meets : (maps : MapState) → AreMapsOf p maps → Meets n (stored_after n (first_stored n) (load maps)) (IsSequential p maps) (DoNotConflict p maps z.stages) z.stages z.records
+  meets maps are =
+      let records = ap (λ (b : Build). record_count b.program.sites) build in
+      meets_more n (stored_after n (first_stored n) (load maps)) (AreAnswered made.layout.build.program maps) (IsSequential p maps) (cells.DoNotConflict made.layout.build maps) (DoNotConflict p maps z.stages)
+      (last_of made.layout) z.stages (record_count made.layout.build.program.sites) z.records
+      (wanted maps are) (apart maps are) (omega (arith, last, is.planned.within)) (omega (arith, records, is.records)) (loaded maps are).meets
 
   pub realizes : (text : List ℕ) → Spells text n → Realizes text p z
   realizes text spells = record {
     design = n;
     spells = spells;
     products = is.pipeline.apart;
-    loads = λ maps are. subst (NeverStops n (first_stored n)) (sym (no_maps maps are).no_load) tt;
-    meets = λ maps are.
-        subst (λ (t : Stored). Meets n t (IsSequential p maps) (DoNotConflict p maps z.stages) z.stages z.records)
-        (sym (ap (stored_after n (first_stored n)) (no_maps maps are).no_load)) (meets_first maps are);
+    loads = λ maps are. (loaded maps are).loads;
+    meets = meets;
   }

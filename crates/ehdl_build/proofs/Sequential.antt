@@ -15,18 +15,18 @@ use Rattle.xdp_machine.proofs.RangeLaws.{starts_in_range, runs_leave_in_range}
 use Rattle.xdp_machine.proofs.RunLaws.{runs_keep_sizes}
 use Rattle.unfold_core.specs.declared.unfolding.Unfolded.{Unfolded}
 use Rattle.program_graph.specs.Graphs.{graph_of}
-use Rattle.cell_core.specs.Sites.{ProgramView, leaves}
+use Rattle.cell_core.specs.Sites.{ProgramView, IsCellRun, leaves}
 use Rattle.held_cells.specs.Law as cell
 use Rattle.held_cells.specs.Law.{IsLaw}
 use Rattle.pipe_core.specs.Machine.{packet_of}
 use Rattle.realization.specs.Realizes.{IsPacket}
-use Rattle.pipeline_runs.specs.Answered.{IsAnswered, AreAnswered}
+use Rattle.pipe_ports.specs.Answered.{AreAnswered}
 use Rattle.ehdl_build.specs.Compiled.{code_of, IsSequential}
 
 all_bytes : (xs : List ℕ) → IsBytes xs → All (λ b. b < 256) xs
 all_bytes xs h k d lt = omega (arith, h k, get_or_default xs k d 0 lt)
 
-is_packet : (a : Arrival) → IsPacket a → cell.IsPacket (packet_of a)
+pub is_packet : (a : Arrival) → IsPacket a → cell.IsPacket (packet_of a)
 is_packet a h = record { some = h.frame.some; short = h.frame.room; bytes = all_bytes a.frame h.frame.bytes; ifindex = h.ifindex; time = h.time }
 
 module _ (p : XdpProgram) (u : Unfolded) (cells : ProgramView) (program : IsProgram p) (law : IsLaw (graph_of p u) cells) where
@@ -36,11 +36,11 @@ module _ (p : XdpProgram) (u : Unfolded) (cells : ProgramView) (program : IsProg
     pub sound : IsSound e.maps
     pub declared : e.maps.decls ≡ p.decls
 
-  one_run : (maps : MapState) (a : Arrival) (r : Answer) → IsSound maps → maps.decls ≡ p.decls → IsPacket a → (h : IsAnswered cells maps a r) → OneRun maps a (leaves h.values (packet_of a) maps cells)
-  one_run maps a r sound declared packet h =
+  pub run_leaves : (maps : MapState) (a : Arrival) (v : ℕ → ℕ) → IsSound maps → maps.decls ≡ p.decls → IsPacket a → IsCellRun (packet_of a) maps cells v → OneRun maps a (leaves v (packet_of a) maps cells)
+  run_leaves maps a v sound declared packet runs =
       let came = is_packet a packet in
-      let e = leaves h.values (packet_of a) maps cells in
-      let t = law.computes.ends (packet_of a) maps h.values came sound declared h.run in
+      let e = leaves v (packet_of a) maps cells in
+      let t = law.computes.ends (packet_of a) maps v came sound declared runs in
       let range : LeavesInRange e = runs_leave_in_range (code_of p) (packet_of a) maps e program.legal (starts_in_range (packet_of a) maps came.bytes (omega (arith, came.short)) came.ifindex came.time sound) (t.0, t.1) in
       record {
         is = (t.0, t.1);
@@ -53,7 +53,7 @@ module _ (p : XdpProgram) (u : Unfolded) (cells : ProgramView) (program : IsProg
   in_sequence maps [] (r ∷ rs) last sound declared are h = absurd h
   in_sequence maps (a ∷ rest) [] last sound declared are h = absurd h
   in_sequence maps (a ∷ rest) (r ∷ rs) last sound declared are h =
-      let one = one_run maps a r sound declared are.0 h.0 in
+      let one = run_leaves maps a h.0.values sound declared are.0 h.0.run in
       let e = leaves h.0.values (packet_of a) maps cells in
       let more = in_sequence e.maps rest rs last one.sound one.declared are.1 h.1 in
       record { leaves = e ∷ more.leaves; runs = (one.is, more.runs); answers_are = ap₂ (λ x xs. x ∷ xs) h.0.is more.answers_are }

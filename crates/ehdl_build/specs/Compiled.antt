@@ -1,5 +1,5 @@
 -- The bytes of a text realize a program, and a text that an object was compiled to.
-use Rattle.std.specs.Prelude.{◌≡◌, ◌⊎◌, ℕ, ◌+◌, IsTrue, List, [], ◌∷◌, length, map as map_list}
+use Rattle.std.specs.Prelude.{◌≡◌, ℕ, ◌+◌, IsTrue, List, [], ◌∷◌, length, map as map_list}
 use Rattle.xdp_object.specs.Choice.{Chosen}
 use Rattle.xdp_object.specs.Object.{FirstFault, IsObject}
 use Rattle.xdp_machine.specs.Program.{XdpProgram, IsProgram}
@@ -23,7 +23,6 @@ use Rattle.node_rows.specs.Acceptance.{IsAccepted, IsFirstRefusal}
 use Rattle.realization.specs.Bounds.{AreApart}
 use Rattle.product_rules.specs.Products.{products_apart}
 use Rattle.realization.specs.Realizes.{Meets}
-use Rattle.ehdl_build.specs.Pipelines.{IsNotBuilt}
 
 -- what is run of a program
 abbrev pub code_of : XdpProgram → Code
@@ -90,15 +89,11 @@ pub record Compiles (choice : Chosen) (bytes : List ℕ) (built : Built) : Type 
   pub has_size : HasSize program (size_of built)
   pub realizes : Realizes built.text.items program (size_of built)
 
--- A program is refused: it is not accepted, and this is its first refusal, or it is not built.
-abbrev pub RefusesProgram : XdpProgram → Refusal → Type 0
-RefusesProgram p r = IsFirstRefusal p r ⊎ IsNotBuilt p r
-
--- under a choice the bytes are an object, and this is the first refusal of its program
+-- under a choice the bytes are an object, and this is the first refusal of its program, which is not accepted
 pub record IsRefused (choice : Chosen) (bytes : List ℕ) (r : Refusal) : Type 0 where
   pub program : XdpProgram
   pub object : IsObject choice bytes program
-  pub refusal : RefusesProgram program r
+  pub refusal : IsFirstRefusal program r
 
 -- what holds of the bytes that an error is answered for; of want of memory nothing is said
 abbrev pub FailsFor : Chosen → List ℕ → CompileError → Type 0

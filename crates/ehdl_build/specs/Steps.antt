@@ -1,5 +1,6 @@
 -- What the steps of compiling give each other.
-use Rattle.std.specs.Prelude.{◌≡◌, ◌≤◌, ℕ, IsTrue, [], length}
+use Rattle.std.specs.Prelude.{◌≡◌, ◌≤◌, ℕ, IsTrue, List, length}
+use Rattle.xdp_maps.specs.declared.decl.MapDecl.{MapDecl}
 use Rattle.xdp_machine.specs.Program.{XdpProgram}
 use Rattle.net_core.specs.Nets.{Netlist}
 use Rattle.product_rules.specs.Products.{products_apart}
@@ -9,8 +10,10 @@ use Rattle.unfold_core.specs.Unfolding.{IsUnfolded}
 use Rattle.node_rows.specs.Rows.{HasStages}
 use Rattle.node_rows.specs.Acceptance.{IsFirstRefusal}
 use Rattle.cell_core.specs.Sites.{ProgramView}
+use Rattle.cell_core.specs.Rows.{record_count}
 use Rattle.row_plan.specs.Plan.{Plan, IsPlan}
-use Rattle.pipeline_net.specs.Pipeline.{IsPipeline}
+use Rattle.pipe_programs.specs.Prepared.{ArePrepared}
+use Rattle.pipe_design.specs.Pipeline.{IsPipelineOf as IsDesignOf}
 use Rattle.ehdl_build.specs.declared.counted.Counted.{Counted}
 use Rattle.ehdl_build.specs.Pipelines.{AreCellsOf}
 use Rattle.ehdl_build.specs.Compiled.{PipelineSize}
@@ -33,16 +36,17 @@ pub record IsPlanWithin (stages : ℕ) (cells : ProgramView) (plan : Plan) : Typ
   pub is : IsPlan cells plan
   pub within : plan.last ≤ stages
 
--- a pipeline of planned cells, with products apart
-pub record IsSoundPipeline (cells : ProgramView) (plan : Plan) (n : Netlist) : Type 0 where
-  pub is : IsPipeline cells plan n
+-- a pipeline of planned cells with these maps, with products apart
+pub record IsSoundPipeline (cells : ProgramView) (plan : Plan) (decls : List MapDecl) (n : Netlist) : Type 0 where
+  pub is : IsDesignOf cells plan decls n
   pub apart : IsTrue (products_apart n)
 
--- a pipeline of a program's cells, of so many stages at most
-pub record IsPipelineOf (p : XdpProgram) (stages : ℕ) (n : Netlist) : Type 0 where
+-- a pipeline of a program's cells, of this size at most
+pub record IsPipelineOf (p : XdpProgram) (z : PipelineSize) (n : Netlist) : Type 0 where
   pub cells : ProgramView
   pub are_cells : AreCellsOf p cells
-  pub no_sites : cells.sites ≡ []
+  pub records : record_count cells.sites ≤ z.records
   pub plan : Plan
-  pub planned : IsPlanWithin stages cells plan
-  pub pipeline : IsSoundPipeline cells plan n
+  pub planned : IsPlanWithin z.stages cells plan
+  pub prepared : ArePrepared cells plan p.decls
+  pub pipeline : IsSoundPipeline cells plan p.decls n

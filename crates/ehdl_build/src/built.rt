@@ -9,16 +9,10 @@ ghost use Rattle.ehdl_build.specs.Compiled.{Compiles, FailsFor, IsRefused, compi
 
 use crate::counted::count;
 use crate::pipelined::realize;
-use kind_core::{BuildError, Refusal, Why};
+use kind_core::{BuildError, Refusal};
 use std::alloc::{AllocError, Global};
 use xdp_maps::decl::MapDecl;
 use xdp_object::{Choice, ObjectError, read_object};
-
-/// The refusal of an accepted program that is not built yet.
-const NOT_BUILT: Refusal = Refusal {
-    at: 0,
-    why: Why::Instruction,
-};
 
 /// What an object was compiled to.
 #[derive(Debug, Drop)]
@@ -93,9 +87,10 @@ fn copies(alloc: Global, decls: &[MapDecl]) -> Result<Vec<MapDecl>, AllocError>
 
 /// Compiles an object. The text realizes the program: it spells a pipeline in which packets overlap, and which,
 /// clock by clock and under every pattern of offered and taken beats, answers frames as sequential execution of the program
-/// does, in the stated clocks of a pipeline of the size that is answered beside it.
+/// does on the maps that the host has loaded, in the stated clocks of a pipeline of the size that is answered beside it, and
+/// then shows the host the maps that this leaves.
 ///
-/// A program that is not accepted has its own first refusal. For now one with maps is refused at its first place.
+/// A program that is not accepted has its own first refusal.
 pub fn compile(alloc: Global, bytes: &[u8], choice: Choice<'_>) -> Result<Built, CompileError>
     ensures ok { IfOk result (λ built. Compiles (chosen_of choice.entry) bytes.now built) }
     ensures error { IfErr result (FailsFor (chosen_of choice.entry) bytes.now) }
@@ -114,11 +109,8 @@ pub fn compile(alloc: Global, bytes: &[u8], choice: Choice<'_>) -> Result<Built,
         Ok(counted) => counted,
         Err(error) => return Err(refusal_of(error)),
     };
-    if !program.decls().is_empty() {
-        return Err(CompileError::Refused(NOT_BUILT));
-    }
-    let text = realize(alloc, &program, &counted)?;
     let decls = copies(alloc, program.decls())?;
+    let text = realize(alloc, &program, &counted)?;
     Ok(Built {
         text,
         decls,

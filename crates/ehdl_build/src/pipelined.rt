@@ -1,13 +1,13 @@
-// The pipeline of a program without maps.
+// The pipeline of a program.
 
-ghost use Rattle.std.specs.Prelude.{◌≡◌, ◌<◌, ◌≤◌, ◌^◌, [], length, IfOk};
+ghost use Rattle.std.specs.Prelude.{◌≡◌, ◌<◌, ◌≤◌, ◌^◌, length, IfOk};
 ghost use Rattle.xdp_machine.specs.Program.{IsProgram};
 ghost use Rattle.net_core.specs.View.{netlist_of};
 ghost use Rattle.design_rules.specs.Formed.{IsWellFormed};
 ghost use Rattle.cell_core.specs.View.{program_of};
 ghost use Rattle.cell_core.specs.Formed.{AreFormed};
-ghost use Rattle.pipeline_net.specs.Pipeline.{IsForPipeline};
 ghost use Rattle.row_plan.specs.Plan.{IsPlan};
+ghost use Rattle.pipe_programs.specs.Prepared.{ArePrepared};
 ghost use Rattle.ehdl_build.specs.Pipelines.{AreCellsOf, StandWithin};
 ghost use Rattle.ehdl_build.specs.Compiled.{Realizes};
 ghost use Rattle.ehdl_build.specs.Steps.{IsCounted, IsPlanWithin, IsSoundPipeline, IsPipelineOf, counted_size};
@@ -16,11 +16,15 @@ use crate::counted::Counted;
 use cell_core::program::CellProgram;
 use kind_core::BuildError;
 use net_core::design::Design;
-use pipeline_net::{PipelineError, pipeline};
+use pipe_design::{PipelineError, pipeline};
+use pipe_programs::laws::programs_are_prepared;
+use pipe_runs::laws::pipelines_meet;
 use predicate_core::program::to_cells;
+use program_plan::laws::suited;
 use row_plan::{RowPlan, plan};
 use std::alloc::{AllocError, Global};
 use verilog_write::write_text;
+use xdp_maps::decl::MapDecl;
 use xdp_object::Program;
 
 // The plan of cells, of so many stages at most.
@@ -39,37 +43,45 @@ fn planned(alloc: Global, cells: &CellProgram, stages: u32) -> Result<RowPlan, A
     }
 }
 
-// The pipeline of planned cells, with products apart.
-fn linked(alloc: Global, cells: &CellProgram, plan: &RowPlan) -> Result<Design, AllocError>
-    requires { IsForPipeline (program_of cells.now) plan.now }
-    ensures pipeline { IfOk result (λ d. IsSoundPipeline (program_of cells.now) plan.now (netlist_of d)) }
+// The pipeline of planned cells with these maps, with products apart.
+fn linked(
+    alloc: Global,
+    cells: &CellProgram,
+    plan: &RowPlan,
+    decls: &[MapDecl],
+) -> Result<Design, AllocError>
+    requires { ArePrepared (program_of cells.now) plan.now decls.now }
+    ensures pipeline { IfOk result (λ d. IsSoundPipeline (program_of cells.now) plan.now decls.now (netlist_of d)) }
     ensures formed { IfOk result (λ d. IsWellFormed (netlist_of d)) }
 {
-    match pipeline(alloc, cells, plan) {
+    match pipeline(alloc, cells, plan, decls) {
         Ok(design) => Ok(design),
-        // A plan has 256 rows at most, for which there is room.
-        Err(PipelineError::TooManySlots) => unreachable!(),
+        // A graph has few nodes, each with one operation on a map at most.
+        Err(PipelineError::TooManySites) => unreachable!(),
+        // A number takes no other cell, so it stands in the first row.
+        Err(PipelineError::LateNumber) => unreachable!(),
         // 2^32 nets are want of memory, too.
         Err(PipelineError::TooMany) | Err(PipelineError::NoMemory) => Err(AllocError),
     }
 }
 
-// The pipeline of a program, of so many stages at most as were counted.
+// The pipeline of a program, of the size at most that was counted.
 fn pipeline_of(alloc: Global, program: &Program, counted: &Counted) -> Result<Design, AllocError>
+    requires program { IsProgram program.now }
     requires counted { IsCounted program.now counted.now }
-    requires no_maps { program.now.decls ≡ [] }
-    ensures pipeline { IfOk result (λ d. IsPipelineOf program.now counted.now.stages.rows (netlist_of d)) }
+    ensures pipeline { IfOk result (λ d. IsPipelineOf program.now (counted_size counted.now) (netlist_of d)) }
     ensures formed { IfOk result (λ d. IsWellFormed (netlist_of d)) }
 {
+    programs_are_prepared();
     let cells = to_cells(alloc, program, &counted.graph)?;
     if cells.cells.len() > u32::MAX as usize {
         return Err(AllocError);
     }
     let plan = planned(alloc, &cells, counted.stages.rows)?;
-    linked(alloc, &cells, &plan)
+    linked(alloc, &cells, &plan, program.decls())
 }
 
-/// The text of a pipeline of an accepted program without maps.
+/// The text of a pipeline of an accepted program.
 pub(crate) fn realize(
     alloc: Global,
     program: &Program,
@@ -77,10 +89,10 @@ pub(crate) fn realize(
 ) -> Result<Vec<u8>, AllocError>
     requires program { IsProgram program.now }
     requires counted { IsCounted program.now counted.now }
-    requires no_maps { program.now.decls ≡ [] }
     ensures { IfOk result (λ text. Realizes text.items program.now (counted_size counted.now)) }
 {
-    pipeline_runs::laws::pipelines_meet();
+    suited();
+    pipelines_meet();
     let design = pipeline_of(alloc, program, counted)?;
     let text = write_text(alloc, &design)?;
     Ok(text)

@@ -1,17 +1,16 @@
 -- What is known of a command that has ended, by the status that is reported.
-use Rattle.std.proofs.Common.{false, ◌≡◌, ◌≢◌, ◌⊎◌, ℕ, IsTrue, List, [], ◌∷◌, Option, Some, None, Result, Ok, Err, OnOk, OnErr, IfErr, refl, ◌∙◌, ap, sym, subst, inl, inr}
-use Rattle.shelf_core.specs.Shelf.{Holding, Rose, SameHeld}
+use Rattle.std.proofs.Common.{false, ◌≡◌, ◌≢◌, ◌⊎◌, IsTrue, [], Option, Some, None, Result, Ok, Err, OnOk, OnErr, IfErr, refl, ◌∙◌, ap, sym, subst, inl, inr}
+use Rattle.shelf_core.specs.Shelf.{Rose, SameHeld}
 use Rattle.maps_text.specs.Laws.{HasOneMeaning}
-use Rattle.command_line.specs.Request.{Request, AskCompile, AskRun, AskSim, AskRef, AskReport}
+use Rattle.command_line.specs.Request.{Request, AskCompile, AskRun, AskSim, AskRef, AskReport, AskDemo}
 use Rattle.ehdl_top.specs.declared.status.Status.{Status}
 use Rattle.ehdl_top.specs.declared.status.Status.TheVariants as status
 use Rattle.ehdl_top.specs.declared.error.CommandError.{CommandError}
 use Rattle.ehdl_top.specs.declared.error.CommandError.TheVariants as error
 use Rattle.ehdl_top.specs.Status.{ended, status_of}
 use Rattle.ehdl_top.specs.States.{ShelfState, SinkState, Changes, OneRose}
-use Rattle.ehdl_top.specs.Inputs.{input, AreReady, FirstStop, OneUnread, EndsAtInput, names_in}
+use Rattle.ehdl_top.specs.Inputs.{AreReady, FirstStop, OneUnread, EndsAtInput, names_in}
 use Rattle.ehdl_top.specs.Writes.{Outputs}
-use Rattle.ehdl_top.specs.Forms.{maps_form, held_decls, capture_form}
 use Rattle.ehdl_top.specs.Requests.{inputs_of, IsOutcome, EndsItself, PutsLines, OneUnwritten, IsFault, CanEnd, IsCause}
 use Rattle.ehdl_top.specs.Ends.{EndsAs, Loses, AllWritten, ByInputs, IsEarly, SaysWhy}
 use Rattle.ehdl_top.specs.Steps.{FailsWrite, WritesAll, StopsBy, Unread, OutOfMemory, AtInput, Unwritten, AtEnd, EndsIn, EndsBy, IsFixed}
@@ -61,6 +60,7 @@ itself_written (AskCompile object verilog chosen) s e = as_status AllWritten sta
 itself_written (AskRun names verilog chosen ifindex) s e = as_status AllWritten status.Done s (sym e) tt
 itself_written (AskRef names chosen ifindex) s e = as_status AllWritten status.Done s (sym e) tt
 itself_written (AskReport object chosen) s e = as_status AllWritten status.Done s (sym e) tt
+itself_written (AskDemo seed packets) s e = as_status AllWritten status.Done s (sym e) tt
 itself_written (AskSim names verilog chosen ifindex clocks) s (inl e) = as_status AllWritten status.Done s (sym e) tt
 itself_written (AskSim names verilog chosen ifindex clocks) s (inr (inl e)) = as_status AllWritten status.XValue s (sym e) tt
 itself_written (AskSim names verilog chosen ifindex clocks) s (inr (inr e)) = as_status AllWritten status.Late s (sym e) tt

@@ -1,7 +1,6 @@
 -- How a command ends, by the step at which it does.
-use Rattle.std.proofs.Common.{◌≡◌, ◌⊎◌, ℕ, Bool, IsTrue, List, [], ◌∷◌, ◌++◌, Option, Some, None, Result, Ok, Err, IsErrAnd, refl, sym, subst, inl, inr}
+use Rattle.std.proofs.Common.{◌≡◌, ℕ, Bool, IsTrue, List, [], ◌∷◌, ◌++◌, Option, Some, None, Result, Ok, Err, IsErrAnd, refl, sym, subst, inl, inr}
 use Rattle.xdp_maps.specs.declared.decl.MapDecl.{MapDecl}
-use Rattle.shelf_core.specs.Shelf.{Holding}
 use Rattle.command_line.specs.Request.{Request}
 use Rattle.ehdl_top.specs.declared.error.CommandError.{CommandError}
 use Rattle.ehdl_top.specs.declared.error.CommandError.TheVariants as error
@@ -46,6 +45,10 @@ module _ (request : Request) (old mid new : ShelfState) (e : CommandError) (kept
   ends_stopped (Err f) is stops =
       let P : CommandError → Type 0 = StopsBy request old new in
       record { by = subst P (sym is) stops; kept = changes_within (outputs_of request) old new (changes_then [] old mid new kept same) }
+
+  -- memory ran out behind what was read
+  pub ends_out : {T : Type 0} (r : Result T CommandError) → IsErrAnd r (λ f. f ≡ e) → e ≡ error.NoMemory → EndsIn request old new r
+  ends_out r is memory = ends_stopped r is (OutOfMemory memory (changes_then [] old mid new kept same))
 
   pub ends_unread : {T : Type 0} (r : Result T CommandError) (before : List Input) (i : Input) (after : List Input) → IsErrAnd r (λ f. f ≡ e) → inputs_of request old.held ≡ before ++ i ∷ after → (IsTrue old.tells → AreReady before old.held)
       → IsUnread i.form i.name mid new e → EndsIn request old new r

@@ -4,7 +4,7 @@ use Rattle.std.specs.declared.vec.Vec.{Vec}
 use Rattle.std.specs.declared.alloc.Global.{Global}
 use Rattle.shelf_core.specs.Shelf.{SameHeld}
 use Rattle.shelf_core.proofs.PrefixLaws.{rose_within}
-use Rattle.command_line.specs.Request.{Request, AskReport}
+use Rattle.command_line.specs.Request.{Request, AskReport, AskDemo}
 use Rattle.command_line.specs.AsksFor.{AsksFor}
 use Rattle.ehdl_top.specs.declared.status.Status.{Status}
 use Rattle.ehdl_top.specs.declared.status.Status.TheVariants as status
@@ -26,6 +26,7 @@ puts_lines request old lines are some = go request are
   where
     go : (request : Request) → AreLines request old lines → PutsLines request
     go (AskReport object chosen) are = tt
+    go (AskDemo seed packets) are = tt
     go request are = absurd (some are)
 
 -- those of the words are those of what they ask for
@@ -86,6 +87,7 @@ module _ (words : List (List ℕ)) (old new : ShelfState) (before after : SinkSt
     where
       no_lines : (request : Request) → AreLines request old lines.items → ¬ PutsLines request → lines.items ≡ []
       no_lines (AskReport object chosen) are none = absurd (none tt)
+      no_lines (AskDemo seed packets) are none = absurd (none tt)
       no_lines request are none = are
   finished_silent (Err e') request P are said silent e asks none = absurd (never_done e' result (reported e' result before after said.0) e)
 

@@ -19,7 +19,7 @@ use Rattle.maps_text.proofs.TextLaws.{never_both}
 use Rattle.kind_core.specs.declared.why.Refusal.{Refusal}
 use Rattle.node_rows.proofs.OneOutcomeLaws.{has_one_outcome}
 use Rattle.shelf_core.specs.Shelf.{Holding}
-use Rattle.command_line.specs.Request.{Request, AskCompile, AskRun, AskSim, AskRef, AskReport}
+use Rattle.command_line.specs.Request.{Request, AskCompile, AskRun, AskSim, AskRef, AskReport, AskDemo}
 use Rattle.ehdl_top.specs.declared.status.Status.{Status}
 use Rattle.ehdl_top.specs.declared.status.Status.TheVariants as status
 use Rattle.ehdl_top.specs.declared.error.CommandError.{CommandError}
@@ -134,13 +134,13 @@ maps_sound decls = record {
 }
 
 -- ---- captures
-one_result : (r : Result Content PcapError) (c d : Content) → r ≡ Ok c → r ≡ Ok d → c ≡ d
+pub one_result : (r : Result Content PcapError) (c d : Content) → r ≡ Ok c → r ≡ Ok d → c ≡ d
 one_result r c d e f = cc
 
-no_result : (r : Result Content PcapError) (c : Content) (fault : PcapError) → r ≡ Ok c → ¬ (r ≡ Err fault)
+pub no_result : (r : Result Content PcapError) (c : Content) (fault : PcapError) → r ≡ Ok c → ¬ (r ≡ Err fault)
 no_result r c fault e f = cc
 
-no_fault : (fault : PcapError) (f : Option PcapError) → f ≡ None → ¬ (f ≡ Some fault)
+pub no_fault : (fault : PcapError) (f : Option PcapError) → f ≡ None → ¬ (f ≡ Some fault)
 no_fault fault f e g = cc
 
 -- one capture has one content
@@ -171,12 +171,14 @@ capture_sound = record {
 -- ---- the inputs of each command
 pub inputs_sound : (request : Request) (held : Holding) → AreSound (inputs_of request held)
 inputs_sound (AskCompile object verilog chosen) held = (program_sound chosen built built_apart, tt)
-inputs_sound (AskRun names verilog chosen ifindex) held = (program_sound chosen built built_apart, (capture_sound, tt))
+inputs_sound (AskRun names verilog chosen ifindex) held =
+    (program_sound chosen built built_apart, may_sound names.maps _ _ (maps_sound (held_decls chosen (held names.object))) (capture_sound, tt))
 inputs_sound (AskSim names verilog chosen ifindex clocks) held =
     (object_sound chosen, (text_sound, may_sound names.maps _ _ (maps_sound (held_decls chosen (held names.object))) (capture_sound, tt)))
 inputs_sound (AskRef names chosen ifindex) held =
     (program_sound chosen accepted accepted_apart, may_sound names.maps _ _ (maps_sound (held_decls chosen (held names.object))) (capture_sound, tt))
 inputs_sound (AskReport object chosen) held = (program_sound chosen accepted accepted_apart, tt)
+inputs_sound (AskDemo seed packets) held = tt
 
 -- ---- what bytes are given up for
 module _ (choice : Chosen) (bytes : List ℕ) (fault : ObjectError) (e : CommandError) (first : fault ≢ object.NoMemory → FirstFault choice bytes fault) where

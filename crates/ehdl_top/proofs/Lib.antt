@@ -17,3 +17,4 @@ pub mod PutLemmas
 pub mod FinishLemmas
 pub mod NameLemmas
 pub mod SequentialLemmas
+pub mod DemoLemmas

@@ -17,7 +17,7 @@ use Rattle.ehdl_build.specs.declared.built.Built.{Built}
 use Rattle.ehdl_build.specs.Compiled.{size_of, code_of, packets_in, answer_of, IsSequential}
 use Rattle.xdp_object.specs.Choice.{Chosen}
 use Rattle.xdp_object.specs.Object.{IsObject}
-use Rattle.command_line.specs.Request.{Request, AskCompile, AskRun, AskSim, AskRef, AskReport, Names}
+use Rattle.command_line.specs.Request.{Request, AskCompile, AskRun, AskSim, AskRef, AskReport, AskDemo, Names}
 use Rattle.maps_text.specs.Text.{IsMapsText}
 use Rattle.maps_text.specs.Writing.{text_of}
 use Rattle.maps_text.specs.Laws.{HasOneMeaning}
@@ -35,7 +35,7 @@ use Rattle.ehdl_top.specs.Writes.{Outputs, names_in, Write, AreDone, OneFailed}
 use Rattle.ehdl_top.specs.Results.{timed_packets, came_by, compile_outputs, result_outputs, run_outputs, sim_outputs, no_outputs}
 use Rattle.ehdl_top.specs.Simulation.{Simulation, simulation, final_text, given_up}
 use Rattle.ehdl_top.specs.Report.{report_lines}
-use Rattle.ehdl_top.specs.Outcome.{IsSimulated, IsReported}
+use Rattle.ehdl_top.specs.Outcome.{IsSimulated, IsReported, IsDemo}
 use Rattle.ehdl_top.specs.Requests.{inputs_of, outputs_of, IsOutcome, EndsItself}
 use Rattle.ehdl_top.specs.Steps.{IsRead, AreRead, IsBuiltOf, IsAcceptedBy, IsCaptureOf, IsRunOf, IsSimOf, IsReferenceOf, AreApart, IsTextApart, FailsWrite, WritesAll, write_of, stamp_of}
 use Rattle.ehdl_top.proofs.StateLemmas.{tells_later}
@@ -72,7 +72,8 @@ outcome_ready (AskCompile object verilog chosen) held end outputs o =
     (holds_as OBJECT_LIMIT (held object) _ (program_form chosen built).Fits (λ bytes is. (o.1.program, is)) o.1.held_program, tt)
 outcome_ready (AskRun names verilog chosen ifindex) held end outputs o = (
   holds_as OBJECT_LIMIT (held names.object) _ (program_form chosen built).Fits (λ bytes is. (o.1.program, is)) o.1.held_program,
-  capture_ready held names.capture o.1.magic o.1.packets o.1.held_capture,
+  ready_both _ _ held (may_ready names.maps o.1.program.decls _ held o.1.first (taken_decls chosen built o.1.program (held names.object) o.1.held_program) o.1.starts)
+      (capture_ready held names.capture o.1.magic o.1.packets o.1.held_capture),
 )
 outcome_ready (AskSim names verilog chosen ifindex clocks) held end outputs o = (
   holds_as OBJECT_LIMIT (held names.object) _ (object_form chosen).Fits (λ bytes is. (o.program, is)) o.held_object,
@@ -89,6 +90,7 @@ outcome_ready (AskRef names chosen ifindex) held end outputs o = (
 )
 outcome_ready (AskReport object chosen) held end outputs o =
     (holds_as OBJECT_LIMIT (held object) _ (program_form chosen accepted).Fits (λ bytes is. (o.3.program, record { object = is; takes = o.3.accepted })) o.3.held_object, tt)
+outcome_ready (AskDemo seed packets) held end outputs o = tt
 
 -- ---- one end of a simulation
 same_packets : (held : Option (List ℕ)) (m n : ℕ) (ps qs : List Packet) → Holds CAPTURE_LIMIT held (λ bytes. IsCaptured bytes m ps) → Holds CAPTURE_LIMIT held (λ bytes. IsCaptured bytes n qs) → (n ≡ m) × (qs ≡ ps)
@@ -125,6 +127,7 @@ ends_one (AskRun names verilog chosen ifindex) held end end' outputs outputs' on
 ends_one (AskSim names verilog chosen ifindex clocks) held end end' outputs outputs' one a b = one_end names verilog chosen ifindex clocks held end end' outputs outputs' one a b
 ends_one (AskRef names chosen ifindex) held end end' outputs outputs' one a b = a.0 ∙ sym b.0
 ends_one (AskReport object chosen) held end end' outputs outputs' one a b = a.0 ∙ sym b.0
+ends_one (AskDemo seed packets) held end end' outputs outputs' one a b = a.0 ∙ sym b.0
 
 -- ---- from what was read to what is written
 -- these writes make what the command is to leave, and come to this end
@@ -183,6 +186,10 @@ pub starts_from : (name : Option (List ℕ)) (decls : List MapDecl) (a b : Shelf
 starts_from (Some name) decls a b first same read told = was_held MAPS_LIMIT name a b read.0 (λ bytes. IsMapsText decls bytes first) same read.1.there read.1.within read.2 told
 starts_from None decls a b first same read told = read
 
+-- the same, of equal declarations
+pub read_as : (name : Option (List ℕ)) (decls decls' : List MapDecl) (old : ShelfState) (first : MapState) → decls ≡ decls' → AreRead name decls old first → AreRead name decls' old first
+read_as name decls decls' old first same read = subst (λ (ds : List MapDecl). AreRead name ds old first) same read
+
 pub compile_makes : (object verilog : List ℕ) (chosen : Chosen) (old : ShelfState) (bytes : List ℕ) (pipeline : Built) (ws : List Write) → IsRead (program_form chosen built) object old bytes → IsBuiltOf chosen bytes pipeline
     → ws ≡ (compile_outputs verilog pipeline.text.items).writes → IsTrue old.tells → Makes (AskCompile object verilog chosen) old.held None ws
 compile_makes object verilog chosen old bytes pipeline ws read is e told = record {
@@ -204,10 +211,10 @@ compile_makes object verilog chosen old bytes pipeline ws read is e told = recor
   of = (inl refl, (inl refl, tt));
 }
 
-pub run_makes : (names : Names) (verilog : List ℕ) (chosen : Chosen) (ifindex : ℕ) (a b : ShelfState) (object capture : List ℕ) (pipeline : Built) (magic : ℕ) (packets : List Packet) (writes : List code.Write) → AreApart names → IsTextApart names verilog → Changes [] a b
-    → IsRead (program_form chosen built) names.object a object → (is : IsBuiltOf chosen object pipeline) → IsRead capture_form names.capture b capture → IsCaptured capture magic packets
-    → IsRunOf names verilog pipeline.text.items is.program ifindex magic packets writes → IsTrue a.tells → Makes (AskRun names verilog chosen ifindex) a.held None (map write_of writes)
-run_makes names verilog chosen ifindex a b object capture pipeline magic packets writes apart own same read is read' captured run told = record {
+pub run_makes : (names : Names) (verilog : List ℕ) (chosen : Chosen) (ifindex : ℕ) (a b c : ShelfState) (object capture : List ℕ) (pipeline : Built) (first : MapState) (magic : ℕ) (packets : List Packet) (writes : List code.Write) → AreApart names → IsTextApart names verilog → Changes [] a b → Changes [] a c
+    → IsRead (program_form chosen built) names.object a object → (is : IsBuiltOf chosen object pipeline) → AreRead names.maps is.program.decls b first → IsRead capture_form names.capture c capture → IsCaptured capture magic packets
+    → IsRunOf names verilog pipeline.text.items is.program first ifindex magic packets writes → IsTrue a.tells → Makes (AskRun names verilog chosen ifindex) a.held None (map write_of writes)
+run_makes names verilog chosen ifindex a b c object capture pipeline first magic packets writes apart own same same' read is starts read' captured run told = record {
   outputs = run_outputs names verilog pipeline.text.items magic packets run.answers (text_of run.final);
   outcome = (
     refl,
@@ -218,9 +225,11 @@ run_makes names verilog chosen ifindex a b object capture pipeline magic packets
       size = size_of pipeline;
       has_size = is.realized.has_size;
       realizes = is.realized.realizes;
+      first = first;
+      starts = starts_from names.maps is.program.decls a b first same starts told;
       magic = magic;
       packets = packets;
-      held_capture = was_held CAPTURE_LIMIT names.capture a b capture (λ bytes. IsCaptured bytes magic packets) same read'.there read'.within captured told;
+      held_capture = was_held CAPTURE_LIMIT names.capture a c capture (λ bytes. IsCaptured bytes magic packets) same' read'.there read'.within captured told;
       answers = run.answers;
       final = run.final;
       runs = run.runs;
@@ -288,7 +297,7 @@ packets_count : (arrivals : List Arrival) → length (packets_in arrivals) ≡ l
 packets_count [] = refl
 packets_count (a ∷ rest) = ap suc (packets_count rest)
 
-answers_count : (program : XdpProgram) (maps last : MapState) (ifindex : ℕ) (packets : List Timed) (answers : List Answer) → IsSequential program maps (came_by ifindex packets) answers last → length answers ≡ length packets
+pub answers_count : (program : XdpProgram) (maps last : MapState) (ifindex : ℕ) (packets : List Timed) (answers : List Answer) → IsSequential program maps (came_by ifindex packets) answers last → length answers ≡ length packets
 answers_count program maps last ifindex packets answers is =
     ap length is.answers_are ∙ length-map is.leaves answer_of ∙ runs_length (code_of program) maps (packets_in (came_by ifindex packets)) is.leaves last is.runs
     ∙ packets_count (came_by ifindex packets) ∙ length-map packets (arrival_of ifindex)
@@ -305,6 +314,9 @@ reported_of object chosen old bytes a lines read is are told = record {
 
 pub report_makes : (object : List ℕ) (chosen : Chosen) (held : Holding) (lines : List (List ℕ)) → IsReported object chosen held lines → Makes (AskReport object chosen) held None []
 report_makes object chosen held lines is = record { outputs = no_outputs; outcome = (refl, refl, lines, is); writes_are = refl; built = tt; of = tt }
+
+pub demo_makes : (seed packets : ℕ) (held : Holding) (lines : List (List ℕ)) → IsDemo seed packets lines → Makes (AskDemo seed packets) held None []
+demo_makes seed packets held lines is = record { outputs = no_outputs; outcome = (refl, refl, lines, is); writes_are = refl; built = tt; of = tt }
 
 -- no more than there are packets
 pub count_within : (n : ℕ) (timed : List Timed) (captured : Captured) (packets : List Packet) → n ≤ length timed → timed ≡ captured.packets.items → IsCaptureOf captured packets → n ≤ length captured.stamps.items

@@ -17,7 +17,7 @@ use Rattle.port_drive.specs.Reports.{full_drive, given_in}
 use Rattle.port_drive.specs.declared.report.DriveError.{DriveError}
 use Rattle.port_drive.specs.declared.report.DriveError.TheVariants.{X, Late, NoMemory}
 use Rattle.xdp_maps.specs.Contents.{IsWithinLimits}
-use Rattle.xdp_maps.specs.State.{MapState, IsSound, opened_state}
+use Rattle.xdp_maps.specs.State.{MapState, IsSound}
 use Rattle.xdp_maps.specs.declared.decl.MapDecl.{MapDecl}
 use Rattle.xdp_object.specs.Program.{XdpProgram}
 use Rattle.xdp_machine.specs.Program.{IsProgram}
@@ -29,9 +29,9 @@ use Rattle.host_history.specs.Host.{load, ShowsMaps}
 use Rattle.ehdl_build.specs.declared.built.Built.{Built}
 use Rattle.realization.specs.Bounds.{clock_bound, most_beats}
 use Rattle.realization.specs.Realizes.{Meets, IsWhole, IsPacket, frames_in, all_offers}
-use Rattle.ehdl_build.specs.Compiled.{AreMapsOf, PipelineSize, IsSequential, DoNotConflict, code_of, packets_in, size_of}
+use Rattle.ehdl_build.specs.Compiled.{PipelineSize, IsSequential, DoNotConflict, code_of, packets_in, size_of}
 use Rattle.ehdl_top.specs.Results.{came_by}
-use Rattle.ehdl_top.specs.Steps.{IsLegal, IsRealized}
+use Rattle.ehdl_top.specs.Steps.{IsLegal, IsRealized, AreDeclared}
 
 -- ---- the maps that a capture run leaves
 run_decls : (code : Code) (packet : PacketIn) (maps : MapState) (e : Leaves) → IsRun code packet maps e → e.maps.decls ≡ maps.decls
@@ -45,10 +45,6 @@ runs_decls code maps (packet ∷ packets) (e ∷ es) last runs = runs_decls code
 
 pub sequential_decls : (p : XdpProgram) (maps : MapState) (packets : List Arrival) (answers : List Answer) (after : MapState) → IsSequential p maps packets answers after → after.decls ≡ maps.decls
 sequential_decls p maps packets answers after s = runs_decls (code_of p) maps (packets_in packets) s.leaves after s.runs
-
--- the maps in which nothing was written, of the declarations of a program
-pub opened_of : (p : XdpProgram) (decls : List MapDecl) (maps : MapState) → decls ≡ p.decls → maps ≡ opened_state decls → IsSound maps → AreMapsOf p (opened_state p.decls)
-opened_of p decls maps same is sound = record { declared = refl; sound = subst IsSound (is ∙ ap opened_state same) sound }
 
 -- ---- a call that has the host go on for clocks of which none stops
 pub goes_whole : {A : Type 0} (d : Netlist) (s t : Stored) (clocks : List Inputs) (r : Result A DriveError) (e : DriveError) → r ≡ Err e → ClocksOrNone d s clocks r t → IfErr r (λ f. f ≢ NoMemory) → NeverStops d s clocks → ⊥
@@ -78,20 +74,20 @@ legal-came_by ifindex (p ∷ rest) fits h = (record { frame = h.0.0; ifindex = f
 abbrev pub loaded : Netlist → MapState → Stored
 loaded d maps = stored_after d (first_stored d) (load maps)
 
--- what a drive from there on gives
-pub record Runs (p : XdpProgram) (d : Netlist) (s : Stored) (ifindex limit : ℕ) (packets : List Timed) : Type 0 where
+-- what a drive from there on gives, where these maps were loaded
+pub record Runs (p : XdpProgram) (first : MapState) (d : Netlist) (s : Stored) (ifindex limit : ℕ) (packets : List Timed) : Type 0 where
   pub ended : (full_drive d ifindex s packets limit).ended ≡ Answered
   pub last : MapState
-  pub all : IsSequential p (opened_state p.decls) (came_by ifindex packets) (answers_given [] (full_drive d ifindex s packets limit).trace) last
+  pub all : IsSequential p first (came_by ifindex packets) (answers_given [] (full_drive d ifindex s packets limit).trace) last
   pub shown : ShowsMaps d (stored_after d s (given_in (full_drive d ifindex s packets limit).trace)) last
 
-whole : (p : XdpProgram) (d : Netlist) (s : Stored) (z : PipelineSize) (ifindex limit : ℕ) (packets : List Timed)
-    → Meets d s (IsSequential p (opened_state p.decls)) (DoNotConflict p (opened_state p.decls) z.stages) z.stages z.records
-    → AllByRecursion IsLegal packets → ifindex < 2 ^ 32 → clock_bound (length packets) z.stages (most_beats (map (λ p. p.frame) packets)) z.records ≤ limit → Runs p d s ifindex limit packets
-whole p d s z ifindex limit packets meets are fits enough =
+whole : (p : XdpProgram) (first : MapState) (d : Netlist) (s : Stored) (z : PipelineSize) (ifindex limit : ℕ) (packets : List Timed)
+    → Meets d s (IsSequential p first) (DoNotConflict p first z.stages) z.stages z.records
+    → AllByRecursion IsLegal packets → ifindex < 2 ^ 32 → clock_bound (length packets) z.stages (most_beats (map (λ p. p.frame) packets)) z.records ≤ limit → Runs p first d s ifindex limit packets
+whole p first d s z ifindex limit packets meets are fits enough =
     let came : List Arrival = came_by ifindex packets in
     let many : length came ≡ length packets = length-map packets (arrival_of ifindex) in
-    let wanted : List Arrival → List Answer → MapState → Type 0 = IsSequential p (opened_state p.decls) in
+    let wanted : List Arrival → List Answer → MapState → Type 0 = IsSequential p first in
     let bound : clock_bound (length came) z.stages (most_beats (frames_in came)) z.records ≤ limit =
     subst (λ n. clock_bound n z.stages (most_beats (frames_in came)) z.records ≤ limit) (sym many)
     (subst (λ fs. clock_bound (length packets) z.stages (most_beats fs) z.records ≤ limit) (sym (frames-came_by ifindex packets)) enough) in
@@ -104,20 +100,25 @@ whole p d s z ifindex limit packets meets are fits enough =
 at_most : (n limit : ℕ) → limit ≡ n → n ≤ limit
 at_most n limit is = omega (arith, is)
 
--- The design of the text, in which the host has loaded maps in which nothing was written, answers in the stated clocks as sequential
--- execution does, and shows the maps that this leaves.
-pub runs : (b : Built) (p : XdpProgram) (r : IsRealized b p) (first : MapState) (d e : Netlist) (s : Stored) (ifindex limit : ℕ) (packets : List Timed) → first ≡ opened_state b.decls.items → IsSound first
+-- The design of the text, in which the host has loaded maps of the program, answers in the stated clocks as sequential execution on these
+-- maps does, and shows the maps that this leaves.
+pub runs : (b : Built) (p : XdpProgram) (r : IsRealized b p) (first : MapState) (d e : Netlist) (s : Stored) (ifindex limit : ℕ) (packets : List Timed) → first.decls ≡ b.decls.items → IsSound first
     → r.realizes.design ≡ d → e ≡ d → s ≡ loaded d first → AllByRecursion IsLegal packets → ifindex < 2 ^ 32
-    → limit ≡ clock_bound (length packets) b.rows (most_beats (map (λ p. p.frame) packets)) b.records → Runs p e s ifindex limit packets
-runs b p r first d e s ifindex limit packets is sound same netlist stored are fits enough =
-    let maps : MapState = opened_state p.decls in
+    → limit ≡ clock_bound (length packets) b.rows (most_beats (map (λ p. p.frame) packets)) b.records → Runs p first e s ifindex limit packets
+runs b p r first d e s ifindex limit packets declared sound same netlist stored are fits enough =
     let z : PipelineSize = size_of b in
-    let from : s ≡ loaded d maps = stored ∙ ap (loaded d) (is ∙ ap opened_state r.decls) in
-    let there : Runs p r.realizes.design (loaded r.realizes.design maps) ifindex limit packets =
-    whole p r.realizes.design (loaded r.realizes.design maps) z ifindex limit packets (r.realizes.meets maps (opened_of p b.decls.items first r.decls is sound)) are fits (at_most _ limit enough) in
-    subst (λ (t : Stored). Runs p e t ifindex limit packets) (sym from)
-    (subst (λ (x : Netlist). Runs p x (loaded d maps) ifindex limit packets) (sym netlist) (subst (λ (x : Netlist). Runs p x (loaded x maps) ifindex limit packets) same there))
+    let there : Runs p first r.realizes.design (loaded r.realizes.design first) ifindex limit packets =
+    whole p first r.realizes.design (loaded r.realizes.design first) z ifindex limit packets (r.realizes.meets first (record { declared = declared ∙ r.decls; sound = sound })) are fits (at_most _ limit enough) in
+    subst (λ (t : Stored). Runs p first e t ifindex limit packets) (sym stored)
+    (subst (λ (x : Netlist). Runs p first x (loaded d first) ifindex limit packets) (sym netlist) (subst (λ (x : Netlist). Runs p first x (loaded x first) ifindex limit packets) same there))
 
 -- the declarations of a program are within their limits
 pub limits_of : (p : XdpProgram) (decls : List MapDecl) → IsProgram p → decls ≡ p.decls → All IsWithinLimits decls
 limits_of p decls program same = subst (λ (ds : List MapDecl). All IsWithinLimits ds) (sym same) (λ k d lt. (program.decls k d lt).limits)
+
+-- they are declarations as programs have them
+pub declared_of : (p : XdpProgram) (decls : List MapDecl) → IsProgram p → decls ≡ p.decls → AreDeclared decls
+declared_of p decls program same = record {
+  limits = limits_of p decls program same;
+  few = omega (arith, ap (λ (ds : List MapDecl). length ds) same, program.maps);
+}

@@ -19,7 +19,6 @@ use Rattle.xdp_object.specs.Maps.{MapTable}
 use Rattle.xdp_object.specs.Object.{FirstFault, IsObject, function_of, maps_of}
 use Rattle.kind_core.specs.declared.why.Refusal.{Refusal}
 use Rattle.node_rows.specs.Acceptance.{IsAccepted, IsFirstRefusal}
-use Rattle.ehdl_build.specs.Compiled.{RefusesProgram}
 use Rattle.ehdl_top.specs.declared.limits.TheConstants.{OBJECT_LIMIT, VERILOG_LIMIT, MAPS_LIMIT, CAPTURE_LIMIT}
 use Rattle.ehdl_top.specs.declared.status.Status.{Status}
 use Rattle.ehdl_top.specs.declared.status.Status.TheVariants as status
@@ -85,7 +84,7 @@ program_form choice rule = record {
 
 -- programs that are compiled: they are not refused
 abbrev pub built : ProgramRule
-built = record { Takes = λ p. (r : Refusal) → ¬ RefusesProgram p r; Refuses = RefusesProgram }
+built = record { Takes = λ p. (r : Refusal) → ¬ IsFirstRefusal p r; Refuses = IsFirstRefusal }
 
 -- programs that are accepted: they unfold, and have few stages
 abbrev pub accepted : ProgramRule

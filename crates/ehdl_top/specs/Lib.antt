@@ -7,6 +7,7 @@ pub mod Writes
 pub mod Simulation
 pub mod Results
 pub mod Report
+pub mod Demo
 pub mod Outcome
 pub mod Requests
 pub mod Ends

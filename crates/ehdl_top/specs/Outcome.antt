@@ -1,5 +1,5 @@
 -- What a command leaves, by what its inputs hold.
-use Rattle.std.specs.Prelude.{◌≡◌, ℕ, List, length, Option, Some}
+use Rattle.std.specs.Prelude.{◌≡◌, ℕ, List, length, map, Option, Some}
 use Rattle.shelf_core.specs.Shelf.{Holding}
 use Rattle.pcap_core.specs.Format.{Packet}
 use Rattle.net_core.specs.Nets.{Netlist}
@@ -19,6 +19,11 @@ use Rattle.ehdl_top.specs.Simulation.{Simulation, simulation, given_up}
 use Rattle.ehdl_top.specs.Writes.{Outputs}
 use Rattle.ehdl_top.specs.Results.{timed_packets, came_by, compile_outputs, run_outputs, result_outputs, sim_outputs}
 use Rattle.ehdl_top.specs.Report.{report_lines}
+use Rattle.realization.specs.Bounds.{clock_bound, most_beats}
+use Rattle.flow_demo.specs.Program.{demo_program}
+use Rattle.flow_demo.specs.Packets.{demo_packets}
+use Rattle.answer_counts.specs.Counts.{entry_count}
+use Rattle.ehdl_top.specs.Demo.{demo_lines}
 
 -- ---- compile
 -- The text that an object asks for: it realizes the object's program.
@@ -32,9 +37,9 @@ pub record IsCompiled (object verilog : List ℕ) (chosen : Chosen) (held : Hold
   pub outputs_are : outputs ≡ compile_outputs verilog text
 
 -- ---- run
--- The files that an object and a capture ask for. The text realizes the object's program; answers and verdicts are those of
--- sequential execution, one packet of the capture after another, all by one interface, from maps in which nothing was written, and the
--- final maps are those behind the last.
+-- The files that an object, a capture and, if it is named, a text of maps ask for. The text realizes the object's program; answers and
+-- verdicts are those of sequential execution, one packet of the capture after another, all by one interface, from the maps of the text of
+-- maps, or from maps in which nothing was written, and the final maps are those behind the last.
 pub record IsRun (names : Names) (verilog : List ℕ) (chosen : Chosen) (ifindex : ℕ) (held : Holding) (outputs : Outputs) : Type 0 where
   pub program : XdpProgram
   pub held_program : Holds OBJECT_LIMIT (held names.object) (λ bytes. IsTaken chosen built bytes program)
@@ -42,12 +47,14 @@ pub record IsRun (names : Names) (verilog : List ℕ) (chosen : Chosen) (ifindex
   pub size : PipelineSize
   pub has_size : HasSize program size
   pub realizes : Realizes text program size
+  pub first : MapState
+  pub starts : StartsFrom names.maps program.decls held first
   pub magic : ℕ
   pub packets : List Packet
   pub held_capture : Holds CAPTURE_LIMIT (held names.capture) (λ bytes. IsCaptured bytes magic packets)
   pub answers : List Answer
   pub final : MapState
-  pub runs : IsSequential program (opened_state program.decls) (came_by ifindex (timed_packets magic packets)) answers final
+  pub runs : IsSequential program first (came_by ifindex (timed_packets magic packets)) answers final
   pub outputs_are : outputs ≡ run_outputs names verilog text magic packets answers (text_of final)
 
 -- ---- sim
@@ -93,3 +100,14 @@ pub record IsReported (object : List ℕ) (chosen : Chosen) (held : Holding) (li
   pub held_object : Holds OBJECT_LIMIT (held object) (λ bytes. IsObject chosen bytes program)
   pub accepted : IsAccepted program
   pub lines_are : lines ≡ report_lines program (length accepted.unfolds.graph) accepted.stages
+
+-- ---- demo
+-- The lines that a seed and a count of packets ask for: what is counted of sequential execution of the program that is at hand, one
+-- packet after another, all by interface 1, from maps in which nothing was written, and of the pipeline that it has.
+pub record IsDemo (seed packets : ℕ) (lines : List (List ℕ)) : Type 0 where
+  pub size : PipelineSize
+  pub has_size : HasSize demo_program size
+  pub answers : List Answer
+  pub final : MapState
+  pub runs : IsSequential demo_program (opened_state demo_program.decls) (came_by 1 (timed_packets 0xa1b2c3d4 (demo_packets seed packets))) answers final
+  pub lines_are : lines ≡ demo_lines packets answers (entry_count final 0) size (clock_bound packets size.stages (most_beats (map (λ p. p.bytes) (demo_packets seed packets))) size.records)

@@ -2,23 +2,23 @@
 -- a row of each.
 use Rattle.std.specs.Prelude.{◌≡◌, ◌⊎◌, ℕ, IsTrue, List, [], ◌∷◌, ◌++◌, Option, Some, None}
 use Rattle.shelf_core.specs.Shelf.{Holding, Rose}
-use Rattle.command_line.specs.Request.{Request, AskCompile, AskRun, AskSim, AskRef, AskReport}
+use Rattle.command_line.specs.Request.{Request, AskCompile, AskRun, AskSim, AskRef, AskReport, AskDemo}
 use Rattle.ehdl_top.specs.declared.status.Status.{Status}
 use Rattle.ehdl_top.specs.declared.status.Status.TheVariants as status
 use Rattle.ehdl_top.specs.declared.error.CommandError.{CommandError}
-use Rattle.ehdl_top.specs.Status.{status_of}
 use Rattle.ehdl_top.specs.States.{ShelfState, SinkState, OneRose}
 use Rattle.ehdl_top.specs.Forms.{program_form, built, accepted, object_form, text_form, maps_form, held_decls, capture_form}
 use Rattle.ehdl_top.specs.Inputs.{Input, input, may_input, FirstStop, EndsAtInput}
 use Rattle.ehdl_top.specs.Writes.{Outputs}
 use Rattle.ehdl_top.specs.Results.{no_outputs}
-use Rattle.ehdl_top.specs.Outcome.{IsCompiled, IsRun, IsSimulated, IsReference, IsReported}
+use Rattle.ehdl_top.specs.Outcome.{IsCompiled, IsRun, IsSimulated, IsReference, IsReported, IsDemo}
 
 -- In the order in which they are looked at. What is held has a say: a text of maps is one of the maps that the object declares.
 abbrev pub inputs_of : Request → Holding → List Input
 inputs_of (AskCompile object verilog chosen) held = input object (program_form chosen built) ∷ []
 inputs_of (AskRun names verilog chosen ifindex) held =
-    input names.object (program_form chosen built) ∷ input names.capture capture_form ∷ []
+    input names.object (program_form chosen built)
+    ∷ (may_input names.maps (maps_form (held_decls chosen (held names.object))) ++ input names.capture capture_form ∷ [])
 inputs_of (AskSim names verilog chosen ifindex clocks) held =
     input names.object (object_form chosen) ∷ input verilog text_form
     ∷ (may_input names.maps (maps_form (held_decls chosen (held names.object))) ++ input names.capture capture_form ∷ [])
@@ -26,6 +26,7 @@ inputs_of (AskRef names chosen ifindex) held =
     input names.object (program_form chosen accepted)
     ∷ (may_input names.maps (maps_form (held_decls chosen (held names.object))) ++ input names.capture capture_form ∷ [])
 inputs_of (AskReport object chosen) held = input object (program_form chosen accepted) ∷ []
+inputs_of (AskDemo seed packets) held = []
 
 -- the names that may be written
 abbrev pub outputs_of : Request → List (List ℕ)
@@ -34,6 +35,7 @@ outputs_of (AskRun names verilog chosen ifindex) = verilog ∷ names.answer ∷ 
 outputs_of (AskSim names verilog chosen ifindex clocks) = names.answer ∷ names.verdicts ∷ names.final_maps ∷ []
 outputs_of (AskRef names chosen ifindex) = names.answer ∷ names.verdicts ∷ names.final_maps ∷ []
 outputs_of (AskReport object chosen) = []
+outputs_of (AskDemo seed packets) = []
 
 -- what the outputs are to hold by what is held, and the end that the command then comes to
 abbrev pub IsOutcome : Request → Holding → Option CommandError → Outputs → Type 0
@@ -42,15 +44,18 @@ IsOutcome (AskRun names verilog chosen ifindex) held end outputs = (end ≡ None
 IsOutcome (AskSim names verilog chosen ifindex clocks) held end outputs = IsSimulated names verilog chosen ifindex clocks held end outputs
 IsOutcome (AskRef names chosen ifindex) held end outputs = (end ≡ None) × IsReference names chosen ifindex held outputs
 IsOutcome (AskReport object chosen) held end outputs = (end ≡ None) × (outputs ≡ no_outputs) × (lines : List (List ℕ)) × IsReported object chosen held lines
+IsOutcome (AskDemo seed packets) held end outputs = (end ≡ None) × (outputs ≡ no_outputs) × (lines : List (List ℕ)) × IsDemo seed packets lines
 
 -- a command that puts lines where all is done
 abbrev pub PutsLines : Request → Type 0
 PutsLines (AskReport object chosen) = Unit {0}
+PutsLines (AskDemo seed packets) = Unit {0}
 PutsLines request = ⊥
 
 -- the lines that it puts then, by what is held
 abbrev pub AreLines : Request → ShelfState → List (List ℕ) → Type 0
 AreLines (AskReport object chosen) old lines = IsTrue old.tells → IsReported object chosen old.held lines
+AreLines (AskDemo seed packets) old lines = IsDemo seed packets lines
 AreLines request old lines = lines ≡ []
 
 -- a write of an output failed, or a put of the command's lines
@@ -64,6 +69,7 @@ EndsItself (AskRun names verilog chosen ifindex) s = s ≡ status.Done
 EndsItself (AskSim names verilog chosen ifindex clocks) s = (s ≡ status.Done) ⊎ ((s ≡ status.XValue) ⊎ (s ≡ status.Late))
 EndsItself (AskRef names chosen ifindex) s = s ≡ status.Done
 EndsItself (AskReport object chosen) s = s ≡ status.Done
+EndsItself (AskDemo seed packets) s = s ≡ status.Done
 
 -- a fault of a name or of the sink, or want of memory
 abbrev pub IsFault : Status → Type 0

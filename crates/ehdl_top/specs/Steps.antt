@@ -1,5 +1,5 @@
 -- What the steps of a command give each other.
-use Rattle.std.specs.Prelude.{◌≡◌, ◌≢◌, ◌⊎◌, ℕ, ◌<◌, ◌≤◌, ◌^◌, IsTrue, List, [], length, map, Option, Some, None, Result, Ok, Err}
+use Rattle.std.specs.Prelude.{◌≡◌, ◌≢◌, ◌⊎◌, ℕ, ◌<◌, ◌≤◌, ◌^◌, IsTrue, List, [], length, map, All, Option, Some, None, Result, Ok, Err}
 use Rattle.std.specs.Borrow.{Bor}
 use Rattle.std.specs.declared.vec.Vec.{Vec}
 use Rattle.std.specs.declared.alloc.Global.{Global}
@@ -17,6 +17,7 @@ use Rattle.port_drive.specs.declared.report.DriveError.TheVariants as drive
 use Rattle.xdp_object.specs.Program.{XdpProgram}
 use Rattle.xdp_object.specs.Choice.{Chosen}
 use Rattle.xdp_maps.specs.declared.decl.MapDecl.{MapDecl}
+use Rattle.xdp_maps.specs.Contents.{IsWithinLimits}
 use Rattle.xdp_maps.specs.State.{MapState, opened_state}
 use Rattle.maps_text.specs.Text.{IsMapsText}
 use Rattle.maps_text.specs.Writing.{text_of}
@@ -31,7 +32,7 @@ use Rattle.kind_core.specs.declared.why.BuildError.{BuildError}
 use Rattle.kind_core.specs.declared.why.BuildError.TheVariants as build
 use Rattle.node_rows.specs.Rows.{HasStages}
 use Rattle.node_rows.specs.Acceptance.{IsFirstRefusal}
-use Rattle.command_line.specs.Request.{Request, AskCompile, AskRun, AskSim, AskRef, AskReport, Names}
+use Rattle.command_line.specs.Request.{Request, AskCompile, AskRun, AskSim, AskRef, AskReport, AskDemo, Names}
 use Rattle.ehdl_top.specs.States.{ShelfState, SinkState, Changes, OneRose, IsLaterSink}
 use Rattle.ehdl_top.specs.Forms.{InputForm, IsFaulty, IsTaken, built, accepted, IsTextFault, maps_form, IsCaptured}
 use Rattle.ehdl_top.specs.Inputs.{FirstStop, OneUnread, EndsAtInput}
@@ -111,6 +112,11 @@ pub record HasCaptured (bytes : List ℕ) (captured : Captured) : Type 0 where
   pub is : IsCaptured bytes captured.magic packets
   pub of : IsCaptureOf captured packets
 
+-- declarations as programs have them: within their limits, and few
+pub record AreDeclared (decls : List MapDecl) : Type 0 where
+  pub limits : All IsWithinLimits decls
+  pub few : length decls ≤ 16
+
 -- the maps that a run starts from were read, or are those in which nothing was written
 abbrev pub AreRead : Option (List ℕ) → List MapDecl → ShelfState → MapState → Type 0
 AreRead (Some name) decls old maps = (bytes : List ℕ) × IsRead (maps_form decls) name old bytes × IsMapsText decls bytes maps
@@ -188,11 +194,11 @@ abbrev pub text_in : Option (Bor (List ℕ)) → Option (List ℕ)
 text_in None = None
 text_in (Some text) = Some text.now
 
--- the writes of a run of these packets, its answers, and the maps that it leaves
-pub record IsRunOf (names : Names) (verilog text : List ℕ) (program : XdpProgram) (ifindex magic : ℕ) (packets : List Packet) (writes : List code.Write) : Type 0 where
+-- the writes of a run of these packets from these maps on, its answers, and the maps that it leaves
+pub record IsRunOf (names : Names) (verilog text : List ℕ) (program : XdpProgram) (first : MapState) (ifindex magic : ℕ) (packets : List Packet) (writes : List code.Write) : Type 0 where
   pub answers : List Answer
   pub final : MapState
-  pub runs : IsSequential program (opened_state program.decls) (came_by ifindex (timed_packets magic packets)) answers final
+  pub runs : IsSequential program first (came_by ifindex (timed_packets magic packets)) answers final
   pub writes_are : map write_of writes ≡ (run_outputs names verilog text magic packets answers (text_of final)).writes
 
 -- the writes and the end of a simulation over these packets, from these maps on
@@ -229,6 +235,7 @@ NamesApart (AskRun names verilog chosen ifindex) = AreApart names × IsTextApart
 NamesApart (AskSim names verilog chosen ifindex clocks) = AreApart names
 NamesApart (AskRef names chosen ifindex) = AreApart names
 NamesApart (AskReport object chosen) = Unit {0}
+NamesApart (AskDemo seed packets) = Unit {0}
 
 -- a write failed
 pub record FailsWrite (request : Request) (old new : ShelfState) : Type 0 where

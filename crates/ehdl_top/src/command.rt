@@ -14,6 +14,7 @@ ghost use Rattle.ehdl_top.specs.Steps.{EndsIn, AreOneEnd, NamesApart, IsFinished
 ghost use Rattle.ehdl_top.specs.declared.error.CommandError.{CommandError};
 
 use crate::compile::compile_file;
+use crate::demo::run_demo;
 use crate::error::CommandError;
 use crate::reference::ref_files;
 use crate::report::report_object;
@@ -78,6 +79,7 @@ fn run_command<S: Shelf>(
             ifindex,
         } => without_lines(alloc, ref_files(alloc, shelf, files, *choice, *ifindex)),
         Command::Report { object, choice } => report_object(alloc, shelf, object, *choice),
+        Command::Demo { seed, packets } => run_demo(alloc, *seed, *packets),
     }
 }
 
@@ -151,9 +153,10 @@ fn finish<O: Sink>(alloc: Global, end: Result<Vec<Bytes>, CommandError>, out: &m
 
 /// All that the program does, on the words that it is called with. `compile` compiles an object to a Verilog text. `run` writes
 /// the same text, simulates its bytes clock by clock over a capture, and writes what its ports gave. `sim` simulates a Verilog
-/// text that is there, from the maps of a text on, in at most so many clocks of the drive. `ref` runs the object's program over a capture,
-/// one instruction after another. `report` puts to the sink, line by line, what is counted of the object's program. Of every way to end but
-/// [`Status::Done`] one line says why, put to the sink.
+/// text that is there, in at most so many clocks of the drive. `ref` runs the object's program over a capture, one instruction after
+/// another. These three start from the maps of a text, if one is named. `report` puts to the sink, line by line, what is counted of the
+/// object's program. `demo` does the same of a run of the program of `flow_demo` over packets that are drawn from a seed, and touches no
+/// file. Of every way to end but [`Status::Done`] one line says why, put to the sink.
 pub fn top<S: Shelf, O: Sink>(alloc: Global, words: &Words, shelf: &mut S, out: &mut O) -> Status
     // What is written: a text that realizes the object's program, and what sequential execution on the capture gives; of a text
     // that is given, what the load, its full drive and the dump give. It is written in the command's order.

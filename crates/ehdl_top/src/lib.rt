@@ -4,6 +4,7 @@
 mod codes;
 mod command;
 mod compile;
+mod demo;
 mod drive;
 mod error;
 mod form;

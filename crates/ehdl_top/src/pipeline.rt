@@ -3,7 +3,7 @@
 ghost use Rattle.std.specs.Prelude.{◌≡◌, ◌<◌, ◌≤◌, ◌^◌, [], length, All, IfOk, OnOk};
 ghost use Rattle.std.specs.List.{AllByRecursion};
 ghost use Rattle.xdp_maps.specs.Contents.{IsWithinLimits};
-ghost use Rattle.xdp_maps.specs.State.{MapState, opened_state};
+ghost use Rattle.xdp_maps.specs.State.{MapState};
 ghost use Rattle.xdp_object.specs.Program.{XdpProgram};
 ghost use Rattle.net_core.specs.View.{netlist_of};
 ghost use Rattle.net_core.specs.Clock.{first_stored};
@@ -87,18 +87,20 @@ fn shown_maps(alloc: Global, sim: &mut Sim, decls: &[MapDecl]) -> Result<Maps, A
     }
 }
 
-/// What a pipeline that was built of a program answers, from maps in which nothing was written on, and the maps behind the last answer:
-/// those of sequential execution.
+/// What a pipeline that was built of a program answers, from these maps on, and the maps behind the last answer: those of sequential
+/// execution.
 pub(crate) fn run_pipeline(
     alloc: Global,
     built: &Built,
+    first: &Maps,
     packets: &[Timed],
     ifindex: u32,
 ) -> Result<Ran, AllocError>
     requires realized { (program : XdpProgram) × IsRealized built.now program }
+    requires decls { first.now.decls ≡ built.now.decls.items }
     requires many { length packets.now < 2 ^ 32 }
     requires packets { AllByRecursion IsLegal packets.now }
-    ensures sequential { (program : XdpProgram) → IsRealized built.now program → IfOk result (λ ran. IsSequential program (opened_state program.decls) (came_by ifindex packets.now) ran.answers ran.maps) }
+    ensures sequential { (program : XdpProgram) → IsRealized built.now program → IfOk result (λ ran. IsSequential program first.now (came_by ifindex packets.now) ran.answers ran.maps) }
     ensures few { IfOk result (λ ran. length ran.maps.decls ≤ 16) }
 {
     let design = match read_verilog(alloc, &built.text) {
@@ -107,10 +109,9 @@ pub(crate) fn run_pipeline(
         // The text spells a design.
         Err(_) => unreachable!(),
     };
-    let first = Maps::new(alloc, &built.decls)?;
     let decls = first.decls();
     let limit = clock_limit(packets, built.rows, built.records);
-    let mut sim = open_loaded(alloc, design, &first)?;
+    let mut sim = open_loaded(alloc, design, first)?;
     let answers = answers_in_time(alloc, &mut sim, packets, ifindex, limit)?;
     let maps = shown_maps(alloc, &mut sim, decls)?;
     Ok(Ran { answers, maps })

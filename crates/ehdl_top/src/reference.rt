@@ -60,7 +60,7 @@ pub(crate) fn ref_files<S: Shelf>(
     ensures { EndsIn (AskRef (names_of files.now) (chosen_of choice.entry) ifindex) (state_of S.Shelf shelf.old) (state_of S.Shelf shelf.new) result }
 {
     let accepted = read_input(alloc, shelf, files.object, &AcceptedForm { choice })?;
-    let maps = read_maps(alloc, shelf, files.maps, &accepted.program)?;
+    let maps = read_maps(alloc, shelf, files.maps, accepted.program.decls())?;
     let capture = read_input(alloc, shelf, files.capture, &CaptureForm)?;
     let writes = ref_writes(alloc, files, &accepted.program, maps, &capture, ifindex)?;
     write_all(shelf, &writes)?;

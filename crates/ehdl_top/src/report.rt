@@ -30,8 +30,8 @@ fn kind_word(kind: MapKind) -> &'static [u8]
     }
 }
 
-// The line of a number.
-fn counted_line(alloc: Global, word: &[u8], count: u64) -> Result<Bytes, AllocError>
+/// The line of a word and a number.
+pub(crate) fn counted_line(alloc: Global, word: &[u8], count: u64) -> Result<Bytes, AllocError>
     ensures { IfOk result (λ line. line ≡ counted_line word.now count) }
 {
     let mut line = Vec::from_slice(alloc, word)?;

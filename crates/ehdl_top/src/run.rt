@@ -1,6 +1,6 @@
 // The command `run`.
 
-ghost use Rattle.std.specs.Prelude.{◌≡◌, List, map, IfOk};
+ghost use Rattle.std.specs.Prelude.{◌≡◌, List, IfOk};
 ghost use Rattle.pcap_core.specs.Format.{Packet};
 ghost use Rattle.xdp_object.specs.Program.{XdpProgram};
 ghost use Rattle.xdp_object.specs.Choice.{chosen_of};
@@ -10,6 +10,7 @@ ghost use Rattle.ehdl_top.specs.Steps.{AreApart, IsTextApart, EndsIn, IsCaptureO
 
 use crate::error::CommandError;
 use crate::form::read_input;
+use crate::maps::read_maps;
 use crate::object::ProgramForm;
 use crate::packets::{CaptureForm, Captured};
 use crate::pipeline::run_pipeline;
@@ -20,22 +21,25 @@ use ehdl_build::Built;
 use maps_text::write_maps_text;
 use shelf_core::Shelf;
 use std::alloc::{AllocError, Global};
+use xdp_maps::state::Maps;
 
-// Simulates the text that was built of a program over a capture. What is to be written is the text, what its ports
-// gave, and the maps that it shows in the end.
+// Simulates the text that was built of a program over a capture, from these maps on. What is to be written is the text, what its
+// ports gave, and the maps that it shows in the end.
 fn run_writes<'a>(
     alloc: Global,
     files: &Files<'a>,
     verilog: &'a str,
     built: Built,
+    first: &Maps,
     capture: &Captured,
     ifindex: u32,
 ) -> Result<Vec<Write<'a>>, AllocError>
     requires realized { (program : XdpProgram) × IsRealized built program }
+    requires decls { first.now.decls ≡ built.decls.items }
     requires captured { (packets : List Packet) × IsCaptureOf capture.now packets }
-    ensures { IfOk result (λ writes. (program : XdpProgram) → IsRealized built program → (packets : List Packet) → IsCaptureOf capture.now packets → IsRunOf (names_of files.now) verilog.now built.text.items program ifindex capture.now.magic packets writes.items) }
+    ensures { IfOk result (λ writes. (program : XdpProgram) → IsRealized built program → (packets : List Packet) → IsCaptureOf capture.now packets → IsRunOf (names_of files.now) verilog.now built.text.items program first.now ifindex capture.now.magic packets writes.items) }
 {
-    let ran = run_pipeline(alloc, &built, &capture.packets, ifindex)?;
+    let ran = run_pipeline(alloc, &built, first, &capture.packets, ifindex)?;
     let finals = write_maps_text(alloc, &ran.maps)?;
     let mut writes = Vec::new(alloc);
     push_file(&mut writes, verilog, built.text)?;
@@ -50,7 +54,8 @@ fn run_writes<'a>(
     Ok(writes)
 }
 
-/// Compiles an object to a Verilog text, simulates this text over a capture, and writes what its ports gave.
+/// Compiles an object to a Verilog text, simulates this text over a capture, from the maps of a text if one is named, and writes what
+/// its ports gave and the maps in the end.
 pub(crate) fn run_files<S: Shelf>(
     alloc: Global,
     shelf: &mut S,
@@ -64,8 +69,9 @@ pub(crate) fn run_files<S: Shelf>(
     ensures { EndsIn (AskRun (names_of files.now) verilog.now (chosen_of choice.entry) ifindex) (state_of S.Shelf shelf.old) (state_of S.Shelf shelf.new) result }
 {
     let built = read_input(alloc, shelf, files.object, &ProgramForm { choice })?;
+    let first = read_maps(alloc, shelf, files.maps, &built.decls)?;
     let capture = read_input(alloc, shelf, files.capture, &CaptureForm)?;
-    let writes = run_writes(alloc, files, verilog, built, &capture, ifindex)?;
+    let writes = run_writes(alloc, files, verilog, built, &first, &capture, ifindex)?;
     write_all(shelf, &writes)?;
     Ok(())
 }

@@ -102,10 +102,8 @@ pub(crate) fn sim_files<S: Shelf>(
 {
     let program = read_input(alloc, shelf, files.object, &ObjectForm { choice })?;
     let design = read_input(alloc, shelf, verilog, &TextForm)?;
-    let maps = read_maps(alloc, shelf, files.maps, &program)?;
+    let maps = read_maps(alloc, shelf, files.maps, program.decls())?;
     let capture = read_input(alloc, shelf, files.capture, &CaptureForm)?;
-    // A program has few maps.
-    let _decls = program.decls();
     let simulated = simulate(alloc, files, design, &maps, &capture, ifindex, clocks)?;
     let Simulated { writes, end } = simulated;
     write_all(shelf, &writes)?;

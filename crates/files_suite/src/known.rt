@@ -3,6 +3,7 @@
 use crate::escapes::push_meant;
 use anyhow::{Context, Result, bail, ensure};
 use elf_view::object_of;
+use flow_demo::make;
 use shelf_core::{MemShelf, Shelf};
 use std::alloc::Global;
 
@@ -62,6 +63,12 @@ impl Known {
                 changed(alloc, self.get(name)?, place.parse()?, &change)
             }
             ["object", name] => object_bytes(alloc, self.get(name)?),
+            ["demo-object", seed, packets] => {
+                Ok(make(alloc, seed.parse()?, packets.parse()?)?.object)
+            }
+            ["demo-capture", seed, packets] => {
+                Ok(make(alloc, seed.parse()?, packets.parse()?)?.capture)
+            }
             _ => bail!("no such form of bytes"),
         }
     }

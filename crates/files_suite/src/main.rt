@@ -21,6 +21,7 @@
 //! | `over PLACE DIGITS BYTES` | these with others in place of those from PLACE on |
 //! | `held NAME` | what NAME holds on the shelf |
 //! | `object BYTES` | an object with this code, and `prog` as the name of its function |
+//! | `demo-object SEED N`, `demo-capture SEED N` | the object and the capture that `flow_demo` makes |
 //!
 //! | Lines that prepare a case | |
 //! |---|---|
@@ -41,6 +42,7 @@
 //! | `reads`, `writes`, `taken` | how many reads, how many begins and appends; what the sink has taken |
 //! | `show NAME` | what the shelf holds there, or `absent` |
 //! | `show NAME length`, `show NAME is BYTES`, `show NAME starts BYTES`, `show NAME count BYTES` | how many bytes that has; whether it is these, or begins with these; how often these stand in it |
+//! | `tally NAME NAME` | of verdict lines and of final maps that the shelf holds: what a demo says of them, up to its entries |
 //! | `words WORD..` | how many words there are, and each |
 //! | `ask WORD..` | what `read_words` says of them |
 //! | `verdict INDEX VERDICT TARGET LENGTH` | the line of `verdict_line` |
@@ -66,6 +68,7 @@ mod known;
 mod said;
 mod shelves;
 mod suite;
+mod tallies;
 mod words;
 
 use crate::suite::Suite;

@@ -12,7 +12,7 @@ use Rattle.xdp_machine.proofs.NumberLaws.{widened}
 use Rattle.cell_core.specs.declared.operator.Operator.TheVariants.{Wire, NonZero}
 use Rattle.cell_core.specs.Cells.{CellView, cell_at, bit, on, number, bits_from, is_read, is_heavy}
 use Rattle.cell_core.specs.Formed.{IsSome, takes, AreInputs, IsInRange}
-use Rattle.operator_cells.specs.Making.{Adds, Makes, operated}
+use Rattle.operator_cells.specs.Making.{Adds, IsAlone, Makes, operated}
 use Rattle.operator_cells.specs.Dividing.{some, divided, divider, code_of}
 use Rattle.operator_cells.proofs.Growing.{added_makes, makes_after, grown, old-cell, new-cell}
 use Rattle.operator_cells.proofs.Numbers.{from_zero, low_same, low_below}
@@ -54,6 +54,10 @@ divider_inputs : (r : Bool) (ins : List ℕ) → AreInputs (divider r) ins
 divider_inputs true ins = tt
 divider_inputs false ins = tt
 
+divider_alone : (r : Bool) (ins : List ℕ) → IsAlone (divider r) ins
+divider_alone true ins = tt
+divider_alone false ins = tt
+
 divider_range : (r : Bool) → IsInRange (divider r)
 divider_range true = tt
 divider_range false = tt
@@ -74,10 +78,10 @@ pub divides_some : (s0 s1 s2 s3 : List CellView) (r : Bool) (a b own d c w : ℕ
     → Makes s0 s3 c (λ packet v. low w (divided r (low 64 (v a)) (some (low w (v b)))))
 divides_some s0 s1 s2 s3 r a b own d c w ha hb least most first second third =
     let m1 : Makes s0 s1 own (operated Wire (b ∷ []) 0 w) = added_makes s0 s1 own (own_cell b w) first
-    (record { earlier = one-in (length s0) b hb; enough = omega arith; inputs = tt; in_range = tt; width = most; from = omega arith; divisor = λ f t. absurd (cc); later = λ t. absurd (cc) }) refl in
+    (record { earlier = one-in (length s0) b hb; enough = omega arith; inputs = tt; alone = tt; in_range = tt; width = most; from = omega arith; divisor = λ f t. absurd (cc); later = λ t. absurd (cc) }) refl in
     let a1 : a < length s1 = omega (arith, ha, m1.grows.longer) in
     let m2 : Makes s1 s2 d (operated NonZero (own ∷ a ∷ []) 0 w) = added_makes s1 s2 d (divisor_cell own a w) second
-    (record { earlier = two-in (length s1) own a m1.there a1; enough = omega arith; inputs = tt; in_range = tt; width = most; from = omega arith; divisor = λ f t. absurd (cc); later = λ t. absurd (cc) }) refl in
+    (record { earlier = two-in (length s1) own a m1.there a1; enough = omega arith; inputs = tt; alone = tt; in_range = tt; width = most; from = omega arith; divisor = λ f t. absurd (cc); later = λ t. absurd (cc) }) refl in
     let a2 : a < length s2 = omega (arith, a1, m2.grows.longer) in
     let is_divisor : cell_at s2 d ≡ divisor_cell own a w = ap (cell_at s2) second.at ∙ ap (λ (cs : List CellView). cell_at cs (length s1)) second.is ∙ new-cell s1 (divisor_cell own a w) in
     let is_own : cell_at s2 own ≡ own_cell b w = ap (λ (cs : List CellView). cell_at cs own) second.is ∙ old-cell s1 (divisor_cell own a w) own m1.there
@@ -90,7 +94,7 @@ divides_some s0 s1 s2 s3 r a b own d c w ha hb least most first second third =
           (subst (λ (x : CellView). x.width ≤ w) (sym is_own) (omega arith));
     } in
     let m3 : Makes s2 s3 c (operated (divider r) (a ∷ d ∷ []) 0 w) = added_makes s2 s3 c (quotient_cell r a d w) third
-    (record { earlier = two-in (length s2) a d a2 m2.there; enough = divider_two r; inputs = divider_inputs r (a ∷ d ∷ []); in_range = divider_range r; width = most; from = omega arith; divisor = λ f t. (m2.there, is_some); later = λ t. subst (λ (x : CellView). Contains x.ins a) (sym is_divisor) (at_second own a) }) (divider_plain r) in
+    (record { earlier = two-in (length s2) a d a2 m2.there; enough = divider_two r; inputs = divider_inputs r (a ∷ d ∷ []); alone = divider_alone r (a ∷ d ∷ []); in_range = divider_range r; width = most; from = omega arith; divisor = λ f t. (m2.there, is_some); later = λ t. subst (λ (x : CellView). Contains x.ins a) (sym is_divisor) (at_second own a) }) (divider_plain r) in
     makes_after s0 s2 s3 c _ _ (grown s0 s1 s2 m1.grows m2.grows) m3
     (λ packet v run.
     let own_is : v own ≡ low w (v b) = m1.value packet v (m2.grows.run packet v run) ∙ from_zero (v b) w in

@@ -11,7 +11,7 @@ use Rattle.cell_core.specs.declared.operator.Operator.{Operator}
 use Rattle.cell_core.specs.Cells.{CellView, IsRun, no_cell, cell_at, is_read, site_in, value, Solves_as}
 use Rattle.cell_core.specs.Formed.{AreFormed, IsFormed, IsSome, takes, divides, AreInputs, IsInRange}
 use Rattle.cell_core.specs.View.{cell_of}
-use Rattle.operator_cells.specs.Making.{seen, Adds, GrowsWith, Grows, Makes, operated}
+use Rattle.operator_cells.specs.Making.{seen, Adds, IsAlone, NumbersAreAlone, GrowsWith, Grows, Makes, operated}
 use Rattle.operator_cells.proofs.MakingLaws as law
 
 pub old-cell : (cells : List CellView) (cell : CellView) (k : ℕ) → k < length cells → cell_at (cells ++ cell ∷ []) k ≡ cell_at cells k
@@ -28,6 +28,7 @@ pub record IsNext (cells : List CellView) (cell : CellView) : Type 0 where
   pub earlier : All (λ i. i < length cells) cell.ins
   pub enough : takes cell.op ≤ length cell.ins
   pub inputs : AreInputs cell.op cell.ins
+  pub alone : IsAlone cell.op cell.ins
   pub in_range : IsInRange cell.op
   pub width : cell.width ≤ 64
   pub from : cell.from ≤ 63
@@ -91,6 +92,7 @@ grows_one R cells cell n reads = record {
   longer = omega (arith, one-longer cells cell);
   kept = old-cell cells cell;
   formed = λ formed. record { each = λ k h. by formed k (cases_lt k (length cells)) h };
+  alone = λ alone k h. still alone k (cases_lt k (length cells)) h;
   run = λ packet v r. record { each = λ k h. subst (λ (c : CellView). Solves_as (is_read c.op) packet v c (v k)) (old-cell cells cell k h) (r.each k (omega (arith, one-longer cells cell, h))) };
   reads = λ k j low high is. let at : length cells ≡ k = omega (arith, low, high, one-longer cells cell) in
       subst (λ (i : ℕ). R i j) at (reads j (sym (ap (λ (c : CellView). site_in c.op) (new-cell cells cell)) ∙ ap (λ (i : ℕ). site_in (cell_at (cells ++ cell ∷ []) i).op) at ∙ is));
@@ -101,6 +103,14 @@ grows_one R cells cell n reads = record {
     by formed k (inr l) h =
         let is : length cells ≡ k = omega (arith, l, h, one-longer cells cell) in
         subst (λ (j : ℕ). IsFormed (cells ++ cell ∷ []) j) is (formed-new cells cell formed n)
+
+    still : NumbersAreAlone cells → (k : ℕ) → (k < length cells) ⊎ (length cells ≤ k) → k < length (cells ++ cell ∷ [])
+        → IsAlone (cell_at (cells ++ cell ∷ []) k).op (cell_at (cells ++ cell ∷ []) k).ins
+    still alone k (inl l) h = subst (λ (c : CellView). IsAlone c.op c.ins) (sym (old-cell cells cell k l)) (alone k l)
+    still alone k (inr l) h =
+        let is : length cells ≡ k = omega (arith, l, h, one-longer cells cell) in
+        subst (λ (j : ℕ). IsAlone (cell_at (cells ++ cell ∷ []) j).op (cell_at (cells ++ cell ∷ []) j).ins) is
+        (subst (λ (c : CellView). IsAlone c.op c.ins) (sym (new-cell cells cell)) n.alone)
 
 pub makes_one : (cells : List CellView) (cell : CellView) → IsNext cells cell → is_read cell.op ≡ false
     → Makes cells (cells ++ cell ∷ []) (length cells) (operated cell.op cell.ins cell.from cell.width)

@@ -15,6 +15,7 @@ grown_with R a b c g h = record {
   longer = omega (arith, g.longer, h.longer);
   kept = λ k l. h.kept k (omega (arith, l, g.longer)) ∙ g.kept k l;
   formed = λ f. h.formed (g.formed f);
+  alone = λ n. h.alone (g.alone n);
   run = λ packet v r. g.run packet v (h.run packet v r);
   reads = λ k j low high is. by k j low high is (cases_lt k (length b));
 }
@@ -27,11 +28,11 @@ pub grown : {a b c : List CellView} → Grows a b → Grows b c → Grows a c
 grown {a} {b} {c} g h = grown_with (λ k j. ⊥) a b c g h
 
 pub grown_none : {a : List CellView} → Grows a a
-grown_none = record { longer = omega arith; kept = λ k l. refl; formed = λ f. f; run = λ packet v r. r; reads = λ k j low high is. absurd (omega (arith, low, high)) }
+grown_none = record { longer = omega arith; kept = λ k l. refl; formed = λ f. f; alone = λ n. n; run = λ packet v r. r; reads = λ k j low high is. absurd (omega (arith, low, high)) }
 
 -- what may be read may be said more weakly
 pub reads_within : (R S : ℕ → ℕ → Type 0) (a b : List CellView) → ((k j : ℕ) → length a ≤ k → R k j → S k j) → GrowsWith R a b → GrowsWith S a b
-reads_within R S a b f g = record { longer = g.longer; kept = g.kept; formed = g.formed; run = g.run; reads = λ k j low high is. f k j low (g.reads k j low high is) }
+reads_within R S a b f g = record { longer = g.longer; kept = g.kept; formed = g.formed; alone = g.alone; run = g.run; reads = λ k j low high is. f k j low (g.reads k j low high is) }
 
 -- where nothing is read nothing is said of it
 pub reads_none : (S : ℕ → ℕ → Type 0) (a b : List CellView) → Grows a b → GrowsWith S a b

@@ -13,7 +13,7 @@ use Rattle.xdp_machine.proofs.NumberLaws.{widened}
 use Rattle.cell_core.specs.declared.operator.Operator.TheVariants as op
 use Rattle.cell_core.specs.Cells.{number, bits_from, is_read}
 use Rattle.cell_core.specs.Formed.{takes, divides, AreInputs, IsInRange}
-use Rattle.operator_cells.specs.Making.{operator_of, is_one}
+use Rattle.operator_cells.specs.Making.{operator_of, is_one, IsAlone}
 
 pub from_zero : (n w : ℕ) → bits_from n 0 w ≡ low w n
 from_zero n w = ap (λ (k : ℕ). k % 2 ^ w) (div-one n)
@@ -101,6 +101,14 @@ operator_inputs alu.Mul ins = tt
 operator_inputs alu.Or ins = tt
 operator_inputs alu.Xor ins = tt
 operator_inputs c ins = tt
+
+pub operator_alone : (c : AluCode) (ins : List ℕ) → IsAlone (operator_of c) ins
+operator_alone alu.Add ins = tt
+operator_alone alu.Sub ins = tt
+operator_alone alu.Mul ins = tt
+operator_alone alu.Or ins = tt
+operator_alone alu.Xor ins = tt
+operator_alone c ins = tt
 
 pub operator_in_range : (c : AluCode) → IsInRange (operator_of c)
 operator_in_range alu.Add = tt

@@ -1,5 +1,5 @@
 -- What code does that adds cells to a list.
-use Rattle.std.specs.Prelude.{ℕ, ◌≡◌, Bool, true, false, Some, ◌<◌, ◌≤◌, List, [], ◌∷◌, ◌++◌, length, map as map_list}
+use Rattle.std.specs.Prelude.{ℕ, ◌≡◌, ◌⊎◌, Bool, true, false, Some, ◌<◌, ◌≤◌, List, [], ◌∷◌, ◌++◌, length, map as map_list}
 use Rattle.bpf_isa.specs.declared.operation.AluCode.{AluCode}
 use Rattle.bpf_isa.specs.declared.operation.AluCode.TheVariants as alu
 use Rattle.xdp_machine.specs.State.{PacketIn}
@@ -19,12 +19,22 @@ pub record Adds (old new : List CellView) (c : ℕ) (cell : CellView) : Type 0 w
   pub is : new ≡ old ++ cell ∷ []
   pub at : c ≡ length old
 
--- More cells: those that were there stay, and keep to what cells keep to; values of all are values of those; of the new ones that read sites
--- this holds, by their number and the site's.
+-- a number that is not 0 takes no cells, not even for its row
+abbrev pub IsAlone : Operator → List ℕ → Type 0
+IsAlone (op.Constant n) ins = (n ≡ 0) ⊎ (ins ≡ [])
+IsAlone op ins = Unit {0}
+
+-- so are all numbers among cells
+abbrev pub NumbersAreAlone : List CellView → Type 0
+NumbersAreAlone cells = (k : ℕ) → k < length cells → IsAlone (cell_at cells k).op (cell_at cells k).ins
+
+-- More cells: those that were there stay, and keep to what cells keep to, and numbers to taking no cells; values of all are values of those; of the new
+-- ones that read sites this holds, by their number and the site's.
 pub record GrowsWith (MayRead : ℕ → ℕ → Type 0) (old new : List CellView) : Type 0 where
   pub longer : length old ≤ length new
   pub kept : (k : ℕ) → k < length old → cell_at new k ≡ cell_at old k
   pub formed : AreFormed old → AreFormed new
+  pub alone : NumbersAreAlone old → NumbersAreAlone new
   pub run : (packet : PacketIn) (v : ℕ → ℕ) → IsRun packet new v → IsRun packet old v
   pub reads : (k j : ℕ) → length old ≤ k → k < length new → site_in (cell_at new k).op ≡ Some j → MayRead k j
 

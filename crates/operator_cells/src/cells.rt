@@ -4,7 +4,7 @@ ghost use Rattle.std.specs.Prelude.{ℕ, ◌≡◌, ◌<◌, ◌≤◌, false, [
 ghost use Rattle.cell_core.specs.Cells.{is_read, bit, is_heavy};
 ghost use Rattle.cell_core.specs.Formed.{takes, divides, AreInputs, IsInRange, IsSome};
 ghost use Rattle.xdp_machine.specs.Arithmetic.{low};
-ghost use Rattle.operator_cells.specs.Making.{seen, Adds, Makes, GrowsWith, Grows, operated};
+ghost use Rattle.operator_cells.specs.Making.{seen, IsAlone, Adds, Makes, GrowsWith, Grows, operated};
 ghost use Rattle.operator_cells.specs.Dividing.{some, divided, divider};
 ghost use Rattle.cell_core.specs.Rows.{greatest};
 ghost use Rattle.operator_cells.specs.Rising.{Rises};
@@ -48,6 +48,7 @@ pub fn operate(
     requires earlier { All (λ i. i < length (seen cells.old.items)) ins.now }
     requires enough { takes op ≤ length ins.now }
     requires inputs { AreInputs op ins.now }
+    requires alone { IsAlone op ins.now }
     requires in_range { IsInRange op }
     requires plain { is_read op ≡ false }
     requires undivided { divides op ≡ false }

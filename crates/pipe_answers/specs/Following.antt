@@ -1,15 +1,15 @@
 -- A design that follows the machine where clocks are right does so in every clock.
-use Rattle.std.specs.Prelude.{◌≡◌, ◌≤◌, false, None, List, [], ◌∷◌, ◌++◌, length}
+use Rattle.std.specs.Prelude.{◌≡◌, ◌≤◌, false, None, List, [], ◌∷◌, ◌++◌, length, map as map_list}
 use Rattle.std.specs.List.{AllByRecursion}
 use Rattle.xdp_maps.specs.State.{MapState, IsSound, opened_state}
 use Rattle.net_core.specs.declared.ports.Inputs.{Inputs}
 use Rattle.net_core.specs.Nets.{Netlist}
 use Rattle.net_core.specs.Ports.{words_of}
 use Rattle.net_core.specs.Clock.{Stored, after, shown, stopping}
-use Rattle.net_core.specs.History.{NeverStops, stored_after}
+use Rattle.net_core.specs.History.{IsInput, NeverStops, stored_after}
 use Rattle.host_history.specs.Host.{load}
 use Rattle.pipe_core.specs.Machine.{Build, output}
-use Rattle.pipe_core.specs.History.{Trace, next, begin}
+use Rattle.pipe_core.specs.History.{Trace, next, run, begin}
 use Rattle.pipe_core.specs.Pipeable.{IsSuited}
 use Rattle.host_runs.specs.Inputs.{input_of}
 use Rattle.pipe_net.specs.Machine.{MayCome, Shows}
@@ -17,14 +17,13 @@ use Rattle.pipe_net.specs.Layout.{Layout}
 use Rattle.pipe_answers.specs.Going.{IsRightClock}
 use Rattle.pipe_answers.specs.Coming.{AllMayCome}
 
--- The design shows clock after clock what the machine does, while only what may come does and what commits is right,
+-- The design shows clock after clock what the machine does, while only what may come does and what commits is right; where something else comes, too, but then nothing is said of what
+-- follows,
 abbrev pub FollowsRight : Layout → Netlist → List Inputs → Trace → Stored → Type 0
 FollowsRight l d [] t st = Unit {0}
 FollowsRight l d (i ∷ is) t st =
-    MayCome l.build t.state i → IsRightClock l i t.state
-    → (stopping d (words_of i) st ≡ None)
-    × Shows (output l.build (input_of i) t.state) (shown d (words_of i) st)
-    × FollowsRight l d is (next l.build (input_of i) t) (after d (words_of i) st)
+    (IsInput i → IsRightClock l i t.state → Shows (output l.build (input_of i) t.state) (shown d (words_of i) st))
+    × (MayCome l.build t.state i → IsRightClock l i t.state → (stopping d (words_of i) st ≡ None) × FollowsRight l d is (next l.build (input_of i) t) (after d (words_of i) st))
 
 -- or in each of these clocks.
 abbrev pub FollowsAlways : Build → Netlist → List Inputs → Trace → Stored → Type 0
@@ -46,3 +45,11 @@ DesignsFollow =
     (l : Layout) → IsSuited l.decls l.build → (maps : MapState) → maps.decls ≡ l.decls → IsSound maps → length maps.decls ≤ 16
     → (is : List Inputs) → AllByRecursion (λ i. i.host_write ≡ false) is → AllMayCome l.build is (begin l.build maps)
     → (d : Netlist) (st : Stored) → FollowsRight l d (load maps ++ is) (begin l.build (opened_state maps.decls)) st → FollowsLoaded l d maps is st
+
+-- And in a clock behind these it shows what the machine does, whatever beat is offered there.
+abbrev pub DesignsShow : Type 0
+DesignsShow =
+    (l : Layout) → IsSuited l.decls l.build → (maps : MapState) → maps.decls ≡ l.decls → IsSound maps → length maps.decls ≤ 16
+    → (is : List Inputs) (i : Inputs) → AllByRecursion (λ i. i.host_write ≡ false) is → AllMayCome l.build is (begin l.build maps) → IsInput i → i.host_write ≡ false
+    → (d : Netlist) (st : Stored) → FollowsRight l d (load maps ++ (is ++ i ∷ [])) (begin l.build (opened_state maps.decls)) st
+    → Shows (output l.build (input_of i) (run l.build (map_list input_of is) (begin l.build maps)).state) (shown d (words_of i) (stored_after d (stored_after d st (load maps)) is))

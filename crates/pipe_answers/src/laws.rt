@@ -3,7 +3,7 @@
 ghost use Rattle.pipe_answers.specs.Going.{RightTurns, GoOn, BeginGoing, RunsAreRight};
 ghost use Rattle.pipe_answers.specs.Loading.{EmptyRunsAreRight, LoadedRunsAreRight};
 ghost use Rattle.pipe_answers.specs.Coming.{HostMayCome, LoadsMayCome, OpenedAreSound};
-ghost use Rattle.pipe_answers.specs.Following.{DesignsFollow};
+ghost use Rattle.pipe_answers.specs.Following.{DesignsFollow, DesignsShow};
 ghost use Rattle.pipe_answers.specs.Runs.{ReadsRunInTurn, LoadsRunInTurn};
 ghost use Rattle.pipe_answers.specs.Dumps.{RunsGoOn, DumpsAreShown};
 
@@ -45,9 +45,11 @@ pub fn loads_may_come()
 }
 
 /// So a design that shows what the machine does wherever only what may come does and what commits is right shows it in every clock of a load, and of a run behind it
-/// in which the host only reads: there what the machine over the loaded maps does. No divisor is 0 in any of these clocks.
+/// in which the host only reads: there what the machine over the loaded maps does. No divisor is 0 in any of these clocks. In the clock behind them it shows what the
+/// machine does, too, whatever beat is offered there.
 pub fn designs_follow()
-    ensures { DesignsFollow }
+    ensures runs { DesignsFollow }
+    ensures next { DesignsShow }
 {
     loads_are_right();
     loads_may_come();

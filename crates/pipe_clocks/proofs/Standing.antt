@@ -5,28 +5,32 @@ use Rattle.std.proofs.lemmas.Bool.{cases_lt}
 use Rattle.std.proofs.lemmas.List.{get_or_past}
 use Rattle.xdp_maps.specs.Contents.{IsBytes}
 use Rattle.net_core.specs.declared.ports.Inputs.{Inputs}
-use Rattle.net_core.specs.Clock.{Stored}
+use Rattle.net_core.specs.Ports.{words_of}
+use Rattle.net_core.specs.Clock.{Stored, shown}
+use Rattle.net_core.specs.History.{IsInput}
 use Rattle.block_core.specs.Blocks.{Whole}
 use Rattle.block_core.specs.Parts.{stored_of}
 use Rattle.cell_core.specs.Formed.{AllFit}
 use Rattle.hazard_core.specs.Tables.{decl_of, table_at, slot_at}
-use Rattle.pipe_core.specs.Machine.{State, swept, host_ready, is_calm, host_writes}
+use Rattle.pipe_core.specs.Machine.{State, output, swept, host_ready, is_calm, host_writes}
 use Rattle.pipe_core.specs.History.{Trace, next, begin, KeepsOrder, IsAlwaysInOrder}
 use Rattle.pipe_core.specs.Computed.{KeepsComputed, IsAlwaysComputed}
 use Rattle.pipe_net.specs.declared.parts.Part.{Part}
-use Rattle.pipe_net.specs.Machine.{input_of, MayCome}
+use Rattle.pipe_net.specs.Machine.{input_of, MayCome, Shows}
 use Rattle.pipe_net.specs.Layout.{Layout, program_of, last_of, commit_of}
 use Rattle.pipe_net.specs.Relation.{most_slots}
 use Rattle.pipe_places.specs.Layout.{IsLaidOut}
 use Rattle.pipe_places.specs.Following.{AreServed}
-use Rattle.pipe_places.specs.Entries.{AreInto, EntriesFollow, EntriesBegin, EntriesServe}
+use Rattle.pipe_places.specs.Entries.{AccessesLead, EntriesFollow, EntriesBegin, EntriesServe}
 use Rattle.pipe_turns.specs.Turning.{IsRightTurn}
+use Rattle.pipe_forms.specs.Parts.{design}
 use Rattle.pipe_maps.specs.Keys.{KeysFollow, KeysBegin}
-use Rattle.pipe_clocks.specs.Following.{IsPipeline, IsFollowable, ClocksFollow, BeginRelated}
+use Rattle.pipe_clocks.specs.Following.{IsPipeline, IsFollowable, ClocksShow, ClocksFollow, BeginRelated}
 use Rattle.pipe_clocks.specs.Standing.{Stands, IsRightClock, GoesOn, ClocksGoOn, PipelinesStart, FollowsAll, PipelinesFollow}
 use Rattle.pipe_clocks.proofs.Turns.{kept_was, commits_at}
 
 pub record StandingLaws : Type 0 where
+  pub show : ClocksShow
   pub follow : ClocksFollow
   pub begins : BeginRelated
   pub order : KeepsOrder
@@ -39,11 +43,11 @@ pub record StandingLaws : Type 0 where
   pub first_entries : EntriesBegin
   pub serve : EntriesServe
 
-module _ (laws : StandingLaws) (l : Layout) (d : Whole Part) (names : List (List ℕ)) (into : ℕ → ℕ) (pipe : IsPipeline l d) (are : AreInto (program_of l) l.flags into) where
+module _ (laws : StandingLaws) (l : Layout) (d : Whole Part) (names : List (List ℕ)) (pipe : IsPipeline l d) (leads : AccessesLead l.build) where
   abbrev laid : IsLaidOut l
   laid = pipe.parts.stages.laid
 
-  module _ (i : Inputs) (t : Trace) (ss : Part → Stored) (right : IsRightClock l i t.state) (h : Stands l d into t ss) where
+  module _ (i : Inputs) (t : Trace) (ss : Part → Stored) (right : IsRightClock l i t.state) (h : Stands l d t ss) where
     abbrev s : State
     s = t.state
 
@@ -68,7 +72,7 @@ module _ (laws : StandingLaws) (l : Layout) (d : Whole Part) (names : List (List
     served : AreServed l s
     served = record {
       short = short;
-      each = λ k x le e. record { tables = right.tables k x le e; values = bytes_in; entries = laws.serve l into laid are s ss h.related.packets h.related.maps h.inside k x le e };
+      each = λ k x le e. record { tables = right.tables k x le e; values = bytes_in; entries = laws.serve l leads t ss h.computed h.related.packets h.pointers k x le e };
     }
 
     -- ---- what commits
@@ -89,7 +93,10 @@ module _ (laws : StandingLaws) (l : Layout) (d : Whole Part) (names : List (List
     fits : AllFit s.tables.decls (program_of l).sites
     fits = subst (λ ds. AllFit ds (program_of l).sites) (sym decls) laid.staged.fits
 
-    pub goes_on : MayCome l.build s i → GoesOn l d names into i t ss
+    pub shows : IsInput i → Shows (output l.build (input_of i) s) (shown (design l d names) (words_of i) (stored_of d ss))
+    shows within = laws.show l d names pipe i t ss h.order h.computed within followable h.related
+
+    pub goes_on : MayCome l.build s i → GoesOn l d names i t ss
     unfolding next
     goes_on come =
         let f = laws.follow l d names pipe i t ss h.order h.computed come followable h.related in
@@ -100,25 +107,25 @@ module _ (laws : StandingLaws) (l : Layout) (d : Whole Part) (names : List (List
             computed = laws.computes l.build laid.planned (input_of i) t h.order h.computed;
             related = f.related;
             keys = laws.keys l.build (input_of i) s fits right.commits h.keys;
-            inside = laws.entries l into laid are i t ss h.order h.related.packets h.related.maps short h.inside;
+            pointers = laws.entries l laid i t ss h.order h.related.packets h.pointers;
           };
         }
 
   -- ---- clock after clock
-  pub all_clocks : (is : List Inputs) (t : Trace) (ss : Part → Stored) → Stands l d into t ss → FollowsAll l d names is t (stored_of d ss)
+  pub all_clocks : (is : List Inputs) (t : Trace) (ss : Part → Stored) → Stands l d t ss → FollowsAll l d names is t (stored_of d ss)
   all_clocks [] t ss h = tt
-  all_clocks (i ∷ is) t ss h = λ come right.
-      let g = goes_on i t ss right h come in (
-        g.follows.goes,
-        g.follows.shown,
-        subst (FollowsAll l d names is (next l.build (input_of i) t)) (sym g.follows.after) (all_clocks is (next l.build (input_of i) t) g.follows.next g.stands),
-      )
+  all_clocks (i ∷ is) t ss h = (
+    λ within right. shows i t ss right h within,
+    λ come right.
+        let g = goes_on i t ss right h come in
+        (g.follows.goes, subst (FollowsAll l d names is (next l.build (input_of i) t)) (sym g.follows.after) (all_clocks is (next l.build (input_of i) t) g.follows.next g.stands)),
+  )
 
 pub clocks_go_on : StandingLaws → ClocksGoOn
-clocks_go_on laws l d names into pipe are i t ss come right h = goes_on laws l d names into pipe are i t ss right h come
+clocks_go_on laws l d names pipe leads i t ss come right h = goes_on laws l d names pipe leads i t ss right h come
 
 pub pipelines_start : StandingLaws → PipelinesStart
-pipelines_start laws l d names into maps pipe first =
+pipelines_start laws l d names maps pipe first =
     let b = laws.begins l d names maps pipe first.decls first.first in
     record {
       first = b.first;
@@ -128,11 +135,11 @@ pipelines_start laws l d names into maps pipe first =
         computed = laws.computed l.build pipe.parts.stages.laid.planned maps [];
         related = b.related;
         keys = laws.first_keys maps first.sound;
-        inside = laws.first_entries l into maps;
+        pointers = laws.first_entries l maps;
       };
     }
 
 pub pipelines_follow : StandingLaws → PipelinesFollow
-pipelines_follow laws l d names into maps pipe are first is =
-    let b = pipelines_start laws l d names into maps pipe first in
-    subst (FollowsAll l d names is (begin l.build maps)) (sym b.stored) (all_clocks laws l d names into pipe are is (begin l.build maps) b.first b.stands)
+pipelines_follow laws l d names maps pipe leads first is =
+    let b = pipelines_start laws l d names maps pipe first in
+    subst (FollowsAll l d names is (begin l.build maps)) (sym b.stored) (all_clocks laws l d names pipe leads is (begin l.build maps) b.first b.stands)

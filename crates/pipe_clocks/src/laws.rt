@@ -28,7 +28,7 @@ pub fn clocks_follow()
 }
 
 /// Behind a clock of a pipeline, in which only what may come does and what commits is right, what such a clock rests on stands again; so it does before the
-/// first clock. So over every list of clocks a pipeline shows what the machine of the pipe does, and no divisor in it is 0.
+/// first clock. So over every list of clocks a pipeline shows what the machine of the pipe does, and no divisor in it is 0; in a last one, too, in which something else comes.
 pub fn clocks_go_on()
     ensures clock { ClocksGoOn }
     ensures first { PipelinesStart }

@@ -18,14 +18,17 @@ use Rattle.pipe_maps.specs.Tables.{OpenedAreFirst}
 use Rattle.pipe_forms.specs.Parts.{design}
 use Rattle.pipe_clocks.specs.Standing.{AreFirst, FollowsAll, PipelinesFollow}
 use Rattle.pipe_answers.specs.Coming.{OpenedAreSound}
-use Rattle.pipe_answers.specs.Following.{FollowsRight, DesignsFollow}
-use Rattle.pipe_loads.specs.Loaded.{PipelinesFollowLoaded}
+use Rattle.pipe_answers.specs.Following.{FollowsRight, DesignsFollow, DesignsShow}
+use Rattle.pipe_loads.specs.Loaded.{PipelinesFollowLoaded, PipelinesShowLoaded}
 
 rightly : (l : Layout) (d : Whole Part) (names : List (List ℕ)) (is : List Inputs) (t : Trace) (st : Stored) → FollowsAll l d names is t st → FollowsRight l (design l d names) is t st
 rightly l d names [] t st h = tt
-rightly l d names (i ∷ is) t st h = λ come right.
-    let now = h come (record { tables = right.tables; commits = right.turn.commits }) in
-    (now.0, now.1, rightly l d names is (next l.build (input_of i) t) (after (design l d names) (words_of i) st) now.2)
+rightly l d names (i ∷ is) t st h = (
+  λ within right. h.0 within (record { tables = right.tables; commits = right.turn.commits }),
+  λ come right.
+      let now = h.1 come (record { tables = right.tables; commits = right.turn.commits }) in
+      (now.0, rightly l d names is (next l.build (input_of i) t) (after (design l d names) (words_of i) st) now.1),
+)
 
 first_maps : OpenedAreFirst → OpenedAreSound → (l : Layout) (maps : MapState) → maps.decls ≡ l.decls → IsSound maps → AreFirst l (opened_state maps.decls)
 first_maps first opened l maps are sound = record {
@@ -35,6 +38,11 @@ first_maps first opened l maps are sound = record {
 }
 
 pub loads_follow : PipelinesFollow → OpenedAreFirst → OpenedAreSound → DesignsFollow → PipelinesFollowLoaded
-loads_follow pipelines first opened designs l d names into pipe goes suited maps are sound few is quiet come =
+loads_follow pipelines first opened designs l d names pipe goes suited maps are sound few is quiet come =
     designs l suited maps are sound few is quiet come (design l d names) (first_stored (design l d names))
-    (rightly l d names (load maps ++ is) _ _ (pipelines l d names into (opened_state maps.decls) pipe goes (first_maps first opened l maps are sound) (load maps ++ is)))
+    (rightly l d names (load maps ++ is) _ _ (pipelines l d names (opened_state maps.decls) pipe goes (first_maps first opened l maps are sound) (load maps ++ is)))
+
+pub loads_show : PipelinesFollow → OpenedAreFirst → OpenedAreSound → DesignsShow → PipelinesShowLoaded
+loads_show pipelines first opened designs l d names pipe leads suited maps are sound few is i quiet come within none =
+    designs l suited maps are sound few is i quiet come within none (design l d names) (first_stored (design l d names))
+    (rightly l d names (load maps ++ (is ++ i ∷ [])) _ _ (pipelines l d names (opened_state maps.decls) pipe leads (first_maps first opened l maps are sound) (load maps ++ (is ++ i ∷ []))))

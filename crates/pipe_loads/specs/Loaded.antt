@@ -1,15 +1,20 @@
 -- Designs of pipelines follow the machine through a load and behind it.
-use Rattle.std.specs.Prelude.{◌≡◌, ℕ, ◌≤◌, false, List, length}
+use Rattle.std.specs.Prelude.{◌≡◌, ℕ, ◌≤◌, false, List, length, map as map_list}
 use Rattle.std.specs.List.{AllByRecursion}
 use Rattle.xdp_maps.specs.State.{MapState, IsSound}
 use Rattle.net_core.specs.declared.ports.Inputs.{Inputs}
-use Rattle.net_core.specs.Clock.{first_stored}
+use Rattle.net_core.specs.Ports.{words_of}
+use Rattle.net_core.specs.Clock.{first_stored, shown}
+use Rattle.net_core.specs.History.{IsInput, stored_after}
 use Rattle.block_core.specs.Blocks.{Whole}
-use Rattle.pipe_core.specs.History.{begin}
+use Rattle.host_history.specs.Host.{load}
+use Rattle.pipe_core.specs.Machine.{output}
+use Rattle.pipe_core.specs.History.{run, begin}
 use Rattle.pipe_core.specs.Pipeable.{IsSuited}
 use Rattle.pipe_net.specs.declared.parts.Part.{Part}
-use Rattle.pipe_net.specs.Layout.{Layout, program_of}
-use Rattle.pipe_places.specs.Entries.{AreInto}
+use Rattle.pipe_net.specs.Machine.{input_of, Shows}
+use Rattle.pipe_net.specs.Layout.{Layout}
+use Rattle.pipe_places.specs.Entries.{AccessesLead}
 use Rattle.pipe_forms.specs.Parts.{design}
 use Rattle.pipe_clocks.specs.Following.{IsPipeline}
 use Rattle.pipe_answers.specs.Coming.{AllMayCome}
@@ -18,7 +23,16 @@ use Rattle.pipe_answers.specs.Following.{FollowsLoaded}
 -- From what the design stores before the first clock, whatever maps are loaded, and whatever may come behind that while the host writes nothing.
 abbrev pub PipelinesFollowLoaded : Type 0
 PipelinesFollowLoaded =
-    (l : Layout) (d : Whole Part) (names : List (List ℕ)) (into : ℕ → ℕ) → IsPipeline l d → AreInto (program_of l) l.flags into → IsSuited l.decls l.build
+    (l : Layout) (d : Whole Part) (names : List (List ℕ)) → IsPipeline l d → AccessesLead l.build → IsSuited l.decls l.build
     → (maps : MapState) → maps.decls ≡ l.decls → IsSound maps → length maps.decls ≤ 16
     → (is : List Inputs) → AllByRecursion (λ i. i.host_write ≡ false) is → AllMayCome l.build is (begin l.build maps)
     → FollowsLoaded l (design l d names) maps is (first_stored (design l d names))
+
+-- And in a clock behind these, whatever beat is offered there, the design shows what the machine does.
+abbrev pub PipelinesShowLoaded : Type 0
+PipelinesShowLoaded =
+    (l : Layout) (d : Whole Part) (names : List (List ℕ)) → IsPipeline l d → AccessesLead l.build → IsSuited l.decls l.build
+    → (maps : MapState) → maps.decls ≡ l.decls → IsSound maps → length maps.decls ≤ 16
+    → (is : List Inputs) (i : Inputs) → AllByRecursion (λ i. i.host_write ≡ false) is → AllMayCome l.build is (begin l.build maps) → IsInput i → i.host_write ≡ false
+    → Shows (output l.build (input_of i) (run l.build (map_list input_of is) (begin l.build maps)).state)
+    (shown (design l d names) (words_of i) (stored_after (design l d names) (stored_after (design l d names) (first_stored (design l d names)) (load maps)) is))

@@ -114,3 +114,18 @@ unfolding clock work
 clocked_places b i s =
     let w = worked b s (some_send b 0 s.places) (swept b 0 s.places) (turn_in b i s) in
     scattered_places (gathered w i (beat_over b s i)) (taken_beat s i) ∙ gathered_places w i (beat_over b s i)
+
+-- and its tables
+gathered_tables : (w : State) (i : Input) (over : Option Beat) → (gathered w i over).tables ≡ w.tables
+gathered_tables w i None = refl
+gathered_tables w i (Some x) = by_bool (λ (q : Bool). (gathered w i (Some (record x { last = q }))).tables ≡ w.tables) x.last refl refl
+
+scattered_tables : (g : State) (taken : Option Beat) → (scattered g taken).tables ≡ g.tables
+scattered_tables g None = refl
+scattered_tables g (Some x) = by_bool (λ (q : Bool). (scattered g (Some (record x { last = q }))).tables ≡ g.tables) x.last refl refl
+
+pub clocked_tables : (b : Build) (i : Input) (s : State) → (clock b i s).tables ≡ (worked b s (some_send b 0 s.places) (swept b 0 s.places) (turn_in b i s)).tables
+unfolding clock work
+clocked_tables b i s =
+    let w = worked b s (some_send b 0 s.places) (swept b 0 s.places) (turn_in b i s) in
+    scattered_tables (gathered w i (beat_over b s i)) (taken_beat s i) ∙ gathered_tables w i (beat_over b s i)

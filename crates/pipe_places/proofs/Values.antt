@@ -21,7 +21,7 @@ use Rattle.pipe_core.specs.Machine.{Build}
 use Rattle.pipe_core.specs.Computed.{Computes, IsPlanned}
 
 -- ---- a cell that is no read is made by its operator
-plain_number : (p : ProgramView) (row : ℕ → ℕ) (r : ℕ) (t : TableState) (packet : PacketIn) (h : Held) (c : CellView) (op : Operator) → is_read op ≡ false → cell_number p row r t packet h c op ≡ number packet op (map_list (held_value h) c.ins)
+pub plain_number : (p : ProgramView) (row : ℕ → ℕ) (r : ℕ) (t : TableState) (packet : PacketIn) (h : Held) (c : CellView) (op : Operator) → is_read op ≡ false → cell_number p row r t packet h c op ≡ number packet op (map_list (held_value h) c.ins)
 plain_number p row r t packet h c (Found j) e = cc
 plain_number p row r t packet h c (Answer j) e = cc
 plain_number p row r t packet h c op e = refl

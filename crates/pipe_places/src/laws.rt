@@ -33,13 +33,16 @@ pub fn packets_follow()
     pipe_core::laws::computed();
 }
 
-/// Where each cell's pointers are into one map, no packet ever has a pointer past the slots of its map, whatever its operations found; so its accesses go
-/// through pointers to slots that there are.
+/// Whatever clocks do, what packets found of keys leads into the maps of sites, and copies and joins pass it on. So where accesses go through pointers into their own maps,
+/// those of packets go through pointers to slots that there are.
 pub fn entries_follow()
     ensures clock { EntriesFollow }
     ensures first { EntriesBegin }
     ensures serve { EntriesServe }
 {
+    cell_core::laws::rows_rise();
     held_rows::laws::rows_fit();
     held_rows::laws::row_is_made();
+    table_laws::laws::keep_slots();
+    table_laws::laws::founds_lead();
 }

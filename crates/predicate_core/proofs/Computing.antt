@@ -1,6 +1,7 @@
 -- Cells of all nodes, and of the answer, compute the runs of a program.
 use Rattle.std.proofs.Common.{◌≡◌, ℕ, zero, suc, ◌+◌, ◌≤◌, ◌<◌, ◌==◌, true, false, Some, List, [], length, get_or, refl, sym, ◌∙◌, ap, subst, arith}
 use Rattle.std.specs.Prelude.{All}
+use Rattle.std.specs.List.{AllPairs}
 use Rattle.std.proofs.lemmas.Bool.Decides.{nat_tests}
 use Rattle.std.proofs.lemmas.List.{append-nil}
 use Rattle.std.proofs.lemmas.List.Elements.{All-nil, All-filter, filter_passes}
@@ -15,7 +16,7 @@ use Rattle.cell_core.specs.declared.operator.Operator.{Operator}
 use Rattle.cell_core.specs.declared.operator.Operator.TheVariants.{Found, Answer}
 use Rattle.cell_core.specs.Cells.{CellView, IsRun, cell_at, is_read, site_in, bit, on}
 use Rattle.cell_core.specs.Rows.{last_row}
-use Rattle.cell_core.specs.Sites.{SiteView, ProgramView, IsCellRun, after, leaves, touched, with_bytes}
+use Rattle.cell_core.specs.Sites.{SiteView, no_site, ProgramView, IsCellRun, after, leaves, touched, with_bytes}
 use Rattle.operator_cells.proofs.MakingLaws.{reads_none}
 use Rattle.operator_cells.proofs.RisingLaws.{rows_before}
 use Rattle.held_cells.specs.declared.held.Held.{Held}
@@ -35,8 +36,28 @@ use Rattle.predicate_core.proofs.Pointers.{access_more}
 use Rattle.predicate_core.proofs.LaterReads.{made_later, waits_later}
 use Rattle.predicate_core.proofs.Tracing.{Comes, comes_first, comes_more}
 
+-- ---- sites in strictly ascending nodes, and so no more than nodes
+
+node_above : (ss : List SiteView) → AllPairs (λ s r. s.node < r.node) ss → (j : ℕ) → j < length ss → j ≤ (get_or ss j no_site).node
+node_above ss pairs zero l = omega arith
+node_above ss pairs (suc j) l =
+    let before = node_above ss pairs j (omega (arith, l)) in
+    let next = pairs j (suc j) no_site (omega arith) l in
+    omega (arith, before, next)
+
+few_sites : (n : ℕ) (ss : List SiteView) → All (λ s. s.node < n) ss → AllPairs (λ s r. s.node < r.node) ss → length ss ≤ n
+few_sites n ss low pairs = by (length ss) refl
+  where
+    by : (m : ℕ) → length ss ≡ m → m ≤ n
+    by zero e = omega arith
+    by (suc m) e =
+        let last : m < length ss = omega (arith, e) in
+        let above = node_above ss pairs m last in
+        let below = low m no_site last in
+        omega (arith, above, below)
+
 module _ (starts : StartsInRange) (leave : RunsLeaveInRange) (g : GraphView) (hs : List Held) (t : Making) (cells : List CellView) (verdict target : ℕ) (frame : List FrameByte)
-    (legal : All IsInsn g.code.insns) (so_far : IsSoFar g (length g.nodes) hs t) (accesses : AccessesLookUp g.decls (made_alone t)) (stays : AccessesStay (made_alone t)) (made : ReadsAreMade g.decls (made_alone t)) (waits : ReadsWait (made_alone t))
+    (legal : All IsInsn g.code.insns) (so_far : IsSoFar g (length g.nodes) hs t) (apart : AllPairs (λ s r. s.node < r.node) t.sites) (accesses : AccessesLookUp g.decls (made_alone t)) (stays : AccessesStay (made_alone t)) (made : ReadsAreMade g.decls (made_alone t)) (waits : ReadsWait (made_alone t))
     (answers : Answers t.cells cells t.exits verdict target frame) where
   abbrev pub p : ProgramView
   p = record { cells = cells; nodes = t.nodes; sites = t.sites; verdict = verdict; target = target; frame = frame }
@@ -169,9 +190,11 @@ module _ (starts : StartsInRange) (leave : RunsLeaveInRange) (g : GraphView) (hs
     bytes = answers.bytes;
     ascending = answers.ascending;
     rows = λ row rows. answers.no_row row (last_row row t.nodes) rows (so_far.rows row (rows_before (λ k j. ⊥) t.cells cells answers.grows row rows));
+    numbers = answers.grows.alone so_far.numbers;
+    operations = let count = so_far.laid.count in let few = few_sites (length g.nodes) t.sites so_far.laid.low apart in omega (arith, count, few);
     no_reads = no_reads;
   }
 
 pub wholes_compute : StartsInRange → RunsLeaveInRange → WholesCompute
-wholes_compute starts leave g hs t cells verdict target frame legal so_far accesses stays made waits answers =
-    (law starts leave g hs t cells verdict target frame legal so_far accesses stays made waits answers, buildable starts leave g hs t cells verdict target frame legal so_far accesses stays made waits answers)
+wholes_compute starts leave g hs t cells verdict target frame legal so_far apart accesses stays made waits answers =
+    (law starts leave g hs t cells verdict target frame legal so_far apart accesses stays made waits answers, buildable starts leave g hs t cells verdict target frame legal so_far apart accesses stays made waits answers)

@@ -1,8 +1,8 @@
 -- With the edge with which a run begins alone all rows are 0; and what follows once all nodes are done.
 use Rattle.std.proofs.Common.{◌≡◌, ◌∙◌, ℕ, zero, suc, ◌+◌, ◌-◌, ◌<◌, ◌≤◌, ◌⊎◌, inl, inr, nat_lt, Bool, true, false, if◌then◌else◌, Some, None, List, [], ◌∷◌, length, get_or, refl, sym, ap, arith, subst}
-use Rattle.std.specs.Prelude.{slice_index}
+use Rattle.std.specs.Prelude.{slice_index, count_by}
 use Rattle.std.proofs.lemmas.Bool.{cases_lt, lt-ltb, le-ltb, ltb-false}
-use Rattle.std.proofs.lemmas.List.{get_or-replicate}
+use Rattle.std.proofs.lemmas.List.{get_or-replicate, take_all}
 use Rattle.xdp_machine.specs.Program.{XdpProgram}
 use Rattle.kind_core.specs.declared.number.Number.TheVariants.{Known}
 use Rattle.kind_core.specs.declared.kind.Kind.TheVariants.{Unset, Num}
@@ -12,7 +12,7 @@ use Rattle.kind_core.specs.Kinds.{first_registers}
 use Rattle.unfold_core.specs.declared.unfolding.Unfolded.{Unfolded}
 use Rattle.cell_core.specs.declared.program.Node.{Node}
 use Rattle.cell_core.specs.Cells.{CellView}
-use Rattle.cell_core.specs.Rows.{AreRows, node_row, last_row}
+use Rattle.cell_core.specs.Rows.{AreRows, node_row, last_row, record_count}
 use Rattle.operator_cells.specs.Making.{seen, GrowsWith}
 use Rattle.operator_cells.proofs.RisingLaws.{rows_before}
 use Rattle.place_rows.specs.declared.origin.Origin.{Origin}
@@ -20,12 +20,13 @@ use Rattle.place_rows.specs.Spans.{pending_place}
 use Rattle.place_rows.specs.Origins.{is_open, origin_at_start}
 use Rattle.place_rows.proofs.PlaceLaws.{place_at}
 use Rattle.node_rows.specs.declared.stages.Stages.{Stages}
-use Rattle.node_rows.specs.Rows.{HasStages}
+use Rattle.node_rows.specs.Rows.{HasStages, insn_of, may_write}
 use Rattle.held_cells.specs.declared.way.Way.{Way}
 use Rattle.held_cells.specs.Held.{PointerView, pointed}
 use Rattle.held_cells.specs.Law.{made_at}
 use Rattle.held_cells.specs.Rows.{kind_at, number_at, held_row}
 use Rattle.held_cells.proofs.RowLaws.{byte_row, target_row}
+use Rattle.site_cells.specs.Sited.{sited}
 use Rattle.predicate_core.specs.declared.making.Progress.{Progress}
 use Rattle.predicate_core.specs.Opening.{Opens}
 use Rattle.predicate_core.specs.Progress.{pending_of, AreWaiting}
@@ -104,9 +105,10 @@ module _ (p : XdpProgram) (u : Unfolded) (cells : List CellView) (ps : List Poin
   }
 
 pub fits_first : (p : XdpProgram) (u : Unfolded) (t : Progress) (e : Way) (waiting : List ℕ) (maps : ℕ) → maps ≤ 16 → Opens [] (seen t.made.cells.items) e → AreWaiting maps (length (seen t.made.cells.items)) waiting
-    → t.made.ways.items ≡ e ∷ [] → pending_of t ≡ waiting ∷ [] → FitSoFar p u 0 t
-fits_first p u t e waiting maps few opens waits ways_are pending_are = record {
+    → t.made.ways.items ≡ e ∷ [] → pending_of t ≡ waiting ∷ [] → sited t.made.sites.items ≡ [] → FitSoFar p u 0 t
+fits_first p u t e waiting maps few opens waits ways_are pending_are sites_are = record {
   named = name_at e waiting;
+  records = let none = ap record_count sites_are in omega (arith, none);
   nodes = λ row rows j l. absurd (omega (arith, l));
   ways = λ i d l. let first : 0 ≡ i = (let n = ap length ways_are in omega (arith, l, n)) in
       subst (λ (j : ℕ). Brings p u (name_at e waiting) 0 (seen t.made.cells.items) (pointed t.made.pointers.items) (get_or t.made.ways.items j d) (get_or (pending_of t) j [])) first
@@ -130,3 +132,7 @@ all_fit R p u t cells s row fit count grows stages rows = last_within row s.rows
     let a = fit.nodes row (rows_before R (seen t.made.cells.items) cells grows row rows) j m in
     let b = stages.within j m in
     omega (arith, a, b))
+
+-- no more sites may write than nodes
+pub all_record : (p : XdpProgram) (u : Unfolded) (t : Progress) (s : Stages) → FitSoFar p u (length u.nodes.items) t → HasStages p u.nodes.items u.edges.items s → record_count (sited t.made.sites.items) ≤ s.records
+all_record p u t s fit stages = let all = ap (count_by (λ at. may_write p at (insn_of p at))) (take_all (length u.nodes.items) u.nodes.items (omega arith)) in omega (arith, fit.records, all, stages.records)

@@ -133,6 +133,7 @@ module _ (g : GraphView) (k : ℕ) (hs : List Held) (t : Making) (cells cells2 :
   pub next_so_far : IsSoFar g (k + 1) (hs ++ h ∷ []) u
   next_so_far = record {
     formed = grows.formed so_far.formed;
+    numbers = grows.alone so_far.numbers;
     made = s.made;
     held_count = omega (arith, length-append hs (h ∷ []), so_far.held_count);
     inside = held_each (λ j x. AreInside g.decls (length cells2) ps2 x (node_at g.nodes j).kinds)

@@ -1,12 +1,13 @@
 -- A node more: its cells fit its row, and its edges bring what stands behind it.
 use Rattle.std.proofs.Common.{Global, Vec, ◌≡◌, ◌≢◌, ◌∙◌, ℕ, zero, suc, ◌+◌, ◌-◌, ◌<◌, ◌≤◌, ◌==◌, ◌⊎◌, inl, inr, nat_lt, Bool, true, false, if◌then◌else◌, Option, Some, None, List, [], ◌∷◌, ◌++◌, length, length-append, get_or, replicate, refl, sym, ap, arith, subst, max}
-use Rattle.std.specs.Prelude.{slice_index, slice_set, All, Contains}
+use Rattle.std.specs.Prelude.{slice_index, slice_set, cond, is_some, take, count_by, All, Contains}
 use Rattle.std.specs.List.{list_any}
 use Rattle.std.proofs.Math.ListN.{get_or-append, length-set}
 use Rattle.std.proofs.Math.Seq.{get_or-append_seam, get_or-append_right}
 use Rattle.std.proofs.lemmas.Bool.{cases_lt, lt-ltb, le-ltb, eqb-true, eqb-false, eq-eqb, ne_eqb}
 use Rattle.std.proofs.lemmas.List.{length-map, get_or-map, get_or-replicate, get_or-set_same, get_or-set_other}
 use Rattle.std.proofs.lemmas.List.Elements.{Contains-get_or}
+use Rattle.std.proofs.lemmas.List.Sums.{sum_by-append, count_by_more_yes, count_by_more_no}
 use Rattle.bpf_isa.specs.declared.instruction.Insn.{Insn}
 use Rattle.bpf_isa.specs.Text.{insn_at}
 use Rattle.xdp_machine.specs.Program.{XdpProgram, IsProgram}
@@ -17,9 +18,9 @@ use Rattle.unfold_core.specs.declared.unfolding.Unfolded.{Unfolded}
 use Rattle.cell_core.specs.declared.site.Site.{Site}
 use Rattle.cell_core.specs.declared.program.Node.{Node}
 use Rattle.cell_core.specs.Cells.{CellView, cell_at, site_in, is_heavy, bit}
-use Rattle.cell_core.specs.Sites.{SiteView, site_at, records}
+use Rattle.cell_core.specs.Sites.{SiteView, site_at, no_site, records}
 use Rattle.cell_core.specs.Formed.{AreFormed, FitsMap}
-use Rattle.cell_core.specs.Rows.{AreRows, greatest, node_row, taken_by}
+use Rattle.cell_core.specs.Rows.{AreRows, greatest, node_row, taken_by, record_count}
 use Rattle.operator_cells.specs.Making.{seen, Grows}
 use Rattle.operator_cells.proofs.RisingLaws.{rows_before, greatest_append}
 use Rattle.place_rows.specs.declared.origin.Origin.{Origin}
@@ -32,7 +33,7 @@ use Rattle.place_rows.proofs.SpanLaws.{one_row}
 use Rattle.node_rows.specs.declared.node.Behind.{Behind}
 use Rattle.node_rows.specs.Joining.{edge_row}
 use Rattle.node_rows.specs.Passing.{is_some_place, pending_row, leaving_row}
-use Rattle.node_rows.specs.Rows.{no_point, point_at, insn_of, known_behind, row_of_node}
+use Rattle.node_rows.specs.Rows.{no_point, point_at, insn_of, known_behind, row_of_node, may_write}
 use Rattle.held_cells.specs.declared.held.Held.{Held}
 use Rattle.held_cells.specs.declared.held.Pointer.{Pointer}
 use Rattle.held_cells.specs.declared.way.Way.{Way}
@@ -52,19 +53,20 @@ use Rattle.site_cells.specs.Sited.{sited}
 use Rattle.step_cells.specs.Stepping.{made_of}
 use Rattle.step_cells.specs.Rows.{NodeRows, StandIn}
 use Rattle.step_cells.specs.Waiting.{WaitsFor}
+use Rattle.step_cells.specs.Pointing.{NodePoints}
 use Rattle.program_graph.specs.Graphs.{node_view, edge_view, graph_of}
 use Rattle.predicate_core.specs.declared.making.Progress.{Progress}
 use Rattle.predicate_core.specs.Laws.{made_next}
 use Rattle.predicate_core.specs.Gathering.{PassesTo}
 use Rattle.predicate_core.specs.Progress.{pending_of, IsReady, Comes}
-use Rattle.predicate_core.specs.Stages.{behind_at, known_along, arrivals_at, kinds_of, origins_met, StandsBehind, Brings, FitSoFar, ComesWithin}
+use Rattle.predicate_core.specs.Stages.{writing_nodes, behind_at, known_along, arrivals_at, kinds_of, origins_met, StandsBehind, Brings, FitSoFar, ComesWithin}
 use Rattle.predicate_core.specs.Fitting.{NodesFit}
 use Rattle.predicate_core.proofs.Numbered.{count_targets}
 use Rattle.predicate_core.proofs.Progressing.{site_more}
 use Rattle.predicate_core.proofs.Arrivals.{closed, has_open}
 use Rattle.predicate_core.proofs.Spans.{not_taken, leaving}
 use Rattle.predicate_core.proofs.Behind.{greatest_all, same_some, noted_cases, written_cases, written_not, written_in}
-use Rattle.predicate_core.proofs.NodeRows.{node_after, node_write, node_result, node_least, node_own, node_written, node_behind, behind_is, not_written, origin_there, held_is, behind_low, made_low, pending_low, pending_new, edge_least, held_more}
+use Rattle.predicate_core.proofs.NodeRows.{insn_is, node_after, node_write, node_result, node_least, node_own, node_written, node_behind, behind_is, not_written, origin_there, held_is, behind_low, made_low, pending_low, pending_new, edge_least, held_more}
 
 -- ---- names
 abbrev names_with : (ℕ → ℕ → ℕ) → ℕ → (ℕ → ℕ) → ℕ → ℕ → ℕ
@@ -572,9 +574,70 @@ module _ (p : XdpProgram) (u : Unfolded) (k : ℕ) (i : Insn) (next jump : Optio
           ∙ get_or-append_seam t.nodes.items (made_next (graph_of p u) k here.guard (seen t.made.cells.items) (seen q.made.cells.items)) [] no_made))
           own)
 
+  -- ---- sites that may write
+  -- a node adds one site at most
+  abbrev AddsOne : List SiteView → List SiteView → Type 0
+  AddsOne old new = (new ≡ old) ⊎ ((s : SiteView) × (new ≡ old ++ s ∷ []))
+
+  adds_one : NodePoints p.decls i waiting (kinds_of u k) here (made_of mid.made) (made_of new.made) → AddsOne (sited mid.made.sites.items) (sited new.made.sites.items)
+  adds_one (inl along) = elim along.points [
+    | inl plain ↦ inl plain.sites_are
+    | inr operation ↦ inr (operation.2.site, operation.2.sites_are)
+  ]
+  adds_one (inr jump) = inl jump.sites_are
+
+  count_more : (sites : List SiteView) (s : SiteView) (n : ℕ) → record_count sites ≤ n → record_count (sites ++ s ∷ []) ≤ n + bit (records s.act)
+  count_more sites s n h = by (records s.act) refl (sum_by-append (λ r. cond (records r.act) 1 0) sites (s ∷ []))
+    where
+      by : (b : Bool) → records s.act ≡ b → record_count (sites ++ s ∷ []) ≡ record_count sites + record_count (s ∷ []) → record_count (sites ++ s ∷ []) ≤ n + bit b
+      by true e sum = let one : record_count (s ∷ []) ≡ 1 = rw e refl in omega (arith, h, sum, one)
+      by false e sum = let one : record_count (s ∷ []) ≡ 0 = rw e refl in omega (arith, h, sum, one)
+
+  -- as many nodes are counted with node k
+  writes_here : Bool
+  writes_here = may_write p (point_at u.nodes.items k) (insn_of p (point_at u.nodes.items k))
+
+  nodes_more : writing_nodes p u (k + 1) ≡ writing_nodes p u k + bit writes_here
+  unfolding writes_here
+  nodes_more = by (may_write p (point_at u.nodes.items k) (insn_of p (point_at u.nodes.items k))) refl
+    where
+      by : (b : Bool) → may_write p (point_at u.nodes.items k) (insn_of p (point_at u.nodes.items k)) ≡ b → writing_nodes p u (k + 1) ≡ writing_nodes p u k + bit b
+      by true e = count_by_more_yes (λ at. may_write p at (insn_of p at)) u.nodes.items k no_point inside e
+      by false e = let same = count_by_more_no (λ at. may_write p at (insn_of p at)) u.nodes.items k no_point inside e in omega (arith, same)
+
+  site_writes : NodePoints p.decls i waiting (kinds_of u k) here (made_of mid.made) (made_of new.made) → (s : SiteView) → sited new.made.sites.items ≡ sited mid.made.sites.items ++ s ∷ [] → records s.act ≡ true → writes_here ≡ true
+  unfolding writes_here
+  site_writes points s is writes =
+      let rows = rows_exist (seen q.made.cells.items) formed_after in
+      let last : site_at (sited new.made.sites.items) (length (sited t.made.sites.items)) ≡ s = ap (λ (ss : List SiteView). site_at ss (length (sited t.made.sites.items))) is
+      ∙ ap (λ (n : ℕ). site_at (sited mid.made.sites.items ++ s ∷ []) n) sites_mid ∙ get_or-append_seam (sited mid.made.sites.items) s [] no_site in
+      let there : length (sited t.made.sites.items) < length (sited new.made.sites.items) = (let e = ap length is in omega (arith, e, sites_mid, length-append (sited mid.made.sites.items) (s ∷ []))) in
+      let r = record_is rows.0 rows.1 there (ap (λ (x : SiteView). records x.act) last ∙ writes) in
+      ap (may_write p (point_at u.nodes.items k)) (insn_is p u k i inside node) ∙ ap is_some r.1
+
+  all_records : NodePoints p.decls i waiting (kinds_of u k) here (made_of mid.made) (made_of new.made) → q.made.sites ≡ new.made.sites → record_count (sited q.made.sites.items) ≤ writing_nodes p u (k + 1)
+  all_records points sites_are = subst (λ (ss : List SiteView). record_count ss ≤ writing_nodes p u (k + 1)) (sym (ap (λ (ss : Vec Site Global). sited ss.items) sites_are)) (by (adds_one points))
+    where
+      before : record_count (sited mid.made.sites.items) ≤ writing_nodes p u k
+      before = subst (λ (ss : Vec Site Global). record_count (sited ss.items) ≤ writing_nodes p u k) (sym comes.sites) fit.records
+
+      low : (s : SiteView) → (records s.act ≡ true → writes_here ≡ true) → bit (records s.act) ≤ bit writes_here
+      low s h = both (records s.act) writes_here h
+        where
+          both : (a c : Bool) → (a ≡ true → c ≡ true) → bit a ≤ bit c
+          both true true h = omega arith
+          both true false h = absurd (let x = h refl in cc)
+          both false c h = omega arith
+
+      by : AddsOne (sited mid.made.sites.items) (sited new.made.sites.items) → record_count (sited new.made.sites.items) ≤ writing_nodes p u (k + 1)
+      by (inl same) = subst (λ (ss : List SiteView). record_count ss ≤ writing_nodes p u (k + 1)) (sym same) (omega (arith, before, nodes_more))
+      by (inr more) = subst (λ (ss : List SiteView). record_count ss ≤ writing_nodes p u (k + 1)) (sym more.1)
+          (let a = count_more (sited mid.made.sites.items) more.0 (writing_nodes p u k) before in let b = low more.0 (site_writes points more.0 more.1) in omega (arith, a, b, nodes_more))
+
 pub nodes_fit : NodesFit
-nodes_fit p u k i next jump t mid new q here waiting waiting2 fit program unfolded inside node ends ready comes within steps nodes leave grows passes pointers_are ways_are pending_are nodes_are = record {
+nodes_fit p u k i next jump t mid new q here waiting waiting2 fit program unfolded inside node ends ready comes within steps nodes leave grows passes pointers_are ways_are pending_are nodes_are points sites_are = record {
   named = names_with fit.named (k + 1) (held_or_waiting nodes.next waiting2);
+  records = all_records p u k i next jump t mid new q here waiting waiting2 fit program inside node ends ready comes within steps nodes leave grows passes points sites_are;
   nodes = all_nodes p u k i next jump t mid new q here waiting waiting2 fit program inside node ends ready comes within steps nodes leave grows passes nodes_are;
   ways = all_ways p u k i next jump t mid new q here waiting waiting2 fit program inside node ends ready comes within steps nodes leave grows passes pointers_are ways_are pending_are;
 }

@@ -176,6 +176,7 @@ module _ (described : StartIsDescribed) (starts : StartsInRange) (g : GraphView)
   pub so_far : IsSoFar g 0 [] t
   so_far = record {
     formed = opens.grows.formed (record { each = λ k l. absurd (omega (arith, l)) });
+    numbers = opens.grows.alone (λ k l. absurd (omega (arith, l)));
     made = record {
       each_way = All-cons (λ x. (x.bit < length cells) × AreInside g.decls (length cells) [] x.held x.kinds) e []
           (opens.bit_there, subst (λ (k : Kinds). AreInside g.decls (length cells) [] e.held k) (sym opens.kinds_are) (inside_start g.decls (length cells) [] e.held opens.bytes.there opens.target_there)) (All-nil _);

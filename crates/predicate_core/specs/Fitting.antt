@@ -18,6 +18,7 @@ use Rattle.node_cells.specs.Feeding.{Leave}
 use Rattle.site_cells.specs.Sited.{sited}
 use Rattle.step_cells.specs.Stepping.{made_of}
 use Rattle.step_cells.specs.Rows.{NodeRows}
+use Rattle.step_cells.specs.Pointing.{NodePoints}
 use Rattle.program_graph.specs.Graphs.{graph_of}
 use Rattle.predicate_core.specs.declared.making.Progress.{Progress}
 use Rattle.predicate_core.specs.Laws.{made_next}
@@ -45,4 +46,5 @@ NodesFit =
     → (nodes : NodeRows p.decls k (kinds_of u k) here i (is_reference (graph_of p u) k) pending (made_of mid.made) (made_of new.made)) → Leave (graph_of p u) k nodes.more
     → Grows (seen new.made.cells.items) (seen q.made.cells.items) → PassesTo (seen new.made.cells.items) (seen q.made.cells.items) (sited new.made.sites.items) (length (sited t.made.sites.items)) (length (seen t.made.cells.items)) pending pending2
     → q.made.pointers ≡ new.made.pointers → q.made.ways ≡ new.made.ways → pending_of q ≡ pending_of t ++ replicate (length nodes.more) pending2
-    → q.nodes.items ≡ t.nodes.items ++ made_next (graph_of p u) k here.guard (seen t.made.cells.items) (seen q.made.cells.items) ∷ [] → FitSoFar p u (k + 1) q
+    → q.nodes.items ≡ t.nodes.items ++ made_next (graph_of p u) k here.guard (seen t.made.cells.items) (seen q.made.cells.items) ∷ []
+    → NodePoints p.decls i pending (kinds_of u k) here (made_of mid.made) (made_of new.made) → q.made.sites ≡ new.made.sites → FitSoFar p u (k + 1) q

@@ -1,5 +1,6 @@
 -- From one node to the next, and what follows for all of them.
-use Rattle.std.specs.Prelude.{ℕ, ◌≡◌, ◌+◌, ◌-◌, List, [], ◌∷◌, ◌++◌, length, replicate, All}
+use Rattle.std.specs.Prelude.{ℕ, ◌≡◌, ◌+◌, ◌-◌, ◌<◌, List, [], ◌∷◌, ◌++◌, length, replicate, All}
+use Rattle.std.specs.List.{AllPairs}
 use Rattle.bpf_isa.specs.declared.instruction.Insn.{Insn}
 use Rattle.bpf_isa.specs.Spelling.{IsInsn}
 use Rattle.xdp_maps.specs.declared.decl.MapDecl.{MapDecl}
@@ -84,11 +85,11 @@ StepsStay =
     (g : GraphView) (k guard : ℕ) (h : Held) (cells cells2 cells3 : List CellView) (ps ps2 : List PointerView) (sites sites2 : List SiteView) (ways ways2 : List Way) (exits exits2 : List Exit)
     → Steps g k guard h cells cells2 ps ps2 sites sites2 ways ways2 exits exits2 → Grows cells2 cells3 → Steps g k guard h cells cells3 ps ps2 sites sites2 ways ways2 exits exits2
 
--- Once all nodes are done, and the cells of the answer are there, the law of cells holds of them, and they can be built.
+-- Once all nodes are done, each with a site at most, and the cells of the answer are there, the law of cells holds of them, and they can be built.
 abbrev pub WholesCompute : Type 0
 WholesCompute =
     (g : GraphView) (hs : List Held) (t : Making) (cells : List CellView) (verdict target : ℕ) (frame : List FrameByte)
-    → All IsInsn g.code.insns → IsSoFar g (length g.nodes) hs t → AccessesLookUp g.decls (made_alone t) → AccessesStay (made_alone t) → ReadsAreMade g.decls (made_alone t) → ReadsWait (made_alone t)
+    → All IsInsn g.code.insns → IsSoFar g (length g.nodes) hs t → AllPairs (λ s r. s.node < r.node) t.sites → AccessesLookUp g.decls (made_alone t) → AccessesStay (made_alone t) → ReadsAreMade g.decls (made_alone t) → ReadsWait (made_alone t)
     → Answers t.cells cells t.exits verdict target frame
     → IsLaw g (record { cells = cells; nodes = t.nodes; sites = t.sites; verdict = verdict; target = target; frame = frame })
     × IsBuildable (record { cells = cells; nodes = t.nodes; sites = t.sites; verdict = verdict; target = target; frame = frame })

@@ -12,7 +12,7 @@ use Rattle.cell_core.specs.Cells.{CellView, IsRun, cell_at, site_in, bits_from, 
 use Rattle.cell_core.specs.Sites.{SiteView, ProgramView, site_at, after, read_on, with_bytes}
 use Rattle.cell_core.specs.Formed.{AreFormed, AreSited, IsBelow}
 use Rattle.cell_core.specs.Rows.{AreRows, last_row}
-use Rattle.operator_cells.specs.Making.{Grows}
+use Rattle.operator_cells.specs.Making.{Grows, NumbersAreAlone}
 use Rattle.held_cells.specs.declared.held.Held.{Held}
 use Rattle.held_cells.specs.declared.way.Way.{Way}
 use Rattle.held_cells.specs.declared.way.Exit.{Exit}
@@ -82,6 +82,7 @@ pub record AreLaid (g : GraphView) (k : ℕ) (t : Making) : Type 0 where
 -- The nodes below k are done, and this is held at them.
 pub record IsSoFar (g : GraphView) (k : ℕ) (hs : List Held) (t : Making) : Type 0 where
   pub formed : AreFormed t.cells
+  pub numbers : NumbersAreAlone t.cells
   pub made : AreMade g t.cells t.pointers t.ways t.exits
   pub held_count : length hs ≡ k
   pub inside : (j : ℕ) → j < k → AreInside g.decls (length t.cells) t.pointers (held_in hs j) (node_at g.nodes j).kinds

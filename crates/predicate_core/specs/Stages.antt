@@ -1,24 +1,25 @@
 -- What has been made of a program whose first nodes are done, against the rows of its graph.
-use Rattle.std.specs.Prelude.{ℕ, ◌≡◌, ◌+◌, ◌<◌, ◌≤◌, ◌⊎◌, max, Option, Some, None, List, [], length, slice_index, get_or, Contains}
+use Rattle.std.specs.Prelude.{ℕ, ◌≡◌, ◌+◌, ◌<◌, ◌≤◌, ◌⊎◌, max, Option, Some, None, List, [], length, slice_index, count_by, take, get_or, Contains}
 use Rattle.xdp_machine.specs.Program.{XdpProgram}
 use Rattle.kind_core.specs.declared.kind.Kinds.{Kinds}
 use Rattle.unfold_core.specs.declared.links.Edge.{Edge}
 use Rattle.unfold_core.specs.declared.unfolding.Unfolded.{Unfolded}
 use Rattle.cell_core.specs.Cells.{CellView}
-use Rattle.cell_core.specs.Rows.{AreRows, node_row}
+use Rattle.cell_core.specs.Rows.{AreRows, node_row, record_count}
 use Rattle.place_rows.specs.declared.origin.Origin.{Origin}
 use Rattle.place_rows.specs.Spans.{pending_place}
 use Rattle.place_rows.specs.Origins.{row_at, every_row, by_place, origin_at_start}
 use Rattle.node_rows.specs.declared.joining.Arrival.{Arrival}
 use Rattle.node_rows.specs.declared.node.Behind.{Behind}
 use Rattle.node_rows.specs.Joining.{edge_row, origins_at}
-use Rattle.node_rows.specs.Rows.{point_at, insn_of, known_behind, arrivals_of, behind_node, rows_of, row_of_node}
+use Rattle.node_rows.specs.Rows.{point_at, insn_of, known_behind, arrivals_of, behind_node, rows_of, row_of_node, may_write}
 use Rattle.operator_cells.specs.Making.{seen}
 use Rattle.held_cells.specs.declared.held.Held.{Held}
 use Rattle.held_cells.specs.declared.way.Way.{Way}
 use Rattle.held_cells.specs.Held.{PointerView, pointed}
 use Rattle.held_cells.specs.Law.{made_at}
 use Rattle.held_cells.specs.Rows.{number_at, held_row}
+use Rattle.site_cells.specs.Sited.{sited}
 use Rattle.step_cells.specs.Rows.{AreWithin}
 use Rattle.predicate_core.specs.declared.making.Progress.{Progress}
 use Rattle.predicate_core.specs.Progress.{pending_of}
@@ -47,6 +48,10 @@ kinds_of u n = (point_at u.nodes.items n).kinds
 abbrev pub origins_met : XdpProgram → Unfolded → ℕ → List (Option Origin)
 origins_met p u n = origins_at (arrivals_at p u n) (n + 1) (kinds_of u n)
 
+-- how many of the first k nodes may write a map
+abbrev pub writing_nodes : XdpProgram → Unfolded → ℕ → ℕ
+writing_nodes p u k = count_by (λ at. may_write p at (insn_of p at)) (take k u.nodes.items)
+
 -- ---- on the cells
 
 -- The nodes below k are done. This stands behind an edge: it is that with which a run begins, or leaves one of them.
@@ -72,9 +77,11 @@ pub record Brings (p : XdpProgram) (u : Unfolded) (named : ℕ → ℕ → ℕ) 
   pub names : AreNamed named k e pending behind
   pub within : (row : ℕ → ℕ) → AreRows cells row → StandWithin row ps e pending behind
 
--- The nodes below k make no cell in a later row than they have in the graph, and each edge so far brings what stands behind it.
+-- The nodes below k make no cell in a later row than they have in the graph, and no more sites that may write than there are nodes that may; each edge so far brings what
+-- stands behind it.
 pub record FitSoFar (p : XdpProgram) (u : Unfolded) (k : ℕ) (t : Progress) : Type 0 where
   pub named : ℕ → ℕ → ℕ
+  pub records : record_count (sited t.made.sites.items) ≤ writing_nodes p u k
   pub nodes : (row : ℕ → ℕ) → AreRows (seen t.made.cells.items) row → (j : ℕ) → j < k → node_row row (made_at t.nodes.items j) ≤ row_of_node p u.nodes.items u.edges.items j
   pub ways : (i : ℕ) (d : Way) → i < length t.made.ways.items → Brings p u named k (seen t.made.cells.items) (pointed t.made.pointers.items) (get_or t.made.ways.items i d) (get_or (pending_of t) i [])
 

@@ -11,7 +11,7 @@ ghost use Rattle.predicate_core.specs.Buildable.{AddsNoRow, IsBuildable};
 ghost use Rattle.predicate_core.specs.Pointing.{PointSoFar};
 ghost use Rattle.predicate_core.specs.Reading.{ReadSoFar};
 ghost use Rattle.predicate_core.specs.Progress.{pending_of, AreFirst, AreWaiting, IsReady};
-ghost use Rattle.predicate_core.specs.Rows.{FitStages};
+ghost use Rattle.predicate_core.specs.Rows.{FitStages, FitRecords};
 ghost use Rattle.predicate_core.specs.Stages.{FitSoFar};
 
 use crate::closing::close;
@@ -143,7 +143,7 @@ fn make_nodes(
 }
 
 /// The cells of a program that unfolds: the law of cells holds of them, for its graph, and they can be built: the answer's have its widths, and
-/// none stands in a later row than the last of a node.
+/// none stands in a later row than the last of a node. No more of its sites may write than nodes of the graph.
 pub fn to_cells(
     alloc: Global,
     program: &Program,
@@ -153,6 +153,7 @@ pub fn to_cells(
     ensures law { IfOk result (λ cells. IsLaw (graph_of program.now unfolded.now) (program_of cells)) }
     ensures buildable { IfOk result (λ cells. IsBuildable (program_of cells)) }
     ensures stages { IfOk result (λ cells. FitStages program.now unfolded.now (program_of cells)) }
+    ensures records { IfOk result (λ cells. FitRecords program.now unfolded.now (program_of cells)) }
 {
     wholes_compute();
     // A program is one.

@@ -24,7 +24,7 @@ use Rattle.hazard_core.specs.Held.{Held, pointer_in, access_pointer, is_update, 
 use Rattle.table_laws.specs.Leading.{LeadsInto, WritesLead}
 use Rattle.row_plan.specs.Plan.{Plan, IsPlan}
 use Rattle.program_plan.specs.Suited.{build_of}
-use Rattle.program_plan.specs.Leading.{HoldsOwn, ReadsLead, SitesLead, RecordsLead}
+use Rattle.program_plan.specs.Leading.{HoldsOwn, PointersLead, ReadsLead, SitesLead, RecordsLead}
 use Rattle.program_plan.proofs.Lists.{greatest_above}
 use Rattle.program_plan.proofs.Operators.{heavy_of_site, goes_by}
 use Rattle.program_plan.proofs.Planning.{site_early}
@@ -63,6 +63,13 @@ looks_through (act.Load at size) xs c is = subst (λ (ys : List ℕ). Contains (
 looks_through (act.Store at size) xs c (x, is) = subst (λ (ys : List ℕ). Contains (take 1 (drop 1 ys)) c) (sym is) (0, omega arith, refl)
 looks_through (act.Atomic at a) xs c (x, y, is) = subst (λ (ys : List ℕ). Contains (take 1 (drop 2 ys)) c) (sym is) (0, omega arith, refl)
 looks_through a xs c is = absurd is
+
+-- that is its operand for the pointer
+operand_is : (a : Act) (xs : List ℕ) (c : ℕ) → IsThrough a xs c → slice_index xs (pointer_operand a) ≡ c
+operand_is (act.Load at size) xs c is = ap (λ ys. slice_index ys 0) is
+operand_is (act.Store at size) xs c (x, is) = ap (λ ys. slice_index ys 1) is
+operand_is (act.Atomic at a) xs c (x, y, is) = ap (λ ys. slice_index ys 2) is
+operand_is a xs c is = absurd is
 
 module _ (have : HaveValues) (rise : RowsRise) (g : GraphView) (p : ProgramView) (plan : Plan) (slots : ℕ) (law : IsLaw g p) (is : IsPlan p plan) (t : TableState) (packet : PacketIn) (h : Held) where
   abbrev row : ℕ → ℕ
@@ -111,6 +118,11 @@ module _ (have : HaveValues) (rise : RowsRise) (g : GraphView) (p : ProgramView)
       let high = (site_early p plan is j l).operands in
       let up = All-contains (λ i. row i ≤ greatest row s.operands) s.operands x (greatest_above row s.operands) (goes_by h s.act s.operands x through).there in
       omega (arith, up, high))
+
+pub pointers_lead : HaveValues → RowsRise → PointersLead
+pointers_lead have rise g p plan slots law is t packet r h j l access low holds =
+    let s = site_at p.sites j in
+    leads have rise g p plan slots law is t packet h r j holds l access (λ c through. subst (λ x. slice_index plan.rows x < r) (operand_is s.act s.operands c through) low)
 
 pub reads_lead : HaveValues → RowsRise → ReadsLead
 reads_lead have rise g p plan slots law is t packet h c j = read_leads have rise g p plan slots law is t packet h c j

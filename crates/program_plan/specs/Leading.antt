@@ -2,7 +2,7 @@
 use Rattle.std.specs.Prelude.{ℕ, suc, ◌≡◌, ◌<◌, true, None, length, slice_index}
 use Rattle.xdp_machine.specs.State.{PacketIn}
 use Rattle.cell_core.specs.declared.operator.Operator.TheVariants.{Answer}
-use Rattle.cell_core.specs.Acts.{is_access}
+use Rattle.cell_core.specs.Acts.{is_access, pointer_operand}
 use Rattle.cell_core.specs.Cells.{cell_at, site_in}
 use Rattle.cell_core.specs.Sites.{ProgramView, site_at, records}
 use Rattle.held_cells.specs.Paths.{GraphView}
@@ -22,7 +22,14 @@ pub record HoldsOwn (b : Build) (t : TableState) (packet : PacketIn) (r : ℕ) (
   pub fit : ReadsFit b r h
   pub founds : FoundsLead b.program t h
 
--- Then the pointer of an access leads into the map of its site: of a read of it by the rows below the read,
+-- Then the pointer of an access leads into the map of its site, if its cell is in these rows:
+abbrev pub PointersLead : Type 0
+PointersLead =
+    (g : GraphView) (p : ProgramView) (plan : Plan) (slots : ℕ) → IsLaw g p → IsPlan p plan → (t : TableState) (packet : PacketIn) (r : ℕ) (h : Held) (j : ℕ) → j < length p.sites → is_access (site_at p.sites j).act ≡ true
+    → slice_index plan.rows (slice_index (site_at p.sites j).operands (pointer_operand (site_at p.sites j).act)) < r → HoldsOwn (build_of p plan slots) t packet r h
+    → LeadsInto p t (site_at p.sites j).map (access_pointer h (site_at p.sites j))
+
+-- of a read of it by the rows below the read,
 abbrev pub ReadsLead : Type 0
 ReadsLead =
     (g : GraphView) (p : ProgramView) (plan : Plan) (slots : ℕ) → IsLaw g p → IsPlan p plan → (t : TableState) (packet : PacketIn) (h : Held) (c j : ℕ) → c < length p.cells → (cell_at p.cells c).op ≡ Answer j

@@ -2,7 +2,7 @@
 
 ghost use Rattle.program_plan.specs.Suited.{ProgramsAreSuited};
 ghost use Rattle.program_plan.specs.ReadCells.{ReadCellsAreFirst, AccessesAreAligned};
-ghost use Rattle.program_plan.specs.Leading.{ReadsLead, SitesLead, RecordsLead};
+ghost use Rattle.program_plan.specs.Leading.{PointersLead, ReadsLead, SitesLead, RecordsLead};
 
 /// Programs whose cells keep the law of cells and can be built, as those of `to_cells` do, are suited for the pipe by their plans, with as many slots as one likes.
 pub fn suited()
@@ -22,6 +22,7 @@ pub fn reads_first()
 
 /// Of such a program each access goes through a pointer into its own map, whatever the packet holds of its reads, on the path or not.
 pub fn accesses_lead()
+    ensures pointers { PointersLead }
     ensures reads { ReadsLead }
     ensures sites { SitesLead }
     ensures records { RecordsLead }

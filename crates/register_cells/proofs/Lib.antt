@@ -11,6 +11,7 @@ pub mod Answering
 pub mod HelperRows
 pub mod Stored
 pub mod Stores
+pub mod Made
 pub mod Signed
 pub mod LoadRows
 pub mod StoreRows

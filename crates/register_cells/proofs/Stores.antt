@@ -84,11 +84,11 @@ underlying_is a n f g e = cc
 
 -- ---- a slot that is stored into
 
-counts_number : (decls : List MapDecl) (n : ℕ) (ps : List PointerView) (g : Number) (c : ℕ) → IsThere n g c → Counts decls n ps (Num g) c
+pub counts_number : (decls : List MapDecl) (n : ℕ) (ps : List PointerView) (g : Number) (c : ℕ) → IsThere n g c → Counts decls n ps (Num g) c
 counts_number decls n ps (Known a) c h = tt
 counts_number decls n ps Unknown c h = h
 
-holds_number : (decls : List MapDecl) (v : ℕ → ℕ) (ps : List PointerView) (g : Number) (c : ℕ) (y : Value) → y ≡ is.Number (number_of v g c) → Holds decls v ps (Num g) c y
+pub holds_number : (decls : List MapDecl) (v : ℕ → ℕ) (ps : List PointerView) (g : Number) (c : ℕ) (y : Value) → y ≡ is.Number (number_of v g c) → Holds decls v ps (Num g) c y
 holds_number decls v ps (Known a) c y h = tt
 holds_number decls v ps Unknown c y h = h
 

@@ -3,7 +3,7 @@ use Rattle.xdp_object.specs.Choice.{chosen_of}
 use Rattle.xdp_object.proofs.OutcomeLaws.{never_both}
 use Rattle.ehdl_build.specs.declared.built.CompileError.TheVariants.{Refused}
 use Rattle.ehdl_build.specs.Compiled.{FailsFor, Realizes}
-use Rattle.ehdl_build.proofs.Outcomes.{accepted_of, failed, failed_program, never_refused, no_refusal, no_maps, not_built, only_fault, only_refusal, some_maps}
+use Rattle.ehdl_build.proofs.Outcomes.{accepted_of, failed, failed_program, never_refused, no_refusal, only_fault, only_refusal}
 use Rattle.ehdl_build.proofs.built.compile.Goals as goal
 
 pub returns-in-Err-clause-error : goal.returns-in-Err-clause-error
@@ -26,30 +26,13 @@ pub returns-in-Err-count-clause-refused : goal.returns-in-Err-count-clause-refus
 returns-in-Err-count-clause-refused c = λ r refused.
     only_refusal (chosen_of c.args.choice) c.args.bytes.now c.in-Ok.program c.in-Ok.ensures.program c.in-Err-count.error c.refusal_of.result r c.in-Err-count.ensures.fails c.refusal_of.ensures refused
 
-pub returns-then-not-is_empty-clause-error : goal.returns-then-not-is_empty-clause-error
-returns-then-not-is_empty-clause-error c =
-    let p = c.in-Ok.program in
-    let some : p.decls ≢ [] = some_maps p.decls c.decls.result.now c.is_empty.result c.is_empty.ensures c.decls.ensures.decls c.if-not-is_empty.true in
-    record { program = p; object = c.in-Ok.ensures.program; refusal = inr (record { accepted = accepted_of p c.in-Ok-count.counted c.in-Ok-count.ensures.counted; maps = some; refusal = refl }) }
-
-pub returns-then-not-is_empty-clause-object : goal.returns-then-not-is_empty-clause-object
-returns-then-not-is_empty-clause-object c = λ e fault. absurd (never_both (chosen_of c.args.choice) c.args.bytes.now c.in-Ok.program e c.in-Ok.ensures.program fault)
-
-pub returns-then-not-is_empty-clause-refused : goal.returns-then-not-is_empty-clause-refused
-returns-then-not-is_empty-clause-refused c = λ r refused.
-    let p = c.in-Ok.program in
-    inl (ap (λ x. Err (Refused x)) (sym (not_built (chosen_of c.args.choice) c.args.bytes.now p c.in-Ok.ensures.program r (accepted_of p c.in-Ok-count.counted c.in-Ok-count.ensures.counted) refused)))
-
-pub realize-requires-clause-no_maps : goal.realize-requires-clause-no_maps
-realize-requires-clause-no_maps c = no_maps c.in-Ok.program.decls c.decls.result.now c.is_empty.result c.is_empty.ensures c.decls.ensures.decls c.if-not-is_empty.false
-
 pub returns-in_err-text-clause-object : goal.returns-in_err-text-clause-object
 returns-in_err-text-clause-object c = λ e fault. absurd (never_both (chosen_of c.args.choice) c.args.bytes.now c.in-Ok.program e c.in-Ok.ensures.program fault)
 
 pub returns-in_err-text-clause-refused : goal.returns-in_err-text-clause-refused
 returns-in_err-text-clause-refused c = λ r refused.
     let p = c.in-Ok.program in
-    absurd (no_refusal (chosen_of c.args.choice) c.args.bytes.now p c.in-Ok.ensures.program r (accepted_of p c.in-Ok-count.counted c.in-Ok-count.ensures.counted) (no_maps p.decls c.decls.result.now c.is_empty.result c.is_empty.ensures c.decls.ensures.decls c.if-not-is_empty.false) refused)
+    absurd (no_refusal (chosen_of c.args.choice) c.args.bytes.now p c.in-Ok.ensures.program r (accepted_of p c.in-Ok-count.counted c.in-Ok-count.ensures.counted) refused)
 
 pub returns-clause-ok : goal.returns-clause-ok
 returns-clause-ok c =
@@ -60,7 +43,7 @@ returns-clause-ok c =
       program = p;
       object = c.in-Ok.ensures.program;
       is_program = c.decls.ensures.program;
-      decls = c.in_ok-decls.ensures ∙ c.decls-2.ensures.decls;
+      decls = c.in_ok-decls.ensures ∙ c.decls.ensures.decls;
       has_size = record { accepted = accepted_of p counted c.in-Ok-count.ensures.counted; stages = refl; records = refl; nodes = count };
       realizes = subst (λ n. Realizes c.in_ok-text.text.items p (record { stages = counted.stages.rows; records = counted.stages.records; nodes = n })) (sym count) c.in_ok-text.ensures;
     }
@@ -71,4 +54,4 @@ returns-clause-object c = λ e fault. absurd (never_both (chosen_of c.args.choic
 pub returns-clause-refused : goal.returns-clause-refused
 returns-clause-refused c = λ r refused.
     let p = c.in-Ok.program in
-    absurd (no_refusal (chosen_of c.args.choice) c.args.bytes.now p c.in-Ok.ensures.program r (accepted_of p c.in-Ok-count.counted c.in-Ok-count.ensures.counted) (no_maps p.decls c.decls.result.now c.is_empty.result c.is_empty.ensures c.decls.ensures.decls c.if-not-is_empty.false) refused)
+    absurd (no_refusal (chosen_of c.args.choice) c.args.bytes.now p c.in-Ok.ensures.program r (accepted_of p c.in-Ok-count.counted c.in-Ok-count.ensures.counted) refused)

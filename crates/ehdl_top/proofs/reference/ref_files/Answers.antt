@@ -1,4 +1,4 @@
-use Rattle.std.proofs.Common.{List, [], ◌∷◌, map, None, Some, refl, subst}
+use Rattle.std.proofs.Common.{List, [], ◌∷◌, map, None, Some, refl, sym, ◌∙◌, subst}
 use Rattle.xdp_object.specs.Choice.{chosen_of}
 use Rattle.maps_text.specs.Writing.{text_of}
 use Rattle.command_line.specs.Request.{AskRef, names_of}
@@ -13,10 +13,14 @@ use Rattle.ehdl_top.specs.Steps.{write_of}
 use Rattle.ehdl_top.proofs.StateLemmas.{changes_none, changes_then}
 use Rattle.ehdl_top.proofs.WriteLemmas.{of_as}
 use Rattle.ehdl_top.proofs.ResultLemmas.{result_outputs_of}
-use Rattle.ehdl_top.proofs.OutcomeLemmas.{may_ready, starts_from, ref_makes}
+use Rattle.ehdl_top.proofs.OutcomeLemmas.{may_ready, starts_from, read_as, ref_makes}
 use Rattle.ehdl_top.proofs.FormLemmas.{decls_held}
+use Rattle.ehdl_top.proofs.RealizedLemmas.{declared_of}
 use Rattle.ehdl_top.proofs.EndLemmas.{was_ready, ends_unread, ends_mapless, ends_unwritten, ends_done}
 use Rattle.ehdl_top.proofs.reference.ref_files.Goals as goal
+
+pub read_maps-requires : goal.read_maps-requires
+read_maps-requires g c = declared_of c.in_ok-accepted.accepted.program c.decls.result.now c.decls.ensures.program c.decls.ensures.decls
 
 pub ref_writes-requires-clause-unfolded : goal.ref_writes-requires-clause-unfolded
 ref_writes-requires-clause-unfolded g c = let counts = c.in_ok-accepted.ensures.read.2.counts in (counts.graph, counts.unfolded)
@@ -30,9 +34,9 @@ returns-in_err-maps g c =
     let new = state_of g.S.Shelf c.read_maps.new.shelf in
     let object = c.in_ok-accepted.ensures.read in
     ends_mapless (AskRef names choice c.args.ifindex) old read new c.in_err-maps.field-0.0 c.read_input.ensures.kept c.read_maps.ensures.kept c.from_residual-in_err-maps.result
-    (input names.object (program_form choice accepted) ∷ []) (input names.capture capture_form ∷ []) names.maps c.in_ok-accepted.accepted.program.decls (held_decls choice (old.held names.object)) c.from_residual-in_err-maps.ensures.1 refl
+    (input names.object (program_form choice accepted) ∷ []) (input names.capture capture_form ∷ []) names.maps c.decls.result.now (held_decls choice (old.held names.object)) c.from_residual-in_err-maps.ensures.1 refl
     (λ told. (was_ready (program_form choice accepted) names.object old old object.0 (changes_none old) object.1 told, tt))
-    (λ told. decls_held choice (old.held names.object) object.0 c.in_ok-accepted.accepted.program (object.1.there told) object.2.taken.object) c.in_err-maps.ensures.unread
+    (λ told. decls_held choice (old.held names.object) object.0 c.in_ok-accepted.accepted.program (object.1.there told) object.2.taken.object ∙ sym c.decls.ensures.decls) c.in_err-maps.ensures.unread
 
 pub returns-in_err-capture : goal.returns-in_err-capture
 returns-in_err-capture g c =
@@ -49,7 +53,7 @@ returns-in_err-capture g c =
     (λ told. (
       was_ready (program_form choice accepted) names.object old old object.0 (changes_none old) object.1 told,
       may_ready names.maps c.in_ok-accepted.accepted.program.decls declared old.held c.in_ok-maps.maps (decls_held choice (old.held names.object) object.0 c.in_ok-accepted.accepted.program (object.1.there told) object.2.taken.object)
-          (starts_from names.maps c.in_ok-accepted.accepted.program.decls old read c.in_ok-maps.maps c.read_input.ensures.kept c.in_ok-maps.ensures.read told),
+          (starts_from names.maps c.in_ok-accepted.accepted.program.decls old read c.in_ok-maps.maps c.read_input.ensures.kept (read_as names.maps _ _ read c.in_ok-maps.maps c.decls.ensures.decls c.in_ok-maps.ensures.read) told),
     ))
     c.in_err-capture.ensures.unread
 
@@ -71,7 +75,7 @@ returns-in_err-write_all g c =
     (of_as (outputs_of request) (map write_of c.in_ok-writes.writes.items) (result_outputs names c.in_ok-capture.capture.magic capture.2.packets ref.answers (Some (text_of ref.final))).writes ref.writes_are
     (result_outputs_of names c.in_ok-capture.capture.magic capture.2.packets ref.answers (Some (text_of ref.final))))
     (changes_then [] old later mid both c.read_input-2.ensures.kept)
-    (ref_makes names (chosen_of c.args.choice) c.args.ifindex old read later object.0 capture.0 c.in_ok-accepted.accepted.program c.in_ok-maps.maps c.in_ok-capture.capture.magic capture.2.packets c.in_ok-writes.writes.items c.requires c.read_input.ensures.kept both object.1 object.2.taken c.in_ok-maps.ensures.read capture.1 capture.2.is ref)
+    (ref_makes names (chosen_of c.args.choice) c.args.ifindex old read later object.0 capture.0 c.in_ok-accepted.accepted.program c.in_ok-maps.maps c.in_ok-capture.capture.magic capture.2.packets c.in_ok-writes.writes.items c.requires c.read_input.ensures.kept both object.1 object.2.taken (read_as names.maps _ _ read c.in_ok-maps.maps c.decls.ensures.decls c.in_ok-maps.ensures.read) capture.1 capture.2.is ref)
     (subst P c.deref.ensures.value c.in_err-write_all.ensures.failed)
 
 pub returns : goal.returns
@@ -92,5 +96,5 @@ returns g c =
     (of_as (outputs_of request) (map write_of c.in_ok-writes.writes.items) (result_outputs names c.in_ok-capture.capture.magic capture.2.packets ref.answers (Some (text_of ref.final))).writes ref.writes_are
     (result_outputs_of names c.in_ok-capture.capture.magic capture.2.packets ref.answers (Some (text_of ref.final))))
     (changes_then [] old later mid both c.read_input-2.ensures.kept)
-    (ref_makes names (chosen_of c.args.choice) c.args.ifindex old read later object.0 capture.0 c.in_ok-accepted.accepted.program c.in_ok-maps.maps c.in_ok-capture.capture.magic capture.2.packets c.in_ok-writes.writes.items c.requires c.read_input.ensures.kept both object.1 object.2.taken c.in_ok-maps.ensures.read capture.1 capture.2.is ref)
+    (ref_makes names (chosen_of c.args.choice) c.args.ifindex old read later object.0 capture.0 c.in_ok-accepted.accepted.program c.in_ok-maps.maps c.in_ok-capture.capture.magic capture.2.packets c.in_ok-writes.writes.items c.requires c.read_input.ensures.kept both object.1 object.2.taken (read_as names.maps _ _ read c.in_ok-maps.maps c.decls.ensures.decls c.in_ok-maps.ensures.read) capture.1 capture.2.is ref)
     (subst P c.deref.ensures.value c.in_ok-write_all.ensures.done)

@@ -1,5 +1,4 @@
 use Rattle.std.proofs.Common.{ℕ, List, ◌++◌, map, Some, ap, subst, ◌∙◌}
-use Rattle.xdp_maps.specs.State.{opened_state}
 use Rattle.beat_core.specs.declared.frame.Timed.{Timed}
 use Rattle.ehdl_build.specs.Compiled.{IsSequential}
 use Rattle.command_line.specs.Request.{names_of}
@@ -12,12 +11,12 @@ use Rattle.ehdl_top.proofs.run.run_writes.Goals as goal
 pub push_results-requires : goal.push_results-requires
 push_results-requires c =
     let r = c.requires.realized in
-    counted r.0 (opened_state r.0.decls) c.in_ok-ran.ran.maps c.args.ifindex c.deref.result.now c.in_ok-ran.ran.answers c.args.capture.now c.requires.captured.0 (c.in_ok-ran.ensures.sequential r.0 r.1) c.deref.ensures.value c.requires.captured.1
+    counted r.0 c.args.first.now c.in_ok-ran.ran.maps c.args.ifindex c.deref.result.now c.in_ok-ran.ran.answers c.args.capture.now c.requires.captured.0 (c.in_ok-ran.ensures.sequential r.0 r.1) c.deref.ensures.value c.requires.captured.1
 
 pub returns : goal.returns
 returns c = λ program realized packets of.
     let ran = c.in_ok-ran.ran in
-    let Q : List Timed → Type 0 = λ timed. IsSequential program (opened_state program.decls) (came_by c.args.ifindex timed) ran.answers ran.maps in
+    let Q : List Timed → Type 0 = λ timed. IsSequential program c.args.first.now (came_by c.args.ifindex timed) ran.answers ran.maps in
     let names = names_of c.args.files.now in
     let text = c.args.built.text.items in
     record {

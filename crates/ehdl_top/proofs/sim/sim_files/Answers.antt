@@ -1,6 +1,5 @@
-use Rattle.std.proofs.Common.{Option, [], ◌∷◌, ◌++◌, List, map, length, inl, refl, sym, ap, subst, ◌∙◌, arith}
+use Rattle.std.proofs.Common.{Option, [], ◌∷◌, ◌++◌, List, map, inl, refl, sym, ap, subst, ◌∙◌}
 use Rattle.net_core.specs.View.{netlist_of}
-use Rattle.xdp_maps.specs.declared.decl.MapDecl.{MapDecl}
 use Rattle.xdp_object.specs.Choice.{chosen_of}
 use Rattle.command_line.specs.Request.{AskSim, names_of}
 use Rattle.ehdl_top.specs.declared.error.CommandError.{CommandError}
@@ -17,18 +16,21 @@ use Rattle.ehdl_top.specs.Steps.{write_of}
 use Rattle.ehdl_top.proofs.StateLemmas.{changes_none, changes_then}
 use Rattle.ehdl_top.proofs.WriteLemmas.{of_as}
 use Rattle.ehdl_top.proofs.ResultLemmas.{result_outputs_of}
-use Rattle.ehdl_top.proofs.OutcomeLemmas.{Makes, may_ready, starts_from, sim_makes}
+use Rattle.ehdl_top.proofs.OutcomeLemmas.{Makes, may_ready, starts_from, read_as, sim_makes}
 use Rattle.ehdl_top.proofs.FormLemmas.{decls_held}
 use Rattle.ehdl_top.proofs.EndLemmas.{was_ready, ends_unread, ends_mapless, ends_unwritten, ends_done, ends_driven}
-use Rattle.ehdl_top.proofs.RealizedLemmas.{limits_of}
+use Rattle.ehdl_top.proofs.RealizedLemmas.{limits_of, declared_of}
 use Rattle.ehdl_top.proofs.SimulationLemmas.{sim_ends}
 use Rattle.ehdl_top.proofs.sim.sim_files.Goals as goal
 
+pub read_maps-requires : goal.read_maps-requires
+read_maps-requires g c = declared_of c.in_ok-program.program c.decls.result.now c.decls.ensures.program c.decls.ensures.decls
+
 pub simulate-requires-clause-few : goal.simulate-requires-clause-few
-simulate-requires-clause-few g c = omega (arith, ap (λ (ds : List MapDecl). length ds) c.in_ok-maps.ensures.decls, c.decls-decls.ensures.program.maps)
+simulate-requires-clause-few g c = (declared_of c.in_ok-program.program c.in_ok-maps.maps.decls c.decls.ensures.program (c.in_ok-maps.ensures.decls ∙ c.decls.ensures.decls)).few
 
 pub simulate-requires-clause-limits : goal.simulate-requires-clause-limits
-simulate-requires-clause-limits g c = limits_of c.in_ok-program.program c.in_ok-maps.maps.decls c.decls-decls.ensures.program c.in_ok-maps.ensures.decls
+simulate-requires-clause-limits g c = limits_of c.in_ok-program.program c.in_ok-maps.maps.decls c.decls.ensures.program (c.in_ok-maps.ensures.decls ∙ c.decls.ensures.decls)
 
 pub returns-in_err-design : goal.returns-in_err-design
 returns-in_err-design g c =
@@ -53,12 +55,12 @@ returns-in_err-maps g c =
     let object = c.in_ok-program.ensures.read in
     let text = c.in_ok-design.ensures.read in
     ends_mapless (AskSim names c.args.verilog.now choice c.args.ifindex c.args.clocks) old second new c.in_err-maps.field-0.0 (changes_then [] old first second c.read_input.ensures.kept c.read_input-2.ensures.kept) c.read_maps.ensures.kept c.from_residual-in_err-maps.result
-    (input names.object (object_form choice) ∷ input c.args.verilog.now text_form ∷ []) (input names.capture capture_form ∷ []) names.maps c.in_ok-program.program.decls (held_decls choice (old.held names.object)) c.from_residual-in_err-maps.ensures.1 refl
+    (input names.object (object_form choice) ∷ input c.args.verilog.now text_form ∷ []) (input names.capture capture_form ∷ []) names.maps c.decls.result.now (held_decls choice (old.held names.object)) c.from_residual-in_err-maps.ensures.1 refl
     (λ told. (
       was_ready (object_form choice) names.object old old object.0 (changes_none old) object.1 told,
       (was_ready text_form c.args.verilog.now old first text.0 c.read_input.ensures.kept text.1 told, tt),
     ))
-    (λ told. decls_held choice (old.held names.object) object.0 c.in_ok-program.program (object.1.there told) object.2) c.in_err-maps.ensures.unread
+    (λ told. decls_held choice (old.held names.object) object.0 c.in_ok-program.program (object.1.there told) object.2 ∙ sym c.decls.ensures.decls) c.in_err-maps.ensures.unread
 
 pub returns-in_err-capture : goal.returns-in_err-capture
 returns-in_err-capture g c =
@@ -80,7 +82,7 @@ returns-in_err-capture g c =
       (
         was_ready text_form c.args.verilog.now old first text.0 c.read_input.ensures.kept text.1 told,
         may_ready names.maps c.in_ok-program.program.decls declared old.held c.in_ok-maps.maps (decls_held choice (old.held names.object) object.0 c.in_ok-program.program (object.1.there told) object.2)
-            (starts_from names.maps c.in_ok-program.program.decls old second c.in_ok-maps.maps both c.in_ok-maps.ensures.read told),
+            (starts_from names.maps c.in_ok-program.program.decls old second c.in_ok-maps.maps both (read_as names.maps _ _ second c.in_ok-maps.maps c.decls.ensures.decls c.in_ok-maps.ensures.read) told),
       ),
     ))
     c.in_err-capture.ensures.unread
@@ -106,7 +108,7 @@ returns-in_err-write_all g c =
     let of = of_as (outputs_of request) (map write_of simulated.writes.items) (sim_outputs names c.in_ok-capture.capture.magic capture.2.packets sim.given).writes sim.writes_are
     (result_outputs_of names c.in_ok-capture.capture.magic capture.2.packets sim.given.answers (final_text sim.given.end)) in
     let makes = sim_makes names c.args.verilog.now (chosen_of c.args.choice) c.args.ifindex c.args.clocks old first second third object.0 text.0 capture.0 c.in_ok-program.program (netlist_of c.in_ok-design.design) c.in_ok-maps.maps c.in_ok-capture.capture.magic capture.2.packets simulated c.requires c.read_input.ensures.kept both all
-    object.1 object.2 text.1 text.2 c.in_ok-maps.ensures.read capture.1 capture.2.is sim in
+    object.1 object.2 text.1 text.2 (read_as names.maps _ _ second c.in_ok-maps.maps c.decls.ensures.decls c.in_ok-maps.ensures.read) capture.1 capture.2.is sim in
     let P : List code.Write → Type 0 = λ ws. OneFailed (map write_of ws) mid new in
     ends_unwritten request simulated.end old mid new (map write_of simulated.writes.items) c.from_residual-in_err-write_all.result c.from_residual-in_err-write_all.ensures.1 of same makes (subst P c.deref.ensures.value c.in_err-write_all.ensures.failed)
 
@@ -131,7 +133,7 @@ returns-in-None g c =
     let of = of_as (outputs_of request) (map write_of simulated.writes.items) (sim_outputs names c.in_ok-capture.capture.magic capture.2.packets sim.given).writes sim.writes_are
     (result_outputs_of names c.in_ok-capture.capture.magic capture.2.packets sim.given.answers (final_text sim.given.end)) in
     let makes = sim_makes names c.args.verilog.now (chosen_of c.args.choice) c.args.ifindex c.args.clocks old first second third object.0 text.0 capture.0 c.in_ok-program.program (netlist_of c.in_ok-design.design) c.in_ok-maps.maps c.in_ok-capture.capture.magic capture.2.packets simulated c.requires c.read_input.ensures.kept both all
-    object.1 object.2 text.1 text.2 c.in_ok-maps.ensures.read capture.1 capture.2.is sim in
+    object.1 object.2 text.1 text.2 (read_as names.maps _ _ second c.in_ok-maps.maps c.decls.ensures.decls c.in_ok-maps.ensures.read) capture.1 capture.2.is sim in
     let P : List code.Write → Type 0 = λ ws. AreDone (map write_of ws) mid new in
     let Q : Option CommandError → Type 0 = λ end. Makes request old.held end (map write_of simulated.writes.items) in
     ends_done request old mid new (map write_of simulated.writes.items) (inl refl) of same (λ told. subst Q c.in-None.is (makes told)) (subst P c.deref.ensures.value c.in_ok-write_all.ensures.done)
@@ -157,7 +159,7 @@ returns g c =
     let of = of_as (outputs_of request) (map write_of simulated.writes.items) (sim_outputs names c.in_ok-capture.capture.magic capture.2.packets sim.given).writes sim.writes_are
     (result_outputs_of names c.in_ok-capture.capture.magic capture.2.packets sim.given.answers (final_text sim.given.end)) in
     let makes = sim_makes names c.args.verilog.now (chosen_of c.args.choice) c.args.ifindex c.args.clocks old first second third object.0 text.0 capture.0 c.in_ok-program.program (netlist_of c.in_ok-design.design) c.in_ok-maps.maps c.in_ok-capture.capture.magic capture.2.packets simulated c.requires c.read_input.ensures.kept both all
-    object.1 object.2 text.1 text.2 c.in_ok-maps.ensures.read capture.1 capture.2.is sim in
+    object.1 object.2 text.1 text.2 (read_as names.maps _ _ second c.in_ok-maps.maps c.decls.ensures.decls c.in_ok-maps.ensures.read) capture.1 capture.2.is sim in
     let P : List code.Write → Type 0 = λ ws. AreDone (map write_of ws) mid new in
     let Q : Option CommandError → Type 0 = λ end. Makes request old.held end (map write_of simulated.writes.items) in
     ends_driven request c.in-Some.error old mid new (map write_of simulated.writes.items)

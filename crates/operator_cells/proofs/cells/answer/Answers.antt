@@ -8,6 +8,7 @@ returns-clause-grows c = added_grows _ _ _ _ c.args.site c.in_ok-c.ensures (reco
   earlier = c.requires.earlier;
   enough = omega arith;
   inputs = tt;
+  alone = tt;
   in_range = tt;
   width = c.requires.width;
   from = omega arith;

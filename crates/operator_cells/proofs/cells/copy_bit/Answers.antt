@@ -10,6 +10,7 @@ returns-clause-makes c = added_makes _ _ _ _ c.in_ok-c.ensures (record {
   earlier = All-cons (λ i. i < length (seen c.args.cells.now.items)) c.args.a [] c.requires (All-nil (λ i. i < length (seen c.args.cells.now.items)));
   enough = omega arith;
   inputs = tt;
+  alone = tt;
   in_range = tt;
   width = omega arith;
   from = omega arith;

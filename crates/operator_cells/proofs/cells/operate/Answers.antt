@@ -8,6 +8,7 @@ returns-clause-makes c = added_makes _ _ _ _ c.in_ok-c.ensures (record {
   earlier = c.requires.earlier;
   enough = c.requires.enough;
   inputs = c.requires.inputs;
+  alone = c.requires.alone;
   in_range = c.requires.in_range;
   width = c.requires.width;
   from = c.requires.from;

@@ -8,6 +8,7 @@ returns-clause-grows c = (added_makes _ _ _ _ c.in_ok-c.ensures (record {
   earlier = c.requires;
   enough = omega arith;
   inputs = tt;
+  alone = tt;
   in_range = tt;
   width = omega arith;
   from = omega arith;

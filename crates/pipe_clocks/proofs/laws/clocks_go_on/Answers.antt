@@ -4,6 +4,7 @@ use Rattle.pipe_clocks.proofs.laws.clocks_go_on.Goals as goal
 pub returns : goal.returns
 returns c =
     let laws : StandingLaws = record {
+      show = c.clocks_follow.ensures.shows;
       follow = c.clocks_follow.ensures.clock;
       begins = c.clocks_follow.ensures.first;
       order = c.in_order.ensures.clock;

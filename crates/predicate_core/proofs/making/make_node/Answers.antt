@@ -163,6 +163,10 @@ returns-clause-rows c fit =
     (subst (λ (ws : List Way). Entered (take (length c.arrive_at.new.progress.pending.items) (targets ws)) (targets ws) (entries_of c.arrive_at.new.progress) (map (λ x. x.items) c.enter.new.entries.items) (pending_of c.arrive_at.new.progress) (map (λ x. x.items) c.enter.new.pending.items) c.deref-4.result.now) c.deref-3.ensures.value c.in_ok-enter.ensures)))
     (((c.in_ok-push.ensures.items ∙ ap (λ (n : Node). c.arrive_at.new.progress.nodes.items ++ n ∷ []) (node_made (graph_of c.args.program.now c.args.unfolded.now) c.args.node c.in_ok-arrived.arrived.here.guard (seen c.args.progress.now.made.cells.items) (seen c.pass.new.cells.items) _ _ _
     (c.place-place.ensures ∙ sym (ap (λ (n : NodeView). n.place) is)) (omega (arith, c.in-Ok.ensures, c.len-first.ensures, seen_count c.args.progress.now.made.cells.items)) (omega (arith, c.in-Ok-try_from.ensures, c.len.ensures, seen_count c.pass.new.cells.items))))) ∙ ap (λ (ns : Vec Node Global). ns.items ++ made_next (graph_of c.args.program.now c.args.unfolded.now) c.args.node c.in_ok-arrived.arrived.here.guard (seen c.args.progress.now.made.cells.items) (seen c.pass.new.cells.items) ∷ []) c.in_ok-arrived.ensures.comes.nodes)
+    (subst (λ (ks : Kinds). NodePoints c.args.program.now.decls c.args.insn.now c.in_ok-arrived.arrived.pending.items ks c.in_ok-arrived.arrived.here (made_of c.arrive_at.new.progress.made) (made_of c.step_node.new.made)) of_point
+    (subst (λ (w : List ℕ). NodePoints c.args.program.now.decls c.args.insn.now w c.index-at.result.now.kinds c.in_ok-arrived.arrived.here (made_of c.arrive_at.new.progress.made) (made_of c.step_node.new.made)) c.deref.ensures.value
+    (subst (λ (ds : List MapDecl). NodePoints ds c.args.insn.now c.deref.result.now c.index-at.result.now.kinds c.in_ok-arrived.arrived.here (made_of c.arrive_at.new.progress.made) (made_of c.step_node.new.made)) c.decls.ensures.decls c.in_ok-step_node.ensures.points)))
+    refl
 
 pub returns-clause-points : goal.returns-clause-points
 returns-clause-points c points =

@@ -36,6 +36,7 @@ returns-clause-rows c =
     (subst (λ (n : ℕ). AreWaiting n (length (seen c.unwritten.new.cells.items)) c.in_ok-none.none.items) (ap length c.decls.ensures.decls) c.in_ok-none.ensures.waiting)
     (c.in_ok-push.ensures.items ∙ ap (λ (ws : List Way). ws ++ c.in_ok-start.start ∷ []) c.new-ways.ensures.items)
     (ap (map (λ x. x.items)) (c.in_ok-push-2.ensures.items ∙ ap (λ xs. xs ++ c.in_ok-from_slice.field-0 ∷ []) c.new-pending.ensures.items) ∙ ap (λ (r : List ℕ). r ∷ []) (c.in_ok-from_slice.ensures.ok ∙ c.deref.ensures.value))
+    (ap sited c.new-2.ensures.items ∙ sited_none)
 
 pub returns-clause-points : goal.returns-clause-points
 returns-clause-points c =

@@ -2,10 +2,21 @@ use Rattle.std.proofs.Common.{◌∙◌, ap, List, ℕ}
 use Rattle.xdp_maps.specs.Calls.{patched}
 use Rattle.operator_cells.proofs.RisingLaws.{stand_none, stand_more}
 use Rattle.held_cells.specs.declared.held.Held.{Held}
+use Rattle.held_cells.specs.Held.{number_of}
 use Rattle.held_cells.proofs.RowLaws.{rise_last}
 use Rattle.register_cells.proofs.ValueLaws.{same_most}
 use Rattle.register_cells.proofs.PointingLaws.{window_keeps}
+use Rattle.register_cells.proofs.Made.{bytes_after}
 use Rattle.register_cells.proofs.storing.to_window.Goals as goal
+
+pub returns-clause-makes : goal.returns-clause-makes
+returns-clause-makes c =
+    let made = rw c.bytes_in.ensures.value at c.in_ok-bytes.ensures.makes in
+    let with_window : List ℕ → Held = λ window. record c.args.held.now { window = window } in (
+      c.in_ok-bytes.bytes.items,
+      ap with_window (c.overwrite.ensures ∙ ap (patched c.args.held.now.window c.args.at) c.deref.ensures.value),
+      bytes_after (λ v. number_of v c.args.n c.args.q) c.in_ok-c.ensures.makes made,
+    )
 
 pub returns-clause-rises : goal.returns-clause-rises
 returns-clause-rises c =

@@ -1,0 +1,4 @@
+pub mod NoLoops
+pub mod Walked
+pub mod FewStages
+pub mod DemoGraph

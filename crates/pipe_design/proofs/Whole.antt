@@ -1,0 +1,236 @@
+-- The parts that are made for a draft are those of a pipeline.
+use Rattle.std.specs.Prelude.{◌^◌}
+use Rattle.std.proofs.Common.{◌≡◌, ◌∙◌, ℕ, suc, ◌<◌, ◌≤◌, List, length, get_or, refl, sym, ap, subst, arith, slice_index}
+use Rattle.std.specs.declared.vec.Vec.{Vec}
+use Rattle.std.specs.declared.alloc.Global.{Global}
+use Rattle.xdp_maps.specs.declared.decl.MapKind.TheVariants.{Array}
+use Rattle.block_core.specs.declared.name.Name.{Name}
+use Rattle.block_core.specs.declared.name.Name.TheVariants as name
+use Rattle.block_core.specs.declared.block.Block.{Block}
+use Rattle.block_core.specs.Blocks.{BlockTree, Whole}
+use Rattle.block_core.specs.declared.block.Placed.{Placed}
+use Rattle.block_core.specs.View.{block_of, Makes}
+use Rattle.cell_core.specs.View.{program_of}
+use Rattle.cell_nets.specs.declared.operand.Operand.TheVariants.{Known}
+use Rattle.control_net.specs.Returns.{due_name}
+use Rattle.read_net.specs.declared.sites.MapNets.{MapNets}
+use Rattle.site_operands.specs.declared.SiteNets.{SiteNets}
+use Rattle.change_net.specs.declared.change.ChangePart.{ChangePart}
+use Rattle.target_net.specs.declared.targets.TargetPart.{TargetPart}
+use Rattle.pipe_net.specs.declared.parts.Part.{Part}
+use Rattle.pipe_net.specs.declared.parts.Sizes.{Sizes}
+use Rattle.pipe_net.specs.Parts as part
+use Rattle.pipe_net.specs.Parts.{part_place, part_count}
+use Rattle.pipe_net.specs.Layout.{Layout}
+use Rattle.pipe_marks.specs.Parts.{AreMarkParts, AreMarksOf}
+use Rattle.pipe_turns.specs.Maps.{decl_at}
+use Rattle.pipe_maps.specs.Parts.{commits_net, AreMapParts}
+use Rattle.pipe_frames.specs.Parts.{AreFrameParts}
+use Rattle.pipe_forms.specs.Parts.{AreParts}
+use Rattle.pipe_clocks.specs.Following.{IsPipeline}
+use Rattle.mark_parts.specs.Due.{IsDuePart}
+use Rattle.mark_parts.specs.Marks.{IsMarksPart}
+use Rattle.mark_parts.specs.Laws.{IsFor, PartsAreOfMarks}
+use Rattle.slot_parts.specs.declared.slots.SlotsPart.{SlotsPart}
+use Rattle.slot_parts.specs.Slots.{AreSlotsParts}
+use Rattle.slot_parts.specs.Laws.{AreShownMaps, SlotsAreShown}
+use Rattle.turn_parts.specs.Laws.{HasTurnBlocks, IsForTurn, AreTurnPartsOf, PartsAreOfTurns}
+use Rattle.map_parts.specs.declared.committing.MapCommits.{MapCommits}
+use Rattle.map_parts.specs.Laws.{IsSaidBy, PartsAreOfMaps}
+use Rattle.place_parts.specs.Laws.{ArePlacesOf, PartsAreOfPlaces}
+use Rattle.pipe_draft.specs.declared.draft.Draft.{Draft}
+use Rattle.pipe_draft.specs.declared.places.Behind.{Behind}
+use Rattle.pipe_draft.specs.Draft.{program_in, plan_in, decls_in, IsDraft}
+use Rattle.pipe_draft.specs.Places.{ArePlaces}
+use Rattle.pipe_draft.specs.Laid.{IsDrafted, IsAnswered, SitesAreAtPlaces}
+use Rattle.pipe_design.specs.declared.parts.Others.{Others}
+use Rattle.pipe_design.specs.Layout.{Shown, layout}
+use Rattle.pipe_design.specs.Order.{Lists, all_of, whole_of}
+use Rattle.pipe_design.specs.Parts.{AreOthers, AreAllParts, lists_of}
+use Rattle.pipe_design.proofs.Joining.{some_of}
+use Rattle.pipe_design.proofs.Placing.{AreCounted, all_counted, due_at, slots_at, word_at, target_at, host_at, turn_at, commits_at, mark_at, place_at, frames_at, maps_at}
+use Rattle.pipe_design.proofs.Drafted.{drafted, sized, answered, many_forms, many_maps, change_in}
+use Rattle.pipe_design.proofs.Turning.{maps_for}
+
+-- the laws of the builders
+pub record AreLaws : Type 0 where
+  pub slots : SlotsAreShown
+  pub turns : PartsAreOfTurns
+  pub maps : PartsAreOfMaps
+  pub places : PartsAreOfPlaces
+  pub marks : PartsAreOfMarks
+  pub sites : SitesAreAtPlaces
+
+module _ (laws : AreLaws) (d : Draft) (is : IsDraft d) (places : List Behind) (stand : ArePlaces d places) (words : List ℕ) (slots : List SlotsPart) (are_slots : AreSlotsParts d slots) (o : Others) (are : AreOthers d places words o) where
+  -- ---- what the parts show, and the pipeline by it
+  abbrev pub shown : Shown
+  shown = record {
+    shape = are.shape;
+    turn_shape = are.turn.turn_shape;
+    first = o.places.first.items;
+    answer = are.answer;
+    words = words;
+    due = are.dues.nets.items;
+    records = are.turn.records.items;
+    stays = are.turn.turn.stays;
+    changes = o.maps.changes.items;
+  }
+
+  abbrev pub l : Layout
+  l = layout d places shown
+
+  abbrev pub w : Whole Part
+  w = whole_of d.sizes (lists_of slots o)
+
+  many : d.sizes.maps ≡ length d.forms.items
+  many = many_maps d is places stand shown ∙ many_forms d is places stand shown
+
+  by_commit : d.sizes.commit ≡ (plan_in d).commit
+  by_commit = (sized d is places stand shown are.is_shape).commit
+
+  by_last : d.sizes.last ≡ (plan_in d).last
+  by_last = (sized d is places stand shown are.is_shape).last
+
+  marked : are.marked.sizes ≡ d.sizes
+  marked = are.is_marked.sizes
+
+  many_changes : length o.maps.changes.items ≡ length (decls_in d)
+  many_changes = are.maps.are.changes
+
+  loads : d.sizes.loads ≡ length d.loads.items
+  loads = ap (λ (z : Sizes). z.loads) is.sizes ∙ ap length (sym is.loads)
+
+  pub counts : AreCounted d.sizes slots o
+  counts = record {
+    dues = ap (λ (v : Vec (Block (Name Part)) Global). length v.items) are.due_blocks ∙ are.are_dues.count ∙ ap (λ (z : Sizes). suc z.commit) marked;
+    shown = are_slots.count ∙ sym many;
+    words = are.are_places.words.count ∙ sym loads;
+    targets = ap (λ (v : Vec (TargetPart Part) Global). length v.items) are.targets ∙ are.are_turn.targets.count ∙ sym many;
+    maps = are.maps.are.count ∙ sym (many_maps d is places stand shown);
+    changes = many_changes ∙ sym are.maps.are.count;
+    marks = are.marks.count ∙ ap (λ (z : Sizes). suc z.commit) marked;
+    places = are.are_places.stages.count ∙ ap suc (sym by_last);
+  }
+
+  laid : IsDrafted d places l
+  laid = drafted d is places stand shown
+
+  answers : IsAnswered l
+  answers = answered d is places stand shown are.answers
+
+  -- ---- the maps
+  shown_maps : AreShownMaps l w are.nets
+  shown_maps = laws.slots d places l w slots are.nets laid are_slots are.are_nets (λ m r lt. slots_at d.sizes slots o counts m r (omega (arith, lt, many_maps d is places stand shown)))
+
+  -- ---- the parts of turns
+  for_turn : IsForTurn l are.shape are.turn
+  for_turn = record { shape = refl; turn_shape = refl; records = refl; stays = refl }
+
+  turn_blocks : HasTurnBlocks l w are.turn
+  turn_blocks = record {
+    targets = λ m t lt.
+        target_at d.sizes slots o counts m t (omega (arith, lt, many_maps d is places stand shown)) ∙ ap (λ (v : Vec (TargetPart Part) Global). block_of (get_or v.items m t).block) are.targets;
+    host = host_at d.sizes slots o counts ∙ ap block_of are.host;
+    turn = turn_at d.sizes slots o counts ∙ ap block_of are.turn_block;
+    commits = commits_at d.sizes slots o counts ∙ ap block_of are.commits;
+  }
+
+  turns : AreTurnPartsOf l w are.nets are.turn
+  turns = laws.turns d places l w are.shape are.at are.nets are.turn is stand laid answers (sym (are.is_at are.at)) shown_maps are.are_turn for_turn turn_blocks
+
+  -- ---- the parts of maps
+  some_target : (m : ℕ) → m < length (decls_in d) → TargetPart Part
+  some_target m lt = some_of are.turn.targets.items m (omega (arith, lt, are.are_turn.targets.count, many_forms d is places stand shown))
+
+  within : (m : ℕ) → m < length (decls_in d) → m < length d.forms.items
+  within m lt = omega (arith, lt, many_forms d is places stand shown)
+
+  said : IsSaidBy l w turns.parts are.maps.committing
+  said = record {
+    chosen = turns.chosen ∙ sym are.maps.chosen;
+    commits = λ m on lt. ap (λ ns. get_or ns m (name.Port 0)) turns.commits ∙ sym ((are.maps.said.each m on (within m lt)).commits (name.Port 0));
+    targets = λ m on lt. let t = some_target m lt in turns.targets m t lt ∙ sym ((are.maps.said.each m on (within m lt)).targets t);
+  }
+
+  map_parts : AreMapParts l w turns.parts
+  map_parts = laws.maps d places are.at are.maps.committing o.maps l w turns.parts is stand are.is_at laid answers are.maps.are said
+      (λ m y lt. change_in d is places stand shown m y (omega (arith, lt, many_changes))) (maps_at d.sizes slots o counts)
+
+  -- ---- the places
+  place_parts : ArePlacesOf l w
+  place_parts = laws.places d places are.nets o.places l w is stand (maps_for d are.nets are.are_nets) are.are_places
+      (record { drafted = laid; answered = answers; first = refl; maps = λ m n lt. (shown_maps.each m n lt).places })
+      (record {
+        words = λ i x lt. word_at d.sizes slots o counts i x lt;
+        places = λ k b le. place_at d.sizes slots o counts k b (omega (arith, le, by_last));
+      })
+
+  -- ---- the marks
+  for_marks : IsFor l are.marked
+  for_marks = record {
+    program = ap program_of (sym are.is_marked.program);
+    rows = ap slice_index (sym are.is_marked.rows);
+    decls = sym are.is_marked.decls;
+    sizes = sym marked;
+    commit = sym by_commit ∙ ap (λ (z : Sizes). z.commit) (sym marked);
+  }
+
+  some_place : Behind
+  some_place = some_of places 0 (omega (arith, stand.count))
+
+  marks_at : (k : ℕ) → k ≤ (plan_in d).commit → AreMarksOf l k w
+  marks_at k le =
+      let b = some_place in
+      let sites = (get_or places k b).sites.items in
+      let up : k ≤ d.sizes.commit = omega (arith, le, by_commit) in
+      let up_marked : k ≤ are.marked.sizes.commit = subst (λ (z : Sizes). k ≤ z.commit) (sym marked) up in
+      let up_last : k ≤ (plan_in d).last = omega (arith, le, is.ready.commit) in
+      let dx = some_of are.dues.blocks.items k (omega (arith, are.are_dues.count, up_marked)) in
+      let mx = some_of o.marks.items k (omega (arith, are.marks.count, up_marked)) in
+      let due_block : w.block (part.due k) ≡ block_of (get_or are.dues.blocks.items k dx) = due_at d.sizes slots o counts k dx up ∙ ap (λ (v : Vec (Block (Name Part)) Global). block_of (get_or v.items k dx)) are.due_blocks in
+      laws.marks l are.marked w k sites o.maps.changes.items for_marks le (λ j s lt. laws.sites d places l is stand laid answers k j b s le lt)
+      (λ m c lt. change_in d is places stand shown m c (omega (arith, lt, many_changes))) (stand.each k b up_last).sites.count many_changes
+      (subst (IsDuePart are.marked sites k (due_name l.due k)) (sym due_block) (are.are_dues.each k b (name.Port 0) dx up_marked))
+      (subst (IsMarksPart are.marked sites o.maps.changes.items k) (sym (mark_at d.sizes slots o counts k mx up)) (are.marks.each k b mx up_marked))
+
+  -- ---- all parts
+  frame_parts : AreFrameParts l w
+  frame_parts = are.frames l w refl refl refl refl refl refl refl (frames_at d.sizes slots o counts)
+
+  uncounted : (m : ℕ) → m < length (decls_in d) → (decl_at l m).kind ≡ Array → (turns.parts.maps m).used ≡ Known 0
+  uncounted m lt array =
+      let n = some_of are.nets m (omega (arith, lt, are.are_nets.count, many_forms d is places stand shown)) in
+      ap (λ (x : MapNets (Name Part)). x.used) (turns.maps m n lt) ∙ (shown_maps.each m n lt).uncounted array
+
+  pub are_parts : AreParts l w
+  are_parts = record {
+    place = refl;
+    parts = refl;
+    sized = sized d is places stand shown are.is_shape;
+    frames = frame_parts;
+    marks = marks_at;
+    stages = place_parts.stages;
+    turns = turns.parts;
+    maps = map_parts;
+    readings = place_parts.readings;
+    uncounted = uncounted;
+    apart = place_parts.apart;
+  }
+
+  pub pipeline : IsPipeline l w
+  pipeline = record { parts = are_parts; changed = (are.answers some_place).numbers }
+
+  -- ---- the parts in memory
+  pub few_blocks : length (all_of (lists_of slots o)) < 2 ^ 32
+  few_blocks = omega (arith, all_counted d.sizes slots o counts, is.small.commit, is.small.last, is.small.maps, is.small.loads)
+
+  pub all_parts : (lists : Lists) → lists ≡ lists_of slots o → (ms : List (Placed Part)) → ((z : Sizes) → length (all_of lists) ≡ part_count z → Makes part_place ms (whole_of z lists)) → AreAllParts d places words ms
+  all_parts lists same ms makes =
+      let count : length (all_of lists) ≡ part_count d.sizes = ap (λ (xs : Lists). length (all_of xs)) same ∙ all_counted d.sizes slots o counts in
+      record {
+        shown = shown;
+        words_are = refl;
+        whole = w;
+        makes = subst (λ (xs : Lists). Makes part_place ms (whole_of d.sizes xs)) same (makes d.sizes count);
+        pipeline = pipeline;
+      }

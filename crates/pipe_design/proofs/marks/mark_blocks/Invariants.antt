@@ -1,0 +1,14 @@
+use Rattle.std.proofs.Common.{◌≡◌, ℕ, ◌<◌, length, get_or}
+use Rattle.block_core.specs.declared.name.Name.{Name}
+use Rattle.block_core.specs.declared.block.Block.{Block}
+use Rattle.block_core.specs.View.{block_of}
+use Rattle.pipe_net.specs.declared.parts.Part.{Part}
+use Rattle.pipe_draft.specs.declared.places.Behind.{Behind}
+use Rattle.mark_parts.specs.Marks.{IsMarksPart}
+use Rattle.pipe_design.proofs.marks.mark_blocks.Given as goal
+
+abbrev pub invariant-loop-k : goal.invariant-loop-k
+invariant-loop-k l = record {
+  count : length l.blocks.items ≡ l.k;
+  each : (k : ℕ) (x : Block (Name Part)) → k < l.k → (b : Behind) → IsMarksPart l.layout (get_or l.places k b).sites.items l.changes k (block_of (get_or l.blocks.items k x));
+}

@@ -1,0 +1,32 @@
+-- The parts of marks at all places up to the commit place, and those that say which packets are due.
+use Rattle.std.specs.Prelude.{◌≡◌, ℕ, suc, ◌≤◌, List, length}
+use Rattle.std.proofs.Common.{get_or}
+use Rattle.block_core.specs.declared.name.Name.{Name}
+use Rattle.block_core.specs.declared.block.Block.{Block}
+use Rattle.block_core.specs.View.{block_of}
+use Rattle.change_net.specs.declared.change.ChangePart.{ChangePart}
+use Rattle.pipe_net.specs.declared.parts.Part.{Part}
+use Rattle.pipe_draft.specs.declared.draft.Draft.{Draft}
+use Rattle.pipe_draft.specs.declared.places.Behind.{Behind}
+use Rattle.pipe_draft.specs.Draft.{plan_in, decls_in}
+use Rattle.mark_parts.specs.declared.layout.MarkLayout.{MarkLayout}
+use Rattle.mark_parts.specs.Due.{IsDuePart}
+use Rattle.mark_parts.specs.Marks.{IsMarksPart}
+use Rattle.pipe_design.specs.declared.marks.DueParts.{DueParts}
+
+-- what marks are made for, of a draft
+pub record IsMarkLayoutOf (d : Draft) (f : MarkLayout) : Type 0 where
+  pub program : f.program.now ≡ d.program.now
+  pub rows : f.rows.now ≡ (plan_in d).rows
+  pub decls : f.decls.now ≡ decls_in d
+  pub sizes : f.sizes ≡ d.sizes
+
+-- of each place its net and the block that shows it
+pub record AreDueParts (f : MarkLayout) (places : List Behind) (r : DueParts) : Type 0 where
+  pub count : length r.blocks.items ≡ suc f.sizes.commit
+  pub nets : length r.nets.items ≡ suc f.sizes.commit
+  pub each : (k : ℕ) (b : Behind) (n : Name Part) (x : Block (Name Part)) → k ≤ f.sizes.commit → IsDuePart f (get_or places k b).sites.items k (get_or r.nets.items k n) (block_of (get_or r.blocks.items k x))
+
+pub record AreMarkBlocks (f : MarkLayout) (places : List Behind) (changes : List (ChangePart (Name Part))) (blocks : List (Block (Name Part))) : Type 0 where
+  pub count : length blocks ≡ suc f.sizes.commit
+  pub each : (k : ℕ) (b : Behind) (x : Block (Name Part)) → k ≤ f.sizes.commit → IsMarksPart f (get_or places k b).sites.items changes k (block_of (get_or blocks k x))

@@ -1,0 +1,120 @@
+-- The parts that are made for a draft, and their blocks in order.
+use Rattle.std.specs.Prelude.{◌≡◌, ℕ, ◌<◌, All, List, [], ◌∷◌, length, map as map_list}
+use Rattle.std.proofs.Common.{get_or}
+use Rattle.block_core.specs.declared.name.Name.{Name}
+use Rattle.block_core.specs.declared.block.Placed.{Placed}
+use Rattle.block_core.specs.Blocks.{BlockTree, Whole}
+use Rattle.block_core.specs.View.{block_of, Makes}
+use Rattle.ring_net.specs.declared.shape.ControlShape.{ControlShape}
+use Rattle.place_net.specs.declared.outputs.Outputs.{Outputs}
+use Rattle.read_net.specs.declared.sites.MapNets.{MapNets}
+use Rattle.change_net.specs.declared.change.ChangePart.{ChangePart}
+use Rattle.change_net.specs.declared.pointed.PointedWords.{PointedWords}
+use Rattle.target_net.specs.declared.targets.TargetPart.{TargetPart}
+use Rattle.pipe_net.specs.declared.parts.Part.{Part}
+use Rattle.pipe_net.specs.Parts.{part_place}
+use Rattle.pipe_net.specs.Layout.{Layout}
+use Rattle.pipe_frames.specs.Parts.{AreFrameParts}
+use Rattle.frame_parts.specs.Blocks.{HasBlocks as HasFrameBlocks}
+use Rattle.mark_parts.specs.declared.layout.MarkLayout.{MarkLayout}
+use Rattle.slot_parts.specs.declared.slots.SlotsPart.{SlotsPart}
+use Rattle.slot_parts.specs.Slots.{AreSlotsParts}
+use Rattle.slot_parts.specs.Nets.{AreMapNets}
+use Rattle.turn_parts.specs.declared.parts.TurnParts.{TurnParts}
+use Rattle.turn_parts.specs.Parts.{AreTurnPartsIn}
+use Rattle.map_parts.specs.declared.committing.MapCommits.{MapCommits}
+use Rattle.map_parts.specs.declared.committing.Committing.{Committing}
+use Rattle.map_parts.specs.declared.parts.PartsOfMap.{PartsOfMap}
+use Rattle.map_parts.specs.declared.parts.MapParts.{MapParts}
+use Rattle.map_parts.specs.Operations.{AreChosen, AreTargetsOn}
+use Rattle.map_parts.specs.Whole.{AreMapPartsFor}
+use Rattle.place_parts.specs.Parts.{ArePlaceParts}
+use Rattle.pipe_draft.specs.declared.draft.Draft.{Draft}
+use Rattle.pipe_draft.specs.declared.places.Behind.{Behind}
+use Rattle.pipe_draft.specs.Draft.{program_in, plan_in, decls_in}
+use Rattle.pipe_clocks.specs.Following.{IsPipeline}
+use Rattle.pipe_design.specs.declared.marks.DueParts.{DueParts}
+use Rattle.pipe_design.specs.declared.parts.Others.{Others}
+use Rattle.pipe_design.specs.Answer.{AreOutputs}
+use Rattle.pipe_design.specs.Layout.{Shown, IsShapeOf, layout}
+use Rattle.pipe_design.specs.Marks.{IsMarkLayoutOf, AreDueParts, AreMarkBlocks}
+use Rattle.pipe_design.specs.Order.{Lists, pairwise}
+
+-- ---- the parts of maps, by what the parts of turns say of operations
+pub record IsMapCommits (turn : TurnParts) (m : ℕ) (on : MapCommits) : Type 0 where
+  pub commits : (n : Name Part) → on.commits ≡ get_or turn.commits.commits.items m n
+  pub targets : (t : TargetPart Part) → on.targets.now ≡ (get_or turn.targets.items m t).targets.items
+
+pub record AreMapCommits (d : Draft) (turn : TurnParts) (all : List MapCommits) : Type 0 where
+  pub count : length all ≡ length d.forms.items
+  pub each : (m : ℕ) (on : MapCommits) → m < length d.forms.items → IsMapCommits turn m (get_or all m on)
+
+-- what is said has the operands that maps take
+pub record SaysAll (d : Draft) (turn : TurnParts) : Type 0 where
+  pub chosen : AreChosen (program_in d) turn.turn.chosen.items
+  pub commits : length turn.commits.commits.items ≡ length d.forms.items
+  pub count : length turn.targets.items ≡ length d.forms.items
+  pub targets : (m : ℕ) (t : TargetPart Part) → m < length d.forms.items → AreTargetsOn (program_in d) m (get_or turn.targets.items m t).targets.items
+
+pub record AreMapPartsBy (d : Draft) (at : Behind) (turn : TurnParts) (r : MapParts) : Type 0 where
+  pub committing : Committing
+  pub chosen : committing.chosen.now ≡ turn.turn.chosen.items
+  pub said : AreMapCommits d turn committing.maps.now
+  pub are : AreMapPartsFor d at.sites.items committing r
+
+-- ---- all that are made beside the parts that show slots of maps
+-- The layout that they are made for: of the draft, with what they show.
+pub record AreOthers (d : Draft) (places : List Behind) (words : List ℕ) (o : Others) : Type 0 where
+  pub shape : ControlShape
+  pub is_shape : IsShapeOf d shape
+  pub answer : Outputs (Name Part)
+  pub answers : (b : Behind) → AreOutputs (program_in d) (get_or places (plan_in d).last b).tables.table.items answer
+  pub marked : MarkLayout
+  pub is_marked : IsMarkLayoutOf d marked
+  pub dues : DueParts
+  pub are_dues : AreDueParts marked places dues
+  pub due_blocks : o.dues ≡ dues.blocks
+  pub nets : List (MapNets (Name Part))
+  pub are_nets : AreMapNets d nets
+  pub at : Behind
+  pub is_at : (b : Behind) → get_or places (plan_in d).commit b ≡ at
+  pub turn : TurnParts
+  pub are_turn : AreTurnPartsIn d shape at nets turn
+  pub targets : o.targets ≡ turn.targets
+  pub host : o.host ≡ turn.host
+  pub turn_block : o.turn ≡ turn.turn.block
+  pub commits : o.commits ≡ turn.commits.block
+  pub maps : AreMapPartsBy d at turn o.maps
+  pub marks : AreMarkBlocks marked places o.maps.changes.items o.marks.items
+  pub are_places : ArePlaceParts d places nets o.places
+  pub frames :
+      (l : Layout) (w : Whole Part) → l.sizes ≡ d.sizes → l.shape ≡ shape → l.kept ≡ d.kept.items → l.words ≡ words → l.answer ≡ answer → l.due ≡ dues.nets.items → l.stays ≡ turn.turn.stays → HasFrameBlocks w d.sizes o.frames → AreFrameParts l w
+
+-- ---- the blocks of all parts in order
+-- those of a map
+abbrev pub blocks_of_map : PartsOfMap → ChangePart (Name Part) → List (BlockTree (Name Part))
+blocks_of_map x y = block_of x.table.finds ∷ block_of x.table.fetches ∷ block_of x.table.asks ∷ block_of x.table.stores ∷ block_of x.written.block ∷ block_of y.block ∷ []
+
+abbrev pub lists_of : List SlotsPart → Others → Lists
+lists_of slots o =
+    (block_of o.frames.scatter.block ∷ [])
+    ∷ map_list block_of o.dues.items
+    ∷ (block_of o.frames.returns.block ∷ block_of o.frames.sources.block ∷ [])
+    ∷ map_list (λ x. block_of x.block) slots
+    ∷ map_list (λ x. block_of x.block) o.places.words.items
+    ∷ map_list (λ x. block_of x.block) o.targets.items
+    ∷ (block_of o.host ∷ block_of o.turn ∷ block_of o.commits ∷ [])
+    ∷ pairwise blocks_of_map o.maps.maps.items o.maps.changes.items
+    ∷ (block_of o.frames.control.block ∷ [])
+    ∷ map_list block_of o.marks.items
+    ∷ (block_of o.maps.value ∷ block_of o.frames.gather.block ∷ block_of o.frames.exit.block ∷ [])
+    ∷ map_list block_of o.places.places.items
+    ∷ []
+
+-- ---- the parts of a pipeline by a draft, where these words of a frame may change
+pub record AreAllParts (d : Draft) (places : List Behind) (words : List ℕ) (ms : List (Placed Part)) : Type 0 where
+  pub shown : Shown
+  pub words_are : shown.words ≡ words
+  pub whole : Whole Part
+  pub makes : Makes part_place ms whole
+  pub pipeline : IsPipeline (layout d places shown) whole

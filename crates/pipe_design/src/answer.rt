@@ -1,0 +1,118 @@
+//! What stands for the answer of a program, behind the last place.
+
+ghost use Rattle.std.specs.Prelude.{ℕ, ◌≡◌, ◌<◌, ◌≤◌, All, IfOk, length, map as map_list};
+ghost use Rattle.std.proofs.Common.{get_or};
+ghost use Rattle.cell_core.specs.declared.program.FrameByte.{FrameByte};
+ghost use Rattle.cell_core.specs.View.{program_of};
+ghost use Rattle.cell_nets.specs.Operands.{IsOperand};
+ghost use Rattle.place_net.specs.Exit.{byte_number, output_operands};
+ghost use Rattle.row_net.specs.Table.{IsIn, Stands};
+ghost use Rattle.pipe_draft.specs.declared.places.Behind.{Behind};
+ghost use Rattle.pipe_draft.specs.Draft.{program_in, plan_in, IsDraft};
+ghost use Rattle.pipe_draft.specs.Places.{ArePlaces};
+ghost use Rattle.pipe_design.specs.Answer.{IsByteIn, AreOutputs, has_byte, changed_words};
+
+use block_core::name::Name;
+use cell_core::program::{CellProgram, FrameByte};
+use cell_nets::operand::Operand;
+use pipe_draft::{Behind, Draft};
+use pipe_net::parts::Part;
+use place_net::{AnswerByte, Outputs};
+use site_table::laws::stages_are_placed;
+use std::alloc::{AllocError, Global};
+
+// What stands for a cell that the table has.
+fn operand(table: &[Option<Operand<Name<Part>>>], cell: u32) -> Operand<Name<Part>>
+    requires { IsIn table.now cell }
+    ensures { Stands table.now cell result }
+{
+    let operand = table[cell as usize];
+    operand.unwrap()
+}
+
+// What stands for the bytes that may change.
+fn bytes(
+    alloc: Global,
+    frame: &[FrameByte],
+    table: &[Option<Operand<Name<Part>>>],
+) -> Result<Vec<AnswerByte<Name<Part>>>, AllocError>
+    requires changed { All (λ x. x.at < 256) frame.now }
+    requires there { All (λ x. IsIn table.now x.cell) frame.now }
+    ensures stand { IfOk result (λ r. All (IsByteIn table.now frame.now) r.items) }
+    ensures numbers { IfOk result (λ r. map_list byte_number r.items ≡ map_list (λ x. x.at) frame.now) }
+{
+    let mut all = Vec::new(alloc);
+    for byte in frame {
+        let operand = operand(table, byte.cell);
+        all.push(AnswerByte {
+            at: byte.at as u8,
+            operand,
+        })?;
+    }
+    Ok(all)
+}
+
+// What stands in a table for the answer of a program.
+fn outputs(
+    alloc: Global,
+    program: &CellProgram,
+    table: &[Option<Operand<Name<Part>>>],
+) -> Result<Outputs<Name<Part>>, AllocError>
+    requires verdict { IsIn table.now program.now.verdict }
+    requires target { IsIn table.now program.now.target }
+    requires changed { All (λ x. x.at < 256) program.now.frame.items }
+    requires there { All (λ x. IsIn table.now x.cell) program.now.frame.items }
+    ensures { IfOk result (AreOutputs (program_of program.now) table.now) }
+{
+    let verdict = operand(table, program.verdict);
+    let target = operand(table, program.target);
+    let bytes = bytes(alloc, &program.frame, table)?;
+    Ok(Outputs {
+        verdict,
+        target,
+        bytes,
+    })
+}
+
+/// What stands for the answer behind the last place.
+pub(crate) fn answer(
+    alloc: Global,
+    draft: &Draft<'_>,
+    places: &[Behind],
+) -> Result<Outputs<Name<Part>>, AllocError>
+    requires draft { IsDraft draft.now }
+    requires places { ArePlaces draft.now places.now }
+    ensures stands { IfOk result (λ o. (b : Behind) → AreOutputs (program_in draft.now) (get_or places.now (plan_in draft.now).last b).tables.table.items o) }
+    ensures operands { IfOk result (λ o. All IsOperand (output_operands o)) }
+{
+    stages_are_placed();
+    let last = &places[draft.plan.rows() as usize];
+    let outputs = outputs(alloc, draft.program, &last.tables.table)?;
+    Ok(outputs)
+}
+
+// Whether a byte of a word may change.
+fn has_byte(frame: &[FrameByte], word: u32) -> bool
+    ensures { result ≡ has_byte frame.now word }
+{
+    for byte in frame {
+        if byte.at / 8 == word {
+            return true;
+        }
+    }
+    false
+}
+
+/// The words of a frame of which a byte may change, in their order.
+pub(crate) fn changed_words(alloc: Global, frame: &[FrameByte]) -> Result<Vec<u8>, AllocError>
+    ensures words { IfOk result (λ words. words.items ≡ changed_words frame.now) }
+    ensures few { IfOk result (λ words. length words.items ≤ 32) }
+{
+    let mut words = Vec::new(alloc);
+    for word in 0..32u32 {
+        if has_byte(frame, word) {
+            words.push(word as u8)?;
+        }
+    }
+    Ok(words)
+}

@@ -1,0 +1,65 @@
+//! The design of a program.
+
+ghost use Rattle.std.specs.Prelude.{◌≡◌, ◌≤◌, ◌<◌, length, slice_index, IfOk, IsErrOf, IsTrue};
+ghost use Rattle.net_core.specs.View.{netlist_of};
+ghost use Rattle.product_rules.specs.Products.{products_apart};
+ghost use Rattle.design_rules.specs.Formed.{IsWellFormed};
+ghost use Rattle.block_core.specs.declared.error.LinkError.TheVariants as link;
+ghost use Rattle.cell_core.specs.View.{program_of};
+ghost use Rattle.site_table.specs.Constants.{AreEarly};
+ghost use Rattle.pipe_draft.specs.Program.{IsForPipe};
+ghost use Rattle.pipe_draft.specs.Draft.{most_sites, program_in, plan_in, decls_in, IsDraft};
+ghost use Rattle.pipe_design.specs.declared.error.PipelineError.TheVariants as error;
+ghost use Rattle.pipe_design.specs.Pipeline.{IsPipelineOf, IsTooLarge};
+
+use crate::answer::changed_words;
+use crate::error::PipelineError;
+use crate::linking::link_pipeline;
+use crate::parts::parts;
+use block_core::LinkError;
+use cell_core::program::CellProgram;
+use net_core::design::Design;
+use pipe_draft::{Draft, behind_places, draft_of};
+use row_plan::RowPlan;
+use std::alloc::Global;
+use xdp_maps::decl::MapDecl;
+
+// The design of a draft.
+fn design_of(alloc: Global, draft: &Draft<'_>, decls: &[MapDecl]) -> Result<Design, LinkError>
+    requires draft { IsDraft draft.now }
+    requires decls { decls.now ≡ decls_in draft.now }
+    ensures design { IfOk result (λ n. IsPipelineOf (program_in draft.now) (plan_in draft.now) (decls_in draft.now) (netlist_of n)) }
+    ensures formed { IfOk result (λ n. IsWellFormed (netlist_of n)) }
+    ensures apart { IfOk result (λ n. IsTrue (products_apart (netlist_of n))) }
+    ensures large { IsErrOf result link.TooMany → IsTooLarge (program_in draft.now) (plan_in draft.now) (decls_in draft.now) }
+{
+    let places = behind_places(alloc, draft)?;
+    let words = changed_words(alloc, &draft.program.frame)?;
+    let parts = parts(alloc, draft, decls, &places, &words)?;
+    link_pipeline(alloc, &draft.sizes, words.len() as u32, &parts)
+}
+
+/// The design of a program: a pipeline with a place for each row of its plan, in which packets overlap and operate on maps.
+///
+/// What it does says [`pipe_clocks::laws::clocks_go_on`]. It is well formed, and no product stands inside an operand of another in one clock. Refused is a program that has too many
+/// sites, a number past the first row that is not 0, or a pipeline with too many nets.
+pub fn pipeline(
+    alloc: Global,
+    program: &CellProgram,
+    plan: &RowPlan,
+    decls: &[MapDecl],
+) -> Result<Design, PipelineError>
+    requires { IsForPipe (program_of program.now) plan.now decls.now }
+    ensures design { IfOk result (λ n. IsPipelineOf (program_of program.now) plan.now decls.now (netlist_of n)) }
+    ensures formed { IfOk result (λ n. IsWellFormed (netlist_of n)) }
+    ensures apart { IfOk result (λ n. IsTrue (products_apart (netlist_of n))) }
+    ensures sites { most_sites < length program.now.sites.items → IsErrOf result error.TooManySites }
+    ensures only_sites { IsErrOf result error.TooManySites → most_sites < length program.now.sites.items }
+    ensures late { length program.now.sites.items ≤ most_sites → ¬ AreEarly (program_of program.now) (slice_index plan.now.rows) → IsErrOf result error.LateNumber }
+    ensures only_late { IsErrOf result error.LateNumber → ¬ AreEarly (program_of program.now) (slice_index plan.now.rows) }
+    ensures large { IsErrOf result error.TooMany → IsTooLarge (program_of program.now) plan.now decls.now }
+{
+    let draft = draft_of(alloc, program, plan, decls)?;
+    let design = design_of(alloc, &draft, decls)?;
+    Ok(design)
+}

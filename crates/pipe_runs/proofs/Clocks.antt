@@ -1,0 +1,109 @@
+-- In the stated clocks of a drive the machine gives all answers.
+use Rattle.std.specs.Prelude.{◌≡◌, ℕ, suc, ◌+◌, ◌≤◌, List, [], ◌∷◌, ◌++◌, length, map}
+use Rattle.std.specs.List.{flat_map, AllByRecursion}
+use Rattle.std.proofs.Common.{refl, sym, ap, ◌∙◌, subst, arith}
+use Rattle.beat_core.specs.declared.beat.Beat.{Beat}
+use Rattle.beat_core.specs.Beats.{beats_of}
+use Rattle.beat_core.specs.Filling.{filled_up}
+use Rattle.beat_core.specs.Ports.{Arrival, Offered}
+use Rattle.xdp_maps.specs.State.{MapState, IsSound}
+use Rattle.xdp_machine.specs.Touched.{Touched}
+use Rattle.net_core.specs.declared.ports.Inputs.{Inputs}
+use Rattle.cell_core.specs.Rows.{record_count}
+use Rattle.pipe_core.specs.Machine.{Build, new_state}
+use Rattle.pipe_core.specs.History.{Trace, run, begin}
+use Rattle.pipe_core.specs.Drive.{Driven, Beside, drive, drive_start, beats_in, EndsInTime, EndsLate}
+use Rattle.pipe_core.specs.Apart.{AllRun, AreApart, all_writing}
+use Rattle.pipe_core.specs.Unconflicting.{EndsWithoutConflicts}
+use Rattle.pipe_core.specs.Pipeable.{IsSuited}
+use Rattle.host_runs.specs.Inputs.{input_of}
+use Rattle.host_runs.specs.Silent.{silent, ReadsAreSilent, RunsAreSilent}
+use Rattle.realization.specs.Bounds.{most_beats, clock_bound, clock_bound_apart}
+use Rattle.realization.specs.Realizes.{IsPacket, frames_in, all_offers, beats_offered}
+use Rattle.pipe_ports.specs.Followed.{WriteNothing, ran}
+use Rattle.pipe_runs.specs.Apart.{DoNotConflict}
+use Rattle.pipe_runs.proofs.Histories.{beats_of_all, frames_of_packets}
+use Rattle.pipe_runs.proofs.Filled.{quiet_filled, all_silent, run_quiet, beats_quiet}
+use Rattle.pipe_runs.proofs.Drives.{behind, left_behind, besides, length_besides, drive_from, same_drive, besides_more}
+use Rattle.pipe_runs.proofs.Bounds.{bound_enough, late_enough, written, apart_enough, all_written, are_apart}
+
+pub record ClockLaws : Type 0 where
+  pub reads : ReadsAreSilent
+  pub silence : RunsAreSilent
+  pub in_time : EndsInTime
+  pub late : EndsLate
+  pub apart : EndsWithoutConflicts
+
+pub as_many_frames : (packets : List Arrival) → length (frames_in packets) ≡ length packets
+as_many_frames [] = refl
+as_many_frames (a ∷ rest) = ap suc (as_many_frames rest)
+
+module _ (laws : ClockLaws) (b : Build) (maps : MapState) (suited : IsSuited maps.decls b) (sound : IsSound maps) (slots : b.slots ≡ b.plan.last + 4) (packets : List Arrival) (are : AllByRecursion IsPacket packets) where
+  abbrev frames : List (List ℕ)
+  frames = frames_in packets
+
+  -- the machine gives so many answers in a drive of so many clocks
+  abbrev pub Gives : Trace → List Offered → ℕ → Type 0
+  Gives t left limit = length (behind b limit t left).gave ≡ length packets
+
+  given_by : (t : Trace) (left : List Offered) (limit : ℕ) → length (drive b (besides b limit t left) (drive_from t left)).trace.gave ≡ length frames → Gives t left limit
+  given_by t left limit e = ap (λ (d : Driven). length d.trace.gave) (sym (same_drive laws.reads b limit t left)) ∙ e ∙ as_many_frames packets
+
+  abbrev all_from : Driven
+  all_from = drive_from (begin b maps) (all_offers packets)
+
+  starts : drive_start b maps frames ≡ all_from
+  starts = ap (λ (bs : List Beat). record { left = bs; trace = begin b maps }) (sym (beats_of_all packets))
+
+  -- ---- from the first clock on
+  pub gives_in_time : (limit : ℕ) → clock_bound (length packets) b.plan.last (most_beats frames) (record_count b.program.sites) ≤ limit → Gives (begin b maps) (all_offers packets) limit
+  gives_in_time limit long =
+      let clocks = besides b limit (begin b maps) (all_offers packets) in
+      let many = subst (λ n. clock_bound n b.plan.last (most_beats frames) (record_count b.program.sites) ≤ limit) (sym (as_many_frames packets)) long in
+      given_by (begin b maps) (all_offers packets) limit
+      (ap (λ (d : Driven). length (drive b clocks d).trace.gave) (sym starts)
+      ∙ laws.in_time b maps suited sound slots frames (frames_of_packets packets are) clocks (omega (arith, bound_enough b frames, many, length_besides b limit (begin b maps) (all_offers packets))))
+
+  -- ---- behind some clocks
+  pub gives_late : (is : List Inputs) → WriteNothing is → (left : List Offered)
+      → map filled_up (beats_in b (map (λ (i : Inputs). silent (input_of i)) is) (new_state b maps)) ++ beats_offered left ≡ flat_map beats_of frames
+      → (limit : ℕ) → clock_bound (length packets + 1) b.plan.last (most_beats frames) (record_count b.program.sites) ≤ limit → Gives (ran b maps is) left limit
+  gives_late is quiet left over limit long =
+      let t = ran b maps is in
+      let clocks = besides b limit t left in
+      let same : run b (quiet_filled is) (begin b maps) ≡ t = run_quiet b is (begin b maps) ∙ sym (laws.silence b is quiet (begin b maps)) in
+      let many = subst (λ n. clock_bound (n + 1) b.plan.last (most_beats frames) (record_count b.program.sites) ≤ limit) (sym (as_many_frames packets)) long in
+      given_by t left limit
+      (ap (λ (u : Trace). length (drive b clocks (drive_from u left)).trace.gave) (sym same)
+      ∙ laws.late b maps suited sound slots (quiet_filled is) (all_silent is) frames (frames_of_packets packets are) (beats_offered left) (ap (λ bs. bs ++ beats_offered left) (beats_quiet b is (new_state b maps)) ∙ over)
+      clocks (omega (arith, late_enough b frames, many, length_besides b limit t left)))
+
+  -- ---- packets that do not conflict: in as many clocks as needed all of them have come
+  abbrev all_clocks : ℕ → ℕ
+  all_clocks limit = limit + clock_bound (length packets) b.plan.last (most_beats frames) (record_count b.program.sites)
+
+  pub gives_apart : (limit : ℕ) (ts : List Touched) → DoNotConflict b maps packets ts → clock_bound_apart b.plan.last frames ts ≤ limit
+      → (behind b (all_clocks limit) (begin b maps) (all_offers packets)).came ≡ packets → Gives (begin b maps) (all_offers packets) limit
+  gives_apart limit ts apart long came =
+      let t = begin b maps in
+      let left = all_offers packets in
+      let more = clock_bound (length packets) b.plan.last (most_beats frames) (record_count b.program.sites) in
+      let clocks = besides b limit t left in
+      let later = besides b more (behind b limit t left) (left_behind b limit t left) in
+      let all : clocks ++ later ≡ besides b (limit + more) t left = sym (besides_more b limit more (limit + more) refl t left) in
+      let driven : (drive b (clocks ++ later) (drive_start b maps frames)).trace.came ≡ packets =
+      ap (λ (xs : List Beside). (drive b xs (drive_start b maps frames)).trace.came) all ∙ ap (λ (d : Driven). (drive b (besides b (limit + more) t left) d).trace.came) starts
+      ∙ ap (λ (d : Driven). d.trace.came) (same_drive laws.reads b (limit + more) t left) ∙ came in
+      let touch : (us : List Touched) → AllRun b.program maps (drive b (clocks ++ later) (drive_start b maps frames)).trace.came us → us ≡ ts =
+      λ us run. apart.touch are us (subst (λ (cs : List Arrival). AllRun b.program maps cs us) driven run) in
+      let long_enough = bound_enough b frames in
+      let many : clock_bound (length frames) b.plan.last (most_beats frames) (record_count b.program.sites) ≡ more = ap (λ n. clock_bound n b.plan.last (most_beats frames) (record_count b.program.sites)) (as_many_frames packets) in
+      let count = length_besides b limit t left in
+      given_by t left limit
+      (ap (λ (d : Driven). length (drive b clocks d).trace.gave) (sym starts)
+      ∙ laws.apart b maps suited sound slots frames (frames_of_packets packets are) clocks later
+      (omega (arith, long_enough, many, ap length all, length_besides b (limit + more) t left))
+      (λ us run. subst (AreApart (b.plan.last + 3)) (sym (touch us run)) (are_apart (b.plan.last + 3) ts apart.apart))
+      (written frames ts)
+      (λ us run. subst (λ vs. all_writing us ≤ written frames vs) (touch us run) (all_written b.program maps packets us frames (subst (λ (cs : List Arrival). AllRun b.program maps cs us) driven run) (as_many_frames packets)))
+      (omega (arith, apart_enough frames ts, long, count)))

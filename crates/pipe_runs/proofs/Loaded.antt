@@ -1,0 +1,28 @@
+-- So do pipelines, whatever maps are loaded.
+use Rattle.std.specs.Prelude.{List, []}
+use Rattle.std.proofs.Common.{sym, subst, append-nil}
+use Rattle.xdp_maps.specs.declared.decl.MapDecl.{MapDecl}
+use Rattle.net_core.specs.Nets.{Netlist}
+use Rattle.net_core.specs.Clock.{first_stored}
+use Rattle.net_core.specs.History.{NeverStops, stored_after}
+use Rattle.host_history.specs.Host.{load}
+use Rattle.pipe_core.specs.Pipeable.{IsSuited}
+use Rattle.pipe_forms.specs.Parts.{design}
+use Rattle.pipe_loads.specs.Loaded.{PipelinesFollowLoaded, PipelinesShowLoaded}
+use Rattle.pipe_runs.specs.Meeting.{FollowersMeet, PipelinesMeet}
+
+pub pipelines_meet : PipelinesFollowLoaded → PipelinesShowLoaded → FollowersMeet → PipelinesMeet
+pipelines_meet follow show meet l d names pipe leads suited slots maps are sound few =
+    let n : Netlist = design l d names in
+    record {
+      loads = subst (NeverStops n (first_stored n)) (append-nil (load maps)) (follow l d names pipe leads suited maps are sound few [] tt tt).never;
+      meets = meet l maps n (stored_after n (first_stored n) (load maps)) (record {
+        suited = subst (λ (ds : List MapDecl). IsSuited ds l.build) (sym are) suited;
+        answer = pipe.parts.stages.laid.has_answer;
+        sound = sound;
+        follows = record {
+          clocks = λ is quiet come. (follow l d names pipe leads suited maps are sound few is quiet come).runs;
+          shows = λ is i quiet come fits writes. show l d names pipe leads suited maps are sound few is i quiet come fits writes;
+        };
+      }) are few slots;
+    }

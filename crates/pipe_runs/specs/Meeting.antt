@@ -1,0 +1,40 @@
+-- The design of a pipeline with maps meets what is wanted of one.
+use Rattle.std.specs.Prelude.{◌≡◌, ℕ, ◌+◌, ◌≤◌, List, length}
+use Rattle.xdp_maps.specs.State.{MapState, IsSound}
+use Rattle.net_core.specs.Nets.{Netlist}
+use Rattle.net_core.specs.Clock.{Stored, first_stored}
+use Rattle.net_core.specs.History.{NeverStops, stored_after}
+use Rattle.block_core.specs.Blocks.{Whole}
+use Rattle.host_history.specs.Host.{load}
+use Rattle.realization.specs.Realizes.{Meets}
+use Rattle.cell_core.specs.Rows.{record_count}
+use Rattle.pipe_core.specs.Pipeable.{IsSuited}
+use Rattle.pipe_net.specs.declared.parts.Part.{Part}
+use Rattle.pipe_net.specs.Layout.{Layout, last_of}
+use Rattle.pipe_places.specs.Entries.{AccessesLead}
+use Rattle.pipe_forms.specs.Parts.{design}
+use Rattle.pipe_clocks.specs.Following.{IsPipeline}
+use Rattle.pipe_ports.specs.Answered.{AreAnswered}
+use Rattle.pipe_ports.specs.Followed.{IsFollowed}
+use Rattle.pipe_runs.specs.Apart.{DoNotConflict}
+
+-- it answers packets by their cell runs on these maps, one after another, in the clocks of so many stages and record sites
+abbrev pub MeetsRuns : Layout → MapState → Netlist → Stored → Type 0
+MeetsRuns l maps n st = Meets n st (AreAnswered l.build.program maps) (DoNotConflict l.build maps) (last_of l) (record_count l.build.program.sites)
+
+-- So does every design that follows the machine over the maps, whatever it stores.
+abbrev pub FollowersMeet : Type 0
+FollowersMeet =
+    (l : Layout) (maps : MapState) (n : Netlist) (st : Stored) → IsFollowed l.build maps n st → maps.decls ≡ l.decls → length maps.decls ≤ 16 → l.build.slots ≡ last_of l + 4
+    → MeetsRuns l maps n st
+
+-- A pipeline that is linked of the parts of a layout, and what the load of maps leaves stored in it; no divisor is 0 while they are loaded.
+pub record MeetsLoaded (l : Layout) (maps : MapState) (n : Netlist) : Type 0 where
+  pub loads : NeverStops n (first_stored n) (load maps)
+  pub meets : MeetsRuns l maps n (stored_after n (first_stored n) (load maps))
+
+-- Whatever blocks of these contracts are linked, and whatever maps are loaded.
+abbrev pub PipelinesMeet : Type 0
+PipelinesMeet =
+    (l : Layout) (d : Whole Part) (names : List (List ℕ)) → IsPipeline l d → AccessesLead l.build → IsSuited l.decls l.build → l.build.slots ≡ last_of l + 4
+    → (maps : MapState) → maps.decls ≡ l.decls → IsSound maps → length maps.decls ≤ 16 → MeetsLoaded l maps (design l d names)

@@ -1,9 +1,0 @@
-mod Listing
-mod Tables
-mod Same
-mod Whole
-mod Keeps
-mod Answering
-mod Planning
-mod Blocks
-mod Reached

@@ -1,7 +1,0 @@
-use Rattle.std.proofs.Common.{◌≡◌, All, take, map as map_list}
-use Rattle.place_net.specs.Exit.{byte_number}
-use Rattle.pipeline_net.specs.Draft.{IsByteIn}
-use Rattle.pipeline_net.proofs.answer.bytes.Given as goal
-
-abbrev pub invariant-loop-byte : goal.invariant-loop-byte
-invariant-loop-byte l = record { inside : All (IsByteIn l.table l.frame) l.all.items; numbers : map_list byte_number l.all.items ≡ map_list (λ x. x.at) (take l.byte-index l.frame) }

@@ -1,8 +1,0 @@
-use Rattle.std.specs.List.{filter}
-use Rattle.std.proofs.Common.{◌≡◌}
-use Rattle.cell_core.specs.Rows.{numbers}
-use Rattle.pipeline_net.specs.Draft.{has_byte}
-use Rattle.pipeline_net.proofs.answer.changed_words.Given as goal
-
-abbrev pub invariant-loop-word : goal.invariant-loop-word
-invariant-loop-word l = l.words.items ≡ filter (has_byte l.frame) (numbers 0 l.word)

@@ -1,6 +1,0 @@
-pub mod Pipeline
-pub mod Draft
-pub mod Keeping
-pub mod Places
-pub mod Fronts
-pub mod Errors

@@ -1,9 +1,0 @@
-pub mod Beats
-pub mod Ports
-pub mod Clock
-pub mod Runs
-pub mod Wanted
-pub mod Histories
-pub mod Drives
-pub mod Bounds
-pub mod Meets

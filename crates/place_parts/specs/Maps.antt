@@ -1,0 +1,24 @@
+-- What stands for the maps of a draft.
+use Rattle.std.specs.Prelude.{◌≡◌, ℕ, ◌<◌, List, [], length}
+use Rattle.std.proofs.Common.{get_or}
+use Rattle.xdp_maps.specs.declared.decl.MapKind.TheVariants.{Array}
+use Rattle.block_core.specs.declared.name.Name.{Name}
+use Rattle.cell_nets.specs.declared.operand.Operand.TheVariants.{Known}
+use Rattle.map_block.specs.declared.form.MapForm.{MapForm}
+use Rattle.read_net.specs.declared.sites.MapNets.{MapNets}
+use Rattle.read_net.specs.Sites.{IsMap}
+use Rattle.pipe_net.specs.declared.parts.Part.{Part}
+use Rattle.pipe_draft.specs.declared.draft.Draft.{Draft}
+
+-- a map of this form, where the numbers of pointers have so many bits; of an array nothing is shown or counted
+pub record IsMapFor (pointer_bits : ℕ) (f : MapForm) (n : MapNets (Name Part)) : Type 0 where
+  pub is : IsMap n
+  pub bits : n.bits ≡ pointer_bits
+  pub decl : n.decl.now ≡ f.decl
+  pub none : f.decl.kind ≡ Array → n.slots.now ≡ []
+  pub uncounted : f.decl.kind ≡ Array → n.used ≡ Known 0
+
+-- so of all maps
+pub record AreMapsFor (d : Draft) (maps : List (MapNets (Name Part))) : Type 0 where
+  pub count : length maps ≡ length d.forms.items
+  pub each : (m : ℕ) (n : MapNets (Name Part)) (f : MapForm) → m < length d.forms.items → IsMapFor d.bits (get_or d.forms.items m f) (get_or maps m n)

@@ -1,0 +1,42 @@
+//! What stands for the words that sites read.
+
+ghost use Rattle.std.specs.Prelude.{◌≡◌, All, IfOk, length};
+ghost use Rattle.cell_nets.specs.declared.operand.Operand.TheVariants.{Known};
+ghost use Rattle.pipe_draft.specs.Draft.{IsDraft};
+ghost use Rattle.place_parts.specs.Words.{HaveWords, AreWordNets};
+
+use block_core::name::Name;
+use cell_nets::operand::Operand;
+use change_net::pointed::PointedWords;
+use pipe_draft::Draft;
+use pipe_net::parts::Part;
+use std::alloc::{AllocError, Global};
+
+// The number 0 for each site.
+fn no_words(alloc: Global, draft: &Draft<'_>) -> Result<Vec<Operand<Name<Part>>>, AllocError>
+    ensures count { IfOk result (λ nets. length nets.items ≡ length draft.now.program.now.sites.items) }
+    ensures none { IfOk result (λ nets. All (λ a. a ≡ Known 0) nets.items) }
+{
+    let mut nets = Vec::new(alloc);
+    for _site in 0..draft.program.sites.len() {
+        nets.push(Operand::Known(0))?;
+    }
+    Ok(nets)
+}
+
+/// What stands for the word of each site: the net of its part, and 0 for a site that reads none.
+pub(crate) fn word_nets(
+    alloc: Global,
+    draft: &Draft<'_>,
+    words: &[PointedWords<Name<Part>>],
+) -> Result<Vec<Operand<Name<Part>>>, AllocError>
+    requires draft { IsDraft draft.now }
+    requires words { HaveWords draft.now words.now }
+    ensures { IfOk result (λ nets. AreWordNets draft.now words.now nets.items) }
+{
+    let mut nets = no_words(alloc, draft)?;
+    for i in 0..draft.loads.len() {
+        nets[draft.loads[i] as usize] = Operand::Net(words[i].words[0], 64);
+    }
+    Ok(nets)
+}

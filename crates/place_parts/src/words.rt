@@ -1,0 +1,120 @@
+//! The parts that show words under pointers.
+
+ghost use Rattle.std.specs.Prelude.{◌≡◌, ◌/◌, ◌<◌, ◌≤◌, true, IfOk, length};
+ghost use Rattle.map_block.specs.Stored.{first_value};
+ghost use Rattle.value_net.specs.Words.{answers_number, access_start};
+ghost use Rattle.pipe_draft.specs.Draft.{program_in, plan_in, IsDraft};
+ghost use Rattle.pipe_draft.specs.Places.{ArePlaces};
+ghost use Rattle.place_parts.specs.Words.{word_row, IsPointerBefore, IsWordPart, AreWordParts};
+
+use block_core::name::Name;
+use cell_core::site::Act;
+use cell_nets::operand::Operand;
+use change_net::pointed::{PointedWords, pointed_words};
+use hash_net::value_first;
+use hazard_core::pending::row_in;
+use hazard_core::site::{answer_cell, site_at};
+use pipe_draft::{Behind, Draft};
+use pipe_net::parts::Part;
+use std::alloc::{AllocError, Global};
+use xdp_maps::decl::{MapDecl, MapKind};
+
+/// The number of a pointer to a slot has the slot's number above so many bits.
+const SLOT_SHIFT: u8 = 2;
+
+// The row of the cell that reads a site, 0 where none does.
+fn word_row(draft: &Draft<'_>, site: u32) -> u32
+    requires { IsDraft draft.now }
+    ensures row { result ≡ word_row draft.now site }
+    ensures most { result ≤ (plan_in draft.now).last }
+{
+    let cell = answer_cell(draft.program, site as usize);
+    row_in(&draft.rows, cell)
+}
+
+// What stands for the pointer of a site before the place of a row. Before the first one no cell has a pointer.
+fn pointer_before(draft: &Draft<'_>, places: &[Behind], row: u32, site: u32) -> Operand<Name<Part>>
+    requires places { ArePlaces draft.now places.now }
+    requires row { row ≤ (plan_in draft.now).last }
+    requires site { site < length (program_in draft.now).sites }
+    ensures { IsPointerBefore places.now row site result }
+{
+    if row == 0 {
+        Operand::Known(0)
+    } else {
+        places[row as usize - 1].sites[site as usize].pointer
+    }
+}
+
+// The memory that has the first words of the values of a map.
+fn first_value(decl: &MapDecl) -> u32
+    requires { decl.now.key ≤ 40 }
+    ensures value { result ≡ first_value decl.now }
+    ensures few { result ≤ 15 }
+{
+    match decl.kind {
+        MapKind::Hash => value_first(decl),
+        MapKind::Array => 0,
+    }
+}
+
+// The word of a value in which an access begins.
+fn word_index(act: Act) -> u32
+    requires { answers_number act ≡ true }
+    ensures { result ≡ access_start act / 8 }
+{
+    match act {
+        Act::Load(at, _) => at / 8,
+        Act::Atomic(at, _) => at / 8,
+        _ => 0,
+    }
+}
+
+// The part for one of the sites that read a word.
+fn word_part(
+    alloc: Global,
+    draft: &Draft<'_>,
+    places: &[Behind],
+    i: u32,
+) -> Result<PointedWords<Name<Part>>, AllocError>
+    requires draft { IsDraft draft.now }
+    requires places { ArePlaces draft.now places.now }
+    requires load { i < length draft.now.loads.items }
+    ensures { IfOk result (IsWordPart draft.now places.now i) }
+{
+    let number = draft.loads[i as usize];
+    let site = site_at(draft.program, number as usize);
+    let form = &draft.forms[site.map as usize];
+    let row = word_row(draft, number);
+    let part = pointed_words(
+        alloc,
+        draft.sizes.word(i),
+        Vec::new(alloc),
+        pointer_before(draft, places, row, number),
+        SLOT_SHIFT,
+        draft.sizes.own(site.map),
+        form.bits,
+        first_value(&form.decl),
+        form.decl.value,
+        word_index(site.act),
+        1,
+    )?;
+    Ok(part)
+}
+
+/// The parts for all of them, in their order.
+pub(crate) fn word_parts(
+    alloc: Global,
+    draft: &Draft<'_>,
+    places: &[Behind],
+) -> Result<Vec<PointedWords<Name<Part>>>, AllocError>
+    requires draft { IsDraft draft.now }
+    requires places { ArePlaces draft.now places.now }
+    ensures { IfOk result (λ words. AreWordParts draft.now places.now words.items) }
+{
+    let mut words = Vec::new(alloc);
+    for i in 0..draft.loads.len() as u32 {
+        words.push(word_part(alloc, draft, places, i)?)?;
+    }
+    Ok(words)
+}

@@ -1,0 +1,4 @@
+pub mod Filling
+pub mod Showing
+mod Standing
+mod Laying

@@ -1,0 +1,6 @@
+mod Listing
+mod Siting
+mod Taking
+mod Aiming
+mod Turning
+mod Laying

@@ -1,0 +1,14 @@
+use Rattle.std.specs.Prelude.{◌==◌}
+use Rattle.std.specs.List.{filter}
+use Rattle.std.proofs.Common.{◌≡◌, All, take}
+use Rattle.cell_core.specs.Sites.{site_at}
+use Rattle.read_net.specs.Sites.{sites_of}
+use Rattle.pipe_draft.specs.Draft.{program_in}
+use Rattle.turn_parts.specs.Sites.{IsOwnOf}
+use Rattle.turn_parts.proofs.sites.own_sites.Given as goal
+
+abbrev pub invariant-loop-i : goal.invariant-loop-i
+invariant-loop-i l = record {
+  sites : sites_of l.owns.items ≡ filter (λ j. (site_at (program_in l.draft).sites j).map == l.m) (take l.i l.draft.records.items);
+  each : All (IsOwnOf l.draft l.at l.m) l.owns.items;
+}
