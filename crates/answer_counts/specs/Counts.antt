@@ -2,7 +2,7 @@
 use Rattle.std.specs.Prelude.{ℕ, ◌==◌, nat_lt, List, length, count_by}
 use Rattle.std.specs.List.{sum_by}
 use Rattle.std.specs.FinMap.{len}
-use Rattle.beat_core.specs.declared.answer.Answer.{Answer}
+use Rattle.port_drive.specs.beat_core.declared.answer.Answer.{Answer}
 use Rattle.xdp_maps.specs.State.{MapState, contents_at}
 
 -- the answers with this verdict

@@ -1,3 +1,4 @@
+pub use Rattle.frame_net.proofs as frame_net
 pub mod WordLaws
 pub mod WordStoreLaws
 pub mod WordMemoryLaws

@@ -1,3 +1,4 @@
+pub use Rattle.list_laws.specs as list_laws
 pub mod Words
 pub mod Beats
 pub mod Filling

@@ -1,3 +1,4 @@
+pub use Rattle.net_core.proofs as net_core
 pub mod GatheredLaws
 pub mod Renamed
 pub mod Solved

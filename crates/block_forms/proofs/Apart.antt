@@ -4,8 +4,8 @@ use Rattle.std.specs.List.{list_all}
 use Rattle.std.proofs.Common.{get_or, not, refl, sym, ap, ◌∙◌, append_assoc, arith, inl, inr}
 use Rattle.std.proofs.lemmas.Bool.{and_parts, and_from, ne_eqb, ltb-true, lt-ltb}
 use Rattle.std.proofs.lemmas.List.{append-nil}
-use Rattle.net_core.specs.declared.tree.Net.{Net}
-use Rattle.net_core.specs.Nets.{StatementTree, SBlock, SIf, SIfElse, SSet, SStore, StatementTrees, SEnd, SThen}
+use Rattle.design_rules.specs.net_core.declared.tree.Net.{Net}
+use Rattle.design_rules.specs.net_core.Nets.{StatementTree, SBlock, SIf, SIfElse, SSet, SStore, StatementTrees, SEnd, SThen}
 use Rattle.design_rules.specs.FormedScope.{targets_pass, all_targets_pass, leaves_register, leaves_memory}
 use Rattle.design_rules.specs.Formed.{targets_free}
 use Rattle.block_core.specs.Rename.{rename_statement, rename_statements}

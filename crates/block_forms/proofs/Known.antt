@@ -4,16 +4,16 @@ use Rattle.std.proofs.Common.{get_or, not, refl, sym, ap, ◌∙◌, append_asso
 use Rattle.std.proofs.lemmas.Bool.{and_parts, and_from, eqb-true, lt-ltb}
 use Rattle.std.proofs.lemmas.List.{append-nil}
 use Rattle.std.proofs.lemmas.List.Recursion.{is_count_by}
-use Rattle.list_laws.proofs.PlaceLaws.{some_below}
-use Rattle.net_core.specs.declared.tree.Net.{Net}
-use Rattle.net_core.specs.declared.tree.Net.TheVariants as net
-use Rattle.net_core.specs.declared.design.Port as port
-use Rattle.net_core.specs.declared.design.Declared.{Declared}
-use Rattle.net_core.specs.declared.design.Declared.TheVariants as declared
-use Rattle.net_core.specs.Nets.{Tree, TConst, TRead, TBit, TPartSelect, TMemoryWord, TUnary, TBinary, TConditional, TConcatenation, Trees, TLast, TMore, RightTree, RPlain, RQuotient, RRemainder, StatementTree, SBlock, SIf, SIfElse, SSet, SStore, StatementTrees, SEnd, SThen, WireTree, Netlist}
-use Rattle.net_core.specs.Names.{is_register, is_memory}
-use Rattle.net_core.specs.Width.{Scope, same_width, width_of, parts_width, right_width, same, statement_typed, statements_typed, register_widths, memory_widths, input_width, port_width, net_width, memory_width, scope, wires_typed, wire_widths}
-use Rattle.net_core.proofs.WidthLaws.{same_parts, op_parts, unary_parts, part_select_parts, memory_word_parts, conditional_some, concatenation_parts}
+use Rattle.design_rules.proofs.list_laws.PlaceLaws.{some_below}
+use Rattle.design_rules.specs.net_core.declared.tree.Net.{Net}
+use Rattle.design_rules.specs.net_core.declared.tree.Net.TheVariants as net
+use Rattle.design_rules.specs.net_core.declared.design.Port as port
+use Rattle.design_rules.specs.net_core.declared.design.Declared.{Declared}
+use Rattle.design_rules.specs.net_core.declared.design.Declared.TheVariants as declared
+use Rattle.design_rules.specs.net_core.Nets.{Tree, TConst, TRead, TBit, TPartSelect, TMemoryWord, TUnary, TBinary, TConditional, TConcatenation, Trees, TLast, TMore, RightTree, RPlain, RQuotient, RRemainder, StatementTree, SBlock, SIf, SIfElse, SSet, SStore, StatementTrees, SEnd, SThen, WireTree, Netlist}
+use Rattle.design_rules.specs.net_core.Names.{is_register, is_memory}
+use Rattle.design_rules.specs.net_core.Width.{Scope, same_width, width_of, parts_width, right_width, same, statement_typed, statements_typed, register_widths, memory_widths, input_width, port_width, net_width, memory_width, scope, wires_typed, wire_widths}
+use Rattle.design_rules.proofs.net_core.WidthLaws.{same_parts, op_parts, unary_parts, part_select_parts, memory_word_parts, conditional_some, concatenation_parts}
 use Rattle.design_rules.specs.FormedSyntax.{trees_pass, all_trees_pass}
 use Rattle.design_rules.specs.FormedScope.{Sorts, reads_known, parts_known, right_known, targets_pass, all_targets_pass, is_input, registers_of, memories_of, is_value, is_words, sorts}
 use Rattle.design_rules.proofs.FormedWidthLaws.{same_some}

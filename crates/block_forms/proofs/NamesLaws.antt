@@ -11,7 +11,7 @@ use Rattle.std.proofs.lemmas.List.{append-nil, get_or_at}
 use Rattle.std.proofs.lemmas.Slice.Eq.{bytes_eq-Decides}
 use Rattle.std.proofs.lemmas.Fmt.{decimal_injective, digits_decimal}
 use Rattle.std.proofs.lemmas.Str.Parse.{numerals_by_value, tells_all_ascii_digits}
-use Rattle.net_core.specs.Ports.{port_names}
+use Rattle.design_rules.specs.net_core.Ports.{port_names}
 use Rattle.design_rules.specs.FormedSyntax.{is_digit, begins_name, continues_name, is_name}
 use Rattle.block_core.specs.Link.{all_registers, all_memories, all_wires, numbered, net_names}
 use Rattle.block_forms.specs.WellFormed.{all_new, NumbersAreNames}

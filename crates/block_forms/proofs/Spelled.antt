@@ -4,8 +4,8 @@ use Rattle.std.specs.List.{list_all}
 use Rattle.std.proofs.Common.{get_or, not, refl, ap, ◌∙◌, arith, inl, inr}
 use Rattle.std.proofs.lemmas.Bool.{and_parts, and_from}
 use Rattle.std.proofs.lemmas.List.Folds.{list_all-append}
-use Rattle.net_core.specs.Nets.{Tree, TConst, TRead, TBit, TPartSelect, TMemoryWord, TUnary, TBinary, TConditional, TConcatenation, Trees, TLast, TMore, RightTree, RPlain, RQuotient, RRemainder, StatementTree, SBlock, SIf, SIfElse, SSet, SStore, StatementTrees, SEnd, SThen, WireTree}
-use Rattle.net_core.specs.declared.tree.Net.{Net}
+use Rattle.design_rules.specs.net_core.Nets.{Tree, TConst, TRead, TBit, TPartSelect, TMemoryWord, TUnary, TBinary, TConditional, TConcatenation, Trees, TLast, TMore, RightTree, RPlain, RQuotient, RRemainder, StatementTree, SBlock, SIf, SIfElse, SSet, SStore, StatementTrees, SEnd, SThen, WireTree}
+use Rattle.design_rules.specs.net_core.declared.tree.Net.{Net}
 use Rattle.design_rules.specs.FormedSyntax.{depth, parts_depth, is_prefixed, prefixes_apart, parts_apart, tree_spelled, right_spelled, statement_depth, statements_depth, ends_open, elses_placed, all_placed, trees_pass, all_trees_pass, statement_spelled}
 use Rattle.block_core.specs.Rename.{rename, rename_parts, rename_right, rename_statement, rename_statements}
 use Rattle.block_core.specs.Blocks.{BlockWireTree, Whole, Among}

@@ -5,17 +5,17 @@ use Rattle.std.proofs.Common.{get_or, not, refl, sym, ap, ◌∙◌, subst, appe
 use Rattle.std.proofs.lemmas.Bool.{and_parts, and_from, eqb-true, lt-ltb, eq-eqb}
 use Rattle.std.proofs.lemmas.List.{append-nil}
 use Rattle.std.proofs.lemmas.List.Recursion.{is_count_by}
-use Rattle.list_laws.proofs.PlaceLaws.{some_below}
-use Rattle.net_core.specs.declared.tree.Word.{Word}
-use Rattle.net_core.specs.declared.tree.Net.{Net}
-use Rattle.net_core.specs.declared.design.Port as port
-use Rattle.net_core.specs.declared.design.Declared.{Declared}
-use Rattle.net_core.specs.declared.design.Declared.TheVariants as declared
-use Rattle.net_core.specs.Names.{is_integer}
-use Rattle.net_core.specs.Nets.{StatementTree, AssignTree, Netlist}
-use Rattle.net_core.specs.Ports.{port_list, port_names}
-use Rattle.net_core.specs.Width.{width_of, right_width, same, statement_typed, register_widths, memory_widths, scope, full_scope, wire_widths, word_fits, declared_typed, output_width, assigns_typed, is_assigned, statements_all_typed, IsTyped}
-use Rattle.net_core.proofs.WireLaws.{length_widths}
+use Rattle.design_rules.proofs.list_laws.PlaceLaws.{some_below}
+use Rattle.design_rules.specs.net_core.declared.tree.Word.{Word}
+use Rattle.design_rules.specs.net_core.declared.tree.Net.{Net}
+use Rattle.design_rules.specs.net_core.declared.design.Port as port
+use Rattle.design_rules.specs.net_core.declared.design.Declared.{Declared}
+use Rattle.design_rules.specs.net_core.declared.design.Declared.TheVariants as declared
+use Rattle.design_rules.specs.net_core.Names.{is_integer}
+use Rattle.design_rules.specs.net_core.Nets.{StatementTree, AssignTree, Netlist}
+use Rattle.design_rules.specs.net_core.Ports.{port_list, port_names}
+use Rattle.design_rules.specs.net_core.Width.{width_of, right_width, same, statement_typed, register_widths, memory_widths, scope, full_scope, wire_widths, word_fits, declared_typed, output_width, assigns_typed, is_assigned, statements_all_typed, IsTyped}
+use Rattle.design_rules.proofs.net_core.WireLaws.{length_widths}
 use Rattle.design_rules.specs.FormedSyntax.{tree_spelled, right_spelled, statement_spelled}
 use Rattle.design_rules.specs.FormedScope.{sorts, reads_known, right_known, is_output, integer_known, registers_of as registers_in, memories_of as memories_in}
 use Rattle.design_rules.specs.Formed.{first_broken, section_fault, first_fault, has_name, is_new, declared_place, wire_place, declared_fits, wire_fits, assign_fits, targets_free, block_known, block_fits, declared_rules, wire_rules, assign_rules, always_rules, last_rules, wires_start, assigns_start, always_start}

@@ -1,1 +1,2 @@
+pub use Rattle.design_rules.specs as design_rules
 pub mod WellFormed

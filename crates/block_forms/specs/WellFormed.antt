@@ -3,7 +3,7 @@ use Rattle.std.specs.Prelude.{◌≡◌, ℕ, ◌+◌, ◌^◌, ◌<◌, ◌==�
 use Rattle.std.specs.List.{list_all, list_any}
 use Rattle.std.specs.Str.{bytes_eq}
 use Rattle.std.proofs.Common.{not}
-use Rattle.net_core.specs.Ports as ports
+use Rattle.design_rules.specs.net_core.Ports as ports
 use Rattle.block_core.specs.declared.name.Name.{Name}
 use Rattle.block_core.specs.Blocks.{BlockWireTree, OutputTree, Whole, Among}
 use Rattle.block_core.specs.Link.{all_registers, all_memories, all_wires, net_names, link}

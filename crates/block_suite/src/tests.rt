@@ -1,7 +1,7 @@
 //! Tests of operands, of which the builders of nets ask that they be so.
 
 ghost use Rattle.std.specs.Prelude.{◌≡◌, ◌++◌, ◌≤◌, ◌<◌, true, All};
-ghost use Rattle.xdp_machine.specs.Memory.{bytes_in};
+ghost use Rattle.cell_core.specs.xdp_machine.Memory.{bytes_in};
 ghost use Rattle.xdp_maps.specs.Calls.{change_bytes};
 ghost use Rattle.xdp_maps.specs.declared.decl.MapKind.TheVariants.{Array};
 ghost use Rattle.cell_core.specs.Formed.{HasWords, IsInside};

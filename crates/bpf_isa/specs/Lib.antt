@@ -1,3 +1,4 @@
+pub use Rattle.bits_core.specs as bits_core
 pub mod Laid
 pub mod Opcode
 pub mod Rules

@@ -1,3 +1,4 @@
+pub use Rattle.beat_core.proofs as beat_core
 pub mod Values
 pub mod SpelledLaws
 pub mod Sites

@@ -8,9 +8,9 @@ use Rattle.net_core.specs.Nets.{Tree, RightTree, RPlain}
 use Rattle.net_core.specs.Value.{Env, word, right_value, stops}
 use Rattle.net_core.specs.Width.{Scope, right_width}
 use Rattle.design_rules.specs.FormedSyntax.{right_spelled}
-use Rattle.product_rules.specs.Products.{right_flat}
-use Rattle.bits_core.specs.Bits.{div_u_of, mod_u_of}
-use Rattle.xdp_machine.specs.State.{PacketIn}
+use Rattle.product_blocks.specs.product_rules.Products.{right_flat}
+use Rattle.cell_core.specs.bits_core.Bits.{div_u_of, mod_u_of}
+use Rattle.cell_core.specs.xdp_machine.State.{PacketIn}
 use Rattle.block_core.specs.declared.name.Name.{Name}
 use Rattle.block_core.specs.declared.name.Name.TheVariants as name
 use Rattle.block_core.specs.Blocks.{BlockWireTree}

@@ -7,7 +7,7 @@ use Rattle.std.proofs.lemmas.List.Elements.{All-nil, All-get_or, All-cons, All-h
 use Rattle.std.proofs.lemmas.List.Folds.{list_any-append}
 use Rattle.net_core.specs.Nets.{Tree}
 use Rattle.net_core.specs.Value.{Env}
-use Rattle.xdp_machine.specs.State.{PacketIn}
+use Rattle.cell_core.specs.xdp_machine.State.{PacketIn}
 use Rattle.block_core.specs.declared.name.Name.{Name}
 use Rattle.block_core.specs.Blocks.{BlockWireTree}
 use Rattle.cell_core.specs.declared.operator.Operator.TheVariants.{Any}

@@ -6,7 +6,7 @@ use Rattle.std.proofs.lemmas.List.Elements.{All-get_or}
 use Rattle.std.proofs.Math.Nat.{mod-eq_of_lt, mul-mod_left, div-div-eq-div-mul}
 use Rattle.std.proofs.Math.Pow.{pow_mono}
 use Rattle.net_core.proofs.LowBitsLaws.{low_low, concatenated_small}
-use Rattle.xdp_machine.specs.Arithmetic.{low}
+use Rattle.cell_core.specs.xdp_machine.Arithmetic.{low}
 use Rattle.cell_core.specs.Cells.{bits_from, joined}
 use Rattle.net_core.specs.Nets.{Tree, TConcatenation, TMore, TLast}
 use Rattle.net_core.specs.Value.{Env}

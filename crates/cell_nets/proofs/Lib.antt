@@ -1,3 +1,5 @@
+pub use Rattle.cell_core.proofs as cell_core
+pub use Rattle.product_blocks.proofs as product_blocks
 pub mod PartLemmas
 pub mod SliceLemmas
 pub mod PartLaws

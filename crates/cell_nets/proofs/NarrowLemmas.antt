@@ -8,11 +8,11 @@ use Rattle.net_core.specs.declared.tree.Op.TheVariants as net
 use Rattle.net_core.specs.Value.{apply, word}
 use Rattle.net_core.specs.Width.{op_width}
 use Rattle.net_core.proofs.LowBitsLaws.{low_low}
-use Rattle.xdp_machine.specs.State.{PacketIn}
+use Rattle.cell_core.specs.xdp_machine.State.{PacketIn}
 use Rattle.cell_core.specs.declared.operator.Operator.{Operator}
 use Rattle.cell_core.specs.declared.operator.Operator.TheVariants.{And, Or, Xor, Difference, Add, Sub, Mul}
 use Rattle.cell_core.specs.Cells.{number, bits_from}
-use Rattle.product_rules.specs.Products.{is_product}
+use Rattle.product_blocks.specs.product_rules.Products.{is_product}
 use Rattle.cell_nets.specs.Computing.{makes_product}
 use Rattle.cell_nets.specs.Narrow.{narrow_op}
 use Rattle.cell_nets.proofs.PartLemmas.{same_is}

@@ -6,9 +6,9 @@ use Rattle.std.specs.Prelude.{slice_index}
 use Rattle.std.proofs.lemmas.List.Elements.{All-head, All-tail}
 use Rattle.std.proofs.lemmas.Nat.{and_mod, or_mod, xor_mod, mod_below, pow_pos}
 use Rattle.std.proofs.Math.Nat.{div-le_self}
-use Rattle.bits_core.specs.Bits.{bits_of, signed_of, div_u_of, mod_u_of}
-use Rattle.xdp_machine.specs.Arithmetic.{low}
-use Rattle.xdp_machine.specs.State.{PacketIn}
+use Rattle.cell_core.specs.bits_core.Bits.{bits_of, signed_of, div_u_of, mod_u_of}
+use Rattle.cell_core.specs.xdp_machine.Arithmetic.{low}
+use Rattle.cell_core.specs.xdp_machine.State.{PacketIn}
 use Rattle.cell_core.specs.declared.operator.Operator.{Operator}
 use Rattle.cell_core.specs.declared.operator.Operator.TheVariants.{Join, SignExtend, Not, And, Or, Xor, Any, Select, Phi, Difference, Quotient, Remainder, Add, Sub, Mul, ShiftLeft, ShiftRight, Equal, Less, LessOrEqual, NonZero}
 use Rattle.cell_core.specs.Cells.{bit, on, number, phi}

@@ -9,7 +9,7 @@ use Rattle.net_core.specs.Value.{Env, word, apply, number_of}
 use Rattle.net_core.specs.Width.{Scope, op_width, same_width, test_width, shift_width, part_select_width}
 use Rattle.net_core.proofs.WidthLaws.{concatenation_is}
 use Rattle.design_rules.specs.FormedSyntax.{is_prefixed, prefixes_apart, depth, tree_spelled}
-use Rattle.product_rules.specs.Products.{is_product}
+use Rattle.product_blocks.specs.product_rules.Products.{is_product}
 use Rattle.product_blocks.proofs.FreeLaws.{flat_without}
 use Rattle.product_blocks.proofs.CleanLaws.{flat_over}
 use Rattle.cell_nets.specs.declared.operand.Operand.{Operand}

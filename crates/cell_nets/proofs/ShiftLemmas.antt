@@ -9,8 +9,8 @@ use Rattle.std.proofs.Math.Pow.{pow_mono, mod-mod-pow}
 use Rattle.net_core.specs.Nets.{Tree, TConst, TConditional, TConcatenation, TMore, TLast}
 use Rattle.net_core.specs.Value.{word}
 use Rattle.net_core.proofs.LowBitsLaws.{low_low}
-use Rattle.xdp_machine.specs.State.{PacketIn}
-use Rattle.bits_core.specs.Bits.{sext_of}
+use Rattle.cell_core.specs.xdp_machine.State.{PacketIn}
+use Rattle.cell_core.specs.bits_core.Bits.{sext_of}
 use Rattle.cell_core.specs.declared.operator.Operator.TheVariants.{ShiftLeft, ShiftRight, SignExtend}
 use Rattle.cell_core.specs.Cells.{number, bits_from}
 use Rattle.cell_nets.specs.declared.operand.Operand.{Operand}

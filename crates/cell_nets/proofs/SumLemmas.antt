@@ -4,7 +4,7 @@ use Rattle.std.proofs.lemmas.Nat.{mul-mod_first}
 use Rattle.std.proofs.lemmas.List.{take_all}
 use Rattle.net_core.specs.Value.{Env}
 use Rattle.net_core.proofs.LowBitsLaws.{low_low}
-use Rattle.xdp_machine.specs.State.{PacketIn}
+use Rattle.cell_core.specs.xdp_machine.State.{PacketIn}
 use Rattle.block_core.specs.declared.name.Name.{Name}
 use Rattle.block_core.specs.Blocks.{BlockWireTree}
 use Rattle.cell_core.specs.declared.operator.Operator.TheVariants.{Join, ShiftLeft, Add}

@@ -7,13 +7,13 @@ use Rattle.net_core.specs.declared.tree.Op.{Op}
 use Rattle.net_core.specs.declared.tree.Op.TheVariants as net
 use Rattle.net_core.specs.Value.{apply, word}
 use Rattle.net_core.specs.Width.{op_width}
-use Rattle.xdp_machine.specs.Arithmetic.{low}
-use Rattle.xdp_machine.specs.State.{PacketIn}
+use Rattle.cell_core.specs.xdp_machine.Arithmetic.{low}
+use Rattle.cell_core.specs.xdp_machine.State.{PacketIn}
 use Rattle.cell_core.specs.declared.operator.Operator.{Operator}
 use Rattle.cell_core.specs.declared.operator.Operator.TheVariants.{Equal, Less, LessOrEqual}
 use Rattle.cell_core.specs.Cells.{number, bit, bits_from}
 use Rattle.cell_nets.specs.Narrow.{test_op}
-use Rattle.product_rules.specs.Products.{is_product}
+use Rattle.product_blocks.specs.product_rules.Products.{is_product}
 use Rattle.cell_nets.specs.Computing.{makes_product}
 use Rattle.cell_nets.proofs.PartLemmas.{test_is}
 use Rattle.cell_nets.proofs.NarrowLemmas.{from_zero}

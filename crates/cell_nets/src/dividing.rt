@@ -2,7 +2,7 @@
 
 ghost use Rattle.std.specs.Prelude.{ℕ, [], ◌∷◌, ◌≡◌, ◌≢◌, ◌<◌, ◌≤◌, true, IfOk};
 ghost use Rattle.net_core.specs.View.{right_of};
-ghost use Rattle.xdp_machine.specs.State.{PacketIn};
+ghost use Rattle.cell_core.specs.xdp_machine.State.{PacketIn};
 ghost use Rattle.cell_nets.specs.Dividing.{divided, division};
 ghost use Rattle.cell_nets.specs.Operands.{IsOperand, IsWide, number_in};
 ghost use Rattle.cell_nets.specs.Parts.{worth};

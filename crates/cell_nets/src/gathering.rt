@@ -1,7 +1,7 @@
 //! Whether one of any number of operands is not 0: a wire where they become too many for an expression.
 
 ghost use Rattle.std.specs.Prelude.{ℕ, [], ◌∷◌, ◌≡◌, ◌<◌, ◌≤◌, All, length, IfOk};
-ghost use Rattle.xdp_machine.specs.State.{PacketIn};
+ghost use Rattle.cell_core.specs.xdp_machine.State.{PacketIn};
 ghost use Rattle.cell_core.specs.declared.operator.Operator.TheVariants as operator;
 ghost use Rattle.cell_nets.specs.Gathering.{IsGathered};
 ghost use Rattle.cell_nets.specs.Operands.{IsOperand, IsWide};

@@ -3,7 +3,7 @@
 ghost use Rattle.std.specs.Prelude.{ℕ, List, [], ◌∷◌, ◌≡◌, ◌-◌, ◌*◌, ◌/◌, ◌<◌, ◌≤◌, All, length, drop, IfOk, map as map_list};
 ghost use Rattle.std.specs.List.{list_any};
 ghost use Rattle.net_core.specs.View.{tree_of};
-ghost use Rattle.xdp_machine.specs.State.{PacketIn};
+ghost use Rattle.cell_core.specs.xdp_machine.State.{PacketIn};
 ghost use Rattle.cell_core.specs.declared.operator.Operator.TheVariants as operator;
 ghost use Rattle.cell_core.specs.Cells.{bit, on, bits_from, phi};
 ghost use Rattle.cell_nets.specs.Listing.{IsChosen};

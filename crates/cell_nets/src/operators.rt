@@ -3,7 +3,7 @@
 ghost use Rattle.std.specs.Prelude.{ℕ, List, [], ◌∷◌, Some, ◌≡◌, ◌<◌, ◌≤◌, true, false, All, take, drop, slice_index, IfOk, map as map_list};
 ghost use Rattle.net_core.specs.Value.{Env};
 ghost use Rattle.net_core.specs.View.{tree_of};
-ghost use Rattle.xdp_machine.specs.State.{PacketIn};
+ghost use Rattle.cell_core.specs.xdp_machine.State.{PacketIn};
 ghost use Rattle.cell_core.specs.declared.operator.Operator.TheVariants as operator;
 ghost use Rattle.cell_core.specs.Cells.{number, bits_from};
 ghost use Rattle.cell_core.specs.Formed.{IsInRange};

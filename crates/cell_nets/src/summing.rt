@@ -1,7 +1,7 @@
 //! Operands above one another where these are too many for an expression, or have more bits than they are given.
 
 ghost use Rattle.std.specs.Prelude.{ℕ, ◌≤◌, All, IfOk};
-ghost use Rattle.xdp_machine.specs.State.{PacketIn};
+ghost use Rattle.cell_core.specs.xdp_machine.State.{PacketIn};
 ghost use Rattle.cell_core.specs.declared.operator.Operator.TheVariants as operator;
 ghost use Rattle.cell_nets.specs.Operands.{IsOperand, IsWide};
 ghost use Rattle.cell_nets.specs.Parts.{worth};

@@ -14,11 +14,11 @@ use Rattle.xdp_maps.specs.declared.decl.MapKind.TheVariants.{Hash, Array}
 use Rattle.xdp_maps.specs.Contents.{IsWithinLimits, limits_as, index_key}
 use Rattle.cell_core.specs.Cells.{bit, on}
 use Rattle.cell_core.specs.Sites.{ProgramView, site_at, bytes_of}
-use Rattle.hazard_core.specs.declared.access.Access.{Access}
-use Rattle.hazard_core.specs.declared.change.Change.{Change}
-use Rattle.hazard_core.specs.Tables.{TableState, table_at, slot_at}
-use Rattle.hazard_core.specs.Held.{Held, is_delete, asked_key}
-use Rattle.hazard_core.specs.Commits.{word_count, makes_entry, written_slot, changed_key, change_by, host_change}
+use Rattle.array_net.specs.hazard_core.declared.access.Access.{Access}
+use Rattle.array_net.specs.hazard_core.declared.change.Change.{Change}
+use Rattle.array_net.specs.hazard_core.Tables.{TableState, table_at, slot_at}
+use Rattle.array_net.specs.hazard_core.Held.{Held, is_delete, asked_key}
+use Rattle.array_net.specs.hazard_core.Commits.{word_count, makes_entry, written_slot, changed_key, change_by, host_change}
 use Rattle.array_net.specs.Hosts.{SeesHost}
 use Rattle.cell_nets.specs.declared.operand.Operand.{Operand}
 use Rattle.cell_nets.specs.declared.operand.Operand.TheVariants.{Net}

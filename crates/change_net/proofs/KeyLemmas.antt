@@ -18,12 +18,12 @@ use Rattle.cell_core.specs.declared.site.Act.{Act}
 use Rattle.cell_core.specs.declared.site.Act.TheVariants as act
 use Rattle.cell_core.specs.Cells.{bit, on, bits_from, phi}
 use Rattle.cell_core.specs.Sites.{ProgramView, SiteView, site_at, bytes_of, operation_with}
-use Rattle.hazard_core.specs.declared.slot.Slot.{Slot}
-use Rattle.hazard_core.specs.Tables.{TableState, no_slot, decl_of, table_at, slot_at, has_key, slot_of, free_slot}
-use Rattle.hazard_core.specs.declared.pointer.Pointer.TheVariants.{Null, InSlot}
-use Rattle.hazard_core.specs.Held.{Held, held_value, asked_key, slot_pointer, is_delete, written_as, written_pointer}
-use Rattle.hazard_core.specs.Commits.{word_count, word_at, slot_under, written_slot, changed_key}
-use Rattle.hazard_core.specs.Changes.{IsRightCommit}
+use Rattle.array_net.specs.hazard_core.declared.slot.Slot.{Slot}
+use Rattle.array_net.specs.hazard_core.Tables.{TableState, no_slot, decl_of, table_at, slot_at, has_key, slot_of, free_slot}
+use Rattle.array_net.specs.hazard_core.declared.pointer.Pointer.TheVariants.{Null, InSlot}
+use Rattle.array_net.specs.hazard_core.Held.{Held, held_value, asked_key, slot_pointer, is_delete, written_as, written_pointer}
+use Rattle.array_net.specs.hazard_core.Commits.{word_count, word_at, slot_under, written_slot, changed_key}
+use Rattle.array_net.specs.hazard_core.Changes.{IsRightCommit}
 use Rattle.cell_nets.specs.declared.operand.Operand.{Operand}
 use Rattle.cell_nets.specs.declared.operand.Operand.TheVariants.{Known, Net}
 use Rattle.cell_nets.specs.Operands.{number_in, IsOperand, IsFit}

@@ -1,3 +1,5 @@
+pub use Rattle.cell_nets.proofs as cell_nets
+pub use Rattle.operand_blocks.proofs as operand_blocks
 pub mod ChainLemmas
 pub mod PointedLaws
 pub mod PointedLemmas

@@ -10,8 +10,8 @@ use Rattle.net_core.specs.Nets.{Tree, TRead}
 use Rattle.net_core.specs.Ports.{port_list}
 use Rattle.net_core.specs.Value.{word, Env, right_value}
 use Rattle.net_core.specs.Width.{Scope, right_width, same}
-use Rattle.design_rules.specs.FormedSyntax.{right_spelled, depth}
-use Rattle.product_blocks.specs.Alone.{wire_flat}
+use Rattle.frame_net.specs.design_rules.FormedSyntax.{right_spelled, depth}
+use Rattle.frame_net.specs.product_blocks.Alone.{wire_flat}
 use Rattle.block_core.specs.declared.name.Name.{Name}
 use Rattle.block_core.specs.declared.name.Name.TheVariants as name
 use Rattle.block_core.specs.Blocks.{BlockWireTree, Whole}
@@ -19,7 +19,7 @@ use Rattle.block_core.specs.Parts.{Solve, Goes}
 use Rattle.block_core.specs.Order.{RightReads, IsBefore, InOrder}
 use Rattle.block_core.specs.Formed.{names_scope, name_width, block_memories, block_wires_typed, IsThere}
 use Rattle.cell_core.specs.Cells.{bits_from}
-use Rattle.hazard_core.specs.Commits.{word_count}
+use Rattle.array_net.specs.hazard_core.Commits.{word_count}
 use Rattle.frame_net.specs.SourcesNets.{held}
 use Rattle.frame_net.proofs.FormLaws.{and_is, wire_is}
 use Rattle.array_net.specs.Words.{word_width}

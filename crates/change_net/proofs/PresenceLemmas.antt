@@ -5,9 +5,9 @@ use Rattle.block_core.specs.declared.name.Name.{Name}
 use Rattle.block_core.specs.Blocks.{BlockWireTree}
 use Rattle.cell_core.specs.Cells.{bit, on, bits_from}
 use Rattle.cell_core.specs.Sites.{ProgramView, site_at}
-use Rattle.hazard_core.specs.Tables.{TableState}
-use Rattle.hazard_core.specs.Held.{Held, is_delete}
-use Rattle.hazard_core.specs.Commits.{makes_entry}
+use Rattle.array_net.specs.hazard_core.Tables.{TableState}
+use Rattle.array_net.specs.hazard_core.Held.{Held, is_delete}
+use Rattle.array_net.specs.hazard_core.Commits.{makes_entry}
 use Rattle.cell_nets.specs.declared.operand.Operand.{Operand}
 use Rattle.cell_nets.specs.declared.operand.Operand.TheVariants.{Known}
 use Rattle.cell_nets.specs.Operands.{number_in, IsAvailable}

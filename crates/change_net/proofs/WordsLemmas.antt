@@ -7,10 +7,10 @@ use Rattle.std.proofs.lemmas.List.{take-append-le, take-append-drop, take_all, l
 use Rattle.std.proofs.lemmas.List.Elements.{All-take, All-drop}
 use Rattle.byteorder.specs.Endian.{little_from, little_bytes}
 use Rattle.byteorder.specs.Numbers.{little_from-cons, little_from-take, length-bytes_low_first}
-use Rattle.beat_core.specs.Words.{low_bytes}
-use Rattle.beat_core.proofs.WordLaws.{low_bytes-zero, low_bytes-suc, written_bytes}
+use Rattle.net_core.specs.beat_core.Words.{low_bytes}
+use Rattle.net_core.proofs.beat_core.WordLaws.{low_bytes-zero, low_bytes-suc, written_bytes}
 use Rattle.cell_core.specs.Sites.{spelled, bytes_of}
-use Rattle.hazard_core.specs.Commits.{word_count, word_at}
+use Rattle.array_net.specs.hazard_core.Commits.{word_count, word_at}
 
 -- ---- the bytes of the number that they make
 low_of : (m : ℕ) (bs : List ℕ) → length bs ≤ m → All (λ b. b < 256) bs → low_bytes (length bs) (little_from 0 m bs) ≡ bs

@@ -9,11 +9,11 @@ use Rattle.block_core.specs.Parts.{Solve}
 use Rattle.xdp_maps.specs.declared.decl.MapDecl.{MapDecl}
 use Rattle.xdp_maps.specs.declared.decl.MapKind.{MapKind}
 use Rattle.xdp_maps.specs.declared.decl.MapKind.TheVariants.{Hash, Array}
-use Rattle.hazard_core.specs.declared.slot.Slot.{Slot}
-use Rattle.hazard_core.specs.Tables.{slot_at}
-use Rattle.hazard_core.specs.Tabled.{IsFilledTable, IsTable}
+use Rattle.array_net.specs.hazard_core.declared.slot.Slot.{Slot}
+use Rattle.array_net.specs.hazard_core.Tables.{slot_at}
+use Rattle.array_net.specs.hazard_core.Tabled.{IsFilledTable, IsTable}
 use Rattle.array_net.specs.Hosts.{SeesMemories}
-use Rattle.hash_net.specs.Hash.{StoresHash}
+use Rattle.commit_net.specs.hash_net.Hash.{StoresHash}
 use Rattle.change_net.specs.Written.{IsWritten}
 use Rattle.change_net.specs.Changes.{ShowsKey_as, ShowsKey}
 

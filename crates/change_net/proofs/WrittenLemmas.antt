@@ -14,12 +14,12 @@ use Rattle.xdp_maps.specs.declared.decl.MapDecl.{MapDecl}
 use Rattle.xdp_maps.specs.declared.decl.MapKind.{MapKind}
 use Rattle.xdp_maps.specs.declared.decl.MapKind.TheVariants.{Hash, Array}
 use Rattle.cell_core.specs.Cells.{on, bits_from}
-use Rattle.hazard_core.specs.Tables.{slot_at}
-use Rattle.hazard_core.specs.Commits.{word_count, word_at as byte_word}
+use Rattle.array_net.specs.hazard_core.Tables.{slot_at}
+use Rattle.array_net.specs.hazard_core.Commits.{word_count, word_at as byte_word}
 use Rattle.array_net.specs.Words.{word_width}
 use Rattle.array_net.specs.WordTrees.{word_memories}
 use Rattle.array_net.proofs.WordMemoryLaws.{memory_at, count_memories}
-use Rattle.hash_net.specs.HashNets.{value_first, hash_memories}
+use Rattle.commit_net.specs.hash_net.HashNets.{value_first, hash_memories}
 use Rattle.cell_nets.specs.declared.operand.Operand.{Operand}
 use Rattle.cell_nets.specs.declared.operand.Operand.TheVariants.{Net}
 use Rattle.cell_nets.specs.Operands.{HasWidth, AreFit}

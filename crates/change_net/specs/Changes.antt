@@ -16,12 +16,12 @@ use Rattle.cell_core.specs.declared.site.Act.TheVariants as act
 use Rattle.cell_core.specs.Cells.{bit, on, bits_from, phi}
 use Rattle.cell_core.specs.Sites.{ProgramView, site_at}
 use Rattle.cell_core.specs.Formed.{FitsMap}
-use Rattle.hazard_core.specs.declared.slot.Slot.{Slot}
-use Rattle.hazard_core.specs.declared.access.Access.{Access}
-use Rattle.hazard_core.specs.Tables.{TableState, decl_of, table_at, slot_at, has_key}
-use Rattle.hazard_core.specs.Held.{Held, is_delete}
-use Rattle.hazard_core.specs.Commits.{word_count, word_at as byte_word, makes_entry, written_slot, change_by, host_change}
-use Rattle.hazard_core.specs.Changes.{IsRightCommit}
+use Rattle.array_net.specs.hazard_core.declared.slot.Slot.{Slot}
+use Rattle.array_net.specs.hazard_core.declared.access.Access.{Access}
+use Rattle.array_net.specs.hazard_core.Tables.{TableState, decl_of, table_at, slot_at, has_key}
+use Rattle.array_net.specs.hazard_core.Held.{Held, is_delete}
+use Rattle.array_net.specs.hazard_core.Commits.{word_count, word_at as byte_word, makes_entry, written_slot, change_by, host_change}
+use Rattle.array_net.specs.hazard_core.Changes.{IsRightCommit}
 use Rattle.array_net.specs.Hosts.{SeesHost}
 use Rattle.cell_nets.specs.declared.operand.Operand.{Operand}
 use Rattle.cell_nets.specs.declared.operand.Operand.TheVariants.{Known, Net}

@@ -13,13 +13,13 @@ use Rattle.block_core.specs.Formed.{names_scope, block_memories, IsTypedBlock}
 use Rattle.xdp_maps.specs.declared.decl.MapDecl.{MapDecl}
 use Rattle.xdp_maps.specs.declared.decl.MapKind.{MapKind}
 use Rattle.xdp_maps.specs.declared.decl.MapKind.TheVariants.{Hash, Array}
-use Rattle.hazard_core.specs.declared.slot.Slot.{Slot}
-use Rattle.hazard_core.specs.declared.access.Access.{Access}
-use Rattle.hazard_core.specs.Tables.{slot_at}
-use Rattle.hazard_core.specs.Commits.{word_count, word_at as byte_word}
+use Rattle.array_net.specs.hazard_core.declared.slot.Slot.{Slot}
+use Rattle.array_net.specs.hazard_core.declared.access.Access.{Access}
+use Rattle.array_net.specs.hazard_core.Tables.{slot_at}
+use Rattle.array_net.specs.hazard_core.Commits.{word_count, word_at as byte_word}
 use Rattle.array_net.specs.Hosts.{SeesHost, SeesMemories}
-use Rattle.hash_net.specs.HashNets.{hash_memories}
-use Rattle.hash_net.specs.Hash.{StoresHash}
+use Rattle.commit_net.specs.hash_net.HashNets.{hash_memories}
+use Rattle.commit_net.specs.hash_net.Hash.{StoresHash}
 use Rattle.cell_nets.specs.declared.operand.Operand.{Operand}
 use Rattle.cell_nets.specs.declared.operand.Operand.TheVariants.{Net}
 use Rattle.cell_nets.specs.Operands.{AreFit, AreDeclared}

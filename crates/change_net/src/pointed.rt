@@ -3,7 +3,7 @@
 ghost use Rattle.std.specs.Prelude.{◌≡◌, List, [], ◌∷◌, ◌++◌, ◌+◌, ◌<◌, ◌≤◌, length, map, IfOk, OnOk};
 ghost use Rattle.std.specs.List.{range_with_len};
 ghost use Rattle.block_core.specs.View.{block_of, block_wire_of};
-ghost use Rattle.hazard_core.specs.Commits.{word_count};
+ghost use Rattle.array_net.specs.hazard_core.Commits.{word_count};
 ghost use Rattle.cell_nets.specs.declared.operand.Operand.{Operand};
 ghost use Rattle.cell_nets.specs.Operands.{IsOperand};
 ghost use Rattle.cell_nets.specs.Wires.{wires_of};

@@ -2,7 +2,7 @@
 
 ghost use Rattle.std.specs.Prelude.{◌≡◌, ◌≤◌, IfOk};
 ghost use Rattle.block_core.specs.View.{block_of};
-ghost use Rattle.hazard_core.specs.Commits.{word_count};
+ghost use Rattle.array_net.specs.hazard_core.Commits.{word_count};
 ghost use Rattle.change_net.specs.Written.{key_count, IsWritten};
 
 use crate::pointed::{PointedWords, pointed_words};

@@ -8,10 +8,10 @@ use Rattle.xdp_maps.specs.declared.decl.MapDecl.{MapDecl}
 use Rattle.xdp_maps.specs.Contents.{IsBytes}
 use Rattle.cell_core.specs.Cells.{bit}
 use Rattle.cell_core.specs.Sites.{ProgramView, SiteView, site_at}
-use Rattle.hazard_core.specs.Tables.{TableState, decl_of}
-use Rattle.hazard_core.specs.Held.{Held, asked, asked_key}
-use Rattle.hazard_core.specs.Overlay.{value_as}
-use Rattle.hazard_core.specs.Commits.{word_count, word_at}
+use Rattle.array_net.specs.hazard_core.Tables.{TableState, decl_of}
+use Rattle.array_net.specs.hazard_core.Held.{Held, asked, asked_key}
+use Rattle.array_net.specs.hazard_core.Overlay.{value_as}
+use Rattle.array_net.specs.hazard_core.Commits.{word_count, word_at}
 use Rattle.array_net.specs.declared.words.WordNets.{WordNets}
 use Rattle.array_net.specs.Words.{word_width}
 use Rattle.cell_nets.specs.declared.operand.Operand.{Operand}

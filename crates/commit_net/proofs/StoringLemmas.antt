@@ -14,8 +14,8 @@ use Rattle.xdp_maps.specs.declared.decl.MapDecl.{MapDecl}
 use Rattle.xdp_maps.specs.declared.decl.MapKind.TheVariants.{Array}
 use Rattle.xdp_maps.specs.Contents.{IsBytes}
 use Rattle.cell_core.specs.Sites.{site_at}
-use Rattle.hazard_core.specs.Tables.{decl_of, slot_at}
-use Rattle.hazard_core.specs.Commits.{word_count, word_at, written_slot}
+use Rattle.array_net.specs.hazard_core.Tables.{decl_of, slot_at}
+use Rattle.array_net.specs.hazard_core.Commits.{word_count, word_at, written_slot}
 use Rattle.array_net.specs.Words.{word_width}
 use Rattle.array_net.specs.Array.{StoresArray}
 use Rattle.array_net.proofs.WordLaws.{width_most}

@@ -3,16 +3,16 @@ use Rattle.std.specs.Prelude.{if◌then◌else◌, fold, slice_index}
 use Rattle.std.proofs.Common.{◌≡◌, ◌≢◌, ◌∙◌, ℕ, zero, suc, ◌+◌, ◌*◌, ◌/◌, ◌==◌, ◌^◌, ◌<◌, ◌≤◌, Bool, true, false, All, List, [], ◌∷◌, length, get_or, refl, sym, ap, subst, arith}
 use Rattle.std.proofs.lemmas.Bool.{eqb-true, eqb-false}
 use Rattle.net_core.specs.Value.{Env}
-use Rattle.xdp_machine.specs.Arithmetic.{low}
+use Rattle.cell_core.specs.xdp_machine.Arithmetic.{low}
 use Rattle.cell_core.specs.Cells.{on, bits_from}
-use Rattle.hazard_core.specs.declared.pointer.Pointer.{Pointer}
-use Rattle.hazard_core.specs.declared.pointer.Pointer.TheVariants.{Null, InSlot, Pending}
-use Rattle.hazard_core.specs.declared.slot.Slot.{Slot}
+use Rattle.array_net.specs.hazard_core.declared.pointer.Pointer.{Pointer}
+use Rattle.array_net.specs.hazard_core.declared.pointer.Pointer.TheVariants.{Null, InSlot, Pending}
+use Rattle.array_net.specs.hazard_core.declared.slot.Slot.{Slot}
 use Rattle.cell_core.specs.declared.site.Act.{Act}
 use Rattle.cell_core.specs.declared.site.Act.TheVariants as act
-use Rattle.hazard_core.specs.Held.{same_pointer, is_update}
-use Rattle.hazard_core.specs.Tables.{free_slot}
-use Rattle.hazard_core.specs.Commits.{slot_under}
+use Rattle.array_net.specs.hazard_core.Held.{same_pointer, is_update}
+use Rattle.array_net.specs.hazard_core.Tables.{free_slot}
+use Rattle.array_net.specs.hazard_core.Commits.{slot_under}
 use Rattle.cell_nets.specs.declared.operand.Operand.{Operand}
 use Rattle.cell_nets.specs.Operands.{number_in}
 use Rattle.site_operands.specs.Pointers.{pointer_number}

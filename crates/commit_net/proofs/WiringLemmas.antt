@@ -3,7 +3,7 @@ use Rattle.std.specs.Prelude.{Contains}
 use Rattle.std.proofs.Common.{◌≡◌, ◌∙◌, ℕ, suc, Bool, true, false, All, List, [], ◌∷◌, map as map_list, sym, ap, arith}
 use Rattle.net_core.specs.Value.{word, bit, Env}
 use Rattle.net_core.specs.Width.{Scope}
-use Rattle.hazard_core.specs.Commits.{word_at}
+use Rattle.array_net.specs.hazard_core.Commits.{word_at}
 use Rattle.array_net.specs.declared.words.WordNets.{WordNets}
 use Rattle.array_net.specs.Words.{word_width, AsksWords, HaveWidths, AreThere}
 use Rattle.hash_net.specs.HashNets.{key_nets}

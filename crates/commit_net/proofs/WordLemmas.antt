@@ -10,10 +10,10 @@ use Rattle.xdp_maps.specs.declared.decl.MapDecl.{MapDecl}
 use Rattle.xdp_maps.specs.Contents.{IsBytes}
 use Rattle.cell_core.specs.Formed.{HasWords, IsInside}
 use Rattle.cell_core.specs.Sites.{ProgramView, SiteView, site_at, no_site, operation_with}
-use Rattle.hazard_core.specs.Held.{Held, held_value, asked}
-use Rattle.hazard_core.specs.Overlay.{value_as}
-use Rattle.hazard_core.specs.Tables.{TableState, decl_of}
-use Rattle.hazard_core.specs.Commits.{word_at}
+use Rattle.array_net.specs.hazard_core.Held.{Held, held_value, asked}
+use Rattle.array_net.specs.hazard_core.Overlay.{value_as}
+use Rattle.array_net.specs.hazard_core.Tables.{TableState, decl_of}
+use Rattle.array_net.specs.hazard_core.Commits.{word_at}
 use Rattle.array_net.specs.Words.{word_width}
 use Rattle.cell_nets.specs.declared.operand.Operand.{Operand}
 use Rattle.cell_nets.specs.Operands.{number_in, IsAvailable}

@@ -6,9 +6,9 @@ use Rattle.cell_core.specs.declared.site.Act.{Act}
 use Rattle.cell_core.specs.declared.site.Act.TheVariants as act
 use Rattle.cell_core.specs.Cells.{bit, phi}
 use Rattle.cell_core.specs.Sites.{ProgramView, site_at}
-use Rattle.hazard_core.specs.Tables.{TableState}
-use Rattle.hazard_core.specs.Held.{Held, is_delete}
-use Rattle.hazard_core.specs.Commits.{written_slot, makes_entry}
+use Rattle.array_net.specs.hazard_core.Tables.{TableState}
+use Rattle.array_net.specs.hazard_core.Held.{Held, is_delete}
+use Rattle.array_net.specs.hazard_core.Commits.{written_slot, makes_entry}
 use Rattle.cell_nets.specs.declared.operand.Operand.{Operand}
 use Rattle.cell_nets.specs.declared.operand.Operand.TheVariants.{Known}
 use Rattle.cell_nets.specs.Operands.{number_in, IsOperand}

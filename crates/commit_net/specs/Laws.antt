@@ -8,10 +8,10 @@ use Rattle.block_core.specs.Parts.{Solve}
 use Rattle.xdp_maps.specs.declared.decl.MapDecl.{MapDecl}
 use Rattle.xdp_maps.specs.declared.decl.MapKind.TheVariants.{Array}
 use Rattle.cell_core.specs.Sites.{ProgramView, site_at}
-use Rattle.hazard_core.specs.Tables.{TableState, decl_of, table_at}
-use Rattle.hazard_core.specs.Held.{Held, writes}
-use Rattle.hazard_core.specs.Commits.{word_count, written_slot, committed}
-use Rattle.hazard_core.specs.Changes.{IsRightCommit}
+use Rattle.array_net.specs.hazard_core.Tables.{TableState, decl_of, table_at}
+use Rattle.array_net.specs.hazard_core.Held.{Held, writes}
+use Rattle.array_net.specs.hazard_core.Commits.{word_count, written_slot, committed}
+use Rattle.array_net.specs.hazard_core.Changes.{IsRightCommit}
 use Rattle.array_net.specs.declared.words.WordNets.{WordNets}
 use Rattle.array_net.specs.declared.block.MapNets.{MapNets}
 use Rattle.array_net.specs.Hosts.{SeesMemories}

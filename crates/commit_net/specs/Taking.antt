@@ -3,9 +3,9 @@ use Rattle.std.specs.Prelude.{◌≡◌, ℕ, ◌^◌, ◌<◌, ◌==◌, true, 
 use Rattle.net_core.specs.Value.{Env}
 use Rattle.cell_core.specs.Cells.{bit}
 use Rattle.cell_core.specs.Sites.{ProgramView, site_at}
-use Rattle.hazard_core.specs.Tables.{TableState}
-use Rattle.hazard_core.specs.Held.{Held, is_update}
-use Rattle.hazard_core.specs.Commits.{written_slot, taken_after}
+use Rattle.array_net.specs.hazard_core.Tables.{TableState}
+use Rattle.array_net.specs.hazard_core.Held.{Held, is_update}
+use Rattle.array_net.specs.hazard_core.Commits.{written_slot, taken_after}
 use Rattle.cell_nets.specs.declared.operand.Operand.{Operand}
 use Rattle.cell_nets.specs.Operands.{number_in}
 use Rattle.commit_net.specs.declared.choosing.CommitNets.{CommitNets}

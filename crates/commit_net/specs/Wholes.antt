@@ -11,12 +11,12 @@ use Rattle.xdp_maps.specs.declared.decl.MapDecl.{MapDecl}
 use Rattle.xdp_maps.specs.Contents.{IsBytes}
 use Rattle.cell_core.specs.Sites.{ProgramView, site_at}
 use Rattle.cell_core.specs.Formed.{FitsMap}
-use Rattle.hazard_core.specs.declared.slot.Slot.{Slot}
-use Rattle.hazard_core.specs.Tables.{TableState, decl_of, table_at, slot_at}
-use Rattle.hazard_core.specs.Shaped.{AreShaped}
-use Rattle.hazard_core.specs.Held.{Held}
-use Rattle.hazard_core.specs.Commits.{word_count, written_slot, committed}
-use Rattle.hazard_core.specs.Changes.{IsRightCommit}
+use Rattle.array_net.specs.hazard_core.declared.slot.Slot.{Slot}
+use Rattle.array_net.specs.hazard_core.Tables.{TableState, decl_of, table_at, slot_at}
+use Rattle.array_net.specs.hazard_core.Shaped.{AreShaped}
+use Rattle.array_net.specs.hazard_core.Held.{Held}
+use Rattle.array_net.specs.hazard_core.Commits.{word_count, written_slot, committed}
+use Rattle.array_net.specs.hazard_core.Changes.{IsRightCommit}
 use Rattle.array_net.specs.declared.words.WordNets.{WordNets}
 use Rattle.array_net.specs.declared.block.MapNets.{MapNets}
 use Rattle.array_net.specs.Words.{HaveWidths, AreThere}

@@ -3,7 +3,7 @@ use Rattle.std.specs.Prelude.{◌≡◌, ℕ, suc, ◌<◌, Bool, List, [], ◌�
 use Rattle.std.proofs.Common.{get_or}
 use Rattle.net_core.specs.Value.{Env}
 use Rattle.cell_core.specs.Cells.{bit}
-use Rattle.hazard_core.specs.Commits.{word_at}
+use Rattle.array_net.specs.hazard_core.Commits.{word_at}
 use Rattle.array_net.specs.declared.words.WordNets.{WordNets}
 use Rattle.array_net.specs.Words.{word_width}
 use Rattle.cell_nets.specs.declared.operand.Operand.{Operand}

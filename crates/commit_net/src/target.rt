@@ -3,9 +3,9 @@
 ghost use Rattle.std.specs.Prelude.{ℕ, List, [], ◌∷◌, ◌≡◌, ◌==◌, ◌+◌, ◌*◌, ◌<◌, ◌^◌, if◌then◌else◌, All, IfOk};
 ghost use Rattle.cell_core.specs.Cells.{bit, bits_from};
 ghost use Rattle.cell_core.specs.Sites.{ProgramView, site_at};
-ghost use Rattle.hazard_core.specs.Tables.{TableState};
-ghost use Rattle.hazard_core.specs.Held.{Held};
-ghost use Rattle.hazard_core.specs.Commits.{written_slot, makes_entry};
+ghost use Rattle.array_net.specs.hazard_core.Tables.{TableState};
+ghost use Rattle.array_net.specs.hazard_core.Held.{Held};
+ghost use Rattle.array_net.specs.hazard_core.Commits.{written_slot, makes_entry};
 ghost use Rattle.cell_nets.specs.Operands.{IsOperand, IsWide, number_in};
 ghost use Rattle.cell_nets.specs.Wires.{wires_of, always, HasBits, Gives};
 ghost use Rattle.commit_net.specs.Targets.{slots_of, ShowsWritten, ShowsTarget};

@@ -4,10 +4,10 @@ ghost use Rattle.std.specs.Prelude.{ℕ, List, ◌++◌, ◌≡◌, ◌≤◌, A
 ghost use Rattle.block_core.specs.View.{block_of};
 ghost use Rattle.xdp_maps.specs.Contents.{IsBytes};
 ghost use Rattle.cell_core.specs.Sites.{ProgramView, site_at};
-ghost use Rattle.hazard_core.specs.Held.{Held, asked, asked_key};
-ghost use Rattle.hazard_core.specs.Overlay.{value_as};
-ghost use Rattle.hazard_core.specs.Tables.{TableState, decl_of};
-ghost use Rattle.hazard_core.specs.Commits.{word_count};
+ghost use Rattle.array_net.specs.hazard_core.Held.{Held, asked, asked_key};
+ghost use Rattle.array_net.specs.hazard_core.Overlay.{value_as};
+ghost use Rattle.array_net.specs.hazard_core.Tables.{TableState, decl_of};
+ghost use Rattle.array_net.specs.hazard_core.Commits.{word_count};
 ghost use Rattle.cell_nets.specs.Operands.{IsWide};
 ghost use Rattle.cell_nets.specs.Wires.{wires_of};
 ghost use Rattle.commit_net.specs.Choosing.{all_read, changes_word, HasOperands, Commits};

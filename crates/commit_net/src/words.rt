@@ -3,10 +3,10 @@
 ghost use Rattle.std.specs.Prelude.{ℕ, List, ◌∷◌, ◌≡◌, ◌<◌, ◌≤◌, All, IfOk};
 ghost use Rattle.xdp_maps.specs.Contents.{IsBytes};
 ghost use Rattle.cell_core.specs.Sites.{ProgramView, site_at};
-ghost use Rattle.hazard_core.specs.Held.{Held, asked};
-ghost use Rattle.hazard_core.specs.Overlay.{value_as};
-ghost use Rattle.hazard_core.specs.Tables.{TableState, decl_of};
-ghost use Rattle.hazard_core.specs.Commits.{word_at, word_count};
+ghost use Rattle.array_net.specs.hazard_core.Held.{Held, asked};
+ghost use Rattle.array_net.specs.hazard_core.Overlay.{value_as};
+ghost use Rattle.array_net.specs.hazard_core.Tables.{TableState, decl_of};
+ghost use Rattle.array_net.specs.hazard_core.Commits.{word_at, word_count};
 ghost use Rattle.array_net.specs.Words.{word_width};
 ghost use Rattle.cell_nets.specs.Operands.{IsOperand, number_in};
 ghost use Rattle.cell_nets.specs.Wires.{wires_of, HasBits, Gives};

@@ -12,16 +12,16 @@ use Rattle.net_core.specs.Ports.{port_list}
 use Rattle.net_core.specs.Nets.{Tree, TConst, TRead, TUnary, TBinary, TConditional, StatementTree, SIf, SSet}
 use Rattle.net_core.specs.Value.{word}
 use Rattle.net_core.specs.Width.{Scope, width_of, test_width, op_width, conditional_width, same, statement_typed}
-use Rattle.design_rules.specs.FormedSyntax.{tree_spelled, statement_depth, elses_placed, trees_pass, statement_spelled}
-use Rattle.product_rules.specs.Products.{is_flat}
-use Rattle.product_blocks.specs.Alone.{IsFree}
+use Rattle.ring_net.specs.design_rules.FormedSyntax.{tree_spelled, statement_depth, elses_placed, trees_pass, statement_spelled}
+use Rattle.ring_net.specs.product_rules.Products.{is_flat}
+use Rattle.ring_net.specs.product_blocks.Alone.{IsFree}
 use Rattle.block_core.specs.declared.name.Name.{Name}
 use Rattle.block_core.specs.declared.name.Name.TheVariants as name
 use Rattle.block_core.specs.Blocks.{Whole, Among}
 use Rattle.block_core.specs.Parts.{Within}
 use Rattle.block_core.specs.Order.{Reads, IsBefore, InOrder}
 use Rattle.block_core.specs.Formed.{block_registers, block_wires, block_wires_typed, name_width, names_scope, IsTypedBlock, StatementReads, IsThere}
-use Rattle.block_forms.specs.WellFormed.{wire_spelled}
+use Rattle.ring_net.specs.block_forms.WellFormed.{wire_spelled}
 use Rattle.ring_net.specs.declared.shape.ControlShape.{ControlShape}
 use Rattle.ring_net.specs.declared.names.Counter.{Counter}
 use Rattle.ring_net.specs.declared.names.Counter.TheVariants.{Given, Answered, Injected, Gathered}

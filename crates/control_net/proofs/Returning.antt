@@ -8,16 +8,16 @@ use Rattle.net_core.specs.Nets.{Tree, TRead, TBinary}
 use Rattle.net_core.specs.Ports.{port_list}
 use Rattle.net_core.specs.Value.{bit, apply, Env, value}
 use Rattle.net_core.specs.Width.{Scope, width_of, op_width, same}
-use Rattle.design_rules.specs.FormedSyntax.{tree_spelled}
-use Rattle.product_rules.specs.Products.{is_flat}
-use Rattle.product_blocks.specs.Alone.{wire_flat}
+use Rattle.ring_net.specs.design_rules.FormedSyntax.{tree_spelled}
+use Rattle.ring_net.specs.product_rules.Products.{is_flat}
+use Rattle.ring_net.specs.product_blocks.Alone.{wire_flat}
 use Rattle.block_core.specs.declared.name.Name.{Name}
 use Rattle.block_core.specs.declared.name.Name.TheVariants as name
 use Rattle.block_core.specs.Blocks.{BlockTree, BlockWireTree, Whole, Among}
 use Rattle.block_core.specs.Parts.{Solve}
 use Rattle.block_core.specs.Order.{Reads, IsBefore}
 use Rattle.block_core.specs.Formed.{block_wires, name_width, names_scope}
-use Rattle.block_forms.specs.WellFormed.{wire_spelled}
+use Rattle.ring_net.specs.block_forms.WellFormed.{wire_spelled}
 use Rattle.ring_net.specs.declared.shape.ControlShape.{ControlShape}
 use Rattle.ring_net.specs.declared.names.Register.TheVariants.{Holds}
 use Rattle.ring_net.specs.Names.{register_name}

@@ -2,13 +2,13 @@
 use Rattle.std.proofs.Common.{◌≡◌, true, is_some, List, [], length, refl, arith}
 use Rattle.std.specs.List.{list_all}
 use Rattle.std.proofs.lemmas.List.Sums.{AllPass-from_list_all}
-use Rattle.unfold_core.specs.declared.edges.Point.{Point}
-use Rattle.unfold_core.specs.declared.links.Edge.{Edge}
-use Rattle.unfold_core.specs.Loops.{HasLoops}
-use Rattle.unfold_core.specs.Edges.{leaving}
-use Rattle.unfold_core.specs.Unfolding.{links}
-use Rattle.kind_core.specs.Access.{loaded, loaded_plain, loaded_signed, stored}
-use Rattle.kind_core.specs.Effects.{effect_of}
+use Rattle.node_rows.specs.unfold_core.declared.edges.Point.{Point}
+use Rattle.node_rows.specs.unfold_core.declared.links.Edge.{Edge}
+use Rattle.node_rows.specs.unfold_core.Loops.{HasLoops}
+use Rattle.node_rows.specs.unfold_core.Edges.{leaving}
+use Rattle.node_rows.specs.unfold_core.Unfolding.{links}
+use Rattle.node_rows.specs.kind_core.Access.{loaded, loaded_plain, loaded_signed, stored}
+use Rattle.node_rows.specs.kind_core.Effects.{effect_of}
 use Rattle.node_rows.specs.Rows.{insn_of, no_point}
 use Rattle.flow_demo.specs.Program.{demo_insns, demo_program}
 use Rattle.demo_graph.specs.Size.{DemoIsAccepted}

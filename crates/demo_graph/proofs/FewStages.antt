@@ -5,24 +5,24 @@ use Rattle.std.specs.List.{filter, list_any}
 use Rattle.std.proofs.lemmas.Bool.{cases_lt}
 use Rattle.std.proofs.lemmas.List.{get_or_past}
 use Rattle.std.proofs.lemmas.List.Elements.{All-cons, All-nil, All-push}
-use Rattle.bpf_isa.specs.declared.operation.Op.{Op}
-use Rattle.bpf_isa.specs.declared.operation.Op.TheVariants.{Jump}
-use Rattle.bpf_isa.specs.declared.instruction.Insn.{Insn}
-use Rattle.xdp_maps.specs.declared.decl.MapDecl.{MapDecl}
-use Rattle.xdp_machine.specs.Program.{XdpProgram}
-use Rattle.kind_core.specs.declared.kind.Kinds.{Kinds}
-use Rattle.kind_core.specs.Edges.{decided}
-use Rattle.cell_core.specs.Cells.{bit}
-use Rattle.unfold_core.specs.declared.edges.Point.{Point}
-use Rattle.unfold_core.specs.declared.links.Edge.{Edge}
-use Rattle.place_rows.specs.declared.origin.Origin.{Origin}
-use Rattle.place_rows.specs.declared.span.Span.{Span}
-use Rattle.place_rows.specs.declared.recording.Record.{Record}
-use Rattle.place_rows.specs.Spans.{one, pending, pending_place, is_in}
-use Rattle.place_rows.specs.Origins.{has_data, row_of, row_at, every_row, by_place, origin_at_start}
-use Rattle.place_rows.specs.Reading.{right_of, reads_as, is_heavy}
-use Rattle.place_rows.specs.Writing.{writes_as, record_as}
-use Rattle.place_rows.proofs.PlaceLaws.{place_at, count_places, every_low, row_low, span_low, spans_low}
+use Rattle.node_rows.specs.bpf_isa.declared.operation.Op.{Op}
+use Rattle.node_rows.specs.bpf_isa.declared.operation.Op.TheVariants.{Jump}
+use Rattle.node_rows.specs.bpf_isa.declared.instruction.Insn.{Insn}
+use Rattle.node_rows.specs.xdp_maps.declared.decl.MapDecl.{MapDecl}
+use Rattle.node_rows.specs.xdp_machine.Program.{XdpProgram}
+use Rattle.node_rows.specs.kind_core.declared.kind.Kinds.{Kinds}
+use Rattle.node_rows.specs.kind_core.Edges.{decided}
+use Rattle.node_rows.specs.cell_core.Cells.{bit}
+use Rattle.node_rows.specs.unfold_core.declared.edges.Point.{Point}
+use Rattle.node_rows.specs.unfold_core.declared.links.Edge.{Edge}
+use Rattle.node_rows.specs.place_rows.declared.origin.Origin.{Origin}
+use Rattle.node_rows.specs.place_rows.declared.span.Span.{Span}
+use Rattle.node_rows.specs.place_rows.declared.recording.Record.{Record}
+use Rattle.node_rows.specs.place_rows.Spans.{one, pending, pending_place, is_in}
+use Rattle.node_rows.specs.place_rows.Origins.{has_data, row_of, row_at, every_row, by_place, origin_at_start}
+use Rattle.node_rows.specs.place_rows.Reading.{right_of, reads_as, is_heavy}
+use Rattle.node_rows.specs.place_rows.Writing.{writes_as, record_as}
+use Rattle.node_rows.proofs.place_rows.PlaceLaws.{place_at, count_places, every_low, row_low, span_low, spans_low}
 use Rattle.node_rows.specs.declared.joining.Arrival.{Arrival}
 use Rattle.node_rows.specs.declared.node.Behind.{Behind}
 use Rattle.node_rows.specs.declared.stages.Stages.{Stages}

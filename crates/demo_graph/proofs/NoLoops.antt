@@ -3,13 +3,13 @@ use Rattle.std.proofs.Common.{◌≡◌, ℕ, zero, suc, ◌+◌, ◌-◌, ◌�
 use Rattle.std.specs.Prelude.{nat_lt, if◌then◌else◌}
 use Rattle.std.proofs.lemmas.Bool.{and_parts, ltb-true, ltb-false}
 use Rattle.std.proofs.lemmas.List.Elements.{All-nil}
-use Rattle.bpf_isa.specs.declared.instruction.Insn.{Insn}
-use Rattle.bpf_isa.specs.Spelling.{units_of}
-use Rattle.bpf_isa.specs.Text.{insn_at, unit_count}
-use Rattle.kind_core.specs.declared.why.Refusal.{Refusal}
-use Rattle.unfold_core.specs.declared.nesting.Loop.{Loop}
-use Rattle.unfold_core.specs.Jumps.{target_of}
-use Rattle.unfold_core.specs.Loops.{IsLoop, RefusesPlace, HasLoops}
+use Rattle.node_rows.specs.bpf_isa.declared.instruction.Insn.{Insn}
+use Rattle.node_rows.specs.bpf_isa.Spelling.{units_of}
+use Rattle.node_rows.specs.bpf_isa.Text.{insn_at, unit_count}
+use Rattle.node_rows.specs.kind_core.declared.why.Refusal.{Refusal}
+use Rattle.node_rows.specs.unfold_core.declared.nesting.Loop.{Loop}
+use Rattle.node_rows.specs.unfold_core.Jumps.{target_of}
+use Rattle.node_rows.specs.unfold_core.Loops.{IsLoop, RefusesPlace, HasLoops}
 
 -- a jump from this place, if it is one, leads to a later one
 abbrev leads_on : ℕ → Option ℕ → Bool

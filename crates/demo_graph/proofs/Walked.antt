@@ -1,14 +1,14 @@
 -- The graph of a program, walked node by node.
 use Rattle.std.proofs.Common.{◌≡◌, ℕ, zero, suc, ◌≤◌, true, is_some, List, [], ◌∷◌, ◌++◌, length, Option, Some, None, Result, Ok, Err, refl, subst}
-use Rattle.xdp_machine.specs.Program.{XdpProgram}
-use Rattle.kind_core.specs.declared.why.Why.{Why}
-use Rattle.unfold_core.specs.declared.nesting.Loop.{Loop}
-use Rattle.unfold_core.specs.declared.edges.Point.{Point}
-use Rattle.unfold_core.specs.Loops.{AreLoops}
-use Rattle.unfold_core.specs.Edges.{leaving}
-use Rattle.unfold_core.specs.Graphs.{first_point, IsGraph}
-use Rattle.unfold_core.specs.Pending.{with_ends}
-use Rattle.unfold_core.proofs.Walking.{IsWalk, walk_begins, walk_more, walk_ended}
+use Rattle.node_rows.specs.xdp_machine.Program.{XdpProgram}
+use Rattle.node_rows.specs.kind_core.declared.why.Why.{Why}
+use Rattle.node_rows.specs.unfold_core.declared.nesting.Loop.{Loop}
+use Rattle.node_rows.specs.unfold_core.declared.edges.Point.{Point}
+use Rattle.node_rows.specs.unfold_core.Loops.{AreLoops}
+use Rattle.node_rows.specs.unfold_core.Edges.{leaving}
+use Rattle.node_rows.specs.unfold_core.Graphs.{first_point, IsGraph}
+use Rattle.node_rows.specs.unfold_core.Pending.{with_ends}
+use Rattle.node_rows.proofs.unfold_core.Walking.{IsWalk, walk_begins, walk_more, walk_ended}
 
 -- at most so many nodes more, behind those that are done; others are pending
 abbrev pub walked : XdpProgram → List Loop → ℕ → List Point → List Point → Option (List Point)

@@ -4,7 +4,7 @@ use Rattle.std.specs.Prelude.{All, Contains}
 use Rattle.std.specs.List.{list_any}
 use Rattle.std.proofs.lemmas.Bool.Decides.{nat_tests}
 use Rattle.std.proofs.lemmas.List.Elements.{All-contains, Contains-get_or}
-use Rattle.xdp_machine.specs.State.{PacketIn, Machine}
+use Rattle.cell_core.specs.xdp_machine.State.{PacketIn, Machine}
 use Rattle.cell_core.specs.Cells.{CellView, on, bit}
 use Rattle.operator_cells.specs.Making.{Makes}
 use Rattle.held_cells.specs.declared.way.Way.{Way}

@@ -3,10 +3,10 @@ use Rattle.std.proofs.Common.{◌≡◌, ℕ, ◌<◌, ◌≤◌, List, length, 
 use Rattle.std.specs.Prelude.{All, slice_index}
 use Rattle.xdp_maps.specs.declared.decl.MapDecl.{MapDecl}
 use Rattle.xdp_maps.specs.State.{MapState}
-use Rattle.xdp_machine.specs.Values.{Value}
-use Rattle.xdp_machine.specs.Values as is
-use Rattle.xdp_machine.specs.State.{PacketIn, Machine}
-use Rattle.xdp_machine.specs.State as machine
+use Rattle.cell_core.specs.xdp_machine.Values.{Value}
+use Rattle.cell_core.specs.xdp_machine.Values as is
+use Rattle.cell_core.specs.xdp_machine.State.{PacketIn, Machine}
+use Rattle.cell_core.specs.xdp_machine.State as machine
 use Rattle.kind_core.specs.declared.number.Number.{Number}
 use Rattle.kind_core.specs.declared.number.Number.TheVariants.{Known, Unknown}
 use Rattle.kind_core.specs.declared.kind.Kind.{Kind}

@@ -4,7 +4,7 @@ use Rattle.std.proofs.Math.ListN.{get_or-append}
 use Rattle.std.proofs.Math.Seq.{get_or-append_seam}
 use Rattle.std.proofs.lemmas.Bool.{cases_lt}
 use Rattle.std.proofs.lemmas.List.{get_or_default}
-use Rattle.xdp_machine.specs.State.{PacketIn}
+use Rattle.cell_core.specs.xdp_machine.State.{PacketIn}
 use Rattle.cell_core.specs.Cells.{CellView, IsRun, on}
 use Rattle.operator_cells.specs.declared.joining.Arm.{Arm}
 use Rattle.operator_cells.specs.Making.{Grows, Makes}

@@ -8,13 +8,13 @@ use Rattle.bpf_isa.specs.declared.operation.Op.TheVariants.{Jump}
 use Rattle.bpf_isa.specs.declared.instruction.Insn.{Insn}
 use Rattle.xdp_maps.specs.declared.decl.MapDecl.{MapDecl}
 use Rattle.xdp_maps.specs.State.{MapState}
-use Rattle.xdp_machine.specs.Values.{Value}
-use Rattle.xdp_machine.specs.Values as is
-use Rattle.xdp_machine.specs.State.{Machine, PacketIn}
-use Rattle.xdp_machine.specs.State as machine
-use Rattle.xdp_machine.specs.Ranges.{IsInRange}
-use Rattle.xdp_machine.specs.Step as step
-use Rattle.xdp_machine.specs.Pointers.{compared}
+use Rattle.cell_core.specs.xdp_machine.Values.{Value}
+use Rattle.cell_core.specs.xdp_machine.Values as is
+use Rattle.cell_core.specs.xdp_machine.State.{Machine, PacketIn}
+use Rattle.cell_core.specs.xdp_machine.State as machine
+use Rattle.cell_core.specs.xdp_machine.Ranges.{IsInRange}
+use Rattle.cell_core.specs.xdp_machine.Step as step
+use Rattle.cell_core.specs.xdp_machine.Pointers.{compared}
 use Rattle.kind_core.specs.declared.kind.Kind.{Kind}
 use Rattle.kind_core.specs.declared.kind.Kind.TheVariants.{Unset}
 use Rattle.kind_core.specs.declared.kind.Kinds.{Kinds}

@@ -1,6 +1,6 @@
 -- More cells.
 use Rattle.std.proofs.Common.{ℕ, List, subst, ap, ◌∙◌, arith}
-use Rattle.xdp_machine.specs.State.{PacketIn}
+use Rattle.cell_core.specs.xdp_machine.State.{PacketIn}
 use Rattle.cell_core.specs.Cells.{CellView}
 use Rattle.operator_cells.specs.Making.{GrowsWith, Grows, Makes}
 use Rattle.operator_cells.specs.Following.{Goes, IsFollowed}

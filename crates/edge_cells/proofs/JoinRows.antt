@@ -12,8 +12,8 @@ use Rattle.cell_core.specs.Cells.{CellView}
 use Rattle.cell_core.specs.Rows.{AreRows, greatest}
 use Rattle.operator_cells.specs.Rising.{GrowsTo, Rises}
 use Rattle.operator_cells.proofs.RisingLaws.{stand_none, stand_more}
-use Rattle.place_rows.specs.Origins.{is_open}
-use Rattle.place_rows.proofs.PlaceLaws.{greatest_above, greatest_within}
+use Rattle.held_cells.specs.place_rows.Origins.{is_open}
+use Rattle.held_cells.proofs.place_rows.PlaceLaws.{greatest_above, greatest_within}
 use Rattle.held_cells.specs.declared.held.Held.{Held}
 use Rattle.held_cells.specs.declared.way.Way.{Way}
 use Rattle.held_cells.specs.Held.{PointerView, Counts}

@@ -13,8 +13,8 @@ use Rattle.cell_core.specs.Cells.{CellView}
 use Rattle.cell_core.specs.Rows.{greatest}
 use Rattle.operator_cells.specs.Rising.{Rises, RiseAll}
 use Rattle.operator_cells.proofs.RisingLaws.{stand_none}
-use Rattle.place_rows.specs.Origins.{is_open}
-use Rattle.place_rows.specs.Reading as reading
+use Rattle.held_cells.specs.place_rows.Origins.{is_open}
+use Rattle.held_cells.specs.place_rows.Reading as reading
 use Rattle.held_cells.specs.declared.held.Held.{Held}
 use Rattle.held_cells.specs.declared.way.Way.{Way}
 use Rattle.held_cells.specs.Held.{PointerView, pointer_at}

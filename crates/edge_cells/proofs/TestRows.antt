@@ -9,9 +9,9 @@ use Rattle.kind_core.specs.declared.kind.Kind.TheVariants.{Num, Maybe}
 use Rattle.kind_core.specs.declared.kind.Kinds.{Kinds}
 use Rattle.kind_core.specs.Kinds.{register}
 use Rattle.kind_core.specs.Effects.{operand}
-use Rattle.place_rows.specs.Spans.{one, span_row}
-use Rattle.place_rows.specs.Reading.{right_of}
-use Rattle.place_rows.proofs.SpanLaws.{one_row}
+use Rattle.held_cells.specs.place_rows.Spans.{one, span_row}
+use Rattle.held_cells.specs.place_rows.Reading.{right_of}
+use Rattle.held_cells.proofs.place_rows.SpanLaws.{one_row}
 use Rattle.held_cells.specs.declared.held.Held.{Held}
 use Rattle.held_cells.specs.Held.{PointerView, pointer_at}
 use Rattle.held_cells.specs.Rows.{number_row, value_row, held_row}

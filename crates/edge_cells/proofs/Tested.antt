@@ -6,11 +6,11 @@ use Rattle.bpf_isa.specs.declared.operation.Width.{Width}
 use Rattle.bpf_isa.specs.declared.operation.Width.TheVariants.{Bits32, Bits64}
 use Rattle.bpf_isa.specs.declared.operation.JumpCode.{JumpCode}
 use Rattle.bpf_isa.specs.declared.operation.JumpCode.TheVariants.{Jeq, Jne, Jgt, Jge, Jlt, Jle}
-use Rattle.xdp_machine.specs.Arithmetic.{low, bits_in, holds}
-use Rattle.xdp_machine.specs.Values.{Value}
-use Rattle.xdp_machine.specs.Values as is
-use Rattle.xdp_machine.specs.State.{PacketIn}
-use Rattle.xdp_machine.specs.Pointers.{compared, in_order}
+use Rattle.cell_core.specs.xdp_machine.Arithmetic.{low, bits_in, holds}
+use Rattle.cell_core.specs.xdp_machine.Values.{Value}
+use Rattle.cell_core.specs.xdp_machine.Values as is
+use Rattle.cell_core.specs.xdp_machine.State.{PacketIn}
+use Rattle.cell_core.specs.xdp_machine.Pointers.{compared, in_order}
 use Rattle.kind_core.specs.declared.number.Number.{Number}
 use Rattle.kind_core.specs.declared.number.Number.TheVariants.{Known, Unknown}
 use Rattle.kind_core.specs.declared.kind.Kind.{Kind}

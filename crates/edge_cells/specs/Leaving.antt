@@ -7,14 +7,14 @@ use Rattle.bpf_isa.specs.declared.operation.Src.TheVariants.{K, X}
 use Rattle.bpf_isa.specs.declared.operation.Op.TheVariants.{Ja, Jump}
 use Rattle.bpf_isa.specs.declared.instruction.Insn.{Insn}
 use Rattle.xdp_maps.specs.declared.decl.MapDecl.{MapDecl}
-use Rattle.xdp_machine.specs.State.{Machine, PacketIn}
-use Rattle.xdp_machine.specs.State as machine
-use Rattle.xdp_machine.specs.Step as step
-use Rattle.xdp_machine.specs.Step.{exits}
-use Rattle.xdp_machine.specs.Step.{Ends}
-use Rattle.xdp_machine.specs.Values as values
-use Rattle.xdp_machine.specs.Pointers.{compared}
-use Rattle.xdp_machine.specs.Runs.{leaves}
+use Rattle.cell_core.specs.xdp_machine.State.{Machine, PacketIn}
+use Rattle.cell_core.specs.xdp_machine.State as machine
+use Rattle.cell_core.specs.xdp_machine.Step as step
+use Rattle.cell_core.specs.xdp_machine.Step.{exits}
+use Rattle.cell_core.specs.xdp_machine.Step.{Ends}
+use Rattle.cell_core.specs.xdp_machine.Values as values
+use Rattle.cell_core.specs.xdp_machine.Pointers.{compared}
+use Rattle.cell_core.specs.xdp_machine.Runs.{leaves}
 use Rattle.kind_core.specs.declared.kind.Kind.TheVariants.{Num}
 use Rattle.kind_core.specs.declared.kind.Kinds.{Kinds}
 use Rattle.kind_core.specs.Kinds.{register}

@@ -1,3 +1,4 @@
+pub use Rattle.held_cells.specs as held_cells
 pub mod Widening
 pub mod Meeting
 pub mod Joining

@@ -2,9 +2,9 @@
 use Rattle.std.specs.Prelude.{ℕ, Bool, true, false, zero, suc, ◌≡◌, ◌<◌, ◌≤◌, ◌++◌, if◌then◌else◌, Option, Some, None, List, [], ◌∷◌, length, slice_index, get_or, All}
 use Rattle.std.specs.Int.{div_ceil}
 use Rattle.xdp_maps.specs.declared.decl.MapDecl.{MapDecl}
-use Rattle.xdp_machine.specs.State.{PacketIn}
-use Rattle.xdp_machine.specs.Values.{Value}
-use Rattle.xdp_machine.specs.Values as is
+use Rattle.cell_core.specs.xdp_machine.State.{PacketIn}
+use Rattle.cell_core.specs.xdp_machine.Values.{Value}
+use Rattle.cell_core.specs.xdp_machine.Values as is
 use Rattle.kind_core.specs.declared.number.Number.{Number}
 use Rattle.kind_core.specs.declared.number.Number.TheVariants.{Known, Unknown}
 use Rattle.kind_core.specs.declared.kind.Kind.{Kind}

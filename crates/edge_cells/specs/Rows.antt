@@ -4,7 +4,7 @@ use Rattle.kind_core.specs.declared.kind.Kinds.{Kinds}
 use Rattle.cell_core.specs.Cells.{CellView}
 use Rattle.cell_core.specs.Rows.{AreRows, greatest, numbers}
 use Rattle.operator_cells.specs.Rising.{GrowsTo}
-use Rattle.place_rows.specs.Spans.{slot, byte}
+use Rattle.held_cells.specs.place_rows.Spans.{slot, byte}
 use Rattle.held_cells.specs.declared.way.Way.{Way}
 use Rattle.held_cells.specs.Held.{PointerView, pointer_at}
 use Rattle.held_cells.specs.Rows.{cells_of_pointer, number_row, value_row, number_at, hold_one, met_row, choosing_row}

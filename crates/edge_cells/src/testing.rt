@@ -1,7 +1,7 @@
 //! The conditions of jumps.
 
 ghost use Rattle.std.specs.Prelude.{◌≡◌, ◌<◌, ◌+◌, max, true, length, IfOk};
-ghost use Rattle.xdp_machine.specs.Arithmetic.{low, bits_in, holds};
+ghost use Rattle.cell_core.specs.xdp_machine.Arithmetic.{low, bits_in, holds};
 ghost use Rattle.cell_core.specs.Cells.{bit, on};
 ghost use Rattle.cell_core.specs.Formed.{AreFormed};
 ghost use Rattle.operator_cells.specs.Making.{seen, Makes};

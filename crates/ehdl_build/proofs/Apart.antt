@@ -2,22 +2,22 @@
 use Rattle.std.specs.Prelude.{◌≡◌, ℕ, zero, suc, ◌+◌, ◌≤◌, List, [], ◌∷◌}
 use Rattle.std.specs.List.{AllByRecursion}
 use Rattle.std.proofs.Common.{refl, sym, ap₂, subst, ◌∙◌, arith}
-use Rattle.beat_core.specs.Ports.{Arrival}
+use Rattle.net_core.specs.beat_core.Ports.{Arrival}
 use Rattle.xdp_maps.specs.State.{MapState, IsSound}
 use Rattle.xdp_maps.specs.Touched.{Resource}
-use Rattle.xdp_machine.specs.Program.{XdpProgram, IsProgram}
-use Rattle.xdp_machine.specs.Runs.{Leaves}
-use Rattle.xdp_machine.specs.Touched.{Touched, AllTouch}
-use Rattle.xdp_machine.proofs.RunLaws.{has_one_answer}
-use Rattle.xdp_machine.proofs.TouchLaws.{touches_one}
+use Rattle.xdp_object.specs.xdp_machine.Program.{XdpProgram, IsProgram}
+use Rattle.xdp_object.specs.xdp_machine.Runs.{Leaves}
+use Rattle.xdp_object.specs.xdp_machine.Touched.{Touched, AllTouch}
+use Rattle.xdp_object.proofs.xdp_machine.RunLaws.{has_one_answer}
+use Rattle.xdp_object.proofs.xdp_machine.TouchLaws.{touches_one}
 use Rattle.unfold_core.specs.declared.unfolding.Unfolded.{Unfolded}
-use Rattle.program_graph.specs.Graphs.{graph_of}
+use Rattle.predicate_core.specs.program_graph.Graphs.{graph_of}
 use Rattle.cell_core.specs.Sites.{ProgramView, leaves, touched}
-use Rattle.held_cells.specs.Law.{IsLaw}
-use Rattle.pipe_core.specs.Machine.{packet_of}
-use Rattle.pipe_core.specs.Apart.{AllRun}
-use Rattle.realization.specs.Bounds.{ReadOthers, AreApart}
-use Rattle.realization.specs.Realizes.{IsPacket}
+use Rattle.program_plan.specs.held_cells.Law.{IsLaw}
+use Rattle.program_plan.specs.pipe_core.Machine.{packet_of}
+use Rattle.program_plan.specs.pipe_core.Apart.{AllRun}
+use Rattle.pipe_runs.specs.realization.Bounds.{ReadOthers, AreApart}
+use Rattle.pipe_runs.specs.realization.Realizes.{IsPacket}
 use Rattle.ehdl_build.specs.Compiled.{code_of, packets_in}
 use Rattle.ehdl_build.proofs.Sequential.{OneRun, is_packet, run_leaves}
 

@@ -1,7 +1,7 @@
 -- What holds of the bytes that an error is answered for, and that no other error was to come.
 use Rattle.std.specs.Prelude.{◌≡◌, ◌≢◌, ◌⊎◌, Result, Ok, Err, IfOk, IfErr, IsErrAnd, IsErrOf, ℕ, List}
 use Rattle.std.proofs.Common.{sym, ap, subst, inl, inr, ◌∙◌}
-use Rattle.xdp_machine.specs.Program.{XdpProgram}
+use Rattle.xdp_object.specs.xdp_machine.Program.{XdpProgram}
 use Rattle.xdp_object.specs.declared.error.ObjectError.{ObjectError}
 use Rattle.xdp_object.specs.declared.error.ObjectError.TheVariants.{NoMemory as ObjectMemory}
 use Rattle.xdp_object.specs.Choice.{Chosen}

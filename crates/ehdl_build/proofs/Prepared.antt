@@ -4,10 +4,10 @@ use Rattle.std.proofs.Common.{arith}
 use Rattle.std.proofs.lemmas.List.{length-map}
 use Rattle.std.proofs.lemmas.List.Elements.{All-weaker}
 use Rattle.xdp_maps.specs.Contents.{IsWithinLimits}
-use Rattle.xdp_machine.specs.Program.{XdpProgram, IsProgram, IsDeclaration}
-use Rattle.program_graph.specs.Graphs.{node_view, graph_of}
+use Rattle.xdp_object.specs.xdp_machine.Program.{XdpProgram, IsProgram, IsDeclaration}
+use Rattle.predicate_core.specs.program_graph.Graphs.{node_view, graph_of}
 use Rattle.cell_core.specs.Sites.{ProgramView}
-use Rattle.held_cells.specs.Law.{IsLaw}
+use Rattle.program_plan.specs.held_cells.Law.{IsLaw}
 use Rattle.predicate_core.specs.Buildable.{IsBuildable}
 use Rattle.row_plan.specs.Plan.{Plan, IsPlan}
 use Rattle.pipe_programs.specs.Prepared.{ArePrepared, ProgramsArePrepared}

@@ -1,34 +1,38 @@
 -- What a pipeline of a program realizes.
-use Rattle.std.specs.Prelude.{◌≡◌, ℕ, ◌+◌, ◌≤◌, List, length}
+use Rattle.std.specs.Prelude.{◌≡◌, ℕ, ◌+◌, ◌≤◌, IsTrue, List, length}
 use Rattle.std.specs.List.{AllByRecursion}
 use Rattle.std.proofs.Common.{refl, sym, ap, subst, ◌∙◌, arith}
-use Rattle.beat_core.specs.declared.answer.Answer.{Answer}
-use Rattle.beat_core.specs.Ports.{Arrival}
+use Rattle.net_core.specs.beat_core.declared.answer.Answer.{Answer}
+use Rattle.net_core.specs.beat_core.Ports.{Arrival}
 use Rattle.xdp_maps.specs.declared.decl.MapDecl.{MapDecl}
 use Rattle.xdp_maps.specs.State.{MapState}
-use Rattle.xdp_machine.specs.Program.{XdpProgram, IsProgram}
-use Rattle.xdp_machine.specs.Touched.{Touched}
+use Rattle.xdp_object.specs.xdp_machine.Program.{XdpProgram, IsProgram}
+use Rattle.xdp_object.specs.xdp_machine.Touched.{Touched}
 use Rattle.net_core.specs.Nets.{Netlist}
 use Rattle.net_core.specs.Clock.{first_stored}
 use Rattle.net_core.specs.History.{NeverStops, stored_after}
-use Rattle.host_history.specs.Host.{load}
-use Rattle.verilog_grammar.specs.Spelling.{Spells}
+use Rattle.pipe_runs.specs.host_history.Host.{load}
+use Rattle.verilog_write.specs.verilog_grammar.Spelling.{Spells}
 use Rattle.cell_core.specs.Rows.{record_count}
 use Rattle.cell_core.specs.Sites.{ProgramView}
-use Rattle.program_graph.specs.Graphs.{graph_of}
-use Rattle.pipe_core.specs.Machine.{Build}
-use Rattle.pipe_core.specs.Pipeable.{IsSuited}
+use Rattle.predicate_core.specs.program_graph.Graphs.{graph_of}
+use Rattle.program_plan.specs.pipe_core.Machine.{Build}
+use Rattle.program_plan.specs.pipe_core.Pipeable.{IsSuited}
 use Rattle.program_plan.specs.Suited.{ProgramsAreSuited}
-use Rattle.pipe_draft.specs.Program.{build_of}
-use Rattle.pipe_places.specs.Entries.{AccessesLead}
-use Rattle.pipe_net.specs.Layout.{last_of}
-use Rattle.pipe_forms.specs.Parts.{design, names_of}
+use Rattle.pipe_programs.specs.pipe_draft.Program.{build_of}
+use Rattle.pipe_programs.specs.pipe_places.Entries.{AccessesLead}
+use Rattle.pipe_design.specs.pipe_net.Layout.{last_of}
+use Rattle.pipe_design.specs.pipe_forms.Parts.{design, names_of}
+use Rattle.pipe_design.specs.product_rules.Products.{products_apart}
+use Rattle.net_optimize.specs.Same.{DoTheSame}
+use Rattle.same_designs.proofs.HistoryLaws.{same_designs_begin, same_designs_store, same_designs_never_stop}
+use Rattle.same_designs.proofs.MeetLaws.{same_designs_meet}
 use Rattle.pipe_design.specs.Pipeline.{IsPipelineOf as IsDesignOf}
-use Rattle.pipe_ports.specs.Answered.{AreAnswered}
+use Rattle.pipe_runs.specs.pipe_ports.Answered.{AreAnswered}
 use Rattle.pipe_runs.specs.Apart as cells
 use Rattle.pipe_runs.specs.Meeting.{MeetsLoaded, PipelinesMeet}
-use Rattle.realization.specs.Realizes.{IsPacket, Meets}
-use Rattle.realization.proofs.MeetsLaws.{meets_more}
+use Rattle.pipe_runs.specs.realization.Realizes.{IsPacket, Meets}
+use Rattle.pipe_runs.proofs.realization.MeetsLaws.{meets_more}
 use Rattle.ehdl_build.specs.Compiled.{PipelineSize, IsSequential, DoNotConflict, AreMapsOf, Realizes}
 use Rattle.ehdl_build.specs.Steps.{IsPipelineOf}
 use Rattle.ehdl_build.proofs.Sequential.{in_sequence}
@@ -76,11 +80,13 @@ module _ (meet : PipelinesMeet) (suits : ProgramsAreSuited) (p : XdpProgram) (z 
       (last_of made.layout) z.stages (record_count made.layout.build.program.sites) z.records
       (wanted maps are) (apart maps are) (omega (arith, last, is.planned.within)) (omega (arith, records, is.records)) (loaded maps are).meets
 
-  pub realizes : (text : List ℕ) → Spells text n → Realizes text p z
-  realizes text spells = record {
-    design = n;
+  -- a design that does the same realizes the program, too
+  pub realizes : (m : Netlist) → DoTheSame n m → IsTrue (products_apart m) → (text : List ℕ) → Spells text m → Realizes text p z
+  realizes m same products text spells = record {
+    design = m;
     spells = spells;
-    products = is.pipeline.apart;
-    loads = λ maps are. (loaded maps are).loads;
-    meets = meets;
+    products = products;
+    loads = λ maps are. rw (same_designs_begin n m same) (same_designs_never_stop n m same (first_stored n) (load maps) (loaded maps are).loads);
+    meets = λ maps are. rw (same_designs_begin n m same, same_designs_store n m same (first_stored n) (load maps))
+        (same_designs_meet n m same (stored_after n (first_stored n) (load maps)) (IsSequential p maps) (DoNotConflict p maps z.stages) z.stages z.records (meets maps are));
   }

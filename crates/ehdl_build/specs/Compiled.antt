@@ -2,17 +2,17 @@
 use Rattle.std.specs.Prelude.{◌≡◌, ℕ, ◌+◌, IsTrue, List, [], ◌∷◌, length, map as map_list}
 use Rattle.xdp_object.specs.Choice.{Chosen}
 use Rattle.xdp_object.specs.Object.{FirstFault, IsObject}
-use Rattle.xdp_machine.specs.Program.{XdpProgram, IsProgram}
+use Rattle.xdp_object.specs.xdp_machine.Program.{XdpProgram, IsProgram}
 use Rattle.xdp_maps.specs.State.{MapState, IsSound}
-use Rattle.xdp_machine.specs.State.{Code, PacketIn}
-use Rattle.xdp_machine.specs.Runs.{Leaves, AreRuns}
-use Rattle.xdp_machine.specs.Touched.{Touched, AllTouch}
+use Rattle.xdp_object.specs.xdp_machine.State.{Code, PacketIn}
+use Rattle.xdp_object.specs.xdp_machine.Runs.{Leaves, AreRuns}
+use Rattle.xdp_object.specs.xdp_machine.Touched.{Touched, AllTouch}
 use Rattle.net_core.specs.Nets.{Netlist}
 use Rattle.net_core.specs.Clock.{first_stored}
 use Rattle.net_core.specs.History.{Arrival, NeverStops, stored_after}
-use Rattle.beat_core.specs.declared.answer.Answer.{Answer}
-use Rattle.host_history.specs.Host.{load}
-use Rattle.verilog_grammar.specs.Spelling.{Spells}
+use Rattle.net_core.specs.beat_core.declared.answer.Answer.{Answer}
+use Rattle.pipe_runs.specs.host_history.Host.{load}
+use Rattle.verilog_write.specs.verilog_grammar.Spelling.{Spells}
 use Rattle.ehdl_build.specs.declared.built.Built.{Built}
 use Rattle.ehdl_build.specs.declared.built.CompileError.{CompileError}
 use Rattle.ehdl_build.specs.declared.built.CompileError.TheVariants.{Object, Refused, NoMemory}
@@ -20,9 +20,9 @@ use Rattle.kind_core.specs.declared.why.Refusal.{Refusal}
 use Rattle.kind_core.specs.declared.why.BuildError.{BuildError}
 use Rattle.kind_core.specs.declared.why.BuildError.TheVariants as build
 use Rattle.node_rows.specs.Acceptance.{IsAccepted, IsFirstRefusal}
-use Rattle.realization.specs.Bounds.{AreApart}
-use Rattle.product_rules.specs.Products.{products_apart}
-use Rattle.realization.specs.Realizes.{Meets}
+use Rattle.pipe_runs.specs.realization.Bounds.{AreApart}
+use Rattle.pipe_design.specs.product_rules.Products.{products_apart}
+use Rattle.pipe_runs.specs.realization.Realizes.{Meets}
 
 -- what is run of a program
 abbrev pub code_of : XdpProgram → Code

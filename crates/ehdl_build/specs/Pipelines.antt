@@ -1,12 +1,12 @@
 -- The cells of an accepted program.
 use Rattle.std.specs.Prelude.{ℕ, ◌≤◌}
-use Rattle.xdp_machine.specs.Program.{XdpProgram}
+use Rattle.xdp_object.specs.xdp_machine.Program.{XdpProgram}
 use Rattle.unfold_core.specs.declared.unfolding.Unfolded.{Unfolded}
 use Rattle.unfold_core.specs.Unfolding.{IsUnfolded}
 use Rattle.cell_core.specs.Sites.{ProgramView}
 use Rattle.cell_core.specs.Rows.{AreRows, last_row}
-use Rattle.held_cells.specs.Law.{IsLaw}
-use Rattle.program_graph.specs.Graphs.{graph_of}
+use Rattle.program_plan.specs.held_cells.Law.{IsLaw}
+use Rattle.predicate_core.specs.program_graph.Graphs.{graph_of}
 use Rattle.predicate_core.specs.Buildable.{IsBuildable}
 
 -- cells that compute the runs of a program, and can be built

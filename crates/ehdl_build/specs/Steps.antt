@@ -1,9 +1,9 @@
 -- What the steps of compiling give each other.
 use Rattle.std.specs.Prelude.{◌≡◌, ◌≤◌, ℕ, IsTrue, List, length}
 use Rattle.xdp_maps.specs.declared.decl.MapDecl.{MapDecl}
-use Rattle.xdp_machine.specs.Program.{XdpProgram}
+use Rattle.xdp_object.specs.xdp_machine.Program.{XdpProgram}
 use Rattle.net_core.specs.Nets.{Netlist}
-use Rattle.product_rules.specs.Products.{products_apart}
+use Rattle.pipe_design.specs.product_rules.Products.{products_apart}
 use Rattle.kind_core.specs.declared.why.BuildError.{BuildError}
 use Rattle.kind_core.specs.declared.why.BuildError.TheVariants as build
 use Rattle.unfold_core.specs.Unfolding.{IsUnfolded}

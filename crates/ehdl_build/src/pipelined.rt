@@ -1,9 +1,9 @@
 // The pipeline of a program.
 
 ghost use Rattle.std.specs.Prelude.{◌≡◌, ◌<◌, ◌≤◌, ◌^◌, length, IfOk};
-ghost use Rattle.xdp_machine.specs.Program.{IsProgram};
+ghost use Rattle.xdp_object.specs.xdp_machine.Program.{IsProgram};
 ghost use Rattle.net_core.specs.View.{netlist_of};
-ghost use Rattle.design_rules.specs.Formed.{IsWellFormed};
+ghost use Rattle.verilog_write.specs.design_rules.Formed.{IsWellFormed};
 ghost use Rattle.cell_core.specs.View.{program_of};
 ghost use Rattle.cell_core.specs.Formed.{AreFormed};
 ghost use Rattle.row_plan.specs.Plan.{IsPlan};
@@ -16,6 +16,7 @@ use crate::counted::Counted;
 use cell_core::program::CellProgram;
 use kind_core::BuildError;
 use net_core::design::Design;
+use net_optimize::optimized;
 use pipe_design::{PipelineError, pipeline};
 use pipe_programs::laws::programs_are_prepared;
 use pipe_runs::laws::pipelines_meet;
@@ -81,7 +82,7 @@ fn pipeline_of(alloc: Global, program: &Program, counted: &Counted) -> Result<De
     linked(alloc, &cells, &plan, program.decls())
 }
 
-/// The text of a pipeline of an accepted program.
+/// The text of a pipeline of an accepted program, made shorter.
 pub(crate) fn realize(
     alloc: Global,
     program: &Program,
@@ -94,6 +95,7 @@ pub(crate) fn realize(
     suited();
     pipelines_meet();
     let design = pipeline_of(alloc, program, counted)?;
-    let text = write_text(alloc, &design)?;
+    let shorter = optimized(alloc, design)?;
+    let text = write_text(alloc, &shorter)?;
     Ok(text)
 }

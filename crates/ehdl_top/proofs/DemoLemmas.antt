@@ -21,14 +21,14 @@ use Rattle.xdp_object.specs.Program.{XdpProgram}
 use Rattle.xdp_object.specs.Choice.{chosen}
 use Rattle.xdp_object.specs.Object.{IsObject}
 use Rattle.xdp_object.proofs.OutcomeLaws.{one_outcome}
-use Rattle.xdp_machine.specs.State.{Code, PacketIn, start}
-use Rattle.xdp_machine.specs.Runs.{Leaves, Progress, IsRun, AreRuns}
-use Rattle.xdp_machine.specs.MachineLaws.{KeepsSizes}
-use Rattle.xdp_machine.proofs.RunLaws.{runs_keep_sizes}
+use Rattle.xdp_object.specs.xdp_machine.State.{Code, PacketIn, start}
+use Rattle.xdp_object.specs.xdp_machine.Runs.{Leaves, Progress, IsRun, AreRuns}
+use Rattle.xdp_object.specs.xdp_machine.MachineLaws.{KeepsSizes}
+use Rattle.xdp_object.proofs.xdp_machine.RunLaws.{runs_keep_sizes}
 use Rattle.kind_core.specs.declared.why.Refusal.{Refusal}
 use Rattle.node_rows.specs.Acceptance.{IsFirstRefusal}
 use Rattle.node_rows.proofs.OneOutcomeLaws.{has_one_outcome}
-use Rattle.realization.specs.Bounds.{clock_bound, most_beats}
+use Rattle.ehdl_build.specs.realization.Bounds.{clock_bound, most_beats}
 use Rattle.ehdl_build.specs.declared.built.Built.{Built}
 use Rattle.ehdl_build.specs.Compiled.{HasSize, IsSequential, answer_of, code_of, packets_in, size_of}
 use Rattle.flow_demo.specs.Program.{IsDemoObject, demo_program, flow}

@@ -1,7 +1,7 @@
 -- Each form is sound: bytes are in it or have a fault, and not both.
 use Rattle.std.proofs.Common.{◌≡◌, ◌≢◌, ◌⊎◌, ℕ, List, Option, Some, None, Result, Ok, Err, refl, sym, ap, subst, ◌∙◌, inl, inr}
 use Rattle.net_core.specs.Nets.{Netlist}
-use Rattle.verilog_grammar.specs.Spelling.{Spells}
+use Rattle.verilog_read.specs.verilog_grammar.Spelling.{Spells}
 use Rattle.pcap_core.specs.declared.error.PcapError.{PcapError}
 use Rattle.pcap_core.specs.Format.{Packet, Content, IsContent}
 use Rattle.pcap_core.specs.Reading.{content_of}

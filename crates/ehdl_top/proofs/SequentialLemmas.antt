@@ -4,9 +4,9 @@ use Rattle.std.proofs.Math.Seq.{take-suc}
 use Rattle.beat_core.specs.declared.answer.Answer.{Answer}
 use Rattle.beat_core.specs.declared.frame.Timed.{Timed}
 use Rattle.xdp_maps.specs.State.{MapState}
-use Rattle.xdp_machine.specs.State.{Code, PacketIn}
-use Rattle.xdp_machine.specs.Runs.{Leaves, Progress, Ended, IsRun, AreRuns}
-use Rattle.xdp_machine.specs.Program.{XdpProgram, IsProgram, program_code}
+use Rattle.xdp_object.specs.xdp_machine.State.{Code, PacketIn}
+use Rattle.xdp_object.specs.xdp_machine.Runs.{Leaves, Progress, Ended, IsRun, AreRuns}
+use Rattle.xdp_object.specs.xdp_machine.Program.{XdpProgram, IsProgram, program_code}
 use Rattle.xdp_seq.specs.declared.run.SeqError.{SeqError}
 use Rattle.xdp_seq.specs.declared.run.SeqError.TheVariants.{Stuck, Spent}
 use Rattle.xdp_seq.specs.Answers.{Answers}

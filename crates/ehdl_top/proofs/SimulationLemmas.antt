@@ -15,13 +15,13 @@ use Rattle.clock_sim.specs.declared.sim.XValue.{XValue}
 use Rattle.clock_sim.specs.Running.{IsNamed}
 use Rattle.xdp_maps.specs.declared.decl.MapDecl.{MapDecl}
 use Rattle.xdp_maps.specs.State.{MapState}
-use Rattle.host_history.specs.Host.{load, dump}
+use Rattle.port_drive.specs.host_history.Host.{load, dump}
 use Rattle.port_drive.specs.Hosting.{StopsAt, ClocksOrNone, shown_maps}
 use Rattle.port_drive.specs.Reports.{full_drive, given_in, Reports, Gives, Leaves}
 use Rattle.port_drive.specs.declared.report.Drive as report
 use Rattle.port_drive.specs.declared.report.DriveError.{DriveError}
 use Rattle.port_drive.specs.declared.report.DriveError.TheVariants.{X, Late, NoMemory}
-use Rattle.design_rules.specs.Formed.{IsWellFormed}
+use Rattle.verilog_read.specs.design_rules.Formed.{IsWellFormed}
 use Rattle.xdp_object.specs.Choice.{Chosen}
 use Rattle.command_line.specs.Request.{AskSim, Names}
 use Rattle.pcap_core.specs.Format.{Packet}

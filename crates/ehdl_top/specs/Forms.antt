@@ -2,10 +2,10 @@
 use Rattle.std.specs.Prelude.{◌≡◌, ◌⊎◌, ℕ, ◌≤◌, List, [], length, Option, Some, None, Result, Ok, Err}
 use Rattle.shelf_core.specs.Shelf.{Holding, IsLonger}
 use Rattle.pcap_core.specs.declared.error.PcapError.{PcapError}
-use Rattle.list_laws.specs.Bytes.{IsBytes}
+use Rattle.beat_core.specs.list_laws.Bytes.{IsBytes}
 use Rattle.pcap_core.specs.Format.{Packet, Content, IsContent, IsHeaderFault}
 use Rattle.net_core.specs.Nets.{Netlist}
-use Rattle.verilog_grammar.specs.Spelling.{Spells}
+use Rattle.verilog_read.specs.verilog_grammar.Spelling.{Spells}
 use Rattle.verilog_read.specs.declared.error.ReadError.{ReadError}
 use Rattle.verilog_read.specs.Texts.{outcome_of}
 use Rattle.xdp_maps.specs.declared.decl.MapDecl.{MapDecl}

@@ -19,7 +19,7 @@ use Rattle.ehdl_top.specs.Simulation.{Simulation, simulation, given_up}
 use Rattle.ehdl_top.specs.Writes.{Outputs}
 use Rattle.ehdl_top.specs.Results.{timed_packets, came_by, compile_outputs, run_outputs, result_outputs, sim_outputs}
 use Rattle.ehdl_top.specs.Report.{report_lines}
-use Rattle.realization.specs.Bounds.{clock_bound, most_beats}
+use Rattle.ehdl_build.specs.realization.Bounds.{clock_bound, most_beats}
 use Rattle.flow_demo.specs.Program.{demo_program}
 use Rattle.flow_demo.specs.Packets.{demo_packets}
 use Rattle.answer_counts.specs.Counts.{entry_count}

@@ -1,6 +1,6 @@
 -- The lines of a report.
 use Rattle.std.specs.Prelude.{ℕ, List, ◌∷◌, ◌++◌, map, codes, decimal}
-use Rattle.bpf_isa.specs.Text.{unit_count}
+use Rattle.xdp_object.specs.bpf_isa.Text.{unit_count}
 use Rattle.xdp_maps.specs.declared.decl.MapKind.{MapKind}
 use Rattle.xdp_maps.specs.declared.decl.MapKind.TheVariants.{Hash, Array}
 use Rattle.xdp_maps.specs.declared.decl.MapDecl.{MapDecl}

@@ -23,9 +23,9 @@ use Rattle.maps_text.specs.Text.{IsMapsText}
 use Rattle.maps_text.specs.Writing.{text_of}
 use Rattle.ehdl_build.specs.declared.built.Built.{Built}
 use Rattle.ehdl_build.specs.Compiled.{HasSize, IsSequential, Realizes, answer_of, size_of}
-use Rattle.xdp_machine.specs.Program.{IsProgram}
-use Rattle.xdp_machine.specs.State.{Code, PacketIn, start}
-use Rattle.xdp_machine.specs.Runs.{Leaves, Ended, IsRun, run}
+use Rattle.xdp_object.specs.xdp_machine.Program.{IsProgram}
+use Rattle.xdp_object.specs.xdp_machine.State.{Code, PacketIn, start}
+use Rattle.xdp_object.specs.xdp_machine.Runs.{Leaves, Ended, IsRun, run}
 use Rattle.unfold_core.specs.declared.unfolding.Unfolded.{Unfolded}
 use Rattle.unfold_core.specs.Unfolding.{IsUnfolded}
 use Rattle.kind_core.specs.declared.why.BuildError.{BuildError}

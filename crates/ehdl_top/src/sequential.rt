@@ -1,7 +1,7 @@
 // Sequential execution of a program on the packets of a capture.
 
 ghost use Rattle.std.specs.Prelude.{◌≡◌, IfOk, OnOk};
-ghost use Rattle.xdp_machine.specs.Program.{IsProgram, program_code};
+ghost use Rattle.xdp_object.specs.xdp_machine.Program.{IsProgram, program_code};
 ghost use Rattle.unfold_core.specs.declared.unfolding.Unfolded.{Unfolded};
 ghost use Rattle.unfold_core.specs.Unfolding.{IsUnfolded};
 ghost use Rattle.ehdl_build.specs.Compiled.{IsSequential};

@@ -3,7 +3,7 @@
 ghost use Rattle.std.specs.Prelude.{◌≡◌, ◌≤◌, List, length, map, All, IfOk};
 ghost use Rattle.pcap_core.specs.Format.{Packet};
 ghost use Rattle.net_core.specs.View.{netlist_of};
-ghost use Rattle.design_rules.specs.Formed.{IsWellFormed};
+ghost use Rattle.verilog_read.specs.design_rules.Formed.{IsWellFormed};
 ghost use Rattle.xdp_maps.specs.Contents.{IsWithinLimits};
 ghost use Rattle.xdp_object.specs.Choice.{chosen_of};
 ghost use Rattle.command_line.specs.Request.{AskSim, names_of};

@@ -6,7 +6,7 @@ use Rattle.std.proofs.lemmas.List.{get_or_past}
 use Rattle.std.proofs.lemmas.List.Elements.{All-map, recursion_from_All}
 use Rattle.std.proofs.lemmas.List.FromFn.{get_or-map-range_with_len, get_or-range_with_len, length-map-range_with_len, length-range_with_len}
 use Rattle.std.specs.List.{All, range_with_len}
-use Rattle.list_laws.specs.Bytes.{IsBytes}
+use Rattle.elf_view.specs.list_laws.Bytes.{IsBytes}
 use Rattle.pcap_core.specs.Format.{IsHeader, IsRecord, Packet, capture_bytes, packets_of}
 use Rattle.pcap_core.specs.Reading.{content_of}
 use Rattle.pcap_core.proofs.ContentLaws.{written-content_of}

@@ -3,9 +3,9 @@ use Rattle.std.proofs.Common.{◌≡◌, ◌≢◌, ℕ, zero, suc, ◌+◌, ◌
 use Rattle.std.proofs.lemmas.List.Elements.{All-cons, All-from_recursion, All-nil}
 use Rattle.std.specs.List.{All, AllByRecursion}
 use Rattle.bpf_isa.specs.Spelling.{IsInsn}
-use Rattle.xdp_maps.specs.declared.decl.MapDecl.{MapDecl}
-use Rattle.xdp_maps.specs.declared.decl.MapKind.TheVariants.{Hash}
-use Rattle.xdp_machine.specs.Program.{IsDeclaration, IsProgram, IsReference, is_name_byte}
+use Rattle.xdp_object.specs.xdp_maps.declared.decl.MapDecl.{MapDecl}
+use Rattle.xdp_object.specs.xdp_maps.declared.decl.MapKind.TheVariants.{Hash}
+use Rattle.xdp_object.specs.xdp_machine.Program.{IsDeclaration, IsProgram, IsReference, is_name_byte}
 use Rattle.xdp_object.specs.Laws.{AreNumbered, IsWritable}
 use Rattle.flow_demo.specs.Program.{demo_insns, demo_program, flow, load_map}
 

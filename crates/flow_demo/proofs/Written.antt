@@ -4,7 +4,7 @@ use Rattle.bpf_isa.specs.declared.instruction.Insn.{Insn}
 use Rattle.bpf_isa.specs.Text.{text_of}
 use Rattle.elf_view.specs.declared.object.MapRecord.{MapRecord}
 use Rattle.elf_view.specs.Layout.{object_layout, object_size}
-use Rattle.xdp_machine.specs.Program.{XdpProgram}
+use Rattle.xdp_object.specs.xdp_machine.Program.{XdpProgram}
 use Rattle.xdp_object.specs.Laws.{AreRecords, NumbersLaw, ProgramLaw, ReadsAs, numbers_of}
 use Rattle.flow_demo.specs.Program.{IsDemoObject, demo_insns, demo_program, flow}
 use Rattle.flow_demo.proofs.Writable.{insns_are, program_is, program_writable}

@@ -11,9 +11,9 @@ use Rattle.bpf_isa.specs.declared.operation.Size.TheVariants.{B, Dw, W}
 use Rattle.bpf_isa.specs.declared.operation.Src.TheVariants.{K, X}
 use Rattle.bpf_isa.specs.declared.operation.Width.TheVariants.{Bits64}
 use Rattle.bpf_isa.specs.declared.instruction.Insn.{Insn}
-use Rattle.xdp_maps.specs.declared.decl.MapDecl.{MapDecl}
-use Rattle.xdp_maps.specs.declared.decl.MapKind.TheVariants.{Hash}
-use Rattle.xdp_machine.specs.Program.{XdpProgram}
+use Rattle.xdp_object.specs.xdp_maps.declared.decl.MapDecl.{MapDecl}
+use Rattle.xdp_object.specs.xdp_maps.declared.decl.MapKind.TheVariants.{Hash}
+use Rattle.xdp_object.specs.xdp_machine.Program.{XdpProgram}
 use Rattle.xdp_object.specs.Laws.{ReadsAs}
 
 -- ---- instructions on 64 bits, in the usual notation

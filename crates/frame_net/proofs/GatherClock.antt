@@ -7,14 +7,14 @@ use Rattle.std.proofs.lemmas.Nat.{pow_pos}
 use Rattle.std.proofs.lemmas.List.{length-map}
 use Rattle.std.proofs.Math.ListN.{get_or-map}
 use Rattle.std.proofs.lemmas.Grind.{common_steps}
-use Rattle.list_laws.specs.Bytes.{IsBytes}
-use Rattle.beat_core.specs.Laws.{IsFrame}
-use Rattle.beat_core.specs.declared.frame.TheConstants.{BEAT_LIMIT}
-use Rattle.beat_core.specs.Words.{low_bytes, word_of}
-use Rattle.beat_core.specs.Beats.{bytes_of_beat, beat_count, IsOffer}
-use Rattle.beat_core.specs.Ports.{Arrival, Offered, arrived}
-use Rattle.beat_core.proofs.BeatLaws.{IsOffer-count, IsOffer-eight}
-use Rattle.beat_core.proofs.WordLaws.{length-low_bytes, IsBytes-low_bytes}
+use Rattle.net_core.specs.list_laws.Bytes.{IsBytes}
+use Rattle.net_core.specs.beat_core.Laws.{IsFrame}
+use Rattle.net_core.specs.beat_core.declared.frame.TheConstants.{BEAT_LIMIT}
+use Rattle.net_core.specs.beat_core.Words.{low_bytes, word_of}
+use Rattle.net_core.specs.beat_core.Beats.{bytes_of_beat, beat_count, IsOffer}
+use Rattle.net_core.specs.beat_core.Ports.{Arrival, Offered, arrived}
+use Rattle.net_core.proofs.beat_core.BeatLaws.{IsOffer-count, IsOffer-eight}
+use Rattle.net_core.proofs.beat_core.WordLaws.{length-low_bytes, IsBytes-low_bytes}
 use Rattle.net_core.specs.declared.tree.Op.TheVariants.{Add, And, Equal}
 use Rattle.net_core.specs.declared.tree.UnaryOp.TheVariants.{Not}
 use Rattle.net_core.specs.declared.tree.Word.{Word}

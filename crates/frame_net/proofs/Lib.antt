@@ -1,3 +1,4 @@
+pub use Rattle.product_blocks.proofs as product_blocks
 pub mod StoreLaws
 pub mod MaskLaws
 pub mod BankLaws

@@ -5,9 +5,9 @@ use Rattle.std.proofs.Common.{get_or, refl, sym, ap, ◌∙◌, subst, arith, in
 use Rattle.std.proofs.lemmas.Bool.{lt-ltb}
 use Rattle.std.proofs.lemmas.Bool.Decides.{nat_tests}
 use Rattle.std.proofs.lemmas.List.{drop_all, length-drop}
-use Rattle.beat_core.specs.Words.{word_of}
-use Rattle.beat_core.specs.Ports.{Arrival}
-use Rattle.beat_core.proofs.WordLaws.{word_of-nil}
+use Rattle.net_core.specs.beat_core.Words.{word_of}
+use Rattle.net_core.specs.beat_core.Ports.{Arrival}
+use Rattle.net_core.proofs.beat_core.WordLaws.{word_of-nil}
 use Rattle.net_core.specs.declared.tree.Word.{Word}
 use Rattle.net_core.specs.declared.tree.Op.TheVariants.{Add}
 use Rattle.net_core.specs.Nets.{TRead}

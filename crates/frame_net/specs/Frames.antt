@@ -2,11 +2,11 @@
 -- what else is kept of them.
 use Rattle.std.specs.Prelude.{◌≡◌, ℕ, zero, suc, ◌+◌, ◌-◌, ◌*◌, ◌/◌, ◌%◌, ◌^◌, ◌<◌, min, Option, Some, None, is_some, List, [], ◌∷◌, ◌++◌, length, drop, map}
 use Rattle.std.proofs.Common.{get_or}
-use Rattle.list_laws.specs.Bytes.{IsBytes}
-use Rattle.beat_core.specs.declared.beat.Beat.{Beat}
-use Rattle.beat_core.specs.Beats.{first_beat, beat_count}
-use Rattle.beat_core.specs.Laws.{IsFrame}
-use Rattle.beat_core.specs.Ports.{Arrival}
+use Rattle.net_core.specs.list_laws.Bytes.{IsBytes}
+use Rattle.net_core.specs.beat_core.declared.beat.Beat.{Beat}
+use Rattle.net_core.specs.beat_core.Beats.{first_beat, beat_count}
+use Rattle.net_core.specs.beat_core.Laws.{IsFrame}
+use Rattle.net_core.specs.beat_core.Ports.{Arrival}
 use Rattle.net_core.specs.declared.tree.Word.{Word}
 use Rattle.net_core.specs.Value.{word, bit, nothing}
 use Rattle.net_core.specs.Clock.{Stored}

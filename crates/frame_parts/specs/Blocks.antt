@@ -5,7 +5,7 @@ use Rattle.block_core.specs.declared.name.Name.{Name}
 use Rattle.block_core.specs.Blocks.{Whole}
 use Rattle.block_core.specs.View.{block_of}
 use Rattle.control_net.specs.declared.names.ControlNets.{ControlNets}
-use Rattle.cell_nets.specs.Operands.{IsOperand}
+use Rattle.pipe_net.specs.cell_nets.Operands.{IsOperand}
 use Rattle.frame_net.specs.Gather.{IsKept}
 use Rattle.scatter_net.specs.Scatter.{last_name}
 use Rattle.place_net.specs.Exit.{byte_numbers, output_operands}

@@ -11,10 +11,10 @@ use Rattle.block_core.specs.Blocks.{first_memory}
 use Rattle.xdp_maps.specs.declared.decl.MapDecl.{MapDecl}
 use Rattle.xdp_maps.specs.declared.decl.MapKind.TheVariants.{Hash}
 use Rattle.xdp_maps.specs.Contents.{IsWithinLimits}
-use Rattle.hazard_core.specs.declared.slot.Slot.{Slot}
-use Rattle.hazard_core.specs.Tables.{no_slot, slot_at, used_count, empty_slot}
-use Rattle.hazard_core.specs.Shaped.{IsShaped}
-use Rattle.hazard_core.specs.Commits.{word_count, word_at as byte_word}
+use Rattle.array_net.specs.hazard_core.declared.slot.Slot.{Slot}
+use Rattle.array_net.specs.hazard_core.Tables.{no_slot, slot_at, used_count, empty_slot}
+use Rattle.array_net.specs.hazard_core.Shaped.{IsShaped}
+use Rattle.array_net.specs.hazard_core.Commits.{word_count, word_at as byte_word}
 use Rattle.frame_net.specs.Frames.{word_at}
 use Rattle.frame_net.specs.Stores.{widths_memory}
 use Rattle.frame_net.proofs.StoreLaws.{widths_are}

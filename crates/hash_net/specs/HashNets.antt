@@ -10,7 +10,7 @@ use Rattle.block_core.specs.declared.name.Name.{Name}
 use Rattle.block_core.specs.declared.name.Name.TheVariants as name
 use Rattle.block_core.specs.Blocks.{BlockTree, BlockWireTree}
 use Rattle.xdp_maps.specs.declared.decl.MapDecl.{MapDecl}
-use Rattle.hazard_core.specs.Commits.{word_count}
+use Rattle.array_net.specs.hazard_core.Commits.{word_count}
 use Rattle.frame_net.specs.GatherNets.{port, net, register, constant, wire, beside}
 use Rattle.frame_net.specs.SourcesNets.{held}
 use Rattle.frame_net.specs.Stores.{Store, widths_memory, store_statements}

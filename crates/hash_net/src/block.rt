@@ -5,7 +5,7 @@ ghost use Rattle.net_core.specs.View.{tree_of, statement_of};
 ghost use Rattle.block_core.specs.View.{block_of, block_wire_of};
 ghost use Rattle.xdp_maps.specs.Contents.{IsWithinLimits};
 ghost use Rattle.xdp_maps.specs.declared.decl.MapKind.TheVariants.{Hash};
-ghost use Rattle.hazard_core.specs.Commits.{word_count};
+ghost use Rattle.array_net.specs.hazard_core.Commits.{word_count};
 ghost use Rattle.frame_net.specs.Stores.{widths_memory, store_statements};
 ghost use Rattle.hash_net.specs.Hash.{IsHash, count_name, value_name};
 ghost use Rattle.hash_net.specs.HashNets.{hash_memories, hash_wires, hash_words, hash_statement, key_nets};

@@ -1,3 +1,4 @@
+pub use Rattle.cell_core.proofs as cell_core
 pub mod Changing
 pub mod Unmoved
 pub mod Alike

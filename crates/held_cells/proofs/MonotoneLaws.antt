@@ -1,10 +1,10 @@
 -- What is computed from the rows of places grows with them.
 use Rattle.std.proofs.Common.{ℕ, ◌-◌, ◌≤◌, Bool, true, false, if◌then◌else◌, Option, Some, None, List, [], ◌∷◌, arith}
 use Rattle.std.specs.List.{list_any}
-use Rattle.bpf_isa.specs.declared.operation.Op.{Op}
-use Rattle.bpf_isa.specs.declared.operation.Op.TheVariants.{Jump}
-use Rattle.bpf_isa.specs.declared.instruction.Insn.{Insn}
-use Rattle.xdp_maps.specs.declared.decl.MapDecl.{MapDecl}
+use Rattle.cell_core.specs.bpf_isa.declared.operation.Op.{Op}
+use Rattle.cell_core.specs.bpf_isa.declared.operation.Op.TheVariants.{Jump}
+use Rattle.cell_core.specs.bpf_isa.declared.instruction.Insn.{Insn}
+use Rattle.kind_core.specs.xdp_maps.declared.decl.MapDecl.{MapDecl}
 use Rattle.kind_core.specs.declared.kind.Kinds.{Kinds}
 use Rattle.kind_core.specs.Edges.{decided}
 use Rattle.cell_core.specs.Rows.{greatest, numbers}

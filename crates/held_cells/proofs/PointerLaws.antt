@@ -1,6 +1,6 @@
 -- Pointers among more cells.
 use Rattle.std.proofs.Common.{ℕ, ◌≤◌, List, arith}
-use Rattle.xdp_maps.specs.declared.decl.MapDecl.{MapDecl}
+use Rattle.kind_core.specs.xdp_maps.declared.decl.MapDecl.{MapDecl}
 use Rattle.held_cells.specs.Held.{PointerView, IsPointer}
 
 pub pointer_later : (decls : List MapDecl) (n m q : ℕ) (p : PointerView) → n ≤ m → IsPointer decls n q p → IsPointer decls m q p

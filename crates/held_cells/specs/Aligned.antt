@@ -1,7 +1,7 @@
 -- Accesses to entries begin at multiples of their bytes, and so lie in one word of eight.
 use Rattle.std.specs.Prelude.{◌≡◌, ℕ, ◌%◌}
-use Rattle.xdp_maps.specs.Calls.{change_bytes}
-use Rattle.xdp_machine.specs.Memory.{bytes_in}
+use Rattle.kind_core.specs.xdp_maps.Calls.{change_bytes}
+use Rattle.cell_core.specs.xdp_machine.Memory.{bytes_in}
 use Rattle.cell_core.specs.declared.site.Act.{Act}
 use Rattle.cell_core.specs.declared.site.Act.TheVariants as act
 

@@ -1,11 +1,11 @@
 -- What is known of a machine on the path, and what the cells of one instruction carry from the machine before it to the one behind it.
 use Rattle.std.specs.Prelude.{ℕ, ◌≡◌, ◌≢◌, ◌<◌, ◌≤◌, Bool, Some, Option, Ok, List, length, get_or}
-use Rattle.bpf_isa.specs.declared.instruction.Insn.{Insn}
-use Rattle.xdp_maps.specs.declared.decl.MapDecl.{MapDecl}
-use Rattle.xdp_machine.specs.Values.{Value}
-use Rattle.xdp_machine.specs.State.{Machine, PacketIn}
-use Rattle.xdp_machine.specs.Ranges.{IsInRange}
-use Rattle.xdp_machine.specs.Step.{effect}
+use Rattle.cell_core.specs.bpf_isa.declared.instruction.Insn.{Insn}
+use Rattle.kind_core.specs.xdp_maps.declared.decl.MapDecl.{MapDecl}
+use Rattle.cell_core.specs.xdp_machine.Values.{Value}
+use Rattle.cell_core.specs.xdp_machine.State.{Machine, PacketIn}
+use Rattle.cell_core.specs.xdp_machine.Ranges.{IsInRange}
+use Rattle.cell_core.specs.xdp_machine.Step.{effect}
 use Rattle.kind_core.specs.declared.kind.Kind.{Kind}
 use Rattle.kind_core.specs.declared.kind.Kind.TheVariants.{Unset}
 use Rattle.kind_core.specs.declared.kind.Kinds.{Kinds}

@@ -2,9 +2,9 @@
 use Rattle.std.specs.Prelude.{ℕ, ◌≡◌, ◌+◌, ◌^◌, ◌<◌, ◌≤◌, ◌==◌, nat_lt, true, Some, List, length, take, All}
 use Rattle.std.proofs.Common.{get_or, filter}
 use Rattle.std.specs.List.{AllPairs}
-use Rattle.xdp_maps.specs.State.{MapState, IsSound}
-use Rattle.xdp_machine.specs.State.{Machine, PacketIn}
-use Rattle.xdp_machine.specs.Touched as machine
+use Rattle.kind_core.specs.xdp_maps.State.{MapState, IsSound}
+use Rattle.cell_core.specs.xdp_machine.State.{Machine, PacketIn}
+use Rattle.cell_core.specs.xdp_machine.Touched as machine
 use Rattle.cell_core.specs.declared.program.Node.{Node}
 use Rattle.cell_core.specs.Cells.{IsRun, cell_at, site_in, bits_from, bit, on}
 use Rattle.cell_core.specs.Sites.{SiteView, ProgramView, site_at, after, read_on, IsCellRun, leaves, touched}

@@ -1,3 +1,6 @@
+pub use Rattle.kind_core.specs as kind_core
+pub use Rattle.operator_cells.specs as operator_cells
+pub use Rattle.place_rows.specs as place_rows
 pub mod Held
 pub mod Carrying
 pub mod Paths

@@ -1,11 +1,11 @@
 -- What the cells of an instruction hold that may operate on a map.
 use Rattle.std.specs.Prelude.{ℕ, ◌≡◌, ◌++◌, Bool, true, Some, List, length, All}
-use Rattle.bpf_isa.specs.declared.instruction.Insn.{Insn}
-use Rattle.xdp_maps.specs.declared.decl.MapDecl.{MapDecl}
-use Rattle.xdp_maps.specs.State.{MapState}
-use Rattle.xdp_machine.specs.State.{Machine, PacketIn}
-use Rattle.xdp_machine.specs.Step.{effect}
-use Rattle.xdp_machine.specs.Touched.{operation_as}
+use Rattle.cell_core.specs.bpf_isa.declared.instruction.Insn.{Insn}
+use Rattle.kind_core.specs.xdp_maps.declared.decl.MapDecl.{MapDecl}
+use Rattle.kind_core.specs.xdp_maps.State.{MapState}
+use Rattle.cell_core.specs.xdp_machine.State.{Machine, PacketIn}
+use Rattle.cell_core.specs.xdp_machine.Step.{effect}
+use Rattle.cell_core.specs.xdp_machine.Touched.{operation_as}
 use Rattle.kind_core.specs.declared.kind.Kinds.{Kinds}
 use Rattle.kind_core.specs.Edges.{transferred}
 use Rattle.kind_core.specs.Soundness.{at_reference}

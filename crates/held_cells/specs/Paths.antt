@@ -1,11 +1,11 @@
 -- The run of a packet among the nodes of a program's graph.
 use Rattle.std.specs.Prelude.{ℕ, zero, suc, ◌==◌, ◌&&◌, if◌then◌else◌, Bool, false, List, [], ◌∷◌, length}
 use Rattle.std.proofs.Common.{get_or}
-use Rattle.xdp_maps.specs.declared.decl.MapDecl.{MapDecl}
-use Rattle.xdp_maps.specs.State.{MapState}
-use Rattle.xdp_machine.specs.State.{Code, Machine, PacketIn, start}
-use Rattle.xdp_machine.specs.Step.{Outcome, Goes, Ends, NoCase, step}
-use Rattle.xdp_machine.specs.Runs.{Leaves, leaves}
+use Rattle.kind_core.specs.xdp_maps.declared.decl.MapDecl.{MapDecl}
+use Rattle.kind_core.specs.xdp_maps.State.{MapState}
+use Rattle.cell_core.specs.xdp_machine.State.{Code, Machine, PacketIn, start}
+use Rattle.cell_core.specs.xdp_machine.Step.{Outcome, Goes, Ends, NoCase, step}
+use Rattle.cell_core.specs.xdp_machine.Runs.{Leaves, leaves}
 use Rattle.kind_core.specs.declared.kind.Kinds.{Kinds}
 use Rattle.kind_core.specs.Kinds as kinds
 

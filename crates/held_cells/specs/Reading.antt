@@ -1,10 +1,10 @@
 -- Which cells read the sites of a program, and what these reads wait for.
 use Rattle.std.specs.Prelude.{ℕ, ◌≡◌, ◌≢◌, ◌*◌, ◌<◌, ◌≤◌, ◌⊎◌, ◌++◌, true, Option, Some, List, length, get_or, take, drop, Contains}
-use Rattle.xdp_maps.specs.declared.decl.MapDecl.{MapDecl}
-use Rattle.xdp_maps.specs.Calls.{change_bytes}
-use Rattle.xdp_maps.specs.State.{no_decl}
-use Rattle.xdp_machine.specs.Memory.{bytes_in}
-use Rattle.xdp_machine.specs.State.{PacketIn}
+use Rattle.kind_core.specs.xdp_maps.declared.decl.MapDecl.{MapDecl}
+use Rattle.kind_core.specs.xdp_maps.Calls.{change_bytes}
+use Rattle.kind_core.specs.xdp_maps.State.{no_decl}
+use Rattle.cell_core.specs.xdp_machine.Memory.{bytes_in}
+use Rattle.cell_core.specs.xdp_machine.State.{PacketIn}
 use Rattle.cell_core.specs.declared.operator.Operator.TheVariants.{Found, Answer}
 use Rattle.cell_core.specs.declared.site.Act.{Act}
 use Rattle.cell_core.specs.declared.site.Act.TheVariants as act

@@ -1,11 +1,11 @@
 -- What the code of a node does: between nodes the edges that are on lead to where the run is, and hold what its machine holds.
 use Rattle.std.specs.Prelude.{ℕ, ◌≡◌, ◌≢◌, ◌+◌, ◌<◌, ◌≤◌, ◌++◌, true, Option, Some, None, List, [], ◌∷◌, length, slice_index, get_or, take, All, Contains}
-use Rattle.xdp_maps.specs.State.{MapState}
-use Rattle.xdp_maps.specs.Operations.{Operation}
-use Rattle.xdp_machine.specs.Arithmetic.{low}
-use Rattle.xdp_machine.specs.State.{Machine, PacketIn}
-use Rattle.xdp_machine.specs.Runs.{Leaves}
-use Rattle.xdp_machine.specs.Touched.{operation_at}
+use Rattle.kind_core.specs.xdp_maps.State.{MapState}
+use Rattle.kind_core.specs.xdp_maps.Operations.{Operation}
+use Rattle.cell_core.specs.xdp_machine.Arithmetic.{low}
+use Rattle.cell_core.specs.xdp_machine.State.{Machine, PacketIn}
+use Rattle.cell_core.specs.xdp_machine.Runs.{Leaves}
+use Rattle.cell_core.specs.xdp_machine.Touched.{operation_at}
 use Rattle.kind_core.specs.declared.kind.Kinds.{Kinds}
 use Rattle.cell_core.specs.Cells.{CellView, IsRun, cell_at, site_in, bits_from, bit, on}
 use Rattle.cell_core.specs.Sites.{SiteView, site_at, operation_on, after, read_on}

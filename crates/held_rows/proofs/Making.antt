@@ -3,12 +3,12 @@ use Rattle.std.proofs.Common.{◌≡◌, ◌≢◌, ℕ, zero, suc, ◌+◌, ◌
 use Rattle.std.specs.Prelude.{if◌then◌else◌, ◌==◌, map as map_list, All}
 use Rattle.std.proofs.lemmas.Bool.Decides.{Decides-eqb}
 use Rattle.std.proofs.lemmas.Bool.{cases_lt}
-use Rattle.xdp_machine.specs.State.{PacketIn}
-use Rattle.cell_core.specs.declared.operator.Operator.{Operator}
-use Rattle.cell_core.specs.declared.operator.Operator.TheVariants.{Found, Answer, Wire, Phi}
-use Rattle.cell_core.specs.Cells.{CellView, cell_at, site_in, number, bits_from, bit, on}
-use Rattle.cell_core.specs.Formed.{takes}
-use Rattle.cell_core.specs.Sites.{ProgramView, site_at}
+use Rattle.hazard_core.specs.xdp_machine.State.{PacketIn}
+use Rattle.hazard_core.specs.cell_core.declared.operator.Operator.{Operator}
+use Rattle.hazard_core.specs.cell_core.declared.operator.Operator.TheVariants.{Found, Answer, Wire, Phi}
+use Rattle.hazard_core.specs.cell_core.Cells.{CellView, cell_at, site_in, number, bits_from, bit, on}
+use Rattle.hazard_core.specs.cell_core.Formed.{takes}
+use Rattle.hazard_core.specs.cell_core.Sites.{ProgramView, site_at}
 use Rattle.hazard_core.specs.Tables.{TableState}
 use Rattle.hazard_core.specs.declared.pointer.Pointer.{Pointer}
 use Rattle.hazard_core.specs.declared.pointer.Pointer.TheVariants.{Null}

@@ -1,9 +1,9 @@
 -- The cells of a row in a packet that has taken it in.
 use Rattle.std.specs.Prelude.{◌≡◌, ◌≢◌, ℕ, ◌<◌, ◌≤◌, ◌⊎◌, Some, length}
-use Rattle.xdp_machine.specs.State.{PacketIn}
-use Rattle.cell_core.specs.Cells.{cell_at, bits_from, site_in}
-use Rattle.cell_core.specs.Formed.{AreFormed}
-use Rattle.cell_core.specs.Sites.{ProgramView, site_at}
+use Rattle.hazard_core.specs.xdp_machine.State.{PacketIn}
+use Rattle.hazard_core.specs.cell_core.Cells.{cell_at, bits_from, site_in}
+use Rattle.hazard_core.specs.cell_core.Formed.{AreFormed}
+use Rattle.hazard_core.specs.cell_core.Sites.{ProgramView, site_at}
 use Rattle.hazard_core.specs.Tables.{TableState}
 use Rattle.hazard_core.specs.Held.{Held, held_value, pointer_in}
 use Rattle.hazard_core.specs.Keeping.{SameCell, LooksBelow}

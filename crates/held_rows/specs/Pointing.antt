@@ -1,8 +1,8 @@
 -- Which cells may have a pointer beside their value.
 use Rattle.std.specs.Prelude.{◌≡◌, ℕ, ◌+◌, ◌*◌, ◌<◌, Bool, true, false, List, length, slice_index}
 use Rattle.std.proofs.Common.{get_or}
-use Rattle.cell_core.specs.declared.operator.Operator.TheVariants.{Wire, Phi, Found}
-use Rattle.cell_core.specs.Cells.{CellView, cell_at}
+use Rattle.hazard_core.specs.cell_core.declared.operator.Operator.TheVariants.{Wire, Phi, Found}
+use Rattle.hazard_core.specs.cell_core.Cells.{CellView, cell_at}
 
 -- whether a cell is flagged; past the last none is
 abbrev pub flag_at : List Bool → ℕ → Bool

@@ -10,7 +10,7 @@ use Rattle.net_core.specs.Nets.{Tree, TConst, TRead}
 use Rattle.net_core.specs.Value.{word, bit, number_of, apply, apply_unary, Env, value}
 use Rattle.ring_net.specs.Ring.{slot, lap, IsNear}
 use Rattle.ring_net.proofs.RingLaws.{apart}
-use Rattle.array_net.proofs.WordStoreLaws.{or_bits}
+use Rattle.map_block.proofs.array_net.WordStoreLaws.{or_bits}
 use Rattle.host_net.specs.Trees.{any_of}
 use Rattle.host_net.specs.Values.{one_word}
 

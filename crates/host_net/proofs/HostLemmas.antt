@@ -11,8 +11,8 @@ use Rattle.net_core.specs.Nets.{Tree, TConst}
 use Rattle.net_core.specs.Ports.{port_list}
 use Rattle.net_core.specs.Value.{word, bit, nothing, apply, apply_unary, Env, value}
 use Rattle.net_core.specs.Width.{Scope, width_of, test_width, unary_width, op_width, same}
-use Rattle.design_rules.specs.FormedSyntax.{depth, prefixes_apart, tree_spelled}
-use Rattle.product_rules.specs.Products.{is_flat}
+use Rattle.ring_net.specs.design_rules.FormedSyntax.{depth, prefixes_apart, tree_spelled}
+use Rattle.ring_net.specs.product_rules.Products.{is_flat}
 use Rattle.block_core.specs.declared.name.Name.{Name}
 use Rattle.block_core.specs.declared.name.Name.TheVariants as name
 use Rattle.block_core.specs.Blocks.{BlockTree, Whole, Among}
@@ -23,8 +23,8 @@ use Rattle.ring_net.specs.declared.names.Counter.TheVariants.{Given, Gathered}
 use Rattle.ring_net.specs.declared.names.Register.TheVariants.{Slot}
 use Rattle.ring_net.specs.Names.{register_name}
 use Rattle.ring_net.specs.Trees.{compared}
-use Rattle.frame_net.proofs.FormLaws.{same_is}
-use Rattle.array_net.proofs.WordStoreLaws.{or_bits, and_bits}
+use Rattle.map_block.proofs.frame_net.FormLaws.{same_is}
+use Rattle.map_block.proofs.array_net.WordStoreLaws.{or_bits, and_bits}
 use Rattle.host_net.specs.declared.names.HostNets.{HostNets}
 use Rattle.host_net.specs.declared.names.Wire.TheVariants.{Calm, Ready, Writes}
 use Rattle.host_net.specs.Names.{wire_name}

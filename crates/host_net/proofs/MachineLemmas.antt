@@ -4,11 +4,11 @@ use Rattle.std.specs.List.{list_any, range_with_len}
 use Rattle.std.proofs.Common.{refl, sym, ap, ◌∙◌, arith, ◌⊎◌, inl, inr}
 use Rattle.std.proofs.lemmas.Bool.{lt-ltb, le-ltb, eq-eqb, ne_eqb, cases_eq, cases_lt}
 use Rattle.net_core.specs.Value.{word, bit}
-use Rattle.hazard_core.specs.declared.access.Access.{Access}
-use Rattle.hazard_core.specs.declared.access.Word.{Word}
-use Rattle.hazard_core.specs.declared.access.Word.TheVariants.{Nothing}
-use Rattle.hazard_core.specs.Tables.{TableState, decl_of, table_at, slot_at}
-use Rattle.hazard_core.specs.Commits.{word_as, word_in, shown_word, shown_to_host, may_write}
+use Rattle.pipe_core.specs.hazard_core.declared.access.Access.{Access}
+use Rattle.pipe_core.specs.hazard_core.declared.access.Word.{Word}
+use Rattle.pipe_core.specs.hazard_core.declared.access.Word.TheVariants.{Nothing}
+use Rattle.pipe_core.specs.hazard_core.Tables.{TableState, decl_of, table_at, slot_at}
+use Rattle.pipe_core.specs.hazard_core.Commits.{word_as, word_in, shown_word, shown_to_host, may_write}
 use Rattle.map_block.specs.declared.form.MapForm.{MapForm}
 use Rattle.map_block.specs.Stored.{lets_write, may_here}
 use Rattle.pipe_core.specs.Machine.{Build, State, is_calm, host_ready, written_if, host_writes, host_value}

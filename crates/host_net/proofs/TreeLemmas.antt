@@ -9,7 +9,7 @@ use Rattle.net_core.specs.declared.tree.Op.TheVariants.{Or}
 use Rattle.net_core.specs.Nets.{Tree, TRead, TBinary}
 use Rattle.net_core.specs.View.{tree_of}
 use Rattle.net_core.specs.Width.{Scope, width_of, op_width}
-use Rattle.design_rules.specs.FormedSyntax.{depth}
+use Rattle.ring_net.specs.design_rules.FormedSyntax.{depth}
 use Rattle.block_core.specs.declared.name.Name.{Name}
 use Rattle.block_core.specs.declared.name.Name.TheVariants as name
 use Rattle.block_core.specs.Blocks.{Whole}

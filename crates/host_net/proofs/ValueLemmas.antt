@@ -9,8 +9,8 @@ use Rattle.net_core.specs.Nets.{Tree, TConst, TRead}
 use Rattle.net_core.specs.Ports.{port_list}
 use Rattle.net_core.specs.Value.{word, bit, conditional, Env, value}
 use Rattle.net_core.specs.Width.{Scope, width_of, conditional_width, same}
-use Rattle.design_rules.specs.FormedSyntax.{depth, prefixes_apart, tree_spelled}
-use Rattle.product_rules.specs.Products.{is_flat}
+use Rattle.ring_net.specs.design_rules.FormedSyntax.{depth, prefixes_apart, tree_spelled}
+use Rattle.ring_net.specs.product_rules.Products.{is_flat}
 use Rattle.block_core.specs.declared.name.Name.{Name}
 use Rattle.block_core.specs.declared.name.Name.TheVariants as name
 use Rattle.block_core.specs.Blocks.{BlockTree, Whole}

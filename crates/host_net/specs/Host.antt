@@ -8,16 +8,16 @@ use Rattle.net_core.specs.Ports.{port_list}
 use Rattle.net_core.specs.Value.{word, bit, nothing, Env, value}
 use Rattle.net_core.specs.Clock.{Stored, done}
 use Rattle.net_core.specs.Width.{Scope, width_of}
-use Rattle.design_rules.specs.FormedSyntax.{depth, prefixes_apart, statement_spelled}
-use Rattle.product_rules.specs.Products.{is_flat}
-use Rattle.product_blocks.specs.Alone.{IsFree}
+use Rattle.ring_net.specs.design_rules.FormedSyntax.{depth, prefixes_apart, statement_spelled}
+use Rattle.ring_net.specs.product_rules.Products.{is_flat}
+use Rattle.ring_net.specs.product_blocks.Alone.{IsFree}
 use Rattle.block_core.specs.declared.name.Name.{Name}
 use Rattle.block_core.specs.declared.name.Name.TheVariants as name
 use Rattle.block_core.specs.Blocks.{BlockTree, Whole, Among}
 use Rattle.block_core.specs.Parts.{Solve, Goes, Within}
 use Rattle.block_core.specs.Order.{Reads, IsBefore, InOrder}
 use Rattle.block_core.specs.Formed.{block_wires, names_scope, IsTypedBlock, StatementReads, IsThere}
-use Rattle.block_forms.specs.WellFormed.{wire_spelled}
+use Rattle.ring_net.specs.block_forms.WellFormed.{wire_spelled}
 use Rattle.ring_net.specs.declared.names.Counter.{Counter}
 use Rattle.ring_net.specs.declared.names.Counter.TheVariants.{Given, Gathered}
 use Rattle.ring_net.specs.declared.names.Register.TheVariants.{Lap, Slot}

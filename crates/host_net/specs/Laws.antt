@@ -5,8 +5,8 @@ use Rattle.net_core.specs.Value.{word, bit, Env, value}
 use Rattle.block_core.specs.declared.name.Name.{Name}
 use Rattle.block_core.specs.Blocks.{BlockTree}
 use Rattle.block_core.specs.Parts.{Solve}
-use Rattle.hazard_core.specs.declared.access.Access.{Access}
-use Rattle.hazard_core.specs.Tables.{TableState}
+use Rattle.pipe_core.specs.hazard_core.declared.access.Access.{Access}
+use Rattle.pipe_core.specs.hazard_core.Tables.{TableState}
 use Rattle.map_block.specs.declared.form.MapForm.{MapForm}
 use Rattle.map_block.specs.Stored.{may_here, shown_here}
 use Rattle.pipe_core.specs.Machine.{Build, State, place_at, is_calm, host_ready, host_writes, host_value}

@@ -3,17 +3,17 @@ use Rattle.std.proofs.Common.{◌≡◌, ℕ, zero, suc, ◌+◌, ◌%◌, ◌^�
 use Rattle.std.specs.Prelude.{if◌then◌else◌, nat_lt, ◌&&◌, is_some, replicate, slice_set}
 use Rattle.std.proofs.lemmas.Bool.Decides.{nat_tests}
 use Rattle.std.proofs.lemmas.List.{set-get_or}
-use Rattle.beat_core.specs.declared.beat.Beat.{Beat}
-use Rattle.beat_core.specs.Ports.{Arrival}
-use Rattle.cell_core.specs.Cells.{bit}
-use Rattle.hazard_core.specs.declared.access.Access.{Access}
-use Rattle.hazard_core.specs.declared.access.Word.{Word}
-use Rattle.hazard_core.specs.declared.access.Word.TheVariants.{Used, Key, Value, Nothing}
-use Rattle.hazard_core.specs.declared.change.Change.{Change}
-use Rattle.hazard_core.specs.Held.{Held}
-use Rattle.hazard_core.specs.declared.slot.Slot.{Slot}
-use Rattle.hazard_core.specs.Tables.{TableState, table_at, slot_at, no_slot}
-use Rattle.hazard_core.specs.Commits.{word_in, may_write, written_word, host_written, host_change, shown_to_host}
+use Rattle.host_history.specs.beat_core.declared.beat.Beat.{Beat}
+use Rattle.host_history.specs.beat_core.Ports.{Arrival}
+use Rattle.pipe_core.specs.cell_core.Cells.{bit}
+use Rattle.pipe_core.specs.hazard_core.declared.access.Access.{Access}
+use Rattle.pipe_core.specs.hazard_core.declared.access.Word.{Word}
+use Rattle.pipe_core.specs.hazard_core.declared.access.Word.TheVariants.{Used, Key, Value, Nothing}
+use Rattle.pipe_core.specs.hazard_core.declared.change.Change.{Change}
+use Rattle.pipe_core.specs.hazard_core.Held.{Held}
+use Rattle.pipe_core.specs.hazard_core.declared.slot.Slot.{Slot}
+use Rattle.pipe_core.specs.hazard_core.Tables.{TableState, table_at, slot_at, no_slot}
+use Rattle.pipe_core.specs.hazard_core.Commits.{word_in, may_write, written_word, host_written, host_change, shown_to_host}
 use Rattle.pipe_core.specs.Machine.{Packet, State, Input, Build, Turn, Commits, Writes, Moves, place_at, inside, some_send, swept, moved, newcomer, injected, answers_by, struck_below, is_ready, host_writes, written_if, turn_of, turn_as, commits_or_moves, worked, work, beat_over, gathered, scattered, clock, output}
 use Rattle.pipe_core.specs.History.{Trace, came_in, left_as, left_in, next}
 

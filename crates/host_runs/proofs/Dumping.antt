@@ -10,20 +10,20 @@ use Rattle.std.proofs.lemmas.Bool.Decides.{nat_tests}
 use Rattle.std.proofs.lemmas.List.{get_or_at, take_at, drop_at, length-map, map-append, get_or-map}
 use Rattle.std.proofs.lemmas.List.FromFn.{length-range_with_len, fill_by_all}
 use Rattle.std.proofs.lemmas.Slice.Eq.{bytes_eq-Decides}
-use Rattle.beat_core.specs.declared.answer.Answer.{Answer}
-use Rattle.beat_core.specs.Ports.{Arrival}
+use Rattle.host_history.specs.beat_core.declared.answer.Answer.{Answer}
+use Rattle.host_history.specs.beat_core.Ports.{Arrival}
 use Rattle.xdp_maps.specs.declared.decl.MapKind.{MapKind}
 use Rattle.xdp_maps.specs.declared.decl.MapKind.TheVariants.{Hash, Array}
 use Rattle.xdp_maps.specs.declared.decl.MapDecl.{MapDecl}
 use Rattle.xdp_maps.specs.Contents.{Contents, IsBytes, IsOver, index_key}
 use Rattle.xdp_maps.specs.State.{no_decl}
-use Rattle.net_core.specs.declared.ports.Inputs.{Inputs}
-use Rattle.hazard_core.specs.declared.access.Word.TheVariants.{Nothing}
-use Rattle.hazard_core.specs.declared.slot.Slot.{Slot}
-use Rattle.hazard_core.specs.Tables.{TableState, no_slot, table_at, slot_at, decl_of, has_key, maps_of}
-use Rattle.hazard_core.specs.Tables as table
-use Rattle.hazard_core.specs.Tabled.{AreTables, IsTable, IsFilledTable}
-use Rattle.hazard_core.specs.Commits.{word_as, shown_word, shown_to_host}
+use Rattle.host_history.specs.net_core.declared.ports.Inputs.{Inputs}
+use Rattle.pipe_core.specs.hazard_core.declared.access.Word.TheVariants.{Nothing}
+use Rattle.pipe_core.specs.hazard_core.declared.slot.Slot.{Slot}
+use Rattle.pipe_core.specs.hazard_core.Tables.{TableState, no_slot, table_at, slot_at, decl_of, has_key, maps_of}
+use Rattle.pipe_core.specs.hazard_core.Tables as table
+use Rattle.pipe_core.specs.hazard_core.Tabled.{AreTables, IsTable, IsFilledTable}
+use Rattle.pipe_core.specs.hazard_core.Commits.{word_as, shown_word, shown_to_host}
 use Rattle.host_history.specs.Rows.{row_length, contents_of, contents_as}
 use Rattle.host_history.specs.Host.{asked, map_reads, reads, dump, cut_in_rows, dumped}
 use Rattle.pipe_core.specs.Machine.{Packet, State, Build, clock, output, inside}

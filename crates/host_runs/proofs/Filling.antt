@@ -10,19 +10,19 @@ use Rattle.std.proofs.lemmas.Bool.{cases_lt}
 use Rattle.std.proofs.lemmas.Bool.Decides.{nat_tests}
 use Rattle.std.proofs.lemmas.List.{length-replicate, nil_from_length, get_or_past}
 use Rattle.std.proofs.lemmas.List.Elements.{All-get_or}
-use Rattle.list_laws.specs.Bytes.{IsBytes as AreBytes}
-use Rattle.beat_core.specs.Beats.{beat_count}
+use Rattle.host_history.specs.list_laws.Bytes.{IsBytes as AreBytes}
+use Rattle.host_history.specs.beat_core.Beats.{beat_count}
 use Rattle.xdp_maps.specs.declared.decl.MapKind.{MapKind}
 use Rattle.xdp_maps.specs.declared.decl.MapKind.TheVariants.{Hash, Array}
 use Rattle.xdp_maps.specs.declared.decl.MapDecl.{MapDecl}
 use Rattle.xdp_maps.specs.Contents.{Contents, IsBytes, IsOver, IsWithinLimits, IsFilled_as, TakesKey, TakesKey_as, limits_as, index_key, index_of, opened, opened_as}
 use Rattle.xdp_maps.specs.Calls.{entry_as}
 use Rattle.xdp_maps.specs.Laws.{IndexLaws, KeepsOver, PairLaws}
-use Rattle.hazard_core.specs.declared.slot.Slot.{Slot}
-use Rattle.hazard_core.specs.declared.access.Word.{Word}
-use Rattle.hazard_core.specs.declared.access.Word.TheVariants.{Key, Value}
-use Rattle.hazard_core.specs.Tables.{empty_slot, pair_slot, index_slot, loaded_as}
-use Rattle.hazard_core.specs.Commits.{word_as, written_word}
+use Rattle.pipe_core.specs.hazard_core.declared.slot.Slot.{Slot}
+use Rattle.pipe_core.specs.hazard_core.declared.access.Word.{Word}
+use Rattle.pipe_core.specs.hazard_core.declared.access.Word.TheVariants.{Key, Value}
+use Rattle.pipe_core.specs.hazard_core.Tables.{empty_slot, pair_slot, index_slot, loaded_as}
+use Rattle.pipe_core.specs.hazard_core.Commits.{word_as, written_word}
 use Rattle.host_history.specs.Rows.{words_of, slot_of, rows_as, rows_of}
 use Rattle.host_runs.proofs.Words.{words_in, words_fill, length-words_of}
 

@@ -7,11 +7,11 @@ use Rattle.std.specs.FinMap.{len-entries}
 use Rattle.std.proofs.Math.Nat.{pow-le-pow_right}
 use Rattle.std.proofs.lemmas.List.{length-map, length-replicate}
 use Rattle.std.proofs.lemmas.List.FromFn.{length-map-range_with_len}
-use Rattle.list_laws.specs.Bytes.{IsBytes as AreBytes}
-use Rattle.list_laws.proofs.ByteLaws.{IsBytes-take, IsBytes-drop}
-use Rattle.beat_core.specs.declared.beat.Beat.{Beat}
-use Rattle.beat_core.specs.Beats.{first_beats, beats_of, beat_count}
-use Rattle.beat_core.proofs.WordLaws.{word_of-lt}
+use Rattle.host_history.specs.list_laws.Bytes.{IsBytes as AreBytes}
+use Rattle.pipe_core.proofs.list_laws.ByteLaws.{IsBytes-take, IsBytes-drop}
+use Rattle.host_history.specs.beat_core.declared.beat.Beat.{Beat}
+use Rattle.host_history.specs.beat_core.Beats.{first_beats, beats_of, beat_count}
+use Rattle.host_history.proofs.beat_core.WordLaws.{word_of-lt}
 use Rattle.xdp_maps.specs.declared.decl.MapKind.{MapKind}
 use Rattle.xdp_maps.specs.declared.decl.MapKind.TheVariants.{Hash, Array}
 use Rattle.xdp_maps.specs.declared.decl.MapDecl.{MapDecl}
@@ -19,7 +19,7 @@ use Rattle.xdp_maps.specs.Calls.{entry_as}
 use Rattle.xdp_maps.specs.Contents.{Contents, IsBytes, IsOver, IsWithinLimits, IsFilled_as, limits_as, index_key}
 use Rattle.xdp_maps.specs.Laws.{PairLaws}
 use Rattle.xdp_maps.specs.State.{no_decl}
-use Rattle.net_core.specs.declared.ports.Inputs.{Inputs}
+use Rattle.host_history.specs.net_core.declared.ports.Inputs.{Inputs}
 use Rattle.host_history.specs.Rows.{slot_of, words_of, rows_as, rows_of, row_length, row_length_as}
 use Rattle.host_history.specs.Host.{asked, written, row_writes, map_writes, writes, map_reads, reads}
 use Rattle.host_runs.specs.Fits.{IsHostClock, LoadsFit}

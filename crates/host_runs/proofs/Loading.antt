@@ -12,12 +12,12 @@ use Rattle.xdp_maps.specs.declared.decl.MapDecl.{MapDecl}
 use Rattle.xdp_maps.specs.Contents.{Contents, IsOver, IsWithinLimits, IsFilled_as, index_key, opened}
 use Rattle.xdp_maps.specs.Laws.{IndexLaws, KeepsOver, PairLaws}
 use Rattle.xdp_maps.specs.State.{no_decl, opened_state}
-use Rattle.net_core.specs.declared.ports.Inputs.{Inputs}
-use Rattle.hazard_core.specs.declared.access.Word.{Word}
-use Rattle.hazard_core.specs.declared.access.Word.TheVariants.{Nothing}
-use Rattle.hazard_core.specs.declared.slot.Slot.{Slot}
-use Rattle.hazard_core.specs.Tables.{TableState, no_slot, empty_slot, pair_slot, index_slot, table_at, slot_at, decl_of, loaded_as, loaded_tables}
-use Rattle.hazard_core.specs.Commits.{word_as, word_in, written_word, host_written}
+use Rattle.host_history.specs.net_core.declared.ports.Inputs.{Inputs}
+use Rattle.pipe_core.specs.hazard_core.declared.access.Word.{Word}
+use Rattle.pipe_core.specs.hazard_core.declared.access.Word.TheVariants.{Nothing}
+use Rattle.pipe_core.specs.hazard_core.declared.slot.Slot.{Slot}
+use Rattle.pipe_core.specs.hazard_core.Tables.{TableState, no_slot, empty_slot, pair_slot, index_slot, table_at, slot_at, decl_of, loaded_as, loaded_tables}
+use Rattle.pipe_core.specs.hazard_core.Commits.{word_as, word_in, written_word, host_written}
 use Rattle.host_history.specs.Rows.{slot_of, words_of, rows_as, rows_of}
 use Rattle.host_history.specs.Host.{row_writes, map_writes, writes, load}
 use Rattle.pipe_core.specs.Machine.{Build}

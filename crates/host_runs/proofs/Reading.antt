@@ -10,15 +10,15 @@ use Rattle.std.proofs.lemmas.List.{take_at, drop_at, length-map}
 use Rattle.std.proofs.lemmas.List.FromFn.{length-range_with_len}
 use Rattle.std.proofs.lemmas.Slice.Eq.{bytes_eq-Decides}
 use Rattle.std.proofs.lemmas.Map.Text.{is_eq-slice_cmp}
-use Rattle.beat_core.specs.Beats.{beat_count}
+use Rattle.host_history.specs.beat_core.Beats.{beat_count}
 use Rattle.xdp_maps.specs.declared.decl.MapKind.{MapKind}
 use Rattle.xdp_maps.specs.declared.decl.MapKind.TheVariants.{Hash, Array}
 use Rattle.xdp_maps.specs.declared.decl.MapDecl.{MapDecl}
 use Rattle.xdp_maps.specs.Contents.{Contents, IsBytes, index_key, indexed}
-use Rattle.cell_core.specs.Cells.{bit}
-use Rattle.hazard_core.specs.declared.slot.Slot.{Slot}
-use Rattle.hazard_core.specs.Tables.{slot_at, has_key, contents_of}
-use Rattle.hazard_core.specs.Commits.{word_as, word_at, shown_word}
+use Rattle.pipe_core.specs.cell_core.Cells.{bit}
+use Rattle.pipe_core.specs.hazard_core.declared.slot.Slot.{Slot}
+use Rattle.pipe_core.specs.hazard_core.Tables.{slot_at, has_key, contents_of}
+use Rattle.pipe_core.specs.hazard_core.Commits.{word_as, word_at, shown_word}
 use Rattle.host_history.specs.Rows.{row_length, row_length_as, bytes_of, entry_of, contents_as}
 use Rattle.host_runs.proofs.Words.{words_back}
 use Rattle.host_runs.proofs.Filling.{hash_key, hash_value, array_value, all_bytes}

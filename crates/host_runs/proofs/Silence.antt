@@ -1,13 +1,13 @@
 -- A host that reads, beside a silent one.
 use Rattle.std.proofs.Common.{◌≡◌, Bool, true, false, List, [], ◌∷◌, ◌++◌, if◌then◌else◌, Option, Some, None, refl, ap, ◌∙◌}
-use Rattle.beat_core.specs.declared.beat.Beat.{Beat}
-use Rattle.beat_core.specs.Ports.{Arrival}
-use Rattle.hazard_core.specs.declared.access.Access.{Access}
-use Rattle.hazard_core.specs.Held.{Held}
-use Rattle.hazard_core.specs.Tables.{TableState}
+use Rattle.host_history.specs.beat_core.declared.beat.Beat.{Beat}
+use Rattle.host_history.specs.beat_core.Ports.{Arrival}
+use Rattle.pipe_core.specs.hazard_core.declared.access.Access.{Access}
+use Rattle.pipe_core.specs.hazard_core.Held.{Held}
+use Rattle.pipe_core.specs.hazard_core.Tables.{TableState}
 use Rattle.pipe_core.specs.Machine.{Packet, State, Input, Build, Turn, some_send, swept, is_calm, host_ready, host_writes, written_if, turn_of, turn_as, worked, work, beat_over, gathered, taken_beat, scattered, clock, output, place_at}
 use Rattle.pipe_core.specs.History.{Trace, came_in, left_as, left_in, gave_in, next, run}
-use Rattle.net_core.specs.declared.ports.Inputs.{Inputs}
+use Rattle.host_history.specs.net_core.declared.ports.Inputs.{Inputs}
 use Rattle.std.specs.Prelude.{map as map_list}
 use Rattle.host_runs.specs.Inputs.{access_in, input_of}
 use Rattle.host_runs.specs.Silent.{silent, ReadsAreSilent, RunsAreSilent}

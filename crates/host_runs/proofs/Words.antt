@@ -8,13 +8,13 @@ use Rattle.std.proofs.lemmas.Bool.{cases_lt}
 use Rattle.std.proofs.lemmas.List.{take_at, drop_at, take_all, drop_all, take-append-le, drop-drop, nil_from_length}
 use Rattle.byteorder.specs.Endian.{little_from, little_bytes}
 use Rattle.byteorder.specs.Numbers.{little_from-cons}
-use Rattle.list_laws.specs.Bytes.{IsBytes}
-use Rattle.list_laws.proofs.ByteLaws.{IsBytes-take, IsBytes-drop}
-use Rattle.beat_core.specs.declared.beat.Beat.{Beat}
-use Rattle.beat_core.specs.Words.{low_bytes, word_of}
-use Rattle.beat_core.specs.Beats.{first_beats, beat_count, beats_of}
-use Rattle.beat_core.proofs.WordLaws.{length-low_bytes, take-low_bytes, low_bytes-word_of, bytes_low_first-low_bytes, word_of-nil, word_of-cons}
-use Rattle.hazard_core.specs.Commits.{word_at, with_word}
+use Rattle.host_history.specs.list_laws.Bytes.{IsBytes}
+use Rattle.pipe_core.proofs.list_laws.ByteLaws.{IsBytes-take, IsBytes-drop}
+use Rattle.host_history.specs.beat_core.declared.beat.Beat.{Beat}
+use Rattle.host_history.specs.beat_core.Words.{low_bytes, word_of}
+use Rattle.host_history.specs.beat_core.Beats.{first_beats, beat_count, beats_of}
+use Rattle.host_history.proofs.beat_core.WordLaws.{length-low_bytes, take-low_bytes, low_bytes-word_of, bytes_low_first-low_bytes, word_of-nil, word_of-cons}
+use Rattle.pipe_core.specs.hazard_core.Commits.{word_at, with_word}
 use Rattle.host_history.specs.Rows.{words_of, bytes_of}
 
 -- ---- one word

@@ -2,8 +2,8 @@
 use Rattle.std.specs.Prelude.{◌≡◌, ℕ, ◌<◌, ◌≤◌, true, length}
 use Rattle.xdp_maps.specs.Contents.{IsBytes}
 use Rattle.xdp_maps.specs.State.{IsSound}
-use Rattle.hazard_core.specs.Tables.{TableState, decl_of, table_at, slot_at, maps_of}
-use Rattle.hazard_core.specs.Tabled.{AreTables}
+use Rattle.pipe_core.specs.hazard_core.Tables.{TableState, decl_of, table_at, slot_at, maps_of}
+use Rattle.pipe_core.specs.hazard_core.Tabled.{AreTables}
 use Rattle.host_history.specs.Host.{dump, dumped}
 use Rattle.pipe_core.specs.Machine.{State, Build, is_calm, inside}
 use Rattle.host_runs.specs.Runs.{after, outputs, shown_words}

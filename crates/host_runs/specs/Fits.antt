@@ -2,8 +2,8 @@
 use Rattle.std.specs.Prelude.{◌≡◌, ◌≤◌, false, length}
 use Rattle.std.specs.List.{AllByRecursion}
 use Rattle.xdp_maps.specs.State.{MapState, IsSound}
-use Rattle.net_core.specs.declared.ports.Inputs.{Inputs}
-use Rattle.net_core.specs.History.{IsInput}
+use Rattle.host_history.specs.net_core.declared.ports.Inputs.{Inputs}
+use Rattle.host_history.specs.net_core.History.{IsInput}
 use Rattle.host_history.specs.Host.{load, dump}
 
 -- each number fits its port, and no beat is offered or taken

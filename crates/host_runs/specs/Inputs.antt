@@ -1,8 +1,8 @@
 -- What stands at the ports inwards, for the machine of the pipe.
 use Rattle.std.specs.Prelude.{if◌then◌else◌, Some, None}
-use Rattle.beat_core.specs.declared.beat.Beat.{Beat}
-use Rattle.net_core.specs.declared.ports.Inputs.{Inputs}
-use Rattle.hazard_core.specs.declared.access.Access.{Access}
+use Rattle.host_history.specs.beat_core.declared.beat.Beat.{Beat}
+use Rattle.host_history.specs.net_core.declared.ports.Inputs.{Inputs}
+use Rattle.pipe_core.specs.hazard_core.declared.access.Access.{Access}
 use Rattle.pipe_core.specs.Machine.{Input}
 
 abbrev pub beat_in : Inputs → Beat

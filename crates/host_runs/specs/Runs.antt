@@ -1,6 +1,6 @@
 -- The machine of the pipe over a list of clocks, by what stands at the ports in each.
 use Rattle.std.specs.Prelude.{ℕ, List, [], ◌∷◌, map as map_list}
-use Rattle.net_core.specs.declared.ports.Inputs.{Inputs}
+use Rattle.host_history.specs.net_core.declared.ports.Inputs.{Inputs}
 use Rattle.pipe_core.specs.Machine.{State, Output, Build, clock, output}
 use Rattle.host_runs.specs.Inputs.{input_of}
 

@@ -1,8 +1,8 @@
 -- A host that reads changes nothing.
 use Rattle.std.specs.Prelude.{◌≡◌, Some, None, false, List, map as map_list}
 use Rattle.std.specs.List.{AllByRecursion}
-use Rattle.net_core.specs.declared.ports.Inputs.{Inputs}
-use Rattle.hazard_core.specs.declared.access.Access.{Access}
+use Rattle.host_history.specs.net_core.declared.ports.Inputs.{Inputs}
+use Rattle.pipe_core.specs.hazard_core.declared.access.Access.{Access}
 use Rattle.pipe_core.specs.Machine.{State, Input, Build, clock, output}
 use Rattle.pipe_core.specs.History.{Trace, next, run}
 use Rattle.host_runs.specs.Inputs.{input_of}

@@ -1,3 +1,4 @@
+pub use Rattle.xdp_maps.specs as xdp_maps
 pub mod Reasons
 pub mod Numbers
 pub mod Kinds

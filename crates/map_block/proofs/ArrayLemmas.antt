@@ -9,9 +9,9 @@ use Rattle.block_core.specs.Formed.{name_width, block_wires, block_memories}
 use Rattle.xdp_maps.specs.declared.decl.MapDecl.{MapDecl}
 use Rattle.xdp_maps.specs.declared.decl.MapKind.{MapKind}
 use Rattle.xdp_maps.specs.declared.decl.MapKind.TheVariants.{Hash, Array}
-use Rattle.hazard_core.specs.declared.slot.Slot.{Slot}
-use Rattle.hazard_core.specs.Tables.{table_at}
-use Rattle.hazard_core.specs.Commits.{word_count}
+use Rattle.array_net.specs.hazard_core.declared.slot.Slot.{Slot}
+use Rattle.array_net.specs.hazard_core.Tables.{table_at}
+use Rattle.array_net.specs.hazard_core.Commits.{word_count}
 use Rattle.array_net.specs.declared.words.WordNets.{WordNets}
 use Rattle.array_net.specs.declared.block.MapNets.{MapNets}
 use Rattle.array_net.specs.Words.{word_width}

@@ -12,15 +12,15 @@ use Rattle.block_core.specs.Blocks.{BlockTree, memories_of, wires_of, Whole, Amo
 use Rattle.block_core.specs.Parts.{Goes, Within}
 use Rattle.block_core.specs.Order.{IsBefore, InOrder}
 use Rattle.block_core.specs.Formed.{names_scope, name_width, block_wire_width, block_memories, block_wires, IsTypedBlock, StatementReads, IsThere}
-use Rattle.hazard_core.specs.Commits.{word_count}
+use Rattle.array_net.specs.hazard_core.Commits.{word_count}
 use Rattle.array_net.specs.Words.{word_width}
-use Rattle.cell_nets.specs.declared.operand.Operand.{Operand}
-use Rattle.cell_nets.specs.declared.operand.Operand.TheVariants.{Known, Net, Part}
-use Rattle.cell_nets.specs.Operands.{AreFit, IsDeclared, AreDeclared, IsNetOf}
+use Rattle.commit_net.specs.cell_nets.declared.operand.Operand.{Operand}
+use Rattle.commit_net.specs.cell_nets.declared.operand.Operand.TheVariants.{Known, Net, Part}
+use Rattle.commit_net.specs.cell_nets.Operands.{AreFit, IsDeclared, AreDeclared, IsNetOf}
 use Rattle.commit_net.specs.declared.choosing.CommitNets.{CommitNets}
 use Rattle.commit_net.specs.Choosing.{all_read}
 use Rattle.commit_net.specs.Fetching.{IsFetch, fetched_words}
-use Rattle.operand_blocks.specs.Wiring.{IsWiring}
+use Rattle.commit_net.specs.operand_blocks.Wiring.{IsWiring}
 use Rattle.commit_net.specs.Wiring.{word_operand, outside_of}
 use Rattle.commit_net.specs.Wholes.{IsSlotPart}
 use Rattle.map_block.specs.declared.form.MapForm.{MapForm}

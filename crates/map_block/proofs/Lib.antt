@@ -1,3 +1,5 @@
+pub use Rattle.array_net.proofs as array_net
+pub use Rattle.array_net.proofs.frame_net as frame_net
 pub mod FormLemmas
 pub mod HostLemmas
 pub mod MayLemmas

@@ -13,10 +13,10 @@ use Rattle.block_core.specs.Blocks.{BlockTree, Whole}
 use Rattle.block_core.specs.Formed.{names_scope, block_memories}
 use Rattle.xdp_maps.specs.declared.decl.MapDecl.{MapDecl}
 use Rattle.xdp_maps.specs.declared.decl.MapKind.TheVariants.{Hash, Array}
-use Rattle.hazard_core.specs.Commits.{word_count}
-use Rattle.frame_net.specs.GatherNets.{port, constant}
-use Rattle.frame_net.specs.SourcesNets.{held}
-use Rattle.frame_net.proofs.FormLaws.{same_is}
+use Rattle.array_net.specs.hazard_core.Commits.{word_count}
+use Rattle.array_net.specs.frame_net.GatherNets.{port, constant}
+use Rattle.array_net.specs.frame_net.SourcesNets.{held}
+use Rattle.array_net.proofs.frame_net.FormLaws.{same_is}
 use Rattle.array_net.specs.WordTrees.{host_index}
 use Rattle.array_net.specs.ArrayNets.{names_slot, has_word as array_has_word}
 use Rattle.array_net.proofs.WordStoreLaws.{select_is}

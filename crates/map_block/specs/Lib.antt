@@ -1,3 +1,6 @@
+pub use Rattle.array_net.specs.frame_net as frame_net
+pub use Rattle.commit_net.specs.value_net as value_net
+pub use Rattle.xdp_maps.specs as xdp_maps
 pub mod Forms
 pub mod Parts
 pub mod Stored

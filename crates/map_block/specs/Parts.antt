@@ -4,8 +4,8 @@ use Rattle.std.specs.List.{list_all}
 use Rattle.net_core.specs.Ports.{port_list}
 use Rattle.net_core.specs.Value.{Env}
 use Rattle.net_core.specs.Clock.{Stored, done}
-use Rattle.design_rules.specs.FormedSyntax.{right_spelled, statement_spelled}
-use Rattle.product_blocks.specs.Alone.{IsFree}
+use Rattle.array_net.specs.design_rules.FormedSyntax.{right_spelled, statement_spelled}
+use Rattle.array_net.specs.product_blocks.Alone.{IsFree}
 use Rattle.block_core.specs.declared.name.Name.{Name}
 use Rattle.block_core.specs.Blocks.{BlockTree, registers_of, memories_of, Whole, Among}
 use Rattle.block_core.specs.Parts.{Solve, Within}

@@ -9,10 +9,10 @@ use Rattle.block_core.specs.declared.name.Name.TheVariants as name
 use Rattle.xdp_maps.specs.declared.decl.MapDecl.{MapDecl}
 use Rattle.xdp_maps.specs.declared.decl.MapKind.{MapKind}
 use Rattle.xdp_maps.specs.declared.decl.MapKind.TheVariants.{Hash, Array}
-use Rattle.hazard_core.specs.declared.slot.Slot.{Slot}
-use Rattle.hazard_core.specs.declared.access.Access.{Access}
-use Rattle.hazard_core.specs.Tables.{TableState, decl_of, table_at, slot_at, empty_slot}
-use Rattle.hazard_core.specs.Commits.{word_in, may_write, host_written, shown_to_host}
+use Rattle.array_net.specs.hazard_core.declared.slot.Slot.{Slot}
+use Rattle.array_net.specs.hazard_core.declared.access.Access.{Access}
+use Rattle.array_net.specs.hazard_core.Tables.{TableState, decl_of, table_at, slot_at, empty_slot}
+use Rattle.array_net.specs.hazard_core.Commits.{word_in, may_write, host_written, shown_to_host}
 use Rattle.array_net.specs.Hosts.{SeesMemories}
 use Rattle.array_net.specs.Array.{StoresArray, IsZeroed, value_name as array_word}
 use Rattle.array_net.specs.ArrayNets.{has_word as array_may}

@@ -2,7 +2,7 @@
 
 ghost use Rattle.std.specs.Prelude.{◌≡◌, ◌≤◌, All, IfOk, length};
 ghost use Rattle.block_core.specs.View.{block_of};
-ghost use Rattle.hazard_core.specs.Commits.{word_count};
+ghost use Rattle.array_net.specs.hazard_core.Commits.{word_count};
 ghost use Rattle.commit_net.specs.Choosing.{HasOperands};
 ghost use Rattle.commit_net.specs.Fetching.{IsFetch, fetched_words};
 ghost use Rattle.commit_net.specs.Wholes.{IsSlotPart};

@@ -6,14 +6,14 @@ use Rattle.xdp_maps.specs.declared.decl.MapDecl.{MapDecl}
 use Rattle.block_core.specs.declared.name.Name.{Name}
 use Rattle.block_core.specs.Blocks.{BlockTree, Whole}
 use Rattle.block_core.specs.View.{block_of}
-use Rattle.cell_core.specs.Sites.{ProgramView, site_at}
+use Rattle.cell_nets.specs.cell_core.Sites.{ProgramView, site_at}
 use Rattle.cell_nets.specs.declared.operand.Operand.{Operand}
 use Rattle.hazard_core.specs.Tables.{decl_of}
 use Rattle.site_operands.specs.declared.SiteNets.{SiteNets}
 use Rattle.site_operands.specs.Sites.{operands_of}
 use Rattle.commit_net.specs.declared.choosing.CommitNets.{CommitNets}
-use Rattle.touch_net.specs.declared.change.ChangeNets.{ChangeNets}
-use Rattle.touch_net.specs.Touching.{IsChangeNets}
+use Rattle.change_net.specs.touch_net.declared.change.ChangeNets.{ChangeNets}
+use Rattle.change_net.specs.touch_net.Touching.{IsChangeNets}
 use Rattle.change_net.specs.declared.change.ChangePart.{ChangePart}
 use Rattle.change_net.specs.Written.{IsWritten}
 use Rattle.change_net.specs.Changes.{IsChange, StandsFor}
@@ -24,7 +24,7 @@ use Rattle.map_block.specs.declared.form.MapForm.{MapForm}
 use Rattle.map_block.specs.Forms.{IsSuited}
 use Rattle.map_block.specs.Parts.{trees_of}
 use Rattle.map_block.specs.Stored.{host_word}
-use Rattle.pipe_core.specs.Machine.{Build}
+use Rattle.pipe_net.specs.pipe_core.Machine.{Build}
 use Rattle.pipe_draft.specs.declared.draft.Draft.{Draft}
 use Rattle.pipe_draft.specs.declared.places.Behind.{Behind}
 use Rattle.pipe_draft.specs.Draft.{program_in, plan_in, decls_in, IsDraft}
@@ -35,11 +35,11 @@ use Rattle.pipe_net.specs.declared.parts.Sizes.{Sizes}
 use Rattle.pipe_net.specs.Layout.{Layout, ChangeView, program_of, commit_of}
 use Rattle.pipe_net.specs.Parts as part
 use Rattle.pipe_net.specs.Standing.{IsAtPlace}
-use Rattle.pipe_turns.specs.Maps.{decl_at, records_on}
-use Rattle.pipe_turns.specs.Parts.{writes_net, ready_net, form_at, AreTurnParts}
+use Rattle.pipe_maps.specs.pipe_turns.Maps.{decl_at, records_on}
+use Rattle.pipe_maps.specs.pipe_turns.Parts.{writes_net, ready_net, form_at, AreTurnParts}
 use Rattle.target_net.specs.declared.targets.Target.{Target}
-use Rattle.turn_net.specs.Nets.{number_of}
-use Rattle.turn_net.specs.Turns.{record_sites}
+use Rattle.pipe_net.specs.turn_net.Nets.{number_of}
+use Rattle.pipe_net.specs.turn_net.Turns.{record_sites}
 use Rattle.mark_parts.specs.declared.layout.MarkLayout.{MarkLayout}
 use Rattle.mark_parts.specs.Places.{IsAt}
 use Rattle.mark_parts.specs.Marks.{HaveChanges}

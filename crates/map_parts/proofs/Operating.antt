@@ -6,26 +6,26 @@ use Rattle.std.proofs.lemmas.List.{length-map}
 use Rattle.std.proofs.lemmas.List.Elements.{All-cons, All-filter, filter_passes}
 use Rattle.xdp_maps.specs.declared.decl.MapDecl.{MapDecl}
 use Rattle.block_core.specs.declared.name.Name.{Name}
-use Rattle.cell_core.specs.declared.site.Act.{Act}
-use Rattle.cell_core.specs.Formed.{HasWords, IsInside, FitsMap}
-use Rattle.cell_core.specs.Sites.{ProgramView, site_at, records}
+use Rattle.cell_nets.specs.cell_core.declared.site.Act.{Act}
+use Rattle.cell_nets.specs.cell_core.Formed.{HasWords, IsInside, FitsMap}
+use Rattle.cell_nets.specs.cell_core.Sites.{ProgramView, site_at, records}
 use Rattle.cell_nets.specs.declared.operand.Operand.{Operand}
 use Rattle.cell_nets.specs.declared.operand.Operand.TheVariants.{Known}
 use Rattle.cell_nets.specs.Operands.{IsOperand}
 use Rattle.hazard_core.specs.Tables.{decl_of}
-use Rattle.value_net.specs.Words.{IsAligned}
+use Rattle.commit_net.specs.value_net.Words.{IsAligned}
 use Rattle.site_operands.specs.declared.SiteNets.{SiteNets}
 use Rattle.site_operands.specs.Sites.{SiteOperands, operands_of, all_of}
-use Rattle.site_table.specs.Sites.{operand_at}
+use Rattle.pipe_net.specs.site_table.Sites.{operand_at}
 use Rattle.commit_net.specs.declared.choosing.CommitNets.{CommitNets}
 use Rattle.commit_net.specs.Choosing.{HasOperands}
 use Rattle.commit_net.specs.Words.{IsFitting}
 use Rattle.map_block.specs.declared.form.MapForm.{MapForm}
-use Rattle.turn_net.specs.Turns.{record_sites}
+use Rattle.pipe_net.specs.turn_net.Turns.{record_sites}
 use Rattle.target_net.specs.declared.targets.Target.{Target}
 use Rattle.target_net.specs.Targets as targets
 use Rattle.pipe_net.specs.declared.parts.Part.{Part}
-use Rattle.pipe_turns.specs.Maps.{records_on}
+use Rattle.pipe_maps.specs.pipe_turns.Maps.{records_on}
 use Rattle.pipe_draft.specs.declared.draft.Draft.{Draft}
 use Rattle.pipe_draft.specs.declared.places.Behind.{Behind}
 use Rattle.pipe_draft.specs.Draft.{program_in, plan_in, decls_in, IsDraft}

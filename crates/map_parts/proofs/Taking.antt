@@ -6,15 +6,15 @@ use Rattle.std.proofs.lemmas.Bool.{eq-eqb, ne_eqb}
 use Rattle.std.proofs.lemmas.Grind.{get_or_default_zero}
 use Rattle.std.proofs.lemmas.List.{length-map, length_push, take_all}
 use Rattle.block_core.specs.declared.name.Name.{Name}
-use Rattle.cell_core.specs.Sites.{ProgramView, site_at}
-use Rattle.cell_core.specs.View.{site_of}
+use Rattle.cell_nets.specs.cell_core.Sites.{ProgramView, site_at}
+use Rattle.cell_nets.specs.cell_core.View.{site_of}
 use Rattle.cell_nets.specs.declared.operand.Operand.{Operand}
 use Rattle.site_operands.specs.declared.SiteNets.{SiteNets}
 use Rattle.commit_net.specs.declared.choosing.CommitNets.{CommitNets}
-use Rattle.turn_net.specs.Turns.{record_sites}
+use Rattle.pipe_net.specs.turn_net.Turns.{record_sites}
 use Rattle.target_net.specs.declared.targets.Target.{Target}
 use Rattle.pipe_net.specs.declared.parts.Part.{Part}
-use Rattle.pipe_turns.specs.Maps.{records_on}
+use Rattle.pipe_maps.specs.pipe_turns.Maps.{records_on}
 use Rattle.pipe_draft.specs.declared.draft.Draft.{Draft}
 use Rattle.pipe_draft.specs.Draft.{program_in, IsDraft}
 use Rattle.map_parts.specs.Operations.{IsOperation, AreOperations}

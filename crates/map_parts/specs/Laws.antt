@@ -7,7 +7,7 @@ use Rattle.site_operands.specs.declared.SiteNets.{SiteNets}
 use Rattle.change_net.specs.declared.change.ChangePart.{ChangePart}
 use Rattle.pipe_net.specs.declared.parts.Part.{Part}
 use Rattle.pipe_net.specs.Layout.{Layout}
-use Rattle.pipe_turns.specs.Parts.{AreTurnParts}
+use Rattle.pipe_maps.specs.pipe_turns.Parts.{AreTurnParts}
 use Rattle.pipe_maps.specs.Parts.{commits_net, AreMapParts}
 use Rattle.pipe_draft.specs.declared.draft.Draft.{Draft}
 use Rattle.pipe_draft.specs.declared.places.Behind.{Behind}

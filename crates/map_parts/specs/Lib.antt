@@ -1,3 +1,4 @@
+pub use Rattle.pipe_maps.specs as pipe_maps
 pub mod Operations
 pub mod Parts
 pub mod Words

@@ -2,16 +2,16 @@
 use Rattle.std.specs.Prelude.{◌≡◌, ℕ, ◌<◌, All, List, length, slice_index}
 use Rattle.std.proofs.Common.{get_or}
 use Rattle.block_core.specs.declared.name.Name.{Name}
-use Rattle.cell_core.specs.Sites.{ProgramView, site_at}
+use Rattle.cell_nets.specs.cell_core.Sites.{ProgramView, site_at}
 use Rattle.cell_nets.specs.declared.operand.Operand.{Operand}
 use Rattle.cell_nets.specs.Operands.{IsOperand}
 use Rattle.site_operands.specs.declared.SiteNets.{SiteNets}
 use Rattle.commit_net.specs.declared.choosing.CommitNets.{CommitNets}
-use Rattle.turn_net.specs.Turns.{record_sites}
+use Rattle.pipe_net.specs.turn_net.Turns.{record_sites}
 use Rattle.target_net.specs.declared.targets.Target.{Target}
 use Rattle.target_net.specs.Targets.{all_of}
 use Rattle.pipe_net.specs.declared.parts.Part.{Part}
-use Rattle.pipe_turns.specs.Maps.{records_on}
+use Rattle.pipe_maps.specs.pipe_turns.Maps.{records_on}
 use Rattle.pipe_draft.specs.declared.draft.Draft.{Draft}
 use Rattle.pipe_draft.specs.Draft.{program_in, decls_in}
 use Rattle.map_parts.specs.declared.committing.MapCommits.{MapCommits}

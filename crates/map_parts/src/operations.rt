@@ -1,8 +1,8 @@
 //! What stands for the operations on a map.
 
 ghost use Rattle.std.specs.Prelude.{◌≡◌, IfOk, length};
-ghost use Rattle.turn_net.specs.Turns.{record_sites};
-ghost use Rattle.pipe_turns.specs.Maps.{records_on};
+ghost use Rattle.pipe_net.specs.turn_net.Turns.{record_sites};
+ghost use Rattle.pipe_maps.specs.pipe_turns.Maps.{records_on};
 ghost use Rattle.pipe_draft.specs.Draft.{program_in, IsDraft};
 ghost use Rattle.map_parts.specs.Operations.{AreOperations};
 

@@ -3,9 +3,9 @@ use Rattle.std.specs.Prelude.{Option, Contains}
 use Rattle.std.specs.List.{list_all}
 use Rattle.std.proofs.Common.{◌≡◌, ◌⊎◌, inl, inr, ◌∙◌, ℕ, ◌+◌, ◌<◌, Bool, true, false, ◌||◌, All, List, [], ◌∷◌, length, refl, sym, ap, subst, arith, map as map_list}
 use Rattle.std.proofs.lemmas.List.Elements.{All-head, All-tail, Contains-append_cases}
-use Rattle.net_core.specs.declared.tree.Word.{Word}
-use Rattle.net_core.specs.Value.{word, bit as bit_word, Env}
-use Rattle.product_blocks.specs.Alone.{wire_flat}
+use Rattle.cell_nets.specs.net_core.declared.tree.Word.{Word}
+use Rattle.cell_nets.specs.net_core.Value.{word, bit as bit_word, Env}
+use Rattle.cell_nets.specs.product_blocks.Alone.{wire_flat}
 use Rattle.block_core.specs.declared.name.Name.{Name}
 use Rattle.block_core.specs.declared.name.Name.TheVariants as name
 use Rattle.block_core.specs.Blocks.{BlockTree, BlockWireTree}
@@ -14,8 +14,8 @@ use Rattle.block_core.specs.Formed.{IsThere}
 use Rattle.xdp_maps.specs.declared.decl.MapDecl.{MapDecl}
 use Rattle.cell_core.specs.Cells.{bit, on, bits_from}
 use Rattle.cell_core.specs.Sites.{ProgramView}
-use Rattle.hazard_core.specs.Held.{Held}
-use Rattle.hazard_core.specs.declared.change.Change.{Change}
+use Rattle.site_operands.specs.hazard_core.Held.{Held}
+use Rattle.site_operands.specs.hazard_core.declared.change.Change.{Change}
 use Rattle.cell_nets.specs.declared.operand.Operand.{Operand}
 use Rattle.cell_nets.specs.declared.operand.Operand.TheVariants.{Known, Net, Part}
 use Rattle.cell_nets.specs.Operands.{number_in, IsOperand, IsWide, AreFit, IsAvailable, IsNetOf}

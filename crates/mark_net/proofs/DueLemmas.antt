@@ -1,12 +1,12 @@
 -- The part that says whether a mark is due is what it is to be.
 use Rattle.std.specs.List.{list_any}
 use Rattle.std.proofs.Common.{◌≡◌, ◌∙◌, ℕ, Bool, true, false, List, [], ◌∷◌, refl, ap, arith}
-use Rattle.net_core.specs.Value.{word, bit as bit_word, Env}
+use Rattle.cell_nets.specs.net_core.Value.{word, bit as bit_word, Env}
 use Rattle.block_core.specs.declared.name.Name.{Name}
 use Rattle.block_core.specs.Blocks.{BlockWireTree}
 use Rattle.cell_core.specs.Cells.{bit, bits_from}
 use Rattle.cell_core.specs.Sites.{ProgramView}
-use Rattle.hazard_core.specs.Held.{Held}
+use Rattle.site_operands.specs.hazard_core.Held.{Held}
 use Rattle.cell_nets.specs.declared.operand.Operand.{Operand}
 use Rattle.cell_nets.specs.declared.operand.Operand.TheVariants.{Net}
 use Rattle.cell_nets.specs.Operands.{number_in, IsOperand, IsAvailable}

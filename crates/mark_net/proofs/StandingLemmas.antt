@@ -4,14 +4,14 @@ use Rattle.std.specs.List.{list_any}
 use Rattle.std.proofs.Common.{◌≡◌, ◌≢◌, ◌∙◌, ℕ, zero, suc, ◌+◌, ◌<◌, ◌≤◌, Bool, true, false, not, ◌&&◌, ◌||◌, List, [], ◌∷◌, length, get_or, refl, sym, ap, arith, get_or-set_other}
 use Rattle.std.proofs.lemmas.Bool.Decides.{nat_tests}
 use Rattle.std.proofs.lemmas.Bool.{le-leb, eqb-true}
-use Rattle.xdp_machine.specs.State.{PacketIn}
+use Rattle.cell_core.specs.xdp_machine.State.{PacketIn}
 use Rattle.cell_core.specs.Cells.{CellView, on, bits_from}
 use Rattle.cell_core.specs.Rows.{numbers}
 use Rattle.cell_core.specs.Sites.{ProgramView, SiteView, site_at}
-use Rattle.hazard_core.specs.Tables.{TableState}
-use Rattle.hazard_core.specs.Held.{Held, held_value, guard_on, with_cell}
-use Rattle.hazard_core.specs.Rows.{cell_number, cell_pointer, with_made, made_from, with_row}
-use Rattle.hazard_core.specs.Marks.{touches, has_read, known_on, known_off, is_marked}
+use Rattle.site_operands.specs.hazard_core.Tables.{TableState}
+use Rattle.site_operands.specs.hazard_core.Held.{Held, held_value, guard_on, with_cell}
+use Rattle.site_operands.specs.hazard_core.Rows.{cell_number, cell_pointer, with_made, made_from, with_row}
+use Rattle.site_operands.specs.hazard_core.Marks.{touches, has_read, known_on, known_off, is_marked}
 use Rattle.pipe_core.specs.Machine.{packet_of, marked_at, site_numbers, entered, struck, is_due}
 use Rattle.mark_net.specs.Standing.{EnteringStands, EntersUnmarked, StrikingStands, StrikesReadsAlone, DueOfReads}
 

@@ -1,12 +1,12 @@
 -- The block that keeps the marks of the packet at a place.
 use Rattle.std.specs.Prelude.{◌≡◌, true, false, ◌||◌, Option, List, [], ◌∷◌, length, map as map_list, IsTrue}
 use Rattle.std.specs.List.{list_all}
-use Rattle.net_core.specs.declared.tree.Word.{Word}
-use Rattle.net_core.specs.Ports.{port_list}
-use Rattle.net_core.specs.Value.{word, bit as bit_word, Env}
-use Rattle.net_core.specs.Clock.{Stored, done}
-use Rattle.design_rules.specs.FormedSyntax.{statement_spelled}
-use Rattle.product_blocks.specs.Alone.{IsFree}
+use Rattle.cell_nets.specs.net_core.declared.tree.Word.{Word}
+use Rattle.cell_nets.specs.net_core.Ports.{port_list}
+use Rattle.cell_nets.specs.net_core.Value.{word, bit as bit_word, Env}
+use Rattle.cell_nets.specs.net_core.Clock.{Stored, done}
+use Rattle.cell_nets.specs.design_rules.FormedSyntax.{statement_spelled}
+use Rattle.cell_nets.specs.product_blocks.Alone.{IsFree}
 use Rattle.block_core.specs.declared.name.Name.{Name}
 use Rattle.block_core.specs.Blocks.{BlockTree, registers_of, memories_of, first_of, Whole, Among}
 use Rattle.block_core.specs.Parts.{Solve, Goes, Within}
@@ -15,8 +15,8 @@ use Rattle.block_core.specs.Formed.{names_scope, block_registers, IsTypedBlock, 
 use Rattle.xdp_maps.specs.declared.decl.MapDecl.{MapDecl}
 use Rattle.cell_core.specs.Cells.{bit, on}
 use Rattle.cell_core.specs.Sites.{ProgramView}
-use Rattle.hazard_core.specs.Held.{Held}
-use Rattle.hazard_core.specs.declared.change.Change.{Change}
+use Rattle.site_operands.specs.hazard_core.Held.{Held}
+use Rattle.site_operands.specs.hazard_core.declared.change.Change.{Change}
 use Rattle.cell_nets.specs.declared.operand.Operand.{Operand}
 use Rattle.cell_nets.specs.Operands.{number_in, IsOperand, AreFit, AreDeclared, IsNetOf}
 use Rattle.cell_nets.specs.Wires.{is_spelled}

@@ -1,11 +1,11 @@
 -- What registers may say of the marks of the packet at a place.
 use Rattle.std.specs.Prelude.{◌≡◌, ℕ, suc, ◌<◌, Bool, true, false, ◌||◌, length, filter}
 use Rattle.cell_core.specs.Sites.{site_at}
-use Rattle.hazard_core.specs.Tables.{TableState}
-use Rattle.hazard_core.specs.Held.{Held}
-use Rattle.hazard_core.specs.declared.change.Change.{Change}
-use Rattle.hazard_core.specs.Marks.{touches, has_read, known_off}
-use Rattle.beat_core.specs.Ports.{Arrival}
+use Rattle.site_operands.specs.hazard_core.Tables.{TableState}
+use Rattle.site_operands.specs.hazard_core.Held.{Held}
+use Rattle.site_operands.specs.hazard_core.declared.change.Change.{Change}
+use Rattle.site_operands.specs.hazard_core.Marks.{touches, has_read, known_off}
+use Rattle.cell_core.specs.beat_core.Ports.{Arrival}
 use Rattle.pipe_core.specs.Machine.{Packet, Build, site_numbers, marked_at, entered, struck, is_due}
 use Rattle.mark_net.specs.Due.{some_due}
 

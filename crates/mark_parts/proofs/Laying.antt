@@ -16,7 +16,7 @@ use Rattle.control_net.specs.Returns.{due_name}
 use Rattle.hazard_core.specs.Tables.{decl_of}
 use Rattle.hazard_core.specs.Held.{is_update}
 use Rattle.hazard_core.specs.Marks.{has_read}
-use Rattle.held_rows.specs.Fits.{IsMadeBefore}
+use Rattle.pipe_net.specs.held_rows.Fits.{IsMadeBefore}
 use Rattle.site_operands.specs.declared.SiteNets.{SiteNets}
 use Rattle.site_operands.specs.Sites.{SiteOperands, operands_of}
 use Rattle.touch_net.specs.declared.change.OwnKey.{OwnKey}

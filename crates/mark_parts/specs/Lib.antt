@@ -1,3 +1,4 @@
+pub use Rattle.pipe_marks.specs as pipe_marks
 pub mod Places
 pub mod Due
 pub mod Owns

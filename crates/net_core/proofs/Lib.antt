@@ -1,3 +1,5 @@
+pub use Rattle.beat_core.proofs as beat_core
+pub use Rattle.beat_core.proofs.list_laws as list_laws
 pub mod PortLaws
 pub mod LowBitsLaws
 pub mod ClockLaws

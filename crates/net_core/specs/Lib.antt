@@ -1,3 +1,5 @@
+pub use Rattle.beat_core.specs as beat_core
+pub use Rattle.beat_core.specs.list_laws as list_laws
 pub mod Nets
 pub mod Value
 pub mod Clock

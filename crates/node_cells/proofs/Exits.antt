@@ -27,7 +27,7 @@ use Rattle.kind_core.specs.Effects.{effect_of, effect_as, verdict}
 use Rattle.kind_core.specs.Soundness.{StepsAreSound, GoesOn}
 use Rattle.cell_core.specs.Cells.{CellView, on}
 use Rattle.cell_core.specs.Sites.{SiteView, after}
-use Rattle.operator_cells.proofs.MakingLaws.{grown_none, reads_none}
+use Rattle.held_cells.proofs.operator_cells.MakingLaws.{grown_none, reads_none}
 use Rattle.held_cells.specs.declared.held.Held.{Held}
 use Rattle.held_cells.specs.declared.way.Exit.{Exit as End}
 use Rattle.held_cells.specs.Paths.{GraphView, Stage, At, Over, Nowhere, node_at, stepped, maps_in}

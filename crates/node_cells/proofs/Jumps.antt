@@ -25,8 +25,8 @@ use Rattle.kind_core.specs.Describes.{DescribesMachine}
 use Rattle.kind_core.specs.Soundness.{IsPresent, ConditionsAreSound, target}
 use Rattle.cell_core.specs.Cells.{CellView, IsRun, on, bit}
 use Rattle.cell_core.specs.Sites.{SiteView, after}
-use Rattle.operator_cells.specs.Making.{Grows}
-use Rattle.operator_cells.proofs.MakingLaws.{grown, grown_none, reads_none}
+use Rattle.held_cells.specs.operator_cells.Making.{Grows}
+use Rattle.held_cells.proofs.operator_cells.MakingLaws.{grown, grown_none, reads_none}
 use Rattle.held_cells.specs.declared.held.Held.{Held}
 use Rattle.held_cells.specs.declared.way.Way.{Way}
 use Rattle.held_cells.specs.Paths.{GraphView, At, node_at, stepped, maps_in}

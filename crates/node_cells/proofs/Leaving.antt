@@ -10,10 +10,10 @@ use Rattle.bpf_isa.specs.declared.instruction.Insn.{Insn}
 use Rattle.kind_core.specs.declared.kind.Kinds.{Kinds}
 use Rattle.kind_core.specs.Edges.{decided}
 use Rattle.cell_core.specs.Cells.{CellView}
-use Rattle.operator_cells.specs.Rising.{Rises}
-use Rattle.operator_cells.proofs.RisingLaws.{Stand, stand_none, stand_more}
-use Rattle.place_rows.specs.Spans.{one, span_row}
-use Rattle.place_rows.specs.Reading.{right_of}
+use Rattle.held_cells.specs.operator_cells.Rising.{Rises}
+use Rattle.held_cells.proofs.operator_cells.RisingLaws.{Stand, stand_none, stand_more}
+use Rattle.held_cells.specs.place_rows.Spans.{one, span_row}
+use Rattle.held_cells.specs.place_rows.Reading.{right_of}
 use Rattle.held_cells.specs.declared.held.Held.{Held}
 use Rattle.held_cells.specs.declared.way.Way.{Way}
 use Rattle.held_cells.specs.Rows.{undecided_row, leaving_row, LeaveTo}

@@ -21,7 +21,7 @@ use Rattle.kind_core.proofs.TransferLaws.{IsSized, transferred_sized, is_jump, t
 use Rattle.cell_core.specs.Cells.{CellView}
 use Rattle.cell_core.specs.Cells.{on as on_bit}
 use Rattle.cell_core.specs.Sites.{SiteView, after}
-use Rattle.operator_cells.specs.Making.{GrowsWith}
+use Rattle.held_cells.specs.operator_cells.Making.{GrowsWith}
 use Rattle.held_cells.specs.declared.held.Held.{Held}
 use Rattle.held_cells.specs.declared.way.Way.{Way}
 use Rattle.held_cells.specs.Paths.{GraphView, At, node_at, stepped, maps_in}

@@ -28,7 +28,7 @@ use Rattle.kind_core.specs.Access.{loaded, loaded_plain, loaded_signed, stored}
 use Rattle.kind_core.specs.Calls.{helper_of, called}
 use Rattle.kind_core.specs.Profile.{profiled}
 use Rattle.kind_core.specs.Effects.{effect_of, effect_as, verdict, immediate}
-use Rattle.operator_cells.proofs.MakingLaws.{reads_none}
+use Rattle.held_cells.proofs.operator_cells.MakingLaws.{reads_none}
 use Rattle.held_cells.specs.Steps.{ReadsOwn}
 use Rattle.node_cells.specs.Carrying.{is_entry, is_map_helper, touches_map, CarriesOperate}
 use Rattle.node_cells.proofs.Unmapped.{Stays, IsBase, registers_keep, no_access, no_store, store_keeps, call_stays}

@@ -16,7 +16,7 @@ use Rattle.kind_core.specs.declared.kind.Kinds.{Kinds}
 use Rattle.cell_core.specs.Cells.{CellView, IsRun, bit}
 use Rattle.cell_core.specs.Sites.{SiteView, after}
 use Rattle.cell_core.specs.Formed.{FitsMap, IsBelow}
-use Rattle.operator_cells.specs.Making.{GrowsWith}
+use Rattle.held_cells.specs.operator_cells.Making.{GrowsWith}
 use Rattle.held_cells.specs.declared.held.Held.{Held}
 use Rattle.held_cells.specs.declared.way.Way.{Way}
 use Rattle.held_cells.specs.declared.way.Exit.{Exit}

@@ -6,7 +6,7 @@ ghost use Rattle.kind_core.specs.Tests.{passed};
 ghost use Rattle.kind_core.specs.Effects.{effect_of, verdict};
 ghost use Rattle.kind_core.specs.Edges.{decided};
 ghost use Rattle.cell_core.specs.Formed.{AreFormed};
-ghost use Rattle.operator_cells.specs.Making.{seen, Grows};
+ghost use Rattle.held_cells.specs.operator_cells.Making.{seen, Grows};
 ghost use Rattle.held_cells.specs.declared.way.Way.{Way};
 ghost use Rattle.held_cells.specs.Held.{pointed, AreInside};
 ghost use Rattle.held_cells.specs.Rows.{held_row, leaving_row, LeaveTo};

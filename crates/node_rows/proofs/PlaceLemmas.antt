@@ -5,7 +5,7 @@ use Rattle.std.specs.List.{list_any}
 use Rattle.std.proofs.lemmas.List.Folds.{list_any-append}
 use Rattle.std.proofs.lemmas.Bool.{cases_lt, le-ltb, lt-leb}
 use Rattle.std.proofs.lemmas.List.{get_or_past, get_or-set_same, get_or-set_other, ext_get_or, length-map, get_or-map}
-use Rattle.cell_core.specs.Rows.{greatest, numbers}
+use Rattle.place_rows.specs.cell_core.Rows.{greatest, numbers}
 use Rattle.place_rows.specs.declared.origin.Origin.{Origin}
 use Rattle.kind_core.specs.declared.kind.Kinds.{Kinds}
 use Rattle.place_rows.specs.declared.span.Span.{Span}

@@ -1,6 +1,6 @@
 -- Which programs are accepted, with their stages, and the first refusal of the others.
 use Rattle.std.specs.Prelude.{◌≡◌, ◌⊎◌, List}
-use Rattle.xdp_machine.specs.Program.{XdpProgram}
+use Rattle.xdp_object.specs.xdp_machine.Program.{XdpProgram}
 use Rattle.kind_core.specs.declared.why.Refusal.{Refusal}
 use Rattle.unfold_core.specs.declared.links.Edge.{Edge}
 use Rattle.unfold_core.specs.Unfolding.{links}

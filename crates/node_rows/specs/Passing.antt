@@ -7,7 +7,7 @@ use Rattle.bpf_isa.specs.declared.instruction.Insn.{Insn}
 use Rattle.xdp_maps.specs.declared.decl.MapDecl.{MapDecl}
 use Rattle.kind_core.specs.declared.kind.Kinds.{Kinds}
 use Rattle.kind_core.specs.Edges.{decided}
-use Rattle.cell_core.specs.Cells.{bit}
+use Rattle.place_rows.specs.cell_core.Cells.{bit}
 use Rattle.place_rows.specs.declared.origin.Origin.{Origin}
 use Rattle.place_rows.specs.declared.span.Span.{Span}
 use Rattle.place_rows.specs.declared.recording.Record.{Record}

@@ -3,7 +3,7 @@ use Rattle.std.specs.Prelude.{ℕ, zero, suc, ◌≡◌, ◌+◌, ◌<◌, ◌�
 use Rattle.std.specs.List.{filter}
 use Rattle.bpf_isa.specs.declared.instruction.Insn.{Insn}
 use Rattle.bpf_isa.specs.Text.{insn_at}
-use Rattle.xdp_machine.specs.Program.{XdpProgram}
+use Rattle.xdp_object.specs.xdp_machine.Program.{XdpProgram}
 use Rattle.kind_core.specs.declared.kind.Kinds.{Kinds}
 use Rattle.kind_core.specs.Kinds as kinds
 use Rattle.kind_core.specs.declared.why.Refusal.{Refusal}
@@ -11,7 +11,7 @@ use Rattle.kind_core.specs.declared.why.Why.TheVariants.{Stages as TooManyStages
 use Rattle.kind_core.specs.declared.why.BuildError.{BuildError}
 use Rattle.kind_core.specs.declared.why.BuildError.TheVariants.{Refused, NoMemory}
 use Rattle.kind_core.specs.Edges.{transferred}
-use Rattle.cell_core.specs.Cells.{bit}
+use Rattle.place_rows.specs.cell_core.Cells.{bit}
 use Rattle.unfold_core.specs.declared.edges.Point.{Point}
 use Rattle.unfold_core.specs.declared.links.Edge.{Edge}
 use Rattle.unfold_core.specs.declared.unfolding.Unfolded.{Unfolded}

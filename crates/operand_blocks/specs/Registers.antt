@@ -5,14 +5,14 @@ use Rattle.net_core.specs.declared.tree.Word.{Word}
 use Rattle.net_core.specs.Ports.{port_list}
 use Rattle.net_core.specs.Value.{word, Env}
 use Rattle.net_core.specs.Clock.{Stored, done}
-use Rattle.design_rules.specs.FormedSyntax.{right_spelled, statement_spelled}
-use Rattle.product_rules.specs.Products.{statement_flat}
+use Rattle.frame_net.specs.design_rules.FormedSyntax.{right_spelled, statement_spelled}
+use Rattle.frame_net.specs.product_rules.Products.{statement_flat}
 use Rattle.block_core.specs.declared.name.Name.{Name}
 use Rattle.block_core.specs.Blocks.{BlockTree, BlockWireTree, registers_of, memories_of, first_of, Whole}
 use Rattle.block_core.specs.Parts.{Solve, Goes, Within}
 use Rattle.block_core.specs.Order.{IsBefore, InOrder}
 use Rattle.block_core.specs.Formed.{names_scope, block_registers, IsTypedBlock, StatementReads, IsThere}
-use Rattle.cell_core.specs.Cells.{bits_from}
+use Rattle.cell_nets.specs.cell_core.Cells.{bits_from}
 use Rattle.cell_nets.specs.declared.operand.Operand.{Operand}
 use Rattle.cell_nets.specs.Operands.{number_in, AreFit, AreDeclared, IsNetOf}
 use Rattle.cell_nets.specs.Wires.{behind}

@@ -2,7 +2,7 @@
 use Rattle.std.specs.Prelude.{◌≡◌, ℕ, suc, List, [], ◌∷◌}
 use Rattle.net_core.specs.Nets.{Tree, StatementTree, SSet, SBlock, SEnd}
 use Rattle.net_core.specs.Chains.{statements_before}
-use Rattle.cell_core.specs.Cells.{bits_from}
+use Rattle.cell_nets.specs.cell_core.Cells.{bits_from}
 use Rattle.cell_nets.specs.declared.operand.Operand.{Operand}
 use Rattle.cell_nets.specs.Operands.{number_in, IsAvailable}
 use Rattle.cell_nets.specs.Parts.{IsSlice}

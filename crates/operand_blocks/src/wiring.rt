@@ -1,9 +1,9 @@
 //! Blocks of wires alone.
 
-ghost use Rattle.std.specs.Prelude.{◌≡◌, [], ◌∷◌, ◌++◌, length, IfOk, OnOk};
+ghost use Rattle.std.specs.Prelude.{◌≡◌, Some, [], ◌∷◌, ◌++◌, length, IfOk, OnOk};
 ghost use Rattle.net_core.specs.View.{right_of};
 ghost use Rattle.block_core.specs.View.{block_of};
-ghost use Rattle.cell_core.specs.Cells.{bits_from};
+ghost use Rattle.cell_nets.specs.cell_core.Cells.{bits_from};
 ghost use Rattle.cell_nets.specs.Operands.{IsOperand, IsWide, number_in};
 ghost use Rattle.cell_nets.specs.Wires.{wires_of, always, Gives};
 ghost use Rattle.operand_blocks.specs.Wiring.{wires_block};
@@ -36,7 +36,17 @@ fn push<P: Copy>(
     Ok(Name::Wire(part, number))
 }
 
-/// So many low bits of an operand as a net: a wire of its own.
+// The net that an operand is, where it has just so many bits.
+fn whole_net<N: Copy>(a: Operand<N>, width: u8) -> Option<N>
+    ensures { (n : N) → result ≡ Some n → a ≡ Operand.Net n width }
+{
+    match a {
+        Operand::Net(net, of) => { if of == width { Some(net) } else { None } }
+        _ => None,
+    }
+}
+
+/// So many low bits of an operand as a net: the net that it is, where it has just these, or else a wire of its own.
 pub fn named<P: Copy>(
     alloc: Global,
     wires: &mut Vec<BlockWire<Name<P>>>,
@@ -48,6 +58,9 @@ pub fn named<P: Copy>(
     requires width { IsWide width }
     ensures { IfOk result (λ n. Gives part (wires_of wires.old.items) (wires_of wires.new.items) (a ∷ []) always (λ v. bits_from (number_in v a) 0 width) width (Operand.Net n width)) }
 {
+    if let Some(net) = whole_net(a, width) {
+        return Ok(net);
+    }
     let e = slice(alloc, a, 0, width)?;
     let n = push(wires, part, width, e)?;
     Ok(n)

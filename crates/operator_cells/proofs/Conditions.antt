@@ -3,13 +3,13 @@ use Rattle.std.proofs.Common.{◌≡◌, ℕ, ◌-◌, ◌^◌, ◌<◌, Bool, t
 use Rattle.std.specs.Prelude.{◌==◌, bit_and}
 use Rattle.std.proofs.lemmas.Bool.Decides.{nat_tests}
 use Rattle.std.proofs.lemmas.Int.{ints}
-use Rattle.bits_core.specs.Bits.{signed_of}
+use Rattle.bpf_isa.specs.bits_core.Bits.{signed_of}
 use Rattle.bpf_isa.specs.declared.operation.Width.{Width}
 use Rattle.bpf_isa.specs.declared.operation.Width.TheVariants.{Bits32, Bits64}
 use Rattle.bpf_isa.specs.declared.operation.JumpCode.{JumpCode}
 use Rattle.bpf_isa.specs.declared.operation.JumpCode.TheVariants.{Jeq, Jgt, Jge, Jset, Jne, Jsgt, Jsge, Jlt, Jle, Jslt, Jsle}
-use Rattle.xdp_machine.specs.Arithmetic.{bits_in, low, arithmetic, holds}
-use Rattle.xdp_machine.proofs.NumberLaws.{widened}
+use Rattle.xdp_state.specs.xdp_machine.Arithmetic.{bits_in, low, arithmetic, holds}
+use Rattle.xdp_state.proofs.xdp_machine.NumberLaws.{widened}
 use Rattle.bpf_isa.specs.declared.operation.AluCode.TheVariants.{And}
 use Rattle.std.specs.Int.Bits.{and_lt}
 use Rattle.cell_core.specs.Cells.{bit, joined, bits_from}

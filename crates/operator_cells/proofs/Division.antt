@@ -6,9 +6,9 @@ use Rattle.std.proofs.lemmas.Nat.{pow_pos}
 use Rattle.std.proofs.Math.Nat.{pow-le-pow_right, mod-le, div-le_self}
 use Rattle.bpf_isa.specs.declared.operation.Width.{Width}
 use Rattle.bpf_isa.specs.declared.operation.Width.TheVariants.{Bits32, Bits64}
-use Rattle.xdp_machine.specs.State.{PacketIn}
-use Rattle.xdp_machine.specs.Arithmetic.{bits_in, low, arithmetic}
-use Rattle.xdp_machine.proofs.NumberLaws.{widened}
+use Rattle.xdp_state.specs.xdp_machine.State.{PacketIn}
+use Rattle.xdp_state.specs.xdp_machine.Arithmetic.{bits_in, low, arithmetic}
+use Rattle.xdp_state.proofs.xdp_machine.NumberLaws.{widened}
 use Rattle.cell_core.specs.declared.operator.Operator.TheVariants.{Wire, NonZero}
 use Rattle.cell_core.specs.Cells.{CellView, cell_at, bit, on, number, bits_from, is_read, is_heavy}
 use Rattle.cell_core.specs.Formed.{IsSome, takes, AreInputs, IsInRange}

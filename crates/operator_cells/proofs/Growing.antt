@@ -5,7 +5,7 @@ use Rattle.std.proofs.Math.ListN.{get_or-append}
 use Rattle.std.proofs.Math.Seq.{get_or-append_seam}
 use Rattle.std.proofs.lemmas.Bool.{cases_lt}
 use Rattle.std.proofs.lemmas.List.{length-map, get_or-map}
-use Rattle.xdp_machine.specs.State.{PacketIn}
+use Rattle.xdp_state.specs.xdp_machine.State.{PacketIn}
 use Rattle.cell_core.specs.declared.cell.Cell.{Cell}
 use Rattle.cell_core.specs.declared.operator.Operator.{Operator}
 use Rattle.cell_core.specs.Cells.{CellView, IsRun, no_cell, cell_at, is_read, site_in, value, Solves_as}
@@ -112,21 +112,26 @@ grows_one R cells cell n reads = record {
         subst (λ (j : ℕ). IsAlone (cell_at (cells ++ cell ∷ []) j).op (cell_at (cells ++ cell ∷ []) j).ins) is
         (subst (λ (c : CellView). IsAlone c.op c.ins) (sym (new-cell cells cell)) n.alone)
 
+-- a cell that reads no map has the value of its operator
+pub value_at : (packet : PacketIn) (v : ℕ → ℕ) (cells : List CellView) (cell : CellView) (k : ℕ) → k < length cells → cell_at cells k ≡ cell → is_read cell.op ≡ false → IsRun packet cells v
+    → v k ≡ value packet v cell
+value_at packet v cells cell k there is plain r = solved (subst (λ (c : CellView). Solves_as (is_read c.op) packet v c (v k)) is (r.each k there))
+  where
+    solved : Solves_as (is_read cell.op) packet v cell (v k) → v k ≡ value packet v cell
+    solved h = rw plain at h
+
 pub makes_one : (cells : List CellView) (cell : CellView) → IsNext cells cell → is_read cell.op ≡ false
     → Makes cells (cells ++ cell ∷ []) (length cells) (operated cell.op cell.ins cell.from cell.width)
 makes_one cells cell n plain = record {
   grows = grows_one (λ k j. ⊥) cells cell n (unread cell.op plain);
   there = omega (arith, one-longer cells cell);
-  value = λ packet v r. solved packet v (subst (λ (c : CellView). Solves_as (is_read c.op) packet v c (v (length cells))) (new-cell cells cell) (r.each (length cells) (omega (arith, one-longer cells cell))));
+  value = λ packet v r. value_at packet v (cells ++ cell ∷ []) cell (length cells) (omega (arith, one-longer cells cell)) (new-cell cells cell) plain r;
 }
   where
     unread : (op : Operator) → is_read op ≡ false → (j : ℕ) → site_in op ≡ Some j → ⊥
     unread (Operator.Found s) p j e = absurd (cc)
     unread (Operator.Answer s) p j e = absurd (cc)
     unread op p j e = absurd (cc)
-
-    solved : (packet : PacketIn) (v : ℕ → ℕ) → Solves_as (is_read cell.op) packet v cell (v (length cells)) → v (length cells) ≡ value packet v cell
-    solved packet v h = rw plain at h
 
 -- one more cell that reads at most this site
 pub added_grows : (old new : List CellView) (c : ℕ) (cell : CellView) (site : ℕ) → Adds old new c cell → IsNext old cell → site_in cell.op ≡ Some site → GrowsWith (λ k j. j ≡ site) old new

@@ -11,3 +11,4 @@ pub mod Bytes
 pub mod Division
 pub mod SignedDivision
 pub mod Spread
+pub mod Standing

@@ -7,9 +7,9 @@ use Rattle.bpf_isa.specs.declared.operation.Width.{Width}
 use Rattle.bpf_isa.specs.declared.operation.Width.TheVariants.{Bits32, Bits64}
 use Rattle.bpf_isa.specs.declared.operation.AluCode.{AluCode}
 use Rattle.bpf_isa.specs.declared.operation.AluCode.TheVariants as alu
-use Rattle.xdp_machine.specs.Arithmetic.{bits_in, low, arithmetic, negated}
-use Rattle.xdp_machine.specs.State.{PacketIn}
-use Rattle.xdp_machine.proofs.NumberLaws.{widened}
+use Rattle.xdp_state.specs.xdp_machine.Arithmetic.{bits_in, low, arithmetic, negated}
+use Rattle.xdp_state.specs.xdp_machine.State.{PacketIn}
+use Rattle.xdp_state.proofs.xdp_machine.NumberLaws.{widened}
 use Rattle.cell_core.specs.declared.operator.Operator.TheVariants as op
 use Rattle.cell_core.specs.Cells.{number, bits_from, is_read}
 use Rattle.cell_core.specs.Formed.{takes, divides, AreInputs, IsInRange}

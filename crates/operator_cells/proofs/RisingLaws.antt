@@ -3,7 +3,7 @@ use Rattle.std.proofs.Common.{◌≡◌, ℕ, ◌+◌, ◌<◌, ◌≤◌, ◌�
 use Rattle.std.proofs.lemmas.Bool.{cases_lt}
 use Rattle.std.proofs.lemmas.Grind.{reverse_onto}
 use Rattle.std.proofs.lemmas.List.{take-append-drop}
-use Rattle.xdp_maps.specs.Calls.{patched}
+use Rattle.xdp_state.specs.xdp_maps.Calls.{patched}
 use Rattle.cell_core.specs.Cells.{CellView, is_heavy, bit}
 use Rattle.cell_core.specs.Rows.{AreRows, greatest}
 use Rattle.operator_cells.specs.Making.{GrowsWith, Adds}
@@ -31,10 +31,10 @@ rows_before R old new g row rows = record {
   each = λ k h. subst (λ (c : CellView). row k ≡ greatest row c.ins + bit (is_heavy c.op)) (g.kept k h) (rows.each k (omega (arith, h, g.longer)));
 }
 
-abbrev row_of : CellView → (ℕ → ℕ) → ℕ
+abbrev pub row_of : CellView → (ℕ → ℕ) → ℕ
 row_of cell row = greatest row cell.ins + bit (is_heavy cell.op)
 
-abbrev IsMade : (ℕ → ℕ) → ℕ → CellView → Type 0
+abbrev pub IsMade : (ℕ → ℕ) → ℕ → CellView → Type 0
 IsMade row k cell = row k ≡ row_of cell row
 
 -- a cell that is added

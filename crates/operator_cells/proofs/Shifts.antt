@@ -5,8 +5,8 @@ use Rattle.std.proofs.Math.Nat.{mod-mod, div-le_self}
 use Rattle.bpf_isa.specs.declared.operation.Width.{Width}
 use Rattle.bpf_isa.specs.declared.operation.Width.TheVariants.{Bits32, Bits64}
 use Rattle.bpf_isa.specs.declared.operation.AluCode.TheVariants.{Lsh, Rsh}
-use Rattle.xdp_machine.specs.Arithmetic.{bits_in, low, arithmetic}
-use Rattle.xdp_machine.proofs.NumberLaws.{widened}
+use Rattle.xdp_state.specs.xdp_machine.Arithmetic.{bits_in, low, arithmetic}
+use Rattle.xdp_state.proofs.xdp_machine.NumberLaws.{widened}
 use Rattle.cell_core.specs.Cells.{bits_from, joined}
 use Rattle.operator_cells.specs.Shifting.{count_bits}
 use Rattle.operator_cells.proofs.Numbers.{from_zero, low_same, low_below}

@@ -2,7 +2,7 @@
 use Rattle.std.specs.Prelude.{ℕ, ◌+◌, ◌-◌, ◌^◌, Bool, true, false}
 use Rattle.bpf_isa.specs.declared.operation.JumpCode.{JumpCode}
 use Rattle.bpf_isa.specs.declared.operation.JumpCode.TheVariants.{Jgt, Jge, Jsgt, Jsge, Jlt, Jle, Jslt, Jsle}
-use Rattle.xdp_machine.specs.Arithmetic.{low}
+use Rattle.xdp_state.specs.xdp_machine.Arithmetic.{low}
 
 -- the low w bits of a number with the highest of them turned
 abbrev pub turned : ℕ → ℕ → ℕ

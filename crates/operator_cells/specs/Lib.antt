@@ -6,3 +6,4 @@ pub mod Shifting
 pub mod Spreading
 pub mod Comparing
 pub mod Following
+pub mod Standing

@@ -1,7 +1,7 @@
 // Conditions of jumps.
 
 ghost use Rattle.std.specs.Prelude.{◌≡◌, ◌<◌, ◌-◌, ◌^◌, ◌==◌, nat_lt, nat_le, false, length, IfOk, max, ◌+◌};
-ghost use Rattle.xdp_machine.specs.Arithmetic.{bits_in, low, holds};
+ghost use Rattle.xdp_state.specs.xdp_machine.Arithmetic.{bits_in, low, holds};
 ghost use Rattle.cell_core.specs.Cells.{bit};
 ghost use Rattle.cell_core.specs.Formed.{AreFormed};
 ghost use Rattle.operator_cells.specs.Making.{seen, Makes};

@@ -1,7 +1,7 @@
 // Division.
 
 ghost use Rattle.std.specs.Prelude.{◌≡◌, ◌<◌, ◌==◌, if◌then◌else◌, false, true, length, IfOk, max, ◌+◌};
-ghost use Rattle.xdp_machine.specs.Arithmetic.{bits_in, low, arithmetic, negated};
+ghost use Rattle.xdp_state.specs.xdp_machine.Arithmetic.{bits_in, low, arithmetic, negated};
 ghost use Rattle.cell_core.specs.Cells.{on};
 ghost use Rattle.cell_core.specs.Formed.{AreFormed};
 ghost use Rattle.operator_cells.specs.Making.{seen, Makes};

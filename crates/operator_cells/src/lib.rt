@@ -11,6 +11,7 @@ pub mod dividing;
 pub mod joining;
 pub mod laws;
 pub mod leaving;
+pub mod sharing;
 pub mod shifting;
 pub mod slicing;
 pub mod spreading;

@@ -1,8 +1,8 @@
 // Shifts.
 
 ghost use Rattle.std.specs.Prelude.{ℕ, ◌≡◌, ◌<◌, ◌-◌, ◌/◌, ◌^◌, ◌*◌, ◌%◌, length, IfOk, Bool, max, ◌+◌};
-ghost use Rattle.bits_core.specs.Bits.{arsh_of};
-ghost use Rattle.xdp_machine.specs.Arithmetic.{bits_in, low, arithmetic};
+ghost use Rattle.bpf_isa.specs.bits_core.Bits.{arsh_of};
+ghost use Rattle.xdp_state.specs.xdp_machine.Arithmetic.{bits_in, low, arithmetic};
 ghost use Rattle.cell_core.specs.Cells.{bits_from};
 ghost use Rattle.cell_core.specs.Formed.{AreFormed};
 ghost use Rattle.operator_cells.specs.Making.{seen, Makes};

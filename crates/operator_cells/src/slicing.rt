@@ -2,7 +2,7 @@
 
 ghost use Rattle.std.specs.Prelude.{ℕ, ◌≡◌, ◌<◌, ◌≤◌, ◌⊎◌, length, IfOk, All, List, map as map_list};
 ghost use Rattle.byteorder.specs.Endian.{little_number};
-ghost use Rattle.xdp_machine.specs.Arithmetic.{bits_in, low, extended};
+ghost use Rattle.xdp_state.specs.xdp_machine.Arithmetic.{bits_in, low, extended};
 ghost use Rattle.cell_core.specs.Cells.{cell_at};
 ghost use Rattle.cell_core.specs.Formed.{AreFormed};
 ghost use Rattle.operator_cells.specs.Making.{seen, Makes, MakesIf};
@@ -10,6 +10,7 @@ ghost use Rattle.cell_core.specs.Rows.{greatest};
 ghost use Rattle.operator_cells.specs.Rising.{Rises};
 
 use crate::cells::{operate, slice};
+use crate::sharing::share;
 use crate::working::bits;
 use bpf_isa::Width;
 use cell_core::cell::Cell;
@@ -65,6 +66,6 @@ pub fn join_bytes(cells: &mut Vec<Cell>, bytes: &[u32]) -> Result<u32, AllocErro
     let mut ins = Vec::from_slice(*cells.allocator(), bytes)?;
     ins.reverse();
     let width = 8 * bytes.len() as u32;
-    let c = operate(cells, Operator::Join(8), &ins, 0, width)?;
+    let c = share(cells, Operator::Join(8), &ins, 0, width)?;
     Ok(c)
 }

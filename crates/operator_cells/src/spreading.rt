@@ -2,10 +2,10 @@
 
 ghost use Rattle.std.specs.Prelude.{◌≡◌, ◌<◌, ◌≤◌, ◌+◌, ◌⊎◌, length, IfOk, max};
 ghost use Rattle.byteorder.specs.Endian.{little_number, little_bytes};
-ghost use Rattle.bits_core.specs.Bits.{reversed_of};
-ghost use Rattle.xdp_maps.specs.Calls.{patched};
-ghost use Rattle.xdp_machine.specs.Arithmetic.{low, ordered};
-ghost use Rattle.xdp_machine.specs.Memory.{bytes_in, number_at};
+ghost use Rattle.bpf_isa.specs.bits_core.Bits.{reversed_of};
+ghost use Rattle.xdp_state.specs.xdp_maps.Calls.{patched};
+ghost use Rattle.xdp_state.specs.xdp_machine.Arithmetic.{low, ordered};
+ghost use Rattle.xdp_state.specs.xdp_machine.Memory.{bytes_in, number_at};
 ghost use Rattle.operator_cells.specs.Making.{seen, Makes};
 ghost use Rattle.operator_cells.specs.Spreading.{MakesBytes};
 ghost use Rattle.operator_cells.specs.Rising.{Rises, RiseAll};

@@ -1,7 +1,7 @@
 // Arithmetic.
 
 ghost use Rattle.std.specs.Prelude.{◌≡◌, ◌<◌, true, length, IfOk, Bool, max, ◌+◌};
-ghost use Rattle.xdp_machine.specs.Arithmetic.{bits_in, low, arithmetic, negated};
+ghost use Rattle.xdp_state.specs.xdp_machine.Arithmetic.{bits_in, low, arithmetic, negated};
 ghost use Rattle.cell_core.specs.Formed.{AreFormed};
 ghost use Rattle.operator_cells.specs.Making.{seen, Makes, is_one, operator_of};
 ghost use Rattle.cell_core.specs.Cells.{bit, is_heavy};

@@ -10,11 +10,11 @@ use Rattle.xdp_maps.specs.Calls.{number_of}
 use Rattle.cell_core.specs.declared.site.Act.TheVariants as act
 use Rattle.cell_core.specs.Cells.{bit, on, bits_from, phi}
 use Rattle.cell_core.specs.Sites.{ProgramView, site_at, bytes_of, operation_with}
-use Rattle.hazard_core.specs.Tables.{TableState, decl_of, table_at, used_count}
-use Rattle.hazard_core.specs.Held.{Held, held_value, is_null, adds_key, takes_key}
-use Rattle.hazard_core.specs.Overlay.{key_pointer, update_answer, delete_answer, answer_as, answer_over}
+use Rattle.site_operands.specs.hazard_core.Tables.{TableState, decl_of, table_at, used_count}
+use Rattle.site_operands.specs.hazard_core.Held.{Held, held_value, is_null, adds_key, takes_key}
+use Rattle.site_operands.specs.hazard_core.Overlay.{key_pointer, update_answer, delete_answer, answer_as, answer_over}
 use Rattle.cell_nets.proofs.NarrowLemmas.{from_zero}
-use Rattle.net_core.specs.Value.{Env}
+use Rattle.cell_nets.specs.net_core.Value.{Env}
 use Rattle.block_core.specs.Blocks.{BlockWireTree}
 use Rattle.block_core.specs.declared.name.Name.{Name}
 use Rattle.byteorder.specs.Endian.{little_number}

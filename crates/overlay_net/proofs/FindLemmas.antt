@@ -6,7 +6,7 @@ use Rattle.std.proofs.lemmas.List.Elements.{All-append}
 use Rattle.std.proofs.lemmas.List.Sums.{fold_more}
 use Rattle.block_core.specs.Blocks.{BlockWireTree}
 use Rattle.block_core.specs.declared.name.Name.{Name}
-use Rattle.net_core.specs.Value.{Env}
+use Rattle.cell_nets.specs.net_core.Value.{Env}
 use Rattle.xdp_maps.specs.declared.decl.MapDecl.{MapDecl}
 use Rattle.xdp_maps.specs.declared.decl.MapKind.TheVariants as kind
 use Rattle.xdp_maps.specs.Operations.{key_in}
@@ -14,11 +14,11 @@ use Rattle.cell_core.specs.declared.site.Act.{Act}
 use Rattle.cell_core.specs.declared.site.Act.TheVariants as act
 use Rattle.cell_core.specs.Cells.{bit, on}
 use Rattle.cell_core.specs.Sites.{ProgramView, site_at, bytes_of, operation_with}
-use Rattle.hazard_core.specs.Tables.{TableState, decl_of, table_at}
-use Rattle.hazard_core.specs.declared.pointer.Pointer.{Pointer}
-use Rattle.hazard_core.specs.declared.pointer.Pointer.TheVariants.{Null}
-use Rattle.hazard_core.specs.Held.{Held, held_value, asked_key, slot_pointer, writes, written_pointer}
-use Rattle.hazard_core.specs.Overlay.{found_as, found_over, key_pointer_as, key_pointer, looks, found_pointer}
+use Rattle.site_operands.specs.hazard_core.Tables.{TableState, decl_of, table_at}
+use Rattle.site_operands.specs.hazard_core.declared.pointer.Pointer.{Pointer}
+use Rattle.site_operands.specs.hazard_core.declared.pointer.Pointer.TheVariants.{Null}
+use Rattle.site_operands.specs.hazard_core.Held.{Held, held_value, asked_key, slot_pointer, writes, written_pointer}
+use Rattle.site_operands.specs.hazard_core.Overlay.{found_as, found_over, key_pointer_as, key_pointer, looks, found_pointer}
 use Rattle.cell_nets.specs.declared.operand.Operand.{Operand}
 use Rattle.cell_nets.specs.Operands.{number_in, IsAvailable}
 use Rattle.cell_nets.specs.Wires.{always, Gives}

@@ -14,7 +14,7 @@ use Rattle.byteorder.specs.Numbers.{length-bytes_low_first}
 use Rattle.byteorder.proofs.Bytes.{take-bytes_low_first, pow256}
 use Rattle.cell_core.specs.Cells.{bits_from}
 use Rattle.cell_core.specs.Sites.{spelled, bytes_of}
-use Rattle.net_core.specs.Value.{Env}
+use Rattle.cell_nets.specs.net_core.Value.{Env}
 use Rattle.cell_nets.specs.declared.operand.Operand.{Operand}
 use Rattle.cell_nets.specs.Operands.{number_in}
 

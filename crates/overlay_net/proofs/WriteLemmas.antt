@@ -2,7 +2,7 @@
 use Rattle.std.specs.Prelude.{not, if◌then◌else◌}
 use Rattle.std.proofs.Common.{◌≡◌, ◌≢◌, ◌∙◌, ℕ, ◌+◌, ◌*◌, ◌==◌, ◌<◌, Bool, true, false, ◌&&◌, List, refl, sym, ap, arith}
 use Rattle.std.proofs.lemmas.Bool.{eqb-true}
-use Rattle.net_core.specs.Value.{Env}
+use Rattle.cell_nets.specs.net_core.Value.{Env}
 use Rattle.xdp_maps.specs.declared.decl.MapDecl.{MapDecl}
 use Rattle.xdp_maps.specs.declared.decl.MapKind.{MapKind}
 use Rattle.xdp_maps.specs.declared.decl.MapKind.TheVariants as kind
@@ -10,11 +10,11 @@ use Rattle.cell_core.specs.declared.site.Act.{Act}
 use Rattle.cell_core.specs.declared.site.Act.TheVariants as act
 use Rattle.cell_core.specs.Cells.{bit, on}
 use Rattle.cell_core.specs.Sites.{ProgramView, site_at, records}
-use Rattle.hazard_core.specs.Tables.{TableState, decl_of}
-use Rattle.hazard_core.specs.declared.pointer.Pointer.{Pointer}
-use Rattle.hazard_core.specs.declared.pointer.Pointer.TheVariants.{Null, InSlot, Pending}
-use Rattle.hazard_core.specs.Held.{is_null, Held, held_value, answer_cell, is_update, is_delete, writes_as, writes, adds_key, takes_key, pointer_in, found_cell, update_pointer, written_as, written_pointer}
-use Rattle.hazard_core.specs.Overlay.{found_as}
+use Rattle.site_operands.specs.hazard_core.Tables.{TableState, decl_of}
+use Rattle.site_operands.specs.hazard_core.declared.pointer.Pointer.{Pointer}
+use Rattle.site_operands.specs.hazard_core.declared.pointer.Pointer.TheVariants.{Null, InSlot, Pending}
+use Rattle.site_operands.specs.hazard_core.Held.{is_null, Held, held_value, answer_cell, is_update, is_delete, writes_as, writes, adds_key, takes_key, pointer_in, found_cell, update_pointer, written_as, written_pointer}
+use Rattle.site_operands.specs.hazard_core.Overlay.{found_as}
 use Rattle.cell_nets.specs.Operands.{number_in}
 use Rattle.site_operands.specs.Pointers.{pointer_number}
 use Rattle.site_operands.specs.Sites.{SiteOperands, ShowsSite}

@@ -2,16 +2,16 @@
 
 ghost use Rattle.std.specs.Prelude.{ℕ, ℤ, List, [], ◌∷◌, ◌++◌, ◌≡◌, ◌==◌, ◌+◌, ◌*◌, ◌^◌, ◌<◌, ◌≤◌, not, nat_le, All, length, slice_index, count_by, if◌then◌else◌, IfOk, OnOk, map as map_list};
 ghost use Rattle.std.specs.Int.{w64, cast_unsigned};
-ghost use Rattle.net_core.specs.Value.{Env};
+ghost use Rattle.cell_nets.specs.net_core.Value.{Env};
 ghost use Rattle.xdp_maps.specs.declared.decl.MapDecl.{MapDecl};
 ghost use Rattle.xdp_maps.specs.declared.decl.MapKind.TheVariants as kind;
 ghost use Rattle.xdp_maps.specs.Calls.{hash_refusal, array_refusal, number_of};
 ghost use Rattle.cell_core.specs.declared.site.Act.TheVariants as act;
 ghost use Rattle.cell_core.specs.Cells.{bit, on, bits_from, phi};
 ghost use Rattle.cell_core.specs.Sites.{ProgramView, site_at};
-ghost use Rattle.hazard_core.specs.Tables.{TableState, table_at, used_count};
-ghost use Rattle.hazard_core.specs.Held.{Held, adds_key, takes_key};
-ghost use Rattle.hazard_core.specs.Overlay.{answer_over};
+ghost use Rattle.site_operands.specs.hazard_core.Tables.{TableState, table_at, used_count};
+ghost use Rattle.site_operands.specs.hazard_core.Held.{Held, adds_key, takes_key};
+ghost use Rattle.site_operands.specs.hazard_core.Overlay.{answer_over};
 ghost use Rattle.cell_nets.specs.Operands.{IsOperand, IsNarrow, IsWide, number_in};
 ghost use Rattle.cell_nets.specs.Wires.{wires_of, always, HasBits, Gives};
 ghost use Rattle.site_operands.specs.Sites.{operands_of, all_of, ShowsAsked};

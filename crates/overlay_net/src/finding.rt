@@ -2,13 +2,13 @@
 
 ghost use Rattle.std.specs.Prelude.{ℕ, List, ◌∷◌, ◌++◌, ◌≡◌, ◌&&◌, ◌*◌, ◌≤◌, All, length, slice_index, if◌then◌else◌, IfOk, map as map_list};
 ghost use Rattle.std.specs.Str.{bytes_eq};
-ghost use Rattle.net_core.specs.Value.{Env};
+ghost use Rattle.cell_nets.specs.net_core.Value.{Env};
 ghost use Rattle.cell_core.specs.Cells.{on};
 ghost use Rattle.cell_core.specs.Sites.{ProgramView, site_at, bytes_of};
-ghost use Rattle.hazard_core.specs.Tables.{TableState, decl_of};
-ghost use Rattle.hazard_core.specs.declared.pointer.Pointer.{Pointer};
-ghost use Rattle.hazard_core.specs.Held.{Held};
-ghost use Rattle.hazard_core.specs.Overlay.{found_over, key_pointer, found_pointer};
+ghost use Rattle.site_operands.specs.hazard_core.Tables.{TableState, decl_of};
+ghost use Rattle.site_operands.specs.hazard_core.declared.pointer.Pointer.{Pointer};
+ghost use Rattle.site_operands.specs.hazard_core.Held.{Held};
+ghost use Rattle.site_operands.specs.hazard_core.Overlay.{found_over, key_pointer, found_pointer};
 ghost use Rattle.cell_nets.specs.Operands.{IsOperand, IsNarrow, IsWide, IsAvailable, number_in};
 ghost use Rattle.cell_nets.specs.Wires.{wires_of, always, HasBits, Gives};
 ghost use Rattle.site_operands.specs.Pointers.{pointer_number};

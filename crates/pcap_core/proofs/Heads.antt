@@ -9,7 +9,7 @@ use Rattle.pcap_core.specs.declared.error.PcapError.TheVariants.{Short, Magic, V
 use Rattle.pcap_core.specs.Number.{number, spelled}
 use Rattle.pcap_core.specs.Format.{IsMagic, BeginsIn, IsVersion, IsHeaderFault}
 use Rattle.pcap_core.specs.Reading.{is_magic, is_version, order_of, tested, header_of}
-use Rattle.list_laws.specs.Bytes.{IsBytes}
+use Rattle.beat_core.specs.list_laws.Bytes.{IsBytes}
 
 -- ---- tests and choices
 

@@ -13,8 +13,8 @@ use Rattle.pcap_core.proofs.Numbers.{wide4}
 use Rattle.pcap_core.proofs.Parts.{behind, number_behind, four_parts, five_before}
 use Rattle.pcap_core.proofs.Heads.{either}
 use Rattle.beat_core.specs.declared.frame.TheConstants.{FRAME_LIMIT}
-use Rattle.list_laws.specs.Bytes.{IsBytes}
-use Rattle.list_laws.proofs.ByteLaws.{IsBytes-drop, IsBytes-take}
+use Rattle.beat_core.specs.list_laws.Bytes.{IsBytes}
+use Rattle.beat_core.proofs.list_laws.ByteLaws.{IsBytes-drop, IsBytes-take}
 
 -- ---- the cases of a record
 

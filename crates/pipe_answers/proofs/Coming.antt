@@ -4,13 +4,13 @@ use Rattle.std.specs.List.{AllByRecursion}
 use Rattle.std.proofs.Common.{sym, subst}
 use Rattle.std.proofs.lemmas.List.{get_or-map, length-map}
 use Rattle.std.specs.FinMap as map
-use Rattle.beat_core.specs.declared.beat.Beat.{Beat}
+use Rattle.pipe_core.specs.beat_core.declared.beat.Beat.{Beat}
 use Rattle.xdp_maps.specs.declared.decl.MapDecl.{MapDecl}
 use Rattle.xdp_maps.specs.Contents.{Contents, IsOver, opened}
 use Rattle.xdp_maps.specs.Laws.{KeepsOver}
 use Rattle.xdp_maps.specs.State.{no_decl, decl_at, opened_state}
-use Rattle.net_core.specs.declared.ports.Inputs.{Inputs}
-use Rattle.host_history.specs.Host.{load}
+use Rattle.host_runs.specs.net_core.declared.ports.Inputs.{Inputs}
+use Rattle.host_runs.specs.host_history.Host.{load}
 use Rattle.pipe_core.specs.Machine.{Build, beat_over}
 use Rattle.pipe_core.specs.History.{Trace, next, run, begin}
 use Rattle.host_runs.specs.Inputs.{input_of}

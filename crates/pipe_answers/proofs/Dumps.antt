@@ -2,21 +2,21 @@
 use Rattle.std.specs.Prelude.{◌≡◌, ℕ, false, List, [], ◌∷◌, map as map_list}
 use Rattle.std.specs.List.{AllByRecursion}
 use Rattle.std.proofs.Common.{refl, ap, ◌∙◌}
-use Rattle.net_core.specs.declared.tree.Word.{Word}
-use Rattle.net_core.specs.declared.ports.Inputs.{Inputs}
-use Rattle.net_core.specs.Nets.{Netlist}
-use Rattle.net_core.specs.Ports.{words_of}
-use Rattle.net_core.specs.Clock.{Stored, after}
-use Rattle.net_core.specs.History.{trace}
-use Rattle.host_history.specs.Host as host
-use Rattle.host_history.specs.Host.{dump, dumped}
+use Rattle.host_runs.specs.net_core.declared.tree.Word.{Word}
+use Rattle.host_runs.specs.net_core.declared.ports.Inputs.{Inputs}
+use Rattle.host_runs.specs.net_core.Nets.{Netlist}
+use Rattle.host_runs.specs.net_core.Ports.{words_of}
+use Rattle.host_runs.specs.net_core.Clock.{Stored, after}
+use Rattle.host_runs.specs.net_core.History.{trace}
+use Rattle.host_runs.specs.host_history.Host as host
+use Rattle.host_runs.specs.host_history.Host.{dump, dumped}
 use Rattle.pipe_core.specs.Machine.{Build, output}
 use Rattle.pipe_core.specs.History.{Trace, next, run, begin}
 use Rattle.pipe_core.specs.Pipeable.{IsSuited}
 use Rattle.host_runs.specs.Inputs.{input_of}
 use Rattle.host_runs.specs.Runs.{outputs, shown_words}
 use Rattle.host_runs.specs.Dumps.{DumpsMaps}
-use Rattle.pipe_net.specs.Layout.{Layout}
+use Rattle.pipe_maps.specs.pipe_net.Layout.{Layout}
 use Rattle.pipe_answers.specs.Going.{IsGoing, GoOn, BeginGoing}
 use Rattle.pipe_answers.specs.Following.{FollowsAlways}
 use Rattle.pipe_answers.specs.Dumps.{RunsGoOn, DumpsAreShown}

@@ -3,17 +3,17 @@ use Rattle.std.specs.Prelude.{◌≡◌, false, List, [], ◌∷◌, ◌++◌, m
 use Rattle.std.specs.List.{AllByRecursion}
 use Rattle.std.proofs.Common.{subst}
 use Rattle.xdp_maps.specs.State.{opened_state}
-use Rattle.net_core.specs.declared.ports.Inputs.{Inputs}
-use Rattle.net_core.specs.Nets.{Netlist}
-use Rattle.net_core.specs.Ports.{words_of}
-use Rattle.net_core.specs.Clock.{Stored, after}
-use Rattle.net_core.specs.History.{NeverStops, stored_after}
-use Rattle.host_history.specs.Host.{load}
+use Rattle.host_runs.specs.net_core.declared.ports.Inputs.{Inputs}
+use Rattle.host_runs.specs.net_core.Nets.{Netlist}
+use Rattle.host_runs.specs.net_core.Ports.{words_of}
+use Rattle.host_runs.specs.net_core.Clock.{Stored, after}
+use Rattle.host_runs.specs.net_core.History.{NeverStops, stored_after}
+use Rattle.host_runs.specs.host_history.Host.{load}
 use Rattle.pipe_core.specs.Machine.{Build}
 use Rattle.pipe_core.specs.History.{Trace, next, run, begin}
 use Rattle.host_runs.specs.Inputs.{input_of}
 use Rattle.host_runs.specs.Loads.{LoadsTraces}
-use Rattle.pipe_net.specs.Layout.{Layout}
+use Rattle.pipe_maps.specs.pipe_net.Layout.{Layout}
 use Rattle.pipe_answers.specs.Going.{AreRightClocks}
 use Rattle.pipe_answers.specs.Loading.{LoadedRunsAreRight}
 use Rattle.pipe_answers.specs.Coming.{AllMayCome, LoadsMayCome}

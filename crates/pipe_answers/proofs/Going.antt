@@ -3,8 +3,8 @@ use Rattle.std.specs.Prelude.{◌≡◌, false, List, [], ◌∷◌}
 use Rattle.std.specs.List.{AllByRecursion}
 use Rattle.std.proofs.Common.{refl, sym, ◌∙◌, subst}
 use Rattle.xdp_maps.specs.declared.decl.MapDecl.{MapDecl}
-use Rattle.net_core.specs.declared.ports.Inputs.{Inputs}
-use Rattle.cell_core.specs.Formed.{AllFit}
+use Rattle.host_runs.specs.net_core.declared.ports.Inputs.{Inputs}
+use Rattle.pipe_core.specs.cell_core.Formed.{AllFit}
 use Rattle.pipe_core.specs.History.{Trace, next, begin, KeepsOrder, IsAlwaysInOrder}
 use Rattle.pipe_core.specs.Watched.{Watched, Seen, observed, watch_start, seen_after, views_after, rest_of}
 use Rattle.pipe_core.specs.Watched as watched
@@ -13,7 +13,7 @@ use Rattle.pipe_core.specs.Agreed as agreed
 use Rattle.pipe_core.specs.Right.{IsRight, TurnsAreRight, KeepsRight, IsAlwaysRight}
 use Rattle.host_runs.specs.Inputs.{input_of, access_in}
 use Rattle.host_runs.specs.Silent.{silent, ReadsAreSilent}
-use Rattle.pipe_net.specs.Layout.{Layout}
+use Rattle.pipe_maps.specs.pipe_net.Layout.{Layout}
 use Rattle.pipe_maps.specs.Keys.{KeysFollow, KeysBegin}
 use Rattle.pipe_answers.specs.Going.{IsGoing, AreRightClocks, RightTurns, GoOn, BeginGoing, RunsAreRight}
 use Rattle.pipe_answers.proofs.Silence.{written_none, silent_turn}

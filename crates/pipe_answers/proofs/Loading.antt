@@ -2,16 +2,16 @@
 use Rattle.std.specs.Prelude.{◌≡◌, ℕ, zero, suc, if◌then◌else◌, Bool, true, false, Option, None, Some, List, [], ◌∷◌, ◌++◌, length, drop, map as map_list}
 use Rattle.std.specs.List.{AllByRecursion}
 use Rattle.std.proofs.Common.{refl, sym, ap, ◌∙◌, subst, arith}
-use Rattle.beat_core.specs.Ports.{Arrival}
+use Rattle.pipe_core.specs.beat_core.Ports.{Arrival}
 use Rattle.xdp_maps.specs.State.{opened_state}
-use Rattle.net_core.specs.declared.ports.Inputs.{Inputs}
-use Rattle.host_history.specs.Host.{load}
+use Rattle.host_runs.specs.net_core.declared.ports.Inputs.{Inputs}
+use Rattle.host_runs.specs.host_history.Host.{load}
 use Rattle.pipe_core.specs.Machine.{Packet, State, Build, Commits, place_at, inside, some_send, swept, turn_of, turn_as, commits_as, commits_or_moves, chosen, host_writes, host_ready, is_calm, beat_over, is_ready}
 use Rattle.pipe_core.specs.History.{Trace, next, run, begin, came_in, IsInOrder, KeepsOrder, IsAlwaysInOrder}
 use Rattle.host_runs.specs.Inputs.{input_of, beat_in}
 use Rattle.host_runs.specs.Loads.{LoadsTraces}
 use Rattle.host_runs.specs.Fits.{IsHostClock, LoadsFit}
-use Rattle.pipe_net.specs.Layout.{Layout}
+use Rattle.pipe_maps.specs.pipe_net.Layout.{Layout}
 use Rattle.pipe_answers.specs.Going.{IsRightClock, AreRightClocks, RunsAreRight}
 use Rattle.pipe_answers.specs.Loading.{EmptyRunsAreRight, LoadedRunsAreRight}
 

@@ -3,8 +3,8 @@ use Rattle.std.specs.Prelude.{◌≡◌, None, List, [], ◌∷◌, ◌++◌, ma
 use Rattle.std.specs.List.{AllByRecursion}
 use Rattle.std.proofs.Common.{refl, sym, ap, ◌∙◌, subst}
 use Rattle.xdp_maps.specs.State.{opened_state}
-use Rattle.net_core.specs.declared.ports.Inputs.{Inputs}
-use Rattle.host_history.specs.Host.{load}
+use Rattle.host_runs.specs.net_core.declared.ports.Inputs.{Inputs}
+use Rattle.host_runs.specs.host_history.Host.{load}
 use Rattle.pipe_core.specs.Machine.{Input, Build}
 use Rattle.pipe_core.specs.History.{Trace, next, run, begin, IsAlwaysInOrder}
 use Rattle.pipe_core.specs.InTurn.{RunsInTurn, FinalMaps}

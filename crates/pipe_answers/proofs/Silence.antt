@@ -1,14 +1,14 @@
 -- The turn of a clock in which the host writes nothing.
 use Rattle.std.specs.Prelude.{◌≡◌, ℕ, ◌&&◌, if◌then◌else◌, Bool, true, false, Option, Some, None}
 use Rattle.std.proofs.Common.{refl, ap}
-use Rattle.net_core.specs.declared.ports.Inputs.{Inputs}
-use Rattle.hazard_core.specs.declared.access.Access.{Access}
-use Rattle.hazard_core.specs.Tables.{TableState, table_at, slot_at}
-use Rattle.hazard_core.specs.Commits.{word_in, may_write}
+use Rattle.host_runs.specs.net_core.declared.ports.Inputs.{Inputs}
+use Rattle.pipe_core.specs.hazard_core.declared.access.Access.{Access}
+use Rattle.pipe_core.specs.hazard_core.Tables.{TableState, table_at, slot_at}
+use Rattle.pipe_core.specs.hazard_core.Commits.{word_in, may_write}
 use Rattle.pipe_core.specs.Machine.{State, Build, swept, turn_as, written_if, host_writes, host_ready, is_calm}
 use Rattle.host_runs.specs.Inputs.{input_of}
 use Rattle.host_runs.specs.Silent.{silent}
-use Rattle.pipe_net.specs.Saying.{turn_in}
+use Rattle.pipe_maps.specs.pipe_net.Saying.{turn_in}
 
 nothing_written : (ready calm : Bool) (t : TableState) (a : Access) → a.write ≡ None → host_writes ready calm t (Some a) ≡ None
 nothing_written ready calm t a e = none (ready && may_write calm (slot_at (table_at t a.map) a.index) (word_in t a)) a.write e

@@ -1,13 +1,13 @@
 -- What may come while maps are loaded.
 use Rattle.std.specs.Prelude.{◌≡◌, ◌≤◌, false, List, [], ◌∷◌, ◌++◌, length}
 use Rattle.xdp_maps.specs.State.{MapState, IsSound, opened_state}
-use Rattle.net_core.specs.declared.ports.Inputs.{Inputs}
-use Rattle.net_core.specs.History.{IsInput}
-use Rattle.host_history.specs.Host.{load}
+use Rattle.host_runs.specs.net_core.declared.ports.Inputs.{Inputs}
+use Rattle.host_runs.specs.net_core.History.{IsInput}
+use Rattle.host_runs.specs.host_history.Host.{load}
 use Rattle.pipe_core.specs.Machine.{State, Build}
 use Rattle.pipe_core.specs.History.{Trace, next, begin}
 use Rattle.host_runs.specs.Inputs.{input_of}
-use Rattle.pipe_net.specs.Machine.{MayCome}
+use Rattle.pipe_maps.specs.pipe_net.Machine.{MayCome}
 
 -- only what may come does, in clocks one after another
 abbrev pub AllMayCome : Build → List Inputs → Trace → Type 0

@@ -2,16 +2,16 @@
 use Rattle.std.specs.Prelude.{◌≡◌, true, false, List, map as map_list}
 use Rattle.std.specs.List.{AllByRecursion}
 use Rattle.xdp_maps.specs.State.{MapState, IsSound}
-use Rattle.net_core.specs.declared.ports.Inputs.{Inputs}
-use Rattle.net_core.specs.Nets.{Netlist}
-use Rattle.net_core.specs.Clock.{Stored}
-use Rattle.host_history.specs.Host.{dump, ShowsMaps}
-use Rattle.hazard_core.specs.Tables.{maps_of}
+use Rattle.host_runs.specs.net_core.declared.ports.Inputs.{Inputs}
+use Rattle.host_runs.specs.net_core.Nets.{Netlist}
+use Rattle.host_runs.specs.net_core.Clock.{Stored}
+use Rattle.host_runs.specs.host_history.Host.{dump, ShowsMaps}
+use Rattle.pipe_core.specs.hazard_core.Tables.{maps_of}
 use Rattle.pipe_core.specs.Machine.{is_calm}
 use Rattle.pipe_core.specs.History.{Trace, run, begin}
 use Rattle.pipe_core.specs.Pipeable.{IsSuited}
 use Rattle.host_runs.specs.Inputs.{input_of}
-use Rattle.pipe_net.specs.Layout.{Layout}
+use Rattle.pipe_maps.specs.pipe_net.Layout.{Layout}
 use Rattle.pipe_answers.specs.Going.{IsGoing}
 use Rattle.pipe_answers.specs.Following.{FollowsAlways}
 

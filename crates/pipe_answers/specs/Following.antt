@@ -2,18 +2,18 @@
 use Rattle.std.specs.Prelude.{◌≡◌, ◌≤◌, false, None, List, [], ◌∷◌, ◌++◌, length, map as map_list}
 use Rattle.std.specs.List.{AllByRecursion}
 use Rattle.xdp_maps.specs.State.{MapState, IsSound, opened_state}
-use Rattle.net_core.specs.declared.ports.Inputs.{Inputs}
-use Rattle.net_core.specs.Nets.{Netlist}
-use Rattle.net_core.specs.Ports.{words_of}
-use Rattle.net_core.specs.Clock.{Stored, after, shown, stopping}
-use Rattle.net_core.specs.History.{IsInput, NeverStops, stored_after}
-use Rattle.host_history.specs.Host.{load}
+use Rattle.host_runs.specs.net_core.declared.ports.Inputs.{Inputs}
+use Rattle.host_runs.specs.net_core.Nets.{Netlist}
+use Rattle.host_runs.specs.net_core.Ports.{words_of}
+use Rattle.host_runs.specs.net_core.Clock.{Stored, after, shown, stopping}
+use Rattle.host_runs.specs.net_core.History.{IsInput, NeverStops, stored_after}
+use Rattle.host_runs.specs.host_history.Host.{load}
 use Rattle.pipe_core.specs.Machine.{Build, output}
 use Rattle.pipe_core.specs.History.{Trace, next, run, begin}
 use Rattle.pipe_core.specs.Pipeable.{IsSuited}
 use Rattle.host_runs.specs.Inputs.{input_of}
-use Rattle.pipe_net.specs.Machine.{MayCome, Shows}
-use Rattle.pipe_net.specs.Layout.{Layout}
+use Rattle.pipe_maps.specs.pipe_net.Machine.{MayCome, Shows}
+use Rattle.pipe_maps.specs.pipe_net.Layout.{Layout}
 use Rattle.pipe_answers.specs.Going.{IsRightClock}
 use Rattle.pipe_answers.specs.Coming.{AllMayCome}
 

@@ -2,17 +2,17 @@
 use Rattle.std.specs.Prelude.{◌≡◌, ℕ, ◌≤◌, false, Some, List, [], ◌∷◌}
 use Rattle.std.specs.List.{AllByRecursion}
 use Rattle.xdp_maps.specs.State.{MapState, IsSound}
-use Rattle.net_core.specs.declared.ports.Inputs.{Inputs}
-use Rattle.hazard_core.specs.Tables.{TableState}
-use Rattle.hazard_core.specs.Tabled.{AreTables}
+use Rattle.host_runs.specs.net_core.declared.ports.Inputs.{Inputs}
+use Rattle.pipe_core.specs.hazard_core.Tables.{TableState}
+use Rattle.pipe_core.specs.hazard_core.Tabled.{AreTables}
 use Rattle.pipe_core.specs.Machine.{Packet, State, place_at}
 use Rattle.pipe_core.specs.History.{Trace, next, begin, IsInOrder}
 use Rattle.pipe_core.specs.Watched.{Seen}
 use Rattle.pipe_core.specs.Pipeable.{IsSuited}
 use Rattle.pipe_core.specs.Right.{IsRight}
 use Rattle.host_runs.specs.Inputs.{input_of}
-use Rattle.pipe_net.specs.Layout.{Layout, last_of}
-use Rattle.pipe_turns.specs.Turning.{IsRightTurn}
+use Rattle.pipe_maps.specs.pipe_net.Layout.{Layout, last_of}
+use Rattle.pipe_maps.specs.pipe_turns.Turning.{IsRightTurn}
 use Rattle.pipe_maps.specs.Premises.{HoldKeys}
 
 -- The tables are tables of the layout's maps, with keys and values of bytes; and there are changes that packets have seen and tables that they agree with.

@@ -2,9 +2,9 @@
 use Rattle.std.specs.Prelude.{◌≡◌, false, List, ◌++◌, map as map_list}
 use Rattle.std.specs.List.{AllByRecursion}
 use Rattle.xdp_maps.specs.State.{MapState, IsSound, opened_state}
-use Rattle.net_core.specs.declared.ports.Inputs.{Inputs}
-use Rattle.host_history.specs.Host.{load}
-use Rattle.hazard_core.specs.Tables.{maps_of}
+use Rattle.host_runs.specs.net_core.declared.ports.Inputs.{Inputs}
+use Rattle.host_runs.specs.host_history.Host.{load}
+use Rattle.pipe_core.specs.hazard_core.Tables.{maps_of}
 use Rattle.pipe_core.specs.Machine.{Build, inside}
 use Rattle.pipe_core.specs.History.{Trace, run, begin, IsInOrder}
 use Rattle.pipe_core.specs.Sequential.{AreCellRuns}

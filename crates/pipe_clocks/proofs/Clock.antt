@@ -1,27 +1,27 @@
 -- What the parts say to one another in a clock.
 use Rattle.std.specs.Prelude.{◌≤◌, length}
 use Rattle.std.proofs.Common.{arith}
-use Rattle.net_core.specs.declared.ports.Inputs.{Inputs}
-use Rattle.net_core.specs.Ports.{port_list, words_of}
-use Rattle.net_core.specs.Value.{Env}
-use Rattle.net_core.specs.Clock.{Stored, done}
-use Rattle.net_core.specs.History.{IsInput}
-use Rattle.block_core.specs.declared.name.Name.{Name}
-use Rattle.block_core.specs.Blocks.{Whole}
-use Rattle.block_core.specs.Parts.{Sees}
-use Rattle.block_core.specs.Formed.{names_scope, IsThere, IsFormed}
-use Rattle.cell_core.specs.Formed.{AllFit}
-use Rattle.turn_net.specs.Nets.{signals, all_read}
+use Rattle.pipe_frames.specs.net_core.declared.ports.Inputs.{Inputs}
+use Rattle.pipe_frames.specs.net_core.Ports.{port_list, words_of}
+use Rattle.pipe_frames.specs.net_core.Value.{Env}
+use Rattle.pipe_frames.specs.net_core.Clock.{Stored, done}
+use Rattle.pipe_frames.specs.net_core.History.{IsInput}
+use Rattle.pipe_frames.specs.block_core.declared.name.Name.{Name}
+use Rattle.pipe_frames.specs.block_core.Blocks.{Whole}
+use Rattle.pipe_frames.specs.block_core.Parts.{Sees}
+use Rattle.pipe_frames.specs.block_core.Formed.{names_scope, IsThere, IsFormed}
+use Rattle.pipe_core.specs.cell_core.Formed.{AllFit}
+use Rattle.pipe_maps.specs.turn_net.Nets.{signals, all_read}
 use Rattle.pipe_turns.specs.Parts.{turn_nets}
 use Rattle.pipe_core.specs.Machine.{State, clock}
 use Rattle.pipe_core.specs.History.{Trace, IsInOrder}
 use Rattle.pipe_core.specs.Computed.{IsComputed}
-use Rattle.pipe_net.specs.declared.parts.Part.{Part}
-use Rattle.pipe_net.specs.Machine.{input_of, MayCome}
-use Rattle.pipe_net.specs.Layout.{Layout, program_of, last_of, commit_of}
-use Rattle.pipe_net.specs.Relation.{HoldMaps, Relates}
-use Rattle.pipe_net.specs.Saying.{ShowDues, ShowReturns, ShowChanges, ShowAnswers}
-use Rattle.pipe_net.specs.Standing.{ShowPackets}
+use Rattle.pipe_frames.specs.pipe_net.declared.parts.Part.{Part}
+use Rattle.pipe_frames.specs.pipe_net.Machine.{input_of, MayCome}
+use Rattle.pipe_frames.specs.pipe_net.Layout.{Layout, program_of, last_of, commit_of}
+use Rattle.pipe_frames.specs.pipe_net.Relation.{HoldMaps, Relates}
+use Rattle.pipe_frames.specs.pipe_net.Saying.{ShowDues, ShowReturns, ShowChanges, ShowAnswers}
+use Rattle.pipe_frames.specs.pipe_net.Standing.{ShowPackets}
 use Rattle.pipe_frames.specs.Returning.{PlacesReturn}
 use Rattle.pipe_frames.specs.Following.{OthersSay, ShowFrames, FramesGo, FramesFollow}
 use Rattle.pipe_marks.specs.Following.{MarksAreFit, DuesAreShown, MarksFollow}

@@ -1,19 +1,19 @@
 -- The clocks of a pipeline are those of the machine.
 use Rattle.std.specs.Prelude.{ℕ, List}
-use Rattle.net_core.specs.declared.ports.Inputs.{Inputs}
-use Rattle.net_core.specs.Ports.{port_list, words_of}
-use Rattle.net_core.specs.Clock.{Stored, done, shown}
-use Rattle.net_core.specs.History.{IsInput}
-use Rattle.block_core.specs.Blocks.{Whole, first_of}
-use Rattle.block_core.specs.Parts.{ClockOfParts, stored_of}
-use Rattle.block_core.proofs.LinkedLaws.{linked, starts_as_parts}
+use Rattle.pipe_frames.specs.net_core.declared.ports.Inputs.{Inputs}
+use Rattle.pipe_frames.specs.net_core.Ports.{port_list, words_of}
+use Rattle.pipe_frames.specs.net_core.Clock.{Stored, done, shown}
+use Rattle.pipe_frames.specs.net_core.History.{IsInput}
+use Rattle.pipe_frames.specs.block_core.Blocks.{Whole, first_of}
+use Rattle.pipe_frames.specs.block_core.Parts.{ClockOfParts, stored_of}
+use Rattle.pipe_frames.proofs.block_core.LinkedLaws.{linked, starts_as_parts}
 use Rattle.pipe_core.specs.Machine.{output}
 use Rattle.pipe_core.specs.History.{Trace, IsInOrder}
 use Rattle.pipe_core.specs.Computed.{IsComputed}
-use Rattle.pipe_net.specs.declared.parts.Part.{Part}
-use Rattle.pipe_net.specs.Machine.{input_of, MayCome, Shows}
-use Rattle.pipe_net.specs.Layout.{Layout}
-use Rattle.pipe_net.specs.Relation.{Relates}
+use Rattle.pipe_frames.specs.pipe_net.declared.parts.Part.{Part}
+use Rattle.pipe_frames.specs.pipe_net.Machine.{input_of, MayCome, Shows}
+use Rattle.pipe_frames.specs.pipe_net.Layout.{Layout}
+use Rattle.pipe_frames.specs.pipe_net.Relation.{Relates}
 use Rattle.pipe_frames.specs.Following.{FramesBegin}
 use Rattle.pipe_marks.specs.Following.{MarksBegin}
 use Rattle.pipe_turns.specs.Following.{TurnBegins}

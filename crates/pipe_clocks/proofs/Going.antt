@@ -1,25 +1,25 @@
 -- No divisor in a clock is 0.
 use Rattle.std.specs.Prelude.{◌≡◌, ℕ, ◌<◌, ◌≤◌, is_some, drop, length}
 use Rattle.std.proofs.Common.{sym, subst, refl, arith}
-use Rattle.xdp_maps.specs.declared.decl.MapKind.{MapKind}
-use Rattle.xdp_maps.specs.declared.decl.MapKind.TheVariants.{Hash, Array}
-use Rattle.net_core.specs.declared.ports.Inputs.{Inputs}
-use Rattle.net_core.specs.Value.{Env}
-use Rattle.net_core.specs.Clock.{Stored}
-use Rattle.block_core.specs.declared.name.Name.{Name}
-use Rattle.block_core.specs.Blocks.{BlockTree, Whole, Among}
-use Rattle.block_core.specs.Parts.{Solve, Goes}
-use Rattle.map_block.specs.Parts.{SolveAll, Each, AreParts as AreMapParts}
+use Rattle.pipe_marks.specs.xdp_maps.declared.decl.MapKind.{MapKind}
+use Rattle.pipe_marks.specs.xdp_maps.declared.decl.MapKind.TheVariants.{Hash, Array}
+use Rattle.pipe_frames.specs.net_core.declared.ports.Inputs.{Inputs}
+use Rattle.pipe_frames.specs.net_core.Value.{Env}
+use Rattle.pipe_frames.specs.net_core.Clock.{Stored}
+use Rattle.pipe_frames.specs.block_core.declared.name.Name.{Name}
+use Rattle.pipe_frames.specs.block_core.Blocks.{BlockTree, Whole, Among}
+use Rattle.pipe_frames.specs.block_core.Parts.{Solve, Goes}
+use Rattle.pipe_maps.specs.map_block.Parts.{SolveAll, Each, AreParts as AreMapParts}
 use Rattle.pipe_core.specs.Machine.{State, place_at, some_send}
 use Rattle.pipe_core.specs.History.{Trace}
-use Rattle.turn_net.specs.Turns.{Signals}
-use Rattle.turn_net.specs.Turn.{SeesTurn}
-use Rattle.pipe_net.specs.declared.parts.Part.{Part}
-use Rattle.pipe_net.specs.Parts as part
-use Rattle.pipe_net.specs.Parts.{part_count}
-use Rattle.pipe_net.specs.Machine.{input_of}
-use Rattle.pipe_net.specs.Layout.{Layout, program_of, commit_of, last_of}
-use Rattle.pipe_net.specs.Saying.{turn_in, is_host}
+use Rattle.pipe_maps.specs.turn_net.Turns.{Signals}
+use Rattle.pipe_maps.specs.turn_net.Turn.{SeesTurn}
+use Rattle.pipe_frames.specs.pipe_net.declared.parts.Part.{Part}
+use Rattle.pipe_frames.specs.pipe_net.Parts as part
+use Rattle.pipe_frames.specs.pipe_net.Parts.{part_count}
+use Rattle.pipe_frames.specs.pipe_net.Machine.{input_of}
+use Rattle.pipe_frames.specs.pipe_net.Layout.{Layout, program_of, commit_of, last_of}
+use Rattle.pipe_frames.specs.pipe_net.Saying.{turn_in, is_host}
 use Rattle.pipe_turns.specs.Maps.{decl_at, IsSlotsPart}
 use Rattle.pipe_turns.specs.Parts.{turn_nets}
 use Rattle.pipe_maps.specs.Parts.{ArePartsOfMap, parts_at}

@@ -1,19 +1,19 @@
 -- The outputs show what the machine does.
 use Rattle.std.specs.Prelude.{◌≡◌, ℕ, Some}
 use Rattle.std.proofs.Common.{ap, ◌∙◌, arith}
-use Rattle.beat_core.specs.declared.beat.Beat.{Beat}
-use Rattle.net_core.specs.declared.tree.Word.{Word}
-use Rattle.net_core.specs.declared.ports.Inputs.{Inputs}
-use Rattle.net_core.specs.Value.{bit, Env}
-use Rattle.net_core.specs.Clock.{Stored}
-use Rattle.block_core.specs.declared.name.Name.{Name}
-use Rattle.block_core.specs.Blocks.{Whole}
-use Rattle.block_core.specs.Parts.{shown_by}
+use Rattle.pipe_core.specs.beat_core.declared.beat.Beat.{Beat}
+use Rattle.pipe_frames.specs.net_core.declared.tree.Word.{Word}
+use Rattle.pipe_frames.specs.net_core.declared.ports.Inputs.{Inputs}
+use Rattle.pipe_frames.specs.net_core.Value.{bit, Env}
+use Rattle.pipe_frames.specs.net_core.Clock.{Stored}
+use Rattle.pipe_frames.specs.block_core.declared.name.Name.{Name}
+use Rattle.pipe_frames.specs.block_core.Blocks.{Whole}
+use Rattle.pipe_frames.specs.block_core.Parts.{shown_by}
 use Rattle.pipe_core.specs.Machine.{State, Output, shown_beat, output}
 use Rattle.pipe_core.specs.History.{Trace}
-use Rattle.pipe_net.specs.declared.parts.Part.{Part}
-use Rattle.pipe_net.specs.Machine.{input_of, Shows, ShowsBeat}
-use Rattle.pipe_net.specs.Layout.{Layout}
+use Rattle.pipe_frames.specs.pipe_net.declared.parts.Part.{Part}
+use Rattle.pipe_frames.specs.pipe_net.Machine.{input_of, Shows, ShowsBeat}
+use Rattle.pipe_frames.specs.pipe_net.Layout.{Layout}
 use Rattle.pipe_forms.specs.Parts.{outputs_of}
 use Rattle.pipe_clocks.proofs.Clock as clock
 use Rattle.pipe_clocks.proofs.Clock.{ClockLaws, IsSeen}

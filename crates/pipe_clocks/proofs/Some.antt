@@ -3,61 +3,61 @@ use Rattle.std.specs.Prelude.{◌≡◌, ℕ, zero, suc, ◌+◌, ◌^◌, ◌<�
 use Rattle.std.proofs.Common.{get_or, refl, sym, subst, arith, inl, inr}
 use Rattle.std.proofs.lemmas.Bool.{ltb-true, and_parts}
 use Rattle.std.proofs.lemmas.List.Elements.{All-nil, All-cons, All-head, All-tail, All-append, All-weaker, All-contains, All-filter}
-use Rattle.xdp_maps.specs.declared.decl.MapKind.{MapKind}
-use Rattle.xdp_maps.specs.declared.decl.MapKind.TheVariants.{Hash, Array}
-use Rattle.net_core.specs.declared.tree.Word.{Word}
-use Rattle.net_core.specs.declared.ports.TheConstants.{HOST_INDEX}
-use Rattle.net_core.specs.Ports.{port_list}
-use Rattle.net_core.specs.Width.{word_fits}
-use Rattle.block_core.specs.declared.name.Name.{Name}
-use Rattle.block_core.specs.declared.name.Name.TheVariants as name
-use Rattle.block_core.specs.Blocks.{Whole}
-use Rattle.block_core.specs.Formed.{block_registers, word_width, words_fit, IsFormed}
-use Rattle.cell_core.specs.Cells.{CellView}
-use Rattle.cell_core.specs.Rows.{numbers}
-use Rattle.cell_core.specs.Sites.{site_at}
-use Rattle.cell_nets.specs.declared.operand.Operand.{Operand}
-use Rattle.cell_nets.specs.declared.operand.Operand.TheVariants.{Known, Net, Part as Bits}
-use Rattle.cell_nets.specs.Operands.{IsOperand, IsAvailable, HasNet}
-use Rattle.hazard_core.specs.Commits.{word_count}
-use Rattle.hazard_core.specs.Marks.{has_read}
-use Rattle.site_operands.specs.Sites.{SiteOperands, operands_of, all_of}
-use Rattle.place_net.specs.Place.{width_at, widths_of, registers_from}
-use Rattle.place_net.specs.Sources.{kept_operands, source_operands}
-use Rattle.site_place.specs.SitePlace.{site_widths, pointer_registers}
-use Rattle.frame_net.specs.declared.held.Kept.{Kept}
-use Rattle.frame_net.specs.declared.held.Kept.TheVariants.{Ifindex, Time, Word as FrameWord}
-use Rattle.frame_net.specs.Gather.{kept_width}
-use Rattle.frame_net.specs.Sources.{length_name, kept_name}
-use Rattle.hash_net.specs.Hash.{count_name}
-use Rattle.slot_net.specs.Shown.{shown_slots}
-use Rattle.slot_net.specs.Slots.{SlotOperands, IsSlot, slots_of, all_of as slot_cells_of, operands_of as slot_operands}
-use Rattle.read_net.specs.declared.sites.OwnSite.{OwnSite}
-use Rattle.read_net.specs.Sites.{cells_of, all_cells}
-use Rattle.commit_net.specs.declared.choosing.CommitNets.{CommitNets}
-use Rattle.commit_net.specs.Choosing.{read_of as operation_read, all_read as operations_read}
-use Rattle.commit_net.specs.Fetching.{fetched_words}
-use Rattle.commit_net.specs.Wiring.{outside_of as operations_outside}
-use Rattle.commit_net.specs.Targets.{slots_of as taken_operands}
-use Rattle.change_net.specs.Pointed.{word_operands}
-use Rattle.change_net.specs.Written.{written_outside}
-use Rattle.change_net.specs.Changes.{host_map, change_outside, change_given}
-use Rattle.touch_net.specs.declared.change.OwnKey.{OwnKey}
-use Rattle.touch_net.specs.declared.marks.MarkNets.{MarkNets}
-use Rattle.touch_net.specs.Touching.{own_operands}
-use Rattle.touch_net.specs.Marking.{guard_operands, mark_operands}
-use Rattle.mark_net.specs.declared.nets.MarkSite.{MarkSite}
-use Rattle.mark_net.specs.Sites.{site_operands, all_operands as mark_site_operands, outside as mark_outside}
-use Rattle.turn_net.specs.declared.nets.RecordNets.{RecordNets}
-use Rattle.turn_net.specs.Nets.{kept, sites_of, read_of, all_read, outside as turn_outside}
-use Rattle.target_net.specs.declared.targets.Target.{Target}
-use Rattle.target_net.specs.Targets.{all_of as all_targets, outside_of as target_outside}
-use Rattle.pipe_net.specs.declared.parts.Part.{Part}
-use Rattle.pipe_net.specs.Parts as part
-use Rattle.pipe_net.specs.Parts.{part_count}
-use Rattle.pipe_net.specs.Layout.{Layout, program_of, cells_of as program_cells, last_of, commit_of}
-use Rattle.pipe_net.specs.Relation.{read_sites}
-use Rattle.pipe_net.specs.Standing.{held_registers, IsAtPlace}
+use Rattle.pipe_marks.specs.xdp_maps.declared.decl.MapKind.{MapKind}
+use Rattle.pipe_marks.specs.xdp_maps.declared.decl.MapKind.TheVariants.{Hash, Array}
+use Rattle.pipe_frames.specs.net_core.declared.tree.Word.{Word}
+use Rattle.pipe_frames.specs.net_core.declared.ports.TheConstants.{HOST_INDEX}
+use Rattle.pipe_frames.specs.net_core.Ports.{port_list}
+use Rattle.pipe_frames.specs.net_core.Width.{word_fits}
+use Rattle.pipe_frames.specs.block_core.declared.name.Name.{Name}
+use Rattle.pipe_frames.specs.block_core.declared.name.Name.TheVariants as name
+use Rattle.pipe_frames.specs.block_core.Blocks.{Whole}
+use Rattle.pipe_frames.specs.block_core.Formed.{block_registers, word_width, words_fit, IsFormed}
+use Rattle.pipe_core.specs.cell_core.Cells.{CellView}
+use Rattle.pipe_core.specs.cell_core.Rows.{numbers}
+use Rattle.pipe_core.specs.cell_core.Sites.{site_at}
+use Rattle.pipe_marks.specs.cell_nets.declared.operand.Operand.{Operand}
+use Rattle.pipe_marks.specs.cell_nets.declared.operand.Operand.TheVariants.{Known, Net, Part as Bits}
+use Rattle.pipe_marks.specs.cell_nets.Operands.{IsOperand, IsAvailable, HasNet}
+use Rattle.pipe_core.specs.hazard_core.Commits.{word_count}
+use Rattle.pipe_core.specs.hazard_core.Marks.{has_read}
+use Rattle.pipe_marks.specs.site_operands.Sites.{SiteOperands, operands_of, all_of}
+use Rattle.pipe_places.specs.place_net.Place.{width_at, widths_of, registers_from}
+use Rattle.pipe_places.specs.place_net.Sources.{kept_operands, source_operands}
+use Rattle.pipe_places.specs.site_place.SitePlace.{site_widths, pointer_registers}
+use Rattle.pipe_frames.specs.frame_net.declared.held.Kept.{Kept}
+use Rattle.pipe_frames.specs.frame_net.declared.held.Kept.TheVariants.{Ifindex, Time, Word as FrameWord}
+use Rattle.pipe_frames.specs.frame_net.Gather.{kept_width}
+use Rattle.pipe_frames.specs.frame_net.Sources.{length_name, kept_name}
+use Rattle.pipe_maps.specs.hash_net.Hash.{count_name}
+use Rattle.pipe_places.specs.slot_net.Shown.{shown_slots}
+use Rattle.pipe_places.specs.slot_net.Slots.{SlotOperands, IsSlot, slots_of, all_of as slot_cells_of, operands_of as slot_operands}
+use Rattle.pipe_turns.specs.read_net.declared.sites.OwnSite.{OwnSite}
+use Rattle.pipe_turns.specs.read_net.Sites.{cells_of, all_cells}
+use Rattle.pipe_maps.specs.commit_net.declared.choosing.CommitNets.{CommitNets}
+use Rattle.pipe_maps.specs.commit_net.Choosing.{read_of as operation_read, all_read as operations_read}
+use Rattle.pipe_maps.specs.commit_net.Fetching.{fetched_words}
+use Rattle.pipe_maps.specs.commit_net.Wiring.{outside_of as operations_outside}
+use Rattle.pipe_maps.specs.commit_net.Targets.{slots_of as taken_operands}
+use Rattle.pipe_places.specs.change_net.Pointed.{word_operands}
+use Rattle.pipe_places.specs.change_net.Written.{written_outside}
+use Rattle.pipe_places.specs.change_net.Changes.{host_map, change_outside, change_given}
+use Rattle.pipe_marks.specs.touch_net.declared.change.OwnKey.{OwnKey}
+use Rattle.pipe_marks.specs.touch_net.declared.marks.MarkNets.{MarkNets}
+use Rattle.pipe_marks.specs.touch_net.Touching.{own_operands}
+use Rattle.pipe_marks.specs.touch_net.Marking.{guard_operands, mark_operands}
+use Rattle.pipe_marks.specs.mark_net.declared.nets.MarkSite.{MarkSite}
+use Rattle.pipe_marks.specs.mark_net.Sites.{site_operands, all_operands as mark_site_operands, outside as mark_outside}
+use Rattle.pipe_maps.specs.turn_net.declared.nets.RecordNets.{RecordNets}
+use Rattle.pipe_maps.specs.turn_net.Nets.{kept, sites_of, read_of, all_read, outside as turn_outside}
+use Rattle.pipe_turns.specs.target_net.declared.targets.Target.{Target}
+use Rattle.pipe_turns.specs.target_net.Targets.{all_of as all_targets, outside_of as target_outside}
+use Rattle.pipe_frames.specs.pipe_net.declared.parts.Part.{Part}
+use Rattle.pipe_frames.specs.pipe_net.Parts as part
+use Rattle.pipe_frames.specs.pipe_net.Parts.{part_count}
+use Rattle.pipe_frames.specs.pipe_net.Layout.{Layout, program_of, cells_of as program_cells, last_of, commit_of}
+use Rattle.pipe_frames.specs.pipe_net.Relation.{read_sites}
+use Rattle.pipe_frames.specs.pipe_net.Standing.{held_registers, IsAtPlace}
 use Rattle.pipe_marks.specs.Parts.{advances, IsMarkOf, Unread, Read, IsMarkBefore, IsOwnAt, IsMarkAt, IsMarkNets}
 use Rattle.pipe_turns.specs.Maps.{decl_at, taken_from, taken_slots}
 use Rattle.pipe_turns.specs.Parts.{turn_nets, writes_net, IsTargetOf}

@@ -3,22 +3,22 @@ use Rattle.std.specs.Prelude.{◌≡◌, ℕ, ◌<◌, ◌≤◌, List, [], ◌�
 use Rattle.std.proofs.Common.{sym, ap, ◌∙◌, subst, arith, inl, inr}
 use Rattle.std.proofs.lemmas.Bool.{cases_lt}
 use Rattle.std.proofs.lemmas.List.{get_or_past}
-use Rattle.xdp_maps.specs.Contents.{IsBytes}
-use Rattle.net_core.specs.declared.ports.Inputs.{Inputs}
-use Rattle.net_core.specs.Ports.{words_of}
-use Rattle.net_core.specs.Clock.{Stored, shown}
-use Rattle.net_core.specs.History.{IsInput}
-use Rattle.block_core.specs.Blocks.{Whole}
-use Rattle.block_core.specs.Parts.{stored_of}
-use Rattle.cell_core.specs.Formed.{AllFit}
-use Rattle.hazard_core.specs.Tables.{decl_of, table_at, slot_at}
+use Rattle.pipe_marks.specs.xdp_maps.Contents.{IsBytes}
+use Rattle.pipe_frames.specs.net_core.declared.ports.Inputs.{Inputs}
+use Rattle.pipe_frames.specs.net_core.Ports.{words_of}
+use Rattle.pipe_frames.specs.net_core.Clock.{Stored, shown}
+use Rattle.pipe_frames.specs.net_core.History.{IsInput}
+use Rattle.pipe_frames.specs.block_core.Blocks.{Whole}
+use Rattle.pipe_frames.specs.block_core.Parts.{stored_of}
+use Rattle.pipe_core.specs.cell_core.Formed.{AllFit}
+use Rattle.pipe_core.specs.hazard_core.Tables.{decl_of, table_at, slot_at}
 use Rattle.pipe_core.specs.Machine.{State, output, swept, host_ready, is_calm, host_writes}
 use Rattle.pipe_core.specs.History.{Trace, next, begin, KeepsOrder, IsAlwaysInOrder}
 use Rattle.pipe_core.specs.Computed.{KeepsComputed, IsAlwaysComputed}
-use Rattle.pipe_net.specs.declared.parts.Part.{Part}
-use Rattle.pipe_net.specs.Machine.{input_of, MayCome, Shows}
-use Rattle.pipe_net.specs.Layout.{Layout, program_of, last_of, commit_of}
-use Rattle.pipe_net.specs.Relation.{most_slots}
+use Rattle.pipe_frames.specs.pipe_net.declared.parts.Part.{Part}
+use Rattle.pipe_frames.specs.pipe_net.Machine.{input_of, MayCome, Shows}
+use Rattle.pipe_frames.specs.pipe_net.Layout.{Layout, program_of, last_of, commit_of}
+use Rattle.pipe_frames.specs.pipe_net.Relation.{most_slots}
 use Rattle.pipe_places.specs.Layout.{IsLaidOut}
 use Rattle.pipe_places.specs.Following.{AreServed}
 use Rattle.pipe_places.specs.Entries.{AccessesLead, EntriesFollow, EntriesBegin, EntriesServe}

@@ -1,7 +1,7 @@
 -- Whose operation a clock commits.
 use Rattle.std.specs.Prelude.{◌≡◌, ℕ, zero, suc, if◌then◌else◌, Bool, true, false, Option, Some, None, List, [], ◌∷◌}
 use Rattle.std.proofs.Common.{ap, arith}
-use Rattle.hazard_core.specs.declared.access.Access.{Access}
+use Rattle.pipe_core.specs.hazard_core.declared.access.Access.{Access}
 use Rattle.pipe_core.specs.Machine.{Packet, State, Build, Commits, place_at, inside, some_send, swept, commits_as, commits_or_moves, turn_as}
 
 pub none_some : {X Y : Type 0} (x : X) → None ≡ Some x → Y

@@ -1,22 +1,22 @@
 -- The design of a pipeline follows the machine of the pipe.
 use Rattle.std.specs.Prelude.{◌≡◌, ℕ, ◌<◌, None, List, length, map}
-use Rattle.xdp_maps.specs.State.{MapState}
-use Rattle.net_core.specs.declared.ports.Inputs.{Inputs}
-use Rattle.net_core.specs.Ports.{words_of}
-use Rattle.net_core.specs.Clock.{Stored, after, shown, stopping, first_stored}
-use Rattle.net_core.specs.History.{IsInput}
-use Rattle.block_core.specs.Blocks.{Whole}
-use Rattle.block_core.specs.Parts.{stored_of}
-use Rattle.hazard_core.specs.Tables.{decl_of, table_at, tables_of}
-use Rattle.map_block.specs.Stored.{IsFirst}
-use Rattle.place_net.specs.Exit.{byte_numbers}
+use Rattle.pipe_marks.specs.xdp_maps.State.{MapState}
+use Rattle.pipe_frames.specs.net_core.declared.ports.Inputs.{Inputs}
+use Rattle.pipe_frames.specs.net_core.Ports.{words_of}
+use Rattle.pipe_frames.specs.net_core.Clock.{Stored, after, shown, stopping, first_stored}
+use Rattle.pipe_frames.specs.net_core.History.{IsInput}
+use Rattle.pipe_frames.specs.block_core.Blocks.{Whole}
+use Rattle.pipe_frames.specs.block_core.Parts.{stored_of}
+use Rattle.pipe_core.specs.hazard_core.Tables.{decl_of, table_at, tables_of}
+use Rattle.pipe_maps.specs.map_block.Stored.{IsFirst}
+use Rattle.pipe_places.specs.place_net.Exit.{byte_numbers}
 use Rattle.pipe_core.specs.Machine.{State, new_state, clock, output}
 use Rattle.pipe_core.specs.History.{Trace, IsInOrder}
 use Rattle.pipe_core.specs.Computed.{IsComputed}
-use Rattle.pipe_net.specs.declared.parts.Part.{Part}
-use Rattle.pipe_net.specs.Machine.{input_of, MayCome, Shows}
-use Rattle.pipe_net.specs.Layout.{Layout}
-use Rattle.pipe_net.specs.Relation.{Relates}
+use Rattle.pipe_frames.specs.pipe_net.declared.parts.Part.{Part}
+use Rattle.pipe_frames.specs.pipe_net.Machine.{input_of, MayCome, Shows}
+use Rattle.pipe_frames.specs.pipe_net.Layout.{Layout}
+use Rattle.pipe_frames.specs.pipe_net.Relation.{Relates}
 use Rattle.pipe_places.specs.Following.{AreServed}
 use Rattle.pipe_turns.specs.Turning.{IsRightTurn}
 use Rattle.pipe_maps.specs.Premises.{HoldKeys}

@@ -5,7 +5,7 @@ use Rattle.std.specs.List.{list_any}
 use Rattle.std.proofs.lemmas.Bool.Decides.{nat_tests, Decides-eqb}
 use Rattle.std.proofs.lemmas.Bool.{cases_lt, lt-ltb, le-leb}
 use Rattle.std.proofs.lemmas.List.{length-replicate}
-use Rattle.xdp_machine.specs.State.{PacketIn}
+use Rattle.cell_core.specs.xdp_machine.State.{PacketIn}
 use Rattle.cell_core.specs.Cells.{CellView, cell_at, no_cell, site_in, bits_from}
 use Rattle.cell_core.specs.Sites.{SiteView, site_at}
 use Rattle.cell_core.specs.Rows.{numbers}

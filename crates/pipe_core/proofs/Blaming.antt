@@ -10,7 +10,7 @@ use Rattle.std.proofs.lemmas.List.Elements.{Contains-append_left, Contains-appen
 use Rattle.beat_core.specs.Ports.{Arrival}
 use Rattle.xdp_maps.specs.State.{MapState, decl_at}
 use Rattle.xdp_maps.specs.Touched.{Resource, Present, Content, Size, writes as resources_written}
-use Rattle.xdp_machine.specs.Touched.{Touched, nothing, both, touched_by}
+use Rattle.cell_core.specs.xdp_machine.Touched.{Touched, nothing, both, touched_by}
 use Rattle.cell_core.specs.Cells.{bit, on}
 use Rattle.cell_core.specs.Formed.{AllFit}
 use Rattle.cell_core.specs.Sites.{SiteView, ProgramView, site_at, operation_with, operation_on, applied, after, touched}

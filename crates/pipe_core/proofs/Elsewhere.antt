@@ -19,9 +19,9 @@ use Rattle.xdp_maps.specs.Laws.{IsDecided}
 use Rattle.xdp_maps.proofs.ByteLaws.{IsBytes-little_bytes}
 use Rattle.xdp_maps.proofs.SoundLaws.{operations_keep_sound}
 use Rattle.xdp_maps.proofs.ReadLaws.{reads_decide}
-use Rattle.xdp_machine.specs.State.{PacketIn}
-use Rattle.xdp_machine.specs.Memory.{bytes_in}
-use Rattle.xdp_machine.specs.Touched.{Touched, nothing, both, touched_by, counted}
+use Rattle.cell_core.specs.xdp_machine.State.{PacketIn}
+use Rattle.cell_core.specs.xdp_machine.Memory.{bytes_in}
+use Rattle.cell_core.specs.xdp_machine.Touched.{Touched, nothing, both, touched_by, counted}
 use Rattle.cell_core.specs.declared.operator.Operator.{Operator}
 use Rattle.cell_core.specs.declared.operator.Operator.TheVariants.{Found, Answer}
 use Rattle.cell_core.specs.declared.site.Act.{Act}

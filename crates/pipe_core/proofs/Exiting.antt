@@ -1,7 +1,7 @@
 -- A packet that has taken in all rows is a cell run.
 use Rattle.std.proofs.Common.{◌≡◌, ℕ, suc, ◌<◌, Bool, true, false, Some, length, refl, sym, ap, ◌∙◌, subst, not}
 use Rattle.std.specs.Prelude.{take}
-use Rattle.xdp_machine.specs.State.{PacketIn}
+use Rattle.cell_core.specs.xdp_machine.State.{PacketIn}
 use Rattle.cell_core.specs.declared.operator.Operator.{Operator}
 use Rattle.cell_core.specs.declared.operator.Operator.TheVariants.{Found, Answer}
 use Rattle.cell_core.specs.Cells.{Solves_as, cell_at, site_in, is_read, bits_from, bit}

@@ -4,7 +4,7 @@ use Rattle.std.proofs.lemmas.Nat.{mod_below, pow_pos}
 use Rattle.std.proofs.lemmas.List.{length-replicate}
 use Rattle.cell_core.specs.Cells.{CellView, no_cell, cell_at, bits_from}
 use Rattle.cell_core.specs.Sites.{ProgramView}
-use Rattle.xdp_machine.specs.State.{PacketIn}
+use Rattle.cell_core.specs.xdp_machine.State.{PacketIn}
 use Rattle.hazard_core.specs.Tables.{TableState}
 use Rattle.hazard_core.specs.Held.{Held, held_value, with_cell}
 use Rattle.hazard_core.specs.declared.pointer.Pointer.{Pointer}

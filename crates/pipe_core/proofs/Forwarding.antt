@@ -6,7 +6,7 @@ use Rattle.beat_core.specs.declared.beat.Beat.{Beat}
 use Rattle.beat_core.specs.Beats.{beats_of}
 use Rattle.beat_core.specs.Ports.{Arrival}
 use Rattle.xdp_maps.specs.State.{MapState, IsSound}
-use Rattle.xdp_machine.specs.Touched.{Touched}
+use Rattle.cell_core.specs.xdp_machine.Touched.{Touched}
 use Rattle.hazard_core.specs.Tabled.{LoadsTables}
 use Rattle.hazard_core.specs.Standing.{TablesStand}
 use Rattle.pipe_core.specs.Machine.{Build, beat_over}

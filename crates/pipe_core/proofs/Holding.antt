@@ -11,7 +11,7 @@ use Rattle.xdp_maps.specs.declared.decl.MapKind.{MapKind}
 use Rattle.xdp_maps.specs.declared.decl.MapKind.TheVariants.{Hash, Array}
 use Rattle.xdp_maps.specs.declared.errno.TheConstants.{ENOENT, E2BIG, EEXIST, EINVAL}
 use Rattle.xdp_maps.specs.Calls.{number_of}
-use Rattle.xdp_machine.specs.State.{PacketIn}
+use Rattle.cell_core.specs.xdp_machine.State.{PacketIn}
 use Rattle.cell_core.specs.declared.operator.Operator.TheVariants.{Found, Answer}
 use Rattle.cell_core.specs.declared.site.Act.{Act}
 use Rattle.cell_core.specs.declared.site.Act.TheVariants as act

@@ -8,8 +8,8 @@ use Rattle.xdp_maps.specs.State.{MapState, IsSound}
 use Rattle.xdp_maps.specs.Operations.{operated}
 use Rattle.xdp_maps.specs.Touched.{Resource, Present, Content, Size, SameOf}
 use Rattle.xdp_maps.proofs.WriteLaws.{keeps_unwritten}
-use Rattle.xdp_machine.specs.State.{PacketIn}
-use Rattle.xdp_machine.specs.Touched.{Touched, nothing, touched_by}
+use Rattle.cell_core.specs.xdp_machine.State.{PacketIn}
+use Rattle.cell_core.specs.xdp_machine.Touched.{Touched, nothing, touched_by}
 use Rattle.cell_core.specs.Cells.{CellView, cell_at, is_read, Solves_as, on}
 use Rattle.cell_core.specs.Sites.{SiteView, ProgramView, records, operation_on, applied, after, touched, IsValue, IsCellRun}
 use Rattle.cell_core.specs.Formed.{AllFit, AreSited, AreFormed}

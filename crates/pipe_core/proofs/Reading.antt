@@ -8,7 +8,7 @@ use Rattle.std.proofs.lemmas.List.Elements.{Contains-append_left, Contains-appen
 use Rattle.std.proofs.lemmas.List.Sums.{passes_at_first}
 use Rattle.xdp_maps.specs.State.{MapState}
 use Rattle.xdp_maps.specs.Touched.{Resource, reads as resources_read}
-use Rattle.xdp_machine.specs.Touched.{Touched, nothing, touched_by}
+use Rattle.cell_core.specs.xdp_machine.Touched.{Touched, nothing, touched_by}
 use Rattle.cell_core.specs.Cells.{cell_at, no_cell, site_in, on}
 use Rattle.cell_core.specs.Rows.{numbers}
 use Rattle.cell_core.specs.Sites.{SiteView, site_at, operation_on, applied, after, touched}

@@ -14,8 +14,8 @@ use Rattle.xdp_maps.specs.Contents.{Contents, index_of}
 use Rattle.xdp_maps.specs.State.{MapState, decl_at, contents_at, no_decl}
 use Rattle.xdp_maps.specs.Calls.{lookup_of, number_of, update_number, update_error_as, delete_number, delete_error_as}
 use Rattle.xdp_maps.specs.Touched.{Present, Content, Size, where_done, update_writes, writes as resources_written}
-use Rattle.xdp_machine.specs.State.{PacketIn}
-use Rattle.xdp_machine.specs.Touched.{Touched, nothing, touched_by, counted}
+use Rattle.cell_core.specs.xdp_machine.State.{PacketIn}
+use Rattle.cell_core.specs.xdp_machine.Touched.{Touched, nothing, touched_by, counted}
 use Rattle.cell_core.specs.declared.operator.Operator.TheVariants.{Answer}
 use Rattle.cell_core.specs.declared.site.Act.{Act}
 use Rattle.cell_core.specs.declared.site.Act.TheVariants as act

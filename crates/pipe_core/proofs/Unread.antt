@@ -10,7 +10,7 @@ use Rattle.std.proofs.Math.Seq.{take-suc, drop-cons, drop-drop}
 use Rattle.beat_core.specs.Ports.{Arrival}
 use Rattle.xdp_maps.specs.State.{MapState, IsSound}
 use Rattle.xdp_maps.specs.Touched.{Resource}
-use Rattle.xdp_machine.specs.Touched.{Touched, nothing}
+use Rattle.cell_core.specs.xdp_machine.Touched.{Touched, nothing}
 use Rattle.cell_core.specs.Cells.{cell_at}
 use Rattle.cell_core.specs.Formed.{AllFit}
 use Rattle.cell_core.specs.Rows.{taken_by}

@@ -5,7 +5,7 @@ use Rattle.cell_core.specs.Sites.{site_at}
 use Rattle.hazard_core.specs.Tables.{TableState}
 use Rattle.hazard_core.specs.Held.{guard_on}
 use Rattle.hazard_core.specs.Changes.{IsRightCommit}
-use Rattle.xdp_machine.specs.State.{PacketIn}
+use Rattle.cell_core.specs.xdp_machine.State.{PacketIn}
 use Rattle.pipe_core.specs.Machine.{Packet, State, Input, Build, Turn, Commits, Writes, Moves, packet_of, marked_at}
 use Rattle.pipe_core.specs.History.{IsInOrder}
 use Rattle.pipe_core.specs.Agreement.{UpdatesFind, IsMade, Agrees}

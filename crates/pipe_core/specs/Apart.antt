@@ -6,8 +6,8 @@ use Rattle.beat_core.specs.Laws.{IsFrame}
 use Rattle.xdp_maps.specs.declared.decl.MapDecl.{MapDecl}
 use Rattle.xdp_maps.specs.State.{MapState, IsSound}
 use Rattle.xdp_maps.specs.Touched.{Resource, SameOf}
-use Rattle.xdp_machine.specs.State.{PacketIn}
-use Rattle.xdp_machine.specs.Touched.{Touched}
+use Rattle.cell_core.specs.xdp_machine.State.{PacketIn}
+use Rattle.cell_core.specs.xdp_machine.Touched.{Touched}
 use Rattle.cell_core.specs.Cells.{cell_at, is_read, site_in, on}
 use Rattle.cell_core.specs.Sites.{ProgramView, IsCellRun, site_at, after, touched}
 use Rattle.cell_core.specs.Formed.{AreFormed, AllFit, AreSited}

@@ -5,7 +5,7 @@ use Rattle.std.proofs.Common.{get_or}
 use Rattle.beat_core.specs.Ports.{Arrival}
 use Rattle.xdp_maps.specs.State.{MapState, IsSound}
 use Rattle.xdp_maps.specs.Touched.{Resource, Present, Content, Size}
-use Rattle.xdp_machine.specs.Touched.{Touched, nothing}
+use Rattle.cell_core.specs.xdp_machine.Touched.{Touched, nothing}
 use Rattle.cell_core.specs.Sites.{ProgramView, IsCellRun, after, touched}
 use Rattle.hazard_core.specs.Tables.{TableState, table_at, slot_at, has_key, maps_of}
 use Rattle.hazard_core.specs.Held.{Held, held_value}

@@ -1,3 +1,8 @@
+pub use Rattle.beat_core.specs as beat_core
+pub use Rattle.cell_core.specs as cell_core
+pub use Rattle.cell_core.specs.xdp_machine as xdp_machine
+pub use Rattle.hazard_core.specs as hazard_core
+pub use Rattle.row_plan.specs as row_plan
 pub mod Machine
 pub mod History
 pub mod Computed

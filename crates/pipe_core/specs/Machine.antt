@@ -9,7 +9,7 @@ use Rattle.beat_core.specs.declared.answer.Answer.{Answer}
 use Rattle.beat_core.specs.Beats.{first_beat}
 use Rattle.beat_core.specs.Ports.{Arrival, arrived, offered}
 use Rattle.xdp_maps.specs.State.{MapState}
-use Rattle.xdp_machine.specs.State.{PacketIn}
+use Rattle.cell_core.specs.xdp_machine.State.{PacketIn}
 use Rattle.cell_core.specs.Cells.{bit}
 use Rattle.cell_core.specs.Sites.{ProgramView, site_at, with_bytes}
 use Rattle.cell_core.specs.Rows.{numbers}

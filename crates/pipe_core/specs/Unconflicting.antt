@@ -5,7 +5,7 @@ use Rattle.beat_core.specs.Beats.{beats_of}
 use Rattle.beat_core.specs.Laws.{IsFrame}
 use Rattle.beat_core.specs.Ports.{Arrival}
 use Rattle.xdp_maps.specs.State.{MapState, IsSound}
-use Rattle.xdp_machine.specs.Touched.{Touched}
+use Rattle.cell_core.specs.xdp_machine.Touched.{Touched}
 use Rattle.pipe_core.specs.Machine.{Build, some_send}
 use Rattle.pipe_core.specs.History.{IsInOrder}
 use Rattle.pipe_core.specs.Watched.{Watched}

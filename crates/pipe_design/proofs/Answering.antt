@@ -8,7 +8,7 @@ use Rattle.std.proofs.lemmas.List.Elements.{All-push, Contains-get_or}
 use Rattle.block_core.specs.declared.name.Name.{Name}
 use Rattle.cell_core.specs.declared.program.FrameByte.{FrameByte}
 use Rattle.cell_nets.specs.declared.operand.Operand.{Operand}
-use Rattle.row_net.specs.Table.{Stands}
+use Rattle.site_table.specs.row_net.Table.{Stands}
 use Rattle.place_net.specs.declared.outputs.AnswerByte.{AnswerByte}
 use Rattle.place_net.specs.Exit.{byte_number}
 use Rattle.pipe_net.specs.declared.parts.Part.{Part}

@@ -4,14 +4,14 @@ use Rattle.std.proofs.lemmas.List.{length-map, get_or-map}
 use Rattle.std.proofs.lemmas.List.Elements.{All-weaker}
 use Rattle.block_core.specs.declared.name.Name.{Name}
 use Rattle.cell_nets.specs.declared.operand.Operand.{Operand}
-use Rattle.map_block.specs.declared.form.MapForm.{MapForm}
-use Rattle.row_net.specs.Table.{Stands}
+use Rattle.host_net.specs.map_block.declared.form.MapForm.{MapForm}
+use Rattle.site_table.specs.row_net.Table.{Stands}
 use Rattle.place_net.specs.declared.outputs.AnswerByte.{AnswerByte}
 use Rattle.change_net.specs.declared.change.ChangePart.{ChangePart}
 use Rattle.pipe_net.specs.declared.parts.Part.{Part}
 use Rattle.pipe_net.specs.declared.parts.Sizes.{Sizes}
 use Rattle.pipe_net.specs.Layout.{Layout, Table, ChangeView, IsSized}
-use Rattle.pipe_places.specs.Layout.{IsChanged}
+use Rattle.pipe_draft.specs.pipe_places.Layout.{IsChanged}
 use Rattle.pipe_draft.specs.declared.draft.Draft.{Draft}
 use Rattle.pipe_draft.specs.declared.places.Behind.{Behind}
 use Rattle.pipe_draft.specs.Draft.{program_in, plan_in, decls_in, IsDraft}

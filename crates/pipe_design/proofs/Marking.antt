@@ -7,8 +7,8 @@ use Rattle.block_core.specs.declared.name.Name.{Name}
 use Rattle.cell_core.specs.Formed.{AllFit}
 use Rattle.cell_core.specs.Sites.{ProgramView, site_at}
 use Rattle.cell_core.specs.View.{program_of, site_of}
-use Rattle.site_operands.specs.declared.SiteNets.{SiteNets}
-use Rattle.site_operands.specs.Sites.{SiteOperands}
+use Rattle.site_table.specs.site_operands.declared.SiteNets.{SiteNets}
+use Rattle.site_table.specs.site_operands.Sites.{SiteOperands}
 use Rattle.site_table.specs.Sites.{operand_at}
 use Rattle.pipe_net.specs.declared.parts.Part.{Part}
 use Rattle.pipe_net.specs.declared.parts.Sizes.{Sizes}

@@ -10,8 +10,8 @@ use Rattle.net_core.specs.declared.design.Design.{Design}
 use Rattle.net_core.specs.declared.design.Port.{Port}
 use Rattle.net_core.specs.View.{netlist_of}
 use Rattle.net_core.specs.Ports.{port_list, port_names}
-use Rattle.product_rules.specs.Products.{products_apart}
-use Rattle.design_rules.specs.Formed.{IsWellFormed}
+use Rattle.ring_net.specs.product_rules.Products.{products_apart}
+use Rattle.block_forms.specs.design_rules.Formed.{IsWellFormed}
 use Rattle.block_core.specs.declared.name.Name.{Name}
 use Rattle.block_core.specs.declared.block.Placed.{Placed}
 use Rattle.block_core.specs.declared.error.LinkError.{LinkError}

@@ -9,7 +9,7 @@ use Rattle.cell_core.specs.Cells.{cell_at}
 use Rattle.cell_core.specs.Sites.{ProgramView}
 use Rattle.cell_nets.specs.Operands.{IsOperand}
 use Rattle.row_plan.specs.Plan.{Plan, answer_cells}
-use Rattle.row_net.specs.Table.{IsIn, IsTable, is_constant}
+use Rattle.site_table.specs.row_net.Table.{IsIn, IsTable, is_constant}
 use Rattle.place_net.specs.declared.outputs.Outputs.{Outputs}
 use Rattle.place_net.specs.Exit.{byte_operand, output_operands}
 use Rattle.site_table.specs.Lists.{held_cells}

@@ -3,12 +3,12 @@ use Rattle.std.proofs.Common.{◌≡◌, ◌∙◌, ℕ, ◌<◌, All, List, len
 use Rattle.std.proofs.lemmas.List.{length-map}
 use Rattle.block_core.specs.declared.name.Name.{Name}
 use Rattle.cell_nets.specs.Operands.{IsOperand}
-use Rattle.read_net.specs.declared.sites.MapNets.{MapNets}
-use Rattle.read_net.specs.declared.sites.OwnSite.{OwnSite}
-use Rattle.map_block.specs.declared.form.MapForm.{MapForm}
+use Rattle.target_net.specs.read_net.declared.sites.MapNets.{MapNets}
+use Rattle.target_net.specs.read_net.declared.sites.OwnSite.{OwnSite}
+use Rattle.host_net.specs.map_block.declared.form.MapForm.{MapForm}
 use Rattle.ring_net.specs.declared.shape.ControlShape.{ControlShape}
 use Rattle.target_net.specs.declared.targets.TargetPart.{TargetPart}
-use Rattle.turn_net.specs.Nets.{number_of}
+use Rattle.pipe_net.specs.turn_net.Nets.{number_of}
 use Rattle.pipe_net.specs.declared.parts.Part.{Part}
 use Rattle.pipe_draft.specs.declared.draft.Draft.{Draft}
 use Rattle.pipe_draft.specs.declared.places.Behind.{Behind}

@@ -13,8 +13,8 @@ use Rattle.block_core.specs.View.{block_of, Makes}
 use Rattle.cell_core.specs.View.{program_of}
 use Rattle.cell_nets.specs.declared.operand.Operand.TheVariants.{Known}
 use Rattle.control_net.specs.Returns.{due_name}
-use Rattle.read_net.specs.declared.sites.MapNets.{MapNets}
-use Rattle.site_operands.specs.declared.SiteNets.{SiteNets}
+use Rattle.target_net.specs.read_net.declared.sites.MapNets.{MapNets}
+use Rattle.site_table.specs.site_operands.declared.SiteNets.{SiteNets}
 use Rattle.change_net.specs.declared.change.ChangePart.{ChangePart}
 use Rattle.target_net.specs.declared.targets.TargetPart.{TargetPart}
 use Rattle.pipe_net.specs.declared.parts.Part.{Part}
@@ -22,10 +22,10 @@ use Rattle.pipe_net.specs.declared.parts.Sizes.{Sizes}
 use Rattle.pipe_net.specs.Parts as part
 use Rattle.pipe_net.specs.Parts.{part_place, part_count}
 use Rattle.pipe_net.specs.Layout.{Layout}
-use Rattle.pipe_marks.specs.Parts.{AreMarkParts, AreMarksOf}
-use Rattle.pipe_turns.specs.Maps.{decl_at}
-use Rattle.pipe_maps.specs.Parts.{commits_net, AreMapParts}
-use Rattle.pipe_frames.specs.Parts.{AreFrameParts}
+use Rattle.mark_parts.specs.pipe_marks.Parts.{AreMarkParts, AreMarksOf}
+use Rattle.slot_parts.specs.pipe_turns.Maps.{decl_at}
+use Rattle.map_parts.specs.pipe_maps.Parts.{commits_net, AreMapParts}
+use Rattle.frame_parts.specs.pipe_frames.Parts.{AreFrameParts}
 use Rattle.pipe_forms.specs.Parts.{AreParts}
 use Rattle.pipe_clocks.specs.Following.{IsPipeline}
 use Rattle.mark_parts.specs.Due.{IsDuePart}

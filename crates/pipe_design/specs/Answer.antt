@@ -6,7 +6,7 @@ use Rattle.cell_core.specs.declared.program.FrameByte.{FrameByte}
 use Rattle.cell_core.specs.Rows.{numbers}
 use Rattle.cell_core.specs.Sites.{ProgramView}
 use Rattle.cell_nets.specs.declared.operand.Operand.{Operand}
-use Rattle.row_net.specs.Table.{Stands}
+use Rattle.site_table.specs.row_net.Table.{Stands}
 use Rattle.place_net.specs.declared.outputs.AnswerByte.{AnswerByte}
 use Rattle.place_net.specs.declared.outputs.Outputs.{Outputs}
 use Rattle.place_net.specs.Exit.{byte_numbers}

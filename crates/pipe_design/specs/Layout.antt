@@ -5,12 +5,12 @@ use Rattle.block_core.specs.declared.name.Name.{Name}
 use Rattle.block_core.specs.declared.name.Name.TheVariants as name
 use Rattle.cell_nets.specs.declared.operand.Operand.TheVariants.{Known}
 use Rattle.ring_net.specs.declared.shape.ControlShape.{ControlShape}
-use Rattle.row_net.specs.Lists.{made_cells}
+use Rattle.site_table.specs.row_net.Lists.{made_cells}
 use Rattle.place_net.specs.declared.outputs.Outputs.{Outputs}
 use Rattle.site_table.specs.Lists.{held_cells, held_pointers, made_pointers}
 use Rattle.change_net.specs.declared.change.ChangePart.{ChangePart}
-use Rattle.turn_net.specs.declared.nets.RecordNets.{RecordNets}
-use Rattle.turn_net.specs.declared.nets.TurnShape.{TurnShape}
+use Rattle.pipe_net.specs.turn_net.declared.nets.RecordNets.{RecordNets}
+use Rattle.pipe_net.specs.turn_net.declared.nets.TurnShape.{TurnShape}
 use Rattle.pipe_net.specs.declared.parts.Part.{Part}
 use Rattle.pipe_net.specs.Layout.{Layout, Table, ChangeView}
 use Rattle.pipe_draft.specs.declared.draft.Draft.{Draft}

@@ -17,7 +17,7 @@ use Rattle.pipe_net.specs.declared.parts.Sizes.{Sizes}
 use Rattle.pipe_net.specs.Parts as part
 use Rattle.pipe_net.specs.Parts.{part_place}
 use Rattle.pipe_net.specs.Layout.{Layout}
-use Rattle.pipe_frames.specs.Parts.{told_by}
+use Rattle.frame_parts.specs.pipe_frames.Parts.{told_by}
 use Rattle.pipe_forms.specs.Parts.{shown_at, AreParts}
 
 -- the parts in memory are those of a pipeline of these sizes, in which so many words of a frame may change

@@ -7,14 +7,14 @@ use Rattle.block_core.specs.Blocks.{BlockTree, Whole}
 use Rattle.block_core.specs.View.{block_of, Makes}
 use Rattle.ring_net.specs.declared.shape.ControlShape.{ControlShape}
 use Rattle.place_net.specs.declared.outputs.Outputs.{Outputs}
-use Rattle.read_net.specs.declared.sites.MapNets.{MapNets}
+use Rattle.target_net.specs.read_net.declared.sites.MapNets.{MapNets}
 use Rattle.change_net.specs.declared.change.ChangePart.{ChangePart}
 use Rattle.change_net.specs.declared.pointed.PointedWords.{PointedWords}
 use Rattle.target_net.specs.declared.targets.TargetPart.{TargetPart}
 use Rattle.pipe_net.specs.declared.parts.Part.{Part}
 use Rattle.pipe_net.specs.Parts.{part_place}
 use Rattle.pipe_net.specs.Layout.{Layout}
-use Rattle.pipe_frames.specs.Parts.{AreFrameParts}
+use Rattle.frame_parts.specs.pipe_frames.Parts.{AreFrameParts}
 use Rattle.frame_parts.specs.Blocks.{HasBlocks as HasFrameBlocks}
 use Rattle.mark_parts.specs.declared.layout.MarkLayout.{MarkLayout}
 use Rattle.slot_parts.specs.declared.slots.SlotsPart.{SlotsPart}

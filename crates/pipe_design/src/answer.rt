@@ -6,7 +6,7 @@ ghost use Rattle.cell_core.specs.declared.program.FrameByte.{FrameByte};
 ghost use Rattle.cell_core.specs.View.{program_of};
 ghost use Rattle.cell_nets.specs.Operands.{IsOperand};
 ghost use Rattle.place_net.specs.Exit.{byte_number, output_operands};
-ghost use Rattle.row_net.specs.Table.{IsIn, Stands};
+ghost use Rattle.site_table.specs.row_net.Table.{IsIn, Stands};
 ghost use Rattle.pipe_draft.specs.declared.places.Behind.{Behind};
 ghost use Rattle.pipe_draft.specs.Draft.{program_in, plan_in, IsDraft};
 ghost use Rattle.pipe_draft.specs.Places.{ArePlaces};

@@ -4,8 +4,8 @@ ghost use Rattle.std.specs.Prelude.{◌≡◌, ◌≤◌, IfOk, IsErrOf, IsTrue,
 ghost use Rattle.net_core.specs.Nets.{TRead};
 ghost use Rattle.net_core.specs.Ports.{port_list};
 ghost use Rattle.net_core.specs.View.{netlist_of};
-ghost use Rattle.product_rules.specs.Products.{products_apart};
-ghost use Rattle.design_rules.specs.Formed.{IsWellFormed};
+ghost use Rattle.ring_net.specs.product_rules.Products.{products_apart};
+ghost use Rattle.block_forms.specs.design_rules.Formed.{IsWellFormed};
 ghost use Rattle.block_core.specs.declared.error.LinkError.TheVariants as error;
 ghost use Rattle.block_core.specs.declared.name.Name.TheVariants as name;
 ghost use Rattle.block_core.specs.Blocks.{Whole};

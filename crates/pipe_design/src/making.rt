@@ -2,8 +2,8 @@
 
 ghost use Rattle.std.specs.Prelude.{◌≡◌, ◌≤◌, ◌<◌, length, slice_index, IfOk, IsErrOf, IsTrue};
 ghost use Rattle.net_core.specs.View.{netlist_of};
-ghost use Rattle.product_rules.specs.Products.{products_apart};
-ghost use Rattle.design_rules.specs.Formed.{IsWellFormed};
+ghost use Rattle.ring_net.specs.product_rules.Products.{products_apart};
+ghost use Rattle.block_forms.specs.design_rules.Formed.{IsWellFormed};
 ghost use Rattle.block_core.specs.declared.error.LinkError.TheVariants as link;
 ghost use Rattle.cell_core.specs.View.{program_of};
 ghost use Rattle.site_table.specs.Constants.{AreEarly};

@@ -2,7 +2,7 @@
 use Rattle.std.proofs.Common.{◌≡◌, ℕ, ◌≤◌, List, length, refl, arith}
 use Rattle.xdp_maps.specs.declared.decl.MapDecl.{MapDecl}
 use Rattle.cell_core.specs.Sites.{ProgramView, site_at}
-use Rattle.value_net.specs.Words.{answers_number}
+use Rattle.map_block.specs.value_net.Words.{answers_number}
 use Rattle.row_plan.specs.Plan.{Plan}
 use Rattle.pipe_net.specs.Parts.{IsSmall}
 use Rattle.pipe_draft.specs.Program.{IsForPipe}

@@ -16,16 +16,16 @@ use Rattle.row_plan.specs.Plan.{Plan, IsPlan}
 use Rattle.row_net.specs.Lists.{made_cells}
 use Rattle.row_net.specs.Needed.{AreNeeded}
 use Rattle.row_net.specs.Table.{AreConstants}
-use Rattle.pipe_core.specs.Machine.{Build}
-use Rattle.pipe_core.specs.Computed.{IsPlanned}
-use Rattle.place_net.specs.Sources.{IsSource}
+use Rattle.pipe_net.specs.pipe_core.Machine.{Build}
+use Rattle.pipe_net.specs.pipe_core.Computed.{IsPlanned}
+use Rattle.site_table.specs.place_net.Sources.{IsSource}
 use Rattle.site_table.specs.Constants.{AreEarly}
 use Rattle.site_table.specs.Lists.{held_cells, held_pointers, made_pointers}
 use Rattle.site_table.specs.Parts.{AreParts}
 use Rattle.site_table.specs.Pointing.{AreFlagged, plain_of}
 use Rattle.site_table.specs.Sites.{IsSiteOf}
 use Rattle.site_table.specs.Tables.{StandBehind}
-use Rattle.stage_net.specs.Staged.{IsStaged}
+use Rattle.pipe_places.specs.stage_net.Staged.{IsStaged}
 use Rattle.pipe_net.specs.declared.parts.Part.{Part}
 use Rattle.pipe_net.specs.declared.parts.Sizes.{Sizes}
 use Rattle.pipe_net.specs.Parts as part

@@ -13,7 +13,7 @@ use Rattle.frame_net.specs.declared.held.Kept.TheVariants as kept
 use Rattle.row_net.specs.Needed.{flag}
 use Rattle.row_net.specs.Lists.{varies}
 use Rattle.row_net.specs.Table.{is_constant, is_number}
-use Rattle.place_net.specs.Sources.{IsSource, IsShown}
+use Rattle.site_table.specs.place_net.Sources.{IsSource, IsShown}
 use Rattle.pipe_draft.specs.Sources.{comes, is_source, source_list, kept_for, AreKeptFor}
 use Rattle.pipe_draft.proofs.Listing.{kept_below}
 

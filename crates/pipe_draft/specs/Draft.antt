@@ -14,7 +14,7 @@ use Rattle.site_table.specs.Parts.{AreParts}
 use Rattle.site_table.specs.Pointing.{AreFlagged, plain_of}
 use Rattle.map_block.specs.declared.form.MapForm.{MapForm}
 use Rattle.map_block.specs.Forms.{IsSuited}
-use Rattle.turn_net.specs.Turns.{record_sites}
+use Rattle.pipe_net.specs.turn_net.Turns.{record_sites}
 use Rattle.pipe_net.specs.declared.parts.Sizes.{Sizes}
 use Rattle.pipe_net.specs.Parts.{IsSmall}
 use Rattle.pipe_places.specs.Layout.{load_sites}

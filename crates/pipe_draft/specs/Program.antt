@@ -7,9 +7,9 @@ use Rattle.cell_core.specs.Cells.{cell_at, site_in}
 use Rattle.cell_core.specs.Formed.{AreFormed, AllFit}
 use Rattle.cell_core.specs.Sites.{ProgramView, site_at}
 use Rattle.row_plan.specs.Plan.{Plan, IsPlan}
-use Rattle.value_net.specs.Words.{IsAligned}
-use Rattle.pipe_core.specs.Machine.{Build}
-use Rattle.stage_net.specs.Staged.{IsReadCell}
+use Rattle.map_block.specs.value_net.Words.{IsAligned}
+use Rattle.pipe_net.specs.pipe_core.Machine.{Build}
+use Rattle.pipe_places.specs.stage_net.Staged.{IsReadCell}
 use Rattle.pipe_net.specs.Layout.{HasAnswer}
 
 -- the rows of a plan, for the machine of the pipe; there is room for a frame in each place, and for three that come, wait or go

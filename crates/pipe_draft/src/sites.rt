@@ -4,8 +4,8 @@ ghost use Rattle.std.specs.Prelude.{◌≡◌, ◌<◌, ◌^◌, IfOk, length};
 ghost use Rattle.cell_core.specs.Sites.{records};
 ghost use Rattle.cell_core.specs.Sites as sites;
 ghost use Rattle.cell_core.specs.View.{program_of};
-ghost use Rattle.value_net.specs.Words.{answers_number};
-ghost use Rattle.turn_net.specs.Turns.{record_sites};
+ghost use Rattle.map_block.specs.value_net.Words.{answers_number};
+ghost use Rattle.pipe_net.specs.turn_net.Turns.{record_sites};
 ghost use Rattle.pipe_places.specs.Layout.{load_sites};
 
 use cell_core::program::CellProgram;

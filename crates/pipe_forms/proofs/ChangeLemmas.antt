@@ -3,29 +3,29 @@ use Rattle.std.specs.Prelude.{◌≡◌, ℕ, suc, ◌+◌, ◌*◌, ◌<◌, �
 use Rattle.std.proofs.Common.{get_or, refl, sym, ap, ◌∙◌, subst, arith, inr}
 use Rattle.std.proofs.lemmas.List.{length-map}
 use Rattle.std.proofs.lemmas.List.Elements.{Contains-get_or}
-use Rattle.net_core.specs.Ports.{port_list}
-use Rattle.xdp_maps.specs.declared.decl.MapKind.{MapKind}
-use Rattle.xdp_maps.specs.declared.decl.MapKind.TheVariants.{Hash, Array}
-use Rattle.block_core.specs.declared.name.Name.{Name}
-use Rattle.block_core.specs.Blocks.{Whole, BlockWireTree}
-use Rattle.block_core.specs.Formed.{name_width}
-use Rattle.cell_nets.specs.declared.operand.Operand.{Operand}
-use Rattle.cell_nets.specs.declared.operand.Operand.TheVariants.{Known, Net}
-use Rattle.site_operands.specs.Sites.{SiteOperands, operands_of, all_of}
-use Rattle.read_net.specs.declared.sites.OwnSite.{OwnSite}
-use Rattle.target_net.specs.declared.targets.Target.{Target}
-use Rattle.commit_net.specs.declared.choosing.CommitNets.{CommitNets}
-use Rattle.commit_net.specs.Choosing.{read_of, all_read}
-use Rattle.change_net.specs.Pointed.{word_operands, pointed_operands, IsPointedWords}
-use Rattle.change_net.specs.Written.{written_outside}
-use Rattle.change_net.specs.Changes.{host_map, change_outside, change_given}
-use Rattle.map_block.specs.Stored.{host_word, host_word_as}
-use Rattle.pipe_net.specs.declared.parts.Part.{Part}
-use Rattle.pipe_net.specs.Parts as part
-use Rattle.pipe_net.specs.Parts.{behind_words}
-use Rattle.pipe_net.specs.Layout.{Layout, program_of, commit_of}
-use Rattle.pipe_turns.specs.Maps.{records_on}
-use Rattle.pipe_turns.specs.Parts.{form_at, writes_net}
+use Rattle.pipe_frames.specs.net_core.Ports.{port_list}
+use Rattle.pipe_marks.specs.xdp_maps.declared.decl.MapKind.{MapKind}
+use Rattle.pipe_marks.specs.xdp_maps.declared.decl.MapKind.TheVariants.{Hash, Array}
+use Rattle.pipe_frames.specs.block_core.declared.name.Name.{Name}
+use Rattle.pipe_frames.specs.block_core.Blocks.{Whole, BlockWireTree}
+use Rattle.pipe_frames.specs.block_core.Formed.{name_width}
+use Rattle.pipe_marks.specs.cell_nets.declared.operand.Operand.{Operand}
+use Rattle.pipe_marks.specs.cell_nets.declared.operand.Operand.TheVariants.{Known, Net}
+use Rattle.pipe_marks.specs.site_operands.Sites.{SiteOperands, operands_of, all_of}
+use Rattle.pipe_places.specs.read_net.declared.sites.OwnSite.{OwnSite}
+use Rattle.pipe_maps.specs.target_net.declared.targets.Target.{Target}
+use Rattle.pipe_maps.specs.commit_net.declared.choosing.CommitNets.{CommitNets}
+use Rattle.pipe_maps.specs.commit_net.Choosing.{read_of, all_read}
+use Rattle.pipe_places.specs.change_net.Pointed.{word_operands, pointed_operands, IsPointedWords}
+use Rattle.pipe_places.specs.change_net.Written.{written_outside}
+use Rattle.pipe_places.specs.change_net.Changes.{host_map, change_outside, change_given}
+use Rattle.pipe_maps.specs.map_block.Stored.{host_word, host_word_as}
+use Rattle.pipe_frames.specs.pipe_net.declared.parts.Part.{Part}
+use Rattle.pipe_frames.specs.pipe_net.Parts as part
+use Rattle.pipe_frames.specs.pipe_net.Parts.{behind_words}
+use Rattle.pipe_frames.specs.pipe_net.Layout.{Layout, program_of, commit_of}
+use Rattle.pipe_maps.specs.pipe_turns.Maps.{records_on}
+use Rattle.pipe_maps.specs.pipe_turns.Parts.{form_at, writes_net}
 use Rattle.pipe_maps.specs.Parts.{commits_net, IsOperation}
 use Rattle.pipe_forms.specs.Parts.{AreParts}
 use Rattle.pipe_forms.proofs.EarlierLemmas.{earlier, IsReady, AreReady, among_earlier, early_later, ready_declared, ready_early, ready_both, ready_none, ready_list, ready_append, ready_offers}

@@ -1,26 +1,26 @@
 -- What places read stands before them; and all that parts read is declared.
 use Rattle.std.specs.Prelude.{ℕ, ◌+◌, ◌*◌, ◌<◌, ◌≤◌, length, List}
 use Rattle.std.proofs.Common.{refl, sym, subst, arith}
-use Rattle.block_core.specs.declared.name.Name.{Name}
-use Rattle.block_core.specs.Blocks.{Whole}
-use Rattle.cell_nets.specs.declared.operand.Operand.{Operand}
-use Rattle.cell_nets.specs.declared.operand.Operand.TheVariants.{Net}
-use Rattle.place_net.specs.Sources.{source_operands}
-use Rattle.place_net.specs.Exit.{output_operands}
-use Rattle.commit_net.specs.Choosing.{all_read}
-use Rattle.change_net.specs.Written.{written_outside}
-use Rattle.change_net.specs.Changes.{change_outside}
-use Rattle.target_net.specs.Targets.{outside_of}
-use Rattle.touch_net.specs.Marking.{mark_operands}
-use Rattle.mark_net.specs.Sites.{outside as mark_outside}
-use Rattle.turn_net.specs.Nets.{outside as turn_outside}
-use Rattle.pipe_net.specs.declared.parts.Part.{Part}
-use Rattle.pipe_net.specs.Parts as part
-use Rattle.pipe_net.specs.Parts.{behind_maps, part_count}
-use Rattle.pipe_net.specs.Layout.{Layout, program_of, last_of}
-use Rattle.pipe_net.specs.Standing.{held_registers}
-use Rattle.pipe_turns.specs.Maps.{taken_slots}
-use Rattle.pipe_turns.specs.Parts.{turn_nets, writes_net}
+use Rattle.pipe_frames.specs.block_core.declared.name.Name.{Name}
+use Rattle.pipe_frames.specs.block_core.Blocks.{Whole}
+use Rattle.pipe_marks.specs.cell_nets.declared.operand.Operand.{Operand}
+use Rattle.pipe_marks.specs.cell_nets.declared.operand.Operand.TheVariants.{Net}
+use Rattle.pipe_places.specs.place_net.Sources.{source_operands}
+use Rattle.pipe_places.specs.place_net.Exit.{output_operands}
+use Rattle.pipe_maps.specs.commit_net.Choosing.{all_read}
+use Rattle.pipe_places.specs.change_net.Written.{written_outside}
+use Rattle.pipe_places.specs.change_net.Changes.{change_outside}
+use Rattle.pipe_maps.specs.target_net.Targets.{outside_of}
+use Rattle.pipe_marks.specs.touch_net.Marking.{mark_operands}
+use Rattle.pipe_marks.specs.mark_net.Sites.{outside as mark_outside}
+use Rattle.pipe_maps.specs.turn_net.Nets.{outside as turn_outside}
+use Rattle.pipe_frames.specs.pipe_net.declared.parts.Part.{Part}
+use Rattle.pipe_frames.specs.pipe_net.Parts as part
+use Rattle.pipe_frames.specs.pipe_net.Parts.{behind_maps, part_count}
+use Rattle.pipe_frames.specs.pipe_net.Layout.{Layout, program_of, last_of}
+use Rattle.pipe_frames.specs.pipe_net.Standing.{held_registers}
+use Rattle.pipe_maps.specs.pipe_turns.Maps.{taken_slots}
+use Rattle.pipe_maps.specs.pipe_turns.Parts.{turn_nets, writes_net}
 use Rattle.pipe_places.specs.Layout.{load_sites}
 use Rattle.pipe_maps.specs.Parts.{commits_net}
 use Rattle.pipe_marks.specs.Parts.{advances}

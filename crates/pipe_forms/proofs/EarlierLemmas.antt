@@ -4,18 +4,18 @@ use Rattle.std.proofs.Common.{refl, ap, subst, arith, inl, inr, ◌⊎◌}
 use Rattle.std.specs.List.{AllByRecursion}
 use Rattle.std.proofs.lemmas.Bool.{cases_eq}
 use Rattle.std.proofs.lemmas.List.Elements.{All-contains, All-from_recursion, Contains-append_cases}
-use Rattle.net_core.specs.Ports.{port_list}
-use Rattle.block_core.specs.declared.name.Name.{Name}
-use Rattle.block_core.specs.declared.name.Name.TheVariants as name
-use Rattle.block_core.specs.Blocks.{Whole, Among}
-use Rattle.block_core.specs.Order.{IsBefore}
-use Rattle.block_core.specs.Formed.{names_scope, name_width, IsThere}
-use Rattle.cell_nets.specs.declared.operand.Operand.{Operand}
-use Rattle.cell_nets.specs.declared.operand.Operand.TheVariants.{Known, Net, Part as Bits}
-use Rattle.cell_nets.specs.Operands.{AreDeclared, IsNetOf, IsAvailable}
-use Rattle.operand_blocks.specs.Wiring.{Offers}
-use Rattle.pipe_net.specs.declared.parts.Part.{Part}
-use Rattle.pipe_net.specs.Parts as part
+use Rattle.pipe_frames.specs.net_core.Ports.{port_list}
+use Rattle.pipe_frames.specs.block_core.declared.name.Name.{Name}
+use Rattle.pipe_frames.specs.block_core.declared.name.Name.TheVariants as name
+use Rattle.pipe_frames.specs.block_core.Blocks.{Whole, Among}
+use Rattle.pipe_frames.specs.block_core.Order.{IsBefore}
+use Rattle.pipe_frames.specs.block_core.Formed.{names_scope, name_width, IsThere}
+use Rattle.pipe_marks.specs.cell_nets.declared.operand.Operand.{Operand}
+use Rattle.pipe_marks.specs.cell_nets.declared.operand.Operand.TheVariants.{Known, Net, Part as Bits}
+use Rattle.pipe_marks.specs.cell_nets.Operands.{AreDeclared, IsNetOf, IsAvailable}
+use Rattle.pipe_marks.specs.operand_blocks.Wiring.{Offers}
+use Rattle.pipe_frames.specs.pipe_net.declared.parts.Part.{Part}
+use Rattle.pipe_frames.specs.pipe_net.Parts as part
 
 -- ---- the parts before the one of a number, the last one first
 abbrev pub earlier : ℕ → List Part

@@ -2,21 +2,21 @@
 use Rattle.std.specs.Prelude.{◌≡◌, ℕ, zero, suc, ◌+◌, ◌*◌, ◌<◌, ◌≤◌, List, [], length, map, true, IsTrue}
 use Rattle.std.proofs.Common.{get_or, refl, sym, ap, ◌∙◌, subst, arith}
 use Rattle.std.proofs.lemmas.List.{get_or-replicate}
-use Rattle.net_core.specs.Ports.{port_list}
-use Rattle.product_rules.specs.Products.{products_apart}
-use Rattle.product_blocks.proofs.AloneLaws.{alone_apart}
-use Rattle.product_blocks.proofs.ApartLaws.{linked_are_apart}
-use Rattle.block_core.specs.Blocks.{Whole, PlacedFrom, IsPlaced, Among}
-use Rattle.block_core.specs.Order.{AllInOrder}
-use Rattle.block_core.specs.Formed.{names_scope, name_width, block_registers, block_wires, outputs_typed, IsFormed}
-use Rattle.block_forms.specs.WellFormed.{IsSpelled}
-use Rattle.cell_core.specs.Rows.{numbers}
-use Rattle.scatter_net.specs.Scatter.{data_name}
-use Rattle.control_net.specs.Names.{back_name}
-use Rattle.pipe_net.specs.declared.parts.Part.{Part}
-use Rattle.pipe_net.specs.Parts as part
-use Rattle.pipe_net.specs.Parts.{part_place, parts_of, part_count, behind_words}
-use Rattle.pipe_net.specs.Layout.{Layout}
+use Rattle.pipe_frames.specs.net_core.Ports.{port_list}
+use Rattle.pipe_frames.specs.product_rules.Products.{products_apart}
+use Rattle.pipe_frames.proofs.product_blocks.AloneLaws.{alone_apart}
+use Rattle.pipe_frames.proofs.product_blocks.ApartLaws.{linked_are_apart}
+use Rattle.pipe_frames.specs.block_core.Blocks.{Whole, PlacedFrom, IsPlaced, Among}
+use Rattle.pipe_frames.specs.block_core.Order.{AllInOrder}
+use Rattle.pipe_frames.specs.block_core.Formed.{names_scope, name_width, block_registers, block_wires, outputs_typed, IsFormed}
+use Rattle.pipe_frames.specs.block_forms.WellFormed.{IsSpelled}
+use Rattle.pipe_places.specs.cell_core.Rows.{numbers}
+use Rattle.pipe_frames.specs.scatter_net.Scatter.{data_name}
+use Rattle.pipe_frames.specs.control_net.Names.{back_name}
+use Rattle.pipe_frames.specs.pipe_net.declared.parts.Part.{Part}
+use Rattle.pipe_frames.specs.pipe_net.Parts as part
+use Rattle.pipe_frames.specs.pipe_net.Parts.{part_place, parts_of, part_count, behind_words}
+use Rattle.pipe_frames.specs.pipe_net.Layout.{Layout}
 use Rattle.pipe_forms.specs.Parts.{outputs_of, design, AreParts}
 use Rattle.pipe_forms.specs.Forming.{PipelinesAreFormed, ProductsAreApart}
 use Rattle.pipe_forms.proofs.SortLaws.{Sort, Scatter, Due, Returns, Sources, Slots, Word, Targets, Host, Turn, Commits, OfMap, Control, Marks, Value, Gather, Exit, Place, PartOfMap, Finder, Fetcher, Asker, Own, Written, Change, sort_of, below}

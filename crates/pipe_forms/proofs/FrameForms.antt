@@ -3,27 +3,27 @@ use Rattle.std.specs.Prelude.{◌≡◌, ℕ, ◌+◌, ◌-◌, ◌<◌, ◌≤�
 use Rattle.std.specs.List.{list_all}
 use Rattle.std.proofs.Common.{get_or, refl, sym, ap, subst, arith, inr}
 use Rattle.std.proofs.lemmas.List.{length-map}
-use Rattle.net_core.specs.Ports.{port_list}
-use Rattle.product_blocks.proofs.AloneLaws.{free_alone}
-use Rattle.block_core.specs.declared.name.Name.{Name}
-use Rattle.block_core.specs.declared.name.Name.TheVariants as name
-use Rattle.block_core.specs.Blocks.{Whole, Among, registers_of, memories_of, wires_of}
-use Rattle.block_core.specs.Parts.{Within}
-use Rattle.block_core.specs.Order.{InOrder}
-use Rattle.block_core.specs.Formed.{block_wire_width, word_width, name_width, IsThere}
-use Rattle.block_forms.specs.WellFormed.{wire_spelled}
-use Rattle.cell_nets.specs.declared.operand.Operand.TheVariants.{Net}
-use Rattle.ring_net.specs.declared.names.Counter.{Counter}
-use Rattle.ring_net.specs.declared.names.Counter.TheVariants.{Given, Answered, Injected, Gathered}
-use Rattle.control_net.specs.Block.{AreNets}
-use Rattle.control_net.specs.Returns.{due_name}
-use Rattle.scatter_net.specs.Scatter.{last_name}
-use Rattle.place_net.specs.Exit.{output_operands}
-use Rattle.touch_net.specs.Marking.{mark_operands}
-use Rattle.pipe_net.specs.declared.parts.Part.{Part}
-use Rattle.pipe_net.specs.Parts as part
-use Rattle.pipe_net.specs.Parts.{part_count, behind_words, behind_maps}
-use Rattle.pipe_net.specs.Layout.{Layout, last_of, commit_of}
+use Rattle.pipe_frames.specs.net_core.Ports.{port_list}
+use Rattle.pipe_frames.proofs.product_blocks.AloneLaws.{free_alone}
+use Rattle.pipe_frames.specs.block_core.declared.name.Name.{Name}
+use Rattle.pipe_frames.specs.block_core.declared.name.Name.TheVariants as name
+use Rattle.pipe_frames.specs.block_core.Blocks.{Whole, Among, registers_of, memories_of, wires_of}
+use Rattle.pipe_frames.specs.block_core.Parts.{Within}
+use Rattle.pipe_frames.specs.block_core.Order.{InOrder}
+use Rattle.pipe_frames.specs.block_core.Formed.{block_wire_width, word_width, name_width, IsThere}
+use Rattle.pipe_frames.specs.block_forms.WellFormed.{wire_spelled}
+use Rattle.pipe_marks.specs.cell_nets.declared.operand.Operand.TheVariants.{Net}
+use Rattle.pipe_frames.specs.ring_net.declared.names.Counter.{Counter}
+use Rattle.pipe_frames.specs.ring_net.declared.names.Counter.TheVariants.{Given, Answered, Injected, Gathered}
+use Rattle.pipe_frames.specs.control_net.Block.{AreNets}
+use Rattle.pipe_frames.specs.control_net.Returns.{due_name}
+use Rattle.pipe_frames.specs.scatter_net.Scatter.{last_name}
+use Rattle.pipe_places.specs.place_net.Exit.{output_operands}
+use Rattle.pipe_marks.specs.touch_net.Marking.{mark_operands}
+use Rattle.pipe_frames.specs.pipe_net.declared.parts.Part.{Part}
+use Rattle.pipe_frames.specs.pipe_net.Parts as part
+use Rattle.pipe_frames.specs.pipe_net.Parts.{part_count, behind_words, behind_maps}
+use Rattle.pipe_frames.specs.pipe_net.Layout.{Layout, last_of, commit_of}
 use Rattle.pipe_frames.specs.Parts.{next_slot, has_begun, read_by_control}
 use Rattle.pipe_forms.specs.Parts.{AreParts}
 use Rattle.pipe_forms.proofs.EarlierLemmas.{earlier, IsEarly, IsReady, among_earlier, early_there, ready_declared, ready_is_there, ready_offers}

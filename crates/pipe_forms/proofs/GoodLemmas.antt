@@ -3,22 +3,22 @@ use Rattle.std.specs.Prelude.{◌≡◌, ℕ, zero, suc, ◌^◌, ◌<◌, List,
 use Rattle.std.specs.List.{list_all}
 use Rattle.std.proofs.Common.{get_or, refl, sym, subst, arith}
 use Rattle.std.proofs.lemmas.Bool.{and_parts, ltb-true}
-use Rattle.net_core.specs.declared.tree.Word.{Word}
-use Rattle.net_core.specs.Ports.{port_list}
-use Rattle.net_core.specs.Width.{word_fits}
-use Rattle.design_rules.specs.FormedSyntax.{statement_spelled}
-use Rattle.product_blocks.specs.Alone.{IsApartAlone}
-use Rattle.product_blocks.proofs.AloneLaws.{free_alone}
-use Rattle.block_core.specs.declared.name.Name.{Name}
-use Rattle.block_core.specs.Blocks.{BlockTree, Whole, registers_of, memories_of}
-use Rattle.block_core.specs.Parts.{Within}
-use Rattle.block_core.specs.Order.{InOrder}
-use Rattle.block_core.specs.Formed.{word_width, words_fit, IsTypedBlock, StatementReads, IsThere}
-use Rattle.block_forms.specs.WellFormed.{wire_spelled}
-use Rattle.cell_nets.specs.declared.operand.Operand.{Operand}
-use Rattle.operand_blocks.specs.Wiring.{wires_block, IsWiring}
-use Rattle.pipe_net.specs.declared.parts.Part.{Part}
-use Rattle.pipe_net.specs.Parts as part
+use Rattle.pipe_frames.specs.net_core.declared.tree.Word.{Word}
+use Rattle.pipe_frames.specs.net_core.Ports.{port_list}
+use Rattle.pipe_frames.specs.net_core.Width.{word_fits}
+use Rattle.pipe_frames.specs.design_rules.FormedSyntax.{statement_spelled}
+use Rattle.pipe_frames.specs.product_blocks.Alone.{IsApartAlone}
+use Rattle.pipe_frames.proofs.product_blocks.AloneLaws.{free_alone}
+use Rattle.pipe_frames.specs.block_core.declared.name.Name.{Name}
+use Rattle.pipe_frames.specs.block_core.Blocks.{BlockTree, Whole, registers_of, memories_of}
+use Rattle.pipe_frames.specs.block_core.Parts.{Within}
+use Rattle.pipe_frames.specs.block_core.Order.{InOrder}
+use Rattle.pipe_frames.specs.block_core.Formed.{word_width, words_fit, IsTypedBlock, StatementReads, IsThere}
+use Rattle.pipe_frames.specs.block_forms.WellFormed.{wire_spelled}
+use Rattle.pipe_marks.specs.cell_nets.declared.operand.Operand.{Operand}
+use Rattle.pipe_marks.specs.operand_blocks.Wiring.{wires_block, IsWiring}
+use Rattle.pipe_frames.specs.pipe_net.declared.parts.Part.{Part}
+use Rattle.pipe_frames.specs.pipe_net.Parts as part
 use Rattle.pipe_forms.proofs.EarlierLemmas.{earlier, AreReady, ready_declared, ready_early, ready_none}
 
 -- The part of a number is well typed and in order, reads what is there, sets what is its own, can be spelled, and has its products apart.

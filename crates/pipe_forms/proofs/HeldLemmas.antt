@@ -3,26 +3,26 @@ use Rattle.std.specs.Prelude.{◌≡◌, ℕ, zero, suc, ◌+◌, ◌<◌, ◌�
 use Rattle.std.proofs.Common.{get_or, refl, sym, ap, ◌∙◌, subst, arith, inr}
 use Rattle.std.proofs.lemmas.List.{length-map, get_or-map, get_or_append_left, get_or-append-add}
 use Rattle.std.proofs.lemmas.List.Elements.{All-cons, All-map, Contains-get_or, Contains-append_left}
-use Rattle.block_core.specs.declared.name.Name.{Name}
-use Rattle.block_core.specs.declared.name.Name.TheVariants as name
-use Rattle.block_core.specs.Blocks.{Whole, Among, wires_of}
-use Rattle.block_core.specs.Formed.{block_registers, block_wires, block_wire_width}
-use Rattle.cell_nets.specs.declared.operand.Operand.{Operand}
-use Rattle.cell_nets.specs.declared.operand.Operand.TheVariants.{Known, Net, Part as Bits}
-use Rattle.cell_nets.specs.Operands.{IsAvailable}
-use Rattle.site_operands.specs.Sites.{SiteOperands, all_of}
-use Rattle.frame_net.specs.declared.held.Kept.{Kept}
-use Rattle.frame_net.specs.Gather.{kept_width}
-use Rattle.place_net.specs.Place.{width_at, widths_of, registers_from}
-use Rattle.place_net.specs.Sources.{kept_operands, source_operands}
-use Rattle.place_net.specs.Exit.{byte_operand, output_operands}
-use Rattle.site_place.specs.SitePlace.{site_widths, pointer_registers}
-use Rattle.row_net.specs.Table.{Stands, AreThere}
-use Rattle.pipe_net.specs.declared.parts.Part.{Part}
-use Rattle.pipe_net.specs.Parts as part
-use Rattle.pipe_net.specs.Parts.{part_count}
-use Rattle.pipe_net.specs.Layout.{Layout, cells_of, last_of, commit_of}
-use Rattle.pipe_net.specs.Standing.{held_registers, IsAtPlace}
+use Rattle.pipe_frames.specs.block_core.declared.name.Name.{Name}
+use Rattle.pipe_frames.specs.block_core.declared.name.Name.TheVariants as name
+use Rattle.pipe_frames.specs.block_core.Blocks.{Whole, Among, wires_of}
+use Rattle.pipe_frames.specs.block_core.Formed.{block_registers, block_wires, block_wire_width}
+use Rattle.pipe_marks.specs.cell_nets.declared.operand.Operand.{Operand}
+use Rattle.pipe_marks.specs.cell_nets.declared.operand.Operand.TheVariants.{Known, Net, Part as Bits}
+use Rattle.pipe_marks.specs.cell_nets.Operands.{IsAvailable}
+use Rattle.pipe_marks.specs.site_operands.Sites.{SiteOperands, all_of}
+use Rattle.pipe_frames.specs.frame_net.declared.held.Kept.{Kept}
+use Rattle.pipe_frames.specs.frame_net.Gather.{kept_width}
+use Rattle.pipe_places.specs.place_net.Place.{width_at, widths_of, registers_from}
+use Rattle.pipe_places.specs.place_net.Sources.{kept_operands, source_operands}
+use Rattle.pipe_places.specs.place_net.Exit.{byte_operand, output_operands}
+use Rattle.pipe_places.specs.site_place.SitePlace.{site_widths, pointer_registers}
+use Rattle.pipe_places.specs.row_net.Table.{Stands, AreThere}
+use Rattle.pipe_frames.specs.pipe_net.declared.parts.Part.{Part}
+use Rattle.pipe_frames.specs.pipe_net.Parts as part
+use Rattle.pipe_frames.specs.pipe_net.Parts.{part_count}
+use Rattle.pipe_frames.specs.pipe_net.Layout.{Layout, cells_of, last_of, commit_of}
+use Rattle.pipe_frames.specs.pipe_net.Standing.{held_registers, IsAtPlace}
 use Rattle.pipe_forms.specs.Reading.{before_place}
 use Rattle.pipe_forms.specs.Parts.{AreParts}
 use Rattle.pipe_forms.proofs.SortLaws.{is_there}

@@ -1,36 +1,36 @@
 -- The parts of maps are in order and well typed.
 use Rattle.std.specs.Prelude.{◌≡◌, ℕ, suc, ◌+◌, ◌*◌, ◌/◌, ◌<◌, ◌≤◌, ◌∷◌, length, slice_index, Bool, true, false}
 use Rattle.std.proofs.Common.{refl, sym, ap, ◌∙◌, subst, arith}
-use Rattle.net_core.specs.Ports.{port_list}
-use Rattle.xdp_maps.specs.declared.decl.MapKind.{MapKind}
-use Rattle.xdp_maps.specs.declared.decl.MapKind.TheVariants.{Hash, Array}
-use Rattle.product_blocks.proofs.AloneLaws.{free_alone}
-use Rattle.block_core.specs.declared.name.Name.{Name}
-use Rattle.block_core.specs.Blocks.{BlockTree, Whole}
-use Rattle.block_core.specs.Order.{InOrder, AllInOrder}
-use Rattle.block_core.specs.Formed.{IsTypedBlock, StatementReads, IsThere}
-use Rattle.cell_nets.specs.declared.operand.Operand.TheVariants.{Net}
-use Rattle.cell_core.specs.declared.site.Act.{Act}
-use Rattle.cell_core.specs.declared.site.Act.TheVariants as act
-use Rattle.cell_core.specs.Sites.{site_at}
-use Rattle.cell_core.specs.Formed.{IsInside}
-use Rattle.hazard_core.specs.Commits.{word_count}
-use Rattle.value_net.specs.Words.{access_start, answers_number}
-use Rattle.xdp_maps.specs.Calls.{change_bytes}
-use Rattle.xdp_machine.specs.Memory.{bytes_in}
-use Rattle.bpf_isa.specs.declared.operation.Size.{Size}
-use Rattle.bpf_isa.specs.declared.operation.Size.TheVariants.{B, H, W, Dw}
-use Rattle.cell_core.specs.Rows.{numbers}
+use Rattle.pipe_frames.specs.net_core.Ports.{port_list}
+use Rattle.pipe_marks.specs.xdp_maps.declared.decl.MapKind.{MapKind}
+use Rattle.pipe_marks.specs.xdp_maps.declared.decl.MapKind.TheVariants.{Hash, Array}
+use Rattle.pipe_frames.proofs.product_blocks.AloneLaws.{free_alone}
+use Rattle.pipe_frames.specs.block_core.declared.name.Name.{Name}
+use Rattle.pipe_frames.specs.block_core.Blocks.{BlockTree, Whole}
+use Rattle.pipe_frames.specs.block_core.Order.{InOrder, AllInOrder}
+use Rattle.pipe_frames.specs.block_core.Formed.{IsTypedBlock, StatementReads, IsThere}
+use Rattle.pipe_marks.specs.cell_nets.declared.operand.Operand.TheVariants.{Net}
+use Rattle.pipe_places.specs.cell_core.declared.site.Act.{Act}
+use Rattle.pipe_places.specs.cell_core.declared.site.Act.TheVariants as act
+use Rattle.pipe_places.specs.cell_core.Sites.{site_at}
+use Rattle.pipe_places.specs.cell_core.Formed.{IsInside}
+use Rattle.pipe_maps.specs.hazard_core.Commits.{word_count}
+use Rattle.pipe_maps.specs.value_net.Words.{access_start, answers_number}
+use Rattle.pipe_marks.specs.xdp_maps.Calls.{change_bytes}
+use Rattle.pipe_places.specs.xdp_machine.Memory.{bytes_in}
+use Rattle.pipe_places.specs.bpf_isa.declared.operation.Size.{Size}
+use Rattle.pipe_places.specs.bpf_isa.declared.operation.Size.TheVariants.{B, H, W, Dw}
+use Rattle.pipe_places.specs.cell_core.Rows.{numbers}
 use Rattle.std.proofs.lemmas.List.Elements.{filter_passes}
-use Rattle.commit_net.specs.Choosing.{all_read}
-use Rattle.change_net.specs.Written.{written_outside}
-use Rattle.map_block.specs.Parts.{MapTrees, IsText, Each, in_order, AreParts as AreMapParts}
-use Rattle.pipe_net.specs.declared.parts.Part.{Part}
-use Rattle.pipe_net.specs.Parts as part
-use Rattle.pipe_net.specs.Parts.{part_count, behind_words}
-use Rattle.pipe_net.specs.Layout.{Layout, program_of}
-use Rattle.pipe_turns.specs.Maps.{decl_at}
-use Rattle.pipe_turns.specs.Parts.{calm_net, writes_net}
+use Rattle.pipe_maps.specs.commit_net.Choosing.{all_read}
+use Rattle.pipe_places.specs.change_net.Written.{written_outside}
+use Rattle.pipe_maps.specs.map_block.Parts.{MapTrees, IsText, Each, in_order, AreParts as AreMapParts}
+use Rattle.pipe_frames.specs.pipe_net.declared.parts.Part.{Part}
+use Rattle.pipe_frames.specs.pipe_net.Parts as part
+use Rattle.pipe_frames.specs.pipe_net.Parts.{part_count, behind_words}
+use Rattle.pipe_frames.specs.pipe_net.Layout.{Layout, program_of}
+use Rattle.pipe_maps.specs.pipe_turns.Maps.{decl_at}
+use Rattle.pipe_maps.specs.pipe_turns.Parts.{calm_net, writes_net}
 use Rattle.pipe_places.specs.Layout.{load_sites}
 use Rattle.pipe_maps.specs.Parts.{commits_net, parts_at}
 use Rattle.pipe_forms.specs.Parts.{AreParts}

@@ -5,30 +5,30 @@ use Rattle.std.specs.List.{range_with_len}
 use Rattle.std.proofs.lemmas.Bool.{cases_lt}
 use Rattle.std.proofs.lemmas.List.{length-map}
 use Rattle.std.proofs.lemmas.List.Elements.{All-contains, All-head, All-tail, Contains-append_cases}
-use Rattle.net_core.specs.Ports.{port_list}
-use Rattle.xdp_maps.specs.declared.decl.MapKind.{MapKind}
-use Rattle.xdp_maps.specs.declared.decl.MapKind.TheVariants.{Hash, Array}
-use Rattle.block_core.specs.declared.name.Name.{Name}
-use Rattle.block_core.specs.declared.name.Name.TheVariants as name
-use Rattle.block_core.specs.Blocks.{BlockTree, Whole, Among, wires_of}
-use Rattle.block_core.specs.Formed.{names_scope, block_registers, block_memories, block_wires, block_wire_width, name_width}
-use Rattle.cell_nets.specs.declared.operand.Operand.{Operand}
-use Rattle.cell_nets.specs.declared.operand.Operand.TheVariants.{Known, Net, Part as Bits}
-use Rattle.cell_nets.specs.Operands.{IsOperand, IsDeclared}
-use Rattle.hash_net.specs.Hash.{count_name}
-use Rattle.hash_net.specs.HashNets.{hash_memories}
-use Rattle.hazard_core.specs.Commits.{word_count}
-use Rattle.array_net.specs.Words.{word_width}
-use Rattle.slot_net.specs.Slots.{SlotOperands, IsSlot, all_of, slots_of, operands_of}
-use Rattle.slot_net.specs.Shown.{shown_slot, shown_slots, per_slot}
-use Rattle.read_net.specs.Sites.{slot_cells}
-use Rattle.map_block.specs.Parts.{AreParts as AreMapParts}
-use Rattle.map_block.specs.Stored.{first_value}
-use Rattle.pipe_net.specs.declared.parts.Part.{Part}
-use Rattle.pipe_net.specs.Parts as part
-use Rattle.pipe_net.specs.Parts.{part_count}
-use Rattle.pipe_net.specs.Layout.{Layout}
-use Rattle.pipe_turns.specs.Maps.{decl_at}
+use Rattle.pipe_frames.specs.net_core.Ports.{port_list}
+use Rattle.pipe_marks.specs.xdp_maps.declared.decl.MapKind.{MapKind}
+use Rattle.pipe_marks.specs.xdp_maps.declared.decl.MapKind.TheVariants.{Hash, Array}
+use Rattle.pipe_frames.specs.block_core.declared.name.Name.{Name}
+use Rattle.pipe_frames.specs.block_core.declared.name.Name.TheVariants as name
+use Rattle.pipe_frames.specs.block_core.Blocks.{BlockTree, Whole, Among, wires_of}
+use Rattle.pipe_frames.specs.block_core.Formed.{names_scope, block_registers, block_memories, block_wires, block_wire_width, name_width}
+use Rattle.pipe_marks.specs.cell_nets.declared.operand.Operand.{Operand}
+use Rattle.pipe_marks.specs.cell_nets.declared.operand.Operand.TheVariants.{Known, Net, Part as Bits}
+use Rattle.pipe_marks.specs.cell_nets.Operands.{IsOperand, IsDeclared}
+use Rattle.pipe_maps.specs.hash_net.Hash.{count_name}
+use Rattle.pipe_maps.specs.hash_net.HashNets.{hash_memories}
+use Rattle.pipe_maps.specs.hazard_core.Commits.{word_count}
+use Rattle.pipe_places.specs.array_net.Words.{word_width}
+use Rattle.pipe_places.specs.slot_net.Slots.{SlotOperands, IsSlot, all_of, slots_of, operands_of}
+use Rattle.pipe_places.specs.slot_net.Shown.{shown_slot, shown_slots, per_slot}
+use Rattle.pipe_places.specs.read_net.Sites.{slot_cells}
+use Rattle.pipe_maps.specs.map_block.Parts.{AreParts as AreMapParts}
+use Rattle.pipe_maps.specs.map_block.Stored.{first_value}
+use Rattle.pipe_frames.specs.pipe_net.declared.parts.Part.{Part}
+use Rattle.pipe_frames.specs.pipe_net.Parts as part
+use Rattle.pipe_frames.specs.pipe_net.Parts.{part_count}
+use Rattle.pipe_frames.specs.pipe_net.Layout.{Layout}
+use Rattle.pipe_maps.specs.pipe_turns.Maps.{decl_at}
 use Rattle.pipe_maps.specs.Parts.{parts_at}
 use Rattle.pipe_forms.specs.Reading.{map_shown, map_shown_as}
 use Rattle.pipe_forms.specs.Parts.{AreParts}

@@ -2,24 +2,24 @@
 use Rattle.std.specs.Prelude.{◌≡◌, ℕ, zero, suc, ◌+◌, ◌<◌, ◌≤◌, ◌==◌, Bool, true, false, if◌then◌else◌, Option, Some, None, All, List, [], ◌∷◌, ◌++◌, length, slice_index}
 use Rattle.std.proofs.Common.{get_or, refl, sym, ap, ◌∙◌, subst, arith}
 use Rattle.std.proofs.lemmas.List.Elements.{All-head, All-tail, Contains-append_left}
-use Rattle.block_core.specs.declared.name.Name.{Name}
-use Rattle.block_core.specs.Blocks.{Whole}
-use Rattle.cell_core.specs.Sites.{site_at}
-use Rattle.cell_nets.specs.declared.operand.Operand.{Operand}
-use Rattle.cell_nets.specs.declared.operand.Operand.TheVariants.{Net}
-use Rattle.site_operands.specs.Sites.{SiteOperands, operands_of, all_of}
-use Rattle.touch_net.specs.declared.change.OwnKey.{OwnKey}
-use Rattle.touch_net.specs.declared.marks.MarkNets.{MarkNets}
-use Rattle.touch_net.specs.Touching.{change_operands, own_operands}
-use Rattle.touch_net.specs.Marking.{guard_operands, mark_operands}
-use Rattle.change_net.specs.Changes.{change_given}
-use Rattle.mark_net.specs.declared.nets.MarkSite.{MarkSite}
-use Rattle.mark_net.specs.Sites.{read_operands, site_operands, all_operands, outside}
-use Rattle.hazard_core.specs.Marks.{has_read}
-use Rattle.pipe_net.specs.declared.parts.Part.{Part}
-use Rattle.pipe_net.specs.Parts.{behind_maps}
-use Rattle.pipe_net.specs.Layout.{Layout, program_of, commit_of, last_of}
-use Rattle.pipe_net.specs.Relation.{read_sites}
+use Rattle.pipe_frames.specs.block_core.declared.name.Name.{Name}
+use Rattle.pipe_frames.specs.block_core.Blocks.{Whole}
+use Rattle.pipe_places.specs.cell_core.Sites.{site_at}
+use Rattle.pipe_marks.specs.cell_nets.declared.operand.Operand.{Operand}
+use Rattle.pipe_marks.specs.cell_nets.declared.operand.Operand.TheVariants.{Net}
+use Rattle.pipe_marks.specs.site_operands.Sites.{SiteOperands, operands_of, all_of}
+use Rattle.pipe_marks.specs.touch_net.declared.change.OwnKey.{OwnKey}
+use Rattle.pipe_marks.specs.touch_net.declared.marks.MarkNets.{MarkNets}
+use Rattle.pipe_marks.specs.touch_net.Touching.{change_operands, own_operands}
+use Rattle.pipe_marks.specs.touch_net.Marking.{guard_operands, mark_operands}
+use Rattle.pipe_places.specs.change_net.Changes.{change_given}
+use Rattle.pipe_marks.specs.mark_net.declared.nets.MarkSite.{MarkSite}
+use Rattle.pipe_marks.specs.mark_net.Sites.{read_operands, site_operands, all_operands, outside}
+use Rattle.pipe_maps.specs.hazard_core.Marks.{has_read}
+use Rattle.pipe_frames.specs.pipe_net.declared.parts.Part.{Part}
+use Rattle.pipe_frames.specs.pipe_net.Parts.{behind_maps}
+use Rattle.pipe_frames.specs.pipe_net.Layout.{Layout, program_of, commit_of, last_of}
+use Rattle.pipe_frames.specs.pipe_net.Relation.{read_sites}
 use Rattle.pipe_marks.specs.Parts.{advances, mark_register, IsMarkOf, Unread, Read, IsMarkBefore, comes_by, IsOwnAt, IsMarkAt, IsMarkNets}
 use Rattle.pipe_forms.specs.Parts.{AreParts}
 use Rattle.pipe_forms.proofs.EarlierLemmas.{IsReady, AreReady, ready_none, ready_cons, ready_list, ready_append}

@@ -1,16 +1,16 @@
 -- The parts of marks, of what the host reads, and of places are in order and well typed.
 use Rattle.std.specs.Prelude.{ℕ, ◌+◌, ◌<◌, ◌≤◌, List, length}
 use Rattle.std.proofs.Common.{refl, sym, subst, arith}
-use Rattle.product_blocks.proofs.AloneLaws.{free_alone}
-use Rattle.block_core.specs.declared.name.Name.{Name}
-use Rattle.block_core.specs.Blocks.{Whole}
-use Rattle.cell_nets.specs.declared.operand.Operand.TheVariants.{Net}
-use Rattle.host_net.specs.Values.{word_name}
-use Rattle.mark_net.specs.Sites.{outside}
-use Rattle.pipe_net.specs.declared.parts.Part.{Part}
-use Rattle.pipe_net.specs.Parts as part
-use Rattle.pipe_net.specs.Parts.{part_count, behind_maps}
-use Rattle.pipe_net.specs.Layout.{Layout, commit_of, last_of}
+use Rattle.pipe_frames.proofs.product_blocks.AloneLaws.{free_alone}
+use Rattle.pipe_frames.specs.block_core.declared.name.Name.{Name}
+use Rattle.pipe_frames.specs.block_core.Blocks.{Whole}
+use Rattle.pipe_marks.specs.cell_nets.declared.operand.Operand.TheVariants.{Net}
+use Rattle.pipe_maps.specs.host_net.Values.{word_name}
+use Rattle.pipe_marks.specs.mark_net.Sites.{outside}
+use Rattle.pipe_frames.specs.pipe_net.declared.parts.Part.{Part}
+use Rattle.pipe_frames.specs.pipe_net.Parts as part
+use Rattle.pipe_frames.specs.pipe_net.Parts.{part_count, behind_maps}
+use Rattle.pipe_frames.specs.pipe_net.Layout.{Layout, commit_of, last_of}
 use Rattle.pipe_marks.specs.Parts.{advances}
 use Rattle.pipe_forms.specs.Parts.{AreParts}
 use Rattle.pipe_forms.proofs.EarlierLemmas.{earlier, IsReady, ready_declared, ready_early, ready_is_there}

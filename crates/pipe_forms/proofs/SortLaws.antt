@@ -2,12 +2,12 @@
 use Rattle.std.specs.Prelude.{◌≡◌, ℕ, zero, suc, ◌+◌, ◌*◌, ◌-◌, ◌<◌, ◌≤◌, map}
 use Rattle.std.proofs.Common.{sym, ap, subst, arith, inl, inr}
 use Rattle.std.proofs.lemmas.Bool.{cases_eq, cases_lt}
-use Rattle.block_core.specs.Blocks.{Whole, Among}
-use Rattle.cell_core.specs.Rows.{numbers}
-use Rattle.pipe_net.specs.declared.parts.Part.{Part}
-use Rattle.pipe_net.specs.declared.parts.Sizes.{Sizes}
-use Rattle.pipe_net.specs.Parts as part
-use Rattle.pipe_net.specs.Parts.{behind_words, behind_maps, parts_of, part_count}
+use Rattle.pipe_frames.specs.block_core.Blocks.{Whole, Among}
+use Rattle.pipe_places.specs.cell_core.Rows.{numbers}
+use Rattle.pipe_frames.specs.pipe_net.declared.parts.Part.{Part}
+use Rattle.pipe_frames.specs.pipe_net.declared.parts.Sizes.{Sizes}
+use Rattle.pipe_frames.specs.pipe_net.Parts as part
+use Rattle.pipe_frames.specs.pipe_net.Parts.{behind_words, behind_maps, parts_of, part_count}
 
 -- ---- by their numbers
 -- the six parts of a map

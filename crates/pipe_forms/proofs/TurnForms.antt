@@ -2,29 +2,29 @@
 use Rattle.std.specs.Prelude.{◌≡◌, ℕ, ◌+◌, ◌<◌, All, List, length, true}
 use Rattle.std.proofs.Common.{get_or, refl, sym, ap, ◌∙◌, subst, arith, inl}
 use Rattle.std.proofs.lemmas.List.{length-map, get_or_default}
-use Rattle.net_core.specs.Nets.{Tree, TConst}
-use Rattle.net_core.specs.Ports.{port_list}
-use Rattle.net_core.specs.Value.{nothing}
-use Rattle.net_core.specs.Width.{width_of}
-use Rattle.product_rules.specs.Products.{is_flat}
-use Rattle.product_blocks.proofs.AloneLaws.{free_alone}
-use Rattle.block_core.specs.declared.name.Name.{Name}
-use Rattle.block_core.specs.Blocks.{Whole}
-use Rattle.block_core.specs.Order.{Reads, IsBefore}
-use Rattle.block_core.specs.Formed.{names_scope, name_width, word_width}
-use Rattle.ring_net.specs.declared.names.Counter.TheVariants.{Given}
-use Rattle.ring_net.specs.declared.names.Register.TheVariants.{Slot}
-use Rattle.ring_net.specs.Names.{register_name}
-use Rattle.map_block.specs.Stored.{host_may}
-use Rattle.host_net.specs.Host.{may_tree, IsShallow, HaveWidths}
-use Rattle.turn_net.specs.Nets.{outside}
-use Rattle.target_net.specs.Targets.{outside_of}
-use Rattle.pipe_net.specs.declared.parts.Part.{Part}
-use Rattle.pipe_net.specs.Parts as part
-use Rattle.pipe_net.specs.Parts.{part_count, behind_words}
-use Rattle.pipe_net.specs.Layout.{Layout, commit_of}
-use Rattle.pipe_turns.specs.Maps.{taken_slots}
-use Rattle.pipe_turns.specs.Parts.{calm_net, done_net, host_nets, turn_nets, form_at}
+use Rattle.pipe_frames.specs.net_core.Nets.{Tree, TConst}
+use Rattle.pipe_frames.specs.net_core.Ports.{port_list}
+use Rattle.pipe_frames.specs.net_core.Value.{nothing}
+use Rattle.pipe_frames.specs.net_core.Width.{width_of}
+use Rattle.pipe_frames.specs.product_rules.Products.{is_flat}
+use Rattle.pipe_frames.proofs.product_blocks.AloneLaws.{free_alone}
+use Rattle.pipe_frames.specs.block_core.declared.name.Name.{Name}
+use Rattle.pipe_frames.specs.block_core.Blocks.{Whole}
+use Rattle.pipe_frames.specs.block_core.Order.{Reads, IsBefore}
+use Rattle.pipe_frames.specs.block_core.Formed.{names_scope, name_width, word_width}
+use Rattle.pipe_frames.specs.ring_net.declared.names.Counter.TheVariants.{Given}
+use Rattle.pipe_frames.specs.ring_net.declared.names.Register.TheVariants.{Slot}
+use Rattle.pipe_frames.specs.ring_net.Names.{register_name}
+use Rattle.pipe_maps.specs.map_block.Stored.{host_may}
+use Rattle.pipe_maps.specs.host_net.Host.{may_tree, IsShallow, HaveWidths}
+use Rattle.pipe_maps.specs.turn_net.Nets.{outside}
+use Rattle.pipe_maps.specs.target_net.Targets.{outside_of}
+use Rattle.pipe_frames.specs.pipe_net.declared.parts.Part.{Part}
+use Rattle.pipe_frames.specs.pipe_net.Parts as part
+use Rattle.pipe_frames.specs.pipe_net.Parts.{part_count, behind_words}
+use Rattle.pipe_frames.specs.pipe_net.Layout.{Layout, commit_of}
+use Rattle.pipe_maps.specs.pipe_turns.Maps.{taken_slots}
+use Rattle.pipe_maps.specs.pipe_turns.Parts.{calm_net, done_net, host_nets, turn_nets, form_at}
 use Rattle.pipe_forms.specs.Parts.{AreParts}
 use Rattle.pipe_forms.proofs.EarlierLemmas.{earlier, ready_declared, ready_early, ready_is_there}
 use Rattle.pipe_forms.proofs.HeldLemmas.{among, commit_within}

@@ -3,36 +3,36 @@ use Rattle.std.specs.Prelude.{◌≡◌, ℕ, zero, suc, ◌+◌, ◌-◌, ◌<�
 use Rattle.std.proofs.Common.{get_or, refl, sym, ap, ◌∙◌, subst, arith, inr}
 use Rattle.std.proofs.lemmas.List.{length-map, length-replicate, get_or-replicate, get_or_append_left}
 use Rattle.std.proofs.lemmas.List.Elements.{All-nil, All-cons, All-head, All-tail, All-filter}
-use Rattle.net_core.specs.Ports.{port_list}
-use Rattle.block_core.specs.declared.name.Name.{Name}
-use Rattle.block_core.specs.declared.name.Name.TheVariants as name
-use Rattle.block_core.specs.Blocks.{Whole, Among, wires_of}
-use Rattle.block_core.specs.Formed.{block_registers, block_wires, block_wire_width, name_width}
-use Rattle.cell_core.specs.Rows.{numbers}
-use Rattle.cell_core.specs.Sites.{site_at, records}
-use Rattle.cell_nets.specs.declared.operand.Operand.{Operand}
-use Rattle.cell_nets.specs.declared.operand.Operand.TheVariants.{Known, Net}
-use Rattle.cell_nets.specs.Wires.{own, behind}
-use Rattle.operand_blocks.proofs.WiringLaws.{own_all}
-use Rattle.site_operands.specs.Sites.{operands_of}
-use Rattle.read_net.specs.declared.sites.OwnSite.{OwnSite}
-use Rattle.read_net.specs.Sites.{cells_of, all_cells, slot_cells}
-use Rattle.commit_net.specs.Targets.{slots_of}
-use Rattle.turn_net.specs.declared.nets.RecordNets.{RecordNets}
-use Rattle.turn_net.specs.Nets.{kept, sites_of, site_read, read_of, all_read, signals, outside, done_operand, slot_operands, own_operands}
-use Rattle.target_net.specs.declared.targets.Target.{Target}
-use Rattle.target_net.specs.Targets.{all_of as all_targets, outside_of}
-use Rattle.target_net.specs.Commits.{bits_of}
-use Rattle.ring_net.specs.declared.names.Register.TheVariants.{Holds}
-use Rattle.ring_net.specs.Names.{register_name}
-use Rattle.control_net.specs.Names.{back_name}
-use Rattle.pipe_net.specs.declared.parts.Part.{Part}
-use Rattle.pipe_net.specs.Parts as part
-use Rattle.pipe_net.specs.Parts.{behind_words, behind_maps}
-use Rattle.pipe_net.specs.Layout.{Layout, program_of, last_of, commit_of}
-use Rattle.pipe_net.specs.Standing.{IsAtPlace}
-use Rattle.pipe_turns.specs.Maps.{taken_from, taken_slots}
-use Rattle.pipe_turns.specs.Parts.{IsTargetOf, present_net, calm_net, ready_net, writes_net, turn_nets}
+use Rattle.pipe_frames.specs.net_core.Ports.{port_list}
+use Rattle.pipe_frames.specs.block_core.declared.name.Name.{Name}
+use Rattle.pipe_frames.specs.block_core.declared.name.Name.TheVariants as name
+use Rattle.pipe_frames.specs.block_core.Blocks.{Whole, Among, wires_of}
+use Rattle.pipe_frames.specs.block_core.Formed.{block_registers, block_wires, block_wire_width, name_width}
+use Rattle.pipe_places.specs.cell_core.Rows.{numbers}
+use Rattle.pipe_places.specs.cell_core.Sites.{site_at, records}
+use Rattle.pipe_marks.specs.cell_nets.declared.operand.Operand.{Operand}
+use Rattle.pipe_marks.specs.cell_nets.declared.operand.Operand.TheVariants.{Known, Net}
+use Rattle.pipe_marks.specs.cell_nets.Wires.{own, behind}
+use Rattle.pipe_marks.proofs.operand_blocks.WiringLaws.{own_all}
+use Rattle.pipe_marks.specs.site_operands.Sites.{operands_of}
+use Rattle.pipe_places.specs.read_net.declared.sites.OwnSite.{OwnSite}
+use Rattle.pipe_places.specs.read_net.Sites.{cells_of, all_cells, slot_cells}
+use Rattle.pipe_maps.specs.commit_net.Targets.{slots_of}
+use Rattle.pipe_maps.specs.turn_net.declared.nets.RecordNets.{RecordNets}
+use Rattle.pipe_maps.specs.turn_net.Nets.{kept, sites_of, site_read, read_of, all_read, signals, outside, done_operand, slot_operands, own_operands}
+use Rattle.pipe_maps.specs.target_net.declared.targets.Target.{Target}
+use Rattle.pipe_maps.specs.target_net.Targets.{all_of as all_targets, outside_of}
+use Rattle.pipe_maps.specs.target_net.Commits.{bits_of}
+use Rattle.pipe_frames.specs.ring_net.declared.names.Register.TheVariants.{Holds}
+use Rattle.pipe_frames.specs.ring_net.Names.{register_name}
+use Rattle.pipe_frames.specs.control_net.Names.{back_name}
+use Rattle.pipe_frames.specs.pipe_net.declared.parts.Part.{Part}
+use Rattle.pipe_frames.specs.pipe_net.Parts as part
+use Rattle.pipe_frames.specs.pipe_net.Parts.{behind_words, behind_maps}
+use Rattle.pipe_frames.specs.pipe_net.Layout.{Layout, program_of, last_of, commit_of}
+use Rattle.pipe_frames.specs.pipe_net.Standing.{IsAtPlace}
+use Rattle.pipe_maps.specs.pipe_turns.Maps.{taken_from, taken_slots}
+use Rattle.pipe_maps.specs.pipe_turns.Parts.{IsTargetOf, present_net, calm_net, ready_net, writes_net, turn_nets}
 use Rattle.pipe_maps.specs.Parts.{commits_net}
 use Rattle.pipe_forms.specs.Parts.{AreParts}
 use Rattle.pipe_forms.proofs.EarlierLemmas.{IsReady, AreReady, among_earlier, ready_none, ready_cons, ready_list, ready_append, ready_there, ready_later, ready_offers}

@@ -1,12 +1,12 @@
 -- The design of a pipeline is in order and well typed, and can be written down.
 use Rattle.std.specs.Prelude.{◌≡◌, ℕ, true, List}
-use Rattle.net_core.specs.Ports.{port_list}
-use Rattle.block_core.specs.Blocks.{Whole}
-use Rattle.block_core.specs.Formed.{IsFormed}
-use Rattle.block_forms.specs.WellFormed.{IsSpelled}
-use Rattle.product_rules.specs.Products.{products_apart}
-use Rattle.pipe_net.specs.declared.parts.Part.{Part}
-use Rattle.pipe_net.specs.Layout.{Layout}
+use Rattle.pipe_frames.specs.net_core.Ports.{port_list}
+use Rattle.pipe_frames.specs.block_core.Blocks.{Whole}
+use Rattle.pipe_frames.specs.block_core.Formed.{IsFormed}
+use Rattle.pipe_frames.specs.block_forms.WellFormed.{IsSpelled}
+use Rattle.pipe_frames.specs.product_rules.Products.{products_apart}
+use Rattle.pipe_frames.specs.pipe_net.declared.parts.Part.{Part}
+use Rattle.pipe_frames.specs.pipe_net.Layout.{Layout}
 use Rattle.pipe_forms.specs.Parts.{outputs_of, design, AreParts}
 
 -- Whatever blocks of these contracts are linked: each wire stands behind those that it reads, all is well typed, and the grammar can spell all trees.

@@ -1,28 +1,28 @@
 -- The parts of a pipeline, all together, and the design that is linked of them.
 use Rattle.std.specs.Prelude.{◌≡◌, ℕ, ◌<◌, ◌≤◌, List, [], ◌∷◌, length}
-use Rattle.xdp_maps.specs.declared.decl.MapKind.TheVariants.{Array}
-use Rattle.net_core.specs.declared.ports.TheConstants.{IN_READY, OUT_VALID, OUT_DATA, OUT_BYTES, OUT_LAST, OUT_VERDICT, OUT_TARGET, OUT_RELOAD, HOST_VALUE, HOST_READY, HOST_PASSED}
-use Rattle.net_core.specs.Nets.{Netlist, TRead}
-use Rattle.net_core.specs.Ports.{port_list, port_names}
-use Rattle.block_core.specs.declared.name.Name.{Name}
-use Rattle.block_core.specs.Blocks.{OutputTree, Whole}
-use Rattle.block_core.specs.Link.{numbered_names, link}
-use Rattle.product_blocks.specs.Alone.{IsApartAlone}
-use Rattle.cell_nets.specs.declared.operand.Operand.TheVariants.{Known}
-use Rattle.ring_net.specs.declared.names.Register.TheVariants.{Passed}
-use Rattle.ring_net.specs.Names.{register_name}
-use Rattle.control_net.specs.declared.names.Wire.TheVariants as wire
-use Rattle.control_net.specs.Names.{back_name}
-use Rattle.scatter_net.specs.Scatter.{last_name, bytes_name, verdict_name, target_name, data_name}
-use Rattle.host_net.specs.Names.{value_name}
-use Rattle.pipe_net.specs.declared.parts.Part.{Part}
-use Rattle.pipe_net.specs.Parts as part
-use Rattle.pipe_net.specs.Parts.{part_place, parts_of}
-use Rattle.pipe_net.specs.Layout.{Layout, IsSized, last_of}
+use Rattle.pipe_marks.specs.xdp_maps.declared.decl.MapKind.TheVariants.{Array}
+use Rattle.pipe_frames.specs.net_core.declared.ports.TheConstants.{IN_READY, OUT_VALID, OUT_DATA, OUT_BYTES, OUT_LAST, OUT_VERDICT, OUT_TARGET, OUT_RELOAD, HOST_VALUE, HOST_READY, HOST_PASSED}
+use Rattle.pipe_frames.specs.net_core.Nets.{Netlist, TRead}
+use Rattle.pipe_frames.specs.net_core.Ports.{port_list, port_names}
+use Rattle.pipe_frames.specs.block_core.declared.name.Name.{Name}
+use Rattle.pipe_frames.specs.block_core.Blocks.{OutputTree, Whole}
+use Rattle.pipe_frames.specs.block_core.Link.{numbered_names, link}
+use Rattle.pipe_frames.specs.product_blocks.Alone.{IsApartAlone}
+use Rattle.pipe_marks.specs.cell_nets.declared.operand.Operand.TheVariants.{Known}
+use Rattle.pipe_frames.specs.ring_net.declared.names.Register.TheVariants.{Passed}
+use Rattle.pipe_frames.specs.ring_net.Names.{register_name}
+use Rattle.pipe_frames.specs.control_net.declared.names.Wire.TheVariants as wire
+use Rattle.pipe_frames.specs.control_net.Names.{back_name}
+use Rattle.pipe_frames.specs.scatter_net.Scatter.{last_name, bytes_name, verdict_name, target_name, data_name}
+use Rattle.pipe_maps.specs.host_net.Names.{value_name}
+use Rattle.pipe_frames.specs.pipe_net.declared.parts.Part.{Part}
+use Rattle.pipe_frames.specs.pipe_net.Parts as part
+use Rattle.pipe_frames.specs.pipe_net.Parts.{part_place, parts_of}
+use Rattle.pipe_frames.specs.pipe_net.Layout.{Layout, IsSized, last_of}
 use Rattle.pipe_frames.specs.Parts.{told_by, AreFrameParts}
 use Rattle.pipe_marks.specs.Parts.{AreMarkParts}
-use Rattle.pipe_turns.specs.Maps.{decl_at}
-use Rattle.pipe_turns.specs.Parts.{ready_net, AreTurnParts}
+use Rattle.pipe_maps.specs.pipe_turns.Maps.{decl_at}
+use Rattle.pipe_maps.specs.pipe_turns.Parts.{ready_net, AreTurnParts}
 use Rattle.pipe_maps.specs.Parts.{AreMapParts}
 use Rattle.pipe_places.specs.Parts.{AreStageParts}
 use Rattle.pipe_forms.specs.Reading.{AreReadings}

@@ -1,21 +1,21 @@
 -- What places, and the parts of words under pointers, may read of others.
 use Rattle.std.specs.Prelude.{◌≡◌, ℕ, zero, suc, ◌+◌, ◌<◌, ◌≤◌, All, List, [], ◌∷◌, length}
-use Rattle.xdp_maps.specs.declared.decl.MapKind.{MapKind}
-use Rattle.xdp_maps.specs.declared.decl.MapKind.TheVariants.{Hash, Array}
-use Rattle.block_core.specs.declared.name.Name.{Name}
-use Rattle.block_core.specs.Blocks.{Whole}
-use Rattle.cell_nets.specs.declared.operand.Operand.{Operand}
-use Rattle.cell_nets.specs.declared.operand.Operand.TheVariants.{Net}
-use Rattle.cell_nets.specs.Operands.{IsAvailable}
-use Rattle.hazard_core.specs.Tables.{decl_of}
-use Rattle.hash_net.specs.Hash.{count_name}
-use Rattle.slot_net.specs.Slots.{operands_of}
-use Rattle.slot_net.specs.Shown.{shown_slots}
-use Rattle.place_net.specs.Sources.{source_operands}
-use Rattle.pipe_net.specs.declared.parts.Part.{Part}
-use Rattle.pipe_net.specs.Parts as part
-use Rattle.pipe_net.specs.Layout.{Layout, program_of, last_of}
-use Rattle.pipe_net.specs.Standing.{held_registers}
+use Rattle.pipe_marks.specs.xdp_maps.declared.decl.MapKind.{MapKind}
+use Rattle.pipe_marks.specs.xdp_maps.declared.decl.MapKind.TheVariants.{Hash, Array}
+use Rattle.pipe_frames.specs.block_core.declared.name.Name.{Name}
+use Rattle.pipe_frames.specs.block_core.Blocks.{Whole}
+use Rattle.pipe_marks.specs.cell_nets.declared.operand.Operand.{Operand}
+use Rattle.pipe_marks.specs.cell_nets.declared.operand.Operand.TheVariants.{Net}
+use Rattle.pipe_marks.specs.cell_nets.Operands.{IsAvailable}
+use Rattle.pipe_maps.specs.hazard_core.Tables.{decl_of}
+use Rattle.pipe_maps.specs.hash_net.Hash.{count_name}
+use Rattle.pipe_places.specs.slot_net.Slots.{operands_of}
+use Rattle.pipe_places.specs.slot_net.Shown.{shown_slots}
+use Rattle.pipe_places.specs.place_net.Sources.{source_operands}
+use Rattle.pipe_frames.specs.pipe_net.declared.parts.Part.{Part}
+use Rattle.pipe_frames.specs.pipe_net.Parts as part
+use Rattle.pipe_frames.specs.pipe_net.Layout.{Layout, program_of, last_of}
+use Rattle.pipe_frames.specs.pipe_net.Standing.{held_registers}
 use Rattle.pipe_places.specs.Layout.{load_sites}
 use Rattle.pipe_places.specs.Parts.{advances, AreWords, AreStageParts}
 

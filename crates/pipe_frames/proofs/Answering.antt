@@ -4,26 +4,26 @@ use Rattle.std.proofs.Common.{get_or, refl, sym, ap, ◌∙◌, subst, arith, in
 use Rattle.std.proofs.lemmas.Bool.{cases_lt}
 use Rattle.std.proofs.lemmas.List.{nil_from_length, length-map, get_or-map, get_or-drop, get_or_append_left}
 use Rattle.std.proofs.Math.Seq.{get_or-append_right}
-use Rattle.beat_core.specs.declared.answer.Answer.{Answer}
-use Rattle.beat_core.specs.Ports.{Arrival}
-use Rattle.net_core.specs.declared.tree.Word.{Word}
-use Rattle.net_core.specs.declared.ports.Inputs.{Inputs}
-use Rattle.net_core.specs.Value.{bit, Env}
-use Rattle.net_core.specs.Clock.{Stored, done}
-use Rattle.block_core.specs.declared.name.Name.{Name}
-use Rattle.block_core.specs.Blocks.{Whole}
-use Rattle.block_core.specs.Formed.{block_memory_width}
-use Rattle.cell_core.specs.Cells.{bit as bit_of}
-use Rattle.ring_net.specs.declared.names.Counter.TheVariants.{Answered}
-use Rattle.ring_net.specs.Ring.{slot}
-use Rattle.ring_net.proofs.RingLaws.{slots_apart}
+use Rattle.control_net.specs.beat_core.declared.answer.Answer.{Answer}
+use Rattle.control_net.specs.beat_core.Ports.{Arrival}
+use Rattle.control_net.specs.net_core.declared.tree.Word.{Word}
+use Rattle.control_net.specs.net_core.declared.ports.Inputs.{Inputs}
+use Rattle.control_net.specs.net_core.Value.{bit, Env}
+use Rattle.control_net.specs.net_core.Clock.{Stored, done}
+use Rattle.control_net.specs.block_core.declared.name.Name.{Name}
+use Rattle.control_net.specs.block_core.Blocks.{Whole}
+use Rattle.control_net.specs.block_core.Formed.{block_memory_width}
+use Rattle.pipe_net.specs.cell_core.Cells.{bit as bit_of}
+use Rattle.control_net.specs.ring_net.declared.names.Counter.TheVariants.{Answered}
+use Rattle.control_net.specs.ring_net.Ring.{slot}
+use Rattle.control_net.proofs.ring_net.RingLaws.{slots_apart}
 use Rattle.control_net.specs.declared.names.Wire.TheVariants as wire
 use Rattle.control_net.specs.Block.{Shows}
-use Rattle.frame_net.specs.declared.held.Kept.{Kept}
-use Rattle.frame_net.specs.Frames.{HoldsFrame}
-use Rattle.frame_net.specs.Answers.{answer_widths, word_widths, HoldsAnswer}
-use Rattle.pipe_core.specs.Machine.{Packet, State, swept, inside, no_frame, answer_of}
-use Rattle.place_net.specs.Exit.{byte_numbers, KeepsAnswers, SeesExit, HasLeft}
+use Rattle.scatter_net.specs.frame_net.declared.held.Kept.{Kept}
+use Rattle.scatter_net.specs.frame_net.Frames.{HoldsFrame}
+use Rattle.scatter_net.specs.frame_net.Answers.{answer_widths, word_widths, HoldsAnswer}
+use Rattle.pipe_net.specs.pipe_core.Machine.{Packet, State, swept, inside, no_frame, answer_of}
+use Rattle.pipe_net.specs.place_net.Exit.{byte_numbers, KeepsAnswers, SeesExit, HasLeft}
 use Rattle.pipe_net.specs.declared.parts.Part.{Part}
 use Rattle.pipe_net.specs.Parts as part
 use Rattle.pipe_net.specs.Machine.{input_of}

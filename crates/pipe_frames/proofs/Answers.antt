@@ -3,20 +3,20 @@ use Rattle.std.specs.Prelude.{◌≡◌, ℕ, ◌^◌, ◌<◌, Contains, List, 
 use Rattle.std.proofs.Common.{get_or, sym, ap, ◌∙◌, subst, arith}
 use Rattle.std.proofs.lemmas.List.{length-map, get_or-map}
 use Rattle.std.proofs.lemmas.List.Elements.{Contains-get_or}
-use Rattle.beat_core.specs.Laws.{IsFrame}
-use Rattle.beat_core.specs.Ports.{Arrival}
-use Rattle.net_core.specs.Value.{Env}
-use Rattle.block_core.specs.declared.name.Name.{Name}
-use Rattle.cell_core.specs.declared.program.FrameByte.{FrameByte}
-use Rattle.cell_core.specs.Cells.{bits_from}
-use Rattle.cell_core.specs.Sites.{with_bytes}
-use Rattle.cell_nets.specs.declared.operand.Operand.{Operand}
-use Rattle.cell_nets.specs.Operands.{number_in}
-use Rattle.hazard_core.specs.Held.{held_value}
-use Rattle.pipe_core.specs.Machine.{Packet, answer_of}
-use Rattle.frame_net.specs.Answers.{Changes}
-use Rattle.place_net.specs.declared.outputs.AnswerByte.{AnswerByte}
-use Rattle.place_net.specs.Exit.{byte_number, byte_numbers, IsAnswer}
+use Rattle.control_net.specs.beat_core.Laws.{IsFrame}
+use Rattle.control_net.specs.beat_core.Ports.{Arrival}
+use Rattle.control_net.specs.net_core.Value.{Env}
+use Rattle.control_net.specs.block_core.declared.name.Name.{Name}
+use Rattle.pipe_net.specs.cell_core.declared.program.FrameByte.{FrameByte}
+use Rattle.pipe_net.specs.cell_core.Cells.{bits_from}
+use Rattle.pipe_net.specs.cell_core.Sites.{with_bytes}
+use Rattle.pipe_net.specs.cell_nets.declared.operand.Operand.{Operand}
+use Rattle.pipe_net.specs.cell_nets.Operands.{number_in}
+use Rattle.pipe_net.specs.hazard_core.Held.{held_value}
+use Rattle.pipe_net.specs.pipe_core.Machine.{Packet, answer_of}
+use Rattle.scatter_net.specs.frame_net.Answers.{Changes}
+use Rattle.pipe_net.specs.place_net.declared.outputs.AnswerByte.{AnswerByte}
+use Rattle.pipe_net.specs.place_net.Exit.{byte_number, byte_numbers, IsAnswer}
 use Rattle.pipe_net.specs.declared.parts.Part.{Part}
 use Rattle.pipe_net.specs.Layout.{Layout}
 use Rattle.pipe_net.specs.Saying.{ShowsAnswer}

@@ -1,10 +1,10 @@
 -- What the parts of frames store before the first clock.
 use Rattle.std.specs.Prelude.{◌≡◌, ℕ, zero, suc, ◌+◌, false, Option, None, is_some, List, ◌∷◌, map, replicate}
 use Rattle.std.proofs.Common.{refl, sym, ap, ◌∙◌, subst, arith}
-use Rattle.xdp_maps.specs.State.{MapState}
-use Rattle.net_core.specs.Clock.{Stored}
-use Rattle.block_core.specs.Blocks.{Whole, first_of}
-use Rattle.pipe_core.specs.Machine.{Packet, State, inside, new_state}
+use Rattle.pipe_net.specs.xdp_maps.State.{MapState}
+use Rattle.control_net.specs.net_core.Clock.{Stored}
+use Rattle.control_net.specs.block_core.Blocks.{Whole, first_of}
+use Rattle.pipe_net.specs.pipe_core.Machine.{Packet, State, inside, new_state}
 use Rattle.control_net.specs.Control.{first_state, IsSound, StartsSound}
 use Rattle.control_net.specs.Block.{code}
 use Rattle.pipe_net.specs.declared.parts.Part.{Part}

@@ -3,10 +3,10 @@ use Rattle.std.specs.Prelude.{◌≡◌, ◌≢◌, ℕ, zero, suc, ◌%◌, ◌
 use Rattle.std.proofs.Common.{get_or, refl, sym, ap, ◌∙◌, arith, inl, inr, length-set, get_or-set_other, get_or-set_same}
 use Rattle.std.proofs.lemmas.Bool.{cases_eq, cases_lt}
 use Rattle.std.proofs.Math.Nat.{mod-eq_of_lt}
-use Rattle.list_laws.specs.Bytes.{IsBytes}
-use Rattle.cell_core.specs.declared.program.FrameByte.{FrameByte}
-use Rattle.cell_core.specs.Cells.{bits_from}
-use Rattle.cell_core.specs.Sites.{with_bytes}
+use Rattle.control_net.specs.list_laws.Bytes.{IsBytes}
+use Rattle.pipe_net.specs.cell_core.declared.program.FrameByte.{FrameByte}
+use Rattle.pipe_net.specs.cell_core.Cells.{bits_from}
+use Rattle.pipe_net.specs.cell_core.Sites.{with_bytes}
 
 -- a number that fits is its low bits
 pub bits_small : (n k : ℕ) → n < 2 ^ k → bits_from n 0 k ≡ n

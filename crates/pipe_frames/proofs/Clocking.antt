@@ -2,12 +2,12 @@
 use Rattle.std.specs.Prelude.{◌≡◌, ℕ, suc, ◌+◌, ◌%◌, ◌^◌, if◌then◌else◌, Bool, true, false, Option, Some, None, is_some, List, [], ◌∷◌, ◌++◌, drop, map}
 use Rattle.std.proofs.Common.{refl, sym, ap, ◌∙◌}
 use Rattle.std.proofs.lemmas.List.{append-nil}
-use Rattle.beat_core.specs.declared.beat.Beat.{Beat}
-use Rattle.beat_core.specs.Ports.{Arrival}
-use Rattle.cell_core.specs.Cells.{bit}
-use Rattle.hazard_core.specs.Commits.{change_by, host_change}
-use Rattle.pipe_core.specs.Machine.{Packet, State, Input, Build, Turn, Commits, Writes, Moves, place_at, some_send, swept, newcomer, answers_by, worked, work, came_with, beat_over, gathered, taken_beat, scattered, clock}
-use Rattle.pipe_core.specs.History.{came_in}
+use Rattle.control_net.specs.beat_core.declared.beat.Beat.{Beat}
+use Rattle.control_net.specs.beat_core.Ports.{Arrival}
+use Rattle.pipe_net.specs.cell_core.Cells.{bit}
+use Rattle.pipe_net.specs.hazard_core.Commits.{change_by, host_change}
+use Rattle.pipe_net.specs.pipe_core.Machine.{Packet, State, Input, Build, Turn, Commits, Writes, Moves, place_at, some_send, swept, newcomer, answers_by, worked, work, came_with, beat_over, gathered, taken_beat, scattered, clock}
+use Rattle.pipe_net.specs.pipe_core.History.{came_in}
 use Rattle.control_net.specs.Control.{shifted}
 use Rattle.pipe_net.specs.Saying.{moves, turn_in, moves_in}
 use Rattle.pipe_frames.proofs.Cases.{none_some, by_bool}

@@ -1,15 +1,15 @@
 -- What control counts is what the machine holds, after a clock too.
 use Rattle.std.specs.Prelude.{◌≡◌, ℕ, ◌+◌, ◌%◌, ◌^◌, ◌≤◌, if◌then◌else◌, Bool, not, ◌&&◌, Option, is_some, List, ◌++◌, length, drop, map}
 use Rattle.std.proofs.Common.{sym, ap, ◌∙◌, subst, arith, length-append, length-drop}
-use Rattle.net_core.specs.declared.ports.Inputs.{Inputs}
-use Rattle.net_core.specs.Value.{number_of, bit as bit_word, Env}
-use Rattle.net_core.specs.Clock.{Stored}
-use Rattle.block_core.specs.declared.name.Name.{Name}
-use Rattle.block_core.specs.Blocks.{Whole}
-use Rattle.cell_core.specs.Cells.{bit}
-use Rattle.pipe_core.specs.Machine.{Packet, State, Build, inside, some_send, swept, newcomer, answers_by, is_ready, beat_over, shown_beat, taken_beat, clock}
-use Rattle.pipe_core.specs.History.{came_in}
-use Rattle.ring_net.specs.Control.{packets}
+use Rattle.control_net.specs.net_core.declared.ports.Inputs.{Inputs}
+use Rattle.control_net.specs.net_core.Value.{number_of, bit as bit_word, Env}
+use Rattle.control_net.specs.net_core.Clock.{Stored}
+use Rattle.control_net.specs.block_core.declared.name.Name.{Name}
+use Rattle.control_net.specs.block_core.Blocks.{Whole}
+use Rattle.pipe_net.specs.cell_core.Cells.{bit}
+use Rattle.pipe_net.specs.pipe_core.Machine.{Packet, State, Build, inside, some_send, swept, newcomer, answers_by, is_ready, beat_over, shown_beat, taken_beat, clock}
+use Rattle.pipe_net.specs.pipe_core.History.{came_in}
+use Rattle.control_net.specs.ring_net.Control.{packets}
 use Rattle.control_net.specs.Control as control
 use Rattle.control_net.specs.Control.{Signals, shifted, step, partial_after, IsSound, StaysSound}
 use Rattle.control_net.specs.Block.{Shows}

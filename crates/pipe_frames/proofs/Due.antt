@@ -2,9 +2,9 @@
 use Rattle.std.specs.Prelude.{◌≡◌, ℕ, ◌≤◌, nat_le, Bool, true, false, Option, Some, None}
 use Rattle.std.proofs.Common.{refl, sym, ap, ◌∙◌}
 use Rattle.std.proofs.lemmas.Bool.{false≢true, leb-true, le-leb}
-use Rattle.net_core.specs.Value.{bit, Env}
-use Rattle.block_core.specs.declared.name.Name.{Name}
-use Rattle.pipe_core.specs.Machine.{Packet, State, Build, place_at, is_due}
+use Rattle.control_net.specs.net_core.Value.{bit, Env}
+use Rattle.control_net.specs.block_core.declared.name.Name.{Name}
+use Rattle.pipe_net.specs.pipe_core.Machine.{Packet, State, Build, place_at, is_due}
 use Rattle.control_net.specs.Returns.{due_name}
 use Rattle.pipe_net.specs.declared.parts.Part.{Part}
 use Rattle.pipe_net.specs.Layout.{Layout, commit_of}

@@ -4,26 +4,26 @@ use Rattle.std.proofs.Common.{get_or, refl, sym, ap, ◌∙◌, subst, arith, in
 use Rattle.std.proofs.lemmas.Bool.{cases_lt, ltb-true}
 use Rattle.std.proofs.lemmas.List.{get_or_append_left, get_or-drop}
 use Rattle.std.proofs.Math.Seq.{get_or-append_right}
-use Rattle.beat_core.specs.declared.beat.Beat.{Beat}
-use Rattle.beat_core.specs.Beats.{IsOffer}
-use Rattle.beat_core.specs.Ports.{Arrival, Offered, offered}
-use Rattle.net_core.specs.declared.tree.Word.{Word}
-use Rattle.net_core.specs.declared.ports.Inputs.{Inputs}
-use Rattle.net_core.specs.declared.ports.TheConstants.{IN_DATA, IN_BYTES, IN_LAST, IN_IFINDEX, IN_TIME}
-use Rattle.net_core.specs.Value.{bit, Env}
-use Rattle.net_core.specs.Clock.{Stored, done}
-use Rattle.block_core.specs.declared.name.Name.{Name}
-use Rattle.block_core.specs.Blocks.{Whole}
-use Rattle.pipe_core.specs.Machine.{State, Input, is_ready, beat_over, came_with, no_frame}
-use Rattle.pipe_core.specs.History.{came_in}
-use Rattle.ring_net.specs.Ring.{slot}
+use Rattle.control_net.specs.beat_core.declared.beat.Beat.{Beat}
+use Rattle.control_net.specs.beat_core.Beats.{IsOffer}
+use Rattle.control_net.specs.beat_core.Ports.{Arrival, Offered, offered}
+use Rattle.control_net.specs.net_core.declared.tree.Word.{Word}
+use Rattle.control_net.specs.net_core.declared.ports.Inputs.{Inputs}
+use Rattle.control_net.specs.net_core.declared.ports.TheConstants.{IN_DATA, IN_BYTES, IN_LAST, IN_IFINDEX, IN_TIME}
+use Rattle.control_net.specs.net_core.Value.{bit, Env}
+use Rattle.control_net.specs.net_core.Clock.{Stored, done}
+use Rattle.control_net.specs.block_core.declared.name.Name.{Name}
+use Rattle.control_net.specs.block_core.Blocks.{Whole}
+use Rattle.pipe_net.specs.pipe_core.Machine.{State, Input, is_ready, beat_over, came_with, no_frame}
+use Rattle.pipe_net.specs.pipe_core.History.{came_in}
+use Rattle.control_net.specs.ring_net.Ring.{slot}
 use Rattle.control_net.specs.Block.{Shows}
-use Rattle.ring_net.specs.declared.names.Counter.TheVariants.{Gathered}
+use Rattle.control_net.specs.ring_net.declared.names.Counter.TheVariants.{Gathered}
 use Rattle.control_net.specs.declared.names.Wire.TheVariants as wire
-use Rattle.ring_net.proofs.RingLaws.{slots_apart}
-use Rattle.frame_net.specs.declared.held.Kept.{Kept}
-use Rattle.frame_net.specs.Frames.{HoldsFrame, Gathers}
-use Rattle.frame_net.specs.Gather.{SeesBeat, HasTaken}
+use Rattle.control_net.proofs.ring_net.RingLaws.{slots_apart}
+use Rattle.scatter_net.specs.frame_net.declared.held.Kept.{Kept}
+use Rattle.scatter_net.specs.frame_net.Frames.{HoldsFrame, Gathers}
+use Rattle.scatter_net.specs.frame_net.Gather.{SeesBeat, HasTaken}
 use Rattle.scatter_net.specs.Scatter.{last_name}
 use Rattle.pipe_net.specs.declared.parts.Part.{Part}
 use Rattle.pipe_net.specs.Parts as part

@@ -1,3 +1,6 @@
+pub use Rattle.control_net.proofs.block_core as block_core
+pub use Rattle.control_net.proofs.net_core as net_core
+pub use Rattle.control_net.proofs.product_blocks as product_blocks
 pub mod Due
 pub mod Sending
 pub mod Parts

@@ -3,11 +3,11 @@ use Rattle.std.specs.Prelude.{◌≡◌, ℕ, zero, suc, ◌+◌, ◌<◌, ◌�
 use Rattle.std.proofs.Common.{get_or, sym, ap, ◌∙◌, subst, arith, inl, inr}
 use Rattle.std.proofs.lemmas.Bool.{cases_eq}
 use Rattle.std.proofs.lemmas.List.{length-append, length-map, get_or-append-add, get_or_append_left, get_or-map}
-use Rattle.net_core.specs.declared.tree.Word.{Word}
-use Rattle.net_core.specs.Value.{word, bit, nothing}
-use Rattle.block_core.specs.Blocks.{Whole, Among}
-use Rattle.cell_core.specs.Rows.{numbers}
-use Rattle.ring_net.specs.declared.shape.ControlShape.{ControlShape}
+use Rattle.control_net.specs.net_core.declared.tree.Word.{Word}
+use Rattle.control_net.specs.net_core.Value.{word, bit, nothing}
+use Rattle.control_net.specs.block_core.Blocks.{Whole, Among}
+use Rattle.pipe_net.specs.cell_core.Rows.{numbers}
+use Rattle.control_net.specs.ring_net.declared.shape.ControlShape.{ControlShape}
 use Rattle.control_net.specs.Control.{State}
 use Rattle.control_net.specs.Block.{lap_word, slot_word, stored_words}
 use Rattle.pipe_net.specs.declared.parts.Part.{Part}

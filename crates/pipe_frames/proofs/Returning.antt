@@ -3,16 +3,16 @@ use Rattle.std.specs.Prelude.{◌≡◌, ℕ, ◌+◌, ◌<◌, ◌≤◌, false
 use Rattle.std.proofs.Common.{get_or, sym, ap, ◌∙◌, subst, arith}
 use Rattle.std.proofs.Math.ListN.{get_or-map}
 use Rattle.std.proofs.lemmas.List.{drop-map, get_or-drop}
-use Rattle.net_core.specs.Value.{bit, nothing, Env}
-use Rattle.net_core.specs.Clock.{Stored}
-use Rattle.net_core.specs.declared.ports.Inputs.{Inputs}
-use Rattle.net_core.specs.Ports.{words_of}
-use Rattle.block_core.specs.declared.name.Name.{Name}
-use Rattle.block_core.specs.Blocks.{Whole}
-use Rattle.block_core.specs.Parts.{Sees}
-use Rattle.pipe_core.specs.Machine.{State, some_send}
-use Rattle.ring_net.specs.declared.names.Register.TheVariants.{Holds}
-use Rattle.ring_net.specs.Names.{register_name}
+use Rattle.control_net.specs.net_core.Value.{bit, nothing, Env}
+use Rattle.control_net.specs.net_core.Clock.{Stored}
+use Rattle.control_net.specs.net_core.declared.ports.Inputs.{Inputs}
+use Rattle.control_net.specs.net_core.Ports.{words_of}
+use Rattle.control_net.specs.block_core.declared.name.Name.{Name}
+use Rattle.control_net.specs.block_core.Blocks.{Whole}
+use Rattle.control_net.specs.block_core.Parts.{Sees}
+use Rattle.pipe_net.specs.pipe_core.Machine.{State, some_send}
+use Rattle.control_net.specs.ring_net.declared.names.Register.TheVariants.{Holds}
+use Rattle.control_net.specs.ring_net.Names.{register_name}
 use Rattle.control_net.specs.Control.{some_returns}
 use Rattle.control_net.specs.Names.{back_name}
 use Rattle.pipe_net.specs.declared.parts.Part.{Part}

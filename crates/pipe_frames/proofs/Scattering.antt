@@ -3,27 +3,27 @@ use Rattle.std.specs.Prelude.{◌≡◌, ℕ, suc, ◌+◌, ◌*◌, ◌<◌, na
 use Rattle.std.proofs.Common.{get_or, refl, sym, ap, ◌∙◌, subst, arith, length-drop}
 use Rattle.std.proofs.lemmas.Bool.Decides.{nat_tests}
 use Rattle.std.proofs.lemmas.List.{nil_from_length, length-map}
-use Rattle.beat_core.specs.declared.beat.Beat.{Beat}
-use Rattle.beat_core.specs.declared.answer.Answer.{Answer}
-use Rattle.beat_core.specs.declared.frame.TheConstants.{BEAT_LIMIT}
-use Rattle.beat_core.specs.Beats.{beat_count, first_beat}
-use Rattle.net_core.specs.declared.tree.Word.{Word}
-use Rattle.net_core.specs.declared.ports.Inputs.{Inputs}
-use Rattle.net_core.specs.Value.{word, bit, nothing, Env}
-use Rattle.net_core.specs.Clock.{Stored, done}
-use Rattle.block_core.specs.declared.name.Name.{Name}
-use Rattle.block_core.specs.declared.name.Name.TheVariants as name
-use Rattle.block_core.specs.Blocks.{Whole}
-use Rattle.block_core.specs.Formed.{block_memory_width}
-use Rattle.cell_core.specs.Cells.{bit as bit_of}
-use Rattle.ring_net.specs.declared.names.Counter.TheVariants.{Given}
+use Rattle.control_net.specs.beat_core.declared.beat.Beat.{Beat}
+use Rattle.control_net.specs.beat_core.declared.answer.Answer.{Answer}
+use Rattle.control_net.specs.beat_core.declared.frame.TheConstants.{BEAT_LIMIT}
+use Rattle.control_net.specs.beat_core.Beats.{beat_count, first_beat}
+use Rattle.control_net.specs.net_core.declared.tree.Word.{Word}
+use Rattle.control_net.specs.net_core.declared.ports.Inputs.{Inputs}
+use Rattle.control_net.specs.net_core.Value.{word, bit, nothing, Env}
+use Rattle.control_net.specs.net_core.Clock.{Stored, done}
+use Rattle.control_net.specs.block_core.declared.name.Name.{Name}
+use Rattle.control_net.specs.block_core.declared.name.Name.TheVariants as name
+use Rattle.control_net.specs.block_core.Blocks.{Whole}
+use Rattle.control_net.specs.block_core.Formed.{block_memory_width}
+use Rattle.pipe_net.specs.cell_core.Cells.{bit as bit_of}
+use Rattle.control_net.specs.ring_net.declared.names.Counter.TheVariants.{Given}
 use Rattle.control_net.specs.declared.names.Wire.TheVariants as wire
 use Rattle.control_net.specs.Control.{Signals}
-use Rattle.ring_net.specs.Ring.{slot}
+use Rattle.control_net.specs.ring_net.Ring.{slot}
 use Rattle.control_net.specs.Block.{Shows}
 use Rattle.scatter_net.specs.Scatter.{last_name, at_position, position_after, SeesAnswer, ShowsBeat}
-use Rattle.pipe_core.specs.Machine.{State, beat_at, shown_beat, taken_beat}
-use Rattle.place_net.specs.Exit.{byte_numbers}
+use Rattle.pipe_net.specs.pipe_core.Machine.{State, beat_at, shown_beat, taken_beat}
+use Rattle.pipe_net.specs.place_net.Exit.{byte_numbers}
 use Rattle.pipe_net.specs.declared.parts.Part.{Part}
 use Rattle.pipe_net.specs.Parts as part
 use Rattle.pipe_frames.specs.Parts.{next_slot}

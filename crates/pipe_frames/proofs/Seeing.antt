@@ -1,18 +1,18 @@
 -- What the parts of frames see in a clock, where they store what a state of the machine says.
 use Rattle.std.specs.Prelude.{◌≡◌, ℕ, ◌+◌, ◌^◌, ◌<◌, Bool, not, Some, is_some, List, length}
 use Rattle.std.proofs.Common.{get_or, sym, ap, ◌∙◌, subst, arith}
-use Rattle.net_core.specs.declared.ports.Inputs.{Inputs}
-use Rattle.net_core.specs.declared.ports.TheConstants.{IN_VALID, IN_LAST, OUT_READY}
-use Rattle.net_core.specs.Ports.{words_of}
-use Rattle.net_core.specs.Value.{bit, nothing, Env}
-use Rattle.net_core.specs.Clock.{Stored, done}
-use Rattle.block_core.specs.declared.name.Name.{Name}
-use Rattle.block_core.specs.declared.name.Name.TheVariants as name
-use Rattle.block_core.specs.Blocks.{Whole, Among, registers_of}
-use Rattle.block_core.specs.Parts.{Sees}
-use Rattle.pipe_core.specs.Machine.{Packet, State, place_at, is_due}
-use Rattle.ring_net.specs.Ring.{slot}
-use Rattle.ring_net.proofs.RingLaws.{slot_small}
+use Rattle.control_net.specs.net_core.declared.ports.Inputs.{Inputs}
+use Rattle.control_net.specs.net_core.declared.ports.TheConstants.{IN_VALID, IN_LAST, OUT_READY}
+use Rattle.control_net.specs.net_core.Ports.{words_of}
+use Rattle.control_net.specs.net_core.Value.{bit, nothing, Env}
+use Rattle.control_net.specs.net_core.Clock.{Stored, done}
+use Rattle.control_net.specs.block_core.declared.name.Name.{Name}
+use Rattle.control_net.specs.block_core.declared.name.Name.TheVariants as name
+use Rattle.control_net.specs.block_core.Blocks.{Whole, Among, registers_of}
+use Rattle.control_net.specs.block_core.Parts.{Sees}
+use Rattle.pipe_net.specs.pipe_core.Machine.{Packet, State, place_at, is_due}
+use Rattle.control_net.specs.ring_net.Ring.{slot}
+use Rattle.control_net.proofs.ring_net.RingLaws.{slot_small}
 use Rattle.control_net.specs.Control as control
 use Rattle.control_net.specs.Control.{Signals, step}
 use Rattle.control_net.specs.Block.{stored_words, code, Shows, Sees as SeesControl}

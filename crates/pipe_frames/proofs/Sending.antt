@@ -2,8 +2,8 @@
 use Rattle.std.specs.Prelude.{◌≡◌, ℕ, suc, ◌+◌, nat_le, Bool, true, false, ◌&&◌, ◌||◌, if◌then◌else◌, Option, Some, None, is_some, List, [], ◌∷◌, map}
 use Rattle.std.proofs.Common.{not, refl, ap, subst, ◌∙◌, arith}
 use Rattle.std.proofs.lemmas.Bool.{and_right}
-use Rattle.pipe_core.specs.Machine.{Packet, Build, place_at, is_due, sends, some_send, swept}
-use Rattle.ring_net.specs.declared.shape.ControlShape.{ControlShape}
+use Rattle.pipe_net.specs.pipe_core.Machine.{Packet, Build, place_at, is_due, sends, some_send, swept}
+use Rattle.control_net.specs.ring_net.declared.shape.ControlShape.{ControlShape}
 use Rattle.control_net.specs.Control as control
 use Rattle.control_net.specs.Control.{returns, some_returns}
 

@@ -3,21 +3,21 @@ use Rattle.std.specs.Prelude.{◌≡◌, ℕ, ◌<◌, nat_lt, if◌then◌else�
 use Rattle.std.proofs.Common.{get_or, refl, sym, ap, ◌∙◌, subst, arith}
 use Rattle.std.proofs.lemmas.Bool.{ltb-true, and_parts}
 use Rattle.std.proofs.lemmas.List.{length-map}
-use Rattle.beat_core.specs.declared.beat.Beat.{Beat}
-use Rattle.beat_core.specs.declared.answer.Answer.{Answer}
-use Rattle.net_core.specs.declared.ports.Inputs.{Inputs}
-use Rattle.net_core.specs.Value.{word, bit, Env}
-use Rattle.net_core.specs.Clock.{Stored}
-use Rattle.block_core.specs.declared.name.Name.{Name}
-use Rattle.block_core.specs.Blocks.{Whole}
-use Rattle.block_core.specs.Formed.{block_memory_width}
-use Rattle.ring_net.specs.declared.names.Counter.TheVariants.{Injected}
-use Rattle.ring_net.specs.Ring.{slot}
+use Rattle.control_net.specs.beat_core.declared.beat.Beat.{Beat}
+use Rattle.control_net.specs.beat_core.declared.answer.Answer.{Answer}
+use Rattle.control_net.specs.net_core.declared.ports.Inputs.{Inputs}
+use Rattle.control_net.specs.net_core.Value.{word, bit, Env}
+use Rattle.control_net.specs.net_core.Clock.{Stored}
+use Rattle.control_net.specs.block_core.declared.name.Name.{Name}
+use Rattle.control_net.specs.block_core.Blocks.{Whole}
+use Rattle.control_net.specs.block_core.Formed.{block_memory_width}
+use Rattle.control_net.specs.ring_net.declared.names.Counter.TheVariants.{Injected}
+use Rattle.control_net.specs.ring_net.Ring.{slot}
 use Rattle.control_net.specs.declared.names.Wire.TheVariants as wire
-use Rattle.frame_net.specs.Frames.{HoldsFrame}
-use Rattle.frame_net.specs.Sources.{SeesHeld, ShowsFrame}
-use Rattle.place_net.specs.Sources.{IsShownIn}
-use Rattle.pipe_core.specs.Machine.{Packet, State, injected, newcomer, some_send, swept, inside, no_frame, shown_beat, first_answer}
+use Rattle.scatter_net.specs.frame_net.Frames.{HoldsFrame}
+use Rattle.scatter_net.specs.frame_net.Sources.{SeesHeld, ShowsFrame}
+use Rattle.pipe_net.specs.place_net.Sources.{IsShownIn}
+use Rattle.pipe_net.specs.pipe_core.Machine.{Packet, State, injected, newcomer, some_send, swept, inside, no_frame, shown_beat, first_answer}
 use Rattle.pipe_net.specs.declared.parts.Part.{Part}
 use Rattle.pipe_net.specs.Parts as part
 use Rattle.pipe_net.specs.Machine.{input_of}

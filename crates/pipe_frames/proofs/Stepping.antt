@@ -1,22 +1,22 @@
 -- A clock of the parts of frames leads from what they store for a state to what they store for the next.
 use Rattle.std.specs.Prelude.{◌≡◌, ℕ, zero, suc, ◌+◌, Option, Some, None, List, [], ◌∷◌, ◌++◌, length}
 use Rattle.std.proofs.Common.{get_or, refl, sym, ap, ◌∙◌, subst, arith}
-use Rattle.beat_core.specs.declared.answer.Answer.{Answer}
-use Rattle.net_core.specs.declared.tree.Word.{Word}
-use Rattle.net_core.specs.declared.ports.Inputs.{Inputs}
-use Rattle.net_core.specs.Value.{word, Env}
-use Rattle.net_core.specs.Clock.{Stored, done}
-use Rattle.block_core.specs.declared.name.Name.{Name}
-use Rattle.block_core.specs.Blocks.{Whole}
-use Rattle.cell_core.specs.Cells.{bit as bit_of}
-use Rattle.ring_net.specs.Ring.{slot}
+use Rattle.control_net.specs.beat_core.declared.answer.Answer.{Answer}
+use Rattle.control_net.specs.net_core.declared.tree.Word.{Word}
+use Rattle.control_net.specs.net_core.declared.ports.Inputs.{Inputs}
+use Rattle.control_net.specs.net_core.Value.{word, Env}
+use Rattle.control_net.specs.net_core.Clock.{Stored, done}
+use Rattle.control_net.specs.block_core.declared.name.Name.{Name}
+use Rattle.control_net.specs.block_core.Blocks.{Whole}
+use Rattle.pipe_net.specs.cell_core.Cells.{bit as bit_of}
+use Rattle.control_net.specs.ring_net.Ring.{slot}
 use Rattle.control_net.specs.Control as control
 use Rattle.control_net.specs.Control.{StaysSound}
 use Rattle.control_net.specs.Block.{code}
-use Rattle.frame_net.specs.Frames.{Gathers}
-use Rattle.place_net.specs.Exit.{byte_numbers}
-use Rattle.pipe_core.specs.Machine.{Packet, State, answers_by, beat_over}
-use Rattle.pipe_core.specs.History.{came_in}
+use Rattle.scatter_net.specs.frame_net.Frames.{Gathers}
+use Rattle.pipe_net.specs.place_net.Exit.{byte_numbers}
+use Rattle.pipe_net.specs.pipe_core.Machine.{Packet, State, answers_by, beat_over}
+use Rattle.pipe_net.specs.pipe_core.History.{came_in}
 use Rattle.pipe_net.specs.declared.parts.Part.{Part}
 use Rattle.pipe_net.specs.Parts as part
 use Rattle.pipe_net.specs.Machine.{input_of, MayCome}

@@ -3,12 +3,12 @@ use Rattle.std.specs.Prelude.{◌≡◌, ℕ, zero, suc, ◌+◌, ◌≤◌, nat
 use Rattle.std.specs.Option.{option_map}
 use Rattle.std.proofs.Common.{get_or, refl, arith}
 use Rattle.std.proofs.lemmas.Bool.{or_parts}
-use Rattle.beat_core.specs.Ports.{Arrival}
-use Rattle.cell_core.specs.Cells.{bit}
-use Rattle.hazard_core.specs.Tables.{TableState}
-use Rattle.hazard_core.specs.declared.change.Change.{Change}
-use Rattle.pipe_core.specs.Machine.{Packet, Build, place_at, inside, no_frame, sends, some_send, swept, struck, struck_below, enters, moved}
-use Rattle.ring_net.specs.Control.{packets}
+use Rattle.control_net.specs.beat_core.Ports.{Arrival}
+use Rattle.pipe_net.specs.cell_core.Cells.{bit}
+use Rattle.pipe_net.specs.hazard_core.Tables.{TableState}
+use Rattle.pipe_net.specs.hazard_core.declared.change.Change.{Change}
+use Rattle.pipe_net.specs.pipe_core.Machine.{Packet, Build, place_at, inside, no_frame, sends, some_send, swept, struck, struck_below, enters, moved}
+use Rattle.control_net.specs.ring_net.Control.{packets}
 use Rattle.control_net.specs.Control.{shifted}
 use Rattle.pipe_frames.proofs.Cases.{none_some, by_bool}
 

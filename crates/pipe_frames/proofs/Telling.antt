@@ -2,12 +2,12 @@
 use Rattle.std.specs.Prelude.{◌≡◌, ℕ, ◌+◌, nat_lt, Bool, false, not, ◌&&◌, ◌||◌, Option, None, is_some, List, length, map}
 use Rattle.std.proofs.Common.{get_or, refl, ap, ◌∙◌, arith}
 use Rattle.std.proofs.Math.ListN.{get_or-map}
-use Rattle.net_core.specs.declared.ports.Inputs.{Inputs}
-use Rattle.net_core.specs.Value.{Env}
-use Rattle.net_core.specs.Clock.{Stored}
-use Rattle.block_core.specs.declared.name.Name.{Name}
-use Rattle.block_core.specs.Blocks.{Whole}
-use Rattle.pipe_core.specs.Machine.{Packet, State, Build, place_at, inside, some_send, swept, newcomer, is_ready, beat_over, shown_beat}
+use Rattle.control_net.specs.net_core.declared.ports.Inputs.{Inputs}
+use Rattle.control_net.specs.net_core.Value.{Env}
+use Rattle.control_net.specs.net_core.Clock.{Stored}
+use Rattle.control_net.specs.block_core.declared.name.Name.{Name}
+use Rattle.control_net.specs.block_core.Blocks.{Whole}
+use Rattle.pipe_net.specs.pipe_core.Machine.{Packet, State, Build, place_at, inside, some_send, swept, newcomer, is_ready, beat_over, shown_beat}
 use Rattle.control_net.specs.Control as control
 use Rattle.control_net.specs.Control.{Signals, rest}
 use Rattle.pipe_net.specs.declared.parts.Part.{Part}

@@ -3,15 +3,15 @@ use Rattle.std.specs.Prelude.{◌≡◌, ℕ, suc, ◌+◌, ◌%◌, ◌^◌, �
 use Rattle.std.proofs.Common.{refl, sym, ap, ◌∙◌, arith}
 use Rattle.std.proofs.Math.Nat.{mod-eq_of_lt}
 use Rattle.std.proofs.lemmas.Bool.Decides.{nat_tests}
-use Rattle.beat_core.specs.declared.beat.Beat.{Beat}
-use Rattle.beat_core.specs.declared.answer.Answer.{Answer}
-use Rattle.beat_core.specs.Ports.{Arrival}
-use Rattle.net_core.specs.Value.{number_of}
-use Rattle.cell_core.specs.Cells.{bit}
-use Rattle.cell_core.specs.Sites.{ProgramView}
-use Rattle.pipe_core.specs.Machine.{Packet, State, Input, Build, place_at, inside, some_send, swept, injected, answers_by, beat_at, came_with}
-use Rattle.pipe_core.specs.History.{came_in}
-use Rattle.ring_net.specs.Control.{counted}
+use Rattle.control_net.specs.beat_core.declared.beat.Beat.{Beat}
+use Rattle.control_net.specs.beat_core.declared.answer.Answer.{Answer}
+use Rattle.control_net.specs.beat_core.Ports.{Arrival}
+use Rattle.control_net.specs.net_core.Value.{number_of}
+use Rattle.pipe_net.specs.cell_core.Cells.{bit}
+use Rattle.pipe_net.specs.cell_core.Sites.{ProgramView}
+use Rattle.pipe_net.specs.pipe_core.Machine.{Packet, State, Input, Build, place_at, inside, some_send, swept, injected, answers_by, beat_at, came_with}
+use Rattle.pipe_net.specs.pipe_core.History.{came_in}
+use Rattle.control_net.specs.ring_net.Control.{counted}
 use Rattle.control_net.specs.Control.{shifted}
 use Rattle.pipe_frames.proofs.Sweeping.{leaves_inside, none_swept}
 use Rattle.pipe_frames.proofs.Clocking.{leaver, passed_after, ends_with, part_after}

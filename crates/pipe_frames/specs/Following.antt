@@ -1,22 +1,22 @@
 -- A clock of the parts of frames.
 use Rattle.std.specs.Prelude.{◌≡◌, ℕ, not, Some, is_some, List, length, map}
 use Rattle.std.proofs.Common.{get_or}
-use Rattle.xdp_maps.specs.State.{MapState}
-use Rattle.beat_core.specs.declared.beat.Beat.{Beat}
-use Rattle.net_core.specs.declared.ports.Inputs.{Inputs}
-use Rattle.net_core.specs.Ports.{words_of}
-use Rattle.net_core.specs.Value.{word, bit, Env}
-use Rattle.net_core.specs.Clock.{Stored, done}
-use Rattle.block_core.specs.declared.name.Name.{Name}
-use Rattle.block_core.specs.Blocks.{Whole, Among, first_of}
-use Rattle.block_core.specs.Parts.{Sees}
-use Rattle.pipe_core.specs.Machine.{Packet, State, newcomer, some_send, swept, inside, no_frame, is_ready, shown_beat, first_answer, new_state, clock}
-use Rattle.ring_net.specs.declared.names.Register.TheVariants.{Passed}
-use Rattle.ring_net.specs.Names.{register_name}
+use Rattle.pipe_net.specs.xdp_maps.State.{MapState}
+use Rattle.control_net.specs.beat_core.declared.beat.Beat.{Beat}
+use Rattle.control_net.specs.net_core.declared.ports.Inputs.{Inputs}
+use Rattle.control_net.specs.net_core.Ports.{words_of}
+use Rattle.control_net.specs.net_core.Value.{word, bit, Env}
+use Rattle.control_net.specs.net_core.Clock.{Stored, done}
+use Rattle.control_net.specs.block_core.declared.name.Name.{Name}
+use Rattle.control_net.specs.block_core.Blocks.{Whole, Among, first_of}
+use Rattle.control_net.specs.block_core.Parts.{Sees}
+use Rattle.pipe_net.specs.pipe_core.Machine.{Packet, State, newcomer, some_send, swept, inside, no_frame, is_ready, shown_beat, first_answer, new_state, clock}
+use Rattle.control_net.specs.ring_net.declared.names.Register.TheVariants.{Passed}
+use Rattle.control_net.specs.ring_net.Names.{register_name}
 use Rattle.control_net.specs.declared.names.Wire.TheVariants as wire
 use Rattle.scatter_net.specs.Scatter.{last_name, bytes_name, verdict_name, target_name, data_name}
-use Rattle.place_net.specs.Exit.{byte_numbers}
-use Rattle.place_net.specs.Sources.{IsShownIn}
+use Rattle.pipe_net.specs.place_net.Exit.{byte_numbers}
+use Rattle.pipe_net.specs.place_net.Sources.{IsShownIn}
 use Rattle.pipe_net.specs.declared.parts.Part.{Part}
 use Rattle.pipe_net.specs.Parts as part
 use Rattle.pipe_net.specs.Parts.{parts_of}

@@ -1,21 +1,21 @@
 -- The parts of frames.
-use Rattle.block_core.specs.declared.name.Name.{Name}
-use Rattle.block_core.specs.declared.name.Name.TheVariants as name
-use Rattle.block_core.specs.Blocks.{Whole}
-use Rattle.ring_net.specs.declared.names.Counter.{Counter}
-use Rattle.ring_net.specs.declared.names.Counter.TheVariants.{Given, Answered, Injected, Gathered}
-use Rattle.ring_net.specs.declared.names.Register.TheVariants.{Slot}
-use Rattle.ring_net.specs.Names.{register_name}
+use Rattle.control_net.specs.block_core.declared.name.Name.{Name}
+use Rattle.control_net.specs.block_core.declared.name.Name.TheVariants as name
+use Rattle.control_net.specs.block_core.Blocks.{Whole}
+use Rattle.control_net.specs.ring_net.declared.names.Counter.{Counter}
+use Rattle.control_net.specs.ring_net.declared.names.Counter.TheVariants.{Given, Answered, Injected, Gathered}
+use Rattle.control_net.specs.ring_net.declared.names.Register.TheVariants.{Slot}
+use Rattle.control_net.specs.ring_net.Names.{register_name}
 use Rattle.control_net.specs.declared.names.Wire.{Wire}
 use Rattle.control_net.specs.declared.names.Wire.TheVariants as wire
 use Rattle.control_net.specs.declared.names.ControlNets.{ControlNets}
 use Rattle.control_net.specs.Names.{wire_name}
 use Rattle.control_net.specs.Block.{IsControl}
 use Rattle.control_net.specs.Returns.{IsReturns}
-use Rattle.frame_net.specs.Gather.{IsGather}
-use Rattle.frame_net.specs.Sources.{IsSources}
+use Rattle.scatter_net.specs.frame_net.Gather.{IsGather}
+use Rattle.scatter_net.specs.frame_net.Sources.{IsSources}
 use Rattle.scatter_net.specs.Scatter.{IsScatter, last_name}
-use Rattle.place_net.specs.Exit.{IsExit, byte_numbers}
+use Rattle.pipe_net.specs.place_net.Exit.{IsExit, byte_numbers}
 use Rattle.pipe_net.specs.declared.parts.Part.{Part}
 use Rattle.pipe_net.specs.declared.parts.Sizes.{Sizes}
 use Rattle.pipe_net.specs.Parts as part

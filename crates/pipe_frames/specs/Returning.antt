@@ -1,13 +1,13 @@
 -- Which places send back.
 use Rattle.std.specs.Prelude.{◌≡◌, ℕ, List}
-use Rattle.net_core.specs.declared.ports.Inputs.{Inputs}
-use Rattle.net_core.specs.Ports.{words_of}
-use Rattle.net_core.specs.Value.{Env}
-use Rattle.net_core.specs.Clock.{Stored}
-use Rattle.block_core.specs.declared.name.Name.{Name}
-use Rattle.block_core.specs.Blocks.{Whole}
-use Rattle.block_core.specs.Parts.{Sees}
-use Rattle.pipe_core.specs.Machine.{State}
+use Rattle.control_net.specs.net_core.declared.ports.Inputs.{Inputs}
+use Rattle.control_net.specs.net_core.Ports.{words_of}
+use Rattle.control_net.specs.net_core.Value.{Env}
+use Rattle.control_net.specs.net_core.Clock.{Stored}
+use Rattle.control_net.specs.block_core.declared.name.Name.{Name}
+use Rattle.control_net.specs.block_core.Blocks.{Whole}
+use Rattle.control_net.specs.block_core.Parts.{Sees}
+use Rattle.pipe_net.specs.pipe_core.Machine.{State}
 use Rattle.pipe_net.specs.declared.parts.Part.{Part}
 use Rattle.pipe_net.specs.Parts.{parts_of}
 use Rattle.pipe_net.specs.Layout.{Layout, IsSized}

@@ -1,21 +1,21 @@
 -- Designs of pipelines follow the machine through a load and behind it.
 use Rattle.std.specs.Prelude.{◌≡◌, ℕ, ◌<◌, List, [], ◌∷◌, ◌++◌, length}
 use Rattle.std.proofs.Common.{sym, subst}
-use Rattle.xdp_maps.specs.declared.decl.MapDecl.{MapDecl}
-use Rattle.xdp_maps.specs.State.{MapState, IsSound, opened_state}
-use Rattle.net_core.specs.declared.ports.Inputs.{Inputs}
-use Rattle.net_core.specs.Ports.{words_of}
-use Rattle.net_core.specs.Clock.{Stored, after, first_stored}
-use Rattle.block_core.specs.Blocks.{Whole}
-use Rattle.host_history.specs.Host.{load}
-use Rattle.hazard_core.specs.Tables.{decl_of, table_at, tables_of}
-use Rattle.map_block.specs.Stored.{IsFirst}
-use Rattle.pipe_core.specs.History.{Trace, next}
-use Rattle.host_runs.specs.Inputs.{input_of}
-use Rattle.pipe_net.specs.declared.parts.Part.{Part}
-use Rattle.pipe_net.specs.Layout.{Layout}
+use Rattle.pipe_answers.specs.xdp_maps.declared.decl.MapDecl.{MapDecl}
+use Rattle.pipe_answers.specs.xdp_maps.State.{MapState, IsSound, opened_state}
+use Rattle.pipe_maps.specs.net_core.declared.ports.Inputs.{Inputs}
+use Rattle.pipe_maps.specs.net_core.Ports.{words_of}
+use Rattle.pipe_maps.specs.net_core.Clock.{Stored, after, first_stored}
+use Rattle.pipe_maps.specs.block_core.Blocks.{Whole}
+use Rattle.pipe_answers.specs.host_history.Host.{load}
+use Rattle.pipe_maps.specs.hazard_core.Tables.{decl_of, table_at, tables_of}
+use Rattle.pipe_maps.specs.map_block.Stored.{IsFirst}
+use Rattle.pipe_clocks.specs.pipe_core.History.{Trace, next}
+use Rattle.pipe_answers.specs.host_runs.Inputs.{input_of}
+use Rattle.pipe_maps.specs.pipe_net.declared.parts.Part.{Part}
+use Rattle.pipe_maps.specs.pipe_net.Layout.{Layout}
 use Rattle.pipe_maps.specs.Tables.{OpenedAreFirst}
-use Rattle.pipe_forms.specs.Parts.{design}
+use Rattle.pipe_clocks.specs.pipe_forms.Parts.{design}
 use Rattle.pipe_clocks.specs.Standing.{AreFirst, FollowsAll, PipelinesFollow}
 use Rattle.pipe_answers.specs.Coming.{OpenedAreSound}
 use Rattle.pipe_answers.specs.Following.{FollowsRight, DesignsFollow, DesignsShow}

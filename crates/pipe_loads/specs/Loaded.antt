@@ -1,21 +1,21 @@
 -- Designs of pipelines follow the machine through a load and behind it.
 use Rattle.std.specs.Prelude.{◌≡◌, ℕ, ◌≤◌, false, List, length, map as map_list}
 use Rattle.std.specs.List.{AllByRecursion}
-use Rattle.xdp_maps.specs.State.{MapState, IsSound}
-use Rattle.net_core.specs.declared.ports.Inputs.{Inputs}
-use Rattle.net_core.specs.Ports.{words_of}
-use Rattle.net_core.specs.Clock.{first_stored, shown}
-use Rattle.net_core.specs.History.{IsInput, stored_after}
-use Rattle.block_core.specs.Blocks.{Whole}
-use Rattle.host_history.specs.Host.{load}
-use Rattle.pipe_core.specs.Machine.{output}
-use Rattle.pipe_core.specs.History.{run, begin}
-use Rattle.pipe_core.specs.Pipeable.{IsSuited}
-use Rattle.pipe_net.specs.declared.parts.Part.{Part}
-use Rattle.pipe_net.specs.Machine.{input_of, Shows}
-use Rattle.pipe_net.specs.Layout.{Layout}
-use Rattle.pipe_places.specs.Entries.{AccessesLead}
-use Rattle.pipe_forms.specs.Parts.{design}
+use Rattle.pipe_answers.specs.xdp_maps.State.{MapState, IsSound}
+use Rattle.pipe_maps.specs.net_core.declared.ports.Inputs.{Inputs}
+use Rattle.pipe_maps.specs.net_core.Ports.{words_of}
+use Rattle.pipe_maps.specs.net_core.Clock.{first_stored, shown}
+use Rattle.pipe_maps.specs.net_core.History.{IsInput, stored_after}
+use Rattle.pipe_maps.specs.block_core.Blocks.{Whole}
+use Rattle.pipe_answers.specs.host_history.Host.{load}
+use Rattle.pipe_clocks.specs.pipe_core.Machine.{output}
+use Rattle.pipe_clocks.specs.pipe_core.History.{run, begin}
+use Rattle.pipe_clocks.specs.pipe_core.Pipeable.{IsSuited}
+use Rattle.pipe_maps.specs.pipe_net.declared.parts.Part.{Part}
+use Rattle.pipe_maps.specs.pipe_net.Machine.{input_of, Shows}
+use Rattle.pipe_maps.specs.pipe_net.Layout.{Layout}
+use Rattle.pipe_clocks.specs.pipe_places.Entries.{AccessesLead}
+use Rattle.pipe_clocks.specs.pipe_forms.Parts.{design}
 use Rattle.pipe_clocks.specs.Following.{IsPipeline}
 use Rattle.pipe_answers.specs.Coming.{AllMayCome}
 use Rattle.pipe_answers.specs.Following.{FollowsLoaded}

@@ -2,8 +2,8 @@
 use Rattle.std.specs.Prelude.{map, length}
 use Rattle.std.proofs.Common.{◌≡◌, ℕ, zero, suc, ◌+◌, ◌<◌, ◌≤◌, inl, inr, sym, ap, subst, arith}
 use Rattle.std.proofs.lemmas.Bool.{cases_lt}
-use Rattle.block_core.specs.Blocks.{Whole, Among}
-use Rattle.cell_core.specs.Rows.{numbers}
+use Rattle.change_net.specs.block_core.Blocks.{Whole, Among}
+use Rattle.hazard_core.specs.cell_core.Rows.{numbers}
 use Rattle.pipe_net.specs.declared.parts.Part.{Part}
 use Rattle.pipe_net.specs.declared.parts.Sizes.{Sizes}
 use Rattle.pipe_net.specs.Parts.{part, parts_of, part_count, of_map, value}

@@ -1,7 +1,7 @@
 -- The tables before the first clock.
 use Rattle.std.proofs.Common.{sym, subst}
-use Rattle.block_core.specs.declared.name.Name.{Name}
-use Rattle.block_core.specs.Blocks.{BlockTree, first_of}
+use Rattle.change_net.specs.block_core.declared.name.Name.{Name}
+use Rattle.change_net.specs.block_core.Blocks.{BlockTree, first_of}
 use Rattle.hazard_core.specs.Tables.{table_at, tables_of}
 use Rattle.map_block.specs.Stored.{StoresMap}
 use Rattle.pipe_net.specs.declared.parts.Part.{Part}

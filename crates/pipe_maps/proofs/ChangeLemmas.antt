@@ -2,19 +2,19 @@
 use Rattle.std.specs.Prelude.{Some}
 use Rattle.std.proofs.Common.{◌≡◌, ℕ, ◌^◌, ◌<◌, ◌==◌, Bool, true, false, ◌&&◌, ◌||◌, List, length, map as map_list, refl, sym, ◌∙◌, ap, subst, arith}
 use Rattle.std.proofs.lemmas.Bool.{eq-eqb}
-use Rattle.net_core.specs.declared.tree.Word.{Word}
-use Rattle.net_core.specs.declared.ports.Inputs.{Inputs}
-use Rattle.net_core.specs.Ports.{words_of}
-use Rattle.net_core.specs.Value.{word, bit, Env}
-use Rattle.net_core.specs.Clock.{Stored}
-use Rattle.block_core.specs.declared.name.Name.{Name}
-use Rattle.block_core.specs.Blocks.{Whole}
-use Rattle.block_core.specs.Parts.{Solve}
-use Rattle.xdp_maps.specs.declared.decl.MapKind.{MapKind}
-use Rattle.xdp_maps.specs.declared.decl.MapKind.TheVariants.{Hash, Array}
-use Rattle.xdp_maps.specs.Contents.{IsBytes}
-use Rattle.cell_core.specs.Sites.{ProgramView, site_at, bytes_of}
-use Rattle.cell_nets.specs.Operands.{number_in}
+use Rattle.change_net.specs.net_core.declared.tree.Word.{Word}
+use Rattle.change_net.specs.net_core.declared.ports.Inputs.{Inputs}
+use Rattle.change_net.specs.net_core.Ports.{words_of}
+use Rattle.change_net.specs.net_core.Value.{word, bit, Env}
+use Rattle.change_net.specs.net_core.Clock.{Stored}
+use Rattle.change_net.specs.block_core.declared.name.Name.{Name}
+use Rattle.change_net.specs.block_core.Blocks.{Whole}
+use Rattle.change_net.specs.block_core.Parts.{Solve}
+use Rattle.hazard_core.specs.xdp_maps.declared.decl.MapKind.{MapKind}
+use Rattle.hazard_core.specs.xdp_maps.declared.decl.MapKind.TheVariants.{Hash, Array}
+use Rattle.hazard_core.specs.xdp_maps.Contents.{IsBytes}
+use Rattle.hazard_core.specs.cell_core.Sites.{ProgramView, site_at, bytes_of}
+use Rattle.commit_net.specs.cell_nets.Operands.{number_in}
 use Rattle.hazard_core.specs.declared.access.Access.{Access}
 use Rattle.hazard_core.specs.declared.change.Change.{Change}
 use Rattle.hazard_core.specs.Tables.{decl_of, table_at, slot_at}
@@ -22,9 +22,9 @@ use Rattle.hazard_core.specs.declared.slot.Slot.{Slot}
 use Rattle.hazard_core.specs.Tabled.{IsFilledTable}
 use Rattle.hazard_core.specs.Commits.{change_by, host_change, written_slot}
 use Rattle.hazard_core.specs.Changes.{IsRightCommit}
-use Rattle.hash_net.specs.Hash.{StoresHash}
-use Rattle.array_net.specs.Hosts.{SeesHost}
-use Rattle.touch_net.specs.Touching.{ShowsChange}
+use Rattle.commit_net.specs.hash_net.Hash.{StoresHash}
+use Rattle.change_net.specs.array_net.Hosts.{SeesHost}
+use Rattle.change_net.specs.touch_net.Touching.{ShowsChange}
 use Rattle.commit_net.specs.Wholes.{slot_before}
 use Rattle.change_net.specs.Changes.{ShowsKey_as, ShowsKey, IsCommitting, IsNaming}
 use Rattle.map_block.specs.Parts.{SolveAll}
@@ -32,9 +32,9 @@ use Rattle.map_block.specs.Stored.{StoresAs, SeesStored}
 use Rattle.map_block.specs.Laws.{SeesParts}
 use Rattle.host_net.specs.Laws.{WritesItsNumber}
 use Rattle.turn_net.specs.Turns.{RecordsAlone}
-use Rattle.target_net.specs.Commits.{commits_on}
-use Rattle.pipe_core.specs.Machine as machine
-use Rattle.pipe_core.specs.Machine.{Packet, State, Turn, Moves, Writes, Build}
+use Rattle.pipe_turns.specs.target_net.Commits.{commits_on}
+use Rattle.pipe_net.specs.pipe_core.Machine as machine
+use Rattle.pipe_net.specs.pipe_core.Machine.{Packet, State, Turn, Moves, Writes, Build}
 use Rattle.pipe_net.specs.declared.parts.Part.{Part}
 use Rattle.pipe_net.specs.Parts as part
 use Rattle.pipe_net.specs.Machine.{input_of, access_in}

@@ -1,17 +1,17 @@
 -- What the other parts say of a map in a clock.
 use Rattle.std.proofs.Common.{◌≡◌, ℕ, ◌<◌, length, sym, ◌∙◌, ap, subst}
-use Rattle.net_core.specs.declared.ports.Inputs.{Inputs}
-use Rattle.net_core.specs.Value.{bit, Env}
-use Rattle.net_core.specs.Clock.{Stored}
-use Rattle.block_core.specs.declared.name.Name.{Name}
-use Rattle.block_core.specs.declared.name.Name.TheVariants as name
-use Rattle.block_core.specs.Blocks.{Whole}
-use Rattle.cell_core.specs.Formed.{FitsMap}
-use Rattle.cell_core.specs.Sites.{site_at}
+use Rattle.change_net.specs.net_core.declared.ports.Inputs.{Inputs}
+use Rattle.change_net.specs.net_core.Value.{bit, Env}
+use Rattle.change_net.specs.net_core.Clock.{Stored}
+use Rattle.change_net.specs.block_core.declared.name.Name.{Name}
+use Rattle.change_net.specs.block_core.declared.name.Name.TheVariants as name
+use Rattle.change_net.specs.block_core.Blocks.{Whole}
+use Rattle.hazard_core.specs.cell_core.Formed.{FitsMap}
+use Rattle.hazard_core.specs.cell_core.Sites.{site_at}
 use Rattle.turn_net.specs.Turns.{RecordsAlone}
-use Rattle.target_net.specs.Commits.{commits_on}
-use Rattle.pipe_core.specs.Machine as machine
-use Rattle.pipe_core.specs.Machine.{Packet, State, Turn}
+use Rattle.pipe_turns.specs.target_net.Commits.{commits_on}
+use Rattle.pipe_net.specs.pipe_core.Machine as machine
+use Rattle.pipe_net.specs.pipe_core.Machine.{Packet, State, Turn}
 use Rattle.pipe_net.specs.declared.parts.Part.{Part}
 use Rattle.pipe_net.specs.Machine.{input_of}
 use Rattle.pipe_net.specs.Layout.{Layout, program_of}

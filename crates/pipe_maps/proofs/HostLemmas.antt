@@ -1,12 +1,12 @@
 -- What the host reads, and what it may write.
 use Rattle.std.proofs.Common.{◌≡◌, ℕ, ◌<◌, length, refl, sym, ◌∙◌, ap, subst}
-use Rattle.net_core.specs.Ports.{words_of}
-use Rattle.net_core.specs.Value.{word}
+use Rattle.change_net.specs.net_core.Ports.{words_of}
+use Rattle.change_net.specs.net_core.Value.{word}
 use Rattle.map_block.specs.Stored.{shown_here}
 use Rattle.map_block.specs.Laws.{SeesParts}
 use Rattle.host_net.specs.Values.{word_name}
 use Rattle.host_net.specs.Laws.{ValueFollows}
-use Rattle.pipe_core.specs.Machine.{host_ready}
+use Rattle.pipe_net.specs.pipe_core.Machine.{host_ready}
 use Rattle.pipe_net.specs.declared.parts.Part.{Part}
 use Rattle.pipe_net.specs.Parts as part
 use Rattle.pipe_net.specs.Machine.{access_in}

@@ -4,11 +4,11 @@ use Rattle.std.specs.Str.{bytes_eq}
 use Rattle.std.proofs.Common.{◌≡◌, ℕ, ◌<◌, ◌==◌, Bool, true, false, List, [], length, refl, sym, ◌∙◌, ap, subst, arith}
 use Rattle.std.proofs.lemmas.Bool.{eqb-true, eqb-false, and_parts}
 use Rattle.std.proofs.lemmas.List.{length-set, get_or-set_same, get_or-set_other}
-use Rattle.xdp_maps.specs.declared.decl.MapKind.{MapKind}
-use Rattle.xdp_maps.specs.declared.decl.MapKind.TheVariants.{Hash, Array}
-use Rattle.xdp_maps.specs.Contents.{index_key}
-use Rattle.cell_core.specs.Formed.{AllFit, FitsMap}
-use Rattle.cell_core.specs.Sites.{ProgramView, site_at}
+use Rattle.hazard_core.specs.xdp_maps.declared.decl.MapKind.{MapKind}
+use Rattle.hazard_core.specs.xdp_maps.declared.decl.MapKind.TheVariants.{Hash, Array}
+use Rattle.hazard_core.specs.xdp_maps.Contents.{index_key}
+use Rattle.hazard_core.specs.cell_core.Formed.{AllFit, FitsMap}
+use Rattle.hazard_core.specs.cell_core.Sites.{ProgramView, site_at}
 use Rattle.hazard_core.specs.declared.access.Access.{Access}
 use Rattle.hazard_core.specs.declared.access.Word.TheVariants.{Value, Nothing}
 use Rattle.hazard_core.specs.declared.slot.Slot.{Slot}
@@ -20,8 +20,8 @@ use Rattle.hazard_core.specs.Changes.{IsRightCommit}
 use Rattle.commit_net.specs.Wholes.{table_of, slot_after}
 use Rattle.commit_net.specs.Laws.{CommitsOneSlot, CommitsOneValue}
 use Rattle.table_laws.specs.Bytes.{LoadsBytes, CommitKeepsBytes, HostKeepsBytes}
-use Rattle.pipe_core.specs.Machine as machine
-use Rattle.pipe_core.specs.Machine.{Packet, State, Input, Build, Turn, Moves, Writes, clock, site_numbers}
+use Rattle.pipe_net.specs.pipe_core.Machine as machine
+use Rattle.pipe_net.specs.pipe_core.Machine.{Packet, State, Input, Build, Turn, Moves, Writes, clock, site_numbers}
 use Rattle.pipe_net.specs.Saying.{turn_in}
 use Rattle.pipe_maps.specs.Premises.{HoldKeys}
 use Rattle.pipe_maps.specs.Keys.{KeysFollow, KeysBegin}

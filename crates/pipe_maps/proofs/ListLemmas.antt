@@ -3,7 +3,7 @@ use Rattle.std.specs.Prelude.{cond, filter, slice_index, Some, if◌then◌else�
 use Rattle.std.specs.List.{find}
 use Rattle.std.proofs.Common.{◌≡◌, ◌≢◌, ℕ, zero, suc, ◌+◌, ◌==◌, ◌<◌, ◌≤◌, Bool, true, false, List, [], ◌∷◌, length, get_or, inl, inr, refl, sym, ◌∙◌, ap, arith}
 use Rattle.std.proofs.lemmas.Bool.{cases_lt, eq-eqb, eqb-true, eqb-false}
-use Rattle.cell_core.specs.Rows.{numbers}
+use Rattle.hazard_core.specs.cell_core.Rows.{numbers}
 
 -- ---- an element and its place
 pub element : {A : Type 0} (xs : List A) (k : ℕ) → k < length xs → A

@@ -8,14 +8,14 @@ use Rattle.std.specs.FinMap.{find, get-from_entries, len-empty, len-entries}
 use Rattle.std.proofs.Common.{◌≡◌, ℕ, zero, suc, ◌+◌, ◌-◌, ◌<◌, Bool, true, false, List, [], ◌∷◌, ◌++◌, length, refl, sym, ◌∙◌, ap, arith}
 use Rattle.std.proofs.lemmas.Cmp.{nat_list_cmp_total}
 use Rattle.std.proofs.lemmas.List.FromFn.{get_or-map-range_with_len, length-map-range_with_len}
-use Rattle.xdp_maps.specs.declared.decl.MapDecl.{MapDecl}
-use Rattle.xdp_maps.specs.declared.decl.MapKind.{MapKind}
-use Rattle.xdp_maps.specs.declared.decl.MapKind.TheVariants.{Hash, Array}
-use Rattle.xdp_maps.specs.Contents.{Contents, index_key, indexed, opened, opened_as}
-use Rattle.xdp_maps.specs.State.{opened_state}
+use Rattle.hazard_core.specs.xdp_maps.declared.decl.MapDecl.{MapDecl}
+use Rattle.hazard_core.specs.xdp_maps.declared.decl.MapKind.{MapKind}
+use Rattle.hazard_core.specs.xdp_maps.declared.decl.MapKind.TheVariants.{Hash, Array}
+use Rattle.hazard_core.specs.xdp_maps.Contents.{Contents, index_key, indexed, opened, opened_as}
+use Rattle.hazard_core.specs.xdp_maps.State.{opened_state}
 use Rattle.hazard_core.specs.declared.slot.Slot.{Slot}
 use Rattle.hazard_core.specs.Tables.{decl_of, table_at, slot_at, no_slot, empty_slot, pair_slot, index_slot, loaded_as, tables_of}
-use Rattle.array_net.specs.Array.{IsZeroed}
+use Rattle.change_net.specs.array_net.Array.{IsZeroed}
 use Rattle.map_block.specs.Stored.{IsFirst_as, IsFirst}
 use Rattle.pipe_maps.specs.Tables.{OpenedAreFirst}
 

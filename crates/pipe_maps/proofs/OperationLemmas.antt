@@ -3,25 +3,25 @@ use Rattle.std.specs.Prelude.{slice_index, nat_le}
 use Rattle.std.proofs.Common.{◌≡◌, ℕ, ◌==◌, ◌<◌, Bool, true, ◌&&◌, List, length, get_or, sym, ◌∙◌, ap, subst, arith}
 use Rattle.std.proofs.lemmas.Bool.{and_parts, eq-eqb}
 use Rattle.std.proofs.lemmas.List.{get_or-map, length-map}
-use Rattle.net_core.specs.declared.ports.Inputs.{Inputs}
-use Rattle.net_core.specs.Value.{Env}
-use Rattle.net_core.specs.Clock.{Stored}
-use Rattle.block_core.specs.declared.name.Name.{Name}
-use Rattle.block_core.specs.Blocks.{Whole}
-use Rattle.cell_core.specs.Cells.{bit}
-use Rattle.cell_core.specs.Rows.{numbers}
-use Rattle.cell_core.specs.Sites.{ProgramView, site_at}
-use Rattle.cell_nets.specs.declared.operand.Operand.TheVariants.{Known}
-use Rattle.cell_nets.specs.Operands.{number_in}
+use Rattle.change_net.specs.net_core.declared.ports.Inputs.{Inputs}
+use Rattle.change_net.specs.net_core.Value.{Env}
+use Rattle.change_net.specs.net_core.Clock.{Stored}
+use Rattle.change_net.specs.block_core.declared.name.Name.{Name}
+use Rattle.change_net.specs.block_core.Blocks.{Whole}
+use Rattle.hazard_core.specs.cell_core.Cells.{bit}
+use Rattle.hazard_core.specs.cell_core.Rows.{numbers}
+use Rattle.hazard_core.specs.cell_core.Sites.{ProgramView, site_at}
+use Rattle.commit_net.specs.cell_nets.declared.operand.Operand.TheVariants.{Known}
+use Rattle.commit_net.specs.cell_nets.Operands.{number_in}
 use Rattle.hazard_core.specs.Held.{writes}
-use Rattle.site_operands.specs.Sites.{operands_of, ShowsSite}
+use Rattle.turn_net.specs.site_operands.Sites.{operands_of, ShowsSite}
 use Rattle.commit_net.specs.declared.choosing.CommitNets.{CommitNets}
 use Rattle.commit_net.specs.Choosing.{IsOnly, ShowsCommit, Commits}
-use Rattle.read_net.specs.declared.sites.OwnSite.{OwnSite}
+use Rattle.pipe_turns.specs.read_net.declared.sites.OwnSite.{OwnSite}
 use Rattle.turn_net.specs.Turns.{record_sites, is_at, RecordsAlone}
-use Rattle.target_net.specs.declared.targets.Target.{Target}
-use Rattle.pipe_core.specs.Machine as machine
-use Rattle.pipe_core.specs.Machine.{Packet, State, site_numbers}
+use Rattle.pipe_turns.specs.target_net.declared.targets.Target.{Target}
+use Rattle.pipe_net.specs.pipe_core.Machine as machine
+use Rattle.pipe_net.specs.pipe_core.Machine.{Packet, State, site_numbers}
 use Rattle.pipe_net.specs.declared.parts.Part.{Part}
 use Rattle.pipe_net.specs.Machine.{input_of}
 use Rattle.pipe_net.specs.Layout.{Layout, program_of, commit_of}

@@ -1,15 +1,15 @@
 -- The parts of a map in a clock.
 use Rattle.std.proofs.Common.{◌≡◌, ℕ, ◌<◌, List, length, sym, ap, subst, arith}
-use Rattle.net_core.specs.declared.ports.Inputs.{Inputs}
-use Rattle.net_core.specs.declared.tree.Word.{Word}
-use Rattle.net_core.specs.Ports.{words_of}
-use Rattle.net_core.specs.Value.{Env}
-use Rattle.net_core.specs.Clock.{Stored}
-use Rattle.block_core.specs.declared.name.Name.{Name}
-use Rattle.block_core.specs.Blocks.{Whole}
-use Rattle.block_core.specs.Parts.{Sees}
+use Rattle.change_net.specs.net_core.declared.ports.Inputs.{Inputs}
+use Rattle.change_net.specs.net_core.declared.tree.Word.{Word}
+use Rattle.change_net.specs.net_core.Ports.{words_of}
+use Rattle.change_net.specs.net_core.Value.{Env}
+use Rattle.change_net.specs.net_core.Clock.{Stored}
+use Rattle.change_net.specs.block_core.declared.name.Name.{Name}
+use Rattle.change_net.specs.block_core.Blocks.{Whole}
+use Rattle.change_net.specs.block_core.Parts.{Sees}
 use Rattle.hazard_core.specs.Tables.{TableState, decl_of}
-use Rattle.array_net.specs.Hosts.{SeesHost}
+use Rattle.change_net.specs.array_net.Hosts.{SeesHost}
 use Rattle.map_block.specs.Parts.{AreParts, SolveAll}
 use Rattle.map_block.specs.Stored.{SeesStored, IsMapOf}
 use Rattle.map_block.specs.Laws.{SeesParts}

@@ -2,19 +2,19 @@
 use Rattle.std.specs.Prelude.{if◌then◌else◌}
 use Rattle.std.proofs.Common.{◌≡◌, ◌≢◌, ℕ, ◌<◌, ◌==◌, Bool, true, false, length, refl, sym, ◌∙◌, ap, subst}
 use Rattle.std.proofs.lemmas.Bool.{eqb-true, eqb-false, eq-eqb}
-use Rattle.net_core.specs.declared.ports.Inputs.{Inputs}
-use Rattle.net_core.specs.Ports.{words_of}
-use Rattle.net_core.specs.Value.{bit, Env}
-use Rattle.net_core.specs.Clock.{Stored, done}
-use Rattle.block_core.specs.declared.name.Name.{Name}
-use Rattle.block_core.specs.Blocks.{BlockTree, Whole}
-use Rattle.xdp_maps.specs.Contents.{IsBytes}
-use Rattle.cell_core.specs.Sites.{ProgramView, site_at}
+use Rattle.change_net.specs.net_core.declared.ports.Inputs.{Inputs}
+use Rattle.change_net.specs.net_core.Ports.{words_of}
+use Rattle.change_net.specs.net_core.Value.{bit, Env}
+use Rattle.change_net.specs.net_core.Clock.{Stored, done}
+use Rattle.change_net.specs.block_core.declared.name.Name.{Name}
+use Rattle.change_net.specs.block_core.Blocks.{BlockTree, Whole}
+use Rattle.hazard_core.specs.xdp_maps.Contents.{IsBytes}
+use Rattle.hazard_core.specs.cell_core.Sites.{ProgramView, site_at}
 use Rattle.hazard_core.specs.declared.access.Access.{Access}
 use Rattle.hazard_core.specs.Tables.{TableState, decl_of, table_at, slot_at}
 use Rattle.hazard_core.specs.Commits.{committed, host_written, written_slot}
 use Rattle.hazard_core.specs.Changes.{IsRightCommit}
-use Rattle.array_net.specs.Hosts.{SeesHost}
+use Rattle.change_net.specs.array_net.Hosts.{SeesHost}
 use Rattle.commit_net.specs.Wholes.{WritesSlot}
 use Rattle.commit_net.specs.Laws.{IsCommit, CommitsOneSlot}
 use Rattle.map_block.specs.Parts.{SolveAll, with_slot_net}
@@ -22,8 +22,8 @@ use Rattle.map_block.specs.Stored.{StoresMap, SeesStored}
 use Rattle.map_block.specs.Laws.{SeesParts}
 use Rattle.host_net.specs.Laws.{WritesItsNumber}
 use Rattle.turn_net.specs.Turns.{RecordsAlone}
-use Rattle.pipe_core.specs.Machine as machine
-use Rattle.pipe_core.specs.Machine.{Packet, State, Turn, Moves, Writes, is_calm, clock}
+use Rattle.pipe_net.specs.pipe_core.Machine as machine
+use Rattle.pipe_net.specs.pipe_core.Machine.{Packet, State, Turn, Moves, Writes, is_calm, clock}
 use Rattle.pipe_net.specs.declared.parts.Part.{Part}
 use Rattle.pipe_net.specs.Parts as part
 use Rattle.pipe_net.specs.Machine.{input_of}

@@ -2,12 +2,12 @@
 use Rattle.std.specs.Prelude.{if◌then◌else◌, Option, Some, None}
 use Rattle.std.proofs.Common.{◌≡◌, ℕ, zero, suc, Bool, true, false, List, [], ◌∷◌, refl, sym, ◌∙◌, ap}
 use Rattle.std.proofs.lemmas.Bool.{and_parts}
-use Rattle.net_core.specs.declared.ports.Inputs.{Inputs}
-use Rattle.beat_core.specs.declared.beat.Beat.{Beat}
+use Rattle.change_net.specs.net_core.declared.ports.Inputs.{Inputs}
+use Rattle.turn_net.specs.beat_core.declared.beat.Beat.{Beat}
 use Rattle.hazard_core.specs.declared.access.Access.{Access}
 use Rattle.hazard_core.specs.Tables.{TableState, table_at, slot_at}
 use Rattle.hazard_core.specs.Commits.{committed, host_written, word_in, may_write}
-use Rattle.pipe_core.specs.Machine.{Packet, State, Input, Build, Turn, Commits, Writes, Moves, place_at, chosen, commits_as, commits_or_moves, turn_as, host_writes, host_ready, is_calm, written_if, some_send, swept, worked, gathered, scattered, beat_over, taken_beat, work, clock}
+use Rattle.pipe_net.specs.pipe_core.Machine.{Packet, State, Input, Build, Turn, Commits, Writes, Moves, place_at, chosen, commits_as, commits_or_moves, turn_as, host_writes, host_ready, is_calm, written_if, some_send, swept, worked, gathered, scattered, beat_over, taken_beat, work, clock}
 use Rattle.pipe_net.specs.Machine.{input_of, access_in}
 use Rattle.pipe_net.specs.Saying.{turn_in}
 use Rattle.host_net.specs.Laws.{WritesItsNumber}

@@ -1,10 +1,10 @@
 -- Tables keep their keys over clocks of the machine, whatever the host writes.
 use Rattle.std.specs.Prelude.{◌≡◌, ℕ}
-use Rattle.xdp_maps.specs.State.{MapState, IsSound}
-use Rattle.cell_core.specs.Formed.{AllFit}
+use Rattle.hazard_core.specs.xdp_maps.State.{MapState, IsSound}
+use Rattle.hazard_core.specs.cell_core.Formed.{AllFit}
 use Rattle.hazard_core.specs.Changes.{IsRightCommit}
 use Rattle.hazard_core.specs.Tables.{tables_of}
-use Rattle.pipe_core.specs.Machine.{Packet, State, Input, Build, Commits, clock}
+use Rattle.pipe_net.specs.pipe_core.Machine.{Packet, State, Input, Build, Commits, clock}
 use Rattle.pipe_net.specs.Saying.{turn_in}
 use Rattle.pipe_maps.specs.Premises.{HoldKeys}
 

@@ -1,13 +1,13 @@
 -- The parts of maps.
 use Rattle.std.specs.Prelude.{◌≡◌, ℕ, ◌<◌, List, length, slice_index}
 use Rattle.std.proofs.Common.{get_or}
-use Rattle.block_core.specs.declared.name.Name.{Name}
-use Rattle.block_core.specs.declared.name.Name.TheVariants as name
-use Rattle.block_core.specs.Blocks.{Whole}
-use Rattle.cell_core.specs.Sites.{site_at}
-use Rattle.cell_nets.specs.declared.operand.Operand.{Operand}
-use Rattle.site_operands.specs.Sites.{operands_of}
-use Rattle.touch_net.specs.declared.change.ChangeNets.{ChangeNets}
+use Rattle.change_net.specs.block_core.declared.name.Name.{Name}
+use Rattle.change_net.specs.block_core.declared.name.Name.TheVariants as name
+use Rattle.change_net.specs.block_core.Blocks.{Whole}
+use Rattle.hazard_core.specs.cell_core.Sites.{site_at}
+use Rattle.commit_net.specs.cell_nets.declared.operand.Operand.{Operand}
+use Rattle.turn_net.specs.site_operands.Sites.{operands_of}
+use Rattle.change_net.specs.touch_net.declared.change.ChangeNets.{ChangeNets}
 use Rattle.commit_net.specs.declared.choosing.CommitNets.{CommitNets}
 use Rattle.change_net.specs.Written.{IsWritten}
 use Rattle.change_net.specs.Changes.{StandsFor, IsChange}
@@ -19,7 +19,7 @@ use Rattle.map_block.specs.Stored.{host_word}
 use Rattle.map_block.specs.Block.{IsMapBlock}
 use Rattle.host_net.specs.Values.{word_name, IsValue}
 use Rattle.turn_net.specs.declared.nets.RecordNets.{RecordNets}
-use Rattle.target_net.specs.declared.targets.Target.{Target}
+use Rattle.pipe_turns.specs.target_net.declared.targets.Target.{Target}
 use Rattle.pipe_net.specs.declared.parts.Part.{Part}
 use Rattle.pipe_net.specs.Parts as part
 use Rattle.pipe_net.specs.Layout.{Layout, program_of, commit_of}

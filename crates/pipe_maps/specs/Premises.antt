@@ -1,21 +1,21 @@
 -- What is asked of a clock, so that the parts of maps follow it.
 use Rattle.std.specs.Prelude.{◌≡◌, ℕ, ◌<◌, ◌≤◌, length}
-use Rattle.net_core.specs.declared.ports.Inputs.{Inputs}
-use Rattle.net_core.specs.Ports.{words_of}
-use Rattle.net_core.specs.Value.{Env}
-use Rattle.net_core.specs.Clock.{Stored}
-use Rattle.block_core.specs.declared.name.Name.{Name}
-use Rattle.block_core.specs.Blocks.{Whole}
-use Rattle.block_core.specs.Parts.{Sees}
-use Rattle.cell_core.specs.Formed.{AllFit}
+use Rattle.change_net.specs.net_core.declared.ports.Inputs.{Inputs}
+use Rattle.change_net.specs.net_core.Ports.{words_of}
+use Rattle.change_net.specs.net_core.Value.{Env}
+use Rattle.change_net.specs.net_core.Clock.{Stored}
+use Rattle.change_net.specs.block_core.declared.name.Name.{Name}
+use Rattle.change_net.specs.block_core.Blocks.{Whole}
+use Rattle.change_net.specs.block_core.Parts.{Sees}
+use Rattle.hazard_core.specs.cell_core.Formed.{AllFit}
 use Rattle.hazard_core.specs.Tables.{TableState, decl_of, table_at}
 use Rattle.hazard_core.specs.Tabled.{IsFilledTable}
-use Rattle.cell_nets.specs.Operands.{AreFit}
+use Rattle.commit_net.specs.cell_nets.Operands.{AreFit}
 use Rattle.commit_net.specs.Choosing.{all_read}
 use Rattle.change_net.specs.Written.{written_outside}
 use Rattle.change_net.specs.Changes.{change_outside}
 use Rattle.table_laws.specs.Bytes.{HoldBytes}
-use Rattle.pipe_core.specs.Machine.{State}
+use Rattle.pipe_net.specs.pipe_core.Machine.{State}
 use Rattle.pipe_net.specs.declared.parts.Part.{Part}
 use Rattle.pipe_net.specs.Parts.{parts_of}
 use Rattle.pipe_net.specs.Layout.{Layout, IsSized, program_of, commit_of, last_of}

@@ -1,14 +1,14 @@
 -- What the parts of maps say to others and to the host.
 use Rattle.std.specs.Prelude.{◌≡◌, Some}
-use Rattle.net_core.specs.declared.ports.Inputs.{Inputs}
-use Rattle.net_core.specs.Ports.{words_of}
-use Rattle.net_core.specs.Value.{word, bit, Env}
-use Rattle.net_core.specs.Clock.{Stored}
-use Rattle.block_core.specs.declared.name.Name.{Name}
-use Rattle.block_core.specs.Blocks.{Whole}
-use Rattle.block_core.specs.Parts.{Sees}
+use Rattle.change_net.specs.net_core.declared.ports.Inputs.{Inputs}
+use Rattle.change_net.specs.net_core.Ports.{words_of}
+use Rattle.change_net.specs.net_core.Value.{word, bit, Env}
+use Rattle.change_net.specs.net_core.Clock.{Stored}
+use Rattle.change_net.specs.block_core.declared.name.Name.{Name}
+use Rattle.change_net.specs.block_core.Blocks.{Whole}
+use Rattle.change_net.specs.block_core.Parts.{Sees}
 use Rattle.host_net.specs.Names.{value_name}
-use Rattle.pipe_core.specs.Machine.{State, host_ready, host_value}
+use Rattle.pipe_net.specs.pipe_core.Machine.{State, host_ready, host_value}
 use Rattle.pipe_net.specs.declared.parts.Part.{Part}
 use Rattle.pipe_net.specs.Parts as part
 use Rattle.pipe_net.specs.Machine.{input_of, access_in}

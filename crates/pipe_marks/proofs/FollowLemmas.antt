@@ -3,31 +3,31 @@ use Rattle.std.specs.Prelude.{◌==◌, nat_lt, if◌then◌else◌, Option, Som
 use Rattle.std.proofs.Common.{◌≡◌, ◌∙◌, ℕ, zero, suc, ◌<◌, ◌≤◌, Bool, true, false, ◌&&◌, ◌||◌, List, length, get_or, replicate, refl, sym, ap, subst, arith}
 use Rattle.std.proofs.lemmas.Bool.{eqb-true, eqb-false}
 use Rattle.std.proofs.lemmas.Bool.Decides.{nat_tests}
-use Rattle.net_core.specs.declared.tree.Word.{Word}
-use Rattle.net_core.specs.declared.ports.Inputs.{Inputs}
-use Rattle.net_core.specs.Ports.{words_of}
-use Rattle.net_core.specs.Value.{bit as bit_word, nothing, Env}
-use Rattle.net_core.specs.Clock.{Stored, done}
-use Rattle.block_core.specs.declared.name.Name.{Name}
-use Rattle.block_core.specs.Blocks.{Whole, Among}
-use Rattle.block_core.specs.Parts.{Sees}
-use Rattle.cell_core.specs.Cells.{bit, on}
-use Rattle.cell_core.specs.Formed.{AllFit}
-use Rattle.cell_core.specs.Sites.{site_at, bytes_of}
-use Rattle.xdp_maps.specs.declared.decl.MapDecl.{MapDecl}
-use Rattle.cell_nets.specs.declared.operand.Operand.{Operand}
-use Rattle.cell_nets.specs.Operands.{number_in}
-use Rattle.hazard_core.specs.Tables.{TableState, decl_of}
-use Rattle.hazard_core.specs.declared.change.Change.{Change}
-use Rattle.hazard_core.specs.declared.pointer.Pointer.TheVariants.{Pending}
-use Rattle.hazard_core.specs.Held.{access_pointer, pointer_operand}
-use Rattle.hazard_core.specs.Commits.{change_by, host_change}
-use Rattle.hazard_core.specs.Marks.{has_read, known_off, touches}
-use Rattle.beat_core.specs.Ports.{Arrival}
-use Rattle.held_rows.specs.Fits.{IsMadeBefore}
-use Rattle.step_nets.proofs.StepLaws.{on_bit}
-use Rattle.pipe_core.specs.Machine.{Packet, State, Turn, Commits, Writes, Moves, place_at, marked_at, injected, entered, struck, some_send, swept, newcomer, struck_below, worked}
-use Rattle.touch_net.specs.Touching.{ShowsChange, IsMade}
+use Rattle.mark_net.specs.net_core.declared.tree.Word.{Word}
+use Rattle.mark_net.specs.net_core.declared.ports.Inputs.{Inputs}
+use Rattle.mark_net.specs.net_core.Ports.{words_of}
+use Rattle.mark_net.specs.net_core.Value.{bit as bit_word, nothing, Env}
+use Rattle.mark_net.specs.net_core.Clock.{Stored, done}
+use Rattle.mark_net.specs.block_core.declared.name.Name.{Name}
+use Rattle.mark_net.specs.block_core.Blocks.{Whole, Among}
+use Rattle.mark_net.specs.block_core.Parts.{Sees}
+use Rattle.pipe_net.specs.cell_core.Cells.{bit, on}
+use Rattle.pipe_net.specs.cell_core.Formed.{AllFit}
+use Rattle.pipe_net.specs.cell_core.Sites.{site_at, bytes_of}
+use Rattle.pipe_net.specs.xdp_maps.declared.decl.MapDecl.{MapDecl}
+use Rattle.pipe_net.specs.cell_nets.declared.operand.Operand.{Operand}
+use Rattle.pipe_net.specs.cell_nets.Operands.{number_in}
+use Rattle.pipe_net.specs.hazard_core.Tables.{TableState, decl_of}
+use Rattle.pipe_net.specs.hazard_core.declared.change.Change.{Change}
+use Rattle.pipe_net.specs.hazard_core.declared.pointer.Pointer.TheVariants.{Pending}
+use Rattle.pipe_net.specs.hazard_core.Held.{access_pointer, pointer_operand}
+use Rattle.pipe_net.specs.hazard_core.Commits.{change_by, host_change}
+use Rattle.pipe_net.specs.hazard_core.Marks.{has_read, known_off, touches}
+use Rattle.mark_net.specs.beat_core.Ports.{Arrival}
+use Rattle.pipe_net.specs.held_rows.Fits.{IsMadeBefore}
+use Rattle.mark_net.proofs.step_nets.StepLaws.{on_bit}
+use Rattle.pipe_net.specs.pipe_core.Machine.{Packet, State, Turn, Commits, Writes, Moves, place_at, marked_at, injected, entered, struck, some_send, swept, newcomer, struck_below, worked}
+use Rattle.mark_net.specs.touch_net.Touching.{ShowsChange, IsMade}
 use Rattle.mark_net.specs.declared.nets.MarkSite.{MarkSite}
 use Rattle.mark_net.specs.Sites.{changes_map, is_touched, ShowMarkSites}
 use Rattle.mark_net.specs.Marks.{mark_before, mark_behind}

@@ -2,11 +2,11 @@
 use Rattle.std.specs.Prelude.{nat_lt, if◌then◌else◌, Option, Some, None}
 use Rattle.std.specs.Option.{option_map}
 use Rattle.std.proofs.Common.{◌≡◌, ◌∙◌, ℕ, zero, suc, ◌+◌, Bool, true, false, not, ◌&&◌, List, [], ◌∷◌, ◌++◌, length, drop, get_or, refl, ap, arith}
-use Rattle.beat_core.specs.declared.beat.Beat.{Beat}
-use Rattle.beat_core.specs.Ports.{Arrival}
-use Rattle.hazard_core.specs.Tables.{TableState}
-use Rattle.hazard_core.specs.declared.change.Change.{Change}
-use Rattle.pipe_core.specs.Machine.{Packet, State, Input, Build, place_at, inside, no_frame, injected, entered, struck, some_send, swept, moved, newcomer, struck_below, turn_of, worked, work, beat_over, came_with, taken_beat, gathered, scattered, clock}
+use Rattle.mark_net.specs.beat_core.declared.beat.Beat.{Beat}
+use Rattle.mark_net.specs.beat_core.Ports.{Arrival}
+use Rattle.pipe_net.specs.hazard_core.Tables.{TableState}
+use Rattle.pipe_net.specs.hazard_core.declared.change.Change.{Change}
+use Rattle.pipe_net.specs.pipe_core.Machine.{Packet, State, Input, Build, place_at, inside, no_frame, injected, entered, struck, some_send, swept, moved, newcomer, struck_below, turn_of, worked, work, beat_over, came_with, taken_beat, gathered, scattered, clock}
 
 same_packet : (q x : Packet) → Some q ≡ Some x → x ≡ q
 same_packet q x e = cc

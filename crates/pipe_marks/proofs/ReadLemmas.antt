@@ -6,17 +6,17 @@ use Rattle.std.proofs.lemmas.Bool.{eqb-true, eqb-false, le-leb}
 use Rattle.std.proofs.lemmas.Bool.Decides.{nat_tests}
 use Rattle.std.proofs.lemmas.List.{get_or_past, length-map}
 use Rattle.std.proofs.lemmas.List.Elements.{All-filter, filter_passes}
-use Rattle.net_core.specs.declared.tree.Word.{Word}
-use Rattle.net_core.specs.Value.{bit as bit_word}
-use Rattle.cell_core.specs.Cells.{bit}
-use Rattle.cell_core.specs.Rows.{numbers}
-use Rattle.cell_core.specs.Sites.{ProgramView}
-use Rattle.hazard_core.specs.Tables.{TableState}
-use Rattle.hazard_core.specs.declared.change.Change.{Change}
-use Rattle.hazard_core.specs.declared.pointer.Pointer.TheVariants.{Null, Pending}
-use Rattle.hazard_core.specs.Held.{Held, pointer_in, read_cells}
-use Rattle.hazard_core.specs.Marks.{has_read, is_marked}
-use Rattle.pipe_core.specs.Machine.{Packet, Build, marked_at, struck}
+use Rattle.mark_net.specs.net_core.declared.tree.Word.{Word}
+use Rattle.mark_net.specs.net_core.Value.{bit as bit_word}
+use Rattle.pipe_net.specs.cell_core.Cells.{bit}
+use Rattle.pipe_net.specs.cell_core.Rows.{numbers}
+use Rattle.pipe_net.specs.cell_core.Sites.{ProgramView}
+use Rattle.pipe_net.specs.hazard_core.Tables.{TableState}
+use Rattle.pipe_net.specs.hazard_core.declared.change.Change.{Change}
+use Rattle.pipe_net.specs.hazard_core.declared.pointer.Pointer.TheVariants.{Null, Pending}
+use Rattle.pipe_net.specs.hazard_core.Held.{Held, pointer_in, read_cells}
+use Rattle.pipe_net.specs.hazard_core.Marks.{has_read, is_marked}
+use Rattle.pipe_net.specs.pipe_core.Machine.{Packet, Build, marked_at, struck}
 
 -- ---- bits
 pub bit_value : (c : Bool) → (bit_word c).value ≡ bit c

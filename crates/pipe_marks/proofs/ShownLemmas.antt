@@ -4,22 +4,22 @@ use Rattle.std.specs.List.{list_any}
 use Rattle.std.proofs.Common.{◌≡◌, ◌≢◌, inl, inr, ◌∙◌, ℕ, zero, suc, ◌+◌, ◌<◌, ◌≤◌, Bool, true, false, ◌∷◌, length, get_or, refl, sym, ap, subst, arith}
 use Rattle.std.proofs.lemmas.Bool.{eqb-true, eqb-false}
 use Rattle.std.proofs.lemmas.List.{length-map}
-use Rattle.net_core.specs.declared.tree.Word.{Word}
-use Rattle.net_core.specs.declared.ports.Inputs.{Inputs}
-use Rattle.net_core.specs.Ports.{words_of}
-use Rattle.net_core.specs.Value.{bit as bit_word, nothing, Env}
-use Rattle.net_core.specs.Clock.{Stored}
-use Rattle.block_core.specs.declared.name.Name.{Name}
-use Rattle.block_core.specs.Blocks.{Whole, Among}
-use Rattle.block_core.specs.Parts.{Sees}
-use Rattle.cell_core.specs.Cells.{bit}
-use Rattle.cell_core.specs.Rows.{numbers}
-use Rattle.cell_nets.specs.declared.operand.Operand.{Operand}
-use Rattle.cell_nets.specs.Operands.{number_in}
-use Rattle.site_operands.specs.Sites.{SiteOperands}
-use Rattle.hazard_core.specs.Held.{Held}
-use Rattle.pipe_core.specs.Machine.{Packet, State, place_at, marked_at}
-use Rattle.touch_net.specs.Marking.{shown_due, ShowsGuard, ShowMarks}
+use Rattle.mark_net.specs.net_core.declared.tree.Word.{Word}
+use Rattle.mark_net.specs.net_core.declared.ports.Inputs.{Inputs}
+use Rattle.mark_net.specs.net_core.Ports.{words_of}
+use Rattle.mark_net.specs.net_core.Value.{bit as bit_word, nothing, Env}
+use Rattle.mark_net.specs.net_core.Clock.{Stored}
+use Rattle.mark_net.specs.block_core.declared.name.Name.{Name}
+use Rattle.mark_net.specs.block_core.Blocks.{Whole, Among}
+use Rattle.mark_net.specs.block_core.Parts.{Sees}
+use Rattle.pipe_net.specs.cell_core.Cells.{bit}
+use Rattle.pipe_net.specs.cell_core.Rows.{numbers}
+use Rattle.pipe_net.specs.cell_nets.declared.operand.Operand.{Operand}
+use Rattle.pipe_net.specs.cell_nets.Operands.{number_in}
+use Rattle.mark_net.specs.site_operands.Sites.{SiteOperands}
+use Rattle.pipe_net.specs.hazard_core.Held.{Held}
+use Rattle.pipe_net.specs.pipe_core.Machine.{Packet, State, place_at, marked_at}
+use Rattle.mark_net.specs.touch_net.Marking.{shown_due, ShowsGuard, ShowMarks}
 use Rattle.mark_net.specs.Standing.{DueOfReads}
 use Rattle.mark_net.specs.Due.{some_due}
 use Rattle.pipe_net.specs.declared.parts.Part.{Part}

@@ -1,18 +1,18 @@
 -- A clock of the parts of marks.
 use Rattle.std.specs.Prelude.{◌≡◌, ℕ, ◌≤◌}
-use Rattle.xdp_maps.specs.State.{MapState}
-use Rattle.net_core.specs.declared.ports.Inputs.{Inputs}
-use Rattle.net_core.specs.Ports.{words_of}
-use Rattle.net_core.specs.Value.{bit, Env}
-use Rattle.net_core.specs.Clock.{Stored, done}
-use Rattle.block_core.specs.declared.name.Name.{Name}
-use Rattle.block_core.specs.Blocks.{Whole, Among}
-use Rattle.block_core.specs.Parts.{Sees}
-use Rattle.cell_core.specs.Formed.{AllFit}
-use Rattle.cell_nets.specs.Operands.{AreFit}
-use Rattle.pipe_core.specs.Machine.{State, new_state, clock}
+use Rattle.pipe_net.specs.xdp_maps.State.{MapState}
+use Rattle.mark_net.specs.net_core.declared.ports.Inputs.{Inputs}
+use Rattle.mark_net.specs.net_core.Ports.{words_of}
+use Rattle.mark_net.specs.net_core.Value.{bit, Env}
+use Rattle.mark_net.specs.net_core.Clock.{Stored, done}
+use Rattle.mark_net.specs.block_core.declared.name.Name.{Name}
+use Rattle.mark_net.specs.block_core.Blocks.{Whole, Among}
+use Rattle.mark_net.specs.block_core.Parts.{Sees}
+use Rattle.pipe_net.specs.cell_core.Formed.{AllFit}
+use Rattle.pipe_net.specs.cell_nets.Operands.{AreFit}
+use Rattle.pipe_net.specs.pipe_core.Machine.{State, new_state, clock}
 use Rattle.mark_net.specs.Sites.{outside}
-use Rattle.touch_net.specs.Marking.{mark_operands}
+use Rattle.mark_net.specs.touch_net.Marking.{mark_operands}
 use Rattle.pipe_net.specs.declared.parts.Part.{Part}
 use Rattle.pipe_net.specs.Parts.{parts_of}
 use Rattle.pipe_net.specs.Machine.{input_of}

@@ -1,25 +1,25 @@
 -- The parts of marks.
 use Rattle.std.specs.Prelude.{◌≡◌, ℕ, zero, suc, ◌<◌, ◌≤◌, ◌==◌, if◌then◌else◌, Some, All, List, length, slice_index, Contains}
 use Rattle.std.proofs.Common.{get_or}
-use Rattle.block_core.specs.declared.name.Name.{Name}
-use Rattle.block_core.specs.declared.name.Name.TheVariants as name
-use Rattle.block_core.specs.Blocks.{Whole}
-use Rattle.cell_core.specs.Sites.{site_at}
-use Rattle.cell_nets.specs.declared.operand.Operand.{Operand}
-use Rattle.cell_nets.specs.declared.operand.Operand.TheVariants.{Known, Net}
-use Rattle.site_operands.specs.Sites.{SiteOperands, operands_of}
-use Rattle.touch_net.specs.declared.change.OwnKey.{OwnKey}
-use Rattle.touch_net.specs.declared.marks.MarkNets.{MarkNets}
-use Rattle.touch_net.specs.Marking.{AreKnown}
-use Rattle.touch_net.specs.Touching.{key_bytes, IsAmong}
+use Rattle.mark_net.specs.block_core.declared.name.Name.{Name}
+use Rattle.mark_net.specs.block_core.declared.name.Name.TheVariants as name
+use Rattle.mark_net.specs.block_core.Blocks.{Whole}
+use Rattle.pipe_net.specs.cell_core.Sites.{site_at}
+use Rattle.pipe_net.specs.cell_nets.declared.operand.Operand.{Operand}
+use Rattle.pipe_net.specs.cell_nets.declared.operand.Operand.TheVariants.{Known, Net}
+use Rattle.mark_net.specs.site_operands.Sites.{SiteOperands, operands_of}
+use Rattle.mark_net.specs.touch_net.declared.change.OwnKey.{OwnKey}
+use Rattle.mark_net.specs.touch_net.declared.marks.MarkNets.{MarkNets}
+use Rattle.mark_net.specs.touch_net.Marking.{AreKnown}
+use Rattle.mark_net.specs.touch_net.Touching.{key_bytes, IsAmong}
 use Rattle.mark_net.specs.declared.nets.MarkSite.{MarkSite}
 use Rattle.mark_net.specs.Marks.{IsMarks}
 use Rattle.mark_net.specs.Sites.{AreMarkSites}
 use Rattle.mark_net.specs.Due.{IsDue}
-use Rattle.control_net.specs.Names.{wire_name}
-use Rattle.control_net.specs.declared.names.Wire.TheVariants.{Advances}
-use Rattle.control_net.specs.Returns.{due_name}
-use Rattle.held_rows.specs.Fits.{IsMadeBefore}
+use Rattle.pipe_net.specs.control_net.Names.{wire_name}
+use Rattle.pipe_net.specs.control_net.declared.names.Wire.TheVariants.{Advances}
+use Rattle.pipe_net.specs.control_net.Returns.{due_name}
+use Rattle.pipe_net.specs.held_rows.Fits.{IsMadeBefore}
 use Rattle.pipe_net.specs.declared.parts.Part.{Part}
 use Rattle.pipe_net.specs.Parts as part
 use Rattle.pipe_net.specs.Layout.{Layout, program_of, commit_of}

@@ -1,16 +1,16 @@
 -- How the cells of a program are laid out over the places of a pipeline, and the nets that its parts read of others.
 use Rattle.std.specs.Prelude.{◌≡◌, ◌≢◌, ℕ, suc, ◌<◌, ◌≤◌, Bool, Option, All, List, length, map, Contains}
 use Rattle.std.proofs.Common.{get_or}
-use Rattle.xdp_maps.specs.declared.decl.MapDecl.{MapDecl}
+use Rattle.map_block.specs.xdp_maps.declared.decl.MapDecl.{MapDecl}
 use Rattle.block_core.specs.declared.name.Name.{Name}
-use Rattle.cell_core.specs.declared.program.FrameByte.{FrameByte}
-use Rattle.cell_core.specs.Cells.{CellView, cell_at}
-use Rattle.cell_core.specs.Sites.{ProgramView}
-use Rattle.cell_nets.specs.declared.operand.Operand.{Operand}
-use Rattle.pipe_core.specs.Machine.{Build}
-use Rattle.ring_net.specs.declared.shape.ControlShape.{ControlShape}
-use Rattle.frame_net.specs.declared.held.Kept.{Kept}
-use Rattle.place_net.specs.declared.outputs.Outputs.{Outputs}
+use Rattle.turn_net.specs.cell_core.declared.program.FrameByte.{FrameByte}
+use Rattle.turn_net.specs.cell_core.Cells.{CellView, cell_at}
+use Rattle.turn_net.specs.cell_core.Sites.{ProgramView}
+use Rattle.turn_net.specs.cell_nets.declared.operand.Operand.{Operand}
+use Rattle.host_runs.specs.pipe_core.Machine.{Build}
+use Rattle.control_net.specs.ring_net.declared.shape.ControlShape.{ControlShape}
+use Rattle.map_block.specs.frame_net.declared.held.Kept.{Kept}
+use Rattle.site_table.specs.place_net.declared.outputs.Outputs.{Outputs}
 use Rattle.turn_net.specs.declared.nets.RecordNets.{RecordNets}
 use Rattle.turn_net.specs.declared.nets.TurnShape.{TurnShape}
 use Rattle.pipe_net.specs.declared.parts.Part.{Part}

@@ -1,31 +1,31 @@
 -- What the parts of a pipeline store for a state of the machine.
 use Rattle.std.specs.Prelude.{◌≡◌, ℕ, suc, ◌+◌, ◌^◌, ◌<◌, ◌≤◌, Bool, true, false, Option, Some, is_some, List, [], ◌∷◌, length, map, filter, slice_index}
 use Rattle.std.proofs.Common.{get_or}
-use Rattle.beat_core.specs.declared.answer.Answer.{Answer}
-use Rattle.beat_core.specs.Beats.{beat_count}
-use Rattle.beat_core.specs.Ports.{Arrival}
-use Rattle.net_core.specs.declared.tree.Word.{Word}
-use Rattle.net_core.specs.Suits.{IsOfWidth}
-use Rattle.net_core.specs.Value.{word, bit, nothing}
-use Rattle.net_core.specs.Clock.{Stored}
+use Rattle.block_core.specs.beat_core.declared.answer.Answer.{Answer}
+use Rattle.block_core.specs.beat_core.Beats.{beat_count}
+use Rattle.block_core.specs.beat_core.Ports.{Arrival}
+use Rattle.block_core.specs.net_core.declared.tree.Word.{Word}
+use Rattle.block_core.specs.net_core.Suits.{IsOfWidth}
+use Rattle.block_core.specs.net_core.Value.{word, bit, nothing}
+use Rattle.block_core.specs.net_core.Clock.{Stored}
 use Rattle.block_core.specs.Blocks.{BlockTree, Whole, Among}
 use Rattle.block_core.specs.Formed.{block_registers, block_memories}
-use Rattle.cell_core.specs.Rows.{numbers}
-use Rattle.cell_core.specs.Sites.{site_at}
-use Rattle.hazard_core.specs.Tables.{TableState, decl_of, table_at}
-use Rattle.hazard_core.specs.Held.{held_value, pointer_in}
-use Rattle.hazard_core.specs.Marks.{known_off, has_read}
-use Rattle.pipe_core.specs.Machine.{Packet, State, inside, place_at, no_frame, marked_at}
+use Rattle.turn_net.specs.cell_core.Rows.{numbers}
+use Rattle.turn_net.specs.cell_core.Sites.{site_at}
+use Rattle.site_table.specs.hazard_core.Tables.{TableState, decl_of, table_at}
+use Rattle.site_table.specs.hazard_core.Held.{held_value, pointer_in}
+use Rattle.site_table.specs.hazard_core.Marks.{known_off, has_read}
+use Rattle.host_runs.specs.pipe_core.Machine.{Packet, State, inside, place_at, no_frame, marked_at}
 use Rattle.control_net.specs.Control as control
 use Rattle.control_net.specs.Control.{IsSound}
 use Rattle.control_net.specs.Block.{code}
-use Rattle.ring_net.specs.Ring.{slot}
-use Rattle.frame_net.specs.declared.held.Kept.{Kept}
-use Rattle.frame_net.specs.Frames.{HoldsFrame, Gathers, word_at}
-use Rattle.frame_net.specs.Answers.{HoldsAnswer, Changes}
-use Rattle.place_net.specs.Exit.{byte_numbers}
-use Rattle.site_place.specs.SitePlace.{site_words}
-use Rattle.held_rows.specs.Fits.{FitsRows}
+use Rattle.control_net.specs.ring_net.Ring.{slot}
+use Rattle.map_block.specs.frame_net.declared.held.Kept.{Kept}
+use Rattle.map_block.specs.frame_net.Frames.{HoldsFrame, Gathers, word_at}
+use Rattle.map_block.specs.frame_net.Answers.{HoldsAnswer, Changes}
+use Rattle.site_table.specs.place_net.Exit.{byte_numbers}
+use Rattle.site_table.specs.site_place.SitePlace.{site_words}
+use Rattle.site_table.specs.held_rows.Fits.{FitsRows}
 use Rattle.turn_net.specs.Turn.{StoresTurn}
 use Rattle.map_block.specs.Stored.{StoresMap}
 use Rattle.pipe_net.specs.declared.parts.Part.{Part}

@@ -1,23 +1,23 @@
 -- What parts of a pipeline say to one another in a clock, by the state of the machine.
 use Rattle.std.specs.Prelude.{◌≡◌, ℕ, ◌^◌, ◌<◌, ◌≤◌, ◌==◌, ◌&&◌, Bool, true, false, not, Option, Some, None, is_some, List, length, drop, map as map_list, Contains}
-use Rattle.net_core.specs.declared.ports.Inputs.{Inputs}
-use Rattle.net_core.specs.Value.{bit, Env}
+use Rattle.block_core.specs.net_core.declared.ports.Inputs.{Inputs}
+use Rattle.block_core.specs.net_core.Value.{bit, Env}
 use Rattle.block_core.specs.declared.name.Name.{Name}
-use Rattle.cell_core.specs.declared.program.FrameByte.{FrameByte}
-use Rattle.cell_core.specs.Cells.{bit as number_of_bit}
-use Rattle.cell_core.specs.Sites.{bytes_of}
-use Rattle.cell_nets.specs.Operands.{number_in, AreFit}
-use Rattle.hazard_core.specs.declared.change.Change.{Change}
-use Rattle.hazard_core.specs.Tables.{decl_of}
-use Rattle.hazard_core.specs.Held.{held_value}
-use Rattle.hazard_core.specs.Commits.{change_by, host_change}
-use Rattle.pipe_core.specs.Machine.{Packet, State, Input, Build, Turn, Commits, Writes, Moves, turn_of, swept, place_at, is_due, some_send}
-use Rattle.ring_net.specs.declared.names.Register.TheVariants.{Holds}
-use Rattle.ring_net.specs.Names.{register_name}
+use Rattle.turn_net.specs.cell_core.declared.program.FrameByte.{FrameByte}
+use Rattle.turn_net.specs.cell_core.Cells.{bit as number_of_bit}
+use Rattle.turn_net.specs.cell_core.Sites.{bytes_of}
+use Rattle.turn_net.specs.cell_nets.Operands.{number_in, AreFit}
+use Rattle.site_table.specs.hazard_core.declared.change.Change.{Change}
+use Rattle.site_table.specs.hazard_core.Tables.{decl_of}
+use Rattle.site_table.specs.hazard_core.Held.{held_value}
+use Rattle.site_table.specs.hazard_core.Commits.{change_by, host_change}
+use Rattle.host_runs.specs.pipe_core.Machine.{Packet, State, Input, Build, Turn, Commits, Writes, Moves, turn_of, swept, place_at, is_due, some_send}
+use Rattle.control_net.specs.ring_net.declared.names.Register.TheVariants.{Holds}
+use Rattle.control_net.specs.ring_net.Names.{register_name}
 use Rattle.control_net.specs.Names.{back_name}
 use Rattle.control_net.specs.Returns.{due_name}
-use Rattle.place_net.specs.declared.outputs.AnswerByte.{AnswerByte}
-use Rattle.place_net.specs.Exit.{output_operands}
+use Rattle.site_table.specs.place_net.declared.outputs.AnswerByte.{AnswerByte}
+use Rattle.site_table.specs.place_net.Exit.{output_operands}
 use Rattle.pipe_net.specs.declared.parts.Part.{Part}
 use Rattle.pipe_net.specs.Parts as part
 use Rattle.pipe_net.specs.Machine.{input_of}

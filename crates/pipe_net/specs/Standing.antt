@@ -1,17 +1,17 @@
 -- What stands at a place for the cells of its packet.
 use Rattle.std.specs.Prelude.{◌≡◌, ℕ, suc, ◌≤◌, ◌++◌, Some, All, List, length}
-use Rattle.net_core.specs.Value.{Env}
+use Rattle.block_core.specs.net_core.Value.{Env}
 use Rattle.block_core.specs.declared.name.Name.{Name}
-use Rattle.hazard_core.specs.Held.{Held, held_value, pointer_in}
-use Rattle.cell_nets.specs.declared.operand.Operand.{Operand}
-use Rattle.cell_nets.specs.Operands.{IsOperand, IsAvailable}
-use Rattle.pipe_core.specs.Machine.{Packet, State, place_at}
-use Rattle.site_operands.specs.Sites.{SiteOperands, all_of, ShowsSite}
-use Rattle.place_net.specs.Place.{registers_from}
-use Rattle.site_place.specs.SitePlace.{site_words, pointer_registers}
+use Rattle.site_table.specs.hazard_core.Held.{Held, held_value, pointer_in}
+use Rattle.turn_net.specs.cell_nets.declared.operand.Operand.{Operand}
+use Rattle.turn_net.specs.cell_nets.Operands.{IsOperand, IsAvailable}
+use Rattle.host_runs.specs.pipe_core.Machine.{Packet, State, place_at}
+use Rattle.turn_net.specs.site_operands.Sites.{SiteOperands, all_of, ShowsSite}
+use Rattle.site_table.specs.place_net.Place.{registers_from}
+use Rattle.site_table.specs.site_place.SitePlace.{site_words, pointer_registers}
 use Rattle.site_table.specs.Constants.{HoldsConstants}
 use Rattle.site_table.specs.Tables.{ShowsWords}
-use Rattle.held_rows.specs.Fits.{FitsRows}
+use Rattle.site_table.specs.held_rows.Fits.{FitsRows}
 use Rattle.pipe_net.specs.declared.parts.Part.{Part}
 use Rattle.pipe_net.specs.Parts as part
 use Rattle.pipe_net.specs.Layout.{Layout, program_of, cells_of, last_of, commit_of}

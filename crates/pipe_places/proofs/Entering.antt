@@ -1,25 +1,25 @@
 -- What a packet holds that has entered a place, from what it held before.
 use Rattle.std.specs.Prelude.{◌≡◌, ◌≢◌, ℕ, suc, ◌+◌, ◌<◌, ◌≤◌, if◌then◌else◌, Bool, true, false, Some, None, All, List, [], length, slice_index}
 use Rattle.std.proofs.Common.{get_or, ◌⊎◌, inl, inr, refl, sym, ap, ◌∙◌, subst, arith}
-use Rattle.beat_core.specs.Ports.{Arrival}
-use Rattle.xdp_machine.specs.State.{PacketIn}
-use Rattle.net_core.specs.Value.{Env}
-use Rattle.block_core.specs.declared.name.Name.{Name}
+use Rattle.cell_core.specs.beat_core.Ports.{Arrival}
+use Rattle.cell_core.specs.xdp_machine.State.{PacketIn}
+use Rattle.change_net.specs.net_core.Value.{Env}
+use Rattle.change_net.specs.block_core.declared.name.Name.{Name}
 use Rattle.cell_core.specs.declared.operator.Operator.{Operator}
 use Rattle.cell_core.specs.declared.operator.Operator.TheVariants.{Byte, Length, Ifindex, Time}
 use Rattle.cell_core.specs.Cells.{cell_at, is_read, is_heavy, bit, value}
 use Rattle.cell_core.specs.Formed.{AreInputs}
 use Rattle.cell_core.specs.Rows.{greatest}
-use Rattle.hazard_core.specs.Tables.{TableState, table_at}
-use Rattle.hazard_core.specs.Held.{Held, held_value, pointer_in}
-use Rattle.hazard_core.specs.Keeping.{AreAlike}
-use Rattle.hazard_core.specs.Rows.{with_row, nothing_held}
+use Rattle.pipe_core.specs.hazard_core.Tables.{TableState, table_at}
+use Rattle.pipe_core.specs.hazard_core.Held.{Held, held_value, pointer_in}
+use Rattle.pipe_core.specs.hazard_core.Keeping.{AreAlike}
+use Rattle.pipe_core.specs.hazard_core.Rows.{with_row, nothing_held}
 use Rattle.held_rows.specs.Fits.{FitsRows, RowsFit}
 use Rattle.held_rows.specs.Made.{AreLaid, IsRowMade, RowIsMade, RowKeeps}
-use Rattle.frame_net.specs.declared.held.Kept.{Kept}
-use Rattle.row_net.specs.Table.{Holds}
-use Rattle.place_net.specs.Sources.{IsShown, packet_in}
-use Rattle.site_place.specs.Pointing.{HoldsPointers}
+use Rattle.change_net.specs.frame_net.declared.held.Kept.{Kept}
+use Rattle.site_table.specs.row_net.Table.{Holds}
+use Rattle.site_table.specs.place_net.Sources.{IsShown, packet_in}
+use Rattle.site_table.specs.site_place.Pointing.{HoldsPointers}
 use Rattle.site_table.specs.Constants.{HoldsConstants}
 use Rattle.site_table.specs.Staged.{AreLists}
 use Rattle.site_table.proofs.TableLaws.{plain_holds, constants_hold, next_table_holds, next_pointers_show}

@@ -3,11 +3,11 @@ use Rattle.std.specs.Prelude.{◌≡◌, ℕ, zero, suc, ◌+◌, ◌<◌, ◌�
 use Rattle.std.proofs.Common.{get_or, inl, inr, refl, sym, ap, ◌∙◌, subst, arith}
 use Rattle.std.proofs.lemmas.List.{get_or-map, get_or_past, length-map}
 use Rattle.std.proofs.lemmas.Bool.{cases_lt}
-use Rattle.beat_core.specs.Ports.{Arrival}
-use Rattle.xdp_maps.specs.State.{MapState}
-use Rattle.xdp_machine.specs.State.{PacketIn}
-use Rattle.net_core.specs.declared.ports.Inputs.{Inputs}
-use Rattle.net_core.specs.Clock.{Stored}
+use Rattle.cell_core.specs.beat_core.Ports.{Arrival}
+use Rattle.pipe_net.specs.xdp_maps.State.{MapState}
+use Rattle.cell_core.specs.xdp_machine.State.{PacketIn}
+use Rattle.change_net.specs.net_core.declared.ports.Inputs.{Inputs}
+use Rattle.change_net.specs.net_core.Clock.{Stored}
 use Rattle.cell_core.specs.declared.operator.Operator.{Operator}
 use Rattle.cell_core.specs.declared.operator.Operator.TheVariants.{Found, Answer}
 use Rattle.cell_core.specs.declared.site.Act.{Act}
@@ -15,18 +15,18 @@ use Rattle.cell_core.specs.declared.site.Act.TheVariants as act
 use Rattle.cell_core.specs.Acts.{is_access, pointer_operand}
 use Rattle.cell_core.specs.Cells.{cell_at, site_in, is_read, bits_from}
 use Rattle.cell_core.specs.Sites.{SiteView, site_at}
-use Rattle.hazard_core.specs.declared.change.Change.{Change}
-use Rattle.hazard_core.specs.declared.pointer.Pointer.{Pointer}
-use Rattle.hazard_core.specs.declared.pointer.Pointer.TheVariants.{Null, InSlot}
-use Rattle.hazard_core.specs.Tables.{TableState}
-use Rattle.hazard_core.specs.Held.{Held, pointer_in, access_pointer}
-use Rattle.hazard_core.specs.Commits.{change_by, host_change}
-use Rattle.hazard_core.specs.Rows.{nothing_held}
+use Rattle.pipe_core.specs.hazard_core.declared.change.Change.{Change}
+use Rattle.pipe_core.specs.hazard_core.declared.pointer.Pointer.{Pointer}
+use Rattle.pipe_core.specs.hazard_core.declared.pointer.Pointer.TheVariants.{Null, InSlot}
+use Rattle.pipe_core.specs.hazard_core.Tables.{TableState}
+use Rattle.pipe_core.specs.hazard_core.Held.{Held, pointer_in, access_pointer}
+use Rattle.pipe_core.specs.hazard_core.Commits.{change_by, host_change}
+use Rattle.pipe_core.specs.hazard_core.Rows.{nothing_held}
 use Rattle.held_rows.specs.Fits.{FitsRows, BeginsFit}
 use Rattle.held_rows.specs.Made.{AreLaid}
 use Rattle.table_laws.specs.Counts.{HaveSameSlots, CommitKeepsSlots, HostKeepsSlots}
 use Rattle.table_laws.specs.Leading.{BeginsLead, ChangesLead}
-use Rattle.value_net.specs.Words.{answers_number}
+use Rattle.change_net.specs.value_net.Words.{answers_number}
 use Rattle.pipe_core.specs.Machine.{Packet, State, Build, Turn, Commits, Writes, Moves, place_at, inside, no_frame, packet_of, some_send, swept, struck_below, newcomer, entered, moved, worked, new_state, clock}
 use Rattle.pipe_core.specs.History.{Trace, IsInOrder}
 use Rattle.pipe_core.specs.Computed.{Computes, IsComputed}

@@ -2,24 +2,24 @@
 use Rattle.std.specs.Prelude.{◌≡◌, ℕ, zero, suc, ◌+◌, ◌^◌, ◌<◌, ◌≤◌, nat_lt, not, ◌&&◌, true, false, Option, Some, All, List, ◌∷◌, length, drop}
 use Rattle.std.proofs.Common.{get_or, refl, sym, ap, ◌∙◌, subst, arith}
 use Rattle.std.proofs.lemmas.List.{nil_from_length}
-use Rattle.beat_core.specs.Ports.{Arrival}
-use Rattle.xdp_maps.specs.State.{MapState}
-use Rattle.net_core.specs.declared.ports.Inputs.{Inputs}
-use Rattle.net_core.specs.Ports.{words_of}
-use Rattle.net_core.specs.Value.{nothing, bit, Env}
-use Rattle.net_core.specs.Clock.{Stored, done}
-use Rattle.block_core.specs.declared.name.Name.{Name}
-use Rattle.block_core.specs.Blocks.{Whole, Among, first_of}
-use Rattle.block_core.specs.Parts.{Sees}
-use Rattle.hazard_core.specs.Held.{held_value, pointer_in}
-use Rattle.hazard_core.specs.declared.change.Change.{Change}
-use Rattle.hazard_core.specs.Commits.{change_by, host_change}
+use Rattle.cell_core.specs.beat_core.Ports.{Arrival}
+use Rattle.pipe_net.specs.xdp_maps.State.{MapState}
+use Rattle.change_net.specs.net_core.declared.ports.Inputs.{Inputs}
+use Rattle.change_net.specs.net_core.Ports.{words_of}
+use Rattle.change_net.specs.net_core.Value.{nothing, bit, Env}
+use Rattle.change_net.specs.net_core.Clock.{Stored, done}
+use Rattle.change_net.specs.block_core.declared.name.Name.{Name}
+use Rattle.change_net.specs.block_core.Blocks.{Whole, Among, first_of}
+use Rattle.change_net.specs.block_core.Parts.{Sees}
+use Rattle.pipe_core.specs.hazard_core.Held.{held_value, pointer_in}
+use Rattle.pipe_core.specs.hazard_core.declared.change.Change.{Change}
+use Rattle.pipe_core.specs.hazard_core.Commits.{change_by, host_change}
 use Rattle.held_rows.specs.Fits.{FitsRows, BeginsFit, RowsFit}
 use Rattle.held_rows.specs.Made.{RowIsMade, RowKeeps}
-use Rattle.row_net.specs.Table.{Holds}
-use Rattle.site_place.specs.Inputs.{HasWidths}
-use Rattle.site_place.specs.Pointing.{HoldsPointers}
-use Rattle.site_place.specs.SitePlace.{site_widths, site_words}
+use Rattle.site_table.specs.row_net.Table.{Holds}
+use Rattle.site_table.specs.site_place.Inputs.{HasWidths}
+use Rattle.site_table.specs.site_place.Pointing.{HoldsPointers}
+use Rattle.site_table.specs.site_place.SitePlace.{site_widths, site_words}
 use Rattle.site_table.specs.Constants.{HoldsConstants}
 use Rattle.site_table.specs.Staged.{StagesArePlaced, ListsAreFormed, AreLists, IsMadeAt}
 use Rattle.stage_net.specs.Rows.{ShowsRow}

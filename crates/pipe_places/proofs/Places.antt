@@ -2,10 +2,10 @@
 use Rattle.std.specs.Prelude.{◌≡◌, ℕ, zero, suc, ◌+◌, ◌<◌, nat_lt, if◌then◌else◌, Bool, true, false, Option, Some, None, List, [], ◌∷◌, length, drop, replicate}
 use Rattle.std.specs.Option.{option_map}
 use Rattle.std.proofs.Common.{get_or, refl, sym, ap, ◌∙◌, subst, arith}
-use Rattle.beat_core.specs.declared.beat.Beat.{Beat}
-use Rattle.beat_core.specs.Ports.{Arrival}
-use Rattle.hazard_core.specs.Tables.{TableState}
-use Rattle.hazard_core.specs.declared.change.Change.{Change}
+use Rattle.cell_core.specs.beat_core.declared.beat.Beat.{Beat}
+use Rattle.cell_core.specs.beat_core.Ports.{Arrival}
+use Rattle.pipe_core.specs.hazard_core.Tables.{TableState}
+use Rattle.pipe_core.specs.hazard_core.declared.change.Change.{Change}
 use Rattle.pipe_core.specs.Machine.{Packet, State, Input, Build, place_at, inside, no_frame, packet_of, some_send, swept, struck, struck_below, enters, entered, moved, worked, work, gathered, scattered, beat_over, taken_beat, clock}
 use Rattle.pipe_core.specs.Computed.{Computes, PlacesCompute}
 use Rattle.pipe_net.specs.Saying.{turn_in}

@@ -2,18 +2,18 @@
 use Rattle.std.specs.Prelude.{◌≡◌, ◌≢◌, ℕ, suc, ◌<◌, ◌≤◌, ◌⊎◌, if◌then◌else◌, None, All, List, [], ◌∷◌, length}
 use Rattle.std.proofs.Common.{get_or, inl, inr, refl, sym, ap, ◌∙◌, subst, arith}
 use Rattle.std.proofs.lemmas.Bool.{cases_lt}
-use Rattle.xdp_machine.specs.State.{PacketIn}
+use Rattle.cell_core.specs.xdp_machine.State.{PacketIn}
 use Rattle.cell_core.specs.declared.operator.Operator.{Operator}
 use Rattle.cell_core.specs.declared.operator.Operator.TheVariants.{Wire, Phi, Found}
 use Rattle.cell_core.specs.Cells.{CellView, cell_at, site_in, on}
 use Rattle.cell_core.specs.Formed.{takes}
 use Rattle.cell_core.specs.Rows.{RowsRise}
 use Rattle.cell_core.specs.Sites.{ProgramView}
-use Rattle.hazard_core.specs.declared.pointer.Pointer.{Pointer}
-use Rattle.hazard_core.specs.Tables.{TableState}
-use Rattle.hazard_core.specs.Held.{Held, held_value, pointer_in}
-use Rattle.hazard_core.specs.Keeping.{SameCell}
-use Rattle.hazard_core.specs.Rows.{phi_pointer, cell_pointer, with_row}
+use Rattle.pipe_core.specs.hazard_core.declared.pointer.Pointer.{Pointer}
+use Rattle.pipe_core.specs.hazard_core.Tables.{TableState}
+use Rattle.pipe_core.specs.hazard_core.Held.{Held, held_value, pointer_in}
+use Rattle.pipe_core.specs.hazard_core.Keeping.{SameCell}
+use Rattle.pipe_core.specs.hazard_core.Rows.{phi_pointer, cell_pointer, with_row}
 use Rattle.held_rows.specs.Made.{AreLaid, RowIsMade, RowKeeps}
 use Rattle.table_laws.specs.Counts.{HaveSameSlots}
 use Rattle.table_laws.specs.Leading.{FoundsLead, RowsLead, ChangesLead}

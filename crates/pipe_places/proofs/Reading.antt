@@ -3,43 +3,43 @@ use Rattle.std.specs.Prelude.{◌≡◌, ℕ, zero, suc, ◌+◌, ◌*◌, ◌/�
 use Rattle.std.proofs.Common.{cond, get_or, refl, sym, ap, ◌∙◌, subst, arith}
 use Rattle.std.proofs.Math.Nat.{mod-eq_of_lt}
 use Rattle.std.proofs.lemmas.List.{length-map, length-replicate, get_or_default}
-use Rattle.net_core.specs.declared.tree.Word.{Word}
-use Rattle.net_core.specs.declared.ports.Inputs.{Inputs}
-use Rattle.net_core.specs.Ports.{words_of}
-use Rattle.net_core.specs.Value.{word, nothing, Env}
-use Rattle.net_core.specs.Clock.{Stored}
-use Rattle.block_core.specs.declared.name.Name.{Name}
-use Rattle.block_core.specs.Blocks.{Whole, Among}
-use Rattle.block_core.specs.Parts.{Sees, Solve}
-use Rattle.xdp_maps.specs.Contents.{IsBytes}
-use Rattle.xdp_maps.specs.declared.decl.MapDecl.{MapDecl}
-use Rattle.xdp_maps.specs.declared.decl.MapKind.{MapKind}
-use Rattle.xdp_maps.specs.declared.decl.MapKind.TheVariants.{Hash, Array}
+use Rattle.change_net.specs.net_core.declared.tree.Word.{Word}
+use Rattle.change_net.specs.net_core.declared.ports.Inputs.{Inputs}
+use Rattle.change_net.specs.net_core.Ports.{words_of}
+use Rattle.change_net.specs.net_core.Value.{word, nothing, Env}
+use Rattle.change_net.specs.net_core.Clock.{Stored}
+use Rattle.change_net.specs.block_core.declared.name.Name.{Name}
+use Rattle.change_net.specs.block_core.Blocks.{Whole, Among}
+use Rattle.change_net.specs.block_core.Parts.{Sees, Solve}
+use Rattle.pipe_net.specs.xdp_maps.Contents.{IsBytes}
+use Rattle.pipe_net.specs.xdp_maps.declared.decl.MapDecl.{MapDecl}
+use Rattle.pipe_net.specs.xdp_maps.declared.decl.MapKind.{MapKind}
+use Rattle.pipe_net.specs.xdp_maps.declared.decl.MapKind.TheVariants.{Hash, Array}
 use Rattle.cell_core.specs.declared.operator.Operator.{Operator}
 use Rattle.cell_core.specs.declared.operator.Operator.TheVariants.{Found, Answer}
 use Rattle.cell_core.specs.Cells.{CellView, cell_at, site_in, is_read, is_heavy, bits_from}
 use Rattle.cell_core.specs.Rows.{numbers}
 use Rattle.cell_core.specs.Sites.{ProgramView, site_at}
-use Rattle.cell_nets.specs.declared.operand.Operand.{Operand}
-use Rattle.cell_nets.specs.Operands.{number_in}
-use Rattle.hazard_core.specs.declared.slot.Slot.{Slot}
-use Rattle.hazard_core.specs.declared.pointer.Pointer.TheVariants.{InSlot}
-use Rattle.hazard_core.specs.Tables.{TableState, decl_of, table_at, slot_at, used_count}
-use Rattle.hazard_core.specs.Held.{Held, access_pointer}
-use Rattle.hazard_core.specs.Commits.{word_count, word_at as byte_word}
-use Rattle.array_net.specs.Words.{HoldsWords}
-use Rattle.array_net.specs.Hosts.{SeesMemories}
-use Rattle.hash_net.specs.Hash.{count_name, StoresHash, SeesOwn}
-use Rattle.hash_net.specs.HashNets.{value_first}
-use Rattle.slot_net.specs.Slots.{slots_of, ShowSlots}
-use Rattle.slot_net.specs.Shown.{shown_slots}
-use Rattle.map_block.specs.Stored.{StoresMap, StoresAs, first_value_as}
-use Rattle.site_operands.specs.Pointers.{pointer_number}
-use Rattle.site_operands.specs.Sites.{SiteOperands, ShowsSite, operands_of}
-use Rattle.row_plan.specs.Plan.{read_row}
-use Rattle.value_net.specs.Words.{answers_number, access_start}
-use Rattle.read_net.specs.declared.sites.MapNets.{MapNets}
-use Rattle.read_net.specs.Sites.{ShowsTable}
+use Rattle.pipe_net.specs.cell_nets.declared.operand.Operand.{Operand}
+use Rattle.pipe_net.specs.cell_nets.Operands.{number_in}
+use Rattle.pipe_core.specs.hazard_core.declared.slot.Slot.{Slot}
+use Rattle.pipe_core.specs.hazard_core.declared.pointer.Pointer.TheVariants.{InSlot}
+use Rattle.pipe_core.specs.hazard_core.Tables.{TableState, decl_of, table_at, slot_at, used_count}
+use Rattle.pipe_core.specs.hazard_core.Held.{Held, access_pointer}
+use Rattle.pipe_core.specs.hazard_core.Commits.{word_count, word_at as byte_word}
+use Rattle.change_net.specs.array_net.Words.{HoldsWords}
+use Rattle.change_net.specs.array_net.Hosts.{SeesMemories}
+use Rattle.change_net.specs.hash_net.Hash.{count_name, StoresHash, SeesOwn}
+use Rattle.change_net.specs.hash_net.HashNets.{value_first}
+use Rattle.stage_net.specs.slot_net.Slots.{slots_of, ShowSlots}
+use Rattle.stage_net.specs.slot_net.Shown.{shown_slots}
+use Rattle.pipe_net.specs.map_block.Stored.{StoresMap, StoresAs, first_value_as}
+use Rattle.site_table.specs.site_operands.Pointers.{pointer_number}
+use Rattle.site_table.specs.site_operands.Sites.{SiteOperands, ShowsSite, operands_of}
+use Rattle.site_table.specs.row_plan.Plan.{read_row}
+use Rattle.change_net.specs.value_net.Words.{answers_number, access_start}
+use Rattle.stage_net.specs.read_net.declared.sites.MapNets.{MapNets}
+use Rattle.stage_net.specs.read_net.Sites.{ShowsTable}
 use Rattle.site_table.specs.Staged.{StagesArePlaced}
 use Rattle.site_table.specs.Sites.{IsSiteOf}
 use Rattle.stage_net.specs.Rows.{ShowsMaps, ShowsEntry, ShowsReads}

@@ -5,27 +5,27 @@ use Rattle.std.proofs.Common.{get_or, refl, sym, ap, ◌∙◌, subst, arith}
 use Rattle.std.proofs.Math.Nat.{pow-le-pow_right}
 use Rattle.std.proofs.lemmas.List.{length-append, length-map, get_or-map, get_or_append_left, get_or-append_right}
 use Rattle.std.proofs.lemmas.List.Elements.{All-cons, All-map, All-append, All-contains, All-from_recursion}
-use Rattle.xdp_machine.specs.State.{PacketIn}
-use Rattle.net_core.specs.declared.tree.Word.{Word}
-use Rattle.net_core.specs.declared.ports.Inputs.{Inputs}
-use Rattle.net_core.specs.Ports.{words_of}
-use Rattle.net_core.specs.Suits.{IsOfWidth}
-use Rattle.net_core.specs.Value.{nothing, Env}
-use Rattle.net_core.specs.Clock.{Stored}
-use Rattle.block_core.specs.declared.name.Name.{Name}
-use Rattle.block_core.specs.declared.name.Name.TheVariants as name
-use Rattle.block_core.specs.Blocks.{Whole, Among}
-use Rattle.block_core.specs.Parts.{Sees}
-use Rattle.block_core.specs.Formed.{block_registers}
+use Rattle.cell_core.specs.xdp_machine.State.{PacketIn}
+use Rattle.change_net.specs.net_core.declared.tree.Word.{Word}
+use Rattle.change_net.specs.net_core.declared.ports.Inputs.{Inputs}
+use Rattle.change_net.specs.net_core.Ports.{words_of}
+use Rattle.change_net.specs.net_core.Suits.{IsOfWidth}
+use Rattle.change_net.specs.net_core.Value.{nothing, Env}
+use Rattle.change_net.specs.net_core.Clock.{Stored}
+use Rattle.change_net.specs.block_core.declared.name.Name.{Name}
+use Rattle.change_net.specs.block_core.declared.name.Name.TheVariants as name
+use Rattle.change_net.specs.block_core.Blocks.{Whole, Among}
+use Rattle.change_net.specs.block_core.Parts.{Sees}
+use Rattle.change_net.specs.block_core.Formed.{block_registers}
 use Rattle.cell_core.specs.Cells.{cell_at, is_read}
-use Rattle.cell_nets.specs.declared.operand.Operand.{Operand}
-use Rattle.cell_nets.specs.Operands.{HasWidth, IsFit, AreFit}
-use Rattle.cell_nets.proofs.ChoiceLemmas.{fit_of}
-use Rattle.hazard_core.specs.Held.{Held, held_value}
-use Rattle.row_net.specs.Table.{Stands}
-use Rattle.place_net.specs.Place.{registers_from, width_at, widths_of}
-use Rattle.place_net.specs.Exit.{output_operands, byte_operand}
-use Rattle.site_place.specs.SitePlace.{site_widths, pointer_registers}
+use Rattle.pipe_net.specs.cell_nets.declared.operand.Operand.{Operand}
+use Rattle.pipe_net.specs.cell_nets.Operands.{HasWidth, IsFit, AreFit}
+use Rattle.change_net.proofs.cell_nets.ChoiceLemmas.{fit_of}
+use Rattle.pipe_core.specs.hazard_core.Held.{Held, held_value}
+use Rattle.site_table.specs.row_net.Table.{Stands}
+use Rattle.site_table.specs.place_net.Place.{registers_from, width_at, widths_of}
+use Rattle.site_table.specs.place_net.Exit.{output_operands, byte_operand}
+use Rattle.site_table.specs.site_place.SitePlace.{site_widths, pointer_registers}
 use Rattle.site_table.specs.Constants.{HoldsConstants}
 use Rattle.site_table.specs.Tables.{ShowsWords}
 use Rattle.site_table.proofs.TableLaws.{value_is_number}

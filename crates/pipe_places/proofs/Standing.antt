@@ -2,16 +2,16 @@
 use Rattle.std.specs.Prelude.{ℕ, suc, ◌<◌, ◌≤◌, ◌++◌, All, List, length, slice_index, Contains}
 use Rattle.std.proofs.Common.{get_or, inr, sym, subst}
 use Rattle.std.proofs.lemmas.List.Elements.{Contains-get_or, Contains-append_left, Contains-append_right}
-use Rattle.net_core.specs.Value.{Env}
-use Rattle.block_core.specs.declared.name.Name.{Name}
-use Rattle.cell_nets.specs.declared.operand.Operand.{Operand}
-use Rattle.cell_nets.specs.declared.operand.Operand.TheVariants.{Known, Net, Part as Bits}
-use Rattle.cell_nets.specs.Operands.{IsAvailable}
-use Rattle.hazard_core.specs.Held.{Held, held_value, pointer_in}
-use Rattle.site_operands.specs.Sites.{SiteOperands, ShowsSite}
-use Rattle.row_net.specs.Table.{AreThere, Holds}
-use Rattle.place_net.specs.Place.{registers_from}
-use Rattle.site_place.specs.SitePlace.{site_words, pointer_registers}
+use Rattle.change_net.specs.net_core.Value.{Env}
+use Rattle.change_net.specs.block_core.declared.name.Name.{Name}
+use Rattle.pipe_net.specs.cell_nets.declared.operand.Operand.{Operand}
+use Rattle.pipe_net.specs.cell_nets.declared.operand.Operand.TheVariants.{Known, Net, Part as Bits}
+use Rattle.pipe_net.specs.cell_nets.Operands.{IsAvailable}
+use Rattle.pipe_core.specs.hazard_core.Held.{Held, held_value, pointer_in}
+use Rattle.site_table.specs.site_operands.Sites.{SiteOperands, ShowsSite}
+use Rattle.site_table.specs.row_net.Table.{AreThere, Holds}
+use Rattle.site_table.specs.place_net.Place.{registers_from}
+use Rattle.site_table.specs.site_place.SitePlace.{site_words, pointer_registers}
 use Rattle.held_rows.specs.Fits.{FitsRows}
 use Rattle.site_table.specs.Constants.{AreEarly, HoldsConstants}
 use Rattle.site_table.specs.Lists.{held_pointers}

@@ -1,20 +1,20 @@
 -- What a place makes of a row has the values of its cells, and no divisor is 0.
 use Rattle.std.specs.Prelude.{◌≡◌, ℕ, suc, ◌^◌, ◌<◌, false, All, List, length, slice_index, map as map_list}
 use Rattle.std.proofs.Common.{get_or, refl, ap, ◌∙◌, arith}
-use Rattle.xdp_machine.specs.State.{PacketIn}
+use Rattle.cell_core.specs.xdp_machine.State.{PacketIn}
 use Rattle.cell_core.specs.declared.operator.Operator.{Operator}
 use Rattle.cell_core.specs.declared.operator.Operator.TheVariants.{Found, Answer}
 use Rattle.cell_core.specs.CellLaws.{HaveValues, DivisorsAreSome}
 use Rattle.cell_core.specs.Cells.{CellView, cell_at, is_read, number, bits_from, value}
 use Rattle.cell_core.specs.Rows.{RowsRise}
 use Rattle.cell_core.specs.Sites.{ProgramView}
-use Rattle.cell_nets.specs.Computing.{is_outside}
-use Rattle.hazard_core.specs.Tables.{TableState}
-use Rattle.hazard_core.specs.Held.{Held, held_value}
-use Rattle.hazard_core.specs.Rows.{cell_number}
+use Rattle.pipe_net.specs.cell_nets.Computing.{is_outside}
+use Rattle.pipe_core.specs.hazard_core.Tables.{TableState}
+use Rattle.pipe_core.specs.hazard_core.Held.{Held, held_value}
+use Rattle.pipe_core.specs.hazard_core.Rows.{cell_number}
 use Rattle.held_rows.specs.Made.{IsRowMade}
-use Rattle.row_net.specs.Made.{AreValues}
-use Rattle.row_plan.specs.Plan.{Plan}
+use Rattle.site_table.specs.row_net.Made.{AreValues}
+use Rattle.site_table.specs.row_plan.Plan.{Plan}
 use Rattle.site_table.specs.Staged.{IsMadeAt}
 use Rattle.stage_net.proofs.ValueLaws.{are_values}
 use Rattle.pipe_core.specs.Machine.{Build}

@@ -1,15 +1,15 @@
 -- Accesses of packets go through pointers into their own maps.
 use Rattle.std.specs.Prelude.{◌≡◌, ℕ, suc, ◌<◌, ◌≤◌, true, Some, None, length, slice_index}
-use Rattle.xdp_maps.specs.State.{MapState}
-use Rattle.xdp_machine.specs.State.{PacketIn}
-use Rattle.net_core.specs.declared.ports.Inputs.{Inputs}
-use Rattle.net_core.specs.Clock.{Stored}
+use Rattle.pipe_net.specs.xdp_maps.State.{MapState}
+use Rattle.cell_core.specs.xdp_machine.State.{PacketIn}
+use Rattle.change_net.specs.net_core.declared.ports.Inputs.{Inputs}
+use Rattle.change_net.specs.net_core.Clock.{Stored}
 use Rattle.cell_core.specs.Acts.{is_access, pointer_operand}
 use Rattle.cell_core.specs.Cells.{cell_at, site_in}
 use Rattle.cell_core.specs.Sites.{SiteView, site_at}
-use Rattle.hazard_core.specs.Tables.{TableState}
-use Rattle.hazard_core.specs.Held.{Held, pointer_in, access_pointer}
-use Rattle.hazard_core.specs.Rows.{cell_pointer}
+use Rattle.pipe_core.specs.hazard_core.Tables.{TableState}
+use Rattle.pipe_core.specs.hazard_core.Held.{Held, pointer_in, access_pointer}
+use Rattle.pipe_core.specs.hazard_core.Rows.{cell_pointer}
 use Rattle.table_laws.specs.Leading.{LeadsInto, FoundsLead}
 use Rattle.pipe_core.specs.Machine.{Packet, State, Build, place_at, new_state, clock}
 use Rattle.pipe_core.specs.History.{Trace, IsInOrder}

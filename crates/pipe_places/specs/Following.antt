@@ -1,21 +1,21 @@
 -- A clock of the places.
 use Rattle.std.specs.Prelude.{◌≡◌, ℕ, ◌<◌, ◌≤◌, true, Some, length}
-use Rattle.xdp_maps.specs.Contents.{IsBytes}
-use Rattle.xdp_maps.specs.State.{MapState}
-use Rattle.net_core.specs.declared.ports.Inputs.{Inputs}
-use Rattle.net_core.specs.Ports.{words_of}
-use Rattle.net_core.specs.Value.{bit, Env}
-use Rattle.net_core.specs.Clock.{Stored, done}
-use Rattle.block_core.specs.declared.name.Name.{Name}
-use Rattle.block_core.specs.Blocks.{Whole, Among, first_of}
-use Rattle.block_core.specs.Parts.{Sees}
+use Rattle.pipe_net.specs.xdp_maps.Contents.{IsBytes}
+use Rattle.pipe_net.specs.xdp_maps.State.{MapState}
+use Rattle.change_net.specs.net_core.declared.ports.Inputs.{Inputs}
+use Rattle.change_net.specs.net_core.Ports.{words_of}
+use Rattle.change_net.specs.net_core.Value.{bit, Env}
+use Rattle.change_net.specs.net_core.Clock.{Stored, done}
+use Rattle.change_net.specs.block_core.declared.name.Name.{Name}
+use Rattle.change_net.specs.block_core.Blocks.{Whole, Among, first_of}
+use Rattle.change_net.specs.block_core.Parts.{Sees}
 use Rattle.cell_core.specs.Sites.{ProgramView, site_at}
-use Rattle.hazard_core.specs.Tables.{TableState, decl_of, table_at, slot_at}
-use Rattle.hazard_core.specs.Tabled.{AreTables}
-use Rattle.hazard_core.specs.declared.pointer.Pointer.TheVariants.{InSlot}
-use Rattle.hazard_core.specs.Held.{Held, access_pointer}
-use Rattle.value_net.specs.Words.{answers_number}
-use Rattle.place_net.specs.Sources.{IsShownIn}
+use Rattle.pipe_core.specs.hazard_core.Tables.{TableState, decl_of, table_at, slot_at}
+use Rattle.pipe_core.specs.hazard_core.Tabled.{AreTables}
+use Rattle.pipe_core.specs.hazard_core.declared.pointer.Pointer.TheVariants.{InSlot}
+use Rattle.pipe_core.specs.hazard_core.Held.{Held, access_pointer}
+use Rattle.change_net.specs.value_net.Words.{answers_number}
+use Rattle.site_table.specs.place_net.Sources.{IsShownIn}
 use Rattle.pipe_core.specs.Machine.{Packet, State, newcomer, some_send, swept, inside, no_frame, place_at, new_state, clock}
 use Rattle.pipe_core.specs.History.{Trace, IsInOrder}
 use Rattle.pipe_core.specs.Computed.{IsComputed}

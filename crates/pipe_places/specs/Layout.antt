@@ -1,18 +1,18 @@
 -- How the cells of a program stand in the places of a pipeline: by which lists, and by which tables.
 use Rattle.std.specs.Prelude.{◌≡◌, ℕ, suc, ◌^◌, ◌<◌, ◌≤◌, Bool, All, List, length, slice_index, filter, map as map_list, Contains}
-use Rattle.block_core.specs.declared.name.Name.{Name}
+use Rattle.change_net.specs.block_core.declared.name.Name.{Name}
 use Rattle.cell_core.specs.declared.program.FrameByte.{FrameByte}
 use Rattle.cell_core.specs.Rows.{numbers}
 use Rattle.cell_core.specs.Sites.{ProgramView, site_at}
-use Rattle.hazard_core.specs.Tables.{decl_of}
-use Rattle.value_net.specs.Words.{answers_number}
-use Rattle.row_plan.specs.Plan.{Plan, IsPlan}
-use Rattle.row_net.specs.Lists.{made_cells}
-use Rattle.row_net.specs.Needed.{AreNeeded}
-use Rattle.row_net.specs.Table.{Stands, AreConstants}
+use Rattle.pipe_core.specs.hazard_core.Tables.{decl_of}
+use Rattle.change_net.specs.value_net.Words.{answers_number}
+use Rattle.site_table.specs.row_plan.Plan.{Plan, IsPlan}
+use Rattle.site_table.specs.row_net.Lists.{made_cells}
+use Rattle.site_table.specs.row_net.Needed.{AreNeeded}
+use Rattle.site_table.specs.row_net.Table.{Stands, AreConstants}
 use Rattle.pipe_core.specs.Computed.{IsPlanned}
-use Rattle.place_net.specs.declared.outputs.AnswerByte.{AnswerByte}
-use Rattle.place_net.specs.Sources.{IsSource}
+use Rattle.site_table.specs.place_net.declared.outputs.AnswerByte.{AnswerByte}
+use Rattle.site_table.specs.place_net.Sources.{IsSource}
 use Rattle.site_table.specs.declared.tables.StageTables.{StageTables}
 use Rattle.site_table.specs.Constants.{AreEarly}
 use Rattle.site_table.specs.Lists.{held_cells, held_pointers, made_pointers}

@@ -1,35 +1,35 @@
 -- The parts of places: the slots of hashes, the words under pointers, and the places.
 use Rattle.std.specs.Prelude.{◌≡◌, ℕ, ◌+◌, ◌/◌, ◌<◌, ◌≤◌, Some, All, List, [], ◌∷◌, length, slice_index}
 use Rattle.std.proofs.Common.{get_or}
-use Rattle.beat_core.specs.Ports.{Arrival}
-use Rattle.net_core.specs.Value.{Env}
-use Rattle.block_core.specs.declared.name.Name.{Name}
-use Rattle.block_core.specs.Blocks.{BlockWireTree, Whole}
-use Rattle.block_core.specs.Parts.{Solve}
-use Rattle.xdp_maps.specs.declared.decl.MapKind.TheVariants.{Hash}
+use Rattle.cell_core.specs.beat_core.Ports.{Arrival}
+use Rattle.change_net.specs.net_core.Value.{Env}
+use Rattle.change_net.specs.block_core.declared.name.Name.{Name}
+use Rattle.change_net.specs.block_core.Blocks.{BlockWireTree, Whole}
+use Rattle.change_net.specs.block_core.Parts.{Solve}
+use Rattle.pipe_net.specs.xdp_maps.declared.decl.MapKind.TheVariants.{Hash}
 use Rattle.cell_core.specs.Cells.{cell_at, site_in, value}
 use Rattle.cell_core.specs.Sites.{site_at}
-use Rattle.cell_nets.specs.declared.operand.Operand.{Operand}
-use Rattle.cell_nets.specs.declared.operand.Operand.TheVariants.{Net}
-use Rattle.cell_nets.specs.Operands.{AreFit}
-use Rattle.hazard_core.specs.Tables.{decl_of}
-use Rattle.hash_net.specs.Hash.{count_name}
-use Rattle.slot_net.specs.Slots.{slots_of}
-use Rattle.slot_net.specs.Shown.{shown_slots, IsSlots}
-use Rattle.map_block.specs.Stored.{first_value}
-use Rattle.value_net.specs.Words.{access_start}
-use Rattle.site_operands.specs.declared.SiteNets.{SiteNets}
-use Rattle.site_operands.specs.Sites.{SiteOperands, operands_of}
-use Rattle.row_net.specs.Table.{Holds}
-use Rattle.place_net.specs.Sources.{IsShownIn, packet_in, source_operands}
-use Rattle.read_net.specs.declared.sites.MapNets.{MapNets}
+use Rattle.pipe_net.specs.cell_nets.declared.operand.Operand.{Operand}
+use Rattle.pipe_net.specs.cell_nets.declared.operand.Operand.TheVariants.{Net}
+use Rattle.pipe_net.specs.cell_nets.Operands.{AreFit}
+use Rattle.pipe_core.specs.hazard_core.Tables.{decl_of}
+use Rattle.change_net.specs.hash_net.Hash.{count_name}
+use Rattle.stage_net.specs.slot_net.Slots.{slots_of}
+use Rattle.stage_net.specs.slot_net.Shown.{shown_slots, IsSlots}
+use Rattle.pipe_net.specs.map_block.Stored.{first_value}
+use Rattle.change_net.specs.value_net.Words.{access_start}
+use Rattle.site_table.specs.site_operands.declared.SiteNets.{SiteNets}
+use Rattle.site_table.specs.site_operands.Sites.{SiteOperands, operands_of}
+use Rattle.site_table.specs.row_net.Table.{Holds}
+use Rattle.site_table.specs.place_net.Sources.{IsShownIn, packet_in, source_operands}
+use Rattle.stage_net.specs.read_net.declared.sites.MapNets.{MapNets}
 use Rattle.change_net.specs.Pointed.{IsPointedWords}
 use Rattle.site_table.specs.Sites.{IsSiteOf}
 use Rattle.stage_net.specs.declared.row.StageNets.{StageNets}
 use Rattle.stage_net.specs.Nets.{decls_of}
 use Rattle.stage_net.specs.Stage.{IsStage}
-use Rattle.control_net.specs.Names.{wire_name}
-use Rattle.control_net.specs.declared.names.Wire.TheVariants.{Advances}
+use Rattle.pipe_net.specs.control_net.Names.{wire_name}
+use Rattle.pipe_net.specs.control_net.declared.names.Wire.TheVariants.{Advances}
 use Rattle.pipe_net.specs.declared.parts.Part.{Part}
 use Rattle.pipe_net.specs.Parts as part
 use Rattle.pipe_net.specs.Layout.{Layout, program_of, cells_of, last_of}

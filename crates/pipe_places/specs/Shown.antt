@@ -1,13 +1,13 @@
 -- What the registers of places show.
 use Rattle.std.specs.Prelude.{◌≡◌, ℕ, ◌≤◌}
-use Rattle.net_core.specs.declared.ports.Inputs.{Inputs}
-use Rattle.net_core.specs.Ports.{words_of}
-use Rattle.net_core.specs.Value.{Env}
-use Rattle.net_core.specs.Clock.{Stored}
-use Rattle.block_core.specs.declared.name.Name.{Name}
-use Rattle.block_core.specs.Blocks.{Whole, Among}
-use Rattle.block_core.specs.Parts.{Sees}
-use Rattle.cell_nets.specs.Operands.{AreFit}
+use Rattle.change_net.specs.net_core.declared.ports.Inputs.{Inputs}
+use Rattle.change_net.specs.net_core.Ports.{words_of}
+use Rattle.change_net.specs.net_core.Value.{Env}
+use Rattle.change_net.specs.net_core.Clock.{Stored}
+use Rattle.change_net.specs.block_core.declared.name.Name.{Name}
+use Rattle.change_net.specs.block_core.Blocks.{Whole, Among}
+use Rattle.change_net.specs.block_core.Parts.{Sees}
+use Rattle.pipe_net.specs.cell_nets.Operands.{AreFit}
 use Rattle.pipe_core.specs.Machine.{State}
 use Rattle.pipe_core.specs.History.{Trace}
 use Rattle.pipe_core.specs.Computed.{IsComputed}

@@ -1,7 +1,7 @@
 -- What stands for sites at a place.
 use Rattle.std.specs.Prelude.{ℕ, suc, ◌<◌, ◌≤◌, length}
-use Rattle.block_core.specs.declared.name.Name.{Name}
-use Rattle.site_operands.specs.Sites.{SiteOperands}
+use Rattle.change_net.specs.block_core.declared.name.Name.{Name}
+use Rattle.site_table.specs.site_operands.Sites.{SiteOperands}
 use Rattle.site_table.specs.Sites.{IsSiteOf}
 use Rattle.pipe_net.specs.declared.parts.Part.{Part}
 use Rattle.pipe_net.specs.Layout.{Layout, program_of, last_of, commit_of}

@@ -3,22 +3,22 @@ use Rattle.std.specs.Prelude.{ℕ, List, [], ◌∷◌, ◌++◌, take, drop}
 use Rattle.std.proofs.Common.{refl, sym, ap, ◌∙◌, subst, arith, append_assoc}
 use Rattle.std.proofs.lemmas.List.{take-append-drop}
 use Rattle.std.proofs.lemmas.Nat.{pow_pos}
-use Rattle.beat_core.specs.declared.answer.Answer.{Answer}
-use Rattle.beat_core.specs.Beats.{beats_of}
-use Rattle.beat_core.specs.Ports.{Arrival}
-use Rattle.xdp_maps.specs.State.{MapState}
-use Rattle.xdp_machine.specs.State.{PacketIn}
-use Rattle.net_core.specs.History.{trace, answers_given}
+use Rattle.cell_core.specs.beat_core.declared.answer.Answer.{Answer}
+use Rattle.cell_core.specs.beat_core.Beats.{beats_of}
+use Rattle.cell_core.specs.beat_core.Ports.{Arrival}
+use Rattle.cell_core.specs.xdp_maps.State.{MapState}
+use Rattle.cell_core.specs.xdp_machine.State.{PacketIn}
+use Rattle.host_runs.specs.net_core.History.{trace, answers_given}
 use Rattle.realization.specs.Realizes.{BeginNext}
 use Rattle.cell_core.specs.Sites.{ProgramView, IsCellRun, leaves, after}
-use Rattle.hazard_core.specs.Held.{Held, held_value}
+use Rattle.pipe_core.specs.hazard_core.Held.{Held, held_value}
 use Rattle.pipe_core.specs.Machine.{Build, packet_of, first_answer}
 use Rattle.pipe_core.specs.History.{answers_of}
 use Rattle.pipe_core.specs.Sequential.{AreCellRuns}
 use Rattle.pipe_core.specs.InTurn.{left_maps}
 use Rattle.pipe_core.specs.Apart.{RunsComplete}
 use Rattle.pipe_core.specs.Pipeable.{IsSuited}
-use Rattle.pipe_net.specs.Relation.{IsAt}
+use Rattle.pipe_answers.specs.pipe_net.Relation.{IsAt}
 use Rattle.pipe_answers.specs.Runs.{ReadsRunInTurn}
 use Rattle.pipe_ports.specs.Answered.{answer_of, AreAnswered}
 use Rattle.pipe_ports.specs.Followed.{ran}

@@ -3,10 +3,10 @@ use Rattle.std.specs.Prelude.{◌≡◌, ℕ, zero, suc, ◌*◌, ◌<◌, ◌�
 use Rattle.std.proofs.Common.{refl, sym, ap, ◌∙◌, arith, append_assoc, append-nil, length-drop, drop-drop}
 use Rattle.std.proofs.lemmas.List.{take_all}
 use Rattle.std.proofs.lemmas.Bool.Decides.{nat_tests}
-use Rattle.list_laws.specs.Bytes.{IsBytes}
-use Rattle.beat_core.specs.declared.beat.Beat.{Beat}
-use Rattle.beat_core.specs.Beats.{bytes_of_beat, frame_of, first_beat, beat_count, beats_of}
-use Rattle.beat_core.proofs.BeatLaws.{beats_of-step, length-beats_of, frame_of-beats_of}
+use Rattle.cell_core.specs.list_laws.Bytes.{IsBytes}
+use Rattle.cell_core.specs.beat_core.declared.beat.Beat.{Beat}
+use Rattle.cell_core.specs.beat_core.Beats.{bytes_of_beat, frame_of, first_beat, beat_count, beats_of}
+use Rattle.cell_core.proofs.beat_core.BeatLaws.{beats_of-step, length-beats_of, frame_of-beats_of}
 
 pub frame_append : (xs : List Beat) (x : Beat) → frame_of (xs ++ x ∷ []) ≡ frame_of xs ++ bytes_of_beat x
 frame_append [] x = append-nil (bytes_of_beat x)

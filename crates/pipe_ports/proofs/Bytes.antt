@@ -4,25 +4,25 @@ use Rattle.std.specs.List.{AllByRecursion}
 use Rattle.std.proofs.Common.{get_or, refl, ◌∙◌, arith, length-append, length-set}
 use Rattle.std.proofs.Math.Nat.{pow-le-pow_right}
 use Rattle.std.proofs.lemmas.List.Elements.{Contains-get_or}
-use Rattle.list_laws.specs.Bytes.{IsBytes}
-use Rattle.beat_core.specs.declared.beat.Beat.{Beat}
-use Rattle.beat_core.specs.declared.answer.Answer.{Answer}
-use Rattle.beat_core.specs.Beats.{bytes_of_beat, IsOffer}
-use Rattle.beat_core.specs.Ports.{Arrival, arrived, Offered, offered}
-use Rattle.beat_core.proofs.BeatLaws.{IsOffer-count}
-use Rattle.beat_core.proofs.WordLaws.{length-low_bytes, IsBytes-low_bytes}
-use Rattle.xdp_maps.specs.State.{MapState}
-use Rattle.net_core.specs.declared.ports.Inputs.{Inputs}
+use Rattle.cell_core.specs.list_laws.Bytes.{IsBytes}
+use Rattle.cell_core.specs.beat_core.declared.beat.Beat.{Beat}
+use Rattle.cell_core.specs.beat_core.declared.answer.Answer.{Answer}
+use Rattle.cell_core.specs.beat_core.Beats.{bytes_of_beat, IsOffer}
+use Rattle.cell_core.specs.beat_core.Ports.{Arrival, arrived, Offered, offered}
+use Rattle.cell_core.proofs.beat_core.BeatLaws.{IsOffer-count}
+use Rattle.cell_core.proofs.beat_core.WordLaws.{length-low_bytes, IsBytes-low_bytes}
+use Rattle.cell_core.specs.xdp_maps.State.{MapState}
+use Rattle.host_runs.specs.net_core.declared.ports.Inputs.{Inputs}
 use Rattle.cell_core.specs.declared.program.FrameByte.{FrameByte}
 use Rattle.cell_core.specs.Cells.{cell_at}
 use Rattle.cell_core.specs.CellLaws.{ValuesFit}
 use Rattle.cell_core.specs.Sites.{ProgramView, IsCellRun, with_bytes, after}
-use Rattle.hazard_core.specs.Held.{Held, held_value}
+use Rattle.pipe_core.specs.hazard_core.Held.{Held, held_value}
 use Rattle.pipe_core.specs.Machine.{State, Build, packet_of}
 use Rattle.pipe_core.specs.History.{came_in, answers_of}
 use Rattle.pipe_core.specs.Sequential.{AreCellRuns}
 use Rattle.host_runs.specs.Inputs.{input_of}
-use Rattle.pipe_net.specs.Layout.{HasAnswer}
+use Rattle.pipe_answers.specs.pipe_net.Layout.{HasAnswer}
 use Rattle.pipe_ports.proofs.Ports.{part_by}
 
 -- bytes, at least one

@@ -2,14 +2,14 @@
 use Rattle.std.specs.Prelude.{◌≡◌, ℕ, suc, ◌*◌, ◌<◌, ◌≤◌, if◌then◌else◌, Bool, true, false, Option, Some, None, List, [], ◌∷◌, ◌++◌, length, drop, take}
 use Rattle.std.specs.List.{AllByRecursion}
 use Rattle.std.proofs.Common.{refl, sym, ap, ◌∙◌, subst, arith, append-nil, length-drop}
-use Rattle.list_laws.specs.Bytes.{IsBytes}
-use Rattle.beat_core.specs.declared.beat.Beat.{Beat}
-use Rattle.beat_core.specs.declared.answer.Answer.{Answer}
-use Rattle.beat_core.specs.Beats.{first_beat, beat_count, beats_of, frame_of, bytes_of_beat}
-use Rattle.net_core.specs.declared.ports.Inputs.{Inputs}
+use Rattle.cell_core.specs.list_laws.Bytes.{IsBytes}
+use Rattle.cell_core.specs.beat_core.declared.beat.Beat.{Beat}
+use Rattle.cell_core.specs.beat_core.declared.answer.Answer.{Answer}
+use Rattle.cell_core.specs.beat_core.Beats.{first_beat, beat_count, beats_of, frame_of, bytes_of_beat}
+use Rattle.host_runs.specs.net_core.declared.ports.Inputs.{Inputs}
 use Rattle.pipe_core.specs.Machine.{Packet, State, Input, Build, Turn, Commits, Writes, Moves, swept, some_send, turn_of, worked, work, beat_over, came_with, gathered, beat_at, taken_beat, scattered, first_answer, clock}
 use Rattle.host_runs.specs.Inputs.{input_of}
-use Rattle.pipe_net.specs.Relation.{IsAt}
+use Rattle.pipe_answers.specs.pipe_net.Relation.{IsAt}
 use Rattle.pipe_ports.specs.Ports.{begun}
 use Rattle.pipe_ports.proofs.Beats.{take_beat, whole_beat, not_at_most}
 use Rattle.pipe_ports.proofs.Ports.{part_by, begun_by}

@@ -1,27 +1,27 @@
 -- Clock after clock a design that follows the machine takes and gives what it does.
 use Rattle.std.specs.Prelude.{◌≡◌, ℕ, false, if◌then◌else◌, Option, Some, None, List, [], ◌∷◌, ◌++◌, map as map_list}
 use Rattle.std.proofs.Common.{refl, sym, ap, ◌∙◌, subst, append-nil, append_assoc}
-use Rattle.beat_core.specs.declared.beat.Beat.{Beat}
-use Rattle.beat_core.specs.Beats.{frame_of}
-use Rattle.beat_core.specs.Clocks.{AreOffers}
-use Rattle.beat_core.specs.Ports.{arrivals_among, answers_among}
-use Rattle.xdp_maps.specs.State.{MapState, IsSound}
-use Rattle.net_core.specs.declared.tree.Word.{Word}
-use Rattle.net_core.specs.declared.ports.Inputs.{Inputs}
-use Rattle.net_core.specs.Nets.{Netlist}
-use Rattle.net_core.specs.Ports.{words_of}
-use Rattle.net_core.specs.Clock.{Stored, after, shown}
-use Rattle.net_core.specs.History.{Cycle, trace, beats_in, offers_in, given_out, arrivals, answers_given, open_beats}
+use Rattle.cell_core.specs.beat_core.declared.beat.Beat.{Beat}
+use Rattle.cell_core.specs.beat_core.Beats.{frame_of}
+use Rattle.cell_core.specs.beat_core.Clocks.{AreOffers}
+use Rattle.cell_core.specs.beat_core.Ports.{arrivals_among, answers_among}
+use Rattle.cell_core.specs.xdp_maps.State.{MapState, IsSound}
+use Rattle.host_runs.specs.net_core.declared.tree.Word.{Word}
+use Rattle.host_runs.specs.net_core.declared.ports.Inputs.{Inputs}
+use Rattle.host_runs.specs.net_core.Nets.{Netlist}
+use Rattle.host_runs.specs.net_core.Ports.{words_of}
+use Rattle.host_runs.specs.net_core.Clock.{Stored, after, shown}
+use Rattle.host_runs.specs.net_core.History.{Cycle, trace, beats_in, offers_in, given_out, arrivals, answers_given, open_beats}
 use Rattle.cell_core.specs.CellLaws.{ValuesFit}
-use Rattle.frame_net.specs.Frames.{position_of}
+use Rattle.pipe_answers.specs.frame_net.Frames.{position_of}
 use Rattle.pipe_core.specs.Machine.{Build, beat_over, taken_beat, clock, output}
 use Rattle.pipe_core.specs.History.{Trace, came_in, gave_in, next, run, begin}
 use Rattle.pipe_core.specs.Drive.{ahead, beats_in as machine_beats}
 use Rattle.pipe_core.specs.Pipeable.{IsSuited}
 use Rattle.host_runs.specs.Inputs.{access_in, input_of}
 use Rattle.host_runs.specs.Silent.{silent, ReadsAreSilent}
-use Rattle.pipe_net.specs.Machine.{Shows}
-use Rattle.pipe_net.specs.Layout.{HasAnswer}
+use Rattle.pipe_answers.specs.pipe_net.Machine.{Shows}
+use Rattle.pipe_answers.specs.pipe_net.Layout.{HasAnswer}
 use Rattle.pipe_answers.specs.Coming.{AllMayCome}
 use Rattle.pipe_answers.specs.Following.{FollowsAlways}
 use Rattle.pipe_answers.specs.Runs.{ReadsRunInTurn}

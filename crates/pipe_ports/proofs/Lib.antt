@@ -1,3 +1,4 @@
+pub use Rattle.realization.proofs as realization
 pub mod Beats
 pub mod Ports
 pub mod Clock

@@ -2,11 +2,11 @@
 use Rattle.std.specs.Prelude.{◌≡◌, if◌then◌else◌, Bool, true, false, List, [], ◌∷◌, ◌++◌, map as map_list}
 use Rattle.std.specs.List.{AllByRecursion}
 use Rattle.std.proofs.Common.{refl, ap, ◌∙◌}
-use Rattle.net_core.specs.declared.ports.Inputs.{Inputs}
-use Rattle.net_core.specs.Nets.{Netlist}
-use Rattle.net_core.specs.Ports.{words_of}
-use Rattle.net_core.specs.Clock.{Stored, after}
-use Rattle.net_core.specs.History.{Cycle, cycle_of, trace, stored_after, goes_in, offered_beat, beats_in}
+use Rattle.host_runs.specs.net_core.declared.ports.Inputs.{Inputs}
+use Rattle.host_runs.specs.net_core.Nets.{Netlist}
+use Rattle.host_runs.specs.net_core.Ports.{words_of}
+use Rattle.host_runs.specs.net_core.Clock.{Stored, after}
+use Rattle.host_runs.specs.net_core.History.{Cycle, cycle_of, trace, stored_after, goes_in, offered_beat, beats_in}
 use Rattle.pipe_core.specs.Machine.{Build}
 use Rattle.pipe_core.specs.History.{Trace, next, run}
 use Rattle.host_runs.specs.Inputs.{input_of}

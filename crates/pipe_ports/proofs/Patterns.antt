@@ -2,21 +2,21 @@
 use Rattle.std.specs.Prelude.{◌≡◌, false, List, [], ◌∷◌, ◌++◌}
 use Rattle.std.specs.List.{AllByRecursion}
 use Rattle.std.proofs.Common.{sym, ap, ◌∙◌, subst, append_assoc}
-use Rattle.beat_core.specs.declared.beat.Beat.{Beat}
-use Rattle.beat_core.specs.Clocks.{AreOffers}
-use Rattle.xdp_maps.specs.State.{MapState}
-use Rattle.net_core.specs.declared.ports.Inputs.{Inputs}
-use Rattle.net_core.specs.Nets.{Netlist}
-use Rattle.net_core.specs.Ports.{words_of}
-use Rattle.net_core.specs.Clock.{Stored, after, shown}
-use Rattle.net_core.specs.History.{NeverStops, trace, stored_after, beats_in, IsInput, IsSilent}
+use Rattle.cell_core.specs.beat_core.declared.beat.Beat.{Beat}
+use Rattle.cell_core.specs.beat_core.Clocks.{AreOffers}
+use Rattle.cell_core.specs.xdp_maps.State.{MapState}
+use Rattle.host_runs.specs.net_core.declared.ports.Inputs.{Inputs}
+use Rattle.host_runs.specs.net_core.Nets.{Netlist}
+use Rattle.host_runs.specs.net_core.Ports.{words_of}
+use Rattle.host_runs.specs.net_core.Clock.{Stored, after, shown}
+use Rattle.host_runs.specs.net_core.History.{NeverStops, trace, stored_after, beats_in, IsInput, IsSilent}
 use Rattle.realization.specs.Realizes.{IsPattern}
-use Rattle.frame_net.specs.Frames.{position_of}
+use Rattle.pipe_answers.specs.frame_net.Frames.{position_of}
 use Rattle.pipe_core.specs.Machine.{State, Build, beat_over}
 use Rattle.pipe_core.specs.History.{Trace, next, begin}
 use Rattle.pipe_core.specs.Drive.{ahead}
 use Rattle.host_runs.specs.Inputs.{input_of}
-use Rattle.pipe_net.specs.Machine.{MayCome}
+use Rattle.pipe_answers.specs.pipe_net.Machine.{MayCome}
 use Rattle.pipe_answers.specs.Coming.{AllMayCome}
 use Rattle.pipe_answers.specs.Following.{FollowsAlways}
 use Rattle.pipe_ports.specs.Followed.{WriteNothing, IsFollowed, ran}

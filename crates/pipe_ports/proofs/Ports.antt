@@ -1,25 +1,25 @@
 -- What a clock at the ports adds to what came and was given, where the outputs show what the machine does.
 use Rattle.std.specs.Prelude.{◌≡◌, ℕ, suc, ◌+◌, ◌<◌, ◌==◌, if◌then◌else◌, is_some, Bool, true, false, ◌&&◌, Option, Some, None, List, [], ◌∷◌, ◌++◌, length, min}
 use Rattle.std.proofs.Common.{refl, sym, ap, ◌∙◌, subst, arith, length-append}
-use Rattle.beat_core.specs.declared.beat.Beat.{Beat}
-use Rattle.beat_core.specs.declared.answer.Answer.{Answer}
-use Rattle.beat_core.specs.declared.frame.TheConstants.{BEAT_LIMIT}
-use Rattle.beat_core.specs.Beats.{bytes_of_beat, frame_of, IsOffer}
-use Rattle.beat_core.specs.Clocks.{AreOffers}
-use Rattle.beat_core.specs.Ports.{Arrival, arrived, Offered, offered, arrivals_among, Given, given, answers_among}
-use Rattle.beat_core.proofs.BeatLaws.{IsOffer-eight}
-use Rattle.beat_core.proofs.WordLaws.{length-low_bytes}
-use Rattle.net_core.specs.declared.tree.Word.{Word}
-use Rattle.net_core.specs.declared.ports.Inputs.{Inputs}
-use Rattle.net_core.specs.declared.ports.TheConstants.{IN_READY, OUT_VALID, OUT_DATA, OUT_BYTES, OUT_LAST, OUT_VERDICT, OUT_TARGET}
-use Rattle.net_core.specs.Value.{bit}
-use Rattle.net_core.specs.History.{Cycle, beats_in, offers_in, given_out, open_beats, owed_after}
-use Rattle.frame_net.specs.Frames.{position_of}
+use Rattle.cell_core.specs.beat_core.declared.beat.Beat.{Beat}
+use Rattle.cell_core.specs.beat_core.declared.answer.Answer.{Answer}
+use Rattle.cell_core.specs.beat_core.declared.frame.TheConstants.{BEAT_LIMIT}
+use Rattle.cell_core.specs.beat_core.Beats.{bytes_of_beat, frame_of, IsOffer}
+use Rattle.cell_core.specs.beat_core.Clocks.{AreOffers}
+use Rattle.cell_core.specs.beat_core.Ports.{Arrival, arrived, Offered, offered, arrivals_among, Given, given, answers_among}
+use Rattle.cell_core.proofs.beat_core.BeatLaws.{IsOffer-eight}
+use Rattle.cell_core.proofs.beat_core.WordLaws.{length-low_bytes}
+use Rattle.host_runs.specs.net_core.declared.tree.Word.{Word}
+use Rattle.host_runs.specs.net_core.declared.ports.Inputs.{Inputs}
+use Rattle.host_runs.specs.net_core.declared.ports.TheConstants.{IN_READY, OUT_VALID, OUT_DATA, OUT_BYTES, OUT_LAST, OUT_VERDICT, OUT_TARGET}
+use Rattle.host_runs.specs.net_core.Value.{bit}
+use Rattle.host_runs.specs.net_core.History.{Cycle, beats_in, offers_in, given_out, open_beats, owed_after}
+use Rattle.pipe_answers.specs.frame_net.Frames.{position_of}
 use Rattle.pipe_core.specs.Machine.{State, Output, Build, is_ready, beat_over, came_with, shown_beat, taken_beat, first_answer, output}
 use Rattle.pipe_core.specs.History.{came_in, gave_in}
 use Rattle.pipe_core.specs.Drive.{ahead}
 use Rattle.host_runs.specs.Inputs.{beat_in, input_of}
-use Rattle.pipe_net.specs.Machine.{ShowsBeat, Shows}
+use Rattle.pipe_answers.specs.pipe_net.Machine.{ShowsBeat, Shows}
 use Rattle.pipe_ports.specs.Ports.{cycle, offers_by, PortsShowClocks}
 use Rattle.pipe_ports.proofs.Beats.{frame_append}
 

@@ -2,19 +2,19 @@
 use Rattle.std.specs.Prelude.{◌≡◌, false, List, [], ◌∷◌, ◌++◌}
 use Rattle.std.specs.List.{AllByRecursion}
 use Rattle.std.proofs.Common.{refl, sym, ap, ◌∙◌, subst}
-use Rattle.beat_core.specs.declared.answer.Answer.{Answer}
-use Rattle.beat_core.specs.Ports.{Arrival}
-use Rattle.xdp_maps.specs.State.{MapState, IsSound}
-use Rattle.net_core.specs.declared.ports.Inputs.{Inputs}
+use Rattle.cell_core.specs.beat_core.declared.answer.Answer.{Answer}
+use Rattle.cell_core.specs.beat_core.Ports.{Arrival}
+use Rattle.cell_core.specs.xdp_maps.State.{MapState, IsSound}
+use Rattle.host_runs.specs.net_core.declared.ports.Inputs.{Inputs}
 use Rattle.cell_core.specs.CellLaws.{ValuesFit}
 use Rattle.pipe_core.specs.Machine.{Build, beat_over}
 use Rattle.pipe_core.specs.History.{Trace, next, begin, came_in}
 use Rattle.pipe_core.specs.InTurn.{left_maps}
 use Rattle.pipe_core.specs.Pipeable.{IsSuited}
 use Rattle.host_runs.specs.Inputs.{input_of}
-use Rattle.pipe_net.specs.Machine.{MayCome}
-use Rattle.pipe_net.specs.Layout.{HasAnswer}
-use Rattle.pipe_net.specs.Relation.{IsAt}
+use Rattle.pipe_answers.specs.pipe_net.Machine.{MayCome}
+use Rattle.pipe_answers.specs.pipe_net.Layout.{HasAnswer}
+use Rattle.pipe_answers.specs.pipe_net.Relation.{IsAt}
 use Rattle.pipe_answers.specs.Runs.{RunsFrom, ReadsRunInTurn}
 use Rattle.pipe_ports.specs.Followed.{WriteNothing, ran}
 use Rattle.pipe_ports.proofs.Clock.{IsSome, FirstIsBytes, Ticks, ticks, position_then}

@@ -1,10 +1,10 @@
 -- What is wanted of the answers of a pipeline: each packet is answered by its cell run, on the maps that the one before it left.
 use Rattle.std.specs.Prelude.{◌≡◌, ℕ, List, [], ◌∷◌}
-use Rattle.xdp_maps.specs.State.{MapState}
-use Rattle.xdp_machine.specs.Runs.{Leaves}
+use Rattle.cell_core.specs.xdp_maps.State.{MapState}
+use Rattle.cell_core.specs.xdp_machine.Runs.{Leaves}
 use Rattle.cell_core.specs.Sites.{ProgramView, IsCellRun, leaves}
-use Rattle.beat_core.specs.declared.answer.Answer.{Answer}
-use Rattle.beat_core.specs.Ports.{Arrival}
+use Rattle.cell_core.specs.beat_core.declared.answer.Answer.{Answer}
+use Rattle.cell_core.specs.beat_core.Ports.{Arrival}
 use Rattle.pipe_core.specs.Machine.{packet_of}
 
 -- an answer as it goes over the ports

@@ -1,13 +1,13 @@
 -- A design that follows a pipeline with maps answers packets by their cell runs, in their order.
 use Rattle.std.specs.Prelude.{◌≡◌, List, length}
-use Rattle.beat_core.specs.Ports.{Arrival}
-use Rattle.xdp_maps.specs.State.{MapState}
-use Rattle.net_core.specs.declared.ports.Inputs.{Inputs}
-use Rattle.net_core.specs.Nets.{Netlist}
-use Rattle.net_core.specs.Clock.{Stored}
+use Rattle.cell_core.specs.beat_core.Ports.{Arrival}
+use Rattle.cell_core.specs.xdp_maps.State.{MapState}
+use Rattle.host_runs.specs.net_core.declared.ports.Inputs.{Inputs}
+use Rattle.host_runs.specs.net_core.Nets.{Netlist}
+use Rattle.host_runs.specs.net_core.Clock.{Stored}
 use Rattle.realization.specs.Realizes.{IsPattern, IsPrefix}
 use Rattle.cell_core.specs.Sites.{ProgramView}
-use Rattle.hazard_core.specs.Held.{Held}
+use Rattle.pipe_core.specs.hazard_core.Held.{Held}
 use Rattle.pipe_core.specs.Machine.{Build}
 use Rattle.pipe_core.specs.History.{answers_of}
 use Rattle.pipe_core.specs.Sequential.{AreCellRuns}

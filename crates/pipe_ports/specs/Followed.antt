@@ -1,18 +1,18 @@
 -- A design that follows the machine of a pipeline with maps.
 use Rattle.std.specs.Prelude.{◌≡◌, false, List, map as map_list}
 use Rattle.std.specs.List.{AllByRecursion}
-use Rattle.xdp_maps.specs.State.{MapState, IsSound}
-use Rattle.net_core.specs.declared.ports.Inputs.{Inputs}
-use Rattle.net_core.specs.Nets.{Netlist}
-use Rattle.net_core.specs.Ports.{words_of}
-use Rattle.net_core.specs.Clock.{Stored, shown}
-use Rattle.net_core.specs.History.{IsInput, stored_after}
+use Rattle.cell_core.specs.xdp_maps.State.{MapState, IsSound}
+use Rattle.host_runs.specs.net_core.declared.ports.Inputs.{Inputs}
+use Rattle.host_runs.specs.net_core.Nets.{Netlist}
+use Rattle.host_runs.specs.net_core.Ports.{words_of}
+use Rattle.host_runs.specs.net_core.Clock.{Stored, shown}
+use Rattle.host_runs.specs.net_core.History.{IsInput, stored_after}
 use Rattle.pipe_core.specs.Machine.{Build, output}
 use Rattle.pipe_core.specs.History.{Trace, run, begin}
 use Rattle.pipe_core.specs.Pipeable.{IsSuited}
 use Rattle.host_runs.specs.Inputs.{input_of}
-use Rattle.pipe_net.specs.Machine.{Shows}
-use Rattle.pipe_net.specs.Layout.{HasAnswer}
+use Rattle.pipe_answers.specs.pipe_net.Machine.{Shows}
+use Rattle.pipe_answers.specs.pipe_net.Layout.{HasAnswer}
 use Rattle.pipe_answers.specs.Coming.{AllMayCome}
 use Rattle.pipe_answers.specs.Following.{FollowsAlways}
 

@@ -1,3 +1,4 @@
+pub use Rattle.realization.specs as realization
 pub mod Answered
 pub mod Followed
 pub mod Ports

@@ -1,16 +1,16 @@
 -- What a pattern offers may come, so the design follows the machine in it.
 use Rattle.std.specs.Prelude.{◌≡◌, None, List, [], ◌∷◌, ◌++◌}
-use Rattle.xdp_maps.specs.State.{MapState}
-use Rattle.net_core.specs.declared.ports.Inputs.{Inputs}
-use Rattle.net_core.specs.Ports.{words_of}
-use Rattle.net_core.specs.Nets.{Netlist}
-use Rattle.net_core.specs.Clock.{Stored, shown, stopping}
-use Rattle.net_core.specs.History.{NeverStops, stored_after}
+use Rattle.cell_core.specs.xdp_maps.State.{MapState}
+use Rattle.host_runs.specs.net_core.declared.ports.Inputs.{Inputs}
+use Rattle.host_runs.specs.net_core.Ports.{words_of}
+use Rattle.host_runs.specs.net_core.Nets.{Netlist}
+use Rattle.host_runs.specs.net_core.Clock.{Stored, shown, stopping}
+use Rattle.host_runs.specs.net_core.History.{NeverStops, stored_after}
 use Rattle.realization.specs.Realizes.{IsPattern}
 use Rattle.pipe_core.specs.Machine.{Build, output}
 use Rattle.pipe_core.specs.History.{begin}
 use Rattle.host_runs.specs.Inputs.{input_of}
-use Rattle.pipe_net.specs.Machine.{MayCome, Shows}
+use Rattle.pipe_answers.specs.pipe_net.Machine.{MayCome, Shows}
 use Rattle.pipe_answers.specs.Coming.{AllMayCome}
 use Rattle.pipe_answers.specs.Following.{FollowsAlways}
 use Rattle.pipe_ports.specs.Followed.{WriteNothing, IsFollowed, ran}

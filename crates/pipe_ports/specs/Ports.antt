@@ -1,25 +1,25 @@
 -- What goes over at the ports of a design that follows the machine, in one clock and in all.
 use Rattle.std.specs.Prelude.{◌≡◌, ℕ, suc, ◌+◌, ◌==◌, Option, Some, None, List, [], ◌∷◌, ◌++◌, length, take, map as map_list}
-use Rattle.beat_core.specs.declared.beat.Beat.{Beat}
-use Rattle.beat_core.specs.Beats.{beats_of}
-use Rattle.beat_core.specs.Clocks.{AreOffers}
-use Rattle.beat_core.specs.Ports.{Offered, offered}
-use Rattle.xdp_maps.specs.State.{MapState}
-use Rattle.net_core.specs.declared.tree.Word.{Word}
-use Rattle.net_core.specs.declared.ports.Inputs.{Inputs}
-use Rattle.net_core.specs.declared.ports.TheConstants.{IN_READY}
-use Rattle.net_core.specs.Ports.{outputs_at}
-use Rattle.net_core.specs.Nets.{Netlist}
-use Rattle.net_core.specs.Clock.{Stored}
-use Rattle.net_core.specs.History.{Cycle, trace, offers_in, beats_in, arrivals, answers_given, open_beats, owed_after}
-use Rattle.frame_net.specs.Frames.{position_of}
+use Rattle.cell_core.specs.beat_core.declared.beat.Beat.{Beat}
+use Rattle.cell_core.specs.beat_core.Beats.{beats_of}
+use Rattle.cell_core.specs.beat_core.Clocks.{AreOffers}
+use Rattle.cell_core.specs.beat_core.Ports.{Offered, offered}
+use Rattle.cell_core.specs.xdp_maps.State.{MapState}
+use Rattle.host_runs.specs.net_core.declared.tree.Word.{Word}
+use Rattle.host_runs.specs.net_core.declared.ports.Inputs.{Inputs}
+use Rattle.host_runs.specs.net_core.declared.ports.TheConstants.{IN_READY}
+use Rattle.host_runs.specs.net_core.Ports.{outputs_at}
+use Rattle.host_runs.specs.net_core.Nets.{Netlist}
+use Rattle.host_runs.specs.net_core.Clock.{Stored}
+use Rattle.host_runs.specs.net_core.History.{Cycle, trace, offers_in, beats_in, arrivals, answers_given, open_beats, owed_after}
+use Rattle.pipe_answers.specs.frame_net.Frames.{position_of}
 use Rattle.pipe_core.specs.Machine.{State, Build, is_ready, beat_over, taken_beat, first_answer, new_state, output}
 use Rattle.pipe_core.specs.History.{gave_in, begin}
 use Rattle.pipe_core.specs.Drive.{ahead, beats_in as machine_beats}
 use Rattle.host_runs.specs.Inputs.{input_of}
 use Rattle.host_runs.specs.Silent.{silent}
-use Rattle.pipe_net.specs.Machine.{Shows}
-use Rattle.pipe_net.specs.Relation.{IsAt}
+use Rattle.pipe_answers.specs.pipe_net.Machine.{Shows}
+use Rattle.pipe_answers.specs.pipe_net.Relation.{IsAt}
 use Rattle.pipe_answers.specs.Coming.{AllMayCome}
 use Rattle.pipe_ports.specs.Followed.{WriteNothing, IsFollowed, ran}
 

@@ -2,28 +2,28 @@
 use Rattle.std.specs.Prelude.{◌≡◌, ◌⊎◌, ℕ, ◌+◌, ◌^◌, ◌/◌, ◌<◌, ◌≤◌, Some, All, List, length, slice_index, Contains}
 use Rattle.std.proofs.Common.{inl, inr, refl, sym, ap, subst, arith}
 use Rattle.std.proofs.Math.Nat.{mod-le, div-le_self}
-use Rattle.xdp_maps.specs.Contents.{IsWithinLimits}
-use Rattle.cell_core.specs.declared.program.FrameByte.{FrameByte}
-use Rattle.cell_core.specs.declared.site.Act.{Act}
-use Rattle.cell_core.specs.declared.site.Act.TheVariants as act
-use Rattle.cell_core.specs.declared.operator.Operator.{Operator}
-use Rattle.cell_core.specs.declared.operator.Operator.TheVariants.{Constant}
-use Rattle.cell_core.specs.Cells.{CellView, cell_at, site_in, is_heavy, bit, bits_from}
-use Rattle.cell_core.specs.Rows.{greatest}
-use Rattle.cell_core.specs.Sites.{ProgramView, site_at}
-use Rattle.held_cells.specs.Aligned as held
-use Rattle.held_cells.specs.Law.{IsLaw}
-use Rattle.held_cells.specs.Paths.{GraphView}
-use Rattle.operator_cells.specs.Making.{IsAlone}
-use Rattle.predicate_core.specs.Buildable.{HasBits, IsBuildable}
-use Rattle.row_plan.specs.Plan.{Plan, IsPlan}
-use Rattle.value_net.specs.Words as value
-use Rattle.pipe_core.specs.Machine.{Build}
-use Rattle.pipe_core.specs.Pipeable.{IsSuited}
-use Rattle.stage_net.specs.Staged.{IsReadCell}
-use Rattle.pipe_net.specs.Layout.{IsBy, HasAnswer}
-use Rattle.site_table.specs.Constants.{AreEarly, number_as}
-use Rattle.pipe_places.specs.Entries.{AccessesLead}
+use Rattle.pipe_draft.specs.xdp_maps.Contents.{IsWithinLimits}
+use Rattle.pipe_draft.specs.cell_core.declared.program.FrameByte.{FrameByte}
+use Rattle.pipe_draft.specs.cell_core.declared.site.Act.{Act}
+use Rattle.pipe_draft.specs.cell_core.declared.site.Act.TheVariants as act
+use Rattle.pipe_draft.specs.cell_core.declared.operator.Operator.{Operator}
+use Rattle.pipe_draft.specs.cell_core.declared.operator.Operator.TheVariants.{Constant}
+use Rattle.pipe_draft.specs.cell_core.Cells.{CellView, cell_at, site_in, is_heavy, bit, bits_from}
+use Rattle.pipe_draft.specs.cell_core.Rows.{greatest}
+use Rattle.pipe_draft.specs.cell_core.Sites.{ProgramView, site_at}
+use Rattle.program_plan.specs.held_cells.Aligned as held
+use Rattle.program_plan.specs.held_cells.Law.{IsLaw}
+use Rattle.program_plan.specs.held_cells.Paths.{GraphView}
+use Rattle.program_plan.specs.operator_cells.Making.{IsAlone}
+use Rattle.program_plan.specs.predicate_core.Buildable.{HasBits, IsBuildable}
+use Rattle.pipe_draft.specs.row_plan.Plan.{Plan, IsPlan}
+use Rattle.pipe_draft.specs.value_net.Words as value
+use Rattle.program_plan.specs.pipe_core.Machine.{Build}
+use Rattle.program_plan.specs.pipe_core.Pipeable.{IsSuited}
+use Rattle.pipe_draft.specs.stage_net.Staged.{IsReadCell}
+use Rattle.pipe_draft.specs.pipe_net.Layout.{IsBy, HasAnswer}
+use Rattle.pipe_draft.specs.site_table.Constants.{AreEarly, number_as}
+use Rattle.pipe_draft.specs.pipe_places.Entries.{AccessesLead}
 use Rattle.pipe_draft.specs.Program.{IsForPipe, build_of}
 use Rattle.program_plan.specs.Suited.{ProgramsAreSuited}
 use Rattle.program_plan.specs.ReadCells.{AreReadCells, ReadCellsAreFirst, AccessesAreAligned}

@@ -1,14 +1,14 @@
 -- The programs that are prepared for a pipeline.
 use Rattle.std.specs.Prelude.{◌^◌, ◌<◌, ◌≤◌, List, length, slice_index, All}
-use Rattle.xdp_maps.specs.declared.decl.MapDecl.{MapDecl}
-use Rattle.xdp_maps.specs.Contents.{IsWithinLimits}
-use Rattle.cell_core.specs.Sites.{ProgramView}
-use Rattle.held_cells.specs.Paths.{GraphView}
-use Rattle.held_cells.specs.Law.{IsLaw}
-use Rattle.predicate_core.specs.Buildable.{IsBuildable}
-use Rattle.row_plan.specs.Plan.{Plan, IsPlan}
-use Rattle.site_table.specs.Constants.{AreEarly}
-use Rattle.pipe_places.specs.Entries.{AccessesLead}
+use Rattle.pipe_draft.specs.xdp_maps.declared.decl.MapDecl.{MapDecl}
+use Rattle.pipe_draft.specs.xdp_maps.Contents.{IsWithinLimits}
+use Rattle.pipe_draft.specs.cell_core.Sites.{ProgramView}
+use Rattle.program_plan.specs.held_cells.Paths.{GraphView}
+use Rattle.program_plan.specs.held_cells.Law.{IsLaw}
+use Rattle.program_plan.specs.predicate_core.Buildable.{IsBuildable}
+use Rattle.pipe_draft.specs.row_plan.Plan.{Plan, IsPlan}
+use Rattle.pipe_draft.specs.site_table.Constants.{AreEarly}
+use Rattle.pipe_draft.specs.pipe_places.Entries.{AccessesLead}
 use Rattle.pipe_draft.specs.Program.{IsForPipe, build_of}
 use Rattle.pipe_draft.specs.Draft.{most_sites}
 

@@ -2,15 +2,15 @@
 use Rattle.std.specs.Prelude.{◌≡◌, ℕ, zero, suc, ◌+◌, ◌^◌, ◌<◌, if◌then◌else◌, Bool, true, false, None, List, [], ◌∷◌, ◌++◌, length, map, drop}
 use Rattle.std.specs.List.{AllByRecursion}
 use Rattle.std.proofs.Common.{refl, sym, ap, ◌∙◌, arith}
-use Rattle.beat_core.specs.Ports.{Offered}
-use Rattle.net_core.specs.declared.ports.Inputs.{Inputs}
-use Rattle.net_core.specs.History.{IsInput, drive_inputs}
+use Rattle.pipe_core.specs.beat_core.Ports.{Offered}
+use Rattle.host_runs.specs.net_core.declared.ports.Inputs.{Inputs}
+use Rattle.host_runs.specs.net_core.History.{IsInput, drive_inputs}
 use Rattle.pipe_core.specs.Machine.{Build, is_ready}
 use Rattle.pipe_core.specs.History.{Trace, next, run}
 use Rattle.pipe_core.specs.Drive.{Driven, driving, drive_clock, Beside, drive}
 use Rattle.host_runs.specs.Inputs.{access_in, input_of}
 use Rattle.host_runs.specs.Silent.{silent, ReadsAreSilent}
-use Rattle.realization.specs.Realizes.{IsBeside, beats_offered}
+use Rattle.pipe_ports.specs.realization.Realizes.{IsBeside, beats_offered}
 use Rattle.pipe_ports.specs.Followed.{WriteNothing}
 
 -- what stands at the ports in a drive fits them

@@ -1,3 +1,4 @@
+pub use Rattle.pipe_ports.proofs.realization as realization
 pub mod Histories
 pub mod Filled
 pub mod Drives

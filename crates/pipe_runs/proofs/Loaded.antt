@@ -1,13 +1,13 @@
 -- So do pipelines, whatever maps are loaded.
 use Rattle.std.specs.Prelude.{List, []}
 use Rattle.std.proofs.Common.{sym, subst, append-nil}
-use Rattle.xdp_maps.specs.declared.decl.MapDecl.{MapDecl}
-use Rattle.net_core.specs.Nets.{Netlist}
-use Rattle.net_core.specs.Clock.{first_stored}
-use Rattle.net_core.specs.History.{NeverStops, stored_after}
-use Rattle.host_history.specs.Host.{load}
+use Rattle.pipe_answers.specs.xdp_maps.declared.decl.MapDecl.{MapDecl}
+use Rattle.host_runs.specs.net_core.Nets.{Netlist}
+use Rattle.host_runs.specs.net_core.Clock.{first_stored}
+use Rattle.host_runs.specs.net_core.History.{NeverStops, stored_after}
+use Rattle.host_runs.specs.host_history.Host.{load}
 use Rattle.pipe_core.specs.Pipeable.{IsSuited}
-use Rattle.pipe_forms.specs.Parts.{design}
+use Rattle.pipe_loads.specs.pipe_forms.Parts.{design}
 use Rattle.pipe_loads.specs.Loaded.{PipelinesFollowLoaded, PipelinesShowLoaded}
 use Rattle.pipe_runs.specs.Meeting.{FollowersMeet, PipelinesMeet}
 

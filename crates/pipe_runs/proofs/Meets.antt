@@ -2,36 +2,36 @@
 use Rattle.std.specs.Prelude.{◌≡◌, ℕ, ◌+◌, ◌-◌, ◌≤◌, is_some, false, None, List, [], ◌∷◌, ◌++◌, length, map}
 use Rattle.std.specs.List.{flat_map, AllByRecursion}
 use Rattle.std.proofs.Common.{refl, sym, ap, ◌∙◌, subst, arith, append_assoc}
-use Rattle.beat_core.specs.declared.answer.Answer.{Answer}
-use Rattle.beat_core.specs.Beats.{beats_of, IsFilledUp}
-use Rattle.beat_core.specs.Clocks.{AreOffers}
-use Rattle.beat_core.specs.Filling.{filled_up}
-use Rattle.beat_core.specs.Ports.{Arrival, Offered, arrivals_among}
-use Rattle.beat_core.proofs.FillingLaws.{AreOffers-filled_up}
-use Rattle.beat_core.proofs.OrderLaws.{offers-frames}
-use Rattle.xdp_maps.specs.declared.decl.MapDecl.{MapDecl}
-use Rattle.xdp_maps.specs.State.{MapState}
-use Rattle.xdp_machine.specs.Touched.{Touched}
-use Rattle.net_core.specs.declared.ports.Inputs.{Inputs}
-use Rattle.net_core.specs.Nets.{Netlist}
-use Rattle.net_core.specs.Clock.{Stored}
-use Rattle.net_core.specs.History.{Cycle, trace, stored_after, beats_in, offers_in, arrivals, answers_given, Drive, drive}
-use Rattle.host_history.specs.Host.{dump, ShowsMaps}
-use Rattle.frame_net.specs.Frames.{position_of}
-use Rattle.cell_core.specs.Rows.{record_count}
+use Rattle.pipe_core.specs.beat_core.declared.answer.Answer.{Answer}
+use Rattle.pipe_core.specs.beat_core.Beats.{beats_of, IsFilledUp}
+use Rattle.pipe_core.specs.beat_core.Clocks.{AreOffers}
+use Rattle.pipe_core.specs.beat_core.Filling.{filled_up}
+use Rattle.pipe_core.specs.beat_core.Ports.{Arrival, Offered, arrivals_among}
+use Rattle.pipe_core.proofs.beat_core.FillingLaws.{AreOffers-filled_up}
+use Rattle.pipe_core.proofs.beat_core.OrderLaws.{offers-frames}
+use Rattle.pipe_answers.specs.xdp_maps.declared.decl.MapDecl.{MapDecl}
+use Rattle.pipe_answers.specs.xdp_maps.State.{MapState}
+use Rattle.pipe_core.specs.xdp_machine.Touched.{Touched}
+use Rattle.host_runs.specs.net_core.declared.ports.Inputs.{Inputs}
+use Rattle.host_runs.specs.net_core.Nets.{Netlist}
+use Rattle.host_runs.specs.net_core.Clock.{Stored}
+use Rattle.host_runs.specs.net_core.History.{Cycle, trace, stored_after, beats_in, offers_in, arrivals, answers_given, Drive, drive}
+use Rattle.host_runs.specs.host_history.Host.{dump, ShowsMaps}
+use Rattle.pipe_answers.specs.frame_net.Frames.{position_of}
+use Rattle.pipe_core.specs.cell_core.Rows.{record_count}
 use Rattle.pipe_core.specs.Machine.{Build}
 use Rattle.pipe_core.specs.History.{Trace, next, run, begin, IsInOrder, IsAlwaysInOrder}
 use Rattle.pipe_core.specs.InTurn.{left_maps}
 use Rattle.pipe_core.specs.Pipeable.{IsSuited}
 use Rattle.host_runs.specs.Inputs.{input_of}
 use Rattle.host_runs.specs.Fits.{LoadsFit, IsHostClock}
-use Rattle.pipe_net.specs.Layout.{Layout, last_of}
+use Rattle.pipe_answers.specs.pipe_net.Layout.{Layout, last_of}
 use Rattle.pipe_answers.specs.Coming.{AllMayCome, HostMayCome}
 use Rattle.pipe_answers.specs.Following.{FollowsAlways}
 use Rattle.pipe_answers.specs.Runs.{ReadsRunInTurn}
 use Rattle.pipe_answers.specs.Dumps.{RunsGoOn, DumpsAreShown}
-use Rattle.realization.specs.Bounds.{most_beats, clock_bound, clock_bound_apart}
-use Rattle.realization.specs.Realizes.{IsPattern, IsPacket, IsBeside, IsWhole, Meets, frames_in, all_offers, beats_offered, inputs_in}
+use Rattle.pipe_ports.specs.realization.Bounds.{most_beats, clock_bound, clock_bound_apart}
+use Rattle.pipe_ports.specs.realization.Realizes.{IsPattern, IsPacket, IsBeside, IsWhole, Meets, frames_in, all_offers, beats_offered, inputs_in}
 use Rattle.pipe_ports.specs.Answered.{AreAnswered}
 use Rattle.pipe_ports.specs.Followed.{WriteNothing, IsFollowed, ran}
 use Rattle.pipe_ports.specs.Ports.{PortsShowClocks, PortsShowHistories, ShowsHistory}

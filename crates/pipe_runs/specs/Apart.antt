@@ -1,11 +1,11 @@
 -- Packets whose cell runs do not conflict.
 use Rattle.std.specs.Prelude.{◌≡◌, ◌+◌, List}
 use Rattle.std.specs.List.{AllByRecursion}
-use Rattle.beat_core.specs.Ports.{Arrival}
-use Rattle.xdp_maps.specs.State.{MapState}
-use Rattle.xdp_machine.specs.Touched.{Touched}
-use Rattle.realization.specs.Bounds.{AreApart}
-use Rattle.realization.specs.Realizes.{IsPacket}
+use Rattle.pipe_core.specs.beat_core.Ports.{Arrival}
+use Rattle.pipe_answers.specs.xdp_maps.State.{MapState}
+use Rattle.pipe_core.specs.xdp_machine.Touched.{Touched}
+use Rattle.pipe_ports.specs.realization.Bounds.{AreApart}
+use Rattle.pipe_ports.specs.realization.Realizes.{IsPacket}
 use Rattle.pipe_core.specs.Machine.{Build}
 use Rattle.pipe_core.specs.Apart.{AllRun}
 

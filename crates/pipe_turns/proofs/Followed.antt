@@ -4,27 +4,27 @@ use Rattle.std.proofs.Common.{get_or, refl, sym, ap, ◌∙◌, subst, arith}
 use Rattle.std.proofs.lemmas.Bool.{eqb-true}
 use Rattle.std.proofs.lemmas.List.{length-map, length-set, length-replicate, get_or-map}
 use Rattle.std.proofs.lemmas.List.Elements.{All-nil, All-cons, All-weaker, All-filter}
-use Rattle.beat_core.specs.declared.beat.Beat.{Beat}
-use Rattle.net_core.specs.declared.ports.Inputs.{Inputs}
-use Rattle.net_core.specs.Ports.{words_of}
-use Rattle.net_core.specs.Value.{Env}
-use Rattle.net_core.specs.Clock.{Stored, done}
-use Rattle.block_core.specs.declared.name.Name.{Name}
-use Rattle.block_core.specs.Blocks.{Whole}
-use Rattle.block_core.specs.Parts.{Sees}
-use Rattle.cell_core.specs.Rows.{numbers}
-use Rattle.cell_core.specs.Sites.{ProgramView, site_at, records}
-use Rattle.hazard_core.specs.Tables.{TableState}
-use Rattle.hazard_core.specs.Held.{Held, is_update}
-use Rattle.hazard_core.specs.Commits.{written_slot, taken_after}
-use Rattle.cell_nets.specs.Operands.{number_in}
-use Rattle.read_net.specs.declared.sites.OwnSite.{OwnSite}
+use Rattle.turn_net.specs.beat_core.declared.beat.Beat.{Beat}
+use Rattle.host_net.specs.net_core.declared.ports.Inputs.{Inputs}
+use Rattle.host_net.specs.net_core.Ports.{words_of}
+use Rattle.host_net.specs.net_core.Value.{Env}
+use Rattle.host_net.specs.net_core.Clock.{Stored, done}
+use Rattle.turn_net.specs.block_core.declared.name.Name.{Name}
+use Rattle.turn_net.specs.block_core.Blocks.{Whole}
+use Rattle.turn_net.specs.block_core.Parts.{Sees}
+use Rattle.turn_net.specs.cell_core.Rows.{numbers}
+use Rattle.turn_net.specs.cell_core.Sites.{ProgramView, site_at, records}
+use Rattle.pipe_net.specs.hazard_core.Tables.{TableState}
+use Rattle.pipe_net.specs.hazard_core.Held.{Held, is_update}
+use Rattle.pipe_net.specs.hazard_core.Commits.{written_slot, taken_after}
+use Rattle.turn_net.specs.cell_nets.Operands.{number_in}
+use Rattle.target_net.specs.read_net.declared.sites.OwnSite.{OwnSite}
 use Rattle.turn_net.specs.declared.nets.RecordNets.{RecordNets}
 use Rattle.turn_net.specs.Turns.{Signals, record_sites, is_at, done_after, taken_by, RecordsAlone}
 use Rattle.turn_net.specs.Nets.{sites_of, keeps, kept}
 use Rattle.turn_net.specs.Turn.{StoresTurn, ShowsTarget}
 use Rattle.target_net.specs.declared.targets.Target.{Target}
-use Rattle.pipe_core.specs.Machine.{Packet, State, Input, Build, Turn, Commits, Writes, Moves, place_at, some_send, swept, worked, work, beat_over, gathered, taken_beat, scattered, came_with, clock}
+use Rattle.pipe_net.specs.pipe_core.Machine.{Packet, State, Input, Build, Turn, Commits, Writes, Moves, place_at, some_send, swept, worked, work, beat_over, gathered, taken_beat, scattered, came_with, clock}
 use Rattle.pipe_net.specs.declared.parts.Part.{Part}
 use Rattle.pipe_net.specs.Parts as part
 use Rattle.pipe_net.specs.Parts.{parts_of}

@@ -1,22 +1,22 @@
 -- The part for the host says what the machine says of it.
 use Rattle.std.specs.Prelude.{◌≡◌, ℕ, ◌<◌, if◌then◌else◌, Bool, true, false, None, Some, is_some, List, length}
 use Rattle.std.proofs.Common.{get_or, refl, sym, ap, ◌∙◌, subst, arith}
-use Rattle.net_core.specs.declared.ports.Inputs.{Inputs}
-use Rattle.net_core.specs.declared.ports.TheConstants.{HOST_WRITE, HOST_MAP, HOST_INDEX, HOST_WORD, HOST_DATA}
-use Rattle.net_core.specs.Ports.{words_of}
-use Rattle.net_core.specs.Value.{word, bit, nothing, Env, value}
-use Rattle.net_core.specs.Clock.{Stored}
-use Rattle.block_core.specs.declared.name.Name.{Name}
-use Rattle.block_core.specs.declared.name.Name.TheVariants as name
-use Rattle.block_core.specs.Blocks.{Whole}
-use Rattle.block_core.specs.Parts.{Sees}
-use Rattle.hazard_core.specs.Tables.{decl_of}
-use Rattle.array_net.specs.Hosts.{SeesHost}
-use Rattle.control_net.specs.Control as control
-use Rattle.control_net.specs.Block.{stored_words}
+use Rattle.host_net.specs.net_core.declared.ports.Inputs.{Inputs}
+use Rattle.host_net.specs.net_core.declared.ports.TheConstants.{HOST_WRITE, HOST_MAP, HOST_INDEX, HOST_WORD, HOST_DATA}
+use Rattle.host_net.specs.net_core.Ports.{words_of}
+use Rattle.host_net.specs.net_core.Value.{word, bit, nothing, Env, value}
+use Rattle.host_net.specs.net_core.Clock.{Stored}
+use Rattle.turn_net.specs.block_core.declared.name.Name.{Name}
+use Rattle.turn_net.specs.block_core.declared.name.Name.TheVariants as name
+use Rattle.turn_net.specs.block_core.Blocks.{Whole}
+use Rattle.turn_net.specs.block_core.Parts.{Sees}
+use Rattle.pipe_net.specs.hazard_core.Tables.{decl_of}
+use Rattle.target_net.specs.array_net.Hosts.{SeesHost}
+use Rattle.pipe_net.specs.control_net.Control as control
+use Rattle.pipe_net.specs.control_net.Block.{stored_words}
 use Rattle.host_net.specs.Host.{Signals, Sees as SeesSignals}
 use Rattle.host_net.specs.Laws.{Shows, Follows, HostFollows, LetWrite}
-use Rattle.pipe_core.specs.Machine.{State, place_at, swept, is_calm, host_ready, host_writes}
+use Rattle.pipe_net.specs.pipe_core.Machine.{State, place_at, swept, is_calm, host_ready, host_writes}
 use Rattle.pipe_net.specs.declared.parts.Part.{Part}
 use Rattle.pipe_net.specs.Parts as part
 use Rattle.pipe_net.specs.Parts.{parts_of}

@@ -1,10 +1,10 @@
 -- What a clock of the machine does, by the packet at the commit place and the host.
 use Rattle.std.specs.Prelude.{◌≡◌, ℕ, zero, suc, ◌+◌, if◌then◌else◌, Bool, true, false, not, ◌&&◌, ◌||◌, Option, None, Some, is_some, List, [], ◌∷◌, drop}
 use Rattle.std.proofs.Common.{refl, sym, ap, ◌∙◌, arith}
-use Rattle.xdp_maps.specs.declared.decl.MapDecl.{MapDecl}
-use Rattle.hazard_core.specs.declared.access.Access.{Access}
-use Rattle.hazard_core.specs.Held.{Held, writes}
-use Rattle.pipe_core.specs.Machine.{Packet, State, Build, Turn, Commits, Writes, Moves, place_at, some_send, swept, chosen, commits_as, commits_or_moves, turn_as}
+use Rattle.pipe_net.specs.xdp_maps.declared.decl.MapDecl.{MapDecl}
+use Rattle.pipe_net.specs.hazard_core.declared.access.Access.{Access}
+use Rattle.pipe_net.specs.hazard_core.Held.{Held, writes}
+use Rattle.pipe_net.specs.pipe_core.Machine.{Packet, State, Build, Turn, Commits, Writes, Moves, place_at, some_send, swept, chosen, commits_as, commits_or_moves, turn_as}
 use Rattle.turn_net.specs.Turns.{Signals, first_open, committing, record_sites, RecordsAlone}
 use Rattle.pipe_net.specs.Saying.{is_host, moves}
 use Rattle.pipe_turns.specs.Turning.{site_of}

@@ -3,26 +3,26 @@ use Rattle.std.specs.Prelude.{◌≡◌, ◌≢◌, ℕ, zero, suc, ◌+◌, ◌
 use Rattle.std.proofs.Common.{get_or, refl, sym, ap, ◌∙◌, subst, arith, inl, inr}
 use Rattle.std.proofs.lemmas.Bool.{cases_eq}
 use Rattle.std.proofs.lemmas.List.Elements.{All-head, All-tail}
-use Rattle.xdp_maps.specs.declared.decl.MapDecl.{MapDecl}
-use Rattle.xdp_maps.specs.declared.decl.MapKind.{MapKind}
-use Rattle.xdp_maps.specs.declared.decl.MapKind.TheVariants.{Hash, Array}
-use Rattle.cell_core.specs.declared.site.Act.{Act}
-use Rattle.cell_core.specs.declared.site.Act.TheVariants as act
-use Rattle.cell_core.specs.Rows.{numbers}
-use Rattle.cell_core.specs.Sites.{ProgramView, site_at, records}
-use Rattle.hazard_core.specs.Tables.{TableState, decl_of, table_at, slot_of}
-use Rattle.hazard_core.specs.declared.pointer.Pointer.{Pointer}
-use Rattle.hazard_core.specs.declared.pointer.Pointer.TheVariants.{Null, InSlot, Pending}
-use Rattle.hazard_core.specs.Held.{Held, pointer_in, found_cell, is_update, asked_key, pointer_operand, update_pointer, written_as, written_pointer}
-use Rattle.held_rows.specs.Fits.{IsMadeBefore, FitsRows}
-use Rattle.overlay_net.specs.Reading.{IsSite}
-use Rattle.commit_net.specs.declared.target.TakenSlot.{TakenSlot}
-use Rattle.commit_net.specs.Targets.{IsAmong}
+use Rattle.pipe_net.specs.xdp_maps.declared.decl.MapDecl.{MapDecl}
+use Rattle.pipe_net.specs.xdp_maps.declared.decl.MapKind.{MapKind}
+use Rattle.pipe_net.specs.xdp_maps.declared.decl.MapKind.TheVariants.{Hash, Array}
+use Rattle.turn_net.specs.cell_core.declared.site.Act.{Act}
+use Rattle.turn_net.specs.cell_core.declared.site.Act.TheVariants as act
+use Rattle.turn_net.specs.cell_core.Rows.{numbers}
+use Rattle.turn_net.specs.cell_core.Sites.{ProgramView, site_at, records}
+use Rattle.pipe_net.specs.hazard_core.Tables.{TableState, decl_of, table_at, slot_of}
+use Rattle.pipe_net.specs.hazard_core.declared.pointer.Pointer.{Pointer}
+use Rattle.pipe_net.specs.hazard_core.declared.pointer.Pointer.TheVariants.{Null, InSlot, Pending}
+use Rattle.pipe_net.specs.hazard_core.Held.{Held, pointer_in, found_cell, is_update, asked_key, pointer_operand, update_pointer, written_as, written_pointer}
+use Rattle.pipe_net.specs.held_rows.Fits.{IsMadeBefore, FitsRows}
+use Rattle.turn_net.specs.overlay_net.Reading.{IsSite}
+use Rattle.target_net.specs.commit_net.declared.target.TakenSlot.{TakenSlot}
+use Rattle.target_net.specs.commit_net.Targets.{IsAmong}
 use Rattle.turn_net.specs.declared.nets.RecordNets.{RecordNets}
 use Rattle.turn_net.specs.Turns.{record_sites}
 use Rattle.turn_net.specs.Nets.{sites_of, keeps_slot, keeps, kept}
 use Rattle.pipe_net.specs.declared.parts.Part.{Part}
-use Rattle.block_core.specs.declared.name.Name.{Name}
+use Rattle.turn_net.specs.block_core.declared.name.Name.{Name}
 use Rattle.pipe_net.specs.Layout.{Layout}
 use Rattle.pipe_turns.specs.Maps.{taken_from}
 

@@ -3,36 +3,36 @@ use Rattle.std.specs.Prelude.{◌≡◌, ℕ, suc, ◌+◌, ◌<◌, Some, List,
 use Rattle.std.proofs.Common.{get_or, sym, ap, ◌∙◌, subst, arith}
 use Rattle.std.proofs.lemmas.List.{length-map, get_or-map}
 use Rattle.std.proofs.lemmas.List.Elements.{All-nil, All-cons, All-weaker}
-use Rattle.net_core.specs.declared.ports.Inputs.{Inputs}
-use Rattle.net_core.specs.declared.tree.Word.{Word}
-use Rattle.net_core.specs.Ports.{words_of}
-use Rattle.net_core.specs.Value.{word, nothing, Env}
-use Rattle.net_core.specs.Clock.{Stored}
-use Rattle.block_core.specs.declared.name.Name.{Name}
-use Rattle.block_core.specs.declared.name.Name.TheVariants as name
-use Rattle.block_core.specs.Blocks.{Whole}
-use Rattle.block_core.specs.Parts.{Sees}
-use Rattle.xdp_maps.specs.declared.decl.MapDecl.{MapDecl}
-use Rattle.xdp_maps.specs.declared.decl.MapKind.TheVariants.{Hash}
-use Rattle.hazard_core.specs.Tables.{decl_of, table_at, used_count}
-use Rattle.hazard_core.specs.Tabled.{IsTable}
-use Rattle.hazard_core.specs.declared.slot.Slot.{Slot}
-use Rattle.hazard_core.specs.Commits.{written_slot, makes_entry}
-use Rattle.cell_core.specs.Cells.{bit}
-use Rattle.cell_nets.specs.Operands.{number_in}
-use Rattle.site_operands.specs.Sites.{operands_of, ShowsSite}
-use Rattle.hash_net.specs.Hash.{count_name, StoresHash, SeesOwn}
-use Rattle.map_block.specs.Stored.{StoresAs}
-use Rattle.slot_net.specs.Slots.{slots_of, ShowSlots}
-use Rattle.commit_net.specs.declared.target.TakenSlot.{TakenSlot}
-use Rattle.read_net.specs.declared.sites.OwnSite.{OwnSite}
-use Rattle.read_net.specs.Sites.{IsMapOf, ShowsTable}
+use Rattle.host_net.specs.net_core.declared.ports.Inputs.{Inputs}
+use Rattle.host_net.specs.net_core.declared.tree.Word.{Word}
+use Rattle.host_net.specs.net_core.Ports.{words_of}
+use Rattle.host_net.specs.net_core.Value.{word, nothing, Env}
+use Rattle.host_net.specs.net_core.Clock.{Stored}
+use Rattle.turn_net.specs.block_core.declared.name.Name.{Name}
+use Rattle.turn_net.specs.block_core.declared.name.Name.TheVariants as name
+use Rattle.turn_net.specs.block_core.Blocks.{Whole}
+use Rattle.turn_net.specs.block_core.Parts.{Sees}
+use Rattle.pipe_net.specs.xdp_maps.declared.decl.MapDecl.{MapDecl}
+use Rattle.pipe_net.specs.xdp_maps.declared.decl.MapKind.TheVariants.{Hash}
+use Rattle.pipe_net.specs.hazard_core.Tables.{decl_of, table_at, used_count}
+use Rattle.pipe_net.specs.hazard_core.Tabled.{IsTable}
+use Rattle.pipe_net.specs.hazard_core.declared.slot.Slot.{Slot}
+use Rattle.pipe_net.specs.hazard_core.Commits.{written_slot, makes_entry}
+use Rattle.turn_net.specs.cell_core.Cells.{bit}
+use Rattle.turn_net.specs.cell_nets.Operands.{number_in}
+use Rattle.turn_net.specs.site_operands.Sites.{operands_of, ShowsSite}
+use Rattle.target_net.specs.hash_net.Hash.{count_name, StoresHash, SeesOwn}
+use Rattle.host_net.specs.map_block.Stored.{StoresAs}
+use Rattle.target_net.specs.slot_net.Slots.{slots_of, ShowSlots}
+use Rattle.target_net.specs.commit_net.declared.target.TakenSlot.{TakenSlot}
+use Rattle.target_net.specs.read_net.declared.sites.OwnSite.{OwnSite}
+use Rattle.target_net.specs.read_net.Sites.{IsMapOf, ShowsTable}
 use Rattle.turn_net.specs.declared.nets.RecordNets.{RecordNets}
 use Rattle.turn_net.specs.Nets.{kept}
 use Rattle.turn_net.specs.Turn.{slot_word}
 use Rattle.target_net.specs.declared.targets.Target.{Target}
 use Rattle.target_net.specs.Targets.{FindsSlot, ShowTaken, Shows}
-use Rattle.pipe_core.specs.Machine.{Packet, State, Commits, place_at, swept, is_calm, host_ready, host_writes}
+use Rattle.pipe_net.specs.pipe_core.Machine.{Packet, State, Commits, place_at, swept, is_calm, host_ready, host_writes}
 use Rattle.pipe_net.specs.declared.parts.Part.{Part}
 use Rattle.pipe_net.specs.Parts as part
 use Rattle.pipe_net.specs.Parts.{parts_of}

@@ -3,22 +3,22 @@ use Rattle.std.specs.Prelude.{◌≡◌, ℕ, suc, ◌<◌, if◌then◌else◌,
 use Rattle.std.specs.List.{find}
 use Rattle.std.proofs.Common.{get_or, refl, ap, ◌∙◌, subst, arith}
 use Rattle.std.proofs.lemmas.List.Elements.{All-weaker}
-use Rattle.net_core.specs.declared.ports.Inputs.{Inputs}
-use Rattle.net_core.specs.Ports.{words_of}
-use Rattle.net_core.specs.Value.{bit as bit_word, Env}
-use Rattle.net_core.specs.Clock.{Stored}
-use Rattle.block_core.specs.declared.name.Name.{Name}
-use Rattle.block_core.specs.Blocks.{Whole}
-use Rattle.block_core.specs.Parts.{Sees}
-use Rattle.hazard_core.specs.Held.{Held, writes}
-use Rattle.site_operands.specs.Sites.{operands_of, ShowsSite}
+use Rattle.host_net.specs.net_core.declared.ports.Inputs.{Inputs}
+use Rattle.host_net.specs.net_core.Ports.{words_of}
+use Rattle.host_net.specs.net_core.Value.{bit as bit_word, Env}
+use Rattle.host_net.specs.net_core.Clock.{Stored}
+use Rattle.turn_net.specs.block_core.declared.name.Name.{Name}
+use Rattle.turn_net.specs.block_core.Blocks.{Whole}
+use Rattle.turn_net.specs.block_core.Parts.{Sees}
+use Rattle.pipe_net.specs.hazard_core.Held.{Held, writes}
+use Rattle.turn_net.specs.site_operands.Sites.{operands_of, ShowsSite}
 use Rattle.turn_net.specs.declared.nets.RecordNets.{RecordNets}
 use Rattle.turn_net.specs.Turns.{Signals, first_open, may_commit, committing, RecordsAlone}
 use Rattle.turn_net.specs.Nets.{sites_of, ShowsRecords}
 use Rattle.turn_net.specs.Steps.{ShowsChosen}
 use Rattle.turn_net.specs.Turn.{SeesTurn, ShowsTurn as ShowsSite_in}
 use Rattle.target_net.specs.Commits.{IsRecord, commits_on}
-use Rattle.pipe_core.specs.Machine.{Packet, State, Turn, place_at, is_calm, host_ready, host_writes}
+use Rattle.pipe_net.specs.pipe_core.Machine.{Packet, State, Turn, place_at, is_calm, host_ready, host_writes}
 use Rattle.pipe_net.specs.declared.parts.Part.{Part}
 use Rattle.pipe_net.specs.Parts as part
 use Rattle.pipe_net.specs.Parts.{parts_of}

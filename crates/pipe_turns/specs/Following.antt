@@ -1,14 +1,14 @@
 -- What the part that says which operation commits stores behind a clock.
 use Rattle.std.specs.Prelude.{◌≡◌, length}
-use Rattle.xdp_maps.specs.State.{MapState}
-use Rattle.net_core.specs.declared.ports.Inputs.{Inputs}
-use Rattle.net_core.specs.Ports.{words_of}
-use Rattle.net_core.specs.Value.{Env}
-use Rattle.net_core.specs.Clock.{Stored, done}
-use Rattle.block_core.specs.declared.name.Name.{Name}
-use Rattle.block_core.specs.Blocks.{Whole, first_of}
-use Rattle.block_core.specs.Parts.{Sees}
-use Rattle.pipe_core.specs.Machine.{State, new_state, clock}
+use Rattle.pipe_net.specs.xdp_maps.State.{MapState}
+use Rattle.host_net.specs.net_core.declared.ports.Inputs.{Inputs}
+use Rattle.host_net.specs.net_core.Ports.{words_of}
+use Rattle.host_net.specs.net_core.Value.{Env}
+use Rattle.host_net.specs.net_core.Clock.{Stored, done}
+use Rattle.turn_net.specs.block_core.declared.name.Name.{Name}
+use Rattle.turn_net.specs.block_core.Blocks.{Whole, first_of}
+use Rattle.turn_net.specs.block_core.Parts.{Sees}
+use Rattle.pipe_net.specs.pipe_core.Machine.{State, new_state, clock}
 use Rattle.turn_net.specs.Turn.{StoresTurn}
 use Rattle.pipe_net.specs.declared.parts.Part.{Part}
 use Rattle.pipe_net.specs.Parts as part

@@ -1,18 +1,18 @@
 -- What the host does in a clock.
 use Rattle.std.specs.Prelude.{◌≡◌, ℕ, ◌<◌, Bool, List, length}
-use Rattle.net_core.specs.declared.ports.Inputs.{Inputs}
-use Rattle.net_core.specs.declared.tree.Word.{Word}
-use Rattle.net_core.specs.Ports.{words_of}
-use Rattle.net_core.specs.Value.{bit, Env, value}
-use Rattle.net_core.specs.Clock.{Stored}
-use Rattle.block_core.specs.declared.name.Name.{Name}
-use Rattle.block_core.specs.Blocks.{Whole}
-use Rattle.block_core.specs.Parts.{Sees}
-use Rattle.hazard_core.specs.declared.access.Access.{Access}
-use Rattle.hazard_core.specs.Tables.{TableState, table_at}
-use Rattle.array_net.specs.Hosts.{SeesHost}
-use Rattle.map_block.specs.Stored.{StoresMap, host_may, IsMapOf, may_here}
-use Rattle.pipe_core.specs.Machine.{State, is_calm, host_ready}
+use Rattle.host_net.specs.net_core.declared.ports.Inputs.{Inputs}
+use Rattle.host_net.specs.net_core.declared.tree.Word.{Word}
+use Rattle.host_net.specs.net_core.Ports.{words_of}
+use Rattle.host_net.specs.net_core.Value.{bit, Env, value}
+use Rattle.host_net.specs.net_core.Clock.{Stored}
+use Rattle.turn_net.specs.block_core.declared.name.Name.{Name}
+use Rattle.turn_net.specs.block_core.Blocks.{Whole}
+use Rattle.turn_net.specs.block_core.Parts.{Sees}
+use Rattle.pipe_net.specs.hazard_core.declared.access.Access.{Access}
+use Rattle.pipe_net.specs.hazard_core.Tables.{TableState, table_at}
+use Rattle.target_net.specs.array_net.Hosts.{SeesHost}
+use Rattle.host_net.specs.map_block.Stored.{StoresMap, host_may, IsMapOf, may_here}
+use Rattle.pipe_net.specs.pipe_core.Machine.{State, is_calm, host_ready}
 use Rattle.pipe_net.specs.declared.parts.Part.{Part}
 use Rattle.pipe_net.specs.Parts as part
 use Rattle.pipe_net.specs.Parts.{parts_of}

@@ -1,3 +1,5 @@
+pub use Rattle.target_net.specs as target_net
+pub use Rattle.target_net.specs.read_net as read_net
 pub mod Maps
 pub mod Parts
 pub mod Hosting

@@ -1,20 +1,20 @@
 -- What stands for the maps of a pipeline where operations of packets are looked at.
 use Rattle.std.specs.Prelude.{◌≡◌, ℕ, suc, ◌+◌, ◌==◌, List, [], ◌∷◌, filter}
-use Rattle.xdp_maps.specs.declared.decl.MapDecl.{MapDecl}
-use Rattle.xdp_maps.specs.declared.decl.MapKind.TheVariants.{Hash, Array}
-use Rattle.block_core.specs.declared.name.Name.{Name}
-use Rattle.block_core.specs.declared.name.Name.TheVariants as name
-use Rattle.block_core.specs.Blocks.{Whole}
-use Rattle.cell_core.specs.Sites.{ProgramView, site_at}
-use Rattle.hazard_core.specs.Tables.{decl_of}
-use Rattle.cell_nets.specs.declared.operand.Operand.TheVariants.{Net}
-use Rattle.hash_net.specs.Hash.{count_name}
-use Rattle.slot_net.specs.Slots.{slots_of}
-use Rattle.slot_net.specs.Shown.{shown_slots, IsSlots}
-use Rattle.read_net.specs.declared.sites.MapNets.{MapNets}
-use Rattle.read_net.specs.Sites.{IsMap}
-use Rattle.operand_blocks.specs.Wiring.{wires_block}
-use Rattle.commit_net.specs.declared.target.TakenSlot.{TakenSlot}
+use Rattle.pipe_net.specs.xdp_maps.declared.decl.MapDecl.{MapDecl}
+use Rattle.pipe_net.specs.xdp_maps.declared.decl.MapKind.TheVariants.{Hash, Array}
+use Rattle.turn_net.specs.block_core.declared.name.Name.{Name}
+use Rattle.turn_net.specs.block_core.declared.name.Name.TheVariants as name
+use Rattle.turn_net.specs.block_core.Blocks.{Whole}
+use Rattle.turn_net.specs.cell_core.Sites.{ProgramView, site_at}
+use Rattle.pipe_net.specs.hazard_core.Tables.{decl_of}
+use Rattle.turn_net.specs.cell_nets.declared.operand.Operand.TheVariants.{Net}
+use Rattle.target_net.specs.hash_net.Hash.{count_name}
+use Rattle.target_net.specs.slot_net.Slots.{slots_of}
+use Rattle.target_net.specs.slot_net.Shown.{shown_slots, IsSlots}
+use Rattle.target_net.specs.read_net.declared.sites.MapNets.{MapNets}
+use Rattle.target_net.specs.read_net.Sites.{IsMap}
+use Rattle.turn_net.specs.operand_blocks.Wiring.{wires_block}
+use Rattle.target_net.specs.commit_net.declared.target.TakenSlot.{TakenSlot}
 use Rattle.turn_net.specs.declared.nets.RecordNets.{RecordNets}
 use Rattle.turn_net.specs.Turns.{record_sites}
 use Rattle.turn_net.specs.Nets.{kept}

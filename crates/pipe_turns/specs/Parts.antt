@@ -1,21 +1,21 @@
 -- The parts that say what the host may do and which operation commits.
 use Rattle.std.specs.Prelude.{◌≡◌, ℕ, ◌<◌, All, List, length}
 use Rattle.std.proofs.Common.{get_or}
-use Rattle.net_core.specs.Nets.{Tree}
-use Rattle.block_core.specs.declared.name.Name.{Name}
-use Rattle.block_core.specs.declared.name.Name.TheVariants as name
-use Rattle.block_core.specs.Blocks.{Whole}
-use Rattle.cell_core.specs.Sites.{site_at}
-use Rattle.cell_nets.specs.declared.operand.Operand.{Operand}
-use Rattle.site_operands.specs.Sites.{operands_of}
-use Rattle.ring_net.specs.declared.names.Register.TheVariants.{Holds}
-use Rattle.ring_net.specs.Names.{register_name}
-use Rattle.control_net.specs.Names.{back_name}
-use Rattle.read_net.specs.declared.sites.OwnSite.{OwnSite}
-use Rattle.read_net.specs.declared.sites.MapNets.{MapNets}
-use Rattle.read_net.specs.Sites.{sites_of as own_sites, IsOwn}
-use Rattle.map_block.specs.declared.form.MapForm.{MapForm}
-use Rattle.map_block.specs.Stored.{host_may}
+use Rattle.host_net.specs.net_core.Nets.{Tree}
+use Rattle.turn_net.specs.block_core.declared.name.Name.{Name}
+use Rattle.turn_net.specs.block_core.declared.name.Name.TheVariants as name
+use Rattle.turn_net.specs.block_core.Blocks.{Whole}
+use Rattle.turn_net.specs.cell_core.Sites.{site_at}
+use Rattle.turn_net.specs.cell_nets.declared.operand.Operand.{Operand}
+use Rattle.turn_net.specs.site_operands.Sites.{operands_of}
+use Rattle.host_net.specs.ring_net.declared.names.Register.TheVariants.{Holds}
+use Rattle.host_net.specs.ring_net.Names.{register_name}
+use Rattle.pipe_net.specs.control_net.Names.{back_name}
+use Rattle.target_net.specs.read_net.declared.sites.OwnSite.{OwnSite}
+use Rattle.target_net.specs.read_net.declared.sites.MapNets.{MapNets}
+use Rattle.target_net.specs.read_net.Sites.{sites_of as own_sites, IsOwn}
+use Rattle.host_net.specs.map_block.declared.form.MapForm.{MapForm}
+use Rattle.host_net.specs.map_block.Stored.{host_may}
 use Rattle.host_net.specs.declared.names.HostNets.{HostNets}
 use Rattle.host_net.specs.declared.names.Wire.TheVariants.{Calm, Ready, Writes}
 use Rattle.host_net.specs.Names.{wire_name}

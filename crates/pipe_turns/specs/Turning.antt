@@ -1,25 +1,25 @@
 -- Which operation commits in a clock.
 use Rattle.std.specs.Prelude.{◌≡◌, ℕ, ◌<◌, not, Option, Some, None, is_some, length}
 use Rattle.std.proofs.Common.{get_or}
-use Rattle.net_core.specs.declared.ports.Inputs.{Inputs}
-use Rattle.net_core.specs.Ports.{words_of}
-use Rattle.net_core.specs.Value.{bit as bit_word, Env}
-use Rattle.net_core.specs.Clock.{Stored}
-use Rattle.block_core.specs.declared.name.Name.{Name}
-use Rattle.block_core.specs.Blocks.{Whole}
-use Rattle.block_core.specs.Parts.{Sees}
-use Rattle.cell_core.specs.Cells.{bit}
-use Rattle.cell_nets.specs.Operands.{number_in, AreFit}
-use Rattle.hazard_core.specs.Tabled.{AreTables}
-use Rattle.hazard_core.specs.Changes.{IsRightCommit}
-use Rattle.hazard_core.specs.Commits.{written_slot, makes_entry}
-use Rattle.read_net.specs.declared.sites.OwnSite.{OwnSite}
+use Rattle.host_net.specs.net_core.declared.ports.Inputs.{Inputs}
+use Rattle.host_net.specs.net_core.Ports.{words_of}
+use Rattle.host_net.specs.net_core.Value.{bit as bit_word, Env}
+use Rattle.host_net.specs.net_core.Clock.{Stored}
+use Rattle.turn_net.specs.block_core.declared.name.Name.{Name}
+use Rattle.turn_net.specs.block_core.Blocks.{Whole}
+use Rattle.turn_net.specs.block_core.Parts.{Sees}
+use Rattle.turn_net.specs.cell_core.Cells.{bit}
+use Rattle.turn_net.specs.cell_nets.Operands.{number_in, AreFit}
+use Rattle.pipe_net.specs.hazard_core.Tabled.{AreTables}
+use Rattle.pipe_net.specs.hazard_core.Changes.{IsRightCommit}
+use Rattle.pipe_net.specs.hazard_core.Commits.{written_slot, makes_entry}
+use Rattle.target_net.specs.read_net.declared.sites.OwnSite.{OwnSite}
 use Rattle.turn_net.specs.Nets.{all_read}
 use Rattle.turn_net.specs.Steps.{ShowsChosen}
 use Rattle.target_net.specs.declared.targets.Target.{Target}
 use Rattle.target_net.specs.Targets.{outside_of}
 use Rattle.target_net.specs.Commits.{commits_on}
-use Rattle.pipe_core.specs.Machine.{Packet, State, Turn, Commits, Writes, Moves}
+use Rattle.pipe_net.specs.pipe_core.Machine.{Packet, State, Turn, Commits, Writes, Moves}
 use Rattle.pipe_net.specs.declared.parts.Part.{Part}
 use Rattle.pipe_net.specs.Parts.{parts_of}
 use Rattle.pipe_net.specs.Machine.{input_of}

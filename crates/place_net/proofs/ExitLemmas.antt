@@ -5,7 +5,7 @@ use Rattle.std.proofs.Common.{get_or, refl, sym, ap, ◌∙◌, subst, arith, in
 use Rattle.std.proofs.lemmas.Bool.{le-leb}
 use Rattle.std.proofs.lemmas.List.{length-replicate, length-map, get_or-map, get_or_default, get_or-replicate, get_or-set_same, get_or-set_other, map_more, map-append}
 use Rattle.std.proofs.lemmas.List.Elements.{Contains-get_or}
-use Rattle.beat_core.specs.declared.answer.Answer.{Answer}
+use Rattle.net_core.specs.beat_core.declared.answer.Answer.{Answer}
 use Rattle.net_core.specs.declared.tree.Word.{Word}
 use Rattle.net_core.specs.declared.tree.Expr.{Expr}
 use Rattle.net_core.specs.View.{tree_of}
@@ -15,9 +15,9 @@ use Rattle.net_core.specs.Ports.{port_list}
 use Rattle.net_core.specs.Value.{word, bit, nothing, Env, value}
 use Rattle.net_core.specs.Clock.{Stored, done, edge}
 use Rattle.net_core.specs.Width.{Scope, width_of, statement_typed}
-use Rattle.design_rules.specs.FormedSyntax.{depth, prefixes_apart, tree_spelled, statement_spelled, statements_depth}
-use Rattle.product_rules.specs.Products.{has_product, statement_flat}
-use Rattle.product_blocks.proofs.FreeLaws.{flat_without}
+use Rattle.frame_net.specs.design_rules.FormedSyntax.{depth, prefixes_apart, tree_spelled, statement_spelled, statements_depth}
+use Rattle.frame_net.specs.product_rules.Products.{has_product, statement_flat}
+use Rattle.frame_net.proofs.product_blocks.FreeLaws.{flat_without}
 use Rattle.block_core.specs.declared.name.Name.{Name}
 use Rattle.block_core.specs.declared.block.BlockMemory.{BlockMemory}
 use Rattle.block_core.specs.Blocks.{BlockTree, Whole, first_memory}

@@ -1,3 +1,4 @@
+pub use Rattle.frame_net.proofs as frame_net
 mod WordLemmas
 mod ListLemmas
 mod TreeLemmas

@@ -12,8 +12,8 @@ use Rattle.net_core.specs.Ports.{port_list}
 use Rattle.net_core.specs.Value.{word, nothing, Env, value}
 use Rattle.net_core.specs.Clock.{Stored, done}
 use Rattle.net_core.specs.Width.{Scope, width_of, statement_typed}
-use Rattle.design_rules.specs.FormedSyntax.{depth, prefixes_apart}
-use Rattle.product_rules.specs.Products.{is_flat, statement_flat}
+use Rattle.frame_net.specs.design_rules.FormedSyntax.{depth, prefixes_apart}
+use Rattle.frame_net.specs.product_rules.Products.{is_flat, statement_flat}
 use Rattle.block_core.specs.declared.name.Name.{Name}
 use Rattle.block_core.specs.declared.name.Name.TheVariants as name
 use Rattle.block_core.specs.Blocks.{BlockTree, BlockWireTree, Whole, Among}

@@ -10,8 +10,8 @@ use Rattle.net_core.specs.Chains.{statements_before}
 use Rattle.net_core.specs.Value.{Env, value}
 use Rattle.net_core.specs.Clock.{Stored, done, all_done}
 use Rattle.net_core.specs.Width.{Scope, width_of, same, statements_typed}
-use Rattle.design_rules.specs.FormedSyntax.{tree_spelled, statement_spelled, statements_depth, all_placed, all_trees_pass}
-use Rattle.product_rules.specs.Products.{is_flat, statements_flat}
+use Rattle.frame_net.specs.design_rules.FormedSyntax.{tree_spelled, statement_spelled, statements_depth, all_placed, all_trees_pass}
+use Rattle.frame_net.specs.product_rules.Products.{is_flat, statements_flat}
 use Rattle.block_core.specs.Parts.{AllWithin}
 use Rattle.block_core.specs.Order.{Reads}
 use Rattle.block_core.specs.Formed.{StatementsRead}

@@ -9,14 +9,14 @@ use Rattle.std.proofs.lemmas.List.Elements.{All-nil, All-cons, All-head, All-app
 use Rattle.std.proofs.lemmas.List.Folds.{list_all-append}
 use Rattle.std.proofs.Math.Pow.{pow_mono}
 use Rattle.std.proofs.Math.Nat.{pow-suc, div-one, mod-eq_of_lt, div-eq_of_lt}
-use Rattle.list_laws.specs.Bytes.{IsBytes}
-use Rattle.list_laws.proofs.ByteLaws.{IsBytes-take, IsBytes-drop}
-use Rattle.beat_core.specs.Words.{word_of}
-use Rattle.beat_core.specs.Ports.{Arrival}
-use Rattle.beat_core.proofs.WordLaws.{get_or-low_bytes, low_bytes-word_of, word_of-lt}
+use Rattle.net_core.specs.list_laws.Bytes.{IsBytes}
+use Rattle.net_core.proofs.list_laws.ByteLaws.{IsBytes-take, IsBytes-drop}
+use Rattle.net_core.specs.beat_core.Words.{word_of}
+use Rattle.net_core.specs.beat_core.Ports.{Arrival}
+use Rattle.net_core.proofs.beat_core.WordLaws.{get_or-low_bytes, low_bytes-word_of, word_of-lt}
 use Rattle.net_core.specs.declared.tree.Word.{Word}
 use Rattle.net_core.specs.Value.{Env}
-use Rattle.product_blocks.specs.Alone.{wire_flat}
+use Rattle.frame_net.specs.product_blocks.Alone.{wire_flat}
 use Rattle.block_core.specs.declared.name.Name.{Name}
 use Rattle.block_core.specs.Blocks.{BlockWireTree}
 use Rattle.cell_core.specs.declared.operator.Operator.{Operator}

@@ -6,8 +6,8 @@ use Rattle.net_core.specs.Nets.{Tree, TRead, TConcatenation, Trees, StatementTre
 use Rattle.net_core.specs.Chains.{statements_before}
 use Rattle.net_core.specs.Value.{Env, concatenated_parts}
 use Rattle.net_core.specs.Width.{Scope, parts_width}
-use Rattle.design_rules.specs.FormedSyntax.{parts_depth, parts_apart}
-use Rattle.product_rules.specs.Products.{parts_product}
+use Rattle.frame_net.specs.design_rules.FormedSyntax.{parts_depth, parts_apart}
+use Rattle.frame_net.specs.product_rules.Products.{parts_product}
 use Rattle.block_core.specs.Order.{AllRead}
 use Rattle.cell_core.specs.Cells.{bits_from}
 use Rattle.cell_nets.specs.declared.operand.Operand.{Operand}

@@ -1,7 +1,7 @@
 -- The nets of cells that come with a packet.
 use Rattle.std.specs.Prelude.{◌≡◌, ℕ, ◌<◌, List, [], length}
 use Rattle.std.proofs.Common.{get_or}
-use Rattle.beat_core.specs.Ports.{Arrival}
+use Rattle.net_core.specs.beat_core.Ports.{Arrival}
 use Rattle.block_core.specs.declared.name.Name.{Name}
 use Rattle.block_core.specs.Blocks.{BlockWireTree}
 use Rattle.cell_core.specs.declared.operator.Operator.{Operator}

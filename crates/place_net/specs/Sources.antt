@@ -2,11 +2,11 @@
 use Rattle.std.specs.Prelude.{◌≡◌, ℕ, suc, ◌/◌, ◌^◌, ◌<◌, Bool, true, Option, None, All, Contains, List, [], ◌∷◌, length}
 use Rattle.std.specs.List.{list_all}
 use Rattle.std.proofs.Common.{get_or}
-use Rattle.list_laws.specs.Bytes.{IsBytes}
-use Rattle.beat_core.specs.Ports.{Arrival}
-use Rattle.xdp_machine.specs.State.{PacketIn}
+use Rattle.net_core.specs.list_laws.Bytes.{IsBytes}
+use Rattle.net_core.specs.beat_core.Ports.{Arrival}
+use Rattle.cell_core.specs.xdp_machine.State.{PacketIn}
 use Rattle.net_core.specs.Value.{Env}
-use Rattle.product_blocks.specs.Alone.{wire_flat}
+use Rattle.frame_net.specs.product_blocks.Alone.{wire_flat}
 use Rattle.block_core.specs.declared.name.Name.{Name}
 use Rattle.block_core.specs.Blocks.{BlockWireTree}
 use Rattle.block_core.specs.Parts.{Solve}

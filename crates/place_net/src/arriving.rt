@@ -1,7 +1,7 @@
 //! The cells that come from outside with a packet.
 
 ghost use Rattle.std.specs.Prelude.{ℕ, ◌≡◌, ◌≤◌, ◌<◌, List, [], ◌∷◌, All, Contains, IfOk, length, get_or, map as map_list};
-ghost use Rattle.beat_core.specs.Ports.{Arrival};
+ghost use Rattle.net_core.specs.beat_core.Ports.{Arrival};
 ghost use Rattle.cell_core.specs.Cells.{number, bits_from};
 ghost use Rattle.cell_core.specs.Formed.{AreFormed};
 ghost use Rattle.cell_core.specs.View.{cell_of};

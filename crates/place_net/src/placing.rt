@@ -3,7 +3,7 @@
 ghost use Rattle.std.specs.Prelude.{ℕ, Bool, ◌≡◌, ◌<◌, ◌≤◌, ◌⊎◌, List, All, Contains, Option, Some, IfOk, length, map as map_list};
 ghost use Rattle.net_core.specs.Value.{Env};
 ghost use Rattle.net_core.specs.View.{tree_of, statement_of};
-ghost use Rattle.product_blocks.specs.Alone.{IsApartAlone};
+ghost use Rattle.frame_net.specs.product_blocks.Alone.{IsApartAlone};
 ghost use Rattle.block_core.specs.declared.name.Name.{Name};
 ghost use Rattle.block_core.specs.Parts.{Solve};
 ghost use Rattle.block_core.specs.View.{block_of};

@@ -6,17 +6,17 @@ use Rattle.std.proofs.lemmas.List.Elements.{All-contains_itself, All-weaker}
 use Rattle.block_core.specs.declared.name.Name.{Name}
 use Rattle.block_core.specs.Blocks.{Whole}
 use Rattle.cell_nets.specs.Operands.{IsAvailable}
-use Rattle.map_block.specs.declared.form.MapForm.{MapForm}
+use Rattle.pipe_net.specs.map_block.declared.form.MapForm.{MapForm}
 use Rattle.place_net.specs.Place.{registers_from}
 use Rattle.place_net.specs.Sources.{source_operands}
-use Rattle.site_place.specs.SitePlace.{pointer_registers}
+use Rattle.site_table.specs.site_place.SitePlace.{pointer_registers}
 use Rattle.read_net.specs.declared.sites.MapNets.{MapNets}
-use Rattle.pipe_core.specs.Machine.{Build}
+use Rattle.pipe_net.specs.pipe_core.Machine.{Build}
 use Rattle.pipe_net.specs.declared.parts.Part.{Part}
 use Rattle.pipe_net.specs.declared.parts.Sizes.{Sizes}
 use Rattle.pipe_net.specs.Parts as part
 use Rattle.pipe_net.specs.Layout.{Layout, program_of, last_of}
-use Rattle.pipe_places.specs.Layout.{load_sites}
+use Rattle.pipe_draft.specs.pipe_places.Layout.{load_sites}
 use Rattle.pipe_forms.specs.Reading.{before_place}
 use Rattle.pipe_draft.specs.declared.draft.Draft.{Draft}
 use Rattle.pipe_draft.specs.declared.places.Behind.{Behind}

@@ -1,9 +1,9 @@
 -- The places of a layout by a draft.
 use Rattle.std.specs.Prelude.{Option, ◌≤◌, slice_index}
 use Rattle.std.proofs.Common.{◌≡◌, ◌∙◌, ℕ, zero, suc, ◌<◌, All, List, length, get_or, sym, ap, subst, arith}
-use Rattle.beat_core.specs.Ports.{Arrival}
-use Rattle.net_core.specs.Value.{Env}
-use Rattle.product_blocks.specs.Alone.{IsApartAlone}
+use Rattle.block_core.specs.beat_core.Ports.{Arrival}
+use Rattle.block_core.specs.net_core.Value.{Env}
+use Rattle.control_net.specs.product_blocks.Alone.{IsApartAlone}
 use Rattle.block_core.specs.declared.name.Name.{Name}
 use Rattle.block_core.specs.declared.block.Block.{Block}
 use Rattle.block_core.specs.Blocks.{BlockTree, Whole}
@@ -13,14 +13,14 @@ use Rattle.cell_core.specs.Cells.{CellView, cell_at, value}
 use Rattle.cell_nets.specs.declared.operand.Operand.{Operand}
 use Rattle.cell_nets.specs.declared.operand.Operand.TheVariants.{Net}
 use Rattle.cell_nets.specs.Operands.{AreFit}
-use Rattle.frame_net.specs.declared.held.Kept.{Kept}
-use Rattle.site_operands.specs.declared.SiteNets.{SiteNets}
-use Rattle.site_operands.specs.Sites.{operands_of}
+use Rattle.change_net.specs.frame_net.declared.held.Kept.{Kept}
+use Rattle.site_table.specs.site_operands.declared.SiteNets.{SiteNets}
+use Rattle.site_table.specs.site_operands.Sites.{operands_of}
 use Rattle.row_net.specs.Table.{Holds}
 use Rattle.place_net.specs.Sources.{IsShownIn, packet_in, source_operands}
 use Rattle.site_table.specs.Sites.{IsSiteOf}
 use Rattle.site_table.specs.Staged.{AreStaged}
-use Rattle.operand_blocks.proofs.WiringLaws.{no_wires, all_outside}
+use Rattle.change_net.proofs.operand_blocks.WiringLaws.{no_wires, all_outside}
 use Rattle.read_net.specs.declared.sites.MapNets.{MapNets}
 use Rattle.stage_net.specs.declared.row.StageNets.{StageNets}
 use Rattle.stage_net.specs.Nets.{decls_of}
@@ -29,8 +29,8 @@ use Rattle.pipe_net.specs.declared.parts.Part.{Part}
 use Rattle.pipe_net.specs.declared.parts.Sizes.{Sizes}
 use Rattle.pipe_net.specs.Parts as part
 use Rattle.pipe_net.specs.Layout.{Layout, program_of, last_of}
-use Rattle.pipe_places.specs.Layout.{load_sites}
-use Rattle.pipe_places.specs.Parts.{advances, IsMapAt, IsPlaceOf, ReadsSources}
+use Rattle.pipe_draft.specs.pipe_places.Layout.{load_sites}
+use Rattle.pipe_draft.specs.pipe_places.Parts.{advances, IsMapAt, IsPlaceOf, ReadsSources}
 use Rattle.pipe_draft.specs.declared.draft.Draft.{Draft}
 use Rattle.pipe_draft.specs.declared.places.Behind.{Behind}
 use Rattle.pipe_draft.specs.Draft.{program_in, plan_in}

@@ -10,12 +10,12 @@ use Rattle.cell_core.specs.Cells.{cell_at, site_in}
 use Rattle.cell_core.specs.Sites.{SiteView, ProgramView, site_at}
 use Rattle.cell_nets.specs.declared.operand.Operand.{Operand}
 use Rattle.hazard_core.specs.Tables.{decl_of}
-use Rattle.map_block.specs.declared.form.MapForm.{MapForm}
-use Rattle.map_block.specs.Stored.{first_value}
-use Rattle.value_net.specs.Words.{access_start}
+use Rattle.pipe_net.specs.map_block.declared.form.MapForm.{MapForm}
+use Rattle.pipe_net.specs.map_block.Stored.{first_value}
+use Rattle.change_net.specs.value_net.Words.{access_start}
 use Rattle.site_table.specs.Sites.{site_operands, access_operand}
 use Rattle.site_table.proofs.SiteLaws.{site_is}
-use Rattle.operand_blocks.proofs.WiringLaws.{no_wires}
+use Rattle.change_net.proofs.operand_blocks.WiringLaws.{no_wires}
 use Rattle.read_net.specs.declared.sites.MapNets.{MapNets}
 use Rattle.change_net.specs.declared.pointed.PointedWords.{PointedWords}
 use Rattle.change_net.specs.Pointed.{IsOver, IsPointedWords}
@@ -23,8 +23,8 @@ use Rattle.pipe_net.specs.declared.parts.Part.{Part}
 use Rattle.pipe_net.specs.declared.parts.Sizes.{Sizes}
 use Rattle.pipe_net.specs.Parts as part
 use Rattle.pipe_net.specs.Layout.{Layout, program_of, cells_of, last_of}
-use Rattle.pipe_places.specs.Layout.{load_sites}
-use Rattle.pipe_places.specs.Parts.{IsWord, AreWords}
+use Rattle.pipe_draft.specs.pipe_places.Layout.{load_sites}
+use Rattle.pipe_draft.specs.pipe_places.Parts.{IsWord, AreWords}
 use Rattle.pipe_draft.specs.declared.draft.Draft.{Draft}
 use Rattle.pipe_draft.specs.declared.places.Behind.{Behind}
 use Rattle.pipe_draft.specs.Draft.{program_in, decls_in}

@@ -12,15 +12,15 @@ use Rattle.cell_nets.specs.declared.operand.Operand.{Operand}
 use Rattle.cell_nets.specs.declared.operand.Operand.TheVariants.{Known, Net}
 use Rattle.cell_nets.specs.Operands.{IsAvailable}
 use Rattle.hazard_core.specs.Tables.{decl_of}
-use Rattle.slot_net.specs.Slots.{slots_of, operands_of as slot_operands}
-use Rattle.map_block.specs.declared.form.MapForm.{MapForm}
+use Rattle.read_net.specs.slot_net.Slots.{slots_of, operands_of as slot_operands}
+use Rattle.pipe_net.specs.map_block.declared.form.MapForm.{MapForm}
 use Rattle.site_table.specs.Staged.{StagesArePlaced}
 use Rattle.read_net.specs.declared.sites.MapNets.{MapNets}
 use Rattle.read_net.specs.Sites.{slot_cells}
 use Rattle.pipe_net.specs.declared.parts.Part.{Part}
 use Rattle.pipe_net.specs.Layout.{Layout, program_of}
-use Rattle.pipe_places.specs.Layout.{load_sites}
-use Rattle.pipe_places.specs.Parts.{AreWords}
+use Rattle.pipe_draft.specs.pipe_places.Layout.{load_sites}
+use Rattle.pipe_draft.specs.pipe_places.Parts.{AreWords}
 use Rattle.pipe_forms.specs.Reading.{map_shown_as, map_shown, IsReadAt, Advance, Before, OfMap, OfWord}
 use Rattle.pipe_draft.specs.declared.draft.Draft.{Draft}
 use Rattle.pipe_draft.specs.declared.places.Behind.{Behind}

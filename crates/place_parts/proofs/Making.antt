@@ -1,8 +1,8 @@
 -- What the block of a place takes, and what it is then.
 use Rattle.std.specs.Prelude.{Contains, Option, ◌⊎◌, slice_index}
 use Rattle.std.proofs.Common.{◌≡◌, ◌∙◌, ℕ, ◌<◌, Bool, false, All, List, length, get_or, refl, ap, sym, subst, arith}
-use Rattle.net_core.specs.Value.{Env}
-use Rattle.product_blocks.specs.Alone.{IsApartAlone}
+use Rattle.block_core.specs.net_core.Value.{Env}
+use Rattle.control_net.specs.product_blocks.Alone.{IsApartAlone}
 use Rattle.block_core.specs.declared.name.Name.{Name}
 use Rattle.block_core.specs.Blocks.{BlockTree, BlockWireTree}
 use Rattle.block_core.specs.Parts.{Solve}
@@ -13,8 +13,8 @@ use Rattle.cell_nets.specs.Operands.{IsOperand}
 use Rattle.cell_nets.specs.Wires.{behind}
 use Rattle.row_net.specs.Apart.{TakeClean, KeepApart}
 use Rattle.place_net.specs.Place.{width_at}
-use Rattle.site_operands.specs.declared.SiteNets.{SiteNets}
-use Rattle.site_place.specs.PointerNets.{BothThere}
+use Rattle.site_table.specs.site_operands.declared.SiteNets.{SiteNets}
+use Rattle.site_table.specs.site_place.PointerNets.{BothThere}
 use Rattle.site_table.specs.Staged.{AreStaged, AreLists}
 use Rattle.site_table.proofs.StagingLaws.{held_had, held_pointers_had}
 use Rattle.read_net.specs.declared.sites.MapNets.{MapNets}

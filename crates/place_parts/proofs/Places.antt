@@ -1,8 +1,8 @@
 -- The blocks of places, whatever comes from outside.
 use Rattle.std.specs.Prelude.{Option}
 use Rattle.std.proofs.Common.{◌∙◌, ℕ, suc, All, List, [], ◌∷◌, ◌++◌, get_or, refl, sym, subst, arith}
-use Rattle.product_blocks.specs.Alone.{IsApartAlone}
-use Rattle.product_blocks.proofs.FreeLaws.{all_marked}
+use Rattle.control_net.specs.product_blocks.Alone.{IsApartAlone}
+use Rattle.control_net.proofs.product_blocks.FreeLaws.{all_marked}
 use Rattle.block_core.specs.declared.name.Name.{Name}
 use Rattle.block_core.specs.Blocks.{BlockTree, BlockWireTree}
 use Rattle.cell_nets.specs.declared.operand.Operand.{Operand}
@@ -13,14 +13,14 @@ use Rattle.row_net.specs.Lists.{is_early}
 use Rattle.row_net.proofs.ApartLemmas.{free_keep}
 use Rattle.row_net.specs.Table.{AreThere}
 use Rattle.place_net.specs.Sources.{source_operands}
-use Rattle.site_place.specs.PointerNets.{BothThere}
+use Rattle.site_table.specs.site_place.PointerNets.{BothThere}
 use Rattle.site_table.specs.Staged.{AreStaged}
 use Rattle.site_table.proofs.TableLaws.{plain_there}
-use Rattle.operand_blocks.proofs.WiringLaws.{no_wires}
+use Rattle.change_net.proofs.operand_blocks.WiringLaws.{no_wires}
 use Rattle.read_net.specs.declared.sites.MapNets.{MapNets}
 use Rattle.read_net.specs.Sites.{slot_cells}
-use Rattle.site_operands.specs.declared.SiteNets.{SiteNets}
-use Rattle.site_operands.specs.Sites.{operands_of, all_of}
+use Rattle.site_table.specs.site_operands.declared.SiteNets.{SiteNets}
+use Rattle.site_table.specs.site_operands.Sites.{operands_of, all_of}
 use Rattle.stage_net.specs.Nets.{NetsAreThere}
 use Rattle.stage_net.specs.Stage.{IsStage}
 use Rattle.stage_net.proofs.ApartLaws.{reads_late, behind_apart}

@@ -18,8 +18,8 @@ use Rattle.cell_nets.specs.declared.operand.Operand.{Operand}
 use Rattle.cell_nets.specs.declared.operand.Operand.TheVariants.{Known}
 use Rattle.cell_nets.specs.Operands.{IsOperand, IsAvailable}
 use Rattle.hazard_core.specs.Held.{answer_cell}
-use Rattle.value_net.specs.Words.{answers_number}
-use Rattle.site_operands.specs.Sites.{SiteOperands}
+use Rattle.change_net.specs.value_net.Words.{answers_number}
+use Rattle.site_table.specs.site_operands.Sites.{SiteOperands}
 use Rattle.row_net.specs.Table.{Stands}
 use Rattle.site_table.specs.Pointing.{plain_of}
 use Rattle.site_table.specs.Sites.{access_operand}

@@ -11,13 +11,13 @@ use Rattle.cell_core.specs.Formed.{IsInRange}
 use Rattle.cell_core.specs.Rows.{numbers}
 use Rattle.cell_core.specs.Sites.{ProgramView}
 use Rattle.cell_nets.specs.Computing.{is_outside}
-use Rattle.frame_net.specs.declared.held.Kept.{Kept}
-use Rattle.frame_net.specs.declared.held.Kept.TheVariants as kept
+use Rattle.change_net.specs.frame_net.declared.held.Kept.{Kept}
+use Rattle.change_net.specs.frame_net.declared.held.Kept.TheVariants as kept
 use Rattle.row_net.specs.Lists.{varies}
 use Rattle.row_net.specs.Needed.{flag}
 use Rattle.row_net.specs.Table.{IsIn, is_constant, is_number}
 use Rattle.place_net.specs.Sources.{IsSource, IsShown}
-use Rattle.site_place.specs.Pointing.{IsPointers}
+use Rattle.site_table.specs.site_place.Pointing.{IsPointers}
 use Rattle.site_table.specs.Pointing.{plain_of}
 use Rattle.site_table.proofs.TableLaws.{plain_in, plain_are}
 use Rattle.stage_net.proofs.ListLaws.{at_hand_first}

@@ -6,7 +6,7 @@ use Rattle.cell_nets.specs.declared.operand.Operand.{Operand}
 use Rattle.row_net.specs.Table.{AreThere}
 use Rattle.place_net.specs.Place.{registers_from}
 use Rattle.place_net.specs.Sources.{source_operands}
-use Rattle.site_place.specs.SitePlace.{pointer_registers}
+use Rattle.site_table.specs.site_place.SitePlace.{pointer_registers}
 use Rattle.site_table.proofs.TableLaws.{plain_there}
 use Rattle.stage_net.proofs.ListLaws.{at_hand}
 use Rattle.pipe_net.specs.declared.parts.Part.{Part}

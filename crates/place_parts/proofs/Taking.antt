@@ -10,8 +10,8 @@ use Rattle.cell_core.specs.Sites.{site_at}
 use Rattle.cell_nets.specs.declared.operand.Operand.{Operand}
 use Rattle.cell_nets.specs.declared.operand.Operand.TheVariants.{Known}
 use Rattle.cell_nets.specs.Operands.{IsOperand}
-use Rattle.map_block.specs.declared.form.MapForm.{MapForm}
-use Rattle.value_net.specs.Words.{answers_number}
+use Rattle.pipe_net.specs.map_block.declared.form.MapForm.{MapForm}
+use Rattle.change_net.specs.value_net.Words.{answers_number}
 use Rattle.read_net.specs.declared.sites.MapNets.{MapNets}
 use Rattle.read_net.specs.Sites.{slot_cells}
 use Rattle.change_net.specs.declared.pointed.PointedWords.{PointedWords}

@@ -5,10 +5,10 @@ use Rattle.std.proofs.Common.{◌≡◌, ◌∙◌, ℕ, suc, ◌<◌, Bool, tru
 use Rattle.std.proofs.lemmas.List.{length-map, get_or-map}
 use Rattle.xdp_maps.specs.Calls.{change_bytes}
 use Rattle.xdp_maps.specs.State.{no_decl}
-use Rattle.xdp_machine.specs.Memory.{bytes_in}
-use Rattle.bpf_isa.specs.declared.operation.Size.{Size}
-use Rattle.bpf_isa.specs.declared.operation.Size.TheVariants.{B, H, W, Dw}
-use Rattle.product_blocks.specs.Alone.{wire_flat}
+use Rattle.cell_core.specs.xdp_machine.Memory.{bytes_in}
+use Rattle.cell_core.specs.bpf_isa.declared.operation.Size.{Size}
+use Rattle.cell_core.specs.bpf_isa.declared.operation.Size.TheVariants.{B, H, W, Dw}
+use Rattle.control_net.specs.product_blocks.Alone.{wire_flat}
 use Rattle.block_core.specs.declared.name.Name.{Name}
 use Rattle.block_core.specs.Blocks.{BlockWireTree}
 use Rattle.block_core.specs.View.{block_of}
@@ -19,11 +19,11 @@ use Rattle.cell_core.specs.Sites.{ProgramView, SiteView, site_at}
 use Rattle.cell_nets.specs.declared.operand.Operand.{Operand}
 use Rattle.cell_nets.specs.Operands.{IsOperand, IsAvailable}
 use Rattle.cell_nets.specs.Wires.{behind, AreWires}
-use Rattle.map_block.specs.declared.form.MapForm.{MapForm}
-use Rattle.map_block.specs.Stored.{first_value}
-use Rattle.value_net.specs.Words.{answers_number, access_start}
-use Rattle.site_operands.specs.declared.SiteNets.{SiteNets}
-use Rattle.operand_blocks.proofs.WiringLaws.{no_wires, all_outside}
+use Rattle.pipe_net.specs.map_block.declared.form.MapForm.{MapForm}
+use Rattle.pipe_net.specs.map_block.Stored.{first_value}
+use Rattle.change_net.specs.value_net.Words.{answers_number, access_start}
+use Rattle.site_table.specs.site_operands.declared.SiteNets.{SiteNets}
+use Rattle.change_net.proofs.operand_blocks.WiringLaws.{no_wires, all_outside}
 use Rattle.change_net.specs.declared.pointed.PointedWords.{PointedWords}
 use Rattle.change_net.specs.Pointed.{IsOver, IsPointedWords}
 use Rattle.pipe_net.specs.declared.parts.Part.{Part}

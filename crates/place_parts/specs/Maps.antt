@@ -4,7 +4,7 @@ use Rattle.std.proofs.Common.{get_or}
 use Rattle.xdp_maps.specs.declared.decl.MapKind.TheVariants.{Array}
 use Rattle.block_core.specs.declared.name.Name.{Name}
 use Rattle.cell_nets.specs.declared.operand.Operand.TheVariants.{Known}
-use Rattle.map_block.specs.declared.form.MapForm.{MapForm}
+use Rattle.pipe_net.specs.map_block.declared.form.MapForm.{MapForm}
 use Rattle.read_net.specs.declared.sites.MapNets.{MapNets}
 use Rattle.read_net.specs.Sites.{IsMap}
 use Rattle.pipe_net.specs.declared.parts.Part.{Part}

@@ -1,8 +1,8 @@
 -- The blocks of places.
 use Rattle.std.specs.Prelude.{◌≡◌, ℕ, suc, Bool, false, Option, Contains, List, [], slice_index}
 use Rattle.std.proofs.Common.{get_or}
-use Rattle.net_core.specs.Value.{Env}
-use Rattle.product_blocks.specs.Alone.{IsApartAlone}
+use Rattle.block_core.specs.net_core.Value.{Env}
+use Rattle.control_net.specs.product_blocks.Alone.{IsApartAlone}
 use Rattle.block_core.specs.declared.name.Name.{Name}
 use Rattle.block_core.specs.Blocks.{BlockTree, BlockWireTree}
 use Rattle.block_core.specs.Parts.{Solve}
@@ -13,8 +13,8 @@ use Rattle.row_net.specs.Apart.{TakeClean, KeepApart}
 use Rattle.row_net.specs.Lists.{made_cells}
 use Rattle.row_net.specs.Table.{IsTable}
 use Rattle.place_net.specs.Sources.{IsSourced}
-use Rattle.site_place.specs.Pointing.{IsPointers}
-use Rattle.site_place.specs.PointerNets.{BothThere}
+use Rattle.site_table.specs.site_place.Pointing.{IsPointers}
+use Rattle.site_table.specs.site_place.PointerNets.{BothThere}
 use Rattle.site_table.specs.Lists.{held_cells, held_pointers, made_pointers}
 use Rattle.site_table.specs.Staged.{AreAtHand}
 use Rattle.read_net.specs.declared.sites.MapNets.{MapNets}

@@ -7,10 +7,10 @@ use Rattle.cell_core.specs.Sites.{SiteView, site_at}
 use Rattle.cell_nets.specs.declared.operand.Operand.{Operand}
 use Rattle.cell_nets.specs.declared.operand.Operand.TheVariants.{Known, Net}
 use Rattle.hazard_core.specs.Held.{answer_cell}
-use Rattle.map_block.specs.declared.form.MapForm.{MapForm}
-use Rattle.map_block.specs.Stored.{first_value}
-use Rattle.value_net.specs.Words.{access_start}
-use Rattle.site_operands.specs.declared.SiteNets.{SiteNets}
+use Rattle.pipe_net.specs.map_block.declared.form.MapForm.{MapForm}
+use Rattle.pipe_net.specs.map_block.Stored.{first_value}
+use Rattle.change_net.specs.value_net.Words.{access_start}
+use Rattle.site_table.specs.site_operands.declared.SiteNets.{SiteNets}
 use Rattle.change_net.specs.declared.pointed.PointedWords.{PointedWords}
 use Rattle.change_net.specs.Pointed.{IsOver, IsPointedWords}
 use Rattle.pipe_net.specs.declared.parts.Part.{Part}

@@ -1,8 +1,8 @@
 //! The parts that show words under pointers.
 
 ghost use Rattle.std.specs.Prelude.{◌≡◌, ◌/◌, ◌<◌, ◌≤◌, true, IfOk, length};
-ghost use Rattle.map_block.specs.Stored.{first_value};
-ghost use Rattle.value_net.specs.Words.{answers_number, access_start};
+ghost use Rattle.pipe_net.specs.map_block.Stored.{first_value};
+ghost use Rattle.change_net.specs.value_net.Words.{answers_number, access_start};
 ghost use Rattle.pipe_draft.specs.Draft.{program_in, plan_in, IsDraft};
 ghost use Rattle.pipe_draft.specs.Places.{ArePlaces};
 ghost use Rattle.place_parts.specs.Words.{word_row, IsPointerBefore, IsWordPart, AreWordParts};

@@ -7,8 +7,8 @@ use Rattle.bpf_isa.specs.declared.operation.Op.{Op}
 use Rattle.bpf_isa.specs.declared.operation.Op.TheVariants.{Alu, Neg, End, Swap, Call, LoadImm, Load, LoadSigned, StoreImm, Store, Atomic}
 use Rattle.bpf_isa.specs.declared.instruction.Insn.{Insn}
 use Rattle.xdp_maps.specs.declared.decl.MapDecl.{MapDecl}
-use Rattle.xdp_machine.specs.Memory.{bytes_in}
-use Rattle.xdp_machine.specs.Atomics.{fetches}
+use Rattle.xdp_state.specs.xdp_machine.Memory.{bytes_in}
+use Rattle.xdp_state.specs.xdp_machine.Atomics.{fetches}
 use Rattle.kind_core.specs.declared.kind.Kind.{Kind}
 use Rattle.kind_core.specs.declared.kind.Kind.TheVariants.{Entry}
 use Rattle.kind_core.specs.declared.kind.Kinds.{Kinds}

@@ -5,7 +5,7 @@ ghost use Rattle.bpf_isa.specs.Spelling.{IsInsn};
 ghost use Rattle.kind_core.specs.Access.{compares};
 ghost use Rattle.place_rows.specs.Reading.{key_span, left_of, right_of, call_reads, left_over, reads_as, is_number, is_entry, is_known, shifts_openly, is_heavy};
 ghost use Rattle.place_rows.specs.Spans.{no_place};
-ghost use Rattle.xdp_machine.specs.Atomics.{fetches};
+ghost use Rattle.xdp_state.specs.xdp_machine.Atomics.{fetches};
 ghost use Rattle.std.specs.Int.{w64, cast_unsigned};
 
 use crate::span::{NONE, Span, TARGET, key_bytes, pending_of, region, register};

@@ -14,11 +14,11 @@ use Rattle.kind_core.specs.declared.kind.Kinds.{Kinds}
 use Rattle.unfold_core.specs.declared.edges.Point.{Point}
 use Rattle.unfold_core.specs.declared.links.Edge.{Edge}
 use Rattle.unfold_core.specs.declared.unfolding.Unfolded.{Unfolded}
-use Rattle.place_rows.specs.declared.origin.Origin.{Origin}
-use Rattle.place_rows.specs.declared.origin.Origins.{Origins}
-use Rattle.place_rows.specs.Spans.{pending_place}
-use Rattle.place_rows.specs.Origins.{is_open, has_data, row_of, row_at, by_place}
-use Rattle.place_rows.specs.Reading.{is_known}
+use Rattle.held_cells.specs.place_rows.declared.origin.Origin.{Origin}
+use Rattle.held_cells.specs.place_rows.declared.origin.Origins.{Origins}
+use Rattle.held_cells.specs.place_rows.Spans.{pending_place}
+use Rattle.held_cells.specs.place_rows.Origins.{is_open, has_data, row_of, row_at, by_place}
+use Rattle.held_cells.specs.place_rows.Reading.{is_known}
 use Rattle.node_rows.specs.declared.joining.Arrival.{Arrival}
 use Rattle.node_rows.specs.declared.node.Behind.{Behind}
 use Rattle.node_rows.specs.Joining.{brings, origin_at, origins_at}

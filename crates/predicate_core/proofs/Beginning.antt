@@ -15,7 +15,7 @@ use Rattle.held_cells.specs.declared.way.Way.{Way}
 use Rattle.held_cells.specs.declared.way.Exit.{Exit}
 use Rattle.held_cells.specs.Paths.{GraphView}
 use Rattle.held_cells.specs.Held.{PointerView, pointed}
-use Rattle.site_cells.specs.Sited.{sited}
+use Rattle.step_cells.specs.site_cells.Sited.{sited}
 use Rattle.program_graph.specs.Sound.{IsSoundGraph}
 use Rattle.predicate_core.specs.declared.making.Progress.{Progress}
 use Rattle.predicate_core.specs.Buildable.{AddsNoRow}

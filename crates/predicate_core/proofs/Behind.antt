@@ -5,12 +5,12 @@ use Rattle.std.specs.List.{list_any}
 use Rattle.std.proofs.lemmas.Bool.{eqb-true, eqb-false, eq-eqb}
 use Rattle.kind_core.specs.declared.kind.Kinds.{Kinds}
 use Rattle.cell_core.specs.Rows.{greatest}
-use Rattle.place_rows.specs.declared.origin.Origin.{Origin}
-use Rattle.place_rows.specs.declared.span.Span.{Span}
-use Rattle.place_rows.specs.declared.recording.Record.{Record}
-use Rattle.place_rows.specs.Spans.{pending_place, is_in}
-use Rattle.place_rows.specs.Origins.{has_data, row_of, row_at}
-use Rattle.place_rows.proofs.SpanLaws.{one_row}
+use Rattle.held_cells.specs.place_rows.declared.origin.Origin.{Origin}
+use Rattle.held_cells.specs.place_rows.declared.span.Span.{Span}
+use Rattle.held_cells.specs.place_rows.declared.recording.Record.{Record}
+use Rattle.held_cells.specs.place_rows.Spans.{pending_place, is_in}
+use Rattle.held_cells.specs.place_rows.Origins.{has_data, row_of, row_at}
+use Rattle.held_cells.proofs.place_rows.SpanLaws.{one_row}
 use Rattle.node_rows.specs.Passing.{written, is_some_place, pending_row, noted}
 use Rattle.held_cells.specs.Rows as cells
 

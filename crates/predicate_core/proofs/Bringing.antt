@@ -7,9 +7,9 @@ use Rattle.std.proofs.lemmas.List.Sums.{list_all-from_AllPass}
 use Rattle.cell_core.specs.Rows.{greatest}
 use Rattle.operator_cells.specs.declared.joining.Arm.{Arm}
 use Rattle.operator_cells.specs.Joining.{flat}
-use Rattle.place_rows.specs.declared.origin.Origin.{Origin}
-use Rattle.place_rows.specs.Origins.{row_of}
-use Rattle.place_rows.specs.Reading.{is_known}
+use Rattle.held_cells.specs.place_rows.declared.origin.Origin.{Origin}
+use Rattle.held_cells.specs.place_rows.Origins.{row_of}
+use Rattle.held_cells.specs.place_rows.Reading.{is_known}
 use Rattle.node_rows.specs.declared.joining.Arrival.{Arrival}
 use Rattle.node_rows.specs.Joining.{brings, edge_row, brought_row, is_origin, all_bring, new_origin, met}
 use Rattle.held_cells.specs.declared.way.Way.{Way}

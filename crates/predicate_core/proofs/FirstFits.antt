@@ -15,10 +15,10 @@ use Rattle.cell_core.specs.Cells.{CellView}
 use Rattle.cell_core.specs.Rows.{AreRows, node_row, last_row, record_count}
 use Rattle.operator_cells.specs.Making.{seen, GrowsWith}
 use Rattle.operator_cells.proofs.RisingLaws.{rows_before}
-use Rattle.place_rows.specs.declared.origin.Origin.{Origin}
-use Rattle.place_rows.specs.Spans.{pending_place}
-use Rattle.place_rows.specs.Origins.{is_open, origin_at_start}
-use Rattle.place_rows.proofs.PlaceLaws.{place_at}
+use Rattle.held_cells.specs.place_rows.declared.origin.Origin.{Origin}
+use Rattle.held_cells.specs.place_rows.Spans.{pending_place}
+use Rattle.held_cells.specs.place_rows.Origins.{is_open, origin_at_start}
+use Rattle.held_cells.proofs.place_rows.PlaceLaws.{place_at}
 use Rattle.node_rows.specs.declared.stages.Stages.{Stages}
 use Rattle.node_rows.specs.Rows.{HasStages, insn_of, may_write}
 use Rattle.held_cells.specs.declared.way.Way.{Way}
@@ -26,7 +26,7 @@ use Rattle.held_cells.specs.Held.{PointerView, pointed}
 use Rattle.held_cells.specs.Law.{made_at}
 use Rattle.held_cells.specs.Rows.{kind_at, number_at, held_row}
 use Rattle.held_cells.proofs.RowLaws.{byte_row, target_row}
-use Rattle.site_cells.specs.Sited.{sited}
+use Rattle.step_cells.specs.site_cells.Sited.{sited}
 use Rattle.predicate_core.specs.declared.making.Progress.{Progress}
 use Rattle.predicate_core.specs.Opening.{Opens}
 use Rattle.predicate_core.specs.Progress.{pending_of, AreWaiting}

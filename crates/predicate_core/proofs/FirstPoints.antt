@@ -7,7 +7,7 @@ use Rattle.kind_core.specs.declared.kind.Kind.TheVariants.{Maybe, Entry}
 use Rattle.kind_core.specs.declared.kind.Kinds.{Kinds}
 use Rattle.kind_core.specs.Kinds as kinds
 use Rattle.cell_core.specs.Cells.{on}
-use Rattle.place_rows.specs.Origins.{is_open}
+use Rattle.held_cells.specs.place_rows.Origins.{is_open}
 use Rattle.held_cells.specs.declared.held.Held.{Held}
 use Rattle.held_cells.specs.declared.way.Way.{Way}
 use Rattle.held_cells.specs.Rows.{kind_at, number_at}

@@ -12,10 +12,10 @@ use Rattle.cell_core.specs.Rows.{AreRows, greatest, numbers}
 use Rattle.operator_cells.specs.declared.joining.Arm.{Arm}
 use Rattle.operator_cells.specs.Joining.{flat}
 use Rattle.operator_cells.specs.Making.{seen}
-use Rattle.place_rows.specs.declared.origin.Origin.{Origin}
-use Rattle.place_rows.specs.Spans.{pending_place}
-use Rattle.place_rows.specs.Origins.{is_open, has_data, row_of, row_at, every_row, by_place, origin_at_start}
-use Rattle.place_rows.proofs.PlaceLaws.{place_at, greatest_within, greatest_above}
+use Rattle.held_cells.specs.place_rows.declared.origin.Origin.{Origin}
+use Rattle.held_cells.specs.place_rows.Spans.{pending_place}
+use Rattle.held_cells.specs.place_rows.Origins.{is_open, has_data, row_of, row_at, every_row, by_place, origin_at_start}
+use Rattle.held_cells.proofs.place_rows.PlaceLaws.{place_at, greatest_within, greatest_above}
 use Rattle.node_rows.specs.Joining.{brings, edge_row, all_bring, new_origin, met, first_brings, origin_at}
 use Rattle.held_cells.specs.declared.held.Held.{Held}
 use Rattle.held_cells.specs.declared.way.Way.{Way}

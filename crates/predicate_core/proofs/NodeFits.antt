@@ -23,13 +23,13 @@ use Rattle.cell_core.specs.Formed.{AreFormed, FitsMap}
 use Rattle.cell_core.specs.Rows.{AreRows, greatest, node_row, taken_by, record_count}
 use Rattle.operator_cells.specs.Making.{seen, Grows}
 use Rattle.operator_cells.proofs.RisingLaws.{rows_before, greatest_append}
-use Rattle.place_rows.specs.declared.origin.Origin.{Origin}
-use Rattle.place_rows.specs.declared.recording.Record.{Record}
-use Rattle.place_rows.specs.Spans.{pending_place, is_in}
-use Rattle.place_rows.specs.Origins.{has_data, row_of, row_at}
-use Rattle.place_rows.specs.Writing.{writes_as, taken_row}
-use Rattle.place_rows.proofs.PlaceLaws.{greatest_within}
-use Rattle.place_rows.proofs.SpanLaws.{one_row}
+use Rattle.held_cells.specs.place_rows.declared.origin.Origin.{Origin}
+use Rattle.held_cells.specs.place_rows.declared.recording.Record.{Record}
+use Rattle.held_cells.specs.place_rows.Spans.{pending_place, is_in}
+use Rattle.held_cells.specs.place_rows.Origins.{has_data, row_of, row_at}
+use Rattle.held_cells.specs.place_rows.Writing.{writes_as, taken_row}
+use Rattle.held_cells.proofs.place_rows.PlaceLaws.{greatest_within}
+use Rattle.held_cells.proofs.place_rows.SpanLaws.{one_row}
 use Rattle.node_rows.specs.declared.node.Behind.{Behind}
 use Rattle.node_rows.specs.Joining.{edge_row}
 use Rattle.node_rows.specs.Passing.{is_some_place, pending_row, leaving_row}
@@ -46,10 +46,10 @@ use Rattle.held_cells.specs.Rows.{kind_at, number_at, held_row, IsRecord, WriteW
 use Rattle.edge_cells.specs.declared.joining.Here.{Here}
 use Rattle.edge_cells.specs.Meeting.{Extends}
 use Rattle.edge_cells.proofs.ExtendingLaws.{extended}
-use Rattle.node_cells.specs.Ends.{IsNode, HasEnds, AreEnds, is_reference, end_along}
-use Rattle.node_cells.specs.Feeding as feeding
-use Rattle.node_cells.specs.Feeding.{Leave}
-use Rattle.site_cells.specs.Sited.{sited}
+use Rattle.program_graph.specs.node_cells.Ends.{IsNode, HasEnds, AreEnds, is_reference, end_along}
+use Rattle.program_graph.specs.node_cells.Feeding as feeding
+use Rattle.program_graph.specs.node_cells.Feeding.{Leave}
+use Rattle.step_cells.specs.site_cells.Sited.{sited}
 use Rattle.step_cells.specs.Stepping.{made_of}
 use Rattle.step_cells.specs.Rows.{NodeRows, StandIn}
 use Rattle.step_cells.specs.Waiting.{WaitsFor}

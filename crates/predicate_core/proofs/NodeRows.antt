@@ -15,14 +15,14 @@ use Rattle.kind_core.specs.declared.kind.Kinds.{Kinds}
 use Rattle.kind_core.specs.Edges.{transferred}
 use Rattle.unfold_core.specs.declared.unfolding.Unfolded.{Unfolded}
 use Rattle.cell_core.specs.Rows.{greatest, numbers}
-use Rattle.place_rows.specs.declared.origin.Origin.{Origin}
-use Rattle.place_rows.specs.declared.span.Span.{Span}
-use Rattle.place_rows.specs.declared.recording.Record.{Record}
-use Rattle.place_rows.specs.Spans.{pending_place, is_in}
-use Rattle.place_rows.specs.Origins.{has_data, row_of, row_at, every_row, origin_at_start}
-use Rattle.place_rows.specs.Writing.{writes_as, record_as, is_open_in, taken_row, made_row}
-use Rattle.place_rows.proofs.PlaceLaws.{place_at, count_places, spans_low}
-use Rattle.place_rows.proofs.SpanLaws.{is_inside}
+use Rattle.held_cells.specs.place_rows.declared.origin.Origin.{Origin}
+use Rattle.held_cells.specs.place_rows.declared.span.Span.{Span}
+use Rattle.held_cells.specs.place_rows.declared.recording.Record.{Record}
+use Rattle.held_cells.specs.place_rows.Spans.{pending_place, is_in}
+use Rattle.held_cells.specs.place_rows.Origins.{has_data, row_of, row_at, every_row, origin_at_start}
+use Rattle.held_cells.specs.place_rows.Writing.{writes_as, record_as, is_open_in, taken_row, made_row}
+use Rattle.held_cells.proofs.place_rows.PlaceLaws.{place_at, count_places, spans_low}
+use Rattle.held_cells.proofs.place_rows.SpanLaws.{is_inside}
 use Rattle.node_rows.specs.declared.joining.Arrival.{Arrival}
 use Rattle.node_rows.specs.declared.node.Behind.{Behind}
 use Rattle.node_rows.specs.Joining.{edge_row, origin_at, origins_at}
@@ -34,7 +34,7 @@ use Rattle.held_cells.specs.Paths.{NodeView, no_node, node_at}
 use Rattle.held_cells.specs.Rows.{cells_of_pointer, value_row, held_row}
 use Rattle.edge_cells.specs.Meeting.{Extends}
 use Rattle.edge_cells.proofs.ExtendingLaws.{same_pointer}
-use Rattle.node_cells.specs.Ends.{IsNode, is_reference}
+use Rattle.program_graph.specs.node_cells.Ends.{IsNode, is_reference}
 use Rattle.program_graph.specs.Graphs.{node_view, graph_of}
 use Rattle.predicate_core.specs.Stages.{behind_at, arrivals_at, kinds_of, origins_met}
 use Rattle.predicate_core.proofs.Spans.{spans_inside}

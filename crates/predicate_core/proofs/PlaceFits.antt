@@ -10,11 +10,11 @@ use Rattle.cell_core.specs.Rows.{AreRows, greatest}
 use Rattle.operator_cells.specs.declared.joining.Arm.{Arm}
 use Rattle.operator_cells.specs.Joining.{flat}
 use Rattle.operator_cells.specs.Making.{seen}
-use Rattle.place_rows.specs.declared.origin.Origin.{Origin}
-use Rattle.place_rows.specs.Spans.{pending_place}
-use Rattle.place_rows.specs.Origins.{has_data, row_of, by_place, origin_at_start}
-use Rattle.place_rows.specs.Reading.{is_known}
-use Rattle.place_rows.proofs.PlaceLaws.{place_at}
+use Rattle.held_cells.specs.place_rows.declared.origin.Origin.{Origin}
+use Rattle.held_cells.specs.place_rows.Spans.{pending_place}
+use Rattle.held_cells.specs.place_rows.Origins.{has_data, row_of, by_place, origin_at_start}
+use Rattle.held_cells.specs.place_rows.Reading.{is_known}
+use Rattle.held_cells.proofs.place_rows.PlaceLaws.{place_at}
 use Rattle.node_rows.specs.declared.joining.Arrival.{Arrival}
 use Rattle.node_rows.specs.declared.node.Behind.{Behind}
 use Rattle.node_rows.specs.Joining.{brings, edge_row, all_bring, new_origin, met, first_brings, origin_at, origins_at}

@@ -33,9 +33,9 @@ use Rattle.edge_cells.specs.Joining.{LeadTo}
 use Rattle.edge_cells.specs.Meeting.{AreWays, Extends}
 use Rattle.edge_cells.specs.Widening.{AreWider}
 use Rattle.edge_cells.proofs.ExtendingLaws.{inside_later}
-use Rattle.node_cells.specs.Ends.{IsNode}
-use Rattle.node_cells.specs.Feeding.{known_on, Leave}
-use Rattle.site_cells.specs.Sited.{sited}
+use Rattle.program_graph.specs.node_cells.Ends.{IsNode}
+use Rattle.program_graph.specs.node_cells.Feeding.{known_on, Leave}
+use Rattle.step_cells.specs.site_cells.Sited.{sited}
 use Rattle.program_graph.specs.Graphs.{node_view, graph_of}
 use Rattle.program_graph.specs.Nodes.{HasInsn}
 use Rattle.program_graph.specs.Sound.{IsSoundGraph}

@@ -24,14 +24,14 @@ use Rattle.kind_core.specs.Access.{compares, stored}
 use Rattle.kind_core.specs.Effects.{effect_of, effect_as, verdict, immediate}
 use Rattle.kind_core.specs.Profile.{profiled}
 use Rattle.kind_core.proofs.TestLaws.{bind_passed}
-use Rattle.place_rows.specs.declared.origin.Origin.{Origin}
-use Rattle.place_rows.specs.declared.span.Span.{Span}
-use Rattle.place_rows.specs.Spans.{no_place, one, target, slots_of, bytes_of, region, is_in}
-use Rattle.place_rows.specs.Origins.{row_at}
-use Rattle.place_rows.specs.Writing.{writes_as}
-use Rattle.place_rows.proofs.SpanLaws.{in_none, not_beyond}
+use Rattle.held_cells.specs.place_rows.declared.origin.Origin.{Origin}
+use Rattle.held_cells.specs.place_rows.declared.span.Span.{Span}
+use Rattle.held_cells.specs.place_rows.Spans.{no_place, one, target, slots_of, bytes_of, region, is_in}
+use Rattle.held_cells.specs.place_rows.Origins.{row_at}
+use Rattle.held_cells.specs.place_rows.Writing.{writes_as}
+use Rattle.held_cells.proofs.place_rows.SpanLaws.{in_none, not_beyond}
 use Rattle.node_rows.specs.Passing as graph
-use Rattle.node_cells.specs.Ends.{AreEnds}
+use Rattle.program_graph.specs.node_cells.Ends.{AreEnds}
 use Rattle.held_cells.specs.Rows as cells
 
 -- ---- tests that pass

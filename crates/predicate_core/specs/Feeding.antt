@@ -4,7 +4,7 @@ use Rattle.kind_core.specs.Kinds as kinds
 use Rattle.held_cells.specs.declared.way.Way.{Way}
 use Rattle.held_cells.specs.Paths.{EdgeView, GraphView, node_at}
 use Rattle.edge_cells.specs.Widening.{AreWider}
-use Rattle.node_cells.specs.Feeding.{Leave}
+use Rattle.program_graph.specs.node_cells.Feeding.{Leave}
 use Rattle.program_graph.specs.Sound.{IsSoundGraph}
 
 -- Before node k an edge leads to each node that is to come, or is still to be made.

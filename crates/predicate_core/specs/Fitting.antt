@@ -13,9 +13,9 @@ use Rattle.held_cells.specs.Rows.{JoinsTo}
 use Rattle.held_cells.specs.Steps.{Steps}
 use Rattle.edge_cells.specs.declared.joining.Here.{Here}
 use Rattle.edge_cells.specs.Joining.{LeadTo}
-use Rattle.node_cells.specs.Ends.{IsNode, HasEnds, is_reference}
-use Rattle.node_cells.specs.Feeding.{Leave}
-use Rattle.site_cells.specs.Sited.{sited}
+use Rattle.program_graph.specs.node_cells.Ends.{IsNode, HasEnds, is_reference}
+use Rattle.program_graph.specs.node_cells.Feeding.{Leave}
+use Rattle.step_cells.specs.site_cells.Sited.{sited}
 use Rattle.step_cells.specs.Stepping.{made_of}
 use Rattle.step_cells.specs.Rows.{NodeRows}
 use Rattle.step_cells.specs.Pointing.{NodePoints}

@@ -1,3 +1,4 @@
+pub use Rattle.program_graph.specs as program_graph
 pub mod Buildable
 pub mod Making
 pub mod Laws

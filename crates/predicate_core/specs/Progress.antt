@@ -6,7 +6,7 @@ use Rattle.held_cells.specs.declared.way.Way.{Way}
 use Rattle.held_cells.specs.Paths.{GraphView}
 use Rattle.held_cells.specs.Held.{pointed}
 use Rattle.edge_cells.specs.declared.joining.Here.{Here}
-use Rattle.site_cells.specs.Sited.{sited}
+use Rattle.step_cells.specs.site_cells.Sited.{sited}
 use Rattle.predicate_core.specs.declared.making.Progress.{Progress}
 use Rattle.predicate_core.specs.Making.{Making, IsSoFar, Arrives}
 use Rattle.predicate_core.specs.Feeding.{AreFed}

@@ -6,9 +6,9 @@ use Rattle.unfold_core.specs.declared.links.Edge.{Edge}
 use Rattle.unfold_core.specs.declared.unfolding.Unfolded.{Unfolded}
 use Rattle.cell_core.specs.Cells.{CellView}
 use Rattle.cell_core.specs.Rows.{AreRows, node_row, record_count}
-use Rattle.place_rows.specs.declared.origin.Origin.{Origin}
-use Rattle.place_rows.specs.Spans.{pending_place}
-use Rattle.place_rows.specs.Origins.{row_at, every_row, by_place, origin_at_start}
+use Rattle.held_cells.specs.place_rows.declared.origin.Origin.{Origin}
+use Rattle.held_cells.specs.place_rows.Spans.{pending_place}
+use Rattle.held_cells.specs.place_rows.Origins.{row_at, every_row, by_place, origin_at_start}
 use Rattle.node_rows.specs.declared.joining.Arrival.{Arrival}
 use Rattle.node_rows.specs.declared.node.Behind.{Behind}
 use Rattle.node_rows.specs.Joining.{edge_row, origins_at}
@@ -19,7 +19,7 @@ use Rattle.held_cells.specs.declared.way.Way.{Way}
 use Rattle.held_cells.specs.Held.{PointerView, pointed}
 use Rattle.held_cells.specs.Law.{made_at}
 use Rattle.held_cells.specs.Rows.{number_at, held_row}
-use Rattle.site_cells.specs.Sited.{sited}
+use Rattle.step_cells.specs.site_cells.Sited.{sited}
 use Rattle.step_cells.specs.Rows.{AreWithin}
 use Rattle.predicate_core.specs.declared.making.Progress.{Progress}
 use Rattle.predicate_core.specs.Progress.{pending_of}

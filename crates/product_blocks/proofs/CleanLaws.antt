@@ -2,8 +2,8 @@
 use Rattle.std.specs.Prelude.{◌≡◌, cond, Bool, true, false, List, [], ◌∷◌, ◌++◌}
 use Rattle.std.proofs.Common.{refl, not}
 use Rattle.std.proofs.lemmas.Bool.{and_from}
-use Rattle.net_core.specs.declared.tree.Op.{Op}
-use Rattle.net_core.specs.Nets.{Tree, TConst, TRead, TBit, TPartSelect, TMemoryWord, TUnary, TBinary, TConditional, TConcatenation, Trees, TLast, TMore}
+use Rattle.product_rules.specs.net_core.declared.tree.Op.{Op}
+use Rattle.product_rules.specs.net_core.Nets.{Tree, TConst, TRead, TBit, TPartSelect, TMemoryWord, TUnary, TBinary, TConditional, TConcatenation, Trees, TLast, TMore}
 use Rattle.product_rules.specs.Products.{is_product, has_product, parts_product, is_flat}
 use Rattle.block_core.specs.Blocks.{BlockWireTree}
 use Rattle.block_core.specs.Order.{Reads, AllRead}

@@ -3,7 +3,7 @@ use Rattle.std.specs.Prelude.{◌≡◌, cond, Bool, true, false, ◌||◌, List
 use Rattle.std.specs.List.{list_all}
 use Rattle.std.proofs.Common.{refl, not}
 use Rattle.std.proofs.lemmas.Bool.{and_parts, and_from}
-use Rattle.net_core.specs.Nets.{Tree, TConst, TRead, TBit, TPartSelect, TMemoryWord, TUnary, TBinary, TConditional, TConcatenation, Trees, TLast, TMore}
+use Rattle.product_rules.specs.net_core.Nets.{Tree, TConst, TRead, TBit, TPartSelect, TMemoryWord, TUnary, TBinary, TConditional, TConcatenation, Trees, TLast, TMore}
 use Rattle.product_rules.specs.Products.{is_product, has_product, parts_product, is_flat, parts_flat}
 use Rattle.block_core.specs.Blocks.{BlockTree, BlockWireTree}
 use Rattle.product_blocks.specs.Apart.{AreMarked, IsApart}

@@ -1,7 +1,7 @@
 -- Trees under other names of nets: a product is found in no more of them where no more nets are marked.
 use Rattle.std.specs.Prelude.{◌≡◌, ℕ, cond, Bool, true, false, ◌&&◌, ◌||◌}
 use Rattle.std.proofs.Common.{refl, not}
-use Rattle.net_core.specs.Nets.{Tree, TConst, TRead, TBit, TPartSelect, TMemoryWord, TUnary, TBinary, TConditional, TConcatenation, Trees, TLast, TMore, RightTree, RPlain, RQuotient, RRemainder, StatementTree, SBlock, SIf, SIfElse, SSet, SStore, StatementTrees, SEnd, SThen}
+use Rattle.product_rules.specs.net_core.Nets.{Tree, TConst, TRead, TBit, TPartSelect, TMemoryWord, TUnary, TBinary, TConditional, TConcatenation, Trees, TLast, TMore, RightTree, RPlain, RQuotient, RRemainder, StatementTree, SBlock, SIf, SIfElse, SSet, SStore, StatementTrees, SEnd, SThen}
 use Rattle.product_rules.specs.Products.{is_product, has_product, parts_product, is_flat, parts_flat, right_product, right_flat, statement_flat, statements_flat}
 use Rattle.block_core.specs.Rename.{rename, rename_parts, rename_right, rename_statement, rename_statements}
 use Rattle.block_core.specs.Order.{Reads, AllRead, RightReads}

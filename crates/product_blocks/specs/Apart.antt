@@ -1,7 +1,7 @@
 -- What keeps the products of a linked design apart, block by block.
 use Rattle.std.specs.Prelude.{◌≡◌, ℕ, Bool, true, false, ◌&&◌, List, [], ◌∷◌}
 use Rattle.std.proofs.Common.{get_or}
-use Rattle.net_core.specs.declared.design.Port.{Port}
+use Rattle.product_rules.specs.net_core.declared.design.Port.{Port}
 use Rattle.product_rules.specs.Products.{right_product, is_flat, right_flat, statement_flat, products_apart}
 use Rattle.block_core.specs.declared.name.Name.{Name}
 use Rattle.block_core.specs.declared.name.Name.TheVariants as name

@@ -1,2 +1,3 @@
+pub use Rattle.product_rules.specs as product_rules
 pub mod Apart
 pub mod Alone

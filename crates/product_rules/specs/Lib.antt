@@ -1,1 +1,2 @@
+pub use Rattle.net_core.specs as net_core
 pub mod Products

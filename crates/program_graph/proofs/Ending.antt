@@ -4,18 +4,18 @@ use Rattle.std.specs.Prelude.{is_some, if◌then◌else◌, All, Contains}
 use Rattle.std.proofs.lemmas.Bool.{eqb-true, eq-eqb, and_parts, and_from}
 use Rattle.std.proofs.lemmas.List.{get_or_default}
 use Rattle.std.proofs.lemmas.List.Elements.{All-head, All-tail, All-contains, Contains-get_or}
-use Rattle.bpf_isa.specs.declared.operation.Width.{Width}
-use Rattle.bpf_isa.specs.declared.operation.JumpCode.{JumpCode}
-use Rattle.bpf_isa.specs.declared.operation.Src.{Src}
-use Rattle.bpf_isa.specs.declared.operation.Op.{Op}
-use Rattle.bpf_isa.specs.declared.operation.Op.TheVariants.{Ja, Jump, Exit}
-use Rattle.bpf_isa.specs.declared.instruction.Insn.{Insn}
-use Rattle.bpf_isa.specs.Text.{insn_at}
-use Rattle.xdp_machine.specs.State.{begins}
-use Rattle.xdp_machine.specs.Program.{XdpProgram}
-use Rattle.kind_core.specs.declared.kind.Kinds.{Kinds}
-use Rattle.kind_core.specs.Edges.{decided}
-use Rattle.kind_core.specs.Soundness.{target}
+use Rattle.xdp_object.specs.bpf_isa.declared.operation.Width.{Width}
+use Rattle.xdp_object.specs.bpf_isa.declared.operation.JumpCode.{JumpCode}
+use Rattle.xdp_object.specs.bpf_isa.declared.operation.Src.{Src}
+use Rattle.xdp_object.specs.bpf_isa.declared.operation.Op.{Op}
+use Rattle.xdp_object.specs.bpf_isa.declared.operation.Op.TheVariants.{Ja, Jump, Exit}
+use Rattle.xdp_object.specs.bpf_isa.declared.instruction.Insn.{Insn}
+use Rattle.xdp_object.specs.bpf_isa.Text.{insn_at}
+use Rattle.xdp_object.specs.xdp_machine.State.{begins}
+use Rattle.xdp_object.specs.xdp_machine.Program.{XdpProgram}
+use Rattle.unfold_core.specs.kind_core.declared.kind.Kinds.{Kinds}
+use Rattle.unfold_core.specs.kind_core.Edges.{decided}
+use Rattle.unfold_core.specs.kind_core.Soundness.{target}
 use Rattle.unfold_core.specs.declared.links.Edge.{Edge}
 use Rattle.unfold_core.specs.declared.unfolding.Unfolded.{Unfolded}
 use Rattle.unfold_core.specs.Edges.{goes_next, goes_jump}
@@ -24,7 +24,7 @@ use Rattle.unfold_core.specs.Unfolding.{links, IsUnfolded}
 use Rattle.unfold_core.specs.RunLaws.{edge}
 use Rattle.unfold_core.specs.GraphLaws.{EdgesLeadOn}
 use Rattle.unfold_core.specs.LinkLaws.{goes_along, IsLink, HasLinks, NodesHaveLinks}
-use Rattle.held_cells.specs.Paths.{NodeView, EdgeView, node_at, led}
+use Rattle.edge_cells.specs.held_cells.Paths.{NodeView, EdgeView, node_at, led}
 use Rattle.node_cells.specs.Ends.{IsEdge, IsEnd, ArePresent, AreEnds, HasEnds}
 use Rattle.program_graph.specs.declared.edge_ends.NodeEnds.{NodeEnds}
 use Rattle.program_graph.specs.Graphs.{edge_view, graph_of}

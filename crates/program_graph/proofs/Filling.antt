@@ -2,19 +2,19 @@
 use Rattle.std.proofs.Common.{◌≡◌, ℕ, Bool, true, false, List, Option, Ok, Err, refl, sym, ◌∙◌, ap, subst}
 use Rattle.std.specs.Prelude.{if◌then◌else◌}
 use Rattle.std.proofs.lemmas.List.{get_or-replicate}
-use Rattle.bpf_isa.specs.declared.operation.Width.{Width}
-use Rattle.bpf_isa.specs.declared.operation.Op.{Op}
-use Rattle.bpf_isa.specs.declared.operation.Op.TheVariants.{Ja, Jump, Exit, LoadImm}
-use Rattle.bpf_isa.specs.declared.instruction.Insn.{Insn}
-use Rattle.xdp_maps.specs.declared.decl.MapDecl.{MapDecl}
-use Rattle.kind_core.specs.declared.number.Number.TheVariants.{Known}
-use Rattle.kind_core.specs.declared.kind.Kind.TheVariants.{Unset, Num}
-use Rattle.kind_core.specs.declared.kind.Kinds.{Kinds}
-use Rattle.kind_core.specs.Kinds as kinds
-use Rattle.kind_core.specs.Tests.{◌>>=◌, Test}
-use Rattle.kind_core.specs.Profile.{profiled}
-use Rattle.kind_core.specs.Effects.{effect_as, effect_of}
-use Rattle.kind_core.specs.Edges.{changed_if, transferred}
+use Rattle.xdp_object.specs.bpf_isa.declared.operation.Width.{Width}
+use Rattle.xdp_object.specs.bpf_isa.declared.operation.Op.{Op}
+use Rattle.xdp_object.specs.bpf_isa.declared.operation.Op.TheVariants.{Ja, Jump, Exit, LoadImm}
+use Rattle.xdp_object.specs.bpf_isa.declared.instruction.Insn.{Insn}
+use Rattle.xdp_object.specs.xdp_maps.declared.decl.MapDecl.{MapDecl}
+use Rattle.unfold_core.specs.kind_core.declared.number.Number.TheVariants.{Known}
+use Rattle.unfold_core.specs.kind_core.declared.kind.Kind.TheVariants.{Unset, Num}
+use Rattle.unfold_core.specs.kind_core.declared.kind.Kinds.{Kinds}
+use Rattle.unfold_core.specs.kind_core.Kinds as kinds
+use Rattle.unfold_core.specs.kind_core.Tests.{◌>>=◌, Test}
+use Rattle.unfold_core.specs.kind_core.Profile.{profiled}
+use Rattle.unfold_core.specs.kind_core.Effects.{effect_as, effect_of}
+use Rattle.unfold_core.specs.kind_core.Edges.{changed_if, transferred}
 use Rattle.unfold_core.specs.Edges.{goes_next, goes_jump}
 use Rattle.edge_cells.specs.Widening.{AreFilled}
 use Rattle.node_cells.specs.Ends.{leads_on}

@@ -1,10 +1,10 @@
 -- Each node of a graph has an allowed instruction.
 use Rattle.std.proofs.Common.{◌≡◌, Some, refl, ◌∙◌, ap}
-use Rattle.bpf_isa.specs.Text.{insn_at}
-use Rattle.kind_core.specs.Effects.{effect_of, verdict}
+use Rattle.xdp_object.specs.bpf_isa.Text.{insn_at}
+use Rattle.unfold_core.specs.kind_core.Effects.{effect_of, verdict}
 use Rattle.unfold_core.specs.Graphs.{first_point}
 use Rattle.unfold_core.specs.LinkLaws.{NodesHaveLinks}
-use Rattle.held_cells.specs.Paths.{node_at}
+use Rattle.edge_cells.specs.held_cells.Paths.{node_at}
 use Rattle.program_graph.specs.Graphs.{graph_of}
 use Rattle.program_graph.specs.Nodes.{NodesHaveInsns}
 use Rattle.program_graph.proofs.Viewing.{node_is, node_inside}

@@ -4,12 +4,12 @@ use Rattle.std.specs.Prelude.{All}
 use Rattle.std.specs.List.{list_any}
 use Rattle.std.proofs.lemmas.Bool.{eqb-true}
 use Rattle.std.proofs.lemmas.List.Elements.{All-head, All-tail}
-use Rattle.bpf_isa.specs.declared.operation.Op.TheVariants.{LoadImm}
-use Rattle.bpf_isa.specs.declared.instruction.Insn.{Insn}
-use Rattle.bpf_isa.specs.Text.{insn_at}
-use Rattle.xdp_maps.specs.declared.decl.MapDecl.{MapDecl}
-use Rattle.xdp_machine.specs.Program.{IsDeclaration, IsReference}
-use Rattle.kind_core.specs.Kinds.{value_bytes}
+use Rattle.xdp_object.specs.bpf_isa.declared.operation.Op.TheVariants.{LoadImm}
+use Rattle.xdp_object.specs.bpf_isa.declared.instruction.Insn.{Insn}
+use Rattle.xdp_object.specs.bpf_isa.Text.{insn_at}
+use Rattle.xdp_object.specs.xdp_maps.declared.decl.MapDecl.{MapDecl}
+use Rattle.xdp_object.specs.xdp_machine.Program.{IsDeclaration, IsReference}
+use Rattle.unfold_core.specs.kind_core.Kinds.{value_bytes}
 
 pub refers_load : (insns : List Insn) (maps : ℕ) (refs : List ℕ) (place : ℕ) (i : Insn) → All (IsReference insns maps) refs → insn_at insns place ≡ Some i → list_any (λ r. r == place) refs ≡ true → i.op ≡ LoadImm
 refers_load insns maps [] place i all is h = absurd (cc h)

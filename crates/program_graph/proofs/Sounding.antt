@@ -3,13 +3,13 @@ use Rattle.std.proofs.Common.{◌≡◌, ℕ, zero, suc, ◌<◌, inl, inr, ◌�
 use Rattle.std.specs.Prelude.{◌==◌, fold, Contains}
 use Rattle.std.specs.List.{list_any}
 use Rattle.std.proofs.lemmas.List.Elements.{All-cons, All-head, All-tail, All-contains, Contains-get_or}
-use Rattle.bpf_isa.specs.declared.instruction.Insn.{Insn}
-use Rattle.bpf_isa.specs.Text.{insn_at}
-use Rattle.xdp_machine.specs.Program.{XdpProgram, IsProgram}
-use Rattle.kind_core.specs.declared.kind.Kinds.{Kinds}
-use Rattle.kind_core.specs.Kinds as kinds
-use Rattle.kind_core.specs.Edges.{decided, transferred}
-use Rattle.kind_core.specs.Joins.{joined}
+use Rattle.xdp_object.specs.bpf_isa.declared.instruction.Insn.{Insn}
+use Rattle.xdp_object.specs.bpf_isa.Text.{insn_at}
+use Rattle.xdp_object.specs.xdp_machine.Program.{XdpProgram, IsProgram}
+use Rattle.unfold_core.specs.kind_core.declared.kind.Kinds.{Kinds}
+use Rattle.unfold_core.specs.kind_core.Kinds as kinds
+use Rattle.unfold_core.specs.kind_core.Edges.{decided, transferred}
+use Rattle.unfold_core.specs.kind_core.Joins.{joined}
 use Rattle.unfold_core.specs.declared.links.Edge.{Edge}
 use Rattle.unfold_core.specs.declared.unfolding.Unfolded.{Unfolded}
 use Rattle.unfold_core.specs.Edges.{is_reference}
@@ -19,7 +19,7 @@ use Rattle.unfold_core.specs.RunLaws.{edge}
 use Rattle.unfold_core.specs.GraphLaws.{HaveAll, EdgesLeadOn, NodesAreReached}
 use Rattle.unfold_core.specs.LinkLaws as linked
 use Rattle.unfold_core.specs.LinkLaws.{Comes, NodesHaveLinks, JoinsLinks, LinksAreJoined, StartIsFirst}
-use Rattle.held_cells.specs.Paths.{EdgeView, node_at}
+use Rattle.edge_cells.specs.held_cells.Paths.{EdgeView, node_at}
 use Rattle.edge_cells.specs.Widening.{AreWider, AreFilled, AreAlike, JoinsWiden, JoinsAreFilled}
 use Rattle.node_cells.specs.Filling.{EdgesAreFilled, JumpsAreFilled}
 use Rattle.program_graph.specs.Graphs.{node_view, edge_view, graph_of}

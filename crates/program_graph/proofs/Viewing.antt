@@ -3,12 +3,12 @@ use Rattle.std.proofs.Common.{◌≡◌, ℕ, ◌<◌, length, get_or, sym, ◌�
 use Rattle.std.specs.Prelude.{Contains}
 use Rattle.std.proofs.lemmas.List.{length-map}
 use Rattle.std.proofs.lemmas.List as lists
-use Rattle.xdp_machine.specs.Program.{XdpProgram}
+use Rattle.xdp_object.specs.xdp_machine.Program.{XdpProgram}
 use Rattle.unfold_core.specs.declared.edges.Point.{Point}
 use Rattle.unfold_core.specs.declared.links.Edge.{Edge}
 use Rattle.unfold_core.specs.declared.unfolding.Unfolded.{Unfolded}
 use Rattle.unfold_core.specs.Graphs.{first_point}
-use Rattle.held_cells.specs.Paths.{EdgeView, no_node, node_at}
+use Rattle.edge_cells.specs.held_cells.Paths.{EdgeView, no_node, node_at}
 use Rattle.program_graph.specs.Graphs.{node_view, edge_view, graph_of}
 
 abbrev pub point_at : Unfolded → ℕ → Point

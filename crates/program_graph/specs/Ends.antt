@@ -1,8 +1,8 @@
 -- The ends of the edges of all nodes of a graph.
 use Rattle.std.specs.Prelude.{ℕ, ◌≡◌, ◌<◌, Bool, true, false, Some, List, length, slice_index_or}
-use Rattle.bpf_isa.specs.declared.instruction.Insn.{Insn}
-use Rattle.bpf_isa.specs.Text.{insn_at}
-use Rattle.held_cells.specs.Paths.{GraphView, node_at}
+use Rattle.xdp_object.specs.bpf_isa.declared.instruction.Insn.{Insn}
+use Rattle.xdp_object.specs.bpf_isa.Text.{insn_at}
+use Rattle.edge_cells.specs.held_cells.Paths.{GraphView, node_at}
 use Rattle.node_cells.specs.Ends.{HasEnds}
 use Rattle.program_graph.specs.declared.edge_ends.NodeEnds.{NodeEnds}
 

@@ -1,10 +1,10 @@
 -- The graph of a program as it unfolds, by the numbers of its nodes.
 use Rattle.std.specs.Prelude.{map}
-use Rattle.xdp_machine.specs.Program.{XdpProgram, program_code}
+use Rattle.xdp_object.specs.xdp_machine.Program.{XdpProgram, program_code}
 use Rattle.unfold_core.specs.declared.edges.Point.{Point}
 use Rattle.unfold_core.specs.declared.links.Edge.{Edge}
 use Rattle.unfold_core.specs.declared.unfolding.Unfolded.{Unfolded}
-use Rattle.held_cells.specs.Paths.{NodeView, EdgeView, GraphView}
+use Rattle.edge_cells.specs.held_cells.Paths.{NodeView, EdgeView, GraphView}
 
 -- of a node its place, and what is known there
 abbrev pub node_view : Point → NodeView

@@ -1,3 +1,4 @@
+pub use Rattle.node_cells.specs as node_cells
 pub mod Graphs
 pub mod Sound
 pub mod Nodes

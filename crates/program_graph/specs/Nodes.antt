@@ -1,11 +1,11 @@
 -- The nodes of the graph of a program that unfolds.
 use Rattle.std.specs.Prelude.{ℕ, ◌≡◌, ◌<◌, true, length}
-use Rattle.bpf_isa.specs.declared.operation.Op.TheVariants.{LoadImm}
-use Rattle.bpf_isa.specs.declared.instruction.Insn.{Insn}
-use Rattle.xdp_machine.specs.Program.{XdpProgram, IsProgram}
+use Rattle.xdp_object.specs.bpf_isa.declared.operation.Op.TheVariants.{LoadImm}
+use Rattle.xdp_object.specs.bpf_isa.declared.instruction.Insn.{Insn}
+use Rattle.xdp_object.specs.xdp_machine.Program.{XdpProgram, IsProgram}
 use Rattle.unfold_core.specs.declared.unfolding.Unfolded.{Unfolded}
 use Rattle.unfold_core.specs.Unfolding.{IsUnfolded}
-use Rattle.held_cells.specs.Paths.{GraphView, node_at}
+use Rattle.edge_cells.specs.held_cells.Paths.{GraphView, node_at}
 use Rattle.node_cells.specs.Ends.{IsNode, is_reference}
 use Rattle.program_graph.specs.Graphs.{graph_of}
 

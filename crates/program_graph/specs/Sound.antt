@@ -1,11 +1,11 @@
 -- Graphs in which the cells of nodes can be made one after another.
 use Rattle.std.specs.Prelude.{ℕ, ◌≡◌, ◌<◌, ◌≤◌, length, All, Contains}
-use Rattle.xdp_machine.specs.Program.{XdpProgram, IsProgram}
-use Rattle.kind_core.specs.Kinds as kinds
-use Rattle.kind_core.specs.Kinds.{value_bytes}
+use Rattle.xdp_object.specs.xdp_machine.Program.{XdpProgram, IsProgram}
+use Rattle.unfold_core.specs.kind_core.Kinds as kinds
+use Rattle.unfold_core.specs.kind_core.Kinds.{value_bytes}
 use Rattle.unfold_core.specs.declared.unfolding.Unfolded.{Unfolded}
 use Rattle.unfold_core.specs.Unfolding.{IsUnfolded}
-use Rattle.held_cells.specs.Paths.{EdgeView, GraphView, node_at}
+use Rattle.edge_cells.specs.held_cells.Paths.{EdgeView, GraphView, node_at}
 use Rattle.edge_cells.specs.Widening.{AreWider, AreFilled}
 use Rattle.node_cells.specs.Feeding.{known_on}
 use Rattle.program_graph.specs.Graphs.{graph_of}

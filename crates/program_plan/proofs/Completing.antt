@@ -3,7 +3,7 @@ use Rattle.std.proofs.Common.{◌≡◌, ℕ, zero, suc, ◌+◌, ◌<◌, ◌�
 use Rattle.std.specs.Prelude.{All, slice_index, nat_lt, ◌==◌, ◌^◌, if◌then◌else◌}
 use Rattle.std.proofs.lemmas.Bool.{eqb-true, eqb-false, lt-ltb, le-ltb, ltb-true}
 use Rattle.std.proofs.lemmas.Nat.{pow_pos}
-use Rattle.xdp_machine.specs.State.{PacketIn}
+use Rattle.cell_core.specs.xdp_machine.State.{PacketIn}
 use Rattle.cell_core.specs.declared.operator.Operator.{Operator}
 use Rattle.cell_core.specs.declared.operator.Operator.TheVariants.{Wire, Phi}
 use Rattle.cell_core.specs.Cells.{CellView, IsRun, cell_at, is_read, site_in, on, number, bits_from}
@@ -11,12 +11,12 @@ use Rattle.cell_core.specs.Sites.{ProgramView}
 use Rattle.cell_core.specs.Formed.{AreFormed, takes}
 use Rattle.cell_core.specs.Rows.{AreRows, RowsRise}
 use Rattle.cell_core.specs.CellLaws.{SameReads, HaveValues}
-use Rattle.operator_cells.specs.Following.{picked, Goes, IsFollowed}
-use Rattle.hazard_core.specs.Tables.{TableState}
-use Rattle.hazard_core.specs.declared.pointer.Pointer.{Pointer}
-use Rattle.hazard_core.specs.declared.pointer.Pointer.TheVariants.{Null, InSlot, Pending}
-use Rattle.hazard_core.specs.Held.{Held, held_value, pointer_in}
-use Rattle.hazard_core.specs.Rows.{phi_pointer, cell_pointer}
+use Rattle.held_cells.specs.operator_cells.Following.{picked, Goes, IsFollowed}
+use Rattle.pipe_core.specs.hazard_core.Tables.{TableState}
+use Rattle.pipe_core.specs.hazard_core.declared.pointer.Pointer.{Pointer}
+use Rattle.pipe_core.specs.hazard_core.declared.pointer.Pointer.TheVariants.{Null, InSlot, Pending}
+use Rattle.pipe_core.specs.hazard_core.Held.{Held, held_value, pointer_in}
+use Rattle.pipe_core.specs.hazard_core.Rows.{phi_pointer, cell_pointer}
 use Rattle.pipe_core.specs.Machine.{Build}
 use Rattle.pipe_core.specs.Agreement.{IsMade, ReadsFit}
 use Rattle.program_plan.proofs.Lists.{map_all}

@@ -4,7 +4,7 @@ use Rattle.std.specs.Prelude.{Contains, slice_index, nat_lt, ◌==◌, ◌||◌,
 use Rattle.std.proofs.lemmas.Bool.{cases_lt, eqb-true, lt-ltb, ltb-true}
 use Rattle.std.proofs.lemmas.Bool.Decides.{Decides-eqb}
 use Rattle.std.proofs.lemmas.List.Elements.{All-contains, Contains-append_right}
-use Rattle.xdp_machine.specs.State.{PacketIn}
+use Rattle.cell_core.specs.xdp_machine.State.{PacketIn}
 use Rattle.cell_core.specs.declared.operator.Operator.TheVariants.{Answer}
 use Rattle.cell_core.specs.declared.site.Act.{Act}
 use Rattle.cell_core.specs.declared.site.Act.TheVariants as act
@@ -16,13 +16,13 @@ use Rattle.cell_core.specs.Rows.{RowsRise, greatest}
 use Rattle.held_cells.specs.Paths.{GraphView}
 use Rattle.held_cells.specs.Law.{IsLaw}
 use Rattle.held_cells.specs.Pointing.{IsThrough, FoundsAre}
-use Rattle.hazard_core.specs.declared.pointer.Pointer.{Pointer}
-use Rattle.hazard_core.specs.declared.pointer.Pointer.TheVariants.{Null, InSlot, Pending}
-use Rattle.xdp_maps.specs.declared.decl.MapKind.{MapKind}
-use Rattle.hazard_core.specs.Tables.{TableState, decl_of, table_at}
-use Rattle.hazard_core.specs.Held.{Held, pointer_in, access_pointer, is_update, is_delete, written_as}
+use Rattle.pipe_core.specs.hazard_core.declared.pointer.Pointer.{Pointer}
+use Rattle.pipe_core.specs.hazard_core.declared.pointer.Pointer.TheVariants.{Null, InSlot, Pending}
+use Rattle.cell_core.specs.xdp_maps.declared.decl.MapKind.{MapKind}
+use Rattle.pipe_core.specs.hazard_core.Tables.{TableState, decl_of, table_at}
+use Rattle.pipe_core.specs.hazard_core.Held.{Held, pointer_in, access_pointer, is_update, is_delete, written_as}
 use Rattle.table_laws.specs.Leading.{LeadsInto, WritesLead}
-use Rattle.row_plan.specs.Plan.{Plan, IsPlan}
+use Rattle.pipe_core.specs.row_plan.Plan.{Plan, IsPlan}
 use Rattle.program_plan.specs.Suited.{build_of}
 use Rattle.program_plan.specs.Leading.{HoldsOwn, PointersLead, ReadsLead, SitesLead, RecordsLead}
 use Rattle.program_plan.proofs.Lists.{greatest_above}

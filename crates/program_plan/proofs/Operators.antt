@@ -3,8 +3,8 @@ use Rattle.std.proofs.Common.{◌≡◌, ℕ, Bool, true, false, Some, None, Lis
 use Rattle.std.specs.Prelude.{Contains, ◌||◌}
 use Rattle.std.specs.List.{AllByRecursion}
 use Rattle.std.proofs.lemmas.Bool.Decides.{Decides-eqb}
-use Rattle.xdp_maps.specs.declared.decl.MapDecl.{MapDecl}
-use Rattle.xdp_machine.specs.State.{PacketIn}
+use Rattle.cell_core.specs.xdp_maps.declared.decl.MapDecl.{MapDecl}
+use Rattle.cell_core.specs.xdp_machine.State.{PacketIn}
 use Rattle.cell_core.specs.declared.operator.Operator.{Operator}
 use Rattle.cell_core.specs.declared.operator.Operator.TheVariants.{Found, Answer}
 use Rattle.cell_core.specs.declared.site.Act.{Act}
@@ -12,12 +12,12 @@ use Rattle.cell_core.specs.declared.site.Act.TheVariants as act
 use Rattle.cell_core.specs.Acts.{pointer_operand}
 use Rattle.cell_core.specs.Cells.{CellView, Solves_as, is_read, is_heavy, site_in, number, value}
 use Rattle.cell_core.specs.Sites.{ProgramView, operation_with, bytes_of}
-use Rattle.xdp_maps.specs.Operations.{key_in}
-use Rattle.hazard_core.specs.Tables.{TableState}
-use Rattle.hazard_core.specs.declared.pointer.Pointer.TheVariants.{Null}
-use Rattle.hazard_core.specs.Held.{Held, held_value, pointer_in, is_found_of, is_answer_of, is_update, is_delete}
-use Rattle.hazard_core.specs.Keeping.{looked_operands}
-use Rattle.hazard_core.specs.Rows.{cell_number}
+use Rattle.cell_core.specs.xdp_maps.Operations.{key_in}
+use Rattle.pipe_core.specs.hazard_core.Tables.{TableState}
+use Rattle.pipe_core.specs.hazard_core.declared.pointer.Pointer.TheVariants.{Null}
+use Rattle.pipe_core.specs.hazard_core.Held.{Held, held_value, pointer_in, is_found_of, is_answer_of, is_update, is_delete}
+use Rattle.pipe_core.specs.hazard_core.Keeping.{looked_operands}
+use Rattle.pipe_core.specs.hazard_core.Rows.{cell_number}
 use Rattle.held_cells.specs.Pointing.{IsThrough, changes_keys}
 
 -- ---- reads

@@ -7,11 +7,11 @@ use Rattle.std.proofs.lemmas.List.{get_or_past}
 use Rattle.std.proofs.lemmas.Option.{slice_get-get_or}
 use Rattle.std.proofs.lemmas.List.Elements.{All-contains, All-contains_itself, Contains-append_cases}
 use Rattle.std.proofs.lemmas.List.Sums.{list_all-from_AllPass}
-use Rattle.xdp_maps.specs.declared.decl.MapDecl.{MapDecl}
-use Rattle.xdp_maps.specs.declared.decl.MapKind.TheVariants.{Hash}
-use Rattle.xdp_maps.specs.State.{no_decl}
-use Rattle.xdp_machine.specs.State.{PacketIn}
-use Rattle.kind_core.specs.Kinds.{key_bytes, key_in, is_hash, is_hash_kind, hash_in}
+use Rattle.cell_core.specs.xdp_maps.declared.decl.MapDecl.{MapDecl}
+use Rattle.cell_core.specs.xdp_maps.declared.decl.MapKind.TheVariants.{Hash}
+use Rattle.cell_core.specs.xdp_maps.State.{no_decl}
+use Rattle.cell_core.specs.xdp_machine.State.{PacketIn}
+use Rattle.held_cells.specs.kind_core.Kinds.{key_bytes, key_in, is_hash, is_hash_kind, hash_in}
 use Rattle.cell_core.specs.Acts.{is_access}
 use Rattle.cell_core.specs.Cells.{CellView, cell_at, site_in, on}
 use Rattle.cell_core.specs.Sites.{SiteView, ProgramView, no_site, site_at, records, bytes_of}
@@ -21,10 +21,10 @@ use Rattle.held_cells.specs.Paths.{GraphView}
 use Rattle.held_cells.specs.Law.{IsLaidOut, IsLaw, no_made, made_at}
 use Rattle.held_cells.specs.Pointing.{IsFoundOf}
 use Rattle.held_cells.specs.Reading.{BelongsTo, RowsStandBehind}
-use Rattle.hazard_core.specs.Tables.{decl_of}
-use Rattle.hazard_core.specs.Held.{Held, held_value, pointer_in, guard_on, asked_key, found_cell, read_cells, parts}
-use Rattle.hazard_core.specs.Replay.{IsAccess}
-use Rattle.row_plan.specs.Plan.{Plan, IsPlan}
+use Rattle.pipe_core.specs.hazard_core.Tables.{decl_of}
+use Rattle.pipe_core.specs.hazard_core.Held.{Held, held_value, pointer_in, guard_on, asked_key, found_cell, read_cells, parts}
+use Rattle.pipe_core.specs.hazard_core.Replay.{IsAccess}
+use Rattle.pipe_core.specs.row_plan.Plan.{Plan, IsPlan}
 use Rattle.program_plan.specs.Suited.{build_of}
 use Rattle.program_plan.proofs.Lists.{greatest_above, map_all}
 use Rattle.program_plan.proofs.Operators.{heavy_of_site, changes, key_is, goes_by}

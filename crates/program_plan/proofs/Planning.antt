@@ -7,7 +7,7 @@ use Rattle.cell_core.specs.Cells.{CellView, cell_at, is_read, site_in}
 use Rattle.cell_core.specs.Sites.{SiteView, ProgramView, site_at}
 use Rattle.cell_core.specs.Rows.{greatest, taken_by}
 use Rattle.predicate_core.specs.Buildable.{IsBuildable}
-use Rattle.row_plan.specs.Plan.{Plan, IsPlan, read_row, site_row}
+use Rattle.pipe_core.specs.row_plan.Plan.{Plan, IsPlan, read_row, site_row}
 use Rattle.program_plan.proofs.Lists.{greatest_above, greatest_within, greatest_append}
 use Rattle.program_plan.proofs.Operators.{read_of_site}
 

@@ -1,7 +1,7 @@
 -- Of a site one cell at most says whether its key is there, and one at most what it answers.
 use Rattle.std.proofs.Common.{◌∙◌, sym, ap}
 use Rattle.cell_core.specs.Cells.{site_in}
-use Rattle.hazard_core.specs.Held.{found_cell, answer_cell}
+use Rattle.pipe_core.specs.hazard_core.Held.{found_cell, answer_cell}
 use Rattle.program_plan.specs.ReadCells.{ReadCellsAreFirst, AccessesAreAligned}
 use Rattle.program_plan.proofs.Reading.{found_there, answer_there, found_reads, answer_reads}
 

@@ -6,8 +6,8 @@ use Rattle.std.specs.Int.{w64, cast_unsigned}
 use Rattle.std.proofs.lemmas.Bool.{cases_lt, ltb-true}
 use Rattle.std.proofs.lemmas.List.Elements.{All-contains, All-contains_itself, All-cons, All-nil}
 use Rattle.std.proofs.lemmas.List.Sums.{passes_at_first, fails_before_first}
-use Rattle.xdp_maps.specs.declared.decl.MapDecl.{MapDecl}
-use Rattle.xdp_maps.specs.declared.errno.TheConstants.{ENOENT, E2BIG, EEXIST, EINVAL}
+use Rattle.cell_core.specs.xdp_maps.declared.decl.MapDecl.{MapDecl}
+use Rattle.cell_core.specs.xdp_maps.declared.errno.TheConstants.{ENOENT, E2BIG, EEXIST, EINVAL}
 use Rattle.cell_core.specs.declared.operator.Operator.TheVariants.{Found, Answer}
 use Rattle.cell_core.specs.Acts.{pointer_operand, asks, says_done}
 use Rattle.cell_core.specs.Cells.{CellView, no_cell, cell_at, site_in, bit, bits_from}
@@ -15,10 +15,10 @@ use Rattle.cell_core.specs.Sites.{ProgramView, site_at}
 use Rattle.cell_core.specs.Formed.{AreFormed, AreSited}
 use Rattle.cell_core.specs.Rows.{greatest}
 use Rattle.held_cells.specs.Reading.{SiteIsRead, ReadsAreMade}
-use Rattle.hazard_core.specs.Tables.{decl_of}
-use Rattle.hazard_core.specs.Held.{is_found_of, is_answer_of, found_cell, answer_cell, read_cells}
+use Rattle.pipe_core.specs.hazard_core.Tables.{decl_of}
+use Rattle.pipe_core.specs.hazard_core.Held.{is_found_of, is_answer_of, found_cell, answer_cell, read_cells}
 use Rattle.predicate_core.specs.Buildable.{IsBuildable}
-use Rattle.row_plan.specs.Plan.{Plan, IsPlan}
+use Rattle.pipe_core.specs.row_plan.Plan.{Plan, IsPlan}
 use Rattle.pipe_core.specs.Agreement.{ReadsArePlanned}
 use Rattle.pipe_core.specs.Pipeable.{TellsDone}
 use Rattle.program_plan.specs.Suited.{build_of}

@@ -3,10 +3,10 @@ use Rattle.std.proofs.Common.{suc, ◌≤◌, refl, arith}
 use Rattle.cell_core.specs.Sites.{site_at}
 use Rattle.cell_core.specs.Rows.{RowsRise, taken_by}
 use Rattle.cell_core.specs.CellLaws.{HaveValues}
-use Rattle.xdp_machine.specs.State.{PacketIn}
+use Rattle.cell_core.specs.xdp_machine.State.{PacketIn}
 use Rattle.held_cells.specs.Reading.{RowsStandBehind}
-use Rattle.hazard_core.specs.Tables.{TableState}
-use Rattle.hazard_core.specs.Held.{Held}
+use Rattle.pipe_core.specs.hazard_core.Tables.{TableState}
+use Rattle.pipe_core.specs.hazard_core.Held.{Held}
 use Rattle.pipe_core.specs.Machine.{Build}
 use Rattle.pipe_core.specs.Pipeable.{IsOwn, FitsReads}
 use Rattle.program_plan.specs.Suited.{ProgramsAreSuited, build_of}

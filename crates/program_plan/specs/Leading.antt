@@ -1,16 +1,16 @@
 -- Accesses go through pointers into their own maps, whatever a packet holds of its reads.
 use Rattle.std.specs.Prelude.{ℕ, suc, ◌≡◌, ◌<◌, true, None, length, slice_index}
-use Rattle.xdp_machine.specs.State.{PacketIn}
+use Rattle.cell_core.specs.xdp_machine.State.{PacketIn}
 use Rattle.cell_core.specs.declared.operator.Operator.TheVariants.{Answer}
 use Rattle.cell_core.specs.Acts.{is_access, pointer_operand}
 use Rattle.cell_core.specs.Cells.{cell_at, site_in}
 use Rattle.cell_core.specs.Sites.{ProgramView, site_at, records}
 use Rattle.held_cells.specs.Paths.{GraphView}
 use Rattle.held_cells.specs.Law.{IsLaw}
-use Rattle.hazard_core.specs.Tables.{TableState}
-use Rattle.hazard_core.specs.Held.{Held, access_pointer, written_pointer}
+use Rattle.pipe_core.specs.hazard_core.Tables.{TableState}
+use Rattle.pipe_core.specs.hazard_core.Held.{Held, access_pointer, written_pointer}
 use Rattle.table_laws.specs.Leading.{LeadsInto, FoundsLead}
-use Rattle.row_plan.specs.Plan.{Plan, IsPlan}
+use Rattle.pipe_core.specs.row_plan.Plan.{Plan, IsPlan}
 use Rattle.pipe_core.specs.Machine.{Build}
 use Rattle.pipe_core.specs.Agreement.{IsMade, ReadsFit}
 use Rattle.program_plan.specs.Suited.{build_of}

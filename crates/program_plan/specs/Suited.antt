@@ -4,7 +4,7 @@ use Rattle.cell_core.specs.Sites.{ProgramView}
 use Rattle.held_cells.specs.Paths.{GraphView}
 use Rattle.held_cells.specs.Law.{IsLaw}
 use Rattle.predicate_core.specs.Buildable.{IsBuildable}
-use Rattle.row_plan.specs.Plan.{Plan, IsPlan}
+use Rattle.pipe_core.specs.row_plan.Plan.{Plan, IsPlan}
 use Rattle.pipe_core.specs.Machine.{Build}
 use Rattle.pipe_core.specs.Pipeable.{IsSuited}
 

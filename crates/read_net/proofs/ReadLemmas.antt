@@ -3,18 +3,18 @@ use Rattle.std.specs.Prelude.{not}
 use Rattle.std.proofs.Common.{◌≡◌, ◌∙◌, ℕ, zero, suc, ◌+◌, ◌*◌, ◌<◌, ◌==◌, Bool, true, false, All, List, [], ◌∷◌, ◌++◌, refl, sym, ap, subst, arith}
 use Rattle.std.proofs.lemmas.Bool.{eqb-true, and_parts}
 use Rattle.std.proofs.lemmas.List.Elements.{filter_passes}
-use Rattle.net_core.specs.Value.{Env}
-use Rattle.xdp_machine.specs.State.{PacketIn}
+use Rattle.cell_nets.specs.net_core.Value.{Env}
+use Rattle.cell_core.specs.xdp_machine.State.{PacketIn}
 use Rattle.block_core.specs.declared.name.Name.{Name}
 use Rattle.block_core.specs.Blocks.{BlockWireTree}
 use Rattle.cell_core.specs.Cells.{CellView, bit, on, bits_from}
 use Rattle.cell_core.specs.Rows.{numbers}
 use Rattle.cell_core.specs.Sites.{ProgramView, site_at}
-use Rattle.hazard_core.specs.Tables.{TableState}
-use Rattle.hazard_core.specs.declared.pointer.Pointer.{Pointer}
-use Rattle.hazard_core.specs.declared.pointer.Pointer.TheVariants.{Null, InSlot, Pending}
-use Rattle.hazard_core.specs.Held.{Held, is_null, is_pending, pending}
-use Rattle.hazard_core.specs.Overlay.{found_pointer, answer_over}
+use Rattle.site_operands.specs.hazard_core.Tables.{TableState}
+use Rattle.site_operands.specs.hazard_core.declared.pointer.Pointer.{Pointer}
+use Rattle.site_operands.specs.hazard_core.declared.pointer.Pointer.TheVariants.{Null, InSlot, Pending}
+use Rattle.site_operands.specs.hazard_core.Held.{Held, is_null, is_pending, pending}
+use Rattle.site_operands.specs.hazard_core.Overlay.{found_pointer, answer_over}
 use Rattle.cell_nets.specs.declared.operand.Operand.{Operand}
 use Rattle.cell_nets.specs.Operands.{number_in, IsAvailable}
 use Rattle.cell_nets.specs.Wires.{always, Gives}
@@ -25,7 +25,7 @@ use Rattle.step_nets.proofs.ChainLaws.{next, ends}
 use Rattle.read_net.specs.declared.finding.FoundNets.{FoundNets}
 use Rattle.read_net.specs.declared.sites.OwnSite.{OwnSite}
 use Rattle.read_net.specs.declared.sites.MapNets.{MapNets}
-use Rattle.read_net.specs.Reads.{taken, Shows, IsFound, Finds, IsReadOf, Reads}
+use Rattle.read_net.specs.Reads.{taken, ShowsBoth, IsFound, Finds, IsReadOf, Reads}
 use Rattle.read_net.specs.Sites.{sites_of, IsOwn}
 use Rattle.read_net.proofs.StandLemmas.{one_of}
 
@@ -56,12 +56,12 @@ module _ {N : Type 0} (p : ProgramView) (t : TableState) (row : ℕ → ℕ) (r 
       maps (o ∷ os) h (suc k) d lt = maps os (λ n e l. h (suc n) e (omega (arith, l))) k d (omega (arith, lt))
 
 -- ---- what stands for its cells
-module _ {P : Type 0} (part : P) (old mid : List (BlockWireTree (Name P))) (m : MapNets (Name P)) (s : OwnSite (Name P)) (ss : List (OwnSite (Name P))) (p : ProgramView) (t : TableState) (h : Held) (row : ℕ → ℕ) (r : ℕ) (packet : PacketIn) (c : CellView) (is : IsReadOf p t row r m s ss)
-    (f : FoundNets (Name P)) (found : IsFound m ss f) (x : Stands part old mid (taken m s ss) (λ v. Shows v p t h m s ss) (f.key ∷ f.found ∷ all_read f.pending.items ++ taken m s ss) (λ v. Finds v p t h m s ss f)) where
+module _ {P : Type 0} (part : P) (old mid : List (BlockWireTree (Name P))) (m : MapNets (Name P)) (s : OwnSite (Name P)) (ss : List (OwnSite (Name P))) (p : ProgramView) (t : TableState) (h : Held) (row : ℕ → ℕ) (r : ℕ) (packet : PacketIn) (c : CellView) (is : IsReadOf p t row r m s ss) (slot : Operand (Name P))
+    (f : FoundNets (Name P)) (found : IsFound m ss f) (x : Stands part old mid (slot ∷ taken m s ss) (λ v. ShowsBoth v p t h m s ss slot) (f.key ∷ f.found ∷ all_read f.pending.items ++ taken m s ss) (λ v. Finds v p t h m s ss f)) where
   pub reads_found :
       (low new : List (BlockWireTree (Name P))) (bs : List (Operand (Name P))) (more : Env (Name P) → Type 0) (from width : ℕ) (there answer : Operand (Name P)) → Gives part mid low (f.found ∷ []) always (λ v. bit (on (number_in v f.found))) 1 there
       → Gives part low new bs more (λ v. bits_from (answer_over p t h (sites_of ss) s.site) from width) width answer → ((ins : List (Operand (Name P))) → All (IsAvailable ins) (f.key ∷ f.found ∷ all_read f.pending.items ++ taken m s ss) → All (IsAvailable ins) bs)
-      → ((v : Env (Name P)) → Finds v p t h m s ss f → more v) → Reads part old new m s ss from width p t h row r packet c (record { found = f.found; there = there; answer = answer })
+      → ((v : Env (Name P)) → Finds v p t h m s ss f → more v) → Reads part old new m s ss slot from width p t h row r packet c (record { found = f.found; there = there; answer = answer })
   reads_found low new bs more from width there answer y z sub enough =
       let all = next (next x y (λ ins a. one_of (IsAvailable ins) f.found (a 1 f.found (omega arith))) (λ v fit k. tt)) z (λ ins a. sub ins (λ n d lt. a (suc n) d (omega (arith, lt)))) (λ v fit k. enough v k.0) in
       record {

@@ -1,16 +1,13 @@
 -- The operands of sites, and the key that a site asks for.
-use Rattle.std.proofs.Common.{◌≡◌, ◌∙◌, ◌⊎◌, inl, inr, ℕ, zero, suc, ◌+◌, ◌<◌, ◌≤◌, All, List, [], ◌∷◌, ◌++◌, length, get_or, refl, sym, ap, subst, arith, map as map_list}
+use Rattle.std.proofs.Common.{◌≡◌, ◌∙◌, ◌⊎◌, inl, inr, ℕ, zero, suc, ◌+◌, ◌<◌, ◌≤◌, All, List, [], ◌∷◌, ◌++◌, length, get_or, sym, ap, subst, arith, map as map_list}
 use Rattle.std.proofs.lemmas.Bool.{cases_lt}
 use Rattle.std.proofs.lemmas.List.{get_or-map, get_or_append_left, get_or_default, get_or_push, length-map}
 use Rattle.std.proofs.lemmas.List.Elements.{All-append}
-use Rattle.net_core.specs.Value.{Env}
+use Rattle.cell_nets.specs.net_core.Value.{Env}
 use Rattle.xdp_maps.specs.declared.decl.MapDecl.{MapDecl}
-use Rattle.xdp_maps.specs.Operations.{key_in}
-use Rattle.cell_core.specs.declared.site.Act.{Act}
-use Rattle.cell_core.specs.declared.site.Act.TheVariants as act
-use Rattle.cell_core.specs.Sites.{ProgramView, site_at, bytes_of, operation_with}
-use Rattle.hazard_core.specs.Tables.{TableState, decl_of}
-use Rattle.hazard_core.specs.Held.{Held, held_value, asked_key}
+use Rattle.cell_core.specs.Sites.{ProgramView, site_at, bytes_of}
+use Rattle.site_operands.specs.hazard_core.Tables.{TableState, decl_of}
+use Rattle.site_operands.specs.hazard_core.Held.{Held, held_value, asked_key}
 use Rattle.cell_nets.specs.declared.operand.Operand.{Operand}
 use Rattle.cell_nets.specs.Operands.{number_in}
 use Rattle.site_operands.specs.Sites.{SiteOperands, all_of, ShowsAsked}
@@ -18,6 +15,7 @@ use Rattle.site_operands.specs.declared.Pending.{Pending}
 use Rattle.overlay_net.specs.Seen.{read_of, all_read}
 use Rattle.read_net.specs.declared.sites.OwnSite.{OwnSite}
 use Rattle.read_net.specs.Sites.{cells_of, all_cells, sites_of}
+use Rattle.read_net.proofs.KeyLaws.{key_is}
 use Rattle.read_net.proofs.StandLemmas.{left_of, right_of}
 
 -- ---- operands
@@ -37,14 +35,6 @@ module _ {N : Type 0} (Q : Operand N → Type 0) where
   read_push (o ∷ ds) d h k = All-append Q (read_of o) (all_read (ds ++ d ∷ [])) (left_of Q (read_of o) (all_read ds) h) (read_push ds d (right_of Q (read_of o) (all_read ds) h) k)
 
 -- ---- keys
-key_is : (d : MapDecl) (a : Act) (ks xs : List ℕ) → key_in (operation_with d a ks xs) ≡ bytes_of d.key ks
-key_is d act.Lookup ks xs = refl
-key_is d (act.Load at size) ks xs = refl
-key_is d act.Update ks xs = refl
-key_is d act.Delete ks xs = refl
-key_is d (act.Store at size) ks xs = refl
-key_is d (act.Atomic at a) ks xs = refl
-
 pub shown_key : {N : Type 0} (v : Env N) (p : ProgramView) (t : TableState) (h : Held) (j : ℕ) (d : MapDecl) (s : SiteOperands N) → decl_of t.decls (site_at p.sites j).map ≡ d → ShowsAsked v p h j s → bytes_of d.key (map_list (number_in v) s.key) ≡ asked_key t.decls h (site_at p.sites j)
 shown_key v p t h j d s e k =
     ap (bytes_of d.key) k.key

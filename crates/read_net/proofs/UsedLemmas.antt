@@ -8,9 +8,9 @@ use Rattle.xdp_maps.specs.Contents.{IsWithinLimits, limits_as, index_key}
 use Rattle.xdp_maps.specs.declared.decl.MapDecl.{MapDecl}
 use Rattle.xdp_maps.specs.declared.decl.MapKind.{MapKind}
 use Rattle.xdp_maps.specs.declared.decl.MapKind.TheVariants.{Hash, Array}
-use Rattle.hazard_core.specs.declared.slot.Slot.{Slot}
-use Rattle.hazard_core.specs.Tables.{slot_at, has_key, used_count}
-use Rattle.hazard_core.specs.Tabled.{IsTable, IsFilledTable}
+use Rattle.site_operands.specs.hazard_core.declared.slot.Slot.{Slot}
+use Rattle.site_operands.specs.hazard_core.Tables.{slot_at, has_key, used_count}
+use Rattle.site_operands.specs.hazard_core.Tabled.{IsTable, IsFilledTable}
 
 kept : (slots : List Slot) (keys : ℕ → List ℕ) → ((n : ℕ) → n < length slots → has_key (keys n) (slot_at slots n) ≡ true) → length (filter (λ (s : Slot). s.used) slots) ≡ length slots
 kept [] keys h = refl

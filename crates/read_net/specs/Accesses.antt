@@ -1,12 +1,12 @@
 -- What an access takes besides: operations that fit the values of its map, and a word of the table.
 use Rattle.std.specs.Prelude.{◌≡◌, ℕ, All, List, length}
-use Rattle.net_core.specs.Value.{Env}
+use Rattle.cell_nets.specs.net_core.Value.{Env}
 use Rattle.cell_core.specs.Formed.{HasWords, IsInside}
 use Rattle.cell_core.specs.Sites.{ProgramView, site_at}
-use Rattle.hazard_core.specs.Tables.{TableState, table_at, slot_at}
-use Rattle.hazard_core.specs.Commits.{word_at}
-use Rattle.hazard_core.specs.declared.pointer.Pointer.{Pointer}
-use Rattle.hazard_core.specs.declared.pointer.Pointer.TheVariants.{InSlot}
+use Rattle.site_operands.specs.hazard_core.Tables.{TableState, table_at, slot_at}
+use Rattle.site_operands.specs.hazard_core.Commits.{word_at}
+use Rattle.site_operands.specs.hazard_core.declared.pointer.Pointer.{Pointer}
+use Rattle.site_operands.specs.hazard_core.declared.pointer.Pointer.TheVariants.{InSlot}
 use Rattle.cell_nets.specs.declared.operand.Operand.{Operand}
 use Rattle.cell_nets.specs.Operands.{number_in}
 use Rattle.value_net.specs.Words.{IsAligned}

@@ -1,22 +1,22 @@
 -- The read of a site: what it takes, and what stands for its cells.
-use Rattle.std.specs.Prelude.{◌≡◌, ℕ, All, List, ◌++◌}
-use Rattle.net_core.specs.Value.{Env}
-use Rattle.xdp_machine.specs.State.{PacketIn}
+use Rattle.std.specs.Prelude.{◌≡◌, ℕ, All, List, ◌∷◌, ◌++◌}
+use Rattle.cell_nets.specs.net_core.Value.{Env}
+use Rattle.cell_core.specs.xdp_machine.State.{PacketIn}
 use Rattle.block_core.specs.declared.name.Name.{Name}
 use Rattle.block_core.specs.Blocks.{BlockWireTree}
 use Rattle.cell_core.specs.declared.operator.Operator.TheVariants.{Found, Answer}
 use Rattle.cell_core.specs.Cells.{CellView, bits_from}
 use Rattle.cell_core.specs.Sites.{ProgramView, site_at}
-use Rattle.hazard_core.specs.Tables.{TableState}
-use Rattle.hazard_core.specs.Held.{Held, pending}
-use Rattle.hazard_core.specs.Overlay.{found_pointer}
-use Rattle.hazard_core.specs.Rows.{cell_pointer, cell_number}
+use Rattle.site_operands.specs.hazard_core.Tables.{TableState}
+use Rattle.site_operands.specs.hazard_core.Held.{Held, pending}
+use Rattle.site_operands.specs.hazard_core.Overlay.{found_pointer}
+use Rattle.site_operands.specs.hazard_core.Rows.{cell_pointer, cell_number}
 use Rattle.cell_nets.specs.declared.operand.Operand.{Operand}
 use Rattle.cell_nets.specs.Operands.{number_in, IsOperand}
 use Rattle.cell_nets.specs.Wires.{HasBits, Gives}
 use Rattle.site_operands.specs.Pointers.{pointer_number}
 use Rattle.site_operands.specs.Sites.{operands_of, ShowsAsked}
-use Rattle.overlay_net.specs.Reading.{ShowsKey}
+use Rattle.overlay_net.specs.Reading.{ShowsKey, ShowsSlot}
 use Rattle.overlay_net.specs.Seen.{IsSeen, ShowPending}
 use Rattle.read_net.specs.declared.finding.FoundNets.{FoundNets}
 use Rattle.read_net.specs.declared.sites.OwnSite.{OwnSite}
@@ -33,6 +33,10 @@ pub record Shows {N : Type 0} (v : Env N) (p : ProgramView) (t : TableState) (h 
   pub asked : ShowsAsked v p h s.site (operands_of s.nets.now)
   pub earlier : All (ShowsOwn v p h) ss
   pub table : ShowsTable v t (site_at p.sites s.site).map m
+
+-- where it looks for a key, besides the slot under it, as the operand that is given of it
+abbrev pub ShowsBoth : {N : Type 0} → Env N → ProgramView → TableState → Held → MapNets N → OwnSite N → List (OwnSite N) → Operand N → Type 0
+ShowsBoth v p t h m s ss slot = Shows v p t h m s ss × ShowsSlot v p t h s.site slot
 
 -- ---- operands of what it finds
 pub record IsFound {N : Type 0} (m : MapNets N) (ss : List (OwnSite N)) (r : FoundNets N) : Type 0 where
@@ -67,7 +71,7 @@ pub record AreCells {N : Type 0} (bits width : ℕ) (o : ReadNets N) : Type 0 wh
 
 -- Wires become more, and behind them operands stand for the cells that a site reads in a row: for the pointer of the one that says whether its key is
 -- there, for its value, and for bits of its answer.
-pub record Reads {P : Type 0} (part : P) (old new : List (BlockWireTree (Name P))) (m : MapNets (Name P)) (s : OwnSite (Name P)) (ss : List (OwnSite (Name P))) (from width : ℕ) (p : ProgramView) (t : TableState) (h : Held) (row : ℕ → ℕ) (r : ℕ) (packet : PacketIn) (c : CellView) (o : ReadNets (Name P)) : Type 0 where
-  pub found : Gives part old new (taken m s ss) (λ v. Shows v p t h m s ss) (λ v. pointer_number (cell_pointer p row r t h c (Found s.site))) m.bits o.found
-  pub there : Gives part old new (taken m s ss) (λ v. Shows v p t h m s ss) (λ v. cell_number p row r t packet h c (Found s.site)) 1 o.there
-  pub answer : Gives part old new (taken m s ss) (λ v. Shows v p t h m s ss) (λ v. bits_from (cell_number p row r t packet h c (Answer s.site)) from width) width o.answer
+pub record Reads {P : Type 0} (part : P) (old new : List (BlockWireTree (Name P))) (m : MapNets (Name P)) (s : OwnSite (Name P)) (ss : List (OwnSite (Name P))) (slot : Operand (Name P)) (from width : ℕ) (p : ProgramView) (t : TableState) (h : Held) (row : ℕ → ℕ) (r : ℕ) (packet : PacketIn) (c : CellView) (o : ReadNets (Name P)) : Type 0 where
+  pub found : Gives part old new (slot ∷ taken m s ss) (λ v. ShowsBoth v p t h m s ss slot) (λ v. pointer_number (cell_pointer p row r t h c (Found s.site))) m.bits o.found
+  pub there : Gives part old new (slot ∷ taken m s ss) (λ v. ShowsBoth v p t h m s ss slot) (λ v. cell_number p row r t packet h c (Found s.site)) 1 o.there
+  pub answer : Gives part old new (slot ∷ taken m s ss) (λ v. ShowsBoth v p t h m s ss slot) (λ v. bits_from (cell_number p row r t packet h c (Answer s.site)) from width) width o.answer

@@ -1,14 +1,14 @@
 -- The sites of a packet's own operations on a map, and what stands for them and for the slots of its table.
 use Rattle.std.specs.Prelude.{◌≡◌, ℕ, ◌+◌, ◌*◌, ◌^◌, ◌<◌, ◌≤◌, All, List, [], ◌∷◌, ◌++◌, length, map as map_list}
 use Rattle.std.proofs.Common.{get_or}
-use Rattle.net_core.specs.Value.{Env}
+use Rattle.cell_nets.specs.net_core.Value.{Env}
 use Rattle.xdp_maps.specs.Contents.{IsWithinLimits}
 use Rattle.xdp_maps.specs.declared.decl.MapDecl.{MapDecl}
 use Rattle.xdp_maps.specs.declared.decl.MapKind.TheVariants as kind
 use Rattle.cell_core.specs.Sites.{ProgramView, site_at}
-use Rattle.hazard_core.specs.Tables.{TableState, decl_of, table_at, used_count}
-use Rattle.hazard_core.specs.Tabled.{IsTable}
-use Rattle.hazard_core.specs.Held.{Held}
+use Rattle.site_operands.specs.hazard_core.Tables.{TableState, decl_of, table_at, used_count}
+use Rattle.site_operands.specs.hazard_core.Tabled.{IsTable}
+use Rattle.site_operands.specs.hazard_core.Held.{Held}
 use Rattle.cell_nets.specs.declared.operand.Operand.{Operand}
 use Rattle.cell_nets.specs.Operands.{number_in, IsOperand, IsNarrow}
 use Rattle.site_operands.specs.declared.Pending.{Pending}

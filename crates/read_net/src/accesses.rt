@@ -1,13 +1,13 @@
 //! The read of a load and of an atomic change.
 
 ghost use Rattle.std.specs.Prelude.{ℕ, ◌≡◌, ◌∷◌, ◌/◌, ◌≤◌, true, All, IfOk};
-ghost use Rattle.xdp_machine.specs.State.{PacketIn};
+ghost use Rattle.cell_core.specs.xdp_machine.State.{PacketIn};
 ghost use Rattle.cell_core.specs.declared.operator.Operator.TheVariants.{Answer};
 ghost use Rattle.cell_core.specs.Cells.{CellView, bits_from};
 ghost use Rattle.cell_core.specs.Sites.{ProgramView, site_at};
-ghost use Rattle.hazard_core.specs.Held.{Held, access_pointer};
-ghost use Rattle.hazard_core.specs.Rows.{cell_number};
-ghost use Rattle.hazard_core.specs.Tables.{TableState};
+ghost use Rattle.site_operands.specs.hazard_core.Held.{Held, access_pointer};
+ghost use Rattle.site_operands.specs.hazard_core.Rows.{cell_number};
+ghost use Rattle.site_operands.specs.hazard_core.Tables.{TableState};
 ghost use Rattle.cell_nets.specs.Operands.{IsOperand};
 ghost use Rattle.cell_nets.specs.Wires.{wires_of, Gives};
 ghost use Rattle.value_net.specs.Pendings.{HasValue};

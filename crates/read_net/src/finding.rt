@@ -2,16 +2,15 @@
 
 ghost use Rattle.std.specs.Prelude.{◌≡◌, ◌∷◌, ◌++◌, ◌*◌, ◌≤◌, All, length, IfOk};
 ghost use Rattle.cell_core.specs.Sites.{ProgramView, site_at};
-ghost use Rattle.hazard_core.specs.Held.{Held};
-ghost use Rattle.hazard_core.specs.Tables.{TableState};
+ghost use Rattle.site_operands.specs.hazard_core.Held.{Held};
+ghost use Rattle.site_operands.specs.hazard_core.Tables.{TableState};
 ghost use Rattle.cell_nets.specs.Operands.{IsOperand};
-ghost use Rattle.cell_nets.specs.Wires.{wires_of};
+ghost use Rattle.cell_nets.specs.Wires.{wires_of, HasBits};
 ghost use Rattle.overlay_net.specs.Seen.{all_read};
 ghost use Rattle.step_nets.specs.Standing.{Stands};
 ghost use Rattle.read_net.specs.Sites.{cells_of, IsMap, IsWhole, IsOwn, IsMapOf};
-ghost use Rattle.read_net.specs.Reads.{taken, Shows, IsFound, Finds};
+ghost use Rattle.read_net.specs.Reads.{taken, ShowsBoth, IsFound, Finds};
 
-use crate::looking::slot_under;
 use crate::pendings::pendings;
 use crate::sites::{MapNets, OwnSite};
 use block_core::block::BlockWire;
@@ -29,7 +28,7 @@ pub(crate) struct FoundNets<'a, N> {
     pub found: Operand<N>,
 }
 
-/// What a site finds under its key, over the packet's earlier operations.
+/// What a site finds under its key, over the packet's earlier operations, by the slot of the table under it.
 pub(crate) fn find<'a, P: Copy>(
     alloc: Global,
     wires: &mut Vec<BlockWire<Name<P>>>,
@@ -37,16 +36,18 @@ pub(crate) fn find<'a, P: Copy>(
     map: &MapNets<'_, Name<P>>,
     site: &OwnSite<'_, Name<P>>,
     earlier: &[OwnSite<'a, Name<P>>],
+    slot: Operand<Name<P>>,
 ) -> Result<FoundNets<'a, Name<P>>, AllocError>
     requires map { IsMap map.now }
     requires operands { All IsOperand (cells_of site.now) }
     requires key { map.now.decl.now.key ≤ 8 * length site.now.nets.now.key.items }
     requires earlier { All (IsWhole map.now) earlier.now }
+    requires slot { IsOperand slot }
+    requires bits { HasBits map.now.bits slot }
     ensures operands { IfOk result (IsFound map.now earlier.now) }
-    ensures stands { (p : ProgramView) (t : TableState) (h : Held) → (site_at p.sites site.now.site).act ≡ site.now.act → All (IsOwn p (site_at p.sites site.now.site).map) earlier.now → IsMapOf t (site_at p.sites site.now.site).map map.now.decl.now → IfOk result (λ r. Stands part (wires_of wires.old.items) (wires_of wires.new.items) (taken map.now site.now earlier.now)
-        (λ v. Shows v p t h map.now site.now earlier.now) (r.key ∷ r.found ∷ all_read r.pending.items ++ taken map.now site.now earlier.now) (λ v. Finds v p t h map.now site.now earlier.now r)) }
+    ensures stands { (p : ProgramView) (t : TableState) (h : Held) → (site_at p.sites site.now.site).act ≡ site.now.act → All (IsOwn p (site_at p.sites site.now.site).map) earlier.now → IsMapOf t (site_at p.sites site.now.site).map map.now.decl.now → IfOk result (λ r. Stands part (wires_of wires.old.items) (wires_of wires.new.items) (slot ∷ taken map.now site.now earlier.now)
+        (λ v. ShowsBoth v p t h map.now site.now earlier.now slot) (r.key ∷ r.found ∷ all_read r.pending.items ++ taken map.now site.now earlier.now) (λ v. Finds v p t h map.now site.now earlier.now r)) }
 {
-    let slot = slot_under(alloc, wires, part, map, site.nets)?;
     let pending = pendings(alloc, wires, part, map, earlier)?;
     let key = key_pointer(
         alloc, wires, part, map.bits, map.decl, site.nets, &pending, slot,

@@ -3,7 +3,7 @@
 
 pub mod accesses;
 mod finding;
-mod looking;
+pub mod looking;
 pub mod lookups;
 pub mod pendings;
 pub mod sites;

@@ -2,8 +2,8 @@
 
 ghost use Rattle.std.specs.Prelude.{ℕ, ◌≡◌, ◌*◌, ◌≤◌, ◌++◌, All, length, IfOk};
 ghost use Rattle.cell_core.specs.Sites.{ProgramView, site_at};
-ghost use Rattle.hazard_core.specs.Held.{Held, asked_key, slot_pointer};
-ghost use Rattle.hazard_core.specs.Tables.{TableState, table_at};
+ghost use Rattle.site_operands.specs.hazard_core.Held.{Held, asked_key, slot_pointer};
+ghost use Rattle.site_operands.specs.hazard_core.Tables.{TableState, table_at};
 ghost use Rattle.cell_nets.specs.Operands.{IsOperand};
 ghost use Rattle.cell_nets.specs.Wires.{wires_of, HasBits, Gives};
 ghost use Rattle.site_operands.specs.Pointers.{pointer_number};
@@ -21,7 +21,7 @@ use std::alloc::{AllocError, Global};
 use xdp_maps::decl::MapKind;
 
 /// The number of the pointer to the slot that is used under the key of a site, 0 where there is none.
-pub(crate) fn slot_under<P: Copy>(
+pub fn slot_under<P: Copy>(
     alloc: Global,
     wires: &mut Vec<BlockWire<Name<P>>>,
     part: P,

@@ -4,8 +4,8 @@ ghost use Rattle.std.specs.Prelude.{ℕ, ◌∷◌, ◌++◌, ◌≡◌, All, If
 ghost use Rattle.xdp_maps.specs.declared.decl.MapKind.TheVariants as kind;
 ghost use Rattle.cell_core.specs.declared.site.Act.TheVariants as does;
 ghost use Rattle.cell_core.specs.Sites.{ProgramView};
-ghost use Rattle.hazard_core.specs.Held.{Held};
-ghost use Rattle.hazard_core.specs.Tables.{TableState};
+ghost use Rattle.site_operands.specs.hazard_core.Held.{Held};
+ghost use Rattle.site_operands.specs.hazard_core.Tables.{TableState};
 ghost use Rattle.cell_nets.specs.Operands.{IsOperand};
 ghost use Rattle.cell_nets.specs.Wires.{wires_of, HasBits};
 ghost use Rattle.overlay_net.specs.Reading.{ShowsSlot};

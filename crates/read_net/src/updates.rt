@@ -1,18 +1,18 @@
 //! The reads of an update and of a delete.
 
 ghost use Rattle.std.specs.Prelude.{ℕ, ◌≡◌, ◌*◌, ◌<◌, ◌≤◌, All, List, length, IfOk};
-ghost use Rattle.xdp_machine.specs.State.{PacketIn};
+ghost use Rattle.cell_core.specs.xdp_machine.State.{PacketIn};
 ghost use Rattle.cell_core.specs.declared.site.Act.TheVariants as does;
 ghost use Rattle.cell_core.specs.Cells.{CellView};
 ghost use Rattle.cell_core.specs.Sites.{ProgramView};
-ghost use Rattle.hazard_core.specs.Held.{Held};
-ghost use Rattle.hazard_core.specs.Tables.{TableState, used_count};
-ghost use Rattle.hazard_core.specs.Tabled.{IsTable};
-ghost use Rattle.hazard_core.specs.declared.slot.Slot.{Slot};
+ghost use Rattle.site_operands.specs.hazard_core.Held.{Held};
+ghost use Rattle.site_operands.specs.hazard_core.Tables.{TableState, used_count};
+ghost use Rattle.site_operands.specs.hazard_core.Tabled.{IsTable};
+ghost use Rattle.site_operands.specs.hazard_core.declared.slot.Slot.{Slot};
 ghost use Rattle.xdp_maps.specs.declared.decl.MapKind.TheVariants as kind;
-ghost use Rattle.net_core.specs.Value.{Env};
+ghost use Rattle.cell_nets.specs.net_core.Value.{Env};
 ghost use Rattle.cell_nets.specs.Operands.{IsOperand, IsNarrow, IsAvailable, number_in};
-ghost use Rattle.cell_nets.specs.Wires.{wires_of};
+ghost use Rattle.cell_nets.specs.Wires.{wires_of, HasBits};
 ghost use Rattle.read_net.specs.Sites.{cells_of, slot_cells, IsMap, IsWhole};
 ghost use Rattle.read_net.specs.Reads.{AreCells, IsReadOf, Reads};
 
@@ -40,7 +40,8 @@ fn used_slots<N: Copy>(map: &MapNets<'_, N>) -> Operand<N>
     }
 }
 
-/// What an update reads: where its key is, over the packet's earlier operations on the map, and so many bits, from one on, of its answer.
+/// What an update reads: where its key is, over the packet's earlier operations on the map, and so many bits, from one on, of its answer. `slot` is the
+/// slot of the table under its key.
 pub fn update<P: Copy>(
     alloc: Global,
     wires: &mut Vec<BlockWire<Name<P>>>,
@@ -48,6 +49,7 @@ pub fn update<P: Copy>(
     map: &MapNets<'_, Name<P>>,
     site: &OwnSite<'_, Name<P>>,
     earlier: &[OwnSite<'_, Name<P>>],
+    slot: Operand<Name<P>>,
     from: u8,
     width: u8,
 ) -> Result<ReadNets<Name<P>>, AllocError>
@@ -57,13 +59,15 @@ pub fn update<P: Copy>(
     requires key { map.now.decl.now.key ≤ 8 * length site.now.nets.now.key.items }
     requires earlier { All (IsWhole map.now) earlier.now }
     requires few { length earlier.now < 65536 }
+    requires slot { IsOperand slot }
+    requires bits { HasBits map.now.bits slot }
     requires from { from ≤ 63 }
     requires width { width ≤ 64 }
     ensures cells { IfOk result (AreCells map.now.bits width) }
     ensures reads { (p : ProgramView) (t : TableState) (h : Held) (row : ℕ → ℕ) (r : ℕ) (packet : PacketIn) (c : CellView) → IsReadOf p t row r map.now site.now earlier.now
-        → IfOk result (Reads part (wires_of wires.old.items) (wires_of wires.new.items) map.now site.now earlier.now from width p t h row r packet c) }
+        → IfOk result (Reads part (wires_of wires.old.items) (wires_of wires.new.items) map.now site.now earlier.now slot from width p t h row r packet c) }
 {
-    let own = find(alloc, wires, part, map, site, earlier)?;
+    let own = find(alloc, wires, part, map, site, earlier, slot)?;
     let there = truth(alloc, wires, part, own.found)?;
     let used = used_slots(map);
     let answer = update_answer(
@@ -85,7 +89,8 @@ pub fn update<P: Copy>(
     })
 }
 
-/// What a delete reads: where its key is, over the packet's earlier operations on the map, and so many bits, from one on, of its answer.
+/// What a delete reads: where its key is, over the packet's earlier operations on the map, and so many bits, from one on, of its answer. `slot` is the
+/// slot of the table under its key.
 pub fn delete<P: Copy>(
     alloc: Global,
     wires: &mut Vec<BlockWire<Name<P>>>,
@@ -93,6 +98,7 @@ pub fn delete<P: Copy>(
     map: &MapNets<'_, Name<P>>,
     site: &OwnSite<'_, Name<P>>,
     earlier: &[OwnSite<'_, Name<P>>],
+    slot: Operand<Name<P>>,
     from: u8,
     width: u8,
 ) -> Result<ReadNets<Name<P>>, AllocError>
@@ -101,13 +107,15 @@ pub fn delete<P: Copy>(
     requires operands { All IsOperand (cells_of site.now) }
     requires key { map.now.decl.now.key ≤ 8 * length site.now.nets.now.key.items }
     requires earlier { All (IsWhole map.now) earlier.now }
+    requires slot { IsOperand slot }
+    requires bits { HasBits map.now.bits slot }
     requires from { from ≤ 63 }
     requires width { width ≤ 64 }
     ensures cells { IfOk result (AreCells map.now.bits width) }
     ensures reads { (p : ProgramView) (t : TableState) (h : Held) (row : ℕ → ℕ) (r : ℕ) (packet : PacketIn) (c : CellView) → IsReadOf p t row r map.now site.now earlier.now
-        → IfOk result (Reads part (wires_of wires.old.items) (wires_of wires.new.items) map.now site.now earlier.now from width p t h row r packet c) }
+        → IfOk result (Reads part (wires_of wires.old.items) (wires_of wires.new.items) map.now site.now earlier.now slot from width p t h row r packet c) }
 {
-    let own = find(alloc, wires, part, map, site, earlier)?;
+    let own = find(alloc, wires, part, map, site, earlier, slot)?;
     let there = truth(alloc, wires, part, own.found)?;
     let answer = delete_answer(alloc, wires, part, map.decl, own.key, from, width)?;
     Ok(ReadNets {

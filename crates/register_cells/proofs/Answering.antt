@@ -5,12 +5,12 @@ use Rattle.std.proofs.lemmas.Bool.Decides.{nat_tests}
 use Rattle.std.specs.Int.{w64, cast_unsigned}
 use Rattle.bpf_isa.specs.declared.operation.Op.TheVariants.{Call}
 use Rattle.bpf_isa.specs.declared.instruction.Insn.{Insn}
-use Rattle.xdp_maps.specs.declared.decl.MapDecl.{MapDecl}
-use Rattle.xdp_machine.specs.Values.{Value, ◌>>=◌}
-use Rattle.xdp_machine.specs.Values as is
-use Rattle.xdp_machine.specs.State.{Machine, PacketIn, register}
-use Rattle.xdp_machine.specs.Helpers as helpers
-use Rattle.xdp_machine.specs.Step.{effect}
+use Rattle.xdp_state.specs.xdp_maps.declared.decl.MapDecl.{MapDecl}
+use Rattle.xdp_state.specs.xdp_machine.Values.{Value, ◌>>=◌}
+use Rattle.xdp_state.specs.xdp_machine.Values as is
+use Rattle.xdp_state.specs.xdp_machine.State.{Machine, PacketIn, register}
+use Rattle.xdp_state.specs.xdp_machine.Helpers as helpers
+use Rattle.xdp_state.specs.xdp_machine.Step.{effect}
 use Rattle.kind_core.specs.declared.kind.Kind.{Kind}
 use Rattle.kind_core.specs.declared.kind.Kind.TheVariants.{Unset, Num}
 use Rattle.kind_core.specs.declared.number.Number.TheVariants.{Unknown}
@@ -29,7 +29,7 @@ use Rattle.operator_cells.specs.Making.{Grows}
 use Rattle.held_cells.specs.declared.held.Held.{Held}
 use Rattle.held_cells.specs.Held.{PointerView, Holds, Counts, AreInside}
 use Rattle.held_cells.specs.Carrying.{IsKnown, Carries}
-use Rattle.xdp_machine.specs.Arithmetic.{low}
+use Rattle.xdp_state.specs.xdp_machine.Arithmetic.{low}
 use Rattle.register_cells.proofs.Finding.{low_same}
 use Rattle.held_cells.specs.Held.{number_of}
 use Rattle.register_cells.specs.Reading.{IsRead}

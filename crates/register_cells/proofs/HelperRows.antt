@@ -6,7 +6,7 @@ use Rattle.std.proofs.lemmas.Bool.{cases_lt, le-ltb, ltb-false}
 use Rattle.std.proofs.lemmas.List.{get_or-set_same, get_or-set_other, get_or-drop}
 use Rattle.bpf_isa.specs.declared.operation.Op.TheVariants.{Call}
 use Rattle.bpf_isa.specs.declared.instruction.Insn.{Insn}
-use Rattle.xdp_maps.specs.declared.decl.MapDecl.{MapDecl}
+use Rattle.xdp_state.specs.xdp_maps.declared.decl.MapDecl.{MapDecl}
 use Rattle.kind_core.specs.declared.number.Number.TheVariants.{Unknown}
 use Rattle.kind_core.specs.declared.kind.Kind.TheVariants.{Unset, Num}
 use Rattle.kind_core.specs.declared.kind.Kinds.{Kinds}
@@ -15,11 +15,11 @@ use Rattle.cell_core.specs.Cells.{CellView}
 use Rattle.cell_core.specs.Rows.{AreRows}
 use Rattle.operator_cells.specs.Rising.{GrowsTo, Rises}
 use Rattle.operator_cells.proofs.RisingLaws.{stand_none, stand_more}
-use Rattle.place_rows.specs.declared.span.Span.{Span}
-use Rattle.place_rows.specs.Spans.{no_place, one, target, is_in, spans_row}
-use Rattle.place_rows.specs.Reading.{call_reads, result_as, result_row}
-use Rattle.place_rows.specs.Writing.{writes_as, is_open_in, made_row}
-use Rattle.place_rows.proofs.SpanLaws.{in_one, in_none, is_inside, one_row}
+use Rattle.held_cells.specs.place_rows.declared.span.Span.{Span}
+use Rattle.held_cells.specs.place_rows.Spans.{no_place, one, target, is_in, spans_row}
+use Rattle.held_cells.specs.place_rows.Reading.{call_reads, result_as, result_row}
+use Rattle.held_cells.specs.place_rows.Writing.{writes_as, is_open_in, made_row}
+use Rattle.held_cells.proofs.place_rows.SpanLaws.{in_one, in_none, is_inside, one_row}
 use Rattle.held_cells.specs.declared.held.Held.{Held}
 use Rattle.held_cells.specs.Held.{PointerView}
 use Rattle.held_cells.specs.Rows.{number_at, value_row, held_row, LeavesTo, CarriesTo}

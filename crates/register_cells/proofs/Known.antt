@@ -5,13 +5,13 @@ use Rattle.std.specs.Int.{w64, cast_unsigned}
 use Rattle.bpf_isa.specs.declared.operation.Src.{Src}
 use Rattle.bpf_isa.specs.declared.operation.Src.TheVariants.{K, X}
 use Rattle.bpf_isa.specs.declared.instruction.Insn.{Insn}
-use Rattle.xdp_maps.specs.declared.decl.MapDecl.{MapDecl}
-use Rattle.xdp_maps.specs.State.{MapState}
-use Rattle.xdp_machine.specs.Values.{Value}
-use Rattle.xdp_machine.specs.Values as is
-use Rattle.xdp_machine.specs.State.{Machine, PacketIn, register}
-use Rattle.xdp_machine.specs.Step as machine
-use Rattle.xdp_machine.specs.Ranges.{InRange}
+use Rattle.xdp_state.specs.xdp_maps.declared.decl.MapDecl.{MapDecl}
+use Rattle.xdp_state.specs.xdp_maps.State.{MapState}
+use Rattle.xdp_state.specs.xdp_machine.Values.{Value}
+use Rattle.xdp_state.specs.xdp_machine.Values as is
+use Rattle.xdp_state.specs.xdp_machine.State.{Machine, PacketIn, register}
+use Rattle.xdp_state.specs.xdp_machine.Step as machine
+use Rattle.xdp_state.specs.xdp_machine.Ranges.{InRange}
 use Rattle.kind_core.specs.declared.number.Number.TheVariants.{Known, Unknown}
 use Rattle.kind_core.specs.declared.kind.Kind.{Kind}
 use Rattle.kind_core.specs.declared.kind.Kind.TheVariants.{Unset, Num, Packet, End, Maybe, Entry}
@@ -33,8 +33,8 @@ use Rattle.kind_core.specs.Edges as edges
 use Rattle.register_cells.specs.Giving.{given_kind}
 use Rattle.bpf_isa.specs.declared.operation.Op.{Op}
 use Rattle.bpf_isa.specs.Spelling.{FitsOp}
-use Rattle.xdp_machine.proofs.NumberLaws.{word_of}
-use Rattle.xdp_machine.specs.Pointers as pointers
+use Rattle.xdp_state.proofs.xdp_machine.NumberLaws.{word_of}
+use Rattle.xdp_state.specs.xdp_machine.Pointers as pointers
 use Rattle.kind_core.specs.Pointers as kind
 use Rattle.register_cells.specs.Giving.{given}
 use Rattle.register_cells.proofs.Growing.{ok_map}

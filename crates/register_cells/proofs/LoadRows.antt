@@ -5,10 +5,10 @@ use Rattle.bpf_isa.specs.declared.operation.Size.TheVariants.{B, H, W, Dw}
 use Rattle.bpf_isa.specs.declared.operation.Width.TheVariants.{Bits64}
 use Rattle.bpf_isa.specs.declared.operation.Op.TheVariants.{Load, LoadSigned}
 use Rattle.bpf_isa.specs.declared.instruction.Insn.{Insn}
-use Rattle.xdp_maps.specs.declared.decl.MapDecl.{MapDecl}
+use Rattle.xdp_state.specs.xdp_maps.declared.decl.MapDecl.{MapDecl}
 use Rattle.byteorder.specs.Endian.{little_bytes}
-use Rattle.xdp_machine.specs.Memory.{bytes_in, number_at, inside}
-use Rattle.xdp_machine.specs.Memory as machine
+use Rattle.xdp_state.specs.xdp_machine.Memory.{bytes_in, number_at, inside}
+use Rattle.xdp_state.specs.xdp_machine.Memory as machine
 use Rattle.kind_core.specs.declared.number.Number.{Number}
 use Rattle.kind_core.specs.declared.number.Number.TheVariants.{Known, Unknown}
 use Rattle.kind_core.specs.declared.kind.Kind.{Kind}
@@ -26,9 +26,9 @@ use Rattle.cell_core.specs.Cells.{CellView, bit}
 use Rattle.cell_core.specs.Rows.{greatest}
 use Rattle.operator_cells.specs.Rising.{Rises, RiseAll}
 use Rattle.operator_cells.proofs.RisingLaws.{Stand, stand_all, rises_then}
-use Rattle.place_rows.specs.Spans.{no_place, one, region, slots_of, bytes_of, pending_of, is_in, span_row, spans_row}
-use Rattle.place_rows.specs.Reading.{is_entry, result_as}
-use Rattle.place_rows.proofs.SpanLaws.{is_inside, span_above}
+use Rattle.held_cells.specs.place_rows.Spans.{no_place, one, region, slots_of, bytes_of, pending_of, is_in, span_row, spans_row}
+use Rattle.held_cells.specs.place_rows.Reading.{is_entry, result_as}
+use Rattle.held_cells.proofs.place_rows.SpanLaws.{is_inside, span_above}
 use Rattle.held_cells.specs.declared.held.Held.{Held}
 use Rattle.held_cells.specs.Held.{PointerView, number_of}
 use Rattle.held_cells.specs.Rows.{number_row, value_row, held_row}

@@ -5,7 +5,7 @@ use Rattle.bpf_isa.specs.declared.operation.Width.{Width}
 use Rattle.bpf_isa.specs.declared.operation.Width.TheVariants.{Bits64}
 use Rattle.bpf_isa.specs.declared.operation.AluCode.{AluCode}
 use Rattle.bpf_isa.specs.declared.operation.AluCode.TheVariants.{Add, Sub, Mov}
-use Rattle.xdp_maps.specs.declared.decl.MapDecl.{MapDecl}
+use Rattle.xdp_state.specs.xdp_maps.declared.decl.MapDecl.{MapDecl}
 use Rattle.kind_core.specs.declared.why.Why.{Why}
 use Rattle.kind_core.specs.declared.number.Number.{Number}
 use Rattle.kind_core.specs.declared.number.Number.TheVariants.{Known, Unknown}

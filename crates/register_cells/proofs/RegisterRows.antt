@@ -12,7 +12,7 @@ use Rattle.bpf_isa.specs.declared.operation.Op.{Op}
 use Rattle.bpf_isa.specs.declared.operation.Op.TheVariants.{Alu, Neg, End, Swap, LoadImm, Load, LoadSigned}
 use Rattle.bpf_isa.specs.declared.operation.Size.{Size}
 use Rattle.bpf_isa.specs.declared.instruction.Insn.{Insn}
-use Rattle.xdp_maps.specs.declared.decl.MapDecl.{MapDecl}
+use Rattle.xdp_state.specs.xdp_maps.declared.decl.MapDecl.{MapDecl}
 use Rattle.kind_core.specs.declared.kind.Kind.{Kind}
 use Rattle.kind_core.specs.declared.kind.Kind.TheVariants.{Unset, Num}
 use Rattle.kind_core.specs.declared.number.Number.{Number}
@@ -25,11 +25,11 @@ use Rattle.kind_core.specs.Effects.{operand, renumbered, effect_of, verdict}
 use Rattle.kind_core.specs.Edges as edges
 use Rattle.kind_core.specs.Edges.{transferred}
 use Rattle.cell_core.specs.Cells.{CellView, bit}
-use Rattle.place_rows.specs.Spans.{no_place, one, is_in, span_row}
-use Rattle.place_rows.specs.Origins.{is_open, open_row, has_data}
-use Rattle.place_rows.specs.Reading.{right_of, arithmetic_is_heavy, result_as, result_row}
-use Rattle.place_rows.specs.Writing.{writes_as, is_open_in, made_row}
-use Rattle.place_rows.proofs.SpanLaws.{in_one, in_none, is_inside, one_number, one_row}
+use Rattle.held_cells.specs.place_rows.Spans.{no_place, one, is_in, span_row}
+use Rattle.held_cells.specs.place_rows.Origins.{is_open, open_row, has_data}
+use Rattle.held_cells.specs.place_rows.Reading.{right_of, arithmetic_is_heavy, result_as, result_row}
+use Rattle.held_cells.specs.place_rows.Writing.{writes_as, is_open_in, made_row}
+use Rattle.held_cells.proofs.place_rows.SpanLaws.{in_one, in_none, is_inside, one_number, one_row}
 use Rattle.held_cells.specs.declared.held.Held.{Held}
 use Rattle.held_cells.specs.Held.{PointerView}
 use Rattle.held_cells.specs.Rows.{number_at, number_row, value_row, held_row, LeavesTo, CarriesTo}

@@ -11,10 +11,10 @@ use Rattle.bpf_isa.specs.declared.operation.Src.TheVariants.{K, X}
 use Rattle.bpf_isa.specs.declared.operation.Op.{Op}
 use Rattle.bpf_isa.specs.declared.operation.Op.TheVariants.{StoreImm, Store}
 use Rattle.bpf_isa.specs.declared.instruction.Insn.{Insn}
-use Rattle.xdp_maps.specs.declared.decl.MapDecl.{MapDecl}
-use Rattle.xdp_maps.specs.Calls.{patched}
-use Rattle.xdp_machine.specs.Memory.{bytes_in, inside}
-use Rattle.xdp_machine.specs.Memory as machine
+use Rattle.xdp_state.specs.xdp_maps.declared.decl.MapDecl.{MapDecl}
+use Rattle.xdp_state.specs.xdp_maps.Calls.{patched}
+use Rattle.xdp_state.specs.xdp_machine.Memory.{bytes_in, inside}
+use Rattle.xdp_state.specs.xdp_machine.Memory as machine
 use Rattle.kind_core.specs.declared.number.Number.{Number}
 use Rattle.kind_core.specs.declared.number.Number.TheVariants.{Known, Unknown}
 use Rattle.kind_core.specs.declared.kind.Kind.{Kind}
@@ -33,12 +33,12 @@ use Rattle.cell_core.specs.Cells.{CellView}
 use Rattle.cell_core.specs.Rows.{greatest, numbers}
 use Rattle.operator_cells.specs.Rising.{Rises, RiseAll}
 use Rattle.operator_cells.proofs.RisingLaws.{stand_none, stand_more, rises_then}
-use Rattle.place_rows.specs.declared.span.Span.{Span}
-use Rattle.place_rows.specs.Spans.{no_place, one, region, slots_of, bytes_of, is_in, span_row, spans_row}
-use Rattle.place_rows.specs.Origins.{is_open, open_row, has_data}
-use Rattle.place_rows.specs.Reading.{in_slot, result_as}
-use Rattle.place_rows.specs.Writing.{is_open_in, writes_as, record_as, taken_row}
-use Rattle.place_rows.proofs.SpanLaws.{inside as in_span, is_inside, in_none, one_row}
+use Rattle.held_cells.specs.place_rows.declared.span.Span.{Span}
+use Rattle.held_cells.specs.place_rows.Spans.{no_place, one, region, slots_of, bytes_of, is_in, span_row, spans_row}
+use Rattle.held_cells.specs.place_rows.Origins.{is_open, open_row, has_data}
+use Rattle.held_cells.specs.place_rows.Reading.{in_slot, result_as}
+use Rattle.held_cells.specs.place_rows.Writing.{is_open_in, writes_as, record_as, taken_row}
+use Rattle.held_cells.proofs.place_rows.SpanLaws.{inside as in_span, is_inside, in_none, one_row}
 use Rattle.held_cells.specs.declared.held.Held.{Held}
 use Rattle.held_cells.specs.Held.{PointerView}
 use Rattle.held_cells.specs.Rows.{number_row, value_row, kind_at, number_at, held_row, LeavesTo, CarriesTo}

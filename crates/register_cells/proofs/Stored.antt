@@ -4,14 +4,14 @@ use Rattle.std.proofs.lemmas.Bool.{cases_lt}
 use Rattle.std.proofs.lemmas.List.{get_or_append_left, get_or-append_right, get_or-take, get_or-drop, get_or-map, length-take-le, length-map}
 use Rattle.byteorder.specs.Endian.{little_bytes}
 use Rattle.bpf_isa.specs.declared.operation.Size.{Size}
-use Rattle.xdp_maps.specs.declared.decl.MapDecl.{MapDecl}
-use Rattle.xdp_maps.specs.Calls.{patched}
-use Rattle.xdp_maps.proofs.ByteLaws.{length-patched}
-use Rattle.xdp_machine.specs.Values.{Value, ◌>>=◌}
-use Rattle.xdp_machine.specs.Values as is
-use Rattle.xdp_machine.specs.State.{Machine, PacketIn}
-use Rattle.xdp_machine.specs.Memory.{bytes_in}
-use Rattle.xdp_machine.specs.Memory as machine
+use Rattle.xdp_state.specs.xdp_maps.declared.decl.MapDecl.{MapDecl}
+use Rattle.xdp_state.specs.xdp_maps.Calls.{patched}
+use Rattle.xdp_state.proofs.xdp_maps.ByteLaws.{length-patched}
+use Rattle.xdp_state.specs.xdp_machine.Values.{Value, ◌>>=◌}
+use Rattle.xdp_state.specs.xdp_machine.Values as is
+use Rattle.xdp_state.specs.xdp_machine.State.{Machine, PacketIn}
+use Rattle.xdp_state.specs.xdp_machine.Memory.{bytes_in}
+use Rattle.xdp_state.specs.xdp_machine.Memory as machine
 use Rattle.kind_core.specs.declared.kind.Kinds.{Kinds}
 use Rattle.held_cells.specs.declared.held.Held.{Held}
 use Rattle.held_cells.specs.declared.held.Pointer.{Pointer}

@@ -9,13 +9,13 @@ use Rattle.kind_core.specs.declared.number.Number.TheVariants.{Known, Unknown}
 use Rattle.kind_core.specs.declared.kind.Kind.{Kind}
 use Rattle.kind_core.specs.declared.kind.Kind.TheVariants.{Num}
 use Rattle.kind_core.specs.Numbers.{number_arithmetic}
-use Rattle.xdp_machine.specs.Arithmetic.{bits_in, low, arithmetic}
+use Rattle.xdp_state.specs.xdp_machine.Arithmetic.{bits_in, low, arithmetic}
 use Rattle.cell_core.specs.Cells.{CellView, is_heavy, bit}
 use Rattle.operator_cells.specs.Making.{Makes, operator_of}
 use Rattle.operator_cells.specs.Rising.{Rises}
 use Rattle.operator_cells.proofs.MakingLaws.{grown}
 use Rattle.operator_cells.proofs.RisingLaws.{stand_none, stand_more, rises_then, rises_by}
-use Rattle.place_rows.specs.Origins.{is_open, open_row}
+use Rattle.held_cells.specs.place_rows.Origins.{is_open, open_row}
 use Rattle.held_cells.specs.Held.{PointerView, number_of}
 use Rattle.held_cells.specs.Rows.{number_row, value_row}
 use Rattle.held_cells.proofs.RowLaws.{grows_by}

@@ -4,13 +4,13 @@ use Rattle.bpf_isa.specs.declared.operation.Src.TheVariants.{X}
 use Rattle.bpf_isa.specs.declared.operation.Op.{Op}
 use Rattle.bpf_isa.specs.declared.operation.Op.TheVariants.{Alu, Neg, End, Swap, LoadImm, Load, LoadSigned}
 use Rattle.bpf_isa.specs.declared.instruction.Insn.{Insn}
-use Rattle.xdp_maps.specs.declared.decl.MapDecl.{MapDecl}
-use Rattle.xdp_machine.specs.Values.{Value, Number, number_in, ◌>>=◌}
-use Rattle.xdp_machine.specs.State.{Machine, register}
-use Rattle.xdp_machine.specs.Arithmetic.{bits_in, negated, ordered}
-use Rattle.xdp_machine.specs.Pointers.{combined}
-use Rattle.xdp_machine.specs.Memory.{loaded_plain, loaded_signed}
-use Rattle.xdp_machine.specs.Step as machine
+use Rattle.xdp_state.specs.xdp_maps.declared.decl.MapDecl.{MapDecl}
+use Rattle.xdp_state.specs.xdp_machine.Values.{Value, Number, number_in, ◌>>=◌}
+use Rattle.xdp_state.specs.xdp_machine.State.{Machine, register}
+use Rattle.xdp_state.specs.xdp_machine.Arithmetic.{bits_in, negated, ordered}
+use Rattle.xdp_state.specs.xdp_machine.Pointers.{combined}
+use Rattle.xdp_state.specs.xdp_machine.Memory.{loaded_plain, loaded_signed}
+use Rattle.xdp_state.specs.xdp_machine.Step as machine
 use Rattle.kind_core.specs.declared.kind.Kind.{Kind}
 use Rattle.kind_core.specs.declared.kind.Kinds.{Kinds}
 use Rattle.kind_core.specs.declared.why.Why.{Why}

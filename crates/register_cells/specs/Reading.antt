@@ -1,9 +1,9 @@
 -- What the cells of one instruction make of the values that it reads.
 use Rattle.std.specs.Prelude.{ℕ, pos, ◌≡◌, ◌<◌, ◌^◌, Option, Some, List, length}
-use Rattle.xdp_maps.specs.declared.decl.MapDecl.{MapDecl}
-use Rattle.xdp_machine.specs.Values.{Value}
-use Rattle.xdp_machine.specs.Values as is
-use Rattle.xdp_machine.specs.State.{PacketIn}
+use Rattle.xdp_state.specs.xdp_maps.declared.decl.MapDecl.{MapDecl}
+use Rattle.xdp_state.specs.xdp_machine.Values.{Value}
+use Rattle.xdp_state.specs.xdp_machine.Values as is
+use Rattle.xdp_state.specs.xdp_machine.State.{PacketIn}
 use Rattle.kind_core.specs.declared.number.Number.{Number}
 use Rattle.kind_core.specs.declared.kind.Kind.{Kind}
 use Rattle.kind_core.specs.declared.kind.Kind.TheVariants.{Num, Packet, End, Maybe, Entry}

@@ -3,17 +3,17 @@ use Rattle.std.specs.Prelude.{ℕ, ℤ, ◌≤◌, max, if◌then◌else◌, Lis
 use Rattle.std.specs.List.{list_any}
 use Rattle.bpf_isa.specs.declared.operation.Size.{Size}
 use Rattle.bpf_isa.specs.declared.operation.Size.TheVariants.{Dw}
-use Rattle.xdp_machine.specs.Memory.{bytes_in}
+use Rattle.xdp_state.specs.xdp_machine.Memory.{bytes_in}
 use Rattle.kind_core.specs.declared.kind.Kind.{Kind}
 use Rattle.kind_core.specs.declared.kind.Kinds.{Kinds}
 use Rattle.cell_core.specs.Cells.{CellView}
 use Rattle.cell_core.specs.Rows.{AreRows}
 use Rattle.operator_cells.specs.Rising.{GrowsTo}
-use Rattle.place_rows.specs.declared.span.Span.{Span}
-use Rattle.place_rows.specs.Spans.{no_place, region, span_row}
-use Rattle.place_rows.specs.Origins.{open_row}
-use Rattle.place_rows.specs.Reading.{in_slot}
-use Rattle.place_rows.specs.Writing.{is_open_in}
+use Rattle.held_cells.specs.place_rows.declared.span.Span.{Span}
+use Rattle.held_cells.specs.place_rows.Spans.{no_place, region, span_row}
+use Rattle.held_cells.specs.place_rows.Origins.{open_row}
+use Rattle.held_cells.specs.place_rows.Reading.{in_slot}
+use Rattle.held_cells.specs.place_rows.Writing.{is_open_in}
 use Rattle.held_cells.specs.declared.held.Held.{Held}
 use Rattle.held_cells.specs.Held.{PointerView}
 use Rattle.held_cells.specs.Rows.{value_row, held_row, LeavesTo}

@@ -1,10 +1,10 @@
 -- What stores leave of what cells hold.
 use Rattle.std.specs.Prelude.{ℕ, ◌≡◌, ◌<◌, ◌^◌, Bool, true, false, Option, Some, Ok, List, length}
 use Rattle.bpf_isa.specs.declared.operation.Size.{Size}
-use Rattle.xdp_maps.specs.declared.decl.MapDecl.{MapDecl}
-use Rattle.xdp_machine.specs.Values.{Value}
-use Rattle.xdp_machine.specs.State.{Machine, PacketIn}
-use Rattle.xdp_machine.specs.Memory as machine
+use Rattle.xdp_state.specs.xdp_maps.declared.decl.MapDecl.{MapDecl}
+use Rattle.xdp_state.specs.xdp_machine.Values.{Value}
+use Rattle.xdp_state.specs.xdp_machine.State.{Machine, PacketIn}
+use Rattle.xdp_state.specs.xdp_machine.Memory as machine
 use Rattle.kind_core.specs.declared.number.Number.{Number}
 use Rattle.kind_core.specs.declared.kind.Kind.{Kind}
 use Rattle.kind_core.specs.declared.kind.Kind.TheVariants.{Num, Maybe, Entry}

@@ -1,8 +1,8 @@
 //! Operations on numbers, of which some are known.
 
 ghost use Rattle.std.specs.Prelude.{◌≡◌, ◌<◌, true, length, IfOk, List, max, ◌≤◌, ◌+◌, ◌⊎◌};
-ghost use Rattle.xdp_machine.specs.Arithmetic.{bits_in, low, arithmetic, negated, extended, ordered};
-ghost use Rattle.xdp_machine.specs.Memory.{bytes_in, number_at};
+ghost use Rattle.xdp_state.specs.xdp_machine.Arithmetic.{bits_in, low, arithmetic, negated, extended, ordered};
+ghost use Rattle.xdp_state.specs.xdp_machine.Memory.{bytes_in, number_at};
 ghost use Rattle.byteorder.specs.Endian.{little_bytes};
 ghost use Rattle.kind_core.specs.Numbers.{number_arithmetic, number_negated, number_extended, number_part, number_ordered};
 ghost use Rattle.cell_core.specs.Formed.{AreFormed};

@@ -2,8 +2,8 @@
 
 ghost use Rattle.std.specs.Prelude.{◌≡◌, ◌<◌, ◌+◌, ◌==◌, max, true, false, pos, ℕ, Bool, List, length, if◌then◌else◌, IfOk, OnOk};
 ghost use Rattle.bpf_isa.specs.Spelling.{IsInsn};
-ghost use Rattle.xdp_maps.specs.declared.decl.MapDecl.{MapDecl};
-ghost use Rattle.xdp_machine.specs.Arithmetic.{low};
+ghost use Rattle.xdp_state.specs.xdp_maps.declared.decl.MapDecl.{MapDecl};
+ghost use Rattle.xdp_state.specs.xdp_machine.Arithmetic.{low};
 ghost use Rattle.kind_core.specs.Effects.{effect_of, verdict};
 ghost use Rattle.kind_core.specs.Edges.{transferred};
 ghost use Rattle.kind_core.specs.Tests.{passed};

@@ -2,11 +2,11 @@
 
 ghost use Rattle.std.specs.Prelude.{◌≡◌, ◌≢◌, ◌≤◌, ◌+◌, ◌*◌, ◌/◌, ◌%◌, ℕ, ℤ, pos, Some, List, length, IfOk, IfSome, FitsSigned, ◌+ℤ◌};
 ghost use Rattle.std.specs.Int.{w16};
-ghost use Rattle.xdp_maps.specs.declared.decl.MapDecl.{MapDecl};
-ghost use Rattle.xdp_machine.specs.Memory.{bytes_in};
-ghost use Rattle.xdp_machine.specs.Memory as machine;
-ghost use Rattle.xdp_machine.specs.Arithmetic.{extended};
-ghost use Rattle.xdp_machine.specs.Values as is;
+ghost use Rattle.xdp_state.specs.xdp_maps.declared.decl.MapDecl.{MapDecl};
+ghost use Rattle.xdp_state.specs.xdp_machine.Memory.{bytes_in};
+ghost use Rattle.xdp_state.specs.xdp_machine.Memory as machine;
+ghost use Rattle.xdp_state.specs.xdp_machine.Arithmetic.{extended};
+ghost use Rattle.xdp_state.specs.xdp_machine.Values as is;
 ghost use Rattle.kind_core.specs.Numbers.{number_extended};
 ghost use Rattle.kind_core.specs.declared.kind.Kind.TheVariants as kind_is;
 ghost use Rattle.kind_core.specs.Access as access;
@@ -22,8 +22,8 @@ ghost use Rattle.register_cells.specs.Giving.{given};
 ghost use Rattle.register_cells.specs.Rows.{ValueTo};
 ghost use Rattle.register_cells.specs.Pointing.{MovesPointer, MovesHeld};
 ghost use Rattle.held_cells.specs.Rows.{number_row, value_row, held_row};
-ghost use Rattle.place_rows.specs.Spans.{region, span_row};
-ghost use Rattle.place_rows.specs.Reading.{result_as};
+ghost use Rattle.held_cells.specs.place_rows.Spans.{region, span_row};
+ghost use Rattle.held_cells.specs.place_rows.Reading.{result_as};
 
 use crate::computing::parted;
 use crate::sizes::are_whole;

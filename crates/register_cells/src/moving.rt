@@ -2,10 +2,10 @@
 
 ghost use Rattle.std.specs.Prelude.{◌≡◌, ◌<◌, ◌≤◌, ◌+◌, ◌-◌, ◌^◌, ◌⊎◌, length, ℕ, pos, List, Some, Ok, IfOk, unsigned_abs};
 ghost use Rattle.std.specs.Ordering.{int_eq};
-ghost use Rattle.xdp_maps.specs.declared.decl.MapDecl.{MapDecl};
-ghost use Rattle.xdp_machine.specs.Arithmetic.{low};
-ghost use Rattle.xdp_machine.specs.Pointers as machine;
-ghost use Rattle.xdp_machine.specs.Values.{Value};
+ghost use Rattle.xdp_state.specs.xdp_maps.declared.decl.MapDecl.{MapDecl};
+ghost use Rattle.xdp_state.specs.xdp_machine.Arithmetic.{low};
+ghost use Rattle.xdp_state.specs.xdp_machine.Pointers as machine;
+ghost use Rattle.xdp_state.specs.xdp_machine.Values.{Value};
 ghost use Rattle.kind_core.specs.Pointers as kind;
 ghost use Rattle.kind_core.specs.Kinds as kinds;
 ghost use Rattle.cell_core.specs.Formed.{AreFormed};

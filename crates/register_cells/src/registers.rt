@@ -2,9 +2,9 @@
 
 ghost use Rattle.std.specs.Prelude.{◌≡◌, ◌≢◌, ◌<◌, ◌≤◌, ◌⊎◌, ◌+◌, true, false, ℕ, Bool, List, length, slice_index, IfOk, OnOk, unsigned_abs};
 ghost use Rattle.bpf_isa.specs.Spelling.{IsInsn};
-ghost use Rattle.xdp_machine.specs.Arithmetic.{bits_in, negated, ordered};
-ghost use Rattle.xdp_maps.specs.declared.decl.MapDecl.{MapDecl};
-ghost use Rattle.xdp_machine.specs.State.{register};
+ghost use Rattle.xdp_state.specs.xdp_machine.Arithmetic.{bits_in, negated, ordered};
+ghost use Rattle.xdp_state.specs.xdp_maps.declared.decl.MapDecl.{MapDecl};
+ghost use Rattle.xdp_state.specs.xdp_machine.State.{register};
 ghost use Rattle.kind_core.specs.Effects.{operand, renumbered, alu, effect_of, verdict};
 ghost use Rattle.kind_core.specs.Edges.{transferred};
 ghost use Rattle.kind_core.specs.Numbers.{number_negated, number_ordered};
@@ -18,7 +18,7 @@ ghost use Rattle.held_cells.specs.Held.{PointerView, AreInside};
 ghost use Rattle.held_cells.specs.Carrying.{Gives, Carries};
 ghost use Rattle.held_cells.specs.Rows.{held_row, CarriesTo};
 ghost use Rattle.held_cells.specs.Pointing.{KeepPointers};
-ghost use Rattle.place_rows.specs.Reading.{result_as, result_row};
+ghost use Rattle.held_cells.specs.place_rows.Reading.{result_as, result_row};
 ghost use Rattle.register_cells.specs.Rows.{ValueTo};
 ghost use Rattle.register_cells.specs.Pointing.{MovesHeld};
 ghost use Rattle.register_cells.specs.Giving.{given, given_kind, given_number};

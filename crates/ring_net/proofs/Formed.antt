@@ -15,7 +15,7 @@ use Rattle.net_core.specs.Nets.{Tree, TConst, TUnary, TBinary, StatementTree, SB
 use Rattle.net_core.specs.Chains.{statements_before}
 use Rattle.net_core.specs.Value.{word}
 use Rattle.net_core.specs.Width.{Scope, width_of, const_width, test_width, op_width, conditional_width, same, word_fits, statement_typed, statements_typed}
-use Rattle.design_rules.specs.FormedSyntax.{tree_spelled, statement_depth, statements_depth, elses_placed, all_placed, trees_pass, all_trees_pass, statement_spelled}
+use Rattle.block_forms.specs.design_rules.FormedSyntax.{tree_spelled, statement_depth, statements_depth, elses_placed, all_placed, trees_pass, all_trees_pass, statement_spelled}
 use Rattle.block_core.specs.declared.name.Name.{Name}
 use Rattle.block_core.specs.declared.name.Name.TheVariants as name
 use Rattle.block_core.specs.Blocks.{Whole}

@@ -3,7 +3,7 @@ use Rattle.std.specs.Prelude.{◌≡◌, ℕ, zero, suc, true, Bool}
 use Rattle.std.proofs.Common.{refl}
 use Rattle.net_core.specs.Nets.{Tree, SEnd}
 use Rattle.net_core.specs.Chains.{statements_before}
-use Rattle.product_rules.specs.Products.{is_flat, statements_flat}
+use Rattle.product_blocks.specs.product_rules.Products.{is_flat, statements_flat}
 use Rattle.product_blocks.specs.Alone.{IsFree}
 use Rattle.block_core.specs.declared.name.Name.{Name}
 use Rattle.ring_net.specs.declared.shape.ControlShape.{ControlShape}

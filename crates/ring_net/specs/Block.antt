@@ -7,7 +7,7 @@ use Rattle.net_core.specs.declared.ports.TheConstants.{IN_VALID, IN_LAST, OUT_RE
 use Rattle.net_core.specs.Ports.{port_list}
 use Rattle.net_core.specs.Value.{word, bit, nothing, Env}
 use Rattle.net_core.specs.Clock.{Stored, done}
-use Rattle.design_rules.specs.FormedSyntax.{statement_spelled}
+use Rattle.block_forms.specs.design_rules.FormedSyntax.{statement_spelled}
 use Rattle.block_core.specs.declared.name.Name.{Name}
 use Rattle.block_core.specs.declared.name.Name.TheVariants as name
 use Rattle.block_core.specs.Blocks.{BlockTree, BlockWireTree, registers_of, memories_of, wires_of, first_of, Whole}

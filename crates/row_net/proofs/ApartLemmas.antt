@@ -4,13 +4,13 @@ use Rattle.std.specs.List.{list_all}
 use Rattle.std.proofs.Common.{◌≡◌, ◌⊎◌, inl, inr, ℕ, suc, ◌<◌, Bool, true, false, ◌||◌, All, List, [], ◌∷◌, ◌++◌, append_assoc, length, length-append, take, get_or, map, refl, sym, ◌∙◌, ap, subst, arith, slice_index}
 use Rattle.std.proofs.lemmas.List.{get_or-take, get_or_at, length-take, length-map}
 use Rattle.std.proofs.lemmas.List.Elements.{All-take}
-use Rattle.product_rules.specs.Products.{statement_flat}
+use Rattle.cell_nets.specs.product_rules.Products.{statement_flat}
 use Rattle.block_core.specs.declared.name.Name.{Name}
 use Rattle.block_core.specs.Blocks.{BlockTree, BlockWireTree}
-use Rattle.product_blocks.specs.Apart.{is_marked, AreMarked}
-use Rattle.product_blocks.specs.Alone.{wire_flat, IsApartAlone}
-use Rattle.product_blocks.proofs.FreeLaws.{all_marked}
-use Rattle.product_blocks.proofs.CleanLaws.{marked_behind}
+use Rattle.cell_nets.specs.product_blocks.Apart.{is_marked, AreMarked}
+use Rattle.cell_nets.specs.product_blocks.Alone.{wire_flat, IsApartAlone}
+use Rattle.cell_nets.proofs.product_blocks.FreeLaws.{all_marked}
+use Rattle.cell_nets.proofs.product_blocks.CleanLaws.{marked_behind}
 use Rattle.cell_core.specs.declared.operator.Operator.{Operator}
 use Rattle.cell_core.specs.declared.operator.Operator.TheVariants.{Quotient, Remainder}
 use Rattle.cell_core.specs.Cells.{CellView, cell_at}

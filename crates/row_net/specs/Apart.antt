@@ -2,7 +2,7 @@
 use Rattle.std.specs.Prelude.{◌≡◌, ℕ, Bool, true, false, ◌||◌, Option, List, length, All}
 use Rattle.block_core.specs.declared.name.Name.{Name}
 use Rattle.block_core.specs.Blocks.{BlockWireTree}
-use Rattle.product_blocks.specs.Apart.{is_marked, AreMarked}
+use Rattle.cell_nets.specs.product_blocks.Apart.{is_marked, AreMarked}
 use Rattle.cell_core.specs.Cells.{CellView, cell_at}
 use Rattle.cell_nets.specs.declared.operand.Operand.{Operand}
 use Rattle.cell_nets.specs.Computing.{makes_product, taken}

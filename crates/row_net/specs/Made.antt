@@ -1,11 +1,11 @@
 -- Wires for the cells of a row, in a table where they are read.
 use Rattle.std.specs.Prelude.{◌≡◌, ◌≢◌, ℕ, ◌<◌, Bool, true, false, Option, None, List, length, take, slice_index, All, Contains}
 use Rattle.std.proofs.Common.{get_or, ◌⊎◌}
-use Rattle.net_core.specs.Value.{Env}
+use Rattle.cell_nets.specs.net_core.Value.{Env}
 use Rattle.block_core.specs.declared.name.Name.{Name}
 use Rattle.block_core.specs.Blocks.{BlockWireTree}
 use Rattle.block_core.specs.Parts.{Solve}
-use Rattle.xdp_machine.specs.State.{PacketIn}
+use Rattle.cell_core.specs.xdp_machine.State.{PacketIn}
 use Rattle.cell_core.specs.Cells.{CellView, cell_at, value}
 use Rattle.cell_core.specs.Formed.{divides}
 use Rattle.cell_nets.specs.declared.operand.Operand.{Operand}

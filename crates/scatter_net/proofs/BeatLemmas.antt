@@ -9,7 +9,7 @@ use Rattle.net_core.specs.Value.{word, bit, Env, value, apply, concatenated, con
 use Rattle.net_core.specs.Width.{Scope, width_of}
 use Rattle.net_core.specs.Ports.{port_list}
 use Rattle.net_core.proofs.WidthLaws.{concatenation_is}
-use Rattle.design_rules.specs.FormedSyntax.{depth, prefixes_apart, tree_spelled}
+use Rattle.frame_net.specs.design_rules.FormedSyntax.{depth, prefixes_apart, tree_spelled}
 use Rattle.block_core.specs.declared.name.Name.{Name}
 use Rattle.block_core.specs.declared.name.Name.TheVariants as name
 use Rattle.block_core.specs.Blocks.{Whole}

@@ -3,9 +3,9 @@ use Rattle.std.specs.Prelude.{◌≡◌, ◌≢◌, ℕ, zero, suc, ◌+◌, ◌
 use Rattle.std.proofs.Common.{get_or, refl, sym, ap, ◌∙◌, subst, arith}
 use Rattle.std.proofs.lemmas.Bool.{eqb-true}
 use Rattle.std.proofs.lemmas.Bool.Decides.{nat_tests}
-use Rattle.list_laws.specs.Bytes.{IsBytes}
-use Rattle.beat_core.specs.declared.answer.Answer.{Answer}
-use Rattle.beat_core.specs.Words.{word_of}
+use Rattle.net_core.specs.list_laws.Bytes.{IsBytes}
+use Rattle.net_core.specs.beat_core.declared.answer.Answer.{Answer}
+use Rattle.net_core.specs.beat_core.Words.{word_of}
 use Rattle.net_core.specs.declared.tree.Op.TheVariants.{Equal}
 use Rattle.net_core.specs.declared.tree.Word.{Word}
 use Rattle.net_core.specs.Value.{word, bit, Env, value, apply, conditional}

@@ -10,7 +10,7 @@ use Rattle.net_core.specs.Ports.{port_list}
 use Rattle.net_core.specs.Value.{Env}
 use Rattle.net_core.specs.Width.{Scope, width_of, concatenation_width}
 use Rattle.net_core.proofs.WidthLaws.{concatenation_is}
-use Rattle.design_rules.specs.FormedSyntax.{right_spelled}
+use Rattle.frame_net.specs.design_rules.FormedSyntax.{right_spelled}
 use Rattle.block_core.specs.declared.name.Name.{Name}
 use Rattle.block_core.specs.declared.name.Name.TheVariants as name
 use Rattle.block_core.specs.Blocks.{BlockTree, Whole, Among}

@@ -2,8 +2,8 @@
 use Rattle.std.specs.Prelude.{◌≡◌, ℕ, zero, suc, ◌-◌, Bool, true, List, [], ◌∷◌}
 use Rattle.std.specs.List.{list_all}
 use Rattle.std.proofs.Common.{refl}
-use Rattle.product_rules.specs.Products.{is_flat}
-use Rattle.product_blocks.specs.Alone.{wire_flat, IsFree}
+use Rattle.frame_net.specs.product_rules.Products.{is_flat}
+use Rattle.frame_net.specs.product_blocks.Alone.{wire_flat, IsFree}
 use Rattle.block_core.specs.declared.name.Name.{Name}
 use Rattle.frame_net.specs.declared.held.Kept.{Kept}
 use Rattle.frame_net.specs.Frames.{banks}

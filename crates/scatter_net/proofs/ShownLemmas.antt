@@ -4,10 +4,10 @@ use Rattle.std.proofs.Common.{get_or, refl, sym, ap, ◌∙◌, subst, arith}
 use Rattle.std.proofs.lemmas.Bool.{le-leb}
 use Rattle.std.proofs.lemmas.Bool.Decides.{nat_tests}
 use Rattle.std.proofs.lemmas.List.{length-drop, length-map}
-use Rattle.beat_core.specs.declared.answer.Answer.{Answer}
-use Rattle.beat_core.specs.declared.frame.TheConstants.{BEAT_LIMIT}
-use Rattle.beat_core.specs.Beats.{beat_count}
-use Rattle.beat_core.specs.Ports.{Arrival}
+use Rattle.net_core.specs.beat_core.declared.answer.Answer.{Answer}
+use Rattle.net_core.specs.beat_core.declared.frame.TheConstants.{BEAT_LIMIT}
+use Rattle.net_core.specs.beat_core.Beats.{beat_count}
+use Rattle.net_core.specs.beat_core.Ports.{Arrival}
 use Rattle.net_core.specs.declared.tree.Op.TheVariants.{Add, Equal}
 use Rattle.net_core.specs.declared.tree.Word.{Word}
 use Rattle.net_core.specs.Nets.{TRead}

@@ -2,16 +2,16 @@
 use Rattle.std.specs.Prelude.{◌≡◌, ℕ, suc, ◌+◌, ◌*◌, ◌<◌, Bool, if◌then◌else◌, List, [], ◌∷◌, length, replicate, IsTrue}
 use Rattle.std.specs.List.{list_all}
 use Rattle.std.proofs.Common.{get_or}
-use Rattle.beat_core.specs.declared.answer.Answer.{Answer}
-use Rattle.beat_core.specs.declared.frame.TheConstants.{BEAT_LIMIT}
-use Rattle.beat_core.specs.Beats.{beat_count}
-use Rattle.beat_core.specs.Ports.{Arrival}
+use Rattle.net_core.specs.beat_core.declared.answer.Answer.{Answer}
+use Rattle.net_core.specs.beat_core.declared.frame.TheConstants.{BEAT_LIMIT}
+use Rattle.net_core.specs.beat_core.Beats.{beat_count}
+use Rattle.net_core.specs.beat_core.Ports.{Arrival}
 use Rattle.net_core.specs.declared.tree.Word.{Word}
 use Rattle.net_core.specs.Ports.{port_list}
 use Rattle.net_core.specs.Value.{word, bit, Env}
 use Rattle.net_core.specs.Clock.{Stored, done}
-use Rattle.design_rules.specs.FormedSyntax.{right_spelled, statement_spelled}
-use Rattle.product_blocks.specs.Alone.{IsFree}
+use Rattle.frame_net.specs.design_rules.FormedSyntax.{right_spelled, statement_spelled}
+use Rattle.frame_net.specs.product_blocks.Alone.{IsFree}
 use Rattle.block_core.specs.declared.name.Name.{Name}
 use Rattle.block_core.specs.declared.name.Name.TheVariants as name
 use Rattle.block_core.specs.Blocks.{BlockTree, first_of, Whole, Among}

@@ -3,7 +3,7 @@ use Rattle.std.proofs.Common.{◌≡◌, ◌∙◌, ℕ, ◌<◌, ◌≤◌, tru
 use Rattle.std.specs.List.{list_any}
 use Rattle.bpf_isa.specs.declared.instruction.Insn.{Insn}
 use Rattle.xdp_maps.specs.declared.decl.MapDecl.{MapDecl}
-use Rattle.xdp_machine.proofs.ChangeLaws.{some_inj}
+use Rattle.xdp_state.proofs.xdp_machine.ChangeLaws.{some_inj}
 use Rattle.kind_core.specs.declared.number.Number.TheVariants.{Unknown}
 use Rattle.kind_core.specs.declared.kind.Kind.{Kind}
 use Rattle.kind_core.specs.declared.kind.Kind.TheVariants.{Num, Entry}
@@ -16,10 +16,10 @@ use Rattle.cell_core.specs.declared.site.Act.{Act}
 use Rattle.operator_cells.specs.Making.{Grows}
 use Rattle.operator_cells.specs.Rising.{Rises, RiseAll}
 use Rattle.operator_cells.proofs.RisingLaws.{greatest_append}
-use Rattle.place_rows.specs.declared.span.Span.{Span}
-use Rattle.place_rows.specs.Spans.{no_place, one, is_in, span_row, spans_row}
-use Rattle.place_rows.specs.Reading.{result_row}
-use Rattle.place_rows.specs.Writing.{writes_as, record_as, is_open_in, taken_row, made_row}
+use Rattle.held_cells.specs.place_rows.declared.span.Span.{Span}
+use Rattle.held_cells.specs.place_rows.Spans.{no_place, one, is_in, span_row, spans_row}
+use Rattle.held_cells.specs.place_rows.Reading.{result_row}
+use Rattle.held_cells.specs.place_rows.Writing.{writes_as, record_as, is_open_in, taken_row, made_row}
 use Rattle.held_cells.specs.declared.held.Held.{Held}
 use Rattle.held_cells.specs.Held.{PointerView, pointer_at}
 use Rattle.held_cells.specs.Rows.{cells_of_pointer, value_row, map_used, row_before, written_row, WriteWithin, LeavesTo, OperatesTo}

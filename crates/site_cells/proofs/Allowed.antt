@@ -7,7 +7,7 @@ use Rattle.bpf_isa.specs.declared.operation.Width.TheVariants.{Bits64}
 use Rattle.kind_core.specs.Numbers.{number_extended}
 use Rattle.bpf_isa.specs.declared.instruction.Insn.{Insn}
 use Rattle.xdp_maps.specs.declared.decl.MapDecl.{MapDecl}
-use Rattle.xdp_machine.specs.Memory.{bytes_in}
+use Rattle.xdp_state.specs.xdp_machine.Memory.{bytes_in}
 use Rattle.kind_core.specs.declared.number.Number.{Number}
 use Rattle.kind_core.specs.declared.number.Number.TheVariants.{Unknown}
 use Rattle.kind_core.specs.declared.kind.Kind.{Kind}
@@ -19,8 +19,8 @@ use Rattle.kind_core.specs.Kinds as kinds
 use Rattle.kind_core.specs.Kinds.{key_bytes, value_bytes, with_register}
 use Rattle.kind_core.specs.Calls as calls
 use Rattle.kind_core.specs.Calls.{declared, fits_argument, called, helper_of}
-use Rattle.xdp_machine.specs.Atomics.{fetches}
-use Rattle.xdp_machine.proofs.ChangeLaws.{some_inj}
+use Rattle.xdp_state.specs.xdp_machine.Atomics.{fetches}
+use Rattle.xdp_state.proofs.xdp_machine.ChangeLaws.{some_inj}
 use Rattle.kind_core.specs.Access as access
 use Rattle.kind_core.specs.Access.{compares}
 use Rattle.kind_core.specs.Places as places

@@ -6,8 +6,8 @@ use Rattle.bpf_isa.specs.declared.operation.Size.{Size}
 use Rattle.bpf_isa.specs.declared.operation.Op.TheVariants.{Atomic}
 use Rattle.bpf_isa.specs.declared.instruction.Insn.{Insn}
 use Rattle.xdp_maps.specs.declared.decl.MapDecl.{MapDecl}
-use Rattle.xdp_machine.specs.Atomics.{fetches}
-use Rattle.xdp_machine.proofs.ChangeLaws.{some_inj}
+use Rattle.xdp_state.specs.xdp_machine.Atomics.{fetches}
+use Rattle.xdp_state.proofs.xdp_machine.ChangeLaws.{some_inj}
 use Rattle.kind_core.specs.declared.number.Number.TheVariants.{Unknown}
 use Rattle.kind_core.specs.declared.kind.Kind.{Kind}
 use Rattle.kind_core.specs.declared.kind.Kind.TheVariants.{Unset, Num, Entry}
@@ -22,11 +22,11 @@ use Rattle.cell_core.specs.Sites.{SiteView}
 use Rattle.cell_core.specs.Rows.{greatest}
 use Rattle.operator_cells.specs.Rising.{Rises, RiseAll}
 use Rattle.operator_cells.proofs.RisingLaws.{stand_none, stand_all, rises_then, rise_more}
-use Rattle.place_rows.specs.declared.span.Span.{Span}
-use Rattle.place_rows.specs.Spans.{no_place, one, pending, map_of, pending_of, is_in, span_row, spans_row}
-use Rattle.place_rows.specs.Reading.{compared_span, result_as, result_row}
-use Rattle.place_rows.specs.Writing.{old_value, writes_as, record_as, through, taken_row}
-use Rattle.place_rows.proofs.SpanLaws.{is_inside, span_above}
+use Rattle.held_cells.specs.place_rows.declared.span.Span.{Span}
+use Rattle.held_cells.specs.place_rows.Spans.{no_place, one, pending, map_of, pending_of, is_in, span_row, spans_row}
+use Rattle.held_cells.specs.place_rows.Reading.{compared_span, result_as, result_row}
+use Rattle.held_cells.specs.place_rows.Writing.{old_value, writes_as, record_as, through, taken_row}
+use Rattle.held_cells.proofs.place_rows.SpanLaws.{is_inside, span_above}
 use Rattle.held_cells.specs.declared.held.Held.{Held}
 use Rattle.held_cells.specs.Held.{PointerView, pointer_at}
 use Rattle.held_cells.specs.Rows.{cells_of_pointer, value_row, held_row, map_used, row_before, written_row, is_some_place, OperatesTo}

@@ -13,13 +13,13 @@ use Rattle.xdp_maps.specs.declared.change.ChangeKind.{ChangeKind}
 use Rattle.xdp_maps.specs.declared.change.ChangeKind.TheVariants.{Add, Or, And, Xor, Xchg, Cmpxchg}
 use Rattle.xdp_maps.specs.State.{MapState, contents_at, with_contents}
 use Rattle.xdp_maps.specs.Calls.{change_bytes, number_before, changed}
-use Rattle.xdp_machine.specs.Values.{Value, number_in, ◌>>=◌}
-use Rattle.xdp_machine.specs.Values as is
-use Rattle.xdp_machine.specs.State.{Machine, register, put, with_registers}
-use Rattle.xdp_machine.specs.Memory.{bytes_in, aligned}
-use Rattle.xdp_machine.specs.Atomics.{fetches, kind_of, wide_of, comparand, change_of, taking, changed_entry, changed_at, atomic}
-use Rattle.xdp_machine.specs.Touched.{answers_old}
-use Rattle.xdp_machine.proofs.ChangeLaws.{some_inj}
+use Rattle.xdp_state.specs.xdp_machine.Values.{Value, number_in, ◌>>=◌}
+use Rattle.xdp_state.specs.xdp_machine.Values as is
+use Rattle.xdp_state.specs.xdp_machine.State.{Machine, register, put, with_registers}
+use Rattle.xdp_state.specs.xdp_machine.Memory.{bytes_in, aligned}
+use Rattle.xdp_state.specs.xdp_machine.Atomics.{fetches, kind_of, wide_of, comparand, change_of, taking, changed_entry, changed_at, atomic}
+use Rattle.xdp_state.specs.xdp_machine.Touched.{answers_old}
+use Rattle.xdp_state.proofs.xdp_machine.ChangeLaws.{some_inj}
 use Rattle.kind_core.specs.Access.{compares}
 use Rattle.kind_core.specs.Kinds.{value_bytes}
 use Rattle.cell_core.specs.declared.site.Atomic.{Atomic as AtomicChange}

@@ -8,14 +8,14 @@ use Rattle.bpf_isa.specs.declared.instruction.Insn.{Insn}
 use Rattle.xdp_maps.specs.declared.decl.MapDecl.{MapDecl}
 use Rattle.xdp_maps.specs.State.{no_decl, contents_at}
 use Rattle.xdp_maps.specs.Operations.{Operation}
-use Rattle.xdp_machine.specs.Values.{Value, map_in, ◌>>=◌}
-use Rattle.xdp_machine.specs.Values as is
-use Rattle.xdp_machine.specs.State.{Machine, register}
-use Rattle.xdp_machine.specs.Helpers as helpers
-use Rattle.xdp_machine.specs.Helpers.{region}
-use Rattle.xdp_machine.specs.Step.{effect}
-use Rattle.xdp_machine.specs.Touched.{under_key}
-use Rattle.xdp_machine.proofs.ChangeLaws.{some_inj}
+use Rattle.xdp_state.specs.xdp_machine.Values.{Value, map_in, ◌>>=◌}
+use Rattle.xdp_state.specs.xdp_machine.Values as is
+use Rattle.xdp_state.specs.xdp_machine.State.{Machine, register}
+use Rattle.xdp_state.specs.xdp_machine.Helpers as helpers
+use Rattle.xdp_state.specs.xdp_machine.Helpers.{region}
+use Rattle.xdp_state.specs.xdp_machine.Step.{effect}
+use Rattle.xdp_state.specs.xdp_machine.Touched.{under_key}
+use Rattle.xdp_state.proofs.xdp_machine.ChangeLaws.{some_inj}
 use Rattle.kind_core.specs.Kinds as kinds
 use Rattle.kind_core.specs.Kinds.{key_bytes, key_in}
 use Rattle.site_cells.proofs.Slots.{bound}

@@ -5,7 +5,7 @@ use Rattle.std.specs.Ordering.{int_eq}
 use Rattle.bpf_isa.specs.declared.operation.Op.TheVariants.{Call}
 use Rattle.bpf_isa.specs.declared.instruction.Insn.{Insn}
 use Rattle.xdp_maps.specs.declared.decl.MapDecl.{MapDecl}
-use Rattle.xdp_machine.proofs.ChangeLaws.{some_inj}
+use Rattle.xdp_state.proofs.xdp_machine.ChangeLaws.{some_inj}
 use Rattle.kind_core.specs.declared.number.Number.TheVariants.{Unknown}
 use Rattle.kind_core.specs.declared.kind.Kind.{Kind}
 use Rattle.kind_core.specs.declared.kind.Kind.TheVariants.{Num, MapRef}
@@ -22,10 +22,10 @@ use Rattle.cell_core.specs.Sites.{SiteView}
 use Rattle.cell_core.specs.Rows.{AreRows, greatest}
 use Rattle.operator_cells.specs.Rising.{GrowsTo, Rises, RiseAll}
 use Rattle.operator_cells.proofs.RisingLaws.{greatest_append, stand_none, stand_more, stand_all, rises_then}
-use Rattle.place_rows.specs.declared.span.Span.{Span}
-use Rattle.place_rows.specs.Spans.{no_place, one, region, map_of, pending_of, value_in, span_row, spans_row}
-use Rattle.place_rows.specs.Reading.{key_span, call_reads, result_row}
-use Rattle.place_rows.specs.Writing.{writes_as, record_as, called_on, is_open_in, taken_row, made_row}
+use Rattle.held_cells.specs.place_rows.declared.span.Span.{Span}
+use Rattle.held_cells.specs.place_rows.Spans.{no_place, one, region, map_of, pending_of, value_in, span_row, spans_row}
+use Rattle.held_cells.specs.place_rows.Reading.{key_span, call_reads, result_row}
+use Rattle.held_cells.specs.place_rows.Writing.{writes_as, record_as, called_on, is_open_in, taken_row, made_row}
 use Rattle.held_cells.specs.declared.held.Held.{Held}
 use Rattle.held_cells.specs.Held.{PointerView}
 use Rattle.held_cells.specs.Rows.{value_row, held_row, map_used, row_before, is_some_place, written_row, LeavesTo, OperatesTo}

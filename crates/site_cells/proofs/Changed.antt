@@ -15,16 +15,16 @@ use Rattle.xdp_maps.specs.State.{MapState, IsSound, decl_at, contents_at, with_c
 use Rattle.xdp_maps.specs.Calls.{change_bytes, number_at, changed, lookup_of}
 use Rattle.xdp_maps.specs.Operations as map
 use Rattle.xdp_maps.specs.Operations.{Operation, operated}
-use Rattle.xdp_machine.specs.Values.{Value, number_in, ◌>>=◌}
-use Rattle.xdp_machine.specs.Values as is
-use Rattle.xdp_machine.specs.State.{Machine, PacketIn, register}
-use Rattle.xdp_machine.specs.Memory.{bytes_in, aligned}
-use Rattle.xdp_machine.specs.Atomics.{fetches, wide_of}
-use Rattle.xdp_machine.specs.Step.{effect}
-use Rattle.xdp_machine.specs.Touched as touched
-use Rattle.xdp_machine.specs.Touched.{answers_old}
-use Rattle.xdp_machine.proofs.ChangeLaws.{some_inj}
-use Rattle.xdp_machine.proofs.PartLaws.{at_or, bytes_in_slice}
+use Rattle.xdp_state.specs.xdp_machine.Values.{Value, number_in, ◌>>=◌}
+use Rattle.xdp_state.specs.xdp_machine.Values as is
+use Rattle.xdp_state.specs.xdp_machine.State.{Machine, PacketIn, register}
+use Rattle.xdp_state.specs.xdp_machine.Memory.{bytes_in, aligned}
+use Rattle.xdp_state.specs.xdp_machine.Atomics.{fetches, wide_of}
+use Rattle.xdp_state.specs.xdp_machine.Step.{effect}
+use Rattle.xdp_state.specs.xdp_machine.Touched as touched
+use Rattle.xdp_state.specs.xdp_machine.Touched.{answers_old}
+use Rattle.xdp_state.proofs.xdp_machine.ChangeLaws.{some_inj}
+use Rattle.xdp_state.proofs.xdp_machine.PartLaws.{at_or, bytes_in_slice}
 use Rattle.kind_core.specs.declared.number.Number.TheVariants.{Unknown}
 use Rattle.kind_core.specs.declared.kind.Kind.TheVariants.{Num, Entry}
 use Rattle.kind_core.specs.declared.kind.Kinds.{Kinds}

@@ -10,14 +10,14 @@ use Rattle.xdp_maps.specs.State.{MapState, decl_at, contents_at, with_contents}
 use Rattle.xdp_maps.specs.Calls.{delete_number, deleted, update_number, updated}
 use Rattle.xdp_maps.specs.Operations as map
 use Rattle.xdp_maps.specs.Operations.{Operation, operated}
-use Rattle.xdp_machine.specs.Values.{Value, ◌>>=◌}
-use Rattle.xdp_machine.specs.Values as is
-use Rattle.xdp_machine.specs.State.{Machine, PacketIn, register}
-use Rattle.xdp_machine.specs.Helpers as helpers
-use Rattle.xdp_machine.specs.Step.{effect}
-use Rattle.xdp_machine.specs.Touched as touched
-use Rattle.xdp_machine.proofs.ChangeLaws.{some_inj}
-use Rattle.xdp_machine.proofs.NumberLaws.{word_of, delete_number_fits, update_number_fits}
+use Rattle.xdp_state.specs.xdp_machine.Values.{Value, ◌>>=◌}
+use Rattle.xdp_state.specs.xdp_machine.Values as is
+use Rattle.xdp_state.specs.xdp_machine.State.{Machine, PacketIn, register}
+use Rattle.xdp_state.specs.xdp_machine.Helpers as helpers
+use Rattle.xdp_state.specs.xdp_machine.Step.{effect}
+use Rattle.xdp_state.specs.xdp_machine.Touched as touched
+use Rattle.xdp_state.proofs.xdp_machine.ChangeLaws.{some_inj}
+use Rattle.xdp_state.proofs.xdp_machine.NumberLaws.{word_of, delete_number_fits, update_number_fits}
 use Rattle.kind_core.specs.declared.number.Number.{Number}
 use Rattle.kind_core.specs.declared.number.Number.TheVariants.{Unknown}
 use Rattle.kind_core.specs.declared.kind.Kind.{Kind}

@@ -12,14 +12,14 @@ use Rattle.xdp_maps.specs.Contents.{IsBytes}
 use Rattle.xdp_maps.specs.State.{MapState, IsSound, decl_at, contents_at}
 use Rattle.xdp_maps.specs.Calls.{lookup_of}
 use Rattle.xdp_maps.specs.Operations.{Operation}
-use Rattle.xdp_machine.specs.Values.{Value, ◌>>=◌}
-use Rattle.xdp_machine.specs.Values as is
-use Rattle.xdp_machine.specs.State.{Machine, PacketIn, register}
-use Rattle.xdp_machine.specs.Memory.{bytes_in, number_at, aligned}
-use Rattle.xdp_machine.specs.Memory as machine
-use Rattle.xdp_machine.specs.Touched.{accesses}
-use Rattle.xdp_machine.proofs.ChangeLaws.{some_inj}
-use Rattle.xdp_machine.proofs.PartLaws.{at_or, bytes_in_slice, aligned-within}
+use Rattle.xdp_state.specs.xdp_machine.Values.{Value, ◌>>=◌}
+use Rattle.xdp_state.specs.xdp_machine.Values as is
+use Rattle.xdp_state.specs.xdp_machine.State.{Machine, PacketIn, register}
+use Rattle.xdp_state.specs.xdp_machine.Memory.{bytes_in, number_at, aligned}
+use Rattle.xdp_state.specs.xdp_machine.Memory as machine
+use Rattle.xdp_state.specs.xdp_machine.Touched.{accesses}
+use Rattle.xdp_state.proofs.xdp_machine.ChangeLaws.{some_inj}
+use Rattle.xdp_state.proofs.xdp_machine.PartLaws.{at_or, bytes_in_slice, aligned-within}
 use Rattle.kind_core.specs.declared.kind.Kind.{Kind}
 use Rattle.kind_core.specs.declared.kind.Kind.TheVariants.{Entry}
 use Rattle.kind_core.specs.declared.kind.Kinds.{Kinds}

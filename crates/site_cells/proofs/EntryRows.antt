@@ -7,8 +7,8 @@ use Rattle.bpf_isa.specs.declared.operation.Size.{Size}
 use Rattle.bpf_isa.specs.declared.operation.Op.TheVariants.{Load, LoadSigned, Store, StoreImm}
 use Rattle.bpf_isa.specs.declared.instruction.Insn.{Insn}
 use Rattle.xdp_maps.specs.declared.decl.MapDecl.{MapDecl}
-use Rattle.xdp_machine.specs.Memory.{bytes_in}
-use Rattle.xdp_machine.proofs.ChangeLaws.{some_inj}
+use Rattle.xdp_state.specs.xdp_machine.Memory.{bytes_in}
+use Rattle.xdp_state.proofs.xdp_machine.ChangeLaws.{some_inj}
 use Rattle.kind_core.specs.declared.number.Number.TheVariants.{Known, Unknown}
 use Rattle.kind_core.specs.declared.kind.Kind.{Kind}
 use Rattle.kind_core.specs.declared.kind.Kind.TheVariants.{Unset, Num, Entry}
@@ -25,9 +25,9 @@ use Rattle.operator_cells.specs.Making.{Grows}
 use Rattle.operator_cells.specs.Rising.{Rises}
 use Rattle.operator_cells.proofs.MakingLaws.{grown_with, grown_none, reads_none}
 use Rattle.operator_cells.proofs.RisingLaws.{stand_none, stand_more, rises_none, rises_then}
-use Rattle.place_rows.specs.Spans.{no_place, one, pending, region, map_of, pending_of, is_in, spans_row}
-use Rattle.place_rows.specs.Reading.{is_entry, result_as, result_row}
-use Rattle.place_rows.specs.Writing.{writes_as, record_as, through}
+use Rattle.held_cells.specs.place_rows.Spans.{no_place, one, pending, region, map_of, pending_of, is_in, spans_row}
+use Rattle.held_cells.specs.place_rows.Reading.{is_entry, result_as, result_row}
+use Rattle.held_cells.specs.place_rows.Writing.{writes_as, record_as, through}
 use Rattle.held_cells.specs.declared.held.Held.{Held}
 use Rattle.held_cells.specs.Held.{PointerView, pointer_at}
 use Rattle.held_cells.specs.Rows.{value_row, map_used, row_before, OperatesTo}

@@ -4,10 +4,10 @@ use Rattle.std.specs.Prelude.{All}
 use Rattle.std.proofs.lemmas.List.{take_all, take-take, take-append-drop, drop-take, take-map, drop-map, map-append, length-map, length-take, length-drop}
 use Rattle.std.proofs.lemmas.List.Elements.{All-take, All-drop, All-push, All-map}
 use Rattle.byteorder.specs.Endian.{little_number, little_bytes}
-use Rattle.beat_core.specs.Words.{low_bytes, word_of}
-use Rattle.beat_core.proofs.WordLaws.{little_from-word_of, low_bytes-word_of, written_bytes}
-use Rattle.xdp_machine.specs.State.{PacketIn}
-use Rattle.xdp_machine.proofs.PartLaws.{at_or}
+use Rattle.cell_core.specs.beat_core.Words.{low_bytes, word_of}
+use Rattle.xdp_state.proofs.beat_core.WordLaws.{little_from-word_of, low_bytes-word_of, written_bytes}
+use Rattle.xdp_state.specs.xdp_machine.State.{PacketIn}
+use Rattle.xdp_state.proofs.xdp_machine.PartLaws.{at_or}
 use Rattle.cell_core.specs.Cells.{CellView, IsRun}
 use Rattle.cell_core.specs.Sites.{spelled, bytes_of}
 use Rattle.cell_core.proofs.SpelledLaws.{spelled_length}

@@ -11,9 +11,9 @@ use Rattle.kind_core.specs.Kinds.{register}
 use Rattle.cell_core.specs.Cells.{CellView}
 use Rattle.cell_core.specs.Rows.{AreRows, greatest}
 use Rattle.operator_cells.specs.Rising.{GrowsTo}
-use Rattle.place_rows.specs.declared.span.Span.{Span}
-use Rattle.place_rows.specs.Spans.{no_place, one, pending, pending_in, is_in, span_row}
-use Rattle.place_rows.proofs.SpanLaws.{in_none, in_one, is_inside, span_above, span_within}
+use Rattle.held_cells.specs.place_rows.declared.span.Span.{Span}
+use Rattle.held_cells.specs.place_rows.Spans.{no_place, one, pending, pending_in, is_in, span_row}
+use Rattle.held_cells.proofs.place_rows.SpanLaws.{in_none, in_one, is_inside, span_above, span_within}
 use Rattle.held_cells.specs.declared.held.Held.{Held}
 use Rattle.held_cells.specs.Held.{PointerView, Counts, AreInside}
 use Rattle.held_cells.specs.Rows.{kind_at, number_at, cells_of_pointer, value_row, held_row, row_before, LeavesTo}

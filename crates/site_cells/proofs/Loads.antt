@@ -10,13 +10,13 @@ use Rattle.xdp_maps.specs.declared.decl.MapDecl.{MapDecl}
 use Rattle.xdp_maps.specs.State.{MapState, decl_at, contents_at}
 use Rattle.xdp_maps.specs.Calls.{lookup_of}
 use Rattle.xdp_maps.specs.Operations as map
-use Rattle.xdp_machine.specs.Values.{Value, ◌>>=◌}
-use Rattle.xdp_machine.specs.Values as is
-use Rattle.xdp_machine.specs.State.{Machine, register}
-use Rattle.xdp_machine.specs.Memory.{bytes_in, number_at, aligned}
-use Rattle.xdp_machine.specs.Memory as machine
-use Rattle.xdp_machine.specs.Step.{effect}
-use Rattle.xdp_machine.specs.Touched as touched
+use Rattle.xdp_state.specs.xdp_machine.Values.{Value, ◌>>=◌}
+use Rattle.xdp_state.specs.xdp_machine.Values as is
+use Rattle.xdp_state.specs.xdp_machine.State.{Machine, register}
+use Rattle.xdp_state.specs.xdp_machine.Memory.{bytes_in, number_at, aligned}
+use Rattle.xdp_state.specs.xdp_machine.Memory as machine
+use Rattle.xdp_state.specs.xdp_machine.Step.{effect}
+use Rattle.xdp_state.specs.xdp_machine.Touched as touched
 use Rattle.kind_core.specs.declared.number.Number.TheVariants.{Unknown}
 use Rattle.kind_core.specs.declared.kind.Kind.TheVariants.{Num, Entry}
 use Rattle.kind_core.specs.declared.kind.Kinds.{Kinds}
@@ -26,8 +26,8 @@ use Rattle.kind_core.specs.Edges.{transferred}
 use Rattle.kind_core.specs.Tests.{passed}
 use Rattle.kind_core.specs.Effects.{effect_of, verdict}
 use Rattle.site_cells.proofs.Allowed.{load_allowed, signed_allowed}
-use Rattle.xdp_machine.specs.Arithmetic.{extended}
-use Rattle.xdp_machine.proofs.ChangeLaws.{some_inj}
+use Rattle.xdp_state.specs.xdp_machine.Arithmetic.{extended}
+use Rattle.xdp_state.proofs.xdp_machine.ChangeLaws.{some_inj}
 use Rattle.operator_cells.specs.Making.{GrowsWith, Makes}
 use Rattle.operator_cells.proofs.MakingLaws.{grown_with, grown_none, reads_none}
 use Rattle.site_cells.proofs.Slots.{bound}

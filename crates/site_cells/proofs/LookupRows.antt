@@ -5,7 +5,7 @@ use Rattle.std.specs.Ordering.{int_eq}
 use Rattle.bpf_isa.specs.declared.operation.Op.TheVariants.{Call}
 use Rattle.bpf_isa.specs.declared.instruction.Insn.{Insn}
 use Rattle.xdp_maps.specs.declared.decl.MapDecl.{MapDecl}
-use Rattle.xdp_machine.proofs.ChangeLaws.{some_inj}
+use Rattle.xdp_state.proofs.xdp_machine.ChangeLaws.{some_inj}
 use Rattle.kind_core.specs.declared.kind.Kind.{Kind}
 use Rattle.kind_core.specs.declared.kind.Kind.TheVariants.{MapRef, Maybe}
 use Rattle.kind_core.specs.declared.kind.Kinds.{Kinds}
@@ -20,10 +20,10 @@ use Rattle.operator_cells.specs.Making.{Grows}
 use Rattle.operator_cells.specs.Rising.{RiseAll}
 use Rattle.operator_cells.proofs.MakingLaws.{grown_with, reads_none}
 use Rattle.operator_cells.proofs.RisingLaws.{greatest_append, stand_none, stand_all, rises_then}
-use Rattle.place_rows.specs.declared.span.Span.{Span}
-use Rattle.place_rows.specs.Spans.{no_place, one, target, region, map_of, pending_of, key_in, span_row, spans_row}
-use Rattle.place_rows.specs.Reading.{key_span, call_reads, result_as, result_row}
-use Rattle.place_rows.specs.Writing.{writes_as, record_as, is_open_in, made_row}
+use Rattle.held_cells.specs.place_rows.declared.span.Span.{Span}
+use Rattle.held_cells.specs.place_rows.Spans.{no_place, one, target, region, map_of, pending_of, key_in, span_row, spans_row}
+use Rattle.held_cells.specs.place_rows.Reading.{key_span, call_reads, result_as, result_row}
+use Rattle.held_cells.specs.place_rows.Writing.{writes_as, record_as, is_open_in, made_row}
 use Rattle.held_cells.specs.declared.held.Held.{Held}
 use Rattle.held_cells.specs.Held.{PointerView, AreInside, pointer_at}
 use Rattle.held_cells.specs.Rows.{cells_of_pointer, value_row, held_row, map_used, row_before, LeavesTo, OperatesTo}

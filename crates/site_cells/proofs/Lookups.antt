@@ -11,11 +11,11 @@ use Rattle.xdp_maps.specs.declared.decl.MapDecl.{MapDecl}
 use Rattle.xdp_maps.specs.State.{MapState, decl_at, contents_at}
 use Rattle.xdp_maps.specs.Calls.{lookup_of}
 use Rattle.xdp_maps.specs.Operations as map
-use Rattle.xdp_machine.specs.Values.{Value}
-use Rattle.xdp_machine.specs.Values as is
-use Rattle.xdp_machine.specs.State.{Machine, register}
-use Rattle.xdp_machine.specs.Helpers as helpers
-use Rattle.xdp_machine.specs.Touched as machine
+use Rattle.xdp_state.specs.xdp_machine.Values.{Value}
+use Rattle.xdp_state.specs.xdp_machine.Values as is
+use Rattle.xdp_state.specs.xdp_machine.State.{Machine, register}
+use Rattle.xdp_state.specs.xdp_machine.Helpers as helpers
+use Rattle.xdp_state.specs.xdp_machine.Touched as machine
 use Rattle.kind_core.specs.declared.kind.Kind.{Kind}
 use Rattle.kind_core.specs.declared.kind.Kind.TheVariants.{MapRef, Maybe}
 use Rattle.kind_core.specs.declared.kind.Kinds.{Kinds}

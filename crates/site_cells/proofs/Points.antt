@@ -5,7 +5,7 @@ use Rattle.bpf_isa.specs.declared.operation.Op.{Op}
 use Rattle.bpf_isa.specs.declared.operation.Op.TheVariants.{Call}
 use Rattle.bpf_isa.specs.declared.instruction.Insn.{Insn}
 use Rattle.xdp_maps.specs.declared.decl.MapDecl.{MapDecl}
-use Rattle.xdp_machine.proofs.ChangeLaws.{some_inj}
+use Rattle.xdp_state.proofs.xdp_machine.ChangeLaws.{some_inj}
 use Rattle.kind_core.specs.declared.number.Number.TheVariants.{Unknown}
 use Rattle.kind_core.specs.declared.kind.Kind.{Kind}
 use Rattle.kind_core.specs.declared.kind.Kind.TheVariants.{Unset, Num, MapRef, Maybe, Entry, Stale}
@@ -26,7 +26,7 @@ use Rattle.held_cells.specs.Rows.{kind_at, number_at, map_used}
 use Rattle.held_cells.specs.Pointing.{Pointing, pointing_as, HoldsPointer, KeepPointers, changes_keys, IsThrough, ChangePoints, AccessPoints, PointsAs, OperationPoints}
 use Rattle.held_cells.specs.Reading.{OperationReads}
 use Rattle.held_cells.proofs.RowLaws.{put_register}
-use Rattle.place_rows.specs.Spans.{map_of}
+use Rattle.held_cells.specs.place_rows.Spans.{map_of}
 use Rattle.site_cells.specs.declared.here.Here.{Here}
 use Rattle.site_cells.specs.Siting.{LooksUp, Changes, lookup_site, access_site, change_site}
 use Rattle.site_cells.proofs.SiteReads.{change_reads, lookup_reads}

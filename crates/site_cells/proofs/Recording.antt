@@ -11,12 +11,12 @@ use Rattle.kind_core.specs.Kinds.{register}
 use Rattle.cell_core.specs.Cells.{CellView, cell_at, site_in}
 use Rattle.cell_core.specs.Sites.{SiteView, site_at, no_site, records}
 use Rattle.cell_core.specs.Rows.{greatest}
-use Rattle.place_rows.specs.declared.recording.Record.{Record}
-use Rattle.place_rows.specs.Spans.{no_place, one}
-use Rattle.place_rows.specs.Origins.{is_open, has_data}
-use Rattle.place_rows.specs.Reading.{result_row}
-use Rattle.place_rows.specs.Writing.{writes_as, record_as, is_open_in, taken_row, made_row}
-use Rattle.place_rows.proofs.SpanLaws.{one_number}
+use Rattle.held_cells.specs.place_rows.declared.recording.Record.{Record}
+use Rattle.held_cells.specs.place_rows.Spans.{no_place, one}
+use Rattle.held_cells.specs.place_rows.Origins.{is_open, has_data}
+use Rattle.held_cells.specs.place_rows.Reading.{result_row}
+use Rattle.held_cells.specs.place_rows.Writing.{writes_as, record_as, is_open_in, taken_row, made_row}
+use Rattle.held_cells.proofs.place_rows.SpanLaws.{one_number}
 use Rattle.held_cells.specs.Rows.{is_some_place, written_row, IsRecord, WriteWithin}
 
 -- ---- rows

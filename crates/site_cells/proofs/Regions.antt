@@ -5,11 +5,11 @@ use Rattle.std.proofs.lemmas.List.{get_or_default, get_or-take, get_or-drop, get
 use Rattle.std.proofs.lemmas.List.Elements.{All-take, All-drop, All-cons}
 use Rattle.std.proofs.lemmas.Bool.Decides.{nat_tests}
 use Rattle.xdp_maps.specs.declared.decl.MapDecl.{MapDecl}
-use Rattle.xdp_machine.specs.Memory.{inside}
-use Rattle.xdp_machine.specs.Helpers as machine
-use Rattle.xdp_machine.specs.Helpers.{stack_bytes}
-use Rattle.xdp_machine.proofs.ChangeLaws.{some_inj, inside-within}
-use Rattle.xdp_machine.proofs.PartLaws.{IsBytes-stack_bytes, bytes_in_slice}
+use Rattle.xdp_state.specs.xdp_machine.Memory.{inside}
+use Rattle.xdp_state.specs.xdp_machine.Helpers as machine
+use Rattle.xdp_state.specs.xdp_machine.Helpers.{stack_bytes}
+use Rattle.xdp_state.proofs.xdp_machine.ChangeLaws.{some_inj, inside-within}
+use Rattle.xdp_state.proofs.xdp_machine.PartLaws.{IsBytes-stack_bytes, bytes_in_slice}
 use Rattle.kind_core.specs.declared.number.Number.{Number}
 use Rattle.kind_core.specs.declared.kind.Kind.{Kind}
 use Rattle.kind_core.specs.declared.kind.Kind.TheVariants.{Unset, Num, Packet, Stack}

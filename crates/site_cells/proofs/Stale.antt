@@ -1,8 +1,8 @@
 -- Pointers to entries that a change may have taken away.
 use Rattle.std.proofs.Common.{◌≡◌, ℕ, ℤ, zero, suc, ◌==◌, if◌then◌else◌, Bool, true, false, List, [], ◌∷◌, get_or, map as map_list, slice_index, refl, ◌∙◌, ap}
 use Rattle.xdp_maps.specs.declared.decl.MapDecl.{MapDecl}
-use Rattle.xdp_machine.specs.Values.{Value}
-use Rattle.xdp_machine.specs.State.{Machine, PacketIn}
+use Rattle.xdp_state.specs.xdp_machine.Values.{Value}
+use Rattle.xdp_state.specs.xdp_machine.State.{Machine, PacketIn}
 use Rattle.kind_core.specs.declared.number.Number.{Number}
 use Rattle.kind_core.specs.declared.number.Number.TheVariants.{Unknown}
 use Rattle.kind_core.specs.declared.kind.Kind.{Kind}

@@ -14,14 +14,14 @@ use Rattle.xdp_maps.specs.Calls as entry
 use Rattle.xdp_maps.specs.Calls.{lookup_of}
 use Rattle.xdp_maps.specs.Operations as map
 use Rattle.xdp_maps.specs.Operations.{Operation, operated}
-use Rattle.xdp_machine.specs.Values.{Value, number_in, ◌>>=◌}
-use Rattle.xdp_machine.specs.Values as is
-use Rattle.xdp_machine.specs.State.{Machine, PacketIn, register}
-use Rattle.xdp_machine.specs.Memory.{bytes_in, aligned}
-use Rattle.xdp_machine.specs.Memory as machine
-use Rattle.xdp_machine.specs.Step.{effect}
-use Rattle.xdp_machine.specs.Touched as touched
-use Rattle.xdp_machine.proofs.ChangeLaws.{some_inj}
+use Rattle.xdp_state.specs.xdp_machine.Values.{Value, number_in, ◌>>=◌}
+use Rattle.xdp_state.specs.xdp_machine.Values as is
+use Rattle.xdp_state.specs.xdp_machine.State.{Machine, PacketIn, register}
+use Rattle.xdp_state.specs.xdp_machine.Memory.{bytes_in, aligned}
+use Rattle.xdp_state.specs.xdp_machine.Memory as machine
+use Rattle.xdp_state.specs.xdp_machine.Step.{effect}
+use Rattle.xdp_state.specs.xdp_machine.Touched as touched
+use Rattle.xdp_state.proofs.xdp_machine.ChangeLaws.{some_inj}
 use Rattle.kind_core.specs.declared.number.Number.{Number}
 use Rattle.kind_core.specs.declared.number.Number.TheVariants.{Known}
 use Rattle.kind_core.specs.Tests.{passed}

@@ -10,9 +10,9 @@ use Rattle.cell_core.specs.Cells.{CellView}
 use Rattle.cell_core.specs.Rows.{greatest}
 use Rattle.operator_cells.specs.Rising.{RiseAll}
 use Rattle.operator_cells.proofs.RisingLaws.{greatest_part, stand_none, stand_all}
-use Rattle.place_rows.specs.Spans.{slots_of, bytes_of, span_row}
-use Rattle.place_rows.specs.Spans as places
-use Rattle.place_rows.proofs.SpanLaws.{is_inside, span_above}
+use Rattle.held_cells.specs.place_rows.Spans.{slots_of, bytes_of, span_row}
+use Rattle.held_cells.specs.place_rows.Spans as places
+use Rattle.held_cells.proofs.place_rows.SpanLaws.{is_inside, span_above}
 use Rattle.held_cells.specs.declared.held.Held.{Held}
 use Rattle.held_cells.specs.Held.{PointerView}
 use Rattle.held_cells.specs.Rows.{number_row, value_row, held_row}

@@ -6,11 +6,11 @@ use Rattle.bpf_isa.specs.declared.operation.Size.TheVariants.{Dw}
 use Rattle.bpf_isa.specs.declared.instruction.Insn.{Insn}
 use Rattle.xdp_maps.specs.declared.decl.MapDecl.{MapDecl}
 use Rattle.xdp_maps.specs.declared.change.ChangeKind.{ChangeKind}
-use Rattle.xdp_machine.specs.Values.{number_in}
-use Rattle.xdp_machine.specs.State.{Machine, PacketIn}
-use Rattle.xdp_machine.specs.State as machine
-use Rattle.xdp_machine.specs.Atomics.{fetches, kind_of}
-use Rattle.xdp_machine.specs.Touched.{answers_old}
+use Rattle.xdp_state.specs.xdp_machine.Values.{number_in}
+use Rattle.xdp_state.specs.xdp_machine.State.{Machine, PacketIn}
+use Rattle.xdp_state.specs.xdp_machine.State as machine
+use Rattle.xdp_state.specs.xdp_machine.Atomics.{fetches, kind_of}
+use Rattle.xdp_state.specs.xdp_machine.Touched.{answers_old}
 use Rattle.kind_core.specs.declared.number.Number.{Number}
 use Rattle.kind_core.specs.declared.kind.Kind.TheVariants.{Num}
 use Rattle.kind_core.specs.declared.kind.Kinds.{Kinds}

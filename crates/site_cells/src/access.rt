@@ -2,8 +2,8 @@
 
 ghost use Rattle.std.specs.Prelude.{◌≡◌, ◌<◌, ◌≤◌, ◌++◌, [], ◌∷◌, ℕ, ℤ, pos, ◌+◌, ◌+ℤ◌, Bool, List, length, All, IfOk, IfSome, OnOk, false};
 ghost use Rattle.xdp_maps.specs.declared.decl.MapDecl.{MapDecl};
-ghost use Rattle.xdp_machine.specs.Memory.{bytes_in};
-ghost use Rattle.xdp_machine.specs.Memory as machine;
+ghost use Rattle.xdp_state.specs.xdp_machine.Memory.{bytes_in};
+ghost use Rattle.xdp_state.specs.xdp_machine.Memory as machine;
 ghost use Rattle.bpf_isa.specs.Spelling.{IsInsn};
 ghost use Rattle.kind_core.specs.Tests.{passed};
 ghost use Rattle.kind_core.specs.Kinds as kind;

@@ -2,7 +2,7 @@
 
 ghost use Rattle.std.specs.Prelude.{◌≡◌, ◌<◌, ◌≤◌, ◌+◌, ◌+ℤ◌, ℕ, ℤ, pos, List, length, slice_index, All, IfOk, IfSome};
 ghost use Rattle.xdp_maps.specs.declared.decl.MapDecl.{MapDecl};
-ghost use Rattle.xdp_machine.specs.Memory as machine;
+ghost use Rattle.xdp_state.specs.xdp_machine.Memory as machine;
 ghost use Rattle.kind_core.specs.declared.kind.Kind.TheVariants as kind_is;
 ghost use Rattle.kind_core.specs.Tests.{passed};
 ghost use Rattle.kind_core.specs.Calls.{region};
@@ -12,15 +12,15 @@ ghost use Rattle.operator_cells.specs.Making.{seen, Makes};
 ghost use Rattle.operator_cells.specs.Rising.{Rises, RiseAll};
 ghost use Rattle.held_cells.specs.Held.{PointerView, AreInside, IsThere, number_of};
 ghost use Rattle.held_cells.specs.Rows.{number_row, value_row, held_row};
-ghost use Rattle.place_rows.specs.Spans.{slots_of, span_row};
-ghost use Rattle.place_rows.specs.Spans as places;
+ghost use Rattle.held_cells.specs.place_rows.Spans.{slots_of, span_row};
+ghost use Rattle.held_cells.specs.place_rows.Spans as places;
 ghost use Rattle.site_cells.specs.Words.{JoinsWords, HasNumber, HoldsByte, HoldsBytes, HoldsRegion, MakesWords};
 
 use crate::sizes::are_whole;
 use cell_core::cell::{Cell, Cells};
 use held_cells::held::Held;
 use kind_core::{Kind, Kinds, Number};
-use operator_cells::cells::{constant, slice};
+use operator_cells::sharing::{shared_constant, shared_slice};
 use operator_cells::slicing::join_bytes;
 use std::alloc::AllocError;
 use xdp_state::memory::inside;
@@ -51,11 +51,11 @@ fn number_byte(cells: &mut Vec<Cell>, number: Number, held: u32, at: u32) -> Res
 {
     match number {
         Number::Known(n) => {
-            let c = constant(cells, n >> (8 * at), 8)?;
+            let c = shared_constant(cells, n >> (8 * at), 8)?;
             Ok(c)
         }
         Number::Unknown => {
-            let c = slice(cells, held, 8 * at, 8)?;
+            let c = shared_slice(cells, held, 8 * at, 8)?;
             Ok(c)
         }
     }
@@ -74,7 +74,7 @@ fn slot_byte(cells: &mut Vec<Cell>, kind: Kind, held: u32, at: u32) -> Result<u3
             Ok(c)
         }
         _ => {
-            let c = constant(cells, 0, 8)?;
+            let c = shared_constant(cells, 0, 8)?;
             Ok(c)
         }
     }

@@ -1,2 +1,3 @@
+pub use Rattle.hazard_core.specs as hazard_core
 pub mod Pointers
 pub mod Sites

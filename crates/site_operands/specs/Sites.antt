@@ -1,7 +1,7 @@
 -- When operands stand for the cells of a site, as a packet holds them.
 use Rattle.std.specs.Prelude.{◌≡◌, ℕ, ◌<◌, ◌++◌, List, ◌∷◌, length, map as map_list}
 use Rattle.std.proofs.Common.{get_or}
-use Rattle.net_core.specs.Value.{Env}
+use Rattle.cell_nets.specs.net_core.Value.{Env}
 use Rattle.cell_core.specs.Sites.{ProgramView, site_at}
 use Rattle.hazard_core.specs.Held.{Held, held_value, pointer_in, found_cell, answer_cell, access_pointer}
 use Rattle.cell_nets.specs.declared.operand.Operand.{Operand}

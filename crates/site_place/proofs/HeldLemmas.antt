@@ -3,8 +3,8 @@ use Rattle.std.specs.Prelude.{◌≡◌, ℕ, if◌then◌else◌, List, [], ◌
 use Rattle.std.proofs.Common.{refl, ap}
 use Rattle.cell_core.specs.declared.operator.Operator.TheVariants.{Wire, Phi, Found}
 use Rattle.cell_core.specs.Cells.{on}
-use Rattle.hazard_core.specs.Held.{Held, held_value, pointer_in}
-use Rattle.hazard_core.specs.Rows.{phi_pointer}
+use Rattle.site_operands.specs.hazard_core.Held.{Held, held_value, pointer_in}
+use Rattle.site_operands.specs.hazard_core.Rows.{phi_pointer}
 use Rattle.site_place.specs.Pointing.{joined_pointer}
 use Rattle.site_place.specs.Holding.{PointersAreHeld}
 

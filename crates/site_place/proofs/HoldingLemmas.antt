@@ -12,8 +12,8 @@ use Rattle.net_core.specs.Ports.{port_list}
 use Rattle.net_core.specs.Value.{word, bit, nothing, Env, value}
 use Rattle.net_core.specs.Clock.{Stored, done}
 use Rattle.net_core.specs.Width.{Scope, width_of, statement_typed}
-use Rattle.design_rules.specs.FormedSyntax.{depth, prefixes_apart, statement_spelled}
-use Rattle.product_rules.specs.Products.{is_flat, statement_flat}
+use Rattle.cell_nets.specs.design_rules.FormedSyntax.{depth, prefixes_apart, statement_spelled}
+use Rattle.cell_nets.specs.product_rules.Products.{is_flat, statement_flat}
 use Rattle.block_core.specs.declared.name.Name.{Name}
 use Rattle.block_core.specs.declared.name.Name.TheVariants as name
 use Rattle.block_core.specs.Blocks.{BlockTree, BlockWireTree, Whole, Among}
@@ -27,7 +27,7 @@ use Rattle.cell_nets.specs.Operands.{IsOperand, HasWidth, AreFit, IsDeclared, Ar
 use Rattle.cell_nets.specs.Parts.{part_tree}
 use Rattle.cell_nets.specs.Wires.{own, behind, HasBits, AreWires}
 use Rattle.cell_nets.proofs.PartLaws.{part_slice, part_small}
-use Rattle.frame_net.proofs.FormLaws.{and_is, one_is}
+use Rattle.place_net.proofs.frame_net.FormLaws.{and_is, one_is}
 use Rattle.place_net.specs.Place.{HasSize}
 use Rattle.place_net.specs.PlaceNets.{tree_for, set_statement}
 use Rattle.site_place.specs.Inputs.{Input, IsInput, number_from, width_of_input, input_word, first_word, input_tree, held_statement, HasWidths}

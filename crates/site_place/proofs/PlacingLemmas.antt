@@ -12,7 +12,7 @@ use Rattle.cell_core.specs.declared.cell.Cell.{Cell}
 use Rattle.cell_core.specs.View.{cell_of}
 use Rattle.cell_core.specs.Cells.{CellView, no_cell}
 use Rattle.cell_core.specs.Formed.{AreFormed}
-use Rattle.hazard_core.specs.declared.pointer.Pointer.{Pointer}
+use Rattle.site_operands.specs.hazard_core.declared.pointer.Pointer.{Pointer}
 use Rattle.cell_nets.specs.declared.operand.Operand.{Operand}
 use Rattle.cell_nets.specs.declared.operand.Operand.TheVariants.{Net}
 use Rattle.cell_nets.specs.Operands.{IsOperand, IsWide}

@@ -6,16 +6,16 @@ use Rattle.std.proofs.lemmas.List.{length-set, length-map}
 use Rattle.std.proofs.lemmas.List.Elements.{All-nil, All-append, All-contains}
 use Rattle.std.proofs.Math.Seq.{take-suc}
 use Rattle.net_core.specs.Value.{Env}
-use Rattle.xdp_machine.specs.State.{PacketIn}
-use Rattle.product_blocks.specs.Apart.{is_marked, AreMarked}
-use Rattle.product_blocks.proofs.FreeLaws.{all_marked}
-use Rattle.product_blocks.proofs.CleanLaws.{marked_behind}
+use Rattle.cell_core.specs.xdp_machine.State.{PacketIn}
+use Rattle.cell_nets.specs.product_blocks.Apart.{is_marked, AreMarked}
+use Rattle.cell_nets.proofs.product_blocks.FreeLaws.{all_marked}
+use Rattle.cell_nets.proofs.product_blocks.CleanLaws.{marked_behind}
 use Rattle.block_core.specs.declared.name.Name.{Name}
 use Rattle.block_core.specs.Blocks.{BlockWireTree}
 use Rattle.cell_core.specs.declared.operator.Operator.{Operator}
 use Rattle.cell_core.specs.declared.operator.Operator.TheVariants.{Wire, Phi}
 use Rattle.cell_core.specs.Cells.{CellView, cell_at, on, phi}
-use Rattle.hazard_core.specs.declared.pointer.Pointer.{Pointer}
+use Rattle.site_operands.specs.hazard_core.declared.pointer.Pointer.{Pointer}
 use Rattle.cell_nets.specs.declared.operand.Operand.{Operand}
 use Rattle.cell_nets.specs.declared.operand.Operand.TheVariants.{Known, Net, Part}
 use Rattle.cell_nets.specs.Operands.{number_in, IsOperand, IsFit, AreFit, IsAvailable}

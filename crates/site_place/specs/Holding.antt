@@ -4,9 +4,9 @@ use Rattle.cell_core.specs.declared.operator.Operator.{Operator}
 use Rattle.cell_core.specs.Cells.{CellView}
 use Rattle.cell_core.specs.Sites.{ProgramView}
 use Rattle.cell_nets.specs.Computing.{is_outside}
-use Rattle.hazard_core.specs.Tables.{TableState}
-use Rattle.hazard_core.specs.Held.{Held, held_value, pointer_in}
-use Rattle.hazard_core.specs.Rows.{cell_pointer}
+use Rattle.site_operands.specs.hazard_core.Tables.{TableState}
+use Rattle.site_operands.specs.hazard_core.Held.{Held, held_value, pointer_in}
+use Rattle.site_operands.specs.hazard_core.Rows.{cell_pointer}
 use Rattle.site_place.specs.Pointing.{made_pointer}
 
 -- of cells that are computed, from what a packet holds

@@ -2,12 +2,12 @@
 use Rattle.std.specs.Prelude.{◌≡◌, ℕ, suc, ◌+◌, ◌<◌, true, false, Option, None, All, Contains, List, [], ◌∷◌, ◌++◌, length, map as map_list, IsTrue}
 use Rattle.std.specs.List.{list_all}
 use Rattle.std.proofs.Common.{get_or}
-use Rattle.xdp_machine.specs.State.{PacketIn}
+use Rattle.cell_core.specs.xdp_machine.State.{PacketIn}
 use Rattle.net_core.specs.declared.tree.Word.{Word}
 use Rattle.net_core.specs.Ports.{port_list}
 use Rattle.net_core.specs.Value.{word, bit, Env}
 use Rattle.net_core.specs.Clock.{Stored, done}
-use Rattle.design_rules.specs.FormedSyntax.{statement_spelled}
+use Rattle.cell_nets.specs.design_rules.FormedSyntax.{statement_spelled}
 use Rattle.block_core.specs.declared.name.Name.{Name}
 use Rattle.block_core.specs.declared.name.Name.TheVariants as name
 use Rattle.block_core.specs.Blocks.{BlockTree, registers_of, memories_of, first_of, Whole, Among}
@@ -15,7 +15,7 @@ use Rattle.block_core.specs.Parts.{Solve, Goes, Within}
 use Rattle.block_core.specs.Order.{IsBefore, InOrder}
 use Rattle.block_core.specs.Formed.{names_scope, block_registers, IsTypedBlock, StatementReads, IsThere}
 use Rattle.cell_core.specs.Cells.{CellView}
-use Rattle.hazard_core.specs.declared.pointer.Pointer.{Pointer}
+use Rattle.site_operands.specs.hazard_core.declared.pointer.Pointer.{Pointer}
 use Rattle.cell_nets.specs.declared.operand.Operand.{Operand}
 use Rattle.cell_nets.specs.declared.operand.Operand.TheVariants.{Net}
 use Rattle.cell_nets.specs.Operands.{AreFit, AreDeclared, IsAvailable, IsNetOf}

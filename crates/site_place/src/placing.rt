@@ -2,7 +2,7 @@
 
 ghost use Rattle.std.specs.Prelude.{ℕ, Bool, ◌≡◌, ◌<◌, ◌⊎◌, List, All, Contains, IfOk, length, map as map_list};
 ghost use Rattle.net_core.specs.Value.{Env};
-ghost use Rattle.product_blocks.specs.Alone.{IsApartAlone};
+ghost use Rattle.cell_nets.specs.product_blocks.Alone.{IsApartAlone};
 ghost use Rattle.block_core.specs.declared.name.Name.{Name};
 ghost use Rattle.block_core.specs.Parts.{Solve};
 ghost use Rattle.block_core.specs.View.{block_of};

@@ -3,7 +3,7 @@ use Rattle.std.specs.Prelude.{Option}
 use Rattle.std.proofs.Common.{◌≡◌, ◌∙◌, inl, inr, ℕ, zero, suc, ◌<◌, All, Some, None, List, [], ◌∷◌, ◌++◌, length, map as map_list, get_or, refl, sym, ap, subst, arith, slice_index, lit<}
 use Rattle.std.proofs.lemmas.List.Elements.{All-nil, All-cons, All-head, All-tail, All-append}
 use Rattle.std.proofs.lemmas.Nat.{pow_pos}
-use Rattle.net_core.specs.Value.{Env}
+use Rattle.cell_nets.specs.net_core.Value.{Env}
 use Rattle.cell_core.specs.Acts.{pointer_operand}
 use Rattle.cell_core.specs.Sites.{ProgramView, site_at}
 use Rattle.cell_nets.specs.declared.operand.Operand.{Operand}

@@ -7,9 +7,9 @@ use Rattle.std.proofs.lemmas.List.Elements.{All-contains, Contains-get_or, Conta
 use Rattle.std.proofs.lemmas.List.Sums.{passes_at_first}
 use Rattle.std.proofs.lemmas.Nat.{pow_pos}
 use Rattle.xdp_maps.specs.declared.decl.MapDecl.{MapDecl}
-use Rattle.xdp_machine.specs.State.{PacketIn}
-use Rattle.net_core.specs.declared.tree.Word.{Word}
-use Rattle.net_core.specs.Value.{nothing, Env}
+use Rattle.cell_core.specs.xdp_machine.State.{PacketIn}
+use Rattle.cell_nets.specs.net_core.declared.tree.Word.{Word}
+use Rattle.cell_nets.specs.net_core.Value.{nothing, Env}
 use Rattle.block_core.specs.declared.name.Name.{Name}
 use Rattle.block_core.specs.declared.name.Name.TheVariants as name
 use Rattle.cell_core.specs.declared.operator.Operator.{Operator}

@@ -1,7 +1,7 @@
 -- What stands for the cells of a site.
 use Rattle.std.specs.Prelude.{◌≡◌, ℕ, ◌<◌, Option, Some, None, List, length, slice_index, All, map as map_list}
 use Rattle.std.proofs.Common.{get_or, ◌⊎◌}
-use Rattle.net_core.specs.Value.{Env}
+use Rattle.cell_nets.specs.net_core.Value.{Env}
 use Rattle.cell_core.specs.declared.site.Act.{Act}
 use Rattle.cell_core.specs.Sites.{SiteView, ProgramView, site_at}
 use Rattle.cell_nets.specs.declared.operand.Operand.{Operand}

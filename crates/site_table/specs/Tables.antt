@@ -2,8 +2,8 @@
 use Rattle.std.specs.Prelude.{◌≡◌, ℕ, suc, ◌<◌, Bool, Option, List, length, slice_index, map as map_list}
 use Rattle.std.proofs.Common.{get_or}
 use Rattle.xdp_maps.specs.declared.decl.MapDecl.{MapDecl}
-use Rattle.net_core.specs.declared.tree.Word.{Word}
-use Rattle.net_core.specs.Value.{nothing, Env}
+use Rattle.cell_nets.specs.net_core.declared.tree.Word.{Word}
+use Rattle.cell_nets.specs.net_core.Value.{nothing, Env}
 use Rattle.block_core.specs.declared.name.Name.{Name}
 use Rattle.block_core.specs.declared.name.Name.TheVariants as name
 use Rattle.cell_core.specs.Cells.{CellView}

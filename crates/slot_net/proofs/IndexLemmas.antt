@@ -18,14 +18,14 @@ use Rattle.xdp_maps.specs.declared.decl.MapDecl.{MapDecl}
 use Rattle.xdp_maps.specs.declared.decl.MapKind.TheVariants.{Array}
 use Rattle.xdp_maps.specs.Contents.{IsBytes, IsWithinLimits, limits_as, index_key}
 use Rattle.xdp_maps.proofs.ByteLaws.{IsBytes-little_bytes}
-use Rattle.cell_core.specs.Cells.{bits_from}
-use Rattle.cell_core.specs.Sites.{bytes_of}
-use Rattle.hazard_core.specs.declared.slot.Slot.{Slot}
-use Rattle.hazard_core.specs.Tables.{slot_at, no_slot, has_key, slot_of}
-use Rattle.hazard_core.specs.Tabled.{IsTable, IsFilledTable}
-use Rattle.hazard_core.specs.declared.pointer.Pointer.TheVariants.{InSlot, Null}
-use Rattle.hazard_core.specs.Held.{slot_pointer}
-use Rattle.hazard_core.specs.Commits.{word_at}
+use Rattle.cell_nets.specs.cell_core.Cells.{bits_from}
+use Rattle.cell_nets.specs.cell_core.Sites.{bytes_of}
+use Rattle.array_net.specs.hazard_core.declared.slot.Slot.{Slot}
+use Rattle.array_net.specs.hazard_core.Tables.{slot_at, no_slot, has_key, slot_of}
+use Rattle.array_net.specs.hazard_core.Tabled.{IsTable, IsFilledTable}
+use Rattle.array_net.specs.hazard_core.declared.pointer.Pointer.TheVariants.{InSlot, Null}
+use Rattle.array_net.specs.hazard_core.Held.{slot_pointer}
+use Rattle.array_net.specs.hazard_core.Commits.{word_at}
 use Rattle.site_operands.specs.Pointers.{pointer_number}
 use Rattle.cell_nets.specs.declared.operand.Operand.{Operand}
 use Rattle.cell_nets.specs.declared.operand.Operand.TheVariants.{Known}

@@ -5,7 +5,7 @@ use Rattle.std.proofs.lemmas.Nat.{pow_pos}
 use Rattle.net_core.specs.declared.tree.Op.TheVariants.{Less}
 use Rattle.net_core.specs.Nets.{Tree, TConst, TBinary, TConditional, TConcatenation, TMore, TLast}
 use Rattle.net_core.specs.Value.{Env, word}
-use Rattle.cell_core.specs.Cells.{bit, bits_from}
+use Rattle.cell_nets.specs.cell_core.Cells.{bit, bits_from}
 use Rattle.cell_nets.specs.declared.operand.Operand.{Operand}
 use Rattle.cell_nets.specs.Operands.{number_in}
 use Rattle.cell_nets.specs.Parts.{IsPart, IsSlice}

@@ -13,8 +13,8 @@ use Rattle.net_core.specs.Ports.{port_list}
 use Rattle.net_core.specs.Value.{bit, Env, right_value}
 use Rattle.net_core.specs.Width.{Scope, width_of, right_width, same}
 use Rattle.net_core.specs.Clock.{Stored}
-use Rattle.design_rules.specs.FormedSyntax.{right_spelled}
-use Rattle.product_blocks.specs.Alone.{wire_flat}
+use Rattle.frame_net.specs.design_rules.FormedSyntax.{right_spelled}
+use Rattle.frame_net.specs.product_blocks.Alone.{wire_flat}
 use Rattle.block_core.specs.declared.name.Name.{Name}
 use Rattle.block_core.specs.declared.name.Name.TheVariants as name
 use Rattle.block_core.specs.Blocks.{BlockWireTree, Whole}
@@ -22,10 +22,10 @@ use Rattle.block_core.specs.Parts.{Solve, Goes}
 use Rattle.block_core.specs.Order.{RightReads, IsBefore, InOrder}
 use Rattle.block_core.specs.Formed.{names_scope, name_width, block_memories, block_wires, block_wire_width, block_wires_typed, IsTypedBlock}
 use Rattle.xdp_maps.specs.declared.decl.MapDecl.{MapDecl}
-use Rattle.cell_core.specs.Cells.{bit as cell_bit}
-use Rattle.hazard_core.specs.declared.slot.Slot.{Slot}
-use Rattle.hazard_core.specs.Tables.{slot_at}
-use Rattle.hazard_core.specs.Commits.{word_count}
+use Rattle.cell_nets.specs.cell_core.Cells.{bit as cell_bit}
+use Rattle.array_net.specs.hazard_core.declared.slot.Slot.{Slot}
+use Rattle.array_net.specs.hazard_core.Tables.{slot_at}
+use Rattle.array_net.specs.hazard_core.Commits.{word_count}
 use Rattle.frame_net.specs.Frames.{word_at}
 use Rattle.frame_net.specs.GatherNets.{constant}
 use Rattle.frame_net.proofs.FormLaws.{and_is, wire_is, held_width}

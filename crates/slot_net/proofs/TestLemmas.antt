@@ -1,19 +1,17 @@
 -- Tests of slots as expressions.
-use Rattle.std.specs.Prelude.{◌==◌, ◌&&◌, not, bit_and, max}
-use Rattle.std.proofs.Common.{◌≡◌, ◌⊎◌, inl, inr, ℕ, zero, suc, ◌+◌, ◌-◌, ◌^◌, ◌<◌, ◌≤◌, Bool, true, false, All, List, [], ◌∷◌, ◌++◌, length, length-append, take, drop, get_or, refl, sym, ◌∙◌, ap, subst, arith}
+use Rattle.std.specs.Prelude.{◌==◌, ◌&&◌, bit_and, max}
+use Rattle.std.proofs.Common.{◌≡◌, ◌⊎◌, inl, inr, ℕ, zero, suc, ◌+◌, ◌<◌, ◌≤◌, Bool, true, false, All, List, [], ◌∷◌, ◌++◌, length, length-append, take, drop, get_or, refl, sym, ◌∙◌, ap, subst, arith}
 use Rattle.std.proofs.lemmas.Bool.{cases_lt}
 use Rattle.std.proofs.lemmas.List.{get_or-map, get_or_default, length-map, get_or-take, get_or-drop, get_or_append_left, get_or-append-add, length-take-le, length-drop}
-use Rattle.net_core.specs.Nets.{Tree, TUnary, TBinary}
+use Rattle.net_core.specs.Nets.{Tree, TBinary}
 use Rattle.net_core.specs.Value.{Env}
 use Rattle.net_core.specs.declared.tree.Op.TheVariants.{And, Equal}
-use Rattle.net_core.specs.declared.tree.UnaryOp.TheVariants.{Not}
-use Rattle.cell_core.specs.Cells.{bit, on, bits_from}
+use Rattle.cell_nets.specs.cell_core.Cells.{bit}
 use Rattle.cell_nets.specs.declared.operand.Operand.{Operand}
 use Rattle.cell_nets.specs.declared.operand.Operand.TheVariants.{Known}
-use Rattle.cell_nets.specs.Operands.{number_in, IsAvailable}
+use Rattle.cell_nets.specs.Operands.{IsAvailable}
 use Rattle.cell_nets.specs.Parts.{IsPart, IsSlice}
-use Rattle.cell_nets.proofs.PartLaws.{part_small}
-use Rattle.cell_nets.proofs.PartLemmas.{part_same, part_of, binary_part, not_part, same_is, test_is}
+use Rattle.cell_nets.proofs.PartLemmas.{part_same, part_of, binary_part, same_is, test_is}
 use Rattle.array_net.specs.Words.{word_width}
 use Rattle.slot_net.specs.declared.slots.SlotNets.{SlotNets}
 use Rattle.slot_net.specs.Slots.{SlotOperands, slot_operands, slots_of, slot_past, all_of, operands_of}
@@ -35,14 +33,6 @@ pub and_test :
 and_test ins d f g x y t three e p q =
     part_of ins (suc (max d 3)) (d + 1) 1 _ (TBinary And x y) t (omega arith) e
     (part_same ins (suc (max d 3)) 1 _ _ (TBinary And x y) (λ v h. both_bits (f v) (g v)) (binary_part ins d 3 1 1 1 (λ v. bit (f v)) (λ v. bit (g v)) bit_and And x y (same_is 1) (λ a b. refl) refl p q))
-
-turned_bit : (n : ℕ) → n < 2 → 2 ^ 1 - 1 - n ≡ bit (not (on n))
-turned_bit zero h = refl
-turned_bit (suc zero) h = refl
-turned_bit (suc (suc n)) h = absurd (omega arith)
-
-pub free_bit : {N : Type 0} (ins : List (Operand N)) (a : Operand N) (x t : Tree N) → t ≡ TUnary Not x → IsSlice ins 2 1 (λ v. bits_from (number_in v a) 0 1) x → IsPart ins 8 1 (λ v. bit (not (on (bits_from (number_in v a) 0 1)))) t
-free_bit ins a x t e p = part_of ins 3 8 1 _ (TUnary Not x) t (omega arith) e (part_same ins 3 1 _ _ (TUnary Not x) (λ v h. turned_bit (bits_from (number_in v a) 0 1) (part_small (number_in v a) 0 1)) (not_part ins 2 1 _ x p))
 
 -- ---- lists of tests
 module _ {N : Type 0} (args : List (Operand N)) (hit : ℕ → Env N → Bool) where

@@ -12,12 +12,12 @@ use Rattle.std.proofs.lemmas.Slice.Eq.{bytes_eq-Decides}
 use Rattle.net_core.specs.Value.{Env}
 use Rattle.xdp_maps.specs.declared.decl.MapDecl.{MapDecl}
 use Rattle.xdp_maps.specs.Contents.{IsBytes}
-use Rattle.cell_core.specs.Cells.{bit, on, bits_from}
-use Rattle.hazard_core.specs.declared.slot.Slot.{Slot}
-use Rattle.hazard_core.specs.Tables.{slot_at, no_slot, has_key, slot_of, free_slot}
-use Rattle.hazard_core.specs.declared.pointer.Pointer.TheVariants.{InSlot, Null}
-use Rattle.hazard_core.specs.Held.{slot_pointer}
-use Rattle.hazard_core.specs.Commits.{word_count, word_at}
+use Rattle.cell_nets.specs.cell_core.Cells.{bit, on, bits_from}
+use Rattle.array_net.specs.hazard_core.declared.slot.Slot.{Slot}
+use Rattle.array_net.specs.hazard_core.Tables.{slot_at, no_slot, has_key, slot_of, free_slot}
+use Rattle.array_net.specs.hazard_core.declared.pointer.Pointer.TheVariants.{InSlot, Null}
+use Rattle.array_net.specs.hazard_core.Held.{slot_pointer}
+use Rattle.array_net.specs.hazard_core.Commits.{word_count, word_at}
 use Rattle.array_net.specs.Words.{word_width}
 use Rattle.site_operands.specs.Pointers.{pointer_number}
 use Rattle.cell_nets.specs.declared.operand.Operand.{Operand}
@@ -25,7 +25,7 @@ use Rattle.cell_nets.specs.declared.operand.Operand.TheVariants.{Known}
 use Rattle.cell_nets.specs.Operands.{number_in}
 use Rattle.slot_net.specs.declared.choosing.Numbering.TheVariants.{Pointers, Slots}
 use Rattle.slot_net.specs.Slots.{SlotOperands, slot_past, ShowsSlot, ShowSlots, HoldsKey, HaveKeys}
-use Rattle.slot_net.specs.Choosing.{number_at, chosen, operand_at, same_bits, is_under, is_free}
+use Rattle.slot_net.specs.Choosing.{number_at, chosen, operand_at, same_bits, is_under, is_used, first_passed}
 use Rattle.slot_net.proofs.ChosenLemmas.{from_zero, chosen_first, first_or_all, position_most}
 use Rattle.slot_net.proofs.WordLemmas.{word_small, same_words, bytes_are, word_of_words}
 
@@ -97,18 +97,14 @@ found_is v d keys key table ns count many keyed enough (shows, holds) =
     ∙ pointer_is (nat_lt (slot_of table key) (length table)) (slot_of table key)
 
 -- ---- the first free slot
-free_is : {N : Type 0} (v : Env N) (d : MapDecl) (slot : Slot) (n : SlotOperands N) → ShowsSlot v d slot n → is_free v n ≡ not slot.used
-free_is v d slot n shows = ap (λ k. not (on (bits_from k 0 1))) shows.used ∙ one slot.used
-  where
-    one : (b : Bool) → not (on (bits_from (bit b) 0 1)) ≡ not b
-    one true = refl
-    one false = refl
+free_is : {N : Type 0} (v : Env N) (d : MapDecl) (slot : Slot) (n : SlotOperands N) → ShowsSlot v d slot n → not (is_used v n) ≡ not slot.used
+free_is v d slot n shows = ap (λ k. not (on k)) shows.used ∙ ap not (on_bit slot.used)
 
 pub first_free :
     {N : Type 0} (v : Env N) (d : MapDecl) (table : List Slot) (ns : List (SlotOperands N)) (count : ℕ) → length ns ≡ count → ShowSlots v d table ns
-    → chosen (number_at Slots) (λ n. is_free v (get_or ns n slot_past)) count 0 count ≡ free_slot table
+    → first_passed Slots (λ n. is_used v (get_or ns n slot_past)) count 0 count ≡ free_slot table
 first_free v d table ns count many shows =
     let same : count ≡ length table = sym (shows.count ∙ many) in
-    chosen_first (number_at Slots) (λ n. is_free v (get_or ns n slot_past)) count (λ s. not s.used) no_slot table count (sym same) (λ n l. free_is v d (slot_at table n) (get_or ns n slot_past) (shows.each n slot_past (omega arith)))
+    chosen_first (number_at Slots) (λ n. not (is_used v (get_or ns n slot_past))) count (λ s. not s.used) no_slot table count (sym same) (λ n l. free_is v d (slot_at table n) (get_or ns n slot_past) (shows.each n slot_past (omega arith)))
     ∙ ap (λ k. if nat_lt (free_slot table) (length table) then free_slot table else k) same
     ∙ first_or_all (free_slot table) (length table) (position_most (λ s. not s.used) table)

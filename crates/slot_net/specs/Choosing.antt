@@ -1,9 +1,9 @@
 -- The first slot that passes a test, by its number.
 use Rattle.std.specs.Prelude.{ℕ, zero, suc, ◌+◌, ◌-◌, ◌*◌, ◌<◌, ◌==◌, nat_lt, Bool, ◌&&◌, not, if◌then◌else◌, All, List, length}
 use Rattle.std.proofs.Common.{get_or}
-use Rattle.net_core.specs.Nets.{Tree}
+use Rattle.net_core.specs.Nets.{Tree, TConditional}
 use Rattle.net_core.specs.Value.{Env}
-use Rattle.cell_core.specs.Cells.{bit, on, bits_from}
+use Rattle.cell_nets.specs.cell_core.Cells.{bit, on, bits_from}
 use Rattle.array_net.specs.Words.{word_width}
 use Rattle.cell_nets.specs.declared.operand.Operand.{Operand}
 use Rattle.cell_nets.specs.declared.operand.Operand.TheVariants.{Known}
@@ -18,10 +18,24 @@ abbrev pub number_at : Numbering → ℕ → ℕ
 number_at Pointers n = 4 * n + 1
 number_at Slots n = n
 
+-- whether a slot passes, by its test: where pointers stand for slots each that is hit, and else each that is not
+abbrev pub passes : Numbering → Bool → Bool
+passes Pointers b = b
+passes Slots b = not b
+
 -- of so many slots, from one on, the number of the first that is hit, or what stands for none
 abbrev pub chosen : (ℕ → ℕ) → (ℕ → Bool) → ℕ → ℕ → ℕ → ℕ
 chosen number hit none at zero = none
 chosen number hit none at (suc left) = if hit at then number at else chosen number hit none (suc at) left
+
+-- the number of the first that passes
+abbrev pub first_passed : Numbering → (ℕ → Bool) → ℕ → ℕ → ℕ → ℕ
+first_passed k hit none at left = chosen (number_at k) (λ n. passes k (hit n)) none at left
+
+-- the number of a slot where it passes, or else the rest
+abbrev pub choice_tree : {N : Type 0} → Numbering → Tree N → Tree N → Tree N → Tree N
+choice_tree Pointers test number rest = TConditional test number rest
+choice_tree Slots test number rest = TConditional test rest number
 
 -- Expressions of one bit over operands: whether each slot is hit, from one on.
 pub record AreTests {N : Type 0} (args : List (Operand N)) (hit : ℕ → Env N → Bool) (first : ℕ) (ts : List (Tree N)) : Type 0 where
@@ -40,8 +54,8 @@ abbrev pub is_under : {N : Type 0} → Env N → ℕ → List (Operand N) → Sl
 is_under v bytes key n zero = on (number_in v n.used)
 is_under v bytes key n (suc w) = is_under v bytes key n w && same_bits v (word_width bytes w) (operand_at n.key w) (operand_at key w)
 
-abbrev pub is_free : {N : Type 0} → Env N → SlotOperands N → Bool
-is_free v n = not (on (bits_from (number_in v n.used) 0 1))
+abbrev pub is_used : {N : Type 0} → Env N → SlotOperands N → Bool
+is_used v n = on (number_in v n.used)
 
 -- the number of the pointer to the slot of an index, by its four bytes
 abbrev pub indexed_pointer : ℕ → ℕ → ℕ → ℕ

@@ -5,8 +5,8 @@ use Rattle.net_core.specs.Nets.{SBlock, SEnd}
 use Rattle.net_core.specs.Ports.{port_list}
 use Rattle.net_core.specs.Value.{Env}
 use Rattle.net_core.specs.Clock.{Stored, done}
-use Rattle.design_rules.specs.FormedSyntax.{right_spelled, statement_spelled}
-use Rattle.product_blocks.specs.Alone.{IsFree}
+use Rattle.frame_net.specs.design_rules.FormedSyntax.{right_spelled, statement_spelled}
+use Rattle.frame_net.specs.product_blocks.Alone.{IsFree}
 use Rattle.block_core.specs.declared.name.Name.{Name}
 use Rattle.block_core.specs.declared.name.Name.TheVariants as name
 use Rattle.block_core.specs.Blocks.{BlockTree, BlockWireTree, Whole, Among}
@@ -14,8 +14,8 @@ use Rattle.block_core.specs.Parts.{Solve, Goes, Within}
 use Rattle.block_core.specs.Order.{InOrder}
 use Rattle.block_core.specs.Formed.{names_scope, block_memories, block_wires, IsTypedBlock, StatementReads, IsThere}
 use Rattle.xdp_maps.specs.declared.decl.MapDecl.{MapDecl}
-use Rattle.hazard_core.specs.declared.slot.Slot.{Slot}
-use Rattle.hazard_core.specs.Commits.{word_count}
+use Rattle.array_net.specs.hazard_core.declared.slot.Slot.{Slot}
+use Rattle.array_net.specs.hazard_core.Commits.{word_count}
 use Rattle.frame_net.specs.GatherNets.{constant, wire}
 use Rattle.frame_net.specs.SourcesNets.{held}
 use Rattle.array_net.specs.Words.{word_width}

@@ -1,10 +1,10 @@
 //! Where a key is found among the slots of a hash, and the first free one.
 
 ghost use Rattle.std.specs.Prelude.{ℕ, List, ◌≡◌, ◌+◌, ◌*◌, ◌^◌, ◌<◌, ◌≤◌, ◌++◌, All, length, IfOk};
-ghost use Rattle.hazard_core.specs.declared.slot.Slot.{Slot};
-ghost use Rattle.hazard_core.specs.Commits.{word_count};
-ghost use Rattle.hazard_core.specs.Held.{slot_pointer};
-ghost use Rattle.hazard_core.specs.Tables.{free_slot};
+ghost use Rattle.array_net.specs.hazard_core.declared.slot.Slot.{Slot};
+ghost use Rattle.array_net.specs.hazard_core.Commits.{word_count};
+ghost use Rattle.array_net.specs.hazard_core.Held.{slot_pointer};
+ghost use Rattle.array_net.specs.hazard_core.Tables.{free_slot};
 ghost use Rattle.xdp_maps.specs.declared.decl.MapDecl.{MapDecl};
 ghost use Rattle.site_operands.specs.Pointers.{pointer_number};
 ghost use Rattle.cell_nets.specs.Operands.{IsOperand, IsWide};
@@ -13,7 +13,7 @@ ghost use Rattle.slot_net.specs.Slots.{slots_of, operands_of, IsSlot, ShowSlots,
 
 use crate::choosing::{Numbering, first_of};
 use crate::slots::SlotNets;
-use crate::testing::{free_tests, key_tests};
+use crate::testing::{key_tests, used_tests};
 use block_core::block::BlockWire;
 use block_core::name::Name;
 use cell_nets::operand::Operand;
@@ -60,7 +60,7 @@ pub fn free_slot<P: Copy>(
     requires width { IsWide bits }
     ensures { (table : List Slot) (d : MapDecl) → IfOk result (Gives part (wires_of wires.old.items) (wires_of wires.new.items) (operands_of (slots_of slots.now)) (λ v. ShowSlots v d table (slots_of slots.now)) (λ v. free_slot table) bits) }
 {
-    let tests = free_tests(alloc, slots)?;
+    let tests = used_tests(alloc, slots)?;
     let none = slots.len() as u64;
     let out = first_of(alloc, wires, part, tests, Numbering::Slots, none, bits)?;
     Ok(out)

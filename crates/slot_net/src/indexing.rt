@@ -2,9 +2,9 @@
 
 ghost use Rattle.std.specs.Prelude.{ℕ, List, ◌≡◌, ◌+◌, ◌*◌, ◌^◌, ◌<◌, ◌≤◌, All, length, IfOk};
 ghost use Rattle.net_core.specs.View.{tree_of};
-ghost use Rattle.hazard_core.specs.declared.slot.Slot.{Slot};
-ghost use Rattle.hazard_core.specs.Held.{slot_pointer};
-ghost use Rattle.hazard_core.specs.Tabled.{IsTable};
+ghost use Rattle.array_net.specs.hazard_core.declared.slot.Slot.{Slot};
+ghost use Rattle.array_net.specs.hazard_core.Held.{slot_pointer};
+ghost use Rattle.array_net.specs.hazard_core.Tabled.{IsTable};
 ghost use Rattle.xdp_maps.specs.Contents.{IsWithinLimits};
 ghost use Rattle.xdp_maps.specs.declared.decl.MapKind.TheVariants.{Array};
 ghost use Rattle.site_operands.specs.Pointers.{pointer_number};

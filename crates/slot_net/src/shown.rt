@@ -3,7 +3,7 @@
 ghost use Rattle.std.specs.Prelude.{◌≡◌, ◌≤◌, ◌^◌, IfOk, map};
 ghost use Rattle.std.specs.List.{range_with_len};
 ghost use Rattle.block_core.specs.View.{block_of, block_wire_of};
-ghost use Rattle.hazard_core.specs.Commits.{word_count};
+ghost use Rattle.array_net.specs.hazard_core.Commits.{word_count};
 ghost use Rattle.xdp_maps.specs.Contents.{IsWithinLimits};
 ghost use Rattle.slot_net.specs.Shown.{wire_count, per_slot, shown_width, shown_wire, shown_slot, shown_slots, IsSlots};
 ghost use Rattle.slot_net.specs.Slots.{slot_operands, slots_of};

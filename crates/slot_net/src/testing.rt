@@ -1,13 +1,13 @@
 //! Tests of slots, each of one bit.
 
-ghost use Rattle.std.specs.Prelude.{ℕ, List, ◌≡◌, ◌++◌, ◌≤◌, All, length, IfOk, map, not};
+ghost use Rattle.std.specs.Prelude.{ℕ, List, ◌≡◌, ◌++◌, ◌≤◌, All, length, IfOk, map};
 ghost use Rattle.std.proofs.Common.{get_or};
 ghost use Rattle.net_core.specs.View.{tree_of};
-ghost use Rattle.cell_core.specs.Cells.{bit, on, bits_from};
-ghost use Rattle.hazard_core.specs.Commits.{word_count};
-ghost use Rattle.cell_nets.specs.Operands.{IsOperand, IsAvailable, IsWide, number_in};
+ghost use Rattle.cell_nets.specs.cell_core.Cells.{bit};
+ghost use Rattle.array_net.specs.hazard_core.Commits.{word_count};
+ghost use Rattle.cell_nets.specs.Operands.{IsOperand, IsAvailable, IsWide};
 ghost use Rattle.cell_nets.specs.Parts.{IsPart};
-ghost use Rattle.slot_net.specs.Choosing.{AreTests, same_bits, is_under, is_free};
+ghost use Rattle.slot_net.specs.Choosing.{AreTests, same_bits, is_under, is_used};
 ghost use Rattle.slot_net.specs.Slots.{slot_operands, slots_of, all_of, operands_of, IsSlot, slot_past};
 
 use crate::slots::SlotNets;
@@ -15,8 +15,8 @@ use array_net::words::{word_count, word_width};
 use cell_nets::choosing::truth;
 use cell_nets::operand::Operand;
 use cell_nets::slice::slice;
-use net_core::build::{binary, unary};
-use net_core::tree::{Expr, Op, UnaryOp};
+use net_core::build::binary;
+use net_core::tree::{Expr, Op};
 use std::alloc::{AllocError, Global};
 
 // Whether the low bits of two operands are the same.
@@ -59,16 +59,6 @@ fn key_test<N: Copy>(
     Ok(test)
 }
 
-// Whether a slot is not used.
-fn free_test<N: Copy>(alloc: Global, used: Operand<N>) -> Result<Expr<N>, AllocError>
-    requires { IsOperand used }
-    ensures { (ins : List (Operand N)) → IsAvailable ins used → IfOk result (λ e. IsPart ins 8 1 (λ v. bit (not (on (bits_from (number_in v used) 0 1)))) (tree_of e)) }
-{
-    let bit = slice(alloc, used, 0, 1)?;
-    let e = unary(alloc, UnaryOp::Not, bit)?;
-    Ok(e)
-}
-
 /// Whether each slot is used under a key of so many bytes.
 pub(crate) fn key_tests<N: Copy>(
     alloc: Global,
@@ -90,18 +80,18 @@ pub(crate) fn key_tests<N: Copy>(
     Ok(tests)
 }
 
-/// Whether each slot is not used.
-pub(crate) fn free_tests<N: Copy>(
+/// Whether each slot is used.
+pub(crate) fn used_tests<N: Copy>(
     alloc: Global,
     slots: &[SlotNets<N>],
 ) -> Result<Vec<Expr<N>>, AllocError>
     requires { All (λ n. IsOperand n.used) (slots_of slots.now) }
     ensures count { IfOk result (λ r. length r.items ≡ length slots.now) }
-    ensures tests { IfOk result (λ r. AreTests (operands_of (slots_of slots.now)) (λ n v. is_free v (get_or (slots_of slots.now) n slot_past)) 0 (map tree_of r.items)) }
+    ensures tests { IfOk result (λ r. AreTests (operands_of (slots_of slots.now)) (λ n v. is_used v (get_or (slots_of slots.now) n slot_past)) 0 (map tree_of r.items)) }
 {
     let mut tests = Vec::new(alloc);
     for slot in slots {
-        tests.push(free_test(alloc, slot.used)?)?;
+        tests.push(truth(alloc, slot.used)?)?;
     }
     Ok(tests)
 }

@@ -8,13 +8,13 @@ use Rattle.xdp_maps.specs.declared.decl.MapDecl.{MapDecl}
 use Rattle.xdp_maps.specs.declared.decl.MapKind.{MapKind}
 use Rattle.xdp_maps.specs.declared.decl.MapKind.TheVariants.{Hash, Array}
 use Rattle.xdp_maps.specs.State.{no_decl}
-use Rattle.hazard_core.specs.Tables.{decl_of}
+use Rattle.pipe_net.specs.hazard_core.Tables.{decl_of}
 use Rattle.cell_nets.specs.declared.operand.Operand.TheVariants.{Net}
 use Rattle.hash_net.specs.Hash.{count_name}
 use Rattle.slot_net.specs.Slots.{slots_of}
 use Rattle.slot_net.specs.Shown.{shown_slots, IsSlots}
 use Rattle.read_net.specs.declared.sites.MapNets.{MapNets}
-use Rattle.stage_net.specs.Nets.{decls_of}
+use Rattle.pipe_draft.specs.stage_net.Nets.{decls_of}
 use Rattle.map_block.specs.declared.form.MapForm.{MapForm}
 use Rattle.pipe_net.specs.declared.parts.Part.{Part}
 use Rattle.pipe_net.specs.declared.parts.Sizes.{Sizes}

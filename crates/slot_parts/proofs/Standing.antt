@@ -12,9 +12,9 @@ use Rattle.xdp_maps.specs.State.{no_decl}
 use Rattle.xdp_maps.specs.declared.decl.MapKind.TheVariants.{Hash, Array}
 use Rattle.block_core.specs.declared.name.Name.{Name}
 use Rattle.block_core.specs.declared.name.Name.TheVariants as name
-use Rattle.hazard_core.specs.Commits.{word_count}
-use Rattle.array_net.specs.Words.{word_width}
-use Rattle.array_net.proofs.WordLaws.{width_some, width_most}
+use Rattle.pipe_net.specs.hazard_core.Commits.{word_count}
+use Rattle.slot_net.specs.array_net.Words.{word_width}
+use Rattle.map_block.proofs.array_net.WordLaws.{width_some, width_most}
 use Rattle.hash_net.specs.Hash.{count_name}
 use Rattle.cell_nets.specs.declared.operand.Operand.TheVariants.{Known, Net}
 use Rattle.cell_nets.specs.Operands.{IsOperand, IsNarrow}

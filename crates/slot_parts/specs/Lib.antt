@@ -1,3 +1,4 @@
+pub use Rattle.pipe_turns.specs as pipe_turns
 pub mod Slots
 pub mod Nets
 pub mod Laws

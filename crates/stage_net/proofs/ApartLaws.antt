@@ -3,7 +3,7 @@ use Rattle.std.specs.Prelude.{Option, nat_le}
 use Rattle.std.proofs.Common.{◌≡◌, ◌∙◌, ℕ, zero, suc, Bool, true, false, ◌||◌, All, List, [], ◌∷◌, slice_index, refl, ap, arith}
 use Rattle.std.proofs.lemmas.Bool.{lt-leb}
 use Rattle.std.proofs.lemmas.List.Elements.{All-nil, All-cons}
-use Rattle.product_blocks.specs.Apart.{is_marked}
+use Rattle.cell_nets.specs.product_blocks.Apart.{is_marked}
 use Rattle.block_core.specs.declared.name.Name.{Name}
 use Rattle.cell_core.specs.declared.operator.Operator.{Operator}
 use Rattle.cell_core.specs.declared.operator.Operator.TheVariants.{Found, Answer}
@@ -13,11 +13,11 @@ use Rattle.cell_nets.specs.declared.operand.Operand.{Operand}
 use Rattle.cell_nets.specs.Apart.{IsClean}
 use Rattle.cell_nets.specs.Operands.{IsAvailable}
 use Rattle.cell_nets.proofs.ApartLemmas.{all_clean, all_self}
-use Rattle.row_plan.specs.Plan.{Plan}
-use Rattle.row_net.specs.Apart.{KeepApart}
-use Rattle.row_net.specs.Lists.{is_early, is_non_zero}
-use Rattle.row_net.specs.Table.{AreThere}
-use Rattle.place_net.specs.Place.{registers_from}
+use Rattle.site_table.specs.row_plan.Plan.{Plan}
+use Rattle.site_place.specs.row_net.Apart.{KeepApart}
+use Rattle.site_place.specs.row_net.Lists.{is_early, is_non_zero}
+use Rattle.site_place.specs.row_net.Table.{AreThere}
+use Rattle.site_place.specs.place_net.Place.{registers_from}
 use Rattle.site_table.specs.declared.tables.StageTables.{StageTables}
 use Rattle.site_table.specs.Lists.{held_cells}
 use Rattle.site_table.specs.Tables.{StandBehind}

@@ -1,7 +1,8 @@
 -- What a site of the program reads, over what stands at the place.
 use Rattle.std.specs.Prelude.{Result, Ok, Err, IfOk}
-use Rattle.std.proofs.Common.{◌≡◌, ◌∙◌, ℕ, zero, suc, ◌/◌, All, List, [], ◌∷◌, get_or, map, refl, sym, ap, subst}
-use Rattle.net_core.specs.Value.{Env}
+use Rattle.std.proofs.Common.{◌≡◌, ◌∙◌, ℕ, zero, suc, ◌/◌, All, List, [], ◌∷◌, length, get_or, map, refl, sym, ap, subst, arith}
+use Rattle.std.proofs.lemmas.List.Elements.{All-cons}
+use Rattle.cell_nets.specs.net_core.Value.{Env}
 use Rattle.block_core.specs.declared.name.Name.{Name}
 use Rattle.block_core.specs.Blocks.{BlockWireTree}
 use Rattle.cell_core.specs.Acts.{finds_key, reads}
@@ -12,19 +13,21 @@ use Rattle.hazard_core.specs.declared.pointer.Pointer.{Pointer}
 use Rattle.hazard_core.specs.declared.pointer.Pointer.TheVariants.{Null, InSlot}
 use Rattle.hazard_core.specs.Held.{Held, access_pointer, pending, pointer_operand}
 use Rattle.cell_nets.specs.declared.operand.Operand.{Operand}
+use Rattle.cell_nets.specs.Operands.{IsAvailable}
 use Rattle.cell_nets.specs.Wires.{behind}
-use Rattle.value_net.specs.Words.{answers_number, access_start}
+use Rattle.read_net.specs.value_net.Words.{answers_number, access_start}
 use Rattle.read_net.specs.declared.sites.OwnSite.{OwnSite}
 use Rattle.read_net.specs.declared.sites.MapNets.{MapNets}
 use Rattle.read_net.specs.declared.sites.ReadNets.{ReadNets}
 use Rattle.read_net.specs.Sites.{sites_of}
-use Rattle.read_net.specs.Reads.{AreCells, IsReadOf}
+use Rattle.read_net.specs.overlay_net.Reading.{ShowsSlot}
+use Rattle.read_net.specs.Reads.{taken, AreCells, IsReadOf}
 use Rattle.read_net.specs.Accesses.{HaveOperands, ShowsWord}
 use Rattle.stage_net.specs.declared.row.StageNets.{StageNets}
 use Rattle.stage_net.specs.Nets.{IsOwnOf, decls_of, AreNets}
-use Rattle.stage_net.specs.Reads.{HasEntry, ShowsUnder, SiteReads}
+use Rattle.stage_net.specs.Reads.{HasEntry, ShowsUnder, ShowsUnderKey, SiteReads}
 use Rattle.stage_net.specs.Staged.{HaveTables, IsStaged}
-use Rattle.stage_net.specs.Rows.{ShowsReads, IsSiteRead}
+use Rattle.stage_net.specs.Rows.{ShowsReads, ShowsFound, AllAreThere, IsSiteRead}
 use Rattle.stage_net.proofs.OwnLemmas.{its_nets, is_read_of, have_operands, taken_there, shows_all}
 
 -- ---- a packet that holds nothing has no pointer
@@ -58,9 +61,9 @@ read_site_of p row r nets s os ss m word j at own number owns seen same map is w
   word_is = word_is ∙ ap (λ i. get_or nets.words.now i word) (sym number);
 }
 
-module _ {P : Type 0} (part : P) (p : ProgramView) (row : ℕ → ℕ) (r : ℕ) (nets : StageNets (Name P)) (staged : IsStaged p row (decls_of nets.maps.now) nets.bits) (are : AreNets p nets) (tables : HaveTables (decls_of nets.maps.now)) (old new : List (BlockWireTree (Name P))) (s : OwnSite (Name P)) (ss : List (OwnSite (Name P))) (m : MapNets (Name P)) (word : Operand (Name P))
-    (read : IsReadSite p row r nets s ss m word) (from width : ℕ) (o : ReadNets (Name P))
-    (gives : (t : TableState) (h : Held) → IsReadOf p t row r m s ss → HaveOperands p ss → HasEntry p t h s → SiteReads part old new m s ss word from width p t h row r o) where
+module _ {P : Type 0} (part : P) (p : ProgramView) (row : ℕ → ℕ) (r : ℕ) (nets : StageNets (Name P)) (staged : IsStaged p row (decls_of nets.maps.now) nets.bits) (are : AreNets p nets) (tables : HaveTables (decls_of nets.maps.now)) (old new : List (BlockWireTree (Name P))) (s : OwnSite (Name P)) (ss : List (OwnSite (Name P))) (m : MapNets (Name P)) (slot word : Operand (Name P))
+    (read : IsReadSite p row r nets s ss m word) (slots : List (Operand (Name P))) (many : length slots ≡ length p.sites) (slot_is : slot ≡ get_or slots s.site slot) (from width : ℕ) (o : ReadNets (Name P))
+    (gives : (t : TableState) (h : Held) → IsReadOf p t row r m s ss → HaveOperands p ss → HasEntry p t h s → SiteReads part old new m s ss slot word from width p t h row r o) where
   abbrev own : IsOwnOf p nets.sites.now s
   own = read.own
 
@@ -76,10 +79,10 @@ module _ {P : Type 0} (part : P) (p : ProgramView) (row : ℕ → ℕ) (r : ℕ)
   abbrev word_is : word ≡ get_or nets.words.now s.site word
   word_is = read.word_is
 
-  given : (t : TableState) (h : Held) → AreTables t → t.decls ≡ decls_of nets.maps.now → HasEntry p t h s → SiteReads part old new m s ss word from width p t h row r o
+  given : (t : TableState) (h : Held) → AreTables t → t.decls ≡ decls_of nets.maps.now → HasEntry p t h s → SiteReads part old new m s ss slot word from width p t h row r o
   given t h tables decls entry = gives t h (is_read_of p row nets staged are r s own ss owns seen m is t tables decls) (have_operands p row nets staged are r s own ss owns seen m is) entry
 
-  base : SiteReads part old new m s ss word from width p tables.some nothing row r o
+  base : SiteReads part old new m s ss slot word from width p tables.some nothing row r o
   base = given tables.some nothing tables.tables tables.declared (λ e n f. absurd (no_slot (access_pointer nothing (site_at p.sites s.site)) n (null_at (site_at p.sites s.site).operands (pointer_operand (site_at p.sites s.site).act)) f))
 
   module _ (v : Env (Name P)) (t : TableState) (h : Held) (x : ShowsReads v p nets t h s.site) where
@@ -92,28 +95,36 @@ module _ {P : Type 0} (part : P) (p : ProgramView) (row : ℕ → ℕ) (r : ℕ)
         let under = access_pointer h (site_at p.sites s.site) in
         subst (λ a. ShowsWord v t k (access_start a / 8) under word) own.act (subst (ShowsWord v t k (access_start (site_at p.sites s.site).act / 8) under) (sym word_is) (x.entry word (ap answers_number own.act ∙ e)).under)
 
-  its_read : IsSiteRead part p row r nets s.site from width old new o
+  under_key : (v : Env (Name P)) (t : TableState) (h : Held) → ShowsFound v p nets slots t h s.site → ShowsUnderKey v p t h s slot
+  under_key v t h x e = subst (ShowsSlot v p t h s.site) (sym slot_is) (x.slot slot (omega (arith, many, own.site)) (ap finds_key own.act ∙ e))
+
+  all_taken : (outside : List (Operand (Name P))) → AllAreThere (behind part outside old) nets slots → All (IsAvailable (behind part outside old)) (slot ∷ word ∷ taken m s ss)
+  all_taken outside hand =
+      let ins = behind part outside old in
+      All-cons (IsAvailable ins) slot (word ∷ taken m s ss) (subst (IsAvailable ins) (sym slot_is) (hand.slots_there s.site slot (omega (arith, many, own.site)))) (taken_there p row nets staged are r s own ss owns seen m is ins hand.nets_there word word_is)
+
+  its_read : IsSiteRead part p row r nets slots s.site from width old new o
   its_read = record {
     cells = subst (λ w. AreCells w width o) (its_nets p row nets staged are s.site own.site m is).same base.cells;
     adds = base.adds;
-    wires = λ outside a hand. base.wires outside a (taken_there p row nets staged are r s own ss owns seen m is (behind part outside old) hand word word_is);
-    there = λ outside a hand. base.there outside a (taken_there p row nets staged are r s own ss owns seen m is (behind part outside old) hand word word_is);
+    wires = λ outside a hand. base.wires outside a (all_taken outside hand);
+    there = λ outside a hand. base.there outside a (all_taken outside hand);
     found = λ e outside v t before a hand fit solved x.
-        (given t before x.maps.tables x.maps.decls (has_entry v t before x)).found (sym (ap finds_key own.act) ∙ e) outside v a (taken_there p row nets staged are r s own ss owns seen m is (behind part outside old) hand word word_is) fit solved
-        (shows_all p row nets staged are r s own ss owns seen m is v t before x);
+        (given t before x.reads.maps.tables x.reads.maps.decls (has_entry v t before x.reads)).found (sym (ap finds_key own.act) ∙ e) outside v a (all_taken outside hand) fit solved
+        (shows_all p row nets staged are r s own ss owns seen m is v t before x.reads) (under_key v t before x);
     answer = λ e outside v t before a hand fit solved x.
-        (given t before x.maps.tables x.maps.decls (has_entry v t before x)).answer (sym (ap reads own.act) ∙ e) outside v a (taken_there p row nets staged are r s own ss owns seen m is (behind part outside old) hand word word_is) fit solved
-        (shows_all p row nets staged are r s own ss owns seen m is v t before x) (shows_under v t before x);
+        (given t before x.reads.maps.tables x.reads.maps.decls (has_entry v t before x.reads)).answer (sym (ap reads own.act) ∙ e) outside v a (all_taken outside hand) fit solved
+        (shows_all p row nets staged are r s own ss owns seen m is v t before x.reads) (under_key v t before x) (shows_under v t before x.reads);
   }
 
-  pub site_given : (j : ℕ) → s.site ≡ j → IsSiteRead part p row r nets j from width old new o
-  site_given j e = subst (λ i. IsSiteRead part p row r nets i from width old new o) e its_read
+  pub site_given : (j : ℕ) → s.site ≡ j → IsSiteRead part p row r nets slots j from width old new o
+  site_given j e = subst (λ i. IsSiteRead part p row r nets slots i from width old new o) e its_read
 
 -- the same of what may not be there
 pub ok_site :
-    {P E : Type 0} (part : P) (p : ProgramView) (row : ℕ → ℕ) (r : ℕ) (nets : StageNets (Name P)) (staged : IsStaged p row (decls_of nets.maps.now) nets.bits) (are : AreNets p nets) (tables : HaveTables (decls_of nets.maps.now)) (old new : List (BlockWireTree (Name P))) (s : OwnSite (Name P)) (ss : List (OwnSite (Name P))) (m : MapNets (Name P)) (word : Operand (Name P))
-    (read : IsReadSite p row r nets s ss m word) (j from width f w : ℕ) → s.site ≡ j → from ≡ f → width ≡ w → (x : Result (ReadNets (Name P)) E)
-    → ((t : TableState) (h : Held) → IsReadOf p t row r m s ss → HaveOperands p ss → HasEntry p t h s → IfOk x (SiteReads part old new m s ss word from width p t h row r)) → IfOk x (IsSiteRead part p row r nets j f w old new)
-ok_site part p row r nets staged are tables old new s ss m word read j from width f w e is_from is_width (Ok o) gives =
-    subst (λ n. IsSiteRead part p row r nets j f n old new o) is_width (subst (λ n. IsSiteRead part p row r nets j n width old new o) is_from (site_given part p row r nets staged are tables old new s ss m word read from width o gives j e))
-ok_site part p row r nets staged are tables old new s ss m word read j from width f w e is_from is_width (Err x) gives = tt
+    {P E : Type 0} (part : P) (p : ProgramView) (row : ℕ → ℕ) (r : ℕ) (nets : StageNets (Name P)) (staged : IsStaged p row (decls_of nets.maps.now) nets.bits) (are : AreNets p nets) (tables : HaveTables (decls_of nets.maps.now)) (old new : List (BlockWireTree (Name P))) (s : OwnSite (Name P)) (ss : List (OwnSite (Name P))) (m : MapNets (Name P)) (slot word : Operand (Name P))
+    (read : IsReadSite p row r nets s ss m word) (slots : List (Operand (Name P))) (many : length slots ≡ length p.sites) (slot_is : slot ≡ get_or slots s.site slot) (j from width f w : ℕ) → s.site ≡ j → from ≡ f → width ≡ w → (x : Result (ReadNets (Name P)) E)
+    → ((t : TableState) (h : Held) → IsReadOf p t row r m s ss → HaveOperands p ss → HasEntry p t h s → IfOk x (SiteReads part old new m s ss slot word from width p t h row r)) → IfOk x (IsSiteRead part p row r nets slots j f w old new)
+ok_site part p row r nets staged are tables old new s ss m slot word read slots many slot_is j from width f w e is_from is_width (Ok o) gives =
+    subst (λ n. IsSiteRead part p row r nets slots j f n old new o) is_width (subst (λ n. IsSiteRead part p row r nets slots j n width old new o) is_from (site_given part p row r nets staged are tables old new s ss m slot word read slots many slot_is from width o gives j e))
+ok_site part p row r nets staged are tables old new s ss m slot word read slots many slot_is j from width f w e is_from is_width (Err x) gives = tt

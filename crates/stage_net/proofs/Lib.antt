@@ -8,6 +8,7 @@ mod GivenLemmas
 mod CellLemmas
 mod EarlierLemmas
 mod TableLemmas
+mod SearchLemmas
 pub mod ListLaws
 pub mod NetLaws
 pub mod ValueLaws

@@ -10,10 +10,10 @@ use Rattle.cell_core.specs.Formed.{AreFormed, AreInputs}
 use Rattle.cell_core.specs.Rows.{AreRows, greatest}
 use Rattle.cell_core.specs.Sites.{ProgramView}
 use Rattle.cell_nets.specs.Computing.{is_outside}
-use Rattle.row_plan.specs.Plan.{Plan, IsPlan}
-use Rattle.row_net.specs.Lists.{made_cells}
-use Rattle.row_net.specs.Needed.{AreNeeded, flag}
-use Rattle.row_net.specs.Table.{IsIn, is_constant}
+use Rattle.site_table.specs.row_plan.Plan.{Plan, IsPlan}
+use Rattle.site_place.specs.row_net.Lists.{made_cells}
+use Rattle.site_place.specs.row_net.Needed.{AreNeeded, flag}
+use Rattle.site_place.specs.row_net.Table.{IsIn, is_constant}
 use Rattle.site_table.specs.declared.tables.StageTables.{StageTables}
 use Rattle.site_table.specs.Lists.{held_cells, held_pointers, made_pointers}
 use Rattle.site_table.specs.Staged.{AreStaged, AreLists, AreAtHand}

@@ -7,7 +7,7 @@ use Rattle.cell_nets.specs.declared.operand.Operand.{Operand}
 use Rattle.cell_nets.specs.Operands.{IsAvailable}
 use Rattle.site_operands.specs.declared.SiteNets.{SiteNets}
 use Rattle.site_operands.specs.Sites.{SiteOperands, operands_of, all_of}
-use Rattle.row_net.specs.Table.{IsTable, AreThere}
+use Rattle.site_place.specs.row_net.Table.{IsTable, AreThere}
 use Rattle.site_place.specs.Pointing.{IsPointers}
 use Rattle.site_table.specs.Sites.{operand_at, IsSiteOf}
 use Rattle.stage_net.specs.Nets.{IsSiteNets}

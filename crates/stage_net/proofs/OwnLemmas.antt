@@ -5,7 +5,7 @@ use Rattle.std.proofs.lemmas.Bool.{eqb-true, and_parts}
 use Rattle.std.proofs.lemmas.List.{length-map, get_or-map}
 use Rattle.std.proofs.lemmas.List.Elements.{All-append, All-cons, All-nil, All-head, All-tail, filter_passes}
 use Rattle.std.proofs.lemmas.List.Sums.{length-filter, count_by-le-length}
-use Rattle.net_core.specs.Value.{Env}
+use Rattle.cell_nets.specs.net_core.Value.{Env}
 use Rattle.xdp_maps.specs.declared.decl.MapDecl.{MapDecl}
 use Rattle.xdp_maps.specs.State.{no_decl}
 use Rattle.cell_core.specs.Formed.{HasWords, IsInside}
@@ -17,10 +17,10 @@ use Rattle.hazard_core.specs.Held.{Held, is_pending, pending}
 use Rattle.cell_nets.specs.declared.operand.Operand.{Operand}
 use Rattle.cell_nets.specs.Operands.{IsOperand, IsNarrow, IsAvailable}
 use Rattle.site_operands.specs.Sites.{operands_of, all_of, ShowsSite}
-use Rattle.value_net.specs.Words.{IsAligned}
+use Rattle.read_net.specs.value_net.Words.{IsAligned}
 use Rattle.read_net.specs.declared.sites.OwnSite.{OwnSite}
 use Rattle.read_net.specs.declared.sites.MapNets.{MapNets}
-use Rattle.read_net.specs.Sites.{cells_of, all_cells, slot_cells, sites_of, IsWhole, ShowsTable}
+use Rattle.read_net.specs.Sites.{cells_of, all_cells, slot_cells, sites_of, IsWhole, IsMapOf, ShowsTable}
 use Rattle.read_net.specs.Reads.{taken, Shows, IsReadOf}
 use Rattle.read_net.specs.Accesses.{IsFitting, HaveOperands}
 use Rattle.stage_net.specs.declared.row.StageNets.{StageNets}
@@ -53,6 +53,12 @@ module _ {N : Type 0} (p : ProgramView) (row : ℕ → ℕ) (nets : StageNets N)
 
     its_decl : decl_of (decls_of nets.maps.now) (site_at p.sites j).map ≡ m.decl.now
     its_decl = get_or-map (λ (n : MapNets N). n.decl.now) nets.maps.now (site_at p.sites j).map m no_decl (map_in j inside) ∙ ap (λ (n : MapNets N). n.decl.now) (sym is)
+
+    pub is_map_of : (t : TableState) → AreTables t → t.decls ≡ decls_of nets.maps.now → IsMapOf t (site_at p.sites j).map m.decl.now
+    is_map_of t tables decls =
+        let e : decl_of t.decls (site_at p.sites j).map ≡ m.decl.now = ap (λ ds. decl_of ds (site_at p.sites j).map) decls ∙ its_decl in
+        let lt : (site_at p.sites j).map < length t.decls = omega (arith, (staged.fits j inside).map, ap (λ (l : List MapDecl). length l) decls) in
+        record { decl = e; table = subst (λ (x : MapDecl). IsTable x (table_at t (site_at p.sites j).map)) e (tables.each (site_at p.sites j).map lt) }
 
     fits_map : (i : ℕ) → i < length p.sites → (site_at p.sites i).map ≡ (site_at p.sites j).map → decl_of (decls_of nets.maps.now) (site_at p.sites i).map ≡ m.decl.now
     fits_map i lt e = ap (decl_of (decls_of nets.maps.now)) e ∙ its_decl
@@ -122,16 +128,7 @@ module _ {N : Type 0} (p : ProgramView) (row : ℕ → ℕ) (nets : StageNets N)
     have_operands k d lt = (nets_of (get_or ss k d) (owns k d lt)).words
 
     pub is_read_of : (t : TableState) → AreTables t → t.decls ≡ decls_of nets.maps.now → IsReadOf p t row r m s ss
-    is_read_of t tables decls =
-        let d = its_decl s.site own.site m is in
-        let e : decl_of t.decls (site_at p.sites s.site).map ≡ m.decl.now = ap (λ ds. decl_of ds (site_at p.sites s.site).map) decls ∙ d in
-        let lt : (site_at p.sites s.site).map < length t.decls = omega (arith, (staged.fits s.site own.site).map, ap (λ (l : List MapDecl). length l) decls) in
-        record {
-          act = own.act;
-          acts = λ k o l. (owns k o l).act;
-          sites = seen;
-          map = record { decl = e; table = subst (λ (x : MapDecl). IsTable x (table_at t (site_at p.sites s.site).map)) e (tables.each (site_at p.sites s.site).map lt) };
-        }
+    is_read_of t tables decls = record { act = own.act; acts = λ k o l. (owns k o l).act; sites = seen; map = is_map_of s.site own.site m is t tables decls }
 
     -- ---- what is there
     module _ (ins : List (Operand N)) (hand : NetsAreThere ins nets) where

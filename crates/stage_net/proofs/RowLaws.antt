@@ -2,9 +2,9 @@
 use Rattle.std.specs.Prelude.{◌≢◌}
 use Rattle.std.proofs.Common.{◌≡◌, ◌∙◌, ◌⊎◌, inl, inr, ℕ, suc, ◌<◌, ◌≤◌, Bool, true, Some, List, length, get_or, slice_index, refl, sym, ap, arith}
 use Rattle.std.proofs.lemmas.Bool.{cases_eq}
-use Rattle.net_core.specs.Value.{bit, Env}
-use Rattle.net_core.specs.Clock.{Stored, done}
-use Rattle.xdp_machine.specs.State.{PacketIn}
+use Rattle.cell_nets.specs.net_core.Value.{bit, Env}
+use Rattle.cell_nets.specs.net_core.Clock.{Stored, done}
+use Rattle.cell_core.specs.xdp_machine.State.{PacketIn}
 use Rattle.block_core.specs.declared.name.Name.{Name}
 use Rattle.block_core.specs.Blocks.{BlockTree}
 use Rattle.block_core.specs.Parts.{Solve}
@@ -18,21 +18,21 @@ use Rattle.hazard_core.specs.Keeping.{SameCell, AreAlike}
 use Rattle.hazard_core.specs.Rows.{cell_number, with_row}
 use Rattle.cell_nets.specs.declared.operand.Operand.{Operand}
 use Rattle.cell_nets.specs.Operands.{AreFit}
-use Rattle.row_plan.specs.Plan.{Plan}
-use Rattle.row_net.specs.Made.{AreValues}
-use Rattle.row_net.specs.Table.{Holds}
+use Rattle.site_table.specs.row_plan.Plan.{Plan}
+use Rattle.site_place.specs.row_net.Made.{AreValues}
+use Rattle.site_place.specs.row_net.Table.{Holds}
 use Rattle.site_operands.specs.declared.SiteNets.{SiteNets}
 use Rattle.site_operands.specs.Sites.{operands_of}
 use Rattle.site_place.specs.Inputs.{HasWidths}
 use Rattle.site_place.specs.Pointing.{HoldsPointers}
 use Rattle.site_place.specs.SitePlace.{site_widths, site_words}
-use Rattle.value_net.specs.Words.{answers_number}
+use Rattle.read_net.specs.value_net.Words.{answers_number}
 use Rattle.stage_net.specs.declared.row.StageNets.{StageNets}
 use Rattle.stage_net.specs.Rows.{ShowsMaps, ShowsEntry, ShowsRow}
 use Rattle.stage_net.specs.Stage.{IsStage}
-use Rattle.held_rows.specs.Fits.{FitsRows, RowsFit}
-use Rattle.held_rows.specs.Made.{AreLaid, IsRowMade, RowIsMade, RowKeeps}
-use Rattle.held_rows.specs.Pointing.{ArePointing}
+use Rattle.site_table.specs.held_rows.Fits.{FitsRows, RowsFit}
+use Rattle.site_table.specs.held_rows.Made.{AreLaid, IsRowMade, RowIsMade, RowKeeps}
+use Rattle.site_table.specs.held_rows.Pointing.{ArePointing}
 use Rattle.site_table.specs.declared.tables.StageTables.{StageTables}
 use Rattle.site_table.specs.Constants.{AreEarly, HoldsConstants}
 use Rattle.site_table.specs.Parts.{AreParts}

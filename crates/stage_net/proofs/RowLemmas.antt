@@ -10,11 +10,11 @@ use Rattle.cell_core.specs.Sites.{ProgramView}
 use Rattle.cell_nets.specs.declared.operand.Operand.{Operand}
 use Rattle.cell_nets.specs.Operands.{IsAvailable}
 use Rattle.cell_nets.specs.Wires.{behind}
-use Rattle.row_net.specs.Table.{IsIn, IsTable}
+use Rattle.site_place.specs.row_net.Table.{IsIn, IsTable}
 use Rattle.site_place.specs.Pointing.{IsPointers}
 use Rattle.stage_net.specs.declared.row.StageNets.{StageNets}
 use Rattle.stage_net.specs.Nets.{NetsAreThere}
-use Rattle.stage_net.specs.Rows.{AreRead}
+use Rattle.stage_net.specs.Rows.{AllAreThere, AreRead}
 
 -- more stands behind more wires
 pub nets_still_there : {N : Type 0} (ins more : List (Operand N)) (nets : StageNets N) → ((a : Operand N) → IsAvailable ins a → IsAvailable more a) → NetsAreThere ins nets → NetsAreThere more nets
@@ -24,14 +24,17 @@ nets_still_there ins more nets grow hand = record {
   words = λ k d lt. grow _ (hand.words k d lt);
 }
 
-module _ {P : Type 0} (part : P) (p : ProgramView) (row : ℕ → ℕ) (r : ℕ) (nets : StageNets (Name P)) where
+pub all_still_there : {N : Type 0} (ins more : List (Operand N)) (nets : StageNets N) (slots : List (Operand N)) → ((a : Operand N) → IsAvailable ins a → IsAvailable more a) → AllAreThere ins nets slots → AllAreThere more nets slots
+all_still_there ins more nets slots grow hand = record { nets_there = nets_still_there ins more nets grow hand.nets_there; slots_there = λ k d lt. grow _ (hand.slots_there k d lt) }
+
+module _ {P : Type 0} (part : P) (p : ProgramView) (row : ℕ → ℕ) (r : ℕ) (nets : StageNets (Name P)) (slots : List (Operand (Name P))) where
   abbrev Wires : Type 0
   Wires = List (BlockWireTree (Name P))
 
   abbrev Table : Type 0
   Table = List (Option (Operand (Name P)))
 
-  pub none_read : (low high : ℕ) (ws : Wires) (table pointers : Table) → IsTable p.cells table → IsPointers p.cells nets.bits pointers → ((c j : ℕ) → c < length p.cells → row c ≡ r → site_in (cell_at p.cells c).op ≡ Some j → low ≤ j → j < high → ⊥) → AreRead part p row r nets low high ws ws table table pointers pointers
+  pub none_read : (low high : ℕ) (ws : Wires) (table pointers : Table) → IsTable p.cells table → IsPointers p.cells nets.bits pointers → ((c j : ℕ) → c < length p.cells → row c ≡ r → site_in (cell_at p.cells c).op ≡ Some j → low ≤ j → j < high → ⊥) → AreRead part p row r nets slots low high ws ws table table pointers pointers
   none_read low high ws table pointers is are none = record {
     cells_are = is;
     pointers_are = are;
@@ -47,7 +50,7 @@ module _ {P : Type 0} (part : P) (p : ProgramView) (row : ℕ → ℕ) (r : ℕ)
   }
 
   pub read_then :
-      (low mid high : ℕ) (old ws new : Wires) (a b c d e f : Table) → AreRead part p row r nets low mid old ws a b d e → AreRead part p row r nets mid high ws new b c e f → AreRead part p row r nets low high old new a c d f
+      (low mid high : ℕ) (old ws new : Wires) (a b c d e f : Table) → AreRead part p row r nets slots low mid old ws a b d e → AreRead part p row r nets slots mid high ws new b c e f → AreRead part p row r nets slots low high old new a c d f
   read_then low mid high old ws new a b c d e f x y = record {
     cells_are = y.cells_are;
     pointers_are = y.pointers_are;
@@ -64,8 +67,8 @@ module _ {P : Type 0} (part : P) (p : ProgramView) (row : ℕ → ℕ) (r : ℕ)
     apart = λ clean marks early keep. let first = x.apart clean marks early keep in y.apart clean first.0 early first.1;
   }
     where
-      later : (outside : List (Operand (Name P))) → NetsAreThere (behind part outside old) nets → NetsAreThere (behind part outside ws) nets
-      later outside hand = nets_still_there (behind part outside old) (behind part outside ws) nets (x.stays outside) hand
+      later : (outside : List (Operand (Name P))) → AllAreThere (behind part outside old) nets slots → AllAreThere (behind part outside ws) nets slots
+      later outside hand = all_still_there (behind part outside old) (behind part outside ws) nets slots (x.stays outside) hand
 
       by_found : (k j : ℕ) → k < length p.cells → row k ≡ r → (cell_at p.cells k).op ≡ Found j → low ≤ j → j < high → (j < mid) ⊎ (mid ≤ j) → IsIn f k
       by_found k j l i o over under (inl below) = y.grows_pointers k (x.found k j l i o over below)

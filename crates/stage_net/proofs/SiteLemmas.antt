@@ -3,11 +3,11 @@ use Rattle.std.specs.Prelude.{◌/◌, Result, Ok, Err, IfOk}
 use Rattle.std.proofs.Common.{◌≡◌, ◌∙◌, ℕ, Bool, true, false, All, List, [], ◌∷◌, ◌++◌, length, length-append, refl, sym, ap, subst, arith}
 use Rattle.std.proofs.lemmas.Nat.{pow_pos}
 use Rattle.std.proofs.lemmas.List.{length-map}
-use Rattle.std.proofs.lemmas.List.Elements.{All-cons, All-nil, All-tail}
-use Rattle.xdp_machine.specs.State.{PacketIn}
-use Rattle.product_blocks.specs.Apart.{is_marked, AreMarked}
-use Rattle.product_blocks.proofs.FreeLaws.{all_marked}
-use Rattle.product_blocks.proofs.CleanLaws.{marked_behind}
+use Rattle.std.proofs.lemmas.List.Elements.{All-cons, All-nil, All-head, All-tail}
+use Rattle.cell_core.specs.xdp_machine.State.{PacketIn}
+use Rattle.cell_nets.specs.product_blocks.Apart.{is_marked, AreMarked}
+use Rattle.cell_nets.proofs.product_blocks.FreeLaws.{all_marked}
+use Rattle.cell_nets.proofs.product_blocks.CleanLaws.{marked_behind}
 use Rattle.block_core.specs.declared.name.Name.{Name}
 use Rattle.block_core.specs.Blocks.{BlockWireTree}
 use Rattle.cell_core.specs.declared.site.Act.{Act}
@@ -24,8 +24,8 @@ use Rattle.cell_nets.specs.Operands.{IsOperand, IsAvailable}
 use Rattle.cell_nets.specs.Apart.{Agrees, StayApart}
 use Rattle.cell_nets.specs.Wires.{behind, HasBits, Gives}
 use Rattle.cell_nets.proofs.ApartLemmas.{agrees_split, free_marked}
-use Rattle.row_net.specs.Apart.{KeepApart}
-use Rattle.value_net.specs.Words.{answers_number, access_start}
+use Rattle.site_place.specs.row_net.Apart.{KeepApart}
+use Rattle.read_net.specs.value_net.Words.{answers_number, access_start}
 use Rattle.read_net.specs.declared.sites.OwnSite.{OwnSite}
 use Rattle.read_net.specs.declared.sites.MapNets.{MapNets}
 use Rattle.read_net.specs.declared.sites.ReadNets.{ReadNets}
@@ -34,7 +34,7 @@ use Rattle.read_net.specs.Accesses.{ShowsWord}
 use Rattle.stage_net.specs.Reads.{SiteReads}
 
 -- ---- wires without products
-keeps_apart :
+pub keeps_apart :
     {P : Type 0} (p : P) (old new : List (BlockWireTree (Name P))) (args outs : List (Operand (Name P))) → StayApart false p old new args outs → (clean : ℕ → Bool) (marks : List Bool) (table : List _) → KeepApart p clean marks old table
     → (next : List Bool) × KeepApart p clean next new table
 keeps_apart {P} p old new args outs stay clean marks table keep = (
@@ -74,43 +74,50 @@ plain_access (act.Atomic at a) e f = cc
 pub plain_store : (a : Act) (at : ℕ) (size : _) → a ≡ act.Store at size → (finds_key a ≡ true → ⊥) × (reads a ≡ true → ⊥)
 plain_store a at size e = (λ f. let g = sym (ap finds_key e) ∙ f in cc, λ f. let g = sym (ap reads e) ∙ f in cc)
 
-module _ {P : Type 0} (part : P) (old new : List (BlockWireTree (Name P))) (m : MapNets (Name P)) (s : OwnSite (Name P)) (ss : List (OwnSite (Name P))) (word : Operand (Name P)) (from width : ℕ) (p : ProgramView) (t : TableState) (h : Held) (row : ℕ → ℕ) (r : ℕ) where
+module _ {P : Type 0} (part : P) (old new : List (BlockWireTree (Name P))) (m : MapNets (Name P)) (s : OwnSite (Name P)) (ss : List (OwnSite (Name P))) (slot word : Operand (Name P)) (from width : ℕ) (p : ProgramView) (t : TableState) (h : Held) (row : ℕ → ℕ) (r : ℕ) where
   -- no pointer, and an answer
   plain_cells : (answer : Operand (Name P)) → IsOperand answer → HasBits width answer → AreCells m.bits width (record { found = Known 0; there = Known 0; answer = answer })
   plain_cells answer operand bits = record { found = omega arith; found_bits = pow_pos m.bits; there = omega arith; there_bits = omega arith; answer = operand; answer_bits = bits }
 
+  -- without the word
+  without_word : (Q : Operand (Name P) → Type 0) → All Q (slot ∷ word ∷ taken m s ss) → All Q (slot ∷ taken m s ss)
+  without_word Q h = All-cons Q slot (taken m s ss) (All-head Q slot (word ∷ taken m s ss) h) (All-tail Q word (taken m s ss) (All-tail Q slot (word ∷ taken m s ss) h))
+
   -- what looks for a key
-  pub key_reads : (packet : PacketIn) (o : ReadNets (Name P)) → AreCells m.bits width o → Reads part old new m s ss from width p t h row r packet no_cell o → SiteReads part old new m s ss word from width p t h row r o
-  key_reads packet o cells x = record {
+  pub key_reads : (packet : PacketIn) (o : ReadNets (Name P)) → AreCells m.bits width o → finds_key s.act ≡ true → Reads part old new m s ss slot from width p t h row r packet no_cell o → SiteReads part old new m s ss slot word from width p t h row r o
+  key_reads packet o cells finds x = record {
     cells = cells;
-    adds = record { before = x.found.before; stays = x.found.stays; apart = keeps_apart part old new (taken m s ss) (o.found ∷ []) x.found.apart };
-    wires = λ outside a h. (x.found.given outside a (All-tail (IsAvailable (behind part outside old)) word (taken m s ss) h)).wires;
+    adds = record { before = x.found.before; stays = x.found.stays; apart = keeps_apart part old new (slot ∷ taken m s ss) (o.found ∷ []) x.found.apart };
+    wires = λ outside a h. (x.found.given outside a (without_word (IsAvailable (behind part outside old)) h)).wires;
     there = λ outside a h.
-        let rest = All-tail (IsAvailable (behind part outside old)) word (taken m s ss) h in
+        let rest = without_word (IsAvailable (behind part outside old)) h in
         three (IsAvailable (behind part outside new)) o.found o.there o.answer (x.found.given outside a rest).there (x.there.given outside a rest).there (x.answer.given outside a rest).there;
-    found = λ e outside v a h f solved shows.
-        let rest = All-tail (IsAvailable (behind part outside old)) word (taken m s ss) h in
-        ((x.found.given outside a rest).value v f solved shows, (x.there.given outside a rest).value v f solved shows);
-    answer = λ e outside v a h f solved shows under. (x.answer.given outside a (All-tail (IsAvailable (behind part outside old)) word (taken m s ss) h)).value v f solved shows;
+    found = λ e outside v a h f solved shows slotted.
+        let rest = without_word (IsAvailable (behind part outside old)) h in
+        ((x.found.given outside a rest).value v f solved (shows, slotted e), (x.there.given outside a rest).value v f solved (shows, slotted e));
+    answer = λ e outside v a h f solved shows slotted under. (x.answer.given outside a (without_word (IsAvailable (behind part outside old)) h)).value v f solved (shows, slotted finds);
   }
 
   -- an access that answers
   pub access_reads :
       (answer : Operand (Name P)) → answers_number s.act ≡ true
       → Gives part old new (word ∷ taken m s ss) (λ v. Shows v p t h m s ss × ShowsWord v t (site_at p.sites s.site).map (access_start s.act / 8) (access_pointer h (site_at p.sites s.site)) word) (λ v. bits_from (answer_over p t h (pending p row r s.site) s.site) from width) width answer
-      → SiteReads part old new m s ss word from width p t h row r (record { found = Known 0; there = Known 0; answer = answer })
+      → SiteReads part old new m s ss slot word from width p t h row r (record { found = Known 0; there = Known 0; answer = answer })
   access_reads answer is x = record {
     cells = plain_cells answer x.operand x.bits;
     adds = record { before = x.before; stays = x.stays; apart = keeps_apart part old new (word ∷ taken m s ss) (answer ∷ []) x.apart };
-    wires = λ outside a h. (x.given outside a h).wires;
-    there = λ outside a h. three (IsAvailable (behind part outside new)) (Known 0) (Known 0) answer tt tt (x.given outside a h).there;
+    wires = λ outside a h. (x.given outside a (rest_of outside h)).wires;
+    there = λ outside a h. three (IsAvailable (behind part outside new)) (Known 0) (Known 0) answer tt tt (x.given outside a (rest_of outside h)).there;
     found = λ e. absurd (plain_access s.act is e);
-    answer = λ e outside v a h f solved shows under. (x.given outside a h).value v f solved (shows, under is);
+    answer = λ e outside v a h f solved shows slotted under. (x.given outside a (rest_of outside h)).value v f solved (shows, under is);
   }
+    where
+      rest_of : (outside : List (Operand (Name P))) → All (IsAvailable (behind part outside old)) (slot ∷ word ∷ taken m s ss) → All (IsAvailable (behind part outside old)) (word ∷ taken m s ss)
+      rest_of outside h = All-tail (IsAvailable (behind part outside old)) slot (word ∷ taken m s ss) h
 
   -- a store
-  pub store_reads : old ≡ new → (finds_key s.act ≡ true → ⊥) × (reads s.act ≡ true → ⊥) → SiteReads part old new m s ss word from width p t h row r (record { found = Known 0; there = Known 0; answer = Known 0 })
-  store_reads same none = subst (λ ws. SiteReads part old ws m s ss word from width p t h row r (record { found = Known 0; there = Known 0; answer = Known 0 })) same (record {
+  pub store_reads : old ≡ new → (finds_key s.act ≡ true → ⊥) × (reads s.act ≡ true → ⊥) → SiteReads part old new m s ss slot word from width p t h row r (record { found = Known 0; there = Known 0; answer = Known 0 })
+  store_reads same none = subst (λ ws. SiteReads part old ws m s ss slot word from width p t h row r (record { found = Known 0; there = Known 0; answer = Known 0 })) same (record {
     cells = plain_cells (Known 0) (omega arith) (pow_pos width);
     adds = record { before = λ v solved. solved; stays = λ outside a h. h; apart = λ clean marks table keep. (marks, keep) };
     wires = λ outside a h. a;

@@ -1,8 +1,9 @@
 -- The place behind the reads of its row.
 use Rattle.std.specs.Prelude.{Option, Contains, take}
-use Rattle.std.proofs.Common.{◌≡◌, ◌∙◌, ◌⊎◌, inl, inr, ℕ, Bool, true, false, Some, All, List, length, get_or, slice_index, refl, ap, arith}
-use Rattle.net_core.specs.Value.{Env}
-use Rattle.xdp_machine.specs.State.{PacketIn}
+use Rattle.std.proofs.Common.{◌≡◌, ◌∙◌, ◌⊎◌, inl, inr, ℕ, Bool, true, false, Some, All, List, [], length, get_or, slice_index, refl, ap, arith}
+use Rattle.std.proofs.lemmas.List.Elements.{All-nil}
+use Rattle.cell_nets.specs.net_core.Value.{Env}
+use Rattle.cell_core.specs.xdp_machine.State.{PacketIn}
 use Rattle.block_core.specs.declared.name.Name.{Name}
 use Rattle.block_core.specs.Blocks.{BlockTree, BlockWireTree}
 use Rattle.block_core.specs.Parts.{Solve}
@@ -13,18 +14,19 @@ use Rattle.cell_core.specs.Sites.{ProgramView}
 use Rattle.hazard_core.specs.Tables.{TableState}
 use Rattle.hazard_core.specs.Held.{Held, held_value, pointer_in}
 use Rattle.cell_nets.specs.declared.operand.Operand.{Operand}
+use Rattle.cell_nets.specs.Operands.{IsAvailable}
 use Rattle.cell_nets.specs.Wires.{behind}
-use Rattle.row_net.specs.Table.{IsIn}
-use Rattle.row_net.specs.Made.{IsReady}
+use Rattle.site_place.specs.row_net.Table.{IsIn}
+use Rattle.site_place.specs.row_net.Made.{IsReady}
 use Rattle.site_place.specs.Holding.{PointersAreHeld}
 use Rattle.site_place.specs.Pointing.{PointersAre, is_edge, HoldsOf, Takes, ArePointed}
 use Rattle.site_place.specs.PointerNets.{BothThere}
 use Rattle.site_place.specs.SitePlace.{IsSitePlace}
-use Rattle.held_rows.specs.Made.{IsRowMade}
+use Rattle.site_table.specs.held_rows.Made.{IsRowMade}
 use Rattle.stage_net.specs.declared.row.StageNets.{StageNets}
 use Rattle.stage_net.specs.Nets.{decls_of, NetsAreThere}
 use Rattle.stage_net.specs.Staged.{IsStaged}
-use Rattle.stage_net.specs.Rows.{IsHad, IsPointerHad, AreRead}
+use Rattle.stage_net.specs.Rows.{IsHad, IsPointerHad, AllAreThere, ShowsRow, ShowsRead, AreRead}
 use Rattle.stage_net.specs.Stage.{CanMake, CanPoint, IsStage}
 
 -- ---- what a pointer takes, said of more
@@ -47,8 +49,15 @@ either : {A B C : Type 0} → (A → B) → A ⊎ C → B ⊎ C
 either f (inl a) = inl (f a)
 either f (inr c) = inr c
 
+-- no slots are given
+pub alone : {N : Type 0} (ins : List (Operand N)) (nets : StageNets N) → NetsAreThere ins nets → AllAreThere ins nets []
+alone ins nets hand = record { nets_there = hand; slots_there = All-nil (IsAvailable ins) }
+
+shown : {N : Type 0} (v : Env N) (p : ProgramView) (row : ℕ → ℕ) (r : ℕ) (nets : StageNets N) (t : TableState) (before h : Held) → ShowsRow v p row r nets t before h → ShowsRead v p row r nets [] t before h
+shown v p row r nets t before h x = record { alike = x.alike; reads = λ c j l e o. record { reads = x.reads c j l e o; slot = λ d lt. absurd (omega (arith, lt)) } }
+
 module _ {P : Type 0} (part : P) (p : ProgramView) (row : ℕ → ℕ) (r : ℕ) (nets : StageNets (Name P)) (staged : IsStaged p row (decls_of nets.maps.now) nets.bits) (old ws : List (BlockWireTree (Name P))) (before after pointers those : List (Option (Operand (Name P))))
-    (x : AreRead part p row r nets 0 (length p.sites) old ws before after pointers those) where
+    (x : AreRead part p row r nets [] 0 (length p.sites) old ws before after pointers those) where
   abbrev Has : ℕ → Type 0
   Has k = IsHad p row r before k
 
@@ -102,7 +111,7 @@ module _ {P : Type 0} (part : P) (p : ProgramView) (row : ℕ → ℕ) (r : ℕ)
       first = y.first;
       fits = y.fits;
       next = λ v s t packet held h on widths fit solved shows is values cells points.
-          let z = x.value outside v t packet held h hand both fit (begun v solved) shows is cells points in
+          let z = x.value outside v t packet held h (alone (behind part outside old) nets hand) both fit (begun v solved) (shown v p row r nets t held h shows) is cells points in
           y.next v s packet (held_value h) (pointer_in h) on widths fit solved values (pointers_are t packet h is) z.0 z.1;
       stays = y.stays;
     }

@@ -6,9 +6,9 @@ use Rattle.std.proofs.lemmas.List.{length-set}
 use Rattle.std.proofs.lemmas.List.Sums.{passes_at_first}
 use Rattle.block_core.specs.declared.name.Name.{Name}
 use Rattle.block_core.specs.Blocks.{BlockWireTree}
-use Rattle.product_blocks.specs.Apart.{is_marked}
-use Rattle.net_core.specs.Value.{Env}
-use Rattle.xdp_machine.specs.State.{PacketIn}
+use Rattle.cell_nets.specs.product_blocks.Apart.{is_marked}
+use Rattle.cell_nets.specs.net_core.Value.{Env}
+use Rattle.cell_core.specs.xdp_machine.State.{PacketIn}
 use Rattle.xdp_maps.specs.declared.decl.MapDecl.{MapDecl}
 use Rattle.cell_core.specs.declared.operator.Operator.{Operator}
 use Rattle.cell_core.specs.declared.operator.Operator.TheVariants.{Found, Answer}
@@ -24,17 +24,17 @@ use Rattle.cell_nets.specs.Apart.{IsClean}
 use Rattle.cell_nets.specs.Operands.{number_in, IsOperand, IsAvailable}
 use Rattle.cell_nets.specs.Wires.{behind, HasBits}
 use Rattle.site_operands.specs.Pointers.{pointer_number}
-use Rattle.step_nets.proofs.StepLaws.{bit_bits}
-use Rattle.row_net.specs.Table.{Stands, IsIn, IsTable}
-use Rattle.row_net.specs.Apart.{KeepApart}
+use Rattle.read_net.proofs.step_nets.StepLaws.{bit_bits}
+use Rattle.site_place.specs.row_net.Table.{Stands, IsIn, IsTable}
+use Rattle.site_place.specs.row_net.Apart.{KeepApart}
 use Rattle.site_place.specs.Pointing.{IsPointers}
 use Rattle.site_place.specs.PointerNets.{BothThere}
 use Rattle.read_net.specs.declared.sites.ReadNets.{ReadNets}
-use Rattle.held_rows.specs.Made.{IsRowMade}
+use Rattle.site_table.specs.held_rows.Made.{IsRowMade}
 use Rattle.stage_net.specs.declared.row.StageNets.{StageNets}
-use Rattle.stage_net.specs.Nets.{decls_of, NetsAreThere}
+use Rattle.stage_net.specs.Nets.{decls_of}
 use Rattle.stage_net.specs.Staged.{IsStaged, IsReadCell}
-use Rattle.stage_net.specs.Rows.{IsReadHere, ShowsRow, IsSiteRead, AreRead}
+use Rattle.stage_net.specs.Rows.{IsReadHere, AllAreThere, ShowsRead, IsSiteRead, AreRead}
 use Rattle.stage_net.proofs.PutLemmas.{put_in, of_put, still_in}
 use Rattle.stage_net.proofs.RowLemmas.{none_read}
 
@@ -60,10 +60,10 @@ module _ (p : ProgramView) (row : ℕ → ℕ) (j : ℕ) where
   abbrev pub ac : ℕ
   ac = answer_cell p.cells j
 
-  found_op : fc < length p.cells → (cell_at p.cells fc).op ≡ Found j
+  pub found_op : fc < length p.cells → (cell_at p.cells fc).op ≡ Found j
   found_op l = is_found (cell_at p.cells fc).op j (passes_at_first (λ (c : CellView). is_found_of j c.op) p.cells no_cell l)
 
-  answer_op : ac < length p.cells → (cell_at p.cells ac).op ≡ Answer j
+  pub answer_op : ac < length p.cells → (cell_at p.cells ac).op ≡ Answer j
   answer_op l = is_answer (cell_at p.cells ac).op j (passes_at_first (λ (c : CellView). is_answer_of j c.op) p.cells no_cell l)
 
   -- one of the two stands in the row
@@ -118,7 +118,7 @@ module _ (p : ProgramView) (row : ℕ → ℕ) (j : ℕ) where
         by_case (inl f) = inl ((staged.reads c j l e).found f)
         by_case (inr a) = inr ((staged.reads c j l e).answer a)
 
-    hit_by : (c : ℕ) → c < length p.cells → row c ≡ r → site_in (cell_at p.cells c).op ≡ Some j → Hit r
+    pub hit_by : (c : ℕ) → c < length p.cells → row c ≡ r → site_in (cell_at p.cells c).op ≡ Some j → Hit r
     hit_by c l i e = by_case (one_of_two c l e)
       where
         by_case : (c ≡ fc) ⊎ (c ≡ ac) → Hit r
@@ -126,7 +126,7 @@ module _ (p : ProgramView) (row : ℕ → ℕ) (j : ℕ) where
         by_case (inr s) = inr (subst (λ k. k < length p.cells) s l, subst (λ k. row k ≡ r) s i)
 
 -- ---- the step
-module _ {P : Type 0} (part : P) (p : ProgramView) (row : ℕ → ℕ) (r : ℕ) (nets : StageNets (Name P)) (staged : IsStaged p row (decls_of nets.maps.now) nets.bits) (keep : ReadsKeep) (j : ℕ) where
+module _ {P : Type 0} (part : P) (p : ProgramView) (row : ℕ → ℕ) (r : ℕ) (nets : StageNets (Name P)) (staged : IsStaged p row (decls_of nets.maps.now) nets.bits) (keep : ReadsKeep) (slots : List (Operand (Name P))) (j : ℕ) where
   abbrev Wires : Type 0
   Wires = List (BlockWireTree (Name P))
 
@@ -134,13 +134,13 @@ module _ {P : Type 0} (part : P) (p : ProgramView) (row : ℕ → ℕ) (r : ℕ)
   Table = List (Option (Operand (Name P)))
 
   -- no read of the site stands in the row
-  pub not_read : (ws : Wires) (table pointers : Table) → IsTable p.cells table → IsPointers p.cells nets.bits pointers → (Hit p row j r → ⊥) → AreRead part p row r nets j (j + 1) ws ws table table pointers pointers
-  not_read ws table pointers is are none = none_read part p row r nets j (j + 1) ws table pointers is are (λ c i l e o over under. none (hit c i l e o over under))
+  pub not_read : (ws : Wires) (table pointers : Table) → IsTable p.cells table → IsPointers p.cells nets.bits pointers → (Hit p row j r → ⊥) → AreRead part p row r nets slots j (j + 1) ws ws table table pointers pointers
+  not_read ws table pointers is are none = none_read part p row r nets slots j (j + 1) ws table pointers is are (λ c i l e o over under. none (hit c i l e o over under))
     where
       hit : (c i : ℕ) → c < length p.cells → row c ≡ r → site_in (cell_at p.cells c).op ≡ Some i → j ≤ i → i < j + 1 → Hit p row j r
       hit c i l e o over under = let same : i ≡ j = omega arith in hit_by p row j r nets.bits (decls_of nets.maps.now) staged c l e (o ∙ ap Some same)
 
-  module _ (old new : Wires) (o : ReadNets (Name P)) (x : IsSiteRead part p row r nets j (cell_at p.cells (ac p row j)).from (cell_at p.cells (ac p row j)).width old new o) (before pointers : Table) (is : IsTable p.cells before) (are : IsPointers p.cells nets.bits pointers) (hit : Hit p row j r) where
+  module _ (old new : Wires) (o : ReadNets (Name P)) (x : IsSiteRead part p row r nets slots j (cell_at p.cells (ac p row j)).from (cell_at p.cells (ac p row j)).width old new o) (before pointers : Table) (is : IsTable p.cells before) (are : IsPointers p.cells nets.bits pointers) (hit : Hit p row j r) where
     abbrev f : ℕ
     f = fc p row j
 
@@ -190,7 +190,7 @@ module _ {P : Type 0} (part : P) (p : ProgramView) (row : ℕ → ℕ) (r : ℕ)
     in_after k l (inr e) = subst (IsIn after) (sym e) (put_in mid a o.answer (let m = subst (λ n. n < length p.cells) e l in omega (arith, m, mid_long)))
 
     -- ---- the numbers of a packet that takes in the row
-    module _ (t : TableState) (packet : PacketIn) (held h : Held) (v : Env (Name P)) (shows : ShowsRow v p row r nets t held h) (made : IsRowMade p row r t packet h) where
+    module _ (t : TableState) (packet : PacketIn) (held h : Held) (v : Env (Name P)) (shows : ShowsRead v p row r nets slots t held h) (made : IsRowMade p row r t packet h) where
       kept : (c : ℕ) → c < length p.cells → row c ≡ r → LooksBelow row (row c) (site_at p.sites j) → (found_pointer p t held (pending p row r j) j ≡ found_pointer p t h (pending p row r j) j) × (answer_over p t held (pending p row r j) j ≡ answer_over p t h (pending p row r j) j)
       kept c l e below = keep p row r j t held h shows.alike (subst (λ k. LooksBelow row k (site_at p.sites j)) e below)
 
@@ -214,7 +214,7 @@ module _ {P : Type 0} (part : P) (p : ProgramView) (row : ℕ → ℕ) (r : ℕ)
           ap (λ n. bits_from n cell.from cell.width) (kept a l (a_here l) (a_is l).below).1
           ∙ sym ((made.each a l (a_here l)).value ∙ ap (λ op. bits_from (cell_number p row r t packet h cell op) cell.from cell.width) (a_op l))
 
-    module _ (outside : List (Operand (Name P))) (hand : NetsAreThere (behind part outside old) nets) (both : BothThere part outside old before pointers) where
+    module _ (outside : List (Operand (Name P))) (hand : AllAreThere (behind part outside old) nets slots) (both : BothThere part outside old before pointers) where
       abbrev given : All (IsAvailable (behind part outside new)) (o.found ∷ o.there ∷ o.answer ∷ [])
       given = x.there outside both.wires hand
 
@@ -238,7 +238,7 @@ module _ {P : Type 0} (part : P) (p : ProgramView) (row : ℕ → ℕ) (r : ℕ)
           },
         )
 
-    pub site_is_read : AreRead part p row r nets j (j + 1) old new before after pointers those
+    pub site_is_read : AreRead part p row r nets slots j (j + 1) old new before after pointers those
     site_is_read = record {
       cells_are = record {
         count = length-set mid a (Some o.answer) ∙ mid_long;
@@ -276,8 +276,8 @@ module _ {P : Type 0} (part : P) (p : ProgramView) (row : ℕ → ℕ) (r : ℕ)
     -- as the tables are written
     pub site_is_read_as :
         (found answer : ℕ) (first last ends : Table) → found ≡ f → answer ≡ a → first ≡ slice_set before found (Some o.there) → last ≡ slice_set first answer (Some o.answer) → ends ≡ slice_set pointers found (Some o.found)
-        → AreRead part p row r nets j (j + 1) old new before last pointers ends
+        → AreRead part p row r nets slots j (j + 1) old new before last pointers ends
     site_is_read_as found answer first last ends is_f is_a one two three =
         let e : last ≡ after = two ∙ ap (λ l. slice_set l answer (Some o.answer)) (one ∙ ap (λ k. slice_set before k (Some o.there)) is_f) ∙ ap (λ k. slice_set mid k (Some o.answer)) is_a in
         let g : ends ≡ those = three ∙ ap (λ k. slice_set pointers k (Some o.found)) is_f in
-        subst (λ y. AreRead part p row r nets j (j + 1) old new before last pointers y) (sym g) (subst (λ y. AreRead part p row r nets j (j + 1) old new before y pointers those) (sym e) site_is_read)
+        subst (λ y. AreRead part p row r nets slots j (j + 1) old new before last pointers y) (sym g) (subst (λ y. AreRead part p row r nets slots j (j + 1) old new before y pointers those) (sym e) site_is_read)

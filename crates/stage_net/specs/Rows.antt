@@ -1,8 +1,8 @@
 -- What the sites that are read in a row give.
 use Rattle.std.specs.Prelude.{◌≡◌, ℕ, ◌<◌, ◌≤◌, ◌∷◌, ◌/◌, not, Bool, true, false, Option, Some, All, List, [], length}
 use Rattle.std.proofs.Common.{get_or, ◌⊎◌}
-use Rattle.net_core.specs.Value.{Env}
-use Rattle.xdp_machine.specs.State.{PacketIn}
+use Rattle.cell_nets.specs.net_core.Value.{Env}
+use Rattle.cell_core.specs.xdp_machine.State.{PacketIn}
 use Rattle.block_core.specs.declared.name.Name.{Name}
 use Rattle.block_core.specs.Blocks.{BlockWireTree}
 use Rattle.block_core.specs.Parts.{Solve}
@@ -16,23 +16,24 @@ use Rattle.hazard_core.specs.Held.{Held, held_value, pointer_in, access_pointer,
 use Rattle.hazard_core.specs.Keeping.{AreAlike}
 use Rattle.hazard_core.specs.Overlay.{found_pointer, answer_over}
 use Rattle.cell_nets.specs.declared.operand.Operand.{Operand}
-use Rattle.cell_nets.specs.Operands.{number_in, AreFit, IsAvailable}
-use Rattle.cell_nets.specs.Wires.{behind, AreWires}
+use Rattle.cell_nets.specs.Operands.{number_in, IsOperand, AreFit, IsAvailable}
+use Rattle.cell_nets.specs.Wires.{behind, AreWires, HasBits}
 use Rattle.site_operands.specs.declared.SiteNets.{SiteNets}
 use Rattle.site_operands.specs.Pointers.{pointer_number}
 use Rattle.site_operands.specs.Sites.{operands_of, ShowsSite}
-use Rattle.row_net.specs.Table.{IsIn, IsTable, Holds}
-use Rattle.row_net.specs.Apart.{KeepApart}
+use Rattle.site_place.specs.row_net.Table.{IsIn, IsTable, Holds}
+use Rattle.site_place.specs.row_net.Apart.{KeepApart}
 use Rattle.site_place.specs.Pointing.{IsPointers, HoldsPointers}
 use Rattle.site_place.specs.PointerNets.{AddWires, BothThere}
-use Rattle.value_net.specs.Pendings.{HasValue}
-use Rattle.value_net.specs.Words.{answers_number, access_start}
+use Rattle.read_net.specs.value_net.Pendings.{HasValue}
+use Rattle.read_net.specs.value_net.Words.{answers_number, access_start}
 use Rattle.read_net.specs.declared.sites.MapNets.{MapNets}
 use Rattle.read_net.specs.declared.sites.ReadNets.{ReadNets}
 use Rattle.read_net.specs.Reads.{AreCells}
 use Rattle.read_net.specs.Sites.{ShowsTable}
+use Rattle.read_net.specs.overlay_net.Reading.{ShowsSlot}
 use Rattle.read_net.specs.Accesses.{ShowsWord}
-use Rattle.held_rows.specs.Made.{IsRowMade}
+use Rattle.site_table.specs.held_rows.Made.{IsRowMade}
 use Rattle.stage_net.specs.declared.row.StageNets.{StageNets}
 use Rattle.stage_net.specs.Nets.{decls_of, NetsAreThere}
 
@@ -49,6 +50,16 @@ IsHad p row r table c = IsIn table c ⊎ IsReadHere p row r c
 
 abbrev pub IsPointerHad : {N : Type 0} → ProgramView → (ℕ → ℕ) → ℕ → List (Option (Operand N)) → ℕ → Type 0
 IsPointerHad p row r pointers c = IsIn pointers c ⊎ IsFoundHere p row r c
+
+-- a site that the row reads and that looks for a key
+abbrev pub IsSought : ProgramView → (ℕ → ℕ) → ℕ → ℕ → Type 0
+IsSought p row r j = (c : ℕ) × (c < length p.cells) × (row c ≡ r) × (site_in (cell_at p.cells c).op ≡ Some j) × (finds_key (site_at p.sites j).act ≡ true)
+
+-- and another one, of which a site is to have the key, in the same map
+pub record AsksSame (p : ProgramView) (row : ℕ → ℕ) (r i j : ℕ) : Type 0 where
+  pub sought : IsSought p row r i
+  pub map : (site_at p.sites i).map ≡ (site_at p.sites j).map
+  pub key : (site_at p.sites i).key ≡ (site_at p.sites j).key
 
 -- ---- what the nets stand for, of a packet that holds the rows before
 -- the tables, which have the maps' declarations, and their slots
@@ -68,17 +79,45 @@ pub record ShowsReads {N : Type 0} (v : Env N) (p : ProgramView) (nets : StageNe
   pub sites : (i : ℕ) (d : SiteNets N) → i < length p.sites → ShowsSite v p before i (operands_of (get_or nets.sites.now i d))
   pub entry : (d : Operand N) → answers_number (site_at p.sites j).act ≡ true → ShowsEntry v p t before j (get_or nets.words.now j d)
 
+-- Where operands are given for the slots under keys, one for each site, that of the site stands for the slot under the key that it looks for.
+pub record ShowsFound {N : Type 0} (v : Env N) (p : ProgramView) (nets : StageNets N) (slots : List (Operand N)) (t : TableState) (before : Held) (j : ℕ) : Type 0 where
+  pub reads : ShowsReads v p nets t before j
+  pub slot : (d : Operand N) → j < length slots → finds_key (site_at p.sites j).act ≡ true → ShowsSlot v p t before j (get_or slots j d)
+
+-- an operand for each site, of as many bits as pointers have
+pub record AreSlots {N : Type 0} (p : ProgramView) (nets : StageNets N) (slots : List (Operand N)) : Type 0 where
+  pub count : length slots ≡ length p.sites
+  pub operands : All IsOperand slots
+  pub bits : All (HasBits nets.bits) slots
+
+-- all of these are numbers or among these operands
+pub record AllAreThere {N : Type 0} (ins : List (Operand N)) (nets : StageNets N) (slots : List (Operand N)) : Type 0 where
+  pub nets_there : NetsAreThere ins nets
+  pub slots_there : All (IsAvailable ins) slots
+
+-- ---- the slots under the keys that a row looks for
+-- Wires become more, and behind them stand operands of sites from the first on: those of the sites that the row reads and that look for a key for the slots under their keys.
+pub record AreSought {P : Type 0} (part : P) (p : ProgramView) (row : ℕ → ℕ) (r : ℕ) (nets : StageNets (Name P)) (old new : List (BlockWireTree (Name P))) (slots : List (Operand (Name P))) : Type 0 where
+  pub adds : AddWires part old new
+  pub operands : All IsOperand slots
+  pub bits : All (HasBits nets.bits) slots
+  pub wires : (outside : List (Operand (Name P))) → AreWires part outside old → NetsAreThere (behind part outside old) nets → AreWires part outside new
+  pub there : (outside : List (Operand (Name P))) → AreWires part outside old → NetsAreThere (behind part outside old) nets → All (IsAvailable (behind part outside new)) slots
+  pub shows :
+      (outside : List (Operand (Name P))) (v : Env (Name P)) (t : TableState) (before : Held) → AreWires part outside old → NetsAreThere (behind part outside old) nets → AreFit v outside → Solve v part 0 new
+      → (j : ℕ) (d : Operand (Name P)) → j < length slots → IsSought p row r j → ShowsReads v p nets t before j → ShowsSlot v p t before j (get_or slots j d)
+
 -- ---- the read of a site in a row
-pub record IsSiteRead {P : Type 0} (part : P) (p : ProgramView) (row : ℕ → ℕ) (r : ℕ) (nets : StageNets (Name P)) (j from width : ℕ) (old new : List (BlockWireTree (Name P))) (o : ReadNets (Name P)) : Type 0 where
+pub record IsSiteRead {P : Type 0} (part : P) (p : ProgramView) (row : ℕ → ℕ) (r : ℕ) (nets : StageNets (Name P)) (slots : List (Operand (Name P))) (j from width : ℕ) (old new : List (BlockWireTree (Name P))) (o : ReadNets (Name P)) : Type 0 where
   pub cells : AreCells nets.bits width o
   pub adds : AddWires part old new
-  pub wires : (outside : List (Operand (Name P))) → AreWires part outside old → NetsAreThere (behind part outside old) nets → AreWires part outside new
-  pub there : (outside : List (Operand (Name P))) → AreWires part outside old → NetsAreThere (behind part outside old) nets → All (IsAvailable (behind part outside new)) (o.found ∷ o.there ∷ o.answer ∷ [])
+  pub wires : (outside : List (Operand (Name P))) → AreWires part outside old → AllAreThere (behind part outside old) nets slots → AreWires part outside new
+  pub there : (outside : List (Operand (Name P))) → AreWires part outside old → AllAreThere (behind part outside old) nets slots → All (IsAvailable (behind part outside new)) (o.found ∷ o.there ∷ o.answer ∷ [])
   pub found :
-      finds_key (site_at p.sites j).act ≡ true → (outside : List (Operand (Name P))) (v : Env (Name P)) (t : TableState) (before : Held) → AreWires part outside old → NetsAreThere (behind part outside old) nets → AreFit v outside → Solve v part 0 new → ShowsReads v p nets t before j
+      finds_key (site_at p.sites j).act ≡ true → (outside : List (Operand (Name P))) (v : Env (Name P)) (t : TableState) (before : Held) → AreWires part outside old → AllAreThere (behind part outside old) nets slots → AreFit v outside → Solve v part 0 new → ShowsFound v p nets slots t before j
       → (number_in v o.found ≡ pointer_number (found_pointer p t before (pending p row r j) j)) × (number_in v o.there ≡ bit (not (is_null (found_pointer p t before (pending p row r j) j))))
   pub answer :
-      reads (site_at p.sites j).act ≡ true → (outside : List (Operand (Name P))) (v : Env (Name P)) (t : TableState) (before : Held) → AreWires part outside old → NetsAreThere (behind part outside old) nets → AreFit v outside → Solve v part 0 new → ShowsReads v p nets t before j
+      reads (site_at p.sites j).act ≡ true → (outside : List (Operand (Name P))) (v : Env (Name P)) (t : TableState) (before : Held) → AreWires part outside old → AllAreThere (behind part outside old) nets slots → AreFit v outside → Solve v part 0 new → ShowsFound v p nets slots t before j
       → number_in v o.answer ≡ bits_from (answer_over p t before (pending p row r j) j) from width
 
 -- ---- the cells of a packet behind the row
@@ -87,10 +126,15 @@ pub record ShowsRow {N : Type 0} (v : Env N) (p : ProgramView) (row : ℕ → �
   pub alike : AreAlike p row r before h
   pub reads : (c j : ℕ) → c < length p.cells → row c ≡ r → site_in (cell_at p.cells c).op ≡ Some j → ShowsReads v p nets t before j
 
+-- the same with the slots under keys
+pub record ShowsRead {N : Type 0} (v : Env N) (p : ProgramView) (row : ℕ → ℕ) (r : ℕ) (nets : StageNets N) (slots : List (Operand N)) (t : TableState) (before h : Held) : Type 0 where
+  pub alike : AreAlike p row r before h
+  pub reads : (c j : ℕ) → c < length p.cells → row c ≡ r → site_in (cell_at p.cells c).op ≡ Some j → ShowsFound v p nets slots t before j
+
 -- Wires and the tables of cells and of pointers become more: they get the cells that read the sites from one number up to another in the row, and nothing that was
 -- there goes. Whatever comes from outside, behind the wires stands all that is in them, and it has the numbers of what the packet holds behind the row, where that was
 -- so before. Products stay apart.
-pub record AreRead {P : Type 0} (part : P) (p : ProgramView) (row : ℕ → ℕ) (r : ℕ) (nets : StageNets (Name P)) (low high : ℕ) (old new : List (BlockWireTree (Name P))) (before after pointers those : List (Option (Operand (Name P)))) : Type 0 where
+pub record AreRead {P : Type 0} (part : P) (p : ProgramView) (row : ℕ → ℕ) (r : ℕ) (nets : StageNets (Name P)) (slots : List (Operand (Name P))) (low high : ℕ) (old new : List (BlockWireTree (Name P))) (before after pointers those : List (Option (Operand (Name P)))) : Type 0 where
   pub cells_are : IsTable p.cells after
   pub pointers_are : IsPointers p.cells nets.bits those
   pub found : (c j : ℕ) → c < length p.cells → row c ≡ r → (cell_at p.cells c).op ≡ Found j → low ≤ j → j < high → IsIn those c
@@ -99,9 +143,9 @@ pub record AreRead {P : Type 0} (part : P) (p : ProgramView) (row : ℕ → ℕ)
   pub grows_pointers : (k : ℕ) → IsIn pointers k → IsIn those k
   pub earlier : (v : Env (Name P)) → Solve v part 0 new → Solve v part 0 old
   pub stays : (outside : List (Operand (Name P))) (a : Operand (Name P)) → IsAvailable (behind part outside old) a → IsAvailable (behind part outside new) a
-  pub there : (outside : List (Operand (Name P))) → NetsAreThere (behind part outside old) nets → BothThere part outside old before pointers → BothThere part outside new after those
+  pub there : (outside : List (Operand (Name P))) → AllAreThere (behind part outside old) nets slots → BothThere part outside old before pointers → BothThere part outside new after those
   pub value :
-      (outside : List (Operand (Name P))) (v : Env (Name P)) (t : TableState) (packet : PacketIn) (held h : Held) → NetsAreThere (behind part outside old) nets → BothThere part outside old before pointers → AreFit v outside → Solve v part 0 new → ShowsRow v p row r nets t held h → IsRowMade p row r t packet h
+      (outside : List (Operand (Name P))) (v : Env (Name P)) (t : TableState) (packet : PacketIn) (held h : Held) → AllAreThere (behind part outside old) nets slots → BothThere part outside old before pointers → AreFit v outside → Solve v part 0 new → ShowsRead v p row r nets slots t held h → IsRowMade p row r t packet h
       → Holds v before (held_value h) → HoldsPointers v pointers (pointer_in h) → Holds v after (held_value h) × HoldsPointers v those (pointer_in h)
   pub apart :
       (clean : ℕ → Bool) (marks : List Bool) → ((c : ℕ) → IsReadHere p row r c → clean c ≡ false) → KeepApart part clean marks old before → (next : List Bool) × KeepApart part clean next new after

@@ -2,11 +2,11 @@
 use Rattle.std.specs.Prelude.{◌≡◌, ℕ, ◌<◌, true, false, Option, All, Contains, List, [], length, take, slice_index, IsTrue}
 use Rattle.std.specs.List.{list_all}
 use Rattle.std.proofs.Common.{◌⊎◌}
-use Rattle.xdp_machine.specs.State.{PacketIn}
-use Rattle.net_core.specs.Ports.{port_list}
-use Rattle.net_core.specs.Value.{bit, Env}
-use Rattle.net_core.specs.Clock.{Stored, done}
-use Rattle.design_rules.specs.FormedSyntax.{statement_spelled}
+use Rattle.cell_core.specs.xdp_machine.State.{PacketIn}
+use Rattle.cell_nets.specs.net_core.Ports.{port_list}
+use Rattle.cell_nets.specs.net_core.Value.{bit, Env}
+use Rattle.cell_nets.specs.net_core.Clock.{Stored, done}
+use Rattle.cell_nets.specs.design_rules.FormedSyntax.{statement_spelled}
 use Rattle.block_core.specs.declared.name.Name.{Name}
 use Rattle.block_core.specs.Blocks.{BlockTree, registers_of, memories_of, first_of, Whole, Among}
 use Rattle.block_core.specs.Parts.{Solve, Goes, Within}
@@ -20,12 +20,12 @@ use Rattle.cell_nets.specs.declared.operand.Operand.{Operand}
 use Rattle.cell_nets.specs.Computing.{is_outside}
 use Rattle.cell_nets.specs.Operands.{AreFit, AreDeclared, IsNetOf}
 use Rattle.cell_nets.specs.Wires.{is_spelled}
-use Rattle.row_net.specs.Table.{Holds}
-use Rattle.row_net.specs.Made.{AreValues}
+use Rattle.site_place.specs.row_net.Table.{Holds}
+use Rattle.site_place.specs.row_net.Made.{AreValues}
 use Rattle.site_place.specs.Pointing.{HoldsPointers, Takes}
 use Rattle.site_place.specs.Inputs.{HasWidths}
 use Rattle.site_place.specs.SitePlace.{site_widths, site_words}
-use Rattle.held_rows.specs.Made.{IsRowMade}
+use Rattle.site_table.specs.held_rows.Made.{IsRowMade}
 use Rattle.stage_net.specs.declared.row.StageNets.{StageNets}
 use Rattle.stage_net.specs.Rows.{ShowsRow}
 

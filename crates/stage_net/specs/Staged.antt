@@ -11,7 +11,7 @@ use Rattle.hazard_core.specs.Tabled.{AreTables}
 use Rattle.hazard_core.specs.Held.{found_cell, answer_cell}
 use Rattle.hazard_core.specs.Keeping.{LooksBelow}
 use Rattle.cell_nets.specs.Operands.{IsWide}
-use Rattle.value_net.specs.Words.{IsAligned}
+use Rattle.read_net.specs.value_net.Words.{IsAligned}
 
 -- There are tables of these declarations.
 pub record HaveTables (decls : List MapDecl) : Type 0 where

@@ -5,4 +5,5 @@ mod earlier;
 mod reading;
 pub mod reads;
 pub mod row;
+mod searching;
 pub mod stage;

@@ -5,8 +5,8 @@ ghost use Rattle.cell_core.specs.Sites.{ProgramView};
 ghost use Rattle.hazard_core.specs.Held.{Held};
 ghost use Rattle.hazard_core.specs.Tables.{TableState};
 ghost use Rattle.cell_nets.specs.Operands.{IsOperand};
-ghost use Rattle.cell_nets.specs.Wires.{wires_of};
-ghost use Rattle.value_net.specs.Words.{IsAligned, answers_number};
+ghost use Rattle.cell_nets.specs.Wires.{wires_of, HasBits};
+ghost use Rattle.read_net.specs.value_net.Words.{IsAligned, answers_number};
 ghost use Rattle.read_net.specs.Sites.{cells_of, IsMap, IsWhole};
 ghost use Rattle.read_net.specs.Reads.{IsReadOf};
 ghost use Rattle.read_net.specs.Accesses.{IsFitting, HaveOperands};
@@ -30,6 +30,7 @@ fn access_reads<P: Copy>(
     map: &MapNets<'_, Name<P>>,
     site: &OwnSite<'_, Name<P>>,
     earlier: &[OwnSite<'_, Name<P>>],
+    slot: Operand<Name<P>>,
     word: Operand<Name<P>>,
     from: u8,
     width: u8,
@@ -40,11 +41,13 @@ fn access_reads<P: Copy>(
     requires operands { All IsOperand (cells_of site.now) }
     requires earlier { All (IsWhole map.now) earlier.now }
     requires fitting { All (IsFitting map.now) earlier.now }
+    requires slot { IsOperand slot }
+    requires bits { HasBits map.now.bits slot }
     requires word { IsOperand word }
     requires from { from ≤ 63 }
     requires width { width ≤ 64 }
     ensures { (p : ProgramView) (t : TableState) (h : Held) (row : ℕ → ℕ) (r : ℕ) → IsReadOf p t row r map.now site.now earlier.now → HaveOperands p earlier.now → HasEntry p t h site.now
-        → IfOk result (SiteReads part (wires_of wires.old.items) (wires_of wires.new.items) map.now site.now earlier.now word from width p t h row r) }
+        → IfOk result (SiteReads part (wires_of wires.old.items) (wires_of wires.new.items) map.now site.now earlier.now slot word from width p t h row r) }
 {
     let answer = access(alloc, wires, part, map, site, earlier, word, from, width)?;
     Ok(ReadNets {
@@ -55,7 +58,7 @@ fn access_reads<P: Copy>(
 }
 
 /// What a site reads: what it finds under its key, and so many bits, from one on, of what it answers. What its operation does not read is the number 0.
-/// `word` is the word of the table under the pointer of an access.
+/// `slot` is the slot of the table under the key that it looks for, `word` the word of the table under the pointer of an access.
 pub(crate) fn site_reads<P: Copy>(
     alloc: Global,
     wires: &mut Vec<BlockWire<Name<P>>>,
@@ -63,6 +66,7 @@ pub(crate) fn site_reads<P: Copy>(
     map: &MapNets<'_, Name<P>>,
     site: &OwnSite<'_, Name<P>>,
     earlier: &[OwnSite<'_, Name<P>>],
+    slot: Operand<Name<P>>,
     word: Operand<Name<P>>,
     from: u8,
     width: u8,
@@ -74,18 +78,24 @@ pub(crate) fn site_reads<P: Copy>(
     requires earlier { All (IsWhole map.now) earlier.now }
     requires fitting { All (IsFitting map.now) earlier.now }
     requires few { length earlier.now < 65536 }
+    requires slot { IsOperand slot }
+    requires bits { HasBits map.now.bits slot }
     requires word { IsOperand word }
     requires from { from ≤ 63 }
     requires width { width ≤ 64 }
     ensures { (p : ProgramView) (t : TableState) (h : Held) (row : ℕ → ℕ) (r : ℕ) → IsReadOf p t row r map.now site.now earlier.now → HaveOperands p earlier.now → HasEntry p t h site.now
-        → IfOk result (SiteReads part (wires_of wires.old.items) (wires_of wires.new.items) map.now site.now earlier.now word from width p t h row r) }
+        → IfOk result (SiteReads part (wires_of wires.old.items) (wires_of wires.new.items) map.now site.now earlier.now slot word from width p t h row r) }
 {
     match site.act {
-        Act::Lookup => lookup(alloc, wires, part, map, site, earlier, from, width),
-        Act::Update => update(alloc, wires, part, map, site, earlier, from, width),
-        Act::Delete => delete(alloc, wires, part, map, site, earlier, from, width),
-        Act::Load(..) => access_reads(alloc, wires, part, map, site, earlier, word, from, width),
-        Act::Atomic(..) => access_reads(alloc, wires, part, map, site, earlier, word, from, width),
+        Act::Lookup => lookup(alloc, wires, part, map, site, earlier, slot, from, width),
+        Act::Update => update(alloc, wires, part, map, site, earlier, slot, from, width),
+        Act::Delete => delete(alloc, wires, part, map, site, earlier, slot, from, width),
+        Act::Load(..) => access_reads(
+            alloc, wires, part, map, site, earlier, slot, word, from, width,
+        ),
+        Act::Atomic(..) => access_reads(
+            alloc, wires, part, map, site, earlier, slot, word, from, width,
+        ),
         Act::Store(..) => Ok(ReadNets {
             found: Operand::Known(0),
             there: Operand::Known(0),

@@ -1,8 +1,8 @@
 //! The place of a row that reads maps.
 
 ghost use Rattle.std.specs.Prelude.{ℕ, Bool, ◌≡◌, ◌<◌, ◌⊎◌, false, List, All, Contains, IfOk, slice_index};
-ghost use Rattle.net_core.specs.Value.{Env};
-ghost use Rattle.product_blocks.specs.Alone.{IsApartAlone};
+ghost use Rattle.cell_nets.specs.net_core.Value.{Env};
+ghost use Rattle.cell_nets.specs.product_blocks.Alone.{IsApartAlone};
 ghost use Rattle.block_core.specs.declared.name.Name.{Name};
 ghost use Rattle.block_core.specs.Parts.{Solve};
 ghost use Rattle.block_core.specs.View.{block_of};
@@ -10,9 +10,9 @@ ghost use Rattle.cell_core.specs.View.{program_of};
 ghost use Rattle.cell_nets.specs.declared.operand.Operand.{Operand};
 ghost use Rattle.cell_nets.specs.declared.operand.Operand.TheVariants.{Net};
 ghost use Rattle.cell_nets.specs.Wires.{behind, wires_of, AreWires};
-ghost use Rattle.row_net.specs.Table.{IsTable};
-ghost use Rattle.row_net.specs.Apart.{TakeClean, KeepApart};
-ghost use Rattle.place_net.specs.Place.{width_at};
+ghost use Rattle.site_place.specs.row_net.Table.{IsTable};
+ghost use Rattle.site_place.specs.row_net.Apart.{TakeClean, KeepApart};
+ghost use Rattle.site_place.specs.place_net.Place.{width_at};
 ghost use Rattle.site_place.specs.Pointing.{IsPointers};
 ghost use Rattle.site_place.specs.PointerNets.{BothThere};
 ghost use Rattle.stage_net.specs.Nets.{decls_of, AreNets, NetsAreThere};

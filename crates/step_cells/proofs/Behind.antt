@@ -12,9 +12,9 @@ use Rattle.kind_core.specs.Edges.{transferred}
 use Rattle.cell_core.specs.Cells.{CellView}
 use Rattle.cell_core.specs.Sites.{SiteView}
 use Rattle.cell_core.specs.Rows.{AreRows}
-use Rattle.place_rows.specs.declared.recording.Record.{Record}
-use Rattle.place_rows.specs.Spans.{pending_place}
-use Rattle.place_rows.specs.Writing.{record_as}
+use Rattle.held_cells.specs.place_rows.declared.recording.Record.{Record}
+use Rattle.held_cells.specs.place_rows.Spans.{pending_place}
+use Rattle.held_cells.specs.place_rows.Writing.{record_as}
 use Rattle.operator_cells.specs.Making.{Grows}
 use Rattle.held_cells.specs.declared.held.Held.{Held}
 use Rattle.held_cells.specs.Held.{PointerView, AreInside}

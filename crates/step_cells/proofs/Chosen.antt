@@ -15,7 +15,7 @@ use Rattle.kind_core.specs.declared.why.Why.{Why}
 use Rattle.kind_core.specs.Kinds.{register}
 use Rattle.kind_core.specs.Tests.{◌>>=◌, Test, passed, within, aligned}
 use Rattle.kind_core.specs.Places.{accessed}
-use Rattle.xdp_machine.specs.Memory.{bytes_in}
+use Rattle.cell_core.specs.xdp_machine.Memory.{bytes_in}
 use Rattle.kind_core.specs.Access.{changed_at}
 use Rattle.kind_core.specs.Calls.{helper_of, called}
 use Rattle.kind_core.specs.Profile.{profiled}

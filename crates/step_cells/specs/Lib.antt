@@ -1,3 +1,4 @@
+pub use Rattle.site_cells.specs as site_cells
 pub mod Leaving
 pub mod Rows
 pub mod Stepping

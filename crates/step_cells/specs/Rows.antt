@@ -8,9 +8,9 @@ use Rattle.kind_core.specs.Edges.{transferred}
 use Rattle.cell_core.specs.Cells.{CellView}
 use Rattle.cell_core.specs.Sites.{SiteView}
 use Rattle.cell_core.specs.Rows.{AreRows}
-use Rattle.place_rows.specs.Spans.{pending_place, is_in}
-use Rattle.place_rows.specs.Reading.{result_row}
-use Rattle.place_rows.specs.Writing.{writes_as, record_as, made_row}
+use Rattle.held_cells.specs.place_rows.Spans.{pending_place, is_in}
+use Rattle.held_cells.specs.place_rows.Reading.{result_row}
+use Rattle.held_cells.specs.place_rows.Writing.{writes_as, record_as, made_row}
 use Rattle.held_cells.specs.declared.held.Held.{Held}
 use Rattle.held_cells.specs.declared.way.Way.{Way}
 use Rattle.held_cells.specs.Held.{PointerView}

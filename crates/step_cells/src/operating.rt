@@ -12,7 +12,7 @@ ghost use Rattle.held_cells.specs.Held.{pointed, AreInside};
 ghost use Rattle.held_cells.specs.Operating.{Operates};
 ghost use Rattle.held_cells.specs.Rows.{map_used, OperatesTo};
 ghost use Rattle.held_cells.specs.Pointing.{OperationPoints, InstructionPoints};
-ghost use Rattle.place_rows.specs.Spans.{map_of};
+ghost use Rattle.held_cells.specs.place_rows.Spans.{map_of};
 ghost use Rattle.step_cells.specs.Rows.{InstructionRows};
 ghost use Rattle.site_cells.specs.Sited.{sited};
 ghost use Rattle.register_cells.specs.Plain as spec;

@@ -8,12 +8,12 @@ use Rattle.xdp_maps.specs.Contents.{IsBytes}
 use Rattle.xdp_maps.specs.Calls.{patched, change_bytes}
 use Rattle.xdp_maps.specs.Operations.{key_in}
 use Rattle.xdp_maps.proofs.ByteLaws.{IsBytes-patched, IsBytes-little_bytes}
-use Rattle.xdp_machine.specs.Memory.{bytes_in}
-use Rattle.cell_core.specs.declared.site.Act.{Act}
-use Rattle.cell_core.specs.declared.site.Act.TheVariants as act
-use Rattle.cell_core.specs.Formed.{HasWords, IsInside}
-use Rattle.cell_core.specs.Sites.{site_at, spelled, bytes_of, operation_with}
-use Rattle.cell_core.proofs.SpelledLaws.{spelled_length}
+use Rattle.hazard_core.specs.xdp_machine.Memory.{bytes_in}
+use Rattle.hazard_core.specs.cell_core.declared.site.Act.{Act}
+use Rattle.hazard_core.specs.cell_core.declared.site.Act.TheVariants as act
+use Rattle.hazard_core.specs.cell_core.Formed.{HasWords, IsInside}
+use Rattle.hazard_core.specs.cell_core.Sites.{site_at, spelled, bytes_of, operation_with}
+use Rattle.hazard_core.proofs.cell_core.SpelledLaws.{spelled_length}
 use Rattle.hazard_core.specs.declared.slot.Slot.{Slot}
 use Rattle.hazard_core.specs.Tables.{decl_of, table_at, slot_at}
 use Rattle.hazard_core.specs.Held.{held_value, asked, asked_key}

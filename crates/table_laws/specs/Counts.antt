@@ -1,6 +1,6 @@
 -- Tables of the same maps with as many slots.
 use Rattle.std.specs.Prelude.{◌≡◌, ℕ, List, length}
-use Rattle.cell_core.specs.Sites.{ProgramView}
+use Rattle.hazard_core.specs.cell_core.Sites.{ProgramView}
 use Rattle.hazard_core.specs.Tables.{TableState, table_at}
 use Rattle.hazard_core.specs.Held.{Held}
 use Rattle.hazard_core.specs.declared.access.Access.{Access}

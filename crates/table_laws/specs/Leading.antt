@@ -1,9 +1,9 @@
 -- Into which maps the pointers of packets lead.
 use Rattle.std.specs.Prelude.{◌≡◌, ℕ, ◌<◌, ◌||◌, true, length}
-use Rattle.xdp_machine.specs.State.{PacketIn}
-use Rattle.cell_core.specs.declared.operator.Operator.TheVariants.{Found}
-use Rattle.cell_core.specs.Cells.{cell_at}
-use Rattle.cell_core.specs.Sites.{ProgramView, site_at}
+use Rattle.hazard_core.specs.xdp_machine.State.{PacketIn}
+use Rattle.hazard_core.specs.cell_core.declared.operator.Operator.TheVariants.{Found}
+use Rattle.hazard_core.specs.cell_core.Cells.{cell_at}
+use Rattle.hazard_core.specs.cell_core.Sites.{ProgramView, site_at}
 use Rattle.hazard_core.specs.declared.pointer.Pointer.{Pointer}
 use Rattle.hazard_core.specs.declared.pointer.Pointer.TheVariants.{InSlot, Pending}
 use Rattle.hazard_core.specs.Tables.{TableState, table_at}

@@ -2,10 +2,10 @@
 use Rattle.std.specs.Prelude.{slice_index, if◌then◌else◌, Option, None, Some}
 use Rattle.std.proofs.Common.{◌≡◌, ◌∙◌, ℕ, zero, suc, ◌==◌, ◌<◌, Bool, true, false, ◌&&◌, ◌||◌, List, [], ◌∷◌, length, get_or, refl, sym, ap, arith, find}
 use Rattle.std.proofs.lemmas.Bool.{eqb-true, eqb-false, eq-eqb}
-use Rattle.net_core.specs.Value.{word, bit as bit_word, Env}
+use Rattle.cell_nets.specs.net_core.Value.{word, bit as bit_word, Env}
 use Rattle.xdp_maps.specs.declared.decl.MapDecl.{MapDecl}
-use Rattle.cell_core.specs.Cells.{bit, on}
-use Rattle.cell_core.specs.Sites.{ProgramView, site_at}
+use Rattle.cell_nets.specs.cell_core.Cells.{bit, on}
+use Rattle.cell_nets.specs.cell_core.Sites.{ProgramView, site_at}
 use Rattle.hazard_core.specs.Held.{Held, writes}
 use Rattle.cell_nets.specs.declared.operand.Operand.{Operand}
 use Rattle.cell_nets.specs.declared.operand.Operand.TheVariants.{Known}

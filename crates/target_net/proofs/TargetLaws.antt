@@ -1,7 +1,7 @@
 -- What the part of targets gives is what the turn takes: of the site that commits, the slot that its operation writes.
 use Rattle.std.proofs.Common.{◌≡◌, ◌≢◌, ◌∙◌, ℕ, ◌<◌, true, Option, List, length, get_or, sym, ap, subst}
-use Rattle.net_core.specs.Value.{Env}
-use Rattle.cell_core.specs.Sites.{ProgramView}
+use Rattle.cell_nets.specs.net_core.Value.{Env}
+use Rattle.cell_nets.specs.cell_core.Sites.{ProgramView}
 use Rattle.hazard_core.specs.declared.pointer.Pointer.TheVariants.{Pending}
 use Rattle.hazard_core.specs.Tables.{TableState}
 use Rattle.hazard_core.specs.Held.{Held, written_pointer}

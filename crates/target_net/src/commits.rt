@@ -2,7 +2,7 @@
 
 ghost use Rattle.std.specs.Prelude.{◌≡◌, All, length, IfOk};
 ghost use Rattle.block_core.specs.View.{block_of};
-ghost use Rattle.cell_core.specs.Cells.{bit};
+ghost use Rattle.cell_nets.specs.cell_core.Cells.{bit};
 ghost use Rattle.cell_nets.specs.Operands.{IsOperand};
 ghost use Rattle.cell_nets.specs.Wires.{wires_of, always, Gives};
 ghost use Rattle.step_nets.specs.Standing.{Stands};

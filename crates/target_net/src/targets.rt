@@ -2,7 +2,7 @@
 
 ghost use Rattle.std.specs.Prelude.{ℕ, List, ◌∷◌, ◌++◌, ◌≡◌, ◌^◌, ◌≤◌, All, length, IfOk};
 ghost use Rattle.block_core.specs.View.{block_of};
-ghost use Rattle.cell_core.specs.Sites.{ProgramView};
+ghost use Rattle.cell_nets.specs.cell_core.Sites.{ProgramView};
 ghost use Rattle.hazard_core.specs.Held.{Held};
 ghost use Rattle.hazard_core.specs.Tables.{TableState, table_at};
 ghost use Rattle.cell_nets.specs.Operands.{IsOperand, IsWide};

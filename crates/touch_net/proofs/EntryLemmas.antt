@@ -9,23 +9,23 @@ use Rattle.std.proofs.lemmas.List.{length-take-le, length-map}
 use Rattle.std.proofs.lemmas.Nat.{pow-add}
 use Rattle.std.proofs.lemmas.Slice.Eq.{bytes_eq-Decides}
 use Rattle.std.proofs.Math.Pow.{pow_mono}
-use Rattle.net_core.specs.Value.{Env}
+use Rattle.cell_nets.specs.net_core.Value.{Env}
 use Rattle.block_core.specs.Blocks.{BlockWireTree}
 use Rattle.block_core.specs.declared.name.Name.{Name}
 use Rattle.xdp_maps.specs.declared.decl.MapDecl.{MapDecl}
 use Rattle.xdp_maps.specs.Operations.{key_in}
-use Rattle.xdp_machine.specs.Arithmetic.{low}
+use Rattle.cell_core.specs.xdp_machine.Arithmetic.{low}
 use Rattle.cell_core.specs.declared.site.Act.{Act}
 use Rattle.cell_core.specs.declared.site.Act.TheVariants as act
 use Rattle.cell_core.specs.Cells.{bit, on, bits_from}
 use Rattle.cell_core.specs.Sites.{ProgramView, site_at, spelled, bytes_of, operation_with}
 use Rattle.cell_core.proofs.SpelledLaws.{spelled_length}
-use Rattle.hazard_core.specs.declared.change.Change.{Change}
-use Rattle.hazard_core.specs.declared.pointer.Pointer.{Pointer}
-use Rattle.hazard_core.specs.declared.pointer.Pointer.TheVariants.{Null, InSlot, Pending}
-use Rattle.hazard_core.specs.Held.{Held, held_value, asked_key}
-use Rattle.hazard_core.specs.Marks.{entry_touched}
-use Rattle.hazard_core.specs.Tables.{decl_of}
+use Rattle.site_operands.specs.hazard_core.declared.change.Change.{Change}
+use Rattle.site_operands.specs.hazard_core.declared.pointer.Pointer.{Pointer}
+use Rattle.site_operands.specs.hazard_core.declared.pointer.Pointer.TheVariants.{Null, InSlot, Pending}
+use Rattle.site_operands.specs.hazard_core.Held.{Held, held_value, asked_key}
+use Rattle.site_operands.specs.hazard_core.Marks.{entry_touched}
+use Rattle.site_operands.specs.hazard_core.Tables.{decl_of}
 use Rattle.cell_nets.specs.declared.operand.Operand.{Operand}
 use Rattle.cell_nets.specs.Operands.{number_in, IsAvailable}
 use Rattle.cell_nets.specs.Wires.{always, Gives}

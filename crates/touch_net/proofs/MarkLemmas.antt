@@ -3,13 +3,13 @@ use Rattle.std.specs.Prelude.{not, Option, Some, None}
 use Rattle.std.specs.List.{list_any}
 use Rattle.std.proofs.Common.{◌≡◌, ◌∙◌, ℕ, zero, suc, ◌+◌, ◌<◌, Bool, true, false, ◌&&◌, ◌||◌, All, List, [], ◌∷◌, length, take, get_or, refl, sym, ap, ap₂, subst, arith}
 use Rattle.std.proofs.lemmas.List.Folds.{list_any_more}
-use Rattle.net_core.specs.Value.{Env}
+use Rattle.cell_nets.specs.net_core.Value.{Env}
 use Rattle.block_core.specs.Blocks.{BlockWireTree}
 use Rattle.block_core.specs.declared.name.Name.{Name}
 use Rattle.cell_core.specs.Cells.{bit, on}
 use Rattle.cell_core.specs.Sites.{SiteView, ProgramView, site_at}
-use Rattle.hazard_core.specs.Held.{Held, guard_on}
-use Rattle.hazard_core.specs.Marks.{is_known, known_on}
+use Rattle.site_operands.specs.hazard_core.Held.{Held, guard_on}
+use Rattle.site_operands.specs.hazard_core.Marks.{is_known, known_on}
 use Rattle.cell_nets.specs.declared.operand.Operand.{Operand}
 use Rattle.cell_nets.specs.Operands.{number_in, IsAvailable}
 use Rattle.cell_nets.specs.Wires.{always, Gives}

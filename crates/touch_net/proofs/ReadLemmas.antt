@@ -3,7 +3,7 @@ use Rattle.std.specs.Prelude.{not, nat_lt, slice_index}
 use Rattle.std.specs.Str.{bytes_eq}
 use Rattle.std.proofs.Common.{◌≡◌, ◌≢◌, ◌∙◌, ℕ, ◌+◌, ◌*◌, ◌==◌, ◌<◌, Bool, true, false, ◌&&◌, ◌||◌, List, ◌++◌, refl, sym, ap, subst, arith, map as map_list}
 use Rattle.std.proofs.lemmas.Bool.{eqb-true, eq-eqb}
-use Rattle.net_core.specs.Value.{Env}
+use Rattle.cell_nets.specs.net_core.Value.{Env}
 use Rattle.block_core.specs.Blocks.{BlockWireTree}
 use Rattle.block_core.specs.declared.name.Name.{Name}
 use Rattle.xdp_maps.specs.declared.decl.MapDecl.{MapDecl}
@@ -13,12 +13,12 @@ use Rattle.cell_core.specs.declared.site.Act.{Act}
 use Rattle.cell_core.specs.declared.site.Act.TheVariants as act
 use Rattle.cell_core.specs.Cells.{bit, on}
 use Rattle.cell_core.specs.Sites.{ProgramView, site_at, bytes_of, operation_with}
-use Rattle.hazard_core.specs.declared.change.Change.{Change}
-use Rattle.hazard_core.specs.declared.pointer.Pointer.{Pointer}
-use Rattle.hazard_core.specs.declared.pointer.Pointer.TheVariants.{Null, InSlot, Pending}
-use Rattle.hazard_core.specs.Held.{Held, held_value, asked, is_null, pointer_in, found_cell, access_pointer}
-use Rattle.hazard_core.specs.Marks.{key_touched, presence_touched, entry_touched, touched_as, touches}
-use Rattle.hazard_core.specs.Tables.{decl_of}
+use Rattle.site_operands.specs.hazard_core.declared.change.Change.{Change}
+use Rattle.site_operands.specs.hazard_core.declared.pointer.Pointer.{Pointer}
+use Rattle.site_operands.specs.hazard_core.declared.pointer.Pointer.TheVariants.{Null, InSlot, Pending}
+use Rattle.site_operands.specs.hazard_core.Held.{Held, held_value, asked, is_null, pointer_in, found_cell, access_pointer}
+use Rattle.site_operands.specs.hazard_core.Marks.{key_touched, presence_touched, entry_touched, touched_as, touches}
+use Rattle.site_operands.specs.hazard_core.Tables.{decl_of}
 use Rattle.cell_nets.specs.declared.operand.Operand.{Operand}
 use Rattle.cell_nets.specs.Operands.{number_in}
 use Rattle.cell_nets.specs.Wires.{always, Gives}

@@ -1,2 +1,3 @@
+pub use Rattle.overlay_net.specs as overlay_net
 pub mod Marking
 pub mod Touching

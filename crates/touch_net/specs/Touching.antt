@@ -1,17 +1,17 @@
 -- When operands stand for a change of a map, and for the keys of a packet's own updates.
 use Rattle.std.specs.Prelude.{◌≡◌, ℕ, ◌*◌, ◌<◌, ◌≤◌, Bool, true, false, All, List, [], ◌∷◌, ◌++◌, length, map as map_list}
 use Rattle.std.proofs.Common.{get_or}
-use Rattle.net_core.specs.Value.{Env}
+use Rattle.cell_nets.specs.net_core.Value.{Env}
 use Rattle.cell_core.specs.declared.site.Act.{Act}
 use Rattle.cell_core.specs.declared.site.Act.TheVariants as act
 use Rattle.cell_core.specs.Cells.{bit}
 use Rattle.cell_core.specs.Sites.{ProgramView, site_at, bytes_of}
 use Rattle.xdp_maps.specs.declared.decl.MapDecl.{MapDecl}
-use Rattle.hazard_core.specs.Tables.{decl_of}
-use Rattle.hazard_core.specs.Held.{Held, held_value}
-use Rattle.hazard_core.specs.declared.pointer.Pointer.{Pointer}
-use Rattle.hazard_core.specs.declared.pointer.Pointer.TheVariants.{Pending}
-use Rattle.hazard_core.specs.declared.change.Change.{Change}
+use Rattle.site_operands.specs.hazard_core.Tables.{decl_of}
+use Rattle.site_operands.specs.hazard_core.Held.{Held, held_value}
+use Rattle.site_operands.specs.hazard_core.declared.pointer.Pointer.{Pointer}
+use Rattle.site_operands.specs.hazard_core.declared.pointer.Pointer.TheVariants.{Pending}
+use Rattle.site_operands.specs.hazard_core.declared.change.Change.{Change}
 use Rattle.cell_nets.specs.declared.operand.Operand.{Operand}
 use Rattle.cell_nets.specs.Operands.{number_in, IsOperand}
 use Rattle.touch_net.specs.declared.change.ChangeNets.{ChangeNets}

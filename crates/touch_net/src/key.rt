@@ -1,15 +1,15 @@
 //! Whether a read under a key sees that a key comes or goes.
 
 ghost use Rattle.std.specs.Prelude.{ℕ, List, [], ◌∷◌, ◌++◌, true, ◌≡◌, ◌*◌, ◌≤◌, ◌&&◌, ◌||◌, not, nat_lt, All, length, slice_index, IfOk, map as map_list};
-ghost use Rattle.net_core.specs.Value.{Env};
+ghost use Rattle.cell_nets.specs.net_core.Value.{Env};
 ghost use Rattle.xdp_maps.specs.declared.decl.MapDecl.{MapDecl};
 ghost use Rattle.cell_core.specs.Acts.{finds_key};
 ghost use Rattle.cell_core.specs.Cells.{bit, on};
 ghost use Rattle.cell_core.specs.Sites.{ProgramView, site_at, bytes_of, operation_with};
-ghost use Rattle.hazard_core.specs.Held.{Held, asked, is_null, pointer_in, found_cell};
-ghost use Rattle.hazard_core.specs.declared.change.Change.{Change};
-ghost use Rattle.hazard_core.specs.Marks.{key_touched, presence_touched};
-ghost use Rattle.hazard_core.specs.Tables.{decl_of};
+ghost use Rattle.site_operands.specs.hazard_core.Held.{Held, asked, is_null, pointer_in, found_cell};
+ghost use Rattle.site_operands.specs.hazard_core.declared.change.Change.{Change};
+ghost use Rattle.site_operands.specs.hazard_core.Marks.{key_touched, presence_touched};
+ghost use Rattle.site_operands.specs.hazard_core.Tables.{decl_of};
 ghost use Rattle.cell_nets.specs.Operands.{IsOperand, IsAvailable, number_in};
 ghost use Rattle.cell_nets.specs.Wires.{wires_of, always, HasBits, Gives};
 ghost use Rattle.site_operands.specs.Sites.{operands_of, all_of, ShowsSite};

@@ -4,8 +4,8 @@ ghost use Rattle.std.specs.Prelude.{ℕ, Bool, List, ◌∷◌, ◌&&◌, ◌||�
 ghost use Rattle.std.specs.List.{list_any};
 ghost use Rattle.cell_core.specs.Cells.{bit, on};
 ghost use Rattle.cell_core.specs.Sites.{ProgramView, site_at};
-ghost use Rattle.hazard_core.specs.Held.{Held};
-ghost use Rattle.hazard_core.specs.Marks.{known_on};
+ghost use Rattle.site_operands.specs.hazard_core.Held.{Held};
+ghost use Rattle.site_operands.specs.hazard_core.Marks.{known_on};
 ghost use Rattle.cell_nets.specs.Operands.{IsOperand, number_in};
 ghost use Rattle.cell_nets.specs.Wires.{wires_of, always, HasBits, Gives};
 ghost use Rattle.touch_net.specs.Marking.{guard_operands, mark_operands, HasOperands, shown_due, AreKnown, ShowMarks};

@@ -9,8 +9,8 @@ use Rattle.cell_core.specs.declared.site.Act.{Act}
 use Rattle.cell_core.specs.declared.site.Act.TheVariants as act
 use Rattle.cell_core.specs.Rows.{numbers}
 use Rattle.cell_core.specs.Sites.{ProgramView, site_at, records}
-use Rattle.hazard_core.specs.Tables.{decl_of}
-use Rattle.hazard_core.specs.Held.{Held, held_value, answer_cell, guard_on, writes_as, writes}
+use Rattle.site_operands.specs.hazard_core.Tables.{decl_of}
+use Rattle.site_operands.specs.hazard_core.Held.{Held, held_value, answer_cell, guard_on, writes_as, writes}
 use Rattle.turn_net.specs.Turns.{RecordsAlone}
 
 -- the first that passes a test is among those that pass a wider one

@@ -4,16 +4,16 @@ use Rattle.std.proofs.Common.{◌≡◌, ℕ, zero, suc, ◌+◌, ◌^◌, ◌<�
 use Rattle.std.proofs.lemmas.Bool.{eqb-true, eqb-false}
 use Rattle.std.proofs.lemmas.List.{get_or-map, length-map}
 use Rattle.std.proofs.lemmas.List.Elements.{All-nil, All-cons, All-head, All-tail}
-use Rattle.net_core.specs.Value.{word, Env}
+use Rattle.cell_nets.specs.net_core.Value.{word, Env}
 use Rattle.block_core.specs.declared.name.Name.{Name}
 use Rattle.block_core.specs.declared.name.Name.TheVariants as name
 use Rattle.xdp_maps.specs.declared.decl.MapKind.{MapKind}
 use Rattle.cell_core.specs.declared.site.Act.{Act}
 use Rattle.cell_core.specs.declared.site.Act.TheVariants as act
 use Rattle.cell_core.specs.Sites.{ProgramView, site_at}
-use Rattle.hazard_core.specs.Tables.{TableState}
-use Rattle.hazard_core.specs.Held.{Held, is_update}
-use Rattle.hazard_core.specs.Commits.{written_slot}
+use Rattle.site_operands.specs.hazard_core.Tables.{TableState}
+use Rattle.site_operands.specs.hazard_core.Held.{Held, is_update}
+use Rattle.site_operands.specs.hazard_core.Commits.{written_slot}
 use Rattle.cell_nets.specs.declared.operand.Operand.{Operand}
 use Rattle.cell_nets.specs.Operands.{number_in}
 use Rattle.step_nets.proofs.StepLaws.{small_bits}

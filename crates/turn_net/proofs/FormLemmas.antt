@@ -6,11 +6,11 @@ use Rattle.std.proofs.lemmas.Nat.{pow_pos}
 use Rattle.std.proofs.lemmas.Bool.{and_parts}
 use Rattle.std.proofs.lemmas.List.{length-map, get_or-map}
 use Rattle.std.proofs.lemmas.List.Elements.{All-map, All-cons, All-weaker, All-filter}
-use Rattle.net_core.specs.declared.tree.Word.{Word}
-use Rattle.net_core.specs.Ports.{port_list}
-use Rattle.net_core.specs.Value.{word, nothing, bit as bit_word, number_of, Env}
-use Rattle.net_core.specs.Clock.{Stored, done as stored_after}
-use Rattle.product_blocks.specs.Alone.{wire_flat}
+use Rattle.cell_nets.specs.net_core.declared.tree.Word.{Word}
+use Rattle.cell_nets.specs.net_core.Ports.{port_list}
+use Rattle.cell_nets.specs.net_core.Value.{word, nothing, bit as bit_word, number_of, Env}
+use Rattle.cell_nets.specs.net_core.Clock.{Stored, done as stored_after}
+use Rattle.cell_nets.specs.product_blocks.Alone.{wire_flat}
 use Rattle.block_core.specs.declared.name.Name.{Name}
 use Rattle.block_core.specs.declared.name.Name.TheVariants as name
 use Rattle.block_core.specs.Blocks.{BlockTree, BlockWireTree, first_of, Whole}
@@ -20,8 +20,8 @@ use Rattle.block_core.specs.Formed.{names_scope, block_registers, IsThere}
 use Rattle.xdp_maps.specs.declared.decl.MapDecl.{MapDecl}
 use Rattle.cell_core.specs.Cells.{bit, on}
 use Rattle.cell_core.specs.Sites.{ProgramView, site_at}
-use Rattle.hazard_core.specs.Tables.{TableState}
-use Rattle.hazard_core.specs.Held.{Held, writes}
+use Rattle.site_operands.specs.hazard_core.Tables.{TableState}
+use Rattle.site_operands.specs.hazard_core.Held.{Held, writes}
 use Rattle.cell_nets.specs.declared.operand.Operand.{Operand}
 use Rattle.cell_nets.specs.declared.operand.Operand.TheVariants.{Net}
 use Rattle.cell_nets.specs.Operands.{number_in, IsOperand, IsWide, HasWidth, IsFit, AreFit, IsDeclared, AreDeclared, IsAvailable, IsNetOf}

@@ -2,12 +2,12 @@
 use Rattle.std.specs.Prelude.{◌≡◌, ℕ, ◌<◌, ◌^◌, true, ◌||◌, Option, is_some, All, List, [], ◌∷◌, ◌++◌, length, slice_index, map as map_list, IsTrue}
 use Rattle.std.specs.List.{list_all}
 use Rattle.std.proofs.Common.{get_or}
-use Rattle.net_core.specs.declared.tree.Word.{Word}
-use Rattle.net_core.specs.Ports.{port_list}
-use Rattle.net_core.specs.Value.{word, nothing, bit as bit_word, Env}
-use Rattle.net_core.specs.Clock.{Stored, done as stored_after}
-use Rattle.design_rules.specs.FormedSyntax.{statement_spelled}
-use Rattle.product_blocks.specs.Alone.{IsFree}
+use Rattle.cell_nets.specs.net_core.declared.tree.Word.{Word}
+use Rattle.cell_nets.specs.net_core.Ports.{port_list}
+use Rattle.cell_nets.specs.net_core.Value.{word, nothing, bit as bit_word, Env}
+use Rattle.cell_nets.specs.net_core.Clock.{Stored, done as stored_after}
+use Rattle.cell_nets.specs.design_rules.FormedSyntax.{statement_spelled}
+use Rattle.cell_nets.specs.product_blocks.Alone.{IsFree}
 use Rattle.block_core.specs.declared.name.Name.{Name}
 use Rattle.block_core.specs.declared.name.Name.TheVariants as name
 use Rattle.block_core.specs.Blocks.{BlockTree, registers_of, memories_of, first_of, Whole, Among}
@@ -16,9 +16,9 @@ use Rattle.block_core.specs.Order.{IsBefore, InOrder}
 use Rattle.block_core.specs.Formed.{names_scope, block_registers, IsTypedBlock, StatementReads, IsThere}
 use Rattle.xdp_maps.specs.declared.decl.MapDecl.{MapDecl}
 use Rattle.cell_core.specs.Sites.{ProgramView}
-use Rattle.hazard_core.specs.Tables.{TableState}
-use Rattle.hazard_core.specs.Held.{Held, writes}
-use Rattle.hazard_core.specs.Commits.{written_slot}
+use Rattle.site_operands.specs.hazard_core.Tables.{TableState}
+use Rattle.site_operands.specs.hazard_core.Held.{Held, writes}
+use Rattle.site_operands.specs.hazard_core.Commits.{written_slot}
 use Rattle.cell_nets.specs.declared.operand.Operand.{Operand}
 use Rattle.cell_nets.specs.declared.operand.Operand.TheVariants.{Net}
 use Rattle.cell_nets.specs.Operands.{number_in, IsOperand, AreFit, AreDeclared, IsAvailable, IsNetOf}

@@ -3,9 +3,9 @@ use Rattle.std.specs.Prelude.{◌≡◌, ℕ, suc, ◌==◌, nat_le, Bool, false
 use Rattle.std.specs.List.{find}
 use Rattle.cell_core.specs.Rows.{numbers}
 use Rattle.cell_core.specs.Sites.{ProgramView, site_at, records}
-use Rattle.hazard_core.specs.Tables.{TableState}
-use Rattle.hazard_core.specs.Held.{Held, writes}
-use Rattle.hazard_core.specs.Commits.{taken_after}
+use Rattle.site_operands.specs.hazard_core.Tables.{TableState}
+use Rattle.site_operands.specs.hazard_core.Held.{Held, writes}
+use Rattle.site_operands.specs.hazard_core.Commits.{taken_after}
 use Rattle.pipe_core.specs.Machine.{Build, Packet, chosen}
 
 -- the first of some sites that is not through and whose operation writes

@@ -4,7 +4,7 @@ ghost use Rattle.std.specs.Prelude.{List, [], ◌∷◌, ◌++◌, ◌≡◌, �
 ghost use Rattle.xdp_maps.specs.declared.decl.MapDecl.{MapDecl};
 ghost use Rattle.cell_core.specs.Cells.{bit, on};
 ghost use Rattle.cell_core.specs.Sites.{ProgramView};
-ghost use Rattle.hazard_core.specs.Held.{Held, writes};
+ghost use Rattle.site_operands.specs.hazard_core.Held.{Held, writes};
 ghost use Rattle.cell_nets.specs.Operands.{IsOperand, IsWide, number_in};
 ghost use Rattle.cell_nets.specs.Wires.{wires_of, Gives};
 ghost use Rattle.site_operands.specs.Sites.{operands_of, ShowsSite};

@@ -10,7 +10,7 @@ use Rattle.block_core.specs.declared.name.Name.{Name}
 use Rattle.cell_core.specs.Sites.{site_at}
 use Rattle.cell_nets.specs.declared.operand.Operand.{Operand}
 use Rattle.cell_nets.specs.Operands.{IsOperand, IsNarrow}
-use Rattle.step_nets.proofs.StepLaws.{narrow_bits}
+use Rattle.read_net.proofs.step_nets.StepLaws.{narrow_bits}
 use Rattle.commit_net.specs.declared.target.TakenSlot.{TakenSlot}
 use Rattle.read_net.specs.declared.sites.OwnSite.{OwnSite}
 use Rattle.read_net.specs.declared.sites.MapNets.{MapNets}

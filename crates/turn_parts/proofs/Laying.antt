@@ -17,8 +17,8 @@ use Rattle.ring_net.specs.declared.shape.ControlShape.{ControlShape}
 use Rattle.ring_net.specs.declared.names.Register.TheVariants.{Holds}
 use Rattle.ring_net.specs.Names.{register_name}
 use Rattle.control_net.specs.Names.{back_name}
-use Rattle.site_operands.specs.declared.SiteNets.{SiteNets}
-use Rattle.site_operands.specs.Sites.{operands_of}
+use Rattle.turn_net.specs.site_operands.declared.SiteNets.{SiteNets}
+use Rattle.turn_net.specs.site_operands.Sites.{operands_of}
 use Rattle.read_net.specs.declared.sites.OwnSite.{OwnSite}
 use Rattle.read_net.specs.declared.sites.MapNets.{MapNets}
 use Rattle.read_net.specs.Sites.{IsOwn}
@@ -36,14 +36,14 @@ use Rattle.turn_net.specs.declared.nets.TurnShape.{TurnShape}
 use Rattle.turn_net.specs.Turns.{record_sites}
 use Rattle.turn_net.specs.Nets.{sites_of, kept, AreRecords}
 use Rattle.turn_net.specs.Turn.{IsTurn}
-use Rattle.pipe_core.specs.Machine.{Build}
+use Rattle.pipe_net.specs.pipe_core.Machine.{Build}
 use Rattle.pipe_net.specs.declared.parts.Part.{Part}
 use Rattle.pipe_net.specs.declared.parts.Sizes.{Sizes}
 use Rattle.pipe_net.specs.Parts as part
 use Rattle.pipe_net.specs.Layout.{Layout, program_of, commit_of}
 use Rattle.pipe_net.specs.Standing.{IsAtPlace}
-use Rattle.pipe_turns.specs.Maps.{decl_at, records_on, taken_from, taken_slots}
-use Rattle.pipe_turns.specs.Parts.{calm_net, host_nets, turn_nets, form_at, AreTargetsOf, IsTargetOf, AreTurnParts}
+use Rattle.slot_parts.specs.pipe_turns.Maps.{decl_at, records_on, taken_from, taken_slots}
+use Rattle.slot_parts.specs.pipe_turns.Parts.{calm_net, host_nets, turn_nets, form_at, AreTargetsOf, IsTargetOf, AreTurnParts}
 use Rattle.pipe_draft.specs.declared.draft.Draft.{Draft}
 use Rattle.pipe_draft.specs.declared.places.Behind.{Behind}
 use Rattle.pipe_draft.specs.Draft.{program_in, plan_in, decls_in, IsDraft}

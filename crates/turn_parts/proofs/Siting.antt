@@ -11,9 +11,9 @@ use Rattle.cell_core.specs.Sites.{ProgramView, site_at, records}
 use Rattle.cell_core.specs.View.{site_of}
 use Rattle.cell_nets.specs.Operands.{IsOperand, IsNarrow}
 use Rattle.hazard_core.specs.Tables.{decl_of}
-use Rattle.site_operands.specs.declared.SiteNets.{SiteNets}
-use Rattle.site_operands.specs.Sites.{operands_of, all_of}
-use Rattle.site_table.specs.Sites.{IsSiteOf, operand_at}
+use Rattle.turn_net.specs.site_operands.declared.SiteNets.{SiteNets}
+use Rattle.turn_net.specs.site_operands.Sites.{operands_of, all_of}
+use Rattle.pipe_net.specs.site_table.Sites.{IsSiteOf, operand_at}
 use Rattle.read_net.specs.declared.sites.OwnSite.{OwnSite}
 use Rattle.read_net.specs.declared.sites.MapNets.{MapNets}
 use Rattle.read_net.specs.Sites.{sites_of, IsWhole}

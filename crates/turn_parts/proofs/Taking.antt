@@ -18,7 +18,7 @@ use Rattle.pipe_net.specs.declared.parts.Part.{Part}
 use Rattle.pipe_net.specs.declared.parts.Sizes.{Sizes}
 use Rattle.pipe_net.specs.Parts as part
 use Rattle.pipe_net.specs.Layout.{Layout}
-use Rattle.pipe_turns.specs.Maps.{taken_from}
+use Rattle.slot_parts.specs.pipe_turns.Maps.{taken_from}
 use Rattle.turn_parts.specs.Sites.{keeps_at, taken_at}
 use Rattle.turn_parts.proofs.Listing.{filter_more, filter_same}
 

@@ -10,7 +10,7 @@ use Rattle.target_net.specs.declared.targets.TargetPart.{TargetPart}
 use Rattle.pipe_net.specs.declared.parts.Part.{Part}
 use Rattle.pipe_net.specs.Parts as part
 use Rattle.pipe_net.specs.Layout.{Layout}
-use Rattle.pipe_turns.specs.Parts.{AreTurnParts}
+use Rattle.slot_parts.specs.pipe_turns.Parts.{AreTurnParts}
 use Rattle.pipe_draft.specs.declared.draft.Draft.{Draft}
 use Rattle.pipe_draft.specs.declared.places.Behind.{Behind}
 use Rattle.pipe_draft.specs.Draft.{plan_in, IsDraft}

@@ -10,7 +10,7 @@ use Rattle.cell_core.specs.Sites.{ProgramView, site_at}
 use Rattle.hazard_core.specs.Tables.{decl_of}
 use Rattle.cell_nets.specs.declared.operand.Operand.TheVariants.{Net}
 use Rattle.cell_nets.specs.Operands.{IsWide, IsOperand, IsNarrow}
-use Rattle.site_operands.specs.declared.SiteNets.{SiteNets}
+use Rattle.turn_net.specs.site_operands.declared.SiteNets.{SiteNets}
 use Rattle.commit_net.specs.declared.target.TakenSlot.{TakenSlot}
 use Rattle.read_net.specs.declared.sites.OwnSite.{OwnSite}
 use Rattle.read_net.specs.Sites.{cells_of, sites_of, IsOwn}
@@ -20,7 +20,7 @@ use Rattle.turn_net.specs.Nets.{keeps_slot}
 use Rattle.pipe_net.specs.declared.parts.Part.{Part}
 use Rattle.pipe_net.specs.declared.parts.Sizes.{Sizes}
 use Rattle.pipe_net.specs.Parts as part
-use Rattle.pipe_turns.specs.Maps.{records_on}
+use Rattle.slot_parts.specs.pipe_turns.Maps.{records_on}
 use Rattle.pipe_draft.specs.declared.draft.Draft.{Draft}
 use Rattle.pipe_draft.specs.declared.places.Behind.{Behind}
 use Rattle.pipe_draft.specs.Draft.{program_in, decls_in}

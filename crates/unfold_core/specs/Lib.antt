@@ -1,3 +1,4 @@
+pub use Rattle.kind_core.specs as kind_core
 pub mod Jumps
 pub mod Loops
 pub mod Nodes

@@ -1,7 +1,7 @@
 -- What holds of the runs of a program that unfolds: they are paths in its graph, and end.
 use Rattle.std.specs.Prelude.{ℕ, ◌≡◌, ◌<◌, ◌≤◌, Bool, List, length, slice_index_or}
 use Rattle.std.specs.List.{Contains}
-use Rattle.xdp_maps.specs.State.{MapState}
+use Rattle.xdp_machine.specs.xdp_maps.State.{MapState}
 use Rattle.xdp_machine.specs.State.{Code, Machine, PacketIn, start}
 use Rattle.xdp_machine.specs.Step.{step, Goes, Ends}
 use Rattle.xdp_machine.specs.Program.{XdpProgram, program_code, IsProgram}

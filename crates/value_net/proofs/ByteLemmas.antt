@@ -13,7 +13,7 @@ use Rattle.xdp_maps.specs.Calls.{patched}
 use Rattle.xdp_maps.proofs.ByteLaws.{IsBytes-little_bytes}
 use Rattle.cell_core.specs.Cells.{bits_from}
 use Rattle.cell_core.specs.Sites.{spelled, bytes_of}
-use Rattle.hazard_core.specs.Commits.{word_at}
+use Rattle.site_operands.specs.hazard_core.Commits.{word_at}
 use Rattle.value_net.specs.Words.{with_bits}
 
 -- ---- numbers in bytes

@@ -4,25 +4,25 @@ use Rattle.std.proofs.Common.{◌≡◌, ◌≢◌, All, List, ℕ, ◌+◌, ◌
 use Rattle.std.proofs.lemmas.Nat.{and_mod, or_mod, xor_mod, div-add-mod', mod_below, pow_pos}
 use Rattle.std.proofs.Math.Nat.{add-mul-mod_self_right, mod-eq_of_lt}
 use Rattle.std.proofs.Math.Pow.{pow_mono}
-use Rattle.net_core.proofs.LowBitsLaws.{low_low}
+use Rattle.block_core.proofs.net_core.LowBitsLaws.{low_low}
 use Rattle.bpf_isa.specs.declared.operation.Size.{Size}
 use Rattle.bpf_isa.specs.declared.operation.Size.TheVariants.{B, H, W, Dw}
 use Rattle.xdp_maps.specs.declared.change.ChangeKind.TheVariants as kind
-use Rattle.net_core.specs.Value.{Env}
+use Rattle.cell_nets.specs.net_core.Value.{Env}
 use Rattle.block_core.specs.declared.name.Name.{Name}
 use Rattle.block_core.specs.Blocks.{BlockWireTree}
 use Rattle.byteorder.specs.Endian.{little_bytes}
 use Rattle.xdp_maps.specs.Contents.{IsBytes}
 use Rattle.xdp_maps.specs.Calls.{part_of, result_as, change_result, change_bytes, patched, with_change, number_at}
-use Rattle.xdp_machine.specs.Memory.{bytes_in}
-use Rattle.xdp_machine.specs.State.{PacketIn}
+use Rattle.cell_core.specs.xdp_machine.Memory.{bytes_in}
+use Rattle.cell_core.specs.xdp_machine.State.{PacketIn}
 use Rattle.cell_core.specs.declared.operator.Operator.TheVariants.{And, Or, Xor, Add, Equal}
 use Rattle.cell_core.specs.declared.site.Atomic.{Atomic}
 use Rattle.cell_core.specs.declared.site.Act.{Act}
 use Rattle.cell_core.specs.declared.site.Act.TheVariants as act
 use Rattle.cell_core.specs.Cells.{number, bits_from, bit, on}
 use Rattle.cell_core.specs.Sites.{change_of}
-use Rattle.hazard_core.specs.Commits.{word_at}
+use Rattle.site_operands.specs.hazard_core.Commits.{word_at}
 use Rattle.cell_nets.specs.declared.operand.Operand.{Operand}
 use Rattle.cell_nets.specs.Operands.{IsAvailable}
 use Rattle.cell_nets.specs.Wires.{Gives, always}

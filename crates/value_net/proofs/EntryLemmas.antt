@@ -3,13 +3,13 @@ use Rattle.std.specs.Prelude.{◌==◌, not, ◌&&◌, if◌then◌else◌, fold
 use Rattle.std.proofs.Common.{◌≡◌, ℕ, zero, suc, ◌+◌, ◌*◌, ◌^◌, ◌<◌, ◌≤◌, Bool, true, false, All, List, [], ◌∷◌, ◌++◌, length, take, map, get_or, refl, sym, ◌∙◌, ap, subst, arith, length-drop}
 use Rattle.std.proofs.lemmas.Bool.{eqb-true, eqb-false}
 use Rattle.std.proofs.Math.Seq.{take-suc}
-use Rattle.net_core.specs.Value.{Env}
+use Rattle.cell_nets.specs.net_core.Value.{Env}
 use Rattle.block_core.specs.declared.name.Name.{Name}
 use Rattle.block_core.specs.Blocks.{BlockWireTree}
 use Rattle.std.proofs.lemmas.List.{length-map, length-take-le, take_all, get_or-take}
 use Rattle.std.proofs.lemmas.List.Elements.{All-nil, All-cons, All-head, All-tail, All-append, All-take}
-use Rattle.xdp_machine.specs.State.{PacketIn}
-use Rattle.xdp_machine.specs.Memory.{bytes_in}
+use Rattle.cell_core.specs.xdp_machine.State.{PacketIn}
+use Rattle.cell_core.specs.xdp_machine.Memory.{bytes_in}
 use Rattle.byteorder.specs.Endian.{little_number, little_bytes}
 use Rattle.xdp_maps.specs.Operations.{Operation}
 use Rattle.byteorder.specs.Numbers.{length-bytes_low_first}
@@ -24,13 +24,13 @@ use Rattle.cell_core.specs.Cells.{number, bits_from, bit, on}
 use Rattle.cell_core.specs.Formed.{HasWords, IsInside}
 use Rattle.cell_core.specs.Sites.{ProgramView, site_at, spelled, bytes_of, operation_with}
 use Rattle.cell_core.proofs.SpelledLaws.{spelled_length}
-use Rattle.hazard_core.specs.declared.pointer.Pointer.{Pointer}
-use Rattle.hazard_core.specs.declared.pointer.Pointer.TheVariants.{Null, InSlot, Pending}
-use Rattle.hazard_core.specs.declared.slot.Slot.{Slot}
-use Rattle.hazard_core.specs.Commits.{word_at}
-use Rattle.hazard_core.specs.Held.{Held, same_pointer, held_value, asked, access_pointer, writes, written_pointer}
-use Rattle.hazard_core.specs.Overlay.{value_as, value_over, value_under, entry_value, where_some, answer_as}
-use Rattle.hazard_core.specs.Tables.{TableState, decl_of, table_at, slot_at}
+use Rattle.site_operands.specs.hazard_core.declared.pointer.Pointer.{Pointer}
+use Rattle.site_operands.specs.hazard_core.declared.pointer.Pointer.TheVariants.{Null, InSlot, Pending}
+use Rattle.site_operands.specs.hazard_core.declared.slot.Slot.{Slot}
+use Rattle.site_operands.specs.hazard_core.Commits.{word_at}
+use Rattle.site_operands.specs.hazard_core.Held.{Held, same_pointer, held_value, asked, access_pointer, writes, written_pointer}
+use Rattle.site_operands.specs.hazard_core.Overlay.{value_as, value_over, value_under, entry_value, where_some, answer_as}
+use Rattle.site_operands.specs.hazard_core.Tables.{TableState, decl_of, table_at, slot_at}
 use Rattle.cell_nets.specs.declared.operand.Operand.{Operand}
 use Rattle.cell_nets.specs.Operands.{number_in, IsAvailable}
 use Rattle.cell_nets.specs.Wires.{Gives}

@@ -2,7 +2,7 @@
 use Rattle.std.specs.Prelude.{drop, min}
 use Rattle.std.proofs.Common.{◌≡◌, ◌≢◌, ℕ, ◌+◌, ◌-◌, ◌*◌, ◌%◌, ◌^◌, ◌<◌, ◌≤◌, List, length, refl, sym, ◌∙◌, ap, arith, length-drop}
 use Rattle.std.proofs.lemmas.List.{get_or-drop, length-map}
-use Rattle.net_core.specs.Value.{Env}
+use Rattle.cell_nets.specs.net_core.Value.{Env}
 use Rattle.xdp_maps.specs.declared.decl.MapDecl.{MapDecl}
 use Rattle.bpf_isa.specs.declared.operation.Size.{Size}
 use Rattle.cell_core.specs.declared.site.Atomic.{Atomic}
@@ -10,8 +10,8 @@ use Rattle.cell_core.specs.declared.site.Act.{Act}
 use Rattle.cell_core.specs.declared.site.Act.TheVariants as act
 use Rattle.cell_core.specs.Cells.{bits_from}
 use Rattle.cell_core.specs.Sites.{bytes_of, operation_with}
-use Rattle.hazard_core.specs.Commits.{word_at}
-use Rattle.hazard_core.specs.Overlay.{value_as}
+use Rattle.site_operands.specs.hazard_core.Commits.{word_at}
+use Rattle.site_operands.specs.hazard_core.Overlay.{value_as}
 use Rattle.cell_nets.specs.declared.operand.Operand.{Operand}
 use Rattle.cell_nets.specs.Operands.{number_in}
 use Rattle.value_net.specs.Lists.{numbers_in, number_of}

@@ -1,6 +1,6 @@
 -- Operands of lists.
 use Rattle.std.specs.Prelude.{ℕ, List, slice_index, map as map_list}
-use Rattle.net_core.specs.Value.{Env}
+use Rattle.cell_nets.specs.net_core.Value.{Env}
 use Rattle.cell_nets.specs.declared.operand.Operand.{Operand}
 use Rattle.cell_nets.specs.Operands.{number_in}
 

@@ -1,17 +1,17 @@
 -- What stands for the earlier operations of a packet that may write the map of an entry, and for the entry itself.
 use Rattle.std.specs.Prelude.{◌≡◌, ℕ, ◌<◌, List, [], ◌∷◌, ◌++◌, All, length}
 use Rattle.std.proofs.Common.{get_or}
-use Rattle.net_core.specs.Value.{Env}
+use Rattle.cell_nets.specs.net_core.Value.{Env}
 use Rattle.xdp_maps.specs.Contents.{IsBytes}
 use Rattle.xdp_maps.specs.declared.decl.MapDecl.{MapDecl}
 use Rattle.cell_core.specs.Cells.{bit}
 use Rattle.cell_core.specs.Formed.{HasWords, IsInside}
 use Rattle.cell_core.specs.Sites.{ProgramView, site_at}
-use Rattle.hazard_core.specs.Tables.{TableState, decl_of, table_at, slot_at}
-use Rattle.hazard_core.specs.declared.pointer.Pointer.{Pointer}
-use Rattle.hazard_core.specs.declared.pointer.Pointer.TheVariants.{InSlot}
-use Rattle.hazard_core.specs.Held.{Held, writes, written_pointer}
-use Rattle.hazard_core.specs.Commits.{word_at}
+use Rattle.site_operands.specs.hazard_core.Tables.{TableState, decl_of, table_at, slot_at}
+use Rattle.site_operands.specs.hazard_core.declared.pointer.Pointer.{Pointer}
+use Rattle.site_operands.specs.hazard_core.declared.pointer.Pointer.TheVariants.{InSlot}
+use Rattle.site_operands.specs.hazard_core.Held.{Held, writes, written_pointer}
+use Rattle.site_operands.specs.hazard_core.Commits.{word_at}
 use Rattle.cell_nets.specs.declared.operand.Operand.{Operand}
 use Rattle.cell_nets.specs.Operands.{number_in, IsOperand}
 use Rattle.site_operands.specs.Pointers.{pointer_number}

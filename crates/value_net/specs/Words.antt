@@ -1,7 +1,7 @@
 -- Words of eight bytes in which some bytes are written.
 use Rattle.std.specs.Prelude.{◌≡◌, ℕ, ◌+◌, ◌*◌, ◌/◌, ◌%◌, ◌^◌, Bool, true, false}
 use Rattle.xdp_maps.specs.Calls.{change_bytes}
-use Rattle.xdp_machine.specs.Memory.{bytes_in}
+use Rattle.cell_core.specs.xdp_machine.Memory.{bytes_in}
 use Rattle.cell_core.specs.declared.site.Act.{Act}
 use Rattle.cell_core.specs.declared.site.Act.TheVariants as act
 

@@ -4,9 +4,9 @@ ghost use Rattle.std.specs.Prelude.{ℕ, List, [], ◌∷◌, ◌≡◌, ◌+◌
 ghost use Rattle.byteorder.specs.Endian.{little_bytes};
 ghost use Rattle.xdp_maps.specs.Calls.{patched, with_change, change_bytes, change_result};
 ghost use Rattle.xdp_maps.specs.Contents.{IsBytes};
-ghost use Rattle.xdp_machine.specs.Memory.{bytes_in};
+ghost use Rattle.cell_core.specs.xdp_machine.Memory.{bytes_in};
 ghost use Rattle.cell_core.specs.Sites.{change_of};
-ghost use Rattle.hazard_core.specs.Commits.{word_at};
+ghost use Rattle.site_operands.specs.hazard_core.Commits.{word_at};
 ghost use Rattle.cell_nets.specs.Operands.{IsOperand, number_in};
 ghost use Rattle.cell_nets.specs.Wires.{wires_of, always, HasBits, Gives};
 ghost use Rattle.value_net.specs.Words.{change_bits};

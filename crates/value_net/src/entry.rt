@@ -3,11 +3,11 @@
 ghost use Rattle.std.specs.Prelude.{ℕ, List, [], ◌∷◌, ◌≡◌, ◌≤◌, All, IfOk};
 ghost use Rattle.xdp_maps.specs.Contents.{IsBytes};
 ghost use Rattle.cell_core.specs.Sites.{ProgramView};
-ghost use Rattle.hazard_core.specs.Commits.{word_at};
-ghost use Rattle.hazard_core.specs.Held.{Held};
-ghost use Rattle.hazard_core.specs.declared.pointer.Pointer.{Pointer};
-ghost use Rattle.hazard_core.specs.Overlay.{value_over, value_under, entry_value};
-ghost use Rattle.hazard_core.specs.Tables.{TableState, decl_of, table_at};
+ghost use Rattle.site_operands.specs.hazard_core.Commits.{word_at};
+ghost use Rattle.site_operands.specs.hazard_core.Held.{Held};
+ghost use Rattle.site_operands.specs.hazard_core.declared.pointer.Pointer.{Pointer};
+ghost use Rattle.site_operands.specs.hazard_core.Overlay.{value_over, value_under, entry_value};
+ghost use Rattle.site_operands.specs.hazard_core.Tables.{TableState, decl_of, table_at};
 ghost use Rattle.cell_nets.specs.Operands.{IsOperand, number_in};
 ghost use Rattle.cell_nets.specs.Wires.{wires_of, HasBits, Gives};
 ghost use Rattle.site_operands.specs.Pointers.{pointer_number};

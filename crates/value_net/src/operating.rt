@@ -1,8 +1,8 @@
 //! Operators on operands that are not in a list.
 
 ghost use Rattle.std.specs.Prelude.{List, [], ◌∷◌, ◌≡◌, ◌≤◌, false, if◌then◌else◌, All, IfOk};
-ghost use Rattle.net_core.specs.Value.{Env};
-ghost use Rattle.xdp_machine.specs.State.{PacketIn};
+ghost use Rattle.cell_nets.specs.net_core.Value.{Env};
+ghost use Rattle.cell_core.specs.xdp_machine.State.{PacketIn};
 ghost use Rattle.cell_core.specs.Cells.{number, bits_from, on};
 ghost use Rattle.cell_core.specs.Formed.{IsInRange};
 ghost use Rattle.cell_nets.specs.Computing.{is_outside, makes_product};

@@ -1,3 +1,4 @@
+pub use Rattle.verilog_grammar.specs as verilog_grammar
 pub mod Reads
 pub mod Lexemes
 pub mod Expressions

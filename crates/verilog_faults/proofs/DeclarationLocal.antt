@@ -2,15 +2,15 @@
 use Rattle.std.specs.Prelude.{◌^◌}
 use Rattle.std.specs.Str.{bytes_eq}
 use Rattle.std.proofs.Common.{ℕ, ◌==◌, Bool, true, false, Option, Some, None, Ok, List, [], ◌∷◌, arith}
-use Rattle.net_core.specs.declared.design.Declared.TheVariants as declared
-use Rattle.net_core.specs.Nets.{Netlist}
-use Rattle.verilog_lex.specs.declared.token.Keyword.TheVariants as keyword
-use Rattle.verilog_lex.specs.declared.token.Symbol.TheVariants as symbol
-use Rattle.verilog_lex.specs.Lexeme.{Lexeme, LName, LKeyword, LNumber, LSymbol}
-use Rattle.design_rules.specs.FormedSyntax.{is_name}
-use Rattle.verilog_expression.specs.declared.fault.Code.TheVariants as code
-use Rattle.verilog_expression.specs.Reads.{Read, ◌>>=◌, kept_if, found}
-use Rattle.verilog_expression.specs.Lexemes.{same_lexeme, lexeme_at, symbol_at, number_at, constant_at}
+use Rattle.verilog_read.specs.net_core.declared.design.Declared.TheVariants as declared
+use Rattle.verilog_read.specs.net_core.Nets.{Netlist}
+use Rattle.verilog_read.specs.verilog_lex.declared.token.Keyword.TheVariants as keyword
+use Rattle.verilog_read.specs.verilog_lex.declared.token.Symbol.TheVariants as symbol
+use Rattle.verilog_read.specs.verilog_lex.Lexeme.{Lexeme, LName, LKeyword, LNumber, LSymbol}
+use Rattle.verilog_read.specs.design_rules.FormedSyntax.{is_name}
+use Rattle.verilog_read.specs.verilog_expression.declared.fault.Code.TheVariants as code
+use Rattle.verilog_read.specs.verilog_expression.Reads.{Read, ◌>>=◌, kept_if, found}
+use Rattle.verilog_read.specs.verilog_expression.Lexemes.{same_lexeme, lexeme_at, symbol_at, number_at, constant_at}
 use Rattle.verilog_read.specs.Entries.{entry_in}
 use Rattle.verilog_read.specs.Header.{range_at, fresh_at}
 use Rattle.verilog_read.specs.Declarations.{with_declared, ends_at, integer_item_at, register_at, index_of, Part, This, Same, Bound, part_at, all_parts_at, loop_parts, as_integer, integer_at, fill_at, memory_at, stored_at, reg_item_at}

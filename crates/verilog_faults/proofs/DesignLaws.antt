@@ -1,10 +1,10 @@
 -- The first fault of a design's lexemes is decided by what stands up to it.
 use Rattle.std.proofs.Common.{◌≡◌, ◌+◌, Ok, Err, List, [], ◌∷◌, ◌++◌, length, refl, sym, ◌∙◌, ap, arith}
-use Rattle.net_core.specs.Nets.{Netlist}
-use Rattle.verilog_lex.specs.Lexeme.{Lexeme}
-use Rattle.verilog_expression.specs.declared.fault.Code.TheVariants as code
-use Rattle.verilog_expression.specs.declared.fault.Fault.{Fault}
-use Rattle.verilog_expression.specs.Reads.{Read, Reading, ◌>>=◌, fault}
+use Rattle.verilog_read.specs.net_core.Nets.{Netlist}
+use Rattle.verilog_read.specs.verilog_lex.Lexeme.{Lexeme}
+use Rattle.verilog_read.specs.verilog_expression.declared.fault.Code.TheVariants as code
+use Rattle.verilog_read.specs.verilog_expression.declared.fault.Fault.{Fault}
+use Rattle.verilog_read.specs.verilog_expression.Reads.{Read, Reading, ◌>>=◌, fault}
 use Rattle.verilog_read.specs.declared.section.Section.TheVariants as section
 use Rattle.verilog_read.specs.Header.{header_at}
 use Rattle.verilog_read.specs.Items.{items_at}

@@ -1,23 +1,23 @@
 -- Expressions look no further than what they take, and than their faults depend on.
 use Rattle.std.specs.Prelude.{if◌then◌else◌}
 use Rattle.std.proofs.Common.{◌≡◌, ◌≢◌, ℕ, zero, suc, ◌+◌, ◌≤◌, Bool, true, false, Ok, List, [], ◌∷◌, length, refl, sym, ◌∙◌, ap, arith}
-use Rattle.net_core.specs.declared.tree.Net.{Net}
-use Rattle.net_core.specs.declared.tree.Word.{Word}
-use Rattle.net_core.specs.declared.tree.UnaryOp.{UnaryOp}
-use Rattle.net_core.specs.declared.tree.UnaryOp.TheVariants as unary_op
-use Rattle.net_core.specs.Nets.{TConst, TRead, TBit, TBinary, TLast, TMore}
-use Rattle.net_core.specs.Width.{part_select_width, op_width, word_fits}
-use Rattle.net_core.specs.Value.{word}
-use Rattle.verilog_lex.specs.declared.token.Symbol.{Symbol}
-use Rattle.verilog_lex.specs.declared.token.Symbol.TheVariants as symbol
-use Rattle.verilog_lex.specs.Lexeme.{Lexeme, LName, LNumber, LSized, LOutOfRange, LSymbol}
-use Rattle.design_rules.specs.FormedSyntax.{is_name}
-use Rattle.verilog_expression.specs.declared.fault.Code.TheVariants as code
-use Rattle.verilog_expression.specs.declared.entry.Entry.{Entry}
-use Rattle.verilog_expression.specs.declared.entry.Entry.TheVariants as entry
-use Rattle.verilog_expression.specs.Reads.{Read, ◌>>=◌, fault, kept_if}
-use Rattle.verilog_expression.specs.Lexemes.{symbol_at, number_at, op_at, begins_expression}
-use Rattle.verilog_expression.specs.Expressions.{Resolve, Sized, SizedParts, sized, part_select_at, select_at, memory_word_at, in_value, in_words, named_at, second_at, paren_at, more_at, parts_at, concatenation_at, unary_at, symbol_first, constant_expr_at, first_at, expr_at, whole_expr_at}
+use Rattle.verilog_read.specs.net_core.declared.tree.Net.{Net}
+use Rattle.verilog_read.specs.net_core.declared.tree.Word.{Word}
+use Rattle.verilog_read.specs.net_core.declared.tree.UnaryOp.{UnaryOp}
+use Rattle.verilog_read.specs.net_core.declared.tree.UnaryOp.TheVariants as unary_op
+use Rattle.verilog_read.specs.net_core.Nets.{TConst, TRead, TBit, TBinary, TLast, TMore}
+use Rattle.verilog_read.specs.net_core.Width.{part_select_width, op_width, word_fits}
+use Rattle.verilog_read.specs.net_core.Value.{word}
+use Rattle.verilog_read.specs.verilog_lex.declared.token.Symbol.{Symbol}
+use Rattle.verilog_read.specs.verilog_lex.declared.token.Symbol.TheVariants as symbol
+use Rattle.verilog_read.specs.verilog_lex.Lexeme.{Lexeme, LName, LNumber, LSized, LOutOfRange, LSymbol}
+use Rattle.verilog_read.specs.design_rules.FormedSyntax.{is_name}
+use Rattle.verilog_read.specs.verilog_expression.declared.fault.Code.TheVariants as code
+use Rattle.verilog_read.specs.verilog_expression.declared.entry.Entry.{Entry}
+use Rattle.verilog_read.specs.verilog_expression.declared.entry.Entry.TheVariants as entry
+use Rattle.verilog_read.specs.verilog_expression.Reads.{Read, ◌>>=◌, fault, kept_if}
+use Rattle.verilog_read.specs.verilog_expression.Lexemes.{symbol_at, number_at, op_at, begins_expression}
+use Rattle.verilog_read.specs.verilog_expression.Expressions.{Resolve, Sized, SizedParts, sized, part_select_at, select_at, memory_word_at, in_value, in_words, named_at, second_at, paren_at, more_at, parts_at, concatenation_at, unary_at, symbol_first, constant_expr_at, first_at, expr_at, whole_expr_at}
 use Rattle.verilog_faults.proofs.Local.{Within, Local, IsStrict, raised, loose, from_head, by_heads, by_strict_heads, by_turns, bind_same, gives_local, fails_local, bind_local}
 use Rattle.verilog_faults.proofs.LexemeLocal.{own_fault, symbol_local, closed_local, number_local, op_local, entry_head, proper_entry, improper_entry}
 

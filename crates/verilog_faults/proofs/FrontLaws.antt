@@ -1,9 +1,9 @@
 -- What looks no further than its faults depend on has the faults of what stands in front.
 use Rattle.std.proofs.Common.{◌≡◌, ℕ, ◌+◌, ◌<◌, Err, List, ◌++◌, length, refl, sym, ◌∙◌, ap, subst, arith}
-use Rattle.verilog_lex.specs.Lexeme.{Lexeme}
-use Rattle.verilog_expression.specs.declared.fault.Code.{Code}
-use Rattle.verilog_expression.specs.declared.fault.Fault.{Fault}
-use Rattle.verilog_expression.specs.Reads.{Read, Reading}
+use Rattle.verilog_read.specs.verilog_lex.Lexeme.{Lexeme}
+use Rattle.verilog_read.specs.verilog_expression.declared.fault.Code.{Code}
+use Rattle.verilog_read.specs.verilog_expression.declared.fault.Fault.{Fault}
+use Rattle.verilog_read.specs.verilog_expression.Reads.{Read, Reading}
 use Rattle.verilog_faults.specs.Faults.{lexemes_behind, fault_with, HasFaultOfFront}
 use Rattle.verilog_faults.proofs.Local.{Within, Follows, Gives, Fails, Goes, Local}
 

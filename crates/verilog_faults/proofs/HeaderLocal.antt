@@ -3,14 +3,14 @@ use Rattle.std.specs.Prelude.{codes}
 use Rattle.std.specs.Str.{bytes_eq}
 use Rattle.std.specs.List.{list_any}
 use Rattle.std.proofs.Common.{◌≡◌, ℕ, zero, suc, ◌≤◌, not, Bool, true, false, Ok, List, [], ◌∷◌, length, refl, sym, ◌∙◌, arith}
-use Rattle.net_core.specs.Nets.{Netlist}
-use Rattle.verilog_lex.specs.declared.token.Keyword.TheVariants as keyword
-use Rattle.verilog_lex.specs.declared.token.Symbol.TheVariants as symbol
-use Rattle.verilog_lex.specs.Lexeme.{Lexeme, LName, LKeyword, LNumber, LSymbol}
-use Rattle.design_rules.specs.FormedSyntax.{is_name}
-use Rattle.verilog_expression.specs.declared.fault.Code.TheVariants as code
-use Rattle.verilog_expression.specs.Reads.{Read, ◌>>=◌, fault, kept_if}
-use Rattle.verilog_expression.specs.Lexemes.{lexeme_at, number_at}
+use Rattle.verilog_read.specs.net_core.Nets.{Netlist}
+use Rattle.verilog_read.specs.verilog_lex.declared.token.Keyword.TheVariants as keyword
+use Rattle.verilog_read.specs.verilog_lex.declared.token.Symbol.TheVariants as symbol
+use Rattle.verilog_read.specs.verilog_lex.Lexeme.{Lexeme, LName, LKeyword, LNumber, LSymbol}
+use Rattle.verilog_read.specs.design_rules.FormedSyntax.{is_name}
+use Rattle.verilog_read.specs.verilog_expression.declared.fault.Code.TheVariants as code
+use Rattle.verilog_read.specs.verilog_expression.Reads.{Read, ◌>>=◌, fault, kept_if}
+use Rattle.verilog_read.specs.verilog_expression.Lexemes.{lexeme_at, number_at}
 use Rattle.verilog_read.specs.Header.{range_at, fresh_at, with_port, port_at, more_ports_at, ports_at, no_design, header_at}
 use Rattle.verilog_faults.proofs.Local.{Local, IsStrict, raised, loose, from_head, by_heads, by_strict_heads, by_turns, bind_same, gives_local, fails_local, bind_local}
 use Rattle.verilog_faults.proofs.LexemeLocal.{own_fault, kept_value, lexeme_local, behind_local, closed_local, number_local}

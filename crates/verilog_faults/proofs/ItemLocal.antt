@@ -1,17 +1,17 @@
 -- Items and designs look no further than what they take, and than their faults depend on.
 use Rattle.std.specs.Prelude.{nat_le, codes}
 use Rattle.std.proofs.Common.{◌≡◌, ℕ, zero, suc, ◌≤◌, ◌==◌, not, Bool, true, false, Option, Some, None, Ok, List, [], ◌∷◌, length, refl, sym, ◌∙◌, arith}
-use Rattle.net_core.specs.Nets.{Netlist}
-use Rattle.net_core.specs.Width.{is_assigned}
-use Rattle.verilog_lex.specs.declared.token.Keyword.TheVariants as keyword
-use Rattle.verilog_lex.specs.declared.token.Symbol.TheVariants as symbol
-use Rattle.verilog_lex.specs.Lexeme.{Lexeme, LName, LKeyword, LSymbol}
-use Rattle.design_rules.specs.FormedSyntax.{is_name}
-use Rattle.verilog_expression.specs.declared.fault.Code.TheVariants as code
-use Rattle.verilog_expression.specs.Reads.{Read, ◌>>=◌, fault, kept_if, found}
-use Rattle.verilog_expression.specs.Expressions.{whole_expr_at}
-use Rattle.verilog_expression.specs.Rights.{right_at}
-use Rattle.verilog_expression.specs.Statements.{whole_statement_at}
+use Rattle.verilog_read.specs.net_core.Nets.{Netlist}
+use Rattle.verilog_read.specs.net_core.Width.{is_assigned}
+use Rattle.verilog_read.specs.verilog_lex.declared.token.Keyword.TheVariants as keyword
+use Rattle.verilog_read.specs.verilog_lex.declared.token.Symbol.TheVariants as symbol
+use Rattle.verilog_read.specs.verilog_lex.Lexeme.{Lexeme, LName, LKeyword, LSymbol}
+use Rattle.verilog_read.specs.design_rules.FormedSyntax.{is_name}
+use Rattle.verilog_read.specs.verilog_expression.declared.fault.Code.TheVariants as code
+use Rattle.verilog_read.specs.verilog_expression.Reads.{Read, ◌>>=◌, fault, kept_if, found}
+use Rattle.verilog_read.specs.verilog_expression.Expressions.{whole_expr_at}
+use Rattle.verilog_read.specs.verilog_expression.Rights.{right_at}
+use Rattle.verilog_read.specs.verilog_expression.Statements.{whole_statement_at}
 use Rattle.verilog_read.specs.declared.section.Section.{Section}
 use Rattle.verilog_read.specs.declared.section.Section.TheVariants as section
 use Rattle.verilog_read.specs.Entries.{entry_in, free_in}

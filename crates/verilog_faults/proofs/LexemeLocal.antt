@@ -1,18 +1,18 @@
 -- Single lexemes look no further than themselves.
 use Rattle.std.proofs.Common.{◌≡◌, ℕ, Bool, true, false, Option, Some, None, Ok, Err, List, [], ◌∷◌, refl, arith}
-use Rattle.net_core.specs.declared.tree.Op.TheVariants as op
-use Rattle.net_core.specs.Value.{word}
-use Rattle.net_core.specs.Width.{word_fits}
-use Rattle.verilog_lex.specs.declared.token.Symbol.{Symbol}
-use Rattle.verilog_lex.specs.declared.token.Symbol.TheVariants as symbol
-use Rattle.verilog_lex.specs.Lexeme.{Lexeme, LName, LNumber, LSized, LOutOfRange, LSymbol}
-use Rattle.design_rules.specs.FormedSyntax.{is_name}
-use Rattle.verilog_expression.specs.declared.fault.Code.{Code}
-use Rattle.verilog_expression.specs.declared.fault.Code.TheVariants as code
-use Rattle.verilog_expression.specs.declared.entry.Entry.{Entry}
-use Rattle.verilog_expression.specs.Reads.{Read, Reading, ◌>>=◌, fault, kept_if, found}
-use Rattle.verilog_expression.specs.Lexemes.{same_lexeme, lexeme_at, symbol_at, behind, number_at, name_at, constant_at, op_at}
-use Rattle.verilog_expression.specs.Expressions.{Resolve, entry_at}
+use Rattle.verilog_read.specs.net_core.declared.tree.Op.TheVariants as op
+use Rattle.verilog_read.specs.net_core.Value.{word}
+use Rattle.verilog_read.specs.net_core.Width.{word_fits}
+use Rattle.verilog_read.specs.verilog_lex.declared.token.Symbol.{Symbol}
+use Rattle.verilog_read.specs.verilog_lex.declared.token.Symbol.TheVariants as symbol
+use Rattle.verilog_read.specs.verilog_lex.Lexeme.{Lexeme, LName, LNumber, LSized, LOutOfRange, LSymbol}
+use Rattle.verilog_read.specs.design_rules.FormedSyntax.{is_name}
+use Rattle.verilog_read.specs.verilog_expression.declared.fault.Code.{Code}
+use Rattle.verilog_read.specs.verilog_expression.declared.fault.Code.TheVariants as code
+use Rattle.verilog_read.specs.verilog_expression.declared.entry.Entry.{Entry}
+use Rattle.verilog_read.specs.verilog_expression.Reads.{Read, Reading, ◌>>=◌, fault, kept_if, found}
+use Rattle.verilog_read.specs.verilog_expression.Lexemes.{same_lexeme, lexeme_at, symbol_at, behind, number_at, name_at, constant_at, op_at}
+use Rattle.verilog_read.specs.verilog_expression.Expressions.{Resolve, entry_at}
 use Rattle.verilog_faults.proofs.Local.{Local, raised, loose, by_heads, gives_local, fails_local, as_local}
 
 -- a fault at a lexeme itself

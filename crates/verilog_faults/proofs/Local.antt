@@ -1,8 +1,8 @@
 -- Reading functions that look no further than what they take and what their faults depend on, and how they are put together.
 use Rattle.std.proofs.Common.{◌≡◌, ◌≢◌, ℕ, suc, ◌+◌, ◌≤◌, Ok, Err, List, [], ◌∷◌, ◌++◌, length, length-append, refl, ap, subst, arith}
-use Rattle.verilog_lex.specs.Lexeme.{Lexeme}
-use Rattle.verilog_expression.specs.declared.fault.Code.{Code}
-use Rattle.verilog_expression.specs.Reads.{Read, ◌>>=◌, fault}
+use Rattle.verilog_read.specs.verilog_lex.Lexeme.{Lexeme}
+use Rattle.verilog_read.specs.verilog_expression.declared.fault.Code.{Code}
+use Rattle.verilog_read.specs.verilog_expression.Reads.{Read, ◌>>=◌, fault}
 use Rattle.verilog_faults.specs.Faults.{lexemes_behind, fault_with}
 
 -- What was read leaves at most so many lexemes; a fault's own, and those behind on which it depends, begin at most so far in front.

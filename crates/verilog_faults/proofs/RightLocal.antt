@@ -1,15 +1,15 @@
 -- The right sides of wires look no further than what they take, and than their faults depend on.
 use Rattle.std.proofs.Common.{◌≡◌, ℕ, ◌==◌, Bool, true, false, Option, Some, None, Ok, List, [], ◌∷◌, refl, sym, ◌∙◌, arith}
-use Rattle.net_core.specs.declared.tree.Net.{Net}
-use Rattle.verilog_lex.specs.declared.token.Symbol.TheVariants as symbol
-use Rattle.verilog_lex.specs.Lexeme.{Lexeme, LName, LSymbol}
-use Rattle.design_rules.specs.FormedSyntax.{is_name}
-use Rattle.verilog_expression.specs.declared.fault.Code.TheVariants as code
-use Rattle.verilog_expression.specs.declared.entry.Entry.{Entry}
-use Rattle.verilog_expression.specs.declared.entry.Entry.TheVariants as entry
-use Rattle.verilog_expression.specs.Reads.{Read, ◌>>=◌, fault, kept_if}
-use Rattle.verilog_expression.specs.Expressions.{Resolve, entry_at, whole_expr_at}
-use Rattle.verilog_expression.specs.Rights.{SizedRight, value_at, division, division_at, plain_at, right_at}
+use Rattle.verilog_read.specs.net_core.declared.tree.Net.{Net}
+use Rattle.verilog_read.specs.verilog_lex.declared.token.Symbol.TheVariants as symbol
+use Rattle.verilog_read.specs.verilog_lex.Lexeme.{Lexeme, LName, LSymbol}
+use Rattle.verilog_read.specs.design_rules.FormedSyntax.{is_name}
+use Rattle.verilog_read.specs.verilog_expression.declared.fault.Code.TheVariants as code
+use Rattle.verilog_read.specs.verilog_expression.declared.entry.Entry.{Entry}
+use Rattle.verilog_read.specs.verilog_expression.declared.entry.Entry.TheVariants as entry
+use Rattle.verilog_read.specs.verilog_expression.Reads.{Read, ◌>>=◌, fault, kept_if}
+use Rattle.verilog_read.specs.verilog_expression.Expressions.{Resolve, entry_at, whole_expr_at}
+use Rattle.verilog_read.specs.verilog_expression.Rights.{SizedRight, value_at, division, division_at, plain_at, right_at}
 use Rattle.verilog_faults.proofs.Local.{Local, raised, loose, from_head, by_heads, gives_local, fails_local, bind_local, as_local}
 use Rattle.verilog_faults.proofs.LexemeLocal.{own_fault, kept_value, improper_entry}
 use Rattle.verilog_faults.proofs.ExpressionLocal.{whole_expr_local, proper_expr, improper_expr}

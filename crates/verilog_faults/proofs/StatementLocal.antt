@@ -1,17 +1,17 @@
 -- Statements look no further than what they take, and than their faults depend on.
 use Rattle.std.proofs.Common.{◌≡◌, ◌≢◌, ℕ, zero, suc, ◌≤◌, Bool, true, false, Ok, List, [], ◌∷◌, length, refl, sym, ◌∙◌, ap, arith}
-use Rattle.net_core.specs.declared.tree.Net.{Net}
-use Rattle.net_core.specs.declared.tree.Net.TheVariants as net
-use Rattle.net_core.specs.Nets.{Tree, StatementTree, SIf, SSet, SStore, StatementTrees, SEnd, SThen}
-use Rattle.verilog_lex.specs.declared.token.Keyword.TheVariants as keyword
-use Rattle.verilog_lex.specs.declared.token.Symbol.TheVariants as symbol
-use Rattle.verilog_lex.specs.Lexeme.{Lexeme, LName, LKeyword, LSymbol}
-use Rattle.verilog_expression.specs.declared.fault.Code.TheVariants as code
-use Rattle.verilog_expression.specs.declared.entry.Entry.{Entry}
-use Rattle.verilog_expression.specs.declared.entry.Entry.TheVariants as entry
-use Rattle.verilog_expression.specs.Reads.{Read, ◌>>=◌, fault, kept_if}
-use Rattle.verilog_expression.specs.Expressions.{Resolve, Sized, whole_expr_at}
-use Rattle.verilog_expression.specs.Statements.{Free, assigned_at, set_at, index_at, word_at, store_at, target_at, else_at, condition_at, if_at, block_at, begin_at, one_statement_at, statement_at, whole_statement_at}
+use Rattle.verilog_read.specs.net_core.declared.tree.Net.{Net}
+use Rattle.verilog_read.specs.net_core.declared.tree.Net.TheVariants as net
+use Rattle.verilog_read.specs.net_core.Nets.{Tree, StatementTree, SIf, SSet, SStore, StatementTrees, SEnd, SThen}
+use Rattle.verilog_read.specs.verilog_lex.declared.token.Keyword.TheVariants as keyword
+use Rattle.verilog_read.specs.verilog_lex.declared.token.Symbol.TheVariants as symbol
+use Rattle.verilog_read.specs.verilog_lex.Lexeme.{Lexeme, LName, LKeyword, LSymbol}
+use Rattle.verilog_read.specs.verilog_expression.declared.fault.Code.TheVariants as code
+use Rattle.verilog_read.specs.verilog_expression.declared.entry.Entry.{Entry}
+use Rattle.verilog_read.specs.verilog_expression.declared.entry.Entry.TheVariants as entry
+use Rattle.verilog_read.specs.verilog_expression.Reads.{Read, ◌>>=◌, fault, kept_if}
+use Rattle.verilog_read.specs.verilog_expression.Expressions.{Resolve, Sized, whole_expr_at}
+use Rattle.verilog_read.specs.verilog_expression.Statements.{Free, assigned_at, set_at, index_at, word_at, store_at, target_at, else_at, condition_at, if_at, block_at, begin_at, one_statement_at, statement_at, whole_statement_at}
 use Rattle.verilog_faults.proofs.Local.{Within, Local, IsStrict, raised, loose, from_head, by_heads, by_strict_heads, by_turns, bind_same, gives_local, fails_local, bind_local}
 use Rattle.verilog_faults.proofs.LexemeLocal.{own_fault, symbol_local, closed_local, entry_head}
 use Rattle.verilog_faults.proofs.ExpressionLocal.{whole_expr_local}

@@ -1,14 +1,14 @@
 -- Texts whose lexemes begin alike have the same error, and spell no design.
 use Rattle.std.proofs.Common.{◌≡◌, ◌≢◌, ℕ, Option, Some, None, ◌+◌, ◌-◌, ◌<◌, Result, Ok, Err, List, ◌++◌, length, length-append, refl, sym, ◌∙◌, ap, arith}
 use Rattle.std.proofs.lemmas.List.{length-map}
-use Rattle.net_core.specs.Nets.{Netlist}
-use Rattle.verilog_lex.specs.declared.token.Token.{Token}
-use Rattle.verilog_lex.specs.Lexeme.{Lexeme, Lexes, lexeme_of, lexemes_of}
-use Rattle.verilog_lex.specs.Tokens.{tokens_in}
-use Rattle.verilog_lex.proofs.LexemeLaws.{tokens_in-lexes}
-use Rattle.verilog_expression.specs.declared.fault.Code.{Code}
-use Rattle.verilog_expression.specs.declared.fault.Code.TheVariants as code
-use Rattle.verilog_expression.specs.Reads.{Reading}
+use Rattle.verilog_read.specs.net_core.Nets.{Netlist}
+use Rattle.verilog_read.specs.verilog_lex.declared.token.Token.{Token}
+use Rattle.verilog_read.specs.verilog_lex.Lexeme.{Lexeme, Lexes, lexeme_of, lexemes_of}
+use Rattle.verilog_read.specs.verilog_lex.Tokens.{tokens_in}
+use Rattle.verilog_read.proofs.verilog_lex.LexemeLaws.{tokens_in-lexes}
+use Rattle.verilog_read.specs.verilog_expression.declared.fault.Code.{Code}
+use Rattle.verilog_read.specs.verilog_expression.declared.fault.Code.TheVariants as code
+use Rattle.verilog_read.specs.verilog_expression.Reads.{Reading}
 use Rattle.verilog_read.specs.declared.error.ReadError.{ReadError}
 use Rattle.verilog_read.specs.declared.error.ReadError.TheVariants.{Ports}
 use Rattle.verilog_read.specs.Designs.{design_at, port_fault}

@@ -1,18 +1,18 @@
 -- The first fault of lexemes is decided by what stands up to it, and by at most two lexemes behind.
 use Rattle.std.specs.Prelude.{◌≡◌, ℕ, ◌+◌, ◌<◌, Ok, Err, List, ◌++◌, length, map}
 use Rattle.std.proofs.Common.{get_or}
-use Rattle.net_core.specs.Nets.{Netlist}
-use Rattle.verilog_grammar.specs.Spelling.{Spells}
-use Rattle.verilog_lex.specs.declared.token.Token.{Token}
-use Rattle.verilog_lex.specs.Lexeme.{Lexeme, lexemes_of}
-use Rattle.verilog_lex.specs.Tokens.{tokens_in}
-use Rattle.verilog_expression.specs.declared.fault.Code.{Code}
-use Rattle.verilog_expression.specs.declared.fault.Code.TheVariants as code
-use Rattle.verilog_expression.specs.declared.fault.Fault.{Fault}
-use Rattle.verilog_expression.specs.Reads.{Reading}
-use Rattle.verilog_expression.specs.Expressions.{Resolve, whole_expr_at}
-use Rattle.verilog_expression.specs.Rights.{right_at}
-use Rattle.verilog_expression.specs.Statements.{Free, whole_statement_at}
+use Rattle.verilog_read.specs.net_core.Nets.{Netlist}
+use Rattle.verilog_read.specs.verilog_grammar.Spelling.{Spells}
+use Rattle.verilog_read.specs.verilog_lex.declared.token.Token.{Token}
+use Rattle.verilog_read.specs.verilog_lex.Lexeme.{Lexeme, lexemes_of}
+use Rattle.verilog_read.specs.verilog_lex.Tokens.{tokens_in}
+use Rattle.verilog_read.specs.verilog_expression.declared.fault.Code.{Code}
+use Rattle.verilog_read.specs.verilog_expression.declared.fault.Code.TheVariants as code
+use Rattle.verilog_read.specs.verilog_expression.declared.fault.Fault.{Fault}
+use Rattle.verilog_read.specs.verilog_expression.Reads.{Reading}
+use Rattle.verilog_read.specs.verilog_expression.Expressions.{Resolve, whole_expr_at}
+use Rattle.verilog_read.specs.verilog_expression.Rights.{right_at}
+use Rattle.verilog_read.specs.verilog_expression.Statements.{Free, whole_statement_at}
 use Rattle.verilog_read.specs.Designs.{design_at}
 use Rattle.verilog_read.specs.Texts.{error_of, outcome_of}
 

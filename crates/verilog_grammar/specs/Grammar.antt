@@ -1,18 +1,18 @@
 -- The lexemes of a design: the grammar of the subset of IEEE 1364-2005 (annex A) in which designs are written.
 use Rattle.std.specs.Prelude.{ℕ, suc, ◌+◌, ◌-◌, ◌^◌, ◌==◌, if◌then◌else◌, List, [], ◌∷◌, ◌++◌, length, codes}
 use Rattle.std.proofs.Common.{get_or}
-use Rattle.net_core.specs.declared.tree.Op.{Op}
-use Rattle.net_core.specs.declared.tree.Op.TheVariants as op
-use Rattle.net_core.specs.declared.tree.UnaryOp.{UnaryOp}
-use Rattle.net_core.specs.declared.tree.UnaryOp.TheVariants as unary_op
-use Rattle.net_core.specs.declared.tree.Net.{Net}
-use Rattle.net_core.specs.declared.tree.Net.TheVariants as net
-use Rattle.net_core.specs.declared.tree.Word.{Word}
-use Rattle.net_core.specs.declared.design.Port.{Port}
-use Rattle.net_core.specs.declared.design.Declared.{Declared}
-use Rattle.net_core.specs.declared.design.Declared.TheVariants as declared
-use Rattle.net_core.specs.Nets.{Tree, TConst, TRead, TBit, TPartSelect, TMemoryWord, TUnary, TBinary, TConditional, TConcatenation, Trees, TLast, TMore, RightTree, RPlain, RQuotient, RRemainder, StatementTree, SBlock, SIf, SIfElse, SSet, SStore, StatementTrees, SEnd, SThen, WireTree, AssignTree, Netlist}
-use Rattle.net_core.specs.Names.{is_integer, place_of, name_of}
+use Rattle.design_rules.specs.net_core.declared.tree.Op.{Op}
+use Rattle.design_rules.specs.net_core.declared.tree.Op.TheVariants as op
+use Rattle.design_rules.specs.net_core.declared.tree.UnaryOp.{UnaryOp}
+use Rattle.design_rules.specs.net_core.declared.tree.UnaryOp.TheVariants as unary_op
+use Rattle.design_rules.specs.net_core.declared.tree.Net.{Net}
+use Rattle.design_rules.specs.net_core.declared.tree.Net.TheVariants as net
+use Rattle.design_rules.specs.net_core.declared.tree.Word.{Word}
+use Rattle.design_rules.specs.net_core.declared.design.Port.{Port}
+use Rattle.design_rules.specs.net_core.declared.design.Declared.{Declared}
+use Rattle.design_rules.specs.net_core.declared.design.Declared.TheVariants as declared
+use Rattle.design_rules.specs.net_core.Nets.{Tree, TConst, TRead, TBit, TPartSelect, TMemoryWord, TUnary, TBinary, TConditional, TConcatenation, Trees, TLast, TMore, RightTree, RPlain, RQuotient, RRemainder, StatementTree, SBlock, SIf, SIfElse, SSet, SStore, StatementTrees, SEnd, SThen, WireTree, AssignTree, Netlist}
+use Rattle.design_rules.specs.net_core.Names.{is_integer, place_of, name_of}
 use Rattle.verilog_lex.specs.declared.token.Keyword.TheVariants as keyword
 use Rattle.verilog_lex.specs.declared.token.Symbol.{Symbol}
 use Rattle.verilog_lex.specs.declared.token.Symbol.TheVariants as symbol

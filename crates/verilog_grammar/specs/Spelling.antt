@@ -2,7 +2,7 @@
 -- begins at its place, and the design keeps the rules of the subset.
 use Rattle.std.specs.Prelude.{ℕ, List}
 use Rattle.verilog_lex.specs.Lexeme.{Lexes}
-use Rattle.net_core.specs.Nets.{Netlist}
+use Rattle.design_rules.specs.net_core.Nets.{Netlist}
 use Rattle.verilog_grammar.specs.Grammar.{design_lexemes}
 use Rattle.design_rules.specs.Formed.{IsWellFormed}
 

@@ -1,3 +1,5 @@
+pub use Rattle.design_rules.proofs as design_rules
+pub use Rattle.verilog_lex.proofs as verilog_lex
 pub mod LawPlaces
 pub mod LawEntries
 pub mod LawNames

@@ -2,7 +2,7 @@
 
 ghost use Rattle.std.specs.Prelude.{◌+◌, ◌∷◌, ◌++◌, [], IfOk, OnOk, codes, length};
 ghost use Rattle.net_core.specs.View.{netlist_of};
-ghost use Rattle.design_rules.specs.Formed.{IsWellFormed};
+ghost use Rattle.verilog_grammar.specs.design_rules.Formed.{IsWellFormed};
 ghost use Rattle.verilog_grammar.specs.Grammar.{all_always, all_assigns, all_declared, all_wires, items_lexemes, ports_lexemes};
 ghost use Rattle.verilog_grammar.specs.Spelling.{Spells};
 ghost use Rattle.verilog_lex.specs.Lexeme.{LKeyword, LName, LSymbol};

@@ -10,7 +10,7 @@ use Rattle.std.proofs.lemmas.Nat.{mod_below, pow_pos, or_lt, xor_lt}
 use Rattle.std.proofs.lemmas.List.Elements.{All-append, All-take, All-drop}
 use Rattle.byteorder.specs.Endian.{little_number}
 use Rattle.byteorder.specs.Numbers.{little_from-lt}
-use Rattle.bits_core.specs.Bits.{bits_of, reversed_of, div_u_of, mod_u_of}
+use Rattle.bpf_isa.specs.bits_core.Bits.{bits_of, reversed_of, div_u_of, mod_u_of}
 use Rattle.bpf_isa.specs.declared.operation.Src.TheVariants.{X}
 use Rattle.bpf_isa.specs.declared.operation.Width.{Width}
 use Rattle.bpf_isa.specs.declared.operation.Width.TheVariants.{Bits32, Bits64}

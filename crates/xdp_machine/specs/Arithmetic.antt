@@ -8,7 +8,7 @@ use Rattle.bpf_isa.specs.declared.operation.AluCode.{AluCode}
 use Rattle.bpf_isa.specs.declared.operation.AluCode.TheVariants.{Add, Sub, Mul, Div, Or, And, Lsh, Rsh, Mod, Xor, Mov, Arsh}
 use Rattle.bpf_isa.specs.declared.operation.JumpCode.{JumpCode}
 use Rattle.bpf_isa.specs.declared.operation.JumpCode.TheVariants.{Jeq, Jgt, Jge, Jset, Jne, Jsgt, Jsge, Jlt, Jle, Jslt, Jsle}
-use Rattle.bits_core.specs.Bits.{signed_of, sext_of, swap_of, div_u_of, div_s_of, mod_u_of, mod_s_of, arsh_of}
+use Rattle.bpf_isa.specs.bits_core.Bits.{signed_of, sext_of, swap_of, div_u_of, div_s_of, mod_u_of, mod_s_of, arsh_of}
 
 abbrev pub bits_in : Width → ℕ
 bits_in Bits32 = 32

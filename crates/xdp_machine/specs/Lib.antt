@@ -1,3 +1,4 @@
+pub use Rattle.xdp_maps.specs as xdp_maps
 pub mod Values
 pub mod State
 pub mod Arithmetic

@@ -8,7 +8,7 @@ use Rattle.bpf_isa.specs.declared.operation.AluCode.{AluCode}
 use Rattle.bpf_isa.specs.declared.operation.AluCode.TheVariants.{Add, Sub, Mov}
 use Rattle.bpf_isa.specs.declared.operation.JumpCode.{JumpCode}
 use Rattle.bpf_isa.specs.declared.operation.JumpCode.TheVariants.{Jeq, Jgt, Jge, Jne, Jlt, Jle}
-use Rattle.bits_core.specs.Bits.{signed_of}
+use Rattle.bpf_isa.specs.bits_core.Bits.{signed_of}
 use Rattle.xdp_machine.specs.Values.{Value, Number, Packet, Stack, Entry, held, number_in, ◌>>=◌}
 use Rattle.xdp_machine.specs.Arithmetic.{bits_in, low, arithmetic, extended, holds}
 

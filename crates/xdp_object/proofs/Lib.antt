@@ -1,3 +1,4 @@
+pub use Rattle.xdp_machine.proofs as xdp_machine
 pub mod FaultLaws
 pub mod Layouts
 pub mod MapLayouts

@@ -4,7 +4,7 @@ use Rattle.std.proofs.lemmas.Bool.{ltb-true, ltb-false}
 use Rattle.std.specs.Option.{IsSome, is_some, option_or}
 use Rattle.elf_view.specs.File.{e_shnum, e_shstrndx, first_symtab, section_at, section_bytes, string_at, symtab_at}
 use Rattle.elf_view.specs.Rules.{first_error, is_string_table, name_open, names_open, no_names, sections_outside, short_file, short_headers, wrong_header, wrong_machine, wrong_symbols, wrong_table}
-use Rattle.list_laws.specs.Firsts.{first_from}
+use Rattle.elf_view.specs.list_laws.Firsts.{first_from}
 
 -- where the first of two is none, there is neither
 pub no_first : {X : Type 0} (a b : Option X) → option_or a b ≡ None → a ≡ None

@@ -20,8 +20,8 @@ use Rattle.xdp_object.specs.declared.error.ObjectError.{ObjectError}
 use Rattle.xdp_object.specs.Relocations.{both, is_map_relocation, is_map_symbol, place_in, places_of, relocated_at, relocates, relocation_of, said_at, said_by_section, said_by_table, said_of, together, unknown_at, unknown_by, unknown_in}
 use Rattle.xdp_object.proofs.Opened.{and_right}
 use Rattle.xdp_object.proofs.FaultLaws.{first_there, option_or-assoc}
-use Rattle.list_laws.specs.Firsts.{first_from}
-use Rattle.list_laws.proofs.FirstLaws.{first_from-next}
+use Rattle.elf_view.specs.list_laws.Firsts.{first_from}
+use Rattle.elf_view.proofs.list_laws.FirstLaws.{first_from-next}
 
 both-none : (a : Relocated) → both a Untouched ≡ a
 both-none Untouched = refl

@@ -1,3 +1,6 @@
+pub use Rattle.bpf_isa.specs as bpf_isa
+pub use Rattle.xdp_machine.specs as xdp_machine
+pub use Rattle.xdp_maps.specs as xdp_maps
 -- the program and its sequential machine, which an object is read to
 pub use Rattle.xdp_machine.specs.Program
 pub use Rattle.xdp_machine.specs.Values

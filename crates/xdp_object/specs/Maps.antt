@@ -22,7 +22,7 @@ use Rattle.xdp_object.specs.declared.relocated.Relocated.{Relocated}
 use Rattle.xdp_object.specs.declared.relocated.Relocated.TheVariants.{Refers}
 use Rattle.xdp_object.specs.Functions.{symbol_name, symbol_of}
 use Rattle.xdp_object.specs.Relocations.{Reference, has_name, references_from, said_at}
-use Rattle.list_laws.specs.Firsts.{first_from}
+use Rattle.elf_view.specs.list_laws.Firsts.{first_from}
 
 -- ---- the declaration of a map
 

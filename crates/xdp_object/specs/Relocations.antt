@@ -18,7 +18,7 @@ use Rattle.xdp_object.specs.declared.error.ObjectError.TheVariants.{Elf, Relocat
 use Rattle.xdp_object.specs.declared.relocated.Relocated.{Relocated}
 use Rattle.xdp_object.specs.declared.relocated.Relocated.TheVariants.{Untouched, Refers, Unknown}
 use Rattle.xdp_object.specs.Functions.{section_name, symbol_of}
-use Rattle.list_laws.specs.Firsts.{first_from}
+use Rattle.elf_view.specs.list_laws.Firsts.{first_from}
 
 -- section i is of this type, and its entries are relocations of section `target`
 abbrev pub relocates : List ℕ → (kind target : ℕ) → ℕ → Bool

@@ -2,8 +2,8 @@
 use Rattle.std.proofs.Common.{◌≡◌, ℕ, List, Ok, Err, sym, ◌∙◌, ap}
 use Rattle.std.specs.Prelude.{Result}
 use Rattle.xdp_maps.specs.State.{MapState}
-use Rattle.xdp_machine.specs.Runs.{Progress}
-use Rattle.xdp_machine.specs.MachineLaws.{frame_so_far, maps_so_far}
+use Rattle.xdp_state.specs.xdp_machine.Runs.{Progress}
+use Rattle.xdp_state.specs.xdp_machine.MachineLaws.{frame_so_far, maps_so_far}
 use Rattle.xdp_seq.specs.declared.run.Ended.{Ended}
 use Rattle.xdp_seq.specs.declared.run.SeqError.{SeqError}
 use Rattle.xdp_seq.specs.declared.run.SeqError.TheVariants.{Stuck, Spent}

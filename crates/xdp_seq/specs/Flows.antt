@@ -1,7 +1,7 @@
 -- What a step in memory answers.
 use Rattle.std.specs.Prelude.{◌≡◌}
-use Rattle.xdp_machine.specs.State.{Machine}
-use Rattle.xdp_machine.specs.Step.{Outcome, Goes, Ends, NoCase}
+use Rattle.xdp_state.specs.xdp_machine.State.{Machine}
+use Rattle.xdp_state.specs.xdp_machine.Step.{Outcome, Goes, Ends, NoCase}
 use Rattle.xdp_seq.specs.declared.flow.Flow.{Flow}
 use Rattle.xdp_seq.specs.declared.flow.Flow.TheVariants.{Next, Ended, Stuck}
 

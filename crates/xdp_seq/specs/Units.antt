@@ -3,7 +3,7 @@ use Rattle.std.specs.Prelude.{ℕ, ◌≡◌, ◌^◌, ◌<◌, List, [], ◌∷
 use Rattle.bpf_isa.specs.declared.instruction.Insn.{Insn}
 use Rattle.bpf_isa.specs.Spelling.{IsInsn}
 use Rattle.bpf_isa.specs.Laid.{laid}
-use Rattle.xdp_machine.specs.State.{Code}
+use Rattle.xdp_state.specs.xdp_machine.State.{Code}
 
 -- the instructions of units
 abbrev pub insns_of : List (Option Insn) → List Insn

@@ -2,8 +2,8 @@
 
 ghost use Rattle.std.specs.Prelude.{◌≡◌, ℕ, List};
 ghost use Rattle.xdp_maps.specs.State.{MapState};
-ghost use Rattle.xdp_machine.specs.Values as seen;
-ghost use Rattle.xdp_machine.specs.Helpers.{lookup, update, delete, packet_time, redirect, called};
+ghost use Rattle.xdp_state.specs.xdp_machine.Values as seen;
+ghost use Rattle.xdp_state.specs.xdp_machine.Helpers.{lookup, update, delete, packet_time, redirect, called};
 ghost use Rattle.xdp_state.specs.Views.{value_of};
 ghost use Rattle.xdp_state.specs.Cases.{Makes};
 ghost use Rattle.xdp_state.specs.Machines.{machine_of};

@@ -4,9 +4,9 @@ ghost use Rattle.std.specs.Prelude.{◌≡◌, ◌-◌, ◌∷◌, ◌++◌, len
 ghost use Rattle.bpf_isa.specs.declared.instruction.Insn.{Insn};
 ghost use Rattle.bpf_isa.specs.Spelling.{units_of};
 ghost use Rattle.bpf_isa.specs.Laid.{laid};
-ghost use Rattle.xdp_machine.specs.State.{start};
-ghost use Rattle.xdp_machine.specs.Program.{program_code};
-ghost use Rattle.xdp_machine.specs.Runs.{run};
+ghost use Rattle.xdp_state.specs.xdp_machine.State.{start};
+ghost use Rattle.xdp_state.specs.xdp_machine.Program.{program_code};
+ghost use Rattle.xdp_state.specs.xdp_machine.Runs.{run};
 ghost use Rattle.xdp_seq.specs.Answers.{Answers};
 
 use crate::run::{Ended, STEP_LIMIT, SeqError, run};
@@ -27,7 +27,7 @@ pub struct SeqPlan {
 }
 
 impl Model for SeqPlan {
-    ghost use Rattle.xdp_machine.specs.State.{Code};
+    ghost use Rattle.xdp_state.specs.xdp_machine.State.{Code};
 
     ghost Value = { Code };
 

@@ -1,7 +1,7 @@
 // The run of a packet.
 
 ghost use Rattle.std.specs.Prelude.{◌≡◌, ◌<◌, ◌^◌, length};
-ghost use Rattle.xdp_machine.specs.Runs.{run};
+ghost use Rattle.xdp_state.specs.xdp_machine.Runs.{run};
 ghost use Rattle.xdp_state.specs.Machines.{machine_of};
 ghost use Rattle.xdp_seq.specs.Units.{AreUnits, code_of};
 ghost use Rattle.xdp_seq.specs.Answers.{Answers};

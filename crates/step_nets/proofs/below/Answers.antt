@@ -1,5 +1,5 @@
 use Rattle.std.specs.Prelude.{nat_lt}
-use Rattle.std.proofs.Common.{false, refl, [], ◌∷◌, arith}
+use Rattle.std.proofs.Common.{false, refl, [], ◌∷◌, sym, arith}
 use Rattle.cell_core.specs.declared.operator.Operator.TheVariants.{Less}
 use Rattle.cell_core.specs.Cells.{bit}
 use Rattle.cell_nets.specs.Operands.{number_in}
@@ -9,7 +9,14 @@ use Rattle.cell_nets.proofs.ChoiceLemmas.{number_small}
 use Rattle.cell_nets.proofs.NarrowLemmas.{bits_small}
 use Rattle.step_nets.proofs.ChainLaws.{starts, last}
 use Rattle.step_nets.proofs.StepLaws.{no_packet, tested}
+use Rattle.step_nets.proofs.FoldLaws.{fact_gives}
 use Rattle.step_nets.proofs.below.Goals as goal
+
+pub returns-in-Known-Known : goal.returns-in-Known-Known
+returns-in-Known-Known g c =
+    let p = sym c.in-Known-Known.is-0 in
+    let q = sym c.in-Known-Known.is-1 in
+    fact_gives c.args.part (wires_of c.args.wires.now.items) (c.args.a ∷ c.args.b ∷ []) _ _ _ c.fact.ensures (λ v i. bit (nat_lt (number_in v (p i)) (number_in v (q i))))
 
 pub returns : goal.returns
 returns g c =

@@ -1,11 +1,15 @@
-use Rattle.std.proofs.Common.{false, [], ◌∷◌, subst, arith, ◌^◌, ◌<◌}
+use Rattle.std.proofs.Common.{false, [], ◌∷◌, sym, subst, arith, ◌^◌, ◌<◌}
 use Rattle.cell_core.specs.Cells.{bit, on}
 use Rattle.cell_nets.specs.Operands.{number_in}
 use Rattle.cell_nets.specs.Wires.{wires_of, always}
 use Rattle.cell_nets.proofs.PartLemmas.{part_computes}
 use Rattle.step_nets.proofs.ChainLaws.{starts, last}
 use Rattle.step_nets.proofs.StepLaws.{one_bit, bit_small}
+use Rattle.step_nets.proofs.FoldLaws.{fact_gives}
 use Rattle.step_nets.proofs.truth.Goals as goal
+
+pub returns-in-Known : goal.returns-in-Known
+returns-in-Known g c = fact_gives c.args.part (wires_of c.args.wires.now.items) (c.args.a ∷ []) _ _ _ c.fact.ensures (λ v i. bit (on (number_in v (sym c.in-Known.is i))))
 
 pub returns-then-span-eq1 : goal.returns-then-span-eq1
 returns-then-span-eq1 g c =

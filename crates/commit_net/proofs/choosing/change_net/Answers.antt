@@ -2,8 +2,8 @@ use Rattle.std.proofs.Common.{◌∙◌, map, sym, ap}
 use Rattle.cell_core.specs.Cells.{bit, bits_from}
 use Rattle.cell_core.specs.Sites.{site_at}
 use Rattle.cell_nets.specs.Wires.{wires_of}
-use Rattle.hazard_core.specs.Tables.{decl_of}
-use Rattle.hazard_core.specs.Held.{held_value}
+use Rattle.array_net.specs.hazard_core.Tables.{decl_of}
+use Rattle.array_net.specs.hazard_core.Held.{held_value}
 use Rattle.commit_net.specs.Choosing.{changes_word, all_read, IsChosen}
 use Rattle.commit_net.specs.declared.choosing.Asked.TheVariants.{Change}
 use Rattle.step_nets.proofs.ChainLaws.{starts, last}

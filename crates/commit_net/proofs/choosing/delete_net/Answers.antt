@@ -2,7 +2,7 @@ use Rattle.std.proofs.Common.{◌∙◌, sym, ap}
 use Rattle.cell_core.specs.Cells.{bit, bits_from}
 use Rattle.cell_core.specs.Sites.{site_at}
 use Rattle.cell_nets.specs.Wires.{wires_of}
-use Rattle.hazard_core.specs.Held.{is_delete}
+use Rattle.array_net.specs.hazard_core.Held.{is_delete}
 use Rattle.commit_net.specs.Choosing.{all_read, IsChosen}
 use Rattle.commit_net.specs.declared.choosing.Asked.TheVariants.{Delete}
 use Rattle.step_nets.proofs.ChainLaws.{starts, last}

@@ -1,7 +1,7 @@
 use Rattle.std.proofs.Common.{◌∙◌, ap}
 use Rattle.cell_core.specs.Cells.{bit, bits_from}
 use Rattle.cell_nets.specs.Wires.{wires_of}
-use Rattle.hazard_core.specs.Commits.{makes_entry}
+use Rattle.array_net.specs.hazard_core.Commits.{makes_entry}
 use Rattle.commit_net.specs.Choosing.{all_read, Commits}
 use Rattle.commit_net.specs.declared.choosing.Asked.TheVariants.{Insert}
 use Rattle.step_nets.proofs.ChainLaws.{starts, last}

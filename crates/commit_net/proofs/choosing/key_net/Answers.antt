@@ -3,9 +3,9 @@ use Rattle.cell_core.specs.Cells.{bits_from}
 use Rattle.cell_core.specs.Sites.{site_at}
 use Rattle.cell_nets.specs.declared.operand.Operand.TheVariants.{Net}
 use Rattle.cell_nets.specs.Wires.{wires_of, Gives}
-use Rattle.hazard_core.specs.Tables.{decl_of}
-use Rattle.hazard_core.specs.Commits.{word_at, word_count}
-use Rattle.hazard_core.specs.Held.{asked_key}
+use Rattle.array_net.specs.hazard_core.Tables.{decl_of}
+use Rattle.array_net.specs.hazard_core.Commits.{word_at, word_count}
+use Rattle.array_net.specs.hazard_core.Held.{asked_key}
 use Rattle.array_net.specs.Words.{word_width}
 use Rattle.commit_net.specs.Choosing.{all_read, Commits}
 use Rattle.commit_net.specs.declared.choosing.Asked.TheVariants.{Key}

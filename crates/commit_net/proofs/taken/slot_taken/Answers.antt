@@ -1,7 +1,7 @@
 use Rattle.std.specs.Prelude.{if◌then◌else◌, slice_index}
 use Rattle.std.proofs.Common.{◌≡◌, ◌∙◌, ◌^◌, ◌<◌, [], ◌∷◌, ap, arith}
 use Rattle.cell_core.specs.Cells.{on, bits_from}
-use Rattle.hazard_core.specs.Commits.{taken_after}
+use Rattle.array_net.specs.hazard_core.Commits.{taken_after}
 use Rattle.cell_nets.specs.Operands.{number_in}
 use Rattle.cell_nets.specs.Wires.{wires_of}
 use Rattle.commit_net.specs.Taking.{ShowsTaking}

@@ -1,8 +1,8 @@
 use Rattle.std.proofs.Common.{◌≡◌, ◌∙◌, ◌+◌, ◌*◌, ◌==◌, ◌&&◌, [], ◌∷◌, sym, ap, arith}
 use Rattle.cell_core.specs.Cells.{bit}
-use Rattle.hazard_core.specs.declared.pointer.Pointer.TheVariants.{Pending}
-use Rattle.hazard_core.specs.Held.{same_pointer, is_update, written_pointer}
-use Rattle.hazard_core.specs.Commits.{makes_entry}
+use Rattle.array_net.specs.hazard_core.declared.pointer.Pointer.TheVariants.{Pending}
+use Rattle.array_net.specs.hazard_core.Held.{same_pointer, is_update, written_pointer}
+use Rattle.array_net.specs.hazard_core.Commits.{makes_entry}
 use Rattle.cell_nets.specs.declared.operand.Operand.TheVariants.{Known}
 use Rattle.cell_nets.specs.Operands.{number_in, IsAvailable}
 use Rattle.cell_nets.specs.Wires.{wires_of}

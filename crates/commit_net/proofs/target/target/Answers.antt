@@ -4,9 +4,9 @@ use Rattle.std.proofs.lemmas.List.{take_all}
 use Rattle.std.proofs.lemmas.List.Sums.{fold_more}
 use Rattle.cell_core.specs.Cells.{on, bits_from}
 use Rattle.cell_core.specs.Sites.{site_at}
-use Rattle.hazard_core.specs.Tables.{table_at}
-use Rattle.hazard_core.specs.Held.{written_pointer}
-use Rattle.hazard_core.specs.Commits.{written_slot}
+use Rattle.array_net.specs.hazard_core.Tables.{table_at}
+use Rattle.array_net.specs.hazard_core.Held.{written_pointer}
+use Rattle.array_net.specs.hazard_core.Commits.{written_slot}
 use Rattle.cell_nets.specs.Operands.{number_in, IsOperand, IsAvailable}
 use Rattle.cell_nets.specs.Wires.{wires_of, always}
 use Rattle.commit_net.specs.Targets.{slots_of, ShowsTarget}

@@ -3,7 +3,7 @@ use Rattle.std.proofs.lemmas.List.{length_push}
 use Rattle.cell_nets.specs.Wires.{wires_of}
 use Rattle.commit_net.specs.Choosing.{all_read}
 use Rattle.commit_net.specs.Wiring.{key_operands, ShowWords}
-use Rattle.hazard_core.specs.Held.{asked_key}
+use Rattle.array_net.specs.hazard_core.Held.{asked_key}
 use Rattle.cell_core.specs.Sites.{site_at}
 use Rattle.commit_net.proofs.WordLemmas.{stands_as}
 use Rattle.commit_net.proofs.GatherLemmas.{Keys, keys_none, keys_next}

@@ -1,7 +1,7 @@
 use Rattle.std.proofs.Common.{◌≡◌, ℕ, List, length}
 use Rattle.cell_core.specs.Sites.{ProgramView}
-use Rattle.hazard_core.specs.Held.{Held}
-use Rattle.hazard_core.specs.Tables.{TableState}
+use Rattle.array_net.specs.hazard_core.Held.{Held}
+use Rattle.array_net.specs.hazard_core.Tables.{TableState}
 use Rattle.cell_nets.specs.Wires.{wires_of}
 use Rattle.commit_net.proofs.GatherLemmas.{Keys}
 use Rattle.commit_net.proofs.whole.key_nets.Given as goal

@@ -1,8 +1,8 @@
 use Rattle.std.proofs.Common.{◌∙◌, ◌++◌, length, sym, ap, subst, arith}
 use Rattle.std.proofs.lemmas.List.{length_push}
 use Rattle.cell_core.specs.Sites.{site_at}
-use Rattle.hazard_core.specs.Held.{asked}
-use Rattle.hazard_core.specs.Overlay.{value_as}
+use Rattle.array_net.specs.hazard_core.Held.{asked}
+use Rattle.array_net.specs.hazard_core.Overlay.{value_as}
 use Rattle.array_net.specs.declared.words.WordNets.{WordNets}
 use Rattle.cell_nets.specs.Wires.{wires_of}
 use Rattle.commit_net.specs.Choosing.{changes_word}

@@ -3,9 +3,9 @@ use Rattle.std.proofs.lemmas.List.{length_push}
 use Rattle.std.proofs.lemmas.List.Elements.{All-nil}
 use Rattle.cell_core.specs.Sites.{site_at}
 use Rattle.cell_core.specs.Cells.{bits_from}
-use Rattle.hazard_core.specs.Held.{asked}
-use Rattle.hazard_core.specs.Overlay.{value_as}
-use Rattle.hazard_core.specs.Commits.{word_at}
+use Rattle.array_net.specs.hazard_core.Held.{asked}
+use Rattle.array_net.specs.hazard_core.Overlay.{value_as}
+use Rattle.array_net.specs.hazard_core.Commits.{word_at}
 use Rattle.array_net.specs.Words.{word_width}
 use Rattle.cell_nets.specs.declared.operand.Operand.TheVariants.{Net}
 use Rattle.cell_nets.specs.Operands.{IsOperand, IsAvailable}

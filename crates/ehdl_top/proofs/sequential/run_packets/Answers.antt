@@ -1,7 +1,7 @@
 use Rattle.std.proofs.Common.{rules, ◌≡◌, ◌∙◌, ◌+◌, ℕ, List, take, get_or, sym, subst}
 use Rattle.beat_core.specs.declared.answer.Answer.{Answer}
 use Rattle.beat_core.specs.declared.frame.Timed.{Timed}
-use Rattle.xdp_machine.specs.State.{Code}
+use Rattle.xdp_object.specs.xdp_machine.State.{Code}
 use Rattle.ehdl_build.specs.Compiled.{IsSequential}
 use Rattle.ehdl_top.specs.Results.{came_by}
 use Rattle.ehdl_top.specs.Steps.{packet_in, LeavesAs}

@@ -1,5 +1,5 @@
 use Rattle.std.proofs.Common.{◌≡◌, take}
-use Rattle.xdp_machine.specs.Program.{program_code}
+use Rattle.xdp_object.specs.xdp_machine.Program.{program_code}
 use Rattle.ehdl_build.specs.Compiled.{IsSequential}
 use Rattle.ehdl_top.specs.Results.{came_by}
 use Rattle.ehdl_top.proofs.sequential.run_packets.Given as goal

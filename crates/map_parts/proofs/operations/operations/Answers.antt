@@ -3,12 +3,12 @@ use Rattle.std.specs.declared.vec.Vec.{Vec}
 use Rattle.std.proofs.Common.{◌≡◌, ◌∙◌, ◌+◌, ◌<◌, rules, List, length, get_or, sym, ap, subst, arith}
 use Rattle.std.proofs.lemmas.List.{length-map, get_or_default}
 use Rattle.block_core.specs.declared.name.Name.{Name}
-use Rattle.cell_core.specs.Sites.{site_at}
-use Rattle.cell_core.specs.View.{site_of}
+use Rattle.cell_nets.specs.cell_core.Sites.{site_at}
+use Rattle.cell_nets.specs.cell_core.View.{site_of}
 use Rattle.commit_net.specs.declared.choosing.CommitNets.{CommitNets}
 use Rattle.target_net.specs.declared.targets.Target.{Target}
 use Rattle.pipe_net.specs.declared.parts.Part.{Part}
-use Rattle.turn_net.specs.Turns.{record_sites}
+use Rattle.pipe_net.specs.turn_net.Turns.{record_sites}
 use Rattle.pipe_draft.specs.Draft.{program_in}
 use Rattle.map_parts.proofs.Taking.{number_is, number_known, number_on, number_off, room, HaveTaken, taken_more, taken_same, taken_all}
 use Rattle.map_parts.proofs.operations.operations.Goals as goal

@@ -2,7 +2,7 @@ use Rattle.std.proofs.Common.{arith}
 use Rattle.held_cells.specs.Held.{pointed}
 use Rattle.held_cells.specs.Rows.{held_row}
 use Rattle.node_cells.proofs.Leaving.{two_leave, undecided_leaving}
-use Rattle.operator_cells.proofs.MakingLaws.{grown}
+use Rattle.held_cells.proofs.operator_cells.MakingLaws.{grown}
 use Rattle.node_cells.proofs.Pushing.{two_pushed, both_steps}
 use Rattle.node_cells.proofs.Holding.{both_points}
 use Rattle.node_cells.proofs.jumping.step_both.Goals as goal

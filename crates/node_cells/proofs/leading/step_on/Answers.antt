@@ -2,7 +2,7 @@ use Rattle.std.proofs.Common.{◌≡◌, false, [], arith, refl}
 use Rattle.std.proofs.lemmas.List.Elements.{All-nil, All-cons}
 use Rattle.kind_core.specs.Edges.{transferred}
 use Rattle.held_cells.specs.declared.way.Way.{Way}
-use Rattle.operator_cells.proofs.RisingLaws.{rises_none}
+use Rattle.held_cells.proofs.operator_cells.RisingLaws.{rises_none}
 use Rattle.node_cells.proofs.Leaving.{one_leaves}
 use Rattle.node_cells.proofs.Pushing.{on_steps}
 use Rattle.node_cells.proofs.leading.step_on.Goals as goal

@@ -1,11 +1,21 @@
-use Rattle.std.proofs.Common.{◌∷◌, [], arith}
+use Rattle.std.proofs.Common.{◌∷◌, [], refl, sym, subst, arith}
 use Rattle.net_core.specs.View.{tree_of}
-use Rattle.cell_core.specs.Cells.{bits_from}
+use Rattle.cell_nets.specs.cell_core.Cells.{bits_from}
+use Rattle.cell_nets.specs.declared.operand.Operand.TheVariants.{Net}
 use Rattle.cell_nets.specs.Operands.{number_in}
+use Rattle.cell_nets.specs.Wires.{wires_of, always, Gives}
+use Rattle.cell_nets.proofs.GiveLemmas.{whole_gives}
 use Rattle.cell_nets.proofs.PartLemmas.{part_computes}
 use Rattle.cell_nets.proofs.NarrowLemmas.{bits_small}
 use Rattle.cell_nets.proofs.WireLemmas.{wire_gives}
 use Rattle.operand_blocks.proofs.wiring.named.Goals as goal
+
+pub returns-in-Some : goal.returns-in-Some
+returns-in-Some g c =
+    let w = c.args.width in
+    let n = c.in-Some.net in
+    let ws = wires_of c.args.wires.now.items in
+    subst (λ a. Gives c.args.part ws ws (a ∷ []) always (λ v. bits_from (number_in v a) 0 w) w (Net n w)) (sym (c.whole_net.ensures n c.in-Some.is)) (whole_gives c.args.part ws n w 0 w c.requires.width refl refl)
 
 pub returns : goal.returns
 returns g c =

@@ -3,8 +3,8 @@ use Rattle.std.specs.Prelude.{not}
 use Rattle.std.proofs.Common.{◌∙◌, ◌^◌, ◌<◌, [], ◌∷◌, ap, sym, arith}
 use Rattle.std.proofs.Math.Pow.{pow_mono}
 use Rattle.cell_core.specs.Cells.{on, bits_from}
-use Rattle.hazard_core.specs.Held.{is_null}
-use Rattle.hazard_core.specs.Overlay.{key_pointer, delete_answer, answer_over}
+use Rattle.site_operands.specs.hazard_core.Held.{is_null}
+use Rattle.site_operands.specs.hazard_core.Overlay.{key_pointer, delete_answer, answer_over}
 use Rattle.cell_nets.specs.declared.operand.Operand.TheVariants.{Known}
 use Rattle.cell_nets.specs.Operands.{number_in}
 use Rattle.cell_nets.specs.Wires.{wires_of}

@@ -1,8 +1,8 @@
 use Rattle.std.specs.Prelude.{nat_le, count_by}
 use Rattle.std.proofs.Common.{◌∙◌, ◌+◌, [], ◌∷◌, ap, arith}
 use Rattle.cell_core.specs.Cells.{bit}
-use Rattle.hazard_core.specs.Tables.{table_at, used_count}
-use Rattle.hazard_core.specs.Held.{adds_key, takes_key}
+use Rattle.site_operands.specs.hazard_core.Tables.{table_at, used_count}
+use Rattle.site_operands.specs.hazard_core.Held.{adds_key, takes_key}
 use Rattle.cell_nets.specs.declared.operand.Operand.TheVariants.{Known}
 use Rattle.cell_nets.specs.Operands.{number_in, IsAvailable}
 use Rattle.cell_nets.specs.Wires.{wires_of}

@@ -2,7 +2,7 @@ use Rattle.std.specs.Prelude.{count_by}
 use Rattle.std.proofs.Common.{◌≡◌, ◌+◌, [], ◌∷◌, ap, arith}
 use Rattle.std.proofs.lemmas.List.{take_all}
 use Rattle.cell_core.specs.Cells.{bit, bits_from}
-use Rattle.hazard_core.specs.Held.{adds_key, writes}
+use Rattle.site_operands.specs.hazard_core.Held.{adds_key, writes}
 use Rattle.cell_nets.specs.Operands.{number_in, IsOperand, IsAvailable}
 use Rattle.site_operands.specs.Sites.{operands_of, all_of, ShowsSite}
 use Rattle.cell_nets.specs.Wires.{wires_of}

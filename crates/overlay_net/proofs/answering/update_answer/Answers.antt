@@ -5,9 +5,9 @@ use Rattle.xdp_maps.specs.Calls.{hash_refusal, array_refusal, number_of}
 use Rattle.xdp_maps.specs.Contents.{index_of}
 use Rattle.cell_core.specs.Cells.{on, bits_from}
 use Rattle.cell_core.specs.Sites.{site_at, bytes_of}
-use Rattle.hazard_core.specs.Tables.{table_at, used_count}
-use Rattle.hazard_core.specs.Held.{is_null, held_value, adds_key, takes_key}
-use Rattle.hazard_core.specs.Overlay.{key_pointer, update_answer, answer_over}
+use Rattle.site_operands.specs.hazard_core.Tables.{table_at, used_count}
+use Rattle.site_operands.specs.hazard_core.Held.{is_null, held_value, adds_key, takes_key}
+use Rattle.site_operands.specs.hazard_core.Overlay.{key_pointer, update_answer, answer_over}
 use Rattle.cell_nets.specs.Operands.{number_in, IsOperand, IsAvailable}
 use Rattle.cell_nets.specs.Wires.{wires_of}
 use Rattle.site_operands.specs.Sites.{operands_of, all_of}

@@ -3,7 +3,7 @@ use Rattle.std.proofs.Common.{All, ◌∙◌, subst, sym, ◌^◌, map as map_li
 use Rattle.std.proofs.lemmas.Nat.{pow_pos}
 use Rattle.cell_core.specs.Cells.{bit, on, bits_from}
 use Rattle.cell_core.specs.Sites.{site_at}
-use Rattle.hazard_core.specs.Held.{held_value}
+use Rattle.site_operands.specs.hazard_core.Held.{held_value}
 use Rattle.cell_nets.specs.declared.operand.Operand.TheVariants.{Known}
 use Rattle.cell_nets.specs.Operands.{number_in, IsOperand, IsAvailable}
 use Rattle.cell_nets.specs.Wires.{wires_of}

@@ -3,9 +3,9 @@ use Rattle.std.proofs.Common.{◌∙◌, ◌∷◌, ◌++◌, All, length, sym, 
 use Rattle.std.proofs.lemmas.List.{take_all}
 use Rattle.xdp_maps.specs.declared.decl.MapDecl.{MapDecl}
 use Rattle.cell_core.specs.Sites.{site_at}
-use Rattle.hazard_core.specs.Tables.{table_at}
-use Rattle.hazard_core.specs.Held.{asked_key, slot_pointer}
-use Rattle.hazard_core.specs.Overlay.{found_over, key_pointer}
+use Rattle.site_operands.specs.hazard_core.Tables.{table_at}
+use Rattle.site_operands.specs.hazard_core.Held.{asked_key, slot_pointer}
+use Rattle.site_operands.specs.hazard_core.Overlay.{found_over, key_pointer}
 use Rattle.cell_nets.specs.Operands.{IsOperand}
 use Rattle.site_operands.specs.Pointers.{pointer_number}
 use Rattle.site_operands.specs.Sites.{operands_of, all_of}

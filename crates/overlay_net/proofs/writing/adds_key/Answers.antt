@@ -1,6 +1,6 @@
 use Rattle.std.proofs.Common.{[], ◌∷◌, arith}
 use Rattle.cell_core.specs.Cells.{bit}
-use Rattle.hazard_core.specs.Held.{adds_key}
+use Rattle.site_operands.specs.hazard_core.Held.{adds_key}
 use Rattle.cell_nets.specs.Operands.{number_in, IsAvailable}
 use Rattle.cell_nets.specs.Wires.{wires_of}
 use Rattle.site_operands.specs.Sites.{operands_of, all_of}

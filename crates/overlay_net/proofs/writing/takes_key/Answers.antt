@@ -1,6 +1,6 @@
 use Rattle.std.proofs.Common.{[], ◌∷◌, arith}
 use Rattle.cell_core.specs.Cells.{bit}
-use Rattle.hazard_core.specs.Held.{takes_key}
+use Rattle.site_operands.specs.hazard_core.Held.{takes_key}
 use Rattle.cell_nets.specs.Operands.{number_in}
 use Rattle.cell_nets.specs.Wires.{wires_of}
 use Rattle.step_nets.proofs.ChainLaws.{starts, last, ends}

@@ -2,7 +2,7 @@ use Rattle.std.specs.Prelude.{not}
 use Rattle.std.proofs.Common.{true, false, ◌∙◌, [], ◌∷◌, ap, arith}
 use Rattle.cell_core.specs.declared.site.Act.TheVariants as act
 use Rattle.cell_core.specs.Cells.{bit, on}
-use Rattle.hazard_core.specs.Held.{writes, writes_as}
+use Rattle.site_operands.specs.hazard_core.Held.{writes, writes_as}
 use Rattle.cell_nets.specs.Operands.{number_in, IsAvailable}
 use Rattle.cell_nets.specs.Wires.{wires_of}
 use Rattle.site_operands.specs.Sites.{operands_of, all_of}

@@ -2,7 +2,7 @@ use Rattle.std.specs.Prelude.{if◌then◌else◌}
 use Rattle.std.proofs.Common.{◌^◌, ◌∙◌, ◌+◌, ◌*◌, [], ◌∷◌, ap, sym, arith}
 use Rattle.cell_core.specs.declared.site.Act.TheVariants as act
 use Rattle.cell_core.specs.Cells.{on}
-use Rattle.hazard_core.specs.Held.{written_as, written_pointer}
+use Rattle.site_operands.specs.hazard_core.Held.{written_as, written_pointer}
 use Rattle.cell_nets.specs.declared.operand.Operand.TheVariants.{Known}
 use Rattle.cell_nets.specs.Operands.{number_in, IsAvailable}
 use Rattle.cell_nets.specs.Wires.{wires_of}

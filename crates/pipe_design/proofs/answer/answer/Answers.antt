@@ -1,6 +1,6 @@
 use Rattle.std.proofs.Common.{◌≡◌, All, sym, subst}
 use Rattle.cell_nets.specs.Operands.{IsOperand}
-use Rattle.row_net.specs.Table.{IsIn}
+use Rattle.site_table.specs.row_net.Table.{IsIn}
 use Rattle.place_net.specs.Exit.{output_operands}
 use Rattle.pipe_draft.specs.Draft.{program_in, plan_in}
 use Rattle.pipe_design.specs.Answer.{AreOutputs}

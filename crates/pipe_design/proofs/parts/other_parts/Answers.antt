@@ -1,7 +1,7 @@
 use Rattle.std.specs.List.{AllByRecursion}
 use Rattle.std.proofs.Common.{◌≡◌, ◌∙◌, ◌≤◌, List, length, get_or, refl, sym, ap, subst, arith}
 use Rattle.std.proofs.lemmas.List.{get_or_default}
-use Rattle.frame_net.specs.Gather.{IsKept}
+use Rattle.scatter_net.specs.frame_net.Gather.{IsKept}
 use Rattle.pipe_net.specs.declared.parts.Sizes.{Sizes}
 use Rattle.pipe_draft.specs.declared.places.Behind.{Behind}
 use Rattle.pipe_draft.specs.Draft.{program_in, plan_in}

@@ -2,8 +2,8 @@ use Rattle.std.proofs.Common.{◌≡◌, ◌∙◌, ◌<◌, All, List, length, 
 use Rattle.std.proofs.lemmas.List.{length-map}
 use Rattle.cell_core.specs.Cells.{CellView}
 use Rattle.cell_core.specs.View.{cell_of}
-use Rattle.place_net.specs.Place.{width_at}
-use Rattle.site_place.specs.Pointing.{IsPointers}
+use Rattle.site_table.specs.place_net.Place.{width_at}
+use Rattle.site_table.specs.site_place.Pointing.{IsPointers}
 use Rattle.site_table.specs.Lists.{held_cells, held_pointers}
 use Rattle.site_table.specs.Staged.{AreLists}
 use Rattle.site_table.specs.Pointing.{plain_of}

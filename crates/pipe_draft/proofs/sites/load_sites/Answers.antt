@@ -1,7 +1,7 @@
 use Rattle.std.proofs.Common.{rules, ◌∙◌, ℕ, Bool, sym}
 use Rattle.cell_core.specs.Sites.{site_at}
 use Rattle.cell_core.specs.View.{program_of}
-use Rattle.value_net.specs.Words.{answers_number}
+use Rattle.map_block.specs.value_net.Words.{answers_number}
 use Rattle.pipe_draft.proofs.Listing.{kept_more, kept_same}
 use Rattle.pipe_draft.proofs.sites.load_sites.Goals as goal
 use Rattle.pipe_draft.proofs.sites.load_sites.Goals.{then-is_load+in_ok-push, else-is_load}

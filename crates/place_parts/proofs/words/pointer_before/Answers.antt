@@ -1,5 +1,5 @@
 use Rattle.std.proofs.Common.{◌≡◌, ◌∙◌, ℕ, suc, ◌-◌, ◌<◌, ◌≤◌, length, get_or, ap, arith}
-use Rattle.site_operands.specs.declared.SiteNets.{SiteNets}
+use Rattle.site_table.specs.site_operands.declared.SiteNets.{SiteNets}
 use Rattle.block_core.specs.declared.name.Name.{Name}
 use Rattle.pipe_net.specs.declared.parts.Part.{Part}
 use Rattle.pipe_draft.specs.declared.places.Behind.{Behind}

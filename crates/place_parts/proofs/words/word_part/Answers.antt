@@ -2,7 +2,7 @@ use Rattle.std.proofs.Common.{◌∙◌, ap, arith}
 use Rattle.std.proofs.lemmas.List.{length-map}
 use Rattle.cell_core.specs.View.{site_of}
 use Rattle.cell_nets.specs.Wires.{wires_of}
-use Rattle.value_net.specs.Words.{answers_number}
+use Rattle.change_net.specs.value_net.Words.{answers_number}
 use Rattle.place_parts.proofs.WordParts.{number_low, number_answers, word_inside, slot_operand, made_word}
 use Rattle.place_parts.proofs.words.word_part.Goals as goal
 

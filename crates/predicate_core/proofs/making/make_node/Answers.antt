@@ -14,9 +14,9 @@ use Rattle.operator_cells.specs.Making.{seen}
 use Rattle.held_cells.specs.Paths.{NodeView, node_at}
 use Rattle.held_cells.specs.Held.{pointed, AreInside}
 use Rattle.held_cells.specs.Steps.{Steps}
-use Rattle.node_cells.specs.Ends.{IsNode, is_reference, brought, all_brought}
-use Rattle.node_cells.specs.Feeding.{Leave}
-use Rattle.site_cells.specs.Sited.{sited}
+use Rattle.program_graph.specs.node_cells.Ends.{IsNode, is_reference, brought, all_brought}
+use Rattle.program_graph.specs.node_cells.Feeding.{Leave}
+use Rattle.step_cells.specs.site_cells.Sited.{sited}
 use Rattle.step_cells.specs.Stepping.{made_of}
 use Rattle.step_cells.specs.Rows.{NodeRows}
 use Rattle.step_cells.specs.Pointing.{NodePoints}

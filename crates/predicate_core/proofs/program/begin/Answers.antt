@@ -4,7 +4,7 @@ use Rattle.cell_core.specs.Cells.{CellView}
 use Rattle.operator_cells.specs.Making.{seen}
 use Rattle.held_cells.specs.declared.way.Way.{Way}
 use Rattle.held_cells.specs.Held.{pointed}
-use Rattle.site_cells.specs.Sited.{sited}
+use Rattle.step_cells.specs.site_cells.Sited.{sited}
 use Rattle.program_graph.specs.Graphs.{node_view, graph_of}
 use Rattle.program_graph.specs.Sound.{IsSoundGraph}
 use Rattle.predicate_core.specs.Opening.{Opens}

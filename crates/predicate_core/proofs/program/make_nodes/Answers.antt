@@ -3,7 +3,7 @@ use Rattle.std.specs.Prelude.{Option, None, slice_index_or}
 use Rattle.std.proofs.lemmas.List.{length-map}
 use Rattle.bpf_isa.specs.declared.instruction.Insn.{Insn}
 use Rattle.held_cells.specs.Paths.{NodeView, node_at}
-use Rattle.node_cells.specs.Ends.{HasEnds}
+use Rattle.program_graph.specs.node_cells.Ends.{HasEnds}
 use Rattle.program_graph.specs.declared.edge_ends.NodeEnds.{NodeEnds}
 use Rattle.program_graph.specs.Graphs.{node_view, graph_of}
 use Rattle.program_graph.specs.Nodes.{HasInsn}

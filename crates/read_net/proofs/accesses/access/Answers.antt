@@ -1,8 +1,8 @@
 use Rattle.std.proofs.Common.{◌/◌, ◌∷◌, ◌++◌, All, sym, ap, subst, arith}
 use Rattle.cell_core.specs.Cells.{bits_from}
 use Rattle.cell_core.specs.Sites.{site_at}
-use Rattle.hazard_core.specs.Held.{access_pointer}
-use Rattle.hazard_core.specs.Overlay.{answer_over}
+use Rattle.site_operands.specs.hazard_core.Held.{access_pointer}
+use Rattle.site_operands.specs.hazard_core.Overlay.{answer_over}
 use Rattle.cell_nets.specs.Operands.{IsAvailable}
 use Rattle.cell_nets.specs.Wires.{wires_of}
 use Rattle.overlay_net.specs.Seen.{all_read}

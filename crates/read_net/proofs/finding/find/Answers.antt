@@ -1,7 +1,7 @@
 use Rattle.std.proofs.Common.{◌∷◌, ◌++◌, All, sym, subst, arith}
 use Rattle.std.proofs.lemmas.List.Elements.{All-append}
 use Rattle.cell_core.specs.Sites.{site_at}
-use Rattle.hazard_core.specs.Overlay.{key_pointer}
+use Rattle.site_operands.specs.hazard_core.Overlay.{key_pointer}
 use Rattle.cell_nets.specs.Operands.{IsAvailable}
 use Rattle.cell_nets.specs.Wires.{wires_of, Gives}
 use Rattle.site_operands.specs.Pointers.{pointer_number}
@@ -10,7 +10,7 @@ use Rattle.overlay_net.specs.Reading.{ShowsSlot}
 use Rattle.overlay_net.specs.Seen.{all_read, IsSeen, AreOf, ShowPending}
 use Rattle.step_nets.proofs.ChainLaws.{starts, next}
 use Rattle.step_nets.proofs.StepLaws.{narrow_bits}
-use Rattle.read_net.specs.Reads.{Shows, Finds}
+use Rattle.read_net.specs.Reads.{ShowsBoth, Finds}
 use Rattle.read_net.specs.Sites.{cells_of, all_cells, slot_cells, sites_of}
 use Rattle.read_net.proofs.StandLemmas.{left_of, right_of, first_of, tail_of, stands_as, stands_then}
 use Rattle.read_net.proofs.PendingLemmas.{are_of}
@@ -20,7 +20,7 @@ pub key_pointer-requires-clause-pending : goal.key_pointer-requires-clause-pendi
 key_pointer-requires-clause-pending g c = subst (All (IsSeen c.args.map.now.decl.now.key c.args.map.now.bits)) (sym c.deref.ensures.value) c.in_ok-pending.ensures.seen
 
 pub key_pointer-requires-clause-slot_narrow : goal.key_pointer-requires-clause-slot_narrow
-key_pointer-requires-clause-slot_narrow g c = narrow_bits c.args.map.now.bits c.in_ok-slot.slot c.in_ok-slot.ensures.bits
+key_pointer-requires-clause-slot_narrow g c = narrow_bits c.args.map.now.bits c.args.slot c.requires.bits
 
 pub found_pointer-requires-clause-key_narrow : goal.found_pointer-requires-clause-key_narrow
 found_pointer-requires-clause-key_narrow g c = narrow_bits c.args.map.now.bits c.in_ok-key.key c.in_ok-key.ensures.bits
@@ -32,7 +32,7 @@ returns-clause-stands g c = λ p t h does earlier of.
     let ss = c.args.earlier.now in
     let map = c.args.map.now in
     let bits = map.bits in
-    let slot = c.in_ok-slot.slot in
+    let slot = c.args.slot in
     let ds = c.in_ok-pending.pending.items in
     let key = c.in_ok-key.key in
     let found = c.in_ok-found.found in
@@ -45,12 +45,7 @@ returns-clause-stands g c = λ p t h does earlier of.
     let over =
     subst (λ l. Gives c.args.part (wires_of c.pendings.new.wires.items) (wires_of c.key_pointer.new.wires.items) (slot ∷ cells ++ all_read l) (λ v. ShowsAsked v p h j (operands_of site.nets.now) × ShowsSlot v p t h j slot × ShowPending v p t h before l) (λ v. pointer_number (key_pointer p t h before j)) bits key) e
     (c.in_ok-key.ensures.given p t h before j of.decl (subst (AreOf p (site_at p.sites j).map before) (sym e) areof)) in
-    let first =
-    next (starts c.args.part (wires_of c.args.wires.now.items) args (λ v. Shows v p t h map site ss)) (c.in_ok-slot.ensures.gives p t h j of)
-    (λ ins a.
-    let Q = IsAvailable ins in
-    All-append Q cells (slot_cells map) (left_of Q cells others a) (right_of Q (all_cells ss) (slot_cells map) (right_of Q cells others a)))
-    (λ v f k. (k.asked, k.table)) in
+    let first = starts c.args.part (wires_of c.args.wires.now.items) (slot ∷ args) (λ v. ShowsBoth v p t h map site ss slot) in
     let second = stands_then first (c.in_ok-pending.ensures.stands p t h (site_at p.sites j).map earlier of) (λ ins a. right_of (IsAvailable ins) cells others (tail_of (IsAvailable ins) slot args a)) (λ v k. (k.0.earlier, k.0.table)) in
     let third =
     next second over

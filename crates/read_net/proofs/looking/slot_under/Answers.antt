@@ -1,8 +1,8 @@
 use Rattle.std.proofs.Common.{◌∙◌, [], ◌∷◌, ◌++◌, All, refl, sym, ap, subst, arith, map as map_list}
 use Rattle.std.proofs.lemmas.List.Elements.{All-append}
 use Rattle.cell_core.specs.Sites.{site_at, bytes_of}
-use Rattle.hazard_core.specs.Held.{asked_key, slot_pointer}
-use Rattle.hazard_core.specs.Tables.{table_at}
+use Rattle.site_operands.specs.hazard_core.Held.{asked_key, slot_pointer}
+use Rattle.site_operands.specs.hazard_core.Tables.{table_at}
 use Rattle.cell_nets.specs.Operands.{number_in, IsOperand, IsAvailable}
 use Rattle.cell_nets.specs.Wires.{wires_of}
 use Rattle.site_operands.specs.Pointers.{pointer_number}

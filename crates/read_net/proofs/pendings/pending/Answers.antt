@@ -1,5 +1,5 @@
 use Rattle.std.proofs.Common.{◌∙◌, ◌∷◌, ◌++◌, ap, arith}
-use Rattle.hazard_core.specs.Tables.{decl_of}
+use Rattle.site_operands.specs.hazard_core.Tables.{decl_of}
 use Rattle.cell_nets.specs.Operands.{IsOperand, IsAvailable}
 use Rattle.cell_nets.specs.Wires.{wires_of}
 use Rattle.overlay_net.specs.Reading.{IsSite}

@@ -2,7 +2,7 @@ use Rattle.std.proofs.Common.{◌∙◌, ◌∷◌, ◌++◌, All, length, sym, 
 use Rattle.std.proofs.lemmas.List.Elements.{All-append}
 use Rattle.cell_core.specs.declared.site.Act.TheVariants as does
 use Rattle.cell_core.specs.Sites.{site_at}
-use Rattle.hazard_core.specs.Tables.{table_at}
+use Rattle.site_operands.specs.hazard_core.Tables.{table_at}
 use Rattle.cell_nets.specs.Operands.{IsAvailable}
 use Rattle.cell_nets.specs.Wires.{wires_of}
 use Rattle.overlay_net.specs.Reading.{IsSite}
@@ -42,7 +42,7 @@ returns-clause-reads g c = λ p t h row r packet cell is.
     let e = c.deref.ensures.value in
     let all = own_of p t row r map site ss is in
     let at : IsSite p t.decls site.site does.Update map.decl.now = record { act = is.act ∙ c.requires.act; decl = is.map.decl } in
-    reads_found c.args.part (wires_of c.args.wires.now.items) (wires_of c.find.new.wires.items) map site ss p t h row r packet cell is own c.in_ok-own.ensures.operands (c.in_ok-own.ensures.stands p t h is.act all is.map) _ _
+    reads_found c.args.part (wires_of c.args.wires.now.items) (wires_of c.find.new.wires.items) map site ss p t h row r packet cell is c.args.slot own c.in_ok-own.ensures.operands (c.in_ok-own.ensures.stands p t h is.act all is.map) _ _
     (own.key ∷ used ∷ cells ++ all_read c.deref.result.now) _ c.args.from c.args.width c.in_ok-there.there c.in_ok-answer.answer c.in_ok-there.ensures
     (c.in_ok-answer.ensures.given p t h before site.site at (subst (AreOf p k before) (sym e) (are_of p k ss ds all c.in_ok-own.ensures.operands.of)))
     (λ ins a.

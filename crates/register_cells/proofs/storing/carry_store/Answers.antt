@@ -1,6 +1,6 @@
 use Rattle.std.proofs.Common.{OnOk, ap}
 use Rattle.bpf_isa.specs.declared.operation.Src.TheVariants.{K, X}
-use Rattle.xdp_machine.specs.Step as step
+use Rattle.xdp_state.specs.xdp_machine.Step as step
 use Rattle.kind_core.specs.Effects.{effect_as}
 use Rattle.held_cells.specs.Pointing.{KeepPointers}
 use Rattle.register_cells.proofs.Stores.{store_passed, store_carried}

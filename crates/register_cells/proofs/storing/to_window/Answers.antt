@@ -1,5 +1,5 @@
 use Rattle.std.proofs.Common.{◌∙◌, ap, List, ℕ}
-use Rattle.xdp_maps.specs.Calls.{patched}
+use Rattle.xdp_state.specs.xdp_maps.Calls.{patched}
 use Rattle.operator_cells.proofs.RisingLaws.{stand_none, stand_more}
 use Rattle.held_cells.specs.declared.held.Held.{Held}
 use Rattle.held_cells.specs.Held.{number_of}

@@ -6,7 +6,7 @@ use Rattle.kind_core.specs.Effects.{effect_as}
 use Rattle.cell_core.specs.declared.site.Act.TheVariants as act
 use Rattle.held_cells.specs.Held.{pointed}
 use Rattle.site_cells.proofs.Entries.{entry_index, entry_seen, place_aligned}
-use Rattle.xdp_machine.proofs.NumberLaws.{word_of, imm_fits}
+use Rattle.xdp_state.proofs.xdp_machine.NumberLaws.{word_of, imm_fits}
 use Rattle.site_cells.proofs.Stores.{imm_made}
 use Rattle.site_cells.proofs.Allowed.{store_allowed}
 use Rattle.site_cells.proofs.Points.{entry_used, nothing_keeps, access_points}

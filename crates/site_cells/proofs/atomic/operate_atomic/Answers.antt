@@ -2,7 +2,7 @@ use Rattle.std.proofs.Common.{false, ◌∙◌, ◌*◌, ◌++◌, ◌∷◌, []
 use Rattle.std.specs.Int.{w16}
 use Rattle.bpf_isa.specs.Rules.{IsSized}
 use Rattle.kind_core.specs.Kinds.{value_bytes}
-use Rattle.xdp_machine.specs.Memory.{bytes_in, aligned}
+use Rattle.xdp_state.specs.xdp_machine.Memory.{bytes_in, aligned}
 use Rattle.cell_core.specs.declared.site.Act.TheVariants as act
 use Rattle.operator_cells.specs.Making.{seen}
 use Rattle.operator_cells.proofs.MakingLaws.{grown_none, reads_none}

@@ -9,11 +9,11 @@ use Rattle.site_cells.proofs.WordRows.{unknown_row}
 use Rattle.site_cells.proofs.words.number_byte.Goals as goal
 
 pub returns-in_ok-c-in-Known-clause-makes : goal.returns-in_ok-c-in-Known-clause-makes
-returns-in_ok-c-in-Known-clause-makes c = subst (λ (x : Number). Makes (seen c.args.cells.now.items) (seen c.constant.new.cells.items) c.in_ok-c-in-Known.c (λ packet v. slice_index (little_bytes 8 (number_of v x c.args.held)) c.args.at)) (sym c.in-Known.is)
+returns-in_ok-c-in-Known-clause-makes c = subst (λ (x : Number). Makes (seen c.args.cells.now.items) (seen c.shared_constant.new.cells.items) c.in_ok-c-in-Known.c (λ packet v. slice_index (little_bytes 8 (number_of v x c.args.held)) c.args.at)) (sym c.in-Known.is)
     (byte_known _ _ _ _ _ _ c.requires.inside refl c.in_ok-c-in-Known.ensures.makes)
 
 pub returns-in_ok-c-in-Unknown-clause-makes : goal.returns-in_ok-c-in-Unknown-clause-makes
-returns-in_ok-c-in-Unknown-clause-makes c = subst (λ (x : Number). Makes (seen c.args.cells.now.items) (seen c.slice.new.cells.items) c.in_ok-c-in-Unknown.c (λ packet v. slice_index (little_bytes 8 (number_of v x c.args.held)) c.args.at)) (sym c.in-Unknown.is)
+returns-in_ok-c-in-Unknown-clause-makes c = subst (λ (x : Number). Makes (seen c.args.cells.now.items) (seen c.shared_slice.new.cells.items) c.in_ok-c-in-Unknown.c (λ packet v. slice_index (little_bytes 8 (number_of v x c.args.held)) c.args.at)) (sym c.in-Unknown.is)
     (byte_unknown _ _ _ _ _ c.requires.inside c.in_ok-c-in-Unknown.ensures.makes)
 
 pub returns-in_ok-c-in-Known-clause-rises : goal.returns-in_ok-c-in-Known-clause-rises

@@ -3,8 +3,8 @@ use Rattle.kind_core.specs.declared.kind.Kind.{Kind}
 use Rattle.kind_core.specs.Tests.{passed}
 use Rattle.kind_core.specs.Calls.{region}
 use Rattle.operator_cells.specs.Making.{seen}
-use Rattle.place_rows.specs.Spans.{span_row}
-use Rattle.place_rows.specs.Spans as places
+use Rattle.held_cells.specs.place_rows.Spans.{span_row}
+use Rattle.held_cells.specs.place_rows.Spans as places
 use Rattle.held_cells.specs.Rows.{held_row}
 use Rattle.held_cells.proofs.RowLaws.{rise_by}
 use Rattle.site_cells.specs.Words.{HoldsRegion}

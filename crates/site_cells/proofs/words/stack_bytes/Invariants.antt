@@ -2,7 +2,7 @@ use Rattle.std.proofs.Common.{ℕ, List}
 use Rattle.xdp_maps.specs.declared.decl.MapDecl.{MapDecl}
 use Rattle.operator_cells.specs.Making.{seen}
 use Rattle.operator_cells.specs.Rising.{RiseAll}
-use Rattle.place_rows.specs.Spans.{slots_of, span_row}
+use Rattle.held_cells.specs.place_rows.Spans.{slots_of, span_row}
 use Rattle.held_cells.specs.Held.{PointerView}
 use Rattle.held_cells.specs.Rows.{held_row}
 use Rattle.site_cells.specs.Words.{HoldsBytes}

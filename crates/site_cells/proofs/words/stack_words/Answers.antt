@@ -7,7 +7,7 @@ use Rattle.kind_core.specs.Tests.{passed}
 use Rattle.kind_core.specs.Calls.{region}
 use Rattle.operator_cells.specs.Rising.{RiseAll}
 use Rattle.cell_core.specs.Rows.{greatest}
-use Rattle.place_rows.specs.Spans.{span_row}
+use Rattle.held_cells.specs.place_rows.Spans.{span_row}
 use Rattle.held_cells.specs.Rows.{held_row}
 use Rattle.held_cells.proofs.RowLaws.{rise_by}
 use Rattle.site_cells.specs.Words.{JoinsWords, HoldsRegion}

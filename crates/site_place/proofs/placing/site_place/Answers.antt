@@ -1,8 +1,8 @@
 use Rattle.std.proofs.Common.{◌≡◌, ◌<◌, ◌++◌, All, true, [], length, refl, sym, ap, ap₂, ◌∙◌, subst, map as map_list}
-use Rattle.product_rules.specs.Products.{statement_flat}
+use Rattle.cell_nets.specs.product_rules.Products.{statement_flat}
 use Rattle.cell_core.specs.View.{cell_of}
 use Rattle.cell_nets.specs.Wires.{wires_of}
-use Rattle.frame_net.proofs.FormLaws.{same_block}
+use Rattle.place_net.proofs.frame_net.FormLaws.{same_block}
 use Rattle.row_net.proofs.ApartLemmas.{alone}
 use Rattle.site_place.specs.Pointing.{ArePointed}
 use Rattle.site_place.specs.PointerNets.{IsPointerRow}

@@ -1,10 +1,10 @@
 use Rattle.std.proofs.Common.{◌≡◌, ◌∙◌, get_or, length, sym, subst}
 use Rattle.std.proofs.lemmas.List.{length-map}
-use Rattle.hazard_core.specs.Tables.{free_slot}
+use Rattle.array_net.specs.hazard_core.Tables.{free_slot}
 use Rattle.cell_nets.specs.Wires.{wires_of}
 use Rattle.slot_net.specs.declared.choosing.Numbering.TheVariants.{Slots}
 use Rattle.slot_net.specs.Slots.{slot_operands, slots_of, operands_of, slot_past, ShowSlots}
-use Rattle.slot_net.specs.Choosing.{number_at, chosen, is_free}
+use Rattle.slot_net.specs.Choosing.{first_passed, is_used}
 use Rattle.slot_net.proofs.ChainLemmas.{first_gives}
 use Rattle.slot_net.proofs.UnderLemmas.{first_free}
 use Rattle.slot_net.proofs.finding.free_slot.Goals as goal
@@ -13,6 +13,6 @@ pub returns : goal.returns
 returns g c = λ table d.
     let ns = slots_of c.args.slots.now in
     let count = length c.in_ok-tests.tests.items in
-    first_gives c.args.part (wires_of c.args.wires.now.items) (wires_of c.first_of.new.wires.items) (operands_of ns) (λ v. ShowSlots v d table ns) (λ v. chosen (number_at Slots) (λ n. is_free v (get_or ns n slot_past)) (length c.args.slots.now) 0 count)
-    (λ v. free_slot table) c.args.bits c.in_ok-out.out (c.in_ok-out.ensures (operands_of ns) (λ n v. is_free v (get_or ns n slot_past)) c.in_ok-tests.ensures.tests)
-    (λ v h. subst (λ k. chosen (number_at Slots) (λ n. is_free v (get_or ns n slot_past)) k 0 count ≡ free_slot table) c.in_ok-tests.ensures.count (first_free v d table ns count (length-map c.args.slots.now slot_operands ∙ sym c.in_ok-tests.ensures.count) h))
+    first_gives c.args.part (wires_of c.args.wires.now.items) (wires_of c.first_of.new.wires.items) (operands_of ns) (λ v. ShowSlots v d table ns) (λ v. first_passed Slots (λ n. is_used v (get_or ns n slot_past)) (length c.args.slots.now) 0 count)
+    (λ v. free_slot table) c.args.bits c.in_ok-out.out (c.in_ok-out.ensures (operands_of ns) (λ n v. is_used v (get_or ns n slot_past)) c.in_ok-tests.ensures.tests)
+    (λ v h. subst (λ k. first_passed Slots (λ n. is_used v (get_or ns n slot_past)) k 0 count ≡ free_slot table) c.in_ok-tests.ensures.count (first_free v d table ns count (length-map c.args.slots.now slot_operands ∙ sym c.in_ok-tests.ensures.count) h))

@@ -1,7 +1,7 @@
 use Rattle.std.proofs.Common.{◌≡◌, false, ◌∙◌, sym, subst, arith}
 use Rattle.std.proofs.lemmas.List.{get_or_default}
 use Rattle.std.proofs.lemmas.List.Elements.{All-get_or}
-use Rattle.hazard_core.specs.Held.{slot_pointer}
+use Rattle.array_net.specs.hazard_core.Held.{slot_pointer}
 use Rattle.site_operands.specs.Pointers.{pointer_number}
 use Rattle.net_core.specs.Value.{Env}
 use Rattle.net_core.specs.View.{tree_of}

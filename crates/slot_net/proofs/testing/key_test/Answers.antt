@@ -1,8 +1,8 @@
 use Rattle.std.proofs.Common.{◌≡◌, ◌+◌, ◌<◌, length, refl, sym, subst, arith}
 use Rattle.std.proofs.lemmas.List.Elements.{All-head, All-tail, All-get_or}
 use Rattle.net_core.specs.View.{tree_of}
-use Rattle.cell_core.specs.Cells.{bit}
-use Rattle.hazard_core.specs.Commits.{word_count}
+use Rattle.cell_nets.specs.cell_core.Cells.{bit}
+use Rattle.array_net.specs.hazard_core.Commits.{word_count}
 use Rattle.cell_nets.specs.Operands.{IsOperand, IsAvailable}
 use Rattle.cell_nets.specs.Parts.{IsPart}
 use Rattle.cell_nets.proofs.PartLemmas.{part_of}

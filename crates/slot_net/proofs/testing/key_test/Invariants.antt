@@ -1,6 +1,6 @@
 use Rattle.std.proofs.Common.{All, List, ◌+◌}
 use Rattle.net_core.specs.View.{tree_of}
-use Rattle.cell_core.specs.Cells.{bit}
+use Rattle.cell_nets.specs.cell_core.Cells.{bit}
 use Rattle.cell_nets.specs.declared.operand.Operand.{Operand}
 use Rattle.cell_nets.specs.Operands.{IsAvailable}
 use Rattle.cell_nets.specs.Parts.{IsPart}

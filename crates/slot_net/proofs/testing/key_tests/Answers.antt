@@ -1,7 +1,7 @@
 use Rattle.std.proofs.Common.{[], ◌∷◌, ◌++◌, ◌∙◌, length, map, ap, arith}
 use Rattle.std.proofs.lemmas.List.{length-map, map-append, length-append}
 use Rattle.net_core.specs.View.{tree_of}
-use Rattle.hazard_core.specs.Commits.{word_count}
+use Rattle.array_net.specs.hazard_core.Commits.{word_count}
 use Rattle.cell_nets.specs.Operands.{IsAvailable}
 use Rattle.slot_net.specs.Slots.{slots_of, operands_of, IsSlot}
 use Rattle.slot_net.specs.Choosing.{is_under}

@@ -1,3 +1,5 @@
+use Rattle.std.proofs.Common.{ap}
+use Rattle.cell_core.specs.Acts.{finds_key}
 use Rattle.cell_core.specs.Cells.{no_cell}
 use Rattle.cell_nets.specs.Wires.{wires_of}
 use Rattle.stage_net.proofs.SiteLemmas.{no_packet, ok_both, key_reads}
@@ -5,12 +7,12 @@ use Rattle.stage_net.proofs.reading.site_reads.Goals as goal
 
 pub returns-in-Lookup : goal.returns-in-Lookup
 returns-in-Lookup g c = λ p t h row r is have entry.
-    ok_both _ _ _ c.lookup.result c.lookup.ensures.cells (c.lookup.ensures.reads p t h row r no_packet no_cell is) (key_reads c.args.part (wires_of c.args.wires.now.items) (wires_of c.lookup.new.wires.items) c.args.map.now c.args.site.now c.args.earlier.now c.args.word c.args.from c.args.width p t h row r no_packet)
+    ok_both _ _ _ c.lookup.result c.lookup.ensures.cells (c.lookup.ensures.reads p t h row r no_packet no_cell is) (λ o cells. key_reads c.args.part (wires_of c.args.wires.now.items) (wires_of c.lookup.new.wires.items) c.args.map.now c.args.site.now c.args.earlier.now c.args.slot c.args.word c.args.from c.args.width p t h row r no_packet o cells (ap finds_key c.in-Lookup.is))
 
 pub returns-in-Update : goal.returns-in-Update
 returns-in-Update g c = λ p t h row r is have entry.
-    ok_both _ _ _ c.update.result c.update.ensures.cells (c.update.ensures.reads p t h row r no_packet no_cell is) (key_reads c.args.part (wires_of c.args.wires.now.items) (wires_of c.update.new.wires.items) c.args.map.now c.args.site.now c.args.earlier.now c.args.word c.args.from c.args.width p t h row r no_packet)
+    ok_both _ _ _ c.update.result c.update.ensures.cells (c.update.ensures.reads p t h row r no_packet no_cell is) (λ o cells. key_reads c.args.part (wires_of c.args.wires.now.items) (wires_of c.update.new.wires.items) c.args.map.now c.args.site.now c.args.earlier.now c.args.slot c.args.word c.args.from c.args.width p t h row r no_packet o cells (ap finds_key c.in-Update.is))
 
 pub returns-in-Delete : goal.returns-in-Delete
 returns-in-Delete g c = λ p t h row r is have entry.
-    ok_both _ _ _ c.delete.result c.delete.ensures.cells (c.delete.ensures.reads p t h row r no_packet no_cell is) (key_reads c.args.part (wires_of c.args.wires.now.items) (wires_of c.delete.new.wires.items) c.args.map.now c.args.site.now c.args.earlier.now c.args.word c.args.from c.args.width p t h row r no_packet)
+    ok_both _ _ _ c.delete.result c.delete.ensures.cells (c.delete.ensures.reads p t h row r no_packet no_cell is) (λ o cells. key_reads c.args.part (wires_of c.args.wires.now.items) (wires_of c.delete.new.wires.items) c.args.map.now c.args.site.now c.args.earlier.now c.args.slot c.args.word c.args.from c.args.width p t h row r no_packet o cells (ap finds_key c.in-Delete.is))

@@ -1,32 +1,34 @@
-use Rattle.std.proofs.Common.{◌≡◌, ◌+◌, length, slice_index, subst, arith, map as map_list}
-use Rattle.std.proofs.lemmas.List.{length-map}
-use Rattle.cell_core.specs.View.{program_of, site_of}
-use Rattle.cell_nets.specs.Wires.{wires_of}
-use Rattle.stage_net.specs.Rows.{AreRead}
-use Rattle.stage_net.proofs.RowLemmas.{none_read, read_then}
+use Rattle.std.proofs.Common.{◌∙◌, All, length, slice_index, sym, ap, subst}
+use Rattle.cell_core.specs.View.{program_of}
+use Rattle.cell_nets.specs.Operands.{IsOperand}
+use Rattle.cell_nets.specs.Wires.{wires_of, HasBits}
+use Rattle.stage_net.specs.Rows.{AreSought}
+use Rattle.stage_net.proofs.SearchLemmas.{read_sought}
+use Rattle.stage_net.proofs.SiteLemmas.{ok_both}
 use Rattle.stage_net.proofs.TableLemmas.{have_tables}
 use Rattle.stage_net.proofs.reads.reads.Goals as goal
 
-pub read_site-requires-clause-table : goal.read_site-requires-clause-table
-read_site-requires-clause-table g c = c.loop-j.invariant.cells_are
+pub searches-requires-clause-tables : goal.searches-requires-clause-tables
+searches-requires-clause-tables g c = have_tables c.args.nets.now.bits c.args.nets.now.maps.now c.loads_tables.ensures c.keeps_over.ensures c.requires.nets.maps
 
-pub read_site-requires-clause-pointers : goal.read_site-requires-clause-pointers
-read_site-requires-clause-pointers g c = c.loop-j.invariant.pointers_are
+pub read_sites-requires-clause-tables : goal.read_sites-requires-clause-tables
+read_sites-requires-clause-tables g c = have_tables c.args.nets.now.bits c.args.nets.now.maps.now c.loads_tables.ensures c.keeps_over.ensures c.requires.nets.maps
 
-pub read_site-requires-clause-tables : goal.read_site-requires-clause-tables
-read_site-requires-clause-tables g c = have_tables c.args.nets.now.bits c.args.nets.now.maps.now c.loads_tables.ensures c.keeps_over.ensures c.requires.nets.maps
-
-pub loop-j-init : goal.loop-j-init
-loop-j-init g c = none_read c.args.part (program_of c.args.at.now.program.now) (slice_index c.args.at.now.rows.now) c.args.at.now.row c.args.nets.now 0 0 (wires_of c.args.wires.now.items) c.args.table.now.items c.args.pointers.now.items c.requires.table c.requires.pointers (λ k j l e o a b. omega arith)
-
-pub loop-j-preserved : goal.loop-j-preserved
-loop-j-preserved g c =
-    read_then c.args.part (program_of c.args.at.now.program.now) (slice_index c.args.at.now.rows.now) c.args.at.now.row c.args.nets.now 0 c.loop-j.j (c.loop-j.j + 1) (wires_of c.args.wires.now.items) (wires_of c.loop-j.wires.items) (wires_of c.read_site.new.wires.items) c.args.table.now.items c.loop-j.table.items
-    c.read_site.new.table.items c.args.pointers.now.items c.loop-j.pointers.items c.read_site.new.pointers.items c.loop-j.invariant c.in_ok-read_site.ensures
+pub read_sites-requires-clause-slots : goal.read_sites-requires-clause-slots
+read_sites-requires-clause-slots g c =
+    let e = c.deref.ensures.value in
+    let sought = c.in_ok-slots.ensures.sought in
+    record { count = ap length e ∙ c.in_ok-slots.ensures.count; operands = subst (All IsOperand) (sym e) sought.operands; bits = subst (All (HasBits c.args.nets.now.bits)) (sym e) sought.bits }
 
 pub returns : goal.returns
 returns g c =
-    let e : c.loop-j.j ≡ length (map_list site_of c.args.at.now.program.now.sites.items) = omega (arith, c.loop-j-test.false, c.loop-j.auto.j-end, c.len-j-end.ensures, length-map c.args.at.now.program.now.sites.items site_of) in
-    subst
-    (λ n. AreRead c.args.part (program_of c.args.at.now.program.now) (slice_index c.args.at.now.rows.now) c.args.at.now.row c.args.nets.now 0 n (wires_of c.args.wires.now.items) (wires_of c.loop-j.wires.items) c.args.table.now.items c.loop-j.table.items c.args.pointers.now.items c.loop-j.pointers.items) e
-    c.loop-j.invariant
+    let p = program_of c.args.at.now.program.now in
+    let row = slice_index c.args.at.now.rows.now in
+    let r = c.args.at.now.row in
+    let nets = c.args.nets.now in
+    let old = wires_of c.args.wires.now.items in
+    let mid = wires_of c.searches.new.wires.items in
+    ok_both _ _ _ c.read_sites.result c.read_sites.ensures c.read_sites.ensures
+    (λ done read again.
+    read_sought c.args.part p row r nets old mid (wires_of c.read_sites.new.wires.items) c.deref.result.now (length p.sites) c.args.table.now.items c.read_sites.new.table.items c.args.pointers.now.items c.read_sites.new.pointers.items
+    (subst (AreSought c.args.part p row r nets old mid) (sym c.deref.ensures.value) c.in_ok-slots.ensures.sought) read)

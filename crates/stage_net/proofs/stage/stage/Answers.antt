@@ -2,15 +2,15 @@ use Rattle.std.proofs.Common.{◌<◌, All, sym, subst, slice_index, map as map_
 use Rattle.std.specs.Prelude.{IfOk}
 use Rattle.block_core.specs.View.{block_of}
 use Rattle.cell_core.specs.View.{cell_of, program_of}
-use Rattle.cell_nets.specs.Wires.{wires_of}
-use Rattle.place_net.specs.Place.{width_at}
-use Rattle.row_net.specs.Apart.{TakeClean}
-use Rattle.row_net.specs.Made.{IsReady}
-use Rattle.row_net.specs.Table.{IsTable}
+use Rattle.cell_nets.specs.Wires.{behind, wires_of}
+use Rattle.site_place.specs.place_net.Place.{width_at}
+use Rattle.site_place.specs.row_net.Apart.{TakeClean}
+use Rattle.site_place.specs.row_net.Made.{IsReady}
+use Rattle.site_place.specs.row_net.Table.{IsTable}
 use Rattle.site_place.specs.Pointing.{IsPointers, ArePointed}
 use Rattle.site_place.specs.SitePlace.{IsSitePlace}
 use Rattle.stage_net.proofs.SiteLemmas.{ok_both}
-use Rattle.stage_net.proofs.StageLemmas.{all_have, all_have_pointers, is_ready, are_pointed, is_stage}
+use Rattle.stage_net.proofs.StageLemmas.{alone, all_have, all_have_pointers, is_ready, are_pointed, is_stage}
 use Rattle.stage_net.proofs.stage.stage.Goals as goal
 
 pub site_place-requires-clause-table : goal.site_place-requires-clause-table
@@ -115,10 +115,10 @@ returns-clause-block g c = λ outside shown both hand.
     let made_pointers = c.args.cells.now.made_pointers.now in
     let held_pointers = c.args.cells.now.held_pointers.now in
     let read = c.in_ok-reads.ensures in
-    let behind = read.there outside hand both in
+    let ready = read.there outside (alone (behind c.args.part outside old) nets hand) both in
     let placed =
     subst (λ l. IfOk c.site_place.result (λ b. IsSitePlace c.args.part (map_list cell_of l) made held made_pointers held_pointers nets.bits outside after those c.args.advance (block_of b))) c.deref.ensures.value
-    (c.site_place.ensures.block outside shown behind.wires behind.cells behind.pointers) in
+    (c.site_place.ensures.block outside shown ready.wires ready.cells ready.pointers) in
     ok_both _ _ _ c.site_place.result placed c.site_place.ensures.begun
     (λ b place begun.
     is_stage c.args.part p row r nets c.requires.staged old ws before after pointers those read c.pointers_are_held.ensures made held made_pointers held_pointers c.requires.pointed c.requires.of_row outside c.args.advance (block_of b) hand both begun place)

@@ -1,5 +1,5 @@
 use Rattle.std.proofs.Common.{◌∙◌, get_or, sym, ap, subst, arith}
-use Rattle.cell_core.specs.Cells.{bit}
+use Rattle.cell_nets.specs.cell_core.Cells.{bit}
 use Rattle.cell_nets.specs.Wires.{wires_of, always, behind}
 use Rattle.step_nets.specs.Standing.{Stands}
 use Rattle.operand_blocks.proofs.WiringLaws.{is_wiring, offers, all_known, all_there, word_is}

@@ -1,4 +1,4 @@
-use Rattle.cell_core.specs.Cells.{bit}
+use Rattle.cell_nets.specs.cell_core.Cells.{bit}
 use Rattle.cell_nets.specs.Wires.{wires_of, always, Gives}
 use Rattle.target_net.specs.Commits.{any_on}
 use Rattle.target_net.proofs.commits.commits_on.Given as goal

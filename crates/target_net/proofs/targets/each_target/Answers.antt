@@ -3,7 +3,7 @@ use Rattle.std.proofs.lemmas.List.{length_push}
 use Rattle.std.proofs.lemmas.List.Elements.{All-append, All-nil}
 use Rattle.cell_nets.specs.Operands.{IsOperand}
 use Rattle.cell_nets.specs.Wires.{wires_of, HasBits, Gives}
-use Rattle.cell_core.specs.Cells.{bit}
+use Rattle.cell_nets.specs.cell_core.Cells.{bit}
 use Rattle.hazard_core.specs.Commits.{written_slot, makes_entry}
 use Rattle.site_operands.specs.declared.Pending.{Pending}
 use Rattle.commit_net.specs.Targets.{slots_of, ShowsWritten, ShowsTarget as AsksTarget}

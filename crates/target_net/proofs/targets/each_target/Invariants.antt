@@ -1,5 +1,5 @@
 use Rattle.std.proofs.Common.{◌≡◌, ◌≤◌, ◌^◌, ℕ, List, All, length}
-use Rattle.cell_core.specs.Sites.{ProgramView}
+use Rattle.cell_nets.specs.cell_core.Sites.{ProgramView}
 use Rattle.hazard_core.specs.Held.{Held}
 use Rattle.hazard_core.specs.Tables.{TableState, table_at}
 use Rattle.cell_nets.specs.Operands.{IsOperand}

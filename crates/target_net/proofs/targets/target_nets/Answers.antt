@@ -4,7 +4,7 @@ use Rattle.hazard_core.specs.Tables.{table_at}
 use Rattle.cell_nets.specs.Operands.{IsAvailable}
 use Rattle.cell_nets.specs.Wires.{wires_of}
 use Rattle.commit_net.specs.Targets.{slots_of}
-use Rattle.overlay_net.specs.Seen.{all_read, ShowPending}
+use Rattle.read_net.specs.overlay_net.Seen.{all_read, ShowPending}
 use Rattle.step_nets.proofs.ChainLaws.{starts}
 use Rattle.read_net.specs.Sites.{all_cells, slot_cells, sites_of}
 use Rattle.target_net.specs.Targets.{all_of, written_of, outside_of, IsWritten, Shows, ShowTargets}

@@ -2,7 +2,7 @@ use Rattle.std.specs.Prelude.{fold}
 use Rattle.std.proofs.Common.{◌∙◌, [], ◌∷◌, ◌++◌, refl, ap, arith}
 use Rattle.std.proofs.lemmas.List.{take_all}
 use Rattle.cell_core.specs.Cells.{bit}
-use Rattle.hazard_core.specs.Marks.{entry_touched}
+use Rattle.site_operands.specs.hazard_core.Marks.{entry_touched}
 use Rattle.cell_nets.specs.Operands.{number_in, IsOperand, IsAvailable}
 use Rattle.cell_nets.specs.Wires.{wires_of, always}
 use Rattle.step_nets.proofs.ChainLaws.{starts, last}

@@ -3,7 +3,7 @@ use Rattle.std.proofs.Common.{◌∙◌, ◌&&◌, ◌||◌, [], ◌∷◌, ◌+
 use Rattle.std.proofs.lemmas.List.Elements.{All-append}
 use Rattle.cell_core.specs.Cells.{bit, on}
 use Rattle.cell_core.specs.Sites.{bytes_of, operation_with}
-use Rattle.hazard_core.specs.Marks.{key_touched}
+use Rattle.site_operands.specs.hazard_core.Marks.{key_touched}
 use Rattle.cell_nets.specs.Operands.{number_in, IsOperand, IsAvailable}
 use Rattle.cell_nets.specs.Wires.{wires_of, always}
 use Rattle.site_operands.specs.Sites.{operands_of, all_of}

@@ -3,9 +3,9 @@ use Rattle.std.proofs.Common.{[], ◌∷◌, ◌++◌, arith}
 use Rattle.std.proofs.lemmas.List.Elements.{All-append}
 use Rattle.cell_core.specs.Cells.{bit}
 use Rattle.cell_core.specs.Sites.{site_at}
-use Rattle.hazard_core.specs.Held.{asked, is_null, pointer_in, found_cell}
-use Rattle.hazard_core.specs.Marks.{presence_touched}
-use Rattle.hazard_core.specs.Tables.{decl_of}
+use Rattle.site_operands.specs.hazard_core.Held.{asked, is_null, pointer_in, found_cell}
+use Rattle.site_operands.specs.hazard_core.Marks.{presence_touched}
+use Rattle.site_operands.specs.hazard_core.Tables.{decl_of}
 use Rattle.cell_nets.specs.Operands.{number_in, IsOperand, IsAvailable}
 use Rattle.cell_nets.specs.Wires.{wires_of}
 use Rattle.site_operands.specs.Sites.{operands_of, all_of}

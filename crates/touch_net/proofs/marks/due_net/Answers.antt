@@ -3,7 +3,7 @@ use Rattle.std.proofs.Common.{◌∙◌, ◌&&◌, refl, ap, arith}
 use Rattle.std.proofs.lemmas.List.{take_all}
 use Rattle.cell_core.specs.Cells.{bit}
 use Rattle.cell_core.specs.Sites.{site_at}
-use Rattle.hazard_core.specs.Marks.{known_on}
+use Rattle.site_operands.specs.hazard_core.Marks.{known_on}
 use Rattle.cell_nets.specs.Wires.{wires_of, always}
 use Rattle.step_nets.proofs.ChainLaws.{starts, last, ends}
 use Rattle.step_nets.proofs.StepLaws.{avail_at}

@@ -1,8 +1,8 @@
 use Rattle.std.proofs.Common.{◌∙◌, ◌++◌, sym, arith}
 use Rattle.cell_core.specs.Cells.{bit}
 use Rattle.cell_core.specs.Sites.{site_at}
-use Rattle.hazard_core.specs.Held.{access_pointer}
-use Rattle.hazard_core.specs.Marks.{touches}
+use Rattle.site_operands.specs.hazard_core.Held.{access_pointer}
+use Rattle.site_operands.specs.hazard_core.Marks.{touches}
 use Rattle.cell_nets.specs.Operands.{IsAvailable}
 use Rattle.cell_nets.specs.Wires.{wires_of}
 use Rattle.site_operands.specs.Sites.{operands_of, all_of}

@@ -4,9 +4,9 @@ use Rattle.byteorder.specs.Endian.{little_number}
 use Rattle.cell_core.specs.Cells.{bits_from, on}
 use Rattle.cell_core.specs.Sites.{site_at}
 use Rattle.cell_nets.specs.Operands.{number_in, IsAvailable}
-use Rattle.hazard_core.specs.Commits.{word_at}
-use Rattle.hazard_core.specs.Held.{access_pointer, asked}
-use Rattle.hazard_core.specs.Overlay.{entry_value, where_some, answer_as}
+use Rattle.site_operands.specs.hazard_core.Commits.{word_at}
+use Rattle.site_operands.specs.hazard_core.Held.{access_pointer, asked}
+use Rattle.site_operands.specs.hazard_core.Overlay.{entry_value, where_some, answer_as}
 use Rattle.value_net.specs.Pendings.{all_taken, ShowPendings, ShowsEntry}
 use Rattle.value_net.specs.Words.{access_start, access_bytes}
 use Rattle.value_net.proofs.Holding.{two_are, hold_none, hold_more, hold_gives}

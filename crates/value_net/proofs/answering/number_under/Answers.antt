@@ -4,7 +4,7 @@ use Rattle.cell_core.specs.Cells.{bits_from, on}
 use Rattle.cell_nets.specs.declared.operand.Operand.TheVariants.{Known}
 use Rattle.cell_nets.specs.Operands.{number_in, IsAvailable}
 use Rattle.cell_nets.specs.Wires.{always}
-use Rattle.hazard_core.specs.Commits.{word_at}
+use Rattle.site_operands.specs.hazard_core.Commits.{word_at}
 use Rattle.value_net.proofs.Holding.{one_is, three_are, hold_none, hold_more, hold_gives}
 use Rattle.value_net.proofs.ByteLemmas.{number_is}
 use Rattle.value_net.proofs.answering.number_under.Goals as goal

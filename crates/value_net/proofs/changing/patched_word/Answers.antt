@@ -1,7 +1,7 @@
 use Rattle.std.proofs.Common.{◌≡◌, [], ◌∷◌, ap, arith}
 use Rattle.byteorder.specs.Endian.{little_bytes}
 use Rattle.xdp_maps.specs.Calls.{patched}
-use Rattle.hazard_core.specs.Commits.{word_at}
+use Rattle.site_operands.specs.hazard_core.Commits.{word_at}
 use Rattle.cell_nets.specs.Operands.{number_in}
 use Rattle.value_net.proofs.Holding.{step_gives}
 use Rattle.value_net.proofs.changing.patched_word.Goals as goal

@@ -1,6 +1,6 @@
 use Rattle.std.proofs.Common.{◌∷◌, get_or, sym, subst, arith}
 use Rattle.cell_nets.specs.Wires.{wires_of, Gives}
-use Rattle.hazard_core.specs.Commits.{word_at}
+use Rattle.site_operands.specs.hazard_core.Commits.{word_at}
 use Rattle.value_net.specs.Pendings.{all_taken, IsFitting, IsOf, ShowPendings, ShowsEntry}
 use Rattle.value_net.proofs.EntryLemmas.{so_far, far_bytes, far_starts, far_more, far_all}
 use Rattle.value_net.proofs.entry.entry_word.Goals as goal

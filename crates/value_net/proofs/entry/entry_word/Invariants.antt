@@ -2,10 +2,10 @@ use Rattle.std.proofs.Common.{◌≡◌, ℕ, List, ◌∷◌}
 use Rattle.cell_core.specs.Sites.{ProgramView}
 use Rattle.cell_nets.specs.Operands.{IsOperand}
 use Rattle.cell_nets.specs.Wires.{wires_of, HasBits, Gives}
-use Rattle.hazard_core.specs.Commits.{word_at}
-use Rattle.hazard_core.specs.Held.{Held}
-use Rattle.hazard_core.specs.declared.pointer.Pointer.{Pointer}
-use Rattle.hazard_core.specs.Tables.{TableState, decl_of}
+use Rattle.site_operands.specs.hazard_core.Commits.{word_at}
+use Rattle.site_operands.specs.hazard_core.Held.{Held}
+use Rattle.site_operands.specs.hazard_core.declared.pointer.Pointer.{Pointer}
+use Rattle.site_operands.specs.hazard_core.Tables.{TableState, decl_of}
 use Rattle.value_net.specs.Pendings.{all_taken, AreOf, ShowPendings, ShowsEntry, HasValue}
 use Rattle.value_net.proofs.EntryLemmas.{so_far}
 use Rattle.value_net.proofs.entry.entry_word.Given as goal

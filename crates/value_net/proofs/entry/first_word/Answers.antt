@@ -3,7 +3,7 @@ use Rattle.cell_nets.specs.declared.operand.Operand.TheVariants.{Known}
 use Rattle.cell_nets.specs.Operands.{number_in, IsAvailable}
 use Rattle.cell_nets.specs.Wires.{always}
 use Rattle.cell_nets.proofs.ChoiceLemmas.{number_small}
-use Rattle.hazard_core.specs.Tables.{decl_of, table_at}
+use Rattle.site_operands.specs.hazard_core.Tables.{decl_of, table_at}
 use Rattle.value_net.specs.Pendings.{ShowsEntry}
 use Rattle.value_net.proofs.Holding.{one_is, three_are, hold_none, hold_more, hold_gives}
 use Rattle.value_net.proofs.EntryLemmas.{start_is}

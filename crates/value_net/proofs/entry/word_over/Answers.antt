@@ -4,11 +4,11 @@ use Rattle.cell_core.specs.Sites.{site_at}
 use Rattle.cell_nets.specs.Operands.{number_in, IsOperand, IsAvailable}
 use Rattle.cell_nets.specs.Wires.{always}
 use Rattle.cell_nets.proofs.ChoiceLemmas.{number_small}
-use Rattle.hazard_core.specs.Commits.{word_at}
-use Rattle.hazard_core.specs.Held.{asked, writes, written_pointer}
-use Rattle.hazard_core.specs.Overlay.{value_as}
+use Rattle.site_operands.specs.hazard_core.Commits.{word_at}
+use Rattle.site_operands.specs.hazard_core.Held.{asked, writes, written_pointer}
+use Rattle.site_operands.specs.hazard_core.Overlay.{value_as}
 use Rattle.site_operands.specs.Pointers.{pointer_number}
-use Rattle.hazard_core.specs.Tables.{decl_of}
+use Rattle.site_operands.specs.hazard_core.Tables.{decl_of}
 use Rattle.site_operands.specs.Sites.{operands_of, ShowsAsked}
 use Rattle.value_net.specs.Pendings.{taken_of, ShowsPending}
 use Rattle.value_net.proofs.Holding.{no_packet, two_are, three_are, hold_none, hold_more, hold_gives}

@@ -4,8 +4,8 @@ use Rattle.std.proofs.lemmas.List.Elements.{All-cons, All-tail}
 use Rattle.cell_core.specs.Formed.{HasWords}
 use Rattle.cell_core.specs.Sites.{site_at}
 use Rattle.cell_nets.specs.Operands.{number_in, IsOperand, IsAvailable}
-use Rattle.hazard_core.specs.Commits.{word_at}
-use Rattle.hazard_core.specs.Held.{held_value}
+use Rattle.site_operands.specs.hazard_core.Commits.{word_at}
+use Rattle.site_operands.specs.hazard_core.Held.{held_value}
 use Rattle.site_operands.specs.Sites.{operands_of, ShowsAsked}
 use Rattle.value_net.specs.Lists.{numbers_in}
 use Rattle.value_net.proofs.Holding.{step_gives}

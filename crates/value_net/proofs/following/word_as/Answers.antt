@@ -1,12 +1,12 @@
 use Rattle.std.proofs.Common.{◌≡◌, [], ◌∷◌, ◌∙◌, ap, ap₂, sym, subst, arith}
 use Rattle.std.proofs.lemmas.List.Elements.{All-tail}
 use Rattle.byteorder.specs.Endian.{little_bytes}
-use Rattle.xdp_machine.specs.Memory.{bytes_in}
+use Rattle.cell_core.specs.xdp_machine.Memory.{bytes_in}
 use Rattle.xdp_maps.specs.Calls.{patched, with_change}
 use Rattle.cell_core.specs.Formed.{IsInside}
 use Rattle.cell_core.specs.Sites.{operation_with, change_of}
-use Rattle.hazard_core.specs.Commits.{word_at}
-use Rattle.hazard_core.specs.Overlay.{value_as}
+use Rattle.site_operands.specs.hazard_core.Commits.{word_at}
+use Rattle.site_operands.specs.hazard_core.Overlay.{value_as}
 use Rattle.cell_nets.specs.Operands.{number_in, IsAvailable}
 use Rattle.cell_nets.specs.Wires.{always}
 use Rattle.value_net.specs.Lists.{numbers_in}

@@ -2,7 +2,7 @@ use Rattle.std.proofs.Common.{◌≡◌, ◌-◌}
 use Rattle.elf_view.specs.File.{e_shnum}
 use Rattle.xdp_object.specs.Relocations.{rela_table}
 use Rattle.xdp_object.proofs.relocations.check_no_rela.Given as goal
-use Rattle.list_laws.specs.Firsts.{first_from}
+use Rattle.elf_view.specs.list_laws.Firsts.{first_from}
 
 -- there is none so far
 abbrev pub invariant-loop-i : goal.invariant-loop-i

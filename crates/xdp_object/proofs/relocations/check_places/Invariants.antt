@@ -3,7 +3,7 @@ use Rattle.bpf_isa.specs.Text.{unit_count}
 use Rattle.xdp_object.specs.Relocations.{unknown_at}
 use Rattle.xdp_object.proofs.Places.{Walked}
 use Rattle.xdp_object.proofs.relocations.check_places.Given as goal
-use Rattle.list_laws.specs.Firsts.{first_from}
+use Rattle.elf_view.specs.list_laws.Firsts.{first_from}
 
 -- the places so far are known
 abbrev pub invariant-loop-insn : goal.invariant-loop-insn

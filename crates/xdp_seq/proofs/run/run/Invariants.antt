@@ -1,5 +1,5 @@
 use Rattle.std.proofs.Common.{◌≡◌, ◌-◌}
-use Rattle.xdp_machine.specs.Runs.{run}
+use Rattle.xdp_state.specs.xdp_machine.Runs.{run}
 use Rattle.xdp_seq.specs.declared.run.TheConstants.{STEP_LIMIT}
 use Rattle.xdp_state.specs.Machines.{machine_of}
 use Rattle.xdp_seq.specs.Units.{code_of}

@@ -1,0 +1,4 @@
+pub mod Solving
+pub mod Same
+pub mod Renumber
+pub mod Folding

@@ -1,0 +1,36 @@
+-- The keys that sites ask for.
+use Rattle.std.proofs.Common.{◌≡◌, ◌∙◌, ℕ, List, refl, sym, ap, map as map_list}
+use Rattle.cell_nets.specs.net_core.Value.{Env}
+use Rattle.xdp_maps.specs.declared.decl.MapDecl.{MapDecl}
+use Rattle.xdp_maps.specs.Operations.{key_in}
+use Rattle.cell_core.specs.declared.site.Act.{Act}
+use Rattle.cell_core.specs.declared.site.Act.TheVariants as act
+use Rattle.cell_core.specs.Sites.{ProgramView, site_at, bytes_of, operation_with}
+use Rattle.site_operands.specs.hazard_core.Tables.{TableState, decl_of, table_at}
+use Rattle.site_operands.specs.hazard_core.Held.{Held, held_value, asked_key, slot_pointer}
+use Rattle.cell_nets.specs.declared.operand.Operand.{Operand}
+use Rattle.site_operands.specs.Pointers.{pointer_number}
+use Rattle.overlay_net.specs.Reading.{ShowsSlot}
+
+pub key_is : (d : MapDecl) (a : Act) (ks xs : List ℕ) → key_in (operation_with d a ks xs) ≡ bytes_of d.key ks
+key_is d act.Lookup ks xs = refl
+key_is d (act.Load at size) ks xs = refl
+key_is d act.Update ks xs = refl
+key_is d act.Delete ks xs = refl
+key_is d (act.Store at size) ks xs = refl
+key_is d (act.Atomic at a) ks xs = refl
+
+module _ {N : Type 0} (v : Env N) (p : ProgramView) (t : TableState) (h : Held) (i j : ℕ) (map : (site_at p.sites i).map ≡ (site_at p.sites j).map) (key : (site_at p.sites i).key ≡ (site_at p.sites j).key) where
+  bytes_at : (k : ℕ) → asked_key t.decls h (site_at p.sites k) ≡ bytes_of (decl_of t.decls (site_at p.sites k).map).key (map_list (held_value h) (site_at p.sites k).key)
+  bytes_at k = key_is (decl_of t.decls (site_at p.sites k).map) (site_at p.sites k).act (map_list (held_value h) (site_at p.sites k).key) (map_list (held_value h) (site_at p.sites k).operands)
+
+  same_key : asked_key t.decls h (site_at p.sites i) ≡ asked_key t.decls h (site_at p.sites j)
+  same_key =
+      bytes_at i
+      ∙ ap (λ m. bytes_of (decl_of t.decls m).key (map_list (held_value h) (site_at p.sites i).key)) map
+      ∙ ap (λ l. bytes_of (decl_of t.decls (site_at p.sites j).map).key (map_list (held_value h) l)) key
+      ∙ sym (bytes_at j)
+
+  -- Sites with one key in one map find one slot.
+  pub same_slot : (slot : Operand N) → ShowsSlot v p t h i slot → ShowsSlot v p t h j slot
+  same_slot slot shown = shown ∙ ap (λ m. pointer_number (slot_pointer (table_at t m) (asked_key t.decls h (site_at p.sites i)))) map ∙ ap (λ k. pointer_number (slot_pointer (table_at t (site_at p.sites j).map) k)) same_key

@@ -1,0 +1,1 @@
+pub use Rattle.design_rules.proofs as design_rules
