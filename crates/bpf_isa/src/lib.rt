@@ -21,3 +21,6 @@ pub use decode::{DecodeError, decode_all, decode_one};
 pub use encode::encode_one;
 pub use instruction::{BadInsn, Insn};
 pub use operation::{AluCode, JumpCode, Op, Size, Src, Width};
+
+// Crates above name these through this one.
+pub use bits_core;

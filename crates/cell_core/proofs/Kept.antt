@@ -1,9 +1,9 @@
 -- Values, and what sites do, rest on the cells that they take.
 use Rattle.std.proofs.Common.{◌≡◌, ℕ, zero, suc, Bool, true, false, List, [], ◌∷◌, take, refl, sym, ◌∙◌, ap, subst, arith}
 use Rattle.std.specs.Prelude.{if◌then◌else◌, ◌&&◌, map as map_list}
-use Rattle.xdp_maps.specs.State.{MapState, decl_at}
-use Rattle.xdp_maps.specs.Operations.{Operation, operated}
-use Rattle.xdp_machine.specs.State.{PacketIn}
+use Rattle.xdp_state.specs.xdp_maps.State.{MapState, decl_at}
+use Rattle.xdp_state.specs.xdp_maps.Operations.{Operation, operated}
+use Rattle.xdp_state.specs.xdp_machine.State.{PacketIn}
 use Rattle.cell_core.specs.Cells.{CellView, is_read, on, number, bits_from, Solves_as}
 use Rattle.cell_core.specs.Sites.{SiteView, site_at, records, operation_with, operation_on, applied, after, read_with}
 use Rattle.cell_core.specs.Formed.{IsBelow}

@@ -1,7 +1,8 @@
-pub use Rattle.beat_core.proofs as beat_core
+pub use Rattle.xdp_state.proofs.beat_core_laws as beat_core
 pub mod Values
 pub mod SpelledLaws
 pub mod Sites
+pub mod Sizes
 pub mod Kept
 pub mod Running
 pub mod Rows

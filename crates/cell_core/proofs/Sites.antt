@@ -4,13 +4,13 @@ use Rattle.std.proofs.lemmas.List.{length-take-le, length-map}
 use Rattle.std.proofs.lemmas.List.{get_or-map}
 use Rattle.std.proofs.Math.Seq.{drop-cons}
 use Rattle.byteorder.specs.Endian.{little_bytes}
-use Rattle.xdp_maps.specs.State.{MapState}
+use Rattle.xdp_state.specs.xdp_maps.State.{MapState}
 use Rattle.cell_core.specs.declared.site.Site.{Site}
 use Rattle.cell_core.specs.View.{site_of}
 use Rattle.cell_core.specs.Sites.{SiteView, site_at, no_site, spelled, bytes_of, records, operation_on, applied, after}
 use Rattle.cell_core.specs.Cells.{on}
 use Rattle.cell_core.proofs.SpelledLaws.{spelled_length}
-use Rattle.xdp_maps.specs.Operations.{operated}
+use Rattle.xdp_state.specs.xdp_maps.Operations.{operated}
 use Rattle.std.specs.Prelude.{if◌then◌else◌, ◌&&◌, ◌==◌, not}
 use Rattle.std.proofs.lemmas.Bool.{eqb-true}
 

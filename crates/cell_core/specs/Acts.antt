@@ -1,7 +1,7 @@
 -- What operations on maps ask and answer, by what a site does and the kind of its map.
 use Rattle.std.specs.Prelude.{ℕ, Bool, true, false}
-use Rattle.xdp_maps.specs.declared.decl.MapKind.{MapKind}
-use Rattle.xdp_maps.specs.declared.decl.MapKind.TheVariants.{Hash}
+use Rattle.xdp_state.specs.xdp_maps.declared.decl.MapKind.{MapKind}
+use Rattle.xdp_state.specs.xdp_maps.declared.decl.MapKind.TheVariants.{Hash}
 use Rattle.cell_core.specs.declared.site.Act.{Act}
 use Rattle.cell_core.specs.declared.site.Act.TheVariants as act
 

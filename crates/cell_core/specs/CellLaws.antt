@@ -1,6 +1,6 @@
 -- What holds of all values of cells.
 use Rattle.std.specs.Prelude.{ℕ, ◌≡◌, ◌≢◌, ◌^◌, ◌<◌, true, List, length, slice_index}
-use Rattle.xdp_machine.specs.State.{PacketIn}
+use Rattle.xdp_state.specs.xdp_machine.State.{PacketIn}
 use Rattle.cell_core.specs.Cells.{CellView, IsRun, cell_at, is_read}
 use Rattle.cell_core.specs.Formed.{AreFormed, divides}
 

@@ -2,13 +2,13 @@
 use Rattle.std.specs.Prelude.{ℕ, ◌≡◌, ◌+◌, ◌-◌, ◌*◌, ◌/◌, ◌^◌, ◌<◌, ◌==◌, Option, Some, None, Bool, true, false, not, if◌then◌else◌, List, [], ◌∷◌, length, slice_index, fold, map as map_list}
 use Rattle.std.specs.List.{list_any}
 use Rattle.std.proofs.Common.{get_or}
-use Rattle.bits_core.specs.Bits.{sext_of}
-use Rattle.bpf_isa.specs.declared.operation.AluCode.{AluCode}
-use Rattle.bpf_isa.specs.declared.operation.AluCode.TheVariants as alu
-use Rattle.bpf_isa.specs.declared.operation.JumpCode.{JumpCode}
-use Rattle.bpf_isa.specs.declared.operation.JumpCode.TheVariants as jump
-use Rattle.xdp_machine.specs.Arithmetic.{low, arithmetic, holds}
-use Rattle.xdp_machine.specs.State.{PacketIn}
+use Rattle.xdp_state.specs.bits_core.Bits.{sext_of}
+use Rattle.xdp_state.specs.bpf_isa.declared.operation.AluCode.{AluCode}
+use Rattle.xdp_state.specs.bpf_isa.declared.operation.AluCode.TheVariants as alu
+use Rattle.xdp_state.specs.bpf_isa.declared.operation.JumpCode.{JumpCode}
+use Rattle.xdp_state.specs.bpf_isa.declared.operation.JumpCode.TheVariants as jump
+use Rattle.xdp_state.specs.xdp_machine.Arithmetic.{low, arithmetic, holds}
+use Rattle.xdp_state.specs.xdp_machine.State.{PacketIn}
 use Rattle.cell_core.specs.declared.operator.Operator.{Operator}
 use Rattle.cell_core.specs.declared.operator.Operator.TheVariants.{Constant, Byte, Length, Ifindex, Time, Wire, Later, Join, SignExtend, Not, And, Or, Xor, Any, Select, Phi, Difference, Quotient, Remainder, Add, Sub, Mul, ShiftLeft, ShiftRight, Equal, Less, LessOrEqual, NonZero, Found, Answer, Pending}
 

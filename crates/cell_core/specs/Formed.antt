@@ -1,10 +1,10 @@
 -- What cells and sites keep to, whatever their values are.
 use Rattle.std.specs.Prelude.{ℕ, ◌≡◌, ◌+◌, ◌*◌, ◌<◌, ◌≤◌, Bool, true, false, Some, List, [], length, slice_index, All, Contains}
 use Rattle.std.proofs.Common.{get_or}
-use Rattle.xdp_maps.specs.declared.decl.MapDecl.{MapDecl}
-use Rattle.xdp_maps.specs.Calls.{change_bytes}
-use Rattle.xdp_maps.specs.State.{no_decl}
-use Rattle.xdp_machine.specs.Memory.{bytes_in}
+use Rattle.xdp_state.specs.xdp_maps.declared.decl.MapDecl.{MapDecl}
+use Rattle.xdp_state.specs.xdp_maps.Calls.{change_bytes}
+use Rattle.xdp_state.specs.xdp_maps.State.{no_decl}
+use Rattle.xdp_state.specs.xdp_machine.Memory.{bytes_in}
 use Rattle.cell_core.specs.declared.site.Act.{Act}
 use Rattle.cell_core.specs.declared.site.Act.TheVariants as act
 use Rattle.cell_core.specs.declared.operator.Operator.{Operator}

@@ -1,7 +1,7 @@
 -- How far an evaluation has come. No caller's clause cites this.
 use Rattle.std.specs.Prelude.{ℕ, ◌≡◌, ◌<◌, ◌≤◌, List, length, take}
-use Rattle.xdp_maps.specs.State.{MapState}
-use Rattle.xdp_machine.specs.State.{PacketIn}
+use Rattle.xdp_state.specs.xdp_maps.State.{MapState}
+use Rattle.xdp_state.specs.xdp_machine.State.{PacketIn}
 use Rattle.cell_core.specs.Cells.{cell_at, value_in}
 use Rattle.cell_core.specs.Sites.{ProgramView, site_at, after, IsValue}
 use Rattle.cell_core.specs.Formed.{IsBelow}

@@ -1,7 +1,7 @@
 -- What sites do, and what reads find, rests on the cells that they take.
 use Rattle.std.specs.Prelude.{ℕ, ◌≡◌, ◌<◌, ◌≤◌, Some, List, take, All}
-use Rattle.xdp_maps.specs.State.{MapState}
-use Rattle.xdp_machine.specs.State.{PacketIn}
+use Rattle.xdp_state.specs.xdp_maps.State.{MapState}
+use Rattle.xdp_state.specs.xdp_machine.State.{PacketIn}
 use Rattle.cell_core.specs.Cells.{site_in, CellView}
 use Rattle.cell_core.specs.Sites.{SiteView, site_at, after, IsValue}
 use Rattle.cell_core.specs.Formed.{IsBelow}

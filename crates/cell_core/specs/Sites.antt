@@ -3,18 +3,18 @@ use Rattle.std.specs.Prelude.{ℕ, ◌≡◌, ◌<◌, nat_le, Bool, true, false
 use Rattle.std.specs.Int.{w64, cast_unsigned}
 use Rattle.std.proofs.Common.{get_or}
 use Rattle.byteorder.specs.Endian.{little_bytes}
-use Rattle.bpf_isa.specs.declared.operation.Size.{Size}
-use Rattle.xdp_maps.specs.declared.decl.MapDecl.{MapDecl}
-use Rattle.xdp_maps.specs.declared.change.Change.{Change}
-use Rattle.xdp_maps.specs.Contents.{Contents}
-use Rattle.xdp_maps.specs.State.{MapState, decl_at, contents_at}
-use Rattle.xdp_maps.specs.Calls.{lookup_of, update_number, delete_number, number_before}
-use Rattle.xdp_maps.specs.Operations as map
-use Rattle.xdp_maps.specs.Operations.{Operation, key_in, operated}
-use Rattle.xdp_machine.specs.Memory.{bytes_in, number_at}
-use Rattle.xdp_machine.specs.State.{PacketIn}
-use Rattle.xdp_machine.specs.Runs.{Leaves}
-use Rattle.xdp_machine.specs.Touched.{Touched, nothing, both, touched_by}
+use Rattle.xdp_state.specs.bpf_isa.declared.operation.Size.{Size}
+use Rattle.xdp_state.specs.xdp_maps.declared.decl.MapDecl.{MapDecl}
+use Rattle.xdp_state.specs.xdp_maps.declared.change.Change.{Change}
+use Rattle.xdp_state.specs.xdp_maps.Contents.{Contents}
+use Rattle.xdp_state.specs.xdp_maps.State.{MapState, decl_at, contents_at}
+use Rattle.xdp_state.specs.xdp_maps.Calls.{lookup_of, update_number, delete_number, number_before}
+use Rattle.xdp_state.specs.xdp_maps.Operations as map
+use Rattle.xdp_state.specs.xdp_maps.Operations.{Operation, key_in, operated}
+use Rattle.xdp_state.specs.xdp_machine.Memory.{bytes_in, number_at}
+use Rattle.xdp_state.specs.xdp_machine.State.{PacketIn}
+use Rattle.xdp_state.specs.xdp_machine.Runs.{Leaves}
+use Rattle.xdp_state.specs.xdp_machine.Touched.{Touched, nothing, both, touched_by}
 use Rattle.cell_core.specs.declared.operator.Operator.{Operator}
 use Rattle.cell_core.specs.declared.operator.Operator.TheVariants.{Found, Answer}
 use Rattle.cell_core.specs.declared.site.Atomic.{Atomic}

@@ -1,6 +1,6 @@
 -- What a program in memory stands for.
 use Rattle.std.specs.Prelude.{map as map_list}
-use Rattle.xdp_machine.specs.State as machine
+use Rattle.xdp_state.specs.xdp_machine.State as machine
 use Rattle.cell_core.specs.declared.cell.Cell.{Cell}
 use Rattle.cell_core.specs.declared.site.Site.{Site}
 use Rattle.cell_core.specs.declared.program.PacketIn.{PacketIn}

@@ -2,11 +2,11 @@
 
 ghost use Rattle.std.specs.Prelude.{ℕ, ◌≡◌, ◌⊎◌, is_some, ◌+◌, ◌≤◌, ◌<◌, ◌^◌, ◌&&◌, true, if◌then◌else◌, Some, List, length, take, drop, slice_index, map as map_list, IfOk, OnOk};
 ghost use Rattle.byteorder.specs.Endian.{little_bytes};
-ghost use Rattle.xdp_machine.specs.Memory.{bytes_in};
-ghost use Rattle.xdp_maps.specs.State.{MapState, decl_at, contents_at, with_contents};
-ghost use Rattle.xdp_maps.specs.Calls.{lookup_of, stored, changed, change_bytes, number_before};
+ghost use Rattle.xdp_state.specs.xdp_machine.Memory.{bytes_in};
+ghost use Rattle.xdp_state.specs.xdp_maps.State.{MapState, decl_at, contents_at, with_contents};
+ghost use Rattle.xdp_state.specs.xdp_maps.Calls.{lookup_of, stored, changed, change_bytes, number_before};
 ghost use Rattle.cell_core.specs.declared.site.Act.TheVariants as Act;
-ghost use Rattle.xdp_maps.specs.Operations.{operated};
+ghost use Rattle.xdp_state.specs.xdp_maps.Operations.{operated};
 ghost use Rattle.cell_core.specs.Cells.{value_in, bit, on, site_in};
 ghost use Rattle.cell_core.specs.Sites.{SiteView, records, bytes_of, operation_as, operation_on, applied, after, found_in, answer, loaded, number_or, site_at, read_on, IsValue, IsCellRun};
 ghost use Rattle.cell_core.specs.Formed.{AreFormed, IsInRange, FitsMap, AllFit, IsInside, AreSited};
@@ -17,11 +17,11 @@ use crate::operator::Operator;
 use crate::program::{CellProgram, PacketIn};
 use crate::site::{Act, Site};
 use crate::value::{bit, bits_from, input, number, value_in};
-use bpf_isa::Size;
 use std::alloc::{AllocError, Global};
-use xdp_maps::change::Change;
-use xdp_maps::state::Maps;
+use xdp_state::bpf_isa::Size;
 use xdp_state::memory;
+use xdp_state::xdp_maps::change::Change;
+use xdp_state::xdp_maps::state::Maps;
 
 /// What an operation takes.
 #[derive(Drop)]
@@ -93,7 +93,7 @@ fn load(maps: &Maps, map: u32, key: &[u8], at: u32, size: Size) -> u64
 }
 
 /// A store of the low bytes of a number into the value under a key: 1 where the key is there, else 0.
-#[tactic(auto, using(xdp_machine::proofs::SizeLaws::low_part))]
+#[tactic(auto, using(crate::proofs::Sizes::low_part))]
 fn store(maps: &mut Maps, map: u32, key: &[u8], at: u32, size: Size, n: u64) -> u64
     requires map { map < length maps.old.decls }
     requires key { length key.now ≡ (decl_at maps.old map).key }

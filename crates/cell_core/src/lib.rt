@@ -11,3 +11,6 @@ pub mod site;
 pub mod value;
 
 pub use evaluation::eval;
+
+// Crates above name these through this one.
+pub use xdp_state;

@@ -2,7 +2,7 @@
 
 use crate::cell::Cell;
 use crate::site::Site;
-use beat_core::Frame;
+use xdp_state::beat_core::Frame;
 
 /// A packet as it comes in.
 #[derive(Drop)]

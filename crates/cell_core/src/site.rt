@@ -3,8 +3,8 @@
 ghost use Rattle.std.specs.Prelude.{◌≡◌};
 
 use crate::cell::Cells;
-use bpf_isa::Size;
-use xdp_maps::change::ChangeKind;
+use xdp_state::bpf_isa::Size;
+use xdp_state::xdp_maps::change::ChangeKind;
 
 /// What a site does to its map (bpf-helpers(7); RFC 9669, section 5).
 #[derive(Copy, Clone, Debug, PartialEq, Eq)]

@@ -2,16 +2,16 @@
 
 ghost use Rattle.std.specs.Prelude.{ℕ, ◌≡◌, ◌≤◌, ◌^◌, ◌<◌, false, slice_index, map as map_list};
 ghost use Rattle.std.specs.List.{list_any};
-ghost use Rattle.xdp_machine.specs.Arithmetic.{low, arithmetic, holds};
+ghost use Rattle.xdp_state.specs.xdp_machine.Arithmetic.{low, arithmetic, holds};
 ghost use Rattle.cell_core.specs.Cells.{number, bits_from, bit, on, joined, phi, value_in};
 ghost use Rattle.cell_core.specs.Formed.{IsInRange};
 ghost use Rattle.cell_core.specs.View.{packet_of};
 
 use crate::operator::Operator;
 use crate::program::PacketIn;
-use bits_core::sext;
-use bpf_isa::{AluCode, JumpCode, Width};
 use xdp_state::arithmetic;
+use xdp_state::bits_core::sext;
+use xdp_state::bpf_isa::{AluCode, JumpCode, Width};
 
 /// So many low bits of a number.
 fn low(n: u64, width: u32) -> u64

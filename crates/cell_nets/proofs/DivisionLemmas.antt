@@ -11,11 +11,11 @@ use Rattle.design_rules.specs.FormedSyntax.{right_spelled}
 use Rattle.product_blocks.specs.product_rules.Products.{right_flat}
 use Rattle.cell_core.specs.bits_core.Bits.{div_u_of, mod_u_of}
 use Rattle.cell_core.specs.xdp_machine.State.{PacketIn}
-use Rattle.block_core.specs.declared.name.Name.{Name}
-use Rattle.block_core.specs.declared.name.Name.TheVariants as name
-use Rattle.block_core.specs.Blocks.{BlockWireTree}
-use Rattle.block_core.specs.Order.{RightReads}
-use Rattle.block_core.specs.Parts.{Solve}
+use Rattle.product_blocks.specs.block_core.declared.name.Name.{Name}
+use Rattle.product_blocks.specs.block_core.declared.name.Name.TheVariants as name
+use Rattle.product_blocks.specs.block_core.Blocks.{BlockWireTree}
+use Rattle.product_blocks.specs.block_core.Order.{RightReads}
+use Rattle.product_blocks.specs.block_core.Parts.{Solve}
 use Rattle.cell_core.specs.declared.operator.Operator.TheVariants.{NonZero}
 use Rattle.cell_core.specs.Cells.{number, bits_from}
 use Rattle.cell_nets.specs.declared.operand.Operand.{Operand}

@@ -1,4 +1,4 @@
-pub use Rattle.cell_core.proofs as cell_core
+pub use Rattle.cell_core.proofs as cell_core_laws
 pub use Rattle.product_blocks.proofs as product_blocks
 pub mod PartLemmas
 pub mod SliceLemmas

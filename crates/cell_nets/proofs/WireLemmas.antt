@@ -8,12 +8,12 @@ use Rattle.net_core.specs.Nets.{Tree, TConst, TRead, TBit, TPartSelect, TMemoryW
 use Rattle.net_core.specs.Value.{Env, right_value, stops}
 use Rattle.net_core.specs.Width.{Scope, right_width, same}
 use Rattle.design_rules.specs.FormedSyntax.{right_spelled}
-use Rattle.block_core.specs.declared.name.Name.{Name}
-use Rattle.block_core.specs.declared.name.Name.TheVariants as name
-use Rattle.block_core.specs.Blocks.{BlockWireTree, Whole}
-use Rattle.block_core.specs.Formed.{block_wires_typed}
-use Rattle.block_core.specs.Order.{Reads, AllRead, RightReads, IsBefore, InOrder}
-use Rattle.block_core.specs.Parts.{Solve, Goes}
+use Rattle.product_blocks.specs.block_core.declared.name.Name.{Name}
+use Rattle.product_blocks.specs.block_core.declared.name.Name.TheVariants as name
+use Rattle.product_blocks.specs.block_core.Blocks.{BlockWireTree, Whole}
+use Rattle.product_blocks.specs.block_core.Formed.{block_wires_typed}
+use Rattle.product_blocks.specs.block_core.Order.{Reads, AllRead, RightReads, IsBefore, InOrder}
+use Rattle.product_blocks.specs.block_core.Parts.{Solve, Goes}
 use Rattle.product_blocks.proofs.FreeLaws.{flat_without}
 use Rattle.product_blocks.proofs.CleanLaws.{none_in}
 use Rattle.cell_nets.specs.declared.operand.Operand.{Operand}

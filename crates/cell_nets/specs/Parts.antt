@@ -5,7 +5,7 @@ use Rattle.net_core.specs.Value.{Env, value, word}
 use Rattle.net_core.specs.Width.{Scope, width_of}
 use Rattle.design_rules.specs.FormedSyntax.{depth, is_prefixed, prefixes_apart, tree_spelled}
 use Rattle.product_blocks.specs.product_rules.Products.{has_product, is_flat}
-use Rattle.block_core.specs.Order.{Reads}
+use Rattle.product_blocks.specs.block_core.Order.{Reads}
 use Rattle.cell_core.specs.xdp_machine.State.{PacketIn}
 use Rattle.cell_core.specs.declared.operator.Operator.{Operator}
 use Rattle.cell_core.specs.Cells.{number, bits_from}

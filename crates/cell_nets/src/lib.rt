@@ -15,3 +15,6 @@ pub mod shifting;
 pub mod slice;
 pub mod summing;
 pub mod wires;
+
+// Crates above name these through this one.
+pub use cell_core;

@@ -8,7 +8,7 @@ use Rattle.cell_nets.specs.declared.operand.Operand.{Operand}
 use Rattle.cell_nets.specs.Operands.{number_in, IsAvailable}
 use Rattle.cell_nets.specs.Wires.{behind, AreWires, IsGiven, Gives}
 use Rattle.cell_nets.proofs.ApartLemmas.{stay_none, stay_as, stay_next}
-use Rattle.step_nets.specs.Standing.{Stands}
+use Rattle.operand_blocks.specs.step_nets.Standing.{Stands}
 
 pub first_of : {X : Type 0} (Q : X → Type 0) (x : X) (xs : List X) → Q x → All Q xs → All Q (x ∷ xs)
 first_of Q x xs h k zero d lt = h

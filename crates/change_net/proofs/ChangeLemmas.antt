@@ -12,8 +12,8 @@ use Rattle.xdp_maps.specs.declared.decl.MapDecl.{MapDecl}
 use Rattle.xdp_maps.specs.declared.decl.MapKind.{MapKind}
 use Rattle.xdp_maps.specs.declared.decl.MapKind.TheVariants.{Hash, Array}
 use Rattle.xdp_maps.specs.Contents.{IsWithinLimits, limits_as, index_key}
-use Rattle.cell_core.specs.Cells.{bit, on}
-use Rattle.cell_core.specs.Sites.{ProgramView, site_at, bytes_of}
+use Rattle.cell_nets.specs.cell_core.Cells.{bit, on}
+use Rattle.cell_nets.specs.cell_core.Sites.{ProgramView, site_at, bytes_of}
 use Rattle.array_net.specs.hazard_core.declared.access.Access.{Access}
 use Rattle.array_net.specs.hazard_core.declared.change.Change.{Change}
 use Rattle.array_net.specs.hazard_core.Tables.{TableState, table_at, slot_at}
@@ -24,9 +24,9 @@ use Rattle.cell_nets.specs.declared.operand.Operand.{Operand}
 use Rattle.cell_nets.specs.declared.operand.Operand.TheVariants.{Net}
 use Rattle.cell_nets.specs.Operands.{number_in, HasWidth, IsOperand, IsWide, IsFit, AreFit, IsAvailable}
 use Rattle.cell_nets.specs.Wires.{behind, always, Gives}
-use Rattle.step_nets.specs.Standing.{Stands}
-use Rattle.step_nets.proofs.ChainLaws.{starts, next}
-use Rattle.step_nets.proofs.StepLaws.{all_each, on_bit}
+use Rattle.operand_blocks.specs.step_nets.Standing.{Stands}
+use Rattle.touch_net.proofs.step_nets_laws.ChainLaws.{starts, next}
+use Rattle.touch_net.proofs.step_nets_laws.StepLaws.{all_each, on_bit}
 use Rattle.commit_net.specs.declared.choosing.CommitNets.{CommitNets}
 use Rattle.commit_net.specs.Choosing.{all_read, HasOperands}
 use Rattle.commit_net.specs.Wholes.{slot_before}

@@ -14,10 +14,10 @@ use Rattle.xdp_maps.specs.declared.decl.MapDecl.{MapDecl}
 use Rattle.xdp_maps.specs.declared.decl.MapKind.TheVariants.{Array}
 use Rattle.xdp_maps.specs.Contents.{IsBytes, index_key}
 use Rattle.xdp_maps.specs.Operations.{key_in}
-use Rattle.cell_core.specs.declared.site.Act.{Act}
-use Rattle.cell_core.specs.declared.site.Act.TheVariants as act
-use Rattle.cell_core.specs.Cells.{bit, on, bits_from, phi}
-use Rattle.cell_core.specs.Sites.{ProgramView, SiteView, site_at, bytes_of, operation_with}
+use Rattle.cell_nets.specs.cell_core.declared.site.Act.{Act}
+use Rattle.cell_nets.specs.cell_core.declared.site.Act.TheVariants as act
+use Rattle.cell_nets.specs.cell_core.Cells.{bit, on, bits_from, phi}
+use Rattle.cell_nets.specs.cell_core.Sites.{ProgramView, SiteView, site_at, bytes_of, operation_with}
 use Rattle.array_net.specs.hazard_core.declared.slot.Slot.{Slot}
 use Rattle.array_net.specs.hazard_core.Tables.{TableState, no_slot, decl_of, table_at, slot_at, has_key, slot_of, free_slot}
 use Rattle.array_net.specs.hazard_core.declared.pointer.Pointer.TheVariants.{Null, InSlot}
@@ -28,7 +28,7 @@ use Rattle.cell_nets.specs.declared.operand.Operand.{Operand}
 use Rattle.cell_nets.specs.declared.operand.Operand.TheVariants.{Known, Net}
 use Rattle.cell_nets.specs.Operands.{number_in, IsOperand, IsFit}
 use Rattle.cell_nets.proofs.ChoiceLemmas.{number_small}
-use Rattle.step_nets.proofs.StepLaws.{small_bits}
+use Rattle.touch_net.proofs.step_nets_laws.StepLaws.{small_bits}
 use Rattle.commit_net.specs.declared.choosing.CommitNets.{CommitNets}
 use Rattle.commit_net.specs.Choosing.{read_of, all_read, IsOnly, Commits}
 use Rattle.commit_net.specs.Wholes.{slot_before}

@@ -9,14 +9,14 @@ use Rattle.block_core.specs.declared.name.Name.{Name}
 use Rattle.block_core.specs.Blocks.{BlockWireTree}
 use Rattle.xdp_maps.specs.declared.decl.MapDecl.{MapDecl}
 use Rattle.xdp_maps.specs.declared.decl.MapKind.TheVariants.{Hash, Array}
-use Rattle.cell_core.specs.Cells.{bits_from}
+use Rattle.cell_nets.specs.cell_core.Cells.{bits_from}
 use Rattle.cell_nets.specs.declared.operand.Operand.{Operand}
 use Rattle.cell_nets.specs.declared.operand.Operand.TheVariants.{Known, Net}
 use Rattle.cell_nets.specs.Operands.{number_in, IsOperand, IsAvailable}
 use Rattle.cell_nets.specs.Wires.{always, Gives}
 use Rattle.cell_nets.proofs.ShiftLemmas.{cut_low}
-use Rattle.step_nets.specs.Standing.{Stands}
-use Rattle.step_nets.proofs.ChainLaws.{starts, next}
+use Rattle.operand_blocks.specs.step_nets.Standing.{Stands}
+use Rattle.touch_net.proofs.step_nets_laws.ChainLaws.{starts, next}
 use Rattle.commit_net.specs.declared.choosing.CommitNets.{CommitNets}
 use Rattle.commit_net.specs.Choosing.{read_of, all_read}
 use Rattle.change_net.specs.Pointed.{word_operands}

@@ -11,7 +11,7 @@ use Rattle.frame_net.proofs.FormLaws.{and_is}
 use Rattle.cell_nets.specs.declared.operand.Operand.{Operand}
 use Rattle.cell_nets.specs.Operands.{number_in, IsOperand, AreFit, IsAvailable}
 use Rattle.cell_nets.specs.Wires.{behind, Gives, always}
-use Rattle.step_nets.proofs.StepLaws.{all_each}
+use Rattle.touch_net.proofs.step_nets_laws.StepLaws.{all_each}
 use Rattle.operand_blocks.proofs.WiringLaws.{no_wires, all_outside}
 use Rattle.change_net.specs.Pointed.{IsOver}
 

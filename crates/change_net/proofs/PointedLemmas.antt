@@ -18,7 +18,7 @@ use Rattle.block_core.specs.Blocks.{BlockWireTree, Whole}
 use Rattle.block_core.specs.Parts.{Solve, Goes}
 use Rattle.block_core.specs.Order.{RightReads, IsBefore, InOrder}
 use Rattle.block_core.specs.Formed.{names_scope, name_width, block_memories, block_wires_typed, IsThere}
-use Rattle.cell_core.specs.Cells.{bits_from}
+use Rattle.cell_nets.specs.cell_core.Cells.{bits_from}
 use Rattle.array_net.specs.hazard_core.Commits.{word_count}
 use Rattle.frame_net.specs.SourcesNets.{held}
 use Rattle.frame_net.proofs.FormLaws.{and_is, wire_is}

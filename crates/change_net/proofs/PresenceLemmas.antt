@@ -3,8 +3,8 @@ use Rattle.std.specs.Prelude.{if◌then◌else◌}
 use Rattle.std.proofs.Common.{◌≡◌, ◌∙◌, ℕ, Bool, true, false, ◌&&◌, ◌||◌, List, [], ◌∷◌, refl, ap, arith}
 use Rattle.block_core.specs.declared.name.Name.{Name}
 use Rattle.block_core.specs.Blocks.{BlockWireTree}
-use Rattle.cell_core.specs.Cells.{bit, on, bits_from}
-use Rattle.cell_core.specs.Sites.{ProgramView, site_at}
+use Rattle.cell_nets.specs.cell_core.Cells.{bit, on, bits_from}
+use Rattle.cell_nets.specs.cell_core.Sites.{ProgramView, site_at}
 use Rattle.array_net.specs.hazard_core.Tables.{TableState}
 use Rattle.array_net.specs.hazard_core.Held.{Held, is_delete}
 use Rattle.array_net.specs.hazard_core.Commits.{makes_entry}
@@ -12,9 +12,9 @@ use Rattle.cell_nets.specs.declared.operand.Operand.{Operand}
 use Rattle.cell_nets.specs.declared.operand.Operand.TheVariants.{Known}
 use Rattle.cell_nets.specs.Operands.{number_in, IsAvailable}
 use Rattle.cell_nets.specs.Wires.{always, Gives}
-use Rattle.step_nets.specs.Standing.{Stands}
-use Rattle.step_nets.proofs.ChainLaws.{starts, next}
-use Rattle.step_nets.proofs.StepLaws.{all_each, on_bit, bit_bits}
+use Rattle.operand_blocks.specs.step_nets.Standing.{Stands}
+use Rattle.touch_net.proofs.step_nets_laws.ChainLaws.{starts, next}
+use Rattle.touch_net.proofs.step_nets_laws.StepLaws.{all_each, on_bit, bit_bits}
 use Rattle.commit_net.specs.declared.choosing.CommitNets.{CommitNets}
 use Rattle.commit_net.specs.Choosing.{all_read, IsChosen, Commits}
 use Rattle.change_net.specs.Changes.{ShowsPresence}

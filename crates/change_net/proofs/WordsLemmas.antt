@@ -9,7 +9,7 @@ use Rattle.byteorder.specs.Endian.{little_from, little_bytes}
 use Rattle.byteorder.specs.Numbers.{little_from-cons, little_from-take, length-bytes_low_first}
 use Rattle.net_core.specs.beat_core.Words.{low_bytes}
 use Rattle.net_core.proofs.beat_core.WordLaws.{low_bytes-zero, low_bytes-suc, written_bytes}
-use Rattle.cell_core.specs.Sites.{spelled, bytes_of}
+use Rattle.cell_nets.specs.cell_core.Sites.{spelled, bytes_of}
 use Rattle.array_net.specs.hazard_core.Commits.{word_count, word_at}
 
 -- ---- the bytes of the number that they make

@@ -13,7 +13,7 @@ use Rattle.block_core.specs.Parts.{Solve}
 use Rattle.xdp_maps.specs.declared.decl.MapDecl.{MapDecl}
 use Rattle.xdp_maps.specs.declared.decl.MapKind.{MapKind}
 use Rattle.xdp_maps.specs.declared.decl.MapKind.TheVariants.{Hash, Array}
-use Rattle.cell_core.specs.Cells.{on, bits_from}
+use Rattle.cell_nets.specs.cell_core.Cells.{on, bits_from}
 use Rattle.array_net.specs.hazard_core.Tables.{slot_at}
 use Rattle.array_net.specs.hazard_core.Commits.{word_count, word_at as byte_word}
 use Rattle.array_net.specs.Words.{word_width}
@@ -24,7 +24,7 @@ use Rattle.cell_nets.specs.declared.operand.Operand.{Operand}
 use Rattle.cell_nets.specs.declared.operand.Operand.TheVariants.{Net}
 use Rattle.cell_nets.specs.Operands.{HasWidth, AreFit}
 use Rattle.cell_nets.specs.Wires.{always, Gives}
-use Rattle.step_nets.proofs.StepLaws.{small_bits}
+use Rattle.touch_net.proofs.step_nets_laws.StepLaws.{small_bits}
 use Rattle.operand_blocks.proofs.WiringLaws.{no_wires, all_outside}
 use Rattle.change_net.specs.Pointed.{IsPointedWords}
 use Rattle.change_net.specs.Written.{key_count_as, key_count, written_outside, IsWritten}

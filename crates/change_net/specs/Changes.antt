@@ -11,11 +11,11 @@ use Rattle.xdp_maps.specs.declared.decl.MapDecl.{MapDecl}
 use Rattle.xdp_maps.specs.declared.decl.MapKind.{MapKind}
 use Rattle.xdp_maps.specs.declared.decl.MapKind.TheVariants.{Hash, Array}
 use Rattle.xdp_maps.specs.Contents.{IsBytes, index_key}
-use Rattle.cell_core.specs.declared.site.Act.{Act}
-use Rattle.cell_core.specs.declared.site.Act.TheVariants as act
-use Rattle.cell_core.specs.Cells.{bit, on, bits_from, phi}
-use Rattle.cell_core.specs.Sites.{ProgramView, site_at}
-use Rattle.cell_core.specs.Formed.{FitsMap}
+use Rattle.cell_nets.specs.cell_core.declared.site.Act.{Act}
+use Rattle.cell_nets.specs.cell_core.declared.site.Act.TheVariants as act
+use Rattle.cell_nets.specs.cell_core.Cells.{bit, on, bits_from, phi}
+use Rattle.cell_nets.specs.cell_core.Sites.{ProgramView, site_at}
+use Rattle.cell_nets.specs.cell_core.Formed.{FitsMap}
 use Rattle.array_net.specs.hazard_core.declared.slot.Slot.{Slot}
 use Rattle.array_net.specs.hazard_core.declared.access.Access.{Access}
 use Rattle.array_net.specs.hazard_core.Tables.{TableState, decl_of, table_at, slot_at, has_key}
@@ -27,7 +27,7 @@ use Rattle.cell_nets.specs.declared.operand.Operand.{Operand}
 use Rattle.cell_nets.specs.declared.operand.Operand.TheVariants.{Known, Net}
 use Rattle.cell_nets.specs.Operands.{number_in, IsOperand, AreFit}
 use Rattle.cell_nets.specs.Wires.{always}
-use Rattle.step_nets.specs.Standing.{Stands}
+use Rattle.operand_blocks.specs.step_nets.Standing.{Stands}
 use Rattle.commit_net.specs.declared.choosing.CommitNets.{CommitNets}
 use Rattle.commit_net.specs.Choosing.{all_read, Commits}
 use Rattle.commit_net.specs.Wholes.{slot_before}

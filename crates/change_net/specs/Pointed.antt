@@ -13,7 +13,7 @@ use Rattle.block_core.specs.Blocks.{BlockTree, BlockWireTree, Whole, Among}
 use Rattle.block_core.specs.Parts.{Solve, Goes, Within}
 use Rattle.block_core.specs.Order.{IsBefore, InOrder}
 use Rattle.block_core.specs.Formed.{names_scope, block_memories, IsTypedBlock, StatementReads, IsThere}
-use Rattle.cell_core.specs.Cells.{bits_from}
+use Rattle.cell_nets.specs.cell_core.Cells.{bits_from}
 use Rattle.array_net.specs.hazard_core.Commits.{word_count, word_at as byte_word}
 use Rattle.array_net.specs.Words.{word_width, HoldsWords}
 use Rattle.array_net.specs.Hosts.{SeesMemories}

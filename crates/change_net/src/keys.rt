@@ -5,7 +5,7 @@ ghost use Rattle.xdp_maps.specs.Contents.{IsWithinLimits};
 ghost use Rattle.cell_nets.specs.declared.operand.Operand.{Operand};
 ghost use Rattle.cell_nets.specs.Operands.{IsOperand};
 ghost use Rattle.cell_nets.specs.Wires.{wires_of, always, Gives};
-ghost use Rattle.step_nets.specs.Standing.{Stands};
+ghost use Rattle.operand_blocks.specs.step_nets.Standing.{Stands};
 ghost use Rattle.commit_net.specs.Choosing.{all_read, HasOperands};
 ghost use Rattle.change_net.specs.Pointed.{word_operands};
 ghost use Rattle.change_net.specs.Written.{key_count};
@@ -13,12 +13,12 @@ ghost use Rattle.change_net.specs.Changes.{owns_key, key_by, key_pairs, key_valu
 
 use block_core::block::BlockWire;
 use block_core::name::Name;
-use cell_core::site::Act;
+use cell_nets::cell_core::site::Act;
 use cell_nets::operand::Operand;
 use cell_nets::phi::phi_wires;
 use commit_net::choosing::CommitNets;
 use std::alloc::{AllocError, Global};
-use step_nets::choose;
+use touch_net::step_nets::choose;
 use xdp_maps::decl::{MapDecl, MapKind};
 
 // Whether the key of the change is that of the operation, and not the one that stands in the slot.

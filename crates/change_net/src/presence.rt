@@ -2,11 +2,11 @@
 
 ghost use Rattle.std.specs.Prelude.{[], ◌∷◌, ◌==◌, ◌<◌, ◌&&◌, ◌||◌, All, IfOk};
 ghost use Rattle.net_core.specs.declared.ports.TheConstants.{HOST_MAP};
-ghost use Rattle.cell_core.specs.Cells.{bit, on};
+ghost use Rattle.cell_nets.specs.cell_core.Cells.{bit, on};
 ghost use Rattle.cell_nets.specs.declared.operand.Operand.{Operand};
 ghost use Rattle.cell_nets.specs.Operands.{IsOperand, number_in};
 ghost use Rattle.cell_nets.specs.Wires.{wires_of, always, Gives};
-ghost use Rattle.step_nets.specs.Standing.{Stands};
+ghost use Rattle.operand_blocks.specs.step_nets.Standing.{Stands};
 ghost use Rattle.commit_net.specs.Choosing.{all_read, HasOperands};
 ghost use Rattle.change_net.specs.Changes.{host_map, ShowsPresence};
 
@@ -17,7 +17,7 @@ use commit_net::choosing::{CommitNets, delete_net, insert_net};
 use net_core::ports::HOST_MAP;
 use operand_blocks::wiring::named;
 use std::alloc::{AllocError, Global};
-use step_nets::{both, choose, equal, truth};
+use touch_net::step_nets::{both, choose, equal, truth};
 
 /// Whether the operation that commits takes an entry away or puts one there: 0 where none commits.
 pub(crate) fn presence_net<P: Copy>(

@@ -11,7 +11,7 @@ use block_core::name::{Name, Part};
 use cell_nets::operand::Operand;
 use net_core::ports::HOST_INDEX;
 use std::alloc::{AllocError, Global};
-use step_nets::choose;
+use touch_net::step_nets::choose;
 use xdp_maps::decl::{MapDecl, MapKind};
 
 /// How many words of keys the table of a map has: of an array the number of a slot is its key.

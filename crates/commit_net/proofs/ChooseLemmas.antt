@@ -9,23 +9,23 @@ use Rattle.cell_core.specs.declared.site.Act.TheVariants as act
 use Rattle.cell_core.specs.Sites.{ProgramView, SiteView, bytes_of, operation_with}
 use Rattle.xdp_maps.specs.declared.decl.MapDecl.{MapDecl}
 use Rattle.xdp_maps.specs.Operations.{key_in}
-use Rattle.array_net.specs.hazard_core.Tables.{decl_of}
-use Rattle.cell_nets.specs.declared.operand.Operand.{Operand}
-use Rattle.cell_nets.specs.declared.operand.Operand.TheVariants.{Known}
-use Rattle.array_net.specs.hazard_core.Held.{Held, held_value, is_delete, asked_key}
-use Rattle.array_net.specs.hazard_core.Commits.{word_at, word_count}
-use Rattle.array_net.specs.Words.{word_width}
-use Rattle.array_net.proofs.WordLaws.{word_there}
-use Rattle.cell_nets.proofs.NarrowLemmas.{from_zero}
+use Rattle.hash_net.specs.array_net.hazard_core.Tables.{decl_of}
+use Rattle.site_operands.specs.cell_nets.declared.operand.Operand.{Operand}
+use Rattle.site_operands.specs.cell_nets.declared.operand.Operand.TheVariants.{Known}
+use Rattle.hash_net.specs.array_net.hazard_core.Held.{Held, held_value, is_delete, asked_key}
+use Rattle.hash_net.specs.array_net.hazard_core.Commits.{word_at, word_count}
+use Rattle.hash_net.specs.array_net.Words.{word_width}
+use Rattle.hash_net.proofs.array_net_laws.WordLaws.{word_there}
+use Rattle.operand_blocks.proofs.cell_nets.NarrowLemmas.{from_zero}
 use Rattle.value_net.proofs.ByteLemmas.{word_of_words, word_left}
 use Rattle.value_net.proofs.ChangeLemmas.{size_one, wide_one, unchanged_is}
 use Rattle.value_net.specs.Words.{IsAligned}
 use Rattle.cell_core.specs.xdp_machine.Memory.{bytes_in}
 use Rattle.xdp_maps.specs.Contents.{IsBytes}
 use Rattle.cell_core.specs.Formed.{IsInside}
-use Rattle.array_net.specs.hazard_core.Overlay.{value_as}
+use Rattle.hash_net.specs.array_net.hazard_core.Overlay.{value_as}
 use Rattle.std.proofs.lemmas.Bool.{eqb-false}
-use Rattle.cell_nets.specs.Operands.{number_in}
+use Rattle.site_operands.specs.cell_nets.Operands.{number_in}
 use Rattle.commit_net.specs.declared.choosing.CommitNets.{CommitNets}
 use Rattle.commit_net.specs.declared.choosing.Asked.{Asked}
 use Rattle.commit_net.specs.declared.choosing.Asked.TheVariants.{Slot, Insert, Delete, Key, Change}

@@ -17,13 +17,13 @@ use Rattle.block_core.specs.Blocks.{BlockWireTree, Whole}
 use Rattle.block_core.specs.Parts.{Solve, Goes}
 use Rattle.block_core.specs.Order.{RightReads, IsBefore, InOrder}
 use Rattle.block_core.specs.Formed.{names_scope, name_width, block_memories, block_wire_width, block_wires_typed}
-use Rattle.array_net.specs.hazard_core.Commits.{word_count}
+use Rattle.hash_net.specs.array_net.hazard_core.Commits.{word_count}
 use Rattle.frame_net.specs.SourcesNets.{held}
 use Rattle.frame_net.proofs.FormLaws.{and_is, wire_is}
-use Rattle.array_net.specs.Words.{word_width}
-use Rattle.array_net.specs.WordTrees.{word_shown}
-use Rattle.array_net.proofs.WordLaws.{width_some, width_most}
-use Rattle.array_net.proofs.WordReadLaws.{filled_reads, filled_depth, filled_apart, filled_flat, shown_width, shown_value}
+use Rattle.hash_net.specs.array_net.Words.{word_width}
+use Rattle.hash_net.specs.array_net.WordTrees.{word_shown}
+use Rattle.hash_net.proofs.array_net_laws.WordLaws.{width_some, width_most}
+use Rattle.hash_net.proofs.array_net_laws.WordReadLaws.{filled_reads, filled_depth, filled_apart, filled_flat, shown_width, shown_value}
 use Rattle.commit_net.specs.Fetching.{fetched_wire, fetch_block, IsFetch}
 
 -- ---- loops over numbers

@@ -8,11 +8,11 @@ use Rattle.xdp_maps.specs.Operations.{Operation}
 use Rattle.cell_core.specs.declared.site.Act.{Act}
 use Rattle.cell_core.specs.declared.site.Act.TheVariants as act
 use Rattle.cell_core.specs.Sites.{ProgramView, site_at}
-use Rattle.array_net.specs.hazard_core.declared.slot.Slot.{Slot}
-use Rattle.array_net.specs.hazard_core.Tables.{TableState, decl_of, table_at, slot_of}
-use Rattle.array_net.specs.hazard_core.declared.pointer.Pointer.TheVariants.{Null, InSlot, Pending}
-use Rattle.array_net.specs.hazard_core.Held.{same_pointer, Held, held_value, answer_cell, guard_on, is_update, is_delete, asked, asked_key, writes_as, written_as}
-use Rattle.array_net.specs.hazard_core.Commits.{makes_entry, written_slot, slot_as}
+use Rattle.hash_net.specs.array_net.hazard_core.declared.slot.Slot.{Slot}
+use Rattle.hash_net.specs.array_net.hazard_core.Tables.{TableState, decl_of, table_at, slot_of}
+use Rattle.hash_net.specs.array_net.hazard_core.declared.pointer.Pointer.TheVariants.{Null, InSlot, Pending}
+use Rattle.hash_net.specs.array_net.hazard_core.Held.{same_pointer, Held, held_value, answer_cell, guard_on, is_update, is_delete, asked, asked_key, writes_as, written_as}
+use Rattle.hash_net.specs.array_net.hazard_core.Commits.{makes_entry, written_slot, slot_as}
 use Rattle.commit_net.specs.Wholes.{table_of, slot_before}
 use Rattle.commit_net.specs.Laws.{CommitsOneSlot, CommitsOneValue}
 use Rattle.commit_net.proofs.SlotLemmas.{slot_is, table_is, others_stay, decls_stay}

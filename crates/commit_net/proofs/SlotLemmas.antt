@@ -12,14 +12,14 @@ use Rattle.cell_core.specs.declared.site.Act.{Act}
 use Rattle.cell_core.specs.declared.site.Act.TheVariants as act
 use Rattle.cell_core.specs.Formed.{HasWords}
 use Rattle.cell_core.specs.Sites.{ProgramView, SiteView, site_at, spelled, bytes_of, operation_with}
-use Rattle.array_net.specs.hazard_core.declared.slot.Slot.{Slot}
-use Rattle.array_net.specs.hazard_core.Tables.{TableState, decl_of, table_at, slot_at, no_slot}
-use Rattle.array_net.specs.hazard_core.Shaped.{IsShaped}
-use Rattle.array_net.specs.hazard_core.declared.pointer.Pointer.TheVariants.{Pending}
-use Rattle.array_net.specs.hazard_core.Held.{Held, held_value, same_pointer, is_update, is_delete, asked, asked_key, written_pointer}
-use Rattle.array_net.specs.hazard_core.Overlay.{value_as}
-use Rattle.array_net.specs.hazard_core.Commits.{word_count, word_at, slot_as, makes_entry, written_slot, committed}
-use Rattle.array_net.specs.hazard_core.Changes.{IsRightCommit}
+use Rattle.hash_net.specs.array_net.hazard_core.declared.slot.Slot.{Slot}
+use Rattle.hash_net.specs.array_net.hazard_core.Tables.{TableState, decl_of, table_at, slot_at, no_slot}
+use Rattle.hash_net.specs.array_net.hazard_core.Shaped.{IsShaped}
+use Rattle.hash_net.specs.array_net.hazard_core.declared.pointer.Pointer.TheVariants.{Pending}
+use Rattle.hash_net.specs.array_net.hazard_core.Held.{Held, held_value, same_pointer, is_update, is_delete, asked, asked_key, written_pointer}
+use Rattle.hash_net.specs.array_net.hazard_core.Overlay.{value_as}
+use Rattle.hash_net.specs.array_net.hazard_core.Commits.{word_count, word_at, slot_as, makes_entry, written_slot, committed}
+use Rattle.hash_net.specs.array_net.hazard_core.Changes.{IsRightCommit}
 use Rattle.hash_net.specs.Hash.{used_after}
 use Rattle.value_net.specs.Words.{IsAligned}
 use Rattle.value_net.proofs.EntryLemmas.{value_bytes}

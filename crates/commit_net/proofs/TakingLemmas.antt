@@ -6,14 +6,14 @@ use Rattle.std.proofs.lemmas.List.{get_or-set_same, get_or-set_other}
 use Rattle.net_core.specs.Value.{Env}
 use Rattle.cell_core.specs.Cells.{on}
 use Rattle.cell_core.specs.Sites.{ProgramView, site_at}
-use Rattle.array_net.specs.hazard_core.Tables.{TableState}
-use Rattle.array_net.specs.hazard_core.Held.{Held, is_update}
-use Rattle.array_net.specs.hazard_core.Commits.{written_slot, taken_after}
-use Rattle.cell_nets.specs.declared.operand.Operand.{Operand}
-use Rattle.cell_nets.specs.Operands.{number_in}
+use Rattle.hash_net.specs.array_net.hazard_core.Tables.{TableState}
+use Rattle.hash_net.specs.array_net.hazard_core.Held.{Held, is_update}
+use Rattle.hash_net.specs.array_net.hazard_core.Commits.{written_slot, taken_after}
+use Rattle.site_operands.specs.cell_nets.declared.operand.Operand.{Operand}
+use Rattle.site_operands.specs.cell_nets.Operands.{number_in}
 use Rattle.commit_net.specs.declared.choosing.CommitNets.{CommitNets}
 use Rattle.commit_net.specs.Taking.{ShowsTaking}
-use Rattle.step_nets.proofs.StepLaws.{on_bit}
+use Rattle.operand_blocks.proofs.step_nets_laws.StepLaws.{on_bit}
 
 pub taken_is :
     {N : Type 0} (v : Env N) (p : ProgramView) (t : TableState) (taken : List ℕ) (h : Held) (j i bits : ℕ) (n : CommitNets N) (held : Operand N) → ShowsTaking v p t taken h j i bits n held

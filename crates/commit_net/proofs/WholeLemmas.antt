@@ -11,24 +11,24 @@ use Rattle.xdp_maps.specs.declared.decl.MapDecl.{MapDecl}
 use Rattle.xdp_maps.specs.Contents.{IsBytes}
 use Rattle.cell_core.specs.Cells.{bit}
 use Rattle.cell_core.specs.Sites.{ProgramView, site_at}
-use Rattle.array_net.specs.hazard_core.Tables.{TableState, decl_of}
-use Rattle.array_net.specs.hazard_core.Held.{Held, is_delete, asked, asked_key}
-use Rattle.array_net.specs.hazard_core.Overlay.{value_as}
-use Rattle.array_net.specs.hazard_core.Commits.{word_count, makes_entry, written_slot}
-use Rattle.array_net.specs.declared.words.WordNets.{WordNets}
+use Rattle.hash_net.specs.array_net.hazard_core.Tables.{TableState, decl_of}
+use Rattle.hash_net.specs.array_net.hazard_core.Held.{Held, is_delete, asked, asked_key}
+use Rattle.hash_net.specs.array_net.hazard_core.Overlay.{value_as}
+use Rattle.hash_net.specs.array_net.hazard_core.Commits.{word_count, makes_entry, written_slot}
+use Rattle.hash_net.specs.array_net.declared.words.WordNets.{WordNets}
 use Rattle.hash_net.specs.declared.block.HashNets.{HashNets}
-use Rattle.cell_nets.specs.declared.operand.Operand.{Operand}
-use Rattle.cell_nets.specs.declared.operand.Operand.TheVariants.{Net}
-use Rattle.cell_nets.specs.Operands.{IsAvailable}
-use Rattle.cell_nets.specs.Wires.{behind, Gives}
+use Rattle.site_operands.specs.cell_nets.declared.operand.Operand.{Operand}
+use Rattle.site_operands.specs.cell_nets.declared.operand.Operand.TheVariants.{Net}
+use Rattle.site_operands.specs.cell_nets.Operands.{IsAvailable}
+use Rattle.site_operands.specs.cell_nets.Wires.{behind, Gives}
 use Rattle.value_net.specs.Words.{IsAligned}
 use Rattle.commit_net.specs.declared.choosing.CommitNets.{CommitNets}
 use Rattle.commit_net.specs.Choosing.{changes_word, all_read, IsChosen, Commits}
 use Rattle.commit_net.specs.Words.{IsFitting}
-use Rattle.step_nets.specs.Standing.{Stands}
+use Rattle.operand_blocks.specs.step_nets.Standing.{Stands}
 use Rattle.commit_net.specs.Wiring.{word_operand, outside_of, ShowsValue, key_operands, value_operands, ShowWords, ShowChanges}
 use Rattle.commit_net.specs.Wholes.{slot_before, slot_after, IsSlotPart, IsHashCommit, IsArrayCommit}
-use Rattle.step_nets.proofs.ChainLaws.{starts, next}
+use Rattle.operand_blocks.proofs.step_nets_laws.ChainLaws.{starts, next}
 use Rattle.operand_blocks.specs.Wiring.{wires_block}
 use Rattle.operand_blocks.proofs.WiringLaws.{is_wiring, all_there, all_known, declared_there, word_is, before_later, there_in}
 use Rattle.commit_net.proofs.WordLemmas.{nothing_held, stands_as, after, before}

@@ -10,15 +10,15 @@ use Rattle.xdp_maps.specs.declared.decl.MapDecl.{MapDecl}
 use Rattle.xdp_maps.specs.Contents.{IsBytes}
 use Rattle.cell_core.specs.Formed.{HasWords, IsInside}
 use Rattle.cell_core.specs.Sites.{ProgramView, SiteView, site_at, no_site, operation_with}
-use Rattle.array_net.specs.hazard_core.Held.{Held, held_value, asked}
-use Rattle.array_net.specs.hazard_core.Overlay.{value_as}
-use Rattle.array_net.specs.hazard_core.Tables.{TableState, decl_of}
-use Rattle.array_net.specs.hazard_core.Commits.{word_at}
-use Rattle.array_net.specs.Words.{word_width}
-use Rattle.cell_nets.specs.declared.operand.Operand.{Operand}
-use Rattle.cell_nets.specs.Operands.{number_in, IsAvailable}
-use Rattle.cell_nets.specs.Wires.{Gives}
-use Rattle.cell_nets.proofs.ApartLemmas.{stay_none, stay_next}
+use Rattle.hash_net.specs.array_net.hazard_core.Held.{Held, held_value, asked}
+use Rattle.hash_net.specs.array_net.hazard_core.Overlay.{value_as}
+use Rattle.hash_net.specs.array_net.hazard_core.Tables.{TableState, decl_of}
+use Rattle.hash_net.specs.array_net.hazard_core.Commits.{word_at}
+use Rattle.hash_net.specs.array_net.Words.{word_width}
+use Rattle.site_operands.specs.cell_nets.declared.operand.Operand.{Operand}
+use Rattle.site_operands.specs.cell_nets.Operands.{number_in, IsAvailable}
+use Rattle.site_operands.specs.cell_nets.Wires.{Gives}
+use Rattle.operand_blocks.proofs.cell_nets.ApartLemmas.{stay_none, stay_next}
 use Rattle.site_operands.specs.Sites.{operands_of, ShowsAsked}
 use Rattle.value_net.proofs.EntryLemmas.{value_bytes}
 use Rattle.value_net.proofs.ByteLemmas.{word_is, small_in}
@@ -28,8 +28,8 @@ use Rattle.byteorder.specs.Endian.{little_from}
 use Rattle.commit_net.specs.declared.choosing.CommitNets.{CommitNets}
 use Rattle.commit_net.specs.Choosing.{read_of, all_read, chosen_of, IsChosen, Commits}
 use Rattle.commit_net.specs.Words.{IsFitting}
-use Rattle.step_nets.specs.Standing.{Stands}
-use Rattle.step_nets.proofs.ChainLaws.{starts, next}
+use Rattle.operand_blocks.specs.step_nets.Standing.{Stands}
+use Rattle.operand_blocks.proofs.step_nets_laws.ChainLaws.{starts, next}
 use Rattle.commit_net.proofs.ChooseLemmas.{read_each, each_chosen}
 
 module _ {P : Type 0} {p : P} where

@@ -6,12 +6,12 @@ use Rattle.cell_core.specs.declared.site.Act.{Act}
 use Rattle.cell_core.specs.declared.site.Act.TheVariants as act
 use Rattle.cell_core.specs.Cells.{bit, phi}
 use Rattle.cell_core.specs.Sites.{ProgramView, site_at}
-use Rattle.array_net.specs.hazard_core.Tables.{TableState}
-use Rattle.array_net.specs.hazard_core.Held.{Held, is_delete}
-use Rattle.array_net.specs.hazard_core.Commits.{written_slot, makes_entry}
-use Rattle.cell_nets.specs.declared.operand.Operand.{Operand}
-use Rattle.cell_nets.specs.declared.operand.Operand.TheVariants.{Known}
-use Rattle.cell_nets.specs.Operands.{number_in, IsOperand}
+use Rattle.hash_net.specs.array_net.hazard_core.Tables.{TableState}
+use Rattle.hash_net.specs.array_net.hazard_core.Held.{Held, is_delete}
+use Rattle.hash_net.specs.array_net.hazard_core.Commits.{written_slot, makes_entry}
+use Rattle.site_operands.specs.cell_nets.declared.operand.Operand.{Operand}
+use Rattle.site_operands.specs.cell_nets.declared.operand.Operand.TheVariants.{Known}
+use Rattle.site_operands.specs.cell_nets.Operands.{number_in, IsOperand}
 use Rattle.site_operands.specs.Sites.{operands_of, ShowsAsked}
 use Rattle.commit_net.specs.declared.choosing.CommitNets.{CommitNets}
 use Rattle.commit_net.specs.declared.choosing.Asked.{Asked}

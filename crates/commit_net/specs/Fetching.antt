@@ -14,11 +14,11 @@ use Rattle.block_core.specs.Blocks.{BlockTree, BlockWireTree, Whole, Among}
 use Rattle.block_core.specs.Parts.{Solve, Goes, Within}
 use Rattle.block_core.specs.Order.{IsBefore, InOrder}
 use Rattle.block_core.specs.Formed.{name_width, block_memories, block_wires, IsTypedBlock, StatementReads, IsThere}
-use Rattle.array_net.specs.hazard_core.Commits.{word_count, word_at as byte_word}
+use Rattle.hash_net.specs.array_net.hazard_core.Commits.{word_count, word_at as byte_word}
 use Rattle.frame_net.specs.GatherNets.{wire}
-use Rattle.array_net.specs.Words.{word_width, HoldsWords}
-use Rattle.array_net.specs.WordTrees.{word_shown}
-use Rattle.array_net.specs.Hosts.{SeesMemories}
+use Rattle.hash_net.specs.array_net.Words.{word_width, HoldsWords}
+use Rattle.hash_net.specs.array_net.WordTrees.{word_shown}
+use Rattle.hash_net.specs.array_net.Hosts.{SeesMemories}
 
 -- the wire of a word, where a memory of another part has the first words of byte strings
 abbrev pub fetched_wire : {P : Type 0} → P → ℕ → ℕ → Name P → ℕ → BlockWireTree (Name P)

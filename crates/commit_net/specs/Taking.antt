@@ -3,11 +3,11 @@ use Rattle.std.specs.Prelude.{◌≡◌, ℕ, ◌^◌, ◌<◌, ◌==◌, true, 
 use Rattle.net_core.specs.Value.{Env}
 use Rattle.cell_core.specs.Cells.{bit}
 use Rattle.cell_core.specs.Sites.{ProgramView, site_at}
-use Rattle.array_net.specs.hazard_core.Tables.{TableState}
-use Rattle.array_net.specs.hazard_core.Held.{Held, is_update}
-use Rattle.array_net.specs.hazard_core.Commits.{written_slot, taken_after}
-use Rattle.cell_nets.specs.declared.operand.Operand.{Operand}
-use Rattle.cell_nets.specs.Operands.{number_in}
+use Rattle.hash_net.specs.array_net.hazard_core.Tables.{TableState}
+use Rattle.hash_net.specs.array_net.hazard_core.Held.{Held, is_update}
+use Rattle.hash_net.specs.array_net.hazard_core.Commits.{written_slot, taken_after}
+use Rattle.site_operands.specs.cell_nets.declared.operand.Operand.{Operand}
+use Rattle.site_operands.specs.cell_nets.Operands.{number_in}
 use Rattle.commit_net.specs.declared.choosing.CommitNets.{CommitNets}
 
 -- The operation of site j commits. Operands say whether that is the update of site i, which slot this writes if it is, and which slot it took before.

@@ -3,12 +3,12 @@ use Rattle.std.specs.Prelude.{◌≡◌, ◌≢◌, ℕ, ◌^◌, ◌<◌, ◌�
 use Rattle.std.proofs.Common.{get_or}
 use Rattle.net_core.specs.Value.{Env}
 use Rattle.cell_core.specs.Sites.{ProgramView, site_at}
-use Rattle.array_net.specs.hazard_core.Tables.{TableState, table_at, free_slot}
-use Rattle.array_net.specs.hazard_core.declared.pointer.Pointer.TheVariants.{Pending}
-use Rattle.array_net.specs.hazard_core.Held.{Held, written_pointer}
-use Rattle.array_net.specs.hazard_core.Commits.{written_slot}
-use Rattle.cell_nets.specs.declared.operand.Operand.{Operand}
-use Rattle.cell_nets.specs.Operands.{number_in}
+use Rattle.hash_net.specs.array_net.hazard_core.Tables.{TableState, table_at, free_slot}
+use Rattle.hash_net.specs.array_net.hazard_core.declared.pointer.Pointer.TheVariants.{Pending}
+use Rattle.hash_net.specs.array_net.hazard_core.Held.{Held, written_pointer}
+use Rattle.hash_net.specs.array_net.hazard_core.Commits.{written_slot}
+use Rattle.site_operands.specs.cell_nets.declared.operand.Operand.{Operand}
+use Rattle.site_operands.specs.cell_nets.Operands.{number_in}
 use Rattle.site_operands.specs.Pointers.{pointer_number}
 use Rattle.commit_net.specs.declared.target.TakenSlot.{TakenSlot}
 

@@ -3,11 +3,11 @@ use Rattle.std.specs.Prelude.{◌≡◌, ℕ, suc, ◌<◌, Bool, List, [], ◌�
 use Rattle.std.proofs.Common.{get_or}
 use Rattle.net_core.specs.Value.{Env}
 use Rattle.cell_core.specs.Cells.{bit}
-use Rattle.array_net.specs.hazard_core.Commits.{word_at}
-use Rattle.array_net.specs.declared.words.WordNets.{WordNets}
-use Rattle.array_net.specs.Words.{word_width}
-use Rattle.cell_nets.specs.declared.operand.Operand.{Operand}
-use Rattle.cell_nets.specs.declared.operand.Operand.TheVariants.{Net}
+use Rattle.hash_net.specs.array_net.hazard_core.Commits.{word_at}
+use Rattle.hash_net.specs.array_net.declared.words.WordNets.{WordNets}
+use Rattle.hash_net.specs.array_net.Words.{word_width}
+use Rattle.site_operands.specs.cell_nets.declared.operand.Operand.{Operand}
+use Rattle.site_operands.specs.cell_nets.declared.operand.Operand.TheVariants.{Net}
 use Rattle.commit_net.specs.declared.choosing.CommitNets.{CommitNets}
 use Rattle.commit_net.specs.Choosing.{all_read}
 

@@ -3,13 +3,13 @@
 ghost use Rattle.std.specs.Prelude.{◌≡◌, ◌+◌, ◌≤◌, ◌<◌, IfOk, map};
 ghost use Rattle.std.specs.List.{range_with_len};
 ghost use Rattle.block_core.specs.View.{block_of, block_wire_of};
-ghost use Rattle.array_net.specs.hazard_core.Commits.{word_count};
+ghost use Rattle.hash_net.specs.array_net.hazard_core.Commits.{word_count};
 ghost use Rattle.commit_net.specs.Fetching.{fetched_wire, fetched_words, IsFetch};
 
-use array_net::words::word_shown;
 use block_core::block::{Block, BlockWire};
 use block_core::name::{Name, Part};
 use frame_net::nets::wire;
+use hash_net::array_net::words::word_shown;
 use net_core::build::block;
 use net_core::tree::{Expr, Stmts};
 use std::alloc::{AllocError, Global};

@@ -2,11 +2,11 @@
 
 ghost use Rattle.std.specs.Prelude.{ℕ, List, [], ◌∷◌, ◌≡◌, ◌^◌, ◌<◌, slice_index, IfOk};
 ghost use Rattle.cell_core.specs.Sites.{ProgramView};
-ghost use Rattle.array_net.specs.hazard_core.Tables.{TableState};
-ghost use Rattle.array_net.specs.hazard_core.Held.{Held};
-ghost use Rattle.array_net.specs.hazard_core.Commits.{taken_after};
-ghost use Rattle.cell_nets.specs.Operands.{IsOperand, IsWide, number_in};
-ghost use Rattle.cell_nets.specs.Wires.{wires_of, Gives};
+ghost use Rattle.hash_net.specs.array_net.hazard_core.Tables.{TableState};
+ghost use Rattle.hash_net.specs.array_net.hazard_core.Held.{Held};
+ghost use Rattle.hash_net.specs.array_net.hazard_core.Commits.{taken_after};
+ghost use Rattle.site_operands.specs.cell_nets.Operands.{IsOperand, IsWide, number_in};
+ghost use Rattle.site_operands.specs.cell_nets.Wires.{wires_of, Gives};
 ghost use Rattle.commit_net.specs.Choosing.{HasOperands};
 ghost use Rattle.commit_net.specs.Taking.{ShowsTaking};
 
@@ -14,9 +14,9 @@ use crate::choosing::CommitNets;
 use crate::target::TakenSlot;
 use block_core::block::BlockWire;
 use block_core::name::Name;
-use cell_nets::operand::Operand;
+use operand_blocks::step_nets::choose;
+use site_operands::cell_nets::operand::Operand;
 use std::alloc::{AllocError, Global};
-use step_nets::choose;
 
 /// What the register becomes that holds the slot which the update of a site took: the slot that it writes where it commits, and else what it holds.
 pub fn slot_taken<P: Copy>(

@@ -4,27 +4,27 @@ ghost use Rattle.std.specs.Prelude.{ℕ, List, ◌++◌, ◌≡◌, ◌≤◌, A
 ghost use Rattle.block_core.specs.View.{block_of};
 ghost use Rattle.xdp_maps.specs.Contents.{IsBytes};
 ghost use Rattle.cell_core.specs.Sites.{ProgramView, site_at};
-ghost use Rattle.array_net.specs.hazard_core.Held.{Held, asked, asked_key};
-ghost use Rattle.array_net.specs.hazard_core.Overlay.{value_as};
-ghost use Rattle.array_net.specs.hazard_core.Tables.{TableState, decl_of};
-ghost use Rattle.array_net.specs.hazard_core.Commits.{word_count};
-ghost use Rattle.cell_nets.specs.Operands.{IsWide};
-ghost use Rattle.cell_nets.specs.Wires.{wires_of};
+ghost use Rattle.hash_net.specs.array_net.hazard_core.Held.{Held, asked, asked_key};
+ghost use Rattle.hash_net.specs.array_net.hazard_core.Overlay.{value_as};
+ghost use Rattle.hash_net.specs.array_net.hazard_core.Tables.{TableState, decl_of};
+ghost use Rattle.hash_net.specs.array_net.hazard_core.Commits.{word_count};
+ghost use Rattle.site_operands.specs.cell_nets.Operands.{IsWide};
+ghost use Rattle.site_operands.specs.cell_nets.Wires.{wires_of};
 ghost use Rattle.commit_net.specs.Choosing.{all_read, changes_word, HasOperands, Commits};
 ghost use Rattle.commit_net.specs.Words.{IsFitting};
-ghost use Rattle.step_nets.specs.Standing.{Stands};
+ghost use Rattle.operand_blocks.specs.step_nets.Standing.{Stands};
 ghost use Rattle.commit_net.specs.Wiring.{outside_of, ShowsValue, key_operands, value_operands, ShowWords, ShowChanges};
 ghost use Rattle.commit_net.specs.Wholes.{IsSlotPart, IsHashCommit, IsArrayCommit};
 
 use crate::choosing::{CommitNets, change_net, delete_net, insert_net, key_net, slot_net};
 use crate::words::word_net;
-use array_net::MapNets;
-use array_net::words::{WordNets, word_count};
 use block_core::block::{Block, BlockWire};
 use block_core::name::{Name, Part};
-use cell_nets::operand::Operand;
 use hash_net::HashNets;
+use hash_net::array_net::MapNets;
+use hash_net::array_net::words::{WordNets, word_count};
 use operand_blocks::wiring::wiring;
+use site_operands::cell_nets::operand::Operand;
 use std::alloc::{AllocError, Global};
 use xdp_maps::decl::MapDecl;
 

@@ -24,8 +24,8 @@ use Rattle.pipe_programs.specs.pipe_places.Entries.{AccessesLead}
 use Rattle.pipe_design.specs.pipe_net.Layout.{last_of}
 use Rattle.pipe_design.specs.pipe_forms.Parts.{design, names_of}
 use Rattle.pipe_design.specs.product_rules.Products.{products_apart}
-use Rattle.net_optimize.specs.Same.{DoTheSame}
-use Rattle.same_designs.proofs.HistoryLaws.{same_designs_begin, same_designs_store, same_designs_never_stop}
+use Rattle.same_designs.specs.same_clocks.Same.{ShowTheSame}
+use Rattle.same_designs.proofs.same_clocks.SameLaws.{same_never_stops}
 use Rattle.same_designs.proofs.MeetLaws.{same_designs_meet}
 use Rattle.pipe_design.specs.Pipeline.{IsPipelineOf as IsDesignOf}
 use Rattle.pipe_runs.specs.pipe_ports.Answered.{AreAnswered}
@@ -80,13 +80,12 @@ module _ (meet : PipelinesMeet) (suits : ProgramsAreSuited) (p : XdpProgram) (z 
       (last_of made.layout) z.stages (record_count made.layout.build.program.sites) z.records
       (wanted maps are) (apart maps are) (omega (arith, last, is.planned.within)) (omega (arith, records, is.records)) (loaded maps are).meets
 
-  -- a design that does the same realizes the program, too
-  pub realizes : (m : Netlist) → DoTheSame n m → IsTrue (products_apart m) → (text : List ℕ) → Spells text m → Realizes text p z
+  -- a design that shows the same realizes the program, too
+  pub realizes : (m : Netlist) → ShowTheSame n m → IsTrue (products_apart m) → (text : List ℕ) → Spells text m → Realizes text p z
   realizes m same products text spells = record {
     design = m;
     spells = spells;
     products = products;
-    loads = λ maps are. rw (same_designs_begin n m same) (same_designs_never_stop n m same (first_stored n) (load maps) (loaded maps are).loads);
-    meets = λ maps are. rw (same_designs_begin n m same, same_designs_store n m same (first_stored n) (load maps))
-        (same_designs_meet n m same (stored_after n (first_stored n) (load maps)) (IsSequential p maps) (DoNotConflict p maps z.stages) z.stages z.records (meets maps are));
+    loads = λ maps are. same_never_stops n m same (load maps) (loaded maps are).loads;
+    meets = λ maps are. same_designs_meet n m same (load maps) (IsSequential p maps) (DoNotConflict p maps z.stages) z.stages z.records (meets maps are);
   }

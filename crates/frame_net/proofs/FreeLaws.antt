@@ -7,7 +7,7 @@ use Rattle.net_core.specs.Nets.{SEnd}
 use Rattle.net_core.specs.Chains.{statements_before}
 use Rattle.product_blocks.specs.product_rules.Products.{is_flat, statements_flat}
 use Rattle.product_blocks.specs.Alone.{wire_flat, IsFree}
-use Rattle.block_core.specs.declared.name.Name.{Name}
+use Rattle.product_blocks.specs.block_core.declared.name.Name.{Name}
 use Rattle.frame_net.specs.declared.held.Kept.{Kept}
 use Rattle.frame_net.specs.declared.held.Kept.TheVariants.{Ifindex, Time, Word as FrameWord}
 use Rattle.frame_net.specs.declared.held.Further.{Further}

@@ -23,9 +23,9 @@ use Rattle.net_core.specs.Nets.{TRead, TUnary, TBinary, StatementTree, SIf, SSet
 use Rattle.net_core.specs.Value.{word, bit, nothing, part_select, Env, value, apply, apply_unary, concatenated, conditional}
 use Rattle.net_core.specs.Clock.{Stored, done, edge}
 use Rattle.net_core.proofs.LowBitsLaws.{concatenated_small}
-use Rattle.block_core.specs.declared.name.Name.{Name}
-use Rattle.block_core.specs.declared.name.Name.TheVariants as name
-use Rattle.block_core.specs.Parts.{Solve}
+use Rattle.product_blocks.specs.block_core.declared.name.Name.{Name}
+use Rattle.product_blocks.specs.block_core.declared.name.Name.TheVariants as name
+use Rattle.product_blocks.specs.block_core.Parts.{Solve}
 use Rattle.frame_net.specs.declared.held.Kept.{Kept}
 use Rattle.frame_net.specs.declared.held.Kept.TheVariants.{Ifindex, Time, Word as FrameWord}
 use Rattle.frame_net.specs.declared.held.Further.{Further}

@@ -1,3 +1,4 @@
+pub use Rattle.array_net.proofs as array_net_laws
 mod StoreLists
 mod CountLaws
 mod HashForms

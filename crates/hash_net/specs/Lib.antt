@@ -1,2 +1,3 @@
+pub use Rattle.array_net.specs as array_net
 pub mod HashNets
 pub mod Hash

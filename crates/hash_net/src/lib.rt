@@ -6,3 +6,6 @@ mod nets;
 
 pub use block::{HashNets, count_name, hash, value_name};
 pub use nets::{has_word, value_first};
+
+// Crates above name these through this one.
+pub use array_net;

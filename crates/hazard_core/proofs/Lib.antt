@@ -1,4 +1,4 @@
-pub use Rattle.cell_core.proofs as cell_core
+pub use Rattle.cell_core.proofs as cell_core_laws
 pub mod Changing
 pub mod Unmoved
 pub mod Alike

@@ -1,6 +1,6 @@
 pub use Rattle.cell_core.specs as cell_core
 pub use Rattle.xdp_maps.specs as xdp_maps
-pub use Rattle.xdp_state.specs.xdp_machine as xdp_machine
+pub use Rattle.cell_core.specs.xdp_state.xdp_machine as xdp_machine
 pub mod Tables
 pub mod Shaped
 pub mod Held

@@ -10,9 +10,9 @@ use crate::commit::key_in;
 use crate::operation::number_in;
 use crate::slot::Slot;
 use crate::tables::Tables;
+use cell_core::xdp_state::memory;
 use xdp_maps::decl::{MapDecl, MapKind};
 use xdp_maps::short::ShortBytes;
-use xdp_state::memory;
 
 /// How many words of eight so many bytes take.
 fn word_count(bytes: u32) -> u32

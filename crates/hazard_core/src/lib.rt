@@ -17,3 +17,6 @@ pub mod rows;
 pub mod site;
 pub mod slot;
 pub mod tables;
+
+// Crates above name these through this one.
+pub use cell_core;

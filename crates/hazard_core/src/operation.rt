@@ -15,10 +15,10 @@ use crate::held::Held;
 use crate::tables::Tables;
 use byteorder::{ByteOrder, LittleEndian};
 use cell_core::site::{Act, Atomic, Site};
+use cell_core::xdp_state::memory;
 use xdp_maps::change::Change;
 use xdp_maps::decl::{MapDecl, MapKind};
 use xdp_maps::short::ShortBytes;
-use xdp_state::memory;
 
 /// The first `count` bytes of words of eight.
 #[tactic(auto, using(crate::proofs::Spelling::spelled_more, crate::proofs::Spelling::spelled_all))]

@@ -21,10 +21,10 @@ use crate::tables::Tables;
 use byteorder::{ByteOrder, LittleEndian};
 use cell_core::program::CellProgram;
 use cell_core::site::{Act, Site};
+use cell_core::xdp_state::memory;
 use xdp_maps::decl::{MapDecl, MapKind};
 use xdp_maps::errno::{E2BIG, EEXIST, EINVAL, ENOENT};
 use xdp_maps::short::ShortBytes;
-use xdp_state::memory;
 
 /// The slot that is used under a key, if there is one.
 fn slot_pointer(slots: &[Slot], key: &[u8]) -> Pointer

@@ -3,9 +3,9 @@ use Rattle.std.proofs.Common.{◌≡◌, ℕ, zero, suc, inl, inr, Bool, true, f
 use Rattle.std.specs.FinMap as map
 use Rattle.std.specs.FinMap.{get-insert}
 use Rattle.std.specs.Cmp.Lexicographic.{nat_list_cmp_total}
-use Rattle.xdp_maps.specs.Contents.{Contents}
-use Rattle.xdp_maps.specs.State.{MapState, contents_at, with_contents}
-use Rattle.xdp_maps.specs.Calls.{lookup_of, with_value}
+use Rattle.xdp_machine.specs.xdp_maps.Contents.{Contents}
+use Rattle.xdp_machine.specs.xdp_maps.State.{MapState, contents_at, with_contents}
+use Rattle.xdp_machine.specs.xdp_maps.Calls.{lookup_of, with_value}
 use Rattle.xdp_machine.specs.Values.{Value}
 use Rattle.xdp_machine.specs.Values as is
 use Rattle.xdp_machine.specs.State.{Machine}

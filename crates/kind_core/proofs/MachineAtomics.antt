@@ -2,18 +2,18 @@
 use Rattle.std.proofs.Common.{◌≡◌, ℕ, ◌-◌, ◌%◌, ◌==◌, inl, inr, ℤ, pos, ◌+ℤ◌, Bool, true, false, cond, refl, sym, ap, ◌∙◌, subst, Option, Some, List, slice_get}
 use Rattle.std.specs.Option.{option_map}
 use Rattle.std.specs.Int.{w64, cast_unsigned}
-use Rattle.bpf_isa.specs.declared.operation.Size.{Size}
-use Rattle.bpf_isa.specs.declared.operation.Size.TheVariants.{B, H, W, Dw}
-use Rattle.bpf_isa.specs.declared.operation.Op.TheVariants.{Atomic}
-use Rattle.bpf_isa.specs.declared.instruction.Insn.{Insn}
-use Rattle.bpf_isa.specs.declared.fields.Rule.TheVariants.{Atomics}
-use Rattle.bpf_isa.specs.Rules.{Allows, IsSized}
-use Rattle.xdp_maps.specs.declared.change.ChangeKind.{ChangeKind}
-use Rattle.xdp_maps.specs.declared.change.ChangeKind.TheVariants.{Add, Or, And, Xor, Xchg, Cmpxchg}
-use Rattle.xdp_maps.specs.declared.change.Change.{Change}
-use Rattle.xdp_maps.specs.declared.decl.MapDecl.{MapDecl}
-use Rattle.xdp_maps.specs.State.{MapState, contents_at, with_contents}
-use Rattle.xdp_maps.specs.Calls.{lookup_of, number_at, number_before, changed}
+use Rattle.xdp_machine.specs.bpf_isa.declared.operation.Size.{Size}
+use Rattle.xdp_machine.specs.bpf_isa.declared.operation.Size.TheVariants.{B, H, W, Dw}
+use Rattle.xdp_machine.specs.bpf_isa.declared.operation.Op.TheVariants.{Atomic}
+use Rattle.xdp_machine.specs.bpf_isa.declared.instruction.Insn.{Insn}
+use Rattle.xdp_machine.specs.bpf_isa.declared.fields.Rule.TheVariants.{Atomics}
+use Rattle.xdp_machine.specs.bpf_isa.Rules.{Allows, IsSized}
+use Rattle.xdp_machine.specs.xdp_maps.declared.change.ChangeKind.{ChangeKind}
+use Rattle.xdp_machine.specs.xdp_maps.declared.change.ChangeKind.TheVariants.{Add, Or, And, Xor, Xchg, Cmpxchg}
+use Rattle.xdp_machine.specs.xdp_maps.declared.change.Change.{Change}
+use Rattle.xdp_machine.specs.xdp_maps.declared.decl.MapDecl.{MapDecl}
+use Rattle.xdp_machine.specs.xdp_maps.State.{MapState, contents_at, with_contents}
+use Rattle.xdp_machine.specs.xdp_maps.Calls.{lookup_of, number_at, number_before, changed}
 use Rattle.xdp_machine.specs.Values.{Value, Number, Entry, number_in, ◌>>=◌}
 use Rattle.xdp_machine.specs.State.{Machine, register, put, with_registers}
 use Rattle.xdp_machine.specs.Memory.{bytes_in, aligned}

@@ -3,9 +3,9 @@ use Rattle.std.proofs.Common.{◌≡◌, ℕ, zero, suc, ◌+◌, ◌/◌, ◌%�
 use Rattle.std.specs.Prelude.{slice_index, slice_range}
 use Rattle.std.specs.Int.{w64, cast_unsigned}
 use Rattle.byteorder.specs.Endian.{little_bytes}
-use Rattle.xdp_maps.specs.declared.decl.MapDecl.{MapDecl}
-use Rattle.xdp_maps.specs.State.{contents_at, with_contents}
-use Rattle.xdp_maps.specs.Calls.{update_number, updated, delete_number, deleted}
+use Rattle.xdp_machine.specs.xdp_maps.declared.decl.MapDecl.{MapDecl}
+use Rattle.xdp_machine.specs.xdp_maps.State.{contents_at, with_contents}
+use Rattle.xdp_machine.specs.xdp_maps.Calls.{update_number, updated, delete_number, deleted}
 use Rattle.xdp_machine.specs.Values.{Value, Unset, Number, Packet, Stack, Map, number_in, map_in, ◌>>=◌}
 use Rattle.xdp_machine.specs.State.{Machine, register}
 use Rattle.xdp_machine.specs.Memory.{inside}

@@ -1,11 +1,11 @@
 -- Parts of the machine's step where their cases are known.
 use Rattle.std.proofs.Common.{◌≡◌, ℕ, ◌+◌, ◌*◌, ◌/◌, ◌%◌, ◌==◌, ℤ, pos, ◌+ℤ◌, true, false, cond, nat_le, refl, ap, ◌∙◌, Option, Some, None, List, length, get_or, slice_set, slice_get, is_some, IsTrue}
 use Rattle.byteorder.specs.Endian.{little_bytes}
-use Rattle.bpf_isa.specs.declared.operation.Size.{Size}
-use Rattle.bpf_isa.specs.declared.instruction.Insn.{Insn}
-use Rattle.xdp_maps.specs.declared.decl.MapDecl.{MapDecl}
-use Rattle.xdp_maps.specs.State.{MapState, contents_at, with_contents}
-use Rattle.xdp_maps.specs.Calls.{lookup_of, patched, stored as entry_stored}
+use Rattle.xdp_machine.specs.bpf_isa.declared.operation.Size.{Size}
+use Rattle.xdp_machine.specs.bpf_isa.declared.instruction.Insn.{Insn}
+use Rattle.xdp_machine.specs.xdp_maps.declared.decl.MapDecl.{MapDecl}
+use Rattle.xdp_machine.specs.xdp_maps.State.{MapState, contents_at, with_contents}
+use Rattle.xdp_machine.specs.xdp_maps.Calls.{lookup_of, patched, stored as entry_stored}
 use Rattle.xdp_machine.specs.Values.{Value, Unset, Number, Packet, Stack, Entry, number_in, ◌>>=◌}
 use Rattle.xdp_machine.specs.State.{Machine, register, put, with_registers}
 use Rattle.xdp_machine.specs.Arithmetic.{extended}

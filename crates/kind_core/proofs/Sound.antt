@@ -1,6 +1,6 @@
 -- Results of tests, and numbers of which something is known.
 use Rattle.std.proofs.Common.{◌≡◌, ℕ, inl, inr, refl, ap, ◌∙◌, subst, Option, Some, Result, Ok, Err, IfOk}
-use Rattle.xdp_maps.specs.State.{MapState}
+use Rattle.xdp_machine.specs.xdp_maps.State.{MapState}
 use Rattle.xdp_machine.specs.Values.{Value, held}
 use Rattle.xdp_machine.specs.Values as is
 use Rattle.kind_core.specs.declared.number.Number.{Number}

@@ -1,12 +1,12 @@
 -- Atomic changes are sound.
 use Rattle.std.proofs.Common.{◌≡◌, ℕ, ◌+◌, ◌==◌, ◌≤◌, ◌&&◌, ◌||◌, inl, inr, ℤ, pos, ◌+ℤ◌, Bool, true, false, not, cond, nat_le, refl, sym, ap, ◌∙◌, subst, arith, Some, None, Result, Ok, Err, IfOk, List, length, slice_set, slice_get, is_some, IsTrue}
 use Rattle.std.specs.Int.{w64, cast_unsigned}
-use Rattle.bpf_isa.specs.declared.operation.Size.{Size}
-use Rattle.bpf_isa.specs.declared.operation.Op.TheVariants.{Atomic}
-use Rattle.bpf_isa.specs.declared.instruction.Insn.{Insn}
-use Rattle.bpf_isa.specs.Rules.{Allows, rules_of, IsSized}
-use Rattle.xdp_maps.specs.State.{MapState, contents_at}
-use Rattle.xdp_maps.specs.Calls.{lookup_of, number_at, changed as entry_changed}
+use Rattle.xdp_machine.specs.bpf_isa.declared.operation.Size.{Size}
+use Rattle.xdp_machine.specs.bpf_isa.declared.operation.Op.TheVariants.{Atomic}
+use Rattle.xdp_machine.specs.bpf_isa.declared.instruction.Insn.{Insn}
+use Rattle.xdp_machine.specs.bpf_isa.Rules.{Allows, rules_of, IsSized}
+use Rattle.xdp_machine.specs.xdp_maps.State.{MapState, contents_at}
+use Rattle.xdp_machine.specs.xdp_maps.Calls.{lookup_of, number_at, changed as entry_changed}
 use Rattle.xdp_machine.specs.Values.{Value}
 use Rattle.xdp_machine.specs.Values as is
 use Rattle.xdp_machine.specs.State as machine

@@ -4,13 +4,13 @@ use Rattle.std.specs.Int.{w64, cast_unsigned}
 use Rattle.std.specs.Prelude.{unsigned_abs}
 use Rattle.std.specs.Ordering.{int_eq}
 use Rattle.std.proofs.lemmas.Int.{ints}
-use Rattle.bpf_isa.specs.bits_core.Bits.{signed_of}
-use Rattle.bpf_isa.specs.declared.operation.Width.{Width}
-use Rattle.bpf_isa.specs.declared.operation.Width.TheVariants.{Bits32, Bits64}
-use Rattle.bpf_isa.specs.declared.operation.AluCode.{AluCode}
-use Rattle.bpf_isa.specs.declared.operation.AluCode.TheVariants.{Add, Sub, Mov}
-use Rattle.xdp_maps.specs.declared.decl.MapDecl.{MapDecl}
-use Rattle.xdp_maps.specs.State.{MapState}
+use Rattle.xdp_machine.specs.bpf_isa.bits_core.Bits.{signed_of}
+use Rattle.xdp_machine.specs.bpf_isa.declared.operation.Width.{Width}
+use Rattle.xdp_machine.specs.bpf_isa.declared.operation.Width.TheVariants.{Bits32, Bits64}
+use Rattle.xdp_machine.specs.bpf_isa.declared.operation.AluCode.{AluCode}
+use Rattle.xdp_machine.specs.bpf_isa.declared.operation.AluCode.TheVariants.{Add, Sub, Mov}
+use Rattle.xdp_machine.specs.xdp_maps.declared.decl.MapDecl.{MapDecl}
+use Rattle.xdp_machine.specs.xdp_maps.State.{MapState}
 use Rattle.xdp_machine.specs.Values.{Value}
 use Rattle.xdp_machine.specs.Values as is
 use Rattle.xdp_machine.specs.Arithmetic.{bits_in, low, arithmetic, extended}

@@ -2,14 +2,14 @@
 use Rattle.std.proofs.Common.{◌≡◌, ℕ, zero, suc, ◌==◌, ◌&&◌, ◌||◌, Bool, true, false, cond, refl, sym, ap, subst, arith, Option, Some, None, Result, Ok, Err, IfOk, List, [], ◌∷◌, length, get_or, set, slice_set}
 use Rattle.std.specs.Prelude.{unsigned_abs}
 use Rattle.std.specs.Int.{w64, cast_unsigned}
-use Rattle.bpf_isa.specs.declared.operation.Src.{Src}
-use Rattle.bpf_isa.specs.declared.operation.Src.TheVariants.{K, X}
-use Rattle.bpf_isa.specs.declared.operation.Width.{Width}
-use Rattle.bpf_isa.specs.declared.operation.AluCode.{AluCode}
-use Rattle.bpf_isa.specs.declared.operation.Op.{Op}
-use Rattle.bpf_isa.specs.declared.operation.Op.TheVariants.{Alu, Neg, End as EndOp, Swap, LoadImm, Load, LoadSigned}
-use Rattle.bpf_isa.specs.declared.instruction.Insn.{Insn}
-use Rattle.xdp_maps.specs.State.{MapState}
+use Rattle.xdp_machine.specs.bpf_isa.declared.operation.Src.{Src}
+use Rattle.xdp_machine.specs.bpf_isa.declared.operation.Src.TheVariants.{K, X}
+use Rattle.xdp_machine.specs.bpf_isa.declared.operation.Width.{Width}
+use Rattle.xdp_machine.specs.bpf_isa.declared.operation.AluCode.{AluCode}
+use Rattle.xdp_machine.specs.bpf_isa.declared.operation.Op.{Op}
+use Rattle.xdp_machine.specs.bpf_isa.declared.operation.Op.TheVariants.{Alu, Neg, End as EndOp, Swap, LoadImm, Load, LoadSigned}
+use Rattle.xdp_machine.specs.bpf_isa.declared.instruction.Insn.{Insn}
+use Rattle.xdp_machine.specs.xdp_maps.State.{MapState}
 use Rattle.xdp_machine.specs.Values.{Value}
 use Rattle.xdp_machine.specs.Values as is
 use Rattle.xdp_machine.specs.Arithmetic.{bits_in, low, negated, ordered}

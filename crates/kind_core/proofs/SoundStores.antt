@@ -2,14 +2,14 @@
 use Rattle.std.proofs.Common.{◌≡◌, ℕ, ◌+◌, ◌/◌, ◌%◌, ◌≤◌, inl, inr, ℤ, pos, ◌+ℤ◌, Bool, true, nat_le, refl, ap, ◌∙◌, subst, arith, Option, Some, Result, Ok, Err, IfOk, List, length, get_or, slice_set, slice_get, is_some, IsTrue}
 use Rattle.std.specs.Int.{w64, cast_unsigned}
 use Rattle.byteorder.specs.Endian.{little_bytes, little_number}
-use Rattle.bpf_isa.specs.declared.operation.Size.{Size}
-use Rattle.bpf_isa.specs.declared.operation.Size.TheVariants.{B, H, W, Dw}
-use Rattle.bpf_isa.specs.declared.operation.Op.{Op}
-use Rattle.bpf_isa.specs.declared.operation.Op.TheVariants.{StoreImm, Store}
-use Rattle.bpf_isa.specs.declared.instruction.Insn.{Insn}
-use Rattle.xdp_maps.specs.State.{MapState, contents_at, with_contents}
-use Rattle.xdp_maps.specs.Calls.{lookup_of, patched, stored as entry_stored}
-use Rattle.xdp_maps.proofs.ByteLaws.{length-patched}
+use Rattle.xdp_machine.specs.bpf_isa.declared.operation.Size.{Size}
+use Rattle.xdp_machine.specs.bpf_isa.declared.operation.Size.TheVariants.{B, H, W, Dw}
+use Rattle.xdp_machine.specs.bpf_isa.declared.operation.Op.{Op}
+use Rattle.xdp_machine.specs.bpf_isa.declared.operation.Op.TheVariants.{StoreImm, Store}
+use Rattle.xdp_machine.specs.bpf_isa.declared.instruction.Insn.{Insn}
+use Rattle.xdp_machine.specs.xdp_maps.State.{MapState, contents_at, with_contents}
+use Rattle.xdp_machine.specs.xdp_maps.Calls.{lookup_of, patched, stored as entry_stored}
+use Rattle.xdp_machine.proofs.xdp_maps_laws.ByteLaws.{length-patched}
 use Rattle.xdp_machine.specs.Values.{Value}
 use Rattle.xdp_machine.specs.Values as is
 use Rattle.xdp_machine.specs.State as machine

@@ -3,11 +3,11 @@ use Rattle.std.proofs.Common.{◌≡◌, ℕ, ℤ, suc, ◌/◌, ◌%◌, Bool, 
 use Rattle.std.specs.Prelude.{if◌then◌else◌}
 use Rattle.std.proofs.lemmas.List.{length-set, length-map}
 use Rattle.std.specs.Int.{w64, cast_unsigned}
-use Rattle.bpf_isa.specs.declared.operation.Op.{Op}
-use Rattle.bpf_isa.specs.declared.operation.Op.TheVariants.{Ja, Jump, Call, Exit, LoadImm, Load, LoadSigned, StoreImm, Store, Atomic}
-use Rattle.bpf_isa.specs.declared.operation.Size.{Size}
-use Rattle.bpf_isa.specs.declared.instruction.Insn.{Insn}
-use Rattle.xdp_maps.specs.declared.decl.MapDecl.{MapDecl}
+use Rattle.xdp_machine.specs.bpf_isa.declared.operation.Op.{Op}
+use Rattle.xdp_machine.specs.bpf_isa.declared.operation.Op.TheVariants.{Ja, Jump, Call, Exit, LoadImm, Load, LoadSigned, StoreImm, Store, Atomic}
+use Rattle.xdp_machine.specs.bpf_isa.declared.operation.Size.{Size}
+use Rattle.xdp_machine.specs.bpf_isa.declared.instruction.Insn.{Insn}
+use Rattle.xdp_machine.specs.xdp_maps.declared.decl.MapDecl.{MapDecl}
 use Rattle.xdp_machine.specs.Atomics.{fetches}
 use Rattle.kind_core.specs.declared.number.Number.TheVariants.{Unknown}
 use Rattle.kind_core.specs.declared.kind.Kind.{Kind}

@@ -1,7 +1,7 @@
 -- Calls of helpers (bpf-helpers(7)): the table of their arguments and answers, and what is asked of arguments.
 use Rattle.std.specs.Prelude.{ℕ, ℤ, pos, ◌+◌, ◌/◌, ◌+ℤ◌, nat_lt, Bool, true, false, if◌then◌else◌, Option, Some, None, Result, Ok, Err, List, [], ◌∷◌, length, get_or, slice_range}
 use Rattle.std.specs.Ordering.{int_eq}
-use Rattle.xdp_maps.specs.declared.decl.MapDecl.{MapDecl}
+use Rattle.xdp_machine.specs.xdp_maps.declared.decl.MapDecl.{MapDecl}
 use Rattle.kind_core.specs.declared.kind.Kind.{Kind}
 use Rattle.kind_core.specs.declared.kind.Kind.TheVariants.{Num, Packet, Stack, MapRef, Maybe}
 use Rattle.kind_core.specs.declared.kind.Kinds.{Kinds}

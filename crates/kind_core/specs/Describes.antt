@@ -1,7 +1,7 @@
 -- Which values a kind describes, in the run of a packet.
 use Rattle.std.specs.Prelude.{ℕ, ℤ, pos, ◌≡◌, ◌<◌, ◌≤◌, ◌⊎◌, List, length, get_or, replicate, is_some, IsTrue}
-use Rattle.xdp_maps.specs.State.{MapState, contents_at}
-use Rattle.xdp_maps.specs.Calls.{lookup_of}
+use Rattle.xdp_machine.specs.xdp_maps.State.{MapState, contents_at}
+use Rattle.xdp_machine.specs.xdp_maps.Calls.{lookup_of}
 use Rattle.xdp_machine.specs.Values.{Value}
 use Rattle.xdp_machine.specs.Values as is
 use Rattle.xdp_machine.specs.State as machine

@@ -1,8 +1,8 @@
 -- Kinds of the registers and of the slots of the stack.
 use Rattle.std.specs.Prelude.{ℕ, pos, List, [], ◌∷◌, get_or, slice_get, slice_set, replicate, drop, Bool, true, false, Option, Some, None}
-use Rattle.xdp_maps.specs.declared.decl.MapDecl.{MapDecl}
-use Rattle.xdp_maps.specs.declared.decl.MapKind.{MapKind}
-use Rattle.xdp_maps.specs.declared.decl.MapKind.TheVariants.{Hash, Array}
+use Rattle.xdp_machine.specs.xdp_maps.declared.decl.MapDecl.{MapDecl}
+use Rattle.xdp_machine.specs.xdp_maps.declared.decl.MapKind.{MapKind}
+use Rattle.xdp_machine.specs.xdp_maps.declared.decl.MapKind.TheVariants.{Hash, Array}
 use Rattle.kind_core.specs.declared.number.Number.TheVariants.{Known}
 use Rattle.kind_core.specs.declared.kind.Kind.{Kind}
 use Rattle.kind_core.specs.declared.kind.Kind.TheVariants.{Unset, Num, Stack, Ctx}

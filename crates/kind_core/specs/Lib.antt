@@ -1,4 +1,4 @@
-pub use Rattle.xdp_maps.specs as xdp_maps
+pub use Rattle.xdp_machine.specs.xdp_maps as xdp_maps
 pub mod Reasons
 pub mod Numbers
 pub mod Kinds

@@ -1,13 +1,13 @@
 -- What is known of numbers. A number that is computed is known where all are that it is computed from.
 use Rattle.std.specs.Prelude.{ℕ, ◌==◌, Bool, false, if◌then◌else◌, Option, Some, None}
 use Rattle.byteorder.specs.Endian.{little_number, little_bytes}
-use Rattle.bpf_isa.specs.declared.operation.Src.{Src}
-use Rattle.bpf_isa.specs.declared.operation.Size.{Size}
-use Rattle.bpf_isa.specs.declared.operation.Width.{Width}
-use Rattle.bpf_isa.specs.declared.operation.AluCode.{AluCode}
-use Rattle.bpf_isa.specs.declared.operation.AluCode.TheVariants.{Add, Sub}
-use Rattle.bpf_isa.specs.declared.operation.JumpCode.{JumpCode}
-use Rattle.xdp_maps.specs.Calls.{patched}
+use Rattle.xdp_machine.specs.bpf_isa.declared.operation.Src.{Src}
+use Rattle.xdp_machine.specs.bpf_isa.declared.operation.Size.{Size}
+use Rattle.xdp_machine.specs.bpf_isa.declared.operation.Width.{Width}
+use Rattle.xdp_machine.specs.bpf_isa.declared.operation.AluCode.{AluCode}
+use Rattle.xdp_machine.specs.bpf_isa.declared.operation.AluCode.TheVariants.{Add, Sub}
+use Rattle.xdp_machine.specs.bpf_isa.declared.operation.JumpCode.{JumpCode}
+use Rattle.xdp_machine.specs.xdp_maps.Calls.{patched}
 use Rattle.xdp_machine.specs.Arithmetic.{bits_in, low, arithmetic, negated, extended, ordered, holds}
 use Rattle.xdp_machine.specs.Memory.{bytes_in, number_at}
 use Rattle.kind_core.specs.declared.number.Number.{Number}

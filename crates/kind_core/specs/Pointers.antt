@@ -2,12 +2,12 @@
 use Rattle.std.specs.Prelude.{ℕ, zero, ℤ, pos, negsuc, ◌+ℤ◌, ◌-ℤ◌, neg_ℤ, int_le, Bool, true, false, ◌&&◌, if◌then◌else◌, Result, Ok, Err, List, unsigned_abs}
 use Rattle.std.specs.Ordering.{int_eq}
 use Rattle.std.specs.Int.{w64, cast_unsigned}
-use Rattle.bpf_isa.specs.bits_core.Bits.{signed_of}
-use Rattle.bpf_isa.specs.declared.operation.Width.{Width}
-use Rattle.bpf_isa.specs.declared.operation.Width.TheVariants.{Bits64}
-use Rattle.bpf_isa.specs.declared.operation.AluCode.{AluCode}
-use Rattle.bpf_isa.specs.declared.operation.AluCode.TheVariants.{Add, Sub, Mov}
-use Rattle.xdp_maps.specs.declared.decl.MapDecl.{MapDecl}
+use Rattle.xdp_machine.specs.bpf_isa.bits_core.Bits.{signed_of}
+use Rattle.xdp_machine.specs.bpf_isa.declared.operation.Width.{Width}
+use Rattle.xdp_machine.specs.bpf_isa.declared.operation.Width.TheVariants.{Bits64}
+use Rattle.xdp_machine.specs.bpf_isa.declared.operation.AluCode.{AluCode}
+use Rattle.xdp_machine.specs.bpf_isa.declared.operation.AluCode.TheVariants.{Add, Sub, Mov}
+use Rattle.xdp_machine.specs.xdp_maps.declared.decl.MapDecl.{MapDecl}
 use Rattle.kind_core.specs.declared.number.Number.{Number}
 use Rattle.kind_core.specs.declared.number.Number.TheVariants.{Known, Unknown}
 use Rattle.kind_core.specs.declared.kind.Kind.{Kind}

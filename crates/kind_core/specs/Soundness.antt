@@ -1,18 +1,18 @@
 -- Kinds are sound: where an instruction is allowed, the machine has a step, and the kinds behind it describe what the step leaves.
 use Rattle.std.specs.Prelude.{ℕ, ℤ, pos, ◌+◌, ◌+ℤ◌, if◌then◌else◌, ◌<◌, ◌≡◌, ◌==◌, ◌≤◌, ◌⊎◌, Bool, true, false, Some, None, IfOk, List, length}
 use Rattle.std.specs.List.{list_any}
-use Rattle.bpf_isa.specs.declared.operation.Src.{Src}
-use Rattle.bpf_isa.specs.declared.operation.Size.{Size}
-use Rattle.bpf_isa.specs.declared.operation.Width.TheVariants.{Bits32, Bits64}
-use Rattle.bpf_isa.specs.Spelling.{IsInsn, units_of}
-use Rattle.bpf_isa.specs.Text.{insn_at}
+use Rattle.xdp_machine.specs.bpf_isa.declared.operation.Src.{Src}
+use Rattle.xdp_machine.specs.bpf_isa.declared.operation.Size.{Size}
+use Rattle.xdp_machine.specs.bpf_isa.declared.operation.Width.TheVariants.{Bits32, Bits64}
+use Rattle.xdp_machine.specs.bpf_isa.Spelling.{IsInsn, units_of}
+use Rattle.xdp_machine.specs.bpf_isa.Text.{insn_at}
 use Rattle.kind_core.specs.Tests.{passed}
 use Rattle.xdp_machine.specs.Atomics.{atomic}
-use Rattle.bpf_isa.specs.declared.operation.Width.{Width}
-use Rattle.bpf_isa.specs.declared.operation.JumpCode.{JumpCode}
-use Rattle.bpf_isa.specs.declared.operation.Op.{Op}
-use Rattle.bpf_isa.specs.declared.operation.Op.TheVariants.{Ja, Jump, Call, Exit, StoreImm, Store, Atomic}
-use Rattle.bpf_isa.specs.declared.instruction.Insn.{Insn}
+use Rattle.xdp_machine.specs.bpf_isa.declared.operation.Width.{Width}
+use Rattle.xdp_machine.specs.bpf_isa.declared.operation.JumpCode.{JumpCode}
+use Rattle.xdp_machine.specs.bpf_isa.declared.operation.Op.{Op}
+use Rattle.xdp_machine.specs.bpf_isa.declared.operation.Op.TheVariants.{Ja, Jump, Call, Exit, StoreImm, Store, Atomic}
+use Rattle.xdp_machine.specs.bpf_isa.declared.instruction.Insn.{Insn}
 use Rattle.xdp_machine.specs.State as machine
 use Rattle.xdp_machine.specs.State.{Machine}
 use Rattle.xdp_machine.specs.Pointers.{compared}

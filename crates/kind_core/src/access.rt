@@ -13,8 +13,8 @@ use crate::number::{self, Number};
 use crate::places::{Place, accessed};
 use crate::tests::{number_in, readable};
 use crate::why::Why;
-use bpf_isa::{Insn, Size, Width};
-use xdp_maps::decl::MapDecl;
+use xdp_machine::bpf_isa::{Insn, Size, Width};
+use xdp_machine::xdp_maps::decl::MapDecl;
 use xdp_state::memory::bytes_in;
 
 // The fields of the context.

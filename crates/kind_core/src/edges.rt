@@ -1,7 +1,7 @@
 // The kinds on the edges that leave an instruction.
 
 ghost use Rattle.std.specs.Prelude.{◌≡◌, ◌≤◌};
-ghost use Rattle.bpf_isa.specs.Spelling.{IsInsn};
+ghost use Rattle.xdp_machine.specs.bpf_isa.Spelling.{IsInsn};
 ghost use Rattle.kind_core.specs.Kinds.{answering};
 ghost use Rattle.kind_core.specs.Effects.{effect_of, verdict, IsInside};
 ghost use Rattle.kind_core.specs.Edges.{agrees, on_edge, constant, changed, transferred, decision, decided};
@@ -12,8 +12,8 @@ use crate::kind::{Kind, Kinds};
 use crate::number::Number;
 use crate::refinements::{Refinement, raise, refine};
 use crate::why::Why;
-use bpf_isa::{Insn, Op};
-use xdp_maps::decl::MapDecl;
+use xdp_machine::bpf_isa::{Insn, Op};
+use xdp_machine::xdp_maps::decl::MapDecl;
 
 // Whether an edge is the one that is meant.
 fn agrees(taken: bool, edge: bool) -> bool

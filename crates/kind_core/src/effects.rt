@@ -1,9 +1,9 @@
 // What an instruction does to kinds.
 
 ghost use Rattle.std.specs.Prelude.{◌≡◌, ◌≤◌, IfOk, unsigned_abs};
-ghost use Rattle.bpf_isa.specs.Spelling.{IsInsn};
-ghost use Rattle.bpf_isa.specs.Rules.{Allows};
-ghost use Rattle.bpf_isa.specs.declared.fields.Rule.TheVariants.{SwapBits};
+ghost use Rattle.xdp_machine.specs.bpf_isa.Spelling.{IsInsn};
+ghost use Rattle.xdp_machine.specs.bpf_isa.Rules.{Allows};
+ghost use Rattle.xdp_machine.specs.bpf_isa.declared.fields.Rule.TheVariants.{SwapBits};
 ghost use Rattle.kind_core.specs.Kinds.{register};
 ghost use Rattle.kind_core.specs.Numbers.{number_negated, number_ordered};
 ghost use Rattle.kind_core.specs.Effects.{immediate, operand, assigned, renumbered, alu, jump, effect_as, effect_of, IsInside};
@@ -17,8 +17,8 @@ use crate::pointers::combined;
 use crate::profile::profiled;
 use crate::tests::number_in;
 use crate::why::Why;
-use bpf_isa::{AluCode, Insn, JumpCode, Op, Src, Width};
-use xdp_maps::decl::MapDecl;
+use xdp_machine::bpf_isa::{AluCode, Insn, JumpCode, Op, Src, Width};
+use xdp_machine::xdp_maps::decl::MapDecl;
 
 /// What an instruction does to kinds.
 #[derive(Copy, Clone)]

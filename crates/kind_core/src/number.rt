@@ -4,7 +4,7 @@ ghost use Rattle.std.specs.Prelude.{◌≡◌, ◌+◌, ◌≤◌, ◌⊎◌};
 ghost use Rattle.xdp_machine.specs.Memory.{bytes_in};
 ghost use Rattle.kind_core.specs.Numbers.{number_arithmetic, number_sum, number_difference, number_negated, number_extended, number_ordered, number_holds, number_part, number_patched, join_number};
 
-use bpf_isa::{AluCode, JumpCode, Size, Src, Width};
+use xdp_machine::bpf_isa::{AluCode, JumpCode, Size, Src, Width};
 use xdp_state::{arithmetic, memory};
 
 #[derive(Copy, Clone, Debug, PartialEq, Eq)]

@@ -8,8 +8,8 @@ use crate::number::{self, Number};
 use crate::places::{WINDOW, value_bytes};
 use crate::tests::{number_in, within};
 use crate::why::Why;
-use bpf_isa::{AluCode, Width};
-use xdp_maps::decl::MapDecl;
+use xdp_machine::bpf_isa::{AluCode, Width};
+use xdp_machine::xdp_maps::decl::MapDecl;
 
 // How far a number with its sign moves a pointer, on or back.
 fn distance(back: bool, n: Number) -> Result<i128, Why>

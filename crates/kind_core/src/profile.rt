@@ -9,7 +9,7 @@ use crate::helpers::{arguments_read, helper_of};
 use crate::kind::Kinds;
 use crate::tests::read_if;
 use crate::why::Why;
-use bpf_isa::{AluCode, Insn, Op, Src};
+use xdp_machine::bpf_isa::{AluCode, Insn, Op, Src};
 
 // Whether the destination is written.
 fn writes_destination(op: Op) -> bool

@@ -12,8 +12,8 @@ use Rattle.block_core.specs.Blocks.{BlockTree, memories_of, wires_of, Whole, Amo
 use Rattle.block_core.specs.Parts.{Goes, Within}
 use Rattle.block_core.specs.Order.{IsBefore, InOrder}
 use Rattle.block_core.specs.Formed.{names_scope, name_width, block_wire_width, block_memories, block_wires, IsTypedBlock, StatementReads, IsThere}
-use Rattle.array_net.specs.hazard_core.Commits.{word_count}
-use Rattle.array_net.specs.Words.{word_width}
+use Rattle.hash_net.specs.array_net.hazard_core.Commits.{word_count}
+use Rattle.hash_net.specs.array_net.Words.{word_width}
 use Rattle.commit_net.specs.cell_nets.declared.operand.Operand.{Operand}
 use Rattle.commit_net.specs.cell_nets.declared.operand.Operand.TheVariants.{Known, Net, Part}
 use Rattle.commit_net.specs.cell_nets.Operands.{AreFit, IsDeclared, AreDeclared, IsNetOf}

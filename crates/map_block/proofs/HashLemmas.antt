@@ -10,14 +10,14 @@ use Rattle.block_core.specs.Formed.{name_width, block_wires, block_memories}
 use Rattle.xdp_maps.specs.declared.decl.MapDecl.{MapDecl}
 use Rattle.xdp_maps.specs.declared.decl.MapKind.{MapKind}
 use Rattle.xdp_maps.specs.declared.decl.MapKind.TheVariants.{Hash}
-use Rattle.array_net.specs.hazard_core.declared.slot.Slot.{Slot}
-use Rattle.array_net.specs.hazard_core.Tables.{table_at}
-use Rattle.array_net.specs.hazard_core.Commits.{word_count}
-use Rattle.array_net.specs.declared.words.WordNets.{WordNets}
-use Rattle.array_net.specs.declared.block.MapNets.{MapNets}
-use Rattle.array_net.specs.Words.{word_width}
-use Rattle.array_net.specs.WordTrees.{word_memories, word_shown}
-use Rattle.array_net.proofs.WordMemoryLaws.{memory_at, count_memories}
+use Rattle.hash_net.specs.array_net.hazard_core.declared.slot.Slot.{Slot}
+use Rattle.hash_net.specs.array_net.hazard_core.Tables.{table_at}
+use Rattle.hash_net.specs.array_net.hazard_core.Commits.{word_count}
+use Rattle.hash_net.specs.array_net.declared.words.WordNets.{WordNets}
+use Rattle.hash_net.specs.array_net.declared.block.MapNets.{MapNets}
+use Rattle.hash_net.specs.array_net.Words.{word_width}
+use Rattle.hash_net.specs.array_net.WordTrees.{word_memories, word_shown}
+use Rattle.hash_net.proofs.array_net_laws.WordMemoryLaws.{memory_at, count_memories}
 use Rattle.hash_net.specs.declared.block.HashNets.{HashNets}
 use Rattle.hash_net.specs.HashNets.{value_first, hash_memories}
 use Rattle.hash_net.specs.Hash.{StoresHash, SeesOwn, IsHash}

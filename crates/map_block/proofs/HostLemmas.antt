@@ -5,13 +5,13 @@ use Rattle.std.proofs.lemmas.Bool.{lt-ltb, cases_lt}
 use Rattle.std.proofs.lemmas.Bool.Decides.{nat_tests}
 use Rattle.std.proofs.lemmas.List.{get_or_past, get_or-set_same, get_or-set_other}
 use Rattle.xdp_maps.specs.declared.decl.MapDecl.{MapDecl}
-use Rattle.array_net.specs.hazard_core.declared.slot.Slot.{Slot}
-use Rattle.array_net.specs.hazard_core.declared.access.Access.{Access}
-use Rattle.array_net.specs.hazard_core.declared.access.Word.{Word}
-use Rattle.array_net.specs.hazard_core.declared.access.Word.TheVariants.{Nothing}
-use Rattle.array_net.specs.hazard_core.Tables.{TableState, decl_of, table_at, slot_at}
-use Rattle.array_net.specs.hazard_core.Commits.{word_as, word_in, shown_word, shown_to_host, may_write, written_word, host_written}
-use Rattle.array_net.specs.Hosts.{named_word, written_table}
+use Rattle.hash_net.specs.array_net.hazard_core.declared.slot.Slot.{Slot}
+use Rattle.hash_net.specs.array_net.hazard_core.declared.access.Access.{Access}
+use Rattle.hash_net.specs.array_net.hazard_core.declared.access.Word.{Word}
+use Rattle.hash_net.specs.array_net.hazard_core.declared.access.Word.TheVariants.{Nothing}
+use Rattle.hash_net.specs.array_net.hazard_core.Tables.{TableState, decl_of, table_at, slot_at}
+use Rattle.hash_net.specs.array_net.hazard_core.Commits.{word_as, word_in, shown_word, shown_to_host, may_write, written_word, host_written}
+use Rattle.hash_net.specs.array_net.Hosts.{named_word, written_table}
 use Rattle.map_block.specs.declared.form.MapForm.{MapForm}
 use Rattle.map_block.specs.Stored.{IsMapOf, lets_write, after_write, may_here, shown_here}
 

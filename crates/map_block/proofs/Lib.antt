@@ -1,5 +1,5 @@
-pub use Rattle.array_net.proofs as array_net
-pub use Rattle.array_net.proofs.frame_net as frame_net
+pub use Rattle.hash_net.proofs.array_net_laws as array_net
+pub use Rattle.hash_net.proofs.array_net_laws.frame_net as frame_net
 pub mod FormLemmas
 pub mod HostLemmas
 pub mod MayLemmas

@@ -13,13 +13,13 @@ use Rattle.block_core.specs.Blocks.{BlockTree, Whole}
 use Rattle.block_core.specs.Formed.{names_scope, block_memories}
 use Rattle.xdp_maps.specs.declared.decl.MapDecl.{MapDecl}
 use Rattle.xdp_maps.specs.declared.decl.MapKind.TheVariants.{Hash, Array}
-use Rattle.array_net.specs.hazard_core.Commits.{word_count}
-use Rattle.array_net.specs.frame_net.GatherNets.{port, constant}
-use Rattle.array_net.specs.frame_net.SourcesNets.{held}
-use Rattle.array_net.proofs.frame_net.FormLaws.{same_is}
-use Rattle.array_net.specs.WordTrees.{host_index}
-use Rattle.array_net.specs.ArrayNets.{names_slot, has_word as array_has_word}
-use Rattle.array_net.proofs.WordStoreLaws.{select_is}
+use Rattle.hash_net.specs.array_net.hazard_core.Commits.{word_count}
+use Rattle.hash_net.specs.array_net.frame_net.GatherNets.{port, constant}
+use Rattle.hash_net.specs.array_net.frame_net.SourcesNets.{held}
+use Rattle.hash_net.proofs.array_net_laws.frame_net.FormLaws.{same_is}
+use Rattle.hash_net.specs.array_net.WordTrees.{host_index}
+use Rattle.hash_net.specs.array_net.ArrayNets.{names_slot, has_word as array_has_word}
+use Rattle.hash_net.proofs.array_net_laws.WordStoreLaws.{select_is}
 use Rattle.hash_net.specs.HashNets.{value_first, hash_memories, has_word as hash_has_word}
 use Rattle.map_block.specs.declared.form.MapForm.{MapForm}
 use Rattle.map_block.specs.declared.parts.MapParts.{MapParts}

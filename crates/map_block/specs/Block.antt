@@ -6,23 +6,23 @@ use Rattle.net_core.specs.Ports.{port_list}
 use Rattle.net_core.specs.Value.{word, bit, Env, value}
 use Rattle.net_core.specs.Clock.{Stored, done}
 use Rattle.net_core.specs.Width.{width_of}
-use Rattle.array_net.specs.design_rules.FormedSyntax.{depth, prefixes_apart}
-use Rattle.array_net.specs.product_rules.Products.{is_flat}
+use Rattle.hash_net.specs.array_net.design_rules.FormedSyntax.{depth, prefixes_apart}
+use Rattle.hash_net.specs.array_net.product_rules.Products.{is_flat}
 use Rattle.block_core.specs.declared.name.Name.{Name}
 use Rattle.block_core.specs.Blocks.{BlockTree, first_of, Whole, Among}
 use Rattle.block_core.specs.Parts.{Goes}
 use Rattle.block_core.specs.Order.{Reads, IsBefore, AllInOrder}
 use Rattle.block_core.specs.Formed.{names_scope, name_width, block_registers, block_memories, IsTypedBlock, StatementReads, IsThere}
 use Rattle.xdp_maps.specs.declared.decl.MapKind.TheVariants.{Hash}
-use Rattle.array_net.specs.cell_core.Sites.{ProgramView}
-use Rattle.array_net.specs.hazard_core.declared.slot.Slot.{Slot}
-use Rattle.array_net.specs.hazard_core.declared.access.Access.{Access}
-use Rattle.array_net.specs.hazard_core.Tables.{TableState, table_at, slot_at, used_count}
-use Rattle.array_net.specs.hazard_core.Held.{Held, writes}
-use Rattle.array_net.specs.hazard_core.Commits.{word_count, word_at as byte_word, written_slot, committed}
-use Rattle.array_net.specs.Words.{word_width}
-use Rattle.array_net.specs.WordTrees.{word_shown}
-use Rattle.array_net.specs.Hosts.{SeesHost}
+use Rattle.hash_net.specs.array_net.cell_core.Sites.{ProgramView}
+use Rattle.hash_net.specs.array_net.hazard_core.declared.slot.Slot.{Slot}
+use Rattle.hash_net.specs.array_net.hazard_core.declared.access.Access.{Access}
+use Rattle.hash_net.specs.array_net.hazard_core.Tables.{TableState, table_at, slot_at, used_count}
+use Rattle.hash_net.specs.array_net.hazard_core.Held.{Held, writes}
+use Rattle.hash_net.specs.array_net.hazard_core.Commits.{word_count, word_at as byte_word, written_slot, committed}
+use Rattle.hash_net.specs.array_net.Words.{word_width}
+use Rattle.hash_net.specs.array_net.WordTrees.{word_shown}
+use Rattle.hash_net.specs.array_net.Hosts.{SeesHost}
 use Rattle.hash_net.specs.Hash.{count_name}
 use Rattle.hash_net.specs.HashNets.{hash_memories}
 use Rattle.commit_net.specs.cell_nets.Operands.{AreFit, AreDeclared, IsNetOf}

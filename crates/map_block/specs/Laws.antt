@@ -7,9 +7,9 @@ use Rattle.block_core.specs.declared.name.Name.{Name}
 use Rattle.block_core.specs.Blocks.{Whole}
 use Rattle.block_core.specs.Parts.{Sees}
 use Rattle.xdp_maps.specs.declared.decl.MapKind.TheVariants.{Hash, Array}
-use Rattle.array_net.specs.hazard_core.Commits.{word_count}
-use Rattle.array_net.specs.declared.words.WordNets.{WordNets}
-use Rattle.array_net.specs.Array.{IsArray}
+use Rattle.hash_net.specs.array_net.hazard_core.Commits.{word_count}
+use Rattle.hash_net.specs.array_net.declared.words.WordNets.{WordNets}
+use Rattle.hash_net.specs.array_net.Array.{IsArray}
 use Rattle.hash_net.specs.HashNets.{value_first}
 use Rattle.hash_net.specs.Hash.{IsHash}
 use Rattle.commit_net.specs.declared.choosing.CommitNets.{CommitNets}

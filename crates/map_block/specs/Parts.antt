@@ -4,14 +4,14 @@ use Rattle.std.specs.List.{list_all}
 use Rattle.net_core.specs.Ports.{port_list}
 use Rattle.net_core.specs.Value.{Env}
 use Rattle.net_core.specs.Clock.{Stored, done}
-use Rattle.array_net.specs.design_rules.FormedSyntax.{right_spelled, statement_spelled}
-use Rattle.array_net.specs.product_blocks.Alone.{IsFree}
+use Rattle.hash_net.specs.array_net.design_rules.FormedSyntax.{right_spelled, statement_spelled}
+use Rattle.hash_net.specs.array_net.product_blocks.Alone.{IsFree}
 use Rattle.block_core.specs.declared.name.Name.{Name}
 use Rattle.block_core.specs.Blocks.{BlockTree, registers_of, memories_of, Whole, Among}
 use Rattle.block_core.specs.Parts.{Solve, Within}
 use Rattle.block_core.specs.Formed.{name_width}
 use Rattle.block_core.specs.View.{block_of}
-use Rattle.array_net.specs.declared.block.MapNets.{MapNets}
+use Rattle.hash_net.specs.array_net.declared.block.MapNets.{MapNets}
 use Rattle.map_block.specs.declared.parts.MapParts.{MapParts}
 use Rattle.map_block.specs.declared.parts.MapBlocks.{MapBlocks}
 use Rattle.map_block.specs.declared.parts.ControlNets.{ControlNets}

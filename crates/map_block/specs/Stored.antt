@@ -9,13 +9,13 @@ use Rattle.block_core.specs.declared.name.Name.TheVariants as name
 use Rattle.xdp_maps.specs.declared.decl.MapDecl.{MapDecl}
 use Rattle.xdp_maps.specs.declared.decl.MapKind.{MapKind}
 use Rattle.xdp_maps.specs.declared.decl.MapKind.TheVariants.{Hash, Array}
-use Rattle.array_net.specs.hazard_core.declared.slot.Slot.{Slot}
-use Rattle.array_net.specs.hazard_core.declared.access.Access.{Access}
-use Rattle.array_net.specs.hazard_core.Tables.{TableState, decl_of, table_at, slot_at, empty_slot}
-use Rattle.array_net.specs.hazard_core.Commits.{word_in, may_write, host_written, shown_to_host}
-use Rattle.array_net.specs.Hosts.{SeesMemories}
-use Rattle.array_net.specs.Array.{StoresArray, IsZeroed, value_name as array_word}
-use Rattle.array_net.specs.ArrayNets.{has_word as array_may}
+use Rattle.hash_net.specs.array_net.hazard_core.declared.slot.Slot.{Slot}
+use Rattle.hash_net.specs.array_net.hazard_core.declared.access.Access.{Access}
+use Rattle.hash_net.specs.array_net.hazard_core.Tables.{TableState, decl_of, table_at, slot_at, empty_slot}
+use Rattle.hash_net.specs.array_net.hazard_core.Commits.{word_in, may_write, host_written, shown_to_host}
+use Rattle.hash_net.specs.array_net.Hosts.{SeesMemories}
+use Rattle.hash_net.specs.array_net.Array.{StoresArray, IsZeroed, value_name as array_word}
+use Rattle.hash_net.specs.array_net.ArrayNets.{has_word as array_may}
 use Rattle.hash_net.specs.HashNets.{value_first, has_word as hash_may}
 use Rattle.hash_net.specs.Hash.{StoresHash, value_name as hash_word}
 use Rattle.map_block.specs.declared.form.MapForm.{MapForm}

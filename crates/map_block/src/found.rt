@@ -2,7 +2,7 @@
 
 ghost use Rattle.std.specs.Prelude.{◌≡◌, ◌≤◌, All, IfOk, length};
 ghost use Rattle.block_core.specs.View.{block_of};
-ghost use Rattle.array_net.specs.hazard_core.Commits.{word_count};
+ghost use Rattle.hash_net.specs.array_net.hazard_core.Commits.{word_count};
 ghost use Rattle.commit_net.specs.Choosing.{HasOperands};
 ghost use Rattle.commit_net.specs.Fetching.{IsFetch, fetched_words};
 ghost use Rattle.commit_net.specs.Wholes.{IsSlotPart};
@@ -10,12 +10,12 @@ ghost use Rattle.map_block.specs.Forms.{IsSuited};
 
 use crate::form::MapForm;
 use crate::parts::MapParts;
-use array_net::words::word_count;
 use block_core::block::Block;
 use block_core::name::{Name, Part};
 use commit_net::choosing::CommitNets;
 use commit_net::fetch::{fetch, fetched_words};
 use commit_net::whole::commit_slot;
+use hash_net::array_net::words::word_count;
 use std::alloc::{AllocError, Global};
 
 /// The blocks that give the slot that is written and the words of the value there, and their nets.

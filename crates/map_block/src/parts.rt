@@ -11,10 +11,10 @@ ghost use Rattle.map_block.specs.Stored.{first_value, host_word, host_may};
 ghost use Rattle.map_block.specs.Block.{IsMapBlock};
 
 use crate::form::MapForm;
-use array_net::MapNets;
 use block_core::block::Block;
 use block_core::name::{Name, Part};
 use commit_net::choosing::CommitNets;
+use hash_net::array_net::MapNets;
 use net_core::tree::Expr;
 use std::alloc::{AllocError, Global};
 

@@ -6,8 +6,8 @@ use Rattle.xdp_maps.specs.declared.decl.MapDecl.{MapDecl}
 use Rattle.block_core.specs.declared.name.Name.{Name}
 use Rattle.block_core.specs.Blocks.{BlockTree, Whole}
 use Rattle.block_core.specs.View.{block_of}
-use Rattle.cell_nets.specs.cell_core.Sites.{ProgramView, site_at}
-use Rattle.cell_nets.specs.declared.operand.Operand.{Operand}
+use Rattle.site_operands.specs.cell_nets.cell_core.Sites.{ProgramView, site_at}
+use Rattle.site_operands.specs.cell_nets.declared.operand.Operand.{Operand}
 use Rattle.hazard_core.specs.Tables.{decl_of}
 use Rattle.site_operands.specs.declared.SiteNets.{SiteNets}
 use Rattle.site_operands.specs.Sites.{operands_of}

@@ -4,7 +4,7 @@ use Rattle.std.specs.List.{filter}
 use Rattle.std.proofs.Common.{◌≡◌, ◌∙◌, ℕ, zero, suc, ◌+◌, ◌<◌, Bool, true, false, cond, All, List, [], ◌∷◌, ◌++◌, length, take, get_or, refl, sym, ap, subst, arith}
 use Rattle.std.proofs.lemmas.List.Elements.{All-nil, All-cons, All-filter}
 use Rattle.std.proofs.lemmas.List.Filters.{length-filter_more}
-use Rattle.cell_nets.specs.cell_core.Rows.{numbers}
+use Rattle.site_operands.specs.cell_nets.cell_core.Rows.{numbers}
 
 -- ---- numbers below one that pass a test
 numbers_below : (most n from : ℕ) → from + n ≤ most → All (λ k. k < most) (numbers from n)

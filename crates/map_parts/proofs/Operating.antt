@@ -6,12 +6,12 @@ use Rattle.std.proofs.lemmas.List.{length-map}
 use Rattle.std.proofs.lemmas.List.Elements.{All-cons, All-filter, filter_passes}
 use Rattle.xdp_maps.specs.declared.decl.MapDecl.{MapDecl}
 use Rattle.block_core.specs.declared.name.Name.{Name}
-use Rattle.cell_nets.specs.cell_core.declared.site.Act.{Act}
-use Rattle.cell_nets.specs.cell_core.Formed.{HasWords, IsInside, FitsMap}
-use Rattle.cell_nets.specs.cell_core.Sites.{ProgramView, site_at, records}
-use Rattle.cell_nets.specs.declared.operand.Operand.{Operand}
-use Rattle.cell_nets.specs.declared.operand.Operand.TheVariants.{Known}
-use Rattle.cell_nets.specs.Operands.{IsOperand}
+use Rattle.site_operands.specs.cell_nets.cell_core.declared.site.Act.{Act}
+use Rattle.site_operands.specs.cell_nets.cell_core.Formed.{HasWords, IsInside, FitsMap}
+use Rattle.site_operands.specs.cell_nets.cell_core.Sites.{ProgramView, site_at, records}
+use Rattle.site_operands.specs.cell_nets.declared.operand.Operand.{Operand}
+use Rattle.site_operands.specs.cell_nets.declared.operand.Operand.TheVariants.{Known}
+use Rattle.site_operands.specs.cell_nets.Operands.{IsOperand}
 use Rattle.hazard_core.specs.Tables.{decl_of}
 use Rattle.commit_net.specs.value_net.Words.{IsAligned}
 use Rattle.site_operands.specs.declared.SiteNets.{SiteNets}

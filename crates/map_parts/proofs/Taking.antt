@@ -6,9 +6,9 @@ use Rattle.std.proofs.lemmas.Bool.{eq-eqb, ne_eqb}
 use Rattle.std.proofs.lemmas.Grind.{get_or_default_zero}
 use Rattle.std.proofs.lemmas.List.{length-map, length_push, take_all}
 use Rattle.block_core.specs.declared.name.Name.{Name}
-use Rattle.cell_nets.specs.cell_core.Sites.{ProgramView, site_at}
-use Rattle.cell_nets.specs.cell_core.View.{site_of}
-use Rattle.cell_nets.specs.declared.operand.Operand.{Operand}
+use Rattle.site_operands.specs.cell_nets.cell_core.Sites.{ProgramView, site_at}
+use Rattle.site_operands.specs.cell_nets.cell_core.View.{site_of}
+use Rattle.site_operands.specs.cell_nets.declared.operand.Operand.{Operand}
 use Rattle.site_operands.specs.declared.SiteNets.{SiteNets}
 use Rattle.commit_net.specs.declared.choosing.CommitNets.{CommitNets}
 use Rattle.pipe_net.specs.turn_net.Turns.{record_sites}

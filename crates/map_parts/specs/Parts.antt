@@ -3,7 +3,7 @@ use Rattle.std.specs.Prelude.{ℕ, List}
 use Rattle.std.proofs.Common.{get_or}
 use Rattle.block_core.specs.declared.name.Name.{Name}
 use Rattle.block_core.specs.View.{block_of}
-use Rattle.cell_nets.specs.declared.operand.Operand.{Operand}
+use Rattle.site_operands.specs.cell_nets.declared.operand.Operand.{Operand}
 use Rattle.site_operands.specs.declared.SiteNets.{SiteNets}
 use Rattle.commit_net.specs.declared.choosing.CommitNets.{CommitNets}
 use Rattle.change_net.specs.declared.change.ChangePart.{ChangePart}

@@ -1,8 +1,8 @@
 //! What other parts say of the operations that commit.
 
 use block_core::name::Name;
-use cell_nets::operand::Operand;
 use pipe_net::parts::Part;
+use site_operands::cell_nets::operand::Operand;
 use target_net::targets::Target;
 
 /// What is said of the operations on a map: the net of whether one of them commits, and of each of its record sites, in order, what the operation there writes.

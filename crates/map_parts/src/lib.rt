@@ -7,3 +7,7 @@ mod operations;
 pub mod parts;
 mod tables;
 mod words;
+
+// Crates above name these through this one.
+pub use mark_parts;
+pub use pipe_draft;

@@ -7,12 +7,12 @@ ghost use Rattle.pipe_draft.specs.Draft.{program_in, IsDraft};
 ghost use Rattle.map_parts.specs.Operations.{AreOperations};
 
 use block_core::name::Name;
-use cell_nets::operand::Operand;
 use commit_net::choosing::CommitNets;
 use hazard_core::site::site_at;
 use pipe_draft::Draft;
 use pipe_net::parts::Part;
 use site_operands::SiteNets;
+use site_operands::cell_nets::operand::Operand;
 use std::alloc::{AllocError, Global};
 use target_net::targets::Target;
 

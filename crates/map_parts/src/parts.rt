@@ -13,12 +13,12 @@ use crate::tables::{change_of_map, parts_of_map};
 use crate::words::value_block;
 use block_core::block::Block;
 use block_core::name::Name;
-use cell_nets::operand::Operand;
 use change_net::change::ChangePart;
 use change_net::pointed::PointedWords;
 use map_block::MapBlocks;
 use pipe_draft::{Behind, Draft};
 use pipe_net::parts::Part;
+use site_operands::cell_nets::operand::Operand;
 use std::alloc::{AllocError, Global};
 
 /// The parts of a map: those of its table, and the one that gives the slot that a clock writes and the key there.

@@ -27,7 +27,7 @@ fn host_word(sizes: &Sizes, form: &MapForm) -> Name<Part>
     let own = sizes.own(form.number as u32);
     match form.decl.kind {
         MapKind::Hash => hash_net::value_name(own),
-        MapKind::Array => array_net::value_name(own),
+        MapKind::Array => hash_net::array_net::value_name(own),
     }
 }
 

@@ -3,9 +3,9 @@ use Rattle.std.specs.Prelude.{Option, Contains}
 use Rattle.std.specs.List.{list_all}
 use Rattle.std.proofs.Common.{◌≡◌, ◌⊎◌, inl, inr, ◌∙◌, ℕ, ◌+◌, ◌<◌, Bool, true, false, ◌||◌, All, List, [], ◌∷◌, length, refl, sym, ap, subst, arith, map as map_list}
 use Rattle.std.proofs.lemmas.List.Elements.{All-head, All-tail, Contains-append_cases}
-use Rattle.cell_nets.specs.net_core.declared.tree.Word.{Word}
-use Rattle.cell_nets.specs.net_core.Value.{word, bit as bit_word, Env}
-use Rattle.cell_nets.specs.product_blocks.Alone.{wire_flat}
+use Rattle.site_operands.specs.cell_nets.net_core.declared.tree.Word.{Word}
+use Rattle.site_operands.specs.cell_nets.net_core.Value.{word, bit as bit_word, Env}
+use Rattle.site_operands.specs.cell_nets.product_blocks.Alone.{wire_flat}
 use Rattle.block_core.specs.declared.name.Name.{Name}
 use Rattle.block_core.specs.declared.name.Name.TheVariants as name
 use Rattle.block_core.specs.Blocks.{BlockTree, BlockWireTree}
@@ -16,12 +16,12 @@ use Rattle.cell_core.specs.Cells.{bit, on, bits_from}
 use Rattle.cell_core.specs.Sites.{ProgramView}
 use Rattle.site_operands.specs.hazard_core.Held.{Held}
 use Rattle.site_operands.specs.hazard_core.declared.change.Change.{Change}
-use Rattle.cell_nets.specs.declared.operand.Operand.{Operand}
-use Rattle.cell_nets.specs.declared.operand.Operand.TheVariants.{Known, Net, Part}
-use Rattle.cell_nets.specs.Operands.{number_in, IsOperand, IsWide, AreFit, IsAvailable, IsNetOf}
-use Rattle.cell_nets.specs.Wires.{own, behind, always, AreWires}
-use Rattle.step_nets.specs.Standing.{Stands}
-use Rattle.step_nets.proofs.StepLaws.{bit_bits}
+use Rattle.site_operands.specs.cell_nets.declared.operand.Operand.{Operand}
+use Rattle.site_operands.specs.cell_nets.declared.operand.Operand.TheVariants.{Known, Net, Part}
+use Rattle.site_operands.specs.cell_nets.Operands.{number_in, IsOperand, IsWide, AreFit, IsAvailable, IsNetOf}
+use Rattle.site_operands.specs.cell_nets.Wires.{own, behind, always, AreWires}
+use Rattle.operand_blocks.specs.step_nets.Standing.{Stands}
+use Rattle.touch_net.proofs.step_nets_laws.StepLaws.{bit_bits}
 use Rattle.operand_blocks.specs.declared.registers.Taken.{Taken}
 use Rattle.operand_blocks.specs.Registers.{operand_in, width_in, taken_word, zero_word, IsRegistered}
 use Rattle.operand_blocks.proofs.WiringLaws.{own_all, all_wires, all_there, all_known, wires_flat}

@@ -1,20 +1,20 @@
 -- The part that says whether a mark is due is what it is to be.
 use Rattle.std.specs.List.{list_any}
 use Rattle.std.proofs.Common.{◌≡◌, ◌∙◌, ℕ, Bool, true, false, List, [], ◌∷◌, refl, ap, arith}
-use Rattle.cell_nets.specs.net_core.Value.{word, bit as bit_word, Env}
+use Rattle.site_operands.specs.cell_nets.net_core.Value.{word, bit as bit_word, Env}
 use Rattle.block_core.specs.declared.name.Name.{Name}
 use Rattle.block_core.specs.Blocks.{BlockWireTree}
 use Rattle.cell_core.specs.Cells.{bit, bits_from}
 use Rattle.cell_core.specs.Sites.{ProgramView}
 use Rattle.site_operands.specs.hazard_core.Held.{Held}
-use Rattle.cell_nets.specs.declared.operand.Operand.{Operand}
-use Rattle.cell_nets.specs.declared.operand.Operand.TheVariants.{Net}
-use Rattle.cell_nets.specs.Operands.{number_in, IsOperand, IsAvailable}
-use Rattle.cell_nets.specs.Wires.{always, Gives}
-use Rattle.cell_nets.proofs.GiveLemmas.{all_one}
-use Rattle.step_nets.specs.Standing.{Stands}
-use Rattle.step_nets.proofs.ChainLaws.{starts, next}
-use Rattle.step_nets.proofs.StepLaws.{all_each, bit_bits}
+use Rattle.site_operands.specs.cell_nets.declared.operand.Operand.{Operand}
+use Rattle.site_operands.specs.cell_nets.declared.operand.Operand.TheVariants.{Net}
+use Rattle.site_operands.specs.cell_nets.Operands.{number_in, IsOperand, IsAvailable}
+use Rattle.site_operands.specs.cell_nets.Wires.{always, Gives}
+use Rattle.operand_blocks.proofs.cell_nets.GiveLemmas.{all_one}
+use Rattle.operand_blocks.specs.step_nets.Standing.{Stands}
+use Rattle.touch_net.proofs.step_nets_laws.ChainLaws.{starts, next}
+use Rattle.touch_net.proofs.step_nets_laws.StepLaws.{all_each, bit_bits}
 use Rattle.operand_blocks.specs.Wiring.{wires_block}
 use Rattle.operand_blocks.proofs.WiringLaws.{all_there, all_known, is_wiring, word_is, offers}
 use Rattle.touch_net.specs.declared.marks.MarkNets.{MarkNets}

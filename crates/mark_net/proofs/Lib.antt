@@ -1,5 +1,5 @@
 pub use Rattle.operand_blocks.proofs as operand_blocks
-pub use Rattle.step_nets.proofs as step_nets
+pub use Rattle.touch_net.proofs.step_nets_laws as step_nets
 pub mod StandLemmas
 pub mod NextLemmas
 pub mod GatherLemmas

@@ -2,7 +2,7 @@
 use Rattle.std.specs.Prelude.{◌==◌, if◌then◌else◌, Option, Some, None}
 use Rattle.std.proofs.Common.{◌≡◌, ◌∙◌, ℕ, suc, Bool, true, false, ◌&&◌, ◌||◌, List, [], ◌∷◌, refl, sym, ap, arith}
 use Rattle.std.proofs.lemmas.Bool.{eqb-true}
-use Rattle.cell_nets.specs.net_core.Value.{Env}
+use Rattle.site_operands.specs.cell_nets.net_core.Value.{Env}
 use Rattle.block_core.specs.declared.name.Name.{Name}
 use Rattle.block_core.specs.Blocks.{BlockWireTree}
 use Rattle.xdp_maps.specs.declared.decl.MapDecl.{MapDecl}
@@ -11,15 +11,15 @@ use Rattle.cell_core.specs.Sites.{ProgramView, SiteView, site_at}
 use Rattle.site_operands.specs.hazard_core.Held.{Held, access_pointer}
 use Rattle.site_operands.specs.hazard_core.declared.change.Change.{Change}
 use Rattle.site_operands.specs.hazard_core.Marks.{touches, touched_as}
-use Rattle.cell_nets.specs.declared.operand.Operand.{Operand}
-use Rattle.cell_nets.specs.declared.operand.Operand.TheVariants.{Net}
-use Rattle.cell_nets.specs.Operands.{number_in, IsAvailable}
-use Rattle.cell_nets.specs.Wires.{behind, always, Gives}
-use Rattle.cell_nets.proofs.GiveLemmas.{all_one}
+use Rattle.site_operands.specs.cell_nets.declared.operand.Operand.{Operand}
+use Rattle.site_operands.specs.cell_nets.declared.operand.Operand.TheVariants.{Net}
+use Rattle.site_operands.specs.cell_nets.Operands.{number_in, IsAvailable}
+use Rattle.site_operands.specs.cell_nets.Wires.{behind, always, Gives}
+use Rattle.operand_blocks.proofs.cell_nets.GiveLemmas.{all_one}
 use Rattle.site_operands.specs.Sites.{operands_of, ShowsSite}
-use Rattle.step_nets.specs.Standing.{Stands}
-use Rattle.step_nets.proofs.ChainLaws.{starts, next, last}
-use Rattle.step_nets.proofs.StepLaws.{all_each, on_bit, bit_bits}
+use Rattle.operand_blocks.specs.step_nets.Standing.{Stands}
+use Rattle.touch_net.proofs.step_nets_laws.ChainLaws.{starts, next, last}
+use Rattle.touch_net.proofs.step_nets_laws.StepLaws.{all_each, on_bit, bit_bits}
 use Rattle.touch_net.specs.Touching.{reads_entry, ShowsChange, ShowsOwn, IsMade}
 use Rattle.mark_net.specs.declared.nets.MarkSite.{MarkSite}
 use Rattle.mark_net.specs.Sites.{read_operands, site_operands, is_touched, ShowsMarkSite}

@@ -2,14 +2,14 @@
 use Rattle.std.proofs.Common.{ℕ, zero, suc, ◌+◌, All, List, [], ◌∷◌, ◌++◌, length, length-append, get_or, refl, subst, arith}
 use Rattle.std.proofs.lemmas.List.{get_or_append_left, get_or-append-add}
 use Rattle.std.proofs.lemmas.List.Elements.{All-append}
-use Rattle.cell_nets.specs.net_core.Value.{Env}
+use Rattle.site_operands.specs.cell_nets.net_core.Value.{Env}
 use Rattle.block_core.specs.declared.name.Name.{Name}
 use Rattle.block_core.specs.Blocks.{BlockWireTree}
-use Rattle.cell_nets.specs.declared.operand.Operand.{Operand}
-use Rattle.cell_nets.specs.Operands.{number_in, IsAvailable}
-use Rattle.cell_nets.specs.Wires.{behind, always, Gives}
-use Rattle.cell_nets.proofs.ApartLemmas.{stay_none, stay_as, stay_next}
-use Rattle.step_nets.specs.Standing.{Stands}
+use Rattle.site_operands.specs.cell_nets.declared.operand.Operand.{Operand}
+use Rattle.site_operands.specs.cell_nets.Operands.{number_in, IsAvailable}
+use Rattle.site_operands.specs.cell_nets.Wires.{behind, always, Gives}
+use Rattle.operand_blocks.proofs.cell_nets.ApartLemmas.{stay_none, stay_as, stay_next}
+use Rattle.operand_blocks.specs.step_nets.Standing.{Stands}
 
 -- ---- of several some
 module _ {X : Type 0} (Q : X → Type 0) where

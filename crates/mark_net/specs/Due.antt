@@ -1,15 +1,15 @@
 -- The part that says whether a mark of the packet at a place is due.
 use Rattle.std.specs.Prelude.{◌≡◌, ℕ, Bool, ◌&&◌, List, [], ◌∷◌}
 use Rattle.std.specs.List.{list_any}
-use Rattle.cell_nets.specs.net_core.Value.{bit as bit_word, Env}
+use Rattle.site_operands.specs.cell_nets.net_core.Value.{bit as bit_word, Env}
 use Rattle.block_core.specs.declared.name.Name.{Name}
 use Rattle.block_core.specs.Blocks.{BlockTree}
 use Rattle.block_core.specs.Parts.{Solve}
 use Rattle.cell_core.specs.Sites.{ProgramView, site_at}
 use Rattle.site_operands.specs.hazard_core.Held.{Held}
 use Rattle.site_operands.specs.hazard_core.Marks.{known_on}
-use Rattle.cell_nets.specs.declared.operand.Operand.TheVariants.{Net}
-use Rattle.cell_nets.specs.Operands.{AreFit}
+use Rattle.site_operands.specs.cell_nets.declared.operand.Operand.TheVariants.{Net}
+use Rattle.site_operands.specs.cell_nets.Operands.{AreFit}
 use Rattle.operand_blocks.specs.Wiring.{IsWiring, Offers}
 use Rattle.touch_net.specs.declared.marks.MarkNets.{MarkNets}
 use Rattle.touch_net.specs.Marking.{mark_operands, shown_due, AreKnown, ShowMarks}

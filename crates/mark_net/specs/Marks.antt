@@ -1,12 +1,12 @@
 -- The block that keeps the marks of the packet at a place.
 use Rattle.std.specs.Prelude.{◌≡◌, true, false, ◌||◌, Option, List, [], ◌∷◌, length, map as map_list, IsTrue}
 use Rattle.std.specs.List.{list_all}
-use Rattle.cell_nets.specs.net_core.declared.tree.Word.{Word}
-use Rattle.cell_nets.specs.net_core.Ports.{port_list}
-use Rattle.cell_nets.specs.net_core.Value.{word, bit as bit_word, Env}
-use Rattle.cell_nets.specs.net_core.Clock.{Stored, done}
-use Rattle.cell_nets.specs.design_rules.FormedSyntax.{statement_spelled}
-use Rattle.cell_nets.specs.product_blocks.Alone.{IsFree}
+use Rattle.site_operands.specs.cell_nets.net_core.declared.tree.Word.{Word}
+use Rattle.site_operands.specs.cell_nets.net_core.Ports.{port_list}
+use Rattle.site_operands.specs.cell_nets.net_core.Value.{word, bit as bit_word, Env}
+use Rattle.site_operands.specs.cell_nets.net_core.Clock.{Stored, done}
+use Rattle.site_operands.specs.cell_nets.design_rules.FormedSyntax.{statement_spelled}
+use Rattle.site_operands.specs.cell_nets.product_blocks.Alone.{IsFree}
 use Rattle.block_core.specs.declared.name.Name.{Name}
 use Rattle.block_core.specs.Blocks.{BlockTree, registers_of, memories_of, first_of, Whole, Among}
 use Rattle.block_core.specs.Parts.{Solve, Goes, Within}
@@ -17,9 +17,9 @@ use Rattle.cell_core.specs.Cells.{bit, on}
 use Rattle.cell_core.specs.Sites.{ProgramView}
 use Rattle.site_operands.specs.hazard_core.Held.{Held}
 use Rattle.site_operands.specs.hazard_core.declared.change.Change.{Change}
-use Rattle.cell_nets.specs.declared.operand.Operand.{Operand}
-use Rattle.cell_nets.specs.Operands.{number_in, IsOperand, AreFit, AreDeclared, IsNetOf}
-use Rattle.cell_nets.specs.Wires.{is_spelled}
+use Rattle.site_operands.specs.cell_nets.declared.operand.Operand.{Operand}
+use Rattle.site_operands.specs.cell_nets.Operands.{number_in, IsOperand, AreFit, AreDeclared, IsNetOf}
+use Rattle.site_operands.specs.cell_nets.Wires.{is_spelled}
 use Rattle.operand_blocks.specs.declared.registers.Taken.{Taken}
 use Rattle.mark_net.specs.declared.nets.MarkSite.{MarkSite}
 use Rattle.mark_net.specs.Sites.{outside, is_touched, ShowsMarkSite, ShowMarkSites}

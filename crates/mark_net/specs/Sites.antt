@@ -1,15 +1,15 @@
 -- The sites whose marks are kept, and when operands stand for them.
 use Rattle.std.specs.Prelude.{◌≡◌, ◌==◌, ℕ, ◌*◌, ◌≤◌, Bool, true, false, Option, Some, None, All, List, [], ◌∷◌, ◌++◌, length}
-use Rattle.cell_nets.specs.net_core.Value.{Env}
+use Rattle.site_operands.specs.cell_nets.net_core.Value.{Env}
 use Rattle.xdp_maps.specs.declared.decl.MapDecl.{MapDecl}
 use Rattle.cell_core.specs.Cells.{bit}
 use Rattle.cell_core.specs.Sites.{ProgramView, site_at}
 use Rattle.site_operands.specs.hazard_core.Held.{Held, access_pointer}
 use Rattle.site_operands.specs.hazard_core.declared.change.Change.{Change}
 use Rattle.site_operands.specs.hazard_core.Marks.{touches}
-use Rattle.cell_nets.specs.declared.operand.Operand.{Operand}
-use Rattle.cell_nets.specs.declared.operand.Operand.TheVariants.{Net}
-use Rattle.cell_nets.specs.Operands.{number_in, IsOperand}
+use Rattle.site_operands.specs.cell_nets.declared.operand.Operand.{Operand}
+use Rattle.site_operands.specs.cell_nets.declared.operand.Operand.TheVariants.{Net}
+use Rattle.site_operands.specs.cell_nets.Operands.{number_in, IsOperand}
 use Rattle.site_operands.specs.Sites.{operands_of, all_of, ShowsSite}
 use Rattle.touch_net.specs.overlay_net.Reading.{IsSite}
 use Rattle.touch_net.specs.Touching.{change_operands, own_operands, reads_entry, IsChangeNets, IsOwnKey, HaveKeys, ShowsChange, ShowsOwn, IsMade}

@@ -4,9 +4,9 @@ ghost use Rattle.std.specs.Prelude.{ℕ, List, [], ◌∷◌, ◌≡◌, ◌^◌
 ghost use Rattle.block_core.specs.View.{block_of};
 ghost use Rattle.xdp_maps.specs.declared.decl.MapDecl.{MapDecl};
 ghost use Rattle.cell_core.specs.Sites.{ProgramView};
-ghost use Rattle.cell_nets.specs.Operands.{IsOperand};
-ghost use Rattle.cell_nets.specs.Wires.{wires_of, always};
-ghost use Rattle.step_nets.specs.Standing.{Stands};
+ghost use Rattle.site_operands.specs.cell_nets.Operands.{IsOperand};
+ghost use Rattle.site_operands.specs.cell_nets.Wires.{wires_of, always};
+ghost use Rattle.operand_blocks.specs.step_nets.Standing.{Stands};
 ghost use Rattle.operand_blocks.specs.Registers.{operand_in};
 ghost use Rattle.mark_net.specs.Sites.{site_operands, outside, HasOperands, IsMarkSite, AreMarkSites};
 ghost use Rattle.mark_net.specs.Marks.{IsBit, TakesMark, TakeMarks, IsMarks};
@@ -14,10 +14,10 @@ ghost use Rattle.mark_net.specs.Marks.{IsBit, TakesMark, TakeMarks, IsMarks};
 use crate::nets::MarkSite;
 use block_core::block::{Block, BlockWire};
 use block_core::name::{Name, Part};
-use cell_nets::operand::Operand;
 use operand_blocks::registers::{Taken, registered};
+use site_operands::cell_nets::operand::Operand;
 use std::alloc::{AllocError, Global};
-use step_nets::{both, choose, truth};
+use touch_net::step_nets::{both, choose, truth};
 use touch_net::steps::either;
 use touch_net::touch::touches;
 

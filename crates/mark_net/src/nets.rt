@@ -1,8 +1,8 @@
 //! What the block of marks takes.
 
 use cell_core::site::Act;
-use cell_nets::operand::Operand;
 use site_operands::SiteNets;
+use site_operands::cell_nets::operand::Operand;
 use touch_net::change::{ChangeNets, OwnKey};
 use xdp_maps::decl::MapDecl;
 

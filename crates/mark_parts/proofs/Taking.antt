@@ -4,9 +4,9 @@ use Rattle.std.proofs.Common.{◌≡◌, ◌∙◌, ℕ, zero, suc, ◌-◌, ◌
 use Rattle.xdp_maps.specs.declared.decl.MapDecl.{MapDecl}
 use Rattle.block_core.specs.declared.name.Name.{Name}
 use Rattle.cell_core.specs.Sites.{site_at}
-use Rattle.cell_nets.specs.declared.operand.Operand.{Operand}
-use Rattle.cell_nets.specs.declared.operand.Operand.TheVariants.{Known}
-use Rattle.cell_nets.specs.Operands.{IsOperand}
+use Rattle.site_operands.specs.cell_nets.declared.operand.Operand.{Operand}
+use Rattle.site_operands.specs.cell_nets.declared.operand.Operand.TheVariants.{Known}
+use Rattle.site_operands.specs.cell_nets.Operands.{IsOperand}
 use Rattle.site_operands.specs.declared.SiteNets.{SiteNets}
 use Rattle.site_operands.specs.Sites.{operands_of, all_of}
 use Rattle.touch_net.specs.declared.change.OwnKey.{OwnKey}

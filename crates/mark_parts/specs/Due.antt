@@ -4,7 +4,7 @@ use Rattle.std.proofs.Common.{get_or}
 use Rattle.block_core.specs.declared.name.Name.{Name}
 use Rattle.block_core.specs.Blocks.{BlockTree}
 use Rattle.cell_core.specs.Sites.{site_at}
-use Rattle.cell_nets.specs.declared.operand.Operand.{Operand}
+use Rattle.site_operands.specs.cell_nets.declared.operand.Operand.{Operand}
 use Rattle.hazard_core.specs.Marks.{is_known}
 use Rattle.site_operands.specs.declared.SiteNets.{SiteNets}
 use Rattle.touch_net.specs.declared.marks.MarkNets.{MarkNets}

@@ -4,8 +4,8 @@ use Rattle.std.proofs.Common.{get_or}
 use Rattle.block_core.specs.declared.name.Name.{Name}
 use Rattle.block_core.specs.Blocks.{BlockTree}
 use Rattle.cell_core.specs.Sites.{site_at}
-use Rattle.cell_nets.specs.declared.operand.Operand.{Operand}
-use Rattle.cell_nets.specs.declared.operand.Operand.TheVariants.{Known, Net}
+use Rattle.site_operands.specs.cell_nets.declared.operand.Operand.{Operand}
+use Rattle.site_operands.specs.cell_nets.declared.operand.Operand.TheVariants.{Known, Net}
 use Rattle.control_net.specs.Names.{wire_name}
 use Rattle.control_net.specs.declared.names.Wire.TheVariants.{Advances}
 use Rattle.hazard_core.specs.Tables.{decl_of}

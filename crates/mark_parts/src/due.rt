@@ -8,12 +8,12 @@ ghost use Rattle.mark_parts.specs.Due.{IsGuard, AreMarkNets, IsDuePart};
 use crate::layout::MarkLayout;
 use crate::reads::{read_sites, register};
 use block_core::name::Name;
-use cell_nets::operand::Operand;
 use hazard_core::pending::row_in;
 use hazard_core::site::site_at;
 use mark_net::due::{DuePart, due};
 use pipe_net::parts::Part;
 use site_operands::SiteNets;
+use site_operands::cell_nets::operand::Operand;
 use std::alloc::{AllocError, Global};
 use touch_net::marks::MarkNets;
 

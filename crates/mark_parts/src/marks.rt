@@ -11,7 +11,6 @@ use crate::owns::{decl_at, own_lists};
 use crate::reads::{read_sites, register};
 use block_core::block::Block;
 use block_core::name::Name;
-use cell_nets::operand::Operand;
 use change_net::change::ChangePart;
 use control_net::names::{Wire, wire_name};
 use hazard_core::site::site_at;
@@ -19,6 +18,7 @@ use mark_net::marks::marks;
 use mark_net::nets::MarkSite;
 use pipe_net::parts::Part;
 use site_operands::SiteNets;
+use site_operands::cell_nets::operand::Operand;
 use std::alloc::{AllocError, Global};
 use touch_net::change::OwnKey;
 

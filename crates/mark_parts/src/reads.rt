@@ -10,10 +10,10 @@ ghost use Rattle.mark_parts.specs.Places.{IsMarkLayout, register_of, reads_in};
 use crate::layout::MarkLayout;
 use block_core::name::Name;
 use cell_core::program::CellProgram;
-use cell_nets::operand::Operand;
 use hazard_core::pending::row_in;
 use hazard_core::site::{answer_cell, found_cell};
 use pipe_net::parts::{Part, Sizes};
+use site_operands::cell_nets::operand::Operand;
 use std::alloc::{AllocError, Global};
 
 // Whether a cell stands in the rows up to one, if there is such a cell.

@@ -1,7 +1,12 @@
 pub mod Loops
 pub mod SameValues
+pub mod KeptLists
+pub mod StatementLaws
 pub mod KeptLaws
 pub mod ValueLemmas
 pub mod ListLemmas
-pub mod OrderLemmas
 pub mod SameLemmas
+pub mod PartLemmas
+pub mod JoinLemmas
+pub mod FlagLemmas
+pub mod NegationLemmas

@@ -1,13 +1,14 @@
 -- Sections of designs, one item longer.
 use Rattle.std.specs.Prelude.{◌≡◌, ℕ, zero, suc, ◌+◌, ◌<◌, Option, None, List, [], ◌∷◌, ◌++◌, length, map as map_list, take}
-use Rattle.std.proofs.Common.{get_or, refl, sym, ap, ◌∙◌, arith, subst}
+use Rattle.std.proofs.Common.{get_or, refl, ap, ◌∙◌, arith, subst}
 use Rattle.net_core.specs.declared.tree.Net.{Net}
 use Rattle.net_core.specs.declared.tree.Net.TheVariants.{Wire}
 use Rattle.net_core.specs.declared.tree.Expr.{Expr}
-use Rattle.net_core.specs.Nets.{StatementTree, WireTree, AssignTree, RPlain, Tree}
+use Rattle.net_core.specs.Nets.{StatementTree, WireTree, AssignTree}
 use Rattle.net_core.specs.Value.{Env, value, right_value}
 use Rattle.net_core.specs.Clock.{Stored, done, edge, assigned, rights, stopped_at}
-use Rattle.net_optimize.specs.Solving.{Solves}
+use Rattle.solved_wires.specs.Solving.{Solves}
+use Rattle.solved_wires.proofs.SolvingLaws.{solves_take, solved_at}
 use Rattle.net_optimize.specs.Folding.{IsValued, AreKnown, IsSameRight, AreSameWires, AreSameAssigns}
 
 pub edge_append : {N : Type 0} (v : Env N) (xs ys : List (StatementTree N)) (s : Stored) → edge v (xs ++ ys) s ≡ edge v ys (edge v xs s)
@@ -45,16 +46,6 @@ module _ (v : Env Net) where
   solves_same at (a ∷ rest) [] s h = absurd h
   solves_same at (a ∷ rest) (b ∷ bs) s h = (h.0.value ∙ s.0, solves_same (suc at) rest bs s.1 h.1)
 
-  pub solves_take : (at n : ℕ) (a : List WireTree) → Solves v at a → Solves v at (take n a)
-  solves_take at zero a s = tt
-  solves_take at (suc n) [] s = tt
-  solves_take at (suc n) (x ∷ rest) s = (s.0, solves_take (suc at) n rest s.1)
-
-  pub solved_at : (at n : ℕ) (a : List WireTree) (d : WireTree) → Solves v at a → n < length a → right_value v (get_or a n d).right ≡ v.net (Wire (at + n))
-  solved_at at n [] d s l = absurd (omega arith)
-  solved_at at zero (x ∷ rest) d s l = s.0 ∙ ap (λ k. v.net (Wire k)) (omega arith)
-  solved_at at (suc n) (x ∷ rest) d s l = solved_at (suc at) n rest d s.1 (omega arith) ∙ ap (λ k. v.net (Wire k)) (omega arith)
-
   pub stops_same : (at : ℕ) (a b : List WireTree) → AreSameWires v a b → stopped_at v at (rights b) ≡ stopped_at v at (rights a)
   stops_same at [] [] h = refl
   stops_same at [] (b ∷ bs) h = absurd h
@@ -86,12 +77,7 @@ module _ (v : Env Net) where
   wire_step all new known i w x fact s same known_ n l e right valued =
       let r = right known_ in
       let is : right_value v x.right ≡ v.net (Wire (length known)) =
-      r.value ∙ ap (λ (z : WireTree). right_value v z.right) e ∙ solved_at 0 i all w s l ∙ ap (λ k. v.net (Wire k)) (omega (arith, n)) in (
+      r.value ∙ ap (λ (z : WireTree). right_value v z.right) e ∙ solved_at v 0 i all w s l ∙ ap (λ k. v.net (Wire k)) (omega (arith, n)) in (
         wires_append (take i all) new w x same r,
-        known_append known fact known_ (subst (λ z. IsValued v fact z) is (valued (solves_same 0 (take i all) new (solves_take 0 i all s) same))),
+        known_append known fact known_ (subst (λ z. IsValued v fact z) is (valued (solves_same 0 (take i all) new (solves_take v 0 i all s) same))),
       )
-
-  -- the first of these wires with this right side
-  pub found : (all : List WireTree) (j : ℕ) (w : WireTree) (a b : Tree Net) → Solves v 0 all → j < length all → w ≡ get_or all j w → w.right ≡ RPlain a → a ≡ b → v.net (Wire j) ≡ value v b
-  found all j w a b s l e r same =
-      sym (ap (value v) (sym same) ∙ ap (right_value v) (sym r) ∙ ap (λ (z : WireTree). right_value v z.right) e ∙ solved_at 0 j all w s l ∙ ap (λ k. v.net (Wire k)) (omega arith))

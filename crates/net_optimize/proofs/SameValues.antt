@@ -1,15 +1,13 @@
 -- What reads known nets alone has under the new names of nets the value that it had.
 use Rattle.std.specs.Prelude.{◌≡◌, ℕ, true}
-use Rattle.std.proofs.Common.{ap, ◌∙◌, refl, zero-add}
+use Rattle.std.proofs.Common.{ap, ◌∙◌, refl}
 use Rattle.std.proofs.lemmas.Bool.{and_parts}
 use Rattle.net_core.specs.declared.tree.Word.{Word}
 use Rattle.net_core.specs.declared.tree.Net.{Net}
-use Rattle.net_core.specs.Nets.{Tree, TConst, TRead, TBit, TPartSelect, TMemoryWord, TUnary, TBinary, TConditional, TConcatenation, Trees, TLast, TMore, RightTree, RPlain, RQuotient, RRemainder, StatementTree, SBlock, SIf, SIfElse, SSet, SStore, StatementTrees, SEnd, SThen}
+use Rattle.net_core.specs.Nets.{Tree, TConst, TRead, TBit, TPartSelect, TMemoryWord, TUnary, TBinary, TConditional, TConcatenation, Trees, TLast, TMore, RightTree, RPlain, RQuotient, RRemainder}
 use Rattle.net_core.specs.Value.{part_select, apply_unary, Env, value, concatenated_parts, right_value, stops}
-use Rattle.net_core.specs.Clock.{Stored, done, all_done}
-use Rattle.design_rules.specs.FormedSyntax.{trees_pass, all_trees_pass}
 use Rattle.design_rules.specs.FormedScope.{Sorts, reads_known, parts_known, right_known}
-use Rattle.block_core.specs.Rename.{rename, rename_parts, rename_right, rename_statement, rename_statements}
+use Rattle.block_core.specs.Rename.{rename, rename_parts, rename_right}
 
 module _ (k : Sorts Net) (f : Net → Net) (v2 v : Env Net) (nets : (n : Net) → k.value (f n) ≡ true → v2.net (f n) ≡ v.net n) (words : (m : Net) (a : ℕ) → v2.memory_word (f m) a ≡ v.memory_word m a) where
   mutual
@@ -40,19 +38,3 @@ module _ (k : Sorts Net) (f : Net → Net) (v2 v : Env Net) (nets : (n : Net) �
   stops_same (RPlain e) h = refl
   stops_same (RQuotient a b) h = let y = nets b (and_parts _ _ h).1 in rw y
   stops_same (RRemainder a b) h = let y = nets b (and_parts _ _ h).1 in rw y
-
-  mutual
-    pub done_same : (a : StatementTree Net) (s : Stored) → trees_pass (reads_known k) (rename_statement f 0 0 a) ≡ true → done v2 (rename_statement f 0 0 a) s ≡ done v a s
-    done_same (SBlock more) s h = all_done_same more s h
-    done_same (SIf c a) s h = let t = and_parts _ _ h in let x = value_same c t.0 in let y = done_same a s t.1 in rw (x, y)
-    done_same (SIfElse c a b) s h =
-        let t = and_parts _ _ h in let u = and_parts _ _ t.1 in
-        let x = value_same c t.0 in let y = done_same a s u.0 in let z = done_same b s u.1 in rw (x, y, z)
-    done_same (SSet r e) s h = let x = value_same e h in rw (x, zero-add)
-    done_same (SStore m i e) s h = let t = and_parts _ _ h in let x = value_same i t.0 in let y = value_same e t.1 in rw (x, y, zero-add)
-
-    all_done_same : (a : StatementTrees Net) (s : Stored) → all_trees_pass (reads_known k) (rename_statements f 0 0 a) ≡ true → all_done v2 (rename_statements f 0 0 a) s ≡ all_done v a s
-    all_done_same SEnd s h = refl
-    all_done_same (SThen a more) s h =
-        let t = and_parts _ _ h in
-        ap (all_done v2 (rename_statements f 0 0 more)) (done_same a s t.0) ∙ all_done_same more (done v a s) t.1

@@ -1,29 +1,13 @@
--- What is known of the values of wires, and right sides of the same values.
-use Rattle.std.specs.Prelude.{◌≡◌, ℕ, Option, Some, None, List, [], ◌∷◌, map as map_list}
-use Rattle.std.proofs.Common.{get_or}
-use Rattle.net_core.specs.declared.tree.Word.{Word}
+-- Right sides, outputs and statements of the same values.
+use Rattle.std.specs.Prelude.{◌≡◌, List, [], ◌∷◌, map as map_list}
 use Rattle.net_core.specs.declared.tree.Net.{Net}
-use Rattle.net_core.specs.declared.tree.Net.TheVariants.{Wire}
-use Rattle.net_core.specs.declared.tree.Expr.{Expr}
-use Rattle.net_core.specs.Nets.{RightTree, StatementTree, WireTree, AssignTree, Netlist}
-use Rattle.net_core.specs.View.{tree_of, wire_of, assign_of, statement_of}
-use Rattle.net_core.specs.Value.{Env, value, right_value, stops}
+use Rattle.net_core.specs.Nets.{StatementTree, WireTree, AssignTree, Netlist}
+use Rattle.net_core.specs.View.{wire_of, assign_of, statement_of}
+use Rattle.net_core.specs.Value.{Env, value}
 use Rattle.net_core.specs.Clock.{Stored, edge}
 use Rattle.net_optimize.specs.declared.sections.Sections.{Sections}
-
--- an expression, where there is one, has this value
-abbrev pub IsValued : Env Net → Option (Expr Net) → Word → Type 0
-IsValued v None x = Unit {0}
-IsValued v (Some e) x = value v (tree_of e) ≡ x
-
--- each expression that is known of a wire has the wire's value
-abbrev pub AreKnown : Env Net → List (Option (Expr Net)) → Type 0
-AreKnown v known = (i : ℕ) → IsValued v (get_or known i None) (v.net (Wire i))
-
--- the second right side has the value of the first one, and its divisor is zero where that of the first one is
-pub record IsSameRight (v : Env Net) (a b : RightTree Net) : Type 0 where
-  pub value : right_value v b ≡ right_value v a
-  pub stops : stops v b ≡ stops v a
+pub use Rattle.simple_logic.specs.logic_rules.Known.{IsValued, AreKnown}
+pub use Rattle.simple_logic.specs.Simple.{IsSameRight}
 
 -- so it is with wires, one by one
 abbrev pub AreSameWires : Env Net → List WireTree → List WireTree → Type 0

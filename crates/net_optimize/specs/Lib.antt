@@ -1,4 +1,6 @@
-pub mod Solving
-pub mod Same
 pub mod Renumber
 pub mod Folding
+pub mod Short
+pub mod Flags
+pub mod Lists
+pub mod Numbers

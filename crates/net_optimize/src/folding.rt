@@ -1,16 +1,20 @@
 //! Expressions and statements in which what is known of wires stands in place of them.
 
-ghost use Rattle.std.specs.Prelude.{◌≡◌, IfOk};
+ghost use Rattle.std.specs.Prelude.{◌≡◌, IfOk, map};
 ghost use Rattle.net_core.specs.declared.tree.Net.{Net};
 ghost use Rattle.net_core.specs.View.{tree_of, trees_of, right_of, statement_of, statements_of};
 ghost use Rattle.net_core.specs.Value.{Env, value, concatenated_parts};
 ghost use Rattle.net_core.specs.Clock.{Stored, done, all_done};
 ghost use Rattle.net_optimize.specs.Folding.{AreKnown, IsSameRight};
+ghost use Rattle.net_optimize.specs.Lists.{all_parts, joined_done};
 
-use crate::copying::copied;
-use crate::simple::{chained, chosen, is_prefixed, joined, read, select};
-use net_core::build::{self, block, memory_word, unary, when, when_else};
+use crate::concatenation::{concatenation, with_parts};
+use crate::joining::{Joined, closed, none, one, under, with_guarded, with_statement};
+use crate::negation::{prefixed, vanishes};
+use crate::simple::{chosen, is_prefixed, joined, read, select};
+use net_core::build::{memory_word, when_else};
 use net_core::tree::{Expr, Net, Parts, Right, Stmt, Stmts};
+use net_trees::copying::copied;
 use std::alloc::{AllocError, Global};
 
 /// An expression of the same value.
@@ -34,12 +38,13 @@ pub(crate) fn folded(
         Expr::Unary(op, a) => {
             let operand = folded(alloc, known, a)?;
             // No prefix operator stands before another one.
-            let operand = if is_prefixed(&operand) {
+            let operand = if is_prefixed(&operand) && !vanishes(*op, &operand) {
                 copied(alloc, a)?
             } else {
                 operand
             };
-            unary(alloc, *op, operand)
+            let whole = prefixed(alloc, *op, operand)?;
+            Ok(whole)
         }
         Expr::Binary(op, a, b) => {
             let a = folded(alloc, known, a)?;
@@ -54,7 +59,8 @@ pub(crate) fn folded(
         }
         Expr::Concatenation(parts) => {
             let parts = folded_parts(alloc, known, parts)?;
-            Ok(Expr::Concatenation(Box::new(alloc, parts)?))
+            let whole = concatenation(alloc, parts)?;
+            Ok(whole)
         }
     }
 }
@@ -65,20 +71,21 @@ fn folded_parts(
     alloc: Global,
     known: &[Option<Expr<Net>>],
     parts: &Parts<Net>,
-) -> Result<Parts<Net>, AllocError>
-    ensures { IfOk result (λ r. (v : Env Net) → AreKnown v known.now → concatenated_parts v (trees_of r) ≡ concatenated_parts v (trees_of parts.now)) }
+) -> Result<Vec<Expr<Net>>, AllocError>
+    ensures { IfOk result (λ r. (v : Env Net) → AreKnown v known.now → all_parts v (map tree_of r.items) ≡ concatenated_parts v (trees_of parts.now)) }
 {
-    let mut prefix = Vec::new(alloc);
+    let mut all = Vec::new(alloc);
     let mut left = parts;
     while let Parts::More(part, more) = left {
-        prefix.push(folded(alloc, known, part)?)?;
+        let part = folded(alloc, known, part)?;
+        all = with_parts(alloc, all, part)?;
         left = more;
     }
     match left {
         Parts::Last(last) => {
             let last = folded(alloc, known, last)?;
-            let parts = chained(alloc, prefix, last)?;
-            Ok(parts)
+            let whole = with_parts(alloc, all, last)?;
+            Ok(whole)
         }
         Parts::More(..) => unreachable!(),
     }
@@ -110,13 +117,17 @@ pub(crate) fn folded_stmt(
 {
     match stmt {
         Stmt::Block(more) => {
-            let more = folded_stmts(alloc, known, more)?;
-            block(alloc, more)
+            let all = with_all(alloc, known, none(alloc), more)?;
+            let all = closed(alloc, all)?;
+            let whole = one(alloc, all)?;
+            Ok(whole)
         }
         Stmt::If(c, a) => {
             let c = folded(alloc, known, c)?;
-            let a = folded_stmt(alloc, known, a)?;
-            when(alloc, c, a)
+            let body = with_folded(alloc, known, none(alloc), a)?;
+            let body = closed(alloc, body)?;
+            let whole = under(alloc, c, body)?;
+            Ok(whole)
         }
         Stmt::IfElse(c, a, b) => {
             let c = folded(alloc, known, c)?;
@@ -133,20 +144,48 @@ pub(crate) fn folded_stmt(
     }
 }
 
-// Without a recursion over the statements: there may be any number.
+/// Statements, and behind them one that does the same as this, or those of a block by themselves.
 #[cycle(statements)]
-fn folded_stmts(
+pub(crate) fn with_folded(
     alloc: Global,
     known: &[Option<Expr<Net>>],
-    stmts: &Stmts<Net>,
-) -> Result<Stmts<Net>, AllocError>
-    ensures { IfOk result (λ r. (v : Env Net) (s : Stored) → AreKnown v known.now → all_done v (statements_of r) s ≡ all_done v (statements_of stmts.now) s) }
+    list: Joined,
+    stmt: &Stmt<Net>,
+) -> Result<Joined, AllocError>
+    ensures { IfOk result (λ r. (v : Env Net) (s : Stored) → AreKnown v known.now → joined_done v r s ≡ done v (statement_of stmt.now) (joined_done v list s)) }
 {
-    let mut prefix = Vec::new(alloc);
+    match stmt {
+        Stmt::Block(more) => with_all(alloc, known, list, more),
+        Stmt::If(c, a) => {
+            let c = folded(alloc, known, c)?;
+            let body = with_folded(alloc, known, none(alloc), a)?;
+            let body = closed(alloc, body)?;
+            let whole = with_guarded(alloc, list, c, body)?;
+            Ok(whole)
+        }
+        _ => {
+            let same = folded_stmt(alloc, known, stmt)?;
+            let whole = with_statement(alloc, list, same)?;
+            Ok(whole)
+        }
+    }
+}
+
+// Without a recursion over the statements: there may be any number.
+#[cycle(statements)]
+fn with_all(
+    alloc: Global,
+    known: &[Option<Expr<Net>>],
+    list: Joined,
+    stmts: &Stmts<Net>,
+) -> Result<Joined, AllocError>
+    ensures { IfOk result (λ r. (v : Env Net) (s : Stored) → AreKnown v known.now → joined_done v r s ≡ all_done v (statements_of stmts.now) (joined_done v list s)) }
+{
+    let mut all = list;
     let mut left = stmts;
     while let Stmts::Then(first, more) = left {
-        prefix.push(folded_stmt(alloc, known, first)?)?;
+        all = with_folded(alloc, known, all, first)?;
         left = more;
     }
-    build::statements(alloc, prefix)
+    Ok(all)
 }

@@ -1,13 +1,17 @@
-//! Shorter designs that do the same: netlists after constants and copies are propagated, equal right sides are shared, right sides
-//! that are read once stand where they are read, and what nothing reads is dropped.
+//! Shorter designs that show the same: netlists after constants and copies are propagated, equal right sides and equal registers are shared,
+//! right sides that are read once stand where they are read, and what nothing reads is dropped.
 #![tactic(auto)]
 
-mod copying;
+mod comparing;
+mod concatenation;
 mod depth;
-mod equal;
+mod flags;
 mod folding;
+mod joining;
 mod kept;
-mod mark;
+mod live;
+mod names;
+mod negation;
 mod optimizing;
 mod reads;
 mod renumber;

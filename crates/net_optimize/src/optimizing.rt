@@ -1,45 +1,35 @@
-//! A design of fewer wires and operators.
+//! A design of fewer wires, registers and operators.
 
-ghost use Rattle.std.specs.Prelude.{◌≡◌, ◌<◌, IfOk, IsTrue, length};
+ghost use Rattle.std.specs.Prelude.{◌≡◌, ◌<◌, IfOk, IfSome, IsTrue, length};
 ghost use Rattle.net_core.specs.View.{netlist_of};
 ghost use Rattle.design_rules.specs.Formed.{IsWellFormed};
 ghost use Rattle.product_rules.specs.Products.{products_apart};
 ghost use Rattle.net_core.specs.declared.tree.Net.{Net};
 ghost use Rattle.net_core.specs.Value.{Env};
-ghost use Rattle.net_optimize.specs.Solving.{Solves};
+ghost use Rattle.same_clocks.specs.Same.{ShowTheSame};
+ghost use Rattle.solved_wires.specs.Solving.{Solves};
 ghost use Rattle.net_optimize.specs.Folding.{AreSameSections, sections_of, netlist_sections};
-ghost use Rattle.net_optimize.specs.Same.{DoTheSame};
+ghost use Rattle.net_optimize.specs.Short.{IsShort};
 
-use crate::kept::{kept_always, kept_assigns, kept_wires};
-use crate::reads::{Reads, live_reads};
-use crate::renumber::numbers;
+use crate::kept::{
+    kept_always, kept_assigns, kept_declared, kept_wires, live_registers, live_wires,
+};
+use crate::live::live_nets;
+use crate::names::kept_names;
+use crate::renumber::{Numbering, numbers};
 use crate::sections::{Sections, folded_sections};
 use design_rules::formed::well_formed;
-use net_core::design::{Design, Wire};
+use equal_registers::equal_registers;
+use narrow_registers::narrowed;
+use net_core::design::Design;
 use product_rules::are_products_apart;
+use same_clocks::laws::same_in_turn;
+use shared_expressions::shared;
+use simple_logic::simplified_design;
 use std::alloc::{AllocError, Global};
 
-// Which wires have to stay.
-fn needed(alloc: Global, wires: &[Wire], reads: &Reads) -> Result<Vec<bool>, AllocError>
-    ensures { IfOk result (λ keep. length keep.items ≡ length wires.now) }
-{
-    let mut keep = Vec::new(alloc);
-    for wire in wires {
-        keep.push(reads.is_needed(keep.len(), &wire.right))?;
-    }
-    Ok(keep)
-}
-
-// The names of a design that has so many wires less. The last wires lose theirs.
-fn fewer_names(alloc: Global, names: &[String], less: usize) -> Result<Vec<String>, AllocError> {
-    let mut all = Vec::new(alloc);
-    for name in names {
-        if all.len() < names.len().saturating_sub(less) {
-            all.push(String::from_str(alloc, name)?)?;
-        }
-    }
-    Ok(all)
-}
+// How often a design is made shorter at most.
+const ROUNDS: u32 = 2;
 
 // Sections that do the same: shared first, so that what is read once is counted behind it, and then moved.
 fn shortened(alloc: Global, design: &Design) -> Result<Sections, AllocError>
@@ -52,23 +42,32 @@ fn shortened(alloc: Global, design: &Design) -> Result<Sections, AllocError>
     Ok(moved)
 }
 
-// A design of which wires are dropped that nothing reads, once others stand in place of those that are read. It does what this
-// one does, if it is well formed.
-fn shorter(alloc: Global, design: &Design) -> Result<Design, AllocError>
-    requires { length design.now.wires.items < 4294967295 }
-    ensures { IfOk result (λ d. IsWellFormed (netlist_of design.now) → IsWellFormed (netlist_of d) → DoTheSame (netlist_of design.now) (netlist_of d)) }
+// A design with these sections in place of its own, of which wires and registers are dropped that nothing reads, and of equal registers
+// all but the first.
+fn without_dead(
+    alloc: Global,
+    design: &Design,
+    short: &Sections,
+    firsts: Vec<u32>,
+) -> Result<Design, AllocError>
+    requires wires { length short.now.wires.items < 4294967295 }
+    requires declared { length design.now.declared.items < 4294967295 }
+    ensures { IfOk result (λ d. IsShort (netlist_of design.now) (sections_of short.now) firsts.items (netlist_of d)) }
 {
-    let short = shortened(alloc, design)?;
-    let reads = live_reads(alloc, &short.wires, &short.assigns, &short.always)?;
-    let keep = needed(alloc, &short.wires, &reads)?;
-    let numbers = numbers(alloc, &keep)?;
+    let live = live_nets(alloc, short, design.declared.len(), &firsts)?;
+    let keep = live_wires(alloc, &short.wires, &live)?;
+    let keep_registers = live_registers(alloc, &design.declared, &live)?;
+    let numbers = Numbering {
+        wires: numbers(alloc, &keep)?,
+        registers: numbers(alloc, &keep_registers)?,
+        firsts,
+    };
+    let declared = kept_declared(alloc, &design.declared, &keep_registers)?;
     let wires = kept_wires(alloc, &short.wires, &keep, &numbers)?;
-    let less = short.wires.len().saturating_sub(wires.len());
-    let names = fewer_names(alloc, &design.names, less)?;
-    let ports = Vec::from_slice(alloc, &design.ports)?;
-    let declared = Vec::from_slice(alloc, &design.declared)?;
     let assigns = kept_assigns(alloc, &short.assigns, &numbers)?;
     let always = kept_always(alloc, &short.always, &numbers)?;
+    let names = kept_names(alloc, design, &keep_registers, wires.len())?;
+    let ports = Vec::from_slice(alloc, &design.ports)?;
     Ok(Design {
         names,
         ports,
@@ -79,22 +78,125 @@ fn shorter(alloc: Global, design: &Design) -> Result<Design, AllocError>
     })
 }
 
-/// A design that does the same, with fewer wires and operators: constants and what is the whole or a part of another net stand where they
-/// are read, of equal right sides the first one is read, the right side of a wire that is read once stands in its place, and what
-/// nothing reads is dropped. It declares the same registers and memories. Where this were to break a rule, the design stays as it is.
-pub fn optimized(alloc: Global, design: Design) -> Result<Design, AllocError>
+// A shorter design. It shows the same, if it is well formed.
+fn shorter(alloc: Global, design: &Design) -> Result<Design, AllocError>
+    requires wires { length design.now.wires.items < 4294967295 }
+    requires declared { length design.now.declared.items < 4294967295 }
+    ensures { IfOk result (λ d. IsWellFormed (netlist_of design.now) → IsWellFormed (netlist_of d) → ShowTheSame (netlist_of design.now) (netlist_of d)) }
+{
+    let short = shortened(alloc, design)?;
+    let firsts = equal_registers(alloc, design)?;
+    let shorter = without_dead(alloc, design, &short, firsts)?;
+    Ok(shorter)
+}
+
+// A shorter design that breaks no rule, if there is one.
+fn next(alloc: Global, design: &Design) -> Result<Option<Design>, AllocError>
+    requires { IsWellFormed (netlist_of design.now) }
+    ensures same { IfOk result (λ n. IfSome n (λ d. ShowTheSame (netlist_of design.now) (netlist_of d))) }
+    ensures formed { IfOk result (λ n. IfSome n (λ d. IsWellFormed (netlist_of d))) }
+    ensures apart { IfOk result (λ n. IfSome n (λ d. IsTrue (products_apart (netlist_of d)))) }
+{
+    if design.wires.len() >= u32::MAX as usize || design.declared.len() >= u32::MAX as usize {
+        return Ok(None);
+    }
+    let next = shorter(alloc, design)?;
+    if well_formed(&next).is_ok() && are_products_apart(alloc, &next)? {
+        return Ok(Some(next));
+    }
+    Ok(None)
+}
+
+fn is_shorter(a: &Design, b: &Design) -> bool {
+    a.wires.len() < b.wires.len() || a.declared.len() < b.declared.len()
+}
+
+// The same, as often as that makes it shorter.
+fn repeated(alloc: Global, design: Design) -> Result<Design, AllocError>
     requires formed { IsWellFormed (netlist_of design) }
     requires apart { IsTrue (products_apart (netlist_of design)) }
-    ensures same { IfOk result (λ d. DoTheSame (netlist_of design) (netlist_of d)) }
+    ensures same { IfOk result (λ d. ShowTheSame (netlist_of design) (netlist_of d)) }
     ensures formed { IfOk result (λ d. IsWellFormed (netlist_of d)) }
     ensures apart { IfOk result (λ d. IsTrue (products_apart (netlist_of d))) }
 {
-    if design.wires.len() >= u32::MAX as usize {
-        return Ok(design);
+    let mut best = design;
+    for _ in 0..ROUNDS {
+        let Some(shorter) = next(alloc, &best)? else {
+            return Ok(best);
+        };
+        let goes_on = is_shorter(&shorter, &best);
+        best = shorter;
+        if !goes_on {
+            return Ok(best);
+        }
     }
-    let next = shorter(alloc, &design)?;
-    if well_formed(&next).is_ok() && are_products_apart(alloc, &next)? {
-        return Ok(next);
-    }
-    Ok(design)
+    Ok(best)
+}
+
+// Fewer operators by what is known of the sizes of nets, and shorter again.
+fn simpler(alloc: Global, design: Design) -> Result<Design, AllocError>
+    requires formed { IsWellFormed (netlist_of design) }
+    requires apart { IsTrue (products_apart (netlist_of design)) }
+    ensures same { IfOk result (λ d. ShowTheSame (netlist_of design) (netlist_of d)) }
+    ensures formed { IfOk result (λ d. IsWellFormed (netlist_of d)) }
+    ensures apart { IfOk result (λ d. IsTrue (products_apart (netlist_of d))) }
+{
+    same_in_turn();
+    let simple = simplified_design(alloc, design)?;
+    let Some(shorter) = next(alloc, &simple)? else {
+        return Ok(simple);
+    };
+    Ok(shorter)
+}
+
+// The same thrice: what is then known of wires is read where they are, and makes more of it simpler.
+fn simplest(alloc: Global, design: Design) -> Result<Design, AllocError>
+    requires formed { IsWellFormed (netlist_of design) }
+    requires apart { IsTrue (products_apart (netlist_of design)) }
+    ensures same { IfOk result (λ d. ShowTheSame (netlist_of design) (netlist_of d)) }
+    ensures formed { IfOk result (λ d. IsWellFormed (netlist_of d)) }
+    ensures apart { IfOk result (λ d. IsTrue (products_apart (netlist_of d))) }
+{
+    same_in_turn();
+    let once = simpler(alloc, design)?;
+    let twice = simpler(alloc, once)?;
+    let thrice = simpler(alloc, twice)?;
+    Ok(thrice)
+}
+
+// What stands at several places as wires, and what is read once where it is read again.
+fn common(alloc: Global, design: Design) -> Result<Design, AllocError>
+    requires formed { IsWellFormed (netlist_of design) }
+    requires apart { IsTrue (products_apart (netlist_of design)) }
+    ensures same { IfOk result (λ d. ShowTheSame (netlist_of design) (netlist_of d)) }
+    ensures formed { IfOk result (λ d. IsWellFormed (netlist_of d)) }
+    ensures apart { IfOk result (λ d. IsTrue (products_apart (netlist_of d))) }
+{
+    same_in_turn();
+    let wired = shared(alloc, design)?;
+    let Some(shorter) = next(alloc, &wired)? else {
+        return Ok(wired);
+    };
+    Ok(shorter)
+}
+
+/// A design that shows the same, with fewer wires, registers and operators: constants and what is the whole or a part of another net stand
+/// where they are read, of equal right sides and of registers that hold the same the first one is read, the right side of a wire that is
+/// read once stands in its place, registers have no bits that are always 0 at their high end and are one bit where they hold one of two words,
+/// known sizes of nets make expressions shorter, what stands at several places is a wire, and what nothing reads is dropped. Where this were to
+/// break a rule, the design stays as it is.
+pub fn optimized(alloc: Global, design: Design) -> Result<Design, AllocError>
+    requires formed { IsWellFormed (netlist_of design) }
+    requires apart { IsTrue (products_apart (netlist_of design)) }
+    ensures same { IfOk result (λ d. ShowTheSame (netlist_of design) (netlist_of d)) }
+    ensures formed { IfOk result (λ d. IsWellFormed (netlist_of d)) }
+    ensures apart { IfOk result (λ d. IsTrue (products_apart (netlist_of d))) }
+{
+    same_in_turn();
+    let short = repeated(alloc, design)?;
+    let narrow = narrowed(alloc, short)?;
+    // What stands for a narrower register is folded where it is read.
+    let shorter = repeated(alloc, narrow)?;
+    let simple = simplest(alloc, shorter)?;
+    common(alloc, simple)
 }

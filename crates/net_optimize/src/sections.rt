@@ -5,10 +5,12 @@ ghost use Rattle.net_core.specs.declared.tree.Net.{Net};
 ghost use Rattle.net_core.specs.View.{assign_of, statement_of, wire_of};
 ghost use Rattle.net_core.specs.Value.{Env};
 ghost use Rattle.net_core.specs.Clock.{Stored, done, edge};
-ghost use Rattle.net_optimize.specs.Solving.{Solves};
+ghost use Rattle.solved_wires.specs.Solving.{Solves};
 ghost use Rattle.net_optimize.specs.Folding.{AreKnown, AreSameAssigns, AreSameSections, sections_of};
+ghost use Rattle.net_optimize.specs.Lists.{joined_done};
 
-use crate::folding::{folded, folded_stmt};
+use crate::folding::{folded, folded_stmt, with_folded};
+use crate::joining::{Joined, closed, none, with_statement};
 use crate::reads::live_reads;
 use crate::wires::folded_wires;
 use net_core::design::{Assign, Wire};
@@ -52,7 +54,37 @@ fn is_idle(stmt: &Stmt<Net>) -> bool
     }
 }
 
-// Always blocks, by what is known of wires. One that does nothing is left out.
+// Always blocks, and behind them one that does the same as this.
+fn with_block(
+    alloc: Global,
+    known: &[Option<Expr<Net>>],
+    list: Joined,
+    stmt: &Stmt<Net>,
+) -> Result<Joined, AllocError>
+    ensures { IfOk result (λ r. (v : Env Net) (s : Stored) → AreKnown v known.now → joined_done v r s ≡ done v (statement_of stmt.now) (joined_done v list s)) }
+{
+    if let Stmt::Block(_) = stmt {
+        let same = folded_stmt(alloc, known, stmt)?;
+        let whole = with_statement(alloc, list, same)?;
+        return Ok(whole);
+    }
+    with_folded(alloc, known, list, stmt)
+}
+
+// The only statement of a block, or the statement itself.
+fn only(stmt: &Stmt<Net>) -> &Stmt<Net>
+    ensures { (v : Env Net) (s : Stored) → done v (statement_of result.now) s ≡ done v (statement_of stmt.now) s }
+{
+    if let Stmt::Block(more) = stmt
+        && let Stmts::Then(only, rest) = &**more
+        && let Stmts::End = **rest
+    {
+        return only;
+    }
+    stmt
+}
+
+// Always blocks, by what is known of wires, and as one where neighbours stand under one condition. One that does nothing is left out.
 fn folded_always(
     alloc: Global,
     known: &[Option<Expr<Net>>],
@@ -60,13 +92,14 @@ fn folded_always(
 ) -> Result<Vec<Stmt<Net>>, AllocError>
     ensures { IfOk result (λ r. (v : Env Net) (s : Stored) → AreKnown v known.now → edge v (map statement_of r.items) s ≡ edge v (map statement_of always.now) s) }
 {
-    let mut all = Vec::new(alloc);
+    let mut all = none(alloc);
     for stmt in always {
         if !is_idle(stmt) {
-            all.push(folded_stmt(alloc, known, stmt)?)?;
+            all = with_block(alloc, known, all, only(stmt))?;
         }
     }
-    Ok(all)
+    let whole = closed(alloc, all)?;
+    Ok(whole)
 }
 
 /// Sections that do the same, in which either wires of equal right sides are read as the first of them, or right sides of wires that are

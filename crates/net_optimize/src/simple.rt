@@ -1,17 +1,20 @@
 //! Expressions from their parts, where what is known of these makes them shorter.
 
-ghost use Rattle.std.specs.Prelude.{◌≡◌, IfOk, IsTrue, map};
+ghost use Rattle.std.specs.Prelude.{◌≡◌, true, IfOk};
 ghost use Rattle.net_core.specs.declared.tree.Net.{Net};
-ghost use Rattle.net_core.specs.Nets.{TLast};
-ghost use Rattle.net_core.specs.View.{tree_of, trees_of};
-ghost use Rattle.net_core.specs.Chains.{parts_before};
+ghost use Rattle.net_core.specs.declared.tree.Word.{Word};
+ghost use Rattle.net_core.specs.Nets.{TConst};
+ghost use Rattle.net_core.specs.View.{tree_of};
 ghost use Rattle.net_core.specs.Value as net;
-ghost use Rattle.net_core.specs.Value.{Env, value, apply, part_select, concatenated_parts};
+ghost use Rattle.net_core.specs.Value.{Env, value, apply, part_select};
 ghost use Rattle.net_optimize.specs.Folding.{AreKnown};
 
-use crate::copying::copied;
-use net_core::build::{self, binary, conditional};
-use net_core::tree::{Expr, Net, Op, Parts};
+use crate::comparing::compared;
+use crate::flags::is_flag;
+use net_core::build::{binary, conditional};
+use net_core::tree::{Expr, Net, Op};
+use net_trees::copying::copied;
+use net_trees::equal::is_same;
 use std::alloc::{AllocError, Global};
 
 /// What is known of a net, or the net.
@@ -72,7 +75,50 @@ pub(crate) fn joined(
     {
         return Ok(a);
     }
+    if let Some(shorter) = compared(alloc, op, &a, &b)? {
+        return Ok(shorter);
+    }
     binary(alloc, op, a, b)
+}
+
+// What an expression is where a condition holds.
+fn where_true(condition: &Expr<Net>, a: Expr<Net>) -> Expr<Net>
+    ensures { (v : Env Net) (b : Word) → net.conditional (value v (tree_of condition.now)) (value v (tree_of result)) b ≡ net.conditional (value v (tree_of condition.now)) (value v (tree_of a)) b }
+{
+    match a {
+        Expr::Conditional(c, x, y) => {
+            if is_same(condition, &c) {
+                return Box::into_inner(x);
+            }
+            Expr::Conditional(c, x, y)
+        }
+        a => a,
+    }
+}
+
+// What an expression is where a condition does not hold.
+fn where_false(condition: &Expr<Net>, b: Expr<Net>) -> Expr<Net>
+    ensures { (v : Env Net) (a : Word) → net.conditional (value v (tree_of condition.now)) a (value v (tree_of result)) ≡ net.conditional (value v (tree_of condition.now)) a (value v (tree_of b)) }
+{
+    match b {
+        Expr::Conditional(c, x, y) => {
+            if is_same(condition, &c) {
+                return Box::into_inner(y);
+            }
+            Expr::Conditional(c, x, y)
+        }
+        b => b,
+    }
+}
+
+// Whether an expression is this one bit.
+fn is_bit(e: &Expr<Net>, bit: u64) -> bool
+    ensures { result ≡ true → tree_of e.now ≡ TConst (net.word 1 bit) }
+{
+    match e {
+        Expr::Const(word) => word.width == 1 && word.value == bit,
+        _ => false,
+    }
 }
 
 /// The first of two expressions where the condition is 1, else the second.
@@ -87,37 +133,13 @@ pub(crate) fn chosen(
     if let Expr::Const(word) = condition {
         return Ok(if word.value == 0 { b } else { a });
     }
+    let a = where_true(&condition, a);
+    let b = where_false(&condition, b);
+    if is_same(&a, &b) {
+        return Ok(a);
+    }
+    if is_bit(&a, 1) && is_bit(&b, 0) && is_flag(&condition) {
+        return Ok(condition);
+    }
     conditional(alloc, condition, a, b)
-}
-
-// Parts of a concatenation in front of others.
-fn before(
-    alloc: Global,
-    mut prefix: Vec<Expr<Net>>,
-    parts: Parts<Net>,
-) -> Result<Parts<Net>, AllocError>
-    ensures { IfOk result (λ ps. trees_of ps ≡ parts_before (map tree_of prefix.items) (trees_of parts)) }
-{
-    let mut list = parts;
-    while let Some(part) = prefix.pop() {
-        list = Parts::More(part, Box::new(alloc, list)?);
-    }
-    Ok(list)
-}
-
-/// The parts of a concatenation: these, and a last one, or its parts where it is a concatenation.
-pub(crate) fn chained(
-    alloc: Global,
-    prefix: Vec<Expr<Net>>,
-    last: Expr<Net>,
-) -> Result<Parts<Net>, AllocError>
-    ensures { IfOk result (λ ps. (v : Env Net) → concatenated_parts v (trees_of ps) ≡ concatenated_parts v (parts_before (map tree_of prefix.items) (TLast (tree_of last)))) }
-{
-    match last {
-        Expr::Concatenation(parts) => {
-            let parts = before(alloc, prefix, Box::into_inner(parts))?;
-            Ok(parts)
-        }
-        last => build::parts(alloc, prefix, last),
-    }
 }

@@ -3,3 +3,6 @@
 
 pub mod registers;
 pub mod wiring;
+
+// Crates above name these through this one.
+pub use step_nets;

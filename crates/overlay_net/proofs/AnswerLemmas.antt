@@ -13,16 +13,16 @@ use Rattle.cell_core.specs.Sites.{ProgramView, site_at, bytes_of, operation_with
 use Rattle.site_operands.specs.hazard_core.Tables.{TableState, decl_of, table_at, used_count}
 use Rattle.site_operands.specs.hazard_core.Held.{Held, held_value, is_null, adds_key, takes_key}
 use Rattle.site_operands.specs.hazard_core.Overlay.{key_pointer, update_answer, delete_answer, answer_as, answer_over}
-use Rattle.cell_nets.proofs.NarrowLemmas.{from_zero}
-use Rattle.cell_nets.specs.net_core.Value.{Env}
+use Rattle.site_operands.proofs.cell_nets_laws.NarrowLemmas.{from_zero}
+use Rattle.site_operands.specs.cell_nets.net_core.Value.{Env}
 use Rattle.block_core.specs.Blocks.{BlockWireTree}
 use Rattle.block_core.specs.declared.name.Name.{Name}
 use Rattle.byteorder.specs.Endian.{little_number}
 use Rattle.byteorder.specs.Numbers.{little_from-bytes}
 use Rattle.xdp_maps.specs.Contents.{index_of}
-use Rattle.cell_nets.specs.declared.operand.Operand.{Operand}
-use Rattle.cell_nets.specs.Operands.{number_in, IsAvailable}
-use Rattle.cell_nets.specs.Wires.{always, Gives}
+use Rattle.site_operands.specs.cell_nets.declared.operand.Operand.{Operand}
+use Rattle.site_operands.specs.cell_nets.Operands.{number_in, IsAvailable}
+use Rattle.site_operands.specs.cell_nets.Wires.{always, Gives}
 use Rattle.site_operands.specs.declared.Pending.{Pending}
 use Rattle.overlay_net.specs.Reading.{IsSite}
 use Rattle.overlay_net.specs.Seen.{read_of, all_read, IsOf, ShowsPending, AreOf, ShowPending}

@@ -6,7 +6,7 @@ use Rattle.std.proofs.lemmas.List.Elements.{All-append}
 use Rattle.std.proofs.lemmas.List.Sums.{fold_more}
 use Rattle.block_core.specs.Blocks.{BlockWireTree}
 use Rattle.block_core.specs.declared.name.Name.{Name}
-use Rattle.cell_nets.specs.net_core.Value.{Env}
+use Rattle.site_operands.specs.cell_nets.net_core.Value.{Env}
 use Rattle.xdp_maps.specs.declared.decl.MapDecl.{MapDecl}
 use Rattle.xdp_maps.specs.declared.decl.MapKind.TheVariants as kind
 use Rattle.xdp_maps.specs.Operations.{key_in}
@@ -19,9 +19,9 @@ use Rattle.site_operands.specs.hazard_core.declared.pointer.Pointer.{Pointer}
 use Rattle.site_operands.specs.hazard_core.declared.pointer.Pointer.TheVariants.{Null}
 use Rattle.site_operands.specs.hazard_core.Held.{Held, held_value, asked_key, slot_pointer, writes, written_pointer}
 use Rattle.site_operands.specs.hazard_core.Overlay.{found_as, found_over, key_pointer_as, key_pointer, looks, found_pointer}
-use Rattle.cell_nets.specs.declared.operand.Operand.{Operand}
-use Rattle.cell_nets.specs.Operands.{number_in, IsAvailable}
-use Rattle.cell_nets.specs.Wires.{always, Gives}
+use Rattle.site_operands.specs.cell_nets.declared.operand.Operand.{Operand}
+use Rattle.site_operands.specs.cell_nets.Operands.{number_in, IsAvailable}
+use Rattle.site_operands.specs.cell_nets.Wires.{always, Gives}
 use Rattle.site_operands.specs.Pointers.{pointer_number}
 use Rattle.site_operands.specs.Sites.{SiteOperands, operands_of, all_of, ShowsAsked}
 use Rattle.site_operands.specs.declared.Pending.{Pending}

@@ -14,9 +14,9 @@ use Rattle.byteorder.specs.Numbers.{length-bytes_low_first}
 use Rattle.byteorder.proofs.Bytes.{take-bytes_low_first, pow256}
 use Rattle.cell_core.specs.Cells.{bits_from}
 use Rattle.cell_core.specs.Sites.{spelled, bytes_of}
-use Rattle.cell_nets.specs.net_core.Value.{Env}
-use Rattle.cell_nets.specs.declared.operand.Operand.{Operand}
-use Rattle.cell_nets.specs.Operands.{number_in}
+use Rattle.site_operands.specs.cell_nets.net_core.Value.{Env}
+use Rattle.site_operands.specs.cell_nets.declared.operand.Operand.{Operand}
+use Rattle.site_operands.specs.cell_nets.Operands.{number_in}
 
 and_assoc : (k l m : Bool) → ((k && l) && m) ≡ (k && (l && m))
 and_assoc true l m = refl

@@ -2,7 +2,7 @@
 use Rattle.std.specs.Prelude.{not, if◌then◌else◌}
 use Rattle.std.proofs.Common.{◌≡◌, ◌≢◌, ◌∙◌, ℕ, ◌+◌, ◌*◌, ◌==◌, ◌<◌, Bool, true, false, ◌&&◌, List, refl, sym, ap, arith}
 use Rattle.std.proofs.lemmas.Bool.{eqb-true}
-use Rattle.cell_nets.specs.net_core.Value.{Env}
+use Rattle.site_operands.specs.cell_nets.net_core.Value.{Env}
 use Rattle.xdp_maps.specs.declared.decl.MapDecl.{MapDecl}
 use Rattle.xdp_maps.specs.declared.decl.MapKind.{MapKind}
 use Rattle.xdp_maps.specs.declared.decl.MapKind.TheVariants as kind
@@ -15,7 +15,7 @@ use Rattle.site_operands.specs.hazard_core.declared.pointer.Pointer.{Pointer}
 use Rattle.site_operands.specs.hazard_core.declared.pointer.Pointer.TheVariants.{Null, InSlot, Pending}
 use Rattle.site_operands.specs.hazard_core.Held.{is_null, Held, held_value, answer_cell, is_update, is_delete, writes_as, writes, adds_key, takes_key, pointer_in, found_cell, update_pointer, written_as, written_pointer}
 use Rattle.site_operands.specs.hazard_core.Overlay.{found_as}
-use Rattle.cell_nets.specs.Operands.{number_in}
+use Rattle.site_operands.specs.cell_nets.Operands.{number_in}
 use Rattle.site_operands.specs.Pointers.{pointer_number}
 use Rattle.site_operands.specs.Sites.{SiteOperands, ShowsSite}
 use Rattle.overlay_net.specs.Reading.{IsSite}

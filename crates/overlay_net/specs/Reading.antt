@@ -1,14 +1,14 @@
 -- What a site is, and the nets of what it finds on the tables.
 use Rattle.std.specs.Prelude.{◌≡◌, ℕ, List}
-use Rattle.cell_nets.specs.net_core.Value.{Env}
+use Rattle.site_operands.specs.cell_nets.net_core.Value.{Env}
 use Rattle.xdp_maps.specs.declared.decl.MapDecl.{MapDecl}
 use Rattle.cell_core.specs.declared.site.Act.{Act}
 use Rattle.cell_core.specs.Sites.{ProgramView, site_at}
 use Rattle.site_operands.specs.hazard_core.Tables.{TableState, decl_of, table_at}
 use Rattle.site_operands.specs.hazard_core.Held.{Held, asked_key, slot_pointer}
 use Rattle.site_operands.specs.hazard_core.Overlay.{key_pointer}
-use Rattle.cell_nets.specs.declared.operand.Operand.{Operand}
-use Rattle.cell_nets.specs.Operands.{number_in}
+use Rattle.site_operands.specs.cell_nets.declared.operand.Operand.{Operand}
+use Rattle.site_operands.specs.cell_nets.Operands.{number_in}
 use Rattle.site_operands.specs.Pointers.{pointer_number}
 
 -- what site j of a program does, and the declaration of its map

@@ -1,3 +1,4 @@
+pub use Rattle.pipe_maps.specs as pipe_maps
 pub use Rattle.host_runs.specs as host_runs
 pub use Rattle.host_runs.specs.host_history as host_history
 pub use Rattle.pipe_maps.specs.block_core as block_core

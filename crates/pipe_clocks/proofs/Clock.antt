@@ -1,39 +1,39 @@
 -- What the parts say to one another in a clock.
 use Rattle.std.specs.Prelude.{◌≤◌, length}
 use Rattle.std.proofs.Common.{arith}
-use Rattle.pipe_frames.specs.net_core.declared.ports.Inputs.{Inputs}
-use Rattle.pipe_frames.specs.net_core.Ports.{port_list, words_of}
-use Rattle.pipe_frames.specs.net_core.Value.{Env}
-use Rattle.pipe_frames.specs.net_core.Clock.{Stored, done}
-use Rattle.pipe_frames.specs.net_core.History.{IsInput}
-use Rattle.pipe_frames.specs.block_core.declared.name.Name.{Name}
-use Rattle.pipe_frames.specs.block_core.Blocks.{Whole}
-use Rattle.pipe_frames.specs.block_core.Parts.{Sees}
-use Rattle.pipe_frames.specs.block_core.Formed.{names_scope, IsThere, IsFormed}
+use Rattle.pipe_forms.specs.pipe_frames.net_core.declared.ports.Inputs.{Inputs}
+use Rattle.pipe_forms.specs.pipe_frames.net_core.Ports.{port_list, words_of}
+use Rattle.pipe_forms.specs.pipe_frames.net_core.Value.{Env}
+use Rattle.pipe_forms.specs.pipe_frames.net_core.Clock.{Stored, done}
+use Rattle.pipe_forms.specs.pipe_frames.net_core.History.{IsInput}
+use Rattle.pipe_forms.specs.pipe_frames.block_core.declared.name.Name.{Name}
+use Rattle.pipe_forms.specs.pipe_frames.block_core.Blocks.{Whole}
+use Rattle.pipe_forms.specs.pipe_frames.block_core.Parts.{Sees}
+use Rattle.pipe_forms.specs.pipe_frames.block_core.Formed.{names_scope, IsThere, IsFormed}
 use Rattle.pipe_core.specs.cell_core.Formed.{AllFit}
-use Rattle.pipe_maps.specs.turn_net.Nets.{signals, all_read}
-use Rattle.pipe_turns.specs.Parts.{turn_nets}
+use Rattle.pipe_forms.specs.pipe_maps.turn_net.Nets.{signals, all_read}
+use Rattle.pipe_forms.specs.pipe_turns.Parts.{turn_nets}
 use Rattle.pipe_core.specs.Machine.{State, clock}
 use Rattle.pipe_core.specs.History.{Trace, IsInOrder}
 use Rattle.pipe_core.specs.Computed.{IsComputed}
-use Rattle.pipe_frames.specs.pipe_net.declared.parts.Part.{Part}
-use Rattle.pipe_frames.specs.pipe_net.Machine.{input_of, MayCome}
-use Rattle.pipe_frames.specs.pipe_net.Layout.{Layout, program_of, last_of, commit_of}
-use Rattle.pipe_frames.specs.pipe_net.Relation.{HoldMaps, Relates}
-use Rattle.pipe_frames.specs.pipe_net.Saying.{ShowDues, ShowReturns, ShowChanges, ShowAnswers}
-use Rattle.pipe_frames.specs.pipe_net.Standing.{ShowPackets}
-use Rattle.pipe_frames.specs.Returning.{PlacesReturn}
-use Rattle.pipe_frames.specs.Following.{OthersSay, ShowFrames, FramesGo, FramesFollow}
-use Rattle.pipe_marks.specs.Following.{MarksAreFit, DuesAreShown, MarksFollow}
-use Rattle.pipe_turns.specs.Hosting.{ShowsHost, HostIsShown}
-use Rattle.pipe_turns.specs.Turning.{TurnsAreFit, ShowsTurn, ShowsTargets, TurnIsShown, TargetsAreShown}
-use Rattle.pipe_turns.specs.Following.{TurnFollows}
-use Rattle.pipe_maps.specs.Premises.{MapsAreFit, IsMapClock, HasMaps}
-use Rattle.pipe_maps.specs.Tables.{TablesFollow}
-use Rattle.pipe_maps.specs.Saying.{ChangesAreShown, ValueIsShown, MapsLetWrite}
-use Rattle.pipe_places.specs.Parts.{PlacesAreFit}
-use Rattle.pipe_places.specs.Shown.{PacketsAreShown, AnswersAreShown}
-use Rattle.pipe_places.specs.Following.{PacketsFollow}
+use Rattle.pipe_forms.specs.pipe_frames.pipe_net.declared.parts.Part.{Part}
+use Rattle.pipe_forms.specs.pipe_frames.pipe_net.Machine.{input_of, MayCome}
+use Rattle.pipe_forms.specs.pipe_frames.pipe_net.Layout.{Layout, program_of, last_of, commit_of}
+use Rattle.pipe_forms.specs.pipe_frames.pipe_net.Relation.{HoldMaps, Relates}
+use Rattle.pipe_forms.specs.pipe_frames.pipe_net.Saying.{ShowDues, ShowReturns, ShowChanges, ShowAnswers}
+use Rattle.pipe_forms.specs.pipe_frames.pipe_net.Standing.{ShowPackets}
+use Rattle.pipe_forms.specs.pipe_frames.Returning.{PlacesReturn}
+use Rattle.pipe_forms.specs.pipe_frames.Following.{OthersSay, ShowFrames, FramesGo, FramesFollow}
+use Rattle.pipe_forms.specs.pipe_marks.Following.{MarksAreFit, DuesAreShown, MarksFollow}
+use Rattle.pipe_forms.specs.pipe_turns.Hosting.{ShowsHost, HostIsShown}
+use Rattle.pipe_forms.specs.pipe_turns.Turning.{TurnsAreFit, ShowsTurn, ShowsTargets, TurnIsShown, TargetsAreShown}
+use Rattle.pipe_forms.specs.pipe_turns.Following.{TurnFollows}
+use Rattle.pipe_forms.specs.pipe_maps.Premises.{MapsAreFit, IsMapClock, HasMaps}
+use Rattle.pipe_forms.specs.pipe_maps.Tables.{TablesFollow}
+use Rattle.pipe_forms.specs.pipe_maps.Saying.{ChangesAreShown, ValueIsShown, MapsLetWrite}
+use Rattle.pipe_forms.specs.pipe_places.Parts.{PlacesAreFit}
+use Rattle.pipe_forms.specs.pipe_places.Shown.{PacketsAreShown, AnswersAreShown}
+use Rattle.pipe_forms.specs.pipe_places.Following.{PacketsFollow}
 use Rattle.pipe_forms.specs.Parts.{outputs_of, AreParts}
 use Rattle.pipe_forms.specs.Declared.{AreAllDeclared, AllAreDeclared}
 use Rattle.pipe_forms.specs.Forming.{PipelinesAreFormed}

@@ -1,24 +1,24 @@
 -- The clocks of a pipeline are those of the machine.
 use Rattle.std.specs.Prelude.{ℕ, List}
-use Rattle.pipe_frames.specs.net_core.declared.ports.Inputs.{Inputs}
-use Rattle.pipe_frames.specs.net_core.Ports.{port_list, words_of}
-use Rattle.pipe_frames.specs.net_core.Clock.{Stored, done, shown}
-use Rattle.pipe_frames.specs.net_core.History.{IsInput}
-use Rattle.pipe_frames.specs.block_core.Blocks.{Whole, first_of}
-use Rattle.pipe_frames.specs.block_core.Parts.{ClockOfParts, stored_of}
-use Rattle.pipe_frames.proofs.block_core.LinkedLaws.{linked, starts_as_parts}
+use Rattle.pipe_forms.specs.pipe_frames.net_core.declared.ports.Inputs.{Inputs}
+use Rattle.pipe_forms.specs.pipe_frames.net_core.Ports.{port_list, words_of}
+use Rattle.pipe_forms.specs.pipe_frames.net_core.Clock.{Stored, done, shown}
+use Rattle.pipe_forms.specs.pipe_frames.net_core.History.{IsInput}
+use Rattle.pipe_forms.specs.pipe_frames.block_core.Blocks.{Whole, first_of}
+use Rattle.pipe_forms.specs.pipe_frames.block_core.Parts.{ClockOfParts, stored_of}
+use Rattle.pipe_forms.proofs.pipe_frames_laws.block_core.LinkedLaws.{linked, starts_as_parts}
 use Rattle.pipe_core.specs.Machine.{output}
 use Rattle.pipe_core.specs.History.{Trace, IsInOrder}
 use Rattle.pipe_core.specs.Computed.{IsComputed}
-use Rattle.pipe_frames.specs.pipe_net.declared.parts.Part.{Part}
-use Rattle.pipe_frames.specs.pipe_net.Machine.{input_of, MayCome, Shows}
-use Rattle.pipe_frames.specs.pipe_net.Layout.{Layout}
-use Rattle.pipe_frames.specs.pipe_net.Relation.{Relates}
-use Rattle.pipe_frames.specs.Following.{FramesBegin}
-use Rattle.pipe_marks.specs.Following.{MarksBegin}
-use Rattle.pipe_turns.specs.Following.{TurnBegins}
-use Rattle.pipe_maps.specs.Tables.{TablesBegin}
-use Rattle.pipe_places.specs.Following.{PacketsBegin}
+use Rattle.pipe_forms.specs.pipe_frames.pipe_net.declared.parts.Part.{Part}
+use Rattle.pipe_forms.specs.pipe_frames.pipe_net.Machine.{input_of, MayCome, Shows}
+use Rattle.pipe_forms.specs.pipe_frames.pipe_net.Layout.{Layout}
+use Rattle.pipe_forms.specs.pipe_frames.pipe_net.Relation.{Relates}
+use Rattle.pipe_forms.specs.pipe_frames.Following.{FramesBegin}
+use Rattle.pipe_forms.specs.pipe_marks.Following.{MarksBegin}
+use Rattle.pipe_forms.specs.pipe_turns.Following.{TurnBegins}
+use Rattle.pipe_forms.specs.pipe_maps.Tables.{TablesBegin}
+use Rattle.pipe_forms.specs.pipe_places.Following.{PacketsBegin}
 use Rattle.pipe_forms.specs.Forming.{PipelinesAreFormed}
 use Rattle.pipe_forms.specs.Parts.{outputs_of, design}
 use Rattle.pipe_clocks.specs.Following.{IsPipeline, IsFollowable, Follows, ClocksShow, ClocksFollow, BeginRelated}

@@ -2,15 +2,15 @@
 use Rattle.std.specs.Prelude.{◌≡◌, ℕ, ◌<◌, ◌^◌, List, ◌++◌}
 use Rattle.std.proofs.Common.{sym, ◌∙◌, subst, inl, inr}
 use Rattle.std.proofs.lemmas.List.Elements.{Contains-append_right}
-use Rattle.pipe_frames.specs.net_core.Ports.{port_list}
-use Rattle.pipe_frames.specs.net_core.Value.{Env}
-use Rattle.pipe_frames.specs.block_core.declared.name.Name.{Name}
-use Rattle.pipe_frames.specs.block_core.Blocks.{Whole}
-use Rattle.pipe_frames.specs.block_core.Formed.{name_width, names_scope, IsThere}
-use Rattle.pipe_marks.specs.cell_nets.declared.operand.Operand.{Operand}
-use Rattle.pipe_marks.specs.cell_nets.declared.operand.Operand.TheVariants.{Known, Net, Part as Bits}
-use Rattle.pipe_marks.specs.cell_nets.Operands.{HasWidth, AreFit}
-use Rattle.pipe_frames.specs.pipe_net.declared.parts.Part.{Part}
+use Rattle.pipe_forms.specs.pipe_frames.net_core.Ports.{port_list}
+use Rattle.pipe_forms.specs.pipe_frames.net_core.Value.{Env}
+use Rattle.pipe_forms.specs.pipe_frames.block_core.declared.name.Name.{Name}
+use Rattle.pipe_forms.specs.pipe_frames.block_core.Blocks.{Whole}
+use Rattle.pipe_forms.specs.pipe_frames.block_core.Formed.{name_width, names_scope, IsThere}
+use Rattle.pipe_forms.specs.pipe_marks.cell_nets.declared.operand.Operand.{Operand}
+use Rattle.pipe_forms.specs.pipe_marks.cell_nets.declared.operand.Operand.TheVariants.{Known, Net, Part as Bits}
+use Rattle.pipe_forms.specs.pipe_marks.cell_nets.Operands.{HasWidth, AreFit}
+use Rattle.pipe_forms.specs.pipe_frames.pipe_net.declared.parts.Part.{Part}
 use Rattle.pipe_forms.specs.Declared.{Declares}
 use Rattle.pipe_clocks.proofs.Fitting.{AreOfWidths}
 use Rattle.pipe_clocks.proofs.Some.{AreSome, some_bits}

@@ -5,24 +5,24 @@ use Rattle.std.proofs.Math.Nat.{mod-le, div-le_self}
 use Rattle.std.proofs.lemmas.Bool.{eqb-true, ltb-true, leb-true, and_parts, and_from, cases_eq}
 use Rattle.std.proofs.lemmas.List.{length-map, length-replicate, get_or-replicate, get_or_at}
 use Rattle.pipe_core.proofs.list_laws.PlaceLaws.{some_below}
-use Rattle.pipe_frames.specs.net_core.declared.tree.Word.{Word}
-use Rattle.pipe_frames.specs.net_core.declared.tree.Op.{Op}
-use Rattle.pipe_frames.specs.net_core.declared.tree.UnaryOp.{UnaryOp}
-use Rattle.pipe_frames.specs.net_core.declared.design.Port.{Port}
-use Rattle.pipe_frames.specs.net_core.Nets.{Tree, TConst, TRead, TBit, TPartSelect, TMemoryWord, TUnary, TBinary, TConditional, TConcatenation, Trees, TLast, TMore, RightTree, RPlain, RQuotient, RRemainder, StatementTree, SBlock, SIf, SIfElse, SSet, SStore, StatementTrees, SEnd, SThen}
-use Rattle.pipe_frames.specs.net_core.Width.{Scope, op_width, unary_width, part_select_width, concatenation_width, width_of, parts_width, right_width, same, port_width, word_fits, statement_typed, statements_typed}
-use Rattle.pipe_frames.specs.net_core.Suits.{IsOfWidth}
-use Rattle.pipe_frames.specs.net_core.Value.{word, nothing, Env, apply, apply_unary, concatenated, part_select, value, concatenated_parts, right_value}
-use Rattle.pipe_frames.specs.net_core.Clock.{Stored, done, all_done}
-use Rattle.pipe_frames.proofs.net_core.WidthLaws.{same_parts, op_parts, unary_parts, part_select_parts, memory_word_parts, conditional_parts, concatenation_parts, const_parts, apply_fits, apply_unary_fits, part_select_fit, concatenated_fit}
-use Rattle.pipe_frames.specs.block_core.declared.name.Name.{Name}
-use Rattle.pipe_frames.specs.block_core.declared.name.Name.TheVariants as name
-use Rattle.pipe_frames.specs.block_core.declared.block.BlockMemory.{BlockMemory}
-use Rattle.pipe_frames.specs.block_core.Blocks.{BlockTree, BlockWireTree, wires_of, first_memory, first_of, Whole, Among}
-use Rattle.pipe_frames.specs.block_core.Parts.{Solve, Sees}
-use Rattle.pipe_frames.specs.block_core.Order.{Reads, AllRead, RightReads, IsBefore, InOrder, AllInOrder}
-use Rattle.pipe_frames.specs.block_core.Formed.{word_width, block_memory_width, block_wire_width, block_registers, block_memories, block_wires, name_width, name_memory, names_scope, words_fit, memories_fit, block_wires_typed, StatementReads, StatementsRead, IsThere, IsTypedBlock}
-use Rattle.pipe_frames.specs.pipe_net.Relation.{IsMemory, IsStored}
+use Rattle.pipe_forms.specs.pipe_frames.net_core.declared.tree.Word.{Word}
+use Rattle.pipe_forms.specs.pipe_frames.net_core.declared.tree.Op.{Op}
+use Rattle.pipe_forms.specs.pipe_frames.net_core.declared.tree.UnaryOp.{UnaryOp}
+use Rattle.pipe_forms.specs.pipe_frames.net_core.declared.design.Port.{Port}
+use Rattle.pipe_forms.specs.pipe_frames.net_core.Nets.{Tree, TConst, TRead, TBit, TPartSelect, TMemoryWord, TUnary, TBinary, TConditional, TConcatenation, Trees, TLast, TMore, RightTree, RPlain, RQuotient, RRemainder, StatementTree, SBlock, SIf, SIfElse, SSet, SStore, StatementTrees, SEnd, SThen}
+use Rattle.pipe_forms.specs.pipe_frames.net_core.Width.{Scope, op_width, unary_width, part_select_width, concatenation_width, width_of, parts_width, right_width, same, port_width, word_fits, statement_typed, statements_typed}
+use Rattle.pipe_forms.specs.pipe_frames.net_core.Suits.{IsOfWidth}
+use Rattle.pipe_forms.specs.pipe_frames.net_core.Value.{word, nothing, Env, apply, apply_unary, concatenated, part_select, value, concatenated_parts, right_value}
+use Rattle.pipe_forms.specs.pipe_frames.net_core.Clock.{Stored, done, all_done}
+use Rattle.pipe_forms.proofs.pipe_frames_laws.net_core.WidthLaws.{same_parts, op_parts, unary_parts, part_select_parts, memory_word_parts, conditional_parts, concatenation_parts, const_parts, apply_fits, apply_unary_fits, part_select_fit, concatenated_fit}
+use Rattle.pipe_forms.specs.pipe_frames.block_core.declared.name.Name.{Name}
+use Rattle.pipe_forms.specs.pipe_frames.block_core.declared.name.Name.TheVariants as name
+use Rattle.pipe_forms.specs.pipe_frames.block_core.declared.block.BlockMemory.{BlockMemory}
+use Rattle.pipe_forms.specs.pipe_frames.block_core.Blocks.{BlockTree, BlockWireTree, wires_of, first_memory, first_of, Whole, Among}
+use Rattle.pipe_forms.specs.pipe_frames.block_core.Parts.{Solve, Sees}
+use Rattle.pipe_forms.specs.pipe_frames.block_core.Order.{Reads, AllRead, RightReads, IsBefore, InOrder, AllInOrder}
+use Rattle.pipe_forms.specs.pipe_frames.block_core.Formed.{word_width, block_memory_width, block_wire_width, block_registers, block_memories, block_wires, name_width, name_memory, names_scope, words_fit, memories_fit, block_wires_typed, StatementReads, StatementsRead, IsThere, IsTypedBlock}
+use Rattle.pipe_forms.specs.pipe_frames.pipe_net.Relation.{IsMemory, IsStored}
 
 -- ---- the value of a tree has its width where the nets that it reads have theirs
 binary_fit : (op : Op) (x y : Word) (a b : ℕ) → IsOfWidth a x → IsOfWidth b y → 0 < op_width op a b → IsOfWidth (op_width op a b) (apply op x y)

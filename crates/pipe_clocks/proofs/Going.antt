@@ -1,29 +1,29 @@
 -- No divisor in a clock is 0.
 use Rattle.std.specs.Prelude.{◌≡◌, ℕ, ◌<◌, ◌≤◌, is_some, drop, length}
 use Rattle.std.proofs.Common.{sym, subst, refl, arith}
-use Rattle.pipe_marks.specs.xdp_maps.declared.decl.MapKind.{MapKind}
-use Rattle.pipe_marks.specs.xdp_maps.declared.decl.MapKind.TheVariants.{Hash, Array}
-use Rattle.pipe_frames.specs.net_core.declared.ports.Inputs.{Inputs}
-use Rattle.pipe_frames.specs.net_core.Value.{Env}
-use Rattle.pipe_frames.specs.net_core.Clock.{Stored}
-use Rattle.pipe_frames.specs.block_core.declared.name.Name.{Name}
-use Rattle.pipe_frames.specs.block_core.Blocks.{BlockTree, Whole, Among}
-use Rattle.pipe_frames.specs.block_core.Parts.{Solve, Goes}
-use Rattle.pipe_maps.specs.map_block.Parts.{SolveAll, Each, AreParts as AreMapParts}
+use Rattle.pipe_forms.specs.pipe_marks.xdp_maps.declared.decl.MapKind.{MapKind}
+use Rattle.pipe_forms.specs.pipe_marks.xdp_maps.declared.decl.MapKind.TheVariants.{Hash, Array}
+use Rattle.pipe_forms.specs.pipe_frames.net_core.declared.ports.Inputs.{Inputs}
+use Rattle.pipe_forms.specs.pipe_frames.net_core.Value.{Env}
+use Rattle.pipe_forms.specs.pipe_frames.net_core.Clock.{Stored}
+use Rattle.pipe_forms.specs.pipe_frames.block_core.declared.name.Name.{Name}
+use Rattle.pipe_forms.specs.pipe_frames.block_core.Blocks.{BlockTree, Whole, Among}
+use Rattle.pipe_forms.specs.pipe_frames.block_core.Parts.{Solve, Goes}
+use Rattle.pipe_forms.specs.pipe_maps.map_block.Parts.{SolveAll, Each, AreParts as AreMapParts}
 use Rattle.pipe_core.specs.Machine.{State, place_at, some_send}
 use Rattle.pipe_core.specs.History.{Trace}
-use Rattle.pipe_maps.specs.turn_net.Turns.{Signals}
-use Rattle.pipe_maps.specs.turn_net.Turn.{SeesTurn}
-use Rattle.pipe_frames.specs.pipe_net.declared.parts.Part.{Part}
-use Rattle.pipe_frames.specs.pipe_net.Parts as part
-use Rattle.pipe_frames.specs.pipe_net.Parts.{part_count}
-use Rattle.pipe_frames.specs.pipe_net.Machine.{input_of}
-use Rattle.pipe_frames.specs.pipe_net.Layout.{Layout, program_of, commit_of, last_of}
-use Rattle.pipe_frames.specs.pipe_net.Saying.{turn_in, is_host}
-use Rattle.pipe_turns.specs.Maps.{decl_at, IsSlotsPart}
-use Rattle.pipe_turns.specs.Parts.{turn_nets}
-use Rattle.pipe_maps.specs.Parts.{ArePartsOfMap, parts_at}
-use Rattle.pipe_places.specs.Layout.{load_sites}
+use Rattle.pipe_forms.specs.pipe_maps.turn_net.Turns.{Signals}
+use Rattle.pipe_forms.specs.pipe_maps.turn_net.Turn.{SeesTurn}
+use Rattle.pipe_forms.specs.pipe_frames.pipe_net.declared.parts.Part.{Part}
+use Rattle.pipe_forms.specs.pipe_frames.pipe_net.Parts as part
+use Rattle.pipe_forms.specs.pipe_frames.pipe_net.Parts.{part_count}
+use Rattle.pipe_forms.specs.pipe_frames.pipe_net.Machine.{input_of}
+use Rattle.pipe_forms.specs.pipe_frames.pipe_net.Layout.{Layout, program_of, commit_of, last_of}
+use Rattle.pipe_forms.specs.pipe_frames.pipe_net.Saying.{turn_in, is_host}
+use Rattle.pipe_forms.specs.pipe_turns.Maps.{decl_at, IsSlotsPart}
+use Rattle.pipe_forms.specs.pipe_turns.Parts.{turn_nets}
+use Rattle.pipe_forms.specs.pipe_maps.Parts.{ArePartsOfMap, parts_at}
+use Rattle.pipe_forms.specs.pipe_places.Layout.{load_sites}
 use Rattle.pipe_forms.specs.Parts.{AreParts}
 use Rattle.pipe_forms.proofs.SortLaws.{Sort, Scatter, Due, Returns, Sources, Slots, Word, Place, Targets, Host, Turn, Commits, OfMap, Control, Marks, Value, Gather, Exit, PartOfMap, Finder, Fetcher, Asker, Own, Written, Change, sort, is_there}
 use Rattle.pipe_clocks.proofs.Fits.{are_fit}

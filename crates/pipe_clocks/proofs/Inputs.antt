@@ -1,13 +1,13 @@
 -- What stands at the ports has their widths.
 use Rattle.std.specs.Prelude.{◌≡◌, ℕ, zero, suc, ◌^◌, ◌<◌, ◌≤◌, Bool, true, false, List, [], ◌∷◌}
 use Rattle.std.proofs.Common.{get_or, refl, arith}
-use Rattle.pipe_frames.specs.net_core.declared.design.Port.{Port}
-use Rattle.pipe_frames.specs.net_core.declared.ports.Inputs.{Inputs}
-use Rattle.pipe_frames.specs.net_core.Suits.{IsOfWidth}
-use Rattle.pipe_frames.specs.net_core.Value.{nothing, number_of}
-use Rattle.pipe_frames.specs.net_core.Width.{port_width}
-use Rattle.pipe_frames.specs.net_core.Ports.{port_list, input_width, numbers_of, words_by, words_of}
-use Rattle.pipe_frames.specs.net_core.History.{IsInput}
+use Rattle.pipe_forms.specs.pipe_frames.net_core.declared.design.Port.{Port}
+use Rattle.pipe_forms.specs.pipe_frames.net_core.declared.ports.Inputs.{Inputs}
+use Rattle.pipe_forms.specs.pipe_frames.net_core.Suits.{IsOfWidth}
+use Rattle.pipe_forms.specs.pipe_frames.net_core.Value.{nothing, number_of}
+use Rattle.pipe_forms.specs.pipe_frames.net_core.Width.{port_width}
+use Rattle.pipe_forms.specs.pipe_frames.net_core.Ports.{port_list, input_width, numbers_of, words_by, words_of}
+use Rattle.pipe_forms.specs.pipe_frames.net_core.History.{IsInput}
 
 -- each number is below 2 to the width of its port
 abbrev AreBelow : List Port → List ℕ → Type 0

@@ -4,14 +4,14 @@ use Rattle.std.proofs.Common.{get_or, refl, arith}
 use Rattle.std.proofs.lemmas.Bool.{ltb-true, and_parts}
 use Rattle.std.proofs.lemmas.List.{length-map}
 use Rattle.pipe_core.proofs.list_laws.PlaceLaws.{some_below}
-use Rattle.pipe_frames.specs.net_core.declared.design.Port.{Port}
-use Rattle.pipe_frames.specs.net_core.Nets.{StatementTree, SBlock, SIf, SIfElse, SSet, SStore, StatementTrees, SEnd, SThen}
-use Rattle.pipe_frames.specs.net_core.Width.{Scope, width_of, same, statement_typed, statements_typed}
-use Rattle.pipe_frames.specs.block_core.declared.name.Name.{Name}
-use Rattle.pipe_frames.specs.block_core.Blocks.{BlockTree, OutputTree, registers_of, memories_of, Whole}
-use Rattle.pipe_frames.specs.block_core.Parts.{Within, AllWithin}
-use Rattle.pipe_frames.specs.block_core.Formed.{word_width, block_memory_width, block_registers, block_memories, IsFormed}
-use Rattle.pipe_frames.specs.block_core.Law.{IsLinkable}
+use Rattle.pipe_forms.specs.pipe_frames.net_core.declared.design.Port.{Port}
+use Rattle.pipe_forms.specs.pipe_frames.net_core.Nets.{StatementTree, SBlock, SIf, SIfElse, SSet, SStore, StatementTrees, SEnd, SThen}
+use Rattle.pipe_forms.specs.pipe_frames.net_core.Width.{Scope, width_of, same, statement_typed, statements_typed}
+use Rattle.pipe_forms.specs.pipe_frames.block_core.declared.name.Name.{Name}
+use Rattle.pipe_forms.specs.pipe_frames.block_core.Blocks.{BlockTree, OutputTree, registers_of, memories_of, Whole}
+use Rattle.pipe_forms.specs.pipe_frames.block_core.Parts.{Within, AllWithin}
+use Rattle.pipe_forms.specs.pipe_frames.block_core.Formed.{word_width, block_memory_width, block_registers, block_memories, IsFormed}
+use Rattle.pipe_forms.specs.pipe_frames.block_core.Law.{IsLinkable}
 
 module _ {N : Type 0} (s : Scope N) (b : BlockTree N) where
   register_there : (k w : ℕ) → same (get_or (block_registers b) k 0) w ≡ true → k < registers_of b

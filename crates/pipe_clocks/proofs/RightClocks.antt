@@ -1,16 +1,16 @@
 -- Which clocks are right.
 use Rattle.std.specs.Prelude.{◌≡◌, ℕ, ◌&&◌, if◌then◌else◌, Bool, true, false, Option, Some, None}
 use Rattle.std.proofs.Common.{refl, sym, ap, ◌∙◌, subst}
-use Rattle.pipe_frames.specs.net_core.declared.ports.Inputs.{Inputs}
+use Rattle.pipe_forms.specs.pipe_frames.net_core.declared.ports.Inputs.{Inputs}
 use Rattle.pipe_core.specs.hazard_core.declared.access.Access.{Access}
 use Rattle.pipe_core.specs.hazard_core.Tables.{TableState, table_at, slot_at}
 use Rattle.pipe_core.specs.hazard_core.Commits.{word_in, may_write}
 use Rattle.pipe_core.specs.Machine.{State, Build, swept, turn_as, written_if, host_writes, host_ready, is_calm}
 use Rattle.pipe_core.specs.Agreed.{IsRightTurn}
 use Rattle.pipe_core.specs.Right.{TurnsAreRight}
-use Rattle.pipe_frames.specs.host_runs.Silent.{silent}
-use Rattle.pipe_frames.specs.pipe_net.Machine.{input_of}
-use Rattle.pipe_frames.specs.pipe_net.Saying.{turn_in}
+use Rattle.pipe_forms.specs.pipe_frames.host_runs.Silent.{silent}
+use Rattle.pipe_forms.specs.pipe_frames.pipe_net.Machine.{input_of}
+use Rattle.pipe_forms.specs.pipe_frames.pipe_net.Saying.{turn_in}
 use Rattle.pipe_clocks.specs.Right.{ReadsAreRight, EmptyIsRight}
 use Rattle.pipe_clocks.proofs.Turns.{kept_was, commits_at, none_at}
 

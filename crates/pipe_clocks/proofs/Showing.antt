@@ -2,18 +2,18 @@
 use Rattle.std.specs.Prelude.{◌≡◌, ℕ, Some}
 use Rattle.std.proofs.Common.{ap, ◌∙◌, arith}
 use Rattle.pipe_core.specs.beat_core.declared.beat.Beat.{Beat}
-use Rattle.pipe_frames.specs.net_core.declared.tree.Word.{Word}
-use Rattle.pipe_frames.specs.net_core.declared.ports.Inputs.{Inputs}
-use Rattle.pipe_frames.specs.net_core.Value.{bit, Env}
-use Rattle.pipe_frames.specs.net_core.Clock.{Stored}
-use Rattle.pipe_frames.specs.block_core.declared.name.Name.{Name}
-use Rattle.pipe_frames.specs.block_core.Blocks.{Whole}
-use Rattle.pipe_frames.specs.block_core.Parts.{shown_by}
+use Rattle.pipe_forms.specs.pipe_frames.net_core.declared.tree.Word.{Word}
+use Rattle.pipe_forms.specs.pipe_frames.net_core.declared.ports.Inputs.{Inputs}
+use Rattle.pipe_forms.specs.pipe_frames.net_core.Value.{bit, Env}
+use Rattle.pipe_forms.specs.pipe_frames.net_core.Clock.{Stored}
+use Rattle.pipe_forms.specs.pipe_frames.block_core.declared.name.Name.{Name}
+use Rattle.pipe_forms.specs.pipe_frames.block_core.Blocks.{Whole}
+use Rattle.pipe_forms.specs.pipe_frames.block_core.Parts.{shown_by}
 use Rattle.pipe_core.specs.Machine.{State, Output, shown_beat, output}
 use Rattle.pipe_core.specs.History.{Trace}
-use Rattle.pipe_frames.specs.pipe_net.declared.parts.Part.{Part}
-use Rattle.pipe_frames.specs.pipe_net.Machine.{input_of, Shows, ShowsBeat}
-use Rattle.pipe_frames.specs.pipe_net.Layout.{Layout}
+use Rattle.pipe_forms.specs.pipe_frames.pipe_net.declared.parts.Part.{Part}
+use Rattle.pipe_forms.specs.pipe_frames.pipe_net.Machine.{input_of, Shows, ShowsBeat}
+use Rattle.pipe_forms.specs.pipe_frames.pipe_net.Layout.{Layout}
 use Rattle.pipe_forms.specs.Parts.{outputs_of}
 use Rattle.pipe_clocks.proofs.Clock as clock
 use Rattle.pipe_clocks.proofs.Clock.{ClockLaws, IsSeen}

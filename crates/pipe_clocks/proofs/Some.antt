@@ -3,66 +3,66 @@ use Rattle.std.specs.Prelude.{◌≡◌, ℕ, zero, suc, ◌+◌, ◌^◌, ◌<�
 use Rattle.std.proofs.Common.{get_or, refl, sym, subst, arith, inl, inr}
 use Rattle.std.proofs.lemmas.Bool.{ltb-true, and_parts}
 use Rattle.std.proofs.lemmas.List.Elements.{All-nil, All-cons, All-head, All-tail, All-append, All-weaker, All-contains, All-filter}
-use Rattle.pipe_marks.specs.xdp_maps.declared.decl.MapKind.{MapKind}
-use Rattle.pipe_marks.specs.xdp_maps.declared.decl.MapKind.TheVariants.{Hash, Array}
-use Rattle.pipe_frames.specs.net_core.declared.tree.Word.{Word}
-use Rattle.pipe_frames.specs.net_core.declared.ports.TheConstants.{HOST_INDEX}
-use Rattle.pipe_frames.specs.net_core.Ports.{port_list}
-use Rattle.pipe_frames.specs.net_core.Width.{word_fits}
-use Rattle.pipe_frames.specs.block_core.declared.name.Name.{Name}
-use Rattle.pipe_frames.specs.block_core.declared.name.Name.TheVariants as name
-use Rattle.pipe_frames.specs.block_core.Blocks.{Whole}
-use Rattle.pipe_frames.specs.block_core.Formed.{block_registers, word_width, words_fit, IsFormed}
+use Rattle.pipe_forms.specs.pipe_marks.xdp_maps.declared.decl.MapKind.{MapKind}
+use Rattle.pipe_forms.specs.pipe_marks.xdp_maps.declared.decl.MapKind.TheVariants.{Hash, Array}
+use Rattle.pipe_forms.specs.pipe_frames.net_core.declared.tree.Word.{Word}
+use Rattle.pipe_forms.specs.pipe_frames.net_core.declared.ports.TheConstants.{HOST_INDEX}
+use Rattle.pipe_forms.specs.pipe_frames.net_core.Ports.{port_list}
+use Rattle.pipe_forms.specs.pipe_frames.net_core.Width.{word_fits}
+use Rattle.pipe_forms.specs.pipe_frames.block_core.declared.name.Name.{Name}
+use Rattle.pipe_forms.specs.pipe_frames.block_core.declared.name.Name.TheVariants as name
+use Rattle.pipe_forms.specs.pipe_frames.block_core.Blocks.{Whole}
+use Rattle.pipe_forms.specs.pipe_frames.block_core.Formed.{block_registers, word_width, words_fit, IsFormed}
 use Rattle.pipe_core.specs.cell_core.Cells.{CellView}
 use Rattle.pipe_core.specs.cell_core.Rows.{numbers}
 use Rattle.pipe_core.specs.cell_core.Sites.{site_at}
-use Rattle.pipe_marks.specs.cell_nets.declared.operand.Operand.{Operand}
-use Rattle.pipe_marks.specs.cell_nets.declared.operand.Operand.TheVariants.{Known, Net, Part as Bits}
-use Rattle.pipe_marks.specs.cell_nets.Operands.{IsOperand, IsAvailable, HasNet}
+use Rattle.pipe_forms.specs.pipe_marks.cell_nets.declared.operand.Operand.{Operand}
+use Rattle.pipe_forms.specs.pipe_marks.cell_nets.declared.operand.Operand.TheVariants.{Known, Net, Part as Bits}
+use Rattle.pipe_forms.specs.pipe_marks.cell_nets.Operands.{IsOperand, IsAvailable, HasNet}
 use Rattle.pipe_core.specs.hazard_core.Commits.{word_count}
 use Rattle.pipe_core.specs.hazard_core.Marks.{has_read}
-use Rattle.pipe_marks.specs.site_operands.Sites.{SiteOperands, operands_of, all_of}
-use Rattle.pipe_places.specs.place_net.Place.{width_at, widths_of, registers_from}
-use Rattle.pipe_places.specs.place_net.Sources.{kept_operands, source_operands}
-use Rattle.pipe_places.specs.site_place.SitePlace.{site_widths, pointer_registers}
-use Rattle.pipe_frames.specs.frame_net.declared.held.Kept.{Kept}
-use Rattle.pipe_frames.specs.frame_net.declared.held.Kept.TheVariants.{Ifindex, Time, Word as FrameWord}
-use Rattle.pipe_frames.specs.frame_net.Gather.{kept_width}
-use Rattle.pipe_frames.specs.frame_net.Sources.{length_name, kept_name}
-use Rattle.pipe_maps.specs.hash_net.Hash.{count_name}
-use Rattle.pipe_places.specs.slot_net.Shown.{shown_slots}
-use Rattle.pipe_places.specs.slot_net.Slots.{SlotOperands, IsSlot, slots_of, all_of as slot_cells_of, operands_of as slot_operands}
-use Rattle.pipe_turns.specs.read_net.declared.sites.OwnSite.{OwnSite}
-use Rattle.pipe_turns.specs.read_net.Sites.{cells_of, all_cells}
-use Rattle.pipe_maps.specs.commit_net.declared.choosing.CommitNets.{CommitNets}
-use Rattle.pipe_maps.specs.commit_net.Choosing.{read_of as operation_read, all_read as operations_read}
-use Rattle.pipe_maps.specs.commit_net.Fetching.{fetched_words}
-use Rattle.pipe_maps.specs.commit_net.Wiring.{outside_of as operations_outside}
-use Rattle.pipe_maps.specs.commit_net.Targets.{slots_of as taken_operands}
-use Rattle.pipe_places.specs.change_net.Pointed.{word_operands}
-use Rattle.pipe_places.specs.change_net.Written.{written_outside}
-use Rattle.pipe_places.specs.change_net.Changes.{host_map, change_outside, change_given}
-use Rattle.pipe_marks.specs.touch_net.declared.change.OwnKey.{OwnKey}
-use Rattle.pipe_marks.specs.touch_net.declared.marks.MarkNets.{MarkNets}
-use Rattle.pipe_marks.specs.touch_net.Touching.{own_operands}
-use Rattle.pipe_marks.specs.touch_net.Marking.{guard_operands, mark_operands}
-use Rattle.pipe_marks.specs.mark_net.declared.nets.MarkSite.{MarkSite}
-use Rattle.pipe_marks.specs.mark_net.Sites.{site_operands, all_operands as mark_site_operands, outside as mark_outside}
-use Rattle.pipe_maps.specs.turn_net.declared.nets.RecordNets.{RecordNets}
-use Rattle.pipe_maps.specs.turn_net.Nets.{kept, sites_of, read_of, all_read, outside as turn_outside}
-use Rattle.pipe_turns.specs.target_net.declared.targets.Target.{Target}
-use Rattle.pipe_turns.specs.target_net.Targets.{all_of as all_targets, outside_of as target_outside}
-use Rattle.pipe_frames.specs.pipe_net.declared.parts.Part.{Part}
-use Rattle.pipe_frames.specs.pipe_net.Parts as part
-use Rattle.pipe_frames.specs.pipe_net.Parts.{part_count}
-use Rattle.pipe_frames.specs.pipe_net.Layout.{Layout, program_of, cells_of as program_cells, last_of, commit_of}
-use Rattle.pipe_frames.specs.pipe_net.Relation.{read_sites}
-use Rattle.pipe_frames.specs.pipe_net.Standing.{held_registers, IsAtPlace}
-use Rattle.pipe_marks.specs.Parts.{advances, IsMarkOf, Unread, Read, IsMarkBefore, IsOwnAt, IsMarkAt, IsMarkNets}
-use Rattle.pipe_turns.specs.Maps.{decl_at, taken_from, taken_slots}
-use Rattle.pipe_turns.specs.Parts.{turn_nets, writes_net, IsTargetOf}
-use Rattle.pipe_maps.specs.Parts.{commits_net, IsOperation}
-use Rattle.pipe_places.specs.Layout.{load_sites}
+use Rattle.pipe_forms.specs.pipe_marks.site_operands.Sites.{SiteOperands, operands_of, all_of}
+use Rattle.pipe_forms.specs.pipe_places.place_net.Place.{width_at, widths_of, registers_from}
+use Rattle.pipe_forms.specs.pipe_places.place_net.Sources.{kept_operands, source_operands}
+use Rattle.pipe_forms.specs.pipe_places.site_place.SitePlace.{site_widths, pointer_registers}
+use Rattle.pipe_forms.specs.pipe_frames.frame_net.declared.held.Kept.{Kept}
+use Rattle.pipe_forms.specs.pipe_frames.frame_net.declared.held.Kept.TheVariants.{Ifindex, Time, Word as FrameWord}
+use Rattle.pipe_forms.specs.pipe_frames.frame_net.Gather.{kept_width}
+use Rattle.pipe_forms.specs.pipe_frames.frame_net.Sources.{length_name, kept_name}
+use Rattle.pipe_forms.specs.pipe_maps.hash_net.Hash.{count_name}
+use Rattle.pipe_forms.specs.pipe_places.slot_net.Shown.{shown_slots}
+use Rattle.pipe_forms.specs.pipe_places.slot_net.Slots.{SlotOperands, IsSlot, slots_of, all_of as slot_cells_of, operands_of as slot_operands}
+use Rattle.pipe_forms.specs.pipe_turns.read_net.declared.sites.OwnSite.{OwnSite}
+use Rattle.pipe_forms.specs.pipe_turns.read_net.Sites.{cells_of, all_cells}
+use Rattle.pipe_forms.specs.pipe_maps.commit_net.declared.choosing.CommitNets.{CommitNets}
+use Rattle.pipe_forms.specs.pipe_maps.commit_net.Choosing.{read_of as operation_read, all_read as operations_read}
+use Rattle.pipe_forms.specs.pipe_maps.commit_net.Fetching.{fetched_words}
+use Rattle.pipe_forms.specs.pipe_maps.commit_net.Wiring.{outside_of as operations_outside}
+use Rattle.pipe_forms.specs.pipe_maps.commit_net.Targets.{slots_of as taken_operands}
+use Rattle.pipe_forms.specs.pipe_places.change_net.Pointed.{word_operands}
+use Rattle.pipe_forms.specs.pipe_places.change_net.Written.{written_outside}
+use Rattle.pipe_forms.specs.pipe_places.change_net.Changes.{host_map, change_outside, change_given}
+use Rattle.pipe_forms.specs.pipe_marks.touch_net.declared.change.OwnKey.{OwnKey}
+use Rattle.pipe_forms.specs.pipe_marks.touch_net.declared.marks.MarkNets.{MarkNets}
+use Rattle.pipe_forms.specs.pipe_marks.touch_net.Touching.{own_operands}
+use Rattle.pipe_forms.specs.pipe_marks.touch_net.Marking.{guard_operands, mark_operands}
+use Rattle.pipe_forms.specs.pipe_marks.mark_net.declared.nets.MarkSite.{MarkSite}
+use Rattle.pipe_forms.specs.pipe_marks.mark_net.Sites.{site_operands, all_operands as mark_site_operands, outside as mark_outside}
+use Rattle.pipe_forms.specs.pipe_maps.turn_net.declared.nets.RecordNets.{RecordNets}
+use Rattle.pipe_forms.specs.pipe_maps.turn_net.Nets.{kept, sites_of, read_of, all_read, outside as turn_outside}
+use Rattle.pipe_forms.specs.pipe_turns.target_net.declared.targets.Target.{Target}
+use Rattle.pipe_forms.specs.pipe_turns.target_net.Targets.{all_of as all_targets, outside_of as target_outside}
+use Rattle.pipe_forms.specs.pipe_frames.pipe_net.declared.parts.Part.{Part}
+use Rattle.pipe_forms.specs.pipe_frames.pipe_net.Parts as part
+use Rattle.pipe_forms.specs.pipe_frames.pipe_net.Parts.{part_count}
+use Rattle.pipe_forms.specs.pipe_frames.pipe_net.Layout.{Layout, program_of, cells_of as program_cells, last_of, commit_of}
+use Rattle.pipe_forms.specs.pipe_frames.pipe_net.Relation.{read_sites}
+use Rattle.pipe_forms.specs.pipe_frames.pipe_net.Standing.{held_registers, IsAtPlace}
+use Rattle.pipe_forms.specs.pipe_marks.Parts.{advances, IsMarkOf, Unread, Read, IsMarkBefore, IsOwnAt, IsMarkAt, IsMarkNets}
+use Rattle.pipe_forms.specs.pipe_turns.Maps.{decl_at, taken_from, taken_slots}
+use Rattle.pipe_forms.specs.pipe_turns.Parts.{turn_nets, writes_net, IsTargetOf}
+use Rattle.pipe_forms.specs.pipe_maps.Parts.{commits_net, IsOperation}
+use Rattle.pipe_forms.specs.pipe_places.Layout.{load_sites}
 use Rattle.pipe_forms.specs.Reading.{before_place, map_shown, map_shown_as, IsReadAt, Advance, Before, OfMap, OfWord}
 use Rattle.pipe_forms.specs.Parts.{outputs_of, AreParts}
 use Rattle.pipe_forms.proofs.SortLaws.{is_there}

@@ -3,28 +3,28 @@ use Rattle.std.specs.Prelude.{◌≡◌, ℕ, ◌<◌, ◌≤◌, List, [], ◌�
 use Rattle.std.proofs.Common.{sym, ap, ◌∙◌, subst, arith, inl, inr}
 use Rattle.std.proofs.lemmas.Bool.{cases_lt}
 use Rattle.std.proofs.lemmas.List.{get_or_past}
-use Rattle.pipe_marks.specs.xdp_maps.Contents.{IsBytes}
-use Rattle.pipe_frames.specs.net_core.declared.ports.Inputs.{Inputs}
-use Rattle.pipe_frames.specs.net_core.Ports.{words_of}
-use Rattle.pipe_frames.specs.net_core.Clock.{Stored, shown}
-use Rattle.pipe_frames.specs.net_core.History.{IsInput}
-use Rattle.pipe_frames.specs.block_core.Blocks.{Whole}
-use Rattle.pipe_frames.specs.block_core.Parts.{stored_of}
+use Rattle.pipe_forms.specs.pipe_marks.xdp_maps.Contents.{IsBytes}
+use Rattle.pipe_forms.specs.pipe_frames.net_core.declared.ports.Inputs.{Inputs}
+use Rattle.pipe_forms.specs.pipe_frames.net_core.Ports.{words_of}
+use Rattle.pipe_forms.specs.pipe_frames.net_core.Clock.{Stored, shown}
+use Rattle.pipe_forms.specs.pipe_frames.net_core.History.{IsInput}
+use Rattle.pipe_forms.specs.pipe_frames.block_core.Blocks.{Whole}
+use Rattle.pipe_forms.specs.pipe_frames.block_core.Parts.{stored_of}
 use Rattle.pipe_core.specs.cell_core.Formed.{AllFit}
 use Rattle.pipe_core.specs.hazard_core.Tables.{decl_of, table_at, slot_at}
 use Rattle.pipe_core.specs.Machine.{State, output, swept, host_ready, is_calm, host_writes}
 use Rattle.pipe_core.specs.History.{Trace, next, begin, KeepsOrder, IsAlwaysInOrder}
 use Rattle.pipe_core.specs.Computed.{KeepsComputed, IsAlwaysComputed}
-use Rattle.pipe_frames.specs.pipe_net.declared.parts.Part.{Part}
-use Rattle.pipe_frames.specs.pipe_net.Machine.{input_of, MayCome, Shows}
-use Rattle.pipe_frames.specs.pipe_net.Layout.{Layout, program_of, last_of, commit_of}
-use Rattle.pipe_frames.specs.pipe_net.Relation.{most_slots}
-use Rattle.pipe_places.specs.Layout.{IsLaidOut}
-use Rattle.pipe_places.specs.Following.{AreServed}
-use Rattle.pipe_places.specs.Entries.{AccessesLead, EntriesFollow, EntriesBegin, EntriesServe}
-use Rattle.pipe_turns.specs.Turning.{IsRightTurn}
+use Rattle.pipe_forms.specs.pipe_frames.pipe_net.declared.parts.Part.{Part}
+use Rattle.pipe_forms.specs.pipe_frames.pipe_net.Machine.{input_of, MayCome, Shows}
+use Rattle.pipe_forms.specs.pipe_frames.pipe_net.Layout.{Layout, program_of, last_of, commit_of}
+use Rattle.pipe_forms.specs.pipe_frames.pipe_net.Relation.{most_slots}
+use Rattle.pipe_forms.specs.pipe_places.Layout.{IsLaidOut}
+use Rattle.pipe_forms.specs.pipe_places.Following.{AreServed}
+use Rattle.pipe_forms.specs.pipe_places.Entries.{AccessesLead, EntriesFollow, EntriesBegin, EntriesServe}
+use Rattle.pipe_forms.specs.pipe_turns.Turning.{IsRightTurn}
 use Rattle.pipe_forms.specs.Parts.{design}
-use Rattle.pipe_maps.specs.Keys.{KeysFollow, KeysBegin}
+use Rattle.pipe_forms.specs.pipe_maps.Keys.{KeysFollow, KeysBegin}
 use Rattle.pipe_clocks.specs.Following.{IsPipeline, IsFollowable, ClocksShow, ClocksFollow, BeginRelated}
 use Rattle.pipe_clocks.specs.Standing.{Stands, IsRightClock, GoesOn, ClocksGoOn, PipelinesStart, FollowsAll, PipelinesFollow}
 use Rattle.pipe_clocks.proofs.Turns.{kept_was, commits_at}

@@ -1,25 +1,25 @@
 -- The design of a pipeline follows the machine of the pipe.
 use Rattle.std.specs.Prelude.{◌≡◌, ℕ, ◌<◌, None, List, length, map}
-use Rattle.pipe_marks.specs.xdp_maps.State.{MapState}
-use Rattle.pipe_frames.specs.net_core.declared.ports.Inputs.{Inputs}
-use Rattle.pipe_frames.specs.net_core.Ports.{words_of}
-use Rattle.pipe_frames.specs.net_core.Clock.{Stored, after, shown, stopping, first_stored}
-use Rattle.pipe_frames.specs.net_core.History.{IsInput}
-use Rattle.pipe_frames.specs.block_core.Blocks.{Whole}
-use Rattle.pipe_frames.specs.block_core.Parts.{stored_of}
+use Rattle.pipe_forms.specs.pipe_marks.xdp_maps.State.{MapState}
+use Rattle.pipe_forms.specs.pipe_frames.net_core.declared.ports.Inputs.{Inputs}
+use Rattle.pipe_forms.specs.pipe_frames.net_core.Ports.{words_of}
+use Rattle.pipe_forms.specs.pipe_frames.net_core.Clock.{Stored, after, shown, stopping, first_stored}
+use Rattle.pipe_forms.specs.pipe_frames.net_core.History.{IsInput}
+use Rattle.pipe_forms.specs.pipe_frames.block_core.Blocks.{Whole}
+use Rattle.pipe_forms.specs.pipe_frames.block_core.Parts.{stored_of}
 use Rattle.pipe_core.specs.hazard_core.Tables.{decl_of, table_at, tables_of}
-use Rattle.pipe_maps.specs.map_block.Stored.{IsFirst}
-use Rattle.pipe_places.specs.place_net.Exit.{byte_numbers}
+use Rattle.pipe_forms.specs.pipe_maps.map_block.Stored.{IsFirst}
+use Rattle.pipe_forms.specs.pipe_places.place_net.Exit.{byte_numbers}
 use Rattle.pipe_core.specs.Machine.{State, new_state, clock, output}
 use Rattle.pipe_core.specs.History.{Trace, IsInOrder}
 use Rattle.pipe_core.specs.Computed.{IsComputed}
-use Rattle.pipe_frames.specs.pipe_net.declared.parts.Part.{Part}
-use Rattle.pipe_frames.specs.pipe_net.Machine.{input_of, MayCome, Shows}
-use Rattle.pipe_frames.specs.pipe_net.Layout.{Layout}
-use Rattle.pipe_frames.specs.pipe_net.Relation.{Relates}
-use Rattle.pipe_places.specs.Following.{AreServed}
-use Rattle.pipe_turns.specs.Turning.{IsRightTurn}
-use Rattle.pipe_maps.specs.Premises.{HoldKeys}
+use Rattle.pipe_forms.specs.pipe_frames.pipe_net.declared.parts.Part.{Part}
+use Rattle.pipe_forms.specs.pipe_frames.pipe_net.Machine.{input_of, MayCome, Shows}
+use Rattle.pipe_forms.specs.pipe_frames.pipe_net.Layout.{Layout}
+use Rattle.pipe_forms.specs.pipe_frames.pipe_net.Relation.{Relates}
+use Rattle.pipe_forms.specs.pipe_places.Following.{AreServed}
+use Rattle.pipe_forms.specs.pipe_turns.Turning.{IsRightTurn}
+use Rattle.pipe_forms.specs.pipe_maps.Premises.{HoldKeys}
 use Rattle.pipe_forms.specs.Parts.{design, AreParts}
 
 -- A pipeline of these parts; the bytes that may change are those of the answer's frame.

@@ -1,11 +1,11 @@
 -- Which clocks are right.
 use Rattle.std.specs.Prelude.{◌≡◌, false}
-use Rattle.pipe_frames.specs.net_core.declared.ports.Inputs.{Inputs}
+use Rattle.pipe_forms.specs.pipe_frames.net_core.declared.ports.Inputs.{Inputs}
 use Rattle.pipe_core.specs.Machine.{State, inside}
 use Rattle.pipe_core.specs.Watched.{Watched}
 use Rattle.pipe_core.specs.Pipeable.{IsSuited}
 use Rattle.pipe_core.specs.Right.{IsRight}
-use Rattle.pipe_frames.specs.pipe_net.Layout.{Layout}
+use Rattle.pipe_forms.specs.pipe_frames.pipe_net.Layout.{Layout}
 use Rattle.pipe_clocks.specs.Standing.{IsRightClock}
 
 -- Where the machine is right, and the host writes nothing in the clock.

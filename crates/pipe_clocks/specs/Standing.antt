@@ -1,26 +1,26 @@
 -- What the clocks of a pipeline keep.
 use Rattle.std.specs.Prelude.{◌≡◌, ℕ, ◌<◌, ◌≤◌, None, Some, List, [], ◌∷◌, length}
-use Rattle.pipe_marks.specs.xdp_maps.State.{MapState, IsSound}
-use Rattle.pipe_frames.specs.net_core.declared.ports.Inputs.{Inputs}
-use Rattle.pipe_frames.specs.net_core.Ports.{words_of}
-use Rattle.pipe_frames.specs.net_core.Clock.{Stored, after, shown, stopping, first_stored}
-use Rattle.pipe_frames.specs.net_core.History.{IsInput}
-use Rattle.pipe_frames.specs.block_core.Blocks.{Whole}
-use Rattle.pipe_frames.specs.block_core.Parts.{stored_of}
+use Rattle.pipe_forms.specs.pipe_marks.xdp_maps.State.{MapState, IsSound}
+use Rattle.pipe_forms.specs.pipe_frames.net_core.declared.ports.Inputs.{Inputs}
+use Rattle.pipe_forms.specs.pipe_frames.net_core.Ports.{words_of}
+use Rattle.pipe_forms.specs.pipe_frames.net_core.Clock.{Stored, after, shown, stopping, first_stored}
+use Rattle.pipe_forms.specs.pipe_frames.net_core.History.{IsInput}
+use Rattle.pipe_forms.specs.pipe_frames.block_core.Blocks.{Whole}
+use Rattle.pipe_forms.specs.pipe_frames.block_core.Parts.{stored_of}
 use Rattle.pipe_core.specs.hazard_core.Tables.{decl_of, table_at, tables_of}
 use Rattle.pipe_core.specs.hazard_core.Tabled.{AreTables}
 use Rattle.pipe_core.specs.hazard_core.Changes.{IsRightCommit}
-use Rattle.pipe_maps.specs.map_block.Stored.{IsFirst}
+use Rattle.pipe_forms.specs.pipe_maps.map_block.Stored.{IsFirst}
 use Rattle.pipe_core.specs.Machine.{Packet, State, Commits, place_at, output}
 use Rattle.pipe_core.specs.History.{Trace, next, begin, IsInOrder}
 use Rattle.pipe_core.specs.Computed.{IsComputed}
-use Rattle.pipe_frames.specs.pipe_net.declared.parts.Part.{Part}
-use Rattle.pipe_frames.specs.pipe_net.Machine.{input_of, MayCome, Shows}
-use Rattle.pipe_frames.specs.pipe_net.Layout.{Layout, program_of, last_of}
-use Rattle.pipe_frames.specs.pipe_net.Relation.{Relates}
-use Rattle.pipe_frames.specs.pipe_net.Saying.{turn_in}
-use Rattle.pipe_places.specs.Entries.{AccessesLead, HavePointers}
-use Rattle.pipe_maps.specs.Premises.{HoldKeys}
+use Rattle.pipe_forms.specs.pipe_frames.pipe_net.declared.parts.Part.{Part}
+use Rattle.pipe_forms.specs.pipe_frames.pipe_net.Machine.{input_of, MayCome, Shows}
+use Rattle.pipe_forms.specs.pipe_frames.pipe_net.Layout.{Layout, program_of, last_of}
+use Rattle.pipe_forms.specs.pipe_frames.pipe_net.Relation.{Relates}
+use Rattle.pipe_forms.specs.pipe_frames.pipe_net.Saying.{turn_in}
+use Rattle.pipe_forms.specs.pipe_places.Entries.{AccessesLead, HavePointers}
+use Rattle.pipe_forms.specs.pipe_maps.Premises.{HoldKeys}
 use Rattle.pipe_forms.specs.Parts.{design}
 use Rattle.pipe_clocks.specs.Following.{IsPipeline, Follows}
 

@@ -17,9 +17,9 @@ pub fn clocks_follow()
     pipe_frames::laws::frames_follow();
     pipe_marks::laws::dues_are_shown();
     pipe_marks::laws::marks_follow();
-    pipe_turns::laws::host_is_shown();
-    pipe_turns::laws::turn_is_shown();
-    pipe_turns::laws::turn_follows();
+    pipe_maps::pipe_turns::laws::host_is_shown();
+    pipe_maps::pipe_turns::laws::turn_is_shown();
+    pipe_maps::pipe_turns::laws::turn_follows();
     pipe_places::laws::packets_are_shown();
     pipe_places::laws::packets_follow();
     pipe_maps::laws::tables_follow();

@@ -6,7 +6,7 @@ use Rattle.std.proofs.lemmas.List.{get_or-map, length-map, map_push, take_more}
 use Rattle.std.proofs.lemmas.List.Folds.{list_any_at}
 use Rattle.std.proofs.lemmas.List.Elements.{All-push, Contains-get_or}
 use Rattle.block_core.specs.declared.name.Name.{Name}
-use Rattle.cell_core.specs.declared.program.FrameByte.{FrameByte}
+use Rattle.row_plan.specs.cell_core.declared.program.FrameByte.{FrameByte}
 use Rattle.cell_nets.specs.declared.operand.Operand.{Operand}
 use Rattle.site_table.specs.row_net.Table.{Stands}
 use Rattle.place_net.specs.declared.outputs.AnswerByte.{AnswerByte}

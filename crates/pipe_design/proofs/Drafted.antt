@@ -11,13 +11,13 @@ use Rattle.change_net.specs.declared.change.ChangePart.{ChangePart}
 use Rattle.pipe_net.specs.declared.parts.Part.{Part}
 use Rattle.pipe_net.specs.declared.parts.Sizes.{Sizes}
 use Rattle.pipe_net.specs.Layout.{Layout, Table, ChangeView, IsSized}
-use Rattle.pipe_draft.specs.pipe_places.Layout.{IsChanged}
-use Rattle.pipe_draft.specs.declared.draft.Draft.{Draft}
-use Rattle.pipe_draft.specs.declared.places.Behind.{Behind}
-use Rattle.pipe_draft.specs.Draft.{program_in, plan_in, decls_in, IsDraft}
-use Rattle.pipe_draft.specs.Places.{ArePlaces}
-use Rattle.pipe_draft.specs.Laid.{IsDrafted, IsAnswered}
-use Rattle.mark_parts.specs.Laws.{IsChangeIn}
+use Rattle.map_parts.specs.pipe_draft.pipe_places.Layout.{IsChanged}
+use Rattle.map_parts.specs.pipe_draft.declared.draft.Draft.{Draft}
+use Rattle.map_parts.specs.pipe_draft.declared.places.Behind.{Behind}
+use Rattle.map_parts.specs.pipe_draft.Draft.{program_in, plan_in, decls_in, IsDraft}
+use Rattle.map_parts.specs.pipe_draft.Places.{ArePlaces}
+use Rattle.map_parts.specs.pipe_draft.Laid.{IsDrafted, IsAnswered}
+use Rattle.map_parts.specs.mark_parts.Laws.{IsChangeIn}
 use Rattle.pipe_design.specs.Answer.{IsByteIn, AreOutputs}
 use Rattle.pipe_design.specs.Layout.{Shown, IsShapeOf, view_of, no_change, layout}
 use Rattle.pipe_design.proofs.Joining.{some_of}

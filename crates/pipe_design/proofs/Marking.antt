@@ -4,22 +4,22 @@ use Rattle.std.proofs.Common.{◌≡◌, ◌∙◌, ℕ, ◌+◌, ◌<◌, ◌�
 use Rattle.std.proofs.lemmas.List.{length-map, get_or_default}
 use Rattle.xdp_maps.specs.declared.decl.MapDecl.{MapDecl}
 use Rattle.block_core.specs.declared.name.Name.{Name}
-use Rattle.cell_core.specs.Formed.{AllFit}
-use Rattle.cell_core.specs.Sites.{ProgramView, site_at}
-use Rattle.cell_core.specs.View.{program_of, site_of}
+use Rattle.row_plan.specs.cell_core.Formed.{AllFit}
+use Rattle.row_plan.specs.cell_core.Sites.{ProgramView, site_at}
+use Rattle.row_plan.specs.cell_core.View.{program_of, site_of}
 use Rattle.site_table.specs.site_operands.declared.SiteNets.{SiteNets}
 use Rattle.site_table.specs.site_operands.Sites.{SiteOperands}
 use Rattle.site_table.specs.Sites.{operand_at}
 use Rattle.pipe_net.specs.declared.parts.Part.{Part}
 use Rattle.pipe_net.specs.declared.parts.Sizes.{Sizes}
 use Rattle.pipe_net.specs.Parts.{IsSmall}
-use Rattle.pipe_draft.specs.declared.draft.Draft.{Draft}
-use Rattle.pipe_draft.specs.declared.places.Behind.{Behind}
-use Rattle.pipe_draft.specs.Draft.{program_in, plan_in, IsDraft}
-use Rattle.pipe_draft.specs.Places.{ArePlaces}
-use Rattle.mark_parts.specs.declared.layout.MarkLayout.{MarkLayout}
-use Rattle.mark_parts.specs.Places as marks
-use Rattle.mark_parts.specs.Places.{IsMarkLayout, HaveOperands}
+use Rattle.map_parts.specs.pipe_draft.declared.draft.Draft.{Draft}
+use Rattle.map_parts.specs.pipe_draft.declared.places.Behind.{Behind}
+use Rattle.map_parts.specs.pipe_draft.Draft.{program_in, plan_in, IsDraft}
+use Rattle.map_parts.specs.pipe_draft.Places.{ArePlaces}
+use Rattle.map_parts.specs.mark_parts.declared.layout.MarkLayout.{MarkLayout}
+use Rattle.map_parts.specs.mark_parts.Places as marks
+use Rattle.map_parts.specs.mark_parts.Places.{IsMarkLayout, HaveOperands}
 use Rattle.pipe_design.specs.Marks.{IsMarkLayoutOf}
 
 module _ (d : Draft) (is : IsDraft d) (f : MarkLayout) (of : IsMarkLayoutOf d f) where

@@ -25,8 +25,8 @@ use Rattle.pipe_net.specs.declared.parts.Part.{Part}
 use Rattle.pipe_net.specs.declared.parts.Sizes.{Sizes}
 use Rattle.pipe_net.specs.Parts.{part_place}
 use Rattle.pipe_net.specs.Layout.{Layout}
-use Rattle.pipe_forms.specs.Parts.{outputs_of, design, names_of}
-use Rattle.pipe_forms.specs.Forming.{PipelinesAreFormed, ProductsAreApart}
+use Rattle.pipe_clocks.specs.pipe_forms.Parts.{outputs_of, design, names_of}
+use Rattle.pipe_clocks.specs.pipe_forms.Forming.{PipelinesAreFormed, ProductsAreApart}
 use Rattle.pipe_design.specs.Linking.{IsLinked, shown_outputs}
 
 -- ---- what the outputs show is what those of the pipeline do

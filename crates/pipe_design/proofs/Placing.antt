@@ -13,7 +13,7 @@ use Rattle.pipe_net.specs.declared.parts.Sizes.{Sizes}
 use Rattle.pipe_net.specs.Parts as part
 use Rattle.pipe_net.specs.Parts.{behind_words, behind_maps, part_count}
 use Rattle.frame_parts.specs.Blocks as frames
-use Rattle.slot_parts.specs.declared.slots.SlotsPart.{SlotsPart}
+use Rattle.turn_parts.specs.slot_parts.declared.slots.SlotsPart.{SlotsPart}
 use Rattle.map_parts.specs.declared.parts.PartsOfMap.{PartsOfMap}
 use Rattle.map_parts.specs.Whole as maps
 use Rattle.pipe_design.specs.declared.parts.Others.{Others}

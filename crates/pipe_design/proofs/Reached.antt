@@ -4,9 +4,9 @@ use Rattle.std.proofs.Common.{◌≡◌, ◌∙◌, ◌⊎◌, inl, inr, ℕ, su
 use Rattle.std.proofs.lemmas.List.{get_or_default}
 use Rattle.std.proofs.lemmas.List.Elements.{All-cons, All-map, All-weaker, All-contains, Contains-get_or}
 use Rattle.block_core.specs.declared.name.Name.{Name}
-use Rattle.cell_core.specs.declared.program.FrameByte.{FrameByte}
-use Rattle.cell_core.specs.Cells.{cell_at}
-use Rattle.cell_core.specs.Sites.{ProgramView}
+use Rattle.row_plan.specs.cell_core.declared.program.FrameByte.{FrameByte}
+use Rattle.row_plan.specs.cell_core.Cells.{cell_at}
+use Rattle.row_plan.specs.cell_core.Sites.{ProgramView}
 use Rattle.cell_nets.specs.Operands.{IsOperand}
 use Rattle.row_plan.specs.Plan.{Plan, answer_cells}
 use Rattle.site_table.specs.row_net.Table.{IsIn, IsTable, is_constant}
@@ -18,11 +18,11 @@ use Rattle.site_table.specs.Tables.{StandBehind}
 use Rattle.pipe_net.specs.declared.parts.Part.{Part}
 use Rattle.pipe_net.specs.Parts as part
 use Rattle.pipe_net.specs.Layout.{Table, IsBy}
-use Rattle.pipe_draft.specs.declared.draft.Draft.{Draft}
-use Rattle.pipe_draft.specs.declared.places.Behind.{Behind}
-use Rattle.pipe_draft.specs.Program.{build_of}
-use Rattle.pipe_draft.specs.Draft.{program_in, plan_in, IsDraft}
-use Rattle.pipe_draft.specs.Places.{ArePlaces}
+use Rattle.map_parts.specs.pipe_draft.declared.draft.Draft.{Draft}
+use Rattle.map_parts.specs.pipe_draft.declared.places.Behind.{Behind}
+use Rattle.map_parts.specs.pipe_draft.Program.{build_of}
+use Rattle.map_parts.specs.pipe_draft.Draft.{program_in, plan_in, IsDraft}
+use Rattle.map_parts.specs.pipe_draft.Places.{ArePlaces}
 use Rattle.pipe_design.specs.Answer.{IsByteIn, AreOutputs}
 use Rattle.pipe_design.proofs.Answering.{mapped_in}
 

@@ -10,10 +10,10 @@ use Rattle.ring_net.specs.declared.shape.ControlShape.{ControlShape}
 use Rattle.target_net.specs.declared.targets.TargetPart.{TargetPart}
 use Rattle.pipe_net.specs.turn_net.Nets.{number_of}
 use Rattle.pipe_net.specs.declared.parts.Part.{Part}
-use Rattle.pipe_draft.specs.declared.draft.Draft.{Draft}
-use Rattle.pipe_draft.specs.declared.places.Behind.{Behind}
-use Rattle.pipe_draft.specs.Draft.{program_in, decls_in}
-use Rattle.slot_parts.specs.Nets.{AreMapNets}
+use Rattle.map_parts.specs.pipe_draft.declared.draft.Draft.{Draft}
+use Rattle.map_parts.specs.pipe_draft.declared.places.Behind.{Behind}
+use Rattle.map_parts.specs.pipe_draft.Draft.{program_in, decls_in}
+use Rattle.turn_parts.specs.slot_parts.Nets.{AreMapNets}
 use Rattle.turn_parts.specs.declared.parts.TurnParts.{TurnParts}
 use Rattle.turn_parts.specs.Parts.{AreTurnPartsIn}
 use Rattle.map_parts.specs.Operations.{AreTargetsOn, IsCommitting}

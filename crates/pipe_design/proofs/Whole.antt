@@ -10,7 +10,7 @@ use Rattle.block_core.specs.declared.block.Block.{Block}
 use Rattle.block_core.specs.Blocks.{BlockTree, Whole}
 use Rattle.block_core.specs.declared.block.Placed.{Placed}
 use Rattle.block_core.specs.View.{block_of, Makes}
-use Rattle.cell_core.specs.View.{program_of}
+use Rattle.row_plan.specs.cell_core.View.{program_of}
 use Rattle.cell_nets.specs.declared.operand.Operand.TheVariants.{Known}
 use Rattle.control_net.specs.Returns.{due_name}
 use Rattle.target_net.specs.read_net.declared.sites.MapNets.{MapNets}
@@ -22,27 +22,27 @@ use Rattle.pipe_net.specs.declared.parts.Sizes.{Sizes}
 use Rattle.pipe_net.specs.Parts as part
 use Rattle.pipe_net.specs.Parts.{part_place, part_count}
 use Rattle.pipe_net.specs.Layout.{Layout}
-use Rattle.mark_parts.specs.pipe_marks.Parts.{AreMarkParts, AreMarksOf}
-use Rattle.slot_parts.specs.pipe_turns.Maps.{decl_at}
+use Rattle.map_parts.specs.mark_parts.pipe_marks.Parts.{AreMarkParts, AreMarksOf}
+use Rattle.turn_parts.specs.slot_parts.pipe_turns.Maps.{decl_at}
 use Rattle.map_parts.specs.pipe_maps.Parts.{commits_net, AreMapParts}
 use Rattle.frame_parts.specs.pipe_frames.Parts.{AreFrameParts}
-use Rattle.pipe_forms.specs.Parts.{AreParts}
+use Rattle.pipe_clocks.specs.pipe_forms.Parts.{AreParts}
 use Rattle.pipe_clocks.specs.Following.{IsPipeline}
-use Rattle.mark_parts.specs.Due.{IsDuePart}
-use Rattle.mark_parts.specs.Marks.{IsMarksPart}
-use Rattle.mark_parts.specs.Laws.{IsFor, PartsAreOfMarks}
-use Rattle.slot_parts.specs.declared.slots.SlotsPart.{SlotsPart}
-use Rattle.slot_parts.specs.Slots.{AreSlotsParts}
-use Rattle.slot_parts.specs.Laws.{AreShownMaps, SlotsAreShown}
+use Rattle.map_parts.specs.mark_parts.Due.{IsDuePart}
+use Rattle.map_parts.specs.mark_parts.Marks.{IsMarksPart}
+use Rattle.map_parts.specs.mark_parts.Laws.{IsFor, PartsAreOfMarks}
+use Rattle.turn_parts.specs.slot_parts.declared.slots.SlotsPart.{SlotsPart}
+use Rattle.turn_parts.specs.slot_parts.Slots.{AreSlotsParts}
+use Rattle.turn_parts.specs.slot_parts.Laws.{AreShownMaps, SlotsAreShown}
 use Rattle.turn_parts.specs.Laws.{HasTurnBlocks, IsForTurn, AreTurnPartsOf, PartsAreOfTurns}
 use Rattle.map_parts.specs.declared.committing.MapCommits.{MapCommits}
 use Rattle.map_parts.specs.Laws.{IsSaidBy, PartsAreOfMaps}
 use Rattle.place_parts.specs.Laws.{ArePlacesOf, PartsAreOfPlaces}
-use Rattle.pipe_draft.specs.declared.draft.Draft.{Draft}
-use Rattle.pipe_draft.specs.declared.places.Behind.{Behind}
-use Rattle.pipe_draft.specs.Draft.{program_in, plan_in, decls_in, IsDraft}
-use Rattle.pipe_draft.specs.Places.{ArePlaces}
-use Rattle.pipe_draft.specs.Laid.{IsDrafted, IsAnswered, SitesAreAtPlaces}
+use Rattle.map_parts.specs.pipe_draft.declared.draft.Draft.{Draft}
+use Rattle.map_parts.specs.pipe_draft.declared.places.Behind.{Behind}
+use Rattle.map_parts.specs.pipe_draft.Draft.{program_in, plan_in, decls_in, IsDraft}
+use Rattle.map_parts.specs.pipe_draft.Places.{ArePlaces}
+use Rattle.map_parts.specs.pipe_draft.Laid.{IsDrafted, IsAnswered, SitesAreAtPlaces}
 use Rattle.pipe_design.specs.declared.parts.Others.{Others}
 use Rattle.pipe_design.specs.Layout.{Shown, layout}
 use Rattle.pipe_design.specs.Order.{Lists, all_of, whole_of}

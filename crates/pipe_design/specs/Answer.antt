@@ -2,9 +2,9 @@
 use Rattle.std.specs.Prelude.{◌≡◌, ◌==◌, ◌/◌, ℕ, Bool, Option, List, All, Contains, map as map_list}
 use Rattle.std.specs.List.{filter, list_any}
 use Rattle.block_core.specs.declared.name.Name.{Name}
-use Rattle.cell_core.specs.declared.program.FrameByte.{FrameByte}
-use Rattle.cell_core.specs.Rows.{numbers}
-use Rattle.cell_core.specs.Sites.{ProgramView}
+use Rattle.row_plan.specs.cell_core.declared.program.FrameByte.{FrameByte}
+use Rattle.row_plan.specs.cell_core.Rows.{numbers}
+use Rattle.row_plan.specs.cell_core.Sites.{ProgramView}
 use Rattle.cell_nets.specs.declared.operand.Operand.{Operand}
 use Rattle.site_table.specs.row_net.Table.{Stands}
 use Rattle.place_net.specs.declared.outputs.AnswerByte.{AnswerByte}

@@ -13,10 +13,10 @@ use Rattle.pipe_net.specs.turn_net.declared.nets.RecordNets.{RecordNets}
 use Rattle.pipe_net.specs.turn_net.declared.nets.TurnShape.{TurnShape}
 use Rattle.pipe_net.specs.declared.parts.Part.{Part}
 use Rattle.pipe_net.specs.Layout.{Layout, Table, ChangeView}
-use Rattle.pipe_draft.specs.declared.draft.Draft.{Draft}
-use Rattle.pipe_draft.specs.declared.places.Behind.{Behind}
-use Rattle.pipe_draft.specs.Program.{build_of}
-use Rattle.pipe_draft.specs.Draft.{program_in, plan_in, decls_in}
+use Rattle.map_parts.specs.pipe_draft.declared.draft.Draft.{Draft}
+use Rattle.map_parts.specs.pipe_draft.declared.places.Behind.{Behind}
+use Rattle.map_parts.specs.pipe_draft.Program.{build_of}
+use Rattle.map_parts.specs.pipe_draft.Draft.{program_in, plan_in, decls_in}
 
 -- the sizes of control: a slot for each place and for three frames that come, wait or go
 pub record IsShapeOf (d : Draft) (c : ControlShape) : Type 0 where

@@ -1,4 +1,4 @@
-pub use Rattle.pipe_forms.specs as pipe_forms
+pub use Rattle.pipe_clocks.specs.pipe_forms as pipe_forms
 pub use Rattle.pipe_net.specs as pipe_net
 pub use Rattle.ring_net.specs.product_rules as product_rules
 pub mod Pipeline

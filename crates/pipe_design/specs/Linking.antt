@@ -18,7 +18,7 @@ use Rattle.pipe_net.specs.Parts as part
 use Rattle.pipe_net.specs.Parts.{part_place}
 use Rattle.pipe_net.specs.Layout.{Layout}
 use Rattle.frame_parts.specs.pipe_frames.Parts.{told_by}
-use Rattle.pipe_forms.specs.Parts.{shown_at, AreParts}
+use Rattle.pipe_clocks.specs.pipe_forms.Parts.{shown_at, AreParts}
 
 -- the parts in memory are those of a pipeline of these sizes, in which so many words of a frame may change
 pub record IsLinked (z : Sizes) (words : ℕ) (ms : List (Placed Part)) (l : Layout) (d : Whole Part) : Type 0 where

@@ -6,12 +6,12 @@ use Rattle.block_core.specs.declared.block.Block.{Block}
 use Rattle.block_core.specs.View.{block_of}
 use Rattle.change_net.specs.declared.change.ChangePart.{ChangePart}
 use Rattle.pipe_net.specs.declared.parts.Part.{Part}
-use Rattle.pipe_draft.specs.declared.draft.Draft.{Draft}
-use Rattle.pipe_draft.specs.declared.places.Behind.{Behind}
-use Rattle.pipe_draft.specs.Draft.{plan_in, decls_in}
-use Rattle.mark_parts.specs.declared.layout.MarkLayout.{MarkLayout}
-use Rattle.mark_parts.specs.Due.{IsDuePart}
-use Rattle.mark_parts.specs.Marks.{IsMarksPart}
+use Rattle.map_parts.specs.pipe_draft.declared.draft.Draft.{Draft}
+use Rattle.map_parts.specs.pipe_draft.declared.places.Behind.{Behind}
+use Rattle.map_parts.specs.pipe_draft.Draft.{plan_in, decls_in}
+use Rattle.map_parts.specs.mark_parts.declared.layout.MarkLayout.{MarkLayout}
+use Rattle.map_parts.specs.mark_parts.Due.{IsDuePart}
+use Rattle.map_parts.specs.mark_parts.Marks.{IsMarksPart}
 use Rattle.pipe_design.specs.declared.marks.DueParts.{DueParts}
 
 -- what marks are made for, of a draft

@@ -16,10 +16,10 @@ use Rattle.pipe_net.specs.Parts.{part_place}
 use Rattle.pipe_net.specs.Layout.{Layout}
 use Rattle.frame_parts.specs.pipe_frames.Parts.{AreFrameParts}
 use Rattle.frame_parts.specs.Blocks.{HasBlocks as HasFrameBlocks}
-use Rattle.mark_parts.specs.declared.layout.MarkLayout.{MarkLayout}
-use Rattle.slot_parts.specs.declared.slots.SlotsPart.{SlotsPart}
-use Rattle.slot_parts.specs.Slots.{AreSlotsParts}
-use Rattle.slot_parts.specs.Nets.{AreMapNets}
+use Rattle.map_parts.specs.mark_parts.declared.layout.MarkLayout.{MarkLayout}
+use Rattle.turn_parts.specs.slot_parts.declared.slots.SlotsPart.{SlotsPart}
+use Rattle.turn_parts.specs.slot_parts.Slots.{AreSlotsParts}
+use Rattle.turn_parts.specs.slot_parts.Nets.{AreMapNets}
 use Rattle.turn_parts.specs.declared.parts.TurnParts.{TurnParts}
 use Rattle.turn_parts.specs.Parts.{AreTurnPartsIn}
 use Rattle.map_parts.specs.declared.committing.MapCommits.{MapCommits}
@@ -29,9 +29,9 @@ use Rattle.map_parts.specs.declared.parts.MapParts.{MapParts}
 use Rattle.map_parts.specs.Operations.{AreChosen, AreTargetsOn}
 use Rattle.map_parts.specs.Whole.{AreMapPartsFor}
 use Rattle.place_parts.specs.Parts.{ArePlaceParts}
-use Rattle.pipe_draft.specs.declared.draft.Draft.{Draft}
-use Rattle.pipe_draft.specs.declared.places.Behind.{Behind}
-use Rattle.pipe_draft.specs.Draft.{program_in, plan_in, decls_in}
+use Rattle.map_parts.specs.pipe_draft.declared.draft.Draft.{Draft}
+use Rattle.map_parts.specs.pipe_draft.declared.places.Behind.{Behind}
+use Rattle.map_parts.specs.pipe_draft.Draft.{program_in, plan_in, decls_in}
 use Rattle.pipe_clocks.specs.Following.{IsPipeline}
 use Rattle.pipe_design.specs.declared.marks.DueParts.{DueParts}
 use Rattle.pipe_design.specs.declared.parts.Others.{Others}

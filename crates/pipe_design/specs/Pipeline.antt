@@ -4,13 +4,13 @@ use Rattle.xdp_maps.specs.declared.decl.MapDecl.{MapDecl}
 use Rattle.net_core.specs.Nets.{Netlist}
 use Rattle.block_core.specs.Blocks.{Whole}
 use Rattle.block_core.specs.Range.{design_in_range}
-use Rattle.cell_core.specs.Sites.{ProgramView}
+use Rattle.row_plan.specs.cell_core.Sites.{ProgramView}
 use Rattle.row_plan.specs.Plan.{Plan}
 use Rattle.site_table.specs.Pointing.{AreFlagged}
 use Rattle.pipe_net.specs.declared.parts.Part.{Part}
 use Rattle.pipe_net.specs.Layout.{Layout}
-use Rattle.pipe_draft.specs.Program.{build_of}
-use Rattle.pipe_forms.specs.Parts.{outputs_of, design, names_of}
+use Rattle.map_parts.specs.pipe_draft.Program.{build_of}
+use Rattle.pipe_clocks.specs.pipe_forms.Parts.{outputs_of, design, names_of}
 use Rattle.pipe_clocks.specs.Following.{IsPipeline}
 
 -- a pipeline of the program, by this plan and with these maps

@@ -2,22 +2,22 @@
 
 ghost use Rattle.std.specs.Prelude.{ℕ, ◌≡◌, ◌<◌, ◌≤◌, All, IfOk, length, map as map_list};
 ghost use Rattle.std.proofs.Common.{get_or};
-ghost use Rattle.cell_core.specs.declared.program.FrameByte.{FrameByte};
-ghost use Rattle.cell_core.specs.View.{program_of};
+ghost use Rattle.row_plan.specs.cell_core.declared.program.FrameByte.{FrameByte};
+ghost use Rattle.row_plan.specs.cell_core.View.{program_of};
 ghost use Rattle.cell_nets.specs.Operands.{IsOperand};
 ghost use Rattle.place_net.specs.Exit.{byte_number, output_operands};
 ghost use Rattle.site_table.specs.row_net.Table.{IsIn, Stands};
-ghost use Rattle.pipe_draft.specs.declared.places.Behind.{Behind};
-ghost use Rattle.pipe_draft.specs.Draft.{program_in, plan_in, IsDraft};
-ghost use Rattle.pipe_draft.specs.Places.{ArePlaces};
+ghost use Rattle.map_parts.specs.pipe_draft.declared.places.Behind.{Behind};
+ghost use Rattle.map_parts.specs.pipe_draft.Draft.{program_in, plan_in, IsDraft};
+ghost use Rattle.map_parts.specs.pipe_draft.Places.{ArePlaces};
 ghost use Rattle.pipe_design.specs.Answer.{IsByteIn, AreOutputs, has_byte, changed_words};
 
 use block_core::name::Name;
-use cell_core::program::{CellProgram, FrameByte};
 use cell_nets::operand::Operand;
-use pipe_draft::{Behind, Draft};
+use map_parts::pipe_draft::{Behind, Draft};
 use pipe_net::parts::Part;
 use place_net::{AnswerByte, Outputs};
+use row_plan::cell_core::program::{CellProgram, FrameByte};
 use site_table::laws::stages_are_placed;
 use std::alloc::{AllocError, Global};
 

@@ -15,7 +15,7 @@ ghost use Rattle.pipe_net.specs.declared.parts.Part.{Part};
 ghost use Rattle.pipe_net.specs.Layout.{Layout};
 ghost use Rattle.pipe_net.specs.Parts as part;
 ghost use Rattle.pipe_net.specs.Parts.{IsSmall};
-ghost use Rattle.pipe_forms.specs.Parts.{shown_at, outputs_of, design, names_of};
+ghost use Rattle.pipe_clocks.specs.pipe_forms.Parts.{shown_at, outputs_of, design, names_of};
 ghost use Rattle.pipe_design.specs.Linking.{IsLinked, shown_outputs};
 
 use block_core::block::{Output, Placed};
@@ -31,7 +31,7 @@ use net_core::ports::{
     OUT_TARGET, OUT_VALID, OUT_VERDICT, PORT_NAMES, PORTS,
 };
 use net_core::tree::Expr;
-use pipe_forms::laws::pipelines_are_formed;
+use pipe_clocks::pipe_forms::laws::pipelines_are_formed;
 use pipe_net::parts::{Part, Sizes, scatter};
 use ring_net::names::{Register, register_name};
 use scatter_net::{bytes_name, data_name, last_name, target_name, verdict_name};

@@ -13,9 +13,9 @@ use change_net::pointed::PointedWords;
 use frame_parts::parts::FrameParts;
 use map_parts::parts::PartsOfMap;
 use pipe_net::parts::Part;
-use slot_parts::slots::SlotsPart;
 use std::alloc::{AllocError, Global};
 use target_net::targets::TargetPart;
+use turn_parts::slot_parts::slots::SlotsPart;
 
 // The blocks of the parts that show slots.
 fn slot_blocks(alloc: Global, parts: Vec<SlotsPart>) -> Result<Vec<Block<Name<Part>>>, AllocError>

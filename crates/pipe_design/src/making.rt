@@ -5,10 +5,10 @@ ghost use Rattle.net_core.specs.View.{netlist_of};
 ghost use Rattle.ring_net.specs.product_rules.Products.{products_apart};
 ghost use Rattle.block_forms.specs.design_rules.Formed.{IsWellFormed};
 ghost use Rattle.block_core.specs.declared.error.LinkError.TheVariants as link;
-ghost use Rattle.cell_core.specs.View.{program_of};
+ghost use Rattle.row_plan.specs.cell_core.View.{program_of};
 ghost use Rattle.site_table.specs.Constants.{AreEarly};
-ghost use Rattle.pipe_draft.specs.Program.{IsForPipe};
-ghost use Rattle.pipe_draft.specs.Draft.{most_sites, program_in, plan_in, decls_in, IsDraft};
+ghost use Rattle.map_parts.specs.pipe_draft.Program.{IsForPipe};
+ghost use Rattle.map_parts.specs.pipe_draft.Draft.{most_sites, program_in, plan_in, decls_in, IsDraft};
 ghost use Rattle.pipe_design.specs.declared.error.PipelineError.TheVariants as error;
 ghost use Rattle.pipe_design.specs.Pipeline.{IsPipelineOf, IsTooLarge};
 
@@ -17,10 +17,10 @@ use crate::error::PipelineError;
 use crate::linking::link_pipeline;
 use crate::parts::parts;
 use block_core::LinkError;
-use cell_core::program::CellProgram;
+use map_parts::pipe_draft::{Draft, behind_places, draft_of};
 use net_core::design::Design;
-use pipe_draft::{Draft, behind_places, draft_of};
 use row_plan::RowPlan;
+use row_plan::cell_core::program::CellProgram;
 use std::alloc::Global;
 use xdp_maps::decl::MapDecl;
 

@@ -1,18 +1,18 @@
 //! The parts of marks at all places up to the commit place.
 
 ghost use Rattle.std.specs.Prelude.{◌≡◌, IfOk};
-ghost use Rattle.mark_parts.specs.Marks.{HaveChanges};
-ghost use Rattle.pipe_draft.specs.Draft.{decls_in, IsDraft};
-ghost use Rattle.pipe_draft.specs.Places.{ArePlaces};
+ghost use Rattle.map_parts.specs.mark_parts.Marks.{HaveChanges};
+ghost use Rattle.map_parts.specs.pipe_draft.Draft.{decls_in, IsDraft};
+ghost use Rattle.map_parts.specs.pipe_draft.Places.{ArePlaces};
 ghost use Rattle.pipe_design.specs.Marks.{IsMarkLayoutOf, AreDueParts, AreMarkBlocks};
 
 use block_core::block::Block;
 use block_core::name::Name;
 use change_net::change::ChangePart;
-use mark_parts::due::due_part;
-use mark_parts::layout::MarkLayout;
-use mark_parts::marks::marks_block;
-use pipe_draft::{Behind, Draft};
+use map_parts::mark_parts::due::due_part;
+use map_parts::mark_parts::layout::MarkLayout;
+use map_parts::mark_parts::marks::marks_block;
+use map_parts::pipe_draft::{Behind, Draft};
 use pipe_net::parts::Part;
 use std::alloc::{AllocError, Global};
 use xdp_maps::decl::MapDecl;

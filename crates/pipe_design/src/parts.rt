@@ -1,9 +1,9 @@
 //! The parts of a pipeline.
 
 ghost use Rattle.std.specs.Prelude.{◌≡◌, ◌+◌, ◌≤◌, IfOk, length};
-ghost use Rattle.pipe_draft.specs.Draft.{decls_in, program_in, plan_in, IsDraft};
-ghost use Rattle.pipe_draft.specs.Places.{ArePlaces, IsBehind};
-ghost use Rattle.slot_parts.specs.Slots.{AreSlotsParts};
+ghost use Rattle.map_parts.specs.pipe_draft.Draft.{decls_in, program_in, plan_in, IsDraft};
+ghost use Rattle.map_parts.specs.pipe_draft.Places.{ArePlaces, IsBehind};
+ghost use Rattle.turn_parts.specs.slot_parts.Slots.{AreSlotsParts};
 ghost use Rattle.turn_parts.specs.Parts.{AreTurnPartsIn};
 ghost use Rattle.pipe_design.specs.Answer.{changed_words};
 ghost use Rattle.pipe_design.specs.Layout.{IsShapeOf};
@@ -19,21 +19,21 @@ use frame_parts::layout::FrameLayout;
 use frame_parts::parts::{FrameParts, frame_parts};
 use map_parts::committing::{Committing, MapCommits};
 use map_parts::laws::{changes_are_for_marks, parts_are_of_maps};
+use map_parts::mark_parts::laws::parts_are_of_marks;
 use map_parts::parts::{MapParts, map_parts};
-use mark_parts::laws::parts_are_of_marks;
-use pipe_draft::laws::drafted_are_laid;
-use pipe_draft::{Behind, Draft};
+use map_parts::pipe_draft::laws::drafted_are_laid;
+use map_parts::pipe_draft::{Behind, Draft};
 use pipe_net::parts::Part;
 use place_parts::laws::parts_are_of_places;
 use place_parts::parts::{PlaceParts, place_parts};
 use ring_net::shape::ControlShape;
-use slot_parts::laws::slots_are_shown;
-use slot_parts::nets::map_nets;
-use slot_parts::slots::{SlotsPart, slots_parts};
 use std::alloc::{AllocError, Global};
 use target_net::targets::TargetPart;
 use turn_parts::laws::parts_are_of_turns;
 use turn_parts::parts::{TurnParts, turn_parts};
+use turn_parts::slot_parts::laws::slots_are_shown;
+use turn_parts::slot_parts::nets::map_nets;
+use turn_parts::slot_parts::slots::{SlotsPart, slots_parts};
 use xdp_maps::decl::MapDecl;
 
 /// The parts beside those that show the slots of maps: those of frames; the blocks that say which packets are due, and those of marks; the parts of what commits, those of

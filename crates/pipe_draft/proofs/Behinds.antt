@@ -2,7 +2,7 @@
 use Rattle.std.proofs.Common.{◌≡◌, ℕ, List, subst, Option}
 use Rattle.block_core.specs.declared.name.Name.{Name}
 use Rattle.cell_core.specs.Cells.{CellView}
-use Rattle.cell_nets.specs.declared.operand.Operand.{Operand}
+use Rattle.site_operands.specs.cell_nets.declared.operand.Operand.{Operand}
 use Rattle.site_table.specs.declared.tables.StageTables.{StageTables}
 use Rattle.site_table.specs.Tables.{AreBehind}
 use Rattle.pipe_net.specs.declared.parts.Part.{Part}

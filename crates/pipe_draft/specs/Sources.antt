@@ -6,7 +6,7 @@ use Rattle.cell_core.specs.declared.operator.Operator.TheVariants.{Byte, Ifindex
 use Rattle.cell_core.specs.Cells.{CellView, cell_at, is_read}
 use Rattle.cell_core.specs.Rows.{numbers}
 use Rattle.cell_core.specs.Sites.{ProgramView}
-use Rattle.cell_nets.specs.Computing.{is_outside}
+use Rattle.site_operands.specs.cell_nets.Computing.{is_outside}
 use Rattle.frame_net.specs.declared.held.Kept.{Kept}
 use Rattle.frame_net.specs.declared.held.Kept.TheVariants as kept
 use Rattle.frame_net.specs.Gather.{IsKept}

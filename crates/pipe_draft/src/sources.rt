@@ -6,8 +6,8 @@ ghost use Rattle.pipe_draft.specs.Sources.{comes, is_source, source_list};
 
 use cell_core::operator::Operator;
 use cell_core::program::CellProgram;
-use cell_nets::operators::is_outside;
 use row_net::table::is_constant;
+use site_operands::cell_nets::operators::is_outside;
 use std::alloc::{AllocError, Global};
 
 // Whether the number of an operator comes with a packet.

@@ -1,3 +1,4 @@
+pub use Rattle.pipe_frames.proofs as pipe_frames_laws
 pub mod SortLaws
 pub mod EarlierLemmas
 pub mod HeldLemmas

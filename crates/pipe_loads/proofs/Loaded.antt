@@ -3,18 +3,18 @@ use Rattle.std.specs.Prelude.{◌≡◌, ℕ, ◌<◌, List, [], ◌∷◌, ◌+
 use Rattle.std.proofs.Common.{sym, subst}
 use Rattle.pipe_answers.specs.xdp_maps.declared.decl.MapDecl.{MapDecl}
 use Rattle.pipe_answers.specs.xdp_maps.State.{MapState, IsSound, opened_state}
-use Rattle.pipe_maps.specs.net_core.declared.ports.Inputs.{Inputs}
-use Rattle.pipe_maps.specs.net_core.Ports.{words_of}
-use Rattle.pipe_maps.specs.net_core.Clock.{Stored, after, first_stored}
-use Rattle.pipe_maps.specs.block_core.Blocks.{Whole}
+use Rattle.pipe_answers.specs.pipe_maps.net_core.declared.ports.Inputs.{Inputs}
+use Rattle.pipe_answers.specs.pipe_maps.net_core.Ports.{words_of}
+use Rattle.pipe_answers.specs.pipe_maps.net_core.Clock.{Stored, after, first_stored}
+use Rattle.pipe_answers.specs.pipe_maps.block_core.Blocks.{Whole}
 use Rattle.pipe_answers.specs.host_history.Host.{load}
-use Rattle.pipe_maps.specs.hazard_core.Tables.{decl_of, table_at, tables_of}
-use Rattle.pipe_maps.specs.map_block.Stored.{IsFirst}
+use Rattle.pipe_answers.specs.pipe_maps.hazard_core.Tables.{decl_of, table_at, tables_of}
+use Rattle.pipe_answers.specs.pipe_maps.map_block.Stored.{IsFirst}
 use Rattle.pipe_clocks.specs.pipe_core.History.{Trace, next}
 use Rattle.pipe_answers.specs.host_runs.Inputs.{input_of}
-use Rattle.pipe_maps.specs.pipe_net.declared.parts.Part.{Part}
-use Rattle.pipe_maps.specs.pipe_net.Layout.{Layout}
-use Rattle.pipe_maps.specs.Tables.{OpenedAreFirst}
+use Rattle.pipe_answers.specs.pipe_maps.pipe_net.declared.parts.Part.{Part}
+use Rattle.pipe_answers.specs.pipe_maps.pipe_net.Layout.{Layout}
+use Rattle.pipe_answers.specs.pipe_maps.Tables.{OpenedAreFirst}
 use Rattle.pipe_clocks.specs.pipe_forms.Parts.{design}
 use Rattle.pipe_clocks.specs.Standing.{AreFirst, FollowsAll, PipelinesFollow}
 use Rattle.pipe_answers.specs.Coming.{OpenedAreSound}

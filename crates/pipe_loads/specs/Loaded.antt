@@ -2,18 +2,18 @@
 use Rattle.std.specs.Prelude.{◌≡◌, ℕ, ◌≤◌, false, List, length, map as map_list}
 use Rattle.std.specs.List.{AllByRecursion}
 use Rattle.pipe_answers.specs.xdp_maps.State.{MapState, IsSound}
-use Rattle.pipe_maps.specs.net_core.declared.ports.Inputs.{Inputs}
-use Rattle.pipe_maps.specs.net_core.Ports.{words_of}
-use Rattle.pipe_maps.specs.net_core.Clock.{first_stored, shown}
-use Rattle.pipe_maps.specs.net_core.History.{IsInput, stored_after}
-use Rattle.pipe_maps.specs.block_core.Blocks.{Whole}
+use Rattle.pipe_answers.specs.pipe_maps.net_core.declared.ports.Inputs.{Inputs}
+use Rattle.pipe_answers.specs.pipe_maps.net_core.Ports.{words_of}
+use Rattle.pipe_answers.specs.pipe_maps.net_core.Clock.{first_stored, shown}
+use Rattle.pipe_answers.specs.pipe_maps.net_core.History.{IsInput, stored_after}
+use Rattle.pipe_answers.specs.pipe_maps.block_core.Blocks.{Whole}
 use Rattle.pipe_answers.specs.host_history.Host.{load}
 use Rattle.pipe_clocks.specs.pipe_core.Machine.{output}
 use Rattle.pipe_clocks.specs.pipe_core.History.{run, begin}
 use Rattle.pipe_clocks.specs.pipe_core.Pipeable.{IsSuited}
-use Rattle.pipe_maps.specs.pipe_net.declared.parts.Part.{Part}
-use Rattle.pipe_maps.specs.pipe_net.Machine.{input_of, Shows}
-use Rattle.pipe_maps.specs.pipe_net.Layout.{Layout}
+use Rattle.pipe_answers.specs.pipe_maps.pipe_net.declared.parts.Part.{Part}
+use Rattle.pipe_answers.specs.pipe_maps.pipe_net.Machine.{input_of, Shows}
+use Rattle.pipe_answers.specs.pipe_maps.pipe_net.Layout.{Layout}
 use Rattle.pipe_clocks.specs.pipe_places.Entries.{AccessesLead}
 use Rattle.pipe_clocks.specs.pipe_forms.Parts.{design}
 use Rattle.pipe_clocks.specs.Following.{IsPipeline}

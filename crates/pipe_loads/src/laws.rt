@@ -9,7 +9,7 @@ pub fn loads_follow()
     ensures next { PipelinesShowLoaded }
 {
     pipe_clocks::laws::clocks_go_on();
-    pipe_maps::laws::tables_follow();
+    pipe_answers::pipe_maps::laws::tables_follow();
     pipe_answers::laws::loads_may_come();
     pipe_answers::laws::designs_follow();
 }

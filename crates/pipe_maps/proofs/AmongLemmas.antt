@@ -4,10 +4,10 @@ use Rattle.std.proofs.Common.{◌≡◌, ℕ, zero, suc, ◌+◌, ◌<◌, ◌�
 use Rattle.std.proofs.lemmas.Bool.{cases_lt}
 use Rattle.change_net.specs.block_core.Blocks.{Whole, Among}
 use Rattle.hazard_core.specs.cell_core.Rows.{numbers}
-use Rattle.pipe_net.specs.declared.parts.Part.{Part}
-use Rattle.pipe_net.specs.declared.parts.Sizes.{Sizes}
-use Rattle.pipe_net.specs.Parts.{part, parts_of, part_count, of_map, value}
-use Rattle.pipe_net.specs.Layout.{Layout, IsSized}
+use Rattle.pipe_turns.specs.pipe_net.declared.parts.Part.{Part}
+use Rattle.pipe_turns.specs.pipe_net.declared.parts.Sizes.{Sizes}
+use Rattle.pipe_turns.specs.pipe_net.Parts.{part, parts_of, part_count, of_map, value}
+use Rattle.pipe_turns.specs.pipe_net.Layout.{Layout, IsSized}
 
 among_numbers : (from n k : ℕ) → from ≤ k → k < from + n → Among (part k) (map part (numbers from n))
 among_numbers from zero k l m = absurd (omega (arith, l, m))

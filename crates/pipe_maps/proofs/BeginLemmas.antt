@@ -4,7 +4,7 @@ use Rattle.change_net.specs.block_core.declared.name.Name.{Name}
 use Rattle.change_net.specs.block_core.Blocks.{BlockTree, first_of}
 use Rattle.hazard_core.specs.Tables.{table_at, tables_of}
 use Rattle.map_block.specs.Stored.{StoresMap}
-use Rattle.pipe_net.specs.declared.parts.Part.{Part}
+use Rattle.pipe_turns.specs.pipe_net.declared.parts.Part.{Part}
 use Rattle.pipe_turns.specs.Maps.{decl_at}
 use Rattle.pipe_maps.specs.Tables.{TablesBegin}
 

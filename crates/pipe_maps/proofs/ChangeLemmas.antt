@@ -33,13 +33,13 @@ use Rattle.map_block.specs.Laws.{SeesParts}
 use Rattle.host_net.specs.Laws.{WritesItsNumber}
 use Rattle.turn_net.specs.Turns.{RecordsAlone}
 use Rattle.pipe_turns.specs.target_net.Commits.{commits_on}
-use Rattle.pipe_net.specs.pipe_core.Machine as machine
-use Rattle.pipe_net.specs.pipe_core.Machine.{Packet, State, Turn, Moves, Writes, Build}
-use Rattle.pipe_net.specs.declared.parts.Part.{Part}
-use Rattle.pipe_net.specs.Parts as part
-use Rattle.pipe_net.specs.Machine.{input_of, access_in}
-use Rattle.pipe_net.specs.Layout.{Layout, program_of}
-use Rattle.pipe_net.specs.Saying.{turn_in, is_host, change_of, is_on, ShowsChangeOf}
+use Rattle.pipe_turns.specs.pipe_net.pipe_core.Machine as machine
+use Rattle.pipe_turns.specs.pipe_net.pipe_core.Machine.{Packet, State, Turn, Moves, Writes, Build}
+use Rattle.pipe_turns.specs.pipe_net.declared.parts.Part.{Part}
+use Rattle.pipe_turns.specs.pipe_net.Parts as part
+use Rattle.pipe_turns.specs.pipe_net.Machine.{input_of, access_in}
+use Rattle.pipe_turns.specs.pipe_net.Layout.{Layout, program_of}
+use Rattle.pipe_turns.specs.pipe_net.Saying.{turn_in, is_host, change_of, is_on, ShowsChangeOf}
 use Rattle.pipe_turns.specs.Maps.{decl_at}
 use Rattle.pipe_turns.specs.Parts.{AreTurnParts}
 use Rattle.pipe_turns.specs.Turning.{site_of}

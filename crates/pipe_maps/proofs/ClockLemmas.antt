@@ -10,12 +10,12 @@ use Rattle.hazard_core.specs.cell_core.Formed.{FitsMap}
 use Rattle.hazard_core.specs.cell_core.Sites.{site_at}
 use Rattle.turn_net.specs.Turns.{RecordsAlone}
 use Rattle.pipe_turns.specs.target_net.Commits.{commits_on}
-use Rattle.pipe_net.specs.pipe_core.Machine as machine
-use Rattle.pipe_net.specs.pipe_core.Machine.{Packet, State, Turn}
-use Rattle.pipe_net.specs.declared.parts.Part.{Part}
-use Rattle.pipe_net.specs.Machine.{input_of}
-use Rattle.pipe_net.specs.Layout.{Layout, program_of}
-use Rattle.pipe_net.specs.Saying.{turn_in, is_host}
+use Rattle.pipe_turns.specs.pipe_net.pipe_core.Machine as machine
+use Rattle.pipe_turns.specs.pipe_net.pipe_core.Machine.{Packet, State, Turn}
+use Rattle.pipe_turns.specs.pipe_net.declared.parts.Part.{Part}
+use Rattle.pipe_turns.specs.pipe_net.Machine.{input_of}
+use Rattle.pipe_turns.specs.pipe_net.Layout.{Layout, program_of}
+use Rattle.pipe_turns.specs.pipe_net.Saying.{turn_in, is_host}
 use Rattle.pipe_turns.specs.Parts.{writes_net, AreTurnParts}
 use Rattle.pipe_turns.specs.Turning.{site_of}
 use Rattle.pipe_maps.specs.Parts.{commits_net}

@@ -6,10 +6,10 @@ use Rattle.map_block.specs.Stored.{shown_here}
 use Rattle.map_block.specs.Laws.{SeesParts}
 use Rattle.host_net.specs.Values.{word_name}
 use Rattle.host_net.specs.Laws.{ValueFollows}
-use Rattle.pipe_net.specs.pipe_core.Machine.{host_ready}
-use Rattle.pipe_net.specs.declared.parts.Part.{Part}
-use Rattle.pipe_net.specs.Parts as part
-use Rattle.pipe_net.specs.Machine.{access_in}
+use Rattle.pipe_turns.specs.pipe_net.pipe_core.Machine.{host_ready}
+use Rattle.pipe_turns.specs.pipe_net.declared.parts.Part.{Part}
+use Rattle.pipe_turns.specs.pipe_net.Parts as part
+use Rattle.pipe_turns.specs.pipe_net.Machine.{access_in}
 use Rattle.pipe_turns.specs.Parts.{form_at, ready_net}
 use Rattle.pipe_maps.specs.Saying.{ValueIsShown, MapsLetWrite}
 use Rattle.pipe_maps.proofs.AmongLemmas.{value_among}

@@ -20,9 +20,9 @@ use Rattle.hazard_core.specs.Changes.{IsRightCommit}
 use Rattle.commit_net.specs.Wholes.{table_of, slot_after}
 use Rattle.commit_net.specs.Laws.{CommitsOneSlot, CommitsOneValue}
 use Rattle.table_laws.specs.Bytes.{LoadsBytes, CommitKeepsBytes, HostKeepsBytes}
-use Rattle.pipe_net.specs.pipe_core.Machine as machine
-use Rattle.pipe_net.specs.pipe_core.Machine.{Packet, State, Input, Build, Turn, Moves, Writes, clock, site_numbers}
-use Rattle.pipe_net.specs.Saying.{turn_in}
+use Rattle.pipe_turns.specs.pipe_net.pipe_core.Machine as machine
+use Rattle.pipe_turns.specs.pipe_net.pipe_core.Machine.{Packet, State, Input, Build, Turn, Moves, Writes, clock, site_numbers}
+use Rattle.pipe_turns.specs.pipe_net.Saying.{turn_in}
 use Rattle.pipe_maps.specs.Premises.{HoldKeys}
 use Rattle.pipe_maps.specs.Keys.{KeysFollow, KeysBegin}
 use Rattle.pipe_maps.proofs.ListLemmas.{found_at, at_number}

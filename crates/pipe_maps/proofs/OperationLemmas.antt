@@ -20,13 +20,13 @@ use Rattle.commit_net.specs.Choosing.{IsOnly, ShowsCommit, Commits}
 use Rattle.pipe_turns.specs.read_net.declared.sites.OwnSite.{OwnSite}
 use Rattle.turn_net.specs.Turns.{record_sites, is_at, RecordsAlone}
 use Rattle.pipe_turns.specs.target_net.declared.targets.Target.{Target}
-use Rattle.pipe_net.specs.pipe_core.Machine as machine
-use Rattle.pipe_net.specs.pipe_core.Machine.{Packet, State, site_numbers}
-use Rattle.pipe_net.specs.declared.parts.Part.{Part}
-use Rattle.pipe_net.specs.Machine.{input_of}
-use Rattle.pipe_net.specs.Layout.{Layout, program_of, commit_of}
-use Rattle.pipe_net.specs.Saying.{turn_in}
-use Rattle.pipe_net.specs.Standing.{ShowsHeld}
+use Rattle.pipe_turns.specs.pipe_net.pipe_core.Machine as machine
+use Rattle.pipe_turns.specs.pipe_net.pipe_core.Machine.{Packet, State, site_numbers}
+use Rattle.pipe_turns.specs.pipe_net.declared.parts.Part.{Part}
+use Rattle.pipe_turns.specs.pipe_net.Machine.{input_of}
+use Rattle.pipe_turns.specs.pipe_net.Layout.{Layout, program_of, commit_of}
+use Rattle.pipe_turns.specs.pipe_net.Saying.{turn_in}
+use Rattle.pipe_turns.specs.pipe_net.Standing.{ShowsHeld}
 use Rattle.pipe_turns.specs.Maps.{records_on}
 use Rattle.pipe_turns.specs.Parts.{AreTurnParts}
 use Rattle.pipe_turns.specs.Turning.{site_of, ShowsWritten}

@@ -13,10 +13,10 @@ use Rattle.change_net.specs.array_net.Hosts.{SeesHost}
 use Rattle.map_block.specs.Parts.{AreParts, SolveAll}
 use Rattle.map_block.specs.Stored.{SeesStored, IsMapOf}
 use Rattle.map_block.specs.Laws.{SeesParts}
-use Rattle.pipe_net.specs.declared.parts.Part.{Part}
-use Rattle.pipe_net.specs.Parts as part
-use Rattle.pipe_net.specs.Machine.{access_in}
-use Rattle.pipe_net.specs.Layout.{Layout}
+use Rattle.pipe_turns.specs.pipe_net.declared.parts.Part.{Part}
+use Rattle.pipe_turns.specs.pipe_net.Parts as part
+use Rattle.pipe_turns.specs.pipe_net.Machine.{access_in}
+use Rattle.pipe_turns.specs.pipe_net.Layout.{Layout}
 use Rattle.pipe_turns.specs.Parts.{form_at, AreTurnParts}
 use Rattle.pipe_maps.specs.Parts.{parts_at}
 use Rattle.pipe_maps.specs.Premises.{HasMaps}

@@ -9,7 +9,7 @@ use Rattle.hazard_core.specs.declared.slot.Slot.{Slot}
 use Rattle.hazard_core.specs.Tables.{TableState, decl_of, table_at, slot_at}
 use Rattle.hazard_core.specs.Commits.{word_as, word_in, may_write}
 use Rattle.table_laws.specs.Bytes.{HasBytes}
-use Rattle.pipe_net.specs.Layout.{Layout}
+use Rattle.pipe_turns.specs.pipe_net.Layout.{Layout}
 use Rattle.pipe_turns.specs.Maps.{decl_at}
 use Rattle.pipe_turns.specs.Parts.{form_at}
 use Rattle.map_block.specs.Forms.{IsSuited}

@@ -22,13 +22,13 @@ use Rattle.map_block.specs.Stored.{StoresMap, SeesStored}
 use Rattle.map_block.specs.Laws.{SeesParts}
 use Rattle.host_net.specs.Laws.{WritesItsNumber}
 use Rattle.turn_net.specs.Turns.{RecordsAlone}
-use Rattle.pipe_net.specs.pipe_core.Machine as machine
-use Rattle.pipe_net.specs.pipe_core.Machine.{Packet, State, Turn, Moves, Writes, is_calm, clock}
-use Rattle.pipe_net.specs.declared.parts.Part.{Part}
-use Rattle.pipe_net.specs.Parts as part
-use Rattle.pipe_net.specs.Machine.{input_of}
-use Rattle.pipe_net.specs.Layout.{Layout, program_of}
-use Rattle.pipe_net.specs.Saying.{turn_in}
+use Rattle.pipe_turns.specs.pipe_net.pipe_core.Machine as machine
+use Rattle.pipe_turns.specs.pipe_net.pipe_core.Machine.{Packet, State, Turn, Moves, Writes, is_calm, clock}
+use Rattle.pipe_turns.specs.pipe_net.declared.parts.Part.{Part}
+use Rattle.pipe_turns.specs.pipe_net.Parts as part
+use Rattle.pipe_turns.specs.pipe_net.Machine.{input_of}
+use Rattle.pipe_turns.specs.pipe_net.Layout.{Layout, program_of}
+use Rattle.pipe_turns.specs.pipe_net.Saying.{turn_in}
 use Rattle.pipe_turns.specs.Maps.{decl_at}
 use Rattle.pipe_turns.specs.Parts.{writes_net, AreTurnParts}
 use Rattle.pipe_maps.specs.Parts.{commits_net, control_at, parts_at, ArePartsOfMap}

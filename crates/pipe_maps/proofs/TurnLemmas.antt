@@ -7,9 +7,9 @@ use Rattle.turn_net.specs.beat_core.declared.beat.Beat.{Beat}
 use Rattle.hazard_core.specs.declared.access.Access.{Access}
 use Rattle.hazard_core.specs.Tables.{TableState, table_at, slot_at}
 use Rattle.hazard_core.specs.Commits.{committed, host_written, word_in, may_write}
-use Rattle.pipe_net.specs.pipe_core.Machine.{Packet, State, Input, Build, Turn, Commits, Writes, Moves, place_at, chosen, commits_as, commits_or_moves, turn_as, host_writes, host_ready, is_calm, written_if, some_send, swept, worked, gathered, scattered, beat_over, taken_beat, work, clock}
-use Rattle.pipe_net.specs.Machine.{input_of, access_in}
-use Rattle.pipe_net.specs.Saying.{turn_in}
+use Rattle.pipe_turns.specs.pipe_net.pipe_core.Machine.{Packet, State, Input, Build, Turn, Commits, Writes, Moves, place_at, chosen, commits_as, commits_or_moves, turn_as, host_writes, host_ready, is_calm, written_if, some_send, swept, worked, gathered, scattered, beat_over, taken_beat, work, clock}
+use Rattle.pipe_turns.specs.pipe_net.Machine.{input_of, access_in}
+use Rattle.pipe_turns.specs.pipe_net.Saying.{turn_in}
 use Rattle.host_net.specs.Laws.{WritesItsNumber}
 
 -- ---- the tables behind the clock

@@ -4,8 +4,8 @@ use Rattle.hazard_core.specs.xdp_maps.State.{MapState, IsSound}
 use Rattle.hazard_core.specs.cell_core.Formed.{AllFit}
 use Rattle.hazard_core.specs.Changes.{IsRightCommit}
 use Rattle.hazard_core.specs.Tables.{tables_of}
-use Rattle.pipe_net.specs.pipe_core.Machine.{Packet, State, Input, Build, Commits, clock}
-use Rattle.pipe_net.specs.Saying.{turn_in}
+use Rattle.pipe_turns.specs.pipe_net.pipe_core.Machine.{Packet, State, Input, Build, Commits, clock}
+use Rattle.pipe_turns.specs.pipe_net.Saying.{turn_in}
 use Rattle.pipe_maps.specs.Premises.{HoldKeys}
 
 -- An operation that commits is a right one.

@@ -7,7 +7,7 @@ pub use Rattle.commit_net.specs.value_net as value_net
 pub use Rattle.hazard_core.specs as hazard_core
 pub use Rattle.host_net.specs as host_net
 pub use Rattle.map_block.specs as map_block
-pub use Rattle.pipe_net.specs as pipe_net
+pub use Rattle.pipe_turns.specs.pipe_net as pipe_net
 pub use Rattle.pipe_turns.specs as pipe_turns
 pub use Rattle.pipe_turns.specs.target_net as target_net
 pub use Rattle.turn_net.specs as turn_net

@@ -20,10 +20,10 @@ use Rattle.map_block.specs.Block.{IsMapBlock}
 use Rattle.host_net.specs.Values.{word_name, IsValue}
 use Rattle.turn_net.specs.declared.nets.RecordNets.{RecordNets}
 use Rattle.pipe_turns.specs.target_net.declared.targets.Target.{Target}
-use Rattle.pipe_net.specs.declared.parts.Part.{Part}
-use Rattle.pipe_net.specs.Parts as part
-use Rattle.pipe_net.specs.Layout.{Layout, program_of, commit_of}
-use Rattle.pipe_net.specs.Standing.{IsAtPlace}
+use Rattle.pipe_turns.specs.pipe_net.declared.parts.Part.{Part}
+use Rattle.pipe_turns.specs.pipe_net.Parts as part
+use Rattle.pipe_turns.specs.pipe_net.Layout.{Layout, program_of, commit_of}
+use Rattle.pipe_turns.specs.pipe_net.Standing.{IsAtPlace}
 use Rattle.pipe_turns.specs.Maps.{decl_at, records_on}
 use Rattle.pipe_turns.specs.Parts.{calm_net, ready_net, writes_net, form_at, AreTurnParts}
 

@@ -15,12 +15,12 @@ use Rattle.commit_net.specs.Choosing.{all_read}
 use Rattle.change_net.specs.Written.{written_outside}
 use Rattle.change_net.specs.Changes.{change_outside}
 use Rattle.table_laws.specs.Bytes.{HoldBytes}
-use Rattle.pipe_net.specs.pipe_core.Machine.{State}
-use Rattle.pipe_net.specs.declared.parts.Part.{Part}
-use Rattle.pipe_net.specs.Parts.{parts_of}
-use Rattle.pipe_net.specs.Layout.{Layout, IsSized, program_of, commit_of, last_of}
-use Rattle.pipe_net.specs.Relation.{HoldMaps}
-use Rattle.pipe_net.specs.Standing.{ShowPackets}
+use Rattle.pipe_turns.specs.pipe_net.pipe_core.Machine.{State}
+use Rattle.pipe_turns.specs.pipe_net.declared.parts.Part.{Part}
+use Rattle.pipe_turns.specs.pipe_net.Parts.{parts_of}
+use Rattle.pipe_turns.specs.pipe_net.Layout.{Layout, IsSized, program_of, commit_of, last_of}
+use Rattle.pipe_turns.specs.pipe_net.Relation.{HoldMaps}
+use Rattle.pipe_turns.specs.pipe_net.Standing.{ShowPackets}
 use Rattle.pipe_turns.specs.Parts.{writes_net, AreTurnParts}
 use Rattle.pipe_turns.specs.Hosting.{ShowsHost}
 use Rattle.pipe_turns.specs.Turning.{ShowsTurn, ShowsTargets, IsRightTurn}

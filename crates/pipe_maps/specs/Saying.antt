@@ -8,13 +8,13 @@ use Rattle.change_net.specs.block_core.declared.name.Name.{Name}
 use Rattle.change_net.specs.block_core.Blocks.{Whole}
 use Rattle.change_net.specs.block_core.Parts.{Sees}
 use Rattle.host_net.specs.Names.{value_name}
-use Rattle.pipe_net.specs.pipe_core.Machine.{State, host_ready, host_value}
-use Rattle.pipe_net.specs.declared.parts.Part.{Part}
-use Rattle.pipe_net.specs.Parts as part
-use Rattle.pipe_net.specs.Machine.{input_of, access_in}
-use Rattle.pipe_net.specs.Layout.{Layout}
-use Rattle.pipe_net.specs.Relation.{HoldMaps}
-use Rattle.pipe_net.specs.Saying.{ShowChanges}
+use Rattle.pipe_turns.specs.pipe_net.pipe_core.Machine.{State, host_ready, host_value}
+use Rattle.pipe_turns.specs.pipe_net.declared.parts.Part.{Part}
+use Rattle.pipe_turns.specs.pipe_net.Parts as part
+use Rattle.pipe_turns.specs.pipe_net.Machine.{input_of, access_in}
+use Rattle.pipe_turns.specs.pipe_net.Layout.{Layout}
+use Rattle.pipe_turns.specs.pipe_net.Relation.{HoldMaps}
+use Rattle.pipe_turns.specs.pipe_net.Saying.{ShowChanges}
 use Rattle.pipe_turns.specs.Parts.{ready_net, AreTurnParts}
 use Rattle.pipe_turns.specs.Hosting.{MapsAllow}
 use Rattle.pipe_maps.specs.Premises.{HasMaps, IsMapClock}

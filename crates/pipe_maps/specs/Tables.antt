@@ -9,11 +9,11 @@ use Rattle.change_net.specs.block_core.declared.name.Name.{Name}
 use Rattle.change_net.specs.block_core.Blocks.{Whole, first_of}
 use Rattle.hazard_core.specs.Tables.{TableState, decl_of, table_at, tables_of}
 use Rattle.map_block.specs.Stored.{StoresMap, IsFirst}
-use Rattle.pipe_net.specs.pipe_core.Machine.{State, new_state, clock}
-use Rattle.pipe_net.specs.declared.parts.Part.{Part}
-use Rattle.pipe_net.specs.Parts as part
-use Rattle.pipe_net.specs.Machine.{input_of}
-use Rattle.pipe_net.specs.Layout.{Layout}
+use Rattle.pipe_turns.specs.pipe_net.pipe_core.Machine.{State, new_state, clock}
+use Rattle.pipe_turns.specs.pipe_net.declared.parts.Part.{Part}
+use Rattle.pipe_turns.specs.pipe_net.Parts as part
+use Rattle.pipe_turns.specs.pipe_net.Machine.{input_of}
+use Rattle.pipe_turns.specs.pipe_net.Layout.{Layout}
 use Rattle.pipe_turns.specs.Parts.{AreTurnParts}
 use Rattle.pipe_maps.specs.Parts.{AreMapParts}
 use Rattle.pipe_maps.specs.Premises.{HasMaps, IsMapClock}

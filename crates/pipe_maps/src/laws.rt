@@ -4,7 +4,7 @@ ghost use Rattle.pipe_maps.specs.Tables.{TablesFollow, TablesBegin, OpenedAreFir
 ghost use Rattle.pipe_maps.specs.Keys.{KeysFollow, KeysBegin};
 ghost use Rattle.pipe_maps.specs.Saying.{ChangesAreShown, ValueIsShown, MapsLetWrite};
 
-use pipe_net::parts::Part;
+use pipe_turns::pipe_net::parts::Part;
 
 /// By what the other parts say in a clock the maps store the tables of the machine's next state; before the first clock they store those of maps
 /// without entries, as those are to which nothing is written.

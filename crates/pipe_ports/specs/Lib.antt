@@ -1,3 +1,4 @@
+pub use Rattle.pipe_answers.specs as pipe_answers
 pub use Rattle.realization.specs as realization
 pub mod Answered
 pub mod Followed

@@ -9,8 +9,8 @@ use Rattle.pipe_core.specs.beat_core.Clocks.{AreOffers}
 use Rattle.pipe_core.specs.beat_core.Laws.{IsFrame}
 use Rattle.pipe_core.specs.beat_core.Ports.{Arrival, Offered, offered}
 use Rattle.pipe_core.proofs.beat_core.BeatLaws.{length-beats_of, IsFilledUp-beats_of, IsOffer-count}
-use Rattle.pipe_answers.specs.xdp_maps.State.{MapState}
-use Rattle.pipe_answers.specs.xdp_maps.Touched.{Resource}
+use Rattle.pipe_ports.specs.pipe_answers.xdp_maps.State.{MapState}
+use Rattle.pipe_ports.specs.pipe_answers.xdp_maps.Touched.{Resource}
 use Rattle.pipe_core.specs.xdp_machine.Touched.{Touched}
 use Rattle.pipe_core.specs.cell_core.Sites.{ProgramView, after}
 use Rattle.pipe_core.specs.cell_core.Rows.{record_count}

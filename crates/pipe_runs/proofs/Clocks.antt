@@ -6,7 +6,7 @@ use Rattle.pipe_core.specs.beat_core.declared.beat.Beat.{Beat}
 use Rattle.pipe_core.specs.beat_core.Beats.{beats_of}
 use Rattle.pipe_core.specs.beat_core.Filling.{filled_up}
 use Rattle.pipe_core.specs.beat_core.Ports.{Arrival, Offered}
-use Rattle.pipe_answers.specs.xdp_maps.State.{MapState, IsSound}
+use Rattle.pipe_ports.specs.pipe_answers.xdp_maps.State.{MapState, IsSound}
 use Rattle.pipe_core.specs.xdp_machine.Touched.{Touched}
 use Rattle.host_runs.specs.net_core.declared.ports.Inputs.{Inputs}
 use Rattle.pipe_core.specs.cell_core.Rows.{record_count}

@@ -11,12 +11,12 @@ use Rattle.pipe_core.proofs.beat_core.BeatLaws.{IsOffer-eight}
 use Rattle.pipe_core.proofs.beat_core.WordLaws.{length-low_bytes}
 use Rattle.host_runs.specs.net_core.declared.ports.Inputs.{Inputs}
 use Rattle.host_runs.specs.net_core.History.{drive_inputs}
-use Rattle.pipe_answers.specs.frame_net.Frames.{position_of}
+use Rattle.pipe_ports.specs.pipe_answers.frame_net.Frames.{position_of}
 use Rattle.pipe_core.specs.Machine.{Packet, State, Input, Build, Turn, Commits, Writes, Moves, swept, some_send, turn_of, worked, work, is_ready, beat_over, came_with, gathered, taken_beat, scattered, clock}
 use Rattle.pipe_core.specs.History.{Trace, next, run}
 use Rattle.pipe_core.specs.Drive.{ahead, beats_in}
 use Rattle.host_runs.specs.Inputs.{input_of}
-use Rattle.pipe_answers.specs.Coming.{AllMayCome}
+use Rattle.pipe_ports.specs.pipe_answers.Coming.{AllMayCome}
 use Rattle.pipe_ports.specs.realization.Realizes.{beats_offered}
 use Rattle.pipe_runs.proofs.Histories.{is_open}
 use Rattle.pipe_runs.proofs.Drives.{Fits, fit_inputs, left_by, driven}

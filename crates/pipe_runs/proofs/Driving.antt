@@ -13,7 +13,7 @@ use Rattle.pipe_core.specs.Machine.{Input, Build, is_ready, beat_over, taken_bea
 use Rattle.pipe_core.specs.History.{Trace, gave_in, next}
 use Rattle.host_runs.specs.Inputs.{input_of}
 use Rattle.pipe_ports.specs.realization.Realizes.{inputs_in}
-use Rattle.pipe_answers.specs.Following.{FollowsAlways}
+use Rattle.pipe_ports.specs.pipe_answers.Following.{FollowsAlways}
 use Rattle.pipe_ports.specs.Ports.{cycle, offers_by, ShowsClock, PortsShowClocks}
 use Rattle.pipe_runs.proofs.Drives.{left_by, driven, left_behind, behind}
 

@@ -1,7 +1,7 @@
 -- So do pipelines, whatever maps are loaded.
 use Rattle.std.specs.Prelude.{List, []}
 use Rattle.std.proofs.Common.{sym, subst, append-nil}
-use Rattle.pipe_answers.specs.xdp_maps.declared.decl.MapDecl.{MapDecl}
+use Rattle.pipe_ports.specs.pipe_answers.xdp_maps.declared.decl.MapDecl.{MapDecl}
 use Rattle.host_runs.specs.net_core.Nets.{Netlist}
 use Rattle.host_runs.specs.net_core.Clock.{first_stored}
 use Rattle.host_runs.specs.net_core.History.{NeverStops, stored_after}

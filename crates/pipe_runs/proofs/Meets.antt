@@ -9,15 +9,15 @@ use Rattle.pipe_core.specs.beat_core.Filling.{filled_up}
 use Rattle.pipe_core.specs.beat_core.Ports.{Arrival, Offered, arrivals_among}
 use Rattle.pipe_core.proofs.beat_core.FillingLaws.{AreOffers-filled_up}
 use Rattle.pipe_core.proofs.beat_core.OrderLaws.{offers-frames}
-use Rattle.pipe_answers.specs.xdp_maps.declared.decl.MapDecl.{MapDecl}
-use Rattle.pipe_answers.specs.xdp_maps.State.{MapState}
+use Rattle.pipe_ports.specs.pipe_answers.xdp_maps.declared.decl.MapDecl.{MapDecl}
+use Rattle.pipe_ports.specs.pipe_answers.xdp_maps.State.{MapState}
 use Rattle.pipe_core.specs.xdp_machine.Touched.{Touched}
 use Rattle.host_runs.specs.net_core.declared.ports.Inputs.{Inputs}
 use Rattle.host_runs.specs.net_core.Nets.{Netlist}
 use Rattle.host_runs.specs.net_core.Clock.{Stored}
 use Rattle.host_runs.specs.net_core.History.{Cycle, trace, stored_after, beats_in, offers_in, arrivals, answers_given, Drive, drive}
 use Rattle.host_runs.specs.host_history.Host.{dump, ShowsMaps}
-use Rattle.pipe_answers.specs.frame_net.Frames.{position_of}
+use Rattle.pipe_ports.specs.pipe_answers.frame_net.Frames.{position_of}
 use Rattle.pipe_core.specs.cell_core.Rows.{record_count}
 use Rattle.pipe_core.specs.Machine.{Build}
 use Rattle.pipe_core.specs.History.{Trace, next, run, begin, IsInOrder, IsAlwaysInOrder}
@@ -25,11 +25,11 @@ use Rattle.pipe_core.specs.InTurn.{left_maps}
 use Rattle.pipe_core.specs.Pipeable.{IsSuited}
 use Rattle.host_runs.specs.Inputs.{input_of}
 use Rattle.host_runs.specs.Fits.{LoadsFit, IsHostClock}
-use Rattle.pipe_answers.specs.pipe_net.Layout.{Layout, last_of}
-use Rattle.pipe_answers.specs.Coming.{AllMayCome, HostMayCome}
-use Rattle.pipe_answers.specs.Following.{FollowsAlways}
-use Rattle.pipe_answers.specs.Runs.{ReadsRunInTurn}
-use Rattle.pipe_answers.specs.Dumps.{RunsGoOn, DumpsAreShown}
+use Rattle.pipe_ports.specs.pipe_answers.pipe_net.Layout.{Layout, last_of}
+use Rattle.pipe_ports.specs.pipe_answers.Coming.{AllMayCome, HostMayCome}
+use Rattle.pipe_ports.specs.pipe_answers.Following.{FollowsAlways}
+use Rattle.pipe_ports.specs.pipe_answers.Runs.{ReadsRunInTurn}
+use Rattle.pipe_ports.specs.pipe_answers.Dumps.{RunsGoOn, DumpsAreShown}
 use Rattle.pipe_ports.specs.realization.Bounds.{most_beats, clock_bound, clock_bound_apart}
 use Rattle.pipe_ports.specs.realization.Realizes.{IsPattern, IsPacket, IsBeside, IsWhole, Meets, frames_in, all_offers, beats_offered, inputs_in}
 use Rattle.pipe_ports.specs.Answered.{AreAnswered}

@@ -2,7 +2,7 @@
 use Rattle.std.specs.Prelude.{◌≡◌, ℕ, ◌+◌, false, List, [], ◌∷◌, ◌++◌, map}
 use Rattle.std.specs.List.{flat_map, range_with_len}
 use Rattle.std.proofs.Common.{refl}
-use Rattle.pipe_answers.specs.xdp_maps.declared.decl.MapDecl.{MapDecl}
+use Rattle.pipe_ports.specs.pipe_answers.xdp_maps.declared.decl.MapDecl.{MapDecl}
 use Rattle.host_runs.specs.net_core.declared.ports.Inputs.{Inputs}
 use Rattle.host_runs.specs.host_history.Host.{asked, map_reads, reads, dump}
 use Rattle.host_runs.specs.host_history.Rows.{row_length}

@@ -2,7 +2,7 @@
 use Rattle.std.specs.Prelude.{◌≡◌, ◌+◌, List}
 use Rattle.std.specs.List.{AllByRecursion}
 use Rattle.pipe_core.specs.beat_core.Ports.{Arrival}
-use Rattle.pipe_answers.specs.xdp_maps.State.{MapState}
+use Rattle.pipe_ports.specs.pipe_answers.xdp_maps.State.{MapState}
 use Rattle.pipe_core.specs.xdp_machine.Touched.{Touched}
 use Rattle.pipe_ports.specs.realization.Bounds.{AreApart}
 use Rattle.pipe_ports.specs.realization.Realizes.{IsPacket}

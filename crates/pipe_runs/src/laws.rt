@@ -11,9 +11,9 @@ pub fn followers_meet()
     pipe_core::laws::ends_without_conflicts();
     host_runs::laws::reads_are_silent();
     host_runs::laws::loads_fit();
-    pipe_answers::laws::loads_may_come();
-    pipe_answers::laws::runs_in_turn();
-    pipe_answers::laws::dumps_are_shown();
+    pipe_ports::pipe_answers::laws::loads_may_come();
+    pipe_ports::pipe_answers::laws::runs_in_turn();
+    pipe_ports::pipe_answers::laws::dumps_are_shown();
     pipe_ports::laws::ports_show();
     pipe_ports::laws::patterns_may_come();
     pipe_ports::laws::patterns_answer();

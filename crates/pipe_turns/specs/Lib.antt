@@ -1,3 +1,4 @@
+pub use Rattle.pipe_net.specs as pipe_net
 pub use Rattle.target_net.specs as target_net
 pub use Rattle.target_net.specs.read_net as read_net
 pub mod Maps

@@ -3,3 +3,6 @@
 #![tactic(auto)]
 
 pub mod laws;
+
+// Crates above name these through this one.
+pub use pipe_net;

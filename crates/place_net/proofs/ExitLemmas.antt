@@ -24,7 +24,7 @@ use Rattle.block_core.specs.Blocks.{BlockTree, Whole, first_memory}
 use Rattle.block_core.specs.Parts.{Within}
 use Rattle.block_core.specs.Order.{Reads}
 use Rattle.block_core.specs.Formed.{names_scope, name_width, memories_fit, IsTypedBlock, IsThere}
-use Rattle.cell_core.specs.Cells.{bits_from}
+use Rattle.cell_nets.specs.cell_core.Cells.{bits_from}
 use Rattle.cell_nets.specs.declared.operand.Operand.{Operand}
 use Rattle.cell_nets.specs.declared.operand.Operand.TheVariants.{Known, Net, Part}
 use Rattle.cell_nets.specs.Operands.{number_in, AreDeclared, IsAvailable, IsNetOf}

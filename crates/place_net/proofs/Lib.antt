@@ -1,3 +1,4 @@
+pub use Rattle.row_net.proofs as row_net_laws
 pub use Rattle.frame_net.proofs as frame_net
 mod WordLemmas
 mod ListLemmas

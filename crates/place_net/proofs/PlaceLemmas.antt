@@ -20,10 +20,10 @@ use Rattle.block_core.specs.Blocks.{BlockTree, BlockWireTree, Whole, Among}
 use Rattle.block_core.specs.Parts.{Solve}
 use Rattle.block_core.specs.Order.{Reads}
 use Rattle.block_core.specs.Formed.{names_scope, block_wire_width, block_wires, word_width, words_fit, IsTypedBlock, IsThere}
-use Rattle.cell_core.specs.declared.cell.Cell.{Cell}
-use Rattle.cell_core.specs.View.{cell_of}
-use Rattle.cell_core.specs.Cells.{CellView, no_cell, bits_from}
-use Rattle.cell_core.specs.Formed.{AreFormed}
+use Rattle.cell_nets.specs.cell_core.declared.cell.Cell.{Cell}
+use Rattle.cell_nets.specs.cell_core.View.{cell_of}
+use Rattle.cell_nets.specs.cell_core.Cells.{CellView, no_cell, bits_from}
+use Rattle.cell_nets.specs.cell_core.Formed.{AreFormed}
 use Rattle.cell_nets.specs.declared.operand.Operand.{Operand}
 use Rattle.cell_nets.specs.declared.operand.Operand.TheVariants.{Known, Net, Part}
 use Rattle.cell_nets.specs.Operands.{number_in, IsOperand, HasWidth, AreFit, IsDeclared, AreDeclared, HasNet, IsAvailable, IsNetOf}

@@ -19,11 +19,11 @@ use Rattle.net_core.specs.Value.{Env}
 use Rattle.frame_net.specs.product_blocks.Alone.{wire_flat}
 use Rattle.block_core.specs.declared.name.Name.{Name}
 use Rattle.block_core.specs.Blocks.{BlockWireTree}
-use Rattle.cell_core.specs.declared.operator.Operator.{Operator}
-use Rattle.cell_core.specs.declared.operator.Operator.TheVariants.{Byte, Length, Ifindex, Time}
-use Rattle.cell_core.specs.declared.cell.Cell.{Cell}
-use Rattle.cell_core.specs.View.{cell_of}
-use Rattle.cell_core.specs.Cells.{CellView, no_cell, cell_at, number, value, bits_from}
+use Rattle.cell_nets.specs.cell_core.declared.operator.Operator.{Operator}
+use Rattle.cell_nets.specs.cell_core.declared.operator.Operator.TheVariants.{Byte, Length, Ifindex, Time}
+use Rattle.cell_nets.specs.cell_core.declared.cell.Cell.{Cell}
+use Rattle.cell_nets.specs.cell_core.View.{cell_of}
+use Rattle.cell_nets.specs.cell_core.Cells.{CellView, no_cell, cell_at, number, value, bits_from}
 use Rattle.cell_nets.specs.declared.operand.Operand.{Operand}
 use Rattle.cell_nets.specs.declared.operand.Operand.TheVariants.{Known, Net}
 use Rattle.cell_nets.specs.Operands.{number_in, IsWide, IsOperand, HasWidth, IsAvailable}

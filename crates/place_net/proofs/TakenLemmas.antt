@@ -6,8 +6,8 @@ use Rattle.std.proofs.lemmas.List.{length-set, get_or-set_same, get_or-set_other
 use Rattle.net_core.specs.Value.{Env}
 use Rattle.block_core.specs.declared.name.Name.{Name}
 use Rattle.block_core.specs.declared.name.Name.TheVariants as name
-use Rattle.cell_core.specs.Cells.{CellView}
-use Rattle.cell_core.specs.Formed.{AreFormed}
+use Rattle.cell_nets.specs.cell_core.Cells.{CellView}
+use Rattle.cell_nets.specs.cell_core.Formed.{AreFormed}
 use Rattle.cell_nets.specs.declared.operand.Operand.{Operand}
 use Rattle.cell_nets.specs.declared.operand.Operand.TheVariants.{Net}
 use Rattle.cell_nets.specs.Operands.{number_in, IsOperand, IsAvailable}

@@ -13,7 +13,7 @@ use Rattle.net_core.proofs.LowBitsLaws.{concatenated_small}
 use Rattle.net_core.proofs.WidthLaws.{concatenation_is}
 use Rattle.frame_net.specs.Answers.{byte_of}
 use Rattle.frame_net.proofs.FormLaws.{and_is}
-use Rattle.cell_core.specs.Cells.{bits_from}
+use Rattle.cell_nets.specs.cell_core.Cells.{bits_from}
 use Rattle.cell_nets.specs.declared.operand.Operand.{Operand}
 use Rattle.cell_nets.specs.declared.operand.Operand.TheVariants.{Known}
 use Rattle.cell_nets.specs.Operands.{number_in, AreFit}

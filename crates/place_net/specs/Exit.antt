@@ -10,7 +10,7 @@ use Rattle.block_core.specs.declared.name.Name.{Name}
 use Rattle.block_core.specs.Blocks.{BlockTree, first_of, registers_of, memories_of, Whole}
 use Rattle.block_core.specs.Parts.{Within}
 use Rattle.block_core.specs.Formed.{name_width, names_scope, block_memories, IsTypedBlock, StatementReads, IsThere}
-use Rattle.cell_core.specs.Cells.{bits_from}
+use Rattle.cell_nets.specs.cell_core.Cells.{bits_from}
 use Rattle.cell_nets.specs.declared.operand.Operand.{Operand}
 use Rattle.cell_nets.specs.Operands.{number_in, AreFit, AreDeclared, IsNetOf}
 use Rattle.place_net.specs.declared.outputs.AnswerByte.{AnswerByte}

@@ -9,7 +9,7 @@ use Rattle.net_core.specs.Width.{Scope, parts_width}
 use Rattle.frame_net.specs.design_rules.FormedSyntax.{parts_depth, parts_apart}
 use Rattle.frame_net.specs.product_rules.Products.{parts_product}
 use Rattle.block_core.specs.Order.{AllRead}
-use Rattle.cell_core.specs.Cells.{bits_from}
+use Rattle.cell_nets.specs.cell_core.Cells.{bits_from}
 use Rattle.cell_nets.specs.declared.operand.Operand.{Operand}
 use Rattle.cell_nets.specs.declared.operand.Operand.TheVariants.{Known}
 use Rattle.cell_nets.specs.Operands.{number_in, AreFit, AreDeclared, IsNetOf}

@@ -1,3 +1,4 @@
+pub use Rattle.row_net.specs as row_net
 pub mod Exit
 pub mod ExitNets
 pub mod Place

@@ -2,7 +2,7 @@
 use Rattle.std.specs.Prelude.{◌≡◌, ℕ, suc, ◌^◌, ◌<◌, Option, None, All, Contains, List, [], ◌∷◌, length, map as map_list, IsTrue}
 use Rattle.std.specs.List.{list_all}
 use Rattle.std.proofs.Common.{get_or}
-use Rattle.cell_core.specs.xdp_machine.State.{PacketIn}
+use Rattle.cell_nets.specs.cell_core.xdp_machine.State.{PacketIn}
 use Rattle.net_core.specs.declared.tree.Word.{Word}
 use Rattle.net_core.specs.Ports.{port_list}
 use Rattle.net_core.specs.Value.{word, nothing, Env}
@@ -14,7 +14,7 @@ use Rattle.block_core.specs.Blocks.{BlockTree, registers_of, memories_of, first_
 use Rattle.block_core.specs.Parts.{Solve, Goes, Within}
 use Rattle.block_core.specs.Order.{IsBefore, InOrder}
 use Rattle.block_core.specs.Formed.{names_scope, block_registers, IsTypedBlock, StatementReads, IsThere}
-use Rattle.cell_core.specs.Cells.{CellView, cell_at}
+use Rattle.cell_nets.specs.cell_core.Cells.{CellView, cell_at}
 use Rattle.cell_nets.specs.declared.operand.Operand.{Operand}
 use Rattle.cell_nets.specs.declared.operand.Operand.TheVariants.{Net}
 use Rattle.cell_nets.specs.Operands.{AreFit, AreDeclared, IsAvailable, IsNetOf}

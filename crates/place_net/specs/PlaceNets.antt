@@ -4,7 +4,7 @@ use Rattle.std.proofs.Common.{get_or}
 use Rattle.net_core.specs.Nets.{Tree, TConst, TRead, StatementTree, SBlock, SSet, SEnd}
 use Rattle.net_core.specs.Chains.{statements_before}
 use Rattle.net_core.specs.Value.{word}
-use Rattle.cell_core.specs.Cells.{CellView}
+use Rattle.cell_nets.specs.cell_core.Cells.{CellView}
 use Rattle.cell_nets.specs.declared.operand.Operand.{Operand}
 use Rattle.cell_nets.specs.declared.operand.Operand.TheVariants.{Known, Net, Part}
 use Rattle.cell_nets.specs.Parts.{part_tree}

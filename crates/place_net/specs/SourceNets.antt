@@ -4,9 +4,9 @@ use Rattle.std.proofs.Common.{get_or}
 use Rattle.net_core.specs.beat_core.Ports.{Arrival}
 use Rattle.block_core.specs.declared.name.Name.{Name}
 use Rattle.block_core.specs.Blocks.{BlockWireTree}
-use Rattle.cell_core.specs.declared.operator.Operator.{Operator}
-use Rattle.cell_core.specs.declared.operator.Operator.TheVariants.{Byte, Length, Ifindex}
-use Rattle.cell_core.specs.Cells.{number}
+use Rattle.cell_nets.specs.cell_core.declared.operator.Operator.{Operator}
+use Rattle.cell_nets.specs.cell_core.declared.operator.Operator.TheVariants.{Byte, Length, Ifindex}
+use Rattle.cell_nets.specs.cell_core.Cells.{number}
 use Rattle.cell_nets.specs.declared.operand.Operand.{Operand}
 use Rattle.cell_nets.specs.declared.operand.Operand.TheVariants.{Net}
 use Rattle.cell_nets.specs.Wires.{Gives}

@@ -4,15 +4,15 @@ use Rattle.std.specs.List.{list_all}
 use Rattle.std.proofs.Common.{get_or}
 use Rattle.net_core.specs.list_laws.Bytes.{IsBytes}
 use Rattle.net_core.specs.beat_core.Ports.{Arrival}
-use Rattle.cell_core.specs.xdp_machine.State.{PacketIn}
+use Rattle.cell_nets.specs.cell_core.xdp_machine.State.{PacketIn}
 use Rattle.net_core.specs.Value.{Env}
 use Rattle.frame_net.specs.product_blocks.Alone.{wire_flat}
 use Rattle.block_core.specs.declared.name.Name.{Name}
 use Rattle.block_core.specs.Blocks.{BlockWireTree}
 use Rattle.block_core.specs.Parts.{Solve}
-use Rattle.cell_core.specs.declared.operator.Operator.{Operator}
-use Rattle.cell_core.specs.declared.operator.Operator.TheVariants.{Byte, Length, Ifindex, Time}
-use Rattle.cell_core.specs.Cells.{CellView, cell_at, value}
+use Rattle.cell_nets.specs.cell_core.declared.operator.Operator.{Operator}
+use Rattle.cell_nets.specs.cell_core.declared.operator.Operator.TheVariants.{Byte, Length, Ifindex, Time}
+use Rattle.cell_nets.specs.cell_core.Cells.{CellView, cell_at, value}
 use Rattle.cell_nets.specs.declared.operand.Operand.{Operand}
 use Rattle.cell_nets.specs.declared.operand.Operand.TheVariants.{Net}
 use Rattle.cell_nets.specs.Operands.{AreFit, IsAvailable}

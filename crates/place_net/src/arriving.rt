@@ -2,9 +2,9 @@
 
 ghost use Rattle.std.specs.Prelude.{ℕ, ◌≡◌, ◌≤◌, ◌<◌, List, [], ◌∷◌, All, Contains, IfOk, length, get_or, map as map_list};
 ghost use Rattle.net_core.specs.beat_core.Ports.{Arrival};
-ghost use Rattle.cell_core.specs.Cells.{number, bits_from};
-ghost use Rattle.cell_core.specs.Formed.{AreFormed};
-ghost use Rattle.cell_core.specs.View.{cell_of};
+ghost use Rattle.cell_nets.specs.cell_core.Cells.{number, bits_from};
+ghost use Rattle.cell_nets.specs.cell_core.Formed.{AreFormed};
+ghost use Rattle.cell_nets.specs.cell_core.View.{cell_of};
 ghost use Rattle.cell_nets.specs.Operands.{IsOperand, IsWide, number_in};
 ghost use Rattle.cell_nets.specs.Wires.{wires_of, always, Gives};
 ghost use Rattle.frame_net.specs.Gather.{kept_width};
@@ -14,8 +14,8 @@ ghost use Rattle.place_net.specs.SourceNets.{IsKeptNet, GivesNumber};
 
 use block_core::block::BlockWire;
 use block_core::name::{Name, Part};
-use cell_core::cell::Cell;
-use cell_core::operator::Operator;
+use cell_nets::cell_core::cell::Cell;
+use cell_nets::cell_core::operator::Operator;
 use cell_nets::operand::Operand;
 use cell_nets::wires::cut;
 use frame_net::{Kept, kept_name, length_name};

@@ -10,3 +10,6 @@ pub use arriving::source_cells;
 pub use leaving::exit;
 pub use outputs::{AnswerByte, Outputs};
 pub use placing::{place, take_registers};
+
+// Crates above name these through this one.
+pub use row_net;

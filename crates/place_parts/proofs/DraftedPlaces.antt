@@ -9,14 +9,14 @@ use Rattle.block_core.specs.declared.block.Block.{Block}
 use Rattle.block_core.specs.Blocks.{BlockTree, Whole}
 use Rattle.block_core.specs.Parts.{Solve}
 use Rattle.block_core.specs.View.{block_of}
-use Rattle.cell_core.specs.Cells.{CellView, cell_at, value}
+use Rattle.hazard_core.specs.cell_core.Cells.{CellView, cell_at, value}
 use Rattle.cell_nets.specs.declared.operand.Operand.{Operand}
 use Rattle.cell_nets.specs.declared.operand.Operand.TheVariants.{Net}
 use Rattle.cell_nets.specs.Operands.{AreFit}
 use Rattle.change_net.specs.frame_net.declared.held.Kept.{Kept}
 use Rattle.site_table.specs.site_operands.declared.SiteNets.{SiteNets}
 use Rattle.site_table.specs.site_operands.Sites.{operands_of}
-use Rattle.row_net.specs.Table.{Holds}
+use Rattle.place_net.specs.row_net.Table.{Holds}
 use Rattle.place_net.specs.Sources.{IsShownIn, packet_in, source_operands}
 use Rattle.site_table.specs.Sites.{IsSiteOf}
 use Rattle.site_table.specs.Staged.{AreStaged}

@@ -6,12 +6,12 @@ use Rattle.control_net.specs.product_blocks.Alone.{IsApartAlone}
 use Rattle.block_core.specs.declared.name.Name.{Name}
 use Rattle.block_core.specs.Blocks.{BlockTree, BlockWireTree}
 use Rattle.block_core.specs.Parts.{Solve}
-use Rattle.cell_core.specs.Sites.{ProgramView}
+use Rattle.hazard_core.specs.cell_core.Sites.{ProgramView}
 use Rattle.cell_nets.specs.declared.operand.Operand.{Operand}
 use Rattle.cell_nets.specs.declared.operand.Operand.TheVariants.{Net}
 use Rattle.cell_nets.specs.Operands.{IsOperand}
 use Rattle.cell_nets.specs.Wires.{behind}
-use Rattle.row_net.specs.Apart.{TakeClean, KeepApart}
+use Rattle.place_net.specs.row_net.Apart.{TakeClean, KeepApart}
 use Rattle.place_net.specs.Place.{width_at}
 use Rattle.site_table.specs.site_operands.declared.SiteNets.{SiteNets}
 use Rattle.site_table.specs.site_place.PointerNets.{BothThere}

@@ -5,7 +5,7 @@ use Rattle.std.proofs.Common.{◌≡◌, ℕ, zero, suc, ◌+◌, ◌<◌, ◌�
 use Rattle.std.proofs.lemmas.Bool.{cases_eq, cases_lt}
 use Rattle.std.proofs.lemmas.List.Elements.{All-nil, All-cons, All-filter}
 use Rattle.std.proofs.lemmas.List.Kept.{AllPairs-cons, AllPairs-filter}
-use Rattle.cell_core.specs.Rows.{numbers}
+use Rattle.hazard_core.specs.cell_core.Rows.{numbers}
 
 numbers_from : (n from least : ℕ) → least ≤ from → All (λ k. least ≤ k) (numbers from n)
 numbers_from zero from least h = All-nil (λ k. least ≤ k)

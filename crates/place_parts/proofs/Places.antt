@@ -9,9 +9,9 @@ use Rattle.cell_nets.specs.declared.operand.Operand.{Operand}
 use Rattle.cell_nets.specs.declared.operand.Operand.TheVariants.{Net}
 use Rattle.cell_nets.specs.Operands.{IsAvailable}
 use Rattle.cell_nets.specs.Wires.{behind, own}
-use Rattle.row_net.specs.Lists.{is_early}
-use Rattle.row_net.proofs.ApartLemmas.{free_keep}
-use Rattle.row_net.specs.Table.{AreThere}
+use Rattle.place_net.specs.row_net.Lists.{is_early}
+use Rattle.place_net.proofs.row_net_laws.ApartLemmas.{free_keep}
+use Rattle.place_net.specs.row_net.Table.{AreThere}
 use Rattle.place_net.specs.Sources.{source_operands}
 use Rattle.site_table.specs.site_place.PointerNets.{BothThere}
 use Rattle.site_table.specs.Staged.{AreStaged}

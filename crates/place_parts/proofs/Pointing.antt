@@ -6,21 +6,21 @@ use Rattle.std.proofs.lemmas.List.{get_or_past}
 use Rattle.std.proofs.lemmas.List.Elements.{filter_passes}
 use Rattle.std.proofs.Common.{inl, inr}
 use Rattle.block_core.specs.declared.name.Name.{Name}
-use Rattle.cell_core.specs.declared.operator.Operator.{Operator}
-use Rattle.cell_core.specs.declared.operator.Operator.TheVariants.{Found, Answer}
-use Rattle.cell_core.specs.declared.site.Act.{Act}
-use Rattle.cell_core.specs.declared.site.Act.TheVariants as act
-use Rattle.cell_core.specs.Acts.{finds_key}
-use Rattle.cell_core.specs.Cells.{cell_at, site_in}
-use Rattle.cell_core.specs.Rows.{numbers}
-use Rattle.cell_core.specs.Sites.{ProgramView, site_at}
+use Rattle.hazard_core.specs.cell_core.declared.operator.Operator.{Operator}
+use Rattle.hazard_core.specs.cell_core.declared.operator.Operator.TheVariants.{Found, Answer}
+use Rattle.hazard_core.specs.cell_core.declared.site.Act.{Act}
+use Rattle.hazard_core.specs.cell_core.declared.site.Act.TheVariants as act
+use Rattle.hazard_core.specs.cell_core.Acts.{finds_key}
+use Rattle.hazard_core.specs.cell_core.Cells.{cell_at, site_in}
+use Rattle.hazard_core.specs.cell_core.Rows.{numbers}
+use Rattle.hazard_core.specs.cell_core.Sites.{ProgramView, site_at}
 use Rattle.cell_nets.specs.declared.operand.Operand.{Operand}
 use Rattle.cell_nets.specs.declared.operand.Operand.TheVariants.{Known}
 use Rattle.cell_nets.specs.Operands.{IsOperand, IsAvailable}
 use Rattle.hazard_core.specs.Held.{answer_cell}
 use Rattle.change_net.specs.value_net.Words.{answers_number}
 use Rattle.site_table.specs.site_operands.Sites.{SiteOperands}
-use Rattle.row_net.specs.Table.{Stands}
+use Rattle.place_net.specs.row_net.Table.{Stands}
 use Rattle.site_table.specs.Pointing.{plain_of}
 use Rattle.site_table.specs.Sites.{access_operand}
 use Rattle.site_table.proofs.SiteLaws.{at_index}

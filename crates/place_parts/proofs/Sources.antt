@@ -4,18 +4,18 @@ use Rattle.std.proofs.Common.{◌≡◌, ◌∙◌, ◌⊎◌, inl, inr, ℕ, ze
 use Rattle.std.proofs.lemmas.List.Elements.{All-contains, Contains-get_or, filter_passes}
 use Rattle.block_core.specs.declared.name.Name.{Name}
 use Rattle.block_core.specs.Blocks.{BlockWireTree}
-use Rattle.cell_core.specs.declared.operator.Operator.{Operator}
-use Rattle.cell_core.specs.declared.operator.Operator.TheVariants.{Byte, Length, Ifindex, Time}
-use Rattle.cell_core.specs.Cells.{CellView, cell_at, is_read}
-use Rattle.cell_core.specs.Formed.{IsInRange}
-use Rattle.cell_core.specs.Rows.{numbers}
-use Rattle.cell_core.specs.Sites.{ProgramView}
+use Rattle.hazard_core.specs.cell_core.declared.operator.Operator.{Operator}
+use Rattle.hazard_core.specs.cell_core.declared.operator.Operator.TheVariants.{Byte, Length, Ifindex, Time}
+use Rattle.hazard_core.specs.cell_core.Cells.{CellView, cell_at, is_read}
+use Rattle.hazard_core.specs.cell_core.Formed.{IsInRange}
+use Rattle.hazard_core.specs.cell_core.Rows.{numbers}
+use Rattle.hazard_core.specs.cell_core.Sites.{ProgramView}
 use Rattle.cell_nets.specs.Computing.{is_outside}
 use Rattle.change_net.specs.frame_net.declared.held.Kept.{Kept}
 use Rattle.change_net.specs.frame_net.declared.held.Kept.TheVariants as kept
-use Rattle.row_net.specs.Lists.{varies}
-use Rattle.row_net.specs.Needed.{flag}
-use Rattle.row_net.specs.Table.{IsIn, is_constant, is_number}
+use Rattle.place_net.specs.row_net.Lists.{varies}
+use Rattle.place_net.specs.row_net.Needed.{flag}
+use Rattle.place_net.specs.row_net.Table.{IsIn, is_constant, is_number}
 use Rattle.place_net.specs.Sources.{IsSource, IsShown}
 use Rattle.site_table.specs.site_place.Pointing.{IsPointers}
 use Rattle.site_table.specs.Pointing.{plain_of}

@@ -3,7 +3,7 @@ use Rattle.std.specs.Prelude.{◌++◌}
 use Rattle.std.proofs.Common.{ℕ, zero, suc, List, length}
 use Rattle.block_core.specs.declared.name.Name.{Name}
 use Rattle.cell_nets.specs.declared.operand.Operand.{Operand}
-use Rattle.row_net.specs.Table.{AreThere}
+use Rattle.place_net.specs.row_net.Table.{AreThere}
 use Rattle.place_net.specs.Place.{registers_from}
 use Rattle.place_net.specs.Sources.{source_operands}
 use Rattle.site_table.specs.site_place.SitePlace.{pointer_registers}

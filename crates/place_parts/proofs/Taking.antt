@@ -6,7 +6,7 @@ use Rattle.std.proofs.lemmas.List.{length-map, length-set, get_or-map, get_or-se
 use Rattle.std.proofs.lemmas.List.Elements.{All-nil, All-append}
 use Rattle.xdp_maps.specs.State.{no_decl}
 use Rattle.block_core.specs.declared.name.Name.{Name}
-use Rattle.cell_core.specs.Sites.{site_at}
+use Rattle.hazard_core.specs.cell_core.Sites.{site_at}
 use Rattle.cell_nets.specs.declared.operand.Operand.{Operand}
 use Rattle.cell_nets.specs.declared.operand.Operand.TheVariants.{Known}
 use Rattle.cell_nets.specs.Operands.{IsOperand}

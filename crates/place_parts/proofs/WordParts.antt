@@ -5,17 +5,17 @@ use Rattle.std.proofs.Common.{◌≡◌, ◌∙◌, ℕ, suc, ◌<◌, Bool, tru
 use Rattle.std.proofs.lemmas.List.{length-map, get_or-map}
 use Rattle.xdp_maps.specs.Calls.{change_bytes}
 use Rattle.xdp_maps.specs.State.{no_decl}
-use Rattle.cell_core.specs.xdp_machine.Memory.{bytes_in}
-use Rattle.cell_core.specs.bpf_isa.declared.operation.Size.{Size}
-use Rattle.cell_core.specs.bpf_isa.declared.operation.Size.TheVariants.{B, H, W, Dw}
+use Rattle.hazard_core.specs.cell_core.xdp_machine.Memory.{bytes_in}
+use Rattle.hazard_core.specs.cell_core.bpf_isa.declared.operation.Size.{Size}
+use Rattle.hazard_core.specs.cell_core.bpf_isa.declared.operation.Size.TheVariants.{B, H, W, Dw}
 use Rattle.control_net.specs.product_blocks.Alone.{wire_flat}
 use Rattle.block_core.specs.declared.name.Name.{Name}
 use Rattle.block_core.specs.Blocks.{BlockWireTree}
 use Rattle.block_core.specs.View.{block_of}
-use Rattle.cell_core.specs.declared.site.Act.{Act}
-use Rattle.cell_core.specs.declared.site.Act.TheVariants as act
-use Rattle.cell_core.specs.Formed.{IsInside}
-use Rattle.cell_core.specs.Sites.{ProgramView, SiteView, site_at}
+use Rattle.hazard_core.specs.cell_core.declared.site.Act.{Act}
+use Rattle.hazard_core.specs.cell_core.declared.site.Act.TheVariants as act
+use Rattle.hazard_core.specs.cell_core.Formed.{IsInside}
+use Rattle.hazard_core.specs.cell_core.Sites.{ProgramView, SiteView, site_at}
 use Rattle.cell_nets.specs.declared.operand.Operand.{Operand}
 use Rattle.cell_nets.specs.Operands.{IsOperand, IsAvailable}
 use Rattle.cell_nets.specs.Wires.{behind, AreWires}

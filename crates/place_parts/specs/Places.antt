@@ -9,9 +9,9 @@ use Rattle.block_core.specs.Parts.{Solve}
 use Rattle.cell_nets.specs.declared.operand.Operand.{Operand}
 use Rattle.cell_nets.specs.declared.operand.Operand.TheVariants.{Net}
 use Rattle.cell_nets.specs.Wires.{behind}
-use Rattle.row_net.specs.Apart.{TakeClean, KeepApart}
-use Rattle.row_net.specs.Lists.{made_cells}
-use Rattle.row_net.specs.Table.{IsTable}
+use Rattle.place_net.specs.row_net.Apart.{TakeClean, KeepApart}
+use Rattle.place_net.specs.row_net.Lists.{made_cells}
+use Rattle.place_net.specs.row_net.Table.{IsTable}
 use Rattle.place_net.specs.Sources.{IsSourced}
 use Rattle.site_table.specs.site_place.Pointing.{IsPointers}
 use Rattle.site_table.specs.site_place.PointerNets.{BothThere}

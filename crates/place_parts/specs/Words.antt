@@ -3,7 +3,7 @@ use Rattle.std.specs.Prelude.{◌≡◌, ℕ, zero, suc, ◌/◌, ◌<◌, ◌�
 use Rattle.std.proofs.Common.{get_or}
 use Rattle.block_core.specs.declared.name.Name.{Name}
 use Rattle.block_core.specs.View.{block_of}
-use Rattle.cell_core.specs.Sites.{SiteView, site_at}
+use Rattle.hazard_core.specs.cell_core.Sites.{SiteView, site_at}
 use Rattle.cell_nets.specs.declared.operand.Operand.{Operand}
 use Rattle.cell_nets.specs.declared.operand.Operand.TheVariants.{Known, Net}
 use Rattle.hazard_core.specs.Held.{answer_cell}

@@ -5,7 +5,7 @@ ghost use Rattle.pipe_draft.specs.Draft.{IsDraft};
 ghost use Rattle.place_parts.specs.Places.{AreListsOf};
 
 use pipe_draft::Draft;
-use row_net::lists::made;
+use place_net::row_net::lists::made;
 use site_table::lists::{held, held_pointers, made_pointers};
 use std::alloc::{AllocError, Global};
 

@@ -8,10 +8,10 @@ ghost use Rattle.pipe_draft.specs.Places.{ArePlaces};
 ghost use Rattle.place_parts.specs.Words.{word_row, IsPointerBefore, IsWordPart, AreWordParts};
 
 use block_core::name::Name;
-use cell_core::site::Act;
 use cell_nets::operand::Operand;
 use change_net::pointed::{PointedWords, pointed_words};
 use hash_net::value_first;
+use hazard_core::cell_core::site::Act;
 use hazard_core::pending::row_in;
 use hazard_core::site::{answer_cell, site_at};
 use pipe_draft::{Behind, Draft};

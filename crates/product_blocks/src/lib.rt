@@ -2,3 +2,6 @@
 #![tactic(auto)]
 
 pub mod laws;
+
+// Crates above name these through this one.
+pub use block_core;

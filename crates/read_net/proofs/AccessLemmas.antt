@@ -2,13 +2,13 @@
 use Rattle.std.proofs.Common.{◌∙◌, ℕ, suc, ◌<◌, All, List, [], ◌∷◌, length, get_or, sym, ap, subst, arith}
 use Rattle.std.proofs.lemmas.List.{length-map}
 use Rattle.std.proofs.lemmas.List.Elements.{All-append}
-use Rattle.cell_nets.specs.net_core.Value.{Env}
+use Rattle.site_operands.specs.cell_nets.net_core.Value.{Env}
 use Rattle.cell_core.specs.Formed.{HasWords, IsInside}
 use Rattle.cell_core.specs.Sites.{ProgramView}
 use Rattle.site_operands.specs.hazard_core.Held.{Held}
 use Rattle.site_operands.specs.hazard_core.Tables.{TableState}
-use Rattle.cell_nets.specs.declared.operand.Operand.{Operand}
-use Rattle.cell_nets.specs.Operands.{IsOperand}
+use Rattle.site_operands.specs.cell_nets.declared.operand.Operand.{Operand}
+use Rattle.site_operands.specs.cell_nets.Operands.{IsOperand}
 use Rattle.site_operands.specs.declared.Pending.{Pending}
 use Rattle.overlay_net.specs.Seen.{read_of, all_read, IsSeen, ShowPending}
 use Rattle.value_net.specs.Pendings.{taken_of, all_taken, IsFitting as FitsValue, IsOf, AreOf, ShowPendings}

@@ -1,6 +1,6 @@
 -- The keys that sites ask for.
 use Rattle.std.proofs.Common.{◌≡◌, ◌∙◌, ℕ, List, refl, sym, ap, map as map_list}
-use Rattle.cell_nets.specs.net_core.Value.{Env}
+use Rattle.site_operands.specs.cell_nets.net_core.Value.{Env}
 use Rattle.xdp_maps.specs.declared.decl.MapDecl.{MapDecl}
 use Rattle.xdp_maps.specs.Operations.{key_in}
 use Rattle.cell_core.specs.declared.site.Act.{Act}
@@ -8,7 +8,7 @@ use Rattle.cell_core.specs.declared.site.Act.TheVariants as act
 use Rattle.cell_core.specs.Sites.{ProgramView, site_at, bytes_of, operation_with}
 use Rattle.site_operands.specs.hazard_core.Tables.{TableState, decl_of, table_at}
 use Rattle.site_operands.specs.hazard_core.Held.{Held, held_value, asked_key, slot_pointer}
-use Rattle.cell_nets.specs.declared.operand.Operand.{Operand}
+use Rattle.site_operands.specs.cell_nets.declared.operand.Operand.{Operand}
 use Rattle.site_operands.specs.Pointers.{pointer_number}
 use Rattle.overlay_net.specs.Reading.{ShowsSlot}
 

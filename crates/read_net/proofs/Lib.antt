@@ -1,4 +1,4 @@
-pub use Rattle.step_nets.proofs as step_nets
+pub use Rattle.step_nets.proofs as step_nets_laws
 pub mod StandLemmas
 pub mod SiteLemmas
 pub mod PendingLemmas

@@ -2,13 +2,13 @@
 use Rattle.std.proofs.Common.{◌≡◌, ◌∙◌, ℕ, ◌+◌, ◌<◌, All, List, [], ◌∷◌, ◌++◌, length, get_or, sym, subst, arith}
 use Rattle.std.proofs.lemmas.List.{length-map}
 use Rattle.std.proofs.lemmas.List.Elements.{All-append}
-use Rattle.cell_nets.specs.net_core.Value.{Env}
+use Rattle.site_operands.specs.cell_nets.net_core.Value.{Env}
 use Rattle.block_core.specs.declared.name.Name.{Name}
 use Rattle.block_core.specs.Blocks.{BlockWireTree}
 use Rattle.cell_core.specs.Sites.{ProgramView}
 use Rattle.site_operands.specs.hazard_core.Held.{Held}
 use Rattle.site_operands.specs.hazard_core.Tables.{TableState}
-use Rattle.cell_nets.specs.Operands.{IsAvailable}
+use Rattle.site_operands.specs.cell_nets.Operands.{IsAvailable}
 use Rattle.site_operands.specs.declared.Pending.{Pending}
 use Rattle.overlay_net.specs.Seen.{read_of, all_read, IsOf, ShowsPending, AreOf, ShowPending}
 use Rattle.step_nets.specs.Standing.{Stands}

@@ -1,14 +1,14 @@
 -- Steps that give several operands, one behind another.
 use Rattle.std.proofs.Common.{zero, suc, All, List, [], ◌∷◌, ◌++◌, arith}
 use Rattle.std.proofs.lemmas.List.Elements.{All-append}
-use Rattle.cell_nets.specs.net_core.Value.{Env}
+use Rattle.site_operands.specs.cell_nets.net_core.Value.{Env}
 use Rattle.block_core.specs.declared.name.Name.{Name}
 use Rattle.block_core.specs.Blocks.{BlockWireTree}
-use Rattle.cell_nets.specs.declared.operand.Operand.{Operand}
-use Rattle.cell_nets.specs.declared.operand.Operand.TheVariants.{Known}
-use Rattle.cell_nets.specs.Operands.{IsAvailable}
-use Rattle.cell_nets.specs.Wires.{behind}
-use Rattle.cell_nets.proofs.ApartLemmas.{stay_none, stay_as, stay_next}
+use Rattle.site_operands.specs.cell_nets.declared.operand.Operand.{Operand}
+use Rattle.site_operands.specs.cell_nets.declared.operand.Operand.TheVariants.{Known}
+use Rattle.site_operands.specs.cell_nets.Operands.{IsAvailable}
+use Rattle.site_operands.specs.cell_nets.Wires.{behind}
+use Rattle.site_operands.proofs.cell_nets_laws.ApartLemmas.{stay_none, stay_as, stay_next}
 use Rattle.step_nets.specs.Standing.{Stands}
 use Rattle.step_nets.proofs.ChainLaws.{starts}
 

@@ -1,14 +1,14 @@
 -- What an access takes besides: operations that fit the values of its map, and a word of the table.
 use Rattle.std.specs.Prelude.{◌≡◌, ℕ, All, List, length}
-use Rattle.cell_nets.specs.net_core.Value.{Env}
+use Rattle.site_operands.specs.cell_nets.net_core.Value.{Env}
 use Rattle.cell_core.specs.Formed.{HasWords, IsInside}
 use Rattle.cell_core.specs.Sites.{ProgramView, site_at}
 use Rattle.site_operands.specs.hazard_core.Tables.{TableState, table_at, slot_at}
 use Rattle.site_operands.specs.hazard_core.Commits.{word_at}
 use Rattle.site_operands.specs.hazard_core.declared.pointer.Pointer.{Pointer}
 use Rattle.site_operands.specs.hazard_core.declared.pointer.Pointer.TheVariants.{InSlot}
-use Rattle.cell_nets.specs.declared.operand.Operand.{Operand}
-use Rattle.cell_nets.specs.Operands.{number_in}
+use Rattle.site_operands.specs.cell_nets.declared.operand.Operand.{Operand}
+use Rattle.site_operands.specs.cell_nets.Operands.{number_in}
 use Rattle.value_net.specs.Words.{IsAligned}
 use Rattle.read_net.specs.declared.sites.OwnSite.{OwnSite}
 use Rattle.read_net.specs.declared.sites.MapNets.{MapNets}

@@ -1,6 +1,6 @@
 -- The read of a site: what it takes, and what stands for its cells.
 use Rattle.std.specs.Prelude.{◌≡◌, ℕ, All, List, ◌∷◌, ◌++◌}
-use Rattle.cell_nets.specs.net_core.Value.{Env}
+use Rattle.site_operands.specs.cell_nets.net_core.Value.{Env}
 use Rattle.cell_core.specs.xdp_machine.State.{PacketIn}
 use Rattle.block_core.specs.declared.name.Name.{Name}
 use Rattle.block_core.specs.Blocks.{BlockWireTree}
@@ -11,9 +11,9 @@ use Rattle.site_operands.specs.hazard_core.Tables.{TableState}
 use Rattle.site_operands.specs.hazard_core.Held.{Held, pending}
 use Rattle.site_operands.specs.hazard_core.Overlay.{found_pointer}
 use Rattle.site_operands.specs.hazard_core.Rows.{cell_pointer, cell_number}
-use Rattle.cell_nets.specs.declared.operand.Operand.{Operand}
-use Rattle.cell_nets.specs.Operands.{number_in, IsOperand}
-use Rattle.cell_nets.specs.Wires.{HasBits, Gives}
+use Rattle.site_operands.specs.cell_nets.declared.operand.Operand.{Operand}
+use Rattle.site_operands.specs.cell_nets.Operands.{number_in, IsOperand}
+use Rattle.site_operands.specs.cell_nets.Wires.{HasBits, Gives}
 use Rattle.site_operands.specs.Pointers.{pointer_number}
 use Rattle.site_operands.specs.Sites.{operands_of, ShowsAsked}
 use Rattle.overlay_net.specs.Reading.{ShowsKey, ShowsSlot}

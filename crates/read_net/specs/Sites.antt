@@ -1,7 +1,7 @@
 -- The sites of a packet's own operations on a map, and what stands for them and for the slots of its table.
 use Rattle.std.specs.Prelude.{◌≡◌, ℕ, ◌+◌, ◌*◌, ◌^◌, ◌<◌, ◌≤◌, All, List, [], ◌∷◌, ◌++◌, length, map as map_list}
 use Rattle.std.proofs.Common.{get_or}
-use Rattle.cell_nets.specs.net_core.Value.{Env}
+use Rattle.site_operands.specs.cell_nets.net_core.Value.{Env}
 use Rattle.xdp_maps.specs.Contents.{IsWithinLimits}
 use Rattle.xdp_maps.specs.declared.decl.MapDecl.{MapDecl}
 use Rattle.xdp_maps.specs.declared.decl.MapKind.TheVariants as kind
@@ -9,8 +9,8 @@ use Rattle.cell_core.specs.Sites.{ProgramView, site_at}
 use Rattle.site_operands.specs.hazard_core.Tables.{TableState, decl_of, table_at, used_count}
 use Rattle.site_operands.specs.hazard_core.Tabled.{IsTable}
 use Rattle.site_operands.specs.hazard_core.Held.{Held}
-use Rattle.cell_nets.specs.declared.operand.Operand.{Operand}
-use Rattle.cell_nets.specs.Operands.{number_in, IsOperand, IsNarrow}
+use Rattle.site_operands.specs.cell_nets.declared.operand.Operand.{Operand}
+use Rattle.site_operands.specs.cell_nets.Operands.{number_in, IsOperand, IsNarrow}
 use Rattle.site_operands.specs.declared.Pending.{Pending}
 use Rattle.site_operands.specs.Sites.{operands_of, all_of, ShowsSite}
 use Rattle.slot_net.specs.Slots.{slots_of, operands_of as slot_operands, IsSlot, ShowSlots}

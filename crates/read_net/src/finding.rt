@@ -4,8 +4,8 @@ ghost use Rattle.std.specs.Prelude.{◌≡◌, ◌∷◌, ◌++◌, ◌*◌, ◌
 ghost use Rattle.cell_core.specs.Sites.{ProgramView, site_at};
 ghost use Rattle.site_operands.specs.hazard_core.Held.{Held};
 ghost use Rattle.site_operands.specs.hazard_core.Tables.{TableState};
-ghost use Rattle.cell_nets.specs.Operands.{IsOperand};
-ghost use Rattle.cell_nets.specs.Wires.{wires_of, HasBits};
+ghost use Rattle.site_operands.specs.cell_nets.Operands.{IsOperand};
+ghost use Rattle.site_operands.specs.cell_nets.Wires.{wires_of, HasBits};
 ghost use Rattle.overlay_net.specs.Seen.{all_read};
 ghost use Rattle.step_nets.specs.Standing.{Stands};
 ghost use Rattle.read_net.specs.Sites.{cells_of, IsMap, IsWhole, IsOwn, IsMapOf};
@@ -15,9 +15,9 @@ use crate::pendings::pendings;
 use crate::sites::{MapNets, OwnSite};
 use block_core::block::BlockWire;
 use block_core::name::Name;
-use cell_nets::operand::Operand;
 use overlay_net::finding::{found_pointer, key_pointer};
 use site_operands::Pending;
+use site_operands::cell_nets::operand::Operand;
 use std::alloc::{AllocError, Global};
 
 /// What a site finds: the packet's earlier operations as it sees them, the entry under its key over them, and what it finds of that.

@@ -8,3 +8,6 @@ pub mod lookups;
 pub mod pendings;
 pub mod sites;
 pub mod updates;
+
+// Crates above name these through this one.
+pub use step_nets;

@@ -7,8 +7,8 @@ ghost use Rattle.cell_core.specs.Cells.{CellView};
 ghost use Rattle.cell_core.specs.Sites.{ProgramView};
 ghost use Rattle.site_operands.specs.hazard_core.Held.{Held};
 ghost use Rattle.site_operands.specs.hazard_core.Tables.{TableState};
-ghost use Rattle.cell_nets.specs.Operands.{IsOperand};
-ghost use Rattle.cell_nets.specs.Wires.{wires_of, HasBits};
+ghost use Rattle.site_operands.specs.cell_nets.Operands.{IsOperand};
+ghost use Rattle.site_operands.specs.cell_nets.Wires.{wires_of, HasBits};
 ghost use Rattle.read_net.specs.Sites.{cells_of, IsMap, IsWhole};
 ghost use Rattle.read_net.specs.Reads.{AreCells, IsReadOf, Reads};
 
@@ -16,8 +16,8 @@ use crate::finding::find;
 use crate::sites::{MapNets, OwnSite, ReadNets};
 use block_core::block::BlockWire;
 use block_core::name::Name;
-use cell_nets::operand::Operand;
 use overlay_net::answering::lookup_answer;
+use site_operands::cell_nets::operand::Operand;
 use std::alloc::{AllocError, Global};
 use step_nets::truth;
 

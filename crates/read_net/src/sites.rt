@@ -1,8 +1,8 @@
 //! What a read takes: sites of the packet's own operations, and the map.
 
 use cell_core::site::Act;
-use cell_nets::operand::Operand;
 use site_operands::SiteNets;
+use site_operands::cell_nets::operand::Operand;
 use slot_net::slots::SlotNets;
 use xdp_maps::decl::MapDecl;
 

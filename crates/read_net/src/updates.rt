@@ -10,9 +10,9 @@ ghost use Rattle.site_operands.specs.hazard_core.Tables.{TableState, used_count}
 ghost use Rattle.site_operands.specs.hazard_core.Tabled.{IsTable};
 ghost use Rattle.site_operands.specs.hazard_core.declared.slot.Slot.{Slot};
 ghost use Rattle.xdp_maps.specs.declared.decl.MapKind.TheVariants as kind;
-ghost use Rattle.cell_nets.specs.net_core.Value.{Env};
-ghost use Rattle.cell_nets.specs.Operands.{IsOperand, IsNarrow, IsAvailable, number_in};
-ghost use Rattle.cell_nets.specs.Wires.{wires_of, HasBits};
+ghost use Rattle.site_operands.specs.cell_nets.net_core.Value.{Env};
+ghost use Rattle.site_operands.specs.cell_nets.Operands.{IsOperand, IsNarrow, IsAvailable, number_in};
+ghost use Rattle.site_operands.specs.cell_nets.Wires.{wires_of, HasBits};
 ghost use Rattle.read_net.specs.Sites.{cells_of, slot_cells, IsMap, IsWhole};
 ghost use Rattle.read_net.specs.Reads.{AreCells, IsReadOf, Reads};
 
@@ -20,8 +20,8 @@ use crate::finding::find;
 use crate::sites::{MapNets, OwnSite, ReadNets};
 use block_core::block::BlockWire;
 use block_core::name::Name;
-use cell_nets::operand::Operand;
 use overlay_net::answering::{delete_answer, update_answer};
+use site_operands::cell_nets::operand::Operand;
 use std::alloc::{AllocError, Global};
 use step_nets::truth;
 use xdp_maps::decl::MapKind;

@@ -6,7 +6,7 @@ use Rattle.byteorder.specs.Endian.{little_bytes}
 use Rattle.bpf_isa.specs.declared.operation.Size.{Size}
 use Rattle.xdp_state.specs.xdp_maps.declared.decl.MapDecl.{MapDecl}
 use Rattle.xdp_state.specs.xdp_maps.Calls.{patched}
-use Rattle.xdp_state.proofs.xdp_maps.ByteLaws.{length-patched}
+use Rattle.xdp_state.proofs.xdp_maps_laws.ByteLaws.{length-patched}
 use Rattle.xdp_state.specs.xdp_machine.Values.{Value, ◌>>=◌}
 use Rattle.xdp_state.specs.xdp_machine.Values as is
 use Rattle.xdp_state.specs.xdp_machine.State.{Machine, PacketIn}

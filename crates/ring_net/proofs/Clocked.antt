@@ -10,7 +10,7 @@ use Rattle.net_core.specs.Nets.{Tree, TConst, TUnary, TBinary, SEnd, SThen}
 use Rattle.net_core.specs.Chains.{statements_before}
 use Rattle.net_core.specs.Value.{word, bit, number_of, apply, apply_unary, conditional, Env, value}
 use Rattle.net_core.specs.Clock.{Stored, done, all_done}
-use Rattle.block_core.specs.declared.name.Name.{Name}
+use Rattle.product_blocks.specs.block_core.declared.name.Name.{Name}
 use Rattle.ring_net.specs.declared.shape.ControlShape.{ControlShape}
 use Rattle.ring_net.specs.declared.names.Counter.{Counter}
 use Rattle.ring_net.specs.declared.names.Counter.TheVariants.{Given, Answered, Injected, Gathered}

@@ -5,7 +5,7 @@ use Rattle.net_core.specs.Nets.{Tree, SEnd}
 use Rattle.net_core.specs.Chains.{statements_before}
 use Rattle.product_blocks.specs.product_rules.Products.{is_flat, statements_flat}
 use Rattle.product_blocks.specs.Alone.{IsFree}
-use Rattle.block_core.specs.declared.name.Name.{Name}
+use Rattle.product_blocks.specs.block_core.declared.name.Name.{Name}
 use Rattle.ring_net.specs.declared.shape.ControlShape.{ControlShape}
 use Rattle.ring_net.specs.declared.names.ControlNets.{ControlNets}
 use Rattle.ring_net.specs.declared.names.Register.TheVariants.{Holds}

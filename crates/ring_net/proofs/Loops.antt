@@ -5,7 +5,7 @@ use Rattle.std.proofs.lemmas.List.{append-nil, map_push}
 use Rattle.net_core.specs.declared.tree.Stmt.{Stmt}
 use Rattle.net_core.specs.Nets.{Tree, StatementTree, SSet}
 use Rattle.net_core.specs.View.{statement_of}
-use Rattle.block_core.specs.declared.name.Name.{Name}
+use Rattle.product_blocks.specs.block_core.declared.name.Name.{Name}
 use Rattle.ring_net.specs.declared.names.Register.TheVariants.{Holds}
 use Rattle.ring_net.specs.Names.{register_number}
 use Rattle.ring_net.specs.Trees.{register, moves}

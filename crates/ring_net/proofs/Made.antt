@@ -2,8 +2,8 @@
 use Rattle.std.specs.Prelude.{◌≡◌, ℕ, zero, suc, [], ◌∷◌, length, map, replicate, false}
 use Rattle.std.proofs.Common.{refl, sym, ap, arith, subst}
 use Rattle.net_core.specs.Value.{word, bit}
-use Rattle.block_core.specs.declared.name.Name.{Name}
-use Rattle.block_core.specs.Blocks.{BlockTree}
+use Rattle.product_blocks.specs.block_core.declared.name.Name.{Name}
+use Rattle.product_blocks.specs.block_core.Blocks.{BlockTree}
 use Rattle.ring_net.specs.declared.shape.ControlShape.{ControlShape}
 use Rattle.ring_net.specs.declared.names.ControlNets.{ControlNets}
 use Rattle.ring_net.specs.Control.{first_state}

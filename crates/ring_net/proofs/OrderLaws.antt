@@ -2,11 +2,11 @@
 use Rattle.std.specs.Prelude.{ℕ, suc, List, [], ◌∷◌}
 use Rattle.std.proofs.Common.{arith, sym, subst, inl, inr}
 use Rattle.net_core.specs.Nets.{Tree, TConst, TRead, TBit, TPartSelect, TMemoryWord, TUnary, TBinary, TConditional, TConcatenation, Trees, TLast, TMore, RightTree, RPlain, RQuotient, RRemainder, StatementTree, SBlock, SIf, SIfElse, SSet, SStore, StatementTrees, SEnd, SThen}
-use Rattle.block_core.specs.declared.name.Name.{Name}
-use Rattle.block_core.specs.declared.name.Name.TheVariants as name
-use Rattle.block_core.specs.Blocks.{BlockTree, BlockWireTree, wires_of, Whole, Among}
-use Rattle.block_core.specs.Order.{Reads, AllRead, RightReads, IsBefore, InOrder}
-use Rattle.block_core.specs.Formed.{StatementReads, StatementsRead, IsThere}
+use Rattle.product_blocks.specs.block_core.declared.name.Name.{Name}
+use Rattle.product_blocks.specs.block_core.declared.name.Name.TheVariants as name
+use Rattle.product_blocks.specs.block_core.Blocks.{BlockTree, BlockWireTree, wires_of, Whole, Among}
+use Rattle.product_blocks.specs.block_core.Order.{Reads, AllRead, RightReads, IsBefore, InOrder}
+use Rattle.product_blocks.specs.block_core.Formed.{StatementReads, StatementsRead, IsThere}
 use Rattle.ring_net.specs.declared.shape.ControlShape.{ControlShape}
 use Rattle.ring_net.specs.declared.names.ControlNets.{ControlNets}
 use Rattle.ring_net.specs.Block.{IsOwn, IsRead, WiresRead, IsControl}

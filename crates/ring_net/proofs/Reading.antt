@@ -3,10 +3,10 @@ use Rattle.std.specs.Prelude.{ℕ, zero, suc, ◌+◌, ◌<◌, ◌≤◌}
 use Rattle.std.proofs.Common.{refl, arith, inl, inr}
 use Rattle.net_core.specs.Nets.{Tree, SEnd}
 use Rattle.net_core.specs.Chains.{statements_before}
-use Rattle.block_core.specs.declared.name.Name.{Name}
-use Rattle.block_core.specs.declared.name.Name.TheVariants as name
-use Rattle.block_core.specs.Order.{Reads}
-use Rattle.block_core.specs.Formed.{StatementReads, StatementsRead}
+use Rattle.product_blocks.specs.block_core.declared.name.Name.{Name}
+use Rattle.product_blocks.specs.block_core.declared.name.Name.TheVariants as name
+use Rattle.product_blocks.specs.block_core.Order.{Reads}
+use Rattle.product_blocks.specs.block_core.Formed.{StatementReads, StatementsRead}
 use Rattle.ring_net.specs.declared.shape.ControlShape.{ControlShape}
 use Rattle.ring_net.specs.declared.names.Counter.{Counter}
 use Rattle.ring_net.specs.declared.names.Counter.TheVariants.{Given, Answered, Injected, Gathered}

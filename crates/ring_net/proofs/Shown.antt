@@ -6,9 +6,9 @@ use Rattle.net_core.specs.declared.tree.Word.{Word}
 use Rattle.net_core.specs.declared.tree.Op.{Op}
 use Rattle.net_core.specs.declared.tree.Op.TheVariants.{And, Or, Equal, NotEqual}
 use Rattle.net_core.specs.Value.{word, bit, nothing, apply, Env, value}
-use Rattle.block_core.specs.declared.name.Name.{Name}
-use Rattle.block_core.specs.declared.name.Name.TheVariants as name
-use Rattle.block_core.specs.Parts.{Solve}
+use Rattle.product_blocks.specs.block_core.declared.name.Name.{Name}
+use Rattle.product_blocks.specs.block_core.declared.name.Name.TheVariants as name
+use Rattle.product_blocks.specs.block_core.Parts.{Solve}
 use Rattle.ring_net.specs.declared.shape.ControlShape.{ControlShape}
 use Rattle.ring_net.specs.declared.names.Counter.{Counter}
 use Rattle.ring_net.specs.declared.names.Counter.TheVariants.{Given, Answered, Injected, Gathered}

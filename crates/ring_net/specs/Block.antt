@@ -8,12 +8,12 @@ use Rattle.net_core.specs.Ports.{port_list}
 use Rattle.net_core.specs.Value.{word, bit, nothing, Env}
 use Rattle.net_core.specs.Clock.{Stored, done}
 use Rattle.block_forms.specs.design_rules.FormedSyntax.{statement_spelled}
-use Rattle.block_core.specs.declared.name.Name.{Name}
-use Rattle.block_core.specs.declared.name.Name.TheVariants as name
-use Rattle.block_core.specs.Blocks.{BlockTree, BlockWireTree, registers_of, memories_of, wires_of, first_of, Whole}
-use Rattle.block_core.specs.Parts.{Solve, Goes, Within}
-use Rattle.block_core.specs.Order.{RightReads}
-use Rattle.block_core.specs.Formed.{block_registers, block_wires, name_width, IsTypedBlock, StatementReads}
+use Rattle.product_blocks.specs.block_core.declared.name.Name.{Name}
+use Rattle.product_blocks.specs.block_core.declared.name.Name.TheVariants as name
+use Rattle.product_blocks.specs.block_core.Blocks.{BlockTree, BlockWireTree, registers_of, memories_of, wires_of, first_of, Whole}
+use Rattle.product_blocks.specs.block_core.Parts.{Solve, Goes, Within}
+use Rattle.product_blocks.specs.block_core.Order.{RightReads}
+use Rattle.product_blocks.specs.block_core.Formed.{block_registers, block_wires, name_width, IsTypedBlock, StatementReads}
 use Rattle.block_forms.specs.WellFormed.{wire_spelled}
 use Rattle.product_blocks.specs.Alone.{IsFree}
 use Rattle.ring_net.specs.declared.shape.ControlShape.{ControlShape}

@@ -1,7 +1,7 @@
 -- The nets of control by their numbers.
 use Rattle.std.specs.Prelude.{ℕ, ◌+◌, ◌*◌}
-use Rattle.block_core.specs.declared.name.Name.{Name}
-use Rattle.block_core.specs.declared.name.Name.TheVariants as name
+use Rattle.product_blocks.specs.block_core.declared.name.Name.{Name}
+use Rattle.product_blocks.specs.block_core.declared.name.Name.TheVariants as name
 use Rattle.ring_net.specs.declared.names.Counter.{Counter}
 use Rattle.ring_net.specs.declared.names.Counter.TheVariants.{Given, Answered, Injected, Gathered}
 use Rattle.ring_net.specs.declared.names.Register.{Register}

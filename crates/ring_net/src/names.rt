@@ -3,7 +3,7 @@
 ghost use Rattle.std.specs.Prelude.{◌≡◌, ◌<◌, ◌^◌};
 ghost use Rattle.ring_net.specs.Names as names;
 
-use block_core::name::Name;
+use product_blocks::block_core::name::Name;
 
 /// The frames that are counted.
 #[derive(Clone, Copy, PartialEq, Eq, Debug)]

@@ -11,10 +11,10 @@ use Rattle.cell_nets.specs.product_blocks.Apart.{is_marked, AreMarked}
 use Rattle.cell_nets.specs.product_blocks.Alone.{wire_flat, IsApartAlone}
 use Rattle.cell_nets.proofs.product_blocks.FreeLaws.{all_marked}
 use Rattle.cell_nets.proofs.product_blocks.CleanLaws.{marked_behind}
-use Rattle.cell_core.specs.declared.operator.Operator.{Operator}
-use Rattle.cell_core.specs.declared.operator.Operator.TheVariants.{Quotient, Remainder}
-use Rattle.cell_core.specs.Cells.{CellView, cell_at}
-use Rattle.cell_core.specs.Formed.{divides, takes}
+use Rattle.row_plan.specs.cell_core.declared.operator.Operator.{Operator}
+use Rattle.row_plan.specs.cell_core.declared.operator.Operator.TheVariants.{Quotient, Remainder}
+use Rattle.row_plan.specs.cell_core.Cells.{CellView, cell_at}
+use Rattle.row_plan.specs.cell_core.Formed.{divides, takes}
 use Rattle.cell_nets.specs.declared.operand.Operand.{Operand}
 use Rattle.cell_nets.specs.Apart.{IsClean, Agrees, StayApart}
 use Rattle.cell_nets.specs.Computing.{makes_product, taken}

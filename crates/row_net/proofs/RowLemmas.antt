@@ -6,11 +6,11 @@ use Rattle.std.proofs.lemmas.List.{get_or-set_same, get_or-set_other, length-set
 use Rattle.std.proofs.lemmas.List.Elements.{All-nil, All-cons, All-head, All-tail, All-append, All-contains, Contains-append_left, Contains-append_right}
 use Rattle.std.proofs.Math.Seq.{take-suc}
 use Rattle.cell_nets.specs.net_core.Value.{Env}
-use Rattle.cell_core.specs.xdp_machine.State.{PacketIn}
+use Rattle.row_plan.specs.cell_core.xdp_machine.State.{PacketIn}
 use Rattle.block_core.specs.declared.name.Name.{Name}
 use Rattle.block_core.specs.Blocks.{BlockWireTree}
-use Rattle.cell_core.specs.Cells.{CellView, cell_at, number, value, bits_from}
-use Rattle.cell_core.specs.Formed.{IsFormed, divides}
+use Rattle.row_plan.specs.cell_core.Cells.{CellView, cell_at, number, value, bits_from}
+use Rattle.row_plan.specs.cell_core.Formed.{IsFormed, divides}
 use Rattle.cell_nets.specs.declared.operand.Operand.{Operand}
 use Rattle.cell_nets.specs.Computing.{makes_product, taken, HasDivisor}
 use Rattle.cell_nets.specs.Operands.{number_in, IsOperand, IsAvailable}

@@ -3,7 +3,7 @@ use Rattle.std.specs.Prelude.{◌≡◌, ℕ, Bool, true, false, ◌||◌, Optio
 use Rattle.block_core.specs.declared.name.Name.{Name}
 use Rattle.block_core.specs.Blocks.{BlockWireTree}
 use Rattle.cell_nets.specs.product_blocks.Apart.{is_marked, AreMarked}
-use Rattle.cell_core.specs.Cells.{CellView, cell_at}
+use Rattle.row_plan.specs.cell_core.Cells.{CellView, cell_at}
 use Rattle.cell_nets.specs.declared.operand.Operand.{Operand}
 use Rattle.cell_nets.specs.Computing.{makes_product, taken}
 use Rattle.cell_nets.specs.Apart.{IsClean, Agrees}

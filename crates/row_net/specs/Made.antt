@@ -5,9 +5,9 @@ use Rattle.cell_nets.specs.net_core.Value.{Env}
 use Rattle.block_core.specs.declared.name.Name.{Name}
 use Rattle.block_core.specs.Blocks.{BlockWireTree}
 use Rattle.block_core.specs.Parts.{Solve}
-use Rattle.cell_core.specs.xdp_machine.State.{PacketIn}
-use Rattle.cell_core.specs.Cells.{CellView, cell_at, value}
-use Rattle.cell_core.specs.Formed.{divides}
+use Rattle.row_plan.specs.cell_core.xdp_machine.State.{PacketIn}
+use Rattle.row_plan.specs.cell_core.Cells.{CellView, cell_at, value}
+use Rattle.row_plan.specs.cell_core.Formed.{divides}
 use Rattle.cell_nets.specs.declared.operand.Operand.{Operand}
 use Rattle.cell_nets.specs.Computing.{is_outside}
 use Rattle.cell_nets.specs.Operands.{AreFit, IsAvailable}

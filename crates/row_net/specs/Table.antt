@@ -2,10 +2,10 @@
 use Rattle.std.specs.Prelude.{◌≡◌, ℕ, ◌^◌, ◌<◌, ◌==◌, Bool, true, false, ◌||◌, Option, Some, None, IsSome, List, length, slice_index}
 use Rattle.std.proofs.Common.{get_or}
 use Rattle.cell_nets.specs.net_core.Value.{Env}
-use Rattle.cell_core.specs.xdp_machine.State.{PacketIn}
-use Rattle.cell_core.specs.declared.operator.Operator.{Operator}
-use Rattle.cell_core.specs.declared.operator.Operator.TheVariants.{Constant}
-use Rattle.cell_core.specs.Cells.{CellView, cell_at, value}
+use Rattle.row_plan.specs.cell_core.xdp_machine.State.{PacketIn}
+use Rattle.row_plan.specs.cell_core.declared.operator.Operator.{Operator}
+use Rattle.row_plan.specs.cell_core.declared.operator.Operator.TheVariants.{Constant}
+use Rattle.row_plan.specs.cell_core.Cells.{CellView, cell_at, value}
 use Rattle.cell_nets.specs.declared.operand.Operand.{Operand}
 use Rattle.cell_nets.specs.declared.operand.Operand.TheVariants.{Known}
 use Rattle.cell_nets.specs.Operands.{number_in, IsOperand, IsAvailable}

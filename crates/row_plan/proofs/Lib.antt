@@ -1,3 +1,4 @@
+pub use Rattle.cell_core.proofs as cell_core_laws
 pub mod KeepingLemmas
 pub mod RefusalLemmas
 pub mod RowLemmas

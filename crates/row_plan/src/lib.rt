@@ -6,3 +6,6 @@ mod row_plan;
 mod rows;
 
 pub use row_plan::{RowPlan, plan};
+
+// Crates above name these through this one.
+pub use cell_core;

@@ -1,30 +1,30 @@
--- Two designs that do the same go through the same clocks.
-use Rattle.std.specs.Prelude.{◌≡◌, List, [], ◌∷◌}
-use Rattle.std.proofs.Common.{refl, ap}
+-- Two designs that show the same go through the same clocks.
+use Rattle.std.specs.Prelude.{◌≡◌, List, [], ◌∷◌, ◌++◌}
+use Rattle.std.proofs.Common.{refl, sym, ap, ap₂, ◌∙◌}
 use Rattle.host_history.specs.net_core.declared.ports.Inputs.{Inputs}
 use Rattle.host_history.specs.net_core.Nets.{Netlist}
-use Rattle.host_history.specs.net_core.Clock.{Stored, first_words, first_memories, after}
+use Rattle.host_history.specs.net_core.Clock.{Stored, first_stored, after}
 use Rattle.host_history.specs.net_core.Ports.{words_of, outputs_at}
-use Rattle.host_history.specs.net_core.History.{cycle_of, trace}
-use Rattle.net_optimize.specs.Same.{DoTheSame}
-use Rattle.same_designs.specs.Laws.{SameDesignsBegin, SameDesignsStore, SameDesignsNeverStop}
+use Rattle.host_history.specs.net_core.History.{Cycle, cycle_of, trace, stored_after}
+use Rattle.same_clocks.specs.Same.{reached, ShowTheSame}
+use Rattle.same_clocks.proofs.SameLaws.{reached_next}
+use Rattle.same_designs.specs.Laws.{SameDesignsGoOn}
 
-pub same_designs_begin : SameDesignsBegin
-same_designs_begin a b same = ap (λ ds. record { registers = first_words ds; memories = first_memories ds }) same.declared
+pub same_cycle : (a b : Netlist) → ShowTheSame a b → (before : List Inputs) (i : Inputs) → cycle_of b (reached b before) i ≡ cycle_of a (reached a before) i
+same_cycle a b same before i = λ k. record { given = i; shown = outputs_at (λ port. (same.shows before i port k).value) }
 
-pub same_cycle : (a b : Netlist) → DoTheSame a b → (s : Stored) (i : Inputs) → cycle_of b s i ≡ cycle_of a s i
-same_cycle a b same s i = λ k. record { given = i; shown = outputs_at (λ port. (same.shows (words_of i) s port k).value) }
+pub same_designs_go_on : SameDesignsGoOn
+same_designs_go_on a b same before [] = refl
+same_designs_go_on a b same before (i ∷ is) =
+    ap₂ (λ (m : Cycle) (ms : List Cycle). m ∷ ms) (same_cycle a b same before i)
+    (ap (λ (s : Stored). trace b s is) (sym (reached_next b (first_stored b) before i))
+    ∙ same_designs_go_on a b same (before ++ i ∷ []) is
+    ∙ ap (λ (s : Stored). trace a s is) (reached_next a (first_stored a) before i))
 
-pub same_trace : (a b : Netlist) → DoTheSame a b → (s : Stored) (is : List Inputs) → trace b s is ≡ trace a s is
-same_trace a b same s [] = refl
-same_trace a b same s (i ∷ is) =
-    rw (same_cycle a b same s i, same.stores (words_of i) s) (ap (λ ms. cycle_of a s i ∷ ms) (same_trace a b same (after a (words_of i) s) is))
-
-pub same_designs_store : SameDesignsStore
-same_designs_store a b same s [] = refl
-same_designs_store a b same s (i ∷ is) = rw (same.stores (words_of i) s) (same_designs_store a b same (after a (words_of i) s) is)
-
-pub same_designs_never_stop : SameDesignsNeverStop
-same_designs_never_stop a b same s [] never = tt
-same_designs_never_stop a b same s (i ∷ is) never =
-    (same.goes (words_of i) s never.0, rw (same.stores (words_of i) s) (same_designs_never_stop a b same (after a (words_of i) s) is never.1))
+-- what is stored behind more clocks
+pub behind : (d : Netlist) (before is : List Inputs) → stored_after d (reached d before) is ≡ reached d (before ++ is)
+behind d before is = from (first_stored d) before
+  where
+    from : (s : Stored) (xs : List Inputs) → stored_after d (stored_after d s xs) is ≡ stored_after d s (xs ++ is)
+    from s [] = refl
+    from s (x ∷ xs) = from (after d (words_of x) s) xs

@@ -1,1 +1,2 @@
+pub use Rattle.same_clocks.specs as same_clocks
 pub mod Laws

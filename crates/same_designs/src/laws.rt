@@ -1,20 +1,15 @@
-//! What holds of every two designs that do the same. Each function's contract is a law; it computes nothing.
+//! What holds of every two designs that show the same. Each function's contract is a law; it computes nothing.
 //!
 //! `SameDesignsMeet` of `specs/Laws`, which speaks of all that may be wanted, is no contract: it stands in `proofs/MeetLaws`.
 
-ghost use Rattle.same_designs.specs.Laws.{SameDesignsBegin, SameDesignsStore, SameDesignsNeverStop};
+ghost use Rattle.same_designs.specs.Laws.{SameDesignsGoOn, SameDesignsShowMaps};
 
-/// Both begin with the same stored values.
-pub fn same_designs_begin()
-    ensures { SameDesignsBegin }
+/// Behind the same clocks both go through the same clocks.
+pub fn same_designs_go_on()
+    ensures { SameDesignsGoOn }
 {}
 
-/// Both store the same after the same clocks.
-pub fn same_designs_store()
-    ensures { SameDesignsStore }
-{}
-
-/// Where no divisor of the first one is zero, none of the second one is.
-pub fn same_designs_never_stop()
-    ensures { SameDesignsNeverStop }
+/// Behind the same clocks both show the host the same maps.
+pub fn same_designs_show_maps()
+    ensures { SameDesignsShowMaps }
 {}

@@ -2,8 +2,8 @@
 //! entries as numbers.
 #![tactic(auto)]
 
-use cell_core::site::Act;
 use cell_nets::operand::Operand;
+use hazard_core::cell_core::site::Act;
 
 /// What stands for the cells of a site: its guard, the words of its key, its operands, the cell that says whether its key is there, by the
 /// number of its pointer, the cell of what it answers, and of an access the number of the pointer that it goes through. For a cell that
@@ -27,3 +27,6 @@ pub struct Pending<'a, N> {
     pub writes: Operand<N>,
     pub written: Operand<N>,
 }
+
+// Crates above name these through this one.
+pub use cell_nets;

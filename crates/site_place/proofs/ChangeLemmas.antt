@@ -4,8 +4,8 @@ use Rattle.std.proofs.Common.{get_or, refl, sym, ap, ◌∙◌, subst, arith, in
 use Rattle.std.proofs.lemmas.Bool.{cases_eq, eqb-true, eqb-false}
 use Rattle.std.proofs.lemmas.List.{get_or-set_same, get_or-set_other, get_or_push, get_or_append_left}
 use Rattle.std.proofs.lemmas.List.Elements.{All-nil, All-cons, All-head, All-tail}
-use Rattle.cell_nets.specs.declared.operand.Operand.{Operand}
-use Rattle.row_net.specs.Table.{Stands, IsIn}
+use Rattle.site_operands.specs.cell_nets.declared.operand.Operand.{Operand}
+use Rattle.place_net.specs.row_net.Table.{Stands, IsIn}
 
 module _ {N : Type 0} (table : List (Option (Operand N))) (k : ℕ) (a : Operand N) (inside : k < length table) where
   abbrev changed : List (Option (Operand N))

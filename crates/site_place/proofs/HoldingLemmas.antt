@@ -12,8 +12,8 @@ use Rattle.net_core.specs.Ports.{port_list}
 use Rattle.net_core.specs.Value.{word, bit, nothing, Env, value}
 use Rattle.net_core.specs.Clock.{Stored, done}
 use Rattle.net_core.specs.Width.{Scope, width_of, statement_typed}
-use Rattle.cell_nets.specs.design_rules.FormedSyntax.{depth, prefixes_apart, statement_spelled}
-use Rattle.cell_nets.specs.product_rules.Products.{is_flat, statement_flat}
+use Rattle.site_operands.specs.cell_nets.design_rules.FormedSyntax.{depth, prefixes_apart, statement_spelled}
+use Rattle.site_operands.specs.cell_nets.product_rules.Products.{is_flat, statement_flat}
 use Rattle.block_core.specs.declared.name.Name.{Name}
 use Rattle.block_core.specs.declared.name.Name.TheVariants as name
 use Rattle.block_core.specs.Blocks.{BlockTree, BlockWireTree, Whole, Among}
@@ -21,12 +21,12 @@ use Rattle.block_core.specs.Parts.{Solve, Within}
 use Rattle.block_core.specs.Order.{Reads}
 use Rattle.block_core.specs.Formed.{names_scope, block_wire_width, block_wires, word_width, words_fit, IsTypedBlock, StatementReads, IsThere}
 use Rattle.cell_core.specs.Cells.{bits_from}
-use Rattle.cell_nets.specs.declared.operand.Operand.{Operand}
-use Rattle.cell_nets.specs.declared.operand.Operand.TheVariants.{Known, Net, Part}
-use Rattle.cell_nets.specs.Operands.{IsOperand, HasWidth, AreFit, IsDeclared, AreDeclared, HasNet, IsAvailable, IsNetOf}
-use Rattle.cell_nets.specs.Parts.{part_tree}
-use Rattle.cell_nets.specs.Wires.{own, behind, HasBits, AreWires}
-use Rattle.cell_nets.proofs.PartLaws.{part_slice, part_small}
+use Rattle.site_operands.specs.cell_nets.declared.operand.Operand.{Operand}
+use Rattle.site_operands.specs.cell_nets.declared.operand.Operand.TheVariants.{Known, Net, Part}
+use Rattle.site_operands.specs.cell_nets.Operands.{IsOperand, HasWidth, AreFit, IsDeclared, AreDeclared, HasNet, IsAvailable, IsNetOf}
+use Rattle.site_operands.specs.cell_nets.Parts.{part_tree}
+use Rattle.site_operands.specs.cell_nets.Wires.{own, behind, HasBits, AreWires}
+use Rattle.site_operands.proofs.cell_nets_laws.PartLaws.{part_slice, part_small}
 use Rattle.place_net.proofs.frame_net.FormLaws.{and_is, one_is}
 use Rattle.place_net.specs.Place.{HasSize}
 use Rattle.place_net.specs.PlaceNets.{tree_for, set_statement}

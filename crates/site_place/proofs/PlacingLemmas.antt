@@ -13,12 +13,12 @@ use Rattle.cell_core.specs.View.{cell_of}
 use Rattle.cell_core.specs.Cells.{CellView, no_cell}
 use Rattle.cell_core.specs.Formed.{AreFormed}
 use Rattle.site_operands.specs.hazard_core.declared.pointer.Pointer.{Pointer}
-use Rattle.cell_nets.specs.declared.operand.Operand.{Operand}
-use Rattle.cell_nets.specs.declared.operand.Operand.TheVariants.{Net}
-use Rattle.cell_nets.specs.Operands.{IsOperand, IsWide}
-use Rattle.cell_nets.specs.Wires.{behind, AreWires}
-use Rattle.row_net.specs.Table.{IsIn, IsTable, AreThere, Holds}
-use Rattle.row_net.specs.Made.{IsRow}
+use Rattle.site_operands.specs.cell_nets.declared.operand.Operand.{Operand}
+use Rattle.site_operands.specs.cell_nets.declared.operand.Operand.TheVariants.{Net}
+use Rattle.site_operands.specs.cell_nets.Operands.{IsOperand, IsWide}
+use Rattle.site_operands.specs.cell_nets.Wires.{behind, AreWires}
+use Rattle.place_net.specs.row_net.Table.{IsIn, IsTable, AreThere, Holds}
+use Rattle.place_net.specs.row_net.Made.{IsRow}
 use Rattle.place_net.specs.Place.{width_at, widths_of, words_of}
 use Rattle.site_place.specs.Pointing.{IsPointers, HoldsPointers}
 use Rattle.site_place.specs.PointerNets.{BothThere, IsPointerRow}

@@ -7,28 +7,28 @@ use Rattle.std.proofs.lemmas.List.Elements.{All-nil, All-append, All-contains}
 use Rattle.std.proofs.Math.Seq.{take-suc}
 use Rattle.net_core.specs.Value.{Env}
 use Rattle.cell_core.specs.xdp_machine.State.{PacketIn}
-use Rattle.cell_nets.specs.product_blocks.Apart.{is_marked, AreMarked}
-use Rattle.cell_nets.proofs.product_blocks.FreeLaws.{all_marked}
-use Rattle.cell_nets.proofs.product_blocks.CleanLaws.{marked_behind}
+use Rattle.site_operands.specs.cell_nets.product_blocks.Apart.{is_marked, AreMarked}
+use Rattle.site_operands.proofs.cell_nets_laws.product_blocks.FreeLaws.{all_marked}
+use Rattle.site_operands.proofs.cell_nets_laws.product_blocks.CleanLaws.{marked_behind}
 use Rattle.block_core.specs.declared.name.Name.{Name}
 use Rattle.block_core.specs.Blocks.{BlockWireTree}
 use Rattle.cell_core.specs.declared.operator.Operator.{Operator}
 use Rattle.cell_core.specs.declared.operator.Operator.TheVariants.{Wire, Phi}
 use Rattle.cell_core.specs.Cells.{CellView, cell_at, on, phi}
 use Rattle.site_operands.specs.hazard_core.declared.pointer.Pointer.{Pointer}
-use Rattle.cell_nets.specs.declared.operand.Operand.{Operand}
-use Rattle.cell_nets.specs.declared.operand.Operand.TheVariants.{Known, Net, Part}
-use Rattle.cell_nets.specs.Operands.{number_in, IsOperand, IsFit, AreFit, IsAvailable}
-use Rattle.cell_nets.specs.Parts.{worth}
-use Rattle.cell_nets.specs.Apart.{Agrees, StayApart}
-use Rattle.cell_nets.specs.Wires.{behind, always, HasBits, Gives}
-use Rattle.cell_nets.proofs.ApartLemmas.{agrees_split, free_marked}
-use Rattle.cell_nets.proofs.ChoiceLemmas.{fit_of}
-use Rattle.cell_nets.proofs.SliceLemmas.{whole_bits}
-use Rattle.cell_nets.proofs.PartLaws.{part_small}
+use Rattle.site_operands.specs.cell_nets.declared.operand.Operand.{Operand}
+use Rattle.site_operands.specs.cell_nets.declared.operand.Operand.TheVariants.{Known, Net, Part}
+use Rattle.site_operands.specs.cell_nets.Operands.{number_in, IsOperand, IsFit, AreFit, IsAvailable}
+use Rattle.site_operands.specs.cell_nets.Parts.{worth}
+use Rattle.site_operands.specs.cell_nets.Apart.{Agrees, StayApart}
+use Rattle.site_operands.specs.cell_nets.Wires.{behind, always, HasBits, Gives}
+use Rattle.site_operands.proofs.cell_nets_laws.ApartLemmas.{agrees_split, free_marked}
+use Rattle.site_operands.proofs.cell_nets_laws.ChoiceLemmas.{fit_of}
+use Rattle.site_operands.proofs.cell_nets_laws.SliceLemmas.{whole_bits}
+use Rattle.site_operands.proofs.cell_nets_laws.PartLaws.{part_small}
 use Rattle.site_operands.specs.Pointers.{pointer_number}
-use Rattle.row_net.specs.Table.{Stands, IsIn, AreThere, Holds}
-use Rattle.row_net.specs.Apart.{KeepApart}
+use Rattle.place_net.specs.row_net.Table.{Stands, IsIn, AreThere, Holds}
+use Rattle.place_net.specs.row_net.Apart.{KeepApart}
 use Rattle.site_place.specs.Pointing.{joined_pointer, made_pointer, IsPointers, HoldsPointers, is_edge, HoldsOf, Takes, ArePointed}
 use Rattle.site_place.specs.PointerNets.{AreChoices, BothThere, AddWires, GivesPointer, IsPointerRow}
 use Rattle.site_place.proofs.ChangeLemmas.{at_place, of_changed, still_in, both_all}

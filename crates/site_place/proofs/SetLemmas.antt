@@ -10,8 +10,8 @@ use Rattle.net_core.specs.Chains.{statements_before}
 use Rattle.net_core.specs.Value.{Env, value}
 use Rattle.net_core.specs.Clock.{Stored, done, all_done}
 use Rattle.net_core.specs.Width.{Scope, width_of, same, statements_typed}
-use Rattle.cell_nets.specs.design_rules.FormedSyntax.{tree_spelled, statement_spelled, statements_depth, all_placed, all_trees_pass}
-use Rattle.cell_nets.specs.product_rules.Products.{is_flat, statements_flat}
+use Rattle.site_operands.specs.cell_nets.design_rules.FormedSyntax.{tree_spelled, statement_spelled, statements_depth, all_placed, all_trees_pass}
+use Rattle.site_operands.specs.cell_nets.product_rules.Products.{is_flat, statements_flat}
 use Rattle.block_core.specs.Parts.{AllWithin}
 use Rattle.block_core.specs.Order.{Reads}
 use Rattle.block_core.specs.Formed.{StatementsRead}

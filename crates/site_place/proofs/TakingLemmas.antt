@@ -7,12 +7,12 @@ use Rattle.std.proofs.Math.Seq.{take-suc}
 use Rattle.block_core.specs.declared.name.Name.{Name}
 use Rattle.block_core.specs.declared.name.Name.TheVariants as name
 use Rattle.cell_core.specs.Cells.{CellView}
-use Rattle.cell_nets.specs.declared.operand.Operand.{Operand}
-use Rattle.cell_nets.specs.declared.operand.Operand.TheVariants.{Net}
-use Rattle.cell_nets.specs.Operands.{number_in, IsOperand, IsWide, IsAvailable}
-use Rattle.cell_nets.specs.Wires.{HasBits}
+use Rattle.site_operands.specs.cell_nets.declared.operand.Operand.{Operand}
+use Rattle.site_operands.specs.cell_nets.declared.operand.Operand.TheVariants.{Net}
+use Rattle.site_operands.specs.cell_nets.Operands.{number_in, IsOperand, IsWide, IsAvailable}
+use Rattle.site_operands.specs.cell_nets.Wires.{HasBits}
 use Rattle.site_operands.specs.Pointers.{pointer_number}
-use Rattle.row_net.specs.Table.{IsIn}
+use Rattle.place_net.specs.row_net.Table.{IsIn}
 use Rattle.site_place.specs.Pointing.{IsPointers}
 use Rattle.site_place.specs.SitePlace.{pointer_registers, AreTaken}
 use Rattle.site_place.proofs.ChangeLemmas.{at_place, of_changed, still_in}

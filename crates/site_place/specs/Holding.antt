@@ -3,7 +3,7 @@ use Rattle.std.specs.Prelude.{◌≡◌, ℕ, false}
 use Rattle.cell_core.specs.declared.operator.Operator.{Operator}
 use Rattle.cell_core.specs.Cells.{CellView}
 use Rattle.cell_core.specs.Sites.{ProgramView}
-use Rattle.cell_nets.specs.Computing.{is_outside}
+use Rattle.site_operands.specs.cell_nets.Computing.{is_outside}
 use Rattle.site_operands.specs.hazard_core.Tables.{TableState}
 use Rattle.site_operands.specs.hazard_core.Held.{Held, held_value, pointer_in}
 use Rattle.site_operands.specs.hazard_core.Rows.{cell_pointer}

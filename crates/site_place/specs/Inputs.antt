@@ -5,9 +5,9 @@ use Rattle.net_core.specs.declared.tree.Word.{Word}
 use Rattle.net_core.specs.Nets.{Tree, TRead, StatementTree, SIf}
 use Rattle.net_core.specs.Value.{word, nothing, Env}
 use Rattle.net_core.specs.Clock.{Stored}
-use Rattle.cell_nets.specs.declared.operand.Operand.{Operand}
-use Rattle.cell_nets.specs.Operands.{number_in, IsOperand, IsAvailable}
-use Rattle.cell_nets.specs.Wires.{HasBits}
+use Rattle.site_operands.specs.cell_nets.declared.operand.Operand.{Operand}
+use Rattle.site_operands.specs.cell_nets.Operands.{number_in, IsOperand, IsAvailable}
+use Rattle.site_operands.specs.cell_nets.Wires.{HasBits}
 use Rattle.cell_core.specs.Cells.{CellView}
 use Rattle.place_net.specs.Place.{width_at, HasSize}
 use Rattle.place_net.specs.PlaceNets.{tree_for, set_statement}

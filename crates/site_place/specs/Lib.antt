@@ -1,5 +1,5 @@
 pub use Rattle.place_net.specs as place_net
-pub use Rattle.row_net.specs as row_net
+pub use Rattle.place_net.specs.row_net as row_net
 pub mod Pointing
 pub mod PointerNets
 pub mod Inputs

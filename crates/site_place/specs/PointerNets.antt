@@ -8,11 +8,11 @@ use Rattle.block_core.specs.Parts.{Solve}
 use Rattle.cell_core.specs.declared.operator.Operator.{Operator}
 use Rattle.cell_core.specs.Cells.{CellView}
 use Rattle.site_operands.specs.hazard_core.declared.pointer.Pointer.{Pointer}
-use Rattle.cell_nets.specs.declared.operand.Operand.{Operand}
-use Rattle.cell_nets.specs.Operands.{number_in, IsOperand, AreFit, IsAvailable}
-use Rattle.cell_nets.specs.Wires.{behind, AreWires, HasBits}
-use Rattle.row_net.specs.Table.{Stands, IsIn, AreThere, Holds}
-use Rattle.row_net.specs.Apart.{KeepApart}
+use Rattle.site_operands.specs.cell_nets.declared.operand.Operand.{Operand}
+use Rattle.site_operands.specs.cell_nets.Operands.{number_in, IsOperand, AreFit, IsAvailable}
+use Rattle.site_operands.specs.cell_nets.Wires.{behind, AreWires, HasBits}
+use Rattle.place_net.specs.row_net.Table.{Stands, IsIn, AreThere, Holds}
+use Rattle.place_net.specs.row_net.Apart.{KeepApart}
 use Rattle.site_operands.specs.Pointers.{pointer_number}
 use Rattle.site_place.specs.Pointing.{made_pointer, PointersAre, IsPointers, HoldsPointers, is_edge, HoldsOf}
 

@@ -7,11 +7,11 @@ use Rattle.cell_core.specs.declared.operator.Operator.TheVariants.{Wire, Phi}
 use Rattle.cell_core.specs.Cells.{CellView, cell_at, on}
 use Rattle.site_operands.specs.hazard_core.declared.pointer.Pointer.{Pointer}
 use Rattle.site_operands.specs.hazard_core.declared.pointer.Pointer.TheVariants.{Null}
-use Rattle.cell_nets.specs.declared.operand.Operand.{Operand}
-use Rattle.cell_nets.specs.Operands.{number_in, IsOperand}
-use Rattle.cell_nets.specs.Wires.{HasBits}
+use Rattle.site_operands.specs.cell_nets.declared.operand.Operand.{Operand}
+use Rattle.site_operands.specs.cell_nets.Operands.{number_in, IsOperand}
+use Rattle.site_operands.specs.cell_nets.Wires.{HasBits}
 use Rattle.site_operands.specs.Pointers.{pointer_number}
-use Rattle.row_net.specs.Table.{Stands, IsIn}
+use Rattle.place_net.specs.row_net.Table.{Stands, IsIn}
 
 -- ---- pointers of cells, from the numbers and the pointers that cells have
 

@@ -7,7 +7,7 @@ use Rattle.net_core.specs.declared.tree.Word.{Word}
 use Rattle.net_core.specs.Ports.{port_list}
 use Rattle.net_core.specs.Value.{word, bit, Env}
 use Rattle.net_core.specs.Clock.{Stored, done}
-use Rattle.cell_nets.specs.design_rules.FormedSyntax.{statement_spelled}
+use Rattle.site_operands.specs.cell_nets.design_rules.FormedSyntax.{statement_spelled}
 use Rattle.block_core.specs.declared.name.Name.{Name}
 use Rattle.block_core.specs.declared.name.Name.TheVariants as name
 use Rattle.block_core.specs.Blocks.{BlockTree, registers_of, memories_of, first_of, Whole, Among}
@@ -16,13 +16,13 @@ use Rattle.block_core.specs.Order.{IsBefore, InOrder}
 use Rattle.block_core.specs.Formed.{names_scope, block_registers, IsTypedBlock, StatementReads, IsThere}
 use Rattle.cell_core.specs.Cells.{CellView}
 use Rattle.site_operands.specs.hazard_core.declared.pointer.Pointer.{Pointer}
-use Rattle.cell_nets.specs.declared.operand.Operand.{Operand}
-use Rattle.cell_nets.specs.declared.operand.Operand.TheVariants.{Net}
-use Rattle.cell_nets.specs.Operands.{AreFit, AreDeclared, IsAvailable, IsNetOf}
-use Rattle.cell_nets.specs.Wires.{is_spelled}
+use Rattle.site_operands.specs.cell_nets.declared.operand.Operand.{Operand}
+use Rattle.site_operands.specs.cell_nets.declared.operand.Operand.TheVariants.{Net}
+use Rattle.site_operands.specs.cell_nets.Operands.{AreFit, AreDeclared, IsAvailable, IsNetOf}
+use Rattle.site_operands.specs.cell_nets.Wires.{is_spelled}
 use Rattle.site_operands.specs.Pointers.{pointer_number}
-use Rattle.row_net.specs.Table.{IsIn, AreThere, Holds}
-use Rattle.row_net.specs.Made.{AreValues}
+use Rattle.place_net.specs.row_net.Table.{IsIn, AreThere, Holds}
+use Rattle.place_net.specs.row_net.Made.{AreValues}
 use Rattle.place_net.specs.Place.{widths_of, words_of}
 use Rattle.site_place.specs.Pointing.{PointersAre, IsPointers, HoldsPointers}
 use Rattle.site_place.specs.Inputs.{HasWidths}

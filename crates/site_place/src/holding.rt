@@ -2,15 +2,15 @@
 
 ghost use Rattle.std.specs.Prelude.{ℕ, ◌≡◌, ◌<◌, List, All, Option, Some, IfOk, map as map_list};
 ghost use Rattle.net_core.specs.View.{tree_of, statement_of};
-ghost use Rattle.cell_nets.specs.declared.operand.Operand.{Operand};
-ghost use Rattle.cell_nets.specs.Operands.{IsOperand};
+ghost use Rattle.site_operands.specs.cell_nets.declared.operand.Operand.{Operand};
+ghost use Rattle.site_operands.specs.cell_nets.Operands.{IsOperand};
 ghost use Rattle.place_net.specs.PlaceNets.{tree_for, set_statement};
 ghost use Rattle.site_place.specs.Inputs.{first_word, input_tree, held_statement};
 
-use cell_nets::operand::Operand;
-use cell_nets::slice::inside;
 use net_core::build::{block, constant, then, when};
 use net_core::tree::{Expr, Stmt, Stmts, Word};
+use site_operands::cell_nets::operand::Operand;
+use site_operands::cell_nets::slice::inside;
 use std::alloc::{AllocError, Global};
 
 /// What a register of so many bits takes, 0 where there is none.

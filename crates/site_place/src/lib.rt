@@ -6,3 +6,7 @@ pub mod laws;
 pub mod placing;
 pub mod pointing;
 pub mod taking;
+
+// Crates above name these through this one.
+pub use place_net;
+pub use place_net::row_net;

@@ -2,19 +2,19 @@
 
 ghost use Rattle.std.specs.Prelude.{ℕ, Bool, ◌≡◌, ◌<◌, ◌⊎◌, List, All, Contains, IfOk, length, map as map_list};
 ghost use Rattle.net_core.specs.Value.{Env};
-ghost use Rattle.cell_nets.specs.product_blocks.Alone.{IsApartAlone};
+ghost use Rattle.site_operands.specs.cell_nets.product_blocks.Alone.{IsApartAlone};
 ghost use Rattle.block_core.specs.declared.name.Name.{Name};
 ghost use Rattle.block_core.specs.Parts.{Solve};
 ghost use Rattle.block_core.specs.View.{block_of};
 ghost use Rattle.cell_core.specs.Formed.{AreFormed};
 ghost use Rattle.cell_core.specs.View.{cell_of};
-ghost use Rattle.cell_nets.specs.declared.operand.Operand.{Operand};
-ghost use Rattle.cell_nets.specs.declared.operand.Operand.TheVariants.{Net};
-ghost use Rattle.cell_nets.specs.Operands.{IsWide};
-ghost use Rattle.cell_nets.specs.Wires.{behind, wires_of, AreWires};
-ghost use Rattle.row_net.specs.Table.{IsIn, IsTable, AreThere};
-ghost use Rattle.row_net.specs.Made.{IsReady};
-ghost use Rattle.row_net.specs.Apart.{TakeClean, KeepApart};
+ghost use Rattle.site_operands.specs.cell_nets.declared.operand.Operand.{Operand};
+ghost use Rattle.site_operands.specs.cell_nets.declared.operand.Operand.TheVariants.{Net};
+ghost use Rattle.site_operands.specs.cell_nets.Operands.{IsWide};
+ghost use Rattle.site_operands.specs.cell_nets.Wires.{behind, wires_of, AreWires};
+ghost use Rattle.place_net.specs.row_net.Table.{IsIn, IsTable, AreThere};
+ghost use Rattle.place_net.specs.row_net.Made.{IsReady};
+ghost use Rattle.place_net.specs.row_net.Apart.{TakeClean, KeepApart};
 ghost use Rattle.place_net.specs.Place.{width_at};
 ghost use Rattle.site_place.specs.Pointing.{IsPointers, ArePointed};
 ghost use Rattle.site_place.specs.Inputs.{cell_input, pointer_input};
@@ -25,8 +25,8 @@ use crate::pointing::pointer_nets;
 use block_core::block::{Block, BlockWire};
 use block_core::name::{Name, Part};
 use cell_core::cell::Cell;
-use cell_nets::operand::Operand;
-use row_net::row::row_nets;
+use place_net::row_net::row::row_nets;
+use site_operands::cell_nets::operand::Operand;
 use std::alloc::{AllocError, Global};
 
 // How many bits a cell has.

@@ -3,10 +3,10 @@
 ghost use Rattle.std.specs.Prelude.{ℕ, Bool, ◌≡◌, ◌≤◌, ◌<◌, List, [], All, length, slice_index, IfOk, map as map_list};
 ghost use Rattle.cell_core.specs.Formed.{AreFormed, takes};
 ghost use Rattle.cell_core.specs.View.{cell_of};
-ghost use Rattle.cell_nets.specs.declared.operand.Operand.{Operand};
-ghost use Rattle.cell_nets.specs.Operands.{IsOperand, IsWide};
-ghost use Rattle.cell_nets.specs.Wires.{wires_of, HasBits};
-ghost use Rattle.row_net.specs.Table.{Stands, IsIn, IsTable};
+ghost use Rattle.site_operands.specs.cell_nets.declared.operand.Operand.{Operand};
+ghost use Rattle.site_operands.specs.cell_nets.Operands.{IsOperand, IsWide};
+ghost use Rattle.site_operands.specs.cell_nets.Wires.{wires_of, HasBits};
+ghost use Rattle.place_net.specs.row_net.Table.{Stands, IsIn, IsTable};
 ghost use Rattle.site_place.specs.Pointing.{IsPointers, HoldsOf, is_edge, Takes, ArePointed};
 ghost use Rattle.site_place.specs.PointerNets.{AreChoices, GivesPointer, IsPointerRow};
 
@@ -14,8 +14,8 @@ use block_core::block::BlockWire;
 use block_core::name::Name;
 use cell_core::cell::Cell;
 use cell_core::operator::Operator;
-use cell_nets::operand::Operand;
-use cell_nets::phi::phi_wires;
+use site_operands::cell_nets::operand::Operand;
+use site_operands::cell_nets::phi::phi_wires;
 use std::alloc::{AllocError, Global};
 
 // What stands for a cell, or for its pointer, in a table that has it.

@@ -2,12 +2,12 @@
 
 ghost use Rattle.std.specs.Prelude.{◌≡◌, ◌+◌, ◌<◌, List, All, length, IfOk};
 ghost use Rattle.cell_core.specs.Cells.{CellView};
-ghost use Rattle.cell_nets.specs.Operands.{IsWide};
+ghost use Rattle.site_operands.specs.cell_nets.Operands.{IsWide};
 ghost use Rattle.site_place.specs.Pointing.{IsPointers};
 ghost use Rattle.site_place.specs.SitePlace.{AreTaken};
 
 use block_core::name::{Name, Part};
-use cell_nets::operand::Operand;
+use site_operands::cell_nets::operand::Operand;
 use std::alloc::AllocError;
 
 // The number of a register behind so many others. Of 2^32 registers a part has no room for more, as where memory is out.

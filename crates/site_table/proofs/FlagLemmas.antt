@@ -11,7 +11,7 @@ use Rattle.cell_core.specs.Formed.{takes, AreFormed}
 use Rattle.cell_core.specs.Rows.{taken_by}
 use Rattle.cell_core.specs.Sites.{ProgramView}
 use Rattle.cell_core.specs.View.{cell_of}
-use Rattle.row_net.specs.Needed.{flag}
+use Rattle.site_place.specs.row_net.Needed.{flag}
 use Rattle.site_table.specs.Parts.{IsPart, Taken, Read, AreParts, is_part}
 use Rattle.site_table.specs.Parts as parts
 use Rattle.site_table.specs.Pointing.{AreFlagged, IsFlagged}

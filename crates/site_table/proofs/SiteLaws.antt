@@ -3,19 +3,19 @@ use Rattle.std.specs.Prelude.{Option}
 use Rattle.std.proofs.Common.{◌≡◌, ◌∙◌, inl, inr, ℕ, zero, suc, ◌<◌, All, Some, None, List, [], ◌∷◌, ◌++◌, length, map as map_list, get_or, refl, sym, ap, subst, arith, slice_index, lit<}
 use Rattle.std.proofs.lemmas.List.Elements.{All-nil, All-cons, All-head, All-tail, All-append}
 use Rattle.std.proofs.lemmas.Nat.{pow_pos}
-use Rattle.cell_nets.specs.net_core.Value.{Env}
+use Rattle.site_operands.specs.cell_nets.net_core.Value.{Env}
 use Rattle.cell_core.specs.Acts.{pointer_operand}
 use Rattle.cell_core.specs.Sites.{ProgramView, site_at}
-use Rattle.cell_nets.specs.declared.operand.Operand.{Operand}
-use Rattle.cell_nets.specs.declared.operand.Operand.TheVariants.{Known, Net, Part}
-use Rattle.cell_nets.specs.Operands.{number_in, IsOperand, IsNarrow, IsAvailable}
-use Rattle.cell_nets.specs.Wires.{HasBits}
+use Rattle.site_operands.specs.cell_nets.declared.operand.Operand.{Operand}
+use Rattle.site_operands.specs.cell_nets.declared.operand.Operand.TheVariants.{Known, Net, Part}
+use Rattle.site_operands.specs.cell_nets.Operands.{number_in, IsOperand, IsNarrow, IsAvailable}
+use Rattle.site_operands.specs.cell_nets.Wires.{HasBits}
 use Rattle.hazard_core.specs.declared.pointer.Pointer.{Pointer}
 use Rattle.hazard_core.specs.declared.pointer.Pointer.TheVariants.{Null}
 use Rattle.hazard_core.specs.Held.{Held, held_value, pointer_in, found_cell, answer_cell}
 use Rattle.site_operands.specs.Pointers.{pointer_number}
 use Rattle.site_operands.specs.Sites.{SiteOperands, all_of, ShowsAsked, ShowsSite}
-use Rattle.row_net.specs.Table.{Stands, Holds}
+use Rattle.site_place.specs.row_net.Table.{Stands, Holds}
 use Rattle.site_place.specs.Pointing.{HoldsPointers}
 use Rattle.site_table.specs.Sites.{or_zero, operand_at, site_operands, HasValue, HasPointer, HasAsked, HasSite, IsSiteOf}
 

@@ -10,13 +10,13 @@ use Rattle.cell_core.specs.Cells.{CellView, cell_at}
 use Rattle.cell_core.specs.Formed.{AreFormed, takes}
 use Rattle.cell_core.specs.Rows.{RowsRise, numbers}
 use Rattle.cell_core.specs.Sites.{ProgramView}
-use Rattle.cell_nets.specs.Computing.{is_outside}
+use Rattle.site_operands.specs.cell_nets.Computing.{is_outside}
 use Rattle.row_plan.specs.Plan.{Plan, IsPlan, Taken, Answered, answer_cells}
-use Rattle.row_net.specs.Needed.{AreNeeded, IsUsed, flag}
-use Rattle.row_net.specs.Needed as needs
-use Rattle.row_net.specs.Lists.{varies, is_made, made_cells, ArePlaced, CellsArePlaced}
-use Rattle.row_net.specs.Table.{is_constant, is_number}
-use Rattle.place_net.specs.Place.{width_at}
+use Rattle.site_place.specs.row_net.Needed.{AreNeeded, IsUsed, flag}
+use Rattle.site_place.specs.row_net.Needed as needs
+use Rattle.site_place.specs.row_net.Lists.{varies, is_made, made_cells, ArePlaced, CellsArePlaced}
+use Rattle.site_place.specs.row_net.Table.{is_constant, is_number}
+use Rattle.site_place.specs.place_net.Place.{width_at}
 use Rattle.site_place.specs.Pointing.{Takes, HoldsOf, is_edge}
 use Rattle.site_table.specs.Lists.{goes_on, is_awaited, stays, is_computed, has_pointer, is_held, is_held_pointer, is_made_pointer, held_cells, held_pointers, made_pointers}
 use Rattle.site_table.specs.Parts.{IsPart, AreParts}

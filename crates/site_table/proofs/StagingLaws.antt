@@ -7,8 +7,8 @@ use Rattle.cell_core.specs.declared.operator.Operator.TheVariants.{Wire, Phi}
 use Rattle.cell_core.specs.Cells.{cell_at}
 use Rattle.cell_core.specs.Sites.{ProgramView}
 use Rattle.row_plan.specs.Plan.{Plan}
-use Rattle.row_net.specs.Lists.{made_cells}
-use Rattle.row_net.specs.Needed.{AreNeeded, flag}
+use Rattle.site_place.specs.row_net.Lists.{made_cells}
+use Rattle.site_place.specs.row_net.Needed.{AreNeeded, flag}
 use Rattle.site_place.specs.Pointing.{Takes, HoldsOf, is_edge}
 use Rattle.site_table.specs.Lists.{held_cells, held_pointers, made_pointers}
 use Rattle.site_table.specs.Staged.{IsStaged, Same, Outside, Before, IsPointed, AreStaged, AreAtHand}

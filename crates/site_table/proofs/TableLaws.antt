@@ -8,8 +8,8 @@ use Rattle.std.proofs.lemmas.List.Sums.{passes_at_first}
 use Rattle.std.proofs.lemmas.Nat.{pow_pos}
 use Rattle.xdp_maps.specs.declared.decl.MapDecl.{MapDecl}
 use Rattle.cell_core.specs.xdp_machine.State.{PacketIn}
-use Rattle.cell_nets.specs.net_core.declared.tree.Word.{Word}
-use Rattle.cell_nets.specs.net_core.Value.{nothing, Env}
+use Rattle.site_operands.specs.cell_nets.net_core.declared.tree.Word.{Word}
+use Rattle.site_operands.specs.cell_nets.net_core.Value.{nothing, Env}
 use Rattle.block_core.specs.declared.name.Name.{Name}
 use Rattle.block_core.specs.declared.name.Name.TheVariants as name
 use Rattle.cell_core.specs.declared.operator.Operator.{Operator}
@@ -17,18 +17,18 @@ use Rattle.cell_core.specs.declared.operator.Operator.TheVariants.{Constant, Fou
 use Rattle.cell_core.specs.Acts.{pointer_operand}
 use Rattle.cell_core.specs.Cells.{CellView, cell_at, no_cell, is_read, number, value, bits_from}
 use Rattle.cell_core.specs.Sites.{SiteView, ProgramView, site_at, no_site}
-use Rattle.cell_nets.specs.declared.operand.Operand.{Operand}
-use Rattle.cell_nets.specs.declared.operand.Operand.TheVariants.{Known}
-use Rattle.cell_nets.specs.Operands.{number_in, IsOperand, IsAvailable}
-use Rattle.cell_nets.specs.Wires.{HasBits}
+use Rattle.site_operands.specs.cell_nets.declared.operand.Operand.{Operand}
+use Rattle.site_operands.specs.cell_nets.declared.operand.Operand.TheVariants.{Known}
+use Rattle.site_operands.specs.cell_nets.Operands.{number_in, IsOperand, IsAvailable}
+use Rattle.site_operands.specs.cell_nets.Wires.{HasBits}
 use Rattle.hazard_core.specs.declared.pointer.Pointer.{Pointer}
 use Rattle.hazard_core.specs.declared.pointer.Pointer.TheVariants.{Null}
 use Rattle.hazard_core.specs.Held.{Held, held_value, pointer_in, found_cell, answer_cell, is_found_of, is_answer_of}
 use Rattle.hazard_core.specs.Keeping.{SameCell, AreAlike}
 use Rattle.row_plan.specs.Plan.{Plan}
-use Rattle.row_net.specs.Needed.{flag}
-use Rattle.row_net.specs.Table.{Stands, IsIn, AreThere, Holds, is_number, is_constant, AreConstants}
-use Rattle.place_net.specs.Place.{words_of, word_in}
+use Rattle.site_place.specs.row_net.Needed.{flag}
+use Rattle.site_place.specs.row_net.Table.{Stands, IsIn, AreThere, Holds, is_number, is_constant, AreConstants}
+use Rattle.site_place.specs.place_net.Place.{words_of, word_in}
 use Rattle.site_operands.specs.Pointers.{pointer_number}
 use Rattle.site_operands.specs.Sites.{SiteOperands, ShowsSite}
 use Rattle.site_place.specs.Pointing.{IsPointers, HoldsPointers}

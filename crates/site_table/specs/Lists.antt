@@ -4,10 +4,10 @@ use Rattle.std.specs.List.{filter, list_any}
 use Rattle.cell_core.specs.Cells.{cell_at}
 use Rattle.cell_core.specs.Rows.{numbers}
 use Rattle.cell_core.specs.Sites.{ProgramView}
-use Rattle.cell_nets.specs.Computing.{is_outside}
+use Rattle.site_operands.specs.cell_nets.Computing.{is_outside}
 use Rattle.row_plan.specs.Plan.{Plan, answer_cells}
-use Rattle.row_net.specs.Needed.{flag}
-use Rattle.row_net.specs.Lists.{varies}
+use Rattle.site_place.specs.row_net.Needed.{flag}
+use Rattle.site_place.specs.row_net.Lists.{varies}
 
 -- a later row takes it, or the answer does and this is the last row
 abbrev pub goes_on : ProgramView → Plan → ℕ → ℕ → Bool

@@ -4,7 +4,7 @@ use Rattle.std.specs.List.{list_any}
 use Rattle.cell_core.specs.Cells.{cell_at, is_read}
 use Rattle.cell_core.specs.Sites.{SiteView, ProgramView}
 use Rattle.cell_core.specs.Rows.{taken_by}
-use Rattle.row_net.specs.Needed.{flag}
+use Rattle.site_place.specs.row_net.Needed.{flag}
 
 -- a cell that a site takes, or that reads one
 pub data IsPart (p : ProgramView) (k : ℕ) : Type 0 where

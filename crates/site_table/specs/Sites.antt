@@ -1,18 +1,18 @@
 -- What stands for the cells of a site.
 use Rattle.std.specs.Prelude.{◌≡◌, ℕ, ◌<◌, Option, Some, None, List, length, slice_index, All, map as map_list}
 use Rattle.std.proofs.Common.{get_or, ◌⊎◌}
-use Rattle.cell_nets.specs.net_core.Value.{Env}
+use Rattle.site_operands.specs.cell_nets.net_core.Value.{Env}
 use Rattle.cell_core.specs.declared.site.Act.{Act}
 use Rattle.cell_core.specs.Sites.{SiteView, ProgramView, site_at}
-use Rattle.cell_nets.specs.declared.operand.Operand.{Operand}
-use Rattle.cell_nets.specs.declared.operand.Operand.TheVariants.{Known}
-use Rattle.cell_nets.specs.Operands.{IsOperand, IsNarrow, IsAvailable}
+use Rattle.site_operands.specs.cell_nets.declared.operand.Operand.{Operand}
+use Rattle.site_operands.specs.cell_nets.declared.operand.Operand.TheVariants.{Known}
+use Rattle.site_operands.specs.cell_nets.Operands.{IsOperand, IsNarrow, IsAvailable}
 use Rattle.cell_core.specs.Acts.{pointer_operand}
 use Rattle.hazard_core.specs.declared.pointer.Pointer.{Pointer}
 use Rattle.hazard_core.specs.declared.pointer.Pointer.TheVariants.{Null}
 use Rattle.hazard_core.specs.Held.{Held, held_value, pointer_in, found_cell, answer_cell}
 use Rattle.site_operands.specs.Sites.{SiteOperands, all_of, ShowsAsked, ShowsSite}
-use Rattle.row_net.specs.Table.{IsIn, IsTable, AreThere, Holds}
+use Rattle.site_place.specs.row_net.Table.{IsIn, IsTable, AreThere, Holds}
 use Rattle.site_place.specs.Pointing.{IsPointers, HoldsPointers}
 
 -- what stands for a cell, 0 where nothing does

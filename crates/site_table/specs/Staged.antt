@@ -5,13 +5,13 @@ use Rattle.cell_core.specs.declared.operator.Operator.TheVariants as op
 use Rattle.cell_core.specs.Cells.{cell_at}
 use Rattle.cell_core.specs.Formed.{AreFormed}
 use Rattle.cell_core.specs.Sites.{ProgramView}
-use Rattle.cell_nets.specs.Computing.{is_outside}
+use Rattle.site_operands.specs.cell_nets.Computing.{is_outside}
 use Rattle.row_plan.specs.Plan.{Plan, IsPlan, answer_cells}
-use Rattle.row_net.specs.Apart.{TakeClean}
-use Rattle.row_net.specs.Lists.{is_early, made_cells}
-use Rattle.row_net.specs.Needed.{AreNeeded, flag}
-use Rattle.row_net.specs.Table.{is_constant}
-use Rattle.place_net.specs.Place.{width_at}
+use Rattle.site_place.specs.row_net.Apart.{TakeClean}
+use Rattle.site_place.specs.row_net.Lists.{is_early, made_cells}
+use Rattle.site_place.specs.row_net.Needed.{AreNeeded, flag}
+use Rattle.site_place.specs.row_net.Table.{is_constant}
+use Rattle.site_place.specs.place_net.Place.{width_at}
 use Rattle.site_place.specs.Pointing.{Takes}
 use Rattle.site_table.specs.Lists.{held_cells, held_pointers, made_pointers}
 use Rattle.site_table.specs.Parts.{AreParts}

@@ -2,17 +2,17 @@
 use Rattle.std.specs.Prelude.{◌≡◌, ℕ, suc, ◌<◌, Bool, Option, List, length, slice_index, map as map_list}
 use Rattle.std.proofs.Common.{get_or}
 use Rattle.xdp_maps.specs.declared.decl.MapDecl.{MapDecl}
-use Rattle.cell_nets.specs.net_core.declared.tree.Word.{Word}
-use Rattle.cell_nets.specs.net_core.Value.{nothing, Env}
+use Rattle.site_operands.specs.cell_nets.net_core.declared.tree.Word.{Word}
+use Rattle.site_operands.specs.cell_nets.net_core.Value.{nothing, Env}
 use Rattle.block_core.specs.declared.name.Name.{Name}
 use Rattle.block_core.specs.declared.name.Name.TheVariants as name
 use Rattle.cell_core.specs.Cells.{CellView}
 use Rattle.cell_core.specs.Sites.{ProgramView}
-use Rattle.cell_nets.specs.declared.operand.Operand.{Operand}
+use Rattle.site_operands.specs.cell_nets.declared.operand.Operand.{Operand}
 use Rattle.hazard_core.specs.Held.{Held, held_value, pointer_in}
 use Rattle.row_plan.specs.Plan.{Plan}
-use Rattle.row_net.specs.Table.{AreConstants}
-use Rattle.place_net.specs.Place.{IsTaken}
+use Rattle.site_place.specs.row_net.Table.{AreConstants}
+use Rattle.site_place.specs.place_net.Place.{IsTaken}
 use Rattle.site_place.specs.SitePlace.{site_words, AreTaken}
 use Rattle.held_rows.specs.Fits.{FitsRows}
 use Rattle.site_table.specs.declared.tables.StageTables.{StageTables}

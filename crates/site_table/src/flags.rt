@@ -1,7 +1,7 @@
 //! Flags of cells.
 
 ghost use Rattle.std.specs.Prelude.{◌≡◌};
-ghost use Rattle.row_net.specs.Needed.{flag};
+ghost use Rattle.site_place.specs.row_net.Needed.{flag};
 
 /// Whether a cell is flagged; past the last none is.
 pub(crate) fn flag(flags: &[bool], cell: u32) -> bool

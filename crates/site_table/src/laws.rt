@@ -3,7 +3,7 @@
 ghost use Rattle.site_table.specs.Staged.{StagesArePlaced, ListsAreFormed};
 
 use cell_core::laws::rows_rise;
-use row_net::laws::cells_are_placed;
+use site_place::row_net::laws::cells_are_placed;
 
 /// What a place makes and holds is there where it is taken, with its pointers.
 pub fn stages_are_placed()

@@ -4,14 +4,14 @@ ghost use Rattle.std.specs.Prelude.{◌≡◌, ◌==◌, ◌<◌, ◌^◌, lengt
 ghost use Rattle.std.specs.List.{list_any};
 ghost use Rattle.cell_core.specs.View.{program_of};
 ghost use Rattle.row_plan.specs.Plan.{answer_cells};
-ghost use Rattle.row_net.specs.Lists.{varies};
+ghost use Rattle.site_place.specs.row_net.Lists.{varies};
 ghost use Rattle.site_table.specs.Lists.{goes_on, is_awaited, stays, is_computed, has_pointer, is_held, is_held_pointer, is_made_pointer, held_cells, held_pointers, made_pointers};
 
 use crate::flags::flag;
 use cell_core::program::{CellProgram, FrameByte};
-use cell_nets::operators::is_outside;
-use row_net::table::is_constant;
 use row_plan::RowPlan;
+use site_operands::cell_nets::operators::is_outside;
+use site_place::row_net::table::is_constant;
 use std::alloc::{AllocError, Global};
 
 // Whether a byte of the answer's frame is a cell.

@@ -8,7 +8,7 @@ ghost use Rattle.site_table.specs.Pointing.{AreFlagged, JoinsFlagged, IsFlagged,
 use crate::flags::flag;
 use cell_core::cell::Cell;
 use cell_core::operator::Operator;
-use cell_nets::operand::Operand;
+use site_operands::cell_nets::operand::Operand;
 use std::alloc::{AllocError, Global};
 
 // Whether one of the inputs of a join that come over its edges is flagged. The edges stand at the even places.

@@ -8,9 +8,9 @@ ghost use Rattle.site_table.specs.Sites.{operand_at, access_operand, IsSiteOf};
 
 use cell_core::program::CellProgram;
 use cell_core::site::Act;
-use cell_nets::operand::Operand;
 use hazard_core::site::{answer_cell, found_cell, site_at};
 use site_operands::SiteNets;
+use site_operands::cell_nets::operand::Operand;
 use std::alloc::{AllocError, Global};
 
 // What stands for a cell, 0 where the table has nothing.

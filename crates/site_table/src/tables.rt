@@ -3,16 +3,16 @@
 ghost use Rattle.std.specs.Prelude.{◌≡◌, ◌<◌, All, IfOk, length, map as map_list};
 ghost use Rattle.cell_core.specs.Formed.{AreFormed};
 ghost use Rattle.cell_core.specs.View.{cell_of};
-ghost use Rattle.cell_nets.specs.Operands.{IsWide};
-ghost use Rattle.row_net.specs.Table.{IsTable};
-ghost use Rattle.place_net.specs.Place.{width_at};
+ghost use Rattle.site_operands.specs.cell_nets.Operands.{IsWide};
+ghost use Rattle.site_place.specs.row_net.Table.{IsTable};
+ghost use Rattle.site_place.specs.place_net.Place.{width_at};
 ghost use Rattle.site_place.specs.Pointing.{IsPointers};
 ghost use Rattle.site_table.specs.Tables.{AreBehind};
 
 use block_core::name::{Name, Part};
 use cell_core::cell::Cell;
-use cell_nets::operand::Operand;
-use place_net::take_registers;
+use site_operands::cell_nets::operand::Operand;
+use site_place::place_net::take_registers;
 use site_place::taking::take_pointers;
 use std::alloc::{AllocError, Global};
 

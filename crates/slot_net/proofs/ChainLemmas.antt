@@ -8,15 +8,15 @@ use Rattle.net_core.specs.Nets.{Tree, TConst}
 use Rattle.net_core.specs.Value.{Env, word}
 use Rattle.block_core.specs.declared.name.Name.{Name}
 use Rattle.block_core.specs.Blocks.{BlockWireTree}
-use Rattle.cell_nets.specs.cell_core.Cells.{bit, bits_from}
-use Rattle.cell_nets.specs.declared.operand.Operand.{Operand}
-use Rattle.cell_nets.specs.declared.operand.Operand.TheVariants.{Known}
-use Rattle.cell_nets.specs.Operands.{number_in, IsOperand, IsAvailable}
-use Rattle.cell_nets.specs.Parts.{IsPart, IsSlice, Computes}
-use Rattle.cell_nets.specs.Wires.{Gives, always}
-use Rattle.cell_nets.proofs.PartLaws.{part_small}
-use Rattle.cell_nets.proofs.PartLemmas.{part_same, part_of, part_computes, const_slice, conditional_part}
-use Rattle.cell_nets.proofs.GiveLemmas.{gives_as, gives_then, known_gives}
+use Rattle.site_operands.specs.cell_nets.cell_core.Cells.{bit, bits_from}
+use Rattle.site_operands.specs.cell_nets.declared.operand.Operand.{Operand}
+use Rattle.site_operands.specs.cell_nets.declared.operand.Operand.TheVariants.{Known}
+use Rattle.site_operands.specs.cell_nets.Operands.{number_in, IsOperand, IsAvailable}
+use Rattle.site_operands.specs.cell_nets.Parts.{IsPart, IsSlice, Computes}
+use Rattle.site_operands.specs.cell_nets.Wires.{Gives, always}
+use Rattle.site_operands.proofs.cell_nets_laws.PartLaws.{part_small}
+use Rattle.site_operands.proofs.cell_nets_laws.PartLemmas.{part_same, part_of, part_computes, const_slice, conditional_part}
+use Rattle.site_operands.proofs.cell_nets_laws.GiveLemmas.{gives_as, gives_then, known_gives}
 use Rattle.slot_net.specs.declared.choosing.Numbering.{Numbering}
 use Rattle.slot_net.specs.declared.choosing.Numbering.TheVariants.{Pointers, Slots}
 use Rattle.slot_net.specs.Choosing.{number_at, passes, chosen, first_passed, choice_tree, AreTests}

@@ -4,7 +4,7 @@ use Rattle.std.specs.List.{position_or_len}
 use Rattle.std.proofs.Common.{◌≡◌, ◌⊎◌, inl, inr, ℕ, zero, suc, ◌+◌, ◌%◌, ◌^◌, ◌<◌, ◌≤◌, Bool, true, false, List, length, get_or, refl, sym, ◌∙◌, ap, arith, div-one}
 use Rattle.std.proofs.lemmas.Bool.{cases_lt, lt-ltb, le-ltb}
 use Rattle.std.proofs.lemmas.List.Sums.{fails_before_first, prefix_len_stops, prefix_len-le-length}
-use Rattle.cell_nets.specs.cell_core.Cells.{bits_from}
+use Rattle.site_operands.specs.cell_nets.cell_core.Cells.{bits_from}
 use Rattle.slot_net.specs.Choosing.{chosen}
 
 pub from_zero : (n w : ℕ) → bits_from n 0 w ≡ n % 2 ^ w

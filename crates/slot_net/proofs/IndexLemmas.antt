@@ -18,18 +18,18 @@ use Rattle.xdp_maps.specs.declared.decl.MapDecl.{MapDecl}
 use Rattle.xdp_maps.specs.declared.decl.MapKind.TheVariants.{Array}
 use Rattle.xdp_maps.specs.Contents.{IsBytes, IsWithinLimits, limits_as, index_key}
 use Rattle.xdp_maps.proofs.ByteLaws.{IsBytes-little_bytes}
-use Rattle.cell_nets.specs.cell_core.Cells.{bits_from}
-use Rattle.cell_nets.specs.cell_core.Sites.{bytes_of}
-use Rattle.array_net.specs.hazard_core.declared.slot.Slot.{Slot}
-use Rattle.array_net.specs.hazard_core.Tables.{slot_at, no_slot, has_key, slot_of}
-use Rattle.array_net.specs.hazard_core.Tabled.{IsTable, IsFilledTable}
-use Rattle.array_net.specs.hazard_core.declared.pointer.Pointer.TheVariants.{InSlot, Null}
-use Rattle.array_net.specs.hazard_core.Held.{slot_pointer}
-use Rattle.array_net.specs.hazard_core.Commits.{word_at}
+use Rattle.site_operands.specs.cell_nets.cell_core.Cells.{bits_from}
+use Rattle.site_operands.specs.cell_nets.cell_core.Sites.{bytes_of}
+use Rattle.hash_net.specs.array_net.hazard_core.declared.slot.Slot.{Slot}
+use Rattle.hash_net.specs.array_net.hazard_core.Tables.{slot_at, no_slot, has_key, slot_of}
+use Rattle.hash_net.specs.array_net.hazard_core.Tabled.{IsTable, IsFilledTable}
+use Rattle.hash_net.specs.array_net.hazard_core.declared.pointer.Pointer.TheVariants.{InSlot, Null}
+use Rattle.hash_net.specs.array_net.hazard_core.Held.{slot_pointer}
+use Rattle.hash_net.specs.array_net.hazard_core.Commits.{word_at}
 use Rattle.site_operands.specs.Pointers.{pointer_number}
-use Rattle.cell_nets.specs.declared.operand.Operand.{Operand}
-use Rattle.cell_nets.specs.declared.operand.Operand.TheVariants.{Known}
-use Rattle.cell_nets.specs.Operands.{number_in}
+use Rattle.site_operands.specs.cell_nets.declared.operand.Operand.{Operand}
+use Rattle.site_operands.specs.cell_nets.declared.operand.Operand.TheVariants.{Known}
+use Rattle.site_operands.specs.cell_nets.Operands.{number_in}
 use Rattle.slot_net.specs.Slots.{HoldsKey}
 use Rattle.slot_net.specs.Choosing.{operand_at, indexed_pointer}
 use Rattle.slot_net.proofs.ChosenLemmas.{from_zero}

@@ -5,11 +5,11 @@ use Rattle.std.proofs.lemmas.Nat.{pow_pos}
 use Rattle.net_core.specs.declared.tree.Op.TheVariants.{Less}
 use Rattle.net_core.specs.Nets.{Tree, TConst, TBinary, TConditional, TConcatenation, TMore, TLast}
 use Rattle.net_core.specs.Value.{Env, word}
-use Rattle.cell_nets.specs.cell_core.Cells.{bit, bits_from}
-use Rattle.cell_nets.specs.declared.operand.Operand.{Operand}
-use Rattle.cell_nets.specs.Operands.{number_in}
-use Rattle.cell_nets.specs.Parts.{IsPart, IsSlice}
-use Rattle.cell_nets.proofs.PartLemmas.{part_same, part_of, const_slice, binary_part, beside_slice, conditional_part, test_is}
+use Rattle.site_operands.specs.cell_nets.cell_core.Cells.{bit, bits_from}
+use Rattle.site_operands.specs.cell_nets.declared.operand.Operand.{Operand}
+use Rattle.site_operands.specs.cell_nets.Operands.{number_in}
+use Rattle.site_operands.specs.cell_nets.Parts.{IsPart, IsSlice}
+use Rattle.site_operands.proofs.cell_nets_laws.PartLemmas.{part_same, part_of, const_slice, binary_part, beside_slice, conditional_part, test_is}
 use Rattle.slot_net.specs.Choosing.{indexed_pointer}
 use Rattle.slot_net.proofs.ChainLemmas.{picked}
 

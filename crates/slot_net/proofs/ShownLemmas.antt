@@ -22,22 +22,22 @@ use Rattle.block_core.specs.Parts.{Solve, Goes}
 use Rattle.block_core.specs.Order.{RightReads, IsBefore, InOrder}
 use Rattle.block_core.specs.Formed.{names_scope, name_width, block_memories, block_wires, block_wire_width, block_wires_typed, IsTypedBlock}
 use Rattle.xdp_maps.specs.declared.decl.MapDecl.{MapDecl}
-use Rattle.cell_nets.specs.cell_core.Cells.{bit as cell_bit}
-use Rattle.array_net.specs.hazard_core.declared.slot.Slot.{Slot}
-use Rattle.array_net.specs.hazard_core.Tables.{slot_at}
-use Rattle.array_net.specs.hazard_core.Commits.{word_count}
+use Rattle.site_operands.specs.cell_nets.cell_core.Cells.{bit as cell_bit}
+use Rattle.hash_net.specs.array_net.hazard_core.declared.slot.Slot.{Slot}
+use Rattle.hash_net.specs.array_net.hazard_core.Tables.{slot_at}
+use Rattle.hash_net.specs.array_net.hazard_core.Commits.{word_count}
 use Rattle.frame_net.specs.Frames.{word_at}
 use Rattle.frame_net.specs.GatherNets.{constant}
 use Rattle.frame_net.proofs.FormLaws.{and_is, wire_is, held_width}
-use Rattle.array_net.specs.Words.{word_width}
-use Rattle.array_net.specs.WordTrees.{word_memories}
-use Rattle.array_net.proofs.WordLaws.{width_some, width_most}
-use Rattle.array_net.proofs.WordMemoryLaws.{memory_at, count_memories}
+use Rattle.hash_net.specs.array_net.Words.{word_width}
+use Rattle.hash_net.specs.array_net.WordTrees.{word_memories}
+use Rattle.hash_net.proofs.array_net_laws.WordLaws.{width_some, width_most}
+use Rattle.hash_net.proofs.array_net_laws.WordMemoryLaws.{memory_at, count_memories}
 use Rattle.hash_net.specs.HashNets.{value_first, hash_memories}
 use Rattle.hash_net.specs.Hash.{StoresHash, SeesOwn}
-use Rattle.cell_nets.specs.declared.operand.Operand.{Operand}
-use Rattle.cell_nets.specs.declared.operand.Operand.TheVariants.{Net}
-use Rattle.cell_nets.specs.Operands.{number_in, IsDeclared, AreDeclared}
+use Rattle.site_operands.specs.cell_nets.declared.operand.Operand.{Operand}
+use Rattle.site_operands.specs.cell_nets.declared.operand.Operand.TheVariants.{Net}
+use Rattle.site_operands.specs.cell_nets.Operands.{number_in, IsDeclared, AreDeclared}
 use Rattle.slot_net.specs.Slots.{all_of, operands_of, ShowsSlot, ShowSlots}
 use Rattle.slot_net.specs.Shown.{per_slot, wire_count, shown_width, shown_widths, shown_wire, slots_block, shown_slot, shown_slots, IsSlots}
 

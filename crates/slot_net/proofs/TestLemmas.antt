@@ -6,13 +6,13 @@ use Rattle.std.proofs.lemmas.List.{get_or-map, get_or_default, length-map, get_o
 use Rattle.net_core.specs.Nets.{Tree, TBinary}
 use Rattle.net_core.specs.Value.{Env}
 use Rattle.net_core.specs.declared.tree.Op.TheVariants.{And, Equal}
-use Rattle.cell_nets.specs.cell_core.Cells.{bit}
-use Rattle.cell_nets.specs.declared.operand.Operand.{Operand}
-use Rattle.cell_nets.specs.declared.operand.Operand.TheVariants.{Known}
-use Rattle.cell_nets.specs.Operands.{IsAvailable}
-use Rattle.cell_nets.specs.Parts.{IsPart, IsSlice}
-use Rattle.cell_nets.proofs.PartLemmas.{part_same, part_of, binary_part, same_is, test_is}
-use Rattle.array_net.specs.Words.{word_width}
+use Rattle.site_operands.specs.cell_nets.cell_core.Cells.{bit}
+use Rattle.site_operands.specs.cell_nets.declared.operand.Operand.{Operand}
+use Rattle.site_operands.specs.cell_nets.declared.operand.Operand.TheVariants.{Known}
+use Rattle.site_operands.specs.cell_nets.Operands.{IsAvailable}
+use Rattle.site_operands.specs.cell_nets.Parts.{IsPart, IsSlice}
+use Rattle.site_operands.proofs.cell_nets_laws.PartLemmas.{part_same, part_of, binary_part, same_is, test_is}
+use Rattle.hash_net.specs.array_net.Words.{word_width}
 use Rattle.slot_net.specs.declared.slots.SlotNets.{SlotNets}
 use Rattle.slot_net.specs.Slots.{SlotOperands, slot_operands, slots_of, slot_past, all_of, operands_of}
 use Rattle.slot_net.specs.Choosing.{AreTests, operand_at, same_bits, is_under}

@@ -12,17 +12,17 @@ use Rattle.std.proofs.lemmas.Slice.Eq.{bytes_eq-Decides}
 use Rattle.net_core.specs.Value.{Env}
 use Rattle.xdp_maps.specs.declared.decl.MapDecl.{MapDecl}
 use Rattle.xdp_maps.specs.Contents.{IsBytes}
-use Rattle.cell_nets.specs.cell_core.Cells.{bit, on, bits_from}
-use Rattle.array_net.specs.hazard_core.declared.slot.Slot.{Slot}
-use Rattle.array_net.specs.hazard_core.Tables.{slot_at, no_slot, has_key, slot_of, free_slot}
-use Rattle.array_net.specs.hazard_core.declared.pointer.Pointer.TheVariants.{InSlot, Null}
-use Rattle.array_net.specs.hazard_core.Held.{slot_pointer}
-use Rattle.array_net.specs.hazard_core.Commits.{word_count, word_at}
-use Rattle.array_net.specs.Words.{word_width}
+use Rattle.site_operands.specs.cell_nets.cell_core.Cells.{bit, on, bits_from}
+use Rattle.hash_net.specs.array_net.hazard_core.declared.slot.Slot.{Slot}
+use Rattle.hash_net.specs.array_net.hazard_core.Tables.{slot_at, no_slot, has_key, slot_of, free_slot}
+use Rattle.hash_net.specs.array_net.hazard_core.declared.pointer.Pointer.TheVariants.{InSlot, Null}
+use Rattle.hash_net.specs.array_net.hazard_core.Held.{slot_pointer}
+use Rattle.hash_net.specs.array_net.hazard_core.Commits.{word_count, word_at}
+use Rattle.hash_net.specs.array_net.Words.{word_width}
 use Rattle.site_operands.specs.Pointers.{pointer_number}
-use Rattle.cell_nets.specs.declared.operand.Operand.{Operand}
-use Rattle.cell_nets.specs.declared.operand.Operand.TheVariants.{Known}
-use Rattle.cell_nets.specs.Operands.{number_in}
+use Rattle.site_operands.specs.cell_nets.declared.operand.Operand.{Operand}
+use Rattle.site_operands.specs.cell_nets.declared.operand.Operand.TheVariants.{Known}
+use Rattle.site_operands.specs.cell_nets.Operands.{number_in}
 use Rattle.slot_net.specs.declared.choosing.Numbering.TheVariants.{Pointers, Slots}
 use Rattle.slot_net.specs.Slots.{SlotOperands, slot_past, ShowsSlot, ShowSlots, HoldsKey, HaveKeys}
 use Rattle.slot_net.specs.Choosing.{number_at, chosen, operand_at, same_bits, is_under, is_used, first_passed}

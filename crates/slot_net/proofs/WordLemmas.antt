@@ -11,10 +11,10 @@ use Rattle.byteorder.specs.Numbers.{little_from-take, little_from-bytes, length-
 use Rattle.byteorder.proofs.Bytes.{take-bytes_low_first, pow256}
 use Rattle.xdp_maps.specs.Contents.{IsBytes}
 use Rattle.xdp_maps.proofs.ByteLaws.{IsBytes-little_bytes}
-use Rattle.cell_nets.specs.cell_core.Sites.{spelled, bytes_of}
-use Rattle.cell_nets.proofs.cell_core.SpelledLaws.{spelled_length}
-use Rattle.array_net.specs.hazard_core.Commits.{word_count, word_at}
-use Rattle.array_net.specs.Words.{word_width}
+use Rattle.site_operands.specs.cell_nets.cell_core.Sites.{spelled, bytes_of}
+use Rattle.site_operands.proofs.cell_nets_laws.cell_core_laws.SpelledLaws.{spelled_length}
+use Rattle.hash_net.specs.array_net.hazard_core.Commits.{word_count, word_at}
+use Rattle.hash_net.specs.array_net.Words.{word_width}
 
 byte_small : (xs : List ℕ) → All (λ b. b < 256) xs → (k : ℕ) → slice_index xs k < 256
 byte_small xs h k = by_order (cases_lt k (length xs))

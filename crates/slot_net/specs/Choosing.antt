@@ -3,12 +3,12 @@ use Rattle.std.specs.Prelude.{ℕ, zero, suc, ◌+◌, ◌-◌, ◌*◌, ◌<◌
 use Rattle.std.proofs.Common.{get_or}
 use Rattle.net_core.specs.Nets.{Tree, TConditional}
 use Rattle.net_core.specs.Value.{Env}
-use Rattle.cell_nets.specs.cell_core.Cells.{bit, on, bits_from}
-use Rattle.array_net.specs.Words.{word_width}
-use Rattle.cell_nets.specs.declared.operand.Operand.{Operand}
-use Rattle.cell_nets.specs.declared.operand.Operand.TheVariants.{Known}
-use Rattle.cell_nets.specs.Operands.{number_in, IsAvailable}
-use Rattle.cell_nets.specs.Parts.{IsPart}
+use Rattle.site_operands.specs.cell_nets.cell_core.Cells.{bit, on, bits_from}
+use Rattle.hash_net.specs.array_net.Words.{word_width}
+use Rattle.site_operands.specs.cell_nets.declared.operand.Operand.{Operand}
+use Rattle.site_operands.specs.cell_nets.declared.operand.Operand.TheVariants.{Known}
+use Rattle.site_operands.specs.cell_nets.Operands.{number_in, IsAvailable}
+use Rattle.site_operands.specs.cell_nets.Parts.{IsPart}
 use Rattle.slot_net.specs.declared.choosing.Numbering.{Numbering}
 use Rattle.slot_net.specs.declared.choosing.Numbering.TheVariants.{Pointers, Slots}
 use Rattle.slot_net.specs.Slots.{SlotOperands}

@@ -1,4 +1,4 @@
-pub use Rattle.array_net.specs as array_net
+pub use Rattle.hash_net.specs.array_net as array_net
 pub mod Slots
 pub mod Choosing
 pub mod Shown

@@ -14,15 +14,15 @@ use Rattle.block_core.specs.Parts.{Solve, Goes, Within}
 use Rattle.block_core.specs.Order.{InOrder}
 use Rattle.block_core.specs.Formed.{names_scope, block_memories, block_wires, IsTypedBlock, StatementReads, IsThere}
 use Rattle.xdp_maps.specs.declared.decl.MapDecl.{MapDecl}
-use Rattle.array_net.specs.hazard_core.declared.slot.Slot.{Slot}
-use Rattle.array_net.specs.hazard_core.Commits.{word_count}
+use Rattle.hash_net.specs.array_net.hazard_core.declared.slot.Slot.{Slot}
+use Rattle.hash_net.specs.array_net.hazard_core.Commits.{word_count}
 use Rattle.frame_net.specs.GatherNets.{constant, wire}
 use Rattle.frame_net.specs.SourcesNets.{held}
-use Rattle.array_net.specs.Words.{word_width}
+use Rattle.hash_net.specs.array_net.Words.{word_width}
 use Rattle.hash_net.specs.HashNets.{hash_memories}
 use Rattle.hash_net.specs.Hash.{StoresHash, SeesOwn}
-use Rattle.cell_nets.specs.declared.operand.Operand.TheVariants.{Net}
-use Rattle.cell_nets.specs.Operands.{AreDeclared}
+use Rattle.site_operands.specs.cell_nets.declared.operand.Operand.TheVariants.{Net}
+use Rattle.site_operands.specs.cell_nets.Operands.{AreDeclared}
 use Rattle.slot_net.specs.Slots.{SlotOperands, operands_of, ShowSlots}
 
 -- ---- its wires: for each slot one with its used bit, and behind it the words of its key, as the memories of a hash have them

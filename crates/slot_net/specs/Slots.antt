@@ -5,14 +5,14 @@ use Rattle.std.proofs.Common.{get_or}
 use Rattle.net_core.specs.Value.{Env}
 use Rattle.xdp_maps.specs.declared.decl.MapDecl.{MapDecl}
 use Rattle.xdp_maps.specs.Contents.{IsBytes}
-use Rattle.cell_nets.specs.cell_core.Cells.{bit}
-use Rattle.cell_nets.specs.cell_core.Sites.{bytes_of}
-use Rattle.array_net.specs.hazard_core.declared.slot.Slot.{Slot}
-use Rattle.array_net.specs.hazard_core.Tables.{slot_at}
-use Rattle.array_net.specs.hazard_core.Commits.{word_count, word_at}
-use Rattle.cell_nets.specs.declared.operand.Operand.{Operand}
-use Rattle.cell_nets.specs.declared.operand.Operand.TheVariants.{Known}
-use Rattle.cell_nets.specs.Operands.{number_in, IsOperand}
+use Rattle.site_operands.specs.cell_nets.cell_core.Cells.{bit}
+use Rattle.site_operands.specs.cell_nets.cell_core.Sites.{bytes_of}
+use Rattle.hash_net.specs.array_net.hazard_core.declared.slot.Slot.{Slot}
+use Rattle.hash_net.specs.array_net.hazard_core.Tables.{slot_at}
+use Rattle.hash_net.specs.array_net.hazard_core.Commits.{word_count, word_at}
+use Rattle.site_operands.specs.cell_nets.declared.operand.Operand.{Operand}
+use Rattle.site_operands.specs.cell_nets.declared.operand.Operand.TheVariants.{Known}
+use Rattle.site_operands.specs.cell_nets.Operands.{number_in, IsOperand}
 use Rattle.slot_net.specs.declared.slots.SlotNets.{SlotNets}
 
 -- without the places in memory where they lie

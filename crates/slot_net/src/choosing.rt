@@ -3,19 +3,19 @@
 ghost use Rattle.std.specs.Prelude.{ℕ, Bool, List, ◌≡◌, ◌+◌, ◌^◌, ◌<◌, ◌≤◌, All, length, IfOk, map};
 ghost use Rattle.net_core.specs.Value.{Env};
 ghost use Rattle.net_core.specs.View.{tree_of};
-ghost use Rattle.cell_nets.specs.cell_core.Cells.{bits_from};
-ghost use Rattle.cell_nets.specs.Operands.{IsOperand, IsAvailable, IsWide, number_in};
-ghost use Rattle.cell_nets.specs.Parts.{IsPart};
-ghost use Rattle.cell_nets.specs.Wires.{wires_of, always, Gives};
+ghost use Rattle.site_operands.specs.cell_nets.cell_core.Cells.{bits_from};
+ghost use Rattle.site_operands.specs.cell_nets.Operands.{IsOperand, IsAvailable, IsWide, number_in};
+ghost use Rattle.site_operands.specs.cell_nets.Parts.{IsPart};
+ghost use Rattle.site_operands.specs.cell_nets.Wires.{wires_of, always, Gives};
 ghost use Rattle.slot_net.specs.Choosing.{number_at, first_passed, choice_tree, AreTests};
 
 use block_core::block::BlockWire;
 use block_core::name::Name;
-use cell_nets::operand::Operand;
-use cell_nets::slice::slice;
-use cell_nets::wires::add_wire;
 use net_core::build::{conditional, constant};
 use net_core::tree::Expr;
+use site_operands::cell_nets::operand::Operand;
+use site_operands::cell_nets::slice::slice;
+use site_operands::cell_nets::wires::add_wire;
 use std::alloc::{AllocError, Global};
 
 /// How many choices stand inside one another at most.

@@ -1,14 +1,14 @@
 //! Where a key is found among the slots of a hash, and the first free one.
 
 ghost use Rattle.std.specs.Prelude.{ℕ, List, ◌≡◌, ◌+◌, ◌*◌, ◌^◌, ◌<◌, ◌≤◌, ◌++◌, All, length, IfOk};
-ghost use Rattle.array_net.specs.hazard_core.declared.slot.Slot.{Slot};
-ghost use Rattle.array_net.specs.hazard_core.Commits.{word_count};
-ghost use Rattle.array_net.specs.hazard_core.Held.{slot_pointer};
-ghost use Rattle.array_net.specs.hazard_core.Tables.{free_slot};
+ghost use Rattle.hash_net.specs.array_net.hazard_core.declared.slot.Slot.{Slot};
+ghost use Rattle.hash_net.specs.array_net.hazard_core.Commits.{word_count};
+ghost use Rattle.hash_net.specs.array_net.hazard_core.Held.{slot_pointer};
+ghost use Rattle.hash_net.specs.array_net.hazard_core.Tables.{free_slot};
 ghost use Rattle.xdp_maps.specs.declared.decl.MapDecl.{MapDecl};
 ghost use Rattle.site_operands.specs.Pointers.{pointer_number};
-ghost use Rattle.cell_nets.specs.Operands.{IsOperand, IsWide};
-ghost use Rattle.cell_nets.specs.Wires.{wires_of, Gives};
+ghost use Rattle.site_operands.specs.cell_nets.Operands.{IsOperand, IsWide};
+ghost use Rattle.site_operands.specs.cell_nets.Wires.{wires_of, Gives};
 ghost use Rattle.slot_net.specs.Slots.{slots_of, operands_of, IsSlot, ShowSlots, HoldsKey, HaveKeys};
 
 use crate::choosing::{Numbering, first_of};
@@ -16,7 +16,7 @@ use crate::slots::SlotNets;
 use crate::testing::{key_tests, used_tests};
 use block_core::block::BlockWire;
 use block_core::name::Name;
-use cell_nets::operand::Operand;
+use site_operands::cell_nets::operand::Operand;
 use std::alloc::{AllocError, Global};
 use xdp_maps::decl::MapDecl;
 

@@ -2,25 +2,25 @@
 
 ghost use Rattle.std.specs.Prelude.{ℕ, List, ◌≡◌, ◌+◌, ◌*◌, ◌^◌, ◌<◌, ◌≤◌, All, length, IfOk};
 ghost use Rattle.net_core.specs.View.{tree_of};
-ghost use Rattle.array_net.specs.hazard_core.declared.slot.Slot.{Slot};
-ghost use Rattle.array_net.specs.hazard_core.Held.{slot_pointer};
-ghost use Rattle.array_net.specs.hazard_core.Tabled.{IsTable};
+ghost use Rattle.hash_net.specs.array_net.hazard_core.declared.slot.Slot.{Slot};
+ghost use Rattle.hash_net.specs.array_net.hazard_core.Held.{slot_pointer};
+ghost use Rattle.hash_net.specs.array_net.hazard_core.Tabled.{IsTable};
 ghost use Rattle.xdp_maps.specs.Contents.{IsWithinLimits};
 ghost use Rattle.xdp_maps.specs.declared.decl.MapKind.TheVariants.{Array};
 ghost use Rattle.site_operands.specs.Pointers.{pointer_number};
-ghost use Rattle.cell_nets.specs.Operands.{IsOperand, IsAvailable, IsWide, number_in};
-ghost use Rattle.cell_nets.specs.Parts.{IsPart};
-ghost use Rattle.cell_nets.specs.Wires.{wires_of, HasBits, Gives};
+ghost use Rattle.site_operands.specs.cell_nets.Operands.{IsOperand, IsAvailable, IsWide, number_in};
+ghost use Rattle.site_operands.specs.cell_nets.Parts.{IsPart};
+ghost use Rattle.site_operands.specs.cell_nets.Wires.{wires_of, HasBits, Gives};
 ghost use Rattle.slot_net.specs.Choosing.{indexed_pointer};
 ghost use Rattle.slot_net.specs.Slots.{HoldsKey};
 
 use block_core::block::BlockWire;
 use block_core::name::Name;
-use cell_nets::operand::Operand;
-use cell_nets::slice::{beside, slice};
-use cell_nets::wires::add_wire;
 use net_core::build::{binary, conditional, constant};
 use net_core::tree::{Expr, Op};
+use site_operands::cell_nets::operand::Operand;
+use site_operands::cell_nets::slice::{beside, slice};
+use site_operands::cell_nets::wires::add_wire;
 use std::alloc::{AllocError, Global};
 use xdp_maps::decl::MapDecl;
 

@@ -3,19 +3,19 @@
 ghost use Rattle.std.specs.Prelude.{◌≡◌, ◌≤◌, ◌^◌, IfOk, map};
 ghost use Rattle.std.specs.List.{range_with_len};
 ghost use Rattle.block_core.specs.View.{block_of, block_wire_of};
-ghost use Rattle.array_net.specs.hazard_core.Commits.{word_count};
+ghost use Rattle.hash_net.specs.array_net.hazard_core.Commits.{word_count};
 ghost use Rattle.xdp_maps.specs.Contents.{IsWithinLimits};
 ghost use Rattle.slot_net.specs.Shown.{wire_count, per_slot, shown_width, shown_wire, shown_slot, shown_slots, IsSlots};
 ghost use Rattle.slot_net.specs.Slots.{slot_operands, slots_of};
 
 use crate::slots::SlotNets;
-use array_net::words::{word_count, word_width};
 use block_core::block::{Block, BlockWire};
 use block_core::name::{Name, Part};
-use cell_nets::operand::Operand;
 use frame_net::nets::{held, wire};
+use hash_net::array_net::words::{word_count, word_width};
 use net_core::build::{block, constant};
 use net_core::tree::Stmts;
+use site_operands::cell_nets::operand::Operand;
 use std::alloc::{AllocError, Global};
 use xdp_maps::decl::MapDecl;
 

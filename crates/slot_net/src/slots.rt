@@ -1,6 +1,6 @@
 //! What shows a slot.
 
-use cell_nets::operand::Operand;
+use site_operands::cell_nets::operand::Operand;
 
 /// What shows a slot of a hash: whether it is used, and the words of its key.
 #[derive(Drop)]

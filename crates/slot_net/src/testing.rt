@@ -3,20 +3,20 @@
 ghost use Rattle.std.specs.Prelude.{ℕ, List, ◌≡◌, ◌++◌, ◌≤◌, All, length, IfOk, map};
 ghost use Rattle.std.proofs.Common.{get_or};
 ghost use Rattle.net_core.specs.View.{tree_of};
-ghost use Rattle.cell_nets.specs.cell_core.Cells.{bit};
-ghost use Rattle.array_net.specs.hazard_core.Commits.{word_count};
-ghost use Rattle.cell_nets.specs.Operands.{IsOperand, IsAvailable, IsWide};
-ghost use Rattle.cell_nets.specs.Parts.{IsPart};
+ghost use Rattle.site_operands.specs.cell_nets.cell_core.Cells.{bit};
+ghost use Rattle.hash_net.specs.array_net.hazard_core.Commits.{word_count};
+ghost use Rattle.site_operands.specs.cell_nets.Operands.{IsOperand, IsAvailable, IsWide};
+ghost use Rattle.site_operands.specs.cell_nets.Parts.{IsPart};
 ghost use Rattle.slot_net.specs.Choosing.{AreTests, same_bits, is_under, is_used};
 ghost use Rattle.slot_net.specs.Slots.{slot_operands, slots_of, all_of, operands_of, IsSlot, slot_past};
 
 use crate::slots::SlotNets;
-use array_net::words::{word_count, word_width};
-use cell_nets::choosing::truth;
-use cell_nets::operand::Operand;
-use cell_nets::slice::slice;
+use hash_net::array_net::words::{word_count, word_width};
 use net_core::build::binary;
 use net_core::tree::{Expr, Op};
+use site_operands::cell_nets::choosing::truth;
+use site_operands::cell_nets::operand::Operand;
+use site_operands::cell_nets::slice::slice;
 use std::alloc::{AllocError, Global};
 
 // Whether the low bits of two operands are the same.

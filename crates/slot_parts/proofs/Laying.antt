@@ -8,7 +8,7 @@ use Rattle.xdp_maps.specs.declared.decl.MapDecl.{MapDecl}
 use Rattle.xdp_maps.specs.declared.decl.MapKind.{MapKind}
 use Rattle.xdp_maps.specs.declared.decl.MapKind.TheVariants.{Hash, Array}
 use Rattle.xdp_maps.specs.State.{no_decl}
-use Rattle.pipe_net.specs.hazard_core.Tables.{decl_of}
+use Rattle.pipe_turns.specs.pipe_net.hazard_core.Tables.{decl_of}
 use Rattle.cell_nets.specs.declared.operand.Operand.TheVariants.{Net}
 use Rattle.hash_net.specs.Hash.{count_name}
 use Rattle.slot_net.specs.Slots.{slots_of}
@@ -16,10 +16,10 @@ use Rattle.slot_net.specs.Shown.{shown_slots, IsSlots}
 use Rattle.read_net.specs.declared.sites.MapNets.{MapNets}
 use Rattle.pipe_draft.specs.stage_net.Nets.{decls_of}
 use Rattle.map_block.specs.declared.form.MapForm.{MapForm}
-use Rattle.pipe_net.specs.declared.parts.Part.{Part}
-use Rattle.pipe_net.specs.declared.parts.Sizes.{Sizes}
-use Rattle.pipe_net.specs.Parts as part
-use Rattle.pipe_net.specs.Layout.{Layout}
+use Rattle.pipe_turns.specs.pipe_net.declared.parts.Part.{Part}
+use Rattle.pipe_turns.specs.pipe_net.declared.parts.Sizes.{Sizes}
+use Rattle.pipe_turns.specs.pipe_net.Parts as part
+use Rattle.pipe_turns.specs.pipe_net.Layout.{Layout}
 use Rattle.pipe_turns.specs.Maps.{decl_at, IsSlotsPart}
 use Rattle.pipe_draft.specs.declared.draft.Draft.{Draft}
 use Rattle.pipe_draft.specs.declared.places.Behind.{Behind}

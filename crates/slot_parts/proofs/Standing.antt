@@ -12,7 +12,7 @@ use Rattle.xdp_maps.specs.State.{no_decl}
 use Rattle.xdp_maps.specs.declared.decl.MapKind.TheVariants.{Hash, Array}
 use Rattle.block_core.specs.declared.name.Name.{Name}
 use Rattle.block_core.specs.declared.name.Name.TheVariants as name
-use Rattle.pipe_net.specs.hazard_core.Commits.{word_count}
+use Rattle.pipe_turns.specs.pipe_net.hazard_core.Commits.{word_count}
 use Rattle.slot_net.specs.array_net.Words.{word_width}
 use Rattle.map_block.proofs.array_net.WordLaws.{width_some, width_most}
 use Rattle.hash_net.specs.Hash.{count_name}
@@ -24,9 +24,9 @@ use Rattle.read_net.specs.declared.sites.MapNets.{MapNets}
 use Rattle.read_net.specs.Sites.{IsMap}
 use Rattle.map_block.specs.declared.form.MapForm.{MapForm}
 use Rattle.map_block.specs.Forms.{IsSuited}
-use Rattle.pipe_net.specs.declared.parts.Part.{Part}
-use Rattle.pipe_net.specs.declared.parts.Sizes.{Sizes}
-use Rattle.pipe_net.specs.Parts as part
+use Rattle.pipe_turns.specs.pipe_net.declared.parts.Part.{Part}
+use Rattle.pipe_turns.specs.pipe_net.declared.parts.Sizes.{Sizes}
+use Rattle.pipe_turns.specs.pipe_net.Parts as part
 use Rattle.slot_parts.specs.declared.slots.SlotsPart.{SlotsPart}
 use Rattle.pipe_draft.specs.declared.draft.Draft.{Draft}
 use Rattle.pipe_draft.specs.Draft.{decls_in, IsDraft}

@@ -8,9 +8,9 @@ use Rattle.xdp_maps.specs.declared.decl.MapKind.TheVariants.{Array}
 use Rattle.cell_nets.specs.declared.operand.Operand.TheVariants.{Known}
 use Rattle.read_net.specs.declared.sites.MapNets.{MapNets}
 use Rattle.pipe_draft.specs.stage_net.Nets.{decls_of}
-use Rattle.pipe_net.specs.declared.parts.Part.{Part}
-use Rattle.pipe_net.specs.Parts as part
-use Rattle.pipe_net.specs.Layout.{Layout}
+use Rattle.pipe_turns.specs.pipe_net.declared.parts.Part.{Part}
+use Rattle.pipe_turns.specs.pipe_net.Parts as part
+use Rattle.pipe_turns.specs.pipe_net.Layout.{Layout}
 use Rattle.pipe_turns.specs.Maps as turns
 use Rattle.pipe_turns.specs.Maps.{decl_at, IsSlotsPart}
 use Rattle.pipe_draft.specs.pipe_places.Parts as places

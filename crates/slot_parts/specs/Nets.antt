@@ -10,9 +10,9 @@ use Rattle.slot_net.specs.Shown.{shown_slots}
 use Rattle.read_net.specs.declared.sites.MapNets.{MapNets}
 use Rattle.read_net.specs.Sites.{IsMap}
 use Rattle.map_block.specs.declared.form.MapForm.{MapForm}
-use Rattle.pipe_net.specs.declared.parts.Part.{Part}
-use Rattle.pipe_net.specs.declared.parts.Sizes.{Sizes}
-use Rattle.pipe_net.specs.Parts as part
+use Rattle.pipe_turns.specs.pipe_net.declared.parts.Part.{Part}
+use Rattle.pipe_turns.specs.pipe_net.declared.parts.Sizes.{Sizes}
+use Rattle.pipe_turns.specs.pipe_net.Parts as part
 use Rattle.pipe_draft.specs.declared.draft.Draft.{Draft}
 
 -- Map m of this form, where the numbers of pointers have so many bits: of a hash the wires that show its slots, and the register that counts those that are used. Of an array

@@ -7,8 +7,8 @@ use Rattle.operand_blocks.specs.Wiring.{wires_block}
 use Rattle.slot_net.specs.Slots.{slots_of}
 use Rattle.slot_net.specs.Shown.{shown_slots, IsSlots}
 use Rattle.map_block.specs.declared.form.MapForm.{MapForm}
-use Rattle.pipe_net.specs.declared.parts.Sizes.{Sizes}
-use Rattle.pipe_net.specs.Parts as part
+use Rattle.pipe_turns.specs.pipe_net.declared.parts.Sizes.{Sizes}
+use Rattle.pipe_turns.specs.pipe_net.Parts as part
 use Rattle.pipe_draft.specs.declared.draft.Draft.{Draft}
 use Rattle.slot_parts.specs.declared.slots.SlotsPart.{SlotsPart}
 

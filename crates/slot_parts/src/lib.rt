@@ -5,3 +5,6 @@
 pub mod laws;
 pub mod nets;
 pub mod slots;
+
+// Crates above name these through this one.
+pub use pipe_draft;

@@ -3,16 +3,16 @@ use Rattle.std.specs.Prelude.{Option, nat_le}
 use Rattle.std.proofs.Common.{◌≡◌, ◌∙◌, ℕ, zero, suc, Bool, true, false, ◌||◌, All, List, [], ◌∷◌, slice_index, refl, ap, arith}
 use Rattle.std.proofs.lemmas.Bool.{lt-leb}
 use Rattle.std.proofs.lemmas.List.Elements.{All-nil, All-cons}
-use Rattle.cell_nets.specs.product_blocks.Apart.{is_marked}
+use Rattle.site_operands.specs.cell_nets.product_blocks.Apart.{is_marked}
 use Rattle.block_core.specs.declared.name.Name.{Name}
 use Rattle.cell_core.specs.declared.operator.Operator.{Operator}
 use Rattle.cell_core.specs.declared.operator.Operator.TheVariants.{Found, Answer}
 use Rattle.cell_core.specs.Cells.{CellView, cell_at, is_read}
 use Rattle.cell_core.specs.Sites.{ProgramView}
-use Rattle.cell_nets.specs.declared.operand.Operand.{Operand}
-use Rattle.cell_nets.specs.Apart.{IsClean}
-use Rattle.cell_nets.specs.Operands.{IsAvailable}
-use Rattle.cell_nets.proofs.ApartLemmas.{all_clean, all_self}
+use Rattle.site_operands.specs.cell_nets.declared.operand.Operand.{Operand}
+use Rattle.site_operands.specs.cell_nets.Apart.{IsClean}
+use Rattle.site_operands.specs.cell_nets.Operands.{IsAvailable}
+use Rattle.site_operands.proofs.cell_nets_laws.ApartLemmas.{all_clean, all_self}
 use Rattle.site_table.specs.row_plan.Plan.{Plan}
 use Rattle.site_place.specs.row_net.Apart.{KeepApart}
 use Rattle.site_place.specs.row_net.Lists.{is_early, is_non_zero}

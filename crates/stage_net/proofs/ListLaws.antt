@@ -2,14 +2,14 @@
 use Rattle.std.specs.Prelude.{Option}
 use Rattle.std.proofs.Common.{◌≡◌, ◌∙◌, ◌⊎◌, inl, inr, ℕ, zero, suc, ◌+◌, ◌<◌, Bool, true, false, All, List, [], ◌∷◌, length, slice_index, refl, ap, subst, arith}
 use Rattle.block_core.specs.declared.name.Name.{Name}
-use Rattle.cell_nets.specs.declared.operand.Operand.{Operand}
+use Rattle.site_operands.specs.cell_nets.declared.operand.Operand.{Operand}
 use Rattle.cell_core.specs.declared.operator.Operator.{Operator}
 use Rattle.cell_core.specs.declared.operator.Operator.TheVariants as op
 use Rattle.cell_core.specs.Cells.{cell_at, is_read, is_heavy, bit}
 use Rattle.cell_core.specs.Formed.{AreFormed, AreInputs}
 use Rattle.cell_core.specs.Rows.{AreRows, greatest}
 use Rattle.cell_core.specs.Sites.{ProgramView}
-use Rattle.cell_nets.specs.Computing.{is_outside}
+use Rattle.site_operands.specs.cell_nets.Computing.{is_outside}
 use Rattle.site_table.specs.row_plan.Plan.{Plan, IsPlan}
 use Rattle.site_place.specs.row_net.Lists.{made_cells}
 use Rattle.site_place.specs.row_net.Needed.{AreNeeded, flag}

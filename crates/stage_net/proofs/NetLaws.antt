@@ -3,8 +3,8 @@ use Rattle.std.specs.Prelude.{Option}
 use Rattle.std.proofs.Common.{◌≡◌, ◌∙◌, ℕ, ◌<◌, All, List, length, get_or, ap, arith}
 use Rattle.std.proofs.lemmas.List.{length-map}
 use Rattle.cell_core.specs.Sites.{ProgramView, site_at}
-use Rattle.cell_nets.specs.declared.operand.Operand.{Operand}
-use Rattle.cell_nets.specs.Operands.{IsAvailable}
+use Rattle.site_operands.specs.cell_nets.declared.operand.Operand.{Operand}
+use Rattle.site_operands.specs.cell_nets.Operands.{IsAvailable}
 use Rattle.site_operands.specs.declared.SiteNets.{SiteNets}
 use Rattle.site_operands.specs.Sites.{SiteOperands, operands_of, all_of}
 use Rattle.site_place.specs.row_net.Table.{IsTable, AreThere}

@@ -2,8 +2,8 @@
 use Rattle.std.specs.Prelude.{◌≢◌}
 use Rattle.std.proofs.Common.{◌≡◌, ◌∙◌, ◌⊎◌, inl, inr, ℕ, suc, ◌<◌, ◌≤◌, Bool, true, Some, List, length, get_or, slice_index, refl, sym, ap, arith}
 use Rattle.std.proofs.lemmas.Bool.{cases_eq}
-use Rattle.cell_nets.specs.net_core.Value.{bit, Env}
-use Rattle.cell_nets.specs.net_core.Clock.{Stored, done}
+use Rattle.site_operands.specs.cell_nets.net_core.Value.{bit, Env}
+use Rattle.site_operands.specs.cell_nets.net_core.Clock.{Stored, done}
 use Rattle.cell_core.specs.xdp_machine.State.{PacketIn}
 use Rattle.block_core.specs.declared.name.Name.{Name}
 use Rattle.block_core.specs.Blocks.{BlockTree}
@@ -16,8 +16,8 @@ use Rattle.hazard_core.specs.Tables.{TableState, table_at}
 use Rattle.hazard_core.specs.Held.{Held, held_value, pointer_in}
 use Rattle.hazard_core.specs.Keeping.{SameCell, AreAlike}
 use Rattle.hazard_core.specs.Rows.{cell_number, with_row}
-use Rattle.cell_nets.specs.declared.operand.Operand.{Operand}
-use Rattle.cell_nets.specs.Operands.{AreFit}
+use Rattle.site_operands.specs.cell_nets.declared.operand.Operand.{Operand}
+use Rattle.site_operands.specs.cell_nets.Operands.{AreFit}
 use Rattle.site_table.specs.row_plan.Plan.{Plan}
 use Rattle.site_place.specs.row_net.Made.{AreValues}
 use Rattle.site_place.specs.row_net.Table.{Holds}

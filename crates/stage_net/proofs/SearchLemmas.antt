@@ -5,7 +5,7 @@ use Rattle.std.proofs.lemmas.Bool.{cases_lt}
 use Rattle.std.proofs.lemmas.Nat.{pow_pos}
 use Rattle.std.proofs.lemmas.List.{get_or_append_left, get_or_push}
 use Rattle.std.proofs.lemmas.List.Elements.{All-append, All-cons, All-nil}
-use Rattle.cell_nets.specs.net_core.Value.{Env}
+use Rattle.site_operands.specs.cell_nets.net_core.Value.{Env}
 use Rattle.block_core.specs.declared.name.Name.{Name}
 use Rattle.block_core.specs.Blocks.{BlockWireTree}
 use Rattle.block_core.specs.Parts.{Solve}
@@ -15,10 +15,10 @@ use Rattle.cell_core.specs.Sites.{ProgramView, site_at}
 use Rattle.hazard_core.specs.Tables.{TableState, table_at}
 use Rattle.hazard_core.specs.Tabled.{AreTables}
 use Rattle.hazard_core.specs.Held.{Held, asked_key, slot_pointer}
-use Rattle.cell_nets.specs.declared.operand.Operand.{Operand}
-use Rattle.cell_nets.specs.declared.operand.Operand.TheVariants.{Known}
-use Rattle.cell_nets.specs.Operands.{IsOperand, AreFit, IsAvailable}
-use Rattle.cell_nets.specs.Wires.{behind, AreWires, HasBits, Gives}
+use Rattle.site_operands.specs.cell_nets.declared.operand.Operand.{Operand}
+use Rattle.site_operands.specs.cell_nets.declared.operand.Operand.TheVariants.{Known}
+use Rattle.site_operands.specs.cell_nets.Operands.{IsOperand, AreFit, IsAvailable}
+use Rattle.site_operands.specs.cell_nets.Wires.{behind, AreWires, HasBits, Gives}
 use Rattle.site_operands.specs.Pointers.{pointer_number}
 use Rattle.site_operands.specs.Sites.{operands_of, all_of, ShowsAsked}
 use Rattle.read_net.specs.overlay_net.Reading.{ShowsSlot}

@@ -5,9 +5,9 @@ use Rattle.std.proofs.lemmas.Nat.{pow_pos}
 use Rattle.std.proofs.lemmas.List.{length-map}
 use Rattle.std.proofs.lemmas.List.Elements.{All-cons, All-nil, All-head, All-tail}
 use Rattle.cell_core.specs.xdp_machine.State.{PacketIn}
-use Rattle.cell_nets.specs.product_blocks.Apart.{is_marked, AreMarked}
-use Rattle.cell_nets.proofs.product_blocks.FreeLaws.{all_marked}
-use Rattle.cell_nets.proofs.product_blocks.CleanLaws.{marked_behind}
+use Rattle.site_operands.specs.cell_nets.product_blocks.Apart.{is_marked, AreMarked}
+use Rattle.site_operands.proofs.cell_nets_laws.product_blocks.FreeLaws.{all_marked}
+use Rattle.site_operands.proofs.cell_nets_laws.product_blocks.CleanLaws.{marked_behind}
 use Rattle.block_core.specs.declared.name.Name.{Name}
 use Rattle.block_core.specs.Blocks.{BlockWireTree}
 use Rattle.cell_core.specs.declared.site.Act.{Act}
@@ -18,12 +18,12 @@ use Rattle.cell_core.specs.Sites.{ProgramView, site_at}
 use Rattle.hazard_core.specs.Tables.{TableState}
 use Rattle.hazard_core.specs.Held.{Held, access_pointer, pending}
 use Rattle.hazard_core.specs.Overlay.{answer_over}
-use Rattle.cell_nets.specs.declared.operand.Operand.{Operand}
-use Rattle.cell_nets.specs.declared.operand.Operand.TheVariants.{Known}
-use Rattle.cell_nets.specs.Operands.{IsOperand, IsAvailable}
-use Rattle.cell_nets.specs.Apart.{Agrees, StayApart}
-use Rattle.cell_nets.specs.Wires.{behind, HasBits, Gives}
-use Rattle.cell_nets.proofs.ApartLemmas.{agrees_split, free_marked}
+use Rattle.site_operands.specs.cell_nets.declared.operand.Operand.{Operand}
+use Rattle.site_operands.specs.cell_nets.declared.operand.Operand.TheVariants.{Known}
+use Rattle.site_operands.specs.cell_nets.Operands.{IsOperand, IsAvailable}
+use Rattle.site_operands.specs.cell_nets.Apart.{Agrees, StayApart}
+use Rattle.site_operands.specs.cell_nets.Wires.{behind, HasBits, Gives}
+use Rattle.site_operands.proofs.cell_nets_laws.ApartLemmas.{agrees_split, free_marked}
 use Rattle.site_place.specs.row_net.Apart.{KeepApart}
 use Rattle.read_net.specs.value_net.Words.{answers_number, access_start}
 use Rattle.read_net.specs.declared.sites.OwnSite.{OwnSite}

@@ -6,8 +6,8 @@ use Rattle.std.proofs.lemmas.List.{length-set}
 use Rattle.std.proofs.lemmas.List.Sums.{passes_at_first}
 use Rattle.block_core.specs.declared.name.Name.{Name}
 use Rattle.block_core.specs.Blocks.{BlockWireTree}
-use Rattle.cell_nets.specs.product_blocks.Apart.{is_marked}
-use Rattle.cell_nets.specs.net_core.Value.{Env}
+use Rattle.site_operands.specs.cell_nets.product_blocks.Apart.{is_marked}
+use Rattle.site_operands.specs.cell_nets.net_core.Value.{Env}
 use Rattle.cell_core.specs.xdp_machine.State.{PacketIn}
 use Rattle.xdp_maps.specs.declared.decl.MapDecl.{MapDecl}
 use Rattle.cell_core.specs.declared.operator.Operator.{Operator}
@@ -19,12 +19,12 @@ use Rattle.hazard_core.specs.Held.{Held, held_value, pointer_in, found_cell, ans
 use Rattle.hazard_core.specs.Keeping.{LooksBelow, ReadsKeep}
 use Rattle.hazard_core.specs.Overlay.{found_pointer, answer_over}
 use Rattle.hazard_core.specs.Rows.{cell_number, cell_pointer}
-use Rattle.cell_nets.specs.declared.operand.Operand.{Operand}
-use Rattle.cell_nets.specs.Apart.{IsClean}
-use Rattle.cell_nets.specs.Operands.{number_in, IsOperand, IsAvailable}
-use Rattle.cell_nets.specs.Wires.{behind, HasBits}
+use Rattle.site_operands.specs.cell_nets.declared.operand.Operand.{Operand}
+use Rattle.site_operands.specs.cell_nets.Apart.{IsClean}
+use Rattle.site_operands.specs.cell_nets.Operands.{number_in, IsOperand, IsAvailable}
+use Rattle.site_operands.specs.cell_nets.Wires.{behind, HasBits}
 use Rattle.site_operands.specs.Pointers.{pointer_number}
-use Rattle.read_net.proofs.step_nets.StepLaws.{bit_bits}
+use Rattle.read_net.proofs.step_nets_laws.StepLaws.{bit_bits}
 use Rattle.site_place.specs.row_net.Table.{Stands, IsIn, IsTable}
 use Rattle.site_place.specs.row_net.Apart.{KeepApart}
 use Rattle.site_place.specs.Pointing.{IsPointers}

@@ -3,8 +3,8 @@ use Rattle.std.specs.Prelude.{◌≡◌, ℕ, ◌<◌, All, List, length, map as
 use Rattle.std.proofs.Common.{get_or}
 use Rattle.xdp_maps.specs.declared.decl.MapDecl.{MapDecl}
 use Rattle.cell_core.specs.Sites.{ProgramView, site_at}
-use Rattle.cell_nets.specs.declared.operand.Operand.{Operand}
-use Rattle.cell_nets.specs.Operands.{IsOperand, IsNarrow, IsAvailable}
+use Rattle.site_operands.specs.cell_nets.declared.operand.Operand.{Operand}
+use Rattle.site_operands.specs.cell_nets.Operands.{IsOperand, IsNarrow, IsAvailable}
 use Rattle.site_operands.specs.declared.SiteNets.{SiteNets}
 use Rattle.site_operands.specs.Sites.{operands_of, all_of}
 use Rattle.read_net.specs.declared.sites.OwnSite.{OwnSite}

@@ -1,6 +1,6 @@
 -- What a site reads, whatever it does.
 use Rattle.std.specs.Prelude.{◌≡◌, ℕ, ◌∷◌, ◌/◌, not, true, All, List, []}
-use Rattle.cell_nets.specs.net_core.Value.{Env}
+use Rattle.site_operands.specs.cell_nets.net_core.Value.{Env}
 use Rattle.block_core.specs.declared.name.Name.{Name}
 use Rattle.block_core.specs.Blocks.{BlockWireTree}
 use Rattle.block_core.specs.Parts.{Solve}
@@ -10,9 +10,9 @@ use Rattle.cell_core.specs.Sites.{ProgramView, site_at}
 use Rattle.hazard_core.specs.Tables.{TableState}
 use Rattle.hazard_core.specs.Held.{Held, access_pointer, pending, is_null}
 use Rattle.hazard_core.specs.Overlay.{found_pointer, answer_over}
-use Rattle.cell_nets.specs.declared.operand.Operand.{Operand}
-use Rattle.cell_nets.specs.Operands.{number_in, AreFit, IsAvailable}
-use Rattle.cell_nets.specs.Wires.{behind, AreWires}
+use Rattle.site_operands.specs.cell_nets.declared.operand.Operand.{Operand}
+use Rattle.site_operands.specs.cell_nets.Operands.{number_in, AreFit, IsAvailable}
+use Rattle.site_operands.specs.cell_nets.Wires.{behind, AreWires}
 use Rattle.site_operands.specs.Pointers.{pointer_number}
 use Rattle.site_place.specs.PointerNets.{AddWires}
 use Rattle.read_net.specs.overlay_net.Reading.{ShowsSlot}

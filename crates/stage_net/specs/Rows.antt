@@ -1,7 +1,7 @@
 -- What the sites that are read in a row give.
 use Rattle.std.specs.Prelude.{◌≡◌, ℕ, ◌<◌, ◌≤◌, ◌∷◌, ◌/◌, not, Bool, true, false, Option, Some, All, List, [], length}
 use Rattle.std.proofs.Common.{get_or, ◌⊎◌}
-use Rattle.cell_nets.specs.net_core.Value.{Env}
+use Rattle.site_operands.specs.cell_nets.net_core.Value.{Env}
 use Rattle.cell_core.specs.xdp_machine.State.{PacketIn}
 use Rattle.block_core.specs.declared.name.Name.{Name}
 use Rattle.block_core.specs.Blocks.{BlockWireTree}
@@ -15,9 +15,9 @@ use Rattle.hazard_core.specs.Tabled.{AreTables}
 use Rattle.hazard_core.specs.Held.{Held, held_value, pointer_in, access_pointer, pending, is_null}
 use Rattle.hazard_core.specs.Keeping.{AreAlike}
 use Rattle.hazard_core.specs.Overlay.{found_pointer, answer_over}
-use Rattle.cell_nets.specs.declared.operand.Operand.{Operand}
-use Rattle.cell_nets.specs.Operands.{number_in, IsOperand, AreFit, IsAvailable}
-use Rattle.cell_nets.specs.Wires.{behind, AreWires, HasBits}
+use Rattle.site_operands.specs.cell_nets.declared.operand.Operand.{Operand}
+use Rattle.site_operands.specs.cell_nets.Operands.{number_in, IsOperand, AreFit, IsAvailable}
+use Rattle.site_operands.specs.cell_nets.Wires.{behind, AreWires, HasBits}
 use Rattle.site_operands.specs.declared.SiteNets.{SiteNets}
 use Rattle.site_operands.specs.Pointers.{pointer_number}
 use Rattle.site_operands.specs.Sites.{operands_of, ShowsSite}

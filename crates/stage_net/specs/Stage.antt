@@ -3,10 +3,10 @@ use Rattle.std.specs.Prelude.{◌≡◌, ℕ, ◌<◌, true, false, Option, All,
 use Rattle.std.specs.List.{list_all}
 use Rattle.std.proofs.Common.{◌⊎◌}
 use Rattle.cell_core.specs.xdp_machine.State.{PacketIn}
-use Rattle.cell_nets.specs.net_core.Ports.{port_list}
-use Rattle.cell_nets.specs.net_core.Value.{bit, Env}
-use Rattle.cell_nets.specs.net_core.Clock.{Stored, done}
-use Rattle.cell_nets.specs.design_rules.FormedSyntax.{statement_spelled}
+use Rattle.site_operands.specs.cell_nets.net_core.Ports.{port_list}
+use Rattle.site_operands.specs.cell_nets.net_core.Value.{bit, Env}
+use Rattle.site_operands.specs.cell_nets.net_core.Clock.{Stored, done}
+use Rattle.site_operands.specs.cell_nets.design_rules.FormedSyntax.{statement_spelled}
 use Rattle.block_core.specs.declared.name.Name.{Name}
 use Rattle.block_core.specs.Blocks.{BlockTree, registers_of, memories_of, first_of, Whole, Among}
 use Rattle.block_core.specs.Parts.{Solve, Goes, Within}
@@ -16,10 +16,10 @@ use Rattle.cell_core.specs.Cells.{CellView, cell_at}
 use Rattle.cell_core.specs.Sites.{ProgramView}
 use Rattle.hazard_core.specs.Tables.{TableState}
 use Rattle.hazard_core.specs.Held.{Held, held_value, pointer_in}
-use Rattle.cell_nets.specs.declared.operand.Operand.{Operand}
-use Rattle.cell_nets.specs.Computing.{is_outside}
-use Rattle.cell_nets.specs.Operands.{AreFit, AreDeclared, IsNetOf}
-use Rattle.cell_nets.specs.Wires.{is_spelled}
+use Rattle.site_operands.specs.cell_nets.declared.operand.Operand.{Operand}
+use Rattle.site_operands.specs.cell_nets.Computing.{is_outside}
+use Rattle.site_operands.specs.cell_nets.Operands.{AreFit, AreDeclared, IsNetOf}
+use Rattle.site_operands.specs.cell_nets.Wires.{is_spelled}
 use Rattle.site_place.specs.row_net.Table.{Holds}
 use Rattle.site_place.specs.row_net.Made.{AreValues}
 use Rattle.site_place.specs.Pointing.{HoldsPointers, Takes}

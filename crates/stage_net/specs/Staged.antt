@@ -10,7 +10,7 @@ use Rattle.hazard_core.specs.Tables.{TableState}
 use Rattle.hazard_core.specs.Tabled.{AreTables}
 use Rattle.hazard_core.specs.Held.{found_cell, answer_cell}
 use Rattle.hazard_core.specs.Keeping.{LooksBelow}
-use Rattle.cell_nets.specs.Operands.{IsWide}
+use Rattle.site_operands.specs.cell_nets.Operands.{IsWide}
 use Rattle.read_net.specs.value_net.Words.{IsAligned}
 
 -- There are tables of these declarations.

@@ -4,8 +4,8 @@ ghost use Rattle.std.specs.Prelude.{ℕ, ◌≡◌, true, ◌*◌, ◌<◌, ◌�
 ghost use Rattle.cell_core.specs.Sites.{ProgramView};
 ghost use Rattle.hazard_core.specs.Held.{Held};
 ghost use Rattle.hazard_core.specs.Tables.{TableState};
-ghost use Rattle.cell_nets.specs.Operands.{IsOperand};
-ghost use Rattle.cell_nets.specs.Wires.{wires_of, HasBits};
+ghost use Rattle.site_operands.specs.cell_nets.Operands.{IsOperand};
+ghost use Rattle.site_operands.specs.cell_nets.Wires.{wires_of, HasBits};
 ghost use Rattle.read_net.specs.value_net.Words.{IsAligned, answers_number};
 ghost use Rattle.read_net.specs.Sites.{cells_of, IsMap, IsWhole};
 ghost use Rattle.read_net.specs.Reads.{IsReadOf};
@@ -15,11 +15,11 @@ ghost use Rattle.stage_net.specs.Reads.{HasEntry, SiteReads};
 use block_core::block::BlockWire;
 use block_core::name::Name;
 use cell_core::site::Act;
-use cell_nets::operand::Operand;
 use read_net::accesses::access;
 use read_net::lookups::lookup;
 use read_net::sites::{MapNets, OwnSite, ReadNets};
 use read_net::updates::{delete, update};
+use site_operands::cell_nets::operand::Operand;
 use std::alloc::{AllocError, Global};
 
 // What a load or an atomic change reads: it looks for no key.

@@ -6,7 +6,7 @@ ghost use Rattle.cell_core.specs.Acts.{finds_key};
 ghost use Rattle.block_core.specs.Blocks.{BlockWireTree};
 ghost use Rattle.block_core.specs.declared.name.Name.{Name};
 ghost use Rattle.cell_core.specs.View.{program_of};
-ghost use Rattle.cell_nets.specs.Wires.{wires_of};
+ghost use Rattle.site_operands.specs.cell_nets.Wires.{wires_of};
 ghost use Rattle.stage_net.specs.Nets.{decls_of, AreNets};
 ghost use Rattle.stage_net.specs.Staged.{HaveTables, IsStaged};
 ghost use Rattle.stage_net.specs.Rows.{IsSought, AsksSame, AreSought};
@@ -17,9 +17,9 @@ use crate::row::{ProgramRow, StageNets};
 use block_core::block::BlockWire;
 use block_core::name::Name;
 use cell_core::site::Act;
-use cell_nets::operand::Operand;
 use hazard_core::site::{answer_cell, found_cell, site_at};
 use read_net::looking::slot_under;
+use site_operands::cell_nets::operand::Operand;
 use std::alloc::{AllocError, Global};
 
 // Whether an operation looks for a key.

@@ -1,15 +1,15 @@
 //! The place of a row that reads maps.
 
 ghost use Rattle.std.specs.Prelude.{ℕ, Bool, ◌≡◌, ◌<◌, ◌⊎◌, false, List, All, Contains, IfOk, slice_index};
-ghost use Rattle.cell_nets.specs.net_core.Value.{Env};
-ghost use Rattle.cell_nets.specs.product_blocks.Alone.{IsApartAlone};
+ghost use Rattle.site_operands.specs.cell_nets.net_core.Value.{Env};
+ghost use Rattle.site_operands.specs.cell_nets.product_blocks.Alone.{IsApartAlone};
 ghost use Rattle.block_core.specs.declared.name.Name.{Name};
 ghost use Rattle.block_core.specs.Parts.{Solve};
 ghost use Rattle.block_core.specs.View.{block_of};
 ghost use Rattle.cell_core.specs.View.{program_of};
-ghost use Rattle.cell_nets.specs.declared.operand.Operand.{Operand};
-ghost use Rattle.cell_nets.specs.declared.operand.Operand.TheVariants.{Net};
-ghost use Rattle.cell_nets.specs.Wires.{behind, wires_of, AreWires};
+ghost use Rattle.site_operands.specs.cell_nets.declared.operand.Operand.{Operand};
+ghost use Rattle.site_operands.specs.cell_nets.declared.operand.Operand.TheVariants.{Net};
+ghost use Rattle.site_operands.specs.cell_nets.Wires.{behind, wires_of, AreWires};
 ghost use Rattle.site_place.specs.row_net.Table.{IsTable};
 ghost use Rattle.site_place.specs.row_net.Apart.{TakeClean, KeepApart};
 ghost use Rattle.site_place.specs.place_net.Place.{width_at};
@@ -24,7 +24,7 @@ use crate::reads::reads;
 use crate::row::{ProgramRow, StageNets};
 use block_core::block::{Block, BlockWire};
 use block_core::name::{Name, Part};
-use cell_nets::operand::Operand;
+use site_operands::cell_nets::operand::Operand;
 use site_place::laws::pointers_are_held;
 use site_place::placing::site_place;
 use std::alloc::{AllocError, Global};

@@ -4,9 +4,9 @@ use Rattle.std.proofs.Common.{◌≡◌, ◌∙◌, ℕ, zero, suc, ◌+◌, ◌
 use Rattle.std.proofs.Math.Nat.{mod-eq_of_lt}
 use Rattle.std.proofs.Math.Pow.{pow_mono}
 use Rattle.net_core.specs.Value.{Env}
-use Rattle.cell_core.specs.xdp_machine.Arithmetic.{low}
-use Rattle.cell_core.specs.xdp_machine.State.{PacketIn}
-use Rattle.cell_core.specs.Cells.{bit, on, bits_from}
+use Rattle.cell_nets.specs.cell_core.xdp_machine.Arithmetic.{low}
+use Rattle.cell_nets.specs.cell_core.xdp_machine.State.{PacketIn}
+use Rattle.cell_nets.specs.cell_core.Cells.{bit, on, bits_from}
 use Rattle.cell_nets.specs.declared.operand.Operand.{Operand}
 use Rattle.cell_nets.specs.declared.operand.Operand.TheVariants.{Known, Net, Part}
 use Rattle.block_core.specs.Blocks.{BlockWireTree}

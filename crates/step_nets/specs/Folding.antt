@@ -2,7 +2,7 @@
 use Rattle.std.specs.Prelude.{◌≡◌, ℕ, Bool, if◌then◌else◌}
 use Rattle.std.proofs.Common.{◌⊎◌}
 use Rattle.net_core.specs.Value.{Env}
-use Rattle.cell_core.specs.Cells.{bit, on, bits_from}
+use Rattle.cell_nets.specs.cell_core.Cells.{bit, on, bits_from}
 use Rattle.cell_nets.specs.declared.operand.Operand.{Operand}
 use Rattle.cell_nets.specs.Operands.{number_in}
 

@@ -2,14 +2,14 @@
 #![tactic(auto)]
 
 ghost use Rattle.std.specs.Prelude.{ℕ, true, Some, [], ◌∷◌, ◌≡◌, ◌==◌, ◌+◌, ◌&&◌, ◌≤◌, not, nat_lt, nat_le, if◌then◌else◌, IfOk};
-ghost use Rattle.cell_core.specs.Cells.{bit, on, bits_from};
+ghost use Rattle.cell_nets.specs.cell_core.Cells.{bit, on, bits_from};
 ghost use Rattle.cell_nets.specs.Operands.{IsOperand, IsWide, number_in};
 ghost use Rattle.cell_nets.specs.Wires.{wires_of, always, Gives};
 ghost use Rattle.step_nets.specs.Folding.{IsSettled, IsTruth};
 
 use block_core::block::BlockWire;
 use block_core::name::Name;
-use cell_core::value::bits_from;
+use cell_nets::cell_core::value::bits_from;
 use cell_nets::choosing;
 use cell_nets::comparing::{compare, span};
 use cell_nets::narrow::narrow;

@@ -13,7 +13,7 @@ use Rattle.hazard_core.specs.cell_core.declared.site.Act.{Act}
 use Rattle.hazard_core.specs.cell_core.declared.site.Act.TheVariants as act
 use Rattle.hazard_core.specs.cell_core.Formed.{HasWords, IsInside}
 use Rattle.hazard_core.specs.cell_core.Sites.{site_at, spelled, bytes_of, operation_with}
-use Rattle.hazard_core.proofs.cell_core.SpelledLaws.{spelled_length}
+use Rattle.hazard_core.proofs.cell_core_laws.SpelledLaws.{spelled_length}
 use Rattle.hazard_core.specs.declared.slot.Slot.{Slot}
 use Rattle.hazard_core.specs.Tables.{decl_of, table_at, slot_at}
 use Rattle.hazard_core.specs.Held.{held_value, asked, asked_key}

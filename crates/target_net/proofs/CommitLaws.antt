@@ -2,15 +2,15 @@
 use Rattle.std.specs.Prelude.{slice_index, if◌then◌else◌, Option, None, Some}
 use Rattle.std.proofs.Common.{◌≡◌, ◌∙◌, ℕ, zero, suc, ◌==◌, ◌<◌, Bool, true, false, ◌&&◌, ◌||◌, List, [], ◌∷◌, length, get_or, refl, sym, ap, arith, find}
 use Rattle.std.proofs.lemmas.Bool.{eqb-true, eqb-false, eq-eqb}
-use Rattle.cell_nets.specs.net_core.Value.{word, bit as bit_word, Env}
+use Rattle.site_operands.specs.cell_nets.net_core.Value.{word, bit as bit_word, Env}
 use Rattle.xdp_maps.specs.declared.decl.MapDecl.{MapDecl}
-use Rattle.cell_nets.specs.cell_core.Cells.{bit, on}
-use Rattle.cell_nets.specs.cell_core.Sites.{ProgramView, site_at}
+use Rattle.site_operands.specs.cell_nets.cell_core.Cells.{bit, on}
+use Rattle.site_operands.specs.cell_nets.cell_core.Sites.{ProgramView, site_at}
 use Rattle.hazard_core.specs.Held.{Held, writes}
-use Rattle.cell_nets.specs.declared.operand.Operand.{Operand}
-use Rattle.cell_nets.specs.declared.operand.Operand.TheVariants.{Known}
-use Rattle.cell_nets.specs.Operands.{number_in}
-use Rattle.step_nets.proofs.StepLaws.{on_bit}
+use Rattle.site_operands.specs.cell_nets.declared.operand.Operand.{Operand}
+use Rattle.site_operands.specs.cell_nets.declared.operand.Operand.TheVariants.{Known}
+use Rattle.site_operands.specs.cell_nets.Operands.{number_in}
+use Rattle.read_net.proofs.step_nets_laws.StepLaws.{on_bit}
 use Rattle.turn_net.specs.declared.nets.RecordNets.{RecordNets}
 use Rattle.turn_net.specs.Turns.{Signals, first_open, may_commit, is_at}
 use Rattle.turn_net.specs.Nets.{sites_of}

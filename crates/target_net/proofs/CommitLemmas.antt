@@ -4,17 +4,17 @@ use Rattle.std.proofs.Common.{◌≡◌, ◌⊎◌, inl, inr, ◌∙◌, ℕ, su
 use Rattle.std.proofs.lemmas.Bool.{cases_lt, eq-eqb, ne_eqb}
 use Rattle.std.proofs.lemmas.List.{get_or-map, get_or_append_left, get_or_default, get_or_push, length_push, length-map}
 use Rattle.std.proofs.lemmas.List.Elements.{All-append}
-use Rattle.cell_nets.specs.net_core.Value.{Env}
+use Rattle.site_operands.specs.cell_nets.net_core.Value.{Env}
 use Rattle.block_core.specs.declared.name.Name.{Name}
 use Rattle.block_core.specs.Blocks.{BlockWireTree}
-use Rattle.cell_nets.specs.cell_core.Cells.{bit, on, bits_from}
-use Rattle.cell_nets.specs.declared.operand.Operand.{Operand}
-use Rattle.cell_nets.specs.declared.operand.Operand.TheVariants.{Known, Net}
-use Rattle.cell_nets.specs.Operands.{number_in, IsOperand, IsAvailable}
-use Rattle.cell_nets.specs.Wires.{always, Gives}
-use Rattle.step_nets.specs.Standing.{Stands}
-use Rattle.step_nets.proofs.ChainLaws.{starts, next, last, ends}
-use Rattle.step_nets.proofs.StepLaws.{all_each, bit_bits}
+use Rattle.site_operands.specs.cell_nets.cell_core.Cells.{bit, on, bits_from}
+use Rattle.site_operands.specs.cell_nets.declared.operand.Operand.{Operand}
+use Rattle.site_operands.specs.cell_nets.declared.operand.Operand.TheVariants.{Known, Net}
+use Rattle.site_operands.specs.cell_nets.Operands.{number_in, IsOperand, IsAvailable}
+use Rattle.site_operands.specs.cell_nets.Wires.{always, Gives}
+use Rattle.operand_blocks.specs.step_nets.Standing.{Stands}
+use Rattle.read_net.proofs.step_nets_laws.ChainLaws.{starts, next, last, ends}
+use Rattle.read_net.proofs.step_nets_laws.StepLaws.{all_each, bit_bits}
 use Rattle.target_net.specs.Commits.{bits_of, any_on, AreOn}
 use Rattle.target_net.proofs.StandLemmas.{item_of, left_of, right_of, first_of, tail_of, one_of, stands_as}
 

@@ -1,13 +1,13 @@
 -- What the part of targets gives is what the turn takes: of the site that commits, the slot that its operation writes.
 use Rattle.std.proofs.Common.{◌≡◌, ◌≢◌, ◌∙◌, ℕ, ◌<◌, true, Option, List, length, get_or, sym, ap, subst}
-use Rattle.cell_nets.specs.net_core.Value.{Env}
-use Rattle.cell_nets.specs.cell_core.Sites.{ProgramView}
+use Rattle.site_operands.specs.cell_nets.net_core.Value.{Env}
+use Rattle.site_operands.specs.cell_nets.cell_core.Sites.{ProgramView}
 use Rattle.hazard_core.specs.declared.pointer.Pointer.TheVariants.{Pending}
 use Rattle.hazard_core.specs.Tables.{TableState}
 use Rattle.hazard_core.specs.Held.{Held, written_pointer}
 use Rattle.hazard_core.specs.Commits.{written_slot}
 use Rattle.hazard_core.specs.Changes.{IsRightCommit}
-use Rattle.cell_nets.specs.Operands.{number_in}
+use Rattle.site_operands.specs.cell_nets.Operands.{number_in}
 use Rattle.commit_net.specs.declared.target.TakenSlot.{TakenSlot}
 use Rattle.commit_net.specs.Targets.{IsAmong}
 use Rattle.read_net.specs.declared.sites.OwnSite.{OwnSite}

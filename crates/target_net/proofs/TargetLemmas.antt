@@ -2,24 +2,24 @@
 use Rattle.std.proofs.Common.{◌≡◌, ◌∙◌, ℕ, zero, suc, ◌+◌, ◌^◌, ◌<◌, ◌≤◌, All, List, [], ◌∷◌, ◌++◌, length, get_or, sym, ap, subst, arith}
 use Rattle.std.proofs.lemmas.List.{get_or-map, length-map}
 use Rattle.std.proofs.lemmas.List.Elements.{All-append}
-use Rattle.cell_nets.specs.net_core.Value.{Env}
+use Rattle.site_operands.specs.cell_nets.net_core.Value.{Env}
 use Rattle.block_core.specs.declared.name.Name.{Name}
 use Rattle.block_core.specs.Blocks.{BlockWireTree}
-use Rattle.cell_nets.specs.cell_core.Cells.{bit}
-use Rattle.cell_nets.specs.cell_core.Sites.{ProgramView}
+use Rattle.site_operands.specs.cell_nets.cell_core.Cells.{bit}
+use Rattle.site_operands.specs.cell_nets.cell_core.Sites.{ProgramView}
 use Rattle.hazard_core.specs.Tables.{TableState, table_at}
 use Rattle.hazard_core.specs.Held.{Held, written_pointer}
 use Rattle.hazard_core.specs.Commits.{written_slot, makes_entry}
-use Rattle.cell_nets.specs.declared.operand.Operand.{Operand}
-use Rattle.cell_nets.specs.Operands.{number_in, IsAvailable}
-use Rattle.cell_nets.specs.Wires.{Gives}
+use Rattle.site_operands.specs.cell_nets.declared.operand.Operand.{Operand}
+use Rattle.site_operands.specs.cell_nets.Operands.{number_in, IsAvailable}
+use Rattle.site_operands.specs.cell_nets.Wires.{Gives}
 use Rattle.site_operands.specs.declared.Pending.{Pending}
 use Rattle.site_operands.specs.Pointers.{pointer_number}
 use Rattle.read_net.specs.overlay_net.Seen.{read_of, all_read}
 use Rattle.commit_net.specs.declared.target.TakenSlot.{TakenSlot}
 use Rattle.commit_net.specs.Targets.{slots_of, ShowsWritten, ShowsTarget as AsksTarget}
-use Rattle.step_nets.specs.Standing.{Stands}
-use Rattle.step_nets.proofs.ChainLaws.{starts, next}
+use Rattle.operand_blocks.specs.step_nets.Standing.{Stands}
+use Rattle.read_net.proofs.step_nets_laws.ChainLaws.{starts, next}
 use Rattle.read_net.specs.declared.sites.OwnSite.{OwnSite}
 use Rattle.read_net.specs.Sites.{sites_of, IsOwn}
 use Rattle.target_net.specs.declared.targets.Target.{Target}

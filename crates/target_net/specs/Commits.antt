@@ -1,15 +1,15 @@
 -- The part that says on which map an operation commits.
 use Rattle.std.specs.Prelude.{◌≡◌, ℕ, zero, suc, ◌<◌, ◌==◌, Bool, false, ◌&&◌, ◌||◌, Option, None, Some, List, length, slice_index, map as map_list}
 use Rattle.std.proofs.Common.{get_or}
-use Rattle.cell_nets.specs.net_core.Value.{bit as bit_word, Env}
+use Rattle.site_operands.specs.cell_nets.net_core.Value.{bit as bit_word, Env}
 use Rattle.block_core.specs.declared.name.Name.{Name}
 use Rattle.block_core.specs.Blocks.{BlockTree}
 use Rattle.block_core.specs.Parts.{Solve}
-use Rattle.cell_nets.specs.cell_core.Cells.{bit, on}
-use Rattle.cell_nets.specs.cell_core.Sites.{ProgramView, site_at}
-use Rattle.cell_nets.specs.declared.operand.Operand.{Operand}
-use Rattle.cell_nets.specs.declared.operand.Operand.TheVariants.{Known, Net}
-use Rattle.cell_nets.specs.Operands.{number_in, AreFit}
+use Rattle.site_operands.specs.cell_nets.cell_core.Cells.{bit, on}
+use Rattle.site_operands.specs.cell_nets.cell_core.Sites.{ProgramView, site_at}
+use Rattle.site_operands.specs.cell_nets.declared.operand.Operand.{Operand}
+use Rattle.site_operands.specs.cell_nets.declared.operand.Operand.TheVariants.{Known, Net}
+use Rattle.site_operands.specs.cell_nets.Operands.{number_in, AreFit}
 use Rattle.operand_blocks.specs.Wiring.{IsWiring, Offers}
 use Rattle.turn_net.specs.declared.nets.RecordNets.{RecordNets}
 use Rattle.turn_net.specs.Steps.{ShowsChosen}

@@ -1,20 +1,20 @@
 -- The part that says what the operations at the record sites of a map write.
 use Rattle.std.specs.Prelude.{◌≡◌, ◌≢◌, ℕ, ◌<◌, All, List, [], ◌∷◌, ◌++◌, length, slice_index, map as map_list}
 use Rattle.std.proofs.Common.{get_or}
-use Rattle.cell_nets.specs.net_core.Value.{Env}
+use Rattle.site_operands.specs.cell_nets.net_core.Value.{Env}
 use Rattle.block_core.specs.declared.name.Name.{Name}
 use Rattle.block_core.specs.Blocks.{BlockTree}
 use Rattle.block_core.specs.Parts.{Solve}
-use Rattle.cell_nets.specs.cell_core.Cells.{bit}
-use Rattle.cell_nets.specs.cell_core.Sites.{ProgramView, site_at}
+use Rattle.site_operands.specs.cell_nets.cell_core.Cells.{bit}
+use Rattle.site_operands.specs.cell_nets.cell_core.Sites.{ProgramView, site_at}
 use Rattle.hazard_core.specs.declared.slot.Slot.{Slot}
 use Rattle.hazard_core.specs.declared.pointer.Pointer.TheVariants as pointer
 use Rattle.hazard_core.specs.Tables.{TableState, table_at, free_slot}
 use Rattle.hazard_core.specs.Held.{Held, written_pointer}
 use Rattle.hazard_core.specs.Commits.{written_slot, makes_entry}
-use Rattle.cell_nets.specs.declared.operand.Operand.{Operand}
-use Rattle.cell_nets.specs.Operands.{number_in, IsOperand, AreFit}
-use Rattle.cell_nets.specs.Wires.{HasBits}
+use Rattle.site_operands.specs.cell_nets.declared.operand.Operand.{Operand}
+use Rattle.site_operands.specs.cell_nets.Operands.{number_in, IsOperand, AreFit}
+use Rattle.site_operands.specs.cell_nets.Wires.{HasBits}
 use Rattle.site_operands.specs.declared.Pending.{Pending}
 use Rattle.read_net.specs.overlay_net.Seen.{ShowPending}
 use Rattle.commit_net.specs.declared.target.TakenSlot.{TakenSlot}

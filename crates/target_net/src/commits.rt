@@ -2,18 +2,18 @@
 
 ghost use Rattle.std.specs.Prelude.{◌≡◌, All, length, IfOk};
 ghost use Rattle.block_core.specs.View.{block_of};
-ghost use Rattle.cell_nets.specs.cell_core.Cells.{bit};
-ghost use Rattle.cell_nets.specs.Operands.{IsOperand};
-ghost use Rattle.cell_nets.specs.Wires.{wires_of, always, Gives};
-ghost use Rattle.step_nets.specs.Standing.{Stands};
+ghost use Rattle.site_operands.specs.cell_nets.cell_core.Cells.{bit};
+ghost use Rattle.site_operands.specs.cell_nets.Operands.{IsOperand};
+ghost use Rattle.site_operands.specs.cell_nets.Wires.{wires_of, always, Gives};
+ghost use Rattle.operand_blocks.specs.step_nets.Standing.{Stands};
 ghost use Rattle.target_net.specs.Commits.{bits_of, any_on, AreOn, IsCommits};
 
 use block_core::block::{Block, BlockWire};
 use block_core::name::{Name, Part};
-use cell_nets::operand::Operand;
 use operand_blocks::wiring::{named, wiring};
+use read_net::step_nets::choose;
+use site_operands::cell_nets::operand::Operand;
 use std::alloc::{AllocError, Global};
-use step_nets::choose;
 
 /// The part, and its net of each map.
 #[derive(Drop)]

@@ -2,16 +2,16 @@
 
 ghost use Rattle.std.specs.Prelude.{ℕ, ◌∷◌, ◌<◌, length, IfOk};
 ghost use Rattle.hazard_core.specs.Tables.{TableState, table_at};
-ghost use Rattle.cell_nets.specs.Operands.{IsOperand};
-ghost use Rattle.cell_nets.specs.Wires.{wires_of};
-ghost use Rattle.step_nets.specs.Standing.{Stands};
+ghost use Rattle.site_operands.specs.cell_nets.Operands.{IsOperand};
+ghost use Rattle.site_operands.specs.cell_nets.Wires.{wires_of};
+ghost use Rattle.operand_blocks.specs.step_nets.Standing.{Stands};
 ghost use Rattle.read_net.specs.Sites.{slot_cells, IsMap, IsMapOf, ShowsTable};
 ghost use Rattle.target_net.specs.Targets.{ShowsFree};
 
 use block_core::block::BlockWire;
 use block_core::name::Name;
-use cell_nets::operand::Operand;
 use read_net::sites::{MapNets, OwnSite};
+use site_operands::cell_nets::operand::Operand;
 use slot_net::finding::free_slot;
 use std::alloc::{AllocError, Global};
 use xdp_maps::decl::MapKind;

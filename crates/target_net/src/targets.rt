@@ -2,13 +2,13 @@
 
 ghost use Rattle.std.specs.Prelude.{ℕ, List, ◌∷◌, ◌++◌, ◌≡◌, ◌^◌, ◌≤◌, All, length, IfOk};
 ghost use Rattle.block_core.specs.View.{block_of};
-ghost use Rattle.cell_nets.specs.cell_core.Sites.{ProgramView};
+ghost use Rattle.site_operands.specs.cell_nets.cell_core.Sites.{ProgramView};
 ghost use Rattle.hazard_core.specs.Held.{Held};
 ghost use Rattle.hazard_core.specs.Tables.{TableState, table_at};
-ghost use Rattle.cell_nets.specs.Operands.{IsOperand, IsWide};
-ghost use Rattle.cell_nets.specs.Wires.{wires_of};
+ghost use Rattle.site_operands.specs.cell_nets.Operands.{IsOperand, IsWide};
+ghost use Rattle.site_operands.specs.cell_nets.Wires.{wires_of};
 ghost use Rattle.commit_net.specs.Targets.{slots_of};
-ghost use Rattle.step_nets.specs.Standing.{Stands};
+ghost use Rattle.operand_blocks.specs.step_nets.Standing.{Stands};
 ghost use Rattle.read_net.specs.Sites.{IsMap, IsWhole, IsOwn, IsMapOf};
 ghost use Rattle.target_net.specs.Targets.{all_of, written_of, outside_of, IsWritten, AsksTargets, Shows, ShowTargets, HasTargets, IsTargets};
 
@@ -16,12 +16,12 @@ use crate::free::first_free;
 use crate::laws::tables_are_there;
 use block_core::block::{Block, BlockWire};
 use block_core::name::{Name, Part};
-use cell_nets::operand::Operand;
 use commit_net::target::{TakenSlot, makes_entry, target};
 use operand_blocks::wiring::wiring;
 use read_net::pendings::pendings;
 use read_net::sites::{MapNets, OwnSite};
 use site_operands::Pending;
+use site_operands::cell_nets::operand::Operand;
 use std::alloc::{AllocError, Global};
 
 /// What an operation writes: the slot, and whether it makes an entry there.

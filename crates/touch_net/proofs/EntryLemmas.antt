@@ -9,7 +9,7 @@ use Rattle.std.proofs.lemmas.List.{length-take-le, length-map}
 use Rattle.std.proofs.lemmas.Nat.{pow-add}
 use Rattle.std.proofs.lemmas.Slice.Eq.{bytes_eq-Decides}
 use Rattle.std.proofs.Math.Pow.{pow_mono}
-use Rattle.cell_nets.specs.net_core.Value.{Env}
+use Rattle.site_operands.specs.cell_nets.net_core.Value.{Env}
 use Rattle.block_core.specs.Blocks.{BlockWireTree}
 use Rattle.block_core.specs.declared.name.Name.{Name}
 use Rattle.xdp_maps.specs.declared.decl.MapDecl.{MapDecl}
@@ -26,9 +26,9 @@ use Rattle.site_operands.specs.hazard_core.declared.pointer.Pointer.TheVariants.
 use Rattle.site_operands.specs.hazard_core.Held.{Held, held_value, asked_key}
 use Rattle.site_operands.specs.hazard_core.Marks.{entry_touched}
 use Rattle.site_operands.specs.hazard_core.Tables.{decl_of}
-use Rattle.cell_nets.specs.declared.operand.Operand.{Operand}
-use Rattle.cell_nets.specs.Operands.{number_in, IsAvailable}
-use Rattle.cell_nets.specs.Wires.{always, Gives}
+use Rattle.site_operands.specs.cell_nets.declared.operand.Operand.{Operand}
+use Rattle.site_operands.specs.cell_nets.Operands.{number_in, IsAvailable}
+use Rattle.site_operands.specs.cell_nets.Wires.{always, Gives}
 use Rattle.site_operands.specs.Pointers.{pointer_number}
 use Rattle.step_nets.proofs.ChainLaws.{starts, next, last}
 use Rattle.step_nets.proofs.StepLaws.{small_bits, bit_small}

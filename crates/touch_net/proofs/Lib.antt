@@ -1,3 +1,4 @@
+pub use Rattle.step_nets.proofs as step_nets_laws
 pub mod StepLemmas
 pub mod EntryLemmas
 pub mod ListLemmas

@@ -1,7 +1,7 @@
 -- Of several operands some.
 use Rattle.std.proofs.Common.{◌≡◌, ℕ, zero, suc, ◌<◌, All, List, [], ◌∷◌, ◌++◌, length, get_or, sym, subst, arith}
 use Rattle.std.proofs.lemmas.List.Elements.{All-append}
-use Rattle.cell_nets.specs.declared.operand.Operand.{Operand}
+use Rattle.site_operands.specs.cell_nets.declared.operand.Operand.{Operand}
 use Rattle.site_operands.specs.Sites.{SiteOperands, all_of}
 use Rattle.touch_net.specs.declared.change.OwnKey.{OwnKey}
 use Rattle.touch_net.specs.Touching.{own_operands}

@@ -3,16 +3,16 @@ use Rattle.std.specs.Prelude.{not, Option, Some, None}
 use Rattle.std.specs.List.{list_any}
 use Rattle.std.proofs.Common.{◌≡◌, ◌∙◌, ℕ, zero, suc, ◌+◌, ◌<◌, Bool, true, false, ◌&&◌, ◌||◌, All, List, [], ◌∷◌, length, take, get_or, refl, sym, ap, ap₂, subst, arith}
 use Rattle.std.proofs.lemmas.List.Folds.{list_any_more}
-use Rattle.cell_nets.specs.net_core.Value.{Env}
+use Rattle.site_operands.specs.cell_nets.net_core.Value.{Env}
 use Rattle.block_core.specs.Blocks.{BlockWireTree}
 use Rattle.block_core.specs.declared.name.Name.{Name}
 use Rattle.cell_core.specs.Cells.{bit, on}
 use Rattle.cell_core.specs.Sites.{SiteView, ProgramView, site_at}
 use Rattle.site_operands.specs.hazard_core.Held.{Held, guard_on}
 use Rattle.site_operands.specs.hazard_core.Marks.{is_known, known_on}
-use Rattle.cell_nets.specs.declared.operand.Operand.{Operand}
-use Rattle.cell_nets.specs.Operands.{number_in, IsAvailable}
-use Rattle.cell_nets.specs.Wires.{always, Gives}
+use Rattle.site_operands.specs.cell_nets.declared.operand.Operand.{Operand}
+use Rattle.site_operands.specs.cell_nets.Operands.{number_in, IsAvailable}
+use Rattle.site_operands.specs.cell_nets.Wires.{always, Gives}
 use Rattle.step_nets.proofs.ChainLaws.{starts, next, last}
 use Rattle.step_nets.proofs.StepLaws.{all_each, on_bit}
 use Rattle.touch_net.specs.declared.marks.MarkNets.{MarkNets}

@@ -3,7 +3,7 @@ use Rattle.std.specs.Prelude.{not, nat_lt, slice_index}
 use Rattle.std.specs.Str.{bytes_eq}
 use Rattle.std.proofs.Common.{◌≡◌, ◌≢◌, ◌∙◌, ℕ, ◌+◌, ◌*◌, ◌==◌, ◌<◌, Bool, true, false, ◌&&◌, ◌||◌, List, ◌++◌, refl, sym, ap, subst, arith, map as map_list}
 use Rattle.std.proofs.lemmas.Bool.{eqb-true, eq-eqb}
-use Rattle.cell_nets.specs.net_core.Value.{Env}
+use Rattle.site_operands.specs.cell_nets.net_core.Value.{Env}
 use Rattle.block_core.specs.Blocks.{BlockWireTree}
 use Rattle.block_core.specs.declared.name.Name.{Name}
 use Rattle.xdp_maps.specs.declared.decl.MapDecl.{MapDecl}
@@ -19,9 +19,9 @@ use Rattle.site_operands.specs.hazard_core.declared.pointer.Pointer.TheVariants.
 use Rattle.site_operands.specs.hazard_core.Held.{Held, held_value, asked, is_null, pointer_in, found_cell, access_pointer}
 use Rattle.site_operands.specs.hazard_core.Marks.{key_touched, presence_touched, entry_touched, touched_as, touches}
 use Rattle.site_operands.specs.hazard_core.Tables.{decl_of}
-use Rattle.cell_nets.specs.declared.operand.Operand.{Operand}
-use Rattle.cell_nets.specs.Operands.{number_in}
-use Rattle.cell_nets.specs.Wires.{always, Gives}
+use Rattle.site_operands.specs.cell_nets.declared.operand.Operand.{Operand}
+use Rattle.site_operands.specs.cell_nets.Operands.{number_in}
+use Rattle.site_operands.specs.cell_nets.Wires.{always, Gives}
 use Rattle.site_operands.specs.Pointers.{pointer_number}
 use Rattle.site_operands.specs.Sites.{SiteOperands, ShowsSite}
 use Rattle.overlay_net.specs.Reading.{IsSite}

@@ -1,7 +1,7 @@
 -- When operands stand for a change of a map, and for the keys of a packet's own updates.
 use Rattle.std.specs.Prelude.{◌≡◌, ℕ, ◌*◌, ◌<◌, ◌≤◌, Bool, true, false, All, List, [], ◌∷◌, ◌++◌, length, map as map_list}
 use Rattle.std.proofs.Common.{get_or}
-use Rattle.cell_nets.specs.net_core.Value.{Env}
+use Rattle.site_operands.specs.cell_nets.net_core.Value.{Env}
 use Rattle.cell_core.specs.declared.site.Act.{Act}
 use Rattle.cell_core.specs.declared.site.Act.TheVariants as act
 use Rattle.cell_core.specs.Cells.{bit}
@@ -12,8 +12,8 @@ use Rattle.site_operands.specs.hazard_core.Held.{Held, held_value}
 use Rattle.site_operands.specs.hazard_core.declared.pointer.Pointer.{Pointer}
 use Rattle.site_operands.specs.hazard_core.declared.pointer.Pointer.TheVariants.{Pending}
 use Rattle.site_operands.specs.hazard_core.declared.change.Change.{Change}
-use Rattle.cell_nets.specs.declared.operand.Operand.{Operand}
-use Rattle.cell_nets.specs.Operands.{number_in, IsOperand}
+use Rattle.site_operands.specs.cell_nets.declared.operand.Operand.{Operand}
+use Rattle.site_operands.specs.cell_nets.Operands.{number_in, IsOperand}
 use Rattle.touch_net.specs.declared.change.ChangeNets.{ChangeNets}
 use Rattle.touch_net.specs.declared.change.OwnKey.{OwnKey}
 

@@ -1,6 +1,6 @@
 //! What stands for a change of a map, and for the keys of a packet's own updates.
 
-use cell_nets::operand::Operand;
+use site_operands::cell_nets::operand::Operand;
 
 /// What stands for a change of a map: the slot that is written, the words of the key that stands there, and whether the key comes or goes.
 #[derive(Copy, Clone)]

@@ -9,18 +9,18 @@ ghost use Rattle.site_operands.specs.hazard_core.declared.pointer.Pointer.{Point
 ghost use Rattle.site_operands.specs.hazard_core.Held.{Held};
 ghost use Rattle.site_operands.specs.hazard_core.declared.change.Change.{Change};
 ghost use Rattle.site_operands.specs.hazard_core.Marks.{entry_touched};
-ghost use Rattle.cell_nets.specs.Operands.{IsOperand, number_in};
-ghost use Rattle.cell_nets.specs.Wires.{wires_of, always, HasBits, Gives};
+ghost use Rattle.site_operands.specs.cell_nets.Operands.{IsOperand, number_in};
+ghost use Rattle.site_operands.specs.cell_nets.Wires.{wires_of, always, HasBits, Gives};
 ghost use Rattle.site_operands.specs.Pointers.{pointer_number};
 ghost use Rattle.touch_net.specs.Touching.{change_operands, own_operands, IsChangeNets, IsOwnKey, HaveKeys, ShowsChange, ShowsOwn, IsMade};
 
 use crate::change::{ChangeNets, OwnKey};
 use block_core::block::BlockWire;
 use block_core::name::Name;
-use cell_nets::comparing::span;
-use cell_nets::operand::Operand;
-use cell_nets::wires::cut;
 use overlay_net::keys::same_key;
+use site_operands::cell_nets::comparing::span;
+use site_operands::cell_nets::operand::Operand;
+use site_operands::cell_nets::wires::cut;
 use std::alloc::{AllocError, Global};
 use step_nets::{both, choose, equal};
 

@@ -1,7 +1,7 @@
 //! Whether a read under a key sees that a key comes or goes.
 
 ghost use Rattle.std.specs.Prelude.{ℕ, List, [], ◌∷◌, ◌++◌, true, ◌≡◌, ◌*◌, ◌≤◌, ◌&&◌, ◌||◌, not, nat_lt, All, length, slice_index, IfOk, map as map_list};
-ghost use Rattle.cell_nets.specs.net_core.Value.{Env};
+ghost use Rattle.site_operands.specs.cell_nets.net_core.Value.{Env};
 ghost use Rattle.xdp_maps.specs.declared.decl.MapDecl.{MapDecl};
 ghost use Rattle.cell_core.specs.Acts.{finds_key};
 ghost use Rattle.cell_core.specs.Cells.{bit, on};
@@ -10,8 +10,8 @@ ghost use Rattle.site_operands.specs.hazard_core.Held.{Held, asked, is_null, poi
 ghost use Rattle.site_operands.specs.hazard_core.declared.change.Change.{Change};
 ghost use Rattle.site_operands.specs.hazard_core.Marks.{key_touched, presence_touched};
 ghost use Rattle.site_operands.specs.hazard_core.Tables.{decl_of};
-ghost use Rattle.cell_nets.specs.Operands.{IsOperand, IsAvailable, number_in};
-ghost use Rattle.cell_nets.specs.Wires.{wires_of, always, HasBits, Gives};
+ghost use Rattle.site_operands.specs.cell_nets.Operands.{IsOperand, IsAvailable, number_in};
+ghost use Rattle.site_operands.specs.cell_nets.Wires.{wires_of, always, HasBits, Gives};
 ghost use Rattle.site_operands.specs.Sites.{operands_of, all_of, ShowsSite};
 ghost use Rattle.overlay_net.specs.Reading.{IsSite};
 ghost use Rattle.touch_net.specs.Touching.{change_operands, IsChangeNets, ShowsChange};
@@ -21,9 +21,9 @@ use crate::steps::either;
 use block_core::block::BlockWire;
 use block_core::name::Name;
 use cell_core::site::Act;
-use cell_nets::operand::Operand;
 use overlay_net::keys::same_key;
 use site_operands::SiteNets;
+use site_operands::cell_nets::operand::Operand;
 use std::alloc::{AllocError, Global};
 use step_nets::{below, both, without};
 use xdp_maps::decl::{MapDecl, MapKind};

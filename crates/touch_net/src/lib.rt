@@ -7,3 +7,6 @@ mod key;
 pub mod marks;
 pub mod steps;
 pub mod touch;
+
+// Crates above name these through this one.
+pub use step_nets;

@@ -6,14 +6,14 @@ ghost use Rattle.cell_core.specs.Cells.{bit, on};
 ghost use Rattle.cell_core.specs.Sites.{ProgramView, site_at};
 ghost use Rattle.site_operands.specs.hazard_core.Held.{Held};
 ghost use Rattle.site_operands.specs.hazard_core.Marks.{known_on};
-ghost use Rattle.cell_nets.specs.Operands.{IsOperand, number_in};
-ghost use Rattle.cell_nets.specs.Wires.{wires_of, always, HasBits, Gives};
+ghost use Rattle.site_operands.specs.cell_nets.Operands.{IsOperand, number_in};
+ghost use Rattle.site_operands.specs.cell_nets.Wires.{wires_of, always, HasBits, Gives};
 ghost use Rattle.touch_net.specs.Marking.{guard_operands, mark_operands, HasOperands, shown_due, AreKnown, ShowMarks};
 
 use crate::steps::either;
 use block_core::block::BlockWire;
 use block_core::name::Name;
-use cell_nets::operand::Operand;
+use site_operands::cell_nets::operand::Operand;
 use std::alloc::{AllocError, Global};
 use step_nets::{both, truth};
 

@@ -2,12 +2,12 @@
 
 ghost use Rattle.std.specs.Prelude.{[], ◌∷◌, ◌||◌, IfOk};
 ghost use Rattle.cell_core.specs.Cells.{bit, on};
-ghost use Rattle.cell_nets.specs.Operands.{IsOperand, number_in};
-ghost use Rattle.cell_nets.specs.Wires.{wires_of, always, Gives};
+ghost use Rattle.site_operands.specs.cell_nets.Operands.{IsOperand, number_in};
+ghost use Rattle.site_operands.specs.cell_nets.Wires.{wires_of, always, Gives};
 
 use block_core::block::BlockWire;
 use block_core::name::Name;
-use cell_nets::operand::Operand;
+use site_operands::cell_nets::operand::Operand;
 use std::alloc::{AllocError, Global};
 use step_nets::{choose, truth};
 

@@ -1,7 +1,7 @@
 -- The nets of records, and what the part reads.
 use Rattle.std.specs.Prelude.{◌≡◌, ℕ, zero, suc, ◌+◌, ◌<◌, ◌^◌, Bool, true, false, All, List, [], ◌∷◌, ◌++◌, length, filter, map as map_list}
 use Rattle.std.proofs.Common.{get_or}
-use Rattle.cell_nets.specs.net_core.Value.{Env}
+use Rattle.site_operands.specs.cell_nets.net_core.Value.{Env}
 use Rattle.block_core.specs.declared.name.Name.{Name}
 use Rattle.block_core.specs.declared.name.Name.TheVariants as name
 use Rattle.xdp_maps.specs.declared.decl.MapDecl.{MapDecl}
@@ -12,9 +12,9 @@ use Rattle.cell_core.specs.declared.site.Act.TheVariants as act
 use Rattle.cell_core.specs.Cells.{on}
 use Rattle.cell_core.specs.Sites.{ProgramView}
 use Rattle.site_operands.specs.hazard_core.Held.{Held}
-use Rattle.cell_nets.specs.declared.operand.Operand.{Operand}
-use Rattle.cell_nets.specs.declared.operand.Operand.TheVariants.{Net}
-use Rattle.cell_nets.specs.Operands.{IsOperand, IsNarrow}
+use Rattle.site_operands.specs.cell_nets.declared.operand.Operand.{Operand}
+use Rattle.site_operands.specs.cell_nets.declared.operand.Operand.TheVariants.{Net}
+use Rattle.site_operands.specs.cell_nets.Operands.{IsOperand, IsNarrow}
 use Rattle.site_operands.specs.Sites.{operands_of, all_of, ShowsSite}
 use Rattle.overlay_net.specs.Reading.{IsSite}
 use Rattle.turn_net.specs.declared.nets.RecordNets.{RecordNets}

@@ -5,8 +5,8 @@ ghost use Rattle.xdp_maps.specs.declared.decl.MapDecl.{MapDecl};
 ghost use Rattle.cell_core.specs.Cells.{bit, on};
 ghost use Rattle.cell_core.specs.Sites.{ProgramView};
 ghost use Rattle.site_operands.specs.hazard_core.Held.{Held, writes};
-ghost use Rattle.cell_nets.specs.Operands.{IsOperand, IsWide, number_in};
-ghost use Rattle.cell_nets.specs.Wires.{wires_of, Gives};
+ghost use Rattle.site_operands.specs.cell_nets.Operands.{IsOperand, IsWide, number_in};
+ghost use Rattle.site_operands.specs.cell_nets.Wires.{wires_of, Gives};
 ghost use Rattle.site_operands.specs.Sites.{operands_of, ShowsSite};
 ghost use Rattle.overlay_net.specs.Reading.{IsSite};
 ghost use Rattle.turn_net.specs.Turns.{may_commit};
@@ -16,8 +16,8 @@ ghost use Rattle.turn_net.specs.Steps.{Leads, HasSteps, IsStep, HasChosen, AreCh
 use crate::nets::{RecordNets, TurnNets};
 use block_core::block::BlockWire;
 use block_core::name::Name;
-use cell_nets::operand::Operand;
 use overlay_net::writing::writes;
+use site_operands::cell_nets::operand::Operand;
 use std::alloc::{AllocError, Global};
 use step_nets::{at_most, both, choose, without};
 

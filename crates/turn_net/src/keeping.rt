@@ -1,8 +1,8 @@
 //! The slots that updates of hashes took, after the clock.
 
 ghost use Rattle.std.specs.Prelude.{◌≡◌, ◌++◌, ◌^◌, ◌<◌, All, length, IfOk};
-ghost use Rattle.cell_nets.specs.Operands.{IsOperand, IsWide};
-ghost use Rattle.cell_nets.specs.Wires.{wires_of, HasBits};
+ghost use Rattle.site_operands.specs.cell_nets.Operands.{IsOperand, IsWide};
+ghost use Rattle.site_operands.specs.cell_nets.Wires.{wires_of, HasBits};
 ghost use Rattle.turn_net.specs.Nets.{keeps, kept, all_read, HasOperands, IsKept, slot_operands};
 ghost use Rattle.turn_net.specs.Steps.{Leads, AreSlots};
 
@@ -10,7 +10,7 @@ use crate::nets::RecordNets;
 use block_core::block::BlockWire;
 use block_core::name::Name;
 use cell_core::site::Act;
-use cell_nets::operand::Operand;
+use site_operands::cell_nets::operand::Operand;
 use std::alloc::{AllocError, Global};
 use step_nets::choose;
 use xdp_maps::decl::MapKind;

@@ -3,8 +3,8 @@
 use block_core::block::Block;
 use block_core::name::Name;
 use cell_core::site::Act;
-use cell_nets::operand::Operand;
 use site_operands::SiteNets;
+use site_operands::cell_nets::operand::Operand;
 use xdp_maps::decl::MapDecl;
 
 /// What stands for the operation at a record site: the number of the site, what it does, the declaration of its map, the cells of the site at

@@ -7,10 +7,10 @@ use Rattle.std.proofs.lemmas.Bool.{eq-eqb}
 use Rattle.std.proofs.lemmas.List.{get_or-map, length-map}
 use Rattle.std.proofs.lemmas.List.Elements.{All-cons}
 use Rattle.block_core.specs.declared.name.Name.{Name}
-use Rattle.cell_core.specs.Sites.{site_at}
+use Rattle.hazard_core.specs.cell_core.Sites.{site_at}
 use Rattle.cell_nets.specs.declared.operand.Operand.{Operand}
 use Rattle.cell_nets.specs.Operands.{IsOperand, IsNarrow}
-use Rattle.read_net.proofs.step_nets.StepLaws.{narrow_bits}
+use Rattle.read_net.proofs.step_nets_laws.StepLaws.{narrow_bits}
 use Rattle.commit_net.specs.declared.target.TakenSlot.{TakenSlot}
 use Rattle.read_net.specs.declared.sites.OwnSite.{OwnSite}
 use Rattle.read_net.specs.declared.sites.MapNets.{MapNets}
@@ -24,10 +24,10 @@ use Rattle.target_net.specs.declared.targets.Target.{Target}
 use Rattle.target_net.specs.declared.targets.TargetPart.{TargetPart}
 use Rattle.target_net.specs.Targets.{all_of, HasTargets}
 use Rattle.pipe_net.specs.declared.parts.Part.{Part}
-use Rattle.pipe_draft.specs.declared.draft.Draft.{Draft}
-use Rattle.pipe_draft.specs.declared.places.Behind.{Behind}
-use Rattle.pipe_draft.specs.Draft.{program_in, decls_in, IsDraft}
-use Rattle.pipe_draft.specs.Places.{IsBehind}
+use Rattle.slot_parts.specs.pipe_draft.declared.draft.Draft.{Draft}
+use Rattle.slot_parts.specs.pipe_draft.declared.places.Behind.{Behind}
+use Rattle.slot_parts.specs.pipe_draft.Draft.{program_in, decls_in, IsDraft}
+use Rattle.slot_parts.specs.pipe_draft.Places.{IsBehind}
 use Rattle.slot_parts.proofs.Filling.{some_of}
 use Rattle.turn_parts.specs.Sites.{AreOwnOf, list_at}
 use Rattle.turn_parts.specs.Records.{AreTargetParts, HaveTargets, targets_at, IsTargetAt, AreRecordsOf, IsRecordAt, AreRecordsAt}

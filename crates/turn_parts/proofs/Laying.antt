@@ -9,7 +9,7 @@ use Rattle.block_core.specs.declared.name.Name.{Name}
 use Rattle.block_core.specs.declared.name.Name.TheVariants as name
 use Rattle.block_core.specs.Blocks.{BlockTree, Whole}
 use Rattle.block_core.specs.View.{block_of}
-use Rattle.cell_core.specs.Sites.{ProgramView, site_at}
+use Rattle.hazard_core.specs.cell_core.Sites.{ProgramView, site_at}
 use Rattle.cell_nets.specs.declared.operand.Operand.TheVariants.{Known}
 use Rattle.commit_net.specs.declared.target.TakenSlot.{TakenSlot}
 use Rattle.hazard_core.specs.Tables.{decl_of}
@@ -44,11 +44,11 @@ use Rattle.pipe_net.specs.Layout.{Layout, program_of, commit_of}
 use Rattle.pipe_net.specs.Standing.{IsAtPlace}
 use Rattle.slot_parts.specs.pipe_turns.Maps.{decl_at, records_on, taken_from, taken_slots}
 use Rattle.slot_parts.specs.pipe_turns.Parts.{calm_net, host_nets, turn_nets, form_at, AreTargetsOf, IsTargetOf, AreTurnParts}
-use Rattle.pipe_draft.specs.declared.draft.Draft.{Draft}
-use Rattle.pipe_draft.specs.declared.places.Behind.{Behind}
-use Rattle.pipe_draft.specs.Draft.{program_in, plan_in, decls_in, IsDraft}
-use Rattle.pipe_draft.specs.Places.{ArePlaces}
-use Rattle.pipe_draft.specs.Laid.{IsDrafted, IsAnswered, SitesAreAtPlaces}
+use Rattle.slot_parts.specs.pipe_draft.declared.draft.Draft.{Draft}
+use Rattle.slot_parts.specs.pipe_draft.declared.places.Behind.{Behind}
+use Rattle.slot_parts.specs.pipe_draft.Draft.{program_in, plan_in, decls_in, IsDraft}
+use Rattle.slot_parts.specs.pipe_draft.Places.{ArePlaces}
+use Rattle.slot_parts.specs.pipe_draft.Laid.{IsDrafted, IsAnswered, SitesAreAtPlaces}
 use Rattle.slot_parts.specs.Laws.{AreShownMaps}
 use Rattle.slot_parts.proofs.Filling.{same_there, some_of}
 use Rattle.turn_parts.specs.declared.parts.TurnParts.{TurnParts}

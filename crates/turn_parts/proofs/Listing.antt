@@ -6,7 +6,7 @@ use Rattle.std.proofs.lemmas.List.{take_more}
 use Rattle.std.proofs.lemmas.List.Elements.{filter-append, All-nil, All-cons, All-filter}
 use Rattle.std.proofs.lemmas.List.Kept.{AllPairs-cons, AllPairs-filter}
 use Rattle.std.proofs.lemmas.List.Sums.{length-filter, count_by-le-length}
-use Rattle.cell_core.specs.Rows.{numbers}
+use Rattle.hazard_core.specs.cell_core.Rows.{numbers}
 
 -- ---- the next of a list
 module _ (q : ℕ → Bool) (xs : List ℕ) (i : ℕ) (lt : i < length xs) where

@@ -7,8 +7,8 @@ use Rattle.std.proofs.lemmas.List.Elements.{Contains-get_or}
 use Rattle.xdp_maps.specs.declared.decl.MapDecl.{MapDecl}
 use Rattle.xdp_maps.specs.State.{no_decl}
 use Rattle.block_core.specs.declared.name.Name.{Name}
-use Rattle.cell_core.specs.Sites.{ProgramView, site_at, records}
-use Rattle.cell_core.specs.View.{site_of}
+use Rattle.hazard_core.specs.cell_core.Sites.{ProgramView, site_at, records}
+use Rattle.hazard_core.specs.cell_core.View.{site_of}
 use Rattle.cell_nets.specs.Operands.{IsOperand, IsNarrow}
 use Rattle.hazard_core.specs.Tables.{decl_of}
 use Rattle.turn_net.specs.site_operands.declared.SiteNets.{SiteNets}
@@ -20,10 +20,10 @@ use Rattle.read_net.specs.Sites.{sites_of, IsWhole}
 use Rattle.map_block.specs.declared.form.MapForm.{MapForm}
 use Rattle.turn_net.specs.Turns.{record_sites}
 use Rattle.pipe_net.specs.declared.parts.Part.{Part}
-use Rattle.pipe_draft.specs.declared.draft.Draft.{Draft}
-use Rattle.pipe_draft.specs.declared.places.Behind.{Behind}
-use Rattle.pipe_draft.specs.Draft.{program_in, decls_in, IsDraft}
-use Rattle.pipe_draft.specs.Places.{IsBehind}
+use Rattle.slot_parts.specs.pipe_draft.declared.draft.Draft.{Draft}
+use Rattle.slot_parts.specs.pipe_draft.declared.places.Behind.{Behind}
+use Rattle.slot_parts.specs.pipe_draft.Draft.{program_in, decls_in, IsDraft}
+use Rattle.slot_parts.specs.pipe_draft.Places.{IsBehind}
 use Rattle.slot_parts.proofs.Filling.{same_there}
 use Rattle.turn_parts.specs.Sites.{IsWholeOf, IsOwnOf}
 use Rattle.turn_parts.proofs.Listing.{filter_more, filter_same, kept_below, kept_rise, kept_few}

@@ -7,7 +7,7 @@ use Rattle.std.proofs.lemmas.List.Elements.{All-nil, All-cons, All-head, All-tai
 use Rattle.xdp_maps.specs.declared.decl.MapDecl.{MapDecl}
 use Rattle.block_core.specs.declared.name.Name.{Name}
 use Rattle.block_core.specs.declared.name.Name.TheVariants as name
-use Rattle.cell_core.specs.Sites.{ProgramView}
+use Rattle.hazard_core.specs.cell_core.Sites.{ProgramView}
 use Rattle.cell_nets.specs.declared.operand.Operand.TheVariants.{Net}
 use Rattle.cell_nets.specs.Operands.{IsOperand, IsWide}
 use Rattle.commit_net.specs.declared.target.TakenSlot.{TakenSlot}

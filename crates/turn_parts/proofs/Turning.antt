@@ -6,8 +6,8 @@ use Rattle.std.proofs.Math.Nat.{pow-le-pow_right}
 use Rattle.std.proofs.lemmas.List.{get_or-map, length-map}
 use Rattle.xdp_maps.specs.declared.decl.MapDecl.{MapDecl}
 use Rattle.block_core.specs.declared.name.Name.{Name}
-use Rattle.cell_core.specs.declared.site.Act.{Act}
-use Rattle.cell_core.specs.Sites.{site_at}
+use Rattle.hazard_core.specs.cell_core.declared.site.Act.{Act}
+use Rattle.hazard_core.specs.cell_core.Sites.{site_at}
 use Rattle.cell_nets.specs.declared.operand.Operand.{Operand}
 use Rattle.cell_nets.specs.declared.operand.Operand.TheVariants as operand
 use Rattle.cell_nets.specs.Operands.{IsNarrow}
@@ -15,8 +15,8 @@ use Rattle.turn_net.specs.declared.nets.RecordNets.{RecordNets}
 use Rattle.turn_net.specs.declared.nets.TurnShape.{TurnShape}
 use Rattle.turn_net.specs.Nets.{number_of, sites_of, keeps_slot, keeps, HasOperands, IsNumbered, IsKept, AreRecords}
 use Rattle.pipe_net.specs.declared.parts.Part.{Part}
-use Rattle.pipe_draft.specs.declared.draft.Draft.{Draft}
-use Rattle.pipe_draft.specs.Draft.{program_in, decls_in, IsDraft}
+use Rattle.slot_parts.specs.pipe_draft.declared.draft.Draft.{Draft}
+use Rattle.slot_parts.specs.pipe_draft.Draft.{program_in, decls_in, IsDraft}
 use Rattle.turn_parts.specs.Sites.{IsTurnShape, keeps_at}
 use Rattle.turn_parts.specs.Records.{AreRecordsOf}
 use Rattle.turn_parts.proofs.Siting.{no_form, maps_there, records_rise, records_few}

@@ -11,11 +11,11 @@ use Rattle.pipe_net.specs.declared.parts.Part.{Part}
 use Rattle.pipe_net.specs.Parts as part
 use Rattle.pipe_net.specs.Layout.{Layout}
 use Rattle.slot_parts.specs.pipe_turns.Parts.{AreTurnParts}
-use Rattle.pipe_draft.specs.declared.draft.Draft.{Draft}
-use Rattle.pipe_draft.specs.declared.places.Behind.{Behind}
-use Rattle.pipe_draft.specs.Draft.{plan_in, IsDraft}
-use Rattle.pipe_draft.specs.Places.{ArePlaces}
-use Rattle.pipe_draft.specs.Laid.{IsDrafted, IsAnswered}
+use Rattle.slot_parts.specs.pipe_draft.declared.draft.Draft.{Draft}
+use Rattle.slot_parts.specs.pipe_draft.declared.places.Behind.{Behind}
+use Rattle.slot_parts.specs.pipe_draft.Draft.{plan_in, IsDraft}
+use Rattle.slot_parts.specs.pipe_draft.Places.{ArePlaces}
+use Rattle.slot_parts.specs.pipe_draft.Laid.{IsDrafted, IsAnswered}
 use Rattle.slot_parts.specs.Laws.{AreShownMaps}
 use Rattle.turn_parts.specs.declared.parts.TurnParts.{TurnParts}
 use Rattle.turn_parts.specs.Parts.{AreTurnPartsIn}

@@ -1,3 +1,4 @@
+pub use Rattle.slot_parts.specs as slot_parts
 pub mod Sites
 pub mod Nets
 pub mod Records

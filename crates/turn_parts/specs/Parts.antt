@@ -20,9 +20,9 @@ use Rattle.turn_net.specs.Nets.{AreRecords}
 use Rattle.turn_net.specs.Turn.{IsTurn}
 use Rattle.pipe_net.specs.declared.parts.Part.{Part}
 use Rattle.pipe_net.specs.Parts as part
-use Rattle.pipe_draft.specs.declared.draft.Draft.{Draft}
-use Rattle.pipe_draft.specs.declared.places.Behind.{Behind}
-use Rattle.pipe_draft.specs.Draft.{program_in, decls_in}
+use Rattle.slot_parts.specs.pipe_draft.declared.draft.Draft.{Draft}
+use Rattle.slot_parts.specs.pipe_draft.declared.places.Behind.{Behind}
+use Rattle.slot_parts.specs.pipe_draft.Draft.{program_in, decls_in}
 use Rattle.turn_parts.specs.declared.parts.TurnParts.{TurnParts}
 use Rattle.turn_parts.specs.Sites.{AreOwnOf, IsTurnShape, taken_in}
 use Rattle.turn_parts.specs.Nets.{calm_of, host_nets_of, turn_nets_of}

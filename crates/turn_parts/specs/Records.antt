@@ -3,7 +3,7 @@ use Rattle.std.specs.Prelude.{◌≡◌, ℕ, ◌<◌, All, List, [], length, ma
 use Rattle.std.proofs.Common.{get_or}
 use Rattle.block_core.specs.declared.name.Name.{Name}
 use Rattle.block_core.specs.View.{block_of}
-use Rattle.cell_core.specs.Sites.{site_at}
+use Rattle.hazard_core.specs.cell_core.Sites.{site_at}
 use Rattle.hazard_core.specs.Tables.{decl_of}
 use Rattle.cell_nets.specs.declared.operand.Operand.{Operand}
 use Rattle.cell_nets.specs.Operands.{IsNarrow}
@@ -19,9 +19,9 @@ use Rattle.turn_net.specs.Turns.{record_sites}
 use Rattle.turn_net.specs.Nets.{sites_of, HasOperands}
 use Rattle.pipe_net.specs.declared.parts.Part.{Part}
 use Rattle.pipe_net.specs.Parts as part
-use Rattle.pipe_draft.specs.declared.draft.Draft.{Draft}
-use Rattle.pipe_draft.specs.declared.places.Behind.{Behind}
-use Rattle.pipe_draft.specs.Draft.{program_in, decls_in}
+use Rattle.slot_parts.specs.pipe_draft.declared.draft.Draft.{Draft}
+use Rattle.slot_parts.specs.pipe_draft.declared.places.Behind.{Behind}
+use Rattle.slot_parts.specs.pipe_draft.Draft.{program_in, decls_in}
 use Rattle.turn_parts.specs.Sites.{IsNetsAt}
 
 -- ---- the parts that say it, one for each map

@@ -6,7 +6,7 @@ use Rattle.std.proofs.Common.{get_or}
 use Rattle.block_core.specs.declared.name.Name.{Name}
 use Rattle.block_core.specs.declared.name.Name.TheVariants as name
 use Rattle.xdp_maps.specs.declared.decl.MapDecl.{MapDecl}
-use Rattle.cell_core.specs.Sites.{ProgramView, site_at}
+use Rattle.hazard_core.specs.cell_core.Sites.{ProgramView, site_at}
 use Rattle.hazard_core.specs.Tables.{decl_of}
 use Rattle.cell_nets.specs.declared.operand.Operand.TheVariants.{Net}
 use Rattle.cell_nets.specs.Operands.{IsWide, IsOperand, IsNarrow}
@@ -21,9 +21,9 @@ use Rattle.pipe_net.specs.declared.parts.Part.{Part}
 use Rattle.pipe_net.specs.declared.parts.Sizes.{Sizes}
 use Rattle.pipe_net.specs.Parts as part
 use Rattle.slot_parts.specs.pipe_turns.Maps.{records_on}
-use Rattle.pipe_draft.specs.declared.draft.Draft.{Draft}
-use Rattle.pipe_draft.specs.declared.places.Behind.{Behind}
-use Rattle.pipe_draft.specs.Draft.{program_in, decls_in}
+use Rattle.slot_parts.specs.pipe_draft.declared.draft.Draft.{Draft}
+use Rattle.slot_parts.specs.pipe_draft.declared.places.Behind.{Behind}
+use Rattle.slot_parts.specs.pipe_draft.Draft.{program_in, decls_in}
 
 -- ---- the operands of sites behind a place
 -- these are those of site j

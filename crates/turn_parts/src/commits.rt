@@ -4,15 +4,15 @@ ghost use Rattle.std.specs.Prelude.{◌≡◌, All, IfOk, length};
 ghost use Rattle.block_core.specs.View.{block_of};
 ghost use Rattle.cell_nets.specs.Operands.{IsOperand};
 ghost use Rattle.target_net.specs.Commits.{AreMaps};
-ghost use Rattle.pipe_draft.specs.Draft.{program_in, IsDraft};
+ghost use Rattle.slot_parts.specs.pipe_draft.Draft.{program_in, IsDraft};
 ghost use Rattle.turn_parts.specs.Records.{AreRecordsOf};
 ghost use Rattle.turn_parts.specs.Parts.{IsCommitsPart};
 
 use block_core::name::Name;
 use cell_nets::operand::Operand;
 use hazard_core::site::site_at;
-use pipe_draft::Draft;
 use pipe_net::parts::Part;
+use slot_parts::pipe_draft::Draft;
 use std::alloc::{AllocError, Global};
 use target_net::commits::{CommitsPart, commits};
 use turn_net::nets::RecordNets;

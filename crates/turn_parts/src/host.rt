@@ -7,7 +7,7 @@ ghost use Rattle.map_block.specs.Forms.{IsSuited};
 ghost use Rattle.map_block.specs.Stored.{host_may};
 ghost use Rattle.pipe_net.specs.Parts as part;
 ghost use Rattle.pipe_net.specs.Parts.{IsSmall};
-ghost use Rattle.pipe_draft.specs.Draft.{IsDraft};
+ghost use Rattle.slot_parts.specs.pipe_draft.Draft.{IsDraft};
 ghost use Rattle.turn_parts.specs.Nets.{calm_of, writes_of, present_of, host_nets_of};
 ghost use Rattle.turn_parts.specs.Parts.{IsHostPart, AreMay};
 
@@ -17,9 +17,9 @@ use host_net::host::host;
 use host_net::names::{HostNets, Wire, wire_name};
 use map_block::{ArrayBlock, HashBlock, MapBlock, MapForm};
 use net_core::tree::Expr;
-use pipe_draft::Draft;
 use pipe_net::parts::{Part, Sizes};
 use ring_net::names::{Register, register_name};
+use slot_parts::pipe_draft::Draft;
 use std::alloc::{AllocError, Global};
 use xdp_maps::decl::MapKind;
 

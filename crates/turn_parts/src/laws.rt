@@ -2,7 +2,7 @@
 
 ghost use Rattle.turn_parts.specs.Laws.{PartsAreOfTurns};
 
-use pipe_draft::laws::drafted_are_laid;
+use slot_parts::pipe_draft::laws::drafted_are_laid;
 
 /// In a pipeline by the draft that has these blocks they are its parts of turns.
 pub fn parts_are_of_turns()

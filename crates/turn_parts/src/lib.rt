@@ -10,3 +10,6 @@ mod records;
 mod sites;
 mod targets;
 mod turn;
+
+// Crates above name these through this one.
+pub use slot_parts;

@@ -1,8 +1,8 @@
 //! The parts of turns.
 
 ghost use Rattle.std.specs.Prelude.{◌≡◌, IfOk};
-ghost use Rattle.pipe_draft.specs.Draft.{plan_in, IsDraft};
-ghost use Rattle.pipe_draft.specs.Places.{IsBehind};
+ghost use Rattle.slot_parts.specs.pipe_draft.Draft.{plan_in, IsDraft};
+ghost use Rattle.slot_parts.specs.pipe_draft.Places.{IsBehind};
 ghost use Rattle.slot_parts.specs.Nets.{AreMapNets};
 ghost use Rattle.turn_parts.specs.Parts.{AreTurnPartsIn};
 
@@ -14,10 +14,10 @@ use crate::targets::target_parts;
 use crate::turn::{turn_part, turn_shape};
 use block_core::block::Block;
 use block_core::name::Name;
-use pipe_draft::{Behind, Draft};
 use pipe_net::parts::Part;
 use read_net::sites::MapNets;
 use ring_net::shape::ControlShape;
+use slot_parts::pipe_draft::{Behind, Draft};
 use std::alloc::{AllocError, Global};
 use target_net::commits::CommitsPart;
 use target_net::targets::TargetPart;

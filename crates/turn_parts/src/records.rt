@@ -3,8 +3,8 @@
 ghost use Rattle.std.specs.Prelude.{◌≡◌, ◌<◌, Contains, IfOk, length};
 ghost use Rattle.read_net.specs.Sites.{sites_of};
 ghost use Rattle.turn_net.specs.Turns.{record_sites};
-ghost use Rattle.pipe_draft.specs.Draft.{program_in, plan_in, IsDraft};
-ghost use Rattle.pipe_draft.specs.Places.{IsBehind};
+ghost use Rattle.slot_parts.specs.pipe_draft.Draft.{program_in, plan_in, IsDraft};
+ghost use Rattle.slot_parts.specs.pipe_draft.Places.{IsBehind};
 ghost use Rattle.turn_parts.specs.Sites.{AreOwnLists, list_at};
 ghost use Rattle.turn_parts.specs.Records.{HaveTargets, targets_at, IsTargetAt, IsRecordAt, AreRecordsAt};
 
@@ -12,9 +12,9 @@ use crate::sites::decl_at;
 use block_core::name::Name;
 use cell_nets::operand::Operand;
 use hazard_core::site::site_at;
-use pipe_draft::{Behind, Draft};
 use pipe_net::parts::Part;
 use read_net::sites::OwnSite;
+use slot_parts::pipe_draft::{Behind, Draft};
 use std::alloc::{AllocError, Global};
 use target_net::targets::{Target, TargetPart};
 use turn_net::nets::RecordNets;

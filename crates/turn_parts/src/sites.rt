@@ -1,20 +1,20 @@
 //! The sites at which the operations on a map may write, and the slots that updates of hashes took.
 
 ghost use Rattle.std.specs.Prelude.{◌≡◌, ◌<◌, IfOk, length};
-ghost use Rattle.cell_core.specs.Sites.{site_at};
+ghost use Rattle.hazard_core.specs.cell_core.Sites.{site_at};
 ghost use Rattle.hazard_core.specs.Tables.{decl_of};
-ghost use Rattle.pipe_draft.specs.Draft.{program_in, plan_in, decls_in, IsDraft};
-ghost use Rattle.pipe_draft.specs.Places.{IsBehind};
+ghost use Rattle.slot_parts.specs.pipe_draft.Draft.{program_in, plan_in, decls_in, IsDraft};
+ghost use Rattle.slot_parts.specs.pipe_draft.Places.{IsBehind};
 ghost use Rattle.turn_parts.specs.Sites.{IsOwnOf, AreOwnOf, AreOwnLists, keeps_at, taken_in};
 
 use block_core::name::Name;
-use cell_core::site::Act;
 use cell_nets::operand::Operand;
 use commit_net::target::TakenSlot;
+use hazard_core::cell_core::site::Act;
 use hazard_core::site::site_at;
-use pipe_draft::{Behind, Draft};
 use pipe_net::parts::Part;
 use read_net::sites::OwnSite;
+use slot_parts::pipe_draft::{Behind, Draft};
 use std::alloc::{AllocError, Global};
 use turn_net::nets::TurnShape;
 use xdp_maps::decl::{MapDecl, MapKind};

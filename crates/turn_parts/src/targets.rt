@@ -5,17 +5,17 @@ ghost use Rattle.std.proofs.Common.{get_or};
 ghost use Rattle.cell_nets.specs.Operands.{IsOperand};
 ghost use Rattle.commit_net.specs.Targets.{slots_of};
 ghost use Rattle.map_block.specs.declared.form.MapForm.{MapForm};
-ghost use Rattle.pipe_draft.specs.declared.places.Behind.{Behind};
-ghost use Rattle.pipe_draft.specs.Draft.{IsDraft};
+ghost use Rattle.slot_parts.specs.pipe_draft.declared.places.Behind.{Behind};
+ghost use Rattle.slot_parts.specs.pipe_draft.Draft.{IsDraft};
 ghost use Rattle.slot_parts.specs.Nets.{IsMapIn, AreMapNets};
 ghost use Rattle.turn_parts.specs.Sites.{AreOwnOf, AreOwnLists, list_at};
 ghost use Rattle.turn_parts.specs.Records.{IsTargetPart, AreTargetParts};
 
 use block_core::name::Name;
 use commit_net::target::TakenSlot;
-use pipe_draft::Draft;
 use pipe_net::parts::Part;
 use read_net::sites::{MapNets, OwnSite};
+use slot_parts::pipe_draft::Draft;
 use std::alloc::{AllocError, Global};
 use target_net::targets::{TargetPart, targets};
 

@@ -3,15 +3,15 @@ use Rattle.std.proofs.Common.{◌≡◌, ℕ, ◌+◌, ◌-◌, ◌*◌, ◌/◌
 use Rattle.std.proofs.lemmas.Nat.{pow_pos, pow-add, mul-add-lt, shr_below}
 use Rattle.std.proofs.Math.Nat.{div-one, mod-eq_of_lt, mul-le-mul_left}
 use Rattle.std.proofs.Math.Pow.{pow_mono}
-use Rattle.cell_nets.specs.net_core.Value.{Env}
+use Rattle.site_operands.specs.cell_nets.net_core.Value.{Env}
 use Rattle.cell_core.specs.xdp_machine.State.{PacketIn}
 use Rattle.cell_core.specs.declared.operator.Operator.TheVariants.{Join}
 use Rattle.cell_core.specs.Cells.{number, bits_from, joined}
-use Rattle.cell_nets.specs.declared.operand.Operand.{Operand}
-use Rattle.cell_nets.specs.declared.operand.Operand.TheVariants.{Known, Net, Part}
-use Rattle.cell_nets.specs.Operands.{number_in, IsFit}
-use Rattle.cell_nets.specs.Wires.{HasBits}
-use Rattle.cell_nets.proofs.PartLaws.{part_small}
+use Rattle.site_operands.specs.cell_nets.declared.operand.Operand.{Operand}
+use Rattle.site_operands.specs.cell_nets.declared.operand.Operand.TheVariants.{Known, Net, Part}
+use Rattle.site_operands.specs.cell_nets.Operands.{number_in, IsFit}
+use Rattle.site_operands.specs.cell_nets.Wires.{HasBits}
+use Rattle.site_operands.proofs.cell_nets_laws.PartLaws.{part_small}
 use Rattle.value_net.specs.Words.{with_bits}
 
 pub low_bits : (n w : ℕ) → bits_from n 0 w ≡ n % 2 ^ w

@@ -8,7 +8,7 @@ use Rattle.block_core.proofs.net_core.LowBitsLaws.{low_low}
 use Rattle.bpf_isa.specs.declared.operation.Size.{Size}
 use Rattle.bpf_isa.specs.declared.operation.Size.TheVariants.{B, H, W, Dw}
 use Rattle.xdp_maps.specs.declared.change.ChangeKind.TheVariants as kind
-use Rattle.cell_nets.specs.net_core.Value.{Env}
+use Rattle.site_operands.specs.cell_nets.net_core.Value.{Env}
 use Rattle.block_core.specs.declared.name.Name.{Name}
 use Rattle.block_core.specs.Blocks.{BlockWireTree}
 use Rattle.byteorder.specs.Endian.{little_bytes}
@@ -23,9 +23,9 @@ use Rattle.cell_core.specs.declared.site.Act.TheVariants as act
 use Rattle.cell_core.specs.Cells.{number, bits_from, bit, on}
 use Rattle.cell_core.specs.Sites.{change_of}
 use Rattle.site_operands.specs.hazard_core.Commits.{word_at}
-use Rattle.cell_nets.specs.declared.operand.Operand.{Operand}
-use Rattle.cell_nets.specs.Operands.{IsAvailable}
-use Rattle.cell_nets.specs.Wires.{Gives, always}
+use Rattle.site_operands.specs.cell_nets.declared.operand.Operand.{Operand}
+use Rattle.site_operands.specs.cell_nets.Operands.{IsAvailable}
+use Rattle.site_operands.specs.cell_nets.Wires.{Gives, always}
 use Rattle.value_net.specs.Words.{IsAligned, access_start, access_bytes, change_bits, with_bits}
 use Rattle.value_net.proofs.Holding.{wide_gives, step_gives}
 use Rattle.value_net.proofs.ByteLemmas.{stored_is, number_is, word_left}

@@ -3,7 +3,7 @@ use Rattle.std.specs.Prelude.{◌==◌, not, ◌&&◌, if◌then◌else◌, fold
 use Rattle.std.proofs.Common.{◌≡◌, ℕ, zero, suc, ◌+◌, ◌*◌, ◌^◌, ◌<◌, ◌≤◌, Bool, true, false, All, List, [], ◌∷◌, ◌++◌, length, take, map, get_or, refl, sym, ◌∙◌, ap, subst, arith, length-drop}
 use Rattle.std.proofs.lemmas.Bool.{eqb-true, eqb-false}
 use Rattle.std.proofs.Math.Seq.{take-suc}
-use Rattle.cell_nets.specs.net_core.Value.{Env}
+use Rattle.site_operands.specs.cell_nets.net_core.Value.{Env}
 use Rattle.block_core.specs.declared.name.Name.{Name}
 use Rattle.block_core.specs.Blocks.{BlockWireTree}
 use Rattle.std.proofs.lemmas.List.{length-map, length-take-le, take_all, get_or-take}
@@ -31,9 +31,9 @@ use Rattle.site_operands.specs.hazard_core.Commits.{word_at}
 use Rattle.site_operands.specs.hazard_core.Held.{Held, same_pointer, held_value, asked, access_pointer, writes, written_pointer}
 use Rattle.site_operands.specs.hazard_core.Overlay.{value_as, value_over, value_under, entry_value, where_some, answer_as}
 use Rattle.site_operands.specs.hazard_core.Tables.{TableState, decl_of, table_at, slot_at}
-use Rattle.cell_nets.specs.declared.operand.Operand.{Operand}
-use Rattle.cell_nets.specs.Operands.{number_in, IsAvailable}
-use Rattle.cell_nets.specs.Wires.{Gives}
+use Rattle.site_operands.specs.cell_nets.declared.operand.Operand.{Operand}
+use Rattle.site_operands.specs.cell_nets.Operands.{number_in, IsAvailable}
+use Rattle.site_operands.specs.cell_nets.Wires.{Gives}
 use Rattle.site_operands.specs.Pointers.{pointer_number}
 use Rattle.value_net.specs.Words.{answers_number, access_start, access_bytes}
 use Rattle.value_net.specs.Pendings.{taken_of, all_taken, ShowsPending, ShowPendings, IsFitting, IsOf, AreOf, HasValue, ShowsEntry}

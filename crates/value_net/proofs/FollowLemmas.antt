@@ -2,7 +2,7 @@
 use Rattle.std.specs.Prelude.{drop, min}
 use Rattle.std.proofs.Common.{◌≡◌, ◌≢◌, ℕ, ◌+◌, ◌-◌, ◌*◌, ◌%◌, ◌^◌, ◌<◌, ◌≤◌, List, length, refl, sym, ◌∙◌, ap, arith, length-drop}
 use Rattle.std.proofs.lemmas.List.{get_or-drop, length-map}
-use Rattle.cell_nets.specs.net_core.Value.{Env}
+use Rattle.site_operands.specs.cell_nets.net_core.Value.{Env}
 use Rattle.xdp_maps.specs.declared.decl.MapDecl.{MapDecl}
 use Rattle.bpf_isa.specs.declared.operation.Size.{Size}
 use Rattle.cell_core.specs.declared.site.Atomic.{Atomic}
@@ -12,8 +12,8 @@ use Rattle.cell_core.specs.Cells.{bits_from}
 use Rattle.cell_core.specs.Sites.{bytes_of, operation_with}
 use Rattle.site_operands.specs.hazard_core.Commits.{word_at}
 use Rattle.site_operands.specs.hazard_core.Overlay.{value_as}
-use Rattle.cell_nets.specs.declared.operand.Operand.{Operand}
-use Rattle.cell_nets.specs.Operands.{number_in}
+use Rattle.site_operands.specs.cell_nets.declared.operand.Operand.{Operand}
+use Rattle.site_operands.specs.cell_nets.Operands.{number_in}
 use Rattle.value_net.specs.Lists.{numbers_in, number_of}
 use Rattle.value_net.proofs.BitLemmas.{low_bits, more_bits}
 use Rattle.value_net.proofs.ByteLemmas.{word_of_words}

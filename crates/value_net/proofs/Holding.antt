@@ -1,21 +1,21 @@
 -- Wires that become more step by step, and what is known of the operands that they give.
 use Rattle.std.proofs.Common.{◌≡◌, ℕ, zero, suc, true, false, subst, All, List, [], ◌∷◌, ◌++◌, refl, sym, ◌∙◌, ap, arith}
 use Rattle.std.proofs.lemmas.List.Elements.{All-cons}
-use Rattle.cell_nets.specs.net_core.Value.{Env}
+use Rattle.site_operands.specs.cell_nets.net_core.Value.{Env}
 use Rattle.cell_core.specs.xdp_machine.State.{PacketIn}
 use Rattle.block_core.specs.declared.name.Name.{Name}
 use Rattle.block_core.specs.Blocks.{BlockWireTree}
 use Rattle.block_core.specs.Parts.{Solve}
-use Rattle.cell_nets.specs.declared.operand.Operand.{Operand}
-use Rattle.cell_nets.specs.Apart.{StayApart}
-use Rattle.cell_nets.specs.Operands.{number_in, IsOperand, IsFit, AreFit, IsAvailable}
+use Rattle.site_operands.specs.cell_nets.declared.operand.Operand.{Operand}
+use Rattle.site_operands.specs.cell_nets.Apart.{StayApart}
+use Rattle.site_operands.specs.cell_nets.Operands.{number_in, IsOperand, IsFit, AreFit, IsAvailable}
 use Rattle.cell_core.specs.declared.operator.Operator.{Operator}
 use Rattle.cell_core.specs.declared.operator.Operator.TheVariants.{Mul}
 use Rattle.cell_core.specs.Formed.{divides}
-use Rattle.cell_nets.specs.Computing.{makes_product, taken, HasDivisor}
-use Rattle.cell_nets.specs.Wires.{behind, AreWires, HasBits, IsGiven, GivesBy, Gives, always}
-use Rattle.cell_nets.proofs.ApartLemmas.{stay_none, stay_as, stay_then}
-use Rattle.cell_nets.proofs.ChoiceLemmas.{fit_of}
+use Rattle.site_operands.specs.cell_nets.Computing.{makes_product, taken, HasDivisor}
+use Rattle.site_operands.specs.cell_nets.Wires.{behind, AreWires, HasBits, IsGiven, GivesBy, Gives, always}
+use Rattle.site_operands.proofs.cell_nets_laws.ApartLemmas.{stay_none, stay_as, stay_then}
+use Rattle.site_operands.proofs.cell_nets_laws.ChoiceLemmas.{fit_of}
 
 pub no_packet : PacketIn
 no_packet = record { frame = []; ifindex = 0; time = 0 }

@@ -1,8 +1,8 @@
 -- Operands of lists.
 use Rattle.std.specs.Prelude.{ℕ, List, slice_index, map as map_list}
-use Rattle.cell_nets.specs.net_core.Value.{Env}
-use Rattle.cell_nets.specs.declared.operand.Operand.{Operand}
-use Rattle.cell_nets.specs.Operands.{number_in}
+use Rattle.site_operands.specs.cell_nets.net_core.Value.{Env}
+use Rattle.site_operands.specs.cell_nets.declared.operand.Operand.{Operand}
+use Rattle.site_operands.specs.cell_nets.Operands.{number_in}
 
 -- the numbers that operands stand for
 abbrev pub numbers_in : {N : Type 0} → Env N → List (Operand N) → List ℕ

@@ -1,7 +1,7 @@
 -- What stands for the earlier operations of a packet that may write the map of an entry, and for the entry itself.
 use Rattle.std.specs.Prelude.{◌≡◌, ℕ, ◌<◌, List, [], ◌∷◌, ◌++◌, All, length}
 use Rattle.std.proofs.Common.{get_or}
-use Rattle.cell_nets.specs.net_core.Value.{Env}
+use Rattle.site_operands.specs.cell_nets.net_core.Value.{Env}
 use Rattle.xdp_maps.specs.Contents.{IsBytes}
 use Rattle.xdp_maps.specs.declared.decl.MapDecl.{MapDecl}
 use Rattle.cell_core.specs.Cells.{bit}
@@ -12,8 +12,8 @@ use Rattle.site_operands.specs.hazard_core.declared.pointer.Pointer.{Pointer}
 use Rattle.site_operands.specs.hazard_core.declared.pointer.Pointer.TheVariants.{InSlot}
 use Rattle.site_operands.specs.hazard_core.Held.{Held, writes, written_pointer}
 use Rattle.site_operands.specs.hazard_core.Commits.{word_at}
-use Rattle.cell_nets.specs.declared.operand.Operand.{Operand}
-use Rattle.cell_nets.specs.Operands.{number_in, IsOperand}
+use Rattle.site_operands.specs.cell_nets.declared.operand.Operand.{Operand}
+use Rattle.site_operands.specs.cell_nets.Operands.{number_in, IsOperand}
 use Rattle.site_operands.specs.Pointers.{pointer_number}
 use Rattle.site_operands.specs.Sites.{operands_of, ShowsAsked}
 use Rattle.site_operands.specs.declared.Pending.{Pending}

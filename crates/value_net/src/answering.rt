@@ -9,8 +9,8 @@ ghost use Rattle.site_operands.specs.hazard_core.Commits.{word_at};
 ghost use Rattle.site_operands.specs.hazard_core.Held.{Held, access_pointer};
 ghost use Rattle.site_operands.specs.hazard_core.Overlay.{answer_over};
 ghost use Rattle.site_operands.specs.hazard_core.Tables.{TableState, decl_of};
-ghost use Rattle.cell_nets.specs.Operands.{IsOperand, number_in};
-ghost use Rattle.cell_nets.specs.Wires.{wires_of, Gives};
+ghost use Rattle.site_operands.specs.cell_nets.Operands.{IsOperand, number_in};
+ghost use Rattle.site_operands.specs.cell_nets.Wires.{wires_of, Gives};
 ghost use Rattle.value_net.specs.Pendings.{all_taken, IsFitting, AreOf, ShowPendings, HasValue, ShowsEntry};
 ghost use Rattle.value_net.specs.Words.{IsAligned, answers_number, access_start, access_bytes};
 
@@ -20,9 +20,9 @@ use crate::operating::choose;
 use block_core::block::BlockWire;
 use block_core::name::Name;
 use cell_core::site::Act;
-use cell_nets::operand::Operand;
-use cell_nets::wires::cut;
 use site_operands::Pending;
+use site_operands::cell_nets::operand::Operand;
+use site_operands::cell_nets::wires::cut;
 use std::alloc::{AllocError, Global};
 use xdp_maps::decl::MapDecl;
 

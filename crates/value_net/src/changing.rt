@@ -7,8 +7,8 @@ ghost use Rattle.xdp_maps.specs.Contents.{IsBytes};
 ghost use Rattle.cell_core.specs.xdp_machine.Memory.{bytes_in};
 ghost use Rattle.cell_core.specs.Sites.{change_of};
 ghost use Rattle.site_operands.specs.hazard_core.Commits.{word_at};
-ghost use Rattle.cell_nets.specs.Operands.{IsOperand, number_in};
-ghost use Rattle.cell_nets.specs.Wires.{wires_of, always, HasBits, Gives};
+ghost use Rattle.site_operands.specs.cell_nets.Operands.{IsOperand, number_in};
+ghost use Rattle.site_operands.specs.cell_nets.Wires.{wires_of, always, HasBits, Gives};
 ghost use Rattle.value_net.specs.Words.{change_bits};
 
 use crate::operating::{choose, pair};
@@ -18,8 +18,8 @@ use block_core::name::Name;
 use bpf_isa::Size;
 use cell_core::operator::Operator;
 use cell_core::site::Atomic;
-use cell_nets::operand::Operand;
-use cell_nets::wires::cut;
+use site_operands::cell_nets::operand::Operand;
+use site_operands::cell_nets::wires::cut;
 use std::alloc::{AllocError, Global};
 use xdp_maps::change::ChangeKind;
 

@@ -8,8 +8,8 @@ ghost use Rattle.site_operands.specs.hazard_core.Held.{Held};
 ghost use Rattle.site_operands.specs.hazard_core.declared.pointer.Pointer.{Pointer};
 ghost use Rattle.site_operands.specs.hazard_core.Overlay.{value_over, value_under, entry_value};
 ghost use Rattle.site_operands.specs.hazard_core.Tables.{TableState, decl_of, table_at};
-ghost use Rattle.cell_nets.specs.Operands.{IsOperand, number_in};
-ghost use Rattle.cell_nets.specs.Wires.{wires_of, HasBits, Gives};
+ghost use Rattle.site_operands.specs.cell_nets.Operands.{IsOperand, number_in};
+ghost use Rattle.site_operands.specs.cell_nets.Wires.{wires_of, HasBits, Gives};
 ghost use Rattle.site_operands.specs.Pointers.{pointer_number};
 ghost use Rattle.value_net.specs.Pendings.{taken_of, all_taken, IsFitting, IsOf, AreOf, ShowsPending, ShowPendings, HasValue, ShowsEntry};
 
@@ -18,9 +18,9 @@ use crate::operating::{choose, pair};
 use block_core::block::BlockWire;
 use block_core::name::Name;
 use cell_core::operator::Operator;
-use cell_nets::operand::Operand;
-use cell_nets::wires::cut;
 use site_operands::Pending;
+use site_operands::cell_nets::operand::Operand;
+use site_operands::cell_nets::wires::cut;
 use std::alloc::{AllocError, Global};
 use xdp_maps::decl::MapDecl;
 

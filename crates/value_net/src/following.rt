@@ -10,8 +10,8 @@ ghost use Rattle.site_operands.specs.hazard_core.Tables.{decl_of};
 ghost use Rattle.site_operands.specs.Sites.{operands_of, ShowsAsked};
 ghost use Rattle.site_operands.specs.hazard_core.Commits.{word_at};
 ghost use Rattle.site_operands.specs.hazard_core.Overlay.{value_as};
-ghost use Rattle.cell_nets.specs.Operands.{IsOperand, number_in};
-ghost use Rattle.cell_nets.specs.Wires.{wires_of, always, HasBits, Gives};
+ghost use Rattle.site_operands.specs.cell_nets.Operands.{IsOperand, number_in};
+ghost use Rattle.site_operands.specs.cell_nets.Wires.{wires_of, always, HasBits, Gives};
 ghost use Rattle.value_net.specs.Lists.{numbers_in};
 ghost use Rattle.value_net.specs.Words.{IsAligned};
 
@@ -20,9 +20,9 @@ use crate::operating::operand_at;
 use block_core::block::BlockWire;
 use block_core::name::Name;
 use cell_core::site::Act;
-use cell_nets::operand::Operand;
-use cell_nets::wires::cut;
 use site_operands::SiteNets;
+use site_operands::cell_nets::operand::Operand;
+use site_operands::cell_nets::wires::cut;
 use std::alloc::{AllocError, Global};
 use xdp_maps::decl::MapDecl;
 

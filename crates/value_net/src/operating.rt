@@ -1,20 +1,20 @@
 //! Operators on operands that are not in a list.
 
 ghost use Rattle.std.specs.Prelude.{List, [], ◌∷◌, ◌≡◌, ◌≤◌, false, if◌then◌else◌, All, IfOk};
-ghost use Rattle.cell_nets.specs.net_core.Value.{Env};
+ghost use Rattle.site_operands.specs.cell_nets.net_core.Value.{Env};
 ghost use Rattle.cell_core.specs.xdp_machine.State.{PacketIn};
 ghost use Rattle.cell_core.specs.Cells.{number, bits_from, on};
 ghost use Rattle.cell_core.specs.Formed.{IsInRange};
-ghost use Rattle.cell_nets.specs.Computing.{is_outside, makes_product};
-ghost use Rattle.cell_nets.specs.Operands.{IsOperand, IsAvailable, number_in};
-ghost use Rattle.cell_nets.specs.Wires.{wires_of, always, Gives};
+ghost use Rattle.site_operands.specs.cell_nets.Computing.{is_outside, makes_product};
+ghost use Rattle.site_operands.specs.cell_nets.Operands.{IsOperand, IsAvailable, number_in};
+ghost use Rattle.site_operands.specs.cell_nets.Wires.{wires_of, always, Gives};
 ghost use Rattle.value_net.specs.Lists.{numbers_in, number_of};
 
 use block_core::block::BlockWire;
 use block_core::name::Name;
 use cell_core::operator::Operator;
-use cell_nets::operand::Operand;
-use cell_nets::operators::cell_wires;
+use site_operands::cell_nets::operand::Operand;
+use site_operands::cell_nets::operators::cell_wires;
 use std::alloc::{AllocError, Global};
 
 // Bits of an operator on operands, where it is no product.

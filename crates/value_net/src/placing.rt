@@ -2,16 +2,16 @@
 
 ghost use Rattle.std.specs.Prelude.{[], ◌∷◌, ◌≡◌, ◌+◌, ◌*◌, ◌/◌, ◌%◌, ◌^◌, ◌<◌, ◌≤◌, IfOk};
 ghost use Rattle.cell_core.specs.Cells.{bits_from};
-ghost use Rattle.cell_nets.specs.Operands.{IsOperand, IsWide, number_in};
-ghost use Rattle.cell_nets.specs.Wires.{wires_of, always, HasBits, Gives};
+ghost use Rattle.site_operands.specs.cell_nets.Operands.{IsOperand, IsWide, number_in};
+ghost use Rattle.site_operands.specs.cell_nets.Wires.{wires_of, always, HasBits, Gives};
 ghost use Rattle.value_net.specs.Words.{with_bits};
 
 use crate::operating::pair;
 use block_core::block::BlockWire;
 use block_core::name::Name;
 use cell_core::operator::Operator;
-use cell_nets::operand::Operand;
-use cell_nets::wires::cut;
+use site_operands::cell_nets::operand::Operand;
+use site_operands::cell_nets::wires::cut;
 use std::alloc::{AllocError, Global};
 
 /// Bits of a word below others.

@@ -1,3 +1,5 @@
+pub use Rattle.bpf_isa.specs.bits_core as bits_core
+pub use Rattle.bpf_isa.specs as bpf_isa
 pub use Rattle.xdp_maps.specs as xdp_maps
 pub mod Values
 pub mod State

@@ -3,3 +3,8 @@
 #![tactic(auto)]
 
 pub mod laws;
+
+// Crates above name these through this one.
+pub use bpf_isa;
+pub use bpf_isa::bits_core;
+pub use xdp_maps;

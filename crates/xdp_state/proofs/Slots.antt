@@ -3,7 +3,7 @@ use Rattle.std.proofs.Common.{◌≡◌, ℕ, suc, ◌+◌, ◌-◌, ◌/◌, �
 use Rattle.std.proofs.lemmas.List.{get_or-map, map-set, take_more_set, append_assoc}
 use Rattle.std.specs.Prelude.{Option}
 use Rattle.std.specs.Option.{option_map}
-use Rattle.bpf_isa.specs.declared.operation.Size.{Size}
+use Rattle.xdp_machine.specs.bpf_isa.declared.operation.Size.{Size}
 use Rattle.xdp_machine.specs.Values as seen
 use Rattle.xdp_machine.specs.Values.{◌>>=◌}
 use Rattle.xdp_machine.specs.Helpers.{stack_byte, stack_bytes}

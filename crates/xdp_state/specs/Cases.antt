@@ -1,8 +1,8 @@
 -- How a call says whether the machine has a case.
 use Rattle.std.specs.Prelude.{ℕ, ◌≡◌, ◌<◌, Bool, true, false, Option, Some, None, length}
-use Rattle.xdp_maps.specs.declared.decl.MapDecl.{MapDecl}
-use Rattle.xdp_maps.specs.Contents.{IsWithinLimits, IsOver}
-use Rattle.xdp_maps.specs.State.{MapState, decl_at, contents_at}
+use Rattle.xdp_machine.specs.xdp_maps.declared.decl.MapDecl.{MapDecl}
+use Rattle.xdp_machine.specs.xdp_maps.Contents.{IsWithinLimits, IsOver}
+use Rattle.xdp_machine.specs.xdp_maps.State.{MapState, decl_at, contents_at}
 
 -- A call that changes something in place: it has become what was wanted, or there was no case and nothing has changed.
 abbrev pub Makes : {A : Type 0} → Bool → Option A → A → A → Type 0

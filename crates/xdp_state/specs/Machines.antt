@@ -1,6 +1,6 @@
 -- The machine that a state, a frame and maps make up.
 use Rattle.std.specs.Prelude.{ℕ, List}
-use Rattle.xdp_maps.specs.State.{MapState}
+use Rattle.xdp_machine.specs.xdp_maps.State.{MapState}
 use Rattle.xdp_machine.specs.State.{Machine}
 use Rattle.xdp_state.specs.declared.state.State.{State}
 

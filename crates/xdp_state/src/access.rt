@@ -16,8 +16,8 @@ use crate::pointers::number_in;
 use crate::state::State;
 use crate::value::Value;
 use beat_core::Frame;
-use bpf_isa::{Insn, Size, Width};
-use xdp_maps::state::Maps;
+use xdp_machine::bpf_isa::{Insn, Size, Width};
+use xdp_machine::xdp_maps::state::Maps;
 
 // What a load finds at an offset from a pointer.
 fn loaded(

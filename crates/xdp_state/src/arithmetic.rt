@@ -1,11 +1,11 @@
 // The operations on numbers.
 
 ghost use Rattle.std.specs.Prelude.{◌≡◌, ◌^◌, ◌<◌, ◌≤◌, ◌⊎◌};
-ghost use Rattle.bits_core.specs.Bits.{signed_of};
+ghost use Rattle.xdp_machine.specs.bits_core.Bits.{signed_of};
 ghost use Rattle.xdp_machine.specs.Arithmetic.{arithmetic, bits_in, low, negated, extended, ordered, holds};
 
-use bits_core::{arsh, div_s, div_u, mod_s, mod_u, sext, swap};
-use bpf_isa::{AluCode, JumpCode, Src, Width};
+use xdp_machine::bits_core::{arsh, div_s, div_u, mod_s, mod_u, sext, swap};
+use xdp_machine::bpf_isa::{AluCode, JumpCode, Src, Width};
 
 /// The low bits that an operation works on.
 pub fn low(width: Width, n: u64) -> u64

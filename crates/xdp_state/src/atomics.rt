@@ -1,7 +1,7 @@
 // Atomic changes of a number in an entry.
 
 ghost use Rattle.std.specs.Prelude.{◌≡◌, ◌≤◌, ℕ, List, IfSome, Some, is_some, true};
-ghost use Rattle.xdp_maps.specs.Calls.{change_bytes};
+ghost use Rattle.xdp_machine.specs.xdp_maps.Calls.{change_bytes};
 ghost use Rattle.xdp_machine.specs.Values as seen;
 ghost use Rattle.xdp_machine.specs.Memory.{bytes_in};
 ghost use Rattle.xdp_machine.specs.Atomics.{fetches, kind_of, wide_of, comparand, change_of, taking, atomic};
@@ -13,9 +13,9 @@ use crate::pointers::number_in;
 use crate::registers::Registers;
 use crate::state::State;
 use crate::value::Value;
-use bpf_isa::{Insn, Size};
-use xdp_maps::change::{Change, ChangeKind};
-use xdp_maps::state::Maps;
+use xdp_machine::bpf_isa::{Insn, Size};
+use xdp_machine::xdp_maps::change::{Change, ChangeKind};
+use xdp_machine::xdp_maps::state::Maps;
 
 // Whether the old number is fetched.
 fn fetches(code: u64) -> bool

@@ -2,9 +2,9 @@
 
 ghost use Rattle.std.specs.Prelude.{◌≡◌, ◌≤◌, [], unsigned_abs};
 ghost use Rattle.std.specs.Option.{option_map};
-ghost use Rattle.bpf_isa.specs.Spelling.{IsInsn};
-ghost use Rattle.bpf_isa.specs.Rules.{Allows};
-ghost use Rattle.bpf_isa.specs.declared.fields.Rule.TheVariants.{SwapBits};
+ghost use Rattle.xdp_machine.specs.bpf_isa.Spelling.{IsInsn};
+ghost use Rattle.xdp_machine.specs.bpf_isa.Rules.{Allows};
+ghost use Rattle.xdp_machine.specs.bpf_isa.declared.fields.Rule.TheVariants.{SwapBits};
 ghost use Rattle.xdp_machine.specs.Pointers.{compared};
 ghost use Rattle.xdp_machine.specs.State.{register};
 ghost use Rattle.xdp_machine.specs.Arithmetic.{negated, ordered, bits_in};
@@ -16,7 +16,7 @@ use crate::arithmetic::{negated, ordered};
 use crate::pointers::{combined, compared, number_in};
 use crate::registers::Registers;
 use crate::value::Value;
-use bpf_isa::{AluCode, Insn, JumpCode, Op, Src, Width};
+use xdp_machine::bpf_isa::{AluCode, Insn, JumpCode, Op, Src, Width};
 
 /// The immediate number in 64 bits.
 pub fn immediate(insn: &Insn) -> Value

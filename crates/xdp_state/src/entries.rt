@@ -2,8 +2,8 @@
 
 ghost use Rattle.std.specs.Prelude.{◌≡◌, ◌+◌, ◌<◌, ◌≤◌, ◌+ℤ◌, length, slice_get, IfSome};
 ghost use Rattle.std.specs.Option.{option_map, option_copied};
-ghost use Rattle.xdp_maps.specs.State.{contents_at, decl_at};
-ghost use Rattle.xdp_maps.specs.Calls.{lookup_of, change_bytes};
+ghost use Rattle.xdp_machine.specs.xdp_maps.State.{contents_at, decl_at};
+ghost use Rattle.xdp_machine.specs.xdp_maps.Calls.{lookup_of, change_bytes};
 ghost use Rattle.xdp_machine.specs.Memory.{bytes_in, aligned, from_entry, number_stored, to_entry};
 ghost use Rattle.xdp_machine.specs.Atomics.{changed_entry};
 ghost use Rattle.xdp_state.specs.Views.{value_of, key_of};
@@ -11,10 +11,10 @@ ghost use Rattle.xdp_state.specs.Cases.{Makes, Changes, IsDeclared};
 
 use crate::memory::{aligned, bytes_in, bytes_of, number_at};
 use crate::value::{Key, Value};
-use bpf_isa::Size;
-use xdp_maps::change::Change;
-use xdp_maps::decl::MapDecl;
-use xdp_maps::state::Maps;
+use xdp_machine::bpf_isa::Size;
+use xdp_machine::xdp_maps::change::Change;
+use xdp_machine::xdp_maps::decl::MapDecl;
+use xdp_machine::xdp_maps::state::Maps;
 
 /// The declaration of a map.
 pub fn declared(maps: &Maps, q: u32) -> Option<&MapDecl>

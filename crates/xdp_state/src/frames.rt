@@ -9,7 +9,7 @@ ghost use Rattle.xdp_state.specs.Cases.{Makes};
 use crate::memory::{bytes_in, bytes_of, inside, number_at};
 use crate::value::Value;
 use beat_core::Frame;
-use bpf_isa::Size;
+use xdp_machine::bpf_isa::Size;
 
 // Where an access to a frame of so many bytes begins.
 fn in_frame(o: i64, offset: i16, size: Size, len: usize) -> Option<usize>

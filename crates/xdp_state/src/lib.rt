@@ -29,3 +29,7 @@ pub use registers::Registers;
 pub use stack::Stack;
 pub use state::State;
 pub use value::{Key, Value};
+
+// Crates above name these through this one.
+pub use beat_core;
+pub use xdp_machine::{bits_core, bpf_isa, xdp_maps};

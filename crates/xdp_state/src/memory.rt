@@ -2,11 +2,11 @@
 
 ghost use Rattle.std.specs.Prelude.{◌≡◌, ◌+◌, ◌-◌, ◌*◌, ◌%◌, ◌^◌, ◌<◌, ◌≤◌, ◌+ℤ◌, pos, length, IfSome};
 ghost use Rattle.byteorder.specs.Endian.{little_number, little_bytes};
-ghost use Rattle.xdp_maps.specs.Calls.{patched};
+ghost use Rattle.xdp_machine.specs.xdp_maps.Calls.{patched};
 ghost use Rattle.xdp_machine.specs.Memory.{bytes_in, inside, aligned, number_at};
 
-use bpf_isa::Size;
 use byteorder::{ByteOrder, LittleEndian};
+use xdp_machine::bpf_isa::Size;
 
 /// How many bytes an access has.
 pub fn bytes_in(size: Size) -> usize

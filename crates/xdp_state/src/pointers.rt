@@ -2,14 +2,14 @@
 
 ghost use Rattle.std.specs.Prelude.{◌≡◌, ◌-ℤ◌, ◌≤ℤ◌, neg_ℤ, pos, negsuc, Some, unsigned_abs, ◌≤◌};
 ghost use Rattle.std.specs.Option.{option_map};
-ghost use Rattle.bits_core.specs.Bits.{signed_of};
+ghost use Rattle.xdp_machine.specs.bits_core.Bits.{signed_of};
 ghost use Rattle.xdp_machine.specs.Values as seen;
 ghost use Rattle.xdp_machine.specs.Pointers.{moved, sum, difference, copied, computed, combined, in_order, against_null, compared};
 ghost use Rattle.xdp_state.specs.Views.{value_of};
 
 use crate::arithmetic::{arithmetic, extended, holds};
 use crate::value::Value;
-use bpf_isa::{AluCode, JumpCode, Width};
+use xdp_machine::bpf_isa::{AluCode, JumpCode, Width};
 
 /// The number that a value is.
 pub fn number_in(value: &Value) -> Option<u64>

@@ -11,8 +11,8 @@ ghost use Rattle.xdp_state.specs.Cases.{Makes, Fills};
 use crate::memory::{aligned, bytes_in, bytes_of, number_at, patched_number};
 use crate::pointers::number_in;
 use crate::value::Value;
-use bpf_isa::Size;
 use std::marker::Model;
+use xdp_machine::bpf_isa::Size;
 
 /// The bytes of the stack.
 pub const STACK_BYTES: usize = 512;

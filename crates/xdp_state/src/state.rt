@@ -22,7 +22,7 @@ pub struct State {
 impl State {
     ghost use Rattle.std.specs.Prelude.{◌≡◌, List, ℕ, replicate};
     ghost use Rattle.xdp_machine.specs.Values as seen;
-    ghost use Rattle.xdp_maps.specs.State.{MapState};
+    ghost use Rattle.xdp_machine.specs.xdp_maps.State.{MapState};
     ghost use Rattle.xdp_machine.specs.State.{start};
     ghost use Rattle.xdp_state.specs.Machines.{machine_of};
 

@@ -1,5 +1,5 @@
 use Rattle.std.proofs.Common.{◌&&◌, false, refl, [], ◌∷◌, sym, arith}
-use Rattle.cell_core.specs.Cells.{bit, on}
+use Rattle.cell_nets.specs.cell_core.Cells.{bit, on}
 use Rattle.cell_nets.specs.declared.operand.Operand.TheVariants.{Known}
 use Rattle.cell_nets.specs.Operands.{number_in, IsAvailable}
 use Rattle.cell_nets.specs.Wires.{wires_of, always}

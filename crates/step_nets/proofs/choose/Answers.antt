@@ -1,6 +1,6 @@
 use Rattle.std.specs.Prelude.{if◌then◌else◌}
 use Rattle.std.proofs.Common.{false, refl, [], ◌∷◌, arith}
-use Rattle.cell_core.specs.Cells.{on, bits_from}
+use Rattle.cell_nets.specs.cell_core.Cells.{on, bits_from}
 use Rattle.cell_nets.specs.Operands.{number_in, IsOperand}
 use Rattle.cell_nets.specs.Wires.{wires_of}
 use Rattle.cell_nets.proofs.NarrowLemmas.{bits_small}

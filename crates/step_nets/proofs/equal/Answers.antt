@@ -1,7 +1,7 @@
 use Rattle.std.specs.Prelude.{◌==◌}
 use Rattle.std.proofs.Common.{false, refl, [], ◌∷◌, sym, arith}
-use Rattle.cell_core.specs.declared.operator.Operator.TheVariants.{Equal}
-use Rattle.cell_core.specs.Cells.{bit}
+use Rattle.cell_nets.specs.cell_core.declared.operator.Operator.TheVariants.{Equal}
+use Rattle.cell_nets.specs.cell_core.Cells.{bit}
 use Rattle.cell_nets.specs.Operands.{number_in}
 use Rattle.cell_nets.specs.Parts.{worth}
 use Rattle.cell_nets.specs.Wires.{wires_of, always}

@@ -1,6 +1,6 @@
 use Rattle.std.proofs.Common.{◌≡◌, ◌+◌, false, refl, [], ◌∷◌, sym, ◌∙◌, ap, arith}
-use Rattle.cell_core.specs.declared.operator.Operator.TheVariants.{Add}
-use Rattle.cell_core.specs.Cells.{bits_from}
+use Rattle.cell_nets.specs.cell_core.declared.operator.Operator.TheVariants.{Add}
+use Rattle.cell_nets.specs.cell_core.Cells.{bits_from}
 use Rattle.cell_nets.specs.Operands.{number_in, IsAvailable}
 use Rattle.cell_nets.specs.Parts.{worth}
 use Rattle.cell_nets.specs.Wires.{wires_of, always}

@@ -1,5 +1,5 @@
 use Rattle.std.proofs.Common.{false, [], ◌∷◌, sym, subst, arith, ◌^◌, ◌<◌}
-use Rattle.cell_core.specs.Cells.{bit, on}
+use Rattle.cell_nets.specs.cell_core.Cells.{bit, on}
 use Rattle.cell_nets.specs.Operands.{number_in}
 use Rattle.cell_nets.specs.Wires.{wires_of, always}
 use Rattle.cell_nets.proofs.PartLemmas.{part_computes}

@@ -1,6 +1,6 @@
 use Rattle.std.specs.Prelude.{not}
 use Rattle.std.proofs.Common.{◌&&◌, [], ◌∷◌, arith}
-use Rattle.cell_core.specs.Cells.{bit, on}
+use Rattle.cell_nets.specs.cell_core.Cells.{bit, on}
 use Rattle.cell_nets.specs.declared.operand.Operand.TheVariants.{Known}
 use Rattle.cell_nets.specs.Operands.{number_in, IsAvailable}
 use Rattle.cell_nets.specs.Wires.{wires_of, always}

@@ -1,7 +1,7 @@
 use Rattle.std.proofs.Common.{ℕ, ◌<◌, List, length, sym, ◌∙◌, ap, subst, arith, map as map_list}
 use Rattle.std.proofs.lemmas.List.{length-map}
-use Rattle.xdp_maps.specs.declared.decl.MapDecl.{MapDecl}
-use Rattle.xdp_maps.specs.State.{MapState}
+use Rattle.xdp_state.specs.xdp_maps.declared.decl.MapDecl.{MapDecl}
+use Rattle.xdp_state.specs.xdp_maps.State.{MapState}
 use Rattle.cell_core.specs.Cells.{value_in}
 use Rattle.cell_core.specs.Formed.{FitsMap}
 use Rattle.cell_core.specs.View.{site_of}

@@ -1,5 +1,5 @@
 use Rattle.std.proofs.Common.{◌≡◌, take, map as map_list}
-use Rattle.xdp_maps.specs.State.{MapState}
+use Rattle.xdp_state.specs.xdp_maps.State.{MapState}
 use Rattle.cell_core.specs.Cells.{value_in}
 use Rattle.cell_core.specs.Sites.{after}
 use Rattle.cell_core.specs.View.{site_of}

@@ -1,6 +1,6 @@
 use Rattle.std.proofs.Common.{◌≡◌, ◌≢◌, ℕ, ◌<◌, List, length, get_or, sym, ◌∙◌, subst, arith, map as map_list}
 use Rattle.std.proofs.lemmas.List.{length-map}
-use Rattle.xdp_maps.specs.declared.decl.MapDecl.{MapDecl}
+use Rattle.xdp_state.specs.xdp_maps.declared.decl.MapDecl.{MapDecl}
 use Rattle.cell_core.specs.declared.site.Site.{Site}
 use Rattle.cell_core.specs.Cells.{value_in}
 use Rattle.cell_core.specs.Formed.{FitsMap, AllFit}

@@ -1,9 +1,9 @@
 use Rattle.std.proofs.Common.{◌≡◌, ◌∙◌, [], ◌∷◌, All, map, sym, ap, subst, arith}
-use Rattle.cell_core.specs.Cells.{on, phi, bits_from}
+use Rattle.cell_nets.specs.cell_core.Cells.{on, phi, bits_from}
 use Rattle.cell_nets.specs.Operands.{number_in, IsOperand, IsAvailable}
 use Rattle.cell_nets.specs.Wires.{wires_of, always}
-use Rattle.step_nets.proofs.ChainLaws.{starts, next, last}
-use Rattle.step_nets.proofs.StepLaws.{no_packet, all_each}
+use Rattle.touch_net.proofs.step_nets_laws.ChainLaws.{starts, next, last}
+use Rattle.touch_net.proofs.step_nets_laws.StepLaws.{no_packet, all_each}
 use Rattle.commit_net.specs.Choosing.{all_read}
 use Rattle.change_net.specs.Changes.{key_pairs, key_value}
 use Rattle.change_net.proofs.ChainLemmas.{tail}

@@ -1,9 +1,9 @@
 use Rattle.std.proofs.Common.{◌∙◌, ◌++◌, sym, ap, subst}
-use Rattle.cell_core.specs.Cells.{bits_from}
+use Rattle.cell_nets.specs.cell_core.Cells.{bits_from}
 use Rattle.cell_nets.specs.Operands.{number_in}
 use Rattle.cell_nets.specs.Wires.{wires_of}
 use Rattle.cell_nets.proofs.NarrowLemmas.{bits_small}
-use Rattle.step_nets.proofs.StepLaws.{small_bits}
+use Rattle.touch_net.proofs.step_nets_laws.StepLaws.{small_bits}
 use Rattle.operand_blocks.specs.Wiring.{wires_block}
 use Rattle.change_net.specs.Pointed.{IsPointedWords}
 use Rattle.change_net.proofs.PointedLaws.{over_next, over_number}

@@ -1,10 +1,10 @@
 use Rattle.std.proofs.Common.{◌∙◌, ◌&&◌, ◌==◌, [], ◌∷◌, ap, arith}
-use Rattle.cell_core.specs.Cells.{bit, on, bits_from}
+use Rattle.cell_nets.specs.cell_core.Cells.{bit, on, bits_from}
 use Rattle.cell_nets.specs.declared.operand.Operand.TheVariants.{Known}
 use Rattle.cell_nets.specs.Operands.{number_in, IsAvailable}
 use Rattle.cell_nets.specs.Wires.{wires_of, always}
-use Rattle.step_nets.proofs.ChainLaws.{starts, next, last}
-use Rattle.step_nets.proofs.StepLaws.{all_each, on_bit, bit_bits}
+use Rattle.touch_net.proofs.step_nets_laws.ChainLaws.{starts, next, last}
+use Rattle.touch_net.proofs.step_nets_laws.StepLaws.{all_each, on_bit, bit_bits}
 use Rattle.change_net.specs.Changes.{host_map}
 use Rattle.change_net.proofs.presence.host_net.Goals as goal
 

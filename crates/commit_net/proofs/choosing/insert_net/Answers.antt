@@ -1,11 +1,11 @@
 use Rattle.std.proofs.Common.{◌∙◌, ap}
 use Rattle.cell_core.specs.Cells.{bit, bits_from}
-use Rattle.cell_nets.specs.Wires.{wires_of}
-use Rattle.array_net.specs.hazard_core.Commits.{makes_entry}
+use Rattle.site_operands.specs.cell_nets.Wires.{wires_of}
+use Rattle.hash_net.specs.array_net.hazard_core.Commits.{makes_entry}
 use Rattle.commit_net.specs.Choosing.{all_read, Commits}
 use Rattle.commit_net.specs.declared.choosing.Asked.TheVariants.{Insert}
-use Rattle.step_nets.proofs.ChainLaws.{starts, last}
-use Rattle.step_nets.proofs.StepLaws.{bit_bits}
+use Rattle.operand_blocks.proofs.step_nets_laws.ChainLaws.{starts, last}
+use Rattle.operand_blocks.proofs.step_nets_laws.StepLaws.{bit_bits}
 use Rattle.commit_net.proofs.ChooseLemmas.{asked_picked}
 use Rattle.commit_net.proofs.choosing.insert_net.Goals as goal
 

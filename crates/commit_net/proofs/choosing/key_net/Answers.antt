@@ -1,15 +1,15 @@
 use Rattle.std.proofs.Common.{◌≡◌, ◌∙◌, ◌≤◌, length, ap, subst}
 use Rattle.cell_core.specs.Cells.{bits_from}
 use Rattle.cell_core.specs.Sites.{site_at}
-use Rattle.cell_nets.specs.declared.operand.Operand.TheVariants.{Net}
-use Rattle.cell_nets.specs.Wires.{wires_of, Gives}
-use Rattle.array_net.specs.hazard_core.Tables.{decl_of}
-use Rattle.array_net.specs.hazard_core.Commits.{word_at, word_count}
-use Rattle.array_net.specs.hazard_core.Held.{asked_key}
-use Rattle.array_net.specs.Words.{word_width}
+use Rattle.site_operands.specs.cell_nets.declared.operand.Operand.TheVariants.{Net}
+use Rattle.site_operands.specs.cell_nets.Wires.{wires_of, Gives}
+use Rattle.hash_net.specs.array_net.hazard_core.Tables.{decl_of}
+use Rattle.hash_net.specs.array_net.hazard_core.Commits.{word_at, word_count}
+use Rattle.hash_net.specs.array_net.hazard_core.Held.{asked_key}
+use Rattle.hash_net.specs.array_net.Words.{word_width}
 use Rattle.commit_net.specs.Choosing.{all_read, Commits}
 use Rattle.commit_net.specs.declared.choosing.Asked.TheVariants.{Key}
-use Rattle.step_nets.proofs.ChainLaws.{starts, last}
+use Rattle.operand_blocks.proofs.step_nets_laws.ChainLaws.{starts, last}
 use Rattle.commit_net.proofs.ChooseLemmas.{asked_picked, key_word, key_long, asked_key_is}
 use Rattle.commit_net.proofs.choosing.key_net.Goals as goal
 

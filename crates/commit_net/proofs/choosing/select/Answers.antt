@@ -1,11 +1,11 @@
 use Rattle.std.proofs.Common.{◌≡◌, ◌∙◌, ◌∷◌, [], ◌++◌, All, map, sym, ap, subst, arith}
 use Rattle.cell_core.specs.Cells.{bits_from, phi}
-use Rattle.cell_nets.specs.Operands.{number_in, IsOperand, IsAvailable}
-use Rattle.cell_nets.specs.Wires.{wires_of, always}
-use Rattle.cell_nets.proofs.ShiftLemmas.{cut_low}
+use Rattle.site_operands.specs.cell_nets.Operands.{number_in, IsOperand, IsAvailable}
+use Rattle.site_operands.specs.cell_nets.Wires.{wires_of, always}
+use Rattle.operand_blocks.proofs.cell_nets.ShiftLemmas.{cut_low}
 use Rattle.commit_net.specs.Choosing.{chosen_of, paired, picked}
-use Rattle.step_nets.proofs.ChainLaws.{starts, next, last}
-use Rattle.step_nets.proofs.StepLaws.{no_packet, all_each}
+use Rattle.operand_blocks.proofs.step_nets_laws.ChainLaws.{starts, next, last}
+use Rattle.operand_blocks.proofs.step_nets_laws.StepLaws.{no_packet, all_each}
 use Rattle.commit_net.proofs.ChooseLemmas.{all_paired, pairs_there}
 use Rattle.commit_net.proofs.choosing.select.Goals as goal
 

@@ -1,14 +1,14 @@
 use Rattle.std.proofs.Common.{◌≡◌, ◌∙◌, ◌+◌, ◌*◌, ◌==◌, ◌&&◌, [], ◌∷◌, sym, ap, arith}
 use Rattle.cell_core.specs.Cells.{bit}
-use Rattle.array_net.specs.hazard_core.declared.pointer.Pointer.TheVariants.{Pending}
-use Rattle.array_net.specs.hazard_core.Held.{same_pointer, is_update, written_pointer}
-use Rattle.array_net.specs.hazard_core.Commits.{makes_entry}
-use Rattle.cell_nets.specs.declared.operand.Operand.TheVariants.{Known}
-use Rattle.cell_nets.specs.Operands.{number_in, IsAvailable}
-use Rattle.cell_nets.specs.Wires.{wires_of}
+use Rattle.hash_net.specs.array_net.hazard_core.declared.pointer.Pointer.TheVariants.{Pending}
+use Rattle.hash_net.specs.array_net.hazard_core.Held.{same_pointer, is_update, written_pointer}
+use Rattle.hash_net.specs.array_net.hazard_core.Commits.{makes_entry}
+use Rattle.site_operands.specs.cell_nets.declared.operand.Operand.TheVariants.{Known}
+use Rattle.site_operands.specs.cell_nets.Operands.{number_in, IsAvailable}
+use Rattle.site_operands.specs.cell_nets.Wires.{wires_of}
 use Rattle.commit_net.specs.Targets.{ShowsWritten}
-use Rattle.step_nets.proofs.ChainLaws.{starts, last, ends}
-use Rattle.step_nets.proofs.StepLaws.{all_each}
+use Rattle.operand_blocks.proofs.step_nets_laws.ChainLaws.{starts, last, ends}
+use Rattle.operand_blocks.proofs.step_nets_laws.StepLaws.{all_each}
 use Rattle.commit_net.proofs.TargetLemmas.{pending_test, no_update}
 use Rattle.commit_net.proofs.target.makes_entry.Goals as goal
 

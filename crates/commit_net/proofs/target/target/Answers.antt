@@ -4,14 +4,14 @@ use Rattle.std.proofs.lemmas.List.{take_all}
 use Rattle.std.proofs.lemmas.List.Sums.{fold_more}
 use Rattle.cell_core.specs.Cells.{on, bits_from}
 use Rattle.cell_core.specs.Sites.{site_at}
-use Rattle.array_net.specs.hazard_core.Tables.{table_at}
-use Rattle.array_net.specs.hazard_core.Held.{written_pointer}
-use Rattle.array_net.specs.hazard_core.Commits.{written_slot}
-use Rattle.cell_nets.specs.Operands.{number_in, IsOperand, IsAvailable}
-use Rattle.cell_nets.specs.Wires.{wires_of, always}
+use Rattle.hash_net.specs.array_net.hazard_core.Tables.{table_at}
+use Rattle.hash_net.specs.array_net.hazard_core.Held.{written_pointer}
+use Rattle.hash_net.specs.array_net.hazard_core.Commits.{written_slot}
+use Rattle.site_operands.specs.cell_nets.Operands.{number_in, IsOperand, IsAvailable}
+use Rattle.site_operands.specs.cell_nets.Wires.{wires_of, always}
 use Rattle.commit_net.specs.Targets.{slots_of, ShowsTarget}
-use Rattle.step_nets.proofs.ChainLaws.{starts, next, last}
-use Rattle.step_nets.proofs.StepLaws.{all_each}
+use Rattle.operand_blocks.proofs.step_nets_laws.ChainLaws.{starts, next, last}
+use Rattle.operand_blocks.proofs.step_nets_laws.StepLaws.{all_each}
 use Rattle.commit_net.proofs.TargetLemmas.{over, slot_there, target_is}
 use Rattle.commit_net.proofs.target.target.Goals as goal
 

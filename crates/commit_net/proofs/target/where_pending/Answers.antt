@@ -1,11 +1,11 @@
 use Rattle.std.specs.Prelude.{if◌then◌else◌}
 use Rattle.std.proofs.Common.{◌≡◌, ◌∙◌, ◌+◌, ◌*◌, ◌==◌, [], ◌∷◌, ap, arith}
 use Rattle.cell_core.specs.Cells.{on, bits_from}
-use Rattle.cell_nets.specs.declared.operand.Operand.TheVariants.{Known}
-use Rattle.cell_nets.specs.Operands.{number_in, IsAvailable}
-use Rattle.cell_nets.specs.Wires.{wires_of, always}
-use Rattle.step_nets.proofs.ChainLaws.{starts, next, last}
-use Rattle.step_nets.proofs.StepLaws.{all_each, on_bit}
+use Rattle.site_operands.specs.cell_nets.declared.operand.Operand.TheVariants.{Known}
+use Rattle.site_operands.specs.cell_nets.Operands.{number_in, IsAvailable}
+use Rattle.site_operands.specs.cell_nets.Wires.{wires_of, always}
+use Rattle.operand_blocks.proofs.step_nets_laws.ChainLaws.{starts, next, last}
+use Rattle.operand_blocks.proofs.step_nets_laws.StepLaws.{all_each, on_bit}
 use Rattle.commit_net.proofs.target.where_pending.Goals as goal
 
 pub returns : goal.returns

@@ -1,9 +1,9 @@
 use Rattle.std.proofs.Common.{◌∙◌, ◌++◌, length, sym, ap, subst, arith}
 use Rattle.std.proofs.lemmas.List.{length_push}
-use Rattle.cell_nets.specs.Wires.{wires_of}
+use Rattle.site_operands.specs.cell_nets.Wires.{wires_of}
 use Rattle.commit_net.specs.Choosing.{all_read}
 use Rattle.commit_net.specs.Wiring.{key_operands, ShowWords}
-use Rattle.array_net.specs.hazard_core.Held.{asked_key}
+use Rattle.hash_net.specs.array_net.hazard_core.Held.{asked_key}
 use Rattle.cell_core.specs.Sites.{site_at}
 use Rattle.commit_net.proofs.WordLemmas.{stands_as}
 use Rattle.commit_net.proofs.GatherLemmas.{Keys, keys_none, keys_next}

@@ -1,6 +1,6 @@
 use Rattle.std.proofs.Common.{◌∙◌, subst}
 use Rattle.block_core.specs.View.{block_of}
-use Rattle.array_net.specs.Array.{IsArray}
+use Rattle.hash_net.specs.array_net.Array.{IsArray}
 use Rattle.commit_net.specs.Wholes.{IsArrayCommit}
 use Rattle.map_block.specs.Parts.{MapTrees, with_slot_net}
 use Rattle.map_block.proofs.array.blocks.Goals as goal

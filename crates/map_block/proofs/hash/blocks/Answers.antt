@@ -4,7 +4,7 @@ use Rattle.hash_net.specs.declared.block.HashNets.{HashNets}
 use Rattle.hash_net.specs.Hash.{IsHash}
 use Rattle.commit_net.specs.Fetching.{IsFetch, fetched_words}
 use Rattle.commit_net.specs.Wholes.{IsHashCommit}
-use Rattle.array_net.specs.hazard_core.Commits.{word_count}
+use Rattle.hash_net.specs.array_net.hazard_core.Commits.{word_count}
 use Rattle.map_block.specs.Parts.{MapTrees, with_slot_net}
 use Rattle.map_block.proofs.HashLemmas.{as_given}
 use Rattle.map_block.proofs.hash.blocks.Goals as goal

@@ -3,8 +3,8 @@ use Rattle.std.specs.declared.vec.Vec.{Vec}
 use Rattle.std.proofs.Common.{◌≡◌, ◌∙◌, ◌+◌, ◌<◌, rules, List, length, get_or, sym, ap, subst, arith}
 use Rattle.std.proofs.lemmas.List.{length-map, get_or_default}
 use Rattle.block_core.specs.declared.name.Name.{Name}
-use Rattle.cell_nets.specs.cell_core.Sites.{site_at}
-use Rattle.cell_nets.specs.cell_core.View.{site_of}
+use Rattle.site_operands.specs.cell_nets.cell_core.Sites.{site_at}
+use Rattle.site_operands.specs.cell_nets.cell_core.View.{site_of}
 use Rattle.commit_net.specs.declared.choosing.CommitNets.{CommitNets}
 use Rattle.target_net.specs.declared.targets.Target.{Target}
 use Rattle.pipe_net.specs.declared.parts.Part.{Part}

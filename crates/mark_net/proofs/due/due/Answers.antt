@@ -1,7 +1,7 @@
 use Rattle.std.proofs.Common.{sym, subst}
 use Rattle.std.specs.List.{list_any}
 use Rattle.cell_core.specs.Cells.{bit}
-use Rattle.cell_nets.specs.Wires.{wires_of, always, Gives}
+use Rattle.site_operands.specs.cell_nets.Wires.{wires_of, always, Gives}
 use Rattle.touch_net.specs.Marking.{mark_operands, shown_due, ShowMarks}
 use Rattle.mark_net.specs.Due.{some_due, IsDue}
 use Rattle.mark_net.proofs.DueLemmas.{due_part}

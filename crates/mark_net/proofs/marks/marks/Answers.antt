@@ -1,6 +1,6 @@
 use Rattle.std.proofs.Common.{All, length, sym, ap, subst, arith, map as map_list}
-use Rattle.cell_nets.specs.Wires.{wires_of, always}
-use Rattle.step_nets.specs.Standing.{Stands}
+use Rattle.site_operands.specs.cell_nets.Wires.{wires_of, always}
+use Rattle.operand_blocks.specs.step_nets.Standing.{Stands}
 use Rattle.operand_blocks.specs.Registers.{operand_in}
 use Rattle.mark_net.specs.Sites.{outside}
 use Rattle.mark_net.specs.Marks.{IsBit, TakeMarks}

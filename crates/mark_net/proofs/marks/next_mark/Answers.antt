@@ -1,4 +1,4 @@
-use Rattle.cell_nets.specs.Wires.{wires_of}
+use Rattle.site_operands.specs.cell_nets.Wires.{wires_of}
 use Rattle.mark_net.proofs.NextLemmas.{next_stands}
 use Rattle.mark_net.proofs.marks.next_mark.Goals as goal
 

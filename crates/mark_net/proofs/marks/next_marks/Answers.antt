@@ -1,9 +1,9 @@
 use Rattle.std.proofs.Common.{◌∙◌, ◌+◌, All, length, refl, sym, ap, subst, arith, map as map_list}
 use Rattle.std.proofs.lemmas.List.{length_push, take_all}
 use Rattle.std.proofs.lemmas.List.Elements.{All-nil, All-push}
-use Rattle.cell_nets.specs.Operands.{IsAvailable}
-use Rattle.cell_nets.specs.Wires.{wires_of}
-use Rattle.step_nets.proofs.StepLaws.{avail_at}
+use Rattle.site_operands.specs.cell_nets.Operands.{IsAvailable}
+use Rattle.site_operands.specs.cell_nets.Wires.{wires_of}
+use Rattle.touch_net.proofs.step_nets_laws.StepLaws.{avail_at}
 use Rattle.operand_blocks.specs.declared.registers.Taken.{Taken}
 use Rattle.operand_blocks.specs.Registers.{operand_in}
 use Rattle.mark_net.specs.Sites.{outside, HasOperands, IsMarkSite}

@@ -1,7 +1,7 @@
 use Rattle.std.proofs.Common.{◌≡◌, All, List, length}
 use Rattle.xdp_maps.specs.declared.decl.MapDecl.{MapDecl}
 use Rattle.cell_core.specs.Sites.{ProgramView}
-use Rattle.cell_nets.specs.Wires.{wires_of}
+use Rattle.site_operands.specs.cell_nets.Wires.{wires_of}
 use Rattle.mark_net.specs.Sites.{AreMarkSites}
 use Rattle.mark_net.specs.Marks.{IsBit}
 use Rattle.mark_net.proofs.GatherLemmas.{AreNext}

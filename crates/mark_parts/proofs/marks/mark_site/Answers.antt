@@ -1,7 +1,7 @@
 use Rattle.std.proofs.Common.{◌≡◌, ◌∙◌, ℕ, ◌<◌, length, sym, ap, subst, arith}
 use Rattle.xdp_maps.specs.declared.decl.MapDecl.{MapDecl}
 use Rattle.cell_core.specs.Sites.{site_at}
-use Rattle.cell_nets.specs.declared.operand.Operand.TheVariants.{Net}
+use Rattle.site_operands.specs.cell_nets.declared.operand.Operand.TheVariants.{Net}
 use Rattle.touch_net.specs.Touching.{key_bytes}
 use Rattle.mark_parts.specs.Places.{program_in}
 use Rattle.mark_parts.specs.Owns.{bytes_at, AreOwns}

@@ -1,15 +1,16 @@
-use Rattle.std.proofs.Common.{◌≡◌, ◌++◌, ap, sym, ◌∙◌, map, length, min, rules}
-use Rattle.std.proofs.lemmas.List.{append-nil}
-use Rattle.std.proofs.lemmas.Slice.Zip.{zip_end}
+use Rattle.std.proofs.Common.{◌≡◌, [], ◌++◌, ap, sym, ◌∙◌, map, drop}
+use Rattle.std.proofs.lemmas.List.{append-nil, drop_all}
 use Rattle.net_core.specs.View.{wire_of}
-use Rattle.net_optimize.specs.Renumber.{kept, renumber_wire}
-use Rattle.net_optimize.proofs.Loops.{kept_end}
+use Rattle.net_optimize.specs.Renumber.{numbers_of, renumber_wire, kept_wires}
+use Rattle.net_optimize.proofs.KeptLists.{kept_none}
 use Rattle.net_optimize.proofs.kept.kept_wires.Goals as goal
 
 pub returns : goal.returns
 returns c =
     let all = map wire_of c.loop-wire.all.items in
-    let n : length c.loop-wire.yielded ≡ min (length c.args.wires.now) (length c.args.keep.now) =
-    zip_end c.args.wires.now c.args.keep.now c.loop-wire.yielded c.into_iter-wire-iterator.result c.loop-wire.wire-iterator c.next.new.self c.next.result (search rules) (search rules) c.loop-wire.yielded_by c.in-None.is c.next.ensures.steps in
-    sym (append-nil all) ∙ ap (λ ws. all ++ map (renumber_wire c.args.numbers.now) ws) (sym (kept_end wire_of c.args.keep.now c.args.wires.now _ n))
-    ∙ c.loop-wire.invariant ∙ ap (λ ns. map (renumber_wire ns) (kept c.args.keep.now (map wire_of c.args.wires.now))) c.requires
+    let i = c.loop-wire.wire-index in
+    let ns = numbers_of c.args.numbers.now in
+    let ks = drop i c.args.keep.now in
+    let none : kept_wires ns ks (map wire_of (drop i c.args.wires.now)) ≡ [] =
+    ap (λ l. kept_wires ns ks (map wire_of l)) (drop_all i c.args.wires.now c.loop-wire-test.false) ∙ ap (map (renumber_wire ns)) (kept_none ks) in
+    sym (ap (λ l. all ++ l) none ∙ append-nil all) ∙ c.loop-wire.invariant.done

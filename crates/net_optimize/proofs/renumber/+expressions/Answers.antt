@@ -4,13 +4,13 @@ use Rattle.net_core.specs.declared.tree.Parts.{size-Parts}
 use Rattle.net_core.specs.Nets.{TMore}
 use Rattle.net_core.specs.View.{tree_of, trees_of}
 use Rattle.block_core.specs.Rename.{rename, rename_parts}
-use Rattle.net_optimize.specs.Renumber.{renumber}
+use Rattle.net_optimize.specs.Renumber.{numbers_of, renumber}
 use Rattle.net_optimize.proofs.Loops.{parts_pushed}
 use Rattle.net_optimize.proofs.renumber.+expressions.Goals as goal
 
 pub renumbered_parts-loop-left-preserved : goal.renumbered_parts-loop-left-preserved
 renumbered_parts-loop-left-preserved t c =
-    let f = renumber c.args.numbers.now in
+    let f = renumber (numbers_of c.args.numbers.now) in
     let z = sized-More _ c.in-More.part c.in-More.more in
     let whole = ap (size-Parts _) c.in-More.is in
     let part = ap (size-Parts _) c.deref-left.ensures in

@@ -3,8 +3,7 @@ use Rattle.net_core.specs.declared.tree.Stmt.{size-Stmt}
 use Rattle.net_core.specs.declared.tree.Stmts.{size-Stmts}
 use Rattle.net_core.specs.View.{statement_of, statements_of}
 use Rattle.net_core.specs.Chains.{statements_before}
-use Rattle.block_core.specs.Rename.{rename_statements}
-use Rattle.net_optimize.specs.Renumber.{renumber}
+use Rattle.net_optimize.specs.Renumber.{numbers_of, renumber_statements}
 use Rattle.net_optimize.proofs.renumber.+statements.Given as goal
 
 abbrev pub decreases-renumbered_stmt : goal.decreases-renumbered_stmt
@@ -15,6 +14,6 @@ decreases-renumbered_stmts l = size-Stmts _ l.stmts.now
 
 abbrev pub invariant-renumbered_stmts-loop-left : goal.invariant-renumbered_stmts-loop-left
 invariant-renumbered_stmts-loop-left l = record {
-  done : statements_before (map statement_of l.prefix.items) (rename_statements (renumber l.numbers) 0 0 (statements_of l.left)) ≡ rename_statements (renumber l.numbers) 0 0 (statements_of l.fn.stmts);
+  done : statements_before (map statement_of l.prefix.items) (renumber_statements (numbers_of l.numbers) (statements_of l.left)) ≡ renumber_statements (numbers_of l.numbers) (statements_of l.fn.stmts);
   depth : size-Stmts _ l.left ≤ size-Stmts _ l.fn.stmts;
 }

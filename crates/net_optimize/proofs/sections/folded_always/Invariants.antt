@@ -4,7 +4,8 @@ use Rattle.net_core.specs.View.{statement_of}
 use Rattle.net_core.specs.Value.{Env}
 use Rattle.net_core.specs.Clock.{Stored, edge}
 use Rattle.net_optimize.specs.Folding.{AreKnown}
+use Rattle.net_optimize.specs.Lists.{joined_done}
 use Rattle.net_optimize.proofs.sections.folded_always.Given as goal
 
 abbrev pub invariant-loop-stmt : goal.invariant-loop-stmt
-invariant-loop-stmt l = (v : Env Net) (s : Stored) → AreKnown v l.known → edge v (map statement_of l.all.items) s ≡ edge v (map statement_of (take l.stmt-index l.always)) s
+invariant-loop-stmt l = (v : Env Net) (s : Stored) → AreKnown v l.known → joined_done v l.all s ≡ edge v (map statement_of (take l.stmt-index l.always)) s

@@ -5,9 +5,9 @@ use Rattle.std.proofs.Math.Pow.{pow_mono}
 use Rattle.cell_core.specs.Cells.{on, bits_from}
 use Rattle.site_operands.specs.hazard_core.Held.{is_null}
 use Rattle.site_operands.specs.hazard_core.Overlay.{key_pointer, delete_answer, answer_over}
-use Rattle.cell_nets.specs.declared.operand.Operand.TheVariants.{Known}
-use Rattle.cell_nets.specs.Operands.{number_in}
-use Rattle.cell_nets.specs.Wires.{wires_of}
+use Rattle.site_operands.specs.cell_nets.declared.operand.Operand.TheVariants.{Known}
+use Rattle.site_operands.specs.cell_nets.Operands.{number_in}
+use Rattle.site_operands.specs.cell_nets.Wires.{wires_of}
 use Rattle.overlay_net.proofs.AnswerLemmas.{delete_is, delete_choice}
 use Rattle.step_nets.proofs.ChainLaws.{starts, last, ends}
 use Rattle.overlay_net.proofs.WriteLemmas.{found_on}

@@ -1,7 +1,7 @@
 use Rattle.std.proofs.Common.{refl, map as map_list}
 use Rattle.cell_core.specs.Cells.{bits_from, phi}
-use Rattle.cell_nets.specs.Operands.{number_in}
-use Rattle.cell_nets.specs.Wires.{wires_of, always}
+use Rattle.site_operands.specs.cell_nets.Operands.{number_in}
+use Rattle.site_operands.specs.cell_nets.Wires.{wires_of, always}
 use Rattle.step_nets.proofs.ChainLaws.{starts, last}
 use Rattle.step_nets.proofs.StepLaws.{no_packet}
 use Rattle.overlay_net.proofs.answering.first_number.Goals as goal

@@ -3,9 +3,9 @@ use Rattle.std.proofs.Common.{◌∙◌, ◌+◌, [], ◌∷◌, ap, arith}
 use Rattle.cell_core.specs.Cells.{bit}
 use Rattle.site_operands.specs.hazard_core.Tables.{table_at, used_count}
 use Rattle.site_operands.specs.hazard_core.Held.{adds_key, takes_key}
-use Rattle.cell_nets.specs.declared.operand.Operand.TheVariants.{Known}
-use Rattle.cell_nets.specs.Operands.{number_in, IsAvailable}
-use Rattle.cell_nets.specs.Wires.{wires_of}
+use Rattle.site_operands.specs.cell_nets.declared.operand.Operand.TheVariants.{Known}
+use Rattle.site_operands.specs.cell_nets.Operands.{number_in, IsAvailable}
+use Rattle.site_operands.specs.cell_nets.Wires.{wires_of}
 use Rattle.overlay_net.specs.Seen.{all_read}
 use Rattle.overlay_net.proofs.AnswerLemmas.{count_all}
 use Rattle.step_nets.proofs.ChainLaws.{starts, next, last}

@@ -3,8 +3,8 @@ use Rattle.std.proofs.Common.{◌≡◌, ◌+◌, [], ◌∷◌, ap, arith}
 use Rattle.std.proofs.lemmas.List.{take_all}
 use Rattle.cell_core.specs.Cells.{bit, bits_from}
 use Rattle.site_operands.specs.hazard_core.Held.{takes_key, writes}
-use Rattle.cell_nets.specs.Operands.{number_in, IsAvailable}
-use Rattle.cell_nets.specs.Wires.{wires_of}
+use Rattle.site_operands.specs.cell_nets.Operands.{number_in, IsAvailable}
+use Rattle.site_operands.specs.cell_nets.Wires.{wires_of}
 use Rattle.overlay_net.specs.Seen.{all_read, HasOperands}
 use Rattle.overlay_net.proofs.AnswerLemmas.{count_more, plus_none}
 use Rattle.step_nets.proofs.ChainLaws.{starts, last}

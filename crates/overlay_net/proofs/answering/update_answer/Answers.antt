@@ -8,8 +8,8 @@ use Rattle.cell_core.specs.Sites.{site_at, bytes_of}
 use Rattle.site_operands.specs.hazard_core.Tables.{table_at, used_count}
 use Rattle.site_operands.specs.hazard_core.Held.{is_null, held_value, adds_key, takes_key}
 use Rattle.site_operands.specs.hazard_core.Overlay.{key_pointer, update_answer, answer_over}
-use Rattle.cell_nets.specs.Operands.{number_in, IsOperand, IsAvailable}
-use Rattle.cell_nets.specs.Wires.{wires_of}
+use Rattle.site_operands.specs.cell_nets.Operands.{number_in, IsOperand, IsAvailable}
+use Rattle.site_operands.specs.cell_nets.Wires.{wires_of}
 use Rattle.site_operands.specs.Sites.{operands_of, all_of}
 use Rattle.overlay_net.specs.Seen.{all_read}
 use Rattle.overlay_net.proofs.AnswerLemmas.{update_is, index_first}

@@ -4,9 +4,9 @@ use Rattle.std.proofs.lemmas.Nat.{pow_pos}
 use Rattle.cell_core.specs.Cells.{bit, on, bits_from}
 use Rattle.cell_core.specs.Sites.{site_at}
 use Rattle.site_operands.specs.hazard_core.Held.{held_value}
-use Rattle.cell_nets.specs.declared.operand.Operand.TheVariants.{Known}
-use Rattle.cell_nets.specs.Operands.{number_in, IsOperand, IsAvailable}
-use Rattle.cell_nets.specs.Wires.{wires_of}
+use Rattle.site_operands.specs.cell_nets.declared.operand.Operand.TheVariants.{Known}
+use Rattle.site_operands.specs.cell_nets.Operands.{number_in, IsOperand, IsAvailable}
+use Rattle.site_operands.specs.cell_nets.Wires.{wires_of}
 use Rattle.site_operands.specs.Pointers.{pointer_number}
 use Rattle.site_operands.specs.Sites.{operands_of, all_of}
 use Rattle.step_nets.proofs.ChainLaws.{starts, next, last}

@@ -6,7 +6,7 @@ use Rattle.cell_core.specs.Sites.{site_at}
 use Rattle.site_operands.specs.hazard_core.Tables.{table_at}
 use Rattle.site_operands.specs.hazard_core.Held.{asked_key, slot_pointer}
 use Rattle.site_operands.specs.hazard_core.Overlay.{found_over, key_pointer}
-use Rattle.cell_nets.specs.Operands.{IsOperand}
+use Rattle.site_operands.specs.cell_nets.Operands.{IsOperand}
 use Rattle.site_operands.specs.Pointers.{pointer_number}
 use Rattle.site_operands.specs.Sites.{operands_of, all_of}
 use Rattle.overlay_net.specs.Seen.{all_read, IsSeen}

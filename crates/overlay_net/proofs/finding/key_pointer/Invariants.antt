@@ -4,8 +4,8 @@ use Rattle.cell_core.specs.Sites.{ProgramView, site_at}
 use Rattle.site_operands.specs.hazard_core.Tables.{TableState, decl_of, table_at}
 use Rattle.site_operands.specs.hazard_core.Held.{Held, asked_key, slot_pointer}
 use Rattle.site_operands.specs.hazard_core.Overlay.{found_over}
-use Rattle.cell_nets.specs.Operands.{IsOperand}
-use Rattle.cell_nets.specs.Wires.{wires_of, HasBits, Gives}
+use Rattle.site_operands.specs.cell_nets.Operands.{IsOperand}
+use Rattle.site_operands.specs.cell_nets.Wires.{wires_of, HasBits, Gives}
 use Rattle.site_operands.specs.Pointers.{pointer_number}
 use Rattle.site_operands.specs.Sites.{operands_of, all_of, ShowsAsked}
 use Rattle.overlay_net.specs.Reading.{ShowsSlot}

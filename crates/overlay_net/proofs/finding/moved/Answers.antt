@@ -4,8 +4,8 @@ use Rattle.std.proofs.Common.{◌∙◌, ◌&&◌, [], ◌∷◌, ◌++◌, All,
 use Rattle.std.proofs.lemmas.List.Elements.{All-append}
 use Rattle.cell_core.specs.Cells.{on, bits_from}
 use Rattle.cell_core.specs.Sites.{bytes_of}
-use Rattle.cell_nets.specs.Operands.{number_in, IsOperand, IsAvailable}
-use Rattle.cell_nets.specs.Wires.{wires_of, always}
+use Rattle.site_operands.specs.cell_nets.Operands.{number_in, IsOperand, IsAvailable}
+use Rattle.site_operands.specs.cell_nets.Wires.{wires_of, always}
 use Rattle.overlay_net.specs.Seen.{read_of}
 use Rattle.step_nets.proofs.ChainLaws.{starts, next, last}
 use Rattle.overlay_net.proofs.FindLemmas.{left_of, right_of, tail_of, keys_read, key_given}

@@ -1,5 +1,5 @@
 use Rattle.std.proofs.Common.{arith}
-use Rattle.cell_nets.specs.Operands.{IsOperand, IsAvailable}
+use Rattle.site_operands.specs.cell_nets.Operands.{IsOperand, IsAvailable}
 use Rattle.step_nets.proofs.StepLaws.{avail_at}
 use Rattle.overlay_net.proofs.finding.operand_at.Goals as goal
 

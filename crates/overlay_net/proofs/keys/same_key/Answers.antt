@@ -2,8 +2,8 @@ use Rattle.std.specs.Str.{bytes_eq}
 use Rattle.std.proofs.Common.{◌≡◌, ◌∙◌, ◌+◌, ◌-◌, ◌*◌, ◌/◌, ◌&&◌, [], ◌∷◌, ◌++◌, drop, map, sym, ap, ap₂, arith}
 use Rattle.cell_core.specs.Cells.{bit, on}
 use Rattle.cell_core.specs.Sites.{bytes_of}
-use Rattle.cell_nets.specs.Operands.{number_in, IsAvailable}
-use Rattle.cell_nets.specs.Wires.{wires_of, always}
+use Rattle.site_operands.specs.cell_nets.Operands.{number_in, IsAvailable}
+use Rattle.site_operands.specs.cell_nets.Wires.{wires_of, always}
 use Rattle.step_nets.proofs.ChainLaws.{starts, next, last, ends}
 use Rattle.overlay_net.proofs.FindLemmas.{left_of, right_of, tail_of}
 use Rattle.overlay_net.proofs.KeyLemmas.{key_step}

@@ -1,7 +1,7 @@
 use Rattle.std.proofs.Common.{◌∙◌, ◌==◌, [], ◌∷◌, ap, arith}
 use Rattle.cell_core.specs.Cells.{bit, bits_from}
-use Rattle.cell_nets.specs.Operands.{number_in, IsAvailable}
-use Rattle.cell_nets.specs.Wires.{wires_of, always}
+use Rattle.site_operands.specs.cell_nets.Operands.{number_in, IsAvailable}
+use Rattle.site_operands.specs.cell_nets.Wires.{wires_of, always}
 use Rattle.step_nets.proofs.ChainLaws.{starts, next, last}
 use Rattle.step_nets.proofs.StepLaws.{all_each}
 use Rattle.overlay_net.proofs.keys.same_word.Goals as goal

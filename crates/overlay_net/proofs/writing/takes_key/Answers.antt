@@ -1,8 +1,8 @@
 use Rattle.std.proofs.Common.{[], ◌∷◌, arith}
 use Rattle.cell_core.specs.Cells.{bit}
 use Rattle.site_operands.specs.hazard_core.Held.{takes_key}
-use Rattle.cell_nets.specs.Operands.{number_in}
-use Rattle.cell_nets.specs.Wires.{wires_of}
+use Rattle.site_operands.specs.cell_nets.Operands.{number_in}
+use Rattle.site_operands.specs.cell_nets.Wires.{wires_of}
 use Rattle.step_nets.proofs.ChainLaws.{starts, last, ends}
 use Rattle.overlay_net.proofs.WriteLemmas.{delete_takes, other_takes}
 use Rattle.overlay_net.proofs.writing.takes_key.Goals as goal

@@ -3,8 +3,8 @@ use Rattle.std.proofs.Common.{true, false, ◌∙◌, [], ◌∷◌, ap, arith}
 use Rattle.cell_core.specs.declared.site.Act.TheVariants as act
 use Rattle.cell_core.specs.Cells.{bit, on}
 use Rattle.site_operands.specs.hazard_core.Held.{writes, writes_as}
-use Rattle.cell_nets.specs.Operands.{number_in, IsAvailable}
-use Rattle.cell_nets.specs.Wires.{wires_of}
+use Rattle.site_operands.specs.cell_nets.Operands.{number_in, IsAvailable}
+use Rattle.site_operands.specs.cell_nets.Wires.{wires_of}
 use Rattle.site_operands.specs.Sites.{operands_of, all_of}
 use Rattle.step_nets.proofs.ChainLaws.{starts, last, ends}
 use Rattle.step_nets.proofs.StepLaws.{all_each}

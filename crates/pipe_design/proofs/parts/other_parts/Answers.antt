@@ -3,11 +3,11 @@ use Rattle.std.proofs.Common.{◌≡◌, ◌∙◌, ◌≤◌, List, length, get
 use Rattle.std.proofs.lemmas.List.{get_or_default}
 use Rattle.scatter_net.specs.frame_net.Gather.{IsKept}
 use Rattle.pipe_net.specs.declared.parts.Sizes.{Sizes}
-use Rattle.pipe_draft.specs.declared.places.Behind.{Behind}
-use Rattle.pipe_draft.specs.Draft.{program_in, plan_in}
-use Rattle.pipe_draft.specs.Places.{IsBehind}
-use Rattle.mark_parts.specs.Marks.{HaveChanges}
-use Rattle.slot_parts.specs.Nets.{AreMapNets}
+use Rattle.map_parts.specs.pipe_draft.declared.places.Behind.{Behind}
+use Rattle.map_parts.specs.pipe_draft.Draft.{program_in, plan_in}
+use Rattle.map_parts.specs.pipe_draft.Places.{IsBehind}
+use Rattle.map_parts.specs.mark_parts.Marks.{HaveChanges}
+use Rattle.turn_parts.specs.slot_parts.Nets.{AreMapNets}
 use Rattle.turn_parts.specs.Parts.{AreTurnPartsIn}
 use Rattle.place_parts.specs.Maps.{AreMapsFor}
 use Rattle.place_parts.specs.Parts.{ArePlaceParts}

@@ -1,6 +1,6 @@
 use Rattle.std.proofs.Common.{◌*◌, ◌/◌, ◌%◌, [], sym, subst}
-use Rattle.cell_core.specs.declared.operator.Operator.TheVariants.{Byte, Length}
-use Rattle.cell_core.specs.Cells.{number}
+use Rattle.cell_nets.specs.cell_core.declared.operator.Operator.TheVariants.{Byte, Length}
+use Rattle.cell_nets.specs.cell_core.Cells.{number}
 use Rattle.cell_nets.specs.declared.operand.Operand.TheVariants.{Net}
 use Rattle.cell_nets.specs.Wires.{wires_of}
 use Rattle.frame_net.specs.declared.held.Kept.TheVariants as kept

@@ -1,5 +1,5 @@
 use Rattle.std.proofs.Common.{[], refl}
-use Rattle.cell_core.specs.Cells.{number, bits_from}
+use Rattle.cell_nets.specs.cell_core.Cells.{number, bits_from}
 use Rattle.cell_nets.specs.Wires.{wires_of}
 use Rattle.place_net.specs.Sources.{packet_in, source_operands, IsShownIn}
 use Rattle.place_net.specs.SourceNets.{number_width}

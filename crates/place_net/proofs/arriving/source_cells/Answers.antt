@@ -1,6 +1,6 @@
 use Rattle.std.proofs.Common.{get_or, map as map_list, arith}
 use Rattle.std.proofs.lemmas.List.{length-map}
-use Rattle.cell_core.specs.View.{cell_of}
+use Rattle.cell_nets.specs.cell_core.View.{cell_of}
 use Rattle.cell_nets.specs.Wires.{wires_of}
 use Rattle.place_net.proofs.SourceLemmas.{sourced_at, sourced_next}
 use Rattle.place_net.proofs.arriving.source_cells.Goals as goal

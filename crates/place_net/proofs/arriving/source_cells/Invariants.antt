@@ -1,5 +1,5 @@
 use Rattle.std.proofs.Common.{map as map_list, take}
-use Rattle.cell_core.specs.View.{cell_of}
+use Rattle.cell_nets.specs.cell_core.View.{cell_of}
 use Rattle.cell_nets.specs.Wires.{wires_of}
 use Rattle.place_net.specs.Sources.{IsSourced}
 use Rattle.place_net.proofs.arriving.source_cells.Given as goal

@@ -1,7 +1,7 @@
 use Rattle.std.proofs.Common.{◌≡◌, true, refl, sym, ap, ◌∙◌, subst, map as map_list}
 use Rattle.std.proofs.lemmas.List.Elements.{All-contains}
 use Rattle.frame_net.specs.product_rules.Products.{statement_flat}
-use Rattle.cell_core.specs.View.{cell_of}
+use Rattle.cell_nets.specs.cell_core.View.{cell_of}
 use Rattle.cell_nets.specs.Wires.{wires_of}
 use Rattle.row_net.specs.Table.{IsIn}
 use Rattle.row_net.proofs.ApartLemmas.{alone}

@@ -1,5 +1,5 @@
 use Rattle.std.proofs.Common.{◌≡◌, map as map_list, take}
-use Rattle.cell_core.specs.View.{cell_of}
+use Rattle.cell_nets.specs.cell_core.View.{cell_of}
 use Rattle.place_net.specs.Place.{words_of}
 use Rattle.place_net.proofs.placing.registers.Given as goal
 

@@ -1,6 +1,6 @@
 use Rattle.std.proofs.Common.{◌≡◌, length, subst, map as map_list, arith}
 use Rattle.std.proofs.lemmas.List.{length-map}
-use Rattle.cell_core.specs.View.{cell_of}
+use Rattle.cell_nets.specs.cell_core.View.{cell_of}
 use Rattle.place_net.proofs.PlaceLemmas.{mapped_within}
 use Rattle.place_net.proofs.TakenLemmas.{HasTaken, taken_next, all_taken}
 use Rattle.place_net.proofs.placing.take_registers.Goals as goal

@@ -1,5 +1,5 @@
 use Rattle.std.proofs.Common.{map as map_list}
-use Rattle.cell_core.specs.View.{cell_of}
+use Rattle.cell_nets.specs.cell_core.View.{cell_of}
 use Rattle.place_net.proofs.TakenLemmas.{HasTaken}
 use Rattle.place_net.proofs.placing.take_registers.Given as goal
 

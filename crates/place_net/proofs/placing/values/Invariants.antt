@@ -1,6 +1,6 @@
 use Rattle.std.proofs.Common.{◌≡◌, map as map_list, take}
 use Rattle.net_core.specs.View.{tree_of}
-use Rattle.cell_core.specs.View.{cell_of}
+use Rattle.cell_nets.specs.cell_core.View.{cell_of}
 use Rattle.place_net.specs.PlaceNets.{tree_in}
 use Rattle.place_net.proofs.placing.values.Given as goal
 

@@ -1,7 +1,7 @@
 use Rattle.std.proofs.Common.{◌≡◌, ◌∙◌, ℕ, ◌<◌, length, get_or, sym, ap, subst, arith}
 use Rattle.std.proofs.lemmas.List.{length-map}
 use Rattle.block_core.specs.declared.name.Name.{Name}
-use Rattle.cell_core.specs.View.{site_of}
+use Rattle.hazard_core.specs.cell_core.View.{site_of}
 use Rattle.cell_nets.specs.declared.operand.Operand.TheVariants.{Net}
 use Rattle.change_net.specs.declared.pointed.PointedWords.{PointedWords}
 use Rattle.pipe_net.specs.declared.parts.Part.{Part}

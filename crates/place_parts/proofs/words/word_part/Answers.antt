@@ -1,6 +1,6 @@
 use Rattle.std.proofs.Common.{◌∙◌, ap, arith}
 use Rattle.std.proofs.lemmas.List.{length-map}
-use Rattle.cell_core.specs.View.{site_of}
+use Rattle.hazard_core.specs.cell_core.View.{site_of}
 use Rattle.cell_nets.specs.Wires.{wires_of}
 use Rattle.change_net.specs.value_net.Words.{answers_number}
 use Rattle.place_parts.proofs.WordParts.{number_low, number_answers, word_inside, slot_operand, made_word}

@@ -3,8 +3,8 @@ use Rattle.cell_core.specs.Cells.{bits_from}
 use Rattle.cell_core.specs.Sites.{site_at}
 use Rattle.site_operands.specs.hazard_core.Held.{access_pointer}
 use Rattle.site_operands.specs.hazard_core.Overlay.{answer_over}
-use Rattle.cell_nets.specs.Operands.{IsAvailable}
-use Rattle.cell_nets.specs.Wires.{wires_of}
+use Rattle.site_operands.specs.cell_nets.Operands.{IsAvailable}
+use Rattle.site_operands.specs.cell_nets.Wires.{wires_of}
 use Rattle.overlay_net.specs.Seen.{all_read}
 use Rattle.value_net.specs.Pendings.{all_taken, IsFitting as FitsValue, AreOf, ShowPendings}
 use Rattle.value_net.specs.Words.{access_start}

@@ -2,8 +2,8 @@ use Rattle.std.proofs.Common.{◌∷◌, ◌++◌, All, sym, subst, arith}
 use Rattle.std.proofs.lemmas.List.Elements.{All-append}
 use Rattle.cell_core.specs.Sites.{site_at}
 use Rattle.site_operands.specs.hazard_core.Overlay.{key_pointer}
-use Rattle.cell_nets.specs.Operands.{IsAvailable}
-use Rattle.cell_nets.specs.Wires.{wires_of, Gives}
+use Rattle.site_operands.specs.cell_nets.Operands.{IsAvailable}
+use Rattle.site_operands.specs.cell_nets.Wires.{wires_of, Gives}
 use Rattle.site_operands.specs.Pointers.{pointer_number}
 use Rattle.site_operands.specs.Sites.{operands_of, ShowsAsked}
 use Rattle.overlay_net.specs.Reading.{ShowsSlot}

@@ -3,8 +3,8 @@ use Rattle.std.proofs.lemmas.List.Elements.{All-append}
 use Rattle.cell_core.specs.Sites.{site_at, bytes_of}
 use Rattle.site_operands.specs.hazard_core.Held.{asked_key, slot_pointer}
 use Rattle.site_operands.specs.hazard_core.Tables.{table_at}
-use Rattle.cell_nets.specs.Operands.{number_in, IsOperand, IsAvailable}
-use Rattle.cell_nets.specs.Wires.{wires_of}
+use Rattle.site_operands.specs.cell_nets.Operands.{number_in, IsOperand, IsAvailable}
+use Rattle.site_operands.specs.cell_nets.Wires.{wires_of}
 use Rattle.site_operands.specs.Pointers.{pointer_number}
 use Rattle.site_operands.specs.Sites.{operands_of, all_of}
 use Rattle.step_nets.proofs.ChainLaws.{starts, last}

@@ -1,7 +1,7 @@
 use Rattle.std.proofs.Common.{◌∙◌, ◌∷◌, ◌++◌, ap, arith}
 use Rattle.site_operands.specs.hazard_core.Tables.{decl_of}
-use Rattle.cell_nets.specs.Operands.{IsOperand, IsAvailable}
-use Rattle.cell_nets.specs.Wires.{wires_of}
+use Rattle.site_operands.specs.cell_nets.Operands.{IsOperand, IsAvailable}
+use Rattle.site_operands.specs.cell_nets.Wires.{wires_of}
 use Rattle.overlay_net.specs.Reading.{IsSite}
 use Rattle.overlay_net.specs.Seen.{ShowsPending}
 use Rattle.step_nets.proofs.ChainLaws.{starts, next}

@@ -1,7 +1,7 @@
 use Rattle.std.proofs.Common.{◌≡◌, ◌∙◌, ◌∷◌, ◌++◌, sym, subst, arith}
 use Rattle.std.proofs.lemmas.Nat.{pow_pos}
 use Rattle.xdp_maps.specs.declared.decl.MapKind.TheVariants as kind
-use Rattle.cell_nets.specs.Wires.{wires_of}
+use Rattle.site_operands.specs.cell_nets.Wires.{wires_of}
 use Rattle.step_nets.proofs.ChainLaws.{starts, next}
 use Rattle.read_net.specs.Sites.{cells_of, slot_cells, IsMapOf, ShowsOwn, ShowsTable}
 use Rattle.read_net.proofs.StandLemmas.{stands_as, stands_none}

@@ -1,4 +1,4 @@
-use Rattle.block_core.specs.View.{block_of}
+use Rattle.product_blocks.specs.block_core.View.{block_of}
 use Rattle.ring_net.proofs.Made.{made}
 use Rattle.ring_net.proofs.control.control.Goals as goal
 

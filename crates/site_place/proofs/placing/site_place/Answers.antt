@@ -1,9 +1,9 @@
 use Rattle.std.proofs.Common.{◌≡◌, ◌<◌, ◌++◌, All, true, [], length, refl, sym, ap, ap₂, ◌∙◌, subst, map as map_list}
-use Rattle.cell_nets.specs.product_rules.Products.{statement_flat}
+use Rattle.site_operands.specs.cell_nets.product_rules.Products.{statement_flat}
 use Rattle.cell_core.specs.View.{cell_of}
-use Rattle.cell_nets.specs.Wires.{wires_of}
+use Rattle.site_operands.specs.cell_nets.Wires.{wires_of}
 use Rattle.place_net.proofs.frame_net.FormLaws.{same_block}
-use Rattle.row_net.proofs.ApartLemmas.{alone}
+use Rattle.place_net.proofs.row_net_laws.ApartLemmas.{alone}
 use Rattle.site_place.specs.Pointing.{ArePointed}
 use Rattle.site_place.specs.PointerNets.{IsPointerRow}
 use Rattle.site_place.specs.Inputs.{first_word, input_tree, held_statement, cell_input, pointer_input}

@@ -1,6 +1,6 @@
 use Rattle.std.proofs.Common.{◌≡◌, ℕ, suc, ◌+◌, List, length, length-append, slice_index, sym, ap, ◌∙◌, subst, arith}
 use Rattle.std.specs.Prelude.{not}
-use Rattle.row_net.specs.Table.{Stands, IsIn}
+use Rattle.place_net.specs.row_net.Table.{Stands, IsIn}
 use Rattle.site_place.specs.Pointing.{is_edge, HoldsOf}
 use Rattle.site_place.proofs.ChangeLemmas.{entries_more}
 use Rattle.site_place.proofs.pointing.choices.Goals as goal

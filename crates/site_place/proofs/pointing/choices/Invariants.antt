@@ -1,6 +1,6 @@
 use Rattle.std.proofs.Common.{◌≡◌, ◌<◌, ℕ, length, get_or, slice_index}
-use Rattle.cell_nets.specs.declared.operand.Operand.{Operand}
-use Rattle.row_net.specs.Table.{Stands}
+use Rattle.site_operands.specs.cell_nets.declared.operand.Operand.{Operand}
+use Rattle.place_net.specs.row_net.Table.{Stands}
 use Rattle.site_place.specs.Pointing.{is_edge, HoldsOf}
 use Rattle.site_place.proofs.pointing.choices.Given as goal
 

@@ -1,9 +1,9 @@
 use Rattle.std.proofs.Common.{◌∙◌, All, sym, ap, subst, slice_index}
 use Rattle.cell_core.specs.declared.operator.Operator.TheVariants.{Phi}
-use Rattle.cell_nets.specs.Operands.{IsOperand}
-use Rattle.cell_nets.specs.Parts.{worth}
-use Rattle.cell_nets.specs.Wires.{wires_of, always, Gives}
-use Rattle.row_net.specs.Table.{Stands}
+use Rattle.site_operands.specs.cell_nets.Operands.{IsOperand}
+use Rattle.site_operands.specs.cell_nets.Parts.{worth}
+use Rattle.site_operands.specs.cell_nets.Wires.{wires_of, always, Gives}
+use Rattle.place_net.specs.row_net.Table.{Stands}
 use Rattle.site_operands.specs.Pointers.{pointer_number}
 use Rattle.site_place.specs.Pointing.{made_pointer}
 use Rattle.site_place.specs.PointerNets.{AreChoices, GivesPointer}

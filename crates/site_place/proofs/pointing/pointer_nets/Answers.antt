@@ -2,11 +2,11 @@ use Rattle.std.proofs.Common.{◌≡◌, ◌<◌, ℕ, List, length, map, refl, 
 use Rattle.std.proofs.lemmas.List.{length-map, get_or_default}
 use Rattle.cell_core.specs.Cells.{CellView, cell_at}
 use Rattle.cell_core.specs.View.{cell_of}
-use Rattle.cell_nets.specs.declared.operand.Operand.{Operand}
-use Rattle.cell_nets.specs.Operands.{IsOperand}
-use Rattle.cell_nets.specs.Wires.{wires_of, HasBits}
-use Rattle.row_net.specs.Table.{Stands, IsIn}
-use Rattle.row_net.proofs.TableLemmas.{cell_is}
+use Rattle.site_operands.specs.cell_nets.declared.operand.Operand.{Operand}
+use Rattle.site_operands.specs.cell_nets.Operands.{IsOperand}
+use Rattle.site_operands.specs.cell_nets.Wires.{wires_of, HasBits}
+use Rattle.place_net.specs.row_net.Table.{Stands, IsIn}
+use Rattle.place_net.proofs.row_net_laws.TableLemmas.{cell_is}
 use Rattle.site_place.specs.Pointing.{Takes}
 use Rattle.site_place.specs.PointerNets.{GivesPointer}
 use Rattle.site_place.proofs.PointingLemmas.{pointers_more, takes_now}

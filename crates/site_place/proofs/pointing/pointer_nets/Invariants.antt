@@ -1,6 +1,6 @@
 use Rattle.std.proofs.Common.{take, map}
 use Rattle.cell_core.specs.View.{cell_of}
-use Rattle.cell_nets.specs.Wires.{wires_of}
+use Rattle.site_operands.specs.cell_nets.Wires.{wires_of}
 use Rattle.site_place.specs.PointerNets.{IsPointerRow}
 use Rattle.site_place.proofs.pointing.pointer_nets.Given as goal
 

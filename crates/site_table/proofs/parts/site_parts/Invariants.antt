@@ -1,6 +1,6 @@
 use Rattle.std.proofs.Common.{◌≡◌, ◌<◌, ℕ, length}
 use Rattle.cell_core.specs.View.{program_of}
-use Rattle.row_net.specs.Needed.{flag}
+use Rattle.site_place.specs.row_net.Needed.{flag}
 use Rattle.site_table.specs.Parts.{is_part}
 use Rattle.site_table.proofs.parts.site_parts.Given as goal
 

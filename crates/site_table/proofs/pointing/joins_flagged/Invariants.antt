@@ -1,5 +1,5 @@
 use Rattle.std.proofs.Common.{◌≡◌, ◌+◌, ◌*◌, ◌<◌, ℕ, false, slice_index}
-use Rattle.row_net.specs.Needed.{flag}
+use Rattle.site_place.specs.row_net.Needed.{flag}
 use Rattle.site_table.proofs.pointing.joins_flagged.Given as goal
 
 abbrev pub invariant-loop-n : goal.invariant-loop-n

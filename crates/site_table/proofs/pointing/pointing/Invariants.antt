@@ -1,7 +1,7 @@
 use Rattle.std.proofs.Common.{◌≡◌, ◌<◌, ℕ, length, map}
 use Rattle.cell_core.specs.Cells.{cell_at}
 use Rattle.cell_core.specs.View.{cell_of}
-use Rattle.row_net.specs.Needed.{flag}
+use Rattle.site_place.specs.row_net.Needed.{flag}
 use Rattle.site_table.specs.Pointing.{IsFlagged}
 use Rattle.site_table.proofs.pointing.pointing.Given as goal
 

@@ -2,7 +2,7 @@ use Rattle.std.proofs.Common.{◌≡◌, ◌∙◌, List, map as map_list, ap}
 use Rattle.cell_core.specs.Sites.{site_at}
 use Rattle.cell_core.specs.View.{program_of}
 use Rattle.hazard_core.specs.Held.{found_cell, answer_cell}
-use Rattle.cell_nets.specs.declared.operand.Operand.{Operand}
+use Rattle.site_operands.specs.cell_nets.declared.operand.Operand.{Operand}
 use Rattle.site_operands.specs.Sites.{SiteOperands, operands_of}
 use Rattle.site_table.specs.Sites.{operand_at, access_operand}
 use Rattle.site_table.proofs.SiteLaws.{site_is}

@@ -3,7 +3,7 @@ use Rattle.std.proofs.Common.{◌≡◌, ◌-◌, ◌*◌, ◌/◌, ◌≤◌, f
 use Rattle.std.proofs.lemmas.Bool.{eqb-true}
 use Rattle.std.proofs.lemmas.List.{length-map, take-map, drop-map}
 use Rattle.net_core.specs.View.{tree_of}
-use Rattle.cell_nets.specs.Wires.{wires_of}
+use Rattle.site_operands.specs.cell_nets.Wires.{wires_of}
 use Rattle.slot_net.proofs.ChainLemmas.{IsChain, no_chain, more_chain, all_chain, last_choice}
 use Rattle.slot_net.proofs.choosing.first_of.Goals as goal
 

@@ -1,6 +1,6 @@
 use Rattle.std.proofs.Common.{length, map}
 use Rattle.net_core.specs.View.{tree_of}
-use Rattle.cell_nets.specs.Wires.{wires_of}
+use Rattle.site_operands.specs.cell_nets.Wires.{wires_of}
 use Rattle.slot_net.proofs.ChainLemmas.{IsChain}
 use Rattle.slot_net.proofs.choosing.first_of.Given as goal
 

@@ -1,9 +1,9 @@
 use Rattle.std.proofs.Common.{◌++◌, ◌∙◌, get_or, length, sym}
 use Rattle.std.proofs.lemmas.List.{length-map}
-use Rattle.array_net.specs.hazard_core.Commits.{word_count}
-use Rattle.array_net.specs.hazard_core.Held.{slot_pointer}
+use Rattle.hash_net.specs.array_net.hazard_core.Commits.{word_count}
+use Rattle.hash_net.specs.array_net.hazard_core.Held.{slot_pointer}
 use Rattle.site_operands.specs.Pointers.{pointer_number}
-use Rattle.cell_nets.specs.Wires.{wires_of}
+use Rattle.site_operands.specs.cell_nets.Wires.{wires_of}
 use Rattle.slot_net.specs.declared.choosing.Numbering.TheVariants.{Pointers}
 use Rattle.slot_net.specs.Slots.{slot_operands, slots_of, operands_of, slot_past, ShowSlots, HoldsKey}
 use Rattle.slot_net.specs.Choosing.{first_passed, is_under}

@@ -1,7 +1,7 @@
 use Rattle.std.proofs.Common.{◌≡◌, ◌∙◌, get_or, length, sym, subst}
 use Rattle.std.proofs.lemmas.List.{length-map}
-use Rattle.array_net.specs.hazard_core.Tables.{free_slot}
-use Rattle.cell_nets.specs.Wires.{wires_of}
+use Rattle.hash_net.specs.array_net.hazard_core.Tables.{free_slot}
+use Rattle.site_operands.specs.cell_nets.Wires.{wires_of}
 use Rattle.slot_net.specs.declared.choosing.Numbering.TheVariants.{Slots}
 use Rattle.slot_net.specs.Slots.{slot_operands, slots_of, operands_of, slot_past, ShowSlots}
 use Rattle.slot_net.specs.Choosing.{first_passed, is_used}

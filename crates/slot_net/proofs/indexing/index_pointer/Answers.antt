@@ -1,15 +1,15 @@
 use Rattle.std.proofs.Common.{◌≡◌, false, ◌∙◌, sym, subst, arith}
 use Rattle.std.proofs.lemmas.List.{get_or_default}
 use Rattle.std.proofs.lemmas.List.Elements.{All-get_or}
-use Rattle.array_net.specs.hazard_core.Held.{slot_pointer}
+use Rattle.hash_net.specs.array_net.hazard_core.Held.{slot_pointer}
 use Rattle.site_operands.specs.Pointers.{pointer_number}
 use Rattle.net_core.specs.Value.{Env}
 use Rattle.net_core.specs.View.{tree_of}
 use Rattle.block_core.specs.declared.name.Name.{Name}
-use Rattle.cell_nets.specs.declared.operand.Operand.TheVariants.{Known}
-use Rattle.cell_nets.specs.Operands.{IsAvailable, number_in}
-use Rattle.cell_nets.specs.Wires.{wires_of}
-use Rattle.cell_nets.proofs.PartLemmas.{part_computes}
+use Rattle.site_operands.specs.cell_nets.declared.operand.Operand.TheVariants.{Known}
+use Rattle.site_operands.specs.cell_nets.Operands.{IsAvailable, number_in}
+use Rattle.site_operands.specs.cell_nets.Wires.{wires_of}
+use Rattle.site_operands.proofs.cell_nets_laws.PartLemmas.{part_computes}
 use Rattle.slot_net.specs.Slots.{HoldsKey}
 use Rattle.slot_net.specs.Choosing.{indexed_pointer}
 use Rattle.slot_net.proofs.ChainLemmas.{first_gives}

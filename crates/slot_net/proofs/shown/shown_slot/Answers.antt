@@ -1,9 +1,9 @@
 use Rattle.std.specs.List.{range_with_len}
 use Rattle.std.proofs.Common.{◌≡◌, ◌+◌, ◌*◌, ◌∙◌, map, ap, arith}
 use Rattle.block_core.specs.declared.name.Name.TheVariants as name
-use Rattle.array_net.specs.hazard_core.Commits.{word_count}
-use Rattle.array_net.specs.Words.{word_width}
-use Rattle.cell_nets.specs.declared.operand.Operand.TheVariants.{Net}
+use Rattle.hash_net.specs.array_net.hazard_core.Commits.{word_count}
+use Rattle.hash_net.specs.array_net.Words.{word_width}
+use Rattle.site_operands.specs.cell_nets.declared.operand.Operand.TheVariants.{Net}
 use Rattle.slot_net.specs.Shown.{per_slot}
 use Rattle.slot_net.proofs.ShownLemmas.{pushed}
 use Rattle.slot_net.proofs.shown.shown_slot.Goals as goal

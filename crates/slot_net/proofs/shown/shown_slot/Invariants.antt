@@ -1,8 +1,8 @@
 use Rattle.std.specs.List.{range_with_len}
 use Rattle.std.proofs.Common.{◌≡◌, ◌+◌, ◌*◌, map}
 use Rattle.block_core.specs.declared.name.Name.TheVariants as name
-use Rattle.array_net.specs.Words.{word_width}
-use Rattle.cell_nets.specs.declared.operand.Operand.TheVariants.{Net}
+use Rattle.hash_net.specs.array_net.Words.{word_width}
+use Rattle.site_operands.specs.cell_nets.declared.operand.Operand.TheVariants.{Net}
 use Rattle.slot_net.specs.Shown.{per_slot}
 use Rattle.slot_net.proofs.shown.shown_slot.Given as goal
 

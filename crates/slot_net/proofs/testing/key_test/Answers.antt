@@ -1,11 +1,11 @@
 use Rattle.std.proofs.Common.{◌≡◌, ◌+◌, ◌<◌, length, refl, sym, subst, arith}
 use Rattle.std.proofs.lemmas.List.Elements.{All-head, All-tail, All-get_or}
 use Rattle.net_core.specs.View.{tree_of}
-use Rattle.cell_nets.specs.cell_core.Cells.{bit}
-use Rattle.array_net.specs.hazard_core.Commits.{word_count}
-use Rattle.cell_nets.specs.Operands.{IsOperand, IsAvailable}
-use Rattle.cell_nets.specs.Parts.{IsPart}
-use Rattle.cell_nets.proofs.PartLemmas.{part_of}
+use Rattle.site_operands.specs.cell_nets.cell_core.Cells.{bit}
+use Rattle.hash_net.specs.array_net.hazard_core.Commits.{word_count}
+use Rattle.site_operands.specs.cell_nets.Operands.{IsOperand, IsAvailable}
+use Rattle.site_operands.specs.cell_nets.Parts.{IsPart}
+use Rattle.site_operands.proofs.cell_nets_laws.PartLemmas.{part_of}
 use Rattle.slot_net.specs.Slots.{slot_operands}
 use Rattle.slot_net.specs.Choosing.{is_under}
 use Rattle.slot_net.proofs.TestLemmas.{under_more}

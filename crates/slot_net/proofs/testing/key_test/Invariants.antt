@@ -1,9 +1,9 @@
 use Rattle.std.proofs.Common.{All, List, ◌+◌}
 use Rattle.net_core.specs.View.{tree_of}
-use Rattle.cell_nets.specs.cell_core.Cells.{bit}
-use Rattle.cell_nets.specs.declared.operand.Operand.{Operand}
-use Rattle.cell_nets.specs.Operands.{IsAvailable}
-use Rattle.cell_nets.specs.Parts.{IsPart}
+use Rattle.site_operands.specs.cell_nets.cell_core.Cells.{bit}
+use Rattle.site_operands.specs.cell_nets.declared.operand.Operand.{Operand}
+use Rattle.site_operands.specs.cell_nets.Operands.{IsAvailable}
+use Rattle.site_operands.specs.cell_nets.Parts.{IsPart}
 use Rattle.slot_net.specs.Slots.{slot_operands, all_of}
 use Rattle.slot_net.specs.Choosing.{is_under}
 use Rattle.slot_net.proofs.testing.key_test.Given as goal

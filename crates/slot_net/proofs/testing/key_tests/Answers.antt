@@ -1,8 +1,8 @@
 use Rattle.std.proofs.Common.{[], ◌∷◌, ◌++◌, ◌∙◌, length, map, ap, arith}
 use Rattle.std.proofs.lemmas.List.{length-map, map-append, length-append}
 use Rattle.net_core.specs.View.{tree_of}
-use Rattle.array_net.specs.hazard_core.Commits.{word_count}
-use Rattle.cell_nets.specs.Operands.{IsAvailable}
+use Rattle.hash_net.specs.array_net.hazard_core.Commits.{word_count}
+use Rattle.site_operands.specs.cell_nets.Operands.{IsAvailable}
 use Rattle.slot_net.specs.Slots.{slots_of, operands_of, IsSlot}
 use Rattle.slot_net.specs.Choosing.{is_under}
 use Rattle.slot_net.proofs.TestLemmas.{no_tests, slot_all, item_push, of_key, of_slots}

@@ -1,6 +1,6 @@
 use Rattle.std.proofs.Common.{◌≡◌, ◌++◌, length, map, get_or}
 use Rattle.net_core.specs.View.{tree_of}
-use Rattle.array_net.specs.hazard_core.Commits.{word_count}
+use Rattle.hash_net.specs.array_net.hazard_core.Commits.{word_count}
 use Rattle.slot_net.specs.Slots.{slots_of, operands_of, slot_past}
 use Rattle.slot_net.specs.Choosing.{AreTests, is_under}
 use Rattle.slot_net.proofs.testing.key_tests.Given as goal

@@ -2,8 +2,8 @@ use Rattle.std.proofs.Common.{[], ◌∷◌, ◌∙◌, length, map, refl, ap, a
 use Rattle.std.proofs.lemmas.List.{length-map, map-append, length-append}
 use Rattle.std.proofs.lemmas.List.Elements.{All-head}
 use Rattle.net_core.specs.View.{tree_of}
-use Rattle.cell_nets.specs.Operands.{IsOperand, IsAvailable}
-use Rattle.cell_nets.proofs.PartLemmas.{part_of}
+use Rattle.site_operands.specs.cell_nets.Operands.{IsOperand, IsAvailable}
+use Rattle.site_operands.proofs.cell_nets_laws.PartLemmas.{part_of}
 use Rattle.slot_net.specs.Slots.{slots_of, operands_of}
 use Rattle.slot_net.specs.Choosing.{is_used}
 use Rattle.slot_net.proofs.TestLemmas.{no_tests, slot_all, item_push}

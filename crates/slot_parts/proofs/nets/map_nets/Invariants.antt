@@ -1,7 +1,7 @@
 use Rattle.std.proofs.Common.{◌≡◌, ℕ, ◌<◌, length, get_or}
 use Rattle.block_core.specs.declared.name.Name.{Name}
 use Rattle.read_net.specs.declared.sites.MapNets.{MapNets}
-use Rattle.pipe_net.specs.declared.parts.Part.{Part}
+use Rattle.pipe_turns.specs.pipe_net.declared.parts.Part.{Part}
 use Rattle.slot_parts.specs.Nets.{IsMapIn}
 use Rattle.slot_parts.proofs.nets.map_nets.Given as goal
 

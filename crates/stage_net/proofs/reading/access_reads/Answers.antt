@@ -1,5 +1,5 @@
 use Rattle.cell_core.specs.Cells.{no_cell}
-use Rattle.cell_nets.specs.Wires.{wires_of}
+use Rattle.site_operands.specs.cell_nets.Wires.{wires_of}
 use Rattle.stage_net.proofs.SiteLemmas.{no_packet, access_reads}
 use Rattle.stage_net.proofs.reading.access_reads.Goals as goal
 

@@ -1,7 +1,7 @@
 use Rattle.std.proofs.Common.{◌∙◌, All, length, slice_index, sym, ap, subst}
 use Rattle.cell_core.specs.View.{program_of}
-use Rattle.cell_nets.specs.Operands.{IsOperand}
-use Rattle.cell_nets.specs.Wires.{wires_of, HasBits}
+use Rattle.site_operands.specs.cell_nets.Operands.{IsOperand}
+use Rattle.site_operands.specs.cell_nets.Wires.{wires_of, HasBits}
 use Rattle.stage_net.specs.Rows.{AreSought}
 use Rattle.stage_net.proofs.SearchLemmas.{read_sought}
 use Rattle.stage_net.proofs.SiteLemmas.{ok_both}

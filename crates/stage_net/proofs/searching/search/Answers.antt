@@ -3,8 +3,8 @@ use Rattle.std.proofs.Common.{◌∙◌, ◌<◌, refl, ap, sym, subst, get_or, 
 use Rattle.std.proofs.lemmas.List.{length-map}
 use Rattle.cell_core.specs.Sites.{site_at}
 use Rattle.cell_core.specs.View.{program_of, site_of}
-use Rattle.cell_nets.specs.declared.operand.Operand.TheVariants.{Known}
-use Rattle.cell_nets.specs.Wires.{wires_of}
+use Rattle.site_operands.specs.cell_nets.declared.operand.Operand.TheVariants.{Known}
+use Rattle.site_operands.specs.cell_nets.Wires.{wires_of}
 use Rattle.stage_net.specs.Nets.{decls_of}
 use Rattle.stage_net.specs.Rows.{IsSought, AsksSame}
 use Rattle.stage_net.proofs.OwnLemmas.{map_in, its_nets, cells_all, key_words}

@@ -2,7 +2,7 @@ use Rattle.std.proofs.Common.{◌<◌, All, sym, subst, slice_index, map as map_
 use Rattle.std.specs.Prelude.{IfOk}
 use Rattle.block_core.specs.View.{block_of}
 use Rattle.cell_core.specs.View.{cell_of, program_of}
-use Rattle.cell_nets.specs.Wires.{behind, wires_of}
+use Rattle.site_operands.specs.cell_nets.Wires.{behind, wires_of}
 use Rattle.site_place.specs.place_net.Place.{width_at}
 use Rattle.site_place.specs.row_net.Apart.{TakeClean}
 use Rattle.site_place.specs.row_net.Made.{IsReady}

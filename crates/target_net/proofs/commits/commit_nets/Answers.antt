@@ -1,6 +1,6 @@
 use Rattle.std.proofs.Common.{◌∙◌, length, sym, ap, subst, arith}
 use Rattle.std.proofs.lemmas.List.{length_push}
-use Rattle.cell_nets.specs.Wires.{wires_of}
+use Rattle.site_operands.specs.cell_nets.Wires.{wires_of}
 use Rattle.target_net.proofs.CommitLemmas.{Far, far_none, far_more, far_all}
 use Rattle.target_net.proofs.commits.commit_nets.Goals as goal
 

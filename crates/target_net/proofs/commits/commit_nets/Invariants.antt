@@ -1,5 +1,5 @@
 use Rattle.std.proofs.Common.{◌≡◌, length}
-use Rattle.cell_nets.specs.Wires.{wires_of}
+use Rattle.site_operands.specs.cell_nets.Wires.{wires_of}
 use Rattle.target_net.proofs.CommitLemmas.{Far}
 use Rattle.target_net.proofs.commits.commit_nets.Given as goal
 

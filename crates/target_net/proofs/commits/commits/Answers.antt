@@ -1,7 +1,7 @@
 use Rattle.std.proofs.Common.{◌∙◌, get_or, sym, ap, subst, arith}
-use Rattle.cell_nets.specs.cell_core.Cells.{bit}
-use Rattle.cell_nets.specs.Wires.{wires_of, always, behind}
-use Rattle.step_nets.specs.Standing.{Stands}
+use Rattle.site_operands.specs.cell_nets.cell_core.Cells.{bit}
+use Rattle.site_operands.specs.cell_nets.Wires.{wires_of, always, behind}
+use Rattle.operand_blocks.specs.step_nets.Standing.{Stands}
 use Rattle.operand_blocks.proofs.WiringLaws.{is_wiring, offers, all_known, all_there, word_is}
 use Rattle.target_net.specs.Commits.{bits_of, any_on, AreOn, IsCommits, commits_on}
 use Rattle.target_net.proofs.CommitLemmas.{bits_operands, bits_there}

@@ -1,8 +1,8 @@
 use Rattle.std.proofs.Common.{◌+◌, refl, sym, subst, arith}
-use Rattle.cell_nets.specs.cell_core.Cells.{bit}
-use Rattle.cell_nets.specs.declared.operand.Operand.TheVariants.{Known}
-use Rattle.cell_nets.specs.Wires.{wires_of, always, Gives}
-use Rattle.step_nets.proofs.ChainLaws.{starts, ends}
+use Rattle.site_operands.specs.cell_nets.cell_core.Cells.{bit}
+use Rattle.site_operands.specs.cell_nets.declared.operand.Operand.TheVariants.{Known}
+use Rattle.site_operands.specs.cell_nets.Wires.{wires_of, always, Gives}
+use Rattle.read_net.proofs.step_nets_laws.ChainLaws.{starts, ends}
 use Rattle.target_net.specs.Commits.{any_on}
 use Rattle.target_net.proofs.CommitLemmas.{also_on, not_on, all_on}
 use Rattle.target_net.proofs.commits.commits_on.Goals as goal

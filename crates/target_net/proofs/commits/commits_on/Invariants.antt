@@ -1,5 +1,5 @@
-use Rattle.cell_nets.specs.cell_core.Cells.{bit}
-use Rattle.cell_nets.specs.Wires.{wires_of, always, Gives}
+use Rattle.site_operands.specs.cell_nets.cell_core.Cells.{bit}
+use Rattle.site_operands.specs.cell_nets.Wires.{wires_of, always, Gives}
 use Rattle.target_net.specs.Commits.{any_on}
 use Rattle.target_net.proofs.commits.commits_on.Given as goal
 

@@ -1,9 +1,9 @@
 use Rattle.std.proofs.Common.{◌∙◌, [], ◌∷◌, length, sym, arith}
 use Rattle.std.proofs.lemmas.Bool.{eqb-true}
 use Rattle.hazard_core.specs.Tables.{table_at}
-use Rattle.cell_nets.specs.Operands.{IsAvailable}
-use Rattle.cell_nets.specs.Wires.{wires_of}
-use Rattle.step_nets.proofs.ChainLaws.{starts, next}
+use Rattle.site_operands.specs.cell_nets.Operands.{IsAvailable}
+use Rattle.site_operands.specs.cell_nets.Wires.{wires_of}
+use Rattle.read_net.proofs.step_nets_laws.ChainLaws.{starts, next}
 use Rattle.slot_net.specs.Slots.{slots_of, operands_of}
 use Rattle.read_net.specs.Sites.{slot_cells, ShowsTable}
 use Rattle.target_net.proofs.StandLemmas.{tail_of, stands_as, stands_none}

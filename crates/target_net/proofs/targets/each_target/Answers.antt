@@ -1,9 +1,9 @@
 use Rattle.std.proofs.Common.{◌≡◌, ◌∙◌, ◌+◌, ◌<◌, [], ◌∷◌, All, length, sym, ap, subst, arith}
 use Rattle.std.proofs.lemmas.List.{length_push}
 use Rattle.std.proofs.lemmas.List.Elements.{All-append, All-nil}
-use Rattle.cell_nets.specs.Operands.{IsOperand}
-use Rattle.cell_nets.specs.Wires.{wires_of, HasBits, Gives}
-use Rattle.cell_nets.specs.cell_core.Cells.{bit}
+use Rattle.site_operands.specs.cell_nets.Operands.{IsOperand}
+use Rattle.site_operands.specs.cell_nets.Wires.{wires_of, HasBits, Gives}
+use Rattle.site_operands.specs.cell_nets.cell_core.Cells.{bit}
 use Rattle.hazard_core.specs.Commits.{written_slot, makes_entry}
 use Rattle.site_operands.specs.declared.Pending.{Pending}
 use Rattle.commit_net.specs.Targets.{slots_of, ShowsWritten, ShowsTarget as AsksTarget}

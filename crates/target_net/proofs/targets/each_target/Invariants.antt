@@ -1,9 +1,9 @@
 use Rattle.std.proofs.Common.{◌≡◌, ◌≤◌, ◌^◌, ℕ, List, All, length}
-use Rattle.cell_nets.specs.cell_core.Sites.{ProgramView}
+use Rattle.site_operands.specs.cell_nets.cell_core.Sites.{ProgramView}
 use Rattle.hazard_core.specs.Held.{Held}
 use Rattle.hazard_core.specs.Tables.{TableState, table_at}
-use Rattle.cell_nets.specs.Operands.{IsOperand}
-use Rattle.cell_nets.specs.Wires.{wires_of, HasBits}
+use Rattle.site_operands.specs.cell_nets.Operands.{IsOperand}
+use Rattle.site_operands.specs.cell_nets.Wires.{wires_of, HasBits}
 use Rattle.read_net.specs.Sites.{IsOwn}
 use Rattle.target_net.specs.Targets.{all_of}
 use Rattle.target_net.proofs.TargetLemmas.{Far}

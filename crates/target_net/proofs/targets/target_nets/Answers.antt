@@ -1,11 +1,11 @@
 use Rattle.std.proofs.Common.{◌^◌, ◌≤◌, ◌∷◌, ◌++◌, All, length, sym, subst, arith}
 use Rattle.std.proofs.lemmas.List.Elements.{All-append}
 use Rattle.hazard_core.specs.Tables.{table_at}
-use Rattle.cell_nets.specs.Operands.{IsAvailable}
-use Rattle.cell_nets.specs.Wires.{wires_of}
+use Rattle.site_operands.specs.cell_nets.Operands.{IsAvailable}
+use Rattle.site_operands.specs.cell_nets.Wires.{wires_of}
 use Rattle.commit_net.specs.Targets.{slots_of}
 use Rattle.read_net.specs.overlay_net.Seen.{all_read, ShowPending}
-use Rattle.step_nets.proofs.ChainLaws.{starts}
+use Rattle.read_net.proofs.step_nets_laws.ChainLaws.{starts}
 use Rattle.read_net.specs.Sites.{all_cells, slot_cells, sites_of}
 use Rattle.target_net.specs.Targets.{all_of, written_of, outside_of, IsWritten, Shows, ShowTargets}
 use Rattle.target_net.proofs.StandLemmas.{left_of, right_of, first_of, stands_as, stands_then}

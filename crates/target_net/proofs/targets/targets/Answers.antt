@@ -1,8 +1,8 @@
 use Rattle.std.proofs.Common.{ℕ, List, [], sym, subst}
 use Rattle.hazard_core.specs.Held.{Held}
 use Rattle.hazard_core.specs.Tables.{TableState}
-use Rattle.cell_nets.specs.Wires.{wires_of}
-use Rattle.step_nets.specs.Standing.{Stands}
+use Rattle.site_operands.specs.cell_nets.Wires.{wires_of}
+use Rattle.operand_blocks.specs.step_nets.Standing.{Stands}
 use Rattle.read_net.specs.Sites.{IsMapOf}
 use Rattle.operand_blocks.proofs.WiringLaws.{is_wiring, offers, all_known}
 use Rattle.target_net.specs.Tables.{first_tables}

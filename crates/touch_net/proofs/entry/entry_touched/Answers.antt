@@ -3,8 +3,8 @@ use Rattle.std.proofs.Common.{◌∙◌, [], ◌∷◌, ◌++◌, refl, ap, arit
 use Rattle.std.proofs.lemmas.List.{take_all}
 use Rattle.cell_core.specs.Cells.{bit}
 use Rattle.site_operands.specs.hazard_core.Marks.{entry_touched}
-use Rattle.cell_nets.specs.Operands.{number_in, IsOperand, IsAvailable}
-use Rattle.cell_nets.specs.Wires.{wires_of, always}
+use Rattle.site_operands.specs.cell_nets.Operands.{number_in, IsOperand, IsAvailable}
+use Rattle.site_operands.specs.cell_nets.Wires.{wires_of, always}
 use Rattle.step_nets.proofs.ChainLaws.{starts, last}
 use Rattle.step_nets.proofs.StepLaws.{all_each}
 use Rattle.touch_net.specs.Touching.{change_operands, own_operands}

@@ -1,5 +1,5 @@
 use Rattle.std.proofs.Common.{◌∷◌, ◌++◌, take}
-use Rattle.cell_nets.specs.Wires.{wires_of, always, Gives}
+use Rattle.site_operands.specs.cell_nets.Wires.{wires_of, always, Gives}
 use Rattle.touch_net.specs.Touching.{change_operands, own_operands}
 use Rattle.touch_net.proofs.EntryLemmas.{fold_of}
 use Rattle.touch_net.proofs.entry.entry_touched.Given as goal

@@ -1,7 +1,7 @@
 use Rattle.std.proofs.Common.{◌∙◌, ◌-◌, ◌/◌, ◌==◌, ◌&&◌, [], ◌∷◌, ap, ap₂, arith}
 use Rattle.cell_core.specs.Cells.{bit, on, bits_from}
-use Rattle.cell_nets.specs.Operands.{number_in, IsAvailable}
-use Rattle.cell_nets.specs.Wires.{wires_of, always}
+use Rattle.site_operands.specs.cell_nets.Operands.{number_in, IsAvailable}
+use Rattle.site_operands.specs.cell_nets.Wires.{wires_of, always}
 use Rattle.step_nets.proofs.ChainLaws.{starts, next, last}
 use Rattle.step_nets.proofs.StepLaws.{all_each, on_bit}
 use Rattle.touch_net.proofs.EntryLemmas.{index_is}

@@ -4,8 +4,8 @@ use Rattle.std.proofs.lemmas.List.Elements.{All-append}
 use Rattle.cell_core.specs.Cells.{bit, on}
 use Rattle.cell_core.specs.Sites.{bytes_of, operation_with}
 use Rattle.site_operands.specs.hazard_core.Marks.{key_touched}
-use Rattle.cell_nets.specs.Operands.{number_in, IsOperand, IsAvailable}
-use Rattle.cell_nets.specs.Wires.{wires_of, always}
+use Rattle.site_operands.specs.cell_nets.Operands.{number_in, IsOperand, IsAvailable}
+use Rattle.site_operands.specs.cell_nets.Wires.{wires_of, always}
 use Rattle.site_operands.specs.Sites.{operands_of, all_of}
 use Rattle.step_nets.proofs.ChainLaws.{starts, next, last}
 use Rattle.step_nets.proofs.StepLaws.{all_each, on_bit}

@@ -6,8 +6,8 @@ use Rattle.cell_core.specs.Sites.{site_at}
 use Rattle.site_operands.specs.hazard_core.Held.{asked, is_null, pointer_in, found_cell}
 use Rattle.site_operands.specs.hazard_core.Marks.{presence_touched}
 use Rattle.site_operands.specs.hazard_core.Tables.{decl_of}
-use Rattle.cell_nets.specs.Operands.{number_in, IsOperand, IsAvailable}
-use Rattle.cell_nets.specs.Wires.{wires_of}
+use Rattle.site_operands.specs.cell_nets.Operands.{number_in, IsOperand, IsAvailable}
+use Rattle.site_operands.specs.cell_nets.Wires.{wires_of}
 use Rattle.site_operands.specs.Sites.{operands_of, all_of}
 use Rattle.step_nets.proofs.ChainLaws.{starts, next, last, ends}
 use Rattle.step_nets.proofs.StepLaws.{all_each}

@@ -4,7 +4,7 @@ use Rattle.std.proofs.lemmas.List.{take_all}
 use Rattle.cell_core.specs.Cells.{bit}
 use Rattle.cell_core.specs.Sites.{site_at}
 use Rattle.site_operands.specs.hazard_core.Marks.{known_on}
-use Rattle.cell_nets.specs.Wires.{wires_of, always}
+use Rattle.site_operands.specs.cell_nets.Wires.{wires_of, always}
 use Rattle.step_nets.proofs.ChainLaws.{starts, last, ends}
 use Rattle.step_nets.proofs.StepLaws.{avail_at}
 use Rattle.touch_net.specs.Marking.{mark_operands, shown_due, HasOperands}

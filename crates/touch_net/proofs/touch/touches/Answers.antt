@@ -3,8 +3,8 @@ use Rattle.cell_core.specs.Cells.{bit}
 use Rattle.cell_core.specs.Sites.{site_at}
 use Rattle.site_operands.specs.hazard_core.Held.{access_pointer}
 use Rattle.site_operands.specs.hazard_core.Marks.{touches}
-use Rattle.cell_nets.specs.Operands.{IsAvailable}
-use Rattle.cell_nets.specs.Wires.{wires_of}
+use Rattle.site_operands.specs.cell_nets.Operands.{IsAvailable}
+use Rattle.site_operands.specs.cell_nets.Wires.{wires_of}
 use Rattle.site_operands.specs.Sites.{operands_of, all_of}
 use Rattle.step_nets.proofs.ChainLaws.{starts, last, ends}
 use Rattle.touch_net.specs.Touching.{change_operands, own_operands}

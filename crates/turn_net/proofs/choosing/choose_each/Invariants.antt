@@ -2,8 +2,8 @@ use Rattle.std.proofs.Common.{◌≡◌, All, ◌∷◌, ◌++◌, List, take, l
 use Rattle.xdp_maps.specs.declared.decl.MapDecl.{MapDecl}
 use Rattle.cell_core.specs.Cells.{on}
 use Rattle.cell_core.specs.Sites.{ProgramView}
-use Rattle.cell_nets.specs.Operands.{number_in, IsOperand}
-use Rattle.cell_nets.specs.Wires.{wires_of, HasBits}
+use Rattle.site_operands.specs.cell_nets.Operands.{number_in, IsOperand}
+use Rattle.site_operands.specs.cell_nets.Wires.{wires_of, HasBits}
 use Rattle.turn_net.specs.Nets.{all_read, AreRecords}
 use Rattle.turn_net.specs.Steps.{Leads, HasSteps, AreChosen}
 use Rattle.turn_net.proofs.choosing.choose_each.Given as goal

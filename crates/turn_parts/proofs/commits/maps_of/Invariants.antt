@@ -1,10 +1,10 @@
 use Rattle.std.specs.Prelude.{slice_index}
 use Rattle.std.proofs.Common.{◌≡◌, ℕ, ◌<◌, length, get_or}
 use Rattle.block_core.specs.declared.name.Name.{Name}
-use Rattle.cell_core.specs.Sites.{site_at}
+use Rattle.hazard_core.specs.cell_core.Sites.{site_at}
 use Rattle.turn_net.specs.declared.nets.RecordNets.{RecordNets}
 use Rattle.pipe_net.specs.declared.parts.Part.{Part}
-use Rattle.pipe_draft.specs.Draft.{program_in}
+use Rattle.slot_parts.specs.pipe_draft.Draft.{program_in}
 use Rattle.turn_parts.proofs.commits.maps_of.Given as goal
 
 abbrev pub invariant-loop-i : goal.invariant-loop-i

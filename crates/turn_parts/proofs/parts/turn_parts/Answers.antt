@@ -13,7 +13,7 @@ use Rattle.target_net.specs.declared.targets.TargetPart.{TargetPart}
 use Rattle.turn_net.specs.declared.nets.RecordNets.{RecordNets}
 use Rattle.turn_net.specs.Turns.{record_sites}
 use Rattle.pipe_net.specs.declared.parts.Part.{Part}
-use Rattle.pipe_draft.specs.Draft.{program_in, decls_in}
+use Rattle.slot_parts.specs.pipe_draft.Draft.{program_in, decls_in}
 use Rattle.slot_parts.proofs.Filling.{some_of}
 use Rattle.turn_parts.specs.Sites.{AreOwnOf, AreOwnLists, list_at, keeps_at, taken_in}
 use Rattle.turn_parts.specs.Records.{AreTargetParts, HaveTargets, targets_at, AreRecordsOf, AreRecordsAt}

@@ -1,12 +1,12 @@
 use Rattle.std.specs.Prelude.{Contains}
 use Rattle.std.proofs.Common.{◌∙◌, ℕ, ◌<◌, List, length, get_or, refl, sym, ap, subst, arith}
 use Rattle.block_core.specs.declared.name.Name.{Name}
-use Rattle.cell_core.specs.Sites.{site_at}
+use Rattle.hazard_core.specs.cell_core.Sites.{site_at}
 use Rattle.read_net.specs.declared.sites.OwnSite.{OwnSite}
 use Rattle.read_net.specs.Sites.{sites_of}
 use Rattle.target_net.specs.declared.targets.Target.{Target}
 use Rattle.pipe_net.specs.declared.parts.Part.{Part}
-use Rattle.pipe_draft.specs.Draft.{program_in, plan_in}
+use Rattle.slot_parts.specs.pipe_draft.Draft.{program_in, plan_in}
 use Rattle.turn_parts.specs.Sites.{list_at}
 use Rattle.turn_parts.specs.Records.{IsTargetAt}
 use Rattle.turn_parts.proofs.Siting.{no_form, maps_there}

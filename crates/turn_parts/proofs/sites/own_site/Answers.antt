@@ -1,4 +1,4 @@
-use Rattle.pipe_draft.specs.Draft.{plan_in}
+use Rattle.slot_parts.specs.pipe_draft.Draft.{plan_in}
 use Rattle.turn_parts.proofs.Siting.{own_of}
 use Rattle.turn_parts.proofs.sites.own_site.Goals as goal
 

@@ -5,11 +5,11 @@ use Rattle.std.proofs.Common.{◌≡◌, ◌∙◌, ℕ, ◌<◌, Bool, true, fa
 use Rattle.std.proofs.lemmas.Bool.{eq-eqb, ne_eqb}
 use Rattle.std.proofs.lemmas.List.Elements.{All-push}
 use Rattle.block_core.specs.declared.name.Name.{Name}
-use Rattle.cell_core.specs.Sites.{site_at}
+use Rattle.hazard_core.specs.cell_core.Sites.{site_at}
 use Rattle.read_net.specs.declared.sites.OwnSite.{OwnSite}
 use Rattle.read_net.specs.Sites.{sites_of}
 use Rattle.pipe_net.specs.declared.parts.Part.{Part}
-use Rattle.pipe_draft.specs.Draft.{program_in}
+use Rattle.slot_parts.specs.pipe_draft.Draft.{program_in}
 use Rattle.turn_parts.specs.Sites.{IsOwnOf}
 use Rattle.slot_parts.proofs.Filling.{same_there}
 use Rattle.turn_parts.proofs.Siting.{read_there, site_there, own_more, own_same}

@@ -1,9 +1,9 @@
 use Rattle.std.specs.Prelude.{◌==◌}
 use Rattle.std.specs.List.{filter}
 use Rattle.std.proofs.Common.{◌≡◌, All, take}
-use Rattle.cell_core.specs.Sites.{site_at}
+use Rattle.hazard_core.specs.cell_core.Sites.{site_at}
 use Rattle.read_net.specs.Sites.{sites_of}
-use Rattle.pipe_draft.specs.Draft.{program_in}
+use Rattle.slot_parts.specs.pipe_draft.Draft.{program_in}
 use Rattle.turn_parts.specs.Sites.{IsOwnOf}
 use Rattle.turn_parts.proofs.sites.own_sites.Given as goal
 

@@ -6,7 +6,7 @@ use Rattle.std.proofs.lemmas.List.{take_all}
 use Rattle.block_core.specs.declared.name.Name.{Name}
 use Rattle.commit_net.specs.declared.target.TakenSlot.{TakenSlot}
 use Rattle.pipe_net.specs.declared.parts.Part.{Part}
-use Rattle.pipe_draft.specs.Draft.{program_in, decls_in}
+use Rattle.slot_parts.specs.pipe_draft.Draft.{program_in, decls_in}
 use Rattle.slot_parts.proofs.Filling.{same_there}
 use Rattle.turn_parts.specs.Sites.{keeps_at, taken_at}
 use Rattle.turn_parts.proofs.Siting.{read_there, listed_few}

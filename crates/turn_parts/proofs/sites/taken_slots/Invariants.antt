@@ -1,6 +1,6 @@
 use Rattle.std.specs.List.{filter}
 use Rattle.std.proofs.Common.{◌≡◌, take}
-use Rattle.pipe_draft.specs.Draft.{program_in, decls_in}
+use Rattle.slot_parts.specs.pipe_draft.Draft.{program_in, decls_in}
 use Rattle.turn_parts.specs.Sites.{keeps_at, taken_at}
 use Rattle.turn_parts.proofs.sites.taken_slots.Given as goal
 

@@ -4,7 +4,7 @@ use Rattle.read_net.specs.Sites.{IsOwn}
 use Rattle.map_block.specs.declared.form.MapForm.{MapForm}
 use Rattle.target_net.specs.Targets.{IsTargets}
 use Rattle.pipe_net.specs.declared.parts.Part.{Part}
-use Rattle.pipe_draft.specs.Draft.{program_in}
+use Rattle.slot_parts.specs.pipe_draft.Draft.{program_in}
 use Rattle.slot_parts.proofs.Filling.{same_there}
 use Rattle.turn_parts.specs.Records.{IsTargetPart}
 use Rattle.turn_parts.proofs.Siting.{no_form, whole_for, decl_is}

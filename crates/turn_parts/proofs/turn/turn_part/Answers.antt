@@ -4,7 +4,7 @@ use Rattle.turn_net.specs.declared.nets.TurnNets.{TurnNets}
 use Rattle.turn_net.specs.Turn.{IsTurn}
 use Rattle.pipe_net.specs.declared.parts.Part.{Part}
 use Rattle.pipe_net.specs.Parts as part
-use Rattle.pipe_draft.specs.Draft.{program_in, decls_in}
+use Rattle.slot_parts.specs.pipe_draft.Draft.{program_in, decls_in}
 use Rattle.turn_parts.proofs.Turning.{few, have_operands, records_are, all_kept}
 use Rattle.turn_parts.proofs.turn.turn_part.Goals as goal
 

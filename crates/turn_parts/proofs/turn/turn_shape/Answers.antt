@@ -1,9 +1,9 @@
 use Rattle.std.specs.Prelude.{◌^◌, ◌≤◌}
 use Rattle.std.proofs.Common.{◌≡◌, ◌<◌, All, List, length, sym, subst, arith}
 use Rattle.std.proofs.lemmas.List.{length-map}
-use Rattle.cell_core.specs.View.{site_of}
+use Rattle.hazard_core.specs.cell_core.View.{site_of}
 use Rattle.map_block.specs.declared.form.MapForm.{MapForm}
-use Rattle.pipe_draft.specs.Draft.{program_in}
+use Rattle.slot_parts.specs.pipe_draft.Draft.{program_in}
 use Rattle.turn_parts.proofs.turn.turn_shape.Goals as goal
 
 pub returns : goal.returns

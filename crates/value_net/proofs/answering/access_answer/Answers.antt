@@ -3,7 +3,7 @@ use Rattle.std.proofs.Common.{◌≡◌, ◌+◌, ◌/◌, ◌%◌, ◌≤◌, [
 use Rattle.byteorder.specs.Endian.{little_number}
 use Rattle.cell_core.specs.Cells.{bits_from, on}
 use Rattle.cell_core.specs.Sites.{site_at}
-use Rattle.cell_nets.specs.Operands.{number_in, IsAvailable}
+use Rattle.site_operands.specs.cell_nets.Operands.{number_in, IsAvailable}
 use Rattle.site_operands.specs.hazard_core.Commits.{word_at}
 use Rattle.site_operands.specs.hazard_core.Held.{access_pointer, asked}
 use Rattle.site_operands.specs.hazard_core.Overlay.{entry_value, where_some, answer_as}

@@ -1,9 +1,9 @@
 use Rattle.std.specs.Prelude.{if◌then◌else◌}
 use Rattle.std.proofs.Common.{◌≡◌, ◌*◌, ◌/◌, [], ◌∷◌, ◌∙◌, ap, refl, arith}
 use Rattle.cell_core.specs.Cells.{bits_from, on}
-use Rattle.cell_nets.specs.declared.operand.Operand.TheVariants.{Known}
-use Rattle.cell_nets.specs.Operands.{number_in, IsAvailable}
-use Rattle.cell_nets.specs.Wires.{always}
+use Rattle.site_operands.specs.cell_nets.declared.operand.Operand.TheVariants.{Known}
+use Rattle.site_operands.specs.cell_nets.Operands.{number_in, IsAvailable}
+use Rattle.site_operands.specs.cell_nets.Wires.{always}
 use Rattle.site_operands.specs.hazard_core.Commits.{word_at}
 use Rattle.value_net.proofs.Holding.{one_is, three_are, hold_none, hold_more, hold_gives}
 use Rattle.value_net.proofs.ByteLemmas.{number_is}

@@ -2,7 +2,7 @@ use Rattle.std.specs.Prelude.{◌==◌, if◌then◌else◌}
 use Rattle.std.proofs.Common.{◌≡◌, ◌*◌, ◌%◌, ◌<◌, ◌^◌, [], ◌∷◌, ◌∙◌, ap, sym, subst, arith}
 use Rattle.cell_core.specs.declared.operator.Operator.TheVariants.{Add, Or, And, Xor}
 use Rattle.cell_core.specs.Cells.{number}
-use Rattle.cell_nets.specs.Operands.{number_in, IsAvailable}
+use Rattle.site_operands.specs.cell_nets.Operands.{number_in, IsAvailable}
 use Rattle.value_net.specs.Words.{change_bits}
 use Rattle.value_net.proofs.Holding.{no_packet, one_is, two_are, step_gives, wide_gives}
 use Rattle.value_net.proofs.ChangeLemmas.{arm_gives, add_is, or_is, and_is, xor_is, source_is, exchange_is}

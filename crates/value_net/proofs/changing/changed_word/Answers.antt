@@ -1,7 +1,7 @@
 use Rattle.std.proofs.Common.{◌≡◌, ◌*◌, ◌/◌, ◌<◌, ◌^◌, [], ◌∷◌, ◌∙◌, sym, subst, arith}
 use Rattle.site_operands.specs.hazard_core.Commits.{word_at}
-use Rattle.cell_nets.specs.Operands.{number_in, IsAvailable}
-use Rattle.cell_nets.specs.Wires.{always}
+use Rattle.site_operands.specs.cell_nets.Operands.{number_in, IsAvailable}
+use Rattle.site_operands.specs.cell_nets.Wires.{always}
 use Rattle.value_net.specs.Words.{change_bits}
 use Rattle.value_net.proofs.Holding.{one_is, two_are, three_are, hold_none, hold_more, hold_gives, there_gives}
 use Rattle.value_net.proofs.BitLemmas.{bits_below}

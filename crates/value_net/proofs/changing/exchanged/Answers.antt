@@ -1,6 +1,6 @@
 use Rattle.std.proofs.Common.{◌<◌, ◌^◌, [], ◌∷◌, arith}
-use Rattle.cell_nets.specs.Operands.{number_in, IsAvailable}
-use Rattle.cell_nets.specs.Wires.{always}
+use Rattle.site_operands.specs.cell_nets.Operands.{number_in, IsAvailable}
+use Rattle.site_operands.specs.cell_nets.Wires.{always}
 use Rattle.value_net.proofs.Holding.{no_packet, one_is, two_are, three_are, hold_none, hold_more, hold_gives}
 use Rattle.value_net.proofs.ChangeLemmas.{exchanged_is}
 use Rattle.value_net.proofs.changing.exchanged.Goals as goal

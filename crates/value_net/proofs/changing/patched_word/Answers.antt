@@ -2,7 +2,7 @@ use Rattle.std.proofs.Common.{◌≡◌, [], ◌∷◌, ap, arith}
 use Rattle.byteorder.specs.Endian.{little_bytes}
 use Rattle.xdp_maps.specs.Calls.{patched}
 use Rattle.site_operands.specs.hazard_core.Commits.{word_at}
-use Rattle.cell_nets.specs.Operands.{number_in}
+use Rattle.site_operands.specs.cell_nets.Operands.{number_in}
 use Rattle.value_net.proofs.Holding.{step_gives}
 use Rattle.value_net.proofs.changing.patched_word.Goals as goal
 

@@ -1,7 +1,7 @@
 use Rattle.std.proofs.Common.{◌≡◌, ◌*◌, ◌/◌, [], ◌∷◌, ◌∙◌, sym, arith}
 use Rattle.site_operands.specs.hazard_core.Commits.{word_at}
-use Rattle.cell_nets.specs.Operands.{number_in}
-use Rattle.cell_nets.specs.Wires.{always}
+use Rattle.site_operands.specs.cell_nets.Operands.{number_in}
+use Rattle.site_operands.specs.cell_nets.Wires.{always}
 use Rattle.value_net.proofs.Holding.{step_gives, there_gives}
 use Rattle.value_net.proofs.ByteLemmas.{stored_is, word_left}
 use Rattle.value_net.proofs.changing.placed_word.Goals as goal

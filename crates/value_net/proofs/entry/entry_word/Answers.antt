@@ -1,5 +1,5 @@
 use Rattle.std.proofs.Common.{◌∷◌, get_or, sym, subst, arith}
-use Rattle.cell_nets.specs.Wires.{wires_of, Gives}
+use Rattle.site_operands.specs.cell_nets.Wires.{wires_of, Gives}
 use Rattle.site_operands.specs.hazard_core.Commits.{word_at}
 use Rattle.value_net.specs.Pendings.{all_taken, IsFitting, IsOf, ShowPendings, ShowsEntry}
 use Rattle.value_net.proofs.EntryLemmas.{so_far, far_bytes, far_starts, far_more, far_all}

@@ -1,7 +1,7 @@
 use Rattle.std.proofs.Common.{◌≡◌, ℕ, List, ◌∷◌}
 use Rattle.cell_core.specs.Sites.{ProgramView}
-use Rattle.cell_nets.specs.Operands.{IsOperand}
-use Rattle.cell_nets.specs.Wires.{wires_of, HasBits, Gives}
+use Rattle.site_operands.specs.cell_nets.Operands.{IsOperand}
+use Rattle.site_operands.specs.cell_nets.Wires.{wires_of, HasBits, Gives}
 use Rattle.site_operands.specs.hazard_core.Commits.{word_at}
 use Rattle.site_operands.specs.hazard_core.Held.{Held}
 use Rattle.site_operands.specs.hazard_core.declared.pointer.Pointer.{Pointer}

@@ -1,8 +1,8 @@
 use Rattle.std.proofs.Common.{[], ◌∷◌, arith}
-use Rattle.cell_nets.specs.declared.operand.Operand.TheVariants.{Known}
-use Rattle.cell_nets.specs.Operands.{number_in, IsAvailable}
-use Rattle.cell_nets.specs.Wires.{always}
-use Rattle.cell_nets.proofs.ChoiceLemmas.{number_small}
+use Rattle.site_operands.specs.cell_nets.declared.operand.Operand.TheVariants.{Known}
+use Rattle.site_operands.specs.cell_nets.Operands.{number_in, IsAvailable}
+use Rattle.site_operands.specs.cell_nets.Wires.{always}
+use Rattle.site_operands.proofs.cell_nets_laws.ChoiceLemmas.{number_small}
 use Rattle.site_operands.specs.hazard_core.Tables.{decl_of, table_at}
 use Rattle.value_net.specs.Pendings.{ShowsEntry}
 use Rattle.value_net.proofs.Holding.{one_is, three_are, hold_none, hold_more, hold_gives}

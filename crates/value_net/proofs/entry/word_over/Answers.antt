@@ -1,9 +1,9 @@
 use Rattle.std.proofs.Common.{◌≡◌, suc, [], ◌∷◌, ◌∙◌, ap, arith}
 use Rattle.std.proofs.lemmas.List.Elements.{All-cons, All-tail}
 use Rattle.cell_core.specs.Sites.{site_at}
-use Rattle.cell_nets.specs.Operands.{number_in, IsOperand, IsAvailable}
-use Rattle.cell_nets.specs.Wires.{always}
-use Rattle.cell_nets.proofs.ChoiceLemmas.{number_small}
+use Rattle.site_operands.specs.cell_nets.Operands.{number_in, IsOperand, IsAvailable}
+use Rattle.site_operands.specs.cell_nets.Wires.{always}
+use Rattle.site_operands.proofs.cell_nets_laws.ChoiceLemmas.{number_small}
 use Rattle.site_operands.specs.hazard_core.Commits.{word_at}
 use Rattle.site_operands.specs.hazard_core.Held.{asked, writes, written_pointer}
 use Rattle.site_operands.specs.hazard_core.Overlay.{value_as}

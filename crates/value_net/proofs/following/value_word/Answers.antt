@@ -1,10 +1,10 @@
 use Rattle.std.specs.Prelude.{drop}
 use Rattle.std.proofs.Common.{◌*◌, ◌<◌, ◌≤◌, [], ◌∷◌, sym, arith}
-use Rattle.cell_nets.specs.Operands.{number_in, IsAvailable}
-use Rattle.cell_nets.specs.Wires.{always}
+use Rattle.site_operands.specs.cell_nets.Operands.{number_in, IsAvailable}
+use Rattle.site_operands.specs.cell_nets.Wires.{always}
 use Rattle.value_net.specs.Lists.{numbers_in}
 use Rattle.value_net.proofs.Holding.{one_is, hold_none, hold_more, hold_gives}
-use Rattle.cell_nets.proofs.GiveLemmas.{known_gives}
+use Rattle.site_operands.proofs.cell_nets_laws.GiveLemmas.{known_gives}
 use Rattle.value_net.proofs.BitLemmas.{bits_below}
 use Rattle.value_net.proofs.ByteLemmas.{word_past}
 use Rattle.value_net.proofs.FollowLemmas.{value_is}

@@ -3,7 +3,7 @@ use Rattle.std.proofs.Common.{◌≡◌, [], ◌∷◌, ◌∙◌, ap, sym, subs
 use Rattle.std.proofs.lemmas.List.Elements.{All-cons, All-tail}
 use Rattle.cell_core.specs.Formed.{HasWords}
 use Rattle.cell_core.specs.Sites.{site_at}
-use Rattle.cell_nets.specs.Operands.{number_in, IsOperand, IsAvailable}
+use Rattle.site_operands.specs.cell_nets.Operands.{number_in, IsOperand, IsAvailable}
 use Rattle.site_operands.specs.hazard_core.Commits.{word_at}
 use Rattle.site_operands.specs.hazard_core.Held.{held_value}
 use Rattle.site_operands.specs.Sites.{operands_of, ShowsAsked}

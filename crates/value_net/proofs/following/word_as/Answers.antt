@@ -7,8 +7,8 @@ use Rattle.cell_core.specs.Formed.{IsInside}
 use Rattle.cell_core.specs.Sites.{operation_with, change_of}
 use Rattle.site_operands.specs.hazard_core.Commits.{word_at}
 use Rattle.site_operands.specs.hazard_core.Overlay.{value_as}
-use Rattle.cell_nets.specs.Operands.{number_in, IsAvailable}
-use Rattle.cell_nets.specs.Wires.{always}
+use Rattle.site_operands.specs.cell_nets.Operands.{number_in, IsAvailable}
+use Rattle.site_operands.specs.cell_nets.Wires.{always}
 use Rattle.value_net.specs.Lists.{numbers_in}
 use Rattle.value_net.proofs.Holding.{two_are, three_are, step_gives, there_gives}
 use Rattle.value_net.proofs.FollowLemmas.{unwritten}

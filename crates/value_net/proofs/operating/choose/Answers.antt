@@ -1,8 +1,8 @@
 use Rattle.std.proofs.Common.{sym, subst, All}
 use Rattle.cell_core.specs.declared.operator.Operator.TheVariants.{Select}
 use Rattle.cell_core.specs.Cells.{number, bits_from}
-use Rattle.cell_nets.specs.Operands.{IsOperand}
-use Rattle.cell_nets.specs.Wires.{wires_of, always, Gives}
+use Rattle.site_operands.specs.cell_nets.Operands.{IsOperand}
+use Rattle.site_operands.specs.cell_nets.Wires.{wires_of, always, Gives}
 use Rattle.value_net.specs.Lists.{numbers_in}
 use Rattle.value_net.proofs.Holding.{no_packet, three_are, three_listed}
 use Rattle.value_net.proofs.operating.choose.Goals as goal

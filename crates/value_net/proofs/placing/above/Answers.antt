@@ -1,7 +1,7 @@
 use Rattle.std.proofs.Common.{◌≡◌, ◌+◌, ◌-◌, ◌*◌, ◌/◌, ◌^◌, ◌≤◌, [], ◌∷◌, sym, ◌∙◌, ap, subst, arith}
-use Rattle.cell_nets.specs.Operands.{number_in, IsAvailable}
-use Rattle.cell_nets.specs.Wires.{always, HasBits}
-use Rattle.cell_nets.proofs.ChoiceLemmas.{number_small}
+use Rattle.site_operands.specs.cell_nets.Operands.{number_in, IsAvailable}
+use Rattle.site_operands.specs.cell_nets.Wires.{always, HasBits}
+use Rattle.site_operands.proofs.cell_nets_laws.ChoiceLemmas.{number_small}
 use Rattle.value_net.proofs.Holding.{no_packet, one_is, two_are, hold_none, hold_more, hold_gives, there_gives}
 use Rattle.value_net.proofs.BitLemmas.{bits_below, join_bits, high_bits, high_zero}
 use Rattle.value_net.proofs.placing.above.Goals as goal

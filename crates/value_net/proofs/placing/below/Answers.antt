@@ -1,6 +1,6 @@
 use Rattle.std.proofs.Common.{◌≡◌, ◌+◌, ◌*◌, ◌%◌, ◌^◌, [], ◌∷◌, refl, sym, ◌∙◌, ap, subst, arith}
-use Rattle.cell_nets.specs.Operands.{number_in, IsAvailable}
-use Rattle.cell_nets.specs.Wires.{always, HasBits}
+use Rattle.site_operands.specs.cell_nets.Operands.{number_in, IsAvailable}
+use Rattle.site_operands.specs.cell_nets.Wires.{always, HasBits}
 use Rattle.value_net.proofs.Holding.{no_packet, one_is, two_are, hold_none, hold_more, hold_gives, there_gives}
 use Rattle.value_net.proofs.BitLemmas.{low_bits, bits_below, join_bits}
 use Rattle.value_net.proofs.placing.below.Goals as goal

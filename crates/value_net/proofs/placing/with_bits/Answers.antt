@@ -1,6 +1,6 @@
 use Rattle.std.proofs.Common.{◌+◌, [], ◌∷◌, arith}
-use Rattle.cell_nets.specs.Operands.{number_in, IsAvailable}
-use Rattle.cell_nets.specs.Wires.{always}
+use Rattle.site_operands.specs.cell_nets.Operands.{number_in, IsAvailable}
+use Rattle.site_operands.specs.cell_nets.Wires.{always}
 use Rattle.value_net.proofs.Holding.{one_is, two_are, hold_none, hold_more, hold_gives}
 use Rattle.value_net.proofs.BitLemmas.{parts_are}
 use Rattle.value_net.proofs.placing.with_bits.Goals as goal

@@ -1,0 +1,5 @@
+pub mod CountLaws
+pub mod WireLemmas
+pub mod EdgeLemmas
+pub mod StayLemmas
+pub mod SpanLemmas

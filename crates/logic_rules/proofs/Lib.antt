@@ -1,0 +1,4 @@
+pub mod FlagLemmas
+pub mod NeutralLemmas
+pub mod SelectLemmas
+pub mod PartLemmas

@@ -1,0 +1,17 @@
+//! Expressions with fewer operators, where the words of nets fit known numbers of bits.
+#![tactic(auto)]
+
+mod choosing;
+mod comparing;
+mod flags;
+mod joining;
+mod neutral;
+mod prefixing;
+mod selecting;
+mod settling;
+mod simplifying;
+mod testing;
+mod turning;
+mod views;
+
+pub use simplifying::simplified;

@@ -1,0 +1,4 @@
+pub mod ValueLemmas
+pub mod StoredLemmas
+pub mod DesignLemmas
+pub mod DeclaredLemmas

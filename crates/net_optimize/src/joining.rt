@@ -1,0 +1,131 @@
+//! Statements, one after another, of which neighbours under one condition are one.
+
+ghost use Rattle.std.specs.Prelude.{◌≡◌, IfOk, map};
+ghost use Rattle.net_core.specs.declared.tree.Net.{Net};
+ghost use Rattle.net_core.specs.View.{tree_of, statement_of};
+ghost use Rattle.net_core.specs.Value.{Env};
+ghost use Rattle.net_core.specs.Clock.{Stored, done, edge};
+ghost use Rattle.net_optimize.specs.Lists.{guarded, joined_done};
+
+use net_core::build::{block, statements, when};
+use net_core::tree::{Expr, Net, Stmt};
+use net_trees::equal::is_same;
+use std::alloc::{AllocError, Global};
+
+/// Statements under a condition.
+#[derive(Drop)]
+pub(crate) struct Guarded {
+    pub(crate) condition: Expr<Net>,
+    pub(crate) body: Vec<Stmt<Net>>,
+}
+
+/// Statements, one after another. There may be more to come under the condition of the last ones.
+#[derive(Drop)]
+pub(crate) struct Joined {
+    pub(crate) first: Vec<Stmt<Net>>,
+    pub(crate) last: Option<Guarded>,
+}
+
+/// No statements.
+pub(crate) fn none(alloc: Global) -> Joined
+    ensures { (v : Env Net) (s : Stored) → joined_done v result s ≡ s }
+{
+    Joined {
+        first: Vec::new(alloc),
+        last: None,
+    }
+}
+
+/// These statements as one.
+pub(crate) fn one(alloc: Global, body: Vec<Stmt<Net>>) -> Result<Stmt<Net>, AllocError>
+    ensures { IfOk result (λ r. (v : Env Net) (s : Stored) → done v (statement_of r) s ≡ edge v (map statement_of body.items) s) }
+{
+    let all = statements(alloc, body)?;
+    let whole = block(alloc, all)?;
+    Ok(whole)
+}
+
+/// These statements under a condition. A single one needs no block.
+pub(crate) fn under(
+    alloc: Global,
+    condition: Expr<Net>,
+    mut body: Vec<Stmt<Net>>,
+) -> Result<Stmt<Net>, AllocError>
+    ensures { IfOk result (λ r. (v : Env Net) (s : Stored) → done v (statement_of r) s ≡ guarded v (tree_of condition) (map statement_of body.items) s) }
+{
+    if body.len() == 1
+        && let Some(only) = body.pop()
+    {
+        let short = when(alloc, condition, only)?;
+        return Ok(short);
+    }
+    let all = one(alloc, body)?;
+    let whole = when(alloc, condition, all)?;
+    Ok(whole)
+}
+
+/// All of the statements.
+pub(crate) fn closed(alloc: Global, list: Joined) -> Result<Vec<Stmt<Net>>, AllocError>
+    ensures { IfOk result (λ r. (v : Env Net) (s : Stored) → edge v (map statement_of r.items) s ≡ joined_done v list s) }
+{
+    let Joined { first, last } = list;
+    let mut all = first;
+    if let Some(guarded) = last {
+        let last = under(alloc, guarded.condition, guarded.body)?;
+        all.push(last)?;
+        return Ok(all);
+    }
+    Ok(all)
+}
+
+/// One more statement.
+pub(crate) fn with_statement(
+    alloc: Global,
+    list: Joined,
+    stmt: Stmt<Net>,
+) -> Result<Joined, AllocError>
+    ensures { IfOk result (λ r. (v : Env Net) (s : Stored) → joined_done v r s ≡ done v (statement_of stmt) (joined_done v list s)) }
+{
+    let mut first = closed(alloc, list)?;
+    first.push(stmt)?;
+    Ok(Joined { first, last: None })
+}
+
+/// More statements under a condition.
+pub(crate) fn with_guarded(
+    alloc: Global,
+    list: Joined,
+    condition: Expr<Net>,
+    mut body: Vec<Stmt<Net>>,
+) -> Result<Joined, AllocError>
+    ensures { IfOk result (λ r. (v : Env Net) (s : Stored) → joined_done v r s ≡ guarded v (tree_of condition) (map statement_of body.items) (joined_done v list s)) }
+{
+    let Joined { first, last } = list;
+    if let Some(guarded) = last {
+        if is_same(&guarded.condition, &condition) {
+            let mut all = guarded.body;
+            all.append(&mut body)?;
+            let last = Guarded {
+                condition,
+                body: all,
+            };
+            return Ok(Joined {
+                first,
+                last: Some(last),
+            });
+        }
+        let mut first = first;
+        let before = under(alloc, guarded.condition, guarded.body)?;
+        first.push(before)?;
+        let last = Guarded { condition, body };
+        return Ok(Joined {
+            first,
+            last: Some(last),
+        });
+    }
+    let last = Guarded { condition, body };
+    Ok(Joined {
+        first,
+        last: Some(last),
+    })
+}

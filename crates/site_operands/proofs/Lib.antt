@@ -1,0 +1,1 @@
+pub use Rattle.cell_nets.proofs as cell_nets_laws
