@@ -1,26 +1,26 @@
 //! Cases of programs as cells.
 
 ghost use Rattle.unfold_core.specs.Unfolding.{IsUnfolded};
-ghost use Rattle.cell_core.specs.Formed.{AreFormed, AreSited};
-ghost use Rattle.cell_core.specs.View.{program_of};
+ghost use Rattle.row_rules.specs.cell_core.Formed.{AreFormed, AreSited};
+ghost use Rattle.row_rules.specs.cell_core.View.{program_of};
 
 use crate::left::Left;
 use crate::maps::over;
 use crate::sites::pass_all;
 use anyhow::{Context, Result, ensure};
-use beat_core::{Frame, Meta};
-use cell_core::eval;
-use cell_core::program::{CellProgram, PacketIn};
-use cell_core::value::value_in;
-use node_rows::count_stages;
 use predicate_core::program::to_cells;
+use row_plan::cell_core::eval;
+use row_plan::cell_core::program::{CellProgram, PacketIn};
+use row_plan::cell_core::value::value_in;
+use row_plan::cell_core::xdp_state::beat_core::{Frame, Meta};
+use row_plan::cell_core::xdp_state::xdp_maps::decl::MapDecl;
+use row_plan::cell_core::xdp_state::xdp_maps::state::Maps;
 use row_plan::plan;
+use row_rules::node_rows::count_stages;
 use std::alloc::Global;
 use suite_cases::refusal::refusal;
 use suite_cases::tables::Tables;
 use unfold_core::{Unfolded, unfold};
-use xdp_maps::decl::MapDecl;
-use xdp_maps::state::Maps;
 use xdp_object::Program;
 use xdp_seq::{SeqPlan, run_packet};
 

@@ -2,8 +2,8 @@
 
 use anyhow::{Result, ensure};
 use maps_text::write_maps_text;
+use row_plan::cell_core::xdp_state::xdp_maps::state::Maps;
 use std::alloc::Global;
-use xdp_maps::state::Maps;
 
 /// What a packet leaves: verdict, target, length, and the bytes that are others than before; and the text of the maps.
 #[derive(Drop)]

@@ -4,9 +4,9 @@ ghost use Rattle.std.specs.Prelude.{◌≡◌, IfOk};
 
 use anyhow::{Result, ensure};
 use maps_text::{read_maps_text, write_maps_text};
+use row_plan::cell_core::xdp_state::xdp_maps::decl::MapDecl;
+use row_plan::cell_core::xdp_state::xdp_maps::state::Maps;
 use std::alloc::Global;
-use xdp_maps::decl::MapDecl;
-use xdp_maps::state::Maps;
 
 /// What maps hold, in maps of these declarations.
 pub(crate) fn over(alloc: Global, maps: &Maps, decls: &[MapDecl]) -> Result<Maps>

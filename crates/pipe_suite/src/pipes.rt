@@ -1,8 +1,8 @@
 //! Cases of programs in a pipe.
 
 ghost use Rattle.std.specs.Prelude.{IfOk};
-ghost use Rattle.cell_core.specs.Formed.{AreFormed};
-ghost use Rattle.cell_core.specs.View.{program_of};
+ghost use Rattle.row_rules.specs.cell_core.Formed.{AreFormed};
+ghost use Rattle.row_rules.specs.cell_core.View.{program_of};
 ghost use Rattle.row_plan.specs.Plan.{IsPlan};
 
 use crate::cells::{by_run, stages};
@@ -11,9 +11,9 @@ use crate::maps::over;
 use crate::report::Most;
 use crate::ways::WAYS;
 use anyhow::{Result, ensure};
-use cell_core::program::{CellProgram, PacketIn};
 use kind_core::BuildError;
 use predicate_core::program::to_cells;
+use row_plan::cell_core::program::{CellProgram, PacketIn};
 use row_plan::{RowPlan, plan};
 use std::alloc::Global;
 use suite_cases::refusal::refusal;

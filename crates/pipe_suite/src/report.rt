@@ -4,12 +4,12 @@ use crate::drive::Given;
 use crate::left::{Left, line_of};
 use crate::ways::Way;
 use anyhow::{Context, Result, ensure};
-use cell_core::program::{CellProgram, PacketIn};
 use maps_text::write_maps_text;
 use pipe_core::bound::clock_bound;
 use row_plan::RowPlan;
+use row_plan::cell_core::program::{CellProgram, PacketIn};
+use row_plan::cell_core::xdp_state::xdp_maps::state::Maps;
 use std::alloc::Global;
-use xdp_maps::state::Maps;
 
 /// How many clocks a pipe may take, and whether this was said.
 #[derive(Copy, Clone)]

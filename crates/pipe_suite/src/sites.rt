@@ -1,12 +1,12 @@
 //! What the sites of cells do to maps.
 
 use anyhow::{Context, Result, ensure};
-use cell_core::site::{Act, Atomic, Site};
-use cell_core::value::value_in;
+use row_plan::cell_core::site::{Act, Atomic, Site};
+use row_plan::cell_core::value::value_in;
+use row_plan::cell_core::xdp_state::xdp_maps::change::Change;
+use row_plan::cell_core::xdp_state::xdp_maps::state::Maps;
+use row_plan::cell_core::xdp_state::{declared, memory};
 use std::alloc::Global;
-use xdp_maps::change::Change;
-use xdp_maps::state::Maps;
-use xdp_state::{declared, memory};
 
 /// Does the operations of the sites that may write and whose guards are on, in their order.
 pub(crate) fn pass_all(

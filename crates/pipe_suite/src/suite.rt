@@ -2,7 +2,7 @@
 
 use crate::{cells, pipes};
 use anyhow::Result;
-use cell_core::program::PacketIn;
+use row_plan::cell_core::program::PacketIn;
 use std::alloc::Global;
 use suite_cases::case::Case;
 use suite_cases::frames::frame_of;

@@ -25,13 +25,13 @@ pub(crate) fn answer(alloc: Global, verb: &str, rest: &str) -> Result<Option<Str
 fn mask(rest: &str) -> Result<u64> {
     let [width] = numbers::<1>(rest)?;
     ensure!(width <= 64, "at most 64 bits");
-    Ok(bits_core::mask(width as u32))
+    Ok(xdp_state::bits_core::mask(width as u32))
 }
 
 fn slice(rest: &str) -> Result<u64> {
     let [value, hi, lo] = numbers::<3>(rest)?;
     ensure!(lo <= hi && hi <= 63, "bits of a word");
-    Ok(bits_core::slice(value, hi as u32, lo as u32))
+    Ok(xdp_state::bits_core::slice(value, hi as u32, lo as u32))
 }
 
 fn join(rest: &str) -> Result<u64> {
@@ -39,15 +39,15 @@ fn join(rest: &str) -> Result<u64> {
     ensure!(width <= 63 && lo < 1 << width, "a low part of its width");
     let high = hi.checked_mul(1 << width).context("a word of 64 bits")?;
     ensure!(high <= u64::MAX - lo, "a word of 64 bits");
-    Ok(bits_core::join(hi, lo, width as u32))
+    Ok(xdp_state::bits_core::join(hi, lo, width as u32))
 }
 
 fn swap(rest: &str) -> Result<u64> {
     let [value, width] = numbers::<2>(rest)?;
     match width {
-        16 if value < 1 << 16 => Ok(bits_core::swap(value, 16)),
-        32 if value < 1 << 32 => Ok(bits_core::swap(value, 32)),
-        64 => Ok(bits_core::swap(value, 64)),
+        16 if value < 1 << 16 => Ok(xdp_state::bits_core::swap(value, 16)),
+        32 if value < 1 << 32 => Ok(xdp_state::bits_core::swap(value, 32)),
+        64 => Ok(xdp_state::bits_core::swap(value, 64)),
         _ => bail!("a word of 16, 32 or 64 bits"),
     }
 }
@@ -56,34 +56,34 @@ fn sext(rest: &str) -> Result<u64> {
     let [value, width] = numbers::<2>(rest)?;
     ensure!(1 <= width && width <= 64, "1 to 64 bits");
     ensure!(width == 64 || value < 1 << width, "a word of its width");
-    Ok(bits_core::sext(value, width as u32))
+    Ok(xdp_state::bits_core::sext(value, width as u32))
 }
 
 fn arsh(rest: &str) -> Result<u64> {
     let [value, count, width] = numbers::<3>(rest)?;
     ensure!(count < width, "a count below the width");
     match width {
-        32 if value < 1 << 32 => Ok(bits_core::arsh(value, count as u32, 32)),
-        64 => Ok(bits_core::arsh(value, count as u32, 64)),
+        32 if value < 1 << 32 => Ok(xdp_state::bits_core::arsh(value, count as u32, 32)),
+        64 => Ok(xdp_state::bits_core::arsh(value, count as u32, 64)),
         _ => bail!("a word of 32 or 64 bits"),
     }
 }
 
 fn div_u(rest: &str) -> Result<u64> {
     let [a, b] = numbers::<2>(rest)?;
-    Ok(bits_core::div_u(a, b))
+    Ok(xdp_state::bits_core::div_u(a, b))
 }
 
 fn mod_u(rest: &str) -> Result<u64> {
     let [a, b] = numbers::<2>(rest)?;
-    Ok(bits_core::mod_u(a, b))
+    Ok(xdp_state::bits_core::mod_u(a, b))
 }
 
 fn div_s(rest: &str) -> Result<u64> {
     let [a, b, width] = numbers::<3>(rest)?;
     match width {
-        32 if a < 1 << 32 && b < 1 << 32 => Ok(bits_core::div_s(a, b, 32)),
-        64 => Ok(bits_core::div_s(a, b, 64)),
+        32 if a < 1 << 32 && b < 1 << 32 => Ok(xdp_state::bits_core::div_s(a, b, 32)),
+        64 => Ok(xdp_state::bits_core::div_s(a, b, 64)),
         _ => bail!("words of 32 or 64 bits"),
     }
 }
@@ -91,8 +91,8 @@ fn div_s(rest: &str) -> Result<u64> {
 fn mod_s(rest: &str) -> Result<u64> {
     let [a, b, width] = numbers::<3>(rest)?;
     match width {
-        32 if a < 1 << 32 && b < 1 << 32 => Ok(bits_core::mod_s(a, b, 32)),
-        64 => Ok(bits_core::mod_s(a, b, 64)),
+        32 if a < 1 << 32 && b < 1 << 32 => Ok(xdp_state::bits_core::mod_s(a, b, 32)),
+        64 => Ok(xdp_state::bits_core::mod_s(a, b, 64)),
         _ => bail!("words of 32 or 64 bits"),
     }
 }

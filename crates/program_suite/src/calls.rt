@@ -4,10 +4,10 @@ use anyhow::{Context, Result, bail, ensure};
 use std::alloc::Global;
 use suite_cases::bytes::Named;
 use suite_cases::numbers::{front, number, number_32, numbers};
-use xdp_maps::change::{Change, ChangeKind};
-use xdp_maps::short::ShortBytes;
-use xdp_maps::state::Maps;
 use xdp_state::declared;
+use xdp_state::xdp_maps::change::{Change, ChangeKind};
+use xdp_state::xdp_maps::short::ShortBytes;
+use xdp_state::xdp_maps::state::Maps;
 
 /// What a call on maps answers, if the verb is one.
 pub(crate) fn answer(

@@ -7,8 +7,8 @@ use std::alloc::Global;
 use std::str;
 use suite_cases::bytes::Named;
 use suite_cases::numbers::{front, number, number_32};
-use xdp_maps::decl::MapDecl;
 use xdp_object::{Choice, ObjectError, Program, read_object, two_units};
+use xdp_state::xdp_maps::decl::MapDecl;
 
 /// The most bytes that the code of an object has here.
 const CODE_LIMIT: usize = 65536;

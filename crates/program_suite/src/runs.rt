@@ -2,13 +2,13 @@
 
 use crate::calls::show;
 use anyhow::Result;
-use beat_core::{Frame, Meta};
 use byteorder::{ByteOrder, LittleEndian};
 use std::alloc::Global;
 use suite_cases::case::Case;
 use suite_cases::frames::frame_of;
 use suite_cases::numbers::{front, number};
 use xdp_seq::{Ended, SeqError, SeqPlan, run_packet};
+use xdp_state::beat_core::{Frame, Meta};
 
 /// What a run leaves, if the verb is one. Frames come at this time.
 pub(crate) fn answer(case: &mut Case, time: u64, verb: &str, rest: &str) -> Result<Option<String>> {

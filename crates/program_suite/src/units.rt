@@ -1,10 +1,10 @@
 //! Cases of instructions and their bytes.
 
 use anyhow::{Result, bail, ensure};
-use bpf_isa::{BadInsn, DecodeError, Insn, decode_all, decode_one, encode_one};
 use std::alloc::Global;
 use suite_cases::bytes::Named;
 use suite_cases::numbers::{front, number_32};
+use xdp_state::bpf_isa::{BadInsn, DecodeError, Insn, decode_all, decode_one, encode_one};
 
 /// What is asked of instructions, if the verb is one of theirs.
 pub(crate) fn answer(
