@@ -5,7 +5,7 @@ mod keeping;
 mod row_plan;
 mod rows;
 
-pub use crate::{RowPlan, plan};
+pub use row_plan::{RowPlan, plan};
 
 // Crates above name these through this one.
 pub use cell_core;
