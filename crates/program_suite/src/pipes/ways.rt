@@ -63,10 +63,9 @@ fn is_turn(clock: u64, every: u64) -> bool {
 impl Way {
     /// What comes in a clock, where these beats are left.
     pub(crate) fn input(self, clock: u64, left: &[Offer]) -> In {
-        let offered = is_turn(clock, self.offered);
         let take = is_turn(clock, self.taken);
         match left.first() {
-            Some(offer) if offered => In {
+            Some(offer) if is_turn(clock, self.offered) => In {
                 beat: Some(offer.beat),
                 ifindex: offer.ifindex,
                 time: offer.time,

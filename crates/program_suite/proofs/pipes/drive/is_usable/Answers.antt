@@ -1,8 +1,8 @@
 use Rattle.std.proofs.Common.{◌<◌, ◌^◌, ◌∙◌, length, arith}
 use Rattle.std.proofs.lemmas.List.{length-map}
 use Rattle.cell_core.specs.View.{program_of, cell_of, site_of}
-use Rattle.pipe_suite.proofs.Usable.{usable}
-use Rattle.pipe_suite.proofs.drive.is_usable.Goals as goal
+use Rattle.program_suite.proofs.Usable.{usable}
+use Rattle.program_suite.proofs.pipes.drive.is_usable.Goals as goal
 
 pub returns-clause-usable : goal.returns-clause-usable
 returns-clause-usable c =

@@ -7,59 +7,69 @@ ghost use Rattle.pipe_core.specs.Planned.{IsUsable};
 ghost use Rattle.predicate_core.specs.Buildable.{IsBuildable};
 ghost use Rattle.row_plan.specs.Plan.{IsPlan};
 
-use crate::ways::{Offer, Way, offers_of};
+use crate::cases::tables::push_maps;
+use crate::packets::push_left;
+use crate::pipes::ways::{Offer, Way, offers_of};
 use anyhow::{Context, Result, ensure};
 use cell_core::program::{CellProgram, PacketIn};
 use pipe_core::pipe::Pipe;
 use pipe_core::ports::{In, Out};
 use row_plan::RowPlan;
 use std::alloc::Global;
-use std::mem;
 use xdp_maps::state::Maps;
 
 /// The most clocks of a drive.
 const CLOCKS: u64 = 1_000_000;
 
-/// What a pipe gave: its answers, a verdict, a target and a frame each, and what has come of the next; in how many clocks, how many packets it sent
-/// back, and the maps in the end.
+/// What a pipe gave: the lines of its answers and of the maps in the end, and what has come of the next answer's frame; in how many
+/// clocks, and how many packets it sent back.
 #[derive(Drop)]
 pub(crate) struct Given {
-    alloc: Global,
-    pub(crate) answers: Vec<(u32, u32, Vec<u8>)>,
+    pub(crate) left: String,
+    answers: usize,
     frame: Vec<u8>,
     pub(crate) clocks: u64,
     pub(crate) back: u64,
-    pub(crate) maps: Option<Maps>,
 }
 
 impl Given {
     // Nothing yet.
     fn new(alloc: Global) -> Given {
         Given {
-            alloc,
-            answers: Vec::new(alloc),
+            left: String::new(alloc),
+            answers: 0,
             frame: Vec::new(alloc),
             clocks: 0,
             back: 0,
-            maps: None,
         }
     }
 
     // What a clock gave.
-    fn take(&mut self, input: &In, out: &Out) -> Result<()> {
+    fn take(&mut self, packets: &[PacketIn], input: &In, out: &Out) -> Result<()> {
         self.clocks = self.clocks.saturating_add(1);
         self.back = self.back.saturating_add(out.reloaded as u64);
         let Some(beat) = out.beat else {
             return Ok(());
         };
-        if input.take {
-            let count = (beat.bytes as usize).min(8);
-            self.frame
-                .extend_from_slice(&beat.word.to_le_bytes()[..count])?;
+        if !input.take {
+            return Ok(());
         }
-        if input.take && beat.last {
-            let frame = mem::replace(&mut self.frame, Vec::new(self.alloc));
-            self.answers.push((out.verdict, out.target, frame))?;
+        let count = (beat.bytes as usize).min(8);
+        self.frame
+            .extend_from_slice(&beat.word.to_le_bytes()[..count])?;
+        if beat.last {
+            let packet = packets.get(self.answers).context("an answer too many")?;
+            let (before, after) = (packet.frame.bytes(), &self.frame);
+            push_left(
+                self.answers,
+                before,
+                out.verdict,
+                out.target,
+                after,
+                &mut self.left,
+            )?;
+            self.answers = self.answers.saturating_add(1);
+            self.frame.clear();
         }
         Ok(())
     }
@@ -103,18 +113,18 @@ pub(crate) fn drive(
     let mut given = Given::new(alloc);
     let mut left: &[Offer] = &offers;
     for clock in 0..CLOCKS {
-        if given.answers.len() == packets.len() {
+        if given.answers == packets.len() {
             break;
         }
         let input = way.input(clock, left);
         ensure!(pipe.has_room(input.beat), "a frame too long");
         let out = pipe.clock(input);
-        given.take(&input, &out)?;
+        given.take(packets, &input, &out)?;
         if input.beat.is_some() && out.ready {
             left = left.get(1..).context("a beat that was offered")?;
         }
     }
     ensure!(pipe.tables().decls().len() < 1 << 32, "too many maps");
-    given.maps = Some(pipe.maps(alloc)?);
+    push_maps(alloc, &pipe.maps(alloc)?, &mut given.left)?;
     Ok(given)
 }
