@@ -1,8 +1,9 @@
 //! Cases of programs in a pipe, beside their runs.
 
 ghost use Rattle.std.specs.Prelude.{◌≡◌, IfOk};
-ghost use Rattle.cell_core.specs.Formed.{AreFormed};
+ghost use Rattle.cell_core.specs.Formed.{AreFormed, AreSited};
 ghost use Rattle.cell_core.specs.View.{program_of};
+ghost use Rattle.predicate_core.specs.Buildable.{IsBuildable};
 ghost use Rattle.row_plan.specs.Plan.{IsPlan};
 
 pub(crate) mod drive;
@@ -43,7 +44,25 @@ pub(crate) fn answer(
         Ok(plan) => plan,
         Err(e) => return push_refusal(out, e),
     };
-    let first = empty(alloc, program)?;
+    beside(alloc, program, &cells, &plan, packets, most, out)
+}
+
+// Adds what packets leave by the runs of a program, and where a pipe of its cells gives something else.
+fn beside(
+    alloc: Global,
+    program: &Program,
+    cells: &CellProgram,
+    plan: &RowPlan,
+    packets: &[PacketIn],
+    most: Option<u64>,
+    out: &mut String,
+) -> Result<()>
+    requires buildable { IsBuildable (program_of cells.now) }
+    requires formed { AreFormed (program_of cells.now).cells }
+    requires sited { AreSited program.now.decls (program_of cells.now) }
+    requires plan { IsPlan (program_of cells.now) plan.now }
+{
+    let clocks = most.unwrap_or(bound(cells, plan, packets));
     let mut left = String::new(alloc);
     push_runs(
         alloc,
@@ -53,9 +72,9 @@ pub(crate) fn answer(
         &mut left,
     )?;
     out.push_str(&left)?;
-    let clocks = most.unwrap_or(bound(&cells, &plan, packets));
+    let first = empty(alloc, program)?;
     for way in WAYS {
-        let given = drive(alloc, &cells, &plan, &first, packets, way)?;
+        let given = drive(alloc, cells, plan, &first, packets, way)?;
         push_given(&given, &left, way, clocks, most.is_some(), out)?;
     }
     Ok(())

@@ -111,7 +111,21 @@ pub(crate) fn drive(
     pipe.load(alloc, maps)?;
     let offers = offers_of(alloc, packets)?;
     let mut given = Given::new(alloc);
-    let mut left: &[Offer] = &offers;
+    run(&mut pipe, &offers, packets, way, &mut given)?;
+    ensure!(pipe.tables().decls().len() < 1 << 32, "too many maps");
+    push_maps(alloc, &pipe.maps(alloc)?, &mut given.left)?;
+    Ok(given)
+}
+
+// Clocks a pipe until it has given all answers.
+fn run(
+    pipe: &mut Pipe,
+    offers: &[Offer],
+    packets: &[PacketIn],
+    way: Way,
+    given: &mut Given,
+) -> Result<()> {
+    let mut left = offers;
     for clock in 0..CLOCKS {
         if given.answers == packets.len() {
             break;
@@ -124,7 +138,5 @@ pub(crate) fn drive(
             left = left.get(1..).context("a beat that was offered")?;
         }
     }
-    ensure!(pipe.tables().decls().len() < 1 << 32, "too many maps");
-    push_maps(alloc, &pipe.maps(alloc)?, &mut given.left)?;
-    Ok(given)
+    Ok(())
 }
