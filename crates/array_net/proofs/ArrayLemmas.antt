@@ -13,8 +13,8 @@ use Rattle.net_core.specs.Ports.{port_list}
 use Rattle.net_core.specs.Value.{word, bit, Env, value, apply, conditional, part_select}
 use Rattle.net_core.specs.Clock.{Stored, done, edge}
 use Rattle.net_core.specs.Width.{Scope, width_of, statement_typed}
-use Rattle.frame_net.specs.design_rules.FormedSyntax.{right_spelled, tree_spelled, statement_spelled, statements_depth, depth}
-use Rattle.frame_net.specs.product_blocks.Alone.{wire_flat}
+use Rattle.block_core.specs.design_rules.FormedSyntax.{right_spelled, tree_spelled, statement_spelled, statements_depth, depth}
+use Rattle.block_core.specs.ProductBlocks.Alone.{wire_flat}
 use Rattle.block_core.specs.declared.name.Name.{Name}
 use Rattle.block_core.specs.declared.name.Name.TheVariants as name
 use Rattle.block_core.specs.Blocks.{BlockTree, BlockWireTree, Whole, Among, first_of}

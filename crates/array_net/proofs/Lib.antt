@@ -1,4 +1,4 @@
-pub use Rattle.frame_net.proofs as frame_net
+pub use Rattle.xdp_maps.proofs as xdp_maps_laws
 pub mod WordLaws
 pub mod WordStoreLaws
 pub mod WordMemoryLaws

@@ -13,8 +13,8 @@ use Rattle.net_core.specs.Value.{word, bit, Env, value, apply, conditional, conc
 use Rattle.net_core.specs.Clock.{Stored}
 use Rattle.net_core.specs.Width.{Scope, width_of, memory_word_width, concatenation_width, const_width, part_select_width}
 use Rattle.net_core.proofs.WidthLaws.{concatenation_is}
-use Rattle.frame_net.specs.design_rules.FormedSyntax.{depth, prefixes_apart}
-use Rattle.frame_net.specs.product_rules.Products.{is_flat}
+use Rattle.block_core.specs.design_rules.FormedSyntax.{depth, prefixes_apart}
+use Rattle.net_core.specs.ProductRules.Products.{is_flat}
 use Rattle.block_core.specs.declared.name.Name.{Name}
 use Rattle.block_core.specs.declared.name.Name.TheVariants as name
 use Rattle.block_core.specs.Order.{Reads}

@@ -14,7 +14,7 @@ use Rattle.net_core.specs.Chains.{statements_before}
 use Rattle.net_core.specs.Value.{word, bit, nothing, part_select, Env, value, apply, conditional}
 use Rattle.net_core.specs.Clock.{Stored, edge}
 use Rattle.net_core.specs.Width.{Scope, conditional_width, part_select_width}
-use Rattle.frame_net.specs.product_rules.Products.{is_flat, statements_flat}
+use Rattle.net_core.specs.ProductRules.Products.{is_flat, statements_flat}
 use Rattle.block_core.specs.declared.name.Name.{Name}
 use Rattle.block_core.specs.declared.name.Name.TheVariants as name
 use Rattle.hazard_core.specs.Commits.{word_count, word_at as byte_word, with_word}

@@ -5,8 +5,8 @@ use Rattle.net_core.specs.Nets.{Tree}
 use Rattle.net_core.specs.Ports.{port_list}
 use Rattle.net_core.specs.Value.{word, bit, Env, value}
 use Rattle.net_core.specs.Clock.{Stored, done}
-use Rattle.frame_net.specs.design_rules.FormedSyntax.{right_spelled, statement_spelled}
-use Rattle.frame_net.specs.product_blocks.Alone.{IsFree}
+use Rattle.block_core.specs.design_rules.FormedSyntax.{right_spelled, statement_spelled}
+use Rattle.block_core.specs.ProductBlocks.Alone.{IsFree}
 use Rattle.block_core.specs.declared.name.Name.{Name}
 use Rattle.block_core.specs.declared.name.Name.TheVariants as name
 use Rattle.block_core.specs.Blocks.{BlockTree, first_of, registers_of, memories_of, Whole, Among}

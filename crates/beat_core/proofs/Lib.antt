@@ -1,4 +1,4 @@
-pub use Rattle.list_laws.proofs as list_laws
+pub use Rattle.list_laws.proofs as list_laws_laws
 pub mod BeatLaws
 pub mod FillingLaws
 pub mod Left

@@ -1,4 +1,5 @@
-pub use Rattle.net_core.proofs as net_core
+pub use Rattle.net_core.proofs.list_laws_laws as list_laws_laws
+pub use Rattle.net_core.proofs as net_core_laws
 pub mod GatheredLaws
 pub mod Renamed
 pub mod Solved
@@ -11,3 +12,5 @@ pub mod LinkedTrees
 pub mod Linkings
 pub mod Widths
 pub mod TypedLaws
+pub mod BlockForms
+pub mod ProductBlocks

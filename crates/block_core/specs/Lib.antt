@@ -1,5 +1,7 @@
-pub use Rattle.net_core.specs as net_core
 pub use Rattle.net_core.specs.beat_core as beat_core
+pub use Rattle.design_rules.specs as design_rules
+pub use Rattle.net_core.specs.list_laws as list_laws
+pub use Rattle.net_core.specs as net_core
 pub mod Rename
 pub mod Blocks
 pub mod Link
@@ -9,3 +11,5 @@ pub mod Law
 pub mod Formed
 pub mod View
 pub mod Range
+pub mod BlockForms
+pub mod ProductBlocks

@@ -1,15 +1,14 @@
-//! Blocks of nets, each under names of its own, and how a design is made of them.
-//!
-//! A part of a design is a block: registers, memories, wires, and one statement that sets its own registers and memories.
-//! Parts read each other's nets by [`Name`], which knows nothing of where these stand in the design. [`link`] makes the
-//! design. What holds of its clocks stands in [`laws`].
+//! Blocks of nets under names of their own, the design that is linked of them, and its clock part by part.
+//! `block_forms` says when such a design is well formed, `product_blocks` that no product stands inside another.
 #![tactic(auto)]
 
 pub mod block;
+pub mod block_forms;
 pub mod build;
 mod error;
 pub mod laws;
 pub mod name;
+pub mod product_blocks;
 mod sections;
 mod starts;
 mod trees;

@@ -1,4 +1,5 @@
-pub use Rattle.xdp_state.proofs.beat_core_laws as beat_core
+pub use Rattle.xdp_state.proofs.beat_core_laws as beat_core_laws
+pub use Rattle.xdp_state.proofs.xdp_maps_laws as xdp_maps_laws
 pub mod Values
 pub mod SpelledLaws
 pub mod Sites

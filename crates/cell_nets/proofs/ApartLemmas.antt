@@ -7,14 +7,14 @@ use Rattle.std.proofs.lemmas.List.Elements.{All-append, All-contains, All-contai
 use Rattle.std.proofs.lemmas.List.{length-map}
 use Rattle.std.proofs.lemmas.List.Folds.{list_all-append}
 use Rattle.net_core.specs.Nets.{SBlock, SEnd}
-use Rattle.product_blocks.specs.product_rules.Products.{right_product, right_flat}
-use Rattle.product_blocks.specs.block_core.declared.name.Name.{Name}
-use Rattle.product_blocks.specs.block_core.declared.name.Name.TheVariants as name
-use Rattle.product_blocks.specs.block_core.Blocks.{BlockTree, BlockWireTree}
-use Rattle.product_blocks.specs.Apart.{AreMarked}
-use Rattle.product_blocks.specs.Alone.{wire_flat}
-use Rattle.product_blocks.proofs.FreeLaws.{all_marked, free_is_apart}
-use Rattle.product_blocks.proofs.CleanLaws.{marked_behind}
+use Rattle.net_core.specs.ProductRules.Products.{right_product, right_flat}
+use Rattle.block_core.specs.declared.name.Name.{Name}
+use Rattle.block_core.specs.declared.name.Name.TheVariants as name
+use Rattle.block_core.specs.Blocks.{BlockTree, BlockWireTree}
+use Rattle.block_core.specs.ProductBlocks.Apart.{AreMarked}
+use Rattle.block_core.specs.ProductBlocks.Alone.{wire_flat}
+use Rattle.block_core.proofs.ProductBlocks.FreeLaws.{all_marked, free_is_apart}
+use Rattle.block_core.proofs.ProductBlocks.CleanLaws.{marked_behind}
 use Rattle.cell_nets.specs.declared.operand.Operand.{Operand}
 use Rattle.cell_nets.specs.declared.operand.Operand.TheVariants.{Known, Net, Part}
 use Rattle.cell_nets.specs.Apart.{IsClean, Agrees, StayApart}

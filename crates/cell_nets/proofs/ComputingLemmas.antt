@@ -6,8 +6,8 @@ use Rattle.net_core.specs.declared.tree.Op.TheVariants as net
 use Rattle.net_core.specs.Nets.{Tree}
 use Rattle.net_core.specs.Value.{Env, word}
 use Rattle.cell_core.specs.xdp_machine.State.{PacketIn}
-use Rattle.product_blocks.specs.block_core.declared.name.Name.{Name}
-use Rattle.product_blocks.specs.block_core.Blocks.{BlockWireTree}
+use Rattle.block_core.specs.declared.name.Name.{Name}
+use Rattle.block_core.specs.Blocks.{BlockWireTree}
 use Rattle.cell_core.specs.declared.operator.Operator.{Operator}
 use Rattle.cell_core.specs.declared.operator.Operator.TheVariants.{Constant, Wire, Later, Join, SignExtend, Not, And, Or, Xor, Any, Select, Phi, Difference, Quotient, Remainder, Add, Sub, Mul, ShiftLeft, ShiftRight, NonZero, Pending}
 use Rattle.cell_core.specs.Cells.{number, bits_from}

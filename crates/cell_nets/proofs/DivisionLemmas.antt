@@ -7,15 +7,15 @@ use Rattle.std.proofs.Math.Nat.{mod-eq_of_lt, div-le_self}
 use Rattle.net_core.specs.Nets.{Tree, RightTree, RPlain}
 use Rattle.net_core.specs.Value.{Env, word, right_value, stops}
 use Rattle.net_core.specs.Width.{Scope, right_width}
-use Rattle.design_rules.specs.FormedSyntax.{right_spelled}
-use Rattle.product_blocks.specs.product_rules.Products.{right_flat}
+use Rattle.block_core.specs.design_rules.FormedSyntax.{right_spelled}
+use Rattle.net_core.specs.ProductRules.Products.{right_flat}
 use Rattle.cell_core.specs.bits_core.Bits.{div_u_of, mod_u_of}
 use Rattle.cell_core.specs.xdp_machine.State.{PacketIn}
-use Rattle.product_blocks.specs.block_core.declared.name.Name.{Name}
-use Rattle.product_blocks.specs.block_core.declared.name.Name.TheVariants as name
-use Rattle.product_blocks.specs.block_core.Blocks.{BlockWireTree}
-use Rattle.product_blocks.specs.block_core.Order.{RightReads}
-use Rattle.product_blocks.specs.block_core.Parts.{Solve}
+use Rattle.block_core.specs.declared.name.Name.{Name}
+use Rattle.block_core.specs.declared.name.Name.TheVariants as name
+use Rattle.block_core.specs.Blocks.{BlockWireTree}
+use Rattle.block_core.specs.Order.{RightReads}
+use Rattle.block_core.specs.Parts.{Solve}
 use Rattle.cell_core.specs.declared.operator.Operator.TheVariants.{NonZero}
 use Rattle.cell_core.specs.Cells.{number, bits_from}
 use Rattle.cell_nets.specs.declared.operand.Operand.{Operand}

@@ -8,8 +8,8 @@ use Rattle.std.proofs.lemmas.List.Folds.{list_any-append}
 use Rattle.net_core.specs.Nets.{Tree}
 use Rattle.net_core.specs.Value.{Env}
 use Rattle.cell_core.specs.xdp_machine.State.{PacketIn}
-use Rattle.product_blocks.specs.block_core.declared.name.Name.{Name}
-use Rattle.product_blocks.specs.block_core.Blocks.{BlockWireTree}
+use Rattle.block_core.specs.declared.name.Name.{Name}
+use Rattle.block_core.specs.Blocks.{BlockWireTree}
 use Rattle.cell_core.specs.declared.operator.Operator.TheVariants.{Any}
 use Rattle.cell_core.specs.Cells.{bit, on, bits_from}
 use Rattle.cell_nets.specs.declared.operand.Operand.{Operand}

@@ -1,5 +1,5 @@
 pub use Rattle.cell_core.proofs as cell_core_laws
-pub use Rattle.product_blocks.proofs as product_blocks
+pub use Rattle.frame_net.proofs as frame_net_laws
 pub mod PartLemmas
 pub mod SliceLemmas
 pub mod PartLaws
@@ -18,3 +18,5 @@ pub mod SumLemmas
 pub mod PhiLemmas
 pub mod NumberLemmas
 pub mod ComputingLemmas
+pub mod OperandBlocks
+pub mod StepNets

@@ -12,7 +12,7 @@ use Rattle.cell_core.specs.xdp_machine.State.{PacketIn}
 use Rattle.cell_core.specs.declared.operator.Operator.{Operator}
 use Rattle.cell_core.specs.declared.operator.Operator.TheVariants.{And, Or, Xor, Difference, Add, Sub, Mul}
 use Rattle.cell_core.specs.Cells.{number, bits_from}
-use Rattle.product_blocks.specs.product_rules.Products.{is_product}
+use Rattle.net_core.specs.ProductRules.Products.{is_product}
 use Rattle.cell_nets.specs.Computing.{makes_product}
 use Rattle.cell_nets.specs.Narrow.{narrow_op}
 use Rattle.cell_nets.proofs.PartLemmas.{same_is}

@@ -8,10 +8,10 @@ use Rattle.net_core.specs.Nets.{Tree, TConst, TRead, TBit, TPartSelect, TUnary, 
 use Rattle.net_core.specs.Value.{Env, word, apply, number_of}
 use Rattle.net_core.specs.Width.{Scope, op_width, same_width, test_width, shift_width, part_select_width}
 use Rattle.net_core.proofs.WidthLaws.{concatenation_is}
-use Rattle.design_rules.specs.FormedSyntax.{is_prefixed, prefixes_apart, depth, tree_spelled}
-use Rattle.product_blocks.specs.product_rules.Products.{is_product}
-use Rattle.product_blocks.proofs.FreeLaws.{flat_without}
-use Rattle.product_blocks.proofs.CleanLaws.{flat_over}
+use Rattle.block_core.specs.design_rules.FormedSyntax.{is_prefixed, prefixes_apart, depth, tree_spelled}
+use Rattle.net_core.specs.ProductRules.Products.{is_product}
+use Rattle.block_core.proofs.ProductBlocks.FreeLaws.{flat_without}
+use Rattle.block_core.proofs.ProductBlocks.CleanLaws.{flat_over}
 use Rattle.cell_nets.specs.declared.operand.Operand.{Operand}
 use Rattle.cell_nets.specs.declared.operand.Operand.TheVariants.{Net, Part}
 use Rattle.cell_nets.specs.Operands.{HasWidth, IsFit, AreFit, IsDeclared, AreDeclared, HasNet, IsNetOf}

@@ -13,7 +13,7 @@ use Rattle.cell_core.specs.declared.operator.Operator.{Operator}
 use Rattle.cell_core.specs.declared.operator.Operator.TheVariants.{Equal, Less, LessOrEqual}
 use Rattle.cell_core.specs.Cells.{number, bit, bits_from}
 use Rattle.cell_nets.specs.Narrow.{test_op}
-use Rattle.product_blocks.specs.product_rules.Products.{is_product}
+use Rattle.net_core.specs.ProductRules.Products.{is_product}
 use Rattle.cell_nets.specs.Computing.{makes_product}
 use Rattle.cell_nets.proofs.PartLemmas.{test_is}
 use Rattle.cell_nets.proofs.NarrowLemmas.{from_zero}

@@ -7,15 +7,15 @@ use Rattle.std.proofs.lemmas.List.Elements.{Contains-append_left, Contains-appen
 use Rattle.net_core.specs.Nets.{Tree, TConst, TRead, TBit, TPartSelect, TMemoryWord, TUnary, TBinary, TConditional, TConcatenation, Trees, TLast, TMore, RightTree, RPlain, RQuotient, RRemainder}
 use Rattle.net_core.specs.Value.{Env, right_value, stops}
 use Rattle.net_core.specs.Width.{Scope, right_width, same}
-use Rattle.design_rules.specs.FormedSyntax.{right_spelled}
-use Rattle.product_blocks.specs.block_core.declared.name.Name.{Name}
-use Rattle.product_blocks.specs.block_core.declared.name.Name.TheVariants as name
-use Rattle.product_blocks.specs.block_core.Blocks.{BlockWireTree, Whole}
-use Rattle.product_blocks.specs.block_core.Formed.{block_wires_typed}
-use Rattle.product_blocks.specs.block_core.Order.{Reads, AllRead, RightReads, IsBefore, InOrder}
-use Rattle.product_blocks.specs.block_core.Parts.{Solve, Goes}
-use Rattle.product_blocks.proofs.FreeLaws.{flat_without}
-use Rattle.product_blocks.proofs.CleanLaws.{none_in}
+use Rattle.block_core.specs.design_rules.FormedSyntax.{right_spelled}
+use Rattle.block_core.specs.declared.name.Name.{Name}
+use Rattle.block_core.specs.declared.name.Name.TheVariants as name
+use Rattle.block_core.specs.Blocks.{BlockWireTree, Whole}
+use Rattle.block_core.specs.Formed.{block_wires_typed}
+use Rattle.block_core.specs.Order.{Reads, AllRead, RightReads, IsBefore, InOrder}
+use Rattle.block_core.specs.Parts.{Solve, Goes}
+use Rattle.block_core.proofs.ProductBlocks.FreeLaws.{flat_without}
+use Rattle.block_core.proofs.ProductBlocks.CleanLaws.{none_in}
 use Rattle.cell_nets.specs.declared.operand.Operand.{Operand}
 use Rattle.cell_nets.specs.declared.operand.Operand.TheVariants.{Known, Net, Part}
 use Rattle.cell_nets.specs.Operands.{IsWide, IsFit, AreFit, AreDeclared, IsAvailable, IsNetOf}

@@ -1,11 +1,11 @@
 -- Products among the wires of a part, as far as products make the operands.
 use Rattle.std.specs.Prelude.{◌≡◌, ℕ, suc, Bool, true, false, All, List, [], ◌∷◌, ◌++◌, length}
 use Rattle.std.specs.List.{list_all}
-use Rattle.product_blocks.specs.block_core.declared.name.Name.{Name}
-use Rattle.product_blocks.specs.block_core.declared.name.Name.TheVariants as name
-use Rattle.product_blocks.specs.block_core.Blocks.{BlockWireTree}
-use Rattle.product_blocks.specs.Apart.{AreMarked}
-use Rattle.product_blocks.specs.Alone.{wire_flat}
+use Rattle.block_core.specs.declared.name.Name.{Name}
+use Rattle.block_core.specs.declared.name.Name.TheVariants as name
+use Rattle.block_core.specs.Blocks.{BlockWireTree}
+use Rattle.block_core.specs.ProductBlocks.Apart.{AreMarked}
+use Rattle.block_core.specs.ProductBlocks.Alone.{wire_flat}
 use Rattle.cell_nets.specs.declared.operand.Operand.{Operand}
 use Rattle.cell_nets.specs.declared.operand.Operand.TheVariants.{Known, Net, Part}
 

@@ -2,9 +2,9 @@
 use Rattle.std.specs.Prelude.{◌≡◌, false, All, List}
 use Rattle.std.specs.List.{list_any}
 use Rattle.net_core.specs.Value.{Env}
-use Rattle.product_blocks.specs.block_core.declared.name.Name.{Name}
-use Rattle.product_blocks.specs.block_core.Blocks.{BlockWireTree}
-use Rattle.product_blocks.specs.block_core.Parts.{Solve}
+use Rattle.block_core.specs.declared.name.Name.{Name}
+use Rattle.block_core.specs.Blocks.{BlockWireTree}
+use Rattle.block_core.specs.Parts.{Solve}
 use Rattle.cell_core.specs.Cells.{on}
 use Rattle.cell_nets.specs.declared.operand.Operand.{Operand}
 use Rattle.cell_nets.specs.Operands.{number_in, IsOperand, AreFit, IsAvailable}

@@ -3,9 +3,9 @@ use Rattle.std.specs.Prelude.{◌≡◌, ℕ, ◌+◌, ◌-◌, ◌≤◌, ◌==
 use Rattle.net_core.specs.Nets.{Tree, TRead, TBit, TPartSelect}
 use Rattle.net_core.specs.Value.{Env, value, word}
 use Rattle.net_core.specs.Width.{Scope, width_of}
-use Rattle.design_rules.specs.FormedSyntax.{depth, is_prefixed, prefixes_apart, tree_spelled}
-use Rattle.product_blocks.specs.product_rules.Products.{has_product, is_flat}
-use Rattle.product_blocks.specs.block_core.Order.{Reads}
+use Rattle.block_core.specs.design_rules.FormedSyntax.{depth, is_prefixed, prefixes_apart, tree_spelled}
+use Rattle.net_core.specs.ProductRules.Products.{has_product, is_flat}
+use Rattle.block_core.specs.Order.{Reads}
 use Rattle.cell_core.specs.xdp_machine.State.{PacketIn}
 use Rattle.cell_core.specs.declared.operator.Operator.{Operator}
 use Rattle.cell_core.specs.Cells.{number, bits_from}

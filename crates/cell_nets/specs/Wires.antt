@@ -3,15 +3,15 @@ use Rattle.std.specs.Prelude.{◌≡◌, ℕ, suc, ◌^◌, ◌<◌, Bool, true,
 use Rattle.std.specs.List.{list_all}
 use Rattle.net_core.specs.Value.{Env}
 use Rattle.net_core.specs.Width.{Scope}
-use Rattle.design_rules.specs.FormedSyntax.{right_spelled}
-use Rattle.product_blocks.specs.block_core.declared.name.Name.{Name}
-use Rattle.product_blocks.specs.block_core.declared.name.Name.TheVariants as name
-use Rattle.product_blocks.specs.block_core.declared.block.BlockWire.{BlockWire}
-use Rattle.product_blocks.specs.block_core.Blocks.{BlockWireTree, Whole}
-use Rattle.product_blocks.specs.block_core.Formed.{block_wires_typed}
-use Rattle.product_blocks.specs.block_core.Order.{IsBefore, InOrder}
-use Rattle.product_blocks.specs.block_core.Parts.{Solve, Goes}
-use Rattle.product_blocks.specs.block_core.View.{block_wire_of}
+use Rattle.block_core.specs.design_rules.FormedSyntax.{right_spelled}
+use Rattle.block_core.specs.declared.name.Name.{Name}
+use Rattle.block_core.specs.declared.name.Name.TheVariants as name
+use Rattle.block_core.specs.declared.block.BlockWire.{BlockWire}
+use Rattle.block_core.specs.Blocks.{BlockWireTree, Whole}
+use Rattle.block_core.specs.Formed.{block_wires_typed}
+use Rattle.block_core.specs.Order.{IsBefore, InOrder}
+use Rattle.block_core.specs.Parts.{Solve, Goes}
+use Rattle.block_core.specs.View.{block_wire_of}
 use Rattle.cell_nets.specs.declared.operand.Operand.{Operand}
 use Rattle.cell_nets.specs.declared.operand.Operand.TheVariants.{Known, Net, Part}
 use Rattle.cell_nets.specs.Apart.{StayApart}

@@ -12,9 +12,9 @@ use crate::choosing::non_zero;
 use crate::operand::Operand;
 use crate::slice::slice;
 use crate::wires::{cut, push};
+use block_core::block::BlockWire;
+use block_core::name::Name;
 use net_core::tree::Right;
-use product_blocks::block_core::block::BlockWire;
-use product_blocks::block_core::name::Name;
 use std::alloc::{AllocError, Global};
 
 // The quotient of two nets, or their remainder.

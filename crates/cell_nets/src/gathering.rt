@@ -11,8 +11,8 @@ ghost use Rattle.cell_nets.specs.Wires.{wires_of, always, Gives};
 use crate::listing::any;
 use crate::operand::Operand;
 use crate::wires::add_wire;
-use product_blocks::block_core::block::BlockWire;
-use product_blocks::block_core::name::Name;
+use block_core::block::BlockWire;
+use block_core::name::Name;
 use std::alloc::{AllocError, Global};
 
 /// How many operands an expression has at most.

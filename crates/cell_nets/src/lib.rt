@@ -1,5 +1,5 @@
-//! Nets of cells: for each operator an expression over the nets of its inputs, of as many bits as its cell has, that has the
-//! operator's value in them.
+//! The operators of cells as expressions over nets, each with the operator's value.
+//! `step_nets` has single steps of nets, `operand_blocks` blocks over operands.
 #![tactic(auto)]
 
 pub mod choosing;
@@ -9,10 +9,12 @@ pub mod gathering;
 pub mod listing;
 pub mod narrow;
 pub mod operand;
+pub mod operand_blocks;
 pub mod operators;
 pub mod phi;
 pub mod shifting;
 pub mod slice;
+pub mod step_nets;
 pub mod summing;
 pub mod wires;
 

@@ -24,11 +24,11 @@ use crate::phi::phi_wires;
 use crate::shifting::{shift_left, shift_right_wires, sign_extend};
 use crate::summing::join_wires;
 use crate::wires::{add_wire, cut};
+use block_core::block::BlockWire;
+use block_core::name::Name;
 use cell_core::operator::Operator;
 use cell_core::value::bits_from;
 use net_core::tree::{Expr, Op};
-use product_blocks::block_core::block::BlockWire;
-use product_blocks::block_core::name::Name;
 use std::alloc::{AllocError, Global};
 
 /// Whether the number of an operator comes from outside: from the packet or from the maps.

@@ -11,8 +11,8 @@ use crate::choosing::select;
 use crate::listing::{last_value, phi};
 use crate::operand::Operand;
 use crate::wires::add_wire;
-use product_blocks::block_core::block::BlockWire;
-use product_blocks::block_core::name::Name;
+use block_core::block::BlockWire;
+use block_core::name::Name;
 use std::alloc::{AllocError, Global};
 
 /// Of operands in pairs, the second of the first pair whose first is not 0, or else of the last; 0 in place of one that is missing.

@@ -13,10 +13,10 @@ use crate::comparing::span;
 use crate::operand::Operand;
 use crate::slice::{beside, slice};
 use crate::wires::{add_wire, cut};
+use block_core::block::BlockWire;
+use block_core::name::Name;
 use net_core::build::{binary, conditional, constant};
 use net_core::tree::{Expr, Op};
-use product_blocks::block_core::block::BlockWire;
-use product_blocks::block_core::name::Name;
 use std::alloc::{AllocError, Global};
 
 /// An operand shifted to the left by the low six bits of another one.

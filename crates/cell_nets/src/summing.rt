@@ -11,9 +11,9 @@ use crate::narrow::narrow;
 use crate::operand::Operand;
 use crate::shifting::shift_left;
 use crate::wires::{add_wire, cut};
+use block_core::block::BlockWire;
+use block_core::name::Name;
 use net_core::tree::Op;
-use product_blocks::block_core::block::BlockWire;
-use product_blocks::block_core::name::Name;
 use std::alloc::{AllocError, Global};
 
 /// Operands above one another, the first the highest, each so many bits above the next, whatever bits they have: two wires for each of

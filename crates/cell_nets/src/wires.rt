@@ -3,8 +3,8 @@
 ghost use Rattle.std.specs.Prelude.{ℕ, Bool, List, [], ◌∷◌, ◌++◌, Some, ◌≡◌, ◌^◌, ◌<◌, ◌≤◌, All, length, IfOk, OnOk};
 ghost use Rattle.net_core.specs.Value.{Env};
 ghost use Rattle.net_core.specs.View.{tree_of, right_of};
-ghost use Rattle.product_blocks.specs.block_core.Blocks.{BlockWireTree};
-ghost use Rattle.product_blocks.specs.block_core.declared.name.Name.{Name};
+ghost use Rattle.block_core.specs.Blocks.{BlockWireTree};
+ghost use Rattle.block_core.specs.declared.name.Name.{Name};
 ghost use Rattle.cell_core.specs.Cells.{bits_from};
 ghost use Rattle.cell_nets.specs.Operands.{IsOperand, IsAvailable, IsWide, number_in};
 ghost use Rattle.cell_nets.specs.Parts.{ComputesBy};
@@ -12,10 +12,10 @@ ghost use Rattle.cell_nets.specs.Wires.{wires_of, always, GivesBy, Gives};
 
 use crate::operand::Operand;
 use crate::slice::slice;
+use block_core::block::BlockWire;
+use block_core::name::Name;
 use cell_core::value::bits_from;
 use net_core::tree::{Expr, Right};
-use product_blocks::block_core::block::BlockWire;
-use product_blocks::block_core::name::Name;
 use std::alloc::{AllocError, Global};
 
 /// Adds a wire behind others, and says what it is called. Of 2^32 wires a part has no room for more, as where memory is out.

@@ -14,7 +14,7 @@ use Rattle.net_core.specs.Width.{Scope, scope, net_width, memory_width, same, ri
 use Rattle.net_core.specs.Clock.{with_wires, stopped_at, rights, memory_word_value}
 use Rattle.net_core.specs.Suits.{IsOfWidth}
 use Rattle.net_core.proofs.WidthLaws.{same_parts}
-use Rattle.net_core.proofs.list_laws.PlaceLaws.{some_below}
+use Rattle.net_core.proofs.list_laws_laws.PlaceLaws.{some_below}
 use Rattle.clock_sim.specs.declared.builder.Operand.{Operand}
 use Rattle.clock_sim.specs.declared.operands.Operands.{Operands}
 use Rattle.clock_sim.specs.declared.operands.Widths.{Widths}

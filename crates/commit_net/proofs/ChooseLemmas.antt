@@ -3,29 +3,29 @@ use Rattle.std.specs.Prelude.{if◌then◌else◌, slice_index, min}
 use Rattle.std.proofs.Common.{◌≡◌, ◌∙◌, ℕ, zero, suc, ◌+◌, ◌-◌, ◌*◌, ◌/◌, ◌%◌, ◌^◌, ◌==◌, ◌<◌, ◌≤◌, Bool, true, false, All, List, [], ◌∷◌, ◌++◌, length, take, map, get_or, append_assoc, refl, sym, ap, arith}
 use Rattle.std.proofs.lemmas.List.{get_or-map, length-map}
 use Rattle.net_core.specs.Value.{Env}
-use Rattle.cell_core.specs.Cells.{bit, on, bits_from, phi}
-use Rattle.cell_core.specs.declared.site.Act.{Act}
-use Rattle.cell_core.specs.declared.site.Act.TheVariants as act
-use Rattle.cell_core.specs.Sites.{ProgramView, SiteView, bytes_of, operation_with}
-use Rattle.xdp_maps.specs.declared.decl.MapDecl.{MapDecl}
-use Rattle.xdp_maps.specs.Operations.{key_in}
-use Rattle.hash_net.specs.array_net.hazard_core.Tables.{decl_of}
-use Rattle.site_operands.specs.cell_nets.declared.operand.Operand.{Operand}
-use Rattle.site_operands.specs.cell_nets.declared.operand.Operand.TheVariants.{Known}
-use Rattle.hash_net.specs.array_net.hazard_core.Held.{Held, held_value, is_delete, asked_key}
-use Rattle.hash_net.specs.array_net.hazard_core.Commits.{word_at, word_count}
+use Rattle.overlay_net.specs.cell_core.Cells.{bit, on, bits_from, phi}
+use Rattle.overlay_net.specs.cell_core.declared.site.Act.{Act}
+use Rattle.overlay_net.specs.cell_core.declared.site.Act.TheVariants as act
+use Rattle.overlay_net.specs.cell_core.Sites.{ProgramView, SiteView, bytes_of, operation_with}
+use Rattle.overlay_net.specs.xdp_maps.declared.decl.MapDecl.{MapDecl}
+use Rattle.overlay_net.specs.xdp_maps.Operations.{key_in}
+use Rattle.overlay_net.specs.hazard_core.Tables.{decl_of}
+use Rattle.overlay_net.specs.cell_nets.declared.operand.Operand.{Operand}
+use Rattle.overlay_net.specs.cell_nets.declared.operand.Operand.TheVariants.{Known}
+use Rattle.overlay_net.specs.hazard_core.Held.{Held, held_value, is_delete, asked_key}
+use Rattle.overlay_net.specs.hazard_core.Commits.{word_at, word_count}
 use Rattle.hash_net.specs.array_net.Words.{word_width}
 use Rattle.hash_net.proofs.array_net_laws.WordLaws.{word_there}
-use Rattle.operand_blocks.proofs.cell_nets.NarrowLemmas.{from_zero}
-use Rattle.value_net.proofs.ByteLemmas.{word_of_words, word_left}
-use Rattle.value_net.proofs.ChangeLemmas.{size_one, wide_one, unchanged_is}
-use Rattle.value_net.specs.Words.{IsAligned}
-use Rattle.cell_core.specs.xdp_machine.Memory.{bytes_in}
-use Rattle.xdp_maps.specs.Contents.{IsBytes}
-use Rattle.cell_core.specs.Formed.{IsInside}
-use Rattle.hash_net.specs.array_net.hazard_core.Overlay.{value_as}
+use Rattle.overlay_net.proofs.cell_nets_laws.NarrowLemmas.{from_zero}
+use Rattle.overlay_net.proofs.ValueNet.ByteLemmas.{word_of_words, word_left}
+use Rattle.overlay_net.proofs.ValueNet.ChangeLemmas.{size_one, wide_one, unchanged_is}
+use Rattle.overlay_net.specs.ValueNet.Words.{IsAligned}
+use Rattle.overlay_net.specs.xdp_machine.Memory.{bytes_in}
+use Rattle.overlay_net.specs.xdp_maps.Contents.{IsBytes}
+use Rattle.overlay_net.specs.cell_core.Formed.{IsInside}
+use Rattle.overlay_net.specs.hazard_core.Overlay.{value_as}
 use Rattle.std.proofs.lemmas.Bool.{eqb-false}
-use Rattle.site_operands.specs.cell_nets.Operands.{number_in}
+use Rattle.overlay_net.specs.cell_nets.Operands.{number_in}
 use Rattle.commit_net.specs.declared.choosing.CommitNets.{CommitNets}
 use Rattle.commit_net.specs.declared.choosing.Asked.{Asked}
 use Rattle.commit_net.specs.declared.choosing.Asked.TheVariants.{Slot, Insert, Delete, Key, Change}

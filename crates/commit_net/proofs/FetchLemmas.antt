@@ -9,15 +9,15 @@ use Rattle.net_core.specs.Nets.{Tree, TRead}
 use Rattle.net_core.specs.Ports.{port_list}
 use Rattle.net_core.specs.Value.{Env, right_value}
 use Rattle.net_core.specs.Width.{Scope, right_width, same}
-use Rattle.frame_net.specs.design_rules.FormedSyntax.{right_spelled, depth}
-use Rattle.frame_net.specs.product_blocks.Alone.{wire_flat}
+use Rattle.block_core.specs.design_rules.FormedSyntax.{right_spelled, depth}
+use Rattle.block_core.specs.ProductBlocks.Alone.{wire_flat}
 use Rattle.block_core.specs.declared.name.Name.{Name}
 use Rattle.block_core.specs.declared.name.Name.TheVariants as name
 use Rattle.block_core.specs.Blocks.{BlockWireTree, Whole}
 use Rattle.block_core.specs.Parts.{Solve, Goes}
 use Rattle.block_core.specs.Order.{RightReads, IsBefore, InOrder}
 use Rattle.block_core.specs.Formed.{names_scope, name_width, block_memories, block_wire_width, block_wires_typed}
-use Rattle.hash_net.specs.array_net.hazard_core.Commits.{word_count}
+use Rattle.overlay_net.specs.hazard_core.Commits.{word_count}
 use Rattle.frame_net.specs.SourcesNets.{held}
 use Rattle.frame_net.proofs.FormLaws.{and_is, wire_is}
 use Rattle.hash_net.specs.array_net.Words.{word_width}

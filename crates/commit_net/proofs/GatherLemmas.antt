@@ -4,26 +4,26 @@ use Rattle.std.proofs.lemmas.List.Elements.{All-append}
 use Rattle.net_core.specs.Value.{Env}
 use Rattle.block_core.specs.declared.name.Name.{Name}
 use Rattle.block_core.specs.Blocks.{BlockWireTree}
-use Rattle.xdp_maps.specs.declared.decl.MapDecl.{MapDecl}
-use Rattle.xdp_maps.specs.Contents.{IsBytes}
-use Rattle.cell_core.specs.Cells.{bit}
-use Rattle.cell_core.specs.Sites.{ProgramView, SiteView, site_at}
-use Rattle.hash_net.specs.array_net.hazard_core.Tables.{TableState, decl_of}
-use Rattle.hash_net.specs.array_net.hazard_core.Held.{Held, asked, asked_key}
-use Rattle.hash_net.specs.array_net.hazard_core.Overlay.{value_as}
-use Rattle.hash_net.specs.array_net.hazard_core.Commits.{word_count, word_at}
+use Rattle.overlay_net.specs.xdp_maps.declared.decl.MapDecl.{MapDecl}
+use Rattle.overlay_net.specs.xdp_maps.Contents.{IsBytes}
+use Rattle.overlay_net.specs.cell_core.Cells.{bit}
+use Rattle.overlay_net.specs.cell_core.Sites.{ProgramView, SiteView, site_at}
+use Rattle.overlay_net.specs.hazard_core.Tables.{TableState, decl_of}
+use Rattle.overlay_net.specs.hazard_core.Held.{Held, asked, asked_key}
+use Rattle.overlay_net.specs.hazard_core.Overlay.{value_as}
+use Rattle.overlay_net.specs.hazard_core.Commits.{word_count, word_at}
 use Rattle.hash_net.specs.array_net.declared.words.WordNets.{WordNets}
 use Rattle.hash_net.specs.array_net.Words.{word_width}
-use Rattle.site_operands.specs.cell_nets.declared.operand.Operand.{Operand}
-use Rattle.site_operands.specs.cell_nets.declared.operand.Operand.TheVariants.{Net}
-use Rattle.site_operands.specs.cell_nets.Operands.{IsAvailable}
-use Rattle.site_operands.specs.cell_nets.Wires.{behind, Gives}
-use Rattle.operand_blocks.proofs.cell_nets.ApartLemmas.{stay_as, stay_next}
+use Rattle.overlay_net.specs.cell_nets.declared.operand.Operand.{Operand}
+use Rattle.overlay_net.specs.cell_nets.declared.operand.Operand.TheVariants.{Net}
+use Rattle.overlay_net.specs.cell_nets.Operands.{IsAvailable}
+use Rattle.overlay_net.specs.cell_nets.Wires.{behind, Gives}
+use Rattle.overlay_net.proofs.cell_nets_laws.ApartLemmas.{stay_as, stay_next}
 use Rattle.commit_net.specs.declared.choosing.CommitNets.{CommitNets}
 use Rattle.commit_net.specs.Choosing.{changes_word, all_read, IsChosen, Commits}
-use Rattle.operand_blocks.specs.step_nets.Standing.{Stands}
+use Rattle.overlay_net.specs.cell_nets.StepNets.Standing.{Stands}
 use Rattle.commit_net.specs.Wiring.{word_operand, outside_of, ShowsValue, key_operands, value_operands, ShowWords, ShowChanges}
-use Rattle.operand_blocks.proofs.step_nets_laws.ChainLaws.{starts, next}
+use Rattle.overlay_net.proofs.cell_nets_laws.StepNets.ChainLaws.{starts, next}
 use Rattle.commit_net.proofs.WordLemmas.{stands_as, last_first, after, before}
 
 -- ---- some behind others

@@ -2,17 +2,17 @@
 use Rattle.std.specs.Prelude.{nat_lt, ◌&&◌, if◌then◌else◌, slice_set}
 use Rattle.std.proofs.Common.{◌≡◌, ◌∙◌, ℕ, Bool, true, false, List, length, refl, sym, ap}
 use Rattle.std.proofs.lemmas.Bool.{and_parts}
-use Rattle.xdp_maps.specs.declared.decl.MapKind.{MapKind}
-use Rattle.xdp_maps.specs.declared.decl.MapKind.TheVariants.{Hash, Array}
-use Rattle.xdp_maps.specs.Operations.{Operation}
-use Rattle.cell_core.specs.declared.site.Act.{Act}
-use Rattle.cell_core.specs.declared.site.Act.TheVariants as act
-use Rattle.cell_core.specs.Sites.{ProgramView, site_at}
-use Rattle.hash_net.specs.array_net.hazard_core.declared.slot.Slot.{Slot}
-use Rattle.hash_net.specs.array_net.hazard_core.Tables.{TableState, decl_of, table_at, slot_of}
-use Rattle.hash_net.specs.array_net.hazard_core.declared.pointer.Pointer.TheVariants.{Null, InSlot, Pending}
-use Rattle.hash_net.specs.array_net.hazard_core.Held.{same_pointer, Held, held_value, answer_cell, guard_on, is_update, is_delete, asked, asked_key, writes_as, written_as}
-use Rattle.hash_net.specs.array_net.hazard_core.Commits.{makes_entry, written_slot, slot_as}
+use Rattle.overlay_net.specs.xdp_maps.declared.decl.MapKind.{MapKind}
+use Rattle.overlay_net.specs.xdp_maps.declared.decl.MapKind.TheVariants.{Hash, Array}
+use Rattle.overlay_net.specs.xdp_maps.Operations.{Operation}
+use Rattle.overlay_net.specs.cell_core.declared.site.Act.{Act}
+use Rattle.overlay_net.specs.cell_core.declared.site.Act.TheVariants as act
+use Rattle.overlay_net.specs.cell_core.Sites.{ProgramView, site_at}
+use Rattle.overlay_net.specs.hazard_core.declared.slot.Slot.{Slot}
+use Rattle.overlay_net.specs.hazard_core.Tables.{TableState, decl_of, table_at, slot_of}
+use Rattle.overlay_net.specs.hazard_core.declared.pointer.Pointer.TheVariants.{Null, InSlot, Pending}
+use Rattle.overlay_net.specs.hazard_core.Held.{same_pointer, Held, held_value, answer_cell, guard_on, is_update, is_delete, asked, asked_key, writes_as, written_as}
+use Rattle.overlay_net.specs.hazard_core.Commits.{makes_entry, written_slot, slot_as}
 use Rattle.commit_net.specs.Wholes.{table_of, slot_before}
 use Rattle.commit_net.specs.Laws.{CommitsOneSlot, CommitsOneValue}
 use Rattle.commit_net.proofs.SlotLemmas.{slot_is, table_is, others_stay, decls_stay}

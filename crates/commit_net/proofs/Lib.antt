@@ -9,3 +9,5 @@ pub mod WholeLemmas
 pub mod TakingLemmas
 pub mod LawLemmas
 pub mod StoringLemmas
+pub mod ChangeNet
+pub mod MapBlock

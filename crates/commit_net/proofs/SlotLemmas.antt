@@ -5,24 +5,24 @@ use Rattle.std.proofs.lemmas.Bool.{and_parts}
 use Rattle.std.proofs.lemmas.Nat.{div_below}
 use Rattle.std.proofs.lemmas.List.{get_or-set_same, get_or-set_other, length-take-le, length-append, length-map}
 use Rattle.byteorder.specs.Endian.{little_bytes}
-use Rattle.xdp_maps.specs.declared.decl.MapDecl.{MapDecl}
-use Rattle.xdp_maps.specs.Operations.{Operation}
-use Rattle.xdp_maps.specs.Contents.{IsBytes}
-use Rattle.cell_core.specs.declared.site.Act.{Act}
-use Rattle.cell_core.specs.declared.site.Act.TheVariants as act
-use Rattle.cell_core.specs.Formed.{HasWords}
-use Rattle.cell_core.specs.Sites.{ProgramView, SiteView, site_at, spelled, bytes_of, operation_with}
-use Rattle.hash_net.specs.array_net.hazard_core.declared.slot.Slot.{Slot}
-use Rattle.hash_net.specs.array_net.hazard_core.Tables.{TableState, decl_of, table_at, slot_at, no_slot}
-use Rattle.hash_net.specs.array_net.hazard_core.Shaped.{IsShaped}
-use Rattle.hash_net.specs.array_net.hazard_core.declared.pointer.Pointer.TheVariants.{Pending}
-use Rattle.hash_net.specs.array_net.hazard_core.Held.{Held, held_value, same_pointer, is_update, is_delete, asked, asked_key, written_pointer}
-use Rattle.hash_net.specs.array_net.hazard_core.Overlay.{value_as}
-use Rattle.hash_net.specs.array_net.hazard_core.Commits.{word_count, word_at, slot_as, makes_entry, written_slot, committed}
-use Rattle.hash_net.specs.array_net.hazard_core.Changes.{IsRightCommit}
+use Rattle.overlay_net.specs.xdp_maps.declared.decl.MapDecl.{MapDecl}
+use Rattle.overlay_net.specs.xdp_maps.Operations.{Operation}
+use Rattle.overlay_net.specs.xdp_maps.Contents.{IsBytes}
+use Rattle.overlay_net.specs.cell_core.declared.site.Act.{Act}
+use Rattle.overlay_net.specs.cell_core.declared.site.Act.TheVariants as act
+use Rattle.overlay_net.specs.cell_core.Formed.{HasWords}
+use Rattle.overlay_net.specs.cell_core.Sites.{ProgramView, SiteView, site_at, spelled, bytes_of, operation_with}
+use Rattle.overlay_net.specs.hazard_core.declared.slot.Slot.{Slot}
+use Rattle.overlay_net.specs.hazard_core.Tables.{TableState, decl_of, table_at, slot_at, no_slot}
+use Rattle.overlay_net.specs.hazard_core.Shaped.{IsShaped}
+use Rattle.overlay_net.specs.hazard_core.declared.pointer.Pointer.TheVariants.{Pending}
+use Rattle.overlay_net.specs.hazard_core.Held.{Held, held_value, same_pointer, is_update, is_delete, asked, asked_key, written_pointer}
+use Rattle.overlay_net.specs.hazard_core.Overlay.{value_as}
+use Rattle.overlay_net.specs.hazard_core.Commits.{word_count, word_at, slot_as, makes_entry, written_slot, committed}
+use Rattle.overlay_net.specs.hazard_core.Changes.{IsRightCommit}
 use Rattle.hash_net.specs.Hash.{used_after}
-use Rattle.value_net.specs.Words.{IsAligned}
-use Rattle.value_net.proofs.EntryLemmas.{value_bytes}
+use Rattle.overlay_net.specs.ValueNet.Words.{IsAligned}
+use Rattle.overlay_net.proofs.ValueNet.EntryLemmas.{value_bytes}
 use Rattle.commit_net.specs.Choosing.{changes_word}
 use Rattle.commit_net.specs.Wholes.{table_of, slot_before, slot_after, WritesSlot}
 use Rattle.commit_net.proofs.ChooseLemmas.{asked_key_is, word_stays}

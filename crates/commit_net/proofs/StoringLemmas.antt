@@ -10,18 +10,18 @@ use Rattle.net_core.specs.Value.{word, Env}
 use Rattle.net_core.specs.Clock.{done}
 use Rattle.block_core.specs.declared.name.Name.{Name}
 use Rattle.block_core.specs.declared.name.Name.TheVariants as name
-use Rattle.xdp_maps.specs.declared.decl.MapDecl.{MapDecl}
-use Rattle.xdp_maps.specs.declared.decl.MapKind.TheVariants.{Array}
-use Rattle.xdp_maps.specs.Contents.{IsBytes}
-use Rattle.cell_core.specs.Sites.{site_at}
-use Rattle.hash_net.specs.array_net.hazard_core.Tables.{decl_of, slot_at}
-use Rattle.hash_net.specs.array_net.hazard_core.Commits.{word_count, word_at, written_slot}
+use Rattle.overlay_net.specs.xdp_maps.declared.decl.MapDecl.{MapDecl}
+use Rattle.overlay_net.specs.xdp_maps.declared.decl.MapKind.TheVariants.{Array}
+use Rattle.overlay_net.specs.xdp_maps.Contents.{IsBytes}
+use Rattle.overlay_net.specs.cell_core.Sites.{site_at}
+use Rattle.overlay_net.specs.hazard_core.Tables.{decl_of, slot_at}
+use Rattle.overlay_net.specs.hazard_core.Commits.{word_count, word_at, written_slot}
 use Rattle.hash_net.specs.array_net.Words.{word_width}
 use Rattle.hash_net.specs.array_net.Array.{StoresArray}
 use Rattle.hash_net.proofs.array_net_laws.WordLaws.{width_most}
 use Rattle.hash_net.specs.HashNets.{value_first}
 use Rattle.hash_net.specs.Hash.{StoresHash}
-use Rattle.site_operands.specs.cell_nets.Operands.{HasWidth, IsFit, AreFit}
+use Rattle.overlay_net.specs.cell_nets.Operands.{HasWidth, IsFit, AreFit}
 use Rattle.commit_net.specs.declared.choosing.CommitNets.{CommitNets}
 use Rattle.commit_net.specs.Choosing.{all_read}
 use Rattle.commit_net.specs.Fetching.{fetched_words}

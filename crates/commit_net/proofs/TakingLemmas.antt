@@ -4,16 +4,16 @@ use Rattle.std.proofs.Common.{◌≡◌, ◌∙◌, ℕ, ◌==◌, Bool, true, f
 use Rattle.std.proofs.lemmas.Bool.{eqb-true, eqb-false}
 use Rattle.std.proofs.lemmas.List.{get_or-set_same, get_or-set_other}
 use Rattle.net_core.specs.Value.{Env}
-use Rattle.cell_core.specs.Cells.{on}
-use Rattle.cell_core.specs.Sites.{ProgramView, site_at}
-use Rattle.hash_net.specs.array_net.hazard_core.Tables.{TableState}
-use Rattle.hash_net.specs.array_net.hazard_core.Held.{Held, is_update}
-use Rattle.hash_net.specs.array_net.hazard_core.Commits.{written_slot, taken_after}
-use Rattle.site_operands.specs.cell_nets.declared.operand.Operand.{Operand}
-use Rattle.site_operands.specs.cell_nets.Operands.{number_in}
+use Rattle.overlay_net.specs.cell_core.Cells.{on}
+use Rattle.overlay_net.specs.cell_core.Sites.{ProgramView, site_at}
+use Rattle.overlay_net.specs.hazard_core.Tables.{TableState}
+use Rattle.overlay_net.specs.hazard_core.Held.{Held, is_update}
+use Rattle.overlay_net.specs.hazard_core.Commits.{written_slot, taken_after}
+use Rattle.overlay_net.specs.cell_nets.declared.operand.Operand.{Operand}
+use Rattle.overlay_net.specs.cell_nets.Operands.{number_in}
 use Rattle.commit_net.specs.declared.choosing.CommitNets.{CommitNets}
 use Rattle.commit_net.specs.Taking.{ShowsTaking}
-use Rattle.operand_blocks.proofs.step_nets_laws.StepLaws.{on_bit}
+use Rattle.overlay_net.proofs.cell_nets_laws.StepNets.StepLaws.{on_bit}
 
 pub taken_is :
     {N : Type 0} (v : Env N) (p : ProgramView) (t : TableState) (taken : List ℕ) (h : Held) (j i bits : ℕ) (n : CommitNets N) (held : Operand N) → ShowsTaking v p t taken h j i bits n held

@@ -3,22 +3,22 @@ use Rattle.std.specs.Prelude.{if◌then◌else◌, fold, slice_index}
 use Rattle.std.proofs.Common.{◌≡◌, ◌≢◌, ◌∙◌, ℕ, zero, suc, ◌+◌, ◌*◌, ◌/◌, ◌==◌, ◌^◌, ◌<◌, ◌≤◌, Bool, true, false, All, List, [], ◌∷◌, length, get_or, refl, sym, ap, subst, arith}
 use Rattle.std.proofs.lemmas.Bool.{eqb-true, eqb-false}
 use Rattle.net_core.specs.Value.{Env}
-use Rattle.cell_core.specs.xdp_machine.Arithmetic.{low}
-use Rattle.cell_core.specs.Cells.{on, bits_from}
-use Rattle.hash_net.specs.array_net.hazard_core.declared.pointer.Pointer.{Pointer}
-use Rattle.hash_net.specs.array_net.hazard_core.declared.pointer.Pointer.TheVariants.{Null, InSlot, Pending}
-use Rattle.hash_net.specs.array_net.hazard_core.declared.slot.Slot.{Slot}
-use Rattle.cell_core.specs.declared.site.Act.{Act}
-use Rattle.cell_core.specs.declared.site.Act.TheVariants as act
-use Rattle.hash_net.specs.array_net.hazard_core.Held.{same_pointer, is_update}
-use Rattle.hash_net.specs.array_net.hazard_core.Tables.{free_slot}
-use Rattle.hash_net.specs.array_net.hazard_core.Commits.{slot_under}
-use Rattle.site_operands.specs.cell_nets.declared.operand.Operand.{Operand}
-use Rattle.site_operands.specs.cell_nets.Operands.{number_in}
-use Rattle.site_operands.specs.Pointers.{pointer_number}
+use Rattle.overlay_net.specs.xdp_machine.Arithmetic.{low}
+use Rattle.overlay_net.specs.cell_core.Cells.{on, bits_from}
+use Rattle.overlay_net.specs.hazard_core.declared.pointer.Pointer.{Pointer}
+use Rattle.overlay_net.specs.hazard_core.declared.pointer.Pointer.TheVariants.{Null, InSlot, Pending}
+use Rattle.overlay_net.specs.hazard_core.declared.slot.Slot.{Slot}
+use Rattle.overlay_net.specs.cell_core.declared.site.Act.{Act}
+use Rattle.overlay_net.specs.cell_core.declared.site.Act.TheVariants as act
+use Rattle.overlay_net.specs.hazard_core.Held.{same_pointer, is_update}
+use Rattle.overlay_net.specs.hazard_core.Tables.{free_slot}
+use Rattle.overlay_net.specs.hazard_core.Commits.{slot_under}
+use Rattle.overlay_net.specs.cell_nets.declared.operand.Operand.{Operand}
+use Rattle.overlay_net.specs.cell_nets.Operands.{number_in}
+use Rattle.overlay_net.specs.SiteOperands.Pointers.{pointer_number}
 use Rattle.commit_net.specs.declared.target.TakenSlot.{TakenSlot}
 use Rattle.commit_net.specs.Targets.{slots_of, IsAmong}
-use Rattle.operand_blocks.proofs.step_nets_laws.StepLaws.{small_bits}
+use Rattle.overlay_net.proofs.cell_nets_laws.StepNets.StepLaws.{small_bits}
 
 -- ---- numbers of pointers
 pub same_test : (a b c d : ℕ) → (a ≡ b → c ≡ d) → (c ≡ d → a ≡ b) → (a == b) ≡ (c == d)

@@ -7,30 +7,30 @@ use Rattle.block_core.specs.declared.name.Name.{Name}
 use Rattle.block_core.specs.Blocks.{BlockWireTree}
 use Rattle.block_core.specs.Formed.{names_scope}
 use Rattle.block_core.specs.Formed.{IsThere}
-use Rattle.xdp_maps.specs.declared.decl.MapDecl.{MapDecl}
-use Rattle.xdp_maps.specs.Contents.{IsBytes}
-use Rattle.cell_core.specs.Cells.{bit}
-use Rattle.cell_core.specs.Sites.{ProgramView, site_at}
-use Rattle.hash_net.specs.array_net.hazard_core.Tables.{TableState, decl_of}
-use Rattle.hash_net.specs.array_net.hazard_core.Held.{Held, is_delete, asked, asked_key}
-use Rattle.hash_net.specs.array_net.hazard_core.Overlay.{value_as}
-use Rattle.hash_net.specs.array_net.hazard_core.Commits.{word_count, makes_entry, written_slot}
+use Rattle.overlay_net.specs.xdp_maps.declared.decl.MapDecl.{MapDecl}
+use Rattle.overlay_net.specs.xdp_maps.Contents.{IsBytes}
+use Rattle.overlay_net.specs.cell_core.Cells.{bit}
+use Rattle.overlay_net.specs.cell_core.Sites.{ProgramView, site_at}
+use Rattle.overlay_net.specs.hazard_core.Tables.{TableState, decl_of}
+use Rattle.overlay_net.specs.hazard_core.Held.{Held, is_delete, asked, asked_key}
+use Rattle.overlay_net.specs.hazard_core.Overlay.{value_as}
+use Rattle.overlay_net.specs.hazard_core.Commits.{word_count, makes_entry, written_slot}
 use Rattle.hash_net.specs.array_net.declared.words.WordNets.{WordNets}
 use Rattle.hash_net.specs.declared.block.HashNets.{HashNets}
-use Rattle.site_operands.specs.cell_nets.declared.operand.Operand.{Operand}
-use Rattle.site_operands.specs.cell_nets.declared.operand.Operand.TheVariants.{Net}
-use Rattle.site_operands.specs.cell_nets.Operands.{IsAvailable}
-use Rattle.site_operands.specs.cell_nets.Wires.{behind, Gives}
-use Rattle.value_net.specs.Words.{IsAligned}
+use Rattle.overlay_net.specs.cell_nets.declared.operand.Operand.{Operand}
+use Rattle.overlay_net.specs.cell_nets.declared.operand.Operand.TheVariants.{Net}
+use Rattle.overlay_net.specs.cell_nets.Operands.{IsAvailable}
+use Rattle.overlay_net.specs.cell_nets.Wires.{behind, Gives}
+use Rattle.overlay_net.specs.ValueNet.Words.{IsAligned}
 use Rattle.commit_net.specs.declared.choosing.CommitNets.{CommitNets}
 use Rattle.commit_net.specs.Choosing.{changes_word, all_read, IsChosen, Commits}
 use Rattle.commit_net.specs.Words.{IsFitting}
-use Rattle.operand_blocks.specs.step_nets.Standing.{Stands}
+use Rattle.overlay_net.specs.cell_nets.StepNets.Standing.{Stands}
 use Rattle.commit_net.specs.Wiring.{word_operand, outside_of, ShowsValue, key_operands, value_operands, ShowWords, ShowChanges}
 use Rattle.commit_net.specs.Wholes.{slot_before, slot_after, IsSlotPart, IsHashCommit, IsArrayCommit}
-use Rattle.operand_blocks.proofs.step_nets_laws.ChainLaws.{starts, next}
-use Rattle.operand_blocks.specs.Wiring.{wires_block}
-use Rattle.operand_blocks.proofs.WiringLaws.{is_wiring, all_there, all_known, declared_there, word_is, before_later, there_in}
+use Rattle.overlay_net.proofs.cell_nets_laws.StepNets.ChainLaws.{starts, next}
+use Rattle.overlay_net.specs.cell_nets.OperandBlocks.Wiring.{wires_block}
+use Rattle.overlay_net.proofs.cell_nets_laws.OperandBlocks.WiringLaws.{is_wiring, all_there, all_known, declared_there, word_is, before_later, there_in}
 use Rattle.commit_net.proofs.WordLemmas.{nothing_held, stands_as, after, before}
 use Rattle.commit_net.proofs.WiringLemmas.{keys_wide, values_wide, keys_there, values_there, keys_ask, values_ask}
 use Rattle.commit_net.proofs.SlotLemmas.{used_new, key_new, key_old, value_new, within, key_words, new_shaped, word_left}

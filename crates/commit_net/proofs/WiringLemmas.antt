@@ -3,13 +3,13 @@ use Rattle.std.specs.Prelude.{Contains}
 use Rattle.std.proofs.Common.{◌≡◌, ◌∙◌, ℕ, suc, Bool, true, false, All, List, [], ◌∷◌, map as map_list, sym, ap, arith}
 use Rattle.net_core.specs.Value.{word, bit, Env}
 use Rattle.net_core.specs.Width.{Scope}
-use Rattle.hash_net.specs.array_net.hazard_core.Commits.{word_at}
+use Rattle.overlay_net.specs.hazard_core.Commits.{word_at}
 use Rattle.hash_net.specs.array_net.declared.words.WordNets.{WordNets}
 use Rattle.hash_net.specs.array_net.Words.{word_width, AsksWords, HaveWidths, AreThere}
 use Rattle.hash_net.specs.HashNets.{key_nets}
-use Rattle.site_operands.specs.cell_nets.declared.operand.Operand.{Operand}
-use Rattle.site_operands.specs.cell_nets.declared.operand.Operand.TheVariants.{Net}
-use Rattle.site_operands.specs.cell_nets.Operands.{AreDeclared, IsAvailable}
+use Rattle.overlay_net.specs.cell_nets.declared.operand.Operand.{Operand}
+use Rattle.overlay_net.specs.cell_nets.declared.operand.Operand.TheVariants.{Net}
+use Rattle.overlay_net.specs.cell_nets.Operands.{AreDeclared, IsAvailable}
 use Rattle.commit_net.specs.Wiring.{key_operands, value_operands, ShowWords, ShowChanges}
 
 -- ---- the nets of words

@@ -6,30 +6,30 @@ use Rattle.std.proofs.lemmas.List.{get_or_push, get_or_append_left, get_or_defau
 use Rattle.net_core.specs.Value.{Env}
 use Rattle.block_core.specs.declared.name.Name.{Name}
 use Rattle.block_core.specs.Blocks.{BlockWireTree}
-use Rattle.xdp_maps.specs.declared.decl.MapDecl.{MapDecl}
-use Rattle.xdp_maps.specs.Contents.{IsBytes}
-use Rattle.cell_core.specs.Formed.{HasWords, IsInside}
-use Rattle.cell_core.specs.Sites.{ProgramView, SiteView, site_at, no_site, operation_with}
-use Rattle.hash_net.specs.array_net.hazard_core.Held.{Held, held_value, asked}
-use Rattle.hash_net.specs.array_net.hazard_core.Overlay.{value_as}
-use Rattle.hash_net.specs.array_net.hazard_core.Tables.{TableState, decl_of}
-use Rattle.hash_net.specs.array_net.hazard_core.Commits.{word_at}
+use Rattle.overlay_net.specs.xdp_maps.declared.decl.MapDecl.{MapDecl}
+use Rattle.overlay_net.specs.xdp_maps.Contents.{IsBytes}
+use Rattle.overlay_net.specs.cell_core.Formed.{HasWords, IsInside}
+use Rattle.overlay_net.specs.cell_core.Sites.{ProgramView, SiteView, site_at, no_site, operation_with}
+use Rattle.overlay_net.specs.hazard_core.Held.{Held, held_value, asked}
+use Rattle.overlay_net.specs.hazard_core.Overlay.{value_as}
+use Rattle.overlay_net.specs.hazard_core.Tables.{TableState, decl_of}
+use Rattle.overlay_net.specs.hazard_core.Commits.{word_at}
 use Rattle.hash_net.specs.array_net.Words.{word_width}
-use Rattle.site_operands.specs.cell_nets.declared.operand.Operand.{Operand}
-use Rattle.site_operands.specs.cell_nets.Operands.{number_in, IsAvailable}
-use Rattle.site_operands.specs.cell_nets.Wires.{Gives}
-use Rattle.operand_blocks.proofs.cell_nets.ApartLemmas.{stay_none, stay_next}
-use Rattle.site_operands.specs.Sites.{operands_of, ShowsAsked}
-use Rattle.value_net.proofs.EntryLemmas.{value_bytes}
-use Rattle.value_net.proofs.ByteLemmas.{word_is, small_in}
+use Rattle.overlay_net.specs.cell_nets.declared.operand.Operand.{Operand}
+use Rattle.overlay_net.specs.cell_nets.Operands.{number_in, IsAvailable}
+use Rattle.overlay_net.specs.cell_nets.Wires.{Gives}
+use Rattle.overlay_net.proofs.cell_nets_laws.ApartLemmas.{stay_none, stay_next}
+use Rattle.overlay_net.specs.SiteOperands.Sites.{operands_of, ShowsAsked}
+use Rattle.overlay_net.proofs.ValueNet.EntryLemmas.{value_bytes}
+use Rattle.overlay_net.proofs.ValueNet.ByteLemmas.{word_is, small_in}
 use Rattle.byteorder.proofs.Bytes.{pow256}
 use Rattle.byteorder.specs.Numbers.{little_from-lt}
 use Rattle.byteorder.specs.Endian.{little_from}
 use Rattle.commit_net.specs.declared.choosing.CommitNets.{CommitNets}
 use Rattle.commit_net.specs.Choosing.{read_of, all_read, chosen_of, IsChosen, Commits}
 use Rattle.commit_net.specs.Words.{IsFitting}
-use Rattle.operand_blocks.specs.step_nets.Standing.{Stands}
-use Rattle.operand_blocks.proofs.step_nets_laws.ChainLaws.{starts, next}
+use Rattle.overlay_net.specs.cell_nets.StepNets.Standing.{Stands}
+use Rattle.overlay_net.proofs.cell_nets_laws.StepNets.ChainLaws.{starts, next}
 use Rattle.commit_net.proofs.ChooseLemmas.{read_each, each_chosen}
 
 module _ {P : Type 0} {p : P} where

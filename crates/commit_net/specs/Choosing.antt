@@ -2,17 +2,17 @@
 use Rattle.std.specs.Prelude.{◌≡◌, ℕ, ◌/◌, ◌<◌, ◌==◌, Bool, true, false, if◌then◌else◌, All, List, [], ◌∷◌, ◌++◌, length, map as map_list}
 use Rattle.std.proofs.Common.{get_or}
 use Rattle.net_core.specs.Value.{Env}
-use Rattle.cell_core.specs.declared.site.Act.{Act}
-use Rattle.cell_core.specs.declared.site.Act.TheVariants as act
-use Rattle.cell_core.specs.Cells.{bit, phi}
-use Rattle.cell_core.specs.Sites.{ProgramView, site_at}
-use Rattle.hash_net.specs.array_net.hazard_core.Tables.{TableState}
-use Rattle.hash_net.specs.array_net.hazard_core.Held.{Held, is_delete}
-use Rattle.hash_net.specs.array_net.hazard_core.Commits.{written_slot, makes_entry}
-use Rattle.site_operands.specs.cell_nets.declared.operand.Operand.{Operand}
-use Rattle.site_operands.specs.cell_nets.declared.operand.Operand.TheVariants.{Known}
-use Rattle.site_operands.specs.cell_nets.Operands.{number_in, IsOperand}
-use Rattle.site_operands.specs.Sites.{operands_of, ShowsAsked}
+use Rattle.overlay_net.specs.cell_core.declared.site.Act.{Act}
+use Rattle.overlay_net.specs.cell_core.declared.site.Act.TheVariants as act
+use Rattle.overlay_net.specs.cell_core.Cells.{bit, phi}
+use Rattle.overlay_net.specs.cell_core.Sites.{ProgramView, site_at}
+use Rattle.overlay_net.specs.hazard_core.Tables.{TableState}
+use Rattle.overlay_net.specs.hazard_core.Held.{Held, is_delete}
+use Rattle.overlay_net.specs.hazard_core.Commits.{written_slot, makes_entry}
+use Rattle.overlay_net.specs.cell_nets.declared.operand.Operand.{Operand}
+use Rattle.overlay_net.specs.cell_nets.declared.operand.Operand.TheVariants.{Known}
+use Rattle.overlay_net.specs.cell_nets.Operands.{number_in, IsOperand}
+use Rattle.overlay_net.specs.SiteOperands.Sites.{operands_of, ShowsAsked}
 use Rattle.commit_net.specs.declared.choosing.CommitNets.{CommitNets}
 use Rattle.commit_net.specs.declared.choosing.Asked.{Asked}
 use Rattle.commit_net.specs.declared.choosing.Asked.TheVariants.{Slot, Insert, Delete, Key, Change}

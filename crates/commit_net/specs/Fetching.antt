@@ -6,15 +6,15 @@ use Rattle.net_core.specs.Nets.{TRead, SBlock, SEnd}
 use Rattle.net_core.specs.Ports.{port_list}
 use Rattle.net_core.specs.Value.{word, Env}
 use Rattle.net_core.specs.Clock.{Stored, done}
-use Rattle.frame_net.specs.design_rules.FormedSyntax.{right_spelled, statement_spelled}
-use Rattle.frame_net.specs.product_blocks.Alone.{IsFree}
+use Rattle.block_core.specs.design_rules.FormedSyntax.{right_spelled, statement_spelled}
+use Rattle.block_core.specs.ProductBlocks.Alone.{IsFree}
 use Rattle.block_core.specs.declared.name.Name.{Name}
 use Rattle.block_core.specs.declared.name.Name.TheVariants as name
 use Rattle.block_core.specs.Blocks.{BlockTree, BlockWireTree, Whole, Among}
 use Rattle.block_core.specs.Parts.{Solve, Goes, Within}
 use Rattle.block_core.specs.Order.{IsBefore, InOrder}
 use Rattle.block_core.specs.Formed.{name_width, block_memories, block_wires, IsTypedBlock, StatementReads, IsThere}
-use Rattle.hash_net.specs.array_net.hazard_core.Commits.{word_count, word_at as byte_word}
+use Rattle.overlay_net.specs.hazard_core.Commits.{word_count, word_at as byte_word}
 use Rattle.frame_net.specs.GatherNets.{wire}
 use Rattle.hash_net.specs.array_net.Words.{word_width, HoldsWords}
 use Rattle.hash_net.specs.array_net.WordTrees.{word_shown}

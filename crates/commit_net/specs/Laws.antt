@@ -5,13 +5,13 @@ use Rattle.net_core.specs.Clock.{Stored, done}
 use Rattle.block_core.specs.declared.name.Name.{Name}
 use Rattle.block_core.specs.Blocks.{BlockTree}
 use Rattle.block_core.specs.Parts.{Solve}
-use Rattle.xdp_maps.specs.declared.decl.MapDecl.{MapDecl}
-use Rattle.xdp_maps.specs.declared.decl.MapKind.TheVariants.{Array}
-use Rattle.cell_core.specs.Sites.{ProgramView, site_at}
-use Rattle.hash_net.specs.array_net.hazard_core.Tables.{TableState, decl_of, table_at}
-use Rattle.hash_net.specs.array_net.hazard_core.Held.{Held, writes}
-use Rattle.hash_net.specs.array_net.hazard_core.Commits.{word_count, written_slot, committed}
-use Rattle.hash_net.specs.array_net.hazard_core.Changes.{IsRightCommit}
+use Rattle.overlay_net.specs.xdp_maps.declared.decl.MapDecl.{MapDecl}
+use Rattle.overlay_net.specs.xdp_maps.declared.decl.MapKind.TheVariants.{Array}
+use Rattle.overlay_net.specs.cell_core.Sites.{ProgramView, site_at}
+use Rattle.overlay_net.specs.hazard_core.Tables.{TableState, decl_of, table_at}
+use Rattle.overlay_net.specs.hazard_core.Held.{Held, writes}
+use Rattle.overlay_net.specs.hazard_core.Commits.{word_count, written_slot, committed}
+use Rattle.overlay_net.specs.hazard_core.Changes.{IsRightCommit}
 use Rattle.hash_net.specs.array_net.declared.words.WordNets.{WordNets}
 use Rattle.hash_net.specs.array_net.declared.block.MapNets.{MapNets}
 use Rattle.hash_net.specs.array_net.Hosts.{SeesMemories}
@@ -19,7 +19,7 @@ use Rattle.hash_net.specs.array_net.Array.{with_value, StoresArray, IsArray}
 use Rattle.hash_net.specs.declared.block.HashNets.{HashNets}
 use Rattle.hash_net.specs.HashNets.{value_first}
 use Rattle.hash_net.specs.Hash.{StoresHash, SeesOwn, IsHash}
-use Rattle.site_operands.specs.cell_nets.Operands.{AreFit}
+use Rattle.overlay_net.specs.cell_nets.Operands.{AreFit}
 use Rattle.commit_net.specs.declared.choosing.CommitNets.{CommitNets}
 use Rattle.commit_net.specs.Choosing.{all_read, Commits}
 use Rattle.commit_net.specs.Fetching.{fetched_words, IsFetch}

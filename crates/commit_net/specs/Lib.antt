@@ -1,7 +1,5 @@
-pub use Rattle.site_operands.specs.cell_nets as cell_nets
-pub use Rattle.hash_net.specs as hash_net
-pub use Rattle.operand_blocks.specs as operand_blocks
-pub use Rattle.value_net.specs as value_net
+pub use Rattle.frame_net.specs as frame_net
+pub use Rattle.read_net.specs as read_net
 pub mod Targets
 pub mod Fetching
 pub mod Choosing
@@ -10,3 +8,5 @@ pub mod Wiring
 pub mod Wholes
 pub mod Laws
 pub mod Taking
+pub mod ChangeNet
+pub mod MapBlock

@@ -1,13 +1,13 @@
 -- What stands for the slot that an update took, while an operation commits.
 use Rattle.std.specs.Prelude.{◌≡◌, ℕ, ◌^◌, ◌<◌, ◌==◌, true, List, length, slice_index}
 use Rattle.net_core.specs.Value.{Env}
-use Rattle.cell_core.specs.Cells.{bit}
-use Rattle.cell_core.specs.Sites.{ProgramView, site_at}
-use Rattle.hash_net.specs.array_net.hazard_core.Tables.{TableState}
-use Rattle.hash_net.specs.array_net.hazard_core.Held.{Held, is_update}
-use Rattle.hash_net.specs.array_net.hazard_core.Commits.{written_slot, taken_after}
-use Rattle.site_operands.specs.cell_nets.declared.operand.Operand.{Operand}
-use Rattle.site_operands.specs.cell_nets.Operands.{number_in}
+use Rattle.overlay_net.specs.cell_core.Cells.{bit}
+use Rattle.overlay_net.specs.cell_core.Sites.{ProgramView, site_at}
+use Rattle.overlay_net.specs.hazard_core.Tables.{TableState}
+use Rattle.overlay_net.specs.hazard_core.Held.{Held, is_update}
+use Rattle.overlay_net.specs.hazard_core.Commits.{written_slot, taken_after}
+use Rattle.overlay_net.specs.cell_nets.declared.operand.Operand.{Operand}
+use Rattle.overlay_net.specs.cell_nets.Operands.{number_in}
 use Rattle.commit_net.specs.declared.choosing.CommitNets.{CommitNets}
 
 -- The operation of site j commits. Operands say whether that is the update of site i, which slot this writes if it is, and which slot it took before.

@@ -2,14 +2,14 @@
 use Rattle.std.specs.Prelude.{◌≡◌, ◌≢◌, ℕ, ◌^◌, ◌<◌, ◌≤◌, All, List, length, slice_index, map as map_list}
 use Rattle.std.proofs.Common.{get_or}
 use Rattle.net_core.specs.Value.{Env}
-use Rattle.cell_core.specs.Sites.{ProgramView, site_at}
-use Rattle.hash_net.specs.array_net.hazard_core.Tables.{TableState, table_at, free_slot}
-use Rattle.hash_net.specs.array_net.hazard_core.declared.pointer.Pointer.TheVariants.{Pending}
-use Rattle.hash_net.specs.array_net.hazard_core.Held.{Held, written_pointer}
-use Rattle.hash_net.specs.array_net.hazard_core.Commits.{written_slot}
-use Rattle.site_operands.specs.cell_nets.declared.operand.Operand.{Operand}
-use Rattle.site_operands.specs.cell_nets.Operands.{number_in}
-use Rattle.site_operands.specs.Pointers.{pointer_number}
+use Rattle.overlay_net.specs.cell_core.Sites.{ProgramView, site_at}
+use Rattle.overlay_net.specs.hazard_core.Tables.{TableState, table_at, free_slot}
+use Rattle.overlay_net.specs.hazard_core.declared.pointer.Pointer.TheVariants.{Pending}
+use Rattle.overlay_net.specs.hazard_core.Held.{Held, written_pointer}
+use Rattle.overlay_net.specs.hazard_core.Commits.{written_slot}
+use Rattle.overlay_net.specs.cell_nets.declared.operand.Operand.{Operand}
+use Rattle.overlay_net.specs.cell_nets.Operands.{number_in}
+use Rattle.overlay_net.specs.SiteOperands.Pointers.{pointer_number}
 use Rattle.commit_net.specs.declared.target.TakenSlot.{TakenSlot}
 
 -- the operands for the slots that updates took

@@ -7,16 +7,16 @@ use Rattle.block_core.specs.Blocks.{BlockTree, Whole, Among}
 use Rattle.block_core.specs.Parts.{Solve}
 use Rattle.block_core.specs.Order.{IsBefore}
 use Rattle.block_core.specs.Formed.{names_scope, name_width, IsThere}
-use Rattle.xdp_maps.specs.declared.decl.MapDecl.{MapDecl}
-use Rattle.xdp_maps.specs.Contents.{IsBytes}
-use Rattle.cell_core.specs.Sites.{ProgramView, site_at}
-use Rattle.cell_core.specs.Formed.{FitsMap}
-use Rattle.hash_net.specs.array_net.hazard_core.declared.slot.Slot.{Slot}
-use Rattle.hash_net.specs.array_net.hazard_core.Tables.{TableState, decl_of, table_at, slot_at}
-use Rattle.hash_net.specs.array_net.hazard_core.Shaped.{AreShaped}
-use Rattle.hash_net.specs.array_net.hazard_core.Held.{Held}
-use Rattle.hash_net.specs.array_net.hazard_core.Commits.{word_count, written_slot, committed}
-use Rattle.hash_net.specs.array_net.hazard_core.Changes.{IsRightCommit}
+use Rattle.overlay_net.specs.xdp_maps.declared.decl.MapDecl.{MapDecl}
+use Rattle.overlay_net.specs.xdp_maps.Contents.{IsBytes}
+use Rattle.overlay_net.specs.cell_core.Sites.{ProgramView, site_at}
+use Rattle.overlay_net.specs.cell_core.Formed.{FitsMap}
+use Rattle.overlay_net.specs.hazard_core.declared.slot.Slot.{Slot}
+use Rattle.overlay_net.specs.hazard_core.Tables.{TableState, decl_of, table_at, slot_at}
+use Rattle.overlay_net.specs.hazard_core.Shaped.{AreShaped}
+use Rattle.overlay_net.specs.hazard_core.Held.{Held}
+use Rattle.overlay_net.specs.hazard_core.Commits.{word_count, written_slot, committed}
+use Rattle.overlay_net.specs.hazard_core.Changes.{IsRightCommit}
 use Rattle.hash_net.specs.array_net.declared.words.WordNets.{WordNets}
 use Rattle.hash_net.specs.array_net.declared.block.MapNets.{MapNets}
 use Rattle.hash_net.specs.array_net.Words.{HaveWidths, AreThere}
@@ -24,8 +24,8 @@ use Rattle.hash_net.specs.array_net.Array.{AsksArray}
 use Rattle.hash_net.specs.declared.block.HashNets.{HashNets}
 use Rattle.hash_net.specs.HashNets.{key_nets}
 use Rattle.hash_net.specs.Hash.{HaveHashWidths, AreNets, AsksHash}
-use Rattle.site_operands.specs.cell_nets.Operands.{AreFit, AreDeclared, IsNetOf}
-use Rattle.operand_blocks.specs.Wiring.{IsWiring}
+use Rattle.overlay_net.specs.cell_nets.Operands.{AreFit, AreDeclared, IsNetOf}
+use Rattle.overlay_net.specs.cell_nets.OperandBlocks.Wiring.{IsWiring}
 use Rattle.commit_net.specs.declared.choosing.CommitNets.{CommitNets}
 use Rattle.commit_net.specs.Choosing.{all_read, Commits}
 use Rattle.commit_net.specs.Wiring.{outside_of, ShowsValue}

@@ -1,8 +1,8 @@
 -- Operations that fit the values of a map.
 use Rattle.std.specs.Prelude.{length}
-use Rattle.xdp_maps.specs.declared.decl.MapDecl.{MapDecl}
-use Rattle.cell_core.specs.Formed.{HasWords, IsInside}
-use Rattle.value_net.specs.Words.{IsAligned}
+use Rattle.overlay_net.specs.xdp_maps.declared.decl.MapDecl.{MapDecl}
+use Rattle.overlay_net.specs.cell_core.Formed.{HasWords, IsInside}
+use Rattle.overlay_net.specs.ValueNet.Words.{IsAligned}
 use Rattle.commit_net.specs.declared.choosing.CommitNets.{CommitNets}
 
 -- an access is aligned and inside a value, and there are words enough

@@ -1,31 +1,31 @@
 //! Nets of what is asked of the block of a map: what the operation asks that commits.
 
 ghost use Rattle.std.specs.Prelude.{ℕ, List, [], ◌∷◌, ◌++◌, ◌≡◌, ◌<◌, ◌≤◌, ◌^◌, false, All, length, get_or, map as map_list, IfOk, OnOk};
-ghost use Rattle.xdp_maps.specs.declared.decl.MapDecl.{MapDecl};
-ghost use Rattle.xdp_maps.specs.Contents.{IsBytes};
-ghost use Rattle.cell_core.specs.Formed.{IsInside};
-ghost use Rattle.value_net.specs.Words.{IsAligned};
-ghost use Rattle.hash_net.specs.array_net.hazard_core.Overlay.{value_as};
-ghost use Rattle.cell_core.specs.Cells.{bit, bits_from};
-ghost use Rattle.cell_core.specs.Sites.{ProgramView, site_at};
-ghost use Rattle.hash_net.specs.array_net.hazard_core.Held.{Held, is_delete, asked, asked_key};
-ghost use Rattle.hash_net.specs.array_net.hazard_core.Tables.{TableState, decl_of};
-ghost use Rattle.hash_net.specs.array_net.hazard_core.Commits.{word_at, word_count, written_slot, makes_entry};
+ghost use Rattle.overlay_net.specs.xdp_maps.declared.decl.MapDecl.{MapDecl};
+ghost use Rattle.overlay_net.specs.xdp_maps.Contents.{IsBytes};
+ghost use Rattle.overlay_net.specs.cell_core.Formed.{IsInside};
+ghost use Rattle.overlay_net.specs.ValueNet.Words.{IsAligned};
+ghost use Rattle.overlay_net.specs.hazard_core.Overlay.{value_as};
+ghost use Rattle.overlay_net.specs.cell_core.Cells.{bit, bits_from};
+ghost use Rattle.overlay_net.specs.cell_core.Sites.{ProgramView, site_at};
+ghost use Rattle.overlay_net.specs.hazard_core.Held.{Held, is_delete, asked, asked_key};
+ghost use Rattle.overlay_net.specs.hazard_core.Tables.{TableState, decl_of};
+ghost use Rattle.overlay_net.specs.hazard_core.Commits.{word_at, word_count, written_slot, makes_entry};
 ghost use Rattle.hash_net.specs.array_net.Words.{word_width};
-ghost use Rattle.site_operands.specs.cell_nets.Operands.{IsOperand, IsWide, number_in};
-ghost use Rattle.site_operands.specs.cell_nets.Wires.{wires_of, always, Gives};
+ghost use Rattle.overlay_net.specs.cell_nets.Operands.{IsOperand, IsWide, number_in};
+ghost use Rattle.overlay_net.specs.cell_nets.Wires.{wires_of, always, Gives};
 ghost use Rattle.commit_net.specs.Choosing.{asked_of, changes_word, chosen_of, paired, picked, all_read, HasOperands, IsChosen, Commits};
 
 use block_core::block::BlockWire;
 use block_core::name::Name;
-use cell_core::site::Act;
 use hash_net::array_net::words::word_width;
-use operand_blocks::wiring::named;
-use site_operands::SiteNets;
-use site_operands::cell_nets::operand::Operand;
-use site_operands::cell_nets::phi::phi_wires;
+use overlay_net::cell_nets::cell_core::site::Act;
+use overlay_net::cell_nets::cell_core::xdp_state::xdp_maps::decl::MapDecl;
+use overlay_net::cell_nets::operand::Operand;
+use overlay_net::cell_nets::operand_blocks::wiring::named;
+use overlay_net::cell_nets::phi::phi_wires;
+use overlay_net::site_operands::SiteNets;
 use std::alloc::{AllocError, Global};
-use xdp_maps::decl::MapDecl;
 
 /// What stands for the operation at a record site of a map: what it does, the cells of its site, whether it is the one that commits, the slot
 /// that it writes, and whether it makes an entry there.

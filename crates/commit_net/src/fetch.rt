@@ -3,7 +3,7 @@
 ghost use Rattle.std.specs.Prelude.{◌≡◌, ◌+◌, ◌≤◌, ◌<◌, IfOk, map};
 ghost use Rattle.std.specs.List.{range_with_len};
 ghost use Rattle.block_core.specs.View.{block_of, block_wire_of};
-ghost use Rattle.hash_net.specs.array_net.hazard_core.Commits.{word_count};
+ghost use Rattle.overlay_net.specs.hazard_core.Commits.{word_count};
 ghost use Rattle.commit_net.specs.Fetching.{fetched_wire, fetched_words, IsFetch};
 
 use block_core::block::{Block, BlockWire};

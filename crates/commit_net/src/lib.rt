@@ -1,10 +1,12 @@
-//! Nets of what the operation of a packet asks of the block of its map in the clock in which it commits: the slot that it writes, whether it
-//! puts an entry there or takes it away, and the words of the key and of the value.
+//! What an operation asks of its map's block in the clock in which it commits.
+//! `map_block` has the parts of a map of any kind behind one trait, `change_net` what a clock changes in a map.
 #![tactic(auto)]
 
+pub mod change_net;
 pub mod choosing;
 pub mod fetch;
 pub mod laws;
+pub mod map_block;
 pub mod taken;
 pub mod target;
 pub mod whole;

@@ -1,12 +1,12 @@
 //! The slot that an update took, from one clock to the next.
 
 ghost use Rattle.std.specs.Prelude.{ℕ, List, [], ◌∷◌, ◌≡◌, ◌^◌, ◌<◌, slice_index, IfOk};
-ghost use Rattle.cell_core.specs.Sites.{ProgramView};
-ghost use Rattle.hash_net.specs.array_net.hazard_core.Tables.{TableState};
-ghost use Rattle.hash_net.specs.array_net.hazard_core.Held.{Held};
-ghost use Rattle.hash_net.specs.array_net.hazard_core.Commits.{taken_after};
-ghost use Rattle.site_operands.specs.cell_nets.Operands.{IsOperand, IsWide, number_in};
-ghost use Rattle.site_operands.specs.cell_nets.Wires.{wires_of, Gives};
+ghost use Rattle.overlay_net.specs.cell_core.Sites.{ProgramView};
+ghost use Rattle.overlay_net.specs.hazard_core.Tables.{TableState};
+ghost use Rattle.overlay_net.specs.hazard_core.Held.{Held};
+ghost use Rattle.overlay_net.specs.hazard_core.Commits.{taken_after};
+ghost use Rattle.overlay_net.specs.cell_nets.Operands.{IsOperand, IsWide, number_in};
+ghost use Rattle.overlay_net.specs.cell_nets.Wires.{wires_of, Gives};
 ghost use Rattle.commit_net.specs.Choosing.{HasOperands};
 ghost use Rattle.commit_net.specs.Taking.{ShowsTaking};
 
@@ -14,8 +14,8 @@ use crate::choosing::CommitNets;
 use crate::target::TakenSlot;
 use block_core::block::BlockWire;
 use block_core::name::Name;
-use operand_blocks::step_nets::choose;
-use site_operands::cell_nets::operand::Operand;
+use overlay_net::cell_nets::operand::Operand;
+use overlay_net::cell_nets::step_nets::choose;
 use std::alloc::{AllocError, Global};
 
 /// What the register becomes that holds the slot which the update of a site took: the slot that it writes where it commits, and else what it holds.

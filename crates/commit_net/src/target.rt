@@ -1,21 +1,21 @@
 //! The slot that the operation at a site writes, and whether it makes an entry of its own.
 
 ghost use Rattle.std.specs.Prelude.{ℕ, List, [], ◌∷◌, ◌≡◌, ◌==◌, ◌+◌, ◌*◌, ◌<◌, ◌^◌, if◌then◌else◌, All, IfOk};
-ghost use Rattle.cell_core.specs.Cells.{bit, bits_from};
-ghost use Rattle.cell_core.specs.Sites.{ProgramView, site_at};
-ghost use Rattle.hash_net.specs.array_net.hazard_core.Tables.{TableState};
-ghost use Rattle.hash_net.specs.array_net.hazard_core.Held.{Held};
-ghost use Rattle.hash_net.specs.array_net.hazard_core.Commits.{written_slot, makes_entry};
-ghost use Rattle.site_operands.specs.cell_nets.Operands.{IsOperand, IsWide, number_in};
-ghost use Rattle.site_operands.specs.cell_nets.Wires.{wires_of, always, HasBits, Gives};
+ghost use Rattle.overlay_net.specs.cell_core.Cells.{bit, bits_from};
+ghost use Rattle.overlay_net.specs.cell_core.Sites.{ProgramView, site_at};
+ghost use Rattle.overlay_net.specs.hazard_core.Tables.{TableState};
+ghost use Rattle.overlay_net.specs.hazard_core.Held.{Held};
+ghost use Rattle.overlay_net.specs.hazard_core.Commits.{written_slot, makes_entry};
+ghost use Rattle.overlay_net.specs.cell_nets.Operands.{IsOperand, IsWide, number_in};
+ghost use Rattle.overlay_net.specs.cell_nets.Wires.{wires_of, always, HasBits, Gives};
 ghost use Rattle.commit_net.specs.Targets.{slots_of, ShowsWritten, ShowsTarget};
 
 use block_core::block::BlockWire;
 use block_core::name::Name;
-use cell_core::site::Act;
-use operand_blocks::step_nets::{choose, equal};
-use site_operands::cell_nets::operand::Operand;
-use site_operands::cell_nets::wires::cut;
+use overlay_net::cell_nets::cell_core::site::Act;
+use overlay_net::cell_nets::operand::Operand;
+use overlay_net::cell_nets::step_nets::{choose, equal};
+use overlay_net::cell_nets::wires::cut;
 use std::alloc::{AllocError, Global};
 
 /// The slot that an update of the packet's own took, by the number of its site.

@@ -2,17 +2,17 @@
 
 ghost use Rattle.std.specs.Prelude.{ℕ, List, ◌++◌, ◌≡◌, ◌≤◌, All, length, IfOk};
 ghost use Rattle.block_core.specs.View.{block_of};
-ghost use Rattle.xdp_maps.specs.Contents.{IsBytes};
-ghost use Rattle.cell_core.specs.Sites.{ProgramView, site_at};
-ghost use Rattle.hash_net.specs.array_net.hazard_core.Held.{Held, asked, asked_key};
-ghost use Rattle.hash_net.specs.array_net.hazard_core.Overlay.{value_as};
-ghost use Rattle.hash_net.specs.array_net.hazard_core.Tables.{TableState, decl_of};
-ghost use Rattle.hash_net.specs.array_net.hazard_core.Commits.{word_count};
-ghost use Rattle.site_operands.specs.cell_nets.Operands.{IsWide};
-ghost use Rattle.site_operands.specs.cell_nets.Wires.{wires_of};
+ghost use Rattle.overlay_net.specs.xdp_maps.Contents.{IsBytes};
+ghost use Rattle.overlay_net.specs.cell_core.Sites.{ProgramView, site_at};
+ghost use Rattle.overlay_net.specs.hazard_core.Held.{Held, asked, asked_key};
+ghost use Rattle.overlay_net.specs.hazard_core.Overlay.{value_as};
+ghost use Rattle.overlay_net.specs.hazard_core.Tables.{TableState, decl_of};
+ghost use Rattle.overlay_net.specs.hazard_core.Commits.{word_count};
+ghost use Rattle.overlay_net.specs.cell_nets.Operands.{IsWide};
+ghost use Rattle.overlay_net.specs.cell_nets.Wires.{wires_of};
 ghost use Rattle.commit_net.specs.Choosing.{all_read, changes_word, HasOperands, Commits};
 ghost use Rattle.commit_net.specs.Words.{IsFitting};
-ghost use Rattle.operand_blocks.specs.step_nets.Standing.{Stands};
+ghost use Rattle.overlay_net.specs.cell_nets.StepNets.Standing.{Stands};
 ghost use Rattle.commit_net.specs.Wiring.{outside_of, ShowsValue, key_operands, value_operands, ShowWords, ShowChanges};
 ghost use Rattle.commit_net.specs.Wholes.{IsSlotPart, IsHashCommit, IsArrayCommit};
 
@@ -23,10 +23,10 @@ use block_core::name::{Name, Part};
 use hash_net::HashNets;
 use hash_net::array_net::MapNets;
 use hash_net::array_net::words::{WordNets, word_count};
-use operand_blocks::wiring::wiring;
-use site_operands::cell_nets::operand::Operand;
+use overlay_net::cell_nets::cell_core::xdp_state::xdp_maps::decl::MapDecl;
+use overlay_net::cell_nets::operand::Operand;
+use overlay_net::cell_nets::operand_blocks::wiring::wiring;
 use std::alloc::{AllocError, Global};
-use xdp_maps::decl::MapDecl;
 
 /// A part that gives the slot that the operation writes that commits, and its net.
 #[derive(Drop)]

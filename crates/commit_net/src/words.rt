@@ -1,15 +1,15 @@
 //! Words of the value that the operation leaves that commits.
 
 ghost use Rattle.std.specs.Prelude.{ℕ, List, ◌∷◌, ◌≡◌, ◌<◌, ◌≤◌, All, IfOk};
-ghost use Rattle.xdp_maps.specs.Contents.{IsBytes};
-ghost use Rattle.cell_core.specs.Sites.{ProgramView, site_at};
-ghost use Rattle.hash_net.specs.array_net.hazard_core.Held.{Held, asked};
-ghost use Rattle.hash_net.specs.array_net.hazard_core.Overlay.{value_as};
-ghost use Rattle.hash_net.specs.array_net.hazard_core.Tables.{TableState, decl_of};
-ghost use Rattle.hash_net.specs.array_net.hazard_core.Commits.{word_at, word_count};
+ghost use Rattle.overlay_net.specs.xdp_maps.Contents.{IsBytes};
+ghost use Rattle.overlay_net.specs.cell_core.Sites.{ProgramView, site_at};
+ghost use Rattle.overlay_net.specs.hazard_core.Held.{Held, asked};
+ghost use Rattle.overlay_net.specs.hazard_core.Overlay.{value_as};
+ghost use Rattle.overlay_net.specs.hazard_core.Tables.{TableState, decl_of};
+ghost use Rattle.overlay_net.specs.hazard_core.Commits.{word_at, word_count};
 ghost use Rattle.hash_net.specs.array_net.Words.{word_width};
-ghost use Rattle.site_operands.specs.cell_nets.Operands.{IsOperand, number_in};
-ghost use Rattle.site_operands.specs.cell_nets.Wires.{wires_of, HasBits, Gives};
+ghost use Rattle.overlay_net.specs.cell_nets.Operands.{IsOperand, number_in};
+ghost use Rattle.overlay_net.specs.cell_nets.Wires.{wires_of, HasBits, Gives};
 ghost use Rattle.commit_net.specs.Choosing.{all_read, HasOperands, Commits};
 ghost use Rattle.commit_net.specs.Words.{IsFitting};
 
@@ -17,10 +17,10 @@ use crate::choosing::{CommitNets, select};
 use block_core::block::BlockWire;
 use block_core::name::Name;
 use hash_net::array_net::words::word_width;
-use site_operands::cell_nets::operand::Operand;
+use overlay_net::cell_nets::cell_core::xdp_state::xdp_maps::decl::MapDecl;
+use overlay_net::cell_nets::operand::Operand;
+use overlay_net::value_net::following::word_after;
 use std::alloc::{AllocError, Global};
-use value_net::following::word_after;
-use xdp_maps::decl::MapDecl;
 
 /// A word of the value that the operation leaves that commits, by the word that it finds.
 pub fn word_net<P: Copy>(

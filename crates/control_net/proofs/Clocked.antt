@@ -10,15 +10,15 @@ use Rattle.net_core.specs.Chains.{statements_before}
 use Rattle.net_core.specs.Value.{word, bit, number_of, nothing, apply, conditional, Env, value}
 use Rattle.net_core.specs.Clock.{Stored, done, all_done}
 use Rattle.block_core.specs.declared.name.Name.{Name}
-use Rattle.ring_net.specs.declared.shape.ControlShape.{ControlShape}
-use Rattle.ring_net.specs.declared.names.Counter.{Counter}
-use Rattle.ring_net.specs.declared.names.Counter.TheVariants.{Given, Answered, Injected, Gathered}
-use Rattle.ring_net.specs.declared.names.Register.TheVariants.{Lap, Slot, Passed}
-use Rattle.ring_net.specs.Names.{register_number, register_name}
-use Rattle.ring_net.specs.Control.{counted}
-use Rattle.ring_net.specs.Trees.{register, counting}
-use Rattle.ring_net.proofs.Values.{chosen}
-use Rattle.ring_net.proofs.Clocked.{lap_value, slot_value}
+use Rattle.control_net.specs.declared.ring_net.shape.ControlShape.{ControlShape}
+use Rattle.control_net.specs.declared.ring_net.names.Counter.{Counter}
+use Rattle.control_net.specs.declared.ring_net.names.Counter.TheVariants.{Given, Answered, Injected, Gathered}
+use Rattle.control_net.specs.declared.ring_net.names.Register.TheVariants.{Lap, Slot, Passed}
+use Rattle.control_net.specs.RingNet.Names.{register_number, register_name}
+use Rattle.control_net.specs.RingNet.Control.{counted}
+use Rattle.control_net.specs.RingNet.Trees.{register, counting}
+use Rattle.control_net.proofs.RingNet.Values.{chosen}
+use Rattle.control_net.proofs.RingNet.Clocked.{lap_value, slot_value}
 use Rattle.control_net.specs.declared.names.Wire.{Wire}
 use Rattle.control_net.specs.declared.names.Wire.TheVariants.{Ends, Advances, Injects, Exits, Passes, Gone}
 use Rattle.control_net.specs.declared.names.ControlNets.{ControlNets}

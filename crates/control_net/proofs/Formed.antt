@@ -12,24 +12,24 @@ use Rattle.net_core.specs.Ports.{port_list}
 use Rattle.net_core.specs.Nets.{Tree, TConst, TRead, TUnary, TBinary, TConditional, StatementTree, SIf, SSet}
 use Rattle.net_core.specs.Value.{word}
 use Rattle.net_core.specs.Width.{Scope, width_of, test_width, op_width, conditional_width, same, statement_typed}
-use Rattle.ring_net.specs.design_rules.FormedSyntax.{tree_spelled, statement_depth, elses_placed, trees_pass, statement_spelled}
-use Rattle.ring_net.specs.product_rules.Products.{is_flat}
-use Rattle.ring_net.specs.product_blocks.Alone.{IsFree}
+use Rattle.block_core.specs.design_rules.FormedSyntax.{tree_spelled, statement_depth, elses_placed, trees_pass, statement_spelled}
+use Rattle.net_core.specs.ProductRules.Products.{is_flat}
+use Rattle.block_core.specs.ProductBlocks.Alone.{IsFree}
 use Rattle.block_core.specs.declared.name.Name.{Name}
 use Rattle.block_core.specs.declared.name.Name.TheVariants as name
 use Rattle.block_core.specs.Blocks.{Whole, Among}
 use Rattle.block_core.specs.Parts.{Within}
 use Rattle.block_core.specs.Order.{Reads, IsBefore, InOrder}
 use Rattle.block_core.specs.Formed.{block_registers, block_wires, block_wires_typed, name_width, names_scope, IsTypedBlock, StatementReads, IsThere}
-use Rattle.ring_net.specs.block_forms.WellFormed.{wire_spelled}
-use Rattle.ring_net.specs.declared.shape.ControlShape.{ControlShape}
-use Rattle.ring_net.specs.declared.names.Counter.{Counter}
-use Rattle.ring_net.specs.declared.names.Counter.TheVariants.{Given, Answered, Injected, Gathered}
-use Rattle.ring_net.specs.declared.names.Register.TheVariants.{Lap, Slot, Passed, Holds}
-use Rattle.ring_net.specs.Names.{register_number}
-use Rattle.ring_net.specs.Trees.{register, compared, both, at_end, counting}
-use Rattle.ring_net.proofs.Cases.{by_test}
-use Rattle.ring_net.proofs.Formed.{same_self, test_self, choice_self, sum_self, const_fits, one_small}
+use Rattle.block_core.specs.BlockForms.WellFormed.{wire_spelled}
+use Rattle.control_net.specs.declared.ring_net.shape.ControlShape.{ControlShape}
+use Rattle.control_net.specs.declared.ring_net.names.Counter.{Counter}
+use Rattle.control_net.specs.declared.ring_net.names.Counter.TheVariants.{Given, Answered, Injected, Gathered}
+use Rattle.control_net.specs.declared.ring_net.names.Register.TheVariants.{Lap, Slot, Passed, Holds}
+use Rattle.control_net.specs.RingNet.Names.{register_number}
+use Rattle.control_net.specs.RingNet.Trees.{register, compared, both, at_end, counting}
+use Rattle.control_net.proofs.RingNet.Cases.{by_test}
+use Rattle.control_net.proofs.RingNet.Formed.{same_self, test_self, choice_self, sum_self, const_fits, one_small}
 use Rattle.control_net.specs.declared.names.Wire.{Wire}
 use Rattle.control_net.specs.declared.names.Wire.TheVariants.{Ready, Over, Ends, Advances, Injects, Exits, Passes, Shown, Taken, Gone}
 use Rattle.control_net.specs.declared.names.ControlNets.{ControlNets}

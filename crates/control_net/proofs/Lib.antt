@@ -1,7 +1,3 @@
-pub use Rattle.block_core.proofs as block_core
-pub use Rattle.net_core.proofs as net_core
-pub use Rattle.ring_net.proofs as ring_net
-pub use Rattle.ring_net.proofs.product_blocks as product_blocks
 pub mod Lists
 pub mod Sweeping
 pub mod Sound
@@ -12,3 +8,4 @@ pub mod Clocked
 pub mod Widths
 pub mod Formed
 pub mod Made
+pub mod RingNet

@@ -11,8 +11,8 @@ use Rattle.net_core.specs.Chains.{statements_before}
 use Rattle.net_core.specs.Value.{nothing, Env, value, right_value}
 use Rattle.net_core.specs.Clock.{Stored, all_done}
 use Rattle.net_core.specs.Width.{Scope, right_width, same, statement_typed, statements_typed}
-use Rattle.ring_net.specs.design_rules.FormedSyntax.{tree_spelled, statement_depth, statements_depth, elses_placed, all_placed, trees_pass, all_trees_pass}
-use Rattle.ring_net.specs.product_rules.Products.{statement_flat, statements_flat}
+use Rattle.block_core.specs.design_rules.FormedSyntax.{tree_spelled, statement_depth, statements_depth, elses_placed, all_placed, trees_pass, all_trees_pass}
+use Rattle.net_core.specs.ProductRules.Products.{statement_flat, statements_flat}
 use Rattle.block_core.specs.declared.name.Name.{Name}
 use Rattle.block_core.specs.declared.name.Name.TheVariants as name
 use Rattle.block_core.specs.Blocks.{BlockWireTree, Whole}

@@ -4,7 +4,7 @@ use Rattle.std.proofs.Common.{refl, sym, ap, subst}
 use Rattle.net_core.specs.Value.{word, bit}
 use Rattle.block_core.specs.Blocks.{BlockTree}
 use Rattle.block_core.specs.declared.name.Name.{Name}
-use Rattle.ring_net.specs.declared.shape.ControlShape.{ControlShape}
+use Rattle.control_net.specs.declared.ring_net.shape.ControlShape.{ControlShape}
 use Rattle.control_net.specs.declared.names.ControlNets.{ControlNets}
 use Rattle.control_net.specs.Control.{first_state}
 use Rattle.control_net.specs.Block.{lap_word, slot_word, code, IsControl}

@@ -8,21 +8,21 @@ use Rattle.net_core.specs.Nets.{Tree, TRead, TBinary}
 use Rattle.net_core.specs.Ports.{port_list}
 use Rattle.net_core.specs.Value.{bit, apply, Env, value}
 use Rattle.net_core.specs.Width.{Scope, width_of, op_width, same}
-use Rattle.ring_net.specs.design_rules.FormedSyntax.{tree_spelled}
-use Rattle.ring_net.specs.product_rules.Products.{is_flat}
-use Rattle.ring_net.specs.product_blocks.Alone.{wire_flat}
+use Rattle.block_core.specs.design_rules.FormedSyntax.{tree_spelled}
+use Rattle.net_core.specs.ProductRules.Products.{is_flat}
+use Rattle.block_core.specs.ProductBlocks.Alone.{wire_flat}
 use Rattle.block_core.specs.declared.name.Name.{Name}
 use Rattle.block_core.specs.declared.name.Name.TheVariants as name
 use Rattle.block_core.specs.Blocks.{BlockTree, BlockWireTree, Whole, Among}
 use Rattle.block_core.specs.Parts.{Solve}
 use Rattle.block_core.specs.Order.{Reads, IsBefore}
 use Rattle.block_core.specs.Formed.{block_wires, name_width, names_scope}
-use Rattle.ring_net.specs.block_forms.WellFormed.{wire_spelled}
-use Rattle.ring_net.specs.declared.shape.ControlShape.{ControlShape}
-use Rattle.ring_net.specs.declared.names.Register.TheVariants.{Holds}
-use Rattle.ring_net.specs.Names.{register_name}
-use Rattle.ring_net.proofs.Cases.{by_test}
-use Rattle.ring_net.proofs.Values.{or_bits, and_bits}
+use Rattle.block_core.specs.BlockForms.WellFormed.{wire_spelled}
+use Rattle.control_net.specs.declared.ring_net.shape.ControlShape.{ControlShape}
+use Rattle.control_net.specs.declared.ring_net.names.Register.TheVariants.{Holds}
+use Rattle.control_net.specs.RingNet.Names.{register_name}
+use Rattle.control_net.proofs.RingNet.Cases.{by_test}
+use Rattle.control_net.proofs.RingNet.Values.{or_bits, and_bits}
 use Rattle.control_net.specs.Control.{returns, some_returns}
 use Rattle.control_net.specs.Trees.{sent, back_tree, back_wire, returns_tree}
 use Rattle.control_net.specs.Returns.{due_name, IsReturns}

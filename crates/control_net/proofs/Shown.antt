@@ -12,15 +12,15 @@ use Rattle.net_core.specs.Value.{word, bit, nothing, apply, apply_unary, Env, va
 use Rattle.block_core.specs.declared.name.Name.{Name}
 use Rattle.block_core.specs.declared.name.Name.TheVariants as name
 use Rattle.block_core.specs.Parts.{Solve}
-use Rattle.ring_net.specs.declared.shape.ControlShape.{ControlShape}
-use Rattle.ring_net.specs.declared.names.Counter.{Counter}
-use Rattle.ring_net.specs.declared.names.Counter.TheVariants.{Given, Answered, Injected, Gathered}
-use Rattle.ring_net.specs.declared.names.Register.TheVariants.{Lap, Slot, Passed, Holds}
-use Rattle.ring_net.specs.Names.{register_name}
-use Rattle.ring_net.specs.Ring.{slot, lap, IsNear}
-use Rattle.ring_net.specs.Trees.{register, compared, both}
-use Rattle.ring_net.proofs.Cases.{by_test}
-use Rattle.ring_net.proofs.Values.{or_bits, and_bits, not_bit, differ_value, room_value}
+use Rattle.control_net.specs.declared.ring_net.shape.ControlShape.{ControlShape}
+use Rattle.control_net.specs.declared.ring_net.names.Counter.{Counter}
+use Rattle.control_net.specs.declared.ring_net.names.Counter.TheVariants.{Given, Answered, Injected, Gathered}
+use Rattle.control_net.specs.declared.ring_net.names.Register.TheVariants.{Lap, Slot, Passed, Holds}
+use Rattle.control_net.specs.RingNet.Names.{register_name}
+use Rattle.control_net.specs.RingNet.Ring.{slot, lap, IsNear}
+use Rattle.control_net.specs.RingNet.Trees.{register, compared, both}
+use Rattle.control_net.proofs.RingNet.Cases.{by_test}
+use Rattle.control_net.proofs.RingNet.Values.{or_bits, and_bits, not_bit, differ_value, room_value}
 use Rattle.control_net.specs.declared.names.Wire.{Wire}
 use Rattle.control_net.specs.declared.names.Wire.TheVariants.{Ready, Over, Ends, Advances, Injects, Exits, Passes, Shown, Taken, Gone}
 use Rattle.control_net.specs.declared.names.ControlNets.{ControlNets}

@@ -4,9 +4,9 @@ use Rattle.std.proofs.Common.{get_or, not, refl, sym, ap, ◌∙◌, arith, inl,
 use Rattle.std.proofs.lemmas.Bool.{false≢true, ltb-true, and_parts, and_left, and_right, or_cases, not-true, not_from_true}
 use Rattle.std.proofs.lemmas.List.{length-replicate}
 use Rattle.net_core.specs.Value.{number_of}
-use Rattle.ring_net.specs.declared.shape.ControlShape.{ControlShape}
-use Rattle.ring_net.specs.Control.{packets, counted}
-use Rattle.ring_net.proofs.Cases.{by_test}
+use Rattle.control_net.specs.declared.ring_net.shape.ControlShape.{ControlShape}
+use Rattle.control_net.specs.RingNet.Control.{packets, counted}
+use Rattle.control_net.proofs.RingNet.Cases.{by_test}
 use Rattle.control_net.specs.Control.{State, Signals, oldest, back, rest, ready, over, ends, advances, injects, exits, shown, taken, gone, shifted, injected_after, step, partial_after, IsSound, StartsSound, StaysSound}
 use Rattle.control_net.proofs.Sweeping.{swept_length, all_kept, held_before, older_kept, fewer_kept, oldest_is}
 

@@ -3,9 +3,9 @@ use Rattle.std.specs.Prelude.{◌≡◌, ℕ, zero, suc, ◌+◌, ◌<◌, ◌�
 use Rattle.std.proofs.Common.{get_or, not, refl, sym, ap, ◌∙◌, arith}
 use Rattle.std.proofs.lemmas.Bool.{false≢true, leb-true, lt-leb, and_parts, and_left, and_right, or_parts, or_from, not-true, not_from_true}
 use Rattle.net_core.specs.Value.{number_of}
-use Rattle.ring_net.specs.declared.shape.ControlShape.{ControlShape}
-use Rattle.ring_net.specs.Control.{packets}
-use Rattle.ring_net.proofs.Cases.{by_test}
+use Rattle.control_net.specs.declared.ring_net.shape.ControlShape.{ControlShape}
+use Rattle.control_net.specs.RingNet.Control.{packets}
+use Rattle.control_net.proofs.RingNet.Cases.{by_test}
 use Rattle.control_net.specs.Control.{returns, some_returns, swept, oldest}
 
 pub and_true : (h : Bool) → h && true ≡ h

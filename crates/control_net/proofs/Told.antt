@@ -2,7 +2,7 @@
 use Rattle.std.specs.Prelude.{◌≡◌, ℕ, suc, ◌+◌, nat_le, Bool, true, false, ◌&&◌, ◌||◌, cond, Option, Some, None, is_some, List, [], ◌∷◌, map}
 use Rattle.std.proofs.Common.{get_or, not, refl, sym, ap, subst, ◌∙◌, arith}
 use Rattle.std.proofs.lemmas.Bool.{and_right}
-use Rattle.ring_net.specs.declared.shape.ControlShape.{ControlShape}
+use Rattle.control_net.specs.declared.ring_net.shape.ControlShape.{ControlShape}
 use Rattle.control_net.specs.Control.{returns, some_returns, swept}
 use Rattle.control_net.specs.Places.{sends, IsSweep, SweepsPlaces, MovesPlaces, KeepsPlaces}
 use Rattle.control_net.proofs.Sweeping.{all_kept}

@@ -7,12 +7,12 @@ use Rattle.net_core.specs.declared.tree.Word.{Word}
 use Rattle.net_core.specs.Value.{word}
 use Rattle.net_core.specs.Width.{word_fits}
 use Rattle.block_core.specs.Formed.{word_width, words_fit}
-use Rattle.ring_net.specs.declared.shape.ControlShape.{ControlShape}
-use Rattle.ring_net.specs.declared.names.Counter.{Counter}
-use Rattle.ring_net.specs.declared.names.Counter.TheVariants.{Given, Answered, Injected, Gathered}
-use Rattle.ring_net.specs.declared.names.Register.TheVariants.{Lap, Slot, Holds}
-use Rattle.ring_net.specs.Names.{register_number}
-use Rattle.ring_net.proofs.Formed.{width_replicate, zero_fits}
+use Rattle.control_net.specs.declared.ring_net.shape.ControlShape.{ControlShape}
+use Rattle.control_net.specs.declared.ring_net.names.Counter.{Counter}
+use Rattle.control_net.specs.declared.ring_net.names.Counter.TheVariants.{Given, Answered, Injected, Gathered}
+use Rattle.control_net.specs.declared.ring_net.names.Register.TheVariants.{Lap, Slot, Holds}
+use Rattle.control_net.specs.RingNet.Names.{register_number}
+use Rattle.control_net.proofs.RingNet.Formed.{width_replicate, zero_fits}
 use Rattle.control_net.specs.declared.names.Wire.{Wire}
 use Rattle.control_net.specs.declared.names.Wire.TheVariants.{Ready, Over, Ends, Advances, Injects, Exits, Passes, Shown, Taken, Gone}
 use Rattle.control_net.specs.Names.{lap_number, slot_number, wire_number}

@@ -2,10 +2,10 @@
 use Rattle.std.specs.Prelude.{◌≡◌, ℕ, suc, ◌+◌, ◌%◌, ◌^◌, ◌<◌, ◌≤◌, nat_lt, nat_le, Bool, true, false, ◌&&◌, ◌||◌, if◌then◌else◌, List, [], ◌∷◌, length, replicate, drop}
 use Rattle.std.proofs.Common.{get_or, not}
 use Rattle.net_core.specs.Value.{number_of}
-use Rattle.ring_net.specs.declared.shape.ControlShape.{ControlShape}
-use Rattle.ring_net.specs.declared.names.Counter.{Counter}
-use Rattle.ring_net.specs.declared.names.Counter.TheVariants as counter
-use Rattle.ring_net.specs.Control.{packets, counted}
+use Rattle.control_net.specs.declared.ring_net.shape.ControlShape.{ControlShape}
+use Rattle.control_net.specs.declared.ring_net.names.Counter.{Counter}
+use Rattle.control_net.specs.declared.ring_net.names.Counter.TheVariants as counter
+use Rattle.control_net.specs.RingNet.Control.{packets, counted}
 use Rattle.control_net.specs.declared.names.Wire.{Wire}
 use Rattle.control_net.specs.declared.names.Wire.TheVariants as wire
 

@@ -3,7 +3,7 @@
 use Rattle.std.specs.Prelude.{ℕ, ◌+◌, ◌-◌}
 use Rattle.block_core.specs.declared.name.Name.{Name}
 use Rattle.block_core.specs.declared.name.Name.TheVariants as name
-use Rattle.ring_net.specs.declared.shape.ControlShape.{ControlShape}
+use Rattle.control_net.specs.declared.ring_net.shape.ControlShape.{ControlShape}
 use Rattle.control_net.specs.declared.names.Wire.{Wire}
 use Rattle.control_net.specs.declared.names.Wire.TheVariants.{Ready, Over, Ends, Advances, Injects, Exits, Passes, Shown, Taken, Gone}
 

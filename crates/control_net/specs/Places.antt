@@ -1,7 +1,7 @@
 -- What control says of places that hold packets of any kind: which are sent back, and which places hold one then.
 use Rattle.std.specs.Prelude.{◌≡◌, ℕ, suc, nat_le, Bool, false, ◌&&◌, ◌||◌, if◌then◌else◌, Option, Some, None, is_some, List, [], ◌∷◌, map}
 use Rattle.std.proofs.Common.{get_or}
-use Rattle.ring_net.specs.declared.shape.ControlShape.{ControlShape}
+use Rattle.control_net.specs.declared.ring_net.shape.ControlShape.{ControlShape}
 use Rattle.control_net.specs.Control.{some_returns, swept, shifted}
 
 -- whether a place sends back, by what a packet there has to say

@@ -5,18 +5,18 @@ use Rattle.std.proofs.Common.{get_or}
 use Rattle.net_core.specs.Ports.{port_list}
 use Rattle.net_core.specs.Value.{bit, Env}
 use Rattle.net_core.specs.Clock.{Stored, done}
-use Rattle.ring_net.specs.design_rules.FormedSyntax.{statement_spelled}
+use Rattle.block_core.specs.design_rules.FormedSyntax.{statement_spelled}
 use Rattle.block_core.specs.declared.name.Name.{Name}
 use Rattle.block_core.specs.declared.name.Name.TheVariants as name
 use Rattle.block_core.specs.Blocks.{BlockTree, Whole, Among}
 use Rattle.block_core.specs.Parts.{Solve, Goes, Within}
 use Rattle.block_core.specs.Order.{IsBefore, InOrder}
 use Rattle.block_core.specs.Formed.{block_wires, name_width, IsTypedBlock, StatementReads, IsThere}
-use Rattle.ring_net.specs.block_forms.WellFormed.{wire_spelled}
-use Rattle.ring_net.specs.product_blocks.Alone.{IsFree}
-use Rattle.ring_net.specs.declared.shape.ControlShape.{ControlShape}
-use Rattle.ring_net.specs.declared.names.Register.TheVariants.{Holds}
-use Rattle.ring_net.specs.Names.{register_name}
+use Rattle.block_core.specs.BlockForms.WellFormed.{wire_spelled}
+use Rattle.block_core.specs.ProductBlocks.Alone.{IsFree}
+use Rattle.control_net.specs.declared.ring_net.shape.ControlShape.{ControlShape}
+use Rattle.control_net.specs.declared.ring_net.names.Register.TheVariants.{Holds}
+use Rattle.control_net.specs.RingNet.Names.{register_name}
 use Rattle.control_net.specs.Names.{back_name}
 use Rattle.control_net.specs.Control.{some_returns}
 

@@ -6,24 +6,24 @@ ghost use Rattle.net_core.specs.Nets.{TRead, TBinary};
 ghost use Rattle.net_core.specs.Value.{word};
 ghost use Rattle.net_core.specs.View.{tree_of};
 ghost use Rattle.block_core.specs.View.{block_of, block_wire_of};
-ghost use Rattle.ring_net.specs.declared.names.Counter.TheVariants.{Given, Injected, Gathered};
-ghost use Rattle.ring_net.specs.Names as ring_names;
-ghost use Rattle.ring_net.specs.Trees as ring;
+ghost use Rattle.control_net.specs.declared.ring_net.names.Counter.TheVariants.{Given, Injected, Gathered};
+ghost use Rattle.control_net.specs.RingNet.Names as ring_names;
+ghost use Rattle.control_net.specs.RingNet.Trees as ring;
 ghost use Rattle.control_net.specs.declared.names.Wire.TheVariants.{Advances};
 ghost use Rattle.control_net.specs.Trees as trees;
 ghost use Rattle.control_net.specs.Block.{IsControl};
 
 use crate::names::{ControlNets, Wire, back_name, wire_name};
 use crate::returns::bit_wire;
+use crate::ring_net::control::compared;
+use crate::ring_net::names::{Counter, Register, register_name};
+use crate::ring_net::shape::ControlShape;
 use crate::statements::statement;
 use block_core::block::{Block, BlockWire};
 use block_core::name::Name;
 use net_core::build::{binary, unary};
 use net_core::ports::{IN_LAST, IN_VALID, OUT_READY};
 use net_core::tree::{Expr, Op, UnaryOp, Word};
-use ring_net::control::compared;
-use ring_net::names::{Counter, Register, register_name};
-use ring_net::shape::ControlShape;
 use std::alloc::{AllocError, Global};
 
 /// The block of control: counters of frames, which places hold packets and their numbers, and when beats go over. It reads which places send back of the part

@@ -3,8 +3,8 @@
 ghost use Rattle.std.specs.Prelude.{◌≡◌, ◌≤◌};
 ghost use Rattle.control_net.specs.Names as names;
 
+use crate::ring_net::shape::ControlShape;
 use block_core::name::Name;
-use ring_net::shape::ControlShape;
 
 /// The wires of control, each of one bit.
 #[derive(Clone, Copy, PartialEq, Eq, Debug)]

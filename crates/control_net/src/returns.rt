@@ -4,16 +4,16 @@ ghost use Rattle.std.specs.Prelude.{◌≡◌, ◌<◌, ◌≤◌, ◌^◌, suc,
 ghost use Rattle.std.specs.List.{range_with_len};
 ghost use Rattle.net_core.specs.View.{tree_of};
 ghost use Rattle.block_core.specs.View.{block_of, block_wire_of};
-ghost use Rattle.ring_net.specs.Trees.{bit_wire};
+ghost use Rattle.control_net.specs.RingNet.Trees.{bit_wire};
 ghost use Rattle.control_net.specs.Trees as trees;
 ghost use Rattle.control_net.specs.Returns.{IsReturns};
 
+use crate::ring_net::names::{Register, register_name};
+use crate::ring_net::shape::ControlShape;
 use block_core::block::{Block, BlockWire};
 use block_core::name::Name;
 use net_core::build::{binary, block};
 use net_core::tree::{Expr, Op, Right, Stmts};
-use ring_net::names::{Register, register_name};
-use ring_net::shape::ControlShape;
 use std::alloc::{AllocError, Global};
 
 /// The block that says which places send back: a place does that holds a packet of which a net of another part says so, by place up to the commit place. Of

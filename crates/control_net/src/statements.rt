@@ -4,21 +4,21 @@ ghost use Rattle.std.specs.Prelude.{◌≡◌, ◌≤◌, ◌++◌, [], ◌∷�
 ghost use Rattle.std.specs.List.{range_with_len};
 ghost use Rattle.net_core.specs.Nets.{TRead, SIf};
 ghost use Rattle.net_core.specs.View.{tree_of, statement_of};
-ghost use Rattle.ring_net.specs.declared.names.Counter.TheVariants.{Injected};
-ghost use Rattle.ring_net.specs.declared.names.Register.TheVariants.{Lap, Slot};
-ghost use Rattle.ring_net.specs.Trees as ring;
+ghost use Rattle.control_net.specs.declared.ring_net.names.Counter.TheVariants.{Injected};
+ghost use Rattle.control_net.specs.declared.ring_net.names.Register.TheVariants.{Lap, Slot};
+ghost use Rattle.control_net.specs.RingNet.Trees as ring;
 ghost use Rattle.control_net.specs.declared.names.Wire.TheVariants.{Advances, Injects};
 ghost use Rattle.control_net.specs.Names as names;
 ghost use Rattle.control_net.specs.Trees as trees;
 
 use crate::control::{kept, read_register, read_wire};
 use crate::names::{Wire, back_name, lap_name, lap_number, slot_name, slot_number};
+use crate::ring_net::control::counting;
+use crate::ring_net::names::{Counter, Register, register_number};
+use crate::ring_net::shape::ControlShape;
 use block_core::name::Name;
 use net_core::build::{self, binary, conditional, constant, then, when};
 use net_core::tree::{Expr, Op, Stmt, Stmts};
-use ring_net::control::counting;
-use ring_net::names::{Counter, Register, register_number};
-use ring_net::shape::ControlShape;
 use std::alloc::{AllocError, Global};
 
 /// The statement of control.

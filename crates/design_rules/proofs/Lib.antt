@@ -1,5 +1,3 @@
-pub use Rattle.net_core.proofs as net_core
-pub use Rattle.net_core.proofs.list_laws as list_laws
 pub mod FormedNames
 pub mod FormedSyntax
 pub mod FormedAssigns
@@ -9,3 +7,4 @@ pub mod FormedSections
 pub mod FormedItemLaws
 pub mod FormedWidthLaws
 pub mod FormedLaws
+pub mod SolvedWires

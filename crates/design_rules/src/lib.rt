@@ -1,5 +1,6 @@
-//! When a design of nets is well formed: which names it may have, what it may read and set, the widths of both sides, and how
-//! its trees stand in one another. Nothing here speaks of the lexemes of a text.
+//! When a design is well formed, and the first item that breaks a rule: names, what is read and set, widths, how trees stand in one another.
+//! `solved_wires` says that values which solve the wires of a design are those of a clock.
 #![tactic(auto)]
 
 pub mod formed;
+pub mod solved_wires;

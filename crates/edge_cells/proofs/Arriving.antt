@@ -4,15 +4,15 @@ use Rattle.std.specs.Prelude.{All, Contains}
 use Rattle.std.specs.List.{list_any}
 use Rattle.std.proofs.lemmas.Bool.Decides.{nat_tests}
 use Rattle.std.proofs.lemmas.List.Elements.{All-contains, Contains-get_or}
-use Rattle.cell_core.specs.xdp_machine.State.{PacketIn, Machine}
+use Rattle.xdp_machine.specs.State.{PacketIn, Machine}
 use Rattle.cell_core.specs.Cells.{CellView, on, bit}
 use Rattle.operator_cells.specs.Making.{Makes}
-use Rattle.held_cells.specs.declared.way.Way.{Way}
-use Rattle.held_cells.specs.declared.way.Exit.{Exit}
-use Rattle.held_cells.specs.Paths.{GraphView, Stage, At, Over, Nowhere, stands_at}
-use Rattle.held_cells.specs.Held.{PointerView}
-use Rattle.held_cells.specs.Carrying.{IsKnown}
-use Rattle.held_cells.specs.Steps.{Leads, IsGood}
+use Rattle.operator_cells.specs.declared.held_cells.way.Way.{Way}
+use Rattle.operator_cells.specs.declared.held_cells.way.Exit.{Exit}
+use Rattle.operator_cells.specs.HeldCells.Paths.{GraphView, Stage, At, Over, Nowhere, stands_at}
+use Rattle.operator_cells.specs.HeldCells.Held.{PointerView}
+use Rattle.operator_cells.specs.HeldCells.Carrying.{IsKnown}
+use Rattle.operator_cells.specs.HeldCells.Steps.{Leads, IsGood}
 use Rattle.edge_cells.specs.Meeting.{first_on}
 use Rattle.operator_cells.proofs.MakingLaws.{grown_none}
 use Rattle.edge_cells.specs.Joining.{any_on, Guards, LeadTo, HereIsRight}

@@ -1,12 +1,12 @@
 -- What is held at a node, from its parts.
 use Rattle.std.proofs.Common.{◌≡◌, ℕ, ◌<◌, ◌≤◌, List, length, get_or, sym, ◌∙◌, ap, subst, arith}
 use Rattle.std.specs.Prelude.{All, slice_index}
-use Rattle.xdp_maps.specs.declared.decl.MapDecl.{MapDecl}
-use Rattle.xdp_maps.specs.State.{MapState}
-use Rattle.cell_core.specs.xdp_machine.Values.{Value}
-use Rattle.cell_core.specs.xdp_machine.Values as is
-use Rattle.cell_core.specs.xdp_machine.State.{PacketIn, Machine}
-use Rattle.cell_core.specs.xdp_machine.State as machine
+use Rattle.xdp_machine.specs.xdp_maps.declared.decl.MapDecl.{MapDecl}
+use Rattle.xdp_machine.specs.xdp_maps.State.{MapState}
+use Rattle.xdp_machine.specs.Values.{Value}
+use Rattle.xdp_machine.specs.Values as is
+use Rattle.xdp_machine.specs.State.{PacketIn, Machine}
+use Rattle.xdp_machine.specs.State as machine
 use Rattle.kind_core.specs.declared.number.Number.{Number}
 use Rattle.kind_core.specs.declared.number.Number.TheVariants.{Known, Unknown}
 use Rattle.kind_core.specs.declared.kind.Kind.{Kind}
@@ -16,10 +16,10 @@ use Rattle.kind_core.specs.Describes.{World, Describes, DescribesMachine}
 use Rattle.kind_core.specs.Soundness.{Stands}
 use Rattle.cell_core.specs.Cells.{CellView, IsRun}
 use Rattle.operator_cells.specs.Making.{Grows}
-use Rattle.held_cells.specs.declared.held.Held.{Held}
-use Rattle.held_cells.specs.declared.way.Way.{Way}
-use Rattle.held_cells.specs.Held.{PointerView, Holds, AreHeld}
-use Rattle.held_cells.specs.Carrying.{IsKnown}
+use Rattle.operator_cells.specs.declared.held_cells.held.Held.{Held}
+use Rattle.operator_cells.specs.declared.held_cells.way.Way.{Way}
+use Rattle.operator_cells.specs.HeldCells.Held.{PointerView, Holds, AreHeld}
+use Rattle.operator_cells.specs.HeldCells.Carrying.{IsKnown}
 use Rattle.edge_cells.specs.declared.part.Part.{Part}
 use Rattle.edge_cells.specs.declared.part.Part.TheVariants.{Register, Slot, Byte, Target}
 use Rattle.edge_cells.specs.Widening.{Widens, AreWider, AreFilled}

@@ -12,10 +12,10 @@ use Rattle.operator_cells.specs.Rising.{GrowsTo, Rises, RiseAll}
 use Rattle.operator_cells.proofs.RisingLaws.{Stand, stand_none, stand_more, stand_all, rises_then}
 use Rattle.kind_core.specs.declared.number.Number.{Number}
 use Rattle.kind_core.specs.declared.kind.Kinds.{Kinds}
-use Rattle.held_cells.specs.declared.held.Held.{Held}
-use Rattle.held_cells.specs.declared.way.Way.{Way}
-use Rattle.held_cells.specs.Held.{PointerView}
-use Rattle.held_cells.specs.Rows.{cells_of_pointer, number_row, held_row, bits_row, brought_row, chosen_row}
+use Rattle.operator_cells.specs.declared.held_cells.held.Held.{Held}
+use Rattle.operator_cells.specs.declared.held_cells.way.Way.{Way}
+use Rattle.operator_cells.specs.HeldCells.Held.{PointerView}
+use Rattle.operator_cells.specs.HeldCells.Rows.{cells_of_pointer, number_row, held_row, bits_row, brought_row, chosen_row}
 use Rattle.edge_cells.specs.declared.part.Part.{Part}
 use Rattle.edge_cells.specs.Meeting.{held_at, kind_at, number_in, cell_in}
 use Rattle.edge_cells.specs.Rows.{choice_row}

@@ -1,20 +1,20 @@
 -- What is known and held along the edges of a jump.
 use Rattle.std.proofs.Common.{◌≡◌, ◌≢◌, ℕ, pos, ◌≤◌, Bool, true, false, if◌then◌else◌, List, get_or, refl, sym, ◌∙◌, subst}
 use Rattle.std.specs.Prelude.{Some, Ok, Err, IfOk, slice_index}
-use Rattle.bpf_isa.specs.declared.operation.Width.{Width}
-use Rattle.bpf_isa.specs.declared.operation.JumpCode.{JumpCode}
-use Rattle.bpf_isa.specs.declared.operation.Src.{Src}
-use Rattle.bpf_isa.specs.declared.operation.Op.TheVariants.{Jump}
-use Rattle.bpf_isa.specs.declared.instruction.Insn.{Insn}
-use Rattle.xdp_maps.specs.declared.decl.MapDecl.{MapDecl}
-use Rattle.xdp_maps.specs.State.{MapState}
-use Rattle.cell_core.specs.xdp_machine.Values.{Value}
-use Rattle.cell_core.specs.xdp_machine.Values as is
-use Rattle.cell_core.specs.xdp_machine.State.{Machine, PacketIn}
-use Rattle.cell_core.specs.xdp_machine.State as machine
-use Rattle.cell_core.specs.xdp_machine.Ranges.{IsInRange}
-use Rattle.cell_core.specs.xdp_machine.Step as step
-use Rattle.cell_core.specs.xdp_machine.Pointers.{compared}
+use Rattle.xdp_machine.specs.bpf_isa.declared.operation.Width.{Width}
+use Rattle.xdp_machine.specs.bpf_isa.declared.operation.JumpCode.{JumpCode}
+use Rattle.xdp_machine.specs.bpf_isa.declared.operation.Src.{Src}
+use Rattle.xdp_machine.specs.bpf_isa.declared.operation.Op.TheVariants.{Jump}
+use Rattle.xdp_machine.specs.bpf_isa.declared.instruction.Insn.{Insn}
+use Rattle.xdp_machine.specs.xdp_maps.declared.decl.MapDecl.{MapDecl}
+use Rattle.xdp_machine.specs.xdp_maps.State.{MapState}
+use Rattle.xdp_machine.specs.Values.{Value}
+use Rattle.xdp_machine.specs.Values as is
+use Rattle.xdp_machine.specs.State.{Machine, PacketIn}
+use Rattle.xdp_machine.specs.State as machine
+use Rattle.xdp_machine.specs.Ranges.{IsInRange}
+use Rattle.xdp_machine.specs.Step as step
+use Rattle.xdp_machine.specs.Pointers.{compared}
 use Rattle.kind_core.specs.declared.kind.Kind.{Kind}
 use Rattle.kind_core.specs.declared.kind.Kind.TheVariants.{Unset}
 use Rattle.kind_core.specs.declared.kind.Kinds.{Kinds}
@@ -24,9 +24,9 @@ use Rattle.kind_core.specs.Edges.{changed, changed_if, transferred}
 use Rattle.kind_core.specs.Describes.{World, Describes, DescribesMachine}
 use Rattle.kind_core.specs.Soundness.{Stands, IsPresent, ConditionsAreSound, LaterDescribes}
 use Rattle.cell_core.specs.Cells.{on}
-use Rattle.held_cells.specs.declared.held.Held.{Held}
-use Rattle.held_cells.specs.Held.{PointerView, pointer_at, key_of, Holds, Counts}
-use Rattle.held_cells.specs.Carrying.{IsKnown}
+use Rattle.operator_cells.specs.declared.held_cells.held.Held.{Held}
+use Rattle.operator_cells.specs.HeldCells.Held.{PointerView, pointer_at, key_of, Holds, Counts}
+use Rattle.operator_cells.specs.HeldCells.Carrying.{IsKnown}
 use Rattle.edge_cells.specs.Leaving.{EdgesAreKnown, EdgesAreInside, SingleEdgesAreKnown}
 use Rattle.edge_cells.proofs.JumpKindLaws.{Along, same, null, entry, IsEdge, edge_of, edge-any, single_edge}
 

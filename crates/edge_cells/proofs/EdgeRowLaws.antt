@@ -1,17 +1,17 @@
 -- The rows of what is held along the edges of a jump.
 use Rattle.std.proofs.Common.{◌≡◌, ℕ, ◌≤◌, Bool, false, List, ap, arith}
-use Rattle.bpf_isa.specs.declared.operation.Width.{Width}
-use Rattle.bpf_isa.specs.declared.operation.JumpCode.{JumpCode}
-use Rattle.bpf_isa.specs.declared.operation.Src.{Src}
-use Rattle.bpf_isa.specs.declared.operation.Op.TheVariants.{Ja, Jump}
-use Rattle.bpf_isa.specs.declared.instruction.Insn.{Insn}
-use Rattle.xdp_maps.specs.declared.decl.MapDecl.{MapDecl}
+use Rattle.xdp_machine.specs.bpf_isa.declared.operation.Width.{Width}
+use Rattle.xdp_machine.specs.bpf_isa.declared.operation.JumpCode.{JumpCode}
+use Rattle.xdp_machine.specs.bpf_isa.declared.operation.Src.{Src}
+use Rattle.xdp_machine.specs.bpf_isa.declared.operation.Op.TheVariants.{Ja, Jump}
+use Rattle.xdp_machine.specs.bpf_isa.declared.instruction.Insn.{Insn}
+use Rattle.xdp_machine.specs.xdp_maps.declared.decl.MapDecl.{MapDecl}
 use Rattle.kind_core.specs.declared.kind.Kind.{Kind}
 use Rattle.kind_core.specs.declared.kind.Kinds.{Kinds}
 use Rattle.kind_core.specs.Edges.{transferred}
-use Rattle.held_cells.specs.declared.held.Held.{Held}
-use Rattle.held_cells.specs.Held.{PointerView}
-use Rattle.held_cells.specs.Rows.{value_row, number_at, held_row}
+use Rattle.operator_cells.specs.declared.held_cells.held.Held.{Held}
+use Rattle.operator_cells.specs.HeldCells.Held.{PointerView}
+use Rattle.operator_cells.specs.HeldCells.Rows.{value_row, number_at, held_row}
 use Rattle.edge_cells.proofs.JumpKindLaws.{Along, same, null, entry, IsEdge, along_at, edge_of, single_edge}
 
 -- what a lookup answered has the same cells as an entry, and none as null

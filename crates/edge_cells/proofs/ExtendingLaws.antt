@@ -3,22 +3,22 @@ use Rattle.std.proofs.Common.{◌≡◌, ℕ, pos, true, ◌<◌, ◌≤◌, Lis
 use Rattle.std.proofs.Math.ListN.{get_or-append}
 use Rattle.std.proofs.Math.Seq.{get_or-append_seam}
 use Rattle.std.proofs.lemmas.List.{append-nil}
-use Rattle.xdp_maps.specs.declared.decl.MapDecl.{MapDecl}
-use Rattle.cell_core.specs.xdp_machine.Values.{Value}
+use Rattle.xdp_machine.specs.xdp_maps.declared.decl.MapDecl.{MapDecl}
+use Rattle.xdp_machine.specs.Values.{Value}
 use Rattle.kind_core.specs.declared.number.Number.TheVariants.{Known, Unknown}
 use Rattle.kind_core.specs.declared.kind.Kind.{Kind}
 use Rattle.kind_core.specs.declared.kind.Kind.TheVariants.{Unset, Num, Packet, End, Stack, Ctx, MapRef, Maybe, Entry, Stale, Mixed}
 use Rattle.kind_core.specs.declared.kind.Kinds.{Kinds}
 use Rattle.cell_core.specs.Cells.{CellView, on}
 use Rattle.operator_cells.specs.Making.{Grows}
-use Rattle.held_cells.specs.declared.held.Held.{Held}
-use Rattle.held_cells.specs.declared.way.Way.{Way}
-use Rattle.cell_core.specs.xdp_machine.Values as is
-use Rattle.held_cells.specs.Held.{PointerView, no_pointer, pointer_at, key_of, entry_or_null, Holds, Counts, IsPointer, AreInside}
+use Rattle.operator_cells.specs.declared.held_cells.held.Held.{Held}
+use Rattle.operator_cells.specs.declared.held_cells.way.Way.{Way}
+use Rattle.xdp_machine.specs.Values as is
+use Rattle.operator_cells.specs.HeldCells.Held.{PointerView, no_pointer, pointer_at, key_of, entry_or_null, Holds, Counts, IsPointer, AreInside}
 use Rattle.edge_cells.specs.declared.part.Part.{Part}
 use Rattle.edge_cells.specs.declared.part.Part.TheVariants.{Register, Slot, Byte, Target}
 use Rattle.edge_cells.specs.Meeting.{Extends, AreWays, Meets, IsPart, kind_at, held_at}
-use Rattle.held_cells.proofs.PointerLaws.{pointer_later}
+use Rattle.operator_cells.proofs.HeldCells.PointerLaws.{pointer_later}
 
 pub extends_none : (ps : List PointerView) → Extends ps ps
 extends_none ps = record { more = []; is = sym (append-nil ps) }

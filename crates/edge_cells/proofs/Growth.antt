@@ -1,10 +1,10 @@
 -- More cells.
 use Rattle.std.proofs.Common.{ℕ, List, subst, ap, ◌∙◌, arith}
-use Rattle.cell_core.specs.xdp_machine.State.{PacketIn}
+use Rattle.xdp_machine.specs.State.{PacketIn}
 use Rattle.cell_core.specs.Cells.{CellView}
 use Rattle.operator_cells.specs.Making.{GrowsWith, Grows, Makes}
 use Rattle.operator_cells.specs.Following.{Goes, IsFollowed}
-use Rattle.held_cells.specs.declared.way.Way.{Way}
+use Rattle.operator_cells.specs.declared.held_cells.way.Way.{Way}
 use Rattle.edge_cells.specs.Meeting.{Picks}
 use Rattle.edge_cells.specs.Pointing.{Follows}
 use Rattle.operator_cells.proofs.MakingLaws.{grown}

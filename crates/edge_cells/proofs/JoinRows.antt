@@ -3,7 +3,7 @@ use Rattle.std.proofs.Common.{◌≡◌, ℕ, suc, ◌+◌, ◌-◌, ◌<◌, �
 use Rattle.std.specs.Prelude.{slice_index}
 use Rattle.std.proofs.Math.ListN.{set}
 use Rattle.std.proofs.lemmas.Bool.{cases_lt}
-use Rattle.xdp_maps.specs.declared.decl.MapDecl.{MapDecl}
+use Rattle.xdp_machine.specs.xdp_maps.declared.decl.MapDecl.{MapDecl}
 use Rattle.kind_core.specs.declared.number.Number.TheVariants.{Unknown}
 use Rattle.kind_core.specs.declared.kind.Kind.{Kind}
 use Rattle.kind_core.specs.declared.kind.Kind.TheVariants.{Num, Maybe, Entry}
@@ -12,14 +12,14 @@ use Rattle.cell_core.specs.Cells.{CellView}
 use Rattle.cell_core.specs.Rows.{AreRows, greatest}
 use Rattle.operator_cells.specs.Rising.{GrowsTo, Rises}
 use Rattle.operator_cells.proofs.RisingLaws.{stand_none, stand_more}
-use Rattle.held_cells.specs.place_rows.Origins.{is_open}
-use Rattle.held_cells.proofs.place_rows.PlaceLaws.{greatest_above, greatest_within}
-use Rattle.held_cells.specs.declared.held.Held.{Held}
-use Rattle.held_cells.specs.declared.way.Way.{Way}
-use Rattle.held_cells.specs.Held.{PointerView, Counts}
-use Rattle.held_cells.specs.Rows as places
-use Rattle.held_cells.specs.Rows.{cells_of_pointer, value_row, number_at, held_row, bits_row, brought_row, hold_one, met_row, choosing_row, JoinsTo}
-use Rattle.held_cells.proofs.RowLaws.{grows_by}
+use Rattle.operator_cells.specs.row_rules.PlaceRows.Origins.{is_open}
+use Rattle.operator_cells.proofs.row_rules_laws.PlaceRows.PlaceLaws.{greatest_above, greatest_within}
+use Rattle.operator_cells.specs.declared.held_cells.held.Held.{Held}
+use Rattle.operator_cells.specs.declared.held_cells.way.Way.{Way}
+use Rattle.operator_cells.specs.HeldCells.Held.{PointerView, Counts}
+use Rattle.operator_cells.specs.HeldCells.Rows as places
+use Rattle.operator_cells.specs.HeldCells.Rows.{cells_of_pointer, value_row, number_at, held_row, bits_row, brought_row, hold_one, met_row, choosing_row, JoinsTo}
+use Rattle.operator_cells.proofs.HeldCells.RowLaws.{grows_by}
 use Rattle.edge_cells.specs.declared.part.Part.{Part}
 use Rattle.edge_cells.specs.declared.part.Part.TheVariants.{Register, Slot, Byte, Target}
 use Rattle.edge_cells.specs.Meeting.{IsPart, held_at, kind_at, Extends, AreWays, MeetsMore, MeetRow}

@@ -21,3 +21,4 @@ pub mod PartRows
 pub mod JoinRows
 pub mod PointersMet
 pub mod EdgeRowLaws
+pub mod NodeCells

@@ -3,7 +3,7 @@ use Rattle.std.proofs.Common.{◌≡◌, ℕ, ◌+◌, ◌-◌, ◌≤◌, ◌==
 use Rattle.std.specs.Prelude.{Some, None}
 use Rattle.std.proofs.lemmas.Bool.{lt-ltb, le-ltb, eq-eqb, eqb-true}
 use Rattle.std.proofs.lemmas.List.Sums.{AllPass-from_list_all, list_all-from_AllPass}
-use Rattle.xdp_maps.specs.declared.decl.MapDecl.{MapDecl}
+use Rattle.xdp_machine.specs.xdp_maps.declared.decl.MapDecl.{MapDecl}
 use Rattle.kind_core.specs.declared.number.Number.{Number}
 use Rattle.kind_core.specs.declared.number.Number.TheVariants.{Known, Unknown}
 use Rattle.kind_core.specs.declared.kind.Kind.{Kind}
@@ -13,14 +13,14 @@ use Rattle.cell_core.specs.Cells.{CellView}
 use Rattle.cell_core.specs.Rows.{greatest}
 use Rattle.operator_cells.specs.Rising.{Rises, RiseAll}
 use Rattle.operator_cells.proofs.RisingLaws.{stand_none}
-use Rattle.held_cells.specs.place_rows.Origins.{is_open}
-use Rattle.held_cells.specs.place_rows.Reading as reading
-use Rattle.held_cells.specs.declared.held.Held.{Held}
-use Rattle.held_cells.specs.declared.way.Way.{Way}
-use Rattle.held_cells.specs.Held.{PointerView, pointer_at}
-use Rattle.held_cells.specs.Rows as places
-use Rattle.held_cells.specs.Rows.{cells_of_pointer, number_row, value_row, number_at, held_row, bits_row, brought_row, holds_at, hold_one, chosen_row, met_row, choosing_row}
-use Rattle.held_cells.proofs.RowLaws.{grows_by}
+use Rattle.operator_cells.specs.row_rules.PlaceRows.Origins.{is_open}
+use Rattle.operator_cells.specs.row_rules.PlaceRows.Reading as reading
+use Rattle.operator_cells.specs.declared.held_cells.held.Held.{Held}
+use Rattle.operator_cells.specs.declared.held_cells.way.Way.{Way}
+use Rattle.operator_cells.specs.HeldCells.Held.{PointerView, pointer_at}
+use Rattle.operator_cells.specs.HeldCells.Rows as places
+use Rattle.operator_cells.specs.HeldCells.Rows.{cells_of_pointer, number_row, value_row, number_at, held_row, bits_row, brought_row, holds_at, hold_one, chosen_row, met_row, choosing_row}
+use Rattle.operator_cells.proofs.HeldCells.RowLaws.{grows_by}
 use Rattle.edge_cells.specs.declared.part.Part.{Part}
 use Rattle.edge_cells.specs.declared.part.Part.TheVariants.{Register, Slot, Byte, Target}
 use Rattle.edge_cells.specs.Widening.{Widens}

@@ -7,9 +7,9 @@ use Rattle.std.proofs.lemmas.Bool.{cases_lt}
 use Rattle.std.proofs.lemmas.List.{length-map, get_or-map}
 use Rattle.cell_core.specs.Cells.{CellView}
 use Rattle.operator_cells.specs.Making.{Grows}
-use Rattle.held_cells.specs.declared.held.Pointer.{Pointer}
-use Rattle.held_cells.specs.declared.way.Way.{Way}
-use Rattle.held_cells.specs.Held.{PointerView, pointer_of, pointed, pointer_at, no_pointer}
+use Rattle.operator_cells.specs.declared.held_cells.held.Pointer.{Pointer}
+use Rattle.operator_cells.specs.declared.held_cells.way.Way.{Way}
+use Rattle.operator_cells.specs.HeldCells.Held.{PointerView, pointer_of, pointed, pointer_at, no_pointer}
 use Rattle.edge_cells.specs.declared.part.Part.{Part}
 use Rattle.edge_cells.specs.Meeting.{held_at, cell_in, cell_brought, BringCells, Picks, PickWords}
 use Rattle.kind_core.specs.declared.kind.Kind.{Kind}

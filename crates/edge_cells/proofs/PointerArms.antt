@@ -6,8 +6,8 @@ use Rattle.cell_core.specs.Cells.{on}
 use Rattle.cell_core.specs.Rows.{greatest}
 use Rattle.operator_cells.specs.declared.joining.Arm.{Arm}
 use Rattle.operator_cells.specs.Joining.{followed, flat}
-use Rattle.held_cells.specs.declared.way.Way.{Way}
-use Rattle.held_cells.specs.Held.{PointerView, pointer_at}
+use Rattle.operator_cells.specs.declared.held_cells.way.Way.{Way}
+use Rattle.operator_cells.specs.HeldCells.Held.{PointerView, pointer_at}
 use Rattle.edge_cells.specs.declared.part.Part.{Part}
 use Rattle.edge_cells.specs.Meeting.{held_at, first_on, cell_in, BringCells}
 use Rattle.edge_cells.specs.Rows.{choice_row, pointer_row_brought}

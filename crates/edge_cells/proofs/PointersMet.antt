@@ -3,7 +3,7 @@ use Rattle.std.proofs.Common.{◌≡◌, ℕ, ◌+◌, ◌<◌, ◌≤◌, ◌�
 use Rattle.std.specs.Prelude.{Option, Some, None, slice_index}
 use Rattle.std.proofs.Math.ListN.{set}
 use Rattle.std.proofs.lemmas.Bool.{cases_lt, le-ltb}
-use Rattle.xdp_maps.specs.declared.decl.MapDecl.{MapDecl}
+use Rattle.xdp_machine.specs.xdp_maps.declared.decl.MapDecl.{MapDecl}
 use Rattle.kind_core.specs.declared.number.Number.TheVariants.{Unknown}
 use Rattle.kind_core.specs.declared.kind.Kind.{Kind}
 use Rattle.kind_core.specs.declared.kind.Kind.TheVariants.{Unset, Num, Maybe, Entry}
@@ -12,12 +12,12 @@ use Rattle.kind_core.specs.Kinds.{key_bytes}
 use Rattle.cell_core.specs.Cells.{CellView}
 use Rattle.operator_cells.specs.Making.{Grows}
 use Rattle.operator_cells.proofs.MakingLaws.{grown}
-use Rattle.held_cells.specs.declared.held.Held.{Held}
-use Rattle.held_cells.specs.declared.way.Way.{Way}
-use Rattle.held_cells.specs.Held.{PointerView, pointer_at, key_of, Counts}
-use Rattle.held_cells.specs.Rows as places
-use Rattle.held_cells.specs.Rows.{number_at}
-use Rattle.held_cells.specs.Pointing.{Pointing, pointing_as, pointing_at, IsSamePointer}
+use Rattle.operator_cells.specs.declared.held_cells.held.Held.{Held}
+use Rattle.operator_cells.specs.declared.held_cells.way.Way.{Way}
+use Rattle.operator_cells.specs.HeldCells.Held.{PointerView, pointer_at, key_of, Counts}
+use Rattle.operator_cells.specs.HeldCells.Rows as places
+use Rattle.operator_cells.specs.HeldCells.Rows.{number_at}
+use Rattle.operator_cells.specs.HeldCells.Pointing.{Pointing, pointing_as, pointing_at, IsSamePointer}
 use Rattle.edge_cells.specs.declared.part.Part.{Part}
 use Rattle.edge_cells.specs.declared.part.Part.TheVariants.{Register, Slot, Byte, Target}
 use Rattle.edge_cells.specs.Meeting.{IsPart, held_at, kind_at, cell_brought, PicksPointer, words_of, is_known, map_of, Extends, AreWays, Meets, MeetsMore, MeetRow, first_on}

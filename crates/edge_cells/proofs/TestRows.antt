@@ -1,21 +1,21 @@
 -- The rows of what conditions compare.
 use Rattle.std.proofs.Common.{◌≡◌, ℕ, ◌+◌, ◌≤◌, List, max, refl, sym, ◌∙◌, ap, arith}
 use Rattle.std.specs.Prelude.{Some, slice_index}
-use Rattle.bpf_isa.specs.declared.operation.Src.{Src}
-use Rattle.bpf_isa.specs.declared.operation.Src.TheVariants.{K, X}
-use Rattle.bpf_isa.specs.declared.instruction.Insn.{Insn}
+use Rattle.xdp_machine.specs.bpf_isa.declared.operation.Src.{Src}
+use Rattle.xdp_machine.specs.bpf_isa.declared.operation.Src.TheVariants.{K, X}
+use Rattle.xdp_machine.specs.bpf_isa.declared.instruction.Insn.{Insn}
 use Rattle.kind_core.specs.declared.kind.Kind.{Kind}
 use Rattle.kind_core.specs.declared.kind.Kind.TheVariants.{Num, Maybe}
 use Rattle.kind_core.specs.declared.kind.Kinds.{Kinds}
 use Rattle.kind_core.specs.Kinds.{register}
 use Rattle.kind_core.specs.Effects.{operand}
-use Rattle.held_cells.specs.place_rows.Spans.{one, span_row}
-use Rattle.held_cells.specs.place_rows.Reading.{right_of}
-use Rattle.held_cells.proofs.place_rows.SpanLaws.{one_row}
-use Rattle.held_cells.specs.declared.held.Held.{Held}
-use Rattle.held_cells.specs.Held.{PointerView, pointer_at}
-use Rattle.held_cells.specs.Rows.{number_row, value_row, held_row}
-use Rattle.held_cells.proofs.RowLaws.{register_row}
+use Rattle.operator_cells.specs.row_rules.PlaceRows.Spans.{one, span_row}
+use Rattle.operator_cells.specs.row_rules.PlaceRows.Reading.{right_of}
+use Rattle.operator_cells.proofs.row_rules_laws.PlaceRows.SpanLaws.{one_row}
+use Rattle.operator_cells.specs.declared.held_cells.held.Held.{Held}
+use Rattle.operator_cells.specs.HeldCells.Held.{PointerView, pointer_at}
+use Rattle.operator_cells.specs.HeldCells.Rows.{number_row, value_row, held_row}
+use Rattle.operator_cells.proofs.HeldCells.RowLaws.{register_row}
 use Rattle.edge_cells.specs.Meeting.{number_in}
 use Rattle.edge_cells.specs.Testing.{found_of}
 use Rattle.edge_cells.specs.Leaving.{operand_held}

@@ -2,15 +2,15 @@
 use Rattle.std.proofs.Common.{◌≡◌, ℕ, pos, zero, suc, ◌-◌, ◌^◌, ◌<◌, ◌==◌, Bool, true, false, not, if◌then◌else◌, List, [], length, refl, sym, ◌∙◌, ap, subst, arith}
 use Rattle.std.specs.Prelude.{Some, None}
 use Rattle.std.proofs.Math.Nat.{pow-le-pow_right, mod-eq_of_lt}
-use Rattle.bpf_isa.specs.declared.operation.Width.{Width}
-use Rattle.bpf_isa.specs.declared.operation.Width.TheVariants.{Bits32, Bits64}
-use Rattle.bpf_isa.specs.declared.operation.JumpCode.{JumpCode}
-use Rattle.bpf_isa.specs.declared.operation.JumpCode.TheVariants.{Jeq, Jne, Jgt, Jge, Jlt, Jle}
-use Rattle.cell_core.specs.xdp_machine.Arithmetic.{low, bits_in, holds}
-use Rattle.cell_core.specs.xdp_machine.Values.{Value}
-use Rattle.cell_core.specs.xdp_machine.Values as is
-use Rattle.cell_core.specs.xdp_machine.State.{PacketIn}
-use Rattle.cell_core.specs.xdp_machine.Pointers.{compared, in_order}
+use Rattle.xdp_machine.specs.bpf_isa.declared.operation.Width.{Width}
+use Rattle.xdp_machine.specs.bpf_isa.declared.operation.Width.TheVariants.{Bits32, Bits64}
+use Rattle.xdp_machine.specs.bpf_isa.declared.operation.JumpCode.{JumpCode}
+use Rattle.xdp_machine.specs.bpf_isa.declared.operation.JumpCode.TheVariants.{Jeq, Jne, Jgt, Jge, Jlt, Jle}
+use Rattle.xdp_machine.specs.Arithmetic.{low, bits_in, holds}
+use Rattle.xdp_machine.specs.Values.{Value}
+use Rattle.xdp_machine.specs.Values as is
+use Rattle.xdp_machine.specs.State.{PacketIn}
+use Rattle.xdp_machine.specs.Pointers.{compared, in_order}
 use Rattle.kind_core.specs.declared.number.Number.{Number}
 use Rattle.kind_core.specs.declared.number.Number.TheVariants.{Known, Unknown}
 use Rattle.kind_core.specs.declared.kind.Kind.{Kind}
@@ -20,7 +20,7 @@ use Rattle.cell_core.specs.CellLaws.{ValuesFit}
 use Rattle.cell_core.specs.Formed.{AreFormed}
 use Rattle.cell_core.specs.declared.operator.Operator.TheVariants.{Constant}
 use Rattle.operator_cells.specs.Making.{Makes, operated}
-use Rattle.held_cells.specs.Held.{PointerView, pointer_at, key_of, number_of, IsThere}
+use Rattle.operator_cells.specs.HeldCells.Held.{PointerView, pointer_at, key_of, number_of, IsThere}
 use Rattle.edge_cells.specs.Testing.{is_order, is_equality, is_equal, is_open, null_holds, place_of, found_of, HasPointer, IsReady, is_number, Tests}
 use Rattle.edge_cells.specs.Meeting.{number_in}
 use Rattle.operator_cells.proofs.MakingLaws.{grown}

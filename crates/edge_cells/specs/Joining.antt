@@ -1,18 +1,18 @@
 -- Where edges meet at a node.
 use Rattle.std.specs.Prelude.{ℕ, ◌≡◌, ◌<◌, Bool, List, length, get_or, All, Contains}
 use Rattle.std.specs.List.{list_any}
-use Rattle.xdp_maps.specs.declared.decl.MapDecl.{MapDecl}
-use Rattle.cell_core.specs.xdp_machine.State.{PacketIn, Machine}
+use Rattle.xdp_machine.specs.xdp_maps.declared.decl.MapDecl.{MapDecl}
+use Rattle.xdp_machine.specs.State.{PacketIn, Machine}
 use Rattle.kind_core.specs.declared.kind.Kinds.{Kinds}
 use Rattle.cell_core.specs.Cells.{CellView, IsRun, on, bit}
 use Rattle.operator_cells.specs.Making.{Grows}
-use Rattle.held_cells.specs.declared.held.Held.{Held}
-use Rattle.held_cells.specs.declared.way.Way.{Way}
-use Rattle.held_cells.specs.declared.way.Exit.{Exit}
-use Rattle.held_cells.specs.Paths.{GraphView, Stage, node_at}
-use Rattle.held_cells.specs.Held.{PointerView, AreInside}
-use Rattle.held_cells.specs.Carrying.{IsKnown}
-use Rattle.held_cells.specs.Steps.{IsGood, IsHere}
+use Rattle.operator_cells.specs.declared.held_cells.held.Held.{Held}
+use Rattle.operator_cells.specs.declared.held_cells.way.Way.{Way}
+use Rattle.operator_cells.specs.declared.held_cells.way.Exit.{Exit}
+use Rattle.operator_cells.specs.HeldCells.Paths.{GraphView, Stage, node_at}
+use Rattle.operator_cells.specs.HeldCells.Held.{PointerView, AreInside}
+use Rattle.operator_cells.specs.HeldCells.Carrying.{IsKnown}
+use Rattle.operator_cells.specs.HeldCells.Steps.{IsGood, IsHere}
 use Rattle.edge_cells.specs.Meeting.{first_on, Extends}
 
 -- whether one of some edges is on

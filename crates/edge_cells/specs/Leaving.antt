@@ -1,20 +1,20 @@
 -- The edges that leave a node along a jump, and ends.
 use Rattle.std.specs.Prelude.{ℕ, ◌≡◌, ◌<◌, ◌≤◌, ◌&&◌, Bool, true, false, Option, Some, None, List, length, slice_index}
-use Rattle.bpf_isa.specs.declared.operation.Width.{Width}
-use Rattle.bpf_isa.specs.declared.operation.JumpCode.{JumpCode}
-use Rattle.bpf_isa.specs.declared.operation.Src.{Src}
-use Rattle.bpf_isa.specs.declared.operation.Src.TheVariants.{K, X}
-use Rattle.bpf_isa.specs.declared.operation.Op.TheVariants.{Ja, Jump}
-use Rattle.bpf_isa.specs.declared.instruction.Insn.{Insn}
-use Rattle.xdp_maps.specs.declared.decl.MapDecl.{MapDecl}
-use Rattle.cell_core.specs.xdp_machine.State.{Machine, PacketIn}
-use Rattle.cell_core.specs.xdp_machine.State as machine
-use Rattle.cell_core.specs.xdp_machine.Step as step
-use Rattle.cell_core.specs.xdp_machine.Step.{exits}
-use Rattle.cell_core.specs.xdp_machine.Step.{Ends}
-use Rattle.cell_core.specs.xdp_machine.Values as values
-use Rattle.cell_core.specs.xdp_machine.Pointers.{compared}
-use Rattle.cell_core.specs.xdp_machine.Runs.{leaves}
+use Rattle.xdp_machine.specs.bpf_isa.declared.operation.Width.{Width}
+use Rattle.xdp_machine.specs.bpf_isa.declared.operation.JumpCode.{JumpCode}
+use Rattle.xdp_machine.specs.bpf_isa.declared.operation.Src.{Src}
+use Rattle.xdp_machine.specs.bpf_isa.declared.operation.Src.TheVariants.{K, X}
+use Rattle.xdp_machine.specs.bpf_isa.declared.operation.Op.TheVariants.{Ja, Jump}
+use Rattle.xdp_machine.specs.bpf_isa.declared.instruction.Insn.{Insn}
+use Rattle.xdp_machine.specs.xdp_maps.declared.decl.MapDecl.{MapDecl}
+use Rattle.xdp_machine.specs.State.{Machine, PacketIn}
+use Rattle.xdp_machine.specs.State as machine
+use Rattle.xdp_machine.specs.Step as step
+use Rattle.xdp_machine.specs.Step.{exits}
+use Rattle.xdp_machine.specs.Step.{Ends}
+use Rattle.xdp_machine.specs.Values as values
+use Rattle.xdp_machine.specs.Pointers.{compared}
+use Rattle.xdp_machine.specs.Runs.{leaves}
 use Rattle.kind_core.specs.declared.kind.Kind.TheVariants.{Num}
 use Rattle.kind_core.specs.declared.kind.Kinds.{Kinds}
 use Rattle.kind_core.specs.Kinds.{register}
@@ -23,12 +23,12 @@ use Rattle.kind_core.specs.Effects.{effect_of, verdict, operand}
 use Rattle.kind_core.specs.Edges.{agrees, decided, transferred}
 use Rattle.cell_core.specs.Cells.{CellView, IsRun, on, bit}
 use Rattle.operator_cells.specs.Making.{Grows}
-use Rattle.held_cells.specs.declared.held.Held.{Held}
-use Rattle.held_cells.specs.declared.way.Way.{Way}
-use Rattle.held_cells.specs.declared.way.Exit.{Exit}
-use Rattle.held_cells.specs.Held.{PointerView, AreInside}
-use Rattle.held_cells.specs.Carrying.{IsKnown}
-use Rattle.held_cells.specs.Steps.{IsLeft}
+use Rattle.operator_cells.specs.declared.held_cells.held.Held.{Held}
+use Rattle.operator_cells.specs.declared.held_cells.way.Way.{Way}
+use Rattle.operator_cells.specs.declared.held_cells.way.Exit.{Exit}
+use Rattle.operator_cells.specs.HeldCells.Held.{PointerView, AreInside}
+use Rattle.operator_cells.specs.HeldCells.Carrying.{IsKnown}
+use Rattle.operator_cells.specs.HeldCells.Steps.{IsLeft}
 use Rattle.edge_cells.specs.Testing.{is_open, IsReady, Tests}
 
 -- the cell of the second operand, or its pointer; an immediate number has none

@@ -1,4 +1,3 @@
-pub use Rattle.held_cells.specs as held_cells
 pub mod Widening
 pub mod Meeting
 pub mod Joining
@@ -6,3 +5,4 @@ pub mod Testing
 pub mod Leaving
 pub mod Rows
 pub mod Pointing
+pub mod NodeCells

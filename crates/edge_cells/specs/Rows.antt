@@ -4,10 +4,10 @@ use Rattle.kind_core.specs.declared.kind.Kinds.{Kinds}
 use Rattle.cell_core.specs.Cells.{CellView}
 use Rattle.cell_core.specs.Rows.{AreRows, greatest, numbers}
 use Rattle.operator_cells.specs.Rising.{GrowsTo}
-use Rattle.held_cells.specs.place_rows.Spans.{slot, byte}
-use Rattle.held_cells.specs.declared.way.Way.{Way}
-use Rattle.held_cells.specs.Held.{PointerView, pointer_at}
-use Rattle.held_cells.specs.Rows.{cells_of_pointer, number_row, value_row, number_at, hold_one, met_row, choosing_row}
+use Rattle.operator_cells.specs.row_rules.PlaceRows.Spans.{slot, byte}
+use Rattle.operator_cells.specs.declared.held_cells.way.Way.{Way}
+use Rattle.operator_cells.specs.HeldCells.Held.{PointerView, pointer_at}
+use Rattle.operator_cells.specs.HeldCells.Rows.{cells_of_pointer, number_row, value_row, number_at, hold_one, met_row, choosing_row}
 use Rattle.edge_cells.specs.declared.part.Part.{Part}
 use Rattle.edge_cells.specs.declared.part.Part.TheVariants.{Register, Slot, Byte, Target}
 use Rattle.edge_cells.specs.Meeting.{held_at, kind_at, number_in}

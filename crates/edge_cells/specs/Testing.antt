@@ -1,20 +1,20 @@
 -- The conditions of jumps.
 use Rattle.std.specs.Prelude.{ℕ, zero, pos, ◌≡◌, ◌<◌, ◌^◌, Bool, true, false, not, if◌then◌else◌, Option, Some, None, List, length}
-use Rattle.xdp_maps.specs.declared.decl.MapDecl.{MapDecl}
-use Rattle.bpf_isa.specs.declared.operation.Width.{Width}
-use Rattle.bpf_isa.specs.declared.operation.Width.TheVariants.{Bits64}
-use Rattle.bpf_isa.specs.declared.operation.JumpCode.{JumpCode}
-use Rattle.bpf_isa.specs.declared.operation.JumpCode.TheVariants.{Jeq, Jne, Jgt, Jge, Jlt, Jle}
-use Rattle.cell_core.specs.xdp_machine.Values.{Value}
-use Rattle.cell_core.specs.xdp_machine.Values as is
-use Rattle.cell_core.specs.xdp_machine.State.{PacketIn}
-use Rattle.cell_core.specs.xdp_machine.Pointers.{compared}
+use Rattle.xdp_machine.specs.xdp_maps.declared.decl.MapDecl.{MapDecl}
+use Rattle.xdp_machine.specs.bpf_isa.declared.operation.Width.{Width}
+use Rattle.xdp_machine.specs.bpf_isa.declared.operation.Width.TheVariants.{Bits64}
+use Rattle.xdp_machine.specs.bpf_isa.declared.operation.JumpCode.{JumpCode}
+use Rattle.xdp_machine.specs.bpf_isa.declared.operation.JumpCode.TheVariants.{Jeq, Jne, Jgt, Jge, Jlt, Jle}
+use Rattle.xdp_machine.specs.Values.{Value}
+use Rattle.xdp_machine.specs.Values as is
+use Rattle.xdp_machine.specs.State.{PacketIn}
+use Rattle.xdp_machine.specs.Pointers.{compared}
 use Rattle.kind_core.specs.declared.number.Number.TheVariants.{Known}
 use Rattle.kind_core.specs.declared.kind.Kind.{Kind}
 use Rattle.kind_core.specs.declared.kind.Kind.TheVariants.{Num, Packet, End, Maybe, Entry}
 use Rattle.cell_core.specs.Cells.{CellView, IsRun, bit}
 use Rattle.operator_cells.specs.Making.{Grows}
-use Rattle.held_cells.specs.Held.{PointerView, pointer_at, Holds, number_of, IsThere}
+use Rattle.operator_cells.specs.HeldCells.Held.{PointerView, pointer_at, Holds, number_of, IsThere}
 
 -- places in the packet are compared by their order, and with null by whether they are equal
 abbrev pub is_order : JumpCode → Bool

@@ -4,8 +4,8 @@ ghost use Rattle.std.specs.Prelude.{◌≡◌, ◌<◌, ◌≤◌, length, IfOk,
 ghost use Rattle.cell_core.specs.Formed.{AreFormed};
 ghost use Rattle.operator_cells.specs.Making.{seen};
 ghost use Rattle.operator_cells.specs.Rising.{Rises};
-ghost use Rattle.held_cells.specs.Held.{pointed};
-ghost use Rattle.held_cells.specs.Rows.{bits_row, JoinsTo};
+ghost use Rattle.operator_cells.specs.HeldCells.Held.{pointed};
+ghost use Rattle.operator_cells.specs.HeldCells.Rows.{bits_row, JoinsTo};
 ghost use Rattle.edge_cells.specs.Widening.{AreWider, AreFilled};
 ghost use Rattle.edge_cells.specs.Meeting.{AreWays, MeetRow};
 ghost use Rattle.edge_cells.specs.Joining.{Guards, Joins};
@@ -15,12 +15,12 @@ ghost use Rattle.edge_cells.specs.Pointing.{MeetRowPoints, JoinPoints};
 use crate::meeting::meet;
 use crate::part::Part;
 use cell_core::cell::Cell;
-use held_cells::held::{Held, Pointer};
-use held_cells::way::Way;
 use kind_core::Kinds;
+use operator_cells::held_cells::held::{Held, Pointer};
+use operator_cells::held_cells::way::Way;
 use operator_cells::joining::guard;
 use std::alloc::{AllocError, Global};
-use xdp_maps::decl::MapDecl;
+use xdp_machine::xdp_maps::decl::MapDecl;
 
 /// The guard of a node, the cell that is 1 where the node is on the path of a packet, and what is held there.
 #[derive(Copy, Clone, Debug, PartialEq, Eq)]

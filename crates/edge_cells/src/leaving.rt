@@ -1,16 +1,16 @@
 //! The edges that leave a node along a jump, and ends.
 
 ghost use Rattle.std.specs.Prelude.{◌≡◌, ◌+◌, ◌<◌, ◌≤◌, max, true, length, slice_index, IfOk};
-ghost use Rattle.bpf_isa.specs.Spelling.{IsInsn};
+ghost use Rattle.xdp_machine.specs.bpf_isa.Spelling.{IsInsn};
 ghost use Rattle.kind_core.specs.Kinds.{register};
 ghost use Rattle.kind_core.specs.Effects.{operand};
 ghost use Rattle.cell_core.specs.Formed.{AreFormed};
 ghost use Rattle.operator_cells.specs.Making.{seen};
 ghost use Rattle.operator_cells.specs.Rising.{Rises};
-ghost use Rattle.held_cells.specs.place_rows.Spans.{one, span_row};
-ghost use Rattle.held_cells.specs.place_rows.Reading.{right_of};
-ghost use Rattle.held_cells.specs.Held.{pointed};
-ghost use Rattle.held_cells.specs.Rows.{held_row};
+ghost use Rattle.operator_cells.specs.row_rules.PlaceRows.Spans.{one, span_row};
+ghost use Rattle.operator_cells.specs.row_rules.PlaceRows.Reading.{right_of};
+ghost use Rattle.operator_cells.specs.HeldCells.Held.{pointed};
+ghost use Rattle.operator_cells.specs.HeldCells.Rows.{held_row};
 ghost use Rattle.edge_cells.specs.Meeting.{number_in};
 ghost use Rattle.edge_cells.specs.Testing.{is_open, IsReady};
 ghost use Rattle.edge_cells.specs.Leaving.{operand_held, TestsJump, IsThere, Branches, IsBranch, condition_row};
@@ -18,14 +18,14 @@ ghost use Rattle.edge_cells.specs.Leaving.{operand_held, TestsJump, IsThere, Bra
 use crate::joining::Here;
 use crate::part::number_in;
 use crate::testing::condition;
-use bpf_isa::{Insn, JumpCode, Src, Width};
 use cell_core::cell::Cell;
-use held_cells::held::{Held, Pointer};
-use held_cells::way::{Exit, Way};
 use kind_core::{Kind, Kinds, Number, transfer};
+use operator_cells::held_cells::held::{Held, Pointer};
+use operator_cells::held_cells::way::{Exit, Way};
 use operator_cells::leaving::edge;
 use std::alloc::AllocError;
-use xdp_maps::decl::MapDecl;
+use xdp_machine::bpf_isa::{Insn, JumpCode, Src, Width};
+use xdp_machine::xdp_maps::decl::MapDecl;
 
 // The kind of the second operand.
 fn operand(kinds: &Kinds, insn: &Insn, src: Src) -> Kind

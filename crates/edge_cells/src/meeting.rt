@@ -5,8 +5,8 @@ ghost use Rattle.kind_core.specs.Kinds.{key_bytes};
 ghost use Rattle.cell_core.specs.Formed.{AreFormed};
 ghost use Rattle.operator_cells.specs.Making.{seen};
 ghost use Rattle.operator_cells.specs.Rising.{Rises, RiseAll};
-ghost use Rattle.held_cells.specs.Held.{pointed, pointer_of, pointer_at};
-ghost use Rattle.held_cells.specs.Rows.{cells_of_pointer};
+ghost use Rattle.operator_cells.specs.HeldCells.Held.{pointed, pointer_of, pointer_at};
+ghost use Rattle.operator_cells.specs.HeldCells.Rows.{cells_of_pointer};
 ghost use Rattle.edge_cells.specs.Widening.{AreWider};
 ghost use Rattle.edge_cells.specs.Meeting.{IsPart, held_at, kind_at, Picks, number_brought, BringNumbers, cell_in, cell_brought, BringCells, PickWords, PicksPointer, words_of, is_known, is_unknown, map_of, AreWays, MeetsMore};
 ghost use Rattle.edge_cells.specs.Rows.{choice_row, number_row_brought, pointer_row_brought, MeetsTo};
@@ -14,13 +14,13 @@ ghost use Rattle.edge_cells.specs.Pointing.{Follows, MeetsPointer};
 
 use crate::part::{Part, held_at, kind_at, number_in};
 use cell_core::cell::{Cell, Cells};
-use held_cells::held::Pointer;
-use held_cells::operand::number_cell;
-use held_cells::way::Way;
 use kind_core::{Kind, Kinds, Number};
+use operator_cells::held_cells::held::Pointer;
+use operator_cells::held_cells::operand::number_cell;
+use operator_cells::held_cells::way::Way;
 use operator_cells::joining::{Arm, choose};
 use std::alloc::AllocError;
-use xdp_maps::decl::MapDecl;
+use xdp_machine::xdp_maps::decl::MapDecl;
 
 // The number that edges bring.
 fn meet_numbers(cells: &mut Vec<Cell>, ways: &[Way], part: Part) -> Result<u32, AllocError>

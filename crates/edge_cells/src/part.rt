@@ -3,8 +3,8 @@
 ghost use Rattle.std.specs.Prelude.{◌≡◌};
 ghost use Rattle.edge_cells.specs.Meeting.{IsPart, held_at, kind_at, number_in};
 
-use held_cells::held::Held;
 use kind_core::{Kind, Kinds, Number};
+use operator_cells::held_cells::held::Held;
 
 /// A part of a machine: a register, a slot of the stack, a byte of the packet, or the target of a redirect.
 #[derive(Copy, Clone)]

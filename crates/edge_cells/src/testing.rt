@@ -1,26 +1,26 @@
 //! The conditions of jumps.
 
 ghost use Rattle.std.specs.Prelude.{◌≡◌, ◌<◌, ◌+◌, max, true, length, IfOk};
-ghost use Rattle.cell_core.specs.xdp_machine.Arithmetic.{low, bits_in, holds};
+ghost use Rattle.xdp_machine.specs.Arithmetic.{low, bits_in, holds};
 ghost use Rattle.cell_core.specs.Cells.{bit, on};
 ghost use Rattle.cell_core.specs.Formed.{AreFormed};
 ghost use Rattle.operator_cells.specs.Making.{seen, Makes};
 ghost use Rattle.operator_cells.specs.Rising.{Rises};
-ghost use Rattle.held_cells.specs.Held.{pointed, number_of, IsThere};
-ghost use Rattle.held_cells.specs.Rows.{number_row, value_row};
+ghost use Rattle.operator_cells.specs.HeldCells.Held.{pointed, number_of, IsThere};
+ghost use Rattle.operator_cells.specs.HeldCells.Rows.{number_row, value_row};
 ghost use Rattle.edge_cells.specs.Testing.{is_open, is_equal, null_holds, place_of, found_of, HasPointer, IsReady, is_number, Tests};
 
 use crate::part::number_in;
-use bpf_isa::{JumpCode, Width};
 use cell_core::cell::Cell;
 use cell_core::laws::values_fit;
 use cell_core::operator::Operator;
-use held_cells::held::Pointer;
-use held_cells::operand::number_cell;
 use kind_core::{Kind, Number};
 use operator_cells::cells::{constant, operate};
 use operator_cells::comparing::{compare, equal, not};
+use operator_cells::held_cells::held::Pointer;
+use operator_cells::held_cells::operand::number_cell;
 use std::alloc::AllocError;
+use xdp_machine::bpf_isa::{JumpCode, Width};
 
 // A condition on numbers.
 fn compare_numbers(

@@ -3,19 +3,19 @@ use Rattle.std.specs.Prelude.{◌≡◌, ℕ, zero, suc, ◌+◌, ◌≤◌, Lis
 use Rattle.std.specs.List.{AllByRecursion}
 use Rattle.std.proofs.Common.{refl, sym, ap₂, subst, ◌∙◌, arith}
 use Rattle.net_core.specs.beat_core.Ports.{Arrival}
-use Rattle.xdp_maps.specs.State.{MapState, IsSound}
-use Rattle.xdp_maps.specs.Touched.{Resource}
+use Rattle.xdp_object.specs.xdp_maps.State.{MapState, IsSound}
+use Rattle.xdp_object.specs.xdp_maps.Touched.{Resource}
 use Rattle.xdp_object.specs.xdp_machine.Program.{XdpProgram, IsProgram}
 use Rattle.xdp_object.specs.xdp_machine.Runs.{Leaves}
 use Rattle.xdp_object.specs.xdp_machine.Touched.{Touched, AllTouch}
-use Rattle.xdp_object.proofs.xdp_machine.RunLaws.{has_one_answer}
-use Rattle.xdp_object.proofs.xdp_machine.TouchLaws.{touches_one}
+use Rattle.kind_core.proofs.xdp_machine_laws.RunLaws.{has_one_answer}
+use Rattle.kind_core.proofs.xdp_machine_laws.TouchLaws.{touches_one}
 use Rattle.unfold_core.specs.declared.unfolding.Unfolded.{Unfolded}
-use Rattle.predicate_core.specs.program_graph.Graphs.{graph_of}
-use Rattle.cell_core.specs.Sites.{ProgramView, leaves, touched}
-use Rattle.program_plan.specs.held_cells.Law.{IsLaw}
-use Rattle.program_plan.specs.pipe_core.Machine.{packet_of}
-use Rattle.program_plan.specs.pipe_core.Apart.{AllRun}
+use Rattle.predicate_core.specs.ProgramGraph.Graphs.{graph_of}
+use Rattle.hazard_core.specs.cell_core.Sites.{ProgramView, leaves, touched}
+use Rattle.operator_cells.specs.HeldCells.Law.{IsLaw}
+use Rattle.pipe_runs.specs.pipe_core.Machine.{packet_of}
+use Rattle.pipe_runs.specs.pipe_core.Apart.{AllRun}
 use Rattle.pipe_runs.specs.realization.Bounds.{ReadOthers, AreApart}
 use Rattle.pipe_runs.specs.realization.Realizes.{IsPacket}
 use Rattle.ehdl_build.specs.Compiled.{code_of, packets_in}

@@ -4,3 +4,5 @@ pub mod Sequential
 pub mod Apart
 pub mod Realized
 pub mod Outcomes
+pub mod PipePrograms
+pub mod ProgramPlan

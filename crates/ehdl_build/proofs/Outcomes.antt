@@ -14,9 +14,9 @@ use Rattle.unfold_core.specs.declared.links.Edge.{Edge}
 use Rattle.unfold_core.specs.declared.unfolding.Unfolded.{Unfolded}
 use Rattle.unfold_core.specs.Unfolding.{IsUnfolded, Unfolds}
 use Rattle.unfold_core.specs.Acceptance as graphs
-use Rattle.node_rows.specs.Rows.{HasStages, IsTooLate, AreCounted}
-use Rattle.node_rows.specs.Acceptance.{IsAccepted, IsFirstRefusal}
-use Rattle.node_rows.proofs.OneOutcomeLaws.{has_one_outcome}
+use Rattle.row_rules.specs.NodeRows.Rows.{HasStages, IsTooLate, AreCounted}
+use Rattle.row_rules.specs.NodeRows.Acceptance.{IsAccepted, IsFirstRefusal}
+use Rattle.row_rules.proofs.NodeRows.OneOutcomeLaws.{has_one_outcome}
 use Rattle.ehdl_build.specs.declared.counted.Counted.{Counted}
 use Rattle.ehdl_build.specs.declared.built.CompileError.{CompileError}
 use Rattle.ehdl_build.specs.declared.built.CompileError.TheVariants.{Object, Refused, NoMemory}

@@ -3,14 +3,14 @@ use Rattle.std.specs.Prelude.{◌≡◌, ◌<◌, ◌≤◌, ◌^◌, length, Al
 use Rattle.std.proofs.Common.{arith}
 use Rattle.std.proofs.lemmas.List.{length-map}
 use Rattle.std.proofs.lemmas.List.Elements.{All-weaker}
-use Rattle.xdp_maps.specs.Contents.{IsWithinLimits}
+use Rattle.xdp_object.specs.xdp_maps.Contents.{IsWithinLimits}
 use Rattle.xdp_object.specs.xdp_machine.Program.{XdpProgram, IsProgram, IsDeclaration}
-use Rattle.predicate_core.specs.program_graph.Graphs.{node_view, graph_of}
-use Rattle.cell_core.specs.Sites.{ProgramView}
-use Rattle.program_plan.specs.held_cells.Law.{IsLaw}
+use Rattle.predicate_core.specs.ProgramGraph.Graphs.{node_view, graph_of}
+use Rattle.hazard_core.specs.cell_core.Sites.{ProgramView}
+use Rattle.operator_cells.specs.HeldCells.Law.{IsLaw}
 use Rattle.predicate_core.specs.Buildable.{IsBuildable}
 use Rattle.row_plan.specs.Plan.{Plan, IsPlan}
-use Rattle.pipe_programs.specs.Prepared.{ArePrepared, ProgramsArePrepared}
+use Rattle.ehdl_build.specs.PipePrograms.Prepared.{ArePrepared, ProgramsArePrepared}
 use Rattle.ehdl_build.specs.declared.counted.Counted.{Counted}
 use Rattle.ehdl_build.specs.Steps.{IsCounted}
 

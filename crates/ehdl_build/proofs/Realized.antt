@@ -4,35 +4,35 @@ use Rattle.std.specs.List.{AllByRecursion}
 use Rattle.std.proofs.Common.{refl, sym, ap, subst, ◌∙◌, arith}
 use Rattle.net_core.specs.beat_core.declared.answer.Answer.{Answer}
 use Rattle.net_core.specs.beat_core.Ports.{Arrival}
-use Rattle.xdp_maps.specs.declared.decl.MapDecl.{MapDecl}
-use Rattle.xdp_maps.specs.State.{MapState}
+use Rattle.xdp_object.specs.xdp_maps.declared.decl.MapDecl.{MapDecl}
+use Rattle.xdp_object.specs.xdp_maps.State.{MapState}
 use Rattle.xdp_object.specs.xdp_machine.Program.{XdpProgram, IsProgram}
 use Rattle.xdp_object.specs.xdp_machine.Touched.{Touched}
 use Rattle.net_core.specs.Nets.{Netlist}
 use Rattle.net_core.specs.Clock.{first_stored}
 use Rattle.net_core.specs.History.{NeverStops, stored_after}
-use Rattle.pipe_runs.specs.host_history.Host.{load}
-use Rattle.verilog_write.specs.verilog_grammar.Spelling.{Spells}
-use Rattle.cell_core.specs.Rows.{record_count}
-use Rattle.cell_core.specs.Sites.{ProgramView}
-use Rattle.predicate_core.specs.program_graph.Graphs.{graph_of}
-use Rattle.program_plan.specs.pipe_core.Machine.{Build}
-use Rattle.program_plan.specs.pipe_core.Pipeable.{IsSuited}
-use Rattle.program_plan.specs.Suited.{ProgramsAreSuited}
-use Rattle.pipe_programs.specs.pipe_draft.Program.{build_of}
-use Rattle.pipe_programs.specs.pipe_places.Entries.{AccessesLead}
-use Rattle.pipe_design.specs.pipe_net.Layout.{last_of}
-use Rattle.pipe_design.specs.pipe_forms.Parts.{design, names_of}
-use Rattle.pipe_design.specs.product_rules.Products.{products_apart}
-use Rattle.same_designs.specs.same_clocks.Same.{ShowTheSame}
-use Rattle.same_designs.proofs.same_clocks.SameLaws.{same_never_stops}
-use Rattle.same_designs.proofs.MeetLaws.{same_designs_meet}
+use Rattle.pipe_runs.specs.realization.HostHistory.Host.{load}
+use Rattle.verilog_write.specs.VerilogGrammar.Spelling.{Spells}
+use Rattle.hazard_core.specs.cell_core.Rows.{record_count}
+use Rattle.hazard_core.specs.cell_core.Sites.{ProgramView}
+use Rattle.predicate_core.specs.ProgramGraph.Graphs.{graph_of}
+use Rattle.pipe_runs.specs.pipe_core.Machine.{Build}
+use Rattle.pipe_runs.specs.pipe_core.Pipeable.{IsSuited}
+use Rattle.ehdl_build.specs.ProgramPlan.Suited.{ProgramsAreSuited}
+use Rattle.pipe_design.specs.pipe_parts.PipeDraft.Program.{build_of}
+use Rattle.pipe_runs.specs.pipe_net.PipePlaces.Entries.{AccessesLead}
+use Rattle.pipe_runs.specs.pipe_net.Layout.{last_of}
+use Rattle.pipe_runs.specs.pipe_net.PipeForms.Parts.{design, names_of}
+use Rattle.net_core.specs.ProductRules.Products.{products_apart}
+use Rattle.net_core.specs.SameClocks.Same.{ShowTheSame}
+use Rattle.net_core.proofs.SameClocks.SameLaws.{same_never_stops}
+use Rattle.pipe_runs.proofs.realization_laws.SameDesigns.MeetLaws.{same_designs_meet}
 use Rattle.pipe_design.specs.Pipeline.{IsPipelineOf as IsDesignOf}
-use Rattle.pipe_runs.specs.pipe_ports.Answered.{AreAnswered}
+use Rattle.pipe_runs.specs.PipePorts.Answered.{AreAnswered}
 use Rattle.pipe_runs.specs.Apart as cells
 use Rattle.pipe_runs.specs.Meeting.{MeetsLoaded, PipelinesMeet}
 use Rattle.pipe_runs.specs.realization.Realizes.{IsPacket, Meets}
-use Rattle.pipe_runs.proofs.realization.MeetsLaws.{meets_more}
+use Rattle.pipe_runs.proofs.realization_laws.MeetsLaws.{meets_more}
 use Rattle.ehdl_build.specs.Compiled.{PipelineSize, IsSequential, DoNotConflict, AreMapsOf, Realizes}
 use Rattle.ehdl_build.specs.Steps.{IsPipelineOf}
 use Rattle.ehdl_build.proofs.Sequential.{in_sequence}

@@ -6,21 +6,21 @@ use Rattle.std.proofs.lemmas.List.{get_or_default}
 use Rattle.net_core.specs.beat_core.declared.answer.Answer.{Answer}
 use Rattle.net_core.specs.beat_core.Ports.{Arrival}
 use Rattle.net_core.specs.list_laws.Bytes.{IsBytes}
-use Rattle.xdp_maps.specs.State.{MapState, IsSound}
+use Rattle.xdp_object.specs.xdp_maps.State.{MapState, IsSound}
 use Rattle.xdp_object.specs.xdp_machine.Program.{XdpProgram, IsProgram}
 use Rattle.xdp_object.specs.xdp_machine.State.{start}
 use Rattle.xdp_object.specs.xdp_machine.Runs.{Leaves, Progress, IsRun}
 use Rattle.xdp_object.specs.xdp_machine.MachineLaws.{LeavesInRange, maps_so_far}
-use Rattle.xdp_object.proofs.xdp_machine.RangeLaws.{starts_in_range, runs_leave_in_range}
-use Rattle.xdp_object.proofs.xdp_machine.RunLaws.{runs_keep_sizes}
+use Rattle.kind_core.proofs.xdp_machine_laws.RangeLaws.{starts_in_range, runs_leave_in_range}
+use Rattle.kind_core.proofs.xdp_machine_laws.RunLaws.{runs_keep_sizes}
 use Rattle.unfold_core.specs.declared.unfolding.Unfolded.{Unfolded}
-use Rattle.predicate_core.specs.program_graph.Graphs.{graph_of}
-use Rattle.cell_core.specs.Sites.{ProgramView, IsCellRun, leaves}
-use Rattle.program_plan.specs.held_cells.Law as cell
-use Rattle.program_plan.specs.held_cells.Law.{IsLaw}
-use Rattle.program_plan.specs.pipe_core.Machine.{packet_of}
+use Rattle.predicate_core.specs.ProgramGraph.Graphs.{graph_of}
+use Rattle.hazard_core.specs.cell_core.Sites.{ProgramView, IsCellRun, leaves}
+use Rattle.operator_cells.specs.HeldCells.Law as cell
+use Rattle.operator_cells.specs.HeldCells.Law.{IsLaw}
+use Rattle.pipe_runs.specs.pipe_core.Machine.{packet_of}
 use Rattle.pipe_runs.specs.realization.Realizes.{IsPacket}
-use Rattle.pipe_runs.specs.pipe_ports.Answered.{AreAnswered}
+use Rattle.pipe_runs.specs.PipePorts.Answered.{AreAnswered}
 use Rattle.ehdl_build.specs.Compiled.{code_of, IsSequential}
 
 all_bytes : (xs : List ℕ) → IsBytes xs → All (λ b. b < 256) xs

@@ -4,9 +4,9 @@ use Rattle.std.proofs.Common.{refl, ap, arith}
 use Rattle.kind_core.specs.declared.why.Refusal.{Refusal}
 use Rattle.kind_core.specs.declared.why.BuildError.{BuildError}
 use Rattle.kind_core.specs.declared.why.BuildError.TheVariants as build
-use Rattle.cell_core.specs.declared.program.Node.{Node}
-use Rattle.cell_core.specs.Sites.{ProgramView}
-use Rattle.cell_core.specs.Rows.{node_row, last_row}
+use Rattle.hazard_core.specs.cell_core.declared.program.Node.{Node}
+use Rattle.hazard_core.specs.cell_core.Sites.{ProgramView}
+use Rattle.hazard_core.specs.cell_core.Rows.{node_row, last_row}
 use Rattle.row_plan.specs.Plan.{Plan, IsPlan, IsTooLate}
 use Rattle.row_plan.specs.Steps.{IsRefusedBy}
 use Rattle.ehdl_build.specs.Pipelines.{StandWithin}

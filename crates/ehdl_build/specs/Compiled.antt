@@ -3,7 +3,7 @@ use Rattle.std.specs.Prelude.{◌≡◌, ℕ, ◌+◌, IsTrue, List, [], ◌∷�
 use Rattle.xdp_object.specs.Choice.{Chosen}
 use Rattle.xdp_object.specs.Object.{FirstFault, IsObject}
 use Rattle.xdp_object.specs.xdp_machine.Program.{XdpProgram, IsProgram}
-use Rattle.xdp_maps.specs.State.{MapState, IsSound}
+use Rattle.xdp_object.specs.xdp_maps.State.{MapState, IsSound}
 use Rattle.xdp_object.specs.xdp_machine.State.{Code, PacketIn}
 use Rattle.xdp_object.specs.xdp_machine.Runs.{Leaves, AreRuns}
 use Rattle.xdp_object.specs.xdp_machine.Touched.{Touched, AllTouch}
@@ -11,17 +11,17 @@ use Rattle.net_core.specs.Nets.{Netlist}
 use Rattle.net_core.specs.Clock.{first_stored}
 use Rattle.net_core.specs.History.{Arrival, NeverStops, stored_after}
 use Rattle.net_core.specs.beat_core.declared.answer.Answer.{Answer}
-use Rattle.pipe_runs.specs.host_history.Host.{load}
-use Rattle.verilog_write.specs.verilog_grammar.Spelling.{Spells}
+use Rattle.pipe_runs.specs.realization.HostHistory.Host.{load}
+use Rattle.verilog_write.specs.VerilogGrammar.Spelling.{Spells}
 use Rattle.ehdl_build.specs.declared.built.Built.{Built}
 use Rattle.ehdl_build.specs.declared.built.CompileError.{CompileError}
 use Rattle.ehdl_build.specs.declared.built.CompileError.TheVariants.{Object, Refused, NoMemory}
 use Rattle.kind_core.specs.declared.why.Refusal.{Refusal}
 use Rattle.kind_core.specs.declared.why.BuildError.{BuildError}
 use Rattle.kind_core.specs.declared.why.BuildError.TheVariants as build
-use Rattle.node_rows.specs.Acceptance.{IsAccepted, IsFirstRefusal}
+use Rattle.row_rules.specs.NodeRows.Acceptance.{IsAccepted, IsFirstRefusal}
 use Rattle.pipe_runs.specs.realization.Bounds.{AreApart}
-use Rattle.pipe_design.specs.product_rules.Products.{products_apart}
+use Rattle.net_core.specs.ProductRules.Products.{products_apart}
 use Rattle.pipe_runs.specs.realization.Realizes.{Meets}
 
 -- what is run of a program

@@ -1,4 +1,6 @@
-pub use Rattle.pipe_runs.specs.realization as realization
+pub use Rattle.verilog_write.specs as verilog_write
 pub mod Pipelines
 pub mod Compiled
 pub mod Steps
+pub mod PipePrograms
+pub mod ProgramPlan

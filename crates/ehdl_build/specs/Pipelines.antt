@@ -3,10 +3,10 @@ use Rattle.std.specs.Prelude.{ℕ, ◌≤◌}
 use Rattle.xdp_object.specs.xdp_machine.Program.{XdpProgram}
 use Rattle.unfold_core.specs.declared.unfolding.Unfolded.{Unfolded}
 use Rattle.unfold_core.specs.Unfolding.{IsUnfolded}
-use Rattle.cell_core.specs.Sites.{ProgramView}
-use Rattle.cell_core.specs.Rows.{AreRows, last_row}
-use Rattle.program_plan.specs.held_cells.Law.{IsLaw}
-use Rattle.predicate_core.specs.program_graph.Graphs.{graph_of}
+use Rattle.hazard_core.specs.cell_core.Sites.{ProgramView}
+use Rattle.hazard_core.specs.cell_core.Rows.{AreRows, last_row}
+use Rattle.operator_cells.specs.HeldCells.Law.{IsLaw}
+use Rattle.predicate_core.specs.ProgramGraph.Graphs.{graph_of}
 use Rattle.predicate_core.specs.Buildable.{IsBuildable}
 
 -- cells that compute the runs of a program, and can be built

@@ -1,18 +1,18 @@
 -- What the steps of compiling give each other.
 use Rattle.std.specs.Prelude.{◌≡◌, ◌≤◌, ℕ, IsTrue, List, length}
-use Rattle.xdp_maps.specs.declared.decl.MapDecl.{MapDecl}
+use Rattle.xdp_object.specs.xdp_maps.declared.decl.MapDecl.{MapDecl}
 use Rattle.xdp_object.specs.xdp_machine.Program.{XdpProgram}
 use Rattle.net_core.specs.Nets.{Netlist}
-use Rattle.pipe_design.specs.product_rules.Products.{products_apart}
+use Rattle.net_core.specs.ProductRules.Products.{products_apart}
 use Rattle.kind_core.specs.declared.why.BuildError.{BuildError}
 use Rattle.kind_core.specs.declared.why.BuildError.TheVariants as build
 use Rattle.unfold_core.specs.Unfolding.{IsUnfolded}
-use Rattle.node_rows.specs.Rows.{HasStages}
-use Rattle.node_rows.specs.Acceptance.{IsFirstRefusal}
-use Rattle.cell_core.specs.Sites.{ProgramView}
-use Rattle.cell_core.specs.Rows.{record_count}
+use Rattle.row_rules.specs.NodeRows.Rows.{HasStages}
+use Rattle.row_rules.specs.NodeRows.Acceptance.{IsFirstRefusal}
+use Rattle.hazard_core.specs.cell_core.Sites.{ProgramView}
+use Rattle.hazard_core.specs.cell_core.Rows.{record_count}
 use Rattle.row_plan.specs.Plan.{Plan, IsPlan}
-use Rattle.pipe_programs.specs.Prepared.{ArePrepared}
+use Rattle.ehdl_build.specs.PipePrograms.Prepared.{ArePrepared}
 use Rattle.pipe_design.specs.Pipeline.{IsPipelineOf as IsDesignOf}
 use Rattle.ehdl_build.specs.declared.counted.Counted.{Counted}
 use Rattle.ehdl_build.specs.Pipelines.{AreCellsOf}

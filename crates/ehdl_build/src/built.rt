@@ -9,9 +9,9 @@ ghost use Rattle.ehdl_build.specs.Compiled.{Compiles, FailsFor, IsRefused, compi
 
 use crate::counted::count;
 use crate::pipelined::realize;
+use hazard_core::cell_core::xdp_state::xdp_maps::decl::MapDecl;
 use kind_core::{BuildError, Refusal};
 use std::alloc::{AllocError, Global};
-use xdp_maps::decl::MapDecl;
 use xdp_object::{Choice, ObjectError, read_object};
 
 /// What an object was compiled to.

@@ -2,11 +2,11 @@
 
 ghost use Rattle.std.specs.Prelude.{◌≡◌, ◌⊎◌, IfErr, IfOk, IsErrOf};
 ghost use Rattle.kind_core.specs.declared.why.Refusal.{Refusal};
-ghost use Rattle.node_rows.specs.Acceptance.{IsAccepted, IsFirstRefusal};
+ghost use Rattle.row_rules.specs.NodeRows.Acceptance.{IsAccepted, IsFirstRefusal};
 ghost use Rattle.ehdl_build.specs.Steps.{IsCounted, FailsCounting};
 
 use kind_core::BuildError;
-use node_rows::{Stages, count_stages};
+use row_rules::node_rows::{Stages, count_stages};
 use std::alloc::Global;
 use unfold_core::{Unfolded, unfold};
 use xdp_object::Program;

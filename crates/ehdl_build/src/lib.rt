@@ -1,8 +1,11 @@
-//! From the bytes of an object to the bytes of a Verilog text that realizes its program.
+//! Object bytes to what is built of them: a text that realizes the program, or its first refusal.
+//! `program_plan` and `pipe_programs` say that programs are prepared for a pipeline.
 #![tactic(auto)]
 
 mod built;
 mod counted;
+pub mod pipe_programs;
 mod pipelined;
+pub mod program_plan;
 
 pub use built::{Built, CompileError, compile};

@@ -4,28 +4,28 @@ ghost use Rattle.std.specs.Prelude.{◌≡◌, ◌<◌, ◌≤◌, ◌^◌, leng
 ghost use Rattle.xdp_object.specs.xdp_machine.Program.{IsProgram};
 ghost use Rattle.net_core.specs.View.{netlist_of};
 ghost use Rattle.verilog_write.specs.design_rules.Formed.{IsWellFormed};
-ghost use Rattle.cell_core.specs.View.{program_of};
-ghost use Rattle.cell_core.specs.Formed.{AreFormed};
+ghost use Rattle.hazard_core.specs.cell_core.View.{program_of};
+ghost use Rattle.hazard_core.specs.cell_core.Formed.{AreFormed};
 ghost use Rattle.row_plan.specs.Plan.{IsPlan};
-ghost use Rattle.pipe_programs.specs.Prepared.{ArePrepared};
+ghost use Rattle.ehdl_build.specs.PipePrograms.Prepared.{ArePrepared};
 ghost use Rattle.ehdl_build.specs.Pipelines.{AreCellsOf, StandWithin};
 ghost use Rattle.ehdl_build.specs.Compiled.{Realizes};
 ghost use Rattle.ehdl_build.specs.Steps.{IsCounted, IsPlanWithin, IsSoundPipeline, IsPipelineOf, counted_size};
 
 use crate::counted::Counted;
-use cell_core::program::CellProgram;
+use crate::pipe_programs::laws::programs_are_prepared;
+use crate::program_plan::laws::suited;
+use hazard_core::cell_core::program::CellProgram;
+use hazard_core::cell_core::xdp_state::xdp_maps::decl::MapDecl;
 use kind_core::BuildError;
 use net_core::design::Design;
 use net_optimize::optimized;
 use pipe_design::{PipelineError, pipeline};
-use pipe_programs::laws::programs_are_prepared;
 use pipe_runs::laws::pipelines_meet;
 use predicate_core::program::to_cells;
-use program_plan::laws::suited;
 use row_plan::{RowPlan, plan};
 use std::alloc::{AllocError, Global};
 use verilog_write::write_text;
-use xdp_maps::decl::MapDecl;
 use xdp_object::Program;
 
 // The plan of cells, of so many stages at most.

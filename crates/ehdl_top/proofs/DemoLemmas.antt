@@ -17,24 +17,24 @@ use Rattle.pcap_core.proofs.ContentLaws.{is-content_of, fault-content_of}
 use Rattle.xdp_maps.specs.declared.decl.MapDecl.{MapDecl}
 use Rattle.xdp_maps.specs.declared.decl.MapKind.TheVariants.{Hash}
 use Rattle.xdp_maps.specs.State.{MapState, opened_state, decl_at, no_decl}
-use Rattle.xdp_object.specs.Program.{XdpProgram}
+use Rattle.xdp_object.specs.xdp_machine.Program.{XdpProgram}
 use Rattle.xdp_object.specs.Choice.{chosen}
 use Rattle.xdp_object.specs.Object.{IsObject}
 use Rattle.xdp_object.proofs.OutcomeLaws.{one_outcome}
 use Rattle.xdp_object.specs.xdp_machine.State.{Code, PacketIn, start}
 use Rattle.xdp_object.specs.xdp_machine.Runs.{Leaves, Progress, IsRun, AreRuns}
 use Rattle.xdp_object.specs.xdp_machine.MachineLaws.{KeepsSizes}
-use Rattle.xdp_object.proofs.xdp_machine.RunLaws.{runs_keep_sizes}
+use Rattle.kind_core.proofs.xdp_machine_laws.RunLaws.{runs_keep_sizes}
 use Rattle.kind_core.specs.declared.why.Refusal.{Refusal}
-use Rattle.node_rows.specs.Acceptance.{IsFirstRefusal}
-use Rattle.node_rows.proofs.OneOutcomeLaws.{has_one_outcome}
-use Rattle.ehdl_build.specs.realization.Bounds.{clock_bound, most_beats}
+use Rattle.row_rules.specs.NodeRows.Acceptance.{IsFirstRefusal}
+use Rattle.row_rules.proofs.NodeRows.OneOutcomeLaws.{has_one_outcome}
+use Rattle.port_drive.specs.realization.Bounds.{clock_bound, most_beats}
 use Rattle.ehdl_build.specs.declared.built.Built.{Built}
 use Rattle.ehdl_build.specs.Compiled.{HasSize, IsSequential, answer_of, code_of, packets_in, size_of}
 use Rattle.flow_demo.specs.Program.{IsDemoObject, demo_program, flow}
 use Rattle.flow_demo.specs.Packets.{demo_content, demo_packets, packet_from, state_before}
-use Rattle.demo_graph.specs.Size.{DemoIsAccepted}
-use Rattle.answer_counts.specs.Counts.{byte_count, entry_count}
+use Rattle.flow_demo.specs.DemoGraph.Size.{DemoIsAccepted}
+use Rattle.port_drive.specs.AnswerCounts.Counts.{byte_count, entry_count}
 use Rattle.command_line.specs.Request.{AskDemo}
 use Rattle.ehdl_top.specs.declared.error.CommandError.{CommandError}
 use Rattle.ehdl_top.specs.declared.error.CommandError.TheVariants as error

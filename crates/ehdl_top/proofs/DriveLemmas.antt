@@ -14,7 +14,7 @@ use Rattle.net_core.specs.Ports.{words_of}
 use Rattle.net_core.specs.History.{Cycle, cycle_of, answers_given, given_out, goes_out, shown_beat, drive_inputs, left_after, owed_after, Drive, drive, and_then, Ended, Answered, Stopped, OutOfClocks}
 use Rattle.port_drive.proofs.DriveLaws.{done_drive, late_drive, stopped_drive, next_drive}
 use Rattle.verilog_read.specs.design_rules.Formed.{IsWellFormed}
-use Rattle.verilog_read.proofs.design_rules.FormedItemLaws.{last_kept}
+use Rattle.verilog_read.proofs.design_rules_laws.FormedItemLaws.{last_kept}
 
 -- ---- the wire that stops a clock
 first_or_later : (b : Bool) (at most w : ℕ) (later : Option ℕ) → (if b then Some at else later) ≡ Some w → at < most → (later ≡ Some w → w < most) → w < most

@@ -1,14 +1,14 @@
 -- Each form is sound: bytes are in it or have a fault, and not both.
 use Rattle.std.proofs.Common.{◌≡◌, ◌≢◌, ◌⊎◌, ℕ, List, Option, Some, None, Result, Ok, Err, refl, sym, ap, subst, ◌∙◌, inl, inr}
 use Rattle.net_core.specs.Nets.{Netlist}
-use Rattle.verilog_read.specs.verilog_grammar.Spelling.{Spells}
+use Rattle.ehdl_build.specs.verilog_write.VerilogGrammar.Spelling.{Spells}
 use Rattle.pcap_core.specs.declared.error.PcapError.{PcapError}
 use Rattle.pcap_core.specs.Format.{Packet, Content, IsContent}
 use Rattle.pcap_core.specs.Reading.{content_of}
 use Rattle.pcap_core.proofs.ContentLaws.{is-content_of, fault-content_of}
 use Rattle.xdp_object.specs.declared.error.ObjectError.{ObjectError}
 use Rattle.xdp_object.specs.declared.error.ObjectError.TheVariants as object
-use Rattle.xdp_object.specs.Program.{XdpProgram}
+use Rattle.xdp_object.specs.xdp_machine.Program.{XdpProgram}
 use Rattle.xdp_object.specs.Choice.{Chosen}
 use Rattle.xdp_object.specs.Object.{FirstFault, IsObject}
 use Rattle.xdp_object.proofs.OutcomeLaws.{one_outcome}
@@ -17,7 +17,7 @@ use Rattle.xdp_maps.specs.State.{MapState}
 use Rattle.maps_text.specs.Text.{IsMapsText}
 use Rattle.maps_text.proofs.TextLaws.{never_both}
 use Rattle.kind_core.specs.declared.why.Refusal.{Refusal}
-use Rattle.node_rows.proofs.OneOutcomeLaws.{has_one_outcome}
+use Rattle.row_rules.proofs.NodeRows.OneOutcomeLaws.{has_one_outcome}
 use Rattle.shelf_core.specs.Shelf.{Holding}
 use Rattle.command_line.specs.Request.{Request, AskCompile, AskRun, AskSim, AskRef, AskReport, AskDemo}
 use Rattle.ehdl_top.specs.declared.status.Status.{Status}

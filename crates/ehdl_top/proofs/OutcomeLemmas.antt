@@ -11,8 +11,8 @@ use Rattle.beat_core.specs.Laws.{arrival_of}
 use Rattle.pcap_core.specs.Time.{timed_of}
 use Rattle.xdp_maps.specs.declared.decl.MapDecl.{MapDecl}
 use Rattle.xdp_maps.specs.State.{MapState, opened_state}
-use Rattle.xdp_object.specs.Program.{XdpProgram}
-use Rattle.xdp_object.proofs.xdp_machine.RunLaws.{runs_length}
+use Rattle.xdp_object.specs.xdp_machine.Program.{XdpProgram}
+use Rattle.kind_core.proofs.xdp_machine_laws.RunLaws.{runs_length}
 use Rattle.ehdl_build.specs.declared.built.Built.{Built}
 use Rattle.ehdl_build.specs.Compiled.{size_of, code_of, packets_in, answer_of, IsSequential}
 use Rattle.xdp_object.specs.Choice.{Chosen}

@@ -8,9 +8,9 @@ use Rattle.unfold_core.specs.declared.links.Edge.{Edge}
 use Rattle.unfold_core.specs.declared.unfolding.Unfolded.{Unfolded}
 use Rattle.unfold_core.specs.Unfolding.{IsUnfolded, Unfolds}
 use Rattle.unfold_core.specs.Acceptance as graphs
-use Rattle.node_rows.specs.declared.stages.Stages.{Stages}
-use Rattle.node_rows.specs.Rows.{HasStages, IsTooLate, AreCounted}
-use Rattle.node_rows.specs.Acceptance.{IsAccepted, HasTooManyStages}
+use Rattle.row_rules.specs.declared.node_rows.stages.Stages.{Stages}
+use Rattle.row_rules.specs.NodeRows.Rows.{HasStages, IsTooLate, AreCounted}
+use Rattle.row_rules.specs.NodeRows.Acceptance.{IsAccepted, HasTooManyStages}
 use Rattle.ehdl_top.specs.Steps.{FailsProgram}
 
 abbrev pub unfolds_of : (p : XdpProgram) (u : Unfolded) → IsUnfolded p u → graphs.IsAccepted p

@@ -19,16 +19,16 @@ use Rattle.port_drive.specs.declared.report.DriveError.TheVariants.{X, Late, NoM
 use Rattle.xdp_maps.specs.Contents.{IsWithinLimits}
 use Rattle.xdp_maps.specs.State.{MapState, IsSound}
 use Rattle.xdp_maps.specs.declared.decl.MapDecl.{MapDecl}
-use Rattle.xdp_object.specs.Program.{XdpProgram}
+use Rattle.xdp_object.specs.xdp_machine.Program.{XdpProgram}
 use Rattle.xdp_object.specs.xdp_machine.Program.{IsProgram}
 use Rattle.xdp_object.specs.xdp_machine.State.{Code, PacketIn, start}
 use Rattle.xdp_object.specs.xdp_machine.Runs.{Leaves, Progress, IsRun, AreRuns}
 use Rattle.xdp_object.specs.xdp_machine.MachineLaws.{KeepsSizes}
-use Rattle.xdp_object.proofs.xdp_machine.RunLaws.{runs_keep_sizes}
-use Rattle.port_drive.specs.host_history.Host.{load, ShowsMaps}
+use Rattle.kind_core.proofs.xdp_machine_laws.RunLaws.{runs_keep_sizes}
+use Rattle.port_drive.specs.realization.HostHistory.Host.{load, ShowsMaps}
 use Rattle.ehdl_build.specs.declared.built.Built.{Built}
-use Rattle.ehdl_build.specs.realization.Bounds.{clock_bound, most_beats}
-use Rattle.ehdl_build.specs.realization.Realizes.{Meets, IsWhole, IsPacket, frames_in, all_offers}
+use Rattle.port_drive.specs.realization.Bounds.{clock_bound, most_beats}
+use Rattle.port_drive.specs.realization.Realizes.{Meets, IsWhole, IsPacket, frames_in, all_offers}
 use Rattle.ehdl_build.specs.Compiled.{PipelineSize, IsSequential, DoNotConflict, code_of, packets_in, size_of}
 use Rattle.ehdl_top.specs.Results.{came_by}
 use Rattle.ehdl_top.specs.Steps.{IsLegal, IsRealized, AreDeclared}

@@ -15,7 +15,7 @@ use Rattle.clock_sim.specs.declared.sim.XValue.{XValue}
 use Rattle.clock_sim.specs.Running.{IsNamed}
 use Rattle.xdp_maps.specs.declared.decl.MapDecl.{MapDecl}
 use Rattle.xdp_maps.specs.State.{MapState}
-use Rattle.port_drive.specs.host_history.Host.{load, dump}
+use Rattle.port_drive.specs.realization.HostHistory.Host.{load, dump}
 use Rattle.port_drive.specs.Hosting.{StopsAt, ClocksOrNone, shown_maps}
 use Rattle.port_drive.specs.Reports.{full_drive, given_in, Reports, Gives, Leaves}
 use Rattle.port_drive.specs.declared.report.Drive as report

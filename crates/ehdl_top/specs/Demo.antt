@@ -1,7 +1,7 @@
 -- The lines of a demo: what is counted of a run.
 use Rattle.std.specs.Prelude.{ℕ, List, [], ◌∷◌, codes}
 use Rattle.beat_core.specs.declared.answer.Answer.{Answer}
-use Rattle.answer_counts.specs.Counts.{verdict_count, other_count, byte_count}
+use Rattle.port_drive.specs.AnswerCounts.Counts.{verdict_count, other_count, byte_count}
 use Rattle.ehdl_build.specs.Compiled.{PipelineSize}
 use Rattle.ehdl_top.specs.Report.{counted_line}
 

@@ -5,7 +5,7 @@ use Rattle.pcap_core.specs.declared.error.PcapError.{PcapError}
 use Rattle.beat_core.specs.list_laws.Bytes.{IsBytes}
 use Rattle.pcap_core.specs.Format.{Packet, Content, IsContent, IsHeaderFault}
 use Rattle.net_core.specs.Nets.{Netlist}
-use Rattle.verilog_read.specs.verilog_grammar.Spelling.{Spells}
+use Rattle.ehdl_build.specs.verilog_write.VerilogGrammar.Spelling.{Spells}
 use Rattle.verilog_read.specs.declared.error.ReadError.{ReadError}
 use Rattle.verilog_read.specs.Texts.{outcome_of}
 use Rattle.xdp_maps.specs.declared.decl.MapDecl.{MapDecl}
@@ -13,12 +13,12 @@ use Rattle.xdp_maps.specs.State.{MapState, opened_state}
 use Rattle.maps_text.specs.Text.{IsMapsText, IsFirstBad}
 use Rattle.xdp_object.specs.declared.error.ObjectError.{ObjectError}
 use Rattle.xdp_object.specs.declared.error.ObjectError.TheVariants.{Long}
-use Rattle.xdp_object.specs.Program.{XdpProgram}
+use Rattle.xdp_object.specs.xdp_machine.Program.{XdpProgram}
 use Rattle.xdp_object.specs.Choice.{Chosen}
 use Rattle.xdp_object.specs.Maps.{MapTable}
 use Rattle.xdp_object.specs.Object.{FirstFault, IsObject, function_of, maps_of}
 use Rattle.kind_core.specs.declared.why.Refusal.{Refusal}
-use Rattle.node_rows.specs.Acceptance.{IsAccepted, IsFirstRefusal}
+use Rattle.row_rules.specs.NodeRows.Acceptance.{IsAccepted, IsFirstRefusal}
 use Rattle.ehdl_top.specs.declared.limits.TheConstants.{OBJECT_LIMIT, VERILOG_LIMIT, MAPS_LIMIT, CAPTURE_LIMIT}
 use Rattle.ehdl_top.specs.declared.status.Status.{Status}
 use Rattle.ehdl_top.specs.declared.status.Status.TheVariants as status

@@ -4,13 +4,13 @@ use Rattle.shelf_core.specs.Shelf.{Holding}
 use Rattle.pcap_core.specs.Format.{Packet}
 use Rattle.net_core.specs.Nets.{Netlist}
 use Rattle.beat_core.specs.declared.answer.Answer.{Answer}
-use Rattle.xdp_object.specs.Program.{XdpProgram}
+use Rattle.xdp_object.specs.xdp_machine.Program.{XdpProgram}
 use Rattle.xdp_maps.specs.State.{MapState, opened_state}
 use Rattle.maps_text.specs.Writing.{text_of}
 use Rattle.ehdl_build.specs.Compiled.{PipelineSize, HasSize, IsSequential, Realizes}
 use Rattle.xdp_object.specs.Choice.{Chosen}
 use Rattle.xdp_object.specs.Object.{IsObject}
-use Rattle.node_rows.specs.Acceptance.{IsAccepted}
+use Rattle.row_rules.specs.NodeRows.Acceptance.{IsAccepted}
 use Rattle.command_line.specs.Request.{Names}
 use Rattle.ehdl_top.specs.declared.limits.TheConstants.{OBJECT_LIMIT, VERILOG_LIMIT, CAPTURE_LIMIT}
 use Rattle.ehdl_top.specs.declared.error.CommandError.{CommandError}
@@ -19,10 +19,10 @@ use Rattle.ehdl_top.specs.Simulation.{Simulation, simulation, given_up}
 use Rattle.ehdl_top.specs.Writes.{Outputs}
 use Rattle.ehdl_top.specs.Results.{timed_packets, came_by, compile_outputs, run_outputs, result_outputs, sim_outputs}
 use Rattle.ehdl_top.specs.Report.{report_lines}
-use Rattle.ehdl_build.specs.realization.Bounds.{clock_bound, most_beats}
+use Rattle.port_drive.specs.realization.Bounds.{clock_bound, most_beats}
 use Rattle.flow_demo.specs.Program.{demo_program}
 use Rattle.flow_demo.specs.Packets.{demo_packets}
-use Rattle.answer_counts.specs.Counts.{entry_count}
+use Rattle.port_drive.specs.AnswerCounts.Counts.{entry_count}
 use Rattle.ehdl_top.specs.Demo.{demo_lines}
 
 -- ---- compile

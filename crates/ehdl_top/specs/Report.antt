@@ -4,8 +4,8 @@ use Rattle.xdp_object.specs.bpf_isa.Text.{unit_count}
 use Rattle.xdp_maps.specs.declared.decl.MapKind.{MapKind}
 use Rattle.xdp_maps.specs.declared.decl.MapKind.TheVariants.{Hash, Array}
 use Rattle.xdp_maps.specs.declared.decl.MapDecl.{MapDecl}
-use Rattle.xdp_object.specs.Program.{XdpProgram}
-use Rattle.node_rows.specs.declared.stages.Stages.{Stages}
+use Rattle.xdp_object.specs.xdp_machine.Program.{XdpProgram}
+use Rattle.row_rules.specs.declared.node_rows.stages.Stages.{Stages}
 
 -- a word and a number
 abbrev pub counted_line : List ℕ → ℕ → List ℕ

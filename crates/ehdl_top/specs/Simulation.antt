@@ -12,7 +12,7 @@ use Rattle.net_core.specs.History.{trace, stored_after, answers_given, Drive, En
 use Rattle.xdp_maps.specs.declared.decl.MapDecl.{MapDecl}
 use Rattle.xdp_maps.specs.State.{MapState}
 use Rattle.maps_text.specs.Writing.{text_of}
-use Rattle.port_drive.specs.host_history.Host.{load, dump}
+use Rattle.port_drive.specs.realization.HostHistory.Host.{load, dump}
 use Rattle.port_drive.specs.Hosting.{shown_maps}
 use Rattle.port_drive.specs.Reports.{full_drive, given_in}
 use Rattle.ehdl_top.specs.declared.error.CommandError.{CommandError}

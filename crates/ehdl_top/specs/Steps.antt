@@ -14,7 +14,7 @@ use Rattle.clock_sim.specs.Running.{IsNamed}
 use Rattle.beat_core.specs.declared.answer.Answer.{Answer}
 use Rattle.port_drive.specs.declared.report.DriveError.{DriveError}
 use Rattle.port_drive.specs.declared.report.DriveError.TheVariants as drive
-use Rattle.xdp_object.specs.Program.{XdpProgram}
+use Rattle.xdp_object.specs.xdp_machine.Program.{XdpProgram}
 use Rattle.xdp_object.specs.Choice.{Chosen}
 use Rattle.xdp_maps.specs.declared.decl.MapDecl.{MapDecl}
 use Rattle.xdp_maps.specs.Contents.{IsWithinLimits}
@@ -30,8 +30,8 @@ use Rattle.unfold_core.specs.declared.unfolding.Unfolded.{Unfolded}
 use Rattle.unfold_core.specs.Unfolding.{IsUnfolded}
 use Rattle.kind_core.specs.declared.why.BuildError.{BuildError}
 use Rattle.kind_core.specs.declared.why.BuildError.TheVariants as build
-use Rattle.node_rows.specs.Rows.{HasStages}
-use Rattle.node_rows.specs.Acceptance.{IsFirstRefusal}
+use Rattle.row_rules.specs.NodeRows.Rows.{HasStages}
+use Rattle.row_rules.specs.NodeRows.Acceptance.{IsFirstRefusal}
 use Rattle.command_line.specs.Request.{Request, AskCompile, AskRun, AskSim, AskRef, AskReport, AskDemo, Names}
 use Rattle.ehdl_top.specs.States.{ShelfState, SinkState, Changes, OneRose, IsLaterSink}
 use Rattle.ehdl_top.specs.Forms.{InputForm, IsFaulty, IsTaken, built, accepted, IsTextFault, maps_form, IsCaptured}

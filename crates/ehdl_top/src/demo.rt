@@ -3,7 +3,7 @@
 ghost use Rattle.std.specs.Prelude.{◌≡◌, ◌<◌, ◌^◌, length, map, IfOk, IfErr};
 ghost use Rattle.xdp_maps.specs.State.{decl_at};
 ghost use Rattle.xdp_maps.specs.declared.decl.MapKind.TheVariants.{Hash};
-ghost use Rattle.answer_counts.specs.Counts.{byte_count, entry_count};
+ghost use Rattle.port_drive.specs.AnswerCounts.Counts.{byte_count, entry_count};
 ghost use Rattle.ehdl_build.specs.Compiled.{size_of};
 ghost use Rattle.ehdl_top.specs.Demo.{demo_lines};
 ghost use Rattle.ehdl_top.specs.Outcome.{IsDemo};
@@ -16,12 +16,12 @@ use crate::object::ProgramForm;
 use crate::packets::CaptureForm;
 use crate::pipeline::{Ran, run_pipeline};
 use crate::report::counted_line;
-use answer_counts::{byte_count, entry_count, other_count, verdict_count};
 use beat_core::Bytes;
 use command_line::Choice;
-use demo_graph::laws::demo_is_accepted;
 use ehdl_build::Built;
+use flow_demo::demo_graph::laws::demo_is_accepted;
 use flow_demo::make;
+use port_drive::answer_counts::{byte_count, entry_count, other_count, verdict_count};
 use std::alloc::{AllocError, Global};
 use xdp_maps::state::Maps;
 

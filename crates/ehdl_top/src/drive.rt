@@ -4,7 +4,7 @@ ghost use Rattle.std.specs.Prelude.{◌≡◌, ◌≤◌, ◌<◌, ◌^◌, List
 ghost use Rattle.net_core.specs.View.{netlist_of};
 ghost use Rattle.verilog_read.specs.design_rules.Formed.{IsWellFormed};
 ghost use Rattle.xdp_maps.specs.Contents.{IsWithinLimits};
-ghost use Rattle.ehdl_build.specs.realization.Bounds.{clock_bound, most_beats};
+ghost use Rattle.port_drive.specs.realization.Bounds.{clock_bound, most_beats};
 ghost use Rattle.ehdl_top.specs.Simulation.{dumped, driven, simulation};
 ghost use Rattle.ehdl_top.specs.Steps.{StopsInside, error_of, IsGiven};
 

@@ -2,7 +2,7 @@
 
 ghost use Rattle.std.specs.Prelude.{◌≡◌, ◌≢◌, ◌⊎◌, ℕ, List, Option, OnOk, IfOk, IfErr};
 ghost use Rattle.xdp_object.specs.Object.{IsObject};
-ghost use Rattle.xdp_object.specs.Program.{XdpProgram};
+ghost use Rattle.xdp_object.specs.xdp_machine.Program.{XdpProgram};
 ghost use Rattle.xdp_object.specs.Choice.{chosen_of};
 ghost use Rattle.ehdl_top.specs.Forms.{program_form, built, accepted, object_form};
 ghost use Rattle.ehdl_top.specs.Steps.{IsBuiltOf, IsAcceptedBy, AreCounts, FailsProgram, IsGivenUp};
@@ -12,7 +12,7 @@ use crate::form::Form;
 use crate::limits::OBJECT_LIMIT;
 use ehdl_build::{Built, CompileError, compile};
 use kind_core::BuildError;
-use node_rows::{Stages, count_stages};
+use row_rules::node_rows::{Stages, count_stages};
 use std::alloc::Global;
 use unfold_core::unfold;
 use xdp_object::{Choice, ObjectError, Program, read_object};

@@ -4,11 +4,11 @@ ghost use Rattle.std.specs.Prelude.{◌≡◌, ◌<◌, ◌≤◌, ◌^◌, [], 
 ghost use Rattle.std.specs.List.{AllByRecursion};
 ghost use Rattle.xdp_maps.specs.Contents.{IsWithinLimits};
 ghost use Rattle.xdp_maps.specs.State.{MapState};
-ghost use Rattle.xdp_object.specs.Program.{XdpProgram};
+ghost use Rattle.xdp_object.specs.xdp_machine.Program.{XdpProgram};
 ghost use Rattle.net_core.specs.View.{netlist_of};
 ghost use Rattle.net_core.specs.Clock.{first_stored};
 ghost use Rattle.net_core.specs.History.{NeverStops, Answered, answers_given, stored_after};
-ghost use Rattle.port_drive.specs.host_history.Host.{load, ShowsMaps};
+ghost use Rattle.port_drive.specs.realization.HostHistory.Host.{load, ShowsMaps};
 ghost use Rattle.port_drive.specs.Reports.{full_drive, given_in};
 ghost use Rattle.verilog_read.specs.design_rules.Formed.{IsWellFormed};
 ghost use Rattle.ehdl_build.specs.Compiled.{IsSequential};

@@ -2,7 +2,7 @@
 
 ghost use Rattle.std.specs.Prelude.{◌≡◌, List, IfOk};
 ghost use Rattle.pcap_core.specs.Format.{Packet};
-ghost use Rattle.xdp_object.specs.Program.{XdpProgram};
+ghost use Rattle.xdp_object.specs.xdp_machine.Program.{XdpProgram};
 ghost use Rattle.xdp_object.specs.Choice.{chosen_of};
 ghost use Rattle.command_line.specs.Request.{AskRun, names_of};
 ghost use Rattle.ehdl_top.specs.States.{state_of};

@@ -1,4 +1,3 @@
-pub use Rattle.list_laws.proofs as list_laws
 pub mod LengthLaws
 pub mod Loops
 pub mod NoErrorLaws

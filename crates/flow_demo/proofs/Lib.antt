@@ -4,3 +4,4 @@ pub mod Written
 pub mod Reading
 pub mod Sizes
 pub mod Texts
+pub mod DemoGraph

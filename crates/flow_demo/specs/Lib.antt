@@ -1,3 +1,4 @@
 pub mod Draws
 pub mod Packets
 pub mod Program
+pub mod DemoGraph

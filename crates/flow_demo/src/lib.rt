@@ -1,8 +1,10 @@
-//! An object and a capture that are made from a number: a program with a hash, and as many packets for it as are asked for.
+//! An object and a capture that are made from a number: a program that counts packets by flow, and packets for it.
+//! `demo_graph` says that this program is accepted.
 #![tactic(auto)]
 
 mod capture;
 mod demo;
+pub mod demo_graph;
 mod draws;
 mod frame;
 mod listing;

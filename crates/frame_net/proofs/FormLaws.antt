@@ -7,12 +7,12 @@ use Rattle.net_core.specs.declared.tree.Word.{Word}
 use Rattle.net_core.specs.Nets.{Tree, StatementTree}
 use Rattle.net_core.specs.Ports.{port_list}
 use Rattle.net_core.specs.Width.{width_of, same, memory_word_width}
-use Rattle.product_blocks.specs.block_core.declared.block.BlockMemory.{BlockMemory}
-use Rattle.product_blocks.specs.block_core.declared.name.Name.{Name}
-use Rattle.product_blocks.specs.block_core.declared.name.Name.TheVariants as name
-use Rattle.product_blocks.specs.block_core.Blocks.{BlockTree, BlockWireTree, Whole}
-use Rattle.product_blocks.specs.block_core.Order.{IsBefore}
-use Rattle.product_blocks.specs.block_core.Formed.{names_scope, block_memories}
+use Rattle.block_core.specs.declared.block.BlockMemory.{BlockMemory}
+use Rattle.block_core.specs.declared.name.Name.{Name}
+use Rattle.block_core.specs.declared.name.Name.TheVariants as name
+use Rattle.block_core.specs.Blocks.{BlockTree, BlockWireTree, Whole}
+use Rattle.block_core.specs.Order.{IsBefore}
+use Rattle.block_core.specs.Formed.{names_scope, block_memories}
 use Rattle.frame_net.specs.SourcesNets.{held}
 
 pub and_is : (a b : Bool) → a ≡ true → b ≡ true → (a && b) ≡ true

@@ -5,9 +5,9 @@ use Rattle.std.proofs.Common.{refl}
 use Rattle.std.proofs.lemmas.Bool.{and_parts}
 use Rattle.net_core.specs.Nets.{SEnd}
 use Rattle.net_core.specs.Chains.{statements_before}
-use Rattle.product_blocks.specs.product_rules.Products.{is_flat, statements_flat}
-use Rattle.product_blocks.specs.Alone.{wire_flat, IsFree}
-use Rattle.product_blocks.specs.block_core.declared.name.Name.{Name}
+use Rattle.net_core.specs.ProductRules.Products.{is_flat, statements_flat}
+use Rattle.block_core.specs.ProductBlocks.Alone.{wire_flat, IsFree}
+use Rattle.block_core.specs.declared.name.Name.{Name}
 use Rattle.frame_net.specs.declared.held.Kept.{Kept}
 use Rattle.frame_net.specs.declared.held.Kept.TheVariants.{Ifindex, Time, Word as FrameWord}
 use Rattle.frame_net.specs.declared.held.Further.{Further}

@@ -13,8 +13,8 @@ use Rattle.net_core.specs.beat_core.declared.frame.TheConstants.{BEAT_LIMIT}
 use Rattle.net_core.specs.beat_core.Words.{low_bytes, word_of}
 use Rattle.net_core.specs.beat_core.Beats.{bytes_of_beat, beat_count, IsOffer}
 use Rattle.net_core.specs.beat_core.Ports.{Arrival, Offered, arrived}
-use Rattle.net_core.proofs.beat_core.BeatLaws.{IsOffer-count, IsOffer-eight}
-use Rattle.net_core.proofs.beat_core.WordLaws.{length-low_bytes, IsBytes-low_bytes}
+use Rattle.net_core.proofs.beat_core_laws.BeatLaws.{IsOffer-count, IsOffer-eight}
+use Rattle.net_core.proofs.beat_core_laws.WordLaws.{length-low_bytes, IsBytes-low_bytes}
 use Rattle.net_core.specs.declared.tree.Op.TheVariants.{Add, And, Equal}
 use Rattle.net_core.specs.declared.tree.UnaryOp.TheVariants.{Not}
 use Rattle.net_core.specs.declared.tree.Word.{Word}
@@ -23,9 +23,9 @@ use Rattle.net_core.specs.Nets.{TRead, TUnary, TBinary, StatementTree, SIf, SSet
 use Rattle.net_core.specs.Value.{word, bit, nothing, part_select, Env, value, apply, apply_unary, concatenated, conditional}
 use Rattle.net_core.specs.Clock.{Stored, done, edge}
 use Rattle.net_core.proofs.LowBitsLaws.{concatenated_small}
-use Rattle.product_blocks.specs.block_core.declared.name.Name.{Name}
-use Rattle.product_blocks.specs.block_core.declared.name.Name.TheVariants as name
-use Rattle.product_blocks.specs.block_core.Parts.{Solve}
+use Rattle.block_core.specs.declared.name.Name.{Name}
+use Rattle.block_core.specs.declared.name.Name.TheVariants as name
+use Rattle.block_core.specs.Parts.{Solve}
 use Rattle.frame_net.specs.declared.held.Kept.{Kept}
 use Rattle.frame_net.specs.declared.held.Kept.TheVariants.{Ifindex, Time, Word as FrameWord}
 use Rattle.frame_net.specs.declared.held.Further.{Further}

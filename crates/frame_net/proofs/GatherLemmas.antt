@@ -14,13 +14,13 @@ use Rattle.net_core.specs.Ports.{port_list}
 use Rattle.net_core.specs.Value.{word}
 use Rattle.net_core.specs.Width.{Scope, width_of, statement_typed, concatenation_width, word_fits}
 use Rattle.net_core.proofs.WidthLaws.{concatenation_is}
-use Rattle.design_rules.specs.FormedSyntax.{statement_spelled, statements_depth}
-use Rattle.product_blocks.specs.block_core.declared.name.Name.{Name}
-use Rattle.product_blocks.specs.block_core.declared.name.Name.TheVariants as name
-use Rattle.product_blocks.specs.block_core.Blocks.{BlockTree, Whole, Among, first_memory}
-use Rattle.product_blocks.specs.block_core.Parts.{Within}
-use Rattle.product_blocks.specs.block_core.Order.{IsBefore, InOrder}
-use Rattle.product_blocks.specs.block_core.Formed.{names_scope, name_width, block_registers, block_wires, memories_fit, block_wires_typed, IsTypedBlock, StatementReads, IsThere}
+use Rattle.block_core.specs.design_rules.FormedSyntax.{statement_spelled, statements_depth}
+use Rattle.block_core.specs.declared.name.Name.{Name}
+use Rattle.block_core.specs.declared.name.Name.TheVariants as name
+use Rattle.block_core.specs.Blocks.{BlockTree, Whole, Among, first_memory}
+use Rattle.block_core.specs.Parts.{Within}
+use Rattle.block_core.specs.Order.{IsBefore, InOrder}
+use Rattle.block_core.specs.Formed.{names_scope, name_width, block_registers, block_wires, memories_fit, block_wires_typed, IsTypedBlock, StatementReads, IsThere}
 use Rattle.frame_net.specs.declared.held.Kept.{Kept}
 use Rattle.frame_net.specs.declared.held.Kept.TheVariants.{Ifindex, Time, Word as FrameWord}
 use Rattle.frame_net.specs.declared.held.Further.{Further}

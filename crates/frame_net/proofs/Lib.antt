@@ -1,4 +1,3 @@
-pub use Rattle.product_blocks.proofs as product_blocks
 pub mod StoreLaws
 pub mod MaskLaws
 pub mod BankLaws
@@ -13,3 +12,4 @@ mod GatherLemmas
 mod GatherClock
 mod GatherWhole
 mod SourcesLemmas
+pub mod ScatterNet

@@ -4,7 +4,7 @@ use Rattle.std.proofs.Common.{sym, ap, ◌∙◌, arith}
 use Rattle.std.proofs.lemmas.Bool.{lt-ltb}
 use Rattle.std.proofs.lemmas.Nat.{and_mask, mod-pow-add}
 use Rattle.net_core.specs.beat_core.Words.{low_bytes, word_of}
-use Rattle.net_core.proofs.beat_core.WordLaws.{low_bytes-suc, low_bytes-zero, word_of-nil, word_of-cons}
+use Rattle.net_core.proofs.beat_core_laws.WordLaws.{low_bytes-suc, low_bytes-zero, word_of-nil, word_of-cons}
 use Rattle.net_core.specs.declared.tree.Op.TheVariants.{Sub, And, ShiftRight}
 use Rattle.net_core.specs.declared.tree.Word.{Word}
 use Rattle.net_core.specs.Nets.{Tree}

@@ -7,20 +7,20 @@ use Rattle.std.proofs.lemmas.Bool.Decides.{nat_tests}
 use Rattle.std.proofs.lemmas.List.{drop_all, length-drop}
 use Rattle.net_core.specs.beat_core.Words.{word_of}
 use Rattle.net_core.specs.beat_core.Ports.{Arrival}
-use Rattle.net_core.proofs.beat_core.WordLaws.{word_of-nil}
+use Rattle.net_core.proofs.beat_core_laws.WordLaws.{word_of-nil}
 use Rattle.net_core.specs.declared.tree.Word.{Word}
 use Rattle.net_core.specs.declared.tree.Op.TheVariants.{Add}
 use Rattle.net_core.specs.Nets.{TRead}
 use Rattle.net_core.specs.Ports.{port_list}
 use Rattle.net_core.specs.Value.{word, bit, Env, value, apply, concatenated, conditional}
 use Rattle.net_core.specs.Width.{Scope, width_of, same}
-use Rattle.design_rules.specs.FormedSyntax.{right_spelled}
-use Rattle.product_blocks.specs.block_core.declared.name.Name.{Name}
-use Rattle.product_blocks.specs.block_core.declared.name.Name.TheVariants as name
-use Rattle.product_blocks.specs.block_core.Blocks.{BlockTree, Whole, Among}
-use Rattle.product_blocks.specs.block_core.Parts.{Solve, Goes}
-use Rattle.product_blocks.specs.block_core.Order.{Reads, IsBefore, InOrder}
-use Rattle.product_blocks.specs.block_core.Formed.{names_scope, name_width, block_memories, block_wires, block_wires_typed, IsTypedBlock}
+use Rattle.block_core.specs.design_rules.FormedSyntax.{right_spelled}
+use Rattle.block_core.specs.declared.name.Name.{Name}
+use Rattle.block_core.specs.declared.name.Name.TheVariants as name
+use Rattle.block_core.specs.Blocks.{BlockTree, Whole, Among}
+use Rattle.block_core.specs.Parts.{Solve, Goes}
+use Rattle.block_core.specs.Order.{Reads, IsBefore, InOrder}
+use Rattle.block_core.specs.Formed.{names_scope, name_width, block_memories, block_wires, block_wires_typed, IsTypedBlock}
 use Rattle.frame_net.specs.declared.held.Kept.{Kept}
 use Rattle.frame_net.specs.declared.held.Kept.TheVariants.{Ifindex, Time, Word as FrameWord}
 use Rattle.frame_net.specs.Frames.{beat_of, last_of, word_at, HoldsKept, HoldsFrame}

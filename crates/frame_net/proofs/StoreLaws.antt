@@ -10,10 +10,10 @@ use Rattle.net_core.specs.Chains.{statements_before}
 use Rattle.net_core.specs.Value.{word, bit, Env, value}
 use Rattle.net_core.specs.Clock.{Stored, done, all_done, edge}
 use Rattle.net_core.specs.Width.{Scope, width_of, same, statements_typed}
-use Rattle.design_rules.specs.FormedSyntax.{tree_spelled, statements_depth, all_placed, all_trees_pass}
-use Rattle.product_blocks.specs.block_core.Parts.{AllWithin}
-use Rattle.product_blocks.specs.block_core.Order.{Reads}
-use Rattle.product_blocks.specs.block_core.Formed.{block_memory_width, StatementsRead}
+use Rattle.block_core.specs.design_rules.FormedSyntax.{tree_spelled, statements_depth, all_placed, all_trees_pass}
+use Rattle.block_core.specs.Parts.{AllWithin}
+use Rattle.block_core.specs.Order.{Reads}
+use Rattle.block_core.specs.Formed.{block_memory_width, StatementsRead}
 use Rattle.frame_net.specs.Stores.{Store, widths_memory, store_statement, store_statements}
 use Rattle.frame_net.proofs.FormLaws.{and_is, one_is, same_is}
 

@@ -9,14 +9,14 @@ use Rattle.net_core.specs.Ports.{port_list}
 use Rattle.net_core.specs.declared.ports.TheConstants.{IN_DATA, IN_BYTES, IN_LAST, IN_IFINDEX, IN_TIME}
 use Rattle.net_core.specs.Value.{word, bit, nothing, Env}
 use Rattle.net_core.specs.Clock.{Stored, done}
-use Rattle.design_rules.specs.FormedSyntax.{right_spelled, statement_spelled}
-use Rattle.product_blocks.specs.Alone.{IsFree}
-use Rattle.product_blocks.specs.block_core.declared.name.Name.{Name}
-use Rattle.product_blocks.specs.block_core.declared.name.Name.TheVariants as name
-use Rattle.product_blocks.specs.block_core.Blocks.{BlockTree, first_of, registers_of, memories_of, Whole, Among}
-use Rattle.product_blocks.specs.block_core.Parts.{Solve, Goes, Within}
-use Rattle.product_blocks.specs.block_core.Order.{IsBefore, InOrder}
-use Rattle.product_blocks.specs.block_core.Formed.{name_width, block_registers, block_memories, block_wires, IsTypedBlock, StatementReads, IsThere}
+use Rattle.block_core.specs.design_rules.FormedSyntax.{right_spelled, statement_spelled}
+use Rattle.block_core.specs.ProductBlocks.Alone.{IsFree}
+use Rattle.block_core.specs.declared.name.Name.{Name}
+use Rattle.block_core.specs.declared.name.Name.TheVariants as name
+use Rattle.block_core.specs.Blocks.{BlockTree, first_of, registers_of, memories_of, Whole, Among}
+use Rattle.block_core.specs.Parts.{Solve, Goes, Within}
+use Rattle.block_core.specs.Order.{IsBefore, InOrder}
+use Rattle.block_core.specs.Formed.{name_width, block_registers, block_memories, block_wires, IsTypedBlock, StatementReads, IsThere}
 use Rattle.frame_net.specs.declared.held.Kept.{Kept}
 use Rattle.frame_net.specs.declared.held.Kept.TheVariants.{Ifindex, Time, Word as FrameWord}
 use Rattle.frame_net.specs.declared.held.Further.{Further}

@@ -2,7 +2,7 @@
 use Rattle.std.specs.Prelude.{ℕ, suc, List, [], ◌∷◌}
 use Rattle.net_core.specs.Nets.{Tree, StatementTree, SIf, SStore}
 use Rattle.net_core.specs.Value.{word}
-use Rattle.product_blocks.specs.block_core.declared.block.BlockMemory.{BlockMemory}
+use Rattle.block_core.specs.declared.block.BlockMemory.{BlockMemory}
 
 -- when a memory takes which word where
 pub record Store (N : Type 0) : Type 0 where

@@ -5,7 +5,7 @@ ghost use Rattle.std.specs.List.{AllByRecursion};
 ghost use Rattle.net_core.specs.Nets.{TRead, SIf, SSet, SStore};
 ghost use Rattle.net_core.specs.View.{tree_of, statement_of};
 ghost use Rattle.net_core.specs.Value.{word};
-ghost use Rattle.product_blocks.specs.block_core.View.{block_of, block_wire_of};
+ghost use Rattle.block_core.specs.View.{block_of, block_wire_of};
 ghost use Rattle.frame_net.specs.Gather.{IsGather, IsKept, further_widths, memory_widths, kept_width};
 ghost use Rattle.frame_net.specs.Stores.{widths_memory, store_statement, store_statements};
 ghost use Rattle.frame_net.specs.Frames.{further};
@@ -16,11 +16,11 @@ use crate::nets::{
     POSITION_WIDTH, bank_bits, banks, in_bank, in_bits, masked, net, next_position, place, port,
     register, uncounted, wide, wire,
 };
+use block_core::block::{Block, BlockMemory, BlockWire};
+use block_core::name::{Name, Part};
 use net_core::build::{binary, block, constant, statements, unary, when};
 use net_core::ports::{IN_BYTES, IN_DATA, IN_IFINDEX, IN_LAST, IN_TIME};
 use net_core::tree::{Expr, Op, Stmt, UnaryOp, Word};
-use product_blocks::block_core::block::{Block, BlockMemory, BlockWire};
-use product_blocks::block_core::name::{Name, Part};
 use std::alloc::{AllocError, Global};
 
 // The bytes of the beat that count, as a word; whether a frame ends, and whether one begins; where the beat is stored.

@@ -3,16 +3,16 @@
 ghost use Rattle.std.specs.Prelude.{◌≡◌, ◌≤◌, IfOk, length};
 ghost use Rattle.net_core.specs.Nets.{TRead};
 ghost use Rattle.net_core.specs.View.{tree_of};
-ghost use Rattle.product_blocks.specs.block_core.View.{block_wire_of};
+ghost use Rattle.block_core.specs.View.{block_wire_of};
 ghost use Rattle.frame_net.specs.GatherNets.{port, register, net, wire, beside, uncounted, in_bits, masked, next_position, wide, place, in_bank};
 ghost use Rattle.frame_net.specs.Frames.{bank_bits, banks, bank};
 ghost use Rattle.frame_net.specs.SourcesNets.{held};
 
 use crate::held::Kept;
+use block_core::block::BlockWire;
+use block_core::name::{Name, Part};
 use net_core::build::{binary, conditional, constant, memory_word};
 use net_core::tree::{Expr, Op, Parts, Right};
-use product_blocks::block_core::block::BlockWire;
-use product_blocks::block_core::name::{Name, Part};
 use std::alloc::{AllocError, Global};
 
 /// How many bits the number of a beat has: a frame has 1,152 beats at most.

@@ -4,7 +4,7 @@ ghost use Rattle.std.specs.Prelude.{◌≡◌, ◌+◌, ◌≤◌, IfOk, length,
 ghost use Rattle.std.specs.List.{AllByRecursion};
 ghost use Rattle.net_core.specs.Nets.{SBlock, SEnd};
 ghost use Rattle.net_core.specs.View.{tree_of};
-ghost use Rattle.product_blocks.specs.block_core.View.{block_of, block_wire_of};
+ghost use Rattle.block_core.specs.View.{block_of, block_wire_of};
 ghost use Rattle.frame_net.specs.Gather.{IsKept};
 ghost use Rattle.frame_net.specs.Sources.{IsSources, length_name, kept_name};
 ghost use Rattle.frame_net.specs.SourcesNets.{held, frame_length, word_within, kept_tree, sources_wires};
@@ -12,10 +12,10 @@ ghost use Rattle.frame_net.specs.SourcesNets.{held, frame_length, word_within, k
 use crate::gathering::kept_width;
 use crate::held::Kept;
 use crate::nets::{POSITION_WIDTH, beside, held, net, wire};
+use block_core::block::{Block, BlockWire};
+use block_core::name::{Name, Part};
 use net_core::build::{binary, block, conditional, constant};
 use net_core::tree::{Expr, Op, Stmts};
-use product_blocks::block_core::block::{Block, BlockWire};
-use product_blocks::block_core::name::{Name, Part};
 use std::alloc::{AllocError, Global};
 
 /// The wire that shows the length of the frame, of 14 bits, where the part is that of sources.

@@ -6,8 +6,8 @@ use Rattle.std.proofs.lemmas.Nat.{pow-add}
 use Rattle.std.proofs.lemmas.List.Sums.{count_by-le-length, sum_by-set}
 use Rattle.net_core.specs.declared.tree.Op.TheVariants.{Add, Sub}
 use Rattle.net_core.specs.Value.{word, bit, number_of, apply, concatenated}
-use Rattle.array_net.specs.hazard_core.declared.slot.Slot.{Slot}
-use Rattle.array_net.specs.hazard_core.Tables.{no_slot, slot_at, used_count}
+use Rattle.overlay_net.specs.hazard_core.declared.slot.Slot.{Slot}
+use Rattle.overlay_net.specs.hazard_core.Tables.{no_slot, slot_at, used_count}
 
 pub count_set : (slots : List Slot) (n : ℕ) (x : Slot) → n < length slots → used_count (slice_set slots n x) + number_of (slot_at slots n).used ≡ used_count slots + number_of x.used
 count_set slots n x l = sum_by-set (λ (s : Slot). number_of s.used) slots n x no_slot l

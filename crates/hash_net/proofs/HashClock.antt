@@ -16,17 +16,17 @@ use Rattle.net_core.specs.Clock.{Stored, done, edge}
 use Rattle.block_core.specs.declared.name.Name.{Name}
 use Rattle.block_core.specs.declared.name.Name.TheVariants as name
 use Rattle.block_core.specs.Parts.{Solve}
-use Rattle.xdp_maps.specs.declared.decl.MapDecl.{MapDecl}
-use Rattle.xdp_maps.specs.declared.decl.MapKind.TheVariants.{Hash}
-use Rattle.xdp_maps.specs.Contents.{IsWithinLimits}
-use Rattle.array_net.specs.cell_core.Cells.{on}
-use Rattle.array_net.specs.hazard_core.declared.slot.Slot.{Slot}
-use Rattle.array_net.specs.hazard_core.declared.access.Access.{Access}
-use Rattle.array_net.specs.hazard_core.declared.access.Word.{Word as HostWord}
-use Rattle.array_net.specs.hazard_core.declared.access.Word.TheVariants.{Used, Key, Value, Nothing}
-use Rattle.array_net.specs.hazard_core.Tables.{no_slot, slot_at, used_count}
-use Rattle.array_net.specs.hazard_core.Shaped.{IsShaped}
-use Rattle.array_net.specs.hazard_core.Commits.{word_count, word_at as byte_word, value_word, word_as, shown_word, written_word, may_write}
+use Rattle.overlay_net.specs.xdp_maps.declared.decl.MapDecl.{MapDecl}
+use Rattle.overlay_net.specs.xdp_maps.declared.decl.MapKind.TheVariants.{Hash}
+use Rattle.overlay_net.specs.xdp_maps.Contents.{IsWithinLimits}
+use Rattle.overlay_net.specs.cell_core.Cells.{on}
+use Rattle.overlay_net.specs.hazard_core.declared.slot.Slot.{Slot}
+use Rattle.overlay_net.specs.hazard_core.declared.access.Access.{Access}
+use Rattle.overlay_net.specs.hazard_core.declared.access.Word.{Word as HostWord}
+use Rattle.overlay_net.specs.hazard_core.declared.access.Word.TheVariants.{Used, Key, Value, Nothing}
+use Rattle.overlay_net.specs.hazard_core.Tables.{no_slot, slot_at, used_count}
+use Rattle.overlay_net.specs.hazard_core.Shaped.{IsShaped}
+use Rattle.overlay_net.specs.hazard_core.Commits.{word_count, word_at as byte_word, value_word, word_as, shown_word, written_word, may_write}
 use Rattle.frame_net.specs.Frames.{word_at}
 use Rattle.frame_net.specs.GatherNets.{net, constant}
 use Rattle.frame_net.specs.SourcesNets.{held}

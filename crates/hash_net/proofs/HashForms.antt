@@ -14,18 +14,18 @@ use Rattle.net_core.specs.Ports.{port_list}
 use Rattle.net_core.specs.Value.{word}
 use Rattle.net_core.specs.Width.{Scope, width_of, statement_typed, concatenation_width, const_width, same_width, memory_word_width, word_fits}
 use Rattle.net_core.proofs.WidthLaws.{concatenation_is}
-use Rattle.frame_net.specs.design_rules.FormedSyntax.{right_spelled, tree_spelled, statement_spelled, statements_depth, depth}
-use Rattle.frame_net.specs.product_rules.Products.{statement_flat}
-use Rattle.frame_net.specs.product_blocks.Alone.{wire_flat}
+use Rattle.block_core.specs.design_rules.FormedSyntax.{right_spelled, tree_spelled, statement_spelled, statements_depth, depth}
+use Rattle.net_core.specs.ProductRules.Products.{statement_flat}
+use Rattle.block_core.specs.ProductBlocks.Alone.{wire_flat}
 use Rattle.block_core.specs.declared.name.Name.{Name}
 use Rattle.block_core.specs.declared.name.Name.TheVariants as name
 use Rattle.block_core.specs.Blocks.{BlockTree, Whole, Among}
 use Rattle.block_core.specs.Parts.{Within}
 use Rattle.block_core.specs.Order.{IsBefore, InOrder, Reads}
 use Rattle.block_core.specs.Formed.{names_scope, block_registers, block_memories, block_wires, memories_fit, block_wires_typed, IsTypedBlock, StatementReads, IsThere}
-use Rattle.xdp_maps.specs.declared.decl.MapDecl.{MapDecl}
-use Rattle.xdp_maps.specs.Contents.{IsWithinLimits}
-use Rattle.array_net.specs.hazard_core.Commits.{word_count}
+use Rattle.overlay_net.specs.xdp_maps.declared.decl.MapDecl.{MapDecl}
+use Rattle.overlay_net.specs.xdp_maps.Contents.{IsWithinLimits}
+use Rattle.overlay_net.specs.hazard_core.Commits.{word_count}
 use Rattle.frame_net.specs.GatherNets.{net, constant, beside}
 use Rattle.frame_net.specs.SourcesNets.{held}
 use Rattle.frame_net.specs.Stores.{Store, widths_memory, store_statements}

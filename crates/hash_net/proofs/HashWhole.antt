@@ -8,13 +8,13 @@ use Rattle.net_core.specs.Value.{word, bit, number_of}
 use Rattle.net_core.specs.Clock.{Stored}
 use Rattle.block_core.specs.declared.name.Name.{Name}
 use Rattle.block_core.specs.Blocks.{first_memory}
-use Rattle.xdp_maps.specs.declared.decl.MapDecl.{MapDecl}
-use Rattle.xdp_maps.specs.declared.decl.MapKind.TheVariants.{Hash}
-use Rattle.xdp_maps.specs.Contents.{IsWithinLimits}
-use Rattle.array_net.specs.hazard_core.declared.slot.Slot.{Slot}
-use Rattle.array_net.specs.hazard_core.Tables.{no_slot, slot_at, used_count, empty_slot}
-use Rattle.array_net.specs.hazard_core.Shaped.{IsShaped}
-use Rattle.array_net.specs.hazard_core.Commits.{word_count, word_at as byte_word}
+use Rattle.overlay_net.specs.xdp_maps.declared.decl.MapDecl.{MapDecl}
+use Rattle.overlay_net.specs.xdp_maps.declared.decl.MapKind.TheVariants.{Hash}
+use Rattle.overlay_net.specs.xdp_maps.Contents.{IsWithinLimits}
+use Rattle.overlay_net.specs.hazard_core.declared.slot.Slot.{Slot}
+use Rattle.overlay_net.specs.hazard_core.Tables.{no_slot, slot_at, used_count, empty_slot}
+use Rattle.overlay_net.specs.hazard_core.Shaped.{IsShaped}
+use Rattle.overlay_net.specs.hazard_core.Commits.{word_count, word_at as byte_word}
 use Rattle.frame_net.specs.Frames.{word_at}
 use Rattle.frame_net.specs.Stores.{widths_memory}
 use Rattle.frame_net.proofs.StoreLaws.{widths_are}

@@ -4,3 +4,4 @@ mod CountLaws
 mod HashForms
 mod HashClock
 mod HashWhole
+pub mod SlotNet

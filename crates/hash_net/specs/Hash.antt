@@ -6,20 +6,20 @@ use Rattle.net_core.specs.Nets.{Tree}
 use Rattle.net_core.specs.Ports.{port_list}
 use Rattle.net_core.specs.Value.{word, bit, Env, value}
 use Rattle.net_core.specs.Clock.{Stored, done}
-use Rattle.frame_net.specs.design_rules.FormedSyntax.{right_spelled, statement_spelled}
-use Rattle.frame_net.specs.product_blocks.Alone.{IsFree}
+use Rattle.block_core.specs.design_rules.FormedSyntax.{right_spelled, statement_spelled}
+use Rattle.block_core.specs.ProductBlocks.Alone.{IsFree}
 use Rattle.block_core.specs.declared.name.Name.{Name}
 use Rattle.block_core.specs.declared.name.Name.TheVariants as name
 use Rattle.block_core.specs.Blocks.{BlockTree, first_of, registers_of, memories_of, Whole, Among}
 use Rattle.block_core.specs.Parts.{Solve, Goes, Within}
 use Rattle.block_core.specs.Order.{IsBefore, InOrder}
 use Rattle.block_core.specs.Formed.{names_scope, name_width, block_registers, block_memories, block_wires, IsTypedBlock, StatementReads, IsThere}
-use Rattle.xdp_maps.specs.declared.decl.MapDecl.{MapDecl}
-use Rattle.array_net.specs.hazard_core.declared.slot.Slot.{Slot}
-use Rattle.array_net.specs.hazard_core.declared.access.Access.{Access}
-use Rattle.array_net.specs.hazard_core.Tables.{slot_at, used_count, empty_slot}
-use Rattle.array_net.specs.hazard_core.Shaped.{IsShaped}
-use Rattle.array_net.specs.hazard_core.Commits.{word_count, word_at as byte_word, shown_word, may_write}
+use Rattle.overlay_net.specs.xdp_maps.declared.decl.MapDecl.{MapDecl}
+use Rattle.overlay_net.specs.hazard_core.declared.slot.Slot.{Slot}
+use Rattle.overlay_net.specs.hazard_core.declared.access.Access.{Access}
+use Rattle.overlay_net.specs.hazard_core.Tables.{slot_at, used_count, empty_slot}
+use Rattle.overlay_net.specs.hazard_core.Shaped.{IsShaped}
+use Rattle.overlay_net.specs.hazard_core.Commits.{word_count, word_at as byte_word, shown_word, may_write}
 use Rattle.frame_net.specs.Frames.{word_at}
 use Rattle.array_net.specs.declared.words.WordNets.{WordNets}
 use Rattle.array_net.specs.Words.{HoldsWords, AsksWords, HaveWidths, AreThere}

@@ -9,8 +9,8 @@ use Rattle.net_core.specs.Value.{word}
 use Rattle.block_core.specs.declared.name.Name.{Name}
 use Rattle.block_core.specs.declared.name.Name.TheVariants as name
 use Rattle.block_core.specs.Blocks.{BlockTree, BlockWireTree}
-use Rattle.xdp_maps.specs.declared.decl.MapDecl.{MapDecl}
-use Rattle.array_net.specs.hazard_core.Commits.{word_count}
+use Rattle.overlay_net.specs.xdp_maps.declared.decl.MapDecl.{MapDecl}
+use Rattle.overlay_net.specs.hazard_core.Commits.{word_count}
 use Rattle.frame_net.specs.GatherNets.{port, net, register, constant, wire, beside}
 use Rattle.frame_net.specs.SourcesNets.{held}
 use Rattle.frame_net.specs.Stores.{Store, widths_memory, store_statements}

@@ -3,9 +3,9 @@
 ghost use Rattle.std.specs.Prelude.{◌≡◌, ◌≤◌, ◌<◌, ◌^◌, ◌++◌, IfOk, OnOk, length, map};
 ghost use Rattle.net_core.specs.View.{tree_of, statement_of};
 ghost use Rattle.block_core.specs.View.{block_of, block_wire_of};
-ghost use Rattle.xdp_maps.specs.Contents.{IsWithinLimits};
-ghost use Rattle.xdp_maps.specs.declared.decl.MapKind.TheVariants.{Hash};
-ghost use Rattle.array_net.specs.hazard_core.Commits.{word_count};
+ghost use Rattle.overlay_net.specs.xdp_maps.Contents.{IsWithinLimits};
+ghost use Rattle.overlay_net.specs.xdp_maps.declared.decl.MapKind.TheVariants.{Hash};
+ghost use Rattle.overlay_net.specs.hazard_core.Commits.{word_count};
 ghost use Rattle.frame_net.specs.Stores.{widths_memory, store_statements};
 ghost use Rattle.hash_net.specs.Hash.{IsHash, count_name, value_name};
 ghost use Rattle.hash_net.specs.HashNets.{hash_memories, hash_wires, hash_words, hash_statement, key_nets};
@@ -17,11 +17,11 @@ use array_net::words::{WordNets, add_memories, add_stores, word_count};
 use array_net::{MapNets, chosen_index, names_slot};
 use block_core::block::{Block, BlockMemory, BlockWire};
 use block_core::name::{Name, Part};
+use cell_nets::cell_core::xdp_state::xdp_maps::decl::MapDecl;
 use frame_net::nets::{held, net, wire};
 use net_core::build::{binary, block, conditional, constant, statements, when};
 use net_core::tree::{Expr, Op, Stmt, Word};
 use std::alloc::{AllocError, Global};
-use xdp_maps::decl::MapDecl;
 
 /// The nets that ask something of a hash in a clock: beside those of every map whether no packet is inside, and whether an
 /// operation puts an entry into the slot, or takes it away.

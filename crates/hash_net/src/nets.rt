@@ -8,12 +8,12 @@ use crate::block::HashNets;
 use array_net::names_slot;
 use array_net::words::{host_index, is_word, word_count, words_read};
 use block_core::name::{Name, Part};
+use cell_nets::cell_core::xdp_state::xdp_maps::decl::MapDecl;
 use frame_net::nets::{beside, held, net, port, register};
 use net_core::build::{binary, conditional, constant, unary};
 use net_core::ports::{HOST_DATA, HOST_WORD};
 use net_core::tree::{Expr, Op, UnaryOp};
 use std::alloc::{AllocError, Global};
-use xdp_maps::decl::MapDecl;
 
 /// The number of the memory that has the first words of values.
 pub fn value_first(decl: &MapDecl) -> u32

@@ -13,7 +13,7 @@ use Rattle.std.proofs.lemmas.List.{set-get_or, length-replicate, map-set}
 use Rattle.std.proofs.Math.ListN.{get_or-map}
 use Rattle.std.proofs.lemmas.Slice.Eq.{bytes_eq-Decides}
 use Rattle.byteorder.specs.Endian.{little_bytes}
-use Rattle.cell_core.specs.xdp_state.xdp_machine.Memory.{bytes_in, number_at}
+use Rattle.cell_core.specs.xdp_machine.Memory.{bytes_in, number_at}
 use Rattle.xdp_maps.specs.declared.decl.MapDecl.{MapDecl}
 use Rattle.xdp_maps.specs.declared.decl.MapKind.{MapKind}
 use Rattle.xdp_maps.specs.declared.decl.MapKind.TheVariants.{Hash, Array}

@@ -2,12 +2,12 @@
 use Rattle.std.proofs.Common.{◌≡◌, ◌∙◌, ℕ, ◌+◌, ◌*◌, ◌≤◌, Bool, true, false, List, [], ◌∷◌, ◌++◌, length, take, drop, refl, arith, map as map_list}
 use Rattle.std.proofs.lemmas.List.{length-take-le, length-drop, length-append, length-map}
 use Rattle.byteorder.specs.Endian.{little_bytes}
-use Rattle.cell_core.specs.xdp_state.bpf_isa.declared.operation.Size.{Size}
-use Rattle.cell_core.specs.xdp_state.bpf_isa.declared.operation.Size.TheVariants.{B, H, W, Dw}
+use Rattle.cell_core.specs.bpf_isa.declared.operation.Size.{Size}
+use Rattle.cell_core.specs.bpf_isa.declared.operation.Size.TheVariants.{B, H, W, Dw}
 use Rattle.xdp_maps.specs.declared.decl.MapDecl.{MapDecl}
 use Rattle.xdp_maps.specs.Calls.{patched, change_bytes}
 use Rattle.xdp_maps.specs.Operations.{key_in}
-use Rattle.cell_core.specs.xdp_state.xdp_machine.Memory.{bytes_in}
+use Rattle.cell_core.specs.xdp_machine.Memory.{bytes_in}
 use Rattle.cell_core.specs.declared.site.Act.{Act}
 use Rattle.cell_core.specs.declared.site.Act.TheVariants as act
 use Rattle.cell_core.specs.Sites.{spelled, bytes_of, operation_with}

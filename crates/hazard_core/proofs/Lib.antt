@@ -1,4 +1,5 @@
 pub use Rattle.cell_core.proofs as cell_core_laws
+pub use Rattle.xdp_maps.proofs as xdp_maps_laws
 pub mod Changing
 pub mod Unmoved
 pub mod Alike
@@ -25,3 +26,6 @@ pub mod Made
 pub mod Padding
 pub mod Written
 pub mod Filling
+pub mod HeldRows
+pub mod TableLaws
+pub mod TableMaps

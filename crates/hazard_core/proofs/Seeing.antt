@@ -11,7 +11,7 @@ use Rattle.xdp_maps.specs.declared.decl.MapKind.TheVariants.{Hash, Array}
 use Rattle.xdp_maps.specs.Calls.{number_at as changed_at}
 use Rattle.xdp_maps.specs.Operations as map
 use Rattle.xdp_maps.specs.Operations.{Operation}
-use Rattle.cell_core.specs.xdp_state.xdp_machine.Memory.{number_at}
+use Rattle.cell_core.specs.xdp_machine.Memory.{number_at}
 use Rattle.cell_core.specs.declared.site.Act.{Act}
 use Rattle.cell_core.specs.declared.site.Act.TheVariants as act
 use Rattle.cell_core.specs.Cells.{bit}

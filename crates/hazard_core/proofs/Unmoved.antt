@@ -11,7 +11,7 @@ use Rattle.xdp_maps.specs.declared.decl.MapKind.TheVariants.{Hash, Array}
 use Rattle.xdp_maps.specs.declared.errno.TheConstants.{ENOENT, E2BIG, EEXIST, EINVAL}
 use Rattle.xdp_maps.specs.Calls.{hash_refusal, number_of, number_at as changed_at}
 use Rattle.xdp_maps.specs.Operations.{key_in}
-use Rattle.cell_core.specs.xdp_state.xdp_machine.Memory.{number_at}
+use Rattle.cell_core.specs.xdp_machine.Memory.{number_at}
 use Rattle.cell_core.specs.declared.site.Act.{Act}
 use Rattle.cell_core.specs.declared.site.Act.TheVariants as act
 use Rattle.cell_core.specs.Cells.{bit}

@@ -1,6 +1,7 @@
+pub use Rattle.cell_core.specs.bpf_isa as bpf_isa
 pub use Rattle.cell_core.specs as cell_core
+pub use Rattle.cell_core.specs.xdp_machine as xdp_machine
 pub use Rattle.xdp_maps.specs as xdp_maps
-pub use Rattle.cell_core.specs.xdp_state.xdp_machine as xdp_machine
 pub mod Tables
 pub mod Shaped
 pub mod Held
@@ -15,3 +16,6 @@ pub mod Keeping
 pub mod Standing
 pub mod Tabled
 pub mod Replay
+pub mod HeldRows
+pub mod TableLaws
+pub mod TableMaps

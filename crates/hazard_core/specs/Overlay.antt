@@ -11,7 +11,7 @@ use Rattle.xdp_maps.specs.Contents.{index_of}
 use Rattle.xdp_maps.specs.Calls.{hash_refusal, array_refusal, number_of, patched, with_change, number_at as changed_at}
 use Rattle.xdp_maps.specs.Operations as map
 use Rattle.xdp_maps.specs.Operations.{Operation}
-use Rattle.cell_core.specs.xdp_state.xdp_machine.Memory.{number_at}
+use Rattle.cell_core.specs.xdp_machine.Memory.{number_at}
 use Rattle.cell_core.specs.declared.site.Act.{Act}
 use Rattle.cell_core.specs.declared.site.Act.TheVariants as act
 use Rattle.cell_core.specs.Cells.{bit}

@@ -1,6 +1,6 @@
 -- A packet takes in a row: all cells of the row, in their order, from those that it holds.
 use Rattle.std.specs.Prelude.{ℕ, suc, ◌==◌, not, if◌then◌else◌, List, [], ◌∷◌, map as map_list, slice_index, replicate, length}
-use Rattle.cell_core.specs.xdp_state.xdp_machine.State.{PacketIn}
+use Rattle.cell_core.specs.xdp_machine.State.{PacketIn}
 use Rattle.cell_core.specs.declared.operator.Operator.{Operator}
 use Rattle.cell_core.specs.declared.operator.Operator.TheVariants.{Wire, Phi, Found, Answer}
 use Rattle.cell_core.specs.Cells.{CellView, number, bits_from, bit, on}

@@ -1,6 +1,6 @@
 -- What a cell takes of the frame that came, and of what came with it.
 use Rattle.std.specs.Prelude.{ℕ, Option, Some, None, slice_index, length}
-use Rattle.cell_core.specs.xdp_state.xdp_machine.State.{PacketIn}
+use Rattle.cell_core.specs.xdp_machine.State.{PacketIn}
 use Rattle.cell_core.specs.declared.operator.Operator.{Operator}
 use Rattle.cell_core.specs.declared.operator.Operator.TheVariants.{Byte, Length, Ifindex, Time}
 use Rattle.hazard_core.specs.declared.rows.Source.{Source}

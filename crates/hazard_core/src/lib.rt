@@ -1,11 +1,12 @@
-//! Operations of packets that overlap: maps as tables of slots, what a packet reads over its own earlier operations, which
-//! reads an operation touches, and what it leaves. What it all is stands as definitions, with laws about them, and code that is it.
+//! Maps as tables of slots, what a packet reads over its own earlier operations, which reads a change touches, and commits.
+//! `held_rows` and `table_laws` have laws of rows and tables, `table_maps` the maps that tables stand for.
 #![tactic(auto)]
 
 pub mod access;
 pub mod change;
 pub mod commit;
 pub mod held;
+pub mod held_rows;
 pub mod host;
 pub mod laws;
 pub mod marks;
@@ -16,6 +17,8 @@ pub mod pointer;
 pub mod rows;
 pub mod site;
 pub mod slot;
+pub mod table_laws;
+pub mod table_maps;
 pub mod tables;
 
 // Crates above name these through this one.

@@ -1,3 +1,4 @@
+pub use Rattle.xdp_machine.proofs as xdp_machine_laws
 pub mod Lists
 pub mod JoinLaws
 pub mod Order

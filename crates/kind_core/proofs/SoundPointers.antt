@@ -4,7 +4,7 @@ use Rattle.std.specs.Int.{w64, cast_unsigned}
 use Rattle.std.specs.Prelude.{unsigned_abs}
 use Rattle.std.specs.Ordering.{int_eq}
 use Rattle.std.proofs.lemmas.Int.{ints}
-use Rattle.xdp_machine.specs.bpf_isa.bits_core.Bits.{signed_of}
+use Rattle.xdp_machine.specs.bits_core.Bits.{signed_of}
 use Rattle.xdp_machine.specs.bpf_isa.declared.operation.Width.{Width}
 use Rattle.xdp_machine.specs.bpf_isa.declared.operation.Width.TheVariants.{Bits32, Bits64}
 use Rattle.xdp_machine.specs.bpf_isa.declared.operation.AluCode.{AluCode}

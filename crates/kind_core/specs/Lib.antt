@@ -1,4 +1,3 @@
-pub use Rattle.xdp_machine.specs.xdp_maps as xdp_maps
 pub mod Reasons
 pub mod Numbers
 pub mod Kinds

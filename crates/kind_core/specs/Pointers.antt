@@ -2,7 +2,7 @@
 use Rattle.std.specs.Prelude.{ℕ, zero, ℤ, pos, negsuc, ◌+ℤ◌, ◌-ℤ◌, neg_ℤ, int_le, Bool, true, false, ◌&&◌, if◌then◌else◌, Result, Ok, Err, List, unsigned_abs}
 use Rattle.std.specs.Ordering.{int_eq}
 use Rattle.std.specs.Int.{w64, cast_unsigned}
-use Rattle.xdp_machine.specs.bpf_isa.bits_core.Bits.{signed_of}
+use Rattle.xdp_machine.specs.bits_core.Bits.{signed_of}
 use Rattle.xdp_machine.specs.bpf_isa.declared.operation.Width.{Width}
 use Rattle.xdp_machine.specs.bpf_isa.declared.operation.Width.TheVariants.{Bits64}
 use Rattle.xdp_machine.specs.bpf_isa.declared.operation.AluCode.{AluCode}

@@ -1,5 +1,5 @@
-pub use Rattle.beat_core.proofs as beat_core
-pub use Rattle.beat_core.proofs.list_laws as list_laws
+pub use Rattle.beat_core.proofs as beat_core_laws
+pub use Rattle.beat_core.proofs.list_laws_laws as list_laws_laws
 pub mod PortLaws
 pub mod LowBitsLaws
 pub mod ClockLaws
@@ -10,3 +10,4 @@ pub mod ChainLaws
 pub mod RegisterLemmas
 pub mod ConcatenationLemmas
 pub mod TestLemmas
+pub mod SameClocks

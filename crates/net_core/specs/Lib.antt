@@ -12,3 +12,5 @@ pub mod Suits
 pub mod Codes
 pub mod History
 pub mod PortNames
+pub mod ProductRules
+pub mod SameClocks

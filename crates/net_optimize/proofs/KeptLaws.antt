@@ -14,11 +14,11 @@ use Rattle.design_rules.specs.FormedScope.{Sorts, reads_known, right_known, is_v
 use Rattle.design_rules.specs.Formed.{IsWellFormed, targets_known}
 use Rattle.design_rules.proofs.FormedItemLaws.{wire_kept, assign_kept, block_kept}
 use Rattle.block_core.specs.Rename.{rename_right}
-use Rattle.equal_registers.specs.Equal.{AreEqual}
+use Rattle.register_rules.specs.EqualRegisters.Equal.{AreEqual}
 use Rattle.net_optimize.specs.Folding.{SectionTrees}
 use Rattle.net_optimize.specs.Renumber.{dropped, numbers, kept, kept_stored, NewNumbers, renumber, renumber_wire, renumber_assign}
 use Rattle.net_optimize.specs.Short.{new_numbers, IsShort}
-use Rattle.solved_wires.specs.Solving.{Solves}
+use Rattle.design_rules.specs.SolvedWires.Solving.{Solves}
 use Rattle.net_optimize.proofs.KeptLists.{length_kept_same, placed, registers_counted}
 use Rattle.net_optimize.proofs.SameValues.{value_same, right_same, stops_same}
 use Rattle.net_optimize.proofs.StatementLaws.{edge_same}

@@ -10,3 +10,5 @@ pub mod PartLemmas
 pub mod JoinLemmas
 pub mod FlagLemmas
 pub mod NegationLemmas
+pub mod SharedExpressions
+pub mod SimpleLogic

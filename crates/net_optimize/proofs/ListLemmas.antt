@@ -7,8 +7,8 @@ use Rattle.net_core.specs.declared.tree.Expr.{Expr}
 use Rattle.net_core.specs.Nets.{StatementTree, WireTree, AssignTree}
 use Rattle.net_core.specs.Value.{Env, value, right_value}
 use Rattle.net_core.specs.Clock.{Stored, done, edge, assigned, rights, stopped_at}
-use Rattle.solved_wires.specs.Solving.{Solves}
-use Rattle.solved_wires.proofs.SolvingLaws.{solves_take, solved_at}
+use Rattle.design_rules.specs.SolvedWires.Solving.{Solves}
+use Rattle.design_rules.proofs.SolvedWires.SolvingLaws.{solves_take, solved_at}
 use Rattle.net_optimize.specs.Folding.{IsValued, AreKnown, IsSameRight, AreSameWires, AreSameAssigns}
 
 pub edge_append : {N : Type 0} (v : Env N) (xs ys : List (StatementTree N)) (s : Stored) → edge v (xs ++ ys) s ≡ edge v ys (edge v xs s)

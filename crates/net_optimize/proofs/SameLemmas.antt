@@ -7,15 +7,15 @@ use Rattle.net_core.specs.Nets.{WireTree, AssignTree, Netlist}
 use Rattle.net_core.specs.Value.{Env}
 use Rattle.net_core.specs.Clock.{Stored, env, with_wires, edge, assigned, rights, stopped_at, stopping, shown, after}
 use Rattle.design_rules.specs.Formed.{IsWellFormed}
-use Rattle.same_clocks.specs.Same.{ShowTheSame, Follows}
-use Rattle.same_clocks.proofs.SameLaws.{followers_show_the_same}
-use Rattle.equal_registers.specs.Equal.{AreEqual, StayEqual}
-use Rattle.solved_wires.specs.Solving.{Solves}
+use Rattle.net_core.specs.SameClocks.Same.{ShowTheSame, Follows}
+use Rattle.net_core.proofs.SameClocks.SameLaws.{followers_show_the_same}
+use Rattle.register_rules.specs.EqualRegisters.Equal.{AreEqual, StayEqual}
+use Rattle.design_rules.specs.SolvedWires.Solving.{Solves}
 use Rattle.net_optimize.specs.Folding.{AreSameWires, AreSameAssigns, SectionTrees, AreSameSections, netlist_sections}
 use Rattle.net_optimize.specs.Renumber.{kept, kept_stored}
 use Rattle.net_optimize.specs.Short.{IsShort}
 use Rattle.net_optimize.proofs.ListLemmas.{assigned_same, solves_same, stops_same}
-use Rattle.solved_wires.proofs.SolvingLaws.{rights_known, solved, unique, wires_counted}
+use Rattle.design_rules.proofs.SolvedWires.SolvingLaws.{rights_known, solved, unique, wires_counted}
 use Rattle.net_optimize.proofs.KeptLaws.{length-kept, solves-kept, stopped_at-kept, assigned-kept, edge-kept}
 
 module _ (a b : Netlist) (short : SectionTrees) (firsts : List ℕ) (formed : IsWellFormed a) (formed_too : IsWellFormed b) (k : IsShort a short firsts b) (count : length short.wires ≡ length a.wires)

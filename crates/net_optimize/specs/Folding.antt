@@ -6,8 +6,8 @@ use Rattle.net_core.specs.View.{wire_of, assign_of, statement_of}
 use Rattle.net_core.specs.Value.{Env, value}
 use Rattle.net_core.specs.Clock.{Stored, edge}
 use Rattle.net_optimize.specs.declared.sections.Sections.{Sections}
-pub use Rattle.simple_logic.specs.logic_rules.Known.{IsValued, AreKnown}
-pub use Rattle.simple_logic.specs.Simple.{IsSameRight}
+pub use Rattle.net_rules.specs.LogicRules.Known.{IsValued, AreKnown}
+pub use Rattle.net_optimize.specs.SimpleLogic.Simple.{IsSameRight}
 
 -- so it is with wires, one by one
 abbrev pub AreSameWires : Env Net → List WireTree → List WireTree → Type 0

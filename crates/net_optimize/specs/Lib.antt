@@ -4,3 +4,5 @@ pub mod Short
 pub mod Flags
 pub mod Lists
 pub mod Numbers
+pub mod SharedExpressions
+pub mod SimpleLogic

@@ -8,8 +8,8 @@ ghost use Rattle.net_core.specs.Value.{Env, value, apply, concatenated_parts};
 ghost use Rattle.net_optimize.specs.Numbers.{ComparesNumbers};
 
 use net_core::build::{self, binary};
+use net_core::net_trees::copying::{copied, copied_parts};
 use net_core::tree::{Expr, Net, Op, Parts, Word};
-use net_trees::copying::{copied, copied_parts};
 use std::alloc::{AllocError, Global};
 
 // Whether an operator compares two numbers.

@@ -7,8 +7,8 @@ ghost use Rattle.net_core.specs.Value.{Env, value, part_select, concatenated, co
 ghost use Rattle.net_optimize.specs.Lists.{all_parts};
 
 use net_core::build::{constant, parts};
+use net_core::net_trees::copying::copied;
 use net_core::tree::{Expr, Net, Parts, Word};
-use net_trees::copying::copied;
 use std::alloc::{AllocError, Global};
 
 /// How many bits a constant has at most.

@@ -13,8 +13,8 @@ use crate::joining::{Joined, closed, none, one, under, with_guarded, with_statem
 use crate::negation::{prefixed, vanishes};
 use crate::simple::{chosen, is_prefixed, joined, read, select};
 use net_core::build::{memory_word, when_else};
+use net_core::net_trees::copying::copied;
 use net_core::tree::{Expr, Net, Parts, Right, Stmt, Stmts};
-use net_trees::copying::copied;
 use std::alloc::{AllocError, Global};
 
 /// An expression of the same value.

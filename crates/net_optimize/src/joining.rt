@@ -8,8 +8,8 @@ ghost use Rattle.net_core.specs.Clock.{Stored, done, edge};
 ghost use Rattle.net_optimize.specs.Lists.{guarded, joined_done};
 
 use net_core::build::{block, statements, when};
+use net_core::net_trees::equal::is_same;
 use net_core::tree::{Expr, Net, Stmt};
-use net_trees::equal::is_same;
 use std::alloc::{AllocError, Global};
 
 /// Statements under a condition.

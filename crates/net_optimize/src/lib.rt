@@ -1,5 +1,5 @@
-//! Shorter designs that show the same: netlists after constants and copies are propagated, equal right sides and equal registers are shared,
-//! right sides that are read once stand where they are read, and what nothing reads is dropped.
+//! A shorter design that shows the same.
+//! `simple_logic` simplifies its expressions, `shared_expressions` makes a wire of what stands at several places.
 #![tactic(auto)]
 
 mod comparing;
@@ -16,7 +16,9 @@ mod optimizing;
 mod reads;
 mod renumber;
 mod sections;
+pub mod shared_expressions;
 mod simple;
+pub mod simple_logic;
 mod wires;
 
 pub use optimizing::optimized;

@@ -3,11 +3,11 @@
 ghost use Rattle.std.specs.Prelude.{◌≡◌, ◌<◌, IfOk, IfSome, IsTrue, length};
 ghost use Rattle.net_core.specs.View.{netlist_of};
 ghost use Rattle.design_rules.specs.Formed.{IsWellFormed};
-ghost use Rattle.product_rules.specs.Products.{products_apart};
+ghost use Rattle.net_core.specs.ProductRules.Products.{products_apart};
 ghost use Rattle.net_core.specs.declared.tree.Net.{Net};
 ghost use Rattle.net_core.specs.Value.{Env};
-ghost use Rattle.same_clocks.specs.Same.{ShowTheSame};
-ghost use Rattle.solved_wires.specs.Solving.{Solves};
+ghost use Rattle.net_core.specs.SameClocks.Same.{ShowTheSame};
+ghost use Rattle.design_rules.specs.SolvedWires.Solving.{Solves};
 ghost use Rattle.net_optimize.specs.Folding.{AreSameSections, sections_of, netlist_sections};
 ghost use Rattle.net_optimize.specs.Short.{IsShort};
 
@@ -18,14 +18,14 @@ use crate::live::live_nets;
 use crate::names::kept_names;
 use crate::renumber::{Numbering, numbers};
 use crate::sections::{Sections, folded_sections};
+use crate::shared_expressions::shared;
+use crate::simple_logic::simplified_design;
 use design_rules::formed::well_formed;
-use equal_registers::equal_registers;
-use narrow_registers::narrowed;
 use net_core::design::Design;
-use product_rules::are_products_apart;
-use same_clocks::laws::same_in_turn;
-use shared_expressions::shared;
-use simple_logic::simplified_design;
+use net_core::product_rules::are_products_apart;
+use net_core::same_clocks::laws::same_in_turn;
+use register_rules::equal_registers::equal_registers;
+use register_rules::narrow_registers::narrowed;
 use std::alloc::{AllocError, Global};
 
 // How often a design is made shorter at most.

@@ -5,7 +5,7 @@ ghost use Rattle.net_core.specs.declared.tree.Net.{Net};
 ghost use Rattle.net_core.specs.View.{assign_of, statement_of, wire_of};
 ghost use Rattle.net_core.specs.Value.{Env};
 ghost use Rattle.net_core.specs.Clock.{Stored, done, edge};
-ghost use Rattle.solved_wires.specs.Solving.{Solves};
+ghost use Rattle.design_rules.specs.SolvedWires.Solving.{Solves};
 ghost use Rattle.net_optimize.specs.Folding.{AreKnown, AreSameAssigns, AreSameSections, sections_of};
 ghost use Rattle.net_optimize.specs.Lists.{joined_done};
 

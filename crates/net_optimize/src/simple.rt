@@ -12,9 +12,9 @@ ghost use Rattle.net_optimize.specs.Folding.{AreKnown};
 use crate::comparing::compared;
 use crate::flags::is_flag;
 use net_core::build::{binary, conditional};
+use net_core::net_trees::copying::copied;
+use net_core::net_trees::equal::is_same;
 use net_core::tree::{Expr, Net, Op};
-use net_trees::copying::copied;
-use net_trees::equal::is_same;
 use std::alloc::{AllocError, Global};
 
 /// What is known of a net, or the net.

@@ -5,17 +5,17 @@ ghost use Rattle.net_core.specs.declared.tree.Net.{Net};
 ghost use Rattle.net_core.specs.declared.tree.Net.TheVariants as net;
 ghost use Rattle.net_core.specs.View.{tree_of, right_of, wire_of};
 ghost use Rattle.net_core.specs.Value.{Env, value, right_value};
-ghost use Rattle.solved_wires.specs.Solving.{Solves};
+ghost use Rattle.design_rules.specs.SolvedWires.Solving.{Solves};
 ghost use Rattle.net_optimize.specs.Folding.{AreKnown, AreSameWires, IsValued};
 
 use crate::depth::depth;
 use crate::folding::folded_right;
 use crate::reads::Reads;
 use net_core::design::Wire;
+use net_core::net_trees::copying::copied;
+use net_core::net_trees::equal::is_same;
+use net_core::net_trees::mark::right_mark;
 use net_core::tree::{Expr, Net, Right};
-use net_trees::copying::copied;
-use net_trees::equal::is_same;
-use net_trees::mark::right_mark;
 use std::alloc::{AllocError, Global};
 
 /// How deep the right side of a wire nests at most that stands where the wire was read. The grammar has no expressions

@@ -7,7 +7,7 @@ use Rattle.std.proofs.lemmas.Nat.{pow-add}
 use Rattle.std.proofs.Math.Nat.{pow-suc, pow-le-pow_right}
 use Rattle.byteorder.specs.Endian.{little_number}
 use Rattle.byteorder.specs.Numbers.{little_from-cons}
-use Rattle.xdp_state.specs.xdp_machine.Arithmetic.{low}
+use Rattle.cell_core.specs.xdp_machine.Arithmetic.{low}
 use Rattle.cell_core.specs.Cells.{joined, bits_from}
 use Rattle.operator_cells.proofs.Numbers.{from_zero, low_same}
 

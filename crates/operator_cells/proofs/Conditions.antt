@@ -3,14 +3,14 @@ use Rattle.std.proofs.Common.{◌≡◌, ℕ, ◌-◌, ◌^◌, ◌<◌, Bool, t
 use Rattle.std.specs.Prelude.{◌==◌, bit_and}
 use Rattle.std.proofs.lemmas.Bool.Decides.{nat_tests}
 use Rattle.std.proofs.lemmas.Int.{ints}
-use Rattle.bpf_isa.specs.bits_core.Bits.{signed_of}
-use Rattle.bpf_isa.specs.declared.operation.Width.{Width}
-use Rattle.bpf_isa.specs.declared.operation.Width.TheVariants.{Bits32, Bits64}
-use Rattle.bpf_isa.specs.declared.operation.JumpCode.{JumpCode}
-use Rattle.bpf_isa.specs.declared.operation.JumpCode.TheVariants.{Jeq, Jgt, Jge, Jset, Jne, Jsgt, Jsge, Jlt, Jle, Jslt, Jsle}
-use Rattle.xdp_state.specs.xdp_machine.Arithmetic.{bits_in, low, arithmetic, holds}
-use Rattle.xdp_state.proofs.xdp_machine.NumberLaws.{widened}
-use Rattle.bpf_isa.specs.declared.operation.AluCode.TheVariants.{And}
+use Rattle.cell_core.specs.bits_core.Bits.{signed_of}
+use Rattle.cell_core.specs.bpf_isa.declared.operation.Width.{Width}
+use Rattle.cell_core.specs.bpf_isa.declared.operation.Width.TheVariants.{Bits32, Bits64}
+use Rattle.cell_core.specs.bpf_isa.declared.operation.JumpCode.{JumpCode}
+use Rattle.cell_core.specs.bpf_isa.declared.operation.JumpCode.TheVariants.{Jeq, Jgt, Jge, Jset, Jne, Jsgt, Jsge, Jlt, Jle, Jslt, Jsle}
+use Rattle.cell_core.specs.xdp_machine.Arithmetic.{bits_in, low, arithmetic, holds}
+use Rattle.kind_core.proofs.xdp_machine_laws.NumberLaws.{widened}
+use Rattle.cell_core.specs.bpf_isa.declared.operation.AluCode.TheVariants.{And}
 use Rattle.std.specs.Int.Bits.{and_lt}
 use Rattle.cell_core.specs.Cells.{bit, joined, bits_from}
 use Rattle.operator_cells.specs.Comparing.{turned, is_signed, unsigned}

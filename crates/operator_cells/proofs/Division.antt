@@ -4,11 +4,11 @@ use Rattle.std.specs.Prelude.{◌==◌, slice_index, Contains}
 use Rattle.std.proofs.lemmas.Bool.{eqb-true}
 use Rattle.std.proofs.lemmas.Nat.{pow_pos}
 use Rattle.std.proofs.Math.Nat.{pow-le-pow_right, mod-le, div-le_self}
-use Rattle.bpf_isa.specs.declared.operation.Width.{Width}
-use Rattle.bpf_isa.specs.declared.operation.Width.TheVariants.{Bits32, Bits64}
-use Rattle.xdp_state.specs.xdp_machine.State.{PacketIn}
-use Rattle.xdp_state.specs.xdp_machine.Arithmetic.{bits_in, low, arithmetic}
-use Rattle.xdp_state.proofs.xdp_machine.NumberLaws.{widened}
+use Rattle.cell_core.specs.bpf_isa.declared.operation.Width.{Width}
+use Rattle.cell_core.specs.bpf_isa.declared.operation.Width.TheVariants.{Bits32, Bits64}
+use Rattle.cell_core.specs.xdp_machine.State.{PacketIn}
+use Rattle.cell_core.specs.xdp_machine.Arithmetic.{bits_in, low, arithmetic}
+use Rattle.kind_core.proofs.xdp_machine_laws.NumberLaws.{widened}
 use Rattle.cell_core.specs.declared.operator.Operator.TheVariants.{Wire, NonZero}
 use Rattle.cell_core.specs.Cells.{CellView, cell_at, bit, on, number, bits_from, is_read, is_heavy}
 use Rattle.cell_core.specs.Formed.{IsSome, takes, AreInputs, IsInRange}

@@ -1,8 +1,8 @@
 -- The bits of edges.
 use Rattle.std.proofs.Common.{◌≡◌, ℕ, zero, suc, ◌-◌, ◌^◌, ◌<◌, Bool, true, false, not, ◌&&◌, List, refl, ◌∙◌, ap, arith}
-use Rattle.bpf_isa.specs.declared.operation.AluCode.TheVariants.{And}
-use Rattle.xdp_state.specs.xdp_machine.Arithmetic.{low, arithmetic}
-use Rattle.xdp_state.specs.xdp_machine.State.{PacketIn}
+use Rattle.cell_core.specs.bpf_isa.declared.operation.AluCode.TheVariants.{And}
+use Rattle.cell_core.specs.xdp_machine.Arithmetic.{low, arithmetic}
+use Rattle.cell_core.specs.xdp_machine.State.{PacketIn}
 use Rattle.kind_core.specs.Edges.{agrees}
 use Rattle.cell_core.specs.Cells.{CellView, IsRun, bit, on, bits_from}
 use Rattle.operator_cells.specs.Making.{Grows, Makes, MakesIf}

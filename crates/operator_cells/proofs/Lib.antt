@@ -1,3 +1,4 @@
+pub use Rattle.row_rules.proofs as row_rules_laws
 pub mod MakingLaws
 pub mod RisingLaws
 pub mod Growing
@@ -12,3 +13,4 @@ pub mod Division
 pub mod SignedDivision
 pub mod Spread
 pub mod Standing
+pub mod HeldCells

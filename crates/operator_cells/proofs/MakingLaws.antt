@@ -2,8 +2,8 @@
 use Rattle.std.proofs.Common.{◌≡◌, ℕ, ◌-◌, ◌^◌, ◌<◌, ◌≤◌, ◌⊎◌, inl, inr, Bool, true, false, not, Some, List, length, refl, sym, ap, ◌∙◌, arith}
 use Rattle.std.proofs.Math.Nat.{pow-le-pow_right}
 use Rattle.std.proofs.lemmas.Bool.{cases_lt}
-use Rattle.xdp_state.specs.xdp_machine.Arithmetic.{low}
-use Rattle.xdp_state.specs.xdp_machine.State.{PacketIn}
+use Rattle.cell_core.specs.xdp_machine.Arithmetic.{low}
+use Rattle.cell_core.specs.xdp_machine.State.{PacketIn}
 use Rattle.cell_core.specs.CellLaws.{ValuesFit}
 use Rattle.cell_core.specs.Cells.{CellView, IsRun, cell_at, site_in, bit}
 use Rattle.cell_core.specs.Formed.{AreFormed}

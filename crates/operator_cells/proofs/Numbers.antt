@@ -3,13 +3,13 @@ use Rattle.std.proofs.Common.{◌≡◌, ℕ, ◌+◌, ◌-◌, ◌*◌, ◌%◌
 use Rattle.std.specs.Int.Bits.{and_lt}
 use Rattle.std.proofs.lemmas.Nat.{mod_below, pow_pos, or_lt, xor_lt}
 use Rattle.std.proofs.Math.Nat.{div-one, mod-eq_of_lt}
-use Rattle.bpf_isa.specs.declared.operation.Width.{Width}
-use Rattle.bpf_isa.specs.declared.operation.Width.TheVariants.{Bits32, Bits64}
-use Rattle.bpf_isa.specs.declared.operation.AluCode.{AluCode}
-use Rattle.bpf_isa.specs.declared.operation.AluCode.TheVariants as alu
-use Rattle.xdp_state.specs.xdp_machine.Arithmetic.{bits_in, low, arithmetic, negated}
-use Rattle.xdp_state.specs.xdp_machine.State.{PacketIn}
-use Rattle.xdp_state.proofs.xdp_machine.NumberLaws.{widened}
+use Rattle.cell_core.specs.bpf_isa.declared.operation.Width.{Width}
+use Rattle.cell_core.specs.bpf_isa.declared.operation.Width.TheVariants.{Bits32, Bits64}
+use Rattle.cell_core.specs.bpf_isa.declared.operation.AluCode.{AluCode}
+use Rattle.cell_core.specs.bpf_isa.declared.operation.AluCode.TheVariants as alu
+use Rattle.cell_core.specs.xdp_machine.Arithmetic.{bits_in, low, arithmetic, negated}
+use Rattle.cell_core.specs.xdp_machine.State.{PacketIn}
+use Rattle.kind_core.proofs.xdp_machine_laws.NumberLaws.{widened}
 use Rattle.cell_core.specs.declared.operator.Operator.TheVariants as op
 use Rattle.cell_core.specs.Cells.{number, bits_from, is_read}
 use Rattle.cell_core.specs.Formed.{takes, divides, AreInputs, IsInRange}

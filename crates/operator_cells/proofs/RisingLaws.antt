@@ -3,7 +3,7 @@ use Rattle.std.proofs.Common.{◌≡◌, ℕ, ◌+◌, ◌<◌, ◌≤◌, ◌�
 use Rattle.std.proofs.lemmas.Bool.{cases_lt}
 use Rattle.std.proofs.lemmas.Grind.{reverse_onto}
 use Rattle.std.proofs.lemmas.List.{take-append-drop}
-use Rattle.xdp_state.specs.xdp_maps.Calls.{patched}
+use Rattle.cell_core.specs.xdp_maps.Calls.{patched}
 use Rattle.cell_core.specs.Cells.{CellView, is_heavy, bit}
 use Rattle.cell_core.specs.Rows.{AreRows, greatest}
 use Rattle.operator_cells.specs.Making.{GrowsWith, Adds}

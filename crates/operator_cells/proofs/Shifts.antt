@@ -2,11 +2,11 @@
 use Rattle.std.proofs.Common.{◌≡◌, ℕ, ◌+◌, ◌-◌, ◌*◌, ◌/◌, ◌%◌, ◌^◌, ◌<◌, ◌≤◌, Bool, false, [], ◌∷◌, sym, ◌∙◌, ap, subst, arith}
 use Rattle.std.proofs.lemmas.Nat.{mod_below, pow_pos, mod-pow-add, mul-mod_first, div-mul-add}
 use Rattle.std.proofs.Math.Nat.{mod-mod, div-le_self}
-use Rattle.bpf_isa.specs.declared.operation.Width.{Width}
-use Rattle.bpf_isa.specs.declared.operation.Width.TheVariants.{Bits32, Bits64}
-use Rattle.bpf_isa.specs.declared.operation.AluCode.TheVariants.{Lsh, Rsh}
-use Rattle.xdp_state.specs.xdp_machine.Arithmetic.{bits_in, low, arithmetic}
-use Rattle.xdp_state.proofs.xdp_machine.NumberLaws.{widened}
+use Rattle.cell_core.specs.bpf_isa.declared.operation.Width.{Width}
+use Rattle.cell_core.specs.bpf_isa.declared.operation.Width.TheVariants.{Bits32, Bits64}
+use Rattle.cell_core.specs.bpf_isa.declared.operation.AluCode.TheVariants.{Lsh, Rsh}
+use Rattle.cell_core.specs.xdp_machine.Arithmetic.{bits_in, low, arithmetic}
+use Rattle.kind_core.proofs.xdp_machine_laws.NumberLaws.{widened}
 use Rattle.cell_core.specs.Cells.{bits_from, joined}
 use Rattle.operator_cells.specs.Shifting.{count_bits}
 use Rattle.operator_cells.proofs.Numbers.{from_zero, low_same, low_below}

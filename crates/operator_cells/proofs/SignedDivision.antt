@@ -3,12 +3,12 @@ use Rattle.std.proofs.Common.{◌≡◌, ◌≢◌, ℕ, zero, suc, ◌-◌, ◌
 use Rattle.std.specs.Prelude.{◌==◌}
 use Rattle.std.proofs.lemmas.Bool.Decides.{nat_tests}
 use Rattle.std.proofs.Math.Nat.{mod-le, div-le_self}
-use Rattle.bpf_isa.specs.bits_core.Bits.{signed_of, bits_of, quotient_of, remainder_of}
-use Rattle.bpf_isa.specs.declared.operation.Width.{Width}
-use Rattle.bpf_isa.specs.declared.operation.Width.TheVariants.{Bits32, Bits64}
-use Rattle.bpf_isa.specs.declared.operation.AluCode.TheVariants.{Sub, Xor}
-use Rattle.xdp_state.specs.xdp_machine.Arithmetic.{bits_in, low, arithmetic, negated}
-use Rattle.xdp_state.proofs.xdp_machine.NumberLaws.{widened}
+use Rattle.cell_core.specs.bits_core.Bits.{signed_of, bits_of, quotient_of, remainder_of}
+use Rattle.cell_core.specs.bpf_isa.declared.operation.Width.{Width}
+use Rattle.cell_core.specs.bpf_isa.declared.operation.Width.TheVariants.{Bits32, Bits64}
+use Rattle.cell_core.specs.bpf_isa.declared.operation.AluCode.TheVariants.{Sub, Xor}
+use Rattle.cell_core.specs.xdp_machine.Arithmetic.{bits_in, low, arithmetic, negated}
+use Rattle.kind_core.proofs.xdp_machine_laws.NumberLaws.{widened}
 use Rattle.cell_core.specs.Cells.{bit, on, bits_from}
 use Rattle.operator_cells.specs.Dividing.{some, divided, code_of, sign_of}
 use Rattle.operator_cells.proofs.Numbers.{from_zero, low_same, low_below}

@@ -4,11 +4,11 @@ use Rattle.std.proofs.lemmas.Bool.Decides.{nat_tests}
 use Rattle.std.proofs.lemmas.Nat.{mod_below, pow_pos, pow-add, div-mul-add, div-add-mod'}
 use Rattle.std.proofs.Math.Nat.{add-mul, div-le_self, div-lt_iff_lt-mul}
 use Rattle.std.specs.Int.{int_div_euclid}
-use Rattle.bpf_isa.specs.bits_core.Bits.{bits_of, sext_of, arsh_of}
-use Rattle.bpf_isa.specs.declared.operation.Width.{Width}
-use Rattle.bpf_isa.specs.declared.operation.Width.TheVariants.{Bits32, Bits64}
-use Rattle.xdp_state.specs.xdp_machine.Arithmetic.{bits_in, low}
-use Rattle.xdp_state.proofs.xdp_machine.NumberLaws.{widened}
+use Rattle.cell_core.specs.bits_core.Bits.{bits_of, sext_of, arsh_of}
+use Rattle.cell_core.specs.bpf_isa.declared.operation.Width.{Width}
+use Rattle.cell_core.specs.bpf_isa.declared.operation.Width.TheVariants.{Bits32, Bits64}
+use Rattle.cell_core.specs.xdp_machine.Arithmetic.{bits_in, low}
+use Rattle.kind_core.proofs.xdp_machine_laws.NumberLaws.{widened}
 use Rattle.cell_core.specs.Cells.{bits_from, on}
 use Rattle.operator_cells.proofs.Numbers.{from_zero, low_same, low_below}
 use Rattle.operator_cells.proofs.Shifts.{cut_twice}

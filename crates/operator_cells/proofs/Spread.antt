@@ -7,12 +7,12 @@ use Rattle.std.proofs.lemmas.List.{length-take, length-drop, map-append, take-ma
 use Rattle.std.proofs.lemmas.List.Elements.{All-append, All-take, All-drop}
 use Rattle.byteorder.specs.Endian.{little_number, little_bytes}
 use Rattle.byteorder.specs.Numbers.{little_from-take, little_from-bytes}
-use Rattle.bpf_isa.specs.bits_core.Bits.{reversed_of}
-use Rattle.bpf_isa.specs.declared.operation.Src.TheVariants as src
-use Rattle.bpf_isa.specs.declared.operation.Size.{Size}
-use Rattle.xdp_state.specs.xdp_maps.Calls.{patched}
-use Rattle.xdp_state.specs.xdp_machine.Arithmetic.{low, ordered}
-use Rattle.xdp_state.specs.xdp_machine.Memory.{bytes_in, number_at}
+use Rattle.cell_core.specs.bits_core.Bits.{reversed_of}
+use Rattle.cell_core.specs.bpf_isa.declared.operation.Src.TheVariants as src
+use Rattle.cell_core.specs.bpf_isa.declared.operation.Size.{Size}
+use Rattle.cell_core.specs.xdp_maps.Calls.{patched}
+use Rattle.cell_core.specs.xdp_machine.Arithmetic.{low, ordered}
+use Rattle.cell_core.specs.xdp_machine.Memory.{bytes_in, number_at}
 use Rattle.cell_core.specs.Cells.{joined, bits_from}
 use Rattle.operator_cells.proofs.Bytes.{bytes_power}
 use Rattle.cell_core.specs.Cells.{CellView}

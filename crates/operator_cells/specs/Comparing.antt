@@ -1,8 +1,8 @@
 -- Signed numbers in the order of unsigned ones.
 use Rattle.std.specs.Prelude.{ℕ, ◌+◌, ◌-◌, ◌^◌, Bool, true, false}
-use Rattle.bpf_isa.specs.declared.operation.JumpCode.{JumpCode}
-use Rattle.bpf_isa.specs.declared.operation.JumpCode.TheVariants.{Jgt, Jge, Jsgt, Jsge, Jlt, Jle, Jslt, Jsle}
-use Rattle.xdp_state.specs.xdp_machine.Arithmetic.{low}
+use Rattle.cell_core.specs.bpf_isa.declared.operation.JumpCode.{JumpCode}
+use Rattle.cell_core.specs.bpf_isa.declared.operation.JumpCode.TheVariants.{Jgt, Jge, Jsgt, Jsge, Jlt, Jle, Jslt, Jsle}
+use Rattle.cell_core.specs.xdp_machine.Arithmetic.{low}
 
 -- the low w bits of a number with the highest of them turned
 abbrev pub turned : ℕ → ℕ → ℕ

@@ -1,9 +1,9 @@
 -- Division without a zero divisor.
 use Rattle.std.specs.Prelude.{ℕ, Bool, true, false, if◌then◌else◌}
-use Rattle.bpf_isa.specs.bits_core.Bits.{div_u_of, mod_u_of}
-use Rattle.bpf_isa.specs.declared.operation.AluCode.{AluCode}
-use Rattle.bpf_isa.specs.declared.operation.AluCode.TheVariants.{Div, Mod, Xor}
-use Rattle.xdp_state.specs.xdp_machine.Arithmetic.{low, arithmetic}
+use Rattle.cell_core.specs.bits_core.Bits.{div_u_of, mod_u_of}
+use Rattle.cell_core.specs.bpf_isa.declared.operation.AluCode.{AluCode}
+use Rattle.cell_core.specs.bpf_isa.declared.operation.AluCode.TheVariants.{Div, Mod, Xor}
+use Rattle.cell_core.specs.xdp_machine.Arithmetic.{low, arithmetic}
 use Rattle.cell_core.specs.Cells.{on, bits_from}
 use Rattle.cell_core.specs.declared.operator.Operator.{Operator}
 use Rattle.cell_core.specs.declared.operator.Operator.TheVariants.{Quotient, Remainder}

@@ -1,3 +1,4 @@
+pub use Rattle.row_rules.specs as row_rules
 pub mod Making
 pub mod Rising
 pub mod Dividing
@@ -7,3 +8,4 @@ pub mod Spreading
 pub mod Comparing
 pub mod Following
 pub mod Standing
+pub mod HeldCells

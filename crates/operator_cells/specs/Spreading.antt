@@ -1,6 +1,6 @@
 -- Numbers as the cells of their bytes.
 use Rattle.std.specs.Prelude.{ℕ, ◌≡◌, ◌<◌, List, length, All, map as map_list}
-use Rattle.xdp_state.specs.xdp_machine.State.{PacketIn}
+use Rattle.cell_core.specs.xdp_machine.State.{PacketIn}
 use Rattle.cell_core.specs.Cells.{CellView, IsRun}
 use Rattle.operator_cells.specs.Making.{Grows}
 

@@ -3,7 +3,7 @@
 ghost use Rattle.std.specs.Prelude.{ℕ, ◌≡◌, ◌<◌, ◌≤◌, false, [], ◌∷◌, length, All, IfOk, max, ◌+◌};
 ghost use Rattle.cell_core.specs.Cells.{is_read, bit, is_heavy};
 ghost use Rattle.cell_core.specs.Formed.{takes, divides, AreInputs, IsInRange, IsSome};
-ghost use Rattle.xdp_state.specs.xdp_machine.Arithmetic.{low};
+ghost use Rattle.cell_core.specs.xdp_machine.Arithmetic.{low};
 ghost use Rattle.operator_cells.specs.Making.{seen, IsAlone, Adds, Makes, GrowsWith, Grows, operated};
 ghost use Rattle.operator_cells.specs.Dividing.{some, divided, divider};
 ghost use Rattle.cell_core.specs.Rows.{greatest};

@@ -1,7 +1,7 @@
 // Conditions of jumps.
 
 ghost use Rattle.std.specs.Prelude.{◌≡◌, ◌<◌, ◌-◌, ◌^◌, ◌==◌, nat_lt, nat_le, false, length, IfOk, max, ◌+◌};
-ghost use Rattle.xdp_state.specs.xdp_machine.Arithmetic.{bits_in, low, holds};
+ghost use Rattle.cell_core.specs.xdp_machine.Arithmetic.{bits_in, low, holds};
 ghost use Rattle.cell_core.specs.Cells.{bit};
 ghost use Rattle.cell_core.specs.Formed.{AreFormed};
 ghost use Rattle.operator_cells.specs.Making.{seen, Makes};
@@ -10,9 +10,9 @@ ghost use Rattle.operator_cells.specs.Rising.{Rises};
 
 use crate::cells::{constant, operate, slice};
 use crate::working::{bits, cut};
-use bpf_isa::{JumpCode, Width};
 use cell_core::cell::Cell;
 use cell_core::operator::Operator;
+use cell_core::xdp_state::bpf_isa::{JumpCode, Width};
 use std::alloc::AllocError;
 
 /// The other truth.

@@ -1,7 +1,7 @@
 // Division.
 
 ghost use Rattle.std.specs.Prelude.{◌≡◌, ◌<◌, ◌==◌, if◌then◌else◌, false, true, length, IfOk, max, ◌+◌};
-ghost use Rattle.xdp_state.specs.xdp_machine.Arithmetic.{bits_in, low, arithmetic, negated};
+ghost use Rattle.cell_core.specs.xdp_machine.Arithmetic.{bits_in, low, arithmetic, negated};
 ghost use Rattle.cell_core.specs.Cells.{on};
 ghost use Rattle.cell_core.specs.Formed.{AreFormed};
 ghost use Rattle.operator_cells.specs.Making.{seen, Makes};
@@ -11,9 +11,9 @@ ghost use Rattle.operator_cells.specs.Rising.{Rises};
 use crate::cells::{constant, divide_some, operate, slice};
 use crate::comparing::equal;
 use crate::working::{bits, cut};
-use bpf_isa::Width;
 use cell_core::cell::Cell;
 use cell_core::operator::Operator;
+use cell_core::xdp_state::bpf_isa::Width;
 use std::alloc::AllocError;
 
 // What stands for a division by 0: of a remainder the first number, of a quotient 0.

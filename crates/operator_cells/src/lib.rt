@@ -1,13 +1,11 @@
-//! The cells of instructions: what arithmetic, shifts, division, conditions, bytes, joins and edges are as operators on earlier cells.
-//!
-//! Each function adds cells behind those that there are, and says what the value of the last one is in every run of all cells. What the
-//! cells of a whole program are to hold is in `specs/Law`, and what those of one node do in `specs/Steps`; the code that puts the cells
-//! of whole programs together is not here yet.
+//! The cells of single operations, each with its value in every run.
+//! `held_cells` says which cells hold a machine along the path of a packet.
 #![tactic(auto)]
 
 pub mod cells;
 pub mod comparing;
 pub mod dividing;
+pub mod held_cells;
 pub mod joining;
 pub mod laws;
 pub mod leaving;

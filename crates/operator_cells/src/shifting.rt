@@ -1,8 +1,8 @@
 // Shifts.
 
 ghost use Rattle.std.specs.Prelude.{ℕ, ◌≡◌, ◌<◌, ◌-◌, ◌/◌, ◌^◌, ◌*◌, ◌%◌, length, IfOk, Bool, max, ◌+◌};
-ghost use Rattle.bpf_isa.specs.bits_core.Bits.{arsh_of};
-ghost use Rattle.xdp_state.specs.xdp_machine.Arithmetic.{bits_in, low, arithmetic};
+ghost use Rattle.cell_core.specs.bits_core.Bits.{arsh_of};
+ghost use Rattle.cell_core.specs.xdp_machine.Arithmetic.{bits_in, low, arithmetic};
 ghost use Rattle.cell_core.specs.Cells.{bits_from};
 ghost use Rattle.cell_core.specs.Formed.{AreFormed};
 ghost use Rattle.operator_cells.specs.Making.{seen, Makes};
@@ -11,9 +11,9 @@ ghost use Rattle.operator_cells.specs.Rising.{Rises};
 
 use crate::cells::{constant, operate, slice};
 use crate::working::{bits, cut};
-use bpf_isa::{AluCode, Width};
 use cell_core::cell::Cell;
 use cell_core::operator::Operator;
+use cell_core::xdp_state::bpf_isa::{AluCode, Width};
 use std::alloc::AllocError;
 
 /// A shift to the left by a known count: so many zeros below a number.

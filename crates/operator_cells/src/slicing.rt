@@ -2,7 +2,7 @@
 
 ghost use Rattle.std.specs.Prelude.{ℕ, ◌≡◌, ◌<◌, ◌≤◌, ◌⊎◌, length, IfOk, All, List, map as map_list};
 ghost use Rattle.byteorder.specs.Endian.{little_number};
-ghost use Rattle.xdp_state.specs.xdp_machine.Arithmetic.{bits_in, low, extended};
+ghost use Rattle.cell_core.specs.xdp_machine.Arithmetic.{bits_in, low, extended};
 ghost use Rattle.cell_core.specs.Cells.{cell_at};
 ghost use Rattle.cell_core.specs.Formed.{AreFormed};
 ghost use Rattle.operator_cells.specs.Making.{seen, Makes, MakesIf};
@@ -12,10 +12,10 @@ ghost use Rattle.operator_cells.specs.Rising.{Rises};
 use crate::cells::{operate, slice};
 use crate::sharing::share;
 use crate::working::bits;
-use bpf_isa::Width;
 use cell_core::cell::Cell;
 use cell_core::laws::values_fit;
 use cell_core::operator::Operator;
+use cell_core::xdp_state::bpf_isa::Width;
 use std::alloc::AllocError;
 
 // The width of a cell.

@@ -2,21 +2,21 @@
 
 ghost use Rattle.std.specs.Prelude.{◌≡◌, ◌<◌, ◌≤◌, ◌+◌, ◌⊎◌, length, IfOk, max};
 ghost use Rattle.byteorder.specs.Endian.{little_number, little_bytes};
-ghost use Rattle.bpf_isa.specs.bits_core.Bits.{reversed_of};
-ghost use Rattle.xdp_state.specs.xdp_maps.Calls.{patched};
-ghost use Rattle.xdp_state.specs.xdp_machine.Arithmetic.{low, ordered};
-ghost use Rattle.xdp_state.specs.xdp_machine.Memory.{bytes_in, number_at};
+ghost use Rattle.cell_core.specs.bits_core.Bits.{reversed_of};
+ghost use Rattle.cell_core.specs.xdp_maps.Calls.{patched};
+ghost use Rattle.cell_core.specs.xdp_machine.Arithmetic.{low, ordered};
+ghost use Rattle.cell_core.specs.xdp_machine.Memory.{bytes_in, number_at};
 ghost use Rattle.operator_cells.specs.Making.{seen, Makes};
 ghost use Rattle.operator_cells.specs.Spreading.{MakesBytes};
 ghost use Rattle.operator_cells.specs.Rising.{Rises, RiseAll};
 
 use crate::cells::{operate, slice};
 use crate::slicing::join_bytes;
-use bpf_isa::{Size, Src};
 use cell_core::cell::Cell;
 use cell_core::operator::Operator;
+use cell_core::xdp_state::bpf_isa::{Size, Src};
+use cell_core::xdp_state::memory::bytes_in;
 use std::alloc::{AllocError, Global};
-use xdp_state::memory::bytes_in;
 
 /// The cells of the lowest bytes of a number, the lowest first.
 pub fn spread(cells: &mut Vec<Cell>, a: u32, count: u32) -> Result<Vec<u32>, AllocError>

@@ -1,17 +1,17 @@
 // Arithmetic.
 
 ghost use Rattle.std.specs.Prelude.{◌≡◌, ◌<◌, true, length, IfOk, Bool, max, ◌+◌};
-ghost use Rattle.xdp_state.specs.xdp_machine.Arithmetic.{bits_in, low, arithmetic, negated};
+ghost use Rattle.cell_core.specs.xdp_machine.Arithmetic.{bits_in, low, arithmetic, negated};
 ghost use Rattle.cell_core.specs.Formed.{AreFormed};
 ghost use Rattle.operator_cells.specs.Making.{seen, Makes, is_one, operator_of};
 ghost use Rattle.cell_core.specs.Cells.{bit, is_heavy};
 ghost use Rattle.operator_cells.specs.Rising.{Rises};
 
 use crate::cells::{constant, operate, slice};
-use bpf_isa::{AluCode, Width};
 use cell_core::cell::Cell;
 use cell_core::laws::values_fit;
 use cell_core::operator::Operator;
+use cell_core::xdp_state::bpf_isa::{AluCode, Width};
 use std::alloc::AllocError;
 
 /// How many bits an operation works on.

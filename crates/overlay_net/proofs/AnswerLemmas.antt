@@ -4,32 +4,32 @@ use Rattle.std.specs.Prelude.{ℤ, not, if◌then◌else◌, cond, count_by, Som
 use Rattle.std.proofs.Common.{◌≡◌, ◌∙◌, ℕ, ◌+◌, ◌%◌, ◌^◌, ◌<◌, Bool, true, false, ◌&&◌, ◌++◌, append-nil, All, List, [], ◌∷◌, length, take, get_or, slice_index, refl, sym, ap, subst, arith, map as map_list}
 use Rattle.std.proofs.Math.Nat.{mod-add-mod}
 use Rattle.std.proofs.lemmas.List.Sums.{fold_more, count_by-le-length}
-use Rattle.xdp_maps.specs.declared.decl.MapDecl.{MapDecl}
-use Rattle.xdp_maps.specs.declared.errno.TheConstants.{ENOENT, EINVAL, EEXIST, E2BIG}
-use Rattle.xdp_maps.specs.Calls.{number_of}
-use Rattle.cell_core.specs.declared.site.Act.TheVariants as act
-use Rattle.cell_core.specs.Cells.{bit, on, bits_from, phi}
-use Rattle.cell_core.specs.Sites.{ProgramView, site_at, bytes_of, operation_with}
-use Rattle.site_operands.specs.hazard_core.Tables.{TableState, decl_of, table_at, used_count}
-use Rattle.site_operands.specs.hazard_core.Held.{Held, held_value, is_null, adds_key, takes_key}
-use Rattle.site_operands.specs.hazard_core.Overlay.{key_pointer, update_answer, delete_answer, answer_as, answer_over}
-use Rattle.site_operands.proofs.cell_nets_laws.NarrowLemmas.{from_zero}
-use Rattle.site_operands.specs.cell_nets.net_core.Value.{Env}
+use Rattle.hazard_core.specs.xdp_maps.declared.decl.MapDecl.{MapDecl}
+use Rattle.hazard_core.specs.xdp_maps.declared.errno.TheConstants.{ENOENT, EINVAL, EEXIST, E2BIG}
+use Rattle.hazard_core.specs.xdp_maps.Calls.{number_of}
+use Rattle.hazard_core.specs.cell_core.declared.site.Act.TheVariants as act
+use Rattle.hazard_core.specs.cell_core.Cells.{bit, on, bits_from, phi}
+use Rattle.hazard_core.specs.cell_core.Sites.{ProgramView, site_at, bytes_of, operation_with}
+use Rattle.hazard_core.specs.Tables.{TableState, decl_of, table_at, used_count}
+use Rattle.hazard_core.specs.Held.{Held, held_value, is_null, adds_key, takes_key}
+use Rattle.hazard_core.specs.Overlay.{key_pointer, update_answer, delete_answer, answer_as, answer_over}
+use Rattle.cell_nets.proofs.NarrowLemmas.{from_zero}
+use Rattle.block_core.specs.net_core.Value.{Env}
 use Rattle.block_core.specs.Blocks.{BlockWireTree}
 use Rattle.block_core.specs.declared.name.Name.{Name}
 use Rattle.byteorder.specs.Endian.{little_number}
 use Rattle.byteorder.specs.Numbers.{little_from-bytes}
-use Rattle.xdp_maps.specs.Contents.{index_of}
-use Rattle.site_operands.specs.cell_nets.declared.operand.Operand.{Operand}
-use Rattle.site_operands.specs.cell_nets.Operands.{number_in, IsAvailable}
-use Rattle.site_operands.specs.cell_nets.Wires.{always, Gives}
-use Rattle.site_operands.specs.declared.Pending.{Pending}
+use Rattle.hazard_core.specs.xdp_maps.Contents.{index_of}
+use Rattle.cell_nets.specs.declared.operand.Operand.{Operand}
+use Rattle.cell_nets.specs.Operands.{number_in, IsAvailable}
+use Rattle.cell_nets.specs.Wires.{always, Gives}
+use Rattle.overlay_net.specs.declared.site_operands.Pending.{Pending}
 use Rattle.overlay_net.specs.Reading.{IsSite}
 use Rattle.overlay_net.specs.Seen.{read_of, all_read, IsOf, ShowsPending, AreOf, ShowPending}
-use Rattle.step_nets.proofs.ChainLaws.{starts, next, last}
+use Rattle.cell_nets.proofs.StepNets.ChainLaws.{starts, next, last}
 use Rattle.overlay_net.proofs.FindLemmas.{read_at, tail_of}
 use Rattle.overlay_net.proofs.KeyLemmas.{front_bytes}
-use Rattle.step_nets.proofs.StepLaws.{on_bit, small_bits, all_each}
+use Rattle.cell_nets.proofs.StepNets.StepLaws.{on_bit, small_bits, all_each}
 
 -- ---- pairs, one behind another
 pub two_pairs : {X : Type 0} (l m n : List X) (a b c d : X) → l ≡ [] → m ≡ l ++ a ∷ b ∷ [] → n ≡ m ++ c ∷ d ∷ [] → n ≡ a ∷ b ∷ c ∷ d ∷ []

@@ -6,29 +6,29 @@ use Rattle.std.proofs.lemmas.List.Elements.{All-append}
 use Rattle.std.proofs.lemmas.List.Sums.{fold_more}
 use Rattle.block_core.specs.Blocks.{BlockWireTree}
 use Rattle.block_core.specs.declared.name.Name.{Name}
-use Rattle.site_operands.specs.cell_nets.net_core.Value.{Env}
-use Rattle.xdp_maps.specs.declared.decl.MapDecl.{MapDecl}
-use Rattle.xdp_maps.specs.declared.decl.MapKind.TheVariants as kind
-use Rattle.xdp_maps.specs.Operations.{key_in}
-use Rattle.cell_core.specs.declared.site.Act.{Act}
-use Rattle.cell_core.specs.declared.site.Act.TheVariants as act
-use Rattle.cell_core.specs.Cells.{bit, on}
-use Rattle.cell_core.specs.Sites.{ProgramView, site_at, bytes_of, operation_with}
-use Rattle.site_operands.specs.hazard_core.Tables.{TableState, decl_of, table_at}
-use Rattle.site_operands.specs.hazard_core.declared.pointer.Pointer.{Pointer}
-use Rattle.site_operands.specs.hazard_core.declared.pointer.Pointer.TheVariants.{Null}
-use Rattle.site_operands.specs.hazard_core.Held.{Held, held_value, asked_key, slot_pointer, writes, written_pointer}
-use Rattle.site_operands.specs.hazard_core.Overlay.{found_as, found_over, key_pointer_as, key_pointer, looks, found_pointer}
-use Rattle.site_operands.specs.cell_nets.declared.operand.Operand.{Operand}
-use Rattle.site_operands.specs.cell_nets.Operands.{number_in, IsAvailable}
-use Rattle.site_operands.specs.cell_nets.Wires.{always, Gives}
-use Rattle.site_operands.specs.Pointers.{pointer_number}
-use Rattle.site_operands.specs.Sites.{SiteOperands, operands_of, all_of, ShowsAsked}
-use Rattle.site_operands.specs.declared.Pending.{Pending}
+use Rattle.block_core.specs.net_core.Value.{Env}
+use Rattle.hazard_core.specs.xdp_maps.declared.decl.MapDecl.{MapDecl}
+use Rattle.hazard_core.specs.xdp_maps.declared.decl.MapKind.TheVariants as kind
+use Rattle.hazard_core.specs.xdp_maps.Operations.{key_in}
+use Rattle.hazard_core.specs.cell_core.declared.site.Act.{Act}
+use Rattle.hazard_core.specs.cell_core.declared.site.Act.TheVariants as act
+use Rattle.hazard_core.specs.cell_core.Cells.{bit, on}
+use Rattle.hazard_core.specs.cell_core.Sites.{ProgramView, site_at, bytes_of, operation_with}
+use Rattle.hazard_core.specs.Tables.{TableState, decl_of, table_at}
+use Rattle.hazard_core.specs.declared.pointer.Pointer.{Pointer}
+use Rattle.hazard_core.specs.declared.pointer.Pointer.TheVariants.{Null}
+use Rattle.hazard_core.specs.Held.{Held, held_value, asked_key, slot_pointer, writes, written_pointer}
+use Rattle.hazard_core.specs.Overlay.{found_as, found_over, key_pointer_as, key_pointer, looks, found_pointer}
+use Rattle.cell_nets.specs.declared.operand.Operand.{Operand}
+use Rattle.cell_nets.specs.Operands.{number_in, IsAvailable}
+use Rattle.cell_nets.specs.Wires.{always, Gives}
+use Rattle.overlay_net.specs.SiteOperands.Pointers.{pointer_number}
+use Rattle.overlay_net.specs.SiteOperands.Sites.{SiteOperands, operands_of, all_of, ShowsAsked}
+use Rattle.overlay_net.specs.declared.site_operands.Pending.{Pending}
 use Rattle.overlay_net.specs.Reading.{ShowsSlot}
 use Rattle.overlay_net.specs.Seen.{read_of, all_read, IsOf, ShowsPending, AreOf, ShowPending}
-use Rattle.step_nets.proofs.ChainLaws.{starts, next, last}
-use Rattle.step_nets.proofs.StepLaws.{on_bit}
+use Rattle.cell_nets.proofs.StepNets.ChainLaws.{starts, next, last}
+use Rattle.cell_nets.proofs.StepNets.StepLaws.{on_bit}
 
 -- ---- of several operands some
 module _ {X : Type 0} (Q : X → Type 0) where

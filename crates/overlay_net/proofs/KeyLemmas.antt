@@ -12,11 +12,11 @@ use Rattle.std.proofs.lemmas.Nat.{pow_pos, mod_below}
 use Rattle.byteorder.specs.Endian.{little_bytes}
 use Rattle.byteorder.specs.Numbers.{length-bytes_low_first}
 use Rattle.byteorder.proofs.Bytes.{take-bytes_low_first, pow256}
-use Rattle.cell_core.specs.Cells.{bits_from}
-use Rattle.cell_core.specs.Sites.{spelled, bytes_of}
-use Rattle.site_operands.specs.cell_nets.net_core.Value.{Env}
-use Rattle.site_operands.specs.cell_nets.declared.operand.Operand.{Operand}
-use Rattle.site_operands.specs.cell_nets.Operands.{number_in}
+use Rattle.hazard_core.specs.cell_core.Cells.{bits_from}
+use Rattle.hazard_core.specs.cell_core.Sites.{spelled, bytes_of}
+use Rattle.block_core.specs.net_core.Value.{Env}
+use Rattle.cell_nets.specs.declared.operand.Operand.{Operand}
+use Rattle.cell_nets.specs.Operands.{number_in}
 
 and_assoc : (k l m : Bool) → ((k && l) && m) ≡ (k && (l && m))
 and_assoc true l m = refl

@@ -2,24 +2,24 @@
 use Rattle.std.specs.Prelude.{not, if◌then◌else◌}
 use Rattle.std.proofs.Common.{◌≡◌, ◌≢◌, ◌∙◌, ℕ, ◌+◌, ◌*◌, ◌==◌, ◌<◌, Bool, true, false, ◌&&◌, List, refl, sym, ap, arith}
 use Rattle.std.proofs.lemmas.Bool.{eqb-true}
-use Rattle.site_operands.specs.cell_nets.net_core.Value.{Env}
-use Rattle.xdp_maps.specs.declared.decl.MapDecl.{MapDecl}
-use Rattle.xdp_maps.specs.declared.decl.MapKind.{MapKind}
-use Rattle.xdp_maps.specs.declared.decl.MapKind.TheVariants as kind
-use Rattle.cell_core.specs.declared.site.Act.{Act}
-use Rattle.cell_core.specs.declared.site.Act.TheVariants as act
-use Rattle.cell_core.specs.Cells.{bit, on}
-use Rattle.cell_core.specs.Sites.{ProgramView, site_at, records}
-use Rattle.site_operands.specs.hazard_core.Tables.{TableState, decl_of}
-use Rattle.site_operands.specs.hazard_core.declared.pointer.Pointer.{Pointer}
-use Rattle.site_operands.specs.hazard_core.declared.pointer.Pointer.TheVariants.{Null, InSlot, Pending}
-use Rattle.site_operands.specs.hazard_core.Held.{is_null, Held, held_value, answer_cell, is_update, is_delete, writes_as, writes, adds_key, takes_key, pointer_in, found_cell, update_pointer, written_as, written_pointer}
-use Rattle.site_operands.specs.hazard_core.Overlay.{found_as}
-use Rattle.site_operands.specs.cell_nets.Operands.{number_in}
-use Rattle.site_operands.specs.Pointers.{pointer_number}
-use Rattle.site_operands.specs.Sites.{SiteOperands, ShowsSite}
+use Rattle.block_core.specs.net_core.Value.{Env}
+use Rattle.hazard_core.specs.xdp_maps.declared.decl.MapDecl.{MapDecl}
+use Rattle.hazard_core.specs.xdp_maps.declared.decl.MapKind.{MapKind}
+use Rattle.hazard_core.specs.xdp_maps.declared.decl.MapKind.TheVariants as kind
+use Rattle.hazard_core.specs.cell_core.declared.site.Act.{Act}
+use Rattle.hazard_core.specs.cell_core.declared.site.Act.TheVariants as act
+use Rattle.hazard_core.specs.cell_core.Cells.{bit, on}
+use Rattle.hazard_core.specs.cell_core.Sites.{ProgramView, site_at, records}
+use Rattle.hazard_core.specs.Tables.{TableState, decl_of}
+use Rattle.hazard_core.specs.declared.pointer.Pointer.{Pointer}
+use Rattle.hazard_core.specs.declared.pointer.Pointer.TheVariants.{Null, InSlot, Pending}
+use Rattle.hazard_core.specs.Held.{is_null, Held, held_value, answer_cell, is_update, is_delete, writes_as, writes, adds_key, takes_key, pointer_in, found_cell, update_pointer, written_as, written_pointer}
+use Rattle.hazard_core.specs.Overlay.{found_as}
+use Rattle.cell_nets.specs.Operands.{number_in}
+use Rattle.overlay_net.specs.SiteOperands.Pointers.{pointer_number}
+use Rattle.overlay_net.specs.SiteOperands.Sites.{SiteOperands, ShowsSite}
 use Rattle.overlay_net.specs.Reading.{IsSite}
-use Rattle.step_nets.proofs.StepLaws.{on_bit}
+use Rattle.cell_nets.proofs.StepNets.StepLaws.{on_bit}
 
 not_not : (b : Bool) → not (not b) ≡ b
 not_not true = refl

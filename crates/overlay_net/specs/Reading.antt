@@ -1,15 +1,15 @@
 -- What a site is, and the nets of what it finds on the tables.
 use Rattle.std.specs.Prelude.{◌≡◌, ℕ, List}
-use Rattle.site_operands.specs.cell_nets.net_core.Value.{Env}
-use Rattle.xdp_maps.specs.declared.decl.MapDecl.{MapDecl}
-use Rattle.cell_core.specs.declared.site.Act.{Act}
-use Rattle.cell_core.specs.Sites.{ProgramView, site_at}
-use Rattle.site_operands.specs.hazard_core.Tables.{TableState, decl_of, table_at}
-use Rattle.site_operands.specs.hazard_core.Held.{Held, asked_key, slot_pointer}
-use Rattle.site_operands.specs.hazard_core.Overlay.{key_pointer}
-use Rattle.site_operands.specs.cell_nets.declared.operand.Operand.{Operand}
-use Rattle.site_operands.specs.cell_nets.Operands.{number_in}
-use Rattle.site_operands.specs.Pointers.{pointer_number}
+use Rattle.block_core.specs.net_core.Value.{Env}
+use Rattle.hazard_core.specs.xdp_maps.declared.decl.MapDecl.{MapDecl}
+use Rattle.hazard_core.specs.cell_core.declared.site.Act.{Act}
+use Rattle.hazard_core.specs.cell_core.Sites.{ProgramView, site_at}
+use Rattle.hazard_core.specs.Tables.{TableState, decl_of, table_at}
+use Rattle.hazard_core.specs.Held.{Held, asked_key, slot_pointer}
+use Rattle.hazard_core.specs.Overlay.{key_pointer}
+use Rattle.cell_nets.specs.declared.operand.Operand.{Operand}
+use Rattle.cell_nets.specs.Operands.{number_in}
+use Rattle.overlay_net.specs.SiteOperands.Pointers.{pointer_number}
 
 -- what site j of a program does, and the declaration of its map
 pub record IsSite (p : ProgramView) (decls : List MapDecl) (j : ℕ) (a : Act) (d : MapDecl) : Type 0 where

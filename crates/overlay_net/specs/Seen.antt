@@ -1,16 +1,16 @@
 -- When nets stand for the operations that a read sees.
 use Rattle.std.specs.Prelude.{◌≡◌, ℕ, ◌*◌, ◌<◌, ◌≤◌, All, List, [], ◌∷◌, ◌++◌, length}
 use Rattle.std.proofs.Common.{get_or}
-use Rattle.site_operands.specs.cell_nets.net_core.Value.{Env}
-use Rattle.cell_core.specs.Cells.{bit}
-use Rattle.cell_core.specs.Sites.{ProgramView, site_at}
-use Rattle.site_operands.specs.hazard_core.Tables.{TableState}
-use Rattle.site_operands.specs.hazard_core.Held.{Held, writes, written_pointer}
-use Rattle.site_operands.specs.cell_nets.declared.operand.Operand.{Operand}
-use Rattle.site_operands.specs.cell_nets.Operands.{number_in, IsOperand, IsNarrow}
-use Rattle.site_operands.specs.Pointers.{pointer_number}
-use Rattle.site_operands.specs.Sites.{operands_of, all_of, ShowsSite}
-use Rattle.site_operands.specs.declared.Pending.{Pending}
+use Rattle.block_core.specs.net_core.Value.{Env}
+use Rattle.hazard_core.specs.cell_core.Cells.{bit}
+use Rattle.hazard_core.specs.cell_core.Sites.{ProgramView, site_at}
+use Rattle.hazard_core.specs.Tables.{TableState}
+use Rattle.hazard_core.specs.Held.{Held, writes, written_pointer}
+use Rattle.cell_nets.specs.declared.operand.Operand.{Operand}
+use Rattle.cell_nets.specs.Operands.{number_in, IsOperand, IsNarrow}
+use Rattle.overlay_net.specs.SiteOperands.Pointers.{pointer_number}
+use Rattle.overlay_net.specs.SiteOperands.Sites.{operands_of, all_of, ShowsSite}
+use Rattle.overlay_net.specs.declared.site_operands.Pending.{Pending}
 
 -- what it reads
 abbrev pub read_of : {N : Type 0} → Pending N → List (Operand N)

@@ -2,36 +2,36 @@
 
 ghost use Rattle.std.specs.Prelude.{ℕ, ℤ, List, [], ◌∷◌, ◌++◌, ◌≡◌, ◌==◌, ◌+◌, ◌*◌, ◌^◌, ◌<◌, ◌≤◌, not, nat_le, All, length, slice_index, count_by, if◌then◌else◌, IfOk, OnOk, map as map_list};
 ghost use Rattle.std.specs.Int.{w64, cast_unsigned};
-ghost use Rattle.site_operands.specs.cell_nets.net_core.Value.{Env};
-ghost use Rattle.xdp_maps.specs.declared.decl.MapDecl.{MapDecl};
-ghost use Rattle.xdp_maps.specs.declared.decl.MapKind.TheVariants as kind;
-ghost use Rattle.xdp_maps.specs.Calls.{hash_refusal, array_refusal, number_of};
-ghost use Rattle.cell_core.specs.declared.site.Act.TheVariants as act;
-ghost use Rattle.cell_core.specs.Cells.{bit, on, bits_from, phi};
-ghost use Rattle.cell_core.specs.Sites.{ProgramView, site_at};
-ghost use Rattle.site_operands.specs.hazard_core.Tables.{TableState, table_at, used_count};
-ghost use Rattle.site_operands.specs.hazard_core.Held.{Held, adds_key, takes_key};
-ghost use Rattle.site_operands.specs.hazard_core.Overlay.{answer_over};
-ghost use Rattle.site_operands.specs.cell_nets.Operands.{IsOperand, IsNarrow, IsWide, number_in};
-ghost use Rattle.site_operands.specs.cell_nets.Wires.{wires_of, always, HasBits, Gives};
-ghost use Rattle.site_operands.specs.Sites.{operands_of, all_of, ShowsAsked};
+ghost use Rattle.block_core.specs.net_core.Value.{Env};
+ghost use Rattle.hazard_core.specs.xdp_maps.declared.decl.MapDecl.{MapDecl};
+ghost use Rattle.hazard_core.specs.xdp_maps.declared.decl.MapKind.TheVariants as kind;
+ghost use Rattle.hazard_core.specs.xdp_maps.Calls.{hash_refusal, array_refusal, number_of};
+ghost use Rattle.hazard_core.specs.cell_core.declared.site.Act.TheVariants as act;
+ghost use Rattle.hazard_core.specs.cell_core.Cells.{bit, on, bits_from, phi};
+ghost use Rattle.hazard_core.specs.cell_core.Sites.{ProgramView, site_at};
+ghost use Rattle.hazard_core.specs.Tables.{TableState, table_at, used_count};
+ghost use Rattle.hazard_core.specs.Held.{Held, adds_key, takes_key};
+ghost use Rattle.hazard_core.specs.Overlay.{answer_over};
+ghost use Rattle.cell_nets.specs.Operands.{IsOperand, IsNarrow, IsWide, number_in};
+ghost use Rattle.cell_nets.specs.Wires.{wires_of, always, HasBits, Gives};
+ghost use Rattle.overlay_net.specs.SiteOperands.Sites.{operands_of, all_of, ShowsAsked};
 ghost use Rattle.overlay_net.specs.Reading.{IsSite, ShowsKey};
 ghost use Rattle.overlay_net.specs.Seen.{read_of, all_read, HasOperands, IsOf, ShowsPending, AreOf, ShowPending};
 
 use crate::finding::operand_at;
+use crate::site_operands::{Pending, SiteNets};
 use crate::writing::{adds_key, takes_key};
 use block_core::block::BlockWire;
 use block_core::name::Name;
-use cell_core::operator::Operator;
-use cell_core::value::bits_from;
-use site_operands::cell_nets::operand::Operand;
-use site_operands::cell_nets::operators::cell_wires;
-use site_operands::cell_nets::wires::cut;
-use site_operands::{Pending, SiteNets};
+use cell_nets::cell_core::operator::Operator;
+use cell_nets::cell_core::value::bits_from;
+use cell_nets::cell_core::xdp_state::xdp_maps::decl::{MapDecl, MapKind};
+use cell_nets::cell_core::xdp_state::xdp_maps::errno::{E2BIG, EEXIST, EINVAL, ENOENT};
+use cell_nets::operand::Operand;
+use cell_nets::operators::cell_wires;
+use cell_nets::step_nets::{at_most, below, both, equal, sum};
+use cell_nets::wires::cut;
 use std::alloc::{AllocError, Global};
-use step_nets::{at_most, below, both, equal, sum};
-use xdp_maps::decl::{MapDecl, MapKind};
-use xdp_maps::errno::{E2BIG, EEXIST, EINVAL, ENOENT};
 
 /// How many bits a number of keys has, with those that a packet adds to it or may take away.
 const COUNT_BITS: u8 = 18;

@@ -2,30 +2,30 @@
 
 ghost use Rattle.std.specs.Prelude.{ℕ, List, ◌∷◌, ◌++◌, ◌≡◌, ◌&&◌, ◌*◌, ◌≤◌, All, length, slice_index, if◌then◌else◌, IfOk, map as map_list};
 ghost use Rattle.std.specs.Str.{bytes_eq};
-ghost use Rattle.site_operands.specs.cell_nets.net_core.Value.{Env};
-ghost use Rattle.cell_core.specs.Cells.{on};
-ghost use Rattle.cell_core.specs.Sites.{ProgramView, site_at, bytes_of};
-ghost use Rattle.site_operands.specs.hazard_core.Tables.{TableState, decl_of};
-ghost use Rattle.site_operands.specs.hazard_core.declared.pointer.Pointer.{Pointer};
-ghost use Rattle.site_operands.specs.hazard_core.Held.{Held};
-ghost use Rattle.site_operands.specs.hazard_core.Overlay.{found_over, key_pointer, found_pointer};
-ghost use Rattle.site_operands.specs.cell_nets.Operands.{IsOperand, IsNarrow, IsWide, IsAvailable, number_in};
-ghost use Rattle.site_operands.specs.cell_nets.Wires.{wires_of, always, HasBits, Gives};
-ghost use Rattle.site_operands.specs.Pointers.{pointer_number};
-ghost use Rattle.site_operands.specs.Sites.{operands_of, all_of, ShowsAsked};
+ghost use Rattle.block_core.specs.net_core.Value.{Env};
+ghost use Rattle.hazard_core.specs.cell_core.Cells.{on};
+ghost use Rattle.hazard_core.specs.cell_core.Sites.{ProgramView, site_at, bytes_of};
+ghost use Rattle.hazard_core.specs.Tables.{TableState, decl_of};
+ghost use Rattle.hazard_core.specs.declared.pointer.Pointer.{Pointer};
+ghost use Rattle.hazard_core.specs.Held.{Held};
+ghost use Rattle.hazard_core.specs.Overlay.{found_over, key_pointer, found_pointer};
+ghost use Rattle.cell_nets.specs.Operands.{IsOperand, IsNarrow, IsWide, IsAvailable, number_in};
+ghost use Rattle.cell_nets.specs.Wires.{wires_of, always, HasBits, Gives};
+ghost use Rattle.overlay_net.specs.SiteOperands.Pointers.{pointer_number};
+ghost use Rattle.overlay_net.specs.SiteOperands.Sites.{operands_of, all_of, ShowsAsked};
 ghost use Rattle.overlay_net.specs.Reading.{IsSite, ShowsSlot, ShowsKey};
 ghost use Rattle.overlay_net.specs.Seen.{read_of, all_read, IsSeen, IsOf, ShowsPending, AreOf, ShowPending};
 
 use crate::keys::same_key;
+use crate::site_operands::{Pending, SiteNets};
 use block_core::block::BlockWire;
 use block_core::name::Name;
-use cell_core::site::Act;
-use site_operands::cell_nets::operand::Operand;
-use site_operands::cell_nets::wires::cut;
-use site_operands::{Pending, SiteNets};
+use cell_nets::cell_core::site::Act;
+use cell_nets::cell_core::xdp_state::xdp_maps::decl::{MapDecl, MapKind};
+use cell_nets::operand::Operand;
+use cell_nets::step_nets::{below, both, choose};
+use cell_nets::wires::cut;
 use std::alloc::{AllocError, Global};
-use step_nets::{below, both, choose};
-use xdp_maps::decl::{MapDecl, MapKind};
 
 /// A pointer in place of another one where an operation wrote under a key.
 fn moved<P: Copy>(

@@ -2,17 +2,17 @@
 
 ghost use Rattle.std.specs.Prelude.{ℕ, [], ◌∷◌, ◌==◌, ◌*◌, ◌≤◌, ◌++◌, All, length, IfOk, map as map_list};
 ghost use Rattle.std.specs.Str.{bytes_eq};
-ghost use Rattle.cell_core.specs.Cells.{bit, bits_from};
-ghost use Rattle.cell_core.specs.Sites.{bytes_of};
-ghost use Rattle.site_operands.specs.cell_nets.Operands.{IsOperand, IsWide, number_in};
-ghost use Rattle.site_operands.specs.cell_nets.Wires.{wires_of, always, Gives};
+ghost use Rattle.hazard_core.specs.cell_core.Cells.{bit, bits_from};
+ghost use Rattle.hazard_core.specs.cell_core.Sites.{bytes_of};
+ghost use Rattle.cell_nets.specs.Operands.{IsOperand, IsWide, number_in};
+ghost use Rattle.cell_nets.specs.Wires.{wires_of, always, Gives};
 
 use block_core::block::BlockWire;
 use block_core::name::Name;
-use site_operands::cell_nets::operand::Operand;
-use site_operands::cell_nets::wires::cut;
+use cell_nets::operand::Operand;
+use cell_nets::step_nets::{both, equal};
+use cell_nets::wires::cut;
 use std::alloc::{AllocError, Global};
-use step_nets::{both, equal};
 
 /// Whether so many low bits of two operands are the same.
 fn same_word<P: Copy>(

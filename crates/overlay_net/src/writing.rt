@@ -1,28 +1,28 @@
 //! Whether an operation of a packet writes, which entry it writes, and whether it brings a key or takes one away.
 
 ghost use Rattle.std.specs.Prelude.{ℕ, List, [], ◌∷◌, ◌≡◌, ◌+◌, ◌*◌, ◌^◌, ◌<◌, All, IfOk};
-ghost use Rattle.xdp_maps.specs.declared.decl.MapDecl.{MapDecl};
-ghost use Rattle.xdp_maps.specs.declared.decl.MapKind.TheVariants as kind;
-ghost use Rattle.cell_core.specs.declared.site.Act.TheVariants as does;
-ghost use Rattle.cell_core.specs.Cells.{bit};
-ghost use Rattle.cell_core.specs.Sites.{ProgramView, site_at};
-ghost use Rattle.site_operands.specs.hazard_core.Tables.{TableState};
-ghost use Rattle.site_operands.specs.hazard_core.Held.{Held, writes, written_pointer, adds_key, takes_key};
-ghost use Rattle.site_operands.specs.cell_nets.Operands.{IsOperand, IsNarrow, IsWide, number_in};
-ghost use Rattle.site_operands.specs.cell_nets.Wires.{wires_of, HasBits, Gives};
-ghost use Rattle.site_operands.specs.Pointers.{pointer_number};
-ghost use Rattle.site_operands.specs.Sites.{operands_of, all_of, ShowsSite};
+ghost use Rattle.hazard_core.specs.xdp_maps.declared.decl.MapDecl.{MapDecl};
+ghost use Rattle.hazard_core.specs.xdp_maps.declared.decl.MapKind.TheVariants as kind;
+ghost use Rattle.hazard_core.specs.cell_core.declared.site.Act.TheVariants as does;
+ghost use Rattle.hazard_core.specs.cell_core.Cells.{bit};
+ghost use Rattle.hazard_core.specs.cell_core.Sites.{ProgramView, site_at};
+ghost use Rattle.hazard_core.specs.Tables.{TableState};
+ghost use Rattle.hazard_core.specs.Held.{Held, writes, written_pointer, adds_key, takes_key};
+ghost use Rattle.cell_nets.specs.Operands.{IsOperand, IsNarrow, IsWide, number_in};
+ghost use Rattle.cell_nets.specs.Wires.{wires_of, HasBits, Gives};
+ghost use Rattle.overlay_net.specs.SiteOperands.Pointers.{pointer_number};
+ghost use Rattle.overlay_net.specs.SiteOperands.Sites.{operands_of, all_of, ShowsSite};
 ghost use Rattle.overlay_net.specs.Reading.{IsSite, ShowsSlot};
 
+use crate::site_operands::SiteNets;
 use block_core::block::BlockWire;
 use block_core::name::Name;
-use cell_core::site::Act;
-use site_operands::SiteNets;
-use site_operands::cell_nets::operand::Operand;
-use site_operands::cell_nets::wires::cut;
+use cell_nets::cell_core::site::Act;
+use cell_nets::cell_core::xdp_state::xdp_maps::decl::{MapDecl, MapKind};
+use cell_nets::operand::Operand;
+use cell_nets::step_nets::{choose, truth, without};
+use cell_nets::wires::cut;
 use std::alloc::{AllocError, Global};
-use step_nets::{choose, truth, without};
-use xdp_maps::decl::{MapDecl, MapKind};
 
 /// Whether the operation at a site writes: 1 or 0, by its guard and by what it answered.
 pub fn writes<P: Copy>(

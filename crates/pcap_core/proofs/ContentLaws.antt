@@ -12,7 +12,7 @@ use Rattle.pcap_core.proofs.Heads.{failed, done, ok_is, err_is, not_both, header
 use Rattle.pcap_core.proofs.Headers.{read_header, header_of-spelled, header-read, spelled-header_of, length-header_bytes}
 use Rattle.pcap_core.proofs.Records.{IsFirst, IsAfter, record_at-says, record_at-after, record_at-spelled, spelled-record_at, ending, ends-record_at}
 use Rattle.beat_core.specs.list_laws.Bytes.{IsBytes}
-use Rattle.beat_core.proofs.list_laws.ByteLaws.{IsBytes-drop}
+use Rattle.beat_core.proofs.list_laws_laws.ByteLaws.{IsBytes-drop}
 
 -- ---- one record more
 

@@ -8,7 +8,7 @@ use Rattle.pcap_core.proofs.Numbers.{wide2, wide4}
 use Rattle.pcap_core.proofs.Parts.{behind, number_behind, three_parts, four_parts, seven_before}
 use Rattle.pcap_core.proofs.Heads.{IsTested, header_of-tested, tested-header_of, spelled-order_of}
 use Rattle.beat_core.specs.list_laws.Bytes.{IsBytes}
-use Rattle.beat_core.proofs.list_laws.ByteLaws.{IsBytes-drop}
+use Rattle.beat_core.proofs.list_laws_laws.ByteLaws.{IsBytes-drop}
 
 -- ---- what is read is spelled
 

@@ -8,7 +8,7 @@ use Rattle.pcap_core.specs.declared.order.Order.{Order}
 use Rattle.pcap_core.specs.declared.order.Order.TheVariants.{Little, Big}
 use Rattle.pcap_core.specs.Number.{number, spelled}
 use Rattle.beat_core.specs.list_laws.Bytes.{IsBytes}
-use Rattle.beat_core.proofs.list_laws.ByteLaws.{IsBytes-take}
+use Rattle.beat_core.proofs.list_laws_laws.ByteLaws.{IsBytes-take}
 
 -- n bytes hold a number below the limit, and give it back
 pub record IsWide (order : Order) (n : ℕ) : Type 0 where

@@ -5,7 +5,7 @@ use Rattle.pcap_core.specs.declared.order.Order.{Order}
 use Rattle.pcap_core.specs.Number.{number, spelled}
 use Rattle.pcap_core.proofs.Numbers.{IsWide}
 use Rattle.beat_core.specs.list_laws.Bytes.{IsBytes}
-use Rattle.beat_core.proofs.list_laws.ByteLaws.{IsBytes-drop}
+use Rattle.beat_core.proofs.list_laws_laws.ByteLaws.{IsBytes-drop}
 
 -- what stands behind a part of n elements
 pub behind : (i n : ℕ) (xs p q : List ℕ) → drop i xs ≡ p ++ q → length p ≡ n → drop (i + n) xs ≡ q

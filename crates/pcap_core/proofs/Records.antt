@@ -14,7 +14,7 @@ use Rattle.pcap_core.proofs.Parts.{behind, number_behind, four_parts, five_befor
 use Rattle.pcap_core.proofs.Heads.{either}
 use Rattle.beat_core.specs.declared.frame.TheConstants.{FRAME_LIMIT}
 use Rattle.beat_core.specs.list_laws.Bytes.{IsBytes}
-use Rattle.beat_core.proofs.list_laws.ByteLaws.{IsBytes-drop, IsBytes-take}
+use Rattle.beat_core.proofs.list_laws_laws.ByteLaws.{IsBytes-drop, IsBytes-take}
 
 -- ---- the cases of a record
 

@@ -5,10 +5,10 @@ use Rattle.std.specs.List.{list_any}
 use Rattle.std.proofs.lemmas.Bool.Decides.{nat_tests, Decides-eqb}
 use Rattle.std.proofs.lemmas.Bool.{cases_lt, lt-ltb, le-leb}
 use Rattle.std.proofs.lemmas.List.{length-replicate}
-use Rattle.cell_core.specs.xdp_machine.State.{PacketIn}
-use Rattle.cell_core.specs.Cells.{CellView, cell_at, no_cell, site_in, bits_from}
-use Rattle.cell_core.specs.Sites.{SiteView, site_at}
-use Rattle.cell_core.specs.Rows.{numbers}
+use Rattle.hazard_core.specs.xdp_machine.State.{PacketIn}
+use Rattle.hazard_core.specs.cell_core.Cells.{CellView, cell_at, no_cell, site_in, bits_from}
+use Rattle.hazard_core.specs.cell_core.Sites.{SiteView, site_at}
+use Rattle.hazard_core.specs.cell_core.Rows.{numbers}
 use Rattle.hazard_core.specs.Tables.{TableState}
 use Rattle.hazard_core.specs.declared.pointer.Pointer.TheVariants.{Null}
 use Rattle.hazard_core.specs.Held.{Held, with_cell, guard_on, writes}
@@ -17,7 +17,7 @@ use Rattle.hazard_core.specs.declared.change.Change.{Change}
 use Rattle.hazard_core.specs.Marks.{known_on, known_off}
 use Rattle.hazard_core.specs.Changes.{IsRightCommit, CommitsChange}
 use Rattle.hazard_core.specs.Commits.{committed, change_by}
-use Rattle.beat_core.specs.Ports.{Arrival}
+use Rattle.realization.specs.beat_core.Ports.{Arrival}
 use Rattle.pipe_core.specs.Machine.{Packet, State, Build, Turn, Commits, Writes, Moves, packet_of, marked_at, injected, with_kept_marks, entered, struck, is_due, sends, some_send, worked, work}
 use Rattle.pipe_core.specs.History.{next}
 use Rattle.pipe_core.specs.Agreement.{UpdatesFind, Agrees, excused_as, off_below, EnteringAgrees, StrikingAgrees}

@@ -5,13 +5,13 @@ use Rattle.std.proofs.lemmas.Bool.Decides.{nat_tests, Decides-eqb}
 use Rattle.std.proofs.lemmas.Bool.{cases_lt, or_parts}
 use Rattle.std.proofs.lemmas.Nat.{pow_pos}
 use Rattle.std.proofs.Math.Nat.{mod-lt}
-use Rattle.cell_core.specs.xdp_machine.State.{PacketIn}
-use Rattle.cell_core.specs.declared.operator.Operator.{Operator}
-use Rattle.cell_core.specs.declared.operator.Operator.TheVariants.{Found, Answer, Wire, Phi}
-use Rattle.cell_core.specs.Cells.{CellView, cell_at, no_cell, site_in, number, bits_from, bit, on}
-use Rattle.cell_core.specs.Formed.{takes}
-use Rattle.cell_core.specs.Sites.{SiteView, site_at}
-use Rattle.cell_core.specs.Rows.{RowsRise, numbers}
+use Rattle.hazard_core.specs.xdp_machine.State.{PacketIn}
+use Rattle.hazard_core.specs.cell_core.declared.operator.Operator.{Operator}
+use Rattle.hazard_core.specs.cell_core.declared.operator.Operator.TheVariants.{Found, Answer, Wire, Phi}
+use Rattle.hazard_core.specs.cell_core.Cells.{CellView, cell_at, no_cell, site_in, number, bits_from, bit, on}
+use Rattle.hazard_core.specs.cell_core.Formed.{takes}
+use Rattle.hazard_core.specs.cell_core.Sites.{SiteView, site_at}
+use Rattle.hazard_core.specs.cell_core.Rows.{RowsRise, numbers}
 use Rattle.hazard_core.specs.Tables.{TableState}
 use Rattle.hazard_core.specs.declared.pointer.Pointer.{Pointer}
 use Rattle.hazard_core.specs.declared.pointer.Pointer.TheVariants.{Null}

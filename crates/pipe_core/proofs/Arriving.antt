@@ -1,9 +1,9 @@
 -- The bytes of a frame in its memory.
 use Rattle.std.proofs.Common.{◌≡◌, ◌∙◌, ◌≤◌, ◌+◌, ◌++◌, ℕ, zero, suc, List, [], ◌∷◌, refl, ap, set, take, drop, length, min, arith}
 use Rattle.std.proofs.lemmas.List.{take_at, length-append, length-take}
-use Rattle.beat_core.specs.declared.beat.Beat.{Beat}
-use Rattle.beat_core.specs.Beats.{bytes_of_beat}
-use Rattle.beat_core.proofs.WordLaws.{length-low_bytes}
+use Rattle.realization.specs.beat_core.declared.beat.Beat.{Beat}
+use Rattle.realization.specs.beat_core.Beats.{bytes_of_beat}
+use Rattle.realization.proofs.beat_core_laws.WordLaws.{length-low_bytes}
 
 pub few_bytes : (b : Beat) → length (bytes_of_beat b) ≤ 8
 few_bytes b = omega (arith, length-low_bytes (min b.bytes 8) b.word)

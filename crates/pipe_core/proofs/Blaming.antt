@@ -7,13 +7,13 @@ use Rattle.std.proofs.lemmas.Bool.{cases_lt, and_parts, lt-ltb}
 use Rattle.std.proofs.lemmas.Bool.Decides.{Decides-eqb}
 use Rattle.std.proofs.lemmas.List.{append-nil, length-set, get_or_past, get_or-set_same, get_or-set_other}
 use Rattle.std.proofs.lemmas.List.Elements.{Contains-append_left, Contains-append_right, Contains-append_cases}
-use Rattle.beat_core.specs.Ports.{Arrival}
-use Rattle.xdp_maps.specs.State.{MapState, decl_at}
-use Rattle.xdp_maps.specs.Touched.{Resource, Present, Content, Size, writes as resources_written}
-use Rattle.cell_core.specs.xdp_machine.Touched.{Touched, nothing, both, touched_by}
-use Rattle.cell_core.specs.Cells.{bit, on}
-use Rattle.cell_core.specs.Formed.{AllFit}
-use Rattle.cell_core.specs.Sites.{SiteView, ProgramView, site_at, operation_with, operation_on, applied, after, touched}
+use Rattle.realization.specs.beat_core.Ports.{Arrival}
+use Rattle.hazard_core.specs.xdp_maps.State.{MapState, decl_at}
+use Rattle.hazard_core.specs.xdp_maps.Touched.{Resource, Present, Content, Size, writes as resources_written}
+use Rattle.hazard_core.specs.xdp_machine.Touched.{Touched, nothing, both, touched_by}
+use Rattle.hazard_core.specs.cell_core.Cells.{bit, on}
+use Rattle.hazard_core.specs.cell_core.Formed.{AllFit}
+use Rattle.hazard_core.specs.cell_core.Sites.{SiteView, ProgramView, site_at, operation_with, operation_on, applied, after, touched}
 use Rattle.hazard_core.specs.declared.slot.Slot.{Slot}
 use Rattle.hazard_core.specs.declared.change.Change.{Change}
 use Rattle.hazard_core.specs.Tables.{TableState, table_at, slot_at, no_slot, has_key, maps_of}

@@ -4,14 +4,14 @@ use Rattle.std.specs.Prelude.{if◌then◌else◌, nat_lt, ◌&&◌, ◌||◌, i
 use Rattle.std.specs.Option.{option_map}
 use Rattle.std.proofs.lemmas.List.{get_or-drop}
 use Rattle.std.proofs.lemmas.Grind.{common_steps}
-use Rattle.xdp_maps.specs.State.{MapState}
-use Rattle.cell_core.specs.Cells.{bit}
-use Rattle.cell_core.specs.Rows.{RowsRise}
+use Rattle.hazard_core.specs.xdp_maps.State.{MapState}
+use Rattle.hazard_core.specs.cell_core.Cells.{bit}
+use Rattle.hazard_core.specs.cell_core.Rows.{RowsRise}
 use Rattle.hazard_core.specs.Held.{Held}
 use Rattle.hazard_core.specs.Tables.{TableState}
 use Rattle.hazard_core.specs.declared.change.Change.{Change}
 use Rattle.hazard_core.specs.Commits.{change_by, host_change}
-use Rattle.beat_core.specs.Ports.{Arrival}
+use Rattle.realization.specs.beat_core.Ports.{Arrival}
 use Rattle.pipe_core.specs.Machine.{Packet, State, Input, Build, Turn, Commits, Writes, Moves, no_frame, packet_of, place_at, inside, sends, swept, some_send, entered, struck, struck_below, enters, moved, newcomer, injected, worked, work, turn_of, gathered, scattered, beat_over, taken_beat, clock}
 use Rattle.pipe_core.specs.History.{Trace, came_in, left_as, left_in, next, run, begin, IsInOrder}
 use Rattle.pipe_core.specs.Computed.{Computes, PlacesCompute, LeftCompute, IsComputed, IsPlanned, KeepsComputed, IsAlwaysComputed}

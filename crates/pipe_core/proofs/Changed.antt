@@ -6,20 +6,20 @@ use Rattle.std.proofs.lemmas.Bool.{and_parts}
 use Rattle.std.proofs.lemmas.Bool.Decides.{nat_tests, Decides-eqb}
 use Rattle.std.proofs.lemmas.List.{get_or-set_same}
 use Rattle.std.proofs.lemmas.Slice.Eq.{bytes_eq-Decides}
-use Rattle.xdp_maps.specs.declared.decl.MapDecl.{MapDecl}
-use Rattle.xdp_maps.specs.declared.decl.MapKind.{MapKind}
-use Rattle.xdp_maps.specs.declared.decl.MapKind.TheVariants.{Hash, Array}
-use Rattle.xdp_maps.specs.declared.errno.TheConstants.{EINVAL}
-use Rattle.xdp_maps.specs.Contents.{Contents}
-use Rattle.xdp_maps.specs.State.{MapState, decl_at, contents_at}
-use Rattle.xdp_maps.specs.Calls.{lookup_of, number_of, update_error, update_error_as}
-use Rattle.xdp_maps.specs.Operations.{Operation, key_in}
-use Rattle.xdp_maps.specs.Touched.{Resource, Present, Content, Size, where_done, update_writes, writes as resources_written}
-use Rattle.cell_core.specs.declared.site.Act.{Act}
-use Rattle.cell_core.specs.declared.site.Act.TheVariants as act
-use Rattle.cell_core.specs.Acts.{reads, asks, says_done}
-use Rattle.cell_core.specs.Sites.{SiteView, ProgramView, site_at, bytes_of, operation_with, after, answer_as}
-use Rattle.cell_core.specs.Formed.{AllFit}
+use Rattle.hazard_core.specs.xdp_maps.declared.decl.MapDecl.{MapDecl}
+use Rattle.hazard_core.specs.xdp_maps.declared.decl.MapKind.{MapKind}
+use Rattle.hazard_core.specs.xdp_maps.declared.decl.MapKind.TheVariants.{Hash, Array}
+use Rattle.hazard_core.specs.xdp_maps.declared.errno.TheConstants.{EINVAL}
+use Rattle.hazard_core.specs.xdp_maps.Contents.{Contents}
+use Rattle.hazard_core.specs.xdp_maps.State.{MapState, decl_at, contents_at}
+use Rattle.hazard_core.specs.xdp_maps.Calls.{lookup_of, number_of, update_error, update_error_as}
+use Rattle.hazard_core.specs.xdp_maps.Operations.{Operation, key_in}
+use Rattle.hazard_core.specs.xdp_maps.Touched.{Resource, Present, Content, Size, where_done, update_writes, writes as resources_written}
+use Rattle.hazard_core.specs.cell_core.declared.site.Act.{Act}
+use Rattle.hazard_core.specs.cell_core.declared.site.Act.TheVariants as act
+use Rattle.hazard_core.specs.cell_core.Acts.{reads, asks, says_done}
+use Rattle.hazard_core.specs.cell_core.Sites.{SiteView, ProgramView, site_at, bytes_of, operation_with, after, answer_as}
+use Rattle.hazard_core.specs.cell_core.Formed.{AllFit}
 use Rattle.hazard_core.specs.declared.slot.Slot.{Slot}
 use Rattle.hazard_core.specs.declared.change.Change.{Change}
 use Rattle.hazard_core.specs.declared.pointer.Pointer.{Pointer}

@@ -4,13 +4,13 @@ use Rattle.std.specs.Prelude.{◌&&◌, replicate}
 use Rattle.std.specs.List.{flat_map}
 use Rattle.std.proofs.lemmas.Bool.{cases_lt}
 use Rattle.std.proofs.lemmas.List.Sums.{passes_at_first}
-use Rattle.beat_core.specs.declared.beat.Beat.{Beat}
-use Rattle.beat_core.specs.Beats.{beats_of}
-use Rattle.beat_core.specs.Ports.{Arrival}
-use Rattle.xdp_maps.specs.declared.decl.MapDecl.{MapDecl}
-use Rattle.xdp_maps.specs.State.{MapState}
-use Rattle.cell_core.specs.Cells.{cell_at, no_cell, site_in, bit, on}
-use Rattle.cell_core.specs.Sites.{site_at}
+use Rattle.realization.specs.beat_core.declared.beat.Beat.{Beat}
+use Rattle.realization.specs.beat_core.Beats.{beats_of}
+use Rattle.realization.specs.beat_core.Ports.{Arrival}
+use Rattle.hazard_core.specs.xdp_maps.declared.decl.MapDecl.{MapDecl}
+use Rattle.hazard_core.specs.xdp_maps.State.{MapState}
+use Rattle.hazard_core.specs.cell_core.Cells.{cell_at, no_cell, site_in, bit, on}
+use Rattle.hazard_core.specs.cell_core.Sites.{site_at}
 use Rattle.hazard_core.specs.Tables.{TableState, decl_of}
 use Rattle.hazard_core.specs.Tabled.{LoadsTables}
 use Rattle.hazard_core.specs.Standing.{TablesStand}

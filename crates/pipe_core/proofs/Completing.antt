@@ -3,15 +3,15 @@ use Rattle.std.proofs.Common.{◌≡◌, ℕ, zero, suc, ◌^◌, ◌<◌, ◌�
 use Rattle.std.specs.Prelude.{if◌then◌else◌, ◌==◌}
 use Rattle.std.proofs.lemmas.Bool.{eqb-true, eqb-false}
 use Rattle.std.proofs.lemmas.Nat.{mod_below, pow_pos}
-use Rattle.xdp_maps.specs.declared.decl.MapDecl.{MapDecl}
-use Rattle.xdp_maps.specs.State.{MapState}
-use Rattle.cell_core.specs.xdp_machine.State.{PacketIn}
-use Rattle.cell_core.specs.declared.operator.Operator.{Operator}
-use Rattle.cell_core.specs.declared.operator.Operator.TheVariants.{Found, Answer}
-use Rattle.cell_core.specs.Cells.{CellView, cell_at, is_read, site_in, value, bits_from, Solves_as, on}
-use Rattle.cell_core.specs.Sites.{ProgramView, site_at, after, read_on, IsValue, IsCellRun}
-use Rattle.cell_core.specs.Formed.{AreFormed, IsBelow, AreSited}
-use Rattle.cell_core.specs.SiteLaws.{AreSame, ValuesKeep}
+use Rattle.hazard_core.specs.xdp_maps.declared.decl.MapDecl.{MapDecl}
+use Rattle.hazard_core.specs.xdp_maps.State.{MapState}
+use Rattle.hazard_core.specs.xdp_machine.State.{PacketIn}
+use Rattle.hazard_core.specs.cell_core.declared.operator.Operator.{Operator}
+use Rattle.hazard_core.specs.cell_core.declared.operator.Operator.TheVariants.{Found, Answer}
+use Rattle.hazard_core.specs.cell_core.Cells.{CellView, cell_at, is_read, site_in, value, bits_from, Solves_as, on}
+use Rattle.hazard_core.specs.cell_core.Sites.{ProgramView, site_at, after, read_on, IsValue, IsCellRun}
+use Rattle.hazard_core.specs.cell_core.Formed.{AreFormed, IsBelow, AreSited}
+use Rattle.hazard_core.specs.cell_core.SiteLaws.{AreSame, ValuesKeep}
 
 is_none : (op : Operator) → site_in op ≡ None → is_read op ≡ false
 is_none (Found j) e = cc

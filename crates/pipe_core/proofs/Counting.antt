@@ -5,14 +5,14 @@ use Rattle.std.specs.Option.{option_map}
 use Rattle.std.proofs.lemmas.Bool.{and_parts, cases_lt}
 use Rattle.std.proofs.lemmas.Bool.Decides.{nat_tests}
 use Rattle.std.proofs.Math.Nat.{mul-le-mul_left}
-use Rattle.cell_core.specs.Cells.{bit}
-use Rattle.cell_core.specs.Sites.{site_at}
+use Rattle.hazard_core.specs.cell_core.Cells.{bit}
+use Rattle.hazard_core.specs.cell_core.Sites.{site_at}
 use Rattle.hazard_core.specs.Tables.{TableState}
 use Rattle.hazard_core.specs.Held.{Held}
 use Rattle.hazard_core.specs.declared.change.Change.{Change}
 use Rattle.hazard_core.specs.Marks.{known_off}
 use Rattle.hazard_core.specs.Rows.{with_row}
-use Rattle.beat_core.specs.Ports.{Arrival}
+use Rattle.realization.specs.beat_core.Ports.{Arrival}
 use Rattle.pipe_core.specs.Machine.{Packet, Build, packet_of, no_frame, place_at, inside, marked_at, entered, struck, struck_below, is_due, sends, some_send, swept, enters, moved, injected, newcomer}
 use Rattle.pipe_core.proofs.Order.{last_or, moved_inside, place_last, swept_length, struck_inside}
 use Rattle.pipe_core.proofs.Carrying.{swept_none}

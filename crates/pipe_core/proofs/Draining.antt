@@ -3,21 +3,21 @@ use Rattle.std.proofs.Common.{◌≡◌, ℕ, zero, suc, ◌+◌, ◌-◌, ◌*�
 use Rattle.std.specs.Prelude.{if◌then◌else◌, nat_lt, nat_le, ◌&&◌, ◌||◌, is_some, min, slice_set}
 use Rattle.std.proofs.lemmas.Bool.Decides.{nat_tests}
 use Rattle.std.proofs.lemmas.List.{length-set}
-use Rattle.beat_core.specs.declared.beat.Beat.{Beat}
-use Rattle.beat_core.specs.declared.answer.Answer.{Answer}
-use Rattle.beat_core.specs.Beats.{bytes_of_beat, IsOffer, IsWhole, beats_of}
-use Rattle.beat_core.specs.Clocks.{AreOffers}
-use Rattle.beat_core.specs.Laws.{IsFrame}
-use Rattle.beat_core.proofs.WordLaws.{length-low_bytes}
-use Rattle.beat_core.proofs.BeatLaws.{IsOffer-count, IsOffer-eight, IsWhole-beats_of}
-use Rattle.beat_core.proofs.OrderLaws.{offers-frames}
+use Rattle.realization.specs.beat_core.declared.beat.Beat.{Beat}
+use Rattle.realization.specs.beat_core.declared.answer.Answer.{Answer}
+use Rattle.realization.specs.beat_core.Beats.{bytes_of_beat, IsOffer, IsWhole, beats_of}
+use Rattle.realization.specs.beat_core.Clocks.{AreOffers}
+use Rattle.realization.specs.beat_core.Laws.{IsFrame}
+use Rattle.realization.proofs.beat_core_laws.WordLaws.{length-low_bytes}
+use Rattle.realization.proofs.beat_core_laws.BeatLaws.{IsOffer-count, IsOffer-eight, IsWhole-beats_of}
+use Rattle.realization.proofs.beat_core_laws.OrderLaws.{offers-frames}
 use Rattle.std.specs.List.{flat_map, AllByRecursion}
-use Rattle.xdp_maps.specs.State.{MapState}
-use Rattle.cell_core.specs.declared.program.FrameByte.{FrameByte}
-use Rattle.cell_core.specs.Cells.{bit}
-use Rattle.cell_core.specs.Sites.{ProgramView, with_bytes}
+use Rattle.hazard_core.specs.xdp_maps.State.{MapState}
+use Rattle.hazard_core.specs.cell_core.declared.program.FrameByte.{FrameByte}
+use Rattle.hazard_core.specs.cell_core.Cells.{bit}
+use Rattle.hazard_core.specs.cell_core.Sites.{ProgramView, with_bytes}
 use Rattle.hazard_core.specs.Tables.{TableState}
-use Rattle.beat_core.specs.Ports.{Arrival}
+use Rattle.realization.specs.beat_core.Ports.{Arrival}
 use Rattle.hazard_core.specs.declared.change.Change.{Change}
 use Rattle.hazard_core.specs.Commits.{change_by}
 use Rattle.std.specs.Option.{option_map}

@@ -8,16 +8,16 @@ use Rattle.std.proofs.lemmas.Bool.Decides.{nat_tests, Decides-eqb}
 use Rattle.std.proofs.lemmas.List.Folds.{list_all-append}
 use Rattle.std.proofs.lemmas.List.Sums.{passes_at_first}
 use Rattle.std.proofs.lemmas.Slice.Eq.{bytes_eq-Decides}
-use Rattle.xdp_maps.specs.Touched.{Resource, Present, Content, Size}
-use Rattle.cell_core.specs.xdp_machine.State.{PacketIn}
-use Rattle.cell_core.specs.xdp_machine.Touched.{Touched}
-use Rattle.cell_core.specs.declared.site.Act.{Act}
-use Rattle.cell_core.specs.declared.site.Act.TheVariants as act
-use Rattle.cell_core.specs.declared.operator.Operator.TheVariants.{Found}
-use Rattle.cell_core.specs.Acts.{is_access, asks}
-use Rattle.cell_core.specs.Cells.{cell_at, no_cell, site_in, on}
-use Rattle.cell_core.specs.Rows.{RowsRise, numbers, taken_by}
-use Rattle.cell_core.specs.Sites.{SiteView, site_at, records, touched}
+use Rattle.hazard_core.specs.xdp_maps.Touched.{Resource, Present, Content, Size}
+use Rattle.hazard_core.specs.xdp_machine.State.{PacketIn}
+use Rattle.hazard_core.specs.xdp_machine.Touched.{Touched}
+use Rattle.hazard_core.specs.cell_core.declared.site.Act.{Act}
+use Rattle.hazard_core.specs.cell_core.declared.site.Act.TheVariants as act
+use Rattle.hazard_core.specs.cell_core.declared.operator.Operator.TheVariants.{Found}
+use Rattle.hazard_core.specs.cell_core.Acts.{is_access, asks}
+use Rattle.hazard_core.specs.cell_core.Cells.{cell_at, no_cell, site_in, on}
+use Rattle.hazard_core.specs.cell_core.Rows.{RowsRise, numbers, taken_by}
+use Rattle.hazard_core.specs.cell_core.Sites.{SiteView, site_at, records, touched}
 use Rattle.hazard_core.specs.Tables.{TableState, decl_of, maps_of}
 use Rattle.hazard_core.specs.Tabled.{AreTables}
 use Rattle.hazard_core.specs.declared.pointer.Pointer.TheVariants.{Pending}

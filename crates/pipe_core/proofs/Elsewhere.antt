@@ -5,32 +5,32 @@ use Rattle.std.specs.Int.{w64, cast_unsigned, bytes_low_first}
 use Rattle.std.proofs.lemmas.List.{length-take-le, length-map}
 use Rattle.std.proofs.lemmas.Bool.Decides.{nat_tests}
 use Rattle.std.proofs.lemmas.List.Elements.{All-nil, All-cons, All-head, All-append, All-take, All-weaker, All-contains_itself, Contains-append_left, Contains-append_right}
-use Rattle.xdp_maps.specs.declared.decl.MapDecl.{MapDecl}
-use Rattle.xdp_maps.specs.declared.decl.MapKind.{MapKind}
-use Rattle.xdp_maps.specs.declared.decl.MapKind.TheVariants.{Hash, Array}
-use Rattle.xdp_maps.specs.Contents.{Contents, IsBytes}
-use Rattle.xdp_maps.specs.State.{MapState, IsSound, decl_at, contents_at, no_decl}
-use Rattle.xdp_maps.specs.Calls.{lookup_of, number_before}
-use Rattle.xdp_maps.specs.declared.change.Change.{Change}
-use Rattle.xdp_maps.specs.Operations as map
-use Rattle.xdp_maps.specs.Operations.{Operation, key_in, Fits, operated}
-use Rattle.xdp_maps.specs.Touched.{Resource, Present, Size, SameOf, AnswersSame, reads_as, reads as resources_read, writes as resources_written}
-use Rattle.xdp_maps.specs.Laws.{IsDecided}
-use Rattle.xdp_maps.proofs.ByteLaws.{IsBytes-little_bytes}
-use Rattle.xdp_maps.proofs.SoundLaws.{operations_keep_sound}
-use Rattle.xdp_maps.proofs.ReadLaws.{reads_decide}
-use Rattle.cell_core.specs.xdp_machine.State.{PacketIn}
-use Rattle.cell_core.specs.xdp_machine.Memory.{bytes_in}
-use Rattle.cell_core.specs.xdp_machine.Touched.{Touched, nothing, both, touched_by, counted}
-use Rattle.cell_core.specs.declared.operator.Operator.{Operator}
-use Rattle.cell_core.specs.declared.operator.Operator.TheVariants.{Found, Answer}
-use Rattle.cell_core.specs.declared.site.Act.{Act}
-use Rattle.cell_core.specs.declared.site.Act.TheVariants as act
-use Rattle.cell_core.specs.Acts.{finds_key, reads}
-use Rattle.cell_core.specs.Cells.{cell_at, site_in, bits_from, bit, on}
-use Rattle.cell_core.specs.Sites.{SiteView, ProgramView, site_at, records, spelled, bytes_of, change_of, operation_with, operation_on, applied, after, found_in, loaded, number_or, answer_as, answer, read_on, touched, IsCellRun}
-use Rattle.cell_core.specs.Formed.{IsInside, HasWords, FitsMap, AllFit}
-use Rattle.cell_core.proofs.SpelledLaws.{spelled_length}
+use Rattle.hazard_core.specs.xdp_maps.declared.decl.MapDecl.{MapDecl}
+use Rattle.hazard_core.specs.xdp_maps.declared.decl.MapKind.{MapKind}
+use Rattle.hazard_core.specs.xdp_maps.declared.decl.MapKind.TheVariants.{Hash, Array}
+use Rattle.hazard_core.specs.xdp_maps.Contents.{Contents, IsBytes}
+use Rattle.hazard_core.specs.xdp_maps.State.{MapState, IsSound, decl_at, contents_at, no_decl}
+use Rattle.hazard_core.specs.xdp_maps.Calls.{lookup_of, number_before}
+use Rattle.hazard_core.specs.xdp_maps.declared.change.Change.{Change}
+use Rattle.hazard_core.specs.xdp_maps.Operations as map
+use Rattle.hazard_core.specs.xdp_maps.Operations.{Operation, key_in, Fits, operated}
+use Rattle.hazard_core.specs.xdp_maps.Touched.{Resource, Present, Size, SameOf, AnswersSame, reads_as, reads as resources_read, writes as resources_written}
+use Rattle.hazard_core.specs.xdp_maps.Laws.{IsDecided}
+use Rattle.hazard_core.proofs.xdp_maps_laws.ByteLaws.{IsBytes-little_bytes}
+use Rattle.hazard_core.proofs.xdp_maps_laws.SoundLaws.{operations_keep_sound}
+use Rattle.hazard_core.proofs.xdp_maps_laws.ReadLaws.{reads_decide}
+use Rattle.hazard_core.specs.xdp_machine.State.{PacketIn}
+use Rattle.hazard_core.specs.xdp_machine.Memory.{bytes_in}
+use Rattle.hazard_core.specs.xdp_machine.Touched.{Touched, nothing, both, touched_by, counted}
+use Rattle.hazard_core.specs.cell_core.declared.operator.Operator.{Operator}
+use Rattle.hazard_core.specs.cell_core.declared.operator.Operator.TheVariants.{Found, Answer}
+use Rattle.hazard_core.specs.cell_core.declared.site.Act.{Act}
+use Rattle.hazard_core.specs.cell_core.declared.site.Act.TheVariants as act
+use Rattle.hazard_core.specs.cell_core.Acts.{finds_key, reads}
+use Rattle.hazard_core.specs.cell_core.Cells.{cell_at, site_in, bits_from, bit, on}
+use Rattle.hazard_core.specs.cell_core.Sites.{SiteView, ProgramView, site_at, records, spelled, bytes_of, change_of, operation_with, operation_on, applied, after, found_in, loaded, number_or, answer_as, answer, read_on, touched, IsCellRun}
+use Rattle.hazard_core.specs.cell_core.Formed.{IsInside, HasWords, FitsMap, AllFit}
+use Rattle.hazard_core.proofs.cell_core_laws.SpelledLaws.{spelled_length}
 use Rattle.pipe_core.proofs.Resources.{operated_same}
 
 -- ---- operations of sites fit their maps

@@ -1,11 +1,11 @@
 -- A packet that has taken in all rows is a cell run.
 use Rattle.std.proofs.Common.{◌≡◌, ℕ, suc, ◌<◌, Bool, true, false, Some, length, refl, sym, ap, ◌∙◌, subst, not}
 use Rattle.std.specs.Prelude.{take}
-use Rattle.cell_core.specs.xdp_machine.State.{PacketIn}
-use Rattle.cell_core.specs.declared.operator.Operator.{Operator}
-use Rattle.cell_core.specs.declared.operator.Operator.TheVariants.{Found, Answer}
-use Rattle.cell_core.specs.Cells.{Solves_as, cell_at, site_in, is_read, bits_from, bit}
-use Rattle.cell_core.specs.Sites.{IsCellRun, site_at, after, read_on}
+use Rattle.hazard_core.specs.xdp_machine.State.{PacketIn}
+use Rattle.hazard_core.specs.cell_core.declared.operator.Operator.{Operator}
+use Rattle.hazard_core.specs.cell_core.declared.operator.Operator.TheVariants.{Found, Answer}
+use Rattle.hazard_core.specs.cell_core.Cells.{Solves_as, cell_at, site_in, is_read, bits_from, bit}
+use Rattle.hazard_core.specs.cell_core.Sites.{IsCellRun, site_at, after, read_on}
 use Rattle.hazard_core.specs.Tables.{TableState, maps_of}
 use Rattle.hazard_core.specs.Tabled.{AreTables}
 use Rattle.hazard_core.specs.Held.{held_value, guard_on, is_null}

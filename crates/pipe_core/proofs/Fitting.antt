@@ -2,9 +2,9 @@
 use Rattle.std.proofs.Common.{◌≡◌, ◌∙◌, ℕ, zero, suc, ◌+◌, ◌<◌, ◌^◌, Bool, true, false, List, [], ◌∷◌, length, get_or, set, replicate, sym, ap, subst, arith, length-set, ◌==◌, if◌then◌else◌}
 use Rattle.std.proofs.lemmas.Nat.{mod_below, pow_pos}
 use Rattle.std.proofs.lemmas.List.{length-replicate}
-use Rattle.cell_core.specs.Cells.{CellView, no_cell, cell_at, bits_from}
-use Rattle.cell_core.specs.Sites.{ProgramView}
-use Rattle.cell_core.specs.xdp_machine.State.{PacketIn}
+use Rattle.hazard_core.specs.cell_core.Cells.{CellView, no_cell, cell_at, bits_from}
+use Rattle.hazard_core.specs.cell_core.Sites.{ProgramView}
+use Rattle.hazard_core.specs.xdp_machine.State.{PacketIn}
 use Rattle.hazard_core.specs.Tables.{TableState}
 use Rattle.hazard_core.specs.Held.{Held, held_value, with_cell}
 use Rattle.hazard_core.specs.declared.pointer.Pointer.{Pointer}

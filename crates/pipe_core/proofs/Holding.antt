@@ -6,17 +6,17 @@ use Rattle.std.specs.Int.{w64, cast_unsigned}
 use Rattle.std.proofs.Math.Nat.{zero-mod, zero-div}
 use Rattle.std.proofs.lemmas.Bool.{and_parts}
 use Rattle.std.proofs.lemmas.List.Sums.{passes_at_first}
-use Rattle.xdp_maps.specs.declared.decl.MapDecl.{MapDecl}
-use Rattle.xdp_maps.specs.declared.decl.MapKind.{MapKind}
-use Rattle.xdp_maps.specs.declared.decl.MapKind.TheVariants.{Hash, Array}
-use Rattle.xdp_maps.specs.declared.errno.TheConstants.{ENOENT, E2BIG, EEXIST, EINVAL}
-use Rattle.xdp_maps.specs.Calls.{number_of}
-use Rattle.cell_core.specs.xdp_machine.State.{PacketIn}
-use Rattle.cell_core.specs.declared.operator.Operator.TheVariants.{Found, Answer}
-use Rattle.cell_core.specs.declared.site.Act.{Act}
-use Rattle.cell_core.specs.declared.site.Act.TheVariants as act
-use Rattle.cell_core.specs.Cells.{cell_at, no_cell, site_in, bits_from, bit, on}
-use Rattle.cell_core.specs.Sites.{ProgramView, site_at, operation_with}
+use Rattle.hazard_core.specs.xdp_maps.declared.decl.MapDecl.{MapDecl}
+use Rattle.hazard_core.specs.xdp_maps.declared.decl.MapKind.{MapKind}
+use Rattle.hazard_core.specs.xdp_maps.declared.decl.MapKind.TheVariants.{Hash, Array}
+use Rattle.hazard_core.specs.xdp_maps.declared.errno.TheConstants.{ENOENT, E2BIG, EEXIST, EINVAL}
+use Rattle.hazard_core.specs.xdp_maps.Calls.{number_of}
+use Rattle.hazard_core.specs.xdp_machine.State.{PacketIn}
+use Rattle.hazard_core.specs.cell_core.declared.operator.Operator.TheVariants.{Found, Answer}
+use Rattle.hazard_core.specs.cell_core.declared.site.Act.{Act}
+use Rattle.hazard_core.specs.cell_core.declared.site.Act.TheVariants as act
+use Rattle.hazard_core.specs.cell_core.Cells.{cell_at, no_cell, site_in, bits_from, bit, on}
+use Rattle.hazard_core.specs.cell_core.Sites.{ProgramView, site_at, operation_with}
 use Rattle.hazard_core.specs.Tables.{TableState, decl_of}
 use Rattle.hazard_core.specs.Held.{Held, is_null, held_value, pointer_in, guard_on, is_found_of, is_answer_of, found_cell, answer_cell, writes_as, pending}
 use Rattle.hazard_core.specs.Overlay.{found_pointer, update_answer, delete_answer, answer_as, answer_over}

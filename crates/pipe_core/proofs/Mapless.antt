@@ -1,16 +1,16 @@
 -- Programs without operations on maps.
 use Rattle.std.proofs.Common.{◌≡◌, ℕ, ◌+◌, ◌<◌, Bool, true, false, List, [], ◌∷◌, Some, length, refl, sym, ap, subst, arith}
-use Rattle.xdp_maps.specs.State.{MapState}
-use Rattle.xdp_maps.specs.declared.decl.MapDecl.{MapDecl}
-use Rattle.cell_core.specs.xdp_machine.State.{PacketIn}
-use Rattle.cell_core.specs.declared.operator.Operator.{Operator}
-use Rattle.cell_core.specs.declared.operator.Operator.TheVariants.{Found, Answer}
-use Rattle.cell_core.specs.Cells.{CellView, cell_at, is_read, site_in, Solves_as, value}
-use Rattle.cell_core.specs.Rows.{RowsRise}
-use Rattle.cell_core.specs.Sites.{ProgramView, IsCellRun, after}
-use Rattle.cell_core.specs.Formed.{AreSited}
+use Rattle.hazard_core.specs.xdp_maps.State.{MapState}
+use Rattle.hazard_core.specs.xdp_maps.declared.decl.MapDecl.{MapDecl}
+use Rattle.hazard_core.specs.xdp_machine.State.{PacketIn}
+use Rattle.hazard_core.specs.cell_core.declared.operator.Operator.{Operator}
+use Rattle.hazard_core.specs.cell_core.declared.operator.Operator.TheVariants.{Found, Answer}
+use Rattle.hazard_core.specs.cell_core.Cells.{CellView, cell_at, is_read, site_in, Solves_as, value}
+use Rattle.hazard_core.specs.cell_core.Rows.{RowsRise}
+use Rattle.hazard_core.specs.cell_core.Sites.{ProgramView, IsCellRun, after}
+use Rattle.hazard_core.specs.cell_core.Formed.{AreSited}
 use Rattle.hazard_core.specs.Held.{Held, held_value}
-use Rattle.beat_core.specs.Ports.{Arrival}
+use Rattle.realization.specs.beat_core.Ports.{Arrival}
 use Rattle.pipe_core.specs.Machine.{Build, packet_of}
 use Rattle.pipe_core.specs.History.{run, begin}
 use Rattle.pipe_core.specs.Computed.{Computes, LeftCompute, IsPlanned}

@@ -4,17 +4,17 @@ use Rattle.std.specs.Prelude.{if◌then◌else◌, nat_le, ◌&&◌, ◌||◌, r
 use Rattle.std.specs.List.{list_any}
 use Rattle.std.proofs.lemmas.Bool.Decides.{nat_tests}
 use Rattle.std.proofs.lemmas.Bool.{le-leb}
-use Rattle.xdp_maps.specs.State.{MapState}
-use Rattle.xdp_maps.specs.declared.decl.MapDecl.{MapDecl}
-use Rattle.cell_core.specs.Cells.{on}
-use Rattle.cell_core.specs.Sites.{SiteView, site_at}
+use Rattle.hazard_core.specs.xdp_maps.State.{MapState}
+use Rattle.hazard_core.specs.xdp_maps.declared.decl.MapDecl.{MapDecl}
+use Rattle.hazard_core.specs.cell_core.Cells.{on}
+use Rattle.hazard_core.specs.cell_core.Sites.{SiteView, site_at}
 use Rattle.hazard_core.specs.Tables.{TableState}
 use Rattle.hazard_core.specs.Held.{Held, held_value, guard_on}
 use Rattle.hazard_core.specs.Rows.{with_row}
 use Rattle.hazard_core.specs.declared.change.Change.{Change}
 use Rattle.hazard_core.specs.Marks.{touches, known_off, has_read, is_marked}
 use Rattle.hazard_core.specs.Commits.{committed, change_by, host_written, host_change}
-use Rattle.beat_core.specs.Ports.{Arrival}
+use Rattle.realization.specs.beat_core.Ports.{Arrival}
 use Rattle.pipe_core.specs.Machine.{Packet, State, Input, Build, Turn, Commits, Writes, Moves, packet_of, place_at, marked_at, injected, entered, struck, some_send, worked, work, gathered, beat_over, taken_beat, clock}
 use Rattle.pipe_core.specs.History.{Trace, next, begin, IsInOrder}
 use Rattle.pipe_core.specs.Placed.{Placed}

@@ -7,22 +7,22 @@ use Rattle.std.proofs.lemmas.Bool.{and_parts}
 use Rattle.std.proofs.lemmas.Bool.Decides.{nat_tests, Decides-eqb}
 use Rattle.std.proofs.lemmas.List.Sums.{passes_at_first}
 use Rattle.std.proofs.lemmas.Slice.Eq.{bytes_eq-Decides}
-use Rattle.xdp_maps.specs.declared.decl.MapDecl.{MapDecl}
-use Rattle.xdp_maps.specs.declared.decl.MapKind.{MapKind}
-use Rattle.xdp_maps.specs.declared.decl.MapKind.TheVariants.{Hash, Array}
-use Rattle.xdp_maps.specs.Contents.{Contents}
-use Rattle.xdp_maps.specs.State.{MapState, decl_at, contents_at, no_decl}
-use Rattle.xdp_maps.specs.Calls.{lookup_of}
-use Rattle.xdp_maps.specs.Operations as map
-use Rattle.xdp_maps.specs.Operations.{Operation, key_in}
-use Rattle.xdp_maps.specs.Touched.{Resource, Present, Content, Size, update_reads, reads_as}
-use Rattle.cell_core.specs.declared.site.Act.{Act}
-use Rattle.cell_core.specs.declared.site.Act.TheVariants as act
-use Rattle.cell_core.specs.Acts.{finds_key, is_access, asks}
-use Rattle.cell_core.specs.Cells.{bit}
-use Rattle.cell_core.specs.Sites.{SiteView, ProgramView, site_at, records, bytes_of, change_of, operation_with, after, applied, found_in}
-use Rattle.cell_core.specs.Formed.{AllFit}
-use Rattle.cell_core.specs.Rows.{numbers}
+use Rattle.hazard_core.specs.xdp_maps.declared.decl.MapDecl.{MapDecl}
+use Rattle.hazard_core.specs.xdp_maps.declared.decl.MapKind.{MapKind}
+use Rattle.hazard_core.specs.xdp_maps.declared.decl.MapKind.TheVariants.{Hash, Array}
+use Rattle.hazard_core.specs.xdp_maps.Contents.{Contents}
+use Rattle.hazard_core.specs.xdp_maps.State.{MapState, decl_at, contents_at, no_decl}
+use Rattle.hazard_core.specs.xdp_maps.Calls.{lookup_of}
+use Rattle.hazard_core.specs.xdp_maps.Operations as map
+use Rattle.hazard_core.specs.xdp_maps.Operations.{Operation, key_in}
+use Rattle.hazard_core.specs.xdp_maps.Touched.{Resource, Present, Content, Size, update_reads, reads_as}
+use Rattle.hazard_core.specs.cell_core.declared.site.Act.{Act}
+use Rattle.hazard_core.specs.cell_core.declared.site.Act.TheVariants as act
+use Rattle.hazard_core.specs.cell_core.Acts.{finds_key, is_access, asks}
+use Rattle.hazard_core.specs.cell_core.Cells.{bit}
+use Rattle.hazard_core.specs.cell_core.Sites.{SiteView, ProgramView, site_at, records, bytes_of, change_of, operation_with, after, applied, found_in}
+use Rattle.hazard_core.specs.cell_core.Formed.{AllFit}
+use Rattle.hazard_core.specs.cell_core.Rows.{numbers}
 use Rattle.hazard_core.specs.declared.slot.Slot.{Slot}
 use Rattle.hazard_core.specs.declared.change.Change.{Change}
 use Rattle.hazard_core.specs.declared.pointer.Pointer.{Pointer}

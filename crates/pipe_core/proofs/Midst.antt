@@ -3,18 +3,18 @@ use Rattle.std.proofs.Common.{◌≡◌, ℕ, zero, suc, ◌^◌, ◌<◌, ◌�
 use Rattle.std.specs.Prelude.{if◌then◌else◌, ◌&&◌, Contains}
 use Rattle.std.proofs.lemmas.Nat.{pow_pos}
 use Rattle.std.proofs.lemmas.List.Elements.{Contains-append_left, Contains-append_right}
-use Rattle.xdp_maps.specs.declared.decl.MapDecl.{MapDecl}
-use Rattle.xdp_maps.specs.State.{MapState, IsSound}
-use Rattle.xdp_maps.specs.Operations.{operated}
-use Rattle.xdp_maps.specs.Touched.{Resource, Present, Content, Size, SameOf}
-use Rattle.xdp_maps.proofs.WriteLaws.{keeps_unwritten}
-use Rattle.cell_core.specs.xdp_machine.State.{PacketIn}
-use Rattle.cell_core.specs.xdp_machine.Touched.{Touched, nothing, touched_by}
-use Rattle.cell_core.specs.Cells.{CellView, cell_at, is_read, Solves_as, on}
-use Rattle.cell_core.specs.Sites.{SiteView, ProgramView, records, operation_on, applied, after, touched, IsValue, IsCellRun}
-use Rattle.cell_core.specs.Formed.{AllFit, AreSited, AreFormed}
-use Rattle.cell_core.specs.SiteLaws.{ValuesKeep}
-use Rattle.beat_core.specs.Ports.{Arrival}
+use Rattle.hazard_core.specs.xdp_maps.declared.decl.MapDecl.{MapDecl}
+use Rattle.hazard_core.specs.xdp_maps.State.{MapState, IsSound}
+use Rattle.hazard_core.specs.xdp_maps.Operations.{operated}
+use Rattle.hazard_core.specs.xdp_maps.Touched.{Resource, Present, Content, Size, SameOf}
+use Rattle.hazard_core.proofs.xdp_maps_laws.WriteLaws.{keeps_unwritten}
+use Rattle.hazard_core.specs.xdp_machine.State.{PacketIn}
+use Rattle.hazard_core.specs.xdp_machine.Touched.{Touched, nothing, touched_by}
+use Rattle.hazard_core.specs.cell_core.Cells.{CellView, cell_at, is_read, Solves_as, on}
+use Rattle.hazard_core.specs.cell_core.Sites.{SiteView, ProgramView, records, operation_on, applied, after, touched, IsValue, IsCellRun}
+use Rattle.hazard_core.specs.cell_core.Formed.{AllFit, AreSited, AreFormed}
+use Rattle.hazard_core.specs.cell_core.SiteLaws.{ValuesKeep}
+use Rattle.realization.specs.beat_core.Ports.{Arrival}
 use Rattle.pipe_core.specs.Machine.{Build, packet_of}
 use Rattle.pipe_core.specs.Agreement.{ReadsArePlanned}
 use Rattle.pipe_core.specs.Apart.{AllRun, AreOthers, ReadOthers, AreApart, RunsElsewhere, RunsComplete, Leads, RunsInTurnToo, InTurnToo}

@@ -3,11 +3,11 @@ use Rattle.std.proofs.Common.{◌≡◌, ◌∙◌, ℕ, zero, suc, ◌+◌, ◌
 use Rattle.std.proofs.lemmas.List.{map-set, map-append, length-map, length-append}
 use Rattle.std.proofs.lemmas.Grind.{take-set_at, replicate_next}
 use Rattle.std.proofs.lemmas.List.Elements.{All-get_or, All-set, All-push}
-use Rattle.cell_core.specs.Cells.{bit}
-use Rattle.cell_core.specs.Sites.{ProgramView}
+use Rattle.hazard_core.specs.cell_core.Cells.{bit}
+use Rattle.hazard_core.specs.cell_core.Sites.{ProgramView}
 use Rattle.hazard_core.specs.Tables.{TableState}
 use Rattle.hazard_core.specs.declared.change.Change.{Change}
-use Rattle.beat_core.specs.Ports.{Arrival}
+use Rattle.realization.specs.beat_core.Ports.{Arrival}
 use Rattle.pipe_core.specs.declared.places.Place.{Place}
 use Rattle.pipe_core.specs.Machine.{Packet, Build, no_frame, inside, sends, some_send, swept, enters, moved, struck, struck_below}
 use Rattle.pipe_core.specs.Planned.{IsPacketOf}

@@ -1,7 +1,7 @@
 -- Loops over the sites of a packet, by their numbers.
 use Rattle.std.proofs.Common.{◌≡◌, ◌∙◌, ℕ, zero, suc, ◌+◌, ◌-◌, ◌<◌, ◌≤◌, Bool, true, false, cond, ◌||◌, Some, None, List, [], ◌∷◌, ◌++◌, refl, sym, ap, arith, length, get_or, set, drop, map as map_list, find, drop-cons}
 use Rattle.std.specs.List.{list_any}
-use Rattle.cell_core.specs.Rows.{numbers}
+use Rattle.hazard_core.specs.cell_core.Rows.{numbers}
 use Rattle.hazard_core.proofs.PrefixLaws.{map_more}
 
 left : (j n : ℕ) → j < n → numbers j (n - j) ≡ j ∷ numbers (j + 1) (n - (j + 1))

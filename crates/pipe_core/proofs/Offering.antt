@@ -2,11 +2,11 @@
 use Rattle.std.proofs.Common.{◌≡◌, ℕ, ◌+◌, ◌*◌, ◌≤◌, inl, inr, Bool, true, false, List, [], ◌∷◌, ◌++◌, Option, Some, None, length, drop, refl, sym, ap, ◌∙◌, subst, arith, length-append}
 use Rattle.std.specs.Prelude.{if◌then◌else◌, is_some}
 use Rattle.std.proofs.lemmas.Bool.{cases_lt}
-use Rattle.beat_core.specs.declared.beat.Beat.{Beat}
-use Rattle.beat_core.specs.declared.answer.Answer.{Answer}
-use Rattle.beat_core.specs.Clocks.{AreOffers}
-use Rattle.beat_core.specs.Ports.{Arrival}
-use Rattle.cell_core.specs.Sites.{ProgramView}
+use Rattle.realization.specs.beat_core.declared.beat.Beat.{Beat}
+use Rattle.realization.specs.beat_core.declared.answer.Answer.{Answer}
+use Rattle.realization.specs.beat_core.Clocks.{AreOffers}
+use Rattle.realization.specs.beat_core.Ports.{Arrival}
+use Rattle.hazard_core.specs.cell_core.Sites.{ProgramView}
 use Rattle.hazard_core.specs.Held.{Held, held_value}
 use Rattle.pipe_core.specs.Machine.{Packet, State, Input, Build, Turn, Commits, Writes, Moves, some_send, swept, turn_of, worked, work, gathered, beat_over, beat_at, taken_beat, scattered, clock}
 use Rattle.pipe_core.specs.History.{Trace, came_in, left_in, next, answers_of, IsInOrder}

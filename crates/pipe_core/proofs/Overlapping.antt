@@ -3,9 +3,9 @@ use Rattle.std.proofs.Common.{◌≡◌, ℕ, zero, suc, inl, inr, List, [], ◌
 use Rattle.std.specs.Prelude.{replicate}
 use Rattle.std.specs.List.{AllByRecursion}
 use Rattle.std.proofs.lemmas.Bool.{cases_lt}
-use Rattle.xdp_maps.specs.State.{MapState, IsSound}
-use Rattle.cell_core.specs.Rows.{RowsRise}
-use Rattle.cell_core.specs.Sites.{ProgramView}
+use Rattle.hazard_core.specs.xdp_maps.State.{MapState, IsSound}
+use Rattle.hazard_core.specs.cell_core.Rows.{RowsRise}
+use Rattle.hazard_core.specs.cell_core.Sites.{ProgramView}
 use Rattle.hazard_core.specs.Tables.{TableState, tables_of, maps_of}
 use Rattle.hazard_core.specs.Tabled.{LoadsTables}
 use Rattle.hazard_core.specs.Standing.{TablesStand}

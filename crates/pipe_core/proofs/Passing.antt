@@ -4,16 +4,16 @@ use Rattle.std.specs.Prelude.{if◌then◌else◌, nat_lt, nat_le, ◌&&◌, ◌
 use Rattle.std.specs.List.{AllByRecursion}
 use Rattle.std.specs.Option.{option_map}
 use Rattle.std.proofs.lemmas.Bool.Decides.{nat_tests}
-use Rattle.xdp_maps.specs.State.{MapState, decl_at}
-use Rattle.xdp_maps.specs.Operations.{operated}
-use Rattle.cell_core.specs.Cells.{on}
-use Rattle.cell_core.specs.Sites.{SiteView, ProgramView, site_at, records, operation_with, operation_on, applied, after}
-use Rattle.cell_core.specs.Rows.{taken_by}
+use Rattle.hazard_core.specs.xdp_maps.State.{MapState, decl_at}
+use Rattle.hazard_core.specs.xdp_maps.Operations.{operated}
+use Rattle.hazard_core.specs.cell_core.Cells.{on}
+use Rattle.hazard_core.specs.cell_core.Sites.{SiteView, ProgramView, site_at, records, operation_with, operation_on, applied, after}
+use Rattle.hazard_core.specs.cell_core.Rows.{taken_by}
 use Rattle.hazard_core.specs.Tables.{TableState, maps_of}
 use Rattle.hazard_core.specs.Held.{Held, held_value}
 use Rattle.hazard_core.specs.Rows.{with_row}
 use Rattle.hazard_core.specs.declared.change.Change.{Change}
-use Rattle.beat_core.specs.Ports.{Arrival}
+use Rattle.realization.specs.beat_core.Ports.{Arrival}
 use Rattle.pipe_core.specs.Machine.{Packet, Build, no_frame, packet_of, inside, sends, some_send, swept, is_due, entered, struck, struck_below, enters, moved}
 use Rattle.pipe_core.specs.Pipeable.{IsPipeable}
 use Rattle.pipe_core.specs.InTurn.{passed_maps, AreChained}

@@ -4,14 +4,14 @@ use Rattle.std.specs.Prelude.{if◌then◌else◌, ◌||◌, ◌&&◌, replicate
 use Rattle.std.specs.Option.{option_map}
 use Rattle.std.proofs.lemmas.Bool.Decides.{nat_tests}
 use Rattle.std.proofs.lemmas.List.{length-replicate}
-use Rattle.beat_core.specs.declared.beat.Beat.{Beat}
-use Rattle.beat_core.specs.declared.answer.Answer.{Answer}
-use Rattle.beat_core.specs.Ports.{Arrival}
-use Rattle.xdp_maps.specs.State.{MapState}
-use Rattle.xdp_maps.specs.declared.decl.MapDecl.{MapDecl}
-use Rattle.cell_core.specs.Cells.{bit}
-use Rattle.cell_core.specs.Formed.{AllFit}
-use Rattle.cell_core.specs.Sites.{ProgramView}
+use Rattle.realization.specs.beat_core.declared.beat.Beat.{Beat}
+use Rattle.realization.specs.beat_core.declared.answer.Answer.{Answer}
+use Rattle.realization.specs.beat_core.Ports.{Arrival}
+use Rattle.hazard_core.specs.xdp_maps.State.{MapState}
+use Rattle.hazard_core.specs.xdp_maps.declared.decl.MapDecl.{MapDecl}
+use Rattle.hazard_core.specs.cell_core.Cells.{bit}
+use Rattle.hazard_core.specs.cell_core.Formed.{AllFit}
+use Rattle.hazard_core.specs.cell_core.Sites.{ProgramView}
 use Rattle.hazard_core.specs.Held.{Held}
 use Rattle.hazard_core.specs.Tables.{TableState, tables_of}
 use Rattle.hazard_core.specs.Marks.{is_marked}

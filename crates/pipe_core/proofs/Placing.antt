@@ -2,11 +2,11 @@
 use Rattle.std.proofs.Common.{◌≡◌, ℕ, zero, suc, ◌+◌, ◌≤◌, Bool, true, false, List, [], ◌∷◌, ◌++◌, Option, Some, None, length, get_or, drop, refl, sym, ap, ◌∙◌, subst, arith, not}
 use Rattle.std.specs.Prelude.{if◌then◌else◌, nat_lt, ◌&&◌, ◌||◌, is_some}
 use Rattle.std.specs.Option.{option_map}
-use Rattle.cell_core.specs.Cells.{bit}
+use Rattle.hazard_core.specs.cell_core.Cells.{bit}
 use Rattle.hazard_core.specs.Tables.{TableState}
 use Rattle.hazard_core.specs.declared.change.Change.{Change}
 use Rattle.hazard_core.specs.Commits.{change_by, host_change}
-use Rattle.beat_core.specs.Ports.{Arrival}
+use Rattle.realization.specs.beat_core.Ports.{Arrival}
 use Rattle.pipe_core.specs.Machine.{Packet, State, Input, Build, Turn, Commits, Writes, Moves, no_frame, place_at, inside, sends, swept, some_send, entered, struck, struck_below, enters, moved, newcomer, injected, worked, work, gathered, scattered, beat_over, taken_beat, clock}
 use Rattle.pipe_core.specs.History.{Trace, came_in, next, IsInOrder}
 use Rattle.pipe_core.specs.Placed.{Placed}

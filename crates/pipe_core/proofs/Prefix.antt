@@ -5,13 +5,13 @@ use Rattle.std.proofs.lemmas.Bool.{cases_lt}
 use Rattle.std.proofs.lemmas.Bool.Decides.{nat_tests}
 use Rattle.std.proofs.lemmas.Nat.{pow_pos}
 use Rattle.std.proofs.Math.Nat.{mod-lt}
-use Rattle.xdp_maps.specs.State.{MapState}
-use Rattle.cell_core.specs.xdp_machine.State.{PacketIn}
-use Rattle.cell_core.specs.declared.operator.Operator.{Operator}
-use Rattle.cell_core.specs.declared.operator.Operator.TheVariants.{Found, Answer}
-use Rattle.cell_core.specs.Cells.{CellView, cell_at, site_in, is_read, bits_from, on}
-use Rattle.cell_core.specs.Sites.{SiteView, IsCellRun, site_at}
-use Rattle.cell_core.specs.Rows.{RowsRise}
+use Rattle.hazard_core.specs.xdp_maps.State.{MapState}
+use Rattle.hazard_core.specs.xdp_machine.State.{PacketIn}
+use Rattle.hazard_core.specs.cell_core.declared.operator.Operator.{Operator}
+use Rattle.hazard_core.specs.cell_core.declared.operator.Operator.TheVariants.{Found, Answer}
+use Rattle.hazard_core.specs.cell_core.Cells.{CellView, cell_at, site_in, is_read, bits_from, on}
+use Rattle.hazard_core.specs.cell_core.Sites.{SiteView, IsCellRun, site_at}
+use Rattle.hazard_core.specs.cell_core.Rows.{RowsRise}
 use Rattle.hazard_core.specs.Tables.{TableState, maps_of}
 use Rattle.hazard_core.specs.Tabled.{AreTables, LoadsTables}
 use Rattle.hazard_core.specs.Standing.{TablesStand}

@@ -6,15 +6,15 @@ use Rattle.std.proofs.lemmas.Bool.{lt-ltb}
 use Rattle.std.proofs.lemmas.Bool.Decides.{nat_tests}
 use Rattle.std.proofs.lemmas.List.Elements.{All-nil, All-cons, All-append, All-take, All-drop, All-filter, filter_passes}
 use Rattle.std.proofs.lemmas.List.Sums.{passes_at_first}
-use Rattle.xdp_maps.specs.declared.decl.MapDecl.{MapDecl}
-use Rattle.cell_core.specs.xdp_machine.State.{PacketIn}
-use Rattle.cell_core.specs.declared.operator.Operator.{Operator}
-use Rattle.cell_core.specs.declared.operator.Operator.TheVariants.{Found, Answer}
-use Rattle.cell_core.specs.declared.site.Act.{Act}
-use Rattle.cell_core.specs.declared.site.Act.TheVariants as act
-use Rattle.cell_core.specs.Cells.{CellView, cell_at, no_cell, site_in, bit}
-use Rattle.cell_core.specs.Sites.{ProgramView, site_at, records}
-use Rattle.cell_core.specs.Rows.{RowsRise, numbers, taken_by}
+use Rattle.hazard_core.specs.xdp_maps.declared.decl.MapDecl.{MapDecl}
+use Rattle.hazard_core.specs.xdp_machine.State.{PacketIn}
+use Rattle.hazard_core.specs.cell_core.declared.operator.Operator.{Operator}
+use Rattle.hazard_core.specs.cell_core.declared.operator.Operator.TheVariants.{Found, Answer}
+use Rattle.hazard_core.specs.cell_core.declared.site.Act.{Act}
+use Rattle.hazard_core.specs.cell_core.declared.site.Act.TheVariants as act
+use Rattle.hazard_core.specs.cell_core.Cells.{CellView, cell_at, no_cell, site_in, bit}
+use Rattle.hazard_core.specs.cell_core.Sites.{ProgramView, site_at, records}
+use Rattle.hazard_core.specs.cell_core.Rows.{RowsRise, numbers, taken_by}
 use Rattle.hazard_core.specs.Tables.{TableState}
 use Rattle.hazard_core.specs.Held.{Held, is_null, is_found_of, is_answer_of, found_cell, answer_cell, read_cells, parts, is_pending, pending}
 use Rattle.hazard_core.specs.Overlay.{found_pointer, answer_over}

@@ -6,12 +6,12 @@ use Rattle.std.proofs.lemmas.Bool.{cases_lt, and_parts}
 use Rattle.std.proofs.lemmas.Bool.Decides.{nat_tests}
 use Rattle.std.proofs.lemmas.List.Elements.{Contains-append_left, Contains-append_right}
 use Rattle.std.proofs.lemmas.List.Sums.{passes_at_first}
-use Rattle.xdp_maps.specs.State.{MapState}
-use Rattle.xdp_maps.specs.Touched.{Resource, reads as resources_read}
-use Rattle.cell_core.specs.xdp_machine.Touched.{Touched, nothing, touched_by}
-use Rattle.cell_core.specs.Cells.{cell_at, no_cell, site_in, on}
-use Rattle.cell_core.specs.Rows.{numbers}
-use Rattle.cell_core.specs.Sites.{SiteView, site_at, operation_on, applied, after, touched}
+use Rattle.hazard_core.specs.xdp_maps.State.{MapState}
+use Rattle.hazard_core.specs.xdp_maps.Touched.{Resource, reads as resources_read}
+use Rattle.hazard_core.specs.xdp_machine.Touched.{Touched, nothing, touched_by}
+use Rattle.hazard_core.specs.cell_core.Cells.{cell_at, no_cell, site_in, on}
+use Rattle.hazard_core.specs.cell_core.Rows.{numbers}
+use Rattle.hazard_core.specs.cell_core.Sites.{SiteView, site_at, operation_on, applied, after, touched}
 use Rattle.hazard_core.specs.Held.{is_found_of, is_answer_of, found_cell, answer_cell, read_cells}
 use Rattle.hazard_core.specs.Marks.{has_read}
 use Rattle.pipe_core.specs.Machine.{Build}

@@ -11,16 +11,16 @@ use Rattle.std.specs.FinMap as map
 use Rattle.std.specs.FinMap.{get-insert, get-remove, len-insert, len-remove, slice_cmp-IsAntisymmetric, nat_cmp-IsAntisymmetric}
 use Rattle.std.proofs.lemmas.Bool.Decides.{Decides-eqb}
 use Rattle.std.proofs.lemmas.List.{get_or-set_same, get_or-set_other}
-use Rattle.xdp_maps.specs.declared.decl.MapKind.{MapKind}
-use Rattle.xdp_maps.specs.declared.decl.MapKind.TheVariants.{Hash, Array}
-use Rattle.xdp_maps.specs.declared.decl.MapDecl.{MapDecl}
-use Rattle.xdp_maps.specs.declared.errno.TheConstants.{ENOENT, E2BIG, EEXIST, EINVAL}
-use Rattle.xdp_maps.specs.Contents.{Contents, index_of}
-use Rattle.xdp_maps.specs.State.{MapState, decl_at, contents_at, with_contents, no_decl}
-use Rattle.xdp_maps.specs.Calls.{lookup_of, number_of, unless, update_error_as, update_error, update_number, updated, delete_error_as, delete_error, delete_number, deleted, patched, with_value, with_change}
-use Rattle.xdp_maps.specs.Operations.{Operation, Lookup, Load, Update, Delete, Store, Atomic, left_by, operated}
-use Rattle.xdp_maps.specs.Touched.{Resource, Present, Content, Size, SameOf, where_done, update_writes}
-use Rattle.xdp_maps.specs.Laws.{IsDecided}
+use Rattle.hazard_core.specs.xdp_maps.declared.decl.MapKind.{MapKind}
+use Rattle.hazard_core.specs.xdp_maps.declared.decl.MapKind.TheVariants.{Hash, Array}
+use Rattle.hazard_core.specs.xdp_maps.declared.decl.MapDecl.{MapDecl}
+use Rattle.hazard_core.specs.xdp_maps.declared.errno.TheConstants.{ENOENT, E2BIG, EEXIST, EINVAL}
+use Rattle.hazard_core.specs.xdp_maps.Contents.{Contents, index_of}
+use Rattle.hazard_core.specs.xdp_maps.State.{MapState, decl_at, contents_at, with_contents, no_decl}
+use Rattle.hazard_core.specs.xdp_maps.Calls.{lookup_of, number_of, unless, update_error_as, update_error, update_number, updated, delete_error_as, delete_error, delete_number, deleted, patched, with_value, with_change}
+use Rattle.hazard_core.specs.xdp_maps.Operations.{Operation, Lookup, Load, Update, Delete, Store, Atomic, left_by, operated}
+use Rattle.hazard_core.specs.xdp_maps.Touched.{Resource, Present, Content, Size, SameOf, where_done, update_writes}
+use Rattle.hazard_core.specs.xdp_maps.Laws.{IsDecided}
 
 -- ---- contents that show the same, and what is made of them
 

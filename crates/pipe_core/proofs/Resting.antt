@@ -1,6 +1,6 @@
 -- What cell runs rest on.
 use Rattle.std.proofs.Common.{sym, ◌∙◌}
-use Rattle.cell_core.specs.SiteLaws.{ValuesKeep}
+use Rattle.hazard_core.specs.cell_core.SiteLaws.{ValuesKeep}
 use Rattle.pipe_core.specs.Apart.{RunsElsewhere, RunsComplete}
 use Rattle.pipe_core.proofs.Elsewhere.{same_reads, run_elsewhere}
 use Rattle.pipe_core.proofs.Completing.{only_one, completed}

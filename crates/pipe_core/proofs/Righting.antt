@@ -5,14 +5,14 @@ use Rattle.std.specs.List.{AllByRecursion, list_any}
 use Rattle.std.specs.Option.{option_map}
 use Rattle.std.proofs.lemmas.Bool.Decides.{nat_tests}
 use Rattle.std.proofs.lemmas.List.{length-replicate}
-use Rattle.xdp_maps.specs.declared.decl.MapDecl.{MapDecl}
-use Rattle.xdp_maps.specs.State.{MapState, IsSound}
-use Rattle.cell_core.specs.declared.site.Act.{Act}
-use Rattle.cell_core.specs.declared.site.Act.TheVariants as act
-use Rattle.cell_core.specs.Acts.{asks}
-use Rattle.cell_core.specs.Sites.{site_at}
-use Rattle.cell_core.specs.Formed.{AllFit}
-use Rattle.cell_core.specs.Rows.{numbers}
+use Rattle.hazard_core.specs.xdp_maps.declared.decl.MapDecl.{MapDecl}
+use Rattle.hazard_core.specs.xdp_maps.State.{MapState, IsSound}
+use Rattle.hazard_core.specs.cell_core.declared.site.Act.{Act}
+use Rattle.hazard_core.specs.cell_core.declared.site.Act.TheVariants as act
+use Rattle.hazard_core.specs.cell_core.Acts.{asks}
+use Rattle.hazard_core.specs.cell_core.Sites.{site_at}
+use Rattle.hazard_core.specs.cell_core.Formed.{AllFit}
+use Rattle.hazard_core.specs.cell_core.Rows.{numbers}
 use Rattle.hazard_core.specs.Tables.{TableState, decl_of, tables_of}
 use Rattle.hazard_core.specs.Tabled.{AreTables, LoadsTables}
 use Rattle.hazard_core.specs.Held.{Held, is_update, writes}
@@ -21,7 +21,7 @@ use Rattle.hazard_core.specs.Marks.{known_on}
 use Rattle.hazard_core.specs.Commits.{written_slot, committed, taken_after, change_by}
 use Rattle.hazard_core.specs.Changes.{IsRightCommit}
 use Rattle.hazard_core.specs.Replay.{Replayed, replay_one, replayed, HoldsReads, IsInTurn, CommitsInTurn, SeesEarlier}
-use Rattle.beat_core.specs.Ports.{Arrival}
+use Rattle.realization.specs.beat_core.Ports.{Arrival}
 use Rattle.pipe_core.specs.Machine.{Packet, State, Input, Build, Turn, Commits, Writes, Moves, packet_of, place_at, marked_at, struck, struck_below, is_due, sends, swept, some_send, worked, work, clock}
 use Rattle.pipe_core.specs.History.{next, begin, IsInOrder}
 use Rattle.pipe_core.specs.Agreement.{UpdatesFind, Agrees}

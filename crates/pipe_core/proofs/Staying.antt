@@ -2,7 +2,7 @@
 use Rattle.std.proofs.Common.{◌≡◌, Bool, true, false, List, [], ◌∷◌, ◌++◌, Option, Some, None, drop, suc, refl, ap, ◌∙◌}
 use Rattle.std.specs.Prelude.{if◌then◌else◌}
 use Rattle.std.specs.List.{AllByRecursion}
-use Rattle.beat_core.specs.declared.beat.Beat.{Beat}
+use Rattle.realization.specs.beat_core.declared.beat.Beat.{Beat}
 use Rattle.hazard_core.specs.Standing.{TablesStand}
 use Rattle.hazard_core.specs.Tables.{maps_of}
 use Rattle.pipe_core.specs.Machine.{State, Input, Build, work, came_with, gathered, beat_over, taken_beat, scattered, clock}

@@ -4,14 +4,14 @@ use Rattle.std.specs.Prelude.{nat_lt, nat_le, ◌&&◌, ◌||◌, filter, map as
 use Rattle.std.specs.List.{position_or_len, list_any}
 use Rattle.std.proofs.lemmas.Bool.{lt-ltb, le-leb, or_parts, or_right}
 use Rattle.std.proofs.lemmas.Bool.Decides.{Decides-eqb}
-use Rattle.cell_core.specs.xdp_machine.State.{PacketIn}
-use Rattle.xdp_maps.specs.declared.decl.MapKind.TheVariants.{Hash}
-use Rattle.cell_core.specs.declared.operator.Operator.{Operator}
-use Rattle.cell_core.specs.declared.operator.Operator.TheVariants.{Found, Answer}
-use Rattle.cell_core.specs.declared.site.Act.TheVariants as act
-use Rattle.cell_core.specs.Cells.{CellView, cell_at, site_in, bits_from, bit}
-use Rattle.cell_core.specs.Sites.{ProgramView, site_at}
-use Rattle.cell_core.specs.Rows.{numbers}
+use Rattle.hazard_core.specs.xdp_machine.State.{PacketIn}
+use Rattle.hazard_core.specs.xdp_maps.declared.decl.MapKind.TheVariants.{Hash}
+use Rattle.hazard_core.specs.cell_core.declared.operator.Operator.{Operator}
+use Rattle.hazard_core.specs.cell_core.declared.operator.Operator.TheVariants.{Found, Answer}
+use Rattle.hazard_core.specs.cell_core.declared.site.Act.TheVariants as act
+use Rattle.hazard_core.specs.cell_core.Cells.{CellView, cell_at, site_in, bits_from, bit}
+use Rattle.hazard_core.specs.cell_core.Sites.{ProgramView, site_at}
+use Rattle.hazard_core.specs.cell_core.Rows.{numbers}
 use Rattle.hazard_core.specs.Tables.{TableState, decl_of}
 use Rattle.hazard_core.specs.declared.pointer.Pointer.{Pointer}
 use Rattle.hazard_core.specs.Held.{Held, is_null, is_found_of, is_answer_of, found_cell, answer_cell, pointer_in, pending, guard_on}

@@ -6,25 +6,25 @@ use Rattle.std.specs.FinMap as finite
 use Rattle.std.proofs.lemmas.Bool.{and_parts}
 use Rattle.std.proofs.lemmas.Bool.Decides.{nat_tests}
 use Rattle.std.proofs.lemmas.List.Sums.{passes_at_first}
-use Rattle.xdp_maps.specs.declared.decl.MapDecl.{MapDecl}
-use Rattle.xdp_maps.specs.declared.decl.MapKind.{MapKind}
-use Rattle.xdp_maps.specs.declared.decl.MapKind.TheVariants.{Hash, Array}
-use Rattle.xdp_maps.specs.declared.errno.TheConstants.{ENOENT}
-use Rattle.xdp_maps.specs.Contents.{Contents, index_of}
-use Rattle.xdp_maps.specs.State.{MapState, decl_at, contents_at, no_decl}
-use Rattle.xdp_maps.specs.Calls.{lookup_of, number_of, update_number, update_error_as, delete_number, delete_error_as}
-use Rattle.xdp_maps.specs.Touched.{Present, Content, Size, where_done, update_writes, writes as resources_written}
-use Rattle.cell_core.specs.xdp_machine.State.{PacketIn}
-use Rattle.cell_core.specs.xdp_machine.Touched.{Touched, nothing, touched_by, counted}
-use Rattle.cell_core.specs.declared.operator.Operator.TheVariants.{Answer}
-use Rattle.cell_core.specs.declared.site.Act.{Act}
-use Rattle.cell_core.specs.declared.site.Act.TheVariants as act
-use Rattle.cell_core.specs.Cells.{cell_at, no_cell, site_in, bits_from, bit, on}
-use Rattle.cell_core.specs.Sites.{SiteView, ProgramView, site_at, bytes_of, operation_with, operation_on, applied, after, answer_as, read_on, touched, IsCellRun}
+use Rattle.hazard_core.specs.xdp_maps.declared.decl.MapDecl.{MapDecl}
+use Rattle.hazard_core.specs.xdp_maps.declared.decl.MapKind.{MapKind}
+use Rattle.hazard_core.specs.xdp_maps.declared.decl.MapKind.TheVariants.{Hash, Array}
+use Rattle.hazard_core.specs.xdp_maps.declared.errno.TheConstants.{ENOENT}
+use Rattle.hazard_core.specs.xdp_maps.Contents.{Contents, index_of}
+use Rattle.hazard_core.specs.xdp_maps.State.{MapState, decl_at, contents_at, no_decl}
+use Rattle.hazard_core.specs.xdp_maps.Calls.{lookup_of, number_of, update_number, update_error_as, delete_number, delete_error_as}
+use Rattle.hazard_core.specs.xdp_maps.Touched.{Present, Content, Size, where_done, update_writes, writes as resources_written}
+use Rattle.hazard_core.specs.xdp_machine.State.{PacketIn}
+use Rattle.hazard_core.specs.xdp_machine.Touched.{Touched, nothing, touched_by, counted}
+use Rattle.hazard_core.specs.cell_core.declared.operator.Operator.TheVariants.{Answer}
+use Rattle.hazard_core.specs.cell_core.declared.site.Act.{Act}
+use Rattle.hazard_core.specs.cell_core.declared.site.Act.TheVariants as act
+use Rattle.hazard_core.specs.cell_core.Cells.{cell_at, no_cell, site_in, bits_from, bit, on}
+use Rattle.hazard_core.specs.cell_core.Sites.{SiteView, ProgramView, site_at, bytes_of, operation_with, operation_on, applied, after, answer_as, read_on, touched, IsCellRun}
 use Rattle.hazard_core.specs.Tables.{decl_of}
 use Rattle.hazard_core.specs.Held.{Held, held_value, guard_on, is_answer_of, answer_cell, writes_as, writes}
 use Rattle.hazard_core.specs.Replay.{says_done}
-use Rattle.beat_core.specs.Ports.{Arrival}
+use Rattle.realization.specs.beat_core.Ports.{Arrival}
 use Rattle.pipe_core.specs.Machine.{Build, packet_of}
 use Rattle.pipe_core.specs.Pipeable.{IsSuited}
 use Rattle.pipe_core.specs.Sequential.{AreCellRuns}

@@ -5,16 +5,16 @@ use Rattle.std.specs.List.{flat_map, AllByRecursion}
 use Rattle.std.proofs.lemmas.Bool.{and_parts, cases_lt}
 use Rattle.std.proofs.lemmas.List.Sums.{sum_by-cons}
 use Rattle.std.proofs.Math.Nat.{mul-le-mul_left}
-use Rattle.beat_core.specs.declared.beat.Beat.{Beat}
-use Rattle.beat_core.specs.Beats.{beats_of}
-use Rattle.beat_core.specs.Filling.{filled_up}
-use Rattle.beat_core.specs.Laws.{IsFrame}
-use Rattle.beat_core.proofs.FillingLaws.{AreOffers-filled_up}
-use Rattle.xdp_maps.specs.declared.decl.MapDecl.{MapDecl}
-use Rattle.xdp_maps.specs.State.{MapState}
-use Rattle.cell_core.specs.Cells.{bit}
-use Rattle.cell_core.specs.Sites.{SiteView, site_at, records}
-use Rattle.cell_core.specs.Rows.{record_count}
+use Rattle.realization.specs.beat_core.declared.beat.Beat.{Beat}
+use Rattle.realization.specs.beat_core.Beats.{beats_of}
+use Rattle.realization.specs.beat_core.Filling.{filled_up}
+use Rattle.realization.specs.beat_core.Laws.{IsFrame}
+use Rattle.realization.proofs.beat_core_laws.FillingLaws.{AreOffers-filled_up}
+use Rattle.hazard_core.specs.xdp_maps.declared.decl.MapDecl.{MapDecl}
+use Rattle.hazard_core.specs.xdp_maps.State.{MapState}
+use Rattle.hazard_core.specs.cell_core.Cells.{bit}
+use Rattle.hazard_core.specs.cell_core.Sites.{SiteView, site_at, records}
+use Rattle.hazard_core.specs.cell_core.Rows.{record_count}
 use Rattle.hazard_core.specs.Tables.{decl_of}
 use Rattle.hazard_core.specs.Tabled.{LoadsTables}
 use Rattle.hazard_core.specs.Held.{held_value, guard_on, answer_cell, writes_as}

@@ -4,8 +4,8 @@ use Rattle.std.specs.Prelude.{if◌then◌else◌, nat_le, ◌&&◌}
 use Rattle.std.specs.List.{find}
 use Rattle.std.proofs.lemmas.Bool.{and_parts, cases_lt, le-leb}
 use Rattle.std.proofs.lemmas.Bool.Decides.{nat_tests}
-use Rattle.beat_core.specs.declared.beat.Beat.{Beat}
-use Rattle.cell_core.specs.Rows.{numbers}
+use Rattle.realization.specs.beat_core.declared.beat.Beat.{Beat}
+use Rattle.hazard_core.specs.cell_core.Rows.{numbers}
 use Rattle.hazard_core.specs.Held.{writes}
 use Rattle.pipe_core.specs.Machine.{Packet, State, Input, Build, Turn, Commits, Writes, Moves, place_at, chosen, commits_as, commits_or_moves, turn_of, came_with, gathered, scattered, beat_over, taken_beat, work, clock}
 

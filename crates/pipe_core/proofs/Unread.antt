@@ -7,15 +7,15 @@ use Rattle.std.proofs.lemmas.Bool.Decides.{nat_tests}
 use Rattle.std.proofs.lemmas.Nat.{pow_pos}
 use Rattle.std.proofs.lemmas.List.{take-append-drop, length-take-le}
 use Rattle.std.proofs.Math.Seq.{take-suc, drop-cons, drop-drop}
-use Rattle.beat_core.specs.Ports.{Arrival}
-use Rattle.xdp_maps.specs.State.{MapState, IsSound}
-use Rattle.xdp_maps.specs.Touched.{Resource}
-use Rattle.cell_core.specs.xdp_machine.Touched.{Touched, nothing}
-use Rattle.cell_core.specs.Cells.{cell_at}
-use Rattle.cell_core.specs.Formed.{AllFit}
-use Rattle.cell_core.specs.Rows.{taken_by}
-use Rattle.cell_core.specs.SiteLaws.{ValuesKeep}
-use Rattle.cell_core.specs.Sites.{SiteView, ProgramView, site_at, IsCellRun, after, touched}
+use Rattle.realization.specs.beat_core.Ports.{Arrival}
+use Rattle.hazard_core.specs.xdp_maps.State.{MapState, IsSound}
+use Rattle.hazard_core.specs.xdp_maps.Touched.{Resource}
+use Rattle.hazard_core.specs.xdp_machine.Touched.{Touched, nothing}
+use Rattle.hazard_core.specs.cell_core.Cells.{cell_at}
+use Rattle.hazard_core.specs.cell_core.Formed.{AllFit}
+use Rattle.hazard_core.specs.cell_core.Rows.{taken_by}
+use Rattle.hazard_core.specs.cell_core.SiteLaws.{ValuesKeep}
+use Rattle.hazard_core.specs.cell_core.Sites.{SiteView, ProgramView, site_at, IsCellRun, after, touched}
 use Rattle.hazard_core.specs.Tables.{TableState, maps_of}
 use Rattle.hazard_core.specs.Held.{Held, held_value}
 use Rattle.hazard_core.specs.Replay.{Replayed, SeesEarlier, MapsInTurn}

@@ -1,11 +1,11 @@
 -- What the packets hold of the maps, over all clocks.
 use Rattle.std.specs.Prelude.{◌≡◌, ℕ, suc, ◌<◌, ◌≤◌, true, false, None, Some, length}
-use Rattle.cell_core.specs.Cells.{cell_at, site_in}
-use Rattle.cell_core.specs.Sites.{site_at}
+use Rattle.hazard_core.specs.cell_core.Cells.{cell_at, site_in}
+use Rattle.hazard_core.specs.cell_core.Sites.{site_at}
 use Rattle.hazard_core.specs.Tables.{TableState}
 use Rattle.hazard_core.specs.Held.{guard_on}
 use Rattle.hazard_core.specs.Changes.{IsRightCommit}
-use Rattle.cell_core.specs.xdp_machine.State.{PacketIn}
+use Rattle.hazard_core.specs.xdp_machine.State.{PacketIn}
 use Rattle.pipe_core.specs.Machine.{Packet, State, Input, Build, Turn, Commits, Writes, Moves, packet_of, marked_at}
 use Rattle.pipe_core.specs.History.{IsInOrder}
 use Rattle.pipe_core.specs.Agreement.{UpdatesFind, IsMade, Agrees}

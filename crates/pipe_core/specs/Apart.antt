@@ -1,17 +1,17 @@
 -- Packets without conflicts: what the runs of frames touch, one after another, and when none of them reads what one shortly before it wrote.
 use Rattle.std.specs.Prelude.{◌≡◌, ℕ, zero, suc, ◌+◌, ◌*◌, ◌^◌, ◌<◌, ◌≤◌, true, false, Some, List, [], ◌∷◌, ◌++◌, length, take, Contains}
 use Rattle.std.specs.List.{flat_map, AllByRecursion}
-use Rattle.beat_core.specs.Beats.{beats_of}
-use Rattle.beat_core.specs.Laws.{IsFrame}
-use Rattle.xdp_maps.specs.declared.decl.MapDecl.{MapDecl}
-use Rattle.xdp_maps.specs.State.{MapState, IsSound}
-use Rattle.xdp_maps.specs.Touched.{Resource, SameOf}
-use Rattle.cell_core.specs.xdp_machine.State.{PacketIn}
-use Rattle.cell_core.specs.xdp_machine.Touched.{Touched}
-use Rattle.cell_core.specs.Cells.{cell_at, is_read, site_in, on}
-use Rattle.cell_core.specs.Sites.{ProgramView, IsCellRun, site_at, after, touched}
-use Rattle.cell_core.specs.Formed.{AreFormed, AllFit, AreSited}
-use Rattle.beat_core.specs.Ports.{Arrival}
+use Rattle.realization.specs.beat_core.Beats.{beats_of}
+use Rattle.realization.specs.beat_core.Laws.{IsFrame}
+use Rattle.hazard_core.specs.xdp_maps.declared.decl.MapDecl.{MapDecl}
+use Rattle.hazard_core.specs.xdp_maps.State.{MapState, IsSound}
+use Rattle.hazard_core.specs.xdp_maps.Touched.{Resource, SameOf}
+use Rattle.hazard_core.specs.xdp_machine.State.{PacketIn}
+use Rattle.hazard_core.specs.xdp_machine.Touched.{Touched}
+use Rattle.hazard_core.specs.cell_core.Cells.{cell_at, is_read, site_in, on}
+use Rattle.hazard_core.specs.cell_core.Sites.{ProgramView, IsCellRun, site_at, after, touched}
+use Rattle.hazard_core.specs.cell_core.Formed.{AreFormed, AllFit, AreSited}
+use Rattle.realization.specs.beat_core.Ports.{Arrival}
 use Rattle.pipe_core.specs.Machine.{Build, packet_of}
 use Rattle.pipe_core.specs.Agreement.{ReadsArePlanned}
 use Rattle.pipe_core.specs.Pipeable.{IsSuited}

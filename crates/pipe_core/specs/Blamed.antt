@@ -2,11 +2,11 @@
 use Rattle.std.specs.Prelude.{◌≡◌, ℕ, suc, ◌+◌, ◌<◌, ◌≤◌, true, false, ◌⊎◌, Option, Some, None, List, [], ◌∷◌, ◌++◌, length, take, drop, Contains}
 use Rattle.std.specs.List.{AllByRecursion}
 use Rattle.std.proofs.Common.{get_or}
-use Rattle.beat_core.specs.Ports.{Arrival}
-use Rattle.xdp_maps.specs.State.{MapState, IsSound}
-use Rattle.xdp_maps.specs.Touched.{Resource, Present, Content, Size}
-use Rattle.cell_core.specs.xdp_machine.Touched.{Touched, nothing}
-use Rattle.cell_core.specs.Sites.{ProgramView, IsCellRun, after, touched}
+use Rattle.realization.specs.beat_core.Ports.{Arrival}
+use Rattle.hazard_core.specs.xdp_maps.State.{MapState, IsSound}
+use Rattle.hazard_core.specs.xdp_maps.Touched.{Resource, Present, Content, Size}
+use Rattle.hazard_core.specs.xdp_machine.Touched.{Touched, nothing}
+use Rattle.hazard_core.specs.cell_core.Sites.{ProgramView, IsCellRun, after, touched}
 use Rattle.hazard_core.specs.Tables.{TableState, table_at, slot_at, has_key, maps_of}
 use Rattle.hazard_core.specs.Held.{Held, held_value}
 use Rattle.hazard_core.specs.Keeping.{SameCell}

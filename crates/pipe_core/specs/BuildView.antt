@@ -1,6 +1,6 @@
 -- A program with its plan, the rows in a list.
 use Rattle.std.specs.Prelude.{ℕ, List, slice_index}
-use Rattle.cell_core.specs.Sites.{ProgramView}
+use Rattle.hazard_core.specs.cell_core.Sites.{ProgramView}
 use Rattle.pipe_core.specs.Machine.{Build}
 
 pub record BuildView : Type 0 where

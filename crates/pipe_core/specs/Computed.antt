@@ -2,13 +2,13 @@
 -- it says nothing.
 use Rattle.std.specs.Prelude.{◌≡◌, ℕ, suc, ◌<◌, false, Option, Some, None, List, [], ◌∷◌, length}
 use Rattle.std.proofs.Common.{get_or}
-use Rattle.xdp_maps.specs.State.{MapState}
-use Rattle.cell_core.specs.xdp_machine.State.{PacketIn}
-use Rattle.cell_core.specs.Cells.{cell_at, is_read, value}
-use Rattle.cell_core.specs.Formed.{AreFormed}
-use Rattle.cell_core.specs.Rows.{AreRows}
+use Rattle.hazard_core.specs.xdp_maps.State.{MapState}
+use Rattle.hazard_core.specs.xdp_machine.State.{PacketIn}
+use Rattle.hazard_core.specs.cell_core.Cells.{cell_at, is_read, value}
+use Rattle.hazard_core.specs.cell_core.Formed.{AreFormed}
+use Rattle.hazard_core.specs.cell_core.Rows.{AreRows}
 use Rattle.hazard_core.specs.Held.{Held, held_value}
-use Rattle.beat_core.specs.Ports.{Arrival}
+use Rattle.realization.specs.beat_core.Ports.{Arrival}
 use Rattle.pipe_core.specs.Machine.{Packet, Input, Build, no_frame, packet_of, inside}
 use Rattle.pipe_core.specs.History.{Trace, next, run, begin, IsInOrder}
 

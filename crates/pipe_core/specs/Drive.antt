@@ -1,12 +1,12 @@
 -- The full drive: in each clock the next beat is offered while one is left, a beat that is shown is taken, and the host is silent.
 use Rattle.std.specs.Prelude.{◌≡◌, ℕ, ◌+◌, ◌*◌, ◌≤◌, if◌then◌else◌, Option, Some, None, List, [], ◌∷◌, ◌++◌, length, drop, map, true}
 use Rattle.std.specs.List.{flat_map, AllByRecursion}
-use Rattle.beat_core.specs.declared.beat.Beat.{Beat}
-use Rattle.beat_core.specs.Beats.{beats_of}
-use Rattle.beat_core.specs.Filling.{filled_up}
-use Rattle.beat_core.specs.Laws.{IsFrame}
-use Rattle.xdp_maps.specs.State.{MapState, IsSound}
-use Rattle.cell_core.specs.Rows.{record_count}
+use Rattle.realization.specs.beat_core.declared.beat.Beat.{Beat}
+use Rattle.realization.specs.beat_core.Beats.{beats_of}
+use Rattle.realization.specs.beat_core.Filling.{filled_up}
+use Rattle.realization.specs.beat_core.Laws.{IsFrame}
+use Rattle.hazard_core.specs.xdp_maps.State.{MapState, IsSound}
+use Rattle.hazard_core.specs.cell_core.Rows.{record_count}
 use Rattle.pipe_core.specs.Machine.{State, Input, Build, new_state, is_ready, beat_over, clock}
 use Rattle.pipe_core.specs.History.{Trace, next, run, begin}
 use Rattle.pipe_core.specs.Pipeable.{IsSuited}

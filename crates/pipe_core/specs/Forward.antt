@@ -1,9 +1,9 @@
 -- A drive in which no packet is ever sent back.
 use Rattle.std.specs.Prelude.{◌≡◌, ℕ, ◌+◌, ◌*◌, ◌≤◌, false, List, [], ◌∷◌, length}
 use Rattle.std.specs.List.{flat_map, AllByRecursion}
-use Rattle.beat_core.specs.Beats.{beats_of}
-use Rattle.beat_core.specs.Laws.{IsFrame}
-use Rattle.xdp_maps.specs.State.{MapState}
+use Rattle.realization.specs.beat_core.Beats.{beats_of}
+use Rattle.realization.specs.beat_core.Laws.{IsFrame}
+use Rattle.hazard_core.specs.xdp_maps.State.{MapState}
 use Rattle.pipe_core.specs.Machine.{Build, Turn, Commits, Writes, Moves, some_send}
 use Rattle.pipe_core.specs.Watched.{turn_in}
 use Rattle.pipe_core.specs.Drive.{Driven, driving, drive_clock, Beside, drive, drive_start}

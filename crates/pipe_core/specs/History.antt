@@ -1,12 +1,12 @@
 -- What comes into the pipe and goes out of it in a list of clocks.
 use Rattle.std.specs.Prelude.{◌≡◌, suc, ◌+◌, ◌≤◌, if◌then◌else◌, Option, Some, None, is_some, List, [], ◌∷◌, ◌++◌, length, drop}
-use Rattle.beat_core.specs.declared.beat.Beat.{Beat}
-use Rattle.beat_core.specs.declared.answer.Answer.{Answer}
-use Rattle.xdp_maps.specs.State.{MapState}
-use Rattle.cell_core.specs.Cells.{bit}
-use Rattle.cell_core.specs.Sites.{ProgramView}
+use Rattle.realization.specs.beat_core.declared.beat.Beat.{Beat}
+use Rattle.realization.specs.beat_core.declared.answer.Answer.{Answer}
+use Rattle.hazard_core.specs.xdp_maps.State.{MapState}
+use Rattle.hazard_core.specs.cell_core.Cells.{bit}
+use Rattle.hazard_core.specs.cell_core.Sites.{ProgramView}
 use Rattle.hazard_core.specs.Held.{Held}
-use Rattle.beat_core.specs.Ports.{Arrival}
+use Rattle.realization.specs.beat_core.Ports.{Arrival}
 use Rattle.pipe_core.specs.Machine.{Packet, State, Input, Build, Turn, Moves, new_state, place_at, inside, swept, turn_of, came_with, beat_over, taken_beat, first_answer, answer_of, clock}
 
 -- Of the clocks so far: the frames that came whole, what each packet held of the cells when it left the pipe, and the answers that

@@ -1,7 +1,6 @@
-pub use Rattle.beat_core.specs as beat_core
-pub use Rattle.cell_core.specs as cell_core
-pub use Rattle.cell_core.specs.xdp_machine as xdp_machine
 pub use Rattle.hazard_core.specs as hazard_core
+pub use Rattle.realization.specs.net_core as net_core
+pub use Rattle.realization.specs as realization
 pub use Rattle.row_plan.specs as row_plan
 pub mod Machine
 pub mod History
@@ -32,3 +31,4 @@ pub mod Meeting
 pub mod Blamed
 pub mod Found
 pub mod Unconflicting
+pub mod HostRuns

@@ -1,9 +1,9 @@
 -- Where marks stand.
 use Rattle.std.specs.Prelude.{◌≡◌, ℕ, ◌<◌, Bool, not, ◌&&◌, List, length}
 use Rattle.std.specs.List.{list_any}
-use Rattle.xdp_maps.specs.State.{MapState}
-use Rattle.xdp_maps.specs.declared.decl.MapDecl.{MapDecl}
-use Rattle.cell_core.specs.Sites.{site_at}
+use Rattle.hazard_core.specs.xdp_maps.State.{MapState}
+use Rattle.hazard_core.specs.xdp_maps.declared.decl.MapDecl.{MapDecl}
+use Rattle.hazard_core.specs.cell_core.Sites.{site_at}
 use Rattle.hazard_core.specs.Marks.{touches, known_off, has_read}
 use Rattle.pipe_core.specs.Machine.{Packet, Input, Build, marked_at}
 use Rattle.pipe_core.specs.History.{IsInOrder}

@@ -1,8 +1,8 @@
 -- A change touches a read on the path only where what it changes and what is read meet.
 use Rattle.std.specs.Prelude.{◌≡◌, ℕ, ◌<◌, true, ◌⊎◌, List, length, take, Contains}
-use Rattle.xdp_maps.specs.Touched.{Resource, Present, Content, Size, reads, writes as resources_written}
-use Rattle.cell_core.specs.Formed.{AllFit}
-use Rattle.cell_core.specs.Sites.{ProgramView, site_at, operation_on, after}
+use Rattle.hazard_core.specs.xdp_maps.Touched.{Resource, Present, Content, Size, reads, writes as resources_written}
+use Rattle.hazard_core.specs.cell_core.Formed.{AllFit}
+use Rattle.hazard_core.specs.cell_core.Sites.{ProgramView, site_at, operation_on, after}
 use Rattle.hazard_core.specs.Tables.{TableState, maps_of, table_at, slot_at, has_key}
 use Rattle.hazard_core.specs.Tabled.{AreTables}
 use Rattle.hazard_core.specs.Held.{Held, held_value, guard_on, writes}

@@ -2,13 +2,13 @@
 use Rattle.std.specs.Prelude.{◌≡◌, ℕ, suc, ◌<◌, ◌≤◌, ◌==◌, nat_lt, true, not, Some, None, List, [], ◌∷◌, length}
 use Rattle.std.specs.List.{AllByRecursion, list_all}
 use Rattle.std.specs.Int.{w64, cast_unsigned}
-use Rattle.xdp_maps.specs.declared.decl.MapDecl.{MapDecl}
-use Rattle.xdp_maps.specs.declared.errno.TheConstants.{ENOENT, E2BIG, EEXIST, EINVAL}
-use Rattle.cell_core.specs.xdp_machine.State.{PacketIn}
-use Rattle.cell_core.specs.Cells.{CellView, cell_at, site_in, bits_from}
-use Rattle.cell_core.specs.Sites.{site_at, records}
-use Rattle.cell_core.specs.Formed.{AllFit, AreSited}
-use Rattle.cell_core.specs.Rows.{taken_by}
+use Rattle.hazard_core.specs.xdp_maps.declared.decl.MapDecl.{MapDecl}
+use Rattle.hazard_core.specs.xdp_maps.declared.errno.TheConstants.{ENOENT, E2BIG, EEXIST, EINVAL}
+use Rattle.hazard_core.specs.xdp_machine.State.{PacketIn}
+use Rattle.hazard_core.specs.cell_core.Cells.{CellView, cell_at, site_in, bits_from}
+use Rattle.hazard_core.specs.cell_core.Sites.{site_at, records}
+use Rattle.hazard_core.specs.cell_core.Formed.{AllFit, AreSited}
+use Rattle.hazard_core.specs.cell_core.Rows.{taken_by}
 use Rattle.hazard_core.specs.Tables.{TableState, decl_of}
 use Rattle.hazard_core.specs.Held.{Held, guard_on, found_cell, answer_cell, parts}
 use Rattle.hazard_core.specs.Replay.{IsAccess, is_access, asks, says_done}

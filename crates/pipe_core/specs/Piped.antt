@@ -1,7 +1,7 @@
 -- What contracts see of a pipe and of its ports.
 use Rattle.std.specs.Prelude.{◌≡◌, ℕ, suc, ◌+◌, ◌≤◌, Bool, true, nat_le, min, Option, Some, None, length}
-use Rattle.beat_core.specs.declared.beat.Beat.{Beat}
-use Rattle.cell_core.specs.Formed.{AllFit}
+use Rattle.realization.specs.beat_core.declared.beat.Beat.{Beat}
+use Rattle.hazard_core.specs.cell_core.Formed.{AllFit}
 use Rattle.pipe_core.specs.Machine.{State, Input, Output, Build, inside}
 use Rattle.pipe_core.specs.BuildView.{BuildView}
 use Rattle.pipe_core.specs.Queued.{came_bytes}

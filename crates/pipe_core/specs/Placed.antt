@@ -1,7 +1,7 @@
 -- What holds of the packets in their places.
 use Rattle.std.specs.Prelude.{ℕ, suc, Option, Some, None, List, [], ◌∷◌}
 use Rattle.std.proofs.Common.{get_or}
-use Rattle.beat_core.specs.Ports.{Arrival}
+use Rattle.realization.specs.beat_core.Ports.{Arrival}
 use Rattle.pipe_core.specs.Machine.{Packet, no_frame, inside}
 
 -- Something holds of each packet, by its place and its frame, from place k on. The frame stands behind those of the older packets.

@@ -1,13 +1,13 @@
 -- A program with its plan in memory, and what the code of the pipe asks of them.
 use Rattle.std.specs.Prelude.{◌≡◌, ℕ, ◌<◌, ◌≤◌, ◌^◌, Some, length, Contains}
-use Rattle.cell_core.specs.declared.program.FrameByte.{FrameByte}
-use Rattle.cell_core.specs.Cells.{cell_at, site_in}
-use Rattle.cell_core.specs.Sites.{ProgramView}
-use Rattle.cell_core.specs.Formed.{AreFormed}
-use Rattle.cell_core.specs.View.{program_of}
+use Rattle.hazard_core.specs.cell_core.declared.program.FrameByte.{FrameByte}
+use Rattle.hazard_core.specs.cell_core.Cells.{cell_at, site_in}
+use Rattle.hazard_core.specs.cell_core.Sites.{ProgramView}
+use Rattle.hazard_core.specs.cell_core.Formed.{AreFormed}
+use Rattle.hazard_core.specs.cell_core.View.{program_of}
 use Rattle.hazard_core.specs.Held.{held_value}
 use Rattle.hazard_core.specs.declared.rows.Source.{Source}
-use Rattle.beat_core.specs.Ports.{Arrival}
+use Rattle.realization.specs.beat_core.Ports.{Arrival}
 use Rattle.pipe_core.specs.declared.planned.Planned.{Planned}
 use Rattle.pipe_core.specs.Machine.{Build, Packet}
 use Rattle.pipe_core.specs.BuildView.{BuildView, build_in}

@@ -1,7 +1,7 @@
 -- What each clock of the pipe keeps of all clocks so far.
 use Rattle.std.specs.Prelude.{◌≡◌, false, None, List}
-use Rattle.xdp_maps.specs.declared.decl.MapDecl.{MapDecl}
-use Rattle.xdp_maps.specs.State.{MapState}
+use Rattle.hazard_core.specs.xdp_maps.declared.decl.MapDecl.{MapDecl}
+use Rattle.hazard_core.specs.xdp_maps.State.{MapState}
 use Rattle.pipe_core.specs.Machine.{State, Input, Build, some_send, clock}
 use Rattle.pipe_core.specs.History.{IsInOrder}
 use Rattle.pipe_core.specs.Computed.{IsPlanned, IsComputed}

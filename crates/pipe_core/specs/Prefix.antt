@@ -1,10 +1,10 @@
 -- What a packet holds is right up to its first marked read, on the maps as they are now.
 use Rattle.std.specs.Prelude.{◌≡◌, ℕ, suc, ◌<◌, ◌≤◌, true, false, Some, None, List, length}
 use Rattle.std.specs.List.{AllByRecursion}
-use Rattle.xdp_maps.specs.State.{MapState, IsSound}
-use Rattle.cell_core.specs.xdp_machine.State.{PacketIn}
-use Rattle.cell_core.specs.Cells.{cell_at, site_in, on}
-use Rattle.cell_core.specs.Sites.{IsCellRun, site_at}
+use Rattle.hazard_core.specs.xdp_maps.State.{MapState, IsSound}
+use Rattle.hazard_core.specs.xdp_machine.State.{PacketIn}
+use Rattle.hazard_core.specs.cell_core.Cells.{cell_at, site_in, on}
+use Rattle.hazard_core.specs.cell_core.Sites.{IsCellRun, site_at}
 use Rattle.hazard_core.specs.Tables.{TableState, maps_of}
 use Rattle.hazard_core.specs.Held.{held_value, guard_on}
 use Rattle.pipe_core.specs.Machine.{Packet, Input, Build, packet_of, marked_at}

@@ -1,9 +1,9 @@
 -- What contracts see of the frames inside and of their answers.
 use Rattle.std.specs.Prelude.{◌≡◌, ℕ, ◌+◌, ◌*◌, ◌≤◌, Bool, if◌then◌else◌, ◌||◌, nat_lt, is_some, Option, Some, None, List, [], ◌∷◌, ◌++◌, length, drop}
-use Rattle.beat_core.specs.declared.answer.Answer.{Answer}
-use Rattle.beat_core.specs.Ports.{Arrival}
+use Rattle.realization.specs.beat_core.declared.answer.Answer.{Answer}
+use Rattle.realization.specs.beat_core.Ports.{Arrival}
 use Rattle.std.proofs.Common.{get_or}
-use Rattle.cell_core.specs.Sites.{ProgramView, with_bytes}
+use Rattle.hazard_core.specs.cell_core.Sites.{ProgramView, with_bytes}
 use Rattle.hazard_core.specs.Held.{held_value}
 use Rattle.pipe_core.specs.Machine.{Packet, no_frame}
 use Rattle.pipe_core.specs.declared.arrived.TheConstants.{FRAME_ROOM}

@@ -1,6 +1,6 @@
 -- Who is sent back in a clock.
 use Rattle.std.specs.Prelude.{◌≡◌, ℕ, ◌<◌, ◌≤◌, true, Option, None, List, length}
-use Rattle.beat_core.specs.Ports.{Arrival}
+use Rattle.realization.specs.beat_core.Ports.{Arrival}
 use Rattle.pipe_core.specs.Machine.{Packet, Build, place_at, sends, some_send, swept, newcomer}
 
 -- A place at or past place k sends back: it holds a packet with a mark whose guard is known as 1, and lies not past the commit place.

@@ -1,13 +1,13 @@
 -- One packet after another: the cell runs of packets, each on the maps that the one before left.
 use Rattle.std.specs.Prelude.{◌≡◌, None, List, [], ◌∷◌}
 use Rattle.std.specs.List.{AllByRecursion}
-use Rattle.xdp_maps.specs.State.{MapState, IsSound}
-use Rattle.xdp_maps.specs.declared.decl.MapDecl.{MapDecl}
-use Rattle.cell_core.specs.Sites.{ProgramView, IsCellRun, after}
-use Rattle.cell_core.specs.Formed.{AreSited}
+use Rattle.hazard_core.specs.xdp_maps.State.{MapState, IsSound}
+use Rattle.hazard_core.specs.xdp_maps.declared.decl.MapDecl.{MapDecl}
+use Rattle.hazard_core.specs.cell_core.Sites.{ProgramView, IsCellRun, after}
+use Rattle.hazard_core.specs.cell_core.Formed.{AreSited}
 use Rattle.hazard_core.specs.Tables.{maps_of}
 use Rattle.hazard_core.specs.Held.{Held, held_value}
-use Rattle.beat_core.specs.Ports.{Arrival}
+use Rattle.realization.specs.beat_core.Ports.{Arrival}
 use Rattle.pipe_core.specs.Machine.{Input, Build, packet_of}
 use Rattle.pipe_core.specs.History.{run, begin}
 use Rattle.pipe_core.specs.Computed.{IsPlanned}

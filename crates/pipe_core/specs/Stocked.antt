@@ -1,6 +1,6 @@
 -- The places in memory. Each has the memory of a packet, also where none is in it.
 use Rattle.std.specs.Prelude.{Option, Some, None, List, All, if◌then◌else◌}
-use Rattle.cell_core.specs.Sites.{ProgramView}
+use Rattle.hazard_core.specs.cell_core.Sites.{ProgramView}
 use Rattle.pipe_core.specs.declared.places.Place.{Place}
 use Rattle.pipe_core.specs.Machine.{Packet}
 use Rattle.pipe_core.specs.Planned.{IsPacketOf}

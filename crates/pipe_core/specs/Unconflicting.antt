@@ -1,11 +1,11 @@
 -- Where no runs of the frames conflict nothing is sent back.
 use Rattle.std.specs.Prelude.{◌≡◌, ℕ, ◌+◌, ◌*◌, ◌≤◌, false, List, ◌++◌, length}
 use Rattle.std.specs.List.{flat_map, AllByRecursion}
-use Rattle.beat_core.specs.Beats.{beats_of}
-use Rattle.beat_core.specs.Laws.{IsFrame}
-use Rattle.beat_core.specs.Ports.{Arrival}
-use Rattle.xdp_maps.specs.State.{MapState, IsSound}
-use Rattle.cell_core.specs.xdp_machine.Touched.{Touched}
+use Rattle.realization.specs.beat_core.Beats.{beats_of}
+use Rattle.realization.specs.beat_core.Laws.{IsFrame}
+use Rattle.realization.specs.beat_core.Ports.{Arrival}
+use Rattle.hazard_core.specs.xdp_maps.State.{MapState, IsSound}
+use Rattle.hazard_core.specs.xdp_machine.Touched.{Touched}
 use Rattle.pipe_core.specs.Machine.{Build, some_send}
 use Rattle.pipe_core.specs.History.{IsInOrder}
 use Rattle.pipe_core.specs.Watched.{Watched}

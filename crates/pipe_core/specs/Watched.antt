@@ -1,7 +1,7 @@
 -- What packets have seen of the maps: beside a trace, by place, the changes since the packet was injected, and the tables that it is to have read.
 use Rattle.std.specs.Prelude.{ℕ, zero, suc, nat_lt, if◌then◌else◌, Option, Some, None, List, [], ◌∷◌}
-use Rattle.xdp_maps.specs.State.{MapState}
-use Rattle.cell_core.specs.Sites.{ProgramView}
+use Rattle.hazard_core.specs.xdp_maps.State.{MapState}
+use Rattle.hazard_core.specs.cell_core.Sites.{ProgramView}
 use Rattle.hazard_core.specs.Tables.{TableState, tables_of}
 use Rattle.hazard_core.specs.Held.{Held}
 use Rattle.hazard_core.specs.Rows.{nothing_held}

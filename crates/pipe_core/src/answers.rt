@@ -1,13 +1,13 @@
 //! Answers, and the beats that they go out in.
 
 ghost use Rattle.std.specs.Prelude.{◌≡◌, ◌+◌, ◌*◌, ◌≤◌, false, drop};
-ghost use Rattle.beat_core.specs.Beats.{first_beat};
+ghost use Rattle.realization.specs.beat_core.Beats.{first_beat};
 ghost use Rattle.pipe_core.specs.Machine.{no_frame};
 ghost use Rattle.pipe_core.specs.declared.arrived.TheConstants.{FRAME_ROOM};
 
 use crate::arrived::Arrived;
-use beat_core::Beat;
 use byteorder::{ByteOrder, LittleEndian};
+use hazard_core::cell_core::xdp_state::beat_core::Beat;
 use std::marker::Model;
 
 /// The answer to a packet, in the buffer of its frame. Contracts see it as an `Answer`.
@@ -19,7 +19,7 @@ pub struct Answered {
 }
 
 impl Model for Answered {
-    ghost use Rattle.beat_core.specs.declared.answer.Answer.{Answer};
+    ghost use Rattle.realization.specs.beat_core.declared.answer.Answer.{Answer};
 
     ghost Value = { Answer };
 

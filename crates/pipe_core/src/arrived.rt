@@ -2,14 +2,14 @@
 
 ghost use Rattle.std.specs.Prelude.{◌≡◌, ◌+◌, ◌≤◌, ◌++◌, [], length, slice_set, take, drop, None, IfOk};
 ghost use Rattle.std.proofs.Common.{get_or};
-ghost use Rattle.beat_core.specs.Words.{low_bytes};
-ghost use Rattle.beat_core.specs.Beats.{bytes_of_beat};
-ghost use Rattle.beat_core.specs.Ports.{arrived, offered};
+ghost use Rattle.realization.specs.beat_core.Words.{low_bytes};
+ghost use Rattle.realization.specs.beat_core.Beats.{bytes_of_beat};
+ghost use Rattle.realization.specs.beat_core.Ports.{arrived, offered};
 ghost use Rattle.pipe_core.specs.Machine.{no_frame};
 ghost use Rattle.pipe_core.specs.Planned.{arrival_of};
 
-use beat_core::{Beat, FRAME_LIMIT};
 use byteorder::{ByteOrder, LittleEndian};
+use hazard_core::cell_core::xdp_state::beat_core::{Beat, FRAME_LIMIT};
 use hazard_core::rows::Source;
 use std::alloc::{AllocError, Global};
 use std::marker::Model;
@@ -29,7 +29,7 @@ pub struct Arrived {
 
 impl Model for Arrived {
     ghost use Rattle.std.specs.Prelude.{◌≡◌, ◌≤◌, take, length};
-    ghost use Rattle.beat_core.specs.Ports.{Arrival};
+    ghost use Rattle.realization.specs.beat_core.Ports.{Arrival};
     ghost use Rattle.pipe_core.specs.declared.arrived.TheConstants.{FRAME_ROOM};
 
     ghost Value = { Arrival };

@@ -29,14 +29,14 @@ pub fn computed()
     ensures clock { KeepsComputed }
     ensures always { IsAlwaysComputed }
 {
-    cell_core::laws::rows_rise();
+    hazard_core::cell_core::laws::rows_rise();
 }
 
 /// Without operations on maps the packets that left are cell runs, one after another.
 pub fn runs_without_maps()
     ensures { RunsWithoutMaps }
 {
-    cell_core::laws::rows_rise();
+    hazard_core::cell_core::laws::rows_rise();
 }
 
 /// Without operations on maps, and with a silent host, the maps stay.
@@ -63,7 +63,7 @@ pub fn runs_rest()
     ensures elsewhere { RunsElsewhere }
     ensures complete { RunsComplete }
 {
-    cell_core::laws::values_keep();
+    hazard_core::cell_core::laws::values_keep();
 }
 
 /// What a packet holds of the maps stays what it would find now, but for reads that are marked or off the path: where it takes in
@@ -72,7 +72,7 @@ pub fn agreement()
     ensures entering { EnteringAgrees }
     ensures striking { StrikingAgrees }
 {
-    cell_core::laws::rows_rise();
+    hazard_core::cell_core::laws::rows_rise();
     hazard_core::laws::reads_keep();
     hazard_core::laws::unmoved();
 }
@@ -119,7 +119,7 @@ pub fn runs_in_turn()
     ensures runs { RunsInTurn }
     ensures last { FinalMaps }
 {
-    cell_core::laws::rows_rise();
+    hazard_core::cell_core::laws::rows_rise();
     right();
     hazard_core::laws::maps_in_turn();
     hazard_core::laws::in_turn();
@@ -139,7 +139,7 @@ pub fn ahead()
     ensures commits { CommittersHoldRuns }
     ensures guards { GuardsRunAhead }
 {
-    cell_core::laws::rows_rise();
+    hazard_core::cell_core::laws::rows_rise();
     right();
     runs_in_turn();
     hazard_core::laws::reads_keep();
@@ -177,7 +177,7 @@ pub fn in_turn_too()
     ensures { InTurnToo }
 {
     runs_rest();
-    cell_core::laws::values_keep();
+    hazard_core::cell_core::laws::values_keep();
 }
 
 /// A change touches a read on the path only where what it changes and what is read meet; and what a commit changes its operation writes.
@@ -208,7 +208,7 @@ pub fn unread()
     in_turn_too();
     hazard_core::laws::sees_earlier();
     hazard_core::laws::maps_in_turn();
-    cell_core::laws::values_keep();
+    hazard_core::cell_core::laws::values_keep();
 }
 
 /// What an update found that a packet holds stays what it finds now, but where the packet has seen its key come or go.
@@ -227,7 +227,7 @@ pub fn nothing_due()
 {
     meeting();
     unread();
-    cell_core::laws::rows_rise();
+    hazard_core::cell_core::laws::rows_rise();
     hazard_core::laws::reads_keep();
     hazard_core::laws::sees_earlier();
     hazard_core::laws::maps_in_turn();

@@ -1,9 +1,11 @@
-//! The pipe: packets overlap in places, and their answers are those of one packet after another. What one clock does stands in `specs/Machine`.
+//! The pipeline as a machine of stages, answers, marks and commits, and its laws over all lists of clocks.
+//! `host_runs` has the clocks in which the host loads maps and reads them back.
 #![tactic(auto)]
 
 pub mod answers;
 pub mod arrived;
 pub mod bound;
+pub mod host_runs;
 pub mod laws;
 pub mod packet;
 pub mod pipe;

@@ -3,9 +3,9 @@
 ghost use Rattle.std.specs.Prelude.{◌≡◌, ◌≤◌, ◌<◌, ◌&&◌, ◌||◌, ℕ, length, not, slice_index, nat_le, false, map as map_list, IfOk};
 ghost use Rattle.std.specs.Option.{ForSome};
 ghost use Rattle.std.proofs.Common.{get_or};
-ghost use Rattle.cell_core.specs.Formed.{AllFit};
-ghost use Rattle.cell_core.specs.Sites.{site_at, with_bytes};
-ghost use Rattle.cell_core.specs.View.{program_of};
+ghost use Rattle.hazard_core.specs.cell_core.Formed.{AllFit};
+ghost use Rattle.hazard_core.specs.cell_core.Sites.{site_at, with_bytes};
+ghost use Rattle.hazard_core.specs.cell_core.View.{program_of};
 ghost use Rattle.hazard_core.specs.Held.{held_value, writes};
 ghost use Rattle.hazard_core.specs.Marks.{known_on, known_off, is_marked};
 ghost use Rattle.pipe_core.specs.Machine.{injected, entered, struck, is_due, chosen, marked_at, site_numbers};
@@ -13,7 +13,7 @@ ghost use Rattle.pipe_core.specs.Planned.{build_of, arrival_of, IsUsable, IsPack
 
 use crate::arrived::Arrived;
 use crate::planned::Planned;
-use cell_core::program::{CellProgram, PacketIn};
+use hazard_core::cell_core::program::{CellProgram, PacketIn};
 use hazard_core::change::Change;
 use hazard_core::held::Held;
 use hazard_core::marks::{is_marked, known_off, known_on};

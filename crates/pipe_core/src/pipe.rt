@@ -3,9 +3,9 @@
 ghost use Rattle.std.specs.Prelude.{◌≡◌, ◌+◌, ◌-◌, ◌<◌, ◌≤◌, ◌^◌, ℕ, suc, IsTrue, IfOk, None, if◌then◌else◌, ◌%◌, IfSome, OnErr, OnOk, Some, is_some, ◌&&◌, ◌||◌, not, nat_lt, length, slice_index, false, true, Bool, ◌*◌};
 ghost use Rattle.pipe_core.specs.declared.arrived.TheConstants.{FRAME_ROOM};
 ghost use Rattle.std.specs.Option.{option_and_then};
-ghost use Rattle.cell_core.specs.Cells.{bit};
-ghost use Rattle.cell_core.specs.Formed.{AllFit};
-ghost use Rattle.cell_core.specs.View.{program_of};
+ghost use Rattle.hazard_core.specs.cell_core.Cells.{bit};
+ghost use Rattle.hazard_core.specs.cell_core.Formed.{AllFit};
+ghost use Rattle.hazard_core.specs.cell_core.View.{program_of};
 ghost use Rattle.hazard_core.specs.Tabled.{AreTables};
 ghost use Rattle.hazard_core.specs.Tables.{maps_of};
 ghost use Rattle.pipe_core.specs.Machine.{Packet, Commits, Writes, Moves, new_state, inside, place_at, swept, some_send, chosen, is_calm, is_ready, commits_or_moves, host_ready, host_writes, host_value, turn_as, worked, work, gathered, scattered, beat_over, shown_beat, taken_beat, clock, output};
@@ -19,17 +19,17 @@ use crate::planned::Planned;
 use crate::points::points;
 use crate::ports::{In, Out};
 use crate::queue::Queue;
-use beat_core::Beat;
-use cell_core::program::CellProgram;
 use hazard_core::access::Access;
+use hazard_core::cell_core::program::CellProgram;
+use hazard_core::cell_core::xdp_state::beat_core::Beat;
+use hazard_core::cell_core::xdp_state::xdp_maps::state::Maps;
 use hazard_core::commit::{change_by, commit};
 use hazard_core::host::{host_change, may_write, shown_to_host, write};
+use hazard_core::table_maps::maps_of;
 use hazard_core::tables::Tables;
 use row_plan::RowPlan;
 use std::alloc::{AllocError, Global};
 use std::marker::Model;
-use table_maps::maps_of;
-use xdp_maps::state::Maps;
 
 /// A pipe: a program with its plan, the tables of its maps, the frames inside, and the packets in their places. Contracts see a `Piped`.
 #[derive(Drop)]

@@ -3,8 +3,8 @@
 ghost use Rattle.std.specs.Prelude.{ℕ, ◌≡◌, ◌<◌, ◌≤◌, ◌^◌, suc, length, map as map_list, replicate, IfOk, None, if◌then◌else◌, ◌||◌, nat_lt};
 ghost use Rattle.std.proofs.Common.{get_or};
 ghost use Rattle.std.specs.Option.{ForSome, option_map};
-ghost use Rattle.cell_core.specs.Formed.{AllFit};
-ghost use Rattle.cell_core.specs.View.{program_of};
+ghost use Rattle.hazard_core.specs.cell_core.Formed.{AllFit};
+ghost use Rattle.hazard_core.specs.cell_core.View.{program_of};
 ghost use Rattle.pipe_core.specs.Machine.{injected, inside, place_at, no_frame, sends, some_send, swept, enters, moved, newcomer, struck, struck_below};
 ghost use Rattle.pipe_core.specs.BuildView.{build_in};
 ghost use Rattle.pipe_core.specs.Planned.{planned_view, build_of, arrival_of, IsUsable, IsPacketOf};
@@ -13,8 +13,8 @@ ghost use Rattle.pipe_core.specs.Stocked.{in_place, AreStocked};
 use crate::arrived::{Arrived, source_at};
 use crate::packet::Packet;
 use crate::planned::Planned;
-use beat_core::Frame;
-use cell_core::program::PacketIn;
+use hazard_core::cell_core::program::PacketIn;
+use hazard_core::cell_core::xdp_state::beat_core::Frame;
 use hazard_core::change::Change;
 use hazard_core::rows::Source;
 use hazard_core::tables::Tables;
@@ -42,7 +42,7 @@ pub struct Places<'a> {
 
 impl<'a> Model for Places<'a> {
     ghost use Rattle.std.specs.Prelude.{◌≡◌, suc, length, map as map_list};
-    ghost use Rattle.cell_core.specs.View.{program_of};
+    ghost use Rattle.hazard_core.specs.cell_core.View.{program_of};
     ghost use Rattle.pipe_core.specs.PlacesView.{PlacesView};
     ghost use Rattle.pipe_core.specs.Planned.{planned_view, IsUsable, IsPacketOf};
     ghost use Rattle.pipe_core.specs.Stocked.{in_place, AreStocked};

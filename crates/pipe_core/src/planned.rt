@@ -1,10 +1,10 @@
 //! A program with its plan.
 
 ghost use Rattle.std.specs.Prelude.{◌≡◌, ◌<◌, ◌^◌, length, IfOk};
-ghost use Rattle.cell_core.specs.View.{program_of};
+ghost use Rattle.hazard_core.specs.cell_core.View.{program_of};
 ghost use Rattle.pipe_core.specs.Planned.{planned_view};
 
-use cell_core::program::CellProgram;
+use hazard_core::cell_core::program::CellProgram;
 use row_plan::RowPlan;
 use std::alloc::{AllocError, Global};
 

@@ -1,7 +1,7 @@
 //! What comes into a pipe in a clock, and what goes out of it.
 
-use beat_core::Beat;
 use hazard_core::access::Access;
+use hazard_core::cell_core::xdp_state::beat_core::Beat;
 
 /// What comes in a clock: a beat that is offered, the interface and the time beside it, whether a beat that is shown is taken, and an
 /// access of the host.

@@ -2,8 +2,8 @@
 
 ghost use Rattle.std.specs.Prelude.{◌≡◌, ◌+◌, ◌*◌, ◌<◌, ◌≤◌, ◌&&◌, not, IsTrue, IsSome, IfOk, IfSome, is_some, min, nat_lt, nat_le, length, vec_capacity, false};
 ghost use Rattle.std.specs.Option.{ForSome, option_map};
-ghost use Rattle.cell_core.specs.View.{program_of};
-ghost use Rattle.beat_core.specs.Ports.{arrived, offered};
+ghost use Rattle.hazard_core.specs.cell_core.View.{program_of};
+ghost use Rattle.realization.specs.beat_core.Ports.{arrived, offered};
 ghost use Rattle.pipe_core.specs.Machine.{beat_at, first_answer};
 ghost use Rattle.pipe_core.specs.Queued.{nothing_queued, has_slot, came_bytes, gathered_as, given_as, left_frames, left_word, answered_as};
 ghost use Rattle.pipe_core.specs.Planned.{IsUsable, IsPacketOf};
@@ -12,8 +12,8 @@ ghost use Rattle.pipe_core.specs.declared.arrived.TheConstants.{FRAME_ROOM};
 use crate::answers::Answered;
 use crate::arrived::{Arrived, FRAME_ROOM};
 use crate::packet::Packet;
-use beat_core::Beat;
-use cell_core::program::CellProgram;
+use hazard_core::cell_core::program::CellProgram;
+use hazard_core::cell_core::xdp_state::beat_core::Beat;
 use std::alloc::{AllocError, Global};
 use std::marker::Model;
 
@@ -31,7 +31,7 @@ pub struct Queue {
 
 impl Model for Queue {
     ghost use Rattle.std.specs.Prelude.{is_some, length, vec_capacity};
-    ghost use Rattle.cell_core.specs.Cells.{bit};
+    ghost use Rattle.hazard_core.specs.cell_core.Cells.{bit};
     ghost use Rattle.pipe_core.specs.Queued.{Queued, AreHoused};
 
     ghost Value = { Queued };

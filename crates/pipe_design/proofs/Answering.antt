@@ -6,11 +6,11 @@ use Rattle.std.proofs.lemmas.List.{get_or-map, length-map, map_push, take_more}
 use Rattle.std.proofs.lemmas.List.Folds.{list_any_at}
 use Rattle.std.proofs.lemmas.List.Elements.{All-push, Contains-get_or}
 use Rattle.block_core.specs.declared.name.Name.{Name}
-use Rattle.row_plan.specs.cell_core.declared.program.FrameByte.{FrameByte}
-use Rattle.cell_nets.specs.declared.operand.Operand.{Operand}
-use Rattle.site_table.specs.row_net.Table.{Stands}
-use Rattle.place_net.specs.declared.outputs.AnswerByte.{AnswerByte}
-use Rattle.place_net.specs.Exit.{byte_number}
+use Rattle.hazard_core.specs.cell_core.declared.program.FrameByte.{FrameByte}
+use Rattle.overlay_net.specs.cell_nets.declared.operand.Operand.{Operand}
+use Rattle.row_net.specs.Table.{Stands}
+use Rattle.row_net.specs.declared.place_net.outputs.AnswerByte.{AnswerByte}
+use Rattle.row_net.specs.PlaceNet.Exit.{byte_number}
 use Rattle.pipe_net.specs.declared.parts.Part.{Part}
 use Rattle.pipe_design.specs.Answer.{IsByteIn, has_byte, changed_words}
 use Rattle.pipe_design.proofs.Listing.{kept_there}

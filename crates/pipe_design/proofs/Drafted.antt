@@ -3,21 +3,21 @@ use Rattle.std.proofs.Common.{◌≡◌, ◌∙◌, ℕ, suc, ◌<◌, ◌≤◌
 use Rattle.std.proofs.lemmas.List.{length-map, get_or-map}
 use Rattle.std.proofs.lemmas.List.Elements.{All-weaker}
 use Rattle.block_core.specs.declared.name.Name.{Name}
-use Rattle.cell_nets.specs.declared.operand.Operand.{Operand}
-use Rattle.host_net.specs.map_block.declared.form.MapForm.{MapForm}
-use Rattle.site_table.specs.row_net.Table.{Stands}
-use Rattle.place_net.specs.declared.outputs.AnswerByte.{AnswerByte}
-use Rattle.change_net.specs.declared.change.ChangePart.{ChangePart}
+use Rattle.overlay_net.specs.cell_nets.declared.operand.Operand.{Operand}
+use Rattle.commit_net.specs.declared.map_block.form.MapForm.{MapForm}
+use Rattle.row_net.specs.Table.{Stands}
+use Rattle.row_net.specs.declared.place_net.outputs.AnswerByte.{AnswerByte}
+use Rattle.commit_net.specs.declared.change_net.change.ChangePart.{ChangePart}
 use Rattle.pipe_net.specs.declared.parts.Part.{Part}
 use Rattle.pipe_net.specs.declared.parts.Sizes.{Sizes}
 use Rattle.pipe_net.specs.Layout.{Layout, Table, ChangeView, IsSized}
-use Rattle.map_parts.specs.pipe_draft.pipe_places.Layout.{IsChanged}
-use Rattle.map_parts.specs.pipe_draft.declared.draft.Draft.{Draft}
-use Rattle.map_parts.specs.pipe_draft.declared.places.Behind.{Behind}
-use Rattle.map_parts.specs.pipe_draft.Draft.{program_in, plan_in, decls_in, IsDraft}
-use Rattle.map_parts.specs.pipe_draft.Places.{ArePlaces}
-use Rattle.map_parts.specs.pipe_draft.Laid.{IsDrafted, IsAnswered}
-use Rattle.map_parts.specs.mark_parts.Laws.{IsChangeIn}
+use Rattle.pipe_net.specs.PipePlaces.Layout.{IsChanged}
+use Rattle.pipe_parts.specs.declared.pipe_draft.draft.Draft.{Draft}
+use Rattle.pipe_parts.specs.declared.pipe_draft.places.Behind.{Behind}
+use Rattle.pipe_parts.specs.PipeDraft.Draft.{program_in, plan_in, decls_in, IsDraft}
+use Rattle.pipe_parts.specs.PipeDraft.Places.{ArePlaces}
+use Rattle.pipe_parts.specs.PipeDraft.Laid.{IsDrafted, IsAnswered}
+use Rattle.place_parts.specs.MarkParts.Laws.{IsChangeIn}
 use Rattle.pipe_design.specs.Answer.{IsByteIn, AreOutputs}
 use Rattle.pipe_design.specs.Layout.{Shown, IsShapeOf, view_of, no_change, layout}
 use Rattle.pipe_design.proofs.Joining.{some_of}

@@ -10,3 +10,4 @@ mod Turning
 mod Naming
 mod Whole
 mod Made
+pub mod MapParts

@@ -5,8 +5,8 @@ use Rattle.std.proofs.Common.{◌≡◌, ◌∙◌, ◌⊎◌, inl, inr, ℕ, ze
 use Rattle.std.proofs.lemmas.Bool.{eqb-true, eqb-false}
 use Rattle.std.proofs.lemmas.List.Elements.{filter-append, All-nil, All-cons, All-filter}
 use Rattle.std.proofs.lemmas.List.Sums.{length-filter, count_by-le-length}
-use Rattle.row_plan.specs.cell_core.Rows.{numbers}
-use Rattle.row_plan.proofs.cell_core_laws.NumberLaws.{numbers_more}
+use Rattle.hazard_core.specs.cell_core.Rows.{numbers}
+use Rattle.hazard_core.proofs.cell_core_laws.NumberLaws.{numbers_more}
 
 -- ---- numbers
 pub in_numbers : (n from k : ℕ) → from ≤ k → k < from + n → Contains (numbers from n) k

@@ -1,19 +1,19 @@
 -- The pipeline of a draft is one of the draft's program.
 use Rattle.std.proofs.Common.{◌≡◌, ◌∙◌, ℕ, List, length, refl, sym, ap, subst}
-use Rattle.xdp_maps.specs.declared.decl.MapDecl.{MapDecl}
+use Rattle.hazard_core.specs.xdp_maps.declared.decl.MapDecl.{MapDecl}
 use Rattle.block_core.specs.declared.block.Placed.{Placed}
 use Rattle.block_core.specs.declared.error.LinkError.{LinkError}
 use Rattle.block_core.specs.declared.error.LinkError.TheVariants as link
 use Rattle.block_core.specs.View.{Makes}
-use Rattle.row_plan.specs.cell_core.declared.program.CellProgram.{CellProgram}
-use Rattle.row_plan.specs.cell_core.Sites.{ProgramView}
-use Rattle.row_plan.specs.cell_core.View.{program_of}
+use Rattle.hazard_core.specs.cell_core.declared.program.CellProgram.{CellProgram}
+use Rattle.hazard_core.specs.cell_core.Sites.{ProgramView}
+use Rattle.hazard_core.specs.cell_core.View.{program_of}
 use Rattle.row_plan.specs.Plan.{Plan}
 use Rattle.pipe_net.specs.declared.parts.Part.{Part}
 use Rattle.pipe_net.specs.Parts.{part_place}
-use Rattle.map_parts.specs.pipe_draft.declared.draft.Draft.{Draft}
-use Rattle.map_parts.specs.pipe_draft.declared.places.Behind.{Behind}
-use Rattle.map_parts.specs.pipe_draft.Draft.{program_in, plan_in, decls_in, IsDraft, IsDraftOf}
+use Rattle.pipe_parts.specs.declared.pipe_draft.draft.Draft.{Draft}
+use Rattle.pipe_parts.specs.declared.pipe_draft.places.Behind.{Behind}
+use Rattle.pipe_parts.specs.PipeDraft.Draft.{program_in, plan_in, decls_in, IsDraft, IsDraftOf}
 use Rattle.pipe_design.specs.declared.error.PipelineError.{PipelineError}
 use Rattle.pipe_design.specs.declared.error.PipelineError.TheVariants as error
 use Rattle.pipe_design.specs.Errors.{of_link}

@@ -2,24 +2,24 @@
 use Rattle.std.specs.Prelude.{◌^◌}
 use Rattle.std.proofs.Common.{◌≡◌, ◌∙◌, ℕ, ◌+◌, ◌<◌, ◌≤◌, All, List, length, get_or, sym, ap, subst, arith}
 use Rattle.std.proofs.lemmas.List.{length-map, get_or_default}
-use Rattle.xdp_maps.specs.declared.decl.MapDecl.{MapDecl}
+use Rattle.hazard_core.specs.xdp_maps.declared.decl.MapDecl.{MapDecl}
 use Rattle.block_core.specs.declared.name.Name.{Name}
-use Rattle.row_plan.specs.cell_core.Formed.{AllFit}
-use Rattle.row_plan.specs.cell_core.Sites.{ProgramView, site_at}
-use Rattle.row_plan.specs.cell_core.View.{program_of, site_of}
-use Rattle.site_table.specs.site_operands.declared.SiteNets.{SiteNets}
-use Rattle.site_table.specs.site_operands.Sites.{SiteOperands}
-use Rattle.site_table.specs.Sites.{operand_at}
+use Rattle.hazard_core.specs.cell_core.Formed.{AllFit}
+use Rattle.hazard_core.specs.cell_core.Sites.{ProgramView, site_at}
+use Rattle.hazard_core.specs.cell_core.View.{program_of, site_of}
+use Rattle.overlay_net.specs.declared.site_operands.SiteNets.{SiteNets}
+use Rattle.overlay_net.specs.SiteOperands.Sites.{SiteOperands}
+use Rattle.stage_net.specs.SiteTable.Sites.{operand_at}
 use Rattle.pipe_net.specs.declared.parts.Part.{Part}
 use Rattle.pipe_net.specs.declared.parts.Sizes.{Sizes}
 use Rattle.pipe_net.specs.Parts.{IsSmall}
-use Rattle.map_parts.specs.pipe_draft.declared.draft.Draft.{Draft}
-use Rattle.map_parts.specs.pipe_draft.declared.places.Behind.{Behind}
-use Rattle.map_parts.specs.pipe_draft.Draft.{program_in, plan_in, IsDraft}
-use Rattle.map_parts.specs.pipe_draft.Places.{ArePlaces}
-use Rattle.map_parts.specs.mark_parts.declared.layout.MarkLayout.{MarkLayout}
-use Rattle.map_parts.specs.mark_parts.Places as marks
-use Rattle.map_parts.specs.mark_parts.Places.{IsMarkLayout, HaveOperands}
+use Rattle.pipe_parts.specs.declared.pipe_draft.draft.Draft.{Draft}
+use Rattle.pipe_parts.specs.declared.pipe_draft.places.Behind.{Behind}
+use Rattle.pipe_parts.specs.PipeDraft.Draft.{program_in, plan_in, IsDraft}
+use Rattle.pipe_parts.specs.PipeDraft.Places.{ArePlaces}
+use Rattle.place_parts.specs.declared.mark_parts.layout.MarkLayout.{MarkLayout}
+use Rattle.place_parts.specs.MarkParts.Places as marks
+use Rattle.place_parts.specs.MarkParts.Places.{IsMarkLayout, HaveOperands}
 use Rattle.pipe_design.specs.Marks.{IsMarkLayoutOf}
 
 module _ (d : Draft) (is : IsDraft d) (f : MarkLayout) (of : IsMarkLayoutOf d f) where

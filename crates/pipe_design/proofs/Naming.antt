@@ -10,8 +10,8 @@ use Rattle.net_core.specs.declared.design.Design.{Design}
 use Rattle.net_core.specs.declared.design.Port.{Port}
 use Rattle.net_core.specs.View.{netlist_of}
 use Rattle.net_core.specs.Ports.{port_list, port_names}
-use Rattle.ring_net.specs.product_rules.Products.{products_apart}
-use Rattle.block_forms.specs.design_rules.Formed.{IsWellFormed}
+use Rattle.net_core.specs.ProductRules.Products.{products_apart}
+use Rattle.block_core.specs.design_rules.Formed.{IsWellFormed}
 use Rattle.block_core.specs.declared.name.Name.{Name}
 use Rattle.block_core.specs.declared.block.Placed.{Placed}
 use Rattle.block_core.specs.declared.error.LinkError.{LinkError}
@@ -20,13 +20,13 @@ use Rattle.block_core.specs.View.{Makes}
 use Rattle.block_core.specs.Blocks.{OutputTree, registers_of, memories_of, wires_of, Whole, gather}
 use Rattle.block_core.specs.Link.{resolve, link_wire, link_wires, numbered_names, link}
 use Rattle.block_core.specs.Range.{in_range, total, design_in_range}
-use Rattle.block_forms.specs.WellFormed.{HasFewNets, LinkedIsWellFormed, NumbersAreNames}
+use Rattle.block_core.specs.BlockForms.WellFormed.{HasFewNets, LinkedIsWellFormed, NumbersAreNames}
 use Rattle.pipe_net.specs.declared.parts.Part.{Part}
 use Rattle.pipe_net.specs.declared.parts.Sizes.{Sizes}
 use Rattle.pipe_net.specs.Parts.{part_place}
 use Rattle.pipe_net.specs.Layout.{Layout}
-use Rattle.pipe_clocks.specs.pipe_forms.Parts.{outputs_of, design, names_of}
-use Rattle.pipe_clocks.specs.pipe_forms.Forming.{PipelinesAreFormed, ProductsAreApart}
+use Rattle.pipe_net.specs.PipeForms.Parts.{outputs_of, design, names_of}
+use Rattle.pipe_net.specs.PipeForms.Forming.{PipelinesAreFormed, ProductsAreApart}
 use Rattle.pipe_design.specs.Linking.{IsLinked, shown_outputs}
 
 -- ---- what the outputs show is what those of the pipeline do

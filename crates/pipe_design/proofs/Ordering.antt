@@ -6,8 +6,8 @@ use Rattle.block_core.specs.declared.block.Block.{Block}
 use Rattle.block_core.specs.declared.block.Placed.{Placed}
 use Rattle.block_core.specs.Blocks.{BlockTree, Among}
 use Rattle.block_core.specs.View.{block_of, Makes}
-use Rattle.row_plan.specs.cell_core.Rows.{numbers}
-use Rattle.row_plan.proofs.cell_core_laws.NumberLaws.{numbers_more}
+use Rattle.hazard_core.specs.cell_core.Rows.{numbers}
+use Rattle.hazard_core.proofs.cell_core_laws.NumberLaws.{numbers_more}
 use Rattle.pipe_net.specs.declared.parts.Part.{Part}
 use Rattle.pipe_net.specs.declared.parts.Sizes.{Sizes}
 use Rattle.pipe_net.specs.Parts.{part, part_place, part_count}

@@ -5,17 +5,17 @@ use Rattle.block_core.specs.declared.name.Name.{Name}
 use Rattle.block_core.specs.declared.block.Block.{Block}
 use Rattle.block_core.specs.Blocks.{BlockTree, Whole}
 use Rattle.block_core.specs.View.{block_of}
-use Rattle.change_net.specs.declared.change.ChangePart.{ChangePart}
-use Rattle.change_net.specs.declared.pointed.PointedWords.{PointedWords}
-use Rattle.target_net.specs.declared.targets.TargetPart.{TargetPart}
+use Rattle.commit_net.specs.declared.change_net.change.ChangePart.{ChangePart}
+use Rattle.commit_net.specs.declared.change_net.pointed.PointedWords.{PointedWords}
+use Rattle.turn_net.specs.declared.target_net.targets.TargetPart.{TargetPart}
 use Rattle.pipe_net.specs.declared.parts.Part.{Part}
 use Rattle.pipe_net.specs.declared.parts.Sizes.{Sizes}
 use Rattle.pipe_net.specs.Parts as part
 use Rattle.pipe_net.specs.Parts.{behind_words, behind_maps, part_count}
-use Rattle.frame_parts.specs.Blocks as frames
-use Rattle.turn_parts.specs.slot_parts.declared.slots.SlotsPart.{SlotsPart}
-use Rattle.map_parts.specs.declared.parts.PartsOfMap.{PartsOfMap}
-use Rattle.map_parts.specs.Whole as maps
+use Rattle.place_parts.specs.FrameParts.Blocks as frames
+use Rattle.pipe_parts.specs.declared.slot_parts.slots.SlotsPart.{SlotsPart}
+use Rattle.pipe_design.specs.declared.map_parts.parts.PartsOfMap.{PartsOfMap}
+use Rattle.pipe_design.specs.MapParts.Whole as maps
 use Rattle.pipe_design.specs.declared.parts.Others.{Others}
 use Rattle.pipe_design.specs.Order.{Lists, all_of, pairwise, no_block, whole_of}
 use Rattle.pipe_design.specs.Parts.{blocks_of_map, lists_of}

@@ -4,25 +4,25 @@ use Rattle.std.proofs.Common.{◌≡◌, ◌∙◌, ◌⊎◌, inl, inr, ℕ, su
 use Rattle.std.proofs.lemmas.List.{get_or_default}
 use Rattle.std.proofs.lemmas.List.Elements.{All-cons, All-map, All-weaker, All-contains, Contains-get_or}
 use Rattle.block_core.specs.declared.name.Name.{Name}
-use Rattle.row_plan.specs.cell_core.declared.program.FrameByte.{FrameByte}
-use Rattle.row_plan.specs.cell_core.Cells.{cell_at}
-use Rattle.row_plan.specs.cell_core.Sites.{ProgramView}
-use Rattle.cell_nets.specs.Operands.{IsOperand}
+use Rattle.hazard_core.specs.cell_core.declared.program.FrameByte.{FrameByte}
+use Rattle.hazard_core.specs.cell_core.Cells.{cell_at}
+use Rattle.hazard_core.specs.cell_core.Sites.{ProgramView}
+use Rattle.overlay_net.specs.cell_nets.Operands.{IsOperand}
 use Rattle.row_plan.specs.Plan.{Plan, answer_cells}
-use Rattle.site_table.specs.row_net.Table.{IsIn, IsTable, is_constant}
-use Rattle.place_net.specs.declared.outputs.Outputs.{Outputs}
-use Rattle.place_net.specs.Exit.{byte_operand, output_operands}
-use Rattle.site_table.specs.Lists.{held_cells}
-use Rattle.site_table.specs.Staged.{AreStaged}
-use Rattle.site_table.specs.Tables.{StandBehind}
+use Rattle.row_net.specs.Table.{IsIn, IsTable, is_constant}
+use Rattle.row_net.specs.declared.place_net.outputs.Outputs.{Outputs}
+use Rattle.row_net.specs.PlaceNet.Exit.{byte_operand, output_operands}
+use Rattle.stage_net.specs.SiteTable.Lists.{held_cells}
+use Rattle.stage_net.specs.SiteTable.Staged.{AreStaged}
+use Rattle.stage_net.specs.SiteTable.Tables.{StandBehind}
 use Rattle.pipe_net.specs.declared.parts.Part.{Part}
 use Rattle.pipe_net.specs.Parts as part
 use Rattle.pipe_net.specs.Layout.{Table, IsBy}
-use Rattle.map_parts.specs.pipe_draft.declared.draft.Draft.{Draft}
-use Rattle.map_parts.specs.pipe_draft.declared.places.Behind.{Behind}
-use Rattle.map_parts.specs.pipe_draft.Program.{build_of}
-use Rattle.map_parts.specs.pipe_draft.Draft.{program_in, plan_in, IsDraft}
-use Rattle.map_parts.specs.pipe_draft.Places.{ArePlaces}
+use Rattle.pipe_parts.specs.declared.pipe_draft.draft.Draft.{Draft}
+use Rattle.pipe_parts.specs.declared.pipe_draft.places.Behind.{Behind}
+use Rattle.pipe_parts.specs.PipeDraft.Program.{build_of}
+use Rattle.pipe_parts.specs.PipeDraft.Draft.{program_in, plan_in, IsDraft}
+use Rattle.pipe_parts.specs.PipeDraft.Places.{ArePlaces}
 use Rattle.pipe_design.specs.Answer.{IsByteIn, AreOutputs}
 use Rattle.pipe_design.proofs.Answering.{mapped_in}
 

@@ -2,23 +2,23 @@
 use Rattle.std.proofs.Common.{◌≡◌, ◌∙◌, ℕ, ◌<◌, All, List, length, map as map_list, get_or, sym, ap, subst, arith}
 use Rattle.std.proofs.lemmas.List.{length-map}
 use Rattle.block_core.specs.declared.name.Name.{Name}
-use Rattle.cell_nets.specs.Operands.{IsOperand}
-use Rattle.target_net.specs.read_net.declared.sites.MapNets.{MapNets}
-use Rattle.target_net.specs.read_net.declared.sites.OwnSite.{OwnSite}
-use Rattle.host_net.specs.map_block.declared.form.MapForm.{MapForm}
-use Rattle.ring_net.specs.declared.shape.ControlShape.{ControlShape}
-use Rattle.target_net.specs.declared.targets.TargetPart.{TargetPart}
-use Rattle.pipe_net.specs.turn_net.Nets.{number_of}
+use Rattle.overlay_net.specs.cell_nets.Operands.{IsOperand}
+use Rattle.commit_net.specs.read_net.declared.sites.MapNets.{MapNets}
+use Rattle.commit_net.specs.read_net.declared.sites.OwnSite.{OwnSite}
+use Rattle.commit_net.specs.declared.map_block.form.MapForm.{MapForm}
+use Rattle.control_net.specs.declared.ring_net.shape.ControlShape.{ControlShape}
+use Rattle.turn_net.specs.declared.target_net.targets.TargetPart.{TargetPart}
+use Rattle.turn_net.specs.Nets.{number_of}
 use Rattle.pipe_net.specs.declared.parts.Part.{Part}
-use Rattle.map_parts.specs.pipe_draft.declared.draft.Draft.{Draft}
-use Rattle.map_parts.specs.pipe_draft.declared.places.Behind.{Behind}
-use Rattle.map_parts.specs.pipe_draft.Draft.{program_in, decls_in}
-use Rattle.turn_parts.specs.slot_parts.Nets.{AreMapNets}
-use Rattle.turn_parts.specs.declared.parts.TurnParts.{TurnParts}
-use Rattle.turn_parts.specs.Parts.{AreTurnPartsIn}
-use Rattle.map_parts.specs.Operations.{AreTargetsOn, IsCommitting}
-use Rattle.map_parts.specs.declared.committing.MapCommits.{MapCommits}
-use Rattle.map_parts.specs.declared.committing.Committing.{Committing}
+use Rattle.pipe_parts.specs.declared.pipe_draft.draft.Draft.{Draft}
+use Rattle.pipe_parts.specs.declared.pipe_draft.places.Behind.{Behind}
+use Rattle.pipe_parts.specs.PipeDraft.Draft.{program_in, decls_in}
+use Rattle.pipe_parts.specs.SlotParts.Nets.{AreMapNets}
+use Rattle.pipe_parts.specs.declared.turn_parts.parts.TurnParts.{TurnParts}
+use Rattle.pipe_parts.specs.TurnParts.Parts.{AreTurnPartsIn}
+use Rattle.pipe_design.specs.MapParts.Operations.{AreTargetsOn, IsCommitting}
+use Rattle.pipe_design.specs.declared.map_parts.committing.MapCommits.{MapCommits}
+use Rattle.pipe_design.specs.declared.map_parts.committing.Committing.{Committing}
 use Rattle.place_parts.specs.Maps.{AreMapsFor}
 use Rattle.pipe_design.specs.Parts.{SaysAll, AreMapCommits}
 use Rattle.pipe_design.proofs.Joining.{some_of}

@@ -3,46 +3,46 @@ use Rattle.std.specs.Prelude.{◌^◌}
 use Rattle.std.proofs.Common.{◌≡◌, ◌∙◌, ℕ, suc, ◌<◌, ◌≤◌, List, length, get_or, refl, sym, ap, subst, arith, slice_index}
 use Rattle.std.specs.declared.vec.Vec.{Vec}
 use Rattle.std.specs.declared.alloc.Global.{Global}
-use Rattle.xdp_maps.specs.declared.decl.MapKind.TheVariants.{Array}
+use Rattle.hazard_core.specs.xdp_maps.declared.decl.MapKind.TheVariants.{Array}
 use Rattle.block_core.specs.declared.name.Name.{Name}
 use Rattle.block_core.specs.declared.name.Name.TheVariants as name
 use Rattle.block_core.specs.declared.block.Block.{Block}
 use Rattle.block_core.specs.Blocks.{BlockTree, Whole}
 use Rattle.block_core.specs.declared.block.Placed.{Placed}
 use Rattle.block_core.specs.View.{block_of, Makes}
-use Rattle.row_plan.specs.cell_core.View.{program_of}
-use Rattle.cell_nets.specs.declared.operand.Operand.TheVariants.{Known}
+use Rattle.hazard_core.specs.cell_core.View.{program_of}
+use Rattle.overlay_net.specs.cell_nets.declared.operand.Operand.TheVariants.{Known}
 use Rattle.control_net.specs.Returns.{due_name}
-use Rattle.target_net.specs.read_net.declared.sites.MapNets.{MapNets}
-use Rattle.site_table.specs.site_operands.declared.SiteNets.{SiteNets}
-use Rattle.change_net.specs.declared.change.ChangePart.{ChangePart}
-use Rattle.target_net.specs.declared.targets.TargetPart.{TargetPart}
+use Rattle.commit_net.specs.read_net.declared.sites.MapNets.{MapNets}
+use Rattle.overlay_net.specs.declared.site_operands.SiteNets.{SiteNets}
+use Rattle.commit_net.specs.declared.change_net.change.ChangePart.{ChangePart}
+use Rattle.turn_net.specs.declared.target_net.targets.TargetPart.{TargetPart}
 use Rattle.pipe_net.specs.declared.parts.Part.{Part}
 use Rattle.pipe_net.specs.declared.parts.Sizes.{Sizes}
 use Rattle.pipe_net.specs.Parts as part
 use Rattle.pipe_net.specs.Parts.{part_place, part_count}
 use Rattle.pipe_net.specs.Layout.{Layout}
-use Rattle.map_parts.specs.mark_parts.pipe_marks.Parts.{AreMarkParts, AreMarksOf}
-use Rattle.turn_parts.specs.slot_parts.pipe_turns.Maps.{decl_at}
-use Rattle.map_parts.specs.pipe_maps.Parts.{commits_net, AreMapParts}
-use Rattle.frame_parts.specs.pipe_frames.Parts.{AreFrameParts}
-use Rattle.pipe_clocks.specs.pipe_forms.Parts.{AreParts}
-use Rattle.pipe_clocks.specs.Following.{IsPipeline}
-use Rattle.map_parts.specs.mark_parts.Due.{IsDuePart}
-use Rattle.map_parts.specs.mark_parts.Marks.{IsMarksPart}
-use Rattle.map_parts.specs.mark_parts.Laws.{IsFor, PartsAreOfMarks}
-use Rattle.turn_parts.specs.slot_parts.declared.slots.SlotsPart.{SlotsPart}
-use Rattle.turn_parts.specs.slot_parts.Slots.{AreSlotsParts}
-use Rattle.turn_parts.specs.slot_parts.Laws.{AreShownMaps, SlotsAreShown}
-use Rattle.turn_parts.specs.Laws.{HasTurnBlocks, IsForTurn, AreTurnPartsOf, PartsAreOfTurns}
-use Rattle.map_parts.specs.declared.committing.MapCommits.{MapCommits}
-use Rattle.map_parts.specs.Laws.{IsSaidBy, PartsAreOfMaps}
+use Rattle.pipe_net.specs.PipeMarks.Parts.{AreMarkParts, AreMarksOf}
+use Rattle.pipe_net.specs.PipeTurns.Maps.{decl_at}
+use Rattle.pipe_net.specs.PipeMaps.Parts.{commits_net, AreMapParts}
+use Rattle.pipe_net.specs.PipeFrames.Parts.{AreFrameParts}
+use Rattle.pipe_net.specs.PipeForms.Parts.{AreParts}
+use Rattle.pipe_net.specs.PipeClocks.Following.{IsPipeline}
+use Rattle.place_parts.specs.MarkParts.Due.{IsDuePart}
+use Rattle.place_parts.specs.MarkParts.Marks.{IsMarksPart}
+use Rattle.place_parts.specs.MarkParts.Laws.{IsFor, PartsAreOfMarks}
+use Rattle.pipe_parts.specs.declared.slot_parts.slots.SlotsPart.{SlotsPart}
+use Rattle.pipe_parts.specs.SlotParts.Slots.{AreSlotsParts}
+use Rattle.pipe_parts.specs.SlotParts.Laws.{AreShownMaps, SlotsAreShown}
+use Rattle.pipe_parts.specs.TurnParts.Laws.{HasTurnBlocks, IsForTurn, AreTurnPartsOf, PartsAreOfTurns}
+use Rattle.pipe_design.specs.declared.map_parts.committing.MapCommits.{MapCommits}
+use Rattle.pipe_design.specs.MapParts.Laws.{IsSaidBy, PartsAreOfMaps}
 use Rattle.place_parts.specs.Laws.{ArePlacesOf, PartsAreOfPlaces}
-use Rattle.map_parts.specs.pipe_draft.declared.draft.Draft.{Draft}
-use Rattle.map_parts.specs.pipe_draft.declared.places.Behind.{Behind}
-use Rattle.map_parts.specs.pipe_draft.Draft.{program_in, plan_in, decls_in, IsDraft}
-use Rattle.map_parts.specs.pipe_draft.Places.{ArePlaces}
-use Rattle.map_parts.specs.pipe_draft.Laid.{IsDrafted, IsAnswered, SitesAreAtPlaces}
+use Rattle.pipe_parts.specs.declared.pipe_draft.draft.Draft.{Draft}
+use Rattle.pipe_parts.specs.declared.pipe_draft.places.Behind.{Behind}
+use Rattle.pipe_parts.specs.PipeDraft.Draft.{program_in, plan_in, decls_in, IsDraft}
+use Rattle.pipe_parts.specs.PipeDraft.Places.{ArePlaces}
+use Rattle.pipe_parts.specs.PipeDraft.Laid.{IsDrafted, IsAnswered, SitesAreAtPlaces}
 use Rattle.pipe_design.specs.declared.parts.Others.{Others}
 use Rattle.pipe_design.specs.Layout.{Shown, layout}
 use Rattle.pipe_design.specs.Order.{Lists, all_of, whole_of}

@@ -2,14 +2,14 @@
 use Rattle.std.specs.Prelude.{◌≡◌, ◌==◌, ◌/◌, ℕ, Bool, Option, List, All, Contains, map as map_list}
 use Rattle.std.specs.List.{filter, list_any}
 use Rattle.block_core.specs.declared.name.Name.{Name}
-use Rattle.row_plan.specs.cell_core.declared.program.FrameByte.{FrameByte}
-use Rattle.row_plan.specs.cell_core.Rows.{numbers}
-use Rattle.row_plan.specs.cell_core.Sites.{ProgramView}
-use Rattle.cell_nets.specs.declared.operand.Operand.{Operand}
-use Rattle.site_table.specs.row_net.Table.{Stands}
-use Rattle.place_net.specs.declared.outputs.AnswerByte.{AnswerByte}
-use Rattle.place_net.specs.declared.outputs.Outputs.{Outputs}
-use Rattle.place_net.specs.Exit.{byte_numbers}
+use Rattle.hazard_core.specs.cell_core.declared.program.FrameByte.{FrameByte}
+use Rattle.hazard_core.specs.cell_core.Rows.{numbers}
+use Rattle.hazard_core.specs.cell_core.Sites.{ProgramView}
+use Rattle.overlay_net.specs.cell_nets.declared.operand.Operand.{Operand}
+use Rattle.row_net.specs.Table.{Stands}
+use Rattle.row_net.specs.declared.place_net.outputs.AnswerByte.{AnswerByte}
+use Rattle.row_net.specs.declared.place_net.outputs.Outputs.{Outputs}
+use Rattle.row_net.specs.PlaceNet.Exit.{byte_numbers}
 use Rattle.pipe_net.specs.declared.parts.Part.{Part}
 use Rattle.pipe_net.specs.Layout.{Table}
 

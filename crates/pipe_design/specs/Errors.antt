@@ -1,8 +1,8 @@
 -- Why a program has no pipeline, where it has no draft or its parts cannot be linked.
 use Rattle.block_core.specs.declared.error.LinkError.{LinkError}
 use Rattle.block_core.specs.declared.error.LinkError.TheVariants as link
-use Rattle.map_parts.specs.pipe_draft.declared.error.DraftError.{DraftError}
-use Rattle.map_parts.specs.pipe_draft.declared.error.DraftError.TheVariants as draft
+use Rattle.pipe_parts.specs.declared.pipe_draft.error.DraftError.{DraftError}
+use Rattle.pipe_parts.specs.declared.pipe_draft.error.DraftError.TheVariants as draft
 use Rattle.pipe_design.specs.declared.error.PipelineError.{PipelineError}
 use Rattle.pipe_design.specs.declared.error.PipelineError.TheVariants as pipeline
 

@@ -3,20 +3,20 @@ use Rattle.std.specs.Prelude.{◌≡◌, ℕ, zero, suc, ◌+◌, ◌<◌, ◌�
 use Rattle.std.proofs.Common.{get_or}
 use Rattle.block_core.specs.declared.name.Name.{Name}
 use Rattle.block_core.specs.declared.name.Name.TheVariants as name
-use Rattle.cell_nets.specs.declared.operand.Operand.TheVariants.{Known}
-use Rattle.ring_net.specs.declared.shape.ControlShape.{ControlShape}
-use Rattle.site_table.specs.row_net.Lists.{made_cells}
-use Rattle.place_net.specs.declared.outputs.Outputs.{Outputs}
-use Rattle.site_table.specs.Lists.{held_cells, held_pointers, made_pointers}
-use Rattle.change_net.specs.declared.change.ChangePart.{ChangePart}
-use Rattle.pipe_net.specs.turn_net.declared.nets.RecordNets.{RecordNets}
-use Rattle.pipe_net.specs.turn_net.declared.nets.TurnShape.{TurnShape}
+use Rattle.overlay_net.specs.cell_nets.declared.operand.Operand.TheVariants.{Known}
+use Rattle.control_net.specs.declared.ring_net.shape.ControlShape.{ControlShape}
+use Rattle.row_net.specs.Lists.{made_cells}
+use Rattle.row_net.specs.declared.place_net.outputs.Outputs.{Outputs}
+use Rattle.stage_net.specs.SiteTable.Lists.{held_cells, held_pointers, made_pointers}
+use Rattle.commit_net.specs.declared.change_net.change.ChangePart.{ChangePart}
+use Rattle.turn_net.specs.declared.nets.RecordNets.{RecordNets}
+use Rattle.turn_net.specs.declared.nets.TurnShape.{TurnShape}
 use Rattle.pipe_net.specs.declared.parts.Part.{Part}
 use Rattle.pipe_net.specs.Layout.{Layout, Table, ChangeView}
-use Rattle.map_parts.specs.pipe_draft.declared.draft.Draft.{Draft}
-use Rattle.map_parts.specs.pipe_draft.declared.places.Behind.{Behind}
-use Rattle.map_parts.specs.pipe_draft.Program.{build_of}
-use Rattle.map_parts.specs.pipe_draft.Draft.{program_in, plan_in, decls_in}
+use Rattle.pipe_parts.specs.declared.pipe_draft.draft.Draft.{Draft}
+use Rattle.pipe_parts.specs.declared.pipe_draft.places.Behind.{Behind}
+use Rattle.pipe_parts.specs.PipeDraft.Program.{build_of}
+use Rattle.pipe_parts.specs.PipeDraft.Draft.{program_in, plan_in, decls_in}
 
 -- the sizes of control: a slot for each place and for three frames that come, wait or go
 pub record IsShapeOf (d : Draft) (c : ControlShape) : Type 0 where

@@ -1,6 +1,6 @@
-pub use Rattle.pipe_clocks.specs.pipe_forms as pipe_forms
-pub use Rattle.pipe_net.specs as pipe_net
-pub use Rattle.ring_net.specs.product_rules as product_rules
+pub use Rattle.overlay_net.specs as overlay_net
+pub use Rattle.pipe_parts.specs as pipe_parts
+pub use Rattle.stage_net.specs as stage_net
 pub mod Pipeline
 pub mod Errors
 pub mod Answer
@@ -9,3 +9,4 @@ pub mod Marks
 pub mod Layout
 pub mod Parts
 pub mod Linking
+pub mod MapParts

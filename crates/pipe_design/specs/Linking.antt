@@ -6,19 +6,19 @@ use Rattle.block_core.specs.declared.name.Name.TheVariants as name
 use Rattle.block_core.specs.declared.block.Placed.{Placed}
 use Rattle.block_core.specs.Blocks.{OutputTree, Whole}
 use Rattle.block_core.specs.View.{Makes}
-use Rattle.ring_net.specs.declared.names.Register.TheVariants.{Passed}
-use Rattle.ring_net.specs.Names.{register_name}
+use Rattle.control_net.specs.declared.ring_net.names.Register.TheVariants.{Passed}
+use Rattle.control_net.specs.RingNet.Names.{register_name}
 use Rattle.control_net.specs.declared.names.Wire.TheVariants as wire
-use Rattle.host_net.specs.declared.names.Wire.TheVariants as host
-use Rattle.host_net.specs.Names.{wire_name, value_name}
-use Rattle.scatter_net.specs.Scatter.{last_name, bytes_name, verdict_name, target_name, data_name}
+use Rattle.turn_net.specs.declared.host_net.names.Wire.TheVariants as host
+use Rattle.turn_net.specs.HostNet.Names.{wire_name, value_name}
+use Rattle.frame_net.specs.ScatterNet.Scatter.{last_name, bytes_name, verdict_name, target_name, data_name}
 use Rattle.pipe_net.specs.declared.parts.Part.{Part}
 use Rattle.pipe_net.specs.declared.parts.Sizes.{Sizes}
 use Rattle.pipe_net.specs.Parts as part
 use Rattle.pipe_net.specs.Parts.{part_place}
 use Rattle.pipe_net.specs.Layout.{Layout}
-use Rattle.frame_parts.specs.pipe_frames.Parts.{told_by}
-use Rattle.pipe_clocks.specs.pipe_forms.Parts.{shown_at, AreParts}
+use Rattle.pipe_net.specs.PipeFrames.Parts.{told_by}
+use Rattle.pipe_net.specs.PipeForms.Parts.{shown_at, AreParts}
 
 -- the parts in memory are those of a pipeline of these sizes, in which so many words of a frame may change
 pub record IsLinked (z : Sizes) (words : ℕ) (ms : List (Placed Part)) (l : Layout) (d : Whole Part) : Type 0 where

@@ -4,14 +4,14 @@ use Rattle.std.proofs.Common.{get_or}
 use Rattle.block_core.specs.declared.name.Name.{Name}
 use Rattle.block_core.specs.declared.block.Block.{Block}
 use Rattle.block_core.specs.View.{block_of}
-use Rattle.change_net.specs.declared.change.ChangePart.{ChangePart}
+use Rattle.commit_net.specs.declared.change_net.change.ChangePart.{ChangePart}
 use Rattle.pipe_net.specs.declared.parts.Part.{Part}
-use Rattle.map_parts.specs.pipe_draft.declared.draft.Draft.{Draft}
-use Rattle.map_parts.specs.pipe_draft.declared.places.Behind.{Behind}
-use Rattle.map_parts.specs.pipe_draft.Draft.{plan_in, decls_in}
-use Rattle.map_parts.specs.mark_parts.declared.layout.MarkLayout.{MarkLayout}
-use Rattle.map_parts.specs.mark_parts.Due.{IsDuePart}
-use Rattle.map_parts.specs.mark_parts.Marks.{IsMarksPart}
+use Rattle.pipe_parts.specs.declared.pipe_draft.draft.Draft.{Draft}
+use Rattle.pipe_parts.specs.declared.pipe_draft.places.Behind.{Behind}
+use Rattle.pipe_parts.specs.PipeDraft.Draft.{plan_in, decls_in}
+use Rattle.place_parts.specs.declared.mark_parts.layout.MarkLayout.{MarkLayout}
+use Rattle.place_parts.specs.MarkParts.Due.{IsDuePart}
+use Rattle.place_parts.specs.MarkParts.Marks.{IsMarksPart}
 use Rattle.pipe_design.specs.declared.marks.DueParts.{DueParts}
 
 -- what marks are made for, of a draft

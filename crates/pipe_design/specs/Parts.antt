@@ -5,34 +5,34 @@ use Rattle.block_core.specs.declared.name.Name.{Name}
 use Rattle.block_core.specs.declared.block.Placed.{Placed}
 use Rattle.block_core.specs.Blocks.{BlockTree, Whole}
 use Rattle.block_core.specs.View.{block_of, Makes}
-use Rattle.ring_net.specs.declared.shape.ControlShape.{ControlShape}
-use Rattle.place_net.specs.declared.outputs.Outputs.{Outputs}
-use Rattle.target_net.specs.read_net.declared.sites.MapNets.{MapNets}
-use Rattle.change_net.specs.declared.change.ChangePart.{ChangePart}
-use Rattle.change_net.specs.declared.pointed.PointedWords.{PointedWords}
-use Rattle.target_net.specs.declared.targets.TargetPart.{TargetPart}
+use Rattle.control_net.specs.declared.ring_net.shape.ControlShape.{ControlShape}
+use Rattle.row_net.specs.declared.place_net.outputs.Outputs.{Outputs}
+use Rattle.commit_net.specs.read_net.declared.sites.MapNets.{MapNets}
+use Rattle.commit_net.specs.declared.change_net.change.ChangePart.{ChangePart}
+use Rattle.commit_net.specs.declared.change_net.pointed.PointedWords.{PointedWords}
+use Rattle.turn_net.specs.declared.target_net.targets.TargetPart.{TargetPart}
 use Rattle.pipe_net.specs.declared.parts.Part.{Part}
 use Rattle.pipe_net.specs.Parts.{part_place}
 use Rattle.pipe_net.specs.Layout.{Layout}
-use Rattle.frame_parts.specs.pipe_frames.Parts.{AreFrameParts}
-use Rattle.frame_parts.specs.Blocks.{HasBlocks as HasFrameBlocks}
-use Rattle.map_parts.specs.mark_parts.declared.layout.MarkLayout.{MarkLayout}
-use Rattle.turn_parts.specs.slot_parts.declared.slots.SlotsPart.{SlotsPart}
-use Rattle.turn_parts.specs.slot_parts.Slots.{AreSlotsParts}
-use Rattle.turn_parts.specs.slot_parts.Nets.{AreMapNets}
-use Rattle.turn_parts.specs.declared.parts.TurnParts.{TurnParts}
-use Rattle.turn_parts.specs.Parts.{AreTurnPartsIn}
-use Rattle.map_parts.specs.declared.committing.MapCommits.{MapCommits}
-use Rattle.map_parts.specs.declared.committing.Committing.{Committing}
-use Rattle.map_parts.specs.declared.parts.PartsOfMap.{PartsOfMap}
-use Rattle.map_parts.specs.declared.parts.MapParts.{MapParts}
-use Rattle.map_parts.specs.Operations.{AreChosen, AreTargetsOn}
-use Rattle.map_parts.specs.Whole.{AreMapPartsFor}
+use Rattle.pipe_net.specs.PipeFrames.Parts.{AreFrameParts}
+use Rattle.place_parts.specs.FrameParts.Blocks.{HasBlocks as HasFrameBlocks}
+use Rattle.place_parts.specs.declared.mark_parts.layout.MarkLayout.{MarkLayout}
+use Rattle.pipe_parts.specs.declared.slot_parts.slots.SlotsPart.{SlotsPart}
+use Rattle.pipe_parts.specs.SlotParts.Slots.{AreSlotsParts}
+use Rattle.pipe_parts.specs.SlotParts.Nets.{AreMapNets}
+use Rattle.pipe_parts.specs.declared.turn_parts.parts.TurnParts.{TurnParts}
+use Rattle.pipe_parts.specs.TurnParts.Parts.{AreTurnPartsIn}
+use Rattle.pipe_design.specs.declared.map_parts.committing.MapCommits.{MapCommits}
+use Rattle.pipe_design.specs.declared.map_parts.committing.Committing.{Committing}
+use Rattle.pipe_design.specs.declared.map_parts.parts.PartsOfMap.{PartsOfMap}
+use Rattle.pipe_design.specs.declared.map_parts.parts.MapParts.{MapParts}
+use Rattle.pipe_design.specs.MapParts.Operations.{AreChosen, AreTargetsOn}
+use Rattle.pipe_design.specs.MapParts.Whole.{AreMapPartsFor}
 use Rattle.place_parts.specs.Parts.{ArePlaceParts}
-use Rattle.map_parts.specs.pipe_draft.declared.draft.Draft.{Draft}
-use Rattle.map_parts.specs.pipe_draft.declared.places.Behind.{Behind}
-use Rattle.map_parts.specs.pipe_draft.Draft.{program_in, plan_in, decls_in}
-use Rattle.pipe_clocks.specs.Following.{IsPipeline}
+use Rattle.pipe_parts.specs.declared.pipe_draft.draft.Draft.{Draft}
+use Rattle.pipe_parts.specs.declared.pipe_draft.places.Behind.{Behind}
+use Rattle.pipe_parts.specs.PipeDraft.Draft.{program_in, plan_in, decls_in}
+use Rattle.pipe_net.specs.PipeClocks.Following.{IsPipeline}
 use Rattle.pipe_design.specs.declared.marks.DueParts.{DueParts}
 use Rattle.pipe_design.specs.declared.parts.Others.{Others}
 use Rattle.pipe_design.specs.Answer.{AreOutputs}

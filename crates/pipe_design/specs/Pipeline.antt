@@ -1,17 +1,17 @@
 -- The design of a program whose packets operate on maps.
 use Rattle.std.specs.Prelude.{◌≡◌, List, IsTrue}
-use Rattle.xdp_maps.specs.declared.decl.MapDecl.{MapDecl}
+use Rattle.hazard_core.specs.xdp_maps.declared.decl.MapDecl.{MapDecl}
 use Rattle.net_core.specs.Nets.{Netlist}
 use Rattle.block_core.specs.Blocks.{Whole}
 use Rattle.block_core.specs.Range.{design_in_range}
-use Rattle.row_plan.specs.cell_core.Sites.{ProgramView}
+use Rattle.hazard_core.specs.cell_core.Sites.{ProgramView}
 use Rattle.row_plan.specs.Plan.{Plan}
-use Rattle.site_table.specs.Pointing.{AreFlagged}
+use Rattle.stage_net.specs.SiteTable.Pointing.{AreFlagged}
 use Rattle.pipe_net.specs.declared.parts.Part.{Part}
 use Rattle.pipe_net.specs.Layout.{Layout}
-use Rattle.map_parts.specs.pipe_draft.Program.{build_of}
-use Rattle.pipe_clocks.specs.pipe_forms.Parts.{outputs_of, design, names_of}
-use Rattle.pipe_clocks.specs.Following.{IsPipeline}
+use Rattle.pipe_parts.specs.PipeDraft.Program.{build_of}
+use Rattle.pipe_net.specs.PipeForms.Parts.{outputs_of, design, names_of}
+use Rattle.pipe_net.specs.PipeClocks.Following.{IsPipeline}
 
 -- a pipeline of the program, by this plan and with these maps
 pub record IsPipelineFor (p : ProgramView) (plan : Plan) (decls : List MapDecl) (l : Layout) (d : Whole Part) : Type 0 where

@@ -2,23 +2,23 @@
 
 ghost use Rattle.std.specs.Prelude.{ℕ, ◌≡◌, ◌<◌, ◌≤◌, All, IfOk, length, map as map_list};
 ghost use Rattle.std.proofs.Common.{get_or};
-ghost use Rattle.row_plan.specs.cell_core.declared.program.FrameByte.{FrameByte};
-ghost use Rattle.row_plan.specs.cell_core.View.{program_of};
-ghost use Rattle.cell_nets.specs.Operands.{IsOperand};
-ghost use Rattle.place_net.specs.Exit.{byte_number, output_operands};
-ghost use Rattle.site_table.specs.row_net.Table.{IsIn, Stands};
-ghost use Rattle.map_parts.specs.pipe_draft.declared.places.Behind.{Behind};
-ghost use Rattle.map_parts.specs.pipe_draft.Draft.{program_in, plan_in, IsDraft};
-ghost use Rattle.map_parts.specs.pipe_draft.Places.{ArePlaces};
+ghost use Rattle.hazard_core.specs.cell_core.declared.program.FrameByte.{FrameByte};
+ghost use Rattle.hazard_core.specs.cell_core.View.{program_of};
+ghost use Rattle.overlay_net.specs.cell_nets.Operands.{IsOperand};
+ghost use Rattle.row_net.specs.PlaceNet.Exit.{byte_number, output_operands};
+ghost use Rattle.row_net.specs.Table.{IsIn, Stands};
+ghost use Rattle.pipe_parts.specs.declared.pipe_draft.places.Behind.{Behind};
+ghost use Rattle.pipe_parts.specs.PipeDraft.Draft.{program_in, plan_in, IsDraft};
+ghost use Rattle.pipe_parts.specs.PipeDraft.Places.{ArePlaces};
 ghost use Rattle.pipe_design.specs.Answer.{IsByteIn, AreOutputs, has_byte, changed_words};
 
 use block_core::name::Name;
-use cell_nets::operand::Operand;
-use map_parts::pipe_draft::{Behind, Draft};
+use hazard_core::cell_core::program::{CellProgram, FrameByte};
+use overlay_net::cell_nets::operand::Operand;
 use pipe_net::parts::Part;
-use place_net::{AnswerByte, Outputs};
-use row_plan::cell_core::program::{CellProgram, FrameByte};
-use site_table::laws::stages_are_placed;
+use pipe_parts::pipe_draft::{Behind, Draft};
+use row_net::place_net::{AnswerByte, Outputs};
+use stage_net::site_table::laws::stages_are_placed;
 use std::alloc::{AllocError, Global};
 
 // What stands for a cell that the table has.

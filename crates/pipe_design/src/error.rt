@@ -5,7 +5,7 @@ ghost use Rattle.pipe_design.specs.declared.error.PipelineError.TheVariants.{NoM
 ghost use Rattle.pipe_design.specs.Errors.{of_draft, of_link};
 
 use block_core::LinkError;
-use map_parts::pipe_draft::DraftError;
+use pipe_parts::pipe_draft::DraftError;
 use std::alloc::{AllocError, AllocFailed};
 use thiserror::Error;
 

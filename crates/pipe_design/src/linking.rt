@@ -4,8 +4,8 @@ ghost use Rattle.std.specs.Prelude.{◌≡◌, ◌≤◌, IfOk, IsErrOf, IsTrue,
 ghost use Rattle.net_core.specs.Nets.{TRead};
 ghost use Rattle.net_core.specs.Ports.{port_list};
 ghost use Rattle.net_core.specs.View.{netlist_of};
-ghost use Rattle.ring_net.specs.product_rules.Products.{products_apart};
-ghost use Rattle.block_forms.specs.design_rules.Formed.{IsWellFormed};
+ghost use Rattle.net_core.specs.ProductRules.Products.{products_apart};
+ghost use Rattle.block_core.specs.design_rules.Formed.{IsWellFormed};
 ghost use Rattle.block_core.specs.declared.error.LinkError.TheVariants as error;
 ghost use Rattle.block_core.specs.declared.name.Name.TheVariants as name;
 ghost use Rattle.block_core.specs.Blocks.{Whole};
@@ -15,27 +15,27 @@ ghost use Rattle.pipe_net.specs.declared.parts.Part.{Part};
 ghost use Rattle.pipe_net.specs.Layout.{Layout};
 ghost use Rattle.pipe_net.specs.Parts as part;
 ghost use Rattle.pipe_net.specs.Parts.{IsSmall};
-ghost use Rattle.pipe_clocks.specs.pipe_forms.Parts.{shown_at, outputs_of, design, names_of};
+ghost use Rattle.pipe_net.specs.PipeForms.Parts.{shown_at, outputs_of, design, names_of};
 ghost use Rattle.pipe_design.specs.Linking.{IsLinked, shown_outputs};
 
 use block_core::block::{Output, Placed};
+use block_core::block_forms::laws::{linked_is_well_formed, numbers_are_names};
 use block_core::name::Name;
 use block_core::{LinkError, link};
-use block_forms::laws::{linked_is_well_formed, numbers_are_names};
 use control_net::names::{Wire, wire_name};
-use host_net::names as host;
-use host_net::names::value_name;
+use control_net::ring_net::names::{Register, register_name};
+use frame_net::scatter_net::{bytes_name, data_name, last_name, target_name, verdict_name};
 use net_core::design::{Design, Port};
 use net_core::ports::{
     HOST_PASSED, HOST_READY, HOST_VALUE, IN_READY, OUT_BYTES, OUT_DATA, OUT_LAST, OUT_RELOAD,
     OUT_TARGET, OUT_VALID, OUT_VERDICT, PORT_NAMES, PORTS,
 };
 use net_core::tree::Expr;
-use pipe_clocks::pipe_forms::laws::pipelines_are_formed;
 use pipe_net::parts::{Part, Sizes, scatter};
-use ring_net::names::{Register, register_name};
-use scatter_net::{bytes_name, data_name, last_name, target_name, verdict_name};
+use pipe_net::pipe_forms::laws::pipelines_are_formed;
 use std::alloc::{AllocError, Global};
+use turn_net::host_net::names as host;
+use turn_net::host_net::names::value_name;
 
 // An output that shows a net.
 fn shown(port: u32, net: Name<Part>) -> Output<Name<Part>>
@@ -97,7 +97,7 @@ fn texts(alloc: Global, all: &[&str]) -> Result<Vec<String>, AllocError>
 }
 
 /// The design that is linked of the parts of a pipeline, each at its place, where so many words of a frame may change. Its nets are numbered. It is well
-/// formed, no product stands inside an operand of another in one clock, and [`pipe_clocks::laws::clocks_go_on`] says what its clocks do.
+/// formed, no product stands inside an operand of another in one clock, and [`pipe_net::pipe_clocks::laws::clocks_go_on`] says what its clocks do.
 pub(crate) fn link_pipeline(
     alloc: Global,
     sizes: &Sizes,

@@ -5,17 +5,17 @@ ghost use Rattle.block_core.specs.View.{block_of};
 ghost use Rattle.pipe_design.specs.Order.{blocks_in, pairwise};
 ghost use Rattle.pipe_design.specs.Parts.{blocks_of_map, lists_of};
 
+use crate::map_parts::parts::PartsOfMap;
 use crate::parts::Others;
 use block_core::block::Block;
 use block_core::name::Name;
-use change_net::change::ChangePart;
-use change_net::pointed::PointedWords;
-use frame_parts::parts::FrameParts;
-use map_parts::parts::PartsOfMap;
+use commit_net::change_net::change::ChangePart;
+use commit_net::change_net::pointed::PointedWords;
 use pipe_net::parts::Part;
+use pipe_parts::slot_parts::slots::SlotsPart;
+use place_parts::frame_parts::parts::FrameParts;
 use std::alloc::{AllocError, Global};
-use target_net::targets::TargetPart;
-use turn_parts::slot_parts::slots::SlotsPart;
+use turn_net::target_net::targets::TargetPart;
 
 // The blocks of the parts that show slots.
 fn slot_blocks(alloc: Global, parts: Vec<SlotsPart>) -> Result<Vec<Block<Name<Part>>>, AllocError>

@@ -2,13 +2,13 @@
 
 ghost use Rattle.std.specs.Prelude.{◌≡◌, ◌≤◌, ◌<◌, length, slice_index, IfOk, IsErrOf, IsTrue};
 ghost use Rattle.net_core.specs.View.{netlist_of};
-ghost use Rattle.ring_net.specs.product_rules.Products.{products_apart};
-ghost use Rattle.block_forms.specs.design_rules.Formed.{IsWellFormed};
+ghost use Rattle.net_core.specs.ProductRules.Products.{products_apart};
+ghost use Rattle.block_core.specs.design_rules.Formed.{IsWellFormed};
 ghost use Rattle.block_core.specs.declared.error.LinkError.TheVariants as link;
-ghost use Rattle.row_plan.specs.cell_core.View.{program_of};
-ghost use Rattle.site_table.specs.Constants.{AreEarly};
-ghost use Rattle.map_parts.specs.pipe_draft.Program.{IsForPipe};
-ghost use Rattle.map_parts.specs.pipe_draft.Draft.{most_sites, program_in, plan_in, decls_in, IsDraft};
+ghost use Rattle.hazard_core.specs.cell_core.View.{program_of};
+ghost use Rattle.stage_net.specs.SiteTable.Constants.{AreEarly};
+ghost use Rattle.pipe_parts.specs.PipeDraft.Program.{IsForPipe};
+ghost use Rattle.pipe_parts.specs.PipeDraft.Draft.{most_sites, program_in, plan_in, decls_in, IsDraft};
 ghost use Rattle.pipe_design.specs.declared.error.PipelineError.TheVariants as error;
 ghost use Rattle.pipe_design.specs.Pipeline.{IsPipelineOf, IsTooLarge};
 
@@ -17,12 +17,12 @@ use crate::error::PipelineError;
 use crate::linking::link_pipeline;
 use crate::parts::parts;
 use block_core::LinkError;
-use map_parts::pipe_draft::{Draft, behind_places, draft_of};
+use hazard_core::cell_core::program::CellProgram;
+use hazard_core::cell_core::xdp_state::xdp_maps::decl::MapDecl;
 use net_core::design::Design;
+use pipe_parts::pipe_draft::{Draft, behind_places, draft_of};
 use row_plan::RowPlan;
-use row_plan::cell_core::program::CellProgram;
 use std::alloc::Global;
-use xdp_maps::decl::MapDecl;
 
 // The design of a draft.
 fn design_of(alloc: Global, draft: &Draft<'_>, decls: &[MapDecl]) -> Result<Design, LinkError>
@@ -41,7 +41,7 @@ fn design_of(alloc: Global, draft: &Draft<'_>, decls: &[MapDecl]) -> Result<Desi
 
 /// The design of a program: a pipeline with a place for each row of its plan, in which packets overlap and operate on maps.
 ///
-/// What it does says [`pipe_clocks::laws::clocks_go_on`]. It is well formed, and no product stands inside an operand of another in one clock. Refused is a program that has too many
+/// What it does says [`pipe_net::pipe_clocks::laws::clocks_go_on`]. It is well formed, and no product stands inside an operand of another in one clock. Refused is a program that has too many
 /// sites, a number past the first row that is not 0, or a pipeline with too many nets.
 pub fn pipeline(
     alloc: Global,

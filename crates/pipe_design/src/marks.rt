@@ -1,21 +1,21 @@
 //! The parts of marks at all places up to the commit place.
 
 ghost use Rattle.std.specs.Prelude.{◌≡◌, IfOk};
-ghost use Rattle.map_parts.specs.mark_parts.Marks.{HaveChanges};
-ghost use Rattle.map_parts.specs.pipe_draft.Draft.{decls_in, IsDraft};
-ghost use Rattle.map_parts.specs.pipe_draft.Places.{ArePlaces};
+ghost use Rattle.place_parts.specs.MarkParts.Marks.{HaveChanges};
+ghost use Rattle.pipe_parts.specs.PipeDraft.Draft.{decls_in, IsDraft};
+ghost use Rattle.pipe_parts.specs.PipeDraft.Places.{ArePlaces};
 ghost use Rattle.pipe_design.specs.Marks.{IsMarkLayoutOf, AreDueParts, AreMarkBlocks};
 
 use block_core::block::Block;
 use block_core::name::Name;
-use change_net::change::ChangePart;
-use map_parts::mark_parts::due::due_part;
-use map_parts::mark_parts::layout::MarkLayout;
-use map_parts::mark_parts::marks::marks_block;
-use map_parts::pipe_draft::{Behind, Draft};
+use commit_net::change_net::change::ChangePart;
+use hazard_core::cell_core::xdp_state::xdp_maps::decl::MapDecl;
 use pipe_net::parts::Part;
+use pipe_parts::pipe_draft::{Behind, Draft};
+use place_parts::mark_parts::due::due_part;
+use place_parts::mark_parts::layout::MarkLayout;
+use place_parts::mark_parts::marks::marks_block;
 use std::alloc::{AllocError, Global};
-use xdp_maps::decl::MapDecl;
 
 /// Of each place up to the commit place the net that says whether its packet is due, and the block that shows it.
 #[derive(Drop)]

@@ -1,40 +1,40 @@
 //! The parts of a pipeline.
 
 ghost use Rattle.std.specs.Prelude.{◌≡◌, ◌+◌, ◌≤◌, IfOk, length};
-ghost use Rattle.map_parts.specs.pipe_draft.Draft.{decls_in, program_in, plan_in, IsDraft};
-ghost use Rattle.map_parts.specs.pipe_draft.Places.{ArePlaces, IsBehind};
-ghost use Rattle.turn_parts.specs.slot_parts.Slots.{AreSlotsParts};
-ghost use Rattle.turn_parts.specs.Parts.{AreTurnPartsIn};
+ghost use Rattle.pipe_parts.specs.PipeDraft.Draft.{decls_in, program_in, plan_in, IsDraft};
+ghost use Rattle.pipe_parts.specs.PipeDraft.Places.{ArePlaces, IsBehind};
+ghost use Rattle.pipe_parts.specs.SlotParts.Slots.{AreSlotsParts};
+ghost use Rattle.pipe_parts.specs.TurnParts.Parts.{AreTurnPartsIn};
 ghost use Rattle.pipe_design.specs.Answer.{changed_words};
 ghost use Rattle.pipe_design.specs.Layout.{IsShapeOf};
 ghost use Rattle.pipe_design.specs.Parts.{AreMapCommits, SaysAll, AreMapPartsBy, AreOthers, AreAllParts};
 
 use crate::answer::answer;
 use crate::lists::in_lists;
+use crate::map_parts::committing::{Committing, MapCommits};
+use crate::map_parts::laws::{changes_are_for_marks, parts_are_of_maps};
+use crate::map_parts::parts::{MapParts, map_parts};
 use crate::marks::{due_parts, mark_blocks, mark_layout};
 use crate::order::in_order;
 use block_core::block::{Block, Placed};
 use block_core::name::Name;
-use frame_parts::layout::FrameLayout;
-use frame_parts::parts::{FrameParts, frame_parts};
-use map_parts::committing::{Committing, MapCommits};
-use map_parts::laws::{changes_are_for_marks, parts_are_of_maps};
-use map_parts::mark_parts::laws::parts_are_of_marks;
-use map_parts::parts::{MapParts, map_parts};
-use map_parts::pipe_draft::laws::drafted_are_laid;
-use map_parts::pipe_draft::{Behind, Draft};
+use control_net::ring_net::shape::ControlShape;
+use hazard_core::cell_core::xdp_state::xdp_maps::decl::MapDecl;
 use pipe_net::parts::Part;
+use pipe_parts::pipe_draft::laws::drafted_are_laid;
+use pipe_parts::pipe_draft::{Behind, Draft};
+use pipe_parts::slot_parts::laws::slots_are_shown;
+use pipe_parts::slot_parts::nets::map_nets;
+use pipe_parts::slot_parts::slots::{SlotsPart, slots_parts};
+use pipe_parts::turn_parts::laws::parts_are_of_turns;
+use pipe_parts::turn_parts::parts::{TurnParts, turn_parts};
+use place_parts::frame_parts::layout::FrameLayout;
+use place_parts::frame_parts::parts::{FrameParts, frame_parts};
 use place_parts::laws::parts_are_of_places;
+use place_parts::mark_parts::laws::parts_are_of_marks;
 use place_parts::parts::{PlaceParts, place_parts};
-use ring_net::shape::ControlShape;
 use std::alloc::{AllocError, Global};
-use target_net::targets::TargetPart;
-use turn_parts::laws::parts_are_of_turns;
-use turn_parts::parts::{TurnParts, turn_parts};
-use turn_parts::slot_parts::laws::slots_are_shown;
-use turn_parts::slot_parts::nets::map_nets;
-use turn_parts::slot_parts::slots::{SlotsPart, slots_parts};
-use xdp_maps::decl::MapDecl;
+use turn_net::target_net::targets::TargetPart;
 
 /// The parts beside those that show the slots of maps: those of frames; the blocks that say which packets are due, and those of marks; the parts of what commits, those of
 /// the maps, and those of places.

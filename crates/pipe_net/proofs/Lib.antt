@@ -1,0 +1,7 @@
+pub mod PipeClocks
+pub mod PipeForms
+pub mod PipeFrames
+pub mod PipeMaps
+pub mod PipeMarks
+pub mod PipePlaces
+pub mod PipeTurns

@@ -1,16 +1,16 @@
 -- How the cells of a program are laid out over the places of a pipeline, and the nets that its parts read of others.
 use Rattle.std.specs.Prelude.{◌≡◌, ◌≢◌, ℕ, suc, ◌<◌, ◌≤◌, Bool, Option, All, List, length, map, Contains}
 use Rattle.std.proofs.Common.{get_or}
-use Rattle.map_block.specs.xdp_maps.declared.decl.MapDecl.{MapDecl}
+use Rattle.hazard_core.specs.xdp_maps.declared.decl.MapDecl.{MapDecl}
 use Rattle.block_core.specs.declared.name.Name.{Name}
-use Rattle.turn_net.specs.cell_core.declared.program.FrameByte.{FrameByte}
-use Rattle.turn_net.specs.cell_core.Cells.{CellView, cell_at}
-use Rattle.turn_net.specs.cell_core.Sites.{ProgramView}
+use Rattle.hazard_core.specs.cell_core.declared.program.FrameByte.{FrameByte}
+use Rattle.hazard_core.specs.cell_core.Cells.{CellView, cell_at}
+use Rattle.hazard_core.specs.cell_core.Sites.{ProgramView}
 use Rattle.turn_net.specs.cell_nets.declared.operand.Operand.{Operand}
-use Rattle.host_runs.specs.pipe_core.Machine.{Build}
-use Rattle.control_net.specs.ring_net.declared.shape.ControlShape.{ControlShape}
-use Rattle.map_block.specs.frame_net.declared.held.Kept.{Kept}
-use Rattle.site_table.specs.place_net.declared.outputs.Outputs.{Outputs}
+use Rattle.pipe_core.specs.Machine.{Build}
+use Rattle.control_net.specs.declared.ring_net.shape.ControlShape.{ControlShape}
+use Rattle.commit_net.specs.frame_net.declared.held.Kept.{Kept}
+use Rattle.stage_net.specs.row_net.declared.place_net.outputs.Outputs.{Outputs}
 use Rattle.turn_net.specs.declared.nets.RecordNets.{RecordNets}
 use Rattle.turn_net.specs.declared.nets.TurnShape.{TurnShape}
 use Rattle.pipe_net.specs.declared.parts.Part.{Part}

@@ -8,9 +8,9 @@ use Rattle.block_core.specs.net_core.declared.ports.Inputs.{Inputs}
 use Rattle.block_core.specs.net_core.declared.ports.TheConstants.{IN_READY, OUT_VALID, OUT_DATA, OUT_BYTES, OUT_LAST, OUT_VERDICT, OUT_TARGET, OUT_RELOAD, HOST_VALUE, HOST_READY, HOST_PASSED}
 use Rattle.block_core.specs.net_core.Value.{word, bit}
 use Rattle.block_core.specs.net_core.History.{IsInput}
-use Rattle.map_block.specs.frame_net.Frames.{position_of}
-use Rattle.host_runs.specs.pipe_core.Machine.{State, Output, Build, beat_over}
-pub use Rattle.host_runs.specs.Inputs.{beat_in, access_in, input_of}
+use Rattle.commit_net.specs.frame_net.Frames.{position_of}
+use Rattle.pipe_core.specs.Machine.{State, Output, Build, beat_over}
+pub use Rattle.pipe_core.specs.HostRuns.Inputs.{beat_in, access_in, input_of}
 
 -- ---- inwards
 -- What may come: numbers of the widths of their ports, and as a beat that goes over an offer, of a frame that has room for it.

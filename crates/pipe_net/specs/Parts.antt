@@ -1,6 +1,6 @@
 -- The parts of a pipeline by their numbers: those whose wires others read stand before these.
 use Rattle.std.specs.Prelude.{ℕ, ◌+◌, ◌*◌, ◌^◌, ◌<◌, ◌≤◌, List, map}
-use Rattle.turn_net.specs.cell_core.Rows.{numbers}
+use Rattle.hazard_core.specs.cell_core.Rows.{numbers}
 use Rattle.pipe_net.specs.declared.parts.Part.{Part}
 use Rattle.pipe_net.specs.declared.parts.Sizes.{Sizes}
 

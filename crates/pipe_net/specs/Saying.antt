@@ -3,21 +3,21 @@ use Rattle.std.specs.Prelude.{◌≡◌, ℕ, ◌^◌, ◌<◌, ◌≤◌, ◌==
 use Rattle.block_core.specs.net_core.declared.ports.Inputs.{Inputs}
 use Rattle.block_core.specs.net_core.Value.{bit, Env}
 use Rattle.block_core.specs.declared.name.Name.{Name}
-use Rattle.turn_net.specs.cell_core.declared.program.FrameByte.{FrameByte}
-use Rattle.turn_net.specs.cell_core.Cells.{bit as number_of_bit}
-use Rattle.turn_net.specs.cell_core.Sites.{bytes_of}
+use Rattle.hazard_core.specs.cell_core.declared.program.FrameByte.{FrameByte}
+use Rattle.hazard_core.specs.cell_core.Cells.{bit as number_of_bit}
+use Rattle.hazard_core.specs.cell_core.Sites.{bytes_of}
 use Rattle.turn_net.specs.cell_nets.Operands.{number_in, AreFit}
-use Rattle.site_table.specs.hazard_core.declared.change.Change.{Change}
-use Rattle.site_table.specs.hazard_core.Tables.{decl_of}
-use Rattle.site_table.specs.hazard_core.Held.{held_value}
-use Rattle.site_table.specs.hazard_core.Commits.{change_by, host_change}
-use Rattle.host_runs.specs.pipe_core.Machine.{Packet, State, Input, Build, Turn, Commits, Writes, Moves, turn_of, swept, place_at, is_due, some_send}
-use Rattle.control_net.specs.ring_net.declared.names.Register.TheVariants.{Holds}
-use Rattle.control_net.specs.ring_net.Names.{register_name}
+use Rattle.hazard_core.specs.declared.change.Change.{Change}
+use Rattle.hazard_core.specs.Tables.{decl_of}
+use Rattle.hazard_core.specs.Held.{held_value}
+use Rattle.hazard_core.specs.Commits.{change_by, host_change}
+use Rattle.pipe_core.specs.Machine.{Packet, State, Input, Build, Turn, Commits, Writes, Moves, turn_of, swept, place_at, is_due, some_send}
+use Rattle.control_net.specs.declared.ring_net.names.Register.TheVariants.{Holds}
+use Rattle.control_net.specs.RingNet.Names.{register_name}
 use Rattle.control_net.specs.Names.{back_name}
 use Rattle.control_net.specs.Returns.{due_name}
-use Rattle.site_table.specs.place_net.declared.outputs.AnswerByte.{AnswerByte}
-use Rattle.site_table.specs.place_net.Exit.{output_operands}
+use Rattle.stage_net.specs.row_net.declared.place_net.outputs.AnswerByte.{AnswerByte}
+use Rattle.stage_net.specs.row_net.PlaceNet.Exit.{output_operands}
 use Rattle.pipe_net.specs.declared.parts.Part.{Part}
 use Rattle.pipe_net.specs.Parts as part
 use Rattle.pipe_net.specs.Machine.{input_of}

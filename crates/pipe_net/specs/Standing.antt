@@ -2,16 +2,16 @@
 use Rattle.std.specs.Prelude.{◌≡◌, ℕ, suc, ◌≤◌, ◌++◌, Some, All, List, length}
 use Rattle.block_core.specs.net_core.Value.{Env}
 use Rattle.block_core.specs.declared.name.Name.{Name}
-use Rattle.site_table.specs.hazard_core.Held.{Held, held_value, pointer_in}
+use Rattle.hazard_core.specs.Held.{Held, held_value, pointer_in}
 use Rattle.turn_net.specs.cell_nets.declared.operand.Operand.{Operand}
 use Rattle.turn_net.specs.cell_nets.Operands.{IsOperand, IsAvailable}
-use Rattle.host_runs.specs.pipe_core.Machine.{Packet, State, place_at}
-use Rattle.turn_net.specs.site_operands.Sites.{SiteOperands, all_of, ShowsSite}
-use Rattle.site_table.specs.place_net.Place.{registers_from}
-use Rattle.site_table.specs.site_place.SitePlace.{site_words, pointer_registers}
-use Rattle.site_table.specs.Constants.{HoldsConstants}
-use Rattle.site_table.specs.Tables.{ShowsWords}
-use Rattle.site_table.specs.held_rows.Fits.{FitsRows}
+use Rattle.pipe_core.specs.Machine.{Packet, State, place_at}
+use Rattle.read_net.specs.overlay_net.SiteOperands.Sites.{SiteOperands, all_of, ShowsSite}
+use Rattle.stage_net.specs.row_net.PlaceNet.Place.{registers_from}
+use Rattle.stage_net.specs.row_net.SitePlace.SitePlace.{site_words, pointer_registers}
+use Rattle.stage_net.specs.SiteTable.Constants.{HoldsConstants}
+use Rattle.stage_net.specs.SiteTable.Tables.{ShowsWords}
+use Rattle.hazard_core.specs.HeldRows.Fits.{FitsRows}
 use Rattle.pipe_net.specs.declared.parts.Part.{Part}
 use Rattle.pipe_net.specs.Parts as part
 use Rattle.pipe_net.specs.Layout.{Layout, program_of, cells_of, last_of, commit_of}

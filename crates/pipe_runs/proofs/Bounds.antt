@@ -3,23 +3,23 @@ use Rattle.std.specs.Prelude.{◌≡◌, ℕ, zero, suc, ◌+◌, ◌*◌, ◌^�
 use Rattle.std.specs.List.{flat_map, AllByRecursion}
 use Rattle.std.proofs.Common.{arith, length-append}
 use Rattle.std.proofs.Math.Nat.{pow-le-pow_right}
-use Rattle.pipe_core.specs.beat_core.declared.beat.Beat.{Beat}
-use Rattle.pipe_core.specs.beat_core.Beats.{beats_of, IsFilledUp}
-use Rattle.pipe_core.specs.beat_core.Clocks.{AreOffers}
-use Rattle.pipe_core.specs.beat_core.Laws.{IsFrame}
-use Rattle.pipe_core.specs.beat_core.Ports.{Arrival, Offered, offered}
-use Rattle.pipe_core.proofs.beat_core.BeatLaws.{length-beats_of, IsFilledUp-beats_of, IsOffer-count}
-use Rattle.pipe_ports.specs.pipe_answers.xdp_maps.State.{MapState}
-use Rattle.pipe_ports.specs.pipe_answers.xdp_maps.Touched.{Resource}
-use Rattle.pipe_core.specs.xdp_machine.Touched.{Touched}
-use Rattle.pipe_core.specs.cell_core.Sites.{ProgramView, after}
-use Rattle.pipe_core.specs.cell_core.Rows.{record_count}
+use Rattle.cell_core.specs.beat_core.declared.beat.Beat.{Beat}
+use Rattle.cell_core.specs.beat_core.Beats.{beats_of, IsFilledUp}
+use Rattle.cell_core.specs.beat_core.Clocks.{AreOffers}
+use Rattle.cell_core.specs.beat_core.Laws.{IsFrame}
+use Rattle.cell_core.specs.beat_core.Ports.{Arrival, Offered, offered}
+use Rattle.cell_core.proofs.beat_core_laws.BeatLaws.{length-beats_of, IsFilledUp-beats_of, IsOffer-count}
+use Rattle.cell_core.specs.xdp_maps.State.{MapState}
+use Rattle.cell_core.specs.xdp_maps.Touched.{Resource}
+use Rattle.cell_core.specs.xdp_machine.Touched.{Touched}
+use Rattle.cell_core.specs.Sites.{ProgramView, after}
+use Rattle.cell_core.specs.Rows.{record_count}
 use Rattle.pipe_core.specs.Machine.{Build}
 use Rattle.pipe_core.specs.Drive.{clocks_of}
 use Rattle.pipe_core.specs.Apart as pipe
 use Rattle.pipe_core.specs.Apart.{AllRun, all_writing}
-use Rattle.pipe_ports.specs.realization.Bounds.{most_beats, clock_bound, packet_clocks, ReadOthers, AreApart}
-use Rattle.pipe_ports.specs.realization.Realizes.{IsPacket, IsBeside, offers_from, all_offers, beats_offered}
+use Rattle.pipe_core.specs.realization.Bounds.{most_beats, clock_bound, packet_clocks, ReadOthers, AreApart}
+use Rattle.pipe_core.specs.realization.Realizes.{IsPacket, IsBeside, offers_from, all_offers, beats_offered}
 use Rattle.pipe_runs.proofs.Histories.{all_append}
 use Rattle.pipe_runs.proofs.Drives.{Fits}
 

@@ -2,25 +2,25 @@
 use Rattle.std.specs.Prelude.{◌≡◌, ℕ, suc, ◌+◌, ◌≤◌, List, [], ◌∷◌, ◌++◌, length, map}
 use Rattle.std.specs.List.{flat_map, AllByRecursion}
 use Rattle.std.proofs.Common.{refl, sym, ap, ◌∙◌, subst, arith}
-use Rattle.pipe_core.specs.beat_core.declared.beat.Beat.{Beat}
-use Rattle.pipe_core.specs.beat_core.Beats.{beats_of}
-use Rattle.pipe_core.specs.beat_core.Filling.{filled_up}
-use Rattle.pipe_core.specs.beat_core.Ports.{Arrival, Offered}
-use Rattle.pipe_ports.specs.pipe_answers.xdp_maps.State.{MapState, IsSound}
-use Rattle.pipe_core.specs.xdp_machine.Touched.{Touched}
-use Rattle.host_runs.specs.net_core.declared.ports.Inputs.{Inputs}
-use Rattle.pipe_core.specs.cell_core.Rows.{record_count}
+use Rattle.cell_core.specs.beat_core.declared.beat.Beat.{Beat}
+use Rattle.cell_core.specs.beat_core.Beats.{beats_of}
+use Rattle.cell_core.specs.beat_core.Filling.{filled_up}
+use Rattle.cell_core.specs.beat_core.Ports.{Arrival, Offered}
+use Rattle.cell_core.specs.xdp_maps.State.{MapState, IsSound}
+use Rattle.cell_core.specs.xdp_machine.Touched.{Touched}
+use Rattle.pipe_core.specs.net_core.declared.ports.Inputs.{Inputs}
+use Rattle.cell_core.specs.Rows.{record_count}
 use Rattle.pipe_core.specs.Machine.{Build, new_state}
 use Rattle.pipe_core.specs.History.{Trace, run, begin}
 use Rattle.pipe_core.specs.Drive.{Driven, Beside, drive, drive_start, beats_in, EndsInTime, EndsLate}
 use Rattle.pipe_core.specs.Apart.{AllRun, AreApart, all_writing}
 use Rattle.pipe_core.specs.Unconflicting.{EndsWithoutConflicts}
 use Rattle.pipe_core.specs.Pipeable.{IsSuited}
-use Rattle.host_runs.specs.Inputs.{input_of}
-use Rattle.host_runs.specs.Silent.{silent, ReadsAreSilent, RunsAreSilent}
-use Rattle.pipe_ports.specs.realization.Bounds.{most_beats, clock_bound, clock_bound_apart}
-use Rattle.pipe_ports.specs.realization.Realizes.{IsPacket, frames_in, all_offers, beats_offered}
-use Rattle.pipe_ports.specs.Followed.{WriteNothing, ran}
+use Rattle.pipe_core.specs.HostRuns.Inputs.{input_of}
+use Rattle.pipe_core.specs.HostRuns.Silent.{silent, ReadsAreSilent, RunsAreSilent}
+use Rattle.pipe_core.specs.realization.Bounds.{most_beats, clock_bound, clock_bound_apart}
+use Rattle.pipe_core.specs.realization.Realizes.{IsPacket, frames_in, all_offers, beats_offered}
+use Rattle.pipe_runs.specs.PipePorts.Followed.{WriteNothing, ran}
 use Rattle.pipe_runs.specs.Apart.{DoNotConflict}
 use Rattle.pipe_runs.proofs.Histories.{beats_of_all, frames_of_packets}
 use Rattle.pipe_runs.proofs.Filled.{quiet_filled, all_silent, run_quiet, beats_quiet}

@@ -2,22 +2,22 @@
 use Rattle.std.specs.Prelude.{◌≡◌, ℕ, zero, suc, ◌<◌, min, if◌then◌else◌, is_some, not, Bool, true, false, Option, Some, None, List, [], ◌∷◌, ◌++◌, drop}
 use Rattle.std.specs.List.{AllByRecursion}
 use Rattle.std.proofs.Common.{refl, sym, ap, ◌∙◌, subst, arith, length-append}
-use Rattle.pipe_core.specs.beat_core.declared.beat.Beat.{Beat}
-use Rattle.pipe_core.specs.beat_core.declared.frame.TheConstants.{BEAT_LIMIT}
-use Rattle.pipe_core.specs.beat_core.Beats.{bytes_of_beat, IsOffer}
-use Rattle.pipe_core.specs.beat_core.Clocks.{AreOffers}
-use Rattle.pipe_core.specs.beat_core.Ports.{Arrival, Offered}
-use Rattle.pipe_core.proofs.beat_core.BeatLaws.{IsOffer-eight}
-use Rattle.pipe_core.proofs.beat_core.WordLaws.{length-low_bytes}
-use Rattle.host_runs.specs.net_core.declared.ports.Inputs.{Inputs}
-use Rattle.host_runs.specs.net_core.History.{drive_inputs}
-use Rattle.pipe_ports.specs.pipe_answers.frame_net.Frames.{position_of}
+use Rattle.cell_core.specs.beat_core.declared.beat.Beat.{Beat}
+use Rattle.cell_core.specs.beat_core.declared.frame.TheConstants.{BEAT_LIMIT}
+use Rattle.cell_core.specs.beat_core.Beats.{bytes_of_beat, IsOffer}
+use Rattle.cell_core.specs.beat_core.Clocks.{AreOffers}
+use Rattle.cell_core.specs.beat_core.Ports.{Arrival, Offered}
+use Rattle.cell_core.proofs.beat_core_laws.BeatLaws.{IsOffer-eight}
+use Rattle.cell_core.proofs.beat_core_laws.WordLaws.{length-low_bytes}
+use Rattle.pipe_core.specs.net_core.declared.ports.Inputs.{Inputs}
+use Rattle.pipe_core.specs.net_core.History.{drive_inputs}
+use Rattle.pipe_net.specs.frame_net.Frames.{position_of}
 use Rattle.pipe_core.specs.Machine.{Packet, State, Input, Build, Turn, Commits, Writes, Moves, swept, some_send, turn_of, worked, work, is_ready, beat_over, came_with, gathered, taken_beat, scattered, clock}
 use Rattle.pipe_core.specs.History.{Trace, next, run}
 use Rattle.pipe_core.specs.Drive.{ahead, beats_in}
-use Rattle.host_runs.specs.Inputs.{input_of}
-use Rattle.pipe_ports.specs.pipe_answers.Coming.{AllMayCome}
-use Rattle.pipe_ports.specs.realization.Realizes.{beats_offered}
+use Rattle.pipe_core.specs.HostRuns.Inputs.{input_of}
+use Rattle.pipe_runs.specs.PipeAnswers.Coming.{AllMayCome}
+use Rattle.pipe_core.specs.realization.Realizes.{beats_offered}
 use Rattle.pipe_runs.proofs.Histories.{is_open}
 use Rattle.pipe_runs.proofs.Drives.{Fits, fit_inputs, left_by, driven}
 

@@ -2,16 +2,16 @@
 use Rattle.std.specs.Prelude.{◌≡◌, ℕ, zero, suc, ◌+◌, ◌^◌, ◌<◌, if◌then◌else◌, Bool, true, false, None, List, [], ◌∷◌, ◌++◌, length, map, drop}
 use Rattle.std.specs.List.{AllByRecursion}
 use Rattle.std.proofs.Common.{refl, sym, ap, ◌∙◌, arith}
-use Rattle.pipe_core.specs.beat_core.Ports.{Offered}
-use Rattle.host_runs.specs.net_core.declared.ports.Inputs.{Inputs}
-use Rattle.host_runs.specs.net_core.History.{IsInput, drive_inputs}
+use Rattle.cell_core.specs.beat_core.Ports.{Offered}
+use Rattle.pipe_core.specs.net_core.declared.ports.Inputs.{Inputs}
+use Rattle.pipe_core.specs.net_core.History.{IsInput, drive_inputs}
 use Rattle.pipe_core.specs.Machine.{Build, is_ready}
 use Rattle.pipe_core.specs.History.{Trace, next, run}
 use Rattle.pipe_core.specs.Drive.{Driven, driving, drive_clock, Beside, drive}
-use Rattle.host_runs.specs.Inputs.{access_in, input_of}
-use Rattle.host_runs.specs.Silent.{silent, ReadsAreSilent}
-use Rattle.pipe_ports.specs.realization.Realizes.{IsBeside, beats_offered}
-use Rattle.pipe_ports.specs.Followed.{WriteNothing}
+use Rattle.pipe_core.specs.HostRuns.Inputs.{access_in, input_of}
+use Rattle.pipe_core.specs.HostRuns.Silent.{silent, ReadsAreSilent}
+use Rattle.pipe_core.specs.realization.Realizes.{IsBeside, beats_offered}
+use Rattle.pipe_runs.specs.PipePorts.Followed.{WriteNothing}
 
 -- what stands at the ports in a drive fits them
 pub record Fits (o : Offered) : Type 0 where

@@ -1,20 +1,20 @@
 -- The full drive of a design that follows the machine: it ends with its last answer, and its clocks are those of the machine's drive.
 use Rattle.std.specs.Prelude.{◌≡◌, ℕ, zero, suc, ◌+◌, ◌==◌, if◌then◌else◌, Bool, true, false, ◌&&◌, Option, Some, None, List, [], ◌∷◌, ◌++◌, length}
 use Rattle.std.proofs.Common.{refl, sym, ap, ◌∙◌, subst, arith, append_assoc, length-append}
-use Rattle.pipe_core.specs.beat_core.Ports.{Offered}
-use Rattle.host_runs.specs.net_core.declared.tree.Word.{Word}
-use Rattle.host_runs.specs.net_core.declared.ports.Inputs.{Inputs}
-use Rattle.host_runs.specs.net_core.declared.ports.TheConstants.{IN_READY}
-use Rattle.host_runs.specs.net_core.Nets.{Netlist}
-use Rattle.host_runs.specs.net_core.Clock.{Stored, after, shown, stopping}
-use Rattle.host_runs.specs.net_core.Ports.{words_of}
-use Rattle.host_runs.specs.net_core.History.{Cycle, cycle_of, trace, offers_in, drive_inputs, Drive, Answered, Stopped, and_then, left_after, owed_after, drive}
+use Rattle.cell_core.specs.beat_core.Ports.{Offered}
+use Rattle.pipe_core.specs.net_core.declared.tree.Word.{Word}
+use Rattle.pipe_core.specs.net_core.declared.ports.Inputs.{Inputs}
+use Rattle.pipe_core.specs.net_core.declared.ports.TheConstants.{IN_READY}
+use Rattle.pipe_core.specs.net_core.Nets.{Netlist}
+use Rattle.pipe_core.specs.net_core.Clock.{Stored, after, shown, stopping}
+use Rattle.pipe_core.specs.net_core.Ports.{words_of}
+use Rattle.pipe_core.specs.net_core.History.{Cycle, cycle_of, trace, offers_in, drive_inputs, Drive, Answered, Stopped, and_then, left_after, owed_after, drive}
 use Rattle.pipe_core.specs.Machine.{Input, Build, is_ready, beat_over, taken_beat}
 use Rattle.pipe_core.specs.History.{Trace, gave_in, next}
-use Rattle.host_runs.specs.Inputs.{input_of}
-use Rattle.pipe_ports.specs.realization.Realizes.{inputs_in}
-use Rattle.pipe_ports.specs.pipe_answers.Following.{FollowsAlways}
-use Rattle.pipe_ports.specs.Ports.{cycle, offers_by, ShowsClock, PortsShowClocks}
+use Rattle.pipe_core.specs.HostRuns.Inputs.{input_of}
+use Rattle.pipe_core.specs.realization.Realizes.{inputs_in}
+use Rattle.pipe_runs.specs.PipeAnswers.Following.{FollowsAlways}
+use Rattle.pipe_runs.specs.PipePorts.Ports.{cycle, offers_by, ShowsClock, PortsShowClocks}
 use Rattle.pipe_runs.proofs.Drives.{left_by, driven, left_behind, behind}
 
 left_is : (ready : Bool) (left : List Offered) (at : ℕ → Word) → ((at IN_READY).value == 1) ≡ ready → left_after (cycle (drive_inputs left) at) left ≡ left_by ready left

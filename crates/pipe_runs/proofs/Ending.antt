@@ -1,8 +1,8 @@
 -- Behind the last answer no frame is inside.
 use Rattle.std.specs.Prelude.{◌≡◌, suc, ◌+◌, ◌≤◌, nat_lt, not, ◌&&◌, is_some, true, false, List, [], ◌∷◌, ◌++◌, length}
 use Rattle.std.proofs.Common.{refl, sym, ap, ap₂, ◌∙◌, arith, length-append, length-drop, append-nil}
-use Rattle.pipe_core.specs.beat_core.Ports.{Arrival}
-use Rattle.pipe_core.specs.cell_core.Sites.{ProgramView}
+use Rattle.cell_core.specs.beat_core.Ports.{Arrival}
+use Rattle.cell_core.specs.Sites.{ProgramView}
 use Rattle.pipe_core.specs.hazard_core.Held.{Held}
 use Rattle.pipe_core.specs.Machine.{Build, is_calm, inside}
 use Rattle.pipe_core.specs.History.{Trace, answers_of, IsInOrder}

@@ -3,16 +3,16 @@ use Rattle.std.specs.Prelude.{◌≡◌, Bool, true, false, if◌then◌else◌,
 use Rattle.std.specs.List.{AllByRecursion}
 use Rattle.std.specs.Option.{option_map}
 use Rattle.std.proofs.Common.{refl, ap, ◌∙◌}
-use Rattle.pipe_core.specs.beat_core.declared.beat.Beat.{Beat}
-use Rattle.pipe_core.specs.beat_core.Filling.{filled_up}
-use Rattle.pipe_core.specs.beat_core.Ports.{Arrival}
-use Rattle.pipe_core.proofs.beat_core.FillingLaws.{bytes_of_beat-filled_up}
-use Rattle.host_runs.specs.net_core.declared.ports.Inputs.{Inputs}
+use Rattle.cell_core.specs.beat_core.declared.beat.Beat.{Beat}
+use Rattle.cell_core.specs.beat_core.Filling.{filled_up}
+use Rattle.cell_core.specs.beat_core.Ports.{Arrival}
+use Rattle.cell_core.proofs.beat_core_laws.FillingLaws.{bytes_of_beat-filled_up}
+use Rattle.pipe_core.specs.net_core.declared.ports.Inputs.{Inputs}
 use Rattle.pipe_core.specs.Machine.{State, Input, Build, beat_over, is_ready, came_with, gathered, taken_beat, scattered, work, clock}
 use Rattle.pipe_core.specs.History.{Trace, came_in, left_in, gave_in, next, run}
 use Rattle.pipe_core.specs.Drive.{ahead, beats_in}
-use Rattle.host_runs.specs.Inputs.{input_of}
-use Rattle.host_runs.specs.Silent.{silent}
+use Rattle.pipe_core.specs.HostRuns.Inputs.{input_of}
+use Rattle.pipe_core.specs.HostRuns.Silent.{silent}
 
 -- the same with zeros in their place
 abbrev pub filled : Input → Input

@@ -2,20 +2,20 @@
 use Rattle.std.specs.Prelude.{◌≡◌, ℕ, ◌≤◌, if◌then◌else◌, Bool, true, false, not, Option, Some, None, List, [], ◌∷◌, ◌++◌, length, map}
 use Rattle.std.specs.List.{AllByRecursion, flat_map}
 use Rattle.std.proofs.Common.{refl, sym, ap, ◌∙◌, arith, append-nil, length-append}
-use Rattle.pipe_core.specs.beat_core.declared.beat.Beat.{Beat}
-use Rattle.pipe_core.specs.beat_core.Beats.{beats_of, IsWhole}
-use Rattle.pipe_core.specs.beat_core.Filling.{filled_up}
-use Rattle.pipe_core.specs.beat_core.Laws.{IsFrame}
-use Rattle.pipe_core.specs.beat_core.Ports.{Arrival, arrived, Offered, offered, arrivals_among}
-use Rattle.pipe_core.specs.beat_core.declared.frame.Timed.{Timed}
-use Rattle.pipe_core.proofs.beat_core.BeatLaws.{IsWhole-beats_of}
-use Rattle.pipe_core.proofs.beat_core.PortLemmas.{frames-arrive}
-use Rattle.host_runs.specs.net_core.declared.ports.Inputs.{Inputs}
-use Rattle.host_runs.specs.net_core.Nets.{Netlist}
-use Rattle.host_runs.specs.net_core.Clock.{Stored, after}
-use Rattle.host_runs.specs.net_core.Ports.{words_of}
-use Rattle.host_runs.specs.net_core.History.{Cycle, cycle_of, trace, stored_after, goes_in, offered_beat, beats_in, offers_in}
-use Rattle.pipe_ports.specs.realization.Realizes.{IsPacket, frames_in, offers_from, all_offers, beats_offered}
+use Rattle.cell_core.specs.beat_core.declared.beat.Beat.{Beat}
+use Rattle.cell_core.specs.beat_core.Beats.{beats_of, IsWhole}
+use Rattle.cell_core.specs.beat_core.Filling.{filled_up}
+use Rattle.cell_core.specs.beat_core.Laws.{IsFrame}
+use Rattle.cell_core.specs.beat_core.Ports.{Arrival, arrived, Offered, offered, arrivals_among}
+use Rattle.cell_core.specs.beat_core.declared.frame.Timed.{Timed}
+use Rattle.cell_core.proofs.beat_core_laws.BeatLaws.{IsWhole-beats_of}
+use Rattle.cell_core.proofs.beat_core_laws.PortLemmas.{frames-arrive}
+use Rattle.pipe_core.specs.net_core.declared.ports.Inputs.{Inputs}
+use Rattle.pipe_core.specs.net_core.Nets.{Netlist}
+use Rattle.pipe_core.specs.net_core.Clock.{Stored, after}
+use Rattle.pipe_core.specs.net_core.Ports.{words_of}
+use Rattle.pipe_core.specs.net_core.History.{Cycle, cycle_of, trace, stored_after, goes_in, offered_beat, beats_in, offers_in}
+use Rattle.pipe_core.specs.realization.Realizes.{IsPacket, frames_in, offers_from, all_offers, beats_offered}
 
 pub trace_append : (d : Netlist) (s : Stored) (is js : List Inputs) → trace d s (is ++ js) ≡ trace d s is ++ trace d (stored_after d s is) js
 trace_append d s [] js = refl

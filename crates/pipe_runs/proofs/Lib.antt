@@ -1,4 +1,4 @@
-pub use Rattle.pipe_ports.proofs.realization as realization
+pub use Rattle.pipe_core.proofs.realization_laws as realization_laws
 pub mod Histories
 pub mod Filled
 pub mod Drives
@@ -10,3 +10,6 @@ pub mod Driving
 pub mod Ending
 pub mod Meets
 pub mod Loaded
+pub mod PipeAnswers
+pub mod PipeLoads
+pub mod PipePorts

@@ -1,14 +1,14 @@
 -- So do pipelines, whatever maps are loaded.
 use Rattle.std.specs.Prelude.{List, []}
 use Rattle.std.proofs.Common.{sym, subst, append-nil}
-use Rattle.pipe_ports.specs.pipe_answers.xdp_maps.declared.decl.MapDecl.{MapDecl}
-use Rattle.host_runs.specs.net_core.Nets.{Netlist}
-use Rattle.host_runs.specs.net_core.Clock.{first_stored}
-use Rattle.host_runs.specs.net_core.History.{NeverStops, stored_after}
-use Rattle.host_runs.specs.host_history.Host.{load}
+use Rattle.cell_core.specs.xdp_maps.declared.decl.MapDecl.{MapDecl}
+use Rattle.pipe_core.specs.net_core.Nets.{Netlist}
+use Rattle.pipe_core.specs.net_core.Clock.{first_stored}
+use Rattle.pipe_core.specs.net_core.History.{NeverStops, stored_after}
+use Rattle.pipe_core.specs.realization.HostHistory.Host.{load}
 use Rattle.pipe_core.specs.Pipeable.{IsSuited}
-use Rattle.pipe_loads.specs.pipe_forms.Parts.{design}
-use Rattle.pipe_loads.specs.Loaded.{PipelinesFollowLoaded, PipelinesShowLoaded}
+use Rattle.pipe_net.specs.PipeForms.Parts.{design}
+use Rattle.pipe_runs.specs.PipeLoads.Loaded.{PipelinesFollowLoaded, PipelinesShowLoaded}
 use Rattle.pipe_runs.specs.Meeting.{FollowersMeet, PipelinesMeet}
 
 pub pipelines_meet : PipelinesFollowLoaded → PipelinesShowLoaded → FollowersMeet → PipelinesMeet

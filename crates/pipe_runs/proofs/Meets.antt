@@ -2,41 +2,41 @@
 use Rattle.std.specs.Prelude.{◌≡◌, ℕ, ◌+◌, ◌-◌, ◌≤◌, is_some, false, None, List, [], ◌∷◌, ◌++◌, length, map}
 use Rattle.std.specs.List.{flat_map, AllByRecursion}
 use Rattle.std.proofs.Common.{refl, sym, ap, ◌∙◌, subst, arith, append_assoc}
-use Rattle.pipe_core.specs.beat_core.declared.answer.Answer.{Answer}
-use Rattle.pipe_core.specs.beat_core.Beats.{beats_of, IsFilledUp}
-use Rattle.pipe_core.specs.beat_core.Clocks.{AreOffers}
-use Rattle.pipe_core.specs.beat_core.Filling.{filled_up}
-use Rattle.pipe_core.specs.beat_core.Ports.{Arrival, Offered, arrivals_among}
-use Rattle.pipe_core.proofs.beat_core.FillingLaws.{AreOffers-filled_up}
-use Rattle.pipe_core.proofs.beat_core.OrderLaws.{offers-frames}
-use Rattle.pipe_ports.specs.pipe_answers.xdp_maps.declared.decl.MapDecl.{MapDecl}
-use Rattle.pipe_ports.specs.pipe_answers.xdp_maps.State.{MapState}
-use Rattle.pipe_core.specs.xdp_machine.Touched.{Touched}
-use Rattle.host_runs.specs.net_core.declared.ports.Inputs.{Inputs}
-use Rattle.host_runs.specs.net_core.Nets.{Netlist}
-use Rattle.host_runs.specs.net_core.Clock.{Stored}
-use Rattle.host_runs.specs.net_core.History.{Cycle, trace, stored_after, beats_in, offers_in, arrivals, answers_given, Drive, drive}
-use Rattle.host_runs.specs.host_history.Host.{dump, ShowsMaps}
-use Rattle.pipe_ports.specs.pipe_answers.frame_net.Frames.{position_of}
-use Rattle.pipe_core.specs.cell_core.Rows.{record_count}
+use Rattle.cell_core.specs.beat_core.declared.answer.Answer.{Answer}
+use Rattle.cell_core.specs.beat_core.Beats.{beats_of, IsFilledUp}
+use Rattle.cell_core.specs.beat_core.Clocks.{AreOffers}
+use Rattle.cell_core.specs.beat_core.Filling.{filled_up}
+use Rattle.cell_core.specs.beat_core.Ports.{Arrival, Offered, arrivals_among}
+use Rattle.cell_core.proofs.beat_core_laws.FillingLaws.{AreOffers-filled_up}
+use Rattle.cell_core.proofs.beat_core_laws.OrderLaws.{offers-frames}
+use Rattle.cell_core.specs.xdp_maps.declared.decl.MapDecl.{MapDecl}
+use Rattle.cell_core.specs.xdp_maps.State.{MapState}
+use Rattle.cell_core.specs.xdp_machine.Touched.{Touched}
+use Rattle.pipe_core.specs.net_core.declared.ports.Inputs.{Inputs}
+use Rattle.pipe_core.specs.net_core.Nets.{Netlist}
+use Rattle.pipe_core.specs.net_core.Clock.{Stored}
+use Rattle.pipe_core.specs.net_core.History.{Cycle, trace, stored_after, beats_in, offers_in, arrivals, answers_given, Drive, drive}
+use Rattle.pipe_core.specs.realization.HostHistory.Host.{dump, ShowsMaps}
+use Rattle.pipe_net.specs.frame_net.Frames.{position_of}
+use Rattle.cell_core.specs.Rows.{record_count}
 use Rattle.pipe_core.specs.Machine.{Build}
 use Rattle.pipe_core.specs.History.{Trace, next, run, begin, IsInOrder, IsAlwaysInOrder}
 use Rattle.pipe_core.specs.InTurn.{left_maps}
 use Rattle.pipe_core.specs.Pipeable.{IsSuited}
-use Rattle.host_runs.specs.Inputs.{input_of}
-use Rattle.host_runs.specs.Fits.{LoadsFit, IsHostClock}
-use Rattle.pipe_ports.specs.pipe_answers.pipe_net.Layout.{Layout, last_of}
-use Rattle.pipe_ports.specs.pipe_answers.Coming.{AllMayCome, HostMayCome}
-use Rattle.pipe_ports.specs.pipe_answers.Following.{FollowsAlways}
-use Rattle.pipe_ports.specs.pipe_answers.Runs.{ReadsRunInTurn}
-use Rattle.pipe_ports.specs.pipe_answers.Dumps.{RunsGoOn, DumpsAreShown}
-use Rattle.pipe_ports.specs.realization.Bounds.{most_beats, clock_bound, clock_bound_apart}
-use Rattle.pipe_ports.specs.realization.Realizes.{IsPattern, IsPacket, IsBeside, IsWhole, Meets, frames_in, all_offers, beats_offered, inputs_in}
-use Rattle.pipe_ports.specs.Answered.{AreAnswered}
-use Rattle.pipe_ports.specs.Followed.{WriteNothing, IsFollowed, ran}
-use Rattle.pipe_ports.specs.Ports.{PortsShowClocks, PortsShowHistories, ShowsHistory}
-use Rattle.pipe_ports.specs.Patterns.{PatternsMayCome, IsInPattern}
-use Rattle.pipe_ports.specs.Answering.{RunsAreAnswers, PatternsAnswerInTurn}
+use Rattle.pipe_core.specs.HostRuns.Inputs.{input_of}
+use Rattle.pipe_core.specs.HostRuns.Fits.{LoadsFit, IsHostClock}
+use Rattle.pipe_net.specs.Layout.{Layout, last_of}
+use Rattle.pipe_runs.specs.PipeAnswers.Coming.{AllMayCome, HostMayCome}
+use Rattle.pipe_runs.specs.PipeAnswers.Following.{FollowsAlways}
+use Rattle.pipe_runs.specs.PipeAnswers.Runs.{ReadsRunInTurn}
+use Rattle.pipe_runs.specs.PipeAnswers.Dumps.{RunsGoOn, DumpsAreShown}
+use Rattle.pipe_core.specs.realization.Bounds.{most_beats, clock_bound, clock_bound_apart}
+use Rattle.pipe_core.specs.realization.Realizes.{IsPattern, IsPacket, IsBeside, IsWhole, Meets, frames_in, all_offers, beats_offered, inputs_in}
+use Rattle.pipe_runs.specs.PipePorts.Answered.{AreAnswered}
+use Rattle.pipe_runs.specs.PipePorts.Followed.{WriteNothing, IsFollowed, ran}
+use Rattle.pipe_runs.specs.PipePorts.Ports.{PortsShowClocks, PortsShowHistories, ShowsHistory}
+use Rattle.pipe_runs.specs.PipePorts.Patterns.{PatternsMayCome, IsInPattern}
+use Rattle.pipe_runs.specs.PipePorts.Answering.{RunsAreAnswers, PatternsAnswerInTurn}
 use Rattle.pipe_runs.specs.Apart.{DoNotConflict}
 use Rattle.pipe_runs.specs.Meeting.{FollowersMeet}
 use Rattle.pipe_runs.proofs.Histories.{trace_append, stored_append, offers_append, beats_of_offers, offered_append, same_arrive, arrive_few, packets_arrive, beats_of_all, frames_of_packets, is_open, open_append, open_filled, open_frames, all_closed}

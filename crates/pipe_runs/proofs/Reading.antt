@@ -2,11 +2,11 @@
 use Rattle.std.specs.Prelude.{◌≡◌, ℕ, ◌+◌, false, List, [], ◌∷◌, ◌++◌, map}
 use Rattle.std.specs.List.{flat_map, range_with_len}
 use Rattle.std.proofs.Common.{refl}
-use Rattle.pipe_ports.specs.pipe_answers.xdp_maps.declared.decl.MapDecl.{MapDecl}
-use Rattle.host_runs.specs.net_core.declared.ports.Inputs.{Inputs}
-use Rattle.host_runs.specs.host_history.Host.{asked, map_reads, reads, dump}
-use Rattle.host_runs.specs.host_history.Rows.{row_length}
-use Rattle.pipe_ports.specs.Followed.{WriteNothing}
+use Rattle.cell_core.specs.xdp_maps.declared.decl.MapDecl.{MapDecl}
+use Rattle.pipe_core.specs.net_core.declared.ports.Inputs.{Inputs}
+use Rattle.pipe_core.specs.realization.HostHistory.Host.{asked, map_reads, reads, dump}
+use Rattle.pipe_core.specs.realization.HostHistory.Rows.{row_length}
+use Rattle.pipe_runs.specs.PipePorts.Followed.{WriteNothing}
 use Rattle.pipe_runs.proofs.Histories.{all_append}
 
 pub silent_append : (is js : List Inputs) → WriteNothing is → WriteNothing js → WriteNothing (is ++ js)

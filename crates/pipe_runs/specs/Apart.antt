@@ -1,11 +1,11 @@
 -- Packets whose cell runs do not conflict.
 use Rattle.std.specs.Prelude.{◌≡◌, ◌+◌, List}
 use Rattle.std.specs.List.{AllByRecursion}
-use Rattle.pipe_core.specs.beat_core.Ports.{Arrival}
-use Rattle.pipe_ports.specs.pipe_answers.xdp_maps.State.{MapState}
-use Rattle.pipe_core.specs.xdp_machine.Touched.{Touched}
-use Rattle.pipe_ports.specs.realization.Bounds.{AreApart}
-use Rattle.pipe_ports.specs.realization.Realizes.{IsPacket}
+use Rattle.cell_core.specs.beat_core.Ports.{Arrival}
+use Rattle.cell_core.specs.xdp_maps.State.{MapState}
+use Rattle.cell_core.specs.xdp_machine.Touched.{Touched}
+use Rattle.pipe_core.specs.realization.Bounds.{AreApart}
+use Rattle.pipe_core.specs.realization.Realizes.{IsPacket}
 use Rattle.pipe_core.specs.Machine.{Build}
 use Rattle.pipe_core.specs.Apart.{AllRun}
 

@@ -1,5 +1,8 @@
-pub use Rattle.host_runs.specs.host_history as host_history
-pub use Rattle.pipe_ports.specs as pipe_ports
-pub use Rattle.pipe_ports.specs.realization as realization
+pub use Rattle.pipe_core.specs as pipe_core
+pub use Rattle.pipe_net.specs as pipe_net
+pub use Rattle.pipe_core.specs.realization as realization
 pub mod Apart
 pub mod Meeting
+pub mod PipeAnswers
+pub mod PipeLoads
+pub mod PipePorts

@@ -1,21 +1,21 @@
 -- The design of a pipeline with maps meets what is wanted of one.
 use Rattle.std.specs.Prelude.{◌≡◌, ℕ, ◌+◌, ◌≤◌, List, length}
-use Rattle.pipe_ports.specs.pipe_answers.xdp_maps.State.{MapState, IsSound}
-use Rattle.host_runs.specs.net_core.Nets.{Netlist}
-use Rattle.host_runs.specs.net_core.Clock.{Stored, first_stored}
-use Rattle.host_runs.specs.net_core.History.{NeverStops, stored_after}
-use Rattle.pipe_ports.specs.pipe_answers.block_core.Blocks.{Whole}
-use Rattle.host_runs.specs.host_history.Host.{load}
-use Rattle.pipe_ports.specs.realization.Realizes.{Meets}
-use Rattle.pipe_core.specs.cell_core.Rows.{record_count}
+use Rattle.cell_core.specs.xdp_maps.State.{MapState, IsSound}
+use Rattle.pipe_core.specs.net_core.Nets.{Netlist}
+use Rattle.pipe_core.specs.net_core.Clock.{Stored, first_stored}
+use Rattle.pipe_core.specs.net_core.History.{NeverStops, stored_after}
+use Rattle.pipe_net.specs.block_core.Blocks.{Whole}
+use Rattle.pipe_core.specs.realization.HostHistory.Host.{load}
+use Rattle.pipe_core.specs.realization.Realizes.{Meets}
+use Rattle.cell_core.specs.Rows.{record_count}
 use Rattle.pipe_core.specs.Pipeable.{IsSuited}
-use Rattle.pipe_ports.specs.pipe_answers.pipe_net.declared.parts.Part.{Part}
-use Rattle.pipe_ports.specs.pipe_answers.pipe_net.Layout.{Layout, last_of}
-use Rattle.pipe_loads.specs.pipe_places.Entries.{AccessesLead}
-use Rattle.pipe_loads.specs.pipe_forms.Parts.{design}
-use Rattle.pipe_loads.specs.pipe_clocks.Following.{IsPipeline}
-use Rattle.pipe_ports.specs.Answered.{AreAnswered}
-use Rattle.pipe_ports.specs.Followed.{IsFollowed}
+use Rattle.pipe_net.specs.declared.parts.Part.{Part}
+use Rattle.pipe_net.specs.Layout.{Layout, last_of}
+use Rattle.pipe_net.specs.PipePlaces.Entries.{AccessesLead}
+use Rattle.pipe_net.specs.PipeForms.Parts.{design}
+use Rattle.pipe_net.specs.PipeClocks.Following.{IsPipeline}
+use Rattle.pipe_runs.specs.PipePorts.Answered.{AreAnswered}
+use Rattle.pipe_runs.specs.PipePorts.Followed.{IsFollowed}
 use Rattle.pipe_runs.specs.Apart.{DoNotConflict}
 
 -- it answers packets by their cell runs on these maps, one after another, in the clocks of so many stages and record sites

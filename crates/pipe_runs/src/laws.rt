@@ -9,20 +9,20 @@ pub fn followers_meet()
     pipe_core::laws::in_order();
     pipe_core::laws::ends_in_time();
     pipe_core::laws::ends_without_conflicts();
-    host_runs::laws::reads_are_silent();
-    host_runs::laws::loads_fit();
-    pipe_ports::pipe_answers::laws::loads_may_come();
-    pipe_ports::pipe_answers::laws::runs_in_turn();
-    pipe_ports::pipe_answers::laws::dumps_are_shown();
-    pipe_ports::laws::ports_show();
-    pipe_ports::laws::patterns_may_come();
-    pipe_ports::laws::patterns_answer();
+    pipe_core::host_runs::laws::reads_are_silent();
+    pipe_core::host_runs::laws::loads_fit();
+    crate::pipe_answers::laws::loads_may_come();
+    crate::pipe_answers::laws::runs_in_turn();
+    crate::pipe_answers::laws::dumps_are_shown();
+    crate::pipe_ports::laws::ports_show();
+    crate::pipe_ports::laws::patterns_may_come();
+    crate::pipe_ports::laws::patterns_answer();
 }
 
 /// So does every design that is linked of the parts of a pipeline, whatever maps are loaded.
 pub fn pipelines_meet()
     ensures { PipelinesMeet }
 {
-    pipe_loads::laws::loads_follow();
+    crate::pipe_loads::laws::loads_follow();
     followers_meet();
 }

@@ -2,9 +2,9 @@
 use Rattle.std.specs.Prelude.{Contains}
 use Rattle.std.proofs.Common.{◌≡◌, ℕ, zero, suc, ◌<◌, All, List, [], ◌∷◌, ◌++◌, length, get_or, inl, inr, refl, arith}
 use Rattle.std.proofs.lemmas.List.Elements.{Contains-get_or, Contains-append_left, Contains-append_right}
-use Rattle.cell_nets.specs.declared.operand.Operand.{Operand}
-use Rattle.cell_nets.specs.declared.operand.Operand.TheVariants.{Known, Net, Part as Bits}
-use Rattle.cell_nets.specs.Operands.{IsAvailable}
+use Rattle.overlay_net.specs.cell_nets.declared.operand.Operand.{Operand}
+use Rattle.overlay_net.specs.cell_nets.declared.operand.Operand.TheVariants.{Known, Net, Part as Bits}
+use Rattle.overlay_net.specs.cell_nets.Operands.{IsAvailable}
 
 -- an element of a list that has one
 pub some_of : {X : Type 0} (xs : List X) (n : ℕ) → n < length xs → X

@@ -5,25 +5,25 @@ use Rattle.std.proofs.lemmas.List.{length-map}
 use Rattle.std.proofs.lemmas.List.Elements.{All-contains_itself, All-weaker}
 use Rattle.block_core.specs.declared.name.Name.{Name}
 use Rattle.block_core.specs.Blocks.{Whole}
-use Rattle.cell_nets.specs.Operands.{IsAvailable}
-use Rattle.pipe_net.specs.map_block.declared.form.MapForm.{MapForm}
-use Rattle.place_net.specs.Place.{registers_from}
-use Rattle.place_net.specs.Sources.{source_operands}
-use Rattle.site_table.specs.site_place.SitePlace.{pointer_registers}
+use Rattle.overlay_net.specs.cell_nets.Operands.{IsAvailable}
+use Rattle.commit_net.specs.declared.map_block.form.MapForm.{MapForm}
+use Rattle.row_net.specs.PlaceNet.Place.{registers_from}
+use Rattle.row_net.specs.PlaceNet.Sources.{source_operands}
+use Rattle.row_net.specs.SitePlace.SitePlace.{pointer_registers}
 use Rattle.read_net.specs.declared.sites.MapNets.{MapNets}
-use Rattle.pipe_net.specs.pipe_core.Machine.{Build}
+use Rattle.read_net.specs.pipe_core.Machine.{Build}
 use Rattle.pipe_net.specs.declared.parts.Part.{Part}
 use Rattle.pipe_net.specs.declared.parts.Sizes.{Sizes}
 use Rattle.pipe_net.specs.Parts as part
 use Rattle.pipe_net.specs.Layout.{Layout, program_of, last_of}
-use Rattle.pipe_draft.specs.pipe_places.Layout.{load_sites}
-use Rattle.pipe_forms.specs.Reading.{before_place}
-use Rattle.pipe_draft.specs.declared.draft.Draft.{Draft}
-use Rattle.pipe_draft.specs.declared.places.Behind.{Behind}
-use Rattle.pipe_draft.specs.Program.{build_of}
-use Rattle.pipe_draft.specs.Draft.{program_in, plan_in, IsDraft}
-use Rattle.pipe_draft.specs.Places.{ArePlaces}
-use Rattle.pipe_draft.specs.Laid.{IsDrafted}
+use Rattle.pipe_net.specs.PipePlaces.Layout.{load_sites}
+use Rattle.pipe_net.specs.PipeForms.Reading.{before_place}
+use Rattle.pipe_parts.specs.declared.pipe_draft.draft.Draft.{Draft}
+use Rattle.pipe_parts.specs.declared.pipe_draft.places.Behind.{Behind}
+use Rattle.pipe_parts.specs.PipeDraft.Program.{build_of}
+use Rattle.pipe_parts.specs.PipeDraft.Draft.{program_in, plan_in, IsDraft}
+use Rattle.pipe_parts.specs.PipeDraft.Places.{ArePlaces}
+use Rattle.pipe_parts.specs.PipeDraft.Laid.{IsDrafted}
 use Rattle.place_parts.specs.declared.parts.PlaceParts.{PlaceParts}
 use Rattle.place_parts.specs.Maps.{AreMapsFor}
 use Rattle.place_parts.specs.Parts.{ArePlaceParts, HasBlocks}

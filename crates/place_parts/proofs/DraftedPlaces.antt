@@ -3,24 +3,24 @@ use Rattle.std.specs.Prelude.{Option, ◌≤◌, slice_index}
 use Rattle.std.proofs.Common.{◌≡◌, ◌∙◌, ℕ, zero, suc, ◌<◌, All, List, length, get_or, sym, ap, subst, arith}
 use Rattle.block_core.specs.beat_core.Ports.{Arrival}
 use Rattle.block_core.specs.net_core.Value.{Env}
-use Rattle.control_net.specs.product_blocks.Alone.{IsApartAlone}
+use Rattle.block_core.specs.ProductBlocks.Alone.{IsApartAlone}
 use Rattle.block_core.specs.declared.name.Name.{Name}
 use Rattle.block_core.specs.declared.block.Block.{Block}
 use Rattle.block_core.specs.Blocks.{BlockTree, Whole}
 use Rattle.block_core.specs.Parts.{Solve}
 use Rattle.block_core.specs.View.{block_of}
 use Rattle.hazard_core.specs.cell_core.Cells.{CellView, cell_at, value}
-use Rattle.cell_nets.specs.declared.operand.Operand.{Operand}
-use Rattle.cell_nets.specs.declared.operand.Operand.TheVariants.{Net}
-use Rattle.cell_nets.specs.Operands.{AreFit}
-use Rattle.change_net.specs.frame_net.declared.held.Kept.{Kept}
-use Rattle.site_table.specs.site_operands.declared.SiteNets.{SiteNets}
-use Rattle.site_table.specs.site_operands.Sites.{operands_of}
-use Rattle.place_net.specs.row_net.Table.{Holds}
-use Rattle.place_net.specs.Sources.{IsShownIn, packet_in, source_operands}
-use Rattle.site_table.specs.Sites.{IsSiteOf}
-use Rattle.site_table.specs.Staged.{AreStaged}
-use Rattle.change_net.proofs.operand_blocks.WiringLaws.{no_wires, all_outside}
+use Rattle.overlay_net.specs.cell_nets.declared.operand.Operand.{Operand}
+use Rattle.overlay_net.specs.cell_nets.declared.operand.Operand.TheVariants.{Net}
+use Rattle.overlay_net.specs.cell_nets.Operands.{AreFit}
+use Rattle.frame_net.specs.declared.held.Kept.{Kept}
+use Rattle.overlay_net.specs.declared.site_operands.SiteNets.{SiteNets}
+use Rattle.overlay_net.specs.SiteOperands.Sites.{operands_of}
+use Rattle.row_net.specs.Table.{Holds}
+use Rattle.row_net.specs.PlaceNet.Sources.{IsShownIn, packet_in, source_operands}
+use Rattle.stage_net.specs.SiteTable.Sites.{IsSiteOf}
+use Rattle.stage_net.specs.SiteTable.Staged.{AreStaged}
+use Rattle.overlay_net.proofs.cell_nets_laws.OperandBlocks.WiringLaws.{no_wires, all_outside}
 use Rattle.read_net.specs.declared.sites.MapNets.{MapNets}
 use Rattle.stage_net.specs.declared.row.StageNets.{StageNets}
 use Rattle.stage_net.specs.Nets.{decls_of}
@@ -29,12 +29,12 @@ use Rattle.pipe_net.specs.declared.parts.Part.{Part}
 use Rattle.pipe_net.specs.declared.parts.Sizes.{Sizes}
 use Rattle.pipe_net.specs.Parts as part
 use Rattle.pipe_net.specs.Layout.{Layout, program_of, last_of}
-use Rattle.pipe_draft.specs.pipe_places.Layout.{load_sites}
-use Rattle.pipe_draft.specs.pipe_places.Parts.{advances, IsMapAt, IsPlaceOf, ReadsSources}
-use Rattle.pipe_draft.specs.declared.draft.Draft.{Draft}
-use Rattle.pipe_draft.specs.declared.places.Behind.{Behind}
-use Rattle.pipe_draft.specs.Draft.{program_in, plan_in}
-use Rattle.pipe_draft.specs.Laid.{IsDrafted}
+use Rattle.pipe_net.specs.PipePlaces.Layout.{load_sites}
+use Rattle.pipe_net.specs.PipePlaces.Parts.{advances, IsMapAt, IsPlaceOf, ReadsSources}
+use Rattle.pipe_parts.specs.declared.pipe_draft.draft.Draft.{Draft}
+use Rattle.pipe_parts.specs.declared.pipe_draft.places.Behind.{Behind}
+use Rattle.pipe_parts.specs.PipeDraft.Draft.{program_in, plan_in}
+use Rattle.pipe_parts.specs.PipeDraft.Laid.{IsDrafted}
 use Rattle.place_parts.specs.declared.parts.PlaceParts.{PlaceParts}
 use Rattle.place_parts.specs.Places.{advances_by, table_in, pointers_in}
 use Rattle.place_parts.proofs.Available.{some_of}

@@ -2,33 +2,33 @@
 use Rattle.std.specs.Prelude.{Some, ◌/◌, ◌≤◌, slice_index}
 use Rattle.std.proofs.Common.{◌≡◌, ◌∙◌, ℕ, suc, ◌<◌, List, [], ◌∷◌, ◌++◌, length, get_or, refl, sym, ap, subst, arith}
 use Rattle.std.proofs.lemmas.List.{get_or-map}
-use Rattle.xdp_maps.specs.declared.decl.MapDecl.{MapDecl}
-use Rattle.xdp_maps.specs.State.{no_decl}
+use Rattle.hazard_core.specs.xdp_maps.declared.decl.MapDecl.{MapDecl}
+use Rattle.hazard_core.specs.xdp_maps.State.{no_decl}
 use Rattle.block_core.specs.declared.name.Name.{Name}
 use Rattle.block_core.specs.Blocks.{BlockTree, Whole}
 use Rattle.hazard_core.specs.cell_core.Cells.{cell_at, site_in}
 use Rattle.hazard_core.specs.cell_core.Sites.{SiteView, ProgramView, site_at}
-use Rattle.cell_nets.specs.declared.operand.Operand.{Operand}
+use Rattle.overlay_net.specs.cell_nets.declared.operand.Operand.{Operand}
 use Rattle.hazard_core.specs.Tables.{decl_of}
-use Rattle.pipe_net.specs.map_block.declared.form.MapForm.{MapForm}
-use Rattle.pipe_net.specs.map_block.Stored.{first_value}
-use Rattle.change_net.specs.value_net.Words.{access_start}
-use Rattle.site_table.specs.Sites.{site_operands, access_operand}
-use Rattle.site_table.proofs.SiteLaws.{site_is}
-use Rattle.change_net.proofs.operand_blocks.WiringLaws.{no_wires}
+use Rattle.commit_net.specs.declared.map_block.form.MapForm.{MapForm}
+use Rattle.commit_net.specs.MapBlock.Stored.{first_value}
+use Rattle.overlay_net.specs.ValueNet.Words.{access_start}
+use Rattle.stage_net.specs.SiteTable.Sites.{site_operands, access_operand}
+use Rattle.stage_net.proofs.SiteTable.SiteLaws.{site_is}
+use Rattle.overlay_net.proofs.cell_nets_laws.OperandBlocks.WiringLaws.{no_wires}
 use Rattle.read_net.specs.declared.sites.MapNets.{MapNets}
-use Rattle.change_net.specs.declared.pointed.PointedWords.{PointedWords}
-use Rattle.change_net.specs.Pointed.{IsOver, IsPointedWords}
+use Rattle.commit_net.specs.declared.change_net.pointed.PointedWords.{PointedWords}
+use Rattle.commit_net.specs.ChangeNet.Pointed.{IsOver, IsPointedWords}
 use Rattle.pipe_net.specs.declared.parts.Part.{Part}
 use Rattle.pipe_net.specs.declared.parts.Sizes.{Sizes}
 use Rattle.pipe_net.specs.Parts as part
 use Rattle.pipe_net.specs.Layout.{Layout, program_of, cells_of, last_of}
-use Rattle.pipe_draft.specs.pipe_places.Layout.{load_sites}
-use Rattle.pipe_draft.specs.pipe_places.Parts.{IsWord, AreWords}
-use Rattle.pipe_draft.specs.declared.draft.Draft.{Draft}
-use Rattle.pipe_draft.specs.declared.places.Behind.{Behind}
-use Rattle.pipe_draft.specs.Draft.{program_in, decls_in}
-use Rattle.pipe_draft.specs.Laid.{IsDrafted}
+use Rattle.pipe_net.specs.PipePlaces.Layout.{load_sites}
+use Rattle.pipe_net.specs.PipePlaces.Parts.{IsWord, AreWords}
+use Rattle.pipe_parts.specs.declared.pipe_draft.draft.Draft.{Draft}
+use Rattle.pipe_parts.specs.declared.pipe_draft.places.Behind.{Behind}
+use Rattle.pipe_parts.specs.PipeDraft.Draft.{program_in, decls_in}
+use Rattle.pipe_parts.specs.PipeDraft.Laid.{IsDrafted}
 use Rattle.place_parts.specs.declared.parts.PlaceParts.{PlaceParts}
 use Rattle.place_parts.specs.Words.{word_row, load_at, load_site, IsWordPart}
 use Rattle.place_parts.specs.Places.{pointers_in}

@@ -2,30 +2,30 @@
 use Rattle.std.proofs.Common.{◌≡◌, ◌∙◌, ℕ, ◌<◌, All, List, [], ◌∷◌, ◌++◌, length, get_or, inl, inr, refl, sym, ap, subst, arith}
 use Rattle.std.proofs.lemmas.List.{get_or-map}
 use Rattle.std.proofs.lemmas.List.Elements.{All-nil, All-cons, All-append, Contains-get_or}
-use Rattle.xdp_maps.specs.declared.decl.MapDecl.{MapDecl}
-use Rattle.xdp_maps.specs.declared.decl.MapKind.{MapKind}
-use Rattle.xdp_maps.specs.declared.decl.MapKind.TheVariants.{Hash, Array}
-use Rattle.xdp_maps.specs.State.{no_decl}
+use Rattle.hazard_core.specs.xdp_maps.declared.decl.MapDecl.{MapDecl}
+use Rattle.hazard_core.specs.xdp_maps.declared.decl.MapKind.{MapKind}
+use Rattle.hazard_core.specs.xdp_maps.declared.decl.MapKind.TheVariants.{Hash, Array}
+use Rattle.hazard_core.specs.xdp_maps.State.{no_decl}
 use Rattle.block_core.specs.declared.name.Name.{Name}
 use Rattle.block_core.specs.Blocks.{Whole}
-use Rattle.cell_nets.specs.declared.operand.Operand.{Operand}
-use Rattle.cell_nets.specs.declared.operand.Operand.TheVariants.{Known, Net}
-use Rattle.cell_nets.specs.Operands.{IsAvailable}
+use Rattle.overlay_net.specs.cell_nets.declared.operand.Operand.{Operand}
+use Rattle.overlay_net.specs.cell_nets.declared.operand.Operand.TheVariants.{Known, Net}
+use Rattle.overlay_net.specs.cell_nets.Operands.{IsAvailable}
 use Rattle.hazard_core.specs.Tables.{decl_of}
-use Rattle.read_net.specs.slot_net.Slots.{slots_of, operands_of as slot_operands}
-use Rattle.pipe_net.specs.map_block.declared.form.MapForm.{MapForm}
-use Rattle.site_table.specs.Staged.{StagesArePlaced}
+use Rattle.hash_net.specs.SlotNet.Slots.{slots_of, operands_of as slot_operands}
+use Rattle.commit_net.specs.declared.map_block.form.MapForm.{MapForm}
+use Rattle.stage_net.specs.SiteTable.Staged.{StagesArePlaced}
 use Rattle.read_net.specs.declared.sites.MapNets.{MapNets}
 use Rattle.read_net.specs.Sites.{slot_cells}
 use Rattle.pipe_net.specs.declared.parts.Part.{Part}
 use Rattle.pipe_net.specs.Layout.{Layout, program_of}
-use Rattle.pipe_draft.specs.pipe_places.Layout.{load_sites}
-use Rattle.pipe_draft.specs.pipe_places.Parts.{AreWords}
-use Rattle.pipe_forms.specs.Reading.{map_shown_as, map_shown, IsReadAt, Advance, Before, OfMap, OfWord}
-use Rattle.pipe_draft.specs.declared.draft.Draft.{Draft}
-use Rattle.pipe_draft.specs.declared.places.Behind.{Behind}
-use Rattle.pipe_draft.specs.Draft.{program_in, plan_in}
-use Rattle.pipe_draft.specs.Laid.{IsDrafted, DraftedAreLaid}
+use Rattle.pipe_net.specs.PipePlaces.Layout.{load_sites}
+use Rattle.pipe_net.specs.PipePlaces.Parts.{AreWords}
+use Rattle.pipe_net.specs.PipeForms.Reading.{map_shown_as, map_shown, IsReadAt, Advance, Before, OfMap, OfWord}
+use Rattle.pipe_parts.specs.declared.pipe_draft.draft.Draft.{Draft}
+use Rattle.pipe_parts.specs.declared.pipe_draft.places.Behind.{Behind}
+use Rattle.pipe_parts.specs.PipeDraft.Draft.{program_in, plan_in}
+use Rattle.pipe_parts.specs.PipeDraft.Laid.{IsDrafted, DraftedAreLaid}
 use Rattle.place_parts.specs.declared.parts.PlaceParts.{PlaceParts}
 use Rattle.place_parts.specs.Words.{load_at, word_row, IsWordNet}
 use Rattle.place_parts.specs.Places.{advances_by}

@@ -12,3 +12,4 @@ mod Drafted
 mod DraftedWords
 mod DraftedPlaces
 mod Laid
+pub mod MarkParts

@@ -2,21 +2,21 @@
 use Rattle.std.specs.Prelude.{Contains, Option, ◌⊎◌, slice_index}
 use Rattle.std.proofs.Common.{◌≡◌, ◌∙◌, ℕ, ◌<◌, Bool, false, All, List, length, get_or, refl, ap, sym, subst, arith}
 use Rattle.block_core.specs.net_core.Value.{Env}
-use Rattle.control_net.specs.product_blocks.Alone.{IsApartAlone}
+use Rattle.block_core.specs.ProductBlocks.Alone.{IsApartAlone}
 use Rattle.block_core.specs.declared.name.Name.{Name}
 use Rattle.block_core.specs.Blocks.{BlockTree, BlockWireTree}
 use Rattle.block_core.specs.Parts.{Solve}
 use Rattle.hazard_core.specs.cell_core.Sites.{ProgramView}
-use Rattle.cell_nets.specs.declared.operand.Operand.{Operand}
-use Rattle.cell_nets.specs.declared.operand.Operand.TheVariants.{Net}
-use Rattle.cell_nets.specs.Operands.{IsOperand}
-use Rattle.cell_nets.specs.Wires.{behind}
-use Rattle.place_net.specs.row_net.Apart.{TakeClean, KeepApart}
-use Rattle.place_net.specs.Place.{width_at}
-use Rattle.site_table.specs.site_operands.declared.SiteNets.{SiteNets}
-use Rattle.site_table.specs.site_place.PointerNets.{BothThere}
-use Rattle.site_table.specs.Staged.{AreStaged, AreLists}
-use Rattle.site_table.proofs.StagingLaws.{held_had, held_pointers_had}
+use Rattle.overlay_net.specs.cell_nets.declared.operand.Operand.{Operand}
+use Rattle.overlay_net.specs.cell_nets.declared.operand.Operand.TheVariants.{Net}
+use Rattle.overlay_net.specs.cell_nets.Operands.{IsOperand}
+use Rattle.overlay_net.specs.cell_nets.Wires.{behind}
+use Rattle.row_net.specs.Apart.{TakeClean, KeepApart}
+use Rattle.row_net.specs.PlaceNet.Place.{width_at}
+use Rattle.overlay_net.specs.declared.site_operands.SiteNets.{SiteNets}
+use Rattle.row_net.specs.SitePlace.PointerNets.{BothThere}
+use Rattle.stage_net.specs.SiteTable.Staged.{AreStaged, AreLists}
+use Rattle.stage_net.proofs.SiteTable.StagingLaws.{held_had, held_pointers_had}
 use Rattle.read_net.specs.declared.sites.MapNets.{MapNets}
 use Rattle.stage_net.specs.declared.row.StageNets.{StageNets}
 use Rattle.stage_net.specs.Nets.{decls_of, IsSiteNets, AreNets, IsMapNets, NetsAreThere}
@@ -27,9 +27,9 @@ use Rattle.stage_net.proofs.ListLaws.{can_make, can_point, pointers_of_row}
 use Rattle.stage_net.proofs.NetLaws.{sites_are}
 use Rattle.pipe_net.specs.declared.parts.Part.{Part}
 use Rattle.pipe_net.specs.Parts as part
-use Rattle.pipe_draft.specs.declared.draft.Draft.{Draft}
-use Rattle.pipe_draft.specs.declared.places.Behind.{Behind}
-use Rattle.pipe_draft.specs.Draft.{program_in, plan_in, decls_in, IsDraft}
+use Rattle.pipe_parts.specs.declared.pipe_draft.draft.Draft.{Draft}
+use Rattle.pipe_parts.specs.declared.pipe_draft.places.Behind.{Behind}
+use Rattle.pipe_parts.specs.PipeDraft.Draft.{program_in, plan_in, decls_in, IsDraft}
 use Rattle.place_parts.specs.Maps.{AreMapsFor}
 use Rattle.place_parts.specs.Places.{advances_by, row_in, made_in, held_in, made_pointers_in, held_pointers_in, table_in, pointers_in, StandsBefore, IsStageOf}
 use Rattle.place_parts.proofs.Taking.{maps_are, maps_decls}

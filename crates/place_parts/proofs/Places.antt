@@ -1,36 +1,36 @@
 -- The blocks of places, whatever comes from outside.
 use Rattle.std.specs.Prelude.{Option}
 use Rattle.std.proofs.Common.{◌∙◌, ℕ, suc, All, List, [], ◌∷◌, ◌++◌, get_or, refl, sym, subst, arith}
-use Rattle.control_net.specs.product_blocks.Alone.{IsApartAlone}
-use Rattle.control_net.proofs.product_blocks.FreeLaws.{all_marked}
+use Rattle.block_core.specs.ProductBlocks.Alone.{IsApartAlone}
+use Rattle.block_core.proofs.ProductBlocks.FreeLaws.{all_marked}
 use Rattle.block_core.specs.declared.name.Name.{Name}
 use Rattle.block_core.specs.Blocks.{BlockTree, BlockWireTree}
-use Rattle.cell_nets.specs.declared.operand.Operand.{Operand}
-use Rattle.cell_nets.specs.declared.operand.Operand.TheVariants.{Net}
-use Rattle.cell_nets.specs.Operands.{IsAvailable}
-use Rattle.cell_nets.specs.Wires.{behind, own}
-use Rattle.place_net.specs.row_net.Lists.{is_early}
-use Rattle.place_net.proofs.row_net_laws.ApartLemmas.{free_keep}
-use Rattle.place_net.specs.row_net.Table.{AreThere}
-use Rattle.place_net.specs.Sources.{source_operands}
-use Rattle.site_table.specs.site_place.PointerNets.{BothThere}
-use Rattle.site_table.specs.Staged.{AreStaged}
-use Rattle.site_table.proofs.TableLaws.{plain_there}
-use Rattle.change_net.proofs.operand_blocks.WiringLaws.{no_wires}
+use Rattle.overlay_net.specs.cell_nets.declared.operand.Operand.{Operand}
+use Rattle.overlay_net.specs.cell_nets.declared.operand.Operand.TheVariants.{Net}
+use Rattle.overlay_net.specs.cell_nets.Operands.{IsAvailable}
+use Rattle.overlay_net.specs.cell_nets.Wires.{behind, own}
+use Rattle.row_net.specs.Lists.{is_early}
+use Rattle.row_net.proofs.ApartLemmas.{free_keep}
+use Rattle.row_net.specs.Table.{AreThere}
+use Rattle.row_net.specs.PlaceNet.Sources.{source_operands}
+use Rattle.row_net.specs.SitePlace.PointerNets.{BothThere}
+use Rattle.stage_net.specs.SiteTable.Staged.{AreStaged}
+use Rattle.stage_net.proofs.SiteTable.TableLaws.{plain_there}
+use Rattle.overlay_net.proofs.cell_nets_laws.OperandBlocks.WiringLaws.{no_wires}
 use Rattle.read_net.specs.declared.sites.MapNets.{MapNets}
 use Rattle.read_net.specs.Sites.{slot_cells}
-use Rattle.site_table.specs.site_operands.declared.SiteNets.{SiteNets}
-use Rattle.site_table.specs.site_operands.Sites.{operands_of, all_of}
+use Rattle.overlay_net.specs.declared.site_operands.SiteNets.{SiteNets}
+use Rattle.overlay_net.specs.SiteOperands.Sites.{operands_of, all_of}
 use Rattle.stage_net.specs.Nets.{NetsAreThere}
 use Rattle.stage_net.specs.Stage.{IsStage}
 use Rattle.stage_net.proofs.ApartLaws.{reads_late, behind_apart}
 use Rattle.stage_net.proofs.NetLaws.{sites_there}
 use Rattle.pipe_net.specs.declared.parts.Part.{Part}
 use Rattle.pipe_net.specs.Parts as part
-use Rattle.pipe_draft.specs.declared.draft.Draft.{Draft}
-use Rattle.pipe_draft.specs.declared.places.Behind.{Behind}
-use Rattle.pipe_draft.specs.Draft.{program_in, plan_in, IsDraft}
-use Rattle.pipe_draft.specs.Places.{AreSitesOf, IsBehind}
+use Rattle.pipe_parts.specs.declared.pipe_draft.draft.Draft.{Draft}
+use Rattle.pipe_parts.specs.declared.pipe_draft.places.Behind.{Behind}
+use Rattle.pipe_parts.specs.PipeDraft.Draft.{program_in, plan_in, IsDraft}
+use Rattle.pipe_parts.specs.PipeDraft.Places.{AreSitesOf, IsBehind}
 use Rattle.place_parts.specs.Places.{advances_by, row_in, made_in, held_in, made_pointers_in, held_pointers_in, table_in, pointers_in, IsStageOf, IsFirstPlace}
 use Rattle.place_parts.proofs.Available.{IsIn, all_available, in_left, in_right, in_rest}
 use Rattle.place_parts.proofs.Standing.{before_in, cells_there, pointers_there}

@@ -14,22 +14,22 @@ use Rattle.hazard_core.specs.cell_core.Acts.{finds_key}
 use Rattle.hazard_core.specs.cell_core.Cells.{cell_at, site_in}
 use Rattle.hazard_core.specs.cell_core.Rows.{numbers}
 use Rattle.hazard_core.specs.cell_core.Sites.{ProgramView, site_at}
-use Rattle.cell_nets.specs.declared.operand.Operand.{Operand}
-use Rattle.cell_nets.specs.declared.operand.Operand.TheVariants.{Known}
-use Rattle.cell_nets.specs.Operands.{IsOperand, IsAvailable}
+use Rattle.overlay_net.specs.cell_nets.declared.operand.Operand.{Operand}
+use Rattle.overlay_net.specs.cell_nets.declared.operand.Operand.TheVariants.{Known}
+use Rattle.overlay_net.specs.cell_nets.Operands.{IsOperand, IsAvailable}
 use Rattle.hazard_core.specs.Held.{answer_cell}
-use Rattle.change_net.specs.value_net.Words.{answers_number}
-use Rattle.site_table.specs.site_operands.Sites.{SiteOperands}
-use Rattle.place_net.specs.row_net.Table.{Stands}
-use Rattle.site_table.specs.Pointing.{plain_of}
-use Rattle.site_table.specs.Sites.{access_operand}
-use Rattle.site_table.proofs.SiteLaws.{at_index}
+use Rattle.overlay_net.specs.ValueNet.Words.{answers_number}
+use Rattle.overlay_net.specs.SiteOperands.Sites.{SiteOperands}
+use Rattle.row_net.specs.Table.{Stands}
+use Rattle.stage_net.specs.SiteTable.Pointing.{plain_of}
+use Rattle.stage_net.specs.SiteTable.Sites.{access_operand}
+use Rattle.stage_net.proofs.SiteTable.SiteLaws.{at_index}
 use Rattle.stage_net.specs.Staged.{IsReadCell}
 use Rattle.pipe_net.specs.declared.parts.Part.{Part}
-use Rattle.pipe_draft.specs.declared.draft.Draft.{Draft}
-use Rattle.pipe_draft.specs.declared.places.Behind.{Behind}
-use Rattle.pipe_draft.specs.Draft.{program_in, plan_in, IsDraft}
-use Rattle.pipe_draft.specs.Places.{ArePlaces}
+use Rattle.pipe_parts.specs.declared.pipe_draft.draft.Draft.{Draft}
+use Rattle.pipe_parts.specs.declared.pipe_draft.places.Behind.{Behind}
+use Rattle.pipe_parts.specs.PipeDraft.Draft.{program_in, plan_in, IsDraft}
+use Rattle.pipe_parts.specs.PipeDraft.Places.{ArePlaces}
 use Rattle.place_parts.specs.Words.{word_row, IsPointerBefore}
 use Rattle.place_parts.specs.Places.{row_in, pointers_in}
 use Rattle.place_parts.proofs.Available.{some_of, IsIn}

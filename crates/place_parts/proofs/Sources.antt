@@ -10,22 +10,22 @@ use Rattle.hazard_core.specs.cell_core.Cells.{CellView, cell_at, is_read}
 use Rattle.hazard_core.specs.cell_core.Formed.{IsInRange}
 use Rattle.hazard_core.specs.cell_core.Rows.{numbers}
 use Rattle.hazard_core.specs.cell_core.Sites.{ProgramView}
-use Rattle.cell_nets.specs.Computing.{is_outside}
-use Rattle.change_net.specs.frame_net.declared.held.Kept.{Kept}
-use Rattle.change_net.specs.frame_net.declared.held.Kept.TheVariants as kept
-use Rattle.place_net.specs.row_net.Lists.{varies}
-use Rattle.place_net.specs.row_net.Needed.{flag}
-use Rattle.place_net.specs.row_net.Table.{IsIn, is_constant, is_number}
-use Rattle.place_net.specs.Sources.{IsSource, IsShown}
-use Rattle.site_table.specs.site_place.Pointing.{IsPointers}
-use Rattle.site_table.specs.Pointing.{plain_of}
-use Rattle.site_table.proofs.TableLaws.{plain_in, plain_are}
+use Rattle.overlay_net.specs.cell_nets.Computing.{is_outside}
+use Rattle.frame_net.specs.declared.held.Kept.{Kept}
+use Rattle.frame_net.specs.declared.held.Kept.TheVariants as kept
+use Rattle.row_net.specs.Lists.{varies}
+use Rattle.row_net.specs.Needed.{flag}
+use Rattle.row_net.specs.Table.{IsIn, is_constant, is_number}
+use Rattle.row_net.specs.PlaceNet.Sources.{IsSource, IsShown}
+use Rattle.row_net.specs.SitePlace.Pointing.{IsPointers}
+use Rattle.stage_net.specs.SiteTable.Pointing.{plain_of}
+use Rattle.stage_net.proofs.SiteTable.TableLaws.{plain_in, plain_are}
 use Rattle.stage_net.proofs.ListLaws.{at_hand_first}
 use Rattle.pipe_net.specs.declared.parts.Part.{Part}
-use Rattle.pipe_draft.specs.declared.draft.Draft.{Draft}
-use Rattle.pipe_draft.specs.declared.places.Behind.{Behind}
-use Rattle.pipe_draft.specs.Sources.{comes, is_source, kept_for}
-use Rattle.pipe_draft.specs.Draft.{program_in, plan_in, IsDraft}
+use Rattle.pipe_parts.specs.declared.pipe_draft.draft.Draft.{Draft}
+use Rattle.pipe_parts.specs.declared.pipe_draft.places.Behind.{Behind}
+use Rattle.pipe_parts.specs.PipeDraft.Sources.{comes, is_source, kept_for}
+use Rattle.pipe_parts.specs.PipeDraft.Draft.{program_in, plan_in, IsDraft}
 use Rattle.place_parts.specs.Places.{table_in, pointers_in, StandsBefore, IsArriving}
 use Rattle.place_parts.proofs.Numbers.{passing_below, passing_in}
 

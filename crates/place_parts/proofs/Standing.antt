@@ -2,19 +2,19 @@
 use Rattle.std.specs.Prelude.{◌++◌}
 use Rattle.std.proofs.Common.{ℕ, zero, suc, List, length}
 use Rattle.block_core.specs.declared.name.Name.{Name}
-use Rattle.cell_nets.specs.declared.operand.Operand.{Operand}
-use Rattle.place_net.specs.row_net.Table.{AreThere}
-use Rattle.place_net.specs.Place.{registers_from}
-use Rattle.place_net.specs.Sources.{source_operands}
-use Rattle.site_table.specs.site_place.SitePlace.{pointer_registers}
-use Rattle.site_table.proofs.TableLaws.{plain_there}
+use Rattle.overlay_net.specs.cell_nets.declared.operand.Operand.{Operand}
+use Rattle.row_net.specs.Table.{AreThere}
+use Rattle.row_net.specs.PlaceNet.Place.{registers_from}
+use Rattle.row_net.specs.PlaceNet.Sources.{source_operands}
+use Rattle.row_net.specs.SitePlace.SitePlace.{pointer_registers}
+use Rattle.stage_net.proofs.SiteTable.TableLaws.{plain_there}
 use Rattle.stage_net.proofs.ListLaws.{at_hand}
 use Rattle.pipe_net.specs.declared.parts.Part.{Part}
 use Rattle.pipe_net.specs.Parts as part
-use Rattle.pipe_draft.specs.declared.draft.Draft.{Draft}
-use Rattle.pipe_draft.specs.declared.places.Behind.{Behind}
-use Rattle.pipe_draft.specs.Draft.{program_in, plan_in, IsDraft}
-use Rattle.pipe_draft.specs.Places.{IsBehind}
+use Rattle.pipe_parts.specs.declared.pipe_draft.draft.Draft.{Draft}
+use Rattle.pipe_parts.specs.declared.pipe_draft.places.Behind.{Behind}
+use Rattle.pipe_parts.specs.PipeDraft.Draft.{program_in, plan_in, IsDraft}
+use Rattle.pipe_parts.specs.PipeDraft.Places.{IsBehind}
 use Rattle.place_parts.specs.Places.{held_in, held_pointers_in, table_in, pointers_in, StandsBefore}
 use Rattle.place_parts.proofs.Available.{IsIn, all_available, in_left, in_right}
 

@@ -4,21 +4,21 @@ use Rattle.std.proofs.Common.{◌≡◌, ◌∙◌, ℕ, zero, suc, ◌+◌, ◌
 use Rattle.std.proofs.lemmas.Bool.{cases_eq}
 use Rattle.std.proofs.lemmas.List.{length-map, length-set, get_or-map, get_or-set_same, get_or-set_other, ext_get_or}
 use Rattle.std.proofs.lemmas.List.Elements.{All-nil, All-append}
-use Rattle.xdp_maps.specs.State.{no_decl}
+use Rattle.hazard_core.specs.xdp_maps.State.{no_decl}
 use Rattle.block_core.specs.declared.name.Name.{Name}
 use Rattle.hazard_core.specs.cell_core.Sites.{site_at}
-use Rattle.cell_nets.specs.declared.operand.Operand.{Operand}
-use Rattle.cell_nets.specs.declared.operand.Operand.TheVariants.{Known}
-use Rattle.cell_nets.specs.Operands.{IsOperand}
-use Rattle.pipe_net.specs.map_block.declared.form.MapForm.{MapForm}
-use Rattle.change_net.specs.value_net.Words.{answers_number}
+use Rattle.overlay_net.specs.cell_nets.declared.operand.Operand.{Operand}
+use Rattle.overlay_net.specs.cell_nets.declared.operand.Operand.TheVariants.{Known}
+use Rattle.overlay_net.specs.cell_nets.Operands.{IsOperand}
+use Rattle.commit_net.specs.declared.map_block.form.MapForm.{MapForm}
+use Rattle.overlay_net.specs.ValueNet.Words.{answers_number}
 use Rattle.read_net.specs.declared.sites.MapNets.{MapNets}
 use Rattle.read_net.specs.Sites.{slot_cells}
-use Rattle.change_net.specs.declared.pointed.PointedWords.{PointedWords}
+use Rattle.commit_net.specs.declared.change_net.pointed.PointedWords.{PointedWords}
 use Rattle.stage_net.specs.Nets.{decls_of, IsMapNets}
 use Rattle.pipe_net.specs.declared.parts.Part.{Part}
-use Rattle.pipe_draft.specs.declared.draft.Draft.{Draft}
-use Rattle.pipe_draft.specs.Draft.{program_in, decls_in, IsDraft}
+use Rattle.pipe_parts.specs.declared.pipe_draft.draft.Draft.{Draft}
+use Rattle.pipe_parts.specs.PipeDraft.Draft.{program_in, decls_in, IsDraft}
 use Rattle.place_parts.specs.Maps.{AreMapsFor}
 use Rattle.place_parts.specs.Words.{load_at, word_net, IsWordNet, AreWordNets}
 use Rattle.place_parts.proofs.Available.{some_of, IsIn, in_left, in_right}

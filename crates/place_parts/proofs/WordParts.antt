@@ -3,12 +3,12 @@ use Rattle.std.specs.Prelude.{◌+◌, ◌≤◌, ◌/◌}
 use Rattle.std.specs.List.{list_all}
 use Rattle.std.proofs.Common.{◌≡◌, ◌∙◌, ℕ, suc, ◌<◌, Bool, true, false, List, [], ◌∷◌, length, get_or, refl, sym, ap, subst, arith}
 use Rattle.std.proofs.lemmas.List.{length-map, get_or-map}
-use Rattle.xdp_maps.specs.Calls.{change_bytes}
-use Rattle.xdp_maps.specs.State.{no_decl}
-use Rattle.hazard_core.specs.cell_core.xdp_machine.Memory.{bytes_in}
-use Rattle.hazard_core.specs.cell_core.bpf_isa.declared.operation.Size.{Size}
-use Rattle.hazard_core.specs.cell_core.bpf_isa.declared.operation.Size.TheVariants.{B, H, W, Dw}
-use Rattle.control_net.specs.product_blocks.Alone.{wire_flat}
+use Rattle.hazard_core.specs.xdp_maps.Calls.{change_bytes}
+use Rattle.hazard_core.specs.xdp_maps.State.{no_decl}
+use Rattle.hazard_core.specs.xdp_machine.Memory.{bytes_in}
+use Rattle.hazard_core.specs.bpf_isa.declared.operation.Size.{Size}
+use Rattle.hazard_core.specs.bpf_isa.declared.operation.Size.TheVariants.{B, H, W, Dw}
+use Rattle.block_core.specs.ProductBlocks.Alone.{wire_flat}
 use Rattle.block_core.specs.declared.name.Name.{Name}
 use Rattle.block_core.specs.Blocks.{BlockWireTree}
 use Rattle.block_core.specs.View.{block_of}
@@ -16,22 +16,22 @@ use Rattle.hazard_core.specs.cell_core.declared.site.Act.{Act}
 use Rattle.hazard_core.specs.cell_core.declared.site.Act.TheVariants as act
 use Rattle.hazard_core.specs.cell_core.Formed.{IsInside}
 use Rattle.hazard_core.specs.cell_core.Sites.{ProgramView, SiteView, site_at}
-use Rattle.cell_nets.specs.declared.operand.Operand.{Operand}
-use Rattle.cell_nets.specs.Operands.{IsOperand, IsAvailable}
-use Rattle.cell_nets.specs.Wires.{behind, AreWires}
-use Rattle.pipe_net.specs.map_block.declared.form.MapForm.{MapForm}
-use Rattle.pipe_net.specs.map_block.Stored.{first_value}
-use Rattle.change_net.specs.value_net.Words.{answers_number, access_start}
-use Rattle.site_table.specs.site_operands.declared.SiteNets.{SiteNets}
-use Rattle.change_net.proofs.operand_blocks.WiringLaws.{no_wires, all_outside}
-use Rattle.change_net.specs.declared.pointed.PointedWords.{PointedWords}
-use Rattle.change_net.specs.Pointed.{IsOver, IsPointedWords}
+use Rattle.overlay_net.specs.cell_nets.declared.operand.Operand.{Operand}
+use Rattle.overlay_net.specs.cell_nets.Operands.{IsOperand, IsAvailable}
+use Rattle.overlay_net.specs.cell_nets.Wires.{behind, AreWires}
+use Rattle.commit_net.specs.declared.map_block.form.MapForm.{MapForm}
+use Rattle.commit_net.specs.MapBlock.Stored.{first_value}
+use Rattle.overlay_net.specs.ValueNet.Words.{answers_number, access_start}
+use Rattle.overlay_net.specs.declared.site_operands.SiteNets.{SiteNets}
+use Rattle.overlay_net.proofs.cell_nets_laws.OperandBlocks.WiringLaws.{no_wires, all_outside}
+use Rattle.commit_net.specs.declared.change_net.pointed.PointedWords.{PointedWords}
+use Rattle.commit_net.specs.ChangeNet.Pointed.{IsOver, IsPointedWords}
 use Rattle.pipe_net.specs.declared.parts.Part.{Part}
 use Rattle.pipe_net.specs.Parts as part
-use Rattle.pipe_draft.specs.declared.draft.Draft.{Draft}
-use Rattle.pipe_draft.specs.declared.places.Behind.{Behind}
-use Rattle.pipe_draft.specs.Draft.{program_in, plan_in, decls_in, IsDraft}
-use Rattle.pipe_draft.specs.Places.{ArePlaces}
+use Rattle.pipe_parts.specs.declared.pipe_draft.draft.Draft.{Draft}
+use Rattle.pipe_parts.specs.declared.pipe_draft.places.Behind.{Behind}
+use Rattle.pipe_parts.specs.PipeDraft.Draft.{program_in, plan_in, decls_in, IsDraft}
+use Rattle.pipe_parts.specs.PipeDraft.Places.{ArePlaces}
 use Rattle.place_parts.specs.Words.{word_row, IsPointerBefore, load_at, load_site, IsWordPart}
 use Rattle.place_parts.proofs.Available.{same_there}
 use Rattle.place_parts.proofs.Pointing.{load_low, load_answers, row_most, pointer_of}

@@ -1,20 +1,20 @@
 -- The parts of places of a pipeline that is laid out by a draft.
 use Rattle.std.specs.Prelude.{◌≡◌, ℕ, ◌<◌, ◌≤◌, List, length}
 use Rattle.std.proofs.Common.{get_or}
-use Rattle.control_net.specs.product_blocks.Alone.{IsApartAlone}
+use Rattle.block_core.specs.ProductBlocks.Alone.{IsApartAlone}
 use Rattle.block_core.specs.declared.name.Name.{Name}
 use Rattle.block_core.specs.Blocks.{Whole}
 use Rattle.read_net.specs.declared.sites.MapNets.{MapNets}
 use Rattle.pipe_net.specs.declared.parts.Part.{Part}
 use Rattle.pipe_net.specs.Parts as part
 use Rattle.pipe_net.specs.Layout.{Layout, last_of}
-use Rattle.pipe_draft.specs.pipe_places.Parts.{IsMapAt, AreStageParts}
-use Rattle.pipe_forms.specs.Reading.{AreReadings}
-use Rattle.pipe_draft.specs.declared.draft.Draft.{Draft}
-use Rattle.pipe_draft.specs.declared.places.Behind.{Behind}
-use Rattle.pipe_draft.specs.Draft.{IsDraft}
-use Rattle.pipe_draft.specs.Places.{ArePlaces}
-use Rattle.pipe_draft.specs.Laid.{IsDrafted, IsAnswered}
+use Rattle.pipe_net.specs.PipePlaces.Parts.{IsMapAt, AreStageParts}
+use Rattle.pipe_net.specs.PipeForms.Reading.{AreReadings}
+use Rattle.pipe_parts.specs.declared.pipe_draft.draft.Draft.{Draft}
+use Rattle.pipe_parts.specs.declared.pipe_draft.places.Behind.{Behind}
+use Rattle.pipe_parts.specs.PipeDraft.Draft.{IsDraft}
+use Rattle.pipe_parts.specs.PipeDraft.Places.{ArePlaces}
+use Rattle.pipe_parts.specs.PipeDraft.Laid.{IsDrafted, IsAnswered}
 use Rattle.place_parts.specs.declared.parts.PlaceParts.{PlaceParts}
 use Rattle.place_parts.specs.Maps.{AreMapsFor}
 use Rattle.place_parts.specs.Parts.{ArePlaceParts, HasBlocks}

@@ -1,14 +1,14 @@
 -- What stands for the maps of a draft.
 use Rattle.std.specs.Prelude.{◌≡◌, ℕ, ◌<◌, List, [], length}
 use Rattle.std.proofs.Common.{get_or}
-use Rattle.xdp_maps.specs.declared.decl.MapKind.TheVariants.{Array}
+use Rattle.hazard_core.specs.xdp_maps.declared.decl.MapKind.TheVariants.{Array}
 use Rattle.block_core.specs.declared.name.Name.{Name}
-use Rattle.cell_nets.specs.declared.operand.Operand.TheVariants.{Known}
-use Rattle.pipe_net.specs.map_block.declared.form.MapForm.{MapForm}
+use Rattle.overlay_net.specs.cell_nets.declared.operand.Operand.TheVariants.{Known}
+use Rattle.commit_net.specs.declared.map_block.form.MapForm.{MapForm}
 use Rattle.read_net.specs.declared.sites.MapNets.{MapNets}
 use Rattle.read_net.specs.Sites.{IsMap}
 use Rattle.pipe_net.specs.declared.parts.Part.{Part}
-use Rattle.pipe_draft.specs.declared.draft.Draft.{Draft}
+use Rattle.pipe_parts.specs.declared.pipe_draft.draft.Draft.{Draft}
 
 -- a map of this form, where the numbers of pointers have so many bits; of an array nothing is shown or counted
 pub record IsMapFor (pointer_bits : ℕ) (f : MapForm) (n : MapNets (Name Part)) : Type 0 where

@@ -5,15 +5,15 @@ use Rattle.block_core.specs.declared.name.Name.{Name}
 use Rattle.block_core.specs.declared.block.Block.{Block}
 use Rattle.block_core.specs.Blocks.{Whole}
 use Rattle.block_core.specs.View.{block_of}
-use Rattle.cell_nets.specs.declared.operand.Operand.{Operand}
+use Rattle.overlay_net.specs.cell_nets.declared.operand.Operand.{Operand}
 use Rattle.read_net.specs.declared.sites.MapNets.{MapNets}
-use Rattle.change_net.specs.declared.pointed.PointedWords.{PointedWords}
+use Rattle.commit_net.specs.declared.change_net.pointed.PointedWords.{PointedWords}
 use Rattle.pipe_net.specs.declared.parts.Part.{Part}
 use Rattle.pipe_net.specs.Parts as part
 use Rattle.pipe_net.specs.Layout.{Layout, last_of}
-use Rattle.pipe_draft.specs.declared.draft.Draft.{Draft}
-use Rattle.pipe_draft.specs.declared.places.Behind.{Behind}
-use Rattle.pipe_draft.specs.Draft.{plan_in}
+use Rattle.pipe_parts.specs.declared.pipe_draft.draft.Draft.{Draft}
+use Rattle.pipe_parts.specs.declared.pipe_draft.places.Behind.{Behind}
+use Rattle.pipe_parts.specs.PipeDraft.Draft.{plan_in}
 use Rattle.place_parts.specs.declared.parts.PlaceParts.{PlaceParts}
 use Rattle.place_parts.specs.Words.{AreWordParts, AreWordNets}
 use Rattle.place_parts.specs.Places.{IsLaterStage, IsFirstPlace}

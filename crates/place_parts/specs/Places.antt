@@ -2,21 +2,21 @@
 use Rattle.std.specs.Prelude.{◌≡◌, ℕ, suc, Bool, false, Option, Contains, List, [], slice_index}
 use Rattle.std.proofs.Common.{get_or}
 use Rattle.block_core.specs.net_core.Value.{Env}
-use Rattle.control_net.specs.product_blocks.Alone.{IsApartAlone}
+use Rattle.block_core.specs.ProductBlocks.Alone.{IsApartAlone}
 use Rattle.block_core.specs.declared.name.Name.{Name}
 use Rattle.block_core.specs.Blocks.{BlockTree, BlockWireTree}
 use Rattle.block_core.specs.Parts.{Solve}
-use Rattle.cell_nets.specs.declared.operand.Operand.{Operand}
-use Rattle.cell_nets.specs.declared.operand.Operand.TheVariants.{Net}
-use Rattle.cell_nets.specs.Wires.{behind}
-use Rattle.place_net.specs.row_net.Apart.{TakeClean, KeepApart}
-use Rattle.place_net.specs.row_net.Lists.{made_cells}
-use Rattle.place_net.specs.row_net.Table.{IsTable}
-use Rattle.place_net.specs.Sources.{IsSourced}
-use Rattle.site_table.specs.site_place.Pointing.{IsPointers}
-use Rattle.site_table.specs.site_place.PointerNets.{BothThere}
-use Rattle.site_table.specs.Lists.{held_cells, held_pointers, made_pointers}
-use Rattle.site_table.specs.Staged.{AreAtHand}
+use Rattle.overlay_net.specs.cell_nets.declared.operand.Operand.{Operand}
+use Rattle.overlay_net.specs.cell_nets.declared.operand.Operand.TheVariants.{Net}
+use Rattle.overlay_net.specs.cell_nets.Wires.{behind}
+use Rattle.row_net.specs.Apart.{TakeClean, KeepApart}
+use Rattle.row_net.specs.Lists.{made_cells}
+use Rattle.row_net.specs.Table.{IsTable}
+use Rattle.row_net.specs.PlaceNet.Sources.{IsSourced}
+use Rattle.row_net.specs.SitePlace.Pointing.{IsPointers}
+use Rattle.row_net.specs.SitePlace.PointerNets.{BothThere}
+use Rattle.stage_net.specs.SiteTable.Lists.{held_cells, held_pointers, made_pointers}
+use Rattle.stage_net.specs.SiteTable.Staged.{AreAtHand}
 use Rattle.read_net.specs.declared.sites.MapNets.{MapNets}
 use Rattle.stage_net.specs.declared.row.StageNets.{StageNets}
 use Rattle.stage_net.specs.Nets.{NetsAreThere}
@@ -27,10 +27,10 @@ use Rattle.control_net.specs.declared.names.Wire.TheVariants.{Advances}
 use Rattle.pipe_net.specs.declared.parts.Part.{Part}
 use Rattle.pipe_net.specs.declared.parts.Sizes.{Sizes}
 use Rattle.pipe_net.specs.Parts as part
-use Rattle.pipe_draft.specs.declared.draft.Draft.{Draft}
-use Rattle.pipe_draft.specs.declared.places.Behind.{Behind}
-use Rattle.pipe_draft.specs.Draft.{program_in, plan_in}
-use Rattle.pipe_draft.specs.Places.{AreSitesOf}
+use Rattle.pipe_parts.specs.declared.pipe_draft.draft.Draft.{Draft}
+use Rattle.pipe_parts.specs.declared.pipe_draft.places.Behind.{Behind}
+use Rattle.pipe_parts.specs.PipeDraft.Draft.{program_in, plan_in}
+use Rattle.pipe_parts.specs.PipeDraft.Places.{AreSitesOf}
 use Rattle.place_parts.specs.declared.lists.PlaceLists.{PlaceLists}
 
 -- ---- lists and tables

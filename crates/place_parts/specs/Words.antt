@@ -4,20 +4,20 @@ use Rattle.std.proofs.Common.{get_or}
 use Rattle.block_core.specs.declared.name.Name.{Name}
 use Rattle.block_core.specs.View.{block_of}
 use Rattle.hazard_core.specs.cell_core.Sites.{SiteView, site_at}
-use Rattle.cell_nets.specs.declared.operand.Operand.{Operand}
-use Rattle.cell_nets.specs.declared.operand.Operand.TheVariants.{Known, Net}
+use Rattle.overlay_net.specs.cell_nets.declared.operand.Operand.{Operand}
+use Rattle.overlay_net.specs.cell_nets.declared.operand.Operand.TheVariants.{Known, Net}
 use Rattle.hazard_core.specs.Held.{answer_cell}
-use Rattle.pipe_net.specs.map_block.declared.form.MapForm.{MapForm}
-use Rattle.pipe_net.specs.map_block.Stored.{first_value}
-use Rattle.change_net.specs.value_net.Words.{access_start}
-use Rattle.site_table.specs.site_operands.declared.SiteNets.{SiteNets}
-use Rattle.change_net.specs.declared.pointed.PointedWords.{PointedWords}
-use Rattle.change_net.specs.Pointed.{IsOver, IsPointedWords}
+use Rattle.commit_net.specs.declared.map_block.form.MapForm.{MapForm}
+use Rattle.commit_net.specs.MapBlock.Stored.{first_value}
+use Rattle.overlay_net.specs.ValueNet.Words.{access_start}
+use Rattle.overlay_net.specs.declared.site_operands.SiteNets.{SiteNets}
+use Rattle.commit_net.specs.declared.change_net.pointed.PointedWords.{PointedWords}
+use Rattle.commit_net.specs.ChangeNet.Pointed.{IsOver, IsPointedWords}
 use Rattle.pipe_net.specs.declared.parts.Part.{Part}
 use Rattle.pipe_net.specs.Parts as part
-use Rattle.pipe_draft.specs.declared.draft.Draft.{Draft}
-use Rattle.pipe_draft.specs.declared.places.Behind.{Behind}
-use Rattle.pipe_draft.specs.Draft.{program_in, plan_in}
+use Rattle.pipe_parts.specs.declared.pipe_draft.draft.Draft.{Draft}
+use Rattle.pipe_parts.specs.declared.pipe_draft.places.Behind.{Behind}
+use Rattle.pipe_parts.specs.PipeDraft.Draft.{program_in, plan_in}
 
 -- ---- the part of a word
 -- the row of the cell that reads a site, 0 where none does

@@ -2,21 +2,21 @@
 
 ghost use Rattle.std.specs.Prelude.{◌≡◌, All, IfOk, length};
 ghost use Rattle.block_core.specs.View.{block_of};
-ghost use Rattle.cell_nets.specs.Operands.{IsOperand};
-ghost use Rattle.cell_nets.specs.Wires.{wires_of};
-ghost use Rattle.pipe_draft.specs.Draft.{program_in, IsDraft};
+ghost use Rattle.overlay_net.specs.cell_nets.Operands.{IsOperand};
+ghost use Rattle.overlay_net.specs.cell_nets.Wires.{wires_of};
+ghost use Rattle.pipe_parts.specs.PipeDraft.Draft.{program_in, IsDraft};
 ghost use Rattle.place_parts.specs.Maps.{AreMapsFor};
 ghost use Rattle.place_parts.specs.Places.{IsArriving, IsFirstPlace};
 
 use crate::stages::stage_over;
 use block_core::block::{Block, BlockWire};
 use block_core::name::Name;
-use cell_nets::operand::Operand;
-use pipe_draft::{Behind, Draft, sites_of};
+use overlay_net::cell_nets::operand::Operand;
 use pipe_net::parts::Part;
-use place_net::source_cells;
+use pipe_parts::pipe_draft::{Behind, Draft, sites_of};
 use read_net::sites::MapNets;
-use site_table::tables::StageTables;
+use row_net::place_net::source_cells;
+use stage_net::site_table::tables::StageTables;
 use std::alloc::{AllocError, Global};
 
 /// Wires for the cells that come with a packet, and what stands before the first place by these.

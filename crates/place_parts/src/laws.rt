@@ -2,8 +2,8 @@
 
 ghost use Rattle.place_parts.specs.Laws.{PartsAreOfPlaces};
 
-use pipe_draft::laws::drafted_are_laid;
-use site_table::laws::stages_are_placed;
+use pipe_parts::pipe_draft::laws::drafted_are_laid;
+use stage_net::site_table::laws::stages_are_placed;
 
 /// In a pipeline that is laid out by the same draft they are the parts of its places.
 pub fn parts_are_of_places()

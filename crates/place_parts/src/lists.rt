@@ -1,12 +1,12 @@
 //! What the place of a row makes and holds.
 
 ghost use Rattle.std.specs.Prelude.{IfOk};
-ghost use Rattle.pipe_draft.specs.Draft.{IsDraft};
+ghost use Rattle.pipe_parts.specs.PipeDraft.Draft.{IsDraft};
 ghost use Rattle.place_parts.specs.Places.{AreListsOf};
 
-use pipe_draft::Draft;
-use place_net::row_net::lists::made;
-use site_table::lists::{held, held_pointers, made_pointers};
+use pipe_parts::pipe_draft::Draft;
+use row_net::lists::made;
+use stage_net::site_table::lists::{held, held_pointers, made_pointers};
 use std::alloc::{AllocError, Global};
 
 /// The cells and the pointers that the place of a row makes from others, and those that it holds.

@@ -1,15 +1,15 @@
 //! What stands for the words that sites read.
 
 ghost use Rattle.std.specs.Prelude.{◌≡◌, All, IfOk, length};
-ghost use Rattle.cell_nets.specs.declared.operand.Operand.TheVariants.{Known};
-ghost use Rattle.pipe_draft.specs.Draft.{IsDraft};
+ghost use Rattle.overlay_net.specs.cell_nets.declared.operand.Operand.TheVariants.{Known};
+ghost use Rattle.pipe_parts.specs.PipeDraft.Draft.{IsDraft};
 ghost use Rattle.place_parts.specs.Words.{HaveWords, AreWordNets};
 
 use block_core::name::Name;
-use cell_nets::operand::Operand;
-use change_net::pointed::PointedWords;
-use pipe_draft::Draft;
+use commit_net::change_net::pointed::PointedWords;
+use overlay_net::cell_nets::operand::Operand;
 use pipe_net::parts::Part;
+use pipe_parts::pipe_draft::Draft;
 use std::alloc::{AllocError, Global};
 
 // The number 0 for each site.

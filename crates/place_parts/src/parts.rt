@@ -1,8 +1,8 @@
 //! The parts of places.
 
 ghost use Rattle.std.specs.Prelude.{IfOk};
-ghost use Rattle.pipe_draft.specs.Draft.{IsDraft};
-ghost use Rattle.pipe_draft.specs.Places.{ArePlaces};
+ghost use Rattle.pipe_parts.specs.PipeDraft.Draft.{IsDraft};
+ghost use Rattle.pipe_parts.specs.PipeDraft.Places.{ArePlaces};
 ghost use Rattle.place_parts.specs.Maps.{AreMapsFor};
 ghost use Rattle.place_parts.specs.Parts.{ArePlaceParts};
 
@@ -12,10 +12,10 @@ use crate::stages::stages;
 use crate::words::word_parts;
 use block_core::block::Block;
 use block_core::name::Name;
-use cell_nets::operand::Operand;
-use change_net::pointed::PointedWords;
-use pipe_draft::{Behind, Draft};
+use commit_net::change_net::pointed::PointedWords;
+use overlay_net::cell_nets::operand::Operand;
 use pipe_net::parts::Part;
+use pipe_parts::pipe_draft::{Behind, Draft};
 use read_net::sites::MapNets;
 use std::alloc::{AllocError, Global};
 

@@ -1,23 +1,23 @@
 //! The parts that show words under pointers.
 
 ghost use Rattle.std.specs.Prelude.{◌≡◌, ◌/◌, ◌<◌, ◌≤◌, true, IfOk, length};
-ghost use Rattle.pipe_net.specs.map_block.Stored.{first_value};
-ghost use Rattle.change_net.specs.value_net.Words.{answers_number, access_start};
-ghost use Rattle.pipe_draft.specs.Draft.{program_in, plan_in, IsDraft};
-ghost use Rattle.pipe_draft.specs.Places.{ArePlaces};
+ghost use Rattle.commit_net.specs.MapBlock.Stored.{first_value};
+ghost use Rattle.overlay_net.specs.ValueNet.Words.{answers_number, access_start};
+ghost use Rattle.pipe_parts.specs.PipeDraft.Draft.{program_in, plan_in, IsDraft};
+ghost use Rattle.pipe_parts.specs.PipeDraft.Places.{ArePlaces};
 ghost use Rattle.place_parts.specs.Words.{word_row, IsPointerBefore, IsWordPart, AreWordParts};
 
 use block_core::name::Name;
-use cell_nets::operand::Operand;
-use change_net::pointed::{PointedWords, pointed_words};
+use commit_net::change_net::pointed::{PointedWords, pointed_words};
 use hash_net::value_first;
 use hazard_core::cell_core::site::Act;
+use hazard_core::cell_core::xdp_state::xdp_maps::decl::{MapDecl, MapKind};
 use hazard_core::pending::row_in;
 use hazard_core::site::{answer_cell, site_at};
-use pipe_draft::{Behind, Draft};
+use overlay_net::cell_nets::operand::Operand;
 use pipe_net::parts::Part;
+use pipe_parts::pipe_draft::{Behind, Draft};
 use std::alloc::{AllocError, Global};
-use xdp_maps::decl::{MapDecl, MapKind};
 
 /// The number of a pointer to a slot has the slot's number above so many bits.
 const SLOT_SHIFT: u8 = 2;

@@ -21,8 +21,8 @@ use Rattle.xdp_maps.specs.declared.decl.MapKind.TheVariants.{Hash, Array}
 use Rattle.xdp_maps.specs.declared.decl.MapDecl.{MapDecl}
 use Rattle.xdp_maps.specs.Contents.{Contents, index_key, index_of, indexed, array_of, opened, opened_as}
 use Rattle.xdp_maps.specs.Calls.{array_refusal, update_error_as, updated, unless}
-use Rattle.host_history.specs.Rows.{entry_of, bytes_of, row_length, row_length_as, contents_as}
-use Rattle.host_history.specs.Host.{cut_in_rows}
+use Rattle.realization.specs.HostHistory.Rows.{entry_of, bytes_of, row_length, row_length_as, contents_as}
+use Rattle.realization.specs.HostHistory.Host.{cut_in_rows}
 use Rattle.port_drive.specs.Reading.{read_of, read_as, with_entry}
 use Rattle.xdp_maps.proofs.ChoiceLaws.{eq_equal, swapped, shadowed}
 use Rattle.xdp_maps.proofs.IndexLaws.{index_of-index_key}

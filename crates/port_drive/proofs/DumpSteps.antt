@@ -13,8 +13,8 @@ use Rattle.net_core.specs.History.{NeverStops, stored_after, trace}
 use Rattle.xdp_maps.specs.declared.decl.MapDecl.{MapDecl}
 use Rattle.xdp_maps.specs.Contents.{Contents, opened}
 use Rattle.xdp_maps.specs.State.{MapState, no_decl, decl_at, contents_at, with_contents, opened_state}
-use Rattle.host_history.specs.Rows.{row_length, contents_of}
-use Rattle.host_history.specs.Host.{asked, map_reads, reads, dump, cut_in_rows, dumped, shown_words, ShowsMaps}
+use Rattle.realization.specs.HostHistory.Rows.{row_length, contents_of}
+use Rattle.realization.specs.HostHistory.Host.{asked, map_reads, reads, dump, cut_in_rows, dumped, shown_words, ShowsMaps}
 use Rattle.port_drive.specs.Hosting.{shown_maps}
 use Rattle.port_drive.specs.Reading.{read_of}
 use Rattle.port_drive.proofs.HostClocks.{UnderWay, goes_on, ends, shown-part, length-shown}

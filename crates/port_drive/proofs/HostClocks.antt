@@ -12,7 +12,7 @@ use Rattle.net_core.specs.History.{cycle_of, NeverStops, stored_after, trace}
 use Rattle.net_core.proofs.ClockLaws.{clock_leaves}
 use Rattle.clock_sim.specs.declared.sim.XValue.{XValue}
 use Rattle.clock_sim.specs.Running.{stopped_net}
-use Rattle.host_history.specs.Host.{shown_words}
+use Rattle.realization.specs.HostHistory.Host.{shown_words}
 use Rattle.port_drive.specs.Hosting.{StopsAt, Clocks}
 
 -- ---- one part behind another

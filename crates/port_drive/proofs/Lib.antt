@@ -6,3 +6,4 @@ pub mod HostClocks
 pub mod LoadLemmas
 pub mod DumpLemmas
 pub mod DumpSteps
+pub mod AnswerCounts

@@ -18,8 +18,8 @@ use Rattle.xdp_maps.specs.declared.decl.MapDecl.{MapDecl}
 use Rattle.xdp_maps.specs.Contents.{Contents, IsOver, IsFilled_as, IsBytes, IsWithinLimits, index_key}
 use Rattle.xdp_maps.specs.Calls.{entry_as, entry_of}
 use Rattle.xdp_maps.specs.State.{MapState, no_decl, decl_at, contents_at}
-use Rattle.host_history.specs.Rows.{words_of, slot_of, rows_as, rows_of}
-use Rattle.host_history.specs.Host.{row_writes, map_writes, writes, written}
+use Rattle.realization.specs.HostHistory.Rows.{words_of, slot_of, rows_as, rows_of}
+use Rattle.realization.specs.HostHistory.Host.{row_writes, map_writes, writes, written}
 use Rattle.port_drive.specs.Reading.{row_with}
 
 -- ---- the words of bytes

@@ -9,7 +9,7 @@ use Rattle.net_core.specs.History.{Cycle, NeverStops, stored_after}
 use Rattle.clock_sim.specs.declared.sim.XValue.{XValue}
 use Rattle.xdp_maps.specs.declared.decl.MapDecl.{MapDecl}
 use Rattle.xdp_maps.specs.State.{MapState}
-use Rattle.host_history.specs.Host.{shown_words, dumped}
+use Rattle.realization.specs.HostHistory.Host.{shown_words, dumped}
 use Rattle.port_drive.specs.declared.report.DriveError.{DriveError}
 use Rattle.port_drive.specs.declared.report.DriveError.TheVariants.{X, Late, NoMemory}
 

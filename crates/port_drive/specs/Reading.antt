@@ -6,7 +6,7 @@ use Rattle.xdp_maps.specs.declared.decl.MapKind.{MapKind}
 use Rattle.xdp_maps.specs.declared.decl.MapKind.TheVariants.{Hash, Array}
 use Rattle.xdp_maps.specs.declared.decl.MapDecl.{MapDecl}
 use Rattle.xdp_maps.specs.Contents.{Contents, array_of}
-use Rattle.host_history.specs.Rows.{entry_of, bytes_of, slot_of, words_of}
+use Rattle.realization.specs.HostHistory.Rows.{entry_of, bytes_of, slot_of, words_of}
 
 -- the words that are written under an index where this key and value stand there, if any
 abbrev pub row_with : MapKind → List ℕ → Option (List ℕ) → List ℕ

@@ -8,8 +8,8 @@ ghost use Rattle.net_core.specs.History.{trace};
 ghost use Rattle.xdp_maps.specs.Contents.{IsWithinLimits, index_key, opened};
 ghost use Rattle.xdp_maps.specs.State.{MapState, decl_at, contents_at, with_contents};
 ghost use Rattle.xdp_maps.specs.declared.decl.MapKind.TheVariants.{Hash, Array};
-ghost use Rattle.host_history.specs.Rows.{row_length, entry_of, bytes_of, contents_of};
-ghost use Rattle.host_history.specs.Host.{asked, map_reads, dump, cut_in_rows, shown_words, ShowsMaps};
+ghost use Rattle.realization.specs.HostHistory.Rows.{row_length, entry_of, bytes_of, contents_of};
+ghost use Rattle.realization.specs.HostHistory.Host.{asked, map_reads, dump, cut_in_rows, shown_words, ShowsMaps};
 ghost use Rattle.port_drive.specs.Hosting.{Clocks, ClocksOrNone, shown_maps, AreGiven};
 ghost use Rattle.port_drive.specs.Reading.{read_of, with_entry};
 

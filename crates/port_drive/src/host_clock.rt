@@ -2,7 +2,7 @@
 
 ghost use Rattle.std.specs.Prelude.{◌≡◌, ◌<◌, ◌∷◌, [], IfOk};
 ghost use Rattle.net_core.specs.Ports.{outputs_of};
-ghost use Rattle.host_history.specs.Host.{asked, written};
+ghost use Rattle.realization.specs.HostHistory.Host.{asked, written};
 ghost use Rattle.port_drive.specs.Hosting.{Clocks};
 
 use clock_sim::{Sim, XValue};

@@ -1,7 +1,9 @@
-//! Drives the ports of a design: maps in, frames in, answers out, maps out.
+//! Drives the ports of a design: maps in, frames in and answers out, maps out.
+//! `answer_counts` counts answers and entries.
 #![tactic(auto)]
 
 mod advance;
+pub mod answer_counts;
 mod answers;
 mod driving;
 mod dumping;

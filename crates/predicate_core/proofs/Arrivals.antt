@@ -14,18 +14,18 @@ use Rattle.kind_core.specs.declared.kind.Kinds.{Kinds}
 use Rattle.unfold_core.specs.declared.edges.Point.{Point}
 use Rattle.unfold_core.specs.declared.links.Edge.{Edge}
 use Rattle.unfold_core.specs.declared.unfolding.Unfolded.{Unfolded}
-use Rattle.held_cells.specs.place_rows.declared.origin.Origin.{Origin}
-use Rattle.held_cells.specs.place_rows.declared.origin.Origins.{Origins}
-use Rattle.held_cells.specs.place_rows.Spans.{pending_place}
-use Rattle.held_cells.specs.place_rows.Origins.{is_open, has_data, row_of, row_at, by_place}
-use Rattle.held_cells.specs.place_rows.Reading.{is_known}
-use Rattle.node_rows.specs.declared.joining.Arrival.{Arrival}
-use Rattle.node_rows.specs.declared.node.Behind.{Behind}
-use Rattle.node_rows.specs.Joining.{brings, origin_at, origins_at}
-use Rattle.node_rows.specs.Rows.{no_behind, arrival_of, behind_node, rows_of}
-use Rattle.held_cells.specs.declared.way.Way.{Way}
-use Rattle.held_cells.specs.Held.{PointerView}
-use Rattle.held_cells.specs.Rows.{kind_at, number_at, value_row, held_row}
+use Rattle.operator_cells.specs.row_rules.declared.place_rows.origin.Origin.{Origin}
+use Rattle.operator_cells.specs.row_rules.declared.place_rows.origin.Origins.{Origins}
+use Rattle.operator_cells.specs.row_rules.PlaceRows.Spans.{pending_place}
+use Rattle.operator_cells.specs.row_rules.PlaceRows.Origins.{is_open, has_data, row_of, row_at, by_place}
+use Rattle.operator_cells.specs.row_rules.PlaceRows.Reading.{is_known}
+use Rattle.operator_cells.specs.row_rules.declared.node_rows.joining.Arrival.{Arrival}
+use Rattle.operator_cells.specs.row_rules.declared.node_rows.node.Behind.{Behind}
+use Rattle.operator_cells.specs.row_rules.NodeRows.Joining.{brings, origin_at, origins_at}
+use Rattle.operator_cells.specs.row_rules.NodeRows.Rows.{no_behind, arrival_of, behind_node, rows_of}
+use Rattle.operator_cells.specs.declared.held_cells.way.Way.{Way}
+use Rattle.operator_cells.specs.HeldCells.Held.{PointerView}
+use Rattle.operator_cells.specs.HeldCells.Rows.{kind_at, number_at, value_row, held_row}
 use Rattle.predicate_core.specs.Stages.{arrivals_at, StandsBehind, AreNamed, StandWithin}
 use Rattle.predicate_core.proofs.Bringing.{RowBrought}
 

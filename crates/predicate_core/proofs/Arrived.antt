@@ -2,18 +2,18 @@
 use Rattle.std.proofs.Common.{◌≡◌, ℕ, ◌<◌, ◌≤◌, Bool, true, false, List, [], ◌∷◌, ◌++◌, length, get_or, refl, sym, ◌∙◌, ap, subst, arith}
 use Rattle.std.specs.Prelude.{All, Contains}
 use Rattle.std.proofs.lemmas.List.Elements.{All-contains, Contains-get_or}
-use Rattle.xdp_maps.specs.declared.decl.MapDecl.{MapDecl}
+use Rattle.xdp_machine.specs.xdp_maps.declared.decl.MapDecl.{MapDecl}
 use Rattle.xdp_machine.specs.State.{PacketIn}
 use Rattle.kind_core.specs.declared.kind.Kinds.{Kinds}
 use Rattle.cell_core.specs.declared.operator.Operator.TheVariants.{Wire}
 use Rattle.cell_core.specs.Cells.{CellView, IsRun, bits_from, bit}
 use Rattle.operator_cells.specs.Making.{Grows, Makes, operated}
 use Rattle.operator_cells.proofs.MakingLaws.{grown, grown_none}
-use Rattle.held_cells.specs.declared.held.Held.{Held}
-use Rattle.held_cells.specs.declared.way.Way.{Way}
-use Rattle.held_cells.specs.Paths.{Stage, node_at, stands_at}
-use Rattle.held_cells.specs.Held.{PointerView, AreInside}
-use Rattle.held_cells.specs.Steps.{IsGood, IsHere}
+use Rattle.operator_cells.specs.declared.held_cells.held.Held.{Held}
+use Rattle.operator_cells.specs.declared.held_cells.way.Way.{Way}
+use Rattle.operator_cells.specs.HeldCells.Paths.{Stage, node_at, stands_at}
+use Rattle.operator_cells.specs.HeldCells.Held.{PointerView, AreInside}
+use Rattle.operator_cells.specs.HeldCells.Steps.{IsGood, IsHere}
 use Rattle.edge_cells.specs.Widening.{AreWider}
 use Rattle.edge_cells.specs.Joining.{Joins, LeadTo, HereIsRight}
 use Rattle.edge_cells.proofs.ExtendingLaws.{inside_later, extends_none}

@@ -11,12 +11,12 @@ use Rattle.cell_core.specs.Cells.{CellView}
 use Rattle.cell_core.specs.Sites.{SiteView}
 use Rattle.operator_cells.specs.Making.{seen, Grows}
 use Rattle.operator_cells.proofs.MakingLaws.{grown}
-use Rattle.held_cells.specs.declared.way.Way.{Way}
-use Rattle.held_cells.specs.declared.way.Exit.{Exit}
-use Rattle.held_cells.specs.Paths.{GraphView}
-use Rattle.held_cells.specs.Held.{PointerView, pointed}
-use Rattle.step_cells.specs.site_cells.Sited.{sited}
-use Rattle.program_graph.specs.Sound.{IsSoundGraph}
+use Rattle.operator_cells.specs.declared.held_cells.way.Way.{Way}
+use Rattle.operator_cells.specs.declared.held_cells.way.Exit.{Exit}
+use Rattle.operator_cells.specs.HeldCells.Paths.{GraphView}
+use Rattle.operator_cells.specs.HeldCells.Held.{PointerView, pointed}
+use Rattle.site_cells.specs.Sited.{sited}
+use Rattle.predicate_core.specs.ProgramGraph.Sound.{IsSoundGraph}
 use Rattle.predicate_core.specs.declared.making.Progress.{Progress}
 use Rattle.predicate_core.specs.Buildable.{AddsNoRow}
 use Rattle.predicate_core.specs.Making.{IsSoFar}

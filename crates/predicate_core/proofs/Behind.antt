@@ -5,14 +5,14 @@ use Rattle.std.specs.List.{list_any}
 use Rattle.std.proofs.lemmas.Bool.{eqb-true, eqb-false, eq-eqb}
 use Rattle.kind_core.specs.declared.kind.Kinds.{Kinds}
 use Rattle.cell_core.specs.Rows.{greatest}
-use Rattle.held_cells.specs.place_rows.declared.origin.Origin.{Origin}
-use Rattle.held_cells.specs.place_rows.declared.span.Span.{Span}
-use Rattle.held_cells.specs.place_rows.declared.recording.Record.{Record}
-use Rattle.held_cells.specs.place_rows.Spans.{pending_place, is_in}
-use Rattle.held_cells.specs.place_rows.Origins.{has_data, row_of, row_at}
-use Rattle.held_cells.proofs.place_rows.SpanLaws.{one_row}
-use Rattle.node_rows.specs.Passing.{written, is_some_place, pending_row, noted}
-use Rattle.held_cells.specs.Rows as cells
+use Rattle.operator_cells.specs.row_rules.declared.place_rows.origin.Origin.{Origin}
+use Rattle.operator_cells.specs.row_rules.declared.place_rows.span.Span.{Span}
+use Rattle.operator_cells.specs.row_rules.declared.place_rows.recording.Record.{Record}
+use Rattle.operator_cells.specs.row_rules.PlaceRows.Spans.{pending_place, is_in}
+use Rattle.operator_cells.specs.row_rules.PlaceRows.Origins.{has_data, row_of, row_at}
+use Rattle.operator_cells.proofs.row_rules_laws.PlaceRows.SpanLaws.{one_row}
+use Rattle.operator_cells.specs.row_rules.NodeRows.Passing.{written, is_some_place, pending_row, noted}
+use Rattle.operator_cells.specs.HeldCells.Rows as cells
 
 pub greatest_all : (row : ℕ → ℕ) (n : ℕ) (xs : List ℕ) → All (λ c. row c ≤ n) xs → greatest row xs ≤ n
 greatest_all row n [] h = omega arith

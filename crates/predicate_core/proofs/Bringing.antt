@@ -7,15 +7,15 @@ use Rattle.std.proofs.lemmas.List.Sums.{list_all-from_AllPass}
 use Rattle.cell_core.specs.Rows.{greatest}
 use Rattle.operator_cells.specs.declared.joining.Arm.{Arm}
 use Rattle.operator_cells.specs.Joining.{flat}
-use Rattle.held_cells.specs.place_rows.declared.origin.Origin.{Origin}
-use Rattle.held_cells.specs.place_rows.Origins.{row_of}
-use Rattle.held_cells.specs.place_rows.Reading.{is_known}
-use Rattle.node_rows.specs.declared.joining.Arrival.{Arrival}
-use Rattle.node_rows.specs.Joining.{brings, edge_row, brought_row, is_origin, all_bring, new_origin, met}
-use Rattle.held_cells.specs.declared.way.Way.{Way}
-use Rattle.held_cells.specs.Held.{PointerView}
-use Rattle.held_cells.specs.Rows as cells
-use Rattle.held_cells.specs.Rows.{kind_at, number_at, held_row, bits_row, holds_at, hold_one, chosen_row}
+use Rattle.operator_cells.specs.row_rules.declared.place_rows.origin.Origin.{Origin}
+use Rattle.operator_cells.specs.row_rules.PlaceRows.Origins.{row_of}
+use Rattle.operator_cells.specs.row_rules.PlaceRows.Reading.{is_known}
+use Rattle.operator_cells.specs.row_rules.declared.node_rows.joining.Arrival.{Arrival}
+use Rattle.operator_cells.specs.row_rules.NodeRows.Joining.{brings, edge_row, brought_row, is_origin, all_bring, new_origin, met}
+use Rattle.operator_cells.specs.declared.held_cells.way.Way.{Way}
+use Rattle.operator_cells.specs.HeldCells.Held.{PointerView}
+use Rattle.operator_cells.specs.HeldCells.Rows as cells
+use Rattle.operator_cells.specs.HeldCells.Rows.{kind_at, number_at, held_row, bits_row, holds_at, hold_one, chosen_row}
 
 -- ---- origins
 

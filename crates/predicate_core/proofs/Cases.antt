@@ -3,13 +3,13 @@ use Rattle.std.proofs.Common.{◌≡◌, ℕ, ◌<◌, ◌≤◌, List, ◌++◌
 use Rattle.std.specs.Prelude.{take, All}
 use Rattle.std.proofs.Math.ListN.{get_or-append}
 use Rattle.std.proofs.lemmas.List.{take-append-le}
-use Rattle.xdp_maps.specs.State.{MapState}
+use Rattle.xdp_machine.specs.xdp_maps.State.{MapState}
 use Rattle.xdp_machine.specs.State.{PacketIn}
 use Rattle.cell_core.specs.Cells.{CellView, cell_at, site_in, bits_from, on}
 use Rattle.cell_core.specs.Sites.{SiteView, no_site, site_at, after, read_on}
 use Rattle.operator_cells.specs.Making.{GrowsWith}
-use Rattle.held_cells.specs.Paths.{GraphView}
-use Rattle.held_cells.specs.Steps.{AreRead}
+use Rattle.operator_cells.specs.HeldCells.Paths.{GraphView}
+use Rattle.operator_cells.specs.HeldCells.Steps.{AreRead}
 use Rattle.predicate_core.specs.Making.{Making, AreReadBelow, IsCase}
 
 -- what a read answers

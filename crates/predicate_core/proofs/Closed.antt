@@ -25,12 +25,12 @@ use Rattle.operator_cells.specs.Joining.{chosen, flat, ChoiceIsRight}
 use Rattle.operator_cells.specs.Making.{seen, Adds, Makes, MakesIf, operated}
 use Rattle.operator_cells.specs.Rising.{Rises}
 use Rattle.operator_cells.proofs.MakingLaws.{grown, grown_none}
-use Rattle.held_cells.specs.declared.way.Exit.{Exit}
-use Rattle.held_cells.specs.Held.{IsThere}
+use Rattle.operator_cells.specs.declared.held_cells.way.Exit.{Exit}
+use Rattle.operator_cells.specs.HeldCells.Held.{IsThere}
 use Rattle.kind_core.specs.declared.number.Number.{Number}
 use Rattle.kind_core.specs.declared.number.Number.TheVariants.{Known, Unknown}
-use Rattle.held_cells.specs.Steps.{IsLeft}
-use Rattle.held_cells.specs.Law.{IsPacket}
+use Rattle.operator_cells.specs.HeldCells.Steps.{IsLeft}
+use Rattle.operator_cells.specs.HeldCells.Law.{IsPacket}
 use Rattle.predicate_core.specs.declared.closing.Output.{Output}
 use Rattle.predicate_core.specs.declared.closing.Output.TheVariants.{Verdict, Target, Byte}
 use Rattle.predicate_core.specs.Buildable.{HasBits, AddsNoRow}

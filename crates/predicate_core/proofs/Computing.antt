@@ -5,13 +5,13 @@ use Rattle.std.specs.List.{AllPairs}
 use Rattle.std.proofs.lemmas.Bool.Decides.{nat_tests}
 use Rattle.std.proofs.lemmas.List.{append-nil}
 use Rattle.std.proofs.lemmas.List.Elements.{All-nil, All-filter, filter_passes}
-use Rattle.xdp_maps.specs.State.{MapState, IsSound}
+use Rattle.xdp_machine.specs.xdp_maps.State.{MapState, IsSound}
 use Rattle.xdp_machine.specs.State.{PacketIn, start}
 use Rattle.xdp_machine.specs.Runs.{Leaves}
 use Rattle.xdp_machine.specs.MachineLaws.{StartsInRange, RunsLeaveInRange}
 use Rattle.xdp_machine.specs.Touched as machine
 use Rattle.cell_core.specs.declared.program.FrameByte.{FrameByte}
-use Rattle.bpf_isa.specs.Spelling.{IsInsn}
+use Rattle.xdp_machine.specs.bpf_isa.Spelling.{IsInsn}
 use Rattle.cell_core.specs.declared.operator.Operator.{Operator}
 use Rattle.cell_core.specs.declared.operator.Operator.TheVariants.{Found, Answer}
 use Rattle.cell_core.specs.Cells.{CellView, IsRun, cell_at, is_read, site_in, bit, on}
@@ -19,12 +19,12 @@ use Rattle.cell_core.specs.Rows.{last_row}
 use Rattle.cell_core.specs.Sites.{SiteView, no_site, ProgramView, IsCellRun, after, leaves, touched, with_bytes}
 use Rattle.operator_cells.proofs.MakingLaws.{reads_none}
 use Rattle.operator_cells.proofs.RisingLaws.{rows_before}
-use Rattle.held_cells.specs.declared.held.Held.{Held}
-use Rattle.held_cells.specs.Paths.{GraphView, Stage, At, Over, Nowhere, before, stands_at, maps_in}
-use Rattle.held_cells.specs.Steps.{ReadsOwn, IsGood, IsLeft}
-use Rattle.held_cells.specs.Law.{IsPacket, AreAnswered, IsRight, made_at, sites_below, sites_at, Computes, IsLaw}
-use Rattle.held_cells.specs.Pointing.{AccessesLookUp, AccessesStay}
-use Rattle.held_cells.specs.Reading.{ReadsAreMade, ReadsWait}
+use Rattle.operator_cells.specs.declared.held_cells.held.Held.{Held}
+use Rattle.operator_cells.specs.HeldCells.Paths.{GraphView, Stage, At, Over, Nowhere, before, stands_at, maps_in}
+use Rattle.operator_cells.specs.HeldCells.Steps.{ReadsOwn, IsGood, IsLeft}
+use Rattle.operator_cells.specs.HeldCells.Law.{IsPacket, AreAnswered, IsRight, made_at, sites_below, sites_at, Computes, IsLaw}
+use Rattle.operator_cells.specs.HeldCells.Pointing.{AccessesLookUp, AccessesStay}
+use Rattle.operator_cells.specs.HeldCells.Reading.{ReadsAreMade, ReadsWait}
 use Rattle.edge_cells.proofs.Growth.{followed_before}
 use Rattle.predicate_core.specs.Buildable.{IsBuildable}
 use Rattle.predicate_core.specs.Making.{Making, IsSoFar, IsCase, Answers, made_alone, held_in}

@@ -6,7 +6,7 @@ use Rattle.std.proofs.Math.Seq.{get_or-append_seam}
 use Rattle.std.proofs.lemmas.Bool.{cases_lt}
 use Rattle.std.proofs.lemmas.List.{get_or-set_same, get_or-set_other, get_or-map, append_assoc, replicate-append-replicate, append-nil, map-set, map-append, take_more, length-map, length-take-le}
 use Rattle.std.proofs.lemmas.List.Elements.{All-append, All-cons, All-nil, All-weaker, Contains-append_left, Contains-append_right}
-use Rattle.held_cells.specs.declared.way.Way.{Way}
+use Rattle.operator_cells.specs.declared.held_cells.way.Way.{Way}
 use Rattle.predicate_core.specs.Progress.{targets, AreNumbers, Entered}
 use Rattle.predicate_core.proofs.Numbered.{target_at, count_targets}
 

@@ -4,11 +4,11 @@ use Rattle.std.specs.Prelude.{All, Contains}
 use Rattle.std.proofs.lemmas.Bool.{cases_lt}
 use Rattle.std.proofs.lemmas.List.Elements.{All-nil, All-cons, All-append, All-contains, Contains-append_left, Contains-append_right}
 use Rattle.kind_core.specs.Kinds as kinds
-use Rattle.held_cells.specs.declared.way.Way.{Way}
-use Rattle.held_cells.specs.Paths.{EdgeView, GraphView, node_at}
+use Rattle.operator_cells.specs.declared.held_cells.way.Way.{Way}
+use Rattle.operator_cells.specs.HeldCells.Paths.{EdgeView, GraphView, node_at}
 use Rattle.edge_cells.specs.Widening.{AreWider}
-use Rattle.program_graph.specs.node_cells.Feeding.{known_on, Leave}
-use Rattle.program_graph.specs.Sound.{IsSoundGraph}
+use Rattle.edge_cells.specs.NodeCells.Feeding.{known_on, Leave}
+use Rattle.predicate_core.specs.ProgramGraph.Sound.{IsSoundGraph}
 use Rattle.predicate_core.specs.Feeding.{AreFed, FeedsNodes, SoundGraphsFeed}
 
 module _ (g : GraphView) (sound : IsSoundGraph g) where

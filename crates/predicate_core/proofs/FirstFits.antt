@@ -15,18 +15,18 @@ use Rattle.cell_core.specs.Cells.{CellView}
 use Rattle.cell_core.specs.Rows.{AreRows, node_row, last_row, record_count}
 use Rattle.operator_cells.specs.Making.{seen, GrowsWith}
 use Rattle.operator_cells.proofs.RisingLaws.{rows_before}
-use Rattle.held_cells.specs.place_rows.declared.origin.Origin.{Origin}
-use Rattle.held_cells.specs.place_rows.Spans.{pending_place}
-use Rattle.held_cells.specs.place_rows.Origins.{is_open, origin_at_start}
-use Rattle.held_cells.proofs.place_rows.PlaceLaws.{place_at}
-use Rattle.node_rows.specs.declared.stages.Stages.{Stages}
-use Rattle.node_rows.specs.Rows.{HasStages, insn_of, may_write}
-use Rattle.held_cells.specs.declared.way.Way.{Way}
-use Rattle.held_cells.specs.Held.{PointerView, pointed}
-use Rattle.held_cells.specs.Law.{made_at}
-use Rattle.held_cells.specs.Rows.{kind_at, number_at, held_row}
-use Rattle.held_cells.proofs.RowLaws.{byte_row, target_row}
-use Rattle.step_cells.specs.site_cells.Sited.{sited}
+use Rattle.operator_cells.specs.row_rules.declared.place_rows.origin.Origin.{Origin}
+use Rattle.operator_cells.specs.row_rules.PlaceRows.Spans.{pending_place}
+use Rattle.operator_cells.specs.row_rules.PlaceRows.Origins.{is_open, origin_at_start}
+use Rattle.operator_cells.proofs.row_rules_laws.PlaceRows.PlaceLaws.{place_at}
+use Rattle.operator_cells.specs.row_rules.declared.node_rows.stages.Stages.{Stages}
+use Rattle.operator_cells.specs.row_rules.NodeRows.Rows.{HasStages, insn_of, may_write}
+use Rattle.operator_cells.specs.declared.held_cells.way.Way.{Way}
+use Rattle.operator_cells.specs.HeldCells.Held.{PointerView, pointed}
+use Rattle.operator_cells.specs.HeldCells.Law.{made_at}
+use Rattle.operator_cells.specs.HeldCells.Rows.{kind_at, number_at, held_row}
+use Rattle.operator_cells.proofs.HeldCells.RowLaws.{byte_row, target_row}
+use Rattle.site_cells.specs.Sited.{sited}
 use Rattle.predicate_core.specs.declared.making.Progress.{Progress}
 use Rattle.predicate_core.specs.Opening.{Opens}
 use Rattle.predicate_core.specs.Progress.{pending_of, AreWaiting}

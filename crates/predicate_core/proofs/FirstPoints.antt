@@ -7,11 +7,11 @@ use Rattle.kind_core.specs.declared.kind.Kind.TheVariants.{Maybe, Entry}
 use Rattle.kind_core.specs.declared.kind.Kinds.{Kinds}
 use Rattle.kind_core.specs.Kinds as kinds
 use Rattle.cell_core.specs.Cells.{on}
-use Rattle.held_cells.specs.place_rows.Origins.{is_open}
-use Rattle.held_cells.specs.declared.held.Held.{Held}
-use Rattle.held_cells.specs.declared.way.Way.{Way}
-use Rattle.held_cells.specs.Rows.{kind_at, number_at}
-use Rattle.held_cells.specs.Pointing.{Pointing, pointing_as, HoldsPointer, AreLookedUp, HeldAre}
+use Rattle.operator_cells.specs.row_rules.PlaceRows.Origins.{is_open}
+use Rattle.operator_cells.specs.declared.held_cells.held.Held.{Held}
+use Rattle.operator_cells.specs.declared.held_cells.way.Way.{Way}
+use Rattle.operator_cells.specs.HeldCells.Rows.{kind_at, number_at}
+use Rattle.operator_cells.specs.HeldCells.Pointing.{Pointing, pointing_as, HoldsPointer, AreLookedUp, HeldAre}
 use Rattle.predicate_core.specs.Laws.{OpensPoint}
 use Rattle.predicate_core.proofs.FirstFits.{start_closed}
 use Rattle.predicate_core.proofs.Pointers.{low_place}

@@ -12,18 +12,18 @@ use Rattle.cell_core.specs.Rows.{AreRows, greatest, numbers}
 use Rattle.operator_cells.specs.declared.joining.Arm.{Arm}
 use Rattle.operator_cells.specs.Joining.{flat}
 use Rattle.operator_cells.specs.Making.{seen}
-use Rattle.held_cells.specs.place_rows.declared.origin.Origin.{Origin}
-use Rattle.held_cells.specs.place_rows.Spans.{pending_place}
-use Rattle.held_cells.specs.place_rows.Origins.{is_open, has_data, row_of, row_at, every_row, by_place, origin_at_start}
-use Rattle.held_cells.proofs.place_rows.PlaceLaws.{place_at, greatest_within, greatest_above}
-use Rattle.node_rows.specs.Joining.{brings, edge_row, all_bring, new_origin, met, first_brings, origin_at}
-use Rattle.held_cells.specs.declared.held.Held.{Held}
-use Rattle.held_cells.specs.declared.way.Way.{Way}
-use Rattle.held_cells.specs.Paths.{EdgeView}
-use Rattle.held_cells.specs.Held.{PointerView, pointed}
-use Rattle.held_cells.specs.Rows.{kind_at, number_at, held_row, bits_row, brought_row, hold_one, chosen_row, met_row, choosing_row, JoinsTo}
-use Rattle.program_graph.specs.Graphs.{node_view, edge_view, graph_of}
-use Rattle.program_graph.specs.Sound.{IsSoundGraph, GraphsAreSound}
+use Rattle.operator_cells.specs.row_rules.declared.place_rows.origin.Origin.{Origin}
+use Rattle.operator_cells.specs.row_rules.PlaceRows.Spans.{pending_place}
+use Rattle.operator_cells.specs.row_rules.PlaceRows.Origins.{is_open, has_data, row_of, row_at, every_row, by_place, origin_at_start}
+use Rattle.operator_cells.proofs.row_rules_laws.PlaceRows.PlaceLaws.{place_at, greatest_within, greatest_above}
+use Rattle.operator_cells.specs.row_rules.NodeRows.Joining.{brings, edge_row, all_bring, new_origin, met, first_brings, origin_at}
+use Rattle.operator_cells.specs.declared.held_cells.held.Held.{Held}
+use Rattle.operator_cells.specs.declared.held_cells.way.Way.{Way}
+use Rattle.operator_cells.specs.HeldCells.Paths.{EdgeView}
+use Rattle.operator_cells.specs.HeldCells.Held.{PointerView, pointed}
+use Rattle.operator_cells.specs.HeldCells.Rows.{kind_at, number_at, held_row, bits_row, brought_row, hold_one, chosen_row, met_row, choosing_row, JoinsTo}
+use Rattle.predicate_core.specs.ProgramGraph.Graphs.{node_view, edge_view, graph_of}
+use Rattle.predicate_core.specs.ProgramGraph.Sound.{IsSoundGraph, GraphsAreSound}
 use Rattle.predicate_core.specs.declared.making.Progress.{Progress}
 use Rattle.predicate_core.specs.Feeding.{SoundGraphsFeed}
 use Rattle.predicate_core.specs.Gathering.{arm_of, arms_of, GathersTo}

@@ -5,20 +5,20 @@ use Rattle.std.proofs.Math.ListN.{get_or-append}
 use Rattle.std.proofs.Math.Seq.{get_or-append_seam}
 use Rattle.std.proofs.lemmas.Bool.{cases_lt}
 use Rattle.std.proofs.lemmas.List.Elements.{All-weaker}
-use Rattle.xdp_maps.specs.State.{MapState}
+use Rattle.xdp_machine.specs.xdp_maps.State.{MapState}
 use Rattle.xdp_machine.specs.State.{Machine, PacketIn}
 use Rattle.xdp_machine.specs.Touched as machine
 use Rattle.cell_core.specs.Cells.{CellView, bit}
 use Rattle.cell_core.specs.Sites.{SiteView, after}
 use Rattle.operator_cells.specs.Making.{GrowsWith}
 use Rattle.operator_cells.proofs.MakingLaws.{grown_with, reads_none}
-use Rattle.held_cells.specs.declared.held.Held.{Held}
-use Rattle.held_cells.specs.declared.way.Way.{Way}
-use Rattle.held_cells.specs.declared.way.Exit.{Exit}
-use Rattle.held_cells.specs.Paths.{GraphView, At, node_at, before, on_path, maps_in}
-use Rattle.held_cells.specs.Held.{PointerView, AreInside, AreHeld}
-use Rattle.held_cells.specs.Steps.{Steps, ReadsOwn, IsGood, IsHere, DoAs}
-use Rattle.held_cells.specs.Law.{made_at, sites_below, sites_at}
+use Rattle.operator_cells.specs.declared.held_cells.held.Held.{Held}
+use Rattle.operator_cells.specs.declared.held_cells.way.Way.{Way}
+use Rattle.operator_cells.specs.declared.held_cells.way.Exit.{Exit}
+use Rattle.operator_cells.specs.HeldCells.Paths.{GraphView, At, node_at, before, on_path, maps_in}
+use Rattle.operator_cells.specs.HeldCells.Held.{PointerView, AreInside, AreHeld}
+use Rattle.operator_cells.specs.HeldCells.Steps.{Steps, ReadsOwn, IsGood, IsHere, DoAs}
+use Rattle.operator_cells.specs.HeldCells.Law.{made_at, sites_below, sites_at}
 use Rattle.edge_cells.specs.Meeting.{Extends}
 use Rattle.edge_cells.proofs.ExtendingLaws.{extended, inside_later}
 use Rattle.predicate_core.specs.Making.{Making, IsSoFar, IsCase, AreRight, Arrives, made_alone, no_held, held_in}

@@ -11,9 +11,9 @@ use Rattle.cell_core.specs.Sites.{SiteView, site_at}
 use Rattle.cell_core.specs.Rows.{AreRows, greatest}
 use Rattle.operator_cells.specs.declared.joining.Arm.{Arm}
 use Rattle.operator_cells.specs.Joining.{flat}
-use Rattle.held_cells.specs.declared.way.Way.{Way}
-use Rattle.held_cells.specs.Reading.{AreRanks}
-use Rattle.step_cells.specs.Waiting.{waiting_for, WaitsFor, WaitsBehind, Gathers}
+use Rattle.operator_cells.specs.declared.held_cells.way.Way.{Way}
+use Rattle.operator_cells.specs.HeldCells.Reading.{AreRanks}
+use Rattle.predicate_core.specs.StepCells.Waiting.{waiting_for, WaitsFor, WaitsBehind, Gathers}
 use Rattle.predicate_core.proofs.LaterReads.{ranks_before}
 use Rattle.predicate_core.specs.Progress.{targets, AreNumbers}
 use Rattle.predicate_core.specs.Reading.{PendingMeets}

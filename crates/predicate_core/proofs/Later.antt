@@ -2,20 +2,20 @@
 use Rattle.std.proofs.Common.{◌≡◌, ℕ, suc, zero, Bool, true, false, List, [], ◌∷◌, length, get_or, sym, ◌∙◌, ap, subst, arith}
 use Rattle.std.specs.Prelude.{slice_index, Contains, cond}
 use Rattle.std.specs.List.{filter}
-use Rattle.xdp_maps.specs.declared.decl.MapDecl.{MapDecl}
+use Rattle.xdp_machine.specs.xdp_maps.declared.decl.MapDecl.{MapDecl}
 use Rattle.xdp_machine.specs.Values as is
 use Rattle.xdp_machine.specs.State.{Machine, PacketIn}
 use Rattle.xdp_machine.specs.State as machine
 use Rattle.kind_core.specs.declared.kind.Kind.TheVariants.{Unset}
 use Rattle.kind_core.specs.declared.kind.Kinds.{Kinds}
 use Rattle.cell_core.specs.Cells.{CellView}
-use Rattle.held_cells.specs.declared.held.Held.{Held}
-use Rattle.held_cells.specs.declared.way.Way.{Way}
-use Rattle.held_cells.specs.declared.way.Exit.{Exit}
-use Rattle.held_cells.specs.Paths.{GraphView, Stage}
-use Rattle.held_cells.specs.Held.{PointerView, AreInside, AreHeld}
-use Rattle.held_cells.specs.Carrying.{IsKnown}
-use Rattle.held_cells.specs.Steps.{IsGood, AreMade}
+use Rattle.operator_cells.specs.declared.held_cells.held.Held.{Held}
+use Rattle.operator_cells.specs.declared.held_cells.way.Way.{Way}
+use Rattle.operator_cells.specs.declared.held_cells.way.Exit.{Exit}
+use Rattle.operator_cells.specs.HeldCells.Paths.{GraphView, Stage}
+use Rattle.operator_cells.specs.HeldCells.Held.{PointerView, AreInside, AreHeld}
+use Rattle.operator_cells.specs.HeldCells.Carrying.{IsKnown}
+use Rattle.operator_cells.specs.HeldCells.Steps.{IsGood, AreMade}
 use Rattle.edge_cells.specs.Meeting.{Extends}
 use Rattle.edge_cells.proofs.ExtendingLaws.{holds_later}
 

@@ -4,13 +4,13 @@ use Rattle.std.specs.Prelude.{Contains}
 use Rattle.std.proofs.Math.ListN.{get_or-append}
 use Rattle.std.proofs.lemmas.Bool.{cases_lt}
 use Rattle.std.proofs.lemmas.List.{append-nil}
-use Rattle.xdp_maps.specs.declared.decl.MapDecl.{MapDecl}
+use Rattle.xdp_machine.specs.xdp_maps.declared.decl.MapDecl.{MapDecl}
 use Rattle.xdp_machine.specs.State.{PacketIn}
 use Rattle.cell_core.specs.Cells.{CellView, IsRun, cell_at, site_in, on}
 use Rattle.cell_core.specs.Sites.{SiteView, ProgramView, no_site, site_at, records}
 use Rattle.cell_core.specs.Rows.{greatest, taken_by}
 use Rattle.operator_cells.specs.Making.{Grows, GrowsWith}
-use Rattle.held_cells.specs.Reading.{SiteIsRead, AreRanks, IsBehind, BelongsTo, ReadsAreMade, ReadsWait}
+use Rattle.operator_cells.specs.HeldCells.Reading.{SiteIsRead, AreRanks, IsBehind, BelongsTo, ReadsAreMade, ReadsWait}
 
 -- no element is higher than the highest
 pub most : (rank : ℕ → ℕ) (xs : List ℕ) (x : ℕ) → Contains xs x → rank x ≤ greatest rank xs

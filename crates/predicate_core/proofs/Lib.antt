@@ -34,3 +34,5 @@ pub mod NodePoints
 pub mod FirstReads
 pub mod NodeReads
 pub mod ArrivePoints
+pub mod ProgramGraph
+pub mod StepCells

@@ -8,8 +8,8 @@ use Rattle.std.proofs.lemmas.Bool.{cases_lt, lt-ltb, le-ltb, eqb-true, eqb-false
 use Rattle.std.proofs.lemmas.List.{length-map, get_or-map, get_or-replicate, get_or-set_same, get_or-set_other}
 use Rattle.std.proofs.lemmas.List.Elements.{Contains-get_or}
 use Rattle.std.proofs.lemmas.List.Sums.{sum_by-append, count_by_more_yes, count_by_more_no}
-use Rattle.bpf_isa.specs.declared.instruction.Insn.{Insn}
-use Rattle.bpf_isa.specs.Text.{insn_at}
+use Rattle.xdp_machine.specs.bpf_isa.declared.instruction.Insn.{Insn}
+use Rattle.xdp_machine.specs.bpf_isa.Text.{insn_at}
 use Rattle.xdp_machine.specs.Program.{XdpProgram, IsProgram}
 use Rattle.kind_core.specs.declared.kind.Kinds.{Kinds}
 use Rattle.kind_core.specs.Edges.{decided, transferred}
@@ -23,38 +23,38 @@ use Rattle.cell_core.specs.Formed.{AreFormed, FitsMap}
 use Rattle.cell_core.specs.Rows.{AreRows, greatest, node_row, taken_by, record_count}
 use Rattle.operator_cells.specs.Making.{seen, Grows}
 use Rattle.operator_cells.proofs.RisingLaws.{rows_before, greatest_append}
-use Rattle.held_cells.specs.place_rows.declared.origin.Origin.{Origin}
-use Rattle.held_cells.specs.place_rows.declared.recording.Record.{Record}
-use Rattle.held_cells.specs.place_rows.Spans.{pending_place, is_in}
-use Rattle.held_cells.specs.place_rows.Origins.{has_data, row_of, row_at}
-use Rattle.held_cells.specs.place_rows.Writing.{writes_as, taken_row}
-use Rattle.held_cells.proofs.place_rows.PlaceLaws.{greatest_within}
-use Rattle.held_cells.proofs.place_rows.SpanLaws.{one_row}
-use Rattle.node_rows.specs.declared.node.Behind.{Behind}
-use Rattle.node_rows.specs.Joining.{edge_row}
-use Rattle.node_rows.specs.Passing.{is_some_place, pending_row, leaving_row}
-use Rattle.node_rows.specs.Rows.{no_point, point_at, insn_of, known_behind, row_of_node, may_write}
-use Rattle.held_cells.specs.declared.held.Held.{Held}
-use Rattle.held_cells.specs.declared.held.Pointer.{Pointer}
-use Rattle.held_cells.specs.declared.way.Way.{Way}
-use Rattle.held_cells.specs.Paths.{NodeView, EdgeView, no_node, node_at}
-use Rattle.held_cells.specs.Held.{PointerView, pointed}
-use Rattle.held_cells.specs.Law.{no_made, made_at}
-use Rattle.held_cells.specs.Steps.{Steps}
-use Rattle.held_cells.specs.Rows as cells
-use Rattle.held_cells.specs.Rows.{kind_at, number_at, held_row, IsRecord, WriteWithin}
+use Rattle.operator_cells.specs.row_rules.declared.place_rows.origin.Origin.{Origin}
+use Rattle.operator_cells.specs.row_rules.declared.place_rows.recording.Record.{Record}
+use Rattle.operator_cells.specs.row_rules.PlaceRows.Spans.{pending_place, is_in}
+use Rattle.operator_cells.specs.row_rules.PlaceRows.Origins.{has_data, row_of, row_at}
+use Rattle.operator_cells.specs.row_rules.PlaceRows.Writing.{writes_as, taken_row}
+use Rattle.operator_cells.proofs.row_rules_laws.PlaceRows.PlaceLaws.{greatest_within}
+use Rattle.operator_cells.proofs.row_rules_laws.PlaceRows.SpanLaws.{one_row}
+use Rattle.operator_cells.specs.row_rules.declared.node_rows.node.Behind.{Behind}
+use Rattle.operator_cells.specs.row_rules.NodeRows.Joining.{edge_row}
+use Rattle.operator_cells.specs.row_rules.NodeRows.Passing.{is_some_place, pending_row, leaving_row}
+use Rattle.operator_cells.specs.row_rules.NodeRows.Rows.{no_point, point_at, insn_of, known_behind, row_of_node, may_write}
+use Rattle.operator_cells.specs.declared.held_cells.held.Held.{Held}
+use Rattle.operator_cells.specs.declared.held_cells.held.Pointer.{Pointer}
+use Rattle.operator_cells.specs.declared.held_cells.way.Way.{Way}
+use Rattle.operator_cells.specs.HeldCells.Paths.{NodeView, EdgeView, no_node, node_at}
+use Rattle.operator_cells.specs.HeldCells.Held.{PointerView, pointed}
+use Rattle.operator_cells.specs.HeldCells.Law.{no_made, made_at}
+use Rattle.operator_cells.specs.HeldCells.Steps.{Steps}
+use Rattle.operator_cells.specs.HeldCells.Rows as cells
+use Rattle.operator_cells.specs.HeldCells.Rows.{kind_at, number_at, held_row, IsRecord, WriteWithin}
 use Rattle.edge_cells.specs.declared.joining.Here.{Here}
 use Rattle.edge_cells.specs.Meeting.{Extends}
 use Rattle.edge_cells.proofs.ExtendingLaws.{extended}
-use Rattle.program_graph.specs.node_cells.Ends.{IsNode, HasEnds, AreEnds, is_reference, end_along}
-use Rattle.program_graph.specs.node_cells.Feeding as feeding
-use Rattle.program_graph.specs.node_cells.Feeding.{Leave}
-use Rattle.step_cells.specs.site_cells.Sited.{sited}
-use Rattle.step_cells.specs.Stepping.{made_of}
-use Rattle.step_cells.specs.Rows.{NodeRows, StandIn}
-use Rattle.step_cells.specs.Waiting.{WaitsFor}
-use Rattle.step_cells.specs.Pointing.{NodePoints}
-use Rattle.program_graph.specs.Graphs.{node_view, edge_view, graph_of}
+use Rattle.edge_cells.specs.NodeCells.Ends.{IsNode, HasEnds, AreEnds, is_reference, end_along}
+use Rattle.edge_cells.specs.NodeCells.Feeding as feeding
+use Rattle.edge_cells.specs.NodeCells.Feeding.{Leave}
+use Rattle.site_cells.specs.Sited.{sited}
+use Rattle.predicate_core.specs.StepCells.Stepping.{made_of}
+use Rattle.predicate_core.specs.StepCells.Rows.{NodeRows, StandIn}
+use Rattle.predicate_core.specs.StepCells.Waiting.{WaitsFor}
+use Rattle.predicate_core.specs.StepCells.Pointing.{NodePoints}
+use Rattle.predicate_core.specs.ProgramGraph.Graphs.{node_view, edge_view, graph_of}
 use Rattle.predicate_core.specs.declared.making.Progress.{Progress}
 use Rattle.predicate_core.specs.Laws.{made_next}
 use Rattle.predicate_core.specs.Gathering.{PassesTo}

@@ -10,11 +10,11 @@ use Rattle.cell_core.specs.declared.program.Node.{Node}
 use Rattle.cell_core.specs.Cells.{CellView}
 use Rattle.cell_core.specs.Sites.{SiteView}
 use Rattle.cell_core.specs.Formed.{IsBelow}
-use Rattle.held_cells.specs.declared.way.Way.{Way}
-use Rattle.held_cells.specs.declared.way.Exit.{Exit}
-use Rattle.held_cells.specs.Paths.{GraphView, node_at}
-use Rattle.held_cells.specs.Held.{PointerView}
-use Rattle.held_cells.specs.Law.{no_made, made_at, sites_below, sites_at}
+use Rattle.operator_cells.specs.declared.held_cells.way.Way.{Way}
+use Rattle.operator_cells.specs.declared.held_cells.way.Exit.{Exit}
+use Rattle.operator_cells.specs.HeldCells.Paths.{GraphView, node_at}
+use Rattle.operator_cells.specs.HeldCells.Held.{PointerView}
+use Rattle.operator_cells.specs.HeldCells.Law.{no_made, made_at, sites_below, sites_at}
 use Rattle.predicate_core.specs.Making.{Making, AreLaid}
 use Rattle.predicate_core.specs.Laws.{made_next}
 use Rattle.predicate_core.proofs.SiteLists.{below_all, below_more, at_more, at_new}

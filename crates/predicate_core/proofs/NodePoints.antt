@@ -7,8 +7,8 @@ use Rattle.std.proofs.Math.Seq.{get_or-append_seam, get_or-append_right}
 use Rattle.std.proofs.lemmas.Bool.{cases_lt, false≢true}
 use Rattle.std.proofs.lemmas.List.{append-nil, append_cancel_left}
 use Rattle.std.proofs.lemmas.List.Elements.{All-nil, All-cons, All-head, All-append, All-contains, All-weaker, Contains-get_or, Contains-append_cases}
-use Rattle.bpf_isa.specs.declared.instruction.Insn.{Insn}
-use Rattle.xdp_maps.specs.declared.decl.MapDecl.{MapDecl}
+use Rattle.xdp_machine.specs.bpf_isa.declared.instruction.Insn.{Insn}
+use Rattle.xdp_machine.specs.xdp_maps.declared.decl.MapDecl.{MapDecl}
 use Rattle.xdp_machine.specs.State.{PacketIn}
 use Rattle.kind_core.specs.declared.kind.Kinds.{Kinds}
 use Rattle.kind_core.specs.Kinds.{key_bytes, is_hash}
@@ -20,19 +20,19 @@ use Rattle.cell_core.specs.Sites.{SiteView, no_site, site_at, bytes_of}
 use Rattle.operator_cells.specs.Making.{Grows, GrowsWith}
 use Rattle.operator_cells.specs.Following.{IsFollowed}
 use Rattle.operator_cells.proofs.MakingLaws.{grown_with, reads_none}
-use Rattle.held_cells.specs.declared.held.Held.{Held}
-use Rattle.held_cells.specs.declared.way.Way.{Way}
-use Rattle.held_cells.specs.declared.way.Exit.{Exit}
-use Rattle.held_cells.specs.Paths.{GraphView, node_at}
-use Rattle.held_cells.specs.Held.{PointerView, pointer_at}
-use Rattle.held_cells.specs.Steps.{Steps, ReadsOwn}
-use Rattle.held_cells.specs.Pointing.{Pointing, HoldsPointer, changes_keys, GoesThrough, IsFoundOf, LookupPoints, ChangePoints, AccessPoints, PointsAs, PlainPoints, InstructionPoints, AnswerAlike, WasHeld, EdgesPoint, IsSamePointer, IsLookedUp, AreLookedUp, is_access, IsLookupAccess, IsThrough, FoundsAre, HeldAre, PointerIs}
+use Rattle.operator_cells.specs.declared.held_cells.held.Held.{Held}
+use Rattle.operator_cells.specs.declared.held_cells.way.Way.{Way}
+use Rattle.operator_cells.specs.declared.held_cells.way.Exit.{Exit}
+use Rattle.operator_cells.specs.HeldCells.Paths.{GraphView, node_at}
+use Rattle.operator_cells.specs.HeldCells.Held.{PointerView, pointer_at}
+use Rattle.operator_cells.specs.HeldCells.Steps.{Steps, ReadsOwn}
+use Rattle.operator_cells.specs.HeldCells.Pointing.{Pointing, HoldsPointer, changes_keys, GoesThrough, IsFoundOf, LookupPoints, ChangePoints, AccessPoints, PointsAs, PlainPoints, InstructionPoints, AnswerAlike, WasHeld, EdgesPoint, IsSamePointer, IsLookedUp, AreLookedUp, is_access, IsLookupAccess, IsThrough, FoundsAre, HeldAre, PointerIs}
 use Rattle.edge_cells.specs.declared.joining.Here.{Here}
 use Rattle.edge_cells.specs.Meeting.{Extends}
 use Rattle.edge_cells.proofs.Growth.{followed_before}
 use Rattle.edge_cells.proofs.ExtendingLaws.{extended, same_pointer, pointer_new}
-use Rattle.step_cells.specs.Stepping.{MadeView}
-use Rattle.step_cells.specs.Pointing.{AlongPoints, JumpPoints, NodePoints}
+use Rattle.predicate_core.specs.StepCells.Stepping.{MadeView}
+use Rattle.predicate_core.specs.StepCells.Pointing.{AlongPoints, JumpPoints, NodePoints}
 use Rattle.predicate_core.specs.Making.{Making, IsSoFar, Arrives}
 use Rattle.predicate_core.specs.Laws.{NodesPoint}
 use Rattle.predicate_core.specs.Pointing.{PointInto, PointWith, PointSoFar, ComesAlong, WasBrought, ArrivePoints}

@@ -6,7 +6,7 @@ use Rattle.std.proofs.Math.Seq.{get_or-append_seam, get_or-append_right}
 use Rattle.std.proofs.lemmas.Bool.{cases_lt, cases_eq}
 use Rattle.std.proofs.lemmas.List.{append-nil, get_or_past, get_or-replicate, get_or-set_same, get_or-set_other}
 use Rattle.std.proofs.lemmas.List.Elements.{Contains-append_left, Contains-append_right, Contains-get_or}
-use Rattle.bpf_isa.specs.declared.instruction.Insn.{Insn}
+use Rattle.xdp_machine.specs.bpf_isa.declared.instruction.Insn.{Insn}
 use Rattle.xdp_machine.specs.State.{PacketIn}
 use Rattle.cell_core.specs.declared.operator.Operator.{Operator}
 use Rattle.cell_core.specs.declared.operator.Operator.TheVariants.{Wire, Phi}
@@ -16,19 +16,19 @@ use Rattle.cell_core.specs.Rows.{greatest, taken_by}
 use Rattle.operator_cells.specs.Making.{Grows, GrowsWith}
 use Rattle.operator_cells.specs.Following.{picked, Goes, IsFollowed}
 use Rattle.operator_cells.proofs.MakingLaws.{grown_with, reads_none}
-use Rattle.held_cells.specs.declared.held.Held.{Held}
-use Rattle.held_cells.specs.declared.way.Way.{Way}
-use Rattle.held_cells.specs.declared.way.Exit.{Exit}
-use Rattle.held_cells.specs.Paths.{GraphView, node_at}
-use Rattle.held_cells.specs.Held.{PointerView}
-use Rattle.held_cells.specs.Rows.{map_used}
-use Rattle.held_cells.specs.Steps.{Steps, ReadsOwn}
-use Rattle.held_cells.specs.Pointing.{InstructionPoints}
-use Rattle.held_cells.specs.Reading.{SiteIsRead, OperationReads, AreRanks, IsBehind, BelongsTo}
+use Rattle.operator_cells.specs.declared.held_cells.held.Held.{Held}
+use Rattle.operator_cells.specs.declared.held_cells.way.Way.{Way}
+use Rattle.operator_cells.specs.declared.held_cells.way.Exit.{Exit}
+use Rattle.operator_cells.specs.HeldCells.Paths.{GraphView, node_at}
+use Rattle.operator_cells.specs.HeldCells.Held.{PointerView}
+use Rattle.operator_cells.specs.HeldCells.Rows.{map_used}
+use Rattle.operator_cells.specs.HeldCells.Steps.{Steps, ReadsOwn}
+use Rattle.operator_cells.specs.HeldCells.Pointing.{InstructionPoints}
+use Rattle.operator_cells.specs.HeldCells.Reading.{SiteIsRead, OperationReads, AreRanks, IsBehind, BelongsTo}
 use Rattle.edge_cells.specs.declared.joining.Here.{Here}
-use Rattle.step_cells.specs.Stepping.{MadeView}
-use Rattle.step_cells.specs.Pointing.{NodePoints}
-use Rattle.step_cells.specs.Waiting.{WaitsFor}
+use Rattle.predicate_core.specs.StepCells.Stepping.{MadeView}
+use Rattle.predicate_core.specs.StepCells.Pointing.{NodePoints}
+use Rattle.predicate_core.specs.StepCells.Waiting.{WaitsFor}
 use Rattle.predicate_core.specs.Making.{Making, IsSoFar, Arrives}
 use Rattle.predicate_core.specs.Laws.{NodesRead}
 use Rattle.predicate_core.specs.Gathering.{PassesTo}

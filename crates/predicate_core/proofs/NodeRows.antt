@@ -4,9 +4,9 @@ use Rattle.std.specs.Prelude.{slice_index}
 use Rattle.std.specs.List.{list_any}
 use Rattle.std.proofs.lemmas.Bool.{cases_lt, lt-ltb, le-ltb}
 use Rattle.std.proofs.lemmas.List.{get_or-map}
-use Rattle.bpf_isa.specs.declared.instruction.Insn.{Insn}
-use Rattle.bpf_isa.specs.Text.{insn_at}
-use Rattle.xdp_maps.specs.declared.decl.MapDecl.{MapDecl}
+use Rattle.xdp_machine.specs.bpf_isa.declared.instruction.Insn.{Insn}
+use Rattle.xdp_machine.specs.bpf_isa.Text.{insn_at}
+use Rattle.xdp_machine.specs.xdp_maps.declared.decl.MapDecl.{MapDecl}
 use Rattle.xdp_machine.specs.Program.{XdpProgram}
 use Rattle.kind_core.specs.declared.kind.Kind.{Kind}
 use Rattle.kind_core.specs.declared.number.Number.TheVariants.{Known, Unknown}
@@ -15,27 +15,27 @@ use Rattle.kind_core.specs.declared.kind.Kinds.{Kinds}
 use Rattle.kind_core.specs.Edges.{transferred}
 use Rattle.unfold_core.specs.declared.unfolding.Unfolded.{Unfolded}
 use Rattle.cell_core.specs.Rows.{greatest, numbers}
-use Rattle.held_cells.specs.place_rows.declared.origin.Origin.{Origin}
-use Rattle.held_cells.specs.place_rows.declared.span.Span.{Span}
-use Rattle.held_cells.specs.place_rows.declared.recording.Record.{Record}
-use Rattle.held_cells.specs.place_rows.Spans.{pending_place, is_in}
-use Rattle.held_cells.specs.place_rows.Origins.{has_data, row_of, row_at, every_row, origin_at_start}
-use Rattle.held_cells.specs.place_rows.Writing.{writes_as, record_as, is_open_in, taken_row, made_row}
-use Rattle.held_cells.proofs.place_rows.PlaceLaws.{place_at, count_places, spans_low}
-use Rattle.held_cells.proofs.place_rows.SpanLaws.{is_inside}
-use Rattle.node_rows.specs.declared.joining.Arrival.{Arrival}
-use Rattle.node_rows.specs.declared.node.Behind.{Behind}
-use Rattle.node_rows.specs.Joining.{edge_row, origin_at, origins_at}
-use Rattle.node_rows.specs.Passing.{result_row, written, is_some_place, pending_row, noted, behind}
-use Rattle.node_rows.specs.Rows.{no_point, point_at, insn_of, behind_by}
-use Rattle.held_cells.specs.declared.held.Held.{Held}
-use Rattle.held_cells.specs.Held.{PointerView, Counts, AreInside}
-use Rattle.held_cells.specs.Paths.{NodeView, no_node, node_at}
-use Rattle.held_cells.specs.Rows.{cells_of_pointer, value_row, held_row}
+use Rattle.operator_cells.specs.row_rules.declared.place_rows.origin.Origin.{Origin}
+use Rattle.operator_cells.specs.row_rules.declared.place_rows.span.Span.{Span}
+use Rattle.operator_cells.specs.row_rules.declared.place_rows.recording.Record.{Record}
+use Rattle.operator_cells.specs.row_rules.PlaceRows.Spans.{pending_place, is_in}
+use Rattle.operator_cells.specs.row_rules.PlaceRows.Origins.{has_data, row_of, row_at, every_row, origin_at_start}
+use Rattle.operator_cells.specs.row_rules.PlaceRows.Writing.{writes_as, record_as, is_open_in, taken_row, made_row}
+use Rattle.operator_cells.proofs.row_rules_laws.PlaceRows.PlaceLaws.{place_at, count_places, spans_low}
+use Rattle.operator_cells.proofs.row_rules_laws.PlaceRows.SpanLaws.{is_inside}
+use Rattle.operator_cells.specs.row_rules.declared.node_rows.joining.Arrival.{Arrival}
+use Rattle.operator_cells.specs.row_rules.declared.node_rows.node.Behind.{Behind}
+use Rattle.operator_cells.specs.row_rules.NodeRows.Joining.{edge_row, origin_at, origins_at}
+use Rattle.operator_cells.specs.row_rules.NodeRows.Passing.{result_row, written, is_some_place, pending_row, noted, behind}
+use Rattle.operator_cells.specs.row_rules.NodeRows.Rows.{no_point, point_at, insn_of, behind_by}
+use Rattle.operator_cells.specs.declared.held_cells.held.Held.{Held}
+use Rattle.operator_cells.specs.HeldCells.Held.{PointerView, Counts, AreInside}
+use Rattle.operator_cells.specs.HeldCells.Paths.{NodeView, no_node, node_at}
+use Rattle.operator_cells.specs.HeldCells.Rows.{cells_of_pointer, value_row, held_row}
 use Rattle.edge_cells.specs.Meeting.{Extends}
 use Rattle.edge_cells.proofs.ExtendingLaws.{same_pointer}
-use Rattle.program_graph.specs.node_cells.Ends.{IsNode, is_reference}
-use Rattle.program_graph.specs.Graphs.{node_view, graph_of}
+use Rattle.edge_cells.specs.NodeCells.Ends.{IsNode, is_reference}
+use Rattle.predicate_core.specs.ProgramGraph.Graphs.{node_view, graph_of}
 use Rattle.predicate_core.specs.Stages.{behind_at, arrivals_at, kinds_of, origins_met}
 use Rattle.predicate_core.proofs.Spans.{spans_inside}
 use Rattle.predicate_core.proofs.Behind.{noted_other, noted_here, noted_above, written_not, written_in}

@@ -4,8 +4,8 @@ use Rattle.std.specs.Prelude.{slice_index, slice_set, All}
 use Rattle.std.proofs.lemmas.Bool.{cases_lt}
 use Rattle.std.proofs.lemmas.List.{get_or-set_same, get_or-set_other, get_or-replicate, get_or_past}
 use Rattle.std.proofs.lemmas.List.Elements.{All-nil, All-cons}
-use Rattle.xdp_maps.specs.declared.decl.MapDecl.{MapDecl}
-use Rattle.xdp_maps.specs.State.{MapState, IsSound}
+use Rattle.xdp_machine.specs.xdp_maps.declared.decl.MapDecl.{MapDecl}
+use Rattle.xdp_machine.specs.xdp_maps.State.{MapState, IsSound}
 use Rattle.xdp_machine.specs.Values.{Value}
 use Rattle.xdp_machine.specs.Values as is
 use Rattle.xdp_machine.specs.State.{Machine, PacketIn, start}
@@ -22,13 +22,13 @@ use Rattle.cell_core.specs.Cells.{CellView, IsRun, bits_from, bit, on}
 use Rattle.operator_cells.specs.Making.{Grows, Makes, operated}
 use Rattle.operator_cells.specs.Rising.{Rises}
 use Rattle.operator_cells.proofs.MakingLaws.{grown, grown_none}
-use Rattle.held_cells.specs.declared.held.Held.{Held}
-use Rattle.held_cells.specs.declared.way.Way.{Way}
-use Rattle.held_cells.specs.Paths.{GraphView, At, node_at, before, maps_in}
-use Rattle.held_cells.specs.Held.{PointerView, Holds, Counts, AreInside}
-use Rattle.held_cells.specs.Carrying.{IsKnown}
-use Rattle.held_cells.specs.Steps.{Leads, IsGood}
-use Rattle.held_cells.specs.Law.{IsPacket}
+use Rattle.operator_cells.specs.declared.held_cells.held.Held.{Held}
+use Rattle.operator_cells.specs.declared.held_cells.way.Way.{Way}
+use Rattle.operator_cells.specs.HeldCells.Paths.{GraphView, At, node_at, before, maps_in}
+use Rattle.operator_cells.specs.HeldCells.Held.{PointerView, Holds, Counts, AreInside}
+use Rattle.operator_cells.specs.HeldCells.Carrying.{IsKnown}
+use Rattle.operator_cells.specs.HeldCells.Steps.{Leads, IsGood}
+use Rattle.operator_cells.specs.HeldCells.Law.{IsPacket}
 use Rattle.predicate_core.specs.Buildable.{AddsNoRow}
 use Rattle.predicate_core.specs.Making.{Making, IsSoFar, IsCase}
 use Rattle.predicate_core.specs.Opening.{HaveBytes, AreBytes, Opens, OpensFollow}

@@ -5,10 +5,10 @@ use Rattle.kind_core.specs.declared.kind.Kinds.{Kinds}
 use Rattle.cell_core.specs.Cells.{CellView}
 use Rattle.cell_core.specs.Rows.{AreRows, greatest, numbers}
 use Rattle.operator_cells.specs.Rising.{Rises}
-use Rattle.held_cells.specs.declared.held.Held.{Held}
-use Rattle.held_cells.specs.declared.way.Way.{Way}
-use Rattle.held_cells.specs.Held.{PointerView}
-use Rattle.held_cells.specs.Rows.{bits_row, choosing_row, JoinsTo}
+use Rattle.operator_cells.specs.declared.held_cells.held.Held.{Held}
+use Rattle.operator_cells.specs.declared.held_cells.way.Way.{Way}
+use Rattle.operator_cells.specs.HeldCells.Held.{PointerView}
+use Rattle.operator_cells.specs.HeldCells.Rows.{bits_row, choosing_row, JoinsTo}
 
 trans_le : {a b c : ℕ} → a ≤ b → b ≤ c → a ≤ c
 trans_le x y = omega (arith, x, y)

@@ -10,17 +10,17 @@ use Rattle.cell_core.specs.Rows.{AreRows, greatest}
 use Rattle.operator_cells.specs.declared.joining.Arm.{Arm}
 use Rattle.operator_cells.specs.Joining.{flat}
 use Rattle.operator_cells.specs.Making.{seen}
-use Rattle.held_cells.specs.place_rows.declared.origin.Origin.{Origin}
-use Rattle.held_cells.specs.place_rows.Spans.{pending_place}
-use Rattle.held_cells.specs.place_rows.Origins.{has_data, row_of, by_place, origin_at_start}
-use Rattle.held_cells.specs.place_rows.Reading.{is_known}
-use Rattle.held_cells.proofs.place_rows.PlaceLaws.{place_at}
-use Rattle.node_rows.specs.declared.joining.Arrival.{Arrival}
-use Rattle.node_rows.specs.declared.node.Behind.{Behind}
-use Rattle.node_rows.specs.Joining.{brings, edge_row, all_bring, new_origin, met, first_brings, origin_at, origins_at}
-use Rattle.held_cells.specs.declared.way.Way.{Way}
-use Rattle.held_cells.specs.Held.{PointerView, pointed}
-use Rattle.held_cells.specs.Rows.{kind_at, number_at, held_row, bits_row, brought_row, hold_one, chosen_row}
+use Rattle.operator_cells.specs.row_rules.declared.place_rows.origin.Origin.{Origin}
+use Rattle.operator_cells.specs.row_rules.PlaceRows.Spans.{pending_place}
+use Rattle.operator_cells.specs.row_rules.PlaceRows.Origins.{has_data, row_of, by_place, origin_at_start}
+use Rattle.operator_cells.specs.row_rules.PlaceRows.Reading.{is_known}
+use Rattle.operator_cells.proofs.row_rules_laws.PlaceRows.PlaceLaws.{place_at}
+use Rattle.operator_cells.specs.row_rules.declared.node_rows.joining.Arrival.{Arrival}
+use Rattle.operator_cells.specs.row_rules.declared.node_rows.node.Behind.{Behind}
+use Rattle.operator_cells.specs.row_rules.NodeRows.Joining.{brings, edge_row, all_bring, new_origin, met, first_brings, origin_at, origins_at}
+use Rattle.operator_cells.specs.declared.held_cells.way.Way.{Way}
+use Rattle.operator_cells.specs.HeldCells.Held.{PointerView, pointed}
+use Rattle.operator_cells.specs.HeldCells.Rows.{kind_at, number_at, held_row, bits_row, brought_row, hold_one, chosen_row}
 use Rattle.edge_cells.specs.Joining.{LeadTo}
 use Rattle.predicate_core.specs.declared.making.Progress.{Progress}
 use Rattle.predicate_core.specs.Progress.{pending_of}

@@ -4,7 +4,7 @@ use Rattle.std.specs.Prelude.{slice_index, All}
 use Rattle.std.proofs.Math.ListN.{get_or-append}
 use Rattle.std.proofs.Math.Seq.{get_or-append_right}
 use Rattle.std.proofs.lemmas.Bool.{cases_lt, false≢true, lt-ltb, le-ltb, ltb-true, ltb-false}
-use Rattle.xdp_maps.specs.declared.decl.MapDecl.{MapDecl}
+use Rattle.xdp_machine.specs.xdp_maps.declared.decl.MapDecl.{MapDecl}
 use Rattle.kind_core.specs.declared.kind.Kind.{Kind}
 use Rattle.kind_core.specs.declared.kind.Kind.TheVariants.{Unset, Maybe, Entry}
 use Rattle.kind_core.specs.declared.kind.Kinds.{Kinds}
@@ -13,9 +13,9 @@ use Rattle.cell_core.specs.declared.operator.Operator.TheVariants.{Found}
 use Rattle.cell_core.specs.Cells.{CellView, cell_at, site_in, on}
 use Rattle.cell_core.specs.Sites.{SiteView, no_site, site_at, bytes_of}
 use Rattle.operator_cells.specs.Making.{GrowsWith}
-use Rattle.held_cells.specs.declared.held.Held.{Held}
-use Rattle.held_cells.specs.Held.{PointerView, pointer_at, key_of, Counts, AreInside}
-use Rattle.held_cells.specs.Pointing.{Pointing, pointing_as, pointing_at, HoldsPointer, changes_keys, IsThrough, IsFoundOf, IsSamePointer, IsLookedUp, is_access, IsLookupAccess}
+use Rattle.operator_cells.specs.declared.held_cells.held.Held.{Held}
+use Rattle.operator_cells.specs.HeldCells.Held.{PointerView, pointer_at, key_of, Counts, AreInside}
+use Rattle.operator_cells.specs.HeldCells.Pointing.{Pointing, pointing_as, pointing_at, HoldsPointer, changes_keys, IsThrough, IsFoundOf, IsSamePointer, IsLookedUp, is_access, IsLookupAccess}
 use Rattle.edge_cells.specs.Meeting.{Extends}
 use Rattle.edge_cells.proofs.ExtendingLaws.{same_pointer}
 

@@ -5,11 +5,11 @@ use Rattle.std.proofs.Math.Seq.{take-append_seam, get_or-append_right}
 use Rattle.std.proofs.lemmas.List.{length-map, length-replicate, get_or-map, map-append}
 use Rattle.std.proofs.lemmas.List.Elements.{All-append, All-contains, All-head, All-map, All-replicate, All-tail, All-weaker}
 use Rattle.smallvec.specs.declared.small_vec.SmallVec.{SmallVec}
-use Rattle.xdp_maps.specs.declared.decl.MapDecl.{MapDecl}
-use Rattle.bpf_isa.specs.declared.instruction.Insn.{Insn}
-use Rattle.bpf_isa.specs.Spelling.{IsInsn}
-use Rattle.bpf_isa.specs.Text.{insn_at}
-use Rattle.bpf_isa.proofs.LaidLaws.{legal_at}
+use Rattle.xdp_machine.specs.xdp_maps.declared.decl.MapDecl.{MapDecl}
+use Rattle.xdp_machine.specs.bpf_isa.declared.instruction.Insn.{Insn}
+use Rattle.xdp_machine.specs.bpf_isa.Spelling.{IsInsn}
+use Rattle.xdp_machine.specs.bpf_isa.Text.{insn_at}
+use Rattle.xdp_machine.proofs.bpf_isa_laws.LaidLaws.{legal_at}
 use Rattle.unfold_core.specs.Units.{ArePlaces}
 use Rattle.xdp_machine.specs.Program.{XdpProgram, IsDeclaration}
 use Rattle.kind_core.specs.Kinds.{key_bytes}
@@ -23,22 +23,22 @@ use Rattle.cell_core.specs.Cells.{CellView}
 use Rattle.cell_core.specs.Sites.{SiteView, no_site, site_at}
 use Rattle.cell_core.specs.View.{cell_of, site_of}
 use Rattle.operator_cells.specs.Making.{seen, Grows, GrowsWith}
-use Rattle.held_cells.specs.declared.way.Way.{Way}
-use Rattle.held_cells.specs.declared.way.Exit.{Exit}
-use Rattle.held_cells.specs.Paths.{GraphView, no_node, node_at}
-use Rattle.held_cells.specs.Held.{PointerView, pointed, AreInside}
-use Rattle.held_cells.specs.Steps.{AreMade, Steps}
+use Rattle.operator_cells.specs.declared.held_cells.way.Way.{Way}
+use Rattle.operator_cells.specs.declared.held_cells.way.Exit.{Exit}
+use Rattle.operator_cells.specs.HeldCells.Paths.{GraphView, no_node, node_at}
+use Rattle.operator_cells.specs.HeldCells.Held.{PointerView, pointed, AreInside}
+use Rattle.operator_cells.specs.HeldCells.Steps.{AreMade, Steps}
 use Rattle.edge_cells.specs.declared.joining.Here.{Here}
 use Rattle.edge_cells.specs.Joining.{LeadTo}
 use Rattle.edge_cells.specs.Meeting.{AreWays, Extends}
 use Rattle.edge_cells.specs.Widening.{AreWider}
 use Rattle.edge_cells.proofs.ExtendingLaws.{inside_later}
-use Rattle.program_graph.specs.node_cells.Ends.{IsNode}
-use Rattle.program_graph.specs.node_cells.Feeding.{known_on, Leave}
-use Rattle.step_cells.specs.site_cells.Sited.{sited}
-use Rattle.program_graph.specs.Graphs.{node_view, graph_of}
-use Rattle.program_graph.specs.Nodes.{HasInsn}
-use Rattle.program_graph.specs.Sound.{IsSoundGraph}
+use Rattle.edge_cells.specs.NodeCells.Ends.{IsNode}
+use Rattle.edge_cells.specs.NodeCells.Feeding.{known_on, Leave}
+use Rattle.site_cells.specs.Sited.{sited}
+use Rattle.predicate_core.specs.ProgramGraph.Graphs.{node_view, graph_of}
+use Rattle.predicate_core.specs.ProgramGraph.Nodes.{HasInsn}
+use Rattle.predicate_core.specs.ProgramGraph.Sound.{IsSoundGraph}
 use Rattle.predicate_core.specs.declared.making.Progress.{Progress}
 use Rattle.predicate_core.specs.Feeding.{AreFed, FeedsNodes}
 use Rattle.predicate_core.specs.Laws.{NodesFollow, StepsStay, made_next}

@@ -5,13 +5,13 @@ use Rattle.std.proofs.Math.ListN.{get_or-append}
 use Rattle.std.proofs.Math.Seq.{get_or-append_right}
 use Rattle.std.proofs.lemmas.Bool.{cases_lt}
 use Rattle.std.proofs.lemmas.List.Elements.{All-weaker}
-use Rattle.xdp_maps.specs.declared.decl.MapDecl.{MapDecl}
+use Rattle.xdp_machine.specs.xdp_maps.declared.decl.MapDecl.{MapDecl}
 use Rattle.cell_core.specs.Cells.{CellView, cell_at, site_in}
 use Rattle.cell_core.specs.Sites.{SiteView, ProgramView, no_site, site_at}
 use Rattle.cell_core.specs.Formed.{FitsMap, AreSited, IsBelow}
 use Rattle.operator_cells.specs.Making.{GrowsWith}
-use Rattle.held_cells.specs.Paths.{GraphView}
-use Rattle.held_cells.specs.Steps.{ReadsOwn}
+use Rattle.operator_cells.specs.HeldCells.Paths.{GraphView}
+use Rattle.operator_cells.specs.HeldCells.Steps.{ReadsOwn}
 use Rattle.predicate_core.specs.Making.{Making, AreLaid}
 
 pub below_later : (n m : ℕ) (s : SiteView) → n ≤ m → IsBelow n s → IsBelow m s

@@ -5,12 +5,12 @@ use Rattle.std.specs.List.{list_any}
 use Rattle.std.specs.Int.{w64, cast_unsigned}
 use Rattle.std.specs.Ordering.{int_eq}
 use Rattle.std.proofs.lemmas.Bool.{leb-true}
-use Rattle.bpf_isa.specs.declared.operation.Op.{Op}
-use Rattle.bpf_isa.specs.declared.operation.Op.TheVariants.{Alu, Neg, End, Swap, Ja, Jump, Call, Exit, LoadImm, Abs, Ind, Load, LoadSigned, StoreImm, Store, Atomic}
-use Rattle.bpf_isa.specs.declared.operation.Size.{Size}
-use Rattle.bpf_isa.specs.declared.instruction.Insn.{Insn}
-use Rattle.bpf_isa.specs.Spelling.{IsInsn}
-use Rattle.xdp_maps.specs.declared.decl.MapDecl.{MapDecl}
+use Rattle.xdp_machine.specs.bpf_isa.declared.operation.Op.{Op}
+use Rattle.xdp_machine.specs.bpf_isa.declared.operation.Op.TheVariants.{Alu, Neg, End, Swap, Ja, Jump, Call, Exit, LoadImm, Abs, Ind, Load, LoadSigned, StoreImm, Store, Atomic}
+use Rattle.xdp_machine.specs.bpf_isa.declared.operation.Size.{Size}
+use Rattle.xdp_machine.specs.bpf_isa.declared.instruction.Insn.{Insn}
+use Rattle.xdp_machine.specs.bpf_isa.Spelling.{IsInsn}
+use Rattle.xdp_machine.specs.xdp_maps.declared.decl.MapDecl.{MapDecl}
 use Rattle.xdp_machine.specs.Memory.{bytes_in}
 use Rattle.xdp_machine.specs.Atomics.{fetches}
 use Rattle.kind_core.specs.declared.kind.Kind.{Kind}
@@ -24,15 +24,15 @@ use Rattle.kind_core.specs.Access.{compares, stored}
 use Rattle.kind_core.specs.Effects.{effect_of, effect_as, verdict, immediate}
 use Rattle.kind_core.specs.Profile.{profiled}
 use Rattle.kind_core.proofs.TestLaws.{bind_passed}
-use Rattle.held_cells.specs.place_rows.declared.origin.Origin.{Origin}
-use Rattle.held_cells.specs.place_rows.declared.span.Span.{Span}
-use Rattle.held_cells.specs.place_rows.Spans.{no_place, one, target, slots_of, bytes_of, region, is_in}
-use Rattle.held_cells.specs.place_rows.Origins.{row_at}
-use Rattle.held_cells.specs.place_rows.Writing.{writes_as}
-use Rattle.held_cells.proofs.place_rows.SpanLaws.{in_none, not_beyond}
-use Rattle.node_rows.specs.Passing as graph
-use Rattle.program_graph.specs.node_cells.Ends.{AreEnds}
-use Rattle.held_cells.specs.Rows as cells
+use Rattle.operator_cells.specs.row_rules.declared.place_rows.origin.Origin.{Origin}
+use Rattle.operator_cells.specs.row_rules.declared.place_rows.span.Span.{Span}
+use Rattle.operator_cells.specs.row_rules.PlaceRows.Spans.{no_place, one, target, slots_of, bytes_of, region, is_in}
+use Rattle.operator_cells.specs.row_rules.PlaceRows.Origins.{row_at}
+use Rattle.operator_cells.specs.row_rules.PlaceRows.Writing.{writes_as}
+use Rattle.operator_cells.proofs.row_rules_laws.PlaceRows.SpanLaws.{in_none, not_beyond}
+use Rattle.operator_cells.specs.row_rules.NodeRows.Passing as graph
+use Rattle.edge_cells.specs.NodeCells.Ends.{AreEnds}
+use Rattle.operator_cells.specs.HeldCells.Rows as cells
 
 -- ---- tests that pass
 within_is : (z : ℤ) (n len a : ℕ) → within z n len ≡ Ok a → (z ≡ pos a) × (a + n ≤ len)

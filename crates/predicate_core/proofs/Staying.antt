@@ -1,7 +1,7 @@
 -- Cells that read no site, behind an arrival and behind the code of a node.
 use Rattle.std.proofs.Common.{◌≡◌, ℕ, ◌≤◌, List, length, take, ◌∙◌, ap, subst, arith}
 use Rattle.std.proofs.lemmas.List.Elements.{All-weaker}
-use Rattle.xdp_maps.specs.State.{MapState}
+use Rattle.xdp_machine.specs.xdp_maps.State.{MapState}
 use Rattle.kind_core.specs.declared.number.Number.{Number}
 use Rattle.kind_core.specs.declared.number.Number.TheVariants.{Known, Unknown}
 use Rattle.cell_core.specs.Cells.{CellView, site_in, bits_from}
@@ -9,11 +9,11 @@ use Rattle.cell_core.specs.Sites.{SiteView, site_at, after, read_on}
 use Rattle.cell_core.specs.Formed.{IsBelow}
 use Rattle.operator_cells.specs.Making.{Grows}
 use Rattle.operator_cells.proofs.MakingLaws.{grown, grown_with, reads_none}
-use Rattle.held_cells.specs.declared.way.Way.{Way}
-use Rattle.held_cells.specs.declared.way.Exit.{Exit}
-use Rattle.held_cells.specs.Paths.{GraphView, node_at}
-use Rattle.held_cells.specs.Held.{PointerView, IsThere}
-use Rattle.held_cells.specs.Steps.{AreMade, AreRead, ReadsOwn}
+use Rattle.operator_cells.specs.declared.held_cells.way.Way.{Way}
+use Rattle.operator_cells.specs.declared.held_cells.way.Exit.{Exit}
+use Rattle.operator_cells.specs.HeldCells.Paths.{GraphView, node_at}
+use Rattle.operator_cells.specs.HeldCells.Held.{PointerView, IsThere}
+use Rattle.operator_cells.specs.HeldCells.Steps.{AreMade, AreRead, ReadsOwn}
 use Rattle.edge_cells.proofs.ExtendingLaws.{extends_none, inside_later}
 use Rattle.predicate_core.specs.Laws.{ArrivalsStay, StepsStay}
 use Rattle.predicate_core.proofs.Sited.{below_later}

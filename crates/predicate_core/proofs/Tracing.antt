@@ -5,12 +5,12 @@ use Rattle.std.proofs.Math.Nat.{add_assoc}
 use Rattle.std.proofs.lemmas.Bool.Decides.{nat_tests}
 use Rattle.std.proofs.lemmas.List.{append-nil, append_assoc}
 use Rattle.std.proofs.lemmas.List.Elements.{All-head, All-tail}
-use Rattle.bpf_isa.specs.declared.operation.Op.{Op}
-use Rattle.bpf_isa.specs.declared.operation.Op.TheVariants.{Load, LoadSigned, StoreImm, Store, Atomic, Call}
-use Rattle.bpf_isa.specs.declared.instruction.Insn.{Insn}
-use Rattle.bpf_isa.specs.Spelling.{units_of}
-use Rattle.bpf_isa.specs.Text.{insn_at}
-use Rattle.xdp_maps.specs.State.{MapState}
+use Rattle.xdp_machine.specs.bpf_isa.declared.operation.Op.{Op}
+use Rattle.xdp_machine.specs.bpf_isa.declared.operation.Op.TheVariants.{Load, LoadSigned, StoreImm, Store, Atomic, Call}
+use Rattle.xdp_machine.specs.bpf_isa.declared.instruction.Insn.{Insn}
+use Rattle.xdp_machine.specs.bpf_isa.Spelling.{units_of}
+use Rattle.xdp_machine.specs.bpf_isa.Text.{insn_at}
+use Rattle.xdp_machine.specs.xdp_maps.State.{MapState}
 use Rattle.xdp_machine.specs.Values.{◌>>=◌}
 use Rattle.xdp_machine.specs.State.{Code, Machine, begins}
 use Rattle.xdp_machine.specs.Step.{Outcome, Goes, Ends, NoCase, goes_to, goes_on, outcome, outcome_at, effect, step}
@@ -20,8 +20,8 @@ use Rattle.xdp_machine.specs.Touched.{Touched, nothing, both, touched_by, touche
 use Rattle.xdp_machine.proofs.RunLaws.{run_first}
 use Rattle.cell_core.specs.Cells.{on, bit}
 use Rattle.cell_core.specs.Sites.{SiteView, operation_on, applied, after, touched}
-use Rattle.held_cells.specs.Paths.{GraphView, Stage, At, Over, Nowhere, visit, stepped, stands_at, maps_in}
-use Rattle.held_cells.specs.Steps.{DoAs}
+use Rattle.operator_cells.specs.HeldCells.Paths.{GraphView, Stage, At, Over, Nowhere, visit, stepped, stands_at, maps_in}
+use Rattle.operator_cells.specs.HeldCells.Steps.{DoAs}
 
 -- ---- what is touched
 

@@ -10,10 +10,10 @@ use Rattle.cell_core.specs.Cells.{CellView, IsRun, on}
 use Rattle.cell_core.specs.Sites.{with_bytes}
 use Rattle.operator_cells.specs.declared.joining.Arm.{Arm}
 use Rattle.operator_cells.specs.Making.{Grows}
-use Rattle.held_cells.specs.declared.way.Exit.{Exit}
-use Rattle.held_cells.specs.Held.{number_of, IsThere}
-use Rattle.held_cells.specs.Steps.{IsLeft}
-use Rattle.held_cells.specs.Law.{IsPacket}
+use Rattle.operator_cells.specs.declared.held_cells.way.Exit.{Exit}
+use Rattle.operator_cells.specs.HeldCells.Held.{number_of, IsThere}
+use Rattle.operator_cells.specs.HeldCells.Steps.{IsLeft}
+use Rattle.operator_cells.specs.HeldCells.Law.{IsPacket}
 use Rattle.predicate_core.specs.Buildable.{HasBits, AddsNoRow}
 use Rattle.predicate_core.specs.declared.closing.Output.{Output}
 use Rattle.predicate_core.specs.declared.closing.Output.TheVariants.{Verdict, Target, Byte}

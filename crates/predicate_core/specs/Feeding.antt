@@ -1,11 +1,11 @@
 -- Edges lead to every node that is to come, and what is known at a node says no more than what is known on each of them.
 use Rattle.std.specs.Prelude.{ℕ, ◌≡◌, ◌+◌, ◌<◌, ◌≤◌, ◌⊎◌, List, [], ◌∷◌, ◌++◌, length, All, Contains}
 use Rattle.kind_core.specs.Kinds as kinds
-use Rattle.held_cells.specs.declared.way.Way.{Way}
-use Rattle.held_cells.specs.Paths.{EdgeView, GraphView, node_at}
+use Rattle.operator_cells.specs.declared.held_cells.way.Way.{Way}
+use Rattle.operator_cells.specs.HeldCells.Paths.{EdgeView, GraphView, node_at}
 use Rattle.edge_cells.specs.Widening.{AreWider}
-use Rattle.program_graph.specs.node_cells.Feeding.{Leave}
-use Rattle.program_graph.specs.Sound.{IsSoundGraph}
+use Rattle.edge_cells.specs.NodeCells.Feeding.{Leave}
+use Rattle.predicate_core.specs.ProgramGraph.Sound.{IsSoundGraph}
 
 -- Before node k an edge leads to each node that is to come, or is still to be made.
 pub record AreFed (g : GraphView) (k : ℕ) (ways : List Way) : Type 0 where

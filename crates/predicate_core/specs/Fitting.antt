@@ -1,25 +1,25 @@
 -- From one node to the next the cells fit the rows of the graph.
 use Rattle.std.specs.Prelude.{ℕ, ◌≡◌, ◌+◌, ◌<◌, Option, List, [], ◌∷◌, ◌++◌, length, replicate, get_or}
-use Rattle.bpf_isa.specs.declared.instruction.Insn.{Insn}
+use Rattle.xdp_machine.specs.bpf_isa.declared.instruction.Insn.{Insn}
 use Rattle.xdp_machine.specs.Program.{XdpProgram, IsProgram}
 use Rattle.unfold_core.specs.declared.unfolding.Unfolded.{Unfolded}
 use Rattle.unfold_core.specs.Unfolding.{IsUnfolded}
 use Rattle.cell_core.specs.Cells.{CellView}
 use Rattle.operator_cells.specs.Making.{seen, Grows}
-use Rattle.held_cells.specs.declared.held.Held.{Held}
-use Rattle.held_cells.specs.declared.way.Way.{Way}
-use Rattle.held_cells.specs.Held.{PointerView, pointed}
-use Rattle.held_cells.specs.Rows.{JoinsTo}
-use Rattle.held_cells.specs.Steps.{Steps}
+use Rattle.operator_cells.specs.declared.held_cells.held.Held.{Held}
+use Rattle.operator_cells.specs.declared.held_cells.way.Way.{Way}
+use Rattle.operator_cells.specs.HeldCells.Held.{PointerView, pointed}
+use Rattle.operator_cells.specs.HeldCells.Rows.{JoinsTo}
+use Rattle.operator_cells.specs.HeldCells.Steps.{Steps}
 use Rattle.edge_cells.specs.declared.joining.Here.{Here}
 use Rattle.edge_cells.specs.Joining.{LeadTo}
-use Rattle.program_graph.specs.node_cells.Ends.{IsNode, HasEnds, is_reference}
-use Rattle.program_graph.specs.node_cells.Feeding.{Leave}
-use Rattle.step_cells.specs.site_cells.Sited.{sited}
-use Rattle.step_cells.specs.Stepping.{made_of}
-use Rattle.step_cells.specs.Rows.{NodeRows}
-use Rattle.step_cells.specs.Pointing.{NodePoints}
-use Rattle.program_graph.specs.Graphs.{graph_of}
+use Rattle.edge_cells.specs.NodeCells.Ends.{IsNode, HasEnds, is_reference}
+use Rattle.edge_cells.specs.NodeCells.Feeding.{Leave}
+use Rattle.site_cells.specs.Sited.{sited}
+use Rattle.predicate_core.specs.StepCells.Stepping.{made_of}
+use Rattle.predicate_core.specs.StepCells.Rows.{NodeRows}
+use Rattle.predicate_core.specs.StepCells.Pointing.{NodePoints}
+use Rattle.predicate_core.specs.ProgramGraph.Graphs.{graph_of}
 use Rattle.predicate_core.specs.declared.making.Progress.{Progress}
 use Rattle.predicate_core.specs.Laws.{made_next}
 use Rattle.predicate_core.specs.Gathering.{GathersTo, PassesTo}

@@ -1,26 +1,26 @@
 -- From one node to the next, and what follows for all of them.
 use Rattle.std.specs.Prelude.{ℕ, ◌≡◌, ◌+◌, ◌-◌, ◌<◌, List, [], ◌∷◌, ◌++◌, length, replicate, All}
 use Rattle.std.specs.List.{AllPairs}
-use Rattle.bpf_isa.specs.declared.instruction.Insn.{Insn}
-use Rattle.bpf_isa.specs.Spelling.{IsInsn}
-use Rattle.xdp_maps.specs.declared.decl.MapDecl.{MapDecl}
+use Rattle.xdp_machine.specs.bpf_isa.declared.instruction.Insn.{Insn}
+use Rattle.xdp_machine.specs.bpf_isa.Spelling.{IsInsn}
+use Rattle.xdp_machine.specs.xdp_maps.declared.decl.MapDecl.{MapDecl}
 use Rattle.cell_core.specs.declared.program.Node.{Node}
 use Rattle.cell_core.specs.declared.program.FrameByte.{FrameByte}
 use Rattle.cell_core.specs.Cells.{CellView}
 use Rattle.cell_core.specs.Sites.{SiteView}
 use Rattle.operator_cells.specs.Making.{Grows}
-use Rattle.held_cells.specs.declared.held.Held.{Held}
-use Rattle.held_cells.specs.declared.way.Way.{Way}
-use Rattle.held_cells.specs.declared.way.Exit.{Exit}
-use Rattle.held_cells.specs.Paths.{GraphView, node_at}
-use Rattle.held_cells.specs.Held.{PointerView}
-use Rattle.held_cells.specs.Steps.{Steps}
-use Rattle.held_cells.specs.Law.{IsLaw}
-use Rattle.held_cells.specs.Pointing.{AccessesLookUp, AccessesStay}
-use Rattle.held_cells.specs.Reading.{ReadsAreMade, ReadsWait}
+use Rattle.operator_cells.specs.declared.held_cells.held.Held.{Held}
+use Rattle.operator_cells.specs.declared.held_cells.way.Way.{Way}
+use Rattle.operator_cells.specs.declared.held_cells.way.Exit.{Exit}
+use Rattle.operator_cells.specs.HeldCells.Paths.{GraphView, node_at}
+use Rattle.operator_cells.specs.HeldCells.Held.{PointerView}
+use Rattle.operator_cells.specs.HeldCells.Steps.{Steps}
+use Rattle.operator_cells.specs.HeldCells.Law.{IsLaw}
+use Rattle.operator_cells.specs.HeldCells.Pointing.{AccessesLookUp, AccessesStay}
+use Rattle.operator_cells.specs.HeldCells.Reading.{ReadsAreMade, ReadsWait}
 use Rattle.edge_cells.specs.declared.joining.Here.{Here}
-use Rattle.step_cells.specs.Stepping.{MadeView}
-use Rattle.step_cells.specs.Pointing.{NodePoints}
+use Rattle.predicate_core.specs.StepCells.Stepping.{MadeView}
+use Rattle.predicate_core.specs.StepCells.Pointing.{NodePoints}
 use Rattle.predicate_core.specs.Buildable.{IsBuildable}
 use Rattle.predicate_core.specs.Making.{Making, IsSoFar, Arrives, Answers, made_alone}
 use Rattle.predicate_core.specs.Opening.{Opens}

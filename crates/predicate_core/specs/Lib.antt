@@ -1,4 +1,3 @@
-pub use Rattle.program_graph.specs as program_graph
 pub mod Buildable
 pub mod Making
 pub mod Laws
@@ -13,3 +12,5 @@ pub mod Rows
 pub mod Gathering
 pub mod Stages
 pub mod Fitting
+pub mod ProgramGraph
+pub mod StepCells

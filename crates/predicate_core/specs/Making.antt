@@ -1,7 +1,7 @@
 -- What has been made of a program once some of its nodes are done, from the first on.
 use Rattle.std.specs.Prelude.{ℕ, ◌≡◌, ◌+◌, ◌<◌, ◌≤◌, true, Some, List, [], ◌++◌, length, get_or, replicate, take, All, Contains}
 use Rattle.std.specs.List.{AllPairs}
-use Rattle.xdp_maps.specs.State.{MapState, IsSound}
+use Rattle.xdp_machine.specs.xdp_maps.State.{MapState, IsSound}
 use Rattle.xdp_machine.specs.State.{Machine, PacketIn}
 use Rattle.xdp_machine.specs.Runs.{Leaves}
 use Rattle.xdp_machine.specs.MachineLaws.{LeavesInRange}
@@ -13,13 +13,13 @@ use Rattle.cell_core.specs.Sites.{SiteView, ProgramView, site_at, after, read_on
 use Rattle.cell_core.specs.Formed.{AreFormed, AreSited, IsBelow}
 use Rattle.cell_core.specs.Rows.{AreRows, last_row}
 use Rattle.operator_cells.specs.Making.{Grows, NumbersAreAlone}
-use Rattle.held_cells.specs.declared.held.Held.{Held}
-use Rattle.held_cells.specs.declared.way.Way.{Way}
-use Rattle.held_cells.specs.declared.way.Exit.{Exit}
-use Rattle.held_cells.specs.Paths.{GraphView, Stage, At, node_at, before, on_path, maps_in}
-use Rattle.held_cells.specs.Held.{PointerView, AreInside, AreHeld}
-use Rattle.held_cells.specs.Steps.{IsGood, IsHere, AreMade, IsLeft, DoAs}
-use Rattle.held_cells.specs.Law.{IsPacket, made_at, sites_below, sites_at}
+use Rattle.operator_cells.specs.declared.held_cells.held.Held.{Held}
+use Rattle.operator_cells.specs.declared.held_cells.way.Way.{Way}
+use Rattle.operator_cells.specs.declared.held_cells.way.Exit.{Exit}
+use Rattle.operator_cells.specs.HeldCells.Paths.{GraphView, Stage, At, node_at, before, on_path, maps_in}
+use Rattle.operator_cells.specs.HeldCells.Held.{PointerView, AreInside, AreHeld}
+use Rattle.operator_cells.specs.HeldCells.Steps.{IsGood, IsHere, AreMade, IsLeft, DoAs}
+use Rattle.operator_cells.specs.HeldCells.Law.{IsPacket, made_at, sites_below, sites_at}
 use Rattle.edge_cells.specs.Meeting.{Extends}
 use Rattle.predicate_core.specs.Buildable.{HasBits, AddsNoRow}
 

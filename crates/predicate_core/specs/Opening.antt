@@ -5,8 +5,8 @@ use Rattle.kind_core.specs.Kinds as kinds
 use Rattle.kind_core.specs.Kinds.{value_bytes}
 use Rattle.cell_core.specs.Cells.{CellView, IsRun}
 use Rattle.operator_cells.specs.Making.{Grows}
-use Rattle.held_cells.specs.declared.way.Way.{Way}
-use Rattle.held_cells.specs.Paths.{GraphView, node_at}
+use Rattle.operator_cells.specs.declared.held_cells.way.Way.{Way}
+use Rattle.operator_cells.specs.HeldCells.Paths.{GraphView, node_at}
 use Rattle.predicate_core.specs.Buildable.{AddsNoRow}
 use Rattle.predicate_core.specs.Making.{IsSoFar}
 

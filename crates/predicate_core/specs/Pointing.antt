@@ -1,17 +1,17 @@
 -- The pointers that are held while a program is made node by node.
 use Rattle.std.specs.Prelude.{ℕ, ◌≡◌, ◌<◌, ◌≤◌, true, List, length, All, Contains}
 use Rattle.std.specs.List.{AllPairs}
-use Rattle.xdp_maps.specs.declared.decl.MapDecl.{MapDecl}
+use Rattle.xdp_machine.specs.xdp_maps.declared.decl.MapDecl.{MapDecl}
 use Rattle.xdp_machine.specs.State.{PacketIn}
 use Rattle.kind_core.specs.declared.kind.Kinds.{Kinds}
 use Rattle.cell_core.specs.Cells.{CellView, IsRun, on}
 use Rattle.cell_core.specs.Sites.{site_at}
 use Rattle.operator_cells.specs.Following.{IsFollowed}
-use Rattle.held_cells.specs.declared.held.Held.{Held}
-use Rattle.held_cells.specs.declared.way.Way.{Way}
-use Rattle.held_cells.specs.Held.{PointerView, pointer_at}
-use Rattle.held_cells.specs.Pointing.{Pointing, HoldsPointer, IsSamePointer, AreLookedUp, is_access, IsLookupAccess, FoundsAre, HeldAre, PointerIs}
-use Rattle.step_cells.specs.Stepping.{MadeView}
+use Rattle.operator_cells.specs.declared.held_cells.held.Held.{Held}
+use Rattle.operator_cells.specs.declared.held_cells.way.Way.{Way}
+use Rattle.operator_cells.specs.HeldCells.Held.{PointerView, pointer_at}
+use Rattle.operator_cells.specs.HeldCells.Pointing.{Pointing, HoldsPointer, IsSamePointer, AreLookedUp, is_access, IsLookupAccess, FoundsAre, HeldAre, PointerIs}
+use Rattle.predicate_core.specs.StepCells.Stepping.{MadeView}
 
 -- With these numbers pointers into map m, those that are held and those of accesses, have number n.
 pub record PointInto (t : MadeView) (u : ℕ → ℕ) (m n : ℕ) : Type 0 where

@@ -1,12 +1,12 @@
 -- Programs in memory, node by node.
 use Rattle.std.specs.Prelude.{ℕ, ◌≡◌, ◌-◌, ◌<◌, List, [], ◌∷◌, ◌++◌, length, replicate, slice_index, get_or, map as map_list, All, Contains}
 use Rattle.operator_cells.specs.Making.{seen}
-use Rattle.held_cells.specs.declared.held.Held.{Held}
-use Rattle.held_cells.specs.declared.way.Way.{Way}
-use Rattle.held_cells.specs.Paths.{GraphView}
-use Rattle.held_cells.specs.Held.{pointed}
+use Rattle.operator_cells.specs.declared.held_cells.held.Held.{Held}
+use Rattle.operator_cells.specs.declared.held_cells.way.Way.{Way}
+use Rattle.operator_cells.specs.HeldCells.Paths.{GraphView}
+use Rattle.operator_cells.specs.HeldCells.Held.{pointed}
 use Rattle.edge_cells.specs.declared.joining.Here.{Here}
-use Rattle.step_cells.specs.site_cells.Sited.{sited}
+use Rattle.site_cells.specs.Sited.{sited}
 use Rattle.predicate_core.specs.declared.making.Progress.{Progress}
 use Rattle.predicate_core.specs.Making.{Making, IsSoFar, Arrives}
 use Rattle.predicate_core.specs.Feeding.{AreFed}

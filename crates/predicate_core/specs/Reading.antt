@@ -1,12 +1,12 @@
 -- The reads of a program while it is made node by node, and for what the cells stand that are pending of its maps.
 use Rattle.std.specs.Prelude.{ℕ, ◌≡◌, ◌<◌, ◌≤◌, true, List, [], length, slice_index, get_or}
-use Rattle.xdp_maps.specs.declared.decl.MapDecl.{MapDecl}
+use Rattle.xdp_machine.specs.xdp_maps.declared.decl.MapDecl.{MapDecl}
 use Rattle.xdp_machine.specs.State.{PacketIn}
 use Rattle.cell_core.specs.Cells.{CellView, IsRun, on}
 use Rattle.cell_core.specs.Sites.{ProgramView, site_at, records}
-use Rattle.held_cells.specs.declared.way.Way.{Way}
-use Rattle.held_cells.specs.Reading.{ReadsAreMade, AreRanks, BelongsTo, ReadsWait}
-use Rattle.step_cells.specs.Stepping.{MadeView}
+use Rattle.operator_cells.specs.declared.held_cells.way.Way.{Way}
+use Rattle.operator_cells.specs.HeldCells.Reading.{ReadsAreMade, AreRanks, BelongsTo, ReadsWait}
+use Rattle.predicate_core.specs.StepCells.Stepping.{MadeView}
 
 -- what has been made, as a program without an answer
 abbrev pub reading_of : MadeView → ProgramView

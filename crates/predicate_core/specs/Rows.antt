@@ -2,8 +2,8 @@
 use Rattle.std.specs.Prelude.{ℕ, ◌≤◌}
 use Rattle.xdp_machine.specs.Program.{XdpProgram}
 use Rattle.unfold_core.specs.declared.unfolding.Unfolded.{Unfolded}
-use Rattle.node_rows.specs.declared.stages.Stages.{Stages}
-use Rattle.node_rows.specs.Rows.{HasStages}
+use Rattle.operator_cells.specs.row_rules.declared.node_rows.stages.Stages.{Stages}
+use Rattle.operator_cells.specs.row_rules.NodeRows.Rows.{HasStages}
 use Rattle.cell_core.specs.Sites.{ProgramView}
 use Rattle.cell_core.specs.Rows.{AreRows, last_row, record_count}
 

@@ -6,21 +6,21 @@ use Rattle.unfold_core.specs.declared.links.Edge.{Edge}
 use Rattle.unfold_core.specs.declared.unfolding.Unfolded.{Unfolded}
 use Rattle.cell_core.specs.Cells.{CellView}
 use Rattle.cell_core.specs.Rows.{AreRows, node_row, record_count}
-use Rattle.held_cells.specs.place_rows.declared.origin.Origin.{Origin}
-use Rattle.held_cells.specs.place_rows.Spans.{pending_place}
-use Rattle.held_cells.specs.place_rows.Origins.{row_at, every_row, by_place, origin_at_start}
-use Rattle.node_rows.specs.declared.joining.Arrival.{Arrival}
-use Rattle.node_rows.specs.declared.node.Behind.{Behind}
-use Rattle.node_rows.specs.Joining.{edge_row, origins_at}
-use Rattle.node_rows.specs.Rows.{point_at, insn_of, known_behind, arrivals_of, behind_node, rows_of, row_of_node, may_write}
+use Rattle.operator_cells.specs.row_rules.declared.place_rows.origin.Origin.{Origin}
+use Rattle.operator_cells.specs.row_rules.PlaceRows.Spans.{pending_place}
+use Rattle.operator_cells.specs.row_rules.PlaceRows.Origins.{row_at, every_row, by_place, origin_at_start}
+use Rattle.operator_cells.specs.row_rules.declared.node_rows.joining.Arrival.{Arrival}
+use Rattle.operator_cells.specs.row_rules.declared.node_rows.node.Behind.{Behind}
+use Rattle.operator_cells.specs.row_rules.NodeRows.Joining.{edge_row, origins_at}
+use Rattle.operator_cells.specs.row_rules.NodeRows.Rows.{point_at, insn_of, known_behind, arrivals_of, behind_node, rows_of, row_of_node, may_write}
 use Rattle.operator_cells.specs.Making.{seen}
-use Rattle.held_cells.specs.declared.held.Held.{Held}
-use Rattle.held_cells.specs.declared.way.Way.{Way}
-use Rattle.held_cells.specs.Held.{PointerView, pointed}
-use Rattle.held_cells.specs.Law.{made_at}
-use Rattle.held_cells.specs.Rows.{number_at, held_row}
-use Rattle.step_cells.specs.site_cells.Sited.{sited}
-use Rattle.step_cells.specs.Rows.{AreWithin}
+use Rattle.operator_cells.specs.declared.held_cells.held.Held.{Held}
+use Rattle.operator_cells.specs.declared.held_cells.way.Way.{Way}
+use Rattle.operator_cells.specs.HeldCells.Held.{PointerView, pointed}
+use Rattle.operator_cells.specs.HeldCells.Law.{made_at}
+use Rattle.operator_cells.specs.HeldCells.Rows.{number_at, held_row}
+use Rattle.site_cells.specs.Sited.{sited}
+use Rattle.predicate_core.specs.StepCells.Rows.{AreWithin}
 use Rattle.predicate_core.specs.declared.making.Progress.{Progress}
 use Rattle.predicate_core.specs.Progress.{pending_of}
 

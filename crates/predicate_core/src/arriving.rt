@@ -4,9 +4,9 @@ ghost use Rattle.std.specs.Prelude.{ℕ, ◌<◌, ◌≤◌, List, length, IfOk,
 ghost use Rattle.cell_core.specs.Formed.{AreFormed};
 ghost use Rattle.operator_cells.specs.Making.{seen};
 ghost use Rattle.operator_cells.specs.Rising.{Rises};
-ghost use Rattle.held_cells.specs.declared.way.Way.{Way};
-ghost use Rattle.held_cells.specs.Held.{pointed};
-ghost use Rattle.held_cells.specs.Rows.{JoinsTo};
+ghost use Rattle.operator_cells.specs.declared.held_cells.way.Way.{Way};
+ghost use Rattle.operator_cells.specs.HeldCells.Held.{pointed};
+ghost use Rattle.operator_cells.specs.HeldCells.Rows.{JoinsTo};
 ghost use Rattle.edge_cells.specs.Widening.{AreWider, AreFilled};
 ghost use Rattle.edge_cells.specs.Meeting.{AreWays};
 ghost use Rattle.edge_cells.specs.Joining.{LeadTo};
@@ -16,12 +16,12 @@ ghost use Rattle.predicate_core.specs.Pointing.{ArrivePoints};
 use cell_core::cell::Cell;
 use edge_cells::joining::{Here, join};
 use edge_cells::laws::here_is_right;
-use held_cells::held::Pointer;
-use held_cells::way::Way;
 use kind_core::Kinds;
 use operator_cells::cells::copy_bit;
+use operator_cells::held_cells::held::Pointer;
+use operator_cells::held_cells::way::Way;
 use std::alloc::AllocError;
-use xdp_maps::decl::MapDecl;
+use xdp_machine::xdp_maps::decl::MapDecl;
 
 // A bit that a node makes itself: the bit of its only edge once more.
 fn own(cells: &mut Vec<Cell>, first: usize, bit: u32) -> Result<u32, AllocError>

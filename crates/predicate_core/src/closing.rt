@@ -5,7 +5,7 @@ ghost use Rattle.xdp_machine.specs.Arithmetic.{low};
 ghost use Rattle.cell_core.specs.Formed.{AreFormed};
 ghost use Rattle.cell_core.specs.Cells.{cell_at};
 ghost use Rattle.operator_cells.specs.Making.{seen, Makes, MakesIf};
-ghost use Rattle.held_cells.specs.Held.{number_of, IsThere};
+ghost use Rattle.operator_cells.specs.HeldCells.Held.{number_of, IsThere};
 ghost use Rattle.predicate_core.specs.Buildable.{HasBits, AddsNoRow};
 ghost use Rattle.predicate_core.specs.Making.{Answers};
 ghost use Rattle.predicate_core.specs.Opening.{HaveBytes};
@@ -13,9 +13,9 @@ ghost use Rattle.predicate_core.specs.Closing.{output_of, bits_of, IsOutput, End
 
 use cell_core::cell::Cell;
 use cell_core::program::FrameByte;
-use held_cells::way::Exit;
 use kind_core::Number;
 use operator_cells::cells::{constant, slice};
+use operator_cells::held_cells::way::Exit;
 use operator_cells::joining::{Arm, choose};
 use operator_cells::laws::choice_is_right;
 use std::alloc::AllocError;

@@ -52,7 +52,7 @@ pub fn steps_stay()
 pub fn arrivals_fit()
     ensures { ArrivalsFit }
 {
-    program_graph::laws::graphs_are_sound();
+    crate::program_graph::laws::graphs_are_sound();
     sound_graphs_feed();
 }
 

@@ -1,4 +1,5 @@
-//! Programs as predicated cells: all nodes of a program at once, with guards that say which of them are the path of a packet.
+//! Programs as predicated cells, node by node, and the law of whole programs.
+//! `program_graph` has the graph by the numbers of its nodes, `step_cells` the code of one node.
 #![tactic(auto)]
 
 pub mod arriving;
@@ -7,3 +8,5 @@ pub mod laws;
 pub mod making;
 pub mod opening;
 pub mod program;
+pub mod program_graph;
+pub mod step_cells;

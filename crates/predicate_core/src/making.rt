@@ -6,15 +6,15 @@ ghost use Rattle.cell_core.specs.Sites.{site_at};
 ghost use Rattle.cell_core.specs.Formed.{IsBelow};
 ghost use Rattle.operator_cells.specs.Making.{seen, Grows};
 ghost use Rattle.operator_cells.specs.Joining.{AreThere};
-ghost use Rattle.held_cells.specs.Paths.{node_at};
-ghost use Rattle.held_cells.specs.Held.{pointed};
-ghost use Rattle.held_cells.specs.declared.way.Way.{Way};
+ghost use Rattle.operator_cells.specs.HeldCells.Paths.{node_at};
+ghost use Rattle.operator_cells.specs.HeldCells.Held.{pointed};
+ghost use Rattle.operator_cells.specs.declared.held_cells.way.Way.{Way};
 ghost use Rattle.edge_cells.specs.Joining.{LeadTo};
-ghost use Rattle.program_graph.specs.node_cells.Ends.{IsNode, HasEnds};
-ghost use Rattle.step_cells.specs.site_cells.Sited.{sited};
-ghost use Rattle.step_cells.specs.Stepping.{made_of};
+ghost use Rattle.edge_cells.specs.NodeCells.Ends.{IsNode, HasEnds};
+ghost use Rattle.site_cells.specs.Sited.{sited};
+ghost use Rattle.predicate_core.specs.StepCells.Stepping.{made_of};
 ghost use Rattle.unfold_core.specs.Unfolding.{IsUnfolded};
-ghost use Rattle.program_graph.specs.Graphs.{graph_of};
+ghost use Rattle.predicate_core.specs.ProgramGraph.Graphs.{graph_of};
 ghost use Rattle.predicate_core.specs.Gathering.{arms_of, GathersTo, PassesTo};
 ghost use Rattle.predicate_core.specs.Stages.{FitSoFar, ComesWithin};
 ghost use Rattle.predicate_core.specs.Pointing.{PointSoFar, ArrivePoints};
@@ -26,22 +26,22 @@ use crate::laws::{
     arrivals_fit, arrivals_stay, nodes_fit, nodes_follow, nodes_point, nodes_read,
     sound_graphs_feed, steps_stay,
 };
-use bpf_isa::Insn;
+use crate::program_graph::NodeEnds;
+use crate::program_graph::laws::graphs_are_sound;
+use crate::step_cells::laws::nodes_bring;
+use crate::step_cells::made::Made;
+use crate::step_cells::pending::{pending_at, pending_behind};
+use crate::step_cells::stepping::step_node;
 use cell_core::cell::{Cell, Cells};
 use cell_core::program::Node;
 use cell_core::site::Site;
 use edge_cells::joining::Here;
-use held_cells::way::Way;
+use operator_cells::held_cells::way::Way;
 use operator_cells::joining::Arm;
-use program_graph::NodeEnds;
-use program_graph::laws::graphs_are_sound;
 use smallvec::SmallVec;
 use std::alloc::{AllocError, Global};
-use step_cells::laws::nodes_bring;
-use step_cells::made::Made;
-use step_cells::pending::{pending_at, pending_behind};
-use step_cells::stepping::step_node;
 use unfold_core::Unfolded;
+use xdp_machine::bpf_isa::Insn;
 use xdp_object::Program;
 
 /// Edges by their numbers. Mostly one or two lead to a node.

@@ -6,10 +6,10 @@ ghost use Rattle.predicate_core.specs.Opening.{AreBytes, Opens};
 
 use cell_core::cell::Cell;
 use cell_core::operator::Operator;
-use held_cells::held::Held;
-use held_cells::way::Way;
 use kind_core::Kinds;
 use operator_cells::cells::{constant, operate};
+use operator_cells::held_cells::held::Held;
+use operator_cells::held_cells::way::Way;
 use std::alloc::AllocError;
 
 // The first bytes of the packet.

@@ -3,10 +3,10 @@
 ghost use Rattle.std.specs.Prelude.{ℕ, ◌≡◌, ◌<◌, ◌≤◌, true, is_some, Some, None, [], ◌∷◌, length, map as map_list, slice_index_or, IfOk, OnOk};
 ghost use Rattle.cell_core.specs.View.{program_of};
 ghost use Rattle.operator_cells.specs.Making.{seen, Grows};
-ghost use Rattle.held_cells.specs.Law.{IsLaw};
+ghost use Rattle.operator_cells.specs.HeldCells.Law.{IsLaw};
 ghost use Rattle.unfold_core.specs.Unfolding.{IsUnfolded};
-ghost use Rattle.step_cells.specs.Stepping.{made_of};
-ghost use Rattle.program_graph.specs.Graphs.{graph_of};
+ghost use Rattle.predicate_core.specs.StepCells.Stepping.{made_of};
+ghost use Rattle.predicate_core.specs.ProgramGraph.Graphs.{graph_of};
 ghost use Rattle.predicate_core.specs.Buildable.{AddsNoRow, IsBuildable};
 ghost use Rattle.predicate_core.specs.Pointing.{PointSoFar};
 ghost use Rattle.predicate_core.specs.Reading.{ReadSoFar};
@@ -18,15 +18,15 @@ use crate::closing::close;
 use crate::laws::{opens_follow, opens_point, opens_read, sound_graphs_feed, wholes_compute};
 use crate::making::{Numbers, Progress, make_node};
 use crate::opening::open;
-use bpf_isa::Insn;
+use crate::program_graph::ends;
+use crate::program_graph::laws::{graphs_are_sound, nodes_have_insns};
+use crate::step_cells::made::Made;
 use cell_core::cell::{Cell, Cells};
 use cell_core::program::CellProgram;
 use operator_cells::cells::pending;
-use program_graph::ends;
-use program_graph::laws::{graphs_are_sound, nodes_have_insns};
 use std::alloc::{AllocError, Global};
-use step_cells::made::Made;
 use unfold_core::{Unfolded, places};
+use xdp_machine::bpf_isa::Insn;
 use xdp_object::Program;
 
 // The instruction that begins at a place.

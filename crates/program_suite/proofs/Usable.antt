@@ -1,9 +1,9 @@
 -- A pipe can be built of cells that can be built.
 use Rattle.std.proofs.Common.{◌<◌, ◌^◌, List, length}
 use Rattle.std.proofs.lemmas.List.Elements.{All-contains}
-use Rattle.xdp_maps.specs.declared.decl.MapDecl.{MapDecl}
-use Rattle.cell_core.specs.Sites.{ProgramView}
-use Rattle.cell_core.specs.Formed.{AreFormed, AreSited}
+use Rattle.xdp_object.specs.xdp_maps.declared.decl.MapDecl.{MapDecl}
+use Rattle.row_rules.specs.cell_core.Sites.{ProgramView}
+use Rattle.row_rules.specs.cell_core.Formed.{AreFormed, AreSited}
 use Rattle.predicate_core.specs.Buildable.{IsBuildable, HasBits}
 use Rattle.pipe_core.specs.Planned.{IsUsable}
 

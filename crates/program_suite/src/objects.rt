@@ -2,10 +2,10 @@
 
 use crate::units::push_insns;
 use anyhow::Result;
+use row_plan::cell_core::xdp_state::xdp_maps::decl::MapDecl;
 use std::alloc::Global;
 use std::fmt::Write;
 use std::str;
-use xdp_maps::decl::MapDecl;
 use xdp_object::{Choice, Program, read_object, two_units};
 
 /// The most keys of a hash.

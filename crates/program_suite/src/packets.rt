@@ -5,13 +5,13 @@ ghost use Rattle.unfold_core.specs.Unfolding.{IsUnfolded};
 use crate::cases::refusal::push_refusal;
 use crate::cases::tables::push_maps;
 use anyhow::{Context, Result};
-use beat_core::{Frame, Meta};
-use cell_core::program::PacketIn;
-use node_rows::count_stages;
+use row_plan::cell_core::program::PacketIn;
+use row_plan::cell_core::xdp_state::beat_core::{Frame, Meta};
+use row_plan::cell_core::xdp_state::xdp_maps::state::Maps;
+use row_rules::node_rows::count_stages;
 use std::alloc::{AllocError, Global};
 use std::fmt::Write;
 use unfold_core::{Unfolded, unfold};
-use xdp_maps::state::Maps;
 use xdp_object::Program;
 use xdp_seq::{SeqPlan, run_packet};
 

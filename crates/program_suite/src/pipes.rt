@@ -1,8 +1,8 @@
 //! Cases of programs in a pipe, beside their runs.
 
 ghost use Rattle.std.specs.Prelude.{◌≡◌, IfOk};
-ghost use Rattle.cell_core.specs.Formed.{AreFormed, AreSited};
-ghost use Rattle.cell_core.specs.View.{program_of};
+ghost use Rattle.row_rules.specs.cell_core.Formed.{AreFormed, AreSited};
+ghost use Rattle.row_rules.specs.cell_core.View.{program_of};
 ghost use Rattle.predicate_core.specs.Buildable.{IsBuildable};
 ghost use Rattle.row_plan.specs.Plan.{IsPlan};
 
@@ -14,15 +14,15 @@ use crate::packets::{push_runs, push_stages};
 use crate::pipes::drive::{Given, drive};
 use crate::pipes::ways::{WAYS, Way};
 use anyhow::{Result, ensure};
-use cell_core::program::{CellProgram, PacketIn};
 use kind_core::BuildError;
 use pipe_core::bound::clock_bound;
 use predicate_core::program::to_cells;
+use row_plan::cell_core::program::{CellProgram, PacketIn};
+use row_plan::cell_core::xdp_state::xdp_maps::state::Maps;
 use row_plan::{RowPlan, plan};
 use std::alloc::{AllocError, Global};
 use std::fmt::Write;
 use unfold_core::unfold;
-use xdp_maps::state::Maps;
 use xdp_object::Program;
 
 /// Adds what packets leave one after another by the runs of a program, and where a pipe of its cells gives something else. Where it is

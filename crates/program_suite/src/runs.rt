@@ -1,11 +1,11 @@
 //! Cases of the sequential machine.
 
 use anyhow::Result;
-use beat_core::{Frame, Meta};
 use byteorder::{ByteOrder, LittleEndian};
+use row_plan::cell_core::xdp_state::beat_core::{Frame, Meta};
+use row_plan::cell_core::xdp_state::xdp_maps::state::Maps;
 use std::alloc::{AllocError, Global};
 use std::fmt::Write;
-use xdp_maps::state::Maps;
 use xdp_object::Program;
 use xdp_seq::{Ended, SeqError, SeqPlan, run_packet};
 

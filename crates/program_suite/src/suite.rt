@@ -6,8 +6,8 @@ use crate::cases::numbers::{front, number, number_32};
 use crate::cases::tables::{Tables, push_maps};
 use crate::{graph, objects, packets, pipes, runs, units};
 use anyhow::{Result, bail, ensure};
-use beat_core::{FRAME_LIMIT, Frame, Meta};
-use cell_core::program::PacketIn;
+use row_plan::cell_core::program::PacketIn;
+use row_plan::cell_core::xdp_state::beat_core::{FRAME_LIMIT, Frame, Meta};
 use std::alloc::Global;
 use xdp_object::Program;
 

@@ -1,7 +1,7 @@
 //! Cases of instructions and their bytes.
 
 use anyhow::{Result, bail};
-use bpf_isa::{DecodeError, Insn, decode_all};
+use row_plan::cell_core::xdp_state::bpf_isa::{DecodeError, Insn, decode_all};
 use std::alloc::{AllocError, Global};
 use std::fmt::Write;
 

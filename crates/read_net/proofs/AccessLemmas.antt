@@ -2,17 +2,17 @@
 use Rattle.std.proofs.Common.{◌∙◌, ℕ, suc, ◌<◌, All, List, [], ◌∷◌, length, get_or, sym, ap, subst, arith}
 use Rattle.std.proofs.lemmas.List.{length-map}
 use Rattle.std.proofs.lemmas.List.Elements.{All-append}
-use Rattle.site_operands.specs.cell_nets.net_core.Value.{Env}
-use Rattle.cell_core.specs.Formed.{HasWords, IsInside}
-use Rattle.cell_core.specs.Sites.{ProgramView}
-use Rattle.site_operands.specs.hazard_core.Held.{Held}
-use Rattle.site_operands.specs.hazard_core.Tables.{TableState}
-use Rattle.site_operands.specs.cell_nets.declared.operand.Operand.{Operand}
-use Rattle.site_operands.specs.cell_nets.Operands.{IsOperand}
-use Rattle.site_operands.specs.declared.Pending.{Pending}
+use Rattle.block_core.specs.net_core.Value.{Env}
+use Rattle.overlay_net.specs.cell_core.Formed.{HasWords, IsInside}
+use Rattle.overlay_net.specs.cell_core.Sites.{ProgramView}
+use Rattle.pipe_core.specs.hazard_core.Held.{Held}
+use Rattle.pipe_core.specs.hazard_core.Tables.{TableState}
+use Rattle.overlay_net.specs.cell_nets.declared.operand.Operand.{Operand}
+use Rattle.overlay_net.specs.cell_nets.Operands.{IsOperand}
+use Rattle.overlay_net.specs.declared.site_operands.Pending.{Pending}
 use Rattle.overlay_net.specs.Seen.{read_of, all_read, IsSeen, ShowPending}
-use Rattle.value_net.specs.Pendings.{taken_of, all_taken, IsFitting as FitsValue, IsOf, AreOf, ShowPendings}
-use Rattle.value_net.specs.Words.{IsAligned}
+use Rattle.overlay_net.specs.ValueNet.Pendings.{taken_of, all_taken, IsFitting as FitsValue, IsOf, AreOf, ShowPendings}
+use Rattle.overlay_net.specs.ValueNet.Words.{IsAligned}
 use Rattle.read_net.specs.declared.sites.OwnSite.{OwnSite}
 use Rattle.read_net.specs.declared.sites.MapNets.{MapNets}
 use Rattle.read_net.specs.Sites.{sites_of, IsOwn, AreSeenOf}

@@ -1,15 +1,15 @@
 -- The keys that sites ask for.
 use Rattle.std.proofs.Common.{◌≡◌, ◌∙◌, ℕ, List, refl, sym, ap, map as map_list}
-use Rattle.site_operands.specs.cell_nets.net_core.Value.{Env}
-use Rattle.xdp_maps.specs.declared.decl.MapDecl.{MapDecl}
-use Rattle.xdp_maps.specs.Operations.{key_in}
-use Rattle.cell_core.specs.declared.site.Act.{Act}
-use Rattle.cell_core.specs.declared.site.Act.TheVariants as act
-use Rattle.cell_core.specs.Sites.{ProgramView, site_at, bytes_of, operation_with}
-use Rattle.site_operands.specs.hazard_core.Tables.{TableState, decl_of, table_at}
-use Rattle.site_operands.specs.hazard_core.Held.{Held, held_value, asked_key, slot_pointer}
-use Rattle.site_operands.specs.cell_nets.declared.operand.Operand.{Operand}
-use Rattle.site_operands.specs.Pointers.{pointer_number}
+use Rattle.block_core.specs.net_core.Value.{Env}
+use Rattle.overlay_net.specs.xdp_maps.declared.decl.MapDecl.{MapDecl}
+use Rattle.overlay_net.specs.xdp_maps.Operations.{key_in}
+use Rattle.overlay_net.specs.cell_core.declared.site.Act.{Act}
+use Rattle.overlay_net.specs.cell_core.declared.site.Act.TheVariants as act
+use Rattle.overlay_net.specs.cell_core.Sites.{ProgramView, site_at, bytes_of, operation_with}
+use Rattle.pipe_core.specs.hazard_core.Tables.{TableState, decl_of, table_at}
+use Rattle.pipe_core.specs.hazard_core.Held.{Held, held_value, asked_key, slot_pointer}
+use Rattle.overlay_net.specs.cell_nets.declared.operand.Operand.{Operand}
+use Rattle.overlay_net.specs.SiteOperands.Pointers.{pointer_number}
 use Rattle.overlay_net.specs.Reading.{ShowsSlot}
 
 pub key_is : (d : MapDecl) (a : Act) (ks xs : List ℕ) → key_in (operation_with d a ks xs) ≡ bytes_of d.key ks

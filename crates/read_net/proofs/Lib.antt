@@ -1,4 +1,3 @@
-pub use Rattle.step_nets.proofs as step_nets_laws
 pub mod StandLemmas
 pub mod SiteLemmas
 pub mod PendingLemmas
@@ -6,3 +5,5 @@ pub mod ReadLemmas
 pub mod UsedLemmas
 pub mod AccessLemmas
 pub mod KeyLaws
+pub mod MarkNet
+pub mod TouchNet

@@ -2,17 +2,17 @@
 use Rattle.std.proofs.Common.{◌≡◌, ◌∙◌, ℕ, ◌+◌, ◌<◌, All, List, [], ◌∷◌, ◌++◌, length, get_or, sym, subst, arith}
 use Rattle.std.proofs.lemmas.List.{length-map}
 use Rattle.std.proofs.lemmas.List.Elements.{All-append}
-use Rattle.site_operands.specs.cell_nets.net_core.Value.{Env}
+use Rattle.block_core.specs.net_core.Value.{Env}
 use Rattle.block_core.specs.declared.name.Name.{Name}
 use Rattle.block_core.specs.Blocks.{BlockWireTree}
-use Rattle.cell_core.specs.Sites.{ProgramView}
-use Rattle.site_operands.specs.hazard_core.Held.{Held}
-use Rattle.site_operands.specs.hazard_core.Tables.{TableState}
-use Rattle.site_operands.specs.cell_nets.Operands.{IsAvailable}
-use Rattle.site_operands.specs.declared.Pending.{Pending}
+use Rattle.overlay_net.specs.cell_core.Sites.{ProgramView}
+use Rattle.pipe_core.specs.hazard_core.Held.{Held}
+use Rattle.pipe_core.specs.hazard_core.Tables.{TableState}
+use Rattle.overlay_net.specs.cell_nets.Operands.{IsAvailable}
+use Rattle.overlay_net.specs.declared.site_operands.Pending.{Pending}
 use Rattle.overlay_net.specs.Seen.{read_of, all_read, IsOf, ShowsPending, AreOf, ShowPending}
-use Rattle.step_nets.specs.Standing.{Stands}
-use Rattle.step_nets.proofs.ChainLaws.{starts}
+use Rattle.overlay_net.specs.cell_nets.StepNets.Standing.{Stands}
+use Rattle.overlay_net.proofs.cell_nets_laws.StepNets.ChainLaws.{starts}
 use Rattle.read_net.specs.declared.sites.OwnSite.{OwnSite}
 use Rattle.read_net.specs.declared.sites.MapNets.{MapNets}
 use Rattle.read_net.specs.Sites.{cells_of, all_cells, slot_cells, sites_of, IsOwn, ShowsOwn, ShowsTable, AreSeenOf}

@@ -3,25 +3,25 @@ use Rattle.std.specs.Prelude.{not}
 use Rattle.std.proofs.Common.{◌≡◌, ◌∙◌, ℕ, zero, suc, ◌+◌, ◌*◌, ◌<◌, ◌==◌, Bool, true, false, All, List, [], ◌∷◌, ◌++◌, refl, sym, ap, subst, arith}
 use Rattle.std.proofs.lemmas.Bool.{eqb-true, and_parts}
 use Rattle.std.proofs.lemmas.List.Elements.{filter_passes}
-use Rattle.site_operands.specs.cell_nets.net_core.Value.{Env}
-use Rattle.cell_core.specs.xdp_machine.State.{PacketIn}
+use Rattle.block_core.specs.net_core.Value.{Env}
+use Rattle.overlay_net.specs.xdp_machine.State.{PacketIn}
 use Rattle.block_core.specs.declared.name.Name.{Name}
 use Rattle.block_core.specs.Blocks.{BlockWireTree}
-use Rattle.cell_core.specs.Cells.{CellView, bit, on, bits_from}
-use Rattle.cell_core.specs.Rows.{numbers}
-use Rattle.cell_core.specs.Sites.{ProgramView, site_at}
-use Rattle.site_operands.specs.hazard_core.Tables.{TableState}
-use Rattle.site_operands.specs.hazard_core.declared.pointer.Pointer.{Pointer}
-use Rattle.site_operands.specs.hazard_core.declared.pointer.Pointer.TheVariants.{Null, InSlot, Pending}
-use Rattle.site_operands.specs.hazard_core.Held.{Held, is_null, is_pending, pending}
-use Rattle.site_operands.specs.hazard_core.Overlay.{found_pointer, answer_over}
-use Rattle.site_operands.specs.cell_nets.declared.operand.Operand.{Operand}
-use Rattle.site_operands.specs.cell_nets.Operands.{number_in, IsAvailable}
-use Rattle.site_operands.specs.cell_nets.Wires.{always, Gives}
-use Rattle.site_operands.specs.Pointers.{pointer_number}
+use Rattle.overlay_net.specs.cell_core.Cells.{CellView, bit, on, bits_from}
+use Rattle.overlay_net.specs.cell_core.Rows.{numbers}
+use Rattle.overlay_net.specs.cell_core.Sites.{ProgramView, site_at}
+use Rattle.pipe_core.specs.hazard_core.Tables.{TableState}
+use Rattle.pipe_core.specs.hazard_core.declared.pointer.Pointer.{Pointer}
+use Rattle.pipe_core.specs.hazard_core.declared.pointer.Pointer.TheVariants.{Null, InSlot, Pending}
+use Rattle.pipe_core.specs.hazard_core.Held.{Held, is_null, is_pending, pending}
+use Rattle.pipe_core.specs.hazard_core.Overlay.{found_pointer, answer_over}
+use Rattle.overlay_net.specs.cell_nets.declared.operand.Operand.{Operand}
+use Rattle.overlay_net.specs.cell_nets.Operands.{number_in, IsAvailable}
+use Rattle.overlay_net.specs.cell_nets.Wires.{always, Gives}
+use Rattle.overlay_net.specs.SiteOperands.Pointers.{pointer_number}
 use Rattle.overlay_net.specs.Seen.{all_read}
-use Rattle.step_nets.specs.Standing.{Stands}
-use Rattle.step_nets.proofs.ChainLaws.{next, ends}
+use Rattle.overlay_net.specs.cell_nets.StepNets.Standing.{Stands}
+use Rattle.overlay_net.proofs.cell_nets_laws.StepNets.ChainLaws.{next, ends}
 use Rattle.read_net.specs.declared.finding.FoundNets.{FoundNets}
 use Rattle.read_net.specs.declared.sites.OwnSite.{OwnSite}
 use Rattle.read_net.specs.declared.sites.MapNets.{MapNets}

@@ -3,15 +3,15 @@ use Rattle.std.proofs.Common.{◌≡◌, ◌∙◌, ◌⊎◌, inl, inr, ℕ, ze
 use Rattle.std.proofs.lemmas.Bool.{cases_lt}
 use Rattle.std.proofs.lemmas.List.{get_or-map, get_or_append_left, get_or_default, get_or_push, length-map}
 use Rattle.std.proofs.lemmas.List.Elements.{All-append}
-use Rattle.site_operands.specs.cell_nets.net_core.Value.{Env}
-use Rattle.xdp_maps.specs.declared.decl.MapDecl.{MapDecl}
-use Rattle.cell_core.specs.Sites.{ProgramView, site_at, bytes_of}
-use Rattle.site_operands.specs.hazard_core.Tables.{TableState, decl_of}
-use Rattle.site_operands.specs.hazard_core.Held.{Held, held_value, asked_key}
-use Rattle.site_operands.specs.cell_nets.declared.operand.Operand.{Operand}
-use Rattle.site_operands.specs.cell_nets.Operands.{number_in}
-use Rattle.site_operands.specs.Sites.{SiteOperands, all_of, ShowsAsked}
-use Rattle.site_operands.specs.declared.Pending.{Pending}
+use Rattle.block_core.specs.net_core.Value.{Env}
+use Rattle.overlay_net.specs.xdp_maps.declared.decl.MapDecl.{MapDecl}
+use Rattle.overlay_net.specs.cell_core.Sites.{ProgramView, site_at, bytes_of}
+use Rattle.pipe_core.specs.hazard_core.Tables.{TableState, decl_of}
+use Rattle.pipe_core.specs.hazard_core.Held.{Held, held_value, asked_key}
+use Rattle.overlay_net.specs.cell_nets.declared.operand.Operand.{Operand}
+use Rattle.overlay_net.specs.cell_nets.Operands.{number_in}
+use Rattle.overlay_net.specs.SiteOperands.Sites.{SiteOperands, all_of, ShowsAsked}
+use Rattle.overlay_net.specs.declared.site_operands.Pending.{Pending}
 use Rattle.overlay_net.specs.Seen.{read_of, all_read}
 use Rattle.read_net.specs.declared.sites.OwnSite.{OwnSite}
 use Rattle.read_net.specs.Sites.{cells_of, all_cells, sites_of}

@@ -1,16 +1,16 @@
 -- Steps that give several operands, one behind another.
 use Rattle.std.proofs.Common.{zero, suc, All, List, [], ◌∷◌, ◌++◌, arith}
 use Rattle.std.proofs.lemmas.List.Elements.{All-append}
-use Rattle.site_operands.specs.cell_nets.net_core.Value.{Env}
+use Rattle.block_core.specs.net_core.Value.{Env}
 use Rattle.block_core.specs.declared.name.Name.{Name}
 use Rattle.block_core.specs.Blocks.{BlockWireTree}
-use Rattle.site_operands.specs.cell_nets.declared.operand.Operand.{Operand}
-use Rattle.site_operands.specs.cell_nets.declared.operand.Operand.TheVariants.{Known}
-use Rattle.site_operands.specs.cell_nets.Operands.{IsAvailable}
-use Rattle.site_operands.specs.cell_nets.Wires.{behind}
-use Rattle.site_operands.proofs.cell_nets_laws.ApartLemmas.{stay_none, stay_as, stay_next}
-use Rattle.step_nets.specs.Standing.{Stands}
-use Rattle.step_nets.proofs.ChainLaws.{starts}
+use Rattle.overlay_net.specs.cell_nets.declared.operand.Operand.{Operand}
+use Rattle.overlay_net.specs.cell_nets.declared.operand.Operand.TheVariants.{Known}
+use Rattle.overlay_net.specs.cell_nets.Operands.{IsAvailable}
+use Rattle.overlay_net.specs.cell_nets.Wires.{behind}
+use Rattle.overlay_net.proofs.cell_nets_laws.ApartLemmas.{stay_none, stay_as, stay_next}
+use Rattle.overlay_net.specs.cell_nets.StepNets.Standing.{Stands}
+use Rattle.overlay_net.proofs.cell_nets_laws.StepNets.ChainLaws.{starts}
 
 -- ---- what is said of each operand
 module _ {X : Type 0} (Q : X → Type 0) where

@@ -4,13 +4,13 @@ use Rattle.std.proofs.Common.{◌≡◌, ◌∙◌, ℕ, suc, ◌<◌, ◌≤◌
 use Rattle.std.proofs.lemmas.Bool.{and_parts}
 use Rattle.std.proofs.lemmas.List.Sums.{length-filter}
 use Rattle.std.specs.Str.{bytes_eq}
-use Rattle.xdp_maps.specs.Contents.{IsWithinLimits, limits_as, index_key}
-use Rattle.xdp_maps.specs.declared.decl.MapDecl.{MapDecl}
-use Rattle.xdp_maps.specs.declared.decl.MapKind.{MapKind}
-use Rattle.xdp_maps.specs.declared.decl.MapKind.TheVariants.{Hash, Array}
-use Rattle.site_operands.specs.hazard_core.declared.slot.Slot.{Slot}
-use Rattle.site_operands.specs.hazard_core.Tables.{slot_at, has_key, used_count}
-use Rattle.site_operands.specs.hazard_core.Tabled.{IsTable, IsFilledTable}
+use Rattle.overlay_net.specs.xdp_maps.Contents.{IsWithinLimits, limits_as, index_key}
+use Rattle.overlay_net.specs.xdp_maps.declared.decl.MapDecl.{MapDecl}
+use Rattle.overlay_net.specs.xdp_maps.declared.decl.MapKind.{MapKind}
+use Rattle.overlay_net.specs.xdp_maps.declared.decl.MapKind.TheVariants.{Hash, Array}
+use Rattle.pipe_core.specs.hazard_core.declared.slot.Slot.{Slot}
+use Rattle.pipe_core.specs.hazard_core.Tables.{slot_at, has_key, used_count}
+use Rattle.pipe_core.specs.hazard_core.Tabled.{IsTable, IsFilledTable}
 
 kept : (slots : List Slot) (keys : ℕ → List ℕ) → ((n : ℕ) → n < length slots → has_key (keys n) (slot_at slots n) ≡ true) → length (filter (λ (s : Slot). s.used) slots) ≡ length slots
 kept [] keys h = refl

@@ -1,15 +1,15 @@
 -- What an access takes besides: operations that fit the values of its map, and a word of the table.
 use Rattle.std.specs.Prelude.{◌≡◌, ℕ, All, List, length}
-use Rattle.site_operands.specs.cell_nets.net_core.Value.{Env}
-use Rattle.cell_core.specs.Formed.{HasWords, IsInside}
-use Rattle.cell_core.specs.Sites.{ProgramView, site_at}
-use Rattle.site_operands.specs.hazard_core.Tables.{TableState, table_at, slot_at}
-use Rattle.site_operands.specs.hazard_core.Commits.{word_at}
-use Rattle.site_operands.specs.hazard_core.declared.pointer.Pointer.{Pointer}
-use Rattle.site_operands.specs.hazard_core.declared.pointer.Pointer.TheVariants.{InSlot}
-use Rattle.site_operands.specs.cell_nets.declared.operand.Operand.{Operand}
-use Rattle.site_operands.specs.cell_nets.Operands.{number_in}
-use Rattle.value_net.specs.Words.{IsAligned}
+use Rattle.block_core.specs.net_core.Value.{Env}
+use Rattle.overlay_net.specs.cell_core.Formed.{HasWords, IsInside}
+use Rattle.overlay_net.specs.cell_core.Sites.{ProgramView, site_at}
+use Rattle.pipe_core.specs.hazard_core.Tables.{TableState, table_at, slot_at}
+use Rattle.pipe_core.specs.hazard_core.Commits.{word_at}
+use Rattle.pipe_core.specs.hazard_core.declared.pointer.Pointer.{Pointer}
+use Rattle.pipe_core.specs.hazard_core.declared.pointer.Pointer.TheVariants.{InSlot}
+use Rattle.overlay_net.specs.cell_nets.declared.operand.Operand.{Operand}
+use Rattle.overlay_net.specs.cell_nets.Operands.{number_in}
+use Rattle.overlay_net.specs.ValueNet.Words.{IsAligned}
 use Rattle.read_net.specs.declared.sites.OwnSite.{OwnSite}
 use Rattle.read_net.specs.declared.sites.MapNets.{MapNets}
 

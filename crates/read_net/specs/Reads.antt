@@ -1,21 +1,21 @@
 -- The read of a site: what it takes, and what stands for its cells.
 use Rattle.std.specs.Prelude.{◌≡◌, ℕ, All, List, ◌∷◌, ◌++◌}
-use Rattle.site_operands.specs.cell_nets.net_core.Value.{Env}
-use Rattle.cell_core.specs.xdp_machine.State.{PacketIn}
+use Rattle.block_core.specs.net_core.Value.{Env}
+use Rattle.overlay_net.specs.xdp_machine.State.{PacketIn}
 use Rattle.block_core.specs.declared.name.Name.{Name}
 use Rattle.block_core.specs.Blocks.{BlockWireTree}
-use Rattle.cell_core.specs.declared.operator.Operator.TheVariants.{Found, Answer}
-use Rattle.cell_core.specs.Cells.{CellView, bits_from}
-use Rattle.cell_core.specs.Sites.{ProgramView, site_at}
-use Rattle.site_operands.specs.hazard_core.Tables.{TableState}
-use Rattle.site_operands.specs.hazard_core.Held.{Held, pending}
-use Rattle.site_operands.specs.hazard_core.Overlay.{found_pointer}
-use Rattle.site_operands.specs.hazard_core.Rows.{cell_pointer, cell_number}
-use Rattle.site_operands.specs.cell_nets.declared.operand.Operand.{Operand}
-use Rattle.site_operands.specs.cell_nets.Operands.{number_in, IsOperand}
-use Rattle.site_operands.specs.cell_nets.Wires.{HasBits, Gives}
-use Rattle.site_operands.specs.Pointers.{pointer_number}
-use Rattle.site_operands.specs.Sites.{operands_of, ShowsAsked}
+use Rattle.overlay_net.specs.cell_core.declared.operator.Operator.TheVariants.{Found, Answer}
+use Rattle.overlay_net.specs.cell_core.Cells.{CellView, bits_from}
+use Rattle.overlay_net.specs.cell_core.Sites.{ProgramView, site_at}
+use Rattle.pipe_core.specs.hazard_core.Tables.{TableState}
+use Rattle.pipe_core.specs.hazard_core.Held.{Held, pending}
+use Rattle.pipe_core.specs.hazard_core.Overlay.{found_pointer}
+use Rattle.pipe_core.specs.hazard_core.Rows.{cell_pointer, cell_number}
+use Rattle.overlay_net.specs.cell_nets.declared.operand.Operand.{Operand}
+use Rattle.overlay_net.specs.cell_nets.Operands.{number_in, IsOperand}
+use Rattle.overlay_net.specs.cell_nets.Wires.{HasBits, Gives}
+use Rattle.overlay_net.specs.SiteOperands.Pointers.{pointer_number}
+use Rattle.overlay_net.specs.SiteOperands.Sites.{operands_of, ShowsAsked}
 use Rattle.overlay_net.specs.Reading.{ShowsKey, ShowsSlot}
 use Rattle.overlay_net.specs.Seen.{IsSeen, ShowPending}
 use Rattle.read_net.specs.declared.finding.FoundNets.{FoundNets}

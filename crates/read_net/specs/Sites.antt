@@ -1,19 +1,19 @@
 -- The sites of a packet's own operations on a map, and what stands for them and for the slots of its table.
 use Rattle.std.specs.Prelude.{◌≡◌, ℕ, ◌+◌, ◌*◌, ◌^◌, ◌<◌, ◌≤◌, All, List, [], ◌∷◌, ◌++◌, length, map as map_list}
 use Rattle.std.proofs.Common.{get_or}
-use Rattle.site_operands.specs.cell_nets.net_core.Value.{Env}
-use Rattle.xdp_maps.specs.Contents.{IsWithinLimits}
-use Rattle.xdp_maps.specs.declared.decl.MapDecl.{MapDecl}
-use Rattle.xdp_maps.specs.declared.decl.MapKind.TheVariants as kind
-use Rattle.cell_core.specs.Sites.{ProgramView, site_at}
-use Rattle.site_operands.specs.hazard_core.Tables.{TableState, decl_of, table_at, used_count}
-use Rattle.site_operands.specs.hazard_core.Tabled.{IsTable}
-use Rattle.site_operands.specs.hazard_core.Held.{Held}
-use Rattle.site_operands.specs.cell_nets.declared.operand.Operand.{Operand}
-use Rattle.site_operands.specs.cell_nets.Operands.{number_in, IsOperand, IsNarrow}
-use Rattle.site_operands.specs.declared.Pending.{Pending}
-use Rattle.site_operands.specs.Sites.{operands_of, all_of, ShowsSite}
-use Rattle.slot_net.specs.Slots.{slots_of, operands_of as slot_operands, IsSlot, ShowSlots}
+use Rattle.block_core.specs.net_core.Value.{Env}
+use Rattle.overlay_net.specs.xdp_maps.Contents.{IsWithinLimits}
+use Rattle.overlay_net.specs.xdp_maps.declared.decl.MapDecl.{MapDecl}
+use Rattle.overlay_net.specs.xdp_maps.declared.decl.MapKind.TheVariants as kind
+use Rattle.overlay_net.specs.cell_core.Sites.{ProgramView, site_at}
+use Rattle.pipe_core.specs.hazard_core.Tables.{TableState, decl_of, table_at, used_count}
+use Rattle.pipe_core.specs.hazard_core.Tabled.{IsTable}
+use Rattle.pipe_core.specs.hazard_core.Held.{Held}
+use Rattle.overlay_net.specs.cell_nets.declared.operand.Operand.{Operand}
+use Rattle.overlay_net.specs.cell_nets.Operands.{number_in, IsOperand, IsNarrow}
+use Rattle.overlay_net.specs.declared.site_operands.Pending.{Pending}
+use Rattle.overlay_net.specs.SiteOperands.Sites.{operands_of, all_of, ShowsSite}
+use Rattle.hash_net.specs.SlotNet.Slots.{slots_of, operands_of as slot_operands, IsSlot, ShowSlots}
 use Rattle.read_net.specs.declared.sites.OwnSite.{OwnSite}
 use Rattle.read_net.specs.declared.sites.MapNets.{MapNets}
 

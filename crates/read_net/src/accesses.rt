@@ -1,17 +1,17 @@
 //! The read of a load and of an atomic change.
 
 ghost use Rattle.std.specs.Prelude.{ℕ, ◌≡◌, ◌∷◌, ◌/◌, ◌≤◌, true, All, IfOk};
-ghost use Rattle.cell_core.specs.xdp_machine.State.{PacketIn};
-ghost use Rattle.cell_core.specs.declared.operator.Operator.TheVariants.{Answer};
-ghost use Rattle.cell_core.specs.Cells.{CellView, bits_from};
-ghost use Rattle.cell_core.specs.Sites.{ProgramView, site_at};
-ghost use Rattle.site_operands.specs.hazard_core.Held.{Held, access_pointer};
-ghost use Rattle.site_operands.specs.hazard_core.Rows.{cell_number};
-ghost use Rattle.site_operands.specs.hazard_core.Tables.{TableState};
-ghost use Rattle.site_operands.specs.cell_nets.Operands.{IsOperand};
-ghost use Rattle.site_operands.specs.cell_nets.Wires.{wires_of, Gives};
-ghost use Rattle.value_net.specs.Pendings.{HasValue};
-ghost use Rattle.value_net.specs.Words.{IsAligned, answers_number, access_start};
+ghost use Rattle.overlay_net.specs.xdp_machine.State.{PacketIn};
+ghost use Rattle.overlay_net.specs.cell_core.declared.operator.Operator.TheVariants.{Answer};
+ghost use Rattle.overlay_net.specs.cell_core.Cells.{CellView, bits_from};
+ghost use Rattle.overlay_net.specs.cell_core.Sites.{ProgramView, site_at};
+ghost use Rattle.pipe_core.specs.hazard_core.Held.{Held, access_pointer};
+ghost use Rattle.pipe_core.specs.hazard_core.Rows.{cell_number};
+ghost use Rattle.pipe_core.specs.hazard_core.Tables.{TableState};
+ghost use Rattle.overlay_net.specs.cell_nets.Operands.{IsOperand};
+ghost use Rattle.overlay_net.specs.cell_nets.Wires.{wires_of, Gives};
+ghost use Rattle.overlay_net.specs.ValueNet.Pendings.{HasValue};
+ghost use Rattle.overlay_net.specs.ValueNet.Words.{IsAligned, answers_number, access_start};
 ghost use Rattle.read_net.specs.Sites.{cells_of, IsMap, IsWhole};
 ghost use Rattle.read_net.specs.Reads.{taken, Shows, IsReadOf};
 ghost use Rattle.read_net.specs.Accesses.{IsFitting, HaveOperands, ShowsWord};
@@ -20,9 +20,9 @@ use crate::pendings::pendings;
 use crate::sites::{MapNets, OwnSite};
 use block_core::block::BlockWire;
 use block_core::name::Name;
-use site_operands::cell_nets::operand::Operand;
+use overlay_net::cell_nets::operand::Operand;
+use overlay_net::value_net::answering::access_answer;
 use std::alloc::{AllocError, Global};
-use value_net::answering::access_answer;
 
 /// So many bits, from one on, of what a load or an atomic change answers: the number under its pointer, over the packet's earlier operations on the map.
 /// `word` is the word of the table in which it lies, where the pointer is to a slot.

@@ -1,13 +1,13 @@
 //! What a site finds under its key.
 
 ghost use Rattle.std.specs.Prelude.{◌≡◌, ◌∷◌, ◌++◌, ◌*◌, ◌≤◌, All, length, IfOk};
-ghost use Rattle.cell_core.specs.Sites.{ProgramView, site_at};
-ghost use Rattle.site_operands.specs.hazard_core.Held.{Held};
-ghost use Rattle.site_operands.specs.hazard_core.Tables.{TableState};
-ghost use Rattle.site_operands.specs.cell_nets.Operands.{IsOperand};
-ghost use Rattle.site_operands.specs.cell_nets.Wires.{wires_of, HasBits};
+ghost use Rattle.overlay_net.specs.cell_core.Sites.{ProgramView, site_at};
+ghost use Rattle.pipe_core.specs.hazard_core.Held.{Held};
+ghost use Rattle.pipe_core.specs.hazard_core.Tables.{TableState};
+ghost use Rattle.overlay_net.specs.cell_nets.Operands.{IsOperand};
+ghost use Rattle.overlay_net.specs.cell_nets.Wires.{wires_of, HasBits};
 ghost use Rattle.overlay_net.specs.Seen.{all_read};
-ghost use Rattle.step_nets.specs.Standing.{Stands};
+ghost use Rattle.overlay_net.specs.cell_nets.StepNets.Standing.{Stands};
 ghost use Rattle.read_net.specs.Sites.{cells_of, IsMap, IsWhole, IsOwn, IsMapOf};
 ghost use Rattle.read_net.specs.Reads.{taken, ShowsBoth, IsFound, Finds};
 
@@ -15,9 +15,9 @@ use crate::pendings::pendings;
 use crate::sites::{MapNets, OwnSite};
 use block_core::block::BlockWire;
 use block_core::name::Name;
+use overlay_net::cell_nets::operand::Operand;
 use overlay_net::finding::{found_pointer, key_pointer};
-use site_operands::Pending;
-use site_operands::cell_nets::operand::Operand;
+use overlay_net::site_operands::Pending;
 use std::alloc::{AllocError, Global};
 
 /// What a site finds: the packet's earlier operations as it sees them, the entry under its key over them, and what it finds of that.

@@ -1,24 +1,24 @@
 //! The slot under the key of a site.
 
 ghost use Rattle.std.specs.Prelude.{ℕ, ◌≡◌, ◌*◌, ◌≤◌, ◌++◌, All, length, IfOk};
-ghost use Rattle.cell_core.specs.Sites.{ProgramView, site_at};
-ghost use Rattle.site_operands.specs.hazard_core.Held.{Held, asked_key, slot_pointer};
-ghost use Rattle.site_operands.specs.hazard_core.Tables.{TableState, table_at};
-ghost use Rattle.site_operands.specs.cell_nets.Operands.{IsOperand};
-ghost use Rattle.site_operands.specs.cell_nets.Wires.{wires_of, HasBits, Gives};
-ghost use Rattle.site_operands.specs.Pointers.{pointer_number};
-ghost use Rattle.site_operands.specs.Sites.{operands_of, all_of, ShowsAsked};
+ghost use Rattle.overlay_net.specs.cell_core.Sites.{ProgramView, site_at};
+ghost use Rattle.pipe_core.specs.hazard_core.Held.{Held, asked_key, slot_pointer};
+ghost use Rattle.pipe_core.specs.hazard_core.Tables.{TableState, table_at};
+ghost use Rattle.overlay_net.specs.cell_nets.Operands.{IsOperand};
+ghost use Rattle.overlay_net.specs.cell_nets.Wires.{wires_of, HasBits, Gives};
+ghost use Rattle.overlay_net.specs.SiteOperands.Pointers.{pointer_number};
+ghost use Rattle.overlay_net.specs.SiteOperands.Sites.{operands_of, all_of, ShowsAsked};
 ghost use Rattle.read_net.specs.Sites.{slot_cells, IsMap, IsMapOf, ShowsTable};
 
 use crate::sites::MapNets;
 use block_core::block::BlockWire;
 use block_core::name::Name;
-use site_operands::SiteNets;
-use site_operands::cell_nets::operand::Operand;
-use slot_net::finding::find_slot;
-use slot_net::index_pointer;
+use hash_net::slot_net::finding::find_slot;
+use hash_net::slot_net::index_pointer;
+use overlay_net::cell_nets::cell_core::xdp_state::xdp_maps::decl::MapKind;
+use overlay_net::cell_nets::operand::Operand;
+use overlay_net::site_operands::SiteNets;
 use std::alloc::{AllocError, Global};
-use xdp_maps::decl::MapKind;
 
 /// The number of the pointer to the slot that is used under the key of a site, 0 where there is none.
 pub fn slot_under<P: Copy>(

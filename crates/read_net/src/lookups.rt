@@ -1,14 +1,14 @@
 //! The read of a lookup.
 
 ghost use Rattle.std.specs.Prelude.{ℕ, ◌≡◌, ◌*◌, ◌≤◌, All, length, IfOk};
-ghost use Rattle.cell_core.specs.xdp_machine.State.{PacketIn};
-ghost use Rattle.cell_core.specs.declared.site.Act.TheVariants as does;
-ghost use Rattle.cell_core.specs.Cells.{CellView};
-ghost use Rattle.cell_core.specs.Sites.{ProgramView};
-ghost use Rattle.site_operands.specs.hazard_core.Held.{Held};
-ghost use Rattle.site_operands.specs.hazard_core.Tables.{TableState};
-ghost use Rattle.site_operands.specs.cell_nets.Operands.{IsOperand};
-ghost use Rattle.site_operands.specs.cell_nets.Wires.{wires_of, HasBits};
+ghost use Rattle.overlay_net.specs.xdp_machine.State.{PacketIn};
+ghost use Rattle.overlay_net.specs.cell_core.declared.site.Act.TheVariants as does;
+ghost use Rattle.overlay_net.specs.cell_core.Cells.{CellView};
+ghost use Rattle.overlay_net.specs.cell_core.Sites.{ProgramView};
+ghost use Rattle.pipe_core.specs.hazard_core.Held.{Held};
+ghost use Rattle.pipe_core.specs.hazard_core.Tables.{TableState};
+ghost use Rattle.overlay_net.specs.cell_nets.Operands.{IsOperand};
+ghost use Rattle.overlay_net.specs.cell_nets.Wires.{wires_of, HasBits};
 ghost use Rattle.read_net.specs.Sites.{cells_of, IsMap, IsWhole};
 ghost use Rattle.read_net.specs.Reads.{AreCells, IsReadOf, Reads};
 
@@ -17,9 +17,9 @@ use crate::sites::{MapNets, OwnSite, ReadNets};
 use block_core::block::BlockWire;
 use block_core::name::Name;
 use overlay_net::answering::lookup_answer;
-use site_operands::cell_nets::operand::Operand;
+use overlay_net::cell_nets::operand::Operand;
+use overlay_net::cell_nets::step_nets::truth;
 use std::alloc::{AllocError, Global};
-use step_nets::truth;
 
 /// What a lookup reads: where its key is, over the packet's earlier operations on the map, and so many bits, from one on, of its answer. `slot` is the
 /// slot of the table under its key.

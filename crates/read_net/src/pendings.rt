@@ -1,28 +1,28 @@
 //! The packet's earlier operations, as a read sees them: whether each writes, and which entry.
 
 ghost use Rattle.std.specs.Prelude.{ℕ, ◌∷◌, ◌++◌, ◌≡◌, All, IfOk};
-ghost use Rattle.xdp_maps.specs.declared.decl.MapKind.TheVariants as kind;
-ghost use Rattle.cell_core.specs.declared.site.Act.TheVariants as does;
-ghost use Rattle.cell_core.specs.Sites.{ProgramView};
-ghost use Rattle.site_operands.specs.hazard_core.Held.{Held};
-ghost use Rattle.site_operands.specs.hazard_core.Tables.{TableState};
-ghost use Rattle.site_operands.specs.cell_nets.Operands.{IsOperand};
-ghost use Rattle.site_operands.specs.cell_nets.Wires.{wires_of, HasBits};
+ghost use Rattle.overlay_net.specs.xdp_maps.declared.decl.MapKind.TheVariants as kind;
+ghost use Rattle.overlay_net.specs.cell_core.declared.site.Act.TheVariants as does;
+ghost use Rattle.overlay_net.specs.cell_core.Sites.{ProgramView};
+ghost use Rattle.pipe_core.specs.hazard_core.Held.{Held};
+ghost use Rattle.pipe_core.specs.hazard_core.Tables.{TableState};
+ghost use Rattle.overlay_net.specs.cell_nets.Operands.{IsOperand};
+ghost use Rattle.overlay_net.specs.cell_nets.Wires.{wires_of, HasBits};
 ghost use Rattle.overlay_net.specs.Reading.{ShowsSlot};
 ghost use Rattle.overlay_net.specs.Seen.{read_of, all_read, IsSeen, ShowsPending, ShowPending};
-ghost use Rattle.step_nets.specs.Standing.{Stands};
+ghost use Rattle.overlay_net.specs.cell_nets.StepNets.Standing.{Stands};
 ghost use Rattle.read_net.specs.Sites.{cells_of, all_cells, slot_cells, sites_of, IsMap, IsWhole, IsOwn, IsMapOf, ShowsOwn, ShowsTable, IsSeenOf, AreSeenOf};
 
 use crate::looking::slot_under;
 use crate::sites::{MapNets, OwnSite};
 use block_core::block::BlockWire;
 use block_core::name::Name;
-use cell_core::site::Act;
+use overlay_net::cell_nets::cell_core::site::Act;
+use overlay_net::cell_nets::cell_core::xdp_state::xdp_maps::decl::MapKind;
+use overlay_net::cell_nets::operand::Operand;
+use overlay_net::site_operands::Pending;
 use overlay_net::writing::{writes, written_pointer};
-use site_operands::Pending;
-use site_operands::cell_nets::operand::Operand;
 use std::alloc::{AllocError, Global};
-use xdp_maps::decl::MapKind;
 
 /// The number of the pointer to the slot under the key of an update of an array, and 0 of others: what these write they find by a pointer.
 fn written_slot<P: Copy>(

@@ -1,10 +1,10 @@
 //! What a read takes: sites of the packet's own operations, and the map.
 
-use cell_core::site::Act;
-use site_operands::SiteNets;
-use site_operands::cell_nets::operand::Operand;
-use slot_net::slots::SlotNets;
-use xdp_maps::decl::MapDecl;
+use hash_net::slot_net::slots::SlotNets;
+use overlay_net::cell_nets::cell_core::site::Act;
+use overlay_net::cell_nets::cell_core::xdp_state::xdp_maps::decl::MapDecl;
+use overlay_net::cell_nets::operand::Operand;
+use overlay_net::site_operands::SiteNets;
 
 /// What stands for an operation of the packet on the map: the number of its site, what it does, and the cells of its site.
 #[derive(Copy, Clone)]

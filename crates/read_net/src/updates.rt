@@ -1,18 +1,18 @@
 //! The reads of an update and of a delete.
 
 ghost use Rattle.std.specs.Prelude.{ℕ, ◌≡◌, ◌*◌, ◌<◌, ◌≤◌, All, List, length, IfOk};
-ghost use Rattle.cell_core.specs.xdp_machine.State.{PacketIn};
-ghost use Rattle.cell_core.specs.declared.site.Act.TheVariants as does;
-ghost use Rattle.cell_core.specs.Cells.{CellView};
-ghost use Rattle.cell_core.specs.Sites.{ProgramView};
-ghost use Rattle.site_operands.specs.hazard_core.Held.{Held};
-ghost use Rattle.site_operands.specs.hazard_core.Tables.{TableState, used_count};
-ghost use Rattle.site_operands.specs.hazard_core.Tabled.{IsTable};
-ghost use Rattle.site_operands.specs.hazard_core.declared.slot.Slot.{Slot};
-ghost use Rattle.xdp_maps.specs.declared.decl.MapKind.TheVariants as kind;
-ghost use Rattle.site_operands.specs.cell_nets.net_core.Value.{Env};
-ghost use Rattle.site_operands.specs.cell_nets.Operands.{IsOperand, IsNarrow, IsAvailable, number_in};
-ghost use Rattle.site_operands.specs.cell_nets.Wires.{wires_of, HasBits};
+ghost use Rattle.overlay_net.specs.xdp_machine.State.{PacketIn};
+ghost use Rattle.overlay_net.specs.cell_core.declared.site.Act.TheVariants as does;
+ghost use Rattle.overlay_net.specs.cell_core.Cells.{CellView};
+ghost use Rattle.overlay_net.specs.cell_core.Sites.{ProgramView};
+ghost use Rattle.pipe_core.specs.hazard_core.Held.{Held};
+ghost use Rattle.pipe_core.specs.hazard_core.Tables.{TableState, used_count};
+ghost use Rattle.pipe_core.specs.hazard_core.Tabled.{IsTable};
+ghost use Rattle.pipe_core.specs.hazard_core.declared.slot.Slot.{Slot};
+ghost use Rattle.overlay_net.specs.xdp_maps.declared.decl.MapKind.TheVariants as kind;
+ghost use Rattle.block_core.specs.net_core.Value.{Env};
+ghost use Rattle.overlay_net.specs.cell_nets.Operands.{IsOperand, IsNarrow, IsAvailable, number_in};
+ghost use Rattle.overlay_net.specs.cell_nets.Wires.{wires_of, HasBits};
 ghost use Rattle.read_net.specs.Sites.{cells_of, slot_cells, IsMap, IsWhole};
 ghost use Rattle.read_net.specs.Reads.{AreCells, IsReadOf, Reads};
 
@@ -21,10 +21,10 @@ use crate::sites::{MapNets, OwnSite, ReadNets};
 use block_core::block::BlockWire;
 use block_core::name::Name;
 use overlay_net::answering::{delete_answer, update_answer};
-use site_operands::cell_nets::operand::Operand;
+use overlay_net::cell_nets::cell_core::xdp_state::xdp_maps::decl::MapKind;
+use overlay_net::cell_nets::operand::Operand;
+use overlay_net::cell_nets::step_nets::truth;
 use std::alloc::{AllocError, Global};
-use step_nets::truth;
-use xdp_maps::decl::MapKind;
 
 /// How many slots of a map are used: of an array all are.
 fn used_slots<N: Copy>(map: &MapNets<'_, N>) -> Operand<N>

@@ -2,19 +2,19 @@
 use Rattle.std.specs.Prelude.{◌≡◌, ℕ, zero, suc, ◌*◌, ◌^◌, ◌<◌, min, if◌then◌else◌, Bool, true, false, Option, Some, None, List, [], ◌∷◌, ◌++◌, length}
 use Rattle.std.specs.List.{AllByRecursion}
 use Rattle.std.proofs.Common.{refl, arith, length-append}
-use Rattle.host_history.specs.beat_core.declared.beat.Beat.{Beat}
-use Rattle.host_history.specs.beat_core.declared.frame.TheConstants.{BEAT_LIMIT}
-use Rattle.host_history.specs.beat_core.Beats.{bytes_of_beat, IsOffer}
-use Rattle.host_history.specs.beat_core.Clocks.{AreOffers}
-use Rattle.host_history.specs.beat_core.Ports.{offered, Arrival, arrived, arrivals_among}
-use Rattle.host_history.proofs.beat_core.BeatLaws.{IsOffer-count, IsOffer-eight}
-use Rattle.host_history.proofs.beat_core.WordLaws.{length-low_bytes, IsBytes-low_bytes}
-use Rattle.host_history.specs.list_laws.Bytes.{IsBytes}
-use Rattle.host_history.specs.net_core.declared.ports.Inputs.{Inputs}
-use Rattle.host_history.specs.net_core.Nets.{Netlist}
-use Rattle.host_history.specs.net_core.Clock.{Stored, after}
-use Rattle.host_history.specs.net_core.Ports.{words_of}
-use Rattle.host_history.specs.net_core.History.{Cycle, cycle_of, trace, goes_in, offered_beat, beats_in, offers_in, IsInput}
+use Rattle.net_core.specs.beat_core.declared.beat.Beat.{Beat}
+use Rattle.net_core.specs.beat_core.declared.frame.TheConstants.{BEAT_LIMIT}
+use Rattle.net_core.specs.beat_core.Beats.{bytes_of_beat, IsOffer}
+use Rattle.net_core.specs.beat_core.Clocks.{AreOffers}
+use Rattle.net_core.specs.beat_core.Ports.{offered, Arrival, arrived, arrivals_among}
+use Rattle.net_core.proofs.beat_core_laws.BeatLaws.{IsOffer-count, IsOffer-eight}
+use Rattle.net_core.proofs.beat_core_laws.WordLaws.{length-low_bytes, IsBytes-low_bytes}
+use Rattle.net_core.specs.list_laws.Bytes.{IsBytes}
+use Rattle.net_core.specs.declared.ports.Inputs.{Inputs}
+use Rattle.net_core.specs.Nets.{Netlist}
+use Rattle.net_core.specs.Clock.{Stored, after}
+use Rattle.net_core.specs.Ports.{words_of}
+use Rattle.net_core.specs.History.{Cycle, cycle_of, trace, goes_in, offered_beat, beats_in, offers_in, IsInput}
 use Rattle.realization.specs.Realizes.{IsPacket}
 use Rattle.realization.specs.Laws.{PatternsBringPackets}
 

@@ -1,7 +1,7 @@
 -- The stated clocks, counted from the first offered beat to the one with which the last answer is whole.
 use Rattle.std.specs.Prelude.{ℕ, zero, suc, ◌+◌, ◌*◌, max, List, [], ◌∷◌, length, Contains}
-use Rattle.host_history.specs.beat_core.Beats.{beat_count}
-use Rattle.host_history.specs.xdp_maps.Touched.{Resource}
+use Rattle.net_core.specs.beat_core.Beats.{beat_count}
+use Rattle.xdp_machine.specs.xdp_maps.Touched.{Resource}
 use Rattle.xdp_machine.specs.Touched.{Touched}
 
 -- the most beats of one of these frames

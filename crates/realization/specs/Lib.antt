@@ -1,3 +1,8 @@
+pub use Rattle.net_core.specs.beat_core as beat_core
+pub use Rattle.net_core.specs.list_laws as list_laws
+pub use Rattle.net_core.specs as net_core
 pub mod Bounds
 pub mod Realizes
 pub mod Laws
+pub mod HostHistory
+pub mod SameDesigns

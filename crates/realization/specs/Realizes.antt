@@ -4,20 +4,20 @@
 -- What is wanted is a relation of packets that came, in their order, their answers, and the maps behind the last of them.
 use Rattle.std.specs.Prelude.{◌≡◌, ℕ, ◌+◌, ◌-◌, ◌^◌, ◌<◌, ◌≤◌, None, List, [], ◌∷◌, ◌++◌, length, map as map_list}
 use Rattle.std.specs.List.{flat_map, AllByRecursion}
-use Rattle.host_history.specs.beat_core.declared.beat.Beat.{Beat}
-use Rattle.host_history.specs.beat_core.Beats.{beats_of}
-use Rattle.host_history.specs.beat_core.Filling.{filled_up}
-use Rattle.host_history.specs.beat_core.Clocks.{AreOffers}
-use Rattle.host_history.specs.beat_core.Laws.{IsFrame}
-use Rattle.host_history.specs.beat_core.Ports.{Offered, offered, arrivals_among}
-use Rattle.host_history.specs.xdp_maps.State.{MapState}
+use Rattle.net_core.specs.beat_core.declared.beat.Beat.{Beat}
+use Rattle.net_core.specs.beat_core.Beats.{beats_of}
+use Rattle.net_core.specs.beat_core.Filling.{filled_up}
+use Rattle.net_core.specs.beat_core.Clocks.{AreOffers}
+use Rattle.net_core.specs.beat_core.Laws.{IsFrame}
+use Rattle.net_core.specs.beat_core.Ports.{Offered, offered, arrivals_among}
+use Rattle.xdp_machine.specs.xdp_maps.State.{MapState}
 use Rattle.xdp_machine.specs.Touched.{Touched}
-use Rattle.host_history.specs.net_core.declared.ports.Inputs.{Inputs}
-use Rattle.host_history.specs.net_core.Nets.{Netlist}
-use Rattle.host_history.specs.net_core.Clock.{Stored}
-use Rattle.host_history.specs.net_core.History.{Cycle, trace, stored_after, NeverStops, beats_in, offers_in, Arrival, arrivals, answers_given, open_beats, IsInput, IsSilent, Drive, Answered, drive}
-use Rattle.host_history.specs.beat_core.declared.answer.Answer.{Answer}
-use Rattle.host_history.specs.Host.{ShowsMaps}
+use Rattle.net_core.specs.declared.ports.Inputs.{Inputs}
+use Rattle.net_core.specs.Nets.{Netlist}
+use Rattle.net_core.specs.Clock.{Stored}
+use Rattle.net_core.specs.History.{Cycle, trace, stored_after, NeverStops, beats_in, offers_in, Arrival, arrivals, answers_given, open_beats, IsInput, IsSilent, Drive, Answered, drive}
+use Rattle.net_core.specs.beat_core.declared.answer.Answer.{Answer}
+use Rattle.realization.specs.HostHistory.Host.{ShowsMaps}
 use Rattle.realization.specs.Bounds.{clock_bound, clock_bound_apart, most_beats}
 
 -- Clocks with the host silent and offers well formed: each beat that goes over has 8 bytes unless it is a last one with 1 to 8,

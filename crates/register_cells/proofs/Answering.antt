@@ -3,14 +3,14 @@ use Rattle.std.proofs.Common.{◌≡◌, ℕ, zero, suc, ◌+◌, ◌^◌, ◌<�
 use Rattle.std.proofs.lemmas.List.{get_or-set_same, get_or-set_other, get_or-drop}
 use Rattle.std.proofs.lemmas.Bool.Decides.{nat_tests}
 use Rattle.std.specs.Int.{w64, cast_unsigned}
-use Rattle.bpf_isa.specs.declared.operation.Op.TheVariants.{Call}
-use Rattle.bpf_isa.specs.declared.instruction.Insn.{Insn}
-use Rattle.xdp_state.specs.xdp_maps.declared.decl.MapDecl.{MapDecl}
-use Rattle.xdp_state.specs.xdp_machine.Values.{Value, ◌>>=◌}
-use Rattle.xdp_state.specs.xdp_machine.Values as is
-use Rattle.xdp_state.specs.xdp_machine.State.{Machine, PacketIn, register}
-use Rattle.xdp_state.specs.xdp_machine.Helpers as helpers
-use Rattle.xdp_state.specs.xdp_machine.Step.{effect}
+use Rattle.cell_core.specs.bpf_isa.declared.operation.Op.TheVariants.{Call}
+use Rattle.cell_core.specs.bpf_isa.declared.instruction.Insn.{Insn}
+use Rattle.cell_core.specs.xdp_maps.declared.decl.MapDecl.{MapDecl}
+use Rattle.cell_core.specs.xdp_machine.Values.{Value, ◌>>=◌}
+use Rattle.cell_core.specs.xdp_machine.Values as is
+use Rattle.cell_core.specs.xdp_machine.State.{Machine, PacketIn, register}
+use Rattle.cell_core.specs.xdp_machine.Helpers as helpers
+use Rattle.cell_core.specs.xdp_machine.Step.{effect}
 use Rattle.kind_core.specs.declared.kind.Kind.{Kind}
 use Rattle.kind_core.specs.declared.kind.Kind.TheVariants.{Unset, Num}
 use Rattle.kind_core.specs.declared.number.Number.TheVariants.{Unknown}
@@ -26,12 +26,12 @@ use Rattle.kind_core.specs.Effects.{effect_of, effect_as, verdict}
 use Rattle.kind_core.specs.Edges.{transferred, changed_if}
 use Rattle.cell_core.specs.Cells.{CellView, IsRun, bit, on}
 use Rattle.operator_cells.specs.Making.{Grows}
-use Rattle.held_cells.specs.declared.held.Held.{Held}
-use Rattle.held_cells.specs.Held.{PointerView, Holds, Counts, AreInside}
-use Rattle.held_cells.specs.Carrying.{IsKnown, Carries}
-use Rattle.xdp_state.specs.xdp_machine.Arithmetic.{low}
+use Rattle.operator_cells.specs.declared.held_cells.held.Held.{Held}
+use Rattle.operator_cells.specs.HeldCells.Held.{PointerView, Holds, Counts, AreInside}
+use Rattle.operator_cells.specs.HeldCells.Carrying.{IsKnown, Carries}
+use Rattle.cell_core.specs.xdp_machine.Arithmetic.{low}
 use Rattle.register_cells.proofs.Finding.{low_same}
-use Rattle.held_cells.specs.Held.{number_of}
+use Rattle.operator_cells.specs.HeldCells.Held.{number_of}
 use Rattle.register_cells.specs.Reading.{IsRead}
 use Rattle.register_cells.proofs.Known.{register_read}
 use Rattle.kind_core.proofs.TestLaws.{bind_passed}

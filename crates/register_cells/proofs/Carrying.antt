@@ -1,14 +1,14 @@
 -- A destination that is given a value carries what cells hold behind the instruction.
 use Rattle.std.proofs.Common.{IfOk, ◌≡◌, ◌≢◌, ℕ, ◌<◌, ◌≤◌, ◌==◌, if◌then◌else◌, Bool, true, false, Option, Some, None, Result, Ok, Err, List, [], length, get_or, set as set_list, slice_index, slice_set, refl, sym, ◌∙◌, ap, subst, arith}
 use Rattle.std.proofs.lemmas.List.{get_or-set_same, get_or-set_other}
-use Rattle.bpf_isa.specs.declared.operation.Op.{Op}
-use Rattle.bpf_isa.specs.declared.operation.Op.TheVariants.{Alu, Neg, End, Swap, LoadImm, Load, LoadSigned}
-use Rattle.bpf_isa.specs.declared.instruction.Insn.{Insn}
-use Rattle.xdp_state.specs.xdp_maps.declared.decl.MapDecl.{MapDecl}
-use Rattle.xdp_state.specs.xdp_machine.Values.{Value, ◌>>=◌}
-use Rattle.xdp_state.specs.xdp_machine.Values as is
-use Rattle.xdp_state.specs.xdp_machine.State.{Machine, PacketIn, put, with_registers}
-use Rattle.xdp_state.specs.xdp_machine.Step.{effect}
+use Rattle.cell_core.specs.bpf_isa.declared.operation.Op.{Op}
+use Rattle.cell_core.specs.bpf_isa.declared.operation.Op.TheVariants.{Alu, Neg, End, Swap, LoadImm, Load, LoadSigned}
+use Rattle.cell_core.specs.bpf_isa.declared.instruction.Insn.{Insn}
+use Rattle.cell_core.specs.xdp_maps.declared.decl.MapDecl.{MapDecl}
+use Rattle.cell_core.specs.xdp_machine.Values.{Value, ◌>>=◌}
+use Rattle.cell_core.specs.xdp_machine.Values as is
+use Rattle.cell_core.specs.xdp_machine.State.{Machine, PacketIn, put, with_registers}
+use Rattle.cell_core.specs.xdp_machine.Step.{effect}
 use Rattle.kind_core.specs.declared.kind.Kind.{Kind}
 use Rattle.kind_core.specs.declared.why.Why.{Why}
 use Rattle.kind_core.specs.declared.kind.Kind.TheVariants.{Unset, Num, Maybe, Entry}
@@ -22,12 +22,12 @@ use Rattle.kind_core.specs.Effects.{effect_of, effect_as, verdict}
 use Rattle.kind_core.specs.Effects as effects
 use Rattle.kind_core.specs.Edges.{transferred, changed_if}
 use Rattle.cell_core.specs.Cells.{CellView}
-use Rattle.held_cells.specs.declared.held.Held.{Held}
-use Rattle.held_cells.specs.Held.{PointerView, Holds, Counts, AreHeld, AreInside}
-use Rattle.held_cells.specs.Carrying.{Gives, Carries}
+use Rattle.operator_cells.specs.declared.held_cells.held.Held.{Held}
+use Rattle.operator_cells.specs.HeldCells.Held.{PointerView, Holds, Counts, AreHeld, AreInside}
+use Rattle.operator_cells.specs.HeldCells.Carrying.{Gives, Carries}
 use Rattle.register_cells.specs.Giving.{given, given_kind}
 use Rattle.kind_core.proofs.TestLaws.{bind_passed}
-use Rattle.held_cells.proofs.PointerLaws.{pointer_later}
+use Rattle.operator_cells.proofs.HeldCells.PointerLaws.{pointer_later}
 
 pub counts_more : (decls : List MapDecl) (n m : ℕ) (ps : List PointerView) (x : Kind) (c : ℕ) → n ≤ m → Counts decls n ps x c → Counts decls m ps x c
 counts_more decls n m ps (Num Unknown) c l h = omega (arith, l, h)

@@ -2,7 +2,7 @@
 use Rattle.std.proofs.Common.{◌≡◌, ℕ, ◌+◌, ◌-◌, ◌^◌, ◌<◌, ◌∙◌, ap}
 use Rattle.std.proofs.lemmas.Nat.{mod_below, pow_pos}
 use Rattle.std.proofs.Math.Nat.{mod-eq_of_lt}
-use Rattle.xdp_state.specs.xdp_machine.Arithmetic.{low}
+use Rattle.cell_core.specs.xdp_machine.Arithmetic.{low}
 
 pub low_same : (w n : ℕ) → n < 2 ^ w → low w n ≡ n
 low_same w n h = mod-eq_of_lt {n = n} {m = 2 ^ w} h

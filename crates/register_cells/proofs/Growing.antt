@@ -1,6 +1,6 @@
 -- More cells, and tests.
 use Rattle.std.proofs.Common.{◌≡◌, ℕ, Result, Ok, Err, IfOk, ◌∙◌, List}
-use Rattle.xdp_state.specs.xdp_machine.State.{PacketIn}
+use Rattle.cell_core.specs.xdp_machine.State.{PacketIn}
 use Rattle.kind_core.specs.declared.why.Why.{Why}
 use Rattle.cell_core.specs.Cells.{CellView, IsRun}
 use Rattle.operator_cells.specs.Making.{Grows, Makes}

@@ -4,9 +4,9 @@ use Rattle.std.specs.List.{list_any}
 use Rattle.std.specs.Ordering.{int_eq}
 use Rattle.std.proofs.lemmas.Bool.{cases_lt, le-ltb, ltb-false}
 use Rattle.std.proofs.lemmas.List.{get_or-set_same, get_or-set_other, get_or-drop}
-use Rattle.bpf_isa.specs.declared.operation.Op.TheVariants.{Call}
-use Rattle.bpf_isa.specs.declared.instruction.Insn.{Insn}
-use Rattle.xdp_state.specs.xdp_maps.declared.decl.MapDecl.{MapDecl}
+use Rattle.cell_core.specs.bpf_isa.declared.operation.Op.TheVariants.{Call}
+use Rattle.cell_core.specs.bpf_isa.declared.instruction.Insn.{Insn}
+use Rattle.cell_core.specs.xdp_maps.declared.decl.MapDecl.{MapDecl}
 use Rattle.kind_core.specs.declared.number.Number.TheVariants.{Unknown}
 use Rattle.kind_core.specs.declared.kind.Kind.TheVariants.{Unset, Num}
 use Rattle.kind_core.specs.declared.kind.Kinds.{Kinds}
@@ -15,15 +15,15 @@ use Rattle.cell_core.specs.Cells.{CellView}
 use Rattle.cell_core.specs.Rows.{AreRows}
 use Rattle.operator_cells.specs.Rising.{GrowsTo, Rises}
 use Rattle.operator_cells.proofs.RisingLaws.{stand_none, stand_more}
-use Rattle.held_cells.specs.place_rows.declared.span.Span.{Span}
-use Rattle.held_cells.specs.place_rows.Spans.{no_place, one, target, is_in, spans_row}
-use Rattle.held_cells.specs.place_rows.Reading.{call_reads, result_as, result_row}
-use Rattle.held_cells.specs.place_rows.Writing.{writes_as, is_open_in, made_row}
-use Rattle.held_cells.proofs.place_rows.SpanLaws.{in_one, in_none, is_inside, one_row}
-use Rattle.held_cells.specs.declared.held.Held.{Held}
-use Rattle.held_cells.specs.Held.{PointerView}
-use Rattle.held_cells.specs.Rows.{number_at, value_row, held_row, LeavesTo, CarriesTo}
-use Rattle.held_cells.proofs.RowLaws.{grows_by, register_row, target_row}
+use Rattle.operator_cells.specs.row_rules.declared.place_rows.span.Span.{Span}
+use Rattle.operator_cells.specs.row_rules.PlaceRows.Spans.{no_place, one, target, is_in, spans_row}
+use Rattle.operator_cells.specs.row_rules.PlaceRows.Reading.{call_reads, result_as, result_row}
+use Rattle.operator_cells.specs.row_rules.PlaceRows.Writing.{writes_as, is_open_in, made_row}
+use Rattle.operator_cells.proofs.row_rules_laws.PlaceRows.SpanLaws.{in_one, in_none, is_inside, one_row}
+use Rattle.operator_cells.specs.declared.held_cells.held.Held.{Held}
+use Rattle.operator_cells.specs.HeldCells.Held.{PointerView}
+use Rattle.operator_cells.specs.HeldCells.Rows.{number_at, value_row, held_row, LeavesTo, CarriesTo}
+use Rattle.operator_cells.proofs.HeldCells.RowLaws.{grows_by, register_row, target_row}
 use Rattle.register_cells.proofs.ValueLaws.{same_most, zero_most, trans_most}
 use Rattle.register_cells.proofs.RegisterRows.{not_first, open_first, below}
 

@@ -2,16 +2,16 @@
 use Rattle.std.proofs.Common.{◌≡◌, ◌⊎◌, inl, inr, ℕ, zero, suc, ◌^◌, ◌<◌, ◌≤◌, ℤ, pos, ◌≢◌, Bool, true, false, Option, IfOk, List, [], ◌∷◌, length, get_or, slice_index, refl, sym, ◌∙◌, ap, subst, arith}
 use Rattle.std.proofs.lemmas.Bool.{cases_lt}
 use Rattle.std.specs.Int.{w64, cast_unsigned}
-use Rattle.bpf_isa.specs.declared.operation.Src.{Src}
-use Rattle.bpf_isa.specs.declared.operation.Src.TheVariants.{K, X}
-use Rattle.bpf_isa.specs.declared.instruction.Insn.{Insn}
-use Rattle.xdp_state.specs.xdp_maps.declared.decl.MapDecl.{MapDecl}
-use Rattle.xdp_state.specs.xdp_maps.State.{MapState}
-use Rattle.xdp_state.specs.xdp_machine.Values.{Value}
-use Rattle.xdp_state.specs.xdp_machine.Values as is
-use Rattle.xdp_state.specs.xdp_machine.State.{Machine, PacketIn, register}
-use Rattle.xdp_state.specs.xdp_machine.Step as machine
-use Rattle.xdp_state.specs.xdp_machine.Ranges.{InRange}
+use Rattle.cell_core.specs.bpf_isa.declared.operation.Src.{Src}
+use Rattle.cell_core.specs.bpf_isa.declared.operation.Src.TheVariants.{K, X}
+use Rattle.cell_core.specs.bpf_isa.declared.instruction.Insn.{Insn}
+use Rattle.cell_core.specs.xdp_maps.declared.decl.MapDecl.{MapDecl}
+use Rattle.cell_core.specs.xdp_maps.State.{MapState}
+use Rattle.cell_core.specs.xdp_machine.Values.{Value}
+use Rattle.cell_core.specs.xdp_machine.Values as is
+use Rattle.cell_core.specs.xdp_machine.State.{Machine, PacketIn, register}
+use Rattle.cell_core.specs.xdp_machine.Step as machine
+use Rattle.cell_core.specs.xdp_machine.Ranges.{InRange}
 use Rattle.kind_core.specs.declared.number.Number.TheVariants.{Known, Unknown}
 use Rattle.kind_core.specs.declared.kind.Kind.{Kind}
 use Rattle.kind_core.specs.declared.kind.Kind.TheVariants.{Unset, Num, Packet, End, Maybe, Entry}
@@ -20,21 +20,21 @@ use Rattle.kind_core.specs.Kinds as kinds
 use Rattle.kind_core.specs.Effects as effects
 use Rattle.kind_core.specs.Describes.{World, Describes}
 use Rattle.cell_core.specs.Cells.{CellView}
-use Rattle.held_cells.specs.declared.held.Held.{Held}
-use Rattle.held_cells.specs.Held.{PointerView, Holds, Counts, AreInside}
-use Rattle.held_cells.specs.Carrying.{IsKnown, Gives}
+use Rattle.operator_cells.specs.declared.held_cells.held.Held.{Held}
+use Rattle.operator_cells.specs.HeldCells.Held.{PointerView, Holds, Counts, AreInside}
+use Rattle.operator_cells.specs.HeldCells.Carrying.{IsKnown, Gives}
 use Rattle.register_cells.specs.Reading.{IsRead, Yields}
-use Rattle.bpf_isa.specs.declared.operation.Width.{Width}
-use Rattle.bpf_isa.specs.declared.operation.AluCode.{AluCode}
-use Rattle.bpf_isa.specs.declared.operation.Op.TheVariants.{Alu, Neg, Swap, Load, LoadSigned, LoadImm}
-use Rattle.bpf_isa.specs.declared.operation.Op.TheVariants as ops
-use Rattle.bpf_isa.specs.declared.operation.Size.{Size}
+use Rattle.cell_core.specs.bpf_isa.declared.operation.Width.{Width}
+use Rattle.cell_core.specs.bpf_isa.declared.operation.AluCode.{AluCode}
+use Rattle.cell_core.specs.bpf_isa.declared.operation.Op.TheVariants.{Alu, Neg, Swap, Load, LoadSigned, LoadImm}
+use Rattle.cell_core.specs.bpf_isa.declared.operation.Op.TheVariants as ops
+use Rattle.cell_core.specs.bpf_isa.declared.operation.Size.{Size}
 use Rattle.kind_core.specs.Edges as edges
 use Rattle.register_cells.specs.Giving.{given_kind}
-use Rattle.bpf_isa.specs.declared.operation.Op.{Op}
-use Rattle.bpf_isa.specs.Spelling.{FitsOp}
-use Rattle.xdp_state.proofs.xdp_machine.NumberLaws.{word_of}
-use Rattle.xdp_state.specs.xdp_machine.Pointers as pointers
+use Rattle.cell_core.specs.bpf_isa.declared.operation.Op.{Op}
+use Rattle.cell_core.specs.bpf_isa.Spelling.{FitsOp}
+use Rattle.kind_core.proofs.xdp_machine_laws.NumberLaws.{word_of}
+use Rattle.cell_core.specs.xdp_machine.Pointers as pointers
 use Rattle.kind_core.specs.Pointers as kind
 use Rattle.register_cells.specs.Giving.{given}
 use Rattle.register_cells.proofs.Growing.{ok_map}

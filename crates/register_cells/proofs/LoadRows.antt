@@ -1,14 +1,14 @@
 -- Rows of what is loaded.
 use Rattle.std.proofs.Common.{◌≡◌, ◌≢◌, ◌∙◌, ℕ, suc, ◌+◌, ◌*◌, ◌/◌, ◌%◌, ◌<◌, ◌≤◌, ℤ, pos, ◌+ℤ◌, unsigned_abs, true, false, Some, Result, Ok, IfOk, List, [], ◌∷◌, length, get_or, slice_index, slice_range, max, refl, sym, ap, subst, arith}
-use Rattle.bpf_isa.specs.declared.operation.Size.{Size}
-use Rattle.bpf_isa.specs.declared.operation.Size.TheVariants.{B, H, W, Dw}
-use Rattle.bpf_isa.specs.declared.operation.Width.TheVariants.{Bits64}
-use Rattle.bpf_isa.specs.declared.operation.Op.TheVariants.{Load, LoadSigned}
-use Rattle.bpf_isa.specs.declared.instruction.Insn.{Insn}
-use Rattle.xdp_state.specs.xdp_maps.declared.decl.MapDecl.{MapDecl}
+use Rattle.cell_core.specs.bpf_isa.declared.operation.Size.{Size}
+use Rattle.cell_core.specs.bpf_isa.declared.operation.Size.TheVariants.{B, H, W, Dw}
+use Rattle.cell_core.specs.bpf_isa.declared.operation.Width.TheVariants.{Bits64}
+use Rattle.cell_core.specs.bpf_isa.declared.operation.Op.TheVariants.{Load, LoadSigned}
+use Rattle.cell_core.specs.bpf_isa.declared.instruction.Insn.{Insn}
+use Rattle.cell_core.specs.xdp_maps.declared.decl.MapDecl.{MapDecl}
 use Rattle.byteorder.specs.Endian.{little_bytes}
-use Rattle.xdp_state.specs.xdp_machine.Memory.{bytes_in, number_at, inside}
-use Rattle.xdp_state.specs.xdp_machine.Memory as machine
+use Rattle.cell_core.specs.xdp_machine.Memory.{bytes_in, number_at, inside}
+use Rattle.cell_core.specs.xdp_machine.Memory as machine
 use Rattle.kind_core.specs.declared.number.Number.{Number}
 use Rattle.kind_core.specs.declared.number.Number.TheVariants.{Known, Unknown}
 use Rattle.kind_core.specs.declared.kind.Kind.{Kind}
@@ -26,13 +26,13 @@ use Rattle.cell_core.specs.Cells.{CellView, bit}
 use Rattle.cell_core.specs.Rows.{greatest}
 use Rattle.operator_cells.specs.Rising.{Rises, RiseAll}
 use Rattle.operator_cells.proofs.RisingLaws.{Stand, stand_all, rises_then}
-use Rattle.held_cells.specs.place_rows.Spans.{no_place, one, region, slots_of, bytes_of, pending_of, is_in, span_row, spans_row}
-use Rattle.held_cells.specs.place_rows.Reading.{is_entry, result_as}
-use Rattle.held_cells.proofs.place_rows.SpanLaws.{is_inside, span_above}
-use Rattle.held_cells.specs.declared.held.Held.{Held}
-use Rattle.held_cells.specs.Held.{PointerView, number_of}
-use Rattle.held_cells.specs.Rows.{number_row, value_row, held_row}
-use Rattle.held_cells.proofs.RowLaws.{slot_row, byte_row}
+use Rattle.operator_cells.specs.row_rules.PlaceRows.Spans.{no_place, one, region, slots_of, bytes_of, pending_of, is_in, span_row, spans_row}
+use Rattle.operator_cells.specs.row_rules.PlaceRows.Reading.{is_entry, result_as}
+use Rattle.operator_cells.proofs.row_rules_laws.PlaceRows.SpanLaws.{is_inside, span_above}
+use Rattle.operator_cells.specs.declared.held_cells.held.Held.{Held}
+use Rattle.operator_cells.specs.HeldCells.Held.{PointerView, number_of}
+use Rattle.operator_cells.specs.HeldCells.Rows.{number_row, value_row, held_row}
+use Rattle.operator_cells.proofs.HeldCells.RowLaws.{slot_row, byte_row}
 use Rattle.register_cells.specs.Reading.{Yields, Finds}
 use Rattle.register_cells.specs.Rows.{ValueTo}
 use Rattle.register_cells.proofs.Yielding.{yields_one}

@@ -5,14 +5,14 @@ use Rattle.std.specs.Prelude.{◌⊎◌}
 use Rattle.std.proofs.Common.{inl, inr}
 use Rattle.std.proofs.lemmas.Bool.{cases_lt}
 use Rattle.byteorder.specs.Endian.{little_number, little_from}
-use Rattle.bpf_isa.specs.declared.operation.Size.{Size}
-use Rattle.bpf_isa.specs.declared.operation.Size.TheVariants.{B, H, W, Dw}
-use Rattle.xdp_state.specs.xdp_maps.declared.decl.MapDecl.{MapDecl}
-use Rattle.xdp_state.specs.xdp_machine.Values.{Value}
-use Rattle.xdp_state.specs.xdp_machine.Values as is
-use Rattle.xdp_state.specs.xdp_machine.State.{Machine, PacketIn, register}
-use Rattle.xdp_state.specs.xdp_machine.Memory.{bytes_in, number_at, inside, aligned}
-use Rattle.xdp_state.specs.xdp_machine.Memory as machine
+use Rattle.cell_core.specs.bpf_isa.declared.operation.Size.{Size}
+use Rattle.cell_core.specs.bpf_isa.declared.operation.Size.TheVariants.{B, H, W, Dw}
+use Rattle.cell_core.specs.xdp_maps.declared.decl.MapDecl.{MapDecl}
+use Rattle.cell_core.specs.xdp_machine.Values.{Value}
+use Rattle.cell_core.specs.xdp_machine.Values as is
+use Rattle.cell_core.specs.xdp_machine.State.{Machine, PacketIn, register}
+use Rattle.cell_core.specs.xdp_machine.Memory.{bytes_in, number_at, inside, aligned}
+use Rattle.cell_core.specs.xdp_machine.Memory as machine
 use Rattle.kind_core.specs.declared.number.Number.TheVariants.{Unknown}
 use Rattle.kind_core.specs.declared.kind.Kind.{Kind}
 use Rattle.kind_core.specs.declared.kind.Kind.TheVariants.{Unset, Num, Packet, Stack, Ctx, Entry}
@@ -21,17 +21,17 @@ use Rattle.kind_core.specs.Tests.{◌>>=◌, within}
 use Rattle.kind_core.specs.Tests as tests
 use Rattle.kind_core.specs.Kinds as kinds
 use Rattle.kind_core.specs.Describes.{Describes}
-use Rattle.bpf_isa.specs.declared.instruction.Insn.{Insn}
-use Rattle.bpf_isa.specs.declared.operation.Op.TheVariants.{Load}
+use Rattle.cell_core.specs.bpf_isa.declared.instruction.Insn.{Insn}
+use Rattle.cell_core.specs.bpf_isa.declared.operation.Op.TheVariants.{Load}
 use Rattle.register_cells.specs.Giving.{given}
 use Rattle.kind_core.specs.declared.why.Why.{Why}
 use Rattle.kind_core.specs.Places as places
 use Rattle.kind_core.specs.Access as kind
 use Rattle.cell_core.specs.Cells.{CellView, IsRun}
 use Rattle.operator_cells.specs.Making.{Grows, MakesIf}
-use Rattle.held_cells.specs.declared.held.Held.{Held}
-use Rattle.held_cells.specs.Held.{PointerView}
-use Rattle.held_cells.specs.Carrying.{IsKnown, Gives}
+use Rattle.operator_cells.specs.declared.held_cells.held.Held.{Held}
+use Rattle.operator_cells.specs.HeldCells.Held.{PointerView}
+use Rattle.operator_cells.specs.HeldCells.Carrying.{IsKnown, Gives}
 use Rattle.register_cells.specs.Reading.{Yields}
 use Rattle.register_cells.proofs.Growing.{ok_map}
 use Rattle.kind_core.proofs.TestLaws.{bind_ok}

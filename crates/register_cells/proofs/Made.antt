@@ -2,18 +2,18 @@
 use Rattle.std.proofs.Common.{◌≡◌, ◌≢◌, ℕ, ◌≤◌, Bool, true, false, if◌then◌else◌, Some, Ok, IfOk, List, length, slice_index, inl, inr, ℤ, unsigned_abs, to_z, of_z, w64, refl, sym, ◌∙◌, ap, subst}
 use Rattle.std.specs.Prelude.{◌==◌}
 use Rattle.byteorder.specs.Endian.{little_number, little_bytes}
-use Rattle.bpf_isa.specs.declared.operation.Size.{Size}
-use Rattle.bpf_isa.specs.declared.operation.Src.{Src}
-use Rattle.bpf_isa.specs.declared.instruction.Insn.{Insn}
-use Rattle.bpf_isa.specs.Rules.{Allows}
-use Rattle.bpf_isa.specs.declared.fields.Rule.TheVariants.{SwapBits}
-use Rattle.xdp_state.specs.xdp_maps.declared.decl.MapDecl.{MapDecl}
-use Rattle.xdp_state.specs.xdp_maps.Calls.{patched}
-use Rattle.xdp_state.specs.xdp_machine.Values.{Value}
-use Rattle.xdp_state.specs.xdp_machine.Values as is
-use Rattle.xdp_state.specs.xdp_machine.State.{PacketIn, register}
-use Rattle.xdp_state.specs.xdp_machine.Arithmetic.{low, ordered}
-use Rattle.xdp_state.specs.xdp_machine.Memory.{bytes_in}
+use Rattle.cell_core.specs.bpf_isa.declared.operation.Size.{Size}
+use Rattle.cell_core.specs.bpf_isa.declared.operation.Src.{Src}
+use Rattle.cell_core.specs.bpf_isa.declared.instruction.Insn.{Insn}
+use Rattle.cell_core.specs.bpf_isa.Rules.{Allows}
+use Rattle.cell_core.specs.bpf_isa.declared.fields.Rule.TheVariants.{SwapBits}
+use Rattle.cell_core.specs.xdp_maps.declared.decl.MapDecl.{MapDecl}
+use Rattle.cell_core.specs.xdp_maps.Calls.{patched}
+use Rattle.cell_core.specs.xdp_machine.Values.{Value}
+use Rattle.cell_core.specs.xdp_machine.Values as is
+use Rattle.cell_core.specs.xdp_machine.State.{PacketIn, register}
+use Rattle.cell_core.specs.xdp_machine.Arithmetic.{low, ordered}
+use Rattle.cell_core.specs.xdp_machine.Memory.{bytes_in}
 use Rattle.kind_core.specs.declared.number.Number.{Number}
 use Rattle.kind_core.specs.declared.number.Number.TheVariants.{Known, Unknown}
 use Rattle.kind_core.specs.declared.kind.Kind.{Kind}
@@ -27,9 +27,9 @@ use Rattle.cell_core.specs.Cells.{CellView, bit, bits_from, on}
 use Rattle.operator_cells.specs.Making.{Makes}
 use Rattle.operator_cells.specs.Spreading.{MakesBytes}
 use Rattle.operator_cells.proofs.MakingLaws.{grown}
-use Rattle.held_cells.specs.declared.held.Held.{Held}
-use Rattle.held_cells.specs.Held.{PointerView, number_of}
-use Rattle.held_cells.specs.Carrying.{Gives}
+use Rattle.operator_cells.specs.declared.held_cells.held.Held.{Held}
+use Rattle.operator_cells.specs.HeldCells.Held.{PointerView, number_of}
+use Rattle.operator_cells.specs.HeldCells.Carrying.{Gives}
 use Rattle.register_cells.specs.Reading.{IsRead, Finds}
 use Rattle.register_cells.specs.Giving.{given_number, numbered}
 use Rattle.register_cells.specs.Storing.{left_of}

@@ -1,11 +1,11 @@
 -- Rows of what arithmetic on values gives.
 use Rattle.std.proofs.Common.{◌≡◌, ◌≢◌, ℕ, zero, ◌+◌, ◌≤◌, ℤ, pos, max, unsigned_abs, Bool, false, Result, Ok, Err, IfOk, List, refl, arith}
 use Rattle.std.specs.Ordering.{int_eq}
-use Rattle.bpf_isa.specs.declared.operation.Width.{Width}
-use Rattle.bpf_isa.specs.declared.operation.Width.TheVariants.{Bits64}
-use Rattle.bpf_isa.specs.declared.operation.AluCode.{AluCode}
-use Rattle.bpf_isa.specs.declared.operation.AluCode.TheVariants.{Add, Sub, Mov}
-use Rattle.xdp_state.specs.xdp_maps.declared.decl.MapDecl.{MapDecl}
+use Rattle.cell_core.specs.bpf_isa.declared.operation.Width.{Width}
+use Rattle.cell_core.specs.bpf_isa.declared.operation.Width.TheVariants.{Bits64}
+use Rattle.cell_core.specs.bpf_isa.declared.operation.AluCode.{AluCode}
+use Rattle.cell_core.specs.bpf_isa.declared.operation.AluCode.TheVariants.{Add, Sub, Mov}
+use Rattle.cell_core.specs.xdp_maps.declared.decl.MapDecl.{MapDecl}
 use Rattle.kind_core.specs.declared.why.Why.{Why}
 use Rattle.kind_core.specs.declared.number.Number.{Number}
 use Rattle.kind_core.specs.declared.number.Number.TheVariants.{Known, Unknown}
@@ -15,8 +15,8 @@ use Rattle.kind_core.specs.Numbers.{from_one, from_two, number_arithmetic, numbe
 use Rattle.kind_core.specs.Pointers.{sum, difference, copied, computed, combined}
 use Rattle.cell_core.specs.Cells.{CellView}
 use Rattle.operator_cells.specs.Rising.{Rises}
-use Rattle.held_cells.specs.Held.{PointerView}
-use Rattle.held_cells.specs.Rows.{number_row, value_row}
+use Rattle.operator_cells.specs.HeldCells.Held.{PointerView}
+use Rattle.operator_cells.specs.HeldCells.Rows.{number_row, value_row}
 use Rattle.register_cells.specs.Combining.{worked_row, combined_row}
 use Rattle.register_cells.specs.Rows.{ValueTo}
 use Rattle.register_cells.proofs.Growing.{ok_map}

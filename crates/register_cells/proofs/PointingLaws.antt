@@ -2,19 +2,19 @@
 use Rattle.std.proofs.Common.{◌≡◌, ℕ, ◌+◌, ◌-◌, ◌*◌, ◌<◌, ◌≤◌, ◌/◌, ◌%◌, ◌⊎◌, inl, inr, nat_lt, ℤ, pos, negsuc, ◌+ℤ◌, Bool, true, false, if◌then◌else◌, Some, Ok, Err, IfOk, List, [], length, get_or, slice_index, refl, sym, ◌∙◌, ap, arith}
 use Rattle.std.specs.Ordering.{int_eq}
 use Rattle.std.proofs.lemmas.Bool.{lt-ltb, le-ltb, ltb-true, ltb-false}
-use Rattle.bpf_isa.specs.declared.operation.Size.{Size}
-use Rattle.bpf_isa.specs.declared.operation.Size.TheVariants.{W}
-use Rattle.bpf_isa.specs.declared.operation.Width.{Width}
-use Rattle.bpf_isa.specs.declared.operation.Width.TheVariants.{Bits64}
-use Rattle.bpf_isa.specs.declared.operation.AluCode.{AluCode}
-use Rattle.bpf_isa.specs.declared.operation.Src.{Src}
-use Rattle.bpf_isa.specs.declared.operation.Src.TheVariants.{K, X}
-use Rattle.bpf_isa.specs.declared.operation.Op.{Op}
-use Rattle.bpf_isa.specs.declared.instruction.Insn.{Insn}
-use Rattle.xdp_state.specs.xdp_maps.declared.decl.MapDecl.{MapDecl}
-use Rattle.xdp_state.specs.xdp_machine.Memory.{bytes_in}
-use Rattle.xdp_state.specs.xdp_machine.Memory as machine
-use Rattle.xdp_state.specs.xdp_machine.Values as is
+use Rattle.cell_core.specs.bpf_isa.declared.operation.Size.{Size}
+use Rattle.cell_core.specs.bpf_isa.declared.operation.Size.TheVariants.{W}
+use Rattle.cell_core.specs.bpf_isa.declared.operation.Width.{Width}
+use Rattle.cell_core.specs.bpf_isa.declared.operation.Width.TheVariants.{Bits64}
+use Rattle.cell_core.specs.bpf_isa.declared.operation.AluCode.{AluCode}
+use Rattle.cell_core.specs.bpf_isa.declared.operation.Src.{Src}
+use Rattle.cell_core.specs.bpf_isa.declared.operation.Src.TheVariants.{K, X}
+use Rattle.cell_core.specs.bpf_isa.declared.operation.Op.{Op}
+use Rattle.cell_core.specs.bpf_isa.declared.instruction.Insn.{Insn}
+use Rattle.cell_core.specs.xdp_maps.declared.decl.MapDecl.{MapDecl}
+use Rattle.cell_core.specs.xdp_machine.Memory.{bytes_in}
+use Rattle.cell_core.specs.xdp_machine.Memory as machine
+use Rattle.cell_core.specs.xdp_machine.Values as is
 use Rattle.kind_core.specs.declared.kind.Kind.{Kind}
 use Rattle.kind_core.specs.declared.kind.Kind.TheVariants.{Unset, Num, Packet, End, Stack, Ctx}
 use Rattle.kind_core.specs.declared.number.Number.TheVariants.{Unknown}
@@ -30,9 +30,9 @@ use Rattle.kind_core.specs.Effects.{operand, effect_of, verdict}
 use Rattle.kind_core.specs.Edges.{constant, changed, transferred}
 use Rattle.kind_core.specs.Profile.{writes_destination}
 use Rattle.kind_core.proofs.TestLaws.{bind_all}
-use Rattle.held_cells.specs.declared.held.Held.{Held}
-use Rattle.held_cells.specs.Pointing.{pointing_as, HoldsPointer, KeepPointers}
-use Rattle.held_cells.proofs.RowLaws.{put_register, put_slot}
+use Rattle.operator_cells.specs.declared.held_cells.held.Held.{Held}
+use Rattle.operator_cells.specs.HeldCells.Pointing.{pointing_as, HoldsPointer, KeepPointers}
+use Rattle.operator_cells.proofs.HeldCells.RowLaws.{put_register, put_slot}
 use Rattle.register_cells.specs.Giving.{given_kind}
 use Rattle.register_cells.specs.Pointing.{MovesPointer, MovesEither, MovesHeld}
 use Rattle.register_cells.proofs.Growing.{ok_map}

@@ -3,16 +3,16 @@ use Rattle.std.proofs.Common.{◌≡◌, ◌≢◌, ℕ, ◌+◌, ◌≤◌, ℤ
 use Rattle.std.specs.List.{list_any}
 use Rattle.std.proofs.lemmas.Bool.{lt-ltb}
 use Rattle.std.proofs.lemmas.List.{get_or-set_same, get_or-set_other}
-use Rattle.bpf_isa.specs.declared.operation.Width.{Width}
-use Rattle.bpf_isa.specs.declared.operation.AluCode.{AluCode}
-use Rattle.bpf_isa.specs.declared.operation.AluCode.TheVariants.{Mov, Lsh, Rsh, Arsh}
-use Rattle.bpf_isa.specs.declared.operation.Src.{Src}
-use Rattle.bpf_isa.specs.declared.operation.Src.TheVariants.{K, X}
-use Rattle.bpf_isa.specs.declared.operation.Op.{Op}
-use Rattle.bpf_isa.specs.declared.operation.Op.TheVariants.{Alu, Neg, End, Swap, LoadImm, Load, LoadSigned}
-use Rattle.bpf_isa.specs.declared.operation.Size.{Size}
-use Rattle.bpf_isa.specs.declared.instruction.Insn.{Insn}
-use Rattle.xdp_state.specs.xdp_maps.declared.decl.MapDecl.{MapDecl}
+use Rattle.cell_core.specs.bpf_isa.declared.operation.Width.{Width}
+use Rattle.cell_core.specs.bpf_isa.declared.operation.AluCode.{AluCode}
+use Rattle.cell_core.specs.bpf_isa.declared.operation.AluCode.TheVariants.{Mov, Lsh, Rsh, Arsh}
+use Rattle.cell_core.specs.bpf_isa.declared.operation.Src.{Src}
+use Rattle.cell_core.specs.bpf_isa.declared.operation.Src.TheVariants.{K, X}
+use Rattle.cell_core.specs.bpf_isa.declared.operation.Op.{Op}
+use Rattle.cell_core.specs.bpf_isa.declared.operation.Op.TheVariants.{Alu, Neg, End, Swap, LoadImm, Load, LoadSigned}
+use Rattle.cell_core.specs.bpf_isa.declared.operation.Size.{Size}
+use Rattle.cell_core.specs.bpf_isa.declared.instruction.Insn.{Insn}
+use Rattle.cell_core.specs.xdp_maps.declared.decl.MapDecl.{MapDecl}
 use Rattle.kind_core.specs.declared.kind.Kind.{Kind}
 use Rattle.kind_core.specs.declared.kind.Kind.TheVariants.{Unset, Num}
 use Rattle.kind_core.specs.declared.number.Number.{Number}
@@ -25,15 +25,15 @@ use Rattle.kind_core.specs.Effects.{operand, renumbered, effect_of, verdict}
 use Rattle.kind_core.specs.Edges as edges
 use Rattle.kind_core.specs.Edges.{transferred}
 use Rattle.cell_core.specs.Cells.{CellView, bit}
-use Rattle.held_cells.specs.place_rows.Spans.{no_place, one, is_in, span_row}
-use Rattle.held_cells.specs.place_rows.Origins.{is_open, open_row, has_data}
-use Rattle.held_cells.specs.place_rows.Reading.{right_of, arithmetic_is_heavy, result_as, result_row}
-use Rattle.held_cells.specs.place_rows.Writing.{writes_as, is_open_in, made_row}
-use Rattle.held_cells.proofs.place_rows.SpanLaws.{in_one, in_none, is_inside, one_number, one_row}
-use Rattle.held_cells.specs.declared.held.Held.{Held}
-use Rattle.held_cells.specs.Held.{PointerView}
-use Rattle.held_cells.specs.Rows.{number_at, number_row, value_row, held_row, LeavesTo, CarriesTo}
-use Rattle.held_cells.proofs.RowLaws.{grows_by, put_register, register_row, register_changed, register_kept}
+use Rattle.operator_cells.specs.row_rules.PlaceRows.Spans.{no_place, one, is_in, span_row}
+use Rattle.operator_cells.specs.row_rules.PlaceRows.Origins.{is_open, open_row, has_data}
+use Rattle.operator_cells.specs.row_rules.PlaceRows.Reading.{right_of, arithmetic_is_heavy, result_as, result_row}
+use Rattle.operator_cells.specs.row_rules.PlaceRows.Writing.{writes_as, is_open_in, made_row}
+use Rattle.operator_cells.proofs.row_rules_laws.PlaceRows.SpanLaws.{in_one, in_none, is_inside, one_number, one_row}
+use Rattle.operator_cells.specs.declared.held_cells.held.Held.{Held}
+use Rattle.operator_cells.specs.HeldCells.Held.{PointerView}
+use Rattle.operator_cells.specs.HeldCells.Rows.{number_at, number_row, value_row, held_row, LeavesTo, CarriesTo}
+use Rattle.operator_cells.proofs.HeldCells.RowLaws.{grows_by, put_register, register_row, register_changed, register_kept}
 use Rattle.register_cells.specs.Giving.{given_kind}
 use Rattle.register_cells.specs.Combining.{is_late, combined_row}
 use Rattle.register_cells.specs.Rows.{ValueTo}

@@ -4,17 +4,17 @@ use Rattle.std.specs.List.{list_any}
 use Rattle.std.proofs.lemmas.Bool.{cases_lt, le-ltb, lt-ltb, ltb-false}
 use Rattle.std.proofs.lemmas.Result.{on_ok_weaker}
 use Rattle.std.proofs.lemmas.List.{get_or-set_same, get_or-set_other}
-use Rattle.bpf_isa.specs.declared.operation.Size.{Size}
-use Rattle.bpf_isa.specs.declared.operation.Size.TheVariants.{B, H, W, Dw}
-use Rattle.bpf_isa.specs.declared.operation.Src.{Src}
-use Rattle.bpf_isa.specs.declared.operation.Src.TheVariants.{K, X}
-use Rattle.bpf_isa.specs.declared.operation.Op.{Op}
-use Rattle.bpf_isa.specs.declared.operation.Op.TheVariants.{StoreImm, Store}
-use Rattle.bpf_isa.specs.declared.instruction.Insn.{Insn}
-use Rattle.xdp_state.specs.xdp_maps.declared.decl.MapDecl.{MapDecl}
-use Rattle.xdp_state.specs.xdp_maps.Calls.{patched}
-use Rattle.xdp_state.specs.xdp_machine.Memory.{bytes_in, inside}
-use Rattle.xdp_state.specs.xdp_machine.Memory as machine
+use Rattle.cell_core.specs.bpf_isa.declared.operation.Size.{Size}
+use Rattle.cell_core.specs.bpf_isa.declared.operation.Size.TheVariants.{B, H, W, Dw}
+use Rattle.cell_core.specs.bpf_isa.declared.operation.Src.{Src}
+use Rattle.cell_core.specs.bpf_isa.declared.operation.Src.TheVariants.{K, X}
+use Rattle.cell_core.specs.bpf_isa.declared.operation.Op.{Op}
+use Rattle.cell_core.specs.bpf_isa.declared.operation.Op.TheVariants.{StoreImm, Store}
+use Rattle.cell_core.specs.bpf_isa.declared.instruction.Insn.{Insn}
+use Rattle.cell_core.specs.xdp_maps.declared.decl.MapDecl.{MapDecl}
+use Rattle.cell_core.specs.xdp_maps.Calls.{patched}
+use Rattle.cell_core.specs.xdp_machine.Memory.{bytes_in, inside}
+use Rattle.cell_core.specs.xdp_machine.Memory as machine
 use Rattle.kind_core.specs.declared.number.Number.{Number}
 use Rattle.kind_core.specs.declared.number.Number.TheVariants.{Known, Unknown}
 use Rattle.kind_core.specs.declared.kind.Kind.{Kind}
@@ -33,16 +33,16 @@ use Rattle.cell_core.specs.Cells.{CellView}
 use Rattle.cell_core.specs.Rows.{greatest, numbers}
 use Rattle.operator_cells.specs.Rising.{Rises, RiseAll}
 use Rattle.operator_cells.proofs.RisingLaws.{stand_none, stand_more, rises_then}
-use Rattle.held_cells.specs.place_rows.declared.span.Span.{Span}
-use Rattle.held_cells.specs.place_rows.Spans.{no_place, one, region, slots_of, bytes_of, is_in, span_row, spans_row}
-use Rattle.held_cells.specs.place_rows.Origins.{is_open, open_row, has_data}
-use Rattle.held_cells.specs.place_rows.Reading.{in_slot, result_as}
-use Rattle.held_cells.specs.place_rows.Writing.{is_open_in, writes_as, record_as, taken_row}
-use Rattle.held_cells.proofs.place_rows.SpanLaws.{inside as in_span, is_inside, in_none, one_row}
-use Rattle.held_cells.specs.declared.held.Held.{Held}
-use Rattle.held_cells.specs.Held.{PointerView}
-use Rattle.held_cells.specs.Rows.{number_row, value_row, kind_at, number_at, held_row, LeavesTo, CarriesTo}
-use Rattle.held_cells.proofs.RowLaws.{grows_by, register_row, byte_row, slot_changed, slot_kept}
+use Rattle.operator_cells.specs.row_rules.declared.place_rows.span.Span.{Span}
+use Rattle.operator_cells.specs.row_rules.PlaceRows.Spans.{no_place, one, region, slots_of, bytes_of, is_in, span_row, spans_row}
+use Rattle.operator_cells.specs.row_rules.PlaceRows.Origins.{is_open, open_row, has_data}
+use Rattle.operator_cells.specs.row_rules.PlaceRows.Reading.{in_slot, result_as}
+use Rattle.operator_cells.specs.row_rules.PlaceRows.Writing.{is_open_in, writes_as, record_as, taken_row}
+use Rattle.operator_cells.proofs.row_rules_laws.PlaceRows.SpanLaws.{inside as in_span, is_inside, in_none, one_row}
+use Rattle.operator_cells.specs.declared.held_cells.held.Held.{Held}
+use Rattle.operator_cells.specs.HeldCells.Held.{PointerView}
+use Rattle.operator_cells.specs.HeldCells.Rows.{number_row, value_row, kind_at, number_at, held_row, LeavesTo, CarriesTo}
+use Rattle.operator_cells.proofs.HeldCells.RowLaws.{grows_by, register_row, byte_row, slot_changed, slot_kept}
 use Rattle.register_cells.specs.Rows.{ValueTo, left_row, stored_row, StoresTo}
 use Rattle.register_cells.proofs.ValueLaws.{same_most, trans_most, value_by, value_risen}
 use Rattle.register_cells.proofs.Growing.{ok_map}

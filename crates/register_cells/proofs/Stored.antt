@@ -3,19 +3,19 @@ use Rattle.std.proofs.Common.{◌≡◌, ℕ, ◌+◌, ◌-◌, ◌/◌, ◌%◌
 use Rattle.std.proofs.lemmas.Bool.{cases_lt}
 use Rattle.std.proofs.lemmas.List.{get_or_append_left, get_or-append_right, get_or-take, get_or-drop, get_or-map, length-take-le, length-map}
 use Rattle.byteorder.specs.Endian.{little_bytes}
-use Rattle.bpf_isa.specs.declared.operation.Size.{Size}
-use Rattle.xdp_state.specs.xdp_maps.declared.decl.MapDecl.{MapDecl}
-use Rattle.xdp_state.specs.xdp_maps.Calls.{patched}
-use Rattle.xdp_state.proofs.xdp_maps_laws.ByteLaws.{length-patched}
-use Rattle.xdp_state.specs.xdp_machine.Values.{Value, ◌>>=◌}
-use Rattle.xdp_state.specs.xdp_machine.Values as is
-use Rattle.xdp_state.specs.xdp_machine.State.{Machine, PacketIn}
-use Rattle.xdp_state.specs.xdp_machine.Memory.{bytes_in}
-use Rattle.xdp_state.specs.xdp_machine.Memory as machine
+use Rattle.cell_core.specs.bpf_isa.declared.operation.Size.{Size}
+use Rattle.cell_core.specs.xdp_maps.declared.decl.MapDecl.{MapDecl}
+use Rattle.cell_core.specs.xdp_maps.Calls.{patched}
+use Rattle.cell_core.proofs.xdp_maps_laws.ByteLaws.{length-patched}
+use Rattle.cell_core.specs.xdp_machine.Values.{Value, ◌>>=◌}
+use Rattle.cell_core.specs.xdp_machine.Values as is
+use Rattle.cell_core.specs.xdp_machine.State.{Machine, PacketIn}
+use Rattle.cell_core.specs.xdp_machine.Memory.{bytes_in}
+use Rattle.cell_core.specs.xdp_machine.Memory as machine
 use Rattle.kind_core.specs.declared.kind.Kinds.{Kinds}
-use Rattle.held_cells.specs.declared.held.Held.{Held}
-use Rattle.held_cells.specs.declared.held.Pointer.{Pointer}
-use Rattle.held_cells.specs.Held.{PointerView, pointer_of, pointed, no_pointer, pointer_at, AreHeld, AreInside}
+use Rattle.operator_cells.specs.declared.held_cells.held.Held.{Held}
+use Rattle.operator_cells.specs.declared.held_cells.held.Pointer.{Pointer}
+use Rattle.operator_cells.specs.HeldCells.Held.{PointerView, pointer_of, pointed, no_pointer, pointer_at, AreHeld, AreInside}
 use Rattle.register_cells.proofs.Carrying.{inside_more}
 
 -- ---- the machine

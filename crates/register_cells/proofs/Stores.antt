@@ -2,19 +2,19 @@
 use Rattle.std.proofs.Common.{◌≡◌, ◌≢◌, ℕ, ◌+◌, ◌/◌, ◌%◌, ◌<◌, ◌≤◌, inl, inr, ℤ, pos, ◌+ℤ◌, nat_le, Bool, true, false, Option, Some, None, Result, Ok, Err, IfOk, OnOk, List, length, get_or, slice_index, slice_set, refl, sym, ◌∙◌, ap, subst, arith}
 use Rattle.std.proofs.lemmas.Result.{on_ok_weaker}
 use Rattle.byteorder.specs.Endian.{little_number, little_bytes}
-use Rattle.bpf_isa.specs.declared.operation.Size.{Size}
-use Rattle.bpf_isa.specs.declared.operation.Src.{Src}
-use Rattle.bpf_isa.specs.declared.instruction.Insn.{Insn}
-use Rattle.bpf_isa.specs.declared.operation.Size.TheVariants.{B, H, W, Dw}
-use Rattle.xdp_state.specs.xdp_maps.declared.decl.MapDecl.{MapDecl}
-use Rattle.xdp_state.specs.xdp_maps.State.{MapState}
-use Rattle.xdp_state.specs.xdp_maps.Calls.{patched}
-use Rattle.xdp_state.specs.xdp_machine.Values.{Value}
-use Rattle.xdp_state.specs.xdp_machine.Values as is
-use Rattle.xdp_state.specs.xdp_machine.State.{Machine, PacketIn, register}
-use Rattle.xdp_state.specs.xdp_machine.Step as step
-use Rattle.xdp_state.specs.xdp_machine.Memory.{bytes_in, inside}
-use Rattle.xdp_state.specs.xdp_machine.Memory as machine
+use Rattle.cell_core.specs.bpf_isa.declared.operation.Size.{Size}
+use Rattle.cell_core.specs.bpf_isa.declared.operation.Src.{Src}
+use Rattle.cell_core.specs.bpf_isa.declared.instruction.Insn.{Insn}
+use Rattle.cell_core.specs.bpf_isa.declared.operation.Size.TheVariants.{B, H, W, Dw}
+use Rattle.cell_core.specs.xdp_maps.declared.decl.MapDecl.{MapDecl}
+use Rattle.cell_core.specs.xdp_maps.State.{MapState}
+use Rattle.cell_core.specs.xdp_maps.Calls.{patched}
+use Rattle.cell_core.specs.xdp_machine.Values.{Value}
+use Rattle.cell_core.specs.xdp_machine.Values as is
+use Rattle.cell_core.specs.xdp_machine.State.{Machine, PacketIn, register}
+use Rattle.cell_core.specs.xdp_machine.Step as step
+use Rattle.cell_core.specs.xdp_machine.Memory.{bytes_in, inside}
+use Rattle.cell_core.specs.xdp_machine.Memory as machine
 use Rattle.kind_core.specs.declared.number.Number.{Number}
 use Rattle.kind_core.specs.declared.number.Number.TheVariants.{Known, Unknown}
 use Rattle.kind_core.specs.declared.kind.Kind.{Kind}
@@ -33,9 +33,9 @@ use Rattle.kind_core.specs.Access.{underlying}
 use Rattle.kind_core.specs.Access as access
 use Rattle.kind_core.specs.Describes.{World, Describes}
 use Rattle.cell_core.specs.Cells.{CellView}
-use Rattle.held_cells.specs.declared.held.Held.{Held}
-use Rattle.held_cells.specs.Held.{PointerView, pointer_at, Holds, Counts, AreInside, number_of, IsThere}
-use Rattle.held_cells.specs.Carrying.{IsKnown, Carries}
+use Rattle.operator_cells.specs.declared.held_cells.held.Held.{Held}
+use Rattle.operator_cells.specs.HeldCells.Held.{PointerView, pointer_at, Holds, Counts, AreInside, number_of, IsThere}
+use Rattle.operator_cells.specs.HeldCells.Carrying.{IsKnown, Carries}
 use Rattle.register_cells.specs.Reading.{IsRead, Yields, Finds}
 use Rattle.register_cells.specs.Giving.{numbered}
 use Rattle.register_cells.specs.Storing.{points, left_of, IsSource, Fills, Leaves}

@@ -1,24 +1,24 @@
 -- Rows of a value that new cells make.
 use Rattle.std.proofs.Common.{◌≡◌, ℕ, ◌+◌, ◌≤◌, max, Bool, true, false, if◌then◌else◌, Result, Ok, Err, IfOk, List, refl, subst, arith}
-use Rattle.bpf_isa.specs.declared.operation.AluCode.{AluCode}
-use Rattle.bpf_isa.specs.declared.operation.AluCode.TheVariants.{Add, Lsh, Rsh, Arsh}
-use Rattle.bpf_isa.specs.declared.operation.Width.{Width}
+use Rattle.cell_core.specs.bpf_isa.declared.operation.AluCode.{AluCode}
+use Rattle.cell_core.specs.bpf_isa.declared.operation.AluCode.TheVariants.{Add, Lsh, Rsh, Arsh}
+use Rattle.cell_core.specs.bpf_isa.declared.operation.Width.{Width}
 use Rattle.kind_core.specs.declared.why.Why.{Why}
 use Rattle.kind_core.specs.declared.number.Number.{Number}
 use Rattle.kind_core.specs.declared.number.Number.TheVariants.{Known, Unknown}
 use Rattle.kind_core.specs.declared.kind.Kind.{Kind}
 use Rattle.kind_core.specs.declared.kind.Kind.TheVariants.{Num}
 use Rattle.kind_core.specs.Numbers.{number_arithmetic}
-use Rattle.xdp_state.specs.xdp_machine.Arithmetic.{bits_in, low, arithmetic}
+use Rattle.cell_core.specs.xdp_machine.Arithmetic.{bits_in, low, arithmetic}
 use Rattle.cell_core.specs.Cells.{CellView, is_heavy, bit}
 use Rattle.operator_cells.specs.Making.{Makes, operator_of}
 use Rattle.operator_cells.specs.Rising.{Rises}
 use Rattle.operator_cells.proofs.MakingLaws.{grown}
 use Rattle.operator_cells.proofs.RisingLaws.{stand_none, stand_more, rises_then, rises_by}
-use Rattle.held_cells.specs.place_rows.Origins.{is_open, open_row}
-use Rattle.held_cells.specs.Held.{PointerView, number_of}
-use Rattle.held_cells.specs.Rows.{number_row, value_row}
-use Rattle.held_cells.proofs.RowLaws.{grows_by}
+use Rattle.operator_cells.specs.row_rules.PlaceRows.Origins.{is_open, open_row}
+use Rattle.operator_cells.specs.HeldCells.Held.{PointerView, number_of}
+use Rattle.operator_cells.specs.HeldCells.Rows.{number_row, value_row}
+use Rattle.operator_cells.proofs.HeldCells.RowLaws.{grows_by}
 use Rattle.register_cells.specs.Reading.{Finds}
 use Rattle.register_cells.specs.Rows.{ValueTo}
 use Rattle.register_cells.specs.Shifting.{is_shift}

@@ -1,16 +1,16 @@
 -- Arithmetic on values by their kinds.
 use Rattle.std.proofs.Common.{◌≡◌, ◌≢◌, ℕ, ◌^◌, ◌<◌, ℤ, pos, Bool, Option, Some, Result, refl, sym, subst, List}
-use Rattle.bpf_isa.specs.declared.operation.Width.{Width}
-use Rattle.bpf_isa.specs.declared.operation.Width.TheVariants.{Bits64}
-use Rattle.bpf_isa.specs.declared.operation.AluCode.TheVariants.{Add, Sub, Mov}
-use Rattle.bpf_isa.specs.declared.operation.AluCode.{AluCode}
+use Rattle.cell_core.specs.bpf_isa.declared.operation.Width.{Width}
+use Rattle.cell_core.specs.bpf_isa.declared.operation.Width.TheVariants.{Bits64}
+use Rattle.cell_core.specs.bpf_isa.declared.operation.AluCode.TheVariants.{Add, Sub, Mov}
+use Rattle.cell_core.specs.bpf_isa.declared.operation.AluCode.{AluCode}
 use Rattle.kind_core.specs.declared.why.Why.{Why}
 use Rattle.std.specs.Prelude.{unsigned_abs}
 use Rattle.std.specs.Ordering.{int_eq}
-use Rattle.xdp_state.specs.xdp_maps.declared.decl.MapDecl.{MapDecl}
-use Rattle.xdp_state.specs.xdp_machine.Values.{Value}
-use Rattle.xdp_state.specs.xdp_machine.Values as is
-use Rattle.xdp_state.specs.xdp_machine.Pointers as machine
+use Rattle.cell_core.specs.xdp_maps.declared.decl.MapDecl.{MapDecl}
+use Rattle.cell_core.specs.xdp_machine.Values.{Value}
+use Rattle.cell_core.specs.xdp_machine.Values as is
+use Rattle.cell_core.specs.xdp_machine.Pointers as machine
 use Rattle.kind_core.specs.declared.number.Number.{Number}
 use Rattle.kind_core.specs.declared.number.Number.TheVariants.{Known, Unknown}
 use Rattle.kind_core.specs.declared.kind.Kind.{Kind}
@@ -18,7 +18,7 @@ use Rattle.kind_core.specs.declared.kind.Kind.TheVariants.{Num}
 use Rattle.kind_core.specs.Numbers.{from_one}
 use Rattle.kind_core.specs.Pointers.{sum, difference, copied, computed, combined}
 use Rattle.cell_core.specs.Cells.{CellView}
-use Rattle.held_cells.specs.Held.{PointerView, number_of}
+use Rattle.operator_cells.specs.HeldCells.Held.{PointerView, number_of}
 use Rattle.register_cells.specs.Reading.{Finds, Yields}
 
 -- of one, whatever the other value is

@@ -1,10 +1,10 @@
 -- In which row a result of arithmetic stands.
 use Rattle.std.specs.Prelude.{ℕ, ◌+◌, max, not, Bool, false}
-use Rattle.bpf_isa.specs.declared.operation.AluCode.{AluCode}
-use Rattle.bpf_isa.specs.declared.operation.AluCode.TheVariants.{Add, Sub, Mul, Div, Mod, Mov, Lsh, Rsh, Arsh}
+use Rattle.cell_core.specs.bpf_isa.declared.operation.AluCode.{AluCode}
+use Rattle.cell_core.specs.bpf_isa.declared.operation.AluCode.TheVariants.{Add, Sub, Mul, Div, Mod, Mov, Lsh, Rsh, Arsh}
 use Rattle.kind_core.specs.declared.kind.Kind.{Kind}
 use Rattle.cell_core.specs.Cells.{bit}
-use Rattle.held_cells.specs.place_rows.Reading.{is_number, is_known}
+use Rattle.operator_cells.specs.row_rules.PlaceRows.Reading.{is_number, is_known}
 
 -- whether arithmetic with this second operand, that gives this kind, takes a row of its own
 abbrev pub is_late : AluCode → Kind → Kind → Bool

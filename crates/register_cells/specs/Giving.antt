@@ -1,16 +1,16 @@
 -- What instructions that write their destination put there.
 use Rattle.std.specs.Prelude.{ℕ, Bool, Option, Some, None, Result, Ok, List, unsigned_abs}
-use Rattle.bpf_isa.specs.declared.operation.Src.TheVariants.{X}
-use Rattle.bpf_isa.specs.declared.operation.Op.{Op}
-use Rattle.bpf_isa.specs.declared.operation.Op.TheVariants.{Alu, Neg, End, Swap, LoadImm, Load, LoadSigned}
-use Rattle.bpf_isa.specs.declared.instruction.Insn.{Insn}
-use Rattle.xdp_state.specs.xdp_maps.declared.decl.MapDecl.{MapDecl}
-use Rattle.xdp_state.specs.xdp_machine.Values.{Value, Number, number_in, ◌>>=◌}
-use Rattle.xdp_state.specs.xdp_machine.State.{Machine, register}
-use Rattle.xdp_state.specs.xdp_machine.Arithmetic.{bits_in, negated, ordered}
-use Rattle.xdp_state.specs.xdp_machine.Pointers.{combined}
-use Rattle.xdp_state.specs.xdp_machine.Memory.{loaded_plain, loaded_signed}
-use Rattle.xdp_state.specs.xdp_machine.Step as machine
+use Rattle.cell_core.specs.bpf_isa.declared.operation.Src.TheVariants.{X}
+use Rattle.cell_core.specs.bpf_isa.declared.operation.Op.{Op}
+use Rattle.cell_core.specs.bpf_isa.declared.operation.Op.TheVariants.{Alu, Neg, End, Swap, LoadImm, Load, LoadSigned}
+use Rattle.cell_core.specs.bpf_isa.declared.instruction.Insn.{Insn}
+use Rattle.cell_core.specs.xdp_maps.declared.decl.MapDecl.{MapDecl}
+use Rattle.cell_core.specs.xdp_machine.Values.{Value, Number, number_in, ◌>>=◌}
+use Rattle.cell_core.specs.xdp_machine.State.{Machine, register}
+use Rattle.cell_core.specs.xdp_machine.Arithmetic.{bits_in, negated, ordered}
+use Rattle.cell_core.specs.xdp_machine.Pointers.{combined}
+use Rattle.cell_core.specs.xdp_machine.Memory.{loaded_plain, loaded_signed}
+use Rattle.cell_core.specs.xdp_machine.Step as machine
 use Rattle.kind_core.specs.declared.kind.Kind.{Kind}
 use Rattle.kind_core.specs.declared.kind.Kinds.{Kinds}
 use Rattle.kind_core.specs.declared.why.Why.{Why}

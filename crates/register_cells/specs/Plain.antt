@@ -1,9 +1,9 @@
 -- Instructions that neither jump nor end, and operate on no map.
 use Rattle.std.specs.Prelude.{ℤ, pos, ◌||◌, Bool, true, false, not}
 use Rattle.std.specs.Ordering.{int_eq}
-use Rattle.bpf_isa.specs.declared.operation.Op.{Op}
-use Rattle.bpf_isa.specs.declared.operation.Op.TheVariants.{Alu, Neg, End, Swap, Call, LoadImm, Load, LoadSigned, StoreImm, Store}
-use Rattle.bpf_isa.specs.declared.instruction.Insn.{Insn}
+use Rattle.cell_core.specs.bpf_isa.declared.operation.Op.{Op}
+use Rattle.cell_core.specs.bpf_isa.declared.operation.Op.TheVariants.{Alu, Neg, End, Swap, Call, LoadImm, Load, LoadSigned, StoreImm, Store}
+use Rattle.cell_core.specs.bpf_isa.declared.instruction.Insn.{Insn}
 use Rattle.kind_core.specs.declared.kind.Kind.{Kind}
 use Rattle.kind_core.specs.declared.kind.Kind.TheVariants.{Entry}
 use Rattle.kind_core.specs.declared.kind.Kinds.{Kinds}

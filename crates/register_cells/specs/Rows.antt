@@ -1,22 +1,22 @@
 -- In which rows stands what new cells make.
 use Rattle.std.specs.Prelude.{ℕ, ℤ, ◌≤◌, max, if◌then◌else◌, List, [], ◌∷◌}
 use Rattle.std.specs.List.{list_any}
-use Rattle.bpf_isa.specs.declared.operation.Size.{Size}
-use Rattle.bpf_isa.specs.declared.operation.Size.TheVariants.{Dw}
-use Rattle.xdp_state.specs.xdp_machine.Memory.{bytes_in}
+use Rattle.cell_core.specs.bpf_isa.declared.operation.Size.{Size}
+use Rattle.cell_core.specs.bpf_isa.declared.operation.Size.TheVariants.{Dw}
+use Rattle.cell_core.specs.xdp_machine.Memory.{bytes_in}
 use Rattle.kind_core.specs.declared.kind.Kind.{Kind}
 use Rattle.kind_core.specs.declared.kind.Kinds.{Kinds}
 use Rattle.cell_core.specs.Cells.{CellView}
 use Rattle.cell_core.specs.Rows.{AreRows}
 use Rattle.operator_cells.specs.Rising.{GrowsTo}
-use Rattle.held_cells.specs.place_rows.declared.span.Span.{Span}
-use Rattle.held_cells.specs.place_rows.Spans.{no_place, region, span_row}
-use Rattle.held_cells.specs.place_rows.Origins.{open_row}
-use Rattle.held_cells.specs.place_rows.Reading.{in_slot}
-use Rattle.held_cells.specs.place_rows.Writing.{is_open_in}
-use Rattle.held_cells.specs.declared.held.Held.{Held}
-use Rattle.held_cells.specs.Held.{PointerView}
-use Rattle.held_cells.specs.Rows.{value_row, held_row, LeavesTo}
+use Rattle.operator_cells.specs.row_rules.declared.place_rows.span.Span.{Span}
+use Rattle.operator_cells.specs.row_rules.PlaceRows.Spans.{no_place, region, span_row}
+use Rattle.operator_cells.specs.row_rules.PlaceRows.Origins.{open_row}
+use Rattle.operator_cells.specs.row_rules.PlaceRows.Reading.{in_slot}
+use Rattle.operator_cells.specs.row_rules.PlaceRows.Writing.{is_open_in}
+use Rattle.operator_cells.specs.declared.held_cells.held.Held.{Held}
+use Rattle.operator_cells.specs.HeldCells.Held.{PointerView}
+use Rattle.operator_cells.specs.HeldCells.Rows.{value_row, held_row, LeavesTo}
 
 -- More cells, none in a later row than the result, and all in row 0 where the kind has no data; and what number c holds, by this kind, stands in no
 -- later row than the result.

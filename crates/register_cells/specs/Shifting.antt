@@ -1,7 +1,7 @@
 -- Shifts among the operations.
 use Rattle.std.specs.Prelude.{Bool, true, false}
-use Rattle.bpf_isa.specs.declared.operation.AluCode.{AluCode}
-use Rattle.bpf_isa.specs.declared.operation.AluCode.TheVariants.{Lsh, Rsh, Arsh}
+use Rattle.cell_core.specs.bpf_isa.declared.operation.AluCode.{AluCode}
+use Rattle.cell_core.specs.bpf_isa.declared.operation.AluCode.TheVariants.{Lsh, Rsh, Arsh}
 
 abbrev pub is_shift : AluCode → Bool
 is_shift Lsh = true

@@ -1,10 +1,10 @@
 -- What stores leave of what cells hold.
 use Rattle.std.specs.Prelude.{ℕ, ◌≡◌, ◌<◌, ◌^◌, Bool, true, false, Option, Some, Ok, List, length}
-use Rattle.bpf_isa.specs.declared.operation.Size.{Size}
-use Rattle.xdp_state.specs.xdp_maps.declared.decl.MapDecl.{MapDecl}
-use Rattle.xdp_state.specs.xdp_machine.Values.{Value}
-use Rattle.xdp_state.specs.xdp_machine.State.{Machine, PacketIn}
-use Rattle.xdp_state.specs.xdp_machine.Memory as machine
+use Rattle.cell_core.specs.bpf_isa.declared.operation.Size.{Size}
+use Rattle.cell_core.specs.xdp_maps.declared.decl.MapDecl.{MapDecl}
+use Rattle.cell_core.specs.xdp_machine.Values.{Value}
+use Rattle.cell_core.specs.xdp_machine.State.{Machine, PacketIn}
+use Rattle.cell_core.specs.xdp_machine.Memory as machine
 use Rattle.kind_core.specs.declared.number.Number.{Number}
 use Rattle.kind_core.specs.declared.kind.Kind.{Kind}
 use Rattle.kind_core.specs.declared.kind.Kind.TheVariants.{Num, Maybe, Entry}
@@ -12,9 +12,9 @@ use Rattle.kind_core.specs.declared.kind.Kinds.{Kinds}
 use Rattle.kind_core.specs.Access.{underlying}
 use Rattle.cell_core.specs.Cells.{CellView, IsRun}
 use Rattle.operator_cells.specs.Making.{Grows}
-use Rattle.held_cells.specs.declared.held.Held.{Held}
-use Rattle.held_cells.specs.Held.{PointerView, Holds, Counts, AreHeld, AreInside, number_of}
-use Rattle.held_cells.specs.Carrying.{IsKnown}
+use Rattle.operator_cells.specs.declared.held_cells.held.Held.{Held}
+use Rattle.operator_cells.specs.HeldCells.Held.{PointerView, Holds, Counts, AreHeld, AreInside, number_of}
+use Rattle.operator_cells.specs.HeldCells.Carrying.{IsKnown}
 use Rattle.register_cells.specs.Reading.{IsRead}
 
 -- an answer of a lookup, or a place in an entry

@@ -1,8 +1,8 @@
 //! Operations on numbers, of which some are known.
 
 ghost use Rattle.std.specs.Prelude.{◌≡◌, ◌<◌, true, length, IfOk, List, max, ◌≤◌, ◌+◌, ◌⊎◌};
-ghost use Rattle.xdp_state.specs.xdp_machine.Arithmetic.{bits_in, low, arithmetic, negated, extended, ordered};
-ghost use Rattle.xdp_state.specs.xdp_machine.Memory.{bytes_in, number_at};
+ghost use Rattle.cell_core.specs.xdp_machine.Arithmetic.{bits_in, low, arithmetic, negated, extended, ordered};
+ghost use Rattle.cell_core.specs.xdp_machine.Memory.{bytes_in, number_at};
 ghost use Rattle.byteorder.specs.Endian.{little_bytes};
 ghost use Rattle.kind_core.specs.Numbers.{number_arithmetic, number_negated, number_extended, number_part, number_ordered};
 ghost use Rattle.cell_core.specs.Formed.{AreFormed};
@@ -10,19 +10,19 @@ ghost use Rattle.operator_cells.specs.Making.{seen, Makes};
 ghost use Rattle.kind_core.specs.declared.number.Number.TheVariants.{Unknown};
 ghost use Rattle.kind_core.specs.declared.kind.Kind.TheVariants.{Num};
 ghost use Rattle.operator_cells.specs.Rising.{Rises};
-ghost use Rattle.held_cells.specs.Held.{PointerView, number_of, IsThere};
-ghost use Rattle.held_cells.specs.Rows.{number_row};
+ghost use Rattle.operator_cells.specs.HeldCells.Held.{PointerView, number_of, IsThere};
+ghost use Rattle.operator_cells.specs.HeldCells.Rows.{number_row};
 ghost use Rattle.register_cells.specs.Reading.{Finds};
 ghost use Rattle.register_cells.specs.Shifting.{is_shift};
 ghost use Rattle.register_cells.specs.Combining.{worked_row};
 ghost use Rattle.register_cells.specs.Rows.{ValueTo};
 ghost use Rattle.operator_cells.specs.Dividing.{code_of};
 
-use bpf_isa::{AluCode, Size, Src, Width};
 use cell_core::cell::Cell;
-use held_cells::operand::number_cell;
+use cell_core::xdp_state::bpf_isa::{AluCode, Size, Src, Width};
 use kind_core::Number;
 use operator_cells::dividing::{divide, divide_signed};
+use operator_cells::held_cells::operand::number_cell;
 use operator_cells::shifting::{lower, lower_signed, raise, shift_left, shift_right, shift_signed};
 use operator_cells::slicing::extend;
 use operator_cells::spreading::{order, part};

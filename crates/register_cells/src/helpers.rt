@@ -1,9 +1,9 @@
 //! The helpers that ask no map.
 
 ghost use Rattle.std.specs.Prelude.{◌≡◌, ◌<◌, ◌+◌, ◌==◌, max, true, false, pos, ℕ, Bool, List, length, if◌then◌else◌, IfOk, OnOk};
-ghost use Rattle.bpf_isa.specs.Spelling.{IsInsn};
-ghost use Rattle.xdp_state.specs.xdp_maps.declared.decl.MapDecl.{MapDecl};
-ghost use Rattle.xdp_state.specs.xdp_machine.Arithmetic.{low};
+ghost use Rattle.cell_core.specs.bpf_isa.Spelling.{IsInsn};
+ghost use Rattle.cell_core.specs.xdp_maps.declared.decl.MapDecl.{MapDecl};
+ghost use Rattle.cell_core.specs.xdp_machine.Arithmetic.{low};
 ghost use Rattle.kind_core.specs.Effects.{effect_of, verdict};
 ghost use Rattle.kind_core.specs.Edges.{transferred};
 ghost use Rattle.kind_core.specs.Tests.{passed};
@@ -14,19 +14,19 @@ ghost use Rattle.operator_cells.specs.Rising.{Rises};
 ghost use Rattle.kind_core.specs.declared.kind.Kind.TheVariants as kind_is;
 ghost use Rattle.kind_core.specs.declared.number.Number.{Number};
 ghost use Rattle.register_cells.specs.Reading.{HasNumber};
-ghost use Rattle.held_cells.specs.Held.{PointerView, AreInside, number_of, IsThere};
-ghost use Rattle.held_cells.specs.Carrying.{Carries};
-ghost use Rattle.held_cells.specs.Rows.{value_row, held_row, CarriesTo};
-ghost use Rattle.held_cells.specs.Pointing.{KeepPointers};
+ghost use Rattle.operator_cells.specs.HeldCells.Held.{PointerView, AreInside, number_of, IsThere};
+ghost use Rattle.operator_cells.specs.HeldCells.Carrying.{Carries};
+ghost use Rattle.operator_cells.specs.HeldCells.Rows.{value_row, held_row, CarriesTo};
+ghost use Rattle.operator_cells.specs.HeldCells.Pointing.{KeepPointers};
 
 use crate::sizes::are_whole;
-use bpf_isa::{Insn, Op};
 use cell_core::cell::Cell;
 use cell_core::operator::Operator;
-use held_cells::held::Held;
-use held_cells::operand::number_cell;
+use cell_core::xdp_state::bpf_isa::{Insn, Op};
 use kind_core::{Kind, Kinds, Number};
 use operator_cells::cells::{constant, operate, slice};
+use operator_cells::held_cells::held::Held;
+use operator_cells::held_cells::operand::number_cell;
 use std::alloc::AllocError;
 
 // When the packet was captured; helpers answer a row later.

@@ -2,40 +2,40 @@
 
 ghost use Rattle.std.specs.Prelude.{◌≡◌, ◌≢◌, ◌≤◌, ◌+◌, ◌*◌, ◌/◌, ◌%◌, ℕ, ℤ, pos, Some, List, length, IfOk, IfSome, FitsSigned, ◌+ℤ◌};
 ghost use Rattle.std.specs.Int.{w16};
-ghost use Rattle.xdp_state.specs.xdp_maps.declared.decl.MapDecl.{MapDecl};
-ghost use Rattle.xdp_state.specs.xdp_machine.Memory.{bytes_in};
-ghost use Rattle.xdp_state.specs.xdp_machine.Memory as machine;
-ghost use Rattle.xdp_state.specs.xdp_machine.Arithmetic.{extended};
-ghost use Rattle.xdp_state.specs.xdp_machine.Values as is;
+ghost use Rattle.cell_core.specs.xdp_maps.declared.decl.MapDecl.{MapDecl};
+ghost use Rattle.cell_core.specs.xdp_machine.Memory.{bytes_in};
+ghost use Rattle.cell_core.specs.xdp_machine.Memory as machine;
+ghost use Rattle.cell_core.specs.xdp_machine.Arithmetic.{extended};
+ghost use Rattle.cell_core.specs.xdp_machine.Values as is;
 ghost use Rattle.kind_core.specs.Numbers.{number_extended};
 ghost use Rattle.kind_core.specs.declared.kind.Kind.TheVariants as kind_is;
 ghost use Rattle.kind_core.specs.Access as access;
 ghost use Rattle.kind_core.specs.Kinds.{register};
 ghost use Rattle.kind_core.specs.declared.kind.Kinds.{Kinds};
-ghost use Rattle.held_cells.specs.declared.held.Held.{Held};
+ghost use Rattle.operator_cells.specs.declared.held_cells.held.Held.{Held};
 ghost use Rattle.cell_core.specs.Formed.{AreFormed};
 ghost use Rattle.operator_cells.specs.Making.{seen};
-ghost use Rattle.held_cells.specs.Held.{PointerView, AreInside, Counts, number_of};
-ghost use Rattle.held_cells.specs.Carrying.{Gives};
+ghost use Rattle.operator_cells.specs.HeldCells.Held.{PointerView, AreInside, Counts, number_of};
+ghost use Rattle.operator_cells.specs.HeldCells.Carrying.{Gives};
 ghost use Rattle.register_cells.specs.Reading.{HasNumber, Yields, Finds};
 ghost use Rattle.register_cells.specs.Giving.{given};
 ghost use Rattle.register_cells.specs.Rows.{ValueTo};
 ghost use Rattle.register_cells.specs.Pointing.{MovesPointer, MovesHeld};
-ghost use Rattle.held_cells.specs.Rows.{number_row, value_row, held_row};
-ghost use Rattle.held_cells.specs.place_rows.Spans.{region, span_row};
-ghost use Rattle.held_cells.specs.place_rows.Reading.{result_as};
+ghost use Rattle.operator_cells.specs.HeldCells.Rows.{number_row, value_row, held_row};
+ghost use Rattle.operator_cells.specs.row_rules.PlaceRows.Spans.{region, span_row};
+ghost use Rattle.operator_cells.specs.row_rules.PlaceRows.Reading.{result_as};
 
 use crate::computing::parted;
 use crate::sizes::are_whole;
-use bpf_isa::{Insn, Op, Size, Width};
 use cell_core::cell::Cell;
 use cell_core::operator::Operator;
-use held_cells::held::Held;
+use cell_core::xdp_state::bpf_isa::{Insn, Op, Size, Width};
+use cell_core::xdp_state::memory::{aligned, bytes_in, inside};
 use kind_core::{Kind, Kinds, Number};
 use operator_cells::cells::{constant, operate};
+use operator_cells::held_cells::held::Held;
 use operator_cells::slicing::{copy, extend, join_bytes};
 use std::alloc::AllocError;
-use xdp_state::memory::{aligned, bytes_in, inside};
 
 // A slot that is read whole: its number goes into a new cell.
 pub(crate) fn whole(cells: &mut Vec<Cell>, kind: Kind, p: u32) -> Result<u32, AllocError>

@@ -2,18 +2,18 @@
 
 ghost use Rattle.std.specs.Prelude.{◌≡◌, ◌<◌, ◌≤◌, ◌+◌, ◌-◌, ◌^◌, ◌⊎◌, length, ℕ, pos, List, Some, Ok, IfOk, unsigned_abs};
 ghost use Rattle.std.specs.Ordering.{int_eq};
-ghost use Rattle.xdp_state.specs.xdp_maps.declared.decl.MapDecl.{MapDecl};
-ghost use Rattle.xdp_state.specs.xdp_machine.Arithmetic.{low};
-ghost use Rattle.xdp_state.specs.xdp_machine.Pointers as machine;
-ghost use Rattle.xdp_state.specs.xdp_machine.Values.{Value};
+ghost use Rattle.cell_core.specs.xdp_maps.declared.decl.MapDecl.{MapDecl};
+ghost use Rattle.cell_core.specs.xdp_machine.Arithmetic.{low};
+ghost use Rattle.cell_core.specs.xdp_machine.Pointers as machine;
+ghost use Rattle.cell_core.specs.xdp_machine.Values.{Value};
 ghost use Rattle.kind_core.specs.Pointers as kind;
 ghost use Rattle.kind_core.specs.Kinds as kinds;
 ghost use Rattle.cell_core.specs.Formed.{AreFormed};
-ghost use Rattle.bpf_isa.specs.declared.operation.AluCode.TheVariants as alu;
+ghost use Rattle.cell_core.specs.bpf_isa.declared.operation.AluCode.TheVariants as alu;
 ghost use Rattle.operator_cells.specs.Making.{seen, Makes};
 ghost use Rattle.operator_cells.specs.Rising.{Rises};
-ghost use Rattle.held_cells.specs.Held.{PointerView, Counts};
-ghost use Rattle.held_cells.specs.Rows.{value_row};
+ghost use Rattle.operator_cells.specs.HeldCells.Held.{PointerView, Counts};
+ghost use Rattle.operator_cells.specs.HeldCells.Rows.{value_row};
 ghost use Rattle.register_cells.specs.Reading.{HasNumber, Yields, place_of};
 ghost use Rattle.register_cells.specs.Combining.{worked_row, combined_row};
 ghost use Rattle.register_cells.specs.Rows.{ValueTo};
@@ -21,9 +21,9 @@ ghost use Rattle.register_cells.specs.Pointing.{MovesPointer, MovesEither};
 ghost use Rattle.kind_core.specs.declared.kind.Kind.{Kind};
 
 use crate::computing::{compute, extended};
-use bpf_isa::{AluCode, Width};
 use cell_core::cell::Cell;
 use cell_core::operator::Operator;
+use cell_core::xdp_state::bpf_isa::{AluCode, Width};
 use kind_core::{Kind, Number};
 use operator_cells::cells::{constant, operate};
 use operator_cells::slicing::copy;

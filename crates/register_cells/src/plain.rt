@@ -1,27 +1,27 @@
 //! Instructions that neither jump nor end, and operate on no map.
 
 ghost use Rattle.std.specs.Prelude.{◌≡◌, true, false, ℕ, Bool, List, length, OnOk, ◌≤◌};
-ghost use Rattle.bpf_isa.specs.Spelling.{IsInsn};
-ghost use Rattle.xdp_state.specs.xdp_maps.declared.decl.MapDecl.{MapDecl};
+ghost use Rattle.cell_core.specs.bpf_isa.Spelling.{IsInsn};
+ghost use Rattle.cell_core.specs.xdp_maps.declared.decl.MapDecl.{MapDecl};
 ghost use Rattle.kind_core.specs.Effects.{effect_of, verdict};
 ghost use Rattle.kind_core.specs.Edges.{transferred};
 ghost use Rattle.kind_core.specs.Soundness.{is_store};
 ghost use Rattle.kind_core.specs.Tests.{passed};
 ghost use Rattle.cell_core.specs.Formed.{AreFormed};
 ghost use Rattle.operator_cells.specs.Making.{seen};
-ghost use Rattle.held_cells.specs.Held.{pointed, AreInside};
-ghost use Rattle.held_cells.specs.Carrying.{Carries};
-ghost use Rattle.held_cells.specs.Rows.{held_row, CarriesTo};
-ghost use Rattle.held_cells.specs.Pointing.{KeepPointers};
+ghost use Rattle.operator_cells.specs.HeldCells.Held.{pointed, AreInside};
+ghost use Rattle.operator_cells.specs.HeldCells.Carrying.{Carries};
+ghost use Rattle.operator_cells.specs.HeldCells.Rows.{held_row, CarriesTo};
+ghost use Rattle.operator_cells.specs.HeldCells.Pointing.{KeepPointers};
 ghost use Rattle.register_cells.specs.Plain as spec;
 
 use crate::helpers::{carry_redirect, carry_time};
 use crate::registers::carry_register;
 use crate::storing::carry_store;
-use bpf_isa::{Insn, Op};
 use cell_core::cell::Cell;
-use held_cells::held::{Held, Pointer};
+use cell_core::xdp_state::bpf_isa::{Insn, Op};
 use kind_core::{Kind, Kinds};
+use operator_cells::held_cells::held::{Held, Pointer};
 use std::alloc::AllocError;
 
 // Whether it is a place in an entry of a map.

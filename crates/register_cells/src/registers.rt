@@ -1,10 +1,10 @@
 //! Instructions that write their destination.
 
 ghost use Rattle.std.specs.Prelude.{◌≡◌, ◌≢◌, ◌<◌, ◌≤◌, ◌⊎◌, ◌+◌, true, false, ℕ, Bool, List, length, slice_index, IfOk, OnOk, unsigned_abs};
-ghost use Rattle.bpf_isa.specs.Spelling.{IsInsn};
-ghost use Rattle.xdp_state.specs.xdp_machine.Arithmetic.{bits_in, negated, ordered};
-ghost use Rattle.xdp_state.specs.xdp_maps.declared.decl.MapDecl.{MapDecl};
-ghost use Rattle.xdp_state.specs.xdp_machine.State.{register};
+ghost use Rattle.cell_core.specs.bpf_isa.Spelling.{IsInsn};
+ghost use Rattle.cell_core.specs.xdp_machine.Arithmetic.{bits_in, negated, ordered};
+ghost use Rattle.cell_core.specs.xdp_maps.declared.decl.MapDecl.{MapDecl};
+ghost use Rattle.cell_core.specs.xdp_machine.State.{register};
 ghost use Rattle.kind_core.specs.Effects.{operand, renumbered, alu, effect_of, verdict};
 ghost use Rattle.kind_core.specs.Edges.{transferred};
 ghost use Rattle.kind_core.specs.Numbers.{number_negated, number_ordered};
@@ -14,25 +14,25 @@ ghost use Rattle.kind_core.specs.Profile.{writes_destination};
 ghost use Rattle.kind_core.specs.Tests.{passed};
 ghost use Rattle.cell_core.specs.Formed.{AreFormed};
 ghost use Rattle.operator_cells.specs.Making.{seen};
-ghost use Rattle.held_cells.specs.Held.{PointerView, AreInside};
-ghost use Rattle.held_cells.specs.Carrying.{Gives, Carries};
-ghost use Rattle.held_cells.specs.Rows.{held_row, CarriesTo};
-ghost use Rattle.held_cells.specs.Pointing.{KeepPointers};
-ghost use Rattle.held_cells.specs.place_rows.Reading.{result_as, result_row};
+ghost use Rattle.operator_cells.specs.HeldCells.Held.{PointerView, AreInside};
+ghost use Rattle.operator_cells.specs.HeldCells.Carrying.{Gives, Carries};
+ghost use Rattle.operator_cells.specs.HeldCells.Rows.{held_row, CarriesTo};
+ghost use Rattle.operator_cells.specs.HeldCells.Pointing.{KeepPointers};
+ghost use Rattle.operator_cells.specs.row_rules.PlaceRows.Reading.{result_as, result_row};
 ghost use Rattle.register_cells.specs.Rows.{ValueTo};
 ghost use Rattle.register_cells.specs.Pointing.{MovesHeld};
 ghost use Rattle.register_cells.specs.Giving.{given, given_kind, given_number};
-ghost use Rattle.bpf_isa.specs.Rules.{Allows};
-ghost use Rattle.bpf_isa.specs.declared.fields.Rule.TheVariants.{SwapBits};
+ghost use Rattle.cell_core.specs.bpf_isa.Rules.{Allows};
+ghost use Rattle.cell_core.specs.bpf_isa.declared.fields.Rule.TheVariants.{SwapBits};
 
 use crate::computing::{negated, ordered};
 use crate::loading::{loaded_plain, loaded_signed};
 use crate::moving::combined;
 use crate::sizes::are_whole;
-use bpf_isa::{AluCode, Insn, Op, Size, Src, Width};
 use cell_core::cell::Cell;
-use held_cells::held::Held;
+use cell_core::xdp_state::bpf_isa::{AluCode, Insn, Op, Size, Src, Width};
 use kind_core::{Kind, Kinds, Number};
+use operator_cells::held_cells::held::Held;
 use std::alloc::AllocError;
 
 // The kind of the second operand.

@@ -2,8 +2,8 @@
 
 ghost use Rattle.std.specs.Prelude.{◌≡◌, length};
 
-use held_cells::held::Held;
 use kind_core::{Kind, Kinds};
+use operator_cells::held_cells::held::Held;
 
 /// Kinds and cells are those of 11 registers, 64 slots and 256 bytes.
 pub(crate) fn are_whole(held: &Held, kinds: &Kinds)

@@ -2,15 +2,15 @@
 
 ghost use Rattle.std.specs.Prelude.{◌≡◌, ◌≢◌, ◌<◌, ◌≤◌, ◌+◌, true, false, ℕ, ℤ, Bool, pos, Ok, List, length, IfOk, OnOk, max, slice_index};
 ghost use Rattle.byteorder.specs.Endian.{little_number, little_bytes};
-ghost use Rattle.bpf_isa.specs.Spelling.{IsInsn};
-ghost use Rattle.xdp_state.specs.xdp_maps.declared.decl.MapDecl.{MapDecl};
-ghost use Rattle.xdp_state.specs.xdp_maps.Calls.{patched};
-ghost use Rattle.xdp_state.specs.xdp_machine.Values.{Value};
-ghost use Rattle.xdp_state.specs.xdp_machine.Values as is;
-ghost use Rattle.xdp_state.specs.xdp_machine.State.{Machine, register};
-ghost use Rattle.xdp_state.specs.xdp_machine.Memory.{bytes_in};
-ghost use Rattle.xdp_state.specs.xdp_machine.Memory as machine;
-ghost use Rattle.xdp_state.specs.xdp_machine.Step as step;
+ghost use Rattle.cell_core.specs.bpf_isa.Spelling.{IsInsn};
+ghost use Rattle.cell_core.specs.xdp_maps.declared.decl.MapDecl.{MapDecl};
+ghost use Rattle.cell_core.specs.xdp_maps.Calls.{patched};
+ghost use Rattle.cell_core.specs.xdp_machine.Values.{Value};
+ghost use Rattle.cell_core.specs.xdp_machine.Values as is;
+ghost use Rattle.cell_core.specs.xdp_machine.State.{Machine, register};
+ghost use Rattle.cell_core.specs.xdp_machine.Memory.{bytes_in};
+ghost use Rattle.cell_core.specs.xdp_machine.Memory as machine;
+ghost use Rattle.cell_core.specs.xdp_machine.Step as step;
 ghost use Rattle.kind_core.specs.declared.kind.Kind.TheVariants as kind_is;
 ghost use Rattle.kind_core.specs.declared.kind.Kinds.{Kinds};
 ghost use Rattle.kind_core.specs.Numbers.{number_patched};
@@ -23,29 +23,29 @@ ghost use Rattle.kind_core.specs.Tests.{passed};
 ghost use Rattle.cell_core.specs.Formed.{AreFormed};
 ghost use Rattle.operator_cells.specs.Making.{seen, Makes};
 ghost use Rattle.operator_cells.specs.Spreading.{MakesBytes};
-ghost use Rattle.held_cells.specs.Held.{PointerView, pointed, pointer_at, AreInside, Counts, number_of, IsThere};
-ghost use Rattle.held_cells.specs.Carrying.{Carries};
+ghost use Rattle.operator_cells.specs.HeldCells.Held.{PointerView, pointed, pointer_at, AreInside, Counts, number_of, IsThere};
+ghost use Rattle.operator_cells.specs.HeldCells.Carrying.{Carries};
 ghost use Rattle.register_cells.specs.Reading.{HasNumber, Finds};
 ghost use Rattle.register_cells.specs.Storing.{points, left_of, IsSource, Fills, Leaves};
 ghost use Rattle.operator_cells.specs.Rising.{Rises, RiseAll};
-ghost use Rattle.held_cells.specs.Rows.{number_row, value_row, held_row, CarriesTo};
-ghost use Rattle.held_cells.specs.Pointing.{KeepPointers};
+ghost use Rattle.operator_cells.specs.HeldCells.Rows.{number_row, value_row, held_row, CarriesTo};
+ghost use Rattle.operator_cells.specs.HeldCells.Pointing.{KeepPointers};
 ghost use Rattle.register_cells.specs.Rows.{ValueTo, StoresTo, left_row};
 ghost use Rattle.register_cells.specs.Pointing.{MovesPointer, MovesHeld};
 
 use crate::loading::{packet_at, slot_at, whole};
 use crate::registers::operand;
 use crate::sizes::are_whole;
-use bpf_isa::{Insn, Op, Size, Src};
 use cell_core::cell::Cell;
 use cell_core::operator::Operator;
-use held_cells::held::{Held, Pointer};
-use held_cells::operand::number_cell;
+use cell_core::xdp_state::bpf_isa::{Insn, Op, Size, Src};
+use cell_core::xdp_state::memory::bytes_in;
 use kind_core::{Kind, Kinds, Number};
 use operator_cells::cells::{constant, operate};
+use operator_cells::held_cells::held::{Held, Pointer};
+use operator_cells::held_cells::operand::number_cell;
 use operator_cells::spreading::{patch, spread};
 use std::alloc::AllocError;
-use xdp_state::memory::bytes_in;
 
 // Whether it is an answer of a lookup, or a place in an entry.
 fn points(kind: Kind) -> bool

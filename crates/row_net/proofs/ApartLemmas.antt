@@ -4,17 +4,17 @@ use Rattle.std.specs.List.{list_all}
 use Rattle.std.proofs.Common.{◌≡◌, ◌⊎◌, inl, inr, ℕ, suc, ◌<◌, Bool, true, false, ◌||◌, All, List, [], ◌∷◌, ◌++◌, append_assoc, length, length-append, take, get_or, map, refl, sym, ◌∙◌, ap, subst, arith, slice_index}
 use Rattle.std.proofs.lemmas.List.{get_or-take, get_or_at, length-take, length-map}
 use Rattle.std.proofs.lemmas.List.Elements.{All-take}
-use Rattle.cell_nets.specs.product_rules.Products.{statement_flat}
+use Rattle.net_core.specs.ProductRules.Products.{statement_flat}
 use Rattle.block_core.specs.declared.name.Name.{Name}
 use Rattle.block_core.specs.Blocks.{BlockTree, BlockWireTree}
-use Rattle.cell_nets.specs.product_blocks.Apart.{is_marked, AreMarked}
-use Rattle.cell_nets.specs.product_blocks.Alone.{wire_flat, IsApartAlone}
-use Rattle.cell_nets.proofs.product_blocks.FreeLaws.{all_marked}
-use Rattle.cell_nets.proofs.product_blocks.CleanLaws.{marked_behind}
-use Rattle.row_plan.specs.cell_core.declared.operator.Operator.{Operator}
-use Rattle.row_plan.specs.cell_core.declared.operator.Operator.TheVariants.{Quotient, Remainder}
-use Rattle.row_plan.specs.cell_core.Cells.{CellView, cell_at}
-use Rattle.row_plan.specs.cell_core.Formed.{divides, takes}
+use Rattle.block_core.specs.ProductBlocks.Apart.{is_marked, AreMarked}
+use Rattle.block_core.specs.ProductBlocks.Alone.{wire_flat, IsApartAlone}
+use Rattle.block_core.proofs.ProductBlocks.FreeLaws.{all_marked}
+use Rattle.block_core.proofs.ProductBlocks.CleanLaws.{marked_behind}
+use Rattle.overlay_net.specs.cell_core.declared.operator.Operator.{Operator}
+use Rattle.overlay_net.specs.cell_core.declared.operator.Operator.TheVariants.{Quotient, Remainder}
+use Rattle.overlay_net.specs.cell_core.Cells.{CellView, cell_at}
+use Rattle.overlay_net.specs.cell_core.Formed.{divides, takes}
 use Rattle.cell_nets.specs.declared.operand.Operand.{Operand}
 use Rattle.cell_nets.specs.Apart.{IsClean, Agrees, StayApart}
 use Rattle.cell_nets.specs.Computing.{makes_product, taken}

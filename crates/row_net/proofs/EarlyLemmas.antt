@@ -4,12 +4,12 @@ use Rattle.std.proofs.Common.{◌≡◌, ◌⊎◌, inl, inr, ℕ, zero, suc, �
 use Rattle.std.proofs.lemmas.Bool.{le-leb, leb-true}
 use Rattle.std.proofs.lemmas.List.{length-take, get_or-take, get_or_default}
 use Rattle.std.proofs.lemmas.List.Elements.{All-contains}
-use Rattle.row_plan.specs.cell_core.declared.operator.Operator.{Operator}
-use Rattle.row_plan.specs.cell_core.declared.operator.Operator.TheVariants.{Mul, Quotient, Remainder, NonZero}
-use Rattle.row_plan.specs.cell_core.Cells.{cell_at, is_heavy, bit}
-use Rattle.row_plan.specs.cell_core.Formed.{AreFormed, divides}
-use Rattle.row_plan.specs.cell_core.Rows.{AreRows, greatest}
-use Rattle.row_plan.specs.cell_core.Sites.{ProgramView}
+use Rattle.overlay_net.specs.cell_core.declared.operator.Operator.{Operator}
+use Rattle.overlay_net.specs.cell_core.declared.operator.Operator.TheVariants.{Mul, Quotient, Remainder, NonZero}
+use Rattle.overlay_net.specs.cell_core.Cells.{cell_at, is_heavy, bit}
+use Rattle.overlay_net.specs.cell_core.Formed.{AreFormed, divides}
+use Rattle.overlay_net.specs.cell_core.Rows.{AreRows, greatest}
+use Rattle.overlay_net.specs.cell_core.Sites.{ProgramView}
 use Rattle.cell_nets.specs.Computing.{makes_product, taken}
 use Rattle.row_plan.specs.Plan.{Plan}
 use Rattle.row_net.specs.Apart.{TakeClean}

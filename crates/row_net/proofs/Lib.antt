@@ -5,3 +5,5 @@ pub mod MarkLemmas
 pub mod ListLemmas
 pub mod EarlyLemmas
 pub mod PlaceLemmas
+pub mod PlaceNet
+pub mod SitePlace

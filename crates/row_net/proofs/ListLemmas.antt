@@ -4,7 +4,7 @@ use Rattle.std.specs.List.{filter, list_any}
 use Rattle.std.proofs.Common.{◌≡◌, ◌∙◌, ◌⊎◌, inl, inr, ℕ, zero, suc, ◌+◌, ◌<◌, ◌≤◌, Bool, true, false, ◌||◌, cond, List, [], ◌∷◌, ◌++◌, length, take, append-nil, refl, sym, ap, arith, slice_index}
 use Rattle.std.proofs.lemmas.Bool.{eqb-true, eqb-false, eq-eqb}
 use Rattle.std.proofs.lemmas.List.Elements.{filter-append}
-use Rattle.row_plan.specs.cell_core.Rows.{numbers}
+use Rattle.overlay_net.specs.cell_core.Rows.{numbers}
 use Rattle.row_plan.proofs.cell_core_laws.NumberLaws.{numbers_more}
 
 module _ (q : ℕ → Bool) where

@@ -5,10 +5,10 @@ use Rattle.std.proofs.lemmas.Bool.{eqb-true, eqb-false}
 use Rattle.std.proofs.lemmas.List.{get_or-set_same, get_or-set_other, length-set, get_or_default}
 use Rattle.std.proofs.lemmas.List.Elements.{All-contains, Contains-append_left, Contains-append_right, Contains-append_cases}
 use Rattle.std.proofs.Math.Seq.{take-length, take-suc}
-use Rattle.row_plan.specs.cell_core.Cells.{CellView, cell_at, is_read}
-use Rattle.row_plan.specs.cell_core.Formed.{AreFormed}
-use Rattle.row_plan.specs.cell_core.Rows.{taken_by}
-use Rattle.row_plan.specs.cell_core.Sites.{SiteView, ProgramView}
+use Rattle.overlay_net.specs.cell_core.Cells.{CellView, cell_at, is_read}
+use Rattle.overlay_net.specs.cell_core.Formed.{AreFormed}
+use Rattle.overlay_net.specs.cell_core.Rows.{taken_by}
+use Rattle.overlay_net.specs.cell_core.Sites.{SiteView, ProgramView}
 use Rattle.row_plan.specs.Plan.{answer_cells}
 use Rattle.row_net.specs.Needed.{IsUsed, Answered, AtSite, Read, Taken, flag, AreNeeded, Marks, OfSites, Closes}
 

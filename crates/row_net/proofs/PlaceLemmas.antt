@@ -4,10 +4,10 @@ use Rattle.std.specs.List.{list_any}
 use Rattle.std.proofs.Common.{◌≡◌, ◌⊎◌, inl, inr, ℕ, zero, suc, ◌-◌, ◌<◌, ◌≤◌, Bool, true, false, ◌||◌, ◌&&◌, All, List, [], ◌∷◌, length, take, get_or, refl, arith, slice_index}
 use Rattle.std.proofs.lemmas.Bool.{eqb-true, eqb-false, eq-eqb, le-leb, leb-true, lt-ltb, ltb-true}
 use Rattle.std.proofs.lemmas.List.Elements.{Contains-get_or, filter_passes}
-use Rattle.row_plan.specs.cell_core.Cells.{cell_at}
-use Rattle.row_plan.specs.cell_core.Formed.{AreFormed}
-use Rattle.row_plan.specs.cell_core.Rows.{RowsRise, numbers}
-use Rattle.row_plan.specs.cell_core.Sites.{ProgramView}
+use Rattle.overlay_net.specs.cell_core.Cells.{cell_at}
+use Rattle.overlay_net.specs.cell_core.Formed.{AreFormed}
+use Rattle.overlay_net.specs.cell_core.Rows.{RowsRise, numbers}
+use Rattle.overlay_net.specs.cell_core.Sites.{ProgramView}
 use Rattle.cell_nets.specs.Computing.{is_outside}
 use Rattle.row_plan.specs.Plan.{Plan, IsPlan, Taken, Answered, answer_cells}
 use Rattle.row_net.specs.Needed.{AreNeeded, flag}

@@ -5,12 +5,12 @@ use Rattle.std.proofs.lemmas.Bool.{eqb-true, eqb-false}
 use Rattle.std.proofs.lemmas.List.{get_or-set_same, get_or-set_other, length-set, get_or-map}
 use Rattle.std.proofs.lemmas.List.Elements.{All-nil, All-cons, All-head, All-tail, All-append, All-contains, Contains-append_left, Contains-append_right}
 use Rattle.std.proofs.Math.Seq.{take-suc}
-use Rattle.cell_nets.specs.net_core.Value.{Env}
-use Rattle.row_plan.specs.cell_core.xdp_machine.State.{PacketIn}
+use Rattle.net_core.specs.Value.{Env}
+use Rattle.overlay_net.specs.xdp_machine.State.{PacketIn}
 use Rattle.block_core.specs.declared.name.Name.{Name}
 use Rattle.block_core.specs.Blocks.{BlockWireTree}
-use Rattle.row_plan.specs.cell_core.Cells.{CellView, cell_at, number, value, bits_from}
-use Rattle.row_plan.specs.cell_core.Formed.{IsFormed, divides}
+use Rattle.overlay_net.specs.cell_core.Cells.{CellView, cell_at, number, value, bits_from}
+use Rattle.overlay_net.specs.cell_core.Formed.{IsFormed, divides}
 use Rattle.cell_nets.specs.declared.operand.Operand.{Operand}
 use Rattle.cell_nets.specs.Computing.{makes_product, taken, HasDivisor}
 use Rattle.cell_nets.specs.Operands.{number_in, IsOperand, IsAvailable}

@@ -4,12 +4,12 @@ use Rattle.std.proofs.Common.{◌≡◌, ℕ, zero, suc, ◌+◌, ◌^◌, ◌<�
 use Rattle.std.proofs.lemmas.Bool.{eq-eqb, eqb-true, eqb-false}
 use Rattle.std.proofs.lemmas.List.{get_or-map, get_or_push, get_or_append_left, get_or_default}
 use Rattle.std.proofs.Math.Pow.{pow_mono}
-use Rattle.row_plan.specs.cell_core.xdp_machine.State.{PacketIn}
-use Rattle.row_plan.specs.cell_core.declared.cell.Cell.{Cell}
-use Rattle.row_plan.specs.cell_core.declared.operator.Operator.{Operator}
-use Rattle.row_plan.specs.cell_core.declared.operator.Operator.TheVariants.{Constant}
-use Rattle.row_plan.specs.cell_core.Cells.{CellView, cell_at, no_cell, number, value, bits_from}
-use Rattle.row_plan.specs.cell_core.View.{cell_of}
+use Rattle.overlay_net.specs.xdp_machine.State.{PacketIn}
+use Rattle.overlay_net.specs.cell_core.declared.cell.Cell.{Cell}
+use Rattle.overlay_net.specs.cell_core.declared.operator.Operator.{Operator}
+use Rattle.overlay_net.specs.cell_core.declared.operator.Operator.TheVariants.{Constant}
+use Rattle.overlay_net.specs.cell_core.Cells.{CellView, cell_at, no_cell, number, value, bits_from}
+use Rattle.overlay_net.specs.cell_core.View.{cell_of}
 use Rattle.cell_nets.specs.declared.operand.Operand.{Operand}
 use Rattle.cell_nets.specs.declared.operand.Operand.TheVariants.{Known}
 use Rattle.cell_nets.specs.Operands.{number_in, IsOperand, IsAvailable}

@@ -2,8 +2,8 @@
 use Rattle.std.specs.Prelude.{◌≡◌, ℕ, Bool, true, false, ◌||◌, Option, List, length, All}
 use Rattle.block_core.specs.declared.name.Name.{Name}
 use Rattle.block_core.specs.Blocks.{BlockWireTree}
-use Rattle.cell_nets.specs.product_blocks.Apart.{is_marked, AreMarked}
-use Rattle.row_plan.specs.cell_core.Cells.{CellView, cell_at}
+use Rattle.block_core.specs.ProductBlocks.Apart.{is_marked, AreMarked}
+use Rattle.overlay_net.specs.cell_core.Cells.{CellView, cell_at}
 use Rattle.cell_nets.specs.declared.operand.Operand.{Operand}
 use Rattle.cell_nets.specs.Computing.{makes_product, taken}
 use Rattle.cell_nets.specs.Apart.{IsClean, Agrees}

@@ -3,3 +3,5 @@ pub mod Apart
 pub mod Made
 pub mod Needed
 pub mod Lists
+pub mod PlaceNet
+pub mod SitePlace

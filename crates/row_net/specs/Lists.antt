@@ -2,12 +2,12 @@
 use Rattle.std.specs.Prelude.{◌≡◌, ℕ, zero, suc, ◌<◌, ◌≤◌, ◌==◌, nat_lt, nat_le, not, Bool, true, false, ◌&&◌, ◌||◌, List, length, take, slice_index, All, Contains}
 use Rattle.std.specs.List.{filter, list_any}
 use Rattle.std.proofs.Common.{◌⊎◌}
-use Rattle.row_plan.specs.cell_core.declared.operator.Operator.{Operator}
-use Rattle.row_plan.specs.cell_core.declared.operator.Operator.TheVariants.{NonZero}
-use Rattle.row_plan.specs.cell_core.Cells.{cell_at}
-use Rattle.row_plan.specs.cell_core.Formed.{AreFormed}
-use Rattle.row_plan.specs.cell_core.Rows.{numbers}
-use Rattle.row_plan.specs.cell_core.Sites.{ProgramView}
+use Rattle.overlay_net.specs.cell_core.declared.operator.Operator.{Operator}
+use Rattle.overlay_net.specs.cell_core.declared.operator.Operator.TheVariants.{NonZero}
+use Rattle.overlay_net.specs.cell_core.Cells.{cell_at}
+use Rattle.overlay_net.specs.cell_core.Formed.{AreFormed}
+use Rattle.overlay_net.specs.cell_core.Rows.{numbers}
+use Rattle.overlay_net.specs.cell_core.Sites.{ProgramView}
 use Rattle.cell_nets.specs.Computing.{is_outside}
 use Rattle.row_plan.specs.Plan.{Plan, IsPlan, answer_cells}
 use Rattle.row_net.specs.Needed.{AreNeeded, flag}

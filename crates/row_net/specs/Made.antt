@@ -1,13 +1,13 @@
 -- Wires for the cells of a row, in a table where they are read.
 use Rattle.std.specs.Prelude.{◌≡◌, ◌≢◌, ℕ, ◌<◌, Bool, true, false, Option, None, List, length, take, slice_index, All, Contains}
 use Rattle.std.proofs.Common.{get_or, ◌⊎◌}
-use Rattle.cell_nets.specs.net_core.Value.{Env}
+use Rattle.net_core.specs.Value.{Env}
 use Rattle.block_core.specs.declared.name.Name.{Name}
 use Rattle.block_core.specs.Blocks.{BlockWireTree}
 use Rattle.block_core.specs.Parts.{Solve}
-use Rattle.row_plan.specs.cell_core.xdp_machine.State.{PacketIn}
-use Rattle.row_plan.specs.cell_core.Cells.{CellView, cell_at, value}
-use Rattle.row_plan.specs.cell_core.Formed.{divides}
+use Rattle.overlay_net.specs.xdp_machine.State.{PacketIn}
+use Rattle.overlay_net.specs.cell_core.Cells.{CellView, cell_at, value}
+use Rattle.overlay_net.specs.cell_core.Formed.{divides}
 use Rattle.cell_nets.specs.declared.operand.Operand.{Operand}
 use Rattle.cell_nets.specs.Computing.{is_outside}
 use Rattle.cell_nets.specs.Operands.{AreFit, IsAvailable}

@@ -1,9 +1,9 @@
 -- Which cells a design needs.
 use Rattle.std.specs.Prelude.{◌≡◌, ℕ, ◌<◌, Bool, true, false, List, length, Contains}
 use Rattle.std.proofs.Common.{get_or, ◌⊎◌}
-use Rattle.row_plan.specs.cell_core.Cells.{cell_at, is_read}
-use Rattle.row_plan.specs.cell_core.Sites.{SiteView, ProgramView}
-use Rattle.row_plan.specs.cell_core.Rows.{taken_by}
+use Rattle.overlay_net.specs.cell_core.Cells.{cell_at, is_read}
+use Rattle.overlay_net.specs.cell_core.Sites.{SiteView, ProgramView}
+use Rattle.overlay_net.specs.cell_core.Rows.{taken_by}
 use Rattle.row_plan.specs.Plan.{answer_cells}
 
 -- A cell is used: the answer or a site takes it, it is a read, or a used cell takes it.

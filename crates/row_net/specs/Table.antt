@@ -1,11 +1,11 @@
 -- What stands for the cells of a program at a place: an operand, or nothing yet.
 use Rattle.std.specs.Prelude.{◌≡◌, ℕ, ◌^◌, ◌<◌, ◌==◌, Bool, true, false, ◌||◌, Option, Some, None, IsSome, List, length, slice_index}
 use Rattle.std.proofs.Common.{get_or}
-use Rattle.cell_nets.specs.net_core.Value.{Env}
-use Rattle.row_plan.specs.cell_core.xdp_machine.State.{PacketIn}
-use Rattle.row_plan.specs.cell_core.declared.operator.Operator.{Operator}
-use Rattle.row_plan.specs.cell_core.declared.operator.Operator.TheVariants.{Constant}
-use Rattle.row_plan.specs.cell_core.Cells.{CellView, cell_at, value}
+use Rattle.net_core.specs.Value.{Env}
+use Rattle.overlay_net.specs.xdp_machine.State.{PacketIn}
+use Rattle.overlay_net.specs.cell_core.declared.operator.Operator.{Operator}
+use Rattle.overlay_net.specs.cell_core.declared.operator.Operator.TheVariants.{Constant}
+use Rattle.overlay_net.specs.cell_core.Cells.{CellView, cell_at, value}
 use Rattle.cell_nets.specs.declared.operand.Operand.{Operand}
 use Rattle.cell_nets.specs.declared.operand.Operand.TheVariants.{Known}
 use Rattle.cell_nets.specs.Operands.{number_in, IsOperand, IsAvailable}

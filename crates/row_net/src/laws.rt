@@ -2,7 +2,7 @@
 
 ghost use Rattle.row_net.specs.Lists.{CellsArePlaced};
 
-use row_plan::cell_core::laws::rows_rise;
+use cell_nets::cell_core::laws::rows_rise;
 
 /// What a place makes and carries is there where it is taken.
 pub fn cells_are_placed()

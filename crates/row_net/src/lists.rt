@@ -2,15 +2,15 @@
 
 ghost use Rattle.std.specs.Prelude.{ℕ, ◌≡◌, ◌==◌, ◌<◌, ◌^◌, true, length, IfOk, map as map_list};
 ghost use Rattle.std.specs.List.{list_any};
-ghost use Rattle.row_plan.specs.cell_core.View.{program_of};
+ghost use Rattle.overlay_net.specs.cell_core.View.{program_of};
 ghost use Rattle.row_plan.specs.Plan.{answer_cells};
 ghost use Rattle.row_net.specs.Lists.{varies, is_made, is_carried, made_cells, carried_cells, has_place, HavePlaces};
 
 use crate::needed::flag;
 use crate::table::is_constant;
+use cell_nets::cell_core::program::{CellProgram, FrameByte};
 use cell_nets::operators::is_outside;
 use row_plan::RowPlan;
-use row_plan::cell_core::program::{CellProgram, FrameByte};
 use std::alloc::{AllocError, Global};
 
 // Whether a cell is needed and is not the same for all packets.

@@ -1,16 +1,16 @@
 //! Which cells a design needs.
 
 ghost use Rattle.std.specs.Prelude.{ℕ, ◌≡◌, ◌<◌, ◌^◌, true, false, Contains, length, IfOk, map as map_list};
-ghost use Rattle.row_plan.specs.cell_core.Cells.{cell_at, is_read};
-ghost use Rattle.row_plan.specs.cell_core.Formed.{AreFormed};
-ghost use Rattle.row_plan.specs.cell_core.Rows.{taken_by};
-ghost use Rattle.row_plan.specs.cell_core.View.{cell_of, site_of, program_of};
+ghost use Rattle.overlay_net.specs.cell_core.Cells.{cell_at, is_read};
+ghost use Rattle.overlay_net.specs.cell_core.Formed.{AreFormed};
+ghost use Rattle.overlay_net.specs.cell_core.Rows.{taken_by};
+ghost use Rattle.overlay_net.specs.cell_core.View.{cell_of, site_of, program_of};
 ghost use Rattle.row_plan.specs.Plan.{answer_cells};
 ghost use Rattle.row_net.specs.Needed.{flag, Marks, OfSites, Closes, AreNeeded};
 
-use row_plan::cell_core::cell::Cell;
-use row_plan::cell_core::program::{CellProgram, FrameByte};
-use row_plan::cell_core::site::Site;
+use cell_nets::cell_core::cell::Cell;
+use cell_nets::cell_core::program::{CellProgram, FrameByte};
+use cell_nets::cell_core::site::Site;
 use std::alloc::{AllocError, Global};
 
 /// Whether a cell is marked.

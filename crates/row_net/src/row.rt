@@ -1,9 +1,9 @@
 //! Wires for the cells of a row.
 
 ghost use Rattle.std.specs.Prelude.{ℕ, [], ◌∷◌, ◌≡◌, ◌<◌, false, All, length, IfOk, map as map_list};
-ghost use Rattle.row_plan.specs.cell_core.Cells.{cell_at};
-ghost use Rattle.row_plan.specs.cell_core.Formed.{AreFormed};
-ghost use Rattle.row_plan.specs.cell_core.View.{cell_of};
+ghost use Rattle.overlay_net.specs.cell_core.Cells.{cell_at};
+ghost use Rattle.overlay_net.specs.cell_core.Formed.{AreFormed};
+ghost use Rattle.overlay_net.specs.cell_core.View.{cell_of};
 ghost use Rattle.cell_nets.specs.Computing.{is_outside};
 ghost use Rattle.cell_nets.specs.Wires.{wires_of};
 ghost use Rattle.row_net.specs.Table.{IsTable, IsIn};
@@ -12,9 +12,9 @@ ghost use Rattle.row_net.specs.Made.{IsReady, IsRow};
 use crate::table::operands;
 use block_core::block::BlockWire;
 use block_core::name::Name;
+use cell_nets::cell_core::cell::Cell;
 use cell_nets::operand::Operand;
 use cell_nets::operators::cell_wires;
-use row_plan::cell_core::cell::Cell;
 use std::alloc::{AllocError, Global};
 
 // Makes the wires of a cell.

@@ -1,14 +1,14 @@
 //! What stands for the cells of a program at a place.
 
 ghost use Rattle.std.specs.Prelude.{ℕ, ◌≡◌, ◌≤◌, All, IfOk, map as map_list};
-ghost use Rattle.row_plan.specs.cell_core.Formed.{AreFormed};
-ghost use Rattle.row_plan.specs.cell_core.View.{cell_of};
+ghost use Rattle.overlay_net.specs.cell_core.Formed.{AreFormed};
+ghost use Rattle.overlay_net.specs.cell_core.View.{cell_of};
 ghost use Rattle.row_net.specs.Table.{is_constant, IsConstantOf, AreConstants, IsIn, AreOperands};
 
+use cell_nets::cell_core::cell::Cell;
+use cell_nets::cell_core::operator::Operator;
+use cell_nets::cell_core::value::bits_from;
 use cell_nets::operand::Operand;
-use row_plan::cell_core::cell::Cell;
-use row_plan::cell_core::operator::Operator;
-use row_plan::cell_core::value::bits_from;
 use std::alloc::{AllocError, Global};
 
 /// Whether a cell is the same for all packets: a constant, or a cell of no bits.

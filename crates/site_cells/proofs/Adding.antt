@@ -6,7 +6,7 @@ use Rattle.std.specs.Prelude.{All}
 use Rattle.std.proofs.lemmas.Bool.{cases_lt}
 use Rattle.std.proofs.lemmas.List.{take_all, take-append-le, length-map, get_or-map}
 use Rattle.std.proofs.lemmas.List.Elements.{All-append, All-push}
-use Rattle.xdp_maps.specs.State.{MapState}
+use Rattle.cell_core.specs.xdp_maps.State.{MapState}
 use Rattle.cell_core.specs.declared.operator.Operator.{Operator}
 use Rattle.cell_core.specs.declared.site.Site.{Site}
 use Rattle.cell_core.specs.declared.site.Act.{Act}
@@ -14,9 +14,9 @@ use Rattle.cell_core.specs.Cells.{CellView, cell_at, no_cell, site_in, bits_from
 use Rattle.cell_core.specs.Sites.{SiteView, site_at, no_site, applied, after, read_on}
 use Rattle.cell_core.specs.View.{site_of}
 use Rattle.operator_cells.specs.Making.{Adds, GrowsWith}
-use Rattle.held_cells.specs.declared.held.Pointer.{Pointer}
-use Rattle.held_cells.specs.Held.{PointerView, pointer_of, pointed, pointer_at, no_pointer}
-use Rattle.held_cells.specs.Steps.{AreRead}
+use Rattle.operator_cells.specs.declared.held_cells.held.Pointer.{Pointer}
+use Rattle.operator_cells.specs.HeldCells.Held.{PointerView, pointer_of, pointed, pointer_at, no_pointer}
+use Rattle.operator_cells.specs.HeldCells.Steps.{AreRead}
 use Rattle.site_cells.specs.Sited.{sited}
 use Rattle.site_cells.specs.Siting.{IsReadOf}
 

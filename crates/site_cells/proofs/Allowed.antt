@@ -1,13 +1,13 @@
 -- What is known of instructions on maps where they are allowed.
 use Rattle.std.proofs.Common.{◌≡◌, ℕ, ◌*◌, ◌<◌, ℤ, pos, ◌+ℤ◌, nat_lt, if◌then◌else◌, Bool, true, false, Some, None, Result, Ok, Err, IfOk, List, length, refl, sym, ◌∙◌, ap, subst, arith}
 use Rattle.std.proofs.lemmas.Bool.Decides.{nat_tests}
-use Rattle.bpf_isa.specs.declared.operation.Size.{Size}
-use Rattle.bpf_isa.specs.declared.operation.Op.TheVariants.{Call, Load, LoadSigned, Atomic}
-use Rattle.bpf_isa.specs.declared.operation.Width.TheVariants.{Bits64}
+use Rattle.cell_core.specs.bpf_isa.declared.operation.Size.{Size}
+use Rattle.cell_core.specs.bpf_isa.declared.operation.Op.TheVariants.{Call, Load, LoadSigned, Atomic}
+use Rattle.cell_core.specs.bpf_isa.declared.operation.Width.TheVariants.{Bits64}
 use Rattle.kind_core.specs.Numbers.{number_extended}
-use Rattle.bpf_isa.specs.declared.instruction.Insn.{Insn}
-use Rattle.xdp_maps.specs.declared.decl.MapDecl.{MapDecl}
-use Rattle.xdp_state.specs.xdp_machine.Memory.{bytes_in}
+use Rattle.cell_core.specs.bpf_isa.declared.instruction.Insn.{Insn}
+use Rattle.cell_core.specs.xdp_maps.declared.decl.MapDecl.{MapDecl}
+use Rattle.cell_core.specs.xdp_machine.Memory.{bytes_in}
 use Rattle.kind_core.specs.declared.number.Number.{Number}
 use Rattle.kind_core.specs.declared.number.Number.TheVariants.{Unknown}
 use Rattle.kind_core.specs.declared.kind.Kind.{Kind}
@@ -19,8 +19,8 @@ use Rattle.kind_core.specs.Kinds as kinds
 use Rattle.kind_core.specs.Kinds.{key_bytes, value_bytes, with_register}
 use Rattle.kind_core.specs.Calls as calls
 use Rattle.kind_core.specs.Calls.{declared, fits_argument, called, helper_of}
-use Rattle.xdp_state.specs.xdp_machine.Atomics.{fetches}
-use Rattle.xdp_state.proofs.xdp_machine.ChangeLaws.{some_inj}
+use Rattle.cell_core.specs.xdp_machine.Atomics.{fetches}
+use Rattle.kind_core.proofs.xdp_machine_laws.ChangeLaws.{some_inj}
 use Rattle.kind_core.specs.Access as access
 use Rattle.kind_core.specs.Access.{compares}
 use Rattle.kind_core.specs.Places as places

@@ -1,19 +1,19 @@
 -- What is held behind a helper's answer, among more pointers.
 use Rattle.std.proofs.Common.{◌≡◌, ℕ, zero, suc, ◌+◌, ◌<◌, ◌≤◌, pos, true, List, [], ◌∷◌, ◌++◌, length, length-append, drop, get_or, set as set_list, slice_index, slice_set, sym, ◌∙◌, ap, subst, arith}
 use Rattle.std.proofs.lemmas.List.{get_or-set_same, get_or-set_other, get_or-drop}
-use Rattle.xdp_maps.specs.declared.decl.MapDecl.{MapDecl}
-use Rattle.xdp_state.specs.xdp_machine.Values.{Value}
-use Rattle.xdp_state.specs.xdp_machine.Values as is
-use Rattle.xdp_state.specs.xdp_machine.State.{Machine, PacketIn}
-use Rattle.xdp_state.specs.xdp_machine.Helpers as helpers
+use Rattle.cell_core.specs.xdp_maps.declared.decl.MapDecl.{MapDecl}
+use Rattle.cell_core.specs.xdp_machine.Values.{Value}
+use Rattle.cell_core.specs.xdp_machine.Values as is
+use Rattle.cell_core.specs.xdp_machine.State.{Machine, PacketIn}
+use Rattle.cell_core.specs.xdp_machine.Helpers as helpers
 use Rattle.kind_core.specs.declared.number.Number.TheVariants.{Known, Unknown}
 use Rattle.kind_core.specs.declared.kind.Kind.{Kind}
 use Rattle.kind_core.specs.declared.kind.Kind.TheVariants.{Unset, Num, Maybe, Entry}
 use Rattle.kind_core.specs.declared.kind.Kinds.{Kinds}
 use Rattle.kind_core.specs.Kinds.{answering}
-use Rattle.held_cells.specs.declared.held.Held.{Held}
-use Rattle.held_cells.specs.Held.{PointerView, IsPointer, Holds, Counts, AreHeld, AreInside, entry_or_null, key_of}
-use Rattle.held_cells.proofs.PointerLaws.{pointer_later}
+use Rattle.operator_cells.specs.declared.held_cells.held.Held.{Held}
+use Rattle.operator_cells.specs.HeldCells.Held.{PointerView, IsPointer, Holds, Counts, AreHeld, AreInside, entry_or_null, key_of}
+use Rattle.operator_cells.proofs.HeldCells.PointerLaws.{pointer_later}
 use Rattle.cell_core.specs.Cells.{on}
 use Rattle.site_cells.proofs.Adding.{old_pointer}
 

@@ -1,18 +1,18 @@
 -- What is held where one register is given a value.
 use Rattle.std.proofs.Common.{◌≡◌, ◌≢◌, ℕ, ◌≤◌, ◌==◌, if◌then◌else◌, Bool, true, false, Option, Some, None, List, length, get_or, map as map_list, set as set_list, slice_index, slice_set, refl, ◌∙◌, subst, arith}
 use Rattle.std.proofs.lemmas.List.{get_or-set_same, get_or-set_other, length-map}
-use Rattle.bpf_isa.specs.declared.instruction.Insn.{Insn}
-use Rattle.xdp_maps.specs.declared.decl.MapDecl.{MapDecl}
-use Rattle.xdp_state.specs.xdp_machine.Values.{Value}
-use Rattle.xdp_state.specs.xdp_machine.Values as is
-use Rattle.xdp_state.specs.xdp_machine.State.{Machine, PacketIn, with_registers}
-use Rattle.xdp_state.specs.xdp_machine.Step.{assigned}
+use Rattle.cell_core.specs.bpf_isa.declared.instruction.Insn.{Insn}
+use Rattle.cell_core.specs.xdp_maps.declared.decl.MapDecl.{MapDecl}
+use Rattle.cell_core.specs.xdp_machine.Values.{Value}
+use Rattle.cell_core.specs.xdp_machine.Values as is
+use Rattle.cell_core.specs.xdp_machine.State.{Machine, PacketIn, with_registers}
+use Rattle.cell_core.specs.xdp_machine.Step.{assigned}
 use Rattle.kind_core.specs.declared.kind.Kind.{Kind}
 use Rattle.kind_core.specs.declared.kind.Kind.TheVariants.{Unset}
 use Rattle.kind_core.specs.declared.kind.Kinds.{Kinds}
 use Rattle.kind_core.specs.Kinds.{with_register}
-use Rattle.held_cells.specs.declared.held.Held.{Held}
-use Rattle.held_cells.specs.Held.{PointerView, Holds, Counts, AreHeld, AreInside}
+use Rattle.operator_cells.specs.declared.held_cells.held.Held.{Held}
+use Rattle.operator_cells.specs.HeldCells.Held.{PointerView, Holds, Counts, AreHeld, AreInside}
 
 assigned_each : (P : Kind → ℕ → Value → Type 0) (ks : List Kind) (hs : List ℕ) (xs : List Value) (i c : ℕ) (k : Kind) (y : Value) → i ≤ 10 → length ks ≡ 11 → length hs ≡ 11 → length xs ≡ 11 → P k c y
     → ((r : ℕ) → r ≤ 10 → P (get_or ks r Unset) (slice_index hs r) (get_or xs r is.Unset))

@@ -2,12 +2,12 @@
 use Rattle.std.proofs.Common.{◌≡◌, ◌∙◌, ℕ, ◌+◌, ◌<◌, ◌≤◌, if◌then◌else◌, Bool, true, false, Some, None, List, [], ◌∷◌, ◌++◌, length, slice_index, slice_set, max, refl, sym, ap, subst, arith}
 use Rattle.std.specs.List.{list_any}
 use Rattle.std.proofs.lemmas.List.{get_or-set_same}
-use Rattle.bpf_isa.specs.declared.operation.Size.{Size}
-use Rattle.bpf_isa.specs.declared.operation.Op.TheVariants.{Atomic}
-use Rattle.bpf_isa.specs.declared.instruction.Insn.{Insn}
-use Rattle.xdp_maps.specs.declared.decl.MapDecl.{MapDecl}
-use Rattle.xdp_state.specs.xdp_machine.Atomics.{fetches}
-use Rattle.xdp_state.proofs.xdp_machine.ChangeLaws.{some_inj}
+use Rattle.cell_core.specs.bpf_isa.declared.operation.Size.{Size}
+use Rattle.cell_core.specs.bpf_isa.declared.operation.Op.TheVariants.{Atomic}
+use Rattle.cell_core.specs.bpf_isa.declared.instruction.Insn.{Insn}
+use Rattle.cell_core.specs.xdp_maps.declared.decl.MapDecl.{MapDecl}
+use Rattle.cell_core.specs.xdp_machine.Atomics.{fetches}
+use Rattle.kind_core.proofs.xdp_machine_laws.ChangeLaws.{some_inj}
 use Rattle.kind_core.specs.declared.number.Number.TheVariants.{Unknown}
 use Rattle.kind_core.specs.declared.kind.Kind.{Kind}
 use Rattle.kind_core.specs.declared.kind.Kind.TheVariants.{Unset, Num, Entry}
@@ -22,15 +22,15 @@ use Rattle.cell_core.specs.Sites.{SiteView}
 use Rattle.cell_core.specs.Rows.{greatest}
 use Rattle.operator_cells.specs.Rising.{Rises, RiseAll}
 use Rattle.operator_cells.proofs.RisingLaws.{stand_none, stand_all, rises_then, rise_more}
-use Rattle.held_cells.specs.place_rows.declared.span.Span.{Span}
-use Rattle.held_cells.specs.place_rows.Spans.{no_place, one, pending, map_of, pending_of, is_in, span_row, spans_row}
-use Rattle.held_cells.specs.place_rows.Reading.{compared_span, result_as, result_row}
-use Rattle.held_cells.specs.place_rows.Writing.{old_value, writes_as, record_as, through, taken_row}
-use Rattle.held_cells.proofs.place_rows.SpanLaws.{is_inside, span_above}
-use Rattle.held_cells.specs.declared.held.Held.{Held}
-use Rattle.held_cells.specs.Held.{PointerView, pointer_at}
-use Rattle.held_cells.specs.Rows.{cells_of_pointer, value_row, held_row, map_used, row_before, written_row, is_some_place, OperatesTo}
-use Rattle.held_cells.proofs.RowLaws.{register_row, rise_one}
+use Rattle.operator_cells.specs.row_rules.declared.place_rows.span.Span.{Span}
+use Rattle.operator_cells.specs.row_rules.PlaceRows.Spans.{no_place, one, pending, map_of, pending_of, is_in, span_row, spans_row}
+use Rattle.operator_cells.specs.row_rules.PlaceRows.Reading.{compared_span, result_as, result_row}
+use Rattle.operator_cells.specs.row_rules.PlaceRows.Writing.{old_value, writes_as, record_as, through, taken_row}
+use Rattle.operator_cells.proofs.row_rules_laws.PlaceRows.SpanLaws.{is_inside, span_above}
+use Rattle.operator_cells.specs.declared.held_cells.held.Held.{Held}
+use Rattle.operator_cells.specs.HeldCells.Held.{PointerView, pointer_at}
+use Rattle.operator_cells.specs.HeldCells.Rows.{cells_of_pointer, value_row, held_row, map_used, row_before, written_row, is_some_place, OperatesTo}
+use Rattle.operator_cells.proofs.HeldCells.RowLaws.{register_row, rise_one}
 use Rattle.site_cells.specs.declared.here.Here.{Here}
 use Rattle.site_cells.specs.Siting.{Accesses, access_site}
 use Rattle.site_cells.specs.Changing.{code_of, taken_by, HoldsOperands}

@@ -2,24 +2,24 @@
 use Rattle.std.proofs.Common.{◌≡◌, ℕ, ◌-◌, ◌%◌, ◌<◌, ◌==◌, ℤ, pos, ◌+ℤ◌, if◌then◌else◌, Bool, true, false, Some, None, List, slice_set, refl, sym, ◌∙◌, ap, subst, arith}
 use Rattle.std.specs.Prelude.{slice_get}
 use Rattle.std.proofs.lemmas.Bool.{eqb-true}
-use Rattle.bpf_isa.specs.declared.operation.Size.{Size}
-use Rattle.bpf_isa.specs.declared.operation.Size.TheVariants.{B, H, W, Dw}
-use Rattle.bpf_isa.specs.declared.operation.Op.TheVariants.{Atomic}
-use Rattle.bpf_isa.specs.declared.instruction.Insn.{Insn}
-use Rattle.bpf_isa.specs.Rules.{IsSized}
-use Rattle.xdp_maps.specs.declared.decl.MapDecl.{MapDecl}
-use Rattle.xdp_maps.specs.declared.change.Change.{Change}
-use Rattle.xdp_maps.specs.declared.change.ChangeKind.{ChangeKind}
-use Rattle.xdp_maps.specs.declared.change.ChangeKind.TheVariants.{Add, Or, And, Xor, Xchg, Cmpxchg}
-use Rattle.xdp_maps.specs.State.{MapState, contents_at, with_contents}
-use Rattle.xdp_maps.specs.Calls.{change_bytes, number_before, changed}
-use Rattle.xdp_state.specs.xdp_machine.Values.{Value, number_in, ◌>>=◌}
-use Rattle.xdp_state.specs.xdp_machine.Values as is
-use Rattle.xdp_state.specs.xdp_machine.State.{Machine, register, put, with_registers}
-use Rattle.xdp_state.specs.xdp_machine.Memory.{bytes_in, aligned}
-use Rattle.xdp_state.specs.xdp_machine.Atomics.{fetches, kind_of, wide_of, comparand, change_of, taking, changed_entry, changed_at, atomic}
-use Rattle.xdp_state.specs.xdp_machine.Touched.{answers_old}
-use Rattle.xdp_state.proofs.xdp_machine.ChangeLaws.{some_inj}
+use Rattle.cell_core.specs.bpf_isa.declared.operation.Size.{Size}
+use Rattle.cell_core.specs.bpf_isa.declared.operation.Size.TheVariants.{B, H, W, Dw}
+use Rattle.cell_core.specs.bpf_isa.declared.operation.Op.TheVariants.{Atomic}
+use Rattle.cell_core.specs.bpf_isa.declared.instruction.Insn.{Insn}
+use Rattle.cell_core.specs.bpf_isa.Rules.{IsSized}
+use Rattle.cell_core.specs.xdp_maps.declared.decl.MapDecl.{MapDecl}
+use Rattle.cell_core.specs.xdp_maps.declared.change.Change.{Change}
+use Rattle.cell_core.specs.xdp_maps.declared.change.ChangeKind.{ChangeKind}
+use Rattle.cell_core.specs.xdp_maps.declared.change.ChangeKind.TheVariants.{Add, Or, And, Xor, Xchg, Cmpxchg}
+use Rattle.cell_core.specs.xdp_maps.State.{MapState, contents_at, with_contents}
+use Rattle.cell_core.specs.xdp_maps.Calls.{change_bytes, number_before, changed}
+use Rattle.cell_core.specs.xdp_machine.Values.{Value, number_in, ◌>>=◌}
+use Rattle.cell_core.specs.xdp_machine.Values as is
+use Rattle.cell_core.specs.xdp_machine.State.{Machine, register, put, with_registers}
+use Rattle.cell_core.specs.xdp_machine.Memory.{bytes_in, aligned}
+use Rattle.cell_core.specs.xdp_machine.Atomics.{fetches, kind_of, wide_of, comparand, change_of, taking, changed_entry, changed_at, atomic}
+use Rattle.cell_core.specs.xdp_machine.Touched.{answers_old}
+use Rattle.kind_core.proofs.xdp_machine_laws.ChangeLaws.{some_inj}
 use Rattle.kind_core.specs.Access.{compares}
 use Rattle.kind_core.specs.Kinds.{value_bytes}
 use Rattle.cell_core.specs.declared.site.Atomic.{Atomic as AtomicChange}

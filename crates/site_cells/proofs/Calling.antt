@@ -3,19 +3,19 @@ use Rattle.std.proofs.Common.{◌≡◌, ℕ, ◌==◌, if◌then◌else◌, Boo
 use Rattle.std.proofs.lemmas.Option.{get_or_from_slice_get}
 use Rattle.std.specs.Prelude.{slice_get}
 use Rattle.std.specs.Int.{w64, cast_unsigned}
-use Rattle.bpf_isa.specs.declared.operation.Op.TheVariants.{Call}
-use Rattle.bpf_isa.specs.declared.instruction.Insn.{Insn}
-use Rattle.xdp_maps.specs.declared.decl.MapDecl.{MapDecl}
-use Rattle.xdp_maps.specs.State.{no_decl, contents_at}
-use Rattle.xdp_maps.specs.Operations.{Operation}
-use Rattle.xdp_state.specs.xdp_machine.Values.{Value, map_in, ◌>>=◌}
-use Rattle.xdp_state.specs.xdp_machine.Values as is
-use Rattle.xdp_state.specs.xdp_machine.State.{Machine, register}
-use Rattle.xdp_state.specs.xdp_machine.Helpers as helpers
-use Rattle.xdp_state.specs.xdp_machine.Helpers.{region}
-use Rattle.xdp_state.specs.xdp_machine.Step.{effect}
-use Rattle.xdp_state.specs.xdp_machine.Touched.{under_key}
-use Rattle.xdp_state.proofs.xdp_machine.ChangeLaws.{some_inj}
+use Rattle.cell_core.specs.bpf_isa.declared.operation.Op.TheVariants.{Call}
+use Rattle.cell_core.specs.bpf_isa.declared.instruction.Insn.{Insn}
+use Rattle.cell_core.specs.xdp_maps.declared.decl.MapDecl.{MapDecl}
+use Rattle.cell_core.specs.xdp_maps.State.{no_decl, contents_at}
+use Rattle.cell_core.specs.xdp_maps.Operations.{Operation}
+use Rattle.cell_core.specs.xdp_machine.Values.{Value, map_in, ◌>>=◌}
+use Rattle.cell_core.specs.xdp_machine.Values as is
+use Rattle.cell_core.specs.xdp_machine.State.{Machine, register}
+use Rattle.cell_core.specs.xdp_machine.Helpers as helpers
+use Rattle.cell_core.specs.xdp_machine.Helpers.{region}
+use Rattle.cell_core.specs.xdp_machine.Step.{effect}
+use Rattle.cell_core.specs.xdp_machine.Touched.{under_key}
+use Rattle.kind_core.proofs.xdp_machine_laws.ChangeLaws.{some_inj}
 use Rattle.kind_core.specs.Kinds as kinds
 use Rattle.kind_core.specs.Kinds.{key_bytes, key_in}
 use Rattle.site_cells.proofs.Slots.{bound}

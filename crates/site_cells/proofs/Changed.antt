@@ -4,27 +4,27 @@ use Rattle.std.specs.Prelude.{All, slice_get, option_map}
 use Rattle.std.proofs.lemmas.List.{append-nil}
 use Rattle.std.proofs.lemmas.List.Elements.{All-nil, All-cons}
 use Rattle.byteorder.specs.Numbers.{little_from-lt}
-use Rattle.bpf_isa.specs.declared.operation.Size.{Size}
-use Rattle.bpf_isa.specs.declared.operation.Size.TheVariants.{W, Dw}
-use Rattle.bpf_isa.specs.declared.operation.Op.TheVariants.{Atomic}
-use Rattle.bpf_isa.specs.declared.instruction.Insn.{Insn}
-use Rattle.bpf_isa.specs.Rules.{IsSized}
-use Rattle.xdp_maps.specs.declared.decl.MapDecl.{MapDecl}
-use Rattle.xdp_maps.specs.declared.change.Change.{Change}
-use Rattle.xdp_maps.specs.State.{MapState, IsSound, decl_at, contents_at, with_contents}
-use Rattle.xdp_maps.specs.Calls.{change_bytes, number_at, changed, lookup_of}
-use Rattle.xdp_maps.specs.Operations as map
-use Rattle.xdp_maps.specs.Operations.{Operation, operated}
-use Rattle.xdp_state.specs.xdp_machine.Values.{Value, number_in, ◌>>=◌}
-use Rattle.xdp_state.specs.xdp_machine.Values as is
-use Rattle.xdp_state.specs.xdp_machine.State.{Machine, PacketIn, register}
-use Rattle.xdp_state.specs.xdp_machine.Memory.{bytes_in, aligned}
-use Rattle.xdp_state.specs.xdp_machine.Atomics.{fetches, wide_of}
-use Rattle.xdp_state.specs.xdp_machine.Step.{effect}
-use Rattle.xdp_state.specs.xdp_machine.Touched as touched
-use Rattle.xdp_state.specs.xdp_machine.Touched.{answers_old}
-use Rattle.xdp_state.proofs.xdp_machine.ChangeLaws.{some_inj}
-use Rattle.xdp_state.proofs.xdp_machine.PartLaws.{at_or, bytes_in_slice}
+use Rattle.cell_core.specs.bpf_isa.declared.operation.Size.{Size}
+use Rattle.cell_core.specs.bpf_isa.declared.operation.Size.TheVariants.{W, Dw}
+use Rattle.cell_core.specs.bpf_isa.declared.operation.Op.TheVariants.{Atomic}
+use Rattle.cell_core.specs.bpf_isa.declared.instruction.Insn.{Insn}
+use Rattle.cell_core.specs.bpf_isa.Rules.{IsSized}
+use Rattle.cell_core.specs.xdp_maps.declared.decl.MapDecl.{MapDecl}
+use Rattle.cell_core.specs.xdp_maps.declared.change.Change.{Change}
+use Rattle.cell_core.specs.xdp_maps.State.{MapState, IsSound, decl_at, contents_at, with_contents}
+use Rattle.cell_core.specs.xdp_maps.Calls.{change_bytes, number_at, changed, lookup_of}
+use Rattle.cell_core.specs.xdp_maps.Operations as map
+use Rattle.cell_core.specs.xdp_maps.Operations.{Operation, operated}
+use Rattle.cell_core.specs.xdp_machine.Values.{Value, number_in, ◌>>=◌}
+use Rattle.cell_core.specs.xdp_machine.Values as is
+use Rattle.cell_core.specs.xdp_machine.State.{Machine, PacketIn, register}
+use Rattle.cell_core.specs.xdp_machine.Memory.{bytes_in, aligned}
+use Rattle.cell_core.specs.xdp_machine.Atomics.{fetches, wide_of}
+use Rattle.cell_core.specs.xdp_machine.Step.{effect}
+use Rattle.cell_core.specs.xdp_machine.Touched as touched
+use Rattle.cell_core.specs.xdp_machine.Touched.{answers_old}
+use Rattle.kind_core.proofs.xdp_machine_laws.ChangeLaws.{some_inj}
+use Rattle.kind_core.proofs.xdp_machine_laws.PartLaws.{at_or, bytes_in_slice}
 use Rattle.kind_core.specs.declared.number.Number.TheVariants.{Unknown}
 use Rattle.kind_core.specs.declared.kind.Kind.TheVariants.{Num, Entry}
 use Rattle.kind_core.specs.declared.kind.Kinds.{Kinds}
@@ -38,11 +38,11 @@ use Rattle.cell_core.specs.declared.site.Act.TheVariants as act
 use Rattle.cell_core.specs.Cells.{CellView, IsRun, bits_from, on}
 use Rattle.cell_core.specs.Sites.{SiteView, after, bytes_of, change_of, operation_on, read_on, number_or, answer as answer_of}
 use Rattle.operator_cells.specs.Making.{GrowsWith}
-use Rattle.held_cells.specs.declared.held.Held.{Held}
-use Rattle.held_cells.specs.Held.{PointerView, AreHeld, AreInside, pointer_at, key_of}
-use Rattle.held_cells.specs.Carrying.{IsKnown}
-use Rattle.held_cells.specs.Steps.{AreRead}
-use Rattle.held_cells.specs.Operating.{Operates}
+use Rattle.operator_cells.specs.declared.held_cells.held.Held.{Held}
+use Rattle.operator_cells.specs.HeldCells.Held.{PointerView, AreHeld, AreInside, pointer_at, key_of}
+use Rattle.operator_cells.specs.HeldCells.Carrying.{IsKnown}
+use Rattle.operator_cells.specs.HeldCells.Steps.{AreRead}
+use Rattle.operator_cells.specs.HeldCells.Operating.{Operates}
 use Rattle.site_cells.specs.declared.here.Here.{Here}
 use Rattle.site_cells.specs.Siting.{Accesses, ReadsNext, access_site}
 use Rattle.site_cells.specs.Changing.{code_of, IsAtomic, taken_by, HoldsOperands}

@@ -3,21 +3,21 @@ use Rattle.std.proofs.Common.{◌≡◌, ℕ, ◌^◌, ◌<◌, ◌≤◌, pos, 
 use Rattle.std.specs.Int.{w64, cast_unsigned}
 use Rattle.std.proofs.lemmas.List.{append-nil}
 use Rattle.std.proofs.lemmas.List.Elements.{All-nil, All-cons}
-use Rattle.bpf_isa.specs.declared.operation.Op.TheVariants.{Call}
-use Rattle.bpf_isa.specs.declared.instruction.Insn.{Insn}
-use Rattle.xdp_maps.specs.declared.decl.MapDecl.{MapDecl}
-use Rattle.xdp_maps.specs.State.{MapState, decl_at, contents_at, with_contents}
-use Rattle.xdp_maps.specs.Calls.{delete_number, deleted, update_number, updated}
-use Rattle.xdp_maps.specs.Operations as map
-use Rattle.xdp_maps.specs.Operations.{Operation, operated}
-use Rattle.xdp_state.specs.xdp_machine.Values.{Value, ◌>>=◌}
-use Rattle.xdp_state.specs.xdp_machine.Values as is
-use Rattle.xdp_state.specs.xdp_machine.State.{Machine, PacketIn, register}
-use Rattle.xdp_state.specs.xdp_machine.Helpers as helpers
-use Rattle.xdp_state.specs.xdp_machine.Step.{effect}
-use Rattle.xdp_state.specs.xdp_machine.Touched as touched
-use Rattle.xdp_state.proofs.xdp_machine.ChangeLaws.{some_inj}
-use Rattle.xdp_state.proofs.xdp_machine.NumberLaws.{word_of, delete_number_fits, update_number_fits}
+use Rattle.cell_core.specs.bpf_isa.declared.operation.Op.TheVariants.{Call}
+use Rattle.cell_core.specs.bpf_isa.declared.instruction.Insn.{Insn}
+use Rattle.cell_core.specs.xdp_maps.declared.decl.MapDecl.{MapDecl}
+use Rattle.cell_core.specs.xdp_maps.State.{MapState, decl_at, contents_at, with_contents}
+use Rattle.cell_core.specs.xdp_maps.Calls.{delete_number, deleted, update_number, updated}
+use Rattle.cell_core.specs.xdp_maps.Operations as map
+use Rattle.cell_core.specs.xdp_maps.Operations.{Operation, operated}
+use Rattle.cell_core.specs.xdp_machine.Values.{Value, ◌>>=◌}
+use Rattle.cell_core.specs.xdp_machine.Values as is
+use Rattle.cell_core.specs.xdp_machine.State.{Machine, PacketIn, register}
+use Rattle.cell_core.specs.xdp_machine.Helpers as helpers
+use Rattle.cell_core.specs.xdp_machine.Step.{effect}
+use Rattle.cell_core.specs.xdp_machine.Touched as touched
+use Rattle.kind_core.proofs.xdp_machine_laws.ChangeLaws.{some_inj}
+use Rattle.kind_core.proofs.xdp_machine_laws.NumberLaws.{word_of, delete_number_fits, update_number_fits}
 use Rattle.kind_core.specs.declared.number.Number.{Number}
 use Rattle.kind_core.specs.declared.number.Number.TheVariants.{Unknown}
 use Rattle.kind_core.specs.declared.kind.Kind.{Kind}
@@ -38,11 +38,11 @@ use Rattle.cell_core.specs.Sites.{SiteView, records, operation_on, answer, bytes
 use Rattle.cell_core.specs.Formed.{FitsMap, IsBelow}
 use Rattle.operator_cells.specs.Making.{GrowsWith, Grows, Makes}
 use Rattle.operator_cells.proofs.MakingLaws.{grown}
-use Rattle.held_cells.specs.declared.held.Held.{Held}
-use Rattle.held_cells.specs.Held.{PointerView, AreInside, AreHeld, number_of}
+use Rattle.operator_cells.specs.declared.held_cells.held.Held.{Held}
+use Rattle.operator_cells.specs.HeldCells.Held.{PointerView, AreInside, AreHeld, number_of}
 use Rattle.site_cells.proofs.Slots.{bound, register_number}
-use Rattle.held_cells.specs.Carrying.{IsKnown}
-use Rattle.held_cells.specs.Operating.{Operates}
+use Rattle.operator_cells.specs.HeldCells.Carrying.{IsKnown}
+use Rattle.operator_cells.specs.HeldCells.Operating.{Operates}
 use Rattle.site_cells.specs.declared.here.Here.{Here}
 use Rattle.site_cells.specs.Words.{HoldsRegion}
 use Rattle.site_cells.specs.Siting.{ReadsNext, Changes, change_site}

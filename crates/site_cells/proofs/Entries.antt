@@ -5,21 +5,21 @@ use Rattle.std.proofs.Math.Nat.{div-one, mod-eq_of_lt}
 use Rattle.std.proofs.lemmas.Bool.{eqb-true}
 use Rattle.std.proofs.lemmas.Option.{slice_get_within}
 use Rattle.byteorder.specs.Numbers.{little_from-lt}
-use Rattle.bpf_isa.specs.declared.operation.Size.{Size}
-use Rattle.bpf_isa.specs.declared.operation.Size.TheVariants.{B, H, W, Dw}
-use Rattle.xdp_maps.specs.declared.decl.MapDecl.{MapDecl}
-use Rattle.xdp_maps.specs.Contents.{IsBytes}
-use Rattle.xdp_maps.specs.State.{MapState, IsSound, decl_at, contents_at}
-use Rattle.xdp_maps.specs.Calls.{lookup_of}
-use Rattle.xdp_maps.specs.Operations.{Operation}
-use Rattle.xdp_state.specs.xdp_machine.Values.{Value, ◌>>=◌}
-use Rattle.xdp_state.specs.xdp_machine.Values as is
-use Rattle.xdp_state.specs.xdp_machine.State.{Machine, PacketIn, register}
-use Rattle.xdp_state.specs.xdp_machine.Memory.{bytes_in, number_at, aligned}
-use Rattle.xdp_state.specs.xdp_machine.Memory as machine
-use Rattle.xdp_state.specs.xdp_machine.Touched.{accesses}
-use Rattle.xdp_state.proofs.xdp_machine.ChangeLaws.{some_inj}
-use Rattle.xdp_state.proofs.xdp_machine.PartLaws.{at_or, bytes_in_slice, aligned-within}
+use Rattle.cell_core.specs.bpf_isa.declared.operation.Size.{Size}
+use Rattle.cell_core.specs.bpf_isa.declared.operation.Size.TheVariants.{B, H, W, Dw}
+use Rattle.cell_core.specs.xdp_maps.declared.decl.MapDecl.{MapDecl}
+use Rattle.cell_core.specs.xdp_maps.Contents.{IsBytes}
+use Rattle.cell_core.specs.xdp_maps.State.{MapState, IsSound, decl_at, contents_at}
+use Rattle.cell_core.specs.xdp_maps.Calls.{lookup_of}
+use Rattle.cell_core.specs.xdp_maps.Operations.{Operation}
+use Rattle.cell_core.specs.xdp_machine.Values.{Value, ◌>>=◌}
+use Rattle.cell_core.specs.xdp_machine.Values as is
+use Rattle.cell_core.specs.xdp_machine.State.{Machine, PacketIn, register}
+use Rattle.cell_core.specs.xdp_machine.Memory.{bytes_in, number_at, aligned}
+use Rattle.cell_core.specs.xdp_machine.Memory as machine
+use Rattle.cell_core.specs.xdp_machine.Touched.{accesses}
+use Rattle.kind_core.proofs.xdp_machine_laws.ChangeLaws.{some_inj}
+use Rattle.kind_core.proofs.xdp_machine_laws.PartLaws.{at_or, bytes_in_slice, aligned-within}
 use Rattle.kind_core.specs.declared.kind.Kind.{Kind}
 use Rattle.kind_core.specs.declared.kind.Kind.TheVariants.{Entry}
 use Rattle.kind_core.specs.declared.kind.Kinds.{Kinds}
@@ -29,10 +29,10 @@ use Rattle.kind_core.specs.Kinds.{value_bytes}
 use Rattle.kind_core.specs.Tests as tests
 use Rattle.kind_core.proofs.TestLaws.{bind_passed}
 use Rattle.cell_core.specs.Cells.{bits_from}
-use Rattle.held_cells.specs.declared.held.Held.{Held}
-use Rattle.held_cells.specs.declared.held.Pointer.{Pointer}
-use Rattle.held_cells.specs.Held.{PointerView, pointer_of, pointed, IsPointer, Holds, Counts, AreInside, pointer_at, key_of}
-use Rattle.held_cells.specs.Carrying.{IsKnown}
+use Rattle.operator_cells.specs.declared.held_cells.held.Held.{Held}
+use Rattle.operator_cells.specs.declared.held_cells.held.Pointer.{Pointer}
+use Rattle.operator_cells.specs.HeldCells.Held.{PointerView, pointer_of, pointed, IsPointer, Holds, Counts, AreInside, pointer_at, key_of}
+use Rattle.operator_cells.specs.HeldCells.Carrying.{IsKnown}
 use Rattle.site_cells.proofs.Adding.{pointed_count, pointer_seen}
 use Rattle.site_cells.proofs.Slots.{bound}
 use Rattle.site_cells.proofs.OneSite.{is_declared}

@@ -3,12 +3,12 @@ use Rattle.std.proofs.Common.{◌≡◌, ◌∙◌, ℕ, ◌+◌, ◌<◌, ◌�
 use Rattle.std.proofs.lemmas.List.{get_or-set_same}
 use Rattle.std.specs.List.{list_any}
 use Rattle.std.specs.Int.{w64, cast_unsigned}
-use Rattle.bpf_isa.specs.declared.operation.Size.{Size}
-use Rattle.bpf_isa.specs.declared.operation.Op.TheVariants.{Load, LoadSigned, Store, StoreImm}
-use Rattle.bpf_isa.specs.declared.instruction.Insn.{Insn}
-use Rattle.xdp_maps.specs.declared.decl.MapDecl.{MapDecl}
-use Rattle.xdp_state.specs.xdp_machine.Memory.{bytes_in}
-use Rattle.xdp_state.proofs.xdp_machine.ChangeLaws.{some_inj}
+use Rattle.cell_core.specs.bpf_isa.declared.operation.Size.{Size}
+use Rattle.cell_core.specs.bpf_isa.declared.operation.Op.TheVariants.{Load, LoadSigned, Store, StoreImm}
+use Rattle.cell_core.specs.bpf_isa.declared.instruction.Insn.{Insn}
+use Rattle.cell_core.specs.xdp_maps.declared.decl.MapDecl.{MapDecl}
+use Rattle.cell_core.specs.xdp_machine.Memory.{bytes_in}
+use Rattle.kind_core.proofs.xdp_machine_laws.ChangeLaws.{some_inj}
 use Rattle.kind_core.specs.declared.number.Number.TheVariants.{Known, Unknown}
 use Rattle.kind_core.specs.declared.kind.Kind.{Kind}
 use Rattle.kind_core.specs.declared.kind.Kind.TheVariants.{Unset, Num, Entry}
@@ -25,13 +25,13 @@ use Rattle.operator_cells.specs.Making.{Grows}
 use Rattle.operator_cells.specs.Rising.{Rises}
 use Rattle.operator_cells.proofs.MakingLaws.{grown_with, grown_none, reads_none}
 use Rattle.operator_cells.proofs.RisingLaws.{stand_none, stand_more, rises_none, rises_then}
-use Rattle.held_cells.specs.place_rows.Spans.{no_place, one, pending, region, map_of, pending_of, is_in, spans_row}
-use Rattle.held_cells.specs.place_rows.Reading.{is_entry, result_as, result_row}
-use Rattle.held_cells.specs.place_rows.Writing.{writes_as, record_as, through}
-use Rattle.held_cells.specs.declared.held.Held.{Held}
-use Rattle.held_cells.specs.Held.{PointerView, pointer_at}
-use Rattle.held_cells.specs.Rows.{value_row, map_used, row_before, OperatesTo}
-use Rattle.held_cells.proofs.RowLaws.{rise_one}
+use Rattle.operator_cells.specs.row_rules.PlaceRows.Spans.{no_place, one, pending, region, map_of, pending_of, is_in, spans_row}
+use Rattle.operator_cells.specs.row_rules.PlaceRows.Reading.{is_entry, result_as, result_row}
+use Rattle.operator_cells.specs.row_rules.PlaceRows.Writing.{writes_as, record_as, through}
+use Rattle.operator_cells.specs.declared.held_cells.held.Held.{Held}
+use Rattle.operator_cells.specs.HeldCells.Held.{PointerView, pointer_at}
+use Rattle.operator_cells.specs.HeldCells.Rows.{value_row, map_used, row_before, OperatesTo}
+use Rattle.operator_cells.proofs.HeldCells.RowLaws.{rise_one}
 use Rattle.site_cells.specs.declared.here.Here.{Here}
 use Rattle.site_cells.specs.Siting.{Accesses, ReadsNext, access_site}
 use Rattle.site_cells.proofs.Allowed.{load_allowed, signed_allowed, store_allowed}

@@ -5,9 +5,9 @@ use Rattle.std.proofs.lemmas.List.{take_all, take-take, take-append-drop, drop-t
 use Rattle.std.proofs.lemmas.List.Elements.{All-take, All-drop, All-push, All-map}
 use Rattle.byteorder.specs.Endian.{little_number, little_bytes}
 use Rattle.cell_core.specs.beat_core.Words.{low_bytes, word_of}
-use Rattle.xdp_state.proofs.beat_core_laws.WordLaws.{little_from-word_of, low_bytes-word_of, written_bytes}
-use Rattle.xdp_state.specs.xdp_machine.State.{PacketIn}
-use Rattle.xdp_state.proofs.xdp_machine.PartLaws.{at_or}
+use Rattle.cell_core.proofs.beat_core_laws.WordLaws.{little_from-word_of, low_bytes-word_of, written_bytes}
+use Rattle.cell_core.specs.xdp_machine.State.{PacketIn}
+use Rattle.kind_core.proofs.xdp_machine_laws.PartLaws.{at_or}
 use Rattle.cell_core.specs.Cells.{CellView, IsRun}
 use Rattle.cell_core.specs.Sites.{spelled, bytes_of}
 use Rattle.cell_core.proofs.SpelledLaws.{spelled_length}

@@ -2,7 +2,7 @@
 use Rattle.std.proofs.Common.{◌≡◌, ◌≢◌, ℕ, ◌+◌, ◌-◌, ◌<◌, ◌≤◌, ◌⊎◌, inl, inr, ◌==◌, nat_lt, ◌||◌, if◌then◌else◌, Bool, true, false, Option, Some, List, [], ◌∷◌, ◌++◌, length, get_or, slice_index, refl, sym, subst, arith}
 use Rattle.std.specs.List.{list_any}
 use Rattle.std.proofs.lemmas.Bool.{cases_lt, ltb-true, ltb-false, lt-ltb, le-ltb}
-use Rattle.xdp_maps.specs.declared.decl.MapDecl.{MapDecl}
+use Rattle.cell_core.specs.xdp_maps.declared.decl.MapDecl.{MapDecl}
 use Rattle.kind_core.specs.declared.number.Number.TheVariants.{Unknown}
 use Rattle.kind_core.specs.declared.kind.Kind.{Kind}
 use Rattle.kind_core.specs.declared.kind.Kind.TheVariants.{Unset, Num, Maybe, Entry, Stale}
@@ -11,13 +11,13 @@ use Rattle.kind_core.specs.Kinds.{register}
 use Rattle.cell_core.specs.Cells.{CellView}
 use Rattle.cell_core.specs.Rows.{AreRows, greatest}
 use Rattle.operator_cells.specs.Rising.{GrowsTo}
-use Rattle.held_cells.specs.place_rows.declared.span.Span.{Span}
-use Rattle.held_cells.specs.place_rows.Spans.{no_place, one, pending, pending_in, is_in, span_row}
-use Rattle.held_cells.proofs.place_rows.SpanLaws.{in_none, in_one, is_inside, span_above, span_within}
-use Rattle.held_cells.specs.declared.held.Held.{Held}
-use Rattle.held_cells.specs.Held.{PointerView, Counts, AreInside}
-use Rattle.held_cells.specs.Rows.{kind_at, number_at, cells_of_pointer, value_row, held_row, row_before, LeavesTo}
-use Rattle.held_cells.proofs.RowLaws.{register_row, put_register}
+use Rattle.operator_cells.specs.row_rules.declared.place_rows.span.Span.{Span}
+use Rattle.operator_cells.specs.row_rules.PlaceRows.Spans.{no_place, one, pending, pending_in, is_in, span_row}
+use Rattle.operator_cells.proofs.row_rules_laws.PlaceRows.SpanLaws.{in_none, in_one, is_inside, span_above, span_within}
+use Rattle.operator_cells.specs.declared.held_cells.held.Held.{Held}
+use Rattle.operator_cells.specs.HeldCells.Held.{PointerView, Counts, AreInside}
+use Rattle.operator_cells.specs.HeldCells.Rows.{kind_at, number_at, cells_of_pointer, value_row, held_row, row_before, LeavesTo}
+use Rattle.operator_cells.proofs.HeldCells.RowLaws.{register_row, put_register}
 use Rattle.site_cells.proofs.Adding.{old_pointer}
 use Rattle.site_cells.proofs.Shedding.{IsBare, IsLess, Sheds, answer_kind, shed_kind, number_put, number_kept}
 

@@ -3,20 +3,20 @@ use Rattle.std.proofs.Common.{◌≡◌, ℕ, ◌*◌, ◌<◌, ◌≤◌, ℤ, 
 use Rattle.std.specs.Prelude.{All, slice_get}
 use Rattle.std.proofs.lemmas.List.{append-nil}
 use Rattle.std.proofs.lemmas.List.Elements.{All-nil, All-cons}
-use Rattle.bpf_isa.specs.declared.operation.Size.{Size}
-use Rattle.bpf_isa.specs.declared.operation.Op.TheVariants.{Load, LoadSigned}
-use Rattle.bpf_isa.specs.declared.instruction.Insn.{Insn}
-use Rattle.xdp_maps.specs.declared.decl.MapDecl.{MapDecl}
-use Rattle.xdp_maps.specs.State.{MapState, decl_at, contents_at}
-use Rattle.xdp_maps.specs.Calls.{lookup_of}
-use Rattle.xdp_maps.specs.Operations as map
-use Rattle.xdp_state.specs.xdp_machine.Values.{Value, ◌>>=◌}
-use Rattle.xdp_state.specs.xdp_machine.Values as is
-use Rattle.xdp_state.specs.xdp_machine.State.{Machine, register}
-use Rattle.xdp_state.specs.xdp_machine.Memory.{bytes_in, number_at, aligned}
-use Rattle.xdp_state.specs.xdp_machine.Memory as machine
-use Rattle.xdp_state.specs.xdp_machine.Step.{effect}
-use Rattle.xdp_state.specs.xdp_machine.Touched as touched
+use Rattle.cell_core.specs.bpf_isa.declared.operation.Size.{Size}
+use Rattle.cell_core.specs.bpf_isa.declared.operation.Op.TheVariants.{Load, LoadSigned}
+use Rattle.cell_core.specs.bpf_isa.declared.instruction.Insn.{Insn}
+use Rattle.cell_core.specs.xdp_maps.declared.decl.MapDecl.{MapDecl}
+use Rattle.cell_core.specs.xdp_maps.State.{MapState, decl_at, contents_at}
+use Rattle.cell_core.specs.xdp_maps.Calls.{lookup_of}
+use Rattle.cell_core.specs.xdp_maps.Operations as map
+use Rattle.cell_core.specs.xdp_machine.Values.{Value, ◌>>=◌}
+use Rattle.cell_core.specs.xdp_machine.Values as is
+use Rattle.cell_core.specs.xdp_machine.State.{Machine, register}
+use Rattle.cell_core.specs.xdp_machine.Memory.{bytes_in, number_at, aligned}
+use Rattle.cell_core.specs.xdp_machine.Memory as machine
+use Rattle.cell_core.specs.xdp_machine.Step.{effect}
+use Rattle.cell_core.specs.xdp_machine.Touched as touched
 use Rattle.kind_core.specs.declared.number.Number.TheVariants.{Unknown}
 use Rattle.kind_core.specs.declared.kind.Kind.TheVariants.{Num, Entry}
 use Rattle.kind_core.specs.declared.kind.Kinds.{Kinds}
@@ -26,8 +26,8 @@ use Rattle.kind_core.specs.Edges.{transferred}
 use Rattle.kind_core.specs.Tests.{passed}
 use Rattle.kind_core.specs.Effects.{effect_of, verdict}
 use Rattle.site_cells.proofs.Allowed.{load_allowed, signed_allowed}
-use Rattle.xdp_state.specs.xdp_machine.Arithmetic.{extended}
-use Rattle.xdp_state.proofs.xdp_machine.ChangeLaws.{some_inj}
+use Rattle.cell_core.specs.xdp_machine.Arithmetic.{extended}
+use Rattle.kind_core.proofs.xdp_machine_laws.ChangeLaws.{some_inj}
 use Rattle.operator_cells.specs.Making.{GrowsWith, Makes}
 use Rattle.operator_cells.proofs.MakingLaws.{grown_with, grown_none, reads_none}
 use Rattle.site_cells.proofs.Slots.{bound}
@@ -35,10 +35,10 @@ use Rattle.cell_core.specs.declared.operator.Operator.TheVariants.{Answer}
 use Rattle.cell_core.specs.declared.site.Act.TheVariants as act
 use Rattle.cell_core.specs.Cells.{CellView, bits_from, on}
 use Rattle.cell_core.specs.Sites.{SiteView, after, bytes_of, loaded}
-use Rattle.held_cells.specs.declared.held.Held.{Held}
-use Rattle.held_cells.specs.Held.{PointerView, AreInside, pointer_at, key_of}
-use Rattle.held_cells.specs.Steps.{AreRead}
-use Rattle.held_cells.specs.Operating.{Operates}
+use Rattle.operator_cells.specs.declared.held_cells.held.Held.{Held}
+use Rattle.operator_cells.specs.HeldCells.Held.{PointerView, AreInside, pointer_at, key_of}
+use Rattle.operator_cells.specs.HeldCells.Steps.{AreRead}
+use Rattle.operator_cells.specs.HeldCells.Operating.{Operates}
 use Rattle.site_cells.specs.declared.here.Here.{Here}
 use Rattle.site_cells.specs.Siting.{ReadsNext, IsReadOf, Accesses, access_site}
 use Rattle.site_cells.proofs.Adding.{after_one, read_value, read_later}

@@ -2,10 +2,10 @@
 use Rattle.std.proofs.Common.{◌≡◌, ◌∙◌, ℕ, ◌+◌, ◌<◌, ◌≤◌, ℤ, pos, if◌then◌else◌, Bool, true, false, Some, List, [], ◌∷◌, ◌++◌, length, slice_set, refl, sym, ap, subst, arith}
 use Rattle.std.specs.List.{list_any}
 use Rattle.std.specs.Ordering.{int_eq}
-use Rattle.bpf_isa.specs.declared.operation.Op.TheVariants.{Call}
-use Rattle.bpf_isa.specs.declared.instruction.Insn.{Insn}
-use Rattle.xdp_maps.specs.declared.decl.MapDecl.{MapDecl}
-use Rattle.xdp_state.proofs.xdp_machine.ChangeLaws.{some_inj}
+use Rattle.cell_core.specs.bpf_isa.declared.operation.Op.TheVariants.{Call}
+use Rattle.cell_core.specs.bpf_isa.declared.instruction.Insn.{Insn}
+use Rattle.cell_core.specs.xdp_maps.declared.decl.MapDecl.{MapDecl}
+use Rattle.kind_core.proofs.xdp_machine_laws.ChangeLaws.{some_inj}
 use Rattle.kind_core.specs.declared.kind.Kind.{Kind}
 use Rattle.kind_core.specs.declared.kind.Kind.TheVariants.{MapRef, Maybe}
 use Rattle.kind_core.specs.declared.kind.Kinds.{Kinds}
@@ -20,14 +20,14 @@ use Rattle.operator_cells.specs.Making.{Grows}
 use Rattle.operator_cells.specs.Rising.{RiseAll}
 use Rattle.operator_cells.proofs.MakingLaws.{grown_with, reads_none}
 use Rattle.operator_cells.proofs.RisingLaws.{greatest_append, stand_none, stand_all, rises_then}
-use Rattle.held_cells.specs.place_rows.declared.span.Span.{Span}
-use Rattle.held_cells.specs.place_rows.Spans.{no_place, one, target, region, map_of, pending_of, key_in, span_row, spans_row}
-use Rattle.held_cells.specs.place_rows.Reading.{key_span, call_reads, result_as, result_row}
-use Rattle.held_cells.specs.place_rows.Writing.{writes_as, record_as, is_open_in, made_row}
-use Rattle.held_cells.specs.declared.held.Held.{Held}
-use Rattle.held_cells.specs.Held.{PointerView, AreInside, pointer_at}
-use Rattle.held_cells.specs.Rows.{cells_of_pointer, value_row, held_row, map_used, row_before, LeavesTo, OperatesTo}
-use Rattle.held_cells.proofs.RowLaws.{grows_by}
+use Rattle.operator_cells.specs.row_rules.declared.place_rows.span.Span.{Span}
+use Rattle.operator_cells.specs.row_rules.PlaceRows.Spans.{no_place, one, target, region, map_of, pending_of, key_in, span_row, spans_row}
+use Rattle.operator_cells.specs.row_rules.PlaceRows.Reading.{key_span, call_reads, result_as, result_row}
+use Rattle.operator_cells.specs.row_rules.PlaceRows.Writing.{writes_as, record_as, is_open_in, made_row}
+use Rattle.operator_cells.specs.declared.held_cells.held.Held.{Held}
+use Rattle.operator_cells.specs.HeldCells.Held.{PointerView, AreInside, pointer_at}
+use Rattle.operator_cells.specs.HeldCells.Rows.{cells_of_pointer, value_row, held_row, map_used, row_before, LeavesTo, OperatesTo}
+use Rattle.operator_cells.proofs.HeldCells.RowLaws.{grows_by}
 use Rattle.site_cells.specs.declared.here.Here.{Here}
 use Rattle.site_cells.specs.Siting.{LooksUp, ReadsNext, lookup_site}
 use Rattle.site_cells.proofs.Adding.{last_pointer}

@@ -4,18 +4,18 @@ use Rattle.std.specs.Prelude.{is_some}
 use Rattle.std.specs.Int.{w64, cast_unsigned}
 use Rattle.std.proofs.lemmas.List.Elements.{All-nil}
 use Rattle.kind_core.specs.Edges.{transferred}
-use Rattle.held_cells.specs.Held.{AreHeld}
-use Rattle.bpf_isa.specs.declared.operation.Op.TheVariants.{Call}
-use Rattle.bpf_isa.specs.declared.instruction.Insn.{Insn}
-use Rattle.xdp_maps.specs.declared.decl.MapDecl.{MapDecl}
-use Rattle.xdp_maps.specs.State.{MapState, decl_at, contents_at}
-use Rattle.xdp_maps.specs.Calls.{lookup_of}
-use Rattle.xdp_maps.specs.Operations as map
-use Rattle.xdp_state.specs.xdp_machine.Values.{Value}
-use Rattle.xdp_state.specs.xdp_machine.Values as is
-use Rattle.xdp_state.specs.xdp_machine.State.{Machine, register}
-use Rattle.xdp_state.specs.xdp_machine.Helpers as helpers
-use Rattle.xdp_state.specs.xdp_machine.Touched as machine
+use Rattle.operator_cells.specs.HeldCells.Held.{AreHeld}
+use Rattle.cell_core.specs.bpf_isa.declared.operation.Op.TheVariants.{Call}
+use Rattle.cell_core.specs.bpf_isa.declared.instruction.Insn.{Insn}
+use Rattle.cell_core.specs.xdp_maps.declared.decl.MapDecl.{MapDecl}
+use Rattle.cell_core.specs.xdp_maps.State.{MapState, decl_at, contents_at}
+use Rattle.cell_core.specs.xdp_maps.Calls.{lookup_of}
+use Rattle.cell_core.specs.xdp_maps.Operations as map
+use Rattle.cell_core.specs.xdp_machine.Values.{Value}
+use Rattle.cell_core.specs.xdp_machine.Values as is
+use Rattle.cell_core.specs.xdp_machine.State.{Machine, register}
+use Rattle.cell_core.specs.xdp_machine.Helpers as helpers
+use Rattle.cell_core.specs.xdp_machine.Touched as machine
 use Rattle.kind_core.specs.declared.kind.Kind.{Kind}
 use Rattle.kind_core.specs.declared.kind.Kind.TheVariants.{MapRef, Maybe}
 use Rattle.kind_core.specs.declared.kind.Kinds.{Kinds}
@@ -27,9 +27,9 @@ use Rattle.kind_core.specs.Effects.{effect_of, verdict}
 use Rattle.kind_core.specs.Describes.{Describes}
 use Rattle.cell_core.specs.Cells.{CellView, bits_from, bit, on}
 use Rattle.cell_core.specs.Sites.{SiteView, after, bytes_of}
-use Rattle.held_cells.specs.declared.held.Held.{Held}
-use Rattle.held_cells.specs.Held.{PointerView, IsPointer, AreInside, pointer_at, entry_or_null}
-use Rattle.held_cells.specs.Operating.{Operates}
+use Rattle.operator_cells.specs.declared.held_cells.held.Held.{Held}
+use Rattle.operator_cells.specs.HeldCells.Held.{PointerView, IsPointer, AreInside, pointer_at, entry_or_null}
+use Rattle.operator_cells.specs.HeldCells.Operating.{Operates}
 use Rattle.site_cells.specs.declared.here.Here.{Here}
 use Rattle.site_cells.specs.Words.{HoldsRegion}
 use Rattle.site_cells.specs.Siting.{LooksUp, lookup_site}

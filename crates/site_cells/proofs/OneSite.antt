@@ -5,15 +5,15 @@ use Rattle.std.proofs.Math.Seq.{get_or-append_seam}
 use Rattle.std.proofs.lemmas.Bool.{cases_lt}
 use Rattle.std.proofs.lemmas.Option.{slice_get-get_or, slice_get_past}
 use Rattle.std.proofs.lemmas.List.Elements.{All-nil, All-cons}
-use Rattle.xdp_maps.specs.declared.decl.MapDecl.{MapDecl}
-use Rattle.xdp_maps.specs.State.{no_decl}
+use Rattle.cell_core.specs.xdp_maps.declared.decl.MapDecl.{MapDecl}
+use Rattle.cell_core.specs.xdp_maps.State.{no_decl}
 use Rattle.kind_core.specs.Kinds.{key_bytes, value_bytes, key_in, value_in}
 use Rattle.cell_core.specs.Cells.{CellView}
 use Rattle.cell_core.specs.Sites.{SiteView, site_at, no_site}
 use Rattle.cell_core.specs.Formed.{FitsMap, IsBelow, HasWords, IsInside}
 use Rattle.operator_cells.specs.Making.{GrowsWith, Grows}
 use Rattle.operator_cells.proofs.MakingLaws.{grown_with, reads_within, reads_none}
-use Rattle.held_cells.specs.Steps.{ReadsOwn}
+use Rattle.operator_cells.specs.HeldCells.Steps.{ReadsOwn}
 use Rattle.site_cells.specs.declared.here.Here.{Here}
 use Rattle.site_cells.specs.Siting.{ReadsNext}
 

@@ -1,11 +1,11 @@
 -- Which pointers are held behind an operation on a map.
 use Rattle.std.proofs.Common.{◌≡◌, ◌≢◌, ◌∙◌, ℕ, ◌-◌, ◌<◌, ◌≤◌, ◌⊎◌, inl, inr, ◌==◌, nat_lt, if◌then◌else◌, Bool, true, false, Some, None, List, [], ◌∷◌, ◌++◌, length, take, drop, slice_index, refl, sym, ap, subst, arith}
 use Rattle.std.proofs.lemmas.Bool.{cases_lt, cases_eq, eqb-false, lt-ltb}
-use Rattle.bpf_isa.specs.declared.operation.Op.{Op}
-use Rattle.bpf_isa.specs.declared.operation.Op.TheVariants.{Call}
-use Rattle.bpf_isa.specs.declared.instruction.Insn.{Insn}
-use Rattle.xdp_maps.specs.declared.decl.MapDecl.{MapDecl}
-use Rattle.xdp_state.proofs.xdp_machine.ChangeLaws.{some_inj}
+use Rattle.cell_core.specs.bpf_isa.declared.operation.Op.{Op}
+use Rattle.cell_core.specs.bpf_isa.declared.operation.Op.TheVariants.{Call}
+use Rattle.cell_core.specs.bpf_isa.declared.instruction.Insn.{Insn}
+use Rattle.cell_core.specs.xdp_maps.declared.decl.MapDecl.{MapDecl}
+use Rattle.kind_core.proofs.xdp_machine_laws.ChangeLaws.{some_inj}
 use Rattle.kind_core.specs.declared.number.Number.TheVariants.{Unknown}
 use Rattle.kind_core.specs.declared.kind.Kind.{Kind}
 use Rattle.kind_core.specs.declared.kind.Kind.TheVariants.{Unset, Num, MapRef, Maybe, Entry, Stale}
@@ -20,13 +20,13 @@ use Rattle.cell_core.specs.Acts.{pointer_operand}
 use Rattle.cell_core.specs.Cells.{CellView, cell_at, site_in}
 use Rattle.cell_core.specs.Sites.{SiteView}
 use Rattle.operator_cells.specs.Making.{Grows}
-use Rattle.held_cells.specs.declared.held.Held.{Held}
-use Rattle.held_cells.specs.Held.{PointerView, pointer_at}
-use Rattle.held_cells.specs.Rows.{kind_at, number_at, map_used}
-use Rattle.held_cells.specs.Pointing.{Pointing, pointing_as, HoldsPointer, KeepPointers, changes_keys, IsThrough, ChangePoints, AccessPoints, PointsAs, OperationPoints}
-use Rattle.held_cells.specs.Reading.{OperationReads}
-use Rattle.held_cells.proofs.RowLaws.{put_register}
-use Rattle.held_cells.specs.place_rows.Spans.{map_of}
+use Rattle.operator_cells.specs.declared.held_cells.held.Held.{Held}
+use Rattle.operator_cells.specs.HeldCells.Held.{PointerView, pointer_at}
+use Rattle.operator_cells.specs.HeldCells.Rows.{kind_at, number_at, map_used}
+use Rattle.operator_cells.specs.HeldCells.Pointing.{Pointing, pointing_as, HoldsPointer, KeepPointers, changes_keys, IsThrough, ChangePoints, AccessPoints, PointsAs, OperationPoints}
+use Rattle.operator_cells.specs.HeldCells.Reading.{OperationReads}
+use Rattle.operator_cells.proofs.HeldCells.RowLaws.{put_register}
+use Rattle.operator_cells.specs.row_rules.PlaceRows.Spans.{map_of}
 use Rattle.site_cells.specs.declared.here.Here.{Here}
 use Rattle.site_cells.specs.Siting.{LooksUp, Changes, lookup_site, access_site, change_site}
 use Rattle.site_cells.proofs.SiteReads.{change_reads, lookup_reads}

@@ -3,21 +3,21 @@ use Rattle.std.proofs.Common.{◌≡◌, ◌∙◌, ℕ, ◌+◌, ◌<◌, ◌�
 use Rattle.std.specs.List.{list_any}
 use Rattle.std.proofs.Math.Seq.{get_or-append_seam}
 use Rattle.std.proofs.lemmas.Bool.{lt-ltb}
-use Rattle.bpf_isa.specs.declared.instruction.Insn.{Insn}
-use Rattle.xdp_maps.specs.declared.decl.MapDecl.{MapDecl}
+use Rattle.cell_core.specs.bpf_isa.declared.instruction.Insn.{Insn}
+use Rattle.cell_core.specs.xdp_maps.declared.decl.MapDecl.{MapDecl}
 use Rattle.kind_core.specs.declared.kind.Kind.{Kind}
 use Rattle.kind_core.specs.declared.kind.Kinds.{Kinds}
 use Rattle.kind_core.specs.Kinds.{register}
 use Rattle.cell_core.specs.Cells.{CellView, cell_at, site_in}
 use Rattle.cell_core.specs.Sites.{SiteView, site_at, no_site, records}
 use Rattle.cell_core.specs.Rows.{greatest}
-use Rattle.held_cells.specs.place_rows.declared.recording.Record.{Record}
-use Rattle.held_cells.specs.place_rows.Spans.{no_place, one}
-use Rattle.held_cells.specs.place_rows.Origins.{is_open, has_data}
-use Rattle.held_cells.specs.place_rows.Reading.{result_row}
-use Rattle.held_cells.specs.place_rows.Writing.{writes_as, record_as, is_open_in, taken_row, made_row}
-use Rattle.held_cells.proofs.place_rows.SpanLaws.{one_number}
-use Rattle.held_cells.specs.Rows.{is_some_place, written_row, IsRecord, WriteWithin}
+use Rattle.operator_cells.specs.row_rules.declared.place_rows.recording.Record.{Record}
+use Rattle.operator_cells.specs.row_rules.PlaceRows.Spans.{no_place, one}
+use Rattle.operator_cells.specs.row_rules.PlaceRows.Origins.{is_open, has_data}
+use Rattle.operator_cells.specs.row_rules.PlaceRows.Reading.{result_row}
+use Rattle.operator_cells.specs.row_rules.PlaceRows.Writing.{writes_as, record_as, is_open_in, taken_row, made_row}
+use Rattle.operator_cells.proofs.row_rules_laws.PlaceRows.SpanLaws.{one_number}
+use Rattle.operator_cells.specs.HeldCells.Rows.{is_some_place, written_row, IsRecord, WriteWithin}
 
 -- ---- rows
 module _ (before : ℕ → ℕ) (decls : List MapDecl) (k after : Kinds) (i : Insn) where

@@ -4,12 +4,12 @@ use Rattle.std.specs.Prelude.{All}
 use Rattle.std.proofs.lemmas.List.{get_or_default, get_or-take, get_or-drop, get_or-map, length-map, length-take, length-drop, ext_get_or}
 use Rattle.std.proofs.lemmas.List.Elements.{All-take, All-drop, All-cons}
 use Rattle.std.proofs.lemmas.Bool.Decides.{nat_tests}
-use Rattle.xdp_maps.specs.declared.decl.MapDecl.{MapDecl}
-use Rattle.xdp_state.specs.xdp_machine.Memory.{inside}
-use Rattle.xdp_state.specs.xdp_machine.Helpers as machine
-use Rattle.xdp_state.specs.xdp_machine.Helpers.{stack_bytes}
-use Rattle.xdp_state.proofs.xdp_machine.ChangeLaws.{some_inj, inside-within}
-use Rattle.xdp_state.proofs.xdp_machine.PartLaws.{IsBytes-stack_bytes, bytes_in_slice}
+use Rattle.cell_core.specs.xdp_maps.declared.decl.MapDecl.{MapDecl}
+use Rattle.cell_core.specs.xdp_machine.Memory.{inside}
+use Rattle.cell_core.specs.xdp_machine.Helpers as machine
+use Rattle.cell_core.specs.xdp_machine.Helpers.{stack_bytes}
+use Rattle.kind_core.proofs.xdp_machine_laws.ChangeLaws.{some_inj, inside-within}
+use Rattle.kind_core.proofs.xdp_machine_laws.PartLaws.{IsBytes-stack_bytes, bytes_in_slice}
 use Rattle.kind_core.specs.declared.number.Number.{Number}
 use Rattle.kind_core.specs.declared.kind.Kind.{Kind}
 use Rattle.kind_core.specs.declared.kind.Kind.TheVariants.{Unset, Num, Packet, Stack}
@@ -22,8 +22,8 @@ use Rattle.kind_core.proofs.TestLaws.{bind_passed}
 use Rattle.cell_core.specs.Cells.{CellView}
 use Rattle.cell_core.specs.Sites.{bytes_of}
 use Rattle.operator_cells.proofs.MakingLaws.{grown}
-use Rattle.held_cells.specs.declared.held.Held.{Held}
-use Rattle.held_cells.specs.Held.{PointerView}
+use Rattle.operator_cells.specs.declared.held_cells.held.Held.{Held}
+use Rattle.operator_cells.specs.HeldCells.Held.{PointerView}
 use Rattle.site_cells.specs.Words.{JoinsWords, HoldsBytes, HoldsRegion, AreNumbers}
 use Rattle.site_cells.proofs.Slots.{bound}
 

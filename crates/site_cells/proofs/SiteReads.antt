@@ -4,9 +4,9 @@ use Rattle.std.specs.Prelude.{get_or, Contains}
 use Rattle.std.proofs.lemmas.Bool.{cases_lt, false≢true}
 use Rattle.std.proofs.lemmas.List.{append-nil, take-append-drop}
 use Rattle.std.proofs.lemmas.List.Elements.{Contains-push, Contains-append_left, Contains-append_right, Contains-append_cases}
-use Rattle.xdp_maps.specs.declared.decl.MapDecl.{MapDecl}
-use Rattle.xdp_maps.specs.declared.decl.MapKind.{MapKind}
-use Rattle.xdp_maps.specs.State.{no_decl}
+use Rattle.cell_core.specs.xdp_maps.declared.decl.MapDecl.{MapDecl}
+use Rattle.cell_core.specs.xdp_maps.declared.decl.MapKind.{MapKind}
+use Rattle.cell_core.specs.xdp_maps.State.{no_decl}
 use Rattle.cell_core.specs.declared.operator.Operator.TheVariants.{Found, Answer}
 use Rattle.cell_core.specs.declared.site.Act.{Act}
 use Rattle.cell_core.specs.declared.site.Act.TheVariants as act
@@ -14,10 +14,10 @@ use Rattle.cell_core.specs.Acts.{finds_key, reads, asks, says_done, pointer_oper
 use Rattle.cell_core.specs.Cells.{CellView, cell_at, site_in}
 use Rattle.cell_core.specs.Sites.{SiteView}
 use Rattle.operator_cells.specs.Making.{Grows, GrowsWith}
-use Rattle.held_cells.specs.Held.{PointerView}
-use Rattle.held_cells.specs.Pointing.{changes_keys}
-use Rattle.held_cells.specs.Aligned.{IsAligned}
-use Rattle.held_cells.specs.Reading.{answer_bits, OperationReads}
+use Rattle.operator_cells.specs.HeldCells.Held.{PointerView}
+use Rattle.operator_cells.specs.HeldCells.Pointing.{changes_keys}
+use Rattle.operator_cells.specs.HeldCells.Aligned.{IsAligned}
+use Rattle.operator_cells.specs.HeldCells.Reading.{answer_bits, OperationReads}
 use Rattle.site_cells.specs.declared.here.Here.{Here}
 use Rattle.site_cells.specs.Siting.{ReadsNext, LooksUp, Accesses, Changes, lookup_site, access_site, change_site}
 

@@ -5,12 +5,12 @@ use Rattle.std.proofs.Math.Nat.{div-one}
 use Rattle.std.proofs.lemmas.List.{map-append}
 use Rattle.std.proofs.lemmas.List.Elements.{All-push}
 use Rattle.byteorder.specs.Endian.{little_bytes}
-use Rattle.xdp_maps.specs.declared.decl.MapDecl.{MapDecl}
-use Rattle.xdp_state.specs.xdp_machine.Values.{Value, number_in, ◌>>=◌}
-use Rattle.xdp_state.specs.xdp_machine.Values as is
-use Rattle.xdp_state.specs.xdp_machine.State.{Machine, PacketIn}
-use Rattle.xdp_state.specs.xdp_machine.Helpers.{stack_byte, stack_bytes}
-use Rattle.xdp_state.proofs.xdp_machine.ChangeLaws.{some_inj}
+use Rattle.cell_core.specs.xdp_maps.declared.decl.MapDecl.{MapDecl}
+use Rattle.cell_core.specs.xdp_machine.Values.{Value, number_in, ◌>>=◌}
+use Rattle.cell_core.specs.xdp_machine.Values as is
+use Rattle.cell_core.specs.xdp_machine.State.{Machine, PacketIn}
+use Rattle.cell_core.specs.xdp_machine.Helpers.{stack_byte, stack_bytes}
+use Rattle.kind_core.proofs.xdp_machine_laws.ChangeLaws.{some_inj}
 use Rattle.kind_core.specs.declared.number.Number.{Number}
 use Rattle.kind_core.specs.declared.number.Number.TheVariants.{Known, Unknown}
 use Rattle.kind_core.specs.declared.kind.Kind.{Kind}
@@ -20,9 +20,9 @@ use Rattle.kind_core.specs.Describes.{Describes}
 use Rattle.cell_core.specs.Cells.{CellView, bits_from}
 use Rattle.operator_cells.specs.Making.{Makes}
 use Rattle.operator_cells.proofs.MakingLaws.{grown, grown_none}
-use Rattle.held_cells.specs.declared.held.Held.{Held}
-use Rattle.held_cells.specs.Held.{PointerView, Holds, Counts, number_of}
-use Rattle.held_cells.specs.Carrying.{IsKnown}
+use Rattle.operator_cells.specs.declared.held_cells.held.Held.{Held}
+use Rattle.operator_cells.specs.HeldCells.Held.{PointerView, Holds, Counts, number_of}
+use Rattle.operator_cells.specs.HeldCells.Carrying.{IsKnown}
 use Rattle.site_cells.specs.Words.{HasNumber, HoldsByte, HoldsBytes}
 
 pub byte_from : (n i : ℕ) → i < 8 → bits_from n (8 * i) 8 ≡ slice_index (little_bytes 8 n) i

@@ -4,24 +4,24 @@ use Rattle.std.specs.Prelude.{slice_get, is_some, ◌&&◌}
 use Rattle.std.proofs.lemmas.List.{append-nil}
 use Rattle.std.proofs.lemmas.List.Elements.{All-nil, All-cons}
 use Rattle.byteorder.specs.Endian.{little_bytes}
-use Rattle.bpf_isa.specs.declared.operation.Size.{Size}
+use Rattle.cell_core.specs.bpf_isa.declared.operation.Size.{Size}
 use Rattle.std.specs.Int.{w64, cast_unsigned}
-use Rattle.bpf_isa.specs.declared.operation.Op.TheVariants.{Store, StoreImm}
-use Rattle.bpf_isa.specs.declared.instruction.Insn.{Insn}
-use Rattle.xdp_maps.specs.declared.decl.MapDecl.{MapDecl}
-use Rattle.xdp_maps.specs.State.{MapState, decl_at, contents_at, with_contents}
-use Rattle.xdp_maps.specs.Calls as entry
-use Rattle.xdp_maps.specs.Calls.{lookup_of}
-use Rattle.xdp_maps.specs.Operations as map
-use Rattle.xdp_maps.specs.Operations.{Operation, operated}
-use Rattle.xdp_state.specs.xdp_machine.Values.{Value, number_in, ◌>>=◌}
-use Rattle.xdp_state.specs.xdp_machine.Values as is
-use Rattle.xdp_state.specs.xdp_machine.State.{Machine, PacketIn, register}
-use Rattle.xdp_state.specs.xdp_machine.Memory.{bytes_in, aligned}
-use Rattle.xdp_state.specs.xdp_machine.Memory as machine
-use Rattle.xdp_state.specs.xdp_machine.Step.{effect}
-use Rattle.xdp_state.specs.xdp_machine.Touched as touched
-use Rattle.xdp_state.proofs.xdp_machine.ChangeLaws.{some_inj}
+use Rattle.cell_core.specs.bpf_isa.declared.operation.Op.TheVariants.{Store, StoreImm}
+use Rattle.cell_core.specs.bpf_isa.declared.instruction.Insn.{Insn}
+use Rattle.cell_core.specs.xdp_maps.declared.decl.MapDecl.{MapDecl}
+use Rattle.cell_core.specs.xdp_maps.State.{MapState, decl_at, contents_at, with_contents}
+use Rattle.cell_core.specs.xdp_maps.Calls as entry
+use Rattle.cell_core.specs.xdp_maps.Calls.{lookup_of}
+use Rattle.cell_core.specs.xdp_maps.Operations as map
+use Rattle.cell_core.specs.xdp_maps.Operations.{Operation, operated}
+use Rattle.cell_core.specs.xdp_machine.Values.{Value, number_in, ◌>>=◌}
+use Rattle.cell_core.specs.xdp_machine.Values as is
+use Rattle.cell_core.specs.xdp_machine.State.{Machine, PacketIn, register}
+use Rattle.cell_core.specs.xdp_machine.Memory.{bytes_in, aligned}
+use Rattle.cell_core.specs.xdp_machine.Memory as machine
+use Rattle.cell_core.specs.xdp_machine.Step.{effect}
+use Rattle.cell_core.specs.xdp_machine.Touched as touched
+use Rattle.kind_core.proofs.xdp_machine_laws.ChangeLaws.{some_inj}
 use Rattle.kind_core.specs.declared.number.Number.{Number}
 use Rattle.kind_core.specs.declared.number.Number.TheVariants.{Known}
 use Rattle.kind_core.specs.Tests.{passed}
@@ -38,10 +38,10 @@ use Rattle.operator_cells.specs.Making.{Makes}
 use Rattle.operator_cells.proofs.MakingLaws.{grown_none, reads_none}
 use Rattle.site_cells.proofs.Allowed.{store_allowed}
 use Rattle.cell_core.specs.Sites.{SiteView, after, records, operation_on, bytes_of}
-use Rattle.held_cells.specs.declared.held.Held.{Held}
-use Rattle.held_cells.specs.Held.{PointerView, AreInside, pointer_at, key_of, number_of}
-use Rattle.held_cells.specs.Carrying.{IsKnown}
-use Rattle.held_cells.specs.Operating.{Operates}
+use Rattle.operator_cells.specs.declared.held_cells.held.Held.{Held}
+use Rattle.operator_cells.specs.HeldCells.Held.{PointerView, AreInside, pointer_at, key_of, number_of}
+use Rattle.operator_cells.specs.HeldCells.Carrying.{IsKnown}
+use Rattle.operator_cells.specs.HeldCells.Operating.{Operates}
 use Rattle.site_cells.specs.declared.here.Here.{Here}
 use Rattle.site_cells.specs.Siting.{access_site}
 use Rattle.site_cells.proofs.Slots.{bound, register_number}

@@ -10,14 +10,14 @@ use Rattle.cell_core.specs.Cells.{CellView}
 use Rattle.cell_core.specs.Rows.{greatest}
 use Rattle.operator_cells.specs.Rising.{RiseAll}
 use Rattle.operator_cells.proofs.RisingLaws.{greatest_part, stand_none, stand_all}
-use Rattle.held_cells.specs.place_rows.Spans.{slots_of, bytes_of, span_row}
-use Rattle.held_cells.specs.place_rows.Spans as places
-use Rattle.held_cells.proofs.place_rows.SpanLaws.{is_inside, span_above}
-use Rattle.held_cells.specs.declared.held.Held.{Held}
-use Rattle.held_cells.specs.Held.{PointerView}
-use Rattle.held_cells.specs.Rows.{number_row, value_row, held_row}
+use Rattle.operator_cells.specs.row_rules.PlaceRows.Spans.{slots_of, bytes_of, span_row}
+use Rattle.operator_cells.specs.row_rules.PlaceRows.Spans as places
+use Rattle.operator_cells.proofs.row_rules_laws.PlaceRows.SpanLaws.{is_inside, span_above}
+use Rattle.operator_cells.specs.declared.held_cells.held.Held.{Held}
+use Rattle.operator_cells.specs.HeldCells.Held.{PointerView}
+use Rattle.operator_cells.specs.HeldCells.Rows.{number_row, value_row, held_row}
 use Rattle.site_cells.proofs.Regions.{part_at, part_long}
-use Rattle.held_cells.proofs.RowLaws.{slot_row, byte_row, rise_last}
+use Rattle.operator_cells.proofs.HeldCells.RowLaws.{slot_row, byte_row, rise_last}
 
 pub range_row : (row : ℕ → ℕ) (xs : List ℕ) (a b : ℕ) → greatest row (slice_range xs a b) ≤ greatest row xs
 range_row row xs a b = omega (arith, greatest_part row a xs, greatest_part row (b - a) (drop a xs))

@@ -1,16 +1,16 @@
 -- Atomic changes.
 use Rattle.std.specs.Prelude.{ℕ, ◌≡◌, ◌<◌, if◌then◌else◌, Bool, true, false, Option, Some, None, List, length}
 use Rattle.std.specs.Int.{w64, cast_unsigned}
-use Rattle.bpf_isa.specs.declared.operation.Size.{Size}
-use Rattle.bpf_isa.specs.declared.operation.Size.TheVariants.{Dw}
-use Rattle.bpf_isa.specs.declared.instruction.Insn.{Insn}
-use Rattle.xdp_maps.specs.declared.decl.MapDecl.{MapDecl}
-use Rattle.xdp_maps.specs.declared.change.ChangeKind.{ChangeKind}
-use Rattle.xdp_state.specs.xdp_machine.Values.{number_in}
-use Rattle.xdp_state.specs.xdp_machine.State.{Machine, PacketIn}
-use Rattle.xdp_state.specs.xdp_machine.State as machine
-use Rattle.xdp_state.specs.xdp_machine.Atomics.{fetches, kind_of}
-use Rattle.xdp_state.specs.xdp_machine.Touched.{answers_old}
+use Rattle.cell_core.specs.bpf_isa.declared.operation.Size.{Size}
+use Rattle.cell_core.specs.bpf_isa.declared.operation.Size.TheVariants.{Dw}
+use Rattle.cell_core.specs.bpf_isa.declared.instruction.Insn.{Insn}
+use Rattle.cell_core.specs.xdp_maps.declared.decl.MapDecl.{MapDecl}
+use Rattle.cell_core.specs.xdp_maps.declared.change.ChangeKind.{ChangeKind}
+use Rattle.cell_core.specs.xdp_machine.Values.{number_in}
+use Rattle.cell_core.specs.xdp_machine.State.{Machine, PacketIn}
+use Rattle.cell_core.specs.xdp_machine.State as machine
+use Rattle.cell_core.specs.xdp_machine.Atomics.{fetches, kind_of}
+use Rattle.cell_core.specs.xdp_machine.Touched.{answers_old}
 use Rattle.kind_core.specs.declared.number.Number.{Number}
 use Rattle.kind_core.specs.declared.kind.Kind.TheVariants.{Num}
 use Rattle.kind_core.specs.declared.kind.Kinds.{Kinds}
@@ -19,9 +19,9 @@ use Rattle.kind_core.specs.Access.{compares}
 use Rattle.cell_core.specs.declared.site.Atomic.{Atomic}
 use Rattle.cell_core.specs.Cells.{CellView, IsRun}
 use Rattle.operator_cells.specs.Making.{Grows}
-use Rattle.held_cells.specs.declared.held.Held.{Held}
-use Rattle.held_cells.specs.Held.{PointerView}
-use Rattle.held_cells.specs.Carrying.{IsKnown}
+use Rattle.operator_cells.specs.declared.held_cells.held.Held.{Held}
+use Rattle.operator_cells.specs.HeldCells.Held.{PointerView}
+use Rattle.operator_cells.specs.HeldCells.Carrying.{IsKnown}
 
 abbrev pub code_of : Insn → ℕ
 code_of i = cast_unsigned w64 i.imm

@@ -9,7 +9,7 @@ use Rattle.cell_core.specs.Sites.{SiteView}
 use Rattle.cell_core.specs.Rows.{greatest}
 use Rattle.operator_cells.specs.Making.{GrowsWith}
 use Rattle.operator_cells.specs.Rising.{Rises}
-use Rattle.held_cells.specs.Held.{PointerView}
+use Rattle.operator_cells.specs.HeldCells.Held.{PointerView}
 use Rattle.site_cells.specs.declared.here.Here.{Here}
 
 -- a cell reads the next site

@@ -1,10 +1,10 @@
 //! Accesses through a pointer to an entry.
 
 ghost use Rattle.std.specs.Prelude.{◌≡◌, ◌<◌, ◌≤◌, ◌++◌, [], ◌∷◌, ℕ, ℤ, pos, ◌+◌, ◌+ℤ◌, Bool, List, length, All, IfOk, IfSome, OnOk, false};
-ghost use Rattle.xdp_maps.specs.declared.decl.MapDecl.{MapDecl};
-ghost use Rattle.xdp_state.specs.xdp_machine.Memory.{bytes_in};
-ghost use Rattle.xdp_state.specs.xdp_machine.Memory as machine;
-ghost use Rattle.bpf_isa.specs.Spelling.{IsInsn};
+ghost use Rattle.cell_core.specs.xdp_maps.declared.decl.MapDecl.{MapDecl};
+ghost use Rattle.cell_core.specs.xdp_machine.Memory.{bytes_in};
+ghost use Rattle.cell_core.specs.xdp_machine.Memory as machine;
+ghost use Rattle.cell_core.specs.bpf_isa.Spelling.{IsInsn};
 ghost use Rattle.kind_core.specs.Tests.{passed};
 ghost use Rattle.kind_core.specs.Kinds as kind;
 ghost use Rattle.kind_core.specs.declared.kind.Kind.TheVariants as kind_is;
@@ -12,10 +12,10 @@ ghost use Rattle.kind_core.specs.Effects.{effect_of, verdict};
 ghost use Rattle.kind_core.specs.Edges.{transferred};
 ghost use Rattle.cell_core.specs.Formed.{AreFormed};
 ghost use Rattle.operator_cells.specs.Making.{seen};
-ghost use Rattle.held_cells.specs.Held.{pointed, pointer_of, AreInside};
-ghost use Rattle.held_cells.specs.Operating.{Operates};
-ghost use Rattle.held_cells.specs.Rows.{OperatesTo};
-ghost use Rattle.held_cells.specs.Pointing.{OperationPoints};
+ghost use Rattle.operator_cells.specs.HeldCells.Held.{pointed, pointer_of, AreInside};
+ghost use Rattle.operator_cells.specs.HeldCells.Operating.{Operates};
+ghost use Rattle.operator_cells.specs.HeldCells.Rows.{OperatesTo};
+ghost use Rattle.operator_cells.specs.HeldCells.Pointing.{OperationPoints};
 ghost use Rattle.site_cells.specs.Sited.{sited};
 ghost use Rattle.site_cells.specs.Siting.{Accesses, access_site};
 
@@ -24,16 +24,16 @@ use crate::here::Here;
 use crate::lookup::inputs;
 use crate::numbers::number_in;
 use crate::sizes::are_whole;
-use bpf_isa::{Insn, Op, Size, Width};
 use cell_core::cell::{Cell, Cells};
 use cell_core::site::{Act, Site};
-use held_cells::held::{Held, Pointer};
+use cell_core::xdp_state::bpf_isa::{Insn, Op, Size, Width};
+use cell_core::xdp_state::memory::{aligned, bytes_in};
+use cell_core::xdp_state::xdp_maps::decl::MapDecl;
 use kind_core::{Kind, Kinds};
 use operator_cells::cells::{answer, constant};
+use operator_cells::held_cells::held::{Held, Pointer};
 use operator_cells::slicing::extend;
 use std::alloc::AllocError;
-use xdp_maps::decl::MapDecl;
-use xdp_state::memory::{aligned, bytes_in};
 
 /// Where an access begins in a value.
 pub(crate) fn place(decls: &[MapDecl], map: u32, o: u32, offset: i16, size: Size) -> u32

@@ -2,8 +2,8 @@
 
 ghost use Rattle.std.specs.Prelude.{◌≡◌, ◌<◌, ◌≤◌, [], ◌∷◌, ℕ, Bool, List, length, slice_index, OnOk, IfOk, false};
 ghost use Rattle.std.specs.Int.{w64, cast_unsigned};
-ghost use Rattle.bpf_isa.specs.Spelling.{IsInsn};
-ghost use Rattle.xdp_state.specs.xdp_machine.Atomics.{fetches};
+ghost use Rattle.cell_core.specs.bpf_isa.Spelling.{IsInsn};
+ghost use Rattle.cell_core.specs.xdp_machine.Atomics.{fetches};
 ghost use Rattle.kind_core.specs.Tests.{passed};
 ghost use Rattle.kind_core.specs.Kinds as kind;
 ghost use Rattle.kind_core.specs.declared.kind.Kind.TheVariants as kind_is;
@@ -12,12 +12,12 @@ ghost use Rattle.kind_core.specs.Effects.{effect_of, verdict};
 ghost use Rattle.kind_core.specs.Edges.{transferred};
 ghost use Rattle.operator_cells.specs.Making.{seen};
 ghost use Rattle.operator_cells.specs.Rising.{RiseAll};
-ghost use Rattle.held_cells.specs.place_rows.Spans.{one, spans_row};
-ghost use Rattle.held_cells.specs.place_rows.Reading.{compared_span};
-ghost use Rattle.held_cells.specs.Held.{PointerView, pointed, AreInside};
-ghost use Rattle.held_cells.specs.Operating.{Operates};
-ghost use Rattle.held_cells.specs.Rows.{held_row, OperatesTo};
-ghost use Rattle.held_cells.specs.Pointing.{OperationPoints};
+ghost use Rattle.operator_cells.specs.row_rules.PlaceRows.Spans.{one, spans_row};
+ghost use Rattle.operator_cells.specs.row_rules.PlaceRows.Reading.{compared_span};
+ghost use Rattle.operator_cells.specs.HeldCells.Held.{PointerView, pointed, AreInside};
+ghost use Rattle.operator_cells.specs.HeldCells.Operating.{Operates};
+ghost use Rattle.operator_cells.specs.HeldCells.Rows.{held_row, OperatesTo};
+ghost use Rattle.operator_cells.specs.HeldCells.Pointing.{OperationPoints};
 ghost use Rattle.site_cells.specs.Sited.{sited};
 ghost use Rattle.site_cells.specs.Changing.{IsKind, IsAtomic, taken_by, HoldsOperands};
 ghost use Rattle.site_cells.specs.Words.{HasNumber};
@@ -26,16 +26,16 @@ use crate::access::{access_answer, place, push_access};
 use crate::here::Here;
 use crate::numbers::number_in;
 use crate::sizes::are_whole;
-use bpf_isa::{Insn, Op, Size};
 use cell_core::cell::Cell;
 use cell_core::site::{Act, Atomic, Site};
-use held_cells::held::{Held, Pointer};
+use cell_core::xdp_state::bpf_isa::{Insn, Op, Size};
+use cell_core::xdp_state::memory::bytes_in;
+use cell_core::xdp_state::xdp_maps::change::ChangeKind;
+use cell_core::xdp_state::xdp_maps::decl::MapDecl;
 use kind_core::{Kind, Kinds};
 use operator_cells::cells::constant;
+use operator_cells::held_cells::held::{Held, Pointer};
 use std::alloc::AllocError;
-use xdp_maps::change::ChangeKind;
-use xdp_maps::decl::MapDecl;
-use xdp_state::memory::bytes_in;
 
 /// The cells of the source of a change, and of what is compared: of 0 where nothing is.
 #[derive(Copy, Clone)]

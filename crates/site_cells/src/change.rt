@@ -6,10 +6,10 @@ ghost use Rattle.kind_core.specs.Kinds as kind;
 ghost use Rattle.kind_core.specs.Effects.{effect_of, verdict};
 ghost use Rattle.kind_core.specs.Edges.{transferred};
 ghost use Rattle.operator_cells.specs.Making.{seen};
-ghost use Rattle.held_cells.specs.Held.{PointerView, AreInside};
-ghost use Rattle.held_cells.specs.Operating.{Operates};
-ghost use Rattle.held_cells.specs.Rows.{OperatesTo};
-ghost use Rattle.held_cells.specs.Pointing.{OperationPoints};
+ghost use Rattle.operator_cells.specs.HeldCells.Held.{PointerView, AreInside};
+ghost use Rattle.operator_cells.specs.HeldCells.Operating.{Operates};
+ghost use Rattle.operator_cells.specs.HeldCells.Rows.{OperatesTo};
+ghost use Rattle.operator_cells.specs.HeldCells.Pointing.{OperationPoints};
 ghost use Rattle.site_cells.specs.Sited.{sited};
 ghost use Rattle.site_cells.specs.Siting.{Changes};
 
@@ -19,14 +19,14 @@ use crate::lookup::inputs;
 use crate::numbers::number_in;
 use crate::sizes::are_whole;
 use crate::words::region_words;
-use bpf_isa::{Insn, Op};
 use cell_core::cell::{Cell, Cells};
 use cell_core::site::{Act, Site};
-use held_cells::held::Held;
+use cell_core::xdp_state::bpf_isa::{Insn, Op};
+use cell_core::xdp_state::xdp_maps::decl::MapDecl;
 use kind_core::Kinds;
 use operator_cells::cells::{answer, found};
+use operator_cells::held_cells::held::Held;
 use std::alloc::{AllocError, Global};
-use xdp_maps::decl::MapDecl;
 
 // A change under a key. Of the operands its reads look at these: a value only has to be there when it is written.
 fn change(

@@ -4,8 +4,8 @@ ghost use Rattle.std.specs.Prelude.{◌≡◌, ℕ};
 ghost use Rattle.kind_core.specs.Kinds.{key_bytes, value_bytes};
 ghost use Rattle.kind_core.specs.declared.kind.Kind.TheVariants as kind_is;
 
+use cell_core::xdp_state::xdp_maps::decl::MapDecl;
 use kind_core::Kind;
-use xdp_maps::decl::MapDecl;
 
 /// The bytes of a map's keys.
 pub(crate) fn key_bytes(decls: &[MapDecl], map: u32) -> u32

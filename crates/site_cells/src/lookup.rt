@@ -1,16 +1,16 @@
 //! Lookups.
 
 ghost use Rattle.std.specs.Prelude.{◌≡◌, ◌<◌, ◌≤◌, ◌++◌, [], ◌∷◌, ℕ, Bool, pos, List, length, All, IfOk, OnOk, false};
-ghost use Rattle.xdp_maps.specs.declared.decl.MapDecl.{MapDecl};
+ghost use Rattle.cell_core.specs.xdp_maps.declared.decl.MapDecl.{MapDecl};
 ghost use Rattle.kind_core.specs.Tests.{passed};
 ghost use Rattle.kind_core.specs.Kinds as kind;
 ghost use Rattle.kind_core.specs.Effects.{effect_of, verdict};
 ghost use Rattle.kind_core.specs.Edges.{transferred};
 ghost use Rattle.operator_cells.specs.Making.{seen};
-ghost use Rattle.held_cells.specs.Held.{PointerView, pointed, AreInside};
-ghost use Rattle.held_cells.specs.Operating.{Operates};
-ghost use Rattle.held_cells.specs.Rows.{OperatesTo};
-ghost use Rattle.held_cells.specs.Pointing.{OperationPoints};
+ghost use Rattle.operator_cells.specs.HeldCells.Held.{PointerView, pointed, AreInside};
+ghost use Rattle.operator_cells.specs.HeldCells.Operating.{Operates};
+ghost use Rattle.operator_cells.specs.HeldCells.Rows.{OperatesTo};
+ghost use Rattle.operator_cells.specs.HeldCells.Pointing.{OperationPoints};
 ghost use Rattle.site_cells.specs.Sited.{sited};
 ghost use Rattle.site_cells.specs.Siting.{LooksUp};
 
@@ -18,14 +18,14 @@ use crate::declared::{key_bytes, map_in};
 use crate::here::Here;
 use crate::sizes::are_whole;
 use crate::words::region_words;
-use bpf_isa::{Insn, Op};
 use cell_core::cell::{Cell, Cells};
 use cell_core::site::{Act, Site};
-use held_cells::held::{Held, Pointer};
+use cell_core::xdp_state::bpf_isa::{Insn, Op};
+use cell_core::xdp_state::xdp_maps::decl::MapDecl;
 use kind_core::{Kind, Kinds};
 use operator_cells::cells::found;
+use operator_cells::held_cells::held::{Held, Pointer};
 use std::alloc::{AllocError, Global};
-use xdp_maps::decl::MapDecl;
 
 // What the reads of a site come after.
 pub(crate) fn inputs(

@@ -5,14 +5,14 @@ ghost use Rattle.kind_core.specs.declared.number.Number.{Number};
 ghost use Rattle.kind_core.specs.declared.kind.Kind.TheVariants as kind_is;
 ghost use Rattle.operator_cells.specs.Making.{seen, Grows, Makes};
 ghost use Rattle.operator_cells.specs.Rising.{Rises};
-ghost use Rattle.held_cells.specs.Held.{PointerView, number_of};
-ghost use Rattle.held_cells.specs.Rows.{value_row};
+ghost use Rattle.operator_cells.specs.HeldCells.Held.{PointerView, number_of};
+ghost use Rattle.operator_cells.specs.HeldCells.Rows.{value_row};
 ghost use Rattle.site_cells.specs.Words.{HasNumber};
 
 use cell_core::cell::Cell;
-use held_cells::operand::number_cell;
 use kind_core::Kind;
 use operator_cells::cells::constant;
+use operator_cells::held_cells::operand::number_cell;
 use std::alloc::AllocError;
 
 /// The cell of a number by its kind, or of 0.

@@ -1,8 +1,8 @@
 //! The words of a region: the bytes of the packet or of the stack that a pointer leads to, eight in a word, the low byte first.
 
 ghost use Rattle.std.specs.Prelude.{◌≡◌, ◌<◌, ◌≤◌, ◌+◌, ◌+ℤ◌, ℕ, ℤ, pos, List, length, slice_index, All, IfOk, IfSome};
-ghost use Rattle.xdp_maps.specs.declared.decl.MapDecl.{MapDecl};
-ghost use Rattle.xdp_state.specs.xdp_machine.Memory as machine;
+ghost use Rattle.cell_core.specs.xdp_maps.declared.decl.MapDecl.{MapDecl};
+ghost use Rattle.cell_core.specs.xdp_machine.Memory as machine;
 ghost use Rattle.kind_core.specs.declared.kind.Kind.TheVariants as kind_is;
 ghost use Rattle.kind_core.specs.Tests.{passed};
 ghost use Rattle.kind_core.specs.Calls.{region};
@@ -10,20 +10,20 @@ ghost use Rattle.byteorder.specs.Endian.{little_bytes};
 ghost use Rattle.cell_core.specs.Rows.{greatest};
 ghost use Rattle.operator_cells.specs.Making.{seen, Makes};
 ghost use Rattle.operator_cells.specs.Rising.{Rises, RiseAll};
-ghost use Rattle.held_cells.specs.Held.{PointerView, AreInside, IsThere, number_of};
-ghost use Rattle.held_cells.specs.Rows.{number_row, value_row, held_row};
-ghost use Rattle.held_cells.specs.place_rows.Spans.{slots_of, span_row};
-ghost use Rattle.held_cells.specs.place_rows.Spans as places;
+ghost use Rattle.operator_cells.specs.HeldCells.Held.{PointerView, AreInside, IsThere, number_of};
+ghost use Rattle.operator_cells.specs.HeldCells.Rows.{number_row, value_row, held_row};
+ghost use Rattle.operator_cells.specs.row_rules.PlaceRows.Spans.{slots_of, span_row};
+ghost use Rattle.operator_cells.specs.row_rules.PlaceRows.Spans as places;
 ghost use Rattle.site_cells.specs.Words.{JoinsWords, HasNumber, HoldsByte, HoldsBytes, HoldsRegion, MakesWords};
 
 use crate::sizes::are_whole;
 use cell_core::cell::{Cell, Cells};
-use held_cells::held::Held;
+use cell_core::xdp_state::memory::inside;
 use kind_core::{Kind, Kinds, Number};
+use operator_cells::held_cells::held::Held;
 use operator_cells::sharing::{shared_constant, shared_slice};
 use operator_cells::slicing::join_bytes;
 use std::alloc::AllocError;
-use xdp_state::memory::inside;
 
 // The words that bytes are, the last with what is left of them.
 fn join_words(cells: &mut Vec<Cell>, bytes: &[u32]) -> Result<Cells, AllocError>

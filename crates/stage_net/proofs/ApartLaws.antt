@@ -3,24 +3,24 @@ use Rattle.std.specs.Prelude.{Option, nat_le}
 use Rattle.std.proofs.Common.{◌≡◌, ◌∙◌, ℕ, zero, suc, Bool, true, false, ◌||◌, All, List, [], ◌∷◌, slice_index, refl, ap, arith}
 use Rattle.std.proofs.lemmas.Bool.{lt-leb}
 use Rattle.std.proofs.lemmas.List.Elements.{All-nil, All-cons}
-use Rattle.site_operands.specs.cell_nets.product_blocks.Apart.{is_marked}
+use Rattle.block_core.specs.ProductBlocks.Apart.{is_marked}
 use Rattle.block_core.specs.declared.name.Name.{Name}
-use Rattle.cell_core.specs.declared.operator.Operator.{Operator}
-use Rattle.cell_core.specs.declared.operator.Operator.TheVariants.{Found, Answer}
-use Rattle.cell_core.specs.Cells.{CellView, cell_at, is_read}
-use Rattle.cell_core.specs.Sites.{ProgramView}
-use Rattle.site_operands.specs.cell_nets.declared.operand.Operand.{Operand}
-use Rattle.site_operands.specs.cell_nets.Apart.{IsClean}
-use Rattle.site_operands.specs.cell_nets.Operands.{IsAvailable}
-use Rattle.site_operands.proofs.cell_nets_laws.ApartLemmas.{all_clean, all_self}
-use Rattle.site_table.specs.row_plan.Plan.{Plan}
-use Rattle.site_place.specs.row_net.Apart.{KeepApart}
-use Rattle.site_place.specs.row_net.Lists.{is_early, is_non_zero}
-use Rattle.site_place.specs.row_net.Table.{AreThere}
-use Rattle.site_place.specs.place_net.Place.{registers_from}
-use Rattle.site_table.specs.declared.tables.StageTables.{StageTables}
-use Rattle.site_table.specs.Lists.{held_cells}
-use Rattle.site_table.specs.Tables.{StandBehind}
+use Rattle.hazard_core.specs.cell_core.declared.operator.Operator.{Operator}
+use Rattle.hazard_core.specs.cell_core.declared.operator.Operator.TheVariants.{Found, Answer}
+use Rattle.hazard_core.specs.cell_core.Cells.{CellView, cell_at, is_read}
+use Rattle.hazard_core.specs.cell_core.Sites.{ProgramView}
+use Rattle.overlay_net.specs.cell_nets.declared.operand.Operand.{Operand}
+use Rattle.overlay_net.specs.cell_nets.Apart.{IsClean}
+use Rattle.overlay_net.specs.cell_nets.Operands.{IsAvailable}
+use Rattle.overlay_net.proofs.cell_nets_laws.ApartLemmas.{all_clean, all_self}
+use Rattle.row_plan.specs.Plan.{Plan}
+use Rattle.row_net.specs.Apart.{KeepApart}
+use Rattle.row_net.specs.Lists.{is_early, is_non_zero}
+use Rattle.row_net.specs.Table.{AreThere}
+use Rattle.row_net.specs.PlaceNet.Place.{registers_from}
+use Rattle.stage_net.specs.declared.site_table.tables.StageTables.{StageTables}
+use Rattle.stage_net.specs.SiteTable.Lists.{held_cells}
+use Rattle.stage_net.specs.SiteTable.Tables.{StandBehind}
 use Rattle.stage_net.specs.Rows.{IsReadHere}
 
 -- ---- what reads give is no clean cell of the row

@@ -1,10 +1,10 @@
 -- A cell in memory.
 use Rattle.std.proofs.Common.{◌≡◌, ◌∙◌, ℕ, ◌<◌, ◌≤◌, List, length, get_or, map, sym, ap, subst, arith}
 use Rattle.std.proofs.lemmas.List.{get_or-map, get_or_past, length-map}
-use Rattle.cell_core.specs.declared.cell.Cell.{Cell}
-use Rattle.cell_core.specs.View.{cell_of}
-use Rattle.cell_core.specs.Cells.{CellView, cell_at, no_cell}
-use Rattle.cell_core.specs.Formed.{AreFormed}
+use Rattle.hazard_core.specs.cell_core.declared.cell.Cell.{Cell}
+use Rattle.hazard_core.specs.cell_core.View.{cell_of}
+use Rattle.hazard_core.specs.cell_core.Cells.{CellView, cell_at, no_cell}
+use Rattle.hazard_core.specs.cell_core.Formed.{AreFormed}
 
 pub cell_is : (cells : List Cell) (n : ℕ) (c : Cell) → n < length cells → c ≡ get_or cells n c → cell_at (map cell_of cells) n ≡ cell_of c
 cell_is cells n c inside is = get_or-map cell_of cells n c no_cell inside ∙ ap cell_of (sym is)

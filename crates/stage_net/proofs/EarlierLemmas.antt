@@ -3,10 +3,10 @@ use Rattle.std.specs.Prelude.{filter}
 use Rattle.std.proofs.Common.{◌≡◌, ◌∙◌, ℕ, suc, ◌+◌, Bool, true, false, All, List, [], ◌∷◌, ◌++◌, cond, append-nil, sym, ap, subst, arith}
 use Rattle.std.proofs.lemmas.List.{map-append}
 use Rattle.std.proofs.lemmas.List.Elements.{filter-append, All-append, All-cons, All-nil}
-use Rattle.cell_core.specs.Rows.{numbers}
-use Rattle.cell_core.specs.Sites.{ProgramView}
-use Rattle.cell_core.proofs.NumberLaws.{numbers_more}
-use Rattle.site_operands.specs.declared.SiteNets.{SiteNets}
+use Rattle.hazard_core.specs.cell_core.Rows.{numbers}
+use Rattle.hazard_core.specs.cell_core.Sites.{ProgramView}
+use Rattle.hazard_core.proofs.cell_core_laws.NumberLaws.{numbers_more}
+use Rattle.overlay_net.specs.declared.site_operands.SiteNets.{SiteNets}
 use Rattle.read_net.specs.declared.sites.OwnSite.{OwnSite}
 use Rattle.read_net.specs.Sites.{sites_of}
 use Rattle.stage_net.specs.Nets.{IsOwnOf}

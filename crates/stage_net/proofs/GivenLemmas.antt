@@ -2,25 +2,25 @@
 use Rattle.std.specs.Prelude.{Result, Ok, Err, IfOk}
 use Rattle.std.proofs.Common.{◌≡◌, ◌∙◌, ℕ, zero, suc, ◌/◌, All, List, [], ◌∷◌, length, get_or, map, refl, sym, ap, subst, arith}
 use Rattle.std.proofs.lemmas.List.Elements.{All-cons}
-use Rattle.site_operands.specs.cell_nets.net_core.Value.{Env}
+use Rattle.block_core.specs.net_core.Value.{Env}
 use Rattle.block_core.specs.declared.name.Name.{Name}
 use Rattle.block_core.specs.Blocks.{BlockWireTree}
-use Rattle.cell_core.specs.Acts.{finds_key, reads}
-use Rattle.cell_core.specs.Sites.{ProgramView, site_at}
+use Rattle.hazard_core.specs.cell_core.Acts.{finds_key, reads}
+use Rattle.hazard_core.specs.cell_core.Sites.{ProgramView, site_at}
 use Rattle.hazard_core.specs.Tables.{TableState}
 use Rattle.hazard_core.specs.Tabled.{AreTables}
 use Rattle.hazard_core.specs.declared.pointer.Pointer.{Pointer}
 use Rattle.hazard_core.specs.declared.pointer.Pointer.TheVariants.{Null, InSlot}
 use Rattle.hazard_core.specs.Held.{Held, access_pointer, pending, pointer_operand}
-use Rattle.site_operands.specs.cell_nets.declared.operand.Operand.{Operand}
-use Rattle.site_operands.specs.cell_nets.Operands.{IsAvailable}
-use Rattle.site_operands.specs.cell_nets.Wires.{behind}
-use Rattle.read_net.specs.value_net.Words.{answers_number, access_start}
+use Rattle.overlay_net.specs.cell_nets.declared.operand.Operand.{Operand}
+use Rattle.overlay_net.specs.cell_nets.Operands.{IsAvailable}
+use Rattle.overlay_net.specs.cell_nets.Wires.{behind}
+use Rattle.overlay_net.specs.ValueNet.Words.{answers_number, access_start}
 use Rattle.read_net.specs.declared.sites.OwnSite.{OwnSite}
 use Rattle.read_net.specs.declared.sites.MapNets.{MapNets}
 use Rattle.read_net.specs.declared.sites.ReadNets.{ReadNets}
 use Rattle.read_net.specs.Sites.{sites_of}
-use Rattle.read_net.specs.overlay_net.Reading.{ShowsSlot}
+use Rattle.overlay_net.specs.Reading.{ShowsSlot}
 use Rattle.read_net.specs.Reads.{taken, AreCells, IsReadOf}
 use Rattle.read_net.specs.Accesses.{HaveOperands, ShowsWord}
 use Rattle.stage_net.specs.declared.row.StageNets.{StageNets}

@@ -14,3 +14,4 @@ pub mod NetLaws
 pub mod ValueLaws
 pub mod RowLaws
 pub mod ApartLaws
+pub mod SiteTable

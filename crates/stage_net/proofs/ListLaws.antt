@@ -2,24 +2,24 @@
 use Rattle.std.specs.Prelude.{Option}
 use Rattle.std.proofs.Common.{◌≡◌, ◌∙◌, ◌⊎◌, inl, inr, ℕ, zero, suc, ◌+◌, ◌<◌, Bool, true, false, All, List, [], ◌∷◌, length, slice_index, refl, ap, subst, arith}
 use Rattle.block_core.specs.declared.name.Name.{Name}
-use Rattle.site_operands.specs.cell_nets.declared.operand.Operand.{Operand}
-use Rattle.cell_core.specs.declared.operator.Operator.{Operator}
-use Rattle.cell_core.specs.declared.operator.Operator.TheVariants as op
-use Rattle.cell_core.specs.Cells.{cell_at, is_read, is_heavy, bit}
-use Rattle.cell_core.specs.Formed.{AreFormed, AreInputs}
-use Rattle.cell_core.specs.Rows.{AreRows, greatest}
-use Rattle.cell_core.specs.Sites.{ProgramView}
-use Rattle.site_operands.specs.cell_nets.Computing.{is_outside}
-use Rattle.site_table.specs.row_plan.Plan.{Plan, IsPlan}
-use Rattle.site_place.specs.row_net.Lists.{made_cells}
-use Rattle.site_place.specs.row_net.Needed.{AreNeeded, flag}
-use Rattle.site_place.specs.row_net.Table.{IsIn, is_constant}
-use Rattle.site_table.specs.declared.tables.StageTables.{StageTables}
-use Rattle.site_table.specs.Lists.{held_cells, held_pointers, made_pointers}
-use Rattle.site_table.specs.Staged.{AreStaged, AreLists, AreAtHand}
-use Rattle.site_table.specs.Tables.{StandBehind}
-use Rattle.site_table.proofs.StagingLaws.{inputs_had, pointers_had}
-use Rattle.site_table.proofs.TableLaws.{plain_in}
+use Rattle.overlay_net.specs.cell_nets.declared.operand.Operand.{Operand}
+use Rattle.hazard_core.specs.cell_core.declared.operator.Operator.{Operator}
+use Rattle.hazard_core.specs.cell_core.declared.operator.Operator.TheVariants as op
+use Rattle.hazard_core.specs.cell_core.Cells.{cell_at, is_read, is_heavy, bit}
+use Rattle.hazard_core.specs.cell_core.Formed.{AreFormed, AreInputs}
+use Rattle.hazard_core.specs.cell_core.Rows.{AreRows, greatest}
+use Rattle.hazard_core.specs.cell_core.Sites.{ProgramView}
+use Rattle.overlay_net.specs.cell_nets.Computing.{is_outside}
+use Rattle.row_plan.specs.Plan.{Plan, IsPlan}
+use Rattle.row_net.specs.Lists.{made_cells}
+use Rattle.row_net.specs.Needed.{AreNeeded, flag}
+use Rattle.row_net.specs.Table.{IsIn, is_constant}
+use Rattle.stage_net.specs.declared.site_table.tables.StageTables.{StageTables}
+use Rattle.stage_net.specs.SiteTable.Lists.{held_cells, held_pointers, made_pointers}
+use Rattle.stage_net.specs.SiteTable.Staged.{AreStaged, AreLists, AreAtHand}
+use Rattle.stage_net.specs.SiteTable.Tables.{StandBehind}
+use Rattle.stage_net.proofs.SiteTable.StagingLaws.{inputs_had, pointers_had}
+use Rattle.stage_net.proofs.SiteTable.TableLaws.{plain_in}
 use Rattle.stage_net.specs.Rows.{IsHad, IsPointerHad}
 use Rattle.stage_net.specs.Stage.{CanMake, CanPoint}
 

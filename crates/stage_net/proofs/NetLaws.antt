@@ -2,14 +2,14 @@
 use Rattle.std.specs.Prelude.{Option}
 use Rattle.std.proofs.Common.{◌≡◌, ◌∙◌, ℕ, ◌<◌, All, List, length, get_or, ap, arith}
 use Rattle.std.proofs.lemmas.List.{length-map}
-use Rattle.cell_core.specs.Sites.{ProgramView, site_at}
-use Rattle.site_operands.specs.cell_nets.declared.operand.Operand.{Operand}
-use Rattle.site_operands.specs.cell_nets.Operands.{IsAvailable}
-use Rattle.site_operands.specs.declared.SiteNets.{SiteNets}
-use Rattle.site_operands.specs.Sites.{SiteOperands, operands_of, all_of}
-use Rattle.site_place.specs.row_net.Table.{IsTable, AreThere}
-use Rattle.site_place.specs.Pointing.{IsPointers}
-use Rattle.site_table.specs.Sites.{operand_at, IsSiteOf}
+use Rattle.hazard_core.specs.cell_core.Sites.{ProgramView, site_at}
+use Rattle.overlay_net.specs.cell_nets.declared.operand.Operand.{Operand}
+use Rattle.overlay_net.specs.cell_nets.Operands.{IsAvailable}
+use Rattle.overlay_net.specs.declared.site_operands.SiteNets.{SiteNets}
+use Rattle.overlay_net.specs.SiteOperands.Sites.{SiteOperands, operands_of, all_of}
+use Rattle.row_net.specs.Table.{IsTable, AreThere}
+use Rattle.row_net.specs.SitePlace.Pointing.{IsPointers}
+use Rattle.stage_net.specs.SiteTable.Sites.{operand_at, IsSiteOf}
 use Rattle.stage_net.specs.Nets.{IsSiteNets}
 
 module _ {N : Type 0} (p : ProgramView) (table pointers : List (Option (Operand N))) (sites : List (SiteNets N)) (of : (j : ℕ) (d : SiteNets N) → j < length p.sites → IsSiteOf p table pointers j (operands_of (get_or sites j d))) where

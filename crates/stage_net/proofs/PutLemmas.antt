@@ -3,8 +3,8 @@ use Rattle.std.specs.Prelude.{◌≡◌, ◌≢◌, ℕ, ◌<◌, ◌≤◌, Opt
 use Rattle.std.proofs.Common.{get_or, sym, ap, ◌∙◌, subst, inl, inr, ◌⊎◌}
 use Rattle.std.proofs.lemmas.Bool.{cases_eq, cases_lt}
 use Rattle.std.proofs.lemmas.List.{get_or-set_same, get_or-set_other, set_past}
-use Rattle.site_operands.specs.cell_nets.declared.operand.Operand.{Operand}
-use Rattle.site_place.specs.row_net.Table.{Stands, IsIn}
+use Rattle.overlay_net.specs.cell_nets.declared.operand.Operand.{Operand}
+use Rattle.row_net.specs.Table.{Stands, IsIn}
 
 module _ {N : Type 0} (table : List (Option (Operand N))) (k : ℕ) (a : Operand N) where
   abbrev pub with_put : List (Option (Operand N))

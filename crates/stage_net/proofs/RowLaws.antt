@@ -2,44 +2,44 @@
 use Rattle.std.specs.Prelude.{◌≢◌}
 use Rattle.std.proofs.Common.{◌≡◌, ◌∙◌, ◌⊎◌, inl, inr, ℕ, suc, ◌<◌, ◌≤◌, Bool, true, Some, List, length, get_or, slice_index, refl, sym, ap, arith}
 use Rattle.std.proofs.lemmas.Bool.{cases_eq}
-use Rattle.site_operands.specs.cell_nets.net_core.Value.{bit, Env}
-use Rattle.site_operands.specs.cell_nets.net_core.Clock.{Stored, done}
-use Rattle.cell_core.specs.xdp_machine.State.{PacketIn}
+use Rattle.block_core.specs.net_core.Value.{bit, Env}
+use Rattle.block_core.specs.net_core.Clock.{Stored, done}
+use Rattle.hazard_core.specs.xdp_machine.State.{PacketIn}
 use Rattle.block_core.specs.declared.name.Name.{Name}
 use Rattle.block_core.specs.Blocks.{BlockTree}
 use Rattle.block_core.specs.Parts.{Solve}
-use Rattle.cell_core.specs.declared.operator.Operator.{Operator}
-use Rattle.cell_core.specs.declared.operator.Operator.TheVariants.{Constant}
-use Rattle.cell_core.specs.Cells.{cell_at, site_in, bits_from}
-use Rattle.cell_core.specs.Sites.{ProgramView, site_at}
+use Rattle.hazard_core.specs.cell_core.declared.operator.Operator.{Operator}
+use Rattle.hazard_core.specs.cell_core.declared.operator.Operator.TheVariants.{Constant}
+use Rattle.hazard_core.specs.cell_core.Cells.{cell_at, site_in, bits_from}
+use Rattle.hazard_core.specs.cell_core.Sites.{ProgramView, site_at}
 use Rattle.hazard_core.specs.Tables.{TableState, table_at}
 use Rattle.hazard_core.specs.Held.{Held, held_value, pointer_in}
 use Rattle.hazard_core.specs.Keeping.{SameCell, AreAlike}
 use Rattle.hazard_core.specs.Rows.{cell_number, with_row}
-use Rattle.site_operands.specs.cell_nets.declared.operand.Operand.{Operand}
-use Rattle.site_operands.specs.cell_nets.Operands.{AreFit}
-use Rattle.site_table.specs.row_plan.Plan.{Plan}
-use Rattle.site_place.specs.row_net.Made.{AreValues}
-use Rattle.site_place.specs.row_net.Table.{Holds}
-use Rattle.site_operands.specs.declared.SiteNets.{SiteNets}
-use Rattle.site_operands.specs.Sites.{operands_of}
-use Rattle.site_place.specs.Inputs.{HasWidths}
-use Rattle.site_place.specs.Pointing.{HoldsPointers}
-use Rattle.site_place.specs.SitePlace.{site_widths, site_words}
-use Rattle.read_net.specs.value_net.Words.{answers_number}
+use Rattle.overlay_net.specs.cell_nets.declared.operand.Operand.{Operand}
+use Rattle.overlay_net.specs.cell_nets.Operands.{AreFit}
+use Rattle.row_plan.specs.Plan.{Plan}
+use Rattle.row_net.specs.Made.{AreValues}
+use Rattle.row_net.specs.Table.{Holds}
+use Rattle.overlay_net.specs.declared.site_operands.SiteNets.{SiteNets}
+use Rattle.overlay_net.specs.SiteOperands.Sites.{operands_of}
+use Rattle.row_net.specs.SitePlace.Inputs.{HasWidths}
+use Rattle.row_net.specs.SitePlace.Pointing.{HoldsPointers}
+use Rattle.row_net.specs.SitePlace.SitePlace.{site_widths, site_words}
+use Rattle.overlay_net.specs.ValueNet.Words.{answers_number}
 use Rattle.stage_net.specs.declared.row.StageNets.{StageNets}
 use Rattle.stage_net.specs.Rows.{ShowsMaps, ShowsEntry, ShowsRow}
 use Rattle.stage_net.specs.Stage.{IsStage}
-use Rattle.site_table.specs.held_rows.Fits.{FitsRows, RowsFit}
-use Rattle.site_table.specs.held_rows.Made.{AreLaid, IsRowMade, RowIsMade, RowKeeps}
-use Rattle.site_table.specs.held_rows.Pointing.{ArePointing}
-use Rattle.site_table.specs.declared.tables.StageTables.{StageTables}
-use Rattle.site_table.specs.Constants.{AreEarly, HoldsConstants}
-use Rattle.site_table.specs.Parts.{AreParts}
-use Rattle.site_table.specs.Sites.{IsSiteOf}
-use Rattle.site_table.specs.Staged.{AreLists, AreStaged}
-use Rattle.site_table.specs.Tables.{StandBehind, ShowsPacket}
-use Rattle.site_table.proofs.TableLaws.{next_table_holds, next_pointers_show, site_shown}
+use Rattle.hazard_core.specs.HeldRows.Fits.{FitsRows, RowsFit}
+use Rattle.hazard_core.specs.HeldRows.Made.{AreLaid, IsRowMade, RowIsMade, RowKeeps}
+use Rattle.hazard_core.specs.HeldRows.Pointing.{ArePointing}
+use Rattle.stage_net.specs.declared.site_table.tables.StageTables.{StageTables}
+use Rattle.stage_net.specs.SiteTable.Constants.{AreEarly, HoldsConstants}
+use Rattle.stage_net.specs.SiteTable.Parts.{AreParts}
+use Rattle.stage_net.specs.SiteTable.Sites.{IsSiteOf}
+use Rattle.stage_net.specs.SiteTable.Staged.{AreLists, AreStaged}
+use Rattle.stage_net.specs.SiteTable.Tables.{StandBehind, ShowsPacket}
+use Rattle.stage_net.proofs.SiteTable.TableLaws.{next_table_holds, next_pointers_show, site_shown}
 
 -- a row that reads nothing asks nothing of nets
 pub shows_unread :

@@ -4,14 +4,14 @@ use Rattle.std.proofs.Common.{◌≡◌, ◌⊎◌, inl, inr, ℕ, ◌<◌, ◌�
 use Rattle.std.proofs.lemmas.Bool.{cases_lt}
 use Rattle.block_core.specs.declared.name.Name.{Name}
 use Rattle.block_core.specs.Blocks.{BlockWireTree}
-use Rattle.cell_core.specs.declared.operator.Operator.TheVariants.{Found}
-use Rattle.cell_core.specs.Cells.{cell_at, site_in}
-use Rattle.cell_core.specs.Sites.{ProgramView}
-use Rattle.site_operands.specs.cell_nets.declared.operand.Operand.{Operand}
-use Rattle.site_operands.specs.cell_nets.Operands.{IsAvailable}
-use Rattle.site_operands.specs.cell_nets.Wires.{behind}
-use Rattle.site_place.specs.row_net.Table.{IsIn, IsTable}
-use Rattle.site_place.specs.Pointing.{IsPointers}
+use Rattle.hazard_core.specs.cell_core.declared.operator.Operator.TheVariants.{Found}
+use Rattle.hazard_core.specs.cell_core.Cells.{cell_at, site_in}
+use Rattle.hazard_core.specs.cell_core.Sites.{ProgramView}
+use Rattle.overlay_net.specs.cell_nets.declared.operand.Operand.{Operand}
+use Rattle.overlay_net.specs.cell_nets.Operands.{IsAvailable}
+use Rattle.overlay_net.specs.cell_nets.Wires.{behind}
+use Rattle.row_net.specs.Table.{IsIn, IsTable}
+use Rattle.row_net.specs.SitePlace.Pointing.{IsPointers}
 use Rattle.stage_net.specs.declared.row.StageNets.{StageNets}
 use Rattle.stage_net.specs.Nets.{NetsAreThere}
 use Rattle.stage_net.specs.Rows.{AllAreThere, AreRead}

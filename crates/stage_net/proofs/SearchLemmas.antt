@@ -5,24 +5,24 @@ use Rattle.std.proofs.lemmas.Bool.{cases_lt}
 use Rattle.std.proofs.lemmas.Nat.{pow_pos}
 use Rattle.std.proofs.lemmas.List.{get_or_append_left, get_or_push}
 use Rattle.std.proofs.lemmas.List.Elements.{All-append, All-cons, All-nil}
-use Rattle.site_operands.specs.cell_nets.net_core.Value.{Env}
+use Rattle.block_core.specs.net_core.Value.{Env}
 use Rattle.block_core.specs.declared.name.Name.{Name}
 use Rattle.block_core.specs.Blocks.{BlockWireTree}
 use Rattle.block_core.specs.Parts.{Solve}
-use Rattle.cell_core.specs.Acts.{finds_key}
-use Rattle.cell_core.specs.Cells.{site_in}
-use Rattle.cell_core.specs.Sites.{ProgramView, site_at}
+use Rattle.hazard_core.specs.cell_core.Acts.{finds_key}
+use Rattle.hazard_core.specs.cell_core.Cells.{site_in}
+use Rattle.hazard_core.specs.cell_core.Sites.{ProgramView, site_at}
 use Rattle.hazard_core.specs.Tables.{TableState, table_at}
 use Rattle.hazard_core.specs.Tabled.{AreTables}
 use Rattle.hazard_core.specs.Held.{Held, asked_key, slot_pointer}
-use Rattle.site_operands.specs.cell_nets.declared.operand.Operand.{Operand}
-use Rattle.site_operands.specs.cell_nets.declared.operand.Operand.TheVariants.{Known}
-use Rattle.site_operands.specs.cell_nets.Operands.{IsOperand, AreFit, IsAvailable}
-use Rattle.site_operands.specs.cell_nets.Wires.{behind, AreWires, HasBits, Gives}
-use Rattle.site_operands.specs.Pointers.{pointer_number}
-use Rattle.site_operands.specs.Sites.{operands_of, all_of, ShowsAsked}
-use Rattle.read_net.specs.overlay_net.Reading.{ShowsSlot}
-use Rattle.site_place.specs.PointerNets.{AddWires, BothThere}
+use Rattle.overlay_net.specs.cell_nets.declared.operand.Operand.{Operand}
+use Rattle.overlay_net.specs.cell_nets.declared.operand.Operand.TheVariants.{Known}
+use Rattle.overlay_net.specs.cell_nets.Operands.{IsOperand, AreFit, IsAvailable}
+use Rattle.overlay_net.specs.cell_nets.Wires.{behind, AreWires, HasBits, Gives}
+use Rattle.overlay_net.specs.SiteOperands.Pointers.{pointer_number}
+use Rattle.overlay_net.specs.SiteOperands.Sites.{operands_of, all_of, ShowsAsked}
+use Rattle.overlay_net.specs.Reading.{ShowsSlot}
+use Rattle.row_net.specs.SitePlace.PointerNets.{AddWires, BothThere}
 use Rattle.read_net.specs.declared.sites.MapNets.{MapNets}
 use Rattle.read_net.specs.declared.sites.OwnSite.{OwnSite}
 use Rattle.read_net.specs.Sites.{cells_of, slot_cells, IsMapOf, ShowsTable}

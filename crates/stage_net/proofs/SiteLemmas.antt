@@ -4,28 +4,28 @@ use Rattle.std.proofs.Common.{◌≡◌, ◌∙◌, ℕ, Bool, true, false, All,
 use Rattle.std.proofs.lemmas.Nat.{pow_pos}
 use Rattle.std.proofs.lemmas.List.{length-map}
 use Rattle.std.proofs.lemmas.List.Elements.{All-cons, All-nil, All-head, All-tail}
-use Rattle.cell_core.specs.xdp_machine.State.{PacketIn}
-use Rattle.site_operands.specs.cell_nets.product_blocks.Apart.{is_marked, AreMarked}
-use Rattle.site_operands.proofs.cell_nets_laws.product_blocks.FreeLaws.{all_marked}
-use Rattle.site_operands.proofs.cell_nets_laws.product_blocks.CleanLaws.{marked_behind}
+use Rattle.hazard_core.specs.xdp_machine.State.{PacketIn}
+use Rattle.block_core.specs.ProductBlocks.Apart.{is_marked, AreMarked}
+use Rattle.block_core.proofs.ProductBlocks.FreeLaws.{all_marked}
+use Rattle.block_core.proofs.ProductBlocks.CleanLaws.{marked_behind}
 use Rattle.block_core.specs.declared.name.Name.{Name}
 use Rattle.block_core.specs.Blocks.{BlockWireTree}
-use Rattle.cell_core.specs.declared.site.Act.{Act}
-use Rattle.cell_core.specs.declared.site.Act.TheVariants as act
-use Rattle.cell_core.specs.Acts.{finds_key, reads}
-use Rattle.cell_core.specs.Cells.{no_cell, bits_from}
-use Rattle.cell_core.specs.Sites.{ProgramView, site_at}
+use Rattle.hazard_core.specs.cell_core.declared.site.Act.{Act}
+use Rattle.hazard_core.specs.cell_core.declared.site.Act.TheVariants as act
+use Rattle.hazard_core.specs.cell_core.Acts.{finds_key, reads}
+use Rattle.hazard_core.specs.cell_core.Cells.{no_cell, bits_from}
+use Rattle.hazard_core.specs.cell_core.Sites.{ProgramView, site_at}
 use Rattle.hazard_core.specs.Tables.{TableState}
 use Rattle.hazard_core.specs.Held.{Held, access_pointer, pending}
 use Rattle.hazard_core.specs.Overlay.{answer_over}
-use Rattle.site_operands.specs.cell_nets.declared.operand.Operand.{Operand}
-use Rattle.site_operands.specs.cell_nets.declared.operand.Operand.TheVariants.{Known}
-use Rattle.site_operands.specs.cell_nets.Operands.{IsOperand, IsAvailable}
-use Rattle.site_operands.specs.cell_nets.Apart.{Agrees, StayApart}
-use Rattle.site_operands.specs.cell_nets.Wires.{behind, HasBits, Gives}
-use Rattle.site_operands.proofs.cell_nets_laws.ApartLemmas.{agrees_split, free_marked}
-use Rattle.site_place.specs.row_net.Apart.{KeepApart}
-use Rattle.read_net.specs.value_net.Words.{answers_number, access_start}
+use Rattle.overlay_net.specs.cell_nets.declared.operand.Operand.{Operand}
+use Rattle.overlay_net.specs.cell_nets.declared.operand.Operand.TheVariants.{Known}
+use Rattle.overlay_net.specs.cell_nets.Operands.{IsOperand, IsAvailable}
+use Rattle.overlay_net.specs.cell_nets.Apart.{Agrees, StayApart}
+use Rattle.overlay_net.specs.cell_nets.Wires.{behind, HasBits, Gives}
+use Rattle.overlay_net.proofs.cell_nets_laws.ApartLemmas.{agrees_split, free_marked}
+use Rattle.row_net.specs.Apart.{KeepApart}
+use Rattle.overlay_net.specs.ValueNet.Words.{answers_number, access_start}
 use Rattle.read_net.specs.declared.sites.OwnSite.{OwnSite}
 use Rattle.read_net.specs.declared.sites.MapNets.{MapNets}
 use Rattle.read_net.specs.declared.sites.ReadNets.{ReadNets}

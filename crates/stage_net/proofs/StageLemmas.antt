@@ -2,27 +2,27 @@
 use Rattle.std.specs.Prelude.{Option, Contains, take}
 use Rattle.std.proofs.Common.{◌≡◌, ◌∙◌, ◌⊎◌, inl, inr, ℕ, Bool, true, false, Some, All, List, [], length, get_or, slice_index, refl, ap, arith}
 use Rattle.std.proofs.lemmas.List.Elements.{All-nil}
-use Rattle.site_operands.specs.cell_nets.net_core.Value.{Env}
-use Rattle.cell_core.specs.xdp_machine.State.{PacketIn}
+use Rattle.block_core.specs.net_core.Value.{Env}
+use Rattle.hazard_core.specs.xdp_machine.State.{PacketIn}
 use Rattle.block_core.specs.declared.name.Name.{Name}
 use Rattle.block_core.specs.Blocks.{BlockTree, BlockWireTree}
 use Rattle.block_core.specs.Parts.{Solve}
-use Rattle.cell_core.specs.declared.operator.Operator.{Operator}
-use Rattle.cell_core.specs.declared.operator.Operator.TheVariants.{Wire, Phi, Found, Answer}
-use Rattle.cell_core.specs.Cells.{cell_at, is_read, site_in}
-use Rattle.cell_core.specs.Sites.{ProgramView}
+use Rattle.hazard_core.specs.cell_core.declared.operator.Operator.{Operator}
+use Rattle.hazard_core.specs.cell_core.declared.operator.Operator.TheVariants.{Wire, Phi, Found, Answer}
+use Rattle.hazard_core.specs.cell_core.Cells.{cell_at, is_read, site_in}
+use Rattle.hazard_core.specs.cell_core.Sites.{ProgramView}
 use Rattle.hazard_core.specs.Tables.{TableState}
 use Rattle.hazard_core.specs.Held.{Held, held_value, pointer_in}
-use Rattle.site_operands.specs.cell_nets.declared.operand.Operand.{Operand}
-use Rattle.site_operands.specs.cell_nets.Operands.{IsAvailable}
-use Rattle.site_operands.specs.cell_nets.Wires.{behind}
-use Rattle.site_place.specs.row_net.Table.{IsIn}
-use Rattle.site_place.specs.row_net.Made.{IsReady}
-use Rattle.site_place.specs.Holding.{PointersAreHeld}
-use Rattle.site_place.specs.Pointing.{PointersAre, is_edge, HoldsOf, Takes, ArePointed}
-use Rattle.site_place.specs.PointerNets.{BothThere}
-use Rattle.site_place.specs.SitePlace.{IsSitePlace}
-use Rattle.site_table.specs.held_rows.Made.{IsRowMade}
+use Rattle.overlay_net.specs.cell_nets.declared.operand.Operand.{Operand}
+use Rattle.overlay_net.specs.cell_nets.Operands.{IsAvailable}
+use Rattle.overlay_net.specs.cell_nets.Wires.{behind}
+use Rattle.row_net.specs.Table.{IsIn}
+use Rattle.row_net.specs.Made.{IsReady}
+use Rattle.row_net.specs.SitePlace.Holding.{PointersAreHeld}
+use Rattle.row_net.specs.SitePlace.Pointing.{PointersAre, is_edge, HoldsOf, Takes, ArePointed}
+use Rattle.row_net.specs.SitePlace.PointerNets.{BothThere}
+use Rattle.row_net.specs.SitePlace.SitePlace.{IsSitePlace}
+use Rattle.hazard_core.specs.HeldRows.Made.{IsRowMade}
 use Rattle.stage_net.specs.declared.row.StageNets.{StageNets}
 use Rattle.stage_net.specs.Nets.{decls_of, NetsAreThere}
 use Rattle.stage_net.specs.Staged.{IsStaged}

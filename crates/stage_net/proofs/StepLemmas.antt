@@ -6,31 +6,31 @@ use Rattle.std.proofs.lemmas.List.{length-set}
 use Rattle.std.proofs.lemmas.List.Sums.{passes_at_first}
 use Rattle.block_core.specs.declared.name.Name.{Name}
 use Rattle.block_core.specs.Blocks.{BlockWireTree}
-use Rattle.site_operands.specs.cell_nets.product_blocks.Apart.{is_marked}
-use Rattle.site_operands.specs.cell_nets.net_core.Value.{Env}
-use Rattle.cell_core.specs.xdp_machine.State.{PacketIn}
-use Rattle.xdp_maps.specs.declared.decl.MapDecl.{MapDecl}
-use Rattle.cell_core.specs.declared.operator.Operator.{Operator}
-use Rattle.cell_core.specs.declared.operator.Operator.TheVariants.{Found, Answer}
-use Rattle.cell_core.specs.Cells.{CellView, cell_at, no_cell, site_in, is_read, bit, bits_from}
-use Rattle.cell_core.specs.Sites.{ProgramView, site_at}
+use Rattle.block_core.specs.ProductBlocks.Apart.{is_marked}
+use Rattle.block_core.specs.net_core.Value.{Env}
+use Rattle.hazard_core.specs.xdp_machine.State.{PacketIn}
+use Rattle.hazard_core.specs.xdp_maps.declared.decl.MapDecl.{MapDecl}
+use Rattle.hazard_core.specs.cell_core.declared.operator.Operator.{Operator}
+use Rattle.hazard_core.specs.cell_core.declared.operator.Operator.TheVariants.{Found, Answer}
+use Rattle.hazard_core.specs.cell_core.Cells.{CellView, cell_at, no_cell, site_in, is_read, bit, bits_from}
+use Rattle.hazard_core.specs.cell_core.Sites.{ProgramView, site_at}
 use Rattle.hazard_core.specs.Tables.{TableState}
 use Rattle.hazard_core.specs.Held.{Held, held_value, pointer_in, found_cell, answer_cell, is_found_of, is_answer_of, pending, is_null}
 use Rattle.hazard_core.specs.Keeping.{LooksBelow, ReadsKeep}
 use Rattle.hazard_core.specs.Overlay.{found_pointer, answer_over}
 use Rattle.hazard_core.specs.Rows.{cell_number, cell_pointer}
-use Rattle.site_operands.specs.cell_nets.declared.operand.Operand.{Operand}
-use Rattle.site_operands.specs.cell_nets.Apart.{IsClean}
-use Rattle.site_operands.specs.cell_nets.Operands.{number_in, IsOperand, IsAvailable}
-use Rattle.site_operands.specs.cell_nets.Wires.{behind, HasBits}
-use Rattle.site_operands.specs.Pointers.{pointer_number}
-use Rattle.read_net.proofs.step_nets_laws.StepLaws.{bit_bits}
-use Rattle.site_place.specs.row_net.Table.{Stands, IsIn, IsTable}
-use Rattle.site_place.specs.row_net.Apart.{KeepApart}
-use Rattle.site_place.specs.Pointing.{IsPointers}
-use Rattle.site_place.specs.PointerNets.{BothThere}
+use Rattle.overlay_net.specs.cell_nets.declared.operand.Operand.{Operand}
+use Rattle.overlay_net.specs.cell_nets.Apart.{IsClean}
+use Rattle.overlay_net.specs.cell_nets.Operands.{number_in, IsOperand, IsAvailable}
+use Rattle.overlay_net.specs.cell_nets.Wires.{behind, HasBits}
+use Rattle.overlay_net.specs.SiteOperands.Pointers.{pointer_number}
+use Rattle.overlay_net.proofs.cell_nets_laws.StepNets.StepLaws.{bit_bits}
+use Rattle.row_net.specs.Table.{Stands, IsIn, IsTable}
+use Rattle.row_net.specs.Apart.{KeepApart}
+use Rattle.row_net.specs.SitePlace.Pointing.{IsPointers}
+use Rattle.row_net.specs.SitePlace.PointerNets.{BothThere}
 use Rattle.read_net.specs.declared.sites.ReadNets.{ReadNets}
-use Rattle.site_table.specs.held_rows.Made.{IsRowMade}
+use Rattle.hazard_core.specs.HeldRows.Made.{IsRowMade}
 use Rattle.stage_net.specs.declared.row.StageNets.{StageNets}
 use Rattle.stage_net.specs.Nets.{decls_of}
 use Rattle.stage_net.specs.Staged.{IsStaged, IsReadCell}

@@ -3,10 +3,10 @@ use Rattle.std.proofs.Common.{ℕ, zero, suc, ◌<◌, All, List, [], ◌∷◌,
 use Rattle.std.proofs.lemmas.List.{length-map, get_or-map}
 use Rattle.std.proofs.lemmas.List.Elements.{All-head, All-tail}
 use Rattle.std.specs.FinMap as map
-use Rattle.xdp_maps.specs.declared.decl.MapDecl.{MapDecl}
-use Rattle.xdp_maps.specs.Contents.{Contents, IsOver, IsWithinLimits, opened}
-use Rattle.xdp_maps.specs.Laws.{KeepsOver}
-use Rattle.xdp_maps.specs.State.{MapState, IsSound, no_decl, decl_at, opened_state}
+use Rattle.hazard_core.specs.xdp_maps.declared.decl.MapDecl.{MapDecl}
+use Rattle.hazard_core.specs.xdp_maps.Contents.{Contents, IsOver, IsWithinLimits, opened}
+use Rattle.hazard_core.specs.xdp_maps.Laws.{KeepsOver}
+use Rattle.hazard_core.specs.xdp_maps.State.{MapState, IsSound, no_decl, decl_at, opened_state}
 use Rattle.hazard_core.specs.Tables.{decl_of, tables_of}
 use Rattle.hazard_core.specs.Tabled.{LoadsTables}
 use Rattle.read_net.specs.declared.sites.MapNets.{MapNets}

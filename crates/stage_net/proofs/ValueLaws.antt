@@ -2,15 +2,15 @@
 use Rattle.std.specs.List.{AllByRecursion}
 use Rattle.std.proofs.Common.{◌≡◌, ◌∙◌, ℕ, zero, suc, ◌^◌, ◌<◌, Bool, true, false, All, List, [], ◌∷◌, length, get_or, refl, sym, ap, arith, map as map_list}
 use Rattle.std.proofs.lemmas.List.Elements.{recursion_from_All}
-use Rattle.cell_core.specs.xdp_machine.State.{PacketIn}
-use Rattle.cell_core.specs.declared.operator.Operator.{Operator}
-use Rattle.cell_core.specs.declared.operator.Operator.TheVariants.{Quotient, Remainder}
-use Rattle.cell_core.specs.Cells.{CellView, cell_at, is_read, bits_from, number, value, Solves_as, IsRun}
-use Rattle.cell_core.specs.CellLaws.{SameReads, HaveValues, DivisorsAreSome}
-use Rattle.cell_core.specs.Formed.{AreFormed, takes, divides}
-use Rattle.cell_core.specs.Rows.{AreRows, RowsRise}
+use Rattle.hazard_core.specs.xdp_machine.State.{PacketIn}
+use Rattle.hazard_core.specs.cell_core.declared.operator.Operator.{Operator}
+use Rattle.hazard_core.specs.cell_core.declared.operator.Operator.TheVariants.{Quotient, Remainder}
+use Rattle.hazard_core.specs.cell_core.Cells.{CellView, cell_at, is_read, bits_from, number, value, Solves_as, IsRun}
+use Rattle.hazard_core.specs.cell_core.CellLaws.{SameReads, HaveValues, DivisorsAreSome}
+use Rattle.hazard_core.specs.cell_core.Formed.{AreFormed, takes, divides}
+use Rattle.hazard_core.specs.cell_core.Rows.{AreRows, RowsRise}
 use Rattle.hazard_core.specs.Held.{Held, held_value}
-use Rattle.site_place.specs.row_net.Made.{AreValues}
+use Rattle.row_net.specs.Made.{AreValues}
 
 divides_two : (o : Operator) → divides o ≡ true → takes o ≡ 2
 divides_two Quotient e = refl

@@ -1,23 +1,23 @@
 -- What a site reads, whatever it does.
 use Rattle.std.specs.Prelude.{◌≡◌, ℕ, ◌∷◌, ◌/◌, not, true, All, List, []}
-use Rattle.site_operands.specs.cell_nets.net_core.Value.{Env}
+use Rattle.block_core.specs.net_core.Value.{Env}
 use Rattle.block_core.specs.declared.name.Name.{Name}
 use Rattle.block_core.specs.Blocks.{BlockWireTree}
 use Rattle.block_core.specs.Parts.{Solve}
-use Rattle.cell_core.specs.Acts.{finds_key, reads}
-use Rattle.cell_core.specs.Cells.{bit, bits_from}
-use Rattle.cell_core.specs.Sites.{ProgramView, site_at}
+use Rattle.hazard_core.specs.cell_core.Acts.{finds_key, reads}
+use Rattle.hazard_core.specs.cell_core.Cells.{bit, bits_from}
+use Rattle.hazard_core.specs.cell_core.Sites.{ProgramView, site_at}
 use Rattle.hazard_core.specs.Tables.{TableState}
 use Rattle.hazard_core.specs.Held.{Held, access_pointer, pending, is_null}
 use Rattle.hazard_core.specs.Overlay.{found_pointer, answer_over}
-use Rattle.site_operands.specs.cell_nets.declared.operand.Operand.{Operand}
-use Rattle.site_operands.specs.cell_nets.Operands.{number_in, AreFit, IsAvailable}
-use Rattle.site_operands.specs.cell_nets.Wires.{behind, AreWires}
-use Rattle.site_operands.specs.Pointers.{pointer_number}
-use Rattle.site_place.specs.PointerNets.{AddWires}
-use Rattle.read_net.specs.overlay_net.Reading.{ShowsSlot}
-use Rattle.read_net.specs.value_net.Pendings.{HasValue}
-use Rattle.read_net.specs.value_net.Words.{answers_number, access_start}
+use Rattle.overlay_net.specs.cell_nets.declared.operand.Operand.{Operand}
+use Rattle.overlay_net.specs.cell_nets.Operands.{number_in, AreFit, IsAvailable}
+use Rattle.overlay_net.specs.cell_nets.Wires.{behind, AreWires}
+use Rattle.overlay_net.specs.SiteOperands.Pointers.{pointer_number}
+use Rattle.row_net.specs.SitePlace.PointerNets.{AddWires}
+use Rattle.overlay_net.specs.Reading.{ShowsSlot}
+use Rattle.overlay_net.specs.ValueNet.Pendings.{HasValue}
+use Rattle.overlay_net.specs.ValueNet.Words.{answers_number, access_start}
 use Rattle.read_net.specs.declared.sites.OwnSite.{OwnSite}
 use Rattle.read_net.specs.declared.sites.MapNets.{MapNets}
 use Rattle.read_net.specs.declared.sites.ReadNets.{ReadNets}

@@ -1,39 +1,39 @@
 -- What the sites that are read in a row give.
 use Rattle.std.specs.Prelude.{◌≡◌, ℕ, ◌<◌, ◌≤◌, ◌∷◌, ◌/◌, not, Bool, true, false, Option, Some, All, List, [], length}
 use Rattle.std.proofs.Common.{get_or, ◌⊎◌}
-use Rattle.site_operands.specs.cell_nets.net_core.Value.{Env}
-use Rattle.cell_core.specs.xdp_machine.State.{PacketIn}
+use Rattle.block_core.specs.net_core.Value.{Env}
+use Rattle.hazard_core.specs.xdp_machine.State.{PacketIn}
 use Rattle.block_core.specs.declared.name.Name.{Name}
 use Rattle.block_core.specs.Blocks.{BlockWireTree}
 use Rattle.block_core.specs.Parts.{Solve}
-use Rattle.cell_core.specs.declared.operator.Operator.TheVariants.{Found}
-use Rattle.cell_core.specs.Acts.{finds_key, reads}
-use Rattle.cell_core.specs.Cells.{bit, bits_from, cell_at, is_read, site_in}
-use Rattle.cell_core.specs.Sites.{ProgramView, site_at}
+use Rattle.hazard_core.specs.cell_core.declared.operator.Operator.TheVariants.{Found}
+use Rattle.hazard_core.specs.cell_core.Acts.{finds_key, reads}
+use Rattle.hazard_core.specs.cell_core.Cells.{bit, bits_from, cell_at, is_read, site_in}
+use Rattle.hazard_core.specs.cell_core.Sites.{ProgramView, site_at}
 use Rattle.hazard_core.specs.Tables.{TableState}
 use Rattle.hazard_core.specs.Tabled.{AreTables}
 use Rattle.hazard_core.specs.Held.{Held, held_value, pointer_in, access_pointer, pending, is_null}
 use Rattle.hazard_core.specs.Keeping.{AreAlike}
 use Rattle.hazard_core.specs.Overlay.{found_pointer, answer_over}
-use Rattle.site_operands.specs.cell_nets.declared.operand.Operand.{Operand}
-use Rattle.site_operands.specs.cell_nets.Operands.{number_in, IsOperand, AreFit, IsAvailable}
-use Rattle.site_operands.specs.cell_nets.Wires.{behind, AreWires, HasBits}
-use Rattle.site_operands.specs.declared.SiteNets.{SiteNets}
-use Rattle.site_operands.specs.Pointers.{pointer_number}
-use Rattle.site_operands.specs.Sites.{operands_of, ShowsSite}
-use Rattle.site_place.specs.row_net.Table.{IsIn, IsTable, Holds}
-use Rattle.site_place.specs.row_net.Apart.{KeepApart}
-use Rattle.site_place.specs.Pointing.{IsPointers, HoldsPointers}
-use Rattle.site_place.specs.PointerNets.{AddWires, BothThere}
-use Rattle.read_net.specs.value_net.Pendings.{HasValue}
-use Rattle.read_net.specs.value_net.Words.{answers_number, access_start}
+use Rattle.overlay_net.specs.cell_nets.declared.operand.Operand.{Operand}
+use Rattle.overlay_net.specs.cell_nets.Operands.{number_in, IsOperand, AreFit, IsAvailable}
+use Rattle.overlay_net.specs.cell_nets.Wires.{behind, AreWires, HasBits}
+use Rattle.overlay_net.specs.declared.site_operands.SiteNets.{SiteNets}
+use Rattle.overlay_net.specs.SiteOperands.Pointers.{pointer_number}
+use Rattle.overlay_net.specs.SiteOperands.Sites.{operands_of, ShowsSite}
+use Rattle.row_net.specs.Table.{IsIn, IsTable, Holds}
+use Rattle.row_net.specs.Apart.{KeepApart}
+use Rattle.row_net.specs.SitePlace.Pointing.{IsPointers, HoldsPointers}
+use Rattle.row_net.specs.SitePlace.PointerNets.{AddWires, BothThere}
+use Rattle.overlay_net.specs.ValueNet.Pendings.{HasValue}
+use Rattle.overlay_net.specs.ValueNet.Words.{answers_number, access_start}
 use Rattle.read_net.specs.declared.sites.MapNets.{MapNets}
 use Rattle.read_net.specs.declared.sites.ReadNets.{ReadNets}
 use Rattle.read_net.specs.Reads.{AreCells}
 use Rattle.read_net.specs.Sites.{ShowsTable}
-use Rattle.read_net.specs.overlay_net.Reading.{ShowsSlot}
+use Rattle.overlay_net.specs.Reading.{ShowsSlot}
 use Rattle.read_net.specs.Accesses.{ShowsWord}
-use Rattle.site_table.specs.held_rows.Made.{IsRowMade}
+use Rattle.hazard_core.specs.HeldRows.Made.{IsRowMade}
 use Rattle.stage_net.specs.declared.row.StageNets.{StageNets}
 use Rattle.stage_net.specs.Nets.{decls_of, NetsAreThere}
 

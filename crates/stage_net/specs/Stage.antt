@@ -2,30 +2,30 @@
 use Rattle.std.specs.Prelude.{◌≡◌, ℕ, ◌<◌, true, false, Option, All, Contains, List, [], length, take, slice_index, IsTrue}
 use Rattle.std.specs.List.{list_all}
 use Rattle.std.proofs.Common.{◌⊎◌}
-use Rattle.cell_core.specs.xdp_machine.State.{PacketIn}
-use Rattle.site_operands.specs.cell_nets.net_core.Ports.{port_list}
-use Rattle.site_operands.specs.cell_nets.net_core.Value.{bit, Env}
-use Rattle.site_operands.specs.cell_nets.net_core.Clock.{Stored, done}
-use Rattle.site_operands.specs.cell_nets.design_rules.FormedSyntax.{statement_spelled}
+use Rattle.hazard_core.specs.xdp_machine.State.{PacketIn}
+use Rattle.block_core.specs.net_core.Ports.{port_list}
+use Rattle.block_core.specs.net_core.Value.{bit, Env}
+use Rattle.block_core.specs.net_core.Clock.{Stored, done}
+use Rattle.block_core.specs.design_rules.FormedSyntax.{statement_spelled}
 use Rattle.block_core.specs.declared.name.Name.{Name}
 use Rattle.block_core.specs.Blocks.{BlockTree, registers_of, memories_of, first_of, Whole, Among}
 use Rattle.block_core.specs.Parts.{Solve, Goes, Within}
 use Rattle.block_core.specs.Order.{IsBefore, InOrder}
 use Rattle.block_core.specs.Formed.{names_scope, block_registers, IsTypedBlock, StatementReads, IsThere}
-use Rattle.cell_core.specs.Cells.{CellView, cell_at}
-use Rattle.cell_core.specs.Sites.{ProgramView}
+use Rattle.hazard_core.specs.cell_core.Cells.{CellView, cell_at}
+use Rattle.hazard_core.specs.cell_core.Sites.{ProgramView}
 use Rattle.hazard_core.specs.Tables.{TableState}
 use Rattle.hazard_core.specs.Held.{Held, held_value, pointer_in}
-use Rattle.site_operands.specs.cell_nets.declared.operand.Operand.{Operand}
-use Rattle.site_operands.specs.cell_nets.Computing.{is_outside}
-use Rattle.site_operands.specs.cell_nets.Operands.{AreFit, AreDeclared, IsNetOf}
-use Rattle.site_operands.specs.cell_nets.Wires.{is_spelled}
-use Rattle.site_place.specs.row_net.Table.{Holds}
-use Rattle.site_place.specs.row_net.Made.{AreValues}
-use Rattle.site_place.specs.Pointing.{HoldsPointers, Takes}
-use Rattle.site_place.specs.Inputs.{HasWidths}
-use Rattle.site_place.specs.SitePlace.{site_widths, site_words}
-use Rattle.site_table.specs.held_rows.Made.{IsRowMade}
+use Rattle.overlay_net.specs.cell_nets.declared.operand.Operand.{Operand}
+use Rattle.overlay_net.specs.cell_nets.Computing.{is_outside}
+use Rattle.overlay_net.specs.cell_nets.Operands.{AreFit, AreDeclared, IsNetOf}
+use Rattle.overlay_net.specs.cell_nets.Wires.{is_spelled}
+use Rattle.row_net.specs.Table.{Holds}
+use Rattle.row_net.specs.Made.{AreValues}
+use Rattle.row_net.specs.SitePlace.Pointing.{HoldsPointers, Takes}
+use Rattle.row_net.specs.SitePlace.Inputs.{HasWidths}
+use Rattle.row_net.specs.SitePlace.SitePlace.{site_widths, site_words}
+use Rattle.hazard_core.specs.HeldRows.Made.{IsRowMade}
 use Rattle.stage_net.specs.declared.row.StageNets.{StageNets}
 use Rattle.stage_net.specs.Rows.{ShowsRow}
 

@@ -1,17 +1,17 @@
 -- What a program whose cells have rows is to keep to, for the places that read its maps.
 use Rattle.std.specs.Prelude.{◌≡◌, ℕ, ◌+◌, ◌*◌, ◌^◌, ◌<◌, ◌≤◌, true, Some, List, length}
-use Rattle.xdp_maps.specs.declared.decl.MapDecl.{MapDecl}
-use Rattle.cell_core.specs.declared.operator.Operator.TheVariants.{Found, Answer}
-use Rattle.cell_core.specs.Acts.{finds_key, reads}
-use Rattle.cell_core.specs.Cells.{cell_at, site_in}
-use Rattle.cell_core.specs.Formed.{AreFormed, AllFit}
-use Rattle.cell_core.specs.Sites.{ProgramView, site_at}
+use Rattle.hazard_core.specs.xdp_maps.declared.decl.MapDecl.{MapDecl}
+use Rattle.hazard_core.specs.cell_core.declared.operator.Operator.TheVariants.{Found, Answer}
+use Rattle.hazard_core.specs.cell_core.Acts.{finds_key, reads}
+use Rattle.hazard_core.specs.cell_core.Cells.{cell_at, site_in}
+use Rattle.hazard_core.specs.cell_core.Formed.{AreFormed, AllFit}
+use Rattle.hazard_core.specs.cell_core.Sites.{ProgramView, site_at}
 use Rattle.hazard_core.specs.Tables.{TableState}
 use Rattle.hazard_core.specs.Tabled.{AreTables}
 use Rattle.hazard_core.specs.Held.{found_cell, answer_cell}
 use Rattle.hazard_core.specs.Keeping.{LooksBelow}
-use Rattle.site_operands.specs.cell_nets.Operands.{IsWide}
-use Rattle.read_net.specs.value_net.Words.{IsAligned}
+use Rattle.overlay_net.specs.cell_nets.Operands.{IsWide}
+use Rattle.overlay_net.specs.ValueNet.Words.{IsAligned}
 
 -- There are tables of these declarations.
 pub record HaveTables (decls : List MapDecl) : Type 0 where

@@ -1,17 +1,17 @@
 //! A packet's earlier operations on the map of a site.
 
 ghost use Rattle.std.specs.Prelude.{◌≡◌, ◌<◌, All, length, slice_index, IfOk};
-ghost use Rattle.cell_core.specs.View.{program_of};
+ghost use Rattle.hazard_core.specs.cell_core.View.{program_of};
 ghost use Rattle.hazard_core.specs.Held.{pending};
 ghost use Rattle.read_net.specs.Sites.{sites_of};
 ghost use Rattle.stage_net.specs.Nets.{IsOwnOf};
 
 use crate::row::ProgramRow;
-use cell_core::program::CellProgram;
+use hazard_core::cell_core::program::CellProgram;
 use hazard_core::pending::is_pending;
 use hazard_core::site::site_at;
+use overlay_net::site_operands::SiteNets;
 use read_net::sites::OwnSite;
-use site_operands::SiteNets;
 use std::alloc::{AllocError, Global};
 
 /// What stands for the operation at a site.

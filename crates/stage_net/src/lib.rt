@@ -1,4 +1,5 @@
-//! The places of a pipeline whose rows read maps, as blocks.
+//! A stage that reads maps, as a block.
+//! `site_table` has what stands behind a stage.
 #![tactic(auto)]
 
 mod earlier;
@@ -6,4 +7,5 @@ mod reading;
 pub mod reads;
 pub mod row;
 mod searching;
+pub mod site_table;
 pub mod stage;

@@ -1,12 +1,12 @@
 //! What a site reads, whatever it does.
 
 ghost use Rattle.std.specs.Prelude.{ℕ, ◌≡◌, true, ◌*◌, ◌<◌, ◌≤◌, All, length, IfOk};
-ghost use Rattle.cell_core.specs.Sites.{ProgramView};
+ghost use Rattle.hazard_core.specs.cell_core.Sites.{ProgramView};
 ghost use Rattle.hazard_core.specs.Held.{Held};
 ghost use Rattle.hazard_core.specs.Tables.{TableState};
-ghost use Rattle.site_operands.specs.cell_nets.Operands.{IsOperand};
-ghost use Rattle.site_operands.specs.cell_nets.Wires.{wires_of, HasBits};
-ghost use Rattle.read_net.specs.value_net.Words.{IsAligned, answers_number};
+ghost use Rattle.overlay_net.specs.cell_nets.Operands.{IsOperand};
+ghost use Rattle.overlay_net.specs.cell_nets.Wires.{wires_of, HasBits};
+ghost use Rattle.overlay_net.specs.ValueNet.Words.{IsAligned, answers_number};
 ghost use Rattle.read_net.specs.Sites.{cells_of, IsMap, IsWhole};
 ghost use Rattle.read_net.specs.Reads.{IsReadOf};
 ghost use Rattle.read_net.specs.Accesses.{IsFitting, HaveOperands};
@@ -14,12 +14,12 @@ ghost use Rattle.stage_net.specs.Reads.{HasEntry, SiteReads};
 
 use block_core::block::BlockWire;
 use block_core::name::Name;
-use cell_core::site::Act;
+use hazard_core::cell_core::site::Act;
+use overlay_net::cell_nets::operand::Operand;
 use read_net::accesses::access;
 use read_net::lookups::lookup;
 use read_net::sites::{MapNets, OwnSite, ReadNets};
 use read_net::updates::{delete, update};
-use site_operands::cell_nets::operand::Operand;
 use std::alloc::{AllocError, Global};
 
 // What a load or an atomic change reads: it looks for no key.

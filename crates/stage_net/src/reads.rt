@@ -2,13 +2,13 @@
 
 ghost use Rattle.std.specs.Prelude.{[], ◌≡◌, ◌<◌, ◌≤◌, ◌+◌, ◌==◌, ◌&&◌, ◌||◌, nat_lt, Some, length, slice_index, slice_set, IfOk};
 ghost use Rattle.std.proofs.Common.{get_or};
-ghost use Rattle.cell_core.specs.Cells.{cell_at};
-ghost use Rattle.cell_core.specs.Formed.{AreFormed};
-ghost use Rattle.cell_core.specs.View.{program_of};
-ghost use Rattle.site_operands.specs.cell_nets.Wires.{wires_of};
+ghost use Rattle.hazard_core.specs.cell_core.Cells.{cell_at};
+ghost use Rattle.hazard_core.specs.cell_core.Formed.{AreFormed};
+ghost use Rattle.hazard_core.specs.cell_core.View.{program_of};
+ghost use Rattle.overlay_net.specs.cell_nets.Wires.{wires_of};
 ghost use Rattle.hazard_core.specs.Keeping.{ReadsKeep};
-ghost use Rattle.site_place.specs.row_net.Table.{IsTable};
-ghost use Rattle.site_place.specs.Pointing.{IsPointers};
+ghost use Rattle.row_net.specs.Table.{IsTable};
+ghost use Rattle.row_net.specs.SitePlace.Pointing.{IsPointers};
 ghost use Rattle.stage_net.specs.Nets.{decls_of, AreNets};
 ghost use Rattle.stage_net.specs.Staged.{HaveTables, IsStaged};
 ghost use Rattle.stage_net.specs.Rows.{AreSlots, IsSiteRead, AreRead};
@@ -19,14 +19,14 @@ use crate::row::{ProgramRow, StageNets};
 use crate::searching::searches;
 use block_core::block::BlockWire;
 use block_core::name::Name;
-use cell_core::program::CellProgram;
+use hazard_core::cell_core::program::CellProgram;
+use hazard_core::cell_core::xdp_state::xdp_maps::laws::keeps_over;
 use hazard_core::laws::{loads_tables, reads_keep};
 use hazard_core::pending::row_in;
 use hazard_core::site::{answer_cell, found_cell, site_at};
+use overlay_net::cell_nets::operand::Operand;
 use read_net::sites::{MapNets, ReadNets};
-use site_operands::cell_nets::operand::Operand;
 use std::alloc::{AllocError, Global};
-use xdp_maps::laws::keeps_over;
 
 // Whether a cell that there is stands in the row.
 fn stands_in(at: &ProgramRow<'_>, cell: usize) -> bool

@@ -1,9 +1,9 @@
 //! What the place of a row takes: the row of the program, and what stands there for sites and maps.
 
-use cell_core::program::CellProgram;
+use hazard_core::cell_core::program::CellProgram;
+use overlay_net::cell_nets::operand::Operand;
+use overlay_net::site_operands::SiteNets;
 use read_net::sites::MapNets;
-use site_operands::SiteNets;
-use site_operands::cell_nets::operand::Operand;
 
 /// A row of a program, by the rows of its cells.
 #[derive(Copy, Clone)]

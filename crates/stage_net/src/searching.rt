@@ -1,12 +1,12 @@
 //! The slots under the keys that the sites of a row look for, each key of a map once.
 
 ghost use Rattle.std.specs.Prelude.{ℕ, [], ◌∷◌, ◌++◌, ◌≡◌, ◌<◌, true, List, length, slice_index, IfOk, IfSome};
-ghost use Rattle.xdp_maps.specs.declared.decl.MapDecl.{MapDecl};
-ghost use Rattle.cell_core.specs.Acts.{finds_key};
+ghost use Rattle.hazard_core.specs.xdp_maps.declared.decl.MapDecl.{MapDecl};
+ghost use Rattle.hazard_core.specs.cell_core.Acts.{finds_key};
 ghost use Rattle.block_core.specs.Blocks.{BlockWireTree};
 ghost use Rattle.block_core.specs.declared.name.Name.{Name};
-ghost use Rattle.cell_core.specs.View.{program_of};
-ghost use Rattle.site_operands.specs.cell_nets.Wires.{wires_of};
+ghost use Rattle.hazard_core.specs.cell_core.View.{program_of};
+ghost use Rattle.overlay_net.specs.cell_nets.Wires.{wires_of};
 ghost use Rattle.stage_net.specs.Nets.{decls_of, AreNets};
 ghost use Rattle.stage_net.specs.Staged.{HaveTables, IsStaged};
 ghost use Rattle.stage_net.specs.Rows.{IsSought, AsksSame, AreSought};
@@ -16,10 +16,10 @@ use crate::reads::{is_read, map_at, operand_at};
 use crate::row::{ProgramRow, StageNets};
 use block_core::block::BlockWire;
 use block_core::name::Name;
-use cell_core::site::Act;
+use hazard_core::cell_core::site::Act;
 use hazard_core::site::{answer_cell, found_cell, site_at};
+use overlay_net::cell_nets::operand::Operand;
 use read_net::looking::slot_under;
-use site_operands::cell_nets::operand::Operand;
 use std::alloc::{AllocError, Global};
 
 // Whether an operation looks for a key.

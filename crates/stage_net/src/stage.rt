@@ -1,20 +1,20 @@
 //! The place of a row that reads maps.
 
 ghost use Rattle.std.specs.Prelude.{ℕ, Bool, ◌≡◌, ◌<◌, ◌⊎◌, false, List, All, Contains, IfOk, slice_index};
-ghost use Rattle.site_operands.specs.cell_nets.net_core.Value.{Env};
-ghost use Rattle.site_operands.specs.cell_nets.product_blocks.Alone.{IsApartAlone};
+ghost use Rattle.block_core.specs.net_core.Value.{Env};
+ghost use Rattle.block_core.specs.ProductBlocks.Alone.{IsApartAlone};
 ghost use Rattle.block_core.specs.declared.name.Name.{Name};
 ghost use Rattle.block_core.specs.Parts.{Solve};
 ghost use Rattle.block_core.specs.View.{block_of};
-ghost use Rattle.cell_core.specs.View.{program_of};
-ghost use Rattle.site_operands.specs.cell_nets.declared.operand.Operand.{Operand};
-ghost use Rattle.site_operands.specs.cell_nets.declared.operand.Operand.TheVariants.{Net};
-ghost use Rattle.site_operands.specs.cell_nets.Wires.{behind, wires_of, AreWires};
-ghost use Rattle.site_place.specs.row_net.Table.{IsTable};
-ghost use Rattle.site_place.specs.row_net.Apart.{TakeClean, KeepApart};
-ghost use Rattle.site_place.specs.place_net.Place.{width_at};
-ghost use Rattle.site_place.specs.Pointing.{IsPointers};
-ghost use Rattle.site_place.specs.PointerNets.{BothThere};
+ghost use Rattle.hazard_core.specs.cell_core.View.{program_of};
+ghost use Rattle.overlay_net.specs.cell_nets.declared.operand.Operand.{Operand};
+ghost use Rattle.overlay_net.specs.cell_nets.declared.operand.Operand.TheVariants.{Net};
+ghost use Rattle.overlay_net.specs.cell_nets.Wires.{behind, wires_of, AreWires};
+ghost use Rattle.row_net.specs.Table.{IsTable};
+ghost use Rattle.row_net.specs.Apart.{TakeClean, KeepApart};
+ghost use Rattle.row_net.specs.PlaceNet.Place.{width_at};
+ghost use Rattle.row_net.specs.SitePlace.Pointing.{IsPointers};
+ghost use Rattle.row_net.specs.SitePlace.PointerNets.{BothThere};
 ghost use Rattle.stage_net.specs.Nets.{decls_of, AreNets, NetsAreThere};
 ghost use Rattle.stage_net.specs.Staged.{IsStaged};
 ghost use Rattle.stage_net.specs.Rows.{IsReadHere, IsHad, IsPointerHad};
@@ -24,9 +24,9 @@ use crate::reads::reads;
 use crate::row::{ProgramRow, StageNets};
 use block_core::block::{Block, BlockWire};
 use block_core::name::{Name, Part};
-use site_operands::cell_nets::operand::Operand;
-use site_place::laws::pointers_are_held;
-use site_place::placing::site_place;
+use overlay_net::cell_nets::operand::Operand;
+use row_net::site_place::laws::pointers_are_held;
+use row_net::site_place::placing::site_place;
 use std::alloc::{AllocError, Global};
 
 /// What a place makes and holds: the cells and the pointers that it makes from others, and those that its registers take.

@@ -3,14 +3,14 @@ use Rattle.std.specs.Prelude.{cond, filter, nat_le}
 use Rattle.std.specs.List.{find}
 use Rattle.std.proofs.Common.{◌≡◌, ℕ, Bool, true, false, ◌&&◌, Some, List, [], ◌∷◌, refl, sym, ◌∙◌, ap}
 use Rattle.std.proofs.lemmas.Bool.{and_parts, true≢false}
-use Rattle.xdp_maps.specs.declared.decl.MapDecl.{MapDecl}
-use Rattle.xdp_maps.specs.declared.decl.MapKind.{MapKind}
-use Rattle.cell_core.specs.declared.site.Act.{Act}
-use Rattle.cell_core.specs.declared.site.Act.TheVariants as act
-use Rattle.cell_core.specs.Rows.{numbers}
-use Rattle.cell_core.specs.Sites.{ProgramView, site_at, records}
-use Rattle.site_operands.specs.hazard_core.Tables.{decl_of}
-use Rattle.site_operands.specs.hazard_core.Held.{Held, held_value, answer_cell, guard_on, writes_as, writes}
+use Rattle.hazard_core.specs.xdp_maps.declared.decl.MapDecl.{MapDecl}
+use Rattle.hazard_core.specs.xdp_maps.declared.decl.MapKind.{MapKind}
+use Rattle.hazard_core.specs.cell_core.declared.site.Act.{Act}
+use Rattle.hazard_core.specs.cell_core.declared.site.Act.TheVariants as act
+use Rattle.hazard_core.specs.cell_core.Rows.{numbers}
+use Rattle.hazard_core.specs.cell_core.Sites.{ProgramView, site_at, records}
+use Rattle.hazard_core.specs.Tables.{decl_of}
+use Rattle.hazard_core.specs.Held.{Held, held_value, answer_cell, guard_on, writes_as, writes}
 use Rattle.turn_net.specs.Turns.{RecordsAlone}
 
 -- the first that passes a test is among those that pass a wider one

@@ -7,20 +7,20 @@ use Rattle.std.proofs.lemmas.Bool.{cases_lt, ne_eqb, eq-eqb}
 use Rattle.std.proofs.lemmas.List.{get_or_append_left, get_or_push, map_push, take_more, length-take-le, get_or-take, get_or_default}
 use Rattle.std.proofs.lemmas.List.Folds.{find-append}
 use Rattle.std.proofs.lemmas.List.Elements.{All-append, All-push}
-use Rattle.site_operands.specs.cell_nets.net_core.Value.{Env}
+use Rattle.net_core.specs.Value.{Env}
 use Rattle.block_core.specs.declared.name.Name.{Name}
 use Rattle.block_core.specs.Blocks.{BlockWireTree}
-use Rattle.xdp_maps.specs.declared.decl.MapDecl.{MapDecl}
-use Rattle.cell_core.specs.Cells.{bit, on}
-use Rattle.cell_core.specs.Sites.{ProgramView}
-use Rattle.site_operands.specs.hazard_core.Held.{Held, writes}
-use Rattle.site_operands.specs.cell_nets.declared.operand.Operand.{Operand}
-use Rattle.site_operands.specs.cell_nets.Operands.{number_in, IsAvailable}
-use Rattle.site_operands.specs.cell_nets.Wires.{HasBits, always, Gives}
-use Rattle.operand_blocks.proofs.cell_nets.ChoiceLemmas.{one_bit}
-use Rattle.site_operands.specs.Sites.{operands_of, ShowsSite}
-use Rattle.step_nets.proofs.ChainLaws.{starts}
-use Rattle.step_nets.proofs.StepLaws.{on_bit, narrow_small, narrow_bits}
+use Rattle.hazard_core.specs.xdp_maps.declared.decl.MapDecl.{MapDecl}
+use Rattle.hazard_core.specs.cell_core.Cells.{bit, on}
+use Rattle.hazard_core.specs.cell_core.Sites.{ProgramView}
+use Rattle.hazard_core.specs.Held.{Held, writes}
+use Rattle.cell_nets.specs.declared.operand.Operand.{Operand}
+use Rattle.cell_nets.specs.Operands.{number_in, IsAvailable}
+use Rattle.cell_nets.specs.Wires.{HasBits, always, Gives}
+use Rattle.cell_nets.proofs.ChoiceLemmas.{one_bit}
+use Rattle.overlay_net.specs.SiteOperands.Sites.{operands_of, ShowsSite}
+use Rattle.cell_nets.proofs.StepNets.ChainLaws.{starts}
+use Rattle.cell_nets.proofs.StepNets.StepLaws.{on_bit, narrow_small, narrow_bits}
 use Rattle.turn_net.specs.declared.nets.RecordNets.{RecordNets}
 use Rattle.turn_net.specs.declared.choosing.Step.{Step}
 use Rattle.turn_net.specs.Turns.{first_open, is_at, behind_site}

@@ -6,31 +6,31 @@ use Rattle.std.proofs.lemmas.Nat.{pow_pos}
 use Rattle.std.proofs.lemmas.Bool.{and_parts}
 use Rattle.std.proofs.lemmas.List.{length-map, get_or-map}
 use Rattle.std.proofs.lemmas.List.Elements.{All-map, All-cons, All-weaker, All-filter}
-use Rattle.site_operands.specs.cell_nets.net_core.declared.tree.Word.{Word}
-use Rattle.site_operands.specs.cell_nets.net_core.Ports.{port_list}
-use Rattle.site_operands.specs.cell_nets.net_core.Value.{word, nothing, bit as bit_word, number_of, Env}
-use Rattle.site_operands.specs.cell_nets.net_core.Clock.{Stored, done as stored_after}
-use Rattle.site_operands.specs.cell_nets.product_blocks.Alone.{wire_flat}
+use Rattle.net_core.specs.declared.tree.Word.{Word}
+use Rattle.net_core.specs.Ports.{port_list}
+use Rattle.net_core.specs.Value.{word, nothing, bit as bit_word, number_of, Env}
+use Rattle.net_core.specs.Clock.{Stored, done as stored_after}
+use Rattle.block_core.specs.ProductBlocks.Alone.{wire_flat}
 use Rattle.block_core.specs.declared.name.Name.{Name}
 use Rattle.block_core.specs.declared.name.Name.TheVariants as name
 use Rattle.block_core.specs.Blocks.{BlockTree, BlockWireTree, first_of, Whole}
 use Rattle.block_core.specs.Parts.{Solve}
 use Rattle.block_core.specs.Order.{IsBefore}
 use Rattle.block_core.specs.Formed.{names_scope, block_registers, IsThere}
-use Rattle.xdp_maps.specs.declared.decl.MapDecl.{MapDecl}
-use Rattle.cell_core.specs.Cells.{bit, on}
-use Rattle.cell_core.specs.Sites.{ProgramView, site_at}
-use Rattle.site_operands.specs.hazard_core.Tables.{TableState}
-use Rattle.site_operands.specs.hazard_core.Held.{Held, writes}
-use Rattle.site_operands.specs.cell_nets.declared.operand.Operand.{Operand}
-use Rattle.site_operands.specs.cell_nets.declared.operand.Operand.TheVariants.{Net}
-use Rattle.site_operands.specs.cell_nets.Operands.{number_in, IsOperand, IsWide, HasWidth, IsFit, AreFit, IsDeclared, AreDeclared, IsAvailable, IsNetOf}
-use Rattle.site_operands.specs.cell_nets.Wires.{behind, AreWires}
-use Rattle.operand_blocks.proofs.cell_nets.ChoiceLemmas.{fit_of}
-use Rattle.step_nets.proofs.StepLaws.{small_bits, narrow_small, narrow_bits}
-use Rattle.operand_blocks.specs.declared.registers.Taken.{Taken}
-use Rattle.operand_blocks.specs.Registers.{operand_in, width_in, taken_word, IsRegistered}
-use Rattle.operand_blocks.proofs.WiringLaws.{no_wires, all_outside, behind_nets}
+use Rattle.hazard_core.specs.xdp_maps.declared.decl.MapDecl.{MapDecl}
+use Rattle.hazard_core.specs.cell_core.Cells.{bit, on}
+use Rattle.hazard_core.specs.cell_core.Sites.{ProgramView, site_at}
+use Rattle.hazard_core.specs.Tables.{TableState}
+use Rattle.hazard_core.specs.Held.{Held, writes}
+use Rattle.cell_nets.specs.declared.operand.Operand.{Operand}
+use Rattle.cell_nets.specs.declared.operand.Operand.TheVariants.{Net}
+use Rattle.cell_nets.specs.Operands.{number_in, IsOperand, IsWide, HasWidth, IsFit, AreFit, IsDeclared, AreDeclared, IsAvailable, IsNetOf}
+use Rattle.cell_nets.specs.Wires.{behind, AreWires}
+use Rattle.cell_nets.proofs.ChoiceLemmas.{fit_of}
+use Rattle.cell_nets.proofs.StepNets.StepLaws.{small_bits, narrow_small, narrow_bits}
+use Rattle.cell_nets.specs.declared.operand_blocks.registers.Taken.{Taken}
+use Rattle.cell_nets.specs.OperandBlocks.Registers.{operand_in, width_in, taken_word, IsRegistered}
+use Rattle.cell_nets.proofs.OperandBlocks.WiringLaws.{no_wires, all_outside, behind_nets}
 use Rattle.turn_net.specs.declared.nets.RecordNets.{RecordNets}
 use Rattle.turn_net.specs.declared.nets.TurnNets.{TurnNets}
 use Rattle.turn_net.specs.declared.nets.TurnShape.{TurnShape}

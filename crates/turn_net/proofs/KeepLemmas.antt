@@ -3,17 +3,17 @@ use Rattle.std.specs.Prelude.{if◌then◌else◌, cond}
 use Rattle.std.proofs.Common.{◌≡◌, ℕ, zero, suc, ◌+◌, ◌^◌, ◌<◌, ◌≤◌, Bool, true, false, Option, All, List, [], ◌∷◌, ◌++◌, length, length-append, take, get_or, refl, sym, ◌∙◌, ap, subst, arith, append-nil, map as map_list}
 use Rattle.std.proofs.lemmas.List.{map_push}
 use Rattle.std.proofs.lemmas.List.Elements.{All-nil, All-append, All-push, filter_more}
-use Rattle.site_operands.specs.cell_nets.net_core.Value.{Env}
+use Rattle.net_core.specs.Value.{Env}
 use Rattle.block_core.specs.declared.name.Name.{Name}
 use Rattle.block_core.specs.declared.name.Name.TheVariants as name
 use Rattle.block_core.specs.Blocks.{BlockWireTree}
-use Rattle.cell_core.specs.Cells.{bit, on, bits_from}
-use Rattle.site_operands.specs.cell_nets.declared.operand.Operand.{Operand}
-use Rattle.site_operands.specs.cell_nets.declared.operand.Operand.TheVariants.{Net}
-use Rattle.site_operands.specs.cell_nets.Operands.{number_in, IsOperand, IsAvailable, IsFit, IsNarrow}
-use Rattle.site_operands.specs.cell_nets.Wires.{HasBits, always, Gives}
-use Rattle.step_nets.proofs.ChainLaws.{starts, next}
-use Rattle.step_nets.proofs.StepLaws.{on_bit, small_bits, narrow_small, choice_small}
+use Rattle.hazard_core.specs.cell_core.Cells.{bit, on, bits_from}
+use Rattle.cell_nets.specs.declared.operand.Operand.{Operand}
+use Rattle.cell_nets.specs.declared.operand.Operand.TheVariants.{Net}
+use Rattle.cell_nets.specs.Operands.{number_in, IsOperand, IsAvailable, IsFit, IsNarrow}
+use Rattle.cell_nets.specs.Wires.{HasBits, always, Gives}
+use Rattle.cell_nets.proofs.StepNets.ChainLaws.{starts, next}
+use Rattle.cell_nets.proofs.StepNets.StepLaws.{on_bit, small_bits, narrow_small, choice_small}
 use Rattle.turn_net.specs.declared.nets.RecordNets.{RecordNets}
 use Rattle.turn_net.specs.Turns.{is_at}
 use Rattle.turn_net.specs.Nets.{keeps, kept, all_read, slot_operands}

@@ -1,3 +1,4 @@
+pub use Rattle.cell_nets.proofs as cell_nets_laws
 pub mod StandLemmas
 pub mod ChooseLemmas
 pub mod KeepLemmas
@@ -6,3 +7,5 @@ pub mod AloneLemmas
 pub mod NetLemmas
 pub mod FormLemmas
 pub mod ClockLemmas
+pub mod HostNet
+pub mod TargetNet

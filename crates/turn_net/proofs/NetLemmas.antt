@@ -4,9 +4,9 @@ use Rattle.std.proofs.Common.{◌≡◌, inl, inr, ℕ, zero, suc, ◌+◌, ◌<
 use Rattle.std.proofs.lemmas.List.Elements.{All-nil, All-cons, All-contains, Contains-append_cases}
 use Rattle.block_core.specs.declared.name.Name.{Name}
 use Rattle.block_core.specs.declared.name.Name.TheVariants as name
-use Rattle.site_operands.specs.cell_nets.declared.operand.Operand.{Operand}
-use Rattle.site_operands.specs.cell_nets.declared.operand.Operand.TheVariants.{Known, Net, Part}
-use Rattle.site_operands.specs.cell_nets.Operands.{IsNetOf}
+use Rattle.cell_nets.specs.declared.operand.Operand.{Operand}
+use Rattle.cell_nets.specs.declared.operand.Operand.TheVariants.{Known, Net, Part}
+use Rattle.cell_nets.specs.Operands.{IsNetOf}
 use Rattle.turn_net.specs.Nets.{slot_operands}
 
 -- ---- what holds of each register

@@ -2,15 +2,15 @@
 use Rattle.std.proofs.Common.{◌≡◌, ℕ, ◌+◌, All, List, [], ◌∷◌, ◌++◌, length, length-append, subst, arith}
 use Rattle.std.proofs.lemmas.List.{get_or_append_left, get_or-append-add}
 use Rattle.std.proofs.lemmas.List.Elements.{All-append}
-use Rattle.site_operands.specs.cell_nets.net_core.Value.{Env}
+use Rattle.net_core.specs.Value.{Env}
 use Rattle.block_core.specs.declared.name.Name.{Name}
 use Rattle.block_core.specs.Blocks.{BlockWireTree}
-use Rattle.site_operands.specs.cell_nets.declared.operand.Operand.{Operand}
-use Rattle.site_operands.specs.cell_nets.Operands.{number_in, IsFit, IsAvailable}
-use Rattle.site_operands.specs.cell_nets.Wires.{behind, Gives}
-use Rattle.operand_blocks.proofs.cell_nets.ApartLemmas.{stay_none, stay_as, stay_next}
-use Rattle.operand_blocks.proofs.cell_nets.ChoiceLemmas.{fit_of}
-use Rattle.operand_blocks.proofs.cell_nets.GiveLemmas.{all_one}
+use Rattle.cell_nets.specs.declared.operand.Operand.{Operand}
+use Rattle.cell_nets.specs.Operands.{number_in, IsFit, IsAvailable}
+use Rattle.cell_nets.specs.Wires.{behind, Gives}
+use Rattle.cell_nets.proofs.ApartLemmas.{stay_none, stay_as, stay_next}
+use Rattle.cell_nets.proofs.ChoiceLemmas.{fit_of}
+use Rattle.cell_nets.proofs.GiveLemmas.{all_one}
 use Rattle.turn_net.specs.Steps.{Leads}
 
 -- ---- of several some

@@ -1,21 +1,21 @@
 -- The nets of records, and what the part reads.
 use Rattle.std.specs.Prelude.{◌≡◌, ℕ, zero, suc, ◌+◌, ◌<◌, ◌^◌, Bool, true, false, All, List, [], ◌∷◌, ◌++◌, length, filter, map as map_list}
 use Rattle.std.proofs.Common.{get_or}
-use Rattle.site_operands.specs.cell_nets.net_core.Value.{Env}
+use Rattle.net_core.specs.Value.{Env}
 use Rattle.block_core.specs.declared.name.Name.{Name}
 use Rattle.block_core.specs.declared.name.Name.TheVariants as name
-use Rattle.xdp_maps.specs.declared.decl.MapDecl.{MapDecl}
-use Rattle.xdp_maps.specs.declared.decl.MapKind.{MapKind}
-use Rattle.xdp_maps.specs.declared.decl.MapKind.TheVariants.{Hash}
-use Rattle.cell_core.specs.declared.site.Act.{Act}
-use Rattle.cell_core.specs.declared.site.Act.TheVariants as act
-use Rattle.cell_core.specs.Cells.{on}
-use Rattle.cell_core.specs.Sites.{ProgramView}
-use Rattle.site_operands.specs.hazard_core.Held.{Held}
-use Rattle.site_operands.specs.cell_nets.declared.operand.Operand.{Operand}
-use Rattle.site_operands.specs.cell_nets.declared.operand.Operand.TheVariants.{Net}
-use Rattle.site_operands.specs.cell_nets.Operands.{IsOperand, IsNarrow}
-use Rattle.site_operands.specs.Sites.{operands_of, all_of, ShowsSite}
+use Rattle.hazard_core.specs.xdp_maps.declared.decl.MapDecl.{MapDecl}
+use Rattle.hazard_core.specs.xdp_maps.declared.decl.MapKind.{MapKind}
+use Rattle.hazard_core.specs.xdp_maps.declared.decl.MapKind.TheVariants.{Hash}
+use Rattle.hazard_core.specs.cell_core.declared.site.Act.{Act}
+use Rattle.hazard_core.specs.cell_core.declared.site.Act.TheVariants as act
+use Rattle.hazard_core.specs.cell_core.Cells.{on}
+use Rattle.hazard_core.specs.cell_core.Sites.{ProgramView}
+use Rattle.hazard_core.specs.Held.{Held}
+use Rattle.cell_nets.specs.declared.operand.Operand.{Operand}
+use Rattle.cell_nets.specs.declared.operand.Operand.TheVariants.{Net}
+use Rattle.cell_nets.specs.Operands.{IsOperand, IsNarrow}
+use Rattle.overlay_net.specs.SiteOperands.Sites.{operands_of, all_of, ShowsSite}
 use Rattle.overlay_net.specs.Reading.{IsSite}
 use Rattle.turn_net.specs.declared.nets.RecordNets.{RecordNets}
 use Rattle.turn_net.specs.declared.nets.TurnNets.{TurnNets}

@@ -1,20 +1,20 @@
 -- What the nets of the part say, step by step.
 use Rattle.std.specs.Prelude.{◌≡◌, ℕ, suc, ◌<◌, Bool, true, not, ◌&&◌, ◌||◌, if◌then◌else◌, Option, Some, None, is_some, All, List, [], ◌∷◌, ◌++◌, length, map as map_list}
 use Rattle.std.proofs.Common.{get_or}
-use Rattle.site_operands.specs.cell_nets.net_core.Value.{Env}
+use Rattle.net_core.specs.Value.{Env}
 use Rattle.block_core.specs.declared.name.Name.{Name}
 use Rattle.block_core.specs.declared.name.Name.TheVariants as name
 use Rattle.block_core.specs.Blocks.{BlockWireTree}
-use Rattle.xdp_maps.specs.declared.decl.MapDecl.{MapDecl}
-use Rattle.cell_core.specs.Cells.{bit, on}
-use Rattle.cell_core.specs.Sites.{ProgramView}
-use Rattle.site_operands.specs.hazard_core.Held.{Held, writes}
-use Rattle.site_operands.specs.cell_nets.declared.operand.Operand.{Operand}
-use Rattle.site_operands.specs.cell_nets.declared.operand.Operand.TheVariants.{Net}
-use Rattle.site_operands.specs.cell_nets.Operands.{number_in, IsOperand}
-use Rattle.site_operands.specs.cell_nets.Wires.{HasBits, always}
-use Rattle.step_nets.proofs.ChainLaws.{Stands}
-use Rattle.operand_blocks.specs.declared.registers.Taken.{Taken}
+use Rattle.hazard_core.specs.xdp_maps.declared.decl.MapDecl.{MapDecl}
+use Rattle.hazard_core.specs.cell_core.Cells.{bit, on}
+use Rattle.hazard_core.specs.cell_core.Sites.{ProgramView}
+use Rattle.hazard_core.specs.Held.{Held, writes}
+use Rattle.cell_nets.specs.declared.operand.Operand.{Operand}
+use Rattle.cell_nets.specs.declared.operand.Operand.TheVariants.{Net}
+use Rattle.cell_nets.specs.Operands.{number_in, IsOperand}
+use Rattle.cell_nets.specs.Wires.{HasBits, always}
+use Rattle.cell_nets.proofs.StepNets.ChainLaws.{Stands}
+use Rattle.cell_nets.specs.declared.operand_blocks.registers.Taken.{Taken}
 use Rattle.turn_net.specs.declared.nets.RecordNets.{RecordNets}
 use Rattle.turn_net.specs.declared.nets.TurnNets.{TurnNets}
 use Rattle.turn_net.specs.declared.choosing.Step.{Step}

@@ -2,27 +2,27 @@
 use Rattle.std.specs.Prelude.{◌≡◌, ℕ, ◌<◌, ◌^◌, true, ◌||◌, Option, is_some, All, List, [], ◌∷◌, ◌++◌, length, slice_index, map as map_list, IsTrue}
 use Rattle.std.specs.List.{list_all}
 use Rattle.std.proofs.Common.{get_or}
-use Rattle.site_operands.specs.cell_nets.net_core.declared.tree.Word.{Word}
-use Rattle.site_operands.specs.cell_nets.net_core.Ports.{port_list}
-use Rattle.site_operands.specs.cell_nets.net_core.Value.{word, nothing, bit as bit_word, Env}
-use Rattle.site_operands.specs.cell_nets.net_core.Clock.{Stored, done as stored_after}
-use Rattle.site_operands.specs.cell_nets.design_rules.FormedSyntax.{statement_spelled}
-use Rattle.site_operands.specs.cell_nets.product_blocks.Alone.{IsFree}
+use Rattle.net_core.specs.declared.tree.Word.{Word}
+use Rattle.net_core.specs.Ports.{port_list}
+use Rattle.net_core.specs.Value.{word, nothing, bit as bit_word, Env}
+use Rattle.net_core.specs.Clock.{Stored, done as stored_after}
+use Rattle.block_core.specs.design_rules.FormedSyntax.{statement_spelled}
+use Rattle.block_core.specs.ProductBlocks.Alone.{IsFree}
 use Rattle.block_core.specs.declared.name.Name.{Name}
 use Rattle.block_core.specs.declared.name.Name.TheVariants as name
 use Rattle.block_core.specs.Blocks.{BlockTree, registers_of, memories_of, first_of, Whole, Among}
 use Rattle.block_core.specs.Parts.{Solve, Goes, Within}
 use Rattle.block_core.specs.Order.{IsBefore, InOrder}
 use Rattle.block_core.specs.Formed.{names_scope, block_registers, IsTypedBlock, StatementReads, IsThere}
-use Rattle.xdp_maps.specs.declared.decl.MapDecl.{MapDecl}
-use Rattle.cell_core.specs.Sites.{ProgramView}
-use Rattle.site_operands.specs.hazard_core.Tables.{TableState}
-use Rattle.site_operands.specs.hazard_core.Held.{Held, writes}
-use Rattle.site_operands.specs.hazard_core.Commits.{written_slot}
-use Rattle.site_operands.specs.cell_nets.declared.operand.Operand.{Operand}
-use Rattle.site_operands.specs.cell_nets.declared.operand.Operand.TheVariants.{Net}
-use Rattle.site_operands.specs.cell_nets.Operands.{number_in, IsOperand, AreFit, AreDeclared, IsAvailable, IsNetOf}
-use Rattle.site_operands.specs.cell_nets.Wires.{behind, is_spelled, HasBits}
+use Rattle.hazard_core.specs.xdp_maps.declared.decl.MapDecl.{MapDecl}
+use Rattle.hazard_core.specs.cell_core.Sites.{ProgramView}
+use Rattle.hazard_core.specs.Tables.{TableState}
+use Rattle.hazard_core.specs.Held.{Held, writes}
+use Rattle.hazard_core.specs.Commits.{written_slot}
+use Rattle.cell_nets.specs.declared.operand.Operand.{Operand}
+use Rattle.cell_nets.specs.declared.operand.Operand.TheVariants.{Net}
+use Rattle.cell_nets.specs.Operands.{number_in, IsOperand, AreFit, AreDeclared, IsAvailable, IsNetOf}
+use Rattle.cell_nets.specs.Wires.{behind, is_spelled, HasBits}
 use Rattle.turn_net.specs.declared.nets.RecordNets.{RecordNets}
 use Rattle.turn_net.specs.declared.nets.TurnNets.{TurnNets}
 use Rattle.turn_net.specs.declared.nets.TurnShape.{TurnShape}

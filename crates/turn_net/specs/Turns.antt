@@ -1,12 +1,12 @@
 -- Which operation of the packet at the commit place commits in a clock, and how far the packet is after it.
 use Rattle.std.specs.Prelude.{◌≡◌, ℕ, suc, ◌==◌, nat_le, Bool, false, not, ◌&&◌, if◌then◌else◌, Option, Some, None, List, length, filter}
 use Rattle.std.specs.List.{find}
-use Rattle.cell_core.specs.Rows.{numbers}
-use Rattle.cell_core.specs.Sites.{ProgramView, site_at, records}
-use Rattle.site_operands.specs.hazard_core.Tables.{TableState}
-use Rattle.site_operands.specs.hazard_core.Held.{Held, writes}
-use Rattle.site_operands.specs.hazard_core.Commits.{taken_after}
-use Rattle.pipe_core.specs.Machine.{Build, Packet, chosen}
+use Rattle.hazard_core.specs.cell_core.Rows.{numbers}
+use Rattle.hazard_core.specs.cell_core.Sites.{ProgramView, site_at, records}
+use Rattle.hazard_core.specs.Tables.{TableState}
+use Rattle.hazard_core.specs.Held.{Held, writes}
+use Rattle.hazard_core.specs.Commits.{taken_after}
+use Rattle.read_net.specs.pipe_core.Machine.{Build, Packet, chosen}
 
 -- the first of some sites that is not through and whose operation writes
 abbrev pub first_open : ℕ → (ℕ → Bool) → List ℕ → Option ℕ

@@ -1,13 +1,13 @@
 //! Which operation commits: one after another, the first that is open.
 
 ghost use Rattle.std.specs.Prelude.{List, [], ◌∷◌, ◌++◌, ◌≡◌, ◌+◌, ◌^◌, ◌<◌, ◌&&◌, nat_le, if◌then◌else◌, All, IfOk};
-ghost use Rattle.xdp_maps.specs.declared.decl.MapDecl.{MapDecl};
-ghost use Rattle.cell_core.specs.Cells.{bit, on};
-ghost use Rattle.cell_core.specs.Sites.{ProgramView};
-ghost use Rattle.site_operands.specs.hazard_core.Held.{Held, writes};
-ghost use Rattle.site_operands.specs.cell_nets.Operands.{IsOperand, IsWide, number_in};
-ghost use Rattle.site_operands.specs.cell_nets.Wires.{wires_of, Gives};
-ghost use Rattle.site_operands.specs.Sites.{operands_of, ShowsSite};
+ghost use Rattle.hazard_core.specs.xdp_maps.declared.decl.MapDecl.{MapDecl};
+ghost use Rattle.hazard_core.specs.cell_core.Cells.{bit, on};
+ghost use Rattle.hazard_core.specs.cell_core.Sites.{ProgramView};
+ghost use Rattle.hazard_core.specs.Held.{Held, writes};
+ghost use Rattle.cell_nets.specs.Operands.{IsOperand, IsWide, number_in};
+ghost use Rattle.cell_nets.specs.Wires.{wires_of, Gives};
+ghost use Rattle.overlay_net.specs.SiteOperands.Sites.{operands_of, ShowsSite};
 ghost use Rattle.overlay_net.specs.Reading.{IsSite};
 ghost use Rattle.turn_net.specs.Turns.{may_commit};
 ghost use Rattle.turn_net.specs.Nets.{site_read, all_read, HasOperands, IsNumbered, AreRecords, signals, signals_in, done_operand};
@@ -16,10 +16,10 @@ ghost use Rattle.turn_net.specs.Steps.{Leads, HasSteps, IsStep, HasChosen, AreCh
 use crate::nets::{RecordNets, TurnNets};
 use block_core::block::BlockWire;
 use block_core::name::Name;
+use cell_nets::operand::Operand;
+use cell_nets::step_nets::{at_most, both, choose, without};
 use overlay_net::writing::writes;
-use site_operands::cell_nets::operand::Operand;
 use std::alloc::{AllocError, Global};
-use step_nets::{at_most, both, choose, without};
 
 /// What is known behind an operation that has had its turn: whether it commits, whether a later one may, and how far the packet is then.
 #[derive(Copy, Clone)]

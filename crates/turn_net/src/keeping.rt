@@ -1,19 +1,19 @@
 //! The slots that updates of hashes took, after the clock.
 
 ghost use Rattle.std.specs.Prelude.{◌≡◌, ◌++◌, ◌^◌, ◌<◌, All, length, IfOk};
-ghost use Rattle.site_operands.specs.cell_nets.Operands.{IsOperand, IsWide};
-ghost use Rattle.site_operands.specs.cell_nets.Wires.{wires_of, HasBits};
+ghost use Rattle.cell_nets.specs.Operands.{IsOperand, IsWide};
+ghost use Rattle.cell_nets.specs.Wires.{wires_of, HasBits};
 ghost use Rattle.turn_net.specs.Nets.{keeps, kept, all_read, HasOperands, IsKept, slot_operands};
 ghost use Rattle.turn_net.specs.Steps.{Leads, AreSlots};
 
 use crate::nets::RecordNets;
 use block_core::block::BlockWire;
 use block_core::name::Name;
-use cell_core::site::Act;
-use site_operands::cell_nets::operand::Operand;
+use cell_nets::cell_core::site::Act;
+use cell_nets::cell_core::xdp_state::xdp_maps::decl::MapKind;
+use cell_nets::operand::Operand;
+use cell_nets::step_nets::choose;
 use std::alloc::{AllocError, Global};
-use step_nets::choose;
-use xdp_maps::decl::MapKind;
 
 /// Whether an operation keeps the slot that it takes: an update of a hash.
 fn keeps<N: Copy>(site: &RecordNets<'_, N>) -> bool

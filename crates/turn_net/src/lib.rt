@@ -1,9 +1,11 @@
-//! The part of a pipeline that says which operation of the packet at the commit place commits in a clock, and keeps how far the packet is
-//! through its operations and which slots its updates took.
+//! Which operation commits in a clock.
+//! `target_net` says which slots operations write, `host_net` what the host may do.
 #![tactic(auto)]
 
 pub mod choosing;
+pub mod host_net;
 pub mod keeping;
 pub mod laws;
 pub mod nets;
+pub mod target_net;
 pub mod turn;

@@ -2,10 +2,10 @@
 
 use block_core::block::Block;
 use block_core::name::Name;
-use cell_core::site::Act;
-use site_operands::SiteNets;
-use site_operands::cell_nets::operand::Operand;
-use xdp_maps::decl::MapDecl;
+use cell_nets::cell_core::site::Act;
+use cell_nets::cell_core::xdp_state::xdp_maps::decl::MapDecl;
+use cell_nets::operand::Operand;
+use overlay_net::site_operands::SiteNets;
 
 /// What stands for the operation at a record site: the number of the site, what it does, the declaration of its map, the cells of the site at
 /// the commit place, and the slot that it writes.

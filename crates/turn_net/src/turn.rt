@@ -2,11 +2,11 @@
 
 ghost use Rattle.std.specs.Prelude.{List, [], ◌∷◌, ◌≡◌, ◌^◌, ◌<◌, ◌&&◌, ◌||◌, not, All, length, IfOk};
 ghost use Rattle.block_core.specs.View.{block_of};
-ghost use Rattle.xdp_maps.specs.declared.decl.MapDecl.{MapDecl};
-ghost use Rattle.cell_core.specs.Cells.{bit, on};
-ghost use Rattle.cell_core.specs.Sites.{ProgramView};
-ghost use Rattle.site_operands.specs.cell_nets.Operands.{IsOperand, IsWide, number_in};
-ghost use Rattle.site_operands.specs.cell_nets.Wires.{wires_of};
+ghost use Rattle.hazard_core.specs.xdp_maps.declared.decl.MapDecl.{MapDecl};
+ghost use Rattle.hazard_core.specs.cell_core.Cells.{bit, on};
+ghost use Rattle.hazard_core.specs.cell_core.Sites.{ProgramView};
+ghost use Rattle.cell_nets.specs.Operands.{IsOperand, IsWide, number_in};
+ghost use Rattle.cell_nets.specs.Wires.{wires_of};
 ghost use Rattle.turn_net.specs.Nets.{HasOperands, IsNumbered, IsKept, AreRecords};
 ghost use Rattle.turn_net.specs.Steps.{Leads, HasDecided, Decides, taken_values};
 ghost use Rattle.turn_net.specs.Turn.{IsTurn};
@@ -16,11 +16,11 @@ use crate::keeping::slots;
 use crate::nets::{RecordNets, Turn, TurnNets, TurnShape};
 use block_core::block::BlockWire;
 use block_core::name::{Name, Part};
-use operand_blocks::registers::{Taken, registered};
-use operand_blocks::wiring::named;
-use site_operands::cell_nets::operand::Operand;
+use cell_nets::operand::Operand;
+use cell_nets::operand_blocks::registers::{Taken, registered};
+use cell_nets::operand_blocks::wiring::named;
+use cell_nets::step_nets::{choose, without};
 use std::alloc::{AllocError, Global};
-use step_nets::{choose, without};
 
 /// What is decided in a clock: what the part shows, and what its registers take.
 #[derive(Drop)]

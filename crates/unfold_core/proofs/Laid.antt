@@ -3,11 +3,11 @@ use Rattle.std.proofs.Common.{Bor, ◌≡◌, ℕ, ◌≤◌, ◌<◌, ◌^◌, 
 use Rattle.std.proofs.lemmas.List.{take_all, get_or_past, get_or_default}
 use Rattle.std.proofs.lemmas.Bool.{cases_lt}
 use Rattle.std.specs.Prelude.{Option, IfSome, option_copied, All}
-use Rattle.bpf_isa.specs.declared.instruction.Insn.{Insn}
-use Rattle.bpf_isa.specs.Spelling.{IsInsn}
-use Rattle.bpf_isa.specs.Text.{insn_at, unit_count}
-use Rattle.bpf_isa.specs.Laid.{laid}
-use Rattle.bpf_isa.proofs.LaidLaws.{insn_at-laid, length-laid, legal_at}
+use Rattle.xdp_machine.specs.bpf_isa.declared.instruction.Insn.{Insn}
+use Rattle.xdp_machine.specs.bpf_isa.Spelling.{IsInsn}
+use Rattle.xdp_machine.specs.bpf_isa.Text.{insn_at, unit_count}
+use Rattle.xdp_machine.specs.bpf_isa.Laid.{laid}
+use Rattle.xdp_machine.proofs.bpf_isa_laws.LaidLaws.{insn_at-laid, length-laid, legal_at}
 use Rattle.unfold_core.specs.Units.{AreUnits, ArePlaces}
 
 -- all instructions are laid out

@@ -2,7 +2,7 @@
 use Rattle.std.proofs.Common.{◌≡◌, ℕ, List, get_or, Option, Some, None, Result, Ok, Err, sym, ◌∙◌, ap, subst}
 use Rattle.std.specs.declared.vec.Vec.{Vec}
 use Rattle.std.specs.declared.alloc.Global.{Global}
-use Rattle.bpf_isa.specs.declared.instruction.Insn.{Insn}
+use Rattle.xdp_machine.specs.bpf_isa.declared.instruction.Insn.{Insn}
 use Rattle.xdp_machine.specs.xdp_maps.declared.decl.MapDecl.{MapDecl}
 use Rattle.xdp_machine.specs.Program.{XdpProgram}
 use Rattle.kind_core.specs.declared.why.Why.{Why}

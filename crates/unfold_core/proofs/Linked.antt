@@ -3,12 +3,12 @@ use Rattle.std.proofs.Common.{◌≡◌, ℕ, ℤ, pos, negsuc, ◌+◌, ◌<◌
 use Rattle.std.specs.Prelude.{All, if◌then◌else◌}
 use Rattle.std.specs.List.{Contains}
 use Rattle.std.proofs.lemmas.List.Elements.{All-nil, All-cons, All-contains, All-contains_itself}
-use Rattle.bpf_isa.specs.declared.operation.Width.TheVariants.{Bits32, Bits64}
-use Rattle.bpf_isa.specs.declared.operation.Op.{Op}
-use Rattle.bpf_isa.specs.declared.operation.Op.TheVariants.{Ja, Jump, Exit}
-use Rattle.bpf_isa.specs.declared.instruction.Insn.{Insn}
-use Rattle.bpf_isa.specs.Spelling.{units_of}
-use Rattle.bpf_isa.specs.Text.{insn_at}
+use Rattle.xdp_machine.specs.bpf_isa.declared.operation.Width.TheVariants.{Bits32, Bits64}
+use Rattle.xdp_machine.specs.bpf_isa.declared.operation.Op.{Op}
+use Rattle.xdp_machine.specs.bpf_isa.declared.operation.Op.TheVariants.{Ja, Jump, Exit}
+use Rattle.xdp_machine.specs.bpf_isa.declared.instruction.Insn.{Insn}
+use Rattle.xdp_machine.specs.bpf_isa.Spelling.{units_of}
+use Rattle.xdp_machine.specs.bpf_isa.Text.{insn_at}
 use Rattle.xdp_machine.specs.State.{begins}
 use Rattle.xdp_machine.specs.Program.{XdpProgram}
 use Rattle.kind_core.specs.declared.why.Why.{Why}

@@ -3,9 +3,9 @@ use Rattle.std.proofs.Common.{◌≡◌, ℕ, zero, suc, ◌+◌, ◌≤◌, ◌
 use Rattle.std.specs.Prelude.{if◌then◌else◌, unwrap_or}
 use Rattle.std.specs.List.{list_all}
 use Rattle.std.proofs.lemmas.Bool.{cases_lt, cases_eq}
-use Rattle.bpf_isa.specs.declared.instruction.Insn.{Insn}
-use Rattle.bpf_isa.specs.Text.{unit_count}
-use Rattle.bpf_isa.proofs.Laws.{units_of-positive}
+use Rattle.xdp_machine.specs.bpf_isa.declared.instruction.Insn.{Insn}
+use Rattle.xdp_machine.specs.bpf_isa.Text.{unit_count}
+use Rattle.xdp_machine.proofs.bpf_isa_laws.Laws.{units_of-positive}
 use Rattle.unfold_core.specs.declared.nesting.Loop.{Loop}
 use Rattle.unfold_core.specs.Jumps.{target_of, target, Leads}
 use Rattle.unfold_core.specs.Loops.{AreLoops}

@@ -2,7 +2,7 @@
 use Rattle.std.proofs.Common.{◌≡◌, ◌⊎◌, inl, inr, ◌∙◌, zero, suc, ◌<◌, List, [], ◌∷◌, Result, Ok, Err, refl, sym, ap, ap₂, subst, arith}
 use Rattle.std.specs.List.{AllPairs, Contains}
 use Rattle.std.specs.Prelude.{IfErr, IsErrOf}
-use Rattle.bpf_isa.specs.declared.instruction.Insn.{Insn}
+use Rattle.xdp_machine.specs.bpf_isa.declared.instruction.Insn.{Insn}
 use Rattle.xdp_machine.specs.Program.{XdpProgram}
 use Rattle.kind_core.specs.declared.why.Refusal.{Refusal}
 use Rattle.kind_core.specs.declared.why.BuildError.{BuildError}

@@ -1,7 +1,7 @@
 -- What holds of the order of nodes.
 use Rattle.std.specs.Prelude.{ℕ, ◌≡◌, true, false, List, Some}
 use Rattle.std.specs.List.{AllPairs}
-use Rattle.bpf_isa.specs.declared.instruction.Insn.{Insn}
+use Rattle.xdp_machine.specs.bpf_isa.declared.instruction.Insn.{Insn}
 use Rattle.unfold_core.specs.declared.nesting.Loop.{Loop}
 use Rattle.unfold_core.specs.Jumps.{Leads}
 use Rattle.unfold_core.specs.Loops.{Nests, AreLoops}

@@ -1,4 +1,3 @@
-pub use Rattle.kind_core.specs as kind_core
 pub mod Jumps
 pub mod Loops
 pub mod Nodes

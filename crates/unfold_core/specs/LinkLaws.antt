@@ -1,8 +1,8 @@
 -- What the edges of a graph are: the present edges of its nodes. Each leads to where the machine goes on, and brings what is known behind the instruction.
 use Rattle.std.specs.Prelude.{ℕ, pos, ◌≡◌, ◌<◌, ◌⊎◌, if◌then◌else◌, Bool, true, Option, Some, None, List, ◌∷◌, length, get_or, fold, All}
 use Rattle.std.specs.List.{Contains}
-use Rattle.bpf_isa.specs.declared.instruction.Insn.{Insn}
-use Rattle.bpf_isa.specs.Text.{insn_at}
+use Rattle.xdp_machine.specs.bpf_isa.declared.instruction.Insn.{Insn}
+use Rattle.xdp_machine.specs.bpf_isa.Text.{insn_at}
 use Rattle.xdp_machine.specs.State.{begins}
 use Rattle.xdp_machine.specs.Program.{XdpProgram}
 use Rattle.kind_core.specs.declared.kind.Kinds.{Kinds}

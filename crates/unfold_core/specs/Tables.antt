@@ -1,7 +1,7 @@
 -- Tables by which loops are found.
 use Rattle.std.specs.Prelude.{ℕ, ◌≡◌, ◌≢◌, ◌≤◌, ◌<◌, ◌&&◌, ◌||◌, nat_le, nat_lt, if◌then◌else◌, List, length, take, slice_index_or, slice_set, Option, Some, None, All}
 use Rattle.std.specs.List.{AllPairs, Contains}
-use Rattle.bpf_isa.specs.declared.instruction.Insn.{Insn}
+use Rattle.xdp_machine.specs.bpf_isa.declared.instruction.Insn.{Insn}
 use Rattle.unfold_core.specs.declared.nesting.Loop.{Loop}
 use Rattle.kind_core.specs.declared.why.Refusal.{Refusal}
 use Rattle.kind_core.specs.declared.why.Why.TheVariants as why

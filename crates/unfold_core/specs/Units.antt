@@ -1,8 +1,8 @@
 -- The instructions of a program by their places.
 use Rattle.std.specs.Prelude.{ℕ, ◌≡◌, ◌<◌, ◌^◌, List, length, slice_index_or, All, IfSome, Option, None}
-use Rattle.bpf_isa.specs.declared.instruction.Insn.{Insn}
-use Rattle.bpf_isa.specs.Spelling.{IsInsn}
-use Rattle.bpf_isa.specs.Text.{insn_at, unit_count}
+use Rattle.xdp_machine.specs.bpf_isa.declared.instruction.Insn.{Insn}
+use Rattle.xdp_machine.specs.bpf_isa.Spelling.{IsInsn}
+use Rattle.xdp_machine.specs.bpf_isa.Text.{insn_at, unit_count}
 
 -- at each place the instruction that begins there, if one does
 pub record AreUnits (insns : List Insn) (units : List (Option Insn)) : Type 0 where

@@ -3,7 +3,7 @@
 ghost use Rattle.std.specs.Prelude.{◌≡◌, ◌<◌, length, All, IfSome, is_some, slice_index_or, None};
 ghost use Rattle.std.specs.Bool.{OnTrue};
 ghost use Rattle.std.specs.Option.{option_copied};
-ghost use Rattle.bpf_isa.specs.Spelling.{IsInsn};
+ghost use Rattle.xdp_machine.specs.bpf_isa.Spelling.{IsInsn};
 ghost use Rattle.unfold_core.specs.Units.{ArePlaces};
 ghost use Rattle.unfold_core.specs.Edges.{goes_next, goes_jump, edge_to, if_present, next_edge, jump_edge, edges_of, leaving, Adds, Makes, Leaves};
 ghost use Rattle.kind_core.specs.Edges.{decided};
@@ -12,9 +12,9 @@ ghost use Rattle.kind_core.specs.declared.why.BuildError.TheVariants.{Refused};
 use crate::jumps::target;
 use crate::nesting::Loop;
 use crate::nodes::{Node, reached};
-use bpf_isa::{Insn, Op};
 use kind_core::{BuildError, Kinds, Refusal, Why, allowed, decide, transfer};
 use std::alloc::Global;
+use xdp_machine::bpf_isa::{Insn, Op};
 use xdp_object::Program;
 
 /// A node and what is known there, or the end of an edge and what is known on it.

@@ -2,10 +2,10 @@
 
 ghost use Rattle.std.specs.Prelude.{◌≡◌, ◌+◌, ◌+ℤ◌, pos, FitsSigned, Some, IfSome};
 ghost use Rattle.std.specs.Int.{w32};
-ghost use Rattle.bpf_isa.specs.Spelling.{IsInsn};
+ghost use Rattle.xdp_machine.specs.bpf_isa.Spelling.{IsInsn};
 ghost use Rattle.unfold_core.specs.Jumps.{distance, natural, led_to, target_of};
 
-use bpf_isa::{Insn, Op, Width};
+use xdp_machine::bpf_isa::{Insn, Op, Width};
 
 // How far a jump leads from the next place.
 fn distance(insn: &Insn) -> Option<i64>

@@ -1,7 +1,7 @@
 // The edges of a graph, by the numbers of its nodes.
 
 ghost use Rattle.std.specs.Prelude.{◌≡◌, ◌≤◌, ◌++◌, length, All, Some, IfOk, OnOk};
-ghost use Rattle.bpf_isa.specs.Text.{insn_at};
+ghost use Rattle.xdp_machine.specs.bpf_isa.Text.{insn_at};
 ghost use Rattle.unfold_core.specs.Loops.{AreLoops};
 ghost use Rattle.unfold_core.specs.Units.{ArePlaces};
 ghost use Rattle.unfold_core.specs.Nodes.{IsNode};
@@ -13,9 +13,9 @@ use crate::edges::{Point, goes_next, insn_at, leave};
 use crate::nesting::Loop;
 use crate::nodes::{Node, comes_before};
 use crate::pending::number_of;
-use bpf_isa::Insn;
 use kind_core::{BuildError, decide};
 use std::alloc::{AllocError, Global};
+use xdp_machine::bpf_isa::Insn;
 use xdp_object::Program;
 
 /// A present edge: the numbers of the nodes that it leaves and leads to, and whether it is that of a jump; else it leads to the next place.

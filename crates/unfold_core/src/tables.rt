@@ -1,14 +1,14 @@
 // Tables by which loops are found.
 
 ghost use Rattle.std.specs.Prelude.{◌≡◌, ◌+◌, ◌≤◌, ◌<◌, ◌^◌, ◌↔◌, length, All, IfOk, IfSome, IsTrue, MatchOption, min};
-ghost use Rattle.bpf_isa.specs.Spelling.{IsInsn};
+ghost use Rattle.xdp_machine.specs.bpf_isa.Spelling.{IsInsn};
 ghost use Rattle.unfold_core.specs.Jumps.{target_of};
 ghost use Rattle.unfold_core.specs.Tables.{target_in, AreLast, recorded, AreListed, AreLoopsBelow, IsCrossed, IsLeastCrossed};
 
 use crate::jumps::target;
 use crate::nesting::Loop;
-use bpf_isa::Insn;
 use std::alloc::{AllocError, Global};
+use xdp_machine::bpf_isa::Insn;
 
 // Records a jump back as the last one to its target.
 fn record_jump(last: &mut [Option<u32>], place: u32, unit: &Option<Insn>)

@@ -14,9 +14,9 @@ use crate::links::{Edge, links};
 use crate::nesting::{Loop, loops};
 use crate::pending::{add_ends, at_start};
 use crate::units::places;
-use bpf_isa::Insn;
 use kind_core::{BuildError, Why};
 use std::alloc::Global;
+use xdp_machine::bpf_isa::Insn;
 use xdp_object::Program;
 
 /// The most nodes of a program.

@@ -1,11 +1,11 @@
 // The instructions of a program by their places.
 
 ghost use Rattle.std.specs.Prelude.{◌≡◌, ◌-◌, ◌∷◌, ◌++◌, replicate, Some, None, IfOk, OnOk};
-ghost use Rattle.bpf_isa.specs.Spelling.{units_of};
+ghost use Rattle.xdp_machine.specs.bpf_isa.Spelling.{units_of};
 ghost use Rattle.unfold_core.specs.Units.{AreUnits, ArePlaces};
 
-use bpf_isa::Insn;
 use std::alloc::{AllocError, Global};
+use xdp_machine::bpf_isa::Insn;
 use xdp_object::Program;
 
 // Adds the units of an instruction.

@@ -18,7 +18,7 @@ use Rattle.verilog_lex.specs.Words.{keyword_text, symbol_text, symbols}
 use Rattle.verilog_lex.specs.Element.{keyword_of}
 use Rattle.verilog_lex.specs.Lexeme.{Lexeme, LName, LKeyword, LNumber, LSized, LOutOfRange, LSymbol}
 use Rattle.design_rules.specs.FormedSyntax.{is_name}
-use Rattle.verilog_grammar.specs.Grammar.{constant, op_symbol}
+use Rattle.verilog_write.specs.VerilogGrammar.Grammar.{constant, op_symbol}
 use Rattle.verilog_expression.specs.declared.fault.Code.{Code}
 use Rattle.verilog_expression.specs.declared.fault.Code.TheVariants as code
 use Rattle.verilog_expression.specs.declared.entry.Entry.{Entry}

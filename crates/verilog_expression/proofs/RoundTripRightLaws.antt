@@ -6,7 +6,7 @@ use Rattle.net_core.specs.Nets.{Tree, TConst, TRead, TBit, TPartSelect, TMemoryW
 use Rattle.net_core.specs.Width.{Scope, same_width, width_of, right_width}
 use Rattle.verilog_lex.specs.declared.token.Symbol.TheVariants as symbol
 use Rattle.verilog_lex.specs.Lexeme.{Lexeme, LName, LSymbol}
-use Rattle.verilog_grammar.specs.Grammar.{tree_lexemes, right_lexemes}
+use Rattle.verilog_write.specs.VerilogGrammar.Grammar.{tree_lexemes, right_lexemes}
 use Rattle.design_rules.specs.FormedScope.{Sorts}
 use Rattle.verilog_expression.specs.declared.entry.Entry.TheVariants as entry
 use Rattle.verilog_expression.specs.Expressions.{Resolve}

@@ -8,7 +8,7 @@ use Rattle.net_core.specs.Width.{Scope, width_of}
 use Rattle.verilog_lex.specs.declared.token.Keyword.TheVariants as keyword
 use Rattle.verilog_lex.specs.declared.token.Symbol.TheVariants as symbol
 use Rattle.verilog_lex.specs.Lexeme.{Lexeme, LName, LKeyword, LSymbol}
-use Rattle.verilog_grammar.specs.Grammar.{tree_lexemes}
+use Rattle.verilog_write.specs.VerilogGrammar.Grammar.{tree_lexemes}
 use Rattle.design_rules.specs.FormedSyntax.{statement_depth, statements_depth, ends_open}
 use Rattle.design_rules.specs.FormedScope.{Sorts}
 use Rattle.verilog_expression.specs.declared.entry.Entry.TheVariants as entry

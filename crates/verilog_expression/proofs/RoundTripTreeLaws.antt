@@ -14,7 +14,7 @@ use Rattle.net_core.specs.Width.{Scope, const_width, part_select_width, memory_w
 use Rattle.net_core.proofs.WidthLaws.{memory_word_parts, unary_parts, op_parts, conditional_some}
 use Rattle.verilog_lex.specs.declared.token.Symbol.TheVariants as symbol
 use Rattle.verilog_lex.specs.Lexeme.{Lexeme, LName, LNumber, LSymbol}
-use Rattle.verilog_grammar.specs.Grammar.{constant, op_symbol, unary_symbol, tree_lexemes, parts_lexemes}
+use Rattle.verilog_write.specs.VerilogGrammar.Grammar.{constant, op_symbol, unary_symbol, tree_lexemes, parts_lexemes}
 use Rattle.design_rules.specs.FormedSyntax.{depth, parts_depth, is_prefixed, prefixes_apart, parts_apart}
 use Rattle.design_rules.specs.FormedScope.{Sorts, reads_known, parts_known}
 use Rattle.verilog_expression.specs.declared.fault.Code.TheVariants as code

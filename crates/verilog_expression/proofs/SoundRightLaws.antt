@@ -8,7 +8,7 @@ use Rattle.net_core.specs.Width.{Scope, same_width, right_width}
 use Rattle.verilog_lex.specs.declared.token.Symbol.{Symbol}
 use Rattle.verilog_lex.specs.declared.token.Symbol.TheVariants as symbol
 use Rattle.verilog_lex.specs.Lexeme.{Lexeme, LName, LSymbol}
-use Rattle.verilog_grammar.specs.Grammar.{right_lexemes}
+use Rattle.verilog_write.specs.VerilogGrammar.Grammar.{right_lexemes}
 use Rattle.design_rules.specs.FormedSyntax.{right_spelled}
 use Rattle.design_rules.specs.FormedScope.{Sorts, right_known}
 use Rattle.verilog_expression.specs.declared.fault.Code.TheVariants as code

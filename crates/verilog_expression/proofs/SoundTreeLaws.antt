@@ -13,7 +13,7 @@ use Rattle.net_core.specs.Width.{Scope, const_width, part_select_width, memory_w
 use Rattle.verilog_lex.specs.declared.token.Symbol.{Symbol}
 use Rattle.verilog_lex.specs.declared.token.Symbol.TheVariants as symbol
 use Rattle.verilog_lex.specs.Lexeme.{Lexeme, LName, LNumber, LSized, LOutOfRange, LSymbol}
-use Rattle.verilog_grammar.specs.Grammar.{op_symbol, unary_symbol, tree_lexemes, parts_lexemes}
+use Rattle.verilog_write.specs.VerilogGrammar.Grammar.{op_symbol, unary_symbol, tree_lexemes, parts_lexemes}
 use Rattle.design_rules.specs.FormedSyntax.{depth, parts_depth, is_prefixed, prefixes_apart, parts_apart}
 use Rattle.design_rules.specs.FormedScope.{Sorts, reads_known, parts_known}
 use Rattle.verilog_expression.specs.declared.fault.Code.TheVariants as code

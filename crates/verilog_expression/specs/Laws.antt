@@ -8,7 +8,7 @@ use Rattle.net_core.specs.Width.{Scope, width_of, right_width, statement_typed}
 use Rattle.verilog_lex.specs.declared.token.Keyword.TheVariants as keyword
 use Rattle.verilog_lex.specs.declared.token.Symbol.TheVariants as symbol
 use Rattle.verilog_lex.specs.Lexeme.{Lexeme, LKeyword, LSymbol}
-use Rattle.verilog_grammar.specs.Grammar.{tree_lexemes, right_lexemes, statement_tree_lexemes}
+use Rattle.verilog_write.specs.VerilogGrammar.Grammar.{tree_lexemes, right_lexemes, statement_tree_lexemes}
 use Rattle.design_rules.specs.FormedSyntax.{is_name, tree_spelled, right_spelled, ends_open, trees_pass, statement_spelled}
 use Rattle.design_rules.specs.FormedScope.{Sorts, reads_known, right_known, targets_pass}
 use Rattle.verilog_expression.specs.declared.entry.Entry.TheVariants as entry

@@ -1,4 +1,4 @@
-pub use Rattle.verilog_grammar.specs as verilog_grammar
+pub use Rattle.verilog_write.specs as verilog_write
 pub mod Reads
 pub mod Lexemes
 pub mod Expressions

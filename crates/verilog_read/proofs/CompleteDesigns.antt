@@ -7,7 +7,7 @@ use Rattle.net_core.specs.Nets.{StatementTree, WireTree, AssignTree, Netlist}
 use Rattle.net_core.specs.Names.{name_of}
 use Rattle.verilog_lex.specs.declared.token.Keyword.TheVariants as keyword
 use Rattle.verilog_lex.specs.Lexeme.{Lexeme, LKeyword}
-use Rattle.verilog_expression.specs.verilog_grammar.Grammar.{declared_lexemes, wire_lexemes, assign_lexemes, always_lexemes, text_at, integer_name, all_declared, all_wires, all_assigns, all_always, items_lexemes, design_lexemes}
+use Rattle.verilog_expression.specs.verilog_write.VerilogGrammar.Grammar.{declared_lexemes, wire_lexemes, assign_lexemes, always_lexemes, text_at, integer_name, all_declared, all_wires, all_assigns, all_always, items_lexemes, design_lexemes}
 use Rattle.design_rules.specs.Formed.{IsWellFormed, declared_place, wire_place}
 use Rattle.verilog_expression.specs.Laws.{IsNoElse, statement_lexemes}
 use Rattle.verilog_read.specs.declared.section.Section.TheVariants as section

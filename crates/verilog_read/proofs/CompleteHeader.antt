@@ -10,7 +10,7 @@ use Rattle.net_core.specs.Width.{is_assigned, all_assigned}
 use Rattle.verilog_lex.specs.declared.token.Keyword.TheVariants as keyword
 use Rattle.verilog_lex.specs.declared.token.Symbol.TheVariants as symbol
 use Rattle.verilog_lex.specs.Lexeme.{Lexeme, LName, LKeyword, LSymbol}
-use Rattle.verilog_expression.specs.verilog_grammar.Grammar.{port_lexemes, ports_lexemes, text_at}
+use Rattle.verilog_expression.specs.verilog_write.VerilogGrammar.Grammar.{port_lexemes, ports_lexemes, text_at}
 use Rattle.design_rules.specs.Formed.{IsWellFormed, same_bool}
 use Rattle.design_rules.proofs.FormedItemLaws.{last_kept}
 use Rattle.design_rules.proofs.FormedWidthLaws.{ports_listed}

@@ -10,7 +10,7 @@ use Rattle.net_core.specs.Nets.{StatementTree, WireTree, AssignTree, Netlist}
 use Rattle.net_core.specs.Names.{is_integer, name_of}
 use Rattle.net_core.specs.Width.{same, width_of, right_width, full_scope, output_width, word_fits, register_widths, memory_widths, scope_before}
 use Rattle.verilog_lex.specs.Lexeme.{Lexeme}
-use Rattle.verilog_expression.specs.verilog_grammar.Grammar.{port_lexemes, declared_lexemes, wire_lexemes, assign_lexemes, always_lexemes, text_at, integer_name}
+use Rattle.verilog_expression.specs.verilog_write.VerilogGrammar.Grammar.{port_lexemes, declared_lexemes, wire_lexemes, assign_lexemes, always_lexemes, text_at, integer_name}
 use Rattle.design_rules.specs.FormedSyntax.{trees_pass}
 use Rattle.design_rules.specs.FormedScope.{reads_known, sorts}
 use Rattle.design_rules.specs.Formed.{IsWellFormed, declared_place, wire_place, targets_known}

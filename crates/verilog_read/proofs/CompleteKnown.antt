@@ -10,7 +10,7 @@ use Rattle.net_core.specs.Nets.{StatementTree, AssignTree, Netlist}
 use Rattle.net_core.specs.Names.{is_register, is_memory, name_place, name_of}
 use Rattle.net_core.specs.Width.{net_width, memory_width, scope, full_scope, register_widths, memory_widths, wire_widths, scope_before}
 use Rattle.net_core.proofs.WireLaws.{length_widths}
-use Rattle.verilog_expression.specs.verilog_grammar.Grammar.{text_at}
+use Rattle.verilog_expression.specs.verilog_write.VerilogGrammar.Grammar.{text_at}
 use Rattle.design_rules.specs.FormedScope.{is_output, is_value, is_words, registers_of, memories_of, sorts}
 use Rattle.design_rules.specs.Formed.{IsWellFormed}
 use Rattle.design_rules.proofs.FormedItemLaws.{last_kept}

@@ -9,7 +9,7 @@ use Rattle.std.proofs.lemmas.Slice.Eq.{bytes_eq-Decides}
 use Rattle.net_core.specs.declared.ports.TheConstants.{PORT_COUNT}
 use Rattle.net_core.specs.Nets.{Netlist}
 use Rattle.net_core.specs.Names.{is_integer, place_of}
-use Rattle.verilog_expression.specs.verilog_grammar.Grammar.{text_at, integer_name}
+use Rattle.verilog_expression.specs.verilog_write.VerilogGrammar.Grammar.{text_at, integer_name}
 use Rattle.design_rules.specs.Formed.{IsWellFormed}
 use Rattle.design_rules.proofs.FormedItemLaws.{last_kept}
 use Rattle.design_rules.proofs.FormedLaws.{port_names_first, name_spelled, names_distinct, place_of_below, ports_counted}

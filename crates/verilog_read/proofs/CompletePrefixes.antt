@@ -5,7 +5,7 @@ use Rattle.net_core.specs.declared.tree.Net.{Net}
 use Rattle.net_core.specs.declared.design.Port.{Port}
 use Rattle.net_core.specs.declared.design.Declared.{Declared}
 use Rattle.net_core.specs.Nets.{StatementTree, WireTree, AssignTree, Netlist}
-use Rattle.verilog_expression.specs.verilog_grammar.Grammar.{text_at}
+use Rattle.verilog_expression.specs.verilog_write.VerilogGrammar.Grammar.{text_at}
 use Rattle.design_rules.specs.Formed.{IsWellFormed, declared_place, wire_place}
 use Rattle.design_rules.proofs.FormedItemLaws.{last_kept}
 use Rattle.verilog_read.specs.Header.{with_port, no_design}

@@ -7,7 +7,7 @@ use Rattle.net_core.specs.Width.{Scope, width_of, right_width, is_assigned}
 use Rattle.verilog_lex.specs.declared.token.Keyword.TheVariants as keyword
 use Rattle.verilog_lex.specs.declared.token.Symbol.TheVariants as symbol
 use Rattle.verilog_lex.specs.Lexeme.{Lexeme, LName, LKeyword, LSymbol}
-use Rattle.verilog_expression.specs.verilog_grammar.Grammar.{tree_lexemes, right_lexemes, range_lexemes, wire_lexemes, assign_lexemes, always_lexemes}
+use Rattle.verilog_expression.specs.verilog_write.VerilogGrammar.Grammar.{tree_lexemes, right_lexemes, range_lexemes, wire_lexemes, assign_lexemes, always_lexemes}
 use Rattle.design_rules.specs.FormedSyntax.{is_name}
 use Rattle.design_rules.specs.FormedScope.{Sorts}
 use Rattle.verilog_expression.specs.declared.entry.Entry.TheVariants as entry

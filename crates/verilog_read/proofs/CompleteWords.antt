@@ -8,7 +8,7 @@ use Rattle.std.proofs.lemmas.Nat.{pow_pos, pow_below}
 use Rattle.net_core.specs.Nets.{Netlist}
 use Rattle.verilog_lex.specs.declared.token.Symbol.TheVariants as symbol
 use Rattle.verilog_lex.specs.Lexeme.{Lexeme, LName, LNumber, LSymbol}
-use Rattle.verilog_expression.specs.verilog_grammar.Grammar.{range_lexemes}
+use Rattle.verilog_expression.specs.verilog_write.VerilogGrammar.Grammar.{range_lexemes}
 use Rattle.design_rules.specs.FormedSyntax.{is_name}
 use Rattle.verilog_expression.proofs.LexemeLaws.{symbol_again, behind_again}
 use Rattle.verilog_read.specs.Header.{range_at, fresh_at}

@@ -1,5 +1,4 @@
-pub use Rattle.design_rules.proofs as design_rules
-pub use Rattle.verilog_lex.proofs as verilog_lex
+pub use Rattle.design_rules.proofs as design_rules_laws
 pub mod LawPlaces
 pub mod LawEntries
 pub mod LawNames
@@ -40,3 +39,4 @@ pub mod Free
 pub mod Ordered
 pub mod Begun
 pub mod Outcomes
+pub mod VerilogFaults

@@ -14,7 +14,7 @@ use Rattle.net_core.specs.Width.{word_fits}
 use Rattle.verilog_lex.specs.declared.token.Keyword.TheVariants as keyword
 use Rattle.verilog_lex.specs.declared.token.Symbol.TheVariants as symbol
 use Rattle.verilog_lex.specs.Lexeme.{Lexeme, LName, LKeyword, LNumber, LSymbol}
-use Rattle.verilog_expression.specs.verilog_grammar.Grammar.{constant, range_lexemes, fill_lexemes, declared_lexemes}
+use Rattle.verilog_expression.specs.verilog_write.VerilogGrammar.Grammar.{constant, range_lexemes, fill_lexemes, declared_lexemes}
 use Rattle.design_rules.specs.Formed.{declared_fits}
 use Rattle.design_rules.specs.FormedScope.{integer_known}
 use Rattle.design_rules.specs.FormedSyntax.{is_name}

@@ -9,7 +9,7 @@ use Rattle.verilog_lex.specs.declared.token.Keyword.TheVariants as keyword
 use Rattle.verilog_lex.specs.declared.token.Symbol.TheVariants as symbol
 use Rattle.verilog_lex.specs.Lexeme.{Lexeme, LName, LKeyword, LSymbol}
 use Rattle.design_rules.specs.declared.formed.NetError.{NetError}
-use Rattle.verilog_expression.specs.verilog_grammar.Grammar.{ports_lexemes, items_lexemes, design_lexemes}
+use Rattle.verilog_expression.specs.verilog_write.VerilogGrammar.Grammar.{ports_lexemes, items_lexemes, design_lexemes}
 use Rattle.design_rules.specs.Formed.{declared_fits, first_broken, last_rules, fault_at, or_else, section_fault, declared_rules, wire_rules, assign_rules, always_rules, wires_start, assigns_start, always_start, items_of, first_fault, IsWellFormed}
 use Rattle.verilog_expression.specs.declared.fault.Code.TheVariants as code
 use Rattle.verilog_expression.specs.Reads.{found, kept_if}

@@ -7,7 +7,7 @@ use Rattle.net_core.specs.Nets.{Netlist}
 use Rattle.verilog_lex.specs.declared.token.Keyword.TheVariants as keyword
 use Rattle.verilog_lex.specs.declared.token.Symbol.TheVariants as symbol
 use Rattle.verilog_lex.specs.Lexeme.{Lexeme, LName, LKeyword, LSymbol}
-use Rattle.verilog_expression.specs.verilog_grammar.Grammar.{range_lexemes, port_lexemes, text_at, ports_lexemes}
+use Rattle.verilog_expression.specs.verilog_write.VerilogGrammar.Grammar.{range_lexemes, port_lexemes, text_at, ports_lexemes}
 use Rattle.verilog_expression.specs.Reads.{Read}
 use Rattle.verilog_expression.specs.Lexemes.{lexeme_at, behind}
 use Rattle.verilog_expression.proofs.LexemeLaws.{bind_ok, same_ok, ok_so, lexeme_takes, behind_takes}

@@ -17,7 +17,7 @@ use Rattle.net_core.specs.Nets.{Netlist}
 use Rattle.net_core.specs.Names.{is_register, is_memory, place_of, name_of}
 use Rattle.net_core.specs.Width.{scope, word_fits, wire_widths, register_widths, memory_widths, input_width}
 use Rattle.net_core.proofs.WireLaws.{length_widths}
-use Rattle.verilog_expression.specs.verilog_grammar.Grammar.{text_at}
+use Rattle.verilog_expression.specs.verilog_write.VerilogGrammar.Grammar.{text_at}
 use Rattle.design_rules.specs.Formed.{declared_fits}
 use Rattle.design_rules.specs.FormedScope.{sorts}
 use Rattle.verilog_expression.specs.Laws.{IsValueNamed, IsMemoryNamed, Knows}

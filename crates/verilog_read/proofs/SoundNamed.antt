@@ -8,7 +8,7 @@ use Rattle.net_core.specs.Nets.{WireTree, Netlist}
 use Rattle.net_core.specs.Names.{name_of}
 use Rattle.net_core.specs.Width.{scope, wire_widths}
 use Rattle.verilog_lex.specs.Lexeme.{Lexeme}
-use Rattle.verilog_expression.specs.verilog_grammar.Grammar.{declared_lexemes, wire_lexemes, text_at, integer_name, all_declared, all_wires, all_assigns, all_always}
+use Rattle.verilog_expression.specs.verilog_write.VerilogGrammar.Grammar.{declared_lexemes, wire_lexemes, text_at, integer_name, all_declared, all_wires, all_assigns, all_always}
 use Rattle.design_rules.specs.Formed.{declared_fits, declared_rules, wire_rules, wires_start}
 use Rattle.design_rules.specs.FormedScope.{sorts}
 use Rattle.verilog_expression.specs.Laws.{Knows}

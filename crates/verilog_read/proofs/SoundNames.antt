@@ -8,7 +8,7 @@ use Rattle.net_core.specs.declared.design.Declared.TheVariants as declared
 use Rattle.net_core.specs.Nets.{Netlist}
 use Rattle.net_core.specs.Names.{is_integer, place_of}
 use Rattle.net_core.specs.Width.{output_width}
-use Rattle.verilog_expression.specs.verilog_grammar.Grammar.{text_at, integer_name}
+use Rattle.verilog_expression.specs.verilog_write.VerilogGrammar.Grammar.{text_at, integer_name}
 use Rattle.design_rules.specs.FormedScope.{is_output}
 use Rattle.verilog_expression.specs.declared.entry.Entry.TheVariants as entry
 use Rattle.verilog_read.specs.Entries.{entry_in}

@@ -10,7 +10,7 @@ use Rattle.net_core.specs.declared.design.Declared.{Declared}
 use Rattle.net_core.specs.declared.tree.Net.{Net}
 use Rattle.net_core.specs.Nets.{StatementTree, WireTree, AssignTree, Netlist}
 use Rattle.verilog_lex.specs.Lexeme.{Lexeme}
-use Rattle.verilog_expression.specs.verilog_grammar.Grammar.{all_declared, all_wires, all_assigns, all_always}
+use Rattle.verilog_expression.specs.verilog_write.VerilogGrammar.Grammar.{all_declared, all_wires, all_assigns, all_always}
 use Rattle.design_rules.specs.Formed.{declared_rules, wire_rules, assign_rules, always_rules, section_fault, wires_start, assigns_start, always_start}
 use Rattle.verilog_read.proofs.SoundKnows.{HasPortsOfAll, HasNames, Begins}
 

@@ -6,7 +6,7 @@ use Rattle.net_core.specs.Nets.{StatementTree, WireTree, AssignTree, Netlist}
 use Rattle.net_core.specs.Names.{name_of}
 use Rattle.net_core.specs.Width.{scope, wire_widths, register_widths, memory_widths}
 use Rattle.verilog_lex.specs.Lexeme.{Lexeme}
-use Rattle.verilog_expression.specs.verilog_grammar.Grammar.{assign_lexemes, always_lexemes, text_at, all_declared, all_wires, all_assigns, all_always}
+use Rattle.verilog_expression.specs.verilog_write.VerilogGrammar.Grammar.{assign_lexemes, always_lexemes, text_at, all_declared, all_wires, all_assigns, all_always}
 use Rattle.design_rules.specs.Formed.{assign_rules, always_rules, assigns_start, always_start}
 use Rattle.design_rules.specs.FormedScope.{sorts}
 use Rattle.verilog_expression.specs.Laws.{Knows, statement_lexemes}

@@ -3,8 +3,8 @@ use Rattle.std.proofs.Common.{◌≡◌, ◌∙◌, ℕ, List, Option, Some, Non
 use Rattle.net_core.specs.declared.design.Design.{Design}
 use Rattle.net_core.specs.Nets.{Netlist}
 use Rattle.net_core.specs.View.{netlist_of}
-use Rattle.verilog_expression.specs.verilog_grammar.Grammar.{design_lexemes}
-use Rattle.verilog_expression.specs.verilog_grammar.Spelling.{Spells}
+use Rattle.verilog_expression.specs.verilog_write.VerilogGrammar.Grammar.{design_lexemes}
+use Rattle.verilog_expression.specs.verilog_write.VerilogGrammar.Spelling.{Spells}
 use Rattle.verilog_lex.specs.declared.token.Token.{Token}
 use Rattle.verilog_lex.specs.Lexeme.{Lexeme, Lexes, lexemes_of}
 use Rattle.verilog_lex.specs.Tokens.{tokens_in}

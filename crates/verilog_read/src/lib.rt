@@ -1,4 +1,5 @@
-//! Designs from Verilog texts.
+//! The design that a text spells, or its first error and where it stands.
+//! `verilog_faults` says what a first error rests on: texts that begin alike have the same one.
 #![tactic(auto)]
 
 mod added;
@@ -15,6 +16,7 @@ mod read;
 mod section;
 mod sections;
 mod targets;
+pub mod verilog_faults;
 
 pub use crate::error::ReadError;
 pub use crate::read::read_text;

@@ -3,7 +3,7 @@
 ghost use Rattle.std.specs.Prelude.{◌≡◌, IfOk};
 ghost use Rattle.net_core.specs.Nets.{Netlist};
 ghost use Rattle.net_core.specs.View.{netlist_of};
-ghost use Rattle.verilog_expression.specs.verilog_grammar.Spelling.{Spells};
+ghost use Rattle.verilog_expression.specs.verilog_write.VerilogGrammar.Spelling.{Spells};
 ghost use Rattle.verilog_lex.specs.Lexeme.{lexemes_of};
 ghost use Rattle.verilog_expression.specs.View.{Gives, lexemes_left};
 ghost use Rattle.verilog_read.specs.Designs.{design_at, whole_at};

@@ -15,14 +15,14 @@ use Rattle.net_core.specs.Names.{is_integer, place_of, name_place}
 use Rattle.net_core.specs.Nets.{StatementTree, WireTree, AssignTree, Netlist}
 use Rattle.net_core.specs.Width.{right_width, width_of, output_width, full_scope, register_widths, memory_widths, same, word_fits, scope_before}
 use Rattle.verilog_lex.specs.Spelling.{IsName}
-use Rattle.verilog_grammar.specs.design_rules.declared.formed.NetError.{NetError}
-use Rattle.verilog_grammar.specs.design_rules.FormedSyntax.{trees_pass}
-use Rattle.verilog_grammar.specs.design_rules.FormedScope.{sorts, reads_known, is_output, registers_of, memories_of}
-use Rattle.verilog_grammar.specs.design_rules.Formed.{IsWellFormed, result_of, targets_known}
-use Rattle.verilog_grammar.specs.Grammar.{text_at, integer_name}
-use Rattle.verilog_grammar.proofs.design_rules.FormedItemLaws.{declared_kept, wire_kept, assign_kept, block_kept, last_kept}
-use Rattle.verilog_grammar.proofs.design_rules.FormedWidthLaws.{ports_listed, same_some}
-use Rattle.verilog_grammar.proofs.design_rules.FormedLaws.{name_spelled, value_named, words_named, place_of_below}
+use Rattle.design_rules.specs.declared.formed.NetError.{NetError}
+use Rattle.design_rules.specs.FormedSyntax.{trees_pass}
+use Rattle.design_rules.specs.FormedScope.{sorts, reads_known, is_output, registers_of, memories_of}
+use Rattle.design_rules.specs.Formed.{IsWellFormed, result_of, targets_known}
+use Rattle.verilog_write.specs.VerilogGrammar.Grammar.{text_at, integer_name}
+use Rattle.design_rules.proofs.FormedItemLaws.{declared_kept, wire_kept, assign_kept, block_kept, last_kept}
+use Rattle.design_rules.proofs.FormedWidthLaws.{ports_listed, same_some}
+use Rattle.design_rules.proofs.FormedLaws.{name_spelled, value_named, words_named, place_of_below}
 use Rattle.verilog_write.specs.Writable.{IsWritable, IsRightWritable, IsStatementWritable, IsDeclarationWritable}
 use Rattle.verilog_write.proofs.Words.{word_of_name}
 use Rattle.verilog_write.proofs.Written.{AreNamed, tree_written, right_written, statement_written, fits_of_word}

@@ -14,7 +14,7 @@ use Rattle.net_core.specs.Nets.{Netlist}
 use Rattle.net_core.specs.View.{tree_of, right_of, statement_of, wire_of, assign_of}
 use Rattle.verilog_lex.specs.Lexeme.{Lexeme, LSymbol}
 use Rattle.verilog_lex.specs.declared.token.Symbol.TheVariants as symbol
-use Rattle.verilog_grammar.specs.Grammar.{text_at, integer_name, register_name, memory_name, port_lexemes, declared_lexemes, wire_lexemes, assign_lexemes, always_lexemes, statement_tree_lexemes, ports_lexemes, all_declared, all_wires, all_assigns, all_always}
+use Rattle.verilog_write.specs.VerilogGrammar.Grammar.{text_at, integer_name, register_name, memory_name, port_lexemes, declared_lexemes, wire_lexemes, assign_lexemes, always_lexemes, statement_tree_lexemes, ports_lexemes, all_declared, all_wires, all_assigns, all_always}
 use Rattle.verilog_write.specs.Adds.{AddsLine}
 use Rattle.verilog_write.proofs.AddsLemmas.{line_more}
 

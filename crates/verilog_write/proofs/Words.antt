@@ -11,7 +11,7 @@ use Rattle.verilog_lex.specs.Bytes.{begins_word, is_word_byte}
 use Rattle.verilog_lex.specs.Number.{fits_size}
 use Rattle.verilog_lex.specs.Spelling.{IsName, is_word}
 use Rattle.verilog_lex.proofs.NameLaws.{IsName-underscore}
-use Rattle.verilog_grammar.specs.design_rules.FormedSyntax.{begins_name, continues_name, is_letter, is_digit, is_underscore, is_identifier, is_unreserved, is_name}
+use Rattle.design_rules.specs.FormedSyntax.{begins_name, continues_name, is_letter, is_digit, is_underscore, is_identifier, is_unreserved, is_name}
 
 pub fits_size_of : (w : Word) → Fits w → fits_size w.width w.value ≡ true
 fits_size_of w f =

@@ -8,9 +8,9 @@ use Rattle.net_core.specs.declared.tree.Net.TheVariants.{Register, Memory}
 use Rattle.net_core.specs.Nets.{Tree, TConst, TRead, TBit, TPartSelect, TMemoryWord, TUnary, TBinary, TConditional, TConcatenation, Trees, TLast, TMore, RightTree, RPlain, RQuotient, RRemainder, StatementTree, SBlock, SIf, SIfElse, SSet, SStore, StatementTrees, SEnd, SThen, Netlist}
 use Rattle.net_core.specs.Width.{Fits, Scope, const_width, width_of, parts_width, right_width, same, statement_typed, statements_typed, word_fits}
 use Rattle.net_core.proofs.WidthLaws.{memory_word_parts, unary_parts, op_parts, conditional_some, concatenation_parts}
-use Rattle.verilog_grammar.specs.design_rules.FormedSyntax.{trees_pass, all_trees_pass}
-use Rattle.verilog_grammar.specs.design_rules.FormedScope.{Sorts, reads_known, parts_known, right_known, targets_pass, all_targets_pass}
-use Rattle.verilog_grammar.proofs.design_rules.FormedWidthLaws.{same_some}
+use Rattle.design_rules.specs.FormedSyntax.{trees_pass, all_trees_pass}
+use Rattle.design_rules.specs.FormedScope.{Sorts, reads_known, parts_known, right_known, targets_pass, all_targets_pass}
+use Rattle.design_rules.proofs.FormedWidthLaws.{same_some}
 use Rattle.verilog_write.specs.Writable.{IsNamed, IsWritable, AreWritable, IsRightWritable, IsStatementWritable, AreStatementsWritable}
 
 some_if : (b : Bool) (n : ℕ) → 0 < (if b then n else 0) → (b ≡ true) × (0 < n)

@@ -8,7 +8,7 @@ use Rattle.net_core.specs.Nets.{Tree, TConst, TRead, TBit, TPartSelect, TMemoryW
 use Rattle.net_core.specs.Names.{name_of}
 use Rattle.net_core.specs.Width.{Fits}
 use Rattle.verilog_lex.specs.Spelling.{IsName}
-use Rattle.verilog_grammar.specs.Grammar.{integer_name}
+use Rattle.verilog_write.specs.VerilogGrammar.Grammar.{integer_name}
 
 abbrev pub IsNamed : Netlist → Net → Type 0
 IsNamed d n = IsName (name_of d n)

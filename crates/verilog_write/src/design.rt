@@ -2,9 +2,9 @@
 
 ghost use Rattle.std.specs.Prelude.{◌+◌, ◌∷◌, ◌++◌, [], IfOk, OnOk, codes, length};
 ghost use Rattle.net_core.specs.View.{netlist_of};
-ghost use Rattle.verilog_grammar.specs.design_rules.Formed.{IsWellFormed};
-ghost use Rattle.verilog_grammar.specs.Grammar.{all_always, all_assigns, all_declared, all_wires, items_lexemes, ports_lexemes};
-ghost use Rattle.verilog_grammar.specs.Spelling.{Spells};
+ghost use Rattle.design_rules.specs.Formed.{IsWellFormed};
+ghost use Rattle.verilog_write.specs.VerilogGrammar.Grammar.{all_always, all_assigns, all_declared, all_wires, items_lexemes, ports_lexemes};
+ghost use Rattle.verilog_write.specs.VerilogGrammar.Spelling.{Spells};
 ghost use Rattle.verilog_lex.specs.Lexeme.{LKeyword, LName, LSymbol};
 ghost use Rattle.verilog_lex.specs.declared.token.Keyword.TheVariants as keyword;
 ghost use Rattle.verilog_lex.specs.declared.token.Symbol.TheVariants as symbol;

@@ -2,7 +2,7 @@
 
 ghost use Rattle.std.specs.Prelude.{◌≤◌, ◌∷◌, [], OnOk};
 ghost use Rattle.net_core.specs.Width.{Fits};
-ghost use Rattle.verilog_grammar.specs.Grammar.{constant, fill_lexemes};
+ghost use Rattle.verilog_write.specs.VerilogGrammar.Grammar.{constant, fill_lexemes};
 ghost use Rattle.verilog_lex.specs.Lexeme.{LName, LNumber, LSymbol};
 ghost use Rattle.verilog_lex.specs.Spelling.{IsName};
 ghost use Rattle.verilog_lex.specs.declared.token.Symbol.TheVariants as symbol;

@@ -4,8 +4,8 @@ ghost use Rattle.std.specs.Prelude.{◌≡◌, ◌<◌, ◌≤◌, ◌-◌, ◌^
 ghost use Rattle.net_core.specs.Names.{name_of};
 ghost use Rattle.net_core.specs.View.{netlist_of, tree_of, right_of, statement_of};
 ghost use Rattle.net_core.specs.Width.{Fits};
-ghost use Rattle.verilog_grammar.specs.Grammar as grammar;
-ghost use Rattle.verilog_grammar.specs.Grammar.{register_name, memory_name, statement_tree_lexemes};
+ghost use Rattle.verilog_write.specs.VerilogGrammar.Grammar as grammar;
+ghost use Rattle.verilog_write.specs.VerilogGrammar.Grammar.{register_name, memory_name, statement_tree_lexemes};
 ghost use Rattle.verilog_lex.specs.Lexeme.{LKeyword, LName, LNumber, LSymbol};
 ghost use Rattle.verilog_lex.specs.Spelling.{IsName};
 ghost use Rattle.verilog_lex.specs.declared.token.Keyword.TheVariants as keyword;

@@ -4,7 +4,7 @@ ghost use Rattle.std.specs.Prelude.{◌≡◌, ◌+◌, ◌<◌, ◌≤◌, [], 
 ghost use Rattle.std.proofs.Common.{get_or};
 ghost use Rattle.net_core.specs.Names as net_names;
 ghost use Rattle.net_core.specs.View.{netlist_of};
-ghost use Rattle.verilog_grammar.specs.Grammar as grammar;
+ghost use Rattle.verilog_write.specs.VerilogGrammar.Grammar as grammar;
 ghost use Rattle.verilog_lex.specs.Spelling.{IsName};
 ghost use Rattle.verilog_write.specs.Places.{ArePlaces};
 ghost use Rattle.verilog_write.specs.Sorts as sorts;

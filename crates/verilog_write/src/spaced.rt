@@ -1,7 +1,7 @@
 //! Symbols with spaces around them, and ranges.
 
 ghost use Rattle.std.specs.Prelude.{◌<◌, ◌≤◌, ◌∷◌, [], List, OnOk};
-ghost use Rattle.verilog_grammar.specs.Grammar.{range_lexemes};
+ghost use Rattle.verilog_write.specs.VerilogGrammar.Grammar.{range_lexemes};
 ghost use Rattle.verilog_lex.specs.Lexeme.{LNumber, LSymbol, Lexeme};
 ghost use Rattle.verilog_lex.specs.Spelling.{IsClosed};
 ghost use Rattle.verilog_lex.specs.declared.token.Symbol.TheVariants as symbol;

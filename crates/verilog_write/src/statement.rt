@@ -4,7 +4,7 @@ ghost use Rattle.std.specs.Prelude.{◌∷◌, ◌++◌, [], OnOk};
 ghost use Rattle.net_core.specs.Names.{name_of};
 ghost use Rattle.net_core.specs.View.{netlist_of, tree_of, statement_of, statements_of};
 ghost use Rattle.net_core.specs.declared.tree.Net.TheVariants.{Register, Memory};
-ghost use Rattle.verilog_grammar.specs.Grammar.{register_name, memory_name, tree_lexemes, statement_tree_lexemes, statement_trees_lexemes};
+ghost use Rattle.verilog_write.specs.VerilogGrammar.Grammar.{register_name, memory_name, tree_lexemes, statement_tree_lexemes, statement_trees_lexemes};
 ghost use Rattle.verilog_lex.specs.Lexeme.{LKeyword, LName, LSymbol};
 ghost use Rattle.verilog_lex.specs.declared.token.Keyword.TheVariants as keyword;
 ghost use Rattle.verilog_lex.specs.declared.token.Symbol.TheVariants as symbol;

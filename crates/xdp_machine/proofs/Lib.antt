@@ -1,3 +1,4 @@
+pub use Rattle.bpf_isa.proofs as bpf_isa_laws
 pub use Rattle.xdp_maps.proofs as xdp_maps_laws
 pub mod ChangeLaws
 pub mod RunLaws

@@ -1,4 +1,4 @@
-pub use Rattle.xdp_machine.proofs as xdp_machine
+pub use Rattle.bpf_isa.proofs as bpf_isa_laws
 pub mod FaultLaws
 pub mod Layouts
 pub mod MapLayouts

@@ -23,10 +23,10 @@ use Rattle.elf_view.specs.Layout.{base_headers, headers_at, map_headers, map_nam
 use Rattle.elf_view.proofs.LengthLaws.{length-elf_header, length-record_bytes, length-records, length-text, small_object}
 use Rattle.elf_view.proofs.NoErrorLaws.{section_at-place}
 use Rattle.elf_view.proofs.OpenLaws.{read_head, read_two}
-use Rattle.map_records.specs.declared.fault.MapRule.TheVariants.{Entries, Key, Many, Name, Record, Value}
-use Rattle.map_records.specs.Declarations.{capacity, declared, declared_unless}
-use Rattle.map_records.specs.Variables.{variable_fields}
-use Rattle.map_records.specs.Records.{record_fields, words_alone}
+use Rattle.xdp_object.specs.declared.map_records.fault.MapRule.TheVariants.{Entries, Key, Many, Name, Record, Value}
+use Rattle.xdp_object.specs.MapRecords.Declarations.{capacity, declared, declared_unless}
+use Rattle.xdp_object.specs.MapRecords.Variables.{variable_fields}
+use Rattle.xdp_object.specs.MapRecords.Records.{record_fields, words_alone}
 use Rattle.xdp_maps.specs.Contents.{IsWithinLimits}
 use Rattle.xdp_maps.specs.declared.decl.MapDecl.{MapDecl}
 use Rattle.xdp_maps.specs.declared.decl.MapKind.{MapKind}

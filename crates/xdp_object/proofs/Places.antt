@@ -21,7 +21,7 @@ use Rattle.xdp_object.specs.Relocations.{both, is_map_relocation, is_map_symbol,
 use Rattle.xdp_object.proofs.Opened.{and_right}
 use Rattle.xdp_object.proofs.FaultLaws.{first_there, option_or-assoc}
 use Rattle.elf_view.specs.list_laws.Firsts.{first_from}
-use Rattle.elf_view.proofs.list_laws.FirstLaws.{first_from-next}
+use Rattle.btf_view.proofs.list_laws_laws.FirstLaws.{first_from-next}
 
 both-none : (a : Relocated) → both a Untouched ≡ a
 both-none Untouched = refl

@@ -20,7 +20,7 @@ use Rattle.xdp_object.specs.Maps.{AreMaps, IsNameIn, MapTable, all_referred, car
 use Rattle.xdp_object.specs.Relocations.{Reference, first_unknown, is_load, reference_by, references, references_from, said_at, unknown_at, unknown_by}
 use Rattle.xdp_object.proofs.NumberLaws.{AllLoads, Loads, numbered_legal, numbered_refers, numbered_units, refs_all, refs_rising}
 use Rattle.xdp_object.proofs.Opened.{none_if_true}
-use Rattle.elf_view.proofs.list_laws.FirstLaws.{none-first_from}
+use Rattle.btf_view.proofs.list_laws_laws.FirstLaws.{none-first_from}
 
 -- ---- one more map
 

@@ -38,7 +38,7 @@ use Rattle.xdp_object.proofs.ReadLaws.{Sole, has_code, is_object}
 use Rattle.xdp_object.proofs.Referring.{AreNext, Ascend, Counts, IsSaid, places_again, refer, references_are, said_behind, said_by, said_is, says, table, table_is}
 use Rattle.xdp_object.proofs.Strings.{Letters}
 use Rattle.xdp_object.proofs.TableLaws.{LoadAt}
-use Rattle.elf_view.proofs.list_laws.FirstLaws.{first_from-none}
+use Rattle.btf_view.proofs.list_laws_laws.FirstLaws.{first_from-none}
 
 -- ---- sections that relocate nothing
 

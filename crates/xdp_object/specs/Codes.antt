@@ -4,7 +4,7 @@ use Rattle.btf_view.specs.declared.error.BtfError.{BtfError}
 use Rattle.btf_view.specs.declared.error.BtfError.TheVariants as btf
 use Rattle.elf_view.specs.declared.error.ElfError.{ElfError}
 use Rattle.elf_view.specs.declared.error.ElfError.TheVariants.{Short, Header, Machine, Section, At}
-use Rattle.map_records.specs.Rules.{number_of}
+use Rattle.xdp_object.specs.MapRecords.Rules.{number_of}
 use Rattle.xdp_object.specs.declared.error.ObjectError.{ObjectError}
 use Rattle.xdp_object.specs.declared.error.ObjectError.TheVariants.{Elf, NoProgram, ManyPrograms, Relocation, Map, Btf, Odd, Bad, Long, NoMemory}
 

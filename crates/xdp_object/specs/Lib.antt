@@ -2,13 +2,6 @@ pub use Rattle.bpf_isa.specs as bpf_isa
 pub use Rattle.xdp_machine.specs as xdp_machine
 pub use Rattle.xdp_maps.specs as xdp_maps
 -- the program and its sequential machine, which an object is read to
-pub use Rattle.xdp_machine.specs.Program
-pub use Rattle.xdp_machine.specs.Values
-pub use Rattle.xdp_machine.specs.State
-pub use Rattle.xdp_machine.specs.Step
-pub use Rattle.xdp_machine.specs.Helpers
-pub use Rattle.xdp_machine.specs.Runs
-pub use Rattle.xdp_machine.specs.Touched
 pub mod TwoUnits
 pub mod Choice
 pub mod Functions
@@ -17,3 +10,4 @@ pub mod Maps
 pub mod Object
 pub mod Codes
 pub mod Laws
+pub mod MapRecords

@@ -7,13 +7,13 @@ use Rattle.bpf_isa.specs.declared.instruction.Insn.{Insn}
 use Rattle.bpf_isa.specs.Spelling.{units_of}
 use Rattle.btf_view.specs.declared.fields.MapFields.{MapFields}
 use Rattle.elf_view.specs.File.{e_shnum, section_bytes}
-use Rattle.map_records.specs.declared.fault.MapFault.{MapFault}
-use Rattle.map_records.specs.declared.fault.MapFault.TheVariants.{Rule, Btf as BtfFault}
-use Rattle.map_records.specs.declared.fault.MapRule.{MapRule}
-use Rattle.map_records.specs.declared.fault.MapRule.TheVariants.{Many, Name}
-use Rattle.map_records.specs.Declarations.{declared}
-use Rattle.map_records.specs.Records.{record_fields}
-use Rattle.map_records.specs.Variables.{variable_fields}
+use Rattle.xdp_object.specs.declared.map_records.fault.MapFault.{MapFault}
+use Rattle.xdp_object.specs.declared.map_records.fault.MapFault.TheVariants.{Rule, Btf as BtfFault}
+use Rattle.xdp_object.specs.declared.map_records.fault.MapRule.{MapRule}
+use Rattle.xdp_object.specs.declared.map_records.fault.MapRule.TheVariants.{Many, Name}
+use Rattle.xdp_object.specs.MapRecords.Declarations.{declared}
+use Rattle.xdp_object.specs.MapRecords.Records.{record_fields}
+use Rattle.xdp_object.specs.MapRecords.Variables.{variable_fields}
 use Rattle.xdp_maps.specs.declared.decl.MapDecl.{MapDecl}
 use Rattle.xdp_machine.specs.Program.{IsDeclaration, is_name_byte}
 use Rattle.xdp_object.specs.declared.error.ObjectError.{ObjectError}

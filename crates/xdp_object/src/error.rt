@@ -1,8 +1,8 @@
 //! Why bytes are no object of one program.
 
+use crate::map_records::MapRule;
 use btf_view::BtfError;
 use elf_view::ElfError;
-use map_records::MapRule;
 use std::alloc::{AllocError, AllocFailed};
 use thiserror::Error;
 

@@ -1,4 +1,5 @@
-//! Programs, and which objects are one.
+//! Which bytes are an object with an XDP program, and the program with its maps, or the first fault of others.
+//! `map_records` has the declaration of a map from what an object says of it.
 #![tactic(auto)]
 
 mod choice;
@@ -6,6 +7,7 @@ mod code;
 mod error;
 mod functions;
 pub mod laws;
+pub mod map_records;
 mod maps;
 mod numbers;
 mod parts;

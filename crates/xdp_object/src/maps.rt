@@ -10,12 +10,12 @@ ghost use Rattle.xdp_object.specs.Relocations.{is_map_symbol};
 
 use crate::error::ObjectError;
 use crate::functions::symbol_name;
+use crate::map_records::{MapFault, MapRule, declare, record_fields, variable_fields};
 use crate::parts::{is_map_name, is_taken};
 use crate::relocated::Relocated;
 use crate::relocations::has_name;
 use btf_view::MapFields;
 use elf_view::ElfView;
-use map_records::{MapFault, MapRule, declare, record_fields, variable_fields};
 use std::alloc::Global;
 use std::marker::Model;
 use xdp_maps::decl::MapDecl;

@@ -1,7 +1,7 @@
 -- What an answer says of sizes.
 use Rattle.std.proofs.Common.{◌≡◌, ℕ, List, Ok, Err, sym, ◌∙◌, ap}
 use Rattle.std.specs.Prelude.{Result}
-use Rattle.xdp_maps.specs.State.{MapState}
+use Rattle.xdp_state.specs.xdp_maps.State.{MapState}
 use Rattle.xdp_state.specs.xdp_machine.Runs.{Progress}
 use Rattle.xdp_state.specs.xdp_machine.MachineLaws.{frame_so_far, maps_so_far}
 use Rattle.xdp_seq.specs.declared.run.Ended.{Ended}

@@ -1,11 +1,11 @@
 -- Which instruction begins at a place, by the units.
 use Rattle.std.proofs.Common.{Bor, ◌≡◌, ℕ, zero, suc, ◌-◌, ◌^◌, ◌<◌, List, [], ◌∷◌, ◌++◌, replicate, Some, None, refl, sym, ◌∙◌, ap, subst}
 use Rattle.std.specs.Prelude.{Option, IfSome, option_copied, All}
-use Rattle.bpf_isa.specs.declared.instruction.Insn.{Insn}
-use Rattle.bpf_isa.specs.Spelling.{units_of, IsInsn}
-use Rattle.bpf_isa.specs.Text.{insn_at, unit_count}
-use Rattle.bpf_isa.specs.Laid.{laid}
-use Rattle.bpf_isa.proofs.LaidLaws.{insn_at-laid, legal_at, length-laid}
+use Rattle.xdp_state.specs.bpf_isa.declared.instruction.Insn.{Insn}
+use Rattle.xdp_state.specs.bpf_isa.Spelling.{units_of, IsInsn}
+use Rattle.xdp_state.specs.bpf_isa.Text.{insn_at, unit_count}
+use Rattle.xdp_state.specs.bpf_isa.Laid.{laid}
+use Rattle.xdp_object.proofs.bpf_isa_laws.LaidLaws.{insn_at-laid, legal_at, length-laid}
 use Rattle.xdp_seq.specs.Units.{insns_of, unit_at, AreUnits}
 
 -- which instruction begins at a place

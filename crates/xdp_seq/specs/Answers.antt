@@ -1,6 +1,6 @@
 -- What the run of a packet answers.
 use Rattle.std.specs.Prelude.{ℕ, ◌≡◌, List, Result, Ok, Err}
-use Rattle.xdp_maps.specs.State.{MapState}
+use Rattle.xdp_state.specs.xdp_maps.State.{MapState}
 use Rattle.xdp_state.specs.xdp_machine.State.{Machine}
 use Rattle.xdp_state.specs.xdp_machine.Runs.{Progress, Ended as AtEnd, Stuck as AtStuck, Going}
 use Rattle.xdp_seq.specs.declared.run.Ended.{Ended}

@@ -1,8 +1,8 @@
 -- Instructions by their units.
 use Rattle.std.specs.Prelude.{ℕ, ◌≡◌, ◌^◌, ◌<◌, List, [], ◌∷◌, length, slice_index_or, All, Option, Some, None}
-use Rattle.bpf_isa.specs.declared.instruction.Insn.{Insn}
-use Rattle.bpf_isa.specs.Spelling.{IsInsn}
-use Rattle.bpf_isa.specs.Laid.{laid}
+use Rattle.xdp_state.specs.bpf_isa.declared.instruction.Insn.{Insn}
+use Rattle.xdp_state.specs.bpf_isa.Spelling.{IsInsn}
+use Rattle.xdp_state.specs.bpf_isa.Laid.{laid}
 use Rattle.xdp_state.specs.xdp_machine.State.{Code}
 
 -- the instructions of units

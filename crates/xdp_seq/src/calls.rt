@@ -1,15 +1,15 @@
 // Calls of helpers.
 
 ghost use Rattle.std.specs.Prelude.{◌≡◌, ℕ, List};
-ghost use Rattle.xdp_maps.specs.State.{MapState};
+ghost use Rattle.xdp_state.specs.xdp_maps.State.{MapState};
 ghost use Rattle.xdp_state.specs.xdp_machine.Values as seen;
 ghost use Rattle.xdp_state.specs.xdp_machine.Helpers.{lookup, update, delete, packet_time, redirect, called};
 ghost use Rattle.xdp_state.specs.Views.{value_of};
 ghost use Rattle.xdp_state.specs.Cases.{Makes};
 ghost use Rattle.xdp_state.specs.Machines.{machine_of};
 
-use beat_core::Frame;
-use xdp_maps::state::Maps;
+use xdp_state::beat_core::Frame;
+use xdp_state::xdp_maps::state::Maps;
 use xdp_state::{Key, State, Value, declared, fill, number_in};
 
 /// XDP_REDIRECT of linux/bpf.h.

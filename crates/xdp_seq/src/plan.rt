@@ -1,22 +1,22 @@
 // Programs that are ready to run.
 
 ghost use Rattle.std.specs.Prelude.{◌≡◌, ◌-◌, ◌∷◌, ◌++◌, length, replicate, Some, None, IfOk, OnOk};
-ghost use Rattle.bpf_isa.specs.declared.instruction.Insn.{Insn};
-ghost use Rattle.bpf_isa.specs.Spelling.{units_of};
-ghost use Rattle.bpf_isa.specs.Laid.{laid};
+ghost use Rattle.xdp_state.specs.bpf_isa.declared.instruction.Insn.{Insn};
+ghost use Rattle.xdp_state.specs.bpf_isa.Spelling.{units_of};
+ghost use Rattle.xdp_state.specs.bpf_isa.Laid.{laid};
 ghost use Rattle.xdp_state.specs.xdp_machine.State.{start};
 ghost use Rattle.xdp_state.specs.xdp_machine.Program.{program_code};
 ghost use Rattle.xdp_state.specs.xdp_machine.Runs.{run};
 ghost use Rattle.xdp_seq.specs.Answers.{Answers};
 
 use crate::run::{Ended, STEP_LIMIT, SeqError, run};
-use beat_core::{Frame, Meta};
-use bpf_isa::Insn;
 use std::alloc::{AllocError, Global};
 use std::marker::Model;
-use xdp_maps::state::Maps;
 use xdp_object::Program;
 use xdp_state::State;
+use xdp_state::beat_core::{Frame, Meta};
+use xdp_state::bpf_isa::Insn;
+use xdp_state::xdp_maps::state::Maps;
 
 /// A program that is ready to run, and the state of its machine. Contracts see its code.
 #[derive(Drop)]

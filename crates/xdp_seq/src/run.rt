@@ -8,10 +8,10 @@ ghost use Rattle.xdp_seq.specs.Answers.{Answers};
 
 use crate::flow::Flow;
 use crate::step::step;
-use beat_core::Frame;
-use bpf_isa::Insn;
-use xdp_maps::state::Maps;
 use xdp_state::State;
+use xdp_state::beat_core::Frame;
+use xdp_state::bpf_isa::Insn;
+use xdp_state::xdp_maps::state::Maps;
 
 /// The most instructions of one run.
 pub const STEP_LIMIT: u32 = 1_048_576;

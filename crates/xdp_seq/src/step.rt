@@ -4,9 +4,9 @@ ghost use Rattle.std.specs.Prelude.{◌≡◌, ◌+◌, ◌<◌, ◌≤◌, ◌^
 ghost use Rattle.std.specs.Int.{w32};
 ghost use Rattle.std.specs.List.{list_any};
 ghost use Rattle.std.specs.Option.{option_copied, option_map};
-ghost use Rattle.bpf_isa.specs.Text.{insn_at};
-ghost use Rattle.bpf_isa.specs.Spelling.{IsInsn, units_of};
-ghost use Rattle.xdp_maps.specs.State.{MapState};
+ghost use Rattle.xdp_state.specs.bpf_isa.Text.{insn_at};
+ghost use Rattle.xdp_state.specs.bpf_isa.Spelling.{IsInsn, units_of};
+ghost use Rattle.xdp_state.specs.xdp_maps.State.{MapState};
 ghost use Rattle.xdp_state.specs.xdp_machine.Values as seen;
 ghost use Rattle.xdp_state.specs.xdp_machine.State.{Machine, begins, register};
 ghost use Rattle.xdp_state.specs.xdp_machine.Pointers.{compared};
@@ -19,9 +19,9 @@ ghost use Rattle.xdp_seq.specs.Flows.{Flows};
 
 use crate::calls::call;
 use crate::flow::Flow;
-use beat_core::Frame;
-use bpf_isa::{Insn, JumpCode, Op, Src, Width};
-use xdp_maps::state::Maps;
+use xdp_state::beat_core::Frame;
+use xdp_state::bpf_isa::{Insn, JumpCode, Op, Src, Width};
+use xdp_state::xdp_maps::state::Maps;
 use xdp_state::{
     State, Value, alu, assign, atomic, immediate, loaded_plain, loaded_signed, number_in, store,
     taken,

@@ -3,9 +3,9 @@
 use crate::cases::bytes::Named;
 use crate::cases::numbers::number_32;
 use anyhow::{Result, ensure};
-use bpf_isa::{Insn, decode_all};
+use row_plan::cell_core::xdp_state::bpf_isa::{Insn, decode_all};
+use row_plan::cell_core::xdp_state::xdp_maps::decl::MapDecl;
 use std::alloc::{AllocError, Global};
-use xdp_maps::decl::MapDecl;
 use xdp_object::Program;
 
 /// The code of a program, with a hole or without, and its references to maps.

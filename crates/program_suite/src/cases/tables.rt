@@ -3,12 +3,12 @@
 use crate::cases::numbers::{front, number_32};
 use anyhow::{Context, Result, bail, ensure};
 use maps_text::{MapsError, read_maps_text, write_maps_text};
+use row_plan::cell_core::xdp_state::xdp_maps::decl::{MapDecl, MapKind};
+use row_plan::cell_core::xdp_state::xdp_maps::short::ShortBytes;
+use row_plan::cell_core::xdp_state::xdp_maps::state::Maps;
 use std::alloc::Global;
 use std::fmt::Write;
 use std::str;
-use xdp_maps::decl::{MapDecl, MapKind};
-use xdp_maps::short::ShortBytes;
-use xdp_maps::state::Maps;
 
 /// The maps of a case.
 #[derive(Drop)]

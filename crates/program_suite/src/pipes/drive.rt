@@ -1,8 +1,8 @@
 //! Drives of a pipe.
 
 ghost use Rattle.std.specs.Prelude.{◌≡◌, ◌<◌, ◌^◌, length};
-ghost use Rattle.cell_core.specs.Formed.{AllFit, AreFormed, AreSited};
-ghost use Rattle.cell_core.specs.View.{program_of};
+ghost use Rattle.row_rules.specs.cell_core.Formed.{AllFit, AreFormed, AreSited};
+ghost use Rattle.row_rules.specs.cell_core.View.{program_of};
 ghost use Rattle.pipe_core.specs.Planned.{IsUsable};
 ghost use Rattle.predicate_core.specs.Buildable.{IsBuildable};
 ghost use Rattle.row_plan.specs.Plan.{IsPlan};
@@ -11,12 +11,12 @@ use crate::cases::tables::push_maps;
 use crate::packets::push_left;
 use crate::pipes::ways::{Offer, Way, offers_of};
 use anyhow::{Context, Result, ensure};
-use cell_core::program::{CellProgram, PacketIn};
 use pipe_core::pipe::Pipe;
 use pipe_core::ports::{In, Out};
 use row_plan::RowPlan;
+use row_plan::cell_core::program::{CellProgram, PacketIn};
+use row_plan::cell_core::xdp_state::xdp_maps::state::Maps;
 use std::alloc::Global;
-use xdp_maps::state::Maps;
 
 /// The most clocks of a drive.
 const CLOCKS: u64 = 1_000_000;

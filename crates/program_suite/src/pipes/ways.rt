@@ -1,9 +1,9 @@
 //! Ways to drive a pipe.
 
 use anyhow::Result;
-use beat_core::{Beat, beats_of};
-use cell_core::program::PacketIn;
 use pipe_core::ports::In;
+use row_plan::cell_core::program::PacketIn;
+use row_plan::cell_core::xdp_state::beat_core::{Beat, beats_of};
 use std::alloc::Global;
 
 /// A beat, and what comes beside it.

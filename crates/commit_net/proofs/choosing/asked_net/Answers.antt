@@ -1,10 +1,10 @@
 use Rattle.std.proofs.Common.{◌≡◌, ◌∙◌, ◌++◌, All, length, map, sym, ap, subst, arith}
 use Rattle.std.proofs.lemmas.List.{length-map}
-use Rattle.cell_core.specs.Cells.{bits_from}
-use Rattle.site_operands.specs.cell_nets.Operands.{IsOperand, IsAvailable}
-use Rattle.site_operands.specs.cell_nets.Wires.{wires_of, always}
+use Rattle.overlay_net.specs.cell_core.Cells.{bits_from}
+use Rattle.overlay_net.specs.cell_nets.Operands.{IsOperand, IsAvailable}
+use Rattle.overlay_net.specs.cell_nets.Wires.{wires_of, always}
 use Rattle.commit_net.specs.Choosing.{asked_of, chosen_of, picked, all_read}
-use Rattle.operand_blocks.proofs.step_nets_laws.ChainLaws.{starts, last}
+use Rattle.overlay_net.proofs.cell_nets_laws.StepNets.ChainLaws.{starts, last}
 use Rattle.commit_net.proofs.ChooseLemmas.{each_chosen, each_asked, asks_there}
 use Rattle.commit_net.proofs.choosing.asked_net.Goals as goal
 

@@ -1,11 +1,11 @@
 use Rattle.std.proofs.Common.{◌∙◌, sym, ap}
-use Rattle.cell_core.specs.Cells.{bit, bits_from}
-use Rattle.cell_core.specs.Sites.{site_at}
-use Rattle.site_operands.specs.cell_nets.Wires.{wires_of}
-use Rattle.hash_net.specs.array_net.hazard_core.Held.{is_delete}
+use Rattle.overlay_net.specs.cell_core.Cells.{bit, bits_from}
+use Rattle.overlay_net.specs.cell_core.Sites.{site_at}
+use Rattle.overlay_net.specs.cell_nets.Wires.{wires_of}
+use Rattle.overlay_net.specs.hazard_core.Held.{is_delete}
 use Rattle.commit_net.specs.Choosing.{all_read, IsChosen}
 use Rattle.commit_net.specs.declared.choosing.Asked.TheVariants.{Delete}
-use Rattle.operand_blocks.proofs.step_nets_laws.ChainLaws.{starts, last}
+use Rattle.overlay_net.proofs.cell_nets_laws.StepNets.ChainLaws.{starts, last}
 use Rattle.commit_net.proofs.ChooseLemmas.{asked_picked, known_bit}
 use Rattle.commit_net.proofs.choosing.delete_net.Goals as goal
 

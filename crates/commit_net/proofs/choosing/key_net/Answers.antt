@@ -1,15 +1,15 @@
 use Rattle.std.proofs.Common.{◌≡◌, ◌∙◌, ◌≤◌, length, ap, subst}
-use Rattle.cell_core.specs.Cells.{bits_from}
-use Rattle.cell_core.specs.Sites.{site_at}
-use Rattle.site_operands.specs.cell_nets.declared.operand.Operand.TheVariants.{Net}
-use Rattle.site_operands.specs.cell_nets.Wires.{wires_of, Gives}
-use Rattle.hash_net.specs.array_net.hazard_core.Tables.{decl_of}
-use Rattle.hash_net.specs.array_net.hazard_core.Commits.{word_at, word_count}
-use Rattle.hash_net.specs.array_net.hazard_core.Held.{asked_key}
+use Rattle.overlay_net.specs.cell_core.Cells.{bits_from}
+use Rattle.overlay_net.specs.cell_core.Sites.{site_at}
+use Rattle.overlay_net.specs.cell_nets.declared.operand.Operand.TheVariants.{Net}
+use Rattle.overlay_net.specs.cell_nets.Wires.{wires_of, Gives}
+use Rattle.overlay_net.specs.hazard_core.Tables.{decl_of}
+use Rattle.overlay_net.specs.hazard_core.Commits.{word_at, word_count}
+use Rattle.overlay_net.specs.hazard_core.Held.{asked_key}
 use Rattle.hash_net.specs.array_net.Words.{word_width}
 use Rattle.commit_net.specs.Choosing.{all_read, Commits}
 use Rattle.commit_net.specs.declared.choosing.Asked.TheVariants.{Key}
-use Rattle.operand_blocks.proofs.step_nets_laws.ChainLaws.{starts, last}
+use Rattle.overlay_net.proofs.cell_nets_laws.StepNets.ChainLaws.{starts, last}
 use Rattle.commit_net.proofs.ChooseLemmas.{asked_picked, key_word, key_long, asked_key_is}
 use Rattle.commit_net.proofs.choosing.key_net.Goals as goal
 

@@ -1,11 +1,11 @@
 use Rattle.std.proofs.Common.{◌≡◌, ◌∙◌, ◌∷◌, [], ◌++◌, All, map, sym, ap, subst, arith}
-use Rattle.cell_core.specs.Cells.{bits_from, phi}
-use Rattle.site_operands.specs.cell_nets.Operands.{number_in, IsOperand, IsAvailable}
-use Rattle.site_operands.specs.cell_nets.Wires.{wires_of, always}
-use Rattle.operand_blocks.proofs.cell_nets.ShiftLemmas.{cut_low}
+use Rattle.overlay_net.specs.cell_core.Cells.{bits_from, phi}
+use Rattle.overlay_net.specs.cell_nets.Operands.{number_in, IsOperand, IsAvailable}
+use Rattle.overlay_net.specs.cell_nets.Wires.{wires_of, always}
+use Rattle.overlay_net.proofs.cell_nets_laws.ShiftLemmas.{cut_low}
 use Rattle.commit_net.specs.Choosing.{chosen_of, paired, picked}
-use Rattle.operand_blocks.proofs.step_nets_laws.ChainLaws.{starts, next, last}
-use Rattle.operand_blocks.proofs.step_nets_laws.StepLaws.{no_packet, all_each}
+use Rattle.overlay_net.proofs.cell_nets_laws.StepNets.ChainLaws.{starts, next, last}
+use Rattle.overlay_net.proofs.cell_nets_laws.StepNets.StepLaws.{no_packet, all_each}
 use Rattle.commit_net.proofs.ChooseLemmas.{all_paired, pairs_there}
 use Rattle.commit_net.proofs.choosing.select.Goals as goal
 

@@ -1,11 +1,11 @@
 use Rattle.std.proofs.Common.{◌∙◌, ◌^◌, ◌<◌, ap}
-use Rattle.cell_core.specs.Cells.{bits_from}
-use Rattle.site_operands.specs.cell_nets.Wires.{wires_of}
-use Rattle.hash_net.specs.array_net.hazard_core.Commits.{written_slot}
+use Rattle.overlay_net.specs.cell_core.Cells.{bits_from}
+use Rattle.overlay_net.specs.cell_nets.Wires.{wires_of}
+use Rattle.overlay_net.specs.hazard_core.Commits.{written_slot}
 use Rattle.commit_net.specs.Choosing.{all_read, Commits}
 use Rattle.commit_net.specs.declared.choosing.Asked.TheVariants.{Slot}
-use Rattle.operand_blocks.proofs.step_nets_laws.ChainLaws.{starts, last}
-use Rattle.operand_blocks.proofs.step_nets_laws.StepLaws.{small_bits}
+use Rattle.overlay_net.proofs.cell_nets_laws.StepNets.ChainLaws.{starts, last}
+use Rattle.overlay_net.proofs.cell_nets_laws.StepNets.StepLaws.{small_bits}
 use Rattle.commit_net.proofs.ChooseLemmas.{asked_picked}
 use Rattle.commit_net.proofs.choosing.slot_net.Goals as goal
 

@@ -1,12 +1,12 @@
 use Rattle.std.specs.Prelude.{if◌then◌else◌, slice_index}
 use Rattle.std.proofs.Common.{◌≡◌, ◌∙◌, ◌^◌, ◌<◌, [], ◌∷◌, ap, arith}
-use Rattle.cell_core.specs.Cells.{on, bits_from}
-use Rattle.hash_net.specs.array_net.hazard_core.Commits.{taken_after}
-use Rattle.site_operands.specs.cell_nets.Operands.{number_in}
-use Rattle.site_operands.specs.cell_nets.Wires.{wires_of}
+use Rattle.overlay_net.specs.cell_core.Cells.{on, bits_from}
+use Rattle.overlay_net.specs.hazard_core.Commits.{taken_after}
+use Rattle.overlay_net.specs.cell_nets.Operands.{number_in}
+use Rattle.overlay_net.specs.cell_nets.Wires.{wires_of}
 use Rattle.commit_net.specs.Taking.{ShowsTaking}
-use Rattle.operand_blocks.proofs.step_nets_laws.ChainLaws.{starts, last}
-use Rattle.operand_blocks.proofs.step_nets_laws.StepLaws.{small_bits}
+use Rattle.overlay_net.proofs.cell_nets_laws.StepNets.ChainLaws.{starts, last}
+use Rattle.overlay_net.proofs.cell_nets_laws.StepNets.StepLaws.{small_bits}
 use Rattle.commit_net.proofs.TakingLemmas.{taken_is}
 use Rattle.commit_net.proofs.taken.slot_taken.Goals as goal
 

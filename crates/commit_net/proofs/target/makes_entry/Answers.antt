@@ -1,14 +1,14 @@
 use Rattle.std.proofs.Common.{◌≡◌, ◌∙◌, ◌+◌, ◌*◌, ◌==◌, ◌&&◌, [], ◌∷◌, sym, ap, arith}
-use Rattle.cell_core.specs.Cells.{bit}
-use Rattle.hash_net.specs.array_net.hazard_core.declared.pointer.Pointer.TheVariants.{Pending}
-use Rattle.hash_net.specs.array_net.hazard_core.Held.{same_pointer, is_update, written_pointer}
-use Rattle.hash_net.specs.array_net.hazard_core.Commits.{makes_entry}
-use Rattle.site_operands.specs.cell_nets.declared.operand.Operand.TheVariants.{Known}
-use Rattle.site_operands.specs.cell_nets.Operands.{number_in, IsAvailable}
-use Rattle.site_operands.specs.cell_nets.Wires.{wires_of}
+use Rattle.overlay_net.specs.cell_core.Cells.{bit}
+use Rattle.overlay_net.specs.hazard_core.declared.pointer.Pointer.TheVariants.{Pending}
+use Rattle.overlay_net.specs.hazard_core.Held.{same_pointer, is_update, written_pointer}
+use Rattle.overlay_net.specs.hazard_core.Commits.{makes_entry}
+use Rattle.overlay_net.specs.cell_nets.declared.operand.Operand.TheVariants.{Known}
+use Rattle.overlay_net.specs.cell_nets.Operands.{number_in, IsAvailable}
+use Rattle.overlay_net.specs.cell_nets.Wires.{wires_of}
 use Rattle.commit_net.specs.Targets.{ShowsWritten}
-use Rattle.operand_blocks.proofs.step_nets_laws.ChainLaws.{starts, last, ends}
-use Rattle.operand_blocks.proofs.step_nets_laws.StepLaws.{all_each}
+use Rattle.overlay_net.proofs.cell_nets_laws.StepNets.ChainLaws.{starts, last, ends}
+use Rattle.overlay_net.proofs.cell_nets_laws.StepNets.StepLaws.{all_each}
 use Rattle.commit_net.proofs.TargetLemmas.{pending_test, no_update}
 use Rattle.commit_net.proofs.target.makes_entry.Goals as goal
 

@@ -2,16 +2,16 @@ use Rattle.std.specs.Prelude.{if◌then◌else◌, fold}
 use Rattle.std.proofs.Common.{◌≡◌, ◌∙◌, suc, ◌+◌, ◌*◌, ◌==◌, [], ◌∷◌, take, refl, sym, ap, arith}
 use Rattle.std.proofs.lemmas.List.{take_all}
 use Rattle.std.proofs.lemmas.List.Sums.{fold_more}
-use Rattle.cell_core.specs.Cells.{on, bits_from}
-use Rattle.cell_core.specs.Sites.{site_at}
-use Rattle.hash_net.specs.array_net.hazard_core.Tables.{table_at}
-use Rattle.hash_net.specs.array_net.hazard_core.Held.{written_pointer}
-use Rattle.hash_net.specs.array_net.hazard_core.Commits.{written_slot}
-use Rattle.site_operands.specs.cell_nets.Operands.{number_in, IsOperand, IsAvailable}
-use Rattle.site_operands.specs.cell_nets.Wires.{wires_of, always}
+use Rattle.overlay_net.specs.cell_core.Cells.{on, bits_from}
+use Rattle.overlay_net.specs.cell_core.Sites.{site_at}
+use Rattle.overlay_net.specs.hazard_core.Tables.{table_at}
+use Rattle.overlay_net.specs.hazard_core.Held.{written_pointer}
+use Rattle.overlay_net.specs.hazard_core.Commits.{written_slot}
+use Rattle.overlay_net.specs.cell_nets.Operands.{number_in, IsOperand, IsAvailable}
+use Rattle.overlay_net.specs.cell_nets.Wires.{wires_of, always}
 use Rattle.commit_net.specs.Targets.{slots_of, ShowsTarget}
-use Rattle.operand_blocks.proofs.step_nets_laws.ChainLaws.{starts, next, last}
-use Rattle.operand_blocks.proofs.step_nets_laws.StepLaws.{all_each}
+use Rattle.overlay_net.proofs.cell_nets_laws.StepNets.ChainLaws.{starts, next, last}
+use Rattle.overlay_net.proofs.cell_nets_laws.StepNets.StepLaws.{all_each}
 use Rattle.commit_net.proofs.TargetLemmas.{over, slot_there, target_is}
 use Rattle.commit_net.proofs.target.target.Goals as goal
 

@@ -1,8 +1,8 @@
 use Rattle.std.specs.Prelude.{fold}
 use Rattle.std.proofs.Common.{◌∷◌, take}
-use Rattle.cell_core.specs.Cells.{bits_from}
-use Rattle.site_operands.specs.cell_nets.Operands.{IsOperand, number_in}
-use Rattle.site_operands.specs.cell_nets.Wires.{wires_of, always, HasBits, Gives}
+use Rattle.overlay_net.specs.cell_core.Cells.{bits_from}
+use Rattle.overlay_net.specs.cell_nets.Operands.{IsOperand, number_in}
+use Rattle.overlay_net.specs.cell_nets.Wires.{wires_of, always, HasBits, Gives}
 use Rattle.commit_net.specs.Targets.{slots_of}
 use Rattle.commit_net.proofs.TargetLemmas.{over}
 use Rattle.commit_net.proofs.target.target.Given as goal

@@ -1,11 +1,11 @@
 use Rattle.std.specs.Prelude.{if◌then◌else◌}
 use Rattle.std.proofs.Common.{◌≡◌, ◌∙◌, ◌+◌, ◌*◌, ◌==◌, [], ◌∷◌, ap, arith}
-use Rattle.cell_core.specs.Cells.{on, bits_from}
-use Rattle.site_operands.specs.cell_nets.declared.operand.Operand.TheVariants.{Known}
-use Rattle.site_operands.specs.cell_nets.Operands.{number_in, IsAvailable}
-use Rattle.site_operands.specs.cell_nets.Wires.{wires_of, always}
-use Rattle.operand_blocks.proofs.step_nets_laws.ChainLaws.{starts, next, last}
-use Rattle.operand_blocks.proofs.step_nets_laws.StepLaws.{all_each, on_bit}
+use Rattle.overlay_net.specs.cell_core.Cells.{on, bits_from}
+use Rattle.overlay_net.specs.cell_nets.declared.operand.Operand.TheVariants.{Known}
+use Rattle.overlay_net.specs.cell_nets.Operands.{number_in, IsAvailable}
+use Rattle.overlay_net.specs.cell_nets.Wires.{wires_of, always}
+use Rattle.overlay_net.proofs.cell_nets_laws.StepNets.ChainLaws.{starts, next, last}
+use Rattle.overlay_net.proofs.cell_nets_laws.StepNets.StepLaws.{all_each, on_bit}
 use Rattle.commit_net.proofs.target.where_pending.Goals as goal
 
 pub returns : goal.returns

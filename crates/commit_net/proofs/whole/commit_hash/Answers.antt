@@ -1,6 +1,6 @@
 use Rattle.std.proofs.Common.{sym, ap, subst}
 use Rattle.hash_net.specs.declared.block.HashNets.{HashNets}
-use Rattle.site_operands.specs.cell_nets.Wires.{wires_of}
+use Rattle.overlay_net.specs.cell_nets.Wires.{wires_of}
 use Rattle.commit_net.specs.Wholes.{IsHashCommit}
 use Rattle.commit_net.proofs.GatherLemmas.{gives_from}
 use Rattle.commit_net.proofs.WholeLemmas.{hash_stands, hash_commit}

@@ -1,5 +1,5 @@
 use Rattle.std.proofs.Common.{sym, ap, subst}
-use Rattle.site_operands.specs.cell_nets.Wires.{wires_of}
+use Rattle.overlay_net.specs.cell_nets.Wires.{wires_of}
 use Rattle.commit_net.specs.Wholes.{IsSlotPart}
 use Rattle.commit_net.proofs.GatherLemmas.{gives_from}
 use Rattle.commit_net.proofs.WholeLemmas.{slot_part}

@@ -1,10 +1,10 @@
 use Rattle.std.proofs.Common.{◌∙◌, ◌++◌, length, sym, ap, subst, arith}
 use Rattle.std.proofs.lemmas.List.{length_push}
-use Rattle.cell_core.specs.Sites.{site_at}
-use Rattle.hash_net.specs.array_net.hazard_core.Held.{asked}
-use Rattle.hash_net.specs.array_net.hazard_core.Overlay.{value_as}
+use Rattle.overlay_net.specs.cell_core.Sites.{site_at}
+use Rattle.overlay_net.specs.hazard_core.Held.{asked}
+use Rattle.overlay_net.specs.hazard_core.Overlay.{value_as}
 use Rattle.hash_net.specs.array_net.declared.words.WordNets.{WordNets}
-use Rattle.site_operands.specs.cell_nets.Wires.{wires_of}
+use Rattle.overlay_net.specs.cell_nets.Wires.{wires_of}
 use Rattle.commit_net.specs.Choosing.{changes_word}
 use Rattle.commit_net.specs.Wiring.{outside_of, value_operands, ShowChanges}
 use Rattle.commit_net.proofs.WordLemmas.{stands_as}

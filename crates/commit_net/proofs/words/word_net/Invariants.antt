@@ -1,9 +1,9 @@
 use Rattle.std.proofs.Common.{◌≡◌, ℕ, All, List, length}
-use Rattle.cell_core.specs.Sites.{ProgramView}
-use Rattle.hash_net.specs.array_net.hazard_core.Held.{Held}
-use Rattle.hash_net.specs.array_net.hazard_core.Tables.{TableState}
-use Rattle.site_operands.specs.cell_nets.Operands.{IsOperand}
-use Rattle.site_operands.specs.cell_nets.Wires.{wires_of}
+use Rattle.overlay_net.specs.cell_core.Sites.{ProgramView}
+use Rattle.overlay_net.specs.hazard_core.Held.{Held}
+use Rattle.overlay_net.specs.hazard_core.Tables.{TableState}
+use Rattle.overlay_net.specs.cell_nets.Operands.{IsOperand}
+use Rattle.overlay_net.specs.cell_nets.Wires.{wires_of}
 use Rattle.commit_net.proofs.WordLemmas.{Far}
 use Rattle.commit_net.proofs.words.word_net.Given as goal
 

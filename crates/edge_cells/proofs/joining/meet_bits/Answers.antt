@@ -2,7 +2,7 @@ use Rattle.std.proofs.Common.{ℕ, ◌<◌, List, length, All, sym, ◌∙◌, a
 use Rattle.std.proofs.lemmas.List.{get_or_default}
 use Rattle.std.proofs.lemmas.List.Elements.{All-map}
 use Rattle.operator_cells.specs.Making.{seen}
-use Rattle.held_cells.specs.declared.way.Way.{Way}
+use Rattle.operator_cells.specs.declared.held_cells.way.Way.{Way}
 use Rattle.edge_cells.proofs.Arriving.{one_guards, made_guards}
 use Rattle.cell_core.specs.Rows.{greatest}
 use Rattle.operator_cells.proofs.RisingLaws.{rises_none, rises_by}

@@ -1,6 +1,6 @@
 use Rattle.std.proofs.Common.{sym, ◌∙◌, ap, arith}
 use Rattle.std.proofs.lemmas.List.{get_or_default}
-use Rattle.held_cells.specs.declared.way.Way.{Way}
+use Rattle.operator_cells.specs.declared.held_cells.way.Way.{Way}
 use Rattle.edge_cells.specs.Meeting.{held_at, map_of, is_unknown}
 use Rattle.edge_cells.proofs.Choices.{one_of}
 use Rattle.edge_cells.proofs.PartsMet.{met_same, met_number, met_words, met_none, unknown_is, numbers_brought, cells_within}

@@ -1,8 +1,8 @@
 use Rattle.std.proofs.Common.{suc, List, length, sym, ◌∙◌, ap, subst, arith}
 use Rattle.operator_cells.specs.Making.{seen}
-use Rattle.held_cells.specs.declared.held.Pointer.{Pointer}
-use Rattle.held_cells.specs.Held.{PointerView, pointed}
-use Rattle.held_cells.specs.Rows.{cells_of_pointer}
+use Rattle.operator_cells.specs.declared.held_cells.held.Pointer.{Pointer}
+use Rattle.operator_cells.specs.HeldCells.Held.{PointerView, pointed}
+use Rattle.operator_cells.specs.HeldCells.Rows.{cells_of_pointer}
 use Rattle.operator_cells.specs.Rising.{Rises, RiseAll}
 use Rattle.edge_cells.specs.Meeting.{BringCells, Picks, PickWords, cell_brought}
 use Rattle.edge_cells.specs.Rows.{choice_row, pointer_row_brought}

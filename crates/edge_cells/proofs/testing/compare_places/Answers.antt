@@ -1,5 +1,5 @@
 use Rattle.std.proofs.Common.{arith}
-use Rattle.cell_core.specs.xdp_machine.Arithmetic.{low, holds}
+use Rattle.xdp_machine.specs.Arithmetic.{low, holds}
 use Rattle.cell_core.specs.Cells.{bit}
 use Rattle.operator_cells.proofs.RisingLaws.{stand_none, stand_more, rises_then}
 use Rattle.edge_cells.proofs.Growth.{makes_of_two}

@@ -1,7 +1,7 @@
 use Rattle.std.proofs.Common.{sym, ◌∙◌, ap, arith}
 use Rattle.kind_core.specs.declared.number.Number.{Number}
-use Rattle.held_cells.specs.Held.{pointed}
-use Rattle.held_cells.specs.Rows.{number_row}
+use Rattle.operator_cells.specs.HeldCells.Held.{pointed}
+use Rattle.operator_cells.specs.HeldCells.Rows.{number_row}
 use Rattle.operator_cells.proofs.RisingLaws.{rises_by}
 use Rattle.edge_cells.proofs.Tested.{null_left, null_right, both_numbers, tests_numbers_of, tests_places}
 use Rattle.edge_cells.proofs.TestRows.{found_row, number_row_is}

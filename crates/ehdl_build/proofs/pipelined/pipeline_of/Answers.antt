@@ -1,11 +1,11 @@
 use Rattle.std.proofs.Common.{◌<◌, ◌^◌, length, subst, sym, arith}
 use Rattle.std.specs.Prelude.{List}
 use Rattle.std.proofs.lemmas.List.{length-map}
-use Rattle.xdp_maps.specs.declared.decl.MapDecl.{MapDecl}
+use Rattle.xdp_object.specs.xdp_maps.declared.decl.MapDecl.{MapDecl}
 use Rattle.net_core.specs.declared.design.Design.{Design}
 use Rattle.net_core.specs.View.{netlist_of}
-use Rattle.cell_core.specs.View.{cell_of, program_of}
-use Rattle.pipe_programs.specs.Prepared.{ArePrepared}
+use Rattle.hazard_core.specs.cell_core.View.{cell_of, program_of}
+use Rattle.ehdl_build.specs.PipePrograms.Prepared.{ArePrepared}
 use Rattle.ehdl_build.specs.Steps.{IsSoundPipeline, IsPipelineOf, counted_size}
 use Rattle.ehdl_build.proofs.Outcomes.{ok_more}
 use Rattle.ehdl_build.proofs.Prepared.{prepared}

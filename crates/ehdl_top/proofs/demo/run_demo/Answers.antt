@@ -7,7 +7,7 @@ use Rattle.flow_demo.specs.Program.{IsDemoObject}
 use Rattle.flow_demo.specs.Packets.{demo_content}
 use Rattle.xdp_maps.specs.declared.decl.MapDecl.{MapDecl}
 use Rattle.xdp_maps.specs.State.{opened_state}
-use Rattle.ehdl_build.specs.realization.Bounds.{clock_bound, most_beats}
+use Rattle.port_drive.specs.realization.Bounds.{clock_bound, most_beats}
 use Rattle.ehdl_top.specs.Forms.{built, program_form, capture_form}
 use Rattle.ehdl_top.specs.Steps.{IsGivenUp, IsLegal}
 use Rattle.ehdl_top.proofs.DemoLemmas.{object_given_up, capture_given_up, program_is, has_map, is_hash, bytes_fit, demo_of, stops_at}

@@ -1,6 +1,6 @@
 use Rattle.std.proofs.Common.{◌≡◌, ◌≤◌, drop, map, max}
 use Rattle.beat_core.specs.declared.frame.TheConstants.{BEAT_LIMIT}
-use Rattle.ehdl_build.specs.realization.Bounds.{most_beats}
+use Rattle.port_drive.specs.realization.Bounds.{most_beats}
 use Rattle.ehdl_top.proofs.drive.clock_limit.Given as goal
 
 abbrev pub invariant-loop-packet : goal.invariant-loop-packet

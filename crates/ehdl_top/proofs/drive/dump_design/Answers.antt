@@ -1,4 +1,4 @@
-use Rattle.port_drive.specs.host_history.Host.{dump}
+use Rattle.port_drive.specs.realization.HostHistory.Host.{dump}
 use Rattle.ehdl_top.proofs.SimulationLemmas.{host_goes, host_stops, host_inside, dump_whole, dump_stops}
 use Rattle.ehdl_top.proofs.drive.dump_design.Goals as goal
 

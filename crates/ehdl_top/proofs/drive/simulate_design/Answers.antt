@@ -3,7 +3,7 @@ use Rattle.xdp_maps.specs.declared.decl.MapDecl.{MapDecl}
 use Rattle.xdp_maps.specs.Contents.{IsWithinLimits}
 use Rattle.net_core.specs.View.{netlist_of}
 use Rattle.ehdl_top.specs.Simulation.{simulation, driven}
-use Rattle.verilog_read.proofs.design_rules.FormedWidthLaws.{typed}
+use Rattle.verilog_read.proofs.design_rules_laws.FormedWidthLaws.{typed}
 use Rattle.ehdl_top.proofs.SimulationLemmas.{if_given, load_answered, load_given_up, load_inside}
 use Rattle.ehdl_top.proofs.drive.simulate_design.Goals as goal
 

@@ -3,8 +3,8 @@ use Rattle.net_core.specs.Nets.{Netlist}
 use Rattle.net_core.specs.Clock.{Stored, first_stored}
 use Rattle.net_core.specs.History.{NeverStops}
 use Rattle.net_core.specs.View.{netlist_of}
-use Rattle.port_drive.specs.host_history.Host.{load}
-use Rattle.verilog_read.proofs.design_rules.FormedWidthLaws.{typed}
+use Rattle.port_drive.specs.realization.HostHistory.Host.{load}
+use Rattle.verilog_read.proofs.design_rules_laws.FormedWidthLaws.{typed}
 use Rattle.ehdl_top.proofs.RealizedLemmas.{goes_whole}
 use Rattle.ehdl_top.proofs.pipeline.open_loaded.Goals as goal
 

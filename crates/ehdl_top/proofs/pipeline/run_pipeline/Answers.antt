@@ -3,7 +3,7 @@ use Rattle.beat_core.specs.declared.answer.Answer.{Answer}
 use Rattle.net_core.specs.View.{netlist_of}
 use Rattle.xdp_maps.specs.declared.decl.MapDecl.{MapDecl}
 use Rattle.xdp_maps.specs.State.{MapState}
-use Rattle.verilog_read.specs.verilog_grammar.Spelling.{Spells}
+use Rattle.ehdl_build.specs.verilog_write.VerilogGrammar.Spelling.{Spells}
 use Rattle.ehdl_build.specs.Compiled.{IsSequential}
 use Rattle.ehdl_top.specs.Results.{came_by}
 use Rattle.ehdl_top.proofs.RealizedLemmas.{runs, limits_of, sequential_decls, shows_as}

@@ -1,5 +1,5 @@
 use Rattle.std.proofs.Common.{[], ◌∷◌, refl, arith, sym, ◌∙◌, ◌+◌, append-nil, map}
-use Rattle.product_blocks.specs.block_core.View.{block_wire_of}
+use Rattle.block_core.specs.View.{block_wire_of}
 use Rattle.frame_net.specs.Gather.{kept_width}
 use Rattle.frame_net.specs.GatherNets.{wire}
 use Rattle.frame_net.specs.SourcesNets.{kept_tree, kept_wires}

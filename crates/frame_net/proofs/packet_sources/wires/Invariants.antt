@@ -1,5 +1,5 @@
 use Rattle.std.proofs.Common.{◌≡◌, ◌+◌, ◌++◌, map, drop}
-use Rattle.product_blocks.specs.block_core.View.{block_wire_of}
+use Rattle.block_core.specs.View.{block_wire_of}
 use Rattle.frame_net.specs.SourcesNets.{kept_wires, sources_wires}
 use Rattle.frame_net.proofs.packet_sources.wires.Given as goal
 

@@ -4,7 +4,7 @@ use Rattle.net_core.specs.View.{statement_of}
 use Rattle.frame_net.specs.Stores.{store_statements}
 use Rattle.array_net.specs.WordTrees.{word_stores}
 use Rattle.array_net.proofs.WordStoreLaws.{count_stores}
-use Rattle.array_net.specs.hazard_core.Commits.{word_count}
+use Rattle.overlay_net.specs.hazard_core.Commits.{word_count}
 use Rattle.hash_net.proofs.StoreLists.{laid}
 use Rattle.hash_net.proofs.block.add_words.Goals as goal
 

@@ -1,4 +1,4 @@
-use Rattle.same_clocks.proofs.SameLaws.{same_in_turn}
+use Rattle.net_core.proofs.SameClocks.SameLaws.{same_in_turn}
 use Rattle.net_optimize.proofs.optimizing.repeated.Goals as goal
 
 pub returns-then-not-goes_on-clause-same : goal.returns-then-not-goes_on-clause-same

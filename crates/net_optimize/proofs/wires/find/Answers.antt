@@ -3,7 +3,7 @@ use Rattle.std.proofs.Math.ListN.{get_or-map}
 use Rattle.std.proofs.lemmas.List.{length-map}
 use Rattle.net_core.specs.declared.design.Wire.{Wire}
 use Rattle.net_core.specs.View.{tree_of, right_of, wire_of}
-use Rattle.solved_wires.proofs.SolvingLaws.{found}
+use Rattle.design_rules.proofs.SolvedWires.SolvingLaws.{found}
 use Rattle.net_optimize.proofs.wires.find.Goals as goal
 
 pub returns-in-loop-j : goal.returns-in-loop-j

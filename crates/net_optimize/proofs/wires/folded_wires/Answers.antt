@@ -4,7 +4,7 @@ use Rattle.std.proofs.lemmas.List.{length-map, map-append, take_more}
 use Rattle.net_core.specs.Nets.{WireTree}
 use Rattle.net_core.specs.View.{right_of, wire_of}
 use Rattle.net_optimize.specs.Folding.{AreKnown, AreSameWires}
-use Rattle.solved_wires.specs.Solving.{Solves}
+use Rattle.design_rules.specs.SolvedWires.Solving.{Solves}
 use Rattle.net_optimize.proofs.ListLemmas.{wire_step}
 use Rattle.net_optimize.proofs.wires.folded_wires.Goals as goal
 

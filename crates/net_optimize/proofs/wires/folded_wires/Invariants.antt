@@ -2,7 +2,7 @@ use Rattle.std.proofs.Common.{◌≡◌, length, map, take}
 use Rattle.net_core.specs.declared.tree.Net.{Net}
 use Rattle.net_core.specs.View.{wire_of}
 use Rattle.net_core.specs.Value.{Env}
-use Rattle.solved_wires.specs.Solving.{Solves}
+use Rattle.design_rules.specs.SolvedWires.Solving.{Solves}
 use Rattle.net_optimize.specs.Folding.{AreKnown, AreSameWires}
 use Rattle.net_optimize.proofs.wires.folded_wires.Given as goal
 

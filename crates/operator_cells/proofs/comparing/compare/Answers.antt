@@ -1,5 +1,5 @@
 use Rattle.std.proofs.Common.{◌∙◌, ap, sym, arith}
-use Rattle.xdp_state.specs.xdp_machine.Arithmetic.{bits_in, low}
+use Rattle.cell_core.specs.xdp_machine.Arithmetic.{bits_in, low}
 use Rattle.cell_core.specs.Cells.{bit}
 use Rattle.operator_cells.specs.Comparing.{turned, unsigned}
 use Rattle.operator_cells.proofs.Growing.{grown, makes_after}

@@ -1,4 +1,4 @@
-use Rattle.xdp_state.specs.xdp_machine.Arithmetic.{bits_in}
+use Rattle.cell_core.specs.xdp_machine.Arithmetic.{bits_in}
 use Rattle.operator_cells.proofs.Growing.{grown, makes_after}
 use Rattle.operator_cells.proofs.Division.{unless_is, other_row}
 use Rattle.std.proofs.Common.{arith}

@@ -1,6 +1,6 @@
 use Rattle.std.proofs.Common.{ℕ, ◌∙◌, ap, false, arith}
-use Rattle.bpf_isa.specs.declared.operation.AluCode.TheVariants.{Lsh}
-use Rattle.xdp_state.specs.xdp_machine.Arithmetic.{bits_in, low, arithmetic}
+use Rattle.cell_core.specs.bpf_isa.declared.operation.AluCode.TheVariants.{Lsh}
+use Rattle.cell_core.specs.xdp_machine.Arithmetic.{bits_in, low, arithmetic}
 use Rattle.cell_core.specs.Cells.{bits_from}
 use Rattle.operator_cells.proofs.Growing.{grown, makes_after}
 use Rattle.operator_cells.proofs.Shifts.{shifted_left}

@@ -1,6 +1,6 @@
 use Rattle.std.proofs.Common.{ℕ, ◌≡◌, ◌∙◌, ◌<◌, ◌^◌, ◌%◌, ap, sym, subst, arith}
-use Rattle.bpf_isa.specs.bits_core.Bits.{arsh_of}
-use Rattle.xdp_state.specs.xdp_machine.Arithmetic.{bits_in, low}
+use Rattle.cell_core.specs.bits_core.Bits.{arsh_of}
+use Rattle.cell_core.specs.xdp_machine.Arithmetic.{bits_in, low}
 use Rattle.operator_cells.proofs.Growing.{grown, makes_after}
 use Rattle.operator_cells.proofs.Numbers.{low_below}
 use Rattle.operator_cells.proofs.Shifts.{count_is}

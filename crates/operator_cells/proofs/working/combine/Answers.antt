@@ -1,5 +1,5 @@
 use Rattle.std.proofs.Common.{ℕ, ◌∙◌, ◌∷◌, [], List, ap, arith}
-use Rattle.xdp_state.specs.xdp_machine.Arithmetic.{bits_in, low}
+use Rattle.cell_core.specs.xdp_machine.Arithmetic.{bits_in, low}
 use Rattle.cell_core.specs.Cells.{number, bits_from}
 use Rattle.operator_cells.specs.Making.{operator_of}
 use Rattle.operator_cells.proofs.Growing.{grown, makes_after}

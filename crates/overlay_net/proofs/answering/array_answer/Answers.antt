@@ -1,15 +1,15 @@
 use Rattle.std.specs.Int.{w64, cast_unsigned}
 use Rattle.std.specs.Prelude.{nat_le, nat_lt}
 use Rattle.std.proofs.Common.{All, map as map_list, slice_index, ◌∙◌, ◌==◌, [], ◌∷◌, ap, subst, sym, arith}
-use Rattle.xdp_maps.specs.Calls.{array_refusal, number_of}
-use Rattle.cell_core.specs.Cells.{bits_from}
-use Rattle.site_operands.specs.cell_nets.declared.operand.Operand.TheVariants.{Known}
-use Rattle.site_operands.specs.cell_nets.Operands.{number_in, IsOperand, IsAvailable}
-use Rattle.site_operands.specs.cell_nets.Wires.{wires_of, always}
+use Rattle.hazard_core.specs.xdp_maps.Calls.{array_refusal, number_of}
+use Rattle.hazard_core.specs.cell_core.Cells.{bits_from}
+use Rattle.cell_nets.specs.declared.operand.Operand.TheVariants.{Known}
+use Rattle.cell_nets.specs.Operands.{number_in, IsOperand, IsAvailable}
+use Rattle.cell_nets.specs.Wires.{wires_of, always}
 use Rattle.overlay_net.proofs.AnswerLemmas.{array_errors, array_phi, four_pairs, pairs_given}
-use Rattle.step_nets.proofs.ChainLaws.{starts, next, last}
+use Rattle.cell_nets.proofs.StepNets.ChainLaws.{starts, next, last}
 use Rattle.overlay_net.proofs.FindLemmas.{tail_of}
-use Rattle.step_nets.proofs.StepLaws.{all_each, error_small}
+use Rattle.cell_nets.proofs.StepNets.StepLaws.{all_each, error_small}
 use Rattle.overlay_net.proofs.answering.array_answer.Goals as goal
 
 pub first_number-requires-clause-pairs : goal.first_number-requires-clause-pairs

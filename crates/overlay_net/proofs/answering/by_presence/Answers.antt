@@ -1,12 +1,12 @@
 use Rattle.std.specs.Prelude.{if◌then◌else◌}
 use Rattle.std.proofs.Common.{All, ◌∙◌, refl, [], ◌∷◌, subst, sym, arith}
-use Rattle.cell_core.specs.Cells.{on, bits_from}
-use Rattle.site_operands.specs.cell_nets.declared.operand.Operand.TheVariants.{Known}
-use Rattle.site_operands.specs.cell_nets.Operands.{number_in, IsOperand, IsAvailable}
-use Rattle.site_operands.specs.cell_nets.Wires.{wires_of, always}
+use Rattle.hazard_core.specs.cell_core.Cells.{on, bits_from}
+use Rattle.cell_nets.specs.declared.operand.Operand.TheVariants.{Known}
+use Rattle.cell_nets.specs.Operands.{number_in, IsOperand, IsAvailable}
+use Rattle.cell_nets.specs.Wires.{wires_of, always}
 use Rattle.overlay_net.proofs.AnswerLemmas.{two_pairs, pairs_given}
-use Rattle.step_nets.proofs.ChainLaws.{starts, last}
-use Rattle.step_nets.proofs.StepLaws.{all_each}
+use Rattle.cell_nets.proofs.StepNets.ChainLaws.{starts, last}
+use Rattle.cell_nets.proofs.StepNets.StepLaws.{all_each}
 use Rattle.overlay_net.proofs.answering.by_presence.Goals as goal
 
 pub first_number-requires-clause-pairs : goal.first_number-requires-clause-pairs

@@ -2,14 +2,14 @@ use Rattle.std.specs.Int.{w64, cast_unsigned}
 use Rattle.std.specs.Prelude.{not}
 use Rattle.std.proofs.Common.{◌∙◌, ◌^◌, ◌<◌, [], ◌∷◌, ap, sym, arith}
 use Rattle.std.proofs.Math.Pow.{pow_mono}
-use Rattle.cell_core.specs.Cells.{on, bits_from}
-use Rattle.site_operands.specs.hazard_core.Held.{is_null}
-use Rattle.site_operands.specs.hazard_core.Overlay.{key_pointer, delete_answer, answer_over}
-use Rattle.site_operands.specs.cell_nets.declared.operand.Operand.TheVariants.{Known}
-use Rattle.site_operands.specs.cell_nets.Operands.{number_in}
-use Rattle.site_operands.specs.cell_nets.Wires.{wires_of}
+use Rattle.hazard_core.specs.cell_core.Cells.{on, bits_from}
+use Rattle.hazard_core.specs.Held.{is_null}
+use Rattle.hazard_core.specs.Overlay.{key_pointer, delete_answer, answer_over}
+use Rattle.cell_nets.specs.declared.operand.Operand.TheVariants.{Known}
+use Rattle.cell_nets.specs.Operands.{number_in}
+use Rattle.cell_nets.specs.Wires.{wires_of}
 use Rattle.overlay_net.proofs.AnswerLemmas.{delete_is, delete_choice}
-use Rattle.step_nets.proofs.ChainLaws.{starts, last, ends}
+use Rattle.cell_nets.proofs.StepNets.ChainLaws.{starts, last, ends}
 use Rattle.overlay_net.proofs.WriteLemmas.{found_on}
 use Rattle.overlay_net.proofs.answering.delete_answer.Goals as goal
 

@@ -1,9 +1,9 @@
 use Rattle.std.proofs.Common.{refl, map as map_list}
-use Rattle.cell_core.specs.Cells.{bits_from, phi}
-use Rattle.site_operands.specs.cell_nets.Operands.{number_in}
-use Rattle.site_operands.specs.cell_nets.Wires.{wires_of, always}
-use Rattle.step_nets.proofs.ChainLaws.{starts, last}
-use Rattle.step_nets.proofs.StepLaws.{no_packet}
+use Rattle.hazard_core.specs.cell_core.Cells.{bits_from, phi}
+use Rattle.cell_nets.specs.Operands.{number_in}
+use Rattle.cell_nets.specs.Wires.{wires_of, always}
+use Rattle.cell_nets.proofs.StepNets.ChainLaws.{starts, last}
+use Rattle.cell_nets.proofs.StepNets.StepLaws.{no_packet}
 use Rattle.overlay_net.proofs.answering.first_number.Goals as goal
 
 pub cell_wires-requires : goal.cell_wires-requires

@@ -1,14 +1,14 @@
 use Rattle.std.specs.Int.{w64, cast_unsigned}
 use Rattle.std.specs.Prelude.{nat_le, nat_lt}
 use Rattle.std.proofs.Common.{All, ◌∙◌, ◌&&◌, ◌==◌, refl, [], ◌∷◌, ap, subst, sym, arith}
-use Rattle.xdp_maps.specs.Calls.{hash_refusal, number_of}
-use Rattle.cell_core.specs.Cells.{bit, on, bits_from}
-use Rattle.site_operands.specs.cell_nets.declared.operand.Operand.TheVariants.{Known}
-use Rattle.site_operands.specs.cell_nets.Operands.{number_in, IsOperand, IsAvailable}
-use Rattle.site_operands.specs.cell_nets.Wires.{wires_of}
+use Rattle.hazard_core.specs.xdp_maps.Calls.{hash_refusal, number_of}
+use Rattle.hazard_core.specs.cell_core.Cells.{bit, on, bits_from}
+use Rattle.cell_nets.specs.declared.operand.Operand.TheVariants.{Known}
+use Rattle.cell_nets.specs.Operands.{number_in, IsOperand, IsAvailable}
+use Rattle.cell_nets.specs.Wires.{wires_of}
 use Rattle.overlay_net.proofs.AnswerLemmas.{hash_errors, hash_phi, six_pairs, pairs_given}
-use Rattle.step_nets.proofs.ChainLaws.{starts, next, last}
-use Rattle.step_nets.proofs.StepLaws.{all_each, on_bit, error_small}
+use Rattle.cell_nets.proofs.StepNets.ChainLaws.{starts, next, last}
+use Rattle.cell_nets.proofs.StepNets.StepLaws.{all_each, on_bit, error_small}
 use Rattle.overlay_net.proofs.answering.hash_answer.Goals as goal
 
 pub first_number-requires-clause-pairs : goal.first_number-requires-clause-pairs

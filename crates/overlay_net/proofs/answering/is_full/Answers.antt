@@ -1,16 +1,16 @@
 use Rattle.std.specs.Prelude.{nat_le, count_by}
 use Rattle.std.proofs.Common.{◌∙◌, ◌+◌, [], ◌∷◌, ap, arith}
-use Rattle.cell_core.specs.Cells.{bit}
-use Rattle.site_operands.specs.hazard_core.Tables.{table_at, used_count}
-use Rattle.site_operands.specs.hazard_core.Held.{adds_key, takes_key}
-use Rattle.site_operands.specs.cell_nets.declared.operand.Operand.TheVariants.{Known}
-use Rattle.site_operands.specs.cell_nets.Operands.{number_in, IsAvailable}
-use Rattle.site_operands.specs.cell_nets.Wires.{wires_of}
+use Rattle.hazard_core.specs.cell_core.Cells.{bit}
+use Rattle.hazard_core.specs.Tables.{table_at, used_count}
+use Rattle.hazard_core.specs.Held.{adds_key, takes_key}
+use Rattle.cell_nets.specs.declared.operand.Operand.TheVariants.{Known}
+use Rattle.cell_nets.specs.Operands.{number_in, IsAvailable}
+use Rattle.cell_nets.specs.Wires.{wires_of}
 use Rattle.overlay_net.specs.Seen.{all_read}
 use Rattle.overlay_net.proofs.AnswerLemmas.{count_all}
-use Rattle.step_nets.proofs.ChainLaws.{starts, next, last}
+use Rattle.cell_nets.proofs.StepNets.ChainLaws.{starts, next, last}
 use Rattle.overlay_net.proofs.FindLemmas.{first_of, tail_of}
-use Rattle.step_nets.proofs.StepLaws.{all_each, narrow_small}
+use Rattle.cell_nets.proofs.StepNets.StepLaws.{all_each, narrow_small}
 use Rattle.overlay_net.proofs.answering.is_full.Goals as goal
 
 pub returns : goal.returns

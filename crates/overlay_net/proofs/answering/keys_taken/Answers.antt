@@ -1,14 +1,14 @@
 use Rattle.std.specs.Prelude.{count_by}
 use Rattle.std.proofs.Common.{◌≡◌, ◌+◌, [], ◌∷◌, ap, arith}
 use Rattle.std.proofs.lemmas.List.{take_all}
-use Rattle.cell_core.specs.Cells.{bit, bits_from}
-use Rattle.site_operands.specs.hazard_core.Held.{takes_key, writes}
-use Rattle.site_operands.specs.cell_nets.Operands.{number_in, IsAvailable}
-use Rattle.site_operands.specs.cell_nets.Wires.{wires_of}
+use Rattle.hazard_core.specs.cell_core.Cells.{bit, bits_from}
+use Rattle.hazard_core.specs.Held.{takes_key, writes}
+use Rattle.cell_nets.specs.Operands.{number_in, IsAvailable}
+use Rattle.cell_nets.specs.Wires.{wires_of}
 use Rattle.overlay_net.specs.Seen.{all_read, HasOperands}
 use Rattle.overlay_net.proofs.AnswerLemmas.{count_more, plus_none}
-use Rattle.step_nets.proofs.ChainLaws.{starts, last}
-use Rattle.step_nets.proofs.StepLaws.{all_each, avail_at, gives_same}
+use Rattle.cell_nets.proofs.StepNets.ChainLaws.{starts, last}
+use Rattle.cell_nets.proofs.StepNets.StepLaws.{all_each, avail_at, gives_same}
 use Rattle.overlay_net.proofs.answering.keys_taken.Goals as goal
 
 pub loop-seen-init : goal.loop-seen-init

@@ -1,11 +1,11 @@
 use Rattle.std.specs.Prelude.{count_by}
 use Rattle.std.proofs.Common.{ℕ, ◌+◌, List, ◌∷◌, take}
-use Rattle.cell_core.specs.Cells.{bits_from}
-use Rattle.cell_core.specs.Sites.{ProgramView}
-use Rattle.site_operands.specs.hazard_core.Tables.{TableState}
-use Rattle.site_operands.specs.hazard_core.Held.{Held, takes_key}
-use Rattle.site_operands.specs.cell_nets.Operands.{IsOperand, number_in}
-use Rattle.site_operands.specs.cell_nets.Wires.{wires_of, HasBits, Gives}
+use Rattle.hazard_core.specs.cell_core.Cells.{bits_from}
+use Rattle.hazard_core.specs.cell_core.Sites.{ProgramView}
+use Rattle.hazard_core.specs.Tables.{TableState}
+use Rattle.hazard_core.specs.Held.{Held, takes_key}
+use Rattle.cell_nets.specs.Operands.{IsOperand, number_in}
+use Rattle.cell_nets.specs.Wires.{wires_of, HasBits, Gives}
 use Rattle.overlay_net.specs.Seen.{all_read, AreOf, ShowPending}
 use Rattle.overlay_net.proofs.answering.keys_taken.Given as goal
 

@@ -1,9 +1,9 @@
 use Rattle.std.proofs.Common.{◌∙◌, [], ◌∷◌, ap, sym}
-use Rattle.cell_core.specs.Cells.{bit, on, bits_from}
-use Rattle.site_operands.specs.hazard_core.Overlay.{key_pointer, answer_over}
-use Rattle.site_operands.specs.cell_nets.Wires.{wires_of}
+use Rattle.hazard_core.specs.cell_core.Cells.{bit, on, bits_from}
+use Rattle.hazard_core.specs.Overlay.{key_pointer, answer_over}
+use Rattle.cell_nets.specs.Wires.{wires_of}
 use Rattle.overlay_net.proofs.AnswerLemmas.{lookup_is}
-use Rattle.step_nets.proofs.ChainLaws.{starts, last}
+use Rattle.cell_nets.proofs.StepNets.ChainLaws.{starts, last}
 use Rattle.overlay_net.proofs.WriteLemmas.{found_on}
 use Rattle.overlay_net.proofs.answering.lookup_answer.Goals as goal
 

@@ -1,21 +1,21 @@
 use Rattle.std.specs.Int.{w64, cast_unsigned}
 use Rattle.std.specs.Prelude.{not, count_by}
 use Rattle.std.proofs.Common.{All, ◌∙◌, ◌+◌, [], ◌∷◌, ◌++◌, map as map_list, slice_index, ap, subst, sym, arith}
-use Rattle.xdp_maps.specs.Calls.{hash_refusal, array_refusal, number_of}
-use Rattle.xdp_maps.specs.Contents.{index_of}
-use Rattle.cell_core.specs.Cells.{on, bits_from}
-use Rattle.cell_core.specs.Sites.{site_at, bytes_of}
-use Rattle.site_operands.specs.hazard_core.Tables.{table_at, used_count}
-use Rattle.site_operands.specs.hazard_core.Held.{is_null, held_value, adds_key, takes_key}
-use Rattle.site_operands.specs.hazard_core.Overlay.{key_pointer, update_answer, answer_over}
-use Rattle.site_operands.specs.cell_nets.Operands.{number_in, IsOperand, IsAvailable}
-use Rattle.site_operands.specs.cell_nets.Wires.{wires_of}
-use Rattle.site_operands.specs.Sites.{operands_of, all_of}
+use Rattle.hazard_core.specs.xdp_maps.Calls.{hash_refusal, array_refusal, number_of}
+use Rattle.hazard_core.specs.xdp_maps.Contents.{index_of}
+use Rattle.hazard_core.specs.cell_core.Cells.{on, bits_from}
+use Rattle.hazard_core.specs.cell_core.Sites.{site_at, bytes_of}
+use Rattle.hazard_core.specs.Tables.{table_at, used_count}
+use Rattle.hazard_core.specs.Held.{is_null, held_value, adds_key, takes_key}
+use Rattle.hazard_core.specs.Overlay.{key_pointer, update_answer, answer_over}
+use Rattle.cell_nets.specs.Operands.{number_in, IsOperand, IsAvailable}
+use Rattle.cell_nets.specs.Wires.{wires_of}
+use Rattle.overlay_net.specs.SiteOperands.Sites.{operands_of, all_of}
 use Rattle.overlay_net.specs.Seen.{all_read}
 use Rattle.overlay_net.proofs.AnswerLemmas.{update_is, index_first}
-use Rattle.step_nets.proofs.ChainLaws.{starts, next, last}
+use Rattle.cell_nets.proofs.StepNets.ChainLaws.{starts, next, last}
 use Rattle.overlay_net.proofs.FindLemmas.{first_of, tail_of, left_of, right_of, keys_of, others_of}
-use Rattle.step_nets.proofs.StepLaws.{all_each}
+use Rattle.cell_nets.proofs.StepNets.StepLaws.{all_each}
 use Rattle.overlay_net.proofs.WriteLemmas.{found_on}
 use Rattle.overlay_net.proofs.answering.update_answer.Goals as goal
 

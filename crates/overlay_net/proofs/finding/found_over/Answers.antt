@@ -1,10 +1,10 @@
 use Rattle.std.proofs.Common.{◌∙◌, ◌∷◌, ◌++◌, sym, ap, arith}
-use Rattle.site_operands.specs.cell_nets.Wires.{wires_of}
-use Rattle.site_operands.specs.Pointers.{pointer_number}
-use Rattle.site_operands.specs.hazard_core.Held.{written_pointer}
-use Rattle.site_operands.specs.hazard_core.Overlay.{found_as}
+use Rattle.cell_nets.specs.Wires.{wires_of}
+use Rattle.overlay_net.specs.SiteOperands.Pointers.{pointer_number}
+use Rattle.hazard_core.specs.Held.{written_pointer}
+use Rattle.hazard_core.specs.Overlay.{found_as}
 use Rattle.overlay_net.specs.Seen.{read_of}
-use Rattle.step_nets.proofs.ChainLaws.{starts, ends}
+use Rattle.cell_nets.proofs.StepNets.ChainLaws.{starts, ends}
 use Rattle.overlay_net.proofs.FindLemmas.{over_given, over_none}
 use Rattle.overlay_net.proofs.WriteLemmas.{others_stay}
 use Rattle.overlay_net.proofs.finding.found_over.Goals as goal

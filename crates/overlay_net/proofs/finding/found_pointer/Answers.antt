@@ -1,17 +1,17 @@
 use Rattle.std.specs.Prelude.{nat_lt, if◌then◌else◌}
 use Rattle.std.proofs.Common.{All, ◌∙◌, subst, sym, ◌^◌, map as map_list, [], ◌∷◌, ap, arith, slice_index}
 use Rattle.std.proofs.lemmas.Nat.{pow_pos}
-use Rattle.cell_core.specs.Cells.{bit, on, bits_from}
-use Rattle.cell_core.specs.Sites.{site_at}
-use Rattle.site_operands.specs.hazard_core.Held.{held_value}
-use Rattle.site_operands.specs.cell_nets.declared.operand.Operand.TheVariants.{Known}
-use Rattle.site_operands.specs.cell_nets.Operands.{number_in, IsOperand, IsAvailable}
-use Rattle.site_operands.specs.cell_nets.Wires.{wires_of}
-use Rattle.site_operands.specs.Pointers.{pointer_number}
-use Rattle.site_operands.specs.Sites.{operands_of, all_of}
-use Rattle.step_nets.proofs.ChainLaws.{starts, next, last}
+use Rattle.hazard_core.specs.cell_core.Cells.{bit, on, bits_from}
+use Rattle.hazard_core.specs.cell_core.Sites.{site_at}
+use Rattle.hazard_core.specs.Held.{held_value}
+use Rattle.cell_nets.specs.declared.operand.Operand.TheVariants.{Known}
+use Rattle.cell_nets.specs.Operands.{number_in, IsOperand, IsAvailable}
+use Rattle.cell_nets.specs.Wires.{wires_of}
+use Rattle.overlay_net.specs.SiteOperands.Pointers.{pointer_number}
+use Rattle.overlay_net.specs.SiteOperands.Sites.{operands_of, all_of}
+use Rattle.cell_nets.proofs.StepNets.ChainLaws.{starts, next, last}
 use Rattle.overlay_net.proofs.FindLemmas.{tail_of, others_of, update_found, other_found}
-use Rattle.step_nets.proofs.StepLaws.{all_each, on_bit, small_bits, narrow_small, choice_small, cut_given}
+use Rattle.cell_nets.proofs.StepNets.StepLaws.{all_each, on_bit, small_bits, narrow_small, choice_small, cut_given}
 use Rattle.overlay_net.proofs.finding.found_pointer.Goals as goal
 
 pub returns-in_ok-out-in-Update : goal.returns-in_ok-out-in-Update

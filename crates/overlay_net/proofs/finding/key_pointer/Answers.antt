@@ -1,17 +1,17 @@
 use Rattle.std.specs.Prelude.{fold}
 use Rattle.std.proofs.Common.{◌∙◌, ◌∷◌, ◌++◌, All, length, sym, ap, subst, arith}
 use Rattle.std.proofs.lemmas.List.{take_all}
-use Rattle.xdp_maps.specs.declared.decl.MapDecl.{MapDecl}
-use Rattle.cell_core.specs.Sites.{site_at}
-use Rattle.site_operands.specs.hazard_core.Tables.{table_at}
-use Rattle.site_operands.specs.hazard_core.Held.{asked_key, slot_pointer}
-use Rattle.site_operands.specs.hazard_core.Overlay.{found_over, key_pointer}
-use Rattle.site_operands.specs.cell_nets.Operands.{IsOperand}
-use Rattle.site_operands.specs.Pointers.{pointer_number}
-use Rattle.site_operands.specs.Sites.{operands_of, all_of}
+use Rattle.hazard_core.specs.xdp_maps.declared.decl.MapDecl.{MapDecl}
+use Rattle.hazard_core.specs.cell_core.Sites.{site_at}
+use Rattle.hazard_core.specs.Tables.{table_at}
+use Rattle.hazard_core.specs.Held.{asked_key, slot_pointer}
+use Rattle.hazard_core.specs.Overlay.{found_over, key_pointer}
+use Rattle.cell_nets.specs.Operands.{IsOperand}
+use Rattle.overlay_net.specs.SiteOperands.Pointers.{pointer_number}
+use Rattle.overlay_net.specs.SiteOperands.Sites.{operands_of, all_of}
 use Rattle.overlay_net.specs.Seen.{all_read, IsSeen}
 use Rattle.overlay_net.proofs.FindLemmas.{keys_of, over_key, over_more, hash_key, array_key}
-use Rattle.step_nets.proofs.StepLaws.{cut_given, avail_at, gives_same}
+use Rattle.cell_nets.proofs.StepNets.StepLaws.{cut_given, avail_at, gives_same}
 use Rattle.overlay_net.proofs.finding.key_pointer.Goals as goal
 
 pub loop-seen-init : goal.loop-seen-init

@@ -1,13 +1,13 @@
 use Rattle.std.specs.Prelude.{fold}
 use Rattle.std.proofs.Common.{◌≡◌, ℕ, List, ◌∷◌, ◌++◌, take}
-use Rattle.cell_core.specs.Sites.{ProgramView, site_at}
-use Rattle.site_operands.specs.hazard_core.Tables.{TableState, decl_of, table_at}
-use Rattle.site_operands.specs.hazard_core.Held.{Held, asked_key, slot_pointer}
-use Rattle.site_operands.specs.hazard_core.Overlay.{found_over}
-use Rattle.site_operands.specs.cell_nets.Operands.{IsOperand}
-use Rattle.site_operands.specs.cell_nets.Wires.{wires_of, HasBits, Gives}
-use Rattle.site_operands.specs.Pointers.{pointer_number}
-use Rattle.site_operands.specs.Sites.{operands_of, all_of, ShowsAsked}
+use Rattle.hazard_core.specs.cell_core.Sites.{ProgramView, site_at}
+use Rattle.hazard_core.specs.Tables.{TableState, decl_of, table_at}
+use Rattle.hazard_core.specs.Held.{Held, asked_key, slot_pointer}
+use Rattle.hazard_core.specs.Overlay.{found_over}
+use Rattle.cell_nets.specs.Operands.{IsOperand}
+use Rattle.cell_nets.specs.Wires.{wires_of, HasBits, Gives}
+use Rattle.overlay_net.specs.SiteOperands.Pointers.{pointer_number}
+use Rattle.overlay_net.specs.SiteOperands.Sites.{operands_of, all_of, ShowsAsked}
 use Rattle.overlay_net.specs.Reading.{ShowsSlot}
 use Rattle.overlay_net.specs.Seen.{all_read, AreOf, ShowPending}
 use Rattle.overlay_net.proofs.finding.key_pointer.Given as goal

@@ -1,6 +1,6 @@
 use Rattle.std.proofs.Common.{arith}
-use Rattle.site_operands.specs.cell_nets.Operands.{IsOperand, IsAvailable}
-use Rattle.step_nets.proofs.StepLaws.{avail_at}
+use Rattle.cell_nets.specs.Operands.{IsOperand, IsAvailable}
+use Rattle.cell_nets.proofs.StepNets.StepLaws.{avail_at}
 use Rattle.overlay_net.proofs.finding.operand_at.Goals as goal
 
 pub returns-then-at-operands-clause-operand : goal.returns-then-at-operands-clause-operand

@@ -1,13 +1,13 @@
 use Rattle.std.specs.Str.{bytes_eq}
 use Rattle.std.proofs.Common.{◌≡◌, ◌∙◌, ◌+◌, ◌-◌, ◌*◌, ◌/◌, ◌&&◌, [], ◌∷◌, ◌++◌, drop, map, sym, ap, ap₂, arith}
-use Rattle.cell_core.specs.Cells.{bit, on}
-use Rattle.cell_core.specs.Sites.{bytes_of}
-use Rattle.site_operands.specs.cell_nets.Operands.{number_in, IsAvailable}
-use Rattle.site_operands.specs.cell_nets.Wires.{wires_of, always}
-use Rattle.step_nets.proofs.ChainLaws.{starts, next, last, ends}
+use Rattle.hazard_core.specs.cell_core.Cells.{bit, on}
+use Rattle.hazard_core.specs.cell_core.Sites.{bytes_of}
+use Rattle.cell_nets.specs.Operands.{number_in, IsAvailable}
+use Rattle.cell_nets.specs.Wires.{wires_of, always}
+use Rattle.cell_nets.proofs.StepNets.ChainLaws.{starts, next, last, ends}
 use Rattle.overlay_net.proofs.FindLemmas.{left_of, right_of, tail_of}
 use Rattle.overlay_net.proofs.KeyLemmas.{key_step}
-use Rattle.step_nets.proofs.StepLaws.{all_each, on_bit, avail_at, gives_same}
+use Rattle.cell_nets.proofs.StepNets.StepLaws.{all_each, on_bit, avail_at, gives_same}
 use Rattle.overlay_net.proofs.keys.same_key.Goals as goal
 
 pub loop-at-init : goal.loop-at-init

@@ -1,9 +1,9 @@
 use Rattle.std.specs.Str.{bytes_eq}
 use Rattle.std.proofs.Common.{◌+◌, ◌-◌, ◌*◌, ◌≤◌, ◌++◌, drop, map}
-use Rattle.cell_core.specs.Cells.{bit}
-use Rattle.cell_core.specs.Sites.{bytes_of}
-use Rattle.site_operands.specs.cell_nets.Operands.{number_in}
-use Rattle.site_operands.specs.cell_nets.Wires.{wires_of, always, Gives}
+use Rattle.hazard_core.specs.cell_core.Cells.{bit}
+use Rattle.hazard_core.specs.cell_core.Sites.{bytes_of}
+use Rattle.cell_nets.specs.Operands.{number_in}
+use Rattle.cell_nets.specs.Wires.{wires_of, always, Gives}
 use Rattle.overlay_net.proofs.keys.same_key.Given as goal
 
 abbrev pub invariant-loop-at : goal.invariant-loop-at

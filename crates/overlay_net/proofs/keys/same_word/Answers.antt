@@ -1,9 +1,9 @@
 use Rattle.std.proofs.Common.{◌∙◌, ◌==◌, [], ◌∷◌, ap, arith}
-use Rattle.cell_core.specs.Cells.{bit, bits_from}
-use Rattle.site_operands.specs.cell_nets.Operands.{number_in, IsAvailable}
-use Rattle.site_operands.specs.cell_nets.Wires.{wires_of, always}
-use Rattle.step_nets.proofs.ChainLaws.{starts, next, last}
-use Rattle.step_nets.proofs.StepLaws.{all_each}
+use Rattle.hazard_core.specs.cell_core.Cells.{bit, bits_from}
+use Rattle.cell_nets.specs.Operands.{number_in, IsAvailable}
+use Rattle.cell_nets.specs.Wires.{wires_of, always}
+use Rattle.cell_nets.proofs.StepNets.ChainLaws.{starts, next, last}
+use Rattle.cell_nets.proofs.StepNets.StepLaws.{all_each}
 use Rattle.overlay_net.proofs.keys.same_word.Goals as goal
 
 pub returns : goal.returns

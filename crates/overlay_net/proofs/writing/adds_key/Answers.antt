@@ -1,11 +1,11 @@
 use Rattle.std.proofs.Common.{[], ◌∷◌, arith}
-use Rattle.cell_core.specs.Cells.{bit}
-use Rattle.site_operands.specs.hazard_core.Held.{adds_key}
-use Rattle.site_operands.specs.cell_nets.Operands.{number_in, IsAvailable}
-use Rattle.site_operands.specs.cell_nets.Wires.{wires_of}
-use Rattle.site_operands.specs.Sites.{operands_of, all_of}
-use Rattle.step_nets.proofs.ChainLaws.{starts, last, ends}
-use Rattle.step_nets.proofs.StepLaws.{all_each}
+use Rattle.hazard_core.specs.cell_core.Cells.{bit}
+use Rattle.hazard_core.specs.Held.{adds_key}
+use Rattle.cell_nets.specs.Operands.{number_in, IsAvailable}
+use Rattle.cell_nets.specs.Wires.{wires_of}
+use Rattle.overlay_net.specs.SiteOperands.Sites.{operands_of, all_of}
+use Rattle.cell_nets.proofs.StepNets.ChainLaws.{starts, last, ends}
+use Rattle.cell_nets.proofs.StepNets.StepLaws.{all_each}
 use Rattle.overlay_net.proofs.WriteLemmas.{update_adds, other_adds}
 use Rattle.overlay_net.proofs.writing.adds_key.Goals as goal
 

@@ -1,9 +1,9 @@
 use Rattle.std.proofs.Common.{[], ◌∷◌, arith}
-use Rattle.cell_core.specs.Cells.{bit}
-use Rattle.site_operands.specs.hazard_core.Held.{takes_key}
-use Rattle.site_operands.specs.cell_nets.Operands.{number_in}
-use Rattle.site_operands.specs.cell_nets.Wires.{wires_of}
-use Rattle.step_nets.proofs.ChainLaws.{starts, last, ends}
+use Rattle.hazard_core.specs.cell_core.Cells.{bit}
+use Rattle.hazard_core.specs.Held.{takes_key}
+use Rattle.cell_nets.specs.Operands.{number_in}
+use Rattle.cell_nets.specs.Wires.{wires_of}
+use Rattle.cell_nets.proofs.StepNets.ChainLaws.{starts, last, ends}
 use Rattle.overlay_net.proofs.WriteLemmas.{delete_takes, other_takes}
 use Rattle.overlay_net.proofs.writing.takes_key.Goals as goal
 

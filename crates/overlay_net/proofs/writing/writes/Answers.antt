@@ -1,13 +1,13 @@
 use Rattle.std.specs.Prelude.{not}
 use Rattle.std.proofs.Common.{true, false, ◌∙◌, [], ◌∷◌, ap, arith}
-use Rattle.cell_core.specs.declared.site.Act.TheVariants as act
-use Rattle.cell_core.specs.Cells.{bit, on}
-use Rattle.site_operands.specs.hazard_core.Held.{writes, writes_as}
-use Rattle.site_operands.specs.cell_nets.Operands.{number_in, IsAvailable}
-use Rattle.site_operands.specs.cell_nets.Wires.{wires_of}
-use Rattle.site_operands.specs.Sites.{operands_of, all_of}
-use Rattle.step_nets.proofs.ChainLaws.{starts, last, ends}
-use Rattle.step_nets.proofs.StepLaws.{all_each}
+use Rattle.hazard_core.specs.cell_core.declared.site.Act.TheVariants as act
+use Rattle.hazard_core.specs.cell_core.Cells.{bit, on}
+use Rattle.hazard_core.specs.Held.{writes, writes_as}
+use Rattle.cell_nets.specs.Operands.{number_in, IsAvailable}
+use Rattle.cell_nets.specs.Wires.{wires_of}
+use Rattle.overlay_net.specs.SiteOperands.Sites.{operands_of, all_of}
+use Rattle.cell_nets.proofs.StepNets.ChainLaws.{starts, last, ends}
+use Rattle.cell_nets.proofs.StepNets.StepLaws.{all_each}
 use Rattle.overlay_net.proofs.WriteLemmas.{is_zero, and_none, and_all, shown_writes, others_write}
 use Rattle.overlay_net.proofs.writing.writes.Goals as goal
 

@@ -1,9 +1,9 @@
 use Rattle.std.proofs.Common.{◌≡◌, min, take, length, [], refl, ap, ◌∙◌, sym, arith}
 use Rattle.std.proofs.lemmas.List.{take_min, nil_from_length}
-use Rattle.beat_core.specs.Beats.{first_beat}
-use Rattle.beat_core.specs.Words.{word_of}
-use Rattle.beat_core.proofs.WordLaws.{little_from-word_of, word_of-nil}
-use Rattle.beat_core.proofs.BeatLaws.{same_beat}
+use Rattle.realization.specs.beat_core.Beats.{first_beat}
+use Rattle.realization.specs.beat_core.Words.{word_of}
+use Rattle.realization.proofs.beat_core_laws.WordLaws.{little_from-word_of, word_of-nil}
+use Rattle.realization.proofs.beat_core_laws.BeatLaws.{same_beat}
 use Rattle.pipe_core.proofs.answers.first_beat.Goals as goal
 use Rattle.pipe_core.proofs.answers.first_beat.Goals.{then-count-eq0, else-count-eq0}
 

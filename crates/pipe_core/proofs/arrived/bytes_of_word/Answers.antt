@@ -1,5 +1,5 @@
 use Rattle.std.proofs.Common.{◌∙◌, rules}
-use Rattle.beat_core.proofs.WordLaws.{written_bytes}
+use Rattle.realization.proofs.beat_core_laws.WordLaws.{written_bytes}
 use Rattle.pipe_core.proofs.arrived.bytes_of_word.Goals as goal
 
 pub returns : goal.returns

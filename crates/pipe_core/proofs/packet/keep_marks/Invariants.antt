@@ -1,7 +1,7 @@
 use Rattle.std.proofs.Common.{◌≡◌, ◌&&◌, not}
 use Rattle.std.specs.Prelude.{slice_index}
-use Rattle.cell_core.specs.Sites.{site_at}
-use Rattle.cell_core.specs.View.{program_of}
+use Rattle.hazard_core.specs.cell_core.Sites.{site_at}
+use Rattle.hazard_core.specs.cell_core.View.{program_of}
 use Rattle.hazard_core.specs.Marks.{known_off}
 use Rattle.pipe_core.proofs.Numbered.{made_to}
 use Rattle.pipe_core.proofs.packet.keep_marks.Given as goal

@@ -1,6 +1,6 @@
 use Rattle.std.proofs.Common.{◌≡◌, ◌∙◌, length, sym, arith}
 use Rattle.std.proofs.lemmas.List.{length-map}
-use Rattle.cell_core.specs.View.{program_of, site_of}
+use Rattle.hazard_core.specs.cell_core.View.{program_of, site_of}
 use Rattle.pipe_core.proofs.Numbered.{made_all}
 use Rattle.pipe_core.proofs.packet.strike_marks.Goals as goal
 

@@ -1,6 +1,6 @@
 use Rattle.std.proofs.Common.{◌≡◌, ◌||◌}
 use Rattle.std.specs.Prelude.{slice_index}
-use Rattle.cell_core.specs.View.{program_of}
+use Rattle.hazard_core.specs.cell_core.View.{program_of}
 use Rattle.hazard_core.specs.Marks.{is_marked}
 use Rattle.pipe_core.proofs.Numbered.{made_to}
 use Rattle.pipe_core.proofs.packet.strike_marks.Given as goal

@@ -1,5 +1,5 @@
 use Rattle.std.proofs.Common.{◌≡◌, ap, arith}
-use Rattle.cell_core.specs.Cells.{bit}
+use Rattle.hazard_core.specs.cell_core.Cells.{bit}
 use Rattle.pipe_core.proofs.Moving.{count_step}
 use Rattle.pipe_core.proofs.places.count_used.Goals as goal
 use Rattle.pipe_core.proofs.places.count_used.Goals.{then-place, else-place}

@@ -1,5 +1,5 @@
 use Rattle.std.proofs.Common.{◌+◌, suc, arith}
-use Rattle.cell_core.specs.View.{program_of}
+use Rattle.hazard_core.specs.cell_core.View.{program_of}
 use Rattle.pipe_core.proofs.Moving.{stock_more}
 use Rattle.pipe_core.proofs.places.empty_places.Goals as goal
 

@@ -1,5 +1,5 @@
 use Rattle.std.proofs.Common.{◌≡◌, suc, length, None, replicate, map as map_list}
-use Rattle.cell_core.specs.View.{program_of}
+use Rattle.hazard_core.specs.cell_core.View.{program_of}
 use Rattle.pipe_core.specs.Stocked.{in_place, AreStocked}
 use Rattle.pipe_core.proofs.places.empty_places.Given as goal
 

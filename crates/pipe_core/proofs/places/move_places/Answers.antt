@@ -1,7 +1,7 @@
 use Rattle.std.proofs.Common.{◌≡◌, ◌∙◌, ◌+◌, ◌<◌, ap, sym, subst, length, set, map as map_list, arith, length-set}
-use Rattle.cell_core.specs.Cells.{bit}
-use Rattle.cell_core.specs.View.{program_of}
-use Rattle.beat_core.specs.Ports.{Arrival}
+use Rattle.hazard_core.specs.cell_core.Cells.{bit}
+use Rattle.hazard_core.specs.cell_core.View.{program_of}
+use Rattle.realization.specs.beat_core.Ports.{Arrival}
 use Rattle.pipe_core.specs.declared.places.Place.{Place}
 use Rattle.pipe_core.specs.Machine.{enters}
 use Rattle.pipe_core.specs.Planned.{build_of, IsPacketOf}

@@ -1,5 +1,5 @@
 use Rattle.std.proofs.Common.{◌∙◌, ◌<◌, length, arith, length-set}
-use Rattle.cell_core.specs.View.{program_of}
+use Rattle.hazard_core.specs.cell_core.View.{program_of}
 use Rattle.pipe_core.specs.Planned.{build_of}
 use Rattle.pipe_core.proofs.Moving.{strike_step, stock_set}
 use Rattle.pipe_core.proofs.places.strike_places.Goals as goal

@@ -1,6 +1,6 @@
 use Rattle.std.proofs.Common.{◌≡◌, ◌∙◌, ◌+◌, ◌-◌, ◌<◌, sym, subst, length, map as map_list, arith, length-set}
 use Rattle.std.proofs.lemmas.List.{length-map}
-use Rattle.cell_core.specs.View.{program_of}
+use Rattle.hazard_core.specs.cell_core.View.{program_of}
 use Rattle.pipe_core.specs.Planned.{build_of, IsPacketOf}
 use Rattle.pipe_core.specs.Stocked.{in_place}
 use Rattle.pipe_core.proofs.Moving.{send_step, sweep_step, stock_at, stock_set}

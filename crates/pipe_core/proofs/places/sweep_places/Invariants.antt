@@ -1,5 +1,5 @@
 use Rattle.std.proofs.Common.{◌≡◌, ◌≤◌, length, drop, map as map_list}
-use Rattle.cell_core.specs.View.{program_of}
+use Rattle.hazard_core.specs.cell_core.View.{program_of}
 use Rattle.pipe_core.specs.Machine.{some_send}
 use Rattle.pipe_core.specs.Planned.{build_of}
 use Rattle.pipe_core.specs.Stocked.{in_place, AreStocked}

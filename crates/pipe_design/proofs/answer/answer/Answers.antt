@@ -1,8 +1,8 @@
 use Rattle.std.proofs.Common.{◌≡◌, All, sym, subst}
-use Rattle.cell_nets.specs.Operands.{IsOperand}
-use Rattle.site_table.specs.row_net.Table.{IsIn}
-use Rattle.place_net.specs.Exit.{output_operands}
-use Rattle.map_parts.specs.pipe_draft.Draft.{program_in, plan_in}
+use Rattle.overlay_net.specs.cell_nets.Operands.{IsOperand}
+use Rattle.row_net.specs.Table.{IsIn}
+use Rattle.row_net.specs.PlaceNet.Exit.{output_operands}
+use Rattle.pipe_parts.specs.PipeDraft.Draft.{program_in, plan_in}
 use Rattle.pipe_design.specs.Answer.{AreOutputs}
 use Rattle.pipe_design.proofs.Reached.{in_window, verdict_in, target_in, bytes_in, all_operands, last_table}
 use Rattle.pipe_design.proofs.answer.answer.Goals as goal

@@ -1,5 +1,5 @@
 use Rattle.std.proofs.Common.{◌≡◌, ◌+◌, All, map, take, refl, sym, subst, arith}
-use Rattle.place_net.specs.Exit.{byte_number}
+use Rattle.row_net.specs.PlaceNet.Exit.{byte_number}
 use Rattle.pipe_design.specs.Answer.{IsByteIn}
 use Rattle.pipe_design.proofs.Answering.{bytes_more, byte_numbers_more}
 use Rattle.pipe_design.proofs.answer.bytes.Goals as goal

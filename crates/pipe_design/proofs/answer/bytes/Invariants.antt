@@ -1,5 +1,5 @@
 use Rattle.std.proofs.Common.{◌≡◌, All, take, map as map_list}
-use Rattle.place_net.specs.Exit.{byte_number}
+use Rattle.row_net.specs.PlaceNet.Exit.{byte_number}
 use Rattle.pipe_design.specs.Answer.{IsByteIn}
 use Rattle.pipe_design.proofs.answer.bytes.Given as goal
 

@@ -1,6 +1,6 @@
 use Rattle.std.specs.List.{filter}
 use Rattle.std.proofs.Common.{◌≡◌}
-use Rattle.row_plan.specs.cell_core.Rows.{numbers}
+use Rattle.hazard_core.specs.cell_core.Rows.{numbers}
 use Rattle.pipe_design.specs.Answer.{has_byte}
 use Rattle.pipe_design.proofs.answer.changed_words.Given as goal
 

@@ -2,7 +2,7 @@ use Rattle.std.specs.Prelude.{Err}
 use Rattle.std.specs.Result.{IsErrAnd}
 use Rattle.std.proofs.Common.{◌≡◌, ap, sym, subst, slice_index}
 use Rattle.net_core.specs.View.{netlist_of}
-use Rattle.site_table.specs.Constants.{AreEarly}
+use Rattle.stage_net.specs.SiteTable.Constants.{AreEarly}
 use Rattle.pipe_design.specs.declared.error.PipelineError.TheVariants as error
 use Rattle.pipe_design.specs.Errors.{of_link}
 use Rattle.pipe_design.specs.Pipeline.{IsPipelineOf, IsTooLarge}

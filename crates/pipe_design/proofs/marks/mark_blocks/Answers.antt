@@ -4,9 +4,9 @@ use Rattle.block_core.specs.declared.block.Block.{Block}
 use Rattle.block_core.specs.View.{block_of}
 use Rattle.pipe_net.specs.declared.parts.Part.{Part}
 use Rattle.pipe_net.specs.declared.parts.Sizes.{Sizes}
-use Rattle.map_parts.specs.pipe_draft.declared.places.Behind.{Behind}
-use Rattle.map_parts.specs.mark_parts.Marks.{IsMarksPart}
-use Rattle.map_parts.specs.mark_parts.Places.{HaveOperands}
+use Rattle.pipe_parts.specs.declared.pipe_draft.places.Behind.{Behind}
+use Rattle.place_parts.specs.MarkParts.Marks.{IsMarksPart}
+use Rattle.place_parts.specs.MarkParts.Places.{HaveOperands}
 use Rattle.pipe_design.proofs.Joining.{one_more, each_more}
 use Rattle.pipe_design.proofs.Marking.{mark_layout, up, have_operands, sites_at}
 use Rattle.pipe_design.proofs.marks.mark_blocks.Goals as goal

@@ -3,8 +3,8 @@ use Rattle.block_core.specs.declared.name.Name.{Name}
 use Rattle.block_core.specs.declared.block.Block.{Block}
 use Rattle.block_core.specs.View.{block_of}
 use Rattle.pipe_net.specs.declared.parts.Part.{Part}
-use Rattle.map_parts.specs.pipe_draft.declared.places.Behind.{Behind}
-use Rattle.map_parts.specs.mark_parts.Marks.{IsMarksPart}
+use Rattle.pipe_parts.specs.declared.pipe_draft.places.Behind.{Behind}
+use Rattle.place_parts.specs.MarkParts.Marks.{IsMarksPart}
 use Rattle.pipe_design.proofs.marks.mark_blocks.Given as goal
 
 abbrev pub invariant-loop-k : goal.invariant-loop-k

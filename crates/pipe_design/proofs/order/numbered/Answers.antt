@@ -2,7 +2,7 @@ use Rattle.std.proofs.Common.{◌≡◌, ◌∙◌, ◌++◌, ℕ, suc, List, []
 use Rattle.std.proofs.lemmas.List.{map-append, length-map}
 use Rattle.block_core.specs.declared.block.Placed.{Placed}
 use Rattle.block_core.specs.View.{block_of}
-use Rattle.row_plan.specs.cell_core.Rows.{numbers}
+use Rattle.hazard_core.specs.cell_core.Rows.{numbers}
 use Rattle.pipe_net.specs.declared.parts.Part.{Part}
 use Rattle.pipe_net.specs.Parts.{part}
 use Rattle.pipe_design.specs.Order.{AreNumbered}

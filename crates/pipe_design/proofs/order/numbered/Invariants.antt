@@ -1,7 +1,7 @@
 use Rattle.std.proofs.Common.{◌≡◌, ◌++◌, length, map as map_list}
 use Rattle.std.specs.Vec.Iter.{into_iter_items, into_iter_len}
 use Rattle.block_core.specs.View.{block_of}
-use Rattle.row_plan.specs.cell_core.Rows.{numbers}
+use Rattle.hazard_core.specs.cell_core.Rows.{numbers}
 use Rattle.pipe_net.specs.Parts.{part}
 use Rattle.pipe_design.proofs.order.numbered.Given as goal
 

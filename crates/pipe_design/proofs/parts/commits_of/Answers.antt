@@ -1,8 +1,8 @@
 use Rattle.std.proofs.Common.{◌≡◌, ◌∙◌, ℕ, ◌+◌, ◌<◌, List, length, get_or, sym, ap, subst, arith}
 use Rattle.std.proofs.lemmas.List.{get_or_default}
-use Rattle.target_net.specs.declared.targets.TargetPart.{TargetPart}
+use Rattle.turn_net.specs.declared.target_net.targets.TargetPart.{TargetPart}
 use Rattle.pipe_net.specs.declared.parts.Part.{Part}
-use Rattle.map_parts.specs.declared.committing.MapCommits.{MapCommits}
+use Rattle.pipe_design.specs.declared.map_parts.committing.MapCommits.{MapCommits}
 use Rattle.pipe_design.specs.Parts.{IsMapCommits}
 use Rattle.pipe_design.proofs.Joining.{each_more, one_more}
 use Rattle.pipe_design.proofs.parts.commits_of.Goals as goal

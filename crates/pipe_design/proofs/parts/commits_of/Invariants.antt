@@ -1,5 +1,5 @@
 use Rattle.std.proofs.Common.{◌≡◌, ℕ, ◌<◌, length, get_or}
-use Rattle.map_parts.specs.declared.committing.MapCommits.{MapCommits}
+use Rattle.pipe_design.specs.declared.map_parts.committing.MapCommits.{MapCommits}
 use Rattle.pipe_design.specs.Parts.{IsMapCommits}
 use Rattle.pipe_design.proofs.parts.commits_of.Given as goal
 

@@ -1,6 +1,6 @@
 use Rattle.std.proofs.Common.{◌≡◌, sym, subst}
 use Rattle.std.proofs.lemmas.Result.{IfOk-weaker}
-use Rattle.map_parts.specs.declared.committing.Committing.{Committing}
+use Rattle.pipe_design.specs.declared.map_parts.committing.Committing.{Committing}
 use Rattle.pipe_design.specs.Parts.{AreMapCommits}
 use Rattle.pipe_design.proofs.Turning.{committing}
 use Rattle.pipe_design.proofs.parts.maps_by.Goals as goal

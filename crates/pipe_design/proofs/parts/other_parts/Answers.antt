@@ -1,14 +1,14 @@
 use Rattle.std.specs.List.{AllByRecursion}
 use Rattle.std.proofs.Common.{◌≡◌, ◌∙◌, ◌≤◌, List, length, get_or, refl, sym, ap, subst, arith}
 use Rattle.std.proofs.lemmas.List.{get_or_default}
-use Rattle.scatter_net.specs.frame_net.Gather.{IsKept}
+use Rattle.frame_net.specs.Gather.{IsKept}
 use Rattle.pipe_net.specs.declared.parts.Sizes.{Sizes}
-use Rattle.map_parts.specs.pipe_draft.declared.places.Behind.{Behind}
-use Rattle.map_parts.specs.pipe_draft.Draft.{program_in, plan_in}
-use Rattle.map_parts.specs.pipe_draft.Places.{IsBehind}
-use Rattle.map_parts.specs.mark_parts.Marks.{HaveChanges}
-use Rattle.turn_parts.specs.slot_parts.Nets.{AreMapNets}
-use Rattle.turn_parts.specs.Parts.{AreTurnPartsIn}
+use Rattle.pipe_parts.specs.declared.pipe_draft.places.Behind.{Behind}
+use Rattle.pipe_parts.specs.PipeDraft.Draft.{program_in, plan_in}
+use Rattle.pipe_parts.specs.PipeDraft.Places.{IsBehind}
+use Rattle.place_parts.specs.MarkParts.Marks.{HaveChanges}
+use Rattle.pipe_parts.specs.SlotParts.Nets.{AreMapNets}
+use Rattle.pipe_parts.specs.TurnParts.Parts.{AreTurnPartsIn}
 use Rattle.place_parts.specs.Maps.{AreMapsFor}
 use Rattle.place_parts.specs.Parts.{ArePlaceParts}
 use Rattle.pipe_design.specs.Marks.{AreMarkBlocks}

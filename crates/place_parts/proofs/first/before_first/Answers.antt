@@ -1,6 +1,6 @@
 use Rattle.std.proofs.Common.{All, map}
 use Rattle.hazard_core.specs.cell_core.View.{cell_of}
-use Rattle.place_net.specs.Sources.{IsSource}
+use Rattle.row_net.specs.PlaceNet.Sources.{IsSource}
 use Rattle.place_parts.proofs.Sources.{are_sources}
 use Rattle.place_parts.proofs.first.before_first.Goals as goal
 

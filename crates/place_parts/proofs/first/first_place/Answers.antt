@@ -1,5 +1,5 @@
 use Rattle.std.proofs.Common.{◌∙◌, sym}
-use Rattle.cell_nets.specs.Wires.{wires_of}
+use Rattle.overlay_net.specs.cell_nets.Wires.{wires_of}
 use Rattle.place_parts.proofs.Sources.{stands_first}
 use Rattle.place_parts.proofs.first.first_place.Goals as goal
 

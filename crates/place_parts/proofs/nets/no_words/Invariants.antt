@@ -1,5 +1,5 @@
 use Rattle.std.proofs.Common.{◌≡◌, All, length}
-use Rattle.cell_nets.specs.declared.operand.Operand.TheVariants.{Known}
+use Rattle.overlay_net.specs.cell_nets.declared.operand.Operand.TheVariants.{Known}
 use Rattle.place_parts.proofs.nets.no_words.Given as goal
 
 abbrev pub invariant-loop-site : goal.invariant-loop-site

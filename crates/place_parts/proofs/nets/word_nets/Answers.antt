@@ -2,10 +2,10 @@ use Rattle.std.proofs.Common.{◌≡◌, ◌∙◌, ℕ, ◌<◌, length, get_or
 use Rattle.std.proofs.lemmas.List.{length-map}
 use Rattle.block_core.specs.declared.name.Name.{Name}
 use Rattle.hazard_core.specs.cell_core.View.{site_of}
-use Rattle.cell_nets.specs.declared.operand.Operand.TheVariants.{Net}
-use Rattle.change_net.specs.declared.pointed.PointedWords.{PointedWords}
+use Rattle.overlay_net.specs.cell_nets.declared.operand.Operand.TheVariants.{Net}
+use Rattle.commit_net.specs.declared.change_net.pointed.PointedWords.{PointedWords}
 use Rattle.pipe_net.specs.declared.parts.Part.{Part}
-use Rattle.pipe_draft.specs.Draft.{program_in}
+use Rattle.pipe_parts.specs.PipeDraft.Draft.{program_in}
 use Rattle.place_parts.specs.Words.{load_at}
 use Rattle.place_parts.proofs.Available.{same_there}
 use Rattle.place_parts.proofs.Pointing.{load_low}

@@ -1,6 +1,6 @@
 use Rattle.std.proofs.Common.{All, sym, subst}
 use Rattle.block_core.specs.View.{block_of}
-use Rattle.cell_nets.specs.Operands.{IsOperand}
+use Rattle.overlay_net.specs.cell_nets.Operands.{IsOperand}
 use Rattle.place_parts.specs.Places.{IsFirstPlace}
 use Rattle.place_parts.specs.Parts.{AreStages}
 use Rattle.place_parts.specs.Words.{AreWordNets}

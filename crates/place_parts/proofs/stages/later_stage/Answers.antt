@@ -1,8 +1,8 @@
 use Rattle.std.proofs.Common.{◌≡◌, ◌∙◌, ℕ, suc, ◌+◌, ◌<◌, ◌≤◌, length, sym, ap, subst, arith}
 use Rattle.block_core.specs.View.{block_of}
-use Rattle.cell_nets.specs.Wires.{wires_of}
-use Rattle.pipe_draft.specs.Draft.{plan_in}
-use Rattle.pipe_draft.specs.Places.{IsBehind}
+use Rattle.overlay_net.specs.cell_nets.Wires.{wires_of}
+use Rattle.pipe_parts.specs.PipeDraft.Draft.{plan_in}
+use Rattle.pipe_parts.specs.PipeDraft.Places.{IsBehind}
 use Rattle.place_parts.specs.Places.{StandsBefore, IsStageOf}
 use Rattle.place_parts.proofs.Available.{same_there}
 use Rattle.place_parts.proofs.Standing.{stands_later}

@@ -1,10 +1,10 @@
 use Rattle.std.proofs.Common.{◌∙◌, ap, refl}
 use Rattle.control_net.specs.Names.{wire_name}
 use Rattle.control_net.specs.declared.names.Wire.TheVariants.{Advances}
-use Rattle.cell_nets.specs.Wires.{wires_of}
+use Rattle.overlay_net.specs.cell_nets.Wires.{wires_of}
 use Rattle.block_core.specs.View.{block_of}
-use Rattle.site_table.specs.Staged.{AreStaged, AreLists}
-use Rattle.pipe_draft.specs.Draft.{program_in, plan_in}
+use Rattle.stage_net.specs.SiteTable.Staged.{AreStaged, AreLists}
+use Rattle.pipe_parts.specs.PipeDraft.Draft.{program_in, plan_in}
 use Rattle.place_parts.proofs.Making.{AreInputs, staged_over, nets_are, ready, held_ready, held_wide, pointed, held_pointed, of_row, is_made}
 use Rattle.place_parts.proofs.stages.stage_over.Goals as goal
 

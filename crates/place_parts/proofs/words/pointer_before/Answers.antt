@@ -1,9 +1,9 @@
 use Rattle.std.proofs.Common.{◌≡◌, ◌∙◌, ℕ, suc, ◌-◌, ◌<◌, ◌≤◌, length, get_or, ap, arith}
-use Rattle.site_table.specs.site_operands.declared.SiteNets.{SiteNets}
+use Rattle.overlay_net.specs.declared.site_operands.SiteNets.{SiteNets}
 use Rattle.block_core.specs.declared.name.Name.{Name}
 use Rattle.pipe_net.specs.declared.parts.Part.{Part}
-use Rattle.pipe_draft.specs.declared.places.Behind.{Behind}
-use Rattle.pipe_draft.specs.Draft.{plan_in}
+use Rattle.pipe_parts.specs.declared.pipe_draft.places.Behind.{Behind}
+use Rattle.pipe_parts.specs.PipeDraft.Draft.{plan_in}
 use Rattle.place_parts.proofs.Available.{same_there}
 use Rattle.place_parts.proofs.WordParts.{pointer_at}
 use Rattle.place_parts.proofs.words.pointer_before.Goals as goal

@@ -1,8 +1,8 @@
 use Rattle.std.proofs.Common.{◌∙◌, ap, arith}
 use Rattle.std.proofs.lemmas.List.{length-map}
 use Rattle.hazard_core.specs.cell_core.View.{site_of}
-use Rattle.cell_nets.specs.Wires.{wires_of}
-use Rattle.change_net.specs.value_net.Words.{answers_number}
+use Rattle.overlay_net.specs.cell_nets.Wires.{wires_of}
+use Rattle.overlay_net.specs.ValueNet.Words.{answers_number}
 use Rattle.place_parts.proofs.WordParts.{number_low, number_answers, word_inside, slot_operand, made_word}
 use Rattle.place_parts.proofs.words.word_part.Goals as goal
 

@@ -1,6 +1,6 @@
 use Rattle.std.proofs.Common.{◌≡◌, ℕ, ◌+◌, ◌<◌, List, length, get_or, sym, subst}
 use Rattle.block_core.specs.declared.name.Name.{Name}
-use Rattle.change_net.specs.declared.pointed.PointedWords.{PointedWords}
+use Rattle.commit_net.specs.declared.change_net.pointed.PointedWords.{PointedWords}
 use Rattle.pipe_net.specs.declared.parts.Part.{Part}
 use Rattle.place_parts.specs.Words.{IsWordPart}
 use Rattle.place_parts.proofs.Pushing.{each_more, one_more}

@@ -1,6 +1,6 @@
 use Rattle.std.proofs.Common.{◌≡◌, ℕ, ◌<◌, length, get_or}
 use Rattle.block_core.specs.declared.name.Name.{Name}
-use Rattle.change_net.specs.declared.pointed.PointedWords.{PointedWords}
+use Rattle.commit_net.specs.declared.change_net.pointed.PointedWords.{PointedWords}
 use Rattle.pipe_net.specs.declared.parts.Part.{Part}
 use Rattle.place_parts.specs.Words.{IsWordPart}
 use Rattle.place_parts.proofs.words.word_parts.Given as goal

@@ -1,7 +1,7 @@
 use Rattle.std.proofs.Common.{◌+◌, ◌<◌, length, drop, subst, ◌∙◌, arith}
 use Rattle.net_core.specs.History.{NeverStops}
 use Rattle.xdp_maps.specs.State.{decl_at}
-use Rattle.host_history.specs.Host.{map_reads, reads, dump}
+use Rattle.realization.specs.HostHistory.Host.{map_reads, reads, dump}
 use Rattle.port_drive.proofs.HostClocks.{stops_in}
 use Rattle.port_drive.proofs.DumpSteps.{next_map, dumped_on}
 use Rattle.port_drive.proofs.HostLaws.{never_stops}

@@ -2,8 +2,8 @@ use Rattle.std.proofs.Common.{◌≡◌, ◌+◌, ◌<◌, ◌++◌, length, map
 use Rattle.std.proofs.lemmas.List.{length-take-le}
 use Rattle.std.specs.List.{range_with_len}
 use Rattle.xdp_maps.specs.State.{decl_at}
-use Rattle.host_history.specs.Rows.{row_length}
-use Rattle.host_history.specs.Host.{asked}
+use Rattle.realization.specs.HostHistory.Rows.{row_length}
+use Rattle.realization.specs.HostHistory.Host.{asked}
 use Rattle.port_drive.proofs.HostClocks.{stops_in}
 use Rattle.port_drive.proofs.LoadLemmas.{decl_read}
 use Rattle.port_drive.proofs.DumpSteps.{read_first, read_on, rows_from, rows-next}

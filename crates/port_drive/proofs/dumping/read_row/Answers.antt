@@ -1,5 +1,5 @@
 use Rattle.std.proofs.Common.{◌+◌, ◌<◌, ◌∷◌, [], length, ◌∙◌, arith}
-use Rattle.host_history.specs.Host.{asked}
+use Rattle.realization.specs.HostHistory.Host.{asked}
 use Rattle.port_drive.proofs.HostClocks.{goes_on, stops_in}
 use Rattle.port_drive.proofs.DumpSteps.{words_from, words-next, row_on}
 use Rattle.port_drive.proofs.dumping.read_row.Goals as goal

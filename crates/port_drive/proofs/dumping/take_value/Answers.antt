@@ -2,7 +2,7 @@ use Rattle.std.proofs.Common.{◌≡◌, length, take, get_or, sym, ap, ◌∙�
 use Rattle.std.specs.FinMap as finite
 use Rattle.xdp_maps.specs.Contents.{index_key}
 use Rattle.xdp_maps.specs.State.{decl_at, contents_at, with_contents}
-use Rattle.host_history.specs.Rows.{bytes_of, row_length_as}
+use Rattle.realization.specs.HostHistory.Rows.{bytes_of, row_length_as}
 use Rattle.beat_core.specs.Beats.{beat_count}
 use Rattle.port_drive.proofs.LoadLemmas.{decl_read}
 use Rattle.port_drive.proofs.DumpLemmas.{value_updated}

@@ -1,6 +1,6 @@
 use Rattle.std.proofs.Common.{ap, ◌∙◌}
 use Rattle.net_core.specs.Ports.{outputs_of}
-use Rattle.host_history.specs.Host.{asked}
+use Rattle.realization.specs.HostHistory.Host.{asked}
 use Rattle.port_drive.proofs.HostClocks.{one_goes, one_stops}
 use Rattle.port_drive.proofs.host_clock.read_word.Goals as goal
 

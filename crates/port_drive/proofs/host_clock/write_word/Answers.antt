@@ -1,6 +1,6 @@
 use Rattle.std.proofs.Common.{true, ap}
 use Rattle.net_core.specs.declared.ports.Inputs.{Inputs}
-use Rattle.host_history.specs.Host.{written}
+use Rattle.realization.specs.HostHistory.Host.{written}
 use Rattle.port_drive.proofs.HostClocks.{one_goes, one_stops}
 use Rattle.port_drive.proofs.host_clock.write_word.Goals as goal
 

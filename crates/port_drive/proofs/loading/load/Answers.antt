@@ -1,7 +1,7 @@
 use Rattle.std.proofs.Common.{◌+◌, ◌<◌, length, drop, ap, ◌∙◌, arith}
-use Rattle.host_history.specs.Rows.{rows_of}
+use Rattle.realization.specs.HostHistory.Rows.{rows_of}
 use Rattle.xdp_maps.specs.State.{decl_at, contents_at}
-use Rattle.host_history.specs.Host.{map_writes, writes}
+use Rattle.realization.specs.HostHistory.Host.{map_writes, writes}
 use Rattle.port_drive.proofs.HostClocks.{goes_on, stops_in}
 use Rattle.port_drive.proofs.LoadLemmas.{map-step}
 use Rattle.port_drive.proofs.loading.load.Goals as goal

@@ -1,5 +1,5 @@
 use Rattle.std.proofs.Common.{◌≡◌, drop}
-use Rattle.host_history.specs.Host.{load, writes}
+use Rattle.realization.specs.HostHistory.Host.{load, writes}
 use Rattle.port_drive.proofs.HostClocks.{UnderWay}
 use Rattle.port_drive.proofs.loading.load.Given as goal
 

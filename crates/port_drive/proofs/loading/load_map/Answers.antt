@@ -1,8 +1,8 @@
 use Rattle.std.proofs.Common.{◌≡◌, ◌+◌, ◌<◌, ◌≤◌, get_or, [], length, drop, ap, ◌∙◌, arith}
 use Rattle.std.specs.Option.{option_copied}
 use Rattle.xdp_maps.specs.State.{decl_at, contents_at}
-use Rattle.host_history.specs.Rows.{rows_of}
-use Rattle.host_history.specs.Host.{map_writes, row_writes}
+use Rattle.realization.specs.HostHistory.Rows.{rows_of}
+use Rattle.realization.specs.HostHistory.Host.{map_writes, row_writes}
 use Rattle.port_drive.specs.Reading.{row_with}
 use Rattle.port_drive.proofs.HostClocks.{goes_on, stops_in, ends}
 use Rattle.port_drive.proofs.LoadLemmas.{pair_is, row_of_pair, short_value, row-step, rows-end, length-rows, decl_read}

@@ -1,7 +1,7 @@
 use Rattle.std.proofs.Common.{◌≡◌, drop}
 use Rattle.xdp_maps.specs.State.{decl_at, contents_at}
-use Rattle.host_history.specs.Rows.{rows_of}
-use Rattle.host_history.specs.Host.{map_writes}
+use Rattle.realization.specs.HostHistory.Rows.{rows_of}
+use Rattle.realization.specs.HostHistory.Host.{map_writes}
 use Rattle.port_drive.proofs.HostClocks.{UnderWay}
 use Rattle.port_drive.proofs.loading.load_map.Given as goal
 

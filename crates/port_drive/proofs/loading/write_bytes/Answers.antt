@@ -1,8 +1,8 @@
 use Rattle.std.proofs.Common.{◌≡◌, ◌+◌, ◌<◌, ◌∷◌, [], length, drop, refl, ap, ◌∙◌, arith, rules}
 use Rattle.std.proofs.lemmas.List.{nil_from_length, length-drop}
 use Rattle.beat_core.proofs.BeatLaws.{rest_after}
-use Rattle.host_history.specs.Rows.{words_of}
-use Rattle.host_history.specs.Host.{row_writes, written}
+use Rattle.realization.specs.HostHistory.Rows.{words_of}
+use Rattle.realization.specs.HostHistory.Host.{row_writes, written}
 use Rattle.port_drive.proofs.HostClocks.{goes_on, stops_in, ends}
 use Rattle.port_drive.proofs.LoadLemmas.{writes-step, words-nil}
 use Rattle.port_drive.proofs.loading.write_bytes.Goals as goal

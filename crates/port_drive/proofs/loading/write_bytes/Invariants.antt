@@ -1,7 +1,7 @@
 use Rattle.std.proofs.Common.{◌≡◌, ◌+◌, ◌≤◌, length}
 use Rattle.beat_core.specs.Beats.{beat_count}
-use Rattle.host_history.specs.Rows.{words_of}
-use Rattle.host_history.specs.Host.{row_writes}
+use Rattle.realization.specs.HostHistory.Rows.{words_of}
+use Rattle.realization.specs.HostHistory.Host.{row_writes}
 use Rattle.port_drive.proofs.HostClocks.{UnderWay}
 use Rattle.port_drive.proofs.loading.write_bytes.Given as goal
 

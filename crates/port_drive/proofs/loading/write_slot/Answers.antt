@@ -1,7 +1,7 @@
 use Rattle.std.proofs.Common.{◌≡◌, ◌+◌, ◌∷◌, ◌++◌, [], length, refl, sym, arith}
 use Rattle.std.proofs.lemmas.List.{append-nil}
-use Rattle.host_history.specs.Rows.{words_of, slot_of}
-use Rattle.host_history.specs.Host.{row_writes, written}
+use Rattle.realization.specs.HostHistory.Rows.{words_of, slot_of}
+use Rattle.realization.specs.HostHistory.Host.{row_writes, written}
 use Rattle.port_drive.proofs.HostClocks.{begins, goes_on, stops_in, last_part}
 use Rattle.port_drive.proofs.LoadLemmas.{row_writes-append, length-words}
 use Rattle.port_drive.proofs.loading.write_slot.Goals as goal

@@ -1,6 +1,6 @@
 use Rattle.std.proofs.Common.{◌≡◌, ◌<◌, ℕ, get_or}
 use Rattle.std.specs.Prelude.{slice_index}
-use Rattle.held_cells.specs.declared.way.Exit.{Exit}
+use Rattle.operator_cells.specs.declared.held_cells.way.Exit.{Exit}
 use Rattle.predicate_core.proofs.closing.is_stored.Given as goal
 
 abbrev pub invariant-loop-exit : goal.invariant-loop-exit

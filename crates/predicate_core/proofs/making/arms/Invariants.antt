@@ -2,7 +2,7 @@ use Rattle.std.proofs.Common.{◌≡◌, ◌<◌, List, length, take, map as map
 use Rattle.std.specs.Prelude.{All}
 use Rattle.cell_core.specs.Cells.{CellView}
 use Rattle.operator_cells.specs.Joining.{AreThere}
-use Rattle.held_cells.specs.declared.way.Way.{Way}
+use Rattle.operator_cells.specs.declared.held_cells.way.Way.{Way}
 use Rattle.predicate_core.specs.Gathering.{arms_of}
 use Rattle.predicate_core.proofs.making.arms.Given as goal
 

@@ -1,20 +1,20 @@
 use Rattle.std.proofs.Common.{Global, ◌≡◌, ◌∙◌, ℕ, ◌<◌, List, [], length, get_or, map, sym, ap, subst, arith, refl}
 use Rattle.std.proofs.lemmas.List.{length-map, get_or_default}
 use Rattle.smallvec.specs.declared.small_vec.SmallVec.{SmallVec}
-use Rattle.xdp_maps.specs.declared.decl.MapDecl.{MapDecl}
+use Rattle.xdp_machine.specs.xdp_maps.declared.decl.MapDecl.{MapDecl}
 use Rattle.kind_core.specs.declared.kind.Kinds.{Kinds}
 use Rattle.unfold_core.specs.declared.edges.Point.{Point}
-use Rattle.node_rows.specs.Rows.{no_point}
-use Rattle.held_cells.specs.declared.way.Way.{Way}
-use Rattle.held_cells.specs.Rows.{JoinsTo}
+use Rattle.operator_cells.specs.row_rules.NodeRows.Rows.{no_point}
+use Rattle.operator_cells.specs.declared.held_cells.way.Way.{Way}
+use Rattle.operator_cells.specs.HeldCells.Rows.{JoinsTo}
 use Rattle.predicate_core.specs.Gathering.{GathersTo}
 use Rattle.predicate_core.specs.Stages.{kinds_of}
 use Rattle.operator_cells.specs.Making.{seen}
-use Rattle.held_cells.specs.Paths.{NodeView, node_at}
-use Rattle.held_cells.specs.Held.{pointed}
+use Rattle.operator_cells.specs.HeldCells.Paths.{NodeView, node_at}
+use Rattle.operator_cells.specs.HeldCells.Held.{pointed}
 use Rattle.edge_cells.specs.Joining.{LeadTo}
 use Rattle.edge_cells.specs.Widening.{AreFilled}
-use Rattle.program_graph.specs.Graphs.{node_view, graph_of}
+use Rattle.predicate_core.specs.ProgramGraph.Graphs.{node_view, graph_of}
 use Rattle.predicate_core.specs.Making.{Arrives}
 use Rattle.predicate_core.specs.Feeding.{FeedsNodes}
 use Rattle.predicate_core.specs.Pointing.{ArrivePoints}

@@ -4,7 +4,7 @@ use Rattle.std.proofs.lemmas.List.Elements.{All-append, All-cons, All-nil, All-w
 use Rattle.operator_cells.specs.declared.joining.Arm.{Arm}
 use Rattle.operator_cells.specs.Making.{seen}
 use Rattle.operator_cells.proofs.MakingLaws.{grown}
-use Rattle.step_cells.specs.Waiting.{Gathers}
+use Rattle.predicate_core.specs.StepCells.Waiting.{Gathers}
 use Rattle.predicate_core.proofs.Gathered.{gathers_more}
 use Rattle.predicate_core.proofs.making.gather.Goals as goal
 

@@ -1,27 +1,27 @@
 use Rattle.std.proofs.Common.{Global, Vec, ◌≡◌, ℕ, ◌<◌, ◌≤◌, ◌==◌, Bool, List, [], ◌∷◌, ◌++◌, ◌+◌, ◌-◌, length, length-append, replicate, take, map, sym, ◌∙◌, ap, subst, arith, refl}
 use Rattle.std.specs.List.{list_any}
 use Rattle.std.proofs.lemmas.List.{length-map, get_or_default}
-use Rattle.xdp_maps.specs.declared.decl.MapDecl.{MapDecl}
+use Rattle.xdp_machine.specs.xdp_maps.declared.decl.MapDecl.{MapDecl}
 use Rattle.kind_core.specs.declared.kind.Kinds.{Kinds}
 use Rattle.kind_core.specs.Kinds.{key_bytes}
 use Rattle.unfold_core.specs.declared.edges.Point.{Point}
-use Rattle.node_rows.specs.Rows.{no_point}
+use Rattle.operator_cells.specs.row_rules.NodeRows.Rows.{no_point}
 use Rattle.cell_core.specs.Formed.{FitsMap, IsBelow}
 use Rattle.cell_core.specs.declared.program.Node.{Node}
 use Rattle.cell_core.specs.declared.site.Site.{Site}
-use Rattle.held_cells.specs.declared.way.Way.{Way}
+use Rattle.operator_cells.specs.declared.held_cells.way.Way.{Way}
 use Rattle.operator_cells.specs.Making.{seen}
-use Rattle.held_cells.specs.Paths.{NodeView, node_at}
-use Rattle.held_cells.specs.Held.{pointed, AreInside}
-use Rattle.held_cells.specs.Steps.{Steps}
-use Rattle.program_graph.specs.node_cells.Ends.{IsNode, is_reference, brought, all_brought}
-use Rattle.program_graph.specs.node_cells.Feeding.{Leave}
-use Rattle.step_cells.specs.site_cells.Sited.{sited}
-use Rattle.step_cells.specs.Stepping.{made_of}
-use Rattle.step_cells.specs.Rows.{NodeRows}
-use Rattle.step_cells.specs.Pointing.{NodePoints}
-use Rattle.program_graph.specs.Graphs.{node_view, graph_of}
-use Rattle.program_graph.specs.Sound.{IsSoundGraph}
+use Rattle.operator_cells.specs.HeldCells.Paths.{NodeView, node_at}
+use Rattle.operator_cells.specs.HeldCells.Held.{pointed, AreInside}
+use Rattle.operator_cells.specs.HeldCells.Steps.{Steps}
+use Rattle.edge_cells.specs.NodeCells.Ends.{IsNode, is_reference, brought, all_brought}
+use Rattle.edge_cells.specs.NodeCells.Feeding.{Leave}
+use Rattle.site_cells.specs.Sited.{sited}
+use Rattle.predicate_core.specs.StepCells.Stepping.{made_of}
+use Rattle.predicate_core.specs.StepCells.Rows.{NodeRows}
+use Rattle.predicate_core.specs.StepCells.Pointing.{NodePoints}
+use Rattle.predicate_core.specs.ProgramGraph.Graphs.{node_view, graph_of}
+use Rattle.predicate_core.specs.ProgramGraph.Sound.{IsSoundGraph}
 use Rattle.predicate_core.specs.Feeding.{FeedsNodes}
 use Rattle.predicate_core.specs.Progress.{making_of, entries_of, pending_of, targets, Entered}
 use Rattle.predicate_core.proofs.Progressing.{node_is, made_there, site_more, sited_count, small_keys, insn_legal, targets_inside, leave_inside, seen_count, node_made, ready_next, pending_more}

@@ -2,11 +2,11 @@ use Rattle.std.proofs.Common.{ℕ, [], ◌∷◌, ◌++◌, length, List, map, �
 use Rattle.std.proofs.lemmas.List.{length-map}
 use Rattle.cell_core.specs.Cells.{CellView}
 use Rattle.operator_cells.specs.Making.{seen}
-use Rattle.held_cells.specs.declared.way.Way.{Way}
-use Rattle.held_cells.specs.Held.{pointed}
-use Rattle.step_cells.specs.site_cells.Sited.{sited}
-use Rattle.program_graph.specs.Graphs.{node_view, graph_of}
-use Rattle.program_graph.specs.Sound.{IsSoundGraph}
+use Rattle.operator_cells.specs.declared.held_cells.way.Way.{Way}
+use Rattle.operator_cells.specs.HeldCells.Held.{pointed}
+use Rattle.site_cells.specs.Sited.{sited}
+use Rattle.predicate_core.specs.ProgramGraph.Graphs.{node_view, graph_of}
+use Rattle.predicate_core.specs.ProgramGraph.Sound.{IsSoundGraph}
 use Rattle.predicate_core.specs.Opening.{Opens}
 use Rattle.predicate_core.specs.Progress.{AreFirst, AreWaiting}
 use Rattle.predicate_core.proofs.Beginning.{opens_later, seen_none, pointed_none, sited_none, ready_first}

@@ -1,13 +1,13 @@
 use Rattle.std.proofs.Common.{◌≡◌, ℕ, ◌<◌, List, length, is_some, sym, ◌∙◌, ap, subst, arith}
 use Rattle.std.specs.Prelude.{Option, None, slice_index_or}
 use Rattle.std.proofs.lemmas.List.{length-map}
-use Rattle.bpf_isa.specs.declared.instruction.Insn.{Insn}
-use Rattle.held_cells.specs.Paths.{NodeView, node_at}
-use Rattle.program_graph.specs.node_cells.Ends.{HasEnds}
-use Rattle.program_graph.specs.declared.edge_ends.NodeEnds.{NodeEnds}
-use Rattle.program_graph.specs.Graphs.{node_view, graph_of}
-use Rattle.program_graph.specs.Nodes.{HasInsn}
-use Rattle.step_cells.specs.Stepping.{made_of}
+use Rattle.xdp_machine.specs.bpf_isa.declared.instruction.Insn.{Insn}
+use Rattle.operator_cells.specs.HeldCells.Paths.{NodeView, node_at}
+use Rattle.edge_cells.specs.NodeCells.Ends.{HasEnds}
+use Rattle.predicate_core.specs.declared.program_graph.edge_ends.NodeEnds.{NodeEnds}
+use Rattle.predicate_core.specs.ProgramGraph.Graphs.{node_view, graph_of}
+use Rattle.predicate_core.specs.ProgramGraph.Nodes.{HasInsn}
+use Rattle.predicate_core.specs.StepCells.Stepping.{made_of}
 use Rattle.predicate_core.specs.Pointing.{PointSoFar}
 use Rattle.predicate_core.specs.Progress.{pending_of}
 use Rattle.predicate_core.specs.Reading.{ReadSoFar}

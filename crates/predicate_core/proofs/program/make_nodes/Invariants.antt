@@ -1,5 +1,5 @@
-use Rattle.program_graph.specs.Graphs.{graph_of}
-use Rattle.step_cells.specs.Stepping.{made_of}
+use Rattle.predicate_core.specs.ProgramGraph.Graphs.{graph_of}
+use Rattle.predicate_core.specs.StepCells.Stepping.{made_of}
 use Rattle.predicate_core.specs.Pointing.{PointSoFar}
 use Rattle.predicate_core.specs.Progress.{pending_of, IsReady}
 use Rattle.predicate_core.specs.Reading.{ReadSoFar}

@@ -1,9 +1,9 @@
 use Rattle.std.proofs.Common.{ℕ, List, sym, subst}
 use Rattle.std.proofs.lemmas.List.{length-map}
 use Rattle.operator_cells.specs.Making.{seen}
-use Rattle.held_cells.specs.declared.way.Exit.{Exit}
-use Rattle.step_cells.specs.site_cells.Sited.{sited}
-use Rattle.program_graph.specs.Graphs.{node_view, graph_of}
+use Rattle.operator_cells.specs.declared.held_cells.way.Exit.{Exit}
+use Rattle.site_cells.specs.Sited.{sited}
+use Rattle.predicate_core.specs.ProgramGraph.Graphs.{node_view, graph_of}
 use Rattle.predicate_core.specs.Making.{IsSoFar, Answers}
 use Rattle.predicate_core.specs.Progress.{making_of}
 use Rattle.predicate_core.proofs.FirstFits.{all_fit, all_record}

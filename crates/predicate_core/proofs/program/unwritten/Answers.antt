@@ -3,7 +3,7 @@ use Rattle.std.specs.Prelude.{All}
 use Rattle.std.proofs.lemmas.List.Elements.{All-append, All-cons, All-nil, All-weaker}
 use Rattle.operator_cells.specs.Making.{seen}
 use Rattle.operator_cells.proofs.MakingLaws.{grown}
-use Rattle.step_cells.specs.Waiting.{waiting_for}
+use Rattle.predicate_core.specs.StepCells.Waiting.{waiting_for}
 use Rattle.predicate_core.proofs.LastRow.{no_row_then, no_row_more}
 use Rattle.predicate_core.proofs.program.unwritten.Goals as goal
 

@@ -1,14 +1,14 @@
 use Rattle.std.proofs.Common.{◌/◌, ◌∷◌, ◌++◌, All, sym, ap, subst, arith}
-use Rattle.cell_core.specs.Cells.{bits_from}
-use Rattle.cell_core.specs.Sites.{site_at}
-use Rattle.site_operands.specs.hazard_core.Held.{access_pointer}
-use Rattle.site_operands.specs.hazard_core.Overlay.{answer_over}
-use Rattle.site_operands.specs.cell_nets.Operands.{IsAvailable}
-use Rattle.site_operands.specs.cell_nets.Wires.{wires_of}
+use Rattle.overlay_net.specs.cell_core.Cells.{bits_from}
+use Rattle.overlay_net.specs.cell_core.Sites.{site_at}
+use Rattle.pipe_core.specs.hazard_core.Held.{access_pointer}
+use Rattle.pipe_core.specs.hazard_core.Overlay.{answer_over}
+use Rattle.overlay_net.specs.cell_nets.Operands.{IsAvailable}
+use Rattle.overlay_net.specs.cell_nets.Wires.{wires_of}
 use Rattle.overlay_net.specs.Seen.{all_read}
-use Rattle.value_net.specs.Pendings.{all_taken, IsFitting as FitsValue, AreOf, ShowPendings}
-use Rattle.value_net.specs.Words.{access_start}
-use Rattle.step_nets.proofs.ChainLaws.{starts, last}
+use Rattle.overlay_net.specs.ValueNet.Pendings.{all_taken, IsFitting as FitsValue, AreOf, ShowPendings}
+use Rattle.overlay_net.specs.ValueNet.Words.{access_start}
+use Rattle.overlay_net.proofs.cell_nets_laws.StepNets.ChainLaws.{starts, last}
 use Rattle.read_net.specs.Accesses.{ShowsWord}
 use Rattle.read_net.specs.Reads.{taken, Shows}
 use Rattle.read_net.specs.Sites.{cells_of, all_cells, slot_cells, sites_of}

@@ -1,15 +1,15 @@
 use Rattle.std.proofs.Common.{◌∷◌, ◌++◌, All, sym, subst, arith}
 use Rattle.std.proofs.lemmas.List.Elements.{All-append}
-use Rattle.cell_core.specs.Sites.{site_at}
-use Rattle.site_operands.specs.hazard_core.Overlay.{key_pointer}
-use Rattle.site_operands.specs.cell_nets.Operands.{IsAvailable}
-use Rattle.site_operands.specs.cell_nets.Wires.{wires_of, Gives}
-use Rattle.site_operands.specs.Pointers.{pointer_number}
-use Rattle.site_operands.specs.Sites.{operands_of, ShowsAsked}
+use Rattle.overlay_net.specs.cell_core.Sites.{site_at}
+use Rattle.pipe_core.specs.hazard_core.Overlay.{key_pointer}
+use Rattle.overlay_net.specs.cell_nets.Operands.{IsAvailable}
+use Rattle.overlay_net.specs.cell_nets.Wires.{wires_of, Gives}
+use Rattle.overlay_net.specs.SiteOperands.Pointers.{pointer_number}
+use Rattle.overlay_net.specs.SiteOperands.Sites.{operands_of, ShowsAsked}
 use Rattle.overlay_net.specs.Reading.{ShowsSlot}
 use Rattle.overlay_net.specs.Seen.{all_read, IsSeen, AreOf, ShowPending}
-use Rattle.step_nets.proofs.ChainLaws.{starts, next}
-use Rattle.step_nets.proofs.StepLaws.{narrow_bits}
+use Rattle.overlay_net.proofs.cell_nets_laws.StepNets.ChainLaws.{starts, next}
+use Rattle.overlay_net.proofs.cell_nets_laws.StepNets.StepLaws.{narrow_bits}
 use Rattle.read_net.specs.Reads.{ShowsBoth, Finds}
 use Rattle.read_net.specs.Sites.{cells_of, all_cells, slot_cells, sites_of}
 use Rattle.read_net.proofs.StandLemmas.{left_of, right_of, first_of, tail_of, stands_as, stands_then}

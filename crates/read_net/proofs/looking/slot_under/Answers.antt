@@ -1,14 +1,14 @@
 use Rattle.std.proofs.Common.{◌∙◌, [], ◌∷◌, ◌++◌, All, refl, sym, ap, subst, arith, map as map_list}
 use Rattle.std.proofs.lemmas.List.Elements.{All-append}
-use Rattle.cell_core.specs.Sites.{site_at, bytes_of}
-use Rattle.site_operands.specs.hazard_core.Held.{asked_key, slot_pointer}
-use Rattle.site_operands.specs.hazard_core.Tables.{table_at}
-use Rattle.site_operands.specs.cell_nets.Operands.{number_in, IsOperand, IsAvailable}
-use Rattle.site_operands.specs.cell_nets.Wires.{wires_of}
-use Rattle.site_operands.specs.Pointers.{pointer_number}
-use Rattle.site_operands.specs.Sites.{operands_of, all_of}
-use Rattle.step_nets.proofs.ChainLaws.{starts, last}
-use Rattle.slot_net.specs.Slots.{slots_of, operands_of as operands_in}
+use Rattle.overlay_net.specs.cell_core.Sites.{site_at, bytes_of}
+use Rattle.pipe_core.specs.hazard_core.Held.{asked_key, slot_pointer}
+use Rattle.pipe_core.specs.hazard_core.Tables.{table_at}
+use Rattle.overlay_net.specs.cell_nets.Operands.{number_in, IsOperand, IsAvailable}
+use Rattle.overlay_net.specs.cell_nets.Wires.{wires_of}
+use Rattle.overlay_net.specs.SiteOperands.Pointers.{pointer_number}
+use Rattle.overlay_net.specs.SiteOperands.Sites.{operands_of, all_of}
+use Rattle.overlay_net.proofs.cell_nets_laws.StepNets.ChainLaws.{starts, last}
+use Rattle.hash_net.specs.SlotNet.Slots.{slots_of, operands_of as operands_in}
 use Rattle.read_net.specs.Sites.{slot_cells}
 use Rattle.read_net.proofs.StandLemmas.{left_of, right_of, tail_of}
 use Rattle.read_net.proofs.SiteLemmas.{keys_of, shown_key}

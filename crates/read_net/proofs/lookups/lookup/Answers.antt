@@ -1,6 +1,6 @@
 use Rattle.std.proofs.Common.{◌∙◌, [], ◌∷◌, arith}
-use Rattle.site_operands.specs.cell_nets.Operands.{IsAvailable}
-use Rattle.site_operands.specs.cell_nets.Wires.{wires_of}
+use Rattle.overlay_net.specs.cell_nets.Operands.{IsAvailable}
+use Rattle.overlay_net.specs.cell_nets.Wires.{wires_of}
 use Rattle.read_net.specs.Sites.{sites_of}
 use Rattle.read_net.proofs.StandLemmas.{one_of}
 use Rattle.read_net.proofs.ReadLemmas.{own_of, reads_found}

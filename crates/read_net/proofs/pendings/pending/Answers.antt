@@ -1,11 +1,11 @@
 use Rattle.std.proofs.Common.{◌∙◌, ◌∷◌, ◌++◌, ap, arith}
-use Rattle.site_operands.specs.hazard_core.Tables.{decl_of}
-use Rattle.site_operands.specs.cell_nets.Operands.{IsOperand, IsAvailable}
-use Rattle.site_operands.specs.cell_nets.Wires.{wires_of}
+use Rattle.pipe_core.specs.hazard_core.Tables.{decl_of}
+use Rattle.overlay_net.specs.cell_nets.Operands.{IsOperand, IsAvailable}
+use Rattle.overlay_net.specs.cell_nets.Wires.{wires_of}
 use Rattle.overlay_net.specs.Reading.{IsSite}
 use Rattle.overlay_net.specs.Seen.{ShowsPending}
-use Rattle.step_nets.proofs.ChainLaws.{starts, next}
-use Rattle.step_nets.proofs.StepLaws.{narrow_bits}
+use Rattle.overlay_net.proofs.cell_nets_laws.StepNets.ChainLaws.{starts, next}
+use Rattle.overlay_net.proofs.cell_nets_laws.StepNets.StepLaws.{narrow_bits}
 use Rattle.read_net.specs.Sites.{cells_of, slot_cells, ShowsOwn, ShowsTable}
 use Rattle.read_net.proofs.StandLemmas.{left_of, right_of, first_of, tail_of, stands_as, stands_then}
 use Rattle.read_net.proofs.pendings.pending.Goals as goal

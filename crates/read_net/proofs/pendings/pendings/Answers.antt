@@ -1,7 +1,7 @@
 use Rattle.std.proofs.Common.{◌≡◌, ◌∙◌, ◌+◌, ◌<◌, ◌∷◌, [], All, length, get_or, sym, ap, subst, arith}
 use Rattle.std.proofs.lemmas.List.{length_push}
 use Rattle.std.proofs.lemmas.List.Elements.{All-append, All-nil}
-use Rattle.site_operands.specs.cell_nets.Wires.{wires_of}
+use Rattle.overlay_net.specs.cell_nets.Wires.{wires_of}
 use Rattle.overlay_net.specs.Seen.{IsSeen}
 use Rattle.read_net.specs.Sites.{IsWhole, IsOwn, IsSeenOf}
 use Rattle.read_net.proofs.StandLemmas.{one_of}

@@ -1,8 +1,8 @@
 use Rattle.std.proofs.Common.{◌≡◌, ◌∙◌, ◌∷◌, ◌++◌, sym, subst, arith}
 use Rattle.std.proofs.lemmas.Nat.{pow_pos}
-use Rattle.xdp_maps.specs.declared.decl.MapKind.TheVariants as kind
-use Rattle.site_operands.specs.cell_nets.Wires.{wires_of}
-use Rattle.step_nets.proofs.ChainLaws.{starts, next}
+use Rattle.overlay_net.specs.xdp_maps.declared.decl.MapKind.TheVariants as kind
+use Rattle.overlay_net.specs.cell_nets.Wires.{wires_of}
+use Rattle.overlay_net.proofs.cell_nets_laws.StepNets.ChainLaws.{starts, next}
 use Rattle.read_net.specs.Sites.{cells_of, slot_cells, IsMapOf, ShowsOwn, ShowsTable}
 use Rattle.read_net.proofs.StandLemmas.{stands_as, stands_none}
 use Rattle.read_net.proofs.pendings.written_slot.Goals as goal

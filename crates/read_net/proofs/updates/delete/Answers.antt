@@ -1,7 +1,7 @@
 use Rattle.std.proofs.Common.{◌∙◌, [], ◌∷◌, arith}
-use Rattle.cell_core.specs.declared.site.Act.TheVariants as does
-use Rattle.site_operands.specs.cell_nets.Operands.{IsAvailable}
-use Rattle.site_operands.specs.cell_nets.Wires.{wires_of}
+use Rattle.overlay_net.specs.cell_core.declared.site.Act.TheVariants as does
+use Rattle.overlay_net.specs.cell_nets.Operands.{IsAvailable}
+use Rattle.overlay_net.specs.cell_nets.Wires.{wires_of}
 use Rattle.overlay_net.specs.Reading.{IsSite}
 use Rattle.read_net.specs.Sites.{sites_of}
 use Rattle.read_net.proofs.StandLemmas.{one_of}

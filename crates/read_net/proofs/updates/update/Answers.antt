@@ -1,10 +1,10 @@
 use Rattle.std.proofs.Common.{◌∙◌, ◌∷◌, ◌++◌, All, length, sym, ap, subst, arith}
 use Rattle.std.proofs.lemmas.List.Elements.{All-append}
-use Rattle.cell_core.specs.declared.site.Act.TheVariants as does
-use Rattle.cell_core.specs.Sites.{site_at}
-use Rattle.site_operands.specs.hazard_core.Tables.{table_at}
-use Rattle.site_operands.specs.cell_nets.Operands.{IsAvailable}
-use Rattle.site_operands.specs.cell_nets.Wires.{wires_of}
+use Rattle.overlay_net.specs.cell_core.declared.site.Act.TheVariants as does
+use Rattle.overlay_net.specs.cell_core.Sites.{site_at}
+use Rattle.pipe_core.specs.hazard_core.Tables.{table_at}
+use Rattle.overlay_net.specs.cell_nets.Operands.{IsAvailable}
+use Rattle.overlay_net.specs.cell_nets.Wires.{wires_of}
 use Rattle.overlay_net.specs.Reading.{IsSite}
 use Rattle.overlay_net.specs.Seen.{all_read, HasOperands, AreOf, ShowPending}
 use Rattle.read_net.specs.Reads.{taken}

@@ -1,6 +1,6 @@
 use Rattle.std.proofs.Common.{to_z-of_z, pos}
 use Rattle.std.specs.Int.{w16}
-use Rattle.xdp_state.specs.xdp_machine.Values as is
+use Rattle.cell_core.specs.xdp_machine.Values as is
 use Rattle.kind_core.specs.declared.kind.Kind.TheVariants.{Packet, Stack}
 use Rattle.register_cells.proofs.Loads.{register_is}
 use Rattle.register_cells.proofs.Signed.{signed_as, signed_other}

@@ -1,5 +1,5 @@
 use Rattle.std.proofs.Common.{sym, ap, subst, refl, to_z-of_z, ℕ, ◌+◌, slice_range, pos}
-use Rattle.xdp_state.specs.xdp_machine.Values as is
+use Rattle.cell_core.specs.xdp_machine.Values as is
 use Rattle.kind_core.specs.declared.number.Number.TheVariants.{Unknown}
 use Rattle.kind_core.specs.declared.kind.Kind.TheVariants.{Packet}
 use Rattle.register_cells.proofs.Loads.{packet_gives, packet_none}

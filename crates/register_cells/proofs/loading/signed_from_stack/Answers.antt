@@ -1,5 +1,5 @@
 use Rattle.std.proofs.Common.{◌<◌, ◌/◌, sym, refl, arith, to_z-of_z}
-use Rattle.xdp_state.specs.xdp_machine.Values as is
+use Rattle.cell_core.specs.xdp_machine.Values as is
 use Rattle.kind_core.specs.declared.kind.Kind.TheVariants.{Stack}
 use Rattle.register_cells.proofs.Loads.{stack_gives, stack_none, some_bytes}
 use Rattle.register_cells.proofs.Signed.{signed_gives, signed_none, stack_found}

@@ -1,10 +1,10 @@
 use Rattle.std.proofs.Common.{◌≡◌, ◌∙◌, sym, ap, IfOk, to_z-of_z, ℤ, pos}
 use Rattle.std.specs.Prelude.{unsigned_abs}
 use Rattle.std.specs.Ordering.{int_eq}
-use Rattle.bpf_isa.specs.declared.operation.AluCode.{AluCode}
-use Rattle.bpf_isa.specs.declared.operation.AluCode.TheVariants.{Mov, Add, Sub}
-use Rattle.bpf_isa.specs.declared.operation.Width.{Width}
-use Rattle.bpf_isa.specs.declared.operation.Width.TheVariants.{Bits32, Bits64}
+use Rattle.cell_core.specs.bpf_isa.declared.operation.AluCode.{AluCode}
+use Rattle.cell_core.specs.bpf_isa.declared.operation.AluCode.TheVariants.{Mov, Add, Sub}
+use Rattle.cell_core.specs.bpf_isa.declared.operation.Width.{Width}
+use Rattle.cell_core.specs.bpf_isa.declared.operation.Width.TheVariants.{Bits32, Bits64}
 use Rattle.operator_cells.specs.Making.{seen}
 use Rattle.register_cells.specs.Reading.{Yields}
 use Rattle.register_cells.proofs.Yielding.{combined_mov, combined_add, combined_sub, combined_else}

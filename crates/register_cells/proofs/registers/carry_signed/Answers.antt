@@ -1,5 +1,5 @@
 use Rattle.std.proofs.Common.{ap, refl}
-use Rattle.bpf_isa.specs.declared.operation.Op.TheVariants as op
+use Rattle.cell_core.specs.bpf_isa.declared.operation.Op.TheVariants as op
 use Rattle.kind_core.specs.Profile.{writes_destination}
 use Rattle.register_cells.proofs.Carrying.{carried_by}
 use Rattle.register_cells.proofs.Known.{give_as}

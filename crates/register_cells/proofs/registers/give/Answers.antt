@@ -1,4 +1,4 @@
-use Rattle.bpf_isa.specs.declared.operation.Op.TheVariants as op
+use Rattle.cell_core.specs.bpf_isa.declared.operation.Op.TheVariants as op
 use Rattle.register_cells.proofs.Known.{give_as, only_constant, gives_nothing}
 use Rattle.register_cells.proofs.RegisterRows.{give_to, give_later, give_end, give_swap, give_nothing}
 use Rattle.register_cells.specs.Pointing.{MovesHeld}

@@ -1,5 +1,5 @@
 use Rattle.std.proofs.Common.{◌+◌}
-use Rattle.xdp_state.specs.xdp_machine.Arithmetic.{bits_in, negated}
+use Rattle.cell_core.specs.xdp_machine.Arithmetic.{bits_in, negated}
 use Rattle.kind_core.specs.Numbers.{number_negated}
 use Rattle.register_cells.proofs.RegisterRows.{renumbered_to}
 use Rattle.register_cells.proofs.Made.{renumbered_gives}

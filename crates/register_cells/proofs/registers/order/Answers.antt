@@ -1,5 +1,5 @@
 use Rattle.std.proofs.Common.{unsigned_abs}
-use Rattle.xdp_state.specs.xdp_machine.Arithmetic.{ordered}
+use Rattle.cell_core.specs.xdp_machine.Arithmetic.{ordered}
 use Rattle.kind_core.specs.Numbers.{number_ordered}
 use Rattle.register_cells.proofs.MovingRows.{value_from}
 use Rattle.register_cells.proofs.RegisterRows.{renumbered_to}

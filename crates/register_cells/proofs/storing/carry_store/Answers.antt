@@ -1,8 +1,8 @@
 use Rattle.std.proofs.Common.{OnOk, ap}
-use Rattle.bpf_isa.specs.declared.operation.Src.TheVariants.{K, X}
-use Rattle.xdp_state.specs.xdp_machine.Step as step
+use Rattle.cell_core.specs.bpf_isa.declared.operation.Src.TheVariants.{K, X}
+use Rattle.cell_core.specs.xdp_machine.Step as step
 use Rattle.kind_core.specs.Effects.{effect_as}
-use Rattle.held_cells.specs.Pointing.{KeepPointers}
+use Rattle.operator_cells.specs.HeldCells.Pointing.{KeepPointers}
 use Rattle.register_cells.proofs.Stores.{store_passed, store_carried}
 use Rattle.register_cells.proofs.StoreRows.{store_carried_to, imm_carries, src_carries}
 use Rattle.register_cells.proofs.storing.carry_store.Goals as goal

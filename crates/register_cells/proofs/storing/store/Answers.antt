@@ -1,8 +1,8 @@
 use Rattle.std.proofs.Common.{OnOk, refl, to_z-of_z, pos}
-use Rattle.held_cells.specs.Pointing.{KeepPointers}
+use Rattle.operator_cells.specs.HeldCells.Pointing.{KeepPointers}
 use Rattle.std.specs.Int.{w16}
-use Rattle.xdp_state.specs.xdp_machine.Values as is
-use Rattle.xdp_state.specs.xdp_machine.Step as step
+use Rattle.cell_core.specs.xdp_machine.Values as is
+use Rattle.cell_core.specs.xdp_machine.Step as step
 use Rattle.kind_core.specs.Effects.{operand}
 use Rattle.kind_core.specs.declared.kind.Kind.TheVariants.{Packet, Stack}
 use Rattle.register_cells.proofs.Known.{imm_fits, operand_counts, operand_read}

@@ -1,9 +1,9 @@
 use Rattle.std.proofs.Common.{◌∙◌, ap, List, ℕ}
-use Rattle.xdp_state.specs.xdp_maps.Calls.{patched}
+use Rattle.cell_core.specs.xdp_maps.Calls.{patched}
 use Rattle.operator_cells.proofs.RisingLaws.{stand_none, stand_more}
-use Rattle.held_cells.specs.declared.held.Held.{Held}
-use Rattle.held_cells.specs.Held.{number_of}
-use Rattle.held_cells.proofs.RowLaws.{rise_last}
+use Rattle.operator_cells.specs.declared.held_cells.held.Held.{Held}
+use Rattle.operator_cells.specs.HeldCells.Held.{number_of}
+use Rattle.operator_cells.proofs.HeldCells.RowLaws.{rise_last}
 use Rattle.register_cells.proofs.ValueLaws.{same_most}
 use Rattle.register_cells.proofs.PointingLaws.{window_keeps}
 use Rattle.register_cells.proofs.Made.{bytes_after}

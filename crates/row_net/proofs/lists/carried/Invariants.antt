@@ -1,7 +1,7 @@
 use Rattle.std.specs.List.{filter}
 use Rattle.std.proofs.Common.{◌≡◌}
-use Rattle.row_plan.specs.cell_core.Rows.{numbers}
-use Rattle.row_plan.specs.cell_core.View.{program_of}
+use Rattle.overlay_net.specs.cell_core.Rows.{numbers}
+use Rattle.overlay_net.specs.cell_core.View.{program_of}
 use Rattle.row_net.specs.Lists.{is_carried}
 use Rattle.row_net.proofs.lists.carried.Given as goal
 

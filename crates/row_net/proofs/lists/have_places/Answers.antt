@@ -1,7 +1,7 @@
 use borrow.Author.Count.{below_more}
 use Rattle.std.proofs.Common.{◌≡◌, ℕ, true, arith}
 use Rattle.std.proofs.lemmas.List.{length-map}
-use Rattle.row_plan.specs.cell_core.View.{cell_of, program_of}
+use Rattle.overlay_net.specs.cell_core.View.{cell_of, program_of}
 use Rattle.row_net.specs.Lists.{has_place}
 use Rattle.row_net.proofs.PlaceLemmas.{all_have}
 use Rattle.row_net.proofs.lists.have_places.Goals as goal

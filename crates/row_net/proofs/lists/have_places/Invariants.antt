@@ -1,5 +1,5 @@
 use Rattle.std.proofs.Common.{◌≡◌, ◌<◌, ℕ, true}
-use Rattle.row_plan.specs.cell_core.View.{program_of}
+use Rattle.overlay_net.specs.cell_core.View.{program_of}
 use Rattle.row_net.specs.Lists.{has_place}
 use Rattle.row_net.proofs.lists.have_places.Given as goal
 

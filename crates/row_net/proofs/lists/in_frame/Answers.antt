@@ -1,6 +1,6 @@
 use Rattle.std.proofs.Common.{ℕ, map, sym, ◌∙◌, arith}
 use Rattle.std.proofs.lemmas.List.{get_or-map, length-map}
-use Rattle.row_plan.specs.cell_core.declared.program.FrameByte.{FrameByte}
+use Rattle.overlay_net.specs.cell_core.declared.program.FrameByte.{FrameByte}
 use Rattle.row_net.proofs.ListLemmas.{any_of}
 use Rattle.row_net.proofs.lists.in_frame.Goals as goal
 

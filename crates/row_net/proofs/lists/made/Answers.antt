@@ -1,5 +1,5 @@
 use Rattle.std.proofs.Common.{rules, ◌∙◌, ℕ, Bool, sym}
-use Rattle.row_plan.specs.cell_core.View.{program_of}
+use Rattle.overlay_net.specs.cell_core.View.{program_of}
 use Rattle.row_net.specs.Lists.{is_made}
 use Rattle.row_net.proofs.ListLemmas.{kept_more, kept_same}
 use Rattle.row_net.proofs.lists.made.Goals as goal

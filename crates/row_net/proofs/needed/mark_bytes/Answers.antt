@@ -1,6 +1,6 @@
 use Rattle.std.proofs.Common.{rules, ℕ, get_or, map, sym, arith}
 use Rattle.std.proofs.lemmas.List.{get_or-map, length-map}
-use Rattle.row_plan.specs.cell_core.declared.program.FrameByte.{FrameByte}
+use Rattle.overlay_net.specs.cell_core.declared.program.FrameByte.{FrameByte}
 use Rattle.row_net.proofs.MarkLemmas.{marks_start, marks_next, marks_all}
 use Rattle.row_net.proofs.needed.mark_bytes.Goals as goal
 

@@ -1,7 +1,7 @@
 use Rattle.std.proofs.Common.{◌≡◌, ◌∙◌, ◌-◌, ◌<◌, ℕ, List, length, map, sym, ap, arith}
 use Rattle.std.proofs.lemmas.List.{length-map}
-use Rattle.row_plan.specs.cell_core.Cells.{CellView, cell_at}
-use Rattle.row_plan.specs.cell_core.View.{cell_of, program_of}
+use Rattle.overlay_net.specs.cell_core.Cells.{CellView, cell_at}
+use Rattle.overlay_net.specs.cell_core.View.{cell_of, program_of}
 use Rattle.row_net.proofs.TableLemmas.{cell_is}
 use Rattle.row_net.proofs.MarkLemmas.{closes_none, closes_next, closes_same, closes_all, marks_of}
 use Rattle.row_net.proofs.needed.mark_inputs.Goals as goal

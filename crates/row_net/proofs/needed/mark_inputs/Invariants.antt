@@ -1,4 +1,4 @@
-use Rattle.row_plan.specs.cell_core.View.{program_of}
+use Rattle.overlay_net.specs.cell_core.View.{program_of}
 use Rattle.row_net.proofs.MarkLemmas.{ClosesFrom}
 use Rattle.row_net.proofs.needed.mark_inputs.Given as goal
 

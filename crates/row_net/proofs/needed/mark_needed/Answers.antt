@@ -1,8 +1,8 @@
 use Rattle.std.proofs.Common.{◌≡◌, List, true, map, ap, subst, arith}
 use Rattle.std.proofs.lemmas.List.{length-map}
-use Rattle.row_plan.specs.cell_core.Cells.{CellView, cell_at, is_read}
-use Rattle.row_plan.specs.cell_core.Sites.{SiteView}
-use Rattle.row_plan.specs.cell_core.View.{cell_of, site_of, program_of}
+use Rattle.overlay_net.specs.cell_core.Cells.{CellView, cell_at, is_read}
+use Rattle.overlay_net.specs.cell_core.Sites.{SiteView}
+use Rattle.overlay_net.specs.cell_core.View.{cell_of, site_of, program_of}
 use Rattle.row_net.specs.Needed.{Marks, OfSites}
 use Rattle.row_net.proofs.MarkLemmas.{are_needed}
 use Rattle.row_net.proofs.needed.mark_needed.Goals as goal

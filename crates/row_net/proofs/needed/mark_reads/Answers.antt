@@ -1,8 +1,8 @@
 use Rattle.std.proofs.Common.{rules, ◌≡◌, ◌∙◌, ◌+◌, ℕ, List, Bool, map, get_or, sym, ap, subst, arith}
 use Rattle.std.proofs.lemmas.List.{length-map}
-use Rattle.row_plan.specs.cell_core.Cells.{CellView, cell_at, is_read}
-use Rattle.row_plan.specs.cell_core.declared.cell.Cell.{Cell}
-use Rattle.row_plan.specs.cell_core.View.{cell_of}
+use Rattle.overlay_net.specs.cell_core.Cells.{CellView, cell_at, is_read}
+use Rattle.overlay_net.specs.cell_core.declared.cell.Cell.{Cell}
+use Rattle.overlay_net.specs.cell_core.View.{cell_of}
 use Rattle.row_net.specs.Needed.{Marks}
 use Rattle.row_net.proofs.TableLemmas.{cell_is}
 use Rattle.row_net.proofs.MarkLemmas.{FirstReads, reads_start, reads_next, reads_not, reads_all}

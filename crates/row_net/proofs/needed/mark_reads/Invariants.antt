@@ -1,5 +1,5 @@
 use Rattle.std.proofs.Common.{map}
-use Rattle.row_plan.specs.cell_core.View.{cell_of}
+use Rattle.overlay_net.specs.cell_core.View.{cell_of}
 use Rattle.row_net.specs.Needed.{Marks}
 use Rattle.row_net.proofs.MarkLemmas.{FirstReads}
 use Rattle.row_net.proofs.needed.mark_reads.Given as goal

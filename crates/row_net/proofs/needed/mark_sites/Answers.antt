@@ -1,6 +1,6 @@
 use Rattle.std.proofs.Common.{rules, ◌≡◌, ◌∙◌, ℕ, map, get_or, sym, ap, arith}
 use Rattle.std.proofs.lemmas.List.{get_or-map, length-map}
-use Rattle.row_plan.specs.cell_core.View.{site_of}
+use Rattle.overlay_net.specs.cell_core.View.{site_of}
 use Rattle.row_net.proofs.MarkLemmas.{sites_start, sites_next, sites_all}
 use Rattle.row_net.proofs.needed.mark_sites.Goals as goal
 

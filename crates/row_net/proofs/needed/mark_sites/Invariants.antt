@@ -1,5 +1,5 @@
 use Rattle.std.proofs.Common.{take, map}
-use Rattle.row_plan.specs.cell_core.View.{site_of}
+use Rattle.overlay_net.specs.cell_core.View.{site_of}
 use Rattle.row_net.specs.Needed.{Marks, OfSites}
 use Rattle.row_net.proofs.needed.mark_sites.Given as goal
 

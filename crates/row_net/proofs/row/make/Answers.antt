@@ -1,8 +1,8 @@
 use Rattle.std.proofs.Common.{◌≡◌, ◌∙◌, ◌<◌, ◌≤◌, false, All, List, length, map, refl, sym, ap, subst, arith}
 use Rattle.std.proofs.lemmas.List.{length-map}
-use Rattle.row_plan.specs.cell_core.Cells.{CellView, cell_at, number, bits_from}
-use Rattle.row_plan.specs.cell_core.Formed.{IsInRange}
-use Rattle.row_plan.specs.cell_core.View.{cell_of}
+use Rattle.overlay_net.specs.cell_core.Cells.{CellView, cell_at, number, bits_from}
+use Rattle.overlay_net.specs.cell_core.Formed.{IsInRange}
+use Rattle.overlay_net.specs.cell_core.View.{cell_of}
 use Rattle.cell_nets.specs.Computing.{is_outside, makes_product, taken, HasDivisor}
 use Rattle.cell_nets.specs.Operands.{number_in, IsOperand}
 use Rattle.cell_nets.specs.Wires.{wires_of, GivesBy}

@@ -1,6 +1,6 @@
 use Rattle.std.proofs.Common.{ℕ, map, refl, slice_index}
 use Rattle.std.proofs.lemmas.List.{get_or_default}
-use Rattle.row_plan.specs.cell_core.View.{cell_of}
+use Rattle.overlay_net.specs.cell_core.View.{cell_of}
 use Rattle.cell_nets.specs.Wires.{wires_of}
 use Rattle.row_net.proofs.RowLemmas.{row_more, inputs_in}
 use Rattle.row_net.proofs.row.row_nets.Goals as goal

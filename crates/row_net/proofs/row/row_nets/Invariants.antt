@@ -1,5 +1,5 @@
 use Rattle.std.proofs.Common.{take, map}
-use Rattle.row_plan.specs.cell_core.View.{cell_of}
+use Rattle.overlay_net.specs.cell_core.View.{cell_of}
 use Rattle.cell_nets.specs.Wires.{wires_of}
 use Rattle.row_net.specs.Made.{IsRow}
 use Rattle.row_net.proofs.row.row_nets.Given as goal

@@ -1,7 +1,7 @@
 use Rattle.std.proofs.Common.{rules, ◌≡◌, ◌≤◌, ◌<◌, ℕ, List, length, length-append, map, get_or, ap, subst, arith}
 use Rattle.std.proofs.lemmas.List.{length-map}
-use Rattle.row_plan.specs.cell_core.Cells.{CellView, cell_at}
-use Rattle.row_plan.specs.cell_core.View.{cell_of}
+use Rattle.overlay_net.specs.cell_core.Cells.{CellView, cell_at}
+use Rattle.overlay_net.specs.cell_core.View.{cell_of}
 use Rattle.row_net.proofs.TableLemmas.{cell_is, constants_are, constants_more}
 use Rattle.row_net.proofs.table.constants.Goals as goal
 

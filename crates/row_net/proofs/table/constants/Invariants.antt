@@ -1,6 +1,6 @@
 use Rattle.std.proofs.Common.{◌≡◌, ◌<◌, ℕ, None, length, map, get_or}
-use Rattle.row_plan.specs.cell_core.Cells.{cell_at}
-use Rattle.row_plan.specs.cell_core.View.{cell_of}
+use Rattle.overlay_net.specs.cell_core.Cells.{cell_at}
+use Rattle.overlay_net.specs.cell_core.View.{cell_of}
 use Rattle.row_net.specs.Table.{IsConstantOf}
 use Rattle.row_net.proofs.table.constants.Given as goal
 

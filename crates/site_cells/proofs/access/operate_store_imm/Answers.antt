@@ -4,9 +4,9 @@ use Rattle.kind_core.specs.declared.number.Number.TheVariants.{Known}
 use Rattle.kind_core.specs.declared.kind.Kind.TheVariants.{Num}
 use Rattle.kind_core.specs.Effects.{effect_as}
 use Rattle.cell_core.specs.declared.site.Act.TheVariants as act
-use Rattle.held_cells.specs.Held.{pointed}
+use Rattle.operator_cells.specs.HeldCells.Held.{pointed}
 use Rattle.site_cells.proofs.Entries.{entry_index, entry_seen, place_aligned}
-use Rattle.xdp_state.proofs.xdp_machine.NumberLaws.{word_of, imm_fits}
+use Rattle.kind_core.proofs.xdp_machine_laws.NumberLaws.{word_of, imm_fits}
 use Rattle.site_cells.proofs.Stores.{imm_made}
 use Rattle.site_cells.proofs.Allowed.{store_allowed}
 use Rattle.site_cells.proofs.Points.{entry_used, nothing_keeps, access_points}

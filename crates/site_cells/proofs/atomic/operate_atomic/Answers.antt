@@ -1,12 +1,12 @@
 use Rattle.std.proofs.Common.{false, ◌∙◌, ◌*◌, ◌++◌, ◌∷◌, [], ℕ, ℤ, pos, ◌+ℤ◌, arith, refl, sym, ap, subst, to_z-of_z}
 use Rattle.std.specs.Int.{w16}
-use Rattle.bpf_isa.specs.Rules.{IsSized}
+use Rattle.cell_core.specs.bpf_isa.Rules.{IsSized}
 use Rattle.kind_core.specs.Kinds.{value_bytes}
-use Rattle.xdp_state.specs.xdp_machine.Memory.{bytes_in, aligned}
+use Rattle.cell_core.specs.xdp_machine.Memory.{bytes_in, aligned}
 use Rattle.cell_core.specs.declared.site.Act.TheVariants as act
 use Rattle.operator_cells.specs.Making.{seen}
 use Rattle.operator_cells.proofs.MakingLaws.{grown_none, reads_none}
-use Rattle.held_cells.specs.Held.{PointerView, pointed}
+use Rattle.operator_cells.specs.HeldCells.Held.{PointerView, pointed}
 use Rattle.site_cells.specs.Sited.{sited}
 use Rattle.site_cells.specs.Siting.{Accesses, access_site}
 use Rattle.site_cells.proofs.Allowed.{atomic_allowed}

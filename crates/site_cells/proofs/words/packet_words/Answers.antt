@@ -1,6 +1,6 @@
 use Rattle.std.proofs.Common.{refl, arith}
 use Rattle.site_cells.proofs.Regions.{packet_region, packet_fits}
-use Rattle.held_cells.proofs.RowLaws.{rise_by}
+use Rattle.operator_cells.proofs.HeldCells.RowLaws.{rise_by}
 use Rattle.site_cells.proofs.WordRows.{window_within}
 use Rattle.site_cells.proofs.words.packet_words.Goals as goal
 

@@ -3,10 +3,10 @@ use Rattle.kind_core.specs.declared.kind.Kind.{Kind}
 use Rattle.kind_core.specs.Tests.{passed}
 use Rattle.kind_core.specs.Calls.{region}
 use Rattle.operator_cells.specs.Making.{seen}
-use Rattle.held_cells.specs.place_rows.Spans.{span_row}
-use Rattle.held_cells.specs.place_rows.Spans as places
-use Rattle.held_cells.specs.Rows.{held_row}
-use Rattle.held_cells.proofs.RowLaws.{rise_by}
+use Rattle.operator_cells.specs.row_rules.PlaceRows.Spans.{span_row}
+use Rattle.operator_cells.specs.row_rules.PlaceRows.Spans as places
+use Rattle.operator_cells.specs.HeldCells.Rows.{held_row}
+use Rattle.operator_cells.proofs.HeldCells.RowLaws.{rise_by}
 use Rattle.site_cells.specs.Words.{HoldsRegion}
 use Rattle.site_cells.proofs.words.region_words.Goals as goal
 

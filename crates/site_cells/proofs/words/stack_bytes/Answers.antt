@@ -2,8 +2,8 @@ use Rattle.std.proofs.Common.{◌≡◌, ℕ, ◌+◌, ◌/◌, List, arith, sym
 use Rattle.operator_cells.specs.Making.{seen}
 use Rattle.operator_cells.specs.Rising.{RiseAll}
 use Rattle.operator_cells.proofs.RisingLaws.{rise_none, rise_more}
-use Rattle.held_cells.specs.place_rows.Spans.{slots_of, span_row}
-use Rattle.held_cells.specs.Rows.{held_row}
+use Rattle.operator_cells.specs.row_rules.PlaceRows.Spans.{slots_of, span_row}
+use Rattle.operator_cells.specs.HeldCells.Rows.{held_row}
 use Rattle.site_cells.specs.Words.{HoldsBytes}
 use Rattle.site_cells.proofs.Slots.{counts_number, bytes_none, bytes_more}
 use Rattle.site_cells.proofs.WordRows.{slot_within}

@@ -7,9 +7,9 @@ use Rattle.kind_core.specs.Tests.{passed}
 use Rattle.kind_core.specs.Calls.{region}
 use Rattle.operator_cells.specs.Rising.{RiseAll}
 use Rattle.cell_core.specs.Rows.{greatest}
-use Rattle.held_cells.specs.place_rows.Spans.{span_row}
-use Rattle.held_cells.specs.Rows.{held_row}
-use Rattle.held_cells.proofs.RowLaws.{rise_by}
+use Rattle.operator_cells.specs.row_rules.PlaceRows.Spans.{span_row}
+use Rattle.operator_cells.specs.HeldCells.Rows.{held_row}
+use Rattle.operator_cells.proofs.HeldCells.RowLaws.{rise_by}
 use Rattle.site_cells.specs.Words.{JoinsWords, HoldsRegion}
 use Rattle.site_cells.proofs.Regions.{stack_numbers, stack_region, stack_fits}
 use Rattle.site_cells.proofs.WordRows.{rise_through}

@@ -1,5 +1,5 @@
-use Rattle.cell_core.specs.Cells.{no_cell}
-use Rattle.site_operands.specs.cell_nets.Wires.{wires_of}
+use Rattle.hazard_core.specs.cell_core.Cells.{no_cell}
+use Rattle.overlay_net.specs.cell_nets.Wires.{wires_of}
 use Rattle.stage_net.proofs.SiteLemmas.{no_packet, access_reads}
 use Rattle.stage_net.proofs.reading.access_reads.Goals as goal
 

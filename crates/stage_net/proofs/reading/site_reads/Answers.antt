@@ -1,7 +1,7 @@
 use Rattle.std.proofs.Common.{ap}
-use Rattle.cell_core.specs.Acts.{finds_key}
-use Rattle.cell_core.specs.Cells.{no_cell}
-use Rattle.site_operands.specs.cell_nets.Wires.{wires_of}
+use Rattle.hazard_core.specs.cell_core.Acts.{finds_key}
+use Rattle.hazard_core.specs.cell_core.Cells.{no_cell}
+use Rattle.overlay_net.specs.cell_nets.Wires.{wires_of}
 use Rattle.stage_net.proofs.SiteLemmas.{no_packet, ok_both, key_reads}
 use Rattle.stage_net.proofs.reading.site_reads.Goals as goal
 

@@ -1,7 +1,7 @@
 use Rattle.std.proofs.Common.{slice_index, subst}
-use Rattle.cell_core.specs.Cells.{cell_at}
-use Rattle.cell_core.specs.View.{program_of}
-use Rattle.site_operands.specs.cell_nets.Wires.{wires_of}
+use Rattle.hazard_core.specs.cell_core.Cells.{cell_at}
+use Rattle.hazard_core.specs.cell_core.View.{program_of}
+use Rattle.overlay_net.specs.cell_nets.Wires.{wires_of}
 use Rattle.stage_net.specs.Rows.{IsSiteRead}
 use Rattle.stage_net.proofs.StepLemmas.{hit_of, no_hit, not_read, site_is_read_as}
 use Rattle.stage_net.proofs.reads.read_site.Goals as goal

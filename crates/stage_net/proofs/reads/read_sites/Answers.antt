@@ -1,7 +1,7 @@
 use Rattle.std.proofs.Common.{◌≡◌, ◌+◌, length, slice_index, subst, arith, map as map_list}
 use Rattle.std.proofs.lemmas.List.{length-map}
-use Rattle.cell_core.specs.View.{program_of, site_of}
-use Rattle.site_operands.specs.cell_nets.Wires.{wires_of}
+use Rattle.hazard_core.specs.cell_core.View.{program_of, site_of}
+use Rattle.overlay_net.specs.cell_nets.Wires.{wires_of}
 use Rattle.stage_net.specs.Rows.{AreRead}
 use Rattle.stage_net.proofs.RowLemmas.{none_read, read_then}
 use Rattle.stage_net.proofs.reads.read_sites.Goals as goal

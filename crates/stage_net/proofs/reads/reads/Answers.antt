@@ -1,7 +1,7 @@
 use Rattle.std.proofs.Common.{◌∙◌, All, length, slice_index, sym, ap, subst}
-use Rattle.cell_core.specs.View.{program_of}
-use Rattle.site_operands.specs.cell_nets.Operands.{IsOperand}
-use Rattle.site_operands.specs.cell_nets.Wires.{wires_of, HasBits}
+use Rattle.hazard_core.specs.cell_core.View.{program_of}
+use Rattle.overlay_net.specs.cell_nets.Operands.{IsOperand}
+use Rattle.overlay_net.specs.cell_nets.Wires.{wires_of, HasBits}
 use Rattle.stage_net.specs.Rows.{AreSought}
 use Rattle.stage_net.proofs.SearchLemmas.{read_sought}
 use Rattle.stage_net.proofs.SiteLemmas.{ok_both}

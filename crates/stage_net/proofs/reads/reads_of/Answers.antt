@@ -1,8 +1,8 @@
 use Rattle.std.proofs.Common.{◌∙◌, get_or, refl, sym, ap, subst, slice_index, arith}
 use Rattle.std.proofs.lemmas.List.{length-map}
-use Rattle.cell_core.specs.View.{program_of, site_of}
-use Rattle.site_operands.specs.cell_nets.Operands.{IsOperand}
-use Rattle.site_operands.specs.cell_nets.Wires.{wires_of, HasBits}
+use Rattle.hazard_core.specs.cell_core.View.{program_of, site_of}
+use Rattle.overlay_net.specs.cell_nets.Operands.{IsOperand}
+use Rattle.overlay_net.specs.cell_nets.Wires.{wires_of, HasBits}
 use Rattle.stage_net.proofs.OwnLemmas.{map_in, its_nets, cells_all, is_aligned, key_words, earlier_whole, earlier_fitting, earlier_few}
 use Rattle.stage_net.proofs.GivenLemmas.{read_site_of, ok_site}
 use Rattle.stage_net.proofs.reads.reads_of.Goals as goal

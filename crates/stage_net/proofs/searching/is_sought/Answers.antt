@@ -1,6 +1,6 @@
 use Rattle.std.proofs.Common.{◌∙◌, sym, ap, slice_index}
-use Rattle.cell_core.specs.Acts.{finds_key}
-use Rattle.cell_core.specs.View.{program_of}
+use Rattle.hazard_core.specs.cell_core.Acts.{finds_key}
+use Rattle.hazard_core.specs.cell_core.View.{program_of}
 use Rattle.stage_net.proofs.SearchLemmas.{is_true, sought_of}
 use Rattle.stage_net.proofs.StepLemmas.{hit_of, no_hit, hit_by}
 use Rattle.stage_net.proofs.searching.is_sought.Goals as goal

@@ -1,10 +1,10 @@
 use Rattle.std.specs.Prelude.{IfSome}
 use Rattle.std.proofs.Common.{◌∙◌, ◌<◌, refl, ap, sym, subst, get_or, length, slice_index, arith}
 use Rattle.std.proofs.lemmas.List.{length-map}
-use Rattle.cell_core.specs.Sites.{site_at}
-use Rattle.cell_core.specs.View.{program_of, site_of}
-use Rattle.site_operands.specs.cell_nets.declared.operand.Operand.TheVariants.{Known}
-use Rattle.site_operands.specs.cell_nets.Wires.{wires_of}
+use Rattle.hazard_core.specs.cell_core.Sites.{site_at}
+use Rattle.hazard_core.specs.cell_core.View.{program_of, site_of}
+use Rattle.overlay_net.specs.cell_nets.declared.operand.Operand.TheVariants.{Known}
+use Rattle.overlay_net.specs.cell_nets.Wires.{wires_of}
 use Rattle.stage_net.specs.Nets.{decls_of}
 use Rattle.stage_net.specs.Rows.{IsSought, AsksSame}
 use Rattle.stage_net.proofs.OwnLemmas.{map_in, its_nets, cells_all, key_words}

@@ -1,7 +1,7 @@
 use Rattle.std.proofs.Common.{◌∙◌, ◌++◌, ◌∷◌, [], length, length-append, slice_index, sym, ap, subst, arith}
 use Rattle.std.proofs.lemmas.List.{length-map}
-use Rattle.cell_core.specs.View.{program_of, site_of}
-use Rattle.site_operands.specs.cell_nets.Wires.{wires_of}
+use Rattle.hazard_core.specs.cell_core.View.{program_of, site_of}
+use Rattle.overlay_net.specs.cell_nets.Wires.{wires_of}
 use Rattle.stage_net.specs.Rows.{AreSought}
 use Rattle.stage_net.proofs.SearchLemmas.{none_sought}
 use Rattle.stage_net.proofs.searching.searches.Goals as goal

@@ -1,6 +1,6 @@
 use Rattle.std.proofs.Common.{◌≡◌, length, slice_index}
-use Rattle.cell_core.specs.View.{program_of}
-use Rattle.site_operands.specs.cell_nets.Wires.{wires_of}
+use Rattle.hazard_core.specs.cell_core.View.{program_of}
+use Rattle.overlay_net.specs.cell_nets.Wires.{wires_of}
 use Rattle.stage_net.specs.Rows.{AreSought}
 use Rattle.stage_net.proofs.searching.searches.Given as goal
 

@@ -1,14 +1,14 @@
 use Rattle.std.proofs.Common.{◌<◌, All, sym, subst, slice_index, map as map_list}
 use Rattle.std.specs.Prelude.{IfOk}
 use Rattle.block_core.specs.View.{block_of}
-use Rattle.cell_core.specs.View.{cell_of, program_of}
-use Rattle.site_operands.specs.cell_nets.Wires.{behind, wires_of}
-use Rattle.site_place.specs.place_net.Place.{width_at}
-use Rattle.site_place.specs.row_net.Apart.{TakeClean}
-use Rattle.site_place.specs.row_net.Made.{IsReady}
-use Rattle.site_place.specs.row_net.Table.{IsTable}
-use Rattle.site_place.specs.Pointing.{IsPointers, ArePointed}
-use Rattle.site_place.specs.SitePlace.{IsSitePlace}
+use Rattle.hazard_core.specs.cell_core.View.{cell_of, program_of}
+use Rattle.overlay_net.specs.cell_nets.Wires.{behind, wires_of}
+use Rattle.row_net.specs.PlaceNet.Place.{width_at}
+use Rattle.row_net.specs.Apart.{TakeClean}
+use Rattle.row_net.specs.Made.{IsReady}
+use Rattle.row_net.specs.Table.{IsTable}
+use Rattle.row_net.specs.SitePlace.Pointing.{IsPointers, ArePointed}
+use Rattle.row_net.specs.SitePlace.SitePlace.{IsSitePlace}
 use Rattle.stage_net.proofs.SiteLemmas.{ok_both}
 use Rattle.stage_net.proofs.StageLemmas.{alone, all_have, all_have_pointers, is_ready, are_pointed, is_stage}
 use Rattle.stage_net.proofs.stage.stage.Goals as goal

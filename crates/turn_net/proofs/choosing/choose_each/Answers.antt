@@ -1,11 +1,11 @@
 use Rattle.std.proofs.Common.{◌∙◌, ◌∷◌, ◌++◌, [], All, length, length-append, refl, sym, ap, subst, arith}
 use Rattle.std.proofs.lemmas.List.{take_all}
 use Rattle.std.proofs.lemmas.List.Elements.{All-nil, All-push}
-use Rattle.site_operands.specs.cell_nets.Operands.{IsOperand}
-use Rattle.site_operands.specs.cell_nets.Wires.{wires_of, HasBits}
-use Rattle.step_nets.proofs.StepLaws.{avail_at}
-use Rattle.cell_core.specs.Cells.{on}
-use Rattle.site_operands.specs.cell_nets.Operands.{number_in}
+use Rattle.cell_nets.specs.Operands.{IsOperand}
+use Rattle.cell_nets.specs.Wires.{wires_of, HasBits}
+use Rattle.cell_nets.proofs.StepNets.StepLaws.{avail_at}
+use Rattle.hazard_core.specs.cell_core.Cells.{on}
+use Rattle.cell_nets.specs.Operands.{number_in}
 use Rattle.overlay_net.specs.Reading.{IsSite}
 use Rattle.turn_net.specs.Nets.{HasOperands, IsNumbered, all_read}
 use Rattle.turn_net.specs.Steps.{Leads, AreChosen}

@@ -1,9 +1,9 @@
 use Rattle.std.proofs.Common.{◌≡◌, All, ◌∷◌, ◌++◌, List, take, length}
-use Rattle.xdp_maps.specs.declared.decl.MapDecl.{MapDecl}
-use Rattle.cell_core.specs.Cells.{on}
-use Rattle.cell_core.specs.Sites.{ProgramView}
-use Rattle.site_operands.specs.cell_nets.Operands.{number_in, IsOperand}
-use Rattle.site_operands.specs.cell_nets.Wires.{wires_of, HasBits}
+use Rattle.hazard_core.specs.xdp_maps.declared.decl.MapDecl.{MapDecl}
+use Rattle.hazard_core.specs.cell_core.Cells.{on}
+use Rattle.hazard_core.specs.cell_core.Sites.{ProgramView}
+use Rattle.cell_nets.specs.Operands.{number_in, IsOperand}
+use Rattle.cell_nets.specs.Wires.{wires_of, HasBits}
 use Rattle.turn_net.specs.Nets.{all_read, AreRecords}
 use Rattle.turn_net.specs.Steps.{Leads, HasSteps, AreChosen}
 use Rattle.turn_net.proofs.choosing.choose_each.Given as goal

@@ -1,13 +1,13 @@
 use Rattle.std.specs.Prelude.{nat_le}
 use Rattle.std.proofs.Common.{◌∙◌, ◌&&◌, suc, [], ◌∷◌, ap, arith}
-use Rattle.cell_core.specs.Cells.{bit, on}
-use Rattle.site_operands.specs.hazard_core.Held.{writes}
-use Rattle.site_operands.specs.cell_nets.declared.operand.Operand.TheVariants.{Known}
-use Rattle.site_operands.specs.cell_nets.Operands.{number_in, IsAvailable}
-use Rattle.site_operands.specs.cell_nets.Wires.{wires_of}
-use Rattle.site_operands.specs.Sites.{operands_of, ShowsSite}
-use Rattle.step_nets.proofs.ChainLaws.{starts, next, last}
-use Rattle.step_nets.proofs.StepLaws.{all_each, on_bit}
+use Rattle.hazard_core.specs.cell_core.Cells.{bit, on}
+use Rattle.hazard_core.specs.Held.{writes}
+use Rattle.cell_nets.specs.declared.operand.Operand.TheVariants.{Known}
+use Rattle.cell_nets.specs.Operands.{number_in, IsAvailable}
+use Rattle.cell_nets.specs.Wires.{wires_of}
+use Rattle.overlay_net.specs.SiteOperands.Sites.{operands_of, ShowsSite}
+use Rattle.cell_nets.proofs.StepNets.ChainLaws.{starts, next, last}
+use Rattle.cell_nets.proofs.StepNets.StepLaws.{all_each, on_bit}
 use Rattle.turn_net.specs.Nets.{site_read}
 use Rattle.turn_net.proofs.choosing.opened.Goals as goal
 

@@ -2,12 +2,12 @@ use Rattle.std.specs.Prelude.{not, if◌then◌else◌}
 use Rattle.std.proofs.Common.{◌∙◌, ◌&&◌, ◌^◌, [], ◌∷◌, ap, arith}
 use Rattle.std.proofs.lemmas.Nat.{pow_pos}
 use Rattle.block_core.specs.declared.name.Name.TheVariants as name
-use Rattle.cell_core.specs.Cells.{bit, on}
-use Rattle.site_operands.specs.cell_nets.declared.operand.Operand.TheVariants.{Known, Net}
-use Rattle.site_operands.specs.cell_nets.Operands.{IsAvailable}
-use Rattle.site_operands.specs.cell_nets.Wires.{wires_of, always}
-use Rattle.step_nets.proofs.ChainLaws.{starts, next}
-use Rattle.step_nets.proofs.StepLaws.{all_each, on_bit, small_bits, narrow_small, choice_small}
+use Rattle.hazard_core.specs.cell_core.Cells.{bit, on}
+use Rattle.cell_nets.specs.declared.operand.Operand.TheVariants.{Known, Net}
+use Rattle.cell_nets.specs.Operands.{IsAvailable}
+use Rattle.cell_nets.specs.Wires.{wires_of, always}
+use Rattle.cell_nets.proofs.StepNets.ChainLaws.{starts, next}
+use Rattle.cell_nets.proofs.StepNets.StepLaws.{all_each, on_bit, small_bits, narrow_small, choice_small}
 use Rattle.turn_net.proofs.StandLemmas.{leads_as}
 use Rattle.turn_net.proofs.choosing.start.Goals as goal
 

@@ -1,11 +1,11 @@
 use Rattle.std.specs.Prelude.{if◌then◌else◌}
 use Rattle.std.proofs.Common.{◌≡◌, ◌∙◌, ◌&&◌, ◌+◌, ◌^◌, suc, [], ◌∷◌, ap, arith}
-use Rattle.cell_core.specs.Cells.{on, bits_from}
-use Rattle.site_operands.specs.cell_nets.declared.operand.Operand.TheVariants.{Known}
-use Rattle.site_operands.specs.cell_nets.Operands.{number_in, IsAvailable}
-use Rattle.site_operands.specs.cell_nets.Wires.{wires_of, always}
-use Rattle.step_nets.proofs.ChainLaws.{starts, next}
-use Rattle.step_nets.proofs.StepLaws.{all_each, on_bit, small_bits, narrow_small, narrow_bits, choice_small}
+use Rattle.hazard_core.specs.cell_core.Cells.{on, bits_from}
+use Rattle.cell_nets.specs.declared.operand.Operand.TheVariants.{Known}
+use Rattle.cell_nets.specs.Operands.{number_in, IsAvailable}
+use Rattle.cell_nets.specs.Wires.{wires_of, always}
+use Rattle.cell_nets.proofs.StepNets.ChainLaws.{starts, next}
+use Rattle.cell_nets.proofs.StepNets.StepLaws.{all_each, on_bit, small_bits, narrow_small, narrow_bits, choice_small}
 use Rattle.turn_net.proofs.StandLemmas.{leads_as}
 use Rattle.turn_net.proofs.choosing.take_turn.Goals as goal
 

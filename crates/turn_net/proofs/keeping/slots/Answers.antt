@@ -1,8 +1,8 @@
 use Rattle.std.proofs.Common.{◌∙◌, ◌+◌, ◌++◌, length, take, sym, ap, subst, refl, arith}
 use Rattle.std.proofs.lemmas.List.{take_all, length-take-le}
-use Rattle.site_operands.specs.cell_nets.Operands.{IsOperand, IsAvailable}
-use Rattle.site_operands.specs.cell_nets.Wires.{wires_of}
-use Rattle.step_nets.proofs.StepLaws.{avail_at}
+use Rattle.cell_nets.specs.Operands.{IsOperand, IsAvailable}
+use Rattle.cell_nets.specs.Wires.{wires_of}
+use Rattle.cell_nets.proofs.StepNets.StepLaws.{avail_at}
 use Rattle.turn_net.specs.Nets.{kept, HasOperands, IsKept, slot_operands, all_read}
 use Rattle.turn_net.specs.Steps.{slots_after}
 use Rattle.turn_net.proofs.StandLemmas.{left_of, leads_as}

@@ -1,4 +1,4 @@
-use Rattle.site_operands.specs.cell_nets.Wires.{wires_of}
+use Rattle.cell_nets.specs.Wires.{wires_of}
 use Rattle.turn_net.proofs.KeepLemmas.{IsKeeping}
 use Rattle.turn_net.proofs.keeping.slots.Given as goal
 

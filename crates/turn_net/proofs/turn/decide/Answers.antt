@@ -1,5 +1,5 @@
 use Rattle.std.proofs.Common.{◌++◌, length, subst}
-use Rattle.site_operands.specs.cell_nets.Wires.{wires_of}
+use Rattle.cell_nets.specs.Wires.{wires_of}
 use Rattle.turn_net.specs.Nets.{kept, all_read, slot_operands}
 use Rattle.turn_net.specs.Steps.{Leads, AreSlots}
 use Rattle.turn_net.proofs.DecideLemmas.{decides}

@@ -1,11 +1,11 @@
 use Rattle.std.specs.Prelude.{not, if◌then◌else◌}
 use Rattle.std.proofs.Common.{◌∙◌, ◌&&◌, ◌||◌, [], ◌∷◌, ap, arith}
-use Rattle.cell_core.specs.Cells.{on, bits_from}
-use Rattle.site_operands.specs.cell_nets.declared.operand.Operand.TheVariants.{Known, Net}
-use Rattle.site_operands.specs.cell_nets.Operands.{number_in, IsAvailable, HasWidth}
-use Rattle.site_operands.specs.cell_nets.Wires.{wires_of, always}
-use Rattle.step_nets.proofs.ChainLaws.{starts, next}
-use Rattle.step_nets.proofs.StepLaws.{all_each, on_bit, bit_bits}
+use Rattle.hazard_core.specs.cell_core.Cells.{on, bits_from}
+use Rattle.cell_nets.specs.declared.operand.Operand.TheVariants.{Known, Net}
+use Rattle.cell_nets.specs.Operands.{number_in, IsAvailable, HasWidth}
+use Rattle.cell_nets.specs.Wires.{wires_of, always}
+use Rattle.cell_nets.proofs.StepNets.ChainLaws.{starts, next}
+use Rattle.cell_nets.proofs.StepNets.StepLaws.{all_each, on_bit, bit_bits}
 use Rattle.turn_net.proofs.StandLemmas.{leads_as}
 use Rattle.turn_net.proofs.DecideLemmas.{either_bit}
 use Rattle.turn_net.proofs.turn.tell.Goals as goal

@@ -1,8 +1,8 @@
 use Rattle.std.proofs.Common.{◌∙◌, All, length, sym, ap, subst, arith}
 use Rattle.block_core.specs.View.{block_of}
-use Rattle.site_operands.specs.cell_nets.Operands.{IsOperand, IsWide}
-use Rattle.site_operands.specs.cell_nets.Wires.{wires_of}
-use Rattle.operand_blocks.specs.Registers.{operand_in, width_in}
+use Rattle.cell_nets.specs.Operands.{IsOperand, IsWide}
+use Rattle.cell_nets.specs.Wires.{wires_of}
+use Rattle.cell_nets.specs.OperandBlocks.Registers.{operand_in, width_in}
 use Rattle.turn_net.specs.Steps.{Decides, taken_values}
 use Rattle.turn_net.proofs.KeepLemmas.{kept_most}
 use Rattle.turn_net.proofs.FormLemmas.{IsMade, are_operands, are_wide, count_taken, is_turn}

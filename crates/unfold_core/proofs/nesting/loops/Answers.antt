@@ -1,6 +1,6 @@
 use Rattle.std.proofs.Common.{◌≡◌, length, sym, ap, subst, ◌∙◌, arith}
 use Rattle.std.specs.Prelude.{All, IfSome}
-use Rattle.bpf_isa.specs.Spelling.{IsInsn}
+use Rattle.xdp_machine.specs.bpf_isa.Spelling.{IsInsn}
 use Rattle.unfold_core.specs.Tables.{IsLeastCrossed, first_place}
 use Rattle.unfold_core.proofs.Laid.{legal_units}
 use Rattle.unfold_core.proofs.FoundLoops.{tabled, finds_refusal, finds_loops}

@@ -1,4 +1,4 @@
-use Rattle.bpf_isa.proofs.LaidLaws.{laid_more}
+use Rattle.xdp_machine.proofs.bpf_isa_laws.LaidLaws.{laid_more}
 use Rattle.unfold_core.proofs.Laid.{laid_all}
 use Rattle.unfold_core.proofs.units.units_of.Goals as goal
 

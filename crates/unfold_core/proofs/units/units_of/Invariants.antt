@@ -1,5 +1,5 @@
 use Rattle.std.proofs.Common.{◌≡◌, take}
-use Rattle.bpf_isa.specs.Laid.{laid}
+use Rattle.xdp_machine.specs.bpf_isa.Laid.{laid}
 use Rattle.unfold_core.proofs.units.units_of.Given as goal
 
 abbrev pub invariant-loop-insn : goal.invariant-loop-insn

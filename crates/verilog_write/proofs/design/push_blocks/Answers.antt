@@ -1,6 +1,6 @@
 use Rattle.std.proofs.Common.{ap, arith, length, map}
 use Rattle.net_core.specs.View.{netlist_of, statement_of}
-use Rattle.verilog_grammar.specs.Grammar.{all_always}
+use Rattle.verilog_write.specs.VerilogGrammar.Grammar.{all_always}
 use Rattle.verilog_write.proofs.AddsLemmas.{word_line}
 use Rattle.verilog_write.proofs.Facts.{block_writable, at_view, below_view}
 use Rattle.verilog_write.proofs.Sections.{always_at, section_line, section_done, always_section}

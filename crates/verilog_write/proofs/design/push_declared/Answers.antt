@@ -2,7 +2,7 @@ use Rattle.std.proofs.Common.{◌+◌, ap, arith, get_or, length}
 use Rattle.std.proofs.lemmas.List.{get_or_default}
 use Rattle.net_core.specs.View.{netlist_of}
 use Rattle.net_core.specs.declared.design.Declared.TheVariants.{Integer}
-use Rattle.verilog_grammar.specs.Grammar.{all_declared}
+use Rattle.verilog_write.specs.VerilogGrammar.Grammar.{all_declared}
 use Rattle.verilog_write.proofs.AddsLemmas.{word_line}
 use Rattle.verilog_write.proofs.Facts.{declared_named, declared_writable}
 use Rattle.verilog_write.proofs.Sections.{declared_at, section_line, section_done, declared_section}

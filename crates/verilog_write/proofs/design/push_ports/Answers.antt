@@ -1,7 +1,7 @@
 use Rattle.std.proofs.Common.{ap, arith, false, get_or, length}
 use Rattle.std.proofs.lemmas.List.{get_or_default}
 use Rattle.net_core.specs.View.{netlist_of}
-use Rattle.verilog_grammar.specs.Grammar.{ports_lexemes}
+use Rattle.verilog_write.specs.VerilogGrammar.Grammar.{ports_lexemes}
 use Rattle.verilog_write.proofs.Facts.{port_named, port_wide}
 use Rattle.verilog_write.proofs.Sections.{port_at, section_line, section_done, ports_section}
 use Rattle.verilog_write.proofs.design.push_ports.Goals as goal

@@ -1,6 +1,6 @@
 use Rattle.std.proofs.Common.{◌+◌, ap, arith, length, map}
 use Rattle.net_core.specs.View.{netlist_of, wire_of}
-use Rattle.verilog_grammar.specs.Grammar.{all_wires}
+use Rattle.verilog_write.specs.VerilogGrammar.Grammar.{all_wires}
 use Rattle.verilog_write.proofs.AddsLemmas.{word_line}
 use Rattle.verilog_write.proofs.Facts.{wire_named, wire_wide, wire_writable, at_view, below_view}
 use Rattle.verilog_write.proofs.Sections.{wire_at, section_line, section_done, wires_section}

@@ -1,7 +1,7 @@
 use Rattle.std.proofs.Common.{[], sym, subst, List, ℕ}
 use Rattle.net_core.specs.View.{netlist_of}
 use Rattle.net_core.specs.declared.design.Design.{Design}
-use Rattle.verilog_grammar.specs.Grammar.{ports_lexemes, items_lexemes}
+use Rattle.verilog_write.specs.VerilogGrammar.Grammar.{ports_lexemes, items_lexemes}
 use Rattle.verilog_lex.specs.Spelling.{IsClosed}
 use Rattle.verilog_lex.proofs.SpellingLaws.{IsClosed-nothing, Lexes-open}
 use Rattle.verilog_write.specs.Adds.{AddsLine}

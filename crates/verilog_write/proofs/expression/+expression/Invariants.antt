@@ -4,7 +4,7 @@ use Rattle.net_core.specs.declared.tree.Net.{Net}
 use Rattle.net_core.specs.declared.tree.Parts.{size-Parts}
 use Rattle.net_core.specs.Names.{name_of}
 use Rattle.net_core.specs.View.{netlist_of, trees_of}
-use Rattle.verilog_grammar.specs.Grammar.{parts_lexemes}
+use Rattle.verilog_write.specs.VerilogGrammar.Grammar.{parts_lexemes}
 use Rattle.verilog_write.specs.Adds.{AddsWord}
 use Rattle.verilog_write.specs.Writable.{AreWritable}
 use Rattle.verilog_write.proofs.expression.+expression.Given as goal

@@ -4,7 +4,7 @@ use Rattle.net_core.specs.declared.tree.Net.{Net}
 use Rattle.net_core.specs.declared.tree.Stmts.{size-Stmts}
 use Rattle.net_core.specs.Names.{name_of}
 use Rattle.net_core.specs.View.{netlist_of, statements_of}
-use Rattle.verilog_grammar.specs.Grammar.{register_name, memory_name, statement_trees_lexemes}
+use Rattle.verilog_write.specs.VerilogGrammar.Grammar.{register_name, memory_name, statement_trees_lexemes}
 use Rattle.verilog_write.specs.Adds.{AddsLine}
 use Rattle.verilog_write.specs.Writable.{AreStatementsWritable}
 use Rattle.verilog_write.proofs.statement.+statement.Given as goal

@@ -3,7 +3,7 @@ use Rattle.elf_view.specs.File.{e_shnum}
 use Rattle.xdp_object.specs.Relocations.{rela_table}
 use Rattle.xdp_object.proofs.Searches.{passed}
 use Rattle.xdp_object.proofs.relocations.check_no_rela.Goals as goal
-use Rattle.elf_view.proofs.list_laws.FirstLaws.{first_from-more}
+use Rattle.btf_view.proofs.list_laws_laws.FirstLaws.{first_from-more}
 
 pub loop-i-preserved : goal.loop-i-preserved
 loop-i-preserved c =

@@ -1,7 +1,7 @@
 use Rattle.std.proofs.Common.{◌∙◌, arith, length}
 use Rattle.xdp_object.specs.Relocations.{first_unknown, unknown_at}
 use Rattle.xdp_object.proofs.Places.{fits, unknowns_more, unknowns_found, none_left}
-use Rattle.elf_view.proofs.list_laws.FirstLaws.{first_from-all}
+use Rattle.btf_view.proofs.list_laws_laws.FirstLaws.{first_from-all}
 use Rattle.xdp_object.proofs.relocations.check_places.Goals as goal
 
 pub check_insn-requires : goal.check_insn-requires

@@ -1,4 +1,4 @@
-use Rattle.bpf_isa.proofs.LaidLaws.{laid_more}
+use Rattle.xdp_object.proofs.bpf_isa_laws.LaidLaws.{laid_more}
 use Rattle.xdp_seq.proofs.plan.units_of.Goals as goal
 
 pub loop-insn-preserved : goal.loop-insn-preserved

@@ -1,7 +1,7 @@
 use Rattle.std.proofs.Common.{◌∙◌, refl, sym, ap, arith}
 use Rattle.xdp_state.specs.xdp_machine.Runs.{Ended, Stuck, leaves}
 use Rattle.xdp_state.specs.Machines.{machine_of}
-use Rattle.xdp_object.proofs.xdp_machine.RunLaws.{run_none, run_goes, run_ends, run_stops}
+use Rattle.xdp_state.proofs.xdp_machine_laws.RunLaws.{run_none, run_goes, run_ends, run_stops}
 use Rattle.xdp_seq.proofs.run.run.Goals as goal
 
 pub returns-in-Ended : goal.returns-in-Ended

@@ -1,6 +1,6 @@
 use Rattle.std.proofs.Common.{◌≡◌, ℕ, Bool, ◌-◌, ◌&&◌, length, find, nat_le}
-use Rattle.cell_core.specs.Rows.{numbers}
-use Rattle.cell_core.specs.View.{program_of}
+use Rattle.hazard_core.specs.cell_core.Rows.{numbers}
+use Rattle.hazard_core.specs.cell_core.View.{program_of}
 use Rattle.hazard_core.specs.Held.{writes}
 use Rattle.pipe_core.proofs.packet.Packet.chosen.Given as goal
 

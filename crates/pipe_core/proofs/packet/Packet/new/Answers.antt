@@ -1,6 +1,6 @@
 use Rattle.std.proofs.Common.{rules, ◌≡◌, length, arith}
 use Rattle.std.proofs.lemmas.List.{length-map}
-use Rattle.cell_core.specs.View.{program_of, site_of}
+use Rattle.hazard_core.specs.cell_core.View.{program_of, site_of}
 use Rattle.pipe_core.proofs.Fitting.{new_of}
 use Rattle.pipe_core.proofs.packet.Packet.new.Goals as goal
 

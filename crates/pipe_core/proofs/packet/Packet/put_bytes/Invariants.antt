@@ -1,5 +1,5 @@
 use Rattle.std.proofs.Common.{◌≡◌, drop}
-use Rattle.cell_core.specs.Sites.{with_bytes}
+use Rattle.hazard_core.specs.cell_core.Sites.{with_bytes}
 use Rattle.hazard_core.specs.Held.{held_value}
 use Rattle.pipe_core.proofs.packet.Packet.put_bytes.Given as goal
 

@@ -1,5 +1,5 @@
 use Rattle.std.proofs.Common.{sym, subst}
-use Rattle.cell_core.specs.View.{program_of}
+use Rattle.hazard_core.specs.cell_core.View.{program_of}
 use Rattle.pipe_core.specs.Planned.{IsPacketOf}
 use Rattle.pipe_core.proofs.Fitting.{marked_of}
 use Rattle.pipe_core.proofs.packet.Packet.strike.Goals as goal

@@ -1,6 +1,6 @@
 use Rattle.std.proofs.Common.{◌≡◌, ℕ, ◌<◌, length, sym, ap, ◌∙◌, subst, arith}
 use Rattle.std.specs.Option.{option_map}
-use Rattle.cell_core.specs.View.{program_of}
+use Rattle.hazard_core.specs.cell_core.View.{program_of}
 use Rattle.pipe_core.specs.Machine.{Moves, worked}
 use Rattle.pipe_core.specs.BuildView.{BuildView, build_in}
 use Rattle.pipe_core.specs.StateView.{state_of}

@@ -1,6 +1,6 @@
 use Rattle.std.proofs.Common.{◌≡◌, ◌+◌, ℕ, List, Some, length, true, ap, ◌∙◌, arith}
 use Rattle.std.proofs.lemmas.List.{take_at}
-use Rattle.cell_core.specs.View.{program_of}
+use Rattle.hazard_core.specs.cell_core.View.{program_of}
 use Rattle.hazard_core.specs.Tables.{TableState}
 use Rattle.hazard_core.specs.Commits.{committed, taken_after, change_by}
 use Rattle.pipe_core.specs.Machine.{Packet, Commits, place_at, worked}

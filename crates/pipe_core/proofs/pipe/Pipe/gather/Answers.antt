@@ -1,6 +1,6 @@
 use Rattle.std.proofs.Common.{◌≡◌, ℕ, Option, Some, sym, ap, ◌∙◌, subst}
 use Rattle.std.specs.Prelude.{is_some}
-use Rattle.beat_core.specs.declared.beat.Beat.{Beat}
+use Rattle.realization.specs.beat_core.declared.beat.Beat.{Beat}
 use Rattle.pipe_core.specs.Machine.{State, is_ready, came_with, gathered}
 use Rattle.pipe_core.specs.BuildView.{build_in}
 use Rattle.pipe_core.specs.StateView.{state_of}

@@ -1,7 +1,7 @@
 use Rattle.std.proofs.Common.{◌≡◌, ℕ, suc, None, length, sym, ap, ◌∙◌, subst, arith}
 use Rattle.std.specs.Prelude.{replicate}
 use Rattle.std.proofs.lemmas.List.{length-map}
-use Rattle.cell_core.specs.View.{program_of, site_of}
+use Rattle.hazard_core.specs.cell_core.View.{program_of, site_of}
 use Rattle.pipe_core.specs.PlacesView.{PlacesView}
 use Rattle.pipe_core.specs.Queued.{Queued}
 use Rattle.pipe_core.specs.BuildView.{BuildView, build_in}

@@ -1,6 +1,6 @@
 use Rattle.std.proofs.Common.{◌≡◌, ◌<◌, ◌≤◌, ◌+◌, ◌*◌, ℕ, false, Option, Some, length, sym, ap, ◌∙◌, subst}
 use Rattle.std.specs.Prelude.{is_some, IfSome}
-use Rattle.beat_core.specs.declared.beat.Beat.{Beat}
+use Rattle.realization.specs.beat_core.declared.beat.Beat.{Beat}
 use Rattle.pipe_core.specs.Machine.{State, scattered}
 use Rattle.pipe_core.specs.BuildView.{build_in}
 use Rattle.pipe_core.specs.StateView.{state_of}

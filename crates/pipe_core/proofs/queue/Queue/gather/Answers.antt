@@ -1,5 +1,5 @@
 use Rattle.std.proofs.Common.{◌≡◌, ◌+◌, ◌≤◌, Some, min, sym, ap, ◌∙◌, subst, arith}
-use Rattle.beat_core.proofs.WordLaws.{length-low_bytes}
+use Rattle.realization.proofs.beat_core_laws.WordLaws.{length-low_bytes}
 use Rattle.pipe_core.specs.Queued.{Queued, came_bytes}
 use Rattle.pipe_core.specs.declared.arrived.TheConstants.{FRAME_ROOM}
 use Rattle.pipe_core.proofs.queue.Queue.gather.Goals as goal

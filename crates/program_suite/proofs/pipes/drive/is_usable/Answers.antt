@@ -1,6 +1,6 @@
 use Rattle.std.proofs.Common.{◌<◌, ◌^◌, ◌∙◌, length, arith}
 use Rattle.std.proofs.lemmas.List.{length-map}
-use Rattle.cell_core.specs.View.{program_of, cell_of, site_of}
+use Rattle.row_rules.specs.cell_core.View.{program_of, cell_of, site_of}
 use Rattle.program_suite.proofs.Usable.{usable}
 use Rattle.program_suite.proofs.pipes.drive.is_usable.Goals as goal
 

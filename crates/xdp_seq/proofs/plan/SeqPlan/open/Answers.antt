@@ -1,5 +1,5 @@
 use Rattle.std.proofs.Common.{◌∙◌, sym, ap, subst}
-use Rattle.bpf_isa.specs.Laid.{laid}
+use Rattle.xdp_state.specs.bpf_isa.Laid.{laid}
 use Rattle.xdp_seq.specs.Units.{AreUnits}
 use Rattle.xdp_seq.proofs.Laid.{are_units, insns_of-laid}
 use Rattle.xdp_seq.proofs.plan.SeqPlan.open.Goals as goal

@@ -1,0 +1,3 @@
+//! Which designs that are made of blocks a Verilog text can spell.
+
+pub mod laws;

@@ -1,0 +1,3 @@
+pub mod WiringLaws
+pub mod SetLemmas
+pub mod RegisterLemmas

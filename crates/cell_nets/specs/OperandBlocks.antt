@@ -1,0 +1,3 @@
+pub mod Wiring
+pub mod Sets
+pub mod Registers

@@ -1,7 +1,0 @@
-use Rattle.cell_nets.specs.declared.operand.Operand.TheVariants.{Net}
-use Rattle.change_net.proofs.PresenceLemmas.{presence_stands}
-use Rattle.change_net.proofs.presence.presence_net.Goals as goal
-
-pub returns-clause-stands : goal.returns-clause-stands
-returns-clause-stands g c =
-    presence_stands c.args.part c.args.sites.now c.args.commits (Net c.in_ok-insert_net.field-0 1) (Net c.in_ok-delete_net.field-0 1) c.in_ok-moves.moves c.in_ok-out.out c.in_ok-insert_net.ensures c.in_ok-delete_net.ensures c.in_ok-moves.ensures c.in_ok-out.ensures

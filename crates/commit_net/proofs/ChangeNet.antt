@@ -1,0 +1,10 @@
+pub mod ChainLemmas
+pub mod PointedLaws
+pub mod PointedLemmas
+pub mod WordsLemmas
+pub mod KeyLemmas
+pub mod PairLemmas
+pub mod PresenceLemmas
+pub mod WrittenLemmas
+pub mod WrittenLaws
+pub mod ChangeLemmas

@@ -1,0 +1,125 @@
+-- The parts of a hash.
+use Rattle.std.proofs.Common.{◌≡◌, ◌∙◌, ℕ, suc, ◌+◌, ◌<◌, List, length, get_or, sym, ap, subst, arith}
+use Rattle.std.proofs.lemmas.List.{get_or-append-add}
+use Rattle.net_core.specs.Ports.{port_list}
+use Rattle.net_core.specs.Value.{word, bit, value, nothing, Env}
+use Rattle.net_core.specs.Clock.{Stored, done}
+use Rattle.block_core.specs.declared.name.Name.{Name}
+use Rattle.block_core.specs.Blocks.{BlockTree, first_of}
+use Rattle.block_core.specs.Formed.{name_width, block_wires, block_memories}
+use Rattle.overlay_net.specs.xdp_maps.declared.decl.MapDecl.{MapDecl}
+use Rattle.overlay_net.specs.xdp_maps.declared.decl.MapKind.{MapKind}
+use Rattle.overlay_net.specs.xdp_maps.declared.decl.MapKind.TheVariants.{Hash}
+use Rattle.overlay_net.specs.hazard_core.declared.slot.Slot.{Slot}
+use Rattle.overlay_net.specs.hazard_core.Tables.{table_at}
+use Rattle.overlay_net.specs.hazard_core.Commits.{word_count}
+use Rattle.hash_net.specs.array_net.declared.words.WordNets.{WordNets}
+use Rattle.hash_net.specs.array_net.declared.block.MapNets.{MapNets}
+use Rattle.hash_net.specs.array_net.Words.{word_width}
+use Rattle.hash_net.specs.array_net.WordTrees.{word_memories, word_shown}
+use Rattle.hash_net.proofs.array_net_laws.WordMemoryLaws.{memory_at, count_memories}
+use Rattle.hash_net.specs.declared.block.HashNets.{HashNets}
+use Rattle.hash_net.specs.HashNets.{value_first, hash_memories}
+use Rattle.hash_net.specs.Hash.{StoresHash, SeesOwn, IsHash}
+use Rattle.commit_net.specs.declared.choosing.CommitNets.{CommitNets}
+use Rattle.commit_net.specs.Fetching.{IsFetch, fetched_words}
+use Rattle.commit_net.specs.Wholes.{IsSlotPart, IsHashCommit}
+use Rattle.commit_net.specs.Laws.{HashStores}
+use Rattle.commit_net.specs.declared.map_block.form.MapForm.{MapForm}
+use Rattle.commit_net.specs.declared.map_block.parts.MapParts.{MapParts}
+use Rattle.commit_net.specs.declared.map_block.parts.ControlNets.{ControlNets}
+use Rattle.commit_net.specs.MapBlock.Forms.{IsSuited}
+use Rattle.commit_net.specs.MapBlock.Parts.{MapTrees, with_slot_net}
+use Rattle.commit_net.specs.MapBlock.Stored.{StoresAs, StoresMap, IsFirst_as, SeesStored, first_value_as, host_may_as, host_word_as}
+use Rattle.commit_net.specs.MapBlock.Block.{IsOwnPart, AreFormed, DoesMap, IsMapBlock}
+use Rattle.commit_net.proofs.MapBlock.FormedLemmas.{are_formed}
+use Rattle.commit_net.proofs.MapBlock.HostLemmas.{may_is, table_is, shown_is}
+use Rattle.commit_net.proofs.MapBlock.MayLemmas.{hash_may}
+
+value_memory : (bits : ℕ) (d : MapDecl) (k : ℕ) → k < word_count d.value → get_or (hash_memories bits d) (value_first d + k) (0, 0) ≡ (bits, word_width d.value k)
+value_memory bits d k l =
+    let c = count_memories bits d.key 0 (word_count d.key) in
+    let z : value_first d + k ≡ suc (length (word_memories bits d.key) + k) = omega (arith, c) in
+    let y : 0 + k ≡ k = omega arith in
+    ap (λ i. get_or (hash_memories bits d) i (0, 0)) z
+    ∙ get_or-append-add (word_memories bits d.key) (word_memories bits d.value) k (0, 0)
+    ∙ memory_at bits d.value 0 (word_count d.value) k l
+    ∙ ap (λ i. (bits, word_width d.value i)) y
+
+-- nets of which some are known
+pub as_given : {N : Type 0} (nets : HashNets N) (m : MapNets N) (calm : N) → nets.map ≡ m → nets.calm ≡ calm → nets ≡ record { map = m; calm = calm; inserts = nets.inserts; deletes = nets.deletes }
+as_given nets m calm e g = λ i. record { map = e i; calm = g i; inserts = nets.inserts; deletes = nets.deletes }
+
+module _ {P : Type 0} (f : MapForm) (ps : MapParts P) (c : ControlNets (Name P)) (ns : List (CommitNets (Name P))) (bs : MapTrees (Name P)) (inserts deletes : Name P) (keys : List (Name P)) (values : List (WordNets (Name P))) where
+  abbrev d : MapDecl
+  d = f.decl
+
+  abbrev own : P
+  own = ps.own
+
+  abbrev count : ℕ
+  count = word_count f.decl.value
+
+  abbrev pub nets : HashNets (Name P)
+  nets = record { map = with_slot_net c bs.slot; calm = c.calm; inserts = inserts; deletes = deletes }
+
+  module _ (kind : d.kind ≡ Hash) (suited : IsSuited f) (find : IsSlotPart ps.finder f.bits ns bs.slot bs.finds) (fetch : IsFetch ps.fetcher own f.bits (value_first d) d.value 0 count bs.slot bs.fetches) (ask : IsHashCommit ps.asker d f.bits ns (fetched_words ps.fetcher count) nets keys values bs.asks)
+      (block : IsHash own f.number d f.bits nets keys values bs.stores) (stores_law : HashStores P) where
+    stored : IsOwnPart f bs.stores
+    stored = record {
+      values = λ j l. subst (λ k. get_or (block_memories bs.stores) (first_value_as k d + j) (0, 0) ≡ (f.bits, word_width d.value j)) (sym kind) (ap (λ ms. get_or ms (value_first d + j) (0, 0)) block.memories ∙ value_memory f.bits d j l);
+      counter = λ same. block.registers;
+      table = λ same. block.memories;
+    }
+
+    formed : AreFormed f ps c ns bs
+    formed =
+        are_formed f ps c ns bs (value_first d) find fetch ask.wiring (λ j l. ap (λ ms. get_or ms (value_first d + j) (0, 0)) block.memories ∙ value_memory f.bits d j l)
+        (λ w here asked declared one wide. block.typed w here (ask.widths w asked declared one.0 wide one.1 one.2))
+        (λ w before own_there asked among given control at. block.ordered w before own_there (ask.before w before own asked among given control.0 at control.1 control.2))
+        (λ w own_there asker_there given control at. let x = ask.there w asker_there given in block.reads w own_there (control.0, at, control.1, control.2, x.0.0, x.0.1) x.1 x.2)
+        (record { within = block.within; wires_spelled = block.wires_spelled; spelled = block.spelled; free = block.free }) block.goes
+        (λ w here. subst (λ k. name_width w port_list (host_word_as k own) ≡ 64) (sym kind) (ap (λ (b : BlockTree (Name P)). get_or (block_wires b) 7 0) here ∙ ap (λ l. get_or l 7 0) block.wires))
+        (hash_may f ps c bs kind suited block.memories) stored
+
+    to_map : (slots : List Slot) (s : Stored) → StoresHash d f.bits slots s → StoresMap d f.bits slots s
+    to_map slots s h = subst (λ k. StoresAs k d f.bits slots s) (sym kind) h
+
+    of_map : (slots : List Slot) (s : Stored) → StoresMap d f.bits slots s → StoresHash d f.bits slots s
+    of_map slots s h = subst (λ k. StoresAs k d f.bits slots s) kind h
+
+    sees_own : (v : Env (Name P)) (s : Stored) (slots : List Slot) → SeesStored own v s → StoresHash d f.bits slots s → SeesOwn own v s
+    sees_own v s slots sees h = record { register = sees.register 0 (subst (λ l. 0 < length l) (sym h.registers) (omega arith)); memories = sees.memories }
+
+    does : DoesMap f ps c ns bs
+    does = record {
+      first = λ slots e. let is : slots ≡ _ = subst (λ k. IsFirst_as k d slots) kind e in to_map slots (first_of bs.stores) (subst (λ l. StoresHash d f.bits l (first_of bs.stores)) (sym is) block.first);
+      stays = λ v s solve none silent. block.stays v s solve.3 none silent;
+      commits = λ v s p t taken h j solve sees stores on is.
+          let hash = of_map _ s stores in
+          to_map _ (done v bs.stores.statement s)
+          (stores_law ps.finder ps.fetcher ps.asker own f.number d f.bits ns nets keys values bs.finds bs.fetches bs.asks bs.stores suited.room find fetch ask block v s p t taken h j solve.0 solve.1 solve.2 solve.3 (sees_own v s _ sees hash) hash is);
+      finds = λ v p t taken h j fit solve on small. find.shows v p t taken h j fit solve.0 on small;
+      written = λ v s t a number calm solve sees m stores host none on is_calm.
+          let slots = table_at t f.number in
+          let hash = of_map slots s stores in
+          to_map _ (done v bs.stores.statement s)
+          (subst (λ l. StoresHash d f.bits l (done v bs.stores.statement s)) (table_is f t a m hash.count suited.limits.cap_some calm number) (block.written v s slots a number calm solve.3 (sees_own v s slots sees hash) hash host none on is_calm));
+      allows = λ v s t a number calm solve sees m stores host is_calm.
+          let slots = table_at t f.number in
+          let hash = of_map slots s stores in
+          ap (λ k. value v (host_may_as k f own c.calm)) kind ∙ block.allows v s slots a number calm solve.3 (sees_own v s slots sees hash) hash host is_calm ∙ ap bit (may_is f t a m hash.count suited.limits.cap_some calm);
+      shows = λ v s t a number solve sees m stores host.
+          let slots = table_at t f.number in
+          let hash = of_map slots s stores in
+          ap (λ (k : MapKind). v.net (host_word_as k own)) kind ∙ block.shows v s slots a number solve.3 (sees_own v s slots sees hash) hash host ∙ ap (word 64) (shown_is f t a m hash.count suited.limits.cap_some);
+      loads = λ v s slots index n j sees stores at less there.
+          let hash = of_map slots s stores in
+          ap (λ k. value v (word_shown own (first_value_as k d) d.value j index)) kind ∙ block.loads v s slots index n j (sees_own v s slots sees hash) hash at less there;
+      counts = λ v s slots is sees stores.
+          let hash = of_map slots s stores in
+          (sees_own v s slots sees hash).register ∙ ap (λ l. get_or l 0 nothing) hash.registers;
+    }
+
+    pub hash_block : IsMapBlock f ps c ns bs
+    hash_block = record { formed = formed; does = does }

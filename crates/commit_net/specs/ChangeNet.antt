@@ -1,0 +1,3 @@
+pub mod Pointed
+pub mod Written
+pub mod Changes

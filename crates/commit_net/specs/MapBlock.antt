@@ -1,0 +1,5 @@
+pub mod Forms
+pub mod Parts
+pub mod Stored
+pub mod Block
+pub mod Laws

@@ -1,8 +1,0 @@
-//! What holds of the program. Each function's contract is a law; it computes nothing.
-
-ghost use Rattle.demo_graph.specs.Size.{DemoIsAccepted};
-
-/// The program is accepted, and its graph has 29 nodes.
-pub fn demo_is_accepted()
-    ensures { DemoIsAccepted }
-{}

@@ -1,4 +1,0 @@
-//! The graph of the program of `flow_demo`: the program is accepted, and how large its pipeline is.
-#![tactic(auto)]
-
-pub mod laws;

@@ -1,0 +1,3 @@
+pub mod Suited
+pub mod ReadCells
+pub mod Leading

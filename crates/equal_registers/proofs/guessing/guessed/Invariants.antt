@@ -1,8 +1,0 @@
-use Rattle.std.proofs.Common.{◌≡◌, length}
-use Rattle.equal_registers.proofs.guessing.guessed.Given as goal
-
-abbrev pub invariant-loop : goal.invariant-loop
-invariant-loop l = record {
-  registers : length l.registers.items ≡ length l.words;
-  marks : length l.marks.items ≡ length l.design.wires.items;
-}

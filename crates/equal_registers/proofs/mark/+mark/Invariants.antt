@@ -1,7 +1,0 @@
-use Rattle.std.proofs.Common.{◌≤◌}
-use Rattle.net_core.specs.declared.tree.Net.{Net}
-use Rattle.net_core.specs.declared.tree.Parts.{size-Parts}
-use Rattle.equal_registers.proofs.mark.+mark.Given as goal
-
-abbrev pub invariant-parts_mark-loop-left : goal.invariant-parts_mark-loop-left
-invariant-parts_mark-loop-left l = size-Parts Net l.left ≤ size-Parts Net l.fn.parts

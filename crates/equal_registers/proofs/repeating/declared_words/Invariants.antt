@@ -1,6 +1,0 @@
-use Rattle.std.proofs.Common.{◌≡◌, take}
-use Rattle.net_core.specs.Clock.{first_words}
-use Rattle.equal_registers.proofs.repeating.declared_words.Given as goal
-
-abbrev pub invariant-loop-item : goal.invariant-loop-item
-invariant-loop-item l = l.words.items ≡ first_words (take l.item-index l.declared)

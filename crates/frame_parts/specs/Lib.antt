@@ -1,2 +1,0 @@
-pub use Rattle.pipe_frames.specs as pipe_frames
-pub mod Blocks

@@ -1,6 +1,0 @@
-//! The parts of a pipeline that deal with frames, for what its other parts show: [`parts::frame_parts`].
-#![tactic(auto)]
-
-pub mod blocks;
-pub mod layout;
-pub mod parts;

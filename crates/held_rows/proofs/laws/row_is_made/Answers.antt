@@ -1,5 +1,0 @@
-use Rattle.held_rows.proofs.Making.{row_is_made, row_keeps}
-use Rattle.held_rows.proofs.laws.row_is_made.Goals as goal
-
-pub returns : goal.returns
-returns c = record { made = row_is_made c.reads_keep.ensures; keeps = row_keeps }

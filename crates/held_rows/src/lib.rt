@@ -1,5 +1,0 @@
-//! What a packet holds, row by row: its pointers point at slots that there are and at entries that its own earlier updates are to make, and
-//! behind a row each cell of the row is as it is made. There is no code but for the laws.
-#![tactic(auto)]
-
-pub mod laws;

@@ -1,2 +1,0 @@
-pub use Rattle.net_core.proofs.beat_core as beat_core
-pub mod HostLaws

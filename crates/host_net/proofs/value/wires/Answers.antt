@@ -1,8 +1,0 @@
-use Rattle.std.proofs.Common.{map, ap}
-use Rattle.net_core.specs.Nets.{RPlain}
-use Rattle.block_core.specs.View.{block_wire_of}
-use Rattle.host_net.proofs.TreeLemmas.{pushed}
-use Rattle.host_net.proofs.value.wires.Goals as goal
-
-pub returns : goal.returns
-returns g c = pushed (ap (map block_wire_of) c.new-all.ensures.items) c.in_ok-add_wire.ensures (λ i. record { width = 64; right = RPlain (c.in_ok-shown.ensures i) })

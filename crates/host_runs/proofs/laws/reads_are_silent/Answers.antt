@@ -1,5 +1,0 @@
-use Rattle.host_runs.proofs.Silence.{reads_are_silent, runs_are_silent}
-use Rattle.host_runs.proofs.laws.reads_are_silent.Goals as goal
-
-pub returns : goal.returns
-returns c = record { clock = reads_are_silent; runs = runs_are_silent }

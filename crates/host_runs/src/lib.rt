@@ -1,4 +1,0 @@
-//! What the machine of the pipe makes of the clocks in which its host loads maps and reads them back. There is no code but for the laws.
-#![tactic(auto)]
-
-pub mod laws;

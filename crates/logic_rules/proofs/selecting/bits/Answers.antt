@@ -1,8 +1,0 @@
-use Rattle.std.proofs.Common.{subst, sym}
-use Rattle.net_sizes.specs.Fitting.{Fits}
-use Rattle.logic_rules.proofs.SelectLemmas.{whole}
-use Rattle.logic_rules.proofs.selecting.bits.Goals as goal
-
-pub returns-then-of-high : goal.returns-then-of-high
-returns-then-of-high c v fit =
-    whole c.of.result c.args.high c.args.low (v.net c.args.n) (sym c.if-of-high.true) c.if-low-eq0.true (subst (λ k. Fits k (v.net c.args.n)) (sym c.of.ensures) (fit c.args.n))

@@ -1,3 +1,0 @@
-pub use Rattle.net_sizes.specs as net_sizes
-pub mod Known
-pub mod Flags

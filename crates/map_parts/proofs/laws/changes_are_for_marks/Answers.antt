@@ -1,5 +1,0 @@
-use Rattle.map_parts.proofs.Laying.{have_changes}
-use Rattle.map_parts.proofs.laws.changes_are_for_marks.Goals as goal
-
-pub returns : goal.returns
-returns c d sites committing r f is same are = have_changes d is sites committing r f same are

@@ -1,6 +1,0 @@
-use Rattle.map_parts.proofs.Laying.{of_maps}
-use Rattle.map_parts.proofs.laws.parts_are_of_maps.Goals as goal
-
-pub returns : goal.returns
-returns c d places at committing r l w turn is stand here from answered are said changed blocks =
-    of_maps d is places at here l from (c.drafted_are_laid.ensures.sites d places l is stand from answered) w turn committing r are said changed blocks

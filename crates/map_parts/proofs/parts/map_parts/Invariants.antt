@@ -1,5 +1,0 @@
-use Rattle.map_parts.proofs.Gathering.{HaveParts}
-use Rattle.map_parts.proofs.parts.map_parts.Given as goal
-
-abbrev pub invariant-loop-m : goal.invariant-loop-m
-invariant-loop-m l = HaveParts l.draft l.at.sites.items l.committing l.m l.maps.items l.changes.items

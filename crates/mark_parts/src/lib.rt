@@ -1,9 +1,0 @@
-//! The parts of a pipeline that keep marks, and those that say which packets are due.
-#![tactic(auto)]
-
-pub mod due;
-pub mod laws;
-pub mod layout;
-pub mod marks;
-mod owns;
-mod reads;

@@ -1,7 +1,0 @@
-use Rattle.std.proofs.Common.{map, take}
-use Rattle.net_core.specs.View.{statement_of}
-use Rattle.narrow_registers.specs.Narrow.{coding_of, Each, IsSameStatement}
-use Rattle.narrow_registers.proofs.storing.narrow_always.Given as goal
-
-abbrev pub invariant-loop-stmt : goal.invariant-loop-stmt
-invariant-loop-stmt l = Each (IsSameStatement (coding_of l.codes)) (map statement_of (take l.stmt-index l.always)) (map statement_of l.all.items)

@@ -1,0 +1,2 @@
+pub mod LogicRules
+pub mod NetSizes

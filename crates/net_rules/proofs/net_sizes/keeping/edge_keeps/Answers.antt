@@ -1,0 +1,28 @@
+use Rattle.std.specs.Prelude.{◌≡◌, ℕ, zero, suc, ◌<◌, List, [], ◌∷◌, length, map, take}
+use Rattle.std.proofs.Common.{get_or, ap, sym, subst, add-one, arith}
+use Rattle.std.proofs.lemmas.Bool.{and_parts}
+use Rattle.std.proofs.lemmas.List.{take_all}
+use Rattle.net_core.specs.declared.tree.Net.{Net}
+use Rattle.net_core.specs.declared.tree.Stmt.{Stmt}
+use Rattle.net_core.specs.View.{statement_of}
+use Rattle.net_core.specs.Value.{Env}
+use Rattle.net_core.specs.Clock.{Stored, done, edge}
+use Rattle.net_rules.specs.NetSizes.Staying.{HaveSizes}
+use Rattle.net_rules.proofs.net_sizes.keeping.edge_keeps.Goals as goal
+
+-- one always block more
+edge_more : (v : Env Net) (xs : List (Stmt Net)) (i : ℕ) (x : Stmt Net) (s : Stored) → i < length xs → x ≡ get_or xs i x
+    → edge v (map statement_of (take (suc i) xs)) s ≡ done v (statement_of x) (edge v (map statement_of (take i xs)) s)
+edge_more v [] i x s l e = absurd (omega arith)
+edge_more v (y ∷ ys) zero x s l e = ap (λ z. done v (statement_of z) s) (sym e)
+edge_more v (y ∷ ys) (suc i) x s l e = edge_more v ys i x (done v (statement_of y) s) (omega arith) e
+
+pub loop-stmt-preserved : goal.loop-stmt-preserved
+loop-stmt-preserved c both v known s h =
+    let parts = and_parts c.stmt_keeps-all.result c.loop-stmt.all both in
+    rw add-one (subst (HaveSizes c.args.sizes.now.registers.items) (sym (edge_more v c.args.always.now c.loop-stmt.stmt-index c.stmt-item.result s (omega arith) c.stmt-item.is))
+    (c.stmt_keeps-all.ensures parts.0 v known _ (c.loop-stmt.invariant parts.1 v known s h)))
+
+pub returns : goal.returns
+returns c all v known s h =
+    subst (λ xs. HaveSizes c.args.sizes.now.registers.items (edge v (map statement_of xs) s)) (take_all c.loop-stmt.stmt-index c.args.always.now (omega arith)) (c.loop-stmt.invariant all v known s h)

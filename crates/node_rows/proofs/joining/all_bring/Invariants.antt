@@ -1,6 +1,0 @@
-use Rattle.std.proofs.Common.{◌≡◌, drop}
-use Rattle.node_rows.specs.Joining.{all_bring}
-use Rattle.node_rows.proofs.joining.all_bring.Given as goal
-
-abbrev pub invariant-loop-arrival : goal.invariant-loop-arrival
-invariant-loop-arrival l = all_bring (drop l.arrival-index l.arrivals) l.place l.origin ≡ all_bring l.arrivals l.place l.origin

@@ -1,6 +1,0 @@
-use Rattle.std.proofs.Common.{◌≡◌, drop, max}
-use Rattle.node_rows.specs.Joining.{edge_row}
-use Rattle.node_rows.proofs.joining.edge_row.Given as goal
-
-abbrev pub invariant-loop-arrival : goal.invariant-loop-arrival
-invariant-loop-arrival l = max l.most (edge_row (drop l.arrival-index l.arrivals)) ≡ edge_row l.arrivals

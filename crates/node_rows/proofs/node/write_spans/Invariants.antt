@@ -1,6 +1,0 @@
-use Rattle.std.proofs.Common.{◌≡◌, ℕ, ◌<◌, None, get_or, take}
-use Rattle.node_rows.specs.Passing.{written}
-use Rattle.node_rows.proofs.node.write_spans.Given as goal
-
-abbrev pub invariant-loop-span : goal.invariant-loop-span
-invariant-loop-span l = (i : ℕ) → i < 348 → get_or l.origins.places i None ≡ written l.after (take l.span-index l.spans) l.fn.origin l.fn.origins.places i

@@ -1,6 +1,0 @@
-use Rattle.std.proofs.Common.{◌≡◌, take, map as map_list}
-use Rattle.operand_blocks.specs.Registers.{zero_word}
-use Rattle.operand_blocks.proofs.registers.zeros.Given as goal
-
-abbrev pub invariant-loop-taken : goal.invariant-loop-taken
-invariant-loop-taken g l = l.words.items ≡ map_list zero_word (take l.taken-index l.all)

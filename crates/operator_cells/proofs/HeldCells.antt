@@ -1,0 +1,3 @@
+pub mod MonotoneLaws
+pub mod PointerLaws
+pub mod RowLaws

@@ -1,0 +1,10 @@
+pub mod Held
+pub mod Carrying
+pub mod Paths
+pub mod Steps
+pub mod Operating
+pub mod Law
+pub mod Rows
+pub mod Aligned
+pub mod Reading
+pub mod Pointing

@@ -1,8 +1,0 @@
-use Rattle.pipe_answers.proofs.Following.{designs_follow, designs_show}
-use Rattle.pipe_answers.proofs.laws.designs_follow.Goals as goal
-
-pub returns : goal.returns
-returns c = record {
-  runs = designs_follow c.loads_are_right.ensures.runs c.loads_may_come.ensures.runs c.loads_maps.ensures.traces;
-  next = designs_show c.loads_are_right.ensures.runs c.loads_may_come.ensures.runs c.loads_maps.ensures.traces;
-}

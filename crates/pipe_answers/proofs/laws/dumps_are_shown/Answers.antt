@@ -1,5 +1,0 @@
-use Rattle.pipe_answers.proofs.Dumps.{runs_go_on, dumps_are_shown}
-use Rattle.pipe_answers.proofs.laws.dumps_are_shown.Goals as goal
-
-pub returns : goal.returns
-returns c = record { runs = runs_go_on c.reads_are_right.ensures.clock c.reads_are_right.ensures.first; dumps = dumps_are_shown c.dumps_maps.ensures.maps }

@@ -1,5 +1,0 @@
-use Rattle.pipe_answers.proofs.Coming.{host_may_come, loads_may_come, opened_are_sound}
-use Rattle.pipe_answers.proofs.laws.loads_may_come.Goals as goal
-
-pub returns : goal.returns
-returns c = record { host = host_may_come; runs = loads_may_come c.loads_maps.ensures.traces c.loads_fit.ensures; opened = opened_are_sound c.keeps_over.ensures }

@@ -1,7 +1,0 @@
-//! A pipeline is right in every clock: what holds of all clocks of its machine while maps are loaded, and while a host only reads. There is no code but for the laws.
-#![tactic(auto)]
-
-pub mod laws;
-
-// Crates above name these through this one.
-pub use pipe_maps;

@@ -1,5 +1,0 @@
-use Rattle.pipe_clocks.proofs.RightClocks.{reads_are_right, empty_is_right}
-use Rattle.pipe_clocks.proofs.laws.clocks_are_right.Goals as goal
-
-pub returns : goal.returns
-returns c = record { reads = reads_are_right c.right.ensures.turn; empty = empty_is_right }

@@ -1,4 +1,0 @@
-//! The parts of a pipeline that count frames, take them and answer them: what a clock of them does, by what the other parts say.
-#![tactic(auto)]
-
-pub mod laws;

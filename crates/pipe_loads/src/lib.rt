@@ -1,4 +1,0 @@
-//! Designs of pipelines through a load and behind it. There is no code but for the law.
-#![tactic(auto)]
-
-pub mod laws;

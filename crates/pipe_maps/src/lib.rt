@@ -1,7 +1,0 @@
-//! The parts of a pipeline that have the tables of its maps: what a clock leaves in them, what they say of it to others, and what the host reads.
-#![tactic(auto)]
-
-pub mod laws;
-
-// Crates above name these through this one.
-pub use pipe_turns;

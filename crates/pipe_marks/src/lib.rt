@@ -1,4 +1,0 @@
-//! The parts of a pipeline that keep marks: what they say, and what a clock of them does, by what the other parts say.
-#![tactic(auto)]
-
-pub mod laws;

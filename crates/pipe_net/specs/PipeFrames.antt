@@ -1,0 +1,3 @@
+pub mod Parts
+pub mod Returning
+pub mod Following

@@ -1,0 +1,5 @@
+pub mod Parts
+pub mod Premises
+pub mod Tables
+pub mod Saying
+pub mod Keys

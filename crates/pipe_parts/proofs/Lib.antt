@@ -1,0 +1,3 @@
+pub mod PipeDraft
+pub mod SlotParts
+pub mod TurnParts

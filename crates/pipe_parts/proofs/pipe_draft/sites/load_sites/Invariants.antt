@@ -1,0 +1,10 @@
+use Rattle.std.specs.List.{filter}
+use Rattle.std.proofs.Common.{◌≡◌}
+use Rattle.hazard_core.specs.cell_core.Rows.{numbers}
+use Rattle.hazard_core.specs.cell_core.Sites.{site_at}
+use Rattle.hazard_core.specs.cell_core.View.{program_of}
+use Rattle.overlay_net.specs.ValueNet.Words.{answers_number}
+use Rattle.pipe_parts.proofs.pipe_draft.sites.load_sites.Given as goal
+
+abbrev pub invariant-loop-j : goal.invariant-loop-j
+invariant-loop-j l = l.sites.items ≡ filter (λ k. answers_number (site_at (program_of l.program).sites k).act) (numbers 0 l.j)

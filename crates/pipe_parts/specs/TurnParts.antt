@@ -1,0 +1,5 @@
+pub mod Sites
+pub mod Nets
+pub mod Records
+pub mod Parts
+pub mod Laws

@@ -1,4 +1,0 @@
-//! The places of a pipeline: what they show of the packets that they hold, and what a clock of them does, by what the other parts say.
-#![tactic(auto)]
-
-pub mod laws;

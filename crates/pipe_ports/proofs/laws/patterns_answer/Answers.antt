@@ -1,5 +1,0 @@
-use Rattle.pipe_ports.proofs.Answers.{runs_are_answers, patterns_answer}
-use Rattle.pipe_ports.proofs.laws.patterns_answer.Goals as goal
-
-pub returns : goal.returns
-returns c = record { runs = runs_are_answers; patterns = patterns_answer c.runs_rest.ensures.complete c.runs_in_turn.ensures.reads c.patterns_may_come.ensures.come }

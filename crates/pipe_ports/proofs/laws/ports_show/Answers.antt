@@ -1,6 +1,0 @@
-use Rattle.pipe_ports.proofs.Ports.{ports_show_clocks}
-use Rattle.pipe_ports.proofs.Histories.{ports_show_histories}
-use Rattle.pipe_ports.proofs.laws.ports_show.Goals as goal
-
-pub returns : goal.returns
-returns c = record { clock = ports_show_clocks; histories = ports_show_histories (record { fit = c.values_fit.ensures; turn = c.runs_in_turn.ensures.reads; reads = c.reads_are_silent.ensures.clock }) }

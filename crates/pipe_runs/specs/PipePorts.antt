@@ -1,0 +1,5 @@
+pub mod Answered
+pub mod Followed
+pub mod Ports
+pub mod Patterns
+pub mod Answering

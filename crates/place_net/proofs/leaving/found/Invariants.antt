@@ -1,6 +1,0 @@
-use Rattle.std.proofs.Common.{◌≡◌}
-use Rattle.std.specs.List.{AllWithin}
-use Rattle.place_net.proofs.leaving.found.Given as goal
-
-abbrev pub invariant-loop-byte : goal.invariant-loop-byte
-invariant-loop-byte g l = AllWithin (λ x. ¬ (x.at ≡ l.at)) l.bytes 0 l.byte-index

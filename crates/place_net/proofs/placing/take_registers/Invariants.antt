@@ -1,7 +1,0 @@
-use Rattle.std.proofs.Common.{map as map_list}
-use Rattle.cell_nets.specs.cell_core.View.{cell_of}
-use Rattle.place_net.proofs.TakenLemmas.{HasTaken}
-use Rattle.place_net.proofs.placing.take_registers.Given as goal
-
-abbrev pub invariant-loop-i : goal.invariant-loop-i
-invariant-loop-i g l = HasTaken l.part (map_list cell_of l.cells) l.carried l.i l.fn.table.items l.table.items

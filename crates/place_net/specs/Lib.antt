@@ -1,7 +1,0 @@
-pub use Rattle.row_net.specs as row_net
-pub mod Exit
-pub mod ExitNets
-pub mod Place
-pub mod PlaceNets
-pub mod Sources
-pub mod SourceNets

@@ -1,0 +1,5 @@
+pub mod Places
+pub mod Due
+pub mod Owns
+pub mod Marks
+pub mod Laws

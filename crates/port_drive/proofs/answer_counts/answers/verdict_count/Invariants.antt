@@ -1,0 +1,9 @@
+use Rattle.std.proofs.Common.{◌≡◌, ◌≤◌, take}
+use Rattle.port_drive.specs.AnswerCounts.Counts.{verdict_count}
+use Rattle.port_drive.proofs.answer_counts.answers.verdict_count.Given as goal
+
+abbrev pub invariant-loop-i : goal.invariant-loop-i
+invariant-loop-i l = record {
+  counted : l.count ≡ verdict_count l.verdict (take l.i l.answers);
+  few : l.count ≤ l.i;
+}

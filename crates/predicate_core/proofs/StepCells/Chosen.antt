@@ -1,0 +1,129 @@
+-- Which instruction an allowed one is.
+use Rattle.std.proofs.Common.{◌≡◌, ◌≢◌, ℕ, ℤ, pos, ◌+◌, ◌+ℤ◌, Bool, true, false, not, if◌then◌else◌, None, Result, Ok, Err, List, refl, sym, subst}
+use Rattle.std.specs.Prelude.{◌||◌, nat_le}
+use Rattle.std.specs.Ordering.{int_eq}
+use Rattle.std.proofs.lemmas.Bool.Decides.{Decides-int_eq}
+use Rattle.xdp_machine.specs.bpf_isa.declared.operation.Op.{Op}
+use Rattle.xdp_machine.specs.bpf_isa.declared.operation.Op.TheVariants.{Alu, Neg, End, Swap, Ja, Jump, Call, Exit, LoadImm, Load, LoadSigned, Abs, Ind, StoreImm, Store, Atomic}
+use Rattle.xdp_machine.specs.bpf_isa.declared.operation.Size.{Size}
+use Rattle.xdp_machine.specs.bpf_isa.declared.instruction.Insn.{Insn}
+use Rattle.xdp_machine.specs.xdp_maps.declared.decl.MapDecl.{MapDecl}
+use Rattle.kind_core.specs.declared.kind.Kind.{Kind}
+use Rattle.kind_core.specs.declared.kind.Kind.TheVariants.{Packet, Stack, Entry}
+use Rattle.kind_core.specs.declared.kind.Kinds.{Kinds}
+use Rattle.kind_core.specs.declared.why.Why.{Why}
+use Rattle.kind_core.specs.Kinds.{register}
+use Rattle.kind_core.specs.Tests.{◌>>=◌, Test, passed, within, aligned}
+use Rattle.kind_core.specs.Places.{accessed}
+use Rattle.xdp_machine.specs.Memory.{bytes_in}
+use Rattle.kind_core.specs.Access.{changed_at}
+use Rattle.kind_core.specs.Calls.{helper_of, called}
+use Rattle.kind_core.specs.Profile.{profiled}
+use Rattle.kind_core.specs.Effects.{effect_of, effect_as, verdict}
+use Rattle.register_cells.specs.Plain.{asks_no_map, is_plain_as}
+use Rattle.register_cells.specs.Plain as plain
+use Rattle.edge_cells.specs.NodeCells.Carrying.{is_entry, is_map_helper, touches_map}
+use Rattle.edge_cells.specs.NodeCells.Ends.{leads_on}
+
+refused : (P : Type 0) (y : Why) → verdict (Err y) ≡ passed → P
+refused P y e = absurd (cc e)
+
+behind_test : (decls : List MapDecl) (k : Kinds) (i : Insn) (t : Test) → verdict (t >>= λ _. effect_as decls k i i.op) ≡ passed → verdict (effect_as decls k i i.op) ≡ passed
+behind_test decls k i (Ok u) e = e
+behind_test decls k i (Err y) e = refused _ y e
+
+-- an allowed instruction passes the tests of its operation
+pub allowed_as : (decls : List MapDecl) (k : Kinds) (i : Insn) → verdict (effect_of decls k i) ≡ passed → verdict (effect_as decls k i i.op) ≡ passed
+unfolding effect_of
+allowed_as decls k i e = behind_test decls k i (profiled i k) e
+
+-- ---- instructions that ask no map
+
+not_entry : (x : Kind) → not (plain.is_entry x) ≡ true → is_entry x ≡ false
+not_entry (Entry q o) t = absurd (cc t)
+not_entry x t = refl
+
+asks_none : (id : ℤ) → asks_no_map id ≡ true → is_map_helper id ≡ false
+asks_none id t = by (int_eq id (pos 5)) (int_eq id (pos 23)) refl refl t
+  where
+    by : (a b : Bool) → int_eq id (pos 5) ≡ a → int_eq id (pos 23) ≡ b → (a || b) ≡ true → is_map_helper id ≡ false
+    by true b p q t = subst (λ (z : ℤ). is_map_helper z ≡ false) (sym ((Decides-int_eq id (pos 5)).0 p)) refl
+    by false true p q t = subst (λ (z : ℤ). is_map_helper z ≡ false) (sym ((Decides-int_eq id (pos 23)).0 q)) refl
+    by false false p q t = absurd (cc t)
+
+pub plain_untouched : (k : Kinds) (i : Insn) (op : Op) → is_plain_as k i op ≡ true → touches_map k i op ≡ false
+plain_untouched k i (Load size) t = not_entry (register k i.src) t
+plain_untouched k i (LoadSigned size) t = not_entry (register k i.src) t
+plain_untouched k i (StoreImm size) t = not_entry (register k i.dst) t
+plain_untouched k i (Store size) t = not_entry (register k i.dst) t
+plain_untouched k i Call t = asks_none i.imm t
+plain_untouched k i (Atomic size) t = absurd (cc t)
+plain_untouched k i op t = refl
+
+-- ---- instructions that ask one
+
+-- an allowed call that asks a map, and neither looks up nor updates
+pub deletes : (decls : List MapDecl) (k : Kinds) (i : Insn) → i.op ≡ Call → verdict (effect_of decls k i) ≡ passed → asks_no_map i.imm ≡ false → i.imm ≢ pos 1 → i.imm ≢ pos 2 → i.imm ≡ pos 3
+deletes decls k i op allowed asks one two =
+    by (int_eq i.imm (pos 1)) (int_eq i.imm (pos 2)) (int_eq i.imm (pos 3)) (int_eq i.imm (pos 5)) (int_eq i.imm (pos 23)) refl refl refl asks
+    (subst (λ (o : Op). verdict (effect_as decls k i o) ≡ passed) op (allowed_as decls k i allowed))
+  where
+    by : (a b c d e : Bool) → int_eq i.imm (pos 1) ≡ a → int_eq i.imm (pos 2) ≡ b → int_eq i.imm (pos 3) ≡ c → (d || e) ≡ false
+        → verdict (called decls k i.imm (if a then helper_of (pos 1) else (if b then helper_of (pos 2) else (if c then helper_of (pos 3) else (if d then helper_of (pos 5) else (if e then helper_of (pos 23) else None)))))) ≡ passed
+        → i.imm ≡ pos 3
+    by true b c d e p q r f w = absurd (one ((Decides-int_eq i.imm (pos 1)).0 p))
+    by false true c d e p q r f w = absurd (two ((Decides-int_eq i.imm (pos 2)).0 q))
+    by false false true d e p q r f w = (Decides-int_eq i.imm (pos 3)).0 r
+    by false false false true e p q r f w = absurd (cc f)
+    by false false false false true p q r f w = absurd (cc f)
+    by false false false false false p q r f w = refused (i.imm ≡ pos 3) _ w
+
+-- what follows two tests is refused, whatever the first finds
+refused_behind : {A B : Type 0} (r : Result A Why) (h : A → Result B Why) (f : B → _) → ((a : A) → verdict (h a >>= f) ≡ passed → ⊥) → verdict ((r >>= h) >>= f) ≡ passed → ⊥
+refused_behind (Ok a) h f bad e = bad a e
+refused_behind (Err y) h f bad e = refused ⊥ y e
+
+refused_either : {B : Type 0} (b : Bool) (x y : Result B Why) (f : B → _) → (verdict (x >>= f) ≡ passed → ⊥) → (verdict (y >>= f) ≡ passed → ⊥) → verdict ((if b then x else y) >>= f) ≡ passed → ⊥
+refused_either true x y f first second e = first e
+refused_either false x y f first second e = second e
+
+-- an atomic change that is allowed is one of an entry
+pub entry_changed : (decls : List MapDecl) (k : Kinds) (i : Insn) (size : Size) → i.op ≡ Atomic size → verdict (effect_of decls k i) ≡ passed → (q : ℕ) × (o : ℕ) × (register k i.dst ≡ Entry q o)
+entry_changed decls k i size op allowed = by (register k i.dst) (subst (λ (o : Op). verdict (effect_as decls k i o) ≡ passed) op (allowed_as decls k i allowed))
+  where
+    by : (x : Kind) → verdict (accessed decls k.checked x i.offset size >>= λ place. changed_at k i place) ≡ passed → (q : ℕ) × (o : ℕ) × (x ≡ Entry q o)
+    by (Entry q o) e = (q, o, refl)
+    by (Packet o) e = absurd (refused_behind (within (pos o +ℤ i.offset) (bytes_in size) 256) _ _ (λ a. refused_either (nat_le (a + bytes_in size) k.checked) _ _ _ (refused ⊥ _) (refused ⊥ _)) e)
+    by (Stack o) e = absurd (refused_behind (aligned ((o +ℤ i.offset) +ℤ pos 512) (bytes_in size) 512) _ _ (λ a. refused ⊥ _) e)
+    by x e = absurd (refused ⊥ _ e)
+
+-- an operation that is none of these
+pub record IsOther (op : Op) : Type 0 where
+  pub call : op ≡ Call → ⊥
+  pub load : (size : Size) → op ≡ Load size → ⊥
+  pub load_signed : (size : Size) → op ≡ LoadSigned size → ⊥
+  pub store_imm : (size : Size) → op ≡ StoreImm size → ⊥
+  pub store : (size : Size) → op ≡ Store size → ⊥
+  pub atomic : (size : Size) → op ≡ Atomic size → ⊥
+
+-- an allowed instruction that leads on is plain, a call, or one of the accesses
+pub none_other : (decls : List MapDecl) (k : Kinds) (i : Insn) → leads_on i.op ≡ true → IsOther i.op → is_plain_as k i i.op ≡ false → verdict (effect_of decls k i) ≡ passed → ⊥
+none_other decls k i leads other plain allowed = by i.op leads other plain (allowed_as decls k i allowed)
+  where
+    by : (op : Op) → leads_on op ≡ true → IsOther op → is_plain_as k i op ≡ false → verdict (effect_as decls k i op) ≡ passed → ⊥
+    by (Alu w c s) l o p e = absurd (cc p)
+    by (Neg w) l o p e = absurd (cc p)
+    by (End s) l o p e = absurd (cc p)
+    by Swap l o p e = absurd (cc p)
+    by LoadImm l o p e = absurd (cc p)
+    by (Ja w) l o p e = absurd (cc l)
+    by (Jump w c s) l o p e = absurd (cc l)
+    by Exit l o p e = absurd (cc l)
+    by Call l o p e = o.call refl
+    by (Load size) l o p e = o.load size refl
+    by (LoadSigned size) l o p e = o.load_signed size refl
+    by (StoreImm size) l o p e = o.store_imm size refl
+    by (Store size) l o p e = o.store size refl
+    by (Atomic size) l o p e = o.atomic size refl
+    by (Abs size) l o p e = refused ⊥ _ e
+    by (Ind size) l o p e = refused ⊥ _ e

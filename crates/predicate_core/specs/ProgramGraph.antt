@@ -1,0 +1,4 @@
+pub mod Graphs
+pub mod Sound
+pub mod Nodes
+pub mod Ends

@@ -1,0 +1,5 @@
+pub mod Leaving
+pub mod Rows
+pub mod Stepping
+pub mod Waiting
+pub mod Pointing

@@ -1,4 +1,0 @@
-//! Programs are suited for the pipe: what the cells and the plan of a program say is all that the machine of `pipe_core` asks of them. There is no code.
-#![tactic(auto)]
-
-pub mod laws;

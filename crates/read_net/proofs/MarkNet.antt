@@ -1,0 +1,6 @@
+pub mod StandLemmas
+pub mod NextLemmas
+pub mod GatherLemmas
+pub mod BlockLemmas
+pub mod DueLemmas
+pub mod StandingLemmas

@@ -1,0 +1,5 @@
+pub mod StepLemmas
+pub mod EntryLemmas
+pub mod ListLemmas
+pub mod MarkLemmas
+pub mod ReadLemmas

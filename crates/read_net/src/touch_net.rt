@@ -1,0 +1,8 @@
+//! Whether a change of a map touches what a packet read at a site, and whether one of the marks that such changes leave is due, in nets.
+
+pub mod change;
+mod entry;
+mod key;
+pub mod marks;
+pub mod steps;
+pub mod touch;

@@ -1,0 +1,3 @@
+pub mod HistoryLaws
+pub mod DriveLaws
+pub mod MeetLaws

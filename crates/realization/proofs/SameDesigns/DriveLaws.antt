@@ -1,0 +1,66 @@
+-- A drive that ends with its last answer is the same for two designs that show the same.
+use Rattle.std.specs.Prelude.{◌≡◌, ℕ, zero, suc, Option, Some, None, List, [], ◌∷◌, ◌++◌}
+use Rattle.std.proofs.Common.{refl, sym, ap, ◌∙◌}
+use Rattle.net_core.specs.beat_core.Ports.{Offered}
+use Rattle.net_core.specs.declared.ports.Inputs.{Inputs}
+use Rattle.net_core.specs.Nets.{Netlist}
+use Rattle.net_core.specs.Clock.{Stored, first_stored, after, stopping}
+use Rattle.net_core.specs.Ports.{words_of}
+use Rattle.net_core.specs.History.{Cycle, cycle_of, drive_inputs, left_after, owed_after, Drive, drive, and_then, Answered, Stopped}
+use Rattle.net_core.specs.SameClocks.Same.{reached, ShowTheSame}
+use Rattle.net_core.proofs.SameClocks.SameLaws.{reached_next}
+use Rattle.realization.proofs.SameDesigns.HistoryLaws.{same_cycle}
+
+-- what is left of a drive behind its first clock, which was this one and left this stored
+abbrev rest : Netlist → Stored → Cycle → List Offered → ℕ → ℕ → Drive
+rest d t m left owed limit = drive d t (left_after m left) (owed_after m (suc owed)) limit
+
+first_goes : (d : Netlist) (s : Stored) (left : List Offered) (owed limit : ℕ) → stopping d (words_of (drive_inputs left)) s ≡ None →
+    (let m : Cycle = cycle_of d s (drive_inputs left) in
+    drive d s left (suc owed) (suc limit) ≡ and_then m (rest d (after d (words_of (drive_inputs left)) s) m left owed limit))
+unfolding drive
+first_goes d s left owed limit e = rw (e, drive)
+
+first_stops : (d : Netlist) (s : Stored) (left : List Offered) (owed limit w : ℕ) → stopping d (words_of (drive_inputs left)) s ≡ Some w
+    → drive d s left (suc owed) (suc limit) ≡ record { trace = []; ended = Stopped w }
+unfolding drive
+first_stops d s left owed limit w e = rw (e, drive)
+
+module _ (a b : Netlist) (same : ShowTheSame a b) where
+  -- the same drive, where what is left of it behind the first clock is the same
+  same_behind : (before : List Inputs) (left : List Offered) (owed limit : ℕ) (stop : Option ℕ) → stopping a (words_of (drive_inputs left)) (reached a before) ≡ stop →
+      (let i : Inputs = drive_inputs left in
+      let m : Cycle = cycle_of a (reached a before) i in
+      (rest a (after a (words_of i) (reached a before)) m left owed limit).ended ≡ Answered
+      → rest b (after b (words_of i) (reached b before)) m left owed limit ≡ rest a (after a (words_of i) (reached a before)) m left owed limit) →
+      (drive a (reached a before) left (suc owed) (suc limit)).ended ≡ Answered → drive b (reached b before) left (suc owed) (suc limit) ≡ drive a (reached a before) left (suc owed) (suc limit)
+  same_behind before left owed limit None e rests ended =
+      let i : Inputs = drive_inputs left in
+      let s : Stored = reached a before in
+      let t : Stored = reached b before in
+      let m : Cycle = cycle_of a s i in
+      let goes : drive a s left (suc owed) (suc limit) ≡ and_then m (rest a (after a (words_of i) s) m left owed limit) = first_goes a s left owed limit e in
+      first_goes b t left owed limit (same.goes before i e)
+      ∙ ap (λ (n : Cycle). and_then n (rest b (after b (words_of i) t) n left owed limit)) (same_cycle a b same before i)
+      ∙ ap (λ (r : Drive). and_then m r) (rests (sym (ap (λ (r : Drive). r.ended) goes) ∙ ended))
+      ∙ sym goes
+  same_behind before left owed limit (Some w) e rests ended =
+      let stops : (drive a (reached a before) left (suc owed) (suc limit)).ended ≡ Stopped w = ap (λ (r : Drive). r.ended) (first_stops a (reached a before) left owed limit w e) in
+      cc
+
+pub same_drive : (a b : Netlist) → ShowTheSame a b → (before : List Inputs) (left : List Offered) (owed limit : ℕ)
+    → (drive a (reached a before) left owed limit).ended ≡ Answered → drive b (reached b before) left owed limit ≡ drive a (reached a before) left owed limit
+unfolding drive
+same_drive a b same before left zero limit ended = refl
+same_drive a b same before left (suc owed) zero ended = refl
+same_drive a b same before left (suc owed) (suc limit) ended =
+    let i : Inputs = drive_inputs left in
+    let m : Cycle = cycle_of a (reached a before) i in
+    same_behind a b same before left owed limit (stopping a (words_of i) (reached a before)) refl
+    (λ answered.
+    let more = same_drive a b same (before ++ i ∷ []) (left_after m left) (owed_after m (suc owed)) limit in
+    let of_a = reached_next a (first_stored a) before i in
+    let of_b = reached_next b (first_stored b) before i in
+    ap (λ (s : Stored). rest b s m left owed limit) (sym of_b)
+    ∙ more (ap (λ (s : Stored). (rest a s m left owed limit).ended) of_a ∙ answered)
+    ∙ ap (λ (s : Stored). rest a s m left owed limit) of_a) ended

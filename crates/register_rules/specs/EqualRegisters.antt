@@ -1,0 +1,4 @@
+pub mod Equal
+pub mod Alike
+pub mod Setting
+pub mod Spans

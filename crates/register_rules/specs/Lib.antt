@@ -1,0 +1,2 @@
+pub mod EqualRegisters
+pub mod NarrowRegisters

@@ -1,5 +1,0 @@
-use Rattle.ring_net.proofs.Sound.{starts_sound, stays_sound}
-use Rattle.ring_net.proofs.laws.sound.Goals as goal
-
-pub returns : goal.returns
-returns c = record { starts = starts_sound; stays = stays_sound }

@@ -1,0 +1,8 @@
+mod WordLemmas
+mod ListLemmas
+mod TreeLemmas
+mod ExitLemmas
+mod SetLemmas
+mod PlaceLemmas
+mod TakenLemmas
+mod SourceLemmas

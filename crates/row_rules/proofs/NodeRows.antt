@@ -1,0 +1,3 @@
+pub mod PlaceLemmas
+pub mod RowsLemmas
+pub mod OneOutcomeLaws

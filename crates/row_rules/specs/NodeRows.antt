@@ -1,0 +1,4 @@
+pub mod Joining
+pub mod Passing
+pub mod Rows
+pub mod Acceptance

@@ -1,0 +1,33 @@
+-- Which programs are accepted, with their stages, and the first refusal of the others.
+use Rattle.std.specs.Prelude.{◌≡◌, ◌⊎◌, List}
+use Rattle.xdp_state.specs.xdp_machine.Program.{XdpProgram}
+use Rattle.kind_core.specs.declared.why.Refusal.{Refusal}
+use Rattle.unfold_core.specs.declared.links.Edge.{Edge}
+use Rattle.unfold_core.specs.Unfolding.{links}
+use Rattle.unfold_core.specs.Acceptance as graphs
+use Rattle.row_rules.specs.declared.node_rows.stages.Stages.{Stages}
+use Rattle.row_rules.specs.NodeRows.Rows.{HasStages, IsTooLate}
+
+-- the edges of the graph of a program that unfolds
+abbrev pub edges_of : (p : XdpProgram) → graphs.IsAccepted p → List Edge
+edges_of p u = links p u.loops u.graph 0 u.graph
+
+-- A program is accepted that unfolds, and whose graph has few stages.
+pub record IsAccepted (p : XdpProgram) : Type 0 where
+  pub unfolds : graphs.IsAccepted p
+  pub stages : Stages
+  pub has_stages : HasStages p unfolds.graph (edges_of p unfolds) stages
+
+-- A program that unfolds has too many stages: this is its first node that is refused.
+pub record HasTooManyStages (p : XdpProgram) (r : Refusal) : Type 0 where
+  pub unfolds : graphs.IsAccepted p
+  pub late : IsTooLate p unfolds.graph (edges_of p unfolds) r
+
+-- The first refusal of another: it does not unfold, or else it has too many stages.
+abbrev pub IsFirstRefusal : XdpProgram → Refusal → Type 0
+IsFirstRefusal p r = graphs.IsFirstRefusal p r ⊎ HasTooManyStages p r
+
+-- a program has one first refusal at most, and none where it is accepted
+pub record HasOneOutcome (p : XdpProgram) : Type 0 where
+  pub refusal : (r s : Refusal) → IsFirstRefusal p r → IsFirstRefusal p s → r ≡ s
+  pub never_both : (r : Refusal) → IsFirstRefusal p r → ¬ IsAccepted p

@@ -1,0 +1,4 @@
+pub mod Spans
+pub mod Origins
+pub mod Reading
+pub mod Writing

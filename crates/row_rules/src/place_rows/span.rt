@@ -1,0 +1,123 @@
+// Data places by their numbers: 11 registers, 64 slots of the stack, 256 bytes of the packet, the target, and what is pending of 16 maps.
+
+ghost use Rattle.std.specs.Prelude.{◌≡◌};
+ghost use Rattle.row_rules.specs.PlaceRows.Spans.{one, pending, region, map_of, pending_of, key_in, value_in};
+
+use kind_core::Kind;
+use xdp_state::xdp_maps::decl::MapDecl;
+
+/// The number of the first slot.
+pub const SLOTS: usize = 11;
+
+/// The number of the packet's first byte.
+pub const BYTES: usize = 75;
+
+/// The number of the target.
+pub const TARGET: usize = 331;
+
+/// The number of what is pending of map 0.
+pub const PENDING: usize = 332;
+
+/// Data places that follow one another, up to the one before `end`.
+#[derive(Copy, Clone, Debug, PartialEq, Eq)]
+pub struct Span {
+    pub from: usize,
+    pub end: usize,
+}
+
+/// No place.
+pub const NONE: Span = Span { from: 0, end: 0 };
+
+/// All data places.
+pub const EVERY: Span = Span { from: 0, end: 348 };
+
+/// A register.
+pub fn register(r: u8) -> Span
+    ensures { result ≡ one r }
+{
+    let from = r as usize;
+    Span {
+        from,
+        end: from + 1,
+    }
+}
+
+/// What is pending of a map.
+pub fn pending(map: u32) -> Span
+    ensures { result ≡ pending map }
+{
+    let from = PENDING + map as usize;
+    Span {
+        from,
+        end: from + 1,
+    }
+}
+
+/// The slots or the bytes of so many bytes from a pointer on; none of other kinds.
+pub fn region(base: Kind, offset: i16, count: u32) -> Span
+    ensures { result ≡ region base offset count }
+{
+    match base {
+        Kind::Stack(o) => {
+            let at = (i32::from(o) + i32::from(offset) + 512).unsigned_abs() as usize;
+            Span {
+                from: SLOTS + at / 8,
+                end: SLOTS + (at + count as usize + 7) / 8,
+            }
+        }
+        Kind::Packet(o) => {
+            let at = (i32::from(o) + i32::from(offset)).unsigned_abs() as usize;
+            Span {
+                from: BYTES + at,
+                end: BYTES + at + count as usize,
+            }
+        }
+        _ => NONE,
+    }
+}
+
+/// The map that a kind speaks of.
+pub fn map_of(kind: Kind) -> Option<u32>
+    ensures { result ≡ map_of kind }
+{
+    match kind {
+        Kind::MapRef(q) | Kind::Entry(q, _) => Some(q),
+        _ => None,
+    }
+}
+
+/// What is pending of the map that a kind speaks of.
+pub fn pending_of(kind: Kind) -> Span
+    ensures { result ≡ pending_of kind }
+{
+    match map_of(kind) {
+        Some(q) => pending(q),
+        None => NONE,
+    }
+}
+
+/// The bytes of a map's keys.
+pub fn key_bytes(decls: &[MapDecl], kind: Kind) -> u32
+    ensures { result ≡ key_in decls.now (map_of kind) }
+{
+    match map_of(kind) {
+        Some(q) => match decls.get(q as usize) {
+            Some(decl) => decl.key,
+            None => 0,
+        },
+        None => 0,
+    }
+}
+
+/// The bytes of a map's values.
+pub fn value_bytes(decls: &[MapDecl], kind: Kind) -> u32
+    ensures { result ≡ value_in decls.now (map_of kind) }
+{
+    match map_of(kind) {
+        Some(q) => match decls.get(q as usize) {
+            Some(decl) => decl.value,
+            None => 0,
+        },
+        None => 0,
+    }
+}

@@ -1,4 +1,0 @@
-//! A design that shows the same as another one meets what that one meets. It stands here as laws.
-#![tactic(auto)]
-
-pub mod laws;

@@ -1,3 +1,0 @@
-pub use Rattle.logic_rules.specs as logic_rules
-pub mod Simple
-pub mod Lost

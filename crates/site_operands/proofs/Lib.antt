@@ -1,1 +1,0 @@
-pub use Rattle.cell_nets.proofs as cell_nets_laws

@@ -1,6 +1,0 @@
-use Rattle.std.proofs.Common.{◌≡◌, map as map_list, take}
-use Rattle.site_place.specs.Inputs.{first_word}
-use Rattle.site_place.proofs.holding.registers.Given as goal
-
-abbrev pub invariant-loop-input : goal.invariant-loop-input
-invariant-loop-input g l = l.all.items ≡ map_list first_word (take l.input-index l.inputs)

@@ -1,4 +1,0 @@
-use Rattle.site_place.proofs.holding.value.Goals as goal
-
-pub expression-requires : goal.expression-requires
-expression-requires g c = c.requires c.in-Some.a c.in-Some.is

@@ -1,5 +1,0 @@
-use Rattle.std.proofs.Common.{◌≤◌, All, take}
-use Rattle.site_table.proofs.bits.most_entries.Given as goal
-
-abbrev pub invariant-loop-decl : goal.invariant-loop-decl
-invariant-loop-decl l = record { each : All (λ d. d.cap ≤ l.most) (take l.decl-index l.decls); small : l.most ≤ 65536 }

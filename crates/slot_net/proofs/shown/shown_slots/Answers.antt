@@ -1,7 +1,0 @@
-use Rattle.slot_net.specs.Shown.{shown_slot}
-use Rattle.slot_net.specs.Slots.{slot_operands}
-use Rattle.slot_net.proofs.ShownLemmas.{pushed_as}
-use Rattle.slot_net.proofs.shown.shown_slots.Goals as goal
-
-pub loop-n-preserved : goal.loop-n-preserved
-loop-n-preserved g c = pushed_as slot_operands (shown_slot c.args.part c.args.decl.now) c.loop-n.all.items c.push.new.self.items c.in_ok-shown_slot.field-0 c.loop-n.n c.in_ok-push.ensures.items c.in_ok-shown_slot.ensures c.loop-n.invariant

@@ -1,4 +1,0 @@
-//! Values of the nets of a design that solve its wires. They are those of a clock.
-#![tactic(auto)]
-
-pub mod laws;

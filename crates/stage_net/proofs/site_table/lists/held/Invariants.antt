@@ -1,0 +1,9 @@
+use Rattle.std.specs.List.{filter}
+use Rattle.std.proofs.Common.{◌≡◌}
+use Rattle.hazard_core.specs.cell_core.Rows.{numbers}
+use Rattle.hazard_core.specs.cell_core.View.{program_of}
+use Rattle.stage_net.specs.SiteTable.Lists.{is_held}
+use Rattle.stage_net.proofs.site_table.lists.held.Given as goal
+
+abbrev pub invariant-loop-number : goal.invariant-loop-number
+invariant-loop-number l = l.cells.items ≡ filter (is_held (program_of l.program) l.plan l.needed l.parts l.row) (numbers 0 l.number)

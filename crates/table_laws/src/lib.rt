@@ -1,5 +1,0 @@
-//! Laws of tables of slots: what they hold are bytes, and no slot comes or goes. They stand here as contracts of functions that
-//! compute nothing.
-#![tactic(auto)]
-
-pub mod laws;

@@ -1,7 +1,0 @@
-//! What the operations at record sites write, and on which map one commits: parts of wires alone.
-#![tactic(auto)]
-
-pub mod commits;
-mod free;
-pub mod laws;
-pub mod targets;

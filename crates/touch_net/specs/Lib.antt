@@ -1,3 +1,0 @@
-pub use Rattle.overlay_net.specs as overlay_net
-pub mod Marking
-pub mod Touching

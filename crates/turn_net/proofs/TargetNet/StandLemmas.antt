@@ -1,0 +1,123 @@
+-- Steps that give several operands, one behind another, and operands that are known where a condition holds.
+use Rattle.std.proofs.Common.{◌≡◌, ◌⊎◌, inl, inr, ◌∙◌, ℕ, zero, suc, ◌+◌, ◌<◌, ◌≤◌, All, List, [], ◌∷◌, ◌++◌, length, get_or, refl, sym, ap, subst, arith, map as map_list}
+use Rattle.std.proofs.lemmas.Bool.{cases_lt}
+use Rattle.std.proofs.lemmas.List.{get_or-map, get_or_append_left, get_or_default, get_or_push, length-map}
+use Rattle.std.proofs.lemmas.List.Elements.{All-append}
+use Rattle.net_core.specs.Value.{Env}
+use Rattle.block_core.specs.declared.name.Name.{Name}
+use Rattle.block_core.specs.Blocks.{BlockWireTree}
+use Rattle.cell_nets.specs.declared.operand.Operand.{Operand}
+use Rattle.cell_nets.specs.declared.operand.Operand.TheVariants.{Known}
+use Rattle.cell_nets.specs.Operands.{number_in, IsAvailable}
+use Rattle.cell_nets.specs.Wires.{behind, Gives}
+use Rattle.cell_nets.proofs.ApartLemmas.{stay_none, stay_as, stay_next}
+use Rattle.cell_nets.specs.StepNets.Standing.{Stands}
+use Rattle.cell_nets.proofs.StepNets.ChainLaws.{starts, next}
+
+-- ---- what is said of each operand
+module _ {X : Type 0} (Q : X → Type 0) where
+  pub left_of : (xs ys : List X) → All Q (xs ++ ys) → All Q xs
+  left_of [] ys h k d lt = absurd (omega (arith, lt))
+  left_of (x ∷ xs) ys h zero d lt = h 0 d (omega arith)
+  left_of (x ∷ xs) ys h (suc k) d lt = left_of xs ys (λ n e l. h (suc n) e (omega (arith, l))) k d (omega (arith, lt))
+
+  pub right_of : (xs ys : List X) → All Q (xs ++ ys) → All Q ys
+  right_of [] ys h = h
+  right_of (x ∷ xs) ys h = right_of xs ys (λ n e l. h (suc n) e (omega (arith, l)))
+
+  pub first_of : (x : X) (xs : List X) → Q x → All Q xs → All Q (x ∷ xs)
+  first_of x xs h k zero d lt = h
+  first_of x xs h k (suc n) d lt = k n d (omega (arith, lt))
+
+  pub tail_of : (x : X) (xs : List X) → All Q (x ∷ xs) → All Q xs
+  tail_of x xs h n d lt = h (suc n) d (omega (arith, lt))
+
+  pub one_of : (x : X) → Q x → All Q (x ∷ [])
+  one_of x h zero d lt = h
+  one_of x h (suc k) d lt = absurd (omega (arith, lt))
+
+-- ---- steps
+module _ {P : Type 0} {p : P} where
+  -- fewer operands, in other words
+  pub stands_as :
+      {old new : List (BlockWireTree (Name P))} {args outs : List (Operand (Name P))} {needs knows : Env (Name P) → Type 0} (lasts : List (Operand (Name P))) (more : Env (Name P) → Type 0) → Stands p old new args needs outs knows
+      → ((ins : List (Operand (Name P))) → All (IsAvailable ins) outs → All (IsAvailable ins) lasts) → ((v : Env (Name P)) → knows v → more v) → Stands p old new args needs lasts more
+  stands_as {old} {new} {args} {outs} lasts more x sub enough = record {
+    before = x.before;
+    stays = x.stays;
+    wires = x.wires;
+    there = λ outside a h. sub _ (x.there outside a h);
+    known = λ outside v a h f s n. enough v (x.known outside v a h f s n);
+    apart = stay_next p old new new args outs outs lasts (λ ins h k. k) x.apart (stay_none p new outs lasts sub);
+  }
+
+  -- several more
+  pub stands_then :
+      {old mid new : List (BlockWireTree (Name P))} {args outs bs lasts : List (Operand (Name P))} {needs knows more tells : Env (Name P) → Type 0} → Stands p old mid args needs outs knows → Stands p mid new bs more lasts tells
+      → ((ins : List (Operand (Name P))) → All (IsAvailable ins) outs → All (IsAvailable ins) bs) → ((v : Env (Name P)) → knows v → more v) → Stands p old new args needs (lasts ++ outs) (λ v. knows v × tells v)
+  stands_then {old} {mid} {new} {args} {outs} {bs} {lasts} x y sub enough = record {
+    before = λ v s. x.before v (y.before v s);
+    stays = λ outside a t. y.stays outside a (x.stays outside a t);
+    wires = λ outside a h. y.wires outside (x.wires outside a h) (sub (behind p outside mid) (x.there outside a h));
+    there = λ outside a h.
+        All-append (IsAvailable (behind p outside new)) lasts outs (y.there outside (x.wires outside a h) (sub (behind p outside mid) (x.there outside a h))) (λ m d lt. y.stays outside _ (x.there outside a h m d lt));
+    known = λ outside v a h f s n.
+        let k = x.known outside v a h f (y.before v s) n in
+        (k, y.known outside v (x.wires outside a h) (sub (behind p outside mid) (x.there outside a h)) f s (enough v k));
+    apart = stay_next p old mid new args outs outs (lasts ++ outs) (λ ins h k. k) x.apart (stay_as p mid new bs lasts outs outs sub (λ ins h. h) y.apart);
+  }
+
+  -- the number 0, and no wire
+  pub stands_none : {ws : List (BlockWireTree (Name P))} {args : List (Operand (Name P))} {needs : Env (Name P) → Type 0} (knows : Env (Name P) → Type 0) → ((v : Env (Name P)) → needs v → knows v) → Stands p ws ws args needs (Known 0 ∷ args) knows
+  stands_none {ws} {args} {needs} knows same = stands_as (Known 0 ∷ args) knows (starts p ws args needs) (λ ins h. first_of (IsAvailable ins) (Known 0) args tt h) same
+
+  -- one more, which is known where a condition holds
+  pub next_if :
+      {old mid new : List (BlockWireTree (Name P))} {args outs bs : List (Operand (Name P))} {needs knows more : Env (Name P) → Type 0} {g : Env (Name P) → ℕ} {u : ℕ} {o : Operand (Name P)} → Stands p old mid args needs outs knows → Gives p mid new bs more g u o
+      → ((ins : List (Operand (Name P))) → All (IsAvailable ins) outs → All (IsAvailable ins) bs) → Stands p old new args needs (o ∷ outs) (λ v. knows v × (more v → number_in v o ≡ g v))
+  next_if {old} {mid} {new} {args} {outs} {bs} {needs} {knows} {more} {g} {u} {o} x y sub = record {
+    before = z.before;
+    stays = z.stays;
+    wires = z.wires;
+    there = z.there;
+    known = λ outside v a h f s n.
+        let k = x.known outside v a h f (y.before v s) n in
+        (k, λ m. (y.given outside (x.wires outside a h) (sub _ (x.there outside a h))).value v f s m);
+    apart = z.apart;
+  }
+    where
+      itself : Gives p mid new bs (λ v. Unit {0}) (λ v. number_in v o) u o
+      itself = record {
+        before = y.before;
+        stays = y.stays;
+        operand = y.operand;
+        bits = y.bits;
+        given = λ outside a t. record { wires = (y.given outside a t).wires; there = (y.given outside a t).there; value = λ v f s n. refl };
+        apart = y.apart;
+      }
+
+      z : Stands p old new args needs (o ∷ outs) (λ v. knows v × (number_in v o ≡ number_in v o))
+      z = next x itself sub (λ v f k. tt)
+
+-- ---- pairs of elements of two lists
+pub each_more :
+    {X Y : Type 0} (Q : X → Y → Type 0) (xs : List X) (ys : List Y) (i : ℕ) (x : X) (y : Y) → length ys ≡ i → i < length xs → x ≡ get_or xs i x → ((n : ℕ) (s : X) (d : Y) → n < i → Q (get_or xs n s) (get_or ys n d)) → Q x y
+    → (n : ℕ) (s : X) (d : Y) → n < i + 1 → Q (get_or xs n s) (get_or (ys ++ y ∷ []) n d)
+each_more Q xs ys i x y count l is h q n s d lt = by (cases_lt n i)
+  where
+    by : (n < i) ⊎ (i ≤ n) → Q (get_or xs n s) (get_or (ys ++ y ∷ []) n d)
+    by (inl less) = subst (Q (get_or xs n s)) (sym (get_or_append_left ys (y ∷ []) d n (omega (arith, less, count)))) (h n s d less)
+    by (inr over) =
+        let e : n ≡ i = omega (arith, over, lt) in
+        let first : x ≡ get_or xs n s = is ∙ get_or_default xs i x s l ∙ ap (λ k. get_or xs k s) (sym e) in
+        subst (Q (get_or xs n s)) (sym (get_or_push ys y d n (count ∙ sym e))) (subst (λ a. Q a y) first q)
+
+-- ---- what is said of each that is made of another
+pub mapped_at : {X Y : Type 0} (Q : Y → Type 0) (f : X → Y) (xs : List X) (i : ℕ) (x : X) → i < length xs → x ≡ get_or xs i x → All Q (map_list f xs) → Q (f x)
+mapped_at Q f xs i x lt is h = subst Q (get_or-map f xs i x (f x) lt ∙ ap f (sym is)) (h i (f x) (omega (arith, lt, length-map xs f)))
+
+-- one that is there
+pub item_of : {X : Type 0} (xs : List X) (n : ℕ) → n < length xs → X
+item_of [] n lt = absurd (omega (arith, lt))
+item_of (x ∷ xs) zero lt = x
+item_of (x ∷ xs) (suc n) lt = item_of xs n (omega (arith, lt))

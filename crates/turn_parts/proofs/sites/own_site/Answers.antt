@@ -1,6 +1,0 @@
-use Rattle.slot_parts.specs.pipe_draft.Draft.{plan_in}
-use Rattle.turn_parts.proofs.Siting.{own_of}
-use Rattle.turn_parts.proofs.sites.own_site.Goals as goal
-
-pub returns-clause-own : goal.returns-clause-own
-returns-clause-own c = own_of c.args.draft.now c.requires.draft (plan_in c.args.draft.now).commit c.args.at.now c.requires.at _ c.requires.site c.site_at.ensures.act c.index.ensures

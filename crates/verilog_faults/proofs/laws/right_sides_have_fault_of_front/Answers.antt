@@ -1,6 +1,0 @@
-use Rattle.verilog_faults.proofs.FrontLaws.{fault_of_front}
-use Rattle.verilog_faults.proofs.RightLocal.{right_local}
-use Rattle.verilog_faults.proofs.laws.right_sides_have_fault_of_front.Goals as goal
-
-pub returns : goal.returns
-returns c = λ names. fault_of_front _ (right_local names)

@@ -1,6 +1,0 @@
-use Rattle.verilog_faults.proofs.FrontLaws.{fault_of_front}
-use Rattle.verilog_faults.proofs.StatementLocal.{whole_statement_local}
-use Rattle.verilog_faults.proofs.laws.statements_have_fault_of_front.Goals as goal
-
-pub returns : goal.returns
-returns c = λ names free. fault_of_front _ (whole_statement_local names free)

@@ -1,4 +1,0 @@
-//! Laws of the first fault of a Verilog text. They stand here as contracts of functions that compute nothing.
-#![tactic(auto)]
-
-pub mod laws;

@@ -1,1 +1,0 @@
-pub use Rattle.design_rules.proofs as design_rules

@@ -1,0 +1,6 @@
+use Rattle.verilog_read.proofs.VerilogFaults.FrontLaws.{fault_of_front}
+use Rattle.verilog_read.proofs.VerilogFaults.RightLocal.{right_local}
+use Rattle.verilog_read.proofs.verilog_faults.laws.right_sides_have_fault_of_front.Goals as goal
+
+pub returns : goal.returns
+returns c = λ names. fault_of_front _ (right_local names)
