@@ -1,4 +1,4 @@
-//! Cases of the program's call, and of the crates below it that know words, shelves, captures and beats.
+//! Cases of the program's call, and of the crates below it that know words and shelves.
 //!
 //! The program is called with the names of files of cases, and takes their lines in order. A line has a verb and the words that
 //! follow it, with white space between. One that is empty or begins with `#` says nothing. A line of the first two tables gives
@@ -42,33 +42,21 @@
 //! | `reads`, `writes`, `taken` | how many reads, how many begins and appends; what the sink has taken |
 //! | `show NAME` | what the shelf holds there, or `absent` |
 //! | `show NAME length`, `show NAME is BYTES`, `show NAME starts BYTES`, `show NAME count BYTES` | how many bytes that has; whether it is these, or begins with these; how often these stand in it |
-//! | `tally NAME NAME` | of verdict lines and of final maps that the shelf holds: what a demo says of them, up to its entries |
-//! | `words WORD..` | how many words there are, and each |
 //! | `ask WORD..` | what `read_words` says of them |
-//! | `verdict INDEX VERDICT TARGET LENGTH` | the line of `verdict_line` |
-//! | `check BYTES`, `capture BYTES N` | the result of `check`; the magic number, and what N calls of `next` give, a packet with its time |
-//! | `header MAGIC`, `record BYTES SECONDS FRACTION BYTES` | the digits of `write_header`; of `write_record` in a buffer of the first bytes |
-//! | `beats BYTES` | how many beats the frame has, and each |
-//! | `scatter BYTES CLOCK..` | what `Scatter` shows of it in each clock, which is `take` or `keep` |
-//! | `gather N` | whether `Gather` has a whole frame after N clocks with no beat, and how many bytes |
 //! | `frames BEAT BEAT BEAT` | of `frames_of` in five clocks, none, a full beat, none and two last ones: how many frames, and each |
-//! | `overwrite BYTES PLACE BYTES` | a frame after a `write`: its length and its bytes |
-//! | `join BYTES BYTES` | of `Bytes` to which both are added: whether there were none before, its length and its bytes |
 //!
 //! A WORD `@BYTES` stands for the words of this text, with one space between any two: of no bytes for one empty word. A beat is
 //! `WORD:COUNT` or `WORD:COUNT:last`, its word in hexadecimal. Bytes are printed in quotes, with the escapes of `text`, and those of
-//! frames and of what is written of captures in hexadecimal.
+//! frames in hexadecimal.
 #![tactic(auto)]
 
 mod answers;
 mod beats;
-mod captures;
 mod escapes;
 mod known;
 mod said;
 mod shelves;
 mod suite;
-mod tallies;
 mod words;
 
 use crate::suite::Suite;

@@ -4,7 +4,6 @@ use crate::answers::answer;
 use crate::known::Known;
 use crate::said::{ended, number, quoted, truth};
 use crate::shelves::call;
-use crate::tallies::tallied;
 use crate::words::words_of;
 use anyhow::{Context, Result, bail};
 use ehdl_top::top;
@@ -100,7 +99,6 @@ impl Suite {
         match words {
             ["top", row @ ..] => self.top(row),
             ["show", name, form @ ..] => self.show(name, form),
-            ["tally", verdicts, finals] => self.tally(verdicts, finals),
             ["reads"] => number(self.alloc, self.shelf.reads()),
             ["writes"] => number(self.alloc, self.shelf.writes()),
             ["put", bytes] => ended(self.alloc, self.out.put(self.known.get(bytes)?)),
@@ -132,17 +130,6 @@ impl Suite {
         let code = status.code();
         let taken = quoted(self.alloc, self.out.held())?;
         Ok(format!(in self.alloc; "{status:?} {code} {taken}")?)
-    }
-
-    // What is counted of the verdict lines and the final maps that these names hold.
-    fn tally(&self, verdicts: &str, finals: &str) -> Result<String> {
-        let verdicts = self.shelf.held(verdicts).context("nothing is held there")?;
-        let finals = self.shelf.held(finals).context("nothing is held there")?;
-        tallied(
-            self.alloc,
-            str::from_utf8(verdicts)?,
-            str::from_utf8(finals)?,
-        )
     }
 
     // What a name holds, in one form.

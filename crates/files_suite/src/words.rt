@@ -2,9 +2,8 @@
 
 use crate::known::Known;
 use anyhow::Result;
-use command_line::{Words, read_words};
+use command_line::Words;
 use std::alloc::Global;
-use std::fmt::Write;
 use std::str;
 
 /// The words of a row. One behind an `@` stands for the words of known bytes, with one space between any two.
@@ -21,21 +20,4 @@ pub(crate) fn words_of(alloc: Global, known: &Known, row: &[&str]) -> Result<Wor
         }
     }
     Ok(words)
-}
-
-/// What the words ask for.
-pub(crate) fn asked(alloc: Global, words: &Words) -> Result<String> {
-    let command = read_words(alloc, words);
-    Ok(format!(in alloc; "{command:?}")?)
-}
-
-/// The words themselves.
-pub(crate) fn listed(alloc: Global, words: &Words) -> Result<String> {
-    let count = words.len();
-    let mut said = format!(in alloc; "{count}")?;
-    for place in 0..count {
-        let word = words.get(place);
-        write!(said, " {word:?}")?;
-    }
-    Ok(said)
 }

@@ -14,7 +14,7 @@ use std::alloc::{AllocError, Global};
 /// A simulator, and the names of its wires.
 #[derive(Drop)]
 pub(crate) struct Running {
-    pub(crate) sim: Sim,
+    sim: Sim,
     wires: Vec<String>,
 }
 
@@ -93,8 +93,8 @@ impl Running {
         Ok(Running { sim, wires })
     }
 
-    /// The name of a net that is a wire.
-    pub(crate) fn name(&self, net: Net) -> &str {
+    // The name of a net that is a wire.
+    fn name(&self, net: Net) -> &str {
         match net {
             Net::Wire(k) => self.wires.get(k as usize).map_or("", |name| name.as_str()),
             _ => "",
@@ -107,7 +107,7 @@ impl Running {
         for word in row.split_whitespace() {
             numbers.push(word.parse::<u64>()?)?;
         }
-        let inputs = inputs_of(&numbers).context("eleven numbers")?;
+        let inputs = inputs_of(&numbers).context("twelve numbers")?;
         match self.sim.clock(&inputs) {
             Ok(outputs) => show_outputs(rt, &outputs),
             Err(stopped) => {

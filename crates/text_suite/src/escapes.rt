@@ -2,15 +2,16 @@
 
 use anyhow::{Context, Result};
 use std::alloc::{AllocError, Global};
+use std::fmt::Write;
 
-// The first byte of what stands behind a backslash, and what follows it.
-fn escape(alloc: Global, part: &str) -> Result<(Vec<u8>, &str)> {
+// The byte that is meant by what stands behind a backslash, and what follows it.
+fn escape(part: &str) -> Result<(u8, &str)> {
     if let Some(rest) = part.strip_prefix('n') {
-        return Ok((Vec::from_slice(alloc, b"\n")?, rest));
+        return Ok((b'\n', rest));
     }
     let digits = part.strip_prefix('x').context("no such escape")?;
     let (digits, rest) = digits.split_at_checked(2).context("two digits")?;
-    Ok((hex::decode(alloc, digits)?, rest))
+    Ok((u8::from_str_radix(digits, 16)?, rest))
 }
 
 /// The bytes that a row spells.
@@ -21,30 +22,21 @@ pub(crate) fn unescaped(alloc: Global, row: &str) -> Result<Vec<u8>> {
         return Ok(bytes);
     }
     for part in behind.split('\\') {
-        let (byte, rest) = escape(alloc, part)?;
-        bytes.extend_from_slice(&byte)?;
+        let (byte, rest) = escape(part)?;
+        bytes.push(byte)?;
         bytes.extend_from_slice(rest.as_bytes())?;
     }
     Ok(bytes)
 }
 
-/// The row that spells these bytes.
-pub(crate) fn escaped(alloc: Global, bytes: &[u8]) -> Result<String, AllocError> {
-    let mut row = String::new(alloc);
+/// Adds the row that spells these bytes.
+pub(crate) fn escaped(bytes: &[u8], row: &mut String) -> Result<(), AllocError> {
     for byte in bytes {
         match byte {
             b'\n' => row.push_str("\\n")?,
             b' '..=b'[' | b']'..=b'~' => row.push(char::from(*byte))?,
-            _ => row.push_str(format!(in alloc; "\\x{byte:02x}")?.as_str())?,
+            _ => write!(row, "\\x{byte:02x}")?,
         }
     }
-    Ok(row)
-}
-
-/// The row that spells these bytes, with a `#` at a place.
-pub(crate) fn marked(alloc: Global, bytes: &[u8], at: usize) -> Result<String> {
-    let (front, behind) = bytes.split_at_checked(at).context("no such place")?;
-    let front = escaped(alloc, front)?;
-    let behind = escaped(alloc, behind)?;
-    Ok(format!(in alloc; "{front}#{behind}")?)
+    Ok(())
 }

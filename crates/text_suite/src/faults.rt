@@ -1,8 +1,8 @@
 //! What is said of a text: that it is a design, or its first error.
 
-use crate::escapes::{escaped, marked};
+use crate::escapes::escaped;
 use anyhow::{Result, bail};
-use std::alloc::Global;
+use std::alloc::{AllocError, Global};
 use verilog_read::{ReadError, read_text};
 
 /// A design, an error at a place, or a port that is at fault.
@@ -41,6 +41,20 @@ fn line_and_column(text: &[u8], at: usize) -> (u64, u64) {
     (line, column)
 }
 
+// The row that spells these bytes, with a `#` at a place, if there is one.
+fn row_of(alloc: Global, bytes: &[u8], mark: Option<usize>) -> Result<String, AllocError> {
+    let mut row = String::new(alloc);
+    match mark {
+        Some(at) if at <= bytes.len() => {
+            escaped(&bytes[..at], &mut row)?;
+            row.push('#')?;
+            escaped(&bytes[at..], &mut row)?;
+        }
+        _ => escaped(bytes, &mut row)?,
+    }
+    Ok(row)
+}
+
 /// Prints what is said of a text, which has `part` from `start` on. A `#` in the part shows where the error is. An error
 /// elsewhere has its line and its column.
 pub(crate) fn show_part(
@@ -51,20 +65,20 @@ pub(crate) fn show_part(
     lead: &str,
     part: &[u8],
 ) -> Result<()> {
-    let row = escaped(alloc, part)?;
-    match said_of(alloc, text)? {
+    let said = said_of(alloc, text)?;
+    let mark = match said {
+        Said::At(_, at) => at.checked_sub(start).filter(|m| *m <= part.len()),
+        _ => None,
+    };
+    let row = row_of(alloc, part, mark)?;
+    match said {
         Said::Design => println!(rt; "design {lead}{row}")?,
         Said::Port(port) => println!(rt; "V7:{port} {lead}{row}")?,
-        Said::At(code, at) => match at.checked_sub(start) {
-            Some(place) if place <= part.len() => {
-                let row = marked(alloc, part, place)?;
-                println!(rt; "{code} {lead}{row}")?;
-            }
-            _ => {
-                let (line, column) = line_and_column(text, at);
-                println!(rt; "{code}:{line}:{column} {lead}{row}")?;
-            }
-        },
+        Said::At(code, _) if mark.is_some() => println!(rt; "{code} {lead}{row}")?,
+        Said::At(code, at) => {
+            let (line, column) = line_and_column(text, at);
+            println!(rt; "{code}:{line}:{column} {lead}{row}")?;
+        }
     }
     Ok(())
 }
