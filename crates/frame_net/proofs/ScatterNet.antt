@@ -1,7 +1,7 @@
-mod ByteLemmas
-mod BeatLemmas
-mod ChosenLemmas
-mod ShownLemmas
-mod FormLemmas
-mod FreeLemmas
-mod ScatterWhole
+pub mod ByteLemmas
+pub mod BeatLemmas
+pub mod ChosenLemmas
+pub mod ShownLemmas
+pub mod FormLemmas
+pub mod FreeLemmas
+pub mod ScatterWhole

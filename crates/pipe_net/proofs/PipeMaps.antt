@@ -1,13 +1,13 @@
-mod ListLemmas
-mod AmongLemmas
-mod TurnLemmas
-mod OperationLemmas
-mod ClockLemmas
-mod SeenLemmas
-mod StandLemmas
-mod TableLemmas
-mod BeginLemmas
-mod HostLemmas
-mod ChangeLemmas
-mod KeyLemmas
-mod OpenLemmas
+pub mod ListLemmas
+pub mod AmongLemmas
+pub mod TurnLemmas
+pub mod OperationLemmas
+pub mod ClockLemmas
+pub mod SeenLemmas
+pub mod StandLemmas
+pub mod TableLemmas
+pub mod BeginLemmas
+pub mod HostLemmas
+pub mod ChangeLemmas
+pub mod KeyLemmas
+pub mod OpenLemmas

@@ -1,7 +1,7 @@
-mod Places
-mod Machine
-mod HostShown
-mod TurnShown
-mod TargetLemmas
-mod TargetShown
-mod Followed
+pub mod Places
+pub mod Machine
+pub mod HostShown
+pub mod TurnShown
+pub mod TargetLemmas
+pub mod TargetShown
+pub mod Followed

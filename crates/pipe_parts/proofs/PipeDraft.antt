@@ -1,8 +1,8 @@
-mod Pushing
-mod Listing
-mod Keeps
-mod Sourcing
-mod Forming
-mod Laying
-mod Drafting
-mod Behinds
+pub mod Pushing
+pub mod Listing
+pub mod Keeps
+pub mod Sourcing
+pub mod Forming
+pub mod Laying
+pub mod Drafting
+pub mod Behinds

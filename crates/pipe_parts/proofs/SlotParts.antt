@@ -1,4 +1,4 @@
 pub mod Filling
 pub mod Showing
-mod Standing
-mod Laying
+pub mod Standing
+pub mod Laying

@@ -1,6 +1,6 @@
-mod Listing
-mod Siting
-mod Taking
-mod Aiming
-mod Turning
-mod Laying
+pub mod Listing
+pub mod Siting
+pub mod Taking
+pub mod Aiming
+pub mod Turning
+pub mod Laying

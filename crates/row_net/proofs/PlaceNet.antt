@@ -1,8 +1,8 @@
-mod WordLemmas
-mod ListLemmas
-mod TreeLemmas
-mod ExitLemmas
-mod SetLemmas
-mod PlaceLemmas
-mod TakenLemmas
-mod SourceLemmas
+pub mod WordLemmas
+pub mod ListLemmas
+pub mod TreeLemmas
+pub mod ExitLemmas
+pub mod SetLemmas
+pub mod PlaceLemmas
+pub mod TakenLemmas
+pub mod SourceLemmas

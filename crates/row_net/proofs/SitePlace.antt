@@ -1,8 +1,8 @@
-mod ChangeLemmas
-mod PointingLemmas
-mod ListLemmas
-mod SetLemmas
-mod HoldingLemmas
-mod PlacingLemmas
-mod TakingLemmas
-mod HeldLemmas
+pub mod ChangeLemmas
+pub mod PointingLemmas
+pub mod ListLemmas
+pub mod SetLemmas
+pub mod HoldingLemmas
+pub mod PlacingLemmas
+pub mod TakingLemmas
+pub mod HeldLemmas

@@ -1,6 +1,6 @@
-mod ListLemmas
-mod FlagLemmas
-mod StageLemmas
+pub mod ListLemmas
+pub mod FlagLemmas
+pub mod StageLemmas
 pub mod SiteLaws
 pub mod TableLaws
 pub mod StagingLaws
