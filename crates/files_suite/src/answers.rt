@@ -11,7 +11,8 @@ use std::alloc::Global;
 pub(crate) fn answer(alloc: Global, known: &Known, line: &[&str]) -> Result<String> {
     match line {
         ["ask", row @ ..] => {
-            let command = read_words(alloc, &words_of(alloc, known, row)?);
+            let words = words_of(alloc, known, row)?;
+            let command = read_words(alloc, &words);
             Ok(format!(in alloc; "{command:?}")?)
         }
         ["frames", full, last, next] => beats::framed(alloc, full, last, next),
